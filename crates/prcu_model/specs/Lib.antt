@@ -1,0 +1,6 @@
+pub mod Dictionary
+pub mod History
+pub mod Replies
+pub mod Lists
+pub mod Scripts
+pub mod Held

@@ -1,0 +1,38 @@
+-- Scripts as lists of operations.
+use Rattle.std.specs.Prelude.{ℕ, ◌+◌, ◌*◌, ◌^◌, ◌<◌, max, Bool, true, false, List, [], ◌∷◌, ◌++◌, length, sum_by, count_by, map}
+use Rattle.std.specs.Global.{Vec}
+use Rattle.prcu_model.specs.declared.operation.Op.{Op}
+use Rattle.prcu_model.specs.declared.operation.Op.TheVariants.{Put, Get, Del, Set}
+
+-- lists without where they lie in memory
+abbrev pub items_of : List (Vec Op) → List (List Op)
+items_of lists = map (λ list. list.items) lists
+
+-- the scripts with the operation at the end of the last one
+abbrev pub with_op : List (List Op) → Op → List (List Op)
+with_op [] op = []
+with_op (script ∷ []) op = (script ++ op ∷ []) ∷ []
+with_op (script ∷ next ∷ scripts) op = script ∷ with_op (next ∷ scripts) op
+
+-- the operations of all scripts
+abbrev pub op_count : List (List Op) → ℕ
+op_count scripts = sum_by length scripts
+
+abbrev pub is_put : Op → Bool
+is_put (Put key value) = true
+is_put _ = false
+
+-- the puts of all scripts
+abbrev pub put_count : List (List Op) → ℕ
+put_count scripts = sum_by (count_by is_put) scripts
+
+-- the slots of a run that isn't given a number: one for each put and twenty for each script, and one at least
+abbrev pub default_slots_of : List (List Op) → ℕ
+default_slots_of scripts = max 1 (put_count scripts + 20 * length scripts)
+
+-- the operation's numbers fit a `u64`
+abbrev pub FitsWords : Op → Type 0
+FitsWords (Put key value) = (key < 2 ^ 64) × (value < 2 ^ 64)
+FitsWords (Get key) = key < 2 ^ 64
+FitsWords (Del key) = key < 2 ^ 64
+FitsWords (Set key value) = (key < 2 ^ 64) × (value < 2 ^ 64)
