@@ -1,1 +1,5 @@
 pub mod AddedOps
+pub mod MapViews
+pub mod Updates
+pub mod Searches
+pub mod Fronts

@@ -2,6 +2,7 @@
 -- Source: docs/ALGORITHM.md, "The dictionary".
 use Rattle.std.specs.Prelude.{ℕ, List, [], ◌∷◌, take, if◌then◌else◌}
 use Rattle.std.specs.Ordering.{nat_cmp}
+use Rattle.std.specs.Coded.{Coded, coded_ℕ}
 use Rattle.std.specs.FinMap as map
 use Rattle.prcu_model.specs.declared.operation.Op.{Op}
 use Rattle.prcu_model.specs.declared.operation.Op.TheVariants.{Put, Get, Del, Set}
@@ -31,3 +32,7 @@ map_of history = updated_all map.empty history
 -- the dictionary at a front: after the first so many updates of the history
 abbrev pub map_at : List Update → ℕ → Dictionary
 map_at history front = map_of (take front history)
+
+-- a dictionary is stored as its pairs, keys ascending
+abbrev pub dictionary_code : Coded Dictionary
+dictionary_code = map.code coded_ℕ coded_ℕ
