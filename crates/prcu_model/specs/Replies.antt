@@ -24,13 +24,13 @@ Explains room m (Put key value) Old = IsTrue (map.contains_key m key)
 Explains room m (Put key value) Full = room.slots ≤ map.len m + 20 * (room.scripts - 1)
 Explains room m _ _ = ⊥
 
--- The dictionary at which the operation succeeds with this reply: New answers a put, Gone a del, and Was a set, with
--- the value that it replaces.
-abbrev pub Succeeds : Dictionary → Op → Reply → Type 0
-Succeeds m (Put key value) New = map.contains_key m key ≡ false
-Succeeds m (Del key) Gone = IsTrue (map.contains_key m key)
-Succeeds m (Set key value) (Was old) = map.get m key ≡ Some old
-Succeeds m _ _ = ⊥
+-- The reply tells that the operation was made as an update of this dictionary: New answers a put, Gone a del, and Was a
+-- set, with the value that the key had.
+abbrev pub Confirms : Dictionary → Op → Reply → Type 0
+Confirms m (Put key value) New = Unit {0}
+Confirms m (Del key) Gone = Unit {0}
+Confirms m (Set key value) (Was old) = map.get m key ≡ Some old
+Confirms m _ _ = ⊥
 
 -- the replies that tell of an update
 abbrev pub tells_update : Reply → Bool

@@ -1,0 +1,28 @@
+-- Which texts are accounts of scripts.
+-- Source: docs/FORMATS.md, "Accounts".
+use Rattle.std.specs.Prelude.{◌≡◌, ℕ, List, map, length}
+use Rattle.std.specs.FinMap as finite
+use Rattle.prcu_model.specs.declared.operation.Op.{Op}
+use Rattle.prcu_model.specs.declared.operation.Line.{Line}
+use Rattle.prcu_model.specs.declared.operation.Update.{Update}
+use Rattle.prcu_model.specs.Dictionary.{map_of}
+use Rattle.prcu_model.specs.History.{IsLegal}
+use Rattle.prcu_model.specs.Replies.{Room}
+use Rattle.account_text.specs.Fronts.{AreExplained, AllAreNumbered}
+use Rattle.account_text.specs.Printing.{account_of}
+
+-- the operations of lines
+abbrev pub ops_of : List Line → List Op
+ops_of lines = map (λ line. line.op) lines
+
+-- A text is an account of scripts and slots where it prints lines and a history such that: the lines' operations are the
+-- scripts; the history is legal; it explains the lines; each line's number is the least; and the final pairs are those
+-- of the dictionary that the history makes, keys ascending.
+pub record IsAccount (scripts : List (List Op)) (slots : ℕ) (text : List ℕ) : Type 0 where
+  pub lines : List (List Line)
+  pub history : List Update
+  pub ops : map ops_of lines ≡ scripts
+  pub legal : IsLegal history
+  pub explained : AreExplained (record { scripts = length scripts; slots = slots }) history lines
+  pub numbered : AllAreNumbered (record { scripts = length scripts; slots = slots }) history lines lines
+  pub printed : text ≡ account_of lines history (finite.entries (map_of history))

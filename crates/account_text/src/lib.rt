@@ -1,0 +1,6 @@
+//! Accounts: what every script was told, with its number, the history, and the final pairs.
+#![tactic(auto)]
+
+pub mod numbering;
+
+pub use numbering::fronts;
