@@ -1,0 +1,10 @@
+use Rattle.std.proofs.Common.{◌≡◌, ◌+◌, ◌-◌, Err, length, vec_len, arith}
+use Rattle.std.proofs.lemmas.Result.{err_from_is_err_and}
+use Rattle.io_edge.proofs.Told.{TakesToLimit-append}
+use Rattle.io_edge.proofs.whole.read_all.Goals as goal
+
+pub returns-in_err-taken-clause-too_long : goal.returns-in_err-taken-clause-too_long
+returns-in_err-taken-clause-too_long g c =
+    let p = err_from_is_err_and c.from_residual.result c.from_residual.ensures.1 in
+    let room : length c.loop-text.text.items + (c.args.limit - vec_len c.loop-text.text) ≡ c.args.limit = omega arith in
+    rw (p.1, p.2) (TakesToLimit-append _ _ _ _ _ _ _ _ c.loop-text.invariant.2 room (λ q. cc) (λ q. cc) c.in_err-taken.ensures.too_long)
