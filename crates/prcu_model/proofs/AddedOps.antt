@@ -1,7 +1,7 @@
 -- An operation that is added to the last script: where it goes, and what the counts are then.
 use Rattle.std.proofs.Common.{◌≡◌, ℕ, zero, suc, ◌+◌, ◌-◌, ◌<◌, ◌≤◌, false, List, [], ◌∷◌, ◌++◌, length, get_or, set, map, sum_by, count_by, cond, refl, ap, sym, ◌∙◌, arith, length-append}
 use Rattle.std.proofs.lemmas.List.{map-set, get_or-map, length-map, set-get_or}
-use Rattle.std.proofs.lemmas.List.Sums.{sum_by-set, sum_by_push, sum_by-le-sum_by, count_by-le-length}
+use Rattle.std.proofs.lemmas.List.Sums.{sum_by-set, sum_by_push, sum_by-le-sum_by, count_by-le-length, get_or-le-sum_by}
 use Rattle.std.specs.Global.{Vec}
 use Rattle.prcu_model.specs.declared.operation.Op.{Op}
 use Rattle.prcu_model.specs.declared.operation.Op.TheVariants.{Put, Get, Del, Set}
@@ -69,3 +69,10 @@ counts-with_op before now op ops puts e some few room is_ops is_puts =
     let o = op_count-with_op before _ op is_last in
     let p = put_count-with_op before _ op is_last in
     rw e (record { few_scripts = omega arith; few_ops = omega arith; ops = omega arith; puts = omega arith })
+
+-- a script is no longer than all of them
+pub length-le-op_count : (lists : List (Vec Op)) (i : ℕ) (list : Vec Op) → i < length lists → list ≡ get_or lists i list → length list.items ≤ op_count (items_of lists)
+length-le-op_count lists i list below there =
+    let one = get_or-le-sum_by length (items_of lists) i [] (omega (arith, length-map lists (λ l. l.items))) in
+    let same : get_or (items_of lists) i [] ≡ list.items = get_or-map (λ l. l.items) lists i list [] below ∙ ap (λ l. l.items) (sym there) in
+    omega (arith, one, ap length same)

@@ -1,6 +1,7 @@
 pub mod Dictionary
 pub mod History
 pub mod Replies
+pub mod Plain
 pub mod Lists
 pub mod Scripts
 pub mod Held

@@ -32,6 +32,18 @@ pub enum Reply {
     Was { value: u64 },
 }
 
+impl Reply {
+    ghost use Rattle.std.specs.Prelude.{◌≡◌};
+    ghost use Rattle.prcu_model.specs.Replies.{tells_update};
+
+    /// Whether the reply tells of an update: `New`, `Gone` and `Was` do.
+    pub fn tells_update(self) -> bool
+        ensures { result ≡ tells_update self }
+    {
+        matches!(self, Reply::New | Reply::Gone | Reply::Was { .. })
+    }
+}
+
 /// A reply, with the update's position in the history, counted from 1, at `New`, `Gone` and `Was`, and 0 otherwise.
 #[derive(Clone, Copy, Debug, PartialEq, Eq)]
 pub struct Told {

@@ -5,9 +5,10 @@ ghost use Rattle.std.specs.Map.{keys_of};
 ghost use Rattle.std.specs.Ordering.{nat_cmp};
 ghost use Rattle.std.specs.FinMap as map;
 ghost use Rattle.prcu_model.specs.Dictionary.{updated};
+ghost use Rattle.prcu_model.specs.Plain.{plain_reply};
 
 use crate::memory::NoMemory;
-use crate::operation::Op;
+use crate::operation::{Op, Reply};
 use std::alloc::Global;
 use std::collections::BTreeMap;
 use std::marker::Model;
@@ -75,6 +76,30 @@ impl PlainMap {
             pairs.push((*key, *value))?;
         }
         Ok(pairs)
+    }
+
+    /// What the operation is answered here, where the map has no limit. It changes nothing.
+    pub fn reply_to(&self, op: Op) -> Reply
+        ensures { result ≡ plain_reply self.now op }
+    {
+        match op {
+            Op::Put { key, .. } => match self.get(key) {
+                Some(_) => Reply::Old,
+                None => Reply::New,
+            },
+            Op::Get { key } => match self.get(key) {
+                Some(value) => Reply::Val { value },
+                None => Reply::Absent,
+            },
+            Op::Del { key } => match self.get(key) {
+                Some(_) => Reply::Gone,
+                None => Reply::Absent,
+            },
+            Op::Set { key, .. } => match self.get(key) {
+                Some(value) => Reply::Was { value },
+                None => Reply::Absent,
+            },
+        }
     }
 
     /// Makes the update. At `NoMemory` all stays as it was.

@@ -94,7 +94,8 @@ impl Scripts {
     /// The operations of script `i`, counted from 0.
     pub fn script(&self, i: u32) -> &[Op]
         requires { i < length self.now }
-        ensures { slice_get self.now i ≡ Some result.now }
+        ensures script { slice_get self.now i ≡ Some result.now }
+        ensures limit { length result.now ≤ 1048576 }
     {
         self.scripts[i as usize].as_slice()
     }
