@@ -15,7 +15,7 @@ use Rattle.std.proofs.lemmas.Map.Keys.{IsDistinct-from_sorted, below_from_sorted
 use Rattle.std.proofs.lemmas.Map.Entries.{lookup_from_place, lookup_at_gap}
 use Rattle.std.proofs.lemmas.Bool.Decides.{nat_tests}
 
-below_from_slice_get : {X : Type 0} (xs : List X) (i : ℕ) (x : X) → slice_get xs i ≡ Some x → i < length xs
+pub below_from_slice_get : {X : Type 0} (xs : List X) (i : ℕ) (x : X) → slice_get xs i ≡ Some x → i < length xs
 below_from_slice_get [] i x e = absurd (cc)
 below_from_slice_get (y ∷ xs) zero x e = omega arith
 below_from_slice_get (y ∷ xs) (suc i) x e = let h = below_from_slice_get xs i x e in omega arith
