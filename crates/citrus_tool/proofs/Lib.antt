@@ -1,0 +1,4 @@
+pub mod PlainRun
+pub mod PlainExplained
+pub mod Words
+pub mod LineCount

@@ -1,0 +1,24 @@
+-- A text has no more lines than bytes.
+use Rattle.std.proofs.Common.{◌≡◌, ℕ, ◌+◌, ◌-◌, ◌≤◌, ◌<◌, suc, Bool, true, false, cond, eqb, List, [], ◌∷◌, length, refl, arith}
+use Rattle.script_text.specs.Lines.{lines_of, onto_first}
+use Rattle.script_text.specs.Grammar.{IsFirstBad}
+use Rattle.prcu_model.proofs.Searches.{below_from_slice_get}
+
+length-onto_first : (byte : ℕ) (lines : List (List ℕ)) → length (onto_first byte lines) ≤ suc (length lines)
+length-onto_first byte [] = omega arith
+length-onto_first byte (line ∷ lines) = omega arith
+
+length-lines_of : (text : List ℕ) → length (lines_of text) ≤ length text
+length-lines_of [] = omega arith
+length-lines_of (byte ∷ bytes) =
+    elim (eqb byte 10) as (λ b. length (cond b ([] ∷ lines_of bytes) (onto_first byte (lines_of bytes))) ≤ suc (length bytes)) [
+      | true ↦ omega (arith, length-lines_of bytes)
+      | false ↦ omega (arith, length-lines_of bytes, length-onto_first byte (lines_of bytes))
+    ]
+
+-- so the number of a bad line isn't larger
+pub first_bad-within : (text : List ℕ) (number : ℕ) → IsFirstBad text number → number ≤ length text
+first_bad-within text number bad =
+    let there = below_from_slice_get (lines_of text) (number - 1) bad.line bad.there in
+    let counted = bad.counted in
+    omega (arith, length-lines_of text)
