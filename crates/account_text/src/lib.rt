@@ -2,5 +2,6 @@
 #![tactic(auto)]
 
 pub mod numbering;
+mod walk;
 
 pub use numbering::fronts;
