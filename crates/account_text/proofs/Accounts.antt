@@ -1,5 +1,5 @@
 -- The numbered lines of scripts are explained, as what the scripts were told is.
-use Rattle.std.proofs.Common.{◌≡◌, ℕ, ◌-◌, ◌<◌, ◌≤◌, Bool, true, false, cond, IsTrue, MatchBool, List, [], ◌∷◌, length, get_or, map, zero, suc, refl, ap, sym, subst, ◌∙◌, arith}
+use Rattle.std.proofs.Common.{◌≡◌, ℕ, ◌-◌, Bool, true, false, cond, IsTrue, MatchBool, List, [], ◌∷◌, length, get_or, map, zero, suc, refl, ap, sym, subst, ◌∙◌, arith}
 use Rattle.std.specs.List.{AllByRecursion}
 use Rattle.std.specs.FinMap as finite
 use Rattle.prcu_model.specs.declared.operation.Op.{Op}
@@ -8,7 +8,7 @@ use Rattle.prcu_model.specs.declared.operation.Line.{Line}
 use Rattle.prcu_model.specs.declared.operation.Update.{Update}
 use Rattle.prcu_model.specs.Dictionary.{map_at, map_of}
 use Rattle.prcu_model.specs.History.{IsLegal}
-use Rattle.prcu_model.specs.Replies.{Room, Explains, Confirms, tells_update}
+use Rattle.prcu_model.specs.Replies.{Room, Confirms, tells_update}
 use Rattle.account_text.specs.Fronts.{told_lines, all_told_lines, told_updates, Placed, IsConfirmed, MayStand, MayStandBeside, CanBeNumbered, AreExplained, AreExplainable, IsLeastFor, AreNumbered, AllAreNumbered}
 use Rattle.account_text.specs.Account.{IsAccount, ops_of}
 use Rattle.account_text.specs.Printing.{account_of}

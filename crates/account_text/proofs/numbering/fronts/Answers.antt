@@ -1,10 +1,9 @@
-use Rattle.std.proofs.Common.{◌≡◌, ◌+◌, ◌<◌, ◌++◌, ◌∷◌, [], List, length, refl, sym, ap, subst, ◌∙◌, arith, append_assoc}
+use Rattle.std.proofs.Common.{◌≡◌, ◌+◌, ◌∷◌, [], length, sym, ap, subst, ◌∙◌, arith, append_assoc}
 use Rattle.std.specs.List.{AllByRecursion}
-use Rattle.std.proofs.lemmas.List.{append-nil, length-map, map-append}
-use Rattle.prcu_model.specs.declared.operation.Line.{Line}
+use Rattle.std.proofs.lemmas.List.{append-nil, map-append}
 use Rattle.prcu_model.specs.Lists.{entries_of}
 use Rattle.prcu_model.specs.Replies.{Room}
-use Rattle.account_text.specs.Fronts.{CanBeNumbered, AreNumbered, AllAreNumbered, told_lines, all_told_lines}
+use Rattle.account_text.specs.Fronts.{CanBeNumbered, AreNumbered, AllAreNumbered, told_lines}
 use Rattle.account_text.proofs.ScriptNumbers.{lines_left, lines_left-turn, lines_left-end, same_length, SameLengths-next, same_count, length-le-op_count}
 use Rattle.account_text.proofs.Accounts.{IsAccount-numbered}
 use Rattle.account_text.proofs.numbering.fronts.Goals as goal

@@ -1,4 +1,4 @@
-use Rattle.std.proofs.Common.{◌≡◌, ◌-◌, ◌≤◌, length}
+use Rattle.std.proofs.Common.{◌≡◌, ◌-◌, ◌≤◌}
 use Rattle.account_text.proofs.walk.Walk.advance_to.Given as goal
 
 -- only the front has changed, and isn't past the one that is sought
