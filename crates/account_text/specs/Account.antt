@@ -7,7 +7,6 @@ use Rattle.prcu_model.specs.declared.operation.Line.{Line}
 use Rattle.prcu_model.specs.declared.operation.Update.{Update}
 use Rattle.prcu_model.specs.Dictionary.{map_of}
 use Rattle.prcu_model.specs.History.{IsLegal}
-use Rattle.prcu_model.specs.Replies.{Room}
 use Rattle.account_text.specs.Fronts.{AreExplained, AllAreNumbered}
 use Rattle.account_text.specs.Printing.{account_of}
 

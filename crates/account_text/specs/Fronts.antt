@@ -49,7 +49,7 @@ IsConfirmed history line = IsTrue (tells_update line.reply) → Confirms (map_at
 abbrev pub MayStand : Room → List Update → ℕ → Line → ℕ → Type 0
 MayStand room history before line number =
     MatchBool (tells_update line.reply) ((number ≡ line.number) × (before < number))
-        ((before ≤ number) × (number ≤ length history) × Explains room (map_at history number) line.op line.reply)
+    ((before ≤ number) × (number ≤ length history) × Explains room (map_at history number) line.op line.reply)
 
 -- numbers that may stand beside lines
 abbrev pub MayStandBeside : Room → List Update → ℕ → List Line → List ℕ → Type 0

@@ -1,3 +1,4 @@
 pub mod Fronts
 pub mod Printing
 pub mod Account
+pub mod Walks

@@ -1,6 +1,12 @@
 //! Accounts: what every script was told, with its number, the history, and the final pairs.
 #![tactic(auto)]
 
-pub mod numbering;
+mod numbering;
+mod printing;
+mod walk;
 
 pub use numbering::fronts;
+pub use printing::write_account;
+
+#[cfg(test)]
+mod tests;

@@ -1,17 +1,46 @@
 //! The number that stands beside each line.
-ghost use Rattle.std.specs.Prelude.{length, IfOk};
+ghost use Rattle.std.specs.Prelude.{◌≡◌, ◌^◌, ◌<◌, length, IfOk};
 ghost use Rattle.std.specs.FinMap as map;
 ghost use Rattle.prcu_model.specs.Dictionary.{map_of};
 ghost use Rattle.prcu_model.specs.History.{IsLegal};
 ghost use Rattle.prcu_model.specs.Lists.{entries_of};
-ghost use Rattle.account_text.specs.Fronts.{AreExplainable, AllAreNumbered, all_told_lines};
+ghost use Rattle.account_text.specs.Fronts.{AreExplainable, CanBeNumbered, AreNumbered, AllAreNumbered, told_lines, all_told_lines};
 ghost use Rattle.account_text.specs.Account.{IsAccount};
 ghost use Rattle.account_text.specs.Printing.{account_of};
 
-use prcu_model::{LineList, NoMemory, Scripts, ToldList, Update};
+use crate::walk::Walk;
+use prcu_model::{Line, LineList, NoMemory, Op, Scripts, Told, ToldList, Update};
 use std::alloc::Global;
 
-/// The lines.
+// The lines of one script, with their numbers, by a walk that stands before the first update.
+fn number_script(
+    alloc: Global,
+    script: &[Op],
+    told: &[Told],
+    walk: &mut Walk,
+) -> Result<LineList, NoMemory>
+    requires same_length { length told.now ≡ length script.now }
+    requires fits { length script.now < 2 ^ 32 }
+    requires start { walk.old.front ≡ 0 }
+    requires can { CanBeNumbered walk.old.room walk.old.history (told_lines script.now told.now) }
+    ensures { IfOk result (λ list. AreNumbered walk.old.room walk.old.history 0 (told_lines script.now told.now) list.entries) }
+{
+    let mut lines = LineList::new(alloc, script.len() as u32)?;
+    let mut before = 0;
+    for (op, answer) in script.iter().zip(told) {
+        let number = walk.number_for(before, *op, *answer)?;
+        lines.push(Line {
+            op: *op,
+            reply: answer.reply,
+            number,
+        });
+        before = number;
+    }
+    Ok(lines)
+}
+
+/// What each script was told, with the number that stands beside each line: at an update its position in the history,
+/// and else the least front that explains the reply and isn't below the number of the line before it.
 pub fn fronts(
     alloc: Global,
     scripts: &Scripts,
@@ -25,5 +54,14 @@ pub fn fronts(
     ensures account { IfOk result (λ lists. IsLegal history.now
         → IsAccount scripts.now slots (account_of (entries_of lists.items) history.now (map.entries (map_of history.now)))) }
 {
-    Err(NoMemory)
+    // No script has more operations than all of them together.
+    prove!(scripts.ops() <= Scripts::MOST_OPS);
+    let count = scripts.count();
+    let mut lists = Vec::with_capacity(alloc, told.len())?;
+    for (i, list) in told.iter().enumerate() {
+        let script = scripts.script(i as u32);
+        let mut walk = Walk::new(alloc, history, count, slots);
+        lists.push(number_script(alloc, script, list.entries(), &mut walk)?)?;
+    }
+    Ok(lists)
 }

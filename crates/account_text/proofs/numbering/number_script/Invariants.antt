@@ -1,0 +1,18 @@
+use Rattle.std.proofs.Common.{◌≡◌, ◌+◌, ◌≤◌, List, ◌++◌, length, drop}
+use Rattle.prcu_model.specs.declared.operation.Line.{Line}
+use Rattle.account_text.specs.Fronts.{AreNumbered, told_lines}
+use Rattle.account_text.proofs.LineNumbers.{Can}
+use Rattle.account_text.proofs.numbering.number_script.Given as goal
+
+-- the numbers so far are the least, and numbers may stand beside the lines that are left
+abbrev pub invariant-loop-op : goal.invariant-loop-op
+invariant-loop-op l =
+    let walk = l.initial.walk in
+    let left = told_lines (drop (length l.yielded) l.script) (drop (length l.yielded) l.told) in
+    record {
+      same : l.walk ≡ record walk { front = l.walk.front };
+      behind : l.walk.front ≤ l.before;
+      room : length l.script ≤ l.lines.spare + length l.yielded;
+      can : Can walk.room walk.history l.before left;
+      numbered : (rest : List Line) → AreNumbered walk.room walk.history l.before left rest → AreNumbered walk.room walk.history 0 (told_lines l.script l.told) (l.lines.entries ++ rest);
+    }

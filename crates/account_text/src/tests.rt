@@ -1,0 +1,141 @@
+//! Accounts of small runs, byte for byte.
+ghost use Rattle.std.specs.Prelude.{◌≡◌, ◌^◌, ◌<◌, length, IfOk};
+
+use crate::{fronts, write_account};
+use prcu_model::{Line, LineList, NoMemory, Op, Reply, Scripts, Told, ToldList, Update};
+use std::alloc::Global;
+use std::test::Fail;
+
+fn told_list(alloc: Global, answers: &[Told]) -> Result<ToldList, NoMemory>
+    requires { length answers.now < 2 ^ 32 }
+    ensures { IfOk result (λ list. list.entries ≡ answers.now) }
+{
+    let mut list = ToldList::new(alloc, answers.len() as u32)?;
+    for told in answers {
+        list.push(*told);
+    }
+    Ok(list)
+}
+
+fn line_list(alloc: Global, lines: &[Line]) -> Result<LineList, NoMemory>
+    requires { length lines.now < 2 ^ 32 }
+{
+    let mut list = LineList::new(alloc, lines.len() as u32)?;
+    for line in lines {
+        list.push(*line);
+    }
+    Ok(list)
+}
+
+#[test]
+fn a_read_has_the_least_front(rt: HostRuntime) -> Result<(), Fail> {
+    let alloc = rt.alloc();
+    let put = Op::Put { key: 1, value: 7 };
+    let get = Op::Get { key: 1 };
+    let mut scripts = Scripts::new(alloc);
+    scripts.add_script()?;
+    scripts.add_op(put)?;
+    scripts.add_script()?;
+    scripts.add_op(get)?;
+    scripts.add_op(get)?;
+    let put_told = Told {
+        reply: Reply::New,
+        number: 1,
+    };
+    let absent = Told {
+        reply: Reply::Absent,
+        number: 0,
+    };
+    let present = Told {
+        reply: Reply::Val { value: 7 },
+        number: 0,
+    };
+    let told = [
+        told_list(alloc, &[put_told])?,
+        told_list(alloc, &[absent, present])?,
+    ];
+    let history = [Update { caller: 0, op: put }];
+    let lines = fronts(alloc, &scripts, &told, &history, 42)?;
+    let account = write_account(alloc, &lines, &history)?;
+    let expected =
+        b"script 0\nput 1 7 new 1\nscript 1\nget 1 none 0\nget 1 val 7 1\nhistory 1\n1 0 put 1 7\nfinal 1\n1 7\nend\n";
+    assert_eq!(rt; account.as_slice(), expected.as_slice());
+    Ok(())
+}
+
+#[test]
+fn accounts_print_each_reply(rt: HostRuntime) -> Result<(), Fail> {
+    let alloc = rt.alloc();
+    let nothing = write_account(alloc, &[], &[])?;
+    assert_eq!(rt; nothing.as_slice(), b"history 0\nfinal 0\nend\n".as_slice());
+
+    let put = Op::Put { key: 5, value: 50 };
+    let get = Op::Get { key: 5 };
+    let del = Op::Del { key: 5 };
+    let set = Op::Set { key: 5, value: 60 };
+    let lines = [
+        line_list(
+            alloc,
+            &[
+                Line {
+                    op: put,
+                    reply: Reply::New,
+                    number: 1,
+                },
+                Line {
+                    op: get,
+                    reply: Reply::Val { value: 50 },
+                    number: 1,
+                },
+                Line {
+                    op: del,
+                    reply: Reply::Gone,
+                    number: 2,
+                },
+                Line {
+                    op: get,
+                    reply: Reply::Absent,
+                    number: 2,
+                },
+            ],
+        )?,
+        line_list(
+            alloc,
+            &[
+                Line {
+                    op: put,
+                    reply: Reply::New,
+                    number: 3,
+                },
+                Line {
+                    op: set,
+                    reply: Reply::Was { value: 50 },
+                    number: 4,
+                },
+                Line {
+                    op: put,
+                    reply: Reply::Old,
+                    number: 4,
+                },
+                Line {
+                    op: Op::Put { key: 6, value: 0 },
+                    reply: Reply::Full,
+                    number: 4,
+                },
+            ],
+        )?,
+    ];
+    let history = [
+        Update { caller: 0, op: put },
+        Update { caller: 0, op: del },
+        Update { caller: 1, op: put },
+        Update { caller: 1, op: set },
+    ];
+    let account = write_account(alloc, &lines, &history)?;
+    let expected = b"script 0\nput 5 50 new 1\nget 5 val 50 1\ndel 5 gone 2\nget 5 none 2\n\
+script 1\nput 5 50 new 3\nset 5 60 was 50 4\nput 5 50 old 4\nput 6 0 full 4\n\
+history 4\n1 0 put 5 50\n2 0 del 5\n3 1 put 5 50\n4 1 set 5 60\n\
+final 1\n5 60\nend\n";
+    assert_eq!(rt; account.as_slice(), expected.as_slice());
+    Ok(())
+}
