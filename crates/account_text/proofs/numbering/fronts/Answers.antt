@@ -11,17 +11,17 @@ use Rattle.account_text.proofs.numbering.fronts.Goals.{After-entries}
 
 next_script : (c : After-entries) → lines_left c.args.scripts.now c.args.told.now c.loop-i.i ≡ told_lines c.script-script.result.now c.entries.result.now ∷ lines_left c.args.scripts.now c.args.told.now (c.loop-i.i + 1)
 next_script c =
-    lines_left-turn c.args.scripts.now c.args.told.now c.loop-i.i c.script-script.result.now c.index-told-i.result c.script-script.ensures c.loop-i-test.true c.index-told-i.is
+    lines_left-turn c.args.scripts.now c.args.told.now c.loop-i.i c.script-script.result.now c.index-told-i.result c.script-script.ensures.script c.loop-i-test.true c.index-told-i.is
     ∙ ap (λ told. told_lines c.script-script.result.now told ∷ lines_left c.args.scripts.now c.args.told.now (c.loop-i.i + 1)) (sym c.entries.ensures)
 
 pub number_script-requires-clause-same_length : goal.number_script-requires-clause-same_length
 number_script-requires-clause-same_length c =
     ap length c.entries.ensures
-    ∙ same_length c.args.scripts.now c.args.told.now c.loop-i.i c.script-script.result.now c.index-told-i.result c.script-script.ensures c.loop-i-test.true c.index-told-i.is c.loop-i.invariant.lengths
+    ∙ same_length c.args.scripts.now c.args.told.now c.loop-i.i c.script-script.result.now c.index-told-i.result c.script-script.ensures.script c.loop-i-test.true c.index-told-i.is c.loop-i.invariant.lengths
 
 pub number_script-requires-clause-fits : goal.number_script-requires-clause-fits
 number_script-requires-clause-fits c =
-    omega (arith, length-le-op_count c.args.scripts.now c.loop-i.i c.script-script.result.now c.script-script.ensures)
+    omega (arith, length-le-op_count c.args.scripts.now c.loop-i.i c.script-script.result.now c.script-script.ensures.script)
 
 pub number_script-requires-clause-can : goal.number_script-requires-clause-can
 number_script-requires-clause-can c =
@@ -41,7 +41,7 @@ loop-i-preserved c =
     let list = c.in_ok-number_script.field-0.entries in
     let numbered : AreNumbered room history 0 told list = rw (c.new-walk.ensures, c.count-count.ensures.count) at c.in_ok-number_script.ensures in
     record {
-      lengths = SameLengths-next c.args.scripts.now c.args.told.now c.loop-i.i c.script-script.result.now c.index-told-i.result c.script-script.ensures c.loop-i-test.true c.index-told-i.is inv.lengths;
+      lengths = SameLengths-next c.args.scripts.now c.args.told.now c.loop-i.i c.script-script.result.now c.index-told-i.result c.script-script.ensures.script c.loop-i-test.true c.index-told-i.is inv.lengths;
       can = (subst (AllByRecursion (CanBeNumbered room history)) here inv.can).1;
       numbered = λ rest later.
           let from_here : AllAreNumbered room history (left c.loop-i.i) (list ∷ rest) = rw here (numbered, later) in
