@@ -9,3 +9,6 @@ pub mod top;
 
 pub use outcome::{Outcome, Ran, Status};
 pub use top::tool;
+
+#[cfg(test)]
+mod tests;
