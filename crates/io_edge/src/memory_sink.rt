@@ -1,7 +1,6 @@
 //! A sink in memory with a fixed capacity, which fails where it is told to.
 ghost use Rattle.std.specs.Prelude.{◌≡◌, ◌+◌, ◌-◌, ◌<◌, ◌≤◌, ◌↔◌, ◌⊎◌, [], ◌++◌, Some, Ok, min, length, take, Contains, IsErr, IfOk, OnErr};
-ghost use Rattle.io_edge.specs.Edge.{Rose, Appends};
-ghost use Rattle.io_edge.specs.Memory.{raised};
+ghost use Rattle.io_edge.specs.Edge.{raised, Rose, Appends};
 
 use crate::edge::{Failed, Sink};
 use prcu_model::NoMemory;
@@ -65,20 +64,15 @@ impl Sink for MemorySink {
     /// Takes as many bytes as the piece has, as are free, and as one write takes at the most. A write of a piece that
     /// isn't empty fails where no byte is free and at the chosen calls, and at no other. It takes no memory.
     fn write(&mut self, piece: &[u8]) -> Result<usize, Failed>
-        ensures failed { OnErr result (Rose self.old.faults self.new.faults) }
         ensures counted { self.old.faults ≤ self.new.faults }
-        ensures within { IfOk result (λ n. n ≤ length piece.now) }
-        ensures appended { IfOk result (λ n. Appends (Some self.old.bytes) (Some self.new.bytes) (take n piece.now)) }
         ensures progress { IfOk result (λ n. 0 < length piece.now → 1 ≤ n) }
-        ensures unwritten { OnErr result (Some self.new.bytes ≡ Some self.old.bytes) }
-
         ensures empty { length piece.now ≡ 0 → result ≡ Ok 0 }
         ensures chosen { 0 < length piece.now
             → (IsErr result ↔ ((self.old.free ≡ 0) ⊎ Contains self.old.fails self.old.calls)) }
         ensures count { IfOk result (λ n. n ≡ min (min (length piece.now) self.old.free) self.old.piece) }
         ensures given { IfOk result (λ n. self.new ≡ record self.old {
             bytes = self.old.bytes ++ take n piece.now; free = self.old.free - n; calls = raised self.old.calls }) }
-        ensures refused { OnErr result
+        ensures failed { OnErr result
             (self.new ≡ record self.old { calls = raised self.old.calls; faults = raised self.old.faults }) }
     {
         let call = self.calls;
