@@ -1,6 +1,6 @@
 //! A sink in memory with a fixed capacity, which fails where it is told to.
-ghost use Rattle.std.specs.Prelude.{◌≡◌, ◌+◌, ◌-◌, ◌<◌, ◌≤◌, ◌↔◌, ◌⊎◌, [], ◌++◌, Some, Ok, min, length, take, Contains, IsErr, IfOk, OnErr};
-ghost use Rattle.io_edge.specs.Edge.{raised, Rose, Appends};
+ghost use Rattle.std.specs.Prelude.{◌≡◌, ◌-◌, ◌<◌, ◌≤◌, ◌↔◌, ◌⊎◌, [], ◌++◌, Some, Ok, min, length, take, Contains, IsErr, IfOk, OnErr};
+ghost use Rattle.io_edge.specs.Edge.{raised};
 
 use crate::edge::{Failed, Sink};
 use prcu_model::NoMemory;
@@ -25,15 +25,28 @@ impl Model for MemorySink {
 
     ghost Value = { Store };
 
-    ghost view = { λ s. record { bytes = s.held.items; free = s.capacity - vec_len s.held; piece = s.piece; fails = s.fails.items; calls = s.calls; faults = s.faults } };
+    ghost view = { λ s. record {
+      bytes = s.held.items;
+      free = s.capacity - vec_len s.held;
+      piece = s.piece;
+      fails = s.fails.items;
+      calls = s.calls;
+      faults = s.faults;
+    } };
 
-    ghost invariant = { λ s. (vec_len s.held ≤ s.capacity) × (s.capacity ≤ vec_capacity s.held) × (1 ≤ s.piece) };
+    ghost invariant = { λ s.
+        (vec_len s.held ≤ s.capacity) × (s.capacity ≤ vec_capacity s.held) × (1 ≤ s.piece) };
 }
 
 impl MemorySink {
     /// An empty sink with room for `capacity` bytes, which takes at most `piece` of them a write. The calls with these
     /// numbers, counted from 0, fail.
-    pub fn new(alloc: Global, capacity: usize, piece: usize, fails: Vec<u64>) -> Result<MemorySink, NoMemory>
+    pub fn new(
+        alloc: Global,
+        capacity: usize,
+        piece: usize,
+        fails: Vec<u64>,
+    ) -> Result<MemorySink, NoMemory>
         requires { 1 ≤ piece }
         ensures { IfOk result (λ sink.
             sink ≡ record { bytes = []; free = capacity; piece = piece; fails = fails.items; calls = 0; faults = 0 }) }
@@ -71,7 +84,10 @@ impl Sink for MemorySink {
             → (IsErr result ↔ ((self.old.free ≡ 0) ⊎ Contains self.old.fails self.old.calls)) }
         ensures count { IfOk result (λ n. n ≡ min (min (length piece.now) self.old.free) self.old.piece) }
         ensures given { IfOk result (λ n. self.new ≡ record self.old {
-            bytes = self.old.bytes ++ take n piece.now; free = self.old.free - n; calls = raised self.old.calls }) }
+          bytes = self.old.bytes ++ take n piece.now;
+          free = self.old.free - n;
+          calls = raised self.old.calls;
+        }) }
         ensures failed { OnErr result
             (self.new ≡ record self.old { calls = raised self.old.calls; faults = raised self.old.faults }) }
     {

@@ -1,6 +1,6 @@
 //! A source over bytes in memory, which fails where it is told to.
 ghost use Rattle.std.specs.Prelude.{◌≡◌, ◌<◌, ◌≤◌, ◌↔◌, Some, min, length, take, drop, Contains, IsErr, IfOk, OnErr};
-ghost use Rattle.io_edge.specs.Edge.{raised, Rose, Takes, IsAtEnd};
+ghost use Rattle.io_edge.specs.Edge.{raised, Takes, IsAtEnd};
 
 use crate::edge::{Failed, Source};
 use crate::pieces::copy_piece;
@@ -24,7 +24,13 @@ impl Model for MemorySource {
 
     ghost Value = { Supply };
 
-    ghost view = { λ s. record { rest = drop s.at s.bytes.items; piece = s.piece; fails = s.fails.items; calls = s.calls; faults = s.faults } };
+    ghost view = { λ s. record {
+      rest = drop s.at s.bytes.items;
+      piece = s.piece;
+      fails = s.fails.items;
+      calls = s.calls;
+      faults = s.faults;
+    } };
 
     ghost invariant = { λ s. (s.at ≤ vec_len s.bytes) × (1 ≤ s.piece) };
 }

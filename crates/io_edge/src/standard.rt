@@ -1,6 +1,6 @@
 //! std's readers and writers as sources and sinks. What the world gives or takes is never told.
 ghost use Rattle.std.specs.Prelude.{◌≡◌, ◌<◌, ◌≤◌, None, length, IfOk, OnOk, OnErr};
-ghost use Rattle.io_edge.specs.Edge.{raised, Rose};
+ghost use Rattle.io_edge.specs.Edge.{raised};
 
 use crate::edge::{Failed, Sink, Source};
 use std::io::{Read, Write};

@@ -1,6 +1,6 @@
 //! A source over bytes in memory that never fails.
-ghost use Rattle.std.specs.Prelude.{◌≡◌, ◌<◌, ◌≤◌, Some, min, length, take, drop, IsOk, IfOk, OnErr};
-ghost use Rattle.io_edge.specs.Edge.{Rose, Takes, IsAtEnd};
+ghost use Rattle.std.specs.Prelude.{◌≡◌, ◌<◌, ◌≤◌, Some, min, length, take, drop, IsOk, IfOk};
+ghost use Rattle.io_edge.specs.Edge.{Takes, IsAtEnd};
 
 use crate::edge::{Failed, Source};
 use crate::pieces::copy_piece;

@@ -1,8 +1,8 @@
 //! The sources and the sinks through their traits: whole texts in pieces, with faults in between.
 
 use crate::{
-    Failed, MemorySink, MemorySource, ReadError, Sink, Source, SteadySource, StdSink, StdSource, WriteFault,
-    read_all, write_all,
+    Failed, MemorySink, MemorySource, ReadError, Sink, Source, StdSink, StdSource, SteadySource,
+    WriteFault, read_all, write_all,
 };
 use std::alloc::Global;
 use std::test::Fail;
@@ -24,9 +24,17 @@ fn twice<K: Sink>(sink: &mut K, text: &[u8]) -> (Result<(), WriteFault>, Result<
 fn memory_sources_give_all_in_any_pieces(rt: HostRuntime) -> Result<(), Fail> {
     for piece in [1usize, 4, 100] {
         let mut source = MemorySource::new(TEXT.to_vec(rt.alloc())?, piece, Vec::new(rt.alloc()));
-        assert_eq!(rt; text_of(rt.alloc(), &mut source)?.as_slice(), TEXT, "pieces of {piece}");
+        assert_eq!(rt;
+            text_of(rt.alloc(), &mut source)?.as_slice(),
+            TEXT,
+            "pieces of {piece}"
+        );
         let mut steady = SteadySource::new(TEXT.to_vec(rt.alloc())?, piece);
-        assert_eq!(rt; text_of(rt.alloc(), &mut steady)?.as_slice(), TEXT, "pieces of {piece}");
+        assert_eq!(rt;
+            text_of(rt.alloc(), &mut steady)?.as_slice(),
+            TEXT,
+            "pieces of {piece}"
+        );
     }
     Ok(())
 }
@@ -34,10 +42,18 @@ fn memory_sources_give_all_in_any_pieces(rt: HostRuntime) -> Result<(), Fail> {
 #[test]
 fn a_read_that_fails_loses_nothing(rt: HostRuntime) -> Result<(), Fail> {
     for (piece, taken) in [(1usize, 2usize), (4, 8)] {
-        let mut source = MemorySource::new(TEXT.to_vec(rt.alloc())?, piece, [2u64].to_vec(rt.alloc())?);
+        let mut source = MemorySource::new(
+            TEXT.to_vec(rt.alloc())?,
+            piece,
+            [2u64].to_vec(rt.alloc())?,
+        );
         assert!(rt; matches!(text_of(rt.alloc(), &mut source), Err(ReadError::Fault)));
         let rest = text_of(rt.alloc(), &mut source)?;
-        assert_eq!(rt; Some(rest.as_slice()), TEXT.get(taken..), "pieces of {piece}");
+        assert_eq!(rt;
+            Some(rest.as_slice()),
+            TEXT.get(taken..),
+            "pieces of {piece}"
+        );
     }
     Ok(())
 }
@@ -67,8 +83,16 @@ fn memory_sinks_keep_a_front_where_a_write_fails(rt: HostRuntime) -> Result<(), 
     for (capacity, piece, fails, held) in cases {
         let mut sink = MemorySink::new(rt.alloc(), capacity, piece, fails.to_vec(rt.alloc())?)?;
         let (first, second) = twice(&mut sink, b"abc");
-        assert_eq!(rt; sink.bytes(), held, "capacity {capacity}, pieces of {piece}");
-        assert_eq!(rt; first.is_ok() && second.is_ok(), held.len() == 6, "capacity {capacity}, pieces of {piece}");
+        assert_eq!(rt;
+            sink.bytes(),
+            held,
+            "capacity {capacity}, pieces of {piece}"
+        );
+        assert_eq!(rt;
+            first.is_ok() && second.is_ok(),
+            held.len() == 6,
+            "capacity {capacity}, pieces of {piece}"
+        );
         assert_eq!(rt; sink.write(b""), Ok(0));
     }
     Ok(())
