@@ -1,5 +1,5 @@
 -- What several reads take, and what several writes append, one after another.
-use Rattle.std.proofs.Common.{◌≡◌, ℕ, ◌+◌, ◌-◌, List, [], ◌++◌, length, take, drop, Option, Some, None, refl, ap, sym, ◌∙◌, arith, append_assoc, take-append-drop, length-append}
+use Rattle.std.proofs.Common.{◌≡◌, ℕ, ◌+◌, ◌-◌, List, ◌++◌, length, take, drop, Option, Some, None, refl, sym, ◌∙◌, arith, append_assoc, take-append-drop, length-append}
 use Rattle.std.proofs.lemmas.List.{drop-drop, take_rest}
 use Rattle.std.proofs.Math.Seq.{take-add}
 use Rattle.io_edge.specs.Edge.{Takes, Appends, AppendsFront}
