@@ -1,8 +1,8 @@
 -- What several reads take, and what several writes append, one after another.
-use Rattle.std.proofs.Common.{◌≡◌, ℕ, ◌+◌, ◌-◌, ◌<◌, ◌≤◌, ◌↔◌, List, [], ◌++◌, length, take, drop, Option, Some, None, refl, ap, sym, ◌∙◌, arith, append_assoc, append-nil, take-append-drop, length-append}
+use Rattle.std.proofs.Common.{◌≡◌, ℕ, ◌+◌, ◌-◌, List, ◌++◌, length, take, drop, Option, Some, None, refl, sym, ◌∙◌, arith, append_assoc, take-append-drop, length-append}
 use Rattle.std.proofs.lemmas.List.{drop-drop, take_rest}
 use Rattle.std.proofs.Math.Seq.{take-add}
-use Rattle.io_edge.specs.Edge.{Takes, IsAtEnd, Appends, AppendsFront}
+use Rattle.io_edge.specs.Edge.{Takes, Appends, AppendsFront}
 use Rattle.io_edge.specs.Whole.{TakesToLimit}
 
 -- a piece from `at` on of the bytes that a source holds
@@ -10,20 +10,12 @@ pub Takes-piece : (bytes rest piece : List ℕ) (at n : ℕ) → drop at bytes �
 Takes-piece bytes rest piece at n held taken =
     (drop (at + n) bytes, sym held ∙ sym (take-append-drop n (drop at bytes)) ∙ cc (taken, drop-drop n at bytes), refl)
 
-pub Takes-nothing : (before : Option (List ℕ)) → Takes before before []
-Takes-nothing None = refl
-Takes-nothing (Some bytes) = (bytes, refl, refl)
-
 pub Takes-append : (before between after : Option (List ℕ)) (xs ys : List ℕ) → Takes before between xs → Takes between after ys → Takes before after (xs ++ ys)
 Takes-append None None after xs ys first second = second
 Takes-append None (Some rest) after xs ys first second = absurd (cc)
 Takes-append (Some bytes) None after xs ys first second = absurd (cc)
 Takes-append (Some bytes) (Some rest) after xs ys first second =
     (second.0, cc (append_assoc xs ys second.0), second.2)
-
-pub Appends-nothing : (before : Option (List ℕ)) → Appends before before []
-Appends-nothing None = refl
-Appends-nothing (Some bytes) = ap Some (sym (append-nil bytes))
 
 pub Appends-append : (before between after : Option (List ℕ)) (xs ys : List ℕ) → Appends before between xs → Appends between after ys → Appends before after (xs ++ ys)
 Appends-append None None after xs ys first second = second

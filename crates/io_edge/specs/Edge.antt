@@ -1,10 +1,14 @@
 -- What is known of bytes that come from outside or go there.
 -- Source: docs/ARCHITECTURE.md, "The edge".
-use Rattle.std.specs.Prelude.{◌≡◌, ℕ, ◌<◌, ◌≤◌, ◌⊎◌, ◌↔◌, List, [], ◌++◌, length, Option, Some, None}
+use Rattle.std.specs.Prelude.{◌≡◌, ℕ, ◌+◌, ◌<◌, ◌⊎◌, min, List, [], ◌++◌, Option, Some, None}
 
 -- A count of faults went up, or stands at the last value, from which it can't go up.
 abbrev pub Rose : ℕ → ℕ → Type 0
 Rose before after = (before < after) ⊎ (after ≡ 18446744073709551615)
+
+-- One more, up to the last value, at which a count stays.
+abbrev pub raised : ℕ → ℕ
+raised count = min (count + 1) 18446744073709551615
 
 -- Where it is told which bytes are left, these were the first of them, and the others are left.
 abbrev pub Takes : Option (List ℕ) → Option (List ℕ) → List ℕ → Type 0

@@ -1,3 +1,4 @@
 pub mod Edge
 pub mod Memory
 pub mod Whole
+pub mod Standard

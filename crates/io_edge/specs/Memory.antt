@@ -1,10 +1,6 @@
 -- What contracts see of sources and sinks in memory.
 -- Source: docs/ARCHITECTURE.md, "The edge".
-use Rattle.std.specs.Prelude.{ℕ, ◌+◌, min, List}
-
--- One more, up to the last value, at which it stays.
-abbrev pub raised : ℕ → ℕ
-raised n = min (n + 1) 18446744073709551615
+use Rattle.std.specs.Prelude.{ℕ, List}
 
 -- A source in memory: the bytes that are left, how many a read gives at the most, the numbers of the calls that fail,
 -- counted from 0, how many calls were made, and how many of them failed.

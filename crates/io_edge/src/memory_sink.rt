@@ -1,7 +1,6 @@
 //! A sink in memory with a fixed capacity, which fails where it is told to.
-ghost use Rattle.std.specs.Prelude.{◌≡◌, ◌+◌, ◌-◌, ◌<◌, ◌≤◌, ◌↔◌, ◌⊎◌, [], ◌++◌, Some, Ok, min, length, take, Contains, IsErr, IfOk, OnErr};
-ghost use Rattle.io_edge.specs.Edge.{Rose, Appends};
-ghost use Rattle.io_edge.specs.Memory.{raised};
+ghost use Rattle.std.specs.Prelude.{◌≡◌, ◌-◌, ◌<◌, ◌≤◌, ◌↔◌, ◌⊎◌, [], ◌++◌, Some, Ok, min, length, take, Contains, IsErr, IfOk, OnErr};
+ghost use Rattle.io_edge.specs.Edge.{raised};
 
 use crate::edge::{Failed, Sink};
 use prcu_model::NoMemory;
@@ -26,15 +25,28 @@ impl Model for MemorySink {
 
     ghost Value = { Store };
 
-    ghost view = { λ s. record { bytes = s.held.items; free = s.capacity - vec_len s.held; piece = s.piece; fails = s.fails.items; calls = s.calls; faults = s.faults } };
+    ghost view = { λ s. record {
+      bytes = s.held.items;
+      free = s.capacity - vec_len s.held;
+      piece = s.piece;
+      fails = s.fails.items;
+      calls = s.calls;
+      faults = s.faults;
+    } };
 
-    ghost invariant = { λ s. (vec_len s.held ≤ s.capacity) × (s.capacity ≤ vec_capacity s.held) × (1 ≤ s.piece) };
+    ghost invariant = { λ s.
+        (vec_len s.held ≤ s.capacity) × (s.capacity ≤ vec_capacity s.held) × (1 ≤ s.piece) };
 }
 
 impl MemorySink {
     /// An empty sink with room for `capacity` bytes, which takes at most `piece` of them a write. The calls with these
     /// numbers, counted from 0, fail.
-    pub fn new(alloc: Global, capacity: usize, piece: usize, fails: Vec<u64>) -> Result<MemorySink, NoMemory>
+    pub fn new(
+        alloc: Global,
+        capacity: usize,
+        piece: usize,
+        fails: Vec<u64>,
+    ) -> Result<MemorySink, NoMemory>
         requires { 1 ≤ piece }
         ensures { IfOk result (λ sink.
             sink ≡ record { bytes = []; free = capacity; piece = piece; fails = fails.items; calls = 0; faults = 0 }) }
@@ -65,20 +77,18 @@ impl Sink for MemorySink {
     /// Takes as many bytes as the piece has, as are free, and as one write takes at the most. A write of a piece that
     /// isn't empty fails where no byte is free and at the chosen calls, and at no other. It takes no memory.
     fn write(&mut self, piece: &[u8]) -> Result<usize, Failed>
-        ensures failed { OnErr result (Rose self.old.faults self.new.faults) }
         ensures counted { self.old.faults ≤ self.new.faults }
-        ensures within { IfOk result (λ n. n ≤ length piece.now) }
-        ensures appended { IfOk result (λ n. Appends (Some self.old.bytes) (Some self.new.bytes) (take n piece.now)) }
         ensures progress { IfOk result (λ n. 0 < length piece.now → 1 ≤ n) }
-        ensures unwritten { OnErr result (Some self.new.bytes ≡ Some self.old.bytes) }
-
         ensures empty { length piece.now ≡ 0 → result ≡ Ok 0 }
         ensures chosen { 0 < length piece.now
             → (IsErr result ↔ ((self.old.free ≡ 0) ⊎ Contains self.old.fails self.old.calls)) }
         ensures count { IfOk result (λ n. n ≡ min (min (length piece.now) self.old.free) self.old.piece) }
         ensures given { IfOk result (λ n. self.new ≡ record self.old {
-            bytes = self.old.bytes ++ take n piece.now; free = self.old.free - n; calls = raised self.old.calls }) }
-        ensures refused { OnErr result
+          bytes = self.old.bytes ++ take n piece.now;
+          free = self.old.free - n;
+          calls = raised self.old.calls;
+        }) }
+        ensures failed { OnErr result
             (self.new ≡ record self.old { calls = raised self.old.calls; faults = raised self.old.faults }) }
     {
         let call = self.calls;

@@ -1,7 +1,6 @@
 //! A source over bytes in memory, which fails where it is told to.
 ghost use Rattle.std.specs.Prelude.{◌≡◌, ◌<◌, ◌≤◌, ◌↔◌, Some, min, length, take, drop, Contains, IsErr, IfOk, OnErr};
-ghost use Rattle.io_edge.specs.Edge.{Rose, Takes, IsAtEnd};
-ghost use Rattle.io_edge.specs.Memory.{raised};
+ghost use Rattle.io_edge.specs.Edge.{raised, Takes, IsAtEnd};
 
 use crate::edge::{Failed, Source};
 use crate::pieces::copy_piece;
@@ -25,7 +24,13 @@ impl Model for MemorySource {
 
     ghost Value = { Supply };
 
-    ghost view = { λ s. record { rest = drop s.at s.bytes.items; piece = s.piece; fails = s.fails.items; calls = s.calls; faults = s.faults } };
+    ghost view = { λ s. record {
+      rest = drop s.at s.bytes.items;
+      piece = s.piece;
+      fails = s.fails.items;
+      calls = s.calls;
+      faults = s.faults;
+    } };
 
     ghost invariant = { λ s. (s.at ≤ vec_len s.bytes) × (1 ≤ s.piece) };
 }
@@ -56,18 +61,15 @@ impl Source for MemorySource {
     /// Takes as many bytes as are left, as `into` has room for, and as a piece has at the most. It fails at the chosen
     /// calls and at no other.
     fn read(&mut self, into: &mut [u8]) -> Result<usize, Failed>
-        ensures failed { OnErr result (Rose self.old.faults self.new.faults) }
         ensures counted { self.old.faults ≤ self.new.faults }
         ensures within { IfOk result (λ n. n ≤ length into.new) }
         ensures taken { IfOk result (λ n. Takes (Some self.old.rest) (Some self.new.rest) (take n into.new)) }
         ensures end { IfOk result (λ n. n ≡ 0 → 0 < length into.old → IsAtEnd (Some self.old.rest)) }
-        ensures untaken { OnErr result (Some self.new.rest ≡ Some self.old.rest) }
-
         ensures chosen { IsErr result ↔ Contains self.old.fails self.old.calls }
         ensures count { IfOk result (λ n. n ≡ min (min (length self.old.rest) (length into.old)) self.old.piece) }
         ensures given { IfOk result
             (λ n. self.new ≡ record self.old { rest = drop n self.old.rest; calls = raised self.old.calls }) }
-        ensures refused { OnErr result
+        ensures failed { OnErr result
             (self.new ≡ record self.old { calls = raised self.old.calls; faults = raised self.old.faults }) }
     {
         let call = self.calls;

@@ -1,6 +1,6 @@
 //! A source over bytes in memory that never fails.
-ghost use Rattle.std.specs.Prelude.{◌≡◌, ◌<◌, ◌≤◌, Some, min, length, take, drop, IsOk, IfOk, OnErr};
-ghost use Rattle.io_edge.specs.Edge.{Rose, Takes, IsAtEnd};
+ghost use Rattle.std.specs.Prelude.{◌≡◌, ◌<◌, ◌≤◌, Some, min, length, take, drop, IsOk, IfOk};
+ghost use Rattle.io_edge.specs.Edge.{Takes, IsAtEnd};
 
 use crate::edge::{Failed, Source};
 use crate::pieces::copy_piece;
@@ -47,14 +47,10 @@ impl Source for SteadySource {
 
     /// Takes as many bytes as are left, as `into` has room for, and as a piece has at the most. It never fails.
     fn read(&mut self, into: &mut [u8]) -> Result<usize, Failed>
-        ensures failed { OnErr result (Rose 0 0) }
-        ensures counted { 0 ≤ 0 }
+        ensures steady { IsOk result }
         ensures within { IfOk result (λ n. n ≤ length into.new) }
         ensures taken { IfOk result (λ n. Takes (Some self.old.rest) (Some self.new.rest) (take n into.new)) }
         ensures end { IfOk result (λ n. n ≡ 0 → 0 < length into.old → IsAtEnd (Some self.old.rest)) }
-        ensures untaken { OnErr result (Some self.new.rest ≡ Some self.old.rest) }
-
-        ensures steady { IsOk result }
         ensures count { IfOk result (λ n. n ≡ min (min (length self.old.rest) (length into.old)) self.old.piece) }
         ensures given { IfOk result (λ n. self.new ≡ record self.old { rest = drop n self.old.rest }) }
     {

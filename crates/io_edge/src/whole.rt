@@ -1,5 +1,5 @@
 //! Whole texts, read from a source and written to a sink.
-ghost use Rattle.std.specs.Prelude.{◌≡◌, ◌-◌, ◌<◌, ◌≤◌, ◌++◌, ⊤, Err, length, take, IfOk, OnOk, OnErr, vec_len};
+ghost use Rattle.std.specs.Prelude.{◌≡◌, ◌-◌, ◌<◌, ◌≤◌, ◌++◌, Err, length, take, IfOk, OnOk, OnErr, vec_len};
 ghost use Rattle.io_edge.specs.Edge.{Rose, Takes, IsAtEnd, Appends, AppendsFront};
 ghost use Rattle.io_edge.specs.Whole.{TakesToLimit};
 
@@ -47,16 +47,6 @@ impl From<AllocError> for ReadError {
 #[derive(Clone, Copy, Debug, PartialEq, Eq, Error)]
 #[error("writing failed")]
 pub struct WriteFault;
-
-impl From<Failed> for WriteFault {
-    ghost use Rattle.std.specs.Prelude.{⊤};
-
-    ghost from_gives = { λ _ _. ⊤ };
-
-    fn from(_failed: Failed) -> WriteFault {
-        WriteFault
-    }
-}
 
 // How many bytes are asked of a source at once.
 const PIECE: usize = 16 * 1024;
@@ -120,7 +110,10 @@ pub fn write_all<K: Sink>(sink: &mut K, text: &[u8]) -> Result<(), WriteFault>
 {
     let mut written = 0;
     while written < text.len() {
-        written += sink.write(&text[written..])?;
+        match sink.write(&text[written..]) {
+            Ok(count) => written += count,
+            Err(Failed) => return Err(WriteFault),
+        }
     }
     Ok(())
 }

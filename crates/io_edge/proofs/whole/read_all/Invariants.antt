@@ -1,10 +1,10 @@
-use Rattle.std.proofs.Common.{length, ◌≡◌, ◌-◌, ◌≤◌, vec_len}
+use Rattle.std.proofs.Common.{length, ◌-◌, ◌<◌, ◌≤◌, vec_len}
 use Rattle.io_edge.specs.Edge.{Takes}
 use Rattle.io_edge.proofs.whole.read_all.Given as goal
 
 abbrev pub invariant-loop-text : goal.invariant-loop-text
 invariant-loop-text g l =
-    (length l.buffer ≡ 16384) × (vec_len l.text ≤ l.limit) × Takes (g.S.Source.rest l.initial.source) (g.S.Source.rest l.source) l.text.items × (g.S.Source.faults l.initial.source ≤ g.S.Source.faults l.source)
+    (0 < length l.buffer) × (vec_len l.text ≤ l.limit) × Takes (g.S.Source.rest l.initial.source) (g.S.Source.rest l.source) l.text.items × (g.S.Source.faults l.initial.source ≤ g.S.Source.faults l.source)
 
 abbrev pub decreases-loop-text : goal.decreases-loop-text
 decreases-loop-text g l = l.limit - vec_len l.text
