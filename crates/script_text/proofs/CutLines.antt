@@ -1,9 +1,9 @@
 -- Where a list of bytes is cut at some byte, and the lines of a text.
-use Rattle.std.proofs.Common.{◌≡◌, ◌≢◌, ℕ, zero, suc, ◌+◌, ◌-◌, ◌<◌, ◌≤◌, Bool, true, false, cond, eqb, List, [], ◌∷◌, ◌++◌, length, get_or, take, drop, inl, inr, refl, sym, ap, ◌∙◌, subst, arith, append_assoc, flat_map}
+use Rattle.std.proofs.Common.{◌≡◌, ◌≢◌, ℕ, ◌<◌, false, eqb, List, [], ◌∷◌, ◌++◌, length, inl, inr, refl, ap, ◌∙◌, arith, append_assoc, flat_map}
 use Rattle.std.specs.List.{All}
 use Rattle.std.proofs.lemmas.Bool.Decides.{eqb_tells}
-use Rattle.std.proofs.lemmas.List.Elements.{All-head, All-tail, All-nil, All-cons, All-append}
-use Rattle.script_text.specs.Lines.{lines_of, onto_first}
+use Rattle.std.proofs.lemmas.List.Elements.{All-head, All-tail}
+use Rattle.script_text.specs.Lines.{lines_of}
 use Rattle.script_text.specs.Split.{Lacks, IsParted}
 
 eqb-no : (a b : ℕ) → a ≢ b → eqb a b ≡ false
@@ -19,13 +19,6 @@ same_parts byte (a ∷ front) (b ∷ front') rest rest' f f' e =
     let more : front ++ byte ∷ rest ≡ front' ++ byte ∷ rest' = cc in
     let h = same_parts byte front front' rest rest' (All-tail (λ x. x ≢ byte) a front f) (All-tail (λ x. x ≢ byte) b front' f') more in
     (cc (h.0), h.1)
-
--- A list without a byte has no such byte in it.
-pub Lacks-absurd : (byte : ℕ) (bytes front rest : List ℕ) → Lacks bytes byte → bytes ≡ front ++ byte ∷ rest → ⊥
-Lacks-absurd byte [] [] rest l e = cc
-Lacks-absurd byte [] (a ∷ front) rest l e = cc
-Lacks-absurd byte (b ∷ bytes) [] rest l e = All-head (λ x. x ≢ byte) b bytes l cc
-Lacks-absurd byte (b ∷ bytes) (a ∷ front) rest l e = Lacks-absurd byte bytes front rest (All-tail (λ x. x ≢ byte) b bytes l) cc
 
 -- A text begins with the line before its first byte 10.
 pub lines_of-parted : (line rest : List ℕ) → Lacks line 10 → lines_of (line ++ 10 ∷ rest) ≡ line ∷ lines_of rest
@@ -55,6 +48,7 @@ lines_of-flat_map (line ∷ lines) l =
     ∙ lines_of-parted line (flat_map ended lines) (All-head (λ x. Lacks x 10) line lines l)
     ∙ ap (λ x. line ∷ x) (lines_of-flat_map lines (All-tail (λ x. Lacks x 10) line lines l))
 
+-- the same two, as splitting tells them
 pub lines_of-IsParted : (text line rest : List ℕ) → IsParted text 10 line rest → lines_of text ≡ line ∷ lines_of rest
 lines_of-IsParted text line rest p = ap lines_of p.whole ∙ lines_of-parted line rest p.first
 

@@ -1,11 +1,11 @@
 -- A line after some scripts gives one list of scripts, and so does a text.
-use Rattle.std.proofs.Common.{◌≡◌, ◌≢◌, ℕ, zero, suc, ◌+◌, ◌-◌, ◌^◌, ◌<◌, ◌≤◌, min, ◌⊎◌, List, [], ◌∷◌, ◌++◌, length, get_or, take, codes, slice_get, Some, inl, inr, refl, sym, ap, ◌∙◌, subst, arith, length-append}
+use Rattle.std.proofs.Common.{◌≡◌, ℕ, ◌+◌, ◌-◌, min, List, [], ◌∷◌, ◌++◌, length, get_or, codes, slice_get, Some, inl, inr, refl, sym, ap, ◌∙◌, subst, arith, length-append}
 use Rattle.std.proofs.lemmas.List.{take_at, append-nil, append_assoc}
 use Rattle.prcu_model.specs.declared.operation.Op.{Op}
-use Rattle.prcu_model.specs.Scripts.{with_op, op_count, FitsWords}
+use Rattle.prcu_model.specs.Scripts.{with_op}
 use Rattle.script_text.specs.Lines.{lines_of, op_text}
 use Rattle.script_text.specs.Grammar.{IsBlank, BeginsScript, AddsOperation, IsGoodLine, Reads, IsScriptText, IsFirstBad}
-use Rattle.script_text.proofs.OpTexts.{op_text_is, word_of, words_of, op_text-injective, first_of_op_text, fourth_of_op_text}
+use Rattle.script_text.proofs.OpTexts.{op_text-injective, first_of_op_text, fourth_of_op_text}
 
 -- The three kinds of lines exclude one another.
 no_blank_script : (line : List ℕ) → IsBlank line → line ≡ codes "script" → ⊥

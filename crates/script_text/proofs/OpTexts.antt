@@ -1,7 +1,6 @@
 -- The text of an operation: its bytes, and that it tells the operation.
-use Rattle.std.proofs.Common.{◌≡◌, ◌≢◌, ℕ, ◌+◌, ◌-◌, ◌^◌, ◌<◌, ◌≤◌, List, [], ◌∷◌, ◌++◌, length, get_or, codes, refl, sym, ap, ◌∙◌, arith, append_assoc}
+use Rattle.std.proofs.Common.{◌≡◌, ◌≢◌, ℕ, ◌^◌, ◌<◌, ◌≤◌, List, [], ◌∷◌, ◌++◌, get_or, codes, refl, sym, ap, ◌∙◌, arith, append_assoc}
 use Rattle.std.specs.Fmt.{decimal}
-use Rattle.std.specs.List.{All}
 use Rattle.std.proofs.lemmas.Fmt.{decimal_is_IsNumeral, decimal_injective}
 use Rattle.std.proofs.lemmas.List.Elements.{All-nil, All-cons, All-append, All-from_get_or}
 use Rattle.std.proofs.lemmas.Str.Parse.{digit_at}
@@ -10,7 +9,7 @@ use Rattle.prcu_model.specs.declared.operation.Op.TheVariants.{Put, Get, Del, Se
 use Rattle.prcu_model.specs.Scripts.{FitsWords}
 use Rattle.script_text.specs.Lines.{op_text}
 use Rattle.script_text.specs.Split.{Lacks, IsParted}
-use Rattle.script_text.proofs.CutLines.{same_parts, Lacks-absurd}
+use Rattle.script_text.proofs.CutLines.{same_parts}
 
 -- A number in decimal has digits alone.
 pub Lacks-decimal : (n byte : ℕ) → n < 2 ^ 64 → byte < 48 → Lacks (decimal n) byte

@@ -1,5 +1,5 @@
 -- The text of scripts, one operation and one script after another, and that it is read again as these scripts.
-use Rattle.std.proofs.Common.{◌≡◌, ◌≢◌, ℕ, zero, suc, ◌+◌, ◌-◌, ◌^◌, ◌<◌, ◌≤◌, List, [], ◌∷◌, ◌++◌, length, get_or, take, map, codes, slice_get, Some, inl, inr, refl, sym, ap, ◌∙◌, subst, arith, length-append, flat_map, sum_by}
+use Rattle.std.proofs.Common.{◌≡◌, ◌≢◌, ℕ, ◌+◌, ◌<◌, ◌≤◌, List, [], ◌∷◌, ◌++◌, length, get_or, take, map, codes, slice_get, Some, inl, inr, refl, sym, ap, ◌∙◌, subst, arith, length-append, flat_map}
 use Rattle.std.specs.List.{All}
 use Rattle.std.proofs.lemmas.List.{append-nil, append_assoc, flat_map_more, take_more}
 use Rattle.std.proofs.lemmas.List.Concat.{flat_map-append}
@@ -10,24 +10,25 @@ use Rattle.prcu_model.specs.declared.operation.Op.{Op}
 use Rattle.prcu_model.specs.Scripts.{with_op, op_count, FitsWords}
 use Rattle.script_text.specs.Lines.{lines_of, op_text, op_line, script_text, scripts_text}
 use Rattle.script_text.specs.Split.{Lacks}
-use Rattle.script_text.specs.Grammar.{IsBlank, BeginsScript, AddsOperation, IsGoodLine, Reads, IsScriptText, IsFirstBad}
+use Rattle.script_text.specs.Grammar.{Reads, IsScriptText}
 use Rattle.script_text.proofs.CutLines.{ended, lines_of-flat_map}
 use Rattle.script_text.proofs.OpTexts.{Lacks-op_text}
 use Rattle.script_text.proofs.OneReading.{Reads-append}
 
--- One more of a list
+-- one more of a list
 flat_map_take : {X A : Type 0} (f : X → List A) (bs : List A) (xs : List X) (i : ℕ) (d : X) → i < length xs → (bs ++ flat_map f (take i xs)) ++ f (get_or xs i d) ≡ bs ++ flat_map f (take (i + 1) xs)
 flat_map_take f bs xs i d here =
     flat_map_more f bs (take i xs) (get_or xs i d) ∙ ap (λ x. bs ++ flat_map f x) (sym (take_more xs i d here))
 
-pub record Script-more (before after : List ℕ) (script : List Op) (i : ℕ) : Type 0 where
+-- one more operation of the script stands in the text
+pub record AddsOpText (before after : List ℕ) (script : List Op) (i : ℕ) : Type 0 where
   pub text : after ≡ before ++ script_text (take (i + 1) script)
   pub fits : All FitsWords (take (i + 1) script)
 
 pub script_text-more : (before out said after : List ℕ) (script : List Op) (i : ℕ) (d : Op) → i < length script
     → out ≡ before ++ script_text (take i script) → All FitsWords (take i script)
     → said ≡ out ++ op_text (get_or script i d) → FitsWords (get_or script i d) → after ≡ said ++ 10 ∷ []
-    → Script-more before after script i
+    → AddsOpText before after script i
 script_text-more before out said after script i d here is fits more fit ends = record {
   text =
       ends ∙ ap (λ x. x ++ 10 ∷ []) (more ∙ ap (λ x. x ++ op_text (get_or script i d)) is)
@@ -37,14 +38,15 @@ script_text-more before out said after script i d here is fits more fit ends = r
   fits = All-more FitsWords script i d here fits fit;
 }
 
-pub record Scripts-more (after : List ℕ) (scripts : List (List Op)) (i : ℕ) : Type 0 where
+-- one more script stands in the text
+pub record AddsScriptText (after : List ℕ) (scripts : List (List Op)) (i : ℕ) : Type 0 where
   pub text : after ≡ scripts_text (take (i + 1) scripts)
   pub fits : All (All FitsWords) (take (i + 1) scripts)
 
 pub scripts_text-more : (out after : List ℕ) (scripts : List (List Op)) (i : ℕ) (script : List Op) → slice_get scripts i ≡ Some script
     → out ≡ scripts_text (take i scripts) → All (All FitsWords) (take i scripts)
     → after ≡ out ++ script_text script → All FitsWords script
-    → Scripts-more after scripts i
+    → AddsScriptText after scripts i
 scripts_text-more out after scripts i script there is fits more fit =
     let here : i < length scripts = slice_get_within scripts i script there in
     let e : get_or scripts i [] ≡ script = get_or_from_slice_get scripts i script [] there in

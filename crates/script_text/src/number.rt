@@ -17,7 +17,9 @@ pub fn push_number(out: &mut Vec<u8>, number: u64) -> Result<(), NoMemory>
 
 // The value of the digits. `None` where a byte is no digit, or the value isn't below 2^64.
 fn read_digits(digits: &[u8]) -> Option<u64>
-    ensures { SomeIff result (AllDigits 10 digits.now × (digits_value 10 digits.now < 2 ^ 64)) (digits_value 10 digits.now) }
+    ensures { SomeIff result
+        (AllDigits 10 digits.now × (digits_value 10 digits.now < 2 ^ 64))
+        (digits_value 10 digits.now) }
 {
     let mut value: u64 = 0;
     for digit in digits {
@@ -31,7 +33,9 @@ fn read_digits(digits: &[u8]) -> Option<u64>
 
 /// The number that the bytes are in decimal: digits, without a leading zero, of a number below 2^64. `None` for all else.
 pub fn read_number(bytes: &[u8]) -> Option<u64>
-    ensures { MatchOption result ((n : ℕ) → n < 2 ^ 64 → bytes.now ≡ decimal n → ⊥) (λ n. bytes.now ≡ decimal n) }
+    ensures { MatchOption result
+        ((n : ℕ) → n < 2 ^ 64 → bytes.now ≡ decimal n → ⊥)
+        (λ n. bytes.now ≡ decimal n) }
 {
     if bytes.is_empty() {
         return None;

@@ -13,7 +13,8 @@ use std::alloc::Global;
 fn read_line(scripts: &mut Scripts, line: &[u8], number: u32) -> Result<(), ScriptError>
     ensures ok { OnOk result (IsGoodLine scripts.old line.now scripts.new) }
     ensures number { (n : ℕ) → IsErrOf result (ScriptError.Line n) → n ≡ number }
-    ensures bad { (n : ℕ) → IsErrOf result (ScriptError.Line n) → (after : List (List Op)) → IsGoodLine scripts.old line.now after → ⊥ }
+    ensures bad { (n : ℕ) → IsErrOf result (ScriptError.Line n)
+        → (after : List (List Op)) → IsGoodLine scripts.old line.now after → ⊥ }
 {
     if line.is_empty() || line[0] == b'#' {
         return Ok(());
@@ -40,12 +41,16 @@ pub fn parse(alloc: Global, text: &[u8]) -> Result<Scripts, ScriptError>
     ensures ok { IfOk result (λ scripts. IsScriptText text.now scripts) }
 
     // A text has one reading.
-    ensures only { IfOk result (λ scripts. (others : List (List Op)) → IsScriptText text.now others → others ≡ scripts) }
+    ensures only { IfOk result (λ scripts.
+        (others : List (List Op)) → IsScriptText text.now others → others ≡ scripts) }
+
+    // The number told is that of the first bad line.
     ensures line { (n : ℕ) → IsErrOf result (ScriptError.Line n)
         → (first : ℕ) × IsFirstBad text.now first × (n ≡ min first 4294967295) }
 
     // Nothing can be read from a text with a bad line.
-    ensures none { (n : ℕ) → IsErrOf result (ScriptError.Line n) → (scripts : List (List Op)) → IsScriptText text.now scripts → ⊥ }
+    ensures none { (n : ℕ) → IsErrOf result (ScriptError.Line n)
+        → (scripts : List (List Op)) → IsScriptText text.now scripts → ⊥ }
 {
     let mut scripts = Scripts::new(alloc);
     let mut rest = text;

@@ -1,4 +1,4 @@
-use Rattle.std.proofs.Common.{◌≡◌, ◌<◌, length, arith}
+use Rattle.std.proofs.Common.{◌<◌, length, arith}
 use Rattle.std.proofs.lemmas.Bool.Decides.{nat_tests}
 use Rattle.script_text.proofs.Decimals.{empty_no_decimal, zero_no_decimal, decimal_from_digits}
 use Rattle.script_text.proofs.number.read_number.Goals as goal

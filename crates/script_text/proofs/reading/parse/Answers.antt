@@ -1,4 +1,4 @@
-use Rattle.std.proofs.Common.{◌≡◌, [], Err, ap, sym, ◌∙◌}
+use Rattle.std.proofs.Common.{◌≡◌, Err, ap, ◌∙◌}
 use Rattle.std.proofs.lemmas.Result.{err_from_is_err_and}
 use Rattle.script_text.specs.declared.error.ScriptError.TheVariants.{Line}
 use Rattle.script_text.proofs.OneReading.{HasRead-more, is_read_once, is_first_bad, is_not_read}
