@@ -40,7 +40,8 @@ fn number_script(
 }
 
 /// What each script was told, with the number that stands beside each line: at an update its position in the history,
-/// and else the least front that explains the reply and isn't below the number of the line before it.
+/// and else the least front that explains the reply and isn't below the number of the line before it. The scripts share
+/// so many slots. The time is that of the lines, and of one replay of the history for each script.
 pub fn fronts(
     alloc: Global,
     scripts: &Scripts,

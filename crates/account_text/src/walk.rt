@@ -3,14 +3,14 @@ ghost use Rattle.std.specs.Prelude.{◌≡◌, ℕ, ◌+◌, ◌-◌, ◌*◌, �
 ghost use Rattle.prcu_model.specs.Dictionary.{map_at};
 ghost use Rattle.prcu_model.specs.Replies.{Explains, tells_update};
 ghost use Rattle.account_text.specs.Fronts.{MayStand, IsLeastFor};
-ghost use Rattle.account_text.specs.Walks.{ExplainsFrom};
+ghost use Rattle.account_text.specs.Walks.{ExplainsFrom, line_of};
 
 use prcu_model::{NoMemory, Op, PlainMap, Reply, Told, Update};
 use std::alloc::Global;
 use std::marker::Model;
 
-/// Whether the reply tells that an update was made.
-pub fn tells_update(reply: Reply) -> bool
+// Whether the reply tells that an update was made.
+fn tells_update(reply: Reply) -> bool
     ensures { result ≡ tells_update reply }
 {
     matches!(reply, Reply::New | Reply::Gone | Reply::Was { .. })
@@ -125,8 +125,8 @@ impl<'a> Walk<'a> {
     /// before the number.
     pub fn number_for(&mut self, before: u64, op: Op, told: Told) -> Result<u64, NoMemory>
         requires behind { self.old.front ≤ before }
-        requires some { (number : ℕ) × MayStand self.old.room self.old.history before (record { op = op; reply = told.reply; number = told.number }) number }
-        ensures least { IfOk result (IsLeastFor self.old.room self.old.history before (record { op = op; reply = told.reply; number = told.number })) }
+        requires some { (number : ℕ) × MayStand self.old.room self.old.history before (line_of op told) number }
+        ensures least { IfOk result (IsLeastFor self.old.room self.old.history before (line_of op told)) }
         ensures behind { IfOk result (λ number. self.new.front ≤ number) }
         ensures walk { OnOk result (self.new ≡ record self.old { front = self.new.front }) }
     {
