@@ -1,4 +1,5 @@
 pub mod Fronts
 pub mod Printing
 pub mod Account
+pub mod Reading
 pub mod Walks
