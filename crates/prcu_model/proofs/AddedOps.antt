@@ -2,10 +2,10 @@
 use Rattle.std.proofs.Common.{◌≡◌, ℕ, zero, suc, ◌+◌, ◌-◌, ◌<◌, ◌≤◌, false, List, [], ◌∷◌, ◌++◌, length, get_or, set, map, sum_by, count_by, cond, refl, ap, sym, ◌∙◌, arith, length-append}
 use Rattle.std.proofs.lemmas.List.{map-set, get_or-map, length-map, set-get_or}
 use Rattle.std.proofs.lemmas.List.Sums.{sum_by-set, sum_by_push, sum_by-le-sum_by, count_by-le-length, get_or-le-sum_by}
+use Rattle.std.specs.List.{AllByRecursion}
 use Rattle.std.specs.Global.{Vec}
 use Rattle.prcu_model.specs.declared.operation.Op.{Op}
-use Rattle.prcu_model.specs.declared.operation.Op.TheVariants.{Put, Get, Del, Set}
-use Rattle.prcu_model.specs.Scripts.{with_op, op_count, put_count, is_put, items_of}
+use Rattle.prcu_model.specs.Scripts.{with_op, op_count, put_count, is_put, items_of, FitsWords, AllFit}
 
 pub with_op-set : (scripts : List (List Op)) (last : ℕ) (op : Op) → length scripts ≡ last + 1 → with_op scripts op ≡ set scripts last (get_or scripts last [] ++ op ∷ [])
 with_op-set [] last op e = absurd (omega (arith, e))
@@ -48,27 +48,30 @@ items_of-set_same lists last list before below was same =
 pub put_count-le-op_count : (scripts : List (List Op)) → put_count scripts ≤ op_count scripts
 put_count-le-op_count scripts = sum_by-le-sum_by (count_by is_put) length scripts (count_by-le-length is_put)
 
--- which operations are puts, by the arm that a match took
-pub is_put_otherwise : (op : Op) → ((key value : ℕ) → op ≡ Put key value → ⊥) → is_put op ≡ false
-is_put_otherwise (Put key value) other = absurd (other key value refl)
-is_put_otherwise (Get key) other = refl
-is_put_otherwise (Del key) other = refl
-is_put_otherwise (Set key value) other = refl
-
 -- the counts after an operation was added, and the limits
 pub record CountsWith (now : List (List Op)) (o p : ℕ) : Type 0 where
   pub few_scripts : length now ≤ 64
   pub few_ops : op_count now ≤ 1048576
   pub ops : o ≡ op_count now
   pub puts : p ≡ put_count now
+  pub fits : AllFit now
 
-pub counts-with_op : (before now : List (List Op)) (op : Op) (ops puts : ℕ) → now ≡ with_op before op → 0 < length before → length before ≤ 64 → op_count before < 1048576 → ops ≡ op_count before → puts ≡ put_count before → CountsWith now (ops + 1) (puts + cond (is_put op) 1 0)
-counts-with_op before now op ops puts e some few room is_ops is_puts =
+AllFit-with_op : (scripts : List (List Op)) (op : Op) → AllFit scripts → FitsWords op → AllFit (with_op scripts op)
+AllFit-with_op [] op all fits = tt
+AllFit-with_op (s ∷ []) op all fits = (fits-push s op all.0 fits, tt)
+  where
+    fits-push : (ops : List Op) (op : Op) → AllByRecursion FitsWords ops → FitsWords op → AllByRecursion FitsWords (ops ++ op ∷ [])
+    fits-push [] op all fits = (fits, tt)
+    fits-push (o ∷ ops) op all fits = (all.0, fits-push ops op all.1 fits)
+AllFit-with_op (s ∷ t ∷ scripts) op all fits = (all.0, AllFit-with_op (t ∷ scripts) op all.1 fits)
+
+pub counts-with_op : (before now : List (List Op)) (op : Op) (ops puts : ℕ) → now ≡ with_op before op → 0 < length before → length before ≤ 64 → op_count before < 1048576 → ops ≡ op_count before → puts ≡ put_count before → AllFit before → FitsWords op → CountsWith now (ops + 1) (puts + cond (is_put op) 1 0)
+counts-with_op before now op ops puts e some few room is_ops is_puts all fits =
     let is_last : length before ≡ (length before - 1) + 1 = omega arith in
     let l = length-with_op before op in
     let o = op_count-with_op before _ op is_last in
     let p = put_count-with_op before _ op is_last in
-    rw e (record { few_scripts = omega arith; few_ops = omega arith; ops = omega arith; puts = omega arith })
+    rw e (record { few_scripts = omega arith; few_ops = omega arith; ops = omega arith; puts = omega arith; fits = AllFit-with_op before op all fits })
 
 -- a script is no longer than all of them
 pub length-le-op_count : (lists : List (Vec Op)) (i : ℕ) (list : Vec Op) → i < length lists → list ≡ get_or lists i list → length list.items ≤ op_count (items_of lists)

@@ -2,7 +2,7 @@
 use Rattle.std.specs.Prelude.{◌≡◌, ◌≤◌, ℕ, List, length}
 use Rattle.prcu_model.specs.declared.operation.Op.{Op}
 use Rattle.prcu_model.specs.declared.scripts.Scripts.TheInside.{Inside}
-use Rattle.prcu_model.specs.Scripts.{op_count, put_count, items_of}
+use Rattle.prcu_model.specs.Scripts.{op_count, put_count, items_of, AllFit}
 
 abbrev pub op_lists : Inside → List (List Op)
 op_lists a = items_of a.scripts.items
@@ -13,3 +13,4 @@ pub record IsHeld (a : Inside) : Type 0 where
   pub few_ops : op_count (op_lists a) ≤ 1048576
   pub ops : a.ops ≡ op_count (op_lists a)
   pub puts : a.puts ≡ put_count (op_lists a)
+  pub fits : AllFit (op_lists a)

@@ -1,5 +1,6 @@
 -- Scripts as lists of operations.
 use Rattle.std.specs.Prelude.{ℕ, ◌+◌, ◌*◌, ◌^◌, ◌<◌, max, Bool, true, false, List, [], ◌∷◌, ◌++◌, length, sum_by, count_by, map}
+use Rattle.std.specs.List.{AllByRecursion}
 use Rattle.std.specs.Global.{Vec}
 use Rattle.prcu_model.specs.declared.operation.Op.{Op}
 use Rattle.prcu_model.specs.declared.operation.Op.TheVariants.{Put, Get, Del, Set}
@@ -36,3 +37,7 @@ FitsWords (Put key value) = (key < 2 ^ 64) × (value < 2 ^ 64)
 FitsWords (Get key) = key < 2 ^ 64
 FitsWords (Del key) = key < 2 ^ 64
 FitsWords (Set key value) = (key < 2 ^ 64) × (value < 2 ^ 64)
+
+-- the numbers of all operations fit
+abbrev pub AllFit : List (List Op) → Type 0
+AllFit scripts = AllByRecursion (AllByRecursion FitsWords) scripts

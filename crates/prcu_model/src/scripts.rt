@@ -1,6 +1,6 @@
 //! The scripts of a run.
 ghost use Rattle.std.specs.Prelude.{◌≡◌, ◌+◌, ◌<◌, ◌≤◌, [], ◌∷◌, ◌++◌, length, OnOk, OnErr, slice_get, Some, vec_len};
-ghost use Rattle.prcu_model.specs.Scripts.{with_op, op_count, put_count, default_slots_of, items_of};
+ghost use Rattle.prcu_model.specs.Scripts.{with_op, op_count, put_count, default_slots_of, items_of, is_put, FitsWords, AllFit};
 
 use crate::memory::NoMemory;
 use crate::operation::Op;
@@ -16,6 +16,19 @@ fn push_to_last(lists: &mut Vec<Vec<Op>>, op: Op) -> Result<(), NoMemory>
     let last = lists.len() - 1;
     lists[last].push(op)?;
     Ok(())
+}
+
+// Whether the operation is a put. Its numbers are `u64`s, as those of each operation.
+fn is_put(op: Op) -> bool
+    ensures put { result ≡ is_put op }
+    ensures fits { FitsWords op }
+{
+    match op {
+        Op::Put { .. } => true,
+        Op::Get { .. } => false,
+        Op::Del { .. } => false,
+        Op::Set { .. } => false,
+    }
 }
 
 /// Lists of operations, each to be run by a caller of its own: at most 64 scripts with at most 1,048,576 operations in
@@ -77,7 +90,7 @@ impl Scripts {
     {
         push_to_last(&mut self.scripts, op)?;
         self.ops += 1;
-        if let Op::Put { .. } = op {
+        if is_put(op) {
             self.puts += 1;
         }
         Ok(())
@@ -87,6 +100,7 @@ impl Scripts {
     pub fn count(&self) -> u32
         ensures count { result ≡ length self.now }
         ensures limit { result ≤ 64 }
+        ensures fits { AllFit self.now }
     {
         self.scripts.len() as u32
     }
