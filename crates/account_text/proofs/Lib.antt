@@ -1,3 +1,5 @@
 pub mod LineNumbers
 pub mod ScriptNumbers
 pub mod Accounts
+pub mod Checked
+pub mod FitAccounts

@@ -2,3 +2,5 @@ pub mod PlainRun
 pub mod PlainExplained
 pub mod Words
 pub mod LineCount
+pub mod InputParts
+pub mod Complete

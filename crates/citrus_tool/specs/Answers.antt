@@ -6,8 +6,12 @@ use Rattle.prcu_model.specs.declared.operation.Op.{Op}
 use Rattle.prcu_model.specs.Scripts.{default_slots_of}
 use Rattle.script_text.specs.Grammar.{IsScriptText, IsFirstBad}
 use Rattle.account_text.specs.Account.{IsAccount}
+use Rattle.citrus_tool.specs.declared.commands.Command.{Command}
+use Rattle.citrus_tool.specs.declared.commands.Command.TheVariants.{Run, Check}
 use Rattle.citrus_tool.specs.declared.outcome.Status.{Status}
-use Rattle.citrus_tool.specs.declared.outcome.Status.TheVariants.{Done, Usage, BadScript, ReadFault, NoMemory, TooLong}
+use Rattle.citrus_tool.specs.declared.outcome.Status.TheVariants.{Done, Refused, Usage, BadScript, ReadFault, NoMemory, TooLong}
+use Rattle.citrus_tool.specs.Commands.{Asks, limit_of}
+use Rattle.citrus_tool.specs.Parts.{HasParts}
 
 -- The text is an account of the scripts that the input holds: the headline. Each script's successful updates stand in
 -- one legal history, once and in order; each reply is the plain dictionary's at its front; in a script the fronts never
@@ -24,35 +28,89 @@ pub record TellsBadLine (input text : List ℕ) : Type 0 where
   pub none : (scripts : List (List Op)) → IsScriptText input scripts → ⊥
   pub told : text ≡ codes "bad line " ++ decimal number ++ codes "\n"
 
--- The input was read to its end, and is within the limit; what was written is a text that answers it.
-pub record Answered (Answers : List ℕ → List ℕ → Type 0) (limit : ℕ) (left left_now written written_now : Option (List ℕ)) : Type 0 where
+-- The input has scripts, and the bytes of a claimed account after them.
+pub record Claims (input : List ℕ) (scripts : List (List Op)) (account : List ℕ) : Type 0 where
+  pub before : List ℕ
+  pub parts : HasParts input before account
+  pub read : IsScriptText before scripts
+
+-- What is claimed is an account of the scripts, and the text says so.
+pub record SaysYes (input text : List ℕ) : Type 0 where
+  pub scripts : List (List Op)
+  pub account : List ℕ
+  pub claims : Claims input scripts account
+  pub holds : IsAccount scripts (default_slots_of scripts) account
+  pub told : text ≡ codes "yes\n"
+
+-- What is claimed is no account of the scripts, and the text says so.
+pub record SaysNo (input text : List ℕ) : Type 0 where
+  pub scripts : List (List Op)
+  pub account : List ℕ
+  pub claims : Claims input scripts account
+  pub fails : IsAccount scripts (default_slots_of scripts) account → ⊥
+  pub told : text ≡ codes "no\n"
+
+-- The status and the text tell whether the bytes are an account of the scripts.
+abbrev pub Judges : List (List Op) → List ℕ → Status → List ℕ → Type 0
+Judges scripts account Done text = IsAccount scripts (default_slots_of scripts) account × (text ≡ codes "yes\n")
+Judges scripts account Refused text = (IsAccount scripts (default_slots_of scripts) account → ⊥) × (text ≡ codes "no\n")
+Judges scripts account _ text = ⊥
+
+-- The scripts before the claimed account have a bad line.
+pub record TellsBadLineBefore (input text : List ℕ) : Type 0 where
+  pub before : List ℕ
+  pub account : List ℕ
+  pub parts : HasParts input before account
+  pub bad : TellsBadLine before text
+
+-- what a command writes for an input that it read whole, by the status with which it ends
+abbrev pub Writes : Command → Status → List ℕ → List ℕ → Type 0
+Writes Run Done input text = AccountsFor input text
+Writes Run BadScript input text = TellsBadLine input text
+Writes Check Done input text = SaysYes input text
+Writes Check Refused input text = SaysNo input text
+Writes Check BadScript input text = TellsBadLineBefore input text
+Writes _ _ input text = ⊥
+
+-- a text that the command writes for the input, whatever the status
+abbrev pub MayWrite : Command → List ℕ → List ℕ → Type 0
+MayWrite command input text = (status : Status) × Writes command status input text
+
+-- The input was read to its end, and is within the command's limit; what was written is a text that answers it.
+pub record AnsweredBy (command : Command) (status : Status) (left left_now written written_now : Option (List ℕ)) : Type 0 where
   pub input : List ℕ
-  pub text : List ℕ
-  pub short : length input ≤ limit
+  pub short : length input ≤ limit_of command
   pub read : Takes left left_now input
   pub ended : IsAtEnd left_now
-  pub answers : Answers input text
+  pub text : List ℕ
+  pub answers : Writes command status input text
   pub appended : Appends written written_now text
 
 -- The same, where only a front of the text was written.
-pub record AnsweredInPart (Answers : List ℕ → List ℕ → Type 0) (limit : ℕ) (left left_now written written_now : Option (List ℕ)) : Type 0 where
+pub record AnsweredInPartBy (command : Command) (left left_now written written_now : Option (List ℕ)) : Type 0 where
   pub input : List ℕ
-  pub text : List ℕ
-  pub short : length input ≤ limit
+  pub short : length input ≤ limit_of command
   pub read : Takes left left_now input
   pub ended : IsAtEnd left_now
-  pub answers : Answers input text
+  pub text : List ℕ
+  pub answers : MayWrite command input text
   pub appended : AppendsFront written written_now text
 
--- what `run` writes for an input that it read whole, by the status with which it ends
-abbrev pub RunWrites : Status → List ℕ → List ℕ → Type 0
-RunWrites Done input text = AccountsFor input text
-RunWrites BadScript input text = TellsBadLine input text
-RunWrites _ input text = ⊥
+-- The words ask for a command, and that is answered.
+pub record Answered (words : List (List ℕ)) (status : Status) (left left_now written written_now : Option (List ℕ)) : Type 0 where
+  pub command : Command
+  pub asked : Asks words command
+  pub answered : AnsweredBy command status left left_now written written_now
 
--- a text that `run` writes for the input, whatever the status
-abbrev pub RunMayWrite : List ℕ → List ℕ → Type 0
-RunMayWrite input text = (status : Status) × RunWrites status input text
+pub record AnsweredInPart (words : List (List ℕ)) (left left_now written written_now : Option (List ℕ)) : Type 0 where
+  pub command : Command
+  pub asked : Asks words command
+  pub answered : AnsweredInPartBy command left left_now written written_now
+
+-- The input has what the command works on.
+abbrev pub IsAnswerable : Command → List ℕ → Type 0
+IsAnswerable Run input = (scripts : List (List Op)) × IsScriptText input scripts
+IsAnswerable Check input = (scripts : List (List Op)) × (account : List ℕ) × Claims input scripts account
 
 -- the statuses with which nothing is written
 abbrev pub WritesNothing : Status → Type 0

@@ -1,14 +1,18 @@
--- Which words are a command.
+-- Which words are which command, and how much each reads.
 -- Source: docs/FORMATS.md, "Commands".
 use Rattle.std.specs.Prelude.{◌≡◌, ℕ, List, [], ◌∷◌, codes}
+use Rattle.citrus_tool.specs.declared.commands.Command.{Command}
+use Rattle.citrus_tool.specs.declared.commands.Command.TheVariants.{Run, Check}
 
--- the one word `run`
-abbrev pub IsRun : List (List ℕ) → Type 0
-IsRun words = words ≡ codes "run" ∷ []
+-- The words ask for the command.
+abbrev pub Asks : List (List ℕ) → Command → Type 0
+Asks words Run = words ≡ codes "run" ∷ []
+Asks words Check = words ≡ codes "check" ∷ []
 
 abbrev pub IsCommand : List (List ℕ) → Type 0
-IsCommand words = IsRun words
+IsCommand words = (command : Command) × Asks words command
 
--- the most bytes that `run` reads
-abbrev pub run_limit : ℕ
-run_limit = 16777216
+-- the most bytes that the command reads
+abbrev pub limit_of : Command → ℕ
+limit_of Run = 16777216
+limit_of Check = 134217728

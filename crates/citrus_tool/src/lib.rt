@@ -3,6 +3,7 @@
 
 pub mod commands;
 pub mod outcome;
+mod parts;
 pub mod plain;
 mod running;
 pub mod top;

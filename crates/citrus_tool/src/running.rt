@@ -1,12 +1,15 @@
-//! The command `run`: script bytes to the bytes of an account.
+//! What each command makes of its input.
 ghost use Rattle.std.specs.Prelude.{◌≡◌, ◌≤◌, ◌++◌, IfOk, length, codes, decimal};
 ghost use Rattle.prcu_model.specs.Scripts.{default_slots_of};
 ghost use Rattle.account_text.specs.Account.{IsAccount};
-ghost use Rattle.citrus_tool.specs.Answers.{RunWrites};
+ghost use Rattle.citrus_tool.specs.Answers.{Writes, Judges};
+ghost use Rattle.citrus_tool.specs.Commands.{limit_of};
 
+use crate::commands::Command;
 use crate::outcome::Status;
+use crate::parts::parts_of;
 use crate::plain::run_plain;
-use account_text::{fronts, write_account};
+use account_text::{check, fronts, write_account};
 use prcu_model::{NoMemory, Scripts};
 use script_text::{ScriptError, parse, push_number};
 use std::alloc::Global;
@@ -18,11 +21,21 @@ pub struct Answer {
     pub text: Vec<u8>,
 }
 
-/// Runs the scripts that the input holds, and makes what is to be written: their account, or the number of the first
-/// bad line.
-pub fn run(alloc: Global, input: &[u8]) -> Result<Answer, NoMemory>
-    requires { length input.now ≤ 16777216 }
-    ensures { IfOk result (λ answer. RunWrites answer.status input.now answer.text.items) }
+/// Makes what the command writes for an input.
+pub fn answer_to(alloc: Global, command: Command, input: &[u8]) -> Result<Answer, NoMemory>
+    requires { length input.now ≤ limit_of command }
+    ensures { IfOk result (λ answer. Writes command answer.status input.now answer.text.items) }
+{
+    match command {
+        Command::Run => run(alloc, input),
+        Command::Check => check_claim(alloc, input),
+    }
+}
+
+// Runs the scripts that the input holds: their account, or the number of the first bad line.
+fn run(alloc: Global, input: &[u8]) -> Result<Answer, NoMemory>
+    requires { length input.now ≤ 134217728 }
+    ensures { IfOk result (λ answer. Writes Command.Run answer.status input.now answer.text.items) }
 {
     match parse(alloc, input) {
         Ok(scripts) => Ok(Answer {
@@ -35,6 +48,38 @@ pub fn run(alloc: Global, input: &[u8]) -> Result<Answer, NoMemory>
         }),
         Err(ScriptError::NoMemory) => Err(NoMemory),
     }
+}
+
+// Judges the account that the input claims of its scripts.
+fn check_claim(alloc: Global, input: &[u8]) -> Result<Answer, NoMemory>
+    requires { length input.now ≤ 134217728 }
+    ensures { IfOk result (λ answer. Writes Command.Check answer.status input.now answer.text.items) }
+{
+    let (before, account) = parts_of(input);
+    match parse(alloc, before) {
+        Ok(scripts) => judge(alloc, &scripts, account),
+        Err(ScriptError::Line { number }) => Ok(Answer {
+            status: Status::BadScript,
+            text: bad_line(alloc, number)?,
+        }),
+        Err(ScriptError::NoMemory) => Err(NoMemory),
+    }
+}
+
+// Whether the bytes are an account of the scripts.
+fn judge(alloc: Global, scripts: &Scripts, account: &[u8]) -> Result<Answer, NoMemory>
+    ensures { IfOk result (λ answer. Judges scripts.now account.now answer.status answer.text.items) }
+{
+    if check(alloc, scripts, scripts.default_slots(), account)? {
+        return Ok(Answer {
+            status: Status::Done,
+            text: Vec::from_slice(alloc, b"yes\n")?,
+        });
+    }
+    Ok(Answer {
+        status: Status::Refused,
+        text: Vec::from_slice(alloc, b"no\n")?,
+    })
 }
 
 // The account of the scripts, run one after another.

@@ -2,22 +2,18 @@
 ghost use Rattle.std.specs.Prelude.{◌≡◌, ◌≤◌, ◌⊎◌, ◌↔◌, ℕ, List, Some, map, length, string_bytes};
 ghost use Rattle.io_edge.specs.Edge.{Rose};
 ghost use Rattle.io_edge.specs.Whole.{TakesToLimit};
-ghost use Rattle.prcu_model.specs.declared.operation.Op as op;
-ghost use Rattle.script_text.specs.Grammar.{IsScriptText};
-ghost use Rattle.citrus_tool.specs.Answers.{AccountsFor, TellsBadLine, RunWrites, RunMayWrite, Answered, AnsweredInPart, WritesNothing};
-ghost use Rattle.citrus_tool.specs.Commands.{IsCommand, run_limit};
+ghost use Rattle.citrus_tool.specs.declared.commands.Command as command;
+ghost use Rattle.citrus_tool.specs.Answers.{Answered, AnsweredInPart, AnsweredBy, AnsweredInPartBy, IsAnswerable, WritesNothing};
+ghost use Rattle.citrus_tool.specs.Commands.{Asks, IsCommand, limit_of};
 
 use crate::commands::{Command, command_of};
 use crate::outcome::{Outcome, Ran, Status};
-use crate::running::run;
+use crate::running::answer_to;
 use io_edge::{ReadError, Sink, Source, read_all, write_all};
 use prcu_model::Gate;
 use std::alloc::Global;
 use std::sync::Wait;
 use std::thread::Threads;
-
-// The most bytes that `run` reads.
-const RUN_LIMIT: u64 = 16_777_216;
 
 /// Does what the words ask for, from the source to the sink, and tells how it ended. The whole text is made before its
 /// first byte is written. Where several causes meet, the first of these is told: words, reading and length, scripts,
@@ -42,28 +38,30 @@ pub fn tool<R: Threads + Wait + Sync, S: Source, K: Sink, G: Gate + Sync>(
     ensures source_counted { S.faults source.old ≤ S.faults source.new }
     ensures sink_counted { K.faults sink.old ≤ K.faults sink.new }
 
-    // TooLong comes exactly where more bytes than the limit were taken.
-    ensures too_long { TakesToLimit run_limit (S.rest source.old) (S.rest source.new) (result.status ≡ Status.TooLong) }
+    // TooLong comes exactly where more bytes than the command's limit were taken.
+    ensures too_long { (command : command.Command) → Asks (map string_bytes words.now) command
+        → TakesToLimit (limit_of command) (S.rest source.old) (S.rest source.new) (result.status ≡ Status.TooLong) }
 
     // What was written answers what was read.
-    ensures done { result.status ≡ Status.Done
-        → Answered AccountsFor run_limit (S.rest source.old) (S.rest source.new) (K.bytes sink.old) (K.bytes sink.new) }
-    ensures bad_script { result.status ≡ Status.BadScript
-        → Answered TellsBadLine run_limit (S.rest source.old) (S.rest source.new) (K.bytes sink.old) (K.bytes sink.new) }
-    ensures cut_short { result.status ≡ Status.WriteFault
-        → AnsweredInPart RunMayWrite run_limit (S.rest source.old) (S.rest source.new) (K.bytes sink.old) (K.bytes sink.new) }
+    ensures done { result.status ≡ Status.Done → Answered (map string_bytes words.now) Status.Done
+        (S.rest source.old) (S.rest source.new) (K.bytes sink.old) (K.bytes sink.new) }
+    ensures refused { result.status ≡ Status.Refused → Answered (map string_bytes words.now) Status.Refused
+        (S.rest source.old) (S.rest source.new) (K.bytes sink.old) (K.bytes sink.new) }
+    ensures bad_script { result.status ≡ Status.BadScript → Answered (map string_bytes words.now) Status.BadScript
+        (S.rest source.old) (S.rest source.new) (K.bytes sink.old) (K.bytes sink.new) }
+    ensures cut_short { result.status ≡ Status.WriteFault → AnsweredInPart (map string_bytes words.now)
+        (S.rest source.old) (S.rest source.new) (K.bytes sink.old) (K.bytes sink.new) }
     ensures unwritten { WritesNothing result.status → sink.new ≡ sink.old }
 
-    // Scripts within the limit are run, unless a count rose or the memory wasn't there.
-    ensures complete { (input : List ℕ) (scripts : List (List op.Op)) → IsCommand (map string_bytes words.now)
-        → S.rest source.old ≡ Some input → IsScriptText input scripts → length input ≤ run_limit
+    // An input with good scripts within the limit is answered, unless a count rose or the memory wasn't there.
+    ensures complete { (command : command.Command) (input : List ℕ) → Asks (map string_bytes words.now) command
+        → S.rest source.old ≡ Some input → IsAnswerable command input → length input ≤ limit_of command
         → (Rose (S.faults source.old) (S.faults source.new) → ⊥) → (Rose (K.faults sink.old) (K.faults sink.new) → ⊥)
-        → (result.status ≡ Status.Done) ⊎ (result.status ≡ Status.NoMemory) }
-    ensures not_refused { result.status ≡ Status.Refused → ⊥ }
+        → (result.status ≡ Status.Done) ⊎ (result.status ≡ Status.Refused) ⊎ (result.status ≡ Status.NoMemory) }
     ensures ran { result.ran ≡ Ran.Nothing }
 {
     let status = match command_of(words) {
-        Some(Command::Run) => run_from(alloc, source, sink),
+        Some(command) => answer_from(alloc, command, source, sink),
         None => Status::Usage,
     };
     Outcome {
@@ -72,30 +70,36 @@ pub fn tool<R: Threads + Wait + Sync, S: Source, K: Sink, G: Gate + Sync>(
     }
 }
 
-// Reads scripts from the source, runs them, and writes what answers them to the sink.
-fn run_from<S: Source, K: Sink>(alloc: Global, source: &mut S, sink: &mut K) -> Status
+// Reads the command's input from the source, and writes what answers it to the sink.
+fn answer_from<S: Source, K: Sink>(
+    alloc: Global,
+    command: Command,
+    source: &mut S,
+    sink: &mut K,
+) -> Status
     ensures read_fault { result ≡ Status.ReadFault → Rose (S.faults source.old) (S.faults source.new) }
     ensures write_fault { result ≡ Status.WriteFault → Rose (K.faults sink.old) (K.faults sink.new) }
     ensures source_counted { S.faults source.old ≤ S.faults source.new }
     ensures sink_counted { K.faults sink.old ≤ K.faults sink.new }
-    ensures too_long { TakesToLimit run_limit (S.rest source.old) (S.rest source.new) (result ≡ Status.TooLong) }
-    ensures done { result ≡ Status.Done
-        → Answered AccountsFor run_limit (S.rest source.old) (S.rest source.new) (K.bytes sink.old) (K.bytes sink.new) }
-    ensures bad_script { result ≡ Status.BadScript
-        → Answered TellsBadLine run_limit (S.rest source.old) (S.rest source.new) (K.bytes sink.old) (K.bytes sink.new) }
-    ensures cut_short { result ≡ Status.WriteFault
-        → AnsweredInPart RunMayWrite run_limit (S.rest source.old) (S.rest source.new) (K.bytes sink.old) (K.bytes sink.new) }
+    ensures too_long { TakesToLimit (limit_of command) (S.rest source.old) (S.rest source.new) (result ≡ Status.TooLong) }
+    ensures done { result ≡ Status.Done → AnsweredBy command Status.Done
+        (S.rest source.old) (S.rest source.new) (K.bytes sink.old) (K.bytes sink.new) }
+    ensures refused { result ≡ Status.Refused → AnsweredBy command Status.Refused
+        (S.rest source.old) (S.rest source.new) (K.bytes sink.old) (K.bytes sink.new) }
+    ensures bad_script { result ≡ Status.BadScript → AnsweredBy command Status.BadScript
+        (S.rest source.old) (S.rest source.new) (K.bytes sink.old) (K.bytes sink.new) }
+    ensures cut_short { result ≡ Status.WriteFault → AnsweredInPartBy command
+        (S.rest source.old) (S.rest source.new) (K.bytes sink.old) (K.bytes sink.new) }
     ensures unwritten { WritesNothing result → sink.new ≡ sink.old }
     ensures a_command { result ≡ Status.Usage → ⊥ }
-    ensures not_refused { result ≡ Status.Refused → ⊥ }
 {
-    let input = match read_all(alloc, source, RUN_LIMIT) {
+    let input = match read_all(alloc, source, command.limit()) {
         Ok(input) => input,
         Err(ReadError::Fault) => return Status::ReadFault,
         Err(ReadError::TooLong) => return Status::TooLong,
         Err(ReadError::NoMemory) => return Status::NoMemory,
     };
-    let Ok(answer) = run(alloc, &input) else {
+    let Ok(answer) = answer_to(alloc, command, &input) else {
         return Status::NoMemory;
     };
     match write_all(sink, &answer.text) {

@@ -1,0 +1,43 @@
+//! Whether a text is an account.
+ghost use Rattle.std.specs.Prelude.{◌↔◌, IsTrue, IfOk};
+ghost use Rattle.prcu_model.specs.Lists.{entries_of};
+ghost use Rattle.account_text.specs.Account.{IsAccount};
+ghost use Rattle.account_text.specs.Checking.{IsPrinted};
+
+use crate::judging::{is_explained, is_legal};
+use crate::numbering::fronts;
+use crate::printing::write_account;
+use crate::reading::read_account;
+use prcu_model::{NoMemory, Scripts, ToldList, Update};
+use std::alloc::Global;
+
+/// Whether the text is an account of these scripts with so many slots. What the text claims is judged, printed again,
+/// and compared with the text, so no reader has to be trusted.
+pub fn check(alloc: Global, scripts: &Scripts, slots: u32, text: &[u8]) -> Result<bool, NoMemory>
+    ensures { IfOk result (λ yes. IsTrue yes ↔ IsAccount scripts.now slots text.now) }
+{
+    prove!(scripts.count() <= Scripts::MOST_SCRIPTS);
+    match read_account(alloc, scripts, text)? {
+        Some(claims) => prints(alloc, scripts, slots, &claims.told, &claims.history, text),
+        None => Ok(false),
+    }
+}
+
+// Whether what was told and the history are true of the scripts, and printed they are the text.
+fn prints(
+    alloc: Global,
+    scripts: &Scripts,
+    slots: u32,
+    told: &[ToldList],
+    history: &[Update],
+    text: &[u8],
+) -> Result<bool, NoMemory>
+    ensures { IfOk result (λ yes. IsTrue yes ↔ IsPrinted scripts.now slots (entries_of told.now) history.now text.now) }
+{
+    if !is_legal(alloc, history)? || !is_explained(alloc, scripts, told, history, slots)? {
+        return Ok(false);
+    }
+    let lines = fronts(alloc, scripts, told, history, slots)?;
+    let printed = write_account(alloc, &lines, history)?;
+    Ok(printed.as_slice() == text)
+}

@@ -1,0 +1,56 @@
+-- Which inputs are answered.
+use Rattle.std.proofs.Common.{◌≡◌, ℕ, ◌≤◌, ◌<◌, List, [], ◌∷◌, ◌++◌, length, codes, Option, Some, ◌⊎◌, inl, inr, refl, sym, ap, subst, ◌∙◌, append-nil, length-append, arith}
+use Rattle.io_edge.specs.Edge.{Takes, IsAtEnd}
+use Rattle.io_edge.specs.Whole.{TakesToLimit}
+use Rattle.citrus_tool.specs.declared.commands.Command.{Command}
+use Rattle.citrus_tool.specs.declared.commands.Command.TheVariants.{Run, Check}
+use Rattle.citrus_tool.specs.declared.outcome.Status.{Status}
+use Rattle.citrus_tool.specs.declared.outcome.Status.TheVariants.{Done, Refused, Usage, BadScript, ReadFault, WriteFault, NoMemory, TooLong}
+use Rattle.prcu_model.specs.declared.operation.Op.{Op}
+use Rattle.script_text.specs.Grammar.{IsScriptText}
+use Rattle.citrus_tool.specs.Commands.{Asks, limit_of}
+use Rattle.citrus_tool.specs.Answers.{Writes, AnsweredBy, IsAnswerable, TellsBadLine, TellsBadLineBefore, Claims}
+use Rattle.citrus_tool.proofs.InputParts.{one_before}
+
+-- words ask for one command
+pub one_command : (words : List (List ℕ)) (a b : Command) → Asks words a → Asks words b → a ≡ b
+one_command words Run Run p q = refl
+one_command words Check Check p q = refl
+one_command words Run Check p q = let e : codes "run" ∷ [] ≡ codes "check" ∷ [] = sym p ∙ q in absurd (cc)
+one_command words Check Run p q = let e : codes "check" ∷ [] ≡ codes "run" ∷ [] = sym p ∙ q in absurd (cc)
+
+-- what was taken of an input is no longer than that
+pub not_too_long : (limit : ℕ) (input : List ℕ) (after : Option (List ℕ)) (P : Type 0) → TakesToLimit limit (Some input) after P → length input ≤ limit → P → ⊥
+not_too_long limit input after P t short p =
+    let past : limit < length t.0 = t.3.0 p in
+    omega (arith, ap length t.1.1, length-append t.0 t.1.0)
+
+-- what was read to the end is the whole input
+whole_input : (input : List ℕ) (after : Option (List ℕ)) (taken : List ℕ) → Takes (Some input) after taken → IsAtEnd after → taken ≡ input
+whole_input input after taken t ended =
+    let none : t.0 ≡ [] = subst IsAtEnd t.2 ended in
+    sym (t.1 ∙ ap (λ rest. taken ++ rest) none ∙ append-nil taken)
+
+no_bad_line : (command : Command) (input text : List ℕ) → Writes command BadScript input text → IsAnswerable command input → ⊥
+no_bad_line Run input text bad good = bad.none good.0 good.1
+no_bad_line Check input text bad good =
+    let claims = good.2 in
+    let same = one_before input bad.before claims.before bad.account good.1 bad.parts claims.parts in
+    bad.bad.none good.0 (subst (λ b. IsScriptText b good.0) (sym same) claims.read)
+
+-- an input with good scripts isn't told bad
+pub not_bad : (command : Command) (input : List ℕ) (after written written_now : Option (List ℕ)) → AnsweredBy command BadScript (Some input) after written written_now → IsAnswerable command input → ⊥
+not_bad command input after written written_now a good =
+    let same = whole_input input after a.input a.read a.ended in
+    no_bad_line command a.input a.text a.answers (subst (IsAnswerable command) (sym same) good)
+
+-- the statuses that are left
+pub one_of_three : (status : Status) → (status ≡ Usage → ⊥) → (status ≡ ReadFault → ⊥) → (status ≡ WriteFault → ⊥) → (status ≡ TooLong → ⊥) → (status ≡ BadScript → ⊥) → (status ≡ Done) ⊎ (status ≡ Refused) ⊎ (status ≡ NoMemory)
+one_of_three Done u r w t b = inl refl
+one_of_three Refused u r w t b = inr (inl refl)
+one_of_three NoMemory u r w t b = inr (inr refl)
+one_of_three Usage u r w t b = absurd (u refl)
+one_of_three ReadFault u r w t b = absurd (r refl)
+one_of_three WriteFault u r w t b = absurd (w refl)
+one_of_three TooLong u r w t b = absurd (t refl)
+one_of_three BadScript u r w t b = absurd (b refl)
