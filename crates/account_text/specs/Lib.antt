@@ -2,4 +2,5 @@ pub mod Fronts
 pub mod Printing
 pub mod Account
 pub mod Reading
+pub mod AccountLines
 pub mod Walks
