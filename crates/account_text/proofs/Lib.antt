@@ -1,3 +1,6 @@
+pub mod AccountTexts
+pub mod ReadParts
+pub mod Words
 pub mod LineNumbers
 pub mod ScriptNumbers
 pub mod Accounts

@@ -3,10 +3,12 @@
 
 mod numbering;
 mod printing;
+mod reading;
 mod walk;
 
 pub use numbering::fronts;
 pub use printing::write_account;
+pub use reading::{Claimed, read_account};
 
 #[cfg(test)]
 mod tests;

@@ -1,7 +1,7 @@
 //! Accounts of small runs, byte for byte.
 ghost use Rattle.std.specs.Prelude.{◌≡◌, ◌^◌, ◌<◌, length, IfOk};
 
-use crate::{fronts, write_account};
+use crate::{fronts, read_account, write_account};
 use prcu_model::{Line, LineList, NoMemory, Op, Reply, Scripts, Told, ToldList, Update};
 use std::alloc::Global;
 use std::test::Fail;
@@ -137,5 +137,45 @@ script 1\nput 5 50 new 3\nset 5 60 was 50 4\nput 5 50 old 4\nput 6 0 full 4\n\
 history 4\n1 0 put 5 50\n2 0 del 5\n3 1 put 5 50\n4 1 set 5 60\n\
 final 1\n5 60\nend\n";
     assert_eq!(rt; account.as_slice(), expected.as_slice());
+    Ok(())
+}
+
+#[test]
+fn what_an_account_claims_is_read(rt: HostRuntime) -> Result<(), Fail> {
+    let alloc = rt.alloc();
+    let put = Op::Put { key: 1, value: 7 };
+    let set = Op::Set { key: 1, value: 8 };
+    let mut scripts = Scripts::new(alloc);
+    scripts.add_script()?;
+    scripts.add_op(put)?;
+    scripts.add_script()?;
+    scripts.add_op(Op::Get { key: 1 })?;
+    scripts.add_op(set)?;
+    let account = b"script 0\nput 1 7 new 1\nscript 1\nget 1 none 0\nset 1 8 was 7 2\n\
+history 2\n1 0 put 1 7\n2 1 set 1 8\nfinal 1\n1 8\nend\n";
+    let Some(claimed) = read_account(alloc, &scripts, account)? else {
+        return Err(Fail::new("no claims"));
+    };
+    let mut told = Vec::new(alloc);
+    for list in &claimed.told {
+        told.extend_from_slice(list.entries())?;
+    }
+    let expected = [
+        Told {
+            reply: Reply::New,
+            number: 1,
+        },
+        Told {
+            reply: Reply::Absent,
+            number: 0,
+        },
+        Told {
+            reply: Reply::Was { value: 7 },
+            number: 2,
+        },
+    ];
+    assert_eq!(rt; told.as_slice(), expected.as_slice());
+    let history = [Update { caller: 0, op: put }, Update { caller: 1, op: set }];
+    assert_eq!(rt; claimed.history.as_slice(), history.as_slice());
     Ok(())
 }
