@@ -3,3 +3,4 @@ pub mod Printing
 pub mod Account
 pub mod Reading
 pub mod Walks
+pub mod Judging
