@@ -6,3 +6,6 @@ pub mod ScriptNumbers
 pub mod Accounts
 pub mod Checked
 pub mod FitAccounts
+pub mod LegalUpdates
+pub mod UpdatesAhead
+pub mod Explained

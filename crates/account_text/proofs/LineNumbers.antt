@@ -1,5 +1,6 @@
 -- The numbers that may stand beside a script's lines, one line after another.
-use Rattle.std.proofs.Common.{◌≡◌, ℕ, ◌+◌, ◌<◌, ◌≤◌, Bool, true, false, List, [], ◌∷◌, length, get_or, drop, MatchBool, ap, sym, ◌∙◌, arith}
+use Rattle.std.proofs.Common.{◌≡◌, ℕ, ◌+◌, ◌<◌, ◌≤◌, Bool, true, false, List, [], ◌∷◌, length, get_or, drop, MatchBool, min, inl, inr, refl, ap, sym, ◌∙◌, arith}
+use Rattle.std.proofs.lemmas.Bool.{cases_lt}
 use Rattle.std.proofs.lemmas.List.{drop_more, drop_all}
 use Rattle.prcu_model.specs.declared.operation.Op.{Op}
 use Rattle.prcu_model.specs.declared.operation.Told.{Told}
@@ -23,6 +24,18 @@ told_lines-turn ops tolds i op told in_ops in_tolds is_op is_told =
 
 pub told_lines-end : (ops : List Op) (tolds : List Told) (i : ℕ) → length ops ≤ i → told_lines (drop i ops) (drop i tolds) ≡ []
 told_lines-end ops tolds i past = ap (λ os. told_lines os (drop i tolds)) (drop_all i ops past)
+
+told_lines-none : (ops : List Op) → told_lines ops [] ≡ []
+told_lines-none [] = refl
+told_lines-none (op ∷ ops) = refl
+
+-- none is left where the operations or the answers end
+pub told_lines-past : (ops : List Op) (tolds : List Told) (i : ℕ) → i ≡ min (length ops) (length tolds) → told_lines (drop i ops) (drop i tolds) ≡ []
+told_lines-past ops tolds i past =
+    elim (cases_lt i (length ops)) [
+      | inl more ↦ ap (told_lines (drop i ops)) (drop_all i tolds (omega arith)) ∙ told_lines-none (drop i ops)
+      | inr all ↦ told_lines-end ops tolds i all
+    ]
 
 module _ (room : Room) (history : List Update) where
   lower_case : (b : Bool) (low high number position : ℕ) (E : Type 0) → low ≤ high → MatchBool b ((number ≡ position) × (high < number)) ((high ≤ number) × (number ≤ length history) × E) → MatchBool b ((number ≡ position) × (low < number)) ((low ≤ number) × (number ≤ length history) × E)
@@ -57,6 +70,10 @@ module _ (room : Room) (history : List Update) where
   -- the least number leaves the others possible
   pub Can-rest : (before : ℕ) (line : Line) (lines : List Line) (number : ℕ) → IsLeastFor room history before line number → Can before (line ∷ lines) → Can number lines
   Can-rest before line lines number least h = rest_numbered before line lines h.0 number least h.1
+
+  -- a number more at the front
+  pub Can-more : (before : ℕ) (line : Line) (lines : List Line) (number : ℕ) → MayStand room history before line number → Can number lines → Can before (line ∷ lines)
+  Can-more before line lines number stands h = (number ∷ h.0, (stands, h.1))
 
   -- a line more at the end of the numbered ones
   pub AreNumbered-next : (before : ℕ) (told line : Line) (left rest : List Line) → line.op ≡ told.op → line.reply ≡ told.reply → IsLeastFor room history before told line.number → AreNumbered room history line.number left rest → AreNumbered room history before (told ∷ left) (line ∷ rest)

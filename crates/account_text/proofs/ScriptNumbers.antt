@@ -44,6 +44,13 @@ module _ (scripts : List (List Op)) (told : List (Roomy Told)) (i : ℕ) (script
   pub SameLengths-next : SameLengths scripts told i → SameLengths scripts told (i + 1)
   SameLengths-next same = let both = lengths-turn same in cc
 
+  -- the script's answers are as many as its operations, and so in the other scripts
+  pub SameLengths-turn : length list.entries ≡ length script → SameLengths scripts told (i + 1) → SameLengths scripts told i
+  SameLengths-turn same rest = rw (drop-there scripts i script there, drop-read told i list below is) (λ k. same k ∷ rest k)
+
+pub SameLengths-end : (scripts : List (List Op)) (told : List (Roomy Told)) (i : ℕ) → length scripts ≤ i → length told ≤ i → SameLengths scripts told i
+SameLengths-end scripts told i past also = rw (drop_all i scripts past, drop_all i told also) refl
+
 pub lines_left-end : (scripts : List (List Op)) (told : List (Roomy Told)) (i : ℕ) → length scripts ≤ i → lines_left scripts told i ≡ []
 lines_left-end scripts told i past = ap (λ ss. all_told_lines ss (entries_of (drop i told))) (drop_all i scripts past)
 

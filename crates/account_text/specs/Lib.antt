@@ -5,3 +5,4 @@ pub mod Reading
 pub mod Checking
 pub mod AccountLines
 pub mod Walks
+pub mod Judging

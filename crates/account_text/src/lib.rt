@@ -1,11 +1,16 @@
-//! Accounts: what every script was told, with its number, the history, and the final pairs.
+//! Accounts: what every script was told, with its number, the history, and the final pairs. They are numbered, printed,
+//! read and checked here.
 #![tactic(auto)]
 
+mod checking;
+mod judging;
 mod numbering;
 mod printing;
 mod reading;
 mod walk;
 
+pub use checking::check;
+pub use judging::{is_explained, is_legal};
 pub use numbering::fronts;
 pub use printing::write_account;
 pub use reading::{Claimed, read_account};

@@ -1,20 +1,14 @@
 //! A walk along a history, with the dictionary at the front that it has come to.
-ghost use Rattle.std.specs.Prelude.{◌≡◌, ℕ, ◌+◌, ◌-◌, ◌*◌, ◌<◌, ◌≤◌, ◌↔◌, IsTrue, IfOk, OnOk, length};
+ghost use Rattle.std.specs.Prelude.{◌≡◌, ℕ, ◌+◌, ◌-◌, ◌*◌, ◌<◌, ◌≤◌, ◌↔◌, IsTrue, IfOk, OnOk, IfNone, IfSome, List, [], ◌∷◌, length};
+ghost use Rattle.prcu_model.specs.declared.operation.Line.{Line};
 ghost use Rattle.prcu_model.specs.Dictionary.{map_at};
-ghost use Rattle.prcu_model.specs.Replies.{Explains, tells_update};
+ghost use Rattle.prcu_model.specs.Replies.{Explains, Confirms};
 ghost use Rattle.account_text.specs.Fronts.{MayStand, IsLeastFor};
-ghost use Rattle.account_text.specs.Walks.{ExplainsFrom, line_of};
+ghost use Rattle.account_text.specs.Walks.{ExplainsFrom, line_of, updates_ahead, AreToldAhead};
 
 use prcu_model::{NoMemory, Op, PlainMap, Reply, Told, Update};
 use std::alloc::Global;
 use std::marker::Model;
-
-// Whether the reply tells that an update was made.
-fn tells_update(reply: Reply) -> bool
-    ensures { result ≡ tells_update reply }
-{
-    matches!(reply, Reply::New | Reply::Gone | Reply::Was { .. })
-}
 
 // Whether so many pairs, with twenty slots for each other script, fill the slots.
 fn are_filled(pairs: u64, scripts: u32, slots: u32) -> bool
@@ -108,17 +102,46 @@ impl<'a> Walk<'a> {
         Ok(())
     }
 
-    // Goes on to the first front that explains the reply, and gives that.
-    fn advance_until_explained(&mut self, op: Op, reply: Reply) -> Result<u64, NoMemory>
-        requires { (front : ℕ) × ExplainsFrom self.old op reply front }
-        ensures explained { IfOk result (ExplainsFrom self.old op reply) }
-        ensures least { IfOk result (λ front. (other : ℕ) → ExplainsFrom self.old op reply other → front ≤ other) }
-        ensures walk { IfOk result (λ front. self.new ≡ record self.old { front = front }) }
+    // Goes on to the first front that explains the reply, and gives that; to the last one where there is none.
+    fn advance_until_explained(&mut self, op: Op, reply: Reply) -> Result<Option<u64>, NoMemory>
+        ensures none { IfOk result (λ found. IfNone found ((front : ℕ) → ExplainsFrom self.old op reply front → ⊥)) }
+        ensures explained { IfOk result (λ found. IfSome found (ExplainsFrom self.old op reply)) }
+        ensures least { IfOk result (λ found. IfSome found (λ front. (other : ℕ) → ExplainsFrom self.old op reply other → front ≤ other)) }
+        ensures front { IfOk result (λ found. IfSome found (λ front. self.new.front ≡ front)) }
+        ensures walk { OnOk result (self.new ≡ record self.old { front = self.new.front }) }
     {
         while !self.explains(op, reply) {
+            if self.front == self.history.len() {
+                return Ok(None);
+            }
             self.advance()?;
         }
-        Ok(self.front as u64)
+        Ok(Some(self.front as u64))
+    }
+
+    /// The least number that may stand beside the line, after the number of the line before it, and `None` exactly
+    /// where none may. The walk stays at or before the number.
+    pub fn try_number_for(
+        &mut self,
+        before: u64,
+        op: Op,
+        told: Told,
+    ) -> Result<Option<u64>, NoMemory>
+        requires { self.old.front ≤ before }
+        ensures none { IfOk result (λ found. IfNone found
+            ((number : ℕ) → MayStand self.old.room self.old.history before (line_of op told) number → ⊥)) }
+        ensures least { IfOk result (λ found. IfSome found (IsLeastFor self.old.room self.old.history before (line_of op told))) }
+        ensures behind { IfOk result (λ found. IfSome found (λ number. self.new.front ≤ number)) }
+        ensures walk { OnOk result (self.new ≡ record self.old { front = self.new.front }) }
+    {
+        if told.reply.tells_update() {
+            return Ok((before < told.number).then_some(told.number));
+        }
+        if before > self.history.len() as u64 {
+            return Ok(None);
+        }
+        self.advance_to(before)?;
+        self.advance_until_explained(op, told.reply)
     }
 
     /// The least number that may stand beside the line, after the number of the line before it. The walk stays at or
@@ -130,10 +153,64 @@ impl<'a> Walk<'a> {
         ensures behind { IfOk result (λ number. self.new.front ≤ number) }
         ensures walk { OnOk result (self.new ≡ record self.old { front = self.new.front }) }
     {
-        if tells_update(told.reply) {
-            return Ok(told.number);
+        Ok(self.try_number_for(before, op, told)?.unwrap())
+    }
+
+    /// Goes on to the caller's next update, and gives its operation; to the end of the history where there is none.
+    pub fn advance_to_update_of(&mut self, caller: u32) -> Result<Option<Op>, NoMemory>
+        ensures none { IfOk result (λ next. IfNone next (updates_ahead self.old caller ≡ [])) }
+        ensures next { IfOk result (λ next. IfSome next (λ op. updates_ahead self.old caller
+            ≡ record { position = self.new.front + 1; op = op } ∷ updates_ahead (record self.new { front = self.new.front + 1 }) caller)) }
+        ensures below { IfOk result (λ next. IfSome next (λ _. self.new.front < length self.old.history)) }
+        ensures walk { OnOk result (self.new ≡ record self.old { front = self.new.front }) }
+    {
+        while self.front < self.history.len() {
+            let update = self.history[self.front];
+            if update.caller == caller {
+                return Ok(Some(update.op));
+            }
+            self.advance()?;
         }
-        self.advance_to(before)?;
-        self.advance_until_explained(op, told.reply)
+        Ok(None)
+    }
+
+    // Whether the reply fits the update, made at the dictionary.
+    fn confirms(&self, op: Op, reply: Reply) -> bool
+        ensures { IsTrue result ↔ Confirms (map_at self.now.history self.now.front) op reply }
+    {
+        match (op, reply) {
+            (Op::Put { .. }, Reply::New) | (Op::Del { .. }, Reply::Gone) => true,
+            (Op::Set { key, .. }, Reply::Was { value }) => self.map.get(key) == Some(value),
+            _ => false,
+        }
+    }
+
+    // Whether the line tells of the next update of the history, which has this operation, and the reply fits it.
+    fn is_told(&self, next: Op, op: Op, told: Told) -> bool
+        ensures { IsTrue result ↔ ((next ≡ op) × (self.now.front + 1 ≡ told.number)
+            × Confirms (map_at self.now.history self.now.front) op told.reply) }
+    {
+        let is_next = told.number > 0 && told.number - 1 == self.front as u64;
+        next == op && is_next && self.confirms(op, told.reply)
+    }
+
+    /// Whether the caller's next update is the one that the line tells of, if it tells of one, and the reply fits it.
+    /// If so, the walk goes past the update.
+    pub fn pass_line(&mut self, caller: u32, op: Op, told: Told) -> Result<bool, NoMemory>
+        ensures passed { IfOk result (λ passed. (lines : List Line) → AreToldAhead self.old caller (line_of op told ∷ lines)
+            ↔ (IsTrue passed × AreToldAhead self.new caller lines)) }
+        ensures walk { OnOk result (self.new ≡ record self.old { front = self.new.front }) }
+    {
+        if !told.reply.tells_update() {
+            return Ok(true);
+        }
+        let Some(next) = self.advance_to_update_of(caller)? else {
+            return Ok(false);
+        };
+        if !self.is_told(next, op, told) {
+            return Ok(false);
+        }
+        self.advance()?;
+        Ok(true)
     }
 }
