@@ -1,7 +1,7 @@
 //! Accounts of small runs, byte for byte.
 ghost use Rattle.std.specs.Prelude.{◌≡◌, ◌^◌, ◌<◌, length, IfOk};
 
-use crate::{fronts, read_account, write_account};
+use crate::{fronts, is_explained, is_legal, read_account, write_account};
 use prcu_model::{Line, LineList, NoMemory, Op, Reply, Scripts, Told, ToldList, Update};
 use std::alloc::Global;
 use std::test::Fail;
@@ -177,5 +177,77 @@ history 2\n1 0 put 1 7\n2 1 set 1 8\nfinal 1\n1 8\nend\n";
     assert_eq!(rt; told.as_slice(), expected.as_slice());
     let history = [Update { caller: 0, op: put }, Update { caller: 1, op: set }];
     assert_eq!(rt; claimed.history.as_slice(), history.as_slice());
+    Ok(())
+}
+
+fn answer(reply: Reply, number: u64) -> Told {
+    Told { reply, number }
+}
+
+// Whether the history explains the answers to a put of a first script, and to a set and a get of a second one.
+fn explains(
+    alloc: Global,
+    first: &[Told],
+    second: &[Told],
+    history: &[Update],
+) -> Result<bool, NoMemory>
+    requires first { length first.now < 2 ^ 32 }
+    requires second { length second.now < 2 ^ 32 }
+{
+    let mut scripts = Scripts::new(alloc);
+    scripts.add_script()?;
+    scripts.add_op(Op::Put { key: 1, value: 7 })?;
+    scripts.add_script()?;
+    scripts.add_op(Op::Set { key: 1, value: 8 })?;
+    scripts.add_op(Op::Get { key: 1 })?;
+    let told = [told_list(alloc, first)?, told_list(alloc, second)?];
+    is_explained(alloc, &scripts, &told, history, 42)
+}
+
+#[test]
+fn only_claims_that_a_run_can_make_are_accepted(rt: HostRuntime) -> Result<(), Fail> {
+    let alloc = rt.alloc();
+    let put = Update {
+        caller: 0,
+        op: Op::Put { key: 1, value: 7 },
+    };
+    let set = Update {
+        caller: 1,
+        op: Op::Set { key: 1, value: 8 },
+    };
+    let histories = [([put, set], true), ([set, put], false), ([put, put], false)];
+    for (history, legal) in histories {
+        assert_eq!(rt; is_legal(alloc, &history)?, legal);
+    }
+
+    let added = answer(Reply::New, 1);
+    let was = answer(Reply::Was { value: 7 }, 2);
+    let new_value = answer(Reply::Val { value: 8 }, 0);
+    let old_value = answer(Reply::Val { value: 7 }, 0);
+    let claims = [
+        ([added], [was, new_value], true),
+        ([answer(Reply::Old, 0)], [was, new_value], false),
+        (
+            [added],
+            [answer(Reply::Was { value: 6 }, 2), new_value],
+            false,
+        ),
+        (
+            [added],
+            [answer(Reply::Was { value: 7 }, 1), new_value],
+            false,
+        ),
+        ([added], [answer(Reply::Absent, 0), old_value], false),
+        ([added], [was, old_value], false),
+    ];
+    for (first, second, explained) in claims {
+        assert_eq!(rt; explains(alloc, &first, &second, &[put, set])?, explained);
+    }
+    assert_eq!(rt; explains(alloc, &[added], &[was], &[put, set])?, false);
+    let stranger = Update { caller: 2, ..set };
+    assert_eq!(rt;
+        explains(alloc, &[added], &[was, new_value], &[put, set, stranger])?,
+        false
+    );
     Ok(())
 }

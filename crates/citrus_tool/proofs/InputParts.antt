@@ -30,7 +30,7 @@ lines_of-after (byte ∷ front) rest =
     let others = lines_of-after front rest in
     let some : 0 < length (front ++ codes "\n") = omega (arith, length-append front (codes "\n")) in
     elim (eqb byte 10) as (λ b. cond b ([] ∷ lines_of ((front ++ codes "\n") ++ rest)) (onto_first byte (lines_of ((front ++ codes "\n") ++ rest)))
-        ≡ cond b ([] ∷ lines_of (front ++ codes "\n")) (onto_first byte (lines_of (front ++ codes "\n"))) ++ lines_of rest) [
+    ≡ cond b ([] ∷ lines_of (front ++ codes "\n")) (onto_first byte (lines_of (front ++ codes "\n"))) ++ lines_of rest) [
       | true ↦ ap (λ lines. [] ∷ lines) others
       | false ↦ ap (onto_first byte) others ∙ onto_first-append byte (lines_of (front ++ codes "\n")) (lines_of rest) (lines_of-some (front ++ codes "\n") some)
     ]
@@ -76,14 +76,17 @@ module _ (input : List ℕ) (at : ℕ) (cut : CutAt input at) where
           whole = cut.whole ∙ ap (λ r. cut.front ++ r) (sym rest_is ∙ parted.whole ∙ sym (append_assoc line (codes "\n") after)) ∙ sym (append_assoc cut.front ended_line after);
           place = length-append cut.front ended_line ∙ omega (arith, cut.place, length-append line (codes "\n"));
           lacks = subst (AllByRecursion Other) (sym lines) (all-append (lines_of cut.front) (line ∷ []) cut.lacks (other, tt));
-          ended = inr (cut.front ++ line, sym (append_assoc cut.front line (codes "\n")))
+          ended = inr (cut.front ++ line, sym (append_assoc cut.front line (codes "\n")));
         }
 
     -- the line is `account`
     pub parts-at_line : line ≡ codes "account" → HasParts input (take at input) after
     parts-at_line is =
-        inl (subst LacksAccount (sym front_is) cut.lacks, subst IsEnded (sym front_is) cut.ended,
-            sym (take-append-drop at input) ∙ ap (λ r. take at input ++ r) (parted.whole ∙ ap (λ l. l ++ 10 ∷ after) is) ∙ sym (append_assoc (take at input) (codes "account\n") after))
+        inl (
+          subst LacksAccount (sym front_is) cut.lacks,
+          subst IsEnded (sym front_is) cut.ended,
+          sym (take-append-drop at input) ∙ ap (λ r. take at input ++ r) (parted.whole ∙ ap (λ l. l ++ 10 ∷ after) is) ∙ sym (append_assoc (take at input) (codes "account\n") after),
+        )
 
   -- the last line has no byte 10, and is `account`
   pub parts-at_end : drop at input ≡ codes "account" → (account : List ℕ) → account ≡ [] → HasParts input (take at input) account
@@ -149,7 +152,7 @@ found_line input before account lacks is_ended e = record {
   more = lines_of account;
   lines = ap lines_of (e ∙ append_assoc before (codes "account\n") account) ∙ lines_of-append before (codes "account\n" ++ account) is_ended;
   lacks = lacks;
-  ended_before = is_ended
+  ended_before = is_ended;
 }
 
 found_last : (input before : List ℕ) → LacksAccount before → IsEnded before → input ≡ before ++ codes "account" → Found input before
@@ -172,13 +175,13 @@ pub one_before : (input a b x y : List ℕ) → HasParts input a x → HasParts 
 one_before input a b x y p q =
     elim (is_found input a x p) [
       | inl f ↦ elim (is_found input b y q) [
-          | inl h ↦ one_found input a b f h
-          | inr n ↦ absurd (not_both input a f (subst LacksAccount (sym n.0) n.1))
-        ]
+        | inl h ↦ one_found input a b f h
+        | inr n ↦ absurd (not_both input a f (subst LacksAccount (sym n.0) n.1))
+      ]
       | inr m ↦ elim (is_found input b y q) [
-          | inl h ↦ absurd (not_both input b h (subst LacksAccount (sym m.0) m.1))
-          | inr n ↦ sym m.0 ∙ n.0
-        ]
+        | inl h ↦ absurd (not_both input b h (subst LacksAccount (sym m.0) m.1))
+        | inr n ↦ sym m.0 ∙ n.0
+      ]
     ]
 
 pub length-before : (input before account : List ℕ) → HasParts input before account → length before ≤ length input

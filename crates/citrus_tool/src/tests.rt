@@ -108,11 +108,163 @@ fn run_writes_the_account_of_its_scripts(rt: HostRuntime) -> Result<(), Fail> {
     Ok(())
 }
 
+// Scripts, and the account that a run of them has.
+const SCRIPTS: &[u8] = b"script\nput 5 50\nput 2 20\nput 8 80\nput 6 60\nput 9 90\ndel 5\n";
+
+const ACCOUNT: &[u8] =
+    b"script 0\nput 5 50 new 1\nput 2 20 new 2\nput 8 80 new 3\nput 6 60 new 4\nput 9 90 new 5\ndel 5 gone 6\nhistory 6\n1 0 put 5 50\n2 0 put 2 20\n3 0 put 8 80\n4 0 put 6 60\n5 0 put 9 90\n6 0 del 5\nfinal 4\n2 20\n6 60\n8 80\n9 90\nend\n";
+
+// The text with the first of some bytes replaced.
+fn replaced(alloc: Global, text: &[u8], old: &[u8], new: &[u8]) -> Result<Vec<u8>, Fail> {
+    let mut out = Vec::new(alloc);
+    let mut rest = text;
+    let mut done = false;
+    while let Some((first, after)) = rest.split_first() {
+        if !done && rest.starts_with(old) {
+            out.extend_from_slice(new)?;
+            rest = &rest[old.len().min(rest.len())..];
+            done = true;
+            if old.is_empty() {
+                return Ok(out);
+            }
+        } else {
+            out.push(*first)?;
+            rest = after;
+        }
+    }
+    Ok(out)
+}
+
+#[test]
+fn check_tells_true_accounts_from_others(rt: HostRuntime) -> Result<(), Fail> {
+    let alloc = rt.alloc();
+    let changes: [(&[u8], &[u8], bool); 14] = [
+        (b"end\n", b"end\n", true),
+        (
+            b"1 0 put 5 50\n2 0 put 2 20\n",
+            b"1 0 put 2 20\n2 0 put 5 50\n",
+            false,
+        ),
+        (b"9 90\nend", b"end", false),
+        (b"new 1\n", b"new 2\n", false),
+        (b"final 4\n2 20", b"final 4\n2 21", false),
+        (b"gone 6", b"none 0", false),
+        (b"6 0 del 5", b"6 1 del 5", false),
+        (b"gone 6", b"gone 06", false),
+        (b"gone 6", b"gone 18446744073709551616", false),
+        (b"script 0\n", b"script 0\r\n", false),
+        (b"end\n", b"end", false),
+        (b"end\n", b"end\nend\n", false),
+        (b"history", b"h\xffstory", false),
+        (b"put 8 80 new 3\n", b"put 8 80 new\0 3\n", false),
+    ];
+    for (i, (old, new, is_account)) in changes.iter().enumerate() {
+        let mut input = Vec::from_slice(alloc, SCRIPTS)?;
+        input.extend_from_slice(b"account\n")?;
+        input.extend_from_slice(&replaced(alloc, ACCOUNT, old, new)?)?;
+        let mut source = source_of(alloc, &input, 100, &[])?;
+        let (status, written) = answer(&rt, alloc, &["check"], &mut source, 100)?;
+        let (wanted, text) = if *is_account {
+            (Status::Done, b"yes\n".as_slice())
+        } else {
+            (Status::Refused, b"no\n".as_slice())
+        };
+        assert_eq!(rt; status, wanted, "change {i}");
+        assert!(rt; written.as_slice() == text, "change {i}");
+    }
+
+    // An account of its own front for each line, scripts without an account, and bad scripts before one.
+    let set = b"script\nput 5 50\nset 5 51\nset 6 1\nget 5\n";
+    let cases: [(&[u8], Status); 8] = [
+        (b"account\nhistory 0\nfinal 0\nend\n", Status::Done),
+        (b"", Status::Refused),
+        (b"script\nget 1\naccount", Status::Refused),
+        (
+            b"script\nget 1\naccount\nscript 0\nget 1 none 0\nhistory 0\nfinal 0\nend\n",
+            Status::Done,
+        ),
+        (
+            b"script\nget 1\naccount\naccount\nscript 0\nget 1 none 0\nhistory 0\nfinal 0\nend\n",
+            Status::Refused,
+        ),
+        (
+            b"script\nget 1\naccount\nscript 0\nget 1 none 1\nhistory 0\nfinal 0\nend\n",
+            Status::Refused,
+        ),
+        (
+            b"script\nget 01\naccount\nhistory 0\nfinal 0\nend\n",
+            Status::BadScript,
+        ),
+        (b"get 1\n", Status::BadScript),
+    ];
+    for (i, (input, wanted)) in cases.iter().enumerate() {
+        let mut source = source_of(alloc, input, 100, &[])?;
+        let (status, _) = answer(&rt, alloc, &["check"], &mut source, 100)?;
+        assert_eq!(rt; status, *wanted, "case {i}");
+    }
+    for (was, wanted) in [(b"50", Status::Done), (b"51", Status::Refused)] {
+        let mut input = Vec::from_slice(alloc, set)?;
+        input.extend_from_slice(b"account\nscript 0\nput 5 50 new 1\nset 5 51 was ")?;
+        input.extend_from_slice(was)?;
+        input.extend_from_slice(
+            b" 2\nset 6 1 none 2\nget 5 val 51 2\nhistory 2\n1 0 put 5 50\n2 0 set 5 51\nfinal 1\n5 51\nend\n",
+        )?;
+        let mut source = source_of(alloc, &input, 100, &[])?;
+        let (status, _) = answer(&rt, alloc, &["check"], &mut source, 100)?;
+        assert_eq!(rt; status, wanted, "the old value of `was` is looked at");
+    }
+    Ok(())
+}
+
+// Numbers that follow from a number, for texts that nobody chose.
+fn drawn(state: u64) -> u64 {
+    state
+        .wrapping_mul(6_364_136_223_846_793_005)
+        .wrapping_add(1_442_695_040_888_963_407)
+}
+
+// The next script text.
+fn script_text_of(alloc: Global, mut state: u64) -> Result<Vec<u8>, Fail> {
+    let mut text = Vec::new(alloc);
+    for i in 0..40u64 {
+        state = drawn(state);
+        let key = (state >> 33) % 5;
+        let line = match (state >> 40) % 6 {
+            _ if i == 0 => format!(in alloc; "script\n")?,
+            0 | 1 => format!(in alloc; "put {key} {i}\n")?,
+            2 => format!(in alloc; "get {key}\n")?,
+            3 => format!(in alloc; "del {key}\n")?,
+            4 => format!(in alloc; "set {key} {i}\n")?,
+            _ => format!(in alloc; "script\n")?,
+        };
+        text.extend_from_slice(line.as_bytes())?;
+    }
+    Ok(text)
+}
+
+#[test]
+fn what_run_writes_is_checked_as_true(rt: HostRuntime) -> Result<(), Fail> {
+    let alloc = rt.alloc();
+    for number in 0..200 {
+        let mut text = script_text_of(alloc, number)?;
+        let mut source = source_of(alloc, &text, 1000, &[])?;
+        let (status, account) = answer(&rt, alloc, &["run"], &mut source, 10000)?;
+        assert_eq!(rt; status, Status::Done, "text {number}");
+        text.extend_from_slice(b"account\n")?;
+        text.extend_from_slice(&account)?;
+        let mut source = source_of(alloc, &text, 1000, &[])?;
+        let (status, _) = answer(&rt, alloc, &["check"], &mut source, 100)?;
+        assert_eq!(rt; status, Status::Done, "text {number}");
+    }
+    Ok(())
+}
+
 #[test]
 fn words_that_are_no_command_touch_nothing(rt: HostRuntime) -> Result<(), Fail> {
     let alloc = rt.alloc();
-    let cases: [&[&str]; 8] = [
+    let cases: [&[&str]; 9] = [
         &[],
+        &["run", "check"],
         &["frob"],
         &["Run"],
         &["run", "run"],

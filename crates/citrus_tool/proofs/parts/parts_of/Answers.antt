@@ -26,13 +26,13 @@ pub loop-line-preserved : goal.loop-line-preserved
 loop-line-preserved c =
     let rest = take_rest c.args.input.now c.loop-line.at in
     CutAt-next c.args.input.now c.loop-line.at c.loop-line.invariant c.in-Some.line.now c.in-Some.after.now (subst (λ r. IsParted r 10 c.in-Some.line.now c.in-Some.after.now) rest c.in-Some.ensures.some)
-        (differ c.in-Some.line.now c.as_slice.result.now c.as_slice.ensures c.eq.result c.eq.ensures c.if-eq.false)
+    (differ c.in-Some.line.now c.as_slice.result.now c.as_slice.ensures c.eq.result c.eq.ensures c.if-eq.false)
 
 pub returns : goal.returns
 returns c =
     let input = c.args.input.now in
     let rest = take_rest input c.loop-line.at in
     parts-none input c.loop-line.at c.loop-line.invariant (subst (λ r. Lacks r 10) rest c.in_default.ensures.none)
-        (λ e. differ _ c.as_slice-2.result.now c.as_slice-2.ensures c.eq-2.result c.eq-2.ensures c.if-eq-2.false (rest ∙ e))
-        (take (length input - length input) (drop (length input) input))
-        (ap (take (length input - length input)) (drop_all (length input) input (omega arith)) ∙ take-nil (length input - length input))
+    (λ e. differ _ c.as_slice-2.result.now c.as_slice-2.ensures c.eq-2.result c.eq-2.ensures c.if-eq-2.false (rest ∙ e))
+    (take (length input - length input) (drop (length input) input))
+    (ap (take (length input - length input)) (drop_all (length input) input (omega arith)) ∙ take-nil (length input - length input))

@@ -13,5 +13,5 @@ returns-in_ok-bad_line-in-Err-Line c =
       before = parts.0.now;
       account = parts.1.now;
       parts = c.parts_of.ensures;
-      bad = TellsBadLine-made parts.0.now c.in_ok-bad_line-in-Err-Line.field-0.items c.in-Err-Line.number (omega arith) found none (rw c.in-Err-Line.number-is at c.in_ok-bad_line-in-Err-Line.ensures)
+      bad = TellsBadLine-made parts.0.now c.in_ok-bad_line-in-Err-Line.field-0.items c.in-Err-Line.number (omega arith) found none (rw c.in-Err-Line.number-is at c.in_ok-bad_line-in-Err-Line.ensures);
     }

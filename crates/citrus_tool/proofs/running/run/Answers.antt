@@ -6,4 +6,4 @@ pub returns-in_ok-bad_line-in-Err-Line : goal.returns-in_ok-bad_line-in-Err-Line
 returns-in_ok-bad_line-in-Err-Line c =
     let told = ap Err c.in-Err-Line.field-0-is in
     TellsBadLine-made c.args.input.now c.in_ok-bad_line-in-Err-Line.field-0.items c.in-Err-Line.number (omega arith)
-        (c.in-Err-Line.ensures.line c.in-Err-Line.number told) (c.in-Err-Line.ensures.none c.in-Err-Line.number told) c.in_ok-bad_line-in-Err-Line.ensures
+    (c.in-Err-Line.ensures.line c.in-Err-Line.number told) (c.in-Err-Line.ensures.none c.in-Err-Line.number told) c.in_ok-bad_line-in-Err-Line.ensures

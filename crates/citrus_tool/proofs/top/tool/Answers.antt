@@ -15,7 +15,7 @@ returns-in-Some-clause-complete g c = λ command input asked told good short qui
     let written_now = g.K.Sink.bytes c.answer_from-status.new.sink in
     let same = one_command (map string_bytes c.args.words.now) c.in-Some.command command c.in-Some.ensures.asked asked in
     one_of_three status e.a_command (λ is. quiet_source (e.read_fault is)) (λ is. quiet_sink (e.write_fault is))
-        (not_too_long (limit_of command) input left (status ≡ TooLong)
-            (subst (λ k. TakesToLimit (limit_of k) (Some input) left (status ≡ TooLong)) same (subst (λ r. TakesToLimit (limit_of c.in-Some.command) r left (status ≡ TooLong)) told e.too_long)) short)
-        (λ is. not_bad command input left written written_now
-            (subst (λ k. AnsweredBy k BadScript (Some input) left written written_now) same (subst (λ r. AnsweredBy c.in-Some.command BadScript r left written written_now) told (e.bad_script is))) good)
+    (not_too_long (limit_of command) input left (status ≡ TooLong)
+    (subst (λ k. TakesToLimit (limit_of k) (Some input) left (status ≡ TooLong)) same (subst (λ r. TakesToLimit (limit_of c.in-Some.command) r left (status ≡ TooLong)) told e.too_long)) short)
+    (λ is. not_bad command input left written written_now
+    (subst (λ k. AnsweredBy k BadScript (Some input) left written written_now) same (subst (λ r. AnsweredBy c.in-Some.command BadScript r left written written_now) told (e.bad_script is))) good)
