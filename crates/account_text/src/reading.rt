@@ -239,12 +239,14 @@ fn read_history(alloc: Global, text: &[u8]) -> Result<Option<Vec<Update>>, NoMem
 /// What an account claims: what each script was told, and the history.
 #[derive(Drop)]
 pub struct Claimed {
+    /// For each script, in their order, what its operations were told.
     pub told: Vec<ToldList>,
+    /// The updates, in their order.
     pub history: Vec<Update>,
 }
 
-/// Takes out of an account of the scripts what it claims. `None` only where the text is no account of the scripts. The
-/// time is that of the text.
+/// Takes out of an account of the scripts what it claims. `None` comes only where the text is no account of the scripts,
+/// and `NoMemory` where the memory for the claims isn't there. The time is that of the text and of the scripts.
 pub fn read_account(
     alloc: Global,
     scripts: &Scripts,
