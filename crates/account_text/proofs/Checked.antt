@@ -1,6 +1,5 @@
 -- A text that is an account is the print of its claims, and the other way round.
-use Rattle.std.proofs.Common.{◌≡◌, ℕ, ◌+◌, ◌≤◌, ◌<◌, Bool, true, false, cond, IsTrue, ◌↔◌, Decides, MatchBool, List, [], ◌∷◌, length, map, refl, ap, sym, subst, ◌∙◌, arith}
-use Rattle.std.specs.List.{AllByRecursion}
+use Rattle.std.proofs.Common.{◌≡◌, ℕ, Bool, IsTrue, ◌↔◌, Decides, List, [], ◌∷◌, length, map, refl, ap, sym, subst, ◌∙◌, arith}
 use Rattle.std.specs.FinMap as finite
 use Rattle.prcu_model.specs.declared.operation.Op.{Op}
 use Rattle.prcu_model.specs.declared.operation.Told.{Told}
@@ -9,10 +8,10 @@ use Rattle.prcu_model.specs.declared.operation.Update.{Update}
 use Rattle.prcu_model.specs.Dictionary.{map_of}
 use Rattle.prcu_model.specs.History.{IsLegal}
 use Rattle.prcu_model.specs.Replies.{Room}
-use Rattle.account_text.specs.Fronts.{told_lines, all_told_lines, AreExplained, AreExplainable, IsLeastFor, MayStand, AreNumbered, AllAreNumbered}
+use Rattle.account_text.specs.Fronts.{told_lines, all_told_lines, AreExplained, AreExplainable, IsLeastFor, AreNumbered, AllAreNumbered}
 use Rattle.account_text.specs.Account.{IsAccount, ops_of}
 use Rattle.account_text.specs.Printing.{account_of}
-use Rattle.account_text.specs.Reading.{told_of, tolds_of}
+use Rattle.account_text.specs.Reading.{tolds_of}
 use Rattle.account_text.specs.Checking.{IsPrinted}
 use Rattle.account_text.proofs.Accounts.{IsAccount-numbered}
 
@@ -73,11 +72,11 @@ IsPrinted-from_account scripts slots text a =
       legal = a.legal;
       explainable = record {
         lengths = lengths-tolds_of a.lines ∙ ap (map length) a.ops;
-        explained = subst (AreExplained room a.history) (sym back) a.explained
+        explained = subst (AreExplained room a.history) (sym back) a.explained;
       };
       lines = a.lines;
       numbered = subst (λ told. AllAreNumbered room a.history told a.lines) (sym back) a.numbered;
-      printed = a.printed
+      printed = a.printed;
     }
 
 -- the lines that the number rule gives are the only ones that can be printed
@@ -87,13 +86,15 @@ printed-text scripts slots told history text lines numbered p =
 
 -- where the claims hold, the text is their print exactly where it equals the bytes that were written
 pub IsPrinted-compared : (scripts : List (List Op)) (slots : ℕ) (told : List (List Told)) (history : List Update) (text : List ℕ) (lines : List (List Line)) → IsLegal history → AreExplainable scripts told history slots → AllAreNumbered (record { scripts = length scripts; slots = slots }) history (all_told_lines scripts told) lines → (written : List ℕ) → written ≡ account_of lines history (finite.entries (map_of history)) → (answer : Bool) → Decides answer (written ≡ text) → IsTrue answer ↔ IsPrinted scripts slots told history text
-IsPrinted-compared scripts slots told history text lines legal explainable numbered written is answer same =
-    (λ e. record { legal = legal; explainable = explainable; lines = lines; numbered = numbered; printed = sym (same.0 e) ∙ is },
-     λ p. same.1 (is ∙ sym (printed-text scripts slots told history text lines numbered p)))
+IsPrinted-compared scripts slots told history text lines legal explainable numbered written is answer same = (
+  λ e. record { legal = legal; explainable = explainable; lines = lines; numbered = numbered; printed = sym (same.0 e) ∙ is },
+  λ p. same.1 (is ∙ sym (printed-text scripts slots told history text lines numbered p)),
+)
 
 -- Where an account's claims are found, the text is their print exactly where it is an account.
 pub IsAccount-by_claims : (scripts : List (List Op)) (slots : ℕ) (text : List ℕ) (told : List (List Told)) (history : List Update) → ((a : IsAccount scripts slots text) → (told ≡ map tolds_of a.lines) × (history ≡ a.history)) → (answer : Bool) → IsTrue answer ↔ IsPrinted scripts slots told history text → IsTrue answer ↔ IsAccount scripts slots text
-IsAccount-by_claims scripts slots text told history claims answer decides =
-    (λ e. IsAccount-from_printed scripts slots told history text (decides.0 e),
-     λ a. let found = claims a in
-         decides.1 (subst (λ t. IsPrinted scripts slots t history text) (sym found.0) (subst (λ h. IsPrinted scripts slots (map tolds_of a.lines) h text) (sym found.1) (IsPrinted-from_account scripts slots text a))))
+IsAccount-by_claims scripts slots text told history claims answer decides = (
+  λ e. IsAccount-from_printed scripts slots told history text (decides.0 e),
+  λ a. let found = claims a in
+      decides.1 (subst (λ t. IsPrinted scripts slots t history text) (sym found.0) (subst (λ h. IsPrinted scripts slots (map tolds_of a.lines) h text) (sym found.1) (IsPrinted-from_account scripts slots text a))),
+)

@@ -1,5 +1,5 @@
 -- The numbers of an account fit the words of the machine.
-use Rattle.std.proofs.Common.{◌≡◌, ℕ, zero, suc, ◌+◌, ◌-◌, ◌*◌, ◌^◌, ◌≤◌, ◌<◌, Bool, true, false, cond, eqb, IsTrue, MatchBool, List, [], ◌∷◌, ◌++◌, length, map, take, get_or, flat_map, codes, decimal, inl, inr, Option, Some, None, refl, ap, sym, subst, ◌∙◌, length-append, arith}
+use Rattle.std.proofs.Common.{◌≡◌, ℕ, zero, suc, ◌+◌, ◌-◌, ◌^◌, ◌≤◌, ◌<◌, Bool, true, false, cond, eqb, IsTrue, MatchBool, List, [], ◌∷◌, ◌++◌, length, map, take, get_or, flat_map, codes, decimal, inl, inr, Some, None, refl, ap, sym, subst, ◌∙◌, length-append, arith}
 use Rattle.std.specs.List.{AllByRecursion}
 use Rattle.std.specs.FinMap as finite
 use Rattle.std.specs.Ordering.{nat_cmp, eq_by_cmp}
@@ -16,7 +16,7 @@ use Rattle.prcu_model.specs.declared.operation.Update.{Update}
 use Rattle.prcu_model.specs.Dictionary.{Dictionary, updated, updated_all, map_of, map_at}
 use Rattle.prcu_model.specs.Replies.{Room, Explains, Confirms, tells_update}
 use Rattle.prcu_model.specs.Scripts.{FitsWords, AllFit}
-use Rattle.account_text.specs.Fronts.{Placed, own_updates_from, own_updates, told_updates, IsConfirmed, MayStand, IsLeastFor, AreNumbered, AllAreNumbered}
+use Rattle.account_text.specs.Fronts.{Placed, own_updates_from, told_updates, IsConfirmed, MayStand, AreNumbered, AllAreNumbered}
 use Rattle.account_text.specs.Account.{IsAccount, ops_of}
 use Rattle.account_text.specs.Printing.{history_from, account_of, scripts_from, pair_text}
 use Rattle.script_text.specs.Lines.{op_text}
@@ -118,7 +118,7 @@ from_told_updates : (P : ℕ → Op → Type 0) (lines : List Line) → AllByRec
 from_told_updates P [] all = tt
 from_told_updates P (line ∷ lines) all =
     elim (tells_update line.reply) as (λ b. AllByRecursion (λ x. P x.position x.op) (cond b (record { position = line.number; op = line.op } ∷ told_updates lines) (told_updates lines))
-        → (IsTrue b → P line.number line.op) × AllByRecursion (λ l. IsTrue (tells_update l.reply) → P l.number l.op) lines) [
+    → (IsTrue b → P line.number line.op) × AllByRecursion (λ l. IsTrue (tells_update l.reply) → P l.number l.op) lines) [
       | true ↦ λ h. ((λ is. h.0), from_told_updates P lines h.1)
       | false ↦ λ h. ((λ is. absurd (false≢true is)), from_told_updates P lines h)
     ] all
@@ -195,7 +195,7 @@ module _ (room : Room) (history : List Update) (ops : OpsFit history) (short : l
   line_fits : (before : ℕ) (line : Line) → MayStand room history before line line.number → IsConfirmed history line → (IsTrue (tells_update line.reply) → line.number < 1 + length history) → FitsLine line
   line_fits before line stands confirmed within =
       elim (tells_update line.reply) as (λ b. MatchBool b ((line.number ≡ line.number) × (before < line.number)) ((before ≤ line.number) × (line.number ≤ length history) × Explains room (map_at history line.number) line.op line.reply)
-          → (IsTrue b → Confirms (map_at history (line.number - 1)) line.op line.reply) → (IsTrue b → line.number < 1 + length history) → FitsLine line) [
+      → (IsTrue b → Confirms (map_at history (line.number - 1)) line.op line.reply) → (IsTrue b → line.number < 1 + length history) → FitsLine line) [
         | true ↦ λ h k w. (FitsReply-confirmed (map_at history (line.number - 1)) line.op line.reply (FitsMap-at history (line.number - 1) ops) (k refl), let n = w refl in omega arith)
         | false ↦ λ h k w. (FitsReply-explained room (map_at history line.number) line.op line.reply (FitsMap-at history line.number ops) h.2, let n = h.1 in omega arith)
       ] stands confirmed within
@@ -214,22 +214,22 @@ pub Fit-account : (scripts : List (List Op)) (slots : ℕ) (text : List ℕ) (a 
 Fit-account scripts slots text a fits few long =
     let told = told_ops a.lines (subst AllFit (sym a.ops) fits) in
     let ops : OpsFit a.history = from_own_updates (λ c op. FitsWords op) 1 a.history (λ c.
-        subst (AllByRecursion (λ x. FitsWords x.op)) (sym (a.explained.updates c)) (at_index (λ lines. AllByRecursion (λ x. FitsWords x.op) (told_updates lines)) a.lines tt told c)) in
+    subst (AllByRecursion (λ x. FitsWords x.op)) (sym (a.explained.updates c)) (at_index (λ lines. AllByRecursion (λ x. FitsWords x.op) (told_updates lines)) a.lines tt told c)) in
     let many : length a.lines ≡ length scripts = sym (length-map a.lines ops_of) ∙ ap length a.ops in
     let callers : AllByRecursion (λ u. u.caller < 2 ^ 32) a.history = from_own_updates (λ c op. c < 2 ^ 32) 1 a.history (λ c.
-        subst (AllByRecursion (λ x. c < 2 ^ 32)) (sym (a.explained.updates c))
-            (elim (cases_lt c (length a.lines)) [
-              | inl below ↦ anything (c < 2 ^ 32) (told_updates (get_or a.lines c [])) (omega arith)
-              | inr past ↦ subst (λ lines. AllByRecursion (λ x. c < 2 ^ 32) (told_updates lines)) (sym (get_or_past a.lines c [] past)) tt
-            ])) in
+    subst (AllByRecursion (λ x. c < 2 ^ 32)) (sym (a.explained.updates c))
+    (elim (cases_lt c (length a.lines)) [
+      | inl below ↦ anything (c < 2 ^ 32) (told_updates (get_or a.lines c [])) (omega arith)
+      | inr past ↦ subst (λ lines. AllByRecursion (λ x. c < 2 ^ 32) (told_updates lines)) (sym (get_or_past a.lines c [] past)) tt
+    ])) in
     let short : length a.history < 2 ^ 64 = omega (arith, length-account a.lines a.history (finite.entries (map_of a.history)), ap length a.printed) in
     let within = from_index (λ lines. AllByRecursion (λ line. IsTrue (tells_update line.reply) → line.number < 1 + length a.history) lines) a.lines (λ c.
-        from_told_updates (λ n op. n < 1 + length a.history) (get_or a.lines c [])
-            (subst (AllByRecursion (λ x. x.position < 1 + length a.history)) (a.explained.updates c) (own_updates_from-within 1 c a.history))) in
+    from_told_updates (λ n op. n < 1 + length a.history) (get_or a.lines c [])
+    (subst (AllByRecursion (λ x. x.position < 1 + length a.history)) (a.explained.updates c) (own_updates_from-within 1 c a.history))) in
     record {
       ops = a.ops;
       scripts_fit = fits;
       lines_fit = lists_fit (record { scripts = length scripts; slots = slots }) a.history ops short a.lines a.numbered a.explained.confirmed within;
       history_fits = both a.history callers ops;
-      short = short
+      short = short;
     }

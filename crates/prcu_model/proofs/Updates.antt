@@ -1,7 +1,7 @@
 -- What each update makes of a dictionary, by whether the key is there.
-use Rattle.std.proofs.Common.{◌≡◌, ℕ, Bool, true, false, cond, ap}
+use Rattle.std.proofs.Common.{◌≡◌, ℕ, true, false, cond, ap}
 use Rattle.std.specs.FinMap as map
-use Rattle.prcu_model.specs.declared.operation.Op.TheVariants.{Put, Get, Del, Set}
+use Rattle.prcu_model.specs.declared.operation.Op.TheVariants.{Put, Set}
 use Rattle.prcu_model.specs.Dictionary.{Dictionary, updated}
 
 module _ (m : Dictionary) (key value : ℕ) where

@@ -1,5 +1,5 @@
 -- How a `Scripts` holds its lists.
-use Rattle.std.specs.Prelude.{◌≡◌, ◌≤◌, ℕ, List, length}
+use Rattle.std.specs.Prelude.{◌≡◌, ◌≤◌, List, length}
 use Rattle.prcu_model.specs.declared.operation.Op.{Op}
 use Rattle.prcu_model.specs.declared.scripts.Scripts.TheInside.{Inside}
 use Rattle.prcu_model.specs.Scripts.{op_count, put_count, items_of, AllFit}

@@ -1,6 +1,6 @@
 -- Which lists of updates are histories.
 -- Source: docs/ALGORITHM.md, "The dictionary".
-use Rattle.std.specs.Prelude.{◌≡◌, ℕ, List, [], ◌∷◌, IsTrue, false}
+use Rattle.std.specs.Prelude.{◌≡◌, List, [], ◌∷◌, IsTrue, false}
 use Rattle.std.specs.FinMap as map
 use Rattle.prcu_model.specs.declared.operation.Op.{Op}
 use Rattle.prcu_model.specs.declared.operation.Op.TheVariants.{Put, Get, Del, Set}

@@ -1,4 +1,4 @@
-use Rattle.std.proofs.Common.{◌≡◌, take}
+use Rattle.std.proofs.Common.{◌≡◌}
 use Rattle.prcu_model.specs.Dictionary.{map_at}
 use Rattle.prcu_model.proofs.dict.Dict.replay.Given as goal
 
