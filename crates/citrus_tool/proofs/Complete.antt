@@ -6,10 +6,9 @@ use Rattle.citrus_tool.specs.declared.commands.Command.{Command}
 use Rattle.citrus_tool.specs.declared.commands.Command.TheVariants.{Run, Check}
 use Rattle.citrus_tool.specs.declared.outcome.Status.{Status}
 use Rattle.citrus_tool.specs.declared.outcome.Status.TheVariants.{Done, Refused, Usage, BadScript, ReadFault, WriteFault, NoMemory, TooLong}
-use Rattle.prcu_model.specs.declared.operation.Op.{Op}
 use Rattle.script_text.specs.Grammar.{IsScriptText}
-use Rattle.citrus_tool.specs.Commands.{Asks, limit_of}
-use Rattle.citrus_tool.specs.Answers.{Writes, AnsweredBy, IsAnswerable, TellsBadLine, TellsBadLineBefore, Claims}
+use Rattle.citrus_tool.specs.Commands.{Asks}
+use Rattle.citrus_tool.specs.Answers.{Writes, AnsweredBy, IsAnswerable}
 use Rattle.citrus_tool.proofs.InputParts.{one_before}
 
 -- words ask for one command

@@ -1,23 +1,22 @@
 -- A history explains what scripts were told that were run one after another.
-use Rattle.std.proofs.Common.{◌≡◌, ◌≢◌, ℕ, zero, suc, ◌+◌, ◌-◌, ◌<◌, ◌≤◌, Bool, true, false, cond, eqb, IsTrue, MatchBool, List, [], ◌∷◌, ◌++◌, length, take, get_or, map as list_map, Option, Some, None, is_some, refl, sym, ap, subst, ◌∙◌, append_assoc, length-append, arith}
+use Rattle.std.proofs.Common.{◌≡◌, ◌≢◌, ℕ, zero, suc, ◌+◌, ◌-◌, ◌<◌, ◌≤◌, true, false, cond, eqb, MatchBool, List, [], ◌∷◌, ◌++◌, length, get_or, map as list_map, Some, None, is_some, refl, sym, ap, subst, ◌∙◌, append_assoc, length-append, arith}
 use Rattle.std.specs.FinMap as map
 use Rattle.std.specs.List.{AllByRecursion}
 use Rattle.std.proofs.lemmas.Bool.{false≢true}
-use Rattle.std.proofs.lemmas.Bool.Decides.{eqb_tells, nat_tests}
+use Rattle.std.proofs.lemmas.Bool.Decides.{nat_tests}
 use Rattle.std.proofs.lemmas.List.{take_at, append-nil}
 use Rattle.prcu_model.specs.declared.operation.Op.{Op}
 use Rattle.prcu_model.specs.declared.operation.Op.TheVariants.{Put, Get, Del, Set}
 use Rattle.prcu_model.specs.declared.operation.Reply.{Reply}
-use Rattle.prcu_model.specs.declared.operation.Reply.TheVariants.{New, Old, Full, Val, Absent, Gone, Was}
-use Rattle.prcu_model.specs.declared.operation.Told.{Told}
+use Rattle.prcu_model.specs.declared.operation.Reply.TheVariants.{New, Old, Val, Absent, Gone, Was}
 use Rattle.prcu_model.specs.declared.operation.Line.{Line}
 use Rattle.prcu_model.specs.declared.operation.Update.{Update}
 use Rattle.prcu_model.specs.Dictionary.{Dictionary, map_of, map_at, updated, updated_all}
 use Rattle.prcu_model.specs.History.{IsLegal, IsUpdateAt, AreUpdatesFrom}
 use Rattle.prcu_model.specs.Replies.{Room, Explains, Confirms, tells_update}
-use Rattle.prcu_model.specs.Plain.{with_value, plain_reply, plain_told, history_with, history_after, told_after, history_after_all, told_after_all, plain_history, plain_tolds}
+use Rattle.prcu_model.specs.Plain.{with_value, plain_reply, history_with, history_after, told_after, history_after_all, told_after_all, plain_history, plain_tolds}
 use Rattle.prcu_model.proofs.Fronts.{map_of-push, updated_all-append}
-use Rattle.account_text.specs.Fronts.{told_lines, all_told_lines, Placed, own_updates_from, own_updates, told_updates, IsConfirmed, MayStand, MayStandBeside, CanBeNumbered, AreExplained, AreExplainable}
+use Rattle.account_text.specs.Fronts.{told_lines, all_told_lines, own_updates_from, own_updates, told_updates, IsConfirmed, MayStandBeside, CanBeNumbered, AreExplainable}
 
 -- what a reply is worth at the dictionary at which it was given
 abbrev IsRight : Room → Dictionary → Op → Reply → Type 0

@@ -1,6 +1,6 @@
 -- What the top call reads and writes.
 -- Source: docs/FORMATS.md, "Statuses".
-use Rattle.std.specs.Prelude.{◌≡◌, ℕ, ◌<◌, ◌≤◌, ◌⊎◌, ◌↔◌, List, ◌++◌, length, Option, codes, decimal}
+use Rattle.std.specs.Prelude.{◌≡◌, ℕ, ◌≤◌, List, ◌++◌, length, Option, codes, decimal}
 use Rattle.io_edge.specs.Edge.{Takes, IsAtEnd, Appends, AppendsFront}
 use Rattle.prcu_model.specs.declared.operation.Op.{Op}
 use Rattle.prcu_model.specs.Scripts.{default_slots_of}

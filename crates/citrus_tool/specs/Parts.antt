@@ -1,6 +1,6 @@
 -- The two parts of what `check` reads.
 -- Source: docs/FORMATS.md, "Commands".
-use Rattle.std.specs.Prelude.{◌≡◌, ◌⊎◌, ℕ, List, [], ◌∷◌, ◌++◌, codes}
+use Rattle.std.specs.Prelude.{◌≡◌, ◌⊎◌, ℕ, List, [], ◌++◌, codes}
 use Rattle.std.specs.List.{AllByRecursion}
 use Rattle.script_text.specs.Lines.{lines_of}
 

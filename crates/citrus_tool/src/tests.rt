@@ -1,4 +1,6 @@
 //! Whole runs of the top call, from bytes to bytes.
+ghost use Rattle.std.specs.Prelude.{◌≤◌};
+
 use super::*;
 use io_edge::{MemorySink, MemorySource};
 use prcu_model::OpenGate;
@@ -111,25 +113,39 @@ fn run_writes_the_account_of_its_scripts(rt: HostRuntime) -> Result<(), Fail> {
 // Scripts, and the account that a run of them has.
 const SCRIPTS: &[u8] = b"script\nput 5 50\nput 2 20\nput 8 80\nput 6 60\nput 9 90\ndel 5\n";
 
-const ACCOUNT: &[u8] =
-    b"script 0\nput 5 50 new 1\nput 2 20 new 2\nput 8 80 new 3\nput 6 60 new 4\nput 9 90 new 5\ndel 5 gone 6\nhistory 6\n1 0 put 5 50\n2 0 put 2 20\n3 0 put 8 80\n4 0 put 6 60\n5 0 put 9 90\n6 0 del 5\nfinal 4\n2 20\n6 60\n8 80\n9 90\nend\n";
+const ACCOUNT: [&[u8]; 20] = [
+    b"script 0",
+    b"put 5 50 new 1",
+    b"put 2 20 new 2",
+    b"put 8 80 new 3",
+    b"put 6 60 new 4",
+    b"put 9 90 new 5",
+    b"del 5 gone 6",
+    b"history 6",
+    b"1 0 put 5 50",
+    b"2 0 put 2 20",
+    b"3 0 put 8 80",
+    b"4 0 put 6 60",
+    b"5 0 put 9 90",
+    b"6 0 del 5",
+    b"final 4",
+    b"2 20",
+    b"6 60",
+    b"8 80",
+    b"9 90",
+    b"end",
+];
 
-// The text with the first of some bytes replaced.
-fn replaced(alloc: Global, text: &[u8], old: &[u8], new: &[u8]) -> Result<Vec<u8>, Fail> {
-    let mut out = Vec::new(alloc);
-    let mut rest = text;
-    let mut done = false;
-    while let Some((first, after)) = rest.split_first() {
-        if !done && rest.starts_with(old) {
-            out.extend_from_slice(new)?;
-            rest = &rest[old.len().min(rest.len())..];
-            done = true;
-            if old.is_empty() {
-                return Ok(out);
-            }
+// The scripts and their account, with other bytes in place of the line with this number, counted from 0, and its end.
+fn claim_of(alloc: Global, changed: usize, bytes: &[u8]) -> Result<Vec<u8>, Fail> {
+    let mut out = Vec::from_slice(alloc, SCRIPTS)?;
+    out.extend_from_slice(b"account\n")?;
+    for (i, line) in ACCOUNT.iter().enumerate() {
+        if i == changed {
+            out.extend_from_slice(bytes)?;
         } else {
-            out.push(*first)?;
-            rest = after;
+            out.extend_from_slice(line)?;
+            out.extend_from_slice(b"\n")?;
         }
     }
     Ok(out)
@@ -138,30 +154,26 @@ fn replaced(alloc: Global, text: &[u8], old: &[u8], new: &[u8]) -> Result<Vec<u8
 #[test]
 fn check_tells_true_accounts_from_others(rt: HostRuntime) -> Result<(), Fail> {
     let alloc = rt.alloc();
-    let changes: [(&[u8], &[u8], bool); 14] = [
-        (b"end\n", b"end\n", true),
-        (
-            b"1 0 put 5 50\n2 0 put 2 20\n",
-            b"1 0 put 2 20\n2 0 put 5 50\n",
-            false,
-        ),
-        (b"9 90\nend", b"end", false),
-        (b"new 1\n", b"new 2\n", false),
-        (b"final 4\n2 20", b"final 4\n2 21", false),
-        (b"gone 6", b"none 0", false),
-        (b"6 0 del 5", b"6 1 del 5", false),
-        (b"gone 6", b"gone 06", false),
-        (b"gone 6", b"gone 18446744073709551616", false),
-        (b"script 0\n", b"script 0\r\n", false),
-        (b"end\n", b"end", false),
-        (b"end\n", b"end\nend\n", false),
-        (b"history", b"h\xffstory", false),
-        (b"put 8 80 new 3\n", b"put 8 80 new\0 3\n", false),
+    let changes: [(usize, &[u8], bool); 16] = [
+        (19, b"end\n", true),
+        (8, b"1 0 put 2 20\n", false),
+        (8, b"2 0 put 2 20\n", false),
+        (18, b"", false),
+        (1, b"put 5 50 new 2\n", false),
+        (15, b"2 21\n", false),
+        (6, b"del 5 none 0\n", false),
+        (13, b"6 1 del 5\n", false),
+        (6, b"del 5 gone 06\n", false),
+        (6, b"del 5 gone 18446744073709551616\n", false),
+        (0, b"script 0\r\n", false),
+        (19, b"end", false),
+        (19, b"end\nend\n", false),
+        (7, b"h\xffstory 6\n", false),
+        (3, b"put 8 80 new\0 3\n", false),
+        (9, b"2 0 pu", false),
     ];
-    for (i, (old, new, is_account)) in changes.iter().enumerate() {
-        let mut input = Vec::from_slice(alloc, SCRIPTS)?;
-        input.extend_from_slice(b"account\n")?;
-        input.extend_from_slice(&replaced(alloc, ACCOUNT, old, new)?)?;
+    for (i, (line, bytes, is_account)) in changes.iter().enumerate() {
+        let input = claim_of(alloc, *line, bytes)?;
         let mut source = source_of(alloc, &input, 100, &[])?;
         let (status, written) = answer(&rt, alloc, &["check"], &mut source, 100)?;
         let (wanted, text) = if *is_account {

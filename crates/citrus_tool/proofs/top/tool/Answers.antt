@@ -1,7 +1,7 @@
 use Rattle.std.proofs.Common.{◌≡◌, Some, map, string_bytes, subst}
 use Rattle.io_edge.specs.Whole.{TakesToLimit}
 use Rattle.citrus_tool.specs.declared.outcome.Status.TheVariants.{BadScript, TooLong}
-use Rattle.citrus_tool.specs.Answers.{AnsweredBy, IsAnswerable}
+use Rattle.citrus_tool.specs.Answers.{AnsweredBy}
 use Rattle.citrus_tool.specs.Commands.{limit_of}
 use Rattle.citrus_tool.proofs.Complete.{one_command, not_too_long, not_bad, one_of_three}
 use Rattle.citrus_tool.proofs.top.tool.Goals as goal
