@@ -1,13 +1,14 @@
 //! The top call: words and input to output and status.
 #![tactic(auto)]
 
-pub mod commands;
-pub mod outcome;
+mod commands;
+mod outcome;
 mod parts;
-pub mod plain;
+mod plain;
 mod running;
-pub mod top;
+mod top;
 
+pub use commands::Command;
 pub use outcome::{Outcome, Ran, Status};
 pub use top::tool;
 

@@ -40,7 +40,7 @@ fn source_of(alloc: Global, text: &[u8], piece: usize, fails: &[u64]) -> Result<
 
 #[test]
 fn run_writes_the_account_of_its_scripts(rt: HostRuntime) -> Result<(), Fail> {
-    let cases: [(&[u8], Status, &[u8]); 16] = [
+    let cases: [(&[u8], Status, &[u8]); 17] = [
         (b"", Status::Done, b"history 0\nfinal 0\nend\n"),
         (
             b"script\nput 5 50\nget 5\ndel 5\nget 5\n",
@@ -81,6 +81,11 @@ fn run_writes_the_account_of_its_scripts(rt: HostRuntime) -> Result<(), Fail> {
             b"script\nput 5 50\nset 5 51\nset 5 51\nget 5\nset 6 1\n",
             Status::Done,
             b"script 0\nput 5 50 new 1\nset 5 51 was 50 2\nset 5 51 was 51 3\nget 5 val 51 3\nset 6 1 none 3\nhistory 3\n1 0 put 5 50\n2 0 set 5 51\n3 0 set 5 51\nfinal 1\n5 51\nend\n",
+        ),
+        (
+            b"script\nput 5 50\nset 5 51\nget 5\nset 6 1\ndel 5\nset 5 9\n",
+            Status::Done,
+            b"script 0\nput 5 50 new 1\nset 5 51 was 50 2\nget 5 val 51 2\nset 6 1 none 2\ndel 5 gone 3\nset 5 9 none 3\nhistory 3\n1 0 put 5 50\n2 0 set 5 51\n3 0 del 5\nfinal 0\nend\n",
         ),
         (b"script\nput 05 1\n", Status::BadScript, b"bad line 2\n"),
         (
