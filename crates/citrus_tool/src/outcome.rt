@@ -22,8 +22,13 @@ pub enum Status {
 }
 
 impl Status {
+    ghost use Rattle.std.specs.Prelude.{◌≡◌};
+    ghost use Rattle.citrus_tool.specs.Statuses.{exit_status};
+
     /// The exit status of the program, from 0 to 7.
-    pub fn number(self) -> u8 {
+    pub fn number(self) -> u8
+        ensures { result ≡ exit_status self }
+    {
         self as u8
     }
 }
