@@ -40,7 +40,7 @@ fn source_of(alloc: Global, text: &[u8], piece: usize, fails: &[u64]) -> Result<
 
 #[test]
 fn run_writes_the_account_of_its_scripts(rt: HostRuntime) -> Result<(), Fail> {
-    let cases: [(&[u8], Status, &[u8]); 17] = [
+    let cases: [(&[u8], Status, &[u8]); 20] = [
         (b"", Status::Done, b"history 0\nfinal 0\nend\n"),
         (
             b"script\nput 5 50\nget 5\ndel 5\nget 5\n",
@@ -61,6 +61,16 @@ fn run_writes_the_account_of_its_scripts(rt: HostRuntime) -> Result<(), Fail> {
             b"script\nput 0 1\nput 18446744073709551615 2\ndel 0\ndel 18446744073709551615\nput 0 3\nput 18446744073709551615 4\n",
             Status::Done,
             b"script 0\nput 0 1 new 1\nput 18446744073709551615 2 new 2\ndel 0 gone 3\ndel 18446744073709551615 gone 4\nput 0 3 new 5\nput 18446744073709551615 4 new 6\nhistory 6\n1 0 put 0 1\n2 0 put 18446744073709551615 2\n3 0 del 0\n4 0 del 18446744073709551615\n5 0 put 0 3\n6 0 put 18446744073709551615 4\nfinal 2\n0 3\n18446744073709551615 4\nend\n",
+        ),
+        (
+            SCRIPTS,
+            Status::Done,
+            b"script 0\nput 5 50 new 1\nput 2 20 new 2\nput 8 80 new 3\nput 6 60 new 4\nput 9 90 new 5\ndel 5 gone 6\nhistory 6\n1 0 put 5 50\n2 0 put 2 20\n3 0 put 8 80\n4 0 put 6 60\n5 0 put 9 90\n6 0 del 5\nfinal 4\n2 20\n6 60\n8 80\n9 90\nend\n",
+        ),
+        (
+            b"script\nput 1 1\nscript\nset 1 2\nscript\nget 1\n",
+            Status::Done,
+            b"script 0\nput 1 1 new 1\nscript 1\nset 1 2 was 1 2\nscript 2\nget 1 val 2 2\nhistory 2\n1 0 put 1 1\n2 1 set 1 2\nfinal 1\n1 2\nend\n",
         ),
         (
             b"script\nput 5 50\nput 2 20\nput 8 80\nput 9 90\ndel 5\n",
@@ -95,6 +105,7 @@ fn run_writes_the_account_of_its_scripts(rt: HostRuntime) -> Result<(), Fail> {
         ),
         (b"script\nfrob 1\n", Status::BadScript, b"bad line 2\n"),
         (b"script\nget\n", Status::BadScript, b"bad line 2\n"),
+        (b"script\nget  1\n", Status::BadScript, b"bad line 2\n"),
         (b"script\nget 1\r\n", Status::BadScript, b"bad line 2\n"),
         (b"get 1\n", Status::BadScript, b"bad line 1\n"),
         (
@@ -190,8 +201,33 @@ fn check_tells_true_accounts_from_others(rt: HostRuntime) -> Result<(), Fail> {
         assert!(rt; written.as_slice() == text, "change {i}");
     }
 
+    // The account with two updates exchanged, none at all, and cut in the middle of a number and of a word.
+    let whole = claim_of(alloc, ACCOUNT.len(), b"")?;
+    let exchanged =
+        b"account\nscript 0\nput 5 50 new 1\nput 2 20 new 2\nput 8 80 new 3\nput 6 60 new 4\nput 9 90 new 5\ndel 5 gone 6\nhistory 6\n1 0 put 2 20\n2 0 put 5 50\n3 0 put 8 80\n4 0 put 6 60\n5 0 put 9 90\n6 0 del 5\nfinal 4\n2 20\n6 60\n8 80\n9 90\nend\n";
+    let in_number = b"account\nscript 0\nput 5 50 new 1\nput 2 20 new 2\nput 8 8";
+    for (i, claim) in [
+        exchanged.as_slice(),
+        in_number.as_slice(),
+        b"account\n".as_slice(),
+        b"account\nscr".as_slice(),
+    ]
+    .iter()
+    .enumerate()
+    {
+        let mut input = Vec::from_slice(alloc, SCRIPTS)?;
+        input.extend_from_slice(claim)?;
+        let mut source = source_of(alloc, &input, 100, &[])?;
+        let (status, written) = answer(&rt, alloc, &["check"], &mut source, 100)?;
+        assert_eq!(rt; status, Status::Refused, "claim {i}");
+        assert!(rt; written.as_slice() == b"no\n".as_slice(), "claim {i}");
+    }
+    let mut source = source_of(alloc, &whole, 100, &[])?;
+    let (status, _) = answer(&rt, alloc, &["check"], &mut source, 100)?;
+    assert_eq!(rt; status, Status::Done, "the account itself");
+
     // An account of its own front for each line, scripts without an account, and bad scripts before one.
-    let set = b"script\nput 5 50\nset 5 51\nset 6 1\nget 5\n";
+    let set = b"script\nput 5 50\nset 5 51\nget 5\nset 6 1\ndel 5\nset 5 9\n";
     let cases: [(&[u8], Status); 8] = [
         (b"account\nhistory 0\nfinal 0\nend\n", Status::Done),
         (b"", Status::Refused),
@@ -224,7 +260,7 @@ fn check_tells_true_accounts_from_others(rt: HostRuntime) -> Result<(), Fail> {
         input.extend_from_slice(b"account\nscript 0\nput 5 50 new 1\nset 5 51 was ")?;
         input.extend_from_slice(was)?;
         input.extend_from_slice(
-            b" 2\nset 6 1 none 2\nget 5 val 51 2\nhistory 2\n1 0 put 5 50\n2 0 set 5 51\nfinal 1\n5 51\nend\n",
+            b" 2\nget 5 val 51 2\nset 6 1 none 2\ndel 5 gone 3\nset 5 9 none 3\nhistory 3\n1 0 put 5 50\n2 0 set 5 51\n3 0 del 5\nfinal 0\nend\n",
         )?;
         let mut source = source_of(alloc, &input, 100, &[])?;
         let (status, _) = answer(&rt, alloc, &["check"], &mut source, 100)?;
