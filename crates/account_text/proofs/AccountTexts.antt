@@ -14,7 +14,7 @@ use Rattle.script_text.specs.Lines.{lines_of, op_text}
 use Rattle.script_text.specs.Split.{Lacks}
 use Rattle.script_text.proofs.CutLines.{lines_of-parted}
 use Rattle.script_text.proofs.OpTexts.{Lacks-decimal, Lacks-op_text}
-use Rattle.account_text.specs.Account.{ops_of}
+use Rattle.prcu_model.specs.Fronts.{ops_of}
 use Rattle.account_text.specs.Printing.{reply_text, line_text, scripts_from, history_from, pair_text, account_of}
 use Rattle.account_text.specs.Reading.{FitsReply, FitsLine, FitsUpdate, Fit}
 use Rattle.account_text.specs.AccountLines.{line_body, script_head, history_head, update_body, scripts_lines, history_lines, TellsScripts}

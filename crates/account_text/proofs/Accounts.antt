@@ -9,8 +9,9 @@ use Rattle.prcu_model.specs.declared.operation.Update.{Update}
 use Rattle.prcu_model.specs.Dictionary.{map_at, map_of}
 use Rattle.prcu_model.specs.History.{IsLegal}
 use Rattle.prcu_model.specs.Replies.{Room, Confirms, tells_update}
-use Rattle.account_text.specs.Fronts.{told_lines, all_told_lines, told_updates, Placed, IsConfirmed, MayStand, MayStandBeside, CanBeNumbered, AreExplained, AreExplainable, IsLeastFor, AreNumbered, AllAreNumbered}
-use Rattle.account_text.specs.Account.{IsAccount, ops_of}
+use Rattle.prcu_model.specs.Fronts.{told_lines, all_told_lines, told_updates, Placed, IsConfirmed, MayStand, MayStandBeside, CanBeNumbered, AreExplained, AreExplainable, IsLeastFor, AreNumbered, AllAreNumbered}
+use Rattle.account_text.specs.Account.{IsAccount}
+use Rattle.prcu_model.specs.Fronts.{ops_of}
 use Rattle.account_text.specs.Printing.{account_of}
 
 -- the line with another number

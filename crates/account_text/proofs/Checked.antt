@@ -8,8 +8,9 @@ use Rattle.prcu_model.specs.declared.operation.Update.{Update}
 use Rattle.prcu_model.specs.Dictionary.{map_of}
 use Rattle.prcu_model.specs.History.{IsLegal}
 use Rattle.prcu_model.specs.Replies.{Room}
-use Rattle.account_text.specs.Fronts.{told_lines, all_told_lines, AreExplained, AreExplainable, IsLeastFor, AreNumbered, AllAreNumbered}
-use Rattle.account_text.specs.Account.{IsAccount, ops_of}
+use Rattle.prcu_model.specs.Fronts.{told_lines, all_told_lines, AreExplained, AreExplainable, IsLeastFor, AreNumbered, AllAreNumbered}
+use Rattle.account_text.specs.Account.{IsAccount}
+use Rattle.prcu_model.specs.Fronts.{ops_of}
 use Rattle.account_text.specs.Printing.{account_of}
 use Rattle.account_text.specs.Reading.{tolds_of}
 use Rattle.account_text.specs.Checking.{IsPrinted}

@@ -9,7 +9,7 @@ use Rattle.prcu_model.specs.declared.operation.Told.{Told}
 use Rattle.prcu_model.specs.declared.operation.Line.{Line}
 use Rattle.prcu_model.specs.declared.operation.Update.{Update}
 use Rattle.prcu_model.specs.Replies.{Room}
-use Rattle.account_text.specs.Fronts.{own_updates, own_updates_from, told_updates, IsConfirmed, CanBeNumbered, AreExplained, AreExplainable, all_told_lines}
+use Rattle.prcu_model.specs.Fronts.{own_updates, own_updates_from, told_updates, IsConfirmed, CanBeNumbered, AreExplained, AreExplainable, all_told_lines}
 use Rattle.account_text.specs.Judging.{IsScriptExplained}
 
 -- a list with or without another element at its front, where it is empty

@@ -16,8 +16,9 @@ use Rattle.prcu_model.specs.declared.operation.Update.{Update}
 use Rattle.prcu_model.specs.Dictionary.{Dictionary, updated, updated_all, map_of, map_at}
 use Rattle.prcu_model.specs.Replies.{Room, Explains, Confirms, tells_update}
 use Rattle.prcu_model.specs.Scripts.{FitsWords, AllFit}
-use Rattle.account_text.specs.Fronts.{Placed, own_updates_from, told_updates, IsConfirmed, MayStand, AreNumbered, AllAreNumbered}
-use Rattle.account_text.specs.Account.{IsAccount, ops_of}
+use Rattle.prcu_model.specs.Fronts.{Placed, own_updates_from, told_updates, IsConfirmed, MayStand, AreNumbered, AllAreNumbered}
+use Rattle.account_text.specs.Account.{IsAccount}
+use Rattle.prcu_model.specs.Fronts.{ops_of}
 use Rattle.account_text.specs.Printing.{history_from, account_of, scripts_from, pair_text}
 use Rattle.script_text.specs.Lines.{op_text}
 use Rattle.account_text.specs.Reading.{FitsReply, FitsLine, FitsUpdate, Fit}

@@ -8,7 +8,7 @@ use Rattle.prcu_model.specs.declared.operation.Line.{Line}
 use Rattle.prcu_model.specs.declared.operation.Update.{Update}
 use Rattle.prcu_model.specs.Dictionary.{map_at}
 use Rattle.prcu_model.specs.Replies.{Room, Explains, tells_update}
-use Rattle.account_text.specs.Fronts.{told_lines, MayStand, MayStandBeside, IsLeastFor, AreNumbered}
+use Rattle.prcu_model.specs.Fronts.{told_lines, MayStand, MayStandBeside, IsLeastFor, AreNumbered}
 use Rattle.account_text.specs.Walks.{line_of}
 
 -- the lines that are left, from the next on

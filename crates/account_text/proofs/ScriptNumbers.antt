@@ -9,7 +9,7 @@ use Rattle.prcu_model.specs.declared.operation.Told.{Told}
 use Rattle.prcu_model.specs.declared.operation.Line.{Line}
 use Rattle.prcu_model.specs.Lists.{Roomy, entries_of}
 use Rattle.prcu_model.specs.Scripts.{op_count}
-use Rattle.account_text.specs.Fronts.{told_lines, all_told_lines}
+use Rattle.prcu_model.specs.Fronts.{told_lines, all_told_lines}
 
 -- a script has at most as many operations as all of them
 pub length-le-op_count : (scripts : List (List Op)) (i : ℕ) (script : List Op) → slice_get scripts i ≡ Some script → length script ≤ op_count scripts

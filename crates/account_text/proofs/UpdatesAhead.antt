@@ -8,7 +8,7 @@ use Rattle.prcu_model.specs.declared.operation.Line.{Line}
 use Rattle.prcu_model.specs.declared.operation.Update.{Update}
 use Rattle.prcu_model.specs.Dictionary.{map_at}
 use Rattle.prcu_model.specs.Replies.{Confirms, tells_update}
-use Rattle.account_text.specs.Fronts.{Placed, own_updates_from, told_updates}
+use Rattle.prcu_model.specs.Fronts.{Placed, own_updates_from, told_updates}
 use Rattle.account_text.specs.Walks.{Place, updates_ahead, AreToldAhead}
 
 -- one front on

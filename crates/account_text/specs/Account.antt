@@ -7,12 +7,8 @@ use Rattle.prcu_model.specs.declared.operation.Line.{Line}
 use Rattle.prcu_model.specs.declared.operation.Update.{Update}
 use Rattle.prcu_model.specs.Dictionary.{map_of}
 use Rattle.prcu_model.specs.History.{IsLegal}
-use Rattle.account_text.specs.Fronts.{AreExplained, AllAreNumbered}
+use Rattle.prcu_model.specs.Fronts.{AreExplained, AllAreNumbered, ops_of}
 use Rattle.account_text.specs.Printing.{account_of}
-
--- the operations of lines
-abbrev pub ops_of : List Line → List Op
-ops_of lines = map (λ line. line.op) lines
 
 -- A text is an account of scripts and slots where it prints lines and a history such that: the lines' operations are the
 -- scripts; the history is legal; it explains the lines; each line's number is the least; and the final pairs are those

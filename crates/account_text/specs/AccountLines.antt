@@ -7,7 +7,7 @@ use Rattle.prcu_model.specs.declared.operation.Line.{Line}
 use Rattle.prcu_model.specs.declared.operation.Update.{Update}
 use Rattle.prcu_model.specs.Scripts.{FitsWords}
 use Rattle.script_text.specs.Lines.{op_text, lines_of}
-use Rattle.account_text.specs.Account.{ops_of}
+use Rattle.prcu_model.specs.Fronts.{ops_of}
 use Rattle.account_text.specs.Printing.{reply_text}
 use Rattle.account_text.specs.Reading.{FitsLine, FitsUpdate}
 

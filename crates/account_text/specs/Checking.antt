@@ -8,7 +8,7 @@ use Rattle.prcu_model.specs.declared.operation.Line.{Line}
 use Rattle.prcu_model.specs.declared.operation.Update.{Update}
 use Rattle.prcu_model.specs.Dictionary.{map_of}
 use Rattle.prcu_model.specs.History.{IsLegal}
-use Rattle.account_text.specs.Fronts.{AreExplainable, AllAreNumbered, all_told_lines}
+use Rattle.prcu_model.specs.Fronts.{AreExplainable, AllAreNumbered, all_told_lines}
 use Rattle.account_text.specs.Printing.{account_of}
 
 -- What was told and the history are true of the scripts, and printed with their numbers they are the text.

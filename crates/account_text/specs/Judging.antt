@@ -5,7 +5,7 @@ use Rattle.std.specs.List.{AllByRecursion}
 use Rattle.prcu_model.specs.declared.operation.Line.{Line}
 use Rattle.prcu_model.specs.declared.operation.Update.{Update}
 use Rattle.prcu_model.specs.Replies.{Room}
-use Rattle.account_text.specs.Fronts.{own_updates, told_updates, IsConfirmed, CanBeNumbered}
+use Rattle.prcu_model.specs.Fronts.{own_updates, told_updates, IsConfirmed, CanBeNumbered}
 
 -- What `AreExplained` says of all scripts, of this caller's lines.
 pub record IsScriptExplained (room : Room) (history : List Update) (caller : ℕ) (lines : List Line) : Type 0 where

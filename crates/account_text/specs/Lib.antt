@@ -1,4 +1,3 @@
-pub mod Fronts
 pub mod Printing
 pub mod Account
 pub mod Reading

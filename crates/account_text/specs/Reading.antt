@@ -9,7 +9,7 @@ use Rattle.prcu_model.specs.declared.operation.Told.{Told}
 use Rattle.prcu_model.specs.declared.operation.Line.{Line}
 use Rattle.prcu_model.specs.declared.operation.Update.{Update}
 use Rattle.prcu_model.specs.Scripts.{FitsWords}
-use Rattle.account_text.specs.Account.{ops_of}
+use Rattle.prcu_model.specs.Fronts.{ops_of}
 
 -- a line without its operation
 abbrev pub told_of : Line → Told

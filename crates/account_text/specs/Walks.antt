@@ -8,7 +8,7 @@ use Rattle.prcu_model.specs.declared.operation.Line.{Line}
 use Rattle.prcu_model.specs.declared.operation.Update.{Update}
 use Rattle.prcu_model.specs.Dictionary.{map_at}
 use Rattle.prcu_model.specs.Replies.{Room, Explains}
-use Rattle.account_text.specs.Fronts.{Placed, own_updates_from, told_updates, IsConfirmed}
+use Rattle.prcu_model.specs.Fronts.{Placed, own_updates_from, told_updates, IsConfirmed}
 
 -- the front that was come to, with the history, and the scripts and slots by which replies are judged
 pub record Place : Type 0 where

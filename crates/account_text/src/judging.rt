@@ -2,7 +2,7 @@
 ghost use Rattle.std.specs.Prelude.{◌≡◌, ◌<◌, ◌↔◌, [], All, IfOk, IsTrue, length, map, slice_index_or};
 ghost use Rattle.prcu_model.specs.History.{IsLegal, IsUpdateAt};
 ghost use Rattle.prcu_model.specs.Lists.{entries_of};
-ghost use Rattle.account_text.specs.Fronts.{AreExplainable, CanBeNumbered, told_lines};
+ghost use Rattle.prcu_model.specs.Fronts.{AreExplainable, CanBeNumbered, told_lines};
 ghost use Rattle.account_text.specs.Judging.{IsScriptExplained};
 ghost use Rattle.account_text.specs.Walks.{AreToldAhead};
 

@@ -3,7 +3,7 @@ ghost use Rattle.std.specs.Prelude.{◌≡◌, ℕ, ◌+◌, ◌-◌, ◌*◌, �
 ghost use Rattle.prcu_model.specs.declared.operation.Line.{Line};
 ghost use Rattle.prcu_model.specs.Dictionary.{map_at};
 ghost use Rattle.prcu_model.specs.Replies.{Explains, Confirms};
-ghost use Rattle.account_text.specs.Fronts.{MayStand, IsLeastFor};
+ghost use Rattle.prcu_model.specs.Fronts.{MayStand, IsLeastFor};
 ghost use Rattle.account_text.specs.Walks.{ExplainsFrom, line_of, updates_ahead, AreToldAhead};
 
 use prcu_model::{NoMemory, Op, PlainMap, Reply, Told, Update};

@@ -16,7 +16,7 @@ use Rattle.prcu_model.specs.History.{IsLegal, IsUpdateAt, AreUpdatesFrom}
 use Rattle.prcu_model.specs.Replies.{Room, Explains, Confirms, tells_update}
 use Rattle.prcu_model.specs.Plain.{with_value, plain_reply, history_with, history_after, told_after, history_after_all, told_after_all, plain_history, plain_tolds}
 use Rattle.prcu_model.proofs.Fronts.{map_of-push, updated_all-append}
-use Rattle.account_text.specs.Fronts.{told_lines, all_told_lines, own_updates_from, own_updates, told_updates, IsConfirmed, MayStandBeside, CanBeNumbered, AreExplainable}
+use Rattle.prcu_model.specs.Fronts.{told_lines, all_told_lines, own_updates_from, own_updates, told_updates, IsConfirmed, MayStandBeside, CanBeNumbered, AreExplainable}
 
 -- what a reply is worth at the dictionary at which it was given
 abbrev IsRight : Room → Dictionary → Op → Reply → Type 0

@@ -4,7 +4,7 @@ ghost use Rattle.prcu_model.specs.Dictionary.{map_of};
 ghost use Rattle.prcu_model.specs.History.{IsLegal};
 ghost use Rattle.prcu_model.specs.Lists.{entries_of};
 ghost use Rattle.prcu_model.specs.Plain.{history_with, history_after, told_after, plain_told, plain_history, plain_tolds};
-ghost use Rattle.account_text.specs.Fronts.{AreExplainable};
+ghost use Rattle.prcu_model.specs.Fronts.{AreExplainable};
 
 use prcu_model::{NoMemory, Op, PlainMap, Scripts, Told, ToldList, Update};
 use std::alloc::Global;

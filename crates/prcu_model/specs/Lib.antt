@@ -1,6 +1,7 @@
 pub mod Dictionary
 pub mod History
 pub mod Replies
+pub mod Fronts
 pub mod Plain
 pub mod Lists
 pub mod Scripts

@@ -5,7 +5,7 @@ ghost use Rattle.std.specs.Map.{keys_of};
 ghost use Rattle.std.specs.Ordering.{nat_cmp};
 ghost use Rattle.std.specs.FinMap as map;
 ghost use Rattle.prcu_model.specs.Dictionary.{updated};
-ghost use Rattle.prcu_model.specs.Plain.{plain_reply};
+ghost use Rattle.prcu_model.specs.Plain.{is_filled, plain_reply};
 
 use crate::memory::NoMemory;
 use crate::operation::{Op, Reply};
@@ -78,13 +78,24 @@ impl PlainMap {
         Ok(pairs)
     }
 
-    /// What the operation is answered here, where the map has no limit. It changes nothing.
-    pub fn reply_to(&self, op: Op) -> Reply
-        ensures { result ≡ plain_reply self.now op }
+    // Whether there are as many pairs as the limit.
+    fn is_filled(&self, limit: Option<u64>) -> bool
+        ensures { result ≡ is_filled limit self.now }
+    {
+        match limit {
+            Some(most) => most <= self.len(),
+            None => false,
+        }
+    }
+
+    /// What the operation is answered here, where the map takes no pair past the limit. It changes nothing.
+    pub fn reply_to(&self, limit: Option<u64>, op: Op) -> Reply
+        ensures { result ≡ plain_reply limit self.now op }
     {
         match op {
             Op::Put { key, .. } => match self.get(key) {
                 Some(_) => Reply::Old,
+                None if self.is_filled(limit) => Reply::Full,
                 None => Reply::New,
             },
             Op::Get { key } => match self.get(key) {

@@ -2,7 +2,7 @@ use Rattle.std.proofs.Common.{◌≡◌, ◌+◌, ◌++◌, ◌∷◌, [], lengt
 use Rattle.std.proofs.lemmas.Bool.{false≢true}
 use Rattle.std.proofs.lemmas.List.{length_push}
 use Rattle.std.proofs.lemmas.Slice.Zip.{zip_turn, zip_end}
-use Rattle.account_text.specs.Fronts.{told_lines}
+use Rattle.prcu_model.specs.Fronts.{told_lines}
 use Rattle.account_text.specs.Walks.{line_of, updates_ahead}
 use Rattle.account_text.proofs.LineNumbers.{told_lines-turn, told_lines-past}
 use Rattle.account_text.proofs.UpdatesAhead.{AreToldAhead-nil, none_ahead}

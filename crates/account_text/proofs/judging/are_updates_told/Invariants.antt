@@ -1,5 +1,5 @@
 use Rattle.std.proofs.Common.{◌↔◌, length, drop}
-use Rattle.account_text.specs.Fronts.{told_lines}
+use Rattle.prcu_model.specs.Fronts.{told_lines}
 use Rattle.account_text.specs.Walks.{AreToldAhead}
 use Rattle.account_text.proofs.judging.are_updates_told.Given as goal
 

@@ -2,7 +2,7 @@ use Rattle.std.proofs.Common.{◌≡◌, ◌+◌, ◌++◌, ◌∷◌, [], lengt
 use Rattle.std.proofs.lemmas.Bool.{false≢true}
 use Rattle.std.proofs.lemmas.List.{length_push}
 use Rattle.std.proofs.lemmas.Slice.Zip.{zip_turn, zip_end}
-use Rattle.account_text.specs.Fronts.{told_lines, IsLeastFor}
+use Rattle.prcu_model.specs.Fronts.{told_lines, IsLeastFor}
 use Rattle.account_text.specs.Walks.{line_of}
 use Rattle.account_text.proofs.LineNumbers.{told_lines-turn, told_lines-past, Can-first, Can-rest, Can-more}
 use Rattle.account_text.proofs.judging.can_be_numbered.Goals as goal

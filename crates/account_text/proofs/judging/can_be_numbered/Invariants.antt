@@ -1,5 +1,5 @@
 use Rattle.std.proofs.Common.{◌≡◌, ◌≤◌, ◌↔◌, length, drop}
-use Rattle.account_text.specs.Fronts.{CanBeNumbered, told_lines}
+use Rattle.prcu_model.specs.Fronts.{CanBeNumbered, told_lines}
 use Rattle.account_text.proofs.LineNumbers.{Can}
 use Rattle.account_text.proofs.judging.can_be_numbered.Given as goal
 

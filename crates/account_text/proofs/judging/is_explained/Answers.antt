@@ -2,7 +2,7 @@ use Rattle.std.proofs.Common.{◌≡◌, ◌+◌, ◌<◌, ◌∷◌, [], length
 use Rattle.std.proofs.lemmas.Bool.{false≢true}
 use Rattle.std.proofs.lemmas.Option.{slice_get-get_or}
 use Rattle.prcu_model.specs.Lists.{entries_of}
-use Rattle.account_text.specs.Fronts.{told_lines}
+use Rattle.prcu_model.specs.Fronts.{told_lines}
 use Rattle.account_text.proofs.ScriptNumbers.{lines_left, lines_left-turn, lines_left-end, same_count}
 use Rattle.account_text.proofs.Explained.{AreBelow, AreExplainable-one_by_one, below_from_explainable}
 use Rattle.account_text.proofs.judging.is_explained.Goals as goal

@@ -1,7 +1,7 @@
 use Rattle.std.proofs.Common.{◌↔◌, length}
 use Rattle.prcu_model.specs.Lists.{entries_of}
 use Rattle.prcu_model.specs.Replies.{Room}
-use Rattle.account_text.specs.Fronts.{all_told_lines}
+use Rattle.prcu_model.specs.Fronts.{all_told_lines}
 use Rattle.account_text.proofs.ScriptNumbers.{lines_left}
 use Rattle.account_text.proofs.Explained.{AreAllExplained}
 use Rattle.account_text.proofs.judging.is_explained.Given as goal

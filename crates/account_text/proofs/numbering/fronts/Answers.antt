@@ -3,7 +3,7 @@ use Rattle.std.specs.List.{AllByRecursion}
 use Rattle.std.proofs.lemmas.List.{append-nil, map-append}
 use Rattle.prcu_model.specs.Lists.{entries_of}
 use Rattle.prcu_model.specs.Replies.{Room}
-use Rattle.account_text.specs.Fronts.{CanBeNumbered, AreNumbered, AllAreNumbered, told_lines}
+use Rattle.prcu_model.specs.Fronts.{CanBeNumbered, AreNumbered, AllAreNumbered, told_lines}
 use Rattle.account_text.proofs.ScriptNumbers.{lines_left, lines_left-turn, lines_left-end, same_length, SameLengths-next, same_count, length-le-op_count}
 use Rattle.account_text.proofs.Accounts.{IsAccount-numbered}
 use Rattle.account_text.proofs.numbering.fronts.Goals as goal

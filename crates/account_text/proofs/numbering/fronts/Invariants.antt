@@ -3,7 +3,7 @@ use Rattle.std.specs.List.{AllByRecursion}
 use Rattle.prcu_model.specs.declared.operation.Line.{Line}
 use Rattle.prcu_model.specs.Lists.{entries_of}
 use Rattle.prcu_model.specs.Replies.{Room}
-use Rattle.account_text.specs.Fronts.{CanBeNumbered, AllAreNumbered, all_told_lines}
+use Rattle.prcu_model.specs.Fronts.{CanBeNumbered, AllAreNumbered, all_told_lines}
 use Rattle.account_text.proofs.ScriptNumbers.{lines_left, SameLengths}
 use Rattle.account_text.proofs.numbering.fronts.Given as goal
 

@@ -2,7 +2,7 @@ use Rattle.std.proofs.Common.{◌≡◌, ◌+◌, ◌++◌, ◌∷◌, [], lengt
 use Rattle.std.proofs.lemmas.List.{length_push, append-nil}
 use Rattle.std.proofs.lemmas.Slice.Zip.{zip_turn, zip_end}
 use Rattle.prcu_model.specs.declared.operation.Line.{Line}
-use Rattle.account_text.specs.Fronts.{AreNumbered, told_lines, IsLeastFor}
+use Rattle.prcu_model.specs.Fronts.{AreNumbered, told_lines, IsLeastFor}
 use Rattle.account_text.specs.Walks.{line_of}
 use Rattle.account_text.proofs.LineNumbers.{told_lines-turn, told_lines-end, Can, Can-first, Can-rest}
 use Rattle.account_text.proofs.numbering.number_script.Goals as goal

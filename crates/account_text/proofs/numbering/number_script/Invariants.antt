@@ -1,6 +1,6 @@
 use Rattle.std.proofs.Common.{◌≡◌, ◌+◌, ◌≤◌, List, ◌++◌, length, drop}
 use Rattle.prcu_model.specs.declared.operation.Line.{Line}
-use Rattle.account_text.specs.Fronts.{AreNumbered, told_lines}
+use Rattle.prcu_model.specs.Fronts.{AreNumbered, told_lines}
 use Rattle.account_text.proofs.LineNumbers.{Can}
 use Rattle.account_text.proofs.numbering.number_script.Given as goal
 

@@ -10,7 +10,7 @@ use Rattle.prcu_model.specs.declared.operation.Told.{Told}
 use Rattle.prcu_model.specs.declared.operation.Update.{Update}
 use Rattle.prcu_model.specs.Dictionary.{map_at}
 use Rattle.prcu_model.proofs.Updates.{updated-put_absent}
-use Rattle.account_text.specs.Fronts.{AreExplainable}
+use Rattle.prcu_model.specs.Fronts.{AreExplainable}
 use Rattle.account_text.proofs.tests.a_read_has_the_least_front.Goals as goal
 
 abbrev scripts : List (List Op)

@@ -3,7 +3,7 @@ use Rattle.std.proofs.lemmas.List.{map_push}
 use Rattle.prcu_model.specs.History.{IsLegal}
 use Rattle.prcu_model.specs.Lists.{entries_of}
 use Rattle.prcu_model.specs.Plain.{plain_tolds}
-use Rattle.account_text.specs.Fronts.{AreExplainable}
+use Rattle.prcu_model.specs.Fronts.{AreExplainable}
 use Rattle.citrus_tool.proofs.PlainExplained.{plain-AreExplainable, plain-IsLegal}
 use Rattle.citrus_tool.proofs.PlainRun.{RanAllTo, RanAllTo-next, RanAllTo-end}
 use Rattle.citrus_tool.proofs.plain.run_plain.Goals as goal

@@ -1,6 +1,6 @@
 use Rattle.std.proofs.Common.{sym, subst}
 use Rattle.prcu_model.specs.Lists.{entries_of}
-use Rattle.account_text.specs.Fronts.{AreExplainable}
+use Rattle.prcu_model.specs.Fronts.{AreExplainable}
 use Rattle.citrus_tool.proofs.running.account_for.Goals as goal
 
 pub fronts-requires : goal.fronts-requires

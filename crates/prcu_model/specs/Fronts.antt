@@ -19,6 +19,10 @@ abbrev pub all_told_lines : List (List Op) → List (List Told) → List (List L
 all_told_lines (script ∷ scripts) (told ∷ tolds) = told_lines script told ∷ all_told_lines scripts tolds
 all_told_lines _ _ = []
 
+-- the operations of lines
+abbrev pub ops_of : List Line → List Op
+ops_of lines = map (λ line. line.op) lines
+
 -- an update with its position in the history, counted from 1
 pub record Placed : Type 0 where
   pub position : ℕ
