@@ -1,22 +1,15 @@
 -- Which inputs are answered.
-use Rattle.std.proofs.Common.{◌≡◌, ℕ, ◌≤◌, ◌<◌, List, [], ◌∷◌, ◌++◌, length, codes, Option, Some, ◌⊎◌, inl, inr, refl, sym, ap, subst, ◌∙◌, append-nil, length-append, arith}
+use Rattle.std.proofs.Common.{◌≡◌, ℕ, ◌≤◌, ◌<◌, List, [], ◌∷◌, ◌++◌, length, Option, Some, ◌⊎◌, inl, inr, refl, sym, ap, subst, ◌∙◌, append-nil, length-append, arith}
 use Rattle.io_edge.specs.Edge.{Takes, IsAtEnd}
 use Rattle.io_edge.specs.Whole.{TakesToLimit}
 use Rattle.citrus_tool.specs.declared.commands.Command.{Command}
-use Rattle.citrus_tool.specs.declared.commands.Command.TheVariants.{Run, Check}
+use Rattle.citrus_tool.specs.declared.commands.Command.TheVariants.{Run, Check, Load}
 use Rattle.citrus_tool.specs.declared.outcome.Status.{Status}
 use Rattle.citrus_tool.specs.declared.outcome.Status.TheVariants.{Done, Refused, Usage, BadScript, ReadFault, WriteFault, NoMemory, TooLong}
 use Rattle.script_text.specs.Grammar.{IsScriptText}
-use Rattle.citrus_tool.specs.Commands.{Asks}
+use Rattle.citrus_tool.specs.Commands.{Reads}
 use Rattle.citrus_tool.specs.Answers.{Writes, AnsweredBy, IsAnswerable}
 use Rattle.citrus_tool.proofs.InputParts.{one_before}
-
--- words ask for one command
-pub one_command : (words : List (List ℕ)) (a b : Command) → Asks words a → Asks words b → a ≡ b
-one_command words Run Run p q = refl
-one_command words Check Check p q = refl
-one_command words Run Check p q = let e : codes "run" ∷ [] ≡ codes "check" ∷ [] = sym p ∙ q in absurd (cc)
-one_command words Check Run p q = let e : codes "check" ∷ [] ≡ codes "run" ∷ [] = sym p ∙ q in absurd (cc)
 
 -- what was taken of an input is no longer than that
 pub not_too_long : (limit : ℕ) (input : List ℕ) (after : Option (List ℕ)) (P : Type 0) → TakesToLimit limit (Some input) after P → length input ≤ limit → P → ⊥
@@ -31,16 +24,22 @@ whole_input input after taken t ended =
     sym (t.1 ∙ ap (λ rest. taken ++ rest) none ∙ append-nil taken)
 
 no_bad_line : (command : Command) (input text : List ℕ) → Writes command BadScript input text → IsAnswerable command input → ⊥
-no_bad_line Run input text bad good = bad.none good.0 good.1
-no_bad_line Check input text bad good =
+no_bad_line (Run slots) input text bad good = bad.none good.0 good.1
+no_bad_line (Check slots) input text bad good =
     let claims = good.2 in
     let same = one_before input bad.before claims.before bad.account good.1 bad.parts claims.parts in
     bad.bad.none good.0 (subst (λ b. IsScriptText b good.0) (sym same) claims.read)
+no_bad_line (Load number scripts ops) input text bad good = bad
+
+reads_bad : (command : Command) (input text : List ℕ) → Writes command BadScript input text → Reads command
+reads_bad (Run slots) input text bad = tt
+reads_bad (Check slots) input text bad = tt
+reads_bad (Load number scripts ops) input text bad = bad
 
 -- an input with good scripts isn't told bad
 pub not_bad : (command : Command) (input : List ℕ) (after written written_now : Option (List ℕ)) → AnsweredBy command BadScript (Some input) after written written_now → IsAnswerable command input → ⊥
 not_bad command input after written written_now a good =
-    let same = whole_input input after a.input a.read a.ended in
+    let same = whole_input input after a.input a.read (a.ended (reads_bad command a.input a.text a.answers)) in
     no_bad_line command a.input a.text a.answers (subst (IsAnswerable command) (sym same) good)
 
 -- the statuses that are left

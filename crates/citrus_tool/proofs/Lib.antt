@@ -1,6 +1,8 @@
 pub mod PlainRun
 pub mod PlainExplained
-pub mod Words
+pub mod Spellings
+pub mod Joining
+pub mod SlotCounts
 pub mod LineCount
 pub mod InputParts
 pub mod Complete

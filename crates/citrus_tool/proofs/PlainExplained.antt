@@ -1,5 +1,5 @@
--- A history explains what scripts were told that were run one after another.
-use Rattle.std.proofs.Common.{◌≡◌, ◌≢◌, ℕ, zero, suc, ◌+◌, ◌-◌, ◌<◌, ◌≤◌, true, false, cond, eqb, MatchBool, List, [], ◌∷◌, ◌++◌, length, get_or, map as list_map, Some, None, is_some, refl, sym, ap, subst, ◌∙◌, append_assoc, length-append, arith}
+-- A history explains what scripts were told that were run one after another, on a map with a limit or without.
+use Rattle.std.proofs.Common.{◌≡◌, ◌≢◌, ℕ, zero, suc, ◌+◌, ◌-◌, ◌<◌, ◌≤◌, true, false, cond, eqb, leb, MatchBool, List, [], ◌∷◌, ◌++◌, length, get_or, map as list_map, Option, Some, None, is_some, refl, sym, ap, subst, ◌∙◌, append_assoc, length-append, arith}
 use Rattle.std.specs.FinMap as map
 use Rattle.std.specs.List.{AllByRecursion}
 use Rattle.std.proofs.lemmas.Bool.{false≢true}
@@ -8,41 +8,52 @@ use Rattle.std.proofs.lemmas.List.{take_at, append-nil}
 use Rattle.prcu_model.specs.declared.operation.Op.{Op}
 use Rattle.prcu_model.specs.declared.operation.Op.TheVariants.{Put, Get, Del, Set}
 use Rattle.prcu_model.specs.declared.operation.Reply.{Reply}
-use Rattle.prcu_model.specs.declared.operation.Reply.TheVariants.{New, Old, Val, Absent, Gone, Was}
+use Rattle.prcu_model.specs.declared.operation.Reply.TheVariants.{New, Old, Full, Val, Absent, Gone, Was}
 use Rattle.prcu_model.specs.declared.operation.Line.{Line}
 use Rattle.prcu_model.specs.declared.operation.Update.{Update}
 use Rattle.prcu_model.specs.Dictionary.{Dictionary, map_of, map_at, updated, updated_all}
 use Rattle.prcu_model.specs.History.{IsLegal, IsUpdateAt, AreUpdatesFrom}
 use Rattle.prcu_model.specs.Replies.{Room, Explains, Confirms, tells_update}
-use Rattle.prcu_model.specs.Plain.{with_value, plain_reply, history_with, history_after, told_after, history_after_all, told_after_all, plain_history, plain_tolds}
+use Rattle.prcu_model.specs.Plain.{with_value, is_filled, plain_reply, history_with, history_after, told_after, history_after_all, told_after_all, plain_history, plain_tolds}
 use Rattle.prcu_model.proofs.Fronts.{map_of-push, updated_all-append}
+use Rattle.citrus_tool.specs.Limits.{IsFilledAt}
 use Rattle.prcu_model.specs.Fronts.{told_lines, all_told_lines, own_updates_from, own_updates, told_updates, IsConfirmed, MayStandBeside, CanBeNumbered, AreExplainable}
 
 -- what a reply is worth at the dictionary at which it was given
 abbrev IsRight : Room → Dictionary → Op → Reply → Type 0
 IsRight room m op reply = MatchBool (tells_update reply) (Confirms m op reply × IsUpdateAt m op) (Explains room m op reply)
 
-plain_reply-IsRight : (room : Room) (m : Dictionary) (op : Op) → IsRight room m op (plain_reply m op)
-plain_reply-IsRight room m (Put key value) =
-    elim (map.contains_key m key) as (λ b. map.contains_key m key ≡ b → IsRight room m (Put key value) (cond b Old New)) [
-      | true ↦ λ e. e
-      | false ↦ λ e. (tt, e)
-    ] refl
-plain_reply-IsRight room m (Get key) =
-    elim (map.get m key) as (λ o. map.get m key ≡ o → IsRight room m (Get key) (with_value Val o)) [
-      | None ↦ λ e. ap is_some e
-      | Some v ↦ λ e. e
-    ] refl
-plain_reply-IsRight room m (Del key) =
-    elim (map.contains_key m key) as (λ b. map.contains_key m key ≡ b → IsRight room m (Del key) (cond b Gone Absent)) [
-      | true ↦ λ e. (tt, e)
-      | false ↦ λ e. e
-    ] refl
-plain_reply-IsRight room m (Set key value) =
-    elim (map.get m key) as (λ o. map.get m key ≡ o → IsRight room m (Set key value) (with_value Was o)) [
-      | None ↦ λ e. ap is_some e
-      | Some v ↦ λ e. (e, ap is_some e)
-    ] refl
+-- a map that is filled to its limit fills the slots
+full-Explains : (limit : Option ℕ) (room : Room) (m : Dictionary) (key value : ℕ) → IsFilledAt limit room.scripts room.slots → is_filled limit m ≡ true → Explains room m (Put key value) Full
+full-Explains None room m key value fits filled = absurd (false≢true filled)
+full-Explains (Some most) room m key value fits filled = let le : most ≤ map.len m = grind (arith, nat_tests) in omega arith
+
+module _ (limit : Option ℕ) (room : Room) (fits : IsFilledAt limit room.scripts room.slots) (m : Dictionary) where
+  plain_reply-IsRight : (op : Op) → IsRight room m op (plain_reply limit m op)
+  plain_reply-IsRight (Put key value) =
+      elim (map.contains_key m key) as (λ b. map.contains_key m key ≡ b → IsRight room m (Put key value) (cond b Old (cond (is_filled limit m) Full New))) [
+        | true ↦ λ e. e
+        | false ↦ λ e.
+            elim (is_filled limit m) as (λ f. is_filled limit m ≡ f → IsRight room m (Put key value) (cond f Full New)) [
+              | true ↦ λ filled. full-Explains limit room m key value fits filled
+              | false ↦ λ _. (tt, e)
+            ] refl
+      ] refl
+  plain_reply-IsRight (Get key) =
+      elim (map.get m key) as (λ o. map.get m key ≡ o → IsRight room m (Get key) (with_value Val o)) [
+        | None ↦ λ e. ap is_some e
+        | Some v ↦ λ e. e
+      ] refl
+  plain_reply-IsRight (Del key) =
+      elim (map.contains_key m key) as (λ b. map.contains_key m key ≡ b → IsRight room m (Del key) (cond b Gone Absent)) [
+        | true ↦ λ e. (tt, e)
+        | false ↦ λ e. e
+      ] refl
+  plain_reply-IsRight (Set key value) =
+      elim (map.get m key) as (λ o. map.get m key ≡ o → IsRight room m (Set key value) (with_value Was o)) [
+        | None ↦ λ e. ap is_some e
+        | Some v ↦ λ e. (e, ap is_some e)
+      ] refl
 
 own_updates_from-append : (p c : ℕ) (us vs : List Update) → own_updates_from p c (us ++ vs) ≡ own_updates_from p c us ++ own_updates_from (p + length us) c vs
 own_updates_from-append p c [] vs = ap (λ n. own_updates_from n c vs) (omega arith)
@@ -140,22 +151,23 @@ module _ (room : Room) (caller : ℕ) (h after : List Update) (lines : List Line
         }
 
 -- one script
-Made-script : (room : Room) (caller : ℕ) (h : List Update) (script : List Op) → Made room caller h (history_after h caller script) (told_lines script (told_after h caller script))
-Made-script room caller h [] = Made-none room caller h
-Made-script room caller h (op ∷ ops) =
-    let u : Update = record { caller = caller; op = op } in
-    let reply = plain_reply (map_of h) op in
-    let right = plain_reply-IsRight room (map_of h) op in
-    elim (tells_update reply) as (λ b. tells_update reply ≡ b
-    → Made room caller h (history_after (cond b (h ++ u ∷ []) h) caller ops)
-    (record { op = op; reply = reply; number = cond b (length h + 1) 0 } ∷ told_lines ops (told_after (cond b (h ++ u ∷ []) h) caller ops))) [
-      | true ↦ λ e.
-          let both = subst (λ b. MatchBool b (Confirms (map_of h) op reply × IsUpdateAt (map_of h) op) (Explains room (map_of h) op reply)) e right in
-          Made-update room caller h (history_after (h ++ u ∷ []) caller ops) (told_lines ops (told_after (h ++ u ∷ []) caller ops)) op reply u refl refl e both.0 both.1 (Made-script room caller (h ++ u ∷ []) ops)
-      | false ↦ λ e.
-          let explains = subst (λ b. MatchBool b (Confirms (map_of h) op reply × IsUpdateAt (map_of h) op) (Explains room (map_of h) op reply)) e right in
-          Made-other room caller h (history_after h caller ops) (told_lines ops (told_after h caller ops)) op reply e explains (Made-script room caller h ops)
-    ] refl
+module _ (limit : Option ℕ) (room : Room) (fits : IsFilledAt limit room.scripts room.slots) (caller : ℕ) where
+  Made-script : (h : List Update) (script : List Op) → Made room caller h (history_after limit h caller script) (told_lines script (told_after limit h caller script))
+  Made-script h [] = Made-none room caller h
+  Made-script h (op ∷ ops) =
+      let u : Update = record { caller = caller; op = op } in
+      let reply = plain_reply limit (map_of h) op in
+      let right = plain_reply-IsRight limit room fits (map_of h) op in
+      elim (tells_update reply) as (λ b. tells_update reply ≡ b
+      → Made room caller h (history_after limit (cond b (h ++ u ∷ []) h) caller ops)
+      (record { op = op; reply = reply; number = cond b (length h + 1) 0 } ∷ told_lines ops (told_after limit (cond b (h ++ u ∷ []) h) caller ops))) [
+        | true ↦ λ e.
+            let both = subst (λ b. MatchBool b (Confirms (map_of h) op reply × IsUpdateAt (map_of h) op) (Explains room (map_of h) op reply)) e right in
+            Made-update room caller h (history_after limit (h ++ u ∷ []) caller ops) (told_lines ops (told_after limit (h ++ u ∷ []) caller ops)) op reply u refl refl e both.0 both.1 (Made-script (h ++ u ∷ []) ops)
+        | false ↦ λ e.
+            let explains = subst (λ b. MatchBool b (Confirms (map_of h) op reply × IsUpdateAt (map_of h) op) (Explains room (map_of h) op reply)) e right in
+            Made-other room caller h (history_after limit h caller ops) (told_lines ops (told_after limit h caller ops)) op reply e explains (Made-script h ops)
+      ] refl
 
 AreUpdatesFrom-append : (m : Dictionary) (us vs : List Update) → AreUpdatesFrom m us → AreUpdatesFrom (updated_all m us) vs → AreUpdatesFrom m (us ++ vs)
 AreUpdatesFrom-append m [] vs first then = then
@@ -214,36 +226,41 @@ AllMade-cons room caller h mid after lines scripts made all =
         ∙ ap (λ c. own_updates_from (length mid + 1) c all.mine) (omega arith)
         ∙ all.own j
 
-AllMade-scripts : (room : Room) (caller : ℕ) (h : List Update) (scripts : List (List Op)) → AllMade room caller h (history_after_all h caller scripts) (all_told_lines scripts (told_after_all h caller scripts))
-AllMade-scripts room caller h [] = AllMade-none room caller h
-AllMade-scripts room caller h (script ∷ scripts) =
-    AllMade-cons room caller h (history_after h caller script) _ _ _ (Made-script room caller h script) (AllMade-scripts room (caller + 1) (history_after h caller script) scripts)
+module _ (limit : Option ℕ) where
+  AllMade-scripts : (room : Room) → IsFilledAt limit room.scripts room.slots → (caller : ℕ) (h : List Update) (scripts : List (List Op)) → AllMade room caller h (history_after_all limit h caller scripts) (all_told_lines scripts (told_after_all limit h caller scripts))
+  AllMade-scripts room fits caller h [] = AllMade-none room caller h
+  AllMade-scripts room fits caller h (script ∷ scripts) =
+      AllMade-cons room caller h (history_after limit h caller script) _ _ _ (Made-script limit room fits caller h script) (AllMade-scripts room fits (caller + 1) (history_after limit h caller script) scripts)
 
-length-told_after : (h : List Update) (caller : ℕ) (script : List Op) → length (told_after h caller script) ≡ length script
-length-told_after h caller [] = refl
-length-told_after h caller (op ∷ ops) = ap suc (length-told_after (history_with h caller op) caller ops)
+  length-told_after : (h : List Update) (caller : ℕ) (script : List Op) → length (told_after limit h caller script) ≡ length script
+  length-told_after h caller [] = refl
+  length-told_after h caller (op ∷ ops) = ap suc (length-told_after (history_with limit h caller op) caller ops)
 
-lengths-told_after_all : (h : List Update) (caller : ℕ) (scripts : List (List Op)) → list_map length (told_after_all h caller scripts) ≡ list_map length scripts
-lengths-told_after_all h caller [] = refl
-lengths-told_after_all h caller (script ∷ scripts) =
-    ap (λ n. n ∷ list_map length (told_after_all (history_after h caller script) (caller + 1) scripts)) (length-told_after h caller script)
-    ∙ ap (λ ns. length script ∷ ns) (lengths-told_after_all (history_after h caller script) (caller + 1) scripts)
+  lengths-told_after_all : (h : List Update) (caller : ℕ) (scripts : List (List Op)) → list_map length (told_after_all limit h caller scripts) ≡ list_map length scripts
+  lengths-told_after_all h caller [] = refl
+  lengths-told_after_all h caller (script ∷ scripts) =
+      ap (λ n. n ∷ list_map length (told_after_all limit (history_after limit h caller script) (caller + 1) scripts)) (length-told_after h caller script)
+      ∙ ap (λ ns. length script ∷ ns) (lengths-told_after_all (history_after limit h caller script) (caller + 1) scripts)
 
-pub plain-AreExplainable : (scripts : List (List Op)) (slots : ℕ) → AreExplainable scripts (plain_tolds scripts) (plain_history scripts) slots
-plain-AreExplainable scripts slots =
-    let room : Room = record { scripts = length scripts; slots = slots } in
-    let made = AllMade-scripts room 0 [] scripts in
-    let whole : plain_history scripts ++ [] ≡ plain_history scripts = append-nil _ in
-    record {
-      lengths = lengths-told_after_all [] 0 scripts;
-      explained = record {
-        updates = λ c. ap (own_updates c) made.after_is ∙ ap (λ k. own_updates_from 1 k made.mine) (omega arith) ∙ made.own c;
-        confirmed = subst (λ us. AllByRecursion (AllByRecursion (IsConfirmed us)) (all_told_lines scripts (plain_tolds scripts))) whole (made.confirmed []);
-        fronts = subst (λ us. AllByRecursion (CanBeNumbered room us) (all_told_lines scripts (plain_tolds scripts))) whole (made.fronts []);
-      };
-    }
+  pub plain-AreExplainable : (scripts : List (List Op)) (slots : ℕ) → IsFilledAt limit (length scripts) slots → AreExplainable scripts (plain_tolds limit scripts) (plain_history limit scripts) slots
+  plain-AreExplainable scripts slots fits =
+      let room : Room = record { scripts = length scripts; slots = slots } in
+      let made = AllMade-scripts room fits 0 [] scripts in
+      let whole : plain_history limit scripts ++ [] ≡ plain_history limit scripts = append-nil _ in
+      record {
+        lengths = lengths-told_after_all [] 0 scripts;
+        explained = record {
+          updates = λ c. ap (own_updates c) made.after_is ∙ ap (λ k. own_updates_from 1 k made.mine) (omega arith) ∙ made.own c;
+          confirmed = subst (λ us. AllByRecursion (AllByRecursion (IsConfirmed us)) (all_told_lines scripts (plain_tolds limit scripts))) whole (made.confirmed []);
+          fronts = subst (λ us. AllByRecursion (CanBeNumbered room us) (all_told_lines scripts (plain_tolds limit scripts))) whole (made.fronts []);
+        };
+      }
 
-pub plain-IsLegal : (scripts : List (List Op)) → IsLegal (plain_history scripts)
-plain-IsLegal scripts =
-    let made = AllMade-scripts (record { scripts = 0; slots = 0 }) 0 [] scripts in
-    subst IsLegal (sym made.after_is) made.legal
+  filled_by_none : (limit : Option ℕ) → IsFilledAt limit 0 0
+  filled_by_none None = tt
+  filled_by_none (Some most) = omega arith
+
+  pub plain-IsLegal : (scripts : List (List Op)) → IsLegal (plain_history limit scripts)
+  plain-IsLegal scripts =
+      let made = AllMade-scripts (record { scripts = 0; slots = 0 }) (filled_by_none limit) 0 [] scripts in
+      subst IsLegal (sym made.after_is) made.legal

@@ -1,25 +1,27 @@
 -- What the top call reads and writes.
 -- Source: docs/FORMATS.md, "Statuses".
-use Rattle.std.specs.Prelude.{◌≡◌, ℕ, ◌≤◌, List, ◌++◌, length, Option, codes, decimal}
+use Rattle.std.specs.Prelude.{◌≡◌, ℕ, ◌≤◌, List, ◌++◌, length, Option, None, codes, decimal}
 use Rattle.io_edge.specs.Edge.{Takes, IsAtEnd, Appends, AppendsFront}
 use Rattle.prcu_model.specs.declared.operation.Op.{Op}
-use Rattle.prcu_model.specs.Scripts.{default_slots_of}
+use Rattle.prcu_model.specs.Slots.{LacksFull}
 use Rattle.script_text.specs.Grammar.{IsScriptText, IsFirstBad}
 use Rattle.account_text.specs.Account.{IsAccount}
 use Rattle.citrus_tool.specs.declared.commands.Command.{Command}
-use Rattle.citrus_tool.specs.declared.commands.Command.TheVariants.{Run, Check}
+use Rattle.citrus_tool.specs.declared.commands.Command.TheVariants.{Run, Check, Load}
 use Rattle.citrus_tool.specs.declared.outcome.Status.{Status}
 use Rattle.citrus_tool.specs.declared.outcome.Status.TheVariants.{Done, Refused, Usage, BadScript, ReadFault, NoMemory, TooLong}
-use Rattle.citrus_tool.specs.Commands.{Asks, limit_of}
+use Rattle.citrus_tool.specs.Commands.{Asks, Reads, limit_of}
+use Rattle.citrus_tool.specs.Limits.{slots_of}
 use Rattle.citrus_tool.specs.Parts.{HasParts}
 
 -- The text is an account of the scripts that the input holds: the headline. Each script's successful updates stand in
 -- one legal history, once and in order; each reply is the plain dictionary's at its front; in a script the fronts never
--- fall; and the final pairs are what the history leaves.
-pub record AccountsFor (input text : List ℕ) : Type 0 where
+-- fall; and the final pairs are what the history leaves. Where no number of slots was given, no line says `full`.
+pub record AccountsFor (slots : Option ℕ) (input text : List ℕ) : Type 0 where
   pub scripts : List (List Op)
   pub read : IsScriptText input scripts
-  pub account : IsAccount scripts (default_slots_of scripts) text
+  pub account : IsAccount scripts (slots_of slots scripts) text
+  pub never_full : slots ≡ None → LacksFull account.lines
 
 -- The input has a bad line, so it is no scripts' text, and the text tells the number of the first.
 pub record TellsBadLine (input text : List ℕ) : Type 0 where
@@ -35,26 +37,26 @@ pub record Claims (input : List ℕ) (scripts : List (List Op)) (account : List 
   pub read : IsScriptText before scripts
 
 -- What is claimed is an account of the scripts, and the text says so.
-pub record SaysYes (input text : List ℕ) : Type 0 where
+pub record SaysYes (slots : Option ℕ) (input text : List ℕ) : Type 0 where
   pub scripts : List (List Op)
   pub account : List ℕ
   pub claims : Claims input scripts account
-  pub holds : IsAccount scripts (default_slots_of scripts) account
+  pub holds : IsAccount scripts (slots_of slots scripts) account
   pub told : text ≡ codes "yes\n"
 
 -- What is claimed is no account of the scripts, and the text says so.
-pub record SaysNo (input text : List ℕ) : Type 0 where
+pub record SaysNo (slots : Option ℕ) (input text : List ℕ) : Type 0 where
   pub scripts : List (List Op)
   pub account : List ℕ
   pub claims : Claims input scripts account
-  pub fails : IsAccount scripts (default_slots_of scripts) account → ⊥
+  pub fails : IsAccount scripts (slots_of slots scripts) account → ⊥
   pub told : text ≡ codes "no\n"
 
 -- The status and the text tell whether the bytes are an account of the scripts.
-abbrev pub Judges : List (List Op) → List ℕ → Status → List ℕ → Type 0
-Judges scripts account Done text = IsAccount scripts (default_slots_of scripts) account × (text ≡ codes "yes\n")
-Judges scripts account Refused text = (IsAccount scripts (default_slots_of scripts) account → ⊥) × (text ≡ codes "no\n")
-Judges scripts account _ text = ⊥
+abbrev pub Judges : Option ℕ → List (List Op) → List ℕ → Status → List ℕ → Type 0
+Judges slots scripts account Done text = IsAccount scripts (slots_of slots scripts) account × (text ≡ codes "yes\n")
+Judges slots scripts account Refused text = (IsAccount scripts (slots_of slots scripts) account → ⊥) × (text ≡ codes "no\n")
+Judges slots scripts account _ text = ⊥
 
 -- The scripts before the claimed account have a bad line.
 pub record TellsBadLineBefore (input text : List ℕ) : Type 0 where
@@ -65,23 +67,24 @@ pub record TellsBadLineBefore (input text : List ℕ) : Type 0 where
 
 -- what a command writes for an input that it read whole, by the status with which it ends
 abbrev pub Writes : Command → Status → List ℕ → List ℕ → Type 0
-Writes Run Done input text = AccountsFor input text
-Writes Run BadScript input text = TellsBadLine input text
-Writes Check Done input text = SaysYes input text
-Writes Check Refused input text = SaysNo input text
-Writes Check BadScript input text = TellsBadLineBefore input text
+Writes (Run slots) Done input text = AccountsFor slots input text
+Writes (Run slots) BadScript input text = TellsBadLine input text
+Writes (Check slots) Done input text = SaysYes slots input text
+Writes (Check slots) Refused input text = SaysNo slots input text
+Writes (Check slots) BadScript input text = TellsBadLineBefore input text
 Writes _ _ input text = ⊥
 
 -- a text that the command writes for the input, whatever the status
 abbrev pub MayWrite : Command → List ℕ → List ℕ → Type 0
 MayWrite command input text = (status : Status) × Writes command status input text
 
--- The input was read to its end, and is within the command's limit; what was written is a text that answers it.
+-- The input was read to its end, where the command reads, and is within the command's limit; what was written is a text
+-- that answers it.
 pub record AnsweredBy (command : Command) (status : Status) (left left_now written written_now : Option (List ℕ)) : Type 0 where
   pub input : List ℕ
   pub short : length input ≤ limit_of command
   pub read : Takes left left_now input
-  pub ended : IsAtEnd left_now
+  pub ended : Reads command → IsAtEnd left_now
   pub text : List ℕ
   pub answers : Writes command status input text
   pub appended : Appends written written_now text
@@ -91,7 +94,7 @@ pub record AnsweredInPartBy (command : Command) (left left_now written written_n
   pub input : List ℕ
   pub short : length input ≤ limit_of command
   pub read : Takes left left_now input
-  pub ended : IsAtEnd left_now
+  pub ended : Reads command → IsAtEnd left_now
   pub text : List ℕ
   pub answers : MayWrite command input text
   pub appended : AppendsFront written written_now text
@@ -109,8 +112,9 @@ pub record AnsweredInPart (words : List (List ℕ)) (left left_now written writt
 
 -- The input has what the command works on.
 abbrev pub IsAnswerable : Command → List ℕ → Type 0
-IsAnswerable Run input = (scripts : List (List Op)) × IsScriptText input scripts
-IsAnswerable Check input = (scripts : List (List Op)) × (account : List ℕ) × Claims input scripts account
+IsAnswerable (Run slots) input = (scripts : List (List Op)) × IsScriptText input scripts
+IsAnswerable (Check slots) input = (scripts : List (List Op)) × (account : List ℕ) × Claims input scripts account
+IsAnswerable (Load number scripts ops) input = Unit {0}
 
 -- the statuses with which nothing is written
 abbrev pub WritesNothing : Status → Type 0

@@ -1,4 +1,6 @@
 pub mod Statuses
+pub mod Arguments
 pub mod Commands
+pub mod Limits
 pub mod Parts
 pub mod Answers

@@ -1,6 +1,7 @@
 //! The top call: words and input to output and status.
 #![tactic(auto)]
 
+mod arguments;
 mod commands;
 mod outcome;
 mod parts;

@@ -5,6 +5,7 @@ ghost use Rattle.prcu_model.specs.History.{IsLegal};
 ghost use Rattle.prcu_model.specs.Lists.{entries_of};
 ghost use Rattle.prcu_model.specs.Plain.{history_with, history_after, told_after, plain_told, plain_history, plain_tolds};
 ghost use Rattle.prcu_model.specs.Fronts.{AreExplainable};
+ghost use Rattle.citrus_tool.specs.Limits.{IsFilledAt};
 
 use prcu_model::{NoMemory, Op, PlainMap, Scripts, Told, ToldList, Update};
 use std::alloc::Global;
@@ -16,11 +17,11 @@ pub struct Ended {
     pub history: Vec<Update>,
 }
 
-/// Runs the scripts one after another on a plain map without limit.
-pub fn run_plain(alloc: Global, scripts: &Scripts) -> Result<Ended, NoMemory>
-    ensures told { IfOk result (λ ended. entries_of ended.told.items ≡ plain_tolds scripts.now) }
-    ensures history { IfOk result (λ ended. ended.history.items ≡ plain_history scripts.now) }
-    ensures explained { IfOk result (λ ended. (slots : ℕ)
+/// Runs the scripts one after another on a plain map that takes no pair past the limit, where there is one.
+pub fn run_plain(alloc: Global, limit: Option<u32>, scripts: &Scripts) -> Result<Ended, NoMemory>
+    ensures told { IfOk result (λ ended. entries_of ended.told.items ≡ plain_tolds limit scripts.now) }
+    ensures history { IfOk result (λ ended. ended.history.items ≡ plain_history limit scripts.now) }
+    ensures explained { IfOk result (λ ended. (slots : ℕ) → IsFilledAt limit (length scripts.now) slots
         → AreExplainable scripts.now (entries_of ended.told.items) ended.history.items slots) }
     ensures legal { IfOk result (λ ended. IsLegal ended.history.items) }
 {
@@ -30,6 +31,7 @@ pub fn run_plain(alloc: Global, scripts: &Scripts) -> Result<Ended, NoMemory>
     for caller in 0..scripts.count() {
         let list = run_script(
             alloc,
+            limit,
             &mut map,
             &mut history,
             caller,
@@ -43,6 +45,7 @@ pub fn run_plain(alloc: Global, scripts: &Scripts) -> Result<Ended, NoMemory>
 // Runs the caller's script, and tells what it was told. The map is that of the history, before and after.
 fn run_script(
     alloc: Global,
+    limit: Option<u32>,
     map: &mut PlainMap,
     history: &mut Vec<Update>,
     caller: u32,
@@ -50,30 +53,31 @@ fn run_script(
 ) -> Result<ToldList, NoMemory>
     requires map { map.old ≡ map_of history.old.items }
     requires short { length script.now ≤ 1048576 }
-    ensures told { IfOk result (λ list. list.entries ≡ told_after history.old.items caller script.now) }
-    ensures history { OnOk result (history.new.items ≡ history_after history.old.items caller script.now) }
+    ensures told { IfOk result (λ list. list.entries ≡ told_after limit history.old.items caller script.now) }
+    ensures history { OnOk result (history.new.items ≡ history_after limit history.old.items caller script.now) }
     ensures map { OnOk result (map.new ≡ map_of history.new.items) }
 {
     let mut list = ToldList::new(alloc, script.len() as u32)?;
     for op in script {
-        list.push(run_op(map, history, caller, *op)?);
+        list.push(run_op(limit, map, history, caller, *op)?);
     }
     Ok(list)
 }
 
 // Makes the caller's operation, and tells what it is answered. The map is that of the history, before and after.
 fn run_op(
+    limit: Option<u32>,
     map: &mut PlainMap,
     history: &mut Vec<Update>,
     caller: u32,
     op: Op,
 ) -> Result<Told, NoMemory>
     requires { map.old ≡ map_of history.old.items }
-    ensures told { IfOk result (λ told. told ≡ plain_told history.old.items op) }
-    ensures history { OnOk result (history.new.items ≡ history_with history.old.items caller op) }
+    ensures told { IfOk result (λ told. told ≡ plain_told limit history.old.items op) }
+    ensures history { OnOk result (history.new.items ≡ history_with limit history.old.items caller op) }
     ensures map { OnOk result (map.new ≡ map_of history.new.items) }
 {
-    let reply = map.reply_to(op);
+    let reply = map.reply_to(limit, op);
     if !reply.tells_update() {
         return Ok(Told { reply, number: 0 });
     }

@@ -1,9 +1,9 @@
 //! What each command makes of its input.
 ghost use Rattle.std.specs.Prelude.{◌≡◌, ◌≤◌, ◌++◌, IfOk, length, codes, decimal};
-ghost use Rattle.prcu_model.specs.Scripts.{default_slots_of};
 ghost use Rattle.account_text.specs.Account.{IsAccount};
 ghost use Rattle.citrus_tool.specs.Answers.{Writes, Judges};
-ghost use Rattle.citrus_tool.specs.Commands.{limit_of};
+ghost use Rattle.citrus_tool.specs.Commands.{AreSlots, IsInRange, limit_of};
+ghost use Rattle.citrus_tool.specs.Limits.{slots_of};
 
 use crate::commands::Command;
 use crate::outcome::Status;
@@ -23,24 +23,27 @@ pub struct Answer {
 
 /// Makes what the command writes for an input.
 pub fn answer_to(alloc: Global, command: Command, input: &[u8]) -> Result<Answer, NoMemory>
-    requires { length input.now ≤ limit_of command }
+    requires short { length input.now ≤ limit_of command }
+    requires in_range { IsInRange command }
     ensures { IfOk result (λ answer. Writes command answer.status input.now answer.text.items) }
 {
     match command {
-        Command::Run => run(alloc, input),
-        Command::Check => check_claim(alloc, input),
+        Command::Run { slots } => run(alloc, slots, input),
+        Command::Check { slots } => check_claim(alloc, slots, input),
+        Command::Load { .. } => Err(NoMemory),
     }
 }
 
 // Runs the scripts that the input holds: their account, or the number of the first bad line.
-fn run(alloc: Global, input: &[u8]) -> Result<Answer, NoMemory>
-    requires { length input.now ≤ 134217728 }
-    ensures { IfOk result (λ answer. Writes Command.Run answer.status input.now answer.text.items) }
+fn run(alloc: Global, slots: Option<u32>, input: &[u8]) -> Result<Answer, NoMemory>
+    requires short { length input.now ≤ 134217728 }
+    requires slots { AreSlots slots }
+    ensures { IfOk result (λ answer. Writes (Command.Run slots) answer.status input.now answer.text.items) }
 {
     match parse(alloc, input) {
         Ok(scripts) => Ok(Answer {
             status: Status::Done,
-            text: account_for(alloc, &scripts)?,
+            text: account_for(alloc, slots, &scripts)?,
         }),
         Err(ScriptError::Line { number }) => Ok(Answer {
             status: Status::BadScript,
@@ -51,13 +54,14 @@ fn run(alloc: Global, input: &[u8]) -> Result<Answer, NoMemory>
 }
 
 // Judges the account that the input claims of its scripts.
-fn check_claim(alloc: Global, input: &[u8]) -> Result<Answer, NoMemory>
-    requires { length input.now ≤ 134217728 }
-    ensures { IfOk result (λ answer. Writes Command.Check answer.status input.now answer.text.items) }
+fn check_claim(alloc: Global, slots: Option<u32>, input: &[u8]) -> Result<Answer, NoMemory>
+    requires short { length input.now ≤ 134217728 }
+    requires slots { AreSlots slots }
+    ensures { IfOk result (λ answer. Writes (Command.Check slots) answer.status input.now answer.text.items) }
 {
     let (before, account) = parts_of(input);
     match parse(alloc, before) {
-        Ok(scripts) => judge(alloc, &scripts, account),
+        Ok(scripts) => judge(alloc, slots, &scripts, account),
         Err(ScriptError::Line { number }) => Ok(Answer {
             status: Status::BadScript,
             text: bad_line(alloc, number)?,
@@ -67,10 +71,16 @@ fn check_claim(alloc: Global, input: &[u8]) -> Result<Answer, NoMemory>
 }
 
 // Whether the bytes are an account of the scripts.
-fn judge(alloc: Global, scripts: &Scripts, account: &[u8]) -> Result<Answer, NoMemory>
-    ensures { IfOk result (λ answer. Judges scripts.now account.now answer.status answer.text.items) }
+fn judge(
+    alloc: Global,
+    slots: Option<u32>,
+    scripts: &Scripts,
+    account: &[u8],
+) -> Result<Answer, NoMemory>
+    requires { AreSlots slots }
+    ensures { IfOk result (λ answer. Judges slots scripts.now account.now answer.status answer.text.items) }
 {
-    if check(alloc, scripts, scripts.default_slots(), account)? {
+    if check(alloc, scripts, slots_for(slots, scripts), account)? {
         return Ok(Answer {
             status: Status::Done,
             text: Vec::from_slice(alloc, b"yes\n")?,
@@ -82,17 +92,29 @@ fn judge(alloc: Global, scripts: &Scripts, account: &[u8]) -> Result<Answer, NoM
     })
 }
 
-// The account of the scripts, run one after another.
-fn account_for(alloc: Global, scripts: &Scripts) -> Result<Vec<u8>, NoMemory>
-    ensures { IfOk result (λ text. IsAccount scripts.now (default_slots_of scripts.now) text.items) }
+// The slots that the scripts share: those that were given and twenty more for each script but the first, or the default.
+fn slots_for(slots: Option<u32>, scripts: &Scripts) -> u32
+    requires { AreSlots slots }
+    ensures { result ≡ slots_of slots scripts.now }
 {
-    let ended = run_plain(alloc, scripts)?;
+    match slots {
+        Some(most) => most + 20 * scripts.count().saturating_sub(1),
+        None => scripts.default_slots(),
+    }
+}
+
+// The account of the scripts, run one after another, with no more pairs than so many slots.
+fn account_for(alloc: Global, slots: Option<u32>, scripts: &Scripts) -> Result<Vec<u8>, NoMemory>
+    requires { AreSlots slots }
+    ensures { IfOk result (λ text. IsAccount scripts.now (slots_of slots scripts.now) text.items) }
+{
+    let ended = run_plain(alloc, slots, scripts)?;
     let lines = fronts(
         alloc,
         scripts,
         &ended.told,
         &ended.history,
-        scripts.default_slots(),
+        slots_for(slots, scripts),
     )?;
     write_account(alloc, &lines, &ended.history)
 }

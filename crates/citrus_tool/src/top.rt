@@ -1,10 +1,10 @@
 //! The top call.
-ghost use Rattle.std.specs.Prelude.{◌≡◌, ◌≤◌, ◌⊎◌, ◌↔◌, ℕ, List, Some, map, length, string_bytes};
-ghost use Rattle.io_edge.specs.Edge.{Rose};
+ghost use Rattle.std.specs.Prelude.{◌≡◌, ◌≤◌, ◌⊎◌, ◌↔◌, ℕ, List, Some, Err, IfOk, OnOk, map, length, string_bytes};
+ghost use Rattle.io_edge.specs.Edge.{Rose, Takes, IsAtEnd};
 ghost use Rattle.io_edge.specs.Whole.{TakesToLimit};
 ghost use Rattle.citrus_tool.specs.declared.commands.Command as command;
 ghost use Rattle.citrus_tool.specs.Answers.{Answered, AnsweredInPart, AnsweredBy, AnsweredInPartBy, IsAnswerable, WritesNothing};
-ghost use Rattle.citrus_tool.specs.Commands.{Asks, IsCommand, limit_of};
+ghost use Rattle.citrus_tool.specs.Commands.{Asks, IsCommand, IsInRange, Reads, limit_of};
 
 use crate::commands::{Command, command_of};
 use crate::outcome::{Outcome, Ran, Status};
@@ -77,6 +77,7 @@ fn answer_from<S: Source, K: Sink>(
     source: &mut S,
     sink: &mut K,
 ) -> Status
+    requires { IsInRange command }
     ensures read_fault { result ≡ Status.ReadFault → Rose (S.faults source.old) (S.faults source.new) }
     ensures write_fault { result ≡ Status.WriteFault → Rose (K.faults sink.old) (K.faults sink.new) }
     ensures source_counted { S.faults source.old ≤ S.faults source.new }
@@ -93,7 +94,7 @@ fn answer_from<S: Source, K: Sink>(
     ensures unwritten { WritesNothing result → sink.new ≡ sink.old }
     ensures a_command { result ≡ Status.Usage → ⊥ }
 {
-    let input = match read_all(alloc, source, command.limit()) {
+    let input = match input_of(alloc, command, source) {
         Ok(input) => input,
         Err(ReadError::Fault) => return Status::ReadFault,
         Err(ReadError::TooLong) => return Status::TooLong,
@@ -105,5 +106,25 @@ fn answer_from<S: Source, K: Sink>(
     match write_all(sink, &answer.text) {
         Ok(()) => answer.status,
         Err(_) => Status::WriteFault,
+    }
+}
+
+// The command's input, read from the source to its end. A command that reads nothing leaves the source as it is.
+fn input_of<S: Source>(
+    alloc: Global,
+    command: Command,
+    source: &mut S,
+) -> Result<Vec<u8>, ReadError>
+    ensures short { IfOk result (λ text. length text.items ≤ limit_of command) }
+    ensures whole { IfOk result (λ text. Takes (S.rest source.old) (S.rest source.new) text.items) }
+    ensures end { OnOk result (Reads command → IsAtEnd (S.rest source.new)) }
+    ensures unread { (Reads command → ⊥) → source.new ≡ source.old }
+    ensures too_long { TakesToLimit (limit_of command) (S.rest source.old) (S.rest source.new) (result ≡ Err ReadError.TooLong) }
+    ensures fault { result ≡ Err ReadError.Fault → Rose (S.faults source.old) (S.faults source.new) }
+    ensures counted { S.faults source.old ≤ S.faults source.new }
+{
+    match command {
+        Command::Run { .. } | Command::Check { .. } => read_all(alloc, source, command.limit()),
+        Command::Load { .. } => Ok(Vec::new(alloc)),
     }
 }

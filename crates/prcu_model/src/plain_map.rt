@@ -79,17 +79,17 @@ impl PlainMap {
     }
 
     // Whether there are as many pairs as the limit.
-    fn is_filled(&self, limit: Option<u64>) -> bool
+    fn is_filled(&self, limit: Option<u32>) -> bool
         ensures { result ≡ is_filled limit self.now }
     {
         match limit {
-            Some(most) => most <= self.len(),
+            Some(most) => u64::from(most) <= self.len(),
             None => false,
         }
     }
 
     /// What the operation is answered here, where the map takes no pair past the limit. It changes nothing.
-    pub fn reply_to(&self, limit: Option<u64>, op: Op) -> Reply
+    pub fn reply_to(&self, limit: Option<u32>, op: Op) -> Reply
         ensures { result ≡ plain_reply limit self.now op }
     {
         match op {

@@ -6,4 +6,4 @@ use Rattle.citrus_tool.proofs.plain.run_plain.Given as goal
 
 abbrev pub invariant-loop-caller : goal.invariant-loop-caller
 invariant-loop-caller l =
-    (l.map ≡ map_of l.history.items) × RanAllTo l.scripts l.caller l.history.items (entries_of l.told.items)
+    (l.map ≡ map_of l.history.items) × RanAllTo l.limit l.scripts l.caller l.history.items (entries_of l.told.items)
