@@ -1,0 +1,3 @@
+pub mod OwnKeys
+pub mod PlainReplies
+pub mod OneScript
