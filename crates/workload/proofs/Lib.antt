@@ -1,0 +1,4 @@
+pub mod OwnKeys
+pub mod PlainReplies
+pub mod OneScript
+pub mod AllScripts

@@ -1,0 +1,4 @@
+pub mod Draws
+pub mod Summaries
+pub mod SummaryText
+pub mod Counting
