@@ -6,6 +6,9 @@ use Rattle.prcu_model.specs.declared.operation.Op.{Op}
 use Rattle.prcu_model.specs.Slots.{LacksFull}
 use Rattle.script_text.specs.Grammar.{IsScriptText, IsFirstBad}
 use Rattle.account_text.specs.Account.{IsAccount}
+use Rattle.workload.specs.Draws.{made_scripts}
+use Rattle.workload.specs.Summaries.{plain_summary}
+use Rattle.workload.specs.SummaryText.{summary_text}
 use Rattle.citrus_tool.specs.declared.commands.Command.{Command}
 use Rattle.citrus_tool.specs.declared.commands.Command.TheVariants.{Run, Check, Load}
 use Rattle.citrus_tool.specs.declared.outcome.Status.{Status}
@@ -72,6 +75,7 @@ Writes (Run slots) BadScript input text = TellsBadLine input text
 Writes (Check slots) Done input text = SaysYes slots input text
 Writes (Check slots) Refused input text = SaysNo slots input text
 Writes (Check slots) BadScript input text = TellsBadLineBefore input text
+Writes (Load number scripts ops) Done input text = text ≡ summary_text (plain_summary (made_scripts number scripts ops))
 Writes _ _ input text = ⊥
 
 -- a text that the command writes for the input, whatever the status

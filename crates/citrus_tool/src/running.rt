@@ -1,6 +1,9 @@
 //! What each command makes of its input.
 ghost use Rattle.std.specs.Prelude.{◌≡◌, ◌≤◌, ◌++◌, IfOk, length, codes, decimal};
 ghost use Rattle.account_text.specs.Account.{IsAccount};
+ghost use Rattle.workload.specs.Draws.{made_scripts};
+ghost use Rattle.workload.specs.Summaries.{plain_summary};
+ghost use Rattle.workload.specs.SummaryText.{summary_text};
 ghost use Rattle.citrus_tool.specs.Answers.{Writes, Judges};
 ghost use Rattle.citrus_tool.specs.Commands.{AreSlots, IsInRange, limit_of};
 ghost use Rattle.citrus_tool.specs.Limits.{slots_of};
@@ -13,6 +16,7 @@ use account_text::{check, fronts, write_account};
 use prcu_model::{NoMemory, Scripts};
 use script_text::{ScriptError, parse, push_number};
 use std::alloc::Global;
+use workload::{make, summary_of, write_summary};
 
 /// The text that answers an input, and the status with which it is written whole.
 #[derive(Drop)]
@@ -30,7 +34,11 @@ pub fn answer_to(alloc: Global, command: Command, input: &[u8]) -> Result<Answer
     match command {
         Command::Run { slots } => run(alloc, slots, input),
         Command::Check { slots } => check_claim(alloc, slots, input),
-        Command::Load { .. } => Err(NoMemory),
+        Command::Load {
+            number,
+            scripts,
+            ops,
+        } => load(alloc, number, scripts, ops),
     }
 }
 
@@ -117,6 +125,21 @@ fn account_for(alloc: Global, slots: Option<u32>, scripts: &Scripts) -> Result<V
         slots_for(slots, scripts),
     )?;
     write_account(alloc, &lines, &ended.history)
+}
+
+// Runs a made workload one script after another: its summary.
+fn load(alloc: Global, number: u64, scripts: u32, ops: u32) -> Result<Answer, NoMemory>
+    requires { IsInRange (Command.Load number scripts ops) }
+    ensures status { IfOk result (λ answer. answer.status ≡ Status.Done) }
+    ensures text { IfOk result (λ answer. answer.text.items ≡ summary_text (plain_summary (made_scripts number scripts ops))) }
+{
+    let made = make(alloc, number, scripts, ops)?;
+    let ended = run_plain(alloc, None, &made)?;
+    let summary = summary_of(alloc, &made, &ended.told, &ended.history)?;
+    Ok(Answer {
+        status: Status::Done,
+        text: write_summary(alloc, &summary)?,
+    })
 }
 
 // Which line is the first bad one.

@@ -9,6 +9,10 @@ use std::sync::Wait;
 use std::test::Fail;
 use std::thread::Threads;
 
+mod loads;
+mod slots;
+mod words;
+
 // The status of a call, and what it wrote, with room for so many bytes.
 fn answer<R: Threads + Wait + Sync>(
     rt: &R,
@@ -308,31 +312,6 @@ fn what_run_writes_is_checked_as_true(rt: HostRuntime) -> Result<(), Fail> {
         let mut source = source_of(alloc, &text, 1000, &[])?;
         let (status, _) = answer(&rt, alloc, &["check"], &mut source, 100)?;
         assert_eq!(rt; status, Status::Done, "text {number}");
-    }
-    Ok(())
-}
-
-#[test]
-fn words_that_are_no_command_touch_nothing(rt: HostRuntime) -> Result<(), Fail> {
-    let alloc = rt.alloc();
-    let cases: [&[&str]; 9] = [
-        &[],
-        &["run", "check"],
-        &["frob"],
-        &["Run"],
-        &["run", "run"],
-        &["run", "--help"],
-        &["run", ""],
-        &["--"],
-        &["ru"],
-    ];
-    for words in cases {
-        let mut source = source_of(alloc, b"script\n", 4, &[])?;
-        let (status, written) = answer(&rt, alloc, words, &mut source, 100)?;
-        assert_eq!(rt; status, Status::Usage);
-        assert!(rt; written.is_empty());
-        let (status, _) = answer(&rt, alloc, &["run"], &mut source, 100)?;
-        assert_eq!(rt; status, Status::Done, "the input is whole");
     }
     Ok(())
 }

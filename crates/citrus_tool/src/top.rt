@@ -32,6 +32,9 @@ pub fn tool<R: Threads + Wait + Sync, S: Source, K: Sink, G: Gate + Sync>(
     ensures usage { (result.status ≡ Status.Usage) ↔ (IsCommand (map string_bytes words.now) → ⊥) }
     ensures unread { result.status ≡ Status.Usage → source.new ≡ source.old }
 
+    // A command that reads nothing leaves the source as it is.
+    ensures reads_nothing { (command : command.Command) → Asks (map string_bytes words.now) command → (Reads command → ⊥) → source.new ≡ source.old }
+
     // Faults are those of the source and the sink.
     ensures read_fault { result.status ≡ Status.ReadFault → Rose (S.faults source.old) (S.faults source.new) }
     ensures write_fault { result.status ≡ Status.WriteFault → Rose (K.faults sink.old) (K.faults sink.new) }
@@ -93,6 +96,7 @@ fn answer_from<S: Source, K: Sink>(
         (S.rest source.old) (S.rest source.new) (K.bytes sink.old) (K.bytes sink.new) }
     ensures unwritten { WritesNothing result → sink.new ≡ sink.old }
     ensures a_command { result ≡ Status.Usage → ⊥ }
+    ensures reads_nothing { (Reads command → ⊥) → source.new ≡ source.old }
 {
     let input = match input_of(alloc, command, source) {
         Ok(input) => input,
