@@ -19,6 +19,10 @@ pub trait Source {
     /// How often it failed. It never falls, and stays at 18446744073709551615 once it is there.
     ghost faults: { Self → ℕ };
 
+    /// How a read into so much room that took so many bytes leads from the source before it to the source after it, as
+    /// far as the source tells.
+    ghost reads: { Self → ℕ → ℕ → Self → Type 0 } = { λ _ _ _ _. Unit {0} };
+
     /// Takes the next bytes to the front of `into`, and tells how many it took. At `Failed` it took none. No byte on a
     /// buffer that isn't empty is the end.
     fn read(&mut self, into: &mut [u8]) -> Result<usize, Failed>
@@ -27,6 +31,7 @@ pub trait Source {
         ensures within { IfOk result (λ n. n ≤ length into.new) }
         ensures taken { IfOk result (λ n. Takes (rest self.old) (rest self.new) (take n into.new)) }
         ensures end { IfOk result (λ n. n ≡ 0 → 0 < length into.old → IsAtEnd (rest self.old)) }
+        ensures led { IfOk result (λ n. reads self.old (length into.old) n self.new) }
         ensures untaken { OnErr result (rest self.new ≡ rest self.old) };
 }
 

@@ -58,6 +58,9 @@ impl Source for MemorySource {
 
     ghost faults = { λ s. s.faults };
 
+    // Each read counts as one call.
+    ghost reads = { λ before room taken after. after ≡ record before { rest = drop taken before.rest; calls = raised before.calls } };
+
     /// Takes as many bytes as are left, as `into` has room for, and as a piece has at the most. It fails at the chosen
     /// calls and at no other.
     fn read(&mut self, into: &mut [u8]) -> Result<usize, Failed>

@@ -1,8 +1,8 @@
 //! The sources and the sinks through their traits: whole texts in pieces, with faults in between.
 
 use crate::{
-    Failed, MemorySink, MemorySource, ReadError, Sink, Source, StdSink, StdSource, SteadySource,
-    WriteFault, read_all, write_all,
+    Failed, MemorySink, MemorySource, NullSink, ReadError, Sink, Source, StdSink, StdSource,
+    SteadySource, WriteFault, read_all, write_all,
 };
 use std::alloc::Global;
 use std::test::Fail;
@@ -115,6 +115,7 @@ fn standard_readers_and_writers_serve(rt: HostRuntime) -> Result<(), Fail> {
     let (first, second) = twice(&mut full, b"abc");
     assert_eq!(rt; (first, second), (Ok(()), Err(WriteFault)));
     assert_eq!(rt; full.write(b"d"), Err(Failed));
+    assert_eq!(rt; twice(&mut NullSink::new(), b"abc"), (Ok(()), Ok(())));
     Ok(())
 }
 

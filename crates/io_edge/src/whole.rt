@@ -1,7 +1,7 @@
 //! Whole texts, read from a source and written to a sink.
-ghost use Rattle.std.specs.Prelude.{◌≡◌, ◌-◌, ◌<◌, ◌≤◌, ◌++◌, Err, length, take, IfOk, OnOk, OnErr, vec_len};
+ghost use Rattle.std.specs.Prelude.{◌≡◌, ℕ, ◌-◌, ◌<◌, ◌≤◌, ◌++◌, Err, length, take, IfOk, OnOk, OnErr, vec_len};
 ghost use Rattle.io_edge.specs.Edge.{Rose, Takes, IsAtEnd, Appends, AppendsFront};
-ghost use Rattle.io_edge.specs.Whole.{TakesToLimit};
+ghost use Rattle.io_edge.specs.Whole.{TakesToLimit, ReadsToEnd};
 
 use crate::edge::{Failed, Sink, Source};
 use std::alloc::{AllocError, Global};
@@ -58,6 +58,9 @@ pub fn read_all<S: Source>(alloc: Global, source: &mut S, limit: u64) -> Result<
     ensures whole { IfOk result (λ text. Takes (S.rest source.old) (S.rest source.new) text.items) }
     ensures end { OnOk result (IsAtEnd (S.rest source.new)) }
 
+    // No read is made after the one that told the end.
+    ensures last { OnOk result (ReadsToEnd S.reads source.old source.new) }
+
     ensures fault { result ≡ Err ReadError.Fault → Rose (S.faults source.old) (S.faults source.new) }
     ensures counted { S.faults source.old ≤ S.faults source.new }
     ensures too_long { TakesToLimit limit (S.rest source.old) (S.rest source.new) (result ≡ Err ReadError.TooLong) }
@@ -86,6 +89,7 @@ fn take_piece<S: Source>(
     ensures added { IfOk result (λ n. text.new.items ≡ text.old.items ++ take n buffer.new) }
     ensures short { OnOk result (vec_len text.new ≤ limit) }
     ensures end { IfOk result (λ n. n ≡ 0 → IsAtEnd (S.rest source.old)) }
+    ensures led { IfOk result (λ n. (room : ℕ) × (1 ≤ room) × S.reads source.old room n source.new) }
     ensures fault { result ≡ Err ReadError.Fault → Rose (S.faults source.old) (S.faults source.new) }
     ensures counted { S.faults source.old ≤ S.faults source.new }
     ensures too_long { TakesToLimit (limit - vec_len text.old) (S.rest source.old) (S.rest source.new)
