@@ -5,3 +5,5 @@ pub mod AllScripts
 pub mod MadeScripts
 pub mod MadeKeys
 pub mod DictionarySums
+pub mod ReplyCounts
+pub mod MadeRuns

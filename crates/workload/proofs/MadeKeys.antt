@@ -1,5 +1,5 @@
 -- The keys and values of a made workload.
-use Rattle.std.proofs.Common.{◌≡◌, ℕ, zero, suc, ◌+◌, ◌*◌, ◌%◌, ◌^◌, ◌<◌, ◌≤◌, true, false, cond, eqb, ltb, List, [], ◌∷◌, map, subst, arith}
+use Rattle.std.proofs.Common.{◌≡◌, ℕ, zero, suc, ◌+◌, ◌*◌, ◌%◌, ◌^◌, ◌<◌, ◌≤◌, true, false, cond, eqb, ltb, map, arith}
 use Rattle.std.specs.List.{AllByRecursion, range_with_len}
 use Rattle.prcu_model.specs.declared.operation.Op.{Op}
 use Rattle.prcu_model.specs.declared.operation.Op.TheVariants.{Put, Get, Del, Set}

@@ -28,7 +28,8 @@ fn a_summary_is_written_line_by_line(rt: HostRuntime) -> Result<(), Fail> {
         values: 0,
     };
     let text = write_summary(rt.alloc(), &summary)?;
-    let expected = b"scripts 1\nops 1\nnew 0\nold 0\nval 0\nnone 1\ngone 0\nsize 0\nkeys 0\nvalues 0\nend\n";
+    let expected =
+        b"scripts 1\nops 1\nnew 0\nold 0\nval 0\nnone 1\ngone 0\nsize 0\nkeys 0\nvalues 0\nend\n";
     assert_eq!(rt; text.as_slice(), expected.as_slice());
     Ok(())
 }

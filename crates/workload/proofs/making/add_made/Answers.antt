@@ -1,4 +1,4 @@
-use Rattle.std.proofs.Common.{◌%◌, ◌^◌, ◌+◌, arith}
+use Rattle.std.proofs.Common.{arith}
 use Rattle.workload.specs.Draws.{made_script}
 use Rattle.workload.proofs.MadeScripts.{HasBegun-more}
 use Rattle.workload.proofs.making.add_made.Goals as goal

@@ -1,4 +1,3 @@
-use Rattle.std.proofs.Common.{◌+◌, ◌%◌, ◌^◌}
 use Rattle.workload.specs.Draws.{made_script}
 use Rattle.workload.proofs.MadeScripts.{HasBegun}
 use Rattle.workload.proofs.making.add_made.Given as goal
