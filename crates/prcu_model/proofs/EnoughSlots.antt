@@ -129,6 +129,15 @@ puts_from-lists history (lines ∷ lists) caller updates =
     let rest = puts_from-lists history lists (caller + 1) (λ k. ap (λ n. own_updates n history) (omega arith) ∙ updates (suc k)) in
     omega (arith, split, here, told, rest, sum_by-cons (count_by is_put) (ops_of lines) (list_map ops_of lists))
 
+-- no dictionary of the history has more pairs than there are puts
+pub len-le-put_count : (room : Room) (history : List Update) (lists : List (List Line)) → AreExplained room history lists → (front : ℕ) → map.len (map_at history front) ≤ put_count (list_map ops_of lists)
+len-le-put_count room history lists explained front =
+    let puts = puts_from-lists history lists 0 (λ k. ap (λ n. own_updates n history) (omega arith) ∙ explained.updates k) in
+    let all = puts_from_all history in
+    let size = len-at_front map.empty history front in
+    let none = map.len-empty nat_cmp ℕ in
+    omega (arith, size, none, puts, all)
+
 -- Where no dictionary of the history comes near the slots.
 module _ (room : Room) (history : List Update) (roomy : (front : ℕ) → map.len (map_at history front) + 20 * (room.scripts - 1) < room.slots) where
   fills : (op : Op) (m : Dictionary) → Explains room m op Full → room.slots ≤ map.len m + 20 * (room.scripts - 1)
@@ -155,10 +164,8 @@ module _ (room : Room) (history : List Update) (roomy : (front : ℕ) → map.le
 -- more slots than puts, with twenty for each other script
 pub LacksFull-from_slots : (room : Room) (history : List Update) (lists : List (List Line)) → put_count (list_map ops_of lists) + 20 * (room.scripts - 1) < room.slots → AreExplained room history lists → LacksFull lists
 LacksFull-from_slots room history lists enough explained =
-    let puts = puts_from-lists history lists 0 (λ k. ap (λ n. own_updates n history) (omega arith) ∙ explained.updates k) in
-    let all = puts_from_all history in
     lacks_all room history
-    (λ front. let size = len-at_front map.empty history front in let none = map.len-empty nat_cmp ℕ in omega (arith, size, none, puts, all, enough))
+    (λ front. let few = len-le-put_count room history lists explained front in omega (arith, few, enough))
     lists explained.fronts
 
 enough_slots : (scripts : List (List Op)) → put_count scripts + 20 * (length scripts - 1) < default_slots_of scripts

@@ -1,5 +1,5 @@
 -- Along a script's lines: its replies are those of the plain map, where its keys are its own.
-use Rattle.std.proofs.Common.{◌≡◌, ℕ, zero, suc, ◌+◌, ◌-◌, ◌<◌, ◌≤◌, Bool, true, false, cond, eqb, MatchBool, IsTrue, None, List, [], ◌∷◌, ◌++◌, length, take, drop, get_or, map as list_map, refl, sym, ap, subst, ◌∙◌, arith}
+use Rattle.std.proofs.Common.{◌≡◌, ℕ, zero, suc, ◌+◌, ◌-◌, ◌<◌, ◌≤◌, true, false, cond, MatchBool, None, List, [], ◌∷◌, ◌++◌, length, take, get_or, map as list_map, refl, sym, ap, subst, ◌∙◌, arith}
 use Rattle.std.specs.FinMap as map
 use Rattle.std.specs.List.{All, AllByRecursion}
 use Rattle.prcu_model.specs.declared.operation.Op.{Op}

@@ -1,17 +1,17 @@
 -- What a caller's keys are worth, where each caller's updates are of keys of its own.
-use Rattle.std.proofs.Common.{◌≡◌, ◌≢◌, ℕ, zero, suc, ◌+◌, ◌-◌, ◌<◌, ◌≤◌, Bool, true, false, cond, eqb, Option, Some, None, is_some, List, [], ◌∷◌, length, take, drop, get_or, refl, sym, ap, subst, ◌∙◌, inl, inr, arith}
+use Rattle.std.proofs.Common.{◌≡◌, ◌≢◌, ℕ, zero, suc, ◌+◌, ◌<◌, ◌≤◌, Bool, true, false, cond, eqb, Option, Some, None, is_some, List, [], ◌∷◌, length, drop, get_or, refl, sym, ap, subst, ◌∙◌, inl, inr, arith}
 use Rattle.std.specs.FinMap as map
 use Rattle.std.specs.Ordering.{nat_cmp, is_eq, eq_by_cmp}
 use Rattle.std.specs.Cmp.{nat_cmp_total}
 use Rattle.std.specs.declared.cmp.Ordering.TheVariants.{Less, Equal, Greater}
 use Rattle.std.specs.List.{All, AllByRecursion}
-use Rattle.std.proofs.lemmas.Bool.{false≢true, cases_lt}
+use Rattle.std.proofs.lemmas.Bool.{cases_lt}
 use Rattle.std.proofs.lemmas.Bool.Decides.{nat_tests}
 use Rattle.std.proofs.lemmas.List.{drop_more, drop_all, take_all}
 use Rattle.prcu_model.specs.declared.operation.Op.{Op}
 use Rattle.prcu_model.specs.declared.operation.Op.TheVariants.{Put, Get, Del, Set}
 use Rattle.prcu_model.specs.declared.operation.Update.{Update}
-use Rattle.prcu_model.specs.Dictionary.{Dictionary, updated, updated_all, map_of, map_at}
+use Rattle.prcu_model.specs.Dictionary.{Dictionary, updated, map_of, map_at}
 use Rattle.prcu_model.specs.Fronts.{Placed, own_updates_from}
 use Rattle.prcu_model.proofs.Fronts.{map_at-next}
 
@@ -22,7 +22,7 @@ key_of (Del key) = key
 key_of (Set key value) = key
 
 -- what a key is worth after an update: by whether the update is of that key, what its key was worth and what the key was
-abbrev value_after : Bool → Op → Option ℕ → Option ℕ → Option ℕ
+abbrev pub value_after : Bool → Op → Option ℕ → Option ℕ → Option ℕ
 value_after is (Put key value) its was = cond (is_some its) was (cond is (Some value) was)
 value_after is (Get key) its was = was
 value_after is (Del key) its was = cond is None was
@@ -32,7 +32,7 @@ get_case : (b : Bool) (m n : Dictionary) (q : ℕ) → map.get (cond b m n) q �
 get_case true m n q = refl
 get_case false m n q = refl
 
-get-updated : (m : Dictionary) (op : Op) (q : ℕ) → map.get (updated m op) q ≡ value_after (eq_by_cmp nat_cmp q (key_of op)) op (map.get m (key_of op)) (map.get m q)
+pub get-updated : (m : Dictionary) (op : Op) (q : ℕ) → map.get (updated m op) q ≡ value_after (eq_by_cmp nat_cmp q (key_of op)) op (map.get m (key_of op)) (map.get m q)
 get-updated m (Put key value) q = get_case (map.contains_key m key) m (map.insert m key value) q ∙ ap (λ v. cond (map.contains_key m key) (map.get m q) v) (map.get-insert nat_cmp_total m key value q)
 get-updated m (Get key) q = refl
 get-updated m (Del key) q = map.get-remove nat_cmp_total m key q

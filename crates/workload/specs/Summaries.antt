@@ -1,6 +1,6 @@
 -- What a summary of a run counts.
 -- Source: docs/FORMATS.md, "The made workload".
-use Rattle.std.specs.Prelude.{ℕ, Bool, true, false, List, length, map as list_map, sum, sum_by, count_by, None}
+use Rattle.std.specs.Prelude.{ℕ, Bool, true, false, List, length, map as list_map, sum_by, count_by, None}
 use Rattle.std.specs.FinMap as map
 use Rattle.prcu_model.specs.declared.operation.Op.{Op}
 use Rattle.prcu_model.specs.declared.operation.Reply.{Reply}
@@ -39,6 +39,14 @@ replies_of tolds = list_map (list_map (λ told. told.reply)) tolds
 abbrev pub reply_count : (Reply → Bool) → List (List Told) → ℕ
 reply_count passes tolds = sum_by (count_by passes) (replies_of tolds)
 
+-- the sum of a dictionary's keys
+abbrev pub key_sum : Dictionary → ℕ
+key_sum m = sum_by (λ pair. pair.0) (map.entries m)
+
+-- the sum of its values
+abbrev pub value_sum : Dictionary → ℕ
+value_sum m = sum_by (λ pair. pair.1) (map.entries m)
+
 -- The summary of scripts, of what they were told and of the dictionary that they left: how many scripts and operations
 -- there are, how often each reply was told, and the number of pairs with the sums of their keys and of their values.
 abbrev pub summary_with : List (List Op) → List (List Told) → Dictionary → Summary
@@ -51,8 +59,8 @@ summary_with scripts tolds m = record {
   none = reply_count is_absent tolds;
   gone = reply_count is_gone tolds;
   size = map.len m;
-  keys = sum (map.keys m);
-  values = sum (map.values m);
+  keys = key_sum m;
+  values = value_sum m;
 }
 
 -- the summary of scripts that are run one after another on a plain map

@@ -1,13 +1,12 @@
 //! The summary of a run.
-ghost use Rattle.std.specs.Prelude.{◌≡◌, ◌^◌, ◌<◌, [], ◌∷◌, length, map as list_map, sum, sum_by, IfOk};
-ghost use Rattle.std.specs.FinMap as map;
+ghost use Rattle.std.specs.Prelude.{◌≡◌, ◌^◌, ◌<◌, [], ◌∷◌, length, map as list_map, sum_by, IfOk};
 ghost use Rattle.prcu_model.specs.Dictionary.{map_of};
 ghost use Rattle.prcu_model.specs.Fronts.{AreExplainable};
 ghost use Rattle.prcu_model.specs.History.{IsLegal};
 ghost use Rattle.prcu_model.specs.Lists.{entries_of};
 ghost use Rattle.prcu_model.specs.Scripts.{default_slots_of};
 ghost use Rattle.workload.specs.Draws.{IsMade};
-ghost use Rattle.workload.specs.Summaries.{summary_with, plain_summary};
+ghost use Rattle.workload.specs.Summaries.{key_sum, value_sum, summary_with, plain_summary};
 ghost use Rattle.workload.specs.Counting.{counts_of, counts_after, HasRoom};
 
 use prcu_model::{Dict, NoMemory, Reply, Scripts, Told, ToldList, Update};
@@ -37,11 +36,11 @@ pub struct Summary {
 // How often each reply was told.
 #[derive(Clone, Copy, Default)]
 struct Counts {
-    new: u64,
-    old: u64,
-    val: u64,
-    none: u64,
-    gone: u64,
+    added: u64,
+    present: u64,
+    valued: u64,
+    absent: u64,
+    removed: u64,
 }
 
 impl Counts {
@@ -51,11 +50,11 @@ impl Counts {
         ensures { self.new ≡ counts_after self.old (reply ∷ []) }
     {
         match reply {
-            Reply::New => self.new += 1,
-            Reply::Old => self.old += 1,
-            Reply::Val { .. } => self.val += 1,
-            Reply::Absent => self.none += 1,
-            Reply::Gone => self.gone += 1,
+            Reply::New => self.added += 1,
+            Reply::Old => self.present += 1,
+            Reply::Val { .. } => self.valued += 1,
+            Reply::Absent => self.absent += 1,
+            Reply::Gone => self.removed += 1,
             Reply::Full | Reply::Was { .. } => {}
         }
     }
@@ -85,10 +84,10 @@ fn count_replies(told: &[ToldList]) -> Counts
 
 // The sum of the dictionary's keys, and that of its values.
 fn sums_of(dict: &Dict) -> (u64, u64)
-    requires keys { sum (map.keys dict.now) < 2 ^ 64 }
-    requires values { sum (map.values dict.now) < 2 ^ 64 }
-    ensures keys { result.0 ≡ sum (map.keys dict.now) }
-    ensures values { result.1 ≡ sum (map.values dict.now) }
+    requires keys { key_sum dict.now < 2 ^ 64 }
+    requires values { value_sum dict.now < 2 ^ 64 }
+    ensures keys { result.0 ≡ key_sum dict.now }
+    ensures values { result.1 ≡ value_sum dict.now }
 {
     let mut keys = 0;
     let mut values = 0;
@@ -114,17 +113,19 @@ pub fn summary_of(
     ensures counted { IfOk result (λ summary. summary ≡ summary_with scripts.now (entries_of told.now) (map_of history.now)) }
     ensures plain { IfOk result (λ summary. summary ≡ plain_summary scripts.now) }
 {
+    let script_count = u64::from(scripts.count());
+    let op_count = u64::from(scripts.ops());
     let counts = count_replies(told);
     let dict = Dict::replay(alloc, history)?;
     let (keys, values) = sums_of(&dict);
     Ok(Summary {
-        scripts: u64::from(scripts.count()),
-        ops: u64::from(scripts.ops()),
-        new: counts.new,
-        old: counts.old,
-        val: counts.val,
-        none: counts.none,
-        gone: counts.gone,
+        scripts: script_count,
+        ops: op_count,
+        new: counts.added,
+        old: counts.present,
+        val: counts.valued,
+        none: counts.absent,
+        gone: counts.removed,
         size: dict.len(),
         keys,
         values,
