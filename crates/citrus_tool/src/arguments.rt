@@ -52,13 +52,15 @@ impl Arguments {
         ensures none { FollowWith self (argument ∷ []) → IsSomeAnd result (λ _. ⊤) }
     {
         match argument {
-            Argument::Slots { number } => match self.slots {
-                Some(_) => None,
-                None => Some(Arguments {
+            Argument::Slots { number } => {
+                if self.slots.is_some() {
+                    return None;
+                }
+                Some(Arguments {
                     slots: Some(number),
                     numbers: self.numbers,
-                }),
-            },
+                })
+            }
             Argument::Number { number } => Some(Arguments {
                 slots: self.slots,
                 numbers: self.numbers.with(number)?,

@@ -1,0 +1,13 @@
+use Rattle.std.proofs.Common.{sym, subst}
+use Rattle.prcu_model.specs.Lists.{entries_of}
+use Rattle.prcu_model.specs.Fronts.{AreExplainable}
+use Rattle.prcu_model.specs.Scripts.{default_slots_of}
+use Rattle.citrus_tool.proofs.running.load.Goals as goal
+
+pub summary_of-requires-clause-explainable : goal.summary_of-requires-clause-explainable
+summary_of-requires-clause-explainable c =
+    let scripts = c.in_ok-made.made in
+    let slots = default_slots_of scripts in
+    subst (λ told. AreExplainable scripts (entries_of told) c.deref-2.result.now slots) (sym c.deref.ensures.value)
+    (subst (λ history. AreExplainable scripts (entries_of c.in_ok-ended.ended.told.items) history slots) (sym c.deref-2.ensures.value)
+    (c.in_ok-ended.ensures.explained slots tt))
