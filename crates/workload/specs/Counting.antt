@@ -1,5 +1,5 @@
 -- Counts of replies as they grow.
--- Source: src/summing.rt.
+-- Source: docs/FORMATS.md, "The made workload".
 use Rattle.std.specs.Prelude.{ℕ, ◌+◌, ◌^◌, ◌<◌, List, count_by}
 use Rattle.prcu_model.specs.declared.operation.Reply.{Reply}
 use Rattle.prcu_model.specs.declared.operation.Told.{Told}

@@ -11,6 +11,7 @@ use Rattle.prcu_model.specs.Plain.{plain_tolds, plain_history}
 use Rattle.prcu_model.specs.Scripts.{op_count}
 use Rattle.workload.specs.declared.summing.Summary.{Summary}
 
+-- the replies of each name that a summary counts
 abbrev pub is_new : Reply → Bool
 is_new New = true
 is_new _ = false
