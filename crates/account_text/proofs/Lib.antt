@@ -7,5 +7,4 @@ pub mod Accounts
 pub mod Checked
 pub mod FitAccounts
 pub mod LegalUpdates
-pub mod UpdatesAhead
 pub mod Explained

@@ -8,27 +8,26 @@ ghost use Rattle.prcu_model.specs.Fronts.{AreExplainable, CanBeNumbered, AreNumb
 ghost use Rattle.account_text.specs.Account.{IsAccount};
 ghost use Rattle.account_text.specs.Printing.{account_of};
 
-use crate::walk::Walk;
+use crate::timeline::Timeline;
 use prcu_model::{Line, LineList, NoMemory, Op, Scripts, Told, ToldList, Update};
 use std::alloc::Global;
 
-// The lines of one script, with their numbers, by a walk that stands before the first update.
+// The lines of one script, with their numbers.
 fn number_script(
     alloc: Global,
     script: &[Op],
     told: &[Told],
-    walk: &mut Walk,
+    timeline: &Timeline,
 ) -> Result<LineList, NoMemory>
     requires same_length { length told.now ≡ length script.now }
     requires fits { length script.now < 2 ^ 32 }
-    requires start { walk.old.front ≡ 0 }
-    requires can { CanBeNumbered walk.old.room walk.old.history (told_lines script.now told.now) }
-    ensures { IfOk result (λ list. AreNumbered walk.old.room walk.old.history 0 (told_lines script.now told.now) list.entries) }
+    requires can { CanBeNumbered timeline.now.room timeline.now.history (told_lines script.now told.now) }
+    ensures { IfOk result (λ list. AreNumbered timeline.now.room timeline.now.history 0 (told_lines script.now told.now) list.entries) }
 {
     let mut lines = LineList::new(alloc, script.len() as u32)?;
     let mut before = 0;
     for (op, answer) in script.iter().zip(told) {
-        let number = walk.number_for(before, *op, *answer)?;
+        let number = timeline.number_for(before, *op, *answer);
         lines.push(Line {
             op: *op,
             reply: answer.reply,
@@ -41,7 +40,7 @@ fn number_script(
 
 /// What each script was told, with the number that stands beside each line: at an update its position in the history,
 /// and else the least front that explains the reply and isn't below the number of the line before it. The scripts share
-/// so many slots. The time is that of the lines, and of one replay of the history for each script.
+/// so many slots. The history is replayed once, and the time of a line is that of a search among the updates of its key.
 pub fn fronts(
     alloc: Global,
     scripts: &Scripts,
@@ -57,12 +56,11 @@ pub fn fronts(
 {
     // No script has more operations than all of them together.
     prove!(scripts.ops() <= Scripts::MOST_OPS);
-    let count = scripts.count();
+    let timeline = Timeline::new(alloc, history, scripts.count(), slots)?;
     let mut lists = Vec::with_capacity(alloc, told.len())?;
     for (i, list) in told.iter().enumerate() {
         let script = scripts.script(i as u32);
-        let mut walk = Walk::new(alloc, history, count, slots);
-        lists.push(number_script(alloc, script, list.entries(), &mut walk)?)?;
+        lists.push(number_script(alloc, script, list.entries(), &timeline)?)?;
     }
     Ok(lists)
 }
