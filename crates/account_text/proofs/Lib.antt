@@ -8,3 +8,8 @@ pub mod Checked
 pub mod FitAccounts
 pub mod LegalUpdates
 pub mod Explained
+pub mod KeyChanges
+pub mod ChangeOrder
+pub mod Replays
+pub mod OwnUpdates
+pub mod Counts

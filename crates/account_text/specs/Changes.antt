@@ -5,7 +5,7 @@ use Rattle.std.specs.FinMap as map
 use Rattle.prcu_model.specs.declared.operation.Op.{Op}
 use Rattle.prcu_model.specs.declared.operation.Op.TheVariants.{Put, Get, Del, Set}
 use Rattle.prcu_model.specs.declared.operation.Reply.{Reply}
-use Rattle.prcu_model.specs.declared.operation.Reply.TheVariants.{New, Old, Full, Val, Absent, Gone, Was}
+use Rattle.prcu_model.specs.declared.operation.Reply.TheVariants.{Old, Full, Val, Absent}
 use Rattle.prcu_model.specs.declared.operation.Update.{Update}
 use Rattle.prcu_model.specs.Dictionary.{map_at}
 use Rattle.prcu_model.specs.Replies.{Room, Explains}
@@ -49,6 +49,10 @@ pub record IsChangeOf (history : List Update) (change : Change) : Type 0 where
   pub key : (none : Update) → change.key ≡ key_of (slice_index_or history (change.position - 1) none).op
   pub value : change.value ≡ map.get (map_at history change.position) change.key
 
+-- each of the first so many positions is that of a change
+abbrev pub AreAllChanged : List Change → ℕ → Type 0
+AreAllChanged changes count = (position : ℕ) → 0 < position → position ≤ count → IsTrue (list_any (λ change. change.position == position) changes)
+
 -- at a lower key, or at the key and no later than the front
 abbrev pub IsUpTo : ℕ → ℕ → Change → Type 0
 IsUpTo key front change = (change.key ≤ key) × (change.key ≡ key → change.position ≤ front)
@@ -79,7 +83,7 @@ pub record IsFirstShown (changes : List Change) (key : ℕ) (op : Op) (reply : R
 -- `sizes` has the number of pairs at each front, and `changes` the change of each update, in order.
 pub record IsIndexed (history : List Update) (sizes : List ℕ) (changes : List Change) : Type 0 where
   pub fronts : length sizes ≡ length history + 1
-  pub sizes : (front : ℕ) → front ≤ length history → slice_index sizes front ≡ map.len (map_at history front)
+  pub size : (front : ℕ) → front ≤ length history → slice_index sizes front ≡ map.len (map_at history front)
   pub right : All (IsChangeOf history) changes
-  pub whole : (position : ℕ) → 0 < position → position ≤ length history → IsTrue (list_any (λ change. change.position == position) changes)
+  pub whole : AreAllChanged changes (length history)
   pub ordered : IsOrdered changes

@@ -122,10 +122,36 @@ fn is_script_explained(
         && can_be_numbered(script, told, timeline)
 }
 
+/// What `is_explained` says, of the timeline's history and slots.
+pub fn are_explained_by(
+    alloc: Global,
+    scripts: &Scripts,
+    told: &[ToldList],
+    timeline: &Timeline,
+) -> Result<bool, NoMemory>
+    requires { timeline.now.room.scripts ≡ length scripts.now }
+    ensures { IfOk result (λ explained. IsTrue explained
+        ↔ AreExplainable scripts.now (entries_of told.now) timeline.now.history timeline.now.room.slots) }
+{
+    let history = timeline.history();
+    if !are_all_answered(scripts, told) || !are_callers_below(history, scripts.count()) {
+        return Ok(false);
+    }
+    let turns = Turns::new(alloc, history, scripts.count())?;
+    for (i, list) in told.iter().enumerate() {
+        let caller = i as u32;
+        let script = scripts.script(caller);
+        if !is_script_explained(caller, script, list.entries(), timeline, &turns) {
+            return Ok(false);
+        }
+    }
+    Ok(true)
+}
+
 /// Whether the history explains what the scripts were told, which share so many slots: each script has an answer for
 /// each operation; the updates that it was told of are those of the history, at their positions, and there are no
-/// others; each reply fits its update; and the other lines have fronts that don't fall. The history is replayed once, and
-/// the time of a line is that of a search among the updates of its key.
+/// others; each reply fits its update; and the other lines have fronts that don't fall. The history is replayed once,
+/// and the time of a line is that of a search among the updates of its key.
 pub fn is_explained(
     alloc: Global,
     scripts: &Scripts,
@@ -135,17 +161,6 @@ pub fn is_explained(
 ) -> Result<bool, NoMemory>
     ensures { IfOk result (λ explained. IsTrue explained ↔ AreExplainable scripts.now (entries_of told.now) history.now slots) }
 {
-    if !are_all_answered(scripts, told) || !are_callers_below(history, scripts.count()) {
-        return Ok(false);
-    }
     let timeline = Timeline::new(alloc, history, scripts.count(), slots)?;
-    let turns = Turns::new(alloc, history, scripts.count())?;
-    for (i, list) in told.iter().enumerate() {
-        let caller = i as u32;
-        let script = scripts.script(caller);
-        if !is_script_explained(caller, script, list.entries(), &timeline, &turns) {
-            return Ok(false);
-        }
-    }
-    Ok(true)
+    are_explained_by(alloc, scripts, told, &timeline)
 }

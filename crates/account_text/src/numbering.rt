@@ -38,6 +38,29 @@ fn number_script(
     Ok(lines)
 }
 
+/// What `fronts` gives, of the timeline's history and slots.
+pub fn number_scripts(
+    alloc: Global,
+    scripts: &Scripts,
+    told: &[ToldList],
+    timeline: &Timeline,
+) -> Result<Vec<LineList>, NoMemory>
+    requires scripts { timeline.now.room.scripts ≡ length scripts.now }
+    requires explained { AreExplainable scripts.now (entries_of told.now) timeline.now.history timeline.now.room.slots }
+    ensures { IfOk result (λ lists. AllAreNumbered timeline.now.room timeline.now.history
+        (all_told_lines scripts.now (entries_of told.now)) (entries_of lists.items)) }
+{
+    // No script has more operations than all of them together.
+    prove!(scripts.ops() <= Scripts::MOST_OPS);
+    prove!(scripts.count() <= Scripts::MOST_SCRIPTS);
+    let mut lists = Vec::with_capacity(alloc, told.len())?;
+    for (i, list) in told.iter().enumerate() {
+        let script = scripts.script(i as u32);
+        lists.push(number_script(alloc, script, list.entries(), timeline)?)?;
+    }
+    Ok(lists)
+}
+
 /// What each script was told, with the number that stands beside each line: at an update its position in the history,
 /// and else the least front that explains the reply and isn't below the number of the line before it. The scripts share
 /// so many slots. The history is replayed once, and the time of a line is that of a search among the updates of its key.
@@ -54,13 +77,6 @@ pub fn fronts(
     ensures account { IfOk result (λ lists. IsLegal history.now
         → IsAccount scripts.now slots (account_of (entries_of lists.items) history.now (map.entries (map_of history.now)))) }
 {
-    // No script has more operations than all of them together.
-    prove!(scripts.ops() <= Scripts::MOST_OPS);
     let timeline = Timeline::new(alloc, history, scripts.count(), slots)?;
-    let mut lists = Vec::with_capacity(alloc, told.len())?;
-    for (i, list) in told.iter().enumerate() {
-        let script = scripts.script(i as u32);
-        lists.push(number_script(alloc, script, list.entries(), &timeline)?)?;
-    }
-    Ok(lists)
+    number_scripts(alloc, scripts, told, &timeline)
 }

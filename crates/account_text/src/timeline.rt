@@ -1,11 +1,12 @@
 //! A history that is replayed once, and then answers for the dictionary at any front.
-ghost use Rattle.std.specs.Prelude.{◌≡◌, ℕ, ◌-◌, ◌<◌, ◌≤◌, ◌↔◌, IsTrue, IfOk, IfNone, IfSome, ◌++◌, length, slice_get, slice_index, All};
+ghost use Rattle.std.specs.Prelude.{◌≡◌, ℕ, ◌+◌, ◌-◌, ◌<◌, ◌≤◌, ◌↔◌, IsTrue, IfOk, IfNone, IfSome, ◌++◌, length, slice_get, slice_index, All};
 ghost use Rattle.std.specs.FinMap as map;
+ghost use Rattle.std.specs.List.Sorted.{IsPermutation};
 ghost use Rattle.prcu_model.specs.Dictionary.{map_at};
 ghost use Rattle.prcu_model.specs.Replies.{Confirms};
 ghost use Rattle.prcu_model.specs.Fronts.{MayStand, IsLeastFor};
 ghost use Rattle.account_text.specs.Lines.{line_of};
-ghost use Rattle.account_text.specs.Changes.{key_of, asks_for_room, IsShown, IsFilled, ExplainsFrom, IsUpTo, IsPast, IsOrdered, IsFirstShown, value_for};
+ghost use Rattle.account_text.specs.Changes.{key_of, asks_for_room, IsShown, IsFilled, ExplainsFrom, IsUpTo, IsPast, IsOrdered, IsFirstShown, IsChangeOf, AreAllChanged, value_for};
 
 use prcu_model::{NoMemory, Op, PlainMap, Reply, Told, Update};
 use std::alloc::Global;
@@ -109,6 +110,39 @@ fn first_filled(sizes: &[u64], scripts: u32, slots: u32) -> Option<u64>
     None
 }
 
+// The changes in the order of their keys, and for each key of their positions.
+fn in_order(mut changes: Vec<Change>) -> Vec<Change>
+    ensures same { IsPermutation changes.items result.items }
+    ensures ordered { IsOrdered result.items }
+{
+    changes.sort_unstable_by_key(|change| (change.key, change.position));
+    changes
+}
+
+// The dictionary's size at each front, and the change of each update.
+fn replay(alloc: Global, history: &[Update]) -> Result<(Vec<u64>, Vec<Change>), NoMemory>
+    ensures fronts { IfOk result (λ both. length both.0.items ≡ length history.now + 1) }
+    ensures sizes { IfOk result (λ both. (front : ℕ) → front ≤ length history.now → slice_index both.0.items front ≡ map.len (map_at history.now front)) }
+    ensures right { IfOk result (λ both. All (IsChangeOf history.now) both.1.items) }
+    ensures whole { IfOk result (λ both. AreAllChanged both.1.items (length history.now)) }
+{
+    let mut map = PlainMap::new(alloc);
+    let mut sizes = Vec::with_capacity(alloc, history.len() + 1)?;
+    let mut changes = Vec::with_capacity(alloc, history.len())?;
+    sizes.push(map.len())?;
+    for (i, update) in history.iter().enumerate() {
+        map.update(update.op)?;
+        sizes.push(map.len())?;
+        let key = key_of(update.op);
+        changes.push(Change {
+            key,
+            position: i as u64 + 1,
+            value: map.get(key),
+        })?;
+    }
+    Ok((sizes, changes))
+}
+
 // A history with the dictionary's size at each front and the changes of each key. So many scripts share so many slots.
 #[derive(Drop)]
 pub struct Timeline<'a> {
@@ -148,28 +182,21 @@ impl<'a> Timeline<'a> {
           history = history.now;
         }) }
     {
-        let mut map = PlainMap::new(alloc);
-        let mut sizes = Vec::with_capacity(alloc, history.len() + 1)?;
-        let mut changes = Vec::with_capacity(alloc, history.len())?;
-        sizes.push(map.len())?;
-        for (i, update) in history.iter().enumerate() {
-            map.update(update.op)?;
-            sizes.push(map.len())?;
-            let key = key_of(update.op);
-            changes.push(Change {
-                key,
-                position: i as u64 + 1,
-                value: map.get(key),
-            })?;
-        }
-        changes.sort_unstable_by_key(|change| (change.key, change.position));
+        let (sizes, changes) = replay(alloc, history)?;
         Ok(Timeline {
             history,
             scripts,
             slots,
             sizes,
-            changes,
+            changes: in_order(changes),
         })
+    }
+
+    /// The history.
+    pub fn history(&self) -> &[Update]
+        ensures { result.now ≡ self.now.history }
+    {
+        self.history
     }
 
     // The value of the key at the front.

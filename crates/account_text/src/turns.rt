@@ -66,7 +66,6 @@ impl<'a> Turns<'a> {
             return false;
         }
         let i = (position - 1) as usize;
-        let update = self.history[i];
-        update.caller == caller && update.op == op && self.turns[i] == turn
+        self.history[i] == Update { caller, op } && self.turns[i] == turn
     }
 }
