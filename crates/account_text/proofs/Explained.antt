@@ -128,3 +128,12 @@ module _ (scripts : List (List Op)) (tolds : List (List Told)) (history : List U
 
   pub below_from_explainable : AreExplainable scripts tolds history slots → AreBelow (length scripts) history
   below_from_explainable able = subst (λ n. AreBelow n history) (count_lines scripts tolds able.lengths) (below_from_explained room history (all_told_lines scripts tolds) able.explained)
+
+-- a room of so many scripts
+pub room_of : (shared : Room) (count : ℕ) → shared.scripts ≡ count → record { scripts = count; slots = shared.slots } ≡ shared
+room_of shared count is = λ i. record { scripts = sym is i; slots = shared.slots }
+
+-- the same where the scripts' number is that of a room
+pub AreExplainable-by_room : (scripts : List (List Op)) (tolds : List (List Told)) (history : List Update) (shared : Room) → shared.scripts ≡ length scripts → map length tolds ≡ map length scripts → AreBelow (length scripts) history → AreAllExplained shared history 0 (all_told_lines scripts tolds) ↔ AreExplainable scripts tolds history shared.slots
+AreExplainable-by_room scripts tolds history shared is same below =
+    subst (λ r. AreAllExplained r history 0 (all_told_lines scripts tolds) ↔ AreExplainable scripts tolds history shared.slots) (room_of shared (length scripts) is) (AreExplainable-one_by_one scripts tolds history shared.slots same below)

@@ -7,5 +7,9 @@ pub mod Accounts
 pub mod Checked
 pub mod FitAccounts
 pub mod LegalUpdates
-pub mod UpdatesAhead
 pub mod Explained
+pub mod KeyChanges
+pub mod ChangeOrder
+pub mod Replays
+pub mod OwnUpdates
+pub mod Counts

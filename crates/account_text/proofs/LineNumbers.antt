@@ -9,7 +9,7 @@ use Rattle.prcu_model.specs.declared.operation.Update.{Update}
 use Rattle.prcu_model.specs.Dictionary.{map_at}
 use Rattle.prcu_model.specs.Replies.{Room, Explains, tells_update}
 use Rattle.prcu_model.specs.Fronts.{told_lines, MayStand, MayStandBeside, IsLeastFor, AreNumbered}
-use Rattle.account_text.specs.Walks.{line_of}
+use Rattle.account_text.specs.Lines.{line_of}
 
 -- the lines that are left, from the next on
 pub told_lines-drop : (ops : List Op) (tolds : List Told) (i : ℕ) (op : Op) (told : Told) → i < length ops → i < length tolds → told_lines (drop i ops) (drop i tolds) ≡ line_of (get_or ops i op) (get_or tolds i told) ∷ told_lines (drop (i + 1) ops) (drop (i + 1) tolds)

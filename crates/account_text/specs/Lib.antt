@@ -3,5 +3,8 @@ pub mod Account
 pub mod Reading
 pub mod Checking
 pub mod AccountLines
-pub mod Walks
+pub mod Lines
+pub mod Course
+pub mod Turns
+pub mod Changes
 pub mod Judging

@@ -4,10 +4,11 @@ ghost use Rattle.prcu_model.specs.Lists.{entries_of};
 ghost use Rattle.account_text.specs.Account.{IsAccount};
 ghost use Rattle.account_text.specs.Checking.{IsPrinted};
 
-use crate::judging::{is_explained, is_legal};
-use crate::numbering::fronts;
+use crate::judging::{are_explained_by, is_legal};
+use crate::numbering::number_scripts;
 use crate::printing::write_account;
 use crate::reading::read_account;
+use crate::timeline::Timeline;
 use prcu_model::{NoMemory, Scripts, ToldList, Update};
 use std::alloc::Global;
 
@@ -34,10 +35,14 @@ fn prints(
 ) -> Result<bool, NoMemory>
     ensures { IfOk result (λ yes. IsTrue yes ↔ IsPrinted scripts.now slots (entries_of told.now) history.now text.now) }
 {
-    if !is_legal(alloc, history)? || !is_explained(alloc, scripts, told, history, slots)? {
+    if !is_legal(alloc, history)? {
         return Ok(false);
     }
-    let lines = fronts(alloc, scripts, told, history, slots)?;
+    let timeline = Timeline::new(alloc, history, scripts.count(), slots)?;
+    if !are_explained_by(alloc, scripts, told, &timeline)? {
+        return Ok(false);
+    }
+    let lines = number_scripts(alloc, scripts, told, &timeline)?;
     let printed = write_account(alloc, &lines, history)?;
     Ok(printed.as_slice() == text)
 }

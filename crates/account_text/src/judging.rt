@@ -4,9 +4,10 @@ ghost use Rattle.prcu_model.specs.History.{IsLegal, IsUpdateAt};
 ghost use Rattle.prcu_model.specs.Lists.{entries_of};
 ghost use Rattle.prcu_model.specs.Fronts.{AreExplainable, CanBeNumbered, told_lines};
 ghost use Rattle.account_text.specs.Judging.{IsScriptExplained};
-ghost use Rattle.account_text.specs.Walks.{AreToldAhead};
+ghost use Rattle.account_text.specs.Lines.{line_of, IsTold, AreToldFrom};
 
-use crate::walk::Walk;
+use crate::timeline::Timeline;
+use crate::turns::Turns;
 use prcu_model::{NoMemory, Op, PlainMap, Scripts, Told, ToldList, Update};
 use std::alloc::Global;
 
@@ -58,64 +59,99 @@ fn are_callers_below(history: &[Update], count: u32) -> bool
     history.iter().all(|update| update.caller < count)
 }
 
-// Whether the caller's updates are those that the lines tell of, by a walk along them, and each reply fits its update.
+// Whether the line tells of the caller's update after so many others of its own, and the reply fits it.
+fn is_told(caller: u32, turn: u64, op: Op, told: Told, timeline: &Timeline, turns: &Turns) -> bool
+    requires { turns.now.history ≡ timeline.now.history }
+    ensures { IsTrue result ↔ IsTold timeline.now.history caller turn (line_of op told) }
+{
+    turns.is_update(caller, turn, told.number, op)
+        && timeline.confirms(told.number - 1, op, told.reply)
+}
+
+// Whether the caller's updates are those that the lines tell of, and each reply fits its update.
 fn are_updates_told(
     caller: u32,
     script: &[Op],
     told: &[Told],
-    walk: &mut Walk,
-) -> Result<bool, NoMemory>
-    ensures { IfOk result (λ told_all. IsTrue told_all ↔ AreToldAhead walk.old caller (told_lines script.now told.now)) }
+    timeline: &Timeline,
+    turns: &Turns,
+) -> bool
+    requires history { turns.now.history ≡ timeline.now.history }
+    requires caller { caller < turns.now.callers }
+    ensures { IsTrue result ↔ AreToldFrom timeline.now.history caller 0 (told_lines script.now told.now) }
 {
+    let mut passed = 0;
     for (op, answer) in script.iter().zip(told) {
-        if !walk.pass_line(caller, *op, *answer)? {
-            return Ok(false);
+        if answer.reply.tells_update() {
+            if !is_told(caller, passed, *op, *answer, timeline, turns) {
+                return false;
+            }
+            passed += 1;
         }
     }
-    Ok(walk.advance_to_update_of(caller)?.is_none())
+    passed == turns.count_of(caller)
 }
 
-// Whether numbers may stand beside the lines, by a walk that stands before the first update.
-fn can_be_numbered(script: &[Op], told: &[Told], walk: &mut Walk) -> Result<bool, NoMemory>
-    requires { walk.old.front ≡ 0 }
-    ensures { IfOk result (λ can. IsTrue can ↔ CanBeNumbered walk.old.room walk.old.history (told_lines script.now told.now)) }
+// Whether numbers may stand beside the lines.
+fn can_be_numbered(script: &[Op], told: &[Told], timeline: &Timeline) -> bool
+    ensures { IsTrue result ↔ CanBeNumbered timeline.now.room timeline.now.history (told_lines script.now told.now) }
 {
     let mut before = 0;
     for (op, answer) in script.iter().zip(told) {
-        let Some(number) = walk.try_number_for(before, *op, *answer)? else {
-            return Ok(false);
+        let Some(number) = timeline.try_number_for(before, *op, *answer) else {
+            return false;
         };
         before = number;
     }
-    Ok(true)
+    true
 }
 
 // Whether the history explains what this caller was told: its updates, the replies to them, and the other lines.
 fn is_script_explained(
+    caller: u32,
+    script: &[Op],
+    told: &[Told],
+    timeline: &Timeline,
+    turns: &Turns,
+) -> bool
+    requires history { turns.now.history ≡ timeline.now.history }
+    requires caller { caller < turns.now.callers }
+    ensures { IsTrue result ↔ IsScriptExplained timeline.now.room timeline.now.history caller (told_lines script.now told.now) }
+{
+    are_updates_told(caller, script, told, timeline, turns)
+        && can_be_numbered(script, told, timeline)
+}
+
+/// What `is_explained` says, of the timeline's history and slots.
+pub fn are_explained_by(
     alloc: Global,
     scripts: &Scripts,
-    caller: u32,
-    told: &[Told],
-    history: &[Update],
-    slots: u32,
+    told: &[ToldList],
+    timeline: &Timeline,
 ) -> Result<bool, NoMemory>
-    requires { caller < length scripts.now }
-    ensures { IfOk result (λ explained. IsTrue explained ↔ IsScriptExplained (record { scripts = length scripts.now; slots = slots })
-        history.now caller (told_lines (slice_index_or scripts.now caller []) told.now)) }
+    requires { timeline.now.room.scripts ≡ length scripts.now }
+    ensures { IfOk result (λ explained. IsTrue explained
+        ↔ AreExplainable scripts.now (entries_of told.now) timeline.now.history timeline.now.room.slots) }
 {
-    let script = scripts.script(caller);
-    let mut walk = Walk::new(alloc, history, scripts.count(), slots);
-    if !are_updates_told(caller, script, told, &mut walk)? {
+    let history = timeline.history();
+    if !are_all_answered(scripts, told) || !are_callers_below(history, scripts.count()) {
         return Ok(false);
     }
-    let mut again = Walk::new(alloc, history, scripts.count(), slots);
-    can_be_numbered(script, told, &mut again)
+    let turns = Turns::new(alloc, history, scripts.count())?;
+    for (i, list) in told.iter().enumerate() {
+        let caller = i as u32;
+        let script = scripts.script(caller);
+        if !is_script_explained(caller, script, list.entries(), timeline, &turns) {
+            return Ok(false);
+        }
+    }
+    Ok(true)
 }
 
 /// Whether the history explains what the scripts were told, which share so many slots: each script has an answer for
 /// each operation; the updates that it was told of are those of the history, at their positions, and there are no
-/// others; each reply fits its update; and the other lines have fronts that don't fall. The time is that of the lines,
-/// and of two replays of the history for each script.
+/// others; each reply fits its update; and the other lines have fronts that don't fall. The history is replayed once,
+/// and the time of a line is that of a search among the updates of its key.
 pub fn is_explained(
     alloc: Global,
     scripts: &Scripts,
@@ -125,13 +161,6 @@ pub fn is_explained(
 ) -> Result<bool, NoMemory>
     ensures { IfOk result (λ explained. IsTrue explained ↔ AreExplainable scripts.now (entries_of told.now) history.now slots) }
 {
-    if !are_all_answered(scripts, told) || !are_callers_below(history, scripts.count()) {
-        return Ok(false);
-    }
-    for (i, list) in told.iter().enumerate() {
-        if !is_script_explained(alloc, scripts, i as u32, list.entries(), history, slots)? {
-            return Ok(false);
-        }
-    }
-    Ok(true)
+    let timeline = Timeline::new(alloc, history, scripts.count(), slots)?;
+    are_explained_by(alloc, scripts, told, &timeline)
 }

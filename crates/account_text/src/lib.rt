@@ -7,7 +7,8 @@ mod judging;
 mod numbering;
 mod printing;
 mod reading;
-mod walk;
+mod timeline;
+mod turns;
 
 pub use checking::check;
 pub use judging::{is_explained, is_legal};

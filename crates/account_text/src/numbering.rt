@@ -8,27 +8,26 @@ ghost use Rattle.prcu_model.specs.Fronts.{AreExplainable, CanBeNumbered, AreNumb
 ghost use Rattle.account_text.specs.Account.{IsAccount};
 ghost use Rattle.account_text.specs.Printing.{account_of};
 
-use crate::walk::Walk;
+use crate::timeline::Timeline;
 use prcu_model::{Line, LineList, NoMemory, Op, Scripts, Told, ToldList, Update};
 use std::alloc::Global;
 
-// The lines of one script, with their numbers, by a walk that stands before the first update.
+// The lines of one script, with their numbers.
 fn number_script(
     alloc: Global,
     script: &[Op],
     told: &[Told],
-    walk: &mut Walk,
+    timeline: &Timeline,
 ) -> Result<LineList, NoMemory>
     requires same_length { length told.now ≡ length script.now }
     requires fits { length script.now < 2 ^ 32 }
-    requires start { walk.old.front ≡ 0 }
-    requires can { CanBeNumbered walk.old.room walk.old.history (told_lines script.now told.now) }
-    ensures { IfOk result (λ list. AreNumbered walk.old.room walk.old.history 0 (told_lines script.now told.now) list.entries) }
+    requires can { CanBeNumbered timeline.now.room timeline.now.history (told_lines script.now told.now) }
+    ensures { IfOk result (λ list. AreNumbered timeline.now.room timeline.now.history 0 (told_lines script.now told.now) list.entries) }
 {
     let mut lines = LineList::new(alloc, script.len() as u32)?;
     let mut before = 0;
     for (op, answer) in script.iter().zip(told) {
-        let number = walk.number_for(before, *op, *answer)?;
+        let number = timeline.number_for(before, *op, *answer);
         lines.push(Line {
             op: *op,
             reply: answer.reply,
@@ -39,9 +38,32 @@ fn number_script(
     Ok(lines)
 }
 
+/// What `fronts` gives, of the timeline's history and slots.
+pub fn number_scripts(
+    alloc: Global,
+    scripts: &Scripts,
+    told: &[ToldList],
+    timeline: &Timeline,
+) -> Result<Vec<LineList>, NoMemory>
+    requires scripts { timeline.now.room.scripts ≡ length scripts.now }
+    requires explained { AreExplainable scripts.now (entries_of told.now) timeline.now.history timeline.now.room.slots }
+    ensures { IfOk result (λ lists. AllAreNumbered timeline.now.room timeline.now.history
+        (all_told_lines scripts.now (entries_of told.now)) (entries_of lists.items)) }
+{
+    // No script has more operations than all of them together.
+    prove!(scripts.ops() <= Scripts::MOST_OPS);
+    prove!(scripts.count() <= Scripts::MOST_SCRIPTS);
+    let mut lists = Vec::with_capacity(alloc, told.len())?;
+    for (i, list) in told.iter().enumerate() {
+        let script = scripts.script(i as u32);
+        lists.push(number_script(alloc, script, list.entries(), timeline)?)?;
+    }
+    Ok(lists)
+}
+
 /// What each script was told, with the number that stands beside each line: at an update its position in the history,
 /// and else the least front that explains the reply and isn't below the number of the line before it. The scripts share
-/// so many slots. The time is that of the lines, and of one replay of the history for each script.
+/// so many slots. The history is replayed once, and the time of a line is that of a search among the updates of its key.
 pub fn fronts(
     alloc: Global,
     scripts: &Scripts,
@@ -55,14 +77,6 @@ pub fn fronts(
     ensures account { IfOk result (λ lists. IsLegal history.now
         → IsAccount scripts.now slots (account_of (entries_of lists.items) history.now (map.entries (map_of history.now)))) }
 {
-    // No script has more operations than all of them together.
-    prove!(scripts.ops() <= Scripts::MOST_OPS);
-    let count = scripts.count();
-    let mut lists = Vec::with_capacity(alloc, told.len())?;
-    for (i, list) in told.iter().enumerate() {
-        let script = scripts.script(i as u32);
-        let mut walk = Walk::new(alloc, history, count, slots);
-        lists.push(number_script(alloc, script, list.entries(), &mut walk)?)?;
-    }
-    Ok(lists)
+    let timeline = Timeline::new(alloc, history, scripts.count(), slots)?;
+    number_scripts(alloc, scripts, told, &timeline)
 }

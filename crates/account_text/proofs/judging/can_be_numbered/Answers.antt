@@ -3,7 +3,7 @@ use Rattle.std.proofs.lemmas.Bool.{false≢true}
 use Rattle.std.proofs.lemmas.List.{length_push}
 use Rattle.std.proofs.lemmas.Slice.Zip.{zip_turn, zip_end}
 use Rattle.prcu_model.specs.Fronts.{told_lines, IsLeastFor}
-use Rattle.account_text.specs.Walks.{line_of}
+use Rattle.account_text.specs.Lines.{line_of}
 use Rattle.account_text.proofs.LineNumbers.{told_lines-turn, told_lines-past, Can-first, Can-rest, Can-more}
 use Rattle.account_text.proofs.judging.can_be_numbered.Goals as goal
 use Rattle.account_text.proofs.judging.can_be_numbered.Goals.{In-Some}
@@ -15,34 +15,28 @@ next_line c =
 
 pub loop-op-preserved : goal.loop-op-preserved
 loop-op-preserved c =
-    let walk = c.args.walk.now in
-    let inv = c.loop-op.invariant in
+    let course = c.args.timeline.now in
     let n = length c.loop-op.yielded in
     let left = told_lines (drop (n + 1) c.args.script.now) (drop (n + 1) c.args.told.now) in
     let here = next_line (goal.at.loop-op-preserved c).In-Some in
     let told = line_of c.in-Some.op.now c.in-Some.answer.now in
-    let number = c.in-Some-2.number in
-    let least : IsLeastFor walk.room walk.history c.loop-op.before told number = rw inv.same at (rw c.in-Some-2.is at c.in_ok-number.ensures.least) in
-    let same = rw here at inv.can in
+    let number = c.in-Some-try_number_for.number in
+    let least : IsLeastFor course.room course.history c.loop-op.before told number = c.in-Some-try_number_for.ensures.least in
+    let same = rw here at c.loop-op.invariant in
     let more : length (c.loop-op.yielded ++ (c.in-Some.op, c.in-Some.answer) ∷ []) ≡ n + 1 = length_push c.loop-op.yielded (c.in-Some.op, c.in-Some.answer) in
-    rw more (record {
-      same = rw inv.same at c.in_ok-number.ensures.walk;
-      behind = rw c.in-Some-2.is at c.in_ok-number.ensures.behind;
-      can = (λ h. same.0 (Can-more walk.room walk.history c.loop-op.before told left number least.0 h), λ h. Can-rest walk.room walk.history c.loop-op.before told left number least (same.1 h));
-    })
+    rw more (λ h. same.0 (Can-more course.room course.history c.loop-op.before told left number least.0 h), λ h. Can-rest course.room course.history c.loop-op.before told left number least (same.1 h))
 
 pub returns-in_default : goal.returns-in_default
 returns-in_default c =
-    let walk = c.args.walk.now in
-    let inv = c.loop-op.invariant in
+    let course = c.args.timeline.now in
     let here = next_line (goal.at.returns-in_default c).In-Some in
-    let none = rw inv.same at (rw c.in_default.is at c.in_ok-number.ensures.none) in
-    let same = rw here at inv.can in
-    (λ e. absurd (false≢true e), λ h. let some = Can-first walk.room walk.history c.loop-op.before _ _ (same.1 h) in absurd (none some.0 some.1))
+    let none = rw c.in_default.is at c.try_number_for.ensures.none in
+    let same = rw here at c.loop-op.invariant in
+    (λ e. absurd (false≢true e), λ h. let some = Can-first course.room course.history c.loop-op.before _ _ (same.1 h) in absurd (none some.0 some.1))
 
 pub returns : goal.returns
 returns c =
     let turns = zip_end c.args.script.now c.args.told.now c.loop-op.yielded c.into_iter-op-iterator.result c.loop-op.op-iterator c.next.new.self c.next.result (cc) (cc) c.loop-op.yielded_by c.in-None.is c.next.ensures.steps in
     let none = told_lines-past c.args.script.now c.args.told.now (length c.loop-op.yielded) turns in
-    let same = rw none at c.loop-op.invariant.can in
+    let same = rw none at c.loop-op.invariant in
     (λ _. same.0 ([], tt), λ _. refl)

@@ -1,4 +1,4 @@
-use Rattle.std.proofs.Common.{◌≡◌, ◌+◌, ◌≤◌, List, ◌++◌, length, drop}
+use Rattle.std.proofs.Common.{◌+◌, ◌≤◌, List, ◌++◌, length, drop}
 use Rattle.prcu_model.specs.declared.operation.Line.{Line}
 use Rattle.prcu_model.specs.Fronts.{AreNumbered, told_lines}
 use Rattle.account_text.proofs.LineNumbers.{Can}
@@ -7,12 +7,10 @@ use Rattle.account_text.proofs.numbering.number_script.Given as goal
 -- the numbers so far are the least, and numbers may stand beside the lines that are left
 abbrev pub invariant-loop-op : goal.invariant-loop-op
 invariant-loop-op l =
-    let walk = l.initial.walk in
+    let course = l.timeline in
     let left = told_lines (drop (length l.yielded) l.script) (drop (length l.yielded) l.told) in
     record {
-      same : l.walk ≡ record walk { front = l.walk.front };
-      behind : l.walk.front ≤ l.before;
       room : length l.script ≤ l.lines.spare + length l.yielded;
-      can : Can walk.room walk.history l.before left;
-      numbered : (rest : List Line) → AreNumbered walk.room walk.history l.before left rest → AreNumbered walk.room walk.history 0 (told_lines l.script l.told) (l.lines.entries ++ rest);
+      can : Can course.room course.history l.before left;
+      numbered : (rest : List Line) → AreNumbered course.room course.history l.before left rest → AreNumbered course.room course.history 0 (told_lines l.script l.told) (l.lines.entries ++ rest);
     }

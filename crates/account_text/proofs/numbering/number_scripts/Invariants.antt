@@ -1,19 +1,18 @@
-use Rattle.std.proofs.Common.{◌++◌, List, length}
+use Rattle.std.proofs.Common.{◌++◌, List}
 use Rattle.std.specs.List.{AllByRecursion}
 use Rattle.prcu_model.specs.declared.operation.Line.{Line}
 use Rattle.prcu_model.specs.Lists.{entries_of}
-use Rattle.prcu_model.specs.Replies.{Room}
 use Rattle.prcu_model.specs.Fronts.{CanBeNumbered, AllAreNumbered, all_told_lines}
 use Rattle.account_text.proofs.ScriptNumbers.{lines_left, SameLengths}
-use Rattle.account_text.proofs.numbering.fronts.Given as goal
+use Rattle.account_text.proofs.numbering.number_scripts.Given as goal
 
 -- the scripts so far have their numbers, and the others can be numbered
 abbrev pub invariant-loop-i : goal.invariant-loop-i
 invariant-loop-i l =
-    let room : Room = record { scripts = length l.scripts; slots = l.slots } in
+    let course = l.timeline in
     let left = lines_left l.scripts l.told l.i in
     record {
       lengths : SameLengths l.scripts l.told l.i;
-      can : AllByRecursion (CanBeNumbered room l.history) left;
-      numbered : (rest : List (List Line)) → AllAreNumbered room l.history left rest → AllAreNumbered room l.history (all_told_lines l.scripts (entries_of l.told)) (entries_of l.lists.items ++ rest);
+      can : AllByRecursion (CanBeNumbered course.room course.history) left;
+      numbered : (rest : List (List Line)) → AllAreNumbered course.room course.history left rest → AllAreNumbered course.room course.history (all_told_lines l.scripts (entries_of l.told)) (entries_of l.lists.items ++ rest);
     }

@@ -1,0 +1,275 @@
+-- What the changes of a key say of its value at each front.
+use Rattle.std.proofs.Common.{◌≡◌, ◌≢◌, ℕ, zero, suc, ◌+◌, ◌-◌, ◌<◌, ◌≤◌, ◌==◌, ◌⊎◌, inl, inr, true, false, cond, Some, None, List, ◌++◌, length, length-append, get_or, refl, sym, ap, subst, ◌∙◌, arith}
+use Rattle.std.specs.FinMap as map
+use Rattle.std.specs.List.{All, slice_get}
+use Rattle.std.specs.Ordering.{nat_cmp, eq_by_cmp}
+use Rattle.std.specs.Cmp.{nat_cmp_total}
+use Rattle.std.proofs.lemmas.Bool.{cases_lt, cases_eq}
+use Rattle.std.proofs.lemmas.Bool.Decides.{nat_tests}
+use Rattle.std.proofs.lemmas.List.{get_or_append_left, get_or-append-add, get_or_default}
+use Rattle.std.proofs.lemmas.List.Folds.{Any-from_list_any}
+use Rattle.std.proofs.lemmas.Option.{slice_get-get_or, slice_get_past}
+use Rattle.prcu_model.specs.declared.operation.Op.{Op}
+use Rattle.prcu_model.specs.declared.operation.Op.TheVariants.{Put, Get, Del, Set}
+use Rattle.prcu_model.specs.declared.operation.Reply.{Reply}
+use Rattle.prcu_model.specs.declared.operation.Update.{Update}
+use Rattle.prcu_model.specs.Dictionary.{Dictionary, updated, map_at}
+use Rattle.prcu_model.proofs.Fronts.{map_at-next}
+use Rattle.account_text.specs.declared.timeline.Change.{Change}
+use Rattle.account_text.specs.Changes.{key_of, IsShown, IsChangeOf, AreAllChanged, IsUpTo, IsPast, IsOrdered, IsFirstShown, IsIndexed, value_for}
+
+get-insert_other : (m : Dictionary) (k v key : ℕ) → k ≢ key → map.get (map.insert m k v) key ≡ map.get m key
+get-insert_other m k v key other =
+    let apart : eq_by_cmp nat_cmp key k ≡ false = grind (arith, nat_tests) in
+    map.get-insert nat_cmp_total m k v key ∙ ap (λ b. cond b (Some v) (map.get m key)) apart
+
+get-remove_other : (m : Dictionary) (k key : ℕ) → k ≢ key → map.get (map.remove m k) key ≡ map.get m key
+get-remove_other m k key other =
+    let apart : eq_by_cmp nat_cmp key k ≡ false = grind (arith, nat_tests) in
+    map.get-remove nat_cmp_total m k key ∙ ap (λ b. cond b None (map.get m key)) apart
+
+-- an update of another key leaves a key's value
+get-updated_other : (m : Dictionary) (op : Op) (key : ℕ) → key_of op ≢ key → map.get (updated m op) key ≡ map.get m key
+get-updated_other m (Put k v) key other =
+    elim (map.contains_key m k) as (λ b. map.get (cond b m (map.insert m k v)) key ≡ map.get m key) [ true ↦ refl | false ↦ get-insert_other m k v key other ]
+get-updated_other m (Get k) key other = refl
+get-updated_other m (Del k) key other = get-remove_other m k key other
+get-updated_other m (Set k v) key other =
+    elim (map.contains_key m k) as (λ b. map.get (cond b (map.insert m k v) m) key ≡ map.get m key) [ true ↦ get-insert_other m k v key other | false ↦ refl ]
+
+abbrev pub nothing : Change
+nothing = record { key = 0; position = 0; value = None }
+
+abbrev no_update : Update
+no_update = record { caller = 0; op = Put 0 0 }
+
+module _ (history : List Update) (changes : List Change) (right : All (IsChangeOf history) changes) (whole : AreAllChanged changes (length history)) (key : ℕ) where
+  -- a change of the key, later than one front and no later than another, that has left the value at this one
+  pub record IsLast (low high : ℕ) : Type 0 where
+    pub place : ℕ
+    pub within : place < length changes
+    pub key_is : (get_or changes place nothing).key ≡ key
+    pub after : low < (get_or changes place nothing).position
+    pub until : (get_or changes place nothing).position ≤ high
+    pub value : (get_or changes place nothing).value ≡ map.get (map_at history high) key
+
+  -- the update at a front is at the key
+  last_here : (low front : ℕ) → low ≤ front → front < length history → key_of (get_or history front no_update).op ≡ key → IsLast low (front + 1)
+  last_here low front le below own =
+      let some = Any-from_list_any (λ change. change.position == front + 1) changes (whole (front + 1) (omega arith) (omega arith)) in
+      let place = some.0 in
+      let there : get_or changes place nothing ≡ some.1 = get_or_default changes place nothing some.1 some.2 ∙ some.3 in
+      let at : (get_or changes place nothing).position ≡ front + 1 = ap (λ c. c.position) there ∙ grind (arith, nat_tests, some.4) in
+      let is = right place nothing some.2 in
+      let before : (get_or changes place nothing).position - 1 ≡ front = omega arith in
+      let same : (get_or changes place nothing).key ≡ key = is.key no_update ∙ ap (λ i. key_of (get_or history i no_update).op) before ∙ own in
+      record {
+        place = place;
+        within = some.2;
+        key_is = same;
+        after = omega arith;
+        until = omega arith;
+        value = is.value ∙ (λ i. map.get (map_at history (at i)) (same i));
+      }
+
+  -- Between two fronts a key's value stays, or there is a last change.
+  pub last_change : (low n : ℕ) → low + n ≤ length history → (map.get (map_at history (low + n)) key ≡ map.get (map_at history low) key) ⊎ IsLast low (low + n)
+  last_change low zero fits = let e : low + 0 ≡ low = omega arith in inl (ap (λ f. map.get (map_at history f) key) e)
+  last_change low (suc n) fits =
+      let next : low + suc n ≡ low + n + 1 = omega arith in
+      let below : low + n < length history = omega arith in
+      let op = (get_or history (low + n) no_update).op in
+      subst (λ f. (map.get (map_at history f) key ≡ map.get (map_at history low) key) ⊎ IsLast low f) (sym next)
+      (elim (cases_eq (key_of op) key) [
+        | inl own ↦ inr (last_here low (low + n) (omega arith) below own)
+        | inr other ↦
+            let step : map.get (map_at history (low + n + 1)) key ≡ map.get (map_at history (low + n)) key = ap (λ m. map.get m key) (map_at-next history (low + n) no_update below) ∙ get-updated_other (map_at history (low + n)) op key other in
+            elim (last_change low n (omega arith)) [
+              | inl same ↦ inl (step ∙ same)
+              | inr c ↦ inr (record { place = c.place; within = c.within; key_is = c.key_is; after = c.after; until = omega (arith, c.until); value = c.value ∙ sym step })
+            ]
+      ])
+
+  pub last_between : (low high : ℕ) → low ≤ high → high ≤ length history → (map.get (map_at history high) key ≡ map.get (map_at history low) key) ⊎ IsLast low high
+  last_between low high le fits =
+      let n : low + (high - low) ≡ high = omega arith in
+      subst (λ f. (map.get (map_at history f) key ≡ map.get (map_at history low) key) ⊎ IsLast low f) n (last_change low (high - low) (omega arith))
+
+-- The changes of a history, those of the key up to the front and the others.
+pub record AreSplit (history : List Update) (until later : List Change) (key front : ℕ) : Type 0 where
+  pub right : All (IsChangeOf history) (until ++ later)
+  pub whole : AreAllChanged (until ++ later) (length history)
+  pub ordered : IsOrdered (until ++ later)
+  pub low : All (IsUpTo key front) until
+  pub high : All (IsPast key front) later
+  pub fits : front ≤ length history
+
+pub are_split : (history : List Update) (sizes : List ℕ) (changes until later : List Change) (key front : ℕ) → IsIndexed history sizes changes → changes ≡ until ++ later → All (IsUpTo key front) until → All (IsPast key front) later → front ≤ length history → AreSplit history until later key front
+are_split history sizes changes until later key front indexed parts low high fits = record {
+  right = subst (All (IsChangeOf history)) parts indexed.right;
+  whole = subst (λ cs. AreAllChanged cs (length history)) parts indexed.whole;
+  ordered = subst IsOrdered parts indexed.ordered;
+  low = low;
+  high = high;
+  fits = fits;
+}
+
+pub IsOrdered-later : (until later : List Change) → IsOrdered (until ++ later) → IsOrdered later
+IsOrdered-later until later ordered i j none le within =
+    let rising = ordered (length until + i) (length until + j) none (omega arith) (omega (arith, length-append until later)) in
+    subst (λ c. IsUpTo c.key c.position (get_or later i none)) (get_or-append-add until later j none) (subst (λ c. IsUpTo (get_or (until ++ later) (length until + j) none).key (get_or (until ++ later) (length until + j) none).position c) (get_or-append-add until later i none) rising)
+
+module _ (history : List Update) (until later : List Change) (key front : ℕ) (split : AreSplit history until later key front) where
+  right : All (IsChangeOf history) (until ++ later)
+  right = split.right
+
+  whole : AreAllChanged (until ++ later) (length history)
+  whole = split.whole
+
+  ordered : IsOrdered (until ++ later)
+  ordered = split.ordered
+
+  low : All (IsUpTo key front) until
+  low = split.low
+
+  high : All (IsPast key front) later
+  high = split.high
+
+  fits : front ≤ length history
+  fits = split.fits
+
+  abbrev changes : List Change
+  changes = until ++ later
+
+  -- a change no later than the front is among the first ones
+  is_until : (place : ℕ) → place < length changes → (get_or changes place nothing).key ≡ key → (get_or changes place nothing).position ≤ front → place < length until
+  is_until place within own no_later = elim (cases_lt place (length until)) [
+    | inl lt ↦ lt
+    | inr past ↦
+        let j = place - length until in
+        let is : length until + j ≡ place = omega arith in
+        let same : get_or changes place nothing ≡ get_or later j nothing = ap (λ p. get_or changes p nothing) (sym is) ∙ get_or-append-add until later j nothing in
+        let late = high j nothing (omega (arith, length-append until later)) in
+        let k = ap (λ c. c.key) same in
+        let p = ap (λ c. c.position) same in
+        absurd (omega (arith, late.1 (sym k ∙ own)))
+  ]
+
+  none_until : length until ≤ 0 → map.get (map_at history front) key ≡ None
+  none_until none = elim (last_between history changes right whole key 0 front (omega arith) fits) [
+    | inl same ↦ same ∙ map.get-empty nat_cmp key
+    | inr c ↦ absurd (omega (arith, is_until c.place c.within c.key_is c.until))
+  ]
+
+  abbrev last : Change
+  last = get_or changes (length until - 1) nothing
+
+  last_own : 0 < length until → last.key ≡ key → last.value ≡ map.get (map_at history front) key
+  last_own some own =
+      let is = right (length until - 1) nothing (omega (arith, length-append until later)) in
+      let here : last ≡ get_or until (length until - 1) nothing = get_or_append_left until later nothing (length until - 1) (omega arith) in
+      let up_to = low (length until - 1) nothing (omega arith) in
+      let no_later : last.position ≤ front = omega (arith, ap (λ c. c.position) here, up_to.1 (ap (λ c. c.key) (sym here) ∙ own)) in
+      let value : last.value ≡ map.get (map_at history last.position) key = is.value ∙ ap (map.get (map_at history last.position)) own in
+      elim (last_between history changes right whole key last.position front no_later fits) [
+        | inl same ↦ value ∙ sym same
+        | inr c ↦
+            let among = is_until c.place c.within c.key_is c.until in
+            let rising = ordered c.place (length until - 1) nothing (omega arith) (omega (arith, length-append until later)) in
+            absurd (omega (arith, rising.1 (c.key_is ∙ sym own), c.after))
+      ]
+
+  last_other : 0 < length until → last.key ≢ key → None ≡ map.get (map_at history front) key
+  last_other some other = elim (last_between history changes right whole key 0 front (omega arith) fits) [
+    | inl same ↦ sym (same ∙ map.get-empty nat_cmp key)
+    | inr c ↦
+        let here : last ≡ get_or until (length until - 1) nothing = get_or_append_left until later nothing (length until - 1) (omega arith) in
+        let up_to = low (length until - 1) nothing (omega arith) in
+        let among = is_until c.place c.within c.key_is c.until in
+        let rising = ordered c.place (length until - 1) nothing (omega arith) (omega (arith, length-append until later)) in
+        let own : last.key ≡ key = omega (arith, ap (λ d. d.key) here, up_to.0, rising.0, c.key_is) in
+        absurd (other own)
+  ]
+
+  value-last : 0 < length until → value_for key (Some last) ≡ map.get (map_at history front) key
+  value-last some = elim (cases_eq last.key key) [
+    | inl own ↦ let test : (last.key == key) ≡ true = grind (arith, nat_tests) in ap (λ b. cond b last.value None) test ∙ last_own some own
+    | inr other ↦ let test : (last.key == key) ≡ false = grind (arith, nat_tests) in ap (λ b. cond b last.value None) test ∙ last_other some other
+  ]
+
+  -- the value that the last of the first ones left is that at the front
+  pub value-until : value_for key (slice_get until (length until - 1)) ≡ map.get (map_at history front) key
+  value-until = elim (cases_lt 0 (length until)) [
+    | inr none ↦ ap (value_for key) (slice_get_past until (length until - 1) (omega arith)) ∙ sym (none_until none)
+    | inl some ↦
+        let here : last ≡ get_or until (length until - 1) nothing = get_or_append_left until later nothing (length until - 1) (omega arith) in
+        ap (value_for key) (slice_get-get_or until (length until - 1) nothing (omega arith) ∙ ap Some (sym here)) ∙ value-last some
+  ]
+
+  at_later : (j : ℕ) → get_or changes (length until + j) nothing ≡ get_or later j nothing
+  at_later j = get_or-append-add until later j nothing
+
+  module _ (op : Op) (reply : Reply) (not_now : IsShown op reply (map.get (map_at history front) key) → ⊥) where
+    -- a later change of the key that shows the reply, no later than another front
+    record IsShownBy (other : ℕ) : Type 0 where
+      pub place : ℕ
+      pub within : place < length later
+      pub key_is : (get_or later place nothing).key ≡ key
+      pub no_later : (get_or later place nothing).position ≤ other
+      pub shown : IsShown op reply (get_or later place nothing).value
+
+    shown_by : (other : ℕ) → front ≤ other → other ≤ length history → IsShown op reply (map.get (map_at history other) key) → IsShownBy other
+    shown_by other le within shown = elim (last_between history changes right whole key front other le within) [
+      | inl same ↦ absurd (not_now (subst (IsShown op reply) same shown))
+      | inr c ↦ elim (cases_lt c.place (length until)) [
+        | inl among ↦
+            let here : get_or changes c.place nothing ≡ get_or until c.place nothing = get_or_append_left until later nothing c.place among in
+            let up_to = low c.place nothing among in
+            absurd (omega (arith, ap (λ d. d.position) here, up_to.1 (ap (λ d. d.key) (sym here) ∙ c.key_is), c.after))
+        | inr past ↦
+            let j = c.place - length until in
+            let is : length until + j ≡ c.place = omega arith in
+            let same : get_or changes c.place nothing ≡ get_or later j nothing = ap (λ p. get_or changes p nothing) (sym is) ∙ at_later j in
+            record {
+              place = j;
+              within = omega (arith, c.within, length-append until later);
+              key_is = ap (λ d. d.key) (sym same) ∙ c.key_is;
+              no_later = omega (arith, ap (λ d. d.position) same, c.until);
+              shown = subst (IsShown op reply) (sym c.value ∙ ap (λ d. d.value) same) shown;
+            }
+      ]
+    ]
+
+    -- where no later change shows the reply, no later front does
+    pub none_shown : All (λ change. change.key ≡ key → IsShown op reply change.value → ⊥) later → (other : ℕ) → front ≤ other → other ≤ length history → IsShown op reply (map.get (map_at history other) key) → ⊥
+    none_shown none other le within shown =
+        let by = shown_by other le within shown in
+        none by.place nothing by.within by.key_is by.shown
+
+    module _ (position : ℕ) (first : IsFirstShown later key op reply position) where
+      is_there : IsChangeOf history (get_or later first.place nothing)
+      is_there = subst (IsChangeOf history) (at_later first.place) (right (length until + first.place) nothing (omega (arith, first.within, length-append until later)))
+
+      pub first-above : front ≤ position
+      first-above = omega (arith, (high first.place nothing first.within).1 (first.key_is nothing), first.is nothing)
+
+      pub first-within : position ≤ length history
+      first-within = omega (arith, is_there.within, first.is nothing)
+
+      pub first-shown : IsShown op reply (map.get (map_at history position) key)
+      first-shown =
+          let value : (get_or later first.place nothing).value ≡ map.get (map_at history position) key = is_there.value ∙ (λ i. map.get (map_at history (first.is nothing i)) (first.key_is nothing i)) in
+          subst (IsShown op reply) value (first.shown nothing)
+
+      pub first-least : (other : ℕ) → front ≤ other → other < position → IsShown op reply (map.get (map_at history other) key) → ⊥
+      first-least other le lt shown =
+          let by = shown_by other le (omega (arith, first-within)) shown in
+          elim (cases_lt by.place first.place) [
+            | inl before ↦ first.first by.place nothing before by.shown
+            | inr no_less ↦
+                let rising = ordered (length until + first.place) (length until + by.place) nothing (omega arith) (omega (arith, by.within, length-append until later)) in
+                let one = at_later first.place in
+                let two = at_later by.place in
+                let keys : (get_or changes (length until + first.place) nothing).key ≡ (get_or changes (length until + by.place) nothing).key = ap (λ d. d.key) one ∙ first.key_is nothing ∙ sym (ap (λ d. d.key) two ∙ by.key_is) in
+                absurd (omega (arith, rising.1 keys, ap (λ d. d.position) one, ap (λ d. d.position) two, first.is nothing, by.no_later))
+          ]
