@@ -3,3 +3,4 @@ pub mod MapViews
 pub mod Updates
 pub mod Searches
 pub mod Fronts
+pub mod Chains

@@ -6,3 +6,4 @@ pub mod Plain
 pub mod Lists
 pub mod Scripts
 pub mod Held
+pub mod Chains
