@@ -1,2 +1,4 @@
 pub mod Workers
+pub mod Merging
+pub mod Storing
 
