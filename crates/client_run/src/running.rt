@@ -1,7 +1,7 @@
 //! Scripts run beside each other.
 ghost use Rattle.std.specs.Prelude.{◌≡◌, ℕ, ◌+◌, ◌<◌, ◌≤◌, [], length, slice_index_or, slice_get, Some};
 ghost use Rattle.prcu_model.specs.Chains.{IsChain};
-ghost use Rattle.client_run.specs.Workers.{IsReadyFor};
+ghost use Rattle.client_run.specs.Workers.{IsReadyFor, AreReadyFor, HaveMade};
 
 use crate::worker::Worker;
 use prcu_model::{Client, Scripts};
@@ -17,10 +17,9 @@ pub fn run_all<R: Threads + Wait + Sync, C: Client + Send>(
     scripts: &Scripts,
 )
     requires workers { length workers.old ≡ length scripts.now }
-    requires ready { (i : ℕ) (worker : _) → slice_get workers.old i ≡ Some worker → IsReadyFor C.left worker (slice_index_or scripts.now i []) }
+    requires ready { AreReadyFor C.left workers.old scripts.now }
     ensures workers { length workers.new ≡ length workers.old }
-    ensures chains { (i : ℕ) (before after : _) → slice_get workers.old i ≡ Some before → slice_get workers.new i ≡ Some after
-        → IsChain C.made before.client (slice_index_or scripts.now i []) after.told.entries after.client }
+    ensures made { HaveMade C.made workers.old scripts.now workers.new }
     ensures left { (i : ℕ) (before after : _) → slice_get workers.old i ≡ Some before → slice_get workers.new i ≡ Some after
         → C.left before.client ≤ C.left after.client + length (slice_index_or scripts.now i []) }
 {
