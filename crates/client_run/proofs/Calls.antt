@@ -21,7 +21,7 @@ module _ {C : Type 0} (left : C → ℕ) (made : C → Op → Told → C → Typ
     chain = subst (λ (tolds : List Told). IsChain made worker.client [] tolds worker.client) (sym ready.empty) refl;
     room = let room = ready.room in omega arith;
     means = let means = ready.means in omega arith;
-    fall = omega arith
+    fall = omega arith;
   }
 
   pub made_more : (before : C) (script : List Op) (count : ℕ) (client : C) (told : Roomy Told) (op : Op) (answer : Told) (next : C) (more : Roomy Told)
@@ -34,10 +34,10 @@ module _ {C : Type 0} (left : C → ℕ) (made : C → Op → Told → C → Typ
         let longer = chain_push made (take count script) told.entries op answer before client next has.chain call in
         let ops : take (count + 1) script ≡ take count script ++ op ∷ [] = take_more script count op in_range ∙ ap (λ o. take count script ++ o ∷ []) (sym read) in
         subst (λ (ops : List Op). IsChain made before ops more.entries next) (sym ops)
-            (subst (λ (tolds : List Told). IsChain made before (take count script ++ op ∷ []) tolds next) (sym appended) longer);
+        (subst (λ (tolds : List Told). IsChain made before (take count script ++ op ∷ []) tolds next) (sym appended) longer);
     room = let room = has.room in omega arith;
     means = let means = has.means in omega arith;
-    fall = let fall = has.fall in omega arith
+    fall = let fall = has.fall in omega arith;
   }
 
   pub made_all : (before : C) (script : List Op) (count : ℕ) (client : C) (told : Roomy Told) → HasMade left made before script count client told → length script ≤ count

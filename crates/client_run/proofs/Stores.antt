@@ -37,13 +37,13 @@ placed count history (u ∷ updates) same positive limit once zero d e lt =
     let here : 1 ≤ u.number = positive zero u (omega arith) in
     let low : u.number ≤ count = limit zero u (omega arith) in
     let others : All (λ v. v.number - 1 ≢ u.number - 1) updates = (λ i v below equal.
-        let there = positive (suc i) v (omega arith) in once zero (suc i) v (omega arith) (omega arith) (omega arith)) in
+    let there = positive (suc i) v (omega arith) in once zero (suc i) v (omega arith) (omega arith) (omega arith)) in
     get_or-stored (set history (u.number - 1) u.update) updates (u.number - 1) e others
     ∙ get_or-set_same history (u.number - 1) u.update e (omega arith)
 placed count history (u ∷ updates) same positive limit once (suc k) d e lt =
     placed count (set history (u.number - 1) u.update) updates (length-set history (u.number - 1) u.update ∙ same)
-        (λ i v below. positive (suc i) v (omega arith)) (λ i v below. limit (suc i) v (omega arith))
-        (λ i j v less below. once (suc i) (suc j) v (omega arith) (omega arith)) k d e (omega arith)
+    (λ i v below. positive (suc i) v (omega arith)) (λ i v below. limit (suc i) v (omega arith))
+    (λ i j v less below. once (suc i) (suc j) v (omega arith) (omega arith)) k d e (omega arith)
 
 pub inside_from_all : (count : ℕ) (updates : List Numbered) → All (λ u. 1 ≤ u.number) updates → All (λ u. u.number ≤ count) updates → AreInside count updates
 inside_from_all count [] positive limit = tt
@@ -71,18 +71,18 @@ IsHistoryOf-stored history updates same numbers = record {
 module _ (caller : ℕ) (op : Op) (answer : Told) (history next : List Update) (rest : List Numbered) where
   pub fits_with_told : AreInside (length history) (with_told caller op answer rest) → IsTrue (tells_update answer.reply) → (1 ≤ answer.number) × (answer.number ≤ length history)
   fits_with_told = elim (tells_update answer.reply) as (λ tells. AreInside (length history) (if tells then record { number = answer.number; update = record { caller = caller; op = op } } ∷ rest else rest)
-    → IsTrue tells → (1 ≤ answer.number) × (answer.number ≤ length history)) [ true ↦ λ inside is. inside.0 | false ↦ λ inside is. absurd (cc) ]
+      → IsTrue tells → (1 ≤ answer.number) × (answer.number ≤ length history)) [ true ↦ λ inside is. inside.0 | false ↦ λ inside is. absurd (cc) ]
 
   pub stored-with_told : next ≡ (if tells_update answer.reply then set history (answer.number - 1) (record { caller = caller; op = op }) else history)
       → stored next rest ≡ stored history (with_told caller op answer rest)
   stored-with_told = elim (tells_update answer.reply) as (λ tells. next ≡ (if tells then set history (answer.number - 1) (record { caller = caller; op = op }) else history)
-    → stored next rest ≡ stored history (if tells then record { number = answer.number; update = record { caller = caller; op = op } } ∷ rest else rest))
-    [ true ↦ λ is. ap (λ h. stored h rest) is | false ↦ λ is. ap (λ h. stored h rest) is ]
+      → stored next rest ≡ stored history (if tells then record { number = answer.number; update = record { caller = caller; op = op } } ∷ rest else rest))
+      [ true ↦ λ is. ap (λ h. stored h rest) is | false ↦ λ is. ap (λ h. stored h rest) is ]
 
   pub length-with_told : next ≡ (if tells_update answer.reply then set history (answer.number - 1) (record { caller = caller; op = op }) else history) → length next ≡ length history
   length-with_told = elim (tells_update answer.reply) as (λ tells. next ≡ (if tells then set history (answer.number - 1) (record { caller = caller; op = op }) else history) → length next ≡ length history)
-    [ true ↦ λ is. ap length is ∙ length-set history (answer.number - 1) (record { caller = caller; op = op }) | false ↦ λ is. ap length is ]
+      [ true ↦ λ is. ap length is ∙ length-set history (answer.number - 1) (record { caller = caller; op = op }) | false ↦ λ is. ap length is ]
 
   pub inside-with_told : AreInside (length history) (with_told caller op answer rest) → AreInside (length history) rest
   inside-with_told = elim (tells_update answer.reply) as (λ tells. AreInside (length history) (if tells then record { number = answer.number; update = record { caller = caller; op = op } } ∷ rest else rest)
-    → AreInside (length history) rest) [ true ↦ λ inside. inside.1 | false ↦ λ inside. inside ]
+      → AreInside (length history) rest) [ true ↦ λ inside. inside.1 | false ↦ λ inside. inside ]

@@ -100,10 +100,10 @@ same_count scripts told same =
 length-told_updates-le : (script : List Op) (told : List Told) → length (told_updates (told_lines script told)) ≤ length script
 length-told_updates-le [] told = omega arith
 length-told_updates-le (op ∷ script) [] = omega arith
-length-told_updates-le (op ∷ script) (answer ∷ told) = 
+length-told_updates-le (op ∷ script) (answer ∷ told) =
     let rest = length-told_updates-le script told in
     elim (tells_update answer.reply) as (λ tells. length (if tells then record { position = answer.number; op = op } ∷ told_updates (told_lines script told) else told_updates (told_lines script told)) ≤ suc (length script))
-        [ true ↦ omega arith | false ↦ omega arith ]
+    [ true ↦ omega arith | false ↦ omega arith ]
 
 pub length-all_left-le : (caller : ℕ) (scripts : List (List Op)) (tolds : List (List Told)) → length (all_numbered_updates caller (all_told_lines scripts tolds)) ≤ op_count scripts
 length-all_left-le caller [] tolds = omega arith

@@ -1,4 +1,3 @@
 pub mod Workers
 pub mod Merging
 pub mod Storing
-

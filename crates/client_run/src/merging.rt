@@ -17,11 +17,7 @@ const NO_UPDATE: Update = Update {
 
 /// The history of all updates that scripts were told of, where the one with number n stands as the n-th. Its caller is
 /// the number of its script, counted from 0. The time is that of the scripts.
-pub fn merge(
-    alloc: Global,
-    scripts: &Scripts,
-    told: &[ToldList],
-) -> Result<Vec<Update>, NoMemory>
+pub fn merge(alloc: Global, scripts: &Scripts, told: &[ToldList]) -> Result<Vec<Update>, NoMemory>
     requires lengths { map length (entries_of told.now) ≡ map length scripts.now }
     requires numbers { AreOneToCount (all_numbered_updates 0 (all_told_lines scripts.now (entries_of told.now))) }
     ensures { IfOk result (λ history. IsHistoryOf (all_numbered_updates 0 (all_told_lines scripts.now (entries_of told.now))) history.items) }

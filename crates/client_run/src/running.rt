@@ -24,9 +24,12 @@ pub fn run_all<R: Threads + Wait + Sync, C: Client + Send>(
         → C.left before.client ≤ C.left after.client + length (slice_index_or scripts.now i []) }
 {
     let threads = workers.len().max(1);
-    thread::for_each_mut(rt, workers, threads, &|i, worker| {
-        run_script(rt, worker, scripts, i)
-    });
+    thread::for_each_mut(
+        rt,
+        workers,
+        threads,
+        &|i, worker| { run_script(rt, worker, scripts, i) },
+    );
 }
 
 // Runs script `i`, counted from 0, at the worker.

@@ -2,8 +2,8 @@
 ghost use Rattle.std.specs.Prelude.{◌≡◌, ◌+◌, ◌^◌, ◌<◌, ◌≤◌, ℕ, [], length, IfOk, slice_get, slice_index_or, Some, vec_len};
 ghost use Rattle.client_run.specs.Workers.{AreReadyFor};
 
-use crate::{Worker, run_all};
-use prcu_model::{Client, NoMemory, Op, Reply, Scripts, Told};
+use crate::{Worker, merge, run_all};
+use prcu_model::{Client, NoMemory, Op, Reply, Scripts, Told, ToldList, Update};
 use std::alloc::Global;
 use std::process::Abort;
 use std::sync::Wait;
@@ -62,8 +62,10 @@ fn is_drawn(drawn: &AtomicU64, many: u64) -> bool {
     false
 }
 
-fn unnumbered(reply: Reply) -> Told {
-    Told { reply, number: 0 }
+fn answer(reply: Reply, number: u64) -> Told
+    ensures { result ≡ record { reply = reply; number = number } }
+{
+    Told { reply, number }
 }
 
 impl Client for Clerk<'_> {
@@ -78,18 +80,18 @@ impl Client for Clerk<'_> {
         match op {
             Op::Put { key, value } => match self.values[(key % KEYS) as usize] {
                 None => self.update(key, Some(value), Reply::New),
-                Some(_) => unnumbered(Reply::Old),
+                Some(_) => answer(Reply::Old, 0),
             },
             Op::Get { key } => match self.values[(key % KEYS) as usize] {
-                None => unnumbered(Reply::Absent),
-                Some(value) => unnumbered(Reply::Val { value }),
+                None => answer(Reply::Absent, 0),
+                Some(value) => answer(Reply::Val { value }, 0),
             },
             Op::Del { key } => match self.values[(key % KEYS) as usize] {
-                None => unnumbered(Reply::Absent),
+                None => answer(Reply::Absent, 0),
                 Some(_) => self.update(key, None, Reply::Gone),
             },
             Op::Set { key, value } => match self.values[(key % KEYS) as usize] {
-                None => unnumbered(Reply::Absent),
+                None => answer(Reply::Absent, 0),
                 Some(was) => self.update(key, Some(value), Reply::Was { value: was }),
             },
         }
@@ -160,7 +162,9 @@ fn round_replies(first: u64, second: u64) -> [Reply; 8] {
 }
 
 const CALLERS: u32 = 64;
+
 const ROUNDS: u64 = 500;
+
 const UPDATES: u64 = 64 * ROUNDS * 3;
 
 #[test]
@@ -184,25 +188,34 @@ fn a_run_makes_each_call_once_and_in_order(rt: HostRuntime) -> Result<(), Fail> 
     for (caller, worker) in workers.into_iter().enumerate() {
         let (clerk, told) = worker.into_parts();
         assert_eq!(rt; clerk.remaining(), 0, "by caller {caller}");
-        assert_eq!(rt; told.entries().len() as u64, 8 * ROUNDS, "by caller {caller}");
-        let mut last = 0;
-        for (round, answers) in told.entries().chunks(8).enumerate() {
-            let replies = round_replies(caller as u64, round as u64 + 1000);
-            for (answer, reply) in answers.iter().zip(&replies) {
-                assert_eq!(rt; answer.reply, *reply, "to caller {caller} in round {round}");
-                if !reply.tells_update() {
-                    assert_eq!(rt; answer.number, 0, "to caller {caller} in round {round}");
-                    continue;
-                }
-                assert!(rt; last < answer.number && answer.number <= UPDATES, "to caller {caller}");
-                last = answer.number;
-                let place = (answer.number - 1) as usize;
-                assert!(rt; place < seen.len() && !seen[place], "{last} was told twice");
-                seen[place] = true;
-            }
-        }
+        assert_answers(&rt, caller as u64, told.entries(), &mut seen);
     }
     Ok(())
+}
+
+// That a caller's answers are those to its rounds, that its numbers rise, and that none was seen. Now they are.
+fn assert_answers(rt: &impl Abort, caller: u64, told: &[Told], seen: &mut [bool]) {
+    assert_eq!(rt; told.len() as u64, 8 * ROUNDS, "to caller {caller}");
+    let mut last = 0;
+    for (round, answers) in told.chunks(8).enumerate() {
+        let replies = round_replies(caller, round as u64 + 1000);
+        for (answer, reply) in answers.iter().zip(&replies) {
+            assert_eq!(rt; answer.reply, *reply, "to caller {caller} in round {round}");
+            if !reply.tells_update() {
+                assert_eq!(rt; answer.number, 0, "to caller {caller} in round {round}");
+                continue;
+            }
+            assert!(rt; last < answer.number, "to caller {caller} in round {round}");
+            last = answer.number;
+            assert!(rt;
+                last <= seen.len() as u64,
+                "to caller {caller} in round {round}"
+            );
+            let place = (last - 1) as usize;
+            assert!(rt; !seen[place], "{last} was told twice");
+            seen[place] = true;
+        }
+    }
 }
 
 #[test]
@@ -211,7 +224,14 @@ fn two_workers_run_beside_each_other(rt: HostRuntime) -> Result<(), Fail> {
     let mut scripts = Scripts::new(alloc);
     for caller in 0..2 {
         begin(&rt, &mut scripts)?;
-        add(&rt, &mut scripts, Op::Put { key: caller, value: 0 })?;
+        add(
+            &rt,
+            &mut scripts,
+            Op::Put {
+                key: caller,
+                value: 0,
+            },
+        )?;
     }
     let drawn = AtomicU64::new(0);
     let mut workers = crew(alloc, &scripts, &drawn, 2)?;
@@ -219,7 +239,49 @@ fn two_workers_run_beside_each_other(rt: HostRuntime) -> Result<(), Fail> {
     for worker in workers {
         let (_, told) = worker.into_parts();
         assert_eq!(rt; told.entries().len(), 1);
-        assert_eq!(rt; told.entries()[0].reply, Reply::New, "the other one came too late");
+        assert_eq!(rt;
+            told.entries()[0].reply,
+            Reply::New,
+            "the other one came too late"
+        );
+    }
+    Ok(())
+}
+
+fn told_list(alloc: Global, answers: &[Told]) -> Result<ToldList, NoMemory>
+    requires { length answers.now < 2 ^ 32 }
+    ensures { IfOk result (λ list. list.entries ≡ answers.now) }
+{
+    let mut list = ToldList::new(alloc, answers.len() as u32)?;
+    for told in answers {
+        list.push(*told);
+    }
+    Ok(list)
+}
+
+#[test]
+fn a_history_has_each_update_at_its_number(rt: HostRuntime) -> Result<(), Fail> {
+    let alloc = rt.alloc();
+    assert!(rt; merge(alloc, &Scripts::new(alloc), &[])?.is_empty());
+    let put = Op::Put { key: 1, value: 10 };
+    let set = Op::Set { key: 1, value: 11 };
+    let del = Op::Del { key: 1 };
+    let mut scripts = Scripts::new(alloc);
+    scripts.add_script()?;
+    scripts.add_op(del)?;
+    scripts.add_op(put)?;
+    scripts.add_script()?;
+    scripts.add_op(set)?;
+    scripts.add_op(del)?;
+    let told = [
+        told_list(alloc, &[answer(Reply::Gone, 2), answer(Reply::New, 3)])?,
+        told_list(alloc, &[answer(Reply::Absent, 0), answer(Reply::Gone, 1)])?,
+    ];
+    let history = merge(alloc, &scripts, &told)?;
+    let expected = [(1, del), (0, del), (0, put)];
+    assert_eq!(rt; history.len(), expected.len());
+    for (update, (caller, op)) in history.iter().zip(&expected) {
+        assert_eq!(rt; (update.caller, update.op), (*caller, *op));
     }
     Ok(())
 }

@@ -22,7 +22,7 @@ loop-list-preserved c =
     let one = counted_turn c.args.scripts.now c.args.told.now c.loop-list.list-index c.list-item.result c.loop-list-test.true c.list-item.is c.requires c.loop-list.invariant.lengths in
     record {
       lengths = one.0;
-      counted = let read = ap (λ (tolds : List Told). count_by (λ answer. tells_update answer.reply) tolds) c.entries.ensures in omega arith
+      counted = let read = ap (λ (tolds : List Told). count_by (λ answer. tells_update answer.reply) tolds) c.entries.ensures in omega arith;
     }
 
 pub returns : goal.returns

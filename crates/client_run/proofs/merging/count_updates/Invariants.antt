@@ -6,5 +6,5 @@ use Rattle.client_run.proofs.merging.count_updates.Given as goal
 abbrev pub invariant-loop-list : goal.invariant-loop-list
 invariant-loop-list l = record {
   lengths : SameLengths l.scripts l.told l.list-index;
-  counted : l.count + length (all_left l.scripts l.told l.list-index) ≡ length (all_left l.scripts l.told 0)
+  counted : l.count + length (all_left l.scripts l.told l.list-index) ≡ length (all_left l.scripts l.told 0);
 }

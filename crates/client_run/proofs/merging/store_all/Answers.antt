@@ -32,7 +32,7 @@ loop-i-preserved c =
     record {
       lengths = SameLengths-next c.args.scripts.now c.args.told.now c.loop-i.i c.script.result.now c.index-told-i.result c.script.ensures.script c.loop-i-test.true c.index-told-i.is c.loop-i.invariant.lengths;
       inside = rw same inside;
-      stored = ap (λ h. stored h left) c.store_script.ensures ∙ sym (stored-append history own left) ∙ ap (stored history) (sym here) ∙ c.loop-i.invariant.stored
+      stored = ap (λ h. stored h left) c.store_script.ensures ∙ sym (stored-append history own left) ∙ ap (stored history) (sym here) ∙ c.loop-i.invariant.stored;
     }
 
 pub returns : goal.returns

@@ -8,5 +8,5 @@ abbrev pub invariant-loop-i : goal.invariant-loop-i
 invariant-loop-i l = record {
   lengths : SameLengths l.scripts l.told l.i;
   inside : AreInside (length l.history) (all_left l.scripts l.told l.i);
-  stored : stored l.history (all_left l.scripts l.told l.i) ≡ stored l.fn.history (all_left l.scripts l.told 0)
+  stored : stored l.history (all_left l.scripts l.told l.i) ≡ stored l.fn.history (all_left l.scripts l.told 0);
 }

@@ -19,7 +19,7 @@ store_update-requires c =
     let left = own_left c.args.caller c.args.script.now c.args.told.now (length c.loop-op.yielded + 1) in
     let here = next_left (goal.at.store_update-requires c).In-Some in
     fits_with_told c.args.caller c.in-Some.op.now c.in-Some.answer.now c.loop-op.history c.loop-op.history left
-        (subst (AreInside (length c.loop-op.history)) here c.loop-op.invariant.inside)
+    (subst (AreInside (length c.loop-op.history)) here c.loop-op.invariant.inside)
 
 pub loop-op-preserved : goal.loop-op-preserved
 loop-op-preserved c =
@@ -34,7 +34,7 @@ loop-op-preserved c =
     let more : length (c.loop-op.yielded ++ (c.in-Some.op, c.in-Some.answer) ∷ []) ≡ length c.loop-op.yielded + 1 = length_push c.loop-op.yielded (c.in-Some.op, c.in-Some.answer) in
     rw more (record {
       inside = rw same inside;
-      stored = stored-with_told c.args.caller op answer history next left c.store_update.ensures ∙ (rw here at c.loop-op.invariant.stored)
+      stored = stored-with_told c.args.caller op answer history next left c.store_update.ensures ∙ (rw here at c.loop-op.invariant.stored);
     })
 
 pub returns : goal.returns

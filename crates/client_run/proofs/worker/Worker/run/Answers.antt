@@ -13,5 +13,5 @@ loop-op-preserved g c =
 pub returns : goal.returns
 returns g c = record {
   chain = made_all g.C.Client.left g.C.Client.made _ _ _ _ _ c.loop-op.invariant c.loop-op-test.false;
-  left = omega (arith, c.loop-op.invariant.fall)
+  left = omega (arith, c.loop-op.invariant.fall);
 }
