@@ -1,5 +1,5 @@
 -- How updates are stored in a history, one after another.
-use Rattle.std.specs.Prelude.{ℕ, ◌-◌, ◌≤◌, List, [], ◌∷◌, length, slice_set}
+use Rattle.std.specs.Prelude.{ℕ, ◌-◌, ◌≤◌, List, [], ◌∷◌, slice_set}
 use Rattle.std.specs.List.{AllByRecursion}
 use Rattle.prcu_model.specs.declared.operation.Update.{Update}
 use Rattle.client_run.specs.Merging.{Numbered}

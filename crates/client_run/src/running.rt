@@ -28,7 +28,7 @@ pub fn run_all<R: Threads + Wait + Sync, C: Client + Send>(
         rt,
         workers,
         threads,
-        &|i, worker| { run_script(rt, worker, scripts, i) },
+        &|i, worker| run_script(rt, worker, scripts, i),
     );
 }
 

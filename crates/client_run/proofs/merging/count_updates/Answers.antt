@@ -1,12 +1,9 @@
-use Rattle.std.proofs.Common.{◌≡◌, ◌+◌, ◌<◌, List, length, [], ap, sym, ◌∙◌, arith, length-append}
-use Rattle.std.proofs.lemmas.Option.{slice_get-get_or}
+use Rattle.std.proofs.Common.{List, length, ap, arith}
 use Rattle.std.specs.List.{count_by}
 use Rattle.prcu_model.specs.declared.operation.Told.{Told}
 use Rattle.prcu_model.specs.Replies.{tells_update}
 use Rattle.prcu_model.specs.Lists.{entries_of}
-use Rattle.prcu_model.specs.Fronts.{told_lines}
-use Rattle.client_run.specs.Merging.{numbered_updates}
-use Rattle.client_run.proofs.Updates.{all_left, all_left-turn, all_left-end, SameLengths-next, same_length, same_count, length-numbered_updates, length-all_left-le, counted_turn}
+use Rattle.client_run.proofs.Updates.{all_left-end, same_count, length-all_left-le, counted_turn}
 use Rattle.client_run.proofs.merging.count_updates.Goals as goal
 
 pub overflow_add-count : goal.overflow_add-count

@@ -1,7 +1,7 @@
 use Rattle.std.proofs.Common.{◌≡◌, ◌+◌, ◌++◌, List, length, ap, sym, subst, ◌∙◌, arith}
 use Rattle.prcu_model.specs.declared.operation.Told.{Told}
 use Rattle.prcu_model.specs.Fronts.{told_lines}
-use Rattle.client_run.specs.Merging.{Numbered, numbered_updates}
+use Rattle.client_run.specs.Merging.{numbered_updates}
 use Rattle.client_run.specs.Storing.{stored, AreInside}
 use Rattle.client_run.proofs.Updates.{all_left, all_left-turn, all_left-end, SameLengths-next, same_count}
 use Rattle.client_run.proofs.Stores.{length-stored, stored-append, inside-append}
