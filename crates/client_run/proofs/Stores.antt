@@ -10,6 +10,7 @@ use Rattle.prcu_model.specs.Replies.{tells_update}
 use Rattle.client_run.specs.Merging.{Numbered, AreOneToCount, IsHistoryOf}
 use Rattle.client_run.specs.Storing.{stored, AreInside}
 use Rattle.client_run.proofs.Updates.{with_told}
+use Rattle.client_run.proofs.Whole.{update_at}
 
 pub length-stored : (history : List Update) (updates : List Numbered) → length (stored history updates) ≡ length history
 length-stored history [] = refl
@@ -65,6 +66,7 @@ IsHistoryOf-stored history updates same numbers = record {
       let inside : u.number - 1 < length (stored history updates) = let long = length-stored history updates in omega arith in
       slice_get-get_or (stored history updates) (u.number - 1) u.update inside
       ∙ ap Some (placed (length updates) history updates same numbers.positive numbers.limit numbers.once k d u.update below);
+  whole = λ i below. update_at updates numbers i (let long = length-stored history updates in omega arith);
 }
 
 -- What an answer tells of is stored, and then the rest.

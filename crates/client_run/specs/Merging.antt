@@ -1,6 +1,6 @@
 -- The updates that callers were told of, and the history that they make.
 -- Source: docs/FORMATS.md, "Accounts".
-use Rattle.std.specs.Prelude.{◌≡◌, ◌≢◌, ℕ, ◌+◌, ◌-◌, ◌≤◌, List, [], ◌∷◌, ◌++◌, length, map, All, AllPairs, slice_get, Some}
+use Rattle.std.specs.Prelude.{◌≡◌, ◌≢◌, ℕ, ◌+◌, ◌-◌, ◌<◌, ◌≤◌, List, [], ◌∷◌, ◌++◌, length, map, All, AllPairs, Any, slice_get, Some}
 use Rattle.prcu_model.specs.declared.operation.Line.{Line}
 use Rattle.prcu_model.specs.declared.operation.Update.{Update}
 use Rattle.prcu_model.specs.Fronts.{Placed, told_updates}
@@ -29,3 +29,4 @@ pub record AreOneToCount (updates : List Numbered) : Type 0 where
 pub record IsHistoryOf (updates : List Numbered) (history : List Update) : Type 0 where
   pub count : length history ≡ length updates
   pub placed : All (λ u. slice_get history (u.number - 1) ≡ Some u.update) updates
+  pub whole : (i : ℕ) → i < length history → Any (λ u. u.number ≡ i + 1) updates
