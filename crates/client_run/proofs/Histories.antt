@@ -1,7 +1,7 @@
 -- A history is told by its numbered updates.
-use Rattle.std.proofs.Common.{◌≡◌, ℕ, ◌+◌, ◌-◌, ◌<◌, ◌≤◌, List, length, get_or, Some, refl, sym, ap, subst, ◌∙◌, arith}
+use Rattle.std.proofs.Common.{◌≡◌, ℕ, ◌+◌, ◌-◌, ◌<◌, List, length, get_or, Some, sym, subst, ◌∙◌, arith}
 use Rattle.std.specs.List.{Any, slice_get}
-use Rattle.std.proofs.lemmas.List.{same_lists, get_or_default}
+use Rattle.std.proofs.lemmas.List.{same_lists}
 use Rattle.std.proofs.lemmas.Option.{get_or_from_slice_get}
 use Rattle.prcu_model.specs.declared.operation.Update.{Update}
 use Rattle.client_run.specs.Merging.{Numbered, IsHistoryOf}

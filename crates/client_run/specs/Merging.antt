@@ -1,9 +1,9 @@
 -- The updates that callers were told of, and the history that they make.
 -- Source: docs/FORMATS.md, "Accounts".
-use Rattle.std.specs.Prelude.{◌≡◌, ◌≢◌, ℕ, ◌+◌, ◌-◌, ◌<◌, ◌≤◌, List, [], ◌∷◌, ◌++◌, length, map, All, AllPairs, Any, slice_get, Some}
+use Rattle.std.specs.Prelude.{◌≡◌, ◌≢◌, ℕ, ◌+◌, ◌-◌, ◌<◌, ◌≤◌, List, [], ◌∷◌, ◌++◌, length, map, All, AllPairs, Any, slice_get, slice_index_or, Some}
 use Rattle.prcu_model.specs.declared.operation.Line.{Line}
 use Rattle.prcu_model.specs.declared.operation.Update.{Update}
-use Rattle.prcu_model.specs.Fronts.{Placed, told_updates}
+use Rattle.prcu_model.specs.Fronts.{Placed, told_updates, own_updates}
 
 -- an update with the number that its caller was told
 pub record Numbered : Type 0 where
@@ -30,3 +30,7 @@ pub record IsHistoryOf (updates : List Numbered) (history : List Update) : Type 
   pub count : length history ≡ length updates
   pub placed : All (λ u. slice_get history (u.number - 1) ≡ Some u.update) updates
   pub whole : (i : ℕ) → i < length history → Any (λ u. u.number ≡ i + 1) updates
+
+-- Each script's lines tell of just its caller's own updates of the history, in order and with their positions.
+abbrev pub TellOwnUpdates : List Update → List (List Line) → Type 0
+TellOwnUpdates history scripts = (c : ℕ) → own_updates c history ≡ told_updates (slice_index_or scripts c [])

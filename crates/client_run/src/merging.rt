@@ -1,9 +1,10 @@
 //! One history of what all scripts were told.
-ghost use Rattle.std.specs.Prelude.{◌≡◌, ◌-◌, ◌<◌, ◌≤◌, length, map, count_by, slice_set, IsTrue, if◌then◌else◌, IfOk};
+ghost use Rattle.std.specs.Prelude.{◌≡◌, ◌-◌, ◌<◌, ◌≤◌, List, length, map, count_by, slice_set, IsTrue, if◌then◌else◌, IfOk};
+ghost use Rattle.prcu_model.specs.declared.operation.Update.{Update};
 ghost use Rattle.prcu_model.specs.Lists.{entries_of};
 ghost use Rattle.prcu_model.specs.Replies.{tells_update};
 ghost use Rattle.prcu_model.specs.Fronts.{told_lines, all_told_lines};
-ghost use Rattle.client_run.specs.Merging.{numbered_updates, all_numbered_updates, AreOneToCount, IsHistoryOf};
+ghost use Rattle.client_run.specs.Merging.{numbered_updates, all_numbered_updates, AreOneToCount, IsHistoryOf, TellOwnUpdates};
 ghost use Rattle.client_run.specs.Storing.{stored, AreInside};
 
 use prcu_model::{NoMemory, Op, Scripts, Told, ToldList, Update};
@@ -20,7 +21,9 @@ const NO_UPDATE: Update = Update {
 pub fn merge(alloc: Global, scripts: &Scripts, told: &[ToldList]) -> Result<Vec<Update>, NoMemory>
     requires lengths { map length (entries_of told.now) ≡ map length scripts.now }
     requires numbers { AreOneToCount (all_numbered_updates 0 (all_told_lines scripts.now (entries_of told.now))) }
-    ensures { IfOk result (λ history. IsHistoryOf (all_numbered_updates 0 (all_told_lines scripts.now (entries_of told.now))) history.items) }
+    ensures history { IfOk result (λ merged. IsHistoryOf (all_numbered_updates 0 (all_told_lines scripts.now (entries_of told.now))) merged.items) }
+    ensures only { IfOk result (λ merged. (history : List Update)
+        → TellOwnUpdates history (all_told_lines scripts.now (entries_of told.now)) → merged.items ≡ history) }
 {
     let count = count_updates(scripts, told);
     let mut history = vec![in alloc; NO_UPDATE; count]?;

@@ -1,4 +1,4 @@
-use Rattle.std.proofs.Common.{◌≡◌, sym, ap, ◌∙◌, arith, Some, rules}
+use Rattle.std.proofs.Common.{◌≡◌, get_or, sym, ap, ◌∙◌, arith, Some, rules}
 use Rattle.std.proofs.lemmas.Option.{slice_get-get_or, slice_get_within, get_or_from_slice_get}
 use Rattle.client_run.proofs.running.run_all.Goals as goal
 
@@ -10,13 +10,13 @@ for_each_mut-requires-clause-accepts g c κs within i p in_range read κs2 a b d
 pub returns-clause-made : goal.returns-clause-made
 returns-clause-made g c i before after first second =
     let at = c.for_each_mut.ensures i before (slice_get_within c.args.workers.now i before first) in
-    let was : at.1.argument.now ≡ before = at.1.argument_is ∙ get_or_from_slice_get c.args.workers.now i before before first in
-    let is : at.1.after_call.now ≡ after = at.1.left ∙ get_or_from_slice_get c.for_each_mut.new.s i after before second in
+    let was : at.1.argument.now ≡ before = ◌∙◌ {b = get_or c.args.workers.now i before} at.1.argument_is (get_or_from_slice_get c.args.workers.now i before before first) in
+    let is : at.1.after_call.now ≡ after = ◌∙◌ {b = get_or c.for_each_mut.new.s i before} at.1.left (get_or_from_slice_get c.for_each_mut.new.s i after before second) in
     rw (← was, ← is) (search rules)
 
 pub returns-clause-left : goal.returns-clause-left
 returns-clause-left g c i before after first second =
     let at = c.for_each_mut.ensures i before (slice_get_within c.args.workers.now i before first) in
-    let was : at.1.argument.now ≡ before = at.1.argument_is ∙ get_or_from_slice_get c.args.workers.now i before before first in
-    let is : at.1.after_call.now ≡ after = at.1.left ∙ get_or_from_slice_get c.for_each_mut.new.s i after before second in
+    let was : at.1.argument.now ≡ before = ◌∙◌ {b = get_or c.args.workers.now i before} at.1.argument_is (get_or_from_slice_get c.args.workers.now i before before first) in
+    let is : at.1.after_call.now ≡ after = ◌∙◌ {b = get_or c.for_each_mut.new.s i before} at.1.left (get_or_from_slice_get c.for_each_mut.new.s i after before second) in
     rw (← was, ← is) (search rules)
