@@ -1,5 +1,5 @@
 //! One history of what all scripts were told.
-ghost use Rattle.std.specs.Prelude.{◌≡◌, ◌-◌, ◌<◌, ◌≤◌, List, length, map, count_by, slice_set, IsTrue, if◌then◌else◌, IfOk};
+ghost use Rattle.std.specs.Prelude.{◌≡◌, ◌-◌, ◌≤◌, List, length, map, count_by, slice_set, IsTrue, if◌then◌else◌, IfOk};
 ghost use Rattle.prcu_model.specs.declared.operation.Update.{Update};
 ghost use Rattle.prcu_model.specs.Lists.{entries_of};
 ghost use Rattle.prcu_model.specs.Replies.{tells_update};

@@ -1,5 +1,5 @@
 //! Runs of real threads, and a merge by hand.
-ghost use Rattle.std.specs.Prelude.{◌≡◌, ◌+◌, ◌^◌, ◌<◌, ◌≤◌, ℕ, [], length, IfOk, slice_get, slice_index_or, Some, vec_len};
+ghost use Rattle.std.specs.Prelude.{◌≡◌, ◌^◌, ◌<◌, length, IfOk, vec_len};
 ghost use Rattle.client_run.specs.Workers.{AreReadyFor};
 
 use crate::{Worker, merge, run_all};
