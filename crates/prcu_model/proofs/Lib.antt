@@ -4,3 +4,4 @@ pub mod Updates
 pub mod Searches
 pub mod Fronts
 pub mod EnoughSlots
+pub mod Chains

@@ -7,3 +7,4 @@ pub mod Lists
 pub mod Scripts
 pub mod Held
 pub mod Slots
+pub mod Chains

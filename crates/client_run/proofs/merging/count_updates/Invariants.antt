@@ -1,0 +1,10 @@
+use Rattle.std.proofs.Common.{◌≡◌, ◌+◌, length}
+use Rattle.client_run.proofs.Updates.{all_left, SameLengths}
+use Rattle.client_run.proofs.merging.count_updates.Given as goal
+
+-- those counted and those left are all
+abbrev pub invariant-loop-list : goal.invariant-loop-list
+invariant-loop-list l = record {
+  lengths : SameLengths l.scripts l.told l.list-index;
+  counted : l.count + length (all_left l.scripts l.told l.list-index) ≡ length (all_left l.scripts l.told 0);
+}

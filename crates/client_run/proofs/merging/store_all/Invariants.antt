@@ -1,0 +1,12 @@
+use Rattle.std.proofs.Common.{◌≡◌, length}
+use Rattle.client_run.specs.Storing.{stored, AreInside}
+use Rattle.client_run.proofs.Updates.{all_left, SameLengths}
+use Rattle.client_run.proofs.merging.store_all.Given as goal
+
+-- storing those that are left gives the whole
+abbrev pub invariant-loop-i : goal.invariant-loop-i
+invariant-loop-i l = record {
+  lengths : SameLengths l.scripts l.told l.i;
+  inside : AreInside (length l.history) (all_left l.scripts l.told l.i);
+  stored : stored l.history (all_left l.scripts l.told l.i) ≡ stored l.fn.history (all_left l.scripts l.told 0);
+}

@@ -1,0 +1,25 @@
+-- How far the first key of a class lies above a key.
+use Rattle.std.proofs.Common.{◌≡◌, ℕ, ◌+◌, ◌-◌, ◌%◌, ◌<◌, ◌≤◌, ◌↔◌, IsTrue, leb, arith}
+use Rattle.std.proofs.lemmas.Bool.{leb-true, le-leb}
+use Rattle.key_interval.specs.Keys.{Interval, MeetsClass}
+
+abbrev pub steps_to : ℕ → ℕ → ℕ
+steps_to low class = (class + 64 - low % 64) % 64
+
+pub class_at_steps : (low class : ℕ) → class < 64 → (low + steps_to low class) % 64 ≡ class
+class_at_steps low class fits = omega arith
+
+pub steps_to-least : (low class x : ℕ) → low ≤ x → x % 64 ≡ class → low + steps_to low class ≤ x
+steps_to-least low class x le is = omega arith
+
+-- The image is met where the first key of the class isn't above the interval.
+pub MeetsClass-by_steps : (keys : Interval) (class : ℕ) → class < 64 → keys.low ≤ keys.high → IsTrue (leb (steps_to keys.low class) (keys.high - keys.low)) ↔ MeetsClass keys class
+MeetsClass-by_steps keys class fits ordered = (
+  λ below.
+      let near = leb-true (steps_to keys.low class) (keys.high - keys.low) below in
+      (keys.low + steps_to keys.low class, (omega arith, omega arith), class_at_steps keys.low class fits),
+  λ met.
+      let least = steps_to-least keys.low class met.0 met.1.0 met.2 in
+      let inside = met.1.1 in
+      le-leb (steps_to keys.low class) (keys.high - keys.low) (omega arith),
+)

@@ -1,0 +1,9 @@
+//! Closed intervals of keys, and the classes of keys.
+#![tactic(auto)]
+
+mod keys;
+
+pub use keys::{Keys, class_of};
+
+#[cfg(test)]
+mod tests;
