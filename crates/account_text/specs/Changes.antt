@@ -1,4 +1,5 @@
 -- What each update of a history leaves at its key, in the order of the keys.
+-- Source: docs/FORMATS.md, "Accounts".
 use Rattle.std.specs.Prelude.{◌≡◌, ℕ, ◌+◌, ◌-◌, ◌*◌, ◌<◌, ◌≤◌, ◌==◌, if◌then◌else◌, Bool, true, false, IsTrue, Option, Some, None, is_some, List, length, All, slice_index, slice_index_or}
 use Rattle.std.specs.List.{list_any}
 use Rattle.std.specs.FinMap as map

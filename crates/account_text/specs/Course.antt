@@ -1,4 +1,5 @@
 -- What contracts see of a history that was looked through.
+-- Source: docs/FORMATS.md, "Accounts".
 use Rattle.std.specs.Prelude.{ℕ, List}
 use Rattle.prcu_model.specs.declared.operation.Update.{Update}
 use Rattle.prcu_model.specs.Replies.{Room}

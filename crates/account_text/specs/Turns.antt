@@ -1,4 +1,5 @@
 -- The updates of each caller, counted.
+-- Source: docs/FORMATS.md, "Accounts".
 use Rattle.std.specs.Prelude.{◌≡◌, ℕ, ◌<◌, ◌==◌, List, length, take, count_by, slice_index, slice_index_or}
 use Rattle.prcu_model.specs.declared.operation.Update.{Update}
 

@@ -150,8 +150,8 @@ pub fn are_explained_by(
 
 /// Whether the history explains what the scripts were told, which share so many slots: each script has an answer for
 /// each operation; the updates that it was told of are those of the history, at their positions, and there are no
-/// others; each reply fits its update; and the other lines have fronts that don't fall. The history is replayed once,
-/// and the time of a line is that of a search among the updates of its key.
+/// others; each reply fits its update; and the other lines have fronts that don't fall. The history is replayed once; a
+/// line takes a search among its updates, and a script passes each of them at most once besides.
 pub fn is_explained(
     alloc: Global,
     scripts: &Scripts,

@@ -63,7 +63,8 @@ pub fn number_scripts(
 
 /// What each script was told, with the number that stands beside each line: at an update its position in the history,
 /// and else the least front that explains the reply and isn't below the number of the line before it. The scripts share
-/// so many slots. The history is replayed once, and the time of a line is that of a search among the updates of its key.
+/// so many slots. The history is replayed once; a line takes a search among its updates, and a script passes each of
+/// them at most once besides.
 pub fn fronts(
     alloc: Global,
     scripts: &Scripts,

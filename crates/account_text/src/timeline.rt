@@ -13,7 +13,7 @@ use std::alloc::Global;
 use std::marker::Model;
 
 // What an update left at its key.
-#[derive(Clone, Copy, Debug)]
+#[derive(Clone, Copy)]
 struct Change {
     key: u64,
     position: u64,
