@@ -35,25 +35,28 @@ is_cut() {
 
 is_as_always() { [ "$status" = "$always" ] && cmp -s "$out/written" "$out/wanted"; }
 
-# Refuses each of so many in turn, and two past the last one, where nothing is refused:
-# `refuse SETTING COUNT STATUS LINE OTHER..`.
+# Refuses each of so many in turn, and two past the last one, where nothing is refused. One allocation is asked for ahead,
+# and again when it is needed: where only the first is refused, the run is as always with one allocation more.
+# What was written before it is as many bytes for each that wasn't refused: `refuse SETTING COUNT STATUS LINE BYTES OTHER..`
 refuse() {
-    local setting=$1 count=$2 wanted=$3 line=$4 refused=0 n
-    shift 4
+    local setting=$1 count=$2 wanted=$3 line=$4 before=$5 refused=0 again='' n
+    shift 5
     for n in $(seq 1 $((count + 2))); do
         run_with "$@" "$setting=$n"
         if [ "$n" -gt "$count" ]; then
-            is_as_always || error "$* $setting=$n"
-        elif is_cut "$wanted" "$line" && { [ "$wanted" = 5 ] || ! [ -s "$out/written" ]; }; then
+            is_as_always || error "${*:+$* }$setting=$n"
+        elif is_cut "$wanted" "$line" && [ "$(stat -c %s "$out/written")" = $((before * (n - 1))) ]; then
             refused=$((refused + 1))
+        elif [ "$setting" = FAIL_ALLOC ] && is_as_always && [ "$allocations" = $((count + 1)) ]; then
+            again=", number $n was asked for again"
         else
-            error "$* $setting=$n"
+            error "${*:+$* }$setting=$n"
         fi
     done
-    echo "$words: $* $setting from 1 to $count: $refused ended with status $wanted; then as always"
+    echo "$words:${*:+ $*} $setting from 1 to $count: $refused ended with status $wanted$again; then as always"
 }
 
-# One command: `try NAME`. Its input stands in `input`, its words in `words`, its status without a fault in `always`.
+# One command. Its input stands in `input`, its words in `words`, its status without a fault in `always`.
 try() {
     local all piece
     status=0
@@ -63,14 +66,14 @@ try() {
     run_with
     is_as_always || error 'no fault'
     all=$allocations
-    refuse FAIL_ALLOC "$all" 6 'out of memory'
-    refuse FAIL_ALLOC_FROM "$all" 6 'out of memory'
-    for piece in 1 7 1000000; do
-        run_with PIECE="$piece"
+    refuse FAIL_ALLOC "$all" 6 'out of memory' 0
+    refuse FAIL_ALLOC_FROM "$all" 6 'out of memory' 0
+    for piece in 7 1000000; do
+        run_with "PIECE=$piece"
         is_as_always || error "PIECE=$piece"
-        refuse FAIL_READ "$reads" 4 'cannot read the input' PIECE="$piece"
-        run_with PIECE="$piece"
-        refuse FAIL_WRITE "$writes" 5 'cannot write the output' PIECE="$piece"
+        all=$writes
+        refuse FAIL_READ "$reads" 4 'cannot read the input' 0 "PIECE=$piece"
+        refuse FAIL_WRITE "$all" 5 'cannot write the output' "$piece" "PIECE=$piece"
     done
 }
 
