@@ -9,6 +9,7 @@ use std::sync::Wait;
 use std::test::Fail;
 use std::thread::Threads;
 
+mod faults;
 mod loads;
 mod slots;
 mod words;
@@ -317,22 +318,8 @@ fn what_run_writes_is_checked_as_true(rt: HostRuntime) -> Result<(), Fail> {
 }
 
 #[test]
-fn limits_and_faults_have_their_statuses(rt: HostRuntime) -> Result<(), Fail> {
+fn limits_have_their_statuses(rt: HostRuntime) -> Result<(), Fail> {
     let alloc = rt.alloc();
-    let input = b"script\nput 5 50\nget 5\ndel 5\nget 5\n";
-
-    // The second read fails, and nothing is written.
-    let mut source = source_of(alloc, input, 4, &[1])?;
-    let (status, written) = answer(&rt, alloc, &["run"], &mut source, 1000)?;
-    assert_eq!(rt; status, Status::ReadFault);
-    assert!(rt; written.is_empty());
-
-    // Ten bytes have room, and hold the front of the account.
-    let mut source = source_of(alloc, input, 4, &[])?;
-    let (status, written) = answer(&rt, alloc, &["run"], &mut source, 10)?;
-    assert_eq!(rt; status, Status::WriteFault);
-    assert!(rt; written.as_slice() == b"script 0\np".as_slice());
-
     // 64 scripts are good, and the 65th line `script` is bad.
     let mut many = Vec::new(alloc);
     for _ in 0..64 {

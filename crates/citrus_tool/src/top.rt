@@ -35,9 +35,11 @@ pub fn tool<R: Threads + Wait + Sync, S: Source, K: Sink, G: Gate + Sync>(
     // A command that reads nothing leaves the source as it is.
     ensures reads_nothing { (command : command.Command) → Asks (map string_bytes words.now) command → (Reads command → ⊥) → source.new ≡ source.old }
 
-    // Faults are those of the source and the sink.
+    // Faults are those of the source and the sink, and each is told: a count stays as it was at every other status.
     ensures read_fault { result.status ≡ Status.ReadFault → Rose (S.faults source.old) (S.faults source.new) }
     ensures write_fault { result.status ≡ Status.WriteFault → Rose (K.faults sink.old) (K.faults sink.new) }
+    ensures no_read_fault { (result.status ≡ Status.ReadFault → ⊥) → S.faults source.new ≡ S.faults source.old }
+    ensures no_write_fault { (result.status ≡ Status.WriteFault → ⊥) → K.faults sink.new ≡ K.faults sink.old }
     ensures source_counted { S.faults source.old ≤ S.faults source.new }
     ensures sink_counted { K.faults sink.old ≤ K.faults sink.new }
 
@@ -83,6 +85,8 @@ fn answer_from<S: Source, K: Sink>(
     requires { IsInRange command }
     ensures read_fault { result ≡ Status.ReadFault → Rose (S.faults source.old) (S.faults source.new) }
     ensures write_fault { result ≡ Status.WriteFault → Rose (K.faults sink.old) (K.faults sink.new) }
+    ensures no_read_fault { (result ≡ Status.ReadFault → ⊥) → S.faults source.new ≡ S.faults source.old }
+    ensures no_write_fault { (result ≡ Status.WriteFault → ⊥) → K.faults sink.new ≡ K.faults sink.old }
     ensures source_counted { S.faults source.old ≤ S.faults source.new }
     ensures sink_counted { K.faults sink.old ≤ K.faults sink.new }
     ensures too_long { TakesToLimit (limit_of command) (S.rest source.old) (S.rest source.new) (result ≡ Status.TooLong) }
@@ -125,6 +129,7 @@ fn input_of<S: Source>(
     ensures unread { (Reads command → ⊥) → source.new ≡ source.old }
     ensures too_long { TakesToLimit (limit_of command) (S.rest source.old) (S.rest source.new) (result ≡ Err ReadError.TooLong) }
     ensures fault { result ≡ Err ReadError.Fault → Rose (S.faults source.old) (S.faults source.new) }
+    ensures no_fault { (result ≡ Err ReadError.Fault → ⊥) → S.faults source.new ≡ S.faults source.old }
     ensures counted { S.faults source.old ≤ S.faults source.new }
 {
     match command {

@@ -1,5 +1,5 @@
 //! Where bytes come from and where they go. Either side may fail, and counts how often it did.
-ghost use Rattle.std.specs.Prelude.{◌≡◌, ◌<◌, ◌≤◌, take, length, IfOk, OnErr};
+ghost use Rattle.std.specs.Prelude.{◌≡◌, ◌<◌, ◌≤◌, take, length, IfOk, OnOk, OnErr};
 ghost use Rattle.io_edge.specs.Edge.{Rose, Takes, IsAtEnd, Appends};
 
 use thiserror::Error;
@@ -16,7 +16,7 @@ pub trait Source {
     /// The bytes that are left, where the source tells them.
     ghost rest: { Self → Option (List ℕ) };
 
-    /// How often it failed. It never falls, and stays at 18446744073709551615 once it is there.
+    /// How often it failed: only `Failed` raises it. It stays at 18446744073709551615 once it is there.
     ghost faults: { Self → ℕ };
 
     /// How a read into so much room that took so many bytes leads from the source before it to the source after it, as
@@ -27,6 +27,7 @@ pub trait Source {
     /// buffer that isn't empty is the end.
     fn read(&mut self, into: &mut [u8]) -> Result<usize, Failed>
         ensures failed { OnErr result (Rose (faults self.old) (faults self.new)) }
+        ensures unfailed { OnOk result (faults self.new ≡ faults self.old) }
         ensures counted { faults self.old ≤ faults self.new }
         ensures within { IfOk result (λ n. n ≤ length into.new) }
         ensures taken { IfOk result (λ n. Takes (rest self.old) (rest self.new) (take n into.new)) }
@@ -42,13 +43,14 @@ pub trait Sink {
     /// The bytes written so far, where the sink tells them.
     ghost bytes: { Self → Option (List ℕ) };
 
-    /// How often it failed. It never falls, and stays at 18446744073709551615 once it is there.
+    /// How often it failed: only `Failed` raises it. It stays at 18446744073709551615 once it is there.
     ghost faults: { Self → ℕ };
 
     /// Writes the first bytes of `piece`, and tells how many: at least one, unless the piece is empty. At `Failed` it
     /// wrote none.
     fn write(&mut self, piece: &[u8]) -> Result<usize, Failed>
         ensures failed { OnErr result (Rose (faults self.old) (faults self.new)) }
+        ensures unfailed { OnOk result (faults self.new ≡ faults self.old) }
         ensures counted { faults self.old ≤ faults self.new }
         ensures within { IfOk result (λ n. n ≤ length piece.now) }
         ensures appended { IfOk result (λ n. Appends (bytes self.old) (bytes self.new) (take n piece.now)) }

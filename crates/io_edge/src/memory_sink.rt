@@ -1,5 +1,5 @@
 //! A sink in memory with a fixed capacity, which fails where it is told to.
-ghost use Rattle.std.specs.Prelude.{◌≡◌, ◌-◌, ◌<◌, ◌≤◌, ◌↔◌, ◌⊎◌, [], ◌++◌, Some, Ok, min, length, take, Contains, IsErr, IfOk, OnErr};
+ghost use Rattle.std.specs.Prelude.{◌≡◌, ◌-◌, ◌<◌, ◌≤◌, ◌↔◌, ◌⊎◌, [], ◌++◌, Some, Ok, min, length, take, Contains, IsErr, IfOk, OnOk, OnErr};
 ghost use Rattle.io_edge.specs.Edge.{raised};
 
 use crate::edge::{Failed, Sink};
@@ -78,6 +78,7 @@ impl Sink for MemorySink {
     /// isn't empty fails where no byte is free and at the chosen calls, and at no other. It takes no memory.
     fn write(&mut self, piece: &[u8]) -> Result<usize, Failed>
         ensures counted { self.old.faults ≤ self.new.faults }
+        ensures unfailed { OnOk result (self.new.faults ≡ self.old.faults) }
         ensures progress { IfOk result (λ n. 0 < length piece.now → 1 ≤ n) }
         ensures empty { length piece.now ≡ 0 → result ≡ Ok 0 }
         ensures chosen { 0 < length piece.now

@@ -1,5 +1,5 @@
 //! A source over bytes in memory, which fails where it is told to.
-ghost use Rattle.std.specs.Prelude.{◌≡◌, ◌<◌, ◌≤◌, ◌↔◌, Some, min, length, take, drop, Contains, IsErr, IfOk, OnErr};
+ghost use Rattle.std.specs.Prelude.{◌≡◌, ◌<◌, ◌≤◌, ◌↔◌, Some, min, length, take, drop, Contains, IsErr, IfOk, OnOk, OnErr};
 ghost use Rattle.io_edge.specs.Edge.{raised, Takes, IsAtEnd};
 
 use crate::edge::{Failed, Source};
@@ -65,6 +65,7 @@ impl Source for MemorySource {
     /// calls and at no other.
     fn read(&mut self, into: &mut [u8]) -> Result<usize, Failed>
         ensures counted { self.old.faults ≤ self.new.faults }
+        ensures unfailed { OnOk result (self.new.faults ≡ self.old.faults) }
         ensures within { IfOk result (λ n. n ≤ length into.new) }
         ensures taken { IfOk result (λ n. Takes (Some self.old.rest) (Some self.new.rest) (take n into.new)) }
         ensures end { IfOk result (λ n. n ≡ 0 → 0 < length into.old → IsAtEnd (Some self.old.rest)) }

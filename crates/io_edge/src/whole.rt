@@ -62,6 +62,7 @@ pub fn read_all<S: Source>(alloc: Global, source: &mut S, limit: u64) -> Result<
     ensures last { OnOk result (ReadsToEnd S.reads source.old source.new) }
 
     ensures fault { result ≡ Err ReadError.Fault → Rose (S.faults source.old) (S.faults source.new) }
+    ensures no_fault { (result ≡ Err ReadError.Fault → ⊥) → S.faults source.new ≡ S.faults source.old }
     ensures counted { S.faults source.old ≤ S.faults source.new }
     ensures too_long { TakesToLimit limit (S.rest source.old) (S.rest source.new) (result ≡ Err ReadError.TooLong) }
 {
@@ -91,6 +92,7 @@ fn take_piece<S: Source>(
     ensures end { IfOk result (λ n. n ≡ 0 → IsAtEnd (S.rest source.old)) }
     ensures led { IfOk result (λ n. (room : ℕ) × (1 ≤ room) × S.reads source.old room n source.new) }
     ensures fault { result ≡ Err ReadError.Fault → Rose (S.faults source.old) (S.faults source.new) }
+    ensures no_fault { (result ≡ Err ReadError.Fault → ⊥) → S.faults source.new ≡ S.faults source.old }
     ensures counted { S.faults source.old ≤ S.faults source.new }
     ensures too_long { TakesToLimit (limit - vec_len text.old) (S.rest source.old) (S.rest source.new)
         (result ≡ Err ReadError.TooLong) }
@@ -108,6 +110,7 @@ fn take_piece<S: Source>(
 /// Writes the whole text. At `WriteFault` the sink failed, and a front of the text was written.
 pub fn write_all<K: Sink>(sink: &mut K, text: &[u8]) -> Result<(), WriteFault>
     ensures whole { OnOk result (Appends (K.bytes sink.old) (K.bytes sink.new) text.now) }
+    ensures no_fault { OnOk result (K.faults sink.new ≡ K.faults sink.old) }
     ensures fault { OnErr result (Rose (K.faults sink.old) (K.faults sink.new)) }
     ensures front { OnErr result (AppendsFront (K.bytes sink.old) (K.bytes sink.new) text.now) }
     ensures counted { K.faults sink.old ≤ K.faults sink.new }
