@@ -1,0 +1,10 @@
+pub mod Lists
+pub mod Memory
+pub mod Slots
+pub mod Marks
+pub mod Known
+pub mod Steps
+pub mod Buckets
+pub mod Readers
+pub mod Seats
+pub mod Rule
