@@ -1,0 +1,4 @@
+pub mod Lists
+pub mod Paths
+pub mod MarkLists
+pub mod Frames
