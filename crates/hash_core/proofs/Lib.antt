@@ -5,3 +5,5 @@ pub mod Classes
 pub mod Frames
 pub mod Stores
 pub mod SeatFrames
+pub mod Whole
+pub mod Adds
