@@ -7,3 +7,4 @@ pub mod Stores
 pub mod SeatFrames
 pub mod Whole
 pub mod Adds
+pub mod Quiet
