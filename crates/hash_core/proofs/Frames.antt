@@ -30,6 +30,10 @@ use Rattle.std.proofs.Common.{ne_eqb, length-append}
 use Rattle.hash_core.proofs.Lists.{at_below, each_set, total_set, all_map, all_change, all_times, times_here, times_append}
 use Rattle.hash_core.proofs.Paths.{path_cons, IsPath-same, IsPath-from, seek-same, HaveDistinctKeys-same}
 
+-- What stands in the slots of a class is the same.
+abbrev pub SameSlots : List ℕ → ℕ → Memory → Memory → Type 0
+SameSlots capacities c m m' = (s : ℕ) → is_slot_of capacities c s ≡ true → (m' (Key s) ≡ m (Key s)) × (m' (Value s) ≡ m (Value s)) × (m' (Next s) ≡ m (Next s)) × (m' (Chain s) ≡ m (Chain s))
+
 -- What the parts on one class read of the memory is the same.
 pub record SameWords (capacities : List ℕ) (c : ℕ) (m m' : Memory) : Type 0 where
   pub lock : m' (Lock c) ≡ m (Lock c)
@@ -37,7 +41,7 @@ pub record SameWords (capacities : List ℕ) (c : ℕ) (m m' : Memory) : Type 0 
   pub head : m' (Head c) ≡ m (Head c)
   pub free : m' (Free c) ≡ m (Free c)
   pub retired : m' (Retired c) ≡ m (Retired c)
-  pub slots : (s : ℕ) → is_slot_of capacities c s ≡ true → (m' (Key s) ≡ m (Key s)) × (m' (Value s) ≡ m (Value s)) × (m' (Next s) ≡ m (Next s)) × (m' (Chain s) ≡ m (Chain s))
+  pub slots : SameSlots capacities c m m'
 
 -- The marks and updates that came say nothing of the class: where its slots were unlinked, and its keys' pairs.
 pub record SameMarks (capacities : List ℕ) (c : ℕ) (h h' : List Mark) (us us' : List Update) : Type 0 where
@@ -66,7 +70,7 @@ pub record SameView (c : ℕ) (v w : View) : Type 0 where
   pub section : SameSection c v.section w.section
   pub hold : SameHold c v.hold w.hold
 
-section_back : (c : ℕ) (a b : Option Section) (t : Section) → SameSection c a b → b ≡ Some t → t.key % 64 ≡ c → a ≡ Some t
+pub section_back : (c : ℕ) (a b : Option Section) (t : Section) → SameSection c a b → b ≡ Some t → t.key % 64 ≡ c → a ≡ Some t
 section_back c a None t same is class = absurd (cc)
 section_back c None (Some u) t same is class = absurd (same (let e : u ≡ t = cc in ap (λ (z : Section). z.key % 64) e ∙ class))
 section_back c (Some s) (Some u) t same is class =
@@ -134,6 +138,88 @@ module _ (capacities : List ℕ) (c : ℕ) (b : Bucket) (roles : HaveOneRole cap
       let one : times x (option_to_list (unlinked_of b.hold)) ≡ 1 = ap (λ o. times x (option_to_list o)) is ∙ (let t = times_here x [] in omega arith) in
       slot_case (is_slot_of capacities c x) _ r (omega arith)
 
+-- What readers of a class will answer, where its slots and marks are the same.
+module _ (capacities : List ℕ) (c : ℕ) (m m' : Memory) (h h' : List Mark) (us us' : List Update) (b : Bucket) (slots : SameSlots capacities c m m') (marks : SameMarks capacities c h h' us us') (roles : HaveOneRole capacities c b) where
+  pub still_said : (key from : ℕ) (answer : Option ℕ) → WasSaid us key from answer → WasSaid us' key from answer
+  still_said key from answer said = subst (λ z. WasSaid z key from answer) (sym marks.longer) (WasSaid-longer us marks.more key from answer said)
+
+  pub still_way : (section : Section) (slot : ℕ) → HasWay capacities c m h us b.chain section slot → HasWay capacities c m' h' us' b.chain section slot
+  still_way section slot way =
+      let of : (s : ℕ) → 1 ≤ times s (way.olds ++ way.rest) → is_slot_of capacities c s ≡ true = λ s there.
+          let sum = times_append s way.olds way.rest in
+          dite (dec_le 1 (times s way.olds))
+          (λ in_olds. all_times (λ t. is_slot_of capacities c t ≡ true) way.olds s way.slots in_olds)
+          (λ not_olds. let cut = times_append s way.front way.rest in let whole = ap (times s) way.joins in chain_slot capacities c b roles s (omega arith)) in
+      record {
+        olds = way.olds;
+        front = way.front;
+        rest = way.rest;
+        some = way.some;
+        path = IsPath-same (λ s. m (Next s)) (λ s. m' (Next s)) slot (way.olds ++ way.rest) (λ s there. (slots s (of s there)).2) way.path;
+        held = all_change (IsHeldBack h section) (IsHeldBack h' section) way.olds (λ s there p. (p.0, marks.gone s (all_times (λ t. is_slot_of capacities c t ≡ true) way.olds s way.slots there) ∙ p.1, p.2)) way.held;
+        slots = way.slots;
+        joins = way.joins;
+        said = subst (WasSaid us' section.key section.from) (sym (seek-same m m' section.key (way.olds ++ way.rest) (λ s there. let q = slots s (of s there) in (q.0, q.1)))) (still_said section.key section.from _ way.said);
+      }
+
+  -- the first slot of a way is one of the class
+  pub way_slot : (section : Section) (slot : ℕ) → HasWay capacities c m h us b.chain section slot → is_slot_of capacities c slot ≡ true
+  way_slot section slot way =
+      let first = path_cons (λ s. m (Next s)) slot (way.olds ++ way.rest) way.some way.path in
+      let there : 1 ≤ times slot (way.olds ++ way.rest) = (let t = times_here slot first.0 in let e = ap (times slot) first.1 in omega arith) in
+      let sum = times_append slot way.olds way.rest in
+      dite (dec_le 1 (times slot way.olds))
+      (λ in_olds. all_times (λ t. is_slot_of capacities c t ≡ true) way.olds slot way.slots in_olds)
+      (λ not_olds. let cut = times_append slot way.front way.rest in let whole = ap (times slot) way.joins in chain_slot capacities c b roles slot (omega arith))
+
+  pub still_answer : (section : Section) (stand : Stand) → WillAnswer capacities c m h us b.chain section stand → WillAnswer capacities c m' h' us' b.chain section stand
+  still_answer section Start a = tt
+  still_answer section (Unread s) a = still_way section s a
+  still_answer section (Passed s) a = (still_way section s a.0, λ e. a.1 (sym (slots s (way_slot section s a.0)).0 ∙ e))
+  still_answer section (Found s) a = (still_way section s a.0, (slots s (way_slot section s a.0)).0 ∙ a.1)
+  still_answer section Ended a = still_said section.key section.from None a
+
+
+-- who holds the lock, where that is the same
+module _ (c : ℕ) (m m' : Memory) (vs : List View) (id : ℕ) (v w : View) (at : get_elem? vs id ≡ some v) (word : m' (Lock c) ≡ m (Lock c)) (place : w.place ≡ v.place) (held_same : SameHold c v.hold w.hold) where
+  pub locked_same : (hold : Option Hold) → IsLocked c m vs hold → IsLocked c m' (set vs id w) hold
+  locked_same None locked = (
+    word ∙ locked.0,
+    each_set (λ j u. HoldsOther c u) vs id w (hold_other c v.hold w.hold held_same (locked.1 id v at)) (λ j u other e. locked.1 j u e),
+  )
+  locked_same (Some hold) locked =
+      dite (ℕ_discrete locked.0 id)
+      (λ e.
+          let same : v ≡ locked.1 = some-injective v locked.1 (sym at ∙ subst (λ k. get_elem? vs k ≡ some locked.1) e locked.2) in
+          let held : v.hold ≡ Some hold = ap (λ (z : View). z.hold) same ∙ locked.3 in (
+            id,
+            w,
+            set_here vs id w (at_below vs id v at),
+            hold_same c v.hold w.hold hold held_same held locked.4,
+            locked.4,
+            word ∙ locked.5 ∙ ap (λ n. n + 1) (ap (λ (z : View). z.place) (sym same) ∙ sym place),
+            λ j u other. λ there. each_set (λ k z. k ≢ id → HoldsOther c z) vs id w (λ ne. absurd (ne refl)) (λ k z ne q _. locked.6 k z (λ f. ne (f ∙ e)) q) j u there other,
+          ))
+      (λ ne. (
+        locked.0,
+        locked.1,
+        set_else vs id locked.0 w ne ∙ locked.2,
+        locked.3,
+        locked.4,
+        word ∙ locked.5,
+        λ j u other there. each_set (λ k z. k ≢ locked.0 → HoldsOther c z) vs id w (λ far. hold_other c v.hold w.hold held_same (locked.6 id v (λ f. ne (sym f)) at)) (λ k z not_id q far. locked.6 k z far q) j u there other,
+      ))
+
+
+-- slots that no section holds back, where the sections are the same
+module _ (capacities : List ℕ) (c : ℕ) (h h' : List Mark) (vs : List View) (id : ℕ) (v w : View) (at : get_elem? vs id ≡ some v) (gone : (s : ℕ) → is_slot_of capacities c s ≡ true → gone_at s h' ≡ gone_at s h) (sections : SameSection c v.section w.section) where
+  pub still_free : (s : ℕ) → is_slot_of capacities c s ≡ true → IsFreeOfReaders c h vs s → IsFreeOfReaders c h' (set vs id w) s
+  still_free s of free p j u section was there is class =
+      each_set (λ k z. z.section ≡ Some section → p < section.entered) vs id w
+      (λ mine. free p id v section (sym (gone s of) ∙ was) at (section_back c v.section w.section section sections mine class) class)
+      (λ k z other e theirs. free p k z section (sym (gone s of) ∙ was) e theirs class) j u there is
+
+
 module _ (capacities : List ℕ) (c : ℕ) (m m' : Memory) (h h' : List Mark) (us us' : List Update) (vs : List View) (id : ℕ) (v w : View) (b : Bucket)
   (at : get_elem? vs id ≡ some v) (words : SameWords capacities c m m') (marks : SameMarks capacities c h h' us us') (view : SameView c v w) (r : BucketRule capacities c m h us vs b) where
   slot_chain : (x : ℕ) → 1 ≤ times x b.chain → is_slot_of capacities c x ≡ true
@@ -159,34 +245,6 @@ module _ (capacities : List ℕ) (c : ℕ) (m m' : Memory) (h h' : List Mark) (u
   frame_mapped = record {
     answers = λ key class. marks.pairs key class ∙ r.mapped.answers key class ∙ sym (seek-same m m' key b.chain (λ s there. let q = words.slots s (slot_chain s there) in (q.0, q.1)));
   }
-
-  locked_case : (hold : Option Hold) → IsLocked c m vs hold → IsLocked c m' (set vs id w) hold
-  locked_case None locked = (
-    words.lock ∙ locked.0,
-    each_set (λ j u. HoldsOther c u) vs id w (hold_other c v.hold w.hold view.hold (locked.1 id v at)) (λ j u other e. locked.1 j u e),
-  )
-  locked_case (Some hold) locked =
-      dite (ℕ_discrete locked.0 id)
-      (λ e.
-          let same : v ≡ locked.1 = some-injective v locked.1 (sym at ∙ subst (λ k. get_elem? vs k ≡ some locked.1) e locked.2) in
-          let held : v.hold ≡ Some hold = ap (λ (z : View). z.hold) same ∙ locked.3 in (
-            id,
-            w,
-            set_here vs id w (at_below vs id v at),
-            hold_same c v.hold w.hold hold view.hold held locked.4,
-            locked.4,
-            words.lock ∙ locked.5 ∙ ap (λ n. n + 1) (ap (λ (z : View). z.place) (sym same) ∙ sym view.place),
-            λ j u other. λ there. each_set (λ k z. k ≢ id → HoldsOther c z) vs id w (λ ne. absurd (ne refl)) (λ k z ne q _. locked.6 k z (λ f. ne (f ∙ e)) q) j u there other,
-          ))
-      (λ ne. (
-        locked.0,
-        locked.1,
-        set_else vs id locked.0 w ne ∙ locked.2,
-        locked.3,
-        locked.4,
-        words.lock ∙ locked.5,
-        λ j u other there. each_set (λ k z. k ≢ locked.0 → HoldsOther c z) vs id w (λ far. hold_other c v.hold w.hold view.hold (locked.6 id v (λ f. ne (sym f)) at)) (λ k z not_id q far. locked.6 k z far q) j u there other,
-      ))
 
   frame_known : IsKnown capacities c m' b.hold
   frame_known = record {
@@ -225,68 +283,23 @@ module _ (capacities : List ℕ) (c : ℕ) (m m' : Memory) (h h' : List Mark) (u
         omega arith;
   }
 
-  still_free : (s : ℕ) → is_slot_of capacities c s ≡ true → IsFreeOfReaders c h vs s → IsFreeOfReaders c h' (set vs id w) s
-  still_free s of free p j u section gone there is class =
-      each_set (λ k z. z.section ≡ Some section → p < section.entered) vs id w
-      (λ mine. free p id v section (sym (marks.gone s of) ∙ gone) at (section_back c v.section w.section section view.section mine class) class)
-      (λ k z other e theirs. free p k z section (sym (marks.gone s of) ∙ gone) e theirs class) j u there is
-
   frame_clean : AreClean capacities c h' (set vs id w) b
   frame_clean = record {
-    free = all_change (IsFreeOfReaders c h vs) (IsFreeOfReaders c h' (set vs id w)) b.free (λ s there p. still_free s (free_slot capacities c b r.roles s there) p) r.clean.free;
-    moved = all_change (IsFreeOfReaders c h vs) (IsFreeOfReaders c h' (set vs id w)) b.moved (λ s there p. still_free s (moved_slot capacities c b r.roles s there) p) r.clean.moved;
-    clear = λ hold is clear s of. still_free s of (r.clean.clear hold is clear s of);
+    free = all_change (IsFreeOfReaders c h vs) (IsFreeOfReaders c h' (set vs id w)) b.free (λ s there p. still_free capacities c h h' vs id v w at marks.gone view.section s (free_slot capacities c b r.roles s there) p) r.clean.free;
+    moved = all_change (IsFreeOfReaders c h vs) (IsFreeOfReaders c h' (set vs id w)) b.moved (λ s there p. still_free capacities c h h' vs id v w at marks.gone view.section s (moved_slot capacities c b r.roles s there) p) r.clean.moved;
+    clear = λ hold is clear s of. still_free capacities c h h' vs id v w at marks.gone view.section s of (r.clean.clear hold is clear s of);
   }
-
-  still_said : (key from : ℕ) (answer : Option ℕ) → WasSaid us key from answer → WasSaid us' key from answer
-  still_said key from answer said = subst (λ z. WasSaid z key from answer) (sym marks.longer) (WasSaid-longer us marks.more key from answer said)
-
-  still_way : (section : Section) (slot : ℕ) → HasWay capacities c m h us b.chain section slot → HasWay capacities c m' h' us' b.chain section slot
-  still_way section slot way =
-      let of : (s : ℕ) → 1 ≤ times s (way.olds ++ way.rest) → is_slot_of capacities c s ≡ true = λ s there.
-          let sum = times_append s way.olds way.rest in
-          dite (dec_le 1 (times s way.olds))
-          (λ in_olds. all_times (λ t. is_slot_of capacities c t ≡ true) way.olds s way.slots in_olds)
-          (λ not_olds. let cut = times_append s way.front way.rest in let whole = ap (times s) way.joins in slot_chain s (omega arith)) in
-      record {
-        olds = way.olds;
-        front = way.front;
-        rest = way.rest;
-        some = way.some;
-        path = IsPath-same (λ s. m (Next s)) (λ s. m' (Next s)) slot (way.olds ++ way.rest) (λ s there. (words.slots s (of s there)).2) way.path;
-        held = all_change (IsHeldBack h section) (IsHeldBack h' section) way.olds (λ s there p. (p.0, marks.gone s (all_times (λ t. is_slot_of capacities c t ≡ true) way.olds s way.slots there) ∙ p.1, p.2)) way.held;
-        slots = way.slots;
-        joins = way.joins;
-        said = subst (WasSaid us' section.key section.from) (sym (seek-same m m' section.key (way.olds ++ way.rest) (λ s there. let q = words.slots s (of s there) in (q.0, q.1)))) (still_said section.key section.from _ way.said);
-      }
-
-  -- the first slot of a way is one of the class
-  way_slot : (section : Section) (slot : ℕ) → HasWay capacities c m h us b.chain section slot → is_slot_of capacities c slot ≡ true
-  way_slot section slot way =
-      let first = path_cons (λ s. m (Next s)) slot (way.olds ++ way.rest) way.some way.path in
-      let there : 1 ≤ times slot (way.olds ++ way.rest) = (let t = times_here slot first.0 in let e = ap (times slot) first.1 in omega arith) in
-      let sum = times_append slot way.olds way.rest in
-      dite (dec_le 1 (times slot way.olds))
-      (λ in_olds. all_times (λ t. is_slot_of capacities c t ≡ true) way.olds slot way.slots in_olds)
-      (λ not_olds. let cut = times_append slot way.front way.rest in let whole = ap (times slot) way.joins in slot_chain slot (omega arith))
-
-  still_answer : (section : Section) (stand : Stand) → WillAnswer capacities c m h us b.chain section stand → WillAnswer capacities c m' h' us' b.chain section stand
-  still_answer section Start a = tt
-  still_answer section (Unread s) a = still_way section s a
-  still_answer section (Passed s) a = (still_way section s a.0, λ e. a.1 (sym (words.slots s (way_slot section s a.0)).0 ∙ e))
-  still_answer section (Found s) a = (still_way section s a.0, (words.slots s (way_slot section s a.0)).0 ∙ a.1)
-  still_answer section Ended a = still_said section.key section.from None a
 
   frame_answered : AreAnswered capacities c m' h' us' (set vs id w) b.chain
   frame_answered = record {
     readers = λ j u section there is class.
         each_set (λ k z. z.section ≡ Some section → WillAnswer capacities c m' h' us' b.chain section section.stand) vs id w
-        (λ mine. still_answer section section.stand (r.answered.readers id v section at (section_back c v.section w.section section view.section mine class) class))
-        (λ k z other e theirs. still_answer section section.stand (r.answered.readers k z section e theirs class)) j u there is;
+        (λ mine. still_answer capacities c m m' h h' us us' b words.slots marks r.roles section section.stand (r.answered.readers id v section at (section_back c v.section w.section section view.section mine class) class))
+        (λ k z other e theirs. still_answer capacities c m m' h h' us us' b words.slots marks r.roles section section.stand (r.answered.readers k z section e theirs class)) j u there is;
     loaded = λ j u section value there is class read.
         each_set (λ k z. z.section ≡ Some section → WasSaid us' section.key section.from (Some value)) vs id w
-        (λ mine. still_said section.key section.from (Some value) (r.answered.loaded id v section value at (section_back c v.section w.section section view.section mine class) class read))
-        (λ k z other e theirs. still_said section.key section.from (Some value) (r.answered.loaded k z section value e theirs class read)) j u there is;
+        (λ mine. still_said capacities c m m' h h' us us' b words.slots marks r.roles section.key section.from (Some value) (r.answered.loaded id v section value at (section_back c v.section w.section section view.section mine class) class read))
+        (λ k z other e theirs. still_said capacities c m m' h h' us us' b words.slots marks r.roles section.key section.from (Some value) (r.answered.loaded k z section value e theirs class read)) j u there is;
   }
 
   -- the whole rule on a class, where a step was made elsewhere
@@ -296,7 +309,7 @@ module _ (capacities : List ℕ) (c : ℕ) (m m' : Memory) (h h' : List Mark) (u
     listed = frame_listed;
     roles = r.roles;
     mapped = frame_mapped;
-    locked = locked_case b.hold r.locked;
+    locked = locked_same c m m' vs id v w at words.lock view.place view.hold b.hold r.locked;
     known = frame_known;
     ages = frame_ages;
     counted = frame_counted;
