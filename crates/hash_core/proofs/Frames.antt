@@ -180,6 +180,20 @@ module _ (capacities : List ℕ) (c : ℕ) (m m' : Memory) (h h' : List Mark) (u
   still_answer section Ended a = still_said section.key section.from None a
 
 
+-- where slots were unlinked, where that is the same
+module _ (capacities : List ℕ) (c : ℕ) (h h' : List Mark) (b : Bucket) (gone : (s : ℕ) → is_slot_of capacities c s ≡ true → gone_at s h' ≡ gone_at s h) (roles : HaveOneRole capacities c b) where
+  still_gone : (s : ℕ) → is_slot_of capacities c s ≡ true → IsGone h s → IsGone h' s
+  still_gone s of was = (was.0, gone s of ∙ was.1)
+
+  pub frame_ages_same : HaveAges h b → HaveAges h' b
+  frame_ages_same ages = record {
+    chain = all_change (λ s. gone_at s h ≡ None) (λ s. gone_at s h' ≡ None) b.chain (λ s there p. gone s (chain_slot capacities c b roles s there) ∙ p) ages.chain;
+    taken = λ s is. gone s (taken_slot capacities c b roles s is) ∙ ages.taken s is;
+    retired = all_change (IsGone h) (IsGone h') b.retired (λ s there p. still_gone s (retired_slot capacities c b roles s there) p) ages.retired;
+    moved = all_change (IsGone h) (IsGone h') b.moved (λ s there p. still_gone s (moved_slot capacities c b roles s there) p) ages.moved;
+    unlinked = λ s is. still_gone s (unlinked_slot capacities c b roles s is) (ages.unlinked s is);
+  }
+
 -- who holds the lock, where that is the same
 module _ (c : ℕ) (m m' : Memory) (vs : List View) (id : ℕ) (v w : View) (at : get_elem? vs id ≡ some v) (word : m' (Lock c) ≡ m (Lock c)) (place : w.place ≡ v.place) (held_same : SameHold c v.hold w.hold) where
   pub locked_same : (hold : Option Hold) → IsLocked c m vs hold → IsLocked c m' (set vs id w) hold
@@ -261,18 +275,6 @@ module _ (capacities : List ℕ) (c : ℕ) (m m' : Memory) (h h' : List Mark) (u
       known_case (Chain s) of = (words.slots s of).3
       known_case _ of = absurd of
 
-  still_gone : (s : ℕ) → is_slot_of capacities c s ≡ true → IsGone h s → IsGone h' s
-  still_gone s of gone = (gone.0, marks.gone s of ∙ gone.1)
-
-  frame_ages : HaveAges h' b
-  frame_ages = record {
-    chain = all_change (λ s. gone_at s h ≡ None) (λ s. gone_at s h' ≡ None) b.chain (λ s there p. marks.gone s (slot_chain s there) ∙ p) r.ages.chain;
-    taken = λ s is. marks.gone s (taken_slot capacities c b r.roles s is) ∙ r.ages.taken s is;
-    retired = all_change (IsGone h) (IsGone h') b.retired (λ s there p. still_gone s (retired_slot capacities c b r.roles s there) p) r.ages.retired;
-    moved = all_change (IsGone h) (IsGone h') b.moved (λ s there p. still_gone s (moved_slot capacities c b r.roles s there) p) r.ages.moved;
-    unlinked = λ s is. still_gone s (unlinked_slot capacities c b r.roles s is) (r.ages.unlinked s is);
-  }
-
   frame_counted : AreCounted c m' (set vs id w)
   frame_counted = record {
     readers =
@@ -311,7 +313,7 @@ module _ (capacities : List ℕ) (c : ℕ) (m m' : Memory) (h h' : List Mark) (u
     mapped = frame_mapped;
     locked = locked_same c m m' vs id v w at words.lock view.place view.hold b.hold r.locked;
     known = frame_known;
-    ages = frame_ages;
+    ages = frame_ages_same capacities c h h' b marks.gone r.roles r.ages;
     counted = frame_counted;
     clean = frame_clean;
     answered = frame_answered;

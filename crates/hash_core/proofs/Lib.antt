@@ -8,3 +8,4 @@ pub mod SeatFrames
 pub mod Whole
 pub mod Adds
 pub mod Quiet
+pub mod Sections
