@@ -9,3 +9,4 @@ pub mod Whole
 pub mod Adds
 pub mod Quiet
 pub mod Sections
+pub mod Locks

@@ -4,6 +4,7 @@ use Rattle.hash_core.specs.declared.words.Field.{Field}
 use Rattle.hash_core.specs.declared.words.Field.TheVariants.{Front, Lock, Readers, Head, Free, Retired, Key, Value, Next, Chain}
 use Rattle.hash_core.specs.Memory.{Memory, same_field, stored}
 use Rattle.hash_core.specs.Slots.{is_slot_of, IsOfClass}
+use Rattle.std.proofs.lemmas.Bool.{eqb-true}
 use Rattle.hash_core.proofs.Classes.{one_class}
 use Rattle.hash_core.proofs.Frames.{SameWords}
 
@@ -25,6 +26,20 @@ same_self (Key s) = eq-eqb s s refl
 same_self (Value s) = eq-eqb s s refl
 same_self (Next s) = eq-eqb s s refl
 same_self (Chain s) = eq-eqb s s refl
+
+-- the test on fields tells equal ones
+pub same_is : (field other : Field) → same_field field other ≡ true → field ≡ other
+same_is Front Front e = refl
+same_is (Lock c) (Lock d) e = ap Lock (eqb-true c d e)
+same_is (Readers c) (Readers d) e = ap Readers (eqb-true c d e)
+same_is (Head c) (Head d) e = ap Head (eqb-true c d e)
+same_is (Free c) (Free d) e = ap Free (eqb-true c d e)
+same_is (Retired c) (Retired d) e = ap Retired (eqb-true c d e)
+same_is (Key c) (Key d) e = ap Key (eqb-true c d e)
+same_is (Value c) (Value d) e = ap Value (eqb-true c d e)
+same_is (Next c) (Next d) e = ap Next (eqb-true c d e)
+same_is (Chain c) (Chain d) e = ap Chain (eqb-true c d e)
+same_is _ _ e = absurd (cc)
 
 pub same_words : (capacities : List ℕ) (d : ℕ) (m : Memory) → SameWords capacities d m m
 same_words capacities d m = record { lock = refl; readers = refl; head = refl; free = refl; retired = refl; slots = λ s of. (refl, refl, refl, refl) }
