@@ -10,3 +10,5 @@ pub mod Adds
 pub mod Quiet
 pub mod Sections
 pub mod Locks
+pub mod Ways
+pub mod Stocks
