@@ -12,3 +12,4 @@ pub mod Sections
 pub mod Locks
 pub mod Ways
 pub mod Stocks
+pub mod Memories

@@ -1,6 +1,6 @@
 -- The table's words as a memory with named fields.
 -- Source: docs/ALGORITHM.md, "The hash dictionary".
-use Rattle.std.specs.Prelude.{ℕ, ◌+◌, ◌*◌, ◌==◌, Bool, true, false, if◌then◌else◌, List, slice_index}
+use Rattle.std.specs.Prelude.{ℕ, ◌+◌, ◌*◌, ◌==◌, nat_lt, nat_le, ◌&&◌, Bool, true, false, if◌then◌else◌, List, slice_index, sum}
 use Rattle.hash_core.specs.declared.words.Field.{Field}
 use Rattle.hash_core.specs.declared.words.Field.TheVariants.{Front, Lock, Readers, Head, Free, Retired, Key, Value, Next, Chain}
 
@@ -33,9 +33,22 @@ same_field _ _ = false
 abbrev pub Memory : Type 0
 Memory = Field → ℕ
 
--- the memory that a table's words are
-abbrev pub memory_of : List ℕ → Memory
-memory_of words field = slice_index words (word_of field)
+-- The table has the field: its class is one of 64, its slot one of the slots.
+abbrev pub is_field : List ℕ → Field → Bool
+is_field capacities Front = true
+is_field capacities (Lock c) = nat_lt c 64
+is_field capacities (Readers c) = nat_lt c 64
+is_field capacities (Head c) = nat_lt c 64
+is_field capacities (Free c) = nat_lt c 64
+is_field capacities (Retired c) = nat_lt c 64
+is_field capacities (Key s) = nat_le 1 s && nat_le s (sum capacities)
+is_field capacities (Value s) = nat_le 1 s && nat_le s (sum capacities)
+is_field capacities (Next s) = nat_le 1 s && nat_le s (sum capacities)
+is_field capacities (Chain s) = nat_le 1 s && nat_le s (sum capacities)
+
+-- the memory that a table's words are, 0 at a field that it hasn't
+abbrev pub memory_of : List ℕ → List ℕ → Memory
+memory_of capacities words field = if is_field capacities field then slice_index words (word_of field) else 0
 
 -- the memory after a store
 abbrev pub stored : Memory → Field → ℕ → Memory

@@ -54,4 +54,4 @@ pub record MemoryRule (capacities : List ℕ) (places tickets : ℕ) (m : Memory
 pub record Rule (shape : Shape) (words : List ℕ) (vs : List View) : Type 0 where
   pub marks : List Mark
   pub long : length words ≡ word_count shape.capacities.items
-  pub holds : MemoryRule shape.capacities.items shape.places shape.tickets (memory_of words) vs marks
+  pub holds : MemoryRule shape.capacities.items shape.places shape.tickets (memory_of shape.capacities.items words) vs marks

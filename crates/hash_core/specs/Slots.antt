@@ -16,19 +16,6 @@ base capacities c = sum (take c capacities)
 abbrev pub is_slot_of : List ℕ → ℕ → ℕ → Bool
 is_slot_of capacities c s = nat_lt (base capacities c) s && nat_le s (base capacities c + capacity capacities c)
 
--- The table has the field.
-abbrev pub IsField : List ℕ → Field → Type 0
-IsField capacities Front = Unit {0}
-IsField capacities (Lock c) = c < 64
-IsField capacities (Readers c) = c < 64
-IsField capacities (Head c) = c < 64
-IsField capacities (Free c) = c < 64
-IsField capacities (Retired c) = c < 64
-IsField capacities (Key s) = (1 ≤ s) × (s ≤ sum capacities)
-IsField capacities (Value s) = (1 ≤ s) × (s ≤ sum capacities)
-IsField capacities (Next s) = (1 ≤ s) × (s ≤ sum capacities)
-IsField capacities (Chain s) = (1 ≤ s) × (s ≤ sum capacities)
-
 -- what the holder of a class's bucket alone changes
 abbrev pub IsOfClass : List ℕ → ℕ → Field → Type 0
 IsOfClass capacities c Front = ⊥
