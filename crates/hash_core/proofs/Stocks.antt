@@ -356,3 +356,146 @@ module _ (capacities : List ℕ) (places tickets : ℕ) (m : Memory) (vs : List 
           });
         })
         (λ d _ ne. record { words = class_words capacities hold.class d m number ne field (of_class11 field f); marks = same_marks capacities d h; view = elsewhere_held capacities places tickets m vs h r id v at d hold new11 mine refl ne w refl refl refl })
+
+  -- H10, take
+  module _ (slot next : ℕ) (needs : NeedsTake v hold slot next) where
+    abbrev new_take : Hold
+    new_take = record (knowing hold (Free hold.class) next) { taken = Some slot }
+
+    abbrev m_take : Memory
+    m_take = stored m (Free hold.class) next
+
+    abbrev h_take : List Mark
+    h_take = h ++ Given slot ∷ []
+
+    abbrev w_take : View
+    w_take = after_take v hold slot next h
+
+    same_updates_take : updates_of h_take ≡ updates_of h
+    same_updates_take = updates_of-append h (Given slot ∷ []) ∙ append-nil (updates_of h)
+
+    first_free : (ss : List ℕ) × ((r.bucket hold.class).free ≡ slot ∷ ss) × IsPath (λ s. m (Chain s)) (m (Chain slot)) ss
+    first_free = path_cons (λ s. m (Chain s)) slot (r.bucket hold.class).free needs.some (subst (λ z. IsPath (λ s. m (Chain s)) z (r.bucket hold.class).free) (is_known (Free hold.class) slot needs.first).1 rule.listed.free)
+
+    abbrev others_free : List ℕ
+    others_free = first_free.0
+
+    slot_of_take : is_slot_of capacities hold.class slot ≡ true
+    slot_of_take = free_slot capacities hold.class (r.bucket hold.class) rule.roles slot (let t = times_here slot first_free.0 in let e = ap (times slot) first_free.1 in omega arith)
+
+    -- no section of the class holds the slot back
+    slot_clean : IsFreeOfReaders hold.class h vs slot
+    slot_clean = (subst (AllByRecursion (IsFreeOfReaders hold.class h vs)) first_free.1 rule.clean.free).0
+
+    others_clean : AllByRecursion (IsFreeOfReaders hold.class h vs) first_free.0
+    others_clean = (subst (AllByRecursion (IsFreeOfReaders hold.class h vs)) first_free.1 rule.clean.free).1
+
+    gone_take : (s : ℕ) → s ≢ slot → gone_at s h_take ≡ gone_at s h
+    gone_take s ne = gone_at-given_other h s slot (λ e. ne (sym e))
+
+    at_most_take : (x n : ℕ) → n ≡ cond (is_slot_of capacities hold.class x) 1 0 → n ≤ 1
+    at_most_take x n e = elim (is_slot_of capacities hold.class x) as (λ t. n ≡ cond t 1 0 → n ≤ 1) [ true ↦ λ f. omega arith | false ↦ λ f. omega arith ] e
+
+    -- the slot is in no other list
+    not_take : (xs : List ℕ) → ((x : ℕ) → times x xs + times x (r.bucket hold.class).free ≤ 1) → (s : ℕ) → 1 ≤ times s xs → s ≢ slot
+    not_take xs once s there e =
+        let a = once slot in
+        let t = times_here slot first_free.0 in
+        let f = ap (times slot) first_free.1 in
+        let d : 1 ≤ times slot xs = subst (λ z. 1 ≤ times z xs) e there in omega arith
+
+    still_free_take : (s : ℕ) → IsFreeOfReaders hold.class h vs s → IsFreeOfReaders hold.class h_take (set vs id w_take) s
+    still_free_take s free = dite (ℕ_discrete s slot)
+        (λ e. λ p j u section gone there is class. absurd (let g : gone_at slot h_take ≡ Some p = subst (λ z. gone_at z h_take ≡ Some p) e gone in let z : None ≡ Some p = sym (gone_at-given_here h slot) ∙ g in cc))
+        (λ ne. λ p j u section gone there is class. free_still capacities hold.class m h vs id v w_take at refl s free p j u section (sym (gone_take s ne) ∙ gone) there is class)
+
+    reuse_take : ReuseByClass capacities h_take
+    reuse_take j s d i p o given of gone there class =
+        elim (at_end h (Given slot) (Given s) j given) [
+          | inl old ↦
+              let below = at_below h j (Given s) old in
+              let same : take j h_take ≡ take j h = (let le : j ≤ length h = omega arith in take-append-le j h (Given slot ∷ []) le) in
+              r.reuse j s d i p o old of (ap (gone_at s) (sym same) ∙ gone) (ap (open_at p) (sym same) ∙ there) class
+          | inr new ↦
+              let e : slot ≡ s = (let z = new.1 in cc) in
+              let same : take j h_take ≡ h = ap (λ n. take n h_take) new.0 ∙ take-append_seam h (Given slot ∷ []) in
+              let q = r.sections.all p o (ap (open_at p) (sym same) ∙ there) in
+              let c_is : hold.class ≡ d = one_class capacities hold.class d slot slot_of_take (subst (λ z. is_slot_of capacities d z ≡ true) (sym e) of) in
+              let key : q.2.key % 64 ≡ hold.class = ap (λ (z : Open). z.key % 64) (sym q.6) ∙ class ∙ sym c_is in
+              let l = slot_clean i q.0 q.1 q.2 (ap (λ z. gone_at z h) e ∙ ap (gone_at s) (sym same) ∙ gone) q.3 q.5 key in
+              let at_is : o.at ≡ q.2.entered = ap (λ (z : Open). z.at) q.6 in omega arith
+        ]
+
+    same_marks_take : (d : ℕ) → d ≢ hold.class → SameMarks capacities d h h_take (updates_of h) (updates_of h_take)
+    same_marks_take d ne = record {
+      more = [];
+      longer = same_updates_take ∙ sym (append-nil _);
+      gone = λ s of. gone_take s (λ e. ne (one_class capacities d hold.class slot (subst (λ z. is_slot_of capacities d z ≡ true) e of) slot_of_take));
+      pairs = λ key class. ap (λ us. finite.get (map_of us) key) same_updates_take;
+    }
+
+    seats_take : SeatsRule capacities places tickets m_take (set vs id w_take) h_take
+    seats_take = record {
+      seen = seen_whole vs id v w_take at h h_take refl (Given slot ∷ [], refl) r.seen;
+      apart = apart_same vs id v w_take at places (record { place = refl; places = refl; joined = refl }) r.apart;
+      owned = owned_same vs id v w_take at h (Given slot ∷ []) (record { place = refl; places = refl; joined = refl }) refl (λ p. refl) r.owned;
+      sections = open_same vs id v w_take at h h_take (updates_of h) (updates_of h_take) refl refl refl (section_back v w_take refl) (section_forth v w_take refl) (open_at-same h (Given slot) tt) (λ p. let a = entered_at-append p h (Given slot ∷ []) in omega arith) (let n = ap length same_updates_take in omega arith) r.sections;
+      held = held_still vs id v w_take at (λ other is. let e : new_take ≡ other = cc in (subst (λ (z : Hold). z.class < 64) e small, works capacities places tickets m vs h r id v at hold mine)) r.held;
+      turned = subst (IsTurned m_take (set vs id w_take)) (sym (ap length same_updates_take)) (turned_same vs id v w_take at m m_take (length (updates_of h)) refl refl (λ turn held is had_it. (new_take, refl)) r.turned);
+      tickets_are = ap (λ us. length us + total (λ (z : View). z.tickets) (set vs id w_take)) same_updates_take ∙ tickets_same capacities places tickets m vs h r id v w_take at m_take refl;
+      legal = subst IsLegal (sym same_updates_take) r.legal;
+      reuse = reuse_take;
+    }
+
+    abbrev b_take : Bucket
+    b_take = record (r.bucket hold.class) { free = first_free.0; hold = Some new_take }
+
+    pub law_take : MemoryRule capacities places tickets m_take (set vs id (after_take v hold slot next h)) h_take
+    law_take =
+        let chain : List ℕ = (r.bucket hold.class).chain in
+        let us : List Update = updates_of h in
+        let us' : List Update = updates_of h_take in
+        let keeps : (section : Section) (j : ℕ) (u : View) → get_elem? vs j ≡ some u → u.section ≡ Some section → section.key % 64 ≡ hold.class → KeepsWays capacities hold.class m m_take h h_take us us' chain chain section = λ section j u there is class. record {
+          linked = λ t _. (refl, refl, refl);
+          old = λ t _ _. (refl, refl, refl);
+          held = λ t _ p. (p.0, gone_take t (λ e. absurd (let l = slot_clean p.0 j u section (subst (λ z. gone_at z h ≡ Some p.0) e p.1) there is class in let g = p.2 in omega arith)) ∙ p.1, p.2);
+          joins = λ front rest e. (front, e);
+          said = λ answer s. subst (λ z. WasSaid z section.key section.from answer) (sym same_updates_take) s;
+        } in
+        after_step capacities places tickets m vs h r id v w_take at m_take h_take seats_take hold.class b_take
+        (λ _. record {
+          chained = record { path = rule.chained.path; classes = rule.chained.classes; distinct = rule.chained.distinct };
+          listed = record {
+            free = subst (λ z. IsPath (λ s. m (Chain s)) z first_free.0) ((is_known (Chain slot) next needs.next_is).1 ∙ sym (stored_here m (Free hold.class) next (same_self (Free hold.class)))) first_free.2;
+            retired = rule.listed.retired;
+            moved = moved_by;
+          };
+          roles = record { once = λ x. let a = roles_by x in let n = ap (λ o. times x (option_to_list o)) needs.empty in let f = ap (times x) first_free.1 in omega arith };
+          mapped = record { answers = λ key class. ap (λ z. finite.get (map_of z) key) same_updates_take ∙ rule.mapped.answers key class };
+          locked = locked_by capacities places tickets m vs h r id v at hold new_take mine refl m_take refl w_take refl refl;
+          known = known_after (Free hold.class) next refl new_take refl;
+          ages = record {
+            chain = all_change (λ s. gone_at s h ≡ None) (λ s. gone_at s h_take ≡ None) chain (λ s there p. gone_take s (not_take chain (λ x. let a = roles_by x in let l = at_most_take x _ a in omega arith) s there) ∙ p) rule.ages.chain;
+            taken = λ s is. let e : slot ≡ s = cc in subst (λ z. gone_at z h_take ≡ None) e (gone_at-given_here h slot);
+            retired = all_change (IsGone h) (IsGone h_take) (r.bucket hold.class).retired (λ s there p. (p.0, gone_take s (not_take (r.bucket hold.class).retired (λ x. let a = roles_by x in let l = at_most_take x _ a in omega arith) s there) ∙ p.1)) rule.ages.retired;
+            moved = all_change (IsGone h) (IsGone h_take) (r.bucket hold.class).moved (λ s there p. (p.0, gone_take s (not_take (r.bucket hold.class).moved (λ x. let a = roles_by x in let l = at_most_take x _ a in omega arith) s there) ∙ p.1)) rule.ages.moved;
+            unlinked = λ s is.
+                let p = rule.ages.unlinked s (ap unlinked_of had ∙ is) in
+                (p.0, gone_take s (not_take (option_to_list hold.unlinked) (λ x. let a = roles_by x in let l = at_most_take x _ a in omega arith) s (let e : times s (option_to_list hold.unlinked) ≡ 1 = ap (λ o. times s (option_to_list o)) is ∙ (let t = times_here s [] in omega arith) in omega arith)) ∙ p.1);
+          };
+          counted = record { readers = (counted_still capacities hold.class m h vs id v w_take at refl rule.counted).readers };
+          clean = record {
+            free = all_still (IsFreeOfReaders hold.class h vs) (IsFreeOfReaders hold.class h_take (set vs id w_take)) first_free.0 still_free_take others_clean;
+            moved = all_still (IsFreeOfReaders hold.class h vs) (IsFreeOfReaders hold.class h_take (set vs id w_take)) (r.bucket hold.class).moved still_free_take rule.clean.moved;
+            clear = λ other is yes s of. let e : new_take ≡ other = cc in still_free_take s (rule.clean.clear hold had (ap (λ (z : Hold). z.clear) e ∙ yes) s of);
+          };
+          answered = record {
+            readers = λ j u section there is class. each_set (λ k z. z.section ≡ Some section → WillAnswer capacities hold.class m_take h_take us' chain section section.stand) vs id w_take
+                (λ yes. will_still capacities hold.class m m_take h h_take us us' chain chain section (keeps section id v at yes class) section.stand (rule.answered.readers id v section at yes class))
+                (λ k z far e theirs. will_still capacities hold.class m m_take h h_take us us' chain chain section (keeps section k z e theirs class) section.stand (rule.answered.readers k z section e theirs class)) j u there is;
+            loaded = λ j u section value there is class read. each_set (λ k z. z.section ≡ Some section → WasSaid us' section.key section.from (Some value)) vs id w_take
+                (λ yes. (keeps section id v at yes class).said (Some value) (rule.answered.loaded id v section value at yes class read))
+                (λ k z far e theirs. (keeps section k z e theirs class).said (Some value) (rule.answered.loaded k z section value e theirs class read)) j u there is;
+          };
+        })
+        (λ d _ ne. record { words = class_words capacities hold.class d m next ne (Free hold.class) refl; marks = same_marks_take d ne; view = elsewhere_held capacities places tickets m vs h r id v at d hold new_take mine refl ne w_take refl refl refl })
