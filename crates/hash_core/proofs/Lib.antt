@@ -14,3 +14,5 @@ pub mod Ways
 pub mod Stocks
 pub mod Memories
 pub mod Cuts
+pub mod Updating
+pub mod Links

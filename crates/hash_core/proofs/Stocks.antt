@@ -52,18 +52,18 @@ module _ (capacities : List ℕ) (places tickets : ℕ) (m : Memory) (vs : List 
   small : hold.class < 64
   small = class_small capacities places tickets m vs h r id v at hold mine
 
-  rule : BucketRule capacities hold.class m h (updates_of h) vs (r.bucket hold.class)
+  pub rule : BucketRule capacities hold.class m h (updates_of h) vs (r.bucket hold.class)
   rule = r.buckets hold.class small
 
-  had : (r.bucket hold.class).hold ≡ Some hold
+  pub had : (r.bucket hold.class).hold ≡ Some hold
   had = holder_of capacities places tickets m vs h r id v at hold.class small hold mine refl
 
   -- what the holder knows is so
-  is_known : (field : Field) (number : ℕ) → known_in hold.known field ≡ Some number → IsOfClass capacities hold.class field × (m field ≡ number)
+  pub is_known : (field : Field) (number : ℕ) → known_in hold.known field ≡ Some number → IsOfClass capacities hold.class field × (m field ≡ number)
   is_known field number found = rule.known.known hold field number had found
 
   -- what it knows after a store
-  known_after : (field : Field) (number : ℕ) → IsOfClass capacities hold.class field → (new : Hold) → new.known ≡ (knowing hold field number).known → IsKnown capacities hold.class (stored m field number) (Some new)
+  pub known_after : (field : Field) (number : ℕ) → IsOfClass capacities hold.class field → (new : Hold) → new.known ≡ (knowing hold field number).known → IsKnown capacities hold.class (stored m field number) (Some new)
   known_after field number of new same = record {
     known = λ other f n is found.
         let e : new ≡ other = cc in
@@ -76,10 +76,10 @@ module _ (capacities : List ℕ) (places tickets : ℕ) (m : Memory) (vs : List 
       known_case f n false is e = let k = is_known f n e in (k.0, ap (λ t. cond t number (m f)) is ∙ k.1)
 
   -- the slot roles, by what the holder has in hand
-  roles_by : (x : ℕ) → times x (r.bucket hold.class).chain + times x (r.bucket hold.class).free + times x (r.bucket hold.class).retired + times x (r.bucket hold.class).moved + times x (option_to_list hold.taken) + times x (option_to_list hold.unlinked) ≡ cond (is_slot_of capacities hold.class x) 1 0
+  pub roles_by : (x : ℕ) → times x (r.bucket hold.class).chain + times x (r.bucket hold.class).free + times x (r.bucket hold.class).retired + times x (r.bucket hold.class).moved + times x (option_to_list hold.taken) + times x (option_to_list hold.unlinked) ≡ cond (is_slot_of capacities hold.class x) 1 0
   roles_by x = subst (λ z. times x (r.bucket hold.class).chain + times x (r.bucket hold.class).free + times x (r.bucket hold.class).retired + times x (r.bucket hold.class).moved + times x (option_to_list (taken_of z)) + times x (option_to_list (unlinked_of z)) ≡ cond (is_slot_of capacities hold.class x) 1 0) had (rule.roles.once x)
 
-  moved_by : IsPath (λ s. m (Chain s)) (link_of hold.moved) (r.bucket hold.class).moved
+  pub moved_by : IsPath (λ s. m (Chain s)) (link_of hold.moved) (r.bucket hold.class).moved
   moved_by = subst (λ z. IsPath (λ s. m (Chain s)) (link_of (moved_of z)) (r.bucket hold.class).moved) had rule.listed.moved
 
   -- a step that leaves no mark, and only changes what the holder knows and has in hand
