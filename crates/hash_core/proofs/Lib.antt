@@ -13,3 +13,4 @@ pub mod Locks
 pub mod Ways
 pub mod Stocks
 pub mod Memories
+pub mod Busy
