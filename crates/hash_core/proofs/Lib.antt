@@ -14,3 +14,4 @@ pub mod Ways
 pub mod Stocks
 pub mod Memories
 pub mod Busy
+pub mod Splits
