@@ -15,3 +15,4 @@ pub mod Stocks
 pub mod Memories
 pub mod Busy
 pub mod Splits
+pub mod First
