@@ -1,5 +1,5 @@
 -- The rule holds of a table as it is made.
-use Rattle.std.proofs.Common.{◌≡◌, ◌≢◌, ◌⊎◌, ℕ, zero, suc, ◌+◌, ◌*◌, ◌^◌, ◌<◌, ◌≤◌, ◌==◌, nat_lt, nat_le, Bool, true, false, cond, List, [], ◌∷◌, length, sum, Option, Some, None, slice_index, refl, sym, ap, subst, ◌∙◌, inl, inr, arith, eq-eqb, ne_eqb, option_to_list}
+use Rattle.std.proofs.Common.{◌≡◌, ◌≢◌, ◌⊎◌, ℕ, zero, suc, ◌+◌, ◌-◌, ◌*◌, ◌^◌, ◌&&◌, ◌<◌, ◌≤◌, ◌==◌, nat_lt, nat_le, Bool, true, false, cond, List, [], ◌∷◌, length, sum, Option, Some, None, slice_index, refl, sym, ap, subst, ◌∙◌, inl, inr, arith, eq-eqb, ne_eqb, option_to_list}
 use Rattle.std.proofs.lemmas.Bool.{lt-ltb, le-leb, and_from}
 use Rattle.std.specs.List.{AllByRecursion}
 use Rattle.std.specs.FinMap as finite
@@ -139,3 +139,38 @@ module _ (capacities : List ℕ) (places tickets : ℕ) (shape : IsShape capacit
     bucket = first_bucket;
     buckets = bucket_first;
   }
+
+-- a word of a field that the table has
+has_field : (t : Bool) (n number : ℕ) → t ≡ true → n ≡ number → cond t n 0 ≡ number
+has_field t n number has is = ap (λ b. cond b n 0) has ∙ is
+
+-- A memory is fresh where its words are: of each class its lock, readers, head, free and retired, and of each slot its
+-- chain.
+pub fresh_memory : (capacities ws : List ℕ) → slice_index ws 0 ≡ 0
+  → ((c : ℕ) → c < 64 → (slice_index ws (1 + 5 * c) ≡ 0) × (slice_index ws (2 + 5 * c) ≡ 0) × (slice_index ws (3 + 5 * c) ≡ 0) × (slice_index ws (4 + 5 * c) ≡ first_slot capacities c) × (slice_index ws (5 + 5 * c) ≡ 0))
+  → ((c i : ℕ) → c < 64 → i < capacity capacities c → slice_index ws (320 + 4 * (base capacities c + i + 1)) ≡ cond (i + 1 == capacity capacities c) 0 (base capacities c + i + 2))
+  → IsFresh capacities (memory_of capacities ws)
+fresh_memory capacities ws front classes slots = record {
+  front = front;
+  locks = λ c small. has_field (nat_lt c 64) _ 0 (lt-ltb c 64 small) (classes c small).0;
+  readers = λ c small. has_field (nat_lt c 64) _ 0 (lt-ltb c 64 small) (classes c small).1;
+  heads = λ c small. has_field (nat_lt c 64) _ 0 (lt-ltb c 64 small) (classes c small).2;
+  free = λ c small. has_field (nat_lt c 64) _ _ (lt-ltb c 64 small) (classes c small).3;
+  retired = λ c small. has_field (nat_lt c 64) _ 0 (lt-ltb c 64 small) (classes c small).4;
+  chains = λ c s small of.
+      let within = slot_within capacities c s of in
+      let bounds = slot_bounds capacities c s of in
+      let low = bounds.0 in
+      let high = bounds.1 in
+      let before : ℕ = base capacities c in
+      let room : ℕ = capacity capacities c in
+      has_field (nat_le 1 s && nat_le s (sum capacities)) _ _ (and_from _ _ (le-leb 1 s within.0) (le-leb s (sum capacities) within.1))
+      (subst (λ z. slice_index ws (320 + 4 * z) ≡ slot_after capacities c z) (let e : before + (s - (before + 1)) + 1 ≡ s = omega arith in e)
+      (slots c (s - (before + 1)) small (omega arith) ∙ chain_link before room (s - (before + 1))));
+}
+  where
+    chain_link : (before room i : ℕ) → cond (i + 1 == room) 0 (before + i + 2) ≡ cond (before + i + 1 == before + room) 0 (before + i + 1 + 1)
+    chain_link before room i = dite (ℕ_discrete (i + 1) room)
+        (λ e. ap (λ b. cond b 0 (before + i + 2)) (eq-eqb (i + 1) room e) ∙ sym (ap (λ b. cond b 0 (before + i + 1 + 1)) (eq-eqb (before + i + 1) (before + room) (omega arith))))
+        (λ ne. let same : before + i + 2 ≡ before + i + 1 + 1 = omega arith in
+        ap (λ b. cond b 0 (before + i + 2)) (ne_eqb (i + 1) room ne) ∙ same ∙ sym (ap (λ b. cond b 0 (before + i + 1 + 1)) (ne_eqb (before + i + 1) (before + room) (λ e. ne (omega arith)))))
