@@ -1,5 +1,5 @@
 -- What keeps the rule where only views change that are outside a section and without a lock.
-use Rattle.std.proofs.Common.{◌≡◌, ◌≢◌, ◌⊎◌, ℕ, ◌+◌, ◌%◌, ◌<◌, ◌≤◌, List, [], ◌∷◌, ◌++◌, length, Option, Some, None, refl, sym, ap, subst, ◌∙◌, inl, inr, arith}
+use Rattle.std.proofs.Common.{◌≡◌, ◌⊎◌, ℕ, ◌+◌, ◌≤◌, List, length, Option, Some, None, sym, ap, subst, ◌∙◌, inl, inr}
 use mathlib.Core.Option.{some}
 use lib.ListN.{get_elem?}
 use Rattle.prcu_model.specs.declared.mark.Mark.{Mark}
@@ -10,8 +10,8 @@ use Rattle.hash_core.specs.declared.view.View.{View}
 use Rattle.hash_core.specs.Lists.{total}
 use Rattle.hash_core.specs.Memory.{Memory}
 use Rattle.hash_core.specs.Marks.{updates_of, entered_at}
-use Rattle.hash_core.specs.Buckets.{Bucket, HoldsOther, IsLocked, inside_count, IsFreeOfReaders}
-use Rattle.hash_core.specs.Seats.{AreSeen, AreApart, AreOwned, AreOpen, AreHeld, HasNoTurn, IsTurned}
+use Rattle.hash_core.specs.Buckets.{Bucket, IsLocked, inside_count, IsFreeOfReaders}
+use Rattle.hash_core.specs.Seats.{AreSeen, AreApart, AreOwned, HasNoTurn, IsTurned}
 use Rattle.hash_core.specs.Steps.{IsQuiet}
 use Rattle.hash_core.specs.Rule.{BucketRule, MemoryRule}
 use Rattle.hash_core.proofs.Lists.{at_one, all_map}
@@ -27,8 +27,8 @@ pub quiet_turn : (m : Memory) (vs : List View) (count : ℕ) → IsTurned m vs c
 quiet_turn m vs count (inl even) id v at free = even.1 id v at
 quiet_turn m vs count (inr odd) id v at free = odd.9 id v
     (λ e.
-        let same : v ≡ odd.1 = at_one vs id v odd.1 at (subst (λ k. get_elem? vs k ≡ some odd.1) (sym e) odd.4) in
-        let held : None ≡ Some odd.3 = sym free ∙ (ap (λ (z : View). z.hold) same ∙ odd.6) in absurd (cc))
+    let same : v ≡ odd.1 = at_one vs id v odd.1 at (subst (λ k. get_elem? vs k ≡ some odd.1) (sym e) odd.4) in
+    let held : None ≡ Some odd.3 = sym free ∙ (ap (λ (z : View). z.hold) same ∙ odd.6) in absurd (cc))
     at
 
 module _ (vs vs' : List View) (busy : SameBusy vs vs') where
@@ -83,13 +83,21 @@ module _ (vs vs' : List View) (busy : SameBusy vs vs') where
   turned_busy : (m : Memory) (count : ℕ) → IsTurned m vs count → IsTurned m vs' count
   turned_busy m count (inl even) = inl (even.0, λ j u at. elim (busy.back j u at) [ inl e ↦ even.1 j u e | inr q ↦ q.1 ])
   turned_busy m count (inr odd) = inr (
-    odd.0, odd.1, odd.2, odd.3, hold_forth odd.0 odd.1 odd.3 odd.4 odd.6, odd.5, odd.6, odd.7, odd.8,
+    odd.0,
+    odd.1,
+    odd.2,
+    odd.3,
+    hold_forth odd.0 odd.1 odd.3 odd.4 odd.6,
+    odd.5,
+    odd.6,
+    odd.7,
+    odd.8,
     λ j u far at. elim (busy.back j u at) [ inl e ↦ odd.9 j u far e | inr q ↦ q.1 ],
   )
 
   -- the rule, where the parts on seats hold that read quiet views
   pub rule_busy : (capacities : List ℕ) (places tickets : ℕ) (m : Memory) (h : List Mark) → MemoryRule capacities places tickets m vs h → AreSeen vs' h → AreApart places vs' → AreOwned vs' h
-    → ((j : ℕ) (u : View) → get_elem? vs' j ≡ some u → 1 ≤ u.places → u.sections ≡ entered_at u.place h) → total (λ (v : View). v.tickets) vs' ≡ total (λ (v : View). v.tickets) vs → MemoryRule capacities places tickets m vs' h
+      → ((j : ℕ) (u : View) → get_elem? vs' j ≡ some u → 1 ≤ u.places → u.sections ≡ entered_at u.place h) → total (λ (v : View). v.tickets) vs' ≡ total (λ (v : View). v.tickets) vs → MemoryRule capacities places tickets m vs' h
   rule_busy capacities places tickets m h r seen apart owned entered same = record {
     shape = r.shape;
     seen = seen;

@@ -1,7 +1,6 @@
 -- The rule holds of a table as it is made.
-use Rattle.std.proofs.Common.{◌≡◌, ◌≢◌, ◌⊎◌, ℕ, zero, suc, ◌+◌, ◌-◌, ◌*◌, ◌^◌, ◌&&◌, ◌<◌, ◌≤◌, ◌==◌, nat_lt, nat_le, Bool, true, false, cond, List, [], ◌∷◌, length, sum, Option, Some, None, slice_index, refl, sym, ap, subst, ◌∙◌, inl, inr, arith, eq-eqb, ne_eqb, option_to_list}
+use Rattle.std.proofs.Common.{◌≡◌, ℕ, zero, suc, ◌+◌, ◌-◌, ◌*◌, ◌^◌, ◌&&◌, ◌<◌, ◌≤◌, ◌==◌, nat_lt, nat_le, Bool, true, false, cond, List, [], ◌∷◌, sum, Some, None, slice_index, refl, sym, ap, subst, ◌∙◌, inl, inr, arith, eq-eqb, ne_eqb}
 use Rattle.std.proofs.lemmas.Bool.{lt-ltb, le-leb, and_from}
-use Rattle.std.specs.List.{AllByRecursion}
 use Rattle.std.specs.FinMap as finite
 use Rattle.std.specs.Ordering.{nat_cmp}
 use mathlib.Core.Logic.{dite}
@@ -9,8 +8,7 @@ use mathlib.Core.Option.{some, some-injective, some-ne-none}
 use mathlib.Core.List.{IsPrefix}
 use native.Mathlib.Decide.{dec_le, ℕ_discrete}
 use lib.ListN.{get_elem?}
-use Rattle.prcu_model.specs.declared.mark.Mark.{Mark}
-use Rattle.hash_core.specs.declared.words.Field.TheVariants.{Front, Lock, Readers, Head, Free, Retired, Chain}
+use Rattle.hash_core.specs.declared.words.Field.TheVariants.{Free, Chain}
 use Rattle.hash_core.specs.declared.view.View.{View}
 use Rattle.hash_core.specs.Lists.{times, IsPath}
 use Rattle.hash_core.specs.Memory.{Memory, memory_of}
@@ -33,7 +31,7 @@ each_one P a mine (suc j) b e = absurd (some-ne-none b (sym e))
 
 -- numbers in their order lead from one to the next
 path_from : (next : ℕ → ℕ) (n first link : ℕ) → 1 ≤ first → (n ≡ 0 → link ≡ 0) → (1 ≤ n → link ≡ first) → ((s : ℕ) → first ≤ s → s + 1 < first + n → next s ≡ s + 1) → ((s : ℕ) → 1 ≤ n → s + 1 ≡ first + n → next s ≡ 0)
-  → IsPath next link (places_from first n)
+    → IsPath next link (places_from first n)
 path_from next zero first link some_slot none begins goes ends = none refl
 path_from next (suc n) first link some_slot none begins goes ends = (
   begins (omega arith),
@@ -47,8 +45,8 @@ times_once q (suc n) first =
     let rest = times_once q n (first + 1) in
     dite (ℕ_discrete first q)
     (λ e.
-        let here : times q (first ∷ places_from (first + 1) n) ≡ 1 + times q (places_from (first + 1) n) = subst (λ z. times z (first ∷ places_from (first + 1) n) ≡ 1 + times z (places_from (first + 1) n)) e (times_here first (places_from (first + 1) n)) in
-        dite (dec_le 1 (times q (places_from (first + 1) n))) (λ again. absurd (let low = (times_from q (first + 1) n again).0 in omega arith)) (λ no_more. omega arith))
+    let here : times q (first ∷ places_from (first + 1) n) ≡ 1 + times q (places_from (first + 1) n) = subst (λ z. times z (first ∷ places_from (first + 1) n) ≡ 1 + times z (places_from (first + 1) n)) e (times_here first (places_from (first + 1) n)) in
+    dite (dec_le 1 (times q (places_from (first + 1) n))) (λ again. absurd (let low = (times_from q (first + 1) n again).0 in omega arith)) (λ no_more. omega arith))
     (λ ne. let other = times_other q first (places_from (first + 1) n) ne in omega arith)
 
 module _ (capacities : List ℕ) (places tickets : ℕ) (shape : IsShape capacities places tickets) (m : Memory) (fresh : IsFresh capacities m) where
@@ -147,9 +145,9 @@ has_field t n number has is = ap (λ b. cond b n 0) has ∙ is
 -- A memory is fresh where its words are: of each class its lock, readers, head, free and retired, and of each slot its
 -- chain.
 pub fresh_memory : (capacities ws : List ℕ) → slice_index ws 0 ≡ 0
-  → ((c : ℕ) → c < 64 → (slice_index ws (1 + 5 * c) ≡ 0) × (slice_index ws (2 + 5 * c) ≡ 0) × (slice_index ws (3 + 5 * c) ≡ 0) × (slice_index ws (4 + 5 * c) ≡ first_slot capacities c) × (slice_index ws (5 + 5 * c) ≡ 0))
-  → ((c i : ℕ) → c < 64 → i < capacity capacities c → slice_index ws (320 + 4 * (base capacities c + i + 1)) ≡ cond (i + 1 == capacity capacities c) 0 (base capacities c + i + 2))
-  → IsFresh capacities (memory_of capacities ws)
+    → ((c : ℕ) → c < 64 → (slice_index ws (1 + 5 * c) ≡ 0) × (slice_index ws (2 + 5 * c) ≡ 0) × (slice_index ws (3 + 5 * c) ≡ 0) × (slice_index ws (4 + 5 * c) ≡ first_slot capacities c) × (slice_index ws (5 + 5 * c) ≡ 0))
+    → ((c i : ℕ) → c < 64 → i < capacity capacities c → slice_index ws (320 + 4 * (base capacities c + i + 1)) ≡ cond (i + 1 == capacity capacities c) 0 (base capacities c + i + 2))
+    → IsFresh capacities (memory_of capacities ws)
 fresh_memory capacities ws front classes slots = record {
   front = front;
   locks = λ c small. has_field (nat_lt c 64) _ 0 (lt-ltb c 64 small) (classes c small).0;

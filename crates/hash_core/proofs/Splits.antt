@@ -1,5 +1,5 @@
 -- Seats are split and joined.
-use Rattle.std.proofs.Common.{◌≡◌, ◌≢◌, ◌⊎◌, ℕ, zero, suc, ◌+◌, ◌-◌, ◌%◌, ◌<◌, ◌≤◌, ◌==◌, Bool, true, false, cond, List, [], ◌∷◌, ◌++◌, length, set, Option, Some, None, refl, sym, ap, subst, ◌∙◌, inl, inr, arith, append-nil, length-append}
+use Rattle.std.proofs.Common.{◌≡◌, ◌≢◌, ◌⊎◌, ℕ, zero, suc, ◌+◌, ◌-◌, ◌<◌, ◌≤◌, ◌==◌, true, false, cond, List, [], ◌∷◌, ◌++◌, length, set, refl, sym, ap, subst, ◌∙◌, inl, inr, arith, append-nil, length-append}
 use Rattle.std.proofs.lemmas.Bool.{lt-ltb, le-ltb}
 use Rattle.std.proofs.lemmas.List.{nil_from_length}
 use mathlib.Core.Logic.{dite}
@@ -13,7 +13,7 @@ use Rattle.prcu_model.specs.declared.mark.Mark.TheVariants.{Entered, Left, Began
 use Rattle.hash_core.specs.declared.view.View.{View}
 use Rattle.hash_core.specs.Lists.{times, total}
 use Rattle.hash_core.specs.Memory.{Memory}
-use Rattle.hash_core.specs.Marks.{is_of, own_of, entered_at, updates_of}
+use Rattle.hash_core.specs.Marks.{own_of, entered_at, updates_of}
 use Rattle.hash_core.specs.Buckets.{inside_count}
 use Rattle.hash_core.specs.Seats.{AreSeen, HasPlace, AnswersFor, AreApart, AreOwned, HasNoTurn}
 use Rattle.hash_core.specs.Steps.{IsQuiet, Needs1, first_of, second_of, places_from, longer, both_of, spent}
@@ -34,7 +34,7 @@ module _ {A : Type 0} where
 
   -- a fact of each element, after one has changed and another has come
   each_split : (P : ℕ → A → Type 0) (vs : List A) (id : ℕ) (v w : A) → P id v → P (length (set vs id v)) w → ((j : ℕ) (u : A) → j ≢ id → get_elem? vs j ≡ some u → P j u)
-    → (j : ℕ) (u : A) → get_elem? (set vs id v ++ w ∷ []) j ≡ some u → P j u
+      → (j : ℕ) (u : A) → get_elem? (set vs id v ++ w ∷ []) j ≡ some u → P j u
   each_split P vs id v w first second others j u e = elim (at_end (set vs id v) w u j e) [ inl there ↦ each_set P vs id v first others j u there | inr new ↦ subst (λ (x : ℕ × A). P x.0 x.1) (λ i. (sym new.0 i, new.1 i)) second ]
 
 -- a place that left no marks entered no section
@@ -197,7 +197,7 @@ prefix_whole : (a h : List Mark) → IsPrefix a h → length h ≤ length a → 
 prefix_whole a h p long = sym (append-nil a) ∙ ap (λ z. a ++ z) (sym (nil_from_length p.0 (let e = ap length p.1 in let n = length-append a p.0 in omega arith))) ∙ p.1
 
 module _ (capacities : List ℕ) (places tickets : ℕ) (m : Memory) (vs : List View) (h : List Mark) (r : MemoryRule capacities places tickets m vs h) (id : ℕ) (v : View) (at : get_elem? vs id ≡ some v)
-  (j : ℕ) (other : View) (there : get_elem? vs j ≡ some other) (two : id ≢ j) (quiet : IsQuiet v) (quiet_other : IsQuiet other) where
+    (j : ℕ) (other : View) (there : get_elem? vs j ≡ some other) (two : id ≢ j) (quiet : IsQuiet v) (quiet_other : IsQuiet other) where
   abbrev both2 : View
   both2 = both_of v other
 
@@ -263,14 +263,14 @@ module _ (capacities : List ℕ) (places tickets : ℕ) (m : Memory) (vs : List 
       let short_theirs = prefix_below other.seen theirs in
       dite (ℕ_discrete l.0 id)
       (λ e.
-          let whole : v.seen ≡ h = ap (λ (z : View). z.seen) (at_one vs id v l.1 at (subst (λ k. get_elem? vs k ≡ some l.1) e l.2)) ∙ l.3 in
-          let long = ap length whole in
-          (id, both2, both_at, longer_case (λ z. z ≡ h) v.seen other.seen (λ _. whole) (λ less. absurd (omega arith))))
+      let whole : v.seen ≡ h = ap (λ (z : View). z.seen) (at_one vs id v l.1 at (subst (λ k. get_elem? vs k ≡ some l.1) e l.2)) ∙ l.3 in
+      let long = ap length whole in
+      (id, both2, both_at, longer_case (λ z. z ≡ h) v.seen other.seen (λ _. whole) (λ less. absurd (omega arith))))
       (λ not_id. dite (ℕ_discrete l.0 j)
       (λ e.
-          let whole : other.seen ≡ h = ap (λ (z : View). z.seen) (at_one vs j other l.1 there (subst (λ k. get_elem? vs k ≡ some l.1) e l.2)) ∙ l.3 in
-          let long = ap length whole in
-          (id, both2, both_at, longer_case (λ z. z ≡ h) v.seen other.seen (λ more. prefix_whole v.seen h mine (omega arith)) (λ less. whole)))
+      let whole : other.seen ≡ h = ap (λ (z : View). z.seen) (at_one vs j other l.1 there (subst (λ k. get_elem? vs k ≡ some l.1) e l.2)) ∙ l.3 in
+      let long = ap length whole in
+      (id, both2, both_at, longer_case (λ z. z ≡ h) v.seen other.seen (λ more. prefix_whole v.seen h mine (omega arith)) (λ less. whole)))
       (λ not_j. (l.0, l.1, else_at l.0 l.1 not_id not_j l.2, l.3)))
 
   seen2 : AreSeen vs2 h
@@ -288,13 +288,13 @@ module _ (capacities : List ℕ) (places tickets : ℕ) (m : Memory) (vs : List 
         k a ek aa;
     joined = λ k u q e has. each2 (λ l y. HasPlace y q → times q y.joined ≡ 0)
         (λ mine.
-            let sum = joined_times q in
-            let none = r.apart.joined id v q at mine in
-            dite (dec_le 1 (times q both2.joined))
-            (λ some_time. dite (dec_le 1 (times q (places_from other.place other.places)))
-            (λ theirs. absurd (not_two q (inl mine) (inl (times_from q other.place other.places theirs))))
-            (λ not_theirs. absurd (not_two q (inl mine) (inr (omega arith)))))
-            (λ no_time. omega arith))
+        let sum = joined_times q in
+        let none = r.apart.joined id v q at mine in
+        dite (dec_le 1 (times q both2.joined))
+        (λ some_time. dite (dec_le 1 (times q (places_from other.place other.places)))
+        (λ theirs. absurd (not_two q (inl mine) (inl (times_from q other.place other.places theirs))))
+        (λ not_theirs. absurd (not_two q (inl mine) (inr (omega arith)))))
+        (λ no_time. omega arith))
         (λ s. refl) (λ l y _ _ g theirs. r.apart.joined l y q g theirs) k u e has;
   }
 
