@@ -16,3 +16,6 @@ pub mod Memories
 pub mod Cuts
 pub mod Updating
 pub mod Links
+pub mod Busy
+pub mod Splits
+pub mod First

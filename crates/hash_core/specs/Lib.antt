@@ -4,6 +4,7 @@ pub mod Slots
 pub mod Marks
 pub mod Known
 pub mod Steps
+pub mod Fresh
 pub mod Buckets
 pub mod Readers
 pub mod Seats
