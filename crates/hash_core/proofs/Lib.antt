@@ -19,3 +19,4 @@ pub mod Links
 pub mod Busy
 pub mod Splits
 pub mod First
+pub mod Unlinks
