@@ -1,18 +1,11 @@
 -- What one more mark leaves as it was.
-use Rattle.std.proofs.Common.{◌≡◌, ◌≢◌, ◌⊎◌, ℕ, zero, suc, ◌+◌, ◌%◌, ◌<◌, ◌≤◌, ◌==◌, Bool, true, false, cond, List, [], ◌∷◌, ◌++◌, length, take, Option, Some, None, refl, sym, ap, subst, ◌∙◌, inl, inr, arith, eq-eqb, ne_eqb, append-nil, length-append, IsTrue}
+use Rattle.std.proofs.Common.{◌≡◌, ◌≢◌, ℕ, ◌+◌, ◌<◌, ◌≤◌, ◌==◌, true, false, cond, List, [], ◌∷◌, ◌++◌, length, take, Option, Some, None, refl, sym, ap, subst, ◌∙◌, inl, inr, arith, eq-eqb, ne_eqb, append-nil}
 use Rattle.std.proofs.lemmas.List.{take-append-le}
-use mathlib.Core.Logic.{dite}
-use mathlib.Core.Option.{some, some-injective}
-use mathlib.Core.List.{IsPrefix}
-use native.Mathlib.Decide.{ℕ_discrete}
-use lib.ListN.{get_elem?}
-use Rattle.atomic_table.proofs.Lists.{at_longer}
 use Rattle.prcu_model.specs.declared.mark.Mark.{Mark}
 use Rattle.prcu_model.specs.declared.mark.Mark.TheVariants.{Entered, Left, Began, Ended, Done, Given, Unlinked, Freed}
-use Rattle.hash_core.specs.Marks.{updates_of, Open, next_open, open_from, open_at, next_gone, gone_from, gone_at, is_of, own_of, entered_at, ReuseByClass}
-use Rattle.hash_core.specs.Slots.{is_slot_of}
+use Rattle.hash_core.specs.Marks.{Open, next_open, open_from, open_at, next_gone, gone_from, gone_at, ReuseByClass}
 use Rattle.hash_core.proofs.Lists.{at_below, at_end}
-use Rattle.hash_core.proofs.MarkLists.{open_at-snoc, gone_at-snoc, updates_of-append, own_of-append}
+use Rattle.hash_core.proofs.MarkLists.{open_at-snoc, gone_at-snoc}
 
 -- a mark that neither enters nor leaves a section
 abbrev pub TurnsNoSection : Mark → Type 0

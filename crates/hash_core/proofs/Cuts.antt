@@ -1,6 +1,5 @@
 -- Lists of slots from which one is left out, and walks that are known.
-use Rattle.std.proofs.Common.{◌≡◌, ◌≢◌, ℕ, zero, suc, ◌+◌, ◌<◌, ◌≤◌, ◌⊎◌, ◌==◌, Bool, true, false, cond, List, [], ◌∷◌, ◌++◌, length, Option, Some, None, refl, sym, ap, subst, ◌∙◌, inl, inr, arith, eq-eqb, ne_eqb, append_assoc}
-use Rattle.std.specs.List.{AllByRecursion}
+use Rattle.std.proofs.Common.{◌≡◌, ◌≢◌, ℕ, ◌+◌, ◌≤◌, ◌⊎◌, ◌==◌, cond, List, [], ◌∷◌, ◌++◌, Some, None, refl, sym, ap, subst, ◌∙◌, inl, inr, arith}
 use mathlib.Core.Logic.{dite}
 use native.Mathlib.Decide.{ℕ_discrete}
 use Rattle.hash_core.specs.declared.words.Field.TheVariants.{Key, Value, Next}
@@ -9,12 +8,12 @@ use Rattle.hash_core.specs.Lists.{times, IsPath}
 use Rattle.hash_core.specs.Memory.{Memory}
 use Rattle.hash_core.specs.Known.{known_in, IsWholeWalk, LacksKey, ComesTo}
 use Rattle.hash_core.specs.Buckets.{seek, HaveDistinctKeys}
-use Rattle.hash_core.proofs.Lists.{times_here, times_other, times_append}
+use Rattle.hash_core.proofs.Lists.{times_here, times_other}
 use Rattle.hash_core.proofs.Paths.{IsPath-same, path_cons, seek_here, seek_past}
 
 -- a path that goes past the slot after `p` where the link of `p` does
 pub path_past : (next next' : ℕ → ℕ) (first p slot : ℕ) (ys rest : List ℕ) → next' p ≡ next slot → ((t : ℕ) → 1 ≤ times t ys → next' t ≡ next t) → ((t : ℕ) → 1 ≤ times t rest → next' t ≡ next t)
-  → IsPath next first (ys ++ p ∷ slot ∷ rest) → IsPath next' first (ys ++ p ∷ rest)
+    → IsPath next first (ys ++ p ∷ slot ∷ rest) → IsPath next' first (ys ++ p ∷ rest)
 path_past next next' first p slot [] rest past before after path = (path.0, path.1, subst (λ z. IsPath next' z rest) (sym past) (IsPath-same next next' (next slot) rest after path.2.2))
 path_past next next' first p slot (y ∷ ys) rest past before after path =
     (path.0, path.1, subst (λ z. IsPath next' z (ys ++ p ∷ rest)) (sym (before y (let t = times_here y ys in omega arith))) (path_past next next' (next y) p slot ys rest past (λ t there. before t (omega arith)) after path.2))
@@ -111,7 +110,7 @@ lacks_none known m so key (s ∷ ss) l = let k = l.0 in seek_past m key s ss (λ
 
 -- A value that is replaced at a slot: a search finds what it found, or that value under the slot's key.
 pub seek_replaced : (m m' : Memory) (key slot value : ℕ) (xs : List ℕ) → ((s : ℕ) → m' (Key s) ≡ m (Key s)) → ((s : ℕ) → s ≢ slot → m' (Value s) ≡ m (Value s)) → m' (Value slot) ≡ value
-  → (seek m' key xs ≡ seek m key xs) ⊎ ((m (Key slot) ≡ key) × (seek m' key xs ≡ Some value))
+    → (seek m' key xs ≡ seek m key xs) ⊎ ((m (Key slot) ≡ key) × (seek m' key xs ≡ Some value))
 seek_replaced m m' key slot value [] keys values new = inl refl
 seek_replaced m m' key slot value (x ∷ xs) keys values new =
     dite (ℕ_discrete (m (Key x)) key)

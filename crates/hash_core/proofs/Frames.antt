@@ -1,16 +1,15 @@
 -- What keeps the parts of the rule on one class, when a step elsewhere was made.
-use Rattle.std.proofs.Common.{◌≡◌, ◌≢◌, ◌⊎◌, ℕ, ◌+◌, ◌%◌, ◌<◌, ◌≤◌, ◌==◌, Bool, true, false, cond, List, [], ◌∷◌, ◌++◌, length, take, set, Option, Some, None, refl, sym, ap, subst, ◌∙◌, inl, inr, arith, option_to_list}
-use Rattle.std.specs.List.{AllByRecursion}
+use Rattle.std.proofs.Common.{◌≡◌, ◌≢◌, ◌⊎◌, ℕ, ◌+◌, ◌%◌, ◌<◌, ◌≤◌, Bool, true, false, cond, List, [], ◌++◌, set, Option, Some, None, refl, sym, ap, subst, ◌∙◌, inl, inr, arith, option_to_list}
 use Rattle.std.specs.FinMap as finite
 use Rattle.std.proofs.lemmas.List.{take-append-le}
 use mathlib.Core.Logic.{dite}
 use mathlib.Core.Option.{some, some-injective}
 use native.Mathlib.Decide.{dec_le, ℕ_discrete}
 use lib.ListN.{get_elem?}
-use Rattle.atomic_table.proofs.Lists.{at_set, set_here, set_else}
+use Rattle.atomic_table.proofs.Lists.{set_here, set_else}
 use Rattle.prcu_model.specs.declared.mark.Mark.{Mark}
 use Rattle.prcu_model.specs.declared.operation.Update.{Update}
-use Rattle.prcu_model.specs.Dictionary.{map_of, map_at}
+use Rattle.prcu_model.specs.Dictionary.{map_of}
 use Rattle.hash_core.specs.declared.words.Field.{Field}
 use Rattle.hash_core.specs.declared.words.Field.TheVariants.{Lock, Readers, Head, Free, Retired, Key, Value, Next, Chain}
 use Rattle.hash_core.specs.declared.view.Stand.{Stand}
@@ -18,16 +17,15 @@ use Rattle.hash_core.specs.declared.view.Stand.TheVariants.{Start, Unread, Passe
 use Rattle.hash_core.specs.declared.view.Section.{Section}
 use Rattle.hash_core.specs.declared.view.Hold.{Hold}
 use Rattle.hash_core.specs.declared.view.View.{View}
-use Rattle.hash_core.specs.Lists.{times, IsPath, total}
+use Rattle.hash_core.specs.Lists.{times}
 use Rattle.hash_core.specs.Memory.{Memory}
 use Rattle.hash_core.specs.Slots.{is_slot_of, IsOfClass}
-use Rattle.hash_core.specs.Marks.{gone_at, IsGone, updates_of}
-use Rattle.hash_core.specs.Known.{known_in}
-use Rattle.hash_core.specs.Buckets.{Bucket, seek, HaveDistinctKeys, IsChained, AreListed, HaveOneRole, IsMapped, HoldsOther, IsLocked, IsKnown, HaveAges, inside_count, AreCounted, IsFreeOfReaders, AreClean, taken_of, unlinked_of, moved_of, link_of}
+use Rattle.hash_core.specs.Marks.{gone_at, IsGone}
+use Rattle.hash_core.specs.Buckets.{Bucket, IsChained, AreListed, HaveOneRole, IsMapped, HoldsOther, IsLocked, IsKnown, HaveAges, inside_count, AreCounted, IsFreeOfReaders, AreClean, taken_of, unlinked_of, moved_of, link_of}
 use Rattle.hash_core.specs.Readers.{WasSaid, IsHeldBack, HasWay, WillAnswer, AreAnswered}
 use Rattle.hash_core.specs.Rule.{BucketRule}
 use Rattle.std.proofs.Common.{ne_eqb, length-append}
-use Rattle.hash_core.proofs.Lists.{at_below, each_set, total_set, all_map, all_change, all_times, times_here, times_append}
+use Rattle.hash_core.proofs.Lists.{at_below, each_set, total_set, all_change, all_times, times_here, times_append}
 use Rattle.hash_core.proofs.Paths.{path_cons, IsPath-same, IsPath-from, seek-same, HaveDistinctKeys-same}
 
 -- What stands in the slots of a class is the same.
@@ -146,10 +144,10 @@ module _ (capacities : List ℕ) (c : ℕ) (m m' : Memory) (h h' : List Mark) (u
   pub still_way : (section : Section) (slot : ℕ) → HasWay capacities c m h us b.chain section slot → HasWay capacities c m' h' us' b.chain section slot
   still_way section slot way =
       let of : (s : ℕ) → 1 ≤ times s (way.olds ++ way.rest) → is_slot_of capacities c s ≡ true = λ s there.
-          let sum = times_append s way.olds way.rest in
-          dite (dec_le 1 (times s way.olds))
-          (λ in_olds. all_times (λ t. is_slot_of capacities c t ≡ true) way.olds s way.slots in_olds)
-          (λ not_olds. let cut = times_append s way.front way.rest in let whole = ap (times s) way.joins in chain_slot capacities c b roles s (omega arith)) in
+      let sum = times_append s way.olds way.rest in
+      dite (dec_le 1 (times s way.olds))
+      (λ in_olds. all_times (λ t. is_slot_of capacities c t ≡ true) way.olds s way.slots in_olds)
+      (λ not_olds. let cut = times_append s way.front way.rest in let whole = ap (times s) way.joins in chain_slot capacities c b roles s (omega arith)) in
       record {
         olds = way.olds;
         front = way.front;
@@ -179,7 +177,6 @@ module _ (capacities : List ℕ) (c : ℕ) (m m' : Memory) (h h' : List Mark) (u
   still_answer section (Found s) a = (still_way section s a.0, (slots s (way_slot section s a.0)).0 ∙ a.1)
   still_answer section Ended a = still_said section.key section.from None a
 
-
 -- where slots were unlinked, where that is the same
 module _ (capacities : List ℕ) (c : ℕ) (h h' : List Mark) (b : Bucket) (gone : (s : ℕ) → is_slot_of capacities c s ≡ true → gone_at s h' ≡ gone_at s h) (roles : HaveOneRole capacities c b) where
   still_gone : (s : ℕ) → is_slot_of capacities c s ≡ true → IsGone h s → IsGone h' s
@@ -204,16 +201,16 @@ module _ (c : ℕ) (m m' : Memory) (vs : List View) (id : ℕ) (v w : View) (at 
   locked_same (Some hold) locked =
       dite (ℕ_discrete locked.0 id)
       (λ e.
-          let same : v ≡ locked.1 = some-injective v locked.1 (sym at ∙ subst (λ k. get_elem? vs k ≡ some locked.1) e locked.2) in
-          let held : v.hold ≡ Some hold = ap (λ (z : View). z.hold) same ∙ locked.3 in (
-            id,
-            w,
-            set_here vs id w (at_below vs id v at),
-            hold_same c v.hold w.hold hold held_same held locked.4,
-            locked.4,
-            word ∙ locked.5 ∙ ap (λ n. n + 1) (ap (λ (z : View). z.place) (sym same) ∙ sym place),
-            λ j u other. λ there. each_set (λ k z. k ≢ id → HoldsOther c z) vs id w (λ ne. absurd (ne refl)) (λ k z ne q _. locked.6 k z (λ f. ne (f ∙ e)) q) j u there other,
-          ))
+      let same : v ≡ locked.1 = some-injective v locked.1 (sym at ∙ subst (λ k. get_elem? vs k ≡ some locked.1) e locked.2) in
+      let held : v.hold ≡ Some hold = ap (λ (z : View). z.hold) same ∙ locked.3 in (
+        id,
+        w,
+        set_here vs id w (at_below vs id v at),
+        hold_same c v.hold w.hold hold held_same held locked.4,
+        locked.4,
+        word ∙ locked.5 ∙ ap (λ n. n + 1) (ap (λ (z : View). z.place) (sym same) ∙ sym place),
+        λ j u other. λ there. each_set (λ k z. k ≢ id → HoldsOther c z) vs id w (λ ne. absurd (ne refl)) (λ k z ne q _. locked.6 k z (λ f. ne (f ∙ e)) q) j u there other,
+      ))
       (λ ne. (
         locked.0,
         locked.1,
@@ -224,7 +221,6 @@ module _ (c : ℕ) (m m' : Memory) (vs : List View) (id : ℕ) (v w : View) (at 
         λ j u other there. each_set (λ k z. k ≢ locked.0 → HoldsOther c z) vs id w (λ far. hold_other c v.hold w.hold held_same (locked.6 id v (λ f. ne (sym f)) at)) (λ k z not_id q far. locked.6 k z far q) j u there other,
       ))
 
-
 -- slots that no section holds back, where the sections are the same
 module _ (capacities : List ℕ) (c : ℕ) (h h' : List Mark) (vs : List View) (id : ℕ) (v w : View) (at : get_elem? vs id ≡ some v) (gone : (s : ℕ) → is_slot_of capacities c s ≡ true → gone_at s h' ≡ gone_at s h) (sections : SameSection c v.section w.section) where
   pub still_free : (s : ℕ) → is_slot_of capacities c s ≡ true → IsFreeOfReaders c h vs s → IsFreeOfReaders c h' (set vs id w) s
@@ -233,9 +229,8 @@ module _ (capacities : List ℕ) (c : ℕ) (h h' : List Mark) (vs : List View) (
       (λ mine. free p id v section (sym (gone s of) ∙ was) at (section_back c v.section w.section section sections mine class) class)
       (λ k z other e theirs. free p k z section (sym (gone s of) ∙ was) e theirs class) j u there is
 
-
 module _ (capacities : List ℕ) (c : ℕ) (m m' : Memory) (h h' : List Mark) (us us' : List Update) (vs : List View) (id : ℕ) (v w : View) (b : Bucket)
-  (at : get_elem? vs id ≡ some v) (words : SameWords capacities c m m') (marks : SameMarks capacities c h h' us us') (view : SameView c v w) (r : BucketRule capacities c m h us vs b) where
+    (at : get_elem? vs id ≡ some v) (words : SameWords capacities c m m') (marks : SameMarks capacities c h h' us us') (view : SameView c v w) (r : BucketRule capacities c m h us vs b) where
   slot_chain : (x : ℕ) → 1 ≤ times x b.chain → is_slot_of capacities c x ≡ true
   slot_chain = chain_slot capacities c b r.roles
 

@@ -1,46 +1,43 @@
 -- The kinds of step that make an update: a slot is linked, a value is replaced.
-use Rattle.std.proofs.Common.{◌≡◌, ◌≢◌, ◌⊎◌, ℕ, zero, suc, ◌+◌, ◌-◌, ◌*◌, ◌%◌, ◌<◌, ◌≤◌, ◌==◌, Bool, true, false, cond, List, [], ◌∷◌, ◌++◌, length, take, set, Option, Some, None, is_some, IsTrue, refl, sym, ap, subst, ◌∙◌, inl, inr, arith, eq-eqb, ne_eqb, append-nil, append_assoc, length-append, option_to_list}
-use Rattle.std.specs.List.{AllByRecursion}
+use Rattle.std.proofs.Common.{◌≡◌, ◌≢◌, ◌⊎◌, ℕ, ◌%◌, ◌<◌, ◌≤◌, ◌==◌, true, false, cond, List, [], ◌∷◌, ◌++◌, length, set, Option, Some, None, is_some, refl, sym, ap, subst, ◌∙◌, inl, inr, arith, ne_eqb, option_to_list}
 use Rattle.std.specs.FinMap as finite
 use mathlib.Core.Logic.{dite}
 use mathlib.Core.Option.{some}
-use native.Mathlib.Decide.{dec_le, ℕ_discrete}
+use native.Mathlib.Decide.{ℕ_discrete}
 use lib.ListN.{get_elem?}
 use Rattle.prcu_model.specs.declared.mark.Mark.{Mark}
-use Rattle.prcu_model.specs.declared.mark.Mark.TheVariants.{Done, Given, Unlinked}
+use Rattle.prcu_model.specs.declared.mark.Mark.TheVariants.{Done}
 use Rattle.prcu_model.specs.declared.operation.Op.{Op}
-use Rattle.prcu_model.specs.declared.operation.Op.TheVariants.{Put, Get, Del, Set}
+use Rattle.prcu_model.specs.declared.operation.Op.TheVariants.{Put, Set}
 use Rattle.prcu_model.specs.declared.operation.Update.{Update}
-use Rattle.prcu_model.specs.Dictionary.{Dictionary, updated, map_of}
-use Rattle.prcu_model.specs.History.{IsUpdateAt}
+use Rattle.prcu_model.specs.Dictionary.{updated, map_of}
 use Rattle.prcu_model.proofs.Fronts.{map_of-push}
-use Rattle.hash_core.specs.declared.words.Field.{Field}
-use Rattle.hash_core.specs.declared.words.Field.TheVariants.{Front, Lock, Readers, Head, Free, Retired, Key, Value, Next, Chain}
+use Rattle.hash_core.specs.declared.words.Field.TheVariants.{Head, Key, Value, Next}
 use Rattle.hash_core.specs.declared.view.Stand.{Stand}
 use Rattle.hash_core.specs.declared.view.Stand.TheVariants.{Start, Unread, Passed, Found, Ended}
 use Rattle.hash_core.specs.declared.view.Section.{Section}
 use Rattle.hash_core.specs.declared.view.Hold.{Hold}
 use Rattle.hash_core.specs.declared.view.View.{View}
-use Rattle.hash_core.specs.Lists.{times, IsPath, total}
-use Rattle.hash_core.specs.Memory.{Memory, same_field, stored}
-use Rattle.hash_core.specs.Slots.{is_slot_of, IsOfClass}
-use Rattle.hash_core.specs.Marks.{updates_of, open_at, gone_at, IsGone, own_of, entered_at, ReuseByClass}
-use Rattle.hash_core.specs.Known.{known_in, knowing, ShowsAbsent, IsOnWalk}
+use Rattle.hash_core.specs.Lists.{times, IsPath}
+use Rattle.hash_core.specs.Memory.{Memory, stored}
+use Rattle.hash_core.specs.Slots.{is_slot_of}
+use Rattle.hash_core.specs.Marks.{updates_of, open_at, gone_at, IsGone, entered_at, ReuseByClass}
+use Rattle.hash_core.specs.Known.{knowing, ShowsAbsent, IsOnWalk}
 use Rattle.hash_core.specs.Buckets.{Bucket, seek, IsFreeOfReaders, taken_of, unlinked_of, moved_of, link_of}
 use Rattle.hash_core.specs.Readers.{AreAnswered, WillAnswer, WasSaid, IsHeldBack, HasWay}
 use Rattle.hash_core.specs.Seats.{open_of}
-use Rattle.hash_core.specs.Steps.{HasTurn, updated_view, Needs13, after13, Needs15, after15}
+use Rattle.hash_core.specs.Steps.{Needs13, after13, Needs15, after15}
 use Rattle.hash_core.specs.Rule.{BucketRule, MemoryRule}
-use Rattle.hash_core.proofs.Lists.{each_set, all_change, all_times, all_from_times, times_here, times_other}
-use Rattle.hash_core.proofs.Paths.{path_cons, seek_here, seek_past}
+use Rattle.hash_core.proofs.Lists.{each_set, all_times}
+use Rattle.hash_core.proofs.Paths.{seek_here, seek_past}
 use Rattle.hash_core.proofs.MarkLists.{updates_of-append}
-use Rattle.hash_core.proofs.Classes.{one_class, slot_within}
+use Rattle.hash_core.proofs.Classes.{slot_within}
 use Rattle.hash_core.proofs.Adds.{open_at-same, gone_at-same, open_at-below, reuse_more}
-use Rattle.hash_core.proofs.Frames.{SameMarks, chain_slot, free_slot, retired_slot, moved_slot, taken_slot, unlinked_slot, WasSaid-longer}
+use Rattle.hash_core.proofs.Frames.{SameMarks, chain_slot, taken_slot, WasSaid-longer}
 use Rattle.hash_core.proofs.Stores.{class_words, stored_here, same_self}
 use Rattle.hash_core.proofs.Sections.{entered_at-append, free_each}
-use Rattle.hash_core.proofs.Locks.{counted_still, all_still, class_small, locked_by, elsewhere_held}
-use Rattle.hash_core.proofs.Ways.{KeepsWays, will_still}
+use Rattle.hash_core.proofs.Locks.{counted_still, all_still, locked_by, elsewhere_held}
+use Rattle.hash_core.proofs.Ways.{will_still}
 use Rattle.hash_core.proofs.Whole.{after_step}
 use Rattle.hash_core.proofs.Stocks.{rule, had, is_known, known_after, roles_by, moved_by}
 use Rattle.hash_core.proofs.Cuts.{whole_path, comes_on, lacks_none, cut_at, seek_some, seek_slot, seek_replaced}
@@ -62,7 +59,7 @@ module _ (capacities : List ℕ) (places tickets : ℕ) (m : Memory) (vs : List 
   pub absent_now : (key : ℕ) → ShowsAbsent hold key → seek m key (r.bucket hold.class).chain ≡ None
   absent_now key shows =
       let walk_is : chain_now ≡ shows.walk = whole_path hold.known m (λ s n e. (is_known capacities places tickets m vs h r id v at hold mine (Next s) n e).1) shows.first shows.walk chain_now shows.whole
-          (subst (λ z. IsPath (λ s. m (Next s)) z chain_now) (is_known capacities places tickets m vs h r id v at hold mine (Head hold.class) shows.first shows.head).1 bucket_rule.chained.path) in
+      (subst (λ z. IsPath (λ s. m (Next s)) z chain_now) (is_known capacities places tickets m vs h r id v at hold mine (Head hold.class) shows.first shows.head).1 bucket_rule.chained.path) in
       ap (seek m key) walk_is ∙ lacks_none hold.known m (λ s n e. (is_known capacities places tickets m vs h r id v at hold mine (Key s) n e).1) key shows.walk shows.lacks
 
   -- a section was entered among the marks, at a front of the updates
@@ -73,12 +70,12 @@ module _ (capacities : List ℕ) (places tickets : ℕ) (m : Memory) (vs : List 
 
   -- readers' answers after a step of a view that stays in its section
   pub answered_from : (w : View) → w.section ≡ v.section → (m' : Memory) (h' : List Mark) (us' : List Update) (chain' : List ℕ)
-    → ((section : Section) → section.entered < length h → section.from ≤ length (updates_of h) → section.key % 64 ≡ hold.class → (stand : Stand) → WillAnswer capacities hold.class m h (updates_of h) (r.bucket hold.class).chain section stand → WillAnswer capacities hold.class m' h' us' chain' section stand)
-    → ((section : Section) (answer : Option ℕ) → WasSaid (updates_of h) section.key section.from answer → WasSaid us' section.key section.from answer)
-    → AreAnswered capacities hold.class m' h' us' (set vs id w) chain'
+      → ((section : Section) → section.entered < length h → section.from ≤ length (updates_of h) → section.key % 64 ≡ hold.class → (stand : Stand) → WillAnswer capacities hold.class m h (updates_of h) (r.bucket hold.class).chain section stand → WillAnswer capacities hold.class m' h' us' chain' section stand)
+      → ((section : Section) (answer : Option ℕ) → WasSaid (updates_of h) section.key section.from answer → WasSaid us' section.key section.from answer)
+      → AreAnswered capacities hold.class m' h' us' (set vs id w) chain'
   answered_from w same m' h' us' chain' will said =
       let each : (j : ℕ) (u : View) (section : Section) → get_elem? vs j ≡ some u → u.section ≡ Some section → section.key % 64 ≡ hold.class → WillAnswer capacities hold.class m' h' us' chain' section section.stand = λ j u section there is class.
-          let b = section_bounds j u section there is in will section b.0 b.1 class section.stand (bucket_rule.answered.readers j u section there is class) in
+      let b = section_bounds j u section there is in will section b.0 b.1 class section.stand (bucket_rule.answered.readers j u section there is class) in
       record {
         readers = λ j u section there is class. each_set (λ k z. z.section ≡ Some section → WillAnswer capacities hold.class m' h' us' chain' section section.stand) vs id w
             (λ yes. each id v section at (sym same ∙ yes) class) (λ k z far e theirs. each k z section e theirs class) j u there is;
@@ -178,6 +175,7 @@ module _ (capacities : List ℕ) (places tickets : ℕ) (m : Memory) (vs : List 
         same13 : (xs : List ℕ) (k : ℕ) → seek m13 k xs ≡ seek m k xs
         same13 [] k = refl
         same13 (x ∷ xs) k = ap (λ z. cond (m (Key x) == k) (Some (m (Value x))) z) (same13 xs k)
+
         keep13 : (xs : List ℕ) → Rattle.hash_core.specs.Buckets.HaveDistinctKeys m xs → Rattle.hash_core.specs.Buckets.HaveDistinctKeys m13 xs
         keep13 [] d = tt
         keep13 (x ∷ xs) d = (same13 xs (m (Key x)) ∙ d.0, keep13 xs d.1)
@@ -190,8 +188,11 @@ module _ (capacities : List ℕ) (places tickets : ℕ) (m : Memory) (vs : List 
         hold.class b13
         (λ _. record {
           chained = record {
-            path = (stored_here m (Head hold.class) slot (same_self (Head hold.class)), (slot_within capacities hold.class slot slot_of13).0,
-              subst (λ z. IsPath (λ s. m (Next s)) z chain_now) ((is_known capacities places tickets m vs h r id v at hold mine (Head hold.class) first needs.head_is).1 ∙ sym (is_known capacities places tickets m vs h r id v at hold mine (Next slot) first needs.next_is).1) bucket_rule.chained.path);
+            path = (
+              stored_here m (Head hold.class) slot (same_self (Head hold.class)),
+              (slot_within capacities hold.class slot slot_of13).0,
+              subst (λ z. IsPath (λ s. m (Next s)) z chain_now) ((is_known capacities places tickets m vs h r id v at hold mine (Head hold.class) first needs.head_is).1 ∙ sym (is_known capacities places tickets m vs h r id v at hold mine (Next slot) first needs.next_is).1) bucket_rule.chained.path,
+            );
             classes = (ap (λ z. z % 64) is_key13 ∙ needs.class, bucket_rule.chained.classes);
             distinct = distinct13;
           };
@@ -296,13 +297,13 @@ module _ (capacities : List ℕ) (places tickets : ℕ) (m : Memory) (vs : List 
 
     said_way15 : (section : Section) → section.from ≤ length (updates_of h) → (xs : List ℕ) → WasSaid (updates_of h) section.key section.from (seek m section.key xs) → WasSaid (updates_of h15) section.key section.from (seek m15 section.key xs)
     said_way15 section from xs said = elim (search15 section.key xs) [
-          | inl e ↦ subst (WasSaid (updates_of h15) section.key section.from) (sym e) (said_done even (Set key value) section (seek m section.key xs) said)
-          | inr e ↦
-              let key_is : section.key ≡ key = sym e.0 ∙ is_key15 in
-              subst (WasSaid (updates_of h15) section.key section.from) (sym e.1)
-              (subst (λ z. WasSaid z section.key section.from (Some value)) (sym (done_longer even (Set key value)))
-              (said_now (updates_of h) (record { caller = v.place; op = Set key value }) section.key section.from (Some value) from (ap (finite.get (updated (map_of (updates_of h)) (Set key value))) key_is ∙ get-set (map_of (updates_of h)) key value present15)))
-        ]
+      | inl e ↦ subst (WasSaid (updates_of h15) section.key section.from) (sym e) (said_done even (Set key value) section (seek m section.key xs) said)
+      | inr e ↦
+          let key_is : section.key ≡ key = sym e.0 ∙ is_key15 in
+          subst (WasSaid (updates_of h15) section.key section.from) (sym e.1)
+          (subst (λ z. WasSaid z section.key section.from (Some value)) (sym (done_longer even (Set key value)))
+          (said_now (updates_of h) (record { caller = v.place; op = Set key value }) section.key section.from (Some value) from (ap (finite.get (updated (map_of (updates_of h)) (Set key value))) key_is ∙ get-set (map_of (updates_of h)) key value present15)))
+    ]
 
     way15 : (section : Section) → section.from ≤ length (updates_of h) → (s : ℕ) → HasWay capacities hold.class m h (updates_of h) chain_now section s → HasWay capacities hold.class m15 h15 (updates_of h15) chain_now section s
     way15 section from s way = record {

@@ -1,12 +1,12 @@
 -- Lists of views, of slots and of marks.
-use Rattle.std.proofs.Common.{◌≡◌, ◌≢◌, ℕ, zero, suc, ◌+◌, ◌<◌, ◌≤◌, ◌⊎◌, ◌==◌, Bool, true, false, cond, List, [], ◌∷◌, ◌++◌, length, set, refl, sym, ap, subst, ◌∙◌, ⊎_elim, inl, inr, arith, append_assoc, eq-eqb, ne_eqb}
+use Rattle.std.proofs.Common.{◌≡◌, ◌≢◌, ℕ, zero, suc, ◌+◌, ◌<◌, ◌≤◌, ◌⊎◌, cond, List, [], ◌∷◌, ◌++◌, length, set, refl, sym, ap, subst, ◌∙◌, ⊎_elim, inl, inr, arith, append_assoc, eq-eqb, ne_eqb}
 use Rattle.std.specs.List.{AllByRecursion}
 use mathlib.Core.Logic.{dite}
 use mathlib.Core.Option.{some, some-injective, some-ne-none}
 use mathlib.Core.List.{IsPrefix}
 use native.Mathlib.Decide.{ℕ_discrete}
 use lib.ListN.{get_elem?}
-use Rattle.atomic_table.proofs.Lists.{at_set, set_here, set_else}
+use Rattle.atomic_table.proofs.Lists.{at_set}
 use Rattle.hash_core.specs.Lists.{times, total}
 
 module _ {A : Type 0} where
@@ -40,7 +40,7 @@ module _ {A : Type 0} where
 
   -- a fact of each element, after one has changed
   pub each_set : (P : ℕ → A → Type 0) (vs : List A) (id : ℕ) (w : A) → P id w → ((j : ℕ) (u : A) → j ≢ id → get_elem? vs j ≡ some u → P j u)
-    → (j : ℕ) (u : A) → get_elem? (set vs id w) j ≡ some u → P j u
+      → (j : ℕ) (u : A) → get_elem? (set vs id w) j ≡ some u → P j u
   each_set P vs id w mine others j u e = ⊎_elim (λ (t : (j ≡ id) × (w ≡ u)). subst (λ (x : ℕ × A). P x.0 x.1) (λ i. (sym t.0 i, t.1 i)) mine)
       (λ (t : (j ≢ id) × (get_elem? vs j ≡ some u)). others j u t.0 t.1) (at_set vs id j w u e)
 
@@ -95,11 +95,10 @@ all_times P (y ∷ ys) x all there =
 -- a fact of all numbers of a list, where it follows for those that stand there
 pub all_from_times : (P : ℕ → Type 0) (xs : List ℕ) → ((x : ℕ) → 1 ≤ times x xs → P x) → AllByRecursion P xs
 all_from_times P [] f = tt
-all_from_times P (y ∷ ys) f =
-    (
-      f y (let t = times_here y ys in omega arith),
-      all_from_times P ys (λ x there. f x (dite (ℕ_discrete y x) (λ e. let t : times x (y ∷ ys) ≡ 1 + times x ys = subst (λ z. times z (y ∷ ys) ≡ 1 + times z ys) e (times_here y ys) in omega arith) (λ ne. let t = times_other x y ys ne in omega arith))),
-    )
+all_from_times P (y ∷ ys) f = (
+  f y (let t = times_here y ys in omega arith),
+  all_from_times P ys (λ x there. f x (dite (ℕ_discrete y x) (λ e. let t : times x (y ∷ ys) ≡ 1 + times x ys = subst (λ z. times z (y ∷ ys) ≡ 1 + times z ys) e (times_here y ys) in omega arith) (λ ne. let t = times_other x y ys ne in omega arith))),
+)
 
 -- one fact from another for the numbers that stand there
 pub all_change : (P Q : ℕ → Type 0) (xs : List ℕ) → ((x : ℕ) → 1 ≤ times x xs → P x → Q x) → AllByRecursion P xs → AllByRecursion Q xs

@@ -1,36 +1,35 @@
 -- The kinds of step on locks and on the front, and the loads under a lock.
-use Rattle.std.proofs.Common.{◌≡◌, ◌≢◌, ◌⊎◌, ℕ, zero, suc, ◌+◌, ◌-◌, ◌*◌, ◌%◌, ◌^◌, ◌<◌, ◌≤◌, ◌==◌, Bool, true, false, cond, List, [], ◌∷◌, ◌++◌, length, set, Option, Some, None, refl, sym, ap, subst, ◌∙◌, inl, inr, arith, eq-eqb, ne_eqb, append-nil, option_to_list}
+use Rattle.std.proofs.Common.{◌≡◌, ◌≢◌, ℕ, ◌+◌, ◌*◌, ◌%◌, ◌<◌, ◌≤◌, Bool, true, false, cond, List, [], ◌∷◌, length, set, Option, Some, None, refl, sym, ap, subst, ◌∙◌, inl, inr, arith, eq-eqb, append-nil, option_to_list}
 use Rattle.std.specs.List.{AllByRecursion}
 use mathlib.Core.Logic.{dite}
-use mathlib.Core.Option.{some, some-injective}
-use mathlib.Core.List.{IsPrefix}
+use mathlib.Core.Option.{some}
 use native.Mathlib.Decide.{ℕ_discrete}
 use lib.ListN.{get_elem?}
-use Rattle.atomic_table.proofs.Lists.{set_here, set_else, set_again}
+use Rattle.atomic_table.proofs.Lists.{set_here}
 use Rattle.prcu_model.specs.declared.mark.Mark.{Mark}
 use Rattle.prcu_model.specs.declared.operation.Update.{Update}
 use Rattle.hash_core.specs.declared.words.Field.{Field}
-use Rattle.hash_core.specs.declared.words.Field.TheVariants.{Front, Lock, Readers, Head, Free, Retired, Key, Value, Next, Chain}
+use Rattle.hash_core.specs.declared.words.Field.TheVariants.{Front, Lock, Readers, Chain}
 use Rattle.hash_core.specs.declared.view.Section.{Section}
 use Rattle.hash_core.specs.declared.view.Hold.{Hold}
 use Rattle.hash_core.specs.declared.view.Turn.{Turn}
 use Rattle.hash_core.specs.declared.view.View.{View}
-use Rattle.hash_core.specs.Lists.{times, IsPath, total}
+use Rattle.hash_core.specs.Lists.{times, IsPath}
 use Rattle.hash_core.specs.Memory.{Memory, same_field, stored}
 use Rattle.hash_core.specs.Slots.{is_slot_of, IsOfClass}
-use Rattle.hash_core.specs.Marks.{updates_of, gone_at, IsGone}
+use Rattle.hash_core.specs.Marks.{updates_of}
 use Rattle.hash_core.specs.Known.{known_in, knowing}
-use Rattle.hash_core.specs.Buckets.{Bucket, inside_count, AreCounted, HoldsOther, IsLocked, IsKnown, AreClean, IsFreeOfReaders, HaveOneRole, HaveAges, AreListed, taken_of, unlinked_of, moved_of, link_of}
+use Rattle.hash_core.specs.Buckets.{Bucket, inside_count, AreCounted, HoldsOther, IsLocked, AreClean, IsFreeOfReaders, HaveOneRole, taken_of, unlinked_of, moved_of, link_of}
 use Rattle.hash_core.specs.Readers.{AreAnswered, WillAnswer, WasSaid}
 use Rattle.hash_core.specs.Seats.{HasNoTurn, updates_by, IsTurned, AreOwned, AreSeen}
-use Rattle.hash_core.specs.Steps.{IsQuiet, fresh_hold, Needs7, after7, after9, Needs12, Needs16, after16}
+use Rattle.hash_core.specs.Steps.{IsQuiet, fresh_hold, Needs7, after7, Needs12, Needs16, after16}
 use Rattle.hash_core.specs.Rule.{BucketRule, MemoryRule}
 use Rattle.hash_core.proofs.Lists.{at_below, at_one, each_set, total_set, total_part, prefix_self}
-use Rattle.hash_core.proofs.Frames.{SameSlots, SameWords, SameMarks, SameSection, SameHold, SameView, still_answer}
+use Rattle.hash_core.proofs.Frames.{SameSlots, SameSection, SameHold, SameView, still_answer}
 use Rattle.hash_core.proofs.Stores.{same_words, lock_words, front_words, stored_here, same_self, same_is}
-use Rattle.hash_core.proofs.SeatFrames.{SamePlaces, seen_same, seen_whole, apart_same, owned_same, open_same, held_still, turned_same}
-use Rattle.hash_core.proofs.Quiet.{SameSeat, same_marks, same_section, same_hold, seats_same, section_back, section_forth, tickets_same, no_marks}
-use Rattle.hash_core.proofs.Whole.{SeatsRule, IsElsewhere, after_step, after_quiet}
+use Rattle.hash_core.proofs.SeatFrames.{seen_same, seen_whole, apart_same, owned_same, open_same, held_still, turned_same}
+use Rattle.hash_core.proofs.Quiet.{same_marks, same_section, same_hold, seats_same, section_back, section_forth, tickets_same, no_marks}
+use Rattle.hash_core.proofs.Whole.{SeatsRule, after_step, after_quiet}
 
 -- the parts on a class that read views, where another view has the same section
 module _ (capacities : List ℕ) (c : ℕ) (m : Memory) (h : List Mark) (vs : List View) (id : ℕ) (v w : View) (at : get_elem? vs id ≡ some v) (same : w.section ≡ v.section) where
@@ -277,21 +276,21 @@ module _ (capacities : List ℕ) (places tickets : ℕ) (m : Memory) (vs : List 
         }) refl refl)
         hold.class (held_bucket hold new8)
         (λ small.
-            let c : ℕ = hold.class in
-            let b = r.buckets c small in
-            let had : (r.bucket c).hold ≡ Some hold = holder_of c small hold mine refl in
-            record {
-              chained = b.chained;
-              listed = record { free = b.listed.free; retired = b.listed.retired; moved = subst (λ z. IsPath (λ s. m (Chain s)) (link_of (moved_of z)) (r.bucket c).moved) had b.listed.moved };
-              roles = record { once = λ x. subst (λ z. times x (r.bucket c).chain + times x (r.bucket c).free + times x (r.bucket c).retired + times x (r.bucket c).moved + times x (option_to_list (taken_of z)) + times x (option_to_list (unlinked_of z)) ≡ cond (is_slot_of capacities c x) 1 0) had (b.roles.once x) };
-              mapped = b.mapped;
-              locked = locked_by hold new8 mine refl m refl w8 refl refl;
-              known = record { known = λ other field number is found. b.known.known hold field number had (let e : new8 ≡ other = cc in subst (λ (z : Hold). known_in z.known field ≡ Some number) (sym e) found) };
-              ages = record { chain = b.ages.chain; taken = λ s is. b.ages.taken s (ap taken_of had ∙ is); retired = b.ages.retired; moved = b.ages.moved; unlinked = λ s is. b.ages.unlinked s (ap unlinked_of had ∙ is) };
-              counted = counted_still capacities c m h vs id v w8 at refl b.counted;
-              clean = clean_still c w8 refl (r.bucket c) (Some new8) (λ other is yes s of p j u section gone there inside class. absurd (no_section small j u section there inside class)) b.clean;
-              answered = answered_still capacities c m h vs id v w8 at refl m (r.bucket c) (λ s _. (refl, refl, refl, refl)) b.roles b.answered;
-            })
+        let c : ℕ = hold.class in
+        let b = r.buckets c small in
+        let had : (r.bucket c).hold ≡ Some hold = holder_of c small hold mine refl in
+        record {
+          chained = b.chained;
+          listed = record { free = b.listed.free; retired = b.listed.retired; moved = subst (λ z. IsPath (λ s. m (Chain s)) (link_of (moved_of z)) (r.bucket c).moved) had b.listed.moved };
+          roles = record { once = λ x. subst (λ z. times x (r.bucket c).chain + times x (r.bucket c).free + times x (r.bucket c).retired + times x (r.bucket c).moved + times x (option_to_list (taken_of z)) + times x (option_to_list (unlinked_of z)) ≡ cond (is_slot_of capacities c x) 1 0) had (b.roles.once x) };
+          mapped = b.mapped;
+          locked = locked_by hold new8 mine refl m refl w8 refl refl;
+          known = record { known = λ other field number is found. b.known.known hold field number had (let e : new8 ≡ other = cc in subst (λ (z : Hold). known_in z.known field ≡ Some number) (sym e) found) };
+          ages = record { chain = b.ages.chain; taken = λ s is. b.ages.taken s (ap taken_of had ∙ is); retired = b.ages.retired; moved = b.ages.moved; unlinked = λ s is. b.ages.unlinked s (ap unlinked_of had ∙ is) };
+          counted = counted_still capacities c m h vs id v w8 at refl b.counted;
+          clean = clean_still c w8 refl (r.bucket c) (Some new8) (λ other is yes s of p j u section gone there inside class. absurd (no_section small j u section there inside class)) b.clean;
+          answered = answered_still capacities c m h vs id v w8 at refl m (r.bucket c) (λ s _. (refl, refl, refl, refl)) b.roles b.answered;
+        })
         (λ d _ ne. record { words = same_words capacities d m; marks = same_marks capacities d h; view = elsewhere_held d hold new8 mine refl ne w8 refl refl refl })
 
   -- H9
@@ -333,21 +332,21 @@ module _ (capacities : List ℕ) (places tickets : ℕ) (m : Memory) (vs : List 
     pub law9 : MemoryRule capacities places tickets m (set vs id w9) h
     law9 = after_step capacities places tickets m vs h r id v w9 at m h seats9 hold.class (held_bucket hold new9)
         (λ small.
-            let c : ℕ = hold.class in
-            let b = r.buckets c small in
-            let had : (r.bucket c).hold ≡ Some hold = holder_of c small hold mine refl in
-            record {
-              chained = b.chained;
-              listed = record { free = b.listed.free; retired = b.listed.retired; moved = subst (λ z. IsPath (λ s. m (Chain s)) (link_of (moved_of z)) (r.bucket c).moved) had b.listed.moved };
-              roles = record { once = λ x. subst (λ z. times x (r.bucket c).chain + times x (r.bucket c).free + times x (r.bucket c).retired + times x (r.bucket c).moved + times x (option_to_list (taken_of z)) + times x (option_to_list (unlinked_of z)) ≡ cond (is_slot_of capacities c x) 1 0) had (b.roles.once x) };
-              mapped = b.mapped;
-              locked = locked_by hold new9 mine refl m refl w9 refl refl;
-              known = record { known = λ other f number is found. let e : new9 ≡ other = cc in known9 f number (λ g n has. b.known.known hold g n had has) (subst (λ (z : Hold). known_in z.known f ≡ Some number) (sym e) found) };
-              ages = record { chain = b.ages.chain; taken = λ s is. b.ages.taken s (ap taken_of had ∙ is); retired = b.ages.retired; moved = b.ages.moved; unlinked = λ s is. b.ages.unlinked s (ap unlinked_of had ∙ is) };
-              counted = counted_still capacities c m h vs id v w9 at refl b.counted;
-              clean = clean_still c w9 refl (r.bucket c) (Some new9) (λ other is yes s of_c. let e : new9 ≡ other = cc in b.clean.clear hold had (ap (λ (z : Hold). z.clear) e ∙ yes) s of_c) b.clean;
-              answered = answered_still capacities c m h vs id v w9 at refl m (r.bucket c) (λ s _. (refl, refl, refl, refl)) b.roles b.answered;
-            })
+        let c : ℕ = hold.class in
+        let b = r.buckets c small in
+        let had : (r.bucket c).hold ≡ Some hold = holder_of c small hold mine refl in
+        record {
+          chained = b.chained;
+          listed = record { free = b.listed.free; retired = b.listed.retired; moved = subst (λ z. IsPath (λ s. m (Chain s)) (link_of (moved_of z)) (r.bucket c).moved) had b.listed.moved };
+          roles = record { once = λ x. subst (λ z. times x (r.bucket c).chain + times x (r.bucket c).free + times x (r.bucket c).retired + times x (r.bucket c).moved + times x (option_to_list (taken_of z)) + times x (option_to_list (unlinked_of z)) ≡ cond (is_slot_of capacities c x) 1 0) had (b.roles.once x) };
+          mapped = b.mapped;
+          locked = locked_by hold new9 mine refl m refl w9 refl refl;
+          known = record { known = λ other f number is found. let e : new9 ≡ other = cc in known9 f number (λ g n has. b.known.known hold g n had has) (subst (λ (z : Hold). known_in z.known f ≡ Some number) (sym e) found) };
+          ages = record { chain = b.ages.chain; taken = λ s is. b.ages.taken s (ap taken_of had ∙ is); retired = b.ages.retired; moved = b.ages.moved; unlinked = λ s is. b.ages.unlinked s (ap unlinked_of had ∙ is) };
+          counted = counted_still capacities c m h vs id v w9 at refl b.counted;
+          clean = clean_still c w9 refl (r.bucket c) (Some new9) (λ other is yes s of_c. let e : new9 ≡ other = cc in b.clean.clear hold had (ap (λ (z : Hold). z.clear) e ∙ yes) s of_c) b.clean;
+          answered = answered_still capacities c m h vs id v w9 at refl m (r.bucket c) (λ s _. (refl, refl, refl, refl)) b.roles b.answered;
+        })
         (λ d _ ne. record { words = same_words capacities d m; marks = same_marks capacities d h; view = elsewhere_held d hold new9 mine refl ne w9 refl refl refl })
 
   -- H12, where the front was the even number
@@ -366,7 +365,15 @@ module _ (capacities : List ℕ) (places tickets : ℕ) (m : Memory) (vs : List 
       where
         turn_case : IsTurned m vs (length (updates_of h)) → IsTurned m12 (set vs id w12) (length (updates_of h))
         turn_case (inl free) = inr (
-          id, w12, turn12, hold, set_here vs id w12 (at_below vs id v at), refl, needs.0, refl, (let a = free.0 in omega arith),
+          id,
+          w12,
+          turn12,
+          hold,
+          set_here vs id w12 (at_below vs id v at),
+          refl,
+          needs.0,
+          refl,
+          (let a = free.0 in omega arith),
           λ j u ne there. each_set (λ k z. k ≢ id → HasNoTurn z) vs id w12 (λ f. absurd (f refl)) (λ k z far e _. free.1 k z e) j u there ne,
         )
         turn_case (inr odd) = absurd (let a = odd.7 in let b = odd.8 in let z = needs.1 in parity odd.2.stored odd.2.found b a)

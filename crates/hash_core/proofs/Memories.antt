@@ -1,9 +1,9 @@
 -- A store in a word of the table is a store in its field.
-use Rattle.std.proofs.Common.{◌≡◌, ◌≢◌, ℕ, ◌+◌, ◌*◌, ◌<◌, ◌≤◌, nat_lt, nat_le, ◌&&◌, Bool, true, false, cond, List, length, sum, set, slice_index, refl, sym, ap, subst, ◌∙◌, arith, get_or-set_other, get_or-set_same}
+use Rattle.std.proofs.Common.{◌≡◌, ℕ, ◌<◌, ◌≤◌, nat_le, ◌&&◌, Bool, true, false, cond, List, length, sum, set, slice_index, refl, sym, ap, subst, ◌∙◌, arith, get_or-set_other, get_or-set_same}
 use Rattle.std.proofs.lemmas.Bool.{ltb-true, leb-true}
 use Rattle.hash_core.specs.declared.words.Field.{Field}
 use Rattle.hash_core.specs.declared.words.Field.TheVariants.{Front, Lock, Readers, Head, Free, Retired, Key, Value, Next, Chain}
-use Rattle.hash_core.specs.Memory.{word_of, same_field, is_field, Memory, memory_of, stored}
+use Rattle.hash_core.specs.Memory.{word_of, same_field, is_field, memory_of, stored}
 use Rattle.hash_core.specs.Slots.{word_count}
 use Rattle.hash_core.proofs.Classes.{and_true}
 use Rattle.hash_core.proofs.Stores.{same_self, same_is}

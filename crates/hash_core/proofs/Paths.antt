@@ -1,13 +1,12 @@
 -- Lists of slots that lead from one to the next, and searches along them.
-use Rattle.std.proofs.Common.{◌≡◌, ◌≢◌, ℕ, zero, suc, ◌+◌, ◌<◌, ◌≤◌, ◌⊎◌, ◌==◌, Bool, true, false, cond, List, [], ◌∷◌, ◌++◌, length, Option, Some, None, refl, sym, ap, subst, ◌∙◌, inl, inr, arith, eq-eqb, ne_eqb}
-use Rattle.std.specs.List.{AllByRecursion}
+use Rattle.std.proofs.Common.{◌≡◌, ◌≢◌, ℕ, ◌≤◌, ◌==◌, cond, List, [], ◌∷◌, ◌++◌, Some, None, refl, sym, ap, subst, ◌∙◌, arith, eq-eqb, ne_eqb}
 use mathlib.Core.Logic.{dite}
 use native.Mathlib.Decide.{ℕ_discrete}
 use Rattle.hash_core.specs.declared.words.Field.TheVariants.{Key, Value}
 use Rattle.hash_core.specs.Lists.{times, IsPath}
 use Rattle.hash_core.specs.Memory.{Memory}
 use Rattle.hash_core.specs.Buckets.{seek, HaveDistinctKeys}
-use Rattle.hash_core.proofs.Lists.{times_here, times_other}
+use Rattle.hash_core.proofs.Lists.{times_here}
 
 -- a path goes on where no link on it changes
 pub IsPath-same : (next next' : ℕ → ℕ) (first : ℕ) (xs : List ℕ) → ((s : ℕ) → 1 ≤ times s xs → next' s ≡ next s) → IsPath next first xs → IsPath next' first xs

@@ -1,5 +1,5 @@
 -- Steps that leave no mark.
-use Rattle.std.proofs.Common.{◌≡◌, ◌≢◌, ℕ, ◌+◌, ◌<◌, ◌≤◌, ◌%◌, Bool, true, false, List, [], ◌∷◌, ◌++◌, length, set, Option, Some, None, refl, sym, ap, subst, ◌∙◌, inl, inr, arith, append-nil}
+use Rattle.std.proofs.Common.{◌≡◌, ℕ, ◌+◌, ◌<◌, ◌≤◌, List, [], length, set, Option, Some, None, refl, sym, subst, ◌∙◌, inl, arith, append-nil}
 use mathlib.Core.Option.{some}
 use lib.ListN.{get_elem?}
 use Rattle.prcu_model.specs.declared.mark.Mark.{Mark}
@@ -18,10 +18,10 @@ use Rattle.hash_core.specs.Steps.{trod}
 use Rattle.hash_core.specs.Rule.{MemoryRule}
 use Rattle.hash_core.proofs.Lists.{at_below, total_set, set_twice}
 use Rattle.atomic_table.proofs.Lists.{set_here}
-use Rattle.hash_core.proofs.Frames.{SameWords, SameMarks, SameSection, SameHold, SameView}
+use Rattle.hash_core.proofs.Frames.{SameMarks, SameSection, SameHold}
 use Rattle.hash_core.proofs.Stores.{same_words}
 use Rattle.hash_core.proofs.SeatFrames.{SamePlaces, seen_same, apart_same, owned_same, open_same, held_still, turned_same}
-use Rattle.hash_core.proofs.Whole.{SeatsRule, IsElsewhere, after_quiet}
+use Rattle.hash_core.proofs.Whole.{SeatsRule, after_quiet}
 
 -- What the parts on seats read of a view is the same, but for where its search stands and what it knows.
 pub record SameSeat (v w : View) : Type 0 where
@@ -76,7 +76,7 @@ module _ (capacities : List ℕ) (places tickets : ℕ) (m : Memory) (vs : List 
 
 -- the trail is read by no part
 pub law_trod : (capacities : List ℕ) (places tickets : ℕ) (m : Memory) (vs : List View) (h : List Mark) → MemoryRule capacities places tickets m vs h → (id : ℕ) (v : View) → get_elem? vs id ≡ some v → (kind : Kind) (field : Field) (number : ℕ)
-  → MemoryRule capacities places tickets m (set vs id (trod v kind field number)) h
+    → MemoryRule capacities places tickets m (set vs id (trod v kind field number)) h
 law_trod capacities places tickets m vs h r id v at kind field number =
     let w : View = trod v kind field number in
     after_quiet capacities places tickets m vs h r id v w at m h
@@ -96,9 +96,9 @@ law_trod capacities places tickets m vs h r id v at kind field number =
 
 -- A step of a kind is made of the view with one more step in its trail.
 pub after_trod : (capacities : List ℕ) (places tickets : ℕ) (m : Memory) (vs : List View) (h : List Mark) → MemoryRule capacities places tickets m vs h → (id : ℕ) (v : View) → get_elem? vs id ≡ some v → (kind : Kind) (field : Field) (number : ℕ)
-  → (m' : Memory) (w : View) (h' : List Mark)
-  → ((vs1 : List View) → MemoryRule capacities places tickets m vs1 h → get_elem? vs1 id ≡ some (trod v kind field number) → MemoryRule capacities places tickets m' (set vs1 id w) h')
-  → MemoryRule capacities places tickets m' (set vs id w) h'
+    → (m' : Memory) (w : View) (h' : List Mark)
+    → ((vs1 : List View) → MemoryRule capacities places tickets m vs1 h → get_elem? vs1 id ≡ some (trod v kind field number) → MemoryRule capacities places tickets m' (set vs1 id w) h')
+    → MemoryRule capacities places tickets m' (set vs id w) h'
 after_trod capacities places tickets m vs h r id v at kind field number m' w h' law =
     let v1 : View = trod v kind field number in
     subst (λ z. MemoryRule capacities places tickets m' z h') (set_twice vs id v1 w)

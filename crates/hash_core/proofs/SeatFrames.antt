@@ -1,11 +1,11 @@
 -- What keeps the parts of the rule on seats.
-use Rattle.std.proofs.Common.{◌≡◌, ◌≢◌, ◌⊎◌, ℕ, ◌+◌, ◌*◌, ◌^◌, ◌<◌, ◌≤◌, Bool, true, false, cond, List, [], ◌∷◌, ◌++◌, length, set, Option, Some, None, refl, sym, ap, subst, ◌∙◌, inl, inr, arith, append_assoc, append-nil}
+use Rattle.std.proofs.Common.{◌≡◌, ◌≢◌, ℕ, ◌^◌, ◌<◌, ◌≤◌, true, false, cond, List, [], ◌∷◌, ◌++◌, length, set, Some, refl, sym, ap, subst, ◌∙◌, inl, inr, arith, append_assoc, append-nil}
 use mathlib.Core.Logic.{dite}
-use mathlib.Core.Option.{some, some-injective}
+use mathlib.Core.Option.{some}
 use mathlib.Core.List.{IsPrefix}
 use native.Mathlib.Decide.{ℕ_discrete}
 use lib.ListN.{get_elem?}
-use Rattle.atomic_table.proofs.Lists.{at_set, set_here, set_else}
+use Rattle.atomic_table.proofs.Lists.{set_here, set_else}
 use Rattle.prcu_model.specs.declared.mark.Mark.{Mark}
 use Rattle.prcu_model.specs.declared.operation.Update.{Update}
 use Rattle.hash_core.specs.declared.words.Field.TheVariants.{Front}
@@ -16,7 +16,7 @@ use Rattle.hash_core.specs.declared.view.View.{View}
 use Rattle.hash_core.specs.Lists.{times}
 use Rattle.hash_core.specs.Memory.{Memory}
 use Rattle.hash_core.specs.Marks.{Open, open_at, own_of, is_of, entered_at}
-use Rattle.hash_core.specs.Seats.{AreSeen, HasPlace, AnswersFor, AreApart, AreOwned, open_of, AreOpen, AreHeld, HasNoTurn, updates_by, IsTurned}
+use Rattle.hash_core.specs.Seats.{AreSeen, HasPlace, AnswersFor, AreApart, AreOwned, open_of, AreOpen, AreHeld, HasNoTurn, IsTurned}
 use Rattle.hash_core.proofs.Lists.{at_below, at_one, each_set, prefix_self}
 use Rattle.hash_core.proofs.MarkLists.{own_of-append}
 
@@ -84,7 +84,7 @@ module _ (vs : List View) (id : ℕ) (v w : View) (at : get_elem? vs id ≡ some
 
   -- a mark of the view's place, and others that no place left
   pub owned_more : (places : ℕ) (h ms : List Mark) (m : Mark) → SamePlaces v w → 1 ≤ v.places → w.own ≡ v.own ++ m ∷ [] → is_of v.place m ≡ true → ((p : ℕ) → p ≢ v.place → is_of p m ≡ false) → ((p : ℕ) → own_of p ms ≡ [])
-    → AreApart places vs → AreOwned vs h → AreOwned (set vs id w) (h ++ m ∷ ms)
+      → AreApart places vs → AreOwned vs h → AreOwned (set vs id w) (h ++ m ∷ ms)
   owned_more places h ms m same works own mine_is others none apart s =
       let here : own_of v.place (m ∷ ms) ≡ m ∷ [] = ap (λ b. cond b (m ∷ own_of v.place ms) (own_of v.place ms)) mine_is ∙ ap (λ z. m ∷ z) (none v.place) in
       let there_none : (p : ℕ) → p ≢ v.place → own_of p (m ∷ ms) ≡ [] = λ p ne. ap (λ b. cond b (m ∷ own_of p ms) (own_of p ms)) (others p ne) ∙ none p in
@@ -111,9 +111,9 @@ module _ (vs : List View) (id : ℕ) (v w : View) (at : get_elem? vs id ≡ some
 
   -- marks that enter and leave nothing
   pub open_same : (h h' : List Mark) (us us' : List Update) → w.place ≡ v.place → w.places ≡ v.places → w.sections ≡ v.sections
-    → ((section : Section) → w.section ≡ Some section → (old : Section) × (v.section ≡ Some old) × (open_of section ≡ open_of old) × (section.from ≡ old.from))
-    → ((section : Section) → v.section ≡ Some section → (new : Section) × (w.section ≡ Some new) × (open_of section ≡ open_of new))
-    → ((p : ℕ) → open_at p h' ≡ open_at p h) → ((p : ℕ) → entered_at p h' ≡ entered_at p h) → length us ≤ length us' → AreOpen vs h us → AreOpen (set vs id w) h' us'
+      → ((section : Section) → w.section ≡ Some section → (old : Section) × (v.section ≡ Some old) × (open_of section ≡ open_of old) × (section.from ≡ old.from))
+      → ((section : Section) → v.section ≡ Some section → (new : Section) × (w.section ≡ Some new) × (open_of section ≡ open_of new))
+      → ((p : ℕ) → open_at p h' ≡ open_at p h) → ((p : ℕ) → entered_at p h' ≡ entered_at p h) → length us ≤ length us' → AreOpen vs h us → AreOpen (set vs id w) h' us'
   open_same h h' us us' place places sections back forth opened entered longer s = record {
     open_here = λ j u section there is. each_set (λ k z. z.section ≡ Some section → (1 ≤ z.places) × (open_at z.place h' ≡ Some (open_of section)) × (section.from ≤ length us') × (section.key < 2 ^ 64)) vs id w
         (λ mine. let old = back section mine in let o = s.open_here id v old.0 at old.1 in
@@ -144,16 +144,32 @@ module _ (vs : List View) (id : ℕ) (v w : View) (at : get_elem? vs id ≡ some
   pub turned_same : (m m' : Memory) (count : ℕ) → m' Front ≡ m Front → w.turn ≡ v.turn → ((turn : Turn) (hold : Hold) → v.turn ≡ Some turn → v.hold ≡ Some hold → (k : Hold) × (w.hold ≡ Some k)) → IsTurned m vs count → IsTurned m' (set vs id w) count
   turned_same m m' count front turn hold (inl even) = inl (front ∙ even.0, each_set (λ k z. HasNoTurn z) vs id w (turn ∙ even.1 id v at) (λ k z other e. even.1 k z e))
   turned_same m m' count front turn hold (inr odd) = inr (
-    dite (ℕ_discrete odd.0 id)
-    (λ e.
-        let same : v ≡ odd.1 = at_one vs id v odd.1 at (subst (λ k. get_elem? vs k ≡ some odd.1) e odd.4) in
-        let mine : v.turn ≡ Some odd.2 = ap (λ (z : View). z.turn) same ∙ odd.5 in
-        let held = hold odd.2 odd.3 mine (ap (λ (z : View). z.hold) same ∙ odd.6) in (
-          id, w, odd.2, held.0, set_here vs id w (at_below vs id v at), turn ∙ mine, held.1, front ∙ odd.7, odd.8,
-          λ j u ne there. each_set (λ k z. k ≢ id → HasNoTurn z) vs id w (λ f. absurd (f refl)) (λ k z other q _. odd.9 k z (λ f. other (f ∙ e)) q) j u there ne,
-        ))
-    (λ ne. (
-      odd.0, odd.1, odd.2, odd.3, set_else vs id odd.0 w ne ∙ odd.4, odd.5, odd.6, front ∙ odd.7, odd.8,
-      λ j u far there. each_set (λ k z. k ≢ odd.0 → HasNoTurn z) vs id w (λ f. turn ∙ odd.9 id v (λ g. ne (sym g)) at) (λ k z other q f. odd.9 k z f q) j u there far,
-    ))
-  )
+      dite (ℕ_discrete odd.0 id)
+      (λ e.
+      let same : v ≡ odd.1 = at_one vs id v odd.1 at (subst (λ k. get_elem? vs k ≡ some odd.1) e odd.4) in
+      let mine : v.turn ≡ Some odd.2 = ap (λ (z : View). z.turn) same ∙ odd.5 in
+      let held = hold odd.2 odd.3 mine (ap (λ (z : View). z.hold) same ∙ odd.6) in (
+        id,
+        w,
+        odd.2,
+        held.0,
+        set_here vs id w (at_below vs id v at),
+        turn ∙ mine,
+        held.1,
+        front ∙ odd.7,
+        odd.8,
+        λ j u ne there. each_set (λ k z. k ≢ id → HasNoTurn z) vs id w (λ f. absurd (f refl)) (λ k z other q _. odd.9 k z (λ f. other (f ∙ e)) q) j u there ne,
+      ))
+      (λ ne. (
+        odd.0,
+        odd.1,
+        odd.2,
+        odd.3,
+        set_else vs id odd.0 w ne ∙ odd.4,
+        odd.5,
+        odd.6,
+        front ∙ odd.7,
+        odd.8,
+        λ j u far there. each_set (λ k z. k ≢ odd.0 → HasNoTurn z) vs id w (λ f. turn ∙ odd.9 id v (λ g. ne (sym g)) at) (λ k z other q f. odd.9 k z f q) j u there far,
+      ))
+      )

@@ -1,44 +1,41 @@
 -- The kinds of step that enter and leave a section, and its loads.
-use Rattle.std.proofs.Common.{◌≡◌, ◌≢◌, ◌⊎◌, ℕ, zero, suc, ◌+◌, ◌-◌, ◌%◌, ◌^◌, ◌<◌, ◌≤◌, ◌==◌, Bool, true, false, cond, List, [], ◌∷◌, ◌++◌, length, set, Option, Some, None, refl, sym, ap, subst, ◌∙◌, inl, inr, arith, eq-eqb, ne_eqb, append-nil, append_assoc, length-append}
+use Rattle.std.proofs.Common.{◌≡◌, ◌≢◌, ℕ, ◌+◌, ◌-◌, ◌%◌, ◌^◌, ◌<◌, ◌≤◌, ◌==◌, true, cond, List, [], ◌∷◌, ◌++◌, length, set, Option, Some, None, refl, sym, ap, subst, ◌∙◌, inl, inr, arith, eq-eqb, ne_eqb, append-nil, append_assoc}
 use Rattle.std.specs.List.{AllByRecursion}
 use Rattle.std.specs.FinMap as finite
 use Rattle.std.proofs.lemmas.List.{take_all}
 use mathlib.Core.Logic.{dite}
-use mathlib.Core.Option.{some, some-injective}
-use mathlib.Core.List.{IsPrefix}
-use native.Mathlib.Decide.{dec_le, ℕ_discrete}
+use mathlib.Core.Option.{some}
+use native.Mathlib.Decide.{ℕ_discrete}
 use lib.ListN.{get_elem?}
 use Rattle.atomic_table.proofs.Lists.{set_here, set_else}
 use Rattle.prcu_model.specs.declared.mark.Mark.{Mark}
 use Rattle.prcu_model.specs.declared.mark.Mark.TheVariants.{Entered, Left, Began, Ended, Done, Given, Unlinked, Freed}
-use Rattle.prcu_model.specs.declared.operation.Update.{Update}
 use Rattle.prcu_model.specs.Dictionary.{map_of}
 use Rattle.prcu_model.specs.History.{IsLegal}
 use Rattle.hash_core.specs.declared.words.Field.{Field}
-use Rattle.hash_core.specs.declared.words.Field.TheVariants.{Front, Lock, Readers, Head, Free, Retired, Key, Value, Next, Chain}
+use Rattle.hash_core.specs.declared.words.Field.TheVariants.{Readers, Head, Free, Retired, Key, Value, Next, Chain}
 use Rattle.hash_core.specs.declared.view.Stand.{Stand}
 use Rattle.hash_core.specs.declared.view.Stand.TheVariants.{Start, Unread, Passed, Found, Ended}
 use Rattle.hash_core.specs.declared.view.Section.{Section}
-use Rattle.hash_core.specs.declared.view.Hold.{Hold}
 use Rattle.hash_core.specs.declared.view.View.{View}
-use Rattle.hash_core.specs.Lists.{times, IsPath, total}
+use Rattle.hash_core.specs.Lists.{IsPath, total}
 use Rattle.hash_core.specs.Memory.{Memory, stored}
 use Rattle.hash_core.specs.Slots.{is_slot_of, IsOfClass}
-use Rattle.hash_core.specs.Marks.{updates_of, Open, open_at, gone_at, is_of, own_of, entered_at}
-use Rattle.hash_core.specs.Buckets.{Bucket, seek, inside_count, AreCounted, IsKnown, IsFreeOfReaders, AreClean}
-use Rattle.hash_core.specs.Readers.{WasSaid, IsHeldBack, HasWay, WillAnswer, AreAnswered}
-use Rattle.hash_core.specs.Seats.{HasPlace, AnswersFor, open_of, AreOpen, IsTurned}
-use Rattle.hash_core.specs.Steps.{marked, after3, after4, after5, link_stand, searched, StandsAt, MayLoad}
+use Rattle.hash_core.specs.Marks.{updates_of, Open, open_at, gone_at, entered_at}
+use Rattle.hash_core.specs.Buckets.{Bucket, seek, inside_count, IsKnown, IsFreeOfReaders, AreClean}
+use Rattle.hash_core.specs.Readers.{WasSaid, IsHeldBack, HasWay, WillAnswer}
+use Rattle.hash_core.specs.Seats.{open_of, AreOpen, IsTurned}
+use Rattle.hash_core.specs.Steps.{after3, after4, after5, link_stand, searched, MayLoad}
 use Rattle.hash_core.specs.Rule.{BucketRule, MemoryRule}
-use Rattle.hash_core.proofs.Lists.{at_below, at_one, each_set, total_set, total_part, all_map, all_change, all_times, times_here, times_append}
+use Rattle.hash_core.proofs.Lists.{at_below, at_one, each_set, total_set, total_part, all_map, all_change}
 use Rattle.hash_core.proofs.Paths.{path_cons, path_none, seek_here, seek_past}
 use Rattle.hash_core.proofs.MarkLists.{open_at-snoc, updates_of-append}
-use Rattle.hash_core.proofs.Adds.{gone_at-same, gone_at-below, open_at-below, reuse_more}
-use Rattle.hash_core.proofs.Frames.{SameMarks, SameSection, SameHold, SameView, locked_same, still_said, still_answer, frame_ages_same}
+use Rattle.hash_core.proofs.Adds.{gone_at-same, gone_at-below, reuse_more}
+use Rattle.hash_core.proofs.Frames.{SameMarks, SameSection, locked_same, still_said, still_answer, frame_ages_same}
 use Rattle.hash_core.proofs.Stores.{same_words, readers_words, stored_here, same_self}
-use Rattle.hash_core.proofs.SeatFrames.{SamePlaces, seen_whole, apart_same, owned_more, held_still, turned_same}
-use Rattle.hash_core.proofs.Quiet.{same_marks, same_hold, seats_same, section_back, section_forth, tickets_same}
-use Rattle.hash_core.proofs.Whole.{SeatsRule, IsElsewhere, after_step}
+use Rattle.hash_core.proofs.SeatFrames.{seen_whole, apart_same, owned_more, held_still, turned_same}
+use Rattle.hash_core.proofs.Quiet.{same_marks, same_hold, seats_same, tickets_same}
+use Rattle.hash_core.proofs.Whole.{SeatsRule, after_step}
 
 pub entered_at-append : (p : ℕ) (h ms : List Mark) → entered_at p (h ++ ms) ≡ entered_at p h + entered_at p ms
 entered_at-append p [] ms = omega arith
@@ -59,8 +56,8 @@ link_case P link end more = dite (ℕ_discrete link 0)
 
 -- slots that no section holds back, where one view's section is another
 pub free_each : (c : ℕ) (h h' : List Mark) (vs : List View) (id : ℕ) (w : View) (s : ℕ) → gone_at s h' ≡ gone_at s h
-  → ((p : ℕ) (section : Section) → gone_at s h ≡ Some p → w.section ≡ Some section → section.key % 64 ≡ c → p < section.entered)
-  → IsFreeOfReaders c h vs s → IsFreeOfReaders c h' (set vs id w) s
+    → ((p : ℕ) (section : Section) → gone_at s h ≡ Some p → w.section ≡ Some section → section.key % 64 ≡ c → p < section.entered)
+    → IsFreeOfReaders c h vs s → IsFreeOfReaders c h' (set vs id w) s
 free_each c h h' vs id w s same mine free p j u section was there is class =
     each_set (λ k z. z.section ≡ Some section → p < section.entered) vs id w
     (λ e. mine p section (sym same ∙ was) e class)
@@ -68,8 +65,8 @@ free_each c h h' vs id w s same mine free p j u section was there is class =
 
 -- the same of all slots that are to be free
 pub clean_each : (capacities : List ℕ) (c : ℕ) (h h' : List Mark) (vs : List View) (id : ℕ) (w : View) (b : Bucket) → ((s : ℕ) → gone_at s h' ≡ gone_at s h)
-  → ((s p : ℕ) (section : Section) → IsFreeOfReaders c h vs s → gone_at s h ≡ Some p → w.section ≡ Some section → section.key % 64 ≡ c → p < section.entered)
-  → AreClean capacities c h vs b → AreClean capacities c h' (set vs id w) b
+    → ((s p : ℕ) (section : Section) → IsFreeOfReaders c h vs s → gone_at s h ≡ Some p → w.section ≡ Some section → section.key % 64 ≡ c → p < section.entered)
+    → AreClean capacities c h vs b → AreClean capacities c h' (set vs id w) b
 clean_each capacities c h h' vs id w b same mine clean =
     let each : (s : ℕ) → IsFreeOfReaders c h vs s → IsFreeOfReaders c h' (set vs id w) s = λ s free. free_each c h h' vs id w s (same s) (λ p section. mine s p section free) free in
     record {
@@ -117,7 +114,7 @@ module _ (capacities : List ℕ) (places tickets : ℕ) (m : Memory) (vs : List 
       open_here = λ j u section there is. each_set (λ k z. z.section ≡ Some section → (1 ≤ z.places) × (open_at z.place h3 ≡ Some (open_of section)) × (section.from ≤ length (updates_of h3)) × (section.key < 2 ^ 64)) vs id w3
           (λ mine. let e : section3 ≡ section = cc in subst (λ (z : Section). (1 ≤ v.places) × (open_at v.place h3 ≡ Some (open_of z)) × (z.from ≤ length (updates_of h3)) × (z.key < 2 ^ 64)) e (works, open_here3, let n = ap length same_updates3 in omega arith, fits))
           (λ k z other e theirs. let o = r.sections.open_here k z section e theirs in
-              (o.0, open_else3 z.place (other_place k z other e works o.0) ∙ o.1, let n = ap length same_updates3 in let a = o.2 in omega arith, o.3)) j u there is;
+          (o.0, open_else3 z.place (other_place k z other e works o.0) ∙ o.1, let n = ap length same_updates3 in let a = o.2 in omega arith, o.3)) j u there is;
       entered = λ j u there has. each_set (λ k z. 1 ≤ z.places → z.sections ≡ entered_at z.place h3) vs id w3
           (λ mine. let a = entered_at-append v.place h (mark3 ∷ []) in let one : entered_at v.place (mark3 ∷ []) ≡ 1 = ap (λ b. cond b 1 0 + 0) (eq-eqb v.place v.place refl) in let old = r.sections.entered id v at works in omega arith)
           (λ k z other e theirs. let a = entered_at-append z.place h (mark3 ∷ []) in let none : entered_at z.place (mark3 ∷ []) ≡ 0 = ap (λ b. cond b 1 0 + 0) (ne_eqb v.place z.place (λ f. other_place k z other e works theirs (sym f))) in let old = r.sections.entered k z e theirs in omega arith) j u there has;
@@ -236,7 +233,7 @@ module _ (capacities : List ℕ) (places tickets : ℕ) (m : Memory) (vs : List 
       open_here = λ j u other there is. each_set (λ k z. z.section ≡ Some other → (1 ≤ z.places) × (open_at z.place h4 ≡ Some (open_of other)) × (other.from ≤ length (updates_of h4)) × (other.key < 2 ^ 64)) vs id w4
           (λ mine. absurd (cc))
           (λ k z far e theirs. let o = r.sections.open_here k z other e theirs in
-              (o.0, open_else4 z.place (other_place k z far e works4 o.0) ∙ o.1, let n = ap length same_updates4 in let a = o.2 in omega arith, o.3)) j u there is;
+          (o.0, open_else4 z.place (other_place k z far e works4 o.0) ∙ o.1, let n = ap length same_updates4 in let a = o.2 in omega arith, o.3)) j u there is;
       entered = λ j u there has. each_set (λ k z. 1 ≤ z.places → z.sections ≡ entered_at z.place h4) vs id w4
           (λ mine. r.sections.entered id v at works4 ∙ sym (same_entered4 v.place))
           (λ k z far e theirs. r.sections.entered k z e theirs ∙ sym (same_entered4 z.place)) j u there has;
@@ -340,8 +337,8 @@ module _ (capacities : List ℕ) (places tickets : ℕ) (m : Memory) (vs : List 
       pub way_from_head : (link : ℕ) → link ≡ m (Head c) → WillAnswer capacities c m h (updates_of h) (r.bucket c).chain section (link_stand link)
       way_from_head link is = link_case (WillAnswer capacities c m h (updates_of h) (r.bucket c).chain section) link
           (λ e.
-              let none : (r.bucket c).chain ≡ [] = path_none (λ s. m (Next s)) (r.bucket c).chain (subst (λ z. IsPath (λ s. m (Next s)) z (r.bucket c).chain) (sym is ∙ e) (r.buckets c small).chained.path) in
-              said_now None (ap (seek m section.key) none))
+          let none : (r.bucket c).chain ≡ [] = path_none (λ s. m (Next s)) (r.bucket c).chain (subst (λ z. IsPath (λ s. m (Next s)) z (r.bucket c).chain) (sym is ∙ e) (r.buckets c small).chained.path) in
+          said_now None (ap (seek m section.key) none))
           (λ ne. record {
             olds = [];
             front = [];
@@ -359,11 +356,11 @@ module _ (capacities : List ℕ) (places tickets : ℕ) (m : Memory) (vs : List 
       way_past slot link way other is = goes way.olds way.rest way.front way.path way.held way.slots way.joins way.said
         where
           past : (olds rest front : List ℕ) → (link' : ℕ) → link' ≡ m (Next slot) → IsPath (λ s. m (Next s)) (m (Next slot)) (olds ++ rest) → AllByRecursion (IsHeldBack h section) olds → AllByRecursion (λ s. is_slot_of capacities c s ≡ true) olds → (r.bucket c).chain ≡ front ++ rest
-            → WasSaid (updates_of h) section.key section.from (seek m section.key (olds ++ rest)) → WillAnswer capacities c m h (updates_of h) (r.bucket c).chain section (link_stand link')
+              → WasSaid (updates_of h) section.key section.from (seek m section.key (olds ++ rest)) → WillAnswer capacities c m h (updates_of h) (r.bucket c).chain section (link_stand link')
           past olds rest front link' at_next path held slots joins said = link_case (WillAnswer capacities c m h (updates_of h) (r.bucket c).chain section) link'
               (λ e.
-                  let none : olds ++ rest ≡ [] = path_none (λ s. m (Next s)) (olds ++ rest) (subst (λ z. IsPath (λ s. m (Next s)) z (olds ++ rest)) (sym at_next ∙ e) path) in
-                  subst (λ z. WasSaid (updates_of h) section.key section.from (seek m section.key z)) none said)
+              let none : olds ++ rest ≡ [] = path_none (λ s. m (Next s)) (olds ++ rest) (subst (λ z. IsPath (λ s. m (Next s)) z (olds ++ rest)) (sym at_next ∙ e) path) in
+              subst (λ z. WasSaid (updates_of h) section.key section.from (seek m section.key z)) none said)
               (λ ne. record {
                 olds = olds;
                 front = front;
@@ -375,8 +372,9 @@ module _ (capacities : List ℕ) (places tickets : ℕ) (m : Memory) (vs : List 
                 joins = joins;
                 said = said;
               })
+
           goes : (olds rest front : List ℕ) → IsPath (λ s. m (Next s)) slot (olds ++ rest) → AllByRecursion (IsHeldBack h section) olds → AllByRecursion (λ s. is_slot_of capacities c s ≡ true) olds → (r.bucket c).chain ≡ front ++ rest
-            → WasSaid (updates_of h) section.key section.from (seek m section.key (olds ++ rest)) → WillAnswer capacities c m h (updates_of h) (r.bucket c).chain section (link_stand link)
+              → WasSaid (updates_of h) section.key section.from (seek m section.key (olds ++ rest)) → WillAnswer capacities c m h (updates_of h) (r.bucket c).chain section (link_stand link)
           goes [] [] front path held slots joins said = absurd (way.some path)
           goes [] (s ∷ ss) front path held slots joins said =
               past [] ss (front ++ s ∷ []) link is (subst (λ z. IsPath (λ t. m (Next t)) (m (Next z)) ss) (sym path.0) path.2) tt tt (joins ∙ sym (append_assoc front (s ∷ []) ss))
@@ -407,7 +405,7 @@ module _ (capacities : List ℕ) (places tickets : ℕ) (m : Memory) (vs : List 
       will_case _ _ may will now = now
 
       loaded_case : (stand : Stand) (f : Field) → MayLoad (record section { stand = stand }) f → Will stand → ((value : ℕ) → section.loaded ≡ Some value → WasSaid (updates_of h) section.key section.from (Some value))
-        → (value : ℕ) → (searched section stand f (m f)).loaded ≡ Some value → WasSaid (updates_of h) section.key section.from (Some value)
+          → (value : ℕ) → (searched section stand f (m f)).loaded ≡ Some value → WasSaid (updates_of h) section.key section.from (Some value)
       loaded_case (Found s) (Value t) may will now value is =
           let e : m (Value s) ≡ value = let z : m (Value t) ≡ value = cc in ap (λ y. m (Value y)) may ∙ z in
           subst (λ n. WasSaid (updates_of h) section.key section.from (Some n)) e (value_said c small class s will.0 will.1)
@@ -495,10 +493,13 @@ module _ (capacities : List ℕ) (places tickets : ℕ) (m : Memory) (vs : List 
             where
               key : new.key ≡ section.key
               key = ap (λ (z : Open). z.key) o
+
               entered : section.entered ≡ new.entered
               entered = ap (λ (z : Open). z.at) (sym o)
+
               said_like : (answer : ℕ → Option ℕ) → WasSaid (updates_of h) section.key section.from (answer section.key) → WasSaid (updates_of h) new.key new.from (answer new.key)
               said_like answer said = subst (λ (q : ℕ × ℕ). WasSaid (updates_of h) q.0 q.1 (answer q.0)) (λ i. (sym key i, sym f i)) said
+
               way_like : (slot : ℕ) → HasWay capacities c m h (updates_of h) (r.bucket c).chain section slot → HasWay capacities c m h (updates_of h) (r.bucket c).chain new slot
               way_like slot way = record {
                 olds = way.olds;
@@ -511,6 +512,7 @@ module _ (capacities : List ℕ) (places tickets : ℕ) (m : Memory) (vs : List 
                 joins = way.joins;
                 said = said_like (λ k. seek m k (way.olds ++ way.rest)) way.said;
               }
+
               like : (st : Stand) → WillAnswer capacities c m h (updates_of h) (r.bucket c).chain section st → WillAnswer capacities c m h (updates_of h) (r.bucket c).chain new st
               like Start w = tt
               like (Unread s) w = way_like s w

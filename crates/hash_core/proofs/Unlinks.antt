@@ -1,17 +1,14 @@
 -- The kind of step that unlinks a slot.
-use Rattle.std.proofs.Common.{◌≡◌, ◌≢◌, ◌⊎◌, ℕ, zero, suc, ◌+◌, ◌-◌, ◌*◌, ◌%◌, ◌<◌, ◌≤◌, ◌==◌, Bool, true, false, cond, List, [], ◌∷◌, ◌++◌, length, take, set, Option, Some, None, is_some, IsTrue, refl, sym, ap, subst, ◌∙◌, inl, inr, arith, eq-eqb, ne_eqb, append-nil, append_assoc, length-append, option_to_list}
-use Rattle.std.specs.List.{AllByRecursion}
+use Rattle.std.proofs.Common.{◌≡◌, ◌≢◌, ℕ, ◌+◌, ◌%◌, ◌<◌, ◌≤◌, ◌==◌, true, false, cond, List, [], ◌∷◌, ◌++◌, length, set, Option, Some, None, is_some, refl, sym, ap, subst, ◌∙◌, inl, inr, arith, eq-eqb, ne_eqb, append_assoc, length-append, option_to_list}
 use Rattle.std.specs.FinMap as finite
 use mathlib.Core.Logic.{dite}
 use mathlib.Core.Option.{some}
 use native.Mathlib.Decide.{dec_le, ℕ_discrete}
 use lib.ListN.{get_elem?}
 use Rattle.prcu_model.specs.declared.mark.Mark.{Mark}
-use Rattle.prcu_model.specs.declared.mark.Mark.TheVariants.{Done, Given, Unlinked}
-use Rattle.prcu_model.specs.declared.operation.Op.{Op}
-use Rattle.prcu_model.specs.declared.operation.Op.TheVariants.{Put, Get, Del, Set}
-use Rattle.prcu_model.specs.declared.operation.Update.{Update}
-use Rattle.prcu_model.specs.Dictionary.{Dictionary, updated, map_of}
+use Rattle.prcu_model.specs.declared.mark.Mark.TheVariants.{Done, Unlinked}
+use Rattle.prcu_model.specs.declared.operation.Op.TheVariants.{Del}
+use Rattle.prcu_model.specs.Dictionary.{updated, map_of}
 use Rattle.prcu_model.proofs.Fronts.{map_of-push}
 use Rattle.hash_core.specs.declared.words.Field.{Field}
 use Rattle.hash_core.specs.declared.words.Field.TheVariants.{Front, Lock, Readers, Head, Free, Retired, Key, Value, Next, Chain}
@@ -20,28 +17,28 @@ use Rattle.hash_core.specs.declared.view.Stand.TheVariants.{Start, Unread, Passe
 use Rattle.hash_core.specs.declared.view.Section.{Section}
 use Rattle.hash_core.specs.declared.view.Hold.{Hold}
 use Rattle.hash_core.specs.declared.view.View.{View}
-use Rattle.hash_core.specs.Lists.{times, IsPath, total}
+use Rattle.hash_core.specs.Lists.{times, IsPath}
 use Rattle.hash_core.specs.Memory.{Memory, stored}
 use Rattle.hash_core.specs.Slots.{is_slot_of, IsOfClass}
-use Rattle.hash_core.specs.Marks.{updates_of, open_at, gone_at, IsGone, own_of, entered_at, ReuseByClass}
-use Rattle.hash_core.specs.Known.{known_in, knowing, IsOnWalk}
-use Rattle.hash_core.specs.Buckets.{Bucket, seek, HaveDistinctKeys, IsFreeOfReaders, taken_of, unlinked_of, moved_of, link_of}
-use Rattle.hash_core.specs.Readers.{AreAnswered, WillAnswer, WasSaid, IsHeldBack, HasWay}
-use Rattle.hash_core.specs.Steps.{HasTurn, updated_view, LinksTo, Needs14, after14}
+use Rattle.hash_core.specs.Marks.{updates_of, open_at, gone_at, IsGone, entered_at, ReuseByClass}
+use Rattle.hash_core.specs.Known.{known_in, knowing}
+use Rattle.hash_core.specs.Buckets.{Bucket, seek, HaveDistinctKeys, IsFreeOfReaders, taken_of, link_of}
+use Rattle.hash_core.specs.Readers.{WillAnswer, WasSaid, IsHeldBack, HasWay}
+use Rattle.hash_core.specs.Steps.{LinksTo, Needs14, after14}
 use Rattle.hash_core.specs.Rule.{BucketRule, MemoryRule}
-use Rattle.hash_core.proofs.Lists.{all_change, all_times, all_from_times, times_here, times_other, times_append, all_append}
+use Rattle.hash_core.proofs.Lists.{all_change, all_times, all_from_times, times_here, times_append, all_append}
 use Rattle.hash_core.proofs.Paths.{IsPath-same, path_cons, seek-same, seek_here, seek_past, seek_append, HaveDistinctKeys-same}
 use Rattle.hash_core.proofs.MarkLists.{updates_of-append}
-use Rattle.hash_core.proofs.Classes.{one_class, slot_within}
+use Rattle.hash_core.proofs.Classes.{one_class}
 use Rattle.hash_core.proofs.Adds.{open_at-same, gone_at-same, gone_at-unlinked_here, gone_at-unlinked_other, reuse_more}
-use Rattle.hash_core.proofs.Frames.{chain_slot, free_slot, retired_slot, moved_slot, taken_slot, unlinked_slot, WasSaid-longer}
+use Rattle.hash_core.proofs.Frames.{chain_slot, WasSaid-longer}
 use Rattle.hash_core.proofs.Stores.{class_words, stored_here, same_self}
 use Rattle.hash_core.proofs.Sections.{entered_at-append, free_each}
-use Rattle.hash_core.proofs.Locks.{counted_still, all_still, class_small, locked_by, elsewhere_held}
+use Rattle.hash_core.proofs.Locks.{counted_still, all_still, locked_by, elsewhere_held}
 use Rattle.hash_core.proofs.Whole.{after_step}
 use Rattle.hash_core.proofs.Stocks.{rule, had, is_known, known_after, roles_by, moved_by}
 use Rattle.hash_core.proofs.Cuts.{path_past, path_back, cut_at, two_cuts, seek_without, distinct_without, seek_some}
-use Rattle.hash_core.proofs.Updating.{key_of, get-other, get-del, said_now, seats_updated}
+use Rattle.hash_core.proofs.Updating.{get-other, get-del, said_now, seats_updated}
 use Rattle.hash_core.proofs.Links.{on_chain, answered_from, marks_elsewhere}
 
 -- A chain from which a slot is unlinked: the slots before it lead on past it.
@@ -57,9 +54,9 @@ pub record Cut (head head' : ℕ) (next next' : ℕ → ℕ) (chain : List ℕ) 
 -- a front that ends with a slot, cut in two
 last_cut : (ys : List ℕ) (p : ℕ) (gs fs : List ℕ) → ys ++ p ∷ [] ≡ gs ++ fs → ((fs ≡ []) → ⊥) → (ks : List ℕ) × (fs ≡ ks ++ p ∷ [])
 last_cut ys p gs fs e some_fs = elim (two_cuts ys (p ∷ []) gs fs e) [
-      | inl r ↦ (r.0, r.2)
-      | inr r ↦ end r.0 r.2
-    ]
+  | inl r ↦ (r.0, r.2)
+  | inr r ↦ end r.0 r.2
+]
   where
     end : (ks : List ℕ) → p ∷ [] ≡ ks ++ fs → (ks' : List ℕ) × (fs ≡ ks' ++ p ∷ [])
     end [] q = ([], sym q)
@@ -111,12 +108,12 @@ cut_next head next next' chain p slot once some_slot is is' same there path =
           let way_is : olds ++ (fs ++ slot ∷ r.0) ≡ (olds ++ ks) ++ p ∷ slot ∷ r.0 = ap (λ z. olds ++ (z ++ slot ∷ r.0)) fs_is ∙ ap (λ z. olds ++ z) (append_assoc ks (p ∷ []) (slot ∷ r.0)) ∙ sym (append_assoc olds ks (p ∷ slot ∷ r.0)) in
           let goal_is : olds ++ (fs ++ r.0) ≡ (olds ++ ks) ++ p ∷ r.0 = ap (λ z. olds ++ (z ++ r.0)) fs_is ∙ ap (λ z. olds ++ z) (append_assoc ks (p ∷ []) r.0) ∙ sym (append_assoc olds ks (p ∷ r.0)) in
           let in_front : times p (olds ++ ks) ≡ 0 =
-              (let a = times_append p olds ks in
-              let b : times p olds ≡ 0 = none_of olds far in
-              let d : times p (c.0 ++ p ∷ []) ≡ times p gs + times p fs = ap (times p) e ∙ times_append p gs fs in
-              let f : times p fs ≡ times p ks + times p (p ∷ []) = ap (times p) fs_is ∙ times_append p ks (p ∷ []) in
-              let g = times_append p c.0 (p ∷ []) in
-              let i = p_once.0 in omega arith) in
+          (let a = times_append p olds ks in
+          let b : times p olds ≡ 0 = none_of olds far in
+          let d : times p (c.0 ++ p ∷ []) ≡ times p gs + times p fs = ap (times p) e ∙ times_append p gs fs in
+          let f : times p fs ≡ times p ks + times p (p ∷ []) = ap (times p) fs_is ∙ times_append p ks (p ∷ []) in
+          let g = times_append p c.0 (p ∷ []) in
+          let i = p_once.0 in omega arith) in
           subst (IsPath next' first) (sym goal_is) (path_past next next' first p slot (olds ++ ks) r.0 is' (not_p (olds ++ ks) in_front) (not_p r.0 after_p) (subst (IsPath next first) way_is way));
     }
   where
@@ -124,7 +121,7 @@ cut_next head next next' chain p slot once some_slot is is' same there path =
     none_of olds far = dite (dec_le 1 (times p olds)) (λ in_olds. absurd (let z = far p in_olds in let a = there in omega arith)) (λ out. omega arith)
 
 module _ (capacities : List ℕ) (places tickets : ℕ) (m : Memory) (vs : List View) (h : List Mark) (r : MemoryRule capacities places tickets m vs h) (id : ℕ) (v : View) (at : get_elem? vs id ≡ some v) (hold : Hold) (mine : v.hold ≡ Some hold)
-  (even : ℕ) (link : Field) (slot key next : ℕ) (needs : Needs14 v hold even link slot key next) where
+    (even : ℕ) (link : Field) (slot key next : ℕ) (needs : Needs14 v hold even link slot key next) where
   abbrev bucket_rule : BucketRule capacities hold.class m h (updates_of h) vs (r.bucket hold.class)
   bucket_rule = rule capacities places tickets m vs h r id v at hold mine
 
@@ -315,7 +312,7 @@ module _ (capacities : List ℕ) (places tickets : ℕ) (m : Memory) (vs : List 
           (λ ne. back xs ys (sym (seek_past m key x (xs ++ ys) ne) ∙ none))
 
   said_past : (section : Section) → section.from ≤ length (updates_of h) → (olds fs ks : List ℕ) → cut.before ≡ fs ++ ks → WasSaid (updates_of h) section.key section.from (seek m section.key (olds ++ (ks ++ slot ∷ cut.after)))
-    → WasSaid (updates_of h14) section.key section.from (seek m section.key (olds ++ (ks ++ cut.after)))
+      → WasSaid (updates_of h14) section.key section.from (seek m section.key (olds ++ (ks ++ cut.after)))
   said_past section from olds fs ks e said = dite (ℕ_discrete (m (Key slot)) section.key)
       (λ same. by_olds same (seek m section.key olds) refl)
       (λ ne. subst (WasSaid (updates_of h14) section.key section.from)
@@ -365,13 +362,14 @@ module _ (capacities : List ℕ) (places tickets : ℕ) (m : Memory) (vs : List 
 
   way14 : (section : Section) → section.entered < length h → section.from ≤ length (updates_of h) → (s : ℕ) → HasWay capacities hold.class m h (updates_of h) chain_now section s → HasWay capacities hold.class m14 h14 (updates_of h14) (cut.before ++ cut.after) section s
   way14 section entered from s way = elim (two_cuts cut.before (slot ∷ cut.after) way.front way.rest (sym cut.chain_is ∙ way.joins)) [
-        | inl q ↦ by_front q.0 q.1 q.2
-        | inr q ↦ by_back q.0 q.2
-      ]
+    | inl q ↦ by_front q.0 q.1 q.2
+    | inr q ↦ by_back q.0 q.2
+  ]
     where
       by_front : (ks : List ℕ) → cut.before ≡ way.front ++ ks → way.rest ≡ ks ++ slot ∷ cut.after → HasWay capacities hold.class m14 h14 (updates_of h14) (cut.before ++ cut.after) section s
       by_front [] before_is rest_is = way_from section entered s way rest_is
       by_front (k ∷ ks) before_is rest_is = way_past section from s way (k ∷ ks) (λ e. absurd (cc)) before_is rest_is
+
       by_back : (ks : List ℕ) → slot ∷ cut.after ≡ ks ++ way.rest → HasWay capacities hold.class m14 h14 (updates_of h14) (cut.before ++ cut.after) section s
       by_back [] e = way_from section entered s way (sym e)
       by_back (k ∷ ks) e = way_after section s way ks (let z : slot ∷ cut.after ≡ k ∷ (ks ++ way.rest) = e in cc)

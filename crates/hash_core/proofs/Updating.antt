@@ -1,5 +1,5 @@
 -- What an update leaves of the parts on seats and on other classes, and what it makes of the dictionary.
-use Rattle.std.proofs.Common.{◌≡◌, ◌≢◌, ◌⊎◌, ℕ, zero, suc, ◌+◌, ◌-◌, ◌*◌, ◌%◌, ◌<◌, ◌≤◌, ◌==◌, Bool, true, false, cond, List, [], ◌∷◌, ◌++◌, length, take, set, Option, Some, None, is_some, IsTrue, refl, sym, ap, subst, ◌∙◌, inl, inr, arith, eq-eqb, ne_eqb, append-nil, append_assoc, length-append}
+use Rattle.std.proofs.Common.{◌≡◌, ◌≢◌, ℕ, ◌+◌, ◌*◌, ◌<◌, ◌≤◌, true, false, cond, List, [], ◌∷◌, ◌++◌, length, set, Option, Some, None, refl, sym, ap, subst, ◌∙◌, inl, inr, arith, eq-eqb, ne_eqb, length-append}
 use Rattle.std.specs.FinMap as finite
 use Rattle.std.specs.Ordering.{nat_cmp, eq_by_cmp}
 use Rattle.std.specs.Cmp.{nat_cmp_total, unsigned_tied}
@@ -9,7 +9,7 @@ use mathlib.Core.Option.{some}
 use native.Mathlib.Decide.{ℕ_discrete}
 use lib.ListN.{get_elem?}
 use Rattle.prcu_model.specs.declared.mark.Mark.{Mark}
-use Rattle.prcu_model.specs.declared.mark.Mark.TheVariants.{Done, Given, Unlinked}
+use Rattle.prcu_model.specs.declared.mark.Mark.TheVariants.{Done}
 use Rattle.prcu_model.specs.declared.operation.Op.{Op}
 use Rattle.prcu_model.specs.declared.operation.Op.TheVariants.{Put, Get, Del, Set}
 use Rattle.prcu_model.specs.declared.operation.Update.{Update}
@@ -21,12 +21,10 @@ use Rattle.hash_core.specs.declared.words.Field.TheVariants.{Front}
 use Rattle.hash_core.specs.declared.view.Hold.{Hold}
 use Rattle.hash_core.specs.declared.view.Turn.{Turn}
 use Rattle.hash_core.specs.declared.view.View.{View}
-use Rattle.hash_core.specs.Lists.{total}
 use Rattle.hash_core.specs.Memory.{Memory}
-use Rattle.hash_core.specs.Slots.{is_slot_of}
-use Rattle.hash_core.specs.Marks.{updates_of, open_at, gone_at, own_of, entered_at, ReuseByClass}
+use Rattle.hash_core.specs.Marks.{updates_of, open_at, own_of, entered_at, ReuseByClass}
 use Rattle.hash_core.specs.Readers.{WasSaid}
-use Rattle.hash_core.specs.Seats.{HasNoTurn, updates_by, IsTurned}
+use Rattle.hash_core.specs.Seats.{HasNoTurn, updates_by}
 use Rattle.hash_core.specs.Steps.{HasTurn, updated_view}
 use Rattle.hash_core.specs.Rule.{MemoryRule}
 use Rattle.hash_core.proofs.Lists.{at_below, at_one, each_set, total_set, total_part}
@@ -51,15 +49,15 @@ apart_cmp q key ne = unsigned_tied q key ∙ ne_eqb q key ne
 -- another key's value stays
 pub get-other : (m : Dictionary) (op : Op) (q : ℕ) → q ≢ key_of op → finite.get (updated m op) q ≡ finite.get m q
 get-other m (Put key value) q ne = elim (finite.contains_key m key) as (λ b. finite.get (cond b m (finite.insert m key value)) q ≡ finite.get m q) [
-      | true ↦ refl
-      | false ↦ finite.get-insert nat_cmp_total m key value q ∙ ap (λ b. cond b (Some value) (finite.get m q)) (apart_cmp q key ne)
-    ]
+  | true ↦ refl
+  | false ↦ finite.get-insert nat_cmp_total m key value q ∙ ap (λ b. cond b (Some value) (finite.get m q)) (apart_cmp q key ne)
+]
 get-other m (Get key) q ne = refl
 get-other m (Del key) q ne = finite.get-remove nat_cmp_total m key q ∙ ap (λ b. cond b None (finite.get m q)) (apart_cmp q key ne)
 get-other m (Set key value) q ne = elim (finite.contains_key m key) as (λ b. finite.get (cond b (finite.insert m key value) m) q ≡ finite.get m q) [
-      | true ↦ finite.get-insert nat_cmp_total m key value q ∙ ap (λ b. cond b (Some value) (finite.get m q)) (apart_cmp q key ne)
-      | false ↦ refl
-    ]
+  | true ↦ finite.get-insert nat_cmp_total m key value q ∙ ap (λ b. cond b (Some value) (finite.get m q)) (apart_cmp q key ne)
+  | false ↦ refl
+]
 
 -- and what its own key is worth
 pub get-put : (m : Dictionary) (key value : ℕ) → finite.contains_key m key ≡ false → finite.get (updated m (Put key value)) key ≡ Some value
@@ -92,53 +90,60 @@ module _ (capacities : List ℕ) (places tickets : ℕ) (m : Memory) (vs : List 
   -- the front is odd by this view
   pub turned_by : (m Front ≡ even + 1) × (even ≡ 2 * length (updates_of h)) × ((j : ℕ) (u : View) → j ≢ id → get_elem? vs j ≡ some u → HasNoTurn u)
   turned_by = elim r.turned [
-      | inl quiet ↦ absurd (let a : None ≡ Some (record { found = even; stored = false }) = sym (quiet.1 id v at) ∙ turn.turn_is in cc)
-      | inr odd ↦
-          let me : id ≡ odd.0 = dite (ℕ_discrete id odd.0) (λ q. q) (λ ne. absurd (let a : None ≡ Some (record { found = even; stored = false }) = sym (odd.9 id v ne at) ∙ turn.turn_is in cc)) in
-          let same : v ≡ odd.1 = at_one vs id v odd.1 at (subst (λ k. get_elem? vs k ≡ some odd.1) (sym me) odd.4) in
-          let there : Some odd.2 ≡ Some (record { found = even; stored = false }) = sym odd.5 ∙ ap (λ (z : View). z.turn) (sym same) ∙ turn.turn_is in
-          let it : ◌≡◌ {A = Turn} odd.2 (record { found = even; stored = false }) = cc in
-          let found : odd.2.found ≡ even = ap (λ (z : Turn). z.found) it in
-          let count : updates_by odd.2 ≡ updates_by (record { found = even; stored = false }) = ap updates_by it in
-          (let a = odd.7 in omega arith, let a = odd.8 in omega arith, λ j u ne there. odd.9 j u (λ e. ne (e ∙ sym me)) there)
-    ]
+    | inl quiet ↦ absurd (let a : None ≡ Some (record { found = even; stored = false }) = sym (quiet.1 id v at) ∙ turn.turn_is in cc)
+    | inr odd ↦
+        let me : id ≡ odd.0 = dite (ℕ_discrete id odd.0) (λ q. q) (λ ne. absurd (let a : None ≡ Some (record { found = even; stored = false }) = sym (odd.9 id v ne at) ∙ turn.turn_is in cc)) in
+        let same : v ≡ odd.1 = at_one vs id v odd.1 at (subst (λ k. get_elem? vs k ≡ some odd.1) (sym me) odd.4) in
+        let there : Some odd.2 ≡ Some (record { found = even; stored = false }) = sym odd.5 ∙ ap (λ (z : View). z.turn) (sym same) ∙ turn.turn_is in
+        let it : ◌≡◌ {A = Turn} odd.2 (record { found = even; stored = false }) = cc in
+        let found : odd.2.found ≡ even = ap (λ (z : Turn). z.found) it in
+        let count : updates_by odd.2 ≡ updates_by (record { found = even; stored = false }) = ap updates_by it in
+        (let a = odd.7 in omega arith, let a = odd.8 in omega arith, λ j u ne there. odd.9 j u (λ e. ne (e ∙ sym me)) there)
+  ]
 
   module _ (op : Op) (new : Hold) (class : new.class ≡ hold.class) (m' : Memory) (front : m' Front ≡ m Front) (more : List Mark)
-    (longer : updates_of (h ++ Done (record { caller = v.place; op = op }) ∷ more) ≡ updates_of h ++ record { caller = v.place; op = op } ∷ [])
-    (none : (p : ℕ) → own_of p more ≡ [])
-    (opened : (p : ℕ) → open_at p (h ++ Done (record { caller = v.place; op = op }) ∷ more) ≡ open_at p h)
-    (entered : (p : ℕ) → entered_at p (h ++ Done (record { caller = v.place; op = op }) ∷ more) ≡ entered_at p h)
-    (reuse : ReuseByClass capacities (h ++ Done (record { caller = v.place; op = op }) ∷ more))
-    (is_update : IsUpdateAt (map_of (updates_of h)) op)
+      (longer : updates_of (h ++ Done (record { caller = v.place; op = op }) ∷ more) ≡ updates_of h ++ record { caller = v.place; op = op } ∷ [])
+      (none : (p : ℕ) → own_of p more ≡ [])
+      (opened : (p : ℕ) → open_at p (h ++ Done (record { caller = v.place; op = op }) ∷ more) ≡ open_at p h)
+      (entered : (p : ℕ) → entered_at p (h ++ Done (record { caller = v.place; op = op }) ∷ more) ≡ entered_at p h)
+      (reuse : ReuseByClass capacities (h ++ Done (record { caller = v.place; op = op }) ∷ more))
+      (is_update : IsUpdateAt (map_of (updates_of h)) op)
     where
-    abbrev w_new : View
-    w_new = updated_view v new even op h more
+      abbrev w_new : View
+      w_new = updated_view v new even op h more
 
-    abbrev h_new : List Mark
-    h_new = h ++ Done (record { caller = v.place; op = op }) ∷ more
+      abbrev h_new : List Mark
+      h_new = h ++ Done (record { caller = v.place; op = op }) ∷ more
 
-    one_longer : length (updates_of h_new) ≡ length (updates_of h) + 1
-    one_longer = ap length longer ∙ length-append (updates_of h) (record { caller = v.place; op = op } ∷ [])
+      one_longer : length (updates_of h_new) ≡ length (updates_of h) + 1
+      one_longer = ap length longer ∙ length-append (updates_of h) (record { caller = v.place; op = op } ∷ [])
 
-    pub seats_updated : SeatsRule capacities places tickets m' (set vs id w_new) h_new
-    seats_updated = record {
-      seen = seen_whole vs id v w_new at h h_new refl (Done (record { caller = v.place; op = op }) ∷ more, refl) r.seen;
-      apart = apart_same vs id v w_new at places (record { place = refl; places = refl; joined = refl }) r.apart;
-      owned = owned_more vs id v w_new at places h more (Done (record { caller = v.place; op = op })) (record { place = refl; places = refl; joined = refl }) (works capacities places tickets m vs h r id v at hold mine) refl
-          (eq-eqb v.place v.place refl) (λ p ne. ne_eqb v.place p (λ e. ne (sym e))) none r.apart r.owned;
-      sections = open_same vs id v w_new at h h_new (updates_of h) (updates_of h_new) refl refl refl (section_back v w_new refl) (section_forth v w_new refl) opened entered (let n = one_longer in omega arith) r.sections;
-      held = held_still vs id v w_new at (λ other is. let e : new ≡ other = cc in (subst (λ (z : Hold). z.class < 64) e (subst (λ z. z < 64) (sym class) (class_small capacities places tickets m vs h r id v at hold mine)), works capacities places tickets m vs h r id v at hold mine)) r.held;
-      turned = inr (
-        id, w_new, record { found = even; stored = true }, new, set_here vs id w_new (at_below vs id v at), refl, refl, front ∙ turned_by.0,
-        (let a = turned_by.1 in let n = one_longer in omega arith),
-        λ j u ne there. each_set (λ k z. k ≢ id → HasNoTurn z) vs id w_new (λ f. absurd (f refl)) (λ k z far e _. turned_by.2 k z far e) j u there ne,
-      );
-      tickets_are =
-          (let sum = total_set (λ (z : View). z.tickets) vs id v w_new at in
-          let was = r.tickets_are in
-          let some_ticket = turn.ticket in
-          let part = total_part (λ (z : View). z.tickets) vs id v at in
-          let n = one_longer in omega arith);
-      legal = subst IsLegal (sym longer) (legal_more (updates_of h) (record { caller = v.place; op = op }) r.legal is_update);
-      reuse = reuse;
-    }
+      pub seats_updated : SeatsRule capacities places tickets m' (set vs id w_new) h_new
+      seats_updated = record {
+        seen = seen_whole vs id v w_new at h h_new refl (Done (record { caller = v.place; op = op }) ∷ more, refl) r.seen;
+        apart = apart_same vs id v w_new at places (record { place = refl; places = refl; joined = refl }) r.apart;
+        owned = owned_more vs id v w_new at places h more (Done (record { caller = v.place; op = op })) (record { place = refl; places = refl; joined = refl }) (works capacities places tickets m vs h r id v at hold mine) refl
+            (eq-eqb v.place v.place refl) (λ p ne. ne_eqb v.place p (λ e. ne (sym e))) none r.apart r.owned;
+        sections = open_same vs id v w_new at h h_new (updates_of h) (updates_of h_new) refl refl refl (section_back v w_new refl) (section_forth v w_new refl) opened entered (let n = one_longer in omega arith) r.sections;
+        held = held_still vs id v w_new at (λ other is. let e : new ≡ other = cc in (subst (λ (z : Hold). z.class < 64) e (subst (λ z. z < 64) (sym class) (class_small capacities places tickets m vs h r id v at hold mine)), works capacities places tickets m vs h r id v at hold mine)) r.held;
+        turned = inr (
+          id,
+          w_new,
+          record { found = even; stored = true },
+          new,
+          set_here vs id w_new (at_below vs id v at),
+          refl,
+          refl,
+          front ∙ turned_by.0,
+          (let a = turned_by.1 in let n = one_longer in omega arith),
+          λ j u ne there. each_set (λ k z. k ≢ id → HasNoTurn z) vs id w_new (λ f. absurd (f refl)) (λ k z far e _. turned_by.2 k z far e) j u there ne,
+        );
+        tickets_are =
+            (let sum = total_set (λ (z : View). z.tickets) vs id v w_new at in
+            let was = r.tickets_are in
+            let some_ticket = turn.ticket in
+            let part = total_part (λ (z : View). z.tickets) vs id v at in
+            let n = one_longer in omega arith);
+        legal = subst IsLegal (sym longer) (legal_more (updates_of h) (record { caller = v.place; op = op }) r.legal is_update);
+        reuse = reuse;
+      }

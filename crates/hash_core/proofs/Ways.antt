@@ -1,6 +1,5 @@
 -- The ways of readers, where the slots on them stay.
-use Rattle.std.proofs.Common.{◌≡◌, ◌≢◌, ℕ, ◌+◌, ◌%◌, ◌<◌, ◌≤◌, Bool, true, List, [], ◌∷◌, ◌++◌, length, Option, Some, None, refl, sym, ap, subst, ◌∙◌, arith}
-use Rattle.std.specs.List.{AllByRecursion}
+use Rattle.std.proofs.Common.{◌≡◌, ℕ, ◌≤◌, true, List, ◌++◌, Option, None, sym, ap, subst, ◌∙◌, arith}
 use mathlib.Core.Logic.{dite}
 use native.Mathlib.Decide.{dec_le}
 use Rattle.prcu_model.specs.declared.mark.Mark.{Mark}
@@ -9,10 +8,9 @@ use Rattle.hash_core.specs.declared.words.Field.TheVariants.{Key, Value, Next}
 use Rattle.hash_core.specs.declared.view.Stand.{Stand}
 use Rattle.hash_core.specs.declared.view.Stand.TheVariants.{Start, Unread, Passed, Found, Ended}
 use Rattle.hash_core.specs.declared.view.Section.{Section}
-use Rattle.hash_core.specs.Lists.{times, IsPath}
+use Rattle.hash_core.specs.Lists.{times}
 use Rattle.hash_core.specs.Memory.{Memory}
 use Rattle.hash_core.specs.Slots.{is_slot_of}
-use Rattle.hash_core.specs.Buckets.{seek}
 use Rattle.hash_core.specs.Readers.{WasSaid, IsHeldBack, HasWay, WillAnswer}
 use Rattle.hash_core.proofs.Lists.{all_change, all_times, times_here, times_append}
 use Rattle.hash_core.proofs.Paths.{IsPath-same, path_cons, seek-same}

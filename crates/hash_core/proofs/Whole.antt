@@ -1,5 +1,5 @@
 -- The whole rule after one step, from its parts.
-use Rattle.std.proofs.Common.{◌≡◌, ◌≢◌, ℕ, ◌+◌, ◌<◌, ◌≤◌, ◌==◌, Bool, true, false, cond, List, length, set, refl, sym, ap, subst, ◌∙◌, eq-eqb, ne_eqb}
+use Rattle.std.proofs.Common.{◌≡◌, ◌≢◌, ℕ, ◌+◌, ◌<◌, ◌==◌, cond, List, length, set, sym, ap, subst, eq-eqb, ne_eqb}
 use mathlib.Core.Logic.{dite}
 use mathlib.Core.Option.{some}
 use native.Mathlib.Decide.{ℕ_discrete}
@@ -12,7 +12,7 @@ use Rattle.hash_core.specs.Memory.{Memory}
 use Rattle.hash_core.specs.Marks.{updates_of, ReuseByClass}
 use Rattle.hash_core.specs.Buckets.{Bucket}
 use Rattle.hash_core.specs.Seats.{AreSeen, AreApart, AreOwned, AreOpen, AreHeld, IsTurned}
-use Rattle.hash_core.specs.Rule.{BucketRule, IsShape, MemoryRule}
+use Rattle.hash_core.specs.Rule.{BucketRule, MemoryRule}
 use Rattle.hash_core.proofs.Frames.{SameWords, SameMarks, SameView, bucket_frame}
 
 -- What a step owes beside the parts on the classes.
@@ -34,7 +34,7 @@ pub record IsElsewhere (capacities : List ℕ) (d : ℕ) (m m' : Memory) (h h' :
   pub view : SameView d v w
 
 module _ (capacities : List ℕ) (places tickets : ℕ) (m : Memory) (vs : List View) (h : List Mark) (r : MemoryRule capacities places tickets m vs h) (id : ℕ) (v w : View) (at : get_elem? vs id ≡ some v) (m' : Memory) (h' : List Mark)
-  (seats : SeatsRule capacities places tickets m' (set vs id w) h') where
+    (seats : SeatsRule capacities places tickets m' (set vs id w) h') where
   still : (d : ℕ) → d < 64 → IsElsewhere capacities d m m' h h' v w → BucketRule capacities d m' h' (updates_of h') (set vs id w) (r.bucket d)
   still d small elsewhere = bucket_frame capacities d m m' h h' (updates_of h) (updates_of h') vs id v w (r.bucket d) at elsewhere.words elsewhere.marks elsewhere.view (r.buckets d small)
 

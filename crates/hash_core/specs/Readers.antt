@@ -1,6 +1,6 @@
 -- The rule's part on readers: where a search stands, and what it will answer.
 -- Source: docs/ALGORITHM.md, "The hash dictionary's rule".
-use Rattle.std.specs.Prelude.{◌≡◌, ◌≢◌, ℕ, ◌%◌, ◌<◌, ◌≤◌, Bool, true, List, [], ◌∷◌, ◌++◌, length, Option, Some, None}
+use Rattle.std.specs.Prelude.{◌≡◌, ◌≢◌, ℕ, ◌%◌, ◌<◌, ◌≤◌, true, List, ◌++◌, length, Option, Some, None}
 use Rattle.std.specs.List.{AllByRecursion}
 use Rattle.std.specs.FinMap as finite
 use mathlib.Core.Option.{some}
@@ -17,7 +17,7 @@ use Rattle.hash_core.specs.Lists.{IsPath}
 use Rattle.hash_core.specs.Memory.{Memory}
 use Rattle.hash_core.specs.Slots.{is_slot_of}
 use Rattle.hash_core.specs.Marks.{gone_at}
-use Rattle.hash_core.specs.Buckets.{Bucket, seek}
+use Rattle.hash_core.specs.Buckets.{seek}
 
 -- At some front from this one to now the dictionary gave the key this answer.
 pub record WasSaid (us : List Update) (key from : ℕ) (answer : Option ℕ) : Type 0 where

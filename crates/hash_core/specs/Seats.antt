@@ -1,6 +1,6 @@
 -- The rule's parts on seats: who has which place, what each has seen and left, and whose the front is.
 -- Source: docs/ALGORITHM.md, "The hash dictionary's rule".
-use Rattle.std.specs.Prelude.{◌≡◌, ◌≢◌, ◌⊎◌, ℕ, ◌+◌, ◌*◌, ◌^◌, ◌<◌, ◌≤◌, Bool, true, if◌then◌else◌, List, [], ◌∷◌, length, Option, Some, None}
+use Rattle.std.specs.Prelude.{◌≡◌, ◌≢◌, ◌⊎◌, ℕ, ◌+◌, ◌*◌, ◌^◌, ◌<◌, ◌≤◌, if◌then◌else◌, List, [], length, Some, None}
 use mathlib.Core.Option.{some}
 use mathlib.Core.List.{IsPrefix}
 use lib.ListN.{get_elem?}
@@ -11,7 +11,7 @@ use Rattle.hash_core.specs.declared.view.Section.{Section}
 use Rattle.hash_core.specs.declared.view.Hold.{Hold}
 use Rattle.hash_core.specs.declared.view.Turn.{Turn}
 use Rattle.hash_core.specs.declared.view.View.{View}
-use Rattle.hash_core.specs.Lists.{times, total}
+use Rattle.hash_core.specs.Lists.{times}
 use Rattle.hash_core.specs.Memory.{Memory}
 use Rattle.hash_core.specs.Marks.{Open, open_at, own_of, entered_at}
 
@@ -69,4 +69,4 @@ abbrev pub IsTurned : Memory → List View → ℕ → Type 0
 IsTurned m vs count =
     ((m Front ≡ 2 * count) × ((id : ℕ) (v : View) → get_elem? vs id ≡ some v → HasNoTurn v))
     ⊎ ((owner : ℕ) × (u : View) × (turn : Turn) × (hold : Hold) × (get_elem? vs owner ≡ some u) × (u.turn ≡ Some turn) × (u.hold ≡ Some hold) × (m Front ≡ turn.found + 1) × (updates_by turn ≡ 2 * count)
-        × ((id : ℕ) (v : View) → id ≢ owner → get_elem? vs id ≡ some v → HasNoTurn v))
+    × ((id : ℕ) (v : View) → id ≢ owner → get_elem? vs id ≡ some v → HasNoTurn v))

@@ -1,23 +1,20 @@
 -- The kinds of step: what each needs of the stepping view, and the view after it.
 -- Source: docs/ALGORITHM.md, "The steps of the hash dictionary".
-use Rattle.std.specs.Prelude.{◌≡◌, ◌≢◌, ℕ, zero, suc, ◌+◌, ◌-◌, ◌%◌, ◌<◌, ◌≤◌, ◌==◌, nat_lt, if◌then◌else◌, Bool, true, false, List, [], ◌∷◌, ◌++◌, length, Option, Some, None}
+use Rattle.std.specs.Prelude.{◌≡◌, ◌≢◌, ℕ, zero, suc, ◌+◌, ◌-◌, ◌%◌, ◌<◌, ◌≤◌, ◌==◌, nat_lt, if◌then◌else◌, true, false, List, [], ◌∷◌, ◌++◌, length, Some, None}
 use mathlib.Core.List.{IsPrefix}
 use Rattle.prcu_model.specs.declared.mark.Mark.{Mark}
 use Rattle.prcu_model.specs.declared.mark.Mark.TheVariants.{Entered, Left, Done, Given, Unlinked}
 use Rattle.prcu_model.specs.declared.operation.Op.{Op}
 use Rattle.prcu_model.specs.declared.operation.Op.TheVariants.{Put, Del, Set}
 use Rattle.hash_core.specs.declared.words.Field.{Field}
-use Rattle.hash_core.specs.declared.words.Field.TheVariants.{Front, Lock, Readers, Head, Free, Retired, Key, Value, Next, Chain}
+use Rattle.hash_core.specs.declared.words.Field.TheVariants.{Head, Free, Retired, Key, Value, Next, Chain}
 use Rattle.hash_core.specs.declared.words.Kind.{Kind}
 use Rattle.hash_core.specs.declared.view.Stand.{Stand}
 use Rattle.hash_core.specs.declared.view.Stand.TheVariants.{Start, Unread, Passed, Found, Ended}
 use Rattle.hash_core.specs.declared.view.Section.{Section}
 use Rattle.hash_core.specs.declared.view.Hold.{Hold}
-use Rattle.hash_core.specs.declared.view.Turn.{Turn}
-use Rattle.hash_core.specs.declared.view.Trod.{Trod}
 use Rattle.hash_core.specs.declared.view.View.{View}
 use Rattle.hash_core.specs.Marks.{updates_of}
-use Rattle.hash_core.specs.Slots.{IsOfClass}
 use Rattle.hash_core.specs.Known.{known_in, knowing, ShowsAbsent, IsOnWalk}
 
 -- the view after a step is `after` of the whole list of marks before it, of which the view had seen a beginning
