@@ -1,0 +1,315 @@
+-- What keeps the parts of the rule on one class, when a step elsewhere was made.
+use Rattle.std.proofs.Common.{◌≡◌, ◌≢◌, ◌⊎◌, ℕ, ◌+◌, ◌%◌, ◌<◌, ◌≤◌, Bool, true, false, cond, List, [], ◌++◌, set, Option, Some, None, refl, sym, ap, subst, ◌∙◌, inl, inr, arith, option_to_list}
+use Rattle.std.specs.FinMap as finite
+use Rattle.std.proofs.lemmas.List.{take-append-le}
+use mathlib.Core.Logic.{dite}
+use mathlib.Core.Option.{some, some-injective}
+use native.Mathlib.Decide.{dec_le, ℕ_discrete}
+use lib.ListN.{get_elem?}
+use Rattle.atomic_table.proofs.Lists.{set_here, set_else}
+use Rattle.prcu_model.specs.declared.mark.Mark.{Mark}
+use Rattle.prcu_model.specs.declared.operation.Update.{Update}
+use Rattle.prcu_model.specs.Dictionary.{map_of}
+use Rattle.hash_core.specs.declared.words.Field.{Field}
+use Rattle.hash_core.specs.declared.words.Field.TheVariants.{Lock, Readers, Head, Free, Retired, Key, Value, Next, Chain}
+use Rattle.hash_core.specs.declared.view.Stand.{Stand}
+use Rattle.hash_core.specs.declared.view.Stand.TheVariants.{Start, Unread, Passed, Found, Ended}
+use Rattle.hash_core.specs.declared.view.Section.{Section}
+use Rattle.hash_core.specs.declared.view.Hold.{Hold}
+use Rattle.hash_core.specs.declared.view.View.{View}
+use Rattle.hash_core.specs.Lists.{times}
+use Rattle.hash_core.specs.Memory.{Memory}
+use Rattle.hash_core.specs.Slots.{is_slot_of, IsOfClass}
+use Rattle.hash_core.specs.Marks.{gone_at, IsGone}
+use Rattle.hash_core.specs.Buckets.{Bucket, IsChained, AreListed, HaveOneRole, IsMapped, HoldsOther, IsLocked, IsKnown, HaveAges, inside_count, AreCounted, IsFreeOfReaders, AreClean, taken_of, unlinked_of, moved_of, link_of}
+use Rattle.hash_core.specs.Readers.{WasSaid, IsHeldBack, HasWay, WillAnswer, AreAnswered}
+use Rattle.hash_core.specs.Rule.{BucketRule}
+use Rattle.std.proofs.Common.{ne_eqb, length-append}
+use Rattle.hash_core.proofs.Lists.{at_below, each_set, total_set, all_change, all_times, times_here, times_append}
+use Rattle.hash_core.proofs.Paths.{path_cons, IsPath-same, IsPath-from, seek-same, HaveDistinctKeys-same}
+
+-- What stands in the slots of a class is the same.
+abbrev pub SameSlots : List ℕ → ℕ → Memory → Memory → Type 0
+SameSlots capacities c m m' = (s : ℕ) → is_slot_of capacities c s ≡ true → (m' (Key s) ≡ m (Key s)) × (m' (Value s) ≡ m (Value s)) × (m' (Next s) ≡ m (Next s)) × (m' (Chain s) ≡ m (Chain s))
+
+-- What the parts on one class read of the memory is the same.
+pub record SameWords (capacities : List ℕ) (c : ℕ) (m m' : Memory) : Type 0 where
+  pub lock : m' (Lock c) ≡ m (Lock c)
+  pub readers : m' (Readers c) ≡ m (Readers c)
+  pub head : m' (Head c) ≡ m (Head c)
+  pub free : m' (Free c) ≡ m (Free c)
+  pub retired : m' (Retired c) ≡ m (Retired c)
+  pub slots : SameSlots capacities c m m'
+
+-- The marks and updates that came say nothing of the class: where its slots were unlinked, and its keys' pairs.
+pub record SameMarks (capacities : List ℕ) (c : ℕ) (h h' : List Mark) (us us' : List Update) : Type 0 where
+  pub more : List Update
+  pub longer : us' ≡ us ++ more
+  pub gone : (s : ℕ) → is_slot_of capacities c s ≡ true → gone_at s h' ≡ gone_at s h
+  pub pairs : (key : ℕ) → key % 64 ≡ c → finite.get (map_of us') key ≡ finite.get (map_of us) key
+
+-- what the parts on one class read of a view's section: where it is of the class, all of it
+abbrev pub SameSection : ℕ → Option Section → Option Section → Type 0
+SameSection c None None = Unit {0}
+SameSection c None (Some t) = t.key % 64 ≢ c
+SameSection c (Some s) None = s.key % 64 ≢ c
+SameSection c (Some s) (Some t) = (s ≡ t) ⊎ ((s.key % 64 ≢ c) × (t.key % 64 ≢ c))
+
+-- and of its lock
+abbrev pub SameHold : ℕ → Option Hold → Option Hold → Type 0
+SameHold c None None = Unit {0}
+SameHold c None (Some k) = k.class ≢ c
+SameHold c (Some k) None = k.class ≢ c
+SameHold c (Some k) (Some l) = (k ≡ l) ⊎ ((k.class ≢ c) × (l.class ≢ c))
+
+-- What the parts on one class read of a view is the same.
+pub record SameView (c : ℕ) (v w : View) : Type 0 where
+  pub place : w.place ≡ v.place
+  pub section : SameSection c v.section w.section
+  pub hold : SameHold c v.hold w.hold
+
+pub section_back : (c : ℕ) (a b : Option Section) (t : Section) → SameSection c a b → b ≡ Some t → t.key % 64 ≡ c → a ≡ Some t
+section_back c a None t same is class = absurd (cc)
+section_back c None (Some u) t same is class = absurd (same (let e : u ≡ t = cc in ap (λ (z : Section). z.key % 64) e ∙ class))
+section_back c (Some s) (Some u) t same is class =
+    let e : u ≡ t = cc in
+    elim same [ inl q ↦ ap Some (q ∙ e) | inr n ↦ absurd (n.1 (ap (λ (z : Section). z.key % 64) e ∙ class)) ]
+
+other_count : (c : ℕ) (s : Section) → s.key % 64 ≢ c → inside_count c (Some s) ≡ 0
+other_count c s ne = ap (λ b. cond b 1 0) (ne_eqb (s.key % 64) c ne)
+
+same_count : (c : ℕ) (a b : Option Section) → SameSection c a b → inside_count c b ≡ inside_count c a
+same_count c None None same = refl
+same_count c None (Some t) same = other_count c t same
+same_count c (Some s) None same = sym (other_count c s same)
+same_count c (Some s) (Some t) same = elim same [ inl q ↦ ap (λ z. inside_count c (Some z)) (sym q) | inr n ↦ other_count c t n.1 ∙ sym (other_count c s n.0) ]
+
+hold_other : (c : ℕ) (a b : Option Hold) → SameHold c a b → ((k : Hold) → a ≡ Some k → k.class ≢ c) → (k : Hold) → b ≡ Some k → k.class ≢ c
+hold_other c a None same before k is = absurd (cc)
+hold_other c None (Some l) same before k is = let e : l ≡ k = cc in subst (λ (z : Hold). z.class ≢ c) e same
+hold_other c (Some j) (Some l) same before k is =
+    let e : l ≡ k = cc in
+    elim same [ inl q ↦ before k (ap Some (q ∙ e)) | inr n ↦ subst (λ (z : Hold). z.class ≢ c) e n.1 ]
+
+hold_same : (c : ℕ) (a b : Option Hold) (k : Hold) → SameHold c a b → a ≡ Some k → k.class ≡ c → b ≡ Some k
+hold_same c None b k same is class = absurd (cc)
+hold_same c (Some j) None k same is class = absurd (same (let e : j ≡ k = cc in ap (λ (z : Hold). z.class) e ∙ class))
+hold_same c (Some j) (Some l) k same is class =
+    let e : j ≡ k = cc in
+    elim same [ inl q ↦ ap Some (sym q ∙ e) | inr n ↦ absurd (n.0 (ap (λ (z : Hold). z.class) e ∙ class)) ]
+
+pub WasSaid-longer : (us more : List Update) (key from : ℕ) (answer : Option ℕ) → WasSaid us key from answer → WasSaid (us ++ more) key from answer
+WasSaid-longer us more key from answer said = record {
+  front = said.front;
+  since = said.since;
+  made = let l = length-append us more in let a = said.made in omega arith;
+  answers = ap (λ ts. finite.get (map_of ts) key) (let le = said.made in take-append-le said.front us more le) ∙ said.answers;
+}
+
+-- a slot that stands in one of the class's lists is one of the class
+module _ (capacities : List ℕ) (c : ℕ) (b : Bucket) (roles : HaveOneRole capacities c b) where
+  slot_case : (t : Bool) (n : ℕ) → n ≡ cond t 1 0 → 1 ≤ n → t ≡ true
+  slot_case true n e there = refl
+  slot_case false n e there = absurd (omega arith)
+
+  pub chain_slot : (x : ℕ) → 1 ≤ times x b.chain → is_slot_of capacities c x ≡ true
+  chain_slot x there = let r = roles.once x in slot_case (is_slot_of capacities c x) _ r (omega arith)
+
+  pub free_slot : (x : ℕ) → 1 ≤ times x b.free → is_slot_of capacities c x ≡ true
+  free_slot x there = let r = roles.once x in slot_case (is_slot_of capacities c x) _ r (omega arith)
+
+  pub retired_slot : (x : ℕ) → 1 ≤ times x b.retired → is_slot_of capacities c x ≡ true
+  retired_slot x there = let r = roles.once x in slot_case (is_slot_of capacities c x) _ r (omega arith)
+
+  pub moved_slot : (x : ℕ) → 1 ≤ times x b.moved → is_slot_of capacities c x ≡ true
+  moved_slot x there = let r = roles.once x in slot_case (is_slot_of capacities c x) _ r (omega arith)
+
+  pub taken_slot : (x : ℕ) → taken_of b.hold ≡ Some x → is_slot_of capacities c x ≡ true
+  taken_slot x is =
+      let r = roles.once x in
+      let one : times x (option_to_list (taken_of b.hold)) ≡ 1 = ap (λ o. times x (option_to_list o)) is ∙ (let t = times_here x [] in omega arith) in
+      slot_case (is_slot_of capacities c x) _ r (omega arith)
+
+  pub unlinked_slot : (x : ℕ) → unlinked_of b.hold ≡ Some x → is_slot_of capacities c x ≡ true
+  unlinked_slot x is =
+      let r = roles.once x in
+      let one : times x (option_to_list (unlinked_of b.hold)) ≡ 1 = ap (λ o. times x (option_to_list o)) is ∙ (let t = times_here x [] in omega arith) in
+      slot_case (is_slot_of capacities c x) _ r (omega arith)
+
+-- What readers of a class will answer, where its slots and marks are the same.
+module _ (capacities : List ℕ) (c : ℕ) (m m' : Memory) (h h' : List Mark) (us us' : List Update) (b : Bucket) (slots : SameSlots capacities c m m') (marks : SameMarks capacities c h h' us us') (roles : HaveOneRole capacities c b) where
+  pub still_said : (key from : ℕ) (answer : Option ℕ) → WasSaid us key from answer → WasSaid us' key from answer
+  still_said key from answer said = subst (λ z. WasSaid z key from answer) (sym marks.longer) (WasSaid-longer us marks.more key from answer said)
+
+  pub still_way : (section : Section) (slot : ℕ) → HasWay capacities c m h us b.chain section slot → HasWay capacities c m' h' us' b.chain section slot
+  still_way section slot way =
+      let of : (s : ℕ) → 1 ≤ times s (way.olds ++ way.rest) → is_slot_of capacities c s ≡ true = λ s there.
+      let sum = times_append s way.olds way.rest in
+      dite (dec_le 1 (times s way.olds))
+      (λ in_olds. all_times (λ t. is_slot_of capacities c t ≡ true) way.olds s way.slots in_olds)
+      (λ not_olds. let cut = times_append s way.front way.rest in let whole = ap (times s) way.joins in chain_slot capacities c b roles s (omega arith)) in
+      record {
+        olds = way.olds;
+        front = way.front;
+        rest = way.rest;
+        some = way.some;
+        path = IsPath-same (λ s. m (Next s)) (λ s. m' (Next s)) slot (way.olds ++ way.rest) (λ s there. (slots s (of s there)).2) way.path;
+        held = all_change (IsHeldBack h section) (IsHeldBack h' section) way.olds (λ s there p. (p.0, marks.gone s (all_times (λ t. is_slot_of capacities c t ≡ true) way.olds s way.slots there) ∙ p.1, p.2)) way.held;
+        slots = way.slots;
+        joins = way.joins;
+        said = subst (WasSaid us' section.key section.from) (sym (seek-same m m' section.key (way.olds ++ way.rest) (λ s there. let q = slots s (of s there) in (q.0, q.1)))) (still_said section.key section.from _ way.said);
+      }
+
+  -- the first slot of a way is one of the class
+  pub way_slot : (section : Section) (slot : ℕ) → HasWay capacities c m h us b.chain section slot → is_slot_of capacities c slot ≡ true
+  way_slot section slot way =
+      let first = path_cons (λ s. m (Next s)) slot (way.olds ++ way.rest) way.some way.path in
+      let there : 1 ≤ times slot (way.olds ++ way.rest) = (let t = times_here slot first.0 in let e = ap (times slot) first.1 in omega arith) in
+      let sum = times_append slot way.olds way.rest in
+      dite (dec_le 1 (times slot way.olds))
+      (λ in_olds. all_times (λ t. is_slot_of capacities c t ≡ true) way.olds slot way.slots in_olds)
+      (λ not_olds. let cut = times_append slot way.front way.rest in let whole = ap (times slot) way.joins in chain_slot capacities c b roles slot (omega arith))
+
+  pub still_answer : (section : Section) (stand : Stand) → WillAnswer capacities c m h us b.chain section stand → WillAnswer capacities c m' h' us' b.chain section stand
+  still_answer section Start a = tt
+  still_answer section (Unread s) a = still_way section s a
+  still_answer section (Passed s) a = (still_way section s a.0, λ e. a.1 (sym (slots s (way_slot section s a.0)).0 ∙ e))
+  still_answer section (Found s) a = (still_way section s a.0, (slots s (way_slot section s a.0)).0 ∙ a.1)
+  still_answer section Ended a = still_said section.key section.from None a
+
+-- where slots were unlinked, where that is the same
+module _ (capacities : List ℕ) (c : ℕ) (h h' : List Mark) (b : Bucket) (gone : (s : ℕ) → is_slot_of capacities c s ≡ true → gone_at s h' ≡ gone_at s h) (roles : HaveOneRole capacities c b) where
+  still_gone : (s : ℕ) → is_slot_of capacities c s ≡ true → IsGone h s → IsGone h' s
+  still_gone s of was = (was.0, gone s of ∙ was.1)
+
+  pub frame_ages_same : HaveAges h b → HaveAges h' b
+  frame_ages_same ages = record {
+    chain = all_change (λ s. gone_at s h ≡ None) (λ s. gone_at s h' ≡ None) b.chain (λ s there p. gone s (chain_slot capacities c b roles s there) ∙ p) ages.chain;
+    taken = λ s is. gone s (taken_slot capacities c b roles s is) ∙ ages.taken s is;
+    retired = all_change (IsGone h) (IsGone h') b.retired (λ s there p. still_gone s (retired_slot capacities c b roles s there) p) ages.retired;
+    moved = all_change (IsGone h) (IsGone h') b.moved (λ s there p. still_gone s (moved_slot capacities c b roles s there) p) ages.moved;
+    unlinked = λ s is. still_gone s (unlinked_slot capacities c b roles s is) (ages.unlinked s is);
+  }
+
+-- who holds the lock, where that is the same
+module _ (c : ℕ) (m m' : Memory) (vs : List View) (id : ℕ) (v w : View) (at : get_elem? vs id ≡ some v) (word : m' (Lock c) ≡ m (Lock c)) (place : w.place ≡ v.place) (held_same : SameHold c v.hold w.hold) where
+  pub locked_same : (hold : Option Hold) → IsLocked c m vs hold → IsLocked c m' (set vs id w) hold
+  locked_same None locked = (
+    word ∙ locked.0,
+    each_set (λ j u. HoldsOther c u) vs id w (hold_other c v.hold w.hold held_same (locked.1 id v at)) (λ j u other e. locked.1 j u e),
+  )
+  locked_same (Some hold) locked =
+      dite (ℕ_discrete locked.0 id)
+      (λ e.
+      let same : v ≡ locked.1 = some-injective v locked.1 (sym at ∙ subst (λ k. get_elem? vs k ≡ some locked.1) e locked.2) in
+      let held : v.hold ≡ Some hold = ap (λ (z : View). z.hold) same ∙ locked.3 in (
+        id,
+        w,
+        set_here vs id w (at_below vs id v at),
+        hold_same c v.hold w.hold hold held_same held locked.4,
+        locked.4,
+        word ∙ locked.5 ∙ ap (λ n. n + 1) (ap (λ (z : View). z.place) (sym same) ∙ sym place),
+        λ j u other. λ there. each_set (λ k z. k ≢ id → HoldsOther c z) vs id w (λ ne. absurd (ne refl)) (λ k z ne q _. locked.6 k z (λ f. ne (f ∙ e)) q) j u there other,
+      ))
+      (λ ne. (
+        locked.0,
+        locked.1,
+        set_else vs id locked.0 w ne ∙ locked.2,
+        locked.3,
+        locked.4,
+        word ∙ locked.5,
+        λ j u other there. each_set (λ k z. k ≢ locked.0 → HoldsOther c z) vs id w (λ far. hold_other c v.hold w.hold held_same (locked.6 id v (λ f. ne (sym f)) at)) (λ k z not_id q far. locked.6 k z far q) j u there other,
+      ))
+
+-- slots that no section holds back, where the sections are the same
+module _ (capacities : List ℕ) (c : ℕ) (h h' : List Mark) (vs : List View) (id : ℕ) (v w : View) (at : get_elem? vs id ≡ some v) (gone : (s : ℕ) → is_slot_of capacities c s ≡ true → gone_at s h' ≡ gone_at s h) (sections : SameSection c v.section w.section) where
+  pub still_free : (s : ℕ) → is_slot_of capacities c s ≡ true → IsFreeOfReaders c h vs s → IsFreeOfReaders c h' (set vs id w) s
+  still_free s of free p j u section was there is class =
+      each_set (λ k z. z.section ≡ Some section → p < section.entered) vs id w
+      (λ mine. free p id v section (sym (gone s of) ∙ was) at (section_back c v.section w.section section sections mine class) class)
+      (λ k z other e theirs. free p k z section (sym (gone s of) ∙ was) e theirs class) j u there is
+
+module _ (capacities : List ℕ) (c : ℕ) (m m' : Memory) (h h' : List Mark) (us us' : List Update) (vs : List View) (id : ℕ) (v w : View) (b : Bucket)
+    (at : get_elem? vs id ≡ some v) (words : SameWords capacities c m m') (marks : SameMarks capacities c h h' us us') (view : SameView c v w) (r : BucketRule capacities c m h us vs b) where
+  slot_chain : (x : ℕ) → 1 ≤ times x b.chain → is_slot_of capacities c x ≡ true
+  slot_chain = chain_slot capacities c b r.roles
+
+  frame_chained : IsChained c m' b.chain
+  frame_chained =
+      let keys : (s : ℕ) → 1 ≤ times s b.chain → (m' (Key s) ≡ m (Key s)) × (m' (Value s) ≡ m (Value s)) = λ s there. let q = words.slots s (slot_chain s there) in (q.0, q.1) in
+      record {
+        path = IsPath-from (λ s. m' (Next s)) (m (Head c)) (m' (Head c)) b.chain (sym words.head) (IsPath-same (λ s. m (Next s)) (λ s. m' (Next s)) (m (Head c)) b.chain (λ s there. (words.slots s (slot_chain s there)).2) r.chained.path);
+        classes = all_change (λ s. m (Key s) % 64 ≡ c) (λ s. m' (Key s) % 64 ≡ c) b.chain (λ s there p. ap (λ n. n % 64) (keys s there).0 ∙ p) r.chained.classes;
+        distinct = HaveDistinctKeys-same m m' b.chain keys r.chained.distinct;
+      }
+
+  frame_listed : AreListed c m' b
+  frame_listed = record {
+    free = IsPath-from (λ s. m' (Chain s)) (m (Free c)) (m' (Free c)) b.free (sym words.free) (IsPath-same (λ s. m (Chain s)) (λ s. m' (Chain s)) (m (Free c)) b.free (λ s there. (words.slots s (free_slot capacities c b r.roles s there)).3) r.listed.free);
+    retired = IsPath-from (λ s. m' (Chain s)) (m (Retired c)) (m' (Retired c)) b.retired (sym words.retired) (IsPath-same (λ s. m (Chain s)) (λ s. m' (Chain s)) (m (Retired c)) b.retired (λ s there. (words.slots s (retired_slot capacities c b r.roles s there)).3) r.listed.retired);
+    moved = IsPath-same (λ s. m (Chain s)) (λ s. m' (Chain s)) (link_of (moved_of b.hold)) b.moved (λ s there. (words.slots s (moved_slot capacities c b r.roles s there)).3) r.listed.moved;
+  }
+
+  frame_mapped : IsMapped c m' us' b.chain
+  frame_mapped = record {
+    answers = λ key class. marks.pairs key class ∙ r.mapped.answers key class ∙ sym (seek-same m m' key b.chain (λ s there. let q = words.slots s (slot_chain s there) in (q.0, q.1)));
+  }
+
+  frame_known : IsKnown capacities c m' b.hold
+  frame_known = record {
+    known = λ hold field number is found. let k = r.known.known hold field number is found in (k.0, known_case field k.0 ∙ k.1);
+  }
+    where
+      known_case : (field : Field) → IsOfClass capacities c field → m' field ≡ m field
+      known_case (Head d) of = ap (λ z. m' (Head z)) of ∙ words.head ∙ ap (λ z. m (Head z)) (sym of)
+      known_case (Free d) of = ap (λ z. m' (Free z)) of ∙ words.free ∙ ap (λ z. m (Free z)) (sym of)
+      known_case (Retired d) of = ap (λ z. m' (Retired z)) of ∙ words.retired ∙ ap (λ z. m (Retired z)) (sym of)
+      known_case (Key s) of = (words.slots s of).0
+      known_case (Value s) of = (words.slots s of).1
+      known_case (Next s) of = (words.slots s of).2
+      known_case (Chain s) of = (words.slots s of).3
+      known_case _ of = absurd of
+
+  frame_counted : AreCounted c m' (set vs id w)
+  frame_counted = record {
+    readers =
+        let sum = total_set (λ (z : View). inside_count c z.section) vs id v w at in
+        let same = same_count c v.section w.section view.section in
+        let was = r.counted.readers in
+        let word = words.readers in
+        omega arith;
+  }
+
+  frame_clean : AreClean capacities c h' (set vs id w) b
+  frame_clean = record {
+    free = all_change (IsFreeOfReaders c h vs) (IsFreeOfReaders c h' (set vs id w)) b.free (λ s there p. still_free capacities c h h' vs id v w at marks.gone view.section s (free_slot capacities c b r.roles s there) p) r.clean.free;
+    moved = all_change (IsFreeOfReaders c h vs) (IsFreeOfReaders c h' (set vs id w)) b.moved (λ s there p. still_free capacities c h h' vs id v w at marks.gone view.section s (moved_slot capacities c b r.roles s there) p) r.clean.moved;
+    clear = λ hold is clear s of. still_free capacities c h h' vs id v w at marks.gone view.section s of (r.clean.clear hold is clear s of);
+  }
+
+  frame_answered : AreAnswered capacities c m' h' us' (set vs id w) b.chain
+  frame_answered = record {
+    readers = λ j u section there is class.
+        each_set (λ k z. z.section ≡ Some section → WillAnswer capacities c m' h' us' b.chain section section.stand) vs id w
+        (λ mine. still_answer capacities c m m' h h' us us' b words.slots marks r.roles section section.stand (r.answered.readers id v section at (section_back c v.section w.section section view.section mine class) class))
+        (λ k z other e theirs. still_answer capacities c m m' h h' us us' b words.slots marks r.roles section section.stand (r.answered.readers k z section e theirs class)) j u there is;
+    loaded = λ j u section value there is class read.
+        each_set (λ k z. z.section ≡ Some section → WasSaid us' section.key section.from (Some value)) vs id w
+        (λ mine. still_said capacities c m m' h h' us us' b words.slots marks r.roles section.key section.from (Some value) (r.answered.loaded id v section value at (section_back c v.section w.section section view.section mine class) class read))
+        (λ k z other e theirs. still_said capacities c m m' h h' us us' b words.slots marks r.roles section.key section.from (Some value) (r.answered.loaded k z section value e theirs class read)) j u there is;
+  }
+
+  -- the whole rule on a class, where a step was made elsewhere
+  pub bucket_frame : BucketRule capacities c m' h' us' (set vs id w) b
+  bucket_frame = record {
+    chained = frame_chained;
+    listed = frame_listed;
+    roles = r.roles;
+    mapped = frame_mapped;
+    locked = locked_same c m m' vs id v w at words.lock view.place view.hold b.hold r.locked;
+    known = frame_known;
+    ages = frame_ages_same capacities c h h' b marks.gone r.roles r.ages;
+    counted = frame_counted;
+    clean = frame_clean;
+    answered = frame_answered;
+  }

@@ -1,0 +1,105 @@
+-- Lists of views, of slots and of marks.
+use Rattle.std.proofs.Common.{◌≡◌, ◌≢◌, ℕ, zero, suc, ◌+◌, ◌<◌, ◌≤◌, ◌⊎◌, cond, List, [], ◌∷◌, ◌++◌, length, set, refl, sym, ap, subst, ◌∙◌, ⊎_elim, inl, inr, arith, append_assoc, eq-eqb, ne_eqb}
+use Rattle.std.specs.List.{AllByRecursion}
+use mathlib.Core.Logic.{dite}
+use mathlib.Core.Option.{some, some-injective, some-ne-none}
+use mathlib.Core.List.{IsPrefix}
+use native.Mathlib.Decide.{ℕ_discrete}
+use lib.ListN.{get_elem?}
+use Rattle.atomic_table.proofs.Lists.{at_set}
+use Rattle.hash_core.specs.Lists.{times, total}
+
+module _ {A : Type 0} where
+  pub at_below : (l : List A) (i : ℕ) (a : A) → get_elem? l i ≡ some a → i < length l
+  at_below [] i a e = absurd (some-ne-none a (sym e))
+  at_below (x ∷ xs) zero a e = omega arith
+  at_below (x ∷ xs) (suc i) a e = let p = at_below xs i a e in omega arith
+
+  -- what stands in a list with one more element: it stood there, or is the new one at the end
+  pub at_end : (l : List A) (a b : A) (j : ℕ) → get_elem? (l ++ a ∷ []) j ≡ some b → (get_elem? l j ≡ some b) ⊎ ((j ≡ length l) × (a ≡ b))
+  at_end [] a b zero e = inr (refl, some-injective a b e)
+  at_end [] a b (suc j) e = absurd (some-ne-none b (sym e))
+  at_end (x ∷ xs) a b zero e = inl e
+  at_end (x ∷ xs) a b (suc j) e = elim (at_end xs a b j e) [ inl t ↦ inl t | inr t ↦ inr (ap suc t.0, t.1) ]
+
+  pub set_twice : (l : List A) (i : ℕ) (a b : A) → set (set l i a) i b ≡ set l i b
+  set_twice [] i a b = refl
+  set_twice (x ∷ xs) zero a b = refl
+  set_twice (x ∷ xs) (suc i) a b = ap (λ ys. x ∷ ys) (set_twice xs i a b)
+
+  -- the element at a place is one
+  pub at_one : (l : List A) (i : ℕ) (a b : A) → get_elem? l i ≡ some a → get_elem? l i ≡ some b → a ≡ b
+  at_one l i a b ea eb = some-injective a b (sym ea ∙ eb)
+
+  pub prefix_self : (xs : List A) → IsPrefix xs xs
+  prefix_self [] = ([], refl)
+  prefix_self (x ∷ xs) = let r = prefix_self xs in (r.0, ap (λ ys. x ∷ ys) r.1)
+
+  pub prefix_more : (xs ys zs : List A) → IsPrefix xs ys → IsPrefix xs (ys ++ zs)
+  prefix_more xs ys zs p = (p.0 ++ zs, sym (append_assoc xs p.0 zs) ∙ ap (λ w. w ++ zs) p.1)
+
+  -- a fact of each element, after one has changed
+  pub each_set : (P : ℕ → A → Type 0) (vs : List A) (id : ℕ) (w : A) → P id w → ((j : ℕ) (u : A) → j ≢ id → get_elem? vs j ≡ some u → P j u)
+      → (j : ℕ) (u : A) → get_elem? (set vs id w) j ≡ some u → P j u
+  each_set P vs id w mine others j u e = ⊎_elim (λ (t : (j ≡ id) × (w ≡ u)). subst (λ (x : ℕ × A). P x.0 x.1) (λ i. (sym t.0 i, t.1 i)) mine)
+      (λ (t : (j ≢ id) × (get_elem? vs j ≡ some u)). others j u t.0 t.1) (at_set vs id j w u e)
+
+  pub total_set : (f : A → ℕ) (vs : List A) (id : ℕ) (v w : A) → get_elem? vs id ≡ some v → total f (set vs id w) + f v ≡ total f vs + f w
+  total_set f [] id v w e = absurd (some-ne-none v (sym e))
+  total_set f (x ∷ xs) zero v w e = let s = ap f (some-injective x v e) in omega arith
+  total_set f (x ∷ xs) (suc id) v w e = let s = total_set f xs id v w e in omega arith
+
+  pub total_part : (f : A → ℕ) (vs : List A) (id : ℕ) (v : A) → get_elem? vs id ≡ some v → f v ≤ total f vs
+  total_part f [] id v e = absurd (some-ne-none v (sym e))
+  total_part f (x ∷ xs) zero v e = let s = ap f (some-injective x v e) in omega arith
+  total_part f (x ∷ xs) (suc id) v e = let s = total_part f xs id v e in omega arith
+
+  pub total_append : (f : A → ℕ) (us vs : List A) → total f (us ++ vs) ≡ total f us + total f vs
+  total_append f [] vs = omega arith
+  total_append f (u ∷ us) vs = let s = total_append f us vs in omega arith
+
+  -- a fact of all elements that follows from another
+  pub all_map : (P Q : A → Type 0) (xs : List A) → ((x : A) → P x → Q x) → AllByRecursion P xs → AllByRecursion Q xs
+  all_map P Q [] f all = tt
+  all_map P Q (x ∷ xs) f all = (f x all.0, all_map P Q xs f all.1)
+
+  pub all_append : (P : A → Type 0) (xs ys : List A) → AllByRecursion P xs → AllByRecursion P ys → AllByRecursion P (xs ++ ys)
+  all_append P [] ys p q = q
+  all_append P (x ∷ xs) ys p q = (p.0, all_append P xs ys p.1 q)
+
+  pub all_front : (P : A → Type 0) (xs ys : List A) → AllByRecursion P (xs ++ ys) → AllByRecursion P xs
+  all_front P [] ys all = tt
+  all_front P (x ∷ xs) ys all = (all.0, all_front P xs ys all.1)
+
+  pub all_back : (P : A → Type 0) (xs ys : List A) → AllByRecursion P (xs ++ ys) → AllByRecursion P ys
+  all_back P [] ys all = all
+  all_back P (x ∷ xs) ys all = all_back P xs ys all.1
+
+-- how often numbers stand in lists
+pub times_append : (x : ℕ) (ys zs : List ℕ) → times x (ys ++ zs) ≡ times x ys + times x zs
+times_append x [] zs = omega arith
+times_append x (y ∷ ys) zs = let s = times_append x ys zs in omega arith
+
+pub times_here : (x : ℕ) (ys : List ℕ) → times x (x ∷ ys) ≡ 1 + times x ys
+times_here x ys = ap (λ b. cond b 1 0 + times x ys) (eq-eqb x x refl)
+
+pub times_other : (x y : ℕ) (ys : List ℕ) → y ≢ x → times x (y ∷ ys) ≡ times x ys
+times_other x y ys ne = let e : times x (y ∷ ys) ≡ 0 + times x ys = ap (λ b. cond b 1 0 + times x ys) (ne_eqb y x ne) in omega arith
+
+-- what holds of all numbers of a list holds of one that stands there
+pub all_times : (P : ℕ → Type 0) (xs : List ℕ) (x : ℕ) → AllByRecursion P xs → 1 ≤ times x xs → P x
+all_times P [] x all there = absurd (omega arith)
+all_times P (y ∷ ys) x all there =
+    dite (ℕ_discrete y x) (λ e. subst P e all.0) (λ ne. let t = times_other x y ys ne in all_times P ys x all.1 (omega arith))
+
+-- a fact of all numbers of a list, where it follows for those that stand there
+pub all_from_times : (P : ℕ → Type 0) (xs : List ℕ) → ((x : ℕ) → 1 ≤ times x xs → P x) → AllByRecursion P xs
+all_from_times P [] f = tt
+all_from_times P (y ∷ ys) f = (
+  f y (let t = times_here y ys in omega arith),
+  all_from_times P ys (λ x there. f x (dite (ℕ_discrete y x) (λ e. let t : times x (y ∷ ys) ≡ 1 + times x ys = subst (λ z. times z (y ∷ ys) ≡ 1 + times z ys) e (times_here y ys) in omega arith) (λ ne. let t = times_other x y ys ne in omega arith))),
+)
+
+-- one fact from another for the numbers that stand there
+pub all_change : (P Q : ℕ → Type 0) (xs : List ℕ) → ((x : ℕ) → 1 ≤ times x xs → P x → Q x) → AllByRecursion P xs → AllByRecursion Q xs
+all_change P Q xs f all = all_from_times Q xs (λ x there. f x there (all_times P xs x all there))

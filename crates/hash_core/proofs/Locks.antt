@@ -1,0 +1,440 @@
+-- The kinds of step on locks and on the front, and the loads under a lock.
+use Rattle.std.proofs.Common.{◌≡◌, ◌≢◌, ℕ, ◌+◌, ◌*◌, ◌%◌, ◌<◌, ◌≤◌, Bool, true, false, cond, List, [], ◌∷◌, length, set, Option, Some, None, refl, sym, ap, subst, ◌∙◌, inl, inr, arith, eq-eqb, append-nil, option_to_list}
+use Rattle.std.specs.List.{AllByRecursion}
+use mathlib.Core.Logic.{dite}
+use mathlib.Core.Option.{some}
+use native.Mathlib.Decide.{ℕ_discrete}
+use lib.ListN.{get_elem?}
+use Rattle.atomic_table.proofs.Lists.{set_here}
+use Rattle.prcu_model.specs.declared.mark.Mark.{Mark}
+use Rattle.prcu_model.specs.declared.operation.Update.{Update}
+use Rattle.hash_core.specs.declared.words.Field.{Field}
+use Rattle.hash_core.specs.declared.words.Field.TheVariants.{Front, Lock, Readers, Chain}
+use Rattle.hash_core.specs.declared.view.Section.{Section}
+use Rattle.hash_core.specs.declared.view.Hold.{Hold}
+use Rattle.hash_core.specs.declared.view.Turn.{Turn}
+use Rattle.hash_core.specs.declared.view.View.{View}
+use Rattle.hash_core.specs.Lists.{times, IsPath}
+use Rattle.hash_core.specs.Memory.{Memory, same_field, stored}
+use Rattle.hash_core.specs.Slots.{is_slot_of, IsOfClass}
+use Rattle.hash_core.specs.Marks.{updates_of}
+use Rattle.hash_core.specs.Known.{known_in, knowing}
+use Rattle.hash_core.specs.Buckets.{Bucket, inside_count, AreCounted, HoldsOther, IsLocked, AreClean, IsFreeOfReaders, HaveOneRole, taken_of, unlinked_of, moved_of, link_of}
+use Rattle.hash_core.specs.Readers.{AreAnswered, WillAnswer, WasSaid}
+use Rattle.hash_core.specs.Seats.{HasNoTurn, updates_by, IsTurned, AreOwned, AreSeen}
+use Rattle.hash_core.specs.Steps.{IsQuiet, fresh_hold, Needs7, after7, Needs12, Needs16, after16}
+use Rattle.hash_core.specs.Rule.{BucketRule, MemoryRule}
+use Rattle.hash_core.proofs.Lists.{at_below, at_one, each_set, total_set, total_part, prefix_self}
+use Rattle.hash_core.proofs.Frames.{SameSlots, SameSection, SameHold, SameView, still_answer}
+use Rattle.hash_core.proofs.Stores.{same_words, lock_words, front_words, stored_here, same_self, same_is}
+use Rattle.hash_core.proofs.SeatFrames.{seen_same, seen_whole, apart_same, owned_same, open_same, held_still, turned_same}
+use Rattle.hash_core.proofs.Quiet.{same_marks, same_section, same_hold, seats_same, section_back, section_forth, tickets_same, no_marks}
+use Rattle.hash_core.proofs.Whole.{SeatsRule, after_step, after_quiet}
+
+-- the parts on a class that read views, where another view has the same section
+module _ (capacities : List ℕ) (c : ℕ) (m : Memory) (h : List Mark) (vs : List View) (id : ℕ) (v w : View) (at : get_elem? vs id ≡ some v) (same : w.section ≡ v.section) where
+  pub counted_still : AreCounted c m vs → AreCounted c m (set vs id w)
+  counted_still counted = record {
+    readers = let sum = total_set (λ (z : View). inside_count c z.section) vs id v w at in let e = ap (inside_count c) same in let was = counted.readers in omega arith;
+  }
+
+  pub free_still : (s : ℕ) → IsFreeOfReaders c h vs s → IsFreeOfReaders c h (set vs id w) s
+  free_still s free p j u section gone there is class = each_set (λ k z. z.section ≡ Some section → p < section.entered) vs id w
+      (λ mine. free p id v section gone at (sym same ∙ mine) class) (λ k z far e theirs. free p k z section gone e theirs class) j u there is
+
+  -- in a memory whose slots are the same
+  pub answered_still : (m' : Memory) (b : Bucket) → SameSlots capacities c m m' → HaveOneRole capacities c b → AreAnswered capacities c m h (updates_of h) vs b.chain → AreAnswered capacities c m' h (updates_of h) (set vs id w) b.chain
+  answered_still m' b slots roles answered =
+      let us : List Update = updates_of h in
+      let will : (section : Section) → WillAnswer capacities c m h us b.chain section section.stand → WillAnswer capacities c m' h us b.chain section section.stand = λ section. still_answer capacities c m m' h h us us b slots (same_marks capacities c h) roles section section.stand in
+      record {
+        readers = λ j u section there is class. each_set (λ k z. z.section ≡ Some section → WillAnswer capacities c m' h us b.chain section section.stand) vs id w
+            (λ mine. will section (answered.readers id v section at (sym same ∙ mine) class)) (λ k z far e theirs. will section (answered.readers k z section e theirs class)) j u there is;
+        loaded = λ j u section value there is class read. each_set (λ k z. z.section ≡ Some section → WasSaid us section.key section.from (Some value)) vs id w
+            (λ mine. answered.loaded id v section value at (sym same ∙ mine) class read) (λ k z far e theirs. answered.loaded k z section value e theirs class read) j u there is;
+      }
+
+pub all_still : (P Q : ℕ → Type 0) (xs : List ℕ) → ((x : ℕ) → P x → Q x) → AllByRecursion P xs → AllByRecursion Q xs
+all_still P Q [] f all = tt
+all_still P Q (x ∷ xs) f all = (f x all.0, all_still P Q xs f all.1)
+
+module _ (capacities : List ℕ) (places tickets : ℕ) (m : Memory) (vs : List View) (h : List Mark) (r : MemoryRule capacities places tickets m vs h) (id : ℕ) (v : View) (at : get_elem? vs id ≡ some v) where
+  -- who holds a lock is the holder of its class
+  pub holder_of : (c : ℕ) → c < 64 → (hold : Hold) → v.hold ≡ Some hold → hold.class ≡ c → (r.bucket c).hold ≡ Some hold
+  holder_of c small hold mine class = holder_case (r.bucket c).hold refl (r.buckets c small).locked
+    where
+      holder_case : (held : Option Hold) → (r.bucket c).hold ≡ held → IsLocked c m vs held → (r.bucket c).hold ≡ Some hold
+      holder_case None is locked = absurd (locked.1 id v at hold mine class)
+      holder_case (Some other) is locked = dite (ℕ_discrete locked.0 id)
+          (λ e. let same : v ≡ locked.1 = at_one vs id v locked.1 at (subst (λ k. get_elem? vs k ≡ some locked.1) e locked.2) in
+          is ∙ sym (ap (λ (z : View). z.hold) same ∙ locked.3) ∙ mine)
+          (λ ne. absurd (locked.6 id v (λ e. ne (sym e)) at hold mine class))
+
+  pub class_small : (hold : Hold) → v.hold ≡ Some hold → hold.class < 64
+  class_small hold mine = (r.held.held id v hold at mine).0
+
+  pub works : (hold : Hold) → v.hold ≡ Some hold → 1 ≤ v.places
+  works hold mine = (r.held.held id v hold at mine).1
+
+  -- H6, where the lock was free
+  module _ (c : ℕ) (small : c < 64) (quiet : IsQuiet v) (place : 1 ≤ v.places) (free : m (Lock c) ≡ 0) where
+    abbrev w6 : View
+    w6 = record v { hold = Some (fresh_hold c) }
+
+    abbrev m6 : Memory
+    m6 = stored m (Lock c) (v.place + 1)
+
+    nobody : (r.bucket c).hold ≡ None
+    nobody = none_case (r.bucket c).hold refl (r.buckets c small).locked
+      where
+        none_case : (held : Option Hold) → (r.bucket c).hold ≡ held → IsLocked c m vs held → (r.bucket c).hold ≡ None
+        none_case None is locked = is
+        none_case (Some hold) is locked = absurd (let a = locked.5 in omega arith)
+
+    abbrev b6 : Bucket
+    b6 = record (r.bucket c) { hold = Some (fresh_hold c) }
+
+    seats6 : SeatsRule capacities places tickets m6 (set vs id w6) h
+    seats6 = seats_same capacities places tickets m vs h r id v w6 at m6
+        (record {
+          places = record { place = refl; places = refl; joined = refl };
+          tickets = refl;
+          sections = refl;
+          back = section_back v w6 refl;
+          forth = section_forth v w6 refl;
+          turn = refl;
+          kept = λ turn hold is held. (fresh_hold c, refl);
+          held = λ hold is. let e : fresh_hold c ≡ hold = cc in (subst (λ (z : Hold). z.class < 64) e small, place);
+          own = refl;
+        }) refl refl
+
+    bucket6 : c < 64 → BucketRule capacities c m6 h (updates_of h) (set vs id w6) b6
+    bucket6 _ =
+        let b = r.buckets c small in
+        let none : (r.bucket c).hold ≡ None = nobody in
+        record {
+          chained = record { path = b.chained.path; classes = b.chained.classes; distinct = b.chained.distinct };
+          listed = record { free = b.listed.free; retired = b.listed.retired; moved = subst (λ z. IsPath (λ s. m (Chain s)) (link_of (moved_of z)) (r.bucket c).moved) none b.listed.moved };
+          roles = record { once = λ x. subst (λ z. times x (r.bucket c).chain + times x (r.bucket c).free + times x (r.bucket c).retired + times x (r.bucket c).moved + times x (option_to_list (taken_of z)) + times x (option_to_list (unlinked_of z)) ≡ cond (is_slot_of capacities c x) 1 0) none (b.roles.once x) };
+          mapped = record { answers = b.mapped.answers };
+          locked = (
+            id,
+            w6,
+            set_here vs id w6 (at_below vs id v at),
+            refl,
+            refl,
+            stored_here m (Lock c) (v.place + 1) (same_self (Lock c)),
+            λ j u ne there. each_set (λ k z. k ≢ id → HoldsOther c z) vs id w6 (λ f. absurd (f refl)) (λ k z far e _. (subst (IsLocked c m vs) none b.locked).1 k z e) j u there ne,
+          );
+          known = record { known = λ hold field number is found. absurd (let e : fresh_hold c ≡ hold = cc in let z : known_in hold.known field ≡ None = ap (λ (y : Hold). known_in y.known field) (sym e) in cc) };
+          ages = record { chain = b.ages.chain; taken = λ s is. absurd (cc); retired = b.ages.retired; moved = b.ages.moved; unlinked = λ s is. absurd (cc) };
+          counted = record { readers = (counted_still capacities c m h vs id v w6 at refl b.counted).readers };
+          clean = record {
+            free = all_still (IsFreeOfReaders c h vs) (IsFreeOfReaders c h (set vs id w6)) (r.bucket c).free (free_still capacities c m h vs id v w6 at refl) b.clean.free;
+            moved = all_still (IsFreeOfReaders c h vs) (IsFreeOfReaders c h (set vs id w6)) (r.bucket c).moved (free_still capacities c m h vs id v w6 at refl) b.clean.moved;
+            clear = λ hold is clear s of. absurd (let e : fresh_hold c ≡ hold = cc in let z : hold.clear ≡ false = ap (λ (y : Hold). y.clear) (sym e) in cc);
+          };
+          answered = answered_still capacities c m h vs id v w6 at refl m6 (r.bucket c) (λ s _. (refl, refl, refl, refl)) b.roles b.answered;
+        }
+
+    pub law6 : MemoryRule capacities places tickets m6 (set vs id w6) h
+    law6 = after_step capacities places tickets m vs h r id v w6 at m6 h seats6 c b6 bucket6
+        (λ d _ ne. record {
+          words = lock_words capacities c d m (v.place + 1) ne;
+          marks = same_marks capacities d h;
+          view = record { place = refl; section = same_section d v.section; hold = subst (λ z. SameHold d z w6.hold) (sym quiet.1) (λ e. ne (sym e)) };
+        })
+
+  -- H7
+  module _ (hold : Hold) (needs : Needs7 v hold) where
+    abbrev w7 : View
+    w7 = after7 v
+
+    abbrev m7 : Memory
+    m7 = stored m (Lock hold.class) 0
+
+    abbrev b7 : Bucket
+    b7 = record (r.bucket hold.class) { hold = None }
+
+    seats7 : SeatsRule capacities places tickets m7 (set vs id w7) h
+    seats7 = seats_same capacities places tickets m vs h r id v w7 at m7
+        (record {
+          places = record { place = refl; places = refl; joined = refl };
+          tickets = refl;
+          sections = refl;
+          back = section_back v w7 refl;
+          forth = section_forth v w7 refl;
+          turn = refl;
+          kept = λ turn held is mine. absurd (let z : Some turn ≡ None = sym is ∙ needs.4 in cc);
+          held = λ other is. absurd (cc);
+          own = refl;
+        }) refl refl
+
+    bucket7 : hold.class < 64 → BucketRule capacities hold.class m7 h (updates_of h) (set vs id w7) b7
+    bucket7 small =
+        let c : ℕ = hold.class in
+        let b = r.buckets c small in
+        let mine : (r.bucket c).hold ≡ Some hold = holder_of c small hold needs.0 refl in
+        let no_taken : taken_of (r.bucket c).hold ≡ None = ap taken_of mine ∙ needs.1 in
+        let no_unlinked : unlinked_of (r.bucket c).hold ≡ None = ap unlinked_of mine ∙ needs.2 in
+        let no_moved : moved_of (r.bucket c).hold ≡ None = ap moved_of mine ∙ needs.3 in
+        let locked = subst (IsLocked c m vs) mine b.locked in
+        record {
+          chained = record { path = b.chained.path; classes = b.chained.classes; distinct = b.chained.distinct };
+          listed = record { free = b.listed.free; retired = b.listed.retired; moved = subst (λ z. IsPath (λ s. m (Chain s)) (link_of z) (r.bucket c).moved) no_moved b.listed.moved };
+          roles = record { once = λ x. subst (λ (z : Option ℕ × Option ℕ). times x (r.bucket c).chain + times x (r.bucket c).free + times x (r.bucket c).retired + times x (r.bucket c).moved + times x (option_to_list z.0) + times x (option_to_list z.1) ≡ cond (is_slot_of capacities c x) 1 0) (λ i. (no_taken i, no_unlinked i)) (b.roles.once x) };
+          mapped = record { answers = b.mapped.answers };
+          locked = (
+            stored_here m (Lock c) 0 (same_self (Lock c)),
+            λ j u there. each_set (λ k z. HoldsOther c z) vs id w7 (λ other is. absurd (cc))
+                (λ k z far e. dite (ℕ_discrete k locked.0)
+                (λ f. let me : id ≡ locked.0 = dite (ℕ_discrete id locked.0) (λ q. q) (λ q. absurd (locked.6 id v q at hold needs.0 refl)) in absurd (far (f ∙ sym me)))
+                (λ f. locked.6 k z f e)) j u there,
+          );
+          known = record { known = λ other field number is found. absurd (cc) };
+          ages = record { chain = b.ages.chain; taken = λ s is. absurd (cc); retired = b.ages.retired; moved = b.ages.moved; unlinked = λ s is. absurd (cc) };
+          counted = record { readers = (counted_still capacities c m h vs id v w7 at refl b.counted).readers };
+          clean = record {
+            free = all_still (IsFreeOfReaders c h vs) (IsFreeOfReaders c h (set vs id w7)) (r.bucket c).free (free_still capacities c m h vs id v w7 at refl) b.clean.free;
+            moved = all_still (IsFreeOfReaders c h vs) (IsFreeOfReaders c h (set vs id w7)) (r.bucket c).moved (free_still capacities c m h vs id v w7 at refl) b.clean.moved;
+            clear = λ other is clear s of. absurd (cc);
+          };
+          answered = answered_still capacities c m h vs id v w7 at refl m7 (r.bucket c) (λ s _. (refl, refl, refl, refl)) b.roles b.answered;
+        }
+
+    pub law7 : MemoryRule capacities places tickets m7 (set vs id w7) h
+    law7 = after_step capacities places tickets m vs h r id v w7 at m7 h seats7 hold.class b7 bucket7
+        (λ d _ ne. record {
+          words = lock_words capacities hold.class d m 0 ne;
+          marks = same_marks capacities d h;
+          view = record { place = refl; section = same_section d v.section; hold = subst (λ z. SameHold d z None) (sym needs.0) (λ e. ne (sym e)) };
+        })
+
+  -- the bucket of the holder, with what it knows and does now
+  abbrev held_bucket : Hold → Hold → Bucket
+  held_bucket hold new = record (r.bucket hold.class) { hold = Some new }
+
+  -- the holder is the same view
+  pub locked_by : (hold new : Hold) → v.hold ≡ Some hold → new.class ≡ hold.class → (m' : Memory) → m' (Lock hold.class) ≡ m (Lock hold.class) → (w : View) → w.hold ≡ Some new → w.place ≡ v.place → IsLocked hold.class m' (set vs id w) (Some new)
+  locked_by hold new mine class m' word w is place =
+      let c : ℕ = hold.class in
+      let locked = subst (IsLocked c m vs) (holder_of c (class_small hold mine) hold mine refl) (r.buckets c (class_small hold mine)).locked in
+      let me : id ≡ locked.0 = dite (ℕ_discrete id locked.0) (λ q. q) (λ q. absurd (locked.6 id v q at hold mine refl)) in
+      let same : v ≡ locked.1 = at_one vs id v locked.1 at (subst (λ k. get_elem? vs k ≡ some locked.1) (sym me) locked.2) in (
+        id,
+        w,
+        set_here vs id w (at_below vs id v at),
+        is,
+        class,
+        word ∙ locked.5 ∙ ap (λ n. n + 1) (ap (λ (z : View). z.place) (sym same) ∙ sym place),
+        λ j u ne there. each_set (λ k z. k ≢ id → HoldsOther c z) vs id w (λ f. absurd (f refl)) (λ k z far e _. locked.6 k z (λ f. far (f ∙ sym me)) e) j u there ne,
+      )
+
+  -- what the holder does is nothing to other classes
+  pub elsewhere_held : (d : ℕ) (hold new : Hold) → v.hold ≡ Some hold → new.class ≡ hold.class → d ≢ hold.class → (w : View) → w.hold ≡ Some new → w.place ≡ v.place → w.section ≡ v.section → SameView d v w
+  elsewhere_held d hold new mine class ne w is place section = record {
+    place = place;
+    section = subst (SameSection d v.section) (sym section) (same_section d v.section);
+    hold = subst (λ (q : Option Hold × Option Hold). SameHold d q.0 q.1) (λ i. (sym mine i, sym is i)) (inr (λ e. ne (sym e), λ e. ne (sym e ∙ class)));
+  }
+
+  pub clean_still : (c : ℕ) (w : View) → w.section ≡ v.section → (b : Bucket) → (new : Option Hold) → ((hold : Hold) → new ≡ Some hold → hold.clear ≡ true → (s : ℕ) → is_slot_of capacities c s ≡ true → IsFreeOfReaders c h vs s) → AreClean capacities c h vs b → AreClean capacities c h (set vs id w) (record b { hold = new })
+  clean_still c w section b new clear clean = record {
+    free = all_still (IsFreeOfReaders c h vs) (IsFreeOfReaders c h (set vs id w)) b.free (free_still capacities c m h vs id v w at section) clean.free;
+    moved = all_still (IsFreeOfReaders c h vs) (IsFreeOfReaders c h (set vs id w)) b.moved (free_still capacities c m h vs id v w at section) clean.moved;
+    clear = λ hold is yes s of. free_still capacities c m h vs id v w at section s (clear hold is yes s of);
+  }
+
+  -- H8, where no reader was found
+  module _ (hold : Hold) (mine : v.hold ≡ Some hold) (nobody_reads : m (Readers hold.class) ≡ 0) where
+    abbrev new8 : Hold
+    new8 = record hold { clear = true }
+
+    abbrev w8 : View
+    w8 = record v { hold = Some new8 }
+
+    no_section : hold.class < 64 → (j : ℕ) (u : View) (section : Section) → get_elem? vs j ≡ some u → u.section ≡ Some section → section.key % 64 ≢ hold.class
+    no_section small j u section there is class =
+        let part = total_part (λ (z : View). inside_count hold.class z.section) vs j u there in
+        let one : inside_count hold.class u.section ≡ 1 = ap (inside_count hold.class) is ∙ ap (λ t. cond t 1 0) (eq-eqb (section.key % 64) hold.class class) in
+        let was = (r.buckets hold.class small).counted.readers in
+        omega arith
+
+    pub law8 : MemoryRule capacities places tickets m (set vs id w8) h
+    law8 = after_step capacities places tickets m vs h r id v w8 at m h
+        (seats_same capacities places tickets m vs h r id v w8 at m
+        (record {
+          places = record { place = refl; places = refl; joined = refl };
+          tickets = refl;
+          sections = refl;
+          back = section_back v w8 refl;
+          forth = section_forth v w8 refl;
+          turn = refl;
+          kept = λ turn held is had. (new8, refl);
+          held = λ other is. let e : new8 ≡ other = cc in (subst (λ (z : Hold). z.class < 64) e (class_small hold mine), works hold mine);
+          own = refl;
+        }) refl refl)
+        hold.class (held_bucket hold new8)
+        (λ small.
+        let c : ℕ = hold.class in
+        let b = r.buckets c small in
+        let had : (r.bucket c).hold ≡ Some hold = holder_of c small hold mine refl in
+        record {
+          chained = b.chained;
+          listed = record { free = b.listed.free; retired = b.listed.retired; moved = subst (λ z. IsPath (λ s. m (Chain s)) (link_of (moved_of z)) (r.bucket c).moved) had b.listed.moved };
+          roles = record { once = λ x. subst (λ z. times x (r.bucket c).chain + times x (r.bucket c).free + times x (r.bucket c).retired + times x (r.bucket c).moved + times x (option_to_list (taken_of z)) + times x (option_to_list (unlinked_of z)) ≡ cond (is_slot_of capacities c x) 1 0) had (b.roles.once x) };
+          mapped = b.mapped;
+          locked = locked_by hold new8 mine refl m refl w8 refl refl;
+          known = record { known = λ other field number is found. b.known.known hold field number had (let e : new8 ≡ other = cc in subst (λ (z : Hold). known_in z.known field ≡ Some number) (sym e) found) };
+          ages = record { chain = b.ages.chain; taken = λ s is. b.ages.taken s (ap taken_of had ∙ is); retired = b.ages.retired; moved = b.ages.moved; unlinked = λ s is. b.ages.unlinked s (ap unlinked_of had ∙ is) };
+          counted = counted_still capacities c m h vs id v w8 at refl b.counted;
+          clean = clean_still c w8 refl (r.bucket c) (Some new8) (λ other is yes s of p j u section gone there inside class. absurd (no_section small j u section there inside class)) b.clean;
+          answered = answered_still capacities c m h vs id v w8 at refl m (r.bucket c) (λ s _. (refl, refl, refl, refl)) b.roles b.answered;
+        })
+        (λ d _ ne. record { words = same_words capacities d m; marks = same_marks capacities d h; view = elsewhere_held d hold new8 mine refl ne w8 refl refl refl })
+
+  -- H9
+  module _ (hold : Hold) (mine : v.hold ≡ Some hold) (field : Field) (of : IsOfClass capacities hold.class field) (see : Bool) where
+    abbrev new9 : Hold
+    new9 = knowing hold field (m field)
+
+    abbrev w9 : View
+    w9 = record v { hold = Some new9; seen = cond see h v.seen }
+
+    known9 : (other : Field) (number : ℕ) → ((f : Field) (n : ℕ) → known_in hold.known f ≡ Some n → IsOfClass capacities hold.class f × (m f ≡ n)) → known_in new9.known other ≡ Some number → IsOfClass capacities hold.class other × (m other ≡ number)
+    known9 other number old found = known_case (same_field field other) refl found
+      where
+        known_case : (t : Bool) → same_field field other ≡ t → cond t (Some (m field)) (known_in hold.known other) ≡ Some number → IsOfClass capacities hold.class other × (m other ≡ number)
+        known_case true same e = let q : field ≡ other = same_is field other same in (subst (IsOfClass capacities hold.class) q of, ap m (sym q) ∙ cc)
+        known_case false same e = old other number e
+
+    seen9 : AreSeen (set vs id w9) h
+    seen9 = seen_case see refl
+      where
+        seen_case : (t : Bool) → see ≡ t → AreSeen (set vs id w9) h
+        seen_case true is = seen_whole vs id v w9 at h h (ap (λ b. cond b h v.seen) is) (prefix_self h) r.seen
+        seen_case false is = seen_same vs id v w9 at h (ap (λ b. cond b h v.seen) is) r.seen
+
+    seats9 : SeatsRule capacities places tickets m (set vs id w9) h
+    seats9 =
+        record {
+          seen = seen9;
+          apart = apart_same vs id v w9 at places (record { place = refl; places = refl; joined = refl }) r.apart;
+          owned = subst (AreOwned (set vs id w9)) (append-nil h) (owned_same vs id v w9 at h [] (record { place = refl; places = refl; joined = refl }) refl no_marks r.owned);
+          sections = open_same vs id v w9 at h h (updates_of h) (updates_of h) refl refl refl (section_back v w9 refl) (section_forth v w9 refl) (λ p. refl) (λ p. refl) (omega arith) r.sections;
+          held = held_still vs id v w9 at (λ other is. let e : new9 ≡ other = cc in (subst (λ (z : Hold). z.class < 64) e (class_small hold mine), works hold mine)) r.held;
+          turned = turned_same vs id v w9 at m m (length (updates_of h)) refl refl (λ turn held is had. (new9, refl)) r.turned;
+          tickets_are = tickets_same capacities places tickets m vs h r id v w9 at m refl;
+          legal = r.legal;
+          reuse = r.reuse;
+        }
+
+    pub law9 : MemoryRule capacities places tickets m (set vs id w9) h
+    law9 = after_step capacities places tickets m vs h r id v w9 at m h seats9 hold.class (held_bucket hold new9)
+        (λ small.
+        let c : ℕ = hold.class in
+        let b = r.buckets c small in
+        let had : (r.bucket c).hold ≡ Some hold = holder_of c small hold mine refl in
+        record {
+          chained = b.chained;
+          listed = record { free = b.listed.free; retired = b.listed.retired; moved = subst (λ z. IsPath (λ s. m (Chain s)) (link_of (moved_of z)) (r.bucket c).moved) had b.listed.moved };
+          roles = record { once = λ x. subst (λ z. times x (r.bucket c).chain + times x (r.bucket c).free + times x (r.bucket c).retired + times x (r.bucket c).moved + times x (option_to_list (taken_of z)) + times x (option_to_list (unlinked_of z)) ≡ cond (is_slot_of capacities c x) 1 0) had (b.roles.once x) };
+          mapped = b.mapped;
+          locked = locked_by hold new9 mine refl m refl w9 refl refl;
+          known = record { known = λ other f number is found. let e : new9 ≡ other = cc in known9 f number (λ g n has. b.known.known hold g n had has) (subst (λ (z : Hold). known_in z.known f ≡ Some number) (sym e) found) };
+          ages = record { chain = b.ages.chain; taken = λ s is. b.ages.taken s (ap taken_of had ∙ is); retired = b.ages.retired; moved = b.ages.moved; unlinked = λ s is. b.ages.unlinked s (ap unlinked_of had ∙ is) };
+          counted = counted_still capacities c m h vs id v w9 at refl b.counted;
+          clean = clean_still c w9 refl (r.bucket c) (Some new9) (λ other is yes s of_c. let e : new9 ≡ other = cc in b.clean.clear hold had (ap (λ (z : Hold). z.clear) e ∙ yes) s of_c) b.clean;
+          answered = answered_still capacities c m h vs id v w9 at refl m (r.bucket c) (λ s _. (refl, refl, refl, refl)) b.roles b.answered;
+        })
+        (λ d _ ne. record { words = same_words capacities d m; marks = same_marks capacities d h; view = elsewhere_held d hold new9 mine refl ne w9 refl refl refl })
+
+  -- H12, where the front was the even number
+  module _ (hold : Hold) (even : ℕ) (needs : Needs12 v hold even) (found : m Front ≡ even) where
+    abbrev turn12 : Turn
+    turn12 = record { found = even; stored = false }
+
+    abbrev w12 : View
+    w12 = record v { turn = Some turn12 }
+
+    abbrev m12 : Memory
+    m12 = stored m Front (even + 1)
+
+    turned12 : IsTurned m12 (set vs id w12) (length (updates_of h))
+    turned12 = turn_case r.turned
+      where
+        turn_case : IsTurned m vs (length (updates_of h)) → IsTurned m12 (set vs id w12) (length (updates_of h))
+        turn_case (inl free) = inr (
+          id,
+          w12,
+          turn12,
+          hold,
+          set_here vs id w12 (at_below vs id v at),
+          refl,
+          needs.0,
+          refl,
+          (let a = free.0 in omega arith),
+          λ j u ne there. each_set (λ k z. k ≢ id → HasNoTurn z) vs id w12 (λ f. absurd (f refl)) (λ k z far e _. free.1 k z e) j u there ne,
+        )
+        turn_case (inr odd) = absurd (let a = odd.7 in let b = odd.8 in let z = needs.1 in parity odd.2.stored odd.2.found b a)
+          where
+            parity : (t : Bool) (n : ℕ) → n + cond t 2 0 ≡ 2 * length (updates_of h) → m Front ≡ n + 1 → ⊥
+            parity true n b a = let z = needs.1 in omega arith
+            parity false n b a = let z = needs.1 in omega arith
+
+    pub law12 : MemoryRule capacities places tickets m12 (set vs id w12) h
+    law12 = after_quiet capacities places tickets m vs h r id v w12 at m12 h
+        (record {
+          seen = seen_same vs id v w12 at h refl r.seen;
+          apart = apart_same vs id v w12 at places (record { place = refl; places = refl; joined = refl }) r.apart;
+          owned = subst (AreOwned (set vs id w12)) (append-nil h) (owned_same vs id v w12 at h [] (record { place = refl; places = refl; joined = refl }) refl no_marks r.owned);
+          sections = open_same vs id v w12 at h h (updates_of h) (updates_of h) refl refl refl (section_back v w12 refl) (section_forth v w12 refl) (λ p. refl) (λ p. refl) (omega arith) r.sections;
+          held = held_still vs id v w12 at (λ other is. r.held.held id v other at is) r.held;
+          turned = turned12;
+          tickets_are = tickets_same capacities places tickets m vs h r id v w12 at m12 refl;
+          legal = r.legal;
+          reuse = r.reuse;
+        })
+        (λ d _. record { words = front_words capacities d m (even + 1); marks = same_marks capacities d h; view = record { place = refl; section = same_section d v.section; hold = same_hold d v.hold } })
+
+  -- H16
+  module _ (even : ℕ) (needs : Needs16 v even) where
+    abbrev w16 : View
+    w16 = after16 v
+
+    abbrev m16 : Memory
+    m16 = stored m Front (even + 2)
+
+    turned16 : IsTurned m16 (set vs id w16) (length (updates_of h))
+    turned16 = turn_case r.turned
+      where
+        turn_case : IsTurned m vs (length (updates_of h)) → IsTurned m16 (set vs id w16) (length (updates_of h))
+        turn_case (inl free) = absurd (let z : Some (record { found = even; stored = true }) ≡ None = sym needs ∙ free.1 id v at in cc)
+        turn_case (inr odd) =
+            let me : id ≡ odd.0 = dite (ℕ_discrete id odd.0) (λ q. q) (λ q. absurd (let z : Some (record { found = even; stored = true }) ≡ None = sym needs ∙ odd.9 id v q at in cc)) in
+            let same : v ≡ odd.1 = at_one vs id v odd.1 at (subst (λ k. get_elem? vs k ≡ some odd.1) (sym me) odd.4) in
+            let turn : Some (record { found = even; stored = true }) ≡ Some odd.2 = sym needs ∙ ap (λ (z : View). z.turn) same ∙ odd.5 in
+            let by : updates_by (record { found = even; stored = true }) ≡ updates_by odd.2 = ap (λ (o : Option Turn). turn_updates o) turn in
+            inl (
+              (let b = odd.8 in omega arith),
+              λ j u there. each_set (λ k z. HasNoTurn z) vs id w16 refl (λ k z far e. odd.9 k z (λ f. far (f ∙ sym me)) e) j u there,
+            )
+          where
+            turn_updates : Option Turn → ℕ
+            turn_updates None = 0
+            turn_updates (Some t) = updates_by t
+
+    pub law16 : MemoryRule capacities places tickets m16 (set vs id w16) h
+    law16 = after_quiet capacities places tickets m vs h r id v w16 at m16 h
+        (record {
+          seen = seen_same vs id v w16 at h refl r.seen;
+          apart = apart_same vs id v w16 at places (record { place = refl; places = refl; joined = refl }) r.apart;
+          owned = subst (AreOwned (set vs id w16)) (append-nil h) (owned_same vs id v w16 at h [] (record { place = refl; places = refl; joined = refl }) refl no_marks r.owned);
+          sections = open_same vs id v w16 at h h (updates_of h) (updates_of h) refl refl refl (section_back v w16 refl) (section_forth v w16 refl) (λ p. refl) (λ p. refl) (omega arith) r.sections;
+          held = held_still vs id v w16 at (λ other is. r.held.held id v other at is) r.held;
+          turned = turned16;
+          tickets_are = tickets_same capacities places tickets m vs h r id v w16 at m16 refl;
+          legal = r.legal;
+          reuse = r.reuse;
+        })
+        (λ d _. record { words = front_words capacities d m (even + 2); marks = same_marks capacities d h; view = record { place = refl; section = same_section d v.section; hold = same_hold d v.hold } })

@@ -1,0 +1,501 @@
+-- The kinds of step on the free list, the retired list and the slot taken.
+use Rattle.std.proofs.Common.{◌≡◌, ◌≢◌, ℕ, ◌+◌, ◌%◌, ◌<◌, ◌≤◌, Bool, true, false, cond, List, [], ◌∷◌, ◌++◌, length, take, set, Some, None, refl, sym, ap, subst, ◌∙◌, inl, inr, arith, ne_eqb, append-nil, option_to_list}
+use Rattle.std.specs.List.{AllByRecursion}
+use Rattle.std.specs.FinMap as finite
+use Rattle.std.proofs.Math.Seq.{take-append_seam}
+use Rattle.std.proofs.lemmas.List.{take-append-le}
+use mathlib.Core.Logic.{dite}
+use mathlib.Core.Option.{some}
+use native.Mathlib.Decide.{ℕ_discrete}
+use lib.ListN.{get_elem?}
+use Rattle.prcu_model.specs.declared.mark.Mark.{Mark}
+use Rattle.prcu_model.specs.declared.mark.Mark.TheVariants.{Given}
+use Rattle.prcu_model.specs.declared.operation.Update.{Update}
+use Rattle.prcu_model.specs.Dictionary.{map_of}
+use Rattle.prcu_model.specs.History.{IsLegal}
+use Rattle.hash_core.specs.declared.words.Field.{Field}
+use Rattle.hash_core.specs.declared.words.Field.TheVariants.{Front, Lock, Readers, Head, Free, Retired, Key, Value, Next, Chain}
+use Rattle.hash_core.specs.declared.view.Section.{Section}
+use Rattle.hash_core.specs.declared.view.Hold.{Hold}
+use Rattle.hash_core.specs.declared.view.View.{View}
+use Rattle.hash_core.specs.Lists.{times, IsPath, total}
+use Rattle.hash_core.specs.Memory.{Memory, same_field, stored}
+use Rattle.hash_core.specs.Slots.{is_slot_of, IsOfClass}
+use Rattle.hash_core.specs.Marks.{updates_of, Open, open_at, gone_at, IsGone, ReuseByClass}
+use Rattle.hash_core.specs.Known.{known_in, knowing}
+use Rattle.hash_core.specs.Buckets.{Bucket, IsKnown, IsFreeOfReaders, taken_of, unlinked_of, moved_of, link_of}
+use Rattle.hash_core.specs.Readers.{AreAnswered, WillAnswer, WasSaid}
+use Rattle.hash_core.specs.Seats.{IsTurned}
+use Rattle.hash_core.specs.Steps.{NeedsTake, after_take, NeedsRefill, after_refill, NeedsMove, after_move, NeedsPush, after_push, NeedsChain, after_chain, IsFieldOf, Needs11, after11}
+use Rattle.hash_core.specs.Rule.{BucketRule, MemoryRule}
+use Rattle.hash_core.proofs.Lists.{at_below, at_end, each_set, all_change, all_from_times, times_here}
+use Rattle.hash_core.proofs.Paths.{path_cons, path_none, IsPath-same, seek-same, HaveDistinctKeys-same}
+use Rattle.hash_core.proofs.MarkLists.{updates_of-append}
+use Rattle.hash_core.proofs.Adds.{open_at-same, gone_at-given_here, gone_at-given_other}
+use Rattle.hash_core.proofs.Classes.{one_class, slot_within}
+use Rattle.hash_core.proofs.Frames.{SameMarks, free_slot, retired_slot, taken_slot, unlinked_slot}
+use Rattle.hash_core.proofs.Stores.{class_words, stored_here, same_self, same_is}
+use Rattle.hash_core.proofs.SeatFrames.{seen_whole, apart_same, owned_same, open_same, held_still, turned_same}
+use Rattle.hash_core.proofs.Quiet.{same_marks, seats_same, section_back, section_forth, tickets_same}
+use Rattle.hash_core.proofs.Sections.{entered_at-append}
+use Rattle.hash_core.proofs.Locks.{counted_still, free_still, answered_still, all_still, holder_of, class_small, works, locked_by, elsewhere_held, clean_still}
+use Rattle.hash_core.proofs.Ways.{KeepsWays, will_still}
+use Rattle.hash_core.proofs.Whole.{SeatsRule, after_step}
+
+module _ (capacities : List ℕ) (places tickets : ℕ) (m : Memory) (vs : List View) (h : List Mark) (r : MemoryRule capacities places tickets m vs h) (id : ℕ) (v : View) (at : get_elem? vs id ≡ some v) (hold : Hold) (mine : v.hold ≡ Some hold) where
+  abbrev c : ℕ
+  c = hold.class
+
+  abbrev bucket : Bucket
+  bucket = r.bucket hold.class
+
+  small : hold.class < 64
+  small = class_small capacities places tickets m vs h r id v at hold mine
+
+  pub rule : BucketRule capacities hold.class m h (updates_of h) vs (r.bucket hold.class)
+  rule = r.buckets hold.class small
+
+  pub had : (r.bucket hold.class).hold ≡ Some hold
+  had = holder_of capacities places tickets m vs h r id v at hold.class small hold mine refl
+
+  -- what the holder knows is so
+  pub is_known : (field : Field) (number : ℕ) → known_in hold.known field ≡ Some number → IsOfClass capacities hold.class field × (m field ≡ number)
+  is_known field number found = rule.known.known hold field number had found
+
+  -- what it knows after a store
+  pub known_after : (field : Field) (number : ℕ) → IsOfClass capacities hold.class field → (new : Hold) → new.known ≡ (knowing hold field number).known → IsKnown capacities hold.class (stored m field number) (Some new)
+  known_after field number of new same = record {
+    known = λ other f n is found.
+        let e : new ≡ other = cc in
+        let there : known_in (knowing hold field number).known f ≡ Some n = ap (λ k. known_in k f) (sym same) ∙ ap (λ (z : Hold). known_in z.known f) e ∙ found in
+        known_case f n (same_field field f) refl there;
+  }
+    where
+      known_case : (f : Field) (n : ℕ) (t : Bool) → same_field field f ≡ t → cond t (Some number) (known_in hold.known f) ≡ Some n → IsOfClass capacities hold.class f × (stored m field number f ≡ n)
+      known_case f n true is e = let q : field ≡ f = same_is field f is in (subst (IsOfClass capacities hold.class) q of, ap (λ t. cond t number (m f)) is ∙ cc)
+      known_case f n false is e = let k = is_known f n e in (k.0, ap (λ t. cond t number (m f)) is ∙ k.1)
+
+  -- the slot roles, by what the holder has in hand
+  pub roles_by : (x : ℕ) → times x (r.bucket hold.class).chain + times x (r.bucket hold.class).free + times x (r.bucket hold.class).retired + times x (r.bucket hold.class).moved + times x (option_to_list hold.taken) + times x (option_to_list hold.unlinked) ≡ cond (is_slot_of capacities hold.class x) 1 0
+  roles_by x = subst (λ z. times x (r.bucket hold.class).chain + times x (r.bucket hold.class).free + times x (r.bucket hold.class).retired + times x (r.bucket hold.class).moved + times x (option_to_list (taken_of z)) + times x (option_to_list (unlinked_of z)) ≡ cond (is_slot_of capacities hold.class x) 1 0) had (rule.roles.once x)
+
+  pub moved_by : IsPath (λ s. m (Chain s)) (link_of hold.moved) (r.bucket hold.class).moved
+  moved_by = subst (λ z. IsPath (λ s. m (Chain s)) (link_of (moved_of z)) (r.bucket hold.class).moved) had rule.listed.moved
+
+  -- a step that leaves no mark, and only changes what the holder knows and has in hand
+  seats_held : (new : Hold) → new.class ≡ hold.class → (m' : Memory) → m' Front ≡ m Front → SeatsRule capacities places tickets m' (set vs id (record v { hold = Some new })) h
+  seats_held new class m' front =
+      let w : View = record v { hold = Some new } in
+      seats_same capacities places tickets m vs h r id v w at m'
+      (record {
+        places = record { place = refl; places = refl; joined = refl };
+        tickets = refl;
+        sections = refl;
+        back = section_back v w refl;
+        forth = section_forth v w refl;
+        turn = refl;
+        kept = λ turn held is had_it. (new, refl);
+        held = λ other is. let e : new ≡ other = cc in (subst (λ (z : Hold). z.class < 64) e (subst (λ z. z < 64) (sym class) small), works capacities places tickets m vs h r id v at hold mine);
+        own = refl;
+      }) refl front
+
+  -- readers' answers, where the slots on their ways stay
+  answered_by : (w : View) → w.section ≡ v.section → (m' : Memory) (chain' : List ℕ) → ((section : Section) → KeepsWays capacities hold.class m m' h h (updates_of h) (updates_of h) (r.bucket hold.class).chain chain' section) → AreAnswered capacities hold.class m' h (updates_of h) (set vs id w) chain'
+  answered_by w same m' chain' keeps =
+      let us : List Update = updates_of h in
+      let chain : List ℕ = (r.bucket hold.class).chain in
+      let will : (section : Section) → WillAnswer capacities hold.class m h us chain section section.stand → WillAnswer capacities hold.class m' h us chain' section section.stand = λ section. will_still capacities hold.class m m' h h us us chain chain' section (keeps section) section.stand in
+      record {
+        readers = λ j u section there is class. each_set (λ k z. z.section ≡ Some section → WillAnswer capacities hold.class m' h us chain' section section.stand) vs id w
+            (λ yes. will section (rule.answered.readers id v section at (sym same ∙ yes) class)) (λ k z far e theirs. will section (rule.answered.readers k z section e theirs class)) j u there is;
+        loaded = λ j u section value there is class read. each_set (λ k z. z.section ≡ Some section → WasSaid us section.key section.from (Some value)) vs id w
+            (λ yes. rule.answered.loaded id v section value at (sym same ∙ yes) class read) (λ k z far e theirs. rule.answered.loaded k z section value e theirs class read) j u there is;
+      }
+
+  -- H10, refill
+  module _ (slot : ℕ) (needs : NeedsRefill v hold slot) where
+    abbrev new_refill : Hold
+    new_refill = record (knowing hold (Free hold.class) slot) { moved = None }
+
+    abbrev m_refill : Memory
+    m_refill = stored m (Free hold.class) slot
+
+    no_free : (r.bucket hold.class).free ≡ []
+    no_free = path_none (λ s. m (Chain s)) (r.bucket hold.class).free (subst (λ z. IsPath (λ s. m (Chain s)) z (r.bucket hold.class).free) (is_known (Free hold.class) 0 needs.empty).1 rule.listed.free)
+
+    abbrev b_refill : Bucket
+    b_refill = record (r.bucket hold.class) { free = (r.bucket hold.class).moved; moved = []; hold = Some new_refill }
+
+    pub law_refill : MemoryRule capacities places tickets m_refill (set vs id (after_refill v hold slot)) h
+    law_refill =
+        let w : View = after_refill v hold slot in
+        after_step capacities places tickets m vs h r id v w at m_refill h (seats_held new_refill refl m_refill refl) hold.class b_refill
+        (λ _. record {
+          chained = record { path = rule.chained.path; classes = rule.chained.classes; distinct = rule.chained.distinct };
+          listed = record {
+            free = subst (λ z. IsPath (λ s. m (Chain s)) z (r.bucket hold.class).moved) (ap link_of needs.moved ∙ sym (stored_here m (Free hold.class) slot (same_self (Free hold.class)))) moved_by;
+            retired = rule.listed.retired;
+            moved = refl;
+          };
+          roles = record { once = λ x. let a = roles_by x in let n = ap (times x) no_free in omega arith };
+          mapped = record { answers = rule.mapped.answers };
+          locked = locked_by capacities places tickets m vs h r id v at hold new_refill mine refl m_refill refl w refl refl;
+          known = known_after (Free hold.class) slot refl new_refill refl;
+          ages = record { chain = rule.ages.chain; taken = λ s is. rule.ages.taken s (ap taken_of had ∙ is); retired = rule.ages.retired; moved = tt; unlinked = λ s is. rule.ages.unlinked s (ap unlinked_of had ∙ is) };
+          counted = record { readers = (counted_still capacities hold.class m h vs id v w at refl rule.counted).readers };
+          clean = (let still = clean_still capacities places tickets m vs h r id v at hold.class w refl (r.bucket hold.class) (Some new_refill) (λ other is yes s of. let e : new_refill ≡ other = cc in rule.clean.clear hold had (ap (λ (z : Hold). z.clear) e ∙ yes) s of) rule.clean in record { free = still.moved; moved = tt; clear = still.clear });
+          answered = answered_still capacities hold.class m h vs id v w at refl m_refill (r.bucket hold.class) (λ s _. (refl, refl, refl, refl)) rule.roles rule.answered;
+        })
+        (λ d _ ne. record { words = class_words capacities hold.class d m slot ne (Free hold.class) refl; marks = same_marks capacities d h; view = elsewhere_held capacities places tickets m vs h r id v at d hold new_refill mine refl ne w refl refl refl })
+
+  -- H10, move
+  module _ (slot : ℕ) (needs : NeedsMove v hold slot) where
+    abbrev new_move : Hold
+    new_move = record (knowing hold (Retired hold.class) 0) { moved = Some slot }
+
+    abbrev m_move : Memory
+    m_move = stored m (Retired hold.class) 0
+
+    no_moved : (r.bucket hold.class).moved ≡ []
+    no_moved = path_none (λ s. m (Chain s)) (r.bucket hold.class).moved (subst (λ z. IsPath (λ s. m (Chain s)) (link_of z) (r.bucket hold.class).moved) needs.empty moved_by)
+
+    abbrev b_move : Bucket
+    b_move = record (r.bucket hold.class) { retired = []; moved = (r.bucket hold.class).retired; hold = Some new_move }
+
+    pub law_move : MemoryRule capacities places tickets m_move (set vs id (after_move v hold slot)) h
+    law_move =
+        let w : View = after_move v hold slot in
+        after_step capacities places tickets m vs h r id v w at m_move h (seats_held new_move refl m_move refl) hold.class b_move
+        (λ _. record {
+          chained = record { path = rule.chained.path; classes = rule.chained.classes; distinct = rule.chained.distinct };
+          listed = record {
+            free = rule.listed.free;
+            retired = stored_here m (Retired hold.class) 0 (same_self (Retired hold.class));
+            moved = subst (λ z. IsPath (λ s. m (Chain s)) z (r.bucket hold.class).retired) (is_known (Retired hold.class) slot needs.first).1 rule.listed.retired;
+          };
+          roles = record { once = λ x. let a = roles_by x in let n = ap (times x) no_moved in omega arith };
+          mapped = record { answers = rule.mapped.answers };
+          locked = locked_by capacities places tickets m vs h r id v at hold new_move mine refl m_move refl w refl refl;
+          known = known_after (Retired hold.class) 0 refl new_move refl;
+          ages = record { chain = rule.ages.chain; taken = λ s is. rule.ages.taken s (ap taken_of had ∙ is); retired = tt; moved = rule.ages.retired; unlinked = λ s is. rule.ages.unlinked s (ap unlinked_of had ∙ is) };
+          counted = record { readers = (counted_still capacities hold.class m h vs id v w at refl rule.counted).readers };
+          clean = (let still = clean_still capacities places tickets m vs h r id v at hold.class w refl (r.bucket hold.class) (Some new_move) (λ other is yes s of. rule.clean.clear hold had needs.clear s of) rule.clean in
+              record {
+                free = still.free;
+                moved = all_from_times (IsFreeOfReaders hold.class h (set vs id w)) (r.bucket hold.class).retired
+                    (λ s there. free_still capacities hold.class m h vs id v w at refl s (rule.clean.clear hold had needs.clear s (retired_slot capacities hold.class (r.bucket hold.class) rule.roles s there)));
+                clear = still.clear;
+              });
+          answered = answered_still capacities hold.class m h vs id v w at refl m_move (r.bucket hold.class) (λ s _. (refl, refl, refl, refl)) rule.roles rule.answered;
+        })
+        (λ d _ ne. record { words = class_words capacities hold.class d m 0 ne (Retired hold.class) refl; marks = same_marks capacities d h; view = elsewhere_held capacities places tickets m vs h r id v at d hold new_move mine refl ne w refl refl refl })
+
+  -- H10, push
+  module _ (slot first : ℕ) (needs : NeedsPush v hold slot first) where
+    abbrev new_push : Hold
+    new_push = record (knowing hold (Retired hold.class) slot) { unlinked = None }
+
+    abbrev m_push : Memory
+    m_push = stored m (Retired hold.class) slot
+
+    slot_of_push : is_slot_of capacities hold.class slot ≡ true
+    slot_of_push = unlinked_slot capacities hold.class (r.bucket hold.class) rule.roles slot (ap unlinked_of had ∙ needs.unlinked)
+
+    abbrev b_push : Bucket
+    b_push = record (r.bucket hold.class) { retired = slot ∷ (r.bucket hold.class).retired; hold = Some new_push }
+
+    pub law_push : MemoryRule capacities places tickets m_push (set vs id (after_push v hold slot)) h
+    law_push =
+        let w : View = after_push v hold slot in
+        after_step capacities places tickets m vs h r id v w at m_push h (seats_held new_push refl m_push refl) hold.class b_push
+        (λ _. record {
+          chained = record { path = rule.chained.path; classes = rule.chained.classes; distinct = rule.chained.distinct };
+          listed = record {
+            free = rule.listed.free;
+            retired = (stored_here m (Retired hold.class) slot (same_self (Retired hold.class)), (slot_within capacities hold.class slot slot_of_push).0, subst (λ z. IsPath (λ s. m (Chain s)) z (r.bucket hold.class).retired) ((is_known (Retired hold.class) first needs.first_is).1 ∙ sym (is_known (Chain slot) first needs.chained).1) rule.listed.retired);
+            moved = moved_by;
+          };
+          roles = record { once = λ x. let a = roles_by x in let n = ap (λ o. times x (option_to_list o)) needs.unlinked in omega arith };
+          mapped = record { answers = rule.mapped.answers };
+          locked = locked_by capacities places tickets m vs h r id v at hold new_push mine refl m_push refl w refl refl;
+          known = known_after (Retired hold.class) slot refl new_push refl;
+          ages = record { chain = rule.ages.chain; taken = λ s is. rule.ages.taken s (ap taken_of had ∙ is); retired = (rule.ages.unlinked slot (ap unlinked_of had ∙ needs.unlinked), rule.ages.retired); moved = rule.ages.moved; unlinked = λ s is. absurd (cc) };
+          counted = record { readers = (counted_still capacities hold.class m h vs id v w at refl rule.counted).readers };
+          clean = (let still = clean_still capacities places tickets m vs h r id v at hold.class w refl (r.bucket hold.class) (Some new_push) (λ other is yes s of. let e : new_push ≡ other = cc in rule.clean.clear hold had (ap (λ (z : Hold). z.clear) e ∙ yes) s of) rule.clean in record { free = still.free; moved = still.moved; clear = still.clear });
+          answered = answered_still capacities hold.class m h vs id v w at refl m_push (r.bucket hold.class) (λ s _. (refl, refl, refl, refl)) rule.roles rule.answered;
+        })
+        (λ d _ ne. record { words = class_words capacities hold.class d m slot ne (Retired hold.class) refl; marks = same_marks capacities d h; view = elsewhere_held capacities places tickets m vs h r id v at d hold new_push mine refl ne w refl refl refl })
+
+  -- H10, chain
+  module _ (slot number : ℕ) (needs : NeedsChain v hold slot) where
+    abbrev new_chain : Hold
+    new_chain = knowing hold (Chain slot) number
+
+    abbrev m_chain : Memory
+    m_chain = stored m (Chain slot) number
+
+    slot_of_chain : is_slot_of capacities hold.class slot ≡ true
+    slot_of_chain = unlinked_slot capacities hold.class (r.bucket hold.class) rule.roles slot (ap unlinked_of had ∙ needs.1)
+
+    -- the slot in hand is on no list
+    chain_else : (xs : List ℕ) → ((x : ℕ) → times x xs + times x (option_to_list hold.unlinked) ≤ 1) → (s : ℕ) → 1 ≤ times s xs → m_chain (Chain s) ≡ m (Chain s)
+    chain_else xs once s there = ap (λ t. cond t number (m (Chain s))) (ne_eqb slot s (λ e.
+        let a = once slot in
+        let b : times slot (option_to_list hold.unlinked) ≡ 1 = ap (λ o. times slot (option_to_list o)) needs.1 ∙ (let t = times_here slot [] in omega arith) in
+        let d : 1 ≤ times slot xs = subst (λ z. 1 ≤ times z xs) (sym e) there in omega arith))
+
+    at_most : (x n : ℕ) → n ≡ cond (is_slot_of capacities hold.class x) 1 0 → n ≤ 1
+    at_most x n e = elim (is_slot_of capacities hold.class x) as (λ t. n ≡ cond t 1 0 → n ≤ 1) [ true ↦ λ f. omega arith | false ↦ λ f. omega arith ] e
+
+    pub law_chain : MemoryRule capacities places tickets m_chain (set vs id (after_chain v hold slot number)) h
+    law_chain =
+        let w : View = after_chain v hold slot number in
+        after_step capacities places tickets m vs h r id v w at m_chain h (seats_held new_chain refl m_chain refl) hold.class (record (r.bucket hold.class) { hold = Some new_chain })
+        (λ _. record {
+          chained = record { path = rule.chained.path; classes = rule.chained.classes; distinct = rule.chained.distinct };
+          listed = record {
+            free = IsPath-same (λ s. m (Chain s)) (λ s. m_chain (Chain s)) (m (Free hold.class)) (r.bucket hold.class).free (chain_else (r.bucket hold.class).free (λ x. let a = roles_by x in let l = at_most x _ a in omega arith)) rule.listed.free;
+            retired = IsPath-same (λ s. m (Chain s)) (λ s. m_chain (Chain s)) (m (Retired hold.class)) (r.bucket hold.class).retired (chain_else (r.bucket hold.class).retired (λ x. let a = roles_by x in let l = at_most x _ a in omega arith)) rule.listed.retired;
+            moved = IsPath-same (λ s. m (Chain s)) (λ s. m_chain (Chain s)) (link_of hold.moved) (r.bucket hold.class).moved (chain_else (r.bucket hold.class).moved (λ x. let a = roles_by x in let l = at_most x _ a in omega arith)) moved_by;
+          };
+          roles = record { once = roles_by };
+          mapped = record { answers = λ key class. rule.mapped.answers key class ∙ sym (seek-same m m_chain key (r.bucket hold.class).chain (λ s _. (refl, refl))) };
+          locked = locked_by capacities places tickets m vs h r id v at hold new_chain mine refl m_chain refl w refl refl;
+          known = known_after (Chain slot) number slot_of_chain new_chain refl;
+          ages = record { chain = rule.ages.chain; taken = λ s is. rule.ages.taken s (ap taken_of had ∙ is); retired = rule.ages.retired; moved = rule.ages.moved; unlinked = λ s is. rule.ages.unlinked s (ap unlinked_of had ∙ is) };
+          counted = record { readers = (counted_still capacities hold.class m h vs id v w at refl rule.counted).readers };
+          clean = clean_still capacities places tickets m vs h r id v at hold.class w refl (r.bucket hold.class) (Some new_chain) (λ other is yes s of. let e : new_chain ≡ other = cc in rule.clean.clear hold had (ap (λ (z : Hold). z.clear) e ∙ yes) s of) rule.clean;
+          answered = answered_by w refl m_chain (r.bucket hold.class).chain (λ section. record {
+            linked = λ t _. (refl, refl, refl);
+            old = λ t _ _. (refl, refl, refl);
+            held = λ t _ p. p;
+            joins = λ front rest e. (front, e);
+            said = λ answer s. s;
+          });
+        })
+        (λ d _ ne. record { words = class_words capacities hold.class d m number ne (Chain slot) slot_of_chain; marks = same_marks capacities d h; view = elsewhere_held capacities places tickets m vs h r id v at d hold new_chain mine refl ne w refl refl refl })
+
+  -- H11
+  module _ (slot : ℕ) (field : Field) (number : ℕ) (needs : Needs11 v hold slot field) where
+    abbrev new11 : Hold
+    new11 = knowing hold field number
+
+    abbrev m11 : Memory
+    m11 = stored m field number
+
+    slot_of11 : is_slot_of capacities hold.class slot ≡ true
+    slot_of11 = taken_slot capacities hold.class (r.bucket hold.class) rule.roles slot (ap taken_of had ∙ needs.taken)
+
+    of_class11 : (f : Field) → IsFieldOf slot f → IsOfClass capacities hold.class f
+    of_class11 (Key s) is = subst (λ z. is_slot_of capacities hold.class z ≡ true) (sym is) slot_of11
+    of_class11 (Value s) is = subst (λ z. is_slot_of capacities hold.class z ≡ true) (sym is) slot_of11
+    of_class11 (Next s) is = subst (λ z. is_slot_of capacities hold.class z ≡ true) (sym is) slot_of11
+    of_class11 _ is = absurd is
+
+    -- other slots keep what stands in them, and the class its words
+    else11 : (f : Field) → IsFieldOf slot f → (s : ℕ) → s ≢ slot → (stored m f number (Key s) ≡ m (Key s)) × (stored m f number (Value s) ≡ m (Value s)) × (stored m f number (Next s) ≡ m (Next s))
+    else11 (Key t) is s ne = (ap (λ b. cond b number (m (Key s))) (ne_eqb t s (λ e. ne (sym e ∙ is))), refl, refl)
+    else11 (Value t) is s ne = (refl, ap (λ b. cond b number (m (Value s))) (ne_eqb t s (λ e. ne (sym e ∙ is))), refl)
+    else11 (Next t) is s ne = (refl, refl, ap (λ b. cond b number (m (Next s))) (ne_eqb t s (λ e. ne (sym e ∙ is))))
+    else11 _ is s ne = absurd is
+
+    chains11 : (f : Field) → IsFieldOf slot f → (s : ℕ) → stored m f number (Chain s) ≡ m (Chain s)
+    chains11 (Key t) is s = refl
+    chains11 (Value t) is s = refl
+    chains11 (Next t) is s = refl
+    chains11 _ is s = absurd is
+
+    words11 : (f : Field) → IsFieldOf slot f → (d : ℕ) → (stored m f number (Lock d) ≡ m (Lock d)) × (stored m f number (Readers d) ≡ m (Readers d)) × (stored m f number (Head d) ≡ m (Head d)) × (stored m f number (Free d) ≡ m (Free d)) × (stored m f number (Retired d) ≡ m (Retired d)) × (stored m f number Front ≡ m Front)
+    words11 (Key t) is d = (refl, refl, refl, refl, refl, refl)
+    words11 (Value t) is d = (refl, refl, refl, refl, refl, refl)
+    words11 (Next t) is d = (refl, refl, refl, refl, refl, refl)
+    words11 _ is d = absurd is
+
+    at_most11 : (x n : ℕ) → n ≡ cond (is_slot_of capacities hold.class x) 1 0 → n ≤ 1
+    at_most11 x n e = elim (is_slot_of capacities hold.class x) as (λ t. n ≡ cond t 1 0 → n ≤ 1) [ true ↦ λ f. omega arith | false ↦ λ f. omega arith ] e
+
+    -- the slot taken isn't linked
+    linked11 : (s : ℕ) → 1 ≤ times s (r.bucket hold.class).chain → s ≢ slot
+    linked11 s there e =
+        let a = roles_by slot in
+        let l = at_most11 slot _ a in
+        let b : times slot (option_to_list hold.taken) ≡ 1 = ap (λ o. times slot (option_to_list o)) needs.taken ∙ (let t = times_here slot [] in omega arith) in
+        let d : 1 ≤ times slot (r.bucket hold.class).chain = subst (λ z. 1 ≤ times z (r.bucket hold.class).chain) e there in omega arith
+
+    pub law11 : MemoryRule capacities places tickets m11 (set vs id (after11 v hold field number)) h
+    law11 =
+        let w : View = after11 v hold field number in
+        let f = needs.field_is in
+        let c : ℕ = hold.class in
+        let chain : List ℕ = (r.bucket hold.class).chain in
+        after_step capacities places tickets m vs h r id v w at m11 h (seats_held new11 refl m11 (words11 field f c).5) hold.class (record (r.bucket hold.class) { hold = Some new11 })
+        (λ _. record {
+          chained = record {
+            path = subst (λ z. IsPath (λ s. m11 (Next s)) z chain) (sym (words11 field f c).2) (IsPath-same (λ s. m (Next s)) (λ s. m11 (Next s)) (m (Head c)) chain (λ s there. (else11 field f s (linked11 s there)).2) rule.chained.path);
+            classes = all_change (λ s. m (Key s) % 64 ≡ c) (λ s. m11 (Key s) % 64 ≡ c) chain (λ s there p. ap (λ n. n % 64) (else11 field f s (linked11 s there)).0 ∙ p) rule.chained.classes;
+            distinct = HaveDistinctKeys-same m m11 chain (λ s there. let q = else11 field f s (linked11 s there) in (q.0, q.1)) rule.chained.distinct;
+          };
+          listed = record {
+            free = subst (λ z. IsPath (λ s. m11 (Chain s)) z (r.bucket c).free) (sym (words11 field f c).3) (IsPath-same (λ s. m (Chain s)) (λ s. m11 (Chain s)) (m (Free c)) (r.bucket c).free (λ s _. chains11 field f s) rule.listed.free);
+            retired = subst (λ z. IsPath (λ s. m11 (Chain s)) z (r.bucket c).retired) (sym (words11 field f c).4) (IsPath-same (λ s. m (Chain s)) (λ s. m11 (Chain s)) (m (Retired c)) (r.bucket c).retired (λ s _. chains11 field f s) rule.listed.retired);
+            moved = IsPath-same (λ s. m (Chain s)) (λ s. m11 (Chain s)) (link_of hold.moved) (r.bucket c).moved (λ s _. chains11 field f s) moved_by;
+          };
+          roles = record { once = roles_by };
+          mapped = record { answers = λ key class. rule.mapped.answers key class ∙ sym (seek-same m m11 key chain (λ s there. let q = else11 field f s (linked11 s there) in (q.0, q.1))) };
+          locked = locked_by capacities places tickets m vs h r id v at hold new11 mine refl m11 (words11 field f c).0 w refl refl;
+          known = known_after field number (of_class11 field f) new11 refl;
+          ages = record { chain = rule.ages.chain; taken = λ s is. rule.ages.taken s (ap taken_of had ∙ is); retired = rule.ages.retired; moved = rule.ages.moved; unlinked = λ s is. rule.ages.unlinked s (ap unlinked_of had ∙ is) };
+          counted = record { readers = (words11 field f c).1 ∙ (counted_still capacities c m h vs id v w at refl rule.counted).readers };
+          clean = clean_still capacities places tickets m vs h r id v at c w refl (r.bucket c) (Some new11) (λ other is yes s of. let e : new11 ≡ other = cc in rule.clean.clear hold had (ap (λ (z : Hold). z.clear) e ∙ yes) s of) rule.clean;
+          answered = answered_by w refl m11 chain (λ section. record {
+            linked = λ t there. else11 field f t (linked11 t there);
+            old = λ t _ held. else11 field f t (λ e. absurd (let g : gone_at slot h ≡ None = rule.ages.taken slot (ap taken_of had ∙ needs.taken) in let z : gone_at slot h ≡ Some held.0 = subst (λ y. gone_at y h ≡ Some held.0) e held.1 in let q : None ≡ Some held.0 = sym g ∙ z in cc));
+            held = λ t _ p. p;
+            joins = λ front rest e. (front, e);
+            said = λ answer s. s;
+          });
+        })
+        (λ d _ ne. record { words = class_words capacities hold.class d m number ne field (of_class11 field f); marks = same_marks capacities d h; view = elsewhere_held capacities places tickets m vs h r id v at d hold new11 mine refl ne w refl refl refl })
+
+  -- H10, take
+  module _ (slot next : ℕ) (needs : NeedsTake v hold slot next) where
+    abbrev new_take : Hold
+    new_take = record (knowing hold (Free hold.class) next) { taken = Some slot }
+
+    abbrev m_take : Memory
+    m_take = stored m (Free hold.class) next
+
+    abbrev h_take : List Mark
+    h_take = h ++ Given slot ∷ []
+
+    abbrev w_take : View
+    w_take = after_take v hold slot next h
+
+    same_updates_take : updates_of h_take ≡ updates_of h
+    same_updates_take = updates_of-append h (Given slot ∷ []) ∙ append-nil (updates_of h)
+
+    first_free : (ss : List ℕ) × ((r.bucket hold.class).free ≡ slot ∷ ss) × IsPath (λ s. m (Chain s)) (m (Chain slot)) ss
+    first_free = path_cons (λ s. m (Chain s)) slot (r.bucket hold.class).free needs.some (subst (λ z. IsPath (λ s. m (Chain s)) z (r.bucket hold.class).free) (is_known (Free hold.class) slot needs.first).1 rule.listed.free)
+
+    abbrev others_free : List ℕ
+    others_free = first_free.0
+
+    slot_of_take : is_slot_of capacities hold.class slot ≡ true
+    slot_of_take = free_slot capacities hold.class (r.bucket hold.class) rule.roles slot (let t = times_here slot first_free.0 in let e = ap (times slot) first_free.1 in omega arith)
+
+    -- no section of the class holds the slot back
+    slot_clean : IsFreeOfReaders hold.class h vs slot
+    slot_clean = (subst (AllByRecursion (IsFreeOfReaders hold.class h vs)) first_free.1 rule.clean.free).0
+
+    others_clean : AllByRecursion (IsFreeOfReaders hold.class h vs) first_free.0
+    others_clean = (subst (AllByRecursion (IsFreeOfReaders hold.class h vs)) first_free.1 rule.clean.free).1
+
+    gone_take : (s : ℕ) → s ≢ slot → gone_at s h_take ≡ gone_at s h
+    gone_take s ne = gone_at-given_other h s slot (λ e. ne (sym e))
+
+    at_most_take : (x n : ℕ) → n ≡ cond (is_slot_of capacities hold.class x) 1 0 → n ≤ 1
+    at_most_take x n e = elim (is_slot_of capacities hold.class x) as (λ t. n ≡ cond t 1 0 → n ≤ 1) [ true ↦ λ f. omega arith | false ↦ λ f. omega arith ] e
+
+    -- the slot is in no other list
+    not_take : (xs : List ℕ) → ((x : ℕ) → times x xs + times x (r.bucket hold.class).free ≤ 1) → (s : ℕ) → 1 ≤ times s xs → s ≢ slot
+    not_take xs once s there e =
+        let a = once slot in
+        let t = times_here slot first_free.0 in
+        let f = ap (times slot) first_free.1 in
+        let d : 1 ≤ times slot xs = subst (λ z. 1 ≤ times z xs) e there in omega arith
+
+    still_free_take : (s : ℕ) → IsFreeOfReaders hold.class h vs s → IsFreeOfReaders hold.class h_take (set vs id w_take) s
+    still_free_take s free = dite (ℕ_discrete s slot)
+        (λ e. λ p j u section gone there is class. absurd (let g : gone_at slot h_take ≡ Some p = subst (λ z. gone_at z h_take ≡ Some p) e gone in let z : None ≡ Some p = sym (gone_at-given_here h slot) ∙ g in cc))
+        (λ ne. λ p j u section gone there is class. free_still capacities hold.class m h vs id v w_take at refl s free p j u section (sym (gone_take s ne) ∙ gone) there is class)
+
+    reuse_take : ReuseByClass capacities h_take
+    reuse_take j s d i p o given of gone there class =
+        elim (at_end h (Given slot) (Given s) j given) [
+          | inl old ↦
+              let below = at_below h j (Given s) old in
+              let same : take j h_take ≡ take j h = (let le : j ≤ length h = omega arith in take-append-le j h (Given slot ∷ []) le) in
+              r.reuse j s d i p o old of (ap (gone_at s) (sym same) ∙ gone) (ap (open_at p) (sym same) ∙ there) class
+          | inr new ↦
+              let e : slot ≡ s = (let z = new.1 in cc) in
+              let same : take j h_take ≡ h = ap (λ n. take n h_take) new.0 ∙ take-append_seam h (Given slot ∷ []) in
+              let q = r.sections.all p o (ap (open_at p) (sym same) ∙ there) in
+              let c_is : hold.class ≡ d = one_class capacities hold.class d slot slot_of_take (subst (λ z. is_slot_of capacities d z ≡ true) (sym e) of) in
+              let key : q.2.key % 64 ≡ hold.class = ap (λ (z : Open). z.key % 64) (sym q.6) ∙ class ∙ sym c_is in
+              let l = slot_clean i q.0 q.1 q.2 (ap (λ z. gone_at z h) e ∙ ap (gone_at s) (sym same) ∙ gone) q.3 q.5 key in
+              let at_is : o.at ≡ q.2.entered = ap (λ (z : Open). z.at) q.6 in omega arith
+        ]
+
+    same_marks_take : (d : ℕ) → d ≢ hold.class → SameMarks capacities d h h_take (updates_of h) (updates_of h_take)
+    same_marks_take d ne = record {
+      more = [];
+      longer = same_updates_take ∙ sym (append-nil _);
+      gone = λ s of. gone_take s (λ e. ne (one_class capacities d hold.class slot (subst (λ z. is_slot_of capacities d z ≡ true) e of) slot_of_take));
+      pairs = λ key class. ap (λ us. finite.get (map_of us) key) same_updates_take;
+    }
+
+    seats_take : SeatsRule capacities places tickets m_take (set vs id w_take) h_take
+    seats_take = record {
+      seen = seen_whole vs id v w_take at h h_take refl (Given slot ∷ [], refl) r.seen;
+      apart = apart_same vs id v w_take at places (record { place = refl; places = refl; joined = refl }) r.apart;
+      owned = owned_same vs id v w_take at h (Given slot ∷ []) (record { place = refl; places = refl; joined = refl }) refl (λ p. refl) r.owned;
+      sections = open_same vs id v w_take at h h_take (updates_of h) (updates_of h_take) refl refl refl (section_back v w_take refl) (section_forth v w_take refl) (open_at-same h (Given slot) tt) (λ p. let a = entered_at-append p h (Given slot ∷ []) in omega arith) (let n = ap length same_updates_take in omega arith) r.sections;
+      held = held_still vs id v w_take at (λ other is. let e : new_take ≡ other = cc in (subst (λ (z : Hold). z.class < 64) e small, works capacities places tickets m vs h r id v at hold mine)) r.held;
+      turned = subst (IsTurned m_take (set vs id w_take)) (sym (ap length same_updates_take)) (turned_same vs id v w_take at m m_take (length (updates_of h)) refl refl (λ turn held is had_it. (new_take, refl)) r.turned);
+      tickets_are = ap (λ us. length us + total (λ (z : View). z.tickets) (set vs id w_take)) same_updates_take ∙ tickets_same capacities places tickets m vs h r id v w_take at m_take refl;
+      legal = subst IsLegal (sym same_updates_take) r.legal;
+      reuse = reuse_take;
+    }
+
+    abbrev b_take : Bucket
+    b_take = record (r.bucket hold.class) { free = first_free.0; hold = Some new_take }
+
+    pub law_take : MemoryRule capacities places tickets m_take (set vs id (after_take v hold slot next h)) h_take
+    law_take =
+        let chain : List ℕ = (r.bucket hold.class).chain in
+        let us : List Update = updates_of h in
+        let us' : List Update = updates_of h_take in
+        let keeps : (section : Section) (j : ℕ) (u : View) → get_elem? vs j ≡ some u → u.section ≡ Some section → section.key % 64 ≡ hold.class → KeepsWays capacities hold.class m m_take h h_take us us' chain chain section = λ section j u there is class. record {
+          linked = λ t _. (refl, refl, refl);
+          old = λ t _ _. (refl, refl, refl);
+          held = λ t _ p. (p.0, gone_take t (λ e. absurd (let l = slot_clean p.0 j u section (subst (λ z. gone_at z h ≡ Some p.0) e p.1) there is class in let g = p.2 in omega arith)) ∙ p.1, p.2);
+          joins = λ front rest e. (front, e);
+          said = λ answer s. subst (λ z. WasSaid z section.key section.from answer) (sym same_updates_take) s;
+        } in
+        after_step capacities places tickets m vs h r id v w_take at m_take h_take seats_take hold.class b_take
+        (λ _. record {
+          chained = record { path = rule.chained.path; classes = rule.chained.classes; distinct = rule.chained.distinct };
+          listed = record {
+            free = subst (λ z. IsPath (λ s. m (Chain s)) z first_free.0) ((is_known (Chain slot) next needs.next_is).1 ∙ sym (stored_here m (Free hold.class) next (same_self (Free hold.class)))) first_free.2;
+            retired = rule.listed.retired;
+            moved = moved_by;
+          };
+          roles = record { once = λ x. let a = roles_by x in let n = ap (λ o. times x (option_to_list o)) needs.empty in let f = ap (times x) first_free.1 in omega arith };
+          mapped = record { answers = λ key class. ap (λ z. finite.get (map_of z) key) same_updates_take ∙ rule.mapped.answers key class };
+          locked = locked_by capacities places tickets m vs h r id v at hold new_take mine refl m_take refl w_take refl refl;
+          known = known_after (Free hold.class) next refl new_take refl;
+          ages = record {
+            chain = all_change (λ s. gone_at s h ≡ None) (λ s. gone_at s h_take ≡ None) chain (λ s there p. gone_take s (not_take chain (λ x. let a = roles_by x in let l = at_most_take x _ a in omega arith) s there) ∙ p) rule.ages.chain;
+            taken = λ s is. let e : slot ≡ s = cc in subst (λ z. gone_at z h_take ≡ None) e (gone_at-given_here h slot);
+            retired = all_change (IsGone h) (IsGone h_take) (r.bucket hold.class).retired (λ s there p. (p.0, gone_take s (not_take (r.bucket hold.class).retired (λ x. let a = roles_by x in let l = at_most_take x _ a in omega arith) s there) ∙ p.1)) rule.ages.retired;
+            moved = all_change (IsGone h) (IsGone h_take) (r.bucket hold.class).moved (λ s there p. (p.0, gone_take s (not_take (r.bucket hold.class).moved (λ x. let a = roles_by x in let l = at_most_take x _ a in omega arith) s there) ∙ p.1)) rule.ages.moved;
+            unlinked = λ s is.
+                let p = rule.ages.unlinked s (ap unlinked_of had ∙ is) in
+                (p.0, gone_take s (not_take (option_to_list hold.unlinked) (λ x. let a = roles_by x in let l = at_most_take x _ a in omega arith) s (let e : times s (option_to_list hold.unlinked) ≡ 1 = ap (λ o. times s (option_to_list o)) is ∙ (let t = times_here s [] in omega arith) in omega arith)) ∙ p.1);
+          };
+          counted = record { readers = (counted_still capacities hold.class m h vs id v w_take at refl rule.counted).readers };
+          clean = record {
+            free = all_still (IsFreeOfReaders hold.class h vs) (IsFreeOfReaders hold.class h_take (set vs id w_take)) first_free.0 still_free_take others_clean;
+            moved = all_still (IsFreeOfReaders hold.class h vs) (IsFreeOfReaders hold.class h_take (set vs id w_take)) (r.bucket hold.class).moved still_free_take rule.clean.moved;
+            clear = λ other is yes s of. let e : new_take ≡ other = cc in still_free_take s (rule.clean.clear hold had (ap (λ (z : Hold). z.clear) e ∙ yes) s of);
+          };
+          answered = record {
+            readers = λ j u section there is class. each_set (λ k z. z.section ≡ Some section → WillAnswer capacities hold.class m_take h_take us' chain section section.stand) vs id w_take
+                (λ yes. will_still capacities hold.class m m_take h h_take us us' chain chain section (keeps section id v at yes class) section.stand (rule.answered.readers id v section at yes class))
+                (λ k z far e theirs. will_still capacities hold.class m m_take h h_take us us' chain chain section (keeps section k z e theirs class) section.stand (rule.answered.readers k z section e theirs class)) j u there is;
+            loaded = λ j u section value there is class read. each_set (λ k z. z.section ≡ Some section → WasSaid us' section.key section.from (Some value)) vs id w_take
+                (λ yes. (keeps section id v at yes class).said (Some value) (rule.answered.loaded id v section value at yes class read))
+                (λ k z far e theirs. (keeps section k z e theirs class).said (Some value) (rule.answered.loaded k z section value e theirs class read)) j u there is;
+          };
+        })
+        (λ d _ ne. record { words = class_words capacities hold.class d m next ne (Free hold.class) refl; marks = same_marks_take d ne; view = elsewhere_held capacities places tickets m vs h r id v at d hold new_take mine refl ne w_take refl refl refl })

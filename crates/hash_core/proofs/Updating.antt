@@ -1,0 +1,149 @@
+-- What an update leaves of the parts on seats and on other classes, and what it makes of the dictionary.
+use Rattle.std.proofs.Common.{◌≡◌, ◌≢◌, ℕ, ◌+◌, ◌*◌, ◌<◌, ◌≤◌, true, false, cond, List, [], ◌∷◌, ◌++◌, length, set, Option, Some, None, refl, sym, ap, subst, ◌∙◌, inl, inr, arith, eq-eqb, ne_eqb, length-append}
+use Rattle.std.specs.FinMap as finite
+use Rattle.std.specs.Ordering.{nat_cmp, eq_by_cmp}
+use Rattle.std.specs.Cmp.{nat_cmp_total, unsigned_tied}
+use Rattle.std.proofs.lemmas.List.{take_all}
+use mathlib.Core.Logic.{dite}
+use mathlib.Core.Option.{some}
+use native.Mathlib.Decide.{ℕ_discrete}
+use lib.ListN.{get_elem?}
+use Rattle.prcu_model.specs.declared.mark.Mark.{Mark}
+use Rattle.prcu_model.specs.declared.mark.Mark.TheVariants.{Done}
+use Rattle.prcu_model.specs.declared.operation.Op.{Op}
+use Rattle.prcu_model.specs.declared.operation.Op.TheVariants.{Put, Get, Del, Set}
+use Rattle.prcu_model.specs.declared.operation.Update.{Update}
+use Rattle.prcu_model.specs.Dictionary.{Dictionary, updated, map_of, map_at}
+use Rattle.prcu_model.specs.History.{IsUpdateAt, AreUpdatesFrom, IsLegal}
+use Rattle.prcu_model.proofs.Fronts.{map_of-push}
+use Rattle.prcu_model.proofs.Updates.{updated-put_absent, updated-set_present}
+use Rattle.hash_core.specs.declared.words.Field.TheVariants.{Front}
+use Rattle.hash_core.specs.declared.view.Hold.{Hold}
+use Rattle.hash_core.specs.declared.view.Turn.{Turn}
+use Rattle.hash_core.specs.declared.view.View.{View}
+use Rattle.hash_core.specs.Memory.{Memory}
+use Rattle.hash_core.specs.Marks.{updates_of, open_at, own_of, entered_at, ReuseByClass}
+use Rattle.hash_core.specs.Readers.{WasSaid}
+use Rattle.hash_core.specs.Seats.{HasNoTurn, updates_by}
+use Rattle.hash_core.specs.Steps.{HasTurn, updated_view}
+use Rattle.hash_core.specs.Rule.{MemoryRule}
+use Rattle.hash_core.proofs.Lists.{at_below, at_one, each_set, total_set, total_part}
+use Rattle.atomic_table.proofs.Lists.{set_here}
+use Rattle.hash_core.proofs.SeatFrames.{seen_whole, apart_same, owned_more, open_same, held_still}
+use Rattle.hash_core.proofs.Quiet.{section_back, section_forth}
+use Rattle.hash_core.proofs.Locks.{class_small, works}
+use Rattle.hash_core.proofs.Whole.{SeatsRule}
+
+abbrev pub key_of : Op → ℕ
+key_of (Put key value) = key
+key_of (Get key) = key
+key_of (Del key) = key
+key_of (Set key value) = key
+
+equal_cmp : (q : ℕ) → eq_by_cmp nat_cmp q q ≡ true
+equal_cmp q = unsigned_tied q q ∙ eq-eqb q q refl
+
+apart_cmp : (q key : ℕ) → q ≢ key → eq_by_cmp nat_cmp q key ≡ false
+apart_cmp q key ne = unsigned_tied q key ∙ ne_eqb q key ne
+
+-- another key's value stays
+pub get-other : (m : Dictionary) (op : Op) (q : ℕ) → q ≢ key_of op → finite.get (updated m op) q ≡ finite.get m q
+get-other m (Put key value) q ne = elim (finite.contains_key m key) as (λ b. finite.get (cond b m (finite.insert m key value)) q ≡ finite.get m q) [
+  | true ↦ refl
+  | false ↦ finite.get-insert nat_cmp_total m key value q ∙ ap (λ b. cond b (Some value) (finite.get m q)) (apart_cmp q key ne)
+]
+get-other m (Get key) q ne = refl
+get-other m (Del key) q ne = finite.get-remove nat_cmp_total m key q ∙ ap (λ b. cond b None (finite.get m q)) (apart_cmp q key ne)
+get-other m (Set key value) q ne = elim (finite.contains_key m key) as (λ b. finite.get (cond b (finite.insert m key value) m) q ≡ finite.get m q) [
+  | true ↦ finite.get-insert nat_cmp_total m key value q ∙ ap (λ b. cond b (Some value) (finite.get m q)) (apart_cmp q key ne)
+  | false ↦ refl
+]
+
+-- and what its own key is worth
+pub get-put : (m : Dictionary) (key value : ℕ) → finite.contains_key m key ≡ false → finite.get (updated m (Put key value)) key ≡ Some value
+get-put m key value absent = ap (λ z. finite.get z key) (updated-put_absent m key value absent) ∙ finite.get-insert nat_cmp_total m key value key ∙ ap (λ b. cond b (Some value) (finite.get m key)) (equal_cmp key)
+
+pub get-del : (m : Dictionary) (key : ℕ) → finite.get (updated m (Del key)) key ≡ None
+get-del m key = finite.get-remove nat_cmp_total m key key ∙ ap (λ b. cond b None (finite.get m key)) (equal_cmp key)
+
+pub get-set : (m : Dictionary) (key value : ℕ) → finite.contains_key m key ≡ true → finite.get (updated m (Set key value)) key ≡ Some value
+get-set m key value present = ap (λ z. finite.get z key) (updated-set_present m key value present) ∙ finite.get-insert nat_cmp_total m key value key ∙ ap (λ b. cond b (Some value) (finite.get m key)) (equal_cmp key)
+
+legal_from : (m : Dictionary) (us : List Update) (u : Update) → AreUpdatesFrom m us → ((n : Dictionary) → n ≡ Rattle.prcu_model.specs.Dictionary.updated_all m us → IsUpdateAt n u.op) → AreUpdatesFrom m (us ++ u ∷ [])
+legal_from m [] u a last = (last m refl, tt)
+legal_from m (x ∷ us) u a last = (a.0, legal_from (updated m x.op) us u a.1 last)
+
+-- a history with one more update at the end
+pub legal_more : (us : List Update) (u : Update) → IsLegal us → IsUpdateAt (map_of us) u.op → IsLegal (us ++ u ∷ [])
+legal_more us u legal last = legal_from finite.empty us u legal (λ n e. subst (λ z. IsUpdateAt z u.op) (sym e) last)
+
+-- what the last front says
+pub said_now : (us : List Update) (u : Update) (key from : ℕ) (answer : Option ℕ) → from ≤ length us → finite.get (updated (map_of us) u.op) key ≡ answer → WasSaid (us ++ u ∷ []) key from answer
+said_now us u key from answer since e = record {
+  front = length us + 1;
+  since = omega arith;
+  made = let l = length-append us (u ∷ []) in omega arith;
+  answers = ap (λ z. finite.get (map_of z) key) (take_all (length us + 1) (us ++ u ∷ []) (let l = length-append us (u ∷ []) in omega arith)) ∙ ap (λ z. finite.get z key) (map_of-push us u) ∙ e;
+}
+
+module _ (capacities : List ℕ) (places tickets : ℕ) (m : Memory) (vs : List View) (h : List Mark) (r : MemoryRule capacities places tickets m vs h) (id : ℕ) (v : View) (at : get_elem? vs id ≡ some v) (hold : Hold) (mine : v.hold ≡ Some hold) (even : ℕ) (turn : HasTurn v hold even) where
+  -- the front is odd by this view
+  pub turned_by : (m Front ≡ even + 1) × (even ≡ 2 * length (updates_of h)) × ((j : ℕ) (u : View) → j ≢ id → get_elem? vs j ≡ some u → HasNoTurn u)
+  turned_by = elim r.turned [
+    | inl quiet ↦ absurd (let a : None ≡ Some (record { found = even; stored = false }) = sym (quiet.1 id v at) ∙ turn.turn_is in cc)
+    | inr odd ↦
+        let me : id ≡ odd.0 = dite (ℕ_discrete id odd.0) (λ q. q) (λ ne. absurd (let a : None ≡ Some (record { found = even; stored = false }) = sym (odd.9 id v ne at) ∙ turn.turn_is in cc)) in
+        let same : v ≡ odd.1 = at_one vs id v odd.1 at (subst (λ k. get_elem? vs k ≡ some odd.1) (sym me) odd.4) in
+        let there : Some odd.2 ≡ Some (record { found = even; stored = false }) = sym odd.5 ∙ ap (λ (z : View). z.turn) (sym same) ∙ turn.turn_is in
+        let it : ◌≡◌ {A = Turn} odd.2 (record { found = even; stored = false }) = cc in
+        let found : odd.2.found ≡ even = ap (λ (z : Turn). z.found) it in
+        let count : updates_by odd.2 ≡ updates_by (record { found = even; stored = false }) = ap updates_by it in
+        (let a = odd.7 in omega arith, let a = odd.8 in omega arith, λ j u ne there. odd.9 j u (λ e. ne (e ∙ sym me)) there)
+  ]
+
+  module _ (op : Op) (new : Hold) (class : new.class ≡ hold.class) (m' : Memory) (front : m' Front ≡ m Front) (more : List Mark)
+      (longer : updates_of (h ++ Done (record { caller = v.place; op = op }) ∷ more) ≡ updates_of h ++ record { caller = v.place; op = op } ∷ [])
+      (none : (p : ℕ) → own_of p more ≡ [])
+      (opened : (p : ℕ) → open_at p (h ++ Done (record { caller = v.place; op = op }) ∷ more) ≡ open_at p h)
+      (entered : (p : ℕ) → entered_at p (h ++ Done (record { caller = v.place; op = op }) ∷ more) ≡ entered_at p h)
+      (reuse : ReuseByClass capacities (h ++ Done (record { caller = v.place; op = op }) ∷ more))
+      (is_update : IsUpdateAt (map_of (updates_of h)) op)
+    where
+      abbrev w_new : View
+      w_new = updated_view v new even op h more
+
+      abbrev h_new : List Mark
+      h_new = h ++ Done (record { caller = v.place; op = op }) ∷ more
+
+      one_longer : length (updates_of h_new) ≡ length (updates_of h) + 1
+      one_longer = ap length longer ∙ length-append (updates_of h) (record { caller = v.place; op = op } ∷ [])
+
+      pub seats_updated : SeatsRule capacities places tickets m' (set vs id w_new) h_new
+      seats_updated = record {
+        seen = seen_whole vs id v w_new at h h_new refl (Done (record { caller = v.place; op = op }) ∷ more, refl) r.seen;
+        apart = apart_same vs id v w_new at places (record { place = refl; places = refl; joined = refl }) r.apart;
+        owned = owned_more vs id v w_new at places h more (Done (record { caller = v.place; op = op })) (record { place = refl; places = refl; joined = refl }) (works capacities places tickets m vs h r id v at hold mine) refl
+            (eq-eqb v.place v.place refl) (λ p ne. ne_eqb v.place p (λ e. ne (sym e))) none r.apart r.owned;
+        sections = open_same vs id v w_new at h h_new (updates_of h) (updates_of h_new) refl refl refl (section_back v w_new refl) (section_forth v w_new refl) opened entered (let n = one_longer in omega arith) r.sections;
+        held = held_still vs id v w_new at (λ other is. let e : new ≡ other = cc in (subst (λ (z : Hold). z.class < 64) e (subst (λ z. z < 64) (sym class) (class_small capacities places tickets m vs h r id v at hold mine)), works capacities places tickets m vs h r id v at hold mine)) r.held;
+        turned = inr (
+          id,
+          w_new,
+          record { found = even; stored = true },
+          new,
+          set_here vs id w_new (at_below vs id v at),
+          refl,
+          refl,
+          front ∙ turned_by.0,
+          (let a = turned_by.1 in let n = one_longer in omega arith),
+          λ j u ne there. each_set (λ k z. k ≢ id → HasNoTurn z) vs id w_new (λ f. absurd (f refl)) (λ k z far e _. turned_by.2 k z far e) j u there ne,
+        );
+        tickets_are =
+            (let sum = total_set (λ (z : View). z.tickets) vs id v w_new at in
+            let was = r.tickets_are in
+            let some_ticket = turn.ticket in
+            let part = total_part (λ (z : View). z.tickets) vs id v at in
+            let n = one_longer in omega arith);
+        legal = subst IsLegal (sym longer) (legal_more (updates_of h) (record { caller = v.place; op = op }) r.legal is_update);
+        reuse = reuse;
+      }

@@ -1,0 +1,11 @@
+pub mod Lists
+pub mod Memory
+pub mod Slots
+pub mod Marks
+pub mod Known
+pub mod Steps
+pub mod Fresh
+pub mod Buckets
+pub mod Readers
+pub mod Seats
+pub mod Rule

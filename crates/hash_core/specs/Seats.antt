@@ -1,0 +1,72 @@
+-- The rule's parts on seats: who has which place, what each has seen and left, and whose the front is.
+-- Source: docs/ALGORITHM.md, "The hash dictionary's rule".
+use Rattle.std.specs.Prelude.{◌≡◌, ◌≢◌, ◌⊎◌, ℕ, ◌+◌, ◌*◌, ◌^◌, ◌<◌, ◌≤◌, if◌then◌else◌, List, [], length, Some, None}
+use mathlib.Core.Option.{some}
+use mathlib.Core.List.{IsPrefix}
+use lib.ListN.{get_elem?}
+use Rattle.prcu_model.specs.declared.mark.Mark.{Mark}
+use Rattle.prcu_model.specs.declared.operation.Update.{Update}
+use Rattle.hash_core.specs.declared.words.Field.TheVariants.{Front}
+use Rattle.hash_core.specs.declared.view.Section.{Section}
+use Rattle.hash_core.specs.declared.view.Hold.{Hold}
+use Rattle.hash_core.specs.declared.view.Turn.{Turn}
+use Rattle.hash_core.specs.declared.view.View.{View}
+use Rattle.hash_core.specs.Lists.{times}
+use Rattle.hash_core.specs.Memory.{Memory}
+use Rattle.hash_core.specs.Marks.{Open, open_at, own_of, entered_at}
+
+-- Each view has seen a beginning of the marks, and one view has seen them all.
+pub record AreSeen (vs : List View) (h : List Mark) : Type 0 where
+  pub begins : (id : ℕ) (v : View) → get_elem? vs id ≡ some v → IsPrefix v.seen h
+  pub longest : (id : ℕ) × (v : View) × (get_elem? vs id ≡ some v) × (v.seen ≡ h)
+
+-- the place is one of the view's
+abbrev pub HasPlace : View → ℕ → Type 0
+HasPlace v p = (v.place ≤ p) × (p < v.place + v.places)
+
+-- the view answers for the place: it is one of its own, or was joined into it
+abbrev pub AnswersFor : View → ℕ → Type 0
+AnswersFor v p = HasPlace v p ⊎ (1 ≤ times p v.joined)
+
+-- No place is answered for by two views.
+pub record AreApart (places : ℕ) (vs : List View) : Type 0 where
+  pub within : (id : ℕ) (v : View) (p : ℕ) → get_elem? vs id ≡ some v → AnswersFor v p → p < places
+  pub apart : (i j p : ℕ) (v w : View) → get_elem? vs i ≡ some v → get_elem? vs j ≡ some w → AnswersFor v p → AnswersFor w p → i ≡ j
+  pub joined : (id : ℕ) (v : View) (p : ℕ) → get_elem? vs id ≡ some v → HasPlace v p → times p v.joined ≡ 0
+
+-- The marks of a place are those that the view has of it that answers for the place. It has no others, and none of its
+-- unused places.
+pub record AreOwned (vs : List View) (h : List Mark) : Type 0 where
+  pub own : (id : ℕ) (v : View) (p : ℕ) → get_elem? vs id ≡ some v → AnswersFor v p → own_of p h ≡ own_of p v.own
+  pub none : (id : ℕ) (v : View) (p : ℕ) → get_elem? vs id ≡ some v → (AnswersFor v p → ⊥) → own_of p v.own ≡ []
+  pub unused : (id : ℕ) (v : View) (p : ℕ) → get_elem? vs id ≡ some v → HasPlace v p → p ≢ v.place → own_of p v.own ≡ []
+
+-- the section that is open at a place by the marks
+abbrev pub open_of : Section → Open
+open_of section = record { count = section.count; key = section.key; at = section.entered }
+
+-- A view's section is the open one of its place, by the marks; no other is open. Its number is that of the sections
+-- entered before it.
+pub record AreOpen (vs : List View) (h : List Mark) (us : List Update) : Type 0 where
+  pub open_here : (id : ℕ) (v : View) (section : Section) → get_elem? vs id ≡ some v → v.section ≡ Some section
+      → (1 ≤ v.places) × (open_at v.place h ≡ Some (open_of section)) × (section.from ≤ length us) × (section.key < 2 ^ 64)
+  pub entered : (id : ℕ) (v : View) → get_elem? vs id ≡ some v → 1 ≤ v.places → v.sections ≡ entered_at v.place h
+  pub all : (p : ℕ) (o : Open) → open_at p h ≡ Some o → (id : ℕ) × (v : View) × (section : Section) × (get_elem? vs id ≡ some v) × (v.place ≡ p) × (v.section ≡ Some section) × (o ≡ open_of section)
+
+-- A lock that is held is that of a class, and its holder works at a place.
+pub record AreHeld (vs : List View) : Type 0 where
+  pub held : (id : ℕ) (v : View) (hold : Hold) → get_elem? vs id ≡ some v → v.hold ≡ Some hold → (hold.class < 64) × (1 ≤ v.places)
+
+abbrev pub HasNoTurn : View → Type 0
+HasNoTurn v = v.turn ≡ None
+
+-- how far the front is by a turn
+abbrev pub updates_by : Turn → ℕ
+updates_by turn = turn.found + (if turn.stored then 2 else 0)
+
+-- An even front is twice the number of updates. An odd one belongs to one view, which holds a lock.
+abbrev pub IsTurned : Memory → List View → ℕ → Type 0
+IsTurned m vs count =
+    ((m Front ≡ 2 * count) × ((id : ℕ) (v : View) → get_elem? vs id ≡ some v → HasNoTurn v))
+    ⊎ ((owner : ℕ) × (u : View) × (turn : Turn) × (hold : Hold) × (get_elem? vs owner ≡ some u) × (u.turn ≡ Some turn) × (u.hold ≡ Some hold) × (m Front ≡ turn.found + 1) × (updates_by turn ≡ 2 * count)
+    × ((id : ℕ) (v : View) → id ≢ owner → get_elem? vs id ≡ some v → HasNoTurn v))

@@ -1,0 +1,288 @@
+-- The kinds of step: what each needs of the stepping view, and the view after it.
+-- Source: docs/ALGORITHM.md, "The steps of the hash dictionary".
+use Rattle.std.specs.Prelude.{◌≡◌, ◌≢◌, ℕ, zero, suc, ◌+◌, ◌-◌, ◌%◌, ◌<◌, ◌≤◌, ◌==◌, nat_lt, if◌then◌else◌, true, false, List, [], ◌∷◌, ◌++◌, length, Some, None}
+use mathlib.Core.List.{IsPrefix}
+use Rattle.prcu_model.specs.declared.mark.Mark.{Mark}
+use Rattle.prcu_model.specs.declared.mark.Mark.TheVariants.{Entered, Left, Done, Given, Unlinked}
+use Rattle.prcu_model.specs.declared.operation.Op.{Op}
+use Rattle.prcu_model.specs.declared.operation.Op.TheVariants.{Put, Del, Set}
+use Rattle.hash_core.specs.declared.words.Field.{Field}
+use Rattle.hash_core.specs.declared.words.Field.TheVariants.{Head, Free, Retired, Key, Value, Next, Chain}
+use Rattle.hash_core.specs.declared.words.Kind.{Kind}
+use Rattle.hash_core.specs.declared.view.Stand.{Stand}
+use Rattle.hash_core.specs.declared.view.Stand.TheVariants.{Start, Unread, Passed, Found, Ended}
+use Rattle.hash_core.specs.declared.view.Section.{Section}
+use Rattle.hash_core.specs.declared.view.Hold.{Hold}
+use Rattle.hash_core.specs.declared.view.View.{View}
+use Rattle.hash_core.specs.Marks.{updates_of}
+use Rattle.hash_core.specs.Known.{known_in, knowing, ShowsAbsent, IsOnWalk}
+
+-- the view after a step is `after` of the whole list of marks before it, of which the view had seen a beginning
+abbrev pub Goes : View → (List Mark → View) → View → Type 0
+Goes v after w = (h : List Mark) × IsPrefix v.seen h × (w ≡ after h)
+
+-- the view with one more step in its trail: the kinds of step below are made of this view
+abbrev pub trod : View → Kind → Field → ℕ → View
+trod v kind field number = record v { trail = v.trail ++ record { kind = kind; field = field; number = number } ∷ [] }
+
+-- the view with another mark of its place, which ends what it has seen
+abbrev pub marked : View → List Mark → Mark → View
+marked v h mark = record v { own = v.own ++ mark ∷ []; seen = h ++ mark ∷ [] }
+
+-- outside a section and without a lock
+abbrev pub IsQuiet : View → Type 0
+IsQuiet v = (v.section ≡ None) × (v.hold ≡ None)
+
+-- H1: the second seat gets the last places, and tickets. It has seen what the first has, and made no step.
+abbrev pub Needs1 : View → ℕ → ℕ → Type 0
+Needs1 v places tickets = IsQuiet v × (1 ≤ places) × (places < v.places) × (tickets ≤ v.tickets)
+
+abbrev pub first_of : ℕ → ℕ → View → View
+first_of places tickets v = record v { places = v.places - places; tickets = v.tickets - tickets }
+
+abbrev pub second_of : ℕ → ℕ → View → View
+second_of places tickets v = record {
+  place = v.place + v.places - places;
+  places = places;
+  tickets = tickets;
+  section = None;
+  sections = 0;
+  hold = None;
+  turn = None;
+  joined = [];
+  own = [];
+  trail = [];
+  seen = v.seen;
+}
+
+-- the numbers from the first on, so many
+abbrev pub places_from : ℕ → ℕ → List ℕ
+places_from first zero = []
+places_from first (suc n) = first ∷ places_from (first + 1) n
+
+-- H2: the other seat's places are spent, and the longer of the two lists was seen.
+abbrev pub longer : List Mark → List Mark → List Mark
+longer a b = if nat_lt (length a) (length b) then b else a
+
+abbrev pub both_of : View → View → View
+both_of v other = record v {
+  tickets = v.tickets + other.tickets;
+  joined = v.joined ++ (places_from other.place other.places ++ other.joined);
+  own = v.own ++ other.own;
+  trail = v.trail ++ other.trail;
+  seen = longer v.seen other.seen;
+}
+
+abbrev pub spent : View
+spent = record {
+  place = 0;
+  places = 0;
+  tickets = 0;
+  section = None;
+  sections = 0;
+  hold = None;
+  turn = None;
+  joined = [];
+  own = [];
+  trail = [];
+  seen = [];
+}
+
+-- H3: a section with this key is entered.
+abbrev pub after3 : View → ℕ → List Mark → View
+after3 v key h = record (marked v h (Entered v.place v.sections key)) {
+  section = Some (record { key = key; count = v.sections; entered = length h; from = length (updates_of h); stand = Start; loaded = None });
+  sections = v.sections + 1;
+}
+
+-- H4: it is left.
+abbrev pub after4 : View → Section → List Mark → View
+after4 v section h = record (marked v h (Left v.place section.count)) { section = None }
+
+-- the slot at which a search stands
+abbrev pub StandsAt : Stand → ℕ → Type 0
+StandsAt Start slot = ⊥
+StandsAt (Unread s) slot = s ≡ slot
+StandsAt (Passed s) slot = s ≡ slot
+StandsAt (Found s) slot = s ≡ slot
+StandsAt Ended slot = ⊥
+
+-- H5: the head of the own class, or a field of the slot at which the search stands, is loaded.
+abbrev pub MayLoad : Section → Field → Type 0
+MayLoad section (Head c) = section.key % 64 ≡ c
+MayLoad section (Key s) = StandsAt section.stand s
+MayLoad section (Value s) = StandsAt section.stand s
+MayLoad section (Next s) = StandsAt section.stand s
+MayLoad section _ = ⊥
+
+abbrev pub link_stand : ℕ → Stand
+link_stand link = if link == 0 then Ended else Unread link
+
+-- the search after it loaded the number there
+abbrev pub searched : Section → Stand → Field → ℕ → Section
+searched section Start (Head c) number = record section { stand = link_stand number }
+searched section (Unread s) (Key t) number = record section { stand = if number == section.key then Found s else Passed s }
+searched section (Passed s) (Next t) number = record section { stand = link_stand number }
+searched section (Found s) (Value t) number = record section { loaded = Some number }
+searched section _ _ number = section
+
+abbrev pub after5 : View → Section → Field → ℕ → View
+after5 v section field number = record v { section = Some (searched section section.stand field number) }
+
+-- H6: the lock of a class's bucket is exchanged from 0 to the place plus 1.
+abbrev pub fresh_hold : ℕ → Hold
+fresh_hold c = record { class = c; known = []; clear = false; taken = None; unlinked = None; moved = None }
+
+abbrev pub after6 : View → ℕ → ℕ → View
+after6 v c found = if found == 0 then record v { hold = Some (fresh_hold c) } else v
+
+-- H7: the lock is given up, with nothing in hand and no odd front.
+abbrev pub Needs7 : View → Hold → Type 0
+Needs7 v hold = (v.hold ≡ Some hold) × (hold.taken ≡ None) × (hold.unlinked ≡ None) × (hold.moved ≡ None) × (v.turn ≡ None)
+
+abbrev pub after7 : View → View
+after7 v = record v { hold = None }
+
+-- H8: the readers of the class are loaded under its lock.
+abbrev pub after8 : View → Hold → ℕ → View
+after8 v hold found = if found == 0 then record v { hold = Some (record hold { clear = true }) } else v
+
+-- H9: another word of the class, or of a slot of it, is loaded under the lock. Who finds 0 has seen all marks.
+abbrev pub after9 : View → Hold → Field → ℕ → List Mark → View
+after9 v hold field found h = record v { hold = Some (knowing hold field found); seen = if found == 0 then h else v.seen }
+
+-- H10: the free word, the retired word, or the chain of the slot in hand is stored.
+-- Take: the first free slot comes into the hand.
+pub record NeedsTake (v : View) (hold : Hold) (slot next : ℕ) : Type 0 where
+  pub hold_is : v.hold ≡ Some hold
+  pub some : slot ≢ 0
+  pub first : known_in hold.known (Free hold.class) ≡ Some slot
+  pub next_is : known_in hold.known (Chain slot) ≡ Some next
+  pub empty : hold.taken ≡ None
+
+abbrev pub after_take : View → Hold → ℕ → ℕ → List Mark → View
+after_take v hold slot next h = record v { hold = Some (record (knowing hold (Free hold.class) next) { taken = Some slot }); seen = h ++ Given slot ∷ [] }
+
+-- Refill: the list in hand becomes the free list, which is empty.
+pub record NeedsRefill (v : View) (hold : Hold) (slot : ℕ) : Type 0 where
+  pub hold_is : v.hold ≡ Some hold
+  pub empty : known_in hold.known (Free hold.class) ≡ Some 0
+  pub moved : hold.moved ≡ Some slot
+
+abbrev pub after_refill : View → Hold → ℕ → View
+after_refill v hold slot = record v { hold = Some (record (knowing hold (Free hold.class) slot) { moved = None }) }
+
+-- Move: the retired list comes into the hand, where a load of the readers found none since the latest unlinking.
+pub record NeedsMove (v : View) (hold : Hold) (slot : ℕ) : Type 0 where
+  pub hold_is : v.hold ≡ Some hold
+  pub some : slot ≢ 0
+  pub first : known_in hold.known (Retired hold.class) ≡ Some slot
+  pub clear : hold.clear ≡ true
+  pub empty : hold.moved ≡ None
+
+abbrev pub after_move : View → Hold → ℕ → View
+after_move v hold slot = record v { hold = Some (record (knowing hold (Retired hold.class) 0) { moved = Some slot }) }
+
+-- Push: the slot unlinked becomes the first of the retired list, to which its chain leads.
+pub record NeedsPush (v : View) (hold : Hold) (slot first : ℕ) : Type 0 where
+  pub hold_is : v.hold ≡ Some hold
+  pub unlinked : hold.unlinked ≡ Some slot
+  pub first_is : known_in hold.known (Retired hold.class) ≡ Some first
+  pub chained : known_in hold.known (Chain slot) ≡ Some first
+
+abbrev pub after_push : View → Hold → ℕ → View
+after_push v hold slot = record v { hold = Some (record (knowing hold (Retired hold.class) slot) { unlinked = None }) }
+
+-- Chain: the chain of the slot unlinked is stored.
+abbrev pub NeedsChain : View → Hold → ℕ → Type 0
+NeedsChain v hold slot = (v.hold ≡ Some hold) × (hold.unlinked ≡ Some slot)
+
+abbrev pub after_chain : View → Hold → ℕ → ℕ → View
+after_chain v hold slot number = record v { hold = Some (knowing hold (Chain slot) number) }
+
+-- H11: a field of the slot taken is stored.
+abbrev pub IsFieldOf : ℕ → Field → Type 0
+IsFieldOf slot (Key s) = s ≡ slot
+IsFieldOf slot (Value s) = s ≡ slot
+IsFieldOf slot (Next s) = s ≡ slot
+IsFieldOf slot _ = ⊥
+
+pub record Needs11 (v : View) (hold : Hold) (slot : ℕ) (field : Field) : Type 0 where
+  pub hold_is : v.hold ≡ Some hold
+  pub taken : hold.taken ≡ Some slot
+  pub field_is : IsFieldOf slot field
+
+abbrev pub after11 : View → Hold → Field → ℕ → View
+after11 v hold field number = record v { hold = Some (knowing hold field number) }
+
+-- H12: the front is exchanged from an even number to the next, by the holder of a lock.
+abbrev pub Needs12 : View → Hold → ℕ → Type 0
+Needs12 v hold even = (v.hold ≡ Some hold) × (even % 2 ≡ 0)
+
+abbrev pub after12 : View → ℕ → ℕ → View
+after12 v even found = if found == even then record v { turn = Some (record { found = even; stored = false }) } else v
+
+-- the front is odd by this view, and its update isn't made yet
+pub record HasTurn (v : View) (hold : Hold) (even : ℕ) : Type 0 where
+  pub hold_is : v.hold ≡ Some hold
+  pub turn_is : v.turn ≡ Some (record { found = even; stored = false })
+  pub ticket : 1 ≤ v.tickets
+
+-- the view after its update, with another hold
+abbrev pub updated_view : View → Hold → ℕ → Op → List Mark → List Mark → View
+updated_view v hold even op h more = record v {
+  tickets = v.tickets - 1;
+  hold = Some hold;
+  turn = Some (record { found = even; stored = true });
+  own = v.own ++ Done (record { caller = v.place; op = op }) ∷ [];
+  seen = h ++ Done (record { caller = v.place; op = op }) ∷ more;
+}
+
+-- H13: the slot taken is linked at the head, where the known walk shows its key absent.
+pub record Needs13 (v : View) (hold : Hold) (even slot key value first : ℕ) : Type 0 where
+  pub turn : HasTurn v hold even
+  pub taken : hold.taken ≡ Some slot
+  pub key_is : known_in hold.known (Key slot) ≡ Some key
+  pub value_is : known_in hold.known (Value slot) ≡ Some value
+  pub next_is : known_in hold.known (Next slot) ≡ Some first
+  pub head_is : known_in hold.known (Head hold.class) ≡ Some first
+  pub class : key % 64 ≡ hold.class
+  pub absent : ShowsAbsent hold key
+
+abbrev pub after13 : View → Hold → ℕ → ℕ → ℕ → ℕ → List Mark → View
+after13 v hold even slot key value h = updated_view v (record (knowing hold (Head hold.class) slot) { taken = None }) even (Put key value) h []
+
+-- the link to a slot on the known walk: the head, or the next of a slot on the walk
+abbrev pub LinksTo : Hold → Field → Type 0
+LinksTo hold (Head c) = c ≡ hold.class
+LinksTo hold (Next s) = IsOnWalk hold s
+LinksTo hold _ = ⊥
+
+-- H14: a slot on the known walk is unlinked.
+pub record Needs14 (v : View) (hold : Hold) (even : ℕ) (link : Field) (slot key next : ℕ) : Type 0 where
+  pub turn : HasTurn v hold even
+  pub empty : hold.unlinked ≡ None
+  pub link_is : LinksTo hold link
+  pub linked : known_in hold.known link ≡ Some slot
+  pub some : slot ≢ 0
+  pub key_is : known_in hold.known (Key slot) ≡ Some key
+  pub next_is : known_in hold.known (Next slot) ≡ Some next
+
+abbrev pub after14 : View → Hold → ℕ → Field → ℕ → ℕ → ℕ → List Mark → View
+after14 v hold even link slot key next h = updated_view v (record (knowing hold link next) { clear = false; unlinked = Some slot }) even (Del key) h (Unlinked slot ∷ [])
+
+-- H15: the value of a slot on the known walk is replaced.
+pub record Needs15 (v : View) (hold : Hold) (even slot key : ℕ) : Type 0 where
+  pub turn : HasTurn v hold even
+  pub on_walk : IsOnWalk hold slot
+  pub key_is : known_in hold.known (Key slot) ≡ Some key
+
+abbrev pub after15 : View → Hold → ℕ → ℕ → ℕ → ℕ → List Mark → View
+after15 v hold even slot key value h = updated_view v (knowing hold (Value slot) value) even (Set key value) h []
+
+-- H16: the front is made even again.
+abbrev pub Needs16 : View → ℕ → Type 0
+Needs16 v even = v.turn ≡ Some (record { found = even; stored = true })
+
+abbrev pub after16 : View → View
+after16 v = record v { turn = None }
