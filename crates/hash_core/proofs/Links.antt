@@ -41,7 +41,8 @@ use Rattle.hash_core.proofs.Ways.{will_still}
 use Rattle.hash_core.proofs.Whole.{after_step}
 use Rattle.hash_core.proofs.Stocks.{rule, had, is_known, known_after, roles_by, moved_by}
 use Rattle.hash_core.proofs.Cuts.{whole_path, comes_on, lacks_none, cut_at, seek_some, seek_slot, seek_replaced}
-use Rattle.hash_core.proofs.Updating.{key_of, get-other, get-put, get-set, said_now, seats_updated}
+use Rattle.prcu_model.proofs.Worth.{key_of, get-updated_other, get-put, get-set}
+use Rattle.hash_core.proofs.Updating.{said_now, seats_updated}
 
 module _ (capacities : List ℕ) (places tickets : ℕ) (m : Memory) (vs : List View) (h : List Mark) (r : MemoryRule capacities places tickets m vs h) (id : ℕ) (v : View) (at : get_elem? vs id ≡ some v) (hold : Hold) (mine : v.hold ≡ Some hold) where
   abbrev bucket_rule : BucketRule capacities hold.class m h (updates_of h) vs (r.bucket hold.class)
@@ -89,7 +90,7 @@ module _ (capacities : List ℕ) (places tickets : ℕ) (m : Memory) (vs : List 
     more = u ∷ [];
     longer = longer;
     gone = gone;
-    pairs = λ key of. ap (λ z. finite.get (map_of z) key) longer ∙ ap (λ z. finite.get z key) (map_of-push (updates_of h) u) ∙ get-other (map_of (updates_of h)) u.op key (λ e. ne (sym of ∙ ap (λ z. z % 64) e ∙ class));
+    pairs = λ key of. ap (λ z. finite.get (map_of z) key) longer ∙ ap (λ z. finite.get z key) (map_of-push (updates_of h) u) ∙ get-updated_other (map_of (updates_of h)) u.op key (λ e. ne (sym of ∙ ap (λ z. z % 64) e ∙ class));
   }
 
   module _ (even : ℕ) (op : Op) where
@@ -125,7 +126,7 @@ module _ (capacities : List ℕ) (places tickets : ℕ) (m : Memory) (vs : List 
 
     -- an update of the class's key keeps other keys
     pub get_done_other : (key : ℕ) → key ≢ key_of op → finite.get (map_of (updates_of h_done)) key ≡ finite.get (map_of (updates_of h)) key
-    get_done_other key ne = get_done key ∙ get-other (map_of (updates_of h)) op key ne
+    get_done_other key ne = get_done key ∙ get-updated_other (map_of (updates_of h)) op key ne
 
   -- H13
   module _ (even slot key value first : ℕ) (needs : Needs13 v hold even slot key value first) where

@@ -38,7 +38,8 @@ use Rattle.hash_core.proofs.Locks.{counted_still, all_still, locked_by, elsewher
 use Rattle.hash_core.proofs.Whole.{after_step}
 use Rattle.hash_core.proofs.Stocks.{rule, had, is_known, known_after, roles_by, moved_by}
 use Rattle.hash_core.proofs.Cuts.{path_past, path_back, cut_at, two_cuts, seek_without, distinct_without, seek_some}
-use Rattle.hash_core.proofs.Updating.{get-other, get-del, said_now, seats_updated}
+use Rattle.prcu_model.proofs.Worth.{get-updated_other, get-del}
+use Rattle.hash_core.proofs.Updating.{said_now, seats_updated}
 use Rattle.hash_core.proofs.Links.{on_chain, answered_from, marks_elsewhere}
 
 -- A chain from which a slot is unlinked: the slots before it lead on past it.
@@ -268,7 +269,7 @@ module _ (capacities : List ℕ) (places tickets : ℕ) (m : Memory) (vs : List 
   mapped14 : (k : ℕ) → k % 64 ≡ hold.class → finite.get (map_of (updates_of h14)) k ≡ seek m14 k (cut.before ++ cut.after)
   mapped14 k class = dite (ℕ_discrete k key)
       (λ e. subst (λ z. finite.get (map_of (updates_of h14)) z ≡ seek m14 z (cut.before ++ cut.after)) (sym e) (get14 key ∙ get-del (map_of (updates_of h)) key ∙ sym lost ∙ sym (same_seek key (cut.before ++ cut.after))))
-      (λ ne. get14 k ∙ get-other (map_of (updates_of h)) (Del key) k ne ∙ bucket_rule.mapped.answers k class ∙ ap (seek m k) cut.chain_is ∙ seek_without m k slot cut.before cut.after (λ e. ne (sym e ∙ is_key)) ∙ sym (same_seek k (cut.before ++ cut.after)))
+      (λ ne. get14 k ∙ get-updated_other (map_of (updates_of h)) (Del key) k ne ∙ bucket_rule.mapped.answers k class ∙ ap (seek m k) cut.chain_is ∙ seek_without m k slot cut.before cut.after (λ e. ne (sym e ∙ is_key)) ∙ sym (same_seek k (cut.before ++ cut.after)))
 
   -- readers
   said14 : (section : Section) (answer : Option ℕ) → WasSaid (updates_of h) section.key section.from answer → WasSaid (updates_of h14) section.key section.from answer

@@ -1,8 +1,6 @@
 -- What an update leaves of the parts on seats and on other classes, and what it makes of the dictionary.
-use Rattle.std.proofs.Common.{◌≡◌, ◌≢◌, ℕ, ◌+◌, ◌*◌, ◌<◌, ◌≤◌, true, false, cond, List, [], ◌∷◌, ◌++◌, length, set, Option, Some, None, refl, sym, ap, subst, ◌∙◌, inl, inr, arith, eq-eqb, ne_eqb, length-append}
+use Rattle.std.proofs.Common.{◌≡◌, ◌≢◌, ℕ, ◌+◌, ◌*◌, ◌<◌, ◌≤◌, true, false, List, [], ◌∷◌, ◌++◌, length, set, Option, Some, None, refl, sym, ap, subst, ◌∙◌, inl, inr, arith, eq-eqb, ne_eqb, length-append}
 use Rattle.std.specs.FinMap as finite
-use Rattle.std.specs.Ordering.{nat_cmp, eq_by_cmp}
-use Rattle.std.specs.Cmp.{nat_cmp_total, unsigned_tied}
 use Rattle.std.proofs.lemmas.List.{take_all}
 use mathlib.Core.Logic.{dite}
 use mathlib.Core.Option.{some}
@@ -11,12 +9,10 @@ use lib.ListN.{get_elem?}
 use Rattle.prcu_model.specs.declared.mark.Mark.{Mark}
 use Rattle.prcu_model.specs.declared.mark.Mark.TheVariants.{Done}
 use Rattle.prcu_model.specs.declared.operation.Op.{Op}
-use Rattle.prcu_model.specs.declared.operation.Op.TheVariants.{Put, Get, Del, Set}
 use Rattle.prcu_model.specs.declared.operation.Update.{Update}
 use Rattle.prcu_model.specs.Dictionary.{Dictionary, updated, map_of, map_at}
 use Rattle.prcu_model.specs.History.{IsUpdateAt, AreUpdatesFrom, IsLegal}
 use Rattle.prcu_model.proofs.Fronts.{map_of-push}
-use Rattle.prcu_model.proofs.Updates.{updated-put_absent, updated-set_present}
 use Rattle.hash_core.specs.declared.words.Field.TheVariants.{Front}
 use Rattle.hash_core.specs.declared.view.Hold.{Hold}
 use Rattle.hash_core.specs.declared.view.Turn.{Turn}
@@ -33,41 +29,6 @@ use Rattle.hash_core.proofs.SeatFrames.{seen_whole, apart_same, owned_more, open
 use Rattle.hash_core.proofs.Quiet.{section_back, section_forth}
 use Rattle.hash_core.proofs.Locks.{class_small, works}
 use Rattle.hash_core.proofs.Whole.{SeatsRule}
-
-abbrev pub key_of : Op → ℕ
-key_of (Put key value) = key
-key_of (Get key) = key
-key_of (Del key) = key
-key_of (Set key value) = key
-
-equal_cmp : (q : ℕ) → eq_by_cmp nat_cmp q q ≡ true
-equal_cmp q = unsigned_tied q q ∙ eq-eqb q q refl
-
-apart_cmp : (q key : ℕ) → q ≢ key → eq_by_cmp nat_cmp q key ≡ false
-apart_cmp q key ne = unsigned_tied q key ∙ ne_eqb q key ne
-
--- another key's value stays
-pub get-other : (m : Dictionary) (op : Op) (q : ℕ) → q ≢ key_of op → finite.get (updated m op) q ≡ finite.get m q
-get-other m (Put key value) q ne = elim (finite.contains_key m key) as (λ b. finite.get (cond b m (finite.insert m key value)) q ≡ finite.get m q) [
-  | true ↦ refl
-  | false ↦ finite.get-insert nat_cmp_total m key value q ∙ ap (λ b. cond b (Some value) (finite.get m q)) (apart_cmp q key ne)
-]
-get-other m (Get key) q ne = refl
-get-other m (Del key) q ne = finite.get-remove nat_cmp_total m key q ∙ ap (λ b. cond b None (finite.get m q)) (apart_cmp q key ne)
-get-other m (Set key value) q ne = elim (finite.contains_key m key) as (λ b. finite.get (cond b (finite.insert m key value) m) q ≡ finite.get m q) [
-  | true ↦ finite.get-insert nat_cmp_total m key value q ∙ ap (λ b. cond b (Some value) (finite.get m q)) (apart_cmp q key ne)
-  | false ↦ refl
-]
-
--- and what its own key is worth
-pub get-put : (m : Dictionary) (key value : ℕ) → finite.contains_key m key ≡ false → finite.get (updated m (Put key value)) key ≡ Some value
-get-put m key value absent = ap (λ z. finite.get z key) (updated-put_absent m key value absent) ∙ finite.get-insert nat_cmp_total m key value key ∙ ap (λ b. cond b (Some value) (finite.get m key)) (equal_cmp key)
-
-pub get-del : (m : Dictionary) (key : ℕ) → finite.get (updated m (Del key)) key ≡ None
-get-del m key = finite.get-remove nat_cmp_total m key key ∙ ap (λ b. cond b None (finite.get m key)) (equal_cmp key)
-
-pub get-set : (m : Dictionary) (key value : ℕ) → finite.contains_key m key ≡ true → finite.get (updated m (Set key value)) key ≡ Some value
-get-set m key value present = ap (λ z. finite.get z key) (updated-set_present m key value present) ∙ finite.get-insert nat_cmp_total m key value key ∙ ap (λ b. cond b (Some value) (finite.get m key)) (equal_cmp key)
 
 legal_from : (m : Dictionary) (us : List Update) (u : Update) → AreUpdatesFrom m us → ((n : Dictionary) → n ≡ Rattle.prcu_model.specs.Dictionary.updated_all m us → IsUpdateAt n u.op) → AreUpdatesFrom m (us ++ u ∷ [])
 legal_from m [] u a last = (last m refl, tt)

@@ -5,3 +5,4 @@ pub mod Searches
 pub mod Fronts
 pub mod EnoughSlots
 pub mod Chains
+pub mod Worth

@@ -12,7 +12,7 @@ use Rattle.prcu_model.specs.declared.operation.Op.TheVariants.{Put, Get, Del, Se
 use Rattle.prcu_model.specs.declared.operation.Update.{Update}
 use Rattle.prcu_model.specs.Dictionary.{Dictionary, updated, updated_all, map_of}
 use Rattle.workload.specs.Summaries.{key_sum, value_sum}
-use Rattle.workload.proofs.OwnKeys.{key_of, value_after, get-updated}
+use Rattle.prcu_model.proofs.Worth.{key_of, value_after, get-updated}
 use Rattle.workload.proofs.MadeKeys.{value_of}
 
 -- the key and the value are low

@@ -14,7 +14,8 @@ use Rattle.prcu_model.specs.Replies.{Room, Explains, Confirms, tells_update}
 use Rattle.prcu_model.specs.Plain.{plain_reply, history_with, history_after, told_after}
 use Rattle.prcu_model.specs.Fronts.{Placed, told_lines, told_updates, IsConfirmed, MayStandBeside}
 use Rattle.prcu_model.proofs.Fronts.{map_of-push, map_at-next}
-use Rattle.workload.proofs.OwnKeys.{key_of, Agrees, IsOwn, Agrees-updated, get-updated_other, ArePast, ArePast-earlier, some_update, ahead, skip, skip_all, next_found}
+use Rattle.prcu_model.proofs.Worth.{key_of, get-updated_other}
+use Rattle.workload.proofs.OwnKeys.{Agrees, IsOwn, Agrees-updated, ArePast, ArePast-earlier, some_update, ahead, skip, skip_all, next_found}
 use Rattle.workload.proofs.PlainReplies.{plain_from_explained, plain_from_confirmed}
 
 update_at : (m : Dictionary) (us : List Update) (front : ℕ) (u : Update) → AreUpdatesFrom m us → front < length us → IsUpdateAt (updated_all m (take front us)) (get_or us front u).op

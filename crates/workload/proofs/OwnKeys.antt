@@ -1,63 +1,18 @@
 -- What a caller's keys are worth, where each caller's updates are of keys of its own.
-use Rattle.std.proofs.Common.{◌≡◌, ◌≢◌, ℕ, zero, suc, ◌+◌, ◌<◌, ◌≤◌, Bool, true, false, cond, eqb, Option, Some, None, is_some, List, [], ◌∷◌, length, drop, get_or, refl, sym, ap, subst, ◌∙◌, inl, inr, arith}
+use Rattle.std.proofs.Common.{◌≡◌, ◌≢◌, ℕ, zero, suc, ◌+◌, ◌<◌, ◌≤◌, true, false, cond, eqb, List, [], ◌∷◌, length, drop, get_or, refl, sym, ap, subst, ◌∙◌, inl, inr, arith}
 use Rattle.std.specs.FinMap as map
-use Rattle.std.specs.Ordering.{nat_cmp, is_eq, eq_by_cmp}
-use Rattle.std.specs.Cmp.{nat_cmp_total}
-use Rattle.std.specs.declared.cmp.Ordering.TheVariants.{Less, Equal, Greater}
+use Rattle.std.specs.Ordering.{nat_cmp, eq_by_cmp}
 use Rattle.std.specs.List.{All, AllByRecursion}
 use Rattle.std.proofs.lemmas.Bool.{cases_lt}
 use Rattle.std.proofs.lemmas.Bool.Decides.{nat_tests}
 use Rattle.std.proofs.lemmas.List.{drop_more, drop_all, take_all}
 use Rattle.prcu_model.specs.declared.operation.Op.{Op}
-use Rattle.prcu_model.specs.declared.operation.Op.TheVariants.{Put, Get, Del, Set}
+use Rattle.prcu_model.specs.declared.operation.Op.TheVariants.{Get}
 use Rattle.prcu_model.specs.declared.operation.Update.{Update}
 use Rattle.prcu_model.specs.Dictionary.{Dictionary, updated, map_of, map_at}
 use Rattle.prcu_model.specs.Fronts.{Placed, own_updates_from}
 use Rattle.prcu_model.proofs.Fronts.{map_at-next}
-
-abbrev pub key_of : Op → ℕ
-key_of (Put key value) = key
-key_of (Get key) = key
-key_of (Del key) = key
-key_of (Set key value) = key
-
--- what a key is worth after an update: by whether the update is of that key, what its key was worth and what the key was
-abbrev pub value_after : Bool → Op → Option ℕ → Option ℕ → Option ℕ
-value_after is (Put key value) its was = cond (is_some its) was (cond is (Some value) was)
-value_after is (Get key) its was = was
-value_after is (Del key) its was = cond is None was
-value_after is (Set key value) its was = cond (is_some its) (cond is (Some value) was) was
-
-get_case : (b : Bool) (m n : Dictionary) (q : ℕ) → map.get (cond b m n) q ≡ cond b (map.get m q) (map.get n q)
-get_case true m n q = refl
-get_case false m n q = refl
-
-pub get-updated : (m : Dictionary) (op : Op) (q : ℕ) → map.get (updated m op) q ≡ value_after (eq_by_cmp nat_cmp q (key_of op)) op (map.get m (key_of op)) (map.get m q)
-get-updated m (Put key value) q = get_case (map.contains_key m key) m (map.insert m key value) q ∙ ap (λ v. cond (map.contains_key m key) (map.get m q) v) (map.get-insert nat_cmp_total m key value q)
-get-updated m (Get key) q = refl
-get-updated m (Del key) q = map.get-remove nat_cmp_total m key q
-get-updated m (Set key value) q = get_case (map.contains_key m key) (map.insert m key value) m q ∙ ap (λ v. cond (map.contains_key m key) v (map.get m q)) (map.get-insert nat_cmp_total m key value q)
-
-stays : (op : Op) (its was : Option ℕ) → value_after false op its was ≡ was
-stays (Put key value) None was = refl
-stays (Put key value) (Some v) was = refl
-stays (Get key) its was = refl
-stays (Del key) its was = refl
-stays (Set key value) None was = refl
-stays (Set key value) (Some v) was = refl
-
-apart : (q key : ℕ) → q ≢ key → eq_by_cmp nat_cmp q key ≡ false
-apart q key ne =
-    elim (nat_cmp q key) as (λ r. nat_cmp q key ≡ r → is_eq r ≡ false) [
-      | Less ↦ λ e. refl
-      | Equal ↦ λ e. absurd (ne (map.nat_cmp-IsAntisymmetric q key e))
-      | Greater ↦ λ e. refl
-    ] refl
-
--- another key's value stays
-pub get-updated_other : (m : Dictionary) (op : Op) (q : ℕ) → q ≢ key_of op → map.get (updated m op) q ≡ map.get m q
-get-updated_other m op q ne =
-    get-updated m op q ∙ ap (λ b. value_after b op (map.get m (key_of op)) (map.get m q)) (apart q (key_of op) ne) ∙ stays op (map.get m (key_of op)) (map.get m q)
+use Rattle.prcu_model.proofs.Worth.{key_of, value_after, get-updated, get-updated_other}
 
 module _ (owner : ℕ → ℕ) where
   -- the keys of this caller are worth the same in both

@@ -9,7 +9,7 @@ use Rattle.prcu_model.specs.Dictionary.{Dictionary}
 use Rattle.prcu_model.specs.History.{IsUpdateAt}
 use Rattle.prcu_model.specs.Replies.{Room, Explains, Confirms}
 use Rattle.prcu_model.specs.Plain.{with_value, plain_reply}
-use Rattle.workload.proofs.OwnKeys.{key_of}
+use Rattle.prcu_model.proofs.Worth.{key_of}
 
 absent : {A : Type 0} (b : Bool) (x y : A) → b ≡ false → y ≡ cond b x y
 absent true x y e = absurd (cc)
