@@ -15,7 +15,7 @@ fronts-requires c =
     let slots = c.slots_for.result in
     subst (λ told. AreExplainable scripts (entries_of told) c.deref-2.result.now slots) (sym c.deref.ensures.value)
     (subst (λ history. AreExplainable scripts (entries_of c.in_ok-ended.ended.told.items) history slots) (sym c.deref-2.ensures.value)
-    (c.in_ok-ended.ensures.explained slots (filled_at c.args.slots scripts slots c.slots_for.ensures)))
+    (c.in_ok-ended.ensures.explained slots (assumption (filled_at c.args.slots scripts slots c.slots_for.ensures))))
 
 pub returns : goal.returns
 returns c =
