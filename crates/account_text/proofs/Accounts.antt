@@ -151,18 +151,23 @@ ops_of-all_told_lines (script ∷ scripts) (told ∷ tolds) same =
     let tail : map length tolds ≡ map length scripts = cc in
     λ i. ops_of-told_lines script told head i ∷ ops_of-all_told_lines scripts tolds tail i
 
--- the numbered lines of what scripts were told make an account of the scripts
-pub IsAccount-numbered : (scripts : List (List Op)) (tolds : List (List Told)) (history : List Update) (slots : ℕ) (lists : List (List Line)) → AreExplainable scripts tolds history slots → AllAreNumbered (record { scripts = length scripts; slots = slots }) history (all_told_lines scripts tolds) lists → IsLegal history → IsAccount scripts slots (account_of lists history (finite.entries (map_of history)))
-IsAccount-numbered scripts tolds history slots lists able numbered legal =
+-- the numbered lines of what scripts were told make an account of the scripts, whose history is this one
+pub IsAccount-with_history : (scripts : List (List Op)) (tolds : List (List Told)) (history : List Update) (slots : ℕ) (lists : List (List Line)) → AreExplainable scripts tolds history slots → AllAreNumbered (record { scripts = length scripts; slots = slots }) history (all_told_lines scripts tolds) lists → IsLegal history → (account : IsAccount scripts slots (account_of lists history (finite.entries (map_of history)))) × (account.history ≡ history)
+IsAccount-with_history scripts tolds history slots lists able numbered legal =
     let room : Room = record { scripts = length scripts; slots = slots } in
     let told = all_told_lines scripts tolds in
-    let kept = keeps_scripts room history told lists numbered in
-    record {
-      lines = lists;
-      history = history;
-      ops = kept.ops ∙ ops_of-all_told_lines scripts tolds able.lengths;
-      legal = legal;
-      explained = AreExplained-numbered room history told lists able.explained numbered;
-      numbered = kept.numbered;
-      printed = refl;
-    }
+    let kept = keeps_scripts room history told lists numbered in (
+      record {
+        lines = lists;
+        history = history;
+        ops = kept.ops ∙ ops_of-all_told_lines scripts tolds able.lengths;
+        legal = legal;
+        explained = AreExplained-numbered room history told lists able.explained numbered;
+        numbered = kept.numbered;
+        printed = refl;
+      },
+      refl,
+    )
+
+pub IsAccount-numbered : (scripts : List (List Op)) (tolds : List (List Told)) (history : List Update) (slots : ℕ) (lists : List (List Line)) → AreExplainable scripts tolds history slots → AllAreNumbered (record { scripts = length scripts; slots = slots }) history (all_told_lines scripts tolds) lists → IsLegal history → IsAccount scripts slots (account_of lists history (finite.entries (map_of history)))
+IsAccount-numbered scripts tolds history slots lists able numbered legal = (IsAccount-with_history scripts tolds history slots lists able numbered legal).0

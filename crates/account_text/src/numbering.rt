@@ -76,7 +76,8 @@ pub fn fronts(
     ensures numbered { IfOk result (λ lists. AllAreNumbered (record { scripts = length scripts.now; slots = slots }) history.now
         (all_told_lines scripts.now (entries_of told.now)) (entries_of lists.items)) }
     ensures account { IfOk result (λ lists. IsLegal history.now
-        → IsAccount scripts.now slots (account_of (entries_of lists.items) history.now (map.entries (map_of history.now)))) }
+        → (account : IsAccount scripts.now slots (account_of (entries_of lists.items) history.now (map.entries (map_of history.now))))
+        × (account.history ≡ history.now)) }
 {
     let timeline = Timeline::new(alloc, history, scripts.count(), slots)?;
     number_scripts(alloc, scripts, told, &timeline)

@@ -3,7 +3,7 @@
 use Rattle.std.specs.Prelude.{◌≡◌, ℕ, ◌≤◌, List, ◌++◌, length, Option, None, codes, decimal}
 use Rattle.io_edge.specs.Edge.{Takes, IsAtEnd, Appends, AppendsFront}
 use Rattle.prcu_model.specs.declared.operation.Op.{Op}
-use Rattle.prcu_model.specs.Slots.{LacksFull}
+use Rattle.prcu_model.specs.Slots.{LacksFull, StaysWithin}
 use Rattle.script_text.specs.Grammar.{IsScriptText, IsFirstBad}
 use Rattle.account_text.specs.Account.{IsAccount}
 use Rattle.workload.specs.Draws.{made_scripts}
@@ -19,12 +19,14 @@ use Rattle.citrus_tool.specs.Parts.{HasParts}
 
 -- The text is an account of the scripts that the input holds: the headline. Each script's successful updates stand in
 -- one legal history, once and in order; each reply is the plain dictionary's at its front; in a script the fronts never
--- fall; and the final pairs are what the history leaves. Where no number of slots was given, no line says `full`.
+-- fall; and the final pairs are what the history leaves. Where no number of slots was given, no line says `full`; and given
+-- or not, at no front are there more pairs than slots.
 pub record AccountsFor (slots : Option ℕ) (input text : List ℕ) : Type 0 where
   pub scripts : List (List Op)
   pub read : IsScriptText input scripts
   pub account : IsAccount scripts (slots_of slots scripts) text
   pub never_full : slots ≡ None → LacksFull account.lines
+  pub within_slots : StaysWithin account.history (slots_of slots scripts)
 
 -- The input has a bad line, so it is no scripts' text, and the text tells the number of the first.
 pub record TellsBadLine (input text : List ℕ) : Type 0 where

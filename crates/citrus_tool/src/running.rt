@@ -1,5 +1,6 @@
 //! What each command makes of its input.
 ghost use Rattle.std.specs.Prelude.{◌≡◌, ◌≤◌, ◌++◌, IfOk, length, codes, decimal};
+ghost use Rattle.prcu_model.specs.Slots.{StaysWithin};
 ghost use Rattle.account_text.specs.Account.{IsAccount};
 ghost use Rattle.workload.specs.Draws.{made_scripts};
 ghost use Rattle.workload.specs.Summaries.{plain_summary};
@@ -114,7 +115,8 @@ fn slots_for(slots: Option<u32>, scripts: &Scripts) -> u32
 // The account of the scripts, run one after another, with no more pairs than so many slots.
 fn account_for(alloc: Global, slots: Option<u32>, scripts: &Scripts) -> Result<Vec<u8>, NoMemory>
     requires { AreSlots slots }
-    ensures { IfOk result (λ text. IsAccount scripts.now (slots_of slots scripts.now) text.items) }
+    ensures { IfOk result (λ text. (account : IsAccount scripts.now (slots_of slots scripts.now) text.items)
+        × StaysWithin account.history (slots_of slots scripts.now)) }
 {
     let ended = run_plain(alloc, slots, scripts)?;
     let lines = fronts(

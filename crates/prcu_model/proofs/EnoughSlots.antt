@@ -1,4 +1,5 @@
--- With a slot for each put and twenty for each script, no line says that none was left.
+-- With a slot for each put and twenty for each script, no line says that none was left, and at no front are there more
+-- pairs than slots.
 use Rattle.std.proofs.Common.{◌≡◌, ℕ, zero, suc, ◌+◌, ◌-◌, ◌*◌, ◌<◌, ◌≤◌, max, Bool, true, false, cond, leb, eqb, MatchBool, List, [], ◌∷◌, length, take, get_or, map as list_map, count_by, refl, ap, subst, ◌∙◌, arith}
 use Rattle.std.specs.FinMap as map
 use Rattle.std.specs.Ordering.{nat_cmp}
@@ -18,14 +19,14 @@ use Rattle.prcu_model.specs.Dictionary.{Dictionary, updated, updated_all, map_at
 use Rattle.prcu_model.specs.Replies.{Room, Explains, tells_update}
 use Rattle.prcu_model.specs.Scripts.{is_put, put_count, default_slots_of}
 use Rattle.prcu_model.specs.Fronts.{Placed, own_updates, own_updates_from, told_updates, told_lines, all_told_lines, ops_of, MayStand, MayStandBeside, CanBeNumbered, AreExplained, AreExplainable}
-use Rattle.prcu_model.specs.Slots.{LacksFull}
+use Rattle.prcu_model.specs.Slots.{LacksFull, StaysWithin}
 
 len_case : (b : Bool) (n k : ℕ) → cond b n k ≤ max n k
 len_case true n k = omega arith
 len_case false n k = omega arith
 
 -- an update adds a pair at most, and only a put adds one
-len-updated : (m : Dictionary) (op : Op) → map.len (updated m op) ≤ map.len m + cond (is_put op) 1 0
+pub len-updated : (m : Dictionary) (op : Op) → map.len (updated m op) ≤ map.len m + cond (is_put op) 1 0
 len-updated m (Put key value) =
     elim (map.contains_key m key) as (λ b. map.contains_key m key ≡ b → map.len (cond b m (map.insert m key value)) ≤ map.len m + 1) [
       | true ↦ λ e. omega arith
@@ -172,7 +173,13 @@ enough_slots : (scripts : List (List Op)) → put_count scripts + 20 * (length s
 enough_slots [] = omega arith
 enough_slots (script ∷ scripts) = omega arith
 
--- the default slots
+-- the default slots, whatever number of slots the lines were explained with
+pub StaysWithin-from_explained : (room : Room) (history : List Update) (lists : List (List Line)) → AreExplained room history lists → StaysWithin history (default_slots_of (list_map ops_of lists))
+StaysWithin-from_explained room history lists explained front _ =
+    let few = len-le-put_count room history lists explained front in
+    let enough = enough_slots (list_map ops_of lists) in
+    omega (arith, few, enough)
+
 pub LacksFull-from_explained : (history : List Update) (lists : List (List Line)) → AreExplained (record { scripts = length lists; slots = default_slots_of (list_map ops_of lists) }) history lists → LacksFull lists
 LacksFull-from_explained history lists explained =
     LacksFull-from_slots (record { scripts = length lists; slots = default_slots_of (list_map ops_of lists) }) history lists

@@ -6,3 +6,4 @@ pub mod Fronts
 pub mod EnoughSlots
 pub mod Chains
 pub mod Worth
+pub mod PlainSizes

@@ -11,10 +11,11 @@ returns-in_ok-bad_line-in-Err-Line c =
 
 pub returns-in_ok-account_for-in-Ok : goal.returns-in_ok-account_for-in-Ok
 returns-in_ok-account_for-in-Ok c =
-    let account = c.in_ok-account_for-in-Ok.ensures in
+    let account = c.in_ok-account_for-in-Ok.ensures.0 in
     record {
       scripts = c.in-Ok.scripts;
       read = c.in-Ok.ensures.ok;
       account = account;
       never_full = never_full c.args.slots c.in-Ok.scripts c.in_ok-account_for-in-Ok.field-0.items account;
+      within_slots = c.in_ok-account_for-in-Ok.ensures.1;
     }
