@@ -20,3 +20,4 @@ pub mod Busy
 pub mod Splits
 pub mod First
 pub mod Unlinks
+pub mod Full

@@ -9,3 +9,4 @@ pub mod Buckets
 pub mod Readers
 pub mod Seats
 pub mod Rule
+pub mod Pairs
