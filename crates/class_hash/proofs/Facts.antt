@@ -1,0 +1,201 @@
+-- What the rule tells of a seat and of the words.
+use Rattle.std.proofs.Common.{◌≡◌, ℕ, ◌+◌, ◌*◌, ◌%◌, ◌<◌, ◌≤◌, nat_le, ◌&&◌, Bool, true, false, cond, List, [], ◌∷◌, ◌++◌, length, sum, Some, None, refl, sym, ap, subst, ◌∙◌, inl, inr, arith}
+use Rattle.std.proofs.lemmas.Bool.{lt-ltb, le-leb}
+use mathlib.Core.Logic.{dite}
+use native.Mathlib.Decide.{ℕ_discrete}
+use mathlib.Core.Option.{some}
+use lib.ListN.{get_elem?}
+use Rattle.prcu_model.specs.declared.mark.Mark.{Mark}
+use Rattle.hash_core.specs.declared.words.Field.{Field}
+use Rattle.hash_core.specs.declared.words.Field.TheVariants.{Front, Head, Free, Retired, Key, Value, Next, Chain}
+use Rattle.hash_core.specs.declared.view.Stand.{Stand}
+use Rattle.hash_core.specs.declared.view.Stand.TheVariants.{Start, Unread, Passed, Found}
+use Rattle.hash_core.specs.declared.view.Section.{Section}
+use Rattle.hash_core.specs.declared.view.Hold.{Hold}
+use Rattle.hash_core.specs.declared.view.Turn.{Turn}
+use Rattle.hash_core.specs.declared.view.View.{View}
+use Rattle.hash_core.specs.Lists.{times, IsPath}
+use Rattle.hash_core.specs.Memory.{Memory, word_of, is_field}
+use Rattle.hash_core.specs.Slots.{is_slot_of, IsOfClass, word_count}
+use Rattle.hash_core.specs.Marks.{updates_of}
+use Rattle.hash_core.specs.Known.{known_in, ComesTo, IsOnWalk}
+use Rattle.std.specs.FinMap as finite
+use Rattle.prcu_model.specs.Dictionary.{map_of}
+use Rattle.hash_core.proofs.Cuts.{seek_slot}
+use Rattle.hash_core.specs.Buckets.{seek, HaveDistinctKeys}
+use Rattle.hash_core.specs.Readers.{HasWay, WillAnswer}
+use Rattle.hash_core.specs.Seats.{updates_by, IsTurned}
+use Rattle.hash_core.specs.Steps.{StandsAt, searched}
+use Rattle.hash_core.specs.Rule.{BucketRule, MemoryRule}
+use Rattle.hash_core.proofs.Lists.{at_one, all_times, total_part, times_here, times_append}
+use Rattle.hash_core.proofs.Paths.{path_cons, IsPath-from}
+use Rattle.hash_core.proofs.Classes.{slot_within}
+use Rattle.hash_core.proofs.Memories.{word_inside}
+use Rattle.hash_core.proofs.Frames.{way_slot, chain_slot, free_slot, retired_slot}
+use Rattle.hash_core.proofs.Quiet.{same_marks}
+use Rattle.hash_core.proofs.Locks.{holder_of, class_small}
+use Rattle.prcu_model.specs.History.{IsLegal}
+use Rattle.class_hash.specs.Stepped.{IsUpdated}
+use Rattle.class_hash.specs.Answers.{GivesAnswer, StandsInClass, IsLink, IsLinkOf}
+
+-- what is of a class lies in the table
+slot_inside : (capacities : List ℕ) (c s : ℕ) → is_slot_of capacities c s ≡ true → (nat_le 1 s && nat_le s (sum capacities)) ≡ true
+slot_inside capacities c s of =
+    let w = slot_within capacities c s of in
+    ap (λ b. b && nat_le s (sum capacities)) (le-leb 1 s w.0) ∙ le-leb s (sum capacities) w.1
+
+pub field_inside : (capacities : List ℕ) (c : ℕ) → c < 64 → (field : Field) → IsOfClass capacities c field → is_field capacities field ≡ true
+field_inside capacities c small (Head d) of = lt-ltb d 64 (omega arith)
+field_inside capacities c small (Free d) of = lt-ltb d 64 (omega arith)
+field_inside capacities c small (Retired d) of = lt-ltb d 64 (omega arith)
+field_inside capacities c small (Key s) of = slot_inside capacities c s of
+field_inside capacities c small (Value s) of = slot_inside capacities c s of
+field_inside capacities c small (Next s) of = slot_inside capacities c s of
+field_inside capacities c small (Chain s) of = slot_inside capacities c s of
+field_inside capacities c small _ of = absurd of
+
+-- the key of a section stays
+pub searched_key : (section : Section) (stand : Stand) (field : Field) (n : ℕ) → (searched section stand field n).key ≡ section.key
+searched_key section Start (Head d) n = refl
+searched_key section (Unread s) (Key t) n = refl
+searched_key section (Passed s) (Next t) n = refl
+searched_key section (Found s) (Value t) n = refl
+searched_key section _ _ n = refl
+
+-- the first slot of a list is a slot of the class
+first_slot : (capacities : List ℕ) (c : ℕ) (next : ℕ → ℕ) (first : ℕ) (xs : List ℕ) → ((x : ℕ) → 1 ≤ times x xs → is_slot_of capacities c x ≡ true) → IsPath next first xs → IsLink capacities c first
+first_slot capacities c next first xs of path there =
+    let p = path_cons next first xs there path in
+    of first (let e = ap (times first) p.1 in let t = times_here first p.0 in omega arith)
+
+module _ (capacities : List ℕ) (places tickets : ℕ) (m : Memory) (vs : List View) (h : List Mark) (r : MemoryRule capacities places tickets m vs h) (id : ℕ) (v : View) (at : get_elem? vs id ≡ some v) where
+  pub few_tickets : v.tickets ≤ 1099511627776
+  few_tickets = let a = total_part (λ (u : View). u.tickets) vs id v at in let b = r.tickets_are in let c = r.shape.few_tickets in omega arith
+
+  pub few_updates : length (updates_of h) ≤ 1099511627776
+  few_updates = let b = r.tickets_are in let c = r.shape.few_tickets in omega arith
+
+  mod_small : (key : ℕ) → key % 64 < 64
+  mod_small key = omega arith
+
+  pub gives_answer : (section : Section) → v.section ≡ Some section → GivesAnswer h section
+  gives_answer section inside =
+      let b = (r.buckets (section.key % 64) (mod_small section.key)).answered in
+      record {
+        absent = λ ended. subst (WillAnswer capacities (section.key % 64) m h (updates_of h) (r.bucket (section.key % 64)).chain section) ended (b.readers id v section at inside refl);
+        present = λ value is. b.loaded id v section value at inside refl is;
+      }
+
+  pub stands_in_class : (section : Section) → v.section ≡ Some section → StandsInClass capacities section
+  stands_in_class section inside =
+      let c : ℕ = section.key % 64 in
+      let rule = r.buckets c (mod_small section.key) in
+      stand_case section.stand (rule.answered.readers id v section at inside refl)
+    where
+      at_slot : (s slot : ℕ) → HasWay capacities (section.key % 64) m h (updates_of h) (r.bucket (section.key % 64)).chain section s → s ≡ slot → is_slot_of capacities (section.key % 64) slot ≡ true
+      at_slot s slot way e =
+          let c : ℕ = section.key % 64 in
+          subst (λ z. is_slot_of capacities c z ≡ true) e (way_slot capacities c m m h h (updates_of h) (updates_of h) (r.bucket c) (λ t _. (refl, refl, refl, refl)) (same_marks capacities c h) (r.buckets c (mod_small section.key)).roles section s way)
+
+      stand_case : (stand : Stand) → WillAnswer capacities (section.key % 64) m h (updates_of h) (r.bucket (section.key % 64)).chain section stand → (slot : ℕ) → StandsAt stand slot → is_slot_of capacities (section.key % 64) slot ≡ true
+      stand_case (Unread s) will slot stands = at_slot s slot will stands
+      stand_case (Passed s) will slot stands = at_slot s slot will.0 stands
+      stand_case (Found s) will slot stands = at_slot s slot will.0 stands
+      stand_case _ will slot stands = absurd stands
+
+  module _ (hold : Hold) (mine : v.hold ≡ Some hold) where
+    small : hold.class < 64
+    small = class_small capacities places tickets m vs h r id v at hold mine
+
+    rule : BucketRule capacities hold.class m h (updates_of h) vs (r.bucket hold.class)
+    rule = r.buckets hold.class small
+
+    known : (field : Field) (number : ℕ) → known_in hold.known field ≡ Some number → IsOfClass capacities hold.class field × (m field ≡ number)
+    known field number found = rule.known.known hold field number (holder_of capacities places tickets m vs h r id v at hold.class small hold mine refl) found
+
+    -- what is known is so
+    pub known_now : (field : Field) (number : ℕ) → known_in hold.known field ≡ Some number → IsOfClass capacities hold.class field × (m field ≡ number)
+    known_now = known
+
+    -- the slot on the known walk is linked
+    comes : (first : ℕ) (before : List ℕ) (slot : ℕ) (xs : List ℕ) → ComesTo hold.known first before slot → IsPath (λ s. m (Next s)) first xs → (front rest : List ℕ) × (xs ≡ front ++ slot ∷ rest) × IsPath (λ s. m (Next s)) (m (Next slot)) rest
+    comes first [] slot xs to path =
+        let p = path_cons (λ s. m (Next s)) first xs (λ e. to.1 (sym to.0 ∙ e)) path in
+        ([], p.0, p.1 ∙ ap (λ z. z ∷ p.0) to.0, subst (λ z. IsPath (λ s. m (Next s)) (m (Next z)) p.0) to.0 p.2)
+    comes first (s ∷ before) slot xs to path =
+        let p = path_cons (λ s. m (Next s)) first xs (λ e. to.1 (sym to.0 ∙ e)) path in
+        let n = to.2 in
+        let word : m (Next first) ≡ n.0 = ap (λ z. m (Next z)) to.0 ∙ (known (Next s) n.0 n.1).1 in
+        let q = comes n.0 before slot p.0 n.2 (IsPath-from (λ s. m (Next s)) (m (Next first)) n.0 p.0 word p.2) in
+        (first ∷ q.0, q.1, p.1 ∙ ap (λ z. first ∷ z) q.2, q.3)
+
+    pub link_of : (field : Field) → IsOfClass capacities hold.class field → IsLinkOf capacities hold field (m field)
+    link_of (Head d) of = subst (λ z. IsLink capacities hold.class (m (Head z))) (sym of) (first_slot capacities hold.class (λ s. m (Next s)) (m (Head hold.class)) (r.bucket hold.class).chain (chain_slot capacities hold.class (r.bucket hold.class) rule.roles) rule.chained.path)
+    link_of (Free d) of = subst (λ z. IsLink capacities hold.class (m (Free z))) (sym of) (first_slot capacities hold.class (λ s. m (Chain s)) (m (Free hold.class)) (r.bucket hold.class).free (free_slot capacities hold.class (r.bucket hold.class) rule.roles) rule.listed.free)
+    link_of (Retired d) of = subst (λ z. IsLink capacities hold.class (m (Retired z))) (sym of) (first_slot capacities hold.class (λ s. m (Chain s)) (m (Retired hold.class)) (r.bucket hold.class).retired (retired_slot capacities hold.class (r.bucket hold.class) rule.roles) rule.listed.retired)
+    link_of (Next slot) of = λ on.
+        let head : IsPath (λ s. m (Next s)) on.first (r.bucket hold.class).chain = IsPath-from (λ s. m (Next s)) (m (Head hold.class)) on.first (r.bucket hold.class).chain (known (Head hold.class) on.first on.head).1 rule.chained.path in
+        let q = comes on.first on.before slot (r.bucket hold.class).chain on.comes head in
+        first_slot capacities hold.class (λ s. m (Next s)) (m (Next slot)) q.1
+        (λ x there. chain_slot capacities hold.class (r.bucket hold.class) rule.roles x (let e = ap (times x) q.2 in let a = times_append x q.0 (slot ∷ q.1) in let b : times x (slot ∷ q.1) ≡ (cond (lib.Dec.eqb slot x) 1 0) + times x q.1 = refl in omega arith)) q.3
+    link_of (Key slot) of = tt
+    link_of (Value slot) of = tt
+    link_of (Chain slot) of = tt
+    link_of _ of = absurd of
+
+    -- what the dictionary gives the key of a slot on the known walk
+    pub value_now : (slot key : ℕ) → IsOnWalk hold slot → known_in hold.known (Key slot) ≡ Some key → finite.get (map_of (updates_of h)) key ≡ Some (m (Value slot))
+    value_now slot key on key_is =
+        let chain : List ℕ = (r.bucket hold.class).chain in
+        let head : IsPath (λ s. m (Next s)) on.first (r.bucket hold.class).chain = IsPath-from (λ s. m (Next s)) (m (Head hold.class)) on.first (r.bucket hold.class).chain (known (Head hold.class) on.first on.head).1 rule.chained.path in
+        let q = comes on.first on.before slot (r.bucket hold.class).chain on.comes head in
+        let is : m (Key slot) ≡ key = (known (Key slot) key key_is).1 in
+        let there : 1 ≤ times slot (r.bucket hold.class).chain = (let e = ap (times slot) q.2 in let a = times_append slot q.0 (slot ∷ q.1) in let b = times_here slot q.1 in omega arith) in
+        let class : key % 64 ≡ hold.class = ap (λ z. z % 64) (sym is) ∙ all_times (λ s. m (Key s) % 64 ≡ hold.class) (r.bucket hold.class).chain slot rule.chained.classes there in
+        let found : seek m (m (Key slot)) (r.bucket hold.class).chain ≡ Some (m (Value slot)) = ap (seek m (m (Key slot))) q.2 ∙ seek_slot m slot q.0 q.1 (subst (HaveDistinctKeys m) q.2 rule.chained.distinct) in
+        rule.mapped.answers key class ∙ subst (λ z. seek m z (r.bucket hold.class).chain ≡ Some (m (Value slot))) is found
+
+    pub old_value : (slot key old : ℕ) → IsOnWalk hold slot → known_in hold.known (Key slot) ≡ Some key → known_in hold.known (Value slot) ≡ Some old → finite.get (map_of (updates_of h)) key ≡ Some old
+    old_value slot key old on key_is value_is = value_now slot key on key_is ∙ ap Some (known (Value slot) old value_is).1
+
+  -- the front is never large
+  pub front_small : m Front ≤ 2199023255553
+  front_small = turn_case r.turned
+    where
+      turn_case : IsTurned m vs (length (updates_of h)) → m Front ≤ 2199023255553
+      turn_case (inl free) = let a = free.0 in let b = few_updates in omega arith
+      turn_case (inr odd) = let a = odd.7 in let b = odd.8 in let c = few_updates in by odd.2.stored odd.2.found b a
+        where
+          by : (t : Bool) (n : ℕ) → n + cond t 2 0 ≡ 2 * length (updates_of h) → m Front ≡ n + 1 → m Front ≤ 2199023255553
+          by true n b a = let c = few_updates in omega arith
+          by false n b a = let c = few_updates in omega arith
+
+  -- after an update the front shows how many there are
+  pub position : (turn : Turn) → v.turn ≡ Some turn → updates_by turn ≡ 2 * length (updates_of h)
+  position turn is = turn_case r.turned
+    where
+      turn_case : IsTurned m vs (length (updates_of h)) → updates_by turn ≡ 2 * length (updates_of h)
+      turn_case (inl free) = absurd (let z : Some turn ≡ None = sym is ∙ free.1 id v at in cc)
+      turn_case (inr odd) =
+          let me : id ≡ odd.0 = dite (ℕ_discrete id odd.0) (λ q. q) (λ q. absurd (let z : Some turn ≡ None = sym is ∙ odd.9 id v q at in cc)) in
+          let same : v ≡ odd.1 = at_one vs id v odd.1 at (subst (λ k. get_elem? vs k ≡ some odd.1) (sym me) odd.4) in
+          let e : Some turn ≡ Some odd.2 = sym is ∙ ap (λ (z : View). z.turn) same ∙ odd.5 in
+          let t : turn ≡ odd.2 = cc in
+          ap updates_by t ∙ odd.8
+
+  -- after an update the updates are a history, and the front shows how many there are
+  pub updated : (even : ℕ) → v.turn ≡ Some (record { found = even; stored = true }) → v.seen ≡ h → IsUpdated even v
+  updated even is seen = record {
+    legal = subst (λ z. IsLegal (updates_of z)) (sym seen) r.legal;
+    position = subst (λ z. even + 2 ≡ 2 * length (updates_of z)) (sym seen) (position (record { found = even; stored = true }) is);
+  }
+
+-- a word of a class, and one of its slots, is one of the table's
+pub class_below : (capacities : List ℕ) (j c words word : ℕ) → words ≡ word_count capacities → word ≡ j + 5 * c → j ≤ 5 → c < 64 → word < words
+class_below capacities j c words word all is within small = omega arith
+
+pub field_below : (capacities : List ℕ) (c : ℕ) (field : Field) (words word : ℕ) → words ≡ word_count capacities → word ≡ word_of field → c < 64 → IsOfClass capacities c field → word < words
+field_below capacities c field words word all is small of = let below = word_inside capacities field (field_inside capacities c small field of) in omega arith
+
+pub key_class : (key : ℕ) → key % 64 < 64
+key_class key = omega arith

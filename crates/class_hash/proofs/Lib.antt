@@ -1,0 +1,11 @@
+pub mod Plumbing
+pub mod Readers
+pub mod Facts
+pub mod Allowed
+pub mod Seats
+pub mod Words
+pub mod Calls
+pub mod Searching
+pub mod Walking
+pub mod Updating
+pub mod Trying

@@ -1,0 +1,120 @@
+-- Tries of an update: a search, the lock, a walk under it, and the lock given up or the update made.
+use Rattle.std.proofs.Common.{◌≡◌, ℕ, ◌+◌, ◌-◌, ◌≤◌, true, List, [], ◌∷◌, ◌++◌, Option, Some, None, refl, sym, ap, subst, ◌∙◌, append_assoc, append-nil}
+use Rattle.std.specs.List.{AllByRecursion}
+use mathlib.Core.List.{IsPrefix}
+use Rattle.prcu_model.specs.declared.mark.Mark.{Mark}
+use Rattle.prcu_model.specs.declared.mark.Mark.TheVariants.{Entered, Left, Done}
+use Rattle.prcu_model.specs.declared.operation.Op.TheVariants.{Set}
+use Rattle.prcu_model.specs.declared.operation.Reply.TheVariants.{Was}
+use Rattle.hash_core.specs.declared.words.Field.TheVariants.{Lock}
+use Rattle.hash_core.specs.declared.words.Kind.TheVariants.{H7}
+use Rattle.hash_core.specs.declared.view.Section.{Section}
+use Rattle.hash_core.specs.declared.view.Hold.{Hold}
+use Rattle.hash_core.specs.declared.view.View.{View}
+use Rattle.hash_core.specs.Slots.{is_slot_of}
+use Rattle.hash_core.specs.Steps.{trod, IsQuiet, Needs7, after7, fresh_hold}
+use Rattle.hash_core.proofs.Lists.{all_append, prefix_self}
+use Rattle.class_hash.specs.Stepped.{Unlocks}
+use Rattle.class_hash.specs.Lookups.{Looked}
+use Rattle.class_hash.specs.Walks.{HasLoaded, IsFoundAt}
+use Rattle.class_hash.specs.Updates.{HasLocked, MayReplace, Replaced}
+use Rattle.class_hash.specs.Calls.{HasFinished}
+use Rattle.class_hash.specs.Replies.{IsOfSection, HasTried, SetsBy}
+use Rattle.class_hash.proofs.Calls.{prefix_trans}
+
+pub nothing_tried : (v : View) → HasTried v v
+nothing_tried v = record { marks = []; plain = tt; own = sym (append-nil v.own); seen = prefix_self v.seen; view = refl }
+
+pub still_quiet : (v w : View) → IsQuiet v → HasTried v w → IsQuiet w
+still_quiet v w quiet t = (ap (λ (z : View). z.section) t.view ∙ quiet.0, ap (λ (z : View). z.hold) t.view ∙ quiet.1)
+
+pub looked_quiet : (w x : View) (key : ℕ) (answer : Option ℕ) → IsQuiet w → Looked w key answer x → IsQuiet x
+looked_quiet w x key answer quiet l = (ap (λ (z : View). z.section) l.view, ap (λ (z : View). z.hold) l.view ∙ quiet.1)
+
+-- from the search to the walk
+module _ (v w x y z : View) (key class : ℕ) (answer : Option ℕ) (new : Hold) (quiet : IsQuiet v) (t : HasTried v w) (l : Looked w key answer x) (k : HasLocked x class y) (n : HasLoaded y (fresh_hold class) z new) (no_turn : x.turn ≡ None) where
+  marks : List Mark
+  marks = Entered w.place w.sections key ∷ Left w.place w.sections ∷ []
+
+  abbrev base : View
+  base = record w { section = None; sections = w.sections + 1; own = (w.own ++ Entered w.place w.sections key ∷ []) ++ Left w.place w.sections ∷ []; trail = x.trail; seen = x.seen }
+
+  x_is : x ≡ record w { section = None; sections = w.sections + 1; own = (w.own ++ Entered w.place w.sections key ∷ []) ++ Left w.place w.sections ∷ []; trail = x.trail; seen = x.seen }
+  x_is = l.view ∙ (λ j. record w { section = None; sections = w.sections + 1; own = (w.own ++ Entered w.place w.sections key ∷ []) ++ Left w.place w.sections ∷ []; trail = (sym l.view j).trail; seen = (sym l.view j).seen })
+
+  -- after the walk: that of the start, but for the lock, what was seen and done
+  z_is : z ≡ record v { section = None; sections = w.sections + 1; hold = Some new; own = (w.own ++ Entered w.place w.sections key ∷ []) ++ Left w.place w.sections ∷ []; trail = z.trail; seen = z.seen }
+  z_is = n.view ∙ (λ j. record (k j) { hold = Some new; trail = z.trail; seen = z.seen }) ∙ (λ j. record (x_is j) { hold = Some new; trail = z.trail; seen = z.seen })
+      ∙ (λ j. record (t.view j) { section = None; sections = w.sections + 1; hold = Some new; own = (w.own ++ Entered w.place w.sections key ∷ []) ++ Left w.place w.sections ∷ []; trail = z.trail; seen = z.seen })
+
+  same_place : w.place ≡ v.place
+  same_place = ap (λ (u : View). u.place) t.view
+
+  seen_x : IsPrefix w.seen x.seen
+  seen_x = subst (IsPrefix w.seen) (sym (ap (λ (u : View). u.seen) l.view)) (prefix_trans w.seen l.before _ l.since (prefix_trans l.before (l.before ++ Entered w.place w.sections key ∷ []) _ (Entered w.place w.sections key ∷ [], refl) (prefix_trans _ l.until _ l.within (Left w.place w.sections ∷ [], refl))))
+
+  seen_z : IsPrefix v.seen z.seen
+  seen_z = prefix_trans v.seen w.seen z.seen t.seen (prefix_trans w.seen x.seen z.seen seen_x (subst (λ s. IsPrefix s z.seen) (ap (λ (u : View). u.seen) k) n.seen))
+
+  own_z : z.own ≡ v.own ++ (t.marks ++ Entered w.place w.sections key ∷ Left w.place w.sections ∷ [])
+  own_z = ap (λ (u : View). u.own) z_is ∙ append_assoc w.own (Entered w.place w.sections key ∷ []) (Left w.place w.sections ∷ [])
+      ∙ ap (λ o. o ++ Entered w.place w.sections key ∷ Left w.place w.sections ∷ []) t.own ∙ append_assoc v.own t.marks (Entered w.place w.sections key ∷ Left w.place w.sections ∷ [])
+
+  plain_z : AllByRecursion IsOfSection (t.marks ++ Entered w.place w.sections key ∷ Left w.place w.sections ∷ [])
+  plain_z = all_append IsOfSection t.marks (Entered w.place w.sections key ∷ Left w.place w.sections ∷ []) t.plain (tt, (tt, tt))
+
+  turn_z : z.turn ≡ None
+  turn_z = ap (λ (u : View). u.turn) n.view ∙ ap (λ (u : View). u.turn) k ∙ no_turn
+
+  needs_z : Needs7 z new
+  needs_z = (ap (λ (u : View). u.hold) n.view, ap (λ (h : Hold). h.taken) n.only, ap (λ (h : Hold). h.unlinked) n.only, ap (λ (h : Hold). h.moved) n.only, turn_z)
+
+  pub has_finished : HasFinished z
+  has_finished = (new, needs_z)
+
+  pub may_replace : (capacities : List ℕ) (previous : Option ℕ) (slot : ℕ) → IsFoundAt key new previous slot → is_slot_of capacities class slot ≡ true → 1 ≤ v.tickets → MayReplace capacities z slot key
+  may_replace capacities previous slot found of ticket = record {
+    hold = new;
+    finished = needs_z;
+    on = found.on;
+    key_is = found.key_is;
+    slot_is = subst (λ (h : Hold). is_slot_of capacities h.class slot ≡ true) (sym n.only) of;
+    ticket = subst (λ q. 1 ≤ q) (sym (ap (λ (u : View). u.tickets) z_is)) ticket;
+  }
+
+  abbrev walked : View
+  walked = record v { section = None; sections = w.sections + 1; hold = Some new; own = (w.own ++ Entered w.place w.sections key ∷ []) ++ Left w.place w.sections ∷ []; trail = z.trail; seen = z.seen }
+
+  pub tried_again : (u : View) → Unlocks z u → HasTried v u
+  tried_again u e =
+      let F : View → View = λ y. after7 (trod y H7 (Lock e.0.class) 0) in
+      let u_is : u ≡ F walked = e.2 ∙ ap F z_is in
+      let whole : u ≡ record (F walked) { section = v.section; hold = v.hold } = u_is ∙ ap (λ (q : Option Section × Option Hold). record (F walked) { section = q.0; hold = q.1 }) (λ i. (sym quiet.0 i, sym quiet.1 i)) in
+      record {
+        marks = t.marks ++ Entered w.place w.sections key ∷ Left w.place w.sections ∷ [];
+        plain = plain_z;
+        own = ap (λ (y : View). y.own) e.2 ∙ own_z;
+        seen = subst (IsPrefix v.seen) (sym (ap (λ (y : View). y.seen) e.2)) seen_z;
+        view = whole ∙ sym (ap (λ (y : View). record v { sections = y.sections; own = y.own; trail = y.trail; seen = y.seen }) whole);
+      }
+
+  pub updated_once : (u : View) (value old number : ℕ) → Replaced z key value old number u → SetsBy v key value (Was old) number u
+  updated_once u value old number r =
+      let place : z.place ≡ v.place = ap (λ (y : View). y.place) z_is in
+      let F : View → View = λ y. record y { tickets = y.tickets - 1; hold = None; own = z.own ++ Done (record { caller = z.place; op = Set key value }) ∷ []; trail = u.trail; seen = r.before ++ Done (record { caller = z.place; op = Set key value }) ∷ [] } in
+      let u_is : u ≡ F walked = r.view ∙ ap F z_is in
+      let whole : u ≡ record (F walked) { section = v.section; hold = v.hold } = u_is ∙ ap (λ (q : Option Section × Option Hold). record (F walked) { section = q.0; hold = q.1 }) (λ i. (sym quiet.0 i, sym quiet.1 i)) in (
+        r.before,
+        record {
+          marks = t.marks ++ Entered w.place w.sections key ∷ Left w.place w.sections ∷ [];
+          plain = plain_z;
+          own = ap (λ (y : View). y.own) r.view ∙ ap (λ o. o ++ Done (record { caller = z.place; op = Set key value }) ∷ []) own_z
+              ∙ ap (λ p. (v.own ++ (t.marks ++ Entered w.place w.sections key ∷ Left w.place w.sections ∷ [])) ++ Done (record { caller = p; op = Set key value }) ∷ []) place;
+          since = prefix_trans v.seen z.seen r.before seen_z r.since;
+          seen = ap (λ (y : View). y.seen) r.view ∙ ap (λ p. r.before ++ Done (record { caller = p; op = Set key value }) ∷ []) place;
+          legal = r.legal;
+          number_is = r.number_is;
+          view = whole ∙ sym (ap (λ (y : View). record v { tickets = v.tickets - 1; sections = y.sections; own = y.own; trail = y.trail; seen = y.seen }) whole);
+        },
+        r.was,
+      )

@@ -1,0 +1,186 @@
+-- Walks along a chain under its lock.
+use Rattle.std.proofs.Common.{◌≡◌, ◌≢◌, ℕ, ◌==◌, Bool, true, false, cond, List, [], ◌∷◌, ◌++◌, Option, Some, None, refl, sym, ap, subst, ◌∙◌}
+use mathlib.Core.List.{IsPrefix}
+use Rattle.prcu_model.specs.declared.mark.Mark.{Mark}
+use Rattle.hash_core.specs.declared.words.Field.{Field}
+use Rattle.hash_core.specs.declared.words.Field.TheVariants.{Head, Key, Next}
+use Rattle.hash_core.specs.declared.words.Kind.TheVariants.{H9}
+use Rattle.hash_core.specs.declared.view.Hold.{Hold}
+use Rattle.hash_core.specs.declared.view.Known.{Known}
+use Rattle.hash_core.specs.declared.view.View.{View}
+use Rattle.hash_core.specs.Memory.{same_field}
+use Rattle.hash_core.specs.Slots.{is_slot_of}
+use Rattle.hash_core.specs.Known.{known_in, knowing, IsWholeWalk, LacksKey, ShowsAbsent, ComesTo, IsOnWalk}
+use Rattle.hash_core.specs.Steps.{trod, after9}
+use Rattle.hash_core.proofs.Lists.{prefix_self, prefix_more}
+use Rattle.hash_core.proofs.Stores.{same_self, same_is}
+use Rattle.class_hash.specs.Answers.{IsLinkOf}
+use Rattle.class_hash.specs.Stepped.{Loads}
+use Rattle.class_hash.specs.Walks.{KnowsMore, HasLoaded, ComesOver, IsLinkedFrom, IsWalking, IsFoundAt}
+
+-- what was loaded is known, and all that was known before
+pub known_here : (hold : Hold) (field : Field) (n : ℕ) → known_in (knowing hold field n).known field ≡ Some n
+known_here hold field n = ap (λ t. cond t (Some n) (known_in hold.known field)) (same_self field)
+
+pub known_still : (hold : Hold) (field : Field) (n : ℕ) → ((number : ℕ) → known_in hold.known field ≡ Some number → n ≡ number) → KnowsMore hold.known (knowing hold field n).known
+known_still hold field n agrees other number is = by (same_field field other) refl
+  where
+    by : (t : Bool) → same_field field other ≡ t → known_in (knowing hold field n).known other ≡ Some number
+    by true e = let q : field ≡ other = same_is field other e in ap (λ t. cond t (Some n) (known_in hold.known other)) e ∙ ap Some (agrees number (ap (known_in hold.known) q ∙ is))
+    by false e = ap (λ t. cond t (Some n) (known_in hold.known other)) e ∙ is
+
+-- a walk that is known stays known
+module _ (before after : List Known) (more : KnowsMore before after) where
+  pub comes_still : (first : ℕ) (ss : List ℕ) (link : ℕ) → ComesOver before first ss link → ComesOver after first ss link
+  comes_still first [] link c = c
+  comes_still first (s ∷ ss) link c = (c.0, c.1, (c.2.0, more (Next s) c.2.0 c.2.1, comes_still c.2.0 ss link c.2.2))
+
+  pub comes_to_still : (first : ℕ) (ss : List ℕ) (slot : ℕ) → ComesTo before first ss slot → ComesTo after first ss slot
+  comes_to_still first [] slot c = c
+  comes_to_still first (s ∷ ss) slot c = (c.0, c.1, (c.2.0, more (Next s) c.2.0 c.2.1, comes_to_still c.2.0 ss slot c.2.2))
+
+  pub lacks_still : (key : ℕ) (ss : List ℕ) → LacksKey before key ss → LacksKey after key ss
+  lacks_still key [] l = tt
+  lacks_still key (s ∷ ss) l = ((l.0.0, more (Key s) l.0.0 l.0.1, l.0.2), lacks_still key ss l.1)
+
+  pub comes_more : (first : ℕ) (ss : List ℕ) (link next : ℕ) → link ≢ 0 → known_in after (Next link) ≡ Some next → ComesOver before first ss link → ComesOver after first (ss ++ link ∷ []) next
+  comes_more first [] link next ne is c = (c, ne, (next, is, refl))
+  comes_more first (s ∷ ss) link next ne is c = (c.0, c.1, (c.2.0, more (Next s) c.2.0 c.2.1, comes_more c.2.0 ss link next ne is c.2.2))
+
+  pub lacks_more : (key : ℕ) (ss : List ℕ) (slot other : ℕ) → known_in after (Key slot) ≡ Some other → other ≢ key → LacksKey before key ss → LacksKey after key (ss ++ slot ∷ [])
+  lacks_more key [] slot other is ne l = ((other, is, ne), tt)
+  lacks_more key (s ∷ ss) slot other is ne l = ((l.0.0, more (Key s) l.0.0 l.0.1, l.0.2), lacks_more key ss slot other is ne l.1)
+
+-- a walk that came to 0 is whole, and one that came to a slot is on it
+pub whole : (known : List Known) (first : ℕ) (ss : List ℕ) → ComesOver known first ss 0 → IsWholeWalk known first ss
+whole known first [] c = c
+whole known first (s ∷ ss) c = (c.0, c.1, (c.2.0, c.2.1, whole known c.2.0 ss c.2.2))
+
+pub comes_to : (known : List Known) (first : ℕ) (ss : List ℕ) (slot : ℕ) → slot ≢ 0 → ComesOver known first ss slot → ComesTo known first ss slot
+comes_to known first [] slot ne c = (c, ne)
+comes_to known first (s ∷ ss) slot ne c = (c.0, c.1, (c.2.0, c.2.1, comes_to known c.2.0 ss slot ne c.2.2))
+
+-- nothing was loaded yet
+pub not_loaded : (v : View) (hold : Hold) → v.hold ≡ Some hold → HasLoaded v hold v hold
+not_loaded v hold was = record { was = was; more = λ f n is. is; only = refl; seen = prefix_self v.seen; view = λ j. record v { hold = was j } }
+
+-- one more load
+module _ (capacities : List ℕ) (v : View) (hold : Hold) (w : View) (now : Hold) (loaded : HasLoaded v hold w now) (field : Field) (n : ℕ) (x : View) (s : Loads capacities w field n x) where
+  holds_now : w.hold ≡ Some now
+  holds_now = ap (λ (z : View). z.hold) loaded.view
+
+  same_hold : s.0 ≡ now
+  same_hold = let e : Some s.0 ≡ Some now = sym s.1 ∙ holds_now in cc
+
+  agrees : (number : ℕ) → known_in now.known field ≡ Some number → n ≡ number
+  agrees number is = s.4 number (ap (λ (z : Hold). known_in z.known field) same_hold ∙ is)
+
+  pub knows_more : KnowsMore now.known (knowing now field n).known
+  knows_more = known_still now field n agrees
+
+  pub link_now : IsLinkOf capacities now field n
+  link_now = subst (λ (z : Hold). IsLinkOf capacities z field n) same_hold s.3
+
+  after : x ≡ after9 (trod w H9 field n) now field n s.2.0
+  after = s.2.2 ∙ ap (λ (z : Hold). after9 (trod w H9 field n) z field n s.2.0) same_hold
+
+  pub loaded_more : HasLoaded v hold x (knowing now field n)
+  loaded_more =
+      let there : View = after9 (trod w H9 field n) now field n s.2.0 in
+      let longer : IsPrefix v.seen s.2.0 = prefix_through v.seen w.seen s.2.0 loaded.seen s.2.1 in
+      record {
+        was = loaded.was;
+        more = λ f number is. knows_more f number (loaded.more f number is);
+        only = λ j. record (loaded.only j) { known = record { field = field; number = n } ∷ now.known };
+        seen = subst (λ (z : View). IsPrefix v.seen z.seen) (sym after) (by (n == 0) longer);
+        view = after ∙ (λ j. record (loaded.view j) { hold = Some (knowing now field n); trail = there.trail; seen = there.seen }) ∙ (λ j. record v { hold = Some (knowing now field n); trail = (sym after j).trail; seen = (sym after j).seen });
+      }
+    where
+      by : (t : Bool) → IsPrefix v.seen s.2.0 → IsPrefix v.seen (cond t s.2.0 w.seen)
+      by true longer = longer
+      by false longer = loaded.seen
+
+      prefix_through : (a b c : List Mark) → IsPrefix a b → IsPrefix b c → IsPrefix a c
+      prefix_through a b c p q = subst (λ z. IsPrefix a z) q.1 (prefix_more a b q.0 p)
+
+  pub holds_then : x.hold ≡ Some (knowing now field n)
+  holds_then = ap (λ (z : View). z.hold) loaded_more.view
+
+-- the walk at its start
+pub walk_begins : (capacities : List ℕ) (key : ℕ) (v : View) (hold : Hold) → v.hold ≡ Some hold → (class : ℕ) → class ≡ hold.class → (link : ℕ) (x : View) → Loads capacities v (Head class) link x
+    → (new : Hold) × HasLoaded v hold x new × IsWalking capacities key new None link
+walk_begins capacities key v hold was class same link x s =
+    let none : HasLoaded v hold v hold = not_loaded v hold was in
+    let head : known_in (knowing hold (Head class) link).known (Head hold.class) ≡ Some link = subst (λ z. known_in (knowing hold (Head class) link).known (Head z) ≡ Some link) same (known_here hold (Head class) link) in (
+      knowing hold (Head class) link,
+      loaded_more capacities v hold v hold none (Head class) link x s,
+      record { first = link; passed = []; head = head; comes = refl; lacks = tt; from = head; slot = link_now capacities v hold v hold none (Head class) link x s },
+    )
+
+-- the walk at its end
+pub walk_ends : (capacities : List ℕ) (key : ℕ) (new : Hold) (previous : Option ℕ) (link : ℕ) → link ≡ 0 → IsWalking capacities key new previous link → ShowsAbsent new key
+walk_ends capacities key new previous link e walk = record { first = walk.first; walk = walk.passed; head = walk.head; whole = whole new.known walk.first walk.passed (subst (ComesOver new.known walk.first walk.passed) e walk.comes); lacks = walk.lacks }
+
+-- one turn of the walk
+module _ (capacities : List ℕ) (key : ℕ) (v : View) (hold : Hold) (w : View) (now : Hold) (loaded : HasLoaded v hold w now) (previous : Option ℕ) (link : ℕ) (walk : IsWalking capacities key now previous link) (slot : ℕ) (is : slot ≡ link) (ne : link ≢ 0) (k : ℕ) (x : View) (s : Loads capacities w (Key slot) k x) where
+  abbrev then : Hold
+  then = knowing now (Key slot) k
+
+  some_slot : slot ≢ 0
+  some_slot e = ne (sym is ∙ e)
+
+  more : KnowsMore now.known (knowing now (Key slot) k).known
+  more = knows_more capacities v hold w now loaded (Key slot) k x s
+
+  comes : ComesOver now.known walk.first walk.passed slot
+  comes = subst (ComesOver now.known walk.first walk.passed) (sym is) walk.comes
+
+  on_then : IsOnWalk (knowing now (Key slot) k) slot
+  on_then = record { first = walk.first; before = walk.passed; head = more (Head now.class) walk.first walk.head; comes = comes_to_still now.known (knowing now (Key slot) k).known more walk.first walk.passed slot (comes_to now.known walk.first walk.passed slot some_slot comes) }
+
+  from_then : (p : Option ℕ) → IsLinkedFrom now p link → IsLinkedFrom (knowing now (Key slot) k) p slot
+  from_then None f = more (Head now.class) slot (f ∙ ap Some (sym is))
+  from_then (Some p) f = (
+    record { first = f.0.first; before = f.0.before; head = more (Head now.class) f.0.first f.0.head; comes = comes_to_still now.known (knowing now (Key slot) k).known more f.0.first f.0.before p f.0.comes },
+    more (Next p) slot (f.1 ∙ ap Some (sym is)),
+  )
+
+  of_class : is_slot_of capacities now.class slot ≡ true
+  of_class = subst (λ z. is_slot_of capacities now.class z ≡ true) (sym is) (walk.slot ne)
+
+  same_class : now.class ≡ hold.class
+  same_class = ap (λ (z : Hold). z.class) loaded.only
+
+  pub walk_found : k ≡ key → (new : Hold) × HasLoaded v hold x new × IsFoundAt key new previous slot × (is_slot_of capacities hold.class slot ≡ true)
+  walk_found e = (
+    knowing now (Key slot) k,
+    loaded_more capacities v hold w now loaded (Key slot) k x s,
+    record { some = some_slot; on = on_then; from = from_then previous walk.from; key_is = known_here now (Key slot) k ∙ ap Some e },
+    subst (λ z. is_slot_of capacities z slot ≡ true) same_class of_class,
+  )
+
+  -- what the load of the next link asks for
+  pub may_load_next : (new : Hold) × (x.hold ≡ Some new) × (is_slot_of capacities new.class slot ≡ true)
+  may_load_next = (knowing now (Key slot) k, holds_then capacities v hold w now loaded (Key slot) k x s, of_class)
+
+  pub walk_passes : k ≢ key → (next : ℕ) (y : View) → Loads capacities x (Next slot) next y → (new : Hold) × HasLoaded v hold y new × IsWalking capacities key new (Some slot) next
+  walk_passes not next y t =
+      let here : HasLoaded v hold x (knowing now (Key slot) k) = loaded_more capacities v hold w now loaded (Key slot) k x s in
+      let further : KnowsMore (knowing now (Key slot) k).known (knowing (knowing now (Key slot) k) (Next slot) next).known = knows_more capacities v hold x (knowing now (Key slot) k) here (Next slot) next y t in
+      let next_is : known_in (knowing (knowing now (Key slot) k) (Next slot) next).known (Next slot) ≡ Some next = known_here (knowing now (Key slot) k) (Next slot) next in
+      let both : KnowsMore now.known (knowing (knowing now (Key slot) k) (Next slot) next).known = (λ f n e. further f n (more f n e)) in (
+        knowing (knowing now (Key slot) k) (Next slot) next,
+        loaded_more capacities v hold x (knowing now (Key slot) k) here (Next slot) next y t,
+        record {
+          first = walk.first;
+          passed = walk.passed ++ slot ∷ [];
+          head = both (Head now.class) walk.first walk.head;
+          comes = comes_more now.known (knowing (knowing now (Key slot) k) (Next slot) next).known both walk.first walk.passed slot next some_slot next_is comes;
+          lacks = lacks_more now.known (knowing (knowing now (Key slot) k) (Next slot) next).known both key walk.passed slot k (further (Key slot) k (known_here now (Key slot) k)) not walk.lacks;
+          from = (
+            record { first = on_then.first; before = on_then.before; head = further (Head now.class) on_then.first on_then.head; comes = comes_to_still (knowing now (Key slot) k).known (knowing (knowing now (Key slot) k) (Next slot) next).known further on_then.first on_then.before slot on_then.comes },
+            next_is,
+          );
+          slot = link_now capacities v hold x (knowing now (Key slot) k) here (Next slot) next y t on_then;
+        },
+      )

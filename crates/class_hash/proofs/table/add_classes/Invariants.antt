@@ -1,0 +1,7 @@
+use Rattle.std.proofs.Common.{◌≡◌}
+use Rattle.hash_core.specs.Slots.{base}
+use Rattle.class_hash.specs.Added.{HasClasses}
+use Rattle.class_hash.proofs.table.add_classes.Given as goal
+
+abbrev pub invariant-loop-room : goal.invariant-loop-room
+invariant-loop-room l = HasClasses l.capacities l.room-index l.words.items × (l.before ≡ base l.capacities l.room-index)

@@ -1,0 +1,36 @@
+-- What a step tells from the rule.
+-- Source: docs/ALGORITHM.md, "The steps of the hash dictionary".
+use Rattle.std.specs.Prelude.{◌≡◌, ◌≢◌, ℕ, ◌%◌, true, List, Some, None}
+use Rattle.prcu_model.specs.declared.mark.Mark.{Mark}
+use Rattle.hash_core.specs.declared.words.Field.{Field}
+use Rattle.hash_core.specs.declared.words.Field.TheVariants.{Head, Free, Retired, Next}
+use Rattle.hash_core.specs.declared.view.Stand.TheVariants.{Ended}
+use Rattle.hash_core.specs.declared.view.Section.{Section}
+use Rattle.hash_core.specs.declared.view.Hold.{Hold}
+use Rattle.hash_core.specs.Marks.{updates_of}
+use Rattle.hash_core.specs.Slots.{is_slot_of}
+use Rattle.hash_core.specs.Known.{IsOnWalk}
+use Rattle.hash_core.specs.Readers.{WasSaid}
+use Rattle.hash_core.specs.Steps.{StandsAt}
+
+-- What the section's search found, the dictionary said at some front since it was entered: nothing where the search came
+-- to an end, and the value where it loaded one.
+pub record GivesAnswer (seen : List Mark) (section : Section) : Type 0 where
+  pub absent : section.stand ≡ Ended → WasSaid (updates_of seen) section.key section.from None
+  pub present : (value : ℕ) → section.loaded ≡ Some value → WasSaid (updates_of seen) section.key section.from (Some value)
+
+-- the slot at which the search stands is one of its class
+abbrev pub StandsInClass : List ℕ → Section → Type 0
+StandsInClass capacities section = (slot : ℕ) → StandsAt section.stand slot → is_slot_of capacities (section.key % 64) slot ≡ true
+
+-- a link is 0 or a slot of the class
+abbrev pub IsLink : List ℕ → ℕ → ℕ → Type 0
+IsLink capacities class link = link ≢ 0 → is_slot_of capacities class link ≡ true
+
+-- what is found at the words of a class, and at the next of a slot on the known walk, is a link
+abbrev pub IsLinkOf : List ℕ → Hold → Field → ℕ → Type 0
+IsLinkOf capacities hold (Head d) found = IsLink capacities hold.class found
+IsLinkOf capacities hold (Free d) found = IsLink capacities hold.class found
+IsLinkOf capacities hold (Retired d) found = IsLink capacities hold.class found
+IsLinkOf capacities hold (Next slot) found = IsOnWalk hold slot → IsLink capacities hold.class found
+IsLinkOf capacities hold _ found = Unit {0}

@@ -1,0 +1,12 @@
+pub mod Fresh
+pub mod Seats
+pub mod Room
+pub mod Added
+pub mod Answers
+pub mod Stepped
+pub mod Told
+pub mod Lookups
+pub mod Calls
+pub mod Walks
+pub mod Replies
+pub mod Updates

@@ -1,0 +1,62 @@
+-- What the calls of the dictionary are told.
+-- Source: docs/ALGORITHM.md, "The calls of the hash dictionary".
+use Rattle.std.specs.Prelude.{◌≡◌, ℕ, ◌-◌, List, [], ◌∷◌, ◌++◌, length, Option, Some, None}
+use Rattle.prcu_model.specs.declared.operation.Reply.{Reply}
+use Rattle.prcu_model.specs.declared.operation.Reply.TheVariants.{Val, Absent, Was}
+use Rattle.std.specs.List.{AllByRecursion}
+use Rattle.std.specs.FinMap as finite
+use mathlib.Core.List.{IsPrefix}
+use Rattle.prcu_model.specs.declared.mark.Mark.{Mark}
+use Rattle.prcu_model.specs.declared.mark.Mark.TheVariants.{Entered, Left, Done}
+use Rattle.prcu_model.specs.declared.operation.Op.{Op}
+use Rattle.prcu_model.specs.declared.operation.Op.TheVariants.{Set}
+use Rattle.prcu_model.specs.Dictionary.{map_of}
+use Rattle.prcu_model.specs.History.{IsLegal}
+use Rattle.hash_core.specs.Marks.{updates_of}
+use Rattle.prcu_model.specs.declared.operation.Told.{Told}
+use Rattle.hash_core.specs.declared.view.View.{View}
+use Rattle.class_hash.specs.Lookups.{Looked}
+
+-- what a get is told
+abbrev pub told_of : Option ℕ → Told
+told_of None = record { reply = Absent; number = 0 }
+told_of (Some value) = record { reply = Val value; number = 0 }
+
+-- A get changes nothing but what the view has seen and done, and is told what the dictionary gave between its marks.
+abbrev pub Gets : View → ℕ → Told → View → Type 0
+Gets v key told w = (answer : Option ℕ) × (told ≡ told_of answer) × Looked v key answer w
+
+-- a mark of a section
+abbrev pub IsOfSection : Mark → Type 0
+IsOfSection (Entered p c x) = Unit {0}
+IsOfSection (Left p c) = Unit {0}
+IsOfSection _ = ⊥
+
+-- Some sections were entered and left, and nothing else has changed but what was seen and done.
+pub record HasTried (v w : View) : Type 0 where
+  pub marks : List Mark
+  pub plain : AllByRecursion IsOfSection marks
+  pub own : w.own ≡ v.own ++ marks
+  pub seen : IsPrefix v.seen w.seen
+  pub view : w ≡ record v { sections = w.sections; own = w.own; trail = w.trail; seen = w.seen }
+
+-- The one update of the call was made, as the last of the history so far, which is as long as the number. It used a ticket.
+pub record HasUpdated (v : View) (op : Op) (before : List Mark) (number : ℕ) (w : View) : Type 0 where
+  pub marks : List Mark
+  pub plain : AllByRecursion IsOfSection marks
+  pub own : w.own ≡ (v.own ++ marks) ++ Done (record { caller = v.place; op = op }) ∷ []
+  pub since : IsPrefix v.seen before
+  pub seen : w.seen ≡ before ++ Done (record { caller = v.place; op = op }) ∷ []
+  pub legal : IsLegal (updates_of w.seen)
+  pub number_is : number ≡ length (updates_of w.seen)
+  pub view : w ≡ record v { tickets = v.tickets - 1; sections = w.sections; own = w.own; trail = w.trail; seen = w.seen }
+
+-- A set is told Absent where its last search found nothing, and made no update. It is told the old value where it made its
+-- update: the dictionary gave the key that value just before.
+abbrev pub SetsBy : View → ℕ → ℕ → Reply → ℕ → View → Type 0
+SetsBy v key value Absent number w = (u : View) × HasTried v u × Looked u key None w × (number ≡ 0)
+SetsBy v key value (Was old) number w = (before : List Mark) × HasUpdated v (Set key value) before number w × (finite.get (map_of (updates_of before)) key ≡ Some old)
+SetsBy v key value _ number w = ⊥
+
+abbrev pub Sets : View → ℕ → ℕ → Told → View → Type 0
+Sets v key value told w = SetsBy v key value told.reply told.number w

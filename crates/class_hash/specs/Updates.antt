@@ -1,0 +1,51 @@
+-- What an update makes of a view, under a bucket's lock.
+-- Source: docs/ALGORITHM.md, "The calls of the hash dictionary".
+use Rattle.std.specs.Prelude.{◌≡◌, ℕ, ◌-◌, ◌≤◌, true, false, List, [], ◌∷◌, ◌++◌, length, Some, None}
+use Rattle.std.specs.FinMap as finite
+use mathlib.Core.List.{IsPrefix}
+use Rattle.prcu_model.specs.declared.mark.Mark.{Mark}
+use Rattle.prcu_model.specs.declared.mark.Mark.TheVariants.{Done}
+use Rattle.prcu_model.specs.declared.operation.Op.TheVariants.{Set}
+use Rattle.prcu_model.specs.Dictionary.{map_of}
+use Rattle.prcu_model.specs.History.{IsLegal}
+use Rattle.hash_core.specs.declared.words.Field.TheVariants.{Key}
+use Rattle.hash_core.specs.declared.view.Hold.{Hold}
+use Rattle.hash_core.specs.declared.view.View.{View}
+use Rattle.hash_core.specs.Marks.{updates_of}
+use Rattle.hash_core.specs.Slots.{is_slot_of}
+use Rattle.hash_core.specs.Known.{known_in, IsOnWalk}
+use Rattle.hash_core.specs.Steps.{fresh_hold, Needs7}
+
+-- a bucket's lock was taken, after some steps
+abbrev pub HasLocked : View → ℕ → View → Type 0
+HasLocked v class w = w ≡ record v { hold = Some (fresh_hold class); trail = w.trail }
+
+-- the front was made odd, after some steps
+pub record HasTurned (v : View) (even : ℕ) (w : View) : Type 0 where
+  pub small : even ≤ 2199023255553
+  pub view : w ≡ record v { turn = Some (record { found = even; stored = false }); trail = w.trail }
+
+-- Under the lock, with nothing begun, the slot is on the known walk and has the key; and a ticket is left.
+pub record MayReplace (capacities : List ℕ) (v : View) (slot key : ℕ) : Type 0 where
+  pub hold : Hold
+  pub finished : Needs7 v hold
+  pub on : IsOnWalk hold slot
+  pub key_is : known_in hold.known (Key slot) ≡ Some key
+  pub slot_is : is_slot_of capacities hold.class slot ≡ true
+  pub ticket : 1 ≤ v.tickets
+
+-- The one update of the call was made as the last of the history so far, which is as long as the number, and the lock was
+-- given up. After the updates before it the dictionary gave the key the old value.
+pub record Replaced (v : View) (key value old number : ℕ) (w : View) : Type 0 where
+  pub before : List Mark
+  pub since : IsPrefix v.seen before
+  pub was : finite.get (map_of (updates_of before)) key ≡ Some old
+  pub legal : IsLegal (updates_of w.seen)
+  pub number_is : number ≡ length (updates_of w.seen)
+  pub view : w ≡ record v {
+    tickets = v.tickets - 1;
+    hold = None;
+    own = v.own ++ Done (record { caller = v.place; op = Set key value }) ∷ [];
+    trail = w.trail;
+    seen = before ++ Done (record { caller = v.place; op = Set key value }) ∷ [];
+  }

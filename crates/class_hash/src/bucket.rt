@@ -1,0 +1,92 @@
+//! Buckets: their locks, their lists, and the wait for the readers of their class.
+ghost use Rattle.std.specs.Prelude.{◌≡◌, ◌<◌, None};
+ghost use Rattle.hash_core.specs.Steps.{IsQuiet};
+ghost use Rattle.class_hash.specs.Stepped.{Unlocks};
+ghost use Rattle.class_hash.specs.Calls.{Tries, HasFinished, Lists, MayPoll, Polls};
+
+use crate::seat::HashSeat;
+use crate::steps::{h6, h7, h8, h9, h10_move, h10_refill};
+use crate::table::HashTable;
+use hash_core::Field;
+use prcu_model::Why;
+
+/// What `try_bucket` answers.
+#[derive(Clone, Copy, Debug, PartialEq, Eq)]
+pub enum Lock {
+    /// The lock was free, and is the seat's now.
+    Held,
+    /// The place of who holds it, plus 1.
+    Busy { found: u64 },
+}
+
+/// What `poll_class` answers.
+#[derive(Clone, Copy, Debug, PartialEq, Eq)]
+pub enum Poll {
+    /// No reader of the class was found.
+    Over,
+    NotYet { why: Why },
+}
+
+/// Tries once to lock the bucket of a class: `Held` comes exactly where its lock was free, `Busy` exactly where it was
+/// held.
+pub fn try_bucket(table: &HashTable, seat: &mut HashSeat, class: u32) -> Lock
+    requires table { seat.old.table ≡ table.now.id }
+    requires quiet { IsQuiet seat.old.view }
+    requires class { class < 64 }
+    ensures table { seat.new.table ≡ seat.old.table }
+    ensures view { Tries seat.old.view class result seat.new.view }
+    ensures turn { seat.old.view.turn ≡ None }
+{
+    match h6(table, seat, class) {
+        0 => Lock::Held,
+        found => Lock::Busy { found },
+    }
+}
+
+/// Unlocks the bucket.
+pub fn free_bucket(table: &HashTable, seat: &mut HashSeat)
+    requires table { seat.old.table ≡ table.now.id }
+    requires finished { HasFinished seat.old.view }
+    ensures table { seat.new.table ≡ seat.old.table }
+    ensures view { Unlocks seat.old.view seat.new.view }
+{
+    h7(table, seat);
+}
+
+/// Loads the first free and the first retired slot of the bucket's class, 0 where there is none.
+pub fn lists(table: &HashTable, seat: &mut HashSeat) -> (u64, u64)
+    requires table { seat.old.table ≡ table.now.id }
+    requires finished { HasFinished seat.old.view }
+    ensures table { seat.new.table ≡ seat.old.table }
+    ensures view { Lists table.now.capacities seat.old.view result.0 result.1 seat.new.view }
+{
+    let class = seat.class_held();
+    let free = h9(table, seat, Field::Free { class });
+    let retired = h9(table, seat, Field::Retired { class });
+    (free, retired)
+}
+
+/// Looks once for readers of the bucket's class. `Over` comes exactly where there is none: the retired list, whose slots
+/// none can come to now, is then the free list. `NotYet` names how many there are, at least 1, and nothing changed.
+pub fn poll_class(table: &HashTable, seat: &mut HashSeat) -> Poll
+    requires table { seat.old.table ≡ table.now.id }
+    requires lists { MayPoll seat.old.view }
+    ensures table { seat.new.table ≡ seat.old.table }
+    ensures view { Polls seat.old.view result seat.new.view }
+{
+    let class = seat.class_held();
+    let first = seat.first_retired();
+    let count = h8(table, seat);
+    if count != 0 {
+        return Poll::NotYet {
+            why: Why::Counter {
+                class,
+                side: 0,
+                count,
+            },
+        };
+    }
+    h10_move(table, seat, first);
+    h10_refill(table, seat, first);
+    Poll::Over
+}

@@ -1,0 +1,56 @@
+//! The calls of the dictionary.
+ghost use Rattle.std.specs.Prelude.{◌≡◌, ◌≤◌};
+ghost use Rattle.hash_core.specs.Steps.{IsQuiet};
+ghost use Rattle.class_hash.specs.Replies.{Gets, Sets};
+
+use crate::bucket::free_bucket;
+use crate::search::search;
+use crate::seat::HashSeat;
+use crate::table::HashTable;
+use crate::updates::{lock_bucket, replace};
+use crate::walk::walk_locked;
+use prcu_model::{Reply, Told};
+use std::sync::Wait;
+
+fn told(reply: Reply, number: u64) -> Told
+    ensures { result ≡ record { reply = reply; number = number } }
+{
+    Told { reply, number }
+}
+
+/// The key's value, or `Absent`, as the dictionary gave it at some time of the call. It waits for nobody's step, but others'
+/// updates can make the search longer.
+pub fn get<R: Wait>(rt: &R, table: &HashTable, seat: &mut HashSeat, key: u64) -> Told
+    requires table { seat.old.table ≡ table.now.id }
+    requires quiet { IsQuiet seat.old.view }
+    ensures table { seat.new.table ≡ seat.old.table }
+    ensures view { Gets seat.old.view key result seat.new.view }
+{
+    match search(rt, table, seat, key) {
+        Some(value) => told(Reply::Val { value }, 0),
+        None => told(Reply::Absent, 0),
+    }
+}
+
+/// Gives the key another value, where it is present: `Was` with the old value and the update's position. `Absent` as at
+/// `get`. It waits for the holder of the bucket's lock and for other updates.
+pub fn set<R: Wait>(rt: &R, table: &HashTable, seat: &mut HashSeat, key: u64, value: u64) -> Told
+    requires table { seat.old.table ≡ table.now.id }
+    requires quiet { IsQuiet seat.old.view }
+    requires ticket { 1 ≤ seat.old.view.tickets }
+    ensures table { seat.new.table ≡ seat.old.table }
+    ensures view { Sets seat.old.view key value result seat.new.view }
+{
+    for _ in rt.forever() {
+        if search(rt, table, seat, key).is_none() {
+            return told(Reply::Absent, 0);
+        }
+        lock_bucket(rt, table, seat, (key % 64) as u32);
+        if let Some(place) = walk_locked(rt, table, seat, key) {
+            let (old, number) = replace(rt, table, seat, place.slot, key, value);
+            return told(Reply::Was { value: old }, number);
+        }
+        free_bucket(table, seat);
+    }
+    unreachable!()
+}

@@ -1,0 +1,24 @@
+//! A hash dictionary of 64 buckets. Lookups take no lock, updates hold the lock of their bucket, and a slot is used again
+//! after a wait for the readers of its class alone.
+#![tactic(auto)]
+
+mod bucket;
+mod dictionary;
+mod rule;
+mod search;
+mod seat;
+mod sections;
+mod steps;
+mod table;
+mod told;
+mod updates;
+mod walk;
+
+pub use bucket::{Lock, Poll, free_bucket, lists, poll_class, try_bucket};
+pub use dictionary::{get, set};
+pub use seat::HashSeat;
+pub use sections::{enter, leave};
+pub use table::HashTable;
+
+#[cfg(test)]
+mod tests;

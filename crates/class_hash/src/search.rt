@@ -1,0 +1,68 @@
+//! A search in a section, without a lock.
+ghost use Rattle.std.specs.Prelude.{◌≡◌, ◌≢◌, ℕ, ◌%◌, true, Option, Some, None};
+ghost use Rattle.hash_core.specs.declared.view.Stand.TheVariants.{Start, Unread, Passed, Found, Ended};
+ghost use Rattle.hash_core.specs.declared.view.View.{View};
+ghost use Rattle.hash_core.specs.Slots.{is_slot_of};
+ghost use Rattle.hash_core.specs.Steps.{IsQuiet};
+ghost use Rattle.class_hash.specs.Lookups.{IsSearching, IsAtLink, Looked};
+
+use crate::seat::HashSeat;
+use crate::steps::{h3, h4, h5};
+use crate::table::HashTable;
+use hash_core::Field;
+use std::sync::Wait;
+
+/// Looks for the key in a section that is entered and left. The value comes from a front in between.
+pub(crate) fn search<R: Wait>(
+    rt: &R,
+    table: &HashTable,
+    seat: &mut HashSeat,
+    key: u64,
+) -> Option<u64>
+    requires table { seat.old.table ≡ table.now.id }
+    requires quiet { IsQuiet seat.old.view }
+    ensures table { seat.new.table ≡ seat.old.table }
+    ensures view { Looked seat.old.view key result seat.new.view }
+{
+    h3(table, seat, key);
+    let answer = walk_unlocked(rt, table, seat, key);
+    h4(table, seat);
+    answer
+}
+
+// The value that the search in the open section comes to.
+fn walk_unlocked<R: Wait>(rt: &R, table: &HashTable, seat: &mut HashSeat, key: u64) -> Option<u64>
+    requires table { seat.old.table ≡ table.now.id }
+    requires entered { (before : View) × IsSearching before key Start None seat.old.view }
+    ensures table { seat.new.table ≡ seat.old.table }
+    ensures ended { (before : View) → IsSearching before key Start None seat.old.view → result ≡ None → IsSearching before key Ended None seat.new.view }
+    ensures found { (before : View) (value : ℕ) → IsSearching before key Start None seat.old.view → result ≡ Some value → (slot : ℕ) × IsSearching before key (Found slot) (Some value) seat.new.view }
+{
+    let mut link = h5(
+        table,
+        seat,
+        Field::Head {
+            class: (key % 64) as u32,
+        },
+    );
+    for _ in rt.forever() {
+        if link == 0 {
+            return None;
+        }
+        let slot = slot_at(table, link);
+        if h5(table, seat, Field::Key { slot }) == key {
+            return Some(h5(table, seat, Field::Value { slot }));
+        }
+        link = h5(table, seat, Field::Next { slot });
+    }
+    unreachable!()
+}
+
+/// The slot to which a link leads that isn't 0.
+pub(crate) fn slot_at(table: &HashTable, link: u64) -> u32
+    requires { (class : ℕ) × (is_slot_of table.now.capacities class link ≡ true) }
+    ensures { result ≡ link }
+{
+    let _inside = &table.table;
+    link as u32
+}

@@ -1,0 +1,30 @@
+//! Sections: what a reader enters and leaves.
+ghost use Rattle.std.specs.Prelude.{◌≡◌, ℕ, Some};
+ghost use Rattle.hash_core.specs.declared.view.Section.{Section};
+ghost use Rattle.hash_core.specs.Steps.{IsQuiet};
+ghost use Rattle.class_hash.specs.Stepped.{Enters, Leaves};
+
+use crate::seat::HashSeat;
+use crate::steps::{h3, h4};
+use crate::table::HashTable;
+
+/// Enters a section with this key. Until the seat leaves it, no slot of the key's class that it may come to is used again.
+pub fn enter(table: &HashTable, seat: &mut HashSeat, key: u64)
+    requires table { seat.old.table ≡ table.now.id }
+    requires quiet { IsQuiet seat.old.view }
+    ensures table { seat.new.table ≡ seat.old.table }
+    ensures view { (found : ℕ) × Enters seat.old.view key found seat.new.view }
+    ensures inside { (section : Section) × (seat.new.view.section ≡ Some section) × (section.key ≡ key) }
+{
+    h3(table, seat, key);
+}
+
+/// Leaves the open section.
+pub fn leave(table: &HashTable, seat: &mut HashSeat)
+    requires table { seat.old.table ≡ table.now.id }
+    requires inside { (section : Section) × (seat.old.view.section ≡ Some section) }
+    ensures table { seat.new.table ≡ seat.old.table }
+    ensures view { (found : ℕ) × Leaves seat.old.view found seat.new.view }
+{
+    h4(table, seat);
+}

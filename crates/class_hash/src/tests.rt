@@ -1,0 +1,46 @@
+//! What no clause says: that a table is made, that it may cross threads, and what its calls answer together.
+use super::*;
+use prcu_model::{Reply, Told};
+use std::test::Fail;
+
+fn is_send<T: Send>() {}
+
+fn is_sync<T: Sync>() {}
+
+#[test]
+fn a_table_and_its_seats_cross_threads() {
+    is_send::<HashTable>();
+    is_sync::<HashTable>();
+    is_send::<HashSeat>();
+}
+
+#[test]
+fn a_bucket_that_is_held_names_its_holder(rt: HostRuntime) -> Result<(), Fail> {
+    let mut capacities = [0; 64];
+    capacities[6] = 2;
+    let (table, seat) = HashTable::new(rt.alloc(), &capacities, 2, 8)?;
+    let (mut a, mut b) = seat.split(&table, 1, 4);
+    assert_eq!(rt;
+        (a.place(), a.tickets(), b.place(), b.unused()),
+        (0, 4, 1, 0)
+    );
+    assert_eq!(rt; try_bucket(&table, &mut b, 6), Lock::Held);
+    assert_eq!(rt; try_bucket(&table, &mut a, 6), Lock::Busy { found: 2 });
+    Ok(())
+}
+
+#[test]
+fn nothing_is_found_in_a_fresh_table(rt: HostRuntime) -> Result<(), Fail> {
+    let mut capacities = [0; 64];
+    capacities[6] = 2;
+    let (table, mut seat) = HashTable::new(rt.alloc(), &capacities, 1, 8)?;
+    let absent = Told {
+        reply: Reply::Absent,
+        number: 0,
+    };
+    assert_eq!(rt; get(&rt, &table, &mut seat, 6), absent);
+    assert_eq!(rt; set(&rt, &table, &mut seat, 70, 1), absent);
+    enter(&table, &mut seat, 7);
+    leave(&table, &mut seat);
+    Ok(())
+}

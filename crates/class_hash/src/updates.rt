@@ -1,0 +1,74 @@
+//! Updates under a bucket's lock.
+ghost use Rattle.std.specs.Prelude.{◌≡◌, ◌+◌, ◌<◌, Some, None};
+ghost use Rattle.hash_core.specs.declared.view.Hold.{Hold};
+ghost use Rattle.hash_core.specs.Steps.{IsQuiet};
+ghost use Rattle.class_hash.specs.Updates.{HasLocked, HasTurned, MayReplace, Replaced};
+
+use crate::bucket::{Lock, try_bucket};
+use crate::seat::HashSeat;
+use crate::steps::{h7, h9, h12, h15, h16};
+use crate::table::HashTable;
+use crossbeam_utils::Backoff;
+use hash_core::Field;
+use std::sync::Wait;
+
+/// Locks the bucket of a class, as soon as nobody holds it.
+pub(crate) fn lock_bucket<R: Wait>(rt: &R, table: &HashTable, seat: &mut HashSeat, class: u32)
+    requires table { seat.old.table ≡ table.now.id }
+    requires quiet { IsQuiet seat.old.view }
+    requires class { class < 64 }
+    ensures table { seat.new.table ≡ seat.old.table }
+    ensures view { HasLocked seat.old.view class seat.new.view }
+    ensures turn { seat.old.view.turn ≡ None }
+{
+    let backoff = Backoff::new();
+    for _ in rt.forever() {
+        match try_bucket(table, seat, class) {
+            Lock::Held => return,
+            Lock::Busy { found: _ } => backoff.snooze(),
+        }
+    }
+    unreachable!()
+}
+
+/// Makes the front odd, as soon as it is even, and answers what it was.
+pub(crate) fn turn_front<R: Wait>(rt: &R, table: &HashTable, seat: &mut HashSeat) -> u64
+    requires table { seat.old.table ≡ table.now.id }
+    requires held { (hold : Hold) × (seat.old.view.hold ≡ Some hold) }
+    ensures table { seat.new.table ≡ seat.old.table }
+    ensures view { HasTurned seat.old.view result seat.new.view }
+{
+    let backoff = Backoff::new();
+    let mut even = 0;
+    for _ in rt.forever() {
+        let found = h12(table, seat, even);
+        if found == even {
+            return even;
+        }
+        even = found + found % 2;
+        backoff.snooze();
+    }
+    unreachable!()
+}
+
+/// Replaces the value of the slot found, gives up the lock, and answers the old value and the update's position.
+pub(crate) fn replace<R: Wait>(
+    rt: &R,
+    table: &HashTable,
+    seat: &mut HashSeat,
+    slot: u32,
+    key: u64,
+    value: u64,
+) -> (u64, u64)
+    requires table { seat.old.table ≡ table.now.id }
+    requires case { MayReplace table.now.capacities seat.old.view slot key }
+    ensures table { seat.new.table ≡ seat.old.table }
+    ensures view { Replaced seat.old.view key value result.0 result.1 seat.new.view }
+{
+    let old = h9(table, seat, Field::Value { slot });
+    let even = turn_front(rt, table, seat);
+    h15(table, seat, even, slot, key, value);
+    h16(table, seat, even);
+    h7(table, seat);
+    (old, even / 2 + 1)
+}

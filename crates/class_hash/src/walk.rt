@@ -1,0 +1,50 @@
+//! The walk along a bucket's chain under its lock.
+ghost use Rattle.std.specs.Prelude.{◌≡◌, ◌%◌, true, Option, Some, None, IfNone, IfSome};
+ghost use Rattle.hash_core.specs.declared.view.Hold.{Hold};
+ghost use Rattle.hash_core.specs.Known.{ShowsAbsent};
+ghost use Rattle.hash_core.specs.Slots.{is_slot_of};
+ghost use Rattle.class_hash.specs.Walks.{HasLoaded, IsWalking, IsFoundAt};
+
+use crate::search::slot_at;
+use crate::seat::HashSeat;
+use crate::steps::h9;
+use crate::table::HashTable;
+use hash_core::Field;
+use std::sync::Wait;
+
+/// Where a walk found the key: the slot, and the slot before it, if it isn't the first.
+#[derive(Clone, Copy, Drop)]
+pub(crate) struct Place {
+    pub(crate) previous: Option<u32>,
+    pub(crate) slot: u32,
+}
+
+/// Looks for the key along the chain of its class, whose lock the seat holds.
+pub(crate) fn walk_locked<R: Wait>(
+    rt: &R,
+    table: &HashTable,
+    seat: &mut HashSeat,
+    key: u64,
+) -> Option<Place>
+    requires table { seat.old.table ≡ table.now.id }
+    requires held { (hold : Hold) × (seat.old.view.hold ≡ Some hold) }
+    ensures table { seat.new.table ≡ seat.old.table }
+    ensures absent { IfNone result ((hold : Hold) → seat.old.view.hold ≡ Some hold → (new : Hold) × HasLoaded seat.old.view hold seat.new.view new × ShowsAbsent new key) }
+    ensures found { IfSome result (λ place. (hold : Hold) → seat.old.view.hold ≡ Some hold → (new : Hold) × HasLoaded seat.old.view hold seat.new.view new × IsFoundAt key new place.previous place.slot × (is_slot_of table.now.capacities hold.class place.slot ≡ true)) }
+{
+    let class = seat.class_held();
+    let mut previous = None;
+    let mut link = h9(table, seat, Field::Head { class });
+    for _ in rt.forever() {
+        if link == 0 {
+            return None;
+        }
+        let slot = slot_at(table, link);
+        if h9(table, seat, Field::Key { slot }) == key {
+            return Some(Place { previous, slot });
+        }
+        link = h9(table, seat, Field::Next { slot });
+        previous = Some(slot);
+    }
+    unreachable!()
+}
