@@ -9,3 +9,4 @@ pub mod Searching
 pub mod Walking
 pub mod Updating
 pub mod Trying
+pub mod Unlinking

@@ -1,25 +1,25 @@
 -- Tries of an update: a search, the lock, a walk under it, and the lock given up or the update made.
-use Rattle.std.proofs.Common.{◌≡◌, ℕ, ◌+◌, ◌-◌, ◌≤◌, true, List, [], ◌∷◌, ◌++◌, Option, Some, None, refl, sym, ap, subst, ◌∙◌, append_assoc, append-nil}
+use Rattle.std.proofs.Common.{◌≡◌, ℕ, ◌+◌, ◌-◌, ◌≤◌, true, List, [], ◌∷◌, ◌++◌, Option, Some, None, IfSome, refl, sym, ap, subst, ◌∙◌, append_assoc, append-nil}
 use Rattle.std.specs.List.{AllByRecursion}
 use mathlib.Core.List.{IsPrefix}
 use Rattle.prcu_model.specs.declared.mark.Mark.{Mark}
-use Rattle.prcu_model.specs.declared.mark.Mark.TheVariants.{Entered, Left, Done}
-use Rattle.prcu_model.specs.declared.operation.Op.TheVariants.{Set}
-use Rattle.prcu_model.specs.declared.operation.Reply.TheVariants.{Was}
+use Rattle.prcu_model.specs.declared.mark.Mark.TheVariants.{Entered, Left, Done, Unlinked}
+use Rattle.prcu_model.specs.declared.operation.Op.TheVariants.{Set, Del}
+use Rattle.prcu_model.specs.declared.operation.Reply.TheVariants.{Gone, Was}
 use Rattle.hash_core.specs.declared.words.Field.TheVariants.{Lock}
 use Rattle.hash_core.specs.declared.words.Kind.TheVariants.{H7}
 use Rattle.hash_core.specs.declared.view.Section.{Section}
 use Rattle.hash_core.specs.declared.view.Hold.{Hold}
 use Rattle.hash_core.specs.declared.view.View.{View}
-use Rattle.hash_core.specs.Slots.{is_slot_of}
+use Rattle.hash_core.specs.Slots.{is_slot_of, IsOfClass}
 use Rattle.hash_core.specs.Steps.{trod, IsQuiet, Needs7, after7, fresh_hold}
 use Rattle.hash_core.proofs.Lists.{all_append, prefix_self}
 use Rattle.class_hash.specs.Stepped.{Unlocks}
 use Rattle.class_hash.specs.Lookups.{Looked}
 use Rattle.class_hash.specs.Walks.{HasLoaded, IsFoundAt}
-use Rattle.class_hash.specs.Updates.{HasLocked, MayReplace, Replaced}
+use Rattle.class_hash.specs.Updates.{HasLocked, MayReplace, Replaced, link_after, MayUnlink, Removed}
 use Rattle.class_hash.specs.Calls.{HasFinished}
-use Rattle.class_hash.specs.Replies.{IsOfSection, HasTried, SetsBy}
+use Rattle.class_hash.specs.Replies.{IsOfSection, HasTried, SetsBy, DelsBy}
 use Rattle.class_hash.proofs.Calls.{prefix_trans}
 
 pub nothing_tried : (v : View) → HasTried v v
@@ -117,4 +117,39 @@ module _ (v w x y z : View) (key class : ℕ) (answer : Option ℕ) (new : Hold)
           view = whole ∙ sym (ap (λ (y : View). record v { tickets = v.tickets - 1; sections = y.sections; own = y.own; trail = y.trail; seen = y.seen }) whole);
         },
         r.was,
+      )
+
+  pub may_unlink : (capacities : List ℕ) (previous : Option ℕ) (slot : ℕ) → IsFoundAt key new previous slot → is_slot_of capacities class slot ≡ true → IfSome previous (λ p. is_slot_of capacities class p ≡ true) → 1 ≤ v.tickets → MayUnlink capacities z previous slot key
+  may_unlink capacities previous slot found of from ticket = record {
+    hold = new;
+    finished = needs_z;
+    found = found;
+    link = subst (λ (h : Hold). IsOfClass capacities h.class (link_after h.class previous)) (sym n.only) (by previous from);
+    slot_is = subst (λ (h : Hold). is_slot_of capacities h.class slot ≡ true) (sym n.only) of;
+    ticket = subst (λ q. 1 ≤ q) (sym (ap (λ (u : View). u.tickets) z_is)) ticket;
+  }
+    where
+      by : (p : Option ℕ) → IfSome p (λ q. is_slot_of capacities class q ≡ true) → IsOfClass capacities class (link_after class p)
+      by None f = refl
+      by (Some q) f = f
+
+  pub removed_once : (u : View) (number : ℕ) → Removed z key number u → DelsBy v key Gone number u
+  removed_once u number r =
+      let place : z.place ≡ v.place = ap (λ (y : View). y.place) z_is in
+      let F : View → View = λ y. record y { tickets = y.tickets - 1; hold = None; own = z.own ++ Done (record { caller = z.place; op = Del key }) ∷ []; trail = u.trail; seen = r.before ++ Done (record { caller = z.place; op = Del key }) ∷ Unlinked r.slot ∷ [] } in
+      let u_is : u ≡ F walked = r.view ∙ ap F z_is in
+      let whole : u ≡ record (F walked) { section = v.section; hold = v.hold } = u_is ∙ ap (λ (q : Option Section × Option Hold). record (F walked) { section = q.0; hold = q.1 }) (λ i. (sym quiet.0 i, sym quiet.1 i)) in (
+        r.before,
+        r.slot,
+        record {
+          marks = t.marks ++ Entered w.place w.sections key ∷ Left w.place w.sections ∷ [];
+          plain = plain_z;
+          own = ap (λ (y : View). y.own) r.view ∙ ap (λ o. o ++ Done (record { caller = z.place; op = Del key }) ∷ []) own_z
+              ∙ ap (λ p. (v.own ++ (t.marks ++ Entered w.place w.sections key ∷ Left w.place w.sections ∷ [])) ++ Done (record { caller = p; op = Del key }) ∷ []) place;
+          since = prefix_trans v.seen z.seen r.before seen_z r.since;
+          seen = ap (λ (y : View). y.seen) r.view ∙ ap (λ p. r.before ++ Done (record { caller = p; op = Del key }) ∷ Unlinked r.slot ∷ []) place;
+          legal = r.legal;
+          number_is = r.number_is;
+          view = whole ∙ sym (ap (λ (y : View). record v { tickets = v.tickets - 1; sections = y.sections; own = y.own; trail = y.trail; seen = y.seen }) whole);
+        },
       )

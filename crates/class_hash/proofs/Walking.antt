@@ -1,5 +1,5 @@
 -- Walks along a chain under its lock.
-use Rattle.std.proofs.Common.{◌≡◌, ◌≢◌, ℕ, ◌==◌, Bool, true, false, cond, List, [], ◌∷◌, ◌++◌, Option, Some, None, refl, sym, ap, subst, ◌∙◌}
+use Rattle.std.proofs.Common.{◌≡◌, ◌≢◌, ℕ, ◌==◌, Bool, true, false, cond, List, [], ◌∷◌, ◌++◌, Option, Some, None, IfSome, refl, sym, ap, subst, ◌∙◌}
 use mathlib.Core.List.{IsPrefix}
 use Rattle.prcu_model.specs.declared.mark.Mark.{Mark}
 use Rattle.hash_core.specs.declared.words.Field.{Field}
@@ -114,7 +114,7 @@ walk_begins capacities key v hold was class same link x s =
     let head : known_in (knowing hold (Head class) link).known (Head hold.class) ≡ Some link = subst (λ z. known_in (knowing hold (Head class) link).known (Head z) ≡ Some link) same (known_here hold (Head class) link) in (
       knowing hold (Head class) link,
       loaded_more capacities v hold v hold none (Head class) link x s,
-      record { first = link; passed = []; head = head; comes = refl; lacks = tt; from = head; slot = link_now capacities v hold v hold none (Head class) link x s },
+      record { first = link; passed = []; head = head; comes = refl; lacks = tt; from = head; slot = link_now capacities v hold v hold none (Head class) link x s; before = tt },
     )
 
 -- the walk at its end
@@ -151,12 +151,13 @@ module _ (capacities : List ℕ) (key : ℕ) (v : View) (hold : Hold) (w : View)
   same_class : now.class ≡ hold.class
   same_class = ap (λ (z : Hold). z.class) loaded.only
 
-  pub walk_found : k ≡ key → (new : Hold) × HasLoaded v hold x new × IsFoundAt key new previous slot × (is_slot_of capacities hold.class slot ≡ true)
+  pub walk_found : k ≡ key → (new : Hold) × HasLoaded v hold x new × IsFoundAt key new previous slot × (is_slot_of capacities hold.class slot ≡ true) × IfSome previous (λ p. is_slot_of capacities hold.class p ≡ true)
   walk_found e = (
     knowing now (Key slot) k,
     loaded_more capacities v hold w now loaded (Key slot) k x s,
     record { some = some_slot; on = on_then; from = from_then previous walk.from; key_is = known_here now (Key slot) k ∙ ap Some e },
     subst (λ z. is_slot_of capacities z slot ≡ true) same_class of_class,
+    subst (λ z. IfSome previous (λ p. is_slot_of capacities z p ≡ true)) same_class walk.before,
   )
 
   -- what the load of the next link asks for
@@ -182,5 +183,6 @@ module _ (capacities : List ℕ) (key : ℕ) (v : View) (hold : Hold) (w : View)
             next_is,
           );
           slot = link_now capacities v hold x (knowing now (Key slot) k) here (Next slot) next y t on_then;
+          before = of_class;
         },
       )

@@ -2,14 +2,14 @@
 -- Source: docs/ALGORITHM.md, "The calls of the hash dictionary".
 use Rattle.std.specs.Prelude.{◌≡◌, ℕ, ◌-◌, List, [], ◌∷◌, ◌++◌, length, Option, Some, None}
 use Rattle.prcu_model.specs.declared.operation.Reply.{Reply}
-use Rattle.prcu_model.specs.declared.operation.Reply.TheVariants.{Val, Absent, Was}
+use Rattle.prcu_model.specs.declared.operation.Reply.TheVariants.{Val, Absent, Gone, Was}
 use Rattle.std.specs.List.{AllByRecursion}
 use Rattle.std.specs.FinMap as finite
 use mathlib.Core.List.{IsPrefix}
 use Rattle.prcu_model.specs.declared.mark.Mark.{Mark}
-use Rattle.prcu_model.specs.declared.mark.Mark.TheVariants.{Entered, Left, Done}
+use Rattle.prcu_model.specs.declared.mark.Mark.TheVariants.{Entered, Left, Done, Unlinked}
 use Rattle.prcu_model.specs.declared.operation.Op.{Op}
-use Rattle.prcu_model.specs.declared.operation.Op.TheVariants.{Set}
+use Rattle.prcu_model.specs.declared.operation.Op.TheVariants.{Set, Del}
 use Rattle.prcu_model.specs.Dictionary.{map_of}
 use Rattle.prcu_model.specs.History.{IsLegal}
 use Rattle.hash_core.specs.Marks.{updates_of}
@@ -41,12 +41,13 @@ pub record HasTried (v w : View) : Type 0 where
   pub view : w ≡ record v { sections = w.sections; own = w.own; trail = w.trail; seen = w.seen }
 
 -- The one update of the call was made, as the last of the history so far, which is as long as the number. It used a ticket.
-pub record HasUpdated (v : View) (op : Op) (before : List Mark) (number : ℕ) (w : View) : Type 0 where
+-- No other mark than these came with it.
+pub record HasUpdated (v : View) (op : Op) (before more : List Mark) (number : ℕ) (w : View) : Type 0 where
   pub marks : List Mark
   pub plain : AllByRecursion IsOfSection marks
   pub own : w.own ≡ (v.own ++ marks) ++ Done (record { caller = v.place; op = op }) ∷ []
   pub since : IsPrefix v.seen before
-  pub seen : w.seen ≡ before ++ Done (record { caller = v.place; op = op }) ∷ []
+  pub seen : w.seen ≡ before ++ Done (record { caller = v.place; op = op }) ∷ more
   pub legal : IsLegal (updates_of w.seen)
   pub number_is : number ≡ length (updates_of w.seen)
   pub view : w ≡ record v { tickets = v.tickets - 1; sections = w.sections; own = w.own; trail = w.trail; seen = w.seen }
@@ -55,8 +56,17 @@ pub record HasUpdated (v : View) (op : Op) (before : List Mark) (number : ℕ) (
 -- update: the dictionary gave the key that value just before.
 abbrev pub SetsBy : View → ℕ → ℕ → Reply → ℕ → View → Type 0
 SetsBy v key value Absent number w = (u : View) × HasTried v u × Looked u key None w × (number ≡ 0)
-SetsBy v key value (Was old) number w = (before : List Mark) × HasUpdated v (Set key value) before number w × (finite.get (map_of (updates_of before)) key ≡ Some old)
+SetsBy v key value (Was old) number w = (before : List Mark) × HasUpdated v (Set key value) before [] number w × (finite.get (map_of (updates_of before)) key ≡ Some old)
 SetsBy v key value _ number w = ⊥
 
 abbrev pub Sets : View → ℕ → ℕ → Told → View → Type 0
 Sets v key value told w = SetsBy v key value told.reply told.number w
+
+-- A del is told Absent as a set is. It is told Gone where it made its update and unlinked the key's slot.
+abbrev pub DelsBy : View → ℕ → Reply → ℕ → View → Type 0
+DelsBy v key Absent number w = (u : View) × HasTried v u × Looked u key None w × (number ≡ 0)
+DelsBy v key Gone number w = (before : List Mark) × (slot : ℕ) × HasUpdated v (Del key) before (Unlinked slot ∷ []) number w
+DelsBy v key _ number w = ⊥
+
+abbrev pub Dels : View → ℕ → Told → View → Type 0
+Dels v key told w = DelsBy v key told.reply told.number w

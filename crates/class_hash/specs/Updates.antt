@@ -1,20 +1,22 @@
 -- What an update makes of a view, under a bucket's lock.
 -- Source: docs/ALGORITHM.md, "The calls of the hash dictionary".
-use Rattle.std.specs.Prelude.{◌≡◌, ℕ, ◌-◌, ◌≤◌, true, false, List, [], ◌∷◌, ◌++◌, length, Some, None}
+use Rattle.std.specs.Prelude.{◌≡◌, ℕ, ◌-◌, ◌≤◌, true, false, List, [], ◌∷◌, ◌++◌, length, Option, Some, None}
 use Rattle.std.specs.FinMap as finite
 use mathlib.Core.List.{IsPrefix}
 use Rattle.prcu_model.specs.declared.mark.Mark.{Mark}
-use Rattle.prcu_model.specs.declared.mark.Mark.TheVariants.{Done}
-use Rattle.prcu_model.specs.declared.operation.Op.TheVariants.{Set}
+use Rattle.prcu_model.specs.declared.mark.Mark.TheVariants.{Done, Unlinked}
+use Rattle.prcu_model.specs.declared.operation.Op.TheVariants.{Set, Del}
 use Rattle.prcu_model.specs.Dictionary.{map_of}
 use Rattle.prcu_model.specs.History.{IsLegal}
-use Rattle.hash_core.specs.declared.words.Field.TheVariants.{Key}
+use Rattle.hash_core.specs.declared.words.Field.{Field}
+use Rattle.hash_core.specs.declared.words.Field.TheVariants.{Head, Key, Next}
 use Rattle.hash_core.specs.declared.view.Hold.{Hold}
 use Rattle.hash_core.specs.declared.view.View.{View}
 use Rattle.hash_core.specs.Marks.{updates_of}
-use Rattle.hash_core.specs.Slots.{is_slot_of}
+use Rattle.hash_core.specs.Slots.{is_slot_of, IsOfClass}
 use Rattle.hash_core.specs.Known.{known_in, IsOnWalk}
 use Rattle.hash_core.specs.Steps.{fresh_hold, Needs7}
+use Rattle.class_hash.specs.Walks.{IsFoundAt}
 
 -- a bucket's lock was taken, after some steps
 abbrev pub HasLocked : View → ℕ → View → Type 0
@@ -48,4 +50,33 @@ pub record Replaced (v : View) (key value old number : ℕ) (w : View) : Type 0 
     own = v.own ++ Done (record { caller = v.place; op = Set key value }) ∷ [];
     trail = w.trail;
     seen = before ++ Done (record { caller = v.place; op = Set key value }) ∷ [];
+  }
+
+-- the link to the slot that comes after another, or first
+abbrev pub link_after : ℕ → Option ℕ → Field
+link_after class None = Head class
+link_after class (Some slot) = Next slot
+
+-- Under the lock, with nothing begun, the slot was found on the known walk, from a link of the class; and a ticket is left.
+pub record MayUnlink (capacities : List ℕ) (v : View) (previous : Option ℕ) (slot key : ℕ) : Type 0 where
+  pub hold : Hold
+  pub finished : Needs7 v hold
+  pub found : IsFoundAt key hold previous slot
+  pub link : IsOfClass capacities hold.class (link_after hold.class previous)
+  pub slot_is : is_slot_of capacities hold.class slot ≡ true
+  pub ticket : 1 ≤ v.tickets
+
+-- The one update of the call was made, as where a value is replaced, and a slot was unlinked with it.
+pub record Removed (v : View) (key number : ℕ) (w : View) : Type 0 where
+  pub before : List Mark
+  pub slot : ℕ
+  pub since : IsPrefix v.seen before
+  pub legal : IsLegal (updates_of w.seen)
+  pub number_is : number ≡ length (updates_of w.seen)
+  pub view : w ≡ record v {
+    tickets = v.tickets - 1;
+    hold = None;
+    own = v.own ++ Done (record { caller = v.place; op = Del key }) ∷ [];
+    trail = w.trail;
+    seen = before ++ Done (record { caller = v.place; op = Del key }) ∷ Unlinked slot ∷ [];
   }

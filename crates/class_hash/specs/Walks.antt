@@ -1,6 +1,6 @@
 -- The walk along a chain under its lock.
 -- Source: docs/ALGORITHM.md, "The calls of the hash dictionary".
-use Rattle.std.specs.Prelude.{◌≡◌, ◌≢◌, ℕ, true, List, [], ◌∷◌, Option, Some, None}
+use Rattle.std.specs.Prelude.{◌≡◌, ◌≢◌, ℕ, true, List, [], ◌∷◌, Option, Some, None, IfSome}
 use mathlib.Core.List.{IsPrefix}
 use Rattle.hash_core.specs.declared.words.Field.{Field}
 use Rattle.hash_core.specs.declared.words.Field.TheVariants.{Head, Key, Next}
@@ -41,6 +41,7 @@ pub record IsWalking (capacities : List ℕ) (key : ℕ) (hold : Hold) (previous
   pub lacks : LacksKey hold.known key passed
   pub from : IsLinkedFrom hold previous link
   pub slot : link ≢ 0 → is_slot_of capacities hold.class link ≡ true
+  pub before : IfSome previous (λ p. is_slot_of capacities hold.class p ≡ true)
 
 -- The walk came to the slot that has the key.
 pub record IsFoundAt (key : ℕ) (hold : Hold) (previous : Option ℕ) (slot : ℕ) : Type 0 where

@@ -1,13 +1,13 @@
 //! The calls of the dictionary.
 ghost use Rattle.std.specs.Prelude.{◌≡◌, ◌≤◌};
 ghost use Rattle.hash_core.specs.Steps.{IsQuiet};
-ghost use Rattle.class_hash.specs.Replies.{Gets, Sets};
+ghost use Rattle.class_hash.specs.Replies.{Gets, Sets, Dels};
 
 use crate::bucket::free_bucket;
 use crate::search::search;
 use crate::seat::HashSeat;
 use crate::table::HashTable;
-use crate::updates::{lock_bucket, replace};
+use crate::updates::{lock_bucket, replace, unlink};
 use crate::walk::walk_locked;
 use prcu_model::{Reply, Told};
 use std::sync::Wait;
@@ -49,6 +49,29 @@ pub fn set<R: Wait>(rt: &R, table: &HashTable, seat: &mut HashSeat, key: u64, va
         if let Some(place) = walk_locked(rt, table, seat, key) {
             let (old, number) = replace(rt, table, seat, place.slot, key, value);
             return told(Reply::Was { value: old }, number);
+        }
+        free_bucket(table, seat);
+    }
+    unreachable!()
+}
+
+/// Takes the key out, where it is present: `Gone` with the update's position. `Absent` as at `get`. It waits for the holder
+/// of the bucket's lock and for other updates.
+pub fn del<R: Wait>(rt: &R, table: &HashTable, seat: &mut HashSeat, key: u64) -> Told
+    requires table { seat.old.table ≡ table.now.id }
+    requires quiet { IsQuiet seat.old.view }
+    requires ticket { 1 ≤ seat.old.view.tickets }
+    ensures table { seat.new.table ≡ seat.old.table }
+    ensures view { Dels seat.old.view key result seat.new.view }
+{
+    for _ in rt.forever() {
+        if search(rt, table, seat, key).is_none() {
+            return told(Reply::Absent, 0);
+        }
+        lock_bucket(rt, table, seat, (key % 64) as u32);
+        if let Some(place) = walk_locked(rt, table, seat, key) {
+            let number = unlink(rt, table, seat, place.previous, place.slot, key);
+            return told(Reply::Gone, number);
         }
         free_bucket(table, seat);
     }

@@ -15,7 +15,7 @@ mod updates;
 mod walk;
 
 pub use bucket::{Lock, Poll, free_bucket, lists, poll_class, try_bucket};
-pub use dictionary::{get, set};
+pub use dictionary::{del, get, set};
 pub use seat::HashSeat;
 pub use sections::{enter, leave};
 pub use table::HashTable;

@@ -2,11 +2,11 @@
 ghost use Rattle.std.specs.Prelude.{◌≡◌, ◌+◌, ◌<◌, Some, None};
 ghost use Rattle.hash_core.specs.declared.view.Hold.{Hold};
 ghost use Rattle.hash_core.specs.Steps.{IsQuiet};
-ghost use Rattle.class_hash.specs.Updates.{HasLocked, HasTurned, MayReplace, Replaced};
+ghost use Rattle.class_hash.specs.Updates.{HasLocked, HasTurned, MayReplace, Replaced, link_after, MayUnlink, Removed};
 
 use crate::bucket::{Lock, try_bucket};
 use crate::seat::HashSeat;
-use crate::steps::{h7, h9, h12, h15, h16};
+use crate::steps::{h7, h9, h10_chain, h10_push, h12, h14, h15, h16};
 use crate::table::HashTable;
 use crossbeam_utils::Backoff;
 use hash_core::Field;
@@ -71,4 +71,48 @@ pub(crate) fn replace<R: Wait>(
     h16(table, seat, even);
     h7(table, seat);
     (old, even / 2 + 1)
+}
+
+// The link to the slot that comes after another, or first.
+fn link_from(class: u32, previous: Option<u32>) -> Field
+    ensures { result ≡ link_after class previous }
+{
+    match previous {
+        Some(slot) => Field::Next { slot },
+        None => Field::Head { class },
+    }
+}
+
+/// Unlinks the slot found, puts it on the retired list, gives up the lock, and answers the update's position.
+pub(crate) fn unlink<R: Wait>(
+    rt: &R,
+    table: &HashTable,
+    seat: &mut HashSeat,
+    previous: Option<u32>,
+    slot: u32,
+    key: u64,
+) -> u64
+    requires table { seat.old.table ≡ table.now.id }
+    requires case { MayUnlink table.now.capacities seat.old.view previous slot key }
+    ensures table { seat.new.table ≡ seat.old.table }
+    ensures view { Removed seat.old.view key result seat.new.view }
+{
+    let class = seat.class_held();
+    let next = h9(table, seat, Field::Next { slot });
+    let first = h9(table, seat, Field::Retired { class });
+    let even = turn_front(rt, table, seat);
+    h14(
+        table,
+        seat,
+        even,
+        link_from(class, previous),
+        slot,
+        key,
+        next,
+    );
+    h10_chain(table, seat, slot, first);
+    h10_push(table, seat, slot);
+    h16(table, seat, even);
+    h7(table, seat);
+    even / 2 + 1
 }

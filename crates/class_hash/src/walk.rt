@@ -30,7 +30,7 @@ pub(crate) fn walk_locked<R: Wait>(
     requires held { (hold : Hold) × (seat.old.view.hold ≡ Some hold) }
     ensures table { seat.new.table ≡ seat.old.table }
     ensures absent { IfNone result ((hold : Hold) → seat.old.view.hold ≡ Some hold → (new : Hold) × HasLoaded seat.old.view hold seat.new.view new × ShowsAbsent new key) }
-    ensures found { IfSome result (λ place. (hold : Hold) → seat.old.view.hold ≡ Some hold → (new : Hold) × HasLoaded seat.old.view hold seat.new.view new × IsFoundAt key new place.previous place.slot × (is_slot_of table.now.capacities hold.class place.slot ≡ true)) }
+    ensures found { IfSome result (λ place. (hold : Hold) → seat.old.view.hold ≡ Some hold → (new : Hold) × HasLoaded seat.old.view hold seat.new.view new × IsFoundAt key new place.previous place.slot × (is_slot_of table.now.capacities hold.class place.slot ≡ true) × IfSome place.previous (λ p. is_slot_of table.now.capacities hold.class p ≡ true)) }
 {
     let class = seat.class_held();
     let mut previous = None;
