@@ -1,5 +1,5 @@
 -- What the rule tells of a seat and of the words.
-use Rattle.std.proofs.Common.{◌≡◌, ℕ, ◌+◌, ◌*◌, ◌%◌, ◌<◌, ◌≤◌, nat_le, ◌&&◌, Bool, true, false, cond, List, [], ◌∷◌, ◌++◌, length, sum, Some, None, refl, sym, ap, subst, ◌∙◌, inl, inr, arith}
+use Rattle.std.proofs.Common.{◌≡◌, ◌≢◌, ℕ, ◌+◌, ◌*◌, ◌%◌, ◌<◌, ◌≤◌, nat_le, ◌&&◌, Bool, true, false, cond, List, [], ◌∷◌, ◌++◌, length, sum, Some, None, refl, sym, ap, subst, ◌∙◌, inl, inr, arith}
 use Rattle.std.proofs.lemmas.Bool.{lt-ltb, le-leb}
 use mathlib.Core.Logic.{dite}
 use native.Mathlib.Decide.{ℕ_discrete}
@@ -34,6 +34,8 @@ use Rattle.hash_core.proofs.Memories.{word_inside}
 use Rattle.hash_core.proofs.Frames.{way_slot, chain_slot, free_slot, retired_slot}
 use Rattle.hash_core.proofs.Quiet.{same_marks}
 use Rattle.hash_core.proofs.Locks.{holder_of, class_small}
+use Rattle.hash_core.proofs.Links.{on_chain}
+use Rattle.hash_core.proofs.Stocks.{roles_by}
 use Rattle.prcu_model.specs.History.{IsLegal}
 use Rattle.class_hash.specs.Stepped.{IsUpdated}
 use Rattle.class_hash.specs.Answers.{GivesAnswer, StandsInClass, IsLink, IsLinkOf}
@@ -154,6 +156,16 @@ module _ (capacities : List ℕ) (places tickets : ℕ) (m : Memory) (vs : List 
         let class : key % 64 ≡ hold.class = ap (λ z. z % 64) (sym is) ∙ all_times (λ s. m (Key s) % 64 ≡ hold.class) (r.bucket hold.class).chain slot rule.chained.classes there in
         let found : seek m (m (Key slot)) (r.bucket hold.class).chain ≡ Some (m (Value slot)) = ap (seek m (m (Key slot))) q.2 ∙ seek_slot m slot q.0 q.1 (subst (HaveDistinctKeys m) q.2 rule.chained.distinct) in
         rule.mapped.answers key class ∙ subst (λ z. seek m z (r.bucket hold.class).chain ≡ Some (m (Value slot))) is found
+
+    -- a free slot isn't on the known walk
+    pub free_off : (slot : ℕ) → slot ≢ 0 → known_in hold.known (Free hold.class) ≡ Some slot → IsOnWalk hold slot → ⊥
+    free_off slot ne first_is on =
+        let there : 1 ≤ times slot (r.bucket hold.class).chain = on_chain capacities places tickets m vs h r id v at hold mine slot on in
+        let p = path_cons (λ s. m (Chain s)) slot (r.bucket hold.class).free ne (subst (λ z. IsPath (λ s. m (Chain s)) z (r.bucket hold.class).free) (known (Free hold.class) slot first_is).1 rule.listed.free) in
+        let free : 1 ≤ times slot (r.bucket hold.class).free = (let e = ap (times slot) p.1 in let t = times_here slot p.0 in omega arith) in
+        let once : cond (is_slot_of capacities hold.class slot) 1 0 ≡ 1 = ap (λ b. cond b 1 0) (free_slot capacities hold.class (r.bucket hold.class) rule.roles slot free) in
+        let roles = roles_by capacities places tickets m vs h r id v at hold mine slot in
+        absurd (omega arith)
 
     pub old_value : (slot key old : ℕ) → IsOnWalk hold slot → known_in hold.known (Key slot) ≡ Some key → known_in hold.known (Value slot) ≡ Some old → finite.get (map_of (updates_of h)) key ≡ Some old
     old_value slot key old on key_is value_is = value_now slot key on key_is ∙ ap Some (known (Value slot) old value_is).1
