@@ -163,9 +163,10 @@ module _ (capacities : List ℕ) (places tickets : ℕ) (m : Memory) (vs : List 
         let there : 1 ≤ times slot (r.bucket hold.class).chain = on_chain capacities places tickets m vs h r id v at hold mine slot on in
         let p = path_cons (λ s. m (Chain s)) slot (r.bucket hold.class).free ne (subst (λ z. IsPath (λ s. m (Chain s)) z (r.bucket hold.class).free) (known (Free hold.class) slot first_is).1 rule.listed.free) in
         let free : 1 ≤ times slot (r.bucket hold.class).free = (let e = ap (times slot) p.1 in let t = times_here slot p.0 in omega arith) in
-        let once : cond (is_slot_of capacities hold.class slot) 1 0 ≡ 1 = ap (λ b. cond b 1 0) (free_slot capacities hold.class (r.bucket hold.class) rule.roles slot free) in
-        let roles = roles_by capacities places tickets m vs h r id v at hold mine slot in
-        absurd (omega arith)
+        in_both _ _ _ _ _ _ _ (roles_by capacities places tickets m vs h r id v at hold mine slot) (ap (λ b. cond b 1 0) (free_slot capacities hold.class (r.bucket hold.class) rule.roles slot free)) there free
+      where
+        in_both : (a b c d e f t : ℕ) → a + b + c + d + e + f ≡ t → t ≡ 1 → 1 ≤ a → 1 ≤ b → ⊥
+        in_both a b c d e f t all one first second = absurd (omega arith)
 
     pub old_value : (slot key old : ℕ) → IsOnWalk hold slot → known_in hold.known (Key slot) ≡ Some key → known_in hold.known (Value slot) ≡ Some old → finite.get (map_of (updates_of h)) key ≡ Some old
     old_value slot key old on key_is value_is = value_now slot key on key_is ∙ ap Some (known (Value slot) old value_is).1
