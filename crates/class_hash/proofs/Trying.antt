@@ -1,5 +1,5 @@
 -- Tries of an update: a search, the lock, a walk under it, and the lock given up or the update made.
-use Rattle.std.proofs.Common.{◌≡◌, ℕ, ◌+◌, ◌-◌, ◌%◌, ◌≤◌, true, List, [], ◌∷◌, ◌++◌, Option, Some, None, IfSome, is_some, refl, sym, ap, subst, ◌∙◌, append_assoc, append-nil}
+use Rattle.std.proofs.Common.{◌≡◌, ℕ, ◌+◌, ◌-◌, ◌%◌, ◌≤◌, true, List, [], ◌∷◌, ◌++◌, Option, Some, None, IfNone, IfSome, is_some, refl, sym, ap, subst, ◌∙◌, append_assoc, append-nil}
 use Rattle.std.specs.List.{AllByRecursion}
 use mathlib.Core.List.{IsPrefix}
 use Rattle.prcu_model.specs.declared.mark.Mark.{Mark}
@@ -21,7 +21,7 @@ use Rattle.class_hash.specs.Walks.{HasLoaded, IsFoundAt}
 use Rattle.class_hash.specs.Updates.{HasLocked, MayReplace, Replaced, link_after, MayUnlink, Removed}
 use Rattle.class_hash.specs.Calls.{HasFinished, Lists}
 use Rattle.class_hash.specs.Puts.{MayAdd, Linked, Added, LeavesFull}
-use Rattle.class_hash.specs.Replies.{IsOfSection, HasTried, PutsBy, SetsBy, DelsBy}
+use Rattle.class_hash.specs.Replies.{IsOfSection, HasTried, told_added, PutsBy, Puts, SetsBy, DelsBy}
 use Rattle.class_hash.proofs.Calls.{prefix_trans}
 
 pub nothing_tried : (v : View) → HasTried v v
@@ -215,6 +215,10 @@ module _ (v w x y z : View) (key class : ℕ) (answer : Option ℕ) (new : Hold)
         (z, record { hold = new; class = ap (λ (h : Hold). h.class) n.only ∙ sym of; absent = absent; seen = seen_z; view = walked_is }, left),
         refl,
       )
+
+  pub put_once : (capacities : List ℕ) (u : View) (value : ℕ) (answer : Option ℕ) → key % 64 ≡ class → ShowsAbsent new key → IfNone answer (LeavesFull capacities z u) → IfSome answer (λ number. Added z key value number u) → Puts capacities v key value (told_added answer) u
+  put_once capacities u value None of absent left added = full_once capacities u value of absent left
+  put_once capacities u value (Some number) of absent left added = added_once capacities u value number added
 
 -- a search that found the key
 pub found_once : (capacities : List ℕ) (v w x : View) (key value : ℕ) (answer : Option ℕ) → is_some answer ≡ true → HasTried v w → Looked w key answer x → PutsBy capacities v key value Old 0 x

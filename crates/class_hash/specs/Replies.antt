@@ -82,6 +82,11 @@ pub record HasWalked (v : View) (key : ℕ) (w : View) : Type 0 where
   pub seen : IsPrefix v.seen w.seen
   pub view : w ≡ record v { sections = w.sections; hold = Some hold; own = w.own; trail = w.trail; seen = w.seen }
 
+-- what a put is told that found the key absent, by its update's position, where it made one
+abbrev pub told_added : Option ℕ → Told
+told_added None = record { reply = Full; number = 0 }
+told_added (Some number) = record { reply = New; number = number }
+
 -- A put is told Old where its last search found the key, and made no update. It is told New where it was given a slot and made
 -- its update. It is told Full where it made no update, and under the lock, where the key was absent, found no free slot and no
 -- retired one.

@@ -1,7 +1,7 @@
 //! The calls of the dictionary.
 ghost use Rattle.std.specs.Prelude.{◌≡◌, ◌≤◌};
 ghost use Rattle.hash_core.specs.Steps.{IsQuiet};
-ghost use Rattle.class_hash.specs.Replies.{Gets, Puts, Sets, Dels};
+ghost use Rattle.class_hash.specs.Replies.{Gets, told_added, Puts, Sets, Dels};
 
 use crate::bucket::free_bucket;
 use crate::puts::add;
@@ -17,6 +17,15 @@ fn told(reply: Reply, number: u64) -> Told
     ensures { result ≡ record { reply = reply; number = number } }
 {
     Told { reply, number }
+}
+
+fn told_added(added: Option<u64>) -> Told
+    ensures { result ≡ told_added added }
+{
+    match added {
+        Some(number) => told(Reply::New, number),
+        None => told(Reply::Full, 0),
+    }
 }
 
 /// The key's value, or `Absent`, as the dictionary gave it at some time of the call. It waits for nobody's step, but others'
@@ -48,12 +57,9 @@ pub fn put<R: Wait>(rt: &R, table: &HashTable, seat: &mut HashSeat, key: u64, va
             return told(Reply::Old, 0);
         }
         lock_bucket(rt, table, seat, (key % 64) as u32);
-        if walk_locked(rt, table, seat, key).is_none() {
-            return match add(rt, table, seat, key, value) {
-                Some(number) => told(Reply::New, number),
-                None => told(Reply::Full, 0),
-            };
-        }
+        let Some(_) = walk_locked(rt, table, seat, key) else {
+            return told_added(add(rt, table, seat, key, value));
+        };
         free_bucket(table, seat);
     }
     unreachable!()
