@@ -1,5 +1,5 @@
 -- A slot taken and filled under a bucket's lock.
-use Rattle.std.proofs.Common.{◌≡◌, ◌≢◌, ℕ, ◌%◌, ◌≤◌, Bool, true, false, cond, List, [], ◌∷◌, ◌++◌, Option, Some, None, refl, sym, ap, subst, ◌∙◌, arith, ne_eqb}
+use Rattle.std.proofs.Common.{◌≡◌, ◌≢◌, ℕ, ◌≤◌, true, cond, List, [], ◌∷◌, ◌++◌, Some, refl, sym, ap, subst, ◌∙◌, arith, ne_eqb}
 use Rattle.std.specs.List.{AllByRecursion}
 use mathlib.Core.List.{IsPrefix}
 use Rattle.prcu_model.specs.declared.mark.Mark.TheVariants.{Given}
@@ -10,15 +10,15 @@ use Rattle.hash_core.specs.declared.words.Kind.TheVariants.{H8, H10, H11}
 use Rattle.hash_core.specs.declared.view.Hold.{Hold}
 use Rattle.hash_core.specs.declared.view.Known.{Known}
 use Rattle.hash_core.specs.declared.view.View.{View}
-use Rattle.hash_core.specs.Slots.{is_slot_of, IsOfClass}
+use Rattle.hash_core.specs.Slots.{is_slot_of}
 use Rattle.hash_core.specs.Known.{known_in, knowing, IsWholeWalk, LacksKey, ShowsAbsent, ComesTo, IsOnWalk}
 use Rattle.hash_core.specs.Steps.{trod, Needs7, NeedsTake, Needs11, after_take, after11}
 use Rattle.hash_core.proofs.Classes.{slot_within}
 use Rattle.class_hash.specs.declared.bucket.Poll.TheVariants.{NotYet}
 use Rattle.class_hash.specs.Stepped.{Loads, Takes, Writes}
-use Rattle.class_hash.specs.Calls.{HasFinished, Lists, MayPoll, Refilled, Waits, Polls, polled}
+use Rattle.class_hash.specs.Calls.{HasFinished, Lists, MayPoll, Refilled, Polls, polled}
 use Rattle.class_hash.specs.Walks.{HasLoaded, KnowsMore}
-use Rattle.class_hash.specs.Puts.{HasPolled, HasFree, MayFill, MayLink, Filled}
+use Rattle.class_hash.specs.Puts.{HasPolled, HasFree, MayFill, Filled}
 use Rattle.class_hash.proofs.Walking.{not_loaded, loaded_more, knows_more, known_here, lacks_still}
 use Rattle.class_hash.proofs.Calls.{prefix_trans}
 

@@ -3,7 +3,7 @@ use Rattle.prcu_model.specs.declared.operation.Told.{Told}
 use Rattle.hash_core.specs.declared.view.View.{View}
 use Rattle.hash_core.specs.Steps.{fresh_hold}
 use Rattle.class_hash.specs.Replies.{Puts}
-use Rattle.class_hash.proofs.Trying.{tried_again, put_once, may_add}
+use Rattle.class_hash.proofs.Trying.{tried_again, put_once}
 use Rattle.class_hash.proofs.dictionary.put.Goals as goal
 
 pub walk_locked-requires-clause-held : goal.walk_locked-requires-clause-held
