@@ -19,27 +19,13 @@ use Rattle.class_hash.specs.Stepped.{Loads, Takes, Writes}
 use Rattle.class_hash.specs.Calls.{HasFinished, Lists, MayPoll, Refilled, Polls, polled}
 use Rattle.class_hash.specs.Walks.{HasLoaded, KnowsMore}
 use Rattle.class_hash.specs.Puts.{HasPolled, HasFree, MayFill, Filled}
-use Rattle.class_hash.proofs.Walking.{not_loaded, loaded_more, knows_more, known_here, lacks_still}
+use Rattle.class_hash.proofs.Walking.{not_loaded, loaded_more, knows_more, known_here, lacks_still, avoids_zero, whole_kept, lacks_kept}
 use Rattle.class_hash.proofs.Calls.{prefix_trans}
 
 -- a walk that never comes to a slot
 pub avoids : (known : List Known) (slot first : ℕ) (ss : List ℕ) → IsWholeWalk known first ss → ((before : List ℕ) → ComesTo known first before slot → ⊥) → AllByRecursion (λ s. s ≢ slot) ss
 avoids known slot first [] w never = tt
 avoids known slot first (s ∷ ss) w never = ((λ e. never [] (w.0 ∙ e, λ z. w.1 (e ∙ z))), avoids known slot w.2.0 ss w.2.2 (λ before c. never (s ∷ before) (w.0, w.1, (w.2.0, w.2.1, c))))
-
-avoids_zero : (known : List Known) (first : ℕ) (ss : List ℕ) → IsWholeWalk known first ss → AllByRecursion (λ s. s ≢ 0) ss
-avoids_zero known first [] w = tt
-avoids_zero known first (s ∷ ss) w = (w.1, avoids_zero known w.2.0 ss w.2.2)
-
--- what stays known of a walk where another slot is stored in
-module _ (before after : List Known) (slot : ℕ) (nexts : (s : ℕ) → s ≢ slot → known_in after (Next s) ≡ known_in before (Next s)) (keys : (s : ℕ) → s ≢ slot → known_in after (Key s) ≡ known_in before (Key s)) where
-  pub whole_kept : (first : ℕ) (ss : List ℕ) → AllByRecursion (λ s. s ≢ slot) ss → IsWholeWalk before first ss → IsWholeWalk after first ss
-  whole_kept first [] a w = w
-  whole_kept first (s ∷ ss) a w = (w.0, w.1, (w.2.0, nexts s a.0 ∙ w.2.1, whole_kept w.2.0 ss a.1 w.2.2))
-
-  pub lacks_kept : (key : ℕ) (ss : List ℕ) → AllByRecursion (λ s. s ≢ slot) ss → LacksKey before key ss → LacksKey after key ss
-  lacks_kept key [] a l = tt
-  lacks_kept key (s ∷ ss) a l = ((l.0.0, keys s a.0 ∙ l.0.1, l.0.2), lacks_kept key ss a.1 l.1)
 
 pub whole_still : (before after : List Known) → KnowsMore before after → (first : ℕ) (ss : List ℕ) → IsWholeWalk before first ss → IsWholeWalk after first ss
 whole_still before after more first [] w = w

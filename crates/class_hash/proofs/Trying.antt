@@ -11,7 +11,11 @@ use Rattle.hash_core.specs.declared.words.Kind.TheVariants.{H7}
 use Rattle.hash_core.specs.declared.view.Section.{Section}
 use Rattle.hash_core.specs.declared.view.Hold.{Hold}
 use Rattle.hash_core.specs.declared.view.View.{View}
-use Rattle.hash_core.specs.Slots.{is_slot_of, IsOfClass}
+use Rattle.prcu_model.specs.Dictionary.{map_of}
+use Rattle.hash_core.specs.Marks.{updates_of}
+use Rattle.hash_core.specs.Pairs.{HasPairs}
+use Rattle.hash_core.specs.Slots.{capacity, is_slot_of, IsOfClass}
+use Rattle.class_hash.specs.Answers.{IsFull}
 use Rattle.hash_core.specs.Known.{ShowsAbsent}
 use Rattle.hash_core.specs.Steps.{trod, IsQuiet, Needs7, after7, fresh_hold}
 use Rattle.hash_core.proofs.Lists.{all_append, prefix_self}
@@ -204,6 +208,9 @@ module _ (v w x y z : View) (key class : ℕ) (answer : Option ℕ) (new : Hold)
       let first : u ≡ record left.0 { hold = None; trail = u.trail } = e.2 ∙ sym (ap (λ (q : View). record left.0 { hold = None; trail = q.trail }) e.2) in
       let u_is : u ≡ F walked = first ∙ ap F l.rest ∙ ap F z_is in
       let whole : u ≡ record (F walked) { section = v.section; hold = v.hold } = u_is ∙ ap (λ (q : Option Section × Option Hold). record (F walked) { section = q.0; hold = q.1 }) (λ i. (sym quiet.0 i, sym quiet.1 i)) in
+      let same : l.hold ≡ new = (let q : Some l.hold ≡ Some new = sym l.is ∙ ap (λ (q : View). q.hold) n.view in cc) in
+      let class_new : new.class ≡ key % 64 = ap (λ (h : Hold). h.class) n.only ∙ sym of in
+      let full : IsFull capacities new u.seen = subst (λ s. IsFull capacities new s) (sym (ap (λ (q : View). q.seen) first)) (subst (λ (k : Hold). IsFull capacities k left.0.seen) same (l.full refl refl)) in
       let own_u : u.own ≡ z.own = ap (λ (q : View). q.own) first ∙ ap (λ (q : View). q.own) l.rest in (
         record {
           marks = t.marks ++ Entered w.place w.sections key ∷ Left w.place w.sections ∷ [];
@@ -213,6 +220,7 @@ module _ (v w x y z : View) (key class : ℕ) (answer : Option ℕ) (new : Hold)
           view = whole ∙ sym (ap (λ (q : View). record v { sections = q.sections; own = q.own; trail = q.trail; seen = q.seen }) whole);
         },
         (z, record { hold = new; class = ap (λ (h : Hold). h.class) n.only ∙ sym of; absent = absent; seen = seen_z; view = walked_is }, left),
+        record { absent = full.absent key (sym class_new) absent; pairs = subst (λ d. HasPairs d (map_of (updates_of u.seen)) (capacity capacities d)) class_new full.pairs },
         refl,
       )
 

@@ -16,6 +16,8 @@ use Rattle.hash_core.specs.Marks.{updates_of}
 use Rattle.prcu_model.specs.declared.operation.Told.{Told}
 use Rattle.hash_core.specs.declared.view.Hold.{Hold}
 use Rattle.hash_core.specs.declared.view.View.{View}
+use Rattle.hash_core.specs.Slots.{capacity}
+use Rattle.hash_core.specs.Pairs.{HasPairs}
 use Rattle.hash_core.specs.Known.{ShowsAbsent}
 use Rattle.class_hash.specs.Lookups.{Looked}
 use Rattle.class_hash.specs.Puts.{HasGiven, LeavesFull}
@@ -82,6 +84,11 @@ pub record HasWalked (v : View) (key : ℕ) (w : View) : Type 0 where
   pub seen : IsPrefix v.seen w.seen
   pub view : w ≡ record v { sections = w.sections; hold = Some hold; own = w.own; trail = w.trail; seen = w.seen }
 
+-- After the updates seen the key is absent, and its class has as many pairs as slots.
+pub record HasNoRoom (capacities : List ℕ) (key : ℕ) (seen : List Mark) : Type 0 where
+  pub absent : finite.get (map_of (updates_of seen)) key ≡ None
+  pub pairs : HasPairs (key % 64) (map_of (updates_of seen)) (capacity capacities (key % 64))
+
 -- what a put is told that found the key absent, by its update's position, where it made one
 abbrev pub told_added : Option ℕ → Told
 told_added None = record { reply = Full; number = 0 }
@@ -89,11 +96,11 @@ told_added (Some number) = record { reply = New; number = number }
 
 -- A put is told Old where its last search found the key, and made no update. It is told New where it was given a slot and made
 -- its update. It is told Full where it made no update, and under the lock, where the key was absent, found no free slot and no
--- retired one.
+-- retired one: so the class had no room.
 abbrev pub PutsBy : List ℕ → View → ℕ → ℕ → Reply → ℕ → View → Type 0
 PutsBy capacities v key value Old number w = (u : View) × HasTried v u × ((old : ℕ) × Looked u key (Some old) w) × (number ≡ 0)
 PutsBy capacities v key value New number w = (before : List Mark) × (slot : ℕ) × HasUpdated v (Put key value) before [] number w × HasGiven v.seen slot before
-PutsBy capacities v key value Full number w = HasTried v w × ((u : View) × HasWalked v key u × LeavesFull capacities u w) × (number ≡ 0)
+PutsBy capacities v key value Full number w = HasTried v w × ((u : View) × HasWalked v key u × LeavesFull capacities u w) × HasNoRoom capacities key w.seen × (number ≡ 0)
 PutsBy capacities v key value _ number w = ⊥
 
 abbrev pub Puts : List ℕ → View → ℕ → ℕ → Told → View → Type 0
