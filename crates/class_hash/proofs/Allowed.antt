@@ -197,8 +197,17 @@ module _ (k : Shape) (slots id : ℕ) (me : Me Nothing View) where
         after9 v1 hold field n r.marks,
         r.marks,
         subst (λ z. M (memory_of k.capacities.items s.words) (set vs1 id (after9 v1 hold field z r.marks)) r.marks) found (law9 caps k.places k.tickets m vs1 r.marks r1 id v1 at1 hold mine field of (m field == 0)),
-        (refl, (hold, mine, (r.marks, r.holds.seen.begins id me.0 at, refl), subst (IsLinkOf caps hold field) found (link_of caps k.places k.tickets m s.views r.marks r.holds id me.0 at hold mine field of), λ number is. sym found ∙ (known_now caps k.places k.tickets m s.views r.marks r.holds id me.0 at hold mine field number is).1,
-          λ f. full_now caps k.places k.tickets m s.views r.marks r.holds id me.0 at hold mine field n (cond (n == 0) r.marks me.0.seen) found (ap (λ b. cond b r.marks me.0.seen) (eq-eqb n 0 f.none)) f)),
+        (
+          refl,
+          (
+            hold,
+            mine,
+            (r.marks, r.holds.seen.begins id me.0 at, refl),
+            subst (IsLinkOf caps hold field) found (link_of caps k.places k.tickets m s.views r.marks r.holds id me.0 at hold mine field of),
+            λ number is. sym found ∙ (known_now caps k.places k.tickets m s.views r.marks r.holds id me.0 at hold mine field number is).1,
+            λ f. full_now caps k.places k.tickets m s.views r.marks r.holds id me.0 at hold mine field n (cond (n == 0) r.marks me.0.seen) found (ap (λ b. cond b r.marks me.0.seen) (eq-eqb n 0 f.none)) f,
+          ),
+        ),
       )) in
       (t.0, keeps, tt, t.1, t.2))
 
