@@ -11,7 +11,7 @@ use Rattle.hash_core.specs.declared.view.Hold.{Hold}
 use Rattle.hash_core.specs.declared.view.Known.{Known}
 use Rattle.hash_core.specs.declared.view.View.{View}
 use Rattle.hash_core.specs.Slots.{is_slot_of}
-use Rattle.hash_core.specs.Known.{known_in, knowing, IsWholeWalk, LacksKey, ShowsAbsent, ComesTo, IsOnWalk}
+use Rattle.hash_core.specs.Known.{known_in, knowing, IsWholeWalk, ShowsAbsent, ComesTo, IsOnWalk}
 use Rattle.hash_core.specs.Steps.{trod, Needs7, NeedsTake, Needs11, after_take, after11}
 use Rattle.hash_core.proofs.Classes.{slot_within}
 use Rattle.class_hash.specs.declared.bucket.Poll.TheVariants.{NotYet}
