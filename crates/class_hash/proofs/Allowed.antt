@@ -36,7 +36,7 @@ use Rattle.class_hash.specs.Answers.{GivesAnswer, IsLinkOf}
 use Rattle.class_hash.specs.Told.{told2, told3, told4, told5, told6, told7, told8, told9, told_take, told_refill, told_move, told_push, told_chain, told11, told12, told13, told14, told15, told16}
 use Rattle.class_hash.proofs.Plumbing.{stores, loads, found_is}
 use Rattle.class_hash.proofs.Readers.{few_readers}
-use Rattle.class_hash.proofs.Facts.{known_now, field_inside, searched_key, few_tickets, gives_answer, stands_in_class, link_of, front_small, updated, old_value}
+use Rattle.class_hash.proofs.Facts.{known_now, field_inside, searched_key, few_tickets, gives_answer, stands_in_class, link_of, front_small, updated, free_off, full_now, old_value}
 
 module _ (k : Shape) (slots id : ℕ) (me : Me Nothing View) where
   abbrev Holds : State Nothing View → Type 0
@@ -197,7 +197,17 @@ module _ (k : Shape) (slots id : ℕ) (me : Me Nothing View) where
         after9 v1 hold field n r.marks,
         r.marks,
         subst (λ z. M (memory_of k.capacities.items s.words) (set vs1 id (after9 v1 hold field z r.marks)) r.marks) found (law9 caps k.places k.tickets m vs1 r.marks r1 id v1 at1 hold mine field of (m field == 0)),
-        (refl, (hold, mine, (r.marks, r.holds.seen.begins id me.0 at, refl), subst (IsLinkOf caps hold field) found (link_of caps k.places k.tickets m s.views r.marks r.holds id me.0 at hold mine field of), λ number is. sym found ∙ (known_now caps k.places k.tickets m s.views r.marks r.holds id me.0 at hold mine field number is).1)),
+        (
+          refl,
+          (
+            hold,
+            mine,
+            (r.marks, r.holds.seen.begins id me.0 at, refl),
+            subst (IsLinkOf caps hold field) found (link_of caps k.places k.tickets m s.views r.marks r.holds id me.0 at hold mine field of),
+            λ number is. sym found ∙ (known_now caps k.places k.tickets m s.views r.marks r.holds id me.0 at hold mine field number is).1,
+            λ f. full_now caps k.places k.tickets m s.views r.marks r.holds id me.0 at hold mine field n (cond (n == 0) r.marks me.0.seen) found (ap (λ b. cond b r.marks me.0.seen) (eq-eqb n 0 f.none)) f,
+          ),
+        ),
       )) in
       (t.0, keeps, tt, t.1, t.2))
 
@@ -210,7 +220,7 @@ module _ (k : Shape) (slots id : ℕ) (me : Me Nothing View) where
           after_take v1 hold slot next r.marks,
           r.marks ++ Given slot ∷ [],
           law_take caps k.places k.tickets _ vs1 r.marks r1 id v1 at1 hold needs.hold_is slot next (record { hold_is = needs.hold_is; some = needs.some; first = needs.first; next_is = needs.next_is; empty = needs.empty }),
-          (refl, (hold, needs.hold_is, (r.marks, r.holds.seen.begins id me.0 at, refl))),
+          (refl, (hold, needs.hold_is, (r.marks, r.holds.seen.begins id me.0 at, refl), free_off caps k.places k.tickets _ s.views r.marks r.holds id me.0 at hold needs.hold_is slot needs.some needs.first)),
         )) in
         (t.0, keeps, tt, t.1, t.2))
 

@@ -8,9 +8,10 @@ use Rattle.hash_core.specs.declared.words.Kind.TheVariants.{H8, H9, H10}
 use Rattle.hash_core.specs.declared.view.Hold.{Hold}
 use Rattle.hash_core.specs.declared.view.View.{View}
 use Rattle.hash_core.specs.Known.{known_in, knowing}
-use Rattle.hash_core.specs.Steps.{trod, after8, after9, after_move, after_refill, NeedsMove, NeedsRefill}
+use Rattle.hash_core.specs.Steps.{trod, after8, after9, after_move, after_refill, Needs7, NeedsMove, NeedsRefill}
 use Rattle.hash_core.proofs.Lists.{prefix_self}
-use Rattle.class_hash.specs.Answers.{IsLink}
+use Rattle.class_hash.specs.Answers.{IsLink, IsFull}
+use Rattle.class_hash.proofs.Walking.{known_here, free_absent}
 use Rattle.hash_core.specs.declared.view.Section.{Section}
 use Rattle.hash_core.specs.declared.view.Stand.TheVariants.{Start}
 use Rattle.hash_core.specs.Marks.{updates_of}
@@ -25,8 +26,9 @@ pub seen_more : (a h : List Mark) (b : Bool) → IsPrefix a h → IsPrefix a (co
 seen_more a h true p = p
 seen_more a h false p = prefix_self a
 
-listed_at : (capacities : List ℕ) (v mid w : View) (free retired : ℕ) (hold : Hold) → v.hold ≡ Some hold → Loads capacities v (Free hold.class) free mid → Loads capacities mid (Retired hold.class) retired w → Lists capacities v free retired w
-listed_at capacities v mid w free retired hold is a b =
+listed_at : (capacities : List ℕ) (v mid w : View) (free retired : ℕ) (hold : Hold) → Needs7 v hold → Loads capacities v (Free hold.class) free mid → Loads capacities mid (Retired hold.class) retired w → Lists capacities v free retired w
+listed_at capacities v mid w free retired hold done a b =
+    let is : v.hold ≡ Some hold = done.0 in
     let c : ℕ = hold.class in
     let one : a.0 ≡ hold = (let z : Some a.0 ≡ Some hold = sym a.1 ∙ is in cc) in
     let h1 : List Mark = a.2.0 in
@@ -44,12 +46,23 @@ listed_at capacities v mid w free retired hold is a b =
       is = is;
       free_link = subst (λ (k : Hold). IsLink capacities k.class free) one a.3;
       retired_link = subst (λ (k : Hold). IsLink capacities k.class retired) two b.3;
+      full = λ no_free no_retired.
+          let f : IsFull capacities b.0 w.seen = b.5 (record {
+            field_is = ap (λ (k : Hold). Retired k.class) (sym two);
+            none = no_retired;
+            free = subst (λ (k : Hold). known_in k.known (Free k.class) ≡ Some 0) (sym two) (known_here hold (Free hold.class) free ∙ ap Some no_free);
+            taken = ap (λ (k : Hold). k.taken) two ∙ done.1;
+            unlinked = ap (λ (k : Hold). k.unlinked) two ∙ done.2;
+            moved = ap (λ (k : Hold). k.moved) two ∙ done.3;
+          }) in
+          let g : IsFull capacities (knowing hold (Free hold.class) free) w.seen = subst (λ (k : Hold). IsFull capacities k w.seen) two f in
+          record { pairs = g.pairs; absent = λ key class shows. g.absent key class (free_absent hold free key shows) };
       trail = ap (λ (z : View). z.trail) whole;
       seen = subst (IsPrefix v.seen) (sym (ap (λ (z : View). z.seen) whole)) (prefix_trans v.seen _ _ seen1 seen2);
       rest = whole ∙ sym (ap (λ (z : View). record v { hold = Some (knowing (knowing hold (Free hold.class) free) (Retired hold.class) retired); trail = z.trail; seen = z.seen }) whole);
     }
 
-pub listed : (capacities : List ℕ) (v mid w : View) (free retired c : ℕ) (hold : Hold) → v.hold ≡ Some hold → c ≡ hold.class → Loads capacities v (Free c) free mid → Loads capacities mid (Retired c) retired w → Lists capacities v free retired w
+pub listed : (capacities : List ℕ) (v mid w : View) (free retired c : ℕ) (hold : Hold) → Needs7 v hold → c ≡ hold.class → Loads capacities v (Free c) free mid → Loads capacities mid (Retired c) retired w → Lists capacities v free retired w
 listed capacities v mid w free retired c hold is class a b =
     listed_at capacities v mid w free retired hold is (subst (λ z. Loads capacities v (Free z) free mid) class a) (subst (λ z. Loads capacities mid (Retired z) retired w) class b)
 

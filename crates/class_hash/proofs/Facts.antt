@@ -1,5 +1,5 @@
 -- What the rule tells of a seat and of the words.
-use Rattle.std.proofs.Common.{◌≡◌, ℕ, ◌+◌, ◌*◌, ◌%◌, ◌<◌, ◌≤◌, nat_le, ◌&&◌, Bool, true, false, cond, List, [], ◌∷◌, ◌++◌, length, sum, Some, None, refl, sym, ap, subst, ◌∙◌, inl, inr, arith}
+use Rattle.std.proofs.Common.{◌≡◌, ◌≢◌, ℕ, ◌+◌, ◌*◌, ◌%◌, ◌<◌, ◌≤◌, nat_le, ◌&&◌, Bool, true, false, cond, List, [], ◌∷◌, ◌++◌, length, sum, Some, None, refl, sym, ap, subst, ◌∙◌, inl, inr, arith}
 use Rattle.std.proofs.lemmas.Bool.{lt-ltb, le-leb}
 use mathlib.Core.Logic.{dite}
 use native.Mathlib.Decide.{ℕ_discrete}
@@ -16,7 +16,7 @@ use Rattle.hash_core.specs.declared.view.Turn.{Turn}
 use Rattle.hash_core.specs.declared.view.View.{View}
 use Rattle.hash_core.specs.Lists.{times, IsPath}
 use Rattle.hash_core.specs.Memory.{Memory, word_of, is_field}
-use Rattle.hash_core.specs.Slots.{is_slot_of, IsOfClass, word_count}
+use Rattle.hash_core.specs.Slots.{capacity, is_slot_of, IsOfClass, word_count}
 use Rattle.hash_core.specs.Marks.{updates_of}
 use Rattle.hash_core.specs.Known.{known_in, ComesTo, IsOnWalk}
 use Rattle.std.specs.FinMap as finite
@@ -34,9 +34,13 @@ use Rattle.hash_core.proofs.Memories.{word_inside}
 use Rattle.hash_core.proofs.Frames.{way_slot, chain_slot, free_slot, retired_slot}
 use Rattle.hash_core.proofs.Quiet.{same_marks}
 use Rattle.hash_core.proofs.Locks.{holder_of, class_small}
+use Rattle.hash_core.proofs.Links.{on_chain, absent_now}
+use Rattle.hash_core.proofs.Full.{full_class}
+use Rattle.hash_core.specs.Pairs.{HasPairs}
+use Rattle.hash_core.proofs.Stocks.{roles_by}
 use Rattle.prcu_model.specs.History.{IsLegal}
 use Rattle.class_hash.specs.Stepped.{IsUpdated}
-use Rattle.class_hash.specs.Answers.{GivesAnswer, StandsInClass, IsLink, IsLinkOf}
+use Rattle.class_hash.specs.Answers.{GivesAnswer, StandsInClass, IsLink, IsLinkOf, IsFull, FindsFull}
 
 -- what is of a class lies in the table
 slot_inside : (capacities : List ℕ) (c s : ℕ) → is_slot_of capacities c s ≡ true → (nat_le 1 s && nat_le s (sum capacities)) ≡ true
@@ -154,6 +158,26 @@ module _ (capacities : List ℕ) (places tickets : ℕ) (m : Memory) (vs : List 
         let class : key % 64 ≡ hold.class = ap (λ z. z % 64) (sym is) ∙ all_times (λ s. m (Key s) % 64 ≡ hold.class) (r.bucket hold.class).chain slot rule.chained.classes there in
         let found : seek m (m (Key slot)) (r.bucket hold.class).chain ≡ Some (m (Value slot)) = ap (seek m (m (Key slot))) q.2 ∙ seek_slot m slot q.0 q.1 (subst (HaveDistinctKeys m) q.2 rule.chained.distinct) in
         rule.mapped.answers key class ∙ subst (λ z. seek m z (r.bucket hold.class).chain ≡ Some (m (Value slot))) is found
+
+    -- a free slot isn't on the known walk
+    pub free_off : (slot : ℕ) → slot ≢ 0 → known_in hold.known (Free hold.class) ≡ Some slot → IsOnWalk hold slot → ⊥
+    free_off slot ne first_is on =
+        let there : 1 ≤ times slot (r.bucket hold.class).chain = on_chain capacities places tickets m vs h r id v at hold mine slot on in
+        let p = path_cons (λ s. m (Chain s)) slot (r.bucket hold.class).free ne (subst (λ z. IsPath (λ s. m (Chain s)) z (r.bucket hold.class).free) (known (Free hold.class) slot first_is).1 rule.listed.free) in
+        let free : 1 ≤ times slot (r.bucket hold.class).free = (let e = ap (times slot) p.1 in let t = times_here slot p.0 in omega arith) in
+        in_both _ _ _ _ _ _ _ (roles_by capacities places tickets m vs h r id v at hold mine slot) (ap (λ b. cond b 1 0) (free_slot capacities hold.class (r.bucket hold.class) rule.roles slot free)) there free
+      where
+        in_both : (a b c d e f t : ℕ) → a + b + c + d + e + f ≡ t → t ≡ 1 → 1 ≤ a → 1 ≤ b → ⊥
+        in_both a b c d e f t all one first second = absurd (omega arith)
+
+    -- with both lists empty and nothing in hand the class is full
+    pub full_now : (field : Field) (n : ℕ) (seen : List Mark) → m field ≡ n → seen ≡ h → FindsFull hold field n → IsFull capacities hold seen
+    full_now field n seen found same f =
+        let none : m (Retired hold.class) ≡ 0 = ap m (sym f.field_is) ∙ found ∙ f.none in
+        record {
+          pairs = subst (λ z. HasPairs hold.class (map_of (updates_of z)) (capacity capacities hold.class)) (sym same) (full_class capacities places tickets m vs h r id v at hold mine f.free none f.taken f.unlinked f.moved);
+          absent = λ key class shows. subst (λ z. finite.get (map_of (updates_of z)) key ≡ None) (sym same) (rule.mapped.answers key class ∙ absent_now capacities places tickets m vs h r id v at hold mine key shows);
+        }
 
     pub old_value : (slot key old : ℕ) → IsOnWalk hold slot → known_in hold.known (Key slot) ≡ Some key → known_in hold.known (Value slot) ≡ Some old → finite.get (map_of (updates_of h)) key ≡ Some old
     old_value slot key old on key_is value_is = value_now slot key on key_is ∙ ap Some (known (Value slot) old value_is).1

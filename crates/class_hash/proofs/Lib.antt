@@ -10,3 +10,5 @@ pub mod Walking
 pub mod Updating
 pub mod Trying
 pub mod Unlinking
+pub mod Filling
+pub mod Putting

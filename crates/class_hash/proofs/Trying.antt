@@ -1,25 +1,31 @@
 -- Tries of an update: a search, the lock, a walk under it, and the lock given up or the update made.
-use Rattle.std.proofs.Common.{◌≡◌, ℕ, ◌+◌, ◌-◌, ◌≤◌, true, List, [], ◌∷◌, ◌++◌, Option, Some, None, IfSome, refl, sym, ap, subst, ◌∙◌, append_assoc, append-nil}
+use Rattle.std.proofs.Common.{◌≡◌, ℕ, ◌+◌, ◌-◌, ◌%◌, ◌≤◌, true, List, [], ◌∷◌, ◌++◌, Option, Some, None, IfNone, IfSome, is_some, refl, sym, ap, subst, ◌∙◌, append_assoc, append-nil}
 use Rattle.std.specs.List.{AllByRecursion}
 use mathlib.Core.List.{IsPrefix}
 use Rattle.prcu_model.specs.declared.mark.Mark.{Mark}
 use Rattle.prcu_model.specs.declared.mark.Mark.TheVariants.{Entered, Left, Done, Unlinked}
-use Rattle.prcu_model.specs.declared.operation.Op.TheVariants.{Set, Del}
-use Rattle.prcu_model.specs.declared.operation.Reply.TheVariants.{Gone, Was}
+use Rattle.prcu_model.specs.declared.operation.Op.TheVariants.{Put, Set, Del}
+use Rattle.prcu_model.specs.declared.operation.Reply.TheVariants.{New, Old, Full, Gone, Was}
 use Rattle.hash_core.specs.declared.words.Field.TheVariants.{Lock}
 use Rattle.hash_core.specs.declared.words.Kind.TheVariants.{H7}
 use Rattle.hash_core.specs.declared.view.Section.{Section}
 use Rattle.hash_core.specs.declared.view.Hold.{Hold}
 use Rattle.hash_core.specs.declared.view.View.{View}
-use Rattle.hash_core.specs.Slots.{is_slot_of, IsOfClass}
+use Rattle.prcu_model.specs.Dictionary.{map_of}
+use Rattle.hash_core.specs.Marks.{updates_of}
+use Rattle.hash_core.specs.Pairs.{HasPairs}
+use Rattle.hash_core.specs.Slots.{capacity, is_slot_of, IsOfClass}
+use Rattle.class_hash.specs.Answers.{IsFull}
+use Rattle.hash_core.specs.Known.{ShowsAbsent}
 use Rattle.hash_core.specs.Steps.{trod, IsQuiet, Needs7, after7, fresh_hold}
 use Rattle.hash_core.proofs.Lists.{all_append, prefix_self}
 use Rattle.class_hash.specs.Stepped.{Unlocks}
 use Rattle.class_hash.specs.Lookups.{Looked}
 use Rattle.class_hash.specs.Walks.{HasLoaded, IsFoundAt}
 use Rattle.class_hash.specs.Updates.{HasLocked, MayReplace, Replaced, link_after, MayUnlink, Removed}
-use Rattle.class_hash.specs.Calls.{HasFinished}
-use Rattle.class_hash.specs.Replies.{IsOfSection, HasTried, SetsBy, DelsBy}
+use Rattle.class_hash.specs.Calls.{HasFinished, Lists}
+use Rattle.class_hash.specs.Puts.{MayAdd, Linked, Added, LeavesFull}
+use Rattle.class_hash.specs.Replies.{IsOfSection, HasTried, told_added, PutsBy, Puts, SetsBy, DelsBy}
 use Rattle.class_hash.proofs.Calls.{prefix_trans}
 
 pub nothing_tried : (v : View) → HasTried v v
@@ -153,3 +159,76 @@ module _ (v w x y z : View) (key class : ℕ) (answer : Option ℕ) (new : Hold)
           view = whole ∙ sym (ap (λ (y : View). record v { tickets = v.tickets - 1; sections = y.sections; own = y.own; trail = y.trail; seen = y.seen }) whole);
         },
       )
+
+  pub may_add : key % 64 ≡ class → ShowsAbsent new key → 1 ≤ v.tickets → MayAdd z key
+  may_add of absent ticket = record {
+    hold = new;
+    finished = needs_z;
+    class = of ∙ sym (ap (λ (h : Hold). h.class) n.only);
+    absent = absent;
+    ticket = subst (λ q. 1 ≤ q) (sym (ap (λ (u : View). u.tickets) z_is)) ticket;
+  }
+
+  pub added_once : (capacities : List ℕ) (u : View) (value number : ℕ) → Added z key value number u → PutsBy capacities v key value New number u
+  added_once capacities u value number a =
+      let r : Linked z key value number u = a.linked in
+      let place : z.place ≡ v.place = ap (λ (y : View). y.place) z_is in
+      let F : View → View = λ y. record y { tickets = y.tickets - 1; hold = None; own = z.own ++ Done (record { caller = z.place; op = Put key value }) ∷ []; trail = u.trail; seen = r.before ++ Done (record { caller = z.place; op = Put key value }) ∷ [] } in
+      let u_is : u ≡ F walked = r.view ∙ ap F z_is in
+      let whole : u ≡ record (F walked) { section = v.section; hold = v.hold } = u_is ∙ ap (λ (q : Option Section × Option Hold). record (F walked) { section = q.0; hold = q.1 }) (λ i. (sym quiet.0 i, sym quiet.1 i)) in (
+        r.before,
+        a.slot,
+        record {
+          marks = t.marks ++ Entered w.place w.sections key ∷ Left w.place w.sections ∷ [];
+          plain = plain_z;
+          own = ap (λ (y : View). y.own) r.view ∙ ap (λ o. o ++ Done (record { caller = z.place; op = Put key value }) ∷ []) own_z
+              ∙ ap (λ p. (v.own ++ (t.marks ++ Entered w.place w.sections key ∷ Left w.place w.sections ∷ [])) ++ Done (record { caller = p; op = Put key value }) ∷ []) place;
+          since = prefix_trans v.seen z.seen r.before seen_z r.since;
+          seen = ap (λ (y : View). y.seen) r.view ∙ ap (λ p. r.before ++ Done (record { caller = p; op = Put key value }) ∷ []) place;
+          legal = r.legal;
+          number_is = r.number_is;
+          view = whole ∙ sym (ap (λ (y : View). record v { tickets = v.tickets - 1; sections = y.sections; own = y.own; trail = y.trail; seen = y.seen }) whole);
+        },
+        record { before = a.given.before; since = prefix_trans v.seen z.seen a.given.before seen_z a.given.since; until = a.given.until },
+      )
+
+  -- nothing but the lock, what was seen and done has changed
+  walked_is : z ≡ record v { sections = z.sections; hold = Some new; own = z.own; trail = z.trail; seen = z.seen }
+  walked_is =
+      let whole : z ≡ record walked { section = v.section } = z_is ∙ ap (λ q. record walked { section = q }) (sym quiet.0) in
+      whole ∙ sym (ap (λ (y : View). record v { sections = y.sections; hold = Some new; own = y.own; trail = y.trail; seen = y.seen }) whole)
+
+  pub full_once : (capacities : List ℕ) (u : View) (value : ℕ) → key % 64 ≡ class → ShowsAbsent new key → LeavesFull capacities z u → PutsBy capacities v key value Full 0 u
+  full_once capacities u value of absent left =
+      let y : View = left.0 in
+      let l : Lists capacities z 0 0 left.0 = left.1 in
+      let e : Unlocks left.0 u = left.2 in
+      let F : View → View = λ q. record q { hold = None; trail = u.trail; seen = left.0.seen } in
+      let G : View → View = λ q. after7 (trod q H7 (Lock e.0.class) 0) in
+      let first : u ≡ record left.0 { hold = None; trail = u.trail } = e.2 ∙ sym (ap (λ (q : View). record left.0 { hold = None; trail = q.trail }) e.2) in
+      let u_is : u ≡ F walked = first ∙ ap F l.rest ∙ ap F z_is in
+      let whole : u ≡ record (F walked) { section = v.section; hold = v.hold } = u_is ∙ ap (λ (q : Option Section × Option Hold). record (F walked) { section = q.0; hold = q.1 }) (λ i. (sym quiet.0 i, sym quiet.1 i)) in
+      let same : l.hold ≡ new = (let q : Some l.hold ≡ Some new = sym l.is ∙ ap (λ (q : View). q.hold) n.view in cc) in
+      let class_new : new.class ≡ key % 64 = ap (λ (h : Hold). h.class) n.only ∙ sym of in
+      let full : IsFull capacities new u.seen = subst (λ s. IsFull capacities new s) (sym (ap (λ (q : View). q.seen) first)) (subst (λ (k : Hold). IsFull capacities k left.0.seen) same (l.full refl refl)) in
+      let own_u : u.own ≡ z.own = ap (λ (q : View). q.own) first ∙ ap (λ (q : View). q.own) l.rest in (
+        record {
+          marks = t.marks ++ Entered w.place w.sections key ∷ Left w.place w.sections ∷ [];
+          plain = plain_z;
+          own = own_u ∙ own_z;
+          seen = subst (IsPrefix v.seen) (sym (ap (λ (q : View). q.seen) first)) (prefix_trans v.seen z.seen left.0.seen seen_z l.seen);
+          view = whole ∙ sym (ap (λ (q : View). record v { sections = q.sections; own = q.own; trail = q.trail; seen = q.seen }) whole);
+        },
+        (z, record { hold = new; class = ap (λ (h : Hold). h.class) n.only ∙ sym of; absent = absent; seen = seen_z; view = walked_is }, left),
+        record { absent = full.absent key (sym class_new) absent; pairs = subst (λ d. HasPairs d (map_of (updates_of u.seen)) (capacity capacities d)) class_new full.pairs },
+        refl,
+      )
+
+  pub put_once : (capacities : List ℕ) (u : View) (value : ℕ) (answer : Option ℕ) → key % 64 ≡ class → ShowsAbsent new key → IfNone answer (LeavesFull capacities z u) → IfSome answer (λ number. Added z key value number u) → Puts capacities v key value (told_added answer) u
+  put_once capacities u value None of absent left added = full_once capacities u value of absent left
+  put_once capacities u value (Some number) of absent left added = added_once capacities u value number added
+
+-- a search that found the key
+pub found_once : (capacities : List ℕ) (v w x : View) (key value : ℕ) (answer : Option ℕ) → is_some answer ≡ true → HasTried v w → Looked w key answer x → PutsBy capacities v key value Old 0 x
+found_once capacities v w x key value None is t l = absurd (cc)
+found_once capacities v w x key value (Some old) is t l = (w, t, (old, l), refl)

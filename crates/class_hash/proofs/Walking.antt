@@ -1,9 +1,10 @@
 -- Walks along a chain under its lock.
 use Rattle.std.proofs.Common.{◌≡◌, ◌≢◌, ℕ, ◌==◌, Bool, true, false, cond, List, [], ◌∷◌, ◌++◌, Option, Some, None, IfSome, refl, sym, ap, subst, ◌∙◌}
+use Rattle.std.specs.List.{AllByRecursion}
 use mathlib.Core.List.{IsPrefix}
 use Rattle.prcu_model.specs.declared.mark.Mark.{Mark}
 use Rattle.hash_core.specs.declared.words.Field.{Field}
-use Rattle.hash_core.specs.declared.words.Field.TheVariants.{Head, Key, Next}
+use Rattle.hash_core.specs.declared.words.Field.TheVariants.{Head, Free, Key, Next}
 use Rattle.hash_core.specs.declared.words.Kind.TheVariants.{H9}
 use Rattle.hash_core.specs.declared.view.Hold.{Hold}
 use Rattle.hash_core.specs.declared.view.Known.{Known}
@@ -186,3 +187,28 @@ module _ (capacities : List ℕ) (key : ℕ) (v : View) (hold : Hold) (w : View)
           before = of_class;
         },
       )
+
+-- a whole walk never comes to 0
+pub avoids_zero : (known : List Known) (first : ℕ) (ss : List ℕ) → IsWholeWalk known first ss → AllByRecursion (λ s. s ≢ 0) ss
+avoids_zero known first [] w = tt
+avoids_zero known first (s ∷ ss) w = (w.1, avoids_zero known w.2.0 ss w.2.2)
+
+-- what stays known of a walk where another slot is stored in
+module _ (before after : List Known) (slot : ℕ) (nexts : (s : ℕ) → s ≢ slot → known_in after (Next s) ≡ known_in before (Next s)) (keys : (s : ℕ) → s ≢ slot → known_in after (Key s) ≡ known_in before (Key s)) where
+  pub whole_kept : (first : ℕ) (ss : List ℕ) → AllByRecursion (λ s. s ≢ slot) ss → IsWholeWalk before first ss → IsWholeWalk after first ss
+  whole_kept first [] a w = w
+  whole_kept first (s ∷ ss) a w = (w.0, w.1, (w.2.0, nexts s a.0 ∙ w.2.1, whole_kept w.2.0 ss a.1 w.2.2))
+
+  pub lacks_kept : (key : ℕ) (ss : List ℕ) → AllByRecursion (λ s. s ≢ slot) ss → LacksKey before key ss → LacksKey after key ss
+  lacks_kept key [] a l = tt
+  lacks_kept key (s ∷ ss) a l = ((l.0.0, keys s a.0 ∙ l.0.1, l.0.2), lacks_kept key ss a.1 l.1)
+
+-- so a key that is known to be absent is so whatever the free list is
+pub free_absent : (hold : Hold) (free key : ℕ) → ShowsAbsent hold key → ShowsAbsent (knowing hold (Free hold.class) free) key
+free_absent hold free key shows = record {
+  first = shows.first;
+  walk = shows.walk;
+  head = shows.head;
+  whole = whole_kept hold.known (knowing hold (Free hold.class) free).known 0 (λ s _. refl) (λ s _. refl) shows.first shows.walk (avoids_zero hold.known shows.first shows.walk shows.whole) shows.whole;
+  lacks = lacks_kept hold.known (knowing hold (Free hold.class) free).known 0 (λ s _. refl) (λ s _. refl) key shows.walk (avoids_zero hold.known shows.first shows.walk shows.whole) shows.lacks;
+}

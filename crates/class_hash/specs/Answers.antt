@@ -8,8 +8,11 @@ use Rattle.hash_core.specs.declared.view.Stand.TheVariants.{Ended}
 use Rattle.hash_core.specs.declared.view.Section.{Section}
 use Rattle.hash_core.specs.declared.view.Hold.{Hold}
 use Rattle.hash_core.specs.Marks.{updates_of}
-use Rattle.hash_core.specs.Slots.{is_slot_of}
-use Rattle.hash_core.specs.Known.{IsOnWalk}
+use Rattle.hash_core.specs.Slots.{capacity, is_slot_of}
+use Rattle.hash_core.specs.Pairs.{HasPairs}
+use Rattle.prcu_model.specs.Dictionary.{map_of}
+use Rattle.std.specs.FinMap as finite
+use Rattle.hash_core.specs.Known.{known_in, ShowsAbsent, IsOnWalk}
 use Rattle.hash_core.specs.Readers.{WasSaid}
 use Rattle.hash_core.specs.Steps.{StandsAt}
 
@@ -34,3 +37,17 @@ IsLinkOf capacities hold (Free d) found = IsLink capacities hold.class found
 IsLinkOf capacities hold (Retired d) found = IsLink capacities hold.class found
 IsLinkOf capacities hold (Next slot) found = IsOnWalk hold slot → IsLink capacities hold.class found
 IsLinkOf capacities hold _ found = Unit {0}
+
+-- After the updates seen the class has as many pairs as slots, and none with a key that the known walk shows absent.
+pub record IsFull (capacities : List ℕ) (hold : Hold) (seen : List Mark) : Type 0 where
+  pub pairs : HasPairs hold.class (map_of (updates_of seen)) (capacity capacities hold.class)
+  pub absent : (key : ℕ) → key % 64 ≡ hold.class → ShowsAbsent hold key → finite.get (map_of (updates_of seen)) key ≡ None
+
+-- the retired word is found 0 where the free list is known to be empty and nothing is in hand
+pub record FindsFull (hold : Hold) (field : Field) (found : ℕ) : Type 0 where
+  pub field_is : field ≡ Retired hold.class
+  pub none : found ≡ 0
+  pub free : known_in hold.known (Free hold.class) ≡ Some 0
+  pub taken : hold.taken ≡ None
+  pub unlinked : hold.unlinked ≡ None
+  pub moved : hold.moved ≡ None

@@ -13,7 +13,7 @@ use Rattle.class_hash.specs.declared.bucket.Lock.{Lock}
 use Rattle.class_hash.specs.declared.bucket.Lock.TheVariants.{Held, Busy}
 use Rattle.class_hash.specs.declared.bucket.Poll.{Poll}
 use Rattle.class_hash.specs.declared.bucket.Poll.TheVariants.{Over, NotYet}
-use Rattle.class_hash.specs.Answers.{IsLink}
+use Rattle.class_hash.specs.Answers.{IsLink, IsFull}
 use Rattle.class_hash.specs.Stepped.{Locks}
 
 -- The one exchange of the lock found 0, or it found the place plus 1 of who holds it.
@@ -25,12 +25,13 @@ Tries v class (Busy found) w = (found ≢ 0) × Locks v class found w
 abbrev pub HasFinished : View → Type 0
 HasFinished v = (hold : Hold) × Needs7 v hold
 
--- The free and then the retired word of the class were loaded.
+-- The free and then the retired word of the class were loaded. Where both are 0, the class is full.
 pub record Lists (capacities : List ℕ) (v : View) (free retired : ℕ) (w : View) : Type 0 where
   pub hold : Hold
   pub is : v.hold ≡ Some hold
   pub free_link : IsLink capacities hold.class free
   pub retired_link : IsLink capacities hold.class retired
+  pub full : free ≡ 0 → retired ≡ 0 → IsFull capacities hold w.seen
   pub trail : w.trail ≡ (v.trail ++ record { kind = H9; field = Free hold.class; number = free } ∷ []) ++ record { kind = H9; field = Retired hold.class; number = retired } ∷ []
   pub seen : IsPrefix v.seen w.seen
   pub rest : w ≡ record v { hold = Some (knowing (knowing hold (Free hold.class) free) (Retired hold.class) retired); trail = w.trail; seen = w.seen }

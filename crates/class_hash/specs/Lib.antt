@@ -10,3 +10,4 @@ pub mod Calls
 pub mod Walks
 pub mod Replies
 pub mod Updates
+pub mod Puts

@@ -1,21 +1,26 @@
 -- What the calls of the dictionary are told.
 -- Source: docs/ALGORITHM.md, "The calls of the hash dictionary".
-use Rattle.std.specs.Prelude.{◌≡◌, ℕ, ◌-◌, List, [], ◌∷◌, ◌++◌, length, Option, Some, None}
+use Rattle.std.specs.Prelude.{◌≡◌, ℕ, ◌-◌, ◌%◌, List, [], ◌∷◌, ◌++◌, length, Option, Some, None}
 use Rattle.prcu_model.specs.declared.operation.Reply.{Reply}
-use Rattle.prcu_model.specs.declared.operation.Reply.TheVariants.{Val, Absent, Gone, Was}
+use Rattle.prcu_model.specs.declared.operation.Reply.TheVariants.{New, Old, Full, Val, Absent, Gone, Was}
 use Rattle.std.specs.List.{AllByRecursion}
 use Rattle.std.specs.FinMap as finite
 use mathlib.Core.List.{IsPrefix}
 use Rattle.prcu_model.specs.declared.mark.Mark.{Mark}
 use Rattle.prcu_model.specs.declared.mark.Mark.TheVariants.{Entered, Left, Done, Unlinked}
 use Rattle.prcu_model.specs.declared.operation.Op.{Op}
-use Rattle.prcu_model.specs.declared.operation.Op.TheVariants.{Set, Del}
+use Rattle.prcu_model.specs.declared.operation.Op.TheVariants.{Put, Set, Del}
 use Rattle.prcu_model.specs.Dictionary.{map_of}
 use Rattle.prcu_model.specs.History.{IsLegal}
 use Rattle.hash_core.specs.Marks.{updates_of}
 use Rattle.prcu_model.specs.declared.operation.Told.{Told}
+use Rattle.hash_core.specs.declared.view.Hold.{Hold}
 use Rattle.hash_core.specs.declared.view.View.{View}
+use Rattle.hash_core.specs.Slots.{capacity}
+use Rattle.hash_core.specs.Pairs.{HasPairs}
+use Rattle.hash_core.specs.Known.{ShowsAbsent}
 use Rattle.class_hash.specs.Lookups.{Looked}
+use Rattle.class_hash.specs.Puts.{HasGiven, LeavesFull}
 
 -- what a get is told
 abbrev pub told_of : Option ℕ → Told
@@ -70,3 +75,33 @@ DelsBy v key _ number w = ⊥
 
 abbrev pub Dels : View → ℕ → Told → View → Type 0
 Dels v key told w = DelsBy v key told.reply told.number w
+
+-- Under the lock of the key's class the walk showed the key absent, and nothing else has changed but what was seen and done.
+pub record HasWalked (v : View) (key : ℕ) (w : View) : Type 0 where
+  pub hold : Hold
+  pub class : hold.class ≡ key % 64
+  pub absent : ShowsAbsent hold key
+  pub seen : IsPrefix v.seen w.seen
+  pub view : w ≡ record v { sections = w.sections; hold = Some hold; own = w.own; trail = w.trail; seen = w.seen }
+
+-- After the updates seen the key is absent, and its class has as many pairs as slots.
+pub record HasNoRoom (capacities : List ℕ) (key : ℕ) (seen : List Mark) : Type 0 where
+  pub absent : finite.get (map_of (updates_of seen)) key ≡ None
+  pub pairs : HasPairs (key % 64) (map_of (updates_of seen)) (capacity capacities (key % 64))
+
+-- what a put is told that found the key absent, by its update's position, where it made one
+abbrev pub told_added : Option ℕ → Told
+told_added None = record { reply = Full; number = 0 }
+told_added (Some number) = record { reply = New; number = number }
+
+-- A put is told Old where its last search found the key, and made no update. It is told New where it was given a slot and made
+-- its update. It is told Full where it made no update, and under the lock, where the key was absent, found no free slot and no
+-- retired one: so the class had no room.
+abbrev pub PutsBy : List ℕ → View → ℕ → ℕ → Reply → ℕ → View → Type 0
+PutsBy capacities v key value Old number w = (u : View) × HasTried v u × ((old : ℕ) × Looked u key (Some old) w) × (number ≡ 0)
+PutsBy capacities v key value New number w = (before : List Mark) × (slot : ℕ) × HasUpdated v (Put key value) before [] number w × HasGiven v.seen slot before
+PutsBy capacities v key value Full number w = HasTried v w × ((u : View) × HasWalked v key u × LeavesFull capacities u w) × HasNoRoom capacities key w.seen × (number ≡ 0)
+PutsBy capacities v key value _ number w = ⊥
+
+abbrev pub Puts : List ℕ → View → ℕ → ℕ → Told → View → Type 0
+Puts capacities v key value told w = PutsBy capacities v key value told.reply told.number w

@@ -13,9 +13,9 @@ use Rattle.prcu_model.specs.declared.mark.Mark.{Mark}
 use Rattle.prcu_model.specs.Dictionary.{map_of}
 use Rattle.prcu_model.specs.History.{IsLegal}
 use Rattle.hash_core.specs.Marks.{updates_of}
-use Rattle.hash_core.specs.Known.{known_in}
+use Rattle.hash_core.specs.Known.{known_in, IsOnWalk}
 use Rattle.hash_core.specs.Steps.{trod, Goes, after3, after4, after5, searched, after6, after7, after8, after9, after_take, after_refill, after_move, after_push, after_chain, after11, after12, after13, after14, after15, after16}
-use Rattle.class_hash.specs.Answers.{GivesAnswer, StandsInClass, IsLinkOf}
+use Rattle.class_hash.specs.Answers.{GivesAnswer, StandsInClass, IsLinkOf, IsFull, FindsFull}
 
 -- a section was entered
 abbrev pub Enters : View → ℕ → ℕ → View → Type 0
@@ -43,11 +43,11 @@ LoadsReaders v found w = (hold : Hold) × (v.hold ≡ Some hold) × (w ≡ after
 
 -- a field was loaded under the lock
 abbrev pub Loads : List ℕ → View → Field → ℕ → View → Type 0
-Loads capacities v field found w = (hold : Hold) × (v.hold ≡ Some hold) × Goes v (after9 (trod v H9 field found) hold field found) w × IsLinkOf capacities hold field found × ((number : ℕ) → known_in hold.known field ≡ Some number → found ≡ number)
+Loads capacities v field found w = (hold : Hold) × (v.hold ≡ Some hold) × Goes v (after9 (trod v H9 field found) hold field found) w × IsLinkOf capacities hold field found × ((number : ℕ) → known_in hold.known field ≡ Some number → found ≡ number) × (FindsFull hold field found → IsFull capacities hold w.seen)
 
--- the first free slot was taken
+-- the first free slot was taken, which wasn't on the known walk
 abbrev pub Takes : View → ℕ → ℕ → View → Type 0
-Takes v slot next w = (hold : Hold) × (v.hold ≡ Some hold) × Goes v (after_take (trod v H10 (Free hold.class) next) hold slot next) w
+Takes v slot next w = (hold : Hold) × (v.hold ≡ Some hold) × Goes v (after_take (trod v H10 (Free hold.class) next) hold slot next) w × (IsOnWalk hold slot → ⊥)
 
 -- the list in hand was made the free list
 abbrev pub Refills : View → ℕ → View → Type 0

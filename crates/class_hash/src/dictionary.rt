@@ -1,9 +1,10 @@
 //! The calls of the dictionary.
 ghost use Rattle.std.specs.Prelude.{◌≡◌, ◌≤◌};
 ghost use Rattle.hash_core.specs.Steps.{IsQuiet};
-ghost use Rattle.class_hash.specs.Replies.{Gets, Sets, Dels};
+ghost use Rattle.class_hash.specs.Replies.{Gets, told_added, Puts, Sets, Dels};
 
 use crate::bucket::free_bucket;
+use crate::puts::add;
 use crate::search::search;
 use crate::seat::HashSeat;
 use crate::table::HashTable;
@@ -18,6 +19,15 @@ fn told(reply: Reply, number: u64) -> Told
     Told { reply, number }
 }
 
+fn told_added(added: Option<u64>) -> Told
+    ensures { result ≡ told_added added }
+{
+    match added {
+        Some(number) => told(Reply::New, number),
+        None => told(Reply::Full, 0),
+    }
+}
+
 /// The key's value, or `Absent`, as the dictionary gave it at some time of the call. It waits for nobody's step, but others'
 /// updates can make the search longer.
 pub fn get<R: Wait>(rt: &R, table: &HashTable, seat: &mut HashSeat, key: u64) -> Told
@@ -30,6 +40,29 @@ pub fn get<R: Wait>(rt: &R, table: &HashTable, seat: &mut HashSeat, key: u64) ->
         Some(value) => told(Reply::Val { value }, 0),
         None => told(Reply::Absent, 0),
     }
+}
+
+/// Adds the pair, where the key is absent: `New` with the update's position. `Old` where the key is present, as at `get`, and
+/// `Full` where no slot of the key's class is free or retired. It waits for the holder of the bucket's lock, for other
+/// updates, and, where no slot is free, for the sections of the class that are open.
+pub fn put<R: Wait>(rt: &R, table: &HashTable, seat: &mut HashSeat, key: u64, value: u64) -> Told
+    requires table { seat.old.table ≡ table.now.id }
+    requires quiet { IsQuiet seat.old.view }
+    requires ticket { 1 ≤ seat.old.view.tickets }
+    ensures table { seat.new.table ≡ seat.old.table }
+    ensures view { Puts table.now.capacities seat.old.view key value result seat.new.view }
+{
+    for _ in rt.forever() {
+        if search(rt, table, seat, key).is_some() {
+            return told(Reply::Old, 0);
+        }
+        lock_bucket(rt, table, seat, (key % 64) as u32);
+        let Some(_) = walk_locked(rt, table, seat, key) else {
+            return told_added(add(rt, table, seat, key, value));
+        };
+        free_bucket(table, seat);
+    }
+    unreachable!()
 }
 
 /// Gives the key another value, where it is present: `Was` with the old value and the update's position. `Absent` as at

@@ -4,6 +4,7 @@
 
 mod bucket;
 mod dictionary;
+mod puts;
 mod rule;
 mod search;
 mod seat;
@@ -15,7 +16,7 @@ mod updates;
 mod walk;
 
 pub use bucket::{Lock, Poll, free_bucket, lists, poll_class, try_bucket};
-pub use dictionary::{del, get, set};
+pub use dictionary::{del, get, put, set};
 pub use seat::HashSeat;
 pub use sections::{enter, leave};
 pub use table::HashTable;

@@ -3,6 +3,10 @@ use super::*;
 use prcu_model::{Reply, Told};
 use std::test::Fail;
 
+fn told(reply: Reply, number: u64) -> Told {
+    Told { reply, number }
+}
+
 fn is_send<T: Send>() {}
 
 fn is_sync<T: Sync>() {}
@@ -42,5 +46,18 @@ fn nothing_is_found_in_a_fresh_table(rt: HostRuntime) -> Result<(), Fail> {
     assert_eq!(rt; set(&rt, &table, &mut seat, 70, 1), absent);
     enter(&table, &mut seat, 7);
     leave(&table, &mut seat);
+    Ok(())
+}
+
+#[test]
+fn a_slot_is_put_into_again_after_its_key_is_taken_out(rt: HostRuntime) -> Result<(), Fail> {
+    let mut capacities = [0; 64];
+    capacities[6] = 1;
+    let (table, mut seat) = HashTable::new(rt.alloc(), &capacities, 1, 8)?;
+    assert_eq!(rt; put(&rt, &table, &mut seat, 6, 10), told(Reply::New, 1));
+    assert_eq!(rt; put(&rt, &table, &mut seat, 6, 11), told(Reply::Old, 0));
+    assert_eq!(rt; put(&rt, &table, &mut seat, 70, 12), told(Reply::Full, 0));
+    assert_eq!(rt; del(&rt, &table, &mut seat, 6), told(Reply::Gone, 2));
+    assert_eq!(rt; put(&rt, &table, &mut seat, 70, 13), told(Reply::New, 3));
     Ok(())
 }

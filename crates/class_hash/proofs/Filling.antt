@@ -1,0 +1,290 @@
+-- A slot taken and filled under a bucket's lock.
+use Rattle.std.proofs.Common.{◌≡◌, ◌≢◌, ℕ, ◌≤◌, true, cond, List, [], ◌∷◌, ◌++◌, Some, refl, sym, ap, subst, ◌∙◌, arith, ne_eqb}
+use Rattle.std.specs.List.{AllByRecursion}
+use mathlib.Core.List.{IsPrefix}
+use Rattle.prcu_model.specs.declared.mark.Mark.TheVariants.{Given}
+use Rattle.prcu_model.specs.declared.mark.Why.{Why}
+use Rattle.prcu_model.specs.declared.mark.Why.TheVariants.{Counter}
+use Rattle.hash_core.specs.declared.words.Field.TheVariants.{Readers, Head, Free, Retired, Key, Value, Next, Chain}
+use Rattle.hash_core.specs.declared.words.Kind.TheVariants.{H8, H10, H11}
+use Rattle.hash_core.specs.declared.view.Hold.{Hold}
+use Rattle.hash_core.specs.declared.view.Known.{Known}
+use Rattle.hash_core.specs.declared.view.View.{View}
+use Rattle.hash_core.specs.Slots.{is_slot_of}
+use Rattle.hash_core.specs.Known.{known_in, knowing, IsWholeWalk, ShowsAbsent, ComesTo, IsOnWalk}
+use Rattle.hash_core.specs.Steps.{trod, Needs7, NeedsTake, Needs11, after_take, after11}
+use Rattle.hash_core.proofs.Classes.{slot_within}
+use Rattle.class_hash.specs.declared.bucket.Poll.TheVariants.{NotYet}
+use Rattle.class_hash.specs.Stepped.{Loads, Takes, Writes}
+use Rattle.class_hash.specs.Calls.{HasFinished, Lists, MayPoll, Refilled, Polls, polled}
+use Rattle.class_hash.specs.Walks.{HasLoaded, KnowsMore}
+use Rattle.class_hash.specs.Puts.{HasPolled, HasFree, MayFill, Filled}
+use Rattle.class_hash.proofs.Walking.{not_loaded, loaded_more, knows_more, known_here, lacks_still, avoids_zero, whole_kept, lacks_kept}
+use Rattle.class_hash.proofs.Calls.{prefix_trans}
+
+-- a walk that never comes to a slot
+pub avoids : (known : List Known) (slot first : ℕ) (ss : List ℕ) → IsWholeWalk known first ss → ((before : List ℕ) → ComesTo known first before slot → ⊥) → AllByRecursion (λ s. s ≢ slot) ss
+avoids known slot first [] w never = tt
+avoids known slot first (s ∷ ss) w never = ((λ e. never [] (w.0 ∙ e, λ z. w.1 (e ∙ z))), avoids known slot w.2.0 ss w.2.2 (λ before c. never (s ∷ before) (w.0, w.1, (w.2.0, w.2.1, c))))
+
+pub whole_still : (before after : List Known) → KnowsMore before after → (first : ℕ) (ss : List ℕ) → IsWholeWalk before first ss → IsWholeWalk after first ss
+whole_still before after more first [] w = w
+whole_still before after more first (s ∷ ss) w = (w.0, w.1, (w.2.0, more (Next s) w.2.0 w.2.1, whole_still before after more w.2.0 ss w.2.2))
+
+-- a key that is known to be absent is so after loads
+pub absent_still : (old : Hold) (known : List Known) (key : ℕ) → KnowsMore old.known known → ShowsAbsent old key → ShowsAbsent (record old { known = known }) key
+absent_still old known key more shows = record {
+  first = shows.first;
+  walk = shows.walk;
+  head = more (Head old.class) shows.first shows.head;
+  whole = whole_still old.known known more shows.first shows.walk shows.whole;
+  lacks = lacks_still old.known known more key shows.walk shows.lacks;
+}
+
+-- and after stores in the lists
+listed_absent : (hold : Hold) (free retired key : ℕ) → ShowsAbsent hold key → ShowsAbsent (knowing (knowing hold (Free hold.class) free) (Retired hold.class) retired) key
+listed_absent hold free retired key shows = record {
+  first = shows.first;
+  walk = shows.walk;
+  head = shows.head;
+  whole = whole_kept hold.known (knowing (knowing hold (Free hold.class) free) (Retired hold.class) retired).known 0 (λ s _. refl) (λ s _. refl) shows.first shows.walk (avoids_zero hold.known shows.first shows.walk shows.whole) shows.whole;
+  lacks = lacks_kept hold.known (knowing (knowing hold (Free hold.class) free) (Retired hold.class) retired).known 0 (λ s _. refl) (λ s _. refl) key shows.walk (avoids_zero hold.known shows.first shows.walk shows.whole) shows.lacks;
+}
+
+polled_absent : (hold : Hold) (first key : ℕ) → ShowsAbsent hold key → ShowsAbsent (polled hold first) key
+polled_absent hold first key shows = record {
+  first = shows.first;
+  walk = shows.walk;
+  head = shows.head;
+  whole = whole_kept hold.known (polled hold first).known 0 (λ s _. refl) (λ s _. refl) shows.first shows.walk (avoids_zero hold.known shows.first shows.walk shows.whole) shows.whole;
+  lacks = lacks_kept hold.known (polled hold first).known 0 (λ s _. refl) (λ s _. refl) key shows.walk (avoids_zero hold.known shows.first shows.walk shows.whole) shows.lacks;
+}
+
+-- the slot was taken from the free list, and a pair and a next stored in it
+abbrev pub taken_hold : Hold → ℕ → ℕ → Hold
+taken_hold hold slot next = record (knowing hold (Free hold.class) next) { taken = Some slot }
+
+abbrev pub filled_hold : Hold → ℕ → ℕ → ℕ → ℕ → ℕ → Hold
+filled_hold hold slot next key value first = knowing (knowing (knowing (taken_hold hold slot next) (Key slot) key) (Value slot) value) (Next slot) first
+
+-- and after stores in a slot that isn't on the walk
+filled_absent : (hold : Hold) (slot next key value first other : ℕ) → (IsOnWalk hold slot → ⊥) → ShowsAbsent hold other → ShowsAbsent (filled_hold hold slot next key value first) other
+filled_absent hold slot next key value first other off shows =
+    let away : AllByRecursion (λ s. s ≢ slot) shows.walk = avoids hold.known slot shows.first shows.walk shows.whole (λ before c. off (record { first = shows.first; before = before; head = shows.head; comes = c })) in
+    record {
+      first = shows.first;
+      walk = shows.walk;
+      head = shows.head;
+      whole = whole_kept hold.known (filled_hold hold slot next key value first).known slot nexts keys shows.first shows.walk away shows.whole;
+      lacks = lacks_kept hold.known (filled_hold hold slot next key value first).known slot nexts keys other shows.walk away shows.lacks;
+    }
+  where
+    nexts : (s : ℕ) → s ≢ slot → known_in (filled_hold hold slot next key value first).known (Next s) ≡ known_in hold.known (Next s)
+    nexts s ne = ap (λ t. cond t (Some first) (known_in hold.known (Next s))) (ne_eqb slot s (λ e. ne (sym e)))
+
+    keys : (s : ℕ) → s ≢ slot → known_in (filled_hold hold slot next key value first).known (Key s) ≡ known_in hold.known (Key s)
+    keys s ne = ap (λ t. cond t (Some key) (known_in hold.known (Key s))) (ne_eqb slot s (λ e. ne (sym e)))
+
+-- looks for readers that found some changed nothing
+pub may_poll_still : (v w : View) → MayPoll v → w ≡ record v { trail = w.trail } → MayPoll w
+may_poll_still v w may idle = record {
+  hold = may.hold;
+  finished = (ap (λ (z : View). z.hold) idle ∙ may.finished.0, may.finished.1, may.finished.2, may.finished.3, ap (λ (z : View). z.turn) idle ∙ may.finished.4);
+  free = may.free;
+  first = may.first;
+  some = may.some;
+  retired = may.retired;
+}
+
+pub polled_on : (v w x : View) → w ≡ record v { trail = w.trail } → Refilled w x → HasPolled v x
+polled_on v w x idle r =
+    let F : View → View = λ z. record (trod (trod (trod z H8 (Readers r.hold.class) 0) H10 (Retired r.hold.class) 0) H10 (Free r.hold.class) r.first) { hold = Some (polled r.hold r.first) } in
+    let whole : x ≡ F (record v { trail = w.trail }) = r.rest ∙ ap F idle in
+    record {
+      hold = r.hold;
+      is = sym (ap (λ (z : View). z.hold) idle) ∙ r.is;
+      first = r.first;
+      retired = r.retired;
+      view = whole ∙ sym (ap (λ (z : View). record v { hold = Some (polled r.hold r.first); trail = z.trail }) whole);
+    }
+
+pub waited_on : (v w x : View) (why : Why) → w ≡ record v { trail = w.trail } → Polls w (NotYet why) x → x ≡ record v { trail = x.trail }
+waited_on v w x (Counter class side count) idle p =
+    let F : View → View = λ z. trod z H8 (Readers p.1.hold.class) count in
+    let whole : x ≡ F (record v { trail = w.trail }) = p.1.rest ∙ ap F idle in
+    whole ∙ sym (ap (λ (z : View). record v { trail = z.trail }) whole)
+waited_on v w x _ idle p = absurd p
+
+-- from the lists to a slot that is free
+module _ (capacities : List ℕ) (v : View) (f : HasFinished v) (free retired : ℕ) (x : View) (l : Lists capacities v free retired x) where
+  abbrev listed_hold : Hold
+  listed_hold = knowing (knowing l.hold (Free l.hold.class) free) (Retired l.hold.class) retired
+
+  needs : Needs7 v l.hold
+  needs = let z : Some f.0 ≡ Some l.hold = sym f.1.0 ∙ l.is in let e : f.0 ≡ l.hold = cc in subst (Needs7 v) e f.1
+
+  needs_listed : Needs7 x listed_hold
+  needs_listed = (ap (λ (z : View). z.hold) l.rest, needs.1, needs.2, needs.3, ap (λ (z : View). z.turn) l.rest ∙ needs.4)
+
+  free_is : known_in listed_hold.known (Free l.hold.class) ≡ Some free
+  free_is = known_here l.hold (Free l.hold.class) free
+
+  retired_is : known_in listed_hold.known (Retired l.hold.class) ≡ Some retired
+  retired_is = known_here (knowing l.hold (Free l.hold.class) free) (Retired l.hold.class) retired
+
+  pub finished_listed : HasFinished x
+  finished_listed = (listed_hold, needs_listed)
+
+  pub free_listed : free ≢ 0 → HasFree capacities v free x
+  free_listed ne = record {
+    hold = l.hold;
+    new = listed_hold;
+    was = l.is;
+    finished = needs_listed;
+    class = refl;
+    first = free_is;
+    slot_is = l.free_link ne;
+    absent = λ key shows. listed_absent l.hold free retired key shows;
+    seen = l.seen;
+    view = l.rest;
+  }
+
+  pub may_poll : free ≡ 0 → retired ≢ 0 → MayPoll x
+  may_poll none ne = record { hold = listed_hold; finished = needs_listed; free = free_is ∙ ap Some none; first = retired; some = ne; retired = retired_is }
+
+  pub free_polled : retired ≢ 0 → (y : View) → HasPolled x y → HasFree capacities v retired y
+  free_polled ne y p =
+      let same : p.hold ≡ listed_hold = (let z : Some p.hold ≡ Some listed_hold = sym p.is ∙ ap (λ (u : View). u.hold) l.rest in cc) in
+      let known : known_in listed_hold.known (Retired l.hold.class) ≡ Some p.first = subst (λ (k : Hold). known_in k.known (Retired k.class) ≡ Some p.first) same p.retired in
+      let number : p.first ≡ retired = (let z : Some p.first ≡ Some retired = sym known ∙ retired_is in cc) in
+      let whole : y ≡ record v { hold = Some (polled listed_hold retired); trail = y.trail; seen = x.seen } = p.view ∙ ap (λ (k : Hold). record x { hold = Some (polled k p.first); trail = y.trail }) same ∙ ap (λ n. record x { hold = Some (polled listed_hold n); trail = y.trail }) number
+      ∙ ap (λ (u : View). record u { hold = Some (polled listed_hold retired); trail = y.trail; seen = x.seen }) l.rest in
+      record {
+        hold = l.hold;
+        new = polled listed_hold retired;
+        was = l.is;
+        finished = (ap (λ (u : View). u.hold) whole, needs.1, needs.2, refl, ap (λ (u : View). u.turn) whole ∙ needs.4);
+        class = refl;
+        first = known_here (knowing listed_hold (Retired l.hold.class) 0) (Free l.hold.class) retired;
+        slot_is = l.retired_link ne;
+        absent = λ key shows. polled_absent listed_hold retired key (listed_absent l.hold free retired key shows);
+        seen = subst (IsPrefix v.seen) (sym (ap (λ (u : View). u.seen) whole)) l.seen;
+        view = whole ∙ sym (ap (λ (u : View). record v { hold = Some (polled listed_hold retired); trail = y.trail; seen = u.seen }) whole);
+      }
+
+-- the chain of the slot and the head were loaded
+module _ (capacities : List ℕ) (v : View) (slot key value : ℕ) (may : MayFill capacities v slot key) (next : ℕ) (x1 : View) (a : Loads capacities v (Chain slot) next x1) where
+  none_loaded : HasLoaded v may.hold v may.hold
+  none_loaded = not_loaded v may.hold may.finished.0
+
+  loaded1 : HasLoaded v may.hold x1 (knowing may.hold (Chain slot) next)
+  loaded1 = loaded_more capacities v may.hold v may.hold none_loaded (Chain slot) next x1 a
+
+  more1 : KnowsMore may.hold.known (knowing may.hold (Chain slot) next).known
+  more1 = knows_more capacities v may.hold v may.hold none_loaded (Chain slot) next x1 a
+
+  pub may_load_head : (class : ℕ) → class ≡ may.hold.class → (hold : Hold) × (x1.hold ≡ Some hold) × (class ≡ hold.class)
+  may_load_head class is = (knowing may.hold (Chain slot) next, ap (λ (z : View). z.hold) loaded1.view, is)
+
+  module _ (class first : ℕ) (is : class ≡ may.hold.class) (x2 : View) (b : Loads capacities x1 (Head class) first x2) where
+    abbrev k2 : Hold
+    k2 = knowing (knowing may.hold (Chain slot) next) (Head class) first
+
+    loaded2 : HasLoaded v may.hold x2 (knowing (knowing may.hold (Chain slot) next) (Head class) first)
+    loaded2 = loaded_more capacities v may.hold x1 (knowing may.hold (Chain slot) next) loaded1 (Head class) first x2 b
+
+    step2 : KnowsMore (knowing may.hold (Chain slot) next).known (knowing (knowing may.hold (Chain slot) next) (Head class) first).known
+    step2 = knows_more capacities v may.hold x1 (knowing may.hold (Chain slot) next) loaded1 (Head class) first x2 b
+
+    more2 : KnowsMore may.hold.known (knowing (knowing may.hold (Chain slot) next) (Head class) first).known
+    more2 f n e = step2 f n (more1 f n e)
+
+    some_slot : slot ≢ 0
+    some_slot e = let w = slot_within capacities may.hold.class slot may.slot_is in let p : 1 ≤ slot = w.0 in absurd (omega arith)
+
+    pub may_take : (hold : Hold) × NeedsTake x2 hold slot next
+    may_take = (
+      k2,
+      record {
+        hold_is = ap (λ (z : View). z.hold) loaded2.view;
+        some = some_slot;
+        first = more2 (Free may.hold.class) slot may.first;
+        next_is = step2 (Chain slot) next (known_here may.hold (Chain slot) next);
+        empty = may.finished.1;
+      },
+    )
+
+    module _ (x3 : View) (t : Takes x2 slot next x3) where
+      abbrev k3 : Hold
+      k3 = taken_hold k2 slot next
+
+      abbrev v3 : View
+      v3 = after_take (trod (record v { hold = Some k2; trail = x2.trail; seen = x2.seen }) H10 (Free may.hold.class) next) k2 slot next t.2.0
+
+      same2 : t.0 ≡ k2
+      same2 = let z : Some t.0 ≡ Some k2 = sym t.1 ∙ ap (λ (z : View). z.hold) loaded2.view in cc
+
+      view3 : x3 ≡ v3
+      view3 = t.2.2 ∙ ap (λ (k : Hold). after_take (trod x2 H10 (Free k.class) next) k slot next t.2.0) same2 ∙ ap (λ (z : View). after_take (trod z H10 (Free may.hold.class) next) k2 slot next t.2.0) loaded2.view
+
+      pub may_write_key : (hold : Hold) × (other : ℕ) × Needs11 x3 hold other (Key slot) × (is_slot_of capacities hold.class slot ≡ true)
+      may_write_key = (k3, slot, record { hold_is = ap (λ (z : View). z.hold) view3; taken = refl; field_is = refl }, may.slot_is)
+
+      module _ (x4 : View) (d : Writes x3 (Key slot) key x4) where
+        abbrev k4 : Hold
+        k4 = knowing k3 (Key slot) key
+
+        abbrev v4 : View
+        v4 = after11 (trod v3 H11 (Key slot) key) k3 (Key slot) key
+
+        same3 : d.0 ≡ k3
+        same3 = let z : Some d.0 ≡ Some k3 = sym d.1 ∙ ap (λ (z : View). z.hold) view3 in cc
+
+        view4 : x4 ≡ v4
+        view4 = d.2 ∙ ap (λ (k : Hold). after11 (trod x3 H11 (Key slot) key) k (Key slot) key) same3 ∙ ap (λ (z : View). after11 (trod z H11 (Key slot) key) k3 (Key slot) key) view3
+
+        pub may_write_value : (hold : Hold) × (other : ℕ) × Needs11 x4 hold other (Value slot) × (is_slot_of capacities hold.class slot ≡ true)
+        may_write_value = (k4, slot, record { hold_is = ap (λ (z : View). z.hold) view4; taken = refl; field_is = refl }, may.slot_is)
+
+        module _ (x5 : View) (e : Writes x4 (Value slot) value x5) where
+          abbrev k5 : Hold
+          k5 = knowing k4 (Value slot) value
+
+          abbrev v5 : View
+          v5 = after11 (trod v4 H11 (Value slot) value) k4 (Value slot) value
+
+          same4 : e.0 ≡ k4
+          same4 = let z : Some e.0 ≡ Some k4 = sym e.1 ∙ ap (λ (z : View). z.hold) view4 in cc
+
+          view5 : x5 ≡ v5
+          view5 = e.2 ∙ ap (λ (k : Hold). after11 (trod x4 H11 (Value slot) value) k (Value slot) value) same4 ∙ ap (λ (z : View). after11 (trod z H11 (Value slot) value) k4 (Value slot) value) view4
+
+          pub may_write_next : (hold : Hold) × (other : ℕ) × Needs11 x5 hold other (Next slot) × (is_slot_of capacities hold.class slot ≡ true)
+          may_write_next = (k5, slot, record { hold_is = ap (λ (z : View). z.hold) view5; taken = refl; field_is = refl }, may.slot_is)
+
+          pub filled : (x6 : View) → Writes x5 (Next slot) first x6 → Filled v slot key value x6
+          filled x6 g =
+              let same5 : g.0 ≡ k5 = (let z : Some g.0 ≡ Some k5 = sym g.1 ∙ ap (λ (z : View). z.hold) view5 in cc) in
+              let view6 : x6 ≡ after11 (trod v5 H11 (Next slot) first) k5 (Next slot) first = g.2 ∙ ap (λ (k : Hold). after11 (trod x5 H11 (Next slot) first) k (Next slot) first) same5 ∙ ap (λ (z : View). after11 (trod z H11 (Next slot) first) k5 (Next slot) first) view5 in
+              let off : IsOnWalk k2 slot → ⊥ = subst (λ (k : Hold). IsOnWalk k slot → ⊥) same2 t.3 in
+              record {
+                before = t.2.0;
+                since = prefix_trans v.seen x2.seen t.2.0 loaded2.seen t.2.1;
+                may = record {
+                  hold = knowing k5 (Next slot) first;
+                  first = first;
+                  is = ap (λ (z : View). z.hold) view6;
+                  taken = refl;
+                  unlinked = may.finished.2;
+                  moved = may.finished.3;
+                  turn = ap (λ (z : View). z.turn) view6 ∙ may.finished.4;
+                  key_is = known_here k3 (Key slot) key;
+                  value_is = known_here k4 (Value slot) value;
+                  next_is = known_here k5 (Next slot) first;
+                  head_is = subst (λ z. known_in k2.known (Head z) ≡ Some first) is (known_here (knowing may.hold (Chain slot) next) (Head class) first);
+                  class = may.class;
+                  absent = filled_absent k2 slot next key value first key off (absent_still may.hold k2.known key more2 may.absent);
+                  ticket = subst (λ n. 1 ≤ n) (sym (ap (λ (z : View). z.tickets) view6)) may.ticket;
+                };
+                view = view6 ∙ sym (ap (λ (z : View). record v { hold = z.hold; trail = z.trail; seen = t.2.0 ++ Given slot ∷ [] }) view6);
+              }
