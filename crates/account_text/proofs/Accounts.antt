@@ -1,5 +1,5 @@
 -- The numbered lines of scripts are explained, as what the scripts were told is.
-use Rattle.std.proofs.Common.{◌≡◌, ℕ, ◌-◌, Bool, true, false, cond, IsTrue, MatchBool, List, [], ◌∷◌, length, get_or, map, zero, suc, refl, ap, sym, subst, ◌∙◌, arith}
+use Rattle.std.proofs.Common.{◌≡◌, ℕ, ◌-◌, Bool, true, false, cond, IsTrue, MatchBool, List, [], ◌∷◌, length, get_or, map, zero, suc, refl, sym, subst, ◌∙◌}
 use Rattle.std.specs.List.{AllByRecursion}
 use Rattle.std.specs.FinMap as finite
 use Rattle.prcu_model.specs.declared.operation.Op.{Op}
@@ -9,10 +9,11 @@ use Rattle.prcu_model.specs.declared.operation.Update.{Update}
 use Rattle.prcu_model.specs.Dictionary.{map_at, map_of}
 use Rattle.prcu_model.specs.History.{IsLegal}
 use Rattle.prcu_model.specs.Replies.{Room, Confirms, tells_update}
-use Rattle.prcu_model.specs.Fronts.{told_lines, all_told_lines, told_updates, Placed, IsConfirmed, MayStand, MayStandBeside, CanBeNumbered, AreExplained, AreExplainable, IsLeastFor, AreNumbered, AllAreNumbered}
+use Rattle.prcu_model.specs.Fronts.{all_told_lines, told_updates, Placed, IsConfirmed, MayStand, MayStandBeside, CanBeNumbered, AreExplained, AreExplainable, IsLeastFor, AreNumbered, AllAreNumbered}
 use Rattle.account_text.specs.Account.{IsAccount}
 use Rattle.prcu_model.specs.Fronts.{ops_of}
 use Rattle.account_text.specs.Printing.{account_of}
+use Rattle.prcu_model.proofs.ToldLists.{ops_of-all_told_lines}
 
 -- the line with another number
 abbrev renumbered : Line → ℕ → Line
@@ -137,19 +138,6 @@ module _ (room : Room) (history : List Update) where
         confirmed = kept.confirmed explained.confirmed;
         fronts = kept.fronts;
       }
-
-ops_of-told_lines : (ops : List Op) (tolds : List Told) → length tolds ≡ length ops → ops_of (told_lines ops tolds) ≡ ops
-ops_of-told_lines [] tolds same = refl
-ops_of-told_lines (op ∷ ops) [] same = absurd (omega (arith, same))
-ops_of-told_lines (op ∷ ops) (told ∷ tolds) same = ap (λ os. op ∷ os) (ops_of-told_lines ops tolds (cc))
-
-ops_of-all_told_lines : (scripts : List (List Op)) (tolds : List (List Told)) → map length tolds ≡ map length scripts → map ops_of (all_told_lines scripts tolds) ≡ scripts
-ops_of-all_told_lines [] tolds same = refl
-ops_of-all_told_lines (script ∷ scripts) [] same = absurd (cc)
-ops_of-all_told_lines (script ∷ scripts) (told ∷ tolds) same =
-    let head : length told ≡ length script = cc in
-    let tail : map length tolds ≡ map length scripts = cc in
-    λ i. ops_of-told_lines script told head i ∷ ops_of-all_told_lines scripts tolds tail i
 
 -- the numbered lines of what scripts were told make an account of the scripts, whose history is this one
 pub IsAccount-with_history : (scripts : List (List Op)) (tolds : List (List Told)) (history : List Update) (slots : ℕ) (lists : List (List Line)) → AreExplainable scripts tolds history slots → AllAreNumbered (record { scripts = length scripts; slots = slots }) history (all_told_lines scripts tolds) lists → IsLegal history → (account : IsAccount scripts slots (account_of lists history (finite.entries (map_of history)))) × (account.history ≡ history)

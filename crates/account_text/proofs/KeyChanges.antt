@@ -13,10 +13,10 @@ use Rattle.prcu_model.specs.declared.operation.Op.{Op}
 use Rattle.prcu_model.specs.declared.operation.Op.TheVariants.{Put, Get, Del, Set}
 use Rattle.prcu_model.specs.declared.operation.Reply.{Reply}
 use Rattle.prcu_model.specs.declared.operation.Update.{Update}
-use Rattle.prcu_model.specs.Dictionary.{Dictionary, updated, map_at}
+use Rattle.prcu_model.specs.Dictionary.{Dictionary, updated, map_at, key_of}
 use Rattle.prcu_model.proofs.Fronts.{map_at-next}
 use Rattle.account_text.specs.declared.timeline.Change.{Change}
-use Rattle.account_text.specs.Changes.{key_of, IsShown, IsChangeOf, AreAllChanged, IsUpTo, IsPast, IsOrdered, IsFirstShown, IsIndexed, value_for}
+use Rattle.account_text.specs.Changes.{IsShown, IsChangeOf, AreAllChanged, IsUpTo, IsPast, IsOrdered, IsFirstShown, IsIndexed, value_for}
 
 get-insert_other : (m : Dictionary) (k v key : ℕ) → k ≢ key → map.get (map.insert m k v) key ≡ map.get m key
 get-insert_other m k v key other =

@@ -13,7 +13,7 @@ use Rattle.prcu_model.specs.Replies.{tells_update}
 use Rattle.prcu_model.specs.Fronts.{Placed, own_updates, own_updates_from, told_updates}
 use Rattle.account_text.specs.Lines.{IsTold, AreToldFrom}
 use Rattle.account_text.specs.Turns.{own_count}
-use Rattle.account_text.proofs.ScriptNumbers.{drop-there}
+use Rattle.prcu_model.proofs.ToldLists.{drop-there}
 
 -- a list with or without another element at its front
 length_cond : {X : Type 0} (b : Bool) (x : X) (xs : List X) (n : ℕ) → length xs ≡ n → length (cond b (x ∷ xs) xs) ≡ cond b 1 0 + n

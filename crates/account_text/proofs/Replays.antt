@@ -10,10 +10,10 @@ use Rattle.std.specs.List.Sorted.{IsPermutation}
 use Rattle.std.proofs.lemmas.List.Elements.{All-push}
 use Rattle.std.proofs.lemmas.List.Folds.{list_any-append}
 use Rattle.prcu_model.specs.declared.operation.Update.{Update}
-use Rattle.prcu_model.specs.Dictionary.{map_at}
+use Rattle.prcu_model.specs.Dictionary.{map_at, key_of}
 use Rattle.prcu_model.specs.Replies.{Room}
 use Rattle.account_text.specs.declared.timeline.Change.{Change}
-use Rattle.account_text.specs.Changes.{key_of, IsFilled, IsChangeOf, AreAllChanged, IsOrdered, IsIndexed}
+use Rattle.account_text.specs.Changes.{IsFilled, IsChangeOf, AreAllChanged, IsOrdered, IsIndexed}
 
 module _ (history : List Update) (i : ℕ) (below : i < length history) where
   pub sizes-more : (sizes : List ℕ) (n : ℕ) → length sizes ≡ i + 1 → ((front : ℕ) → front ≤ i → get_or sizes front 0 ≡ map.len (map_at history front)) → n ≡ map.len (map_at history (i + 1)) → (front : ℕ) → front ≤ i + 1 → get_or (sizes ++ n ∷ []) front 0 ≡ map.len (map_at history front)

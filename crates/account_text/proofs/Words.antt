@@ -11,6 +11,7 @@ use Rattle.script_text.specs.Split.{Lacks, IsParted}
 use Rattle.script_text.proofs.CutLines.{same_parts}
 use Rattle.script_text.proofs.OpTexts.{word_of, words_of, op_text_is}
 use Rattle.account_text.specs.AccountLines.{update_body}
+use Rattle.prcu_model.specs.Dictionary.{key_of}
 
 no_space_before : (word rest : List ℕ) → Lacks (word ++ 32 ∷ rest) 32 → ⊥
 no_space_before [] rest l = All-head (λ b. b ≢ 32) 32 rest l refl
@@ -25,13 +26,6 @@ no_space bytes word rest l is =
 -- A word without a space is what stands before the first space.
 pub at_space : (bytes front after word rest : List ℕ) → IsParted bytes 32 front after → Lacks word 32 → bytes ≡ word ++ 32 ∷ rest → (front ≡ word) × (after ≡ rest)
 at_space bytes front after word rest p l is = same_parts 32 front word after rest p.first l (sym p.whole ∙ is)
-
--- an operation's key
-abbrev pub key_of : Op → ℕ
-key_of (Put key value) = key
-key_of (Get key) = key
-key_of (Del key) = key
-key_of (Set key value) = key
 
 -- what stands after the operation's key and a space, where this follows the operation and a space
 abbrev pub after_key : Op → List ℕ → List ℕ

@@ -8,17 +8,10 @@ use Rattle.prcu_model.specs.declared.operation.Op.TheVariants.{Put, Get, Del, Se
 use Rattle.prcu_model.specs.declared.operation.Reply.{Reply}
 use Rattle.prcu_model.specs.declared.operation.Reply.TheVariants.{Old, Full, Val, Absent}
 use Rattle.prcu_model.specs.declared.operation.Update.{Update}
-use Rattle.prcu_model.specs.Dictionary.{map_at}
+use Rattle.prcu_model.specs.Dictionary.{map_at, key_of}
 use Rattle.prcu_model.specs.Replies.{Room, Explains}
 use Rattle.account_text.specs.declared.timeline.Change.{Change}
 use Rattle.account_text.specs.Course.{Course}
-
--- the key that an operation asks for
-abbrev pub key_of : Op → ℕ
-key_of (Put key value) = key
-key_of (Get key) = key
-key_of (Del key) = key
-key_of (Set key value) = key
 
 -- whether the reply says that no slot is left for a put
 abbrev pub asks_for_room : Op → Reply → Bool

@@ -2,11 +2,11 @@
 ghost use Rattle.std.specs.Prelude.{◌≡◌, ℕ, ◌+◌, ◌-◌, ◌<◌, ◌≤◌, ◌↔◌, IsTrue, IfOk, IfNone, IfSome, ◌++◌, length, slice_get, slice_index, All};
 ghost use Rattle.std.specs.FinMap as map;
 ghost use Rattle.std.specs.List.Sorted.{IsPermutation};
-ghost use Rattle.prcu_model.specs.Dictionary.{map_at};
+ghost use Rattle.prcu_model.specs.Dictionary.{key_of, map_at};
 ghost use Rattle.prcu_model.specs.Replies.{Confirms};
 ghost use Rattle.prcu_model.specs.Fronts.{MayStand, IsLeastFor};
 ghost use Rattle.account_text.specs.Lines.{line_of};
-ghost use Rattle.account_text.specs.Changes.{key_of, asks_for_room, IsShown, IsFilled, ExplainsFrom, IsUpTo, IsPast, IsOrdered, IsFirstShown, IsChangeOf, AreAllChanged, value_for};
+ghost use Rattle.account_text.specs.Changes.{asks_for_room, IsShown, IsFilled, ExplainsFrom, IsUpTo, IsPast, IsOrdered, IsFirstShown, IsChangeOf, AreAllChanged, value_for};
 
 use prcu_model::{NoMemory, Op, PlainMap, Reply, Told, Update};
 use std::alloc::Global;

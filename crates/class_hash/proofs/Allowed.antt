@@ -30,13 +30,13 @@ use Rattle.hash_core.proofs.Locks.{law6, law7, law8, law9, law12, law16}
 use Rattle.prcu_model.specs.declared.operation.Op.TheVariants.{Put, Del, Set}
 use Rattle.hash_core.proofs.Links.{law13, law15}
 use Rattle.hash_core.proofs.Unlinks.{law14}
-use Rattle.hash_core.proofs.Stocks.{law_take, law_refill, law_move, law_push, law_chain, law11}
+use Rattle.hash_core.proofs.Stocks.{law_take, law_refill, law_move, law_push, law_chain, law11, is_known}
 use Rattle.class_hash.specs.declared.rule.Nothing.{Nothing}
 use Rattle.class_hash.specs.Answers.{GivesAnswer, IsLinkOf}
 use Rattle.class_hash.specs.Told.{told2, told3, told4, told5, told6, told7, told8, told9, told_take, told_refill, told_move, told_push, told_chain, told11, told12, told13, told14, told15, told16}
 use Rattle.class_hash.proofs.Plumbing.{stores, loads, found_is}
 use Rattle.class_hash.proofs.Readers.{few_readers}
-use Rattle.class_hash.proofs.Facts.{known_now, field_inside, searched_key, few_tickets, gives_answer, stands_in_class, link_of, front_small, updated, free_off, full_now, old_value}
+use Rattle.class_hash.proofs.Facts.{field_inside, searched_key, few_tickets, gives_answer, stands_in_class, link_of, front_small, updated, free_off, full_now, old_value}
 
 module _ (k : Shape) (slots id : ℕ) (me : Me Nothing View) where
   abbrev Holds : State Nothing View → Type 0
@@ -204,7 +204,7 @@ module _ (k : Shape) (slots id : ℕ) (me : Me Nothing View) where
             mine,
             (r.marks, r.holds.seen.begins id me.0 at, refl),
             subst (IsLinkOf caps hold field) found (link_of caps k.places k.tickets m s.views r.marks r.holds id me.0 at hold mine field of),
-            λ number is. sym found ∙ (known_now caps k.places k.tickets m s.views r.marks r.holds id me.0 at hold mine field number is).1,
+            λ number is. sym found ∙ (is_known caps k.places k.tickets m s.views r.marks r.holds id me.0 at hold mine field number is).1,
             λ f. full_now caps k.places k.tickets m s.views r.marks r.holds id me.0 at hold mine field n (cond (n == 0) r.marks me.0.seen) found (ap (λ b. cond b r.marks me.0.seen) (eq-eqb n 0 f.none)) f,
           ),
         ),

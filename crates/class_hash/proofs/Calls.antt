@@ -9,7 +9,7 @@ use Rattle.hash_core.specs.declared.view.Hold.{Hold}
 use Rattle.hash_core.specs.declared.view.View.{View}
 use Rattle.hash_core.specs.Known.{known_in, knowing}
 use Rattle.hash_core.specs.Steps.{trod, after8, after9, after_move, after_refill, Needs7, NeedsMove, NeedsRefill}
-use Rattle.hash_core.proofs.Lists.{prefix_self}
+use Rattle.hash_core.proofs.Lists.{prefix_self, prefix_trans}
 use Rattle.class_hash.specs.Answers.{IsLink, IsFull}
 use Rattle.class_hash.proofs.Walking.{known_here, free_absent}
 use Rattle.hash_core.specs.declared.view.Section.{Section}
@@ -17,9 +17,6 @@ use Rattle.hash_core.specs.declared.view.Stand.TheVariants.{Start}
 use Rattle.hash_core.specs.Marks.{updates_of}
 use Rattle.class_hash.specs.Stepped.{Enters, LoadsReaders, Loads, Moves, Refills}
 use Rattle.class_hash.specs.Calls.{Lists, MayPoll, Refilled, Waits}
-
-pub prefix_trans : {A : Type 0} (a b c : List A) → IsPrefix a b → IsPrefix b c → IsPrefix a c
-prefix_trans a b c p q = (p.0 ++ q.0, sym (append_assoc a p.0 q.0) ∙ ap (λ z. z ++ q.0) p.1 ∙ q.1)
 
 -- who loads sees no less
 pub seen_more : (a h : List Mark) (b : Bool) → IsPrefix a h → IsPrefix a (cond b h a)

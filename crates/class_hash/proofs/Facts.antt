@@ -33,11 +33,11 @@ use Rattle.hash_core.proofs.Classes.{slot_within}
 use Rattle.hash_core.proofs.Memories.{word_inside}
 use Rattle.hash_core.proofs.Frames.{way_slot, chain_slot, free_slot, retired_slot}
 use Rattle.hash_core.proofs.Quiet.{same_marks}
-use Rattle.hash_core.proofs.Locks.{holder_of, class_small}
+use Rattle.hash_core.proofs.Locks.{class_small}
 use Rattle.hash_core.proofs.Links.{on_chain, absent_now}
 use Rattle.hash_core.proofs.Full.{full_class}
 use Rattle.hash_core.specs.Pairs.{HasPairs}
-use Rattle.hash_core.proofs.Stocks.{roles_by}
+use Rattle.hash_core.proofs.Stocks.{rule as held_rule, is_known, roles_by}
 use Rattle.prcu_model.specs.History.{IsLegal}
 use Rattle.class_hash.specs.Stepped.{IsUpdated}
 use Rattle.class_hash.specs.Answers.{GivesAnswer, StandsInClass, IsLink, IsLinkOf, IsFull, FindsFull}
@@ -112,14 +112,10 @@ module _ (capacities : List ℕ) (places tickets : ℕ) (m : Memory) (vs : List 
     small = class_small capacities places tickets m vs h r id v at hold mine
 
     rule : BucketRule capacities hold.class m h (updates_of h) vs (r.bucket hold.class)
-    rule = r.buckets hold.class small
+    rule = held_rule capacities places tickets m vs h r id v at hold mine
 
     known : (field : Field) (number : ℕ) → known_in hold.known field ≡ Some number → IsOfClass capacities hold.class field × (m field ≡ number)
-    known field number found = rule.known.known hold field number (holder_of capacities places tickets m vs h r id v at hold.class small hold mine refl) found
-
-    -- what is known is so
-    pub known_now : (field : Field) (number : ℕ) → known_in hold.known field ≡ Some number → IsOfClass capacities hold.class field × (m field ≡ number)
-    known_now = known
+    known = is_known capacities places tickets m vs h r id v at hold mine
 
     -- the slot on the known walk is linked
     comes : (first : ℕ) (before : List ℕ) (slot : ℕ) (xs : List ℕ) → ComesTo hold.known first before slot → IsPath (λ s. m (Next s)) first xs → (front rest : List ℕ) × (xs ≡ front ++ slot ∷ rest) × IsPath (λ s. m (Next s)) (m (Next slot)) rest

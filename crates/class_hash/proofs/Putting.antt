@@ -16,7 +16,7 @@ use Rattle.hash_core.specs.Steps.{trod, Needs7, Needs13, Needs16, after7, after1
 use Rattle.class_hash.specs.Stepped.{Unlocks, Evens, Links}
 use Rattle.class_hash.specs.Updates.{HasTurned}
 use Rattle.class_hash.specs.Puts.{HasFree, MayAdd, MayFill, MayLink, Filled, Linked, Added}
-use Rattle.class_hash.proofs.Calls.{prefix_trans}
+use Rattle.hash_core.proofs.Lists.{prefix_trans}
 
 -- the front was made odd, the slot linked, the front made even, and the lock given up
 module _ (v : View) (slot key value : ℕ) (may : MayLink v slot key value) (even : ℕ) (x1 : View) (t : HasTurned v even x1) where

@@ -64,11 +64,6 @@ module _ (v : View) (key : ℕ) where
     view = e.2;
   }
 
-  link_case : (P : Stand → Type 0) (link : ℕ) → (link ≡ 0 → P Ended) → (link ≢ 0 → P (Unread link)) → P (link_stand link)
-  link_case P link end more = dite (ℕ_discrete link 0)
-      (λ e. subst P (sym (ap (λ b. cond b Ended (Unread link)) (eq-eqb link 0 e))) (end e))
-      (λ ne. subst P (sym (ap (λ b. cond b Ended (Unread link)) (ne_eqb link 0 ne))) (more ne))
-
   stands : (link : ℕ) → link ≢ 0 → StandsAt (link_stand link) link
   stands link ne = subst (λ z. StandsAt z link) (sym (ap (λ b. cond b Ended (Unread link)) (ne_eqb link 0 ne))) refl
 

@@ -18,7 +18,7 @@ use Rattle.hash_core.specs.Slots.{capacity, is_slot_of, IsOfClass}
 use Rattle.class_hash.specs.Answers.{IsFull}
 use Rattle.hash_core.specs.Known.{ShowsAbsent}
 use Rattle.hash_core.specs.Steps.{trod, IsQuiet, Needs7, after7, fresh_hold}
-use Rattle.hash_core.proofs.Lists.{all_append, prefix_self}
+use Rattle.hash_core.proofs.Lists.{all_append, prefix_self, prefix_trans}
 use Rattle.class_hash.specs.Stepped.{Unlocks}
 use Rattle.class_hash.specs.Lookups.{Looked}
 use Rattle.class_hash.specs.Walks.{HasLoaded, IsFoundAt}
@@ -26,7 +26,6 @@ use Rattle.class_hash.specs.Updates.{HasLocked, MayReplace, Replaced, link_after
 use Rattle.class_hash.specs.Calls.{HasFinished, Lists}
 use Rattle.class_hash.specs.Puts.{MayAdd, Linked, Added, LeavesFull}
 use Rattle.class_hash.specs.Replies.{IsOfSection, HasTried, told_added, PutsBy, Puts, SetsBy, DelsBy}
-use Rattle.class_hash.proofs.Calls.{prefix_trans}
 
 pub nothing_tried : (v : View) → HasTried v v
 nothing_tried v = record { marks = []; plain = tt; own = sym (append-nil v.own); seen = prefix_self v.seen; view = refl }

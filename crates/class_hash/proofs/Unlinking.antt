@@ -18,7 +18,7 @@ use Rattle.class_hash.specs.Stepped.{Unlocks, Loads, Evens, Cuts, Chains, Pushes
 use Rattle.class_hash.specs.Walks.{HasLoaded, KnowsMore, IsLinkedFrom}
 use Rattle.class_hash.specs.Updates.{HasTurned, link_after, MayUnlink, Removed}
 use Rattle.class_hash.proofs.Walking.{not_loaded, loaded_more, knows_more, known_here, comes_to_still}
-use Rattle.class_hash.proofs.Calls.{prefix_trans}
+use Rattle.hash_core.proofs.Lists.{prefix_trans}
 
 -- the next of the slot and the first retired slot were loaded
 module _ (capacities : List ℕ) (v : View) (previous : Option ℕ) (slot key : ℕ) (may : MayUnlink capacities v previous slot key) (next : ℕ) (x1 : View) (a : Loads capacities v (Next slot) next x1) where

@@ -18,7 +18,7 @@ use Rattle.class_hash.specs.Stepped.{Locks, Unlocks, Loads, Turns, Evens, Replac
 use Rattle.class_hash.specs.Walks.{HasLoaded, KnowsMore}
 use Rattle.class_hash.specs.Updates.{HasLocked, HasTurned, MayReplace, Replaced}
 use Rattle.class_hash.proofs.Walking.{not_loaded, loaded_more, knows_more, known_here, comes_to_still}
-use Rattle.class_hash.proofs.Calls.{prefix_trans}
+use Rattle.hash_core.proofs.Lists.{prefix_trans}
 
 -- a lock that was free
 pub locked : (v w x : View) (class : ℕ) → w ≡ record v { trail = w.trail } → Locks w class 0 x → HasLocked v class x

@@ -13,7 +13,7 @@ use Rattle.hash_core.specs.Memory.{same_field}
 use Rattle.hash_core.specs.Slots.{is_slot_of}
 use Rattle.hash_core.specs.Known.{known_in, knowing, IsWholeWalk, LacksKey, ShowsAbsent, ComesTo, IsOnWalk}
 use Rattle.hash_core.specs.Steps.{trod, after9}
-use Rattle.hash_core.proofs.Lists.{prefix_self, prefix_more}
+use Rattle.hash_core.proofs.Lists.{prefix_self, prefix_more, prefix_trans}
 use Rattle.hash_core.proofs.Stores.{same_self, same_is}
 use Rattle.class_hash.specs.Answers.{IsLinkOf}
 use Rattle.class_hash.specs.Stepped.{Loads}
@@ -88,7 +88,7 @@ module _ (capacities : List ℕ) (v : View) (hold : Hold) (w : View) (now : Hold
   pub loaded_more : HasLoaded v hold x (knowing now field n)
   loaded_more =
       let there : View = after9 (trod w H9 field n) now field n s.2.0 in
-      let longer : IsPrefix v.seen s.2.0 = prefix_through v.seen w.seen s.2.0 loaded.seen s.2.1 in
+      let longer : IsPrefix v.seen s.2.0 = prefix_trans v.seen w.seen s.2.0 loaded.seen s.2.1 in
       record {
         was = loaded.was;
         more = λ f number is. knows_more f number (loaded.more f number is);
@@ -100,9 +100,6 @@ module _ (capacities : List ℕ) (v : View) (hold : Hold) (w : View) (now : Hold
       by : (t : Bool) → IsPrefix v.seen s.2.0 → IsPrefix v.seen (cond t s.2.0 w.seen)
       by true longer = longer
       by false longer = loaded.seen
-
-      prefix_through : (a b c : List Mark) → IsPrefix a b → IsPrefix b c → IsPrefix a c
-      prefix_through a b c p q = subst (λ z. IsPrefix a z) q.1 (prefix_more a b q.0 p)
 
   pub holds_then : x.hold ≡ Some (knowing now field n)
   holds_then = ap (λ (z : View). z.hold) loaded_more.view

@@ -1,10 +1,10 @@
 -- The updates that scripts were told of, one script after another.
-use Rattle.std.proofs.Common.{◌≡◌, ℕ, ◌+◌, ◌<◌, ◌≤◌, true, false, List, [], ◌∷◌, ◌++◌, min, inl, inr, suc, if◌then◌else◌, length, get_or, drop, map, Some, refl, sym, ap, ◌∙◌, arith, length-append}
+use Rattle.std.proofs.Common.{◌≡◌, ℕ, ◌+◌, ◌<◌, ◌≤◌, true, false, List, [], ◌∷◌, ◌++◌, min, inl, inr, suc, if◌then◌else◌, length, get_or, drop, map, Some, refl, ap, ◌∙◌, arith, length-append}
 use Rattle.std.specs.List.{slice_get, count_by}
 use Rattle.std.proofs.lemmas.Bool.{cases_lt}
-use Rattle.std.proofs.lemmas.List.{drop_more, drop_all, length-map}
+use Rattle.std.proofs.lemmas.List.{drop_all, length-map}
 use Rattle.std.proofs.lemmas.List.Sums.{sum_by-cons}
-use Rattle.std.proofs.lemmas.Option.{get_or_from_slice_get, slice_get_within, slice_get-get_or}
+use Rattle.std.proofs.lemmas.Option.{slice_get-get_or}
 use Rattle.prcu_model.specs.declared.operation.Op.{Op}
 use Rattle.prcu_model.specs.declared.operation.Told.{Told}
 use Rattle.prcu_model.specs.declared.operation.Line.{Line}
@@ -13,12 +13,7 @@ use Rattle.prcu_model.specs.Replies.{tells_update}
 use Rattle.prcu_model.specs.Scripts.{op_count}
 use Rattle.prcu_model.specs.Fronts.{Placed, told_lines, all_told_lines, told_updates}
 use Rattle.client_run.specs.Merging.{Numbered, numbered_updates, all_numbered_updates}
-
-drop-read : {X : Type 0} (xs : List X) (i : ℕ) (x : X) → i < length xs → x ≡ get_or xs i x → drop i xs ≡ x ∷ drop (i + 1) xs
-drop-read xs i x below is = drop_more xs i x below ∙ ap (λ y. y ∷ drop (i + 1) xs) (sym is)
-
-drop-there : {X : Type 0} (xs : List X) (i : ℕ) (x : X) → slice_get xs i ≡ Some x → drop i xs ≡ x ∷ drop (i + 1) xs
-drop-there xs i x there = drop-read xs i x (slice_get_within xs i x there) (sym (get_or_from_slice_get xs i x x there))
+use Rattle.prcu_model.proofs.ToldLists.{drop-there, drop-read, SameLengths, same_length, SameLengths-next, same_count}
 
 -- the updates of the lines that are left, from the next on
 abbrev pub own_left : ℕ → List Op → List Told → ℕ → List Numbered
@@ -72,29 +67,13 @@ length-numbered_updates caller (op ∷ script) (answer ∷ told) same =
 abbrev pub all_left : List (List Op) → List (Roomy Told) → ℕ → List Numbered
 all_left scripts told i = all_numbered_updates i (all_told_lines (drop i scripts) (entries_of (drop i told)))
 
--- how many answers the scripts have that are left
-abbrev pub SameLengths : List (List Op) → List (Roomy Told) → ℕ → Type 0
-SameLengths scripts told i = map length (entries_of (drop i told)) ≡ map length (drop i scripts)
-
 module _ (scripts : List (List Op)) (told : List (Roomy Told)) (i : ℕ) (script : List Op) (list : Roomy Told) (there : slice_get scripts i ≡ Some script) (below : i < length told) (is : list ≡ get_or told i list) where
   pub all_left-turn : all_left scripts told i ≡ numbered_updates i (told_lines script list.entries) ++ all_left scripts told (i + 1)
   all_left-turn = rw (drop-there scripts i script there, drop-read told i list below is) refl
 
-  lengths-turn : SameLengths scripts told i → length list.entries ∷ map length (entries_of (drop (i + 1) told)) ≡ length script ∷ map length (drop (i + 1) scripts)
-  lengths-turn same = rw (drop-there scripts i script there, drop-read told i list below is) at same
-
-  pub same_length : SameLengths scripts told i → length list.entries ≡ length script
-  same_length same = let both = lengths-turn same in cc
-
-  pub SameLengths-next : SameLengths scripts told i → SameLengths scripts told (i + 1)
-  SameLengths-next same = let both = lengths-turn same in cc
-
 pub all_left-end : (scripts : List (List Op)) (told : List (Roomy Told)) (i : ℕ) → length scripts ≤ i → all_left scripts told i ≡ []
 all_left-end scripts told i past = ap (λ ss. all_numbered_updates i (all_told_lines ss (entries_of (drop i told)))) (drop_all i scripts past)
 
-pub same_count : (scripts : List (List Op)) (told : List (Roomy Told)) → map length (entries_of told) ≡ map length scripts → length told ≡ length scripts
-same_count scripts told same =
-    sym (length-map told (λ list. list.entries)) ∙ sym (length-map (entries_of told) length) ∙ ap length same ∙ length-map scripts length
 
 -- no more updates than operations
 length-told_updates-le : (script : List Op) (told : List Told) → length (told_updates (told_lines script told)) ≤ length script

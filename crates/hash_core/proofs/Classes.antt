@@ -1,5 +1,5 @@
 -- Classes own slots of their own.
-use Rattle.std.proofs.Common.{◌≡◌, ℕ, zero, suc, ◌+◌, ◌<◌, ◌≤◌, ◌&&◌, Bool, true, false, List, [], ◌∷◌, take, sum, refl, arith}
+use Rattle.std.proofs.Common.{◌≡◌, ℕ, zero, suc, ◌+◌, ◌<◌, ◌≤◌, ◌&&◌, Bool, true, false, List, [], ◌∷◌, take, sum, refl, arith, cond}
 use Rattle.std.proofs.lemmas.Bool.{ltb-true, leb-true}
 use Rattle.std.proofs.lemmas.List.Sums.{sum_by-cons}
 use mathlib.Core.Logic.{dite}
@@ -52,3 +52,8 @@ one_class capacities c d s of_c of_d =
 pub slot_within : (capacities : List ℕ) (c s : ℕ) → is_slot_of capacities c s ≡ true → (1 ≤ s) × (s ≤ sum capacities)
 slot_within capacities c s of =
     let p = slot_bounds capacities c s of in let p0 = p.0 in let p1 = p.1 in let z = class_within capacities c in (omega arith, omega arith)
+
+-- a number that is 1 or 0 by a test
+pub at_most_one : (test : Bool) (n : ℕ) → n ≡ cond test 1 0 → n ≤ 1
+at_most_one true n e = omega arith
+at_most_one false n e = omega arith

@@ -10,7 +10,7 @@ use Rattle.prcu_model.specs.declared.mark.Mark.TheVariants.{Done}
 use Rattle.prcu_model.specs.declared.operation.Op.{Op}
 use Rattle.prcu_model.specs.declared.operation.Op.TheVariants.{Put, Set}
 use Rattle.prcu_model.specs.declared.operation.Update.{Update}
-use Rattle.prcu_model.specs.Dictionary.{updated, map_of}
+use Rattle.prcu_model.specs.Dictionary.{updated, map_of, key_of}
 use Rattle.prcu_model.proofs.Fronts.{map_of-push}
 use Rattle.hash_core.specs.declared.words.Field.TheVariants.{Head, Key, Value, Next}
 use Rattle.hash_core.specs.declared.view.Stand.{Stand}
@@ -23,25 +23,25 @@ use Rattle.hash_core.specs.Memory.{Memory, stored}
 use Rattle.hash_core.specs.Slots.{is_slot_of}
 use Rattle.hash_core.specs.Marks.{updates_of, open_at, gone_at, IsGone, entered_at, ReuseByClass}
 use Rattle.hash_core.specs.Known.{knowing, ShowsAbsent, IsOnWalk}
-use Rattle.hash_core.specs.Buckets.{Bucket, seek, IsFreeOfReaders, taken_of, unlinked_of, moved_of, link_of}
+use Rattle.hash_core.specs.Buckets.{Bucket, seek, IsFreeOfReaders, taken_of, unlinked_of, moved_of, link_of, HaveDistinctKeys}
 use Rattle.hash_core.specs.Readers.{AreAnswered, WillAnswer, WasSaid, IsHeldBack, HasWay}
 use Rattle.hash_core.specs.Seats.{open_of}
 use Rattle.hash_core.specs.Steps.{Needs13, after13, Needs15, after15}
 use Rattle.hash_core.specs.Rule.{BucketRule, MemoryRule}
-use Rattle.hash_core.proofs.Lists.{each_set, all_times}
-use Rattle.hash_core.proofs.Paths.{seek_here, seek_past}
+use Rattle.hash_core.proofs.Lists.{each_set, all_times, all_map}
+use Rattle.hash_core.proofs.Paths.{seek_here, seek_past, seek-same, HaveDistinctKeys-same}
 use Rattle.hash_core.proofs.MarkLists.{updates_of-append}
 use Rattle.hash_core.proofs.Classes.{slot_within}
 use Rattle.hash_core.proofs.Adds.{open_at-same, gone_at-same, open_at-below, reuse_more}
 use Rattle.hash_core.proofs.Frames.{SameMarks, chain_slot, taken_slot, WasSaid-longer}
 use Rattle.hash_core.proofs.Stores.{class_words, stored_here, same_self}
 use Rattle.hash_core.proofs.Sections.{entered_at-append, free_each}
-use Rattle.hash_core.proofs.Locks.{counted_still, all_still, locked_by, elsewhere_held}
+use Rattle.hash_core.proofs.Locks.{counted_still, locked_by, elsewhere_held}
 use Rattle.hash_core.proofs.Ways.{will_still}
 use Rattle.hash_core.proofs.Whole.{after_step}
 use Rattle.hash_core.proofs.Stocks.{rule, had, is_known, known_after, roles_by, moved_by}
 use Rattle.hash_core.proofs.Cuts.{whole_path, comes_on, lacks_none, cut_at, seek_some, seek_slot, seek_replaced}
-use Rattle.prcu_model.proofs.Worth.{key_of, get-updated_other, get-put, get-set}
+use Rattle.prcu_model.proofs.Worth.{get-updated_other, get-put, get-set}
 use Rattle.hash_core.proofs.Updating.{said_now, seats_updated}
 
 module _ (capacities : List ℕ) (places tickets : ℕ) (m : Memory) (vs : List View) (h : List Mark) (r : MemoryRule capacities places tickets m vs h) (id : ℕ) (v : View) (at : get_elem? vs id ≡ some v) (hold : Hold) (mine : v.hold ≡ Some hold) where
@@ -164,22 +164,10 @@ module _ (capacities : List ℕ) (places tickets : ℕ) (m : Memory) (vs : List 
     mapped13 k class = dite (ℕ_discrete k key)
         (λ e. subst (λ z. finite.get (map_of (updates_of h13)) z ≡ seek m13 z (slot ∷ chain_now)) (sym e)
         (get_done even (Put key value) key ∙ get-put (map_of (updates_of h)) key value absent13 ∙ ap Some (sym is_value13) ∙ sym (seek_here m13 key slot chain_now is_key13)))
-        (λ ne. get_done_other even (Put key value) k ne ∙ bucket_rule.mapped.answers k class ∙ same13 chain_now k ∙ sym (seek_past m13 k slot chain_now (λ e. ne (sym e ∙ is_key13))))
-      where
-        same13 : (xs : List ℕ) (k : ℕ) → seek m k xs ≡ seek m13 k xs
-        same13 [] k = refl
-        same13 (x ∷ xs) k = ap (λ z. cond (m (Key x) == k) (Some (m (Value x))) z) (same13 xs k)
+        (λ ne. get_done_other even (Put key value) k ne ∙ bucket_rule.mapped.answers k class ∙ sym (seek-same m m13 k chain_now (λ s _. (refl, refl))) ∙ sym (seek_past m13 k slot chain_now (λ e. ne (sym e ∙ is_key13))))
 
-    distinct13 : Rattle.hash_core.specs.Buckets.HaveDistinctKeys m13 (slot ∷ chain_now)
-    distinct13 = (same13 chain_now (m (Key slot)) ∙ ap (λ z. seek m z chain_now) is_key13 ∙ nothing13, keep13 chain_now bucket_rule.chained.distinct)
-      where
-        same13 : (xs : List ℕ) (k : ℕ) → seek m13 k xs ≡ seek m k xs
-        same13 [] k = refl
-        same13 (x ∷ xs) k = ap (λ z. cond (m (Key x) == k) (Some (m (Value x))) z) (same13 xs k)
-
-        keep13 : (xs : List ℕ) → Rattle.hash_core.specs.Buckets.HaveDistinctKeys m xs → Rattle.hash_core.specs.Buckets.HaveDistinctKeys m13 xs
-        keep13 [] d = tt
-        keep13 (x ∷ xs) d = (same13 xs (m (Key x)) ∙ d.0, keep13 xs d.1)
+    distinct13 : HaveDistinctKeys m13 (slot ∷ chain_now)
+    distinct13 = (seek-same m m13 (m (Key slot)) chain_now (λ s _. (refl, refl)) ∙ ap (λ z. seek m z chain_now) is_key13 ∙ nothing13, HaveDistinctKeys-same m m13 chain_now (λ s _. (refl, refl)) bucket_rule.chained.distinct)
 
     pub law13 : MemoryRule capacities places tickets m13 (set vs id (after13 v hold even slot key value h)) h13
     law13 =
@@ -203,16 +191,16 @@ module _ (capacities : List ℕ) (places tickets : ℕ) (m : Memory) (vs : List 
           locked = locked_by capacities places tickets m vs h r id v at hold new13 mine refl m13 refl w13 refl refl;
           known = known_after capacities places tickets m vs h r id v at hold mine (Head hold.class) slot refl new13 refl;
           ages = record {
-            chain = (done_gone even (Put key value) slot ∙ bucket_rule.ages.taken slot (ap taken_of held ∙ needs.taken), all_still (λ s. gone_at s h ≡ None) (λ s. gone_at s h13 ≡ None) chain_now (λ s p. done_gone even (Put key value) s ∙ p) bucket_rule.ages.chain);
+            chain = (done_gone even (Put key value) slot ∙ bucket_rule.ages.taken slot (ap taken_of held ∙ needs.taken), all_map (λ s. gone_at s h ≡ None) (λ s. gone_at s h13 ≡ None) chain_now (λ s p. done_gone even (Put key value) s ∙ p) bucket_rule.ages.chain);
             taken = λ s is. absurd (cc);
-            retired = all_still (IsGone h) (IsGone h13) (r.bucket hold.class).retired (λ s p. (p.0, done_gone even (Put key value) s ∙ p.1)) bucket_rule.ages.retired;
-            moved = all_still (IsGone h) (IsGone h13) (r.bucket hold.class).moved (λ s p. (p.0, done_gone even (Put key value) s ∙ p.1)) bucket_rule.ages.moved;
+            retired = all_map (IsGone h) (IsGone h13) (r.bucket hold.class).retired (λ s p. (p.0, done_gone even (Put key value) s ∙ p.1)) bucket_rule.ages.retired;
+            moved = all_map (IsGone h) (IsGone h13) (r.bucket hold.class).moved (λ s p. (p.0, done_gone even (Put key value) s ∙ p.1)) bucket_rule.ages.moved;
             unlinked = λ s is. let p = bucket_rule.ages.unlinked s (ap unlinked_of held ∙ is) in (p.0, done_gone even (Put key value) s ∙ p.1);
           };
           counted = record { readers = (counted_still capacities hold.class m h vs id v w13 at refl bucket_rule.counted).readers };
           clean = record {
-            free = all_still (IsFreeOfReaders hold.class h vs) (IsFreeOfReaders hold.class h13 (set vs id w13)) (r.bucket hold.class).free (free_done even (Put key value) w13 refl) bucket_rule.clean.free;
-            moved = all_still (IsFreeOfReaders hold.class h vs) (IsFreeOfReaders hold.class h13 (set vs id w13)) (r.bucket hold.class).moved (free_done even (Put key value) w13 refl) bucket_rule.clean.moved;
+            free = all_map (IsFreeOfReaders hold.class h vs) (IsFreeOfReaders hold.class h13 (set vs id w13)) (r.bucket hold.class).free (free_done even (Put key value) w13 refl) bucket_rule.clean.free;
+            moved = all_map (IsFreeOfReaders hold.class h vs) (IsFreeOfReaders hold.class h13 (set vs id w13)) (r.bucket hold.class).moved (free_done even (Put key value) w13 refl) bucket_rule.clean.moved;
             clear = λ other is yes s of. let e : new13 ≡ other = cc in free_done even (Put key value) w13 refl s (bucket_rule.clean.clear hold held (ap (λ (z : Hold). z.clear) e ∙ yes) s of);
           };
           answered = answered_from w13 refl m13 h13 (updates_of h13) (slot ∷ chain_now)
@@ -275,7 +263,7 @@ module _ (capacities : List ℕ) (places tickets : ℕ) (m : Memory) (vs : List 
     search15 : (k : ℕ) (xs : List ℕ) → (seek m15 k xs ≡ seek m k xs) ⊎ ((m (Key slot) ≡ k) × (seek m15 k xs ≡ Some value))
     search15 k xs = seek_replaced m m15 k slot value xs (λ s. refl) values15 new_value15
 
-    distinct15 : (xs : List ℕ) → Rattle.hash_core.specs.Buckets.HaveDistinctKeys m xs → Rattle.hash_core.specs.Buckets.HaveDistinctKeys m15 xs
+    distinct15 : (xs : List ℕ) → HaveDistinctKeys m xs → HaveDistinctKeys m15 xs
     distinct15 [] d = tt
     distinct15 (x ∷ xs) d = (none15 (m (Key x)) xs d.0, distinct15 xs d.1)
       where
@@ -294,7 +282,7 @@ module _ (capacities : List ℕ) (places tickets : ℕ) (m : Memory) (vs : List 
         now15 : seek m15 key chain_now ≡ Some (m15 (Value slot))
         now15 =
             let cut = cut_at slot chain_now there15 in
-            ap (λ z. seek m15 z chain_now) (sym is_key15) ∙ ap (seek m15 (m (Key slot))) cut.2 ∙ seek_slot m15 slot cut.0 cut.1 (subst (Rattle.hash_core.specs.Buckets.HaveDistinctKeys m15) cut.2 (distinct15 chain_now bucket_rule.chained.distinct))
+            ap (λ z. seek m15 z chain_now) (sym is_key15) ∙ ap (seek m15 (m (Key slot))) cut.2 ∙ seek_slot m15 slot cut.0 cut.1 (subst (HaveDistinctKeys m15) cut.2 (distinct15 chain_now bucket_rule.chained.distinct))
 
     said_way15 : (section : Section) → section.from ≤ length (updates_of h) → (xs : List ℕ) → WasSaid (updates_of h) section.key section.from (seek m section.key xs) → WasSaid (updates_of h15) section.key section.from (seek m15 section.key xs)
     said_way15 section from xs said = elim (search15 section.key xs) [
@@ -313,7 +301,7 @@ module _ (capacities : List ℕ) (places tickets : ℕ) (m : Memory) (vs : List 
       rest = way.rest;
       some = way.some;
       path = way.path;
-      held = all_still (IsHeldBack h section) (IsHeldBack h15 section) way.olds (λ t p. (p.0, done_gone even (Set key value) t ∙ p.1, p.2)) way.held;
+      held = all_map (IsHeldBack h section) (IsHeldBack h15 section) way.olds (λ t p. (p.0, done_gone even (Set key value) t ∙ p.1, p.2)) way.held;
       slots = way.slots;
       joins = way.joins;
       said = said_way15 section from (way.olds ++ way.rest) way.said;
@@ -341,16 +329,16 @@ module _ (capacities : List ℕ) (places tickets : ℕ) (m : Memory) (vs : List 
           locked = locked_by capacities places tickets m vs h r id v at hold new15 mine refl m15 refl w15 refl refl;
           known = known_after capacities places tickets m vs h r id v at hold mine (Value slot) value slot_of15 new15 refl;
           ages = record {
-            chain = all_still (λ s. gone_at s h ≡ None) (λ s. gone_at s h15 ≡ None) chain_now (λ s p. gone s ∙ p) bucket_rule.ages.chain;
+            chain = all_map (λ s. gone_at s h ≡ None) (λ s. gone_at s h15 ≡ None) chain_now (λ s p. gone s ∙ p) bucket_rule.ages.chain;
             taken = λ s is. gone s ∙ bucket_rule.ages.taken s (ap taken_of held ∙ is);
-            retired = all_still (IsGone h) (IsGone h15) (r.bucket hold.class).retired (λ s p. (p.0, gone s ∙ p.1)) bucket_rule.ages.retired;
-            moved = all_still (IsGone h) (IsGone h15) (r.bucket hold.class).moved (λ s p. (p.0, gone s ∙ p.1)) bucket_rule.ages.moved;
+            retired = all_map (IsGone h) (IsGone h15) (r.bucket hold.class).retired (λ s p. (p.0, gone s ∙ p.1)) bucket_rule.ages.retired;
+            moved = all_map (IsGone h) (IsGone h15) (r.bucket hold.class).moved (λ s p. (p.0, gone s ∙ p.1)) bucket_rule.ages.moved;
             unlinked = λ s is. let p = bucket_rule.ages.unlinked s (ap unlinked_of held ∙ is) in (p.0, gone s ∙ p.1);
           };
           counted = record { readers = (counted_still capacities hold.class m h vs id v w15 at refl bucket_rule.counted).readers };
           clean = record {
-            free = all_still (IsFreeOfReaders hold.class h vs) (IsFreeOfReaders hold.class h15 (set vs id w15)) (r.bucket hold.class).free (free_done even (Set key value) w15 refl) bucket_rule.clean.free;
-            moved = all_still (IsFreeOfReaders hold.class h vs) (IsFreeOfReaders hold.class h15 (set vs id w15)) (r.bucket hold.class).moved (free_done even (Set key value) w15 refl) bucket_rule.clean.moved;
+            free = all_map (IsFreeOfReaders hold.class h vs) (IsFreeOfReaders hold.class h15 (set vs id w15)) (r.bucket hold.class).free (free_done even (Set key value) w15 refl) bucket_rule.clean.free;
+            moved = all_map (IsFreeOfReaders hold.class h vs) (IsFreeOfReaders hold.class h15 (set vs id w15)) (r.bucket hold.class).moved (free_done even (Set key value) w15 refl) bucket_rule.clean.moved;
             clear = λ other is yes s of. let e : new15 ≡ other = cc in free_done even (Set key value) w15 refl s (bucket_rule.clean.clear hold held (ap (λ (z : Hold). z.clear) e ∙ yes) s of);
           };
           answered = answered_from w15 refl m15 h15 (updates_of h15) chain_now (λ section entered from class stand. will15 section from stand) (said_done even (Set key value));

@@ -24,7 +24,7 @@ use Rattle.hash_core.specs.Readers.{AreAnswered, WillAnswer, WasSaid}
 use Rattle.hash_core.specs.Seats.{HasNoTurn, updates_by, IsTurned, AreOwned, AreSeen}
 use Rattle.hash_core.specs.Steps.{IsQuiet, fresh_hold, Needs7, after7, Needs12, Needs16, after16}
 use Rattle.hash_core.specs.Rule.{BucketRule, MemoryRule}
-use Rattle.hash_core.proofs.Lists.{at_below, at_one, each_set, total_set, total_part, prefix_self}
+use Rattle.hash_core.proofs.Lists.{at_below, at_one, each_set, total_set, total_part, prefix_self, all_map}
 use Rattle.hash_core.proofs.Frames.{SameSlots, SameSection, SameHold, SameView, still_answer}
 use Rattle.hash_core.proofs.Stores.{same_words, lock_words, front_words, stored_here, same_self, same_is}
 use Rattle.hash_core.proofs.SeatFrames.{seen_same, seen_whole, apart_same, owned_same, open_same, held_still, turned_same}
@@ -53,10 +53,6 @@ module _ (capacities : List ℕ) (c : ℕ) (m : Memory) (h : List Mark) (vs : Li
         loaded = λ j u section value there is class read. each_set (λ k z. z.section ≡ Some section → WasSaid us section.key section.from (Some value)) vs id w
             (λ mine. answered.loaded id v section value at (sym same ∙ mine) class read) (λ k z far e theirs. answered.loaded k z section value e theirs class read) j u there is;
       }
-
-pub all_still : (P Q : ℕ → Type 0) (xs : List ℕ) → ((x : ℕ) → P x → Q x) → AllByRecursion P xs → AllByRecursion Q xs
-all_still P Q [] f all = tt
-all_still P Q (x ∷ xs) f all = (f x all.0, all_still P Q xs f all.1)
 
 module _ (capacities : List ℕ) (places tickets : ℕ) (m : Memory) (vs : List View) (h : List Mark) (r : MemoryRule capacities places tickets m vs h) (id : ℕ) (v : View) (at : get_elem? vs id ≡ some v) where
   -- who holds a lock is the holder of its class
@@ -130,8 +126,8 @@ module _ (capacities : List ℕ) (places tickets : ℕ) (m : Memory) (vs : List 
           ages = record { chain = b.ages.chain; taken = λ s is. absurd (cc); retired = b.ages.retired; moved = b.ages.moved; unlinked = λ s is. absurd (cc) };
           counted = record { readers = (counted_still capacities c m h vs id v w6 at refl b.counted).readers };
           clean = record {
-            free = all_still (IsFreeOfReaders c h vs) (IsFreeOfReaders c h (set vs id w6)) (r.bucket c).free (free_still capacities c m h vs id v w6 at refl) b.clean.free;
-            moved = all_still (IsFreeOfReaders c h vs) (IsFreeOfReaders c h (set vs id w6)) (r.bucket c).moved (free_still capacities c m h vs id v w6 at refl) b.clean.moved;
+            free = all_map (IsFreeOfReaders c h vs) (IsFreeOfReaders c h (set vs id w6)) (r.bucket c).free (free_still capacities c m h vs id v w6 at refl) b.clean.free;
+            moved = all_map (IsFreeOfReaders c h vs) (IsFreeOfReaders c h (set vs id w6)) (r.bucket c).moved (free_still capacities c m h vs id v w6 at refl) b.clean.moved;
             clear = λ hold is clear s of. absurd (let e : fresh_hold c ≡ hold = cc in let z : hold.clear ≡ false = ap (λ (y : Hold). y.clear) (sym e) in cc);
           };
           answered = answered_still capacities c m h vs id v w6 at refl m6 (r.bucket c) (λ s _. (refl, refl, refl, refl)) b.roles b.answered;
@@ -195,8 +191,8 @@ module _ (capacities : List ℕ) (places tickets : ℕ) (m : Memory) (vs : List 
           ages = record { chain = b.ages.chain; taken = λ s is. absurd (cc); retired = b.ages.retired; moved = b.ages.moved; unlinked = λ s is. absurd (cc) };
           counted = record { readers = (counted_still capacities c m h vs id v w7 at refl b.counted).readers };
           clean = record {
-            free = all_still (IsFreeOfReaders c h vs) (IsFreeOfReaders c h (set vs id w7)) (r.bucket c).free (free_still capacities c m h vs id v w7 at refl) b.clean.free;
-            moved = all_still (IsFreeOfReaders c h vs) (IsFreeOfReaders c h (set vs id w7)) (r.bucket c).moved (free_still capacities c m h vs id v w7 at refl) b.clean.moved;
+            free = all_map (IsFreeOfReaders c h vs) (IsFreeOfReaders c h (set vs id w7)) (r.bucket c).free (free_still capacities c m h vs id v w7 at refl) b.clean.free;
+            moved = all_map (IsFreeOfReaders c h vs) (IsFreeOfReaders c h (set vs id w7)) (r.bucket c).moved (free_still capacities c m h vs id v w7 at refl) b.clean.moved;
             clear = λ other is clear s of. absurd (cc);
           };
           answered = answered_still capacities c m h vs id v w7 at refl m7 (r.bucket c) (λ s _. (refl, refl, refl, refl)) b.roles b.answered;
@@ -240,8 +236,8 @@ module _ (capacities : List ℕ) (places tickets : ℕ) (m : Memory) (vs : List 
 
   pub clean_still : (c : ℕ) (w : View) → w.section ≡ v.section → (b : Bucket) → (new : Option Hold) → ((hold : Hold) → new ≡ Some hold → hold.clear ≡ true → (s : ℕ) → is_slot_of capacities c s ≡ true → IsFreeOfReaders c h vs s) → AreClean capacities c h vs b → AreClean capacities c h (set vs id w) (record b { hold = new })
   clean_still c w section b new clear clean = record {
-    free = all_still (IsFreeOfReaders c h vs) (IsFreeOfReaders c h (set vs id w)) b.free (free_still capacities c m h vs id v w at section) clean.free;
-    moved = all_still (IsFreeOfReaders c h vs) (IsFreeOfReaders c h (set vs id w)) b.moved (free_still capacities c m h vs id v w at section) clean.moved;
+    free = all_map (IsFreeOfReaders c h vs) (IsFreeOfReaders c h (set vs id w)) b.free (free_still capacities c m h vs id v w at section) clean.free;
+    moved = all_map (IsFreeOfReaders c h vs) (IsFreeOfReaders c h (set vs id w)) b.moved (free_still capacities c m h vs id v w at section) clean.moved;
     clear = λ hold is yes s of. free_still capacities c m h vs id v w at section s (clear hold is yes s of);
   }
 

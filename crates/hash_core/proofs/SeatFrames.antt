@@ -17,11 +17,8 @@ use Rattle.hash_core.specs.Lists.{times}
 use Rattle.hash_core.specs.Memory.{Memory}
 use Rattle.hash_core.specs.Marks.{Open, open_at, own_of, is_of, entered_at}
 use Rattle.hash_core.specs.Seats.{AreSeen, HasPlace, AnswersFor, AreApart, AreOwned, open_of, AreOpen, AreHeld, HasNoTurn, IsTurned}
-use Rattle.hash_core.proofs.Lists.{at_below, at_one, each_set, prefix_self}
+use Rattle.hash_core.proofs.Lists.{at_below, at_one, each_set, prefix_self, prefix_trans}
 use Rattle.hash_core.proofs.MarkLists.{own_of-append}
-
-prefix_longer : {A : Type 0} (xs ys zs : List A) → IsPrefix xs ys → IsPrefix ys zs → IsPrefix xs zs
-prefix_longer xs ys zs p q = (p.0 ++ q.0, sym (append_assoc xs p.0 q.0) ∙ ap (λ w. w ++ q.0) p.1 ∙ q.1)
 
 -- Who answers for which places is the same.
 pub record SamePlaces (v w : View) : Type 0 where
@@ -41,7 +38,7 @@ module _ (vs : List View) (id : ℕ) (v w : View) (at : get_elem? vs id ≡ some
 
   pub seen_whole : (h h' : List Mark) → w.seen ≡ h' → IsPrefix h h' → AreSeen vs h → AreSeen (set vs id w) h'
   seen_whole h h' new longer s = record {
-    begins = each_set (λ j u. IsPrefix u.seen h') vs id w (subst (λ z. IsPrefix z h') (sym new) (prefix_self h')) (λ j u other e. prefix_longer u.seen h h' (s.begins j u e) longer);
+    begins = each_set (λ j u. IsPrefix u.seen h') vs id w (subst (λ z. IsPrefix z h') (sym new) (prefix_self h')) (λ j u other e. prefix_trans u.seen h h' (s.begins j u e) longer);
     longest = (id, w, set_here vs id w (at_below vs id v at), new);
   }
 

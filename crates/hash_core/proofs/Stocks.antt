@@ -28,17 +28,17 @@ use Rattle.hash_core.specs.Readers.{AreAnswered, WillAnswer, WasSaid}
 use Rattle.hash_core.specs.Seats.{IsTurned}
 use Rattle.hash_core.specs.Steps.{NeedsTake, after_take, NeedsRefill, after_refill, NeedsMove, after_move, NeedsPush, after_push, NeedsChain, after_chain, IsFieldOf, Needs11, after11}
 use Rattle.hash_core.specs.Rule.{BucketRule, MemoryRule}
-use Rattle.hash_core.proofs.Lists.{at_below, at_end, each_set, all_change, all_from_times, times_here}
+use Rattle.hash_core.proofs.Lists.{at_below, at_end, each_set, all_change, all_from_times, times_here, all_map}
 use Rattle.hash_core.proofs.Paths.{path_cons, path_none, IsPath-same, seek-same, HaveDistinctKeys-same}
 use Rattle.hash_core.proofs.MarkLists.{updates_of-append}
 use Rattle.hash_core.proofs.Adds.{open_at-same, gone_at-given_here, gone_at-given_other}
-use Rattle.hash_core.proofs.Classes.{one_class, slot_within}
+use Rattle.hash_core.proofs.Classes.{one_class, slot_within, at_most_one}
 use Rattle.hash_core.proofs.Frames.{SameMarks, free_slot, retired_slot, taken_slot, unlinked_slot}
 use Rattle.hash_core.proofs.Stores.{class_words, stored_here, same_self, same_is}
 use Rattle.hash_core.proofs.SeatFrames.{seen_whole, apart_same, owned_same, open_same, held_still, turned_same}
 use Rattle.hash_core.proofs.Quiet.{same_marks, seats_same, section_back, section_forth, tickets_same}
 use Rattle.hash_core.proofs.Sections.{entered_at-append}
-use Rattle.hash_core.proofs.Locks.{counted_still, free_still, answered_still, all_still, holder_of, class_small, works, locked_by, elsewhere_held, clean_still}
+use Rattle.hash_core.proofs.Locks.{counted_still, free_still, answered_still, holder_of, class_small, works, locked_by, elsewhere_held, clean_still}
 use Rattle.hash_core.proofs.Ways.{KeepsWays, will_still}
 use Rattle.hash_core.proofs.Whole.{SeatsRule, after_step}
 
@@ -244,9 +244,6 @@ module _ (capacities : List ℕ) (places tickets : ℕ) (m : Memory) (vs : List 
         let b : times slot (option_to_list hold.unlinked) ≡ 1 = ap (λ o. times slot (option_to_list o)) needs.1 ∙ (let t = times_here slot [] in omega arith) in
         let d : 1 ≤ times slot xs = subst (λ z. 1 ≤ times z xs) (sym e) there in omega arith))
 
-    at_most : (x n : ℕ) → n ≡ cond (is_slot_of capacities hold.class x) 1 0 → n ≤ 1
-    at_most x n e = elim (is_slot_of capacities hold.class x) as (λ t. n ≡ cond t 1 0 → n ≤ 1) [ true ↦ λ f. omega arith | false ↦ λ f. omega arith ] e
-
     pub law_chain : MemoryRule capacities places tickets m_chain (set vs id (after_chain v hold slot number)) h
     law_chain =
         let w : View = after_chain v hold slot number in
@@ -254,9 +251,9 @@ module _ (capacities : List ℕ) (places tickets : ℕ) (m : Memory) (vs : List 
         (λ _. record {
           chained = record { path = rule.chained.path; classes = rule.chained.classes; distinct = rule.chained.distinct };
           listed = record {
-            free = IsPath-same (λ s. m (Chain s)) (λ s. m_chain (Chain s)) (m (Free hold.class)) (r.bucket hold.class).free (chain_else (r.bucket hold.class).free (λ x. let a = roles_by x in let l = at_most x _ a in omega arith)) rule.listed.free;
-            retired = IsPath-same (λ s. m (Chain s)) (λ s. m_chain (Chain s)) (m (Retired hold.class)) (r.bucket hold.class).retired (chain_else (r.bucket hold.class).retired (λ x. let a = roles_by x in let l = at_most x _ a in omega arith)) rule.listed.retired;
-            moved = IsPath-same (λ s. m (Chain s)) (λ s. m_chain (Chain s)) (link_of hold.moved) (r.bucket hold.class).moved (chain_else (r.bucket hold.class).moved (λ x. let a = roles_by x in let l = at_most x _ a in omega arith)) moved_by;
+            free = IsPath-same (λ s. m (Chain s)) (λ s. m_chain (Chain s)) (m (Free hold.class)) (r.bucket hold.class).free (chain_else (r.bucket hold.class).free (λ x. let a = roles_by x in let l = at_most_one (is_slot_of capacities hold.class x) _ a in omega arith)) rule.listed.free;
+            retired = IsPath-same (λ s. m (Chain s)) (λ s. m_chain (Chain s)) (m (Retired hold.class)) (r.bucket hold.class).retired (chain_else (r.bucket hold.class).retired (λ x. let a = roles_by x in let l = at_most_one (is_slot_of capacities hold.class x) _ a in omega arith)) rule.listed.retired;
+            moved = IsPath-same (λ s. m (Chain s)) (λ s. m_chain (Chain s)) (link_of hold.moved) (r.bucket hold.class).moved (chain_else (r.bucket hold.class).moved (λ x. let a = roles_by x in let l = at_most_one (is_slot_of capacities hold.class x) _ a in omega arith)) moved_by;
           };
           roles = record { once = roles_by };
           mapped = record { answers = λ key class. rule.mapped.answers key class ∙ sym (seek-same m m_chain key (r.bucket hold.class).chain (λ s _. (refl, refl))) };
@@ -311,14 +308,11 @@ module _ (capacities : List ℕ) (places tickets : ℕ) (m : Memory) (vs : List 
     words11 (Next t) is d = (refl, refl, refl, refl, refl, refl)
     words11 _ is d = absurd is
 
-    at_most11 : (x n : ℕ) → n ≡ cond (is_slot_of capacities hold.class x) 1 0 → n ≤ 1
-    at_most11 x n e = elim (is_slot_of capacities hold.class x) as (λ t. n ≡ cond t 1 0 → n ≤ 1) [ true ↦ λ f. omega arith | false ↦ λ f. omega arith ] e
-
     -- the slot taken isn't linked
     linked11 : (s : ℕ) → 1 ≤ times s (r.bucket hold.class).chain → s ≢ slot
     linked11 s there e =
         let a = roles_by slot in
-        let l = at_most11 slot _ a in
+        let l = at_most_one (is_slot_of capacities hold.class slot) _ a in
         let b : times slot (option_to_list hold.taken) ≡ 1 = ap (λ o. times slot (option_to_list o)) needs.taken ∙ (let t = times_here slot [] in omega arith) in
         let d : 1 ≤ times slot (r.bucket hold.class).chain = subst (λ z. 1 ≤ times z (r.bucket hold.class).chain) e there in omega arith
 
@@ -392,9 +386,6 @@ module _ (capacities : List ℕ) (places tickets : ℕ) (m : Memory) (vs : List 
 
     gone_take : (s : ℕ) → s ≢ slot → gone_at s h_take ≡ gone_at s h
     gone_take s ne = gone_at-given_other h s slot (λ e. ne (sym e))
-
-    at_most_take : (x n : ℕ) → n ≡ cond (is_slot_of capacities hold.class x) 1 0 → n ≤ 1
-    at_most_take x n e = elim (is_slot_of capacities hold.class x) as (λ t. n ≡ cond t 1 0 → n ≤ 1) [ true ↦ λ f. omega arith | false ↦ λ f. omega arith ] e
 
     -- the slot is in no other list
     not_take : (xs : List ℕ) → ((x : ℕ) → times x xs + times x (r.bucket hold.class).free ≤ 1) → (s : ℕ) → 1 ≤ times s xs → s ≢ slot
@@ -475,18 +466,18 @@ module _ (capacities : List ℕ) (places tickets : ℕ) (m : Memory) (vs : List 
           locked = locked_by capacities places tickets m vs h r id v at hold new_take mine refl m_take refl w_take refl refl;
           known = known_after (Free hold.class) next refl new_take refl;
           ages = record {
-            chain = all_change (λ s. gone_at s h ≡ None) (λ s. gone_at s h_take ≡ None) chain (λ s there p. gone_take s (not_take chain (λ x. let a = roles_by x in let l = at_most_take x _ a in omega arith) s there) ∙ p) rule.ages.chain;
+            chain = all_change (λ s. gone_at s h ≡ None) (λ s. gone_at s h_take ≡ None) chain (λ s there p. gone_take s (not_take chain (λ x. let a = roles_by x in let l = at_most_one (is_slot_of capacities hold.class x) _ a in omega arith) s there) ∙ p) rule.ages.chain;
             taken = λ s is. let e : slot ≡ s = cc in subst (λ z. gone_at z h_take ≡ None) e (gone_at-given_here h slot);
-            retired = all_change (IsGone h) (IsGone h_take) (r.bucket hold.class).retired (λ s there p. (p.0, gone_take s (not_take (r.bucket hold.class).retired (λ x. let a = roles_by x in let l = at_most_take x _ a in omega arith) s there) ∙ p.1)) rule.ages.retired;
-            moved = all_change (IsGone h) (IsGone h_take) (r.bucket hold.class).moved (λ s there p. (p.0, gone_take s (not_take (r.bucket hold.class).moved (λ x. let a = roles_by x in let l = at_most_take x _ a in omega arith) s there) ∙ p.1)) rule.ages.moved;
+            retired = all_change (IsGone h) (IsGone h_take) (r.bucket hold.class).retired (λ s there p. (p.0, gone_take s (not_take (r.bucket hold.class).retired (λ x. let a = roles_by x in let l = at_most_one (is_slot_of capacities hold.class x) _ a in omega arith) s there) ∙ p.1)) rule.ages.retired;
+            moved = all_change (IsGone h) (IsGone h_take) (r.bucket hold.class).moved (λ s there p. (p.0, gone_take s (not_take (r.bucket hold.class).moved (λ x. let a = roles_by x in let l = at_most_one (is_slot_of capacities hold.class x) _ a in omega arith) s there) ∙ p.1)) rule.ages.moved;
             unlinked = λ s is.
                 let p = rule.ages.unlinked s (ap unlinked_of had ∙ is) in
-                (p.0, gone_take s (not_take (option_to_list hold.unlinked) (λ x. let a = roles_by x in let l = at_most_take x _ a in omega arith) s (let e : times s (option_to_list hold.unlinked) ≡ 1 = ap (λ o. times s (option_to_list o)) is ∙ (let t = times_here s [] in omega arith) in omega arith)) ∙ p.1);
+                (p.0, gone_take s (not_take (option_to_list hold.unlinked) (λ x. let a = roles_by x in let l = at_most_one (is_slot_of capacities hold.class x) _ a in omega arith) s (let e : times s (option_to_list hold.unlinked) ≡ 1 = ap (λ o. times s (option_to_list o)) is ∙ (let t = times_here s [] in omega arith) in omega arith)) ∙ p.1);
           };
           counted = record { readers = (counted_still capacities hold.class m h vs id v w_take at refl rule.counted).readers };
           clean = record {
-            free = all_still (IsFreeOfReaders hold.class h vs) (IsFreeOfReaders hold.class h_take (set vs id w_take)) first_free.0 still_free_take others_clean;
-            moved = all_still (IsFreeOfReaders hold.class h vs) (IsFreeOfReaders hold.class h_take (set vs id w_take)) (r.bucket hold.class).moved still_free_take rule.clean.moved;
+            free = all_map (IsFreeOfReaders hold.class h vs) (IsFreeOfReaders hold.class h_take (set vs id w_take)) first_free.0 still_free_take others_clean;
+            moved = all_map (IsFreeOfReaders hold.class h vs) (IsFreeOfReaders hold.class h_take (set vs id w_take)) (r.bucket hold.class).moved still_free_take rule.clean.moved;
             clear = λ other is yes s of. let e : new_take ≡ other = cc in still_free_take s (rule.clean.clear hold had (ap (λ (z : Hold). z.clear) e ∙ yes) s of);
           };
           answered = record {

@@ -26,15 +26,15 @@ use Rattle.hash_core.specs.Buckets.{Bucket, seek, HaveDistinctKeys, IsFreeOfRead
 use Rattle.hash_core.specs.Readers.{WillAnswer, WasSaid, IsHeldBack, HasWay}
 use Rattle.hash_core.specs.Steps.{LinksTo, Needs14, after14}
 use Rattle.hash_core.specs.Rule.{BucketRule, MemoryRule}
-use Rattle.hash_core.proofs.Lists.{all_change, all_times, all_from_times, times_here, times_append, all_append}
+use Rattle.hash_core.proofs.Lists.{all_change, all_times, all_from_times, times_here, times_append, all_append, all_map}
 use Rattle.hash_core.proofs.Paths.{IsPath-same, path_cons, seek-same, seek_here, seek_past, seek_append, HaveDistinctKeys-same}
 use Rattle.hash_core.proofs.MarkLists.{updates_of-append}
-use Rattle.hash_core.proofs.Classes.{one_class}
+use Rattle.hash_core.proofs.Classes.{one_class, at_most_one}
 use Rattle.hash_core.proofs.Adds.{open_at-same, gone_at-same, gone_at-unlinked_here, gone_at-unlinked_other, reuse_more}
 use Rattle.hash_core.proofs.Frames.{chain_slot, WasSaid-longer}
 use Rattle.hash_core.proofs.Stores.{class_words, stored_here, same_self}
 use Rattle.hash_core.proofs.Sections.{entered_at-append, free_each}
-use Rattle.hash_core.proofs.Locks.{counted_still, all_still, locked_by, elsewhere_held}
+use Rattle.hash_core.proofs.Locks.{counted_still, locked_by, elsewhere_held}
 use Rattle.hash_core.proofs.Whole.{after_step}
 use Rattle.hash_core.proofs.Stocks.{rule, had, is_known, known_after, roles_by, moved_by}
 use Rattle.hash_core.proofs.Cuts.{path_past, path_back, cut_at, two_cuts, seek_without, distinct_without, seek_some}
@@ -169,14 +169,11 @@ module _ (capacities : List ℕ) (places tickets : ℕ) (m : Memory) (vs : List 
   of_class14 (Next t) is = chain_slot capacities hold.class (r.bucket hold.class) bucket_rule.roles t (on_chain capacities places tickets m vs h r id v at hold mine t is)
   of_class14 _ is = absurd is
 
-  at_most : (x n : ℕ) → n ≡ cond (is_slot_of capacities hold.class x) 1 0 → n ≤ 1
-  at_most x n e = elim (is_slot_of capacities hold.class x) as (λ t. n ≡ cond t 1 0 → n ≤ 1) [ true ↦ λ f. omega arith | false ↦ λ f. omega arith ] e
-
   roles14 : (x : ℕ) → times x chain_now + times x (r.bucket hold.class).free + times x (r.bucket hold.class).retired + times x (r.bucket hold.class).moved + times x (option_to_list hold.taken) + times x (option_to_list hold.unlinked) ≡ cond (is_slot_of capacities hold.class x) 1 0
   roles14 = roles_by capacities places tickets m vs h r id v at hold mine
 
   once14 : (t : ℕ) → times t chain_now ≤ 1
-  once14 t = let a = roles14 t in let l = at_most t _ a in omega arith
+  once14 t = let a = roles14 t in let l = at_most_one (is_slot_of capacities hold.class t) _ a in omega arith
 
   cut_by : (l : Field) → LinksTo hold l → known_in hold.known l ≡ Some slot → Cut (m (Head hold.class)) (stored m l next (Head hold.class)) (λ s. m (Next s)) (λ s. stored m l next (Next s)) chain_now slot
   cut_by (Head d) is linked =
@@ -296,7 +293,7 @@ module _ (capacities : List ℕ) (places tickets : ℕ) (m : Memory) (vs : List 
             (λ t is. let sum = times_append t way.olds way.rest in dite (dec_le 1 (times t way.olds))
             (λ in_olds. cut.outside t (outside14 section t (all_times (IsHeldBack h section) way.olds t way.held in_olds)))
             (λ out. cut.past t (subst (λ z. 1 ≤ times t z) rest_is (omega arith)))) way.path);
-        held = all_append (IsHeldBack h14 section) way.olds (slot ∷ []) (all_still (IsHeldBack h section) (IsHeldBack h14 section) way.olds (held14 section) way.held) ((length h + 1, gone_here14, omega arith), tt);
+        held = all_append (IsHeldBack h14 section) way.olds (slot ∷ []) (all_map (IsHeldBack h section) (IsHeldBack h14 section) way.olds (held14 section) way.held) ((length h + 1, gone_here14, omega arith), tt);
         slots = all_append (λ t. is_slot_of capacities hold.class t ≡ true) way.olds (slot ∷ []) way.slots (slot_of14, tt);
         joins = refl;
         said = subst (λ z. WasSaid (updates_of h14) section.key section.from (seek m14 section.key z)) list_is (subst (WasSaid (updates_of h14) section.key section.from) (sym (same_seek section.key (way.olds ++ way.rest))) (said14 section _ way.said));
@@ -337,7 +334,7 @@ module _ (capacities : List ℕ) (places tickets : ℕ) (m : Memory) (vs : List 
     rest = ks ++ cut.after;
     some = way.some;
     path = cut.through s way.olds way.front ks before_is some_ks (λ t is. outside14 section t (all_times (IsHeldBack h section) way.olds t way.held is)) (subst (λ z. IsPath (λ t. m (Next t)) s (way.olds ++ z)) rest_is way.path);
-    held = all_still (IsHeldBack h section) (IsHeldBack h14 section) way.olds (held14 section) way.held;
+    held = all_map (IsHeldBack h section) (IsHeldBack h14 section) way.olds (held14 section) way.held;
     slots = way.slots;
     joins = ap (λ z. z ++ cut.after) before_is ∙ append_assoc way.front ks cut.after;
     said = subst (WasSaid (updates_of h14) section.key section.from) (sym (same_seek section.key (way.olds ++ (ks ++ cut.after))))
@@ -355,7 +352,7 @@ module _ (capacities : List ℕ) (places tickets : ℕ) (m : Memory) (vs : List 
         (λ t is. let sum = times_append t way.olds way.rest in dite (dec_le 1 (times t way.olds))
         (λ in_olds. cut.outside t (outside14 section t (all_times (IsHeldBack h section) way.olds t way.held in_olds)))
         (λ out. cut.past t (let a = ap (times t) after_is in let b = times_append t ks way.rest in let d : times t (slot ∷ cut.after) ≡ cond (slot == t) 1 0 + times t cut.after = refl in omega arith))) way.path;
-    held = all_still (IsHeldBack h section) (IsHeldBack h14 section) way.olds (held14 section) way.held;
+    held = all_map (IsHeldBack h section) (IsHeldBack h14 section) way.olds (held14 section) way.held;
     slots = way.slots;
     joins = ap (λ z. cut.before ++ z) after_is ∙ sym (append_assoc cut.before ks way.rest);
     said = subst (WasSaid (updates_of h14) section.key section.from) (sym (same_seek section.key (way.olds ++ way.rest))) (said14 section _ way.said);
@@ -396,10 +393,10 @@ module _ (capacities : List ℕ) (places tickets : ℕ) (m : Memory) (vs : List 
   law14 =
       let held : (r.bucket hold.class).hold ≡ Some hold = had capacities places tickets m vs h r id v at hold mine in
       let words = words14 link needs.link_is hold.class in
-      let other_free : times slot (r.bucket hold.class).free ≡ 0 = elsewhere (r.bucket hold.class).free (λ x. let a = roles14 x in let l = at_most x _ a in omega arith) in
-      let other_retired : times slot (r.bucket hold.class).retired ≡ 0 = elsewhere (r.bucket hold.class).retired (λ x. let a = roles14 x in let l = at_most x _ a in omega arith) in
-      let other_moved : times slot (r.bucket hold.class).moved ≡ 0 = elsewhere (r.bucket hold.class).moved (λ x. let a = roles14 x in let l = at_most x _ a in omega arith) in
-      let other_taken : times slot (option_to_list hold.taken) ≡ 0 = elsewhere (option_to_list hold.taken) (λ x. let a = roles14 x in let l = at_most x _ a in omega arith) in
+      let other_free : times slot (r.bucket hold.class).free ≡ 0 = elsewhere (r.bucket hold.class).free (λ x. let a = roles14 x in let l = at_most_one (is_slot_of capacities hold.class x) _ a in omega arith) in
+      let other_retired : times slot (r.bucket hold.class).retired ≡ 0 = elsewhere (r.bucket hold.class).retired (λ x. let a = roles14 x in let l = at_most_one (is_slot_of capacities hold.class x) _ a in omega arith) in
+      let other_moved : times slot (r.bucket hold.class).moved ≡ 0 = elsewhere (r.bucket hold.class).moved (λ x. let a = roles14 x in let l = at_most_one (is_slot_of capacities hold.class x) _ a in omega arith) in
+      let other_taken : times slot (option_to_list hold.taken) ≡ 0 = elsewhere (option_to_list hold.taken) (λ x. let a = roles14 x in let l = at_most_one (is_slot_of capacities hold.class x) _ a in omega arith) in
       after_step capacities places tickets m vs h r id v w14 at m14 h14
       (seats_updated capacities places tickets m vs h r id v at hold mine even needs.turn (Del key) new14 refl m14 words.4 (Unlinked slot ∷ []) longer14 (λ p. refl) open14 entered14 reuse14 present14)
       hold.class b14

@@ -20,6 +20,7 @@ use Rattle.prcu_model.specs.Replies.{Room, Explains, tells_update}
 use Rattle.prcu_model.specs.Scripts.{is_put, put_count, default_slots_of}
 use Rattle.prcu_model.specs.Fronts.{Placed, own_updates, own_updates_from, told_updates, told_lines, all_told_lines, ops_of, MayStand, MayStandBeside, CanBeNumbered, AreExplained, AreExplainable}
 use Rattle.prcu_model.specs.Slots.{LacksFull, StaysWithin}
+use Rattle.prcu_model.proofs.ToldLists.{ops_of-told_lines, ops_of-all_told_lines}
 
 len_case : (b : Bool) (n k : ℕ) → cond b n k ≤ max n k
 len_case true n k = omega arith
@@ -184,20 +185,6 @@ pub LacksFull-from_explained : (history : List Update) (lists : List (List Line)
 LacksFull-from_explained history lists explained =
     LacksFull-from_slots (record { scripts = length lists; slots = default_slots_of (list_map ops_of lists) }) history lists
     (let enough = enough_slots (list_map ops_of lists) in omega (arith, enough, length-map lists ops_of)) explained
-
--- the operations of told lines, where each operation is answered
-pub ops_of-told_lines : (ops : List Op) (tolds : List Told) → length tolds ≡ length ops → ops_of (told_lines ops tolds) ≡ ops
-ops_of-told_lines [] tolds same = refl
-ops_of-told_lines (op ∷ ops) [] same = absurd (omega (arith, same))
-ops_of-told_lines (op ∷ ops) (told ∷ tolds) same = ap (λ xs. op ∷ xs) (ops_of-told_lines ops tolds (omega (arith, same)))
-
-pub ops_of-all_told_lines : (scripts : List (List Op)) (tolds : List (List Told)) → list_map length tolds ≡ list_map length scripts → list_map ops_of (all_told_lines scripts tolds) ≡ scripts
-ops_of-all_told_lines [] tolds same = refl
-ops_of-all_told_lines (script ∷ scripts) [] same = absurd (cc)
-ops_of-all_told_lines (script ∷ scripts) (told ∷ tolds) same =
-    let head : length told ≡ length script = cc in
-    let tail : list_map length tolds ≡ list_map length scripts = cc in
-    λ i. ops_of-told_lines script told head i ∷ ops_of-all_told_lines scripts tolds tail i
 
 pub LacksFull-from_explainable : (scripts : List (List Op)) (tolds : List (List Told)) (history : List Update) → AreExplainable scripts tolds history (default_slots_of scripts) → LacksFull (all_told_lines scripts tolds)
 LacksFull-from_explainable scripts tolds history able =

@@ -7,3 +7,4 @@ pub mod EnoughSlots
 pub mod Chains
 pub mod Worth
 pub mod PlainSizes
+pub mod ToldLists

@@ -5,13 +5,7 @@ use Rattle.std.specs.Ordering.{nat_cmp, eq_by_cmp}
 use Rattle.std.specs.Cmp.{nat_cmp_total, unsigned_tied}
 use Rattle.prcu_model.specs.declared.operation.Op.{Op}
 use Rattle.prcu_model.specs.declared.operation.Op.TheVariants.{Put, Get, Del, Set}
-use Rattle.prcu_model.specs.Dictionary.{Dictionary, updated}
-
-abbrev pub key_of : Op → ℕ
-key_of (Put key value) = key
-key_of (Get key) = key
-key_of (Del key) = key
-key_of (Set key value) = key
+use Rattle.prcu_model.specs.Dictionary.{Dictionary, updated, key_of}
 
 -- what a key is worth after an update: by whether the update is of that key, what its key was worth and what the key was
 abbrev pub value_after : Bool → Op → Option ℕ → Option ℕ → Option ℕ

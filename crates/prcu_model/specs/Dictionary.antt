@@ -12,6 +12,13 @@ use Rattle.prcu_model.specs.declared.operation.Update.{Update}
 abbrev pub Dictionary : Type 0
 Dictionary = map.FinMap nat_cmp ℕ
 
+-- the key that an operation asks for
+abbrev pub key_of : Op → ℕ
+key_of (Put key value) = key
+key_of (Get key) = key
+key_of (Del key) = key
+key_of (Set key value) = key
+
 -- A put adds its pair where the key is absent, a del removes its key, a set gives its key, where it is present, its
 -- value. Nothing else changes.
 abbrev pub updated : Dictionary → Op → Dictionary

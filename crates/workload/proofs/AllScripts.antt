@@ -17,10 +17,11 @@ use Rattle.prcu_model.specs.Plain.{history_after, history_after_all, told_after_
 use Rattle.prcu_model.specs.Scripts.{default_slots_of}
 use Rattle.prcu_model.specs.Slots.{LacksFull}
 use Rattle.prcu_model.specs.Fronts.{Placed, own_updates_from, own_updates, told_lines, all_told_lines, told_updates, ops_of, IsConfirmed, CanBeNumbered, AreExplained, AreExplainable}
-use Rattle.prcu_model.proofs.EnoughSlots.{ops_of-all_told_lines, LacksFull-from_explainable}
+use Rattle.prcu_model.proofs.EnoughSlots.{LacksFull-from_explainable}
 use Rattle.workload.specs.Summaries.{replies_of}
 use Rattle.workload.proofs.OwnKeys.{IsOwn, skip_all}
 use Rattle.workload.proofs.OneScript.{plain_along, keeps_others}
+use Rattle.prcu_model.proofs.ToldLists.{ops_of-all_told_lines}
 
 -- What holds of a caller's operations, at the scripts from this caller on.
 module _ (P : ℕ → Op → Type 0) where

@@ -10,9 +10,9 @@ use Rattle.std.proofs.lemmas.List.Sums.{sum_by-cons}
 use Rattle.prcu_model.specs.declared.operation.Op.{Op}
 use Rattle.prcu_model.specs.declared.operation.Op.TheVariants.{Put, Get, Del, Set}
 use Rattle.prcu_model.specs.declared.operation.Update.{Update}
-use Rattle.prcu_model.specs.Dictionary.{Dictionary, updated, updated_all, map_of}
+use Rattle.prcu_model.specs.Dictionary.{Dictionary, updated, updated_all, map_of, key_of}
 use Rattle.workload.specs.Summaries.{key_sum, value_sum}
-use Rattle.prcu_model.proofs.Worth.{key_of, value_after, get-updated}
+use Rattle.prcu_model.proofs.Worth.{value_after, get-updated}
 use Rattle.workload.proofs.MadeKeys.{value_of}
 
 -- the key and the value are low

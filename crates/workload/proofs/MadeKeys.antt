@@ -4,8 +4,8 @@ use Rattle.std.specs.List.{AllByRecursion, range_with_len}
 use Rattle.prcu_model.specs.declared.operation.Op.{Op}
 use Rattle.prcu_model.specs.declared.operation.Op.TheVariants.{Put, Get, Del, Set}
 use Rattle.workload.specs.Draws.{next_state, drawn, made_op, made_ops, made_script, made_scripts}
-use Rattle.prcu_model.proofs.Worth.{key_of}
 use Rattle.workload.proofs.AllScripts.{AllOps}
+use Rattle.prcu_model.specs.Dictionary.{key_of}
 
 abbrev pub value_of : Op → ℕ
 value_of (Put key value) = value

@@ -13,7 +13,7 @@ use Rattle.prcu_model.specs.History.{IsLegal}
 use Rattle.prcu_model.specs.Replies.{Room}
 use Rattle.prcu_model.specs.Scripts.{op_count, put_count, default_slots_of}
 use Rattle.prcu_model.proofs.AddedOps.{put_count-le-op_count}
-use Rattle.prcu_model.proofs.EnoughSlots.{len-le-put_count, ops_of-all_told_lines}
+use Rattle.prcu_model.proofs.EnoughSlots.{len-le-put_count}
 use Rattle.workload.specs.declared.summing.Summary.{Summary}
 use Rattle.workload.specs.Draws.{IsMade}
 use Rattle.workload.specs.Summaries.{is_new, is_old, is_val, is_absent, is_gone, key_sum, value_sum, summary_with, plain_summary}
@@ -22,6 +22,7 @@ use Rattle.workload.proofs.MadeKeys.{IsMadeFor, made_scripts-IsMadeFor}
 use Rattle.workload.proofs.MadeScripts.{length-made_scripts}
 use Rattle.workload.proofs.DictionarySums.{AreLow-history, sums-le}
 use Rattle.workload.proofs.AllScripts.{AllOps, ops-of-history, ArePlain, ArePlain-from_explainable}
+use Rattle.prcu_model.proofs.ToldLists.{ops_of-all_told_lines}
 
 -- a key's script
 abbrev owner : ℕ → ℕ

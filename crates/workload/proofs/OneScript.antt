@@ -8,13 +8,13 @@ use Rattle.prcu_model.specs.declared.operation.Reply.TheVariants.{Full}
 use Rattle.prcu_model.specs.declared.operation.Told.{Told}
 use Rattle.prcu_model.specs.declared.operation.Line.{Line}
 use Rattle.prcu_model.specs.declared.operation.Update.{Update}
-use Rattle.prcu_model.specs.Dictionary.{Dictionary, updated, updated_all, map_of, map_at}
+use Rattle.prcu_model.specs.Dictionary.{Dictionary, updated, updated_all, map_of, map_at, key_of}
 use Rattle.prcu_model.specs.History.{IsLegal, IsUpdateAt, AreUpdatesFrom}
 use Rattle.prcu_model.specs.Replies.{Room, Explains, Confirms, tells_update}
 use Rattle.prcu_model.specs.Plain.{plain_reply, history_with, history_after, told_after}
 use Rattle.prcu_model.specs.Fronts.{Placed, told_lines, told_updates, IsConfirmed, MayStandBeside}
 use Rattle.prcu_model.proofs.Fronts.{map_of-push, map_at-next}
-use Rattle.prcu_model.proofs.Worth.{key_of, get-updated_other}
+use Rattle.prcu_model.proofs.Worth.{get-updated_other}
 use Rattle.workload.proofs.OwnKeys.{Agrees, IsOwn, Agrees-updated, ArePast, ArePast-earlier, some_update, ahead, skip, skip_all, next_found}
 use Rattle.workload.proofs.PlainReplies.{plain_from_explained, plain_from_confirmed}
 

@@ -9,10 +9,10 @@ use Rattle.std.proofs.lemmas.List.{drop_more, drop_all, take_all}
 use Rattle.prcu_model.specs.declared.operation.Op.{Op}
 use Rattle.prcu_model.specs.declared.operation.Op.TheVariants.{Get}
 use Rattle.prcu_model.specs.declared.operation.Update.{Update}
-use Rattle.prcu_model.specs.Dictionary.{Dictionary, updated, map_of, map_at}
+use Rattle.prcu_model.specs.Dictionary.{Dictionary, updated, map_of, map_at, key_of}
 use Rattle.prcu_model.specs.Fronts.{Placed, own_updates_from}
 use Rattle.prcu_model.proofs.Fronts.{map_at-next}
-use Rattle.prcu_model.proofs.Worth.{key_of, value_after, get-updated, get-updated_other}
+use Rattle.prcu_model.proofs.Worth.{value_after, get-updated, get-updated_other}
 
 module _ (owner : ℕ → ℕ) where
   -- the keys of this caller are worth the same in both

@@ -5,11 +5,10 @@ use Rattle.prcu_model.specs.declared.operation.Op.{Op}
 use Rattle.prcu_model.specs.declared.operation.Op.TheVariants.{Put, Get, Del, Set}
 use Rattle.prcu_model.specs.declared.operation.Reply.{Reply}
 use Rattle.prcu_model.specs.declared.operation.Reply.TheVariants.{New, Old, Full, Val, Absent, Gone, Was}
-use Rattle.prcu_model.specs.Dictionary.{Dictionary}
+use Rattle.prcu_model.specs.Dictionary.{Dictionary, key_of}
 use Rattle.prcu_model.specs.History.{IsUpdateAt}
 use Rattle.prcu_model.specs.Replies.{Room, Explains, Confirms}
 use Rattle.prcu_model.specs.Plain.{with_value, plain_reply}
-use Rattle.prcu_model.proofs.Worth.{key_of}
 
 absent : {A : Type 0} (b : Bool) (x y : A) → b ≡ false → y ≡ cond b x y
 absent true x y e = absurd (cc)
