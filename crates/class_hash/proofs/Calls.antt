@@ -9,12 +9,12 @@ use Rattle.hash_core.specs.declared.view.Hold.{Hold}
 use Rattle.hash_core.specs.declared.view.View.{View}
 use Rattle.hash_core.specs.Known.{known_in, knowing}
 use Rattle.hash_core.specs.Steps.{trod, after8, after9, after_move, after_refill, Needs7, NeedsMove, NeedsRefill}
-use Rattle.hash_core.proofs.Lists.{prefix_self, prefix_trans}
+use Rattle.prcu_model.proofs.ListFacts.{prefix_self, prefix_trans}
 use Rattle.class_hash.specs.Answers.{IsLink, IsFull}
 use Rattle.class_hash.proofs.Walking.{known_here, free_absent}
 use Rattle.hash_core.specs.declared.view.Section.{Section}
 use Rattle.hash_core.specs.declared.view.Stand.TheVariants.{Start}
-use Rattle.hash_core.specs.Marks.{updates_of}
+use Rattle.prcu_model.specs.Marks.{updates_of}
 use Rattle.class_hash.specs.Stepped.{Enters, LoadsReaders, Loads, Moves, Refills}
 use Rattle.class_hash.specs.Calls.{Lists, MayPoll, Refilled, Waits}
 

@@ -20,7 +20,7 @@ use Rattle.class_hash.specs.Calls.{HasFinished, Lists, MayPoll, Refilled, Polls,
 use Rattle.class_hash.specs.Walks.{HasLoaded, KnowsMore}
 use Rattle.class_hash.specs.Puts.{HasPolled, HasFree, MayFill, Filled}
 use Rattle.class_hash.proofs.Walking.{not_loaded, loaded_more, knows_more, known_here, lacks_still, avoids_zero, whole_kept, lacks_kept}
-use Rattle.hash_core.proofs.Lists.{prefix_trans}
+use Rattle.prcu_model.proofs.ListFacts.{prefix_trans}
 
 -- a walk that never comes to a slot
 pub avoids : (known : List Known) (slot first : ℕ) (ss : List ℕ) → IsWholeWalk known first ss → ((before : List ℕ) → ComesTo known first before slot → ⊥) → AllByRecursion (λ s. s ≢ slot) ss

@@ -9,14 +9,14 @@ use Rattle.hash_core.specs.declared.words.Kind.TheVariants.{H7, H13, H16}
 use Rattle.hash_core.specs.declared.view.Hold.{Hold}
 use Rattle.hash_core.specs.declared.view.Turn.{Turn}
 use Rattle.hash_core.specs.declared.view.View.{View}
-use Rattle.hash_core.specs.Marks.{updates_of}
+use Rattle.prcu_model.specs.Marks.{updates_of}
 use Rattle.hash_core.specs.Slots.{is_slot_of}
 use Rattle.hash_core.specs.Known.{knowing, ShowsAbsent}
 use Rattle.hash_core.specs.Steps.{trod, Needs7, Needs13, Needs16, after7, after13, after16}
 use Rattle.class_hash.specs.Stepped.{Unlocks, Evens, Links}
 use Rattle.class_hash.specs.Updates.{HasTurned}
 use Rattle.class_hash.specs.Puts.{HasFree, MayAdd, MayFill, MayLink, Filled, Linked, Added}
-use Rattle.hash_core.proofs.Lists.{prefix_trans}
+use Rattle.prcu_model.proofs.ListFacts.{prefix_trans}
 
 -- the front was made odd, the slot linked, the front made even, and the lock given up
 module _ (v : View) (slot key value : ℕ) (may : MayLink v slot key value) (even : ℕ) (x1 : View) (t : HasTurned v even x1) where

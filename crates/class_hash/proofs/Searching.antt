@@ -13,7 +13,7 @@ use Rattle.hash_core.specs.declared.view.Stand.TheVariants.{Start, Unread, Passe
 use Rattle.hash_core.specs.declared.view.Section.{Section}
 use Rattle.hash_core.specs.declared.view.Trod.{Trod}
 use Rattle.hash_core.specs.declared.view.View.{View}
-use Rattle.hash_core.specs.Marks.{updates_of}
+use Rattle.prcu_model.specs.Marks.{updates_of}
 use Rattle.hash_core.specs.Slots.{is_slot_of}
 use Rattle.hash_core.specs.Readers.{WasSaid}
 use Rattle.hash_core.specs.Steps.{IsQuiet, StandsAt, link_stand, searched}

@@ -12,13 +12,13 @@ use Rattle.hash_core.specs.declared.view.Section.{Section}
 use Rattle.hash_core.specs.declared.view.Hold.{Hold}
 use Rattle.hash_core.specs.declared.view.View.{View}
 use Rattle.prcu_model.specs.Dictionary.{map_of}
-use Rattle.hash_core.specs.Marks.{updates_of}
+use Rattle.prcu_model.specs.Marks.{updates_of}
 use Rattle.hash_core.specs.Pairs.{HasPairs}
 use Rattle.hash_core.specs.Slots.{capacity, is_slot_of, IsOfClass}
 use Rattle.class_hash.specs.Answers.{IsFull}
 use Rattle.hash_core.specs.Known.{ShowsAbsent}
 use Rattle.hash_core.specs.Steps.{trod, IsQuiet, Needs7, after7, fresh_hold}
-use Rattle.hash_core.proofs.Lists.{all_append, prefix_self, prefix_trans}
+use Rattle.prcu_model.proofs.ListFacts.{all_append, prefix_self, prefix_trans}
 use Rattle.class_hash.specs.Stepped.{Unlocks}
 use Rattle.class_hash.specs.Lookups.{Looked}
 use Rattle.class_hash.specs.Walks.{HasLoaded, IsFoundAt}

@@ -10,7 +10,7 @@ use Rattle.hash_core.specs.declared.words.Kind.TheVariants.{H7, H10, H14, H16}
 use Rattle.hash_core.specs.declared.view.Hold.{Hold}
 use Rattle.hash_core.specs.declared.view.Turn.{Turn}
 use Rattle.hash_core.specs.declared.view.View.{View}
-use Rattle.hash_core.specs.Marks.{updates_of}
+use Rattle.prcu_model.specs.Marks.{updates_of}
 use Rattle.hash_core.specs.Known.{known_in, knowing}
 use Rattle.hash_core.specs.Slots.{is_slot_of, IsOfClass}
 use Rattle.hash_core.specs.Steps.{trod, LinksTo, Needs7, Needs14, Needs16, NeedsPush, after7, after14, after16, after_chain, after_push}
@@ -18,7 +18,7 @@ use Rattle.class_hash.specs.Stepped.{Unlocks, Loads, Evens, Cuts, Chains, Pushes
 use Rattle.class_hash.specs.Walks.{HasLoaded, KnowsMore, IsLinkedFrom}
 use Rattle.class_hash.specs.Updates.{HasTurned, link_after, MayUnlink, Removed}
 use Rattle.class_hash.proofs.Walking.{not_loaded, loaded_more, knows_more, known_here, comes_to_still}
-use Rattle.hash_core.proofs.Lists.{prefix_trans}
+use Rattle.prcu_model.proofs.ListFacts.{prefix_trans}
 
 -- the next of the slot and the first retired slot were loaded
 module _ (capacities : List ℕ) (v : View) (previous : Option ℕ) (slot key : ℕ) (may : MayUnlink capacities v previous slot key) (next : ℕ) (x1 : View) (a : Loads capacities v (Next slot) next x1) where

@@ -10,7 +10,7 @@ use Rattle.hash_core.specs.declared.words.Kind.TheVariants.{H6, H7, H12, H15, H1
 use Rattle.hash_core.specs.declared.view.Hold.{Hold}
 use Rattle.hash_core.specs.declared.view.Turn.{Turn}
 use Rattle.hash_core.specs.declared.view.View.{View}
-use Rattle.hash_core.specs.Marks.{updates_of}
+use Rattle.prcu_model.specs.Marks.{updates_of}
 use Rattle.hash_core.specs.Known.{known_in, knowing}
 use Rattle.hash_core.specs.Slots.{is_slot_of}
 use Rattle.hash_core.specs.Steps.{trod, Needs7, Needs15, Needs16, after6, after15, after16, after7, fresh_hold}
@@ -18,7 +18,7 @@ use Rattle.class_hash.specs.Stepped.{Locks, Unlocks, Loads, Turns, Evens, Replac
 use Rattle.class_hash.specs.Walks.{HasLoaded, KnowsMore}
 use Rattle.class_hash.specs.Updates.{HasLocked, HasTurned, MayReplace, Replaced}
 use Rattle.class_hash.proofs.Walking.{not_loaded, loaded_more, knows_more, known_here, comes_to_still}
-use Rattle.hash_core.proofs.Lists.{prefix_trans}
+use Rattle.prcu_model.proofs.ListFacts.{prefix_trans}
 
 -- a lock that was free
 pub locked : (v w x : View) (class : ℕ) → w ≡ record v { trail = w.trail } → Locks w class 0 x → HasLocked v class x

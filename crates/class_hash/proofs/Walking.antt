@@ -13,7 +13,7 @@ use Rattle.hash_core.specs.Memory.{same_field}
 use Rattle.hash_core.specs.Slots.{is_slot_of}
 use Rattle.hash_core.specs.Known.{known_in, knowing, IsWholeWalk, LacksKey, ShowsAbsent, ComesTo, IsOnWalk}
 use Rattle.hash_core.specs.Steps.{trod, after9}
-use Rattle.hash_core.proofs.Lists.{prefix_self, prefix_more, prefix_trans}
+use Rattle.prcu_model.proofs.ListFacts.{prefix_self, prefix_more, prefix_trans}
 use Rattle.hash_core.proofs.Stores.{same_self, same_is}
 use Rattle.class_hash.specs.Answers.{IsLinkOf}
 use Rattle.class_hash.specs.Stepped.{Loads}

@@ -7,7 +7,7 @@ use Rattle.hash_core.specs.declared.words.Field.TheVariants.{Head, Free, Retired
 use Rattle.hash_core.specs.declared.view.Stand.TheVariants.{Ended}
 use Rattle.hash_core.specs.declared.view.Section.{Section}
 use Rattle.hash_core.specs.declared.view.Hold.{Hold}
-use Rattle.hash_core.specs.Marks.{updates_of}
+use Rattle.prcu_model.specs.Marks.{updates_of}
 use Rattle.hash_core.specs.Slots.{capacity, is_slot_of}
 use Rattle.hash_core.specs.Pairs.{HasPairs}
 use Rattle.prcu_model.specs.Dictionary.{map_of}

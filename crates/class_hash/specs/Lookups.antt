@@ -7,7 +7,7 @@ use Rattle.prcu_model.specs.declared.mark.Mark.TheVariants.{Entered, Left}
 use Rattle.hash_core.specs.declared.view.Stand.{Stand}
 use Rattle.hash_core.specs.declared.view.Trod.{Trod}
 use Rattle.hash_core.specs.declared.view.View.{View}
-use Rattle.hash_core.specs.Marks.{updates_of}
+use Rattle.prcu_model.specs.Marks.{updates_of}
 use Rattle.hash_core.specs.Readers.{WasSaid}
 use Rattle.hash_core.specs.Steps.{link_stand}
 use Rattle.hash_core.specs.Slots.{is_slot_of}

@@ -12,7 +12,7 @@ use Rattle.std.specs.FinMap as finite
 use Rattle.prcu_model.specs.declared.mark.Mark.{Mark}
 use Rattle.prcu_model.specs.Dictionary.{map_of}
 use Rattle.prcu_model.specs.History.{IsLegal}
-use Rattle.hash_core.specs.Marks.{updates_of}
+use Rattle.prcu_model.specs.Marks.{updates_of}
 use Rattle.hash_core.specs.Known.{known_in, IsOnWalk}
 use Rattle.hash_core.specs.Steps.{trod, Goes, after3, after4, after5, searched, after6, after7, after8, after9, after_take, after_refill, after_move, after_push, after_chain, after11, after12, after13, after14, after15, after16}
 use Rattle.class_hash.specs.Answers.{GivesAnswer, StandsInClass, IsLinkOf, IsFull, FindsFull}

@@ -12,7 +12,7 @@ use Rattle.hash_core.specs.declared.words.Field.{Field}
 use Rattle.hash_core.specs.declared.words.Field.TheVariants.{Head, Key, Next}
 use Rattle.hash_core.specs.declared.view.Hold.{Hold}
 use Rattle.hash_core.specs.declared.view.View.{View}
-use Rattle.hash_core.specs.Marks.{updates_of}
+use Rattle.prcu_model.specs.Marks.{updates_of}
 use Rattle.hash_core.specs.Slots.{is_slot_of, IsOfClass}
 use Rattle.hash_core.specs.Known.{known_in, IsOnWalk}
 use Rattle.hash_core.specs.Steps.{fresh_hold, Needs7}

@@ -3,9 +3,10 @@ use Rattle.std.proofs.Common.{◌≡◌, ◌≢◌, ℕ, ◌+◌, ◌<◌, ◌�
 use Rattle.std.proofs.lemmas.List.{take-append-le}
 use Rattle.prcu_model.specs.declared.mark.Mark.{Mark}
 use Rattle.prcu_model.specs.declared.mark.Mark.TheVariants.{Entered, Left, Began, Ended, Done, Given, Unlinked, Freed}
-use Rattle.hash_core.specs.Marks.{Open, next_open, open_from, open_at, next_gone, gone_from, gone_at, ReuseByClass}
+use Rattle.prcu_model.specs.Marks.{Open, next_open, open_from, open_at, next_gone, gone_from, gone_at}
+use Rattle.hash_core.specs.Marks.{ReuseByClass}
 use Rattle.hash_core.proofs.Lists.{at_below, at_end}
-use Rattle.hash_core.proofs.MarkLists.{open_at-snoc, gone_at-snoc}
+use Rattle.prcu_model.proofs.MarkLists.{open_at-snoc, gone_at-snoc}
 
 -- a mark that neither enters nor leaves a section
 abbrev pub TurnsNoSection : Mark → Type 0
@@ -17,6 +18,7 @@ TurnsNoSection _ = Unit {0}
 abbrev pub TurnsNoSlot : Mark → Type 0
 TurnsNoSlot (Given s) = ⊥
 TurnsNoSlot (Unlinked s) = ⊥
+TurnsNoSlot (Freed s) = ⊥
 TurnsNoSlot _ = Unit {0}
 
 next_open-same : (p i : ℕ) (o : Option Open) (m : Mark) → TurnsNoSection m → next_open p i o m ≡ o
@@ -37,7 +39,7 @@ next_gone-same s i g (Ended q c) n = refl
 next_gone-same s i g (Done u) n = refl
 next_gone-same s i g (Given t) n = absurd n
 next_gone-same s i g (Unlinked t) n = absurd n
-next_gone-same s i g (Freed t) n = refl
+next_gone-same s i g (Freed t) n = absurd n
 
 module _ (h : List Mark) (m : Mark) where
   pub open_at-same : TurnsNoSection m → (p : ℕ) → open_at p (h ++ m ∷ []) ≡ open_at p h
@@ -66,8 +68,10 @@ gone_below s i g (Left q c ∷ h) p old e = let l = gone_below s (i + 1) g h p (
 gone_below s i g (Began q c a b ∷ h) p old e = let l = gone_below s (i + 1) g h p (λ q f. let z = old q f in omega arith) e in omega arith
 gone_below s i g (Ended q c ∷ h) p old e = let l = gone_below s (i + 1) g h p (λ q f. let z = old q f in omega arith) e in omega arith
 gone_below s i g (Done u ∷ h) p old e = let l = gone_below s (i + 1) g h p (λ q f. let z = old q f in omega arith) e in omega arith
-gone_below s i g (Freed t ∷ h) p old e = let l = gone_below s (i + 1) g h p (λ q f. let z = old q f in omega arith) e in omega arith
 gone_below s i g (Given t ∷ h) p old e =
+    let new : (q : ℕ) → cond (t == s) None g ≡ Some q → q < i + 1 = λ q. elim (t == s) as (λ b. cond b None g ≡ Some q → q < i + 1) [ true ↦ λ f. absurd (cc) | false ↦ λ f. let z = old q f in omega arith ] in
+    let l = gone_below s (i + 1) (cond (t == s) None g) h p new e in omega arith
+gone_below s i g (Freed t ∷ h) p old e =
     let new : (q : ℕ) → cond (t == s) None g ≡ Some q → q < i + 1 = λ q. elim (t == s) as (λ b. cond b None g ≡ Some q → q < i + 1) [ true ↦ λ f. absurd (cc) | false ↦ λ f. let z = old q f in omega arith ] in
     let l = gone_below s (i + 1) (cond (t == s) None g) h p new e in omega arith
 gone_below s i g (Unlinked t ∷ h) p old e =

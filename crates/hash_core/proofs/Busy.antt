@@ -9,12 +9,13 @@ use Rattle.hash_core.specs.declared.view.Hold.{Hold}
 use Rattle.hash_core.specs.declared.view.View.{View}
 use Rattle.hash_core.specs.Lists.{total}
 use Rattle.hash_core.specs.Memory.{Memory}
-use Rattle.hash_core.specs.Marks.{updates_of, entered_at}
+use Rattle.prcu_model.specs.Marks.{updates_of, entered_at}
 use Rattle.hash_core.specs.Buckets.{Bucket, IsLocked, inside_count, IsFreeOfReaders}
 use Rattle.hash_core.specs.Seats.{AreSeen, AreApart, AreOwned, HasNoTurn, IsTurned}
 use Rattle.hash_core.specs.Steps.{IsQuiet}
 use Rattle.hash_core.specs.Rule.{BucketRule, MemoryRule}
-use Rattle.hash_core.proofs.Lists.{at_one, all_map}
+use Rattle.prcu_model.proofs.ListFacts.{all_map}
+use Rattle.hash_core.proofs.Lists.{at_one}
 
 -- Each view that isn't quiet stands where it stood, and the open sections of each class are as many.
 pub record SameBusy (vs vs' : List View) : Type 0 where
@@ -96,7 +97,7 @@ module _ (vs vs' : List View) (busy : SameBusy vs vs') where
   )
 
   -- the rule, where the parts on seats hold that read quiet views
-  pub rule_busy : (capacities : List ℕ) (places tickets : ℕ) (m : Memory) (h : List Mark) → MemoryRule capacities places tickets m vs h → AreSeen vs' h → AreApart places vs' → AreOwned vs' h
+  pub rule_busy : (capacities : List ℕ) (places tickets : ℕ) (m : Memory) (h : List Mark) → MemoryRule capacities places tickets m vs h → AreSeen vs' h → AreApart places vs' → AreOwned places vs' h
       → ((j : ℕ) (u : View) → get_elem? vs' j ≡ some u → 1 ≤ u.places → u.sections ≡ entered_at u.place h) → total (λ (v : View). v.tickets) vs' ≡ total (λ (v : View). v.tickets) vs → MemoryRule capacities places tickets m vs' h
   rule_busy capacities places tickets m h r seen apart owned entered same = record {
     shape = r.shape;

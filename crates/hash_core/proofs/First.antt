@@ -13,7 +13,7 @@ use Rattle.hash_core.specs.declared.view.View.{View}
 use Rattle.hash_core.specs.Lists.{times, IsPath}
 use Rattle.hash_core.specs.Memory.{Memory, memory_of}
 use Rattle.hash_core.specs.Slots.{capacity, base, is_slot_of}
-use Rattle.hash_core.specs.Marks.{own_of, open_at, entered_at}
+use Rattle.prcu_model.specs.Marks.{own_of, open_at, entered_at}
 use Rattle.hash_core.specs.Buckets.{Bucket, HoldsOther, IsFreeOfReaders}
 use Rattle.hash_core.specs.Readers.{WasSaid, WillAnswer}
 use Rattle.hash_core.specs.Seats.{AnswersFor, open_of, HasNoTurn}
@@ -121,6 +121,8 @@ module _ (capacities : List ℕ) (places tickets : ℕ) (shape : IsShape capacit
     };
     owned = record {
       own = λ j u q there a. each_view (λ k z. own_of q [] ≡ own_of q z.own) refl j u there;
+      met = λ j u q there a. each_view (λ k z. own_of q z.seen ≡ own_of q z.own) refl j u there;
+      within = λ q far. refl;
       none = λ j u q there a. each_view (λ k z. own_of q z.own ≡ []) refl j u there;
       unused = λ j u q there has far. each_view (λ k z. own_of q z.own ≡ []) refl j u there;
     };

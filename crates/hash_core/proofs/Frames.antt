@@ -20,7 +20,7 @@ use Rattle.hash_core.specs.declared.view.View.{View}
 use Rattle.hash_core.specs.Lists.{times}
 use Rattle.hash_core.specs.Memory.{Memory}
 use Rattle.hash_core.specs.Slots.{is_slot_of, IsOfClass}
-use Rattle.hash_core.specs.Marks.{gone_at, IsGone}
+use Rattle.prcu_model.specs.Marks.{gone_at, IsGone}
 use Rattle.hash_core.specs.Buckets.{Bucket, IsChained, AreListed, HaveOneRole, IsMapped, HoldsOther, IsLocked, IsKnown, HaveAges, inside_count, AreCounted, IsFreeOfReaders, AreClean, taken_of, unlinked_of, moved_of, link_of}
 use Rattle.hash_core.specs.Readers.{WasSaid, IsHeldBack, HasWay, WillAnswer, AreAnswered}
 use Rattle.hash_core.specs.Rule.{BucketRule}

@@ -14,7 +14,7 @@ use Rattle.hash_core.specs.declared.view.View.{View}
 use Rattle.hash_core.specs.Lists.{times, IsPath}
 use Rattle.hash_core.specs.Memory.{Memory}
 use Rattle.hash_core.specs.Slots.{capacity, base, is_slot_of}
-use Rattle.hash_core.specs.Marks.{updates_of}
+use Rattle.prcu_model.specs.Marks.{updates_of}
 use Rattle.hash_core.specs.Known.{known_in}
 use Rattle.hash_core.specs.Buckets.{seek, HaveDistinctKeys, link_of}
 use Rattle.hash_core.specs.Pairs.{HasPairs}

@@ -21,16 +21,18 @@ use Rattle.hash_core.specs.declared.view.View.{View}
 use Rattle.hash_core.specs.Lists.{times, IsPath}
 use Rattle.hash_core.specs.Memory.{Memory, stored}
 use Rattle.hash_core.specs.Slots.{is_slot_of}
-use Rattle.hash_core.specs.Marks.{updates_of, open_at, gone_at, IsGone, entered_at, ReuseByClass}
+use Rattle.prcu_model.specs.Marks.{updates_of, open_at, gone_at, IsGone, entered_at}
+use Rattle.hash_core.specs.Marks.{ReuseByClass}
 use Rattle.hash_core.specs.Known.{knowing, ShowsAbsent, IsOnWalk}
 use Rattle.hash_core.specs.Buckets.{Bucket, seek, IsFreeOfReaders, taken_of, unlinked_of, moved_of, link_of, HaveDistinctKeys}
 use Rattle.hash_core.specs.Readers.{AreAnswered, WillAnswer, WasSaid, IsHeldBack, HasWay}
 use Rattle.hash_core.specs.Seats.{open_of}
 use Rattle.hash_core.specs.Steps.{Needs13, after13, Needs15, after15}
 use Rattle.hash_core.specs.Rule.{BucketRule, MemoryRule}
-use Rattle.hash_core.proofs.Lists.{each_set, all_times, all_map}
+use Rattle.prcu_model.proofs.ListFacts.{all_map}
+use Rattle.hash_core.proofs.Lists.{each_set, all_times}
 use Rattle.hash_core.proofs.Paths.{seek_here, seek_past, seek-same, HaveDistinctKeys-same}
-use Rattle.hash_core.proofs.MarkLists.{updates_of-append}
+use Rattle.prcu_model.proofs.MarkLists.{updates_of-append}
 use Rattle.hash_core.proofs.Classes.{slot_within}
 use Rattle.hash_core.proofs.Adds.{open_at-same, gone_at-same, open_at-below, reuse_more}
 use Rattle.hash_core.proofs.Frames.{SameMarks, chain_slot, taken_slot, WasSaid-longer}

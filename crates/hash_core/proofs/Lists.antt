@@ -31,16 +31,6 @@ module _ {A : Type 0} where
   pub at_one : (l : List A) (i : ℕ) (a b : A) → get_elem? l i ≡ some a → get_elem? l i ≡ some b → a ≡ b
   at_one l i a b ea eb = some-injective a b (sym ea ∙ eb)
 
-  pub prefix_self : (xs : List A) → IsPrefix xs xs
-  prefix_self [] = ([], refl)
-  prefix_self (x ∷ xs) = let r = prefix_self xs in (r.0, ap (λ ys. x ∷ ys) r.1)
-
-  pub prefix_more : (xs ys zs : List A) → IsPrefix xs ys → IsPrefix xs (ys ++ zs)
-  prefix_more xs ys zs p = (p.0 ++ zs, sym (append_assoc xs p.0 zs) ∙ ap (λ w. w ++ zs) p.1)
-
-  pub prefix_trans : (xs ys zs : List A) → IsPrefix xs ys → IsPrefix ys zs → IsPrefix xs zs
-  prefix_trans xs ys zs p q = (p.0 ++ q.0, sym (append_assoc xs p.0 q.0) ∙ ap (λ w. w ++ q.0) p.1 ∙ q.1)
-
   -- a fact of each element, after one has changed
   pub each_set : (P : ℕ → A → Type 0) (vs : List A) (id : ℕ) (w : A) → P id w → ((j : ℕ) (u : A) → j ≢ id → get_elem? vs j ≡ some u → P j u)
       → (j : ℕ) (u : A) → get_elem? (set vs id w) j ≡ some u → P j u
@@ -60,23 +50,6 @@ module _ {A : Type 0} where
   pub total_append : (f : A → ℕ) (us vs : List A) → total f (us ++ vs) ≡ total f us + total f vs
   total_append f [] vs = omega arith
   total_append f (u ∷ us) vs = let s = total_append f us vs in omega arith
-
-  -- a fact of all elements that follows from another
-  pub all_map : (P Q : A → Type 0) (xs : List A) → ((x : A) → P x → Q x) → AllByRecursion P xs → AllByRecursion Q xs
-  all_map P Q [] f all = tt
-  all_map P Q (x ∷ xs) f all = (f x all.0, all_map P Q xs f all.1)
-
-  pub all_append : (P : A → Type 0) (xs ys : List A) → AllByRecursion P xs → AllByRecursion P ys → AllByRecursion P (xs ++ ys)
-  all_append P [] ys p q = q
-  all_append P (x ∷ xs) ys p q = (p.0, all_append P xs ys p.1 q)
-
-  pub all_front : (P : A → Type 0) (xs ys : List A) → AllByRecursion P (xs ++ ys) → AllByRecursion P xs
-  all_front P [] ys all = tt
-  all_front P (x ∷ xs) ys all = (all.0, all_front P xs ys all.1)
-
-  pub all_back : (P : A → Type 0) (xs ys : List A) → AllByRecursion P (xs ++ ys) → AllByRecursion P ys
-  all_back P [] ys all = all
-  all_back P (x ∷ xs) ys all = all_back P xs ys all.1
 
 -- how often numbers stand in lists
 pub times_append : (x : ℕ) (ys zs : List ℕ) → times x (ys ++ zs) ≡ times x ys + times x zs

@@ -1,5 +1,5 @@
 -- The kinds of step on locks and on the front, and the loads under a lock.
-use Rattle.std.proofs.Common.{◌≡◌, ◌≢◌, ℕ, ◌+◌, ◌*◌, ◌%◌, ◌<◌, ◌≤◌, Bool, true, false, cond, List, [], ◌∷◌, length, set, Option, Some, None, refl, sym, ap, subst, ◌∙◌, inl, inr, arith, eq-eqb, append-nil, option_to_list}
+use Rattle.std.proofs.Common.{◌≡◌, ◌≢◌, ◌⊎◌, ℕ, ◌+◌, ◌*◌, ◌%◌, ◌<◌, ◌≤◌, Bool, true, false, cond, List, [], ◌∷◌, ◌++◌, length, set, Option, Some, None, refl, sym, ap, subst, ◌∙◌, inl, inr, arith, eq-eqb, append-nil, option_to_list}
 use Rattle.std.specs.List.{AllByRecursion}
 use mathlib.Core.Logic.{dite}
 use mathlib.Core.Option.{some}
@@ -17,14 +17,15 @@ use Rattle.hash_core.specs.declared.view.View.{View}
 use Rattle.hash_core.specs.Lists.{times, IsPath}
 use Rattle.hash_core.specs.Memory.{Memory, same_field, stored}
 use Rattle.hash_core.specs.Slots.{is_slot_of, IsOfClass}
-use Rattle.hash_core.specs.Marks.{updates_of}
+use Rattle.prcu_model.specs.Marks.{updates_of}
 use Rattle.hash_core.specs.Known.{known_in, knowing}
 use Rattle.hash_core.specs.Buckets.{Bucket, inside_count, AreCounted, HoldsOther, IsLocked, AreClean, IsFreeOfReaders, HaveOneRole, taken_of, unlinked_of, moved_of, link_of}
 use Rattle.hash_core.specs.Readers.{AreAnswered, WillAnswer, WasSaid}
 use Rattle.hash_core.specs.Seats.{HasNoTurn, updates_by, IsTurned, AreOwned, AreSeen}
 use Rattle.hash_core.specs.Steps.{IsQuiet, fresh_hold, Needs7, after7, Needs12, Needs16, after16}
 use Rattle.hash_core.specs.Rule.{BucketRule, MemoryRule}
-use Rattle.hash_core.proofs.Lists.{at_below, at_one, each_set, total_set, total_part, prefix_self, all_map}
+use Rattle.prcu_model.proofs.ListFacts.{prefix_self, all_map}
+use Rattle.hash_core.proofs.Lists.{at_below, at_one, each_set, total_set, total_part}
 use Rattle.hash_core.proofs.Frames.{SameSlots, SameSection, SameHold, SameView, still_answer}
 use Rattle.hash_core.proofs.Stores.{same_words, lock_words, front_words, stored_here, same_self, same_is}
 use Rattle.hash_core.proofs.SeatFrames.{seen_same, seen_whole, apart_same, owned_same, open_same, held_still, turned_same}
@@ -311,12 +312,16 @@ module _ (capacities : List ℕ) (places tickets : ℕ) (m : Memory) (vs : List 
         seen_case true is = seen_whole vs id v w9 at h h (ap (λ b. cond b h v.seen) is) (prefix_self h) r.seen
         seen_case false is = seen_same vs id v w9 at h (ap (λ b. cond b h v.seen) is) r.seen
 
+    met9 : (t : Bool) → see ≡ t → (w9.seen ≡ v.seen) ⊎ (w9.seen ≡ h ++ [])
+    met9 true is = inr (ap (λ b. cond b h v.seen) is ∙ sym (append-nil h))
+    met9 false is = inl (ap (λ b. cond b h v.seen) is)
+
     seats9 : SeatsRule capacities places tickets m (set vs id w9) h
     seats9 =
         record {
           seen = seen9;
           apart = apart_same vs id v w9 at places (record { place = refl; places = refl; joined = refl }) r.apart;
-          owned = subst (AreOwned (set vs id w9)) (append-nil h) (owned_same vs id v w9 at h [] (record { place = refl; places = refl; joined = refl }) refl no_marks r.owned);
+          owned = subst (AreOwned places (set vs id w9)) (append-nil h) (owned_same vs id v w9 at places h [] (record { place = refl; places = refl; joined = refl }) refl (met9 see refl) no_marks r.owned);
           sections = open_same vs id v w9 at h h (updates_of h) (updates_of h) refl refl refl (section_back v w9 refl) (section_forth v w9 refl) (λ p. refl) (λ p. refl) (omega arith) r.sections;
           held = held_still vs id v w9 at (λ other is. let e : new9 ≡ other = cc in (subst (λ (z : Hold). z.class < 64) e (class_small hold mine), works hold mine)) r.held;
           turned = turned_same vs id v w9 at m m (length (updates_of h)) refl refl (λ turn held is had. (new9, refl)) r.turned;
@@ -383,7 +388,7 @@ module _ (capacities : List ℕ) (places tickets : ℕ) (m : Memory) (vs : List 
         (record {
           seen = seen_same vs id v w12 at h refl r.seen;
           apart = apart_same vs id v w12 at places (record { place = refl; places = refl; joined = refl }) r.apart;
-          owned = subst (AreOwned (set vs id w12)) (append-nil h) (owned_same vs id v w12 at h [] (record { place = refl; places = refl; joined = refl }) refl no_marks r.owned);
+          owned = subst (AreOwned places (set vs id w12)) (append-nil h) (owned_same vs id v w12 at places h [] (record { place = refl; places = refl; joined = refl }) refl (inl refl) no_marks r.owned);
           sections = open_same vs id v w12 at h h (updates_of h) (updates_of h) refl refl refl (section_back v w12 refl) (section_forth v w12 refl) (λ p. refl) (λ p. refl) (omega arith) r.sections;
           held = held_still vs id v w12 at (λ other is. r.held.held id v other at is) r.held;
           turned = turned12;
@@ -425,7 +430,7 @@ module _ (capacities : List ℕ) (places tickets : ℕ) (m : Memory) (vs : List 
         (record {
           seen = seen_same vs id v w16 at h refl r.seen;
           apart = apart_same vs id v w16 at places (record { place = refl; places = refl; joined = refl }) r.apart;
-          owned = subst (AreOwned (set vs id w16)) (append-nil h) (owned_same vs id v w16 at h [] (record { place = refl; places = refl; joined = refl }) refl no_marks r.owned);
+          owned = subst (AreOwned places (set vs id w16)) (append-nil h) (owned_same vs id v w16 at places h [] (record { place = refl; places = refl; joined = refl }) refl (inl refl) no_marks r.owned);
           sections = open_same vs id v w16 at h h (updates_of h) (updates_of h) refl refl refl (section_back v w16 refl) (section_forth v w16 refl) (λ p. refl) (λ p. refl) (omega arith) r.sections;
           held = held_still vs id v w16 at (λ other is. r.held.held id v other at is) r.held;
           turned = turned16;

@@ -12,7 +12,7 @@ use Rattle.hash_core.specs.declared.view.Turn.{Turn}
 use Rattle.hash_core.specs.declared.view.View.{View}
 use Rattle.hash_core.specs.Lists.{total}
 use Rattle.hash_core.specs.Memory.{Memory}
-use Rattle.hash_core.specs.Marks.{updates_of, own_of}
+use Rattle.prcu_model.specs.Marks.{updates_of, own_of}
 use Rattle.hash_core.specs.Seats.{open_of, AreOwned}
 use Rattle.hash_core.specs.Steps.{trod}
 use Rattle.hash_core.specs.Rule.{MemoryRule}
@@ -65,7 +65,7 @@ module _ (capacities : List ℕ) (places tickets : ℕ) (m : Memory) (vs : List 
   seats_same same seen front = record {
     seen = seen_same vs id v w at h seen r.seen;
     apart = apart_same vs id v w at places same.places r.apart;
-    owned = subst (λ z. AreOwned (set vs id w) z) (append-nil h) (owned_same vs id v w at h [] same.places same.own no_marks r.owned);
+    owned = subst (λ z. AreOwned places (set vs id w) z) (append-nil h) (owned_same vs id v w at places h [] same.places same.own (inl seen) no_marks r.owned);
     sections = open_same vs id v w at h h (updates_of h) (updates_of h) same.places.place same.places.places same.sections same.back same.forth (λ p. refl) (λ p. refl) (omega arith) r.sections;
     held = held_still vs id v w at same.held r.held;
     turned = turned_same vs id v w at m m' (length (updates_of h)) front same.turn same.kept r.turned;

@@ -1,5 +1,5 @@
 -- What keeps the parts of the rule on seats.
-use Rattle.std.proofs.Common.{◌≡◌, ◌≢◌, ℕ, ◌^◌, ◌<◌, ◌≤◌, true, false, cond, List, [], ◌∷◌, ◌++◌, length, set, Some, refl, sym, ap, subst, ◌∙◌, inl, inr, arith, append_assoc, append-nil}
+use Rattle.std.proofs.Common.{◌≡◌, ◌≢◌, ◌⊎◌, ℕ, ◌^◌, ◌<◌, ◌≤◌, true, false, cond, List, [], ◌∷◌, ◌++◌, length, set, Some, refl, sym, ap, subst, ◌∙◌, inl, inr, arith, append_assoc, append-nil}
 use mathlib.Core.Logic.{dite}
 use mathlib.Core.Option.{some}
 use mathlib.Core.List.{IsPrefix}
@@ -15,10 +15,11 @@ use Rattle.hash_core.specs.declared.view.Turn.{Turn}
 use Rattle.hash_core.specs.declared.view.View.{View}
 use Rattle.hash_core.specs.Lists.{times}
 use Rattle.hash_core.specs.Memory.{Memory}
-use Rattle.hash_core.specs.Marks.{Open, open_at, own_of, is_of, entered_at}
+use Rattle.prcu_model.specs.Marks.{Open, open_at, own_of, is_of, entered_at}
 use Rattle.hash_core.specs.Seats.{AreSeen, HasPlace, AnswersFor, AreApart, AreOwned, open_of, AreOpen, AreHeld, HasNoTurn, IsTurned}
-use Rattle.hash_core.proofs.Lists.{at_below, at_one, each_set, prefix_self, prefix_trans}
-use Rattle.hash_core.proofs.MarkLists.{own_of-append}
+use Rattle.prcu_model.proofs.ListFacts.{prefix_self, prefix_trans}
+use Rattle.hash_core.proofs.Lists.{at_below, at_one, each_set}
+use Rattle.prcu_model.proofs.MarkLists.{own_of-append}
 
 -- Who answers for which places is the same.
 pub record SamePlaces (v w : View) : Type 0 where
@@ -64,13 +65,20 @@ module _ (vs : List View) (id : ℕ) (v w : View) (at : get_elem? vs id ≡ some
   }
 
   -- marks that no place left, and the view's own the same
-  pub owned_same : (h ms : List Mark) → SamePlaces v w → w.own ≡ v.own → ((p : ℕ) → own_of p ms ≡ []) → AreOwned vs h → AreOwned (set vs id w) (h ++ ms)
-  owned_same h ms same own none s =
+  pub owned_same : (places : ℕ) (h ms : List Mark) → SamePlaces v w → w.own ≡ v.own → (w.seen ≡ v.seen) ⊎ (w.seen ≡ h ++ ms) → ((p : ℕ) → own_of p ms ≡ []) → AreOwned places vs h → AreOwned places (set vs id w) (h ++ ms)
+  owned_same places h ms same own seen none s =
       let more : (p : ℕ) → own_of p (h ++ ms) ≡ own_of p h = λ p. own_of-append p h ms ∙ ap (λ z. own_of p h ++ z) (none p) ∙ append-nil (own_of p h) in
       record {
         own = λ j u p there a. each_set (λ k z. AnswersFor z p → own_of p (h ++ ms) ≡ own_of p z.own) vs id w
             (λ mine. more p ∙ s.own id v p at (answers_back p same mine) ∙ ap (own_of p) (sym own))
             (λ k z other e theirs. more p ∙ s.own k z p e theirs) j u there a;
+        met = λ j u p there a. each_set (λ k z. AnswersFor z p → own_of p z.seen ≡ own_of p z.own) vs id w
+            (λ mine. elim seen [
+              | inl old ↦ ap (own_of p) old ∙ s.met id v p at (answers_back p same mine) ∙ ap (own_of p) (sym own)
+              | inr whole ↦ ap (own_of p) whole ∙ more p ∙ s.own id v p at (answers_back p same mine) ∙ ap (own_of p) (sym own)
+            ])
+            (λ k z other e theirs. s.met k z p e theirs) j u there a;
+        within = λ p far. more p ∙ s.within p far;
         none = λ j u p there a. each_set (λ k z. (AnswersFor z p → ⊥) → own_of p z.own ≡ []) vs id w
             (λ mine. ap (own_of p) own ∙ s.none id v p at (λ b. mine (answers_forth p same b)))
             (λ k z other e theirs. s.none k z p e theirs) j u there a;
@@ -80,9 +88,9 @@ module _ (vs : List View) (id : ℕ) (v w : View) (at : get_elem? vs id ≡ some
       }
 
   -- a mark of the view's place, and others that no place left
-  pub owned_more : (places : ℕ) (h ms : List Mark) (m : Mark) → SamePlaces v w → 1 ≤ v.places → w.own ≡ v.own ++ m ∷ [] → is_of v.place m ≡ true → ((p : ℕ) → p ≢ v.place → is_of p m ≡ false) → ((p : ℕ) → own_of p ms ≡ [])
-      → AreApart places vs → AreOwned vs h → AreOwned (set vs id w) (h ++ m ∷ ms)
-  owned_more places h ms m same works own mine_is others none apart s =
+  pub owned_more : (places : ℕ) (h ms : List Mark) (m : Mark) → SamePlaces v w → 1 ≤ v.places → w.own ≡ v.own ++ m ∷ [] → w.seen ≡ h ++ m ∷ ms → is_of v.place m ≡ true → ((p : ℕ) → p ≢ v.place → is_of p m ≡ false) → ((p : ℕ) → own_of p ms ≡ [])
+      → AreApart places vs → AreOwned places vs h → AreOwned places (set vs id w) (h ++ m ∷ ms)
+  owned_more places h ms m same works own seen mine_is others none apart s =
       let here : own_of v.place (m ∷ ms) ≡ m ∷ [] = ap (λ b. cond b (m ∷ own_of v.place ms) (own_of v.place ms)) mine_is ∙ ap (λ z. m ∷ z) (none v.place) in
       let there_none : (p : ℕ) → p ≢ v.place → own_of p (m ∷ ms) ≡ [] = λ p ne. ap (λ b. cond b (m ∷ own_of p ms) (own_of p ms)) (others p ne) ∙ none p in
       let one : own_of v.place (m ∷ []) ≡ m ∷ [] = ap (λ b. cond b (m ∷ []) []) mine_is in
@@ -92,12 +100,16 @@ module _ (vs : List View) (id : ℕ) (v w : View) (at : get_elem? vs id ≡ some
       let own_here : own_of v.place w.own ≡ own_of v.place v.own ++ m ∷ [] = ap (own_of v.place) own ∙ own_of-append v.place v.own (m ∷ []) ∙ ap (λ z. own_of v.place v.own ++ z) one in
       let own_else : (p : ℕ) → p ≢ v.place → own_of p w.own ≡ own_of p v.own = λ p ne. ap (own_of p) own ∙ own_of-append p v.own (m ∷ []) ∙ ap (λ z. own_of p v.own ++ z) (none_one p ne) ∙ append-nil (own_of p v.own) in
       let at_place : AnswersFor v v.place = inl (omega arith, omega arith) in
+      let own_now : (p : ℕ) → AnswersFor w p → own_of p (h ++ m ∷ ms) ≡ own_of p w.own = λ p mine. dite (ℕ_discrete p v.place)
+          (λ e. subst (λ q. own_of q (h ++ m ∷ ms) ≡ own_of q w.own) (sym e) (h_here ∙ ap (λ z. z ++ m ∷ []) (s.own id v v.place at at_place) ∙ sym own_here))
+          (λ ne. h_else p ne ∙ s.own id v p at (answers_back p same mine) ∙ sym (own_else p ne)) in
       record {
-        own = λ j u p there a. each_set (λ k z. AnswersFor z p → own_of p (h ++ m ∷ ms) ≡ own_of p z.own) vs id w
-            (λ mine. dite (ℕ_discrete p v.place)
-            (λ e. subst (λ q. own_of q (h ++ m ∷ ms) ≡ own_of q w.own) (sym e) (h_here ∙ ap (λ z. z ++ m ∷ []) (s.own id v v.place at at_place) ∙ sym own_here))
-            (λ ne. h_else p ne ∙ s.own id v p at (answers_back p same mine) ∙ sym (own_else p ne)))
+        own = λ j u p there a. each_set (λ k z. AnswersFor z p → own_of p (h ++ m ∷ ms) ≡ own_of p z.own) vs id w (own_now p)
             (λ k z other e theirs. h_else p (λ f. other (apart.apart k id p z v e at theirs (subst (AnswersFor v) (sym f) at_place))) ∙ s.own k z p e theirs) j u there a;
+        met = λ j u p there a. each_set (λ k z. AnswersFor z p → own_of p z.seen ≡ own_of p z.own) vs id w
+            (λ mine. ap (own_of p) seen ∙ own_now p mine)
+            (λ k z other e theirs. s.met k z p e theirs) j u there a;
+        within = λ p far. h_else p (λ e. let below = apart.within id v v.place at at_place in omega arith) ∙ s.within p far;
         none = λ j u p there a. each_set (λ k z. (AnswersFor z p → ⊥) → own_of p z.own ≡ []) vs id w
             (λ mine. own_else p (λ e. mine (answers_forth p same (subst (AnswersFor v) (sym e) at_place))) ∙ s.none id v p at (λ b. mine (answers_forth p same b)))
             (λ k z other e theirs. s.none k z p e theirs) j u there a;

@@ -21,15 +21,16 @@ use Rattle.hash_core.specs.declared.view.View.{View}
 use Rattle.hash_core.specs.Lists.{IsPath, total}
 use Rattle.hash_core.specs.Memory.{Memory, stored}
 use Rattle.hash_core.specs.Slots.{is_slot_of, IsOfClass}
-use Rattle.hash_core.specs.Marks.{updates_of, Open, open_at, gone_at, entered_at}
+use Rattle.prcu_model.specs.Marks.{updates_of, Open, open_at, gone_at, entered_at}
 use Rattle.hash_core.specs.Buckets.{Bucket, seek, inside_count, IsKnown, IsFreeOfReaders, AreClean}
 use Rattle.hash_core.specs.Readers.{WasSaid, IsHeldBack, HasWay, WillAnswer}
 use Rattle.hash_core.specs.Seats.{open_of, AreOpen, IsTurned}
 use Rattle.hash_core.specs.Steps.{after3, after4, after5, link_stand, searched, MayLoad}
 use Rattle.hash_core.specs.Rule.{BucketRule, MemoryRule}
-use Rattle.hash_core.proofs.Lists.{at_below, at_one, each_set, total_set, total_part, all_map, all_change}
+use Rattle.prcu_model.proofs.ListFacts.{all_map}
+use Rattle.hash_core.proofs.Lists.{at_below, at_one, each_set, total_set, total_part, all_change}
 use Rattle.hash_core.proofs.Paths.{path_cons, path_none, seek_here, seek_past}
-use Rattle.hash_core.proofs.MarkLists.{open_at-snoc, updates_of-append}
+use Rattle.prcu_model.proofs.MarkLists.{open_at-snoc, updates_of-append}
 use Rattle.hash_core.proofs.Adds.{gone_at-same, gone_at-below, reuse_more}
 use Rattle.hash_core.proofs.Frames.{SameMarks, SameSection, locked_same, still_said, still_answer, frame_ages_same}
 use Rattle.hash_core.proofs.Stores.{same_words, readers_words, stored_here, same_self}
@@ -131,7 +132,7 @@ module _ (capacities : List ℕ) (places tickets : ℕ) (m : Memory) (vs : List 
     seats3 = record {
       seen = seen_whole vs id v w3 at h h3 refl (mark3 ∷ [], refl) r.seen;
       apart = apart_same vs id v w3 at places (record { place = refl; places = refl; joined = refl }) r.apart;
-      owned = owned_more vs id v w3 at places h [] mark3 (record { place = refl; places = refl; joined = refl }) works refl (eq-eqb v.place v.place refl) (λ p ne. ne_eqb v.place p (λ e. ne (sym e))) (λ p. refl) r.apart r.owned;
+      owned = owned_more vs id v w3 at places h [] mark3 (record { place = refl; places = refl; joined = refl }) works refl refl (eq-eqb v.place v.place refl) (λ p ne. ne_eqb v.place p (λ e. ne (sym e))) (λ p. refl) r.apart r.owned;
       sections = sections3;
       held = held_still vs id v w3 at (λ hold is. r.held.held id v hold at is) r.held;
       turned = subst (IsTurned m3 (set vs id w3)) (sym (ap length same_updates3)) (turned_same vs id v w3 at m m3 (length (updates_of h)) refl refl (λ turn hold is held. (hold, held)) r.turned);
@@ -248,7 +249,7 @@ module _ (capacities : List ℕ) (places tickets : ℕ) (m : Memory) (vs : List 
     seats4 = record {
       seen = seen_whole vs id v w4 at h h4 refl (mark4 ∷ [], refl) r.seen;
       apart = apart_same vs id v w4 at places (record { place = refl; places = refl; joined = refl }) r.apart;
-      owned = owned_more vs id v w4 at places h [] mark4 (record { place = refl; places = refl; joined = refl }) works4 refl (eq-eqb v.place v.place refl) (λ p ne. ne_eqb v.place p (λ e. ne (sym e))) (λ p. refl) r.apart r.owned;
+      owned = owned_more vs id v w4 at places h [] mark4 (record { place = refl; places = refl; joined = refl }) works4 refl refl (eq-eqb v.place v.place refl) (λ p ne. ne_eqb v.place p (λ e. ne (sym e))) (λ p. refl) r.apart r.owned;
       sections = sections4;
       held = held_still vs id v w4 at (λ hold is. r.held.held id v hold at is) r.held;
       turned = subst (IsTurned m4 (set vs id w4)) (sym (ap length same_updates4)) (turned_same vs id v w4 at m m4 (length (updates_of h)) refl refl (λ turn hold is held. (hold, held)) r.turned);

@@ -13,13 +13,14 @@ use Rattle.prcu_model.specs.declared.mark.Mark.TheVariants.{Entered, Left, Began
 use Rattle.hash_core.specs.declared.view.View.{View}
 use Rattle.hash_core.specs.Lists.{times, total}
 use Rattle.hash_core.specs.Memory.{Memory}
-use Rattle.hash_core.specs.Marks.{own_of, entered_at, updates_of}
+use Rattle.prcu_model.specs.Marks.{own_of, entered_at, updates_of}
 use Rattle.hash_core.specs.Buckets.{inside_count}
 use Rattle.hash_core.specs.Seats.{AreSeen, HasPlace, AnswersFor, AreApart, AreOwned, HasNoTurn}
 use Rattle.hash_core.specs.Steps.{IsQuiet, Needs1, first_of, second_of, places_from, longer, both_of, spent}
 use Rattle.hash_core.specs.Rule.{MemoryRule}
 use Rattle.hash_core.proofs.Lists.{at_below, at_end, at_one, each_set, total_set, total_append, times_append, times_here, times_other}
-use Rattle.hash_core.proofs.MarkLists.{own_of-append}
+use Rattle.prcu_model.proofs.ListFacts.{prefix_self, prefix_of_longer}
+use Rattle.prcu_model.proofs.MarkLists.{own_of-append, own_of-between}
 use Rattle.hash_core.proofs.Busy.{SameBusy, quiet_turn, rule_busy}
 
 module _ {A : Type 0} where
@@ -42,8 +43,8 @@ no_entered : (p : ℕ) (h : List Mark) → own_of p h ≡ [] → entered_at p h 
 no_entered p [] none = refl
 no_entered p (Entered q c x ∷ h) none = elim (q == p) as (λ b. cond b (Entered q c x ∷ own_of p h) (own_of p h) ≡ [] → cond b 1 0 + entered_at p h ≡ 0) [ true ↦ λ e. absurd (cc) | false ↦ λ e. let rest = no_entered p h e in omega arith ] none
 no_entered p (Left q c ∷ h) none = elim (q == p) as (λ b. cond b (Left q c ∷ own_of p h) (own_of p h) ≡ [] → entered_at p h ≡ 0) [ true ↦ λ e. absurd (cc) | false ↦ λ e. no_entered p h e ] none
-no_entered p (Began q c a b ∷ h) none = no_entered p h none
-no_entered p (Ended q c ∷ h) none = no_entered p h none
+no_entered p (Began q c a b ∷ h) none = elim (q == p) as (λ t. cond t (Began q c a b ∷ own_of p h) (own_of p h) ≡ [] → entered_at p h ≡ 0) [ true ↦ λ e. absurd (cc) | false ↦ λ e. no_entered p h e ] none
+no_entered p (Ended q c ∷ h) none = elim (q == p) as (λ b. cond b (Ended q c ∷ own_of p h) (own_of p h) ≡ [] → entered_at p h ≡ 0) [ true ↦ λ e. absurd (cc) | false ↦ λ e. no_entered p h e ] none
 no_entered p (Done u ∷ h) none = elim (u.caller == p) as (λ b. cond b (Done u ∷ own_of p h) (own_of p h) ≡ [] → entered_at p h ≡ 0) [ true ↦ λ e. absurd (cc) | false ↦ λ e. no_entered p h e ] none
 no_entered p (Given s ∷ h) none = no_entered p h none
 no_entered p (Unlinked s ∷ h) none = no_entered p h none
@@ -125,10 +126,13 @@ module _ (capacities : List ℕ) (places tickets : ℕ) (m : Memory) (vs : List 
         (λ past. r.owned.none id v q at (λ a. elim (split_answers q a) [ inl f ↦ not_first f | inr s ↦ past (let below = (second_place q s).0.1 in let less = some_first in omega arith) ])))
         (λ before. r.owned.none id v q at (λ a. elim (split_answers q a) [ inl f ↦ not_first f | inr s ↦ before (second_place q s).2 ]))
 
-    owned1 : AreOwned vs1 h
+    owned1 : AreOwned places vs1 h
     owned1 = record {
       own = λ j u q there a. each1 (λ k z. AnswersFor z q → own_of q h ≡ own_of q z.own)
           (λ f. r.owned.own id v q at (first_answers q f)) (λ s. (second_own q s).1) (λ k z _ e o. r.owned.own k z q e o) j u there a;
+      met = λ j u q there a. each1 (λ k z. AnswersFor z q → own_of q z.seen ≡ own_of q z.own)
+          (λ f. r.owned.met id v q at (first_answers q f)) (λ s. r.owned.met id v q at (second_answers q s) ∙ (second_own q s).0) (λ k z _ e o. r.owned.met k z q e o) j u there a;
+      within = r.owned.within;
       none = λ j u q there a. each1 (λ k z. (AnswersFor z q → ⊥) → own_of q z.own ≡ [])
           (first_none q) (λ _. refl) (λ k z _ e o. r.owned.none k z q e o) j u there a;
       unused = λ j u q there has far. each1 (λ k z. HasPlace z q → q ≢ z.place → own_of q z.own ≡ [])
@@ -307,11 +311,29 @@ module _ (capacities : List ℕ) (places tickets : ℕ) (m : Memory) (vs : List 
   own_theirs : (q : ℕ) → AnswersFor other q → own_of q both2.own ≡ own_of q other.own
   own_theirs q theirs = own_append q ∙ ap (λ z. z ++ own_of q other.own) (r.owned.none id v q at (λ mine. not_two q mine theirs))
 
-  owned2 : AreOwned vs2 h
+  -- the list that is kept begins with what each of the two has seen
+  longer_mine : IsPrefix v.seen both2.seen
+  longer_mine = longer_case (λ z. IsPrefix v.seen z) v.seen other.seen (λ _. prefix_self v.seen) (λ less. prefix_of_longer v.seen other.seen h (r.seen.begins id v at) (r.seen.begins j other there) (omega arith))
+
+  longer_theirs : IsPrefix other.seen both2.seen
+  longer_theirs = longer_case (λ z. IsPrefix other.seen z) v.seen other.seen (λ more. prefix_of_longer other.seen v.seen h (r.seen.begins j other there) (r.seen.begins id v at) (omega arith)) (λ _. prefix_self other.seen)
+
+  -- what is between a list that has all marks of a place and the whole list has them too
+  met_longer : (q : ℕ) (u : View) → own_of q u.seen ≡ own_of q u.own → own_of q h ≡ own_of q u.own → IsPrefix u.seen both2.seen → own_of q both2.seen ≡ own_of q u.own
+  met_longer q u met whole longer = own_of-between q u.seen both2.seen h longer longer_begins (met ∙ sym whole) ∙ met
+
+  owned2 : AreOwned places vs2 h
   owned2 = record {
     own = λ k u q e a. each2 (λ l y. AnswersFor y q → own_of q h ≡ own_of q y.own)
         (λ b. elim (from_both q b) [ inl mine ↦ r.owned.own id v q at mine ∙ sym (own_mine q mine) | inr theirs ↦ r.owned.own j other q there theirs ∙ sym (own_theirs q theirs) ])
         (λ s. absurd (spent_none q s)) (λ l y _ _ g o. r.owned.own l y q g o) k u e a;
+    met = λ k u q e a. each2 (λ l y. AnswersFor y q → own_of q y.seen ≡ own_of q y.own)
+        (λ b. elim (from_both q b) [
+          | inl mine ↦ met_longer q v (r.owned.met id v q at mine) (r.owned.own id v q at mine) longer_mine ∙ sym (own_mine q mine)
+          | inr theirs ↦ met_longer q other (r.owned.met j other q there theirs) (r.owned.own j other q there theirs) longer_theirs ∙ sym (own_theirs q theirs)
+        ])
+        (λ s. absurd (spent_none q s)) (λ l y _ _ g o. r.owned.met l y q g o) k u e a;
+    within = r.owned.within;
     none = λ k u q e a. each2 (λ l y. (AnswersFor y q → ⊥) → own_of q y.own ≡ [])
         (λ not_both. own_append q ∙ ap (λ z. z ++ own_of q other.own) (r.owned.none id v q at (λ mine. not_both (mine_both q mine))) ∙ r.owned.none j other q there (λ theirs. not_both (theirs_both q theirs)))
         (λ _. refl) (λ l y _ _ g o. r.owned.none l y q g o) k u e a;

@@ -21,16 +21,18 @@ use Rattle.hash_core.specs.declared.view.View.{View}
 use Rattle.hash_core.specs.Lists.{times, IsPath, total}
 use Rattle.hash_core.specs.Memory.{Memory, same_field, stored}
 use Rattle.hash_core.specs.Slots.{is_slot_of, IsOfClass}
-use Rattle.hash_core.specs.Marks.{updates_of, Open, open_at, gone_at, IsGone, ReuseByClass}
+use Rattle.prcu_model.specs.Marks.{updates_of, Open, open_at, gone_at, IsGone}
+use Rattle.hash_core.specs.Marks.{ReuseByClass}
 use Rattle.hash_core.specs.Known.{known_in, knowing}
 use Rattle.hash_core.specs.Buckets.{Bucket, IsKnown, IsFreeOfReaders, taken_of, unlinked_of, moved_of, link_of}
 use Rattle.hash_core.specs.Readers.{AreAnswered, WillAnswer, WasSaid}
 use Rattle.hash_core.specs.Seats.{IsTurned}
 use Rattle.hash_core.specs.Steps.{NeedsTake, after_take, NeedsRefill, after_refill, NeedsMove, after_move, NeedsPush, after_push, NeedsChain, after_chain, IsFieldOf, Needs11, after11}
 use Rattle.hash_core.specs.Rule.{BucketRule, MemoryRule}
-use Rattle.hash_core.proofs.Lists.{at_below, at_end, each_set, all_change, all_from_times, times_here, all_map}
+use Rattle.prcu_model.proofs.ListFacts.{all_map}
+use Rattle.hash_core.proofs.Lists.{at_below, at_end, each_set, all_change, all_from_times, times_here}
 use Rattle.hash_core.proofs.Paths.{path_cons, path_none, IsPath-same, seek-same, HaveDistinctKeys-same}
-use Rattle.hash_core.proofs.MarkLists.{updates_of-append}
+use Rattle.prcu_model.proofs.MarkLists.{updates_of-append}
 use Rattle.hash_core.proofs.Adds.{open_at-same, gone_at-given_here, gone_at-given_other}
 use Rattle.hash_core.proofs.Classes.{one_class, slot_within, at_most_one}
 use Rattle.hash_core.proofs.Frames.{SameMarks, free_slot, retired_slot, taken_slot, unlinked_slot}
@@ -429,7 +431,7 @@ module _ (capacities : List ℕ) (places tickets : ℕ) (m : Memory) (vs : List 
     seats_take = record {
       seen = seen_whole vs id v w_take at h h_take refl (Given slot ∷ [], refl) r.seen;
       apart = apart_same vs id v w_take at places (record { place = refl; places = refl; joined = refl }) r.apart;
-      owned = owned_same vs id v w_take at h (Given slot ∷ []) (record { place = refl; places = refl; joined = refl }) refl (λ p. refl) r.owned;
+      owned = owned_same vs id v w_take at places h (Given slot ∷ []) (record { place = refl; places = refl; joined = refl }) refl (inr refl) (λ p. refl) r.owned;
       sections = open_same vs id v w_take at h h_take (updates_of h) (updates_of h_take) refl refl refl (section_back v w_take refl) (section_forth v w_take refl) (open_at-same h (Given slot) tt) (λ p. let a = entered_at-append p h (Given slot ∷ []) in omega arith) (let n = ap length same_updates_take in omega arith) r.sections;
       held = held_still vs id v w_take at (λ other is. let e : new_take ≡ other = cc in (subst (λ (z : Hold). z.class < 64) e small, works capacities places tickets m vs h r id v at hold mine)) r.held;
       turned = subst (IsTurned m_take (set vs id w_take)) (sym (ap length same_updates_take)) (turned_same vs id v w_take at m m_take (length (updates_of h)) refl refl (λ turn held is had_it. (new_take, refl)) r.turned);

@@ -18,7 +18,8 @@ use Rattle.hash_core.specs.declared.view.Hold.{Hold}
 use Rattle.hash_core.specs.declared.view.Turn.{Turn}
 use Rattle.hash_core.specs.declared.view.View.{View}
 use Rattle.hash_core.specs.Memory.{Memory}
-use Rattle.hash_core.specs.Marks.{updates_of, open_at, own_of, entered_at, ReuseByClass}
+use Rattle.prcu_model.specs.Marks.{updates_of, open_at, own_of, entered_at}
+use Rattle.hash_core.specs.Marks.{ReuseByClass}
 use Rattle.hash_core.specs.Readers.{WasSaid}
 use Rattle.hash_core.specs.Seats.{HasNoTurn, updates_by}
 use Rattle.hash_core.specs.Steps.{HasTurn, updated_view}
@@ -83,7 +84,7 @@ module _ (capacities : List ℕ) (places tickets : ℕ) (m : Memory) (vs : List 
       seats_updated = record {
         seen = seen_whole vs id v w_new at h h_new refl (Done (record { caller = v.place; op = op }) ∷ more, refl) r.seen;
         apart = apart_same vs id v w_new at places (record { place = refl; places = refl; joined = refl }) r.apart;
-        owned = owned_more vs id v w_new at places h more (Done (record { caller = v.place; op = op })) (record { place = refl; places = refl; joined = refl }) (works capacities places tickets m vs h r id v at hold mine) refl
+        owned = owned_more vs id v w_new at places h more (Done (record { caller = v.place; op = op })) (record { place = refl; places = refl; joined = refl }) (works capacities places tickets m vs h r id v at hold mine) refl refl
             (eq-eqb v.place v.place refl) (λ p ne. ne_eqb v.place p (λ e. ne (sym e))) none r.apart r.owned;
         sections = open_same vs id v w_new at h h_new (updates_of h) (updates_of h_new) refl refl refl (section_back v w_new refl) (section_forth v w_new refl) opened entered (let n = one_longer in omega arith) r.sections;
         held = held_still vs id v w_new at (λ other is. let e : new ≡ other = cc in (subst (λ (z : Hold). z.class < 64) e (subst (λ z. z < 64) (sym class) (class_small capacities places tickets m vs h r id v at hold mine)), works capacities places tickets m vs h r id v at hold mine)) r.held;

@@ -9,7 +9,8 @@ use Rattle.prcu_model.specs.History.{IsLegal}
 use Rattle.hash_core.specs.declared.view.View.{View}
 use Rattle.hash_core.specs.Lists.{total}
 use Rattle.hash_core.specs.Memory.{Memory}
-use Rattle.hash_core.specs.Marks.{updates_of, ReuseByClass}
+use Rattle.prcu_model.specs.Marks.{updates_of}
+use Rattle.hash_core.specs.Marks.{ReuseByClass}
 use Rattle.hash_core.specs.Buckets.{Bucket}
 use Rattle.hash_core.specs.Seats.{AreSeen, AreApart, AreOwned, AreOpen, AreHeld, IsTurned}
 use Rattle.hash_core.specs.Rule.{BucketRule, MemoryRule}
@@ -19,7 +20,7 @@ use Rattle.hash_core.proofs.Frames.{SameWords, SameMarks, SameView, bucket_frame
 pub record SeatsRule (capacities : List ℕ) (places tickets : ℕ) (m : Memory) (vs : List View) (h : List Mark) : Type 0 where
   pub seen : AreSeen vs h
   pub apart : AreApart places vs
-  pub owned : AreOwned vs h
+  pub owned : AreOwned places vs h
   pub sections : AreOpen vs h (updates_of h)
   pub held : AreHeld vs
   pub turned : IsTurned m vs (length (updates_of h))

@@ -16,7 +16,7 @@ use Rattle.hash_core.specs.declared.view.View.{View}
 use Rattle.hash_core.specs.Lists.{times, IsPath, total}
 use Rattle.hash_core.specs.Memory.{Memory}
 use Rattle.hash_core.specs.Slots.{is_slot_of, IsOfClass}
-use Rattle.hash_core.specs.Marks.{gone_at, IsGone}
+use Rattle.prcu_model.specs.Marks.{gone_at, IsGone}
 use Rattle.hash_core.specs.Known.{known_in}
 
 -- A class: its chain, its free list, its retired list, the list that its holder has in hand, and what the holder knows.

@@ -16,7 +16,7 @@ use Rattle.hash_core.specs.declared.view.View.{View}
 use Rattle.hash_core.specs.Lists.{IsPath}
 use Rattle.hash_core.specs.Memory.{Memory}
 use Rattle.hash_core.specs.Slots.{is_slot_of}
-use Rattle.hash_core.specs.Marks.{gone_at}
+use Rattle.prcu_model.specs.Marks.{gone_at}
 use Rattle.hash_core.specs.Buckets.{seek}
 
 -- At some front from this one to now the dictionary gave the key this answer.

@@ -9,7 +9,8 @@ use Rattle.hash_core.specs.declared.view.View.{View}
 use Rattle.hash_core.specs.Lists.{total}
 use Rattle.hash_core.specs.Memory.{Memory, memory_of}
 use Rattle.hash_core.specs.Slots.{word_count}
-use Rattle.hash_core.specs.Marks.{updates_of, ReuseByClass}
+use Rattle.prcu_model.specs.Marks.{updates_of}
+use Rattle.hash_core.specs.Marks.{ReuseByClass}
 use Rattle.hash_core.specs.Buckets.{Bucket, IsChained, AreListed, HaveOneRole, IsMapped, IsLocked, IsKnown, HaveAges, AreCounted, AreClean}
 use Rattle.hash_core.specs.Readers.{AreAnswered}
 use Rattle.hash_core.specs.Seats.{AreSeen, AreApart, AreOwned, AreOpen, AreHeld, IsTurned}
@@ -40,7 +41,7 @@ pub record MemoryRule (capacities : List ℕ) (places tickets : ℕ) (m : Memory
   pub shape : IsShape capacities places tickets
   pub seen : AreSeen vs h
   pub apart : AreApart places vs
-  pub owned : AreOwned vs h
+  pub owned : AreOwned places vs h
   pub sections : AreOpen vs h (updates_of h)
   pub held : AreHeld vs
   pub turned : IsTurned m vs (length (updates_of h))

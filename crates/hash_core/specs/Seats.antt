@@ -13,7 +13,7 @@ use Rattle.hash_core.specs.declared.view.Turn.{Turn}
 use Rattle.hash_core.specs.declared.view.View.{View}
 use Rattle.hash_core.specs.Lists.{times}
 use Rattle.hash_core.specs.Memory.{Memory}
-use Rattle.hash_core.specs.Marks.{Open, open_at, own_of, entered_at}
+use Rattle.prcu_model.specs.Marks.{Open, open_at, own_of, entered_at}
 
 -- Each view has seen a beginning of the marks, and one view has seen them all.
 pub record AreSeen (vs : List View) (h : List Mark) : Type 0 where
@@ -34,10 +34,12 @@ pub record AreApart (places : ℕ) (vs : List View) : Type 0 where
   pub apart : (i j p : ℕ) (v w : View) → get_elem? vs i ≡ some v → get_elem? vs j ≡ some w → AnswersFor v p → AnswersFor w p → i ≡ j
   pub joined : (id : ℕ) (v : View) (p : ℕ) → get_elem? vs id ≡ some v → HasPlace v p → times p v.joined ≡ 0
 
--- The marks of a place are those that the view has of it that answers for the place. It has no others, and none of its
--- unused places.
-pub record AreOwned (vs : List View) (h : List Mark) : Type 0 where
+-- The marks of a place are those that the view has of it that answers for the place, which has seen them all. It has no
+-- others, and none of its unused places. The table's places alone have marks.
+pub record AreOwned (places : ℕ) (vs : List View) (h : List Mark) : Type 0 where
   pub own : (id : ℕ) (v : View) (p : ℕ) → get_elem? vs id ≡ some v → AnswersFor v p → own_of p h ≡ own_of p v.own
+  pub met : (id : ℕ) (v : View) (p : ℕ) → get_elem? vs id ≡ some v → AnswersFor v p → own_of p v.seen ≡ own_of p v.own
+  pub within : (p : ℕ) → places ≤ p → own_of p h ≡ []
   pub none : (id : ℕ) (v : View) (p : ℕ) → get_elem? vs id ≡ some v → (AnswersFor v p → ⊥) → own_of p v.own ≡ []
   pub unused : (id : ℕ) (v : View) (p : ℕ) → get_elem? vs id ≡ some v → HasPlace v p → p ≢ v.place → own_of p v.own ≡ []
 

@@ -8,3 +8,5 @@ pub mod Chains
 pub mod Worth
 pub mod PlainSizes
 pub mod ToldLists
+pub mod ListFacts
+pub mod MarkLists

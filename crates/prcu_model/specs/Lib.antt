@@ -8,3 +8,4 @@ pub mod Scripts
 pub mod Held
 pub mod Slots
 pub mod Chains
+pub mod Marks

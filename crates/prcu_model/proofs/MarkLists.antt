@@ -1,8 +1,9 @@
 -- What a list of marks says after one more mark.
-use Rattle.std.proofs.Common.{◌≡◌, ℕ, suc, ◌+◌, true, false, cond, List, [], ◌∷◌, ◌++◌, length, Option, None, refl, ap, ◌∙◌, arith}
+use Rattle.std.proofs.Common.{◌≡◌, ℕ, suc, ◌+◌, true, false, cond, List, [], ◌∷◌, ◌++◌, length, Option, None, refl, sym, ap, ◌∙◌, arith, append-nil, length-append}
+use mathlib.Core.List.{IsPrefix}
 use Rattle.prcu_model.specs.declared.mark.Mark.{Mark}
 use Rattle.prcu_model.specs.declared.mark.Mark.TheVariants.{Entered, Left, Began, Ended, Done, Given, Unlinked, Freed}
-use Rattle.hash_core.specs.Marks.{updates_of, Open, next_open, open_from, open_at, next_gone, gone_from, gone_at, is_of, own_of}
+use Rattle.prcu_model.specs.Marks.{updates_of, Open, next_open, open_from, open_at, next_gone, gone_from, gone_at, is_of, own_of}
 
 pub updates_of-append : (h ms : List Mark) → updates_of (h ++ ms) ≡ updates_of h ++ updates_of ms
 updates_of-append [] ms = refl
@@ -36,3 +37,16 @@ own_of-append p [] ms = refl
 own_of-append p (m ∷ h) ms =
     let rest = own_of-append p h ms in
     elim (is_of p m) as (λ b. cond b (m ∷ own_of p (h ++ ms)) (own_of p (h ++ ms)) ≡ cond b (m ∷ own_of p h) (own_of p h) ++ own_of p ms) [ true ↦ ap (λ xs. m ∷ xs) rest | false ↦ rest ]
+
+-- where two beginnings have the same marks of a place, so has what is between them
+pub own_of-between : (p : ℕ) (a b c : List Mark) → IsPrefix a b → IsPrefix b c → own_of p a ≡ own_of p c → own_of p b ≡ own_of p a
+own_of-between p a b c first second same =
+    let one : own_of p b ≡ own_of p a ++ own_of p first.0 = ap (own_of p) (sym first.1) ∙ own_of-append p a first.0 in
+    let two : own_of p c ≡ own_of p b ++ own_of p second.0 = ap (own_of p) (sym second.1) ∙ own_of-append p b second.0 in
+    let long : length (own_of p first.0) ≡ 0 = omega (arith, ap length one, ap length two, ap length same, length-append (own_of p a) (own_of p first.0), length-append (own_of p b) (own_of p second.0)) in
+    let none : own_of p first.0 ≡ [] = no_length (own_of p first.0) long in
+    one ∙ ap (λ z. own_of p a ++ z) none ∙ append-nil (own_of p a)
+  where
+    no_length : (xs : List Mark) → length xs ≡ 0 → xs ≡ []
+    no_length [] e = refl
+    no_length (x ∷ xs) e = absurd (omega arith)
