@@ -1,5 +1,5 @@
 -- Tries of an update: a search, the lock, a walk under it, and the lock given up or the update made.
-use Rattle.std.proofs.Common.{◌≡◌, ℕ, ◌+◌, ◌-◌, ◌%◌, ◌≤◌, true, List, [], ◌∷◌, ◌++◌, Option, Some, None, IfNone, IfSome, is_some, refl, sym, ap, subst, ◌∙◌, append_assoc, append-nil}
+use Rattle.std.proofs.Common.{◌≡◌, ℕ, ◌+◌, ◌-◌, ◌%◌, ◌≤◌, ◌==◌, true, cond, arith, eq-eqb, List, [], ◌∷◌, ◌++◌, Option, Some, None, IfNone, IfSome, is_some, refl, sym, ap, subst, ◌∙◌, append_assoc, append-nil}
 use Rattle.std.specs.List.{AllByRecursion}
 use mathlib.Core.List.{IsPrefix}
 use Rattle.prcu_model.specs.declared.mark.Mark.{Mark}
@@ -19,6 +19,8 @@ use Rattle.class_hash.specs.Answers.{IsFull}
 use Rattle.hash_core.specs.Known.{ShowsAbsent}
 use Rattle.hash_core.specs.Steps.{trod, IsQuiet, Needs7, after7, fresh_hold}
 use Rattle.prcu_model.proofs.ListFacts.{all_append, prefix_self, prefix_trans}
+use Rattle.prcu_model.specs.Callers.{entered_for}
+use Rattle.prcu_model.proofs.OwnMarks.{entered_for-append}
 use Rattle.class_hash.specs.Stepped.{Unlocks}
 use Rattle.class_hash.specs.Lookups.{Looked}
 use Rattle.class_hash.specs.Walks.{HasLoaded, IsFoundAt}
@@ -27,17 +29,17 @@ use Rattle.class_hash.specs.Calls.{HasFinished, Lists}
 use Rattle.class_hash.specs.Puts.{MayAdd, Linked, Added, LeavesFull}
 use Rattle.class_hash.specs.Replies.{IsOfSection, HasTried, told_added, PutsBy, Puts, SetsBy, DelsBy}
 
-pub nothing_tried : (v : View) → HasTried v v
-nothing_tried v = record { marks = []; plain = tt; own = sym (append-nil v.own); seen = prefix_self v.seen; view = refl }
+pub nothing_tried : (v : View) (key : ℕ) → HasTried v key v
+nothing_tried v key = record { marks = []; plain = tt; own = sym (append-nil v.own); seen = prefix_self v.seen; view = refl }
 
-pub still_quiet : (v w : View) → IsQuiet v → HasTried v w → IsQuiet w
-still_quiet v w quiet t = (ap (λ (z : View). z.section) t.view ∙ quiet.0, ap (λ (z : View). z.hold) t.view ∙ quiet.1)
+pub still_quiet : (v w : View) (key : ℕ) → IsQuiet v → HasTried v key w → IsQuiet w
+still_quiet v w key quiet t = (ap (λ (z : View). z.section) t.view ∙ quiet.0, ap (λ (z : View). z.hold) t.view ∙ quiet.1)
 
 pub looked_quiet : (w x : View) (key : ℕ) (answer : Option ℕ) → IsQuiet w → Looked w key answer x → IsQuiet x
 looked_quiet w x key answer quiet l = (ap (λ (z : View). z.section) l.view, ap (λ (z : View). z.hold) l.view ∙ quiet.1)
 
 -- from the search to the walk
-module _ (v w x y z : View) (key class : ℕ) (answer : Option ℕ) (new : Hold) (quiet : IsQuiet v) (t : HasTried v w) (l : Looked w key answer x) (k : HasLocked x class y) (n : HasLoaded y (fresh_hold class) z new) (no_turn : x.turn ≡ None) where
+module _ (v w x y z : View) (key class : ℕ) (answer : Option ℕ) (new : Hold) (quiet : IsQuiet v) (t : HasTried v key w) (l : Looked w key answer x) (k : HasLocked x class y) (n : HasLoaded y (fresh_hold class) z new) (no_turn : x.turn ≡ None) where
   marks : List Mark
   marks = Entered w.place w.sections key ∷ Left w.place w.sections ∷ []
 
@@ -65,8 +67,15 @@ module _ (v w x y z : View) (key class : ℕ) (answer : Option ℕ) (new : Hold)
   own_z = ap (λ (u : View). u.own) z_is ∙ append_assoc w.own (Entered w.place w.sections key ∷ []) (Left w.place w.sections ∷ [])
       ∙ ap (λ o. o ++ Entered w.place w.sections key ∷ Left w.place w.sections ∷ []) t.own ∙ append_assoc v.own t.marks (Entered w.place w.sections key ∷ Left w.place w.sections ∷ [])
 
-  plain_z : AllByRecursion IsOfSection (t.marks ++ Entered w.place w.sections key ∷ Left w.place w.sections ∷ [])
-  plain_z = all_append IsOfSection t.marks (Entered w.place w.sections key ∷ Left w.place w.sections ∷ []) t.plain (tt, (tt, tt))
+  plain_z : AllByRecursion (IsOfSection v.place key) (t.marks ++ Entered w.place w.sections key ∷ Left w.place w.sections ∷ [])
+  plain_z = all_append (IsOfSection v.place key) t.marks (Entered w.place w.sections key ∷ Left w.place w.sections ∷ []) t.plain ((same_place, refl), (same_place, tt))
+
+  searched_z : 1 ≤ entered_for v.place key (t.marks ++ Entered w.place w.sections key ∷ Left w.place w.sections ∷ [])
+  searched_z =
+      let split = entered_for-append v.place key t.marks (Entered w.place w.sections key ∷ Left w.place w.sections ∷ []) in
+      let one : entered_for v.place key (Entered w.place w.sections key ∷ Left w.place w.sections ∷ []) ≡ 1 =
+      ap (λ b. cond b (cond (key == key) 1 0) 0 + 0) (eq-eqb w.place v.place same_place) ∙ ap (λ b. cond b 1 0 + 0) (eq-eqb key key refl) in
+      omega arith
 
   turn_z : z.turn ≡ None
   turn_z = ap (λ (u : View). u.turn) n.view ∙ ap (λ (u : View). u.turn) k ∙ no_turn
@@ -90,7 +99,7 @@ module _ (v w x y z : View) (key class : ℕ) (answer : Option ℕ) (new : Hold)
   abbrev walked : View
   walked = record v { section = None; sections = w.sections + 1; hold = Some new; own = (w.own ++ Entered w.place w.sections key ∷ []) ++ Left w.place w.sections ∷ []; trail = z.trail; seen = z.seen }
 
-  pub tried_again : (u : View) → Unlocks z u → HasTried v u
+  pub tried_again : (u : View) → Unlocks z u → HasTried v key u
   tried_again u e =
       let F : View → View = λ y. after7 (trod y H7 (Lock e.0.class) 0) in
       let u_is : u ≡ F walked = e.2 ∙ ap F z_is in
@@ -113,6 +122,7 @@ module _ (v w x y z : View) (key class : ℕ) (answer : Option ℕ) (new : Hold)
         record {
           marks = t.marks ++ Entered w.place w.sections key ∷ Left w.place w.sections ∷ [];
           plain = plain_z;
+          searched = searched_z;
           own = ap (λ (y : View). y.own) r.view ∙ ap (λ o. o ++ Done (record { caller = z.place; op = Set key value }) ∷ []) own_z
               ∙ ap (λ p. (v.own ++ (t.marks ++ Entered w.place w.sections key ∷ Left w.place w.sections ∷ [])) ++ Done (record { caller = p; op = Set key value }) ∷ []) place;
           since = prefix_trans v.seen z.seen r.before seen_z r.since;
@@ -149,6 +159,7 @@ module _ (v w x y z : View) (key class : ℕ) (answer : Option ℕ) (new : Hold)
         record {
           marks = t.marks ++ Entered w.place w.sections key ∷ Left w.place w.sections ∷ [];
           plain = plain_z;
+          searched = searched_z;
           own = ap (λ (y : View). y.own) r.view ∙ ap (λ o. o ++ Done (record { caller = z.place; op = Del key }) ∷ []) own_z
               ∙ ap (λ p. (v.own ++ (t.marks ++ Entered w.place w.sections key ∷ Left w.place w.sections ∷ [])) ++ Done (record { caller = p; op = Del key }) ∷ []) place;
           since = prefix_trans v.seen z.seen r.before seen_z r.since;
@@ -180,6 +191,7 @@ module _ (v w x y z : View) (key class : ℕ) (answer : Option ℕ) (new : Hold)
         record {
           marks = t.marks ++ Entered w.place w.sections key ∷ Left w.place w.sections ∷ [];
           plain = plain_z;
+          searched = searched_z;
           own = ap (λ (y : View). y.own) r.view ∙ ap (λ o. o ++ Done (record { caller = z.place; op = Put key value }) ∷ []) own_z
               ∙ ap (λ p. (v.own ++ (t.marks ++ Entered w.place w.sections key ∷ Left w.place w.sections ∷ [])) ++ Done (record { caller = p; op = Put key value }) ∷ []) place;
           since = prefix_trans v.seen z.seen r.before seen_z r.since;
@@ -211,13 +223,16 @@ module _ (v w x y z : View) (key class : ℕ) (answer : Option ℕ) (new : Hold)
       let class_new : new.class ≡ key % 64 = ap (λ (h : Hold). h.class) n.only ∙ sym of in
       let full : IsFull capacities new u.seen = subst (λ s. IsFull capacities new s) (sym (ap (λ (q : View). q.seen) first)) (subst (λ (k : Hold). IsFull capacities k left.0.seen) same (l.full refl refl)) in
       let own_u : u.own ≡ z.own = ap (λ (q : View). q.own) first ∙ ap (λ (q : View). q.own) l.rest in (
-        record {
-          marks = t.marks ++ Entered w.place w.sections key ∷ Left w.place w.sections ∷ [];
-          plain = plain_z;
-          own = own_u ∙ own_z;
-          seen = subst (IsPrefix v.seen) (sym (ap (λ (q : View). q.seen) first)) (prefix_trans v.seen z.seen left.0.seen seen_z l.seen);
-          view = whole ∙ sym (ap (λ (q : View). record v { sections = q.sections; own = q.own; trail = q.trail; seen = q.seen }) whole);
-        },
+        (
+          record {
+            marks = t.marks ++ Entered w.place w.sections key ∷ Left w.place w.sections ∷ [];
+            plain = plain_z;
+            own = own_u ∙ own_z;
+            seen = subst (IsPrefix v.seen) (sym (ap (λ (q : View). q.seen) first)) (prefix_trans v.seen z.seen left.0.seen seen_z l.seen);
+            view = whole ∙ sym (ap (λ (q : View). record v { sections = q.sections; own = q.own; trail = q.trail; seen = q.seen }) whole);
+          },
+          searched_z,
+        ),
         (z, record { hold = new; class = ap (λ (h : Hold). h.class) n.only ∙ sym of; absent = absent; seen = seen_z; view = walked_is }, left),
         record { absent = full.absent key (sym class_new) absent; pairs = subst (λ d. HasPairs d (map_of (updates_of u.seen)) (capacity capacities d)) class_new full.pairs },
         refl,
@@ -228,6 +243,6 @@ module _ (v w x y z : View) (key class : ℕ) (answer : Option ℕ) (new : Hold)
   put_once capacities u value (Some number) of absent left added = added_once capacities u value number added
 
 -- a search that found the key
-pub found_once : (capacities : List ℕ) (v w x : View) (key value : ℕ) (answer : Option ℕ) → is_some answer ≡ true → HasTried v w → Looked w key answer x → PutsBy capacities v key value Old 0 x
+pub found_once : (capacities : List ℕ) (v w x : View) (key value : ℕ) (answer : Option ℕ) → is_some answer ≡ true → HasTried v key w → Looked w key answer x → PutsBy capacities v key value Old 0 x
 found_once capacities v w x key value None is t l = absurd (cc)
 found_once capacities v w x key value (Some old) is t l = (w, t, (old, l), refl)

@@ -36,10 +36,13 @@ pub record IsInformed (places : ℕ) (v : View) : Type 0 where
   pub met : (p : ℕ) → AnswersFor v p → own_of p v.seen ≡ own_of p v.own
   pub within : (p : ℕ) → places ≤ p → own_of p v.seen ≡ []
 
--- A lock that isn't free is held by a seat at a place of the table for which this one doesn't answer: the number is that place
--- plus 1.
+-- The number is a place of the table plus 1, and this view doesn't answer for that place.
+abbrev pub IsPlaceOfOther : ℕ → View → ℕ → Type 0
+IsPlaceOfOther places v found = (place : ℕ) × (found ≡ place + 1) × (place < places) × (AnswersFor v place → ⊥)
+
+-- where a lock isn't free, it names the place of who holds it
 abbrev pub IsHeldByOther : ℕ → View → ℕ → Type 0
-IsHeldByOther places v found = found ≢ 0 → (place : ℕ) × (found ≡ place + 1) × (place < places) × (AnswersFor v place → ⊥)
+IsHeldByOther places v found = found ≢ 0 → IsPlaceOfOther places v found
 
 -- a link is 0 or a slot of the class
 abbrev pub IsLink : List ℕ → ℕ → ℕ → Type 0

@@ -1,6 +1,7 @@
 //! The calls of the dictionary.
 ghost use Rattle.std.specs.Prelude.{◌≡◌, ◌≤◌};
 ghost use Rattle.hash_core.specs.Steps.{IsQuiet};
+ghost use Rattle.class_hash.specs.Answers.{IsInformed};
 ghost use Rattle.class_hash.specs.Replies.{Gets, told_added, Puts, Sets, Dels};
 
 use crate::bucket::free_bucket;
@@ -35,6 +36,8 @@ pub fn get<R: Wait>(rt: &R, table: &HashTable, seat: &mut HashSeat, key: u64) ->
     requires quiet { IsQuiet seat.old.view }
     ensures table { seat.new.table ≡ seat.old.table }
     ensures view { Gets seat.old.view key result seat.new.view }
+    ensures informed { IsInformed table.now.places seat.new.view }
+    ensures quiet { IsQuiet seat.new.view }
 {
     match search(rt, table, seat, key) {
         Some(value) => told(Reply::Val { value }, 0),
@@ -51,6 +54,8 @@ pub fn put<R: Wait>(rt: &R, table: &HashTable, seat: &mut HashSeat, key: u64, va
     requires ticket { 1 ≤ seat.old.view.tickets }
     ensures table { seat.new.table ≡ seat.old.table }
     ensures view { Puts table.now.capacities seat.old.view key value result seat.new.view }
+    ensures informed { IsInformed table.now.places seat.new.view }
+    ensures quiet { IsQuiet seat.new.view }
 {
     for _ in rt.forever() {
         if search(rt, table, seat, key).is_some() {
@@ -73,6 +78,8 @@ pub fn set<R: Wait>(rt: &R, table: &HashTable, seat: &mut HashSeat, key: u64, va
     requires ticket { 1 ≤ seat.old.view.tickets }
     ensures table { seat.new.table ≡ seat.old.table }
     ensures view { Sets seat.old.view key value result seat.new.view }
+    ensures informed { IsInformed table.now.places seat.new.view }
+    ensures quiet { IsQuiet seat.new.view }
 {
     for _ in rt.forever() {
         if search(rt, table, seat, key).is_none() {
@@ -96,6 +103,8 @@ pub fn del<R: Wait>(rt: &R, table: &HashTable, seat: &mut HashSeat, key: u64) ->
     requires ticket { 1 ≤ seat.old.view.tickets }
     ensures table { seat.new.table ≡ seat.old.table }
     ensures view { Dels seat.old.view key result seat.new.view }
+    ensures informed { IsInformed table.now.places seat.new.view }
+    ensures quiet { IsQuiet seat.new.view }
 {
     for _ in rt.forever() {
         if search(rt, table, seat, key).is_none() {
