@@ -54,13 +54,13 @@ module _ (k : Shape) (slots id : ℕ) (me : Me Nothing View) where
   class_inside : (c : ℕ) → c % 64 < 64
   class_inside c = omega arith
 
-  pub allows2 : (places : ℕ) → places ≡ k.places → Allows Holds slots id me 0 (λ n. n) (told2 places (step slots 0 0 0 none) me)
-  allows2 places all = subst (λ z. Allows Holds slots id me 0 (λ n. n) (told2 z (step slots 0 0 0 none) me)) (sym all)
+  pub allows2 : (places : ℕ) → places ≡ k.places → 1 ≤ me.0.places → Allows Holds slots id me 0 (λ n. n) (told2 places (step slots 0 0 0 none) me)
+  allows2 places all live = subst (λ z. Allows Holds slots id me 0 (λ n. n) (told2 z (step slots 0 0 0 none) me)) (sym all)
       (λ s r len at below.
       let n : ℕ = slice_index s.words 0 in
       let t = loads k id me.0 s.words s.views r at Front refl H2 n (λ w. told2 k.places (step slots 0 0 0 none) me n (w, me.1))
       (λ vs1 r1 at1. let v1 : View = trod me.0 H2 Front n in
-      (v1, r.marks, subst (λ z. M (memory_of k.capacities.items s.words) z r.marks) (sym (set_again vs1 id v1 at1)) r1, (refl, refl, few_tickets caps k.places k.tickets _ vs1 r.marks r1 id v1 at1, informed caps k.places k.tickets _ vs1 r.marks r1 id v1 at1))) in
+      (v1, r.marks, subst (λ z. M (memory_of k.capacities.items s.words) z r.marks) (sym (set_again vs1 id v1 at1)) r1, (refl, refl, few_tickets caps k.places k.tickets _ vs1 r.marks r1 id v1 at1, informed caps k.places k.tickets _ vs1 r.marks r1 id v1 at1 live))) in
       (t.0, keeps, tt, t.1, t.2))
 
   pub allows3 : (key word : ℕ) → word ≡ word_of (Readers (key % 64)) → key < 2 ^ 64 → 1 ≤ me.0.places → IsQuiet me.0
@@ -94,9 +94,9 @@ module _ (k : Shape) (slots id : ℕ) (me : Me Nothing View) where
         present = λ value is. subst (λ us. WasSaid us section.key section.from (Some value)) (sym same) (gives.present value is);
       }
 
-  pub allows4 : (places : ℕ) (section : Section) (word : ℕ) → places ≡ k.places → me.0.section ≡ Some section → word ≡ word_of (Readers (section.key % 64))
+  pub allows4 : (places : ℕ) (section : Section) (word : ℕ) → places ≡ k.places → 1 ≤ me.0.places → me.0.section ≡ Some section → word ≡ word_of (Readers (section.key % 64))
       → Allows Holds slots id me word (λ n. (n + (2 ^ 64 - 1)) % 2 ^ 64) (told4 places (step slots word 1 0 none) me)
-  allows4 places section word all inside at_word = subst (λ (z : ℕ × ℕ). Allows Holds slots id me z.0 (λ n. (n + (2 ^ 64 - 1)) % 2 ^ 64) (told4 z.1 (step slots z.0 1 0 none) me)) (λ i. (sym at_word i, sym all i))
+  allows4 places section word all live inside at_word = subst (λ (z : ℕ × ℕ). Allows Holds slots id me z.0 (λ n. (n + (2 ^ 64 - 1)) % 2 ^ 64) (told4 z.1 (step slots z.0 1 0 none) me)) (λ i. (sym at_word i, sym all i))
       (λ s r len at below.
       let field : Field = Readers (section.key % 64) in
       let is : is_field caps field ≡ true = lt-ltb (section.key % 64) 64 (class_inside section.key) in
@@ -116,7 +116,7 @@ module _ (k : Shape) (slots id : ℕ) (me : Me Nothing View) where
         (
           refl,
           (section, inside, (r.marks, r.holds.seen.begins id me.0 at, refl), left_answer section r.marks me.0.place (gives_answer caps k.places k.tickets _ s.views r.marks r.holds id me.0 at section inside)),
-          informed caps k.places k.tickets _ (set vs1 id w) (r.marks ++ Left me.0.place section.count ∷ []) rule id w (set_here vs1 id w (at_below vs1 id v1 at1)),
+          informed caps k.places k.tickets _ (set vs1 id w) (r.marks ++ Left me.0.place section.count ∷ []) rule id w (set_here vs1 id w (at_below vs1 id v1 at1)) live,
         ),
       )) in
       (t.0, keeps, tt, subst (λ z. Rule k (set s.words (word_of field) z) (set s.views id t.0)) (sym less) t.1, t.2))
@@ -173,13 +173,13 @@ module _ (k : Shape) (slots id : ℕ) (me : Me Nothing View) where
       (q.0, subst (λ z. Rule k (set s.words (word_of field) z) (set s.views id q.0)) same q.1, q.2)) in
       (t.0, keeps, tt, t.1, t.2))
 
-  pub allows7 : (places : ℕ) (hold : Hold) (word : ℕ) → places ≡ k.places → word ≡ word_of (Lock hold.class) → hold.class < 64 → Needs7 me.0 hold → Allows Holds slots id me word (λ _. 0) (λ _. told7 places (step slots word 0 0 none) me 0)
-  allows7 places hold word all at_word small needs = subst (λ (z : ℕ × ℕ). Allows Holds slots id me z.0 (λ _. 0) (λ _. told7 z.1 (step slots z.0 0 0 none) me 0)) (λ i. (sym at_word i, sym all i))
+  pub allows7 : (places : ℕ) (hold : Hold) (word : ℕ) → places ≡ k.places → 1 ≤ me.0.places → word ≡ word_of (Lock hold.class) → hold.class < 64 → Needs7 me.0 hold → Allows Holds slots id me word (λ _. 0) (λ _. told7 places (step slots word 0 0 none) me 0)
+  allows7 places hold word all live at_word small needs = subst (λ (z : ℕ × ℕ). Allows Holds slots id me z.0 (λ _. 0) (λ _. told7 z.1 (step slots z.0 0 0 none) me 0)) (λ i. (sym at_word i, sym all i))
       (λ s r len at below.
       let t = stores k id me.0 s.words s.views r at (Lock hold.class) (lt-ltb hold.class 64 small) H7 0 0 (λ w. told7 k.places (step slots (word_of (Lock hold.class)) 0 0 none) me 0 (w, me.1))
       (λ vs1 r1 at1. let v1 : View = trod me.0 H7 (Lock hold.class) 0 in
       let rule = law7 caps k.places k.tickets _ vs1 r.marks r1 id v1 at1 hold needs in
-      (after7 v1, r.marks, rule, (refl, (hold, needs.0, refl), informed caps k.places k.tickets _ (set vs1 id (after7 v1)) r.marks rule id (after7 v1) (set_here vs1 id (after7 v1) (at_below vs1 id v1 at1))))) in
+      (after7 v1, r.marks, rule, (refl, (hold, needs.0, refl), informed caps k.places k.tickets _ (set vs1 id (after7 v1)) r.marks rule id (after7 v1) (set_here vs1 id (after7 v1) (at_below vs1 id v1 at1)) live))) in
       (t.0, keeps, tt, t.1, t.2))
 
   pub allows8 : (hold : Hold) (word : ℕ) → word ≡ word_of (Readers hold.class) → hold.class < 64 → me.0.hold ≡ Some hold → Allows Holds slots id me word (λ n. n) (told8 (step slots word 0 0 none) me)

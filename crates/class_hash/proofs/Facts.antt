@@ -82,10 +82,11 @@ module _ (capacities : List ℕ) (places tickets : ℕ) (m : Memory) (vs : List 
   few_updates = let b = r.tickets_are in let c = r.shape.few_tickets in omega arith
 
   -- what the view has seen
-  pub informed : IsInformed places v
-  informed =
+  pub informed : 1 ≤ v.places → IsInformed places v
+  informed works =
       let more = r.seen.begins id v at in
       record {
+        works = works;
         legal = AreUpdatesFrom-front finite.empty (updates_of v.seen) (updates_of more.0) (subst IsLegal (ap updates_of (sym more.1) ∙ updates_of-append v.seen more.0) r.legal);
         met = λ p answers. r.owned.met id v p at answers;
         within = λ p far. front_none (own_of p v.seen) (own_of p more.0) (sym (own_of-append p v.seen more.0) ∙ ap (own_of p) more.1 ∙ r.owned.within p far);
@@ -103,12 +104,16 @@ module _ (capacities : List ℕ) (places tickets : ℕ) (m : Memory) (vs : List 
       by None locked = λ some_holder. absurd (some_holder locked.0)
       by (Some hold) locked = λ some_holder.
           let u : View = locked.1 in
-          let mine : AnswersFor locked.1 locked.1.place = (let works = (r.held.held locked.0 locked.1 hold locked.2 locked.3).1 in inl (omega arith, omega arith)) in
-          (locked.1.place, locked.5, r.apart.within locked.0 locked.1 locked.1.place locked.2 mine, λ also.
-          let same : id ≡ locked.0 = r.apart.apart id locked.0 locked.1.place v locked.1 at locked.2 also mine in
-          let one : v ≡ locked.1 = at_one vs id v locked.1 at (subst (λ z. get_elem? vs z ≡ some locked.1) (sym same) locked.2) in
-          let e : Some hold ≡ None = sym locked.3 ∙ ap (λ (z : View). z.hold) (sym one) ∙ quiet in
-          absurd (cc))
+          let mine : AnswersFor locked.1 locked.1.place = (let works = (r.held.held locked.0 locked.1 hold locked.2 locked.3).1 in inl (omega arith, omega arith)) in (
+            locked.1.place,
+            locked.5,
+            r.apart.within locked.0 locked.1 locked.1.place locked.2 mine,
+            λ also.
+                let same : id ≡ locked.0 = r.apart.apart id locked.0 locked.1.place v locked.1 at locked.2 also mine in
+                let one : v ≡ locked.1 = at_one vs id v locked.1 at (subst (λ z. get_elem? vs z ≡ some locked.1) (sym same) locked.2) in
+                let e : Some hold ≡ None = sym locked.3 ∙ ap (λ (z : View). z.hold) (sym one) ∙ quiet in
+                absurd (cc),
+          )
 
   mod_small : (key : ℕ) → key % 64 < 64
   mod_small key = omega arith

@@ -12,3 +12,4 @@ pub mod Trying
 pub mod Unlinking
 pub mod Filling
 pub mod Putting
+pub mod Clients

@@ -29,9 +29,10 @@ pub record GivesAnswer (seen : List Mark) (section : Section) : Type 0 where
 abbrev pub StandsInClass : List ℕ → Section → Type 0
 StandsInClass capacities section = (slot : ℕ) → StandsAt section.stand slot → is_slot_of capacities (section.key % 64) slot ≡ true
 
--- What a seat has seen: its updates are a history; the marks of each place for which it answers are those that it has; and
--- places that the table hasn't have none.
+-- What a seat has seen, which works at a place: its updates are a history; the marks of each place for which it answers are
+-- those that it has; and places that the table hasn't have none.
 pub record IsInformed (places : ℕ) (v : View) : Type 0 where
+  pub works : 1 ≤ v.places
   pub legal : IsLegal (updates_of v.seen)
   pub met : (p : ℕ) → AnswersFor v p → own_of p v.seen ≡ own_of p v.own
   pub within : (p : ℕ) → places ≤ p → own_of p v.seen ≡ []

@@ -11,3 +11,4 @@ pub mod Walks
 pub mod Replies
 pub mod Updates
 pub mod Puts
+pub mod Clients

@@ -101,8 +101,8 @@ module _ (vs : List View) (id : ℕ) (v w : View) (at : get_elem? vs id ≡ some
       let own_else : (p : ℕ) → p ≢ v.place → own_of p w.own ≡ own_of p v.own = λ p ne. ap (own_of p) own ∙ own_of-append p v.own (m ∷ []) ∙ ap (λ z. own_of p v.own ++ z) (none_one p ne) ∙ append-nil (own_of p v.own) in
       let at_place : AnswersFor v v.place = inl (omega arith, omega arith) in
       let own_now : (p : ℕ) → AnswersFor w p → own_of p (h ++ m ∷ ms) ≡ own_of p w.own = λ p mine. dite (ℕ_discrete p v.place)
-          (λ e. subst (λ q. own_of q (h ++ m ∷ ms) ≡ own_of q w.own) (sym e) (h_here ∙ ap (λ z. z ++ m ∷ []) (s.own id v v.place at at_place) ∙ sym own_here))
-          (λ ne. h_else p ne ∙ s.own id v p at (answers_back p same mine) ∙ sym (own_else p ne)) in
+      (λ e. subst (λ q. own_of q (h ++ m ∷ ms) ≡ own_of q w.own) (sym e) (h_here ∙ ap (λ z. z ++ m ∷ []) (s.own id v v.place at at_place) ∙ sym own_here))
+      (λ ne. h_else p ne ∙ s.own id v p at (answers_back p same mine) ∙ sym (own_else p ne)) in
       record {
         own = λ j u p there a. each_set (λ k z. AnswersFor z p → own_of p (h ++ m ∷ ms) ≡ own_of p z.own) vs id w (own_now p)
             (λ k z other e theirs. h_else p (λ f. other (apart.apart k id p z v e at theirs (subst (AnswersFor v) (sym f) at_place))) ∙ s.own k z p e theirs) j u there a;

@@ -18,7 +18,7 @@ use Rattle.prcu_model.specs.Replies.{Confirms, tells_update}
 use Rattle.prcu_model.specs.Marks.{updates_of, is_of, own_of}
 use Rattle.prcu_model.specs.Fronts.{told_lines, Placed, own_updates, own_updates_from, told_updates, IsConfirmed, MayStandBy, MayStandBesideBy}
 use Rattle.prcu_model.specs.Chains.{IsChain}
-use Rattle.prcu_model.specs.Callers.{Caller, HasSeenItsOwn, IsLeftBy, entered_for, WaitsFor, HasMadeUpdate, WasExplained, HasAnswered}
+use Rattle.prcu_model.specs.Callers.{Caller, HasSeenItsOwn, IsLeftBy, entered_for, WaitsFor, HasMadeUpdate, WasExplained, HasAnswered, MeetsFronts}
 use Rattle.prcu_model.specs.Runs.{asking}
 use Rattle.prcu_model.proofs.Chains.{chain_carries}
 use Rattle.prcu_model.proofs.ListFacts.{prefix_self, prefix_trans, all_map, all_append}
@@ -307,3 +307,12 @@ chain_tells made caller_of explains answers ops tolds before after met none chai
     chain_carries made (λ os ts c. HasTold explains (caller_of before) os ts (caller_of c))
     (λ os ts c op told d so_far call. told_more explains (caller_of before) os ts (caller_of c) so_far op told (caller_of d) (answers c op told d call))
     [] [] ops tolds before after (told_nothing explains (caller_of before) met none) chain
+
+-- so the lines meet what is asked of one caller's
+pub told_meets : (explains : Dictionary → Op → Reply → Type 0) (start : Caller) (ops : List Op) (tolds : List Told) (c : Caller) → HasTold explains start ops tolds c → MeetsFronts explains (updates_of c.seen) start.place (told_lines ops tolds)
+told_meets explains start ops tolds c told = record {
+  updates = told.updates;
+  confirmed = all_map (IsSettled (updates_of c.seen)) (IsConfirmed (updates_of c.seen)) (told_lines ops tolds) (λ line s. s.confirmed) told.settled;
+  numbers = told.numbers;
+  fronts = told.beside;
+}

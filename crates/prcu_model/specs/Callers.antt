@@ -13,6 +13,8 @@ use Rattle.prcu_model.specs.declared.operation.Told.{Told}
 use Rattle.prcu_model.specs.declared.operation.Update.{Update}
 use Rattle.prcu_model.specs.Dictionary.{Dictionary, key_of, map_at}
 use Rattle.prcu_model.specs.Replies.{Confirms, tells_update}
+use Rattle.prcu_model.specs.declared.operation.Line.{Line}
+use Rattle.prcu_model.specs.Fronts.{own_updates, told_updates, IsConfirmed, MayStandBesideBy}
 use Rattle.prcu_model.specs.Marks.{updates_of, own_of}
 
 -- a caller: its place, the marks that it left, and those that it has seen
@@ -88,3 +90,12 @@ pub record HasAnswered (explains : Dictionary → Op → Reply → Type 0) (befo
   pub since : IsPrefix before.seen after.seen
   pub met : HasSeenItsOwn after
   pub reply : MatchBool (tells_update told.reply) (HasMadeUpdate before op told marks after.seen) (WasExplained explains before op told marks after.seen)
+
+-- What is asked of the lines of one caller, as far as they go, where it has seen this history: the updates that they tell of are
+-- just its own, with their positions; each reply that tells of one is confirmed; and the other lines have fronts, so that the
+-- numbers never fall.
+pub record MeetsFronts (explains : Dictionary → Op → Reply → Type 0) (history : List Update) (place : ℕ) (lines : List Line) : Type 0 where
+  pub updates : own_updates place history ≡ told_updates lines
+  pub confirmed : AllByRecursion (IsConfirmed history) lines
+  pub numbers : List ℕ
+  pub fronts : MayStandBesideBy explains history 0 lines numbers

@@ -64,7 +64,10 @@ fn unlocks<A: Detail>(table: &HashTable, seat: &mut HashSeat)
         class: seat.class_held(),
     });
     seat.bucket = None;
-    table.table.shared.store::<Told7<A>>(&mut seat.seat, word, 0);
+    table
+        .table
+        .shared
+        .store::<Told7<A>>(&mut seat.seat, word, 0);
 }
 
 /// H7: gives the lock up.
