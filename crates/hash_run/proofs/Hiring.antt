@@ -1,5 +1,5 @@
 -- Workers hired one after another.
-use Rattle.std.proofs.Common.{◌≡◌, ℕ, ◌+◌, ◌-◌, ◌<◌, ◌≤◌, List, [], ◌∷◌, ◌++◌, length, drop, get_or, Some, inl, inr, refl, sym, ap, subst, ◌∙◌, arith, length-append}
+use Rattle.std.proofs.Common.{◌≡◌, ℕ, ◌+◌, ◌-◌, ◌≤◌, List, [], ◌∷◌, ◌++◌, length, drop, get_or, Some, inl, inr, refl, sym, ap, subst, ◌∙◌, arith, length-append}
 use Rattle.std.specs.List.{slice_get}
 use Rattle.std.proofs.lemmas.Bool.{cases_lt}
 use Rattle.std.proofs.lemmas.List.{get_or_append_left, get_or_push}
@@ -9,11 +9,10 @@ use Rattle.prcu_model.specs.declared.operation.Op.{Op}
 use Rattle.prcu_model.specs.Scripts.{op_count}
 use Rattle.prcu_model.proofs.ToldLists.{drop-there}
 use Rattle.client_run.specs.Workers.{Work}
-use Rattle.hash_core.specs.declared.view.View.{View}
 use Rattle.hash_core.specs.Steps.{first_of, second_of}
 use Rattle.class_hash.specs.Seats.{TableAt}
 use Rattle.class_hash.specs.Clients.{ClientAt}
-use Rattle.hash_run.specs.Crews.{idle_view, IsHired, IsCrew}
+use Rattle.hash_run.specs.Crews.{idle_view, IsHired}
 
 -- the first so many scripts have their workers
 pub record AreHired (table : TableAt) (scripts : List (List Op)) (n : ℕ) (workers : List (Work ClientAt)) : Type 0 where

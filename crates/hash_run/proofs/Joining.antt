@@ -1,11 +1,10 @@
 -- Seats joined one after another.
-use Rattle.std.proofs.Common.{◌≡◌, ℕ, ◌+◌, ◌<◌, ◌≤◌, List, [], ◌∷◌, ◌++◌, length, map, get_or, Some, None, inl, inr, refl, sym, ap, subst, ◌∙◌, arith, append_assoc, append-nil, length-append}
+use Rattle.std.proofs.Common.{◌≡◌, ℕ, ◌+◌, ◌<◌, ◌≤◌, List, [], ◌∷◌, ◌++◌, length, map, Some, inl, inr, refl, sym, ap, subst, ◌∙◌, arith, append_assoc, append-nil, length-append}
 use Rattle.std.specs.List.{slice_get}
 use Rattle.std.proofs.lemmas.Bool.{cases_lt}
 use Rattle.std.proofs.lemmas.List.{get_or_append_left, get_or_push, length-map}
 use Rattle.std.proofs.lemmas.Option.{slice_get-get_or, slice_get_within, get_or_from_slice_get}
 use mathlib.Core.List.{IsPrefix}
-use Rattle.prcu_model.specs.declared.mark.Mark.{Mark}
 use Rattle.prcu_model.specs.declared.operation.Told.{Told}
 use Rattle.prcu_model.specs.Lists.{Roomy}
 use Rattle.prcu_model.proofs.ListFacts.{prefix_self, prefix_trans}
@@ -14,7 +13,7 @@ use Rattle.hash_core.specs.declared.view.View.{View}
 use Rattle.hash_core.specs.declared.words.Field.TheVariants.{Front}
 use Rattle.hash_core.specs.declared.words.Kind.TheVariants.{H2}
 use Rattle.hash_core.specs.Lists.{times}
-use Rattle.hash_core.specs.Seats.{HasPlace, AnswersFor}
+use Rattle.hash_core.specs.Seats.{AnswersFor}
 use Rattle.hash_core.specs.Steps.{trod, IsQuiet, both_of, places_from}
 use Rattle.hash_core.proofs.Lists.{times_append}
 use Rattle.hash_core.proofs.Splits.{from_times}

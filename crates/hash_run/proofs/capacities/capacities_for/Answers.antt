@@ -1,7 +1,6 @@
-use Rattle.std.proofs.Common.{◌≡◌, ℕ, ◌+◌, ◌<◌, ◌≤◌, List, length, get_or, replicate, sum, subst, sym, ap, refl, ◌∙◌, arith}
+use Rattle.std.proofs.Common.{◌≡◌, replicate, sum, subst, sym, ap, refl, ◌∙◌, arith}
 use Rattle.std.specs.FinMap as map
 use Rattle.std.proofs.lemmas.List.{get_or-replicate}
-use Rattle.prcu_model.specs.declared.operation.Update.{Update}
 use Rattle.prcu_model.specs.Dictionary.{Dictionary, map_of}
 use Rattle.hash_run.specs.Capacities.{all_puts, class_counts, AreCapacities}
 use Rattle.hash_run.proofs.Counts.{few_keys, sum-class_counts, counted}

@@ -1,14 +1,12 @@
-use Rattle.std.proofs.Common.{◌≡◌, ℕ, ◌+◌, ◌-◌, ◌<◌, ◌≤◌, List, [], ◌∷◌, ◌++◌, length, get_or, drop, Some, refl, ap, sym, subst, ◌∙◌, arith}
+use Rattle.std.proofs.Common.{◌≡◌, ◌+◌, ◌-◌, List, [], length, get_or, drop, Some, ap, sym, subst, ◌∙◌, arith}
 use Rattle.std.proofs.lemmas.List.{drop_all}
 use Rattle.std.proofs.lemmas.Option.{get_or_from_slice_get}
 use Rattle.prcu_model.specs.declared.operation.Op.{Op}
 use Rattle.prcu_model.specs.Scripts.{op_count}
 use Rattle.hash_core.specs.declared.view.View.{View}
 use Rattle.hash_core.specs.Steps.{first_of, second_of}
-use Rattle.client_run.specs.Workers.{Work}
-use Rattle.class_hash.specs.Clients.{ClientAt}
 use Rattle.hash_run.specs.Crews.{idle_view, IsHired, IsCrew}
-use Rattle.hash_run.proofs.Hiring.{AreHired, hired_none, hired_more, tickets_turn, idle_first, idle_second}
+use Rattle.hash_run.proofs.Hiring.{AreHired, hired_more, tickets_turn, idle_first, idle_second}
 use Rattle.hash_run.proofs.crew.hire.Goals as goal
 
 pub overflow_sub-tickets : goal.overflow_sub-tickets

@@ -1,11 +1,5 @@
-use Rattle.std.proofs.Common.{rules, arith, ◌≡◌, ◌≤◌, List, [], ◌∷◌, length, map, sym, ap, subst, ◌∙◌, ◌++◌, length-append}
-use Rattle.prcu_model.specs.declared.operation.Told.{Told}
-use Rattle.prcu_model.specs.Lists.{Roomy}
-use Rattle.hash_core.specs.declared.view.View.{View}
-use Rattle.client_run.specs.Workers.{Work}
-use Rattle.class_hash.specs.Clients.{ClientAt}
-use Rattle.hash_run.specs.Crews.{IsJoined}
-use Rattle.hash_run.proofs.Joining.{IsGathered, gathered_first, gathered_more, gathered_all, next_of_table, first_of_table}
+use Rattle.std.proofs.Common.{arith, ◌∙◌}
+use Rattle.hash_run.proofs.Joining.{gathered_first, gathered_more, next_of_table, first_of_table}
 use Rattle.hash_run.proofs.gathering.gather.Goals as goal
 
 pub loop-seat-init : goal.loop-seat-init
