@@ -2,7 +2,6 @@
 use Rattle.std.proofs.Common.{◌≡◌, ◌≢◌, ℕ, ◌==◌, Bool, true, false, cond, List, [], ◌∷◌, ◌++◌, Option, Some, None, IfSome, refl, sym, ap, subst, ◌∙◌}
 use Rattle.std.specs.List.{AllByRecursion}
 use mathlib.Core.List.{IsPrefix}
-use Rattle.prcu_model.specs.declared.mark.Mark.{Mark}
 use Rattle.hash_core.specs.declared.words.Field.{Field}
 use Rattle.hash_core.specs.declared.words.Field.TheVariants.{Head, Free, Key, Next}
 use Rattle.hash_core.specs.declared.words.Kind.TheVariants.{H9}
@@ -13,7 +12,7 @@ use Rattle.hash_core.specs.Memory.{same_field}
 use Rattle.hash_core.specs.Slots.{is_slot_of}
 use Rattle.hash_core.specs.Known.{known_in, knowing, IsWholeWalk, LacksKey, ShowsAbsent, ComesTo, IsOnWalk}
 use Rattle.hash_core.specs.Steps.{trod, after9}
-use Rattle.prcu_model.proofs.ListFacts.{prefix_self, prefix_more, prefix_trans}
+use Rattle.prcu_model.proofs.ListFacts.{prefix_self, prefix_trans}
 use Rattle.hash_core.proofs.Stores.{same_self, same_is}
 use Rattle.class_hash.specs.Answers.{IsLinkOf}
 use Rattle.class_hash.specs.Stepped.{Loads}

@@ -4,6 +4,7 @@ use prcu_model::{Reply, Told};
 use std::test::Fail;
 
 mod readers;
+mod run;
 
 fn answer(reply: Reply, number: u64) -> Told {
     Told { reply, number }

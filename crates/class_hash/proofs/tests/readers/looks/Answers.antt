@@ -1,7 +1,5 @@
 use Rattle.std.proofs.Common.{◌≡◌, ◌≢◌, Some, refl, sym, ap, subst, ◌∙◌}
 use Rattle.prcu_model.specs.declared.mark.Why.{Why}
-use Rattle.prcu_model.specs.declared.mark.Why.TheVariants.{Counter}
-use Rattle.hash_core.specs.declared.view.Hold.{Hold}
 use Rattle.hash_core.specs.declared.view.View.{View}
 use Rattle.hash_core.specs.Steps.{Needs7}
 use Rattle.class_hash.specs.declared.bucket.Poll.{Poll}
