@@ -16,7 +16,7 @@ use Rattle.hash_core.specs.Steps.{trod, Needs7, Needs13, Needs16, after7, after1
 use Rattle.class_hash.specs.Stepped.{Unlocks, Evens, Links}
 use Rattle.class_hash.specs.Updates.{HasTurned}
 use Rattle.class_hash.specs.Puts.{HasFree, MayAdd, MayFill, MayLink, Filled, Linked, Added}
-use Rattle.prcu_model.proofs.ListFacts.{prefix_trans}
+use Rattle.prcu_model.proofs.ListFacts.{prefix_self, prefix_more, prefix_trans}
 
 -- the front was made odd, the slot linked, the front made even, and the lock given up
 module _ (v : View) (slot key value : ℕ) (may : MayLink v slot key value) (even : ℕ) (x1 : View) (t : HasTurned v even x1) where
@@ -68,6 +68,7 @@ module _ (v : View) (slot key value : ℕ) (may : MayLink v slot key value) (eve
             since = subst (λ (z : View). IsPrefix z.seen c.2.0) t.view c.2.1;
             legal = subst (λ z. IsLegal (updates_of z)) (sym seen4) c.3.legal;
             number_is = (let p = c.3.position in let half : even / 2 + 1 ≡ length (updates_of x2.seen) = omega arith in half) ∙ ap (λ z. length (updates_of z)) (sym seen4);
+            trail = subst (λ (z : View). IsPrefix v.trail z.trail) (sym last) (prefix_more v.trail _ _ (prefix_more v.trail _ _ (prefix_more v.trail x1.trail _ t.trail)));
             view = last ∙ ap (λ (q : Option Turn). record (after7 (trod v3 H7 (Lock e.0.class) 0)) { turn = q }) (sym may.turn)
                 ∙ sym (ap (λ (z : View). record v { tickets = v.tickets - 1; hold = None; own = v.own ++ Done (record { caller = v.place; op = Put key value }) ∷ []; trail = z.trail; seen = c.2.0 ++ Done (record { caller = v.place; op = Put key value }) ∷ [] }) last);
           }
@@ -87,10 +88,13 @@ may_fill capacities v x key free slot may f is =
       slot_is = subst (λ c. is_slot_of capacities c free ≡ true) (sym f.class) f.slot_is;
     })
 
-pub added : (capacities : List ℕ) (v x y w : View) (key value free slot number : ℕ) → HasFree capacities v free x → Filled x slot key value y → Linked y key value number w → Added v key value number w
+pub added : (capacities : List ℕ) (v x y w : View) (key value free slot number : ℕ) → HasFree capacities v free x → Filled x slot key value y → Linked y key value number w → Added capacities v key value number w
 added capacities v x y w key value free slot number f g l =
     let F : View → View = λ z. record z { tickets = z.tickets - 1; hold = None; own = z.own ++ Done (record { caller = z.place; op = Put key value }) ∷ []; trail = w.trail; seen = l.before ++ Done (record { caller = z.place; op = Put key value }) ∷ [] } in
     let since : IsPrefix v.seen g.before = prefix_trans v.seen x.seen g.before f.seen g.since in
+    let listed : IsPrefix v.trail f.room.listed.trail = subst (IsPrefix v.trail) (sym f.room.lists.trail) (prefix_more v.trail _ _ (prefix_more v.trail v.trail _ (prefix_self v.trail))) in
+    let from_v : IsPrefix v.trail x.trail = prefix_trans v.trail f.room.listed.trail x.trail listed f.room.trail in
+    let until_w : IsPrefix x.trail w.trail = prefix_trans x.trail y.trail w.trail g.trail l.trail in
     let until : IsPrefix (g.before ++ Given slot ∷ []) l.before = subst (λ (z : View). IsPrefix z.seen l.before) g.view l.since in
     record {
       linked = record {
@@ -98,8 +102,10 @@ added capacities v x y w key value free slot number f g l =
         since = prefix_trans v.seen g.before l.before since (prefix_trans g.before (g.before ++ Given slot ∷ []) l.before (Given slot ∷ [], refl) until);
         legal = l.legal;
         number_is = l.number_is;
+        trail = prefix_trans v.trail x.trail w.trail from_v until_w;
         view = l.view ∙ ap F g.view ∙ ap F f.view;
       };
       slot = slot;
       given = record { before = g.before; since = since; until = until };
+      room = record { listed = f.room.listed; free = f.room.free; retired = f.room.retired; lists = f.room.lists; some = f.room.some; trail = prefix_trans f.room.listed.trail x.trail w.trail f.room.trail until_w };
     }

@@ -12,7 +12,7 @@ use Rattle.hash_core.specs.Memory.{same_field}
 use Rattle.hash_core.specs.Slots.{is_slot_of}
 use Rattle.hash_core.specs.Known.{known_in, knowing, IsWholeWalk, LacksKey, ShowsAbsent, ComesTo, IsOnWalk}
 use Rattle.hash_core.specs.Steps.{trod, after9}
-use Rattle.prcu_model.proofs.ListFacts.{prefix_self, prefix_trans}
+use Rattle.prcu_model.proofs.ListFacts.{prefix_self, prefix_more, prefix_trans}
 use Rattle.hash_core.proofs.Stores.{same_self, same_is}
 use Rattle.class_hash.specs.Answers.{IsLinkOf}
 use Rattle.class_hash.specs.Stepped.{Loads}
@@ -62,7 +62,7 @@ comes_to known first (s ∷ ss) slot ne c = (c.0, c.1, (c.2.0, c.2.1, comes_to k
 
 -- nothing was loaded yet
 pub not_loaded : (v : View) (hold : Hold) → v.hold ≡ Some hold → HasLoaded v hold v hold
-not_loaded v hold was = record { was = was; more = λ f n is. is; only = refl; seen = prefix_self v.seen; view = λ j. record v { hold = was j } }
+not_loaded v hold was = record { was = was; more = λ f n is. is; only = refl; trail = prefix_self v.trail; seen = prefix_self v.seen; view = λ j. record v { hold = was j } }
 
 -- one more load
 module _ (capacities : List ℕ) (v : View) (hold : Hold) (w : View) (now : Hold) (loaded : HasLoaded v hold w now) (field : Field) (n : ℕ) (x : View) (s : Loads capacities w field n x) where
@@ -92,6 +92,7 @@ module _ (capacities : List ℕ) (v : View) (hold : Hold) (w : View) (now : Hold
         was = loaded.was;
         more = λ f number is. knows_more f number (loaded.more f number is);
         only = λ j. record (loaded.only j) { known = record { field = field; number = n } ∷ now.known };
+        trail = subst (λ (z : View). IsPrefix v.trail z.trail) (sym after) (prefix_more v.trail w.trail _ loaded.trail);
         seen = subst (λ (z : View). IsPrefix v.seen z.seen) (sym after) (by (n == 0) longer);
         view = after ∙ (λ j. record (loaded.view j) { hold = Some (knowing now field n); trail = there.trail; seen = there.seen }) ∙ (λ j. record v { hold = Some (knowing now field n); trail = (sym after j).trail; seen = (sym after j).seen });
       }

@@ -19,6 +19,7 @@ pub record HasLoaded (v : View) (hold : Hold) (w : View) (new : Hold) : Type 0 w
   pub was : v.hold ≡ Some hold
   pub more : KnowsMore hold.known new.known
   pub only : new ≡ record hold { known = new.known }
+  pub trail : IsPrefix v.trail w.trail
   pub seen : IsPrefix v.seen w.seen
   pub view : w ≡ record v { hold = Some new; trail = w.trail; seen = w.seen }
 

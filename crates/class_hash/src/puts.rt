@@ -102,7 +102,7 @@ pub(crate) fn add<R: Wait>(
     requires case { MayAdd seat.old.view key }
     ensures table { seat.new.table ≡ seat.old.table }
     ensures full { IfNone result (LeavesFull table.now.capacities seat.old.view seat.new.view) }
-    ensures added { IfSome result (λ number. Added seat.old.view key value number seat.new.view) }
+    ensures added { IfSome result (λ number. Added table.now.capacities seat.old.view key value number seat.new.view) }
     ensures informed { IsInformed table.now.places seat.new.view }
 {
     let free = find_free(rt, table, seat);

@@ -5,19 +5,21 @@ use Rattle.hash_core.specs.Steps.{Needs7}
 use Rattle.class_hash.specs.declared.bucket.Poll.{Poll}
 use Rattle.class_hash.specs.declared.bucket.Poll.TheVariants.{Over, NotYet}
 use Rattle.class_hash.specs.Calls.{HasFinished, MayPoll, Polls, polled}
+use Rattle.class_hash.specs.Updates.{HasStepped}
+use Rattle.class_hash.proofs.Updating.{not_stepped}
 use Rattle.class_hash.proofs.Filling.{may_poll_still, waited_on}
 use Rattle.class_hash.proofs.tests.readers.looks.Goals as goal
 
-waited : (v w : View) (why : Why) → Polls v (NotYet why) w → w ≡ record v { trail = w.trail }
-waited v w why p = waited_on v v w why refl p
+waited : (v w : View) (why : Why) → Polls v (NotYet why) w → HasStepped v w
+waited v w why p = waited_on v v w why (not_stepped v) p
 
 same_section : (v w : View) (poll : Poll) → Polls v poll w → w.section ≡ v.section
 same_section v w Over p = ap (λ (z : View). z.section) p.rest
-same_section v w (NotYet why) p = ap (λ (z : View). z.section) (waited v w why p)
+same_section v w (NotYet why) p = ap (λ (z : View). z.section) (waited v w why p).view
 
 same_tickets : (v w : View) (poll : Poll) → Polls v poll w → w.tickets ≡ v.tickets
 same_tickets v w Over p = ap (λ (z : View). z.tickets) p.rest
-same_tickets v w (NotYet why) p = ap (λ (z : View). z.tickets) (waited v w why p)
+same_tickets v w (NotYet why) p = ap (λ (z : View). z.tickets) (waited v w why p).view
 
 finished : (v w : View) (poll : Poll) → MayPoll v → Polls v poll w → HasFinished w
 finished v w Over may p =
