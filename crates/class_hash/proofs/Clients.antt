@@ -147,7 +147,7 @@ module _ (explains : Dictionary → Op → Reply → Type 0) (v w : View) (op : 
       at_end (y ∷ us) x = at_end us x
 
 nothing_before : (v : View) (key : ℕ) → HasTried v key v
-nothing_before v key = record { marks = []; plain = tt; own = sym (append-nil v.own); trail = prefix_self v.trail; seen = prefix_self v.seen; view = refl }
+nothing_before v key = record { marks = []; plain = tt; own = sym (append-nil v.own); seen = prefix_self v.seen; view = refl }
 
 absent : (capacities : List ℕ) (m : Dictionary) (key : ℕ) → finite.get m key ≡ None → finite.contains_key m key ≡ false
 absent capacities m key none = ap is_some none

@@ -1,4 +1,5 @@
 pub mod Plumbing
+pub mod Trails
 pub mod Readers
 pub mod Facts
 pub mod Allowed

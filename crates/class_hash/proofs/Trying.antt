@@ -18,10 +18,12 @@ use Rattle.hash_core.specs.Slots.{capacity, is_slot_of, IsOfClass}
 use Rattle.class_hash.specs.Answers.{IsFull}
 use Rattle.hash_core.specs.Known.{ShowsAbsent}
 use Rattle.hash_core.specs.Steps.{trod, IsQuiet, Needs7, after7, fresh_hold}
-use Rattle.prcu_model.proofs.ListFacts.{all_append, prefix_self, prefix_more, prefix_trans}
+use Rattle.prcu_model.proofs.ListFacts.{all_append, prefix_self, prefix_trans}
+use Rattle.class_hash.proofs.Trails.{adds_step, adds_both}
 use Rattle.prcu_model.specs.Callers.{entered_for}
 use Rattle.prcu_model.proofs.OwnMarks.{entered_for-append}
 use Rattle.class_hash.specs.Stepped.{Unlocks}
+use Rattle.class_hash.specs.Trails.{AddsNoLists}
 use Rattle.class_hash.specs.Lookups.{Looked}
 use Rattle.class_hash.specs.Walks.{HasLoaded, IsFoundAt}
 use Rattle.class_hash.specs.Updates.{HasLocked, MayReplace, Replaced, link_after, MayUnlink, Removed}
@@ -30,7 +32,7 @@ use Rattle.class_hash.specs.Puts.{MayAdd, Linked, Added, LeavesFull}
 use Rattle.class_hash.specs.Replies.{IsOfSection, HasTried, HasWalked, told_added, PutsBy, Puts, SetsBy, DelsBy}
 
 pub nothing_tried : (v : View) (key : ℕ) → HasTried v key v
-nothing_tried v key = record { marks = []; plain = tt; own = sym (append-nil v.own); trail = prefix_self v.trail; seen = prefix_self v.seen; view = refl }
+nothing_tried v key = record { marks = []; plain = tt; own = sym (append-nil v.own); seen = prefix_self v.seen; view = refl }
 
 pub still_quiet : (v w : View) (key : ℕ) → IsQuiet v → HasTried v key w → IsQuiet w
 still_quiet v w key quiet t = (ap (λ (z : View). z.section) t.view ∙ quiet.0, ap (λ (z : View). z.hold) t.view ∙ quiet.1)
@@ -63,11 +65,11 @@ module _ (v w x y z : View) (key class : ℕ) (answer : Option ℕ) (new : Hold)
   seen_z : IsPrefix v.seen z.seen
   seen_z = prefix_trans v.seen w.seen z.seen t.seen (prefix_trans w.seen x.seen z.seen seen_x (subst (λ s. IsPrefix s z.seen) (ap (λ (u : View). u.seen) k.view) n.seen))
 
-  -- the steps so far are those of the start, and more
-  trail_z : IsPrefix v.trail z.trail
-  trail_z =
-      let found : IsPrefix w.trail x.trail = subst (λ (u : View). IsPrefix w.trail u.trail) (sym l.view) (l.steps, refl) in
-      prefix_trans v.trail w.trail z.trail t.trail (prefix_trans w.trail x.trail z.trail found (prefix_trans x.trail y.trail z.trail k.trail n.trail))
+  -- the lists weren't loaded
+  trail_z : AddsNoLists v.trail w.trail → AddsNoLists v.trail z.trail
+  trail_z before =
+      let searched : AddsNoLists w.trail x.trail = record { steps = l.steps; plain = l.plain; trail = ap (λ (u : View). u.trail) l.view } in
+      adds_both v.trail w.trail z.trail before (adds_both w.trail x.trail z.trail searched (adds_both x.trail y.trail z.trail k.trail n.trail))
 
   own_z : z.own ≡ v.own ++ (t.marks ++ Entered w.place w.sections key ∷ Left w.place w.sections ∷ [])
   own_z = ap (λ (u : View). u.own) z_is ∙ append_assoc w.own (Entered w.place w.sections key ∷ []) (Left w.place w.sections ∷ [])
@@ -114,10 +116,12 @@ module _ (v w x y z : View) (key class : ℕ) (answer : Option ℕ) (new : Hold)
         marks = t.marks ++ Entered w.place w.sections key ∷ Left w.place w.sections ∷ [];
         plain = plain_z;
         own = ap (λ (y : View). y.own) e.2 ∙ own_z;
-        trail = subst (λ (y : View). IsPrefix v.trail y.trail) (sym e.2) (prefix_more v.trail z.trail _ trail_z);
         seen = subst (IsPrefix v.seen) (sym (ap (λ (y : View). y.seen) e.2)) seen_z;
         view = whole ∙ sym (ap (λ (y : View). record v { sections = y.sections; own = y.own; trail = y.trail; seen = y.seen }) whole);
       }
+
+  pub tried_on : AddsNoLists v.trail w.trail → (u : View) → Unlocks z u → AddsNoLists v.trail u.trail
+  tried_on before u e = subst (λ (y : View). AddsNoLists v.trail y.trail) (sym e.2) (adds_step v.trail z.trail H7 (Lock e.0.class) 0 refl (trail_z before))
 
   pub updated_once : (u : View) (value old number : ℕ) → Replaced z key value old number u → SetsBy v key value (Was old) number u
   updated_once u value old number r =
@@ -192,11 +196,11 @@ module _ (v w x y z : View) (key class : ℕ) (answer : Option ℕ) (new : Hold)
       let whole : z ≡ record walked { section = v.section } = z_is ∙ ap (λ q. record walked { section = q }) (sym quiet.0) in
       whole ∙ sym (ap (λ (y : View). record v { sections = y.sections; hold = Some new; own = y.own; trail = y.trail; seen = y.seen }) whole)
 
-  has_walked : key % 64 ≡ class → ShowsAbsent new key → HasWalked v key z
-  has_walked of absent = record { hold = new; class = ap (λ (h : Hold). h.class) n.only ∙ sym of; absent = absent; trail = trail_z; seen = seen_z; view = walked_is }
+  has_walked : AddsNoLists v.trail w.trail → key % 64 ≡ class → ShowsAbsent new key → HasWalked v key z
+  has_walked before of absent = record { hold = new; class = ap (λ (h : Hold). h.class) n.only ∙ sym of; absent = absent; trail = trail_z before; seen = seen_z; view = walked_is }
 
-  pub added_once : (capacities : List ℕ) (u : View) (value number : ℕ) → key % 64 ≡ class → ShowsAbsent new key → Added capacities z key value number u → PutsBy capacities v key value New number u
-  added_once capacities u value number of absent a =
+  pub added_once : (capacities : List ℕ) (u : View) (value number : ℕ) → AddsNoLists v.trail w.trail → key % 64 ≡ class → ShowsAbsent new key → Added capacities z key value number u → PutsBy capacities v key value New number u
+  added_once capacities u value number before of absent a =
       let r : Linked z key value number u = a.linked in
       let place : z.place ≡ v.place = ap (λ (y : View). y.place) z_is in
       let F : View → View = λ y. record y { tickets = y.tickets - 1; hold = None; own = z.own ++ Done (record { caller = z.place; op = Put key value }) ∷ []; trail = u.trail; seen = r.before ++ Done (record { caller = z.place; op = Put key value }) ∷ [] } in
@@ -217,11 +221,11 @@ module _ (v w x y z : View) (key class : ℕ) (answer : Option ℕ) (new : Hold)
           view = whole ∙ sym (ap (λ (y : View). record v { tickets = v.tickets - 1; sections = y.sections; own = y.own; trail = y.trail; seen = y.seen }) whole);
         },
         record { before = a.given.before; since = prefix_trans v.seen z.seen a.given.before seen_z a.given.since; until = a.given.until },
-        (z, has_walked of absent, a.room),
+        (z, has_walked before of absent, a.room),
       )
 
-  pub full_once : (capacities : List ℕ) (u : View) (value : ℕ) → key % 64 ≡ class → ShowsAbsent new key → LeavesFull capacities z u → PutsBy capacities v key value Full 0 u
-  full_once capacities u value of absent left =
+  pub full_once : (capacities : List ℕ) (u : View) (value : ℕ) → AddsNoLists v.trail w.trail → key % 64 ≡ class → ShowsAbsent new key → LeavesFull capacities z u → PutsBy capacities v key value Full 0 u
+  full_once capacities u value before of absent left =
       let y : View = left.0 in
       let l : Lists capacities z 0 0 left.0 = left.1 in
       let e : Unlocks left.0 u = left.2 in
@@ -233,29 +237,28 @@ module _ (v w x y z : View) (key class : ℕ) (answer : Option ℕ) (new : Hold)
       let same : l.hold ≡ new = (let q : Some l.hold ≡ Some new = sym l.is ∙ ap (λ (q : View). q.hold) n.view in cc) in
       let class_new : new.class ≡ key % 64 = ap (λ (h : Hold). h.class) n.only ∙ sym of in
       let full : IsFull capacities new u.seen = subst (λ s. IsFull capacities new s) (sym (ap (λ (q : View). q.seen) first)) (subst (λ (k : Hold). IsFull capacities k left.0.seen) same (l.full refl refl)) in
-      let trail_y : IsPrefix v.trail left.0.trail = subst (IsPrefix v.trail) (sym l.trail) (prefix_more v.trail _ _ (prefix_more v.trail z.trail _ trail_z)) in
       let own_u : u.own ≡ z.own = ap (λ (q : View). q.own) first ∙ ap (λ (q : View). q.own) l.rest in (
         (
           record {
             marks = t.marks ++ Entered w.place w.sections key ∷ Left w.place w.sections ∷ [];
             plain = plain_z;
             own = own_u ∙ own_z;
-            trail = subst (λ (q : View). IsPrefix v.trail q.trail) (sym e.2) (prefix_more v.trail left.0.trail _ trail_y);
             seen = subst (IsPrefix v.seen) (sym (ap (λ (q : View). q.seen) first)) (prefix_trans v.seen z.seen left.0.seen seen_z l.seen);
             view = whole ∙ sym (ap (λ (q : View). record v { sections = q.sections; own = q.own; trail = q.trail; seen = q.seen }) whole);
           },
           searched_z,
         ),
-        (z, has_walked of absent, left),
+        (z, has_walked before of absent, left),
         record { absent = full.absent key (sym class_new) absent; pairs = subst (λ d. HasPairs d (map_of (updates_of u.seen)) (capacity capacities d)) class_new full.pairs },
         refl,
       )
 
-  pub put_once : (capacities : List ℕ) (u : View) (value : ℕ) (answer : Option ℕ) → key % 64 ≡ class → ShowsAbsent new key → IfNone answer (LeavesFull capacities z u) → IfSome answer (λ number. Added capacities z key value number u) → Puts capacities v key value (told_added answer) u
-  put_once capacities u value None of absent left added = full_once capacities u value of absent left
-  put_once capacities u value (Some number) of absent left added = added_once capacities u value number of absent added
+  pub put_once : (capacities : List ℕ) (u : View) (value : ℕ) (answer : Option ℕ) → AddsNoLists v.trail w.trail → key % 64 ≡ class → ShowsAbsent new key → IfNone answer (LeavesFull capacities z u) → IfSome answer (λ number. Added capacities z key value number u) → Puts capacities v key value (told_added answer) u
+  put_once capacities u value None before of absent left added = full_once capacities u value before of absent left
+  put_once capacities u value (Some number) before of absent left added = added_once capacities u value number before of absent added
 
 -- a search that found the key
-pub found_once : (capacities : List ℕ) (v w x : View) (key value : ℕ) (answer : Option ℕ) → is_some answer ≡ true → HasTried v key w → Looked w key answer x → PutsBy capacities v key value Old 0 x
-found_once capacities v w x key value None is t l = absurd (cc)
-found_once capacities v w x key value (Some old) is t l = (w, t, (old, l), refl)
+pub found_once : (capacities : List ℕ) (v w x : View) (key value : ℕ) (answer : Option ℕ) → is_some answer ≡ true → HasTried v key w → AddsNoLists v.trail w.trail → Looked w key answer x → PutsBy capacities v key value Old 0 x
+found_once capacities v w x key value None is t before l = absurd (cc)
+found_once capacities v w x key value (Some old) is t before l =
+    (w, t, (old, l), refl, adds_both v.trail w.trail x.trail before (record { steps = l.steps; plain = l.plain; trail = ap (λ (u : View). u.trail) l.view }))

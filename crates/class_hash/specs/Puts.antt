@@ -14,6 +14,7 @@ use Rattle.hash_core.specs.Slots.{is_slot_of}
 use Rattle.hash_core.specs.Known.{known_in, ShowsAbsent}
 use Rattle.hash_core.specs.Steps.{Needs7}
 use Rattle.class_hash.specs.Stepped.{Unlocks}
+use Rattle.class_hash.specs.Trails.{AddsNoLists}
 use Rattle.class_hash.specs.Calls.{Lists, polled}
 
 -- After some looks for readers, the retired list became the free list.
@@ -22,18 +23,17 @@ pub record HasPolled (v w : View) : Type 0 where
   pub is : v.hold ≡ Some hold
   pub first : ℕ
   pub retired : known_in hold.known (Retired hold.class) ≡ Some first
-  pub trail : IsPrefix v.trail w.trail
+  pub trail : AddsNoLists v.trail w.trail
   pub view : w ≡ record v { hold = Some (polled hold first); trail = w.trail }
 
--- The free and the retired word of the class were loaded, and one of them wasn't 0. These steps are among those of the view
--- after them.
+-- The free and the retired word of the class were loaded, and one of them wasn't 0. They weren't loaded again.
 pub record HasSeenRoom (capacities : List ℕ) (v w : View) : Type 0 where
   pub listed : View
   pub free : ℕ
   pub retired : ℕ
   pub lists : Lists capacities v free retired listed
   pub some : free ≡ 0 → retired ≢ 0
-  pub trail : IsPrefix listed.trail w.trail
+  pub trail : AddsNoLists listed.trail w.trail
 
 -- Under the lock, with nothing begun, the first free slot is known, after the lists were not both found empty. What was known to
 -- be absent is so still.
@@ -90,7 +90,7 @@ pub record Filled (v : View) (slot key value : ℕ) (w : View) : Type 0 where
   pub before : List Mark
   pub since : IsPrefix v.seen before
   pub may : MayLink w slot key value
-  pub trail : IsPrefix v.trail w.trail
+  pub trail : AddsNoLists v.trail w.trail
   pub view : w ≡ record v { hold = w.hold; trail = w.trail; seen = before ++ Given slot ∷ [] }
 
 -- The one update of the call was made as the last of the history so far, which is as long as the number, and the lock was
@@ -100,7 +100,6 @@ pub record Linked (v : View) (key value number : ℕ) (w : View) : Type 0 where
   pub since : IsPrefix v.seen before
   pub legal : IsLegal (updates_of w.seen)
   pub number_is : number ≡ length (updates_of w.seen)
-  pub trail : IsPrefix v.trail w.trail
   pub view : w ≡ record v {
     tickets = v.tickets - 1;
     hold = None;

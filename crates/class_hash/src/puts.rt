@@ -1,6 +1,7 @@
 //! A pair added under a bucket's lock.
 ghost use Rattle.std.specs.Prelude.{◌≡◌, ◌≢◌, IfNone, IfSome};
 ghost use Rattle.class_hash.specs.Answers.{IsInformed};
+ghost use Rattle.class_hash.specs.Trails.{AddsNoLists};
 ghost use Rattle.class_hash.specs.Calls.{HasFinished, Lists, MayPoll};
 ghost use Rattle.class_hash.specs.Puts.{HasPolled, HasFree, MayAdd, MayFill, MayLink, Filled, Linked, Added, LeavesFull};
 
@@ -80,6 +81,7 @@ fn link<R: Wait>(
     requires case { MayLink seat.old.view slot key value }
     ensures table { seat.new.table ≡ seat.old.table }
     ensures view { Linked seat.old.view key value result seat.new.view }
+    ensures trail { AddsNoLists seat.old.view.trail seat.new.view.trail }
     ensures informed { IsInformed table.now.places seat.new.view }
 {
     let even = turn_front(rt, table, seat);

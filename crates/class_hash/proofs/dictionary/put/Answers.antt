@@ -3,7 +3,7 @@ use Rattle.prcu_model.specs.declared.operation.Told.{Told}
 use Rattle.hash_core.specs.declared.view.View.{View}
 use Rattle.hash_core.specs.Steps.{fresh_hold}
 use Rattle.class_hash.specs.Replies.{Puts}
-use Rattle.class_hash.proofs.Trying.{tried_again, put_once}
+use Rattle.class_hash.proofs.Trying.{tried_again, tried_on, put_once}
 use Rattle.class_hash.proofs.dictionary.put.Goals as goal
 
 pub walk_locked-requires-clause-held : goal.walk_locked-requires-clause-held
@@ -15,10 +15,13 @@ returns-in_default-clause-view g c =
     let f = c.in_default.ensures.absent (fresh_hold (c.args.key % 64)) (ap (λ (z : View). z.hold) c.lock_bucket.ensures.view.view) in
     subst (λ (t : Told). Puts c.args.table.now.capacities c.args.seat.now.view c.args.key c.args.value t c.add.new.seat.view) (sym c.told_added.ensures)
     (put_once v c.loop.seat.view c.search.new.seat.view c.lock_bucket.new.seat.view c.walk_locked.new.seat.view c.args.key (c.args.key % 64) c.search.result f.0 c.requires.quiet c.loop.invariant.1 c.search.ensures.view c.lock_bucket.ensures.view f.1 c.lock_bucket.ensures.turn
-    c.args.table.now.capacities c.add.new.seat.view c.args.value c.add.result refl f.2 c.add.ensures.full c.add.ensures.added)
+    c.args.table.now.capacities c.add.new.seat.view c.args.value c.add.result c.loop.invariant.2 refl f.2 c.add.ensures.full c.add.ensures.added)
 
 pub loop-preserved : goal.loop-preserved
 loop-preserved g c =
     let v = c.args.seat.now.view in
-    let f = c.in-Some-walk_locked.ensures.found (fresh_hold (c.args.key % 64)) (ap (λ (z : View). z.hold) c.lock_bucket.ensures.view.view) in
-    (search rules, tried_again v c.loop.seat.view c.search.new.seat.view c.lock_bucket.new.seat.view c.walk_locked.new.seat.view c.args.key (c.args.key % 64) c.search.result f.0 c.requires.quiet c.loop.invariant.1 c.search.ensures.view c.lock_bucket.ensures.view f.1 c.lock_bucket.ensures.turn c.free_bucket.new.seat.view c.free_bucket.ensures.view)
+    let f = c.in-Some-walk_locked.ensures.found (fresh_hold (c.args.key % 64)) (ap (λ (z : View). z.hold) c.lock_bucket.ensures.view.view) in (
+      search rules,
+      tried_again v c.loop.seat.view c.search.new.seat.view c.lock_bucket.new.seat.view c.walk_locked.new.seat.view c.args.key (c.args.key % 64) c.search.result f.0 c.requires.quiet c.loop.invariant.1 c.search.ensures.view c.lock_bucket.ensures.view f.1 c.lock_bucket.ensures.turn c.free_bucket.new.seat.view c.free_bucket.ensures.view,
+      tried_on v c.loop.seat.view c.search.new.seat.view c.lock_bucket.new.seat.view c.walk_locked.new.seat.view c.args.key (c.args.key % 64) c.search.result f.0 c.requires.quiet c.loop.invariant.1 c.search.ensures.view c.lock_bucket.ensures.view f.1 c.lock_bucket.ensures.turn c.loop.invariant.2 c.free_bucket.new.seat.view c.free_bucket.ensures.view,
+    )
