@@ -14,3 +14,4 @@ pub mod Unlinking
 pub mod Filling
 pub mod Putting
 pub mod Clients
+pub mod Exactly

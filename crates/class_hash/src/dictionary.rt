@@ -1,7 +1,9 @@
 //! The calls of the dictionary.
-ghost use Rattle.std.specs.Prelude.{◌≡◌, ◌≤◌};
+ghost use Rattle.std.specs.Prelude.{◌≡◌, ◌≤◌, ◌%◌, ◌↔◌};
+ghost use Rattle.prcu_model.specs.declared.operation.Reply.TheVariants.{Full};
 ghost use Rattle.hash_core.specs.Steps.{IsQuiet};
 ghost use Rattle.class_hash.specs.Answers.{IsInformed};
+ghost use Rattle.class_hash.specs.Trails.{LoadsBothEmpty};
 ghost use Rattle.class_hash.specs.Replies.{Gets, told_added, Puts, Sets, Dels};
 
 use crate::bucket::free_bucket;
@@ -54,6 +56,7 @@ pub fn put<R: Wait>(rt: &R, table: &HashTable, seat: &mut HashSeat, key: u64, va
     requires ticket { 1 ≤ seat.old.view.tickets }
     ensures table { seat.new.table ≡ seat.old.table }
     ensures view { Puts table.now.capacities seat.old.view key value result seat.new.view }
+    ensures full { (result.reply ≡ Full) ↔ LoadsBothEmpty (key % 64) seat.old.view.trail seat.new.view.trail }
     ensures informed { IsInformed table.now.places seat.new.view }
     ensures quiet { IsQuiet seat.new.view }
 {

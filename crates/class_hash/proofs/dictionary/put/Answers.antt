@@ -3,7 +3,8 @@ use Rattle.prcu_model.specs.declared.operation.Told.{Told}
 use Rattle.hash_core.specs.declared.view.View.{View}
 use Rattle.hash_core.specs.Steps.{fresh_hold}
 use Rattle.class_hash.specs.Replies.{Puts}
-use Rattle.class_hash.proofs.Trying.{tried_again, tried_on, put_once}
+use Rattle.class_hash.proofs.Trying.{tried_again, tried_on, put_once, found_once}
+use Rattle.class_hash.proofs.Exactly.{full_exactly}
 use Rattle.class_hash.proofs.dictionary.put.Goals as goal
 
 pub walk_locked-requires-clause-held : goal.walk_locked-requires-clause-held
@@ -16,6 +17,16 @@ returns-in_default-clause-view g c =
     subst (λ (t : Told). Puts c.args.table.now.capacities c.args.seat.now.view c.args.key c.args.value t c.add.new.seat.view) (sym c.told_added.ensures)
     (put_once v c.loop.seat.view c.search.new.seat.view c.lock_bucket.new.seat.view c.walk_locked.new.seat.view c.args.key (c.args.key % 64) c.search.result f.0 c.requires.quiet c.loop.invariant.1 c.search.ensures.view c.lock_bucket.ensures.view f.1 c.lock_bucket.ensures.turn
     c.args.table.now.capacities c.add.new.seat.view c.args.value c.add.result c.loop.invariant.2 refl f.2 c.add.ensures.full c.add.ensures.added)
+
+pub returns-in_default-clause-full : goal.returns-in_default-clause-full
+returns-in_default-clause-full g c = full_exactly c.args.table.now.capacities c.args.seat.now.view c.add.new.seat.view c.args.key c.args.value c.told_added.result (returns-in_default-clause-view g c)
+
+pub returns-then-is_some-clause-full : goal.returns-then-is_some-clause-full
+returns-then-is_some-clause-full g c =
+    let v = c.args.seat.now.view in
+    full_exactly c.args.table.now.capacities c.args.seat.now.view c.search.new.seat.view c.args.key c.args.value c.told.result
+    (subst (λ (t : Told). Puts c.args.table.now.capacities c.args.seat.now.view c.args.key c.args.value t c.search.new.seat.view) (sym c.told.ensures)
+    (found_once c.args.table.now.capacities v c.loop.seat.view c.search.new.seat.view c.args.key c.args.value c.search.result (search rules) c.loop.invariant.1 c.loop.invariant.2 c.search.ensures.view))
 
 pub loop-preserved : goal.loop-preserved
 loop-preserved g c =
