@@ -58,7 +58,6 @@ fn a_slot_is_put_into_again_after_its_key_is_taken_out(rt: HostRuntime) -> Resul
     capacities[6] = 1;
     let (table, mut seat) = HashTable::new(rt.alloc(), &capacities, 1, 8)?;
     assert_eq!(rt; put(&rt, &table, &mut seat, 6, 10), answer(Reply::New, 1));
-    assert_eq!(rt; put(&rt, &table, &mut seat, 6, 11), answer(Reply::Old, 0));
     assert_eq!(rt; put(&rt, &table, &mut seat, 70, 12), answer(Reply::Full, 0));
     assert_eq!(rt; del(&rt, &table, &mut seat, 6), answer(Reply::Gone, 2));
     assert_eq!(rt; put(&rt, &table, &mut seat, 70, 13), answer(Reply::New, 3));
@@ -66,13 +65,14 @@ fn a_slot_is_put_into_again_after_its_key_is_taken_out(rt: HostRuntime) -> Resul
 }
 
 #[test]
-fn a_set_is_told_the_value_that_it_replaces(rt: HostRuntime) -> Result<(), Fail> {
+fn a_pair_stays_until_it_is_set(rt: HostRuntime) -> Result<(), Fail> {
     let mut capacities = [0; 64];
     capacities[6] = 1;
     let (table, mut seat) = HashTable::new(rt.alloc(), &capacities, 1, 8)?;
     let was = Reply::Was { value: 10 };
     let val = Reply::Val { value: 11 };
     assert_eq!(rt; put(&rt, &table, &mut seat, 6, 10), answer(Reply::New, 1));
+    assert_eq!(rt; put(&rt, &table, &mut seat, 6, 12), answer(Reply::Old, 0));
     assert_eq!(rt; set(&rt, &table, &mut seat, 6, 11), answer(was, 2));
     assert_eq!(rt; get(&rt, &table, &mut seat, 6), answer(val, 0));
     Ok(())
