@@ -220,3 +220,37 @@ pub chains_meet : ChainsMeetFronts
 chains_meet ops tolds before after informed none chain =
     told_meets (ExplainsInClasses before.table.capacities) (caller_of before) ops tolds (caller_of after)
     (chain_has_told before.table.capacities ops tolds before after refl (informed.met before.view.place (inl (omega arith, (let works = informed.works in omega arith)))) none chain)
+
+-- a call leaves the seat at its places
+pub calls_stay : (capacities : List ℕ) (v w : View) (op : Op) (told : Told) → Makes capacities v op told w → (w.place ≡ v.place) × (w.places ≡ v.places)
+calls_stay capacities v w (Get key) told g = (ap (λ (z : View). z.place) g.2.view, ap (λ (z : View). z.places) g.2.view)
+calls_stay capacities v w (Put key value) told p = by told.reply told.number p
+  where
+    by : (reply : Reply) (number : ℕ) → PutsBy capacities v key value reply number w → (w.place ≡ v.place) × (w.places ≡ v.places)
+    by Old number q = (ap (λ (z : View). z.place) q.2.1.view ∙ ap (λ (z : View). z.place) q.1.view, ap (λ (z : View). z.places) q.2.1.view ∙ ap (λ (z : View). z.places) q.1.view)
+    by New number q = (ap (λ (z : View). z.place) q.2.view, ap (λ (z : View). z.places) q.2.view)
+    by Full number q = (ap (λ (z : View). z.place) q.0.0.view, ap (λ (z : View). z.places) q.0.0.view)
+    by (Val x) number q = absurd q
+    by Absent number q = absurd q
+    by Gone number q = absurd q
+    by (Was x) number q = absurd q
+calls_stay capacities v w (Set key value) told p = by told.reply told.number p
+  where
+    by : (reply : Reply) (number : ℕ) → SetsBy v key value reply number w → (w.place ≡ v.place) × (w.places ≡ v.places)
+    by Absent number q = (ap (λ (z : View). z.place) q.2.view ∙ ap (λ (z : View). z.place) q.1.view, ap (λ (z : View). z.places) q.2.view ∙ ap (λ (z : View). z.places) q.1.view)
+    by (Was old) number q = (ap (λ (z : View). z.place) q.1.view, ap (λ (z : View). z.places) q.1.view)
+    by New number q = absurd q
+    by Old number q = absurd q
+    by Full number q = absurd q
+    by (Val x) number q = absurd q
+    by Gone number q = absurd q
+calls_stay capacities v w (Del key) told p = by told.reply told.number p
+  where
+    by : (reply : Reply) (number : ℕ) → DelsBy v key reply number w → (w.place ≡ v.place) × (w.places ≡ v.places)
+    by Absent number q = (ap (λ (z : View). z.place) q.2.view ∙ ap (λ (z : View). z.place) q.1.view, ap (λ (z : View). z.places) q.2.view ∙ ap (λ (z : View). z.places) q.1.view)
+    by Gone number q = (ap (λ (z : View). z.place) q.2.view, ap (λ (z : View). z.places) q.2.view)
+    by New number q = absurd q
+    by Old number q = absurd q
+    by Full number q = absurd q
+    by (Val x) number q = absurd q
+    by (Was x) number q = absurd q

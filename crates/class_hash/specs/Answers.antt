@@ -10,7 +10,7 @@ use Rattle.hash_core.specs.declared.view.Hold.{Hold}
 use Rattle.prcu_model.specs.Marks.{updates_of, own_of}
 use Rattle.prcu_model.specs.History.{IsLegal}
 use Rattle.hash_core.specs.declared.view.View.{View}
-use Rattle.hash_core.specs.Seats.{AnswersFor}
+use Rattle.hash_core.specs.Seats.{HasHeard, AnswersFor}
 use Rattle.hash_core.specs.Slots.{capacity, is_slot_of}
 use Rattle.hash_core.specs.Pairs.{HasPairs}
 use Rattle.prcu_model.specs.Dictionary.{map_of}
@@ -33,6 +33,7 @@ StandsInClass capacities section = (slot : ℕ) → StandsAt section.stand slot 
 -- those that it has; and places that the table hasn't have none.
 pub record IsInformed (places : ℕ) (v : View) : Type 0 where
   pub works : 1 ≤ v.places
+  pub heard : HasHeard v
   pub legal : IsLegal (updates_of v.seen)
   pub met : (p : ℕ) → AnswersFor v p → own_of p v.seen ≡ own_of p v.own
   pub within : (p : ℕ) → places ≤ p → own_of p v.seen ≡ []

@@ -1,5 +1,6 @@
 //! The seats on the table, and how they are split and joined.
 ghost use Rattle.std.specs.Prelude.{◌≡◌, ℕ, ◌+◌, ◌%◌, ◌<◌, ◌≤◌, Some};
+ghost use mathlib.Core.List.{IsPrefix};
 ghost use Rattle.hash_core.specs.declared.view.Section.{Section};
 ghost use Rattle.hash_core.specs.declared.view.Hold.{Hold};
 ghost use Rattle.hash_core.specs.declared.words.Field.TheVariants.{Front, Retired};
@@ -132,6 +133,7 @@ impl HashSeat {
         requires quiet { IsQuiet self.view × IsQuiet other.view }
         ensures table { result.table ≡ self.table }
         ensures view { (front : ℕ) × (result.view ≡ trod (both_of self.view other.view) H2 Front front) }
+        ensures seen { IsPrefix self.view.seen result.view.seen × IsPrefix other.view.seen result.view.seen }
         ensures informed { IsInformed table.now.places result.view }
     {
         glued::<Brand>(self, table, other)
