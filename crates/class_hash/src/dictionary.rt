@@ -12,7 +12,7 @@ use crate::search::search;
 use crate::seat::HashSeat;
 use crate::table::HashTable;
 use crate::updates::{lock_bucket, replace, unlink};
-use crate::walk::walk_locked;
+use crate::walk::{lacks, walk_locked};
 use prcu_model::{Reply, Told};
 use std::sync::Wait;
 
@@ -65,9 +65,9 @@ pub fn put<R: Wait>(rt: &R, table: &HashTable, seat: &mut HashSeat, key: u64, va
             return told(Reply::Old, 0);
         }
         lock_bucket(rt, table, seat, (key % 64) as u32);
-        let Some(_) = walk_locked(rt, table, seat, key) else {
+        if lacks(rt, table, seat, key) {
             return told_added(add(rt, table, seat, key, value));
-        };
+        }
         free_bucket(table, seat);
     }
     unreachable!()
