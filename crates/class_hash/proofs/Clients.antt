@@ -1,5 +1,5 @@
 -- A call of a client answers as its marks say.
-use Rattle.std.proofs.Common.{◌≡◌, ℕ, zero, suc, ◌+◌, ◌-◌, ◌%◌, ◌<◌, ◌≤◌, ◌==◌, Bool, true, false, cond, MatchBool, List, [], ◌∷◌, ◌++◌, length, Option, Some, None, is_some, refl, sym, ap, subst, ◌∙◌, arith, inl, eq-eqb, append_assoc, append-nil, length-append}
+use Rattle.std.proofs.Common.{◌≡◌, ℕ, ◌+◌, ◌-◌, ◌≤◌, ◌==◌, true, false, cond, MatchBool, List, [], ◌∷◌, ◌++◌, length, Option, Some, None, is_some, refl, sym, ap, subst, ◌∙◌, arith, inl, eq-eqb, append_assoc, append-nil, length-append}
 use Rattle.std.specs.List.{AllByRecursion, slice_get}
 use Rattle.std.specs.FinMap as finite
 use Rattle.std.proofs.lemmas.List.{take_all, take_at}
@@ -20,10 +20,9 @@ use Rattle.prcu_model.proofs.ListFacts.{prefix_self, prefix_trans, all_map, all_
 use Rattle.prcu_model.proofs.MarkLists.{updates_of-append}
 use Rattle.prcu_model.proofs.OwnMarks.{entered_for-append}
 use Rattle.hash_core.specs.declared.view.View.{View}
-use Rattle.hash_core.specs.Readers.{WasSaid}
 use Rattle.class_hash.specs.Answers.{IsInformed}
 use Rattle.class_hash.specs.Lookups.{Looked}
-use Rattle.class_hash.specs.Replies.{IsOfSection, HasTried, HasUpdated, told_of, Gets, Puts, PutsBy, Sets, SetsBy, Dels, DelsBy}
+use Rattle.class_hash.specs.Replies.{IsOfSection, HasTried, HasUpdated, told_of, Gets, PutsBy, SetsBy, DelsBy}
 use Rattle.class_hash.specs.Seats.{TableAt}
 use Rattle.prcu_model.specs.Chains.{IsChain}
 use Rattle.prcu_model.specs.Fronts.{own_updates}

@@ -1,4 +1,5 @@
 pub mod Plumbing
+pub mod Trails
 pub mod Readers
 pub mod Facts
 pub mod Allowed
@@ -13,3 +14,4 @@ pub mod Unlinking
 pub mod Filling
 pub mod Putting
 pub mod Clients
+pub mod Exactly

@@ -19,15 +19,17 @@ use Rattle.class_hash.specs.Answers.{IsFull}
 use Rattle.hash_core.specs.Known.{ShowsAbsent}
 use Rattle.hash_core.specs.Steps.{trod, IsQuiet, Needs7, after7, fresh_hold}
 use Rattle.prcu_model.proofs.ListFacts.{all_append, prefix_self, prefix_trans}
+use Rattle.class_hash.proofs.Trails.{adds_step, adds_both}
 use Rattle.prcu_model.specs.Callers.{entered_for}
 use Rattle.prcu_model.proofs.OwnMarks.{entered_for-append}
 use Rattle.class_hash.specs.Stepped.{Unlocks}
+use Rattle.class_hash.specs.Trails.{AddsNoLists}
 use Rattle.class_hash.specs.Lookups.{Looked}
 use Rattle.class_hash.specs.Walks.{HasLoaded, IsFoundAt}
 use Rattle.class_hash.specs.Updates.{HasLocked, MayReplace, Replaced, link_after, MayUnlink, Removed}
 use Rattle.class_hash.specs.Calls.{HasFinished, Lists}
 use Rattle.class_hash.specs.Puts.{MayAdd, Linked, Added, LeavesFull}
-use Rattle.class_hash.specs.Replies.{IsOfSection, HasTried, told_added, PutsBy, Puts, SetsBy, DelsBy}
+use Rattle.class_hash.specs.Replies.{IsOfSection, HasTried, HasWalked, told_added, PutsBy, Puts, SetsBy, DelsBy}
 
 pub nothing_tried : (v : View) (key : ℕ) → HasTried v key v
 nothing_tried v key = record { marks = []; plain = tt; own = sym (append-nil v.own); seen = prefix_self v.seen; view = refl }
@@ -51,7 +53,7 @@ module _ (v w x y z : View) (key class : ℕ) (answer : Option ℕ) (new : Hold)
 
   -- after the walk: that of the start, but for the lock, what was seen and done
   z_is : z ≡ record v { section = None; sections = w.sections + 1; hold = Some new; own = (w.own ++ Entered w.place w.sections key ∷ []) ++ Left w.place w.sections ∷ []; trail = z.trail; seen = z.seen }
-  z_is = n.view ∙ (λ j. record (k j) { hold = Some new; trail = z.trail; seen = z.seen }) ∙ (λ j. record (x_is j) { hold = Some new; trail = z.trail; seen = z.seen })
+  z_is = n.view ∙ (λ j. record (k.view j) { hold = Some new; trail = z.trail; seen = z.seen }) ∙ (λ j. record (x_is j) { hold = Some new; trail = z.trail; seen = z.seen })
       ∙ (λ j. record (t.view j) { section = None; sections = w.sections + 1; hold = Some new; own = (w.own ++ Entered w.place w.sections key ∷ []) ++ Left w.place w.sections ∷ []; trail = z.trail; seen = z.seen })
 
   same_place : w.place ≡ v.place
@@ -61,7 +63,13 @@ module _ (v w x y z : View) (key class : ℕ) (answer : Option ℕ) (new : Hold)
   seen_x = subst (IsPrefix w.seen) (sym (ap (λ (u : View). u.seen) l.view)) (prefix_trans w.seen l.before _ l.since (prefix_trans l.before (l.before ++ Entered w.place w.sections key ∷ []) _ (Entered w.place w.sections key ∷ [], refl) (prefix_trans _ l.until _ l.within (Left w.place w.sections ∷ [], refl))))
 
   seen_z : IsPrefix v.seen z.seen
-  seen_z = prefix_trans v.seen w.seen z.seen t.seen (prefix_trans w.seen x.seen z.seen seen_x (subst (λ s. IsPrefix s z.seen) (ap (λ (u : View). u.seen) k) n.seen))
+  seen_z = prefix_trans v.seen w.seen z.seen t.seen (prefix_trans w.seen x.seen z.seen seen_x (subst (λ s. IsPrefix s z.seen) (ap (λ (u : View). u.seen) k.view) n.seen))
+
+  -- the lists weren't loaded
+  trail_z : AddsNoLists v.trail w.trail → AddsNoLists v.trail z.trail
+  trail_z before =
+      let searched : AddsNoLists w.trail x.trail = record { steps = l.steps; plain = l.plain; trail = ap (λ (u : View). u.trail) l.view } in
+      adds_both v.trail w.trail z.trail before (adds_both w.trail x.trail z.trail searched (adds_both x.trail y.trail z.trail k.trail n.trail))
 
   own_z : z.own ≡ v.own ++ (t.marks ++ Entered w.place w.sections key ∷ Left w.place w.sections ∷ [])
   own_z = ap (λ (u : View). u.own) z_is ∙ append_assoc w.own (Entered w.place w.sections key ∷ []) (Left w.place w.sections ∷ [])
@@ -78,7 +86,7 @@ module _ (v w x y z : View) (key class : ℕ) (answer : Option ℕ) (new : Hold)
       omega arith
 
   turn_z : z.turn ≡ None
-  turn_z = ap (λ (u : View). u.turn) n.view ∙ ap (λ (u : View). u.turn) k ∙ no_turn
+  turn_z = ap (λ (u : View). u.turn) n.view ∙ ap (λ (u : View). u.turn) k.view ∙ no_turn
 
   needs_z : Needs7 z new
   needs_z = (ap (λ (u : View). u.hold) n.view, ap (λ (h : Hold). h.taken) n.only, ap (λ (h : Hold). h.unlinked) n.only, ap (λ (h : Hold). h.moved) n.only, turn_z)
@@ -111,6 +119,9 @@ module _ (v w x y z : View) (key class : ℕ) (answer : Option ℕ) (new : Hold)
         seen = subst (IsPrefix v.seen) (sym (ap (λ (y : View). y.seen) e.2)) seen_z;
         view = whole ∙ sym (ap (λ (y : View). record v { sections = y.sections; own = y.own; trail = y.trail; seen = y.seen }) whole);
       }
+
+  pub tried_on : AddsNoLists v.trail w.trail → (u : View) → Unlocks z u → AddsNoLists v.trail u.trail
+  tried_on before u e = subst (λ (y : View). AddsNoLists v.trail y.trail) (sym e.2) (adds_step v.trail z.trail H7 (Lock e.0.class) 0 refl (trail_z before))
 
   pub updated_once : (u : View) (value old number : ℕ) → Replaced z key value old number u → SetsBy v key value (Was old) number u
   updated_once u value old number r =
@@ -179,8 +190,17 @@ module _ (v w x y z : View) (key class : ℕ) (answer : Option ℕ) (new : Hold)
     ticket = subst (λ q. 1 ≤ q) (sym (ap (λ (u : View). u.tickets) z_is)) ticket;
   }
 
-  pub added_once : (capacities : List ℕ) (u : View) (value number : ℕ) → Added z key value number u → PutsBy capacities v key value New number u
-  added_once capacities u value number a =
+  -- nothing but the lock, what was seen and done has changed
+  walked_is : z ≡ record v { sections = z.sections; hold = Some new; own = z.own; trail = z.trail; seen = z.seen }
+  walked_is =
+      let whole : z ≡ record walked { section = v.section } = z_is ∙ ap (λ q. record walked { section = q }) (sym quiet.0) in
+      whole ∙ sym (ap (λ (y : View). record v { sections = y.sections; hold = Some new; own = y.own; trail = y.trail; seen = y.seen }) whole)
+
+  has_walked : AddsNoLists v.trail w.trail → key % 64 ≡ class → ShowsAbsent new key → HasWalked v key z
+  has_walked before of absent = record { hold = new; class = ap (λ (h : Hold). h.class) n.only ∙ sym of; absent = absent; trail = trail_z before; seen = seen_z; view = walked_is }
+
+  pub added_once : (capacities : List ℕ) (u : View) (value number : ℕ) → AddsNoLists v.trail w.trail → key % 64 ≡ class → ShowsAbsent new key → Added capacities z key value number u → PutsBy capacities v key value New number u
+  added_once capacities u value number before of absent a =
       let r : Linked z key value number u = a.linked in
       let place : z.place ≡ v.place = ap (λ (y : View). y.place) z_is in
       let F : View → View = λ y. record y { tickets = y.tickets - 1; hold = None; own = z.own ++ Done (record { caller = z.place; op = Put key value }) ∷ []; trail = u.trail; seen = r.before ++ Done (record { caller = z.place; op = Put key value }) ∷ [] } in
@@ -201,16 +221,11 @@ module _ (v w x y z : View) (key class : ℕ) (answer : Option ℕ) (new : Hold)
           view = whole ∙ sym (ap (λ (y : View). record v { tickets = v.tickets - 1; sections = y.sections; own = y.own; trail = y.trail; seen = y.seen }) whole);
         },
         record { before = a.given.before; since = prefix_trans v.seen z.seen a.given.before seen_z a.given.since; until = a.given.until },
+        (z, has_walked before of absent, a.room),
       )
 
-  -- nothing but the lock, what was seen and done has changed
-  walked_is : z ≡ record v { sections = z.sections; hold = Some new; own = z.own; trail = z.trail; seen = z.seen }
-  walked_is =
-      let whole : z ≡ record walked { section = v.section } = z_is ∙ ap (λ q. record walked { section = q }) (sym quiet.0) in
-      whole ∙ sym (ap (λ (y : View). record v { sections = y.sections; hold = Some new; own = y.own; trail = y.trail; seen = y.seen }) whole)
-
-  pub full_once : (capacities : List ℕ) (u : View) (value : ℕ) → key % 64 ≡ class → ShowsAbsent new key → LeavesFull capacities z u → PutsBy capacities v key value Full 0 u
-  full_once capacities u value of absent left =
+  pub full_once : (capacities : List ℕ) (u : View) (value : ℕ) → AddsNoLists v.trail w.trail → key % 64 ≡ class → ShowsAbsent new key → LeavesFull capacities z u → PutsBy capacities v key value Full 0 u
+  full_once capacities u value before of absent left =
       let y : View = left.0 in
       let l : Lists capacities z 0 0 left.0 = left.1 in
       let e : Unlocks left.0 u = left.2 in
@@ -233,16 +248,17 @@ module _ (v w x y z : View) (key class : ℕ) (answer : Option ℕ) (new : Hold)
           },
           searched_z,
         ),
-        (z, record { hold = new; class = ap (λ (h : Hold). h.class) n.only ∙ sym of; absent = absent; seen = seen_z; view = walked_is }, left),
+        (z, has_walked before of absent, left),
         record { absent = full.absent key (sym class_new) absent; pairs = subst (λ d. HasPairs d (map_of (updates_of u.seen)) (capacity capacities d)) class_new full.pairs },
         refl,
       )
 
-  pub put_once : (capacities : List ℕ) (u : View) (value : ℕ) (answer : Option ℕ) → key % 64 ≡ class → ShowsAbsent new key → IfNone answer (LeavesFull capacities z u) → IfSome answer (λ number. Added z key value number u) → Puts capacities v key value (told_added answer) u
-  put_once capacities u value None of absent left added = full_once capacities u value of absent left
-  put_once capacities u value (Some number) of absent left added = added_once capacities u value number added
+  pub put_once : (capacities : List ℕ) (u : View) (value : ℕ) (answer : Option ℕ) → AddsNoLists v.trail w.trail → key % 64 ≡ class → ShowsAbsent new key → IfNone answer (LeavesFull capacities z u) → IfSome answer (λ number. Added capacities z key value number u) → Puts capacities v key value (told_added answer) u
+  put_once capacities u value None before of absent left added = full_once capacities u value before of absent left
+  put_once capacities u value (Some number) before of absent left added = added_once capacities u value number before of absent added
 
 -- a search that found the key
-pub found_once : (capacities : List ℕ) (v w x : View) (key value : ℕ) (answer : Option ℕ) → is_some answer ≡ true → HasTried v key w → Looked w key answer x → PutsBy capacities v key value Old 0 x
-found_once capacities v w x key value None is t l = absurd (cc)
-found_once capacities v w x key value (Some old) is t l = (w, t, (old, l), refl)
+pub found_once : (capacities : List ℕ) (v w x : View) (key value : ℕ) (answer : Option ℕ) → is_some answer ≡ true → HasTried v key w → AddsNoLists v.trail w.trail → Looked w key answer x → PutsBy capacities v key value Old 0 x
+found_once capacities v w x key value None is t before l = absurd (cc)
+found_once capacities v w x key value (Some old) is t before l =
+    (w, t, (old, l), refl, adds_both v.trail w.trail x.trail before (record { steps = l.steps; plain = l.plain; trail = ap (λ (u : View). u.trail) l.view }))

@@ -5,6 +5,7 @@ pub mod Added
 pub mod Answers
 pub mod Stepped
 pub mod Told
+pub mod Trails
 pub mod Lookups
 pub mod Calls
 pub mod Walks

@@ -20,8 +20,9 @@ use Rattle.hash_core.specs.declared.view.View.{View}
 use Rattle.hash_core.specs.Slots.{capacity}
 use Rattle.hash_core.specs.Pairs.{HasPairs}
 use Rattle.hash_core.specs.Known.{ShowsAbsent}
+use Rattle.class_hash.specs.Trails.{AddsNoLists}
 use Rattle.class_hash.specs.Lookups.{Looked}
-use Rattle.class_hash.specs.Puts.{HasGiven, LeavesFull}
+use Rattle.class_hash.specs.Puts.{HasGiven, HasSeenRoom, LeavesFull}
 
 -- what a get is told
 abbrev pub told_of : Option ℕ → Told
@@ -83,6 +84,7 @@ pub record HasWalked (v : View) (key : ℕ) (w : View) : Type 0 where
   pub hold : Hold
   pub class : hold.class ≡ key % 64
   pub absent : ShowsAbsent hold key
+  pub trail : AddsNoLists v.trail w.trail
   pub seen : IsPrefix v.seen w.seen
   pub view : w ≡ record v { sections = w.sections; hold = Some hold; own = w.own; trail = w.trail; seen = w.seen }
 
@@ -97,11 +99,11 @@ told_added None = record { reply = Full; number = 0 }
 told_added (Some number) = record { reply = New; number = number }
 
 -- A put is told Old where its last search found the key, and made no update. It is told New where it was given a slot and made
--- its update. It is told Full where it made no update, and under the lock, where the key was absent, found no free slot and no
--- retired one: so the class had no room.
+-- its update; under the lock, where the key was absent, it had found a free slot or a retired one. It is told Full where it made
+-- no update, and under the lock, where the key was absent, found no free slot and no retired one: so the class had no room.
 abbrev pub PutsBy : List ℕ → View → ℕ → ℕ → Reply → ℕ → View → Type 0
-PutsBy capacities v key value Old number w = (u : View) × HasTried v key u × ((old : ℕ) × Looked u key (Some old) w) × (number ≡ 0)
-PutsBy capacities v key value New number w = (before : List Mark) × (slot : ℕ) × HasUpdated v (Put key value) before [] number w × HasGiven v.seen slot before
+PutsBy capacities v key value Old number w = (u : View) × HasTried v key u × ((old : ℕ) × Looked u key (Some old) w) × (number ≡ 0) × AddsNoLists v.trail w.trail
+PutsBy capacities v key value New number w = (before : List Mark) × (slot : ℕ) × HasUpdated v (Put key value) before [] number w × HasGiven v.seen slot before × ((u : View) × HasWalked v key u × HasSeenRoom capacities u w)
 PutsBy capacities v key value Full number w = ((tried : HasTried v key w) × (1 ≤ entered_for v.place key tried.marks)) × ((u : View) × HasWalked v key u × LeavesFull capacities u w) × HasNoRoom capacities key w.seen × (number ≡ 0)
 PutsBy capacities v key value _ number w = ⊥
 
