@@ -4,7 +4,6 @@ use prcu_model::{Reply, Told};
 use std::test::Fail;
 
 mod readers;
-mod run;
 
 fn answer(reply: Reply, number: u64) -> Told {
     Told { reply, number }

@@ -7,3 +7,6 @@ mod gathering;
 mod running;
 
 pub use running::{HashRun, run_scripts};
+
+#[cfg(test)]
+mod tests;

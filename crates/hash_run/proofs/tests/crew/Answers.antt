@@ -4,7 +4,7 @@ use Rattle.prcu_model.specs.declared.operation.Op.{Op}
 use Rattle.hash_core.specs.declared.view.View.{View}
 use Rattle.client_run.specs.Workers.{IsReadyFor, AreReadyFor}
 use Rattle.client_run.proofs.Ready.{AreReadyFor-nil, AreReadyFor-push}
-use Rattle.class_hash.proofs.tests.run.crew.Goals as goal
+use Rattle.hash_run.proofs.tests.crew.Goals as goal
 
 pub loop-i-init : goal.loop-i-init
 loop-i-init g c = rw c.new-workers.ensures.items (record { table = c.requires.0; quiet = c.requires.1; many = refl; ready = AreReadyFor-nil (λ client. client.view.tickets) c.args.scripts.now })

@@ -1,7 +1,7 @@
 use Rattle.std.proofs.Common.{◌≡◌, length}
 use Rattle.hash_core.specs.Steps.{IsQuiet}
 use Rattle.client_run.specs.Workers.{AreReadyFor}
-use Rattle.class_hash.proofs.tests.run.crew.Given as goal
+use Rattle.hash_run.proofs.tests.crew.Given as goal
 
 abbrev pub invariant-loop-i : goal.invariant-loop-i
 invariant-loop-i g l = record {

@@ -3,7 +3,7 @@ ghost use Rattle.std.specs.Prelude.{◌≡◌, ◌<◌, ◌≤◌, length, IfOk,
 ghost use Rattle.hash_core.specs.Steps.{IsQuiet};
 ghost use Rattle.client_run.specs.Workers.{AreReadyFor};
 
-use crate::{HashClient, HashSeat, HashTable, get};
+use class_hash::{HashClient, HashSeat, HashTable, get};
 use client_run::{Worker, run_all};
 use prcu_model::{NoMemory, Op, OpenGate, PlainMap, Reply, Scripts, Told, ToldList};
 use std::alloc::Global;
