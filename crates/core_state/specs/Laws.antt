@@ -1,0 +1,96 @@
+-- What the invariant gives, in plain words; and what it is for a kind of step to keep it.
+-- Source: docs/ALGORITHM.md, "What the invariant gives".
+use Rattle.std.specs.Prelude.{◌≡◌, ℕ, ◌+◌, ◌-◌, ◌*◌, ◌^◌, ◌<◌, ◌≤◌, ◌⊎◌, true, false, List, ◌++◌, length, set, Some, None}
+use Rattle.std.specs.FinMap as finite
+use mathlib.Core.Option.{some}
+use lib.ListN.{get_elem?}
+use Rattle.prcu_model.specs.declared.mark.Mark.{Mark}
+use Rattle.prcu_model.specs.declared.mark.Side.{Side}
+use Rattle.prcu_model.specs.Dictionary.{map_of}
+use Rattle.prcu_model.specs.Marks.{updates_of, gone_at, IsGone}
+use Rattle.core_state.specs.declared.shape.Shape.{Shape}
+use Rattle.core_state.specs.declared.words.Field.{Field}
+use Rattle.core_state.specs.declared.words.Field.TheVariants.{Free, Life, Tag}
+use Rattle.core_state.specs.declared.words.Kind.{Kind}
+use Rattle.core_state.specs.declared.view.Move.{Move}
+use Rattle.core_state.specs.declared.view.Section.{Section}
+use Rattle.core_state.specs.declared.view.View.{View}
+use Rattle.core_state.specs.Lists.{IsIn, IsOdd}
+use Rattle.core_state.specs.Memory.{Memory, is_field, stored, slot_count}
+use Rattle.core_state.specs.Nodes.{follow, Hops}
+use Rattle.core_state.specs.Tree.{IsTree}
+use Rattle.core_state.specs.Readers.{WasSaid, IsPending, MayPass, Stands}
+use Rattle.core_state.specs.ReaderParts.{stand_slot}
+use Rattle.core_state.specs.TreeParts.{map_now}
+use Rattle.core_state.specs.Slots.{IsContent}
+use Rattle.core_state.specs.Views.{Works}
+use Rattle.core_state.specs.Steps.{IsStep}
+use Rattle.core_state.specs.Invariant.{Invariant}
+
+-- The links from the root are a tree of distinct slots in search order, the linked slots.
+abbrev pub LinksAreTree : Type 0
+LinksAreTree = (k : Shape) (m : Memory) (vs : List View) (h : List Mark) (i : Invariant k m vs h) → IsTree m i.chart.linked i.chart.old
+
+-- A search from the root answers as the dictionary now.
+abbrev pub FollowIsMap : Type 0
+FollowIsMap = (k : Shape) (m : Memory) (vs : List View) (h : List Mark) → Invariant k m vs h → (x : ℕ) → x < 2 ^ 64 → follow m (slot_count k) 0 x ≡ map_now h x
+
+-- A section that is open and is no listing.
+pub record Searches (vs : List View) (section : Section) : Type 0 where
+  pub id : ℕ
+  pub view : View
+  pub there : get_elem? vs id ≡ some view
+  pub inside : view.section ≡ Some section
+  pub no_list : section.listing ≡ None
+
+-- What each open search will answer, as the links stand now, the dictionary said at some front since it was entered.
+abbrev pub SearchesAreAnswered : Type 0
+SearchesAreAnswered = (k : Shape) (m : Memory) (vs : List View) (h : List Mark) → Invariant k m vs h → (section : Section) → Searches vs section
+    → WasSaid (updates_of h) section.key section.from (follow m (slot_count k) (stand_slot section.reading.stand) section.key)
+
+-- Where an open search stands: it passes an old successor that it may pass, or meets the path from the root, or ends at a slot that
+-- isn't linked.
+abbrev pub SearchesStand : Type 0
+SearchesStand = (k : Shape) (m : Memory) (vs : List View) (h : List Mark) (i : Invariant k m vs h) (section : Section) → Searches vs section
+    → Stands m i.chart.linked section.key (MayPass vs section.key section.entered) (stand_slot section.reading.stand)
+
+-- Only sections entered before a move's update pass its old successor with a key of its interval; after the move's wait none does.
+abbrev pub FewPass : Type 0
+FewPass = (k : Shape) (m : Memory) (vs : List View) (h : List Mark) → Invariant k m vs h → (section : Section) → Searches vs section → (move : Move) → IsPending vs move
+    → move.key < section.key → section.key ≤ move.next_key → (hops : ℕ) → Hops m section.key hops (stand_slot section.reading.stand) move.old
+    → (section.entered < move.made) × (move.waited ≡ false)
+
+-- A slot at which an open section stood is linked, or was unlinked after the section was entered.
+abbrev pub StoodIsYoung : Type 0
+StoodIsYoung = (k : Shape) (m : Memory) (vs : List View) (h : List Mark) (i : Invariant k m vs h) (id s : ℕ) (v : View) (section : Section)
+    → get_elem? vs id ≡ some v → v.section ≡ Some section → IsIn section.reading.stood s
+    → (i.chart.linked s ≡ true) ⊎ ((at : ℕ) × (gone_at s h ≡ Some at) × (section.entered < at))
+
+-- Where the free count is 0, a place with nothing reserved, in hand, owed or under way shows that the dictionary is large: its pairs,
+-- with its retired slots and twenty for each other place, are as many as the slots.
+pub record HoldsNothing (v : View) : Type 0 where
+  pub works : Works v
+  pub reserved : v.hands.reserved ≡ false
+  pub hand : v.hands.hand ≡ None
+  pub owes : v.hands.owes ≡ false
+  pub moving : v.moving ≡ None
+
+abbrev pub EmptyIsFull : Type 0
+EmptyIsFull = (k : Shape) (m : Memory) (vs : List View) (h : List Mark) → Invariant k m vs h → (id : ℕ) (v : View) → get_elem? vs id ≡ some v → HoldsNothing v → m Free ≡ 0
+    → k.slots ≤ finite.len (map_of (updates_of h)) + length v.hands.retired + 20 * (k.places - 1)
+
+-- What a step leaves: no life and no tag falls, and the key, value and links of an unlinked slot stay until its life is raised.
+pub record KeepsAges (m : Memory) (h : List Mark) (to : Memory) : Type 0 where
+  pub lives : (s : ℕ) → m (Life s) ≤ to (Life s)
+  pub tags : (s : ℕ) (b : Side) → m (Tag s b) ≤ to (Tag s b)
+  pub content : (s : ℕ) (field : Field) → IsGone h s → IsOdd (m (Life s)) → IsContent s field → to field ≡ m field
+
+pub record IsKept (k : Shape) (m : Memory) (h : List Mark) (to : Memory) (vs : List View) (h' : List Mark) : Type 0 where
+  pub invariant : Invariant k to vs h'
+  pub ages : KeepsAges m h to
+
+-- Each step of the kind keeps the invariant: by any view that works at a place, from any state that has the invariant.
+abbrev pub Keeps : Kind → Type 0
+Keeps kind = (k : Shape) (m : Memory) (vs : List View) (h : List Mark) (id : ℕ) (v w : View) (field : Field) (left : ℕ) (marks : List Mark)
+    → Invariant k m vs h → get_elem? vs id ≡ some v → Works v → is_field k field ≡ true → IsStep k h v kind field (m field) left w marks
+    → IsKept k m h (stored m field left) (set vs id w) (h ++ marks)
