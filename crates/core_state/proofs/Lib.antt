@@ -1,0 +1,10 @@
+pub mod Ranges
+pub mod Hops
+pub mod Answers
+pub mod Unique
+pub mod Places
+pub mod Stands
+pub mod Passes
+pub mod Trees
+pub mod Lists
+pub mod Plain

@@ -28,7 +28,7 @@ Distinct (Node l d r) = (In d l → ⊥) × (In d r → ⊥) × ((s : ℕ) → I
 abbrev pub Ordered : Memory → (ℕ → Bool) → Tree → Type 0
 Ordered m old Leaf = Unit {0}
 Ordered m old (Node l d r) =
-    ((s : ℕ) → In s l → m (Key s) < m (Key d)) × ((s : ℕ) → In s r → (m (Key d) < m (Key s)) ⊎ ((old s ≡ true) × (m (Key s) ≡ m (Key d)) × (old d ≡ false)))
+    ((s : ℕ) → In s l → m (Key s) < m (Key d)) × ((s : ℕ) → In s r → (m (Key d) < m (Key s)) ⊎ ((old s ≡ true) × (m (Key s) ≡ m (Key d))))
     × Ordered m old l × Ordered m old r
 
 -- The links from the root form a tree of distinct slots in search order: the linked slots but the root, to whose left there
