@@ -8,3 +8,10 @@ pub mod Passes
 pub mod Trees
 pub mod Lists
 pub mod Plain
+pub mod MarkFacts
+pub mod Same
+pub mod TreeFrame
+pub mod SlotFrame
+pub mod LockFrame
+pub mod CountFrame
+pub mod ReaderFrame
