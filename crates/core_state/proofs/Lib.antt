@@ -15,3 +15,11 @@ pub mod SlotFrame
 pub mod LockFrame
 pub mod CountFrame
 pub mod ReaderFrame
+pub mod MarkFrame
+pub mod GraceFrame
+pub mod SeatFacts
+pub mod SeatFrame
+pub mod WaiterFrame
+pub mod Leaving
+pub mod SectionLaws
+pub mod Keeping

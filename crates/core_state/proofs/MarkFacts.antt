@@ -198,3 +198,26 @@ take-more h ms n le = take-append-le n h ms le
 -- the marks of a place, after a mark of another
 pub own_of-other : (p : ℕ) (h : List Mark) (m : Mark) → is_of p m ≡ false → own_of p (h ++ m ∷ []) ≡ own_of p h
 own_of-other p h m ne = own_of-append p h (m ∷ []) ∙ ap (λ b. own_of p h ++ cond b (m ∷ []) []) ne ∙ append-nil (own_of p h)
+
+open_below : (p i : ℕ) (s : Option Open) (h : List Mark) (o : Open) → ((q : Open) → s ≡ Some q → q.at < i) → open_from p i s h ≡ Some o → o.at < i + length h
+open_below p i s [] o old e = let l = old o e in omega arith
+open_below p i s (Began q c a b ∷ h) o old e = let l = open_below p (i + 1) s h o (λ q f. let z = old q f in omega arith) e in omega arith
+open_below p i s (Ended q c ∷ h) o old e = let l = open_below p (i + 1) s h o (λ q f. let z = old q f in omega arith) e in omega arith
+open_below p i s (Done u ∷ h) o old e = let l = open_below p (i + 1) s h o (λ q f. let z = old q f in omega arith) e in omega arith
+open_below p i s (Freed t ∷ h) o old e = let l = open_below p (i + 1) s h o (λ q f. let z = old q f in omega arith) e in omega arith
+open_below p i s (Given t ∷ h) o old e = let l = open_below p (i + 1) s h o (λ q f. let z = old q f in omega arith) e in omega arith
+open_below p i s (Unlinked t ∷ h) o old e = let l = open_below p (i + 1) s h o (λ q f. let z = old q f in omega arith) e in omega arith
+open_below p i s (Entered q c x ∷ h) o old e =
+    let new : (z : Open) → cond (q == p) (Some (record { count = c; key = x; at = i })) s ≡ Some z → z.at < i + 1 = λ z. elim (q == p) as (λ b. cond b (Some (record { count = c; key = x; at = i })) s ≡ Some z → z.at < i + 1) [ true ↦ λ f. (let g : Some i ≡ Some z.at = ap at_of f in let k : i ≡ z.at = cc in omega arith) | false ↦ λ f. let k = old z f in omega arith ] in
+    let l = open_below p (i + 1) (cond (q == p) (Some (record { count = c; key = x; at = i })) s) h o new e in omega arith
+  where
+    at_of : Option Open → Option ℕ
+    at_of None = None
+    at_of (Some z) = Some z.at
+open_below p i s (Left q c ∷ h) o old e =
+    let new : (z : Open) → cond (q == p) None s ≡ Some z → z.at < i + 1 = λ z. elim (q == p) as (λ b. cond b None s ≡ Some z → z.at < i + 1) [ true ↦ λ f. absurd (cc) | false ↦ λ f. let k = old z f in omega arith ] in
+    let l = open_below p (i + 1) (cond (q == p) None s) h o new e in omega arith
+
+-- an open section was entered in the list
+pub open_at-below : (p : ℕ) (h : List Mark) (o : Open) → open_at p h ≡ Some o → o.at < length h
+open_at-below p h o e = let l = open_below p 0 None h o (λ q f. absurd (cc)) e in omega arith

@@ -103,6 +103,7 @@ module _ (m m' : Memory) (nodes : SameNodes m m') (g : Chart) (vs : List View) (
         (λ s. held_back_same g h h' section.entered s quiet) (may_still vs id v w there moving section.key section.entered) (λ o. said_same h h' section.key section.from o quiet) _ p.place;
       answered = answered_same section section.reading.stand p.answered;
     });
+    lists = i.lists;
     walking = λ node parent b value walk found on. (let p = i.walking node parent b value walk found on in record {
       walks = λ l. subst (λ k. Walks m' g k (IsHeldBack g h' section.entered) walk.slot) (sym (nodes.key node)) (walks_same m m' nodes g (m (Key node)) (IsHeldBack g h section.entered) (IsHeldBack g h' section.entered) (λ s. held_back_same g h h' section.entered s quiet) walk.slot (p.walks l));
       parent = λ l k. ⊎_elim (λ e. inl e) (λ e. inr (e ∙ ap (λ x. x + 1) (sym (nodes.key node)))) (p.parent l k);

@@ -1,6 +1,6 @@
 -- The invariant on readers, their records and walks, and on how old an unlinked slot is that a section may meet.
 -- Source: docs/ALGORITHM.md, "The invariant of the tree".
-use Rattle.std.specs.Prelude.{◌≡◌, ◌≢◌, ℕ, ◌+◌, ◌*◌, ◌/◌, ◌<◌, ◌⊎◌, true, List, Option, Some, None}
+use Rattle.std.specs.Prelude.{◌≡◌, ◌≢◌, ℕ, ◌+◌, ◌*◌, ◌/◌, ◌<◌, ◌⊎◌, true, List, [], Option, Some, None}
 use mathlib.Core.Option.{some}
 use lib.ListN.{get_elem?}
 use Rattle.prcu_model.specs.declared.mark.Mark.{Mark}
@@ -10,6 +10,7 @@ use Rattle.prcu_model.specs.declared.operation.Update.{Update}
 use Rattle.prcu_model.specs.Marks.{updates_of, gone_at}
 use Rattle.core_state.specs.declared.words.Field.{Field}
 use Rattle.core_state.specs.declared.words.Field.TheVariants.{Life, Key, Link, Tag}
+use Rattle.core_state.specs.declared.view.Listing.{Listing}
 use Rattle.core_state.specs.declared.view.Reading.{Reading}
 use Rattle.core_state.specs.declared.view.Section.{Section}
 use Rattle.core_state.specs.declared.view.Stand.{Stand}
@@ -21,6 +22,7 @@ use Rattle.core_state.specs.Memory.{Memory}
 use Rattle.core_state.specs.Words.{step_side}
 use Rattle.core_state.specs.Known.{known_in, IsLoadable, LoadedGeneration}
 use Rattle.core_state.specs.Views.{readings_of}
+use Rattle.core_state.specs.Sections.{fresh_reading}
 use Rattle.core_state.specs.Chart.{Chart, Belongs}
 use Rattle.core_state.specs.Readers.{WasSaid, IsHeldBack, MayPass, IsOldFor, IsEmptied, Place, Walks}
 
@@ -49,13 +51,15 @@ StandsWell r (Unread s parent b) = IsReached r s parent b × (r.walk ≡ None)
 StandsWell r (Found s parent b value) = IsReached r s parent b × (known_in r.loads (Key s) ≡ Some r.key)
 StandsWell r (Missed s b) = GoesTo r s b × (r.walk ≡ None)
 
--- What a section found out, by itself: it began at the root, stood at all slots that it names, and loaded at such slots alone.
+-- What a section found out, by itself: it began at the root, stood at all slots that it names, and loaded at such slots alone. Before
+-- its first load it stands at the root.
 pub record IsReading (r : Reading) : Type 0 where
   pub root : IsIn r.stood 0
   pub stands : IsIn r.stood (stand_slot r.stand)
   pub well : StandsWell r r.stand
   pub walk : (walk : Walk) → r.walk ≡ Some walk → (walk.slot ≢ 0) × (walk.parent ≢ 0) × IsIn r.stood walk.slot × IsIn r.stood walk.parent
   pub loads : (field : Field) (number : ℕ) → known_in r.loads field ≡ Some number → (s : ℕ) × IsIn r.stood s × IsLoadable s field
+  pub first : r.loads ≡ [] → r ≡ fresh_reading r.key
 
 -- what a search has answered, where it did: nothing of the key where it ended, or the value that it loaded
 abbrev pub Answered : List Update → Section → Stand → Type 0
@@ -81,9 +85,10 @@ pub record HasStood (m : Memory) (g : Chart) (h : List Mark) (section : Section)
   pub key : (key : ℕ) → known_in section.reading.loads (Key s) ≡ Some key → m (Key s) ≡ key
   pub life : (life : ℕ) → known_in section.reading.loads (Life s) ≡ Some life → m (Life s) / 2 ≡ life / 2
 
--- What holds of an open section.
+-- What holds of an open section. A listing's search never begins.
 pub record IsServed (m : Memory) (g : Chart) (h : List Mark) (vs : List View) (section : Section) : Type 0 where
   pub placed : section.listing ≡ None → IsPlaced m g h vs section
+  pub lists : (listing : Listing) → section.listing ≡ Some listing → section.reading.loads ≡ []
   pub walking : (node parent : ℕ) (b : Side) (value : Option ℕ) (walk : Walk) → section.reading.stand ≡ Found node parent b value → section.reading.walk ≡ Some walk → IsWalking m g h section node walk
   pub stood : (s : ℕ) → IsIn section.reading.stood s → HasStood m g h section s
 
