@@ -1,6 +1,6 @@
 pub mod Ranges
 pub mod Hops
-pub mod Answers
+pub mod Endings
 pub mod Unique
 pub mod Places
 pub mod Stands

@@ -28,7 +28,7 @@ use Rattle.core_state.specs.Invariant.{Invariant}
 use Rattle.core_state.specs.Laws.{LinksAreTree, FollowIsMap, Searches, SearchesAreAnswered, SearchesStand, FewPass, StoodIsYoung}
 use Rattle.core_state.proofs.Lists.{at_one, total_part, times_append, times_in}
 use Rattle.core_state.proofs.Ranges.{bool_cases}
-use Rattle.core_state.proofs.Answers.{answer_is}
+use Rattle.core_state.proofs.Endings.{answer_is}
 use Rattle.core_state.proofs.Places.{place_told}
 use Rattle.core_state.proofs.Stands.{stands}
 use Rattle.core_state.proofs.Passes.{passes_pends}

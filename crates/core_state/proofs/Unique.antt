@@ -3,7 +3,7 @@ use Rattle.std.proofs.Common.{zero, suc, ◌≡◌, ◌≢◌, ℕ, ◌<◌, ◌
 use Rattle.std.proofs.lemmas.Bool.{cases_eq}
 use Rattle.core_state.specs.Chart.{Chart, high_of, IsShaped}
 use Rattle.core_state.proofs.Ranges.{bool_cases, next-here}
-use Rattle.core_state.proofs.Answers.{one_end}
+use Rattle.core_state.proofs.Endings.{one_end}
 use Rattle.prcu_model.specs.declared.mark.Side.{Side}
 use Rattle.prcu_model.specs.declared.mark.Side.TheVariants.{Left, Right}
 use Rattle.core_state.specs.declared.words.Field.TheVariants.{Key, Value, Link}

@@ -1,0 +1,64 @@
+//! What the invariant gives, and the kinds of step that are proved here to keep it. Each is a function without a body whose promise is
+//! the law.
+ghost use Rattle.core_state.specs.declared.words.Kind.TheVariants.{K3, K4, K5, K6};
+ghost use Rattle.core_state.specs.Laws.{LinksAreTree, FollowIsMap, SearchesAreAnswered, SearchesStand, FewPass, StoodIsYoung, Keeps};
+
+/// The links from the root are a tree of distinct slots in search order.
+pub fn links_are_tree()
+    ensures { LinksAreTree }
+{
+}
+
+/// A search from the root answers as the dictionary now.
+pub fn follow_is_map()
+    ensures { FollowIsMap }
+{
+}
+
+/// What each open search will answer the dictionary said since it was entered.
+pub fn searches_are_answered()
+    ensures { SearchesAreAnswered }
+{
+}
+
+/// Where each open search stands, in words of its follow.
+pub fn searches_stand()
+    ensures { SearchesStand }
+{
+}
+
+/// Who may pass a pending move's old successor.
+pub fn few_pass()
+    ensures { FewPass }
+{
+}
+
+/// How old an unlinked slot is at which a section stood.
+pub fn stood_is_young()
+    ensures { StoodIsYoung }
+{
+}
+
+/// A load of the clock keeps the invariant.
+pub fn k3()
+    ensures { Keeps K3 }
+{
+}
+
+/// A store of the own key word keeps the invariant.
+pub fn k4()
+    ensures { Keeps K4 }
+{
+}
+
+/// Entering a section of the first waiter keeps the invariant.
+pub fn k5()
+    ensures { Keeps K5 }
+{
+}
+
+/// Leaving it keeps the invariant.
+pub fn k6()
+    ensures { Keeps K6 }
+{
+}
