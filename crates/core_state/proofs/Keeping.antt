@@ -1,5 +1,5 @@
 -- Steps of a kind keep the invariant.
-use Rattle.std.proofs.Common.{◌≡◌, ℕ, true, List, [], ◌∷◌, ◌++◌, set, Some, refl, sym, subst, ◌∙◌, ap, append-nil}
+use Rattle.std.proofs.Common.{◌≡◌, ℕ, true, cond, List, [], ◌∷◌, ◌++◌, set, Some, refl, sym, subst, ◌∙◌, ap, append-nil}
 use mathlib.Core.Option.{some}
 use lib.ListN.{get_elem?}
 use Rattle.prcu_model.specs.declared.mark.Mark.{Mark}
@@ -14,9 +14,13 @@ use Rattle.core_state.specs.Views.{Works}
 use Rattle.core_state.specs.Sections.{after3, after4, after5, leaving}
 use Rattle.core_state.specs.Steps.{IsStep, step3, step4, step5, step6}
 use Rattle.core_state.specs.Invariant.{Invariant}
-use Rattle.core_state.specs.Laws.{IsKept, Keeps}
+use Rattle.atomic_table.proofs.Lists.{set_here}
+use Rattle.core_state.specs.Seating.{trod}
+use Rattle.core_state.specs.Steps.{is_store}
+use Rattle.core_state.specs.Laws.{IsKept, Keeps, NotesKeep}
+use Rattle.core_state.proofs.Lists.{at_below, set_twice}
 use Rattle.core_state.proofs.Same.{SameSlots, announced_slots, stamp_slots}
-use Rattle.core_state.proofs.SectionLaws.{ages_kept, law3, law4, law5, law6}
+use Rattle.core_state.proofs.SectionLaws.{ages_kept, trod_keeps, law3, law4, law5, law6}
 
 clock_slots : (m : Memory) (n : ℕ) → SameSlots m (stored m Clock n)
 clock_slots m n = record { nodes = record { life = λ s. refl; key = λ s. refl; value = λ s. refl; link = λ s b. refl; tag = λ s b. refl }; state = λ s. refl; lock = λ s. refl }
@@ -63,3 +67,11 @@ keeps5 k m vs h id v w field left marks i there works is_field step = case5 k m 
 
 pub keeps6 : Keeps K6
 keeps6 k m vs h id v w field left marks i there works is_field step = case6 k m vs h id v i there works w field (m field) left marks step
+
+-- where steps of a kind keep the invariant, so do those that are noted in a trail
+pub notes_keep : NotesKeep
+notes_keep kind keeps k m vs h id v w field left marks i there works is_field step =
+    let number : ℕ = cond (is_store kind) left (m field) in
+    let noted : View = trod v kind field number in
+    subst (λ z. IsKept k m h (stored m field left) z (h ++ marks)) (set_twice vs id noted w)
+    (keeps k m (set vs id noted) h id noted w field left marks (trod_keeps k m vs h id v i there works kind field number) (set_here vs id noted (at_below vs id v there)) works is_field step)

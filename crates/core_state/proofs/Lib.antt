@@ -23,3 +23,4 @@ pub mod WaiterFrame
 pub mod Leaving
 pub mod SectionLaws
 pub mod Keeping
+pub mod First

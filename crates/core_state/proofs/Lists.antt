@@ -20,6 +20,11 @@ module _ {A : Type 0} where
   at_end (x ∷ xs) a b zero e = inl e
   at_end (x ∷ xs) a b (suc j) e = elim (at_end xs a b j e) [ inl t ↦ inl t | inr t ↦ inr (ap suc t.0, t.1) ]
 
+  pub set_twice : (l : List A) (i : ℕ) (a b : A) → set (set l i a) i b ≡ set l i b
+  set_twice [] i a b = refl
+  set_twice (x ∷ xs) zero a b = refl
+  set_twice (x ∷ xs) (suc i) a b = ap (λ ys. x ∷ ys) (set_twice xs i a b)
+
   -- the element at a place is one
   pub at_one : (l : List A) (i : ℕ) (a b : A) → get_elem? l i ≡ some a → get_elem? l i ≡ some b → a ≡ b
   at_one l i a b ea eb = some-injective a b (sym ea ∙ eb)

@@ -1,6 +1,6 @@
 -- What the invariant gives, in plain words; and what it is for a kind of step to keep it.
 -- Source: docs/ALGORITHM.md, "What the invariant gives".
-use Rattle.std.specs.Prelude.{◌≡◌, ℕ, ◌+◌, ◌-◌, ◌*◌, ◌^◌, ◌<◌, ◌≤◌, ◌⊎◌, true, false, List, ◌++◌, length, set, Some, None}
+use Rattle.std.specs.Prelude.{◌≡◌, ℕ, ◌+◌, ◌-◌, ◌*◌, ◌^◌, ◌<◌, ◌≤◌, ◌⊎◌, true, false, List, [], ◌∷◌, ◌++◌, length, set, Some, None}
 use Rattle.std.specs.FinMap as finite
 use mathlib.Core.Option.{some}
 use lib.ListN.{get_elem?}
@@ -24,8 +24,9 @@ use Rattle.core_state.specs.ReaderParts.{stand_slot}
 use Rattle.core_state.specs.TreeParts.{map_now}
 use Rattle.core_state.specs.Slots.{IsContent}
 use Rattle.core_state.specs.Views.{Works}
-use Rattle.core_state.specs.Steps.{IsStep}
-use Rattle.core_state.specs.Invariant.{Invariant}
+use Rattle.core_state.specs.Steps.{IsStep, Steps}
+use Rattle.core_state.specs.Fresh.{first_view, IsFresh}
+use Rattle.core_state.specs.Invariant.{IsShape, Invariant}
 
 -- The links from the root are a tree of distinct slots in search order, the linked slots.
 abbrev pub LinksAreTree : Type 0
@@ -94,3 +95,16 @@ abbrev pub Keeps : Kind → Type 0
 Keeps kind = (k : Shape) (m : Memory) (vs : List View) (h : List Mark) (id : ℕ) (v w : View) (field : Field) (left : ℕ) (marks : List Mark)
     → Invariant k m vs h → get_elem? vs id ≡ some v → Works v → is_field k field ≡ true → IsStep k h v kind field (m field) left w marks
     → IsKept k m h (stored m field left) (set vs id w) (h ++ marks)
+
+-- The same of steps as seats make them, which are noted in their trails.
+abbrev pub KeepsNoted : Kind → Type 0
+KeepsNoted kind = (k : Shape) (m : Memory) (vs : List View) (h : List Mark) (id : ℕ) (v w : View) (field : Field) (left : ℕ) (marks : List Mark)
+    → Invariant k m vs h → get_elem? vs id ≡ some v → Works v → is_field k field ≡ true → Steps k h v kind field (m field) left w marks
+    → IsKept k m h (stored m field left) (set vs id w) (h ++ marks)
+
+abbrev pub NotesKeep : Type 0
+NotesKeep = (kind : Kind) → Keeps kind → KeepsNoted kind
+
+-- A table as it is made has the invariant, whatever its waiter.
+abbrev pub FreshHolds : Type 0
+FreshHolds = (k : Shape) (m : Memory) → IsShape k → IsFresh k m → Invariant k m (first_view k ∷ []) []

@@ -1,7 +1,7 @@
 //! What the invariant gives, and the kinds of step that are proved here to keep it. Each is a function without a body whose promise is
 //! the law.
 ghost use Rattle.core_state.specs.declared.words.Kind.TheVariants.{K3, K4, K5, K6};
-ghost use Rattle.core_state.specs.Laws.{LinksAreTree, FollowIsMap, SearchesAreAnswered, SearchesStand, FewPass, StoodIsYoung, Keeps};
+ghost use Rattle.core_state.specs.Laws.{LinksAreTree, FollowIsMap, SearchesAreAnswered, SearchesStand, FewPass, StoodIsYoung, EmptyIsFull, FreshHolds, Keeps, NotesKeep};
 
 /// The links from the root are a tree of distinct slots in search order.
 pub fn links_are_tree()
@@ -36,6 +36,18 @@ pub fn few_pass()
 /// How old an unlinked slot is at which a section stood.
 pub fn stood_is_young()
     ensures { StoodIsYoung }
+{
+}
+
+/// A table as it is made has the invariant, whatever its waiter.
+pub fn fresh_holds()
+    ensures { FreshHolds }
+{
+}
+
+/// Where each step of a kind keeps the invariant, so does each that is noted in its seat's trail.
+pub fn notes_keep()
+    ensures { NotesKeep }
 {
 }
 
