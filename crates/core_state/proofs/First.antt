@@ -197,7 +197,7 @@ module _ (k : Shape) (m : Memory) (table : IsShape k) (fresh : IsFresh k m) wher
         beyond = λ s far. (let e = spare_out s (inr (omega arith)) in omega arith);
         states = λ s lt. dite (dec_le s k.places) (λ low. (let e = state_one s lt low in omega arith)) (λ high. (let e = state_zero s lt (omega arith) in omega arith));
       };
-      few = each_one HasFewSlots (first_view k) (record { one = λ e. refl; few = omega arith; next_spare = λ works none. absurd (cc) });
+      few = each_one HasFewSlots (first_view k) (record { one = λ e. refl; few = omega arith; joined = each_none (λ (s : Spent). length s.retired ≤ 16); next_spare = λ works none. absurd (cc) });
       free = λ s lt e. even_life s;
       root = fresh.lives 0;
       hands = each_one (AreHandsKnown m) (first_view k) (record {

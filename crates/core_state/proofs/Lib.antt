@@ -24,3 +24,4 @@ pub mod Leaving
 pub mod SectionLaws
 pub mod Keeping
 pub mod First
+pub mod Counting

@@ -9,6 +9,7 @@ use Rattle.core_state.specs.declared.words.Field.TheVariants.{State, Life}
 use Rattle.core_state.specs.declared.view.Held.{Held}
 use Rattle.core_state.specs.declared.view.Move.{Move}
 use Rattle.core_state.specs.declared.view.Retired.{Retired}
+use Rattle.core_state.specs.declared.view.Spent.{Spent}
 use Rattle.core_state.specs.declared.view.View.{View}
 use Rattle.core_state.specs.Lists.{times, total, flag, IsIn, Each, IsEven, IsOdd}
 use Rattle.core_state.specs.Memory.{Memory}
@@ -61,6 +62,7 @@ few_same : (v w : View) → SameForSlots v w → HasFewSlots v → HasFewSlots w
 few_same v w e i = record {
   one = λ r. ap (λ x. x.hand) e.hands ∙ i.one (ap (λ x. x.reserved) (sym e.hands) ∙ r);
   few = subst (λ x. length x.retired ≤ 16) (sym e.hands) i.few;
+  joined = subst (λ x. Each x (λ (s : Spent). length s.retired ≤ 16)) (sym e.places.joined) i.joined;
   next_spare = λ works none. (let r = i.next_spare (subst (λ x. 1 ≤ x) e.places.places works) (ap (λ x. x.spare) (sym e.hands) ∙ none) in (r.0, subst (λ x. IsIn x.retired r.0) (sym e.hands) r.1, r.2));
 }
 

@@ -10,6 +10,7 @@ use Rattle.core_state.specs.declared.words.Field.TheVariants.{State, Life}
 use Rattle.core_state.specs.declared.view.Held.{Held}
 use Rattle.core_state.specs.declared.view.Move.{Move}
 use Rattle.core_state.specs.declared.view.Retired.{Retired}
+use Rattle.core_state.specs.declared.view.Spent.{Spent}
 use Rattle.core_state.specs.declared.view.View.{View}
 use Rattle.core_state.specs.Lists.{times, total, flag, IsIn, Each, IsEven, IsOdd}
 use Rattle.core_state.specs.Memory.{Memory}
@@ -28,11 +29,12 @@ pub record HaveOneRole (m : Memory) (n : ℕ) (g : Chart) (vs : List View) : Typ
   pub beyond : (s : ℕ) → n ≤ s → total (λ v. times s (slots_of v)) vs ≡ 0
   pub states : (s : ℕ) → s < n → m (State s) ≤ 1
 
--- A place has at most one slot reserved or in hand, and at most 16 retired. Without a spare it has a retired slot whose generation
+-- A place has at most one slot reserved or in hand, and at most 16 retired; so had those that were joined. Without a spare it has a retired slot whose generation
 -- wasn't raised.
 pub record HasFewSlots (v : View) : Type 0 where
   pub one : v.hands.reserved ≡ true → v.hands.hand ≡ None
   pub few : length v.hands.retired ≤ 16
+  pub joined : Each v.post.joined (λ (s : Spent). length s.retired ≤ 16)
   pub next_spare : Works v → v.hands.spare ≡ None → (r : Retired) × IsIn v.hands.retired r × (r.raised ≡ false)
 
 -- A retired slot was unlinked where the view says, and neither given nor freed since. Until its generation is raised its node is

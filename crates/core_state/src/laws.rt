@@ -39,6 +39,12 @@ pub fn stood_is_young()
 {
 }
 
+/// Where the free count is 0 the dictionary is large.
+pub fn empty_is_full()
+    ensures { EmptyIsFull }
+{
+}
+
 /// A table as it is made has the invariant, whatever its waiter.
 pub fn fresh_holds()
     ensures { FreshHolds }
