@@ -19,9 +19,11 @@ use Rattle.core_state.specs.Words.{step_side}
 use Rattle.core_state.specs.Lists.{IsIn, IsOdd}
 use Rattle.core_state.specs.Memory.{Memory}
 use Rattle.core_state.specs.Known.{known_in, LoadedGeneration}
+use Rattle.core_state.specs.Nodes.{OnRightLeft, first, further}
 use Rattle.core_state.specs.Chart.{Chart, Belongs, IsShaped, IsInRange}
 use Rattle.core_state.specs.Readers.{WasSaid, IsHeldBack, MayPass, IsOldFor, Spine, bottom, more, Place, in_range, at_old, at_end, on, Walks, at_linked, at_stop, at_live}
 use Rattle.core_state.specs.ReaderParts.{stand_slot, StandsWell, GoesTo, IsReading, HasStood, IsServed, IsAsRecorded, IsRecord}
+use Rattle.core_state.proofs.Ranges.{after-node}
 use Rattle.core_state.proofs.Places.{not_root}
 
 -- a search for a key below that of a slot goes left, for one above goes right
@@ -71,11 +73,11 @@ says_new m n g x live pend told old_for s b h out due l o (at_old p a le t (more
 says_new m n g x live pend told old_for s b h out due l o (at_end w z t) empty = let e = out s w in cc
 says_new m n g x live pend told old_for s b h out due l o (on w e nz r p) empty = let f = out s w in cc
 
--- a walk at a linked slot stands right above the node's key
-pub walk_low : (m : Memory) (g : Chart) (k : ℕ) (live : ℕ → Type 0) (w : ℕ) → ((s : ℕ) → live s → g.linked s ≡ false) → g.linked w ≡ true → Walks m g k live w → g.low w ≡ k + 1
-walk_low m g k live w out l (at_linked i e) = e
-walk_low m g k live w out l (at_stop i e) = absurd (let f = out w i in cc)
-walk_low m g k live w out l (at_live i e nz q) = absurd (let f = out w i in cc)
+-- a walk at a linked slot stands on the path right of the node and then left
+pub walk_path : (m : Memory) (g : Chart) (k : ℕ) (live : ℕ → Type 0) (w : ℕ) → ((s : ℕ) → live s → g.linked s ≡ false) → g.linked w ≡ true → Walks m g k live w → OnRightLeft m k w
+walk_path m g k live w out l (at_linked i e) = e
+walk_path m g k live w out l (at_stop i e) = absurd (let f = out w i in cc)
+walk_path m g k live w out l (at_live i e nz q) = absurd (let f = out w i in cc)
 
 -- a slot that is as recorded, and at which the section stood, is linked
 linked_now : (m : Memory) (g : Chart) (h : List Mark) (section : Section) (s : ℕ) → HasStood m g h section s → IsAsRecorded m section.reading s → g.linked s ≡ true
@@ -94,7 +96,7 @@ record_of m n g vs h section shape reading sought served = record {
     let w = served.walking node parent b value walk found walks in
     record {
       parent = λ x y. w.parent (linked_now m g h section node node_stood x) (linked_now m g h section walk.parent (served.stood walk.parent names.3) y);
-      slot = λ x y. walk_low m g (m (Key node)) (IsHeldBack g h section.entered) walk.slot (λ s live. live.out) (linked_now m g h section walk.slot (served.stood walk.slot names.2) y) (w.walks (linked_now m g h section node node_stood x));
+      slot = λ x y. walk_path m g node (IsHeldBack g h section.entered) walk.slot (λ s live. live.out) (linked_now m g h section walk.slot (served.stood walk.slot names.2) y) (w.walks (linked_now m g h section node node_stood x));
     });
 }
   where
@@ -114,3 +116,11 @@ record_of m n g vs h section shape reading sought served = record {
         (λ u p. record { move = p.move; pending = p.pending; old = p.old; low = p.low; high = p.high })
         (linked_now m g h section s stood life) (subst (λ x. IsOnSide m x s b) sought side)
         (subst (Place m g section.key (IsHeldBack g h section.entered) (MayPass vs section.key section.entered) (WasSaid (updates_of h) section.key section.from)) here (served.placed searches).place) empty)
+
+-- what lies right of a linked node and then left is linked, and its keys begin right above the node's
+pub right_left_low : (m : Memory) (n : ℕ) (g : Chart) (d s : ℕ) → IsShaped m n g → g.linked d ≡ true → d ≢ 0 → OnRightLeft m d s → (g.linked s ≡ true) × (g.low s ≡ m (Key d) + 1) × (g.rank d < g.rank s)
+right_left_low m n g d s h l ne (first e nz) = let k = h.below d s Right l e nz in (k.linked, k.low ∙ after-node m d ne, k.rank)
+right_left_low m n g d s h l ne (further {s = p} way e nz) =
+    let r = right_left_low m n g d p h l ne way in
+    let k = h.below p s Left r.0 e nz in
+    (k.linked, k.low ∙ r.1, (let a = r.2 in let b = k.rank in omega arith))

@@ -19,7 +19,7 @@ use Rattle.core_state.specs.declared.view.View.{View}
 use Rattle.core_state.specs.Lists.{IsIn, Each, IsOdd}
 use Rattle.core_state.specs.Memory.{Memory}
 use Rattle.core_state.specs.Known.{known_in, lock_of, LoadedGeneration}
-use Rattle.core_state.specs.Nodes.{next, answer_at}
+use Rattle.core_state.specs.Nodes.{next, answer_at, OnRightLeft, first, further}
 use Rattle.core_state.specs.Views.{readings_of}
 use Rattle.core_state.specs.Chart.{Chart, Belongs, IsInRange}
 use Rattle.core_state.specs.Readers.{WasSaid, IsHeldBack, MayPass, IsOldFor, IsEmptied, Spine, bottom, more, Place, in_range, at_old, Walks, at_linked, at_stop, at_live}
@@ -43,8 +43,12 @@ module _ (m m' : Memory) (nodes : SameNodes m m') where
   spine_same g x u s (bottom e l) = bottom e l
   spine_same g x u s (more {c = c} l lt e ne sp) = more l (let k = nodes.key s in omega arith) (nodes.link s Left ∙ e) ne (spine_same g x u c sp)
 
+  pub right_left_same : (d s : ℕ) → OnRightLeft m d s → OnRightLeft m' d s
+  right_left_same d s (first e ne) = first (nodes.link d Right ∙ e) ne
+  right_left_same d s (further {s = p} on e ne) = further (right_left_same d p on) (nodes.link p Left ∙ e) ne
+
   pub walks_same : (g : Chart) (k : ℕ) (live later : ℕ → Type 0) → ((s : ℕ) → live s → later s) → (s : ℕ) → Walks m g k live s → Walks m' g k later s
-  walks_same g k live later f s (at_linked l e) = at_linked l e
+  walks_same g k live later f s (at_linked l e) = at_linked l (right_left_same k s e)
   walks_same g k live later f s (at_stop l e) = at_stop (f s l) (nodes.link s Left ∙ e)
   walks_same g k live later f s (at_live {c = c} l e ne w) = at_live (f s l) (nodes.link s Left ∙ e) ne (walks_same g k live later f c w)
 
@@ -105,8 +109,8 @@ module _ (m m' : Memory) (nodes : SameNodes m m') (g : Chart) (vs : List View) (
     });
     lists = i.lists;
     walking = λ node parent b value walk found on. (let p = i.walking node parent b value walk found on in record {
-      walks = λ l. subst (λ k. Walks m' g k (IsHeldBack g h' section.entered) walk.slot) (sym (nodes.key node)) (walks_same m m' nodes g (m (Key node)) (IsHeldBack g h section.entered) (IsHeldBack g h' section.entered) (λ s. held_back_same g h h' section.entered s quiet) walk.slot (p.walks l));
-      parent = λ l k. ⊎_elim (λ e. inl e) (λ e. inr (e ∙ ap (λ x. x + 1) (sym (nodes.key node)))) (p.parent l k);
+      walks = λ l. walks_same m m' nodes g node (IsHeldBack g h section.entered) (IsHeldBack g h' section.entered) (λ s. held_back_same g h h' section.entered s quiet) walk.slot (p.walks l);
+      parent = λ l k. ⊎_elim (λ e. inl e) (λ e. inr (right_left_same m m' nodes node walk.parent e)) (p.parent l k);
     });
     stood = λ s has. (let p = i.stood s has in record {
       here = ⊎_elim (λ l. inl l) (λ (x : IsHeldBack g h section.entered s × IsOdd (m (Life s))). inr (held_back_same g h h' section.entered s quiet x.0, subst IsOdd (sym (nodes.life s)) x.1)) p.here;
@@ -121,8 +125,8 @@ module _ (m m' : Memory) (nodes : SameNodes m m') (g : Chart) (vs : List View) (
       ⊎_elim (λ o. inl (old_still vs id v w there moving r.key s o)) (λ x. inr (belongs_same m m' nodes g r.key s b x))
       (i.side s tag b missed (recorded_back m m' nodes r s life) known (sym (nodes.link s b) ∙ empty) (sym (nodes.tag s b) ∙ same) (λ x. settled (emptied_still vs id v w there locks s b x)));
     walk = λ node parent b value walk found on. (let p = i.walk node parent b value walk found on in record {
-      parent = λ x y. ⊎_elim (λ e. inl e) (λ e. inr (e ∙ ap (λ z. z + 1) (sym (nodes.key node)))) (p.parent (recorded_back m m' nodes r node x) (recorded_back m m' nodes r walk.parent y));
-      slot = λ x y. p.slot (recorded_back m m' nodes r node x) (recorded_back m m' nodes r walk.slot y) ∙ ap (λ z. z + 1) (sym (nodes.key node));
+      parent = λ x y. ⊎_elim (λ e. inl e) (λ e. inr (right_left_same m m' nodes node walk.parent e)) (p.parent (recorded_back m m' nodes r node x) (recorded_back m m' nodes r walk.parent y));
+      slot = λ x y. right_left_same m m' nodes node walk.slot (p.slot (recorded_back m m' nodes r node x) (recorded_back m m' nodes r walk.slot y));
     });
   }
 

@@ -1,6 +1,6 @@
 -- What the invariant gives, in plain words; and what it is for a kind of step to keep it.
 -- Source: docs/ALGORITHM.md, "What the invariant gives".
-use Rattle.std.specs.Prelude.{◌≡◌, ℕ, ◌+◌, ◌-◌, ◌*◌, ◌^◌, ◌<◌, ◌≤◌, ◌⊎◌, true, false, List, [], ◌∷◌, ◌++◌, length, set, Some, None}
+use Rattle.std.specs.Prelude.{◌≡◌, ◌≢◌, ℕ, ◌+◌, ◌-◌, ◌*◌, ◌^◌, ◌<◌, ◌≤◌, ◌⊎◌, true, false, List, [], ◌∷◌, ◌++◌, length, set, Option, Some, None}
 use Rattle.std.specs.FinMap as finite
 use mathlib.Core.Option.{some}
 use lib.ListN.{get_elem?}
@@ -10,20 +10,25 @@ use Rattle.prcu_model.specs.Dictionary.{map_of}
 use Rattle.prcu_model.specs.Marks.{updates_of, gone_at, IsGone}
 use Rattle.core_state.specs.declared.shape.Shape.{Shape}
 use Rattle.core_state.specs.declared.words.Field.{Field}
-use Rattle.core_state.specs.declared.words.Field.TheVariants.{Free, Life, Tag}
+use Rattle.core_state.specs.declared.words.Field.TheVariants.{Clock, Free, Life, Link, Tag}
 use Rattle.core_state.specs.declared.words.Kind.{Kind}
 use Rattle.core_state.specs.declared.view.Move.{Move}
+use Rattle.core_state.specs.declared.view.Reading.{Reading}
 use Rattle.core_state.specs.declared.view.Section.{Section}
+use Rattle.core_state.specs.declared.view.Stand.{Stand}
+use Rattle.core_state.specs.declared.view.Stand.TheVariants.{At, Unread, Found, Missed}
+use Rattle.core_state.specs.declared.view.Waiting.{Waiting}
+use Rattle.core_state.specs.Known.{known_in}
 use Rattle.core_state.specs.declared.view.View.{View}
 use Rattle.core_state.specs.Lists.{IsIn, IsOdd}
 use Rattle.core_state.specs.Memory.{Memory, is_field, stored, slot_count}
-use Rattle.core_state.specs.Nodes.{follow, Hops}
+use Rattle.core_state.specs.Nodes.{last_of, follow, Hops}
 use Rattle.core_state.specs.Tree.{IsTree}
-use Rattle.core_state.specs.Readers.{WasSaid, IsPending, MayPass, Stands}
-use Rattle.core_state.specs.ReaderParts.{stand_slot}
+use Rattle.core_state.specs.Readers.{WasSaid, IsPending, MayPass, IsOldFor, IsEmptied, Stands}
+use Rattle.core_state.specs.ReaderParts.{stand_slot, IsAsRecorded}
 use Rattle.core_state.specs.TreeParts.{map_now}
 use Rattle.core_state.specs.Slots.{IsContent}
-use Rattle.core_state.specs.Views.{Works}
+use Rattle.core_state.specs.Views.{Works, readings_of}
 use Rattle.core_state.specs.Steps.{IsStep, Steps}
 use Rattle.core_state.specs.Fresh.{first_view, IsFresh}
 use Rattle.core_state.specs.Invariant.{IsShape, Invariant}
@@ -44,10 +49,19 @@ pub record Searches (vs : List View) (section : Section) : Type 0 where
   pub inside : view.section ≡ Some section
   pub no_list : section.listing ≡ None
 
--- What each open search will answer, as the links stand now, the dictionary said at some front since it was entered.
+-- What an open search will answer: nothing where it loaded an empty link, the value that it loaded at the slot found, and else what
+-- its follow answers as the links stand now.
+abbrev pub answer_of : Memory → ℕ → ℕ → Stand → Option ℕ
+answer_of m slots x (At s b) = follow m slots s x
+answer_of m slots x (Unread s parent b) = follow m slots s x
+answer_of m slots x (Found s parent b None) = follow m slots s x
+answer_of m slots x (Found s parent b (Some value)) = Some value
+answer_of m slots x (Missed s b) = None
+
+-- What each open search will answer the dictionary said at some front since it was entered.
 abbrev pub SearchesAreAnswered : Type 0
 SearchesAreAnswered = (k : Shape) (m : Memory) (vs : List View) (h : List Mark) → Invariant k m vs h → (section : Section) → Searches vs section
-    → WasSaid (updates_of h) section.key section.from (follow m (slot_count k) (stand_slot section.reading.stand) section.key)
+    → WasSaid (updates_of h) section.key section.from (answer_of m (slot_count k) section.key section.reading.stand)
 
 -- Where an open search stands: it passes an old successor that it may pass, or meets the path from the root, or ends at a slot that
 -- isn't linked.
@@ -60,6 +74,20 @@ abbrev pub FewPass : Type 0
 FewPass = (k : Shape) (m : Memory) (vs : List View) (h : List Mark) → Invariant k m vs h → (section : Section) → Searches vs section → (move : Move) → IsPending vs move
     → move.key < section.key → section.key ≤ move.next_key → (hops : ℕ) → Hops m section.key hops (stand_slot section.reading.stand) move.old
     → (section.entered < move.made) × (move.waited ≡ false)
+
+-- A record of an empty side, kept or of a section that is open: where the slot is as recorded and its side isn't one that was just
+-- emptied, the search for the key from the root ends there, or the slot is the old successor of a move whose interval holds the key.
+abbrev pub RecordsSay : Type 0
+RecordsSay = (k : Shape) (m : Memory) (vs : List View) (h : List Mark) → Invariant k m vs h → (id : ℕ) (v : View) (r : Reading) (s tag : ℕ) (b : Side) → get_elem? vs id ≡ some v → IsIn (readings_of v) r
+    → r.key < 2 ^ 64 → r.stand ≡ Missed s b → IsAsRecorded m r s → known_in r.loads (Tag s b) ≡ Some tag → m (Link s b) ≡ 0 → m (Tag s b) ≡ tag → (IsEmptied vs s b → ⊥)
+    → IsOldFor vs r.key s ⊎ (last_of m r.key (slot_count k) 0 ≡ s)
+
+-- A stamp whose clock was loaded before a wait began isn't above the wait's clock; no stamp is above the clock word, and each wait's
+-- clock is below it.
+abbrev pub StampsAreOld : Type 0
+StampsAreOld = (k : Shape) (m : Memory) (vs : List View) (h : List Mark) → Invariant k m vs h → k.way ≢ 1 → (i j : ℕ) (v u : View) (wait : Waiting) (section : Section)
+    → get_elem? vs i ≡ some v → v.wait ≡ Some wait → get_elem? vs j ≡ some u → u.section ≡ Some section
+    → (section.clocked ≤ wait.began → section.stamp ≤ wait.clock) × (section.stamp ≤ m Clock) × (wait.clock < m Clock)
 
 -- A slot at which an open section stood is linked, or was unlinked after the section was entered.
 abbrev pub StoodIsYoung : Type 0

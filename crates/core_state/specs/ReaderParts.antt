@@ -20,6 +20,7 @@ use Rattle.core_state.specs.declared.view.View.{View}
 use Rattle.core_state.specs.Lists.{IsIn, Each, IsOdd}
 use Rattle.core_state.specs.Memory.{Memory}
 use Rattle.core_state.specs.Words.{step_side}
+use Rattle.core_state.specs.Nodes.{OnRightLeft}
 use Rattle.core_state.specs.Known.{known_in, IsLoadable, LoadedGeneration}
 use Rattle.core_state.specs.Views.{readings_of}
 use Rattle.core_state.specs.Sections.{fresh_reading}
@@ -75,8 +76,8 @@ pub record IsPlaced (m : Memory) (g : Chart) (h : List Mark) (vs : List View) (s
 
 -- Where the search found a node that is linked, its walk stands right of it and then left; and so does the slot before.
 pub record IsWalking (m : Memory) (g : Chart) (h : List Mark) (section : Section) (node : ℕ) (walk : Walk) : Type 0 where
-  pub walks : g.linked node ≡ true → Walks m g (m (Key node)) (IsHeldBack g h section.entered) walk.slot
-  pub parent : g.linked node ≡ true → g.linked walk.parent ≡ true → (walk.parent ≡ node) ⊎ (g.low walk.parent ≡ m (Key node) + 1)
+  pub walks : g.linked node ≡ true → Walks m g node (IsHeldBack g h section.entered) walk.slot
+  pub parent : g.linked node ≡ true → g.linked walk.parent ≡ true → (walk.parent ≡ node) ⊎ OnRightLeft m node walk.parent
 
 -- A slot at which an open section stood is linked, or was unlinked since and not raised; the key loaded there is its key, and the
 -- life loaded there has its generation.
@@ -104,13 +105,13 @@ SaysOfSide m g vs r = (s tag : ℕ) (b : Side) → r.stand ≡ Missed s b → Is
     → (IsEmptied vs s b → ⊥) → IsOldFor vs r.key s ⊎ Belongs m g r.key s b
 
 -- A kept record of a walk: as long as its node and its last slots are as recorded, they lie right of the node and then left.
-pub record SaysOfWalk (m : Memory) (g : Chart) (r : Reading) (node : ℕ) (walk : Walk) : Type 0 where
-  pub parent : IsAsRecorded m r node → IsAsRecorded m r walk.parent → (walk.parent ≡ node) ⊎ (g.low walk.parent ≡ m (Key node) + 1)
-  pub slot : IsAsRecorded m r node → IsAsRecorded m r walk.slot → g.low walk.slot ≡ m (Key node) + 1
+pub record SaysOfWalk (m : Memory) (r : Reading) (node : ℕ) (walk : Walk) : Type 0 where
+  pub parent : IsAsRecorded m r node → IsAsRecorded m r walk.parent → (walk.parent ≡ node) ⊎ OnRightLeft m node walk.parent
+  pub slot : IsAsRecorded m r node → IsAsRecorded m r walk.slot → OnRightLeft m node walk.slot
 
 pub record IsRecord (m : Memory) (g : Chart) (vs : List View) (r : Reading) : Type 0 where
   pub side : SaysOfSide m g vs r
-  pub walk : (node parent : ℕ) (b : Side) (value : Option ℕ) (walk : Walk) → r.stand ≡ Found node parent b value → r.walk ≡ Some walk → SaysOfWalk m g r node walk
+  pub walk : (node parent : ℕ) (b : Side) (value : Option ℕ) (walk : Walk) → r.stand ≡ Found node parent b value → r.walk ≡ Some walk → SaysOfWalk m r node walk
 
 -- some section is open that was entered before this mark
 abbrev pub IsMetBefore : List View → ℕ → Type 0

@@ -16,7 +16,7 @@ use Rattle.core_state.specs.declared.view.Move.{Move}
 use Rattle.core_state.specs.declared.view.View.{View}
 use Rattle.core_state.specs.Memory.{Memory}
 use Rattle.core_state.specs.Known.{lock_of, is_emptied}
-use Rattle.core_state.specs.Nodes.{next, answer_at, Hops, OnPath}
+use Rattle.core_state.specs.Nodes.{next, answer_at, Hops, OnPath, OnRightLeft}
 use Rattle.core_state.specs.Chart.{Chart, IsInRange}
 
 -- At some front from this one to now the dictionary gave the key this answer.
@@ -82,12 +82,12 @@ pub data Place (m : Memory) (g : Chart) (x : ℕ) (live pend : ℕ → Type 0) (
   at_end : {s : ℕ} → live s → next m x s ≡ 0 → told (answer_at m x s) → Place m g x live pend told s
   on : {s c : ℕ} → live s → next m x s ≡ c → c ≢ 0 → g.rank s < g.rank c → Place m g x live pend told c → Place m g x live pend told s
 
--- What is known of a walk to the successor of a node with key k, as long as the node is linked: it stands at a linked slot whose
--- keys begin right above k; or at one unlinked since, with no left; or at one unlinked since whose left is such a slot.
-pub data Walks (m : Memory) (g : Chart) (k : ℕ) (live : ℕ → Type 0) : ℕ → Type 0 where
-  at_linked : {w : ℕ} → g.linked w ≡ true → g.low w ≡ k + 1 → Walks m g k live w
-  at_stop : {w : ℕ} → live w → m (Link w Left) ≡ 0 → Walks m g k live w
-  at_live : {w c : ℕ} → live w → m (Link w Left) ≡ c → c ≢ 0 → Walks m g k live c → Walks m g k live w
+-- What is known of a walk to the successor of a node, as long as the node is linked: it stands at a linked slot on the path from the
+-- node to its right and then left; or at one unlinked since, with no left; or at one unlinked since whose left is such a slot.
+pub data Walks (m : Memory) (g : Chart) (node : ℕ) (live : ℕ → Type 0) : ℕ → Type 0 where
+  at_linked : {w : ℕ} → g.linked w ≡ true → OnRightLeft m node w → Walks m g node live w
+  at_stop : {w : ℕ} → live w → m (Link w Left) ≡ 0 → Walks m g node live w
+  at_live : {w c : ℕ} → live w → m (Link w Left) ≡ c → c ≢ 0 → Walks m g node live c → Walks m g node live w
 
 -- In the words of the follow alone: it passes an old successor that it may pass; or the first linked slot that it meets lies on the
 -- path of the search from the root; or it ends at a slot that isn't linked.

@@ -71,7 +71,6 @@ excuses wait _ number = false
 pub record NeedsLook (k : Shape) (v : View) (wait : Waiting) (field : Field) (last : Bool) (found : ℕ) : Type 0 where
   pub wait_is : v.wait ≡ Some wait
   pub going : wait.ended ≡ false
-  pub spot : IsSpot k wait (spot_seen field)
   pub rest : last ≡ true → excuses wait field found ≡ true → (other : Field) → IsSpot k wait other → IsIn (spot_seen field ∷ wait.excused) other
 
 -- the wait was for everybody and began after this mark

@@ -1,7 +1,7 @@
 //! What the invariant gives, and the kinds of step that are proved here to keep it. Each is a function without a body whose promise is
 //! the law.
 ghost use Rattle.core_state.specs.declared.words.Kind.TheVariants.{K3, K4, K5, K6};
-ghost use Rattle.core_state.specs.Laws.{LinksAreTree, FollowIsMap, SearchesAreAnswered, SearchesStand, FewPass, StoodIsYoung, EmptyIsFull, FreshHolds, Keeps, NotesKeep};
+ghost use Rattle.core_state.specs.Laws.{LinksAreTree, FollowIsMap, SearchesAreAnswered, SearchesStand, FewPass, RecordsSay, StampsAreOld, StoodIsYoung, EmptyIsFull, FreshHolds, Keeps, NotesKeep};
 
 /// The links from the root are a tree of distinct slots in search order.
 pub fn links_are_tree()
@@ -36,6 +36,18 @@ pub fn few_pass()
 /// How old an unlinked slot is at which a section stood.
 pub fn stood_is_young()
     ensures { StoodIsYoung }
+{
+}
+
+/// What a record of an empty side says.
+pub fn records_say()
+    ensures { RecordsSay }
+{
+}
+
+/// Which stamps are not above which clocks.
+pub fn stamps_are_old()
+    ensures { StampsAreOld }
 {
 }
 
