@@ -1,6 +1,6 @@
 -- The parts on counts and on the front read the clock, the front, the free count, states, lives and tags; of a view its tickets, hands,
 -- locks, turn, move, wait and turns; and the updates. A step that leaves these keeps them.
-use Rattle.std.proofs.Common.{◌≡◌, ◌≢◌, ℕ, ◌+◌, ◌-◌, ◌*◌, ◌/◌, ◌≤◌, ◌==◌, ◌⊎◌, false, List, length, set, Option, Some, None, refl, sym, ap, subst, ◌∙◌, ⊎_elim, inl, inr, arith}
+use Rattle.std.proofs.Common.{◌≡◌, ℕ, ◌+◌, ◌*◌, ◌/◌, ◌==◌, false, List, length, set, Some, None, sym, ap, subst, ◌∙◌, ⊎_elim, inl, inr, arith}
 use Rattle.std.specs.FinMap as finite
 use mathlib.Core.Option.{some}
 use lib.ListN.{get_elem?}
@@ -12,13 +12,13 @@ use Rattle.prcu_model.specs.Marks.{updates_of}
 use Rattle.core_state.specs.declared.words.Field.TheVariants.{Clock, Front, Free, State, Life, Tag}
 use Rattle.core_state.specs.declared.view.Turn.{Turn}
 use Rattle.core_state.specs.declared.view.View.{View}
-use Rattle.core_state.specs.Lists.{total, sum_below, flag, count_below, has, Each}
+use Rattle.core_state.specs.Lists.{sum_below, flag, count_below, has, Each}
 use Rattle.core_state.specs.Memory.{Memory}
 use Rattle.core_state.specs.Views.{unraised_hand, unraised_among, unraised_of, emptied_among}
 use Rattle.core_state.specs.Chart.{Chart}
-use Rattle.core_state.specs.CountParts.{turns_to_come, young_count, CountParts}
+use Rattle.core_state.specs.CountParts.{turns_to_come, CountParts}
 use Rattle.core_state.specs.FrontParts.{IsTurned, IsOddBy, FrontParts}
-use Rattle.core_state.proofs.Lists.{each_set, each_change, total_same}
+use Rattle.core_state.proofs.Lists.{each_change, total_same}
 use Rattle.core_state.proofs.MarkFacts.{QuietMarks}
 use Rattle.core_state.proofs.Same.{SameSlots, SamePlaces, retired_same, was, still}
 
@@ -77,8 +77,8 @@ front_frame m m' vs id v w h h' there front turn moving quiet t =
     })) in
     record {
       turned = subst (λ us. IsTurned m' (set vs id w) (length us)) (sym quiet.updates) (⊎_elim
-        (λ (i : (m Front ≡ 2 * length (updates_of h)) × Each vs (λ (u : View). u.turn ≡ None)). inl (front ∙ i.0, each_change (λ (u : View). u.turn ≡ None) (λ (u : View). u.turn ≡ None) vs id v w there (λ e. turn ∙ e) (λ u e. e) i.1)) odd t.turned);
+          (λ (i : (m Front ≡ 2 * length (updates_of h)) × Each vs (λ (u : View). u.turn ≡ None)). inl (front ∙ i.0, each_change (λ (u : View). u.turn ≡ None) (λ (u : View). u.turn ≡ None) vs id v w there (λ e. turn ∙ e) (λ u e. e) i.1)) odd t.turned);
       settled = each_change (λ (u : View). (x : Turn) → u.turn ≡ Some x → x.stored ≡ false → u.moving ≡ None) (λ (u : View). (x : Turn) → u.turn ≡ Some x → x.stored ≡ false → u.moving ≡ None) vs id v w there
-        (λ i x is unmade. moving ∙ i x (sym turn ∙ is) unmade) (λ u i. i) t.settled;
+          (λ i x is unmade. moving ∙ i x (sym turn ∙ is) unmade) (λ u i. i) t.settled;
       legal = subst IsLegal (sym quiet.updates) t.legal;
     }

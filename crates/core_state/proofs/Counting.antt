@@ -1,16 +1,13 @@
 -- Where the free count is 0 the dictionary is large: each slot is somewhere.
-use Rattle.std.proofs.Common.{◌≡◌, ◌≢◌, ℕ, zero, suc, ◌+◌, ◌-◌, ◌*◌, ◌<◌, ◌≤◌, ◌==◌, nat_lt, not, ◌&&◌, ◌⊎◌, Bool, true, false, cond, List, [], ◌∷◌, ◌++◌, length, map, Option, Some, None, refl, sym, ap, subst, ◌∙◌, ⊎_elim, inl, inr, arith, eq-eqb, ne_eqb, length-append}
+use Rattle.std.proofs.Common.{◌≡◌, ℕ, zero, suc, ◌+◌, ◌-◌, ◌*◌, ◌<◌, ◌≤◌, ◌==◌, not, ◌&&◌, Bool, true, false, List, [], ◌∷◌, ◌++◌, length, map, Option, Some, None, refl, sym, ap, subst, ◌∙◌, arith, eq-eqb, ne_eqb, length-append}
 use Rattle.std.proofs.lemmas.Bool.{lt-ltb}
-use Rattle.std.specs.FinMap as finite
 use mathlib.Core.Logic.{dite}
 use mathlib.Core.Option.{some, some-injective, some-ne-none}
 use native.Mathlib.Decide.{dec_le, ℕ_discrete}
 use lib.ListN.{get_elem?}
 use Rattle.prcu_model.specs.declared.mark.Mark.{Mark}
-use Rattle.prcu_model.specs.Dictionary.{map_of}
-use Rattle.prcu_model.specs.Marks.{updates_of}
 use Rattle.core_state.specs.declared.shape.Shape.{Shape}
-use Rattle.core_state.specs.declared.words.Field.TheVariants.{Free, State}
+use Rattle.core_state.specs.declared.words.Field.TheVariants.{State}
 use Rattle.core_state.specs.declared.view.Held.{Held}
 use Rattle.core_state.specs.declared.view.Move.{Move}
 use Rattle.core_state.specs.declared.view.Retired.{Retired}
@@ -18,11 +15,10 @@ use Rattle.core_state.specs.declared.view.Spent.{Spent}
 use Rattle.core_state.specs.declared.view.View.{View}
 use Rattle.core_state.specs.Lists.{times, numbers_from, total, sum_below, flag, count_below, has, Each}
 use Rattle.core_state.specs.Memory.{Memory, slot_count}
-use Rattle.core_state.specs.Views.{Works, places_of, slot_list, held_list, joined_spares, spares_of, joined_retired, retired_of, slots_of}
-use Rattle.core_state.specs.Chart.{Chart}
+use Rattle.core_state.specs.Views.{places_of, slot_list, held_list, joined_spares, spares_of, joined_retired, retired_of, slots_of}
 use Rattle.core_state.specs.Seating.{spent_view}
 use Rattle.core_state.specs.SlotParts.{roles_of, HasFewSlots}
-use Rattle.core_state.specs.CountParts.{young_count, old_count, reserved_count, pending_count}
+use Rattle.core_state.specs.CountParts.{young_count, old_count}
 use Rattle.core_state.specs.Invariant.{Invariant}
 use Rattle.core_state.specs.Laws.{HoldsNothing, EmptyIsFull}
 use Rattle.core_state.proofs.SeatFacts.{place_within}
@@ -192,7 +188,7 @@ module _ (k : Shape) (m : Memory) (vs : List View) (h : List Mark) (i : Invarian
   all_places : total (λ (v : View). length (places_of v)) vs ≤ k.places
   all_places =
       let a = total_le (λ (v : View). length (places_of v)) (λ (v : View). sum_below (λ p. times p (places_of v)) k.places) vs
-        (λ j v at. times_sum (places_of v) k.places (λ x there. place_within k.places vs i.seats.placed j x v at there)) in
+      (λ j v at. times_sum (places_of v) k.places (λ x there. place_within k.places vs i.seats.placed j x v at there)) in
       let b = sum_total (λ p (v : View). times p (places_of v)) vs k.places in
       let c = sum_one (λ p. total (λ (v : View). times p (places_of v)) vs) k.places (λ p lt. i.seats.placed p ∙ ap flag (lt-ltb p k.places lt)) in
       omega arith

@@ -6,9 +6,7 @@ use Rattle.core_state.specs.Nodes.{next, last_of, answer_at, follow, root}
 use Rattle.core_state.specs.Chart.{Chart, IsShaped, HoldsMap, IsInRange}
 use Rattle.core_state.proofs.Ranges.{bool_cases, next-here, next_goes, range_on_path, path_of_range}
 use Rattle.core_state.proofs.Hops.{above, above_less, ends, last_of-ends, hops_of_path}
-use Rattle.prcu_model.specs.declared.mark.Side.{Side}
-use Rattle.prcu_model.specs.declared.mark.Side.TheVariants.{Left, Right}
-use Rattle.core_state.specs.declared.words.Field.TheVariants.{Key, Value, Link}
+use Rattle.core_state.specs.declared.words.Field.TheVariants.{Key, Value}
 use Rattle.core_state.specs.Memory.{Memory}
 
 -- where a search that stands at a linked slot with x in its range ends

@@ -1,5 +1,5 @@
 -- A table as it is made has the invariant.
-use Rattle.std.proofs.Common.{◌≡◌, ◌≢◌, ℕ, zero, suc, ◌+◌, ◌-◌, ◌*◌, ◌/◌, ◌%◌, ◌^◌, ◌<◌, ◌≤◌, ◌==◌, nat_lt, nat_le, not, ◌&&◌, ◌⊎◌, Bool, true, false, cond, List, [], ◌∷◌, ◌++◌, length, map, Option, Some, None, refl, sym, ap, subst, ◌∙◌, ⊎_elim, inl, inr, arith, eq-eqb, ne_eqb}
+use Rattle.std.proofs.Common.{◌≡◌, ◌≢◌, ℕ, zero, suc, ◌+◌, ◌-◌, ◌/◌, ◌<◌, ◌≤◌, ◌==◌, nat_lt, not, ◌&&◌, ◌⊎◌, Bool, true, false, cond, List, [], ◌∷◌, ◌++◌, length, Some, None, refl, sym, ap, subst, ◌∙◌, ⊎_elim, inl, inr, arith, eq-eqb, ne_eqb}
 use Rattle.std.proofs.lemmas.Bool.{lt-ltb, le-ltb, le-leb, lt-leb, eqb-true}
 use Rattle.std.specs.FinMap as finite
 use Rattle.std.specs.Ordering.{nat_cmp}
@@ -8,24 +8,20 @@ use mathlib.Core.Option.{some, some-injective, some-ne-none}
 use mathlib.Core.List.{IsPrefix}
 use native.Mathlib.Decide.{dec_le, ℕ_discrete}
 use lib.ListN.{get_elem?}
-use Rattle.prcu_model.specs.declared.mark.Mark.{Mark}
-use Rattle.prcu_model.specs.declared.mark.Side.{Side}
 use Rattle.prcu_model.specs.declared.mark.Side.TheVariants.{Left, Right}
 use Rattle.core_state.specs.declared.shape.Shape.{Shape}
 use Rattle.core_state.specs.declared.words.Field.TheVariants.{State, Life, Tag}
 use Rattle.core_state.specs.declared.view.HeldLock.{HeldLock}
 use Rattle.core_state.specs.declared.view.Listing.{Listing}
 use Rattle.core_state.specs.declared.view.Move.{Move}
-use Rattle.core_state.specs.declared.view.Reading.{Reading}
-use Rattle.core_state.specs.declared.view.Retired.{Retired}
 use Rattle.core_state.specs.declared.view.Section.{Section}
 use Rattle.core_state.specs.declared.view.Spent.{Spent}
 use Rattle.core_state.specs.declared.view.Turn.{Turn}
 use Rattle.core_state.specs.declared.view.Waiting.{Waiting}
 use Rattle.core_state.specs.declared.view.View.{View}
-use Rattle.core_state.specs.Lists.{times, numbers_from, total, sum_below, flag, count_below, Each, IsEven}
+use Rattle.core_state.specs.Lists.{times, numbers_from, sum_below, flag, count_below, Each, IsEven}
 use Rattle.core_state.specs.Memory.{Memory, slot_count}
-use Rattle.core_state.specs.Views.{Works, places_of, slots_of, retired_of, readings_of}
+use Rattle.core_state.specs.Views.{Works, slots_of, retired_of, readings_of}
 use Rattle.core_state.specs.Seating.{spent_view, unknown_slot}
 use Rattle.core_state.specs.Known.{known_in}
 use Rattle.core_state.specs.declared.view.Held.{Held}
@@ -34,7 +30,7 @@ use Rattle.core_state.specs.MarkParts.{WaitStands}
 use Rattle.core_state.specs.SeatParts.{IsOwned, SectionStands, IsCounted}
 use Rattle.core_state.specs.WaiterParts.{IsClocked, IsTurnedOnce}
 use Rattle.core_state.specs.SlotParts.{HasFewSlots, AreHandsKnown, IsRetired}
-use Rattle.core_state.specs.LockParts.{HasFewLocks, IsLockKept, IsLockKnown, IsReadingKept}
+use Rattle.core_state.specs.LockParts.{HasFewLocks, IsReadingKept}
 use Rattle.core_state.specs.CountParts.{linked_count, young_count, old_count}
 use Rattle.core_state.specs.TreeParts.{IsMoving}
 use Rattle.core_state.specs.ReaderParts.{IsReading, IsServed, IsRecord}

@@ -1,17 +1,15 @@
 -- The parts on grace, reuse and listings, after a step that leaves nodes, retired slots and moves. It may enter or leave a section.
-use Rattle.std.proofs.Common.{◌≡◌, ◌≢◌, ℕ, ◌+◌, ◌*◌, ◌<◌, ◌≤◌, ◌⊎◌, true, false, List, [], ◌∷◌, ◌++◌, length, take, set, Option, Some, None, refl, sym, ap, subst, ◌∙◌, ⊎_elim, inl, inr, arith}
+use Rattle.std.proofs.Common.{◌≡◌, ◌≢◌, ℕ, ◌+◌, ◌<◌, ◌≤◌, ◌⊎◌, false, List, [], ◌∷◌, ◌++◌, length, set, Some, None, sym, ap, subst, ◌∙◌, ⊎_elim, inl, inr, arith}
 use Rattle.std.specs.FinMap as finite
-use mathlib.Core.Logic.{dite}
 use mathlib.Core.Option.{some}
-use native.Mathlib.Decide.{dec_le}
 use lib.ListN.{get_elem?}
 use Rattle.atomic_table.proofs.Lists.{at_longer}
 use Rattle.prcu_model.specs.declared.mark.Mark.{Mark}
-use Rattle.prcu_model.specs.declared.mark.Mark.TheVariants.{Entered, Left, Began, Ended, Done, Given, Unlinked, Freed}
+use Rattle.prcu_model.specs.declared.mark.Mark.TheVariants.{Entered, Began, Ended, Given, Freed}
 use Rattle.prcu_model.specs.declared.mark.Side.TheVariants.{Left as LeftSide, Right as RightSide}
 use Rattle.prcu_model.specs.Dictionary.{map_of}
-use Rattle.prcu_model.specs.Marks.{Open, open_at, gone_at}
-use Rattle.core_state.specs.declared.words.Field.TheVariants.{Front, Key, Link}
+use Rattle.prcu_model.specs.Marks.{open_at}
+use Rattle.core_state.specs.declared.words.Field.TheVariants.{Front, Link}
 use Rattle.core_state.specs.declared.view.Fact.{Fact}
 use Rattle.core_state.specs.declared.view.Gap.{Gap}
 use Rattle.core_state.specs.declared.view.Listing.{Listing}
@@ -25,7 +23,7 @@ use Rattle.core_state.specs.Memory.{Memory}
 use Rattle.core_state.specs.Marks.{last_unlinked, Grace, IsReused, Reuse, HasWaited}
 use Rattle.core_state.specs.Chart.{Chart}
 use Rattle.core_state.specs.TreeParts.{map_now}
-use Rattle.core_state.specs.ListingParts.{IsBetween, HasBounds, GoesRight, WasOld, ListsNow, IsListing, ListingParts}
+use Rattle.core_state.specs.ListingParts.{IsBetween, HasBounds, GoesRight, WasOld, IsListing, ListingParts}
 use Rattle.core_state.specs.GraceParts.{IsClear, IsWaitedRetired, IsWaitedMove, GraceParts}
 use Rattle.core_state.proofs.Lists.{at_below, at_end, each_set, each_change}
 use Rattle.core_state.proofs.MarkFacts.{IsOutside, TurnsNoWait, QuietMarks, last_unlinked-below, take-more}
@@ -66,8 +64,8 @@ pub reuse_snoc : (h : List Mark) (m : Mark) → IsOutside m → Reuse h → Reus
 reuse_snoc h m outside reuse j s i p a o at used last there =
     ⊎_elim
     (λ (old : get_elem? h j ≡ some a).
-      (let same = take-more h (m ∷ []) j (let l = at_below h j a old in omega arith) in
-      reuse j s i p a o old used (ap (last_unlinked s) (sym same) ∙ last) (ap (open_at p) (sym same) ∙ there)))
+    (let same = take-more h (m ∷ []) j (let l = at_below h j a old in omega arith) in
+    reuse j s i p a o old used (ap (last_unlinked s) (sym same) ∙ last) (ap (open_at p) (sym same) ∙ there)))
     (λ new. absurd (reused_outside m s outside (subst (λ z. IsReused z s) (sym new.1) used))) (at_end h m a j at)
 
 module _ (vs : List View) (id : ℕ) (v w : View) (h h' : List Mark) (there : get_elem? vs id ≡ some v) (older : OnlyOlder h v w) (quiet : QuietMarks h h') (waits : QuietWaits h h') where
@@ -106,14 +104,14 @@ module _ (vs : List View) (id : ℕ) (v w : View) (h h' : List Mark) (there : ge
     reuse = reuse;
     clean = λ s at gone last. (let l = sym (quiet.last s) ∙ last in clear_still at 0 18446744073709551615 (last_unlinked-below s h at l) (t.clean s at (sym (quiet.gone s) ∙ gone) l));
     retired = each_change (λ (u : View). Each u.hands.retired (IsWaitedRetired vs h u.post.place)) (λ (u : View). Each u.hands.retired (IsWaitedRetired (set vs id w) h' u.post.place)) vs id v w there
-      (λ i. subst (λ (z : ℕ × List Retired). Each z.1 (IsWaitedRetired (set vs id w) h' z.0)) (λ k. (sym place k, sym retired k)) (λ j r e. retired_still v.post.place r (i j r e)))
-      (λ u i j r e. retired_still u.post.place r (i j r e)) t.retired;
+        (λ i. subst (λ (z : ℕ × List Retired). Each z.1 (IsWaitedRetired (set vs id w) h' z.0)) (λ k. (sym place k, sym retired k)) (λ j r e. retired_still v.post.place r (i j r e)))
+        (λ u i j r e. retired_still u.post.place r (i j r e)) t.retired;
     joined = each_change (λ (u : View). Each u.post.joined (λ (s : Spent). Each s.retired (IsWaitedRetired vs h s.place))) (λ (u : View). Each u.post.joined (λ (s : Spent). Each s.retired (IsWaitedRetired (set vs id w) h' s.place))) vs id v w there
-      (λ i. subst (λ z. Each z (λ (s : Spent). Each s.retired (IsWaitedRetired (set vs id w) h' s.place))) (sym joined) (λ j s e k r f. retired_still s.place r (i j s e k r f)))
-      (λ u i j s e k r f. retired_still s.place r (i j s e k r f)) t.joined;
+        (λ i. subst (λ z. Each z (λ (s : Spent). Each s.retired (IsWaitedRetired (set vs id w) h' s.place))) (sym joined) (λ j s e k r f. retired_still s.place r (i j s e k r f)))
+        (λ u i j s e k r f. retired_still s.place r (i j s e k r f)) t.joined;
     moves = each_change (λ (u : View). (move : Move) → u.moving ≡ Some move → IsWaitedMove vs h u.post.place move) (λ (u : View). (move : Move) → u.moving ≡ Some move → IsWaitedMove (set vs id w) h' u.post.place move) vs id v w there
-      (λ i move is. subst (λ p. IsWaitedMove (set vs id w) h' p move) (sym place) (move_still v.post.place move (i move (sym moving ∙ is))))
-      (λ u i move is. move_still u.post.place move (i move is)) t.moves;
+        (λ i move is. subst (λ p. IsWaitedMove (set vs id w) h' p move) (sym place) (move_still v.post.place move (i move (sym moving ∙ is))))
+        (λ u i move is. move_still u.post.place move (i move is)) t.moves;
   }
 
 module _ (m m' : Memory) (nodes : SameNodes m m') (front : m' Front ≡ m Front) (g : Chart) (h h' : List Mark) (quiet : QuietMarks h h') where
@@ -153,5 +151,5 @@ module _ (m m' : Memory) (nodes : SameNodes m m') (front : m' Front ≡ m Front)
   pub listing_frame : (vs : List View) (id : ℕ) (w : View) → ((section : Section) (listing : Listing) → w.section ≡ Some section → section.listing ≡ Some listing → IsListing m' g h' section listing) → ListingParts m g vs h → ListingParts m' g (set vs id w) h'
   listing_frame vs id w own t = record {
     listings = each_set (λ j u. (section : Section) (listing : Listing) → u.section ≡ Some section → section.listing ≡ Some listing → IsListing m' g h' section listing) vs id w own
-      (λ j u other e section listing is lists. listing_same section listing (t.listings j u e section listing is lists));
+        (λ j u other e section listing is lists. listing_same section listing (t.listings j u e section listing is lists));
   }

@@ -1,5 +1,5 @@
 -- Steps of a kind keep the invariant.
-use Rattle.std.proofs.Common.{◌≡◌, ℕ, true, cond, List, [], ◌∷◌, ◌++◌, set, Some, refl, sym, subst, ◌∙◌, ap, append-nil}
+use Rattle.std.proofs.Common.{◌≡◌, ℕ, cond, List, [], ◌∷◌, ◌++◌, set, refl, sym, subst, append-nil}
 use mathlib.Core.Option.{some}
 use lib.ListN.{get_elem?}
 use Rattle.prcu_model.specs.declared.mark.Mark.{Mark}
@@ -11,7 +11,7 @@ use Rattle.core_state.specs.declared.words.Kind.TheVariants.{K3, K4, K5, K6}
 use Rattle.core_state.specs.declared.view.View.{View}
 use Rattle.core_state.specs.Memory.{Memory, stored, idle}
 use Rattle.core_state.specs.Views.{Works}
-use Rattle.core_state.specs.Sections.{after3, after4, after5, leaving}
+use Rattle.core_state.specs.Sections.{after3, after4, after5}
 use Rattle.core_state.specs.Steps.{IsStep, step3, step4, step5, step6}
 use Rattle.core_state.specs.Invariant.{Invariant}
 use Rattle.atomic_table.proofs.Lists.{set_here}

@@ -1,5 +1,5 @@
 -- What a section found out is a record that says the truth, when the section is left.
-use Rattle.std.proofs.Common.{◌≡◌, ◌≢◌, ℕ, zero, suc, ◌+◌, ◌*◌, ◌%◌, ◌<◌, ◌≤◌, ◌==◌, ◌⊎◌, nat_lt, cond, Bool, true, false, List, [], Option, Some, None, refl, sym, ap, subst, ◌∙◌, ⊎_elim, inl, inr, arith, eq-eqb, ne_eqb}
+use Rattle.std.proofs.Common.{◌≡◌, ◌≢◌, ℕ, zero, suc, ◌+◌, ◌<◌, ◌⊎◌, nat_lt, cond, true, false, List, [], Option, Some, None, refl, sym, ap, subst, ◌∙◌, ⊎_elim, inl, inr, arith, eq-eqb, ne_eqb}
 use Rattle.std.proofs.lemmas.Bool.{lt-ltb, le-ltb}
 use mathlib.Core.Logic.{dite}
 use native.Mathlib.Decide.{dec_le, ℕ_discrete}
@@ -11,17 +11,15 @@ use Rattle.core_state.specs.declared.words.Field.TheVariants.{Life, Key, Link}
 use Rattle.core_state.specs.declared.view.Listing.{Listing}
 use Rattle.core_state.specs.declared.view.Reading.{Reading}
 use Rattle.core_state.specs.declared.view.Section.{Section}
-use Rattle.core_state.specs.declared.view.Stand.{Stand}
-use Rattle.core_state.specs.declared.view.Stand.TheVariants.{Found, Missed}
-use Rattle.core_state.specs.declared.view.Walk.{Walk}
+use Rattle.core_state.specs.declared.view.Stand.TheVariants.{Missed}
 use Rattle.core_state.specs.declared.view.View.{View}
 use Rattle.core_state.specs.Words.{step_side}
 use Rattle.core_state.specs.Lists.{IsIn, IsOdd}
 use Rattle.core_state.specs.Memory.{Memory}
-use Rattle.core_state.specs.Known.{known_in, LoadedGeneration}
+use Rattle.core_state.specs.Known.{known_in}
 use Rattle.core_state.specs.Nodes.{OnRightLeft, first, further}
 use Rattle.core_state.specs.Chart.{Chart, Belongs, IsShaped, IsInRange}
-use Rattle.core_state.specs.Readers.{WasSaid, IsHeldBack, MayPass, IsOldFor, Spine, bottom, more, Place, in_range, at_old, at_end, on, Walks, at_linked, at_stop, at_live}
+use Rattle.core_state.specs.Readers.{WasSaid, IsHeldBack, MayPass, IsOldFor, bottom, more, Place, in_range, at_old, at_end, on, Walks, at_linked, at_stop, at_live}
 use Rattle.core_state.specs.ReaderParts.{stand_slot, StandsWell, GoesTo, IsReading, HasStood, IsServed, IsAsRecorded, IsRecord}
 use Rattle.core_state.proofs.Ranges.{after-node}
 use Rattle.core_state.proofs.Places.{not_root}
@@ -90,14 +88,14 @@ pub record_of : (m : Memory) (n : ℕ) (g : Chart) (vs : List View) (h : List Ma
 record_of m n g vs h section shape reading sought served = record {
   side = λ s tag b missed life known empty same settled. side_case section.listing refl s b missed life empty;
   walk = λ node parent b value walk found walks.
-    (let here : stand_slot section.reading.stand ≡ node = ap stand_slot found in
-    let node_stood = served.stood node (subst (IsIn section.reading.stood) here reading.stands) in
-    let names = reading.walk walk walks in
-    let w = served.walking node parent b value walk found walks in
-    record {
-      parent = λ x y. w.parent (linked_now m g h section node node_stood x) (linked_now m g h section walk.parent (served.stood walk.parent names.3) y);
-      slot = λ x y. walk_path m g node (IsHeldBack g h section.entered) walk.slot (λ s live. live.out) (linked_now m g h section walk.slot (served.stood walk.slot names.2) y) (w.walks (linked_now m g h section node node_stood x));
-    });
+      (let here : stand_slot section.reading.stand ≡ node = ap stand_slot found in
+      let node_stood = served.stood node (subst (IsIn section.reading.stood) here reading.stands) in
+      let names = reading.walk walk walks in
+      let w = served.walking node parent b value walk found walks in
+      record {
+        parent = λ x y. w.parent (linked_now m g h section node node_stood x) (linked_now m g h section walk.parent (served.stood walk.parent names.3) y);
+        slot = λ x y. walk_path m g node (IsHeldBack g h section.entered) walk.slot (λ s live. live.out) (linked_now m g h section walk.slot (served.stood walk.slot names.2) y) (w.walks (linked_now m g h section node node_stood x));
+      });
 }
   where
     nothing : section.reading.loads ≡ [] → (s : ℕ) → IsAsRecorded m section.reading s → ⊥

@@ -25,3 +25,4 @@ pub mod SectionLaws
 pub mod Keeping
 pub mod First
 pub mod Counting
+pub mod Pieces

@@ -1,12 +1,11 @@
 -- The parts on locks read the slots' words but their states, and of a view its place, locks, retired slots, move, and what its sections
 -- found out. A step that leaves these keeps them; a section in which nothing was loaded may come.
-use Rattle.std.proofs.Common.{◌≡◌, ◌≢◌, ℕ, ◌+◌, ◌*◌, ◌/◌, ◌<◌, ◌≤◌, ◌⊎◌, true, false, List, [], length, map, set, Option, Some, None, refl, sym, ap, subst, ◌∙◌, ⊎_elim, inl, inr, arith}
+use Rattle.std.proofs.Common.{◌≡◌, ℕ, ◌+◌, ◌/◌, ◌<◌, ◌≤◌, ◌⊎◌, List, [], length, map, set, Some, None, refl, sym, ap, subst, ◌∙◌, ⊎_elim, inl, inr}
 use mathlib.Core.Option.{some}
 use lib.ListN.{get_elem?}
 use Rattle.core_state.specs.declared.words.Field.{Field}
-use Rattle.core_state.specs.declared.words.Field.TheVariants.{Lock, Life, Key, Link, Tag}
+use Rattle.core_state.specs.declared.words.Field.TheVariants.{Lock, Life, Tag}
 use Rattle.core_state.specs.declared.view.HeldLock.{HeldLock}
-use Rattle.core_state.specs.declared.view.Known.{Known}
 use Rattle.core_state.specs.declared.view.Reading.{Reading}
 use Rattle.core_state.specs.declared.view.Section.{Section}
 use Rattle.core_state.specs.declared.view.View.{View}
@@ -17,7 +16,7 @@ use Rattle.core_state.specs.Views.{readings_of}
 use Rattle.core_state.specs.Chart.{Chart}
 use Rattle.core_state.specs.LockParts.{IsHolderOf, HasFewLocks, IsUnraised, IsLockKept, IsLockKnown, IsReadingKept, LockParts}
 use Rattle.core_state.proofs.Lists.{each_change}
-use Rattle.core_state.proofs.Same.{SameNodes, SameSlots, own_same, was, still}
+use Rattle.core_state.proofs.Same.{SameSlots, own_same, still}
 use Rattle.core_state.proofs.TreeFrame.{generation_back}
 
 pub record SameForLocks (v w : View) : Type 0 where
@@ -69,7 +68,7 @@ module _ (m m' : Memory) (slots : SameSlots m m') (g : Chart) where
     own = i.own;
     tags = λ b number e. slots.nodes.tag s b ∙ i.tags b number e;
     fields = λ r generation number field has loaded same e. ⊎_elim (λ there. own_same m m' slots s field (i.own field number e) ∙ i.fields r generation number field there loaded (generation_back m m' slots.nodes s generation lock same) e)
-      (λ none. absurd (no_load r s generation none loaded)) (back r has);
+        (λ none. absurd (no_load r s generation none loaded)) (back r has);
     lives = λ r generation has loaded e. ⊎_elim (λ there. slots.nodes.life s ∙ i.lives r generation there loaded e) (λ none. absurd (no_load r s generation none loaded)) (back r has);
     marked_life = λ q. i.marked_life q ∙ ap Some (sym (slots.nodes.life s));
   }
@@ -90,19 +89,19 @@ lock_frame m m' n g vs id v w there slots same t =
     record {
       locked = record {
         held = each_change (λ (u : View). (s : ℕ) (lock : HeldLock) → lock_of u.locks s ≡ Some lock → (m (Lock s) ≡ u.post.place + 1) × (s < n)) (λ (u : View). (s : ℕ) (lock : HeldLock) → lock_of u.locks s ≡ Some lock → (m' (Lock s) ≡ u.post.place + 1) × (s < n)) vs id v w there
-          (λ i s lock e. (let r = i s lock (ap (λ ls. lock_of ls s) (sym same.locks) ∙ e) in (slots.lock s ∙ r.0 ∙ ap (λ x. x + 1) (sym same.place), r.1)))
-          (λ u i s lock e. (let r = i s lock e in (slots.lock s ∙ r.0, r.1))) t.locked.held;
+            (λ i s lock e. (let r = i s lock (ap (λ ls. lock_of ls s) (sym same.locks) ∙ e) in (slots.lock s ∙ r.0 ∙ ap (λ x. x + 1) (sym same.place), r.1)))
+            (λ u i s lock e. (let r = i s lock e in (slots.lock s ∙ r.0, r.1))) t.locked.held;
         named = λ s lt ne. (let r = t.locked.named s lt (λ e. ne (slots.lock s ∙ e)) in (r.0, holder s r.0 r.1));
       };
       few = each_change HasFewLocks HasFewLocks vs id v w there (few_same v w same) (λ u i. i) t.few;
       kept = each_change (λ (u : View). (s : ℕ) (lock : HeldLock) → lock_of u.locks s ≡ Some lock → IsLockKept m g u s lock) (λ (u : View). (s : ℕ) (lock : HeldLock) → lock_of u.locks s ≡ Some lock → IsLockKept m' g u s lock) vs id v w there
-        (λ i s lock e. kept_same m m' slots g v w s lock same.retired (i s lock (ap (λ ls. lock_of ls s) (sym same.locks) ∙ e)))
-        (λ u i s lock e. kept_same m m' slots g u u s lock refl (i s lock e)) t.kept;
+          (λ i s lock e. kept_same m m' slots g v w s lock same.retired (i s lock (ap (λ ls. lock_of ls s) (sym same.locks) ∙ e)))
+          (λ u i s lock e. kept_same m m' slots g u u s lock refl (i s lock e)) t.kept;
       marked = λ s l o. (let r = t.marked s l (odd_back m m' slots g s o) in (r.0, holder s r.0 r.1, r.2));
       known = each_change (λ (u : View). (s : ℕ) (lock : HeldLock) → lock_of u.locks s ≡ Some lock → IsLockKnown m u s lock) (λ (u : View). (s : ℕ) (lock : HeldLock) → lock_of u.locks s ≡ Some lock → IsLockKnown m' u s lock) vs id v w there
-        (λ i s lock e. known_same m m' slots g v w s lock same.readings (i s lock (ap (λ ls. lock_of ls s) (sym same.locks) ∙ e)))
-        (λ u i s lock e. known_same m m' slots g u u s lock (λ r has. inl has) (i s lock e)) t.known;
+          (λ i s lock e. known_same m m' slots g v w s lock same.readings (i s lock (ap (λ ls. lock_of ls s) (sym same.locks) ∙ e)))
+          (λ u i s lock e. known_same m m' slots g u u s lock (λ r has. inl has) (i s lock e)) t.known;
       readings = each_change (λ (u : View). Each (readings_of u) (IsReadingKept m g)) (λ (u : View). Each (readings_of u) (IsReadingKept m' g)) vs id v w there
-        (λ i j r e. ⊎_elim (λ (x : IsIn (readings_of v) r). reading_same m m' slots g r (i x.0 r x.1)) (λ none. reading_empty m' g r none) (same.readings r (j, e)))
-        (λ u i j r e. reading_same m m' slots g r (i j r e)) t.readings;
+          (λ i j r e. ⊎_elim (λ (x : IsIn (readings_of v) r). reading_same m m' slots g r (i x.0 r x.1)) (λ none. reading_empty m' g r none) (same.readings r (j, e)))
+          (λ u i j r e. reading_same m m' slots g r (i j r e)) t.readings;
     }

@@ -1,5 +1,5 @@
 -- What one more mark leaves as it was.
-use Rattle.std.proofs.Common.{◌≡◌, ◌≢◌, ℕ, suc, ◌+◌, ◌<◌, ◌≤◌, ◌==◌, ◌⊎◌, Bool, true, false, cond, List, [], ◌∷◌, ◌++◌, length, take, Option, Some, None, refl, sym, ap, subst, ◌∙◌, ⊎_elim, inl, inr, arith, append-nil, length-append, eq-eqb, ne_eqb}
+use Rattle.std.proofs.Common.{◌≡◌, ◌≢◌, ℕ, ◌+◌, ◌<◌, ◌≤◌, ◌==◌, true, false, cond, List, [], ◌∷◌, ◌++◌, length, take, Option, Some, None, refl, ap, ◌∙◌, ⊎_elim, arith, append-nil}
 use Rattle.std.proofs.lemmas.List.{take-append-le}
 use mathlib.Core.Option.{some}
 use lib.ListN.{get_elem?}
@@ -7,10 +7,10 @@ use Rattle.atomic_table.proofs.Lists.{at_longer}
 use Rattle.prcu_model.specs.declared.mark.Mark.{Mark}
 use Rattle.prcu_model.specs.declared.mark.Mark.TheVariants.{Entered, Left, Began, Ended, Done, Given, Unlinked, Freed}
 use Rattle.prcu_model.specs.declared.operation.Update.{Update}
-use Rattle.prcu_model.specs.Marks.{updates_of, Open, next_open, open_from, open_at, next_gone, gone_from, gone_at, is_of, own_of, entered_at}
-use Rattle.prcu_model.proofs.MarkLists.{updates_of-append, open_at-snoc, gone_at-snoc, own_of-append}
+use Rattle.prcu_model.specs.Marks.{updates_of, Open, open_from, open_at, next_gone, gone_from, gone_at, is_of, own_of, entered_at}
+use Rattle.prcu_model.proofs.MarkLists.{updates_of-append, gone_at-snoc, own_of-append}
 use Rattle.core_state.specs.Marks.{begun, begun_at, unlinked_from, last_unlinked}
-use Rattle.core_state.proofs.Lists.{at_below, at_end}
+use Rattle.core_state.proofs.Lists.{at_end}
 
 -- a mark of a section or a wait
 abbrev pub IsOutside : Mark → Type 0

@@ -1,24 +1,22 @@
 -- The parts on marks and waits read what views have seen, their places and waits, and the marks. One more mark keeps them where it
 -- stands in order.
-use Rattle.std.proofs.Common.{◌≡◌, ◌≢◌, ℕ, ◌+◌, ◌^◌, ◌<◌, ◌≤◌, ◌⊎◌, true, false, List, [], ◌∷◌, ◌++◌, length, take, set, Option, Some, None, refl, sym, ap, subst, ◌∙◌, ⊎_elim, inl, inr, arith}
+use Rattle.std.proofs.Common.{◌≡◌, ℕ, ◌+◌, ◌^◌, ◌<◌, ◌≤◌, List, [], ◌∷◌, ◌++◌, length, take, set, Some, None, refl, sym, ap, subst, ◌∙◌, ⊎_elim, arith}
 use mathlib.Core.Option.{some}
 use mathlib.Core.List.{IsPrefix}
 use lib.ListN.{get_elem?}
 use Rattle.std.proofs.Math.Seq.{take-append_seam}
 use Rattle.atomic_table.proofs.Lists.{at_longer, set_here}
 use Rattle.prcu_model.specs.declared.mark.Mark.{Mark}
-use Rattle.prcu_model.specs.declared.mark.Mark.TheVariants.{Entered, Left, Began, Ended, Done, Given, Unlinked, Freed}
+use Rattle.prcu_model.specs.declared.mark.Mark.TheVariants.{Entered, Left, Began, Ended, Done}
 use Rattle.prcu_model.specs.declared.operation.Op.TheVariants.{Del}
 use Rattle.prcu_model.specs.Marks.{Open, open_at, entered_at}
 use Rattle.prcu_model.proofs.ListFacts.{prefix_self, prefix_more}
 use Rattle.core_state.specs.declared.view.Waiting.{Waiting}
 use Rattle.core_state.specs.declared.view.View.{View}
-use Rattle.core_state.specs.Lists.{Each}
 use Rattle.core_state.specs.Marks.{begun, begun_at, AreMarks}
-use Rattle.core_state.specs.Views.{Works}
-use Rattle.core_state.specs.MarkParts.{AreSeen, HasEnded, WaitStands, MarkParts}
-use Rattle.core_state.proofs.Lists.{at_below, at_end, each_set, each_change}
-use Rattle.core_state.proofs.MarkFacts.{IsOutside, TurnsNoWait, take-more}
+use Rattle.core_state.specs.MarkParts.{HasEnded, WaitStands, MarkParts}
+use Rattle.core_state.proofs.Lists.{at_below, at_end, each_change}
+use Rattle.core_state.proofs.MarkFacts.{TurnsNoWait, take-more}
 use Rattle.core_state.proofs.Same.{still}
 
 -- what a new mark has to meet, after these
@@ -41,25 +39,25 @@ module _ (h : List Mark) (m : Mark) where
 pub marks_snoc : (places : ℕ) (h : List Mark) (m : Mark) → NewMark places h m → AreMarks places h → AreMarks places (h ++ m ∷ [])
 marks_snoc places h m new t = record {
   entered = λ j p c x e. ⊎_elim
-    (λ (o : get_elem? h j ≡ some (Entered p c x)). (let r = t.entered j p c x o in let b = sym (before_old h m j (Entered p c x) o) in (r.0, r.1, r.2 ∙ ap (entered_at p) b, ap (open_at p) (sym b) ∙ r.3)))
-    (λ n. (let r = subst (NewMark places h) n.1 new in let b = sym (before_new h m j n.0) in (r.0, r.1, r.2 ∙ ap (entered_at p) b, ap (open_at p) (sym b) ∙ r.3)))
-    (at_end h m (Entered p c x) j e);
+      (λ (o : get_elem? h j ≡ some (Entered p c x)). (let r = t.entered j p c x o in let b = sym (before_old h m j (Entered p c x) o) in (r.0, r.1, r.2 ∙ ap (entered_at p) b, ap (open_at p) (sym b) ∙ r.3)))
+      (λ n. (let r = subst (NewMark places h) n.1 new in let b = sym (before_new h m j n.0) in (r.0, r.1, r.2 ∙ ap (entered_at p) b, ap (open_at p) (sym b) ∙ r.3)))
+      (at_end h m (Entered p c x) j e);
   left = λ j p c e. ⊎_elim
-    (λ (o : get_elem? h j ≡ some (Left p c)). (let r = t.left j p c o in (r.0, ap (open_at p) (before_old h m j (Left p c) o) ∙ r.1, r.2)))
-    (λ n. (let r = subst (NewMark places h) n.1 new in (r.0, ap (open_at p) (before_new h m j n.0) ∙ r.1, r.2)))
-    (at_end h m (Left p c) j e);
+      (λ (o : get_elem? h j ≡ some (Left p c)). (let r = t.left j p c o in (r.0, ap (open_at p) (before_old h m j (Left p c) o) ∙ r.1, r.2)))
+      (λ n. (let r = subst (NewMark places h) n.1 new in (r.0, ap (open_at p) (before_new h m j n.0) ∙ r.1, r.2)))
+      (at_end h m (Left p c) j e);
   began = λ j p c low high e. ⊎_elim
-    (λ (o : get_elem? h j ≡ some (Began p c low high)). (let r = t.began j p c low high o in (r.0, r.1 ∙ ap (begun_at p) (sym (before_old h m j (Began p c low high) o)), r.2, r.3)))
-    (λ n. (let r = subst (NewMark places h) n.1 new in (r.0, r.1 ∙ ap (begun_at p) (sym (before_new h m j n.0)), r.2, r.3)))
-    (at_end h m (Began p c low high) j e);
+      (λ (o : get_elem? h j ≡ some (Began p c low high)). (let r = t.began j p c low high o in (r.0, r.1 ∙ ap (begun_at p) (sym (before_old h m j (Began p c low high) o)), r.2, r.3)))
+      (λ n. (let r = subst (NewMark places h) n.1 new in (r.0, r.1 ∙ ap (begun_at p) (sym (before_new h m j n.0)), r.2, r.3)))
+      (at_end h m (Began p c low high) j e);
   ended = λ j p c e. ⊎_elim
-    (λ (o : get_elem? h j ≡ some (Ended p c)). (let r = t.ended j p c o in (r.0, r.1, r.2, r.3, at_longer h (m ∷ []) r.0 _ r.4)))
-    (λ n. (let r = subst (NewMark places h) n.1 new in let lt = r.3 in let at = n.0 in (r.0, r.1, r.2, (omega arith), at_longer h (m ∷ []) r.0 _ r.4)))
-    (at_end h m (Ended p c) j e);
+      (λ (o : get_elem? h j ≡ some (Ended p c)). (let r = t.ended j p c o in (r.0, r.1, r.2, r.3, at_longer h (m ∷ []) r.0 _ r.4)))
+      (λ n. (let r = subst (NewMark places h) n.1 new in let lt = r.3 in let at = n.0 in (r.0, r.1, r.2, (omega arith), at_longer h (m ∷ []) r.0 _ r.4)))
+      (at_end h m (Ended p c) j e);
   deleted = λ j p x e. ⊎_elim
-    (λ (o : get_elem? h j ≡ some (Done (record { caller = p; op = Del x }))). (let r = t.deleted j p x o in (r.0, at_longer h (m ∷ []) (j + 1) _ r.1)))
-    (λ n. absurd (subst (NewMark places h) n.1 new))
-    (at_end h m (Done (record { caller = p; op = Del x })) j e);
+      (λ (o : get_elem? h j ≡ some (Done (record { caller = p; op = Del x }))). (let r = t.deleted j p x o in (r.0, at_longer h (m ∷ []) (j + 1) _ r.1)))
+      (λ n. absurd (subst (NewMark places h) n.1 new))
+      (at_end h m (Done (record { caller = p; op = Del x })) j e);
 }
 
 -- What a step leaves of a view for the parts on marks: its place, its wait, and how many there were.
@@ -104,7 +102,7 @@ mark_frame places vs id v w h there same seen t = record {
   };
   marks = t.marks;
   waits = each_change (λ (u : View). (wait : Waiting) → u.wait ≡ Some wait → WaitStands h u wait) (λ (u : View). (wait : Waiting) → u.wait ≡ Some wait → WaitStands h u wait) vs id v w there
-    (λ i wait is. wait_same h v w wait same (i wait (sym same.wait ∙ is))) (λ u i. i) t.waits;
+      (λ i wait is. wait_same h v w wait same (i wait (sym same.wait ∙ is))) (λ u i. i) t.waits;
 }
   where
     longest_still : (j : ℕ) × (u : View) × (get_elem? (set vs id w) j ≡ some u) × (u.seen ≡ h)
@@ -120,5 +118,5 @@ mark_frame_more places vs id v w h m there same seen none new t = record {
   };
   marks = marks_snoc places h m new t.marks;
   waits = each_change (λ (u : View). (wait : Waiting) → u.wait ≡ Some wait → WaitStands h u wait) (λ (u : View). (wait : Waiting) → u.wait ≡ Some wait → WaitStands (h ++ m ∷ []) u wait) vs id v w there
-    (λ i wait is. wait_more h m w wait none (wait_same h v w wait same (i wait (sym same.wait ∙ is)))) (λ u i wait is. wait_more h m u wait none (i wait is)) t.waits;
+      (λ i wait is. wait_more h m w wait none (wait_same h v w wait same (i wait (sym same.wait ∙ is)))) (λ u i wait is. wait_more h m u wait none (i wait is)) t.waits;
 }

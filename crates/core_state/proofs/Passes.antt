@@ -6,9 +6,8 @@ use Rattle.core_state.specs.Chart.{Chart, IsShaped, IsInRange}
 use Rattle.core_state.proofs.Ranges.{next-left}
 use Rattle.core_state.specs.Readers.{Spine, bottom, more, Place, in_range, at_old, at_end, on}
 use Rattle.core_state.proofs.Places.{range_hop, not_root, old_end}
-use Rattle.prcu_model.specs.declared.mark.Side.{Side}
-use Rattle.prcu_model.specs.declared.mark.Side.TheVariants.{Left, Right}
-use Rattle.core_state.specs.declared.words.Field.TheVariants.{Key, Value, Link}
+use Rattle.prcu_model.specs.declared.mark.Side.TheVariants.{Left}
+use Rattle.core_state.specs.declared.words.Field.TheVariants.{Key, Link}
 use Rattle.core_state.specs.Memory.{Memory}
 
 module _ (m : Memory) (n : ℕ) (g : Chart) (x u : ℕ) (h : IsShaped m n g) (l : g.linked u ≡ true) (o : g.old u ≡ true) (le : x ≤ m (Key u)) where

@@ -8,9 +8,8 @@ use Rattle.core_state.proofs.Ranges.{next-left, next-here, next_goes}
 use Rattle.core_state.specs.Readers.{Spine, bottom, more, Place, in_range, at_old, at_end, on}
 use Rattle.core_state.proofs.Hops.{above, above_less, ends, last_of-ends}
 use Rattle.core_state.proofs.Endings.{ended_is}
-use Rattle.prcu_model.specs.declared.mark.Side.{Side}
-use Rattle.prcu_model.specs.declared.mark.Side.TheVariants.{Left, Right}
-use Rattle.core_state.specs.declared.words.Field.TheVariants.{Key, Value, Link}
+use Rattle.prcu_model.specs.declared.mark.Side.TheVariants.{Left}
+use Rattle.core_state.specs.declared.words.Field.TheVariants.{Key, Link}
 use Rattle.core_state.specs.Memory.{Memory}
 
 -- a hop keeps what is known

@@ -1,10 +1,10 @@
 -- What the invariant gives, in plain words.
-use Rattle.std.proofs.Common.{◌*◌, ◌≡◌, ◌≢◌, ◌⊎◌, ℕ, zero, suc, ◌+◌, ◌^◌, ◌<◌, ◌≤◌, Bool, true, false, List, [], ◌∷◌, ◌++◌, length, map, take, drop, Option, Some, None, refl, sym, ap, subst, ◌∙◌, ⊎_elim, inl, inr, arith, length-append, take_all}
+use Rattle.std.proofs.Common.{◌*◌, ◌≡◌, ◌≢◌, ◌⊎◌, ℕ, zero, suc, ◌^◌, ◌<◌, ◌≤◌, true, false, List, [], ◌∷◌, ◌++◌, length, map, take, drop, Option, Some, None, refl, sym, ap, subst, ◌∙◌, ⊎_elim, inl, inr, arith, length-append, take_all}
 use Rattle.std.proofs.lemmas.List.{take-append-drop}
 use Rattle.std.specs.FinMap as finite
 use mathlib.Core.Logic.{dite}
 use mathlib.Core.Option.{some, some-injective, some-ne-none}
-use native.Mathlib.Decide.{dec_le, ℕ_discrete}
+use native.Mathlib.Decide.{dec_le}
 use lib.ListN.{get_elem?}
 use Rattle.prcu_model.specs.declared.mark.Mark.{Mark}
 use Rattle.prcu_model.specs.Dictionary.{map_of}
@@ -16,12 +16,11 @@ use Rattle.core_state.specs.declared.view.Move.{Move}
 use Rattle.core_state.specs.declared.view.Retired.{Retired}
 use Rattle.core_state.specs.declared.view.Section.{Section}
 use Rattle.core_state.specs.declared.view.View.{View}
-use Rattle.core_state.specs.Lists.{times, total, IsIn}
+use Rattle.core_state.specs.Lists.{times, IsIn}
 use Rattle.core_state.specs.Memory.{Memory, slot_count}
 use Rattle.core_state.specs.Nodes.{next, last_of, follow, Hops}
 use Rattle.core_state.specs.Views.{retired_of, slots_of, spares_of, held_list, open_reading, readings_of}
 use Rattle.core_state.specs.declared.view.Reading.{Reading}
-use Rattle.core_state.specs.declared.view.Waiting.{Waiting}
 use Rattle.core_state.specs.Marks.{begun}
 use Rattle.core_state.proofs.MarkFacts.{begun-append}
 use Rattle.core_state.proofs.Leaving.{record_of}
@@ -31,7 +30,7 @@ use Rattle.prcu_model.specs.declared.mark.Side.TheVariants.{Left, Right}
 use Rattle.prcu_model.specs.declared.mark.Mark.TheVariants.{Began}
 use Rattle.core_state.specs.Chart.{Chart, Belongs, IsInRange, IsShaped}
 use Rattle.core_state.specs.Readers.{WasSaid, IsHeldBack, IsPending, MayPass}
-use Rattle.core_state.specs.ReaderParts.{stand_slot, Answered, IsPlaced, IsAsRecorded, IsRecord}
+use Rattle.core_state.specs.ReaderParts.{stand_slot, Answered, IsPlaced, IsRecord}
 use Rattle.core_state.specs.TreeParts.{map_now}
 use Rattle.core_state.specs.Invariant.{Invariant}
 use Rattle.core_state.specs.Laws.{LinksAreTree, FollowIsMap, Searches, answer_of, SearchesAreAnswered, SearchesStand, FewPass, RecordsSay, StampsAreOld, StoodIsYoung}

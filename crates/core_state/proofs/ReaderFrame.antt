@@ -1,34 +1,31 @@
 -- The parts on readers read the words of nodes, the sections, records, moves and locks of views, the updates and where slots were
 -- unlinked. A step that leaves nodes, moves and locks keeps what holds of the other views' sections and records.
-use Rattle.std.proofs.Common.{◌≡◌, ◌≢◌, ℕ, zero, suc, ◌+◌, ◌*◌, ◌/◌, ◌<◌, ◌≤◌, ◌==◌, ◌⊎◌, nat_lt, if◌then◌else◌, true, false, List, [], length, set, Option, Some, None, refl, sym, ap, subst, ◌∙◌, ⊎_elim, inl, inr, arith}
+use Rattle.std.proofs.Common.{◌≡◌, ℕ, zero, suc, ◌/◌, ◌<◌, ◌≤◌, ◌==◌, ◌⊎◌, nat_lt, if◌then◌else◌, List, length, set, Option, Some, None, refl, sym, ap, subst, ◌∙◌, ⊎_elim, inl, inr, arith}
 use mathlib.Core.Option.{some}
 use lib.ListN.{get_elem?}
 use Rattle.prcu_model.specs.declared.mark.Mark.{Mark}
 use Rattle.prcu_model.specs.declared.mark.Side.{Side}
 use Rattle.prcu_model.specs.declared.mark.Side.TheVariants.{Left, Right}
-use Rattle.prcu_model.specs.declared.operation.Update.{Update}
 use Rattle.prcu_model.specs.Marks.{updates_of, gone_at}
-use Rattle.core_state.specs.declared.words.Field.TheVariants.{Life, Key, Value, Link, Tag}
-use Rattle.core_state.specs.declared.view.Listing.{Listing}
+use Rattle.core_state.specs.declared.words.Field.TheVariants.{Life}
 use Rattle.core_state.specs.declared.view.Reading.{Reading}
 use Rattle.core_state.specs.declared.view.Section.{Section}
 use Rattle.core_state.specs.declared.view.Stand.{Stand}
 use Rattle.core_state.specs.declared.view.Stand.TheVariants.{At, Unread, Found, Missed}
-use Rattle.core_state.specs.declared.view.Walk.{Walk}
 use Rattle.core_state.specs.declared.view.View.{View}
-use Rattle.core_state.specs.Lists.{IsIn, Each, IsOdd}
+use Rattle.core_state.specs.Lists.{Each, IsOdd}
 use Rattle.core_state.specs.Memory.{Memory}
-use Rattle.core_state.specs.Known.{known_in, lock_of, LoadedGeneration}
+use Rattle.core_state.specs.Known.{lock_of}
 use Rattle.core_state.specs.Nodes.{next, answer_at, OnRightLeft, first, further}
 use Rattle.core_state.specs.Views.{readings_of}
-use Rattle.core_state.specs.Chart.{Chart, Belongs, IsInRange}
+use Rattle.core_state.specs.Chart.{Chart, Belongs}
 use Rattle.core_state.specs.Readers.{WasSaid, IsHeldBack, MayPass, IsOldFor, IsEmptied, Spine, bottom, more, Place, in_range, at_old, Walks, at_linked, at_stop, at_live}
-use Rattle.core_state.specs.ReaderParts.{Answered, IsPlaced, IsWalking, HasStood, IsServed, IsAsRecorded, SaysOfWalk, IsRecord, IsReading, IsMetBefore, AreAged, ReaderParts}
-use Rattle.core_state.proofs.Lists.{each_set, each_change}
+use Rattle.core_state.specs.ReaderParts.{Answered, IsServed, IsAsRecorded, IsRecord, IsReading, IsMetBefore, ReaderParts}
+use Rattle.core_state.proofs.Lists.{each_set}
 use Rattle.core_state.proofs.MarkFacts.{QuietMarks, gone_at-below}
-use Rattle.core_state.proofs.Same.{SameNodes, was, still}
-use Rattle.core_state.proofs.TreeFrame.{low_same, high_same, pending_back, pending_still}
-use Rattle.core_state.proofs.Places.{Carries, carry}
+use Rattle.core_state.proofs.Same.{SameNodes, still}
+use Rattle.core_state.proofs.TreeFrame.{low_same, high_same, pending_still}
+use Rattle.core_state.proofs.Places.{carry}
 
 module _ (m m' : Memory) (nodes : SameNodes m m') where
   pub next_same : (x s : ℕ) → next m' x s ≡ next m x s
@@ -103,8 +100,8 @@ module _ (m m' : Memory) (nodes : SameNodes m m') (g : Chart) (vs : List View) (
   served_same section i = record {
     placed = λ none. (let p = i.placed none in record {
       place = place_same m m' nodes g section.key (IsHeldBack g h section.entered) (IsHeldBack g h' section.entered) (MayPass vs section.key section.entered) (MayPass (set vs id w) section.key section.entered)
-        (WasSaid (updates_of h) section.key section.from) (WasSaid (updates_of h') section.key section.from)
-        (λ s. held_back_same g h h' section.entered s quiet) (may_still vs id v w there moving section.key section.entered) (λ o. said_same h h' section.key section.from o quiet) _ p.place;
+          (WasSaid (updates_of h) section.key section.from) (WasSaid (updates_of h') section.key section.from)
+          (λ s. held_back_same g h h' section.entered s quiet) (may_still vs id v w there moving section.key section.entered) (λ o. said_same h h' section.key section.from o quiet) _ p.place;
       answered = answered_same section section.reading.stand p.answered;
     });
     lists = i.lists;
@@ -122,8 +119,8 @@ module _ (m m' : Memory) (nodes : SameNodes m m') (g : Chart) (vs : List View) (
   pub record_same : (r : Reading) → IsRecord m g vs r → IsRecord m' g (set vs id w) r
   record_same r i = record {
     side = λ s tag b missed life known empty same settled.
-      ⊎_elim (λ o. inl (old_still vs id v w there moving r.key s o)) (λ x. inr (belongs_same m m' nodes g r.key s b x))
-      (i.side s tag b missed (recorded_back m m' nodes r s life) known (sym (nodes.link s b) ∙ empty) (sym (nodes.tag s b) ∙ same) (λ x. settled (emptied_still vs id v w there locks s b x)));
+        ⊎_elim (λ o. inl (old_still vs id v w there moving r.key s o)) (λ x. inr (belongs_same m m' nodes g r.key s b x))
+        (i.side s tag b missed (recorded_back m m' nodes r s life) known (sym (nodes.link s b) ∙ empty) (sym (nodes.tag s b) ∙ same) (λ x. settled (emptied_still vs id v w there locks s b x)));
     walk = λ node parent b value walk found on. (let p = i.walk node parent b value walk found on in record {
       parent = λ x y. ⊎_elim (λ e. inl e) (λ e. inr (right_left_same m m' nodes node walk.parent e)) (p.parent (recorded_back m m' nodes r node x) (recorded_back m m' nodes r walk.parent y));
       slot = λ x y. right_left_same m m' nodes node walk.slot (p.slot (recorded_back m m' nodes r node x) (recorded_back m m' nodes r walk.slot y));
@@ -149,6 +146,6 @@ module _ (m m' : Memory) (nodes : SameNodes m m') (g : Chart) (vs : List View) (
     served = each_set (λ j u. (section : Section) → u.section ≡ Some section → IsServed m' g h' (set vs id w) section) vs id w own.served (λ j u other e section is. served_same section (t.served j u e section is));
     records = each_set (λ j u. Each u.records (IsRecord m' g (set vs id w))) vs id w own.records (λ j u other e i r is. record_same r (t.records j u e i r is));
     ages = λ s at c b gone met link ne.
-      (let was_gone = sym (quiet.gone s) ∙ gone in
-      ⊎_elim (λ l. inl l) (λ (x : (later : ℕ) × (gone_at c h ≡ Some later) × (at < later)). inr (x.0, quiet.gone c ∙ x.1, x.2)) (t.ages s at c b was_gone (met_back own at (gone_at-below s h at was_gone) met) (sym (nodes.link s b) ∙ link) ne));
+        (let was_gone = sym (quiet.gone s) ∙ gone in
+        ⊎_elim (λ l. inl l) (λ (x : (later : ℕ) × (gone_at c h ≡ Some later) × (at < later)). inr (x.0, quiet.gone c ∙ x.1, x.2)) (t.ages s at c b was_gone (met_back own at (gone_at-below s h at was_gone) met) (sym (nodes.link s b) ∙ link) ne));
   }

@@ -1,5 +1,5 @@
 -- What stays the same over a step: words, fields of a view, and how it is found among all views.
-use Rattle.std.proofs.Common.{◌≡◌, ◌≢◌, ℕ, ◌+◌, ◌-◌, ◌<◌, ◌≤◌, ◌⊎◌, Bool, true, false, cond, List, [], ◌∷◌, ◌++◌, length, map, set, Option, Some, None, refl, sym, ap, subst, ◌∙◌, ⊎_elim, inl, inr, arith, eq-eqb, ne_eqb}
+use Rattle.std.proofs.Common.{◌≡◌, ◌≢◌, ℕ, ◌+◌, ◌-◌, List, ◌++◌, map, set, refl, sym, ap, subst, ◌∙◌, ⊎_elim}
 use mathlib.Core.Logic.{dite}
 use mathlib.Core.Option.{some, some-injective}
 use native.Mathlib.Decide.{ℕ_discrete}
@@ -8,12 +8,11 @@ use Rattle.atomic_table.proofs.Lists.{at_set, set_here, set_else}
 use Rattle.prcu_model.specs.declared.mark.Side.{Side}
 use Rattle.core_state.specs.declared.words.Field.{Field}
 use Rattle.core_state.specs.declared.words.Field.TheVariants.{Clock, Front, Free, Announced, Stamp, Gate, Count, Row, State, Lock, Life, Key, Value, Link, Tag}
-use Rattle.core_state.specs.declared.view.Hands.{Hands}
 use Rattle.core_state.specs.declared.view.Retired.{Retired}
 use Rattle.core_state.specs.declared.view.Spent.{Spent}
 use Rattle.core_state.specs.declared.view.View.{View}
-use Rattle.core_state.specs.Lists.{numbers_from, IsIn}
-use Rattle.core_state.specs.Memory.{Memory, same_field, stored}
+use Rattle.core_state.specs.Lists.{numbers_from}
+use Rattle.core_state.specs.Memory.{Memory, stored}
 use Rattle.core_state.specs.Known.{IsOwnField}
 use Rattle.core_state.specs.Slots.{IsContent}
 use Rattle.core_state.specs.Views.{places_of, spares_of, retired_of, slots_of, held_list, joined_spares, joined_retired}

@@ -1,5 +1,5 @@
 -- The parts on seats, after a step that leaves a view's places and sections, or one that enters or leaves a section.
-use Rattle.std.proofs.Common.{◌≡◌, ◌≢◌, ℕ, ◌+◌, ◌^◌, ◌<◌, ◌≤◌, ◌⊎◌, true, false, List, [], ◌∷◌, ◌++◌, length, take, set, Option, Some, None, refl, sym, ap, subst, ◌∙◌, ⊎_elim, inl, inr, arith, ne_eqb}
+use Rattle.std.proofs.Common.{◌≡◌, ◌≢◌, ℕ, ◌^◌, ◌<◌, ◌≤◌, false, List, [], ◌∷◌, ◌++◌, length, set, Option, Some, None, refl, sym, ap, subst, ◌∙◌, arith, ne_eqb}
 use Rattle.std.proofs.Math.Seq.{take-append_seam}
 use mathlib.Core.Logic.{dite}
 use mathlib.Core.Option.{some, some-injective}
@@ -11,14 +11,14 @@ use Rattle.prcu_model.specs.declared.mark.Mark.TheVariants.{Entered, Left}
 use Rattle.prcu_model.specs.Marks.{Open, open_at, own_of, is_of, entered_at, updates_of}
 use Rattle.core_state.specs.declared.view.Section.{Section}
 use Rattle.core_state.specs.declared.view.View.{View}
-use Rattle.core_state.specs.Lists.{times, total, Each}
+use Rattle.core_state.specs.Lists.{times, Each}
 use Rattle.core_state.specs.Marks.{begun_at}
-use Rattle.core_state.specs.Views.{Works, places_of, IsUnused, open_of}
+use Rattle.core_state.specs.Views.{Works, places_of, open_of}
 use Rattle.core_state.specs.Seating.{spent_view}
 use Rattle.core_state.specs.Sections.{entering, leaving, new_section}
-use Rattle.core_state.specs.SeatParts.{ArePlaced, IsOwned, SectionStands, IsCounted, IsOpenOf, SeatParts}
+use Rattle.core_state.specs.SeatParts.{ArePlaced, IsOwned, SectionStands, IsCounted, SeatParts}
 use Rattle.core_state.proofs.Lists.{at_below, each_set, each_change, total_same}
-use Rattle.core_state.proofs.MarkFacts.{TurnsNoWait, begun_at-same, own_of-other, take-more}
+use Rattle.core_state.proofs.MarkFacts.{begun_at-same, own_of-other, take-more}
 use Rattle.core_state.proofs.Same.{SamePlaces, places_same, still}
 use Rattle.core_state.proofs.SeatFacts.{works_there, unused_there, places_apart, place_within, open_entered, open_left, open_entered_other, open_left_other, entered_here, entered_other, entered_left}
 
@@ -40,13 +40,13 @@ seat_frame places vs id v w h there works same t = record {
   }) (λ u i. i) t.owned;
   within = t.within;
   sections = each_change (λ (u : View). (section : Section) → u.section ≡ Some section → SectionStands h u section) (λ (u : View). (section : Section) → u.section ≡ Some section → SectionStands h u section) vs id v w there
-    (λ i section is. (let s = i section (sym same.section ∙ is) in record { works = subst (λ x. 1 ≤ x) (sym same.places.places) s.works; is_open = ap (λ p. open_at p h) same.places.place ∙ s.is_open; from = s.from; key_fits = s.key_fits; sought = s.sought })) (λ u i. i) t.sections;
+      (λ i section is. (let s = i section (sym same.section ∙ is) in record { works = subst (λ x. 1 ≤ x) (sym same.places.places) s.works; is_open = ap (λ p. open_at p h) same.places.place ∙ s.is_open; from = s.from; key_fits = s.key_fits; sought = s.sought })) (λ u i. i) t.sections;
   opened = λ p o e.
-    (let i = t.opened p o e in
-    let z = still {X = ℕ × Option Section} (λ (u : View). (u.post.place, u.section)) vs id v w there (λ k. (same.places.place k, same.section k)) i.id i.view i.there in
-    record { id = i.id; view = z.0; section = i.section; there = z.1; place = ap (λ x. x.0) z.2 ∙ i.place; inside = ap (λ x. x.1) z.2 ∙ i.inside; same = i.same });
+      (let i = t.opened p o e in
+      let z = still {X = ℕ × Option Section} (λ (u : View). (u.post.place, u.section)) vs id v w there (λ k. (same.places.place k, same.section k)) i.id i.view i.there in
+      record { id = i.id; view = z.0; section = i.section; there = z.1; place = ap (λ x. x.0) z.2 ∙ i.place; inside = ap (λ x. x.1) z.2 ∙ i.inside; same = i.same });
   counted = each_change (λ (u : View). Works u → IsCounted h u) (λ (u : View). Works u → IsCounted h u) vs id v w there
-    (λ i here. (let c = i works in record { sections = same.sections ∙ c.sections ∙ ap (λ p. entered_at p h) (sym same.places.place); waits = same.waits ∙ c.waits ∙ ap (λ p. begun_at p h) (sym same.places.place) })) (λ u i. i) t.counted;
+      (λ i here. (let c = i works in record { sections = same.sections ∙ c.sections ∙ ap (λ p. entered_at p h) (sym same.places.place); waits = same.waits ∙ c.waits ∙ ap (λ p. begun_at p h) (sym same.places.place) })) (λ u i. i) t.counted;
 }
 
 -- a section of a place is open by the marks only where a view has it open
@@ -123,25 +123,25 @@ module _ (places : ℕ) (vs : List View) (id : ℕ) (v : View) (h : List Mark) (
       owned = owned_more w same_place m mine_enter refl;
       within = within_more w same_place m mine_enter refl;
       sections = each_set (λ j u. (section : Section) → u.section ≡ Some section → SectionStands (h ++ m ∷ []) u section) vs id w
-        (λ section is. (let e : new_section v key stamp clocked h ≡ section = cc in subst (SectionStands (h ++ m ∷ []) w) e (record {
-          works = works;
-          is_open = open_entered v.post.place h v.counts.sections key;
-          from = ap (λ z. length (updates_of z)) (sym (take-append_seam h (m ∷ [])));
-          key_fits = key_fits;
-          sought = refl;
-        })))
-        (λ j u ne e section is. section_more w same_place m mine_enter refl j u section ne e is (λ p far. open_entered_other v.post.place h p v.counts.sections key far) (let b = bound u.post.place (open_of section) (t.sections j u e section is).is_open in omega arith));
+          (λ section is. (let e : new_section v key stamp clocked h ≡ section = cc in subst (SectionStands (h ++ m ∷ []) w) e (record {
+            works = works;
+            is_open = open_entered v.post.place h v.counts.sections key;
+            from = ap (λ z. length (updates_of z)) (sym (take-append_seam h (m ∷ [])));
+            key_fits = key_fits;
+            sought = refl;
+          })))
+          (λ j u ne e section is. section_more w same_place m mine_enter refl j u section ne e is (λ p far. open_entered_other v.post.place h p v.counts.sections key far) (let b = bound u.post.place (open_of section) (t.sections j u e section is).is_open in omega arith));
       opened = λ p o e. dite (ℕ_discrete p v.post.place)
-        (λ here. (let now : Some (open_of (new_section v key stamp clocked h)) ≡ Some o = sym (open_entered v.post.place h v.counts.sections key) ∙ ap (λ q. open_at q (h ++ m ∷ [])) (sym here) ∙ e in
-        record { id = id; view = w; section = new_section v key stamp clocked h; there = set_here vs id w (at_below vs id v there); place = sym here; inside = refl; same = same_open (open_of (new_section v key stamp clocked h)) o now }))
-        (λ ne. (let i = t.opened p o (sym (open_entered_other v.post.place h p v.counts.sections key ne) ∙ e) in
-        record { id = i.id; view = i.view; section = i.section; there = set_else vs id i.id w (λ f. ne (sym i.place ∙ ap (λ (u : View). u.post.place) (some-injective i.view v (sym i.there ∙ subst (λ n. get_elem? vs n ≡ some v) (sym f) there)))) ∙ i.there; place = i.place; inside = i.inside; same = i.same }));
+          (λ here. (let now : Some (open_of (new_section v key stamp clocked h)) ≡ Some o = sym (open_entered v.post.place h v.counts.sections key) ∙ ap (λ q. open_at q (h ++ m ∷ [])) (sym here) ∙ e in
+          record { id = id; view = w; section = new_section v key stamp clocked h; there = set_here vs id w (at_below vs id v there); place = sym here; inside = refl; same = same_open (open_of (new_section v key stamp clocked h)) o now }))
+          (λ ne. (let i = t.opened p o (sym (open_entered_other v.post.place h p v.counts.sections key ne) ∙ e) in
+          record { id = i.id; view = i.view; section = i.section; there = set_else vs id i.id w (λ f. ne (sym i.place ∙ ap (λ (u : View). u.post.place) (some-injective i.view v (sym i.there ∙ subst (λ n. get_elem? vs n ≡ some v) (sym f) there)))) ∙ i.there; place = i.place; inside = i.inside; same = i.same }));
       counted = each_set (λ j u. Works u → IsCounted (h ++ m ∷ []) u) vs id w
-        (λ here. (let c = t.counted id v there works in let e = entered_here v.post.place h v.counts.sections key in let s = c.sections in record { sections = omega arith; waits = c.waits ∙ sym (begun_at-same v.post.place h m tt) }))
-        (λ j u ne e here. (let c = t.counted j u e here in record {
-          sections = c.sections ∙ sym (entered_other v.post.place h u.post.place v.counts.sections key (far j u.post.place u ne e (works_there u here)));
-          waits = c.waits ∙ sym (begun_at-same u.post.place h m tt);
-        }));
+          (λ here. (let c = t.counted id v there works in let e = entered_here v.post.place h v.counts.sections key in let s = c.sections in record { sections = omega arith; waits = c.waits ∙ sym (begun_at-same v.post.place h m tt) }))
+          (λ j u ne e here. (let c = t.counted j u e here in record {
+            sections = c.sections ∙ sym (entered_other v.post.place h u.post.place v.counts.sections key (far j u.post.place u ne e (works_there u here)));
+            waits = c.waits ∙ sym (begun_at-same u.post.place h m tt);
+          }));
     }
       where
         same_open : (a b : Open) → Some a ≡ Some b → b ≡ a
@@ -168,16 +168,16 @@ module _ (places : ℕ) (vs : List View) (id : ℕ) (v : View) (h : List Mark) (
       owned = owned_more w_out same_out m_out mine_left refl;
       within = within_more w_out same_out m_out mine_left refl;
       sections = each_set (λ j u. (z : Section) → u.section ≡ Some z → SectionStands (h ++ m_out ∷ []) u z) vs id w_out
-        (λ z none. absurd (let e : None ≡ Some z = none in cc))
-        (λ j u ne e z inside. section_more w_out same_out m_out mine_left refl j u z ne e inside (λ p far. open_left_other v.post.place h p section.count far) (let b = bound u.post.place (open_of z) (t.sections j u e z inside).is_open in omega arith));
+          (λ z none. absurd (let e : None ≡ Some z = none in cc))
+          (λ j u ne e z inside. section_more w_out same_out m_out mine_left refl j u z ne e inside (λ p far. open_left_other v.post.place h p section.count far) (let b = bound u.post.place (open_of z) (t.sections j u e z inside).is_open in omega arith));
       opened = λ p o e. dite (ℕ_discrete p v.post.place)
-        (λ here. absurd (let q : None ≡ Some o = sym (open_left v.post.place h section.count) ∙ ap (λ n. open_at n (h ++ m_out ∷ [])) (sym here) ∙ e in cc))
-        (λ ne. (let i = t.opened p o (sym (open_left_other v.post.place h p section.count ne) ∙ e) in
-        record { id = i.id; view = i.view; section = i.section; there = set_else vs id i.id w_out (λ f. ne (sym i.place ∙ ap (λ (u : View). u.post.place) (some-injective i.view v (sym i.there ∙ subst (λ n. get_elem? vs n ≡ some v) (sym f) there)))) ∙ i.there; place = i.place; inside = i.inside; same = i.same }));
+          (λ here. absurd (let q : None ≡ Some o = sym (open_left v.post.place h section.count) ∙ ap (λ n. open_at n (h ++ m_out ∷ [])) (sym here) ∙ e in cc))
+          (λ ne. (let i = t.opened p o (sym (open_left_other v.post.place h p section.count ne) ∙ e) in
+          record { id = i.id; view = i.view; section = i.section; there = set_else vs id i.id w_out (λ f. ne (sym i.place ∙ ap (λ (u : View). u.post.place) (some-injective i.view v (sym i.there ∙ subst (λ n. get_elem? vs n ≡ some v) (sym f) there)))) ∙ i.there; place = i.place; inside = i.inside; same = i.same }));
       counted = each_set (λ j u. Works u → IsCounted (h ++ m_out ∷ []) u) vs id w_out
-        (λ here. (let c = t.counted id v there works in record { sections = c.sections ∙ sym (entered_left v.post.place h v.post.place section.count); waits = c.waits ∙ sym (begun_at-same v.post.place h m_out tt) }))
-        (λ j u ne e here. (let c = t.counted j u e here in record {
-          sections = c.sections ∙ sym (entered_left v.post.place h u.post.place section.count);
-          waits = c.waits ∙ sym (begun_at-same u.post.place h m_out tt);
-        }));
+          (λ here. (let c = t.counted id v there works in record { sections = c.sections ∙ sym (entered_left v.post.place h v.post.place section.count); waits = c.waits ∙ sym (begun_at-same v.post.place h m_out tt) }))
+          (λ j u ne e here. (let c = t.counted j u e here in record {
+            sections = c.sections ∙ sym (entered_left v.post.place h u.post.place section.count);
+            waits = c.waits ∙ sym (begun_at-same u.post.place h m_out tt);
+          }));
     }

@@ -1,5 +1,5 @@
 -- The steps of the first waiter's sections keep the invariant: K3, K4, K5 and K6. So does a step that is noted in a trail.
-use Rattle.std.proofs.Common.{◌≡◌, ◌≢◌, ℕ, zero, suc, ◌+◌, ◌^◌, ◌<◌, ◌≤◌, ◌⊎◌, true, false, List, [], ◌∷◌, ◌++◌, length, take, set, Option, Some, None, refl, sym, ap, subst, ◌∙◌, ⊎_elim, inl, inr, arith, append-nil}
+use Rattle.std.proofs.Common.{◌≡◌, ℕ, zero, suc, ◌≤◌, ◌⊎◌, true, List, [], ◌∷◌, ◌++◌, length, take, set, Option, Some, None, refl, sym, ap, subst, ◌∙◌, inl, inr, arith}
 use Rattle.std.proofs.lemmas.List.{take_all}
 use mathlib.Core.Logic.{dite}
 use mathlib.Core.Option.{some, some-injective, some-ne-none}
@@ -7,46 +7,40 @@ use native.Mathlib.Decide.{dec_le}
 use lib.ListN.{get_elem?}
 use Rattle.prcu_model.specs.declared.mark.Mark.{Mark}
 use Rattle.prcu_model.specs.declared.mark.Mark.TheVariants.{Entered, Left}
-use Rattle.prcu_model.specs.declared.mark.Side.{Side}
 use Rattle.core_state.specs.declared.shape.Shape.{Shape}
 use Rattle.core_state.specs.declared.words.Field.{Field}
-use Rattle.core_state.specs.declared.words.Field.TheVariants.{Clock, Front, Free, Announced, Stamp, Count, Row, Life, Key}
+use Rattle.core_state.specs.declared.words.Field.TheVariants.{Clock, Front, Free, Announced, Stamp, Life, Key}
 use Rattle.core_state.specs.declared.words.Kind.{Kind}
 use Rattle.core_state.specs.declared.view.Clocked.{Clocked}
-use Rattle.core_state.specs.declared.view.Listing.{Listing}
 use Rattle.core_state.specs.declared.view.Move.{Move}
 use Rattle.core_state.specs.declared.view.Reading.{Reading}
 use Rattle.core_state.specs.declared.view.Section.{Section}
-use Rattle.core_state.specs.declared.view.Stand.TheVariants.{At, Found}
 use Rattle.core_state.specs.declared.view.Waiting.{Waiting}
-use Rattle.core_state.specs.declared.view.Walk.{Walk}
 use Rattle.core_state.specs.declared.view.View.{View}
 use Rattle.core_state.specs.Lists.{IsIn, Each, times}
 use Rattle.core_state.specs.Memory.{Memory, stored, slot_count, idle}
-use Rattle.core_state.specs.Known.{known_in, HasLock, lock_of}
+use Rattle.core_state.specs.Known.{known_in, lock_of}
 use Rattle.core_state.specs.Marks.{begun}
 use Rattle.core_state.specs.Chart.{Chart}
 use Rattle.core_state.specs.Views.{Works, readings_of, open_reading, open_of, places_of}
-use Rattle.core_state.specs.Seating.{trod, spent_view}
-use Rattle.core_state.specs.Sections.{after3, Needs4, after4, Needs5, after5, Needs6, leaving, entering, new_section, fresh_reading}
-use Rattle.core_state.specs.Readers.{Place, in_range}
+use Rattle.core_state.specs.Seating.{trod}
+use Rattle.core_state.specs.Sections.{after3, Needs4, after4, Needs5, after5, Needs6, leaving, new_section, fresh_reading}
+use Rattle.core_state.specs.Readers.{in_range}
 use Rattle.core_state.specs.ReaderParts.{IsReading, IsServed, IsRecord, HasStood}
-use Rattle.core_state.specs.ListingParts.{IsListing}
-use Rattle.core_state.specs.LockParts.{HasFewLocks}
 use Rattle.core_state.specs.WaiterParts.{WaiterParts}
 use Rattle.core_state.specs.Invariant.{Invariant}
-use Rattle.core_state.specs.Laws.{KeepsAges, IsKept}
-use Rattle.core_state.proofs.Lists.{at_below, at_one, in_second}
+use Rattle.core_state.specs.Laws.{KeepsAges}
+use Rattle.core_state.proofs.Lists.{at_below, in_second}
 use Rattle.core_state.proofs.MarkFacts.{QuietMarks, quiet_same, quiet_snoc, open_at-below}
 use Rattle.core_state.proofs.Same.{SameSlots, same_slots, announced_slots, stamp_slots, SamePlaces, content_same}
 use Rattle.core_state.proofs.SeatFacts.{works_there, places_apart, place_within}
-use Rattle.core_state.proofs.MarkFrame.{SameForMarks, mark_frame, mark_frame_more}
-use Rattle.core_state.proofs.SeatFrame.{SameForSeats, seat_frame, open_none, seats_enter, seats_left}
-use Rattle.core_state.proofs.WaiterFrame.{SameForWaiters, waiter_frame, waiters4, waiters5, waiters6}
-use Rattle.core_state.proofs.SlotFrame.{SameForSlots, slot_frame}
-use Rattle.core_state.proofs.LockFrame.{SameForLocks, lock_frame}
-use Rattle.core_state.proofs.CountFrame.{SameForCounts, count_frame, front_frame}
-use Rattle.core_state.proofs.TreeFrame.{SameForTree, tree_frame}
+use Rattle.core_state.proofs.MarkFrame.{mark_frame, mark_frame_more}
+use Rattle.core_state.proofs.SeatFrame.{seat_frame, open_none, seats_enter, seats_left}
+use Rattle.core_state.proofs.WaiterFrame.{waiter_frame, waiters4, waiters5, waiters6}
+use Rattle.core_state.proofs.SlotFrame.{slot_frame}
+use Rattle.core_state.proofs.LockFrame.{lock_frame}
+use Rattle.core_state.proofs.CountFrame.{count_frame, front_frame}
+use Rattle.core_state.proofs.TreeFrame.{tree_frame}
 use Rattle.core_state.proofs.ReaderFrame.{served_same, record_same, OwnReaders, reader_frame}
 use Rattle.core_state.proofs.GraceFrame.{OnlyOlder, waits_same, waits_snoc, grace_snoc, reuse_snoc, grace_frame, listing_same, listing_frame}
 use Rattle.core_state.proofs.Leaving.{record_of}
@@ -186,7 +180,7 @@ module _ (k : Shape) (m : Memory) (vs : List View) (h : List Mark) (id : ℕ) (v
         table = i.table;
         chart = i.chart;
         marks = mark_frame_more k.places vs id v w h mark there (record { place = refl; places = refl; wait = refl; waits = refl }) refl tt
-          (place_within k.places vs i.seats.placed id v.post.place v there (works_there v works), entry.key_fits, (i.seats.counted id v there works).sections, open_none k.places vs id v h there works i.seats entry.outside) i.marks;
+            (place_within k.places vs i.seats.placed id v.post.place v there (works_there v works), entry.key_fits, (i.seats.counted id v there works).sections, open_none k.places vs id v h there works i.seats entry.outside) i.marks;
         seats = seats_enter k.places vs id v h there works i.seats key clocked.number clocked.at entry.outside entry.key_fits (λ p o e. open_at-below p h o e);
         waiters = waiters5 k m vs id v h there way i.waiters key clocked entry.outside needs.clock needs.announced (λ j u s ne e is. apart j u s ne e is) clocked_low began_low;
         slots = slot_frame m m' (slot_count k) i.chart vs id v w h (h ++ mark ∷ []) there slots (record { places = places; hands = refl; moving = refl }) quiet i.slots;

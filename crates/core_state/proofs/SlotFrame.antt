@@ -1,24 +1,22 @@
 -- The parts on slots read the slots' words, the hands, places and moves of views, and where slots were unlinked. A step that leaves
 -- these keeps them.
-use Rattle.std.proofs.Common.{◌≡◌, ◌≢◌, ℕ, ◌+◌, ◌<◌, ◌≤◌, ◌==◌, true, false, List, length, set, Option, Some, None, refl, sym, ap, subst, ◌∙◌, arith}
+use Rattle.std.proofs.Common.{◌≡◌, ℕ, ◌+◌, ◌≤◌, ◌==◌, List, length, set, refl, sym, ap, subst, ◌∙◌}
 use mathlib.Core.Option.{some}
 use lib.ListN.{get_elem?}
 use Rattle.prcu_model.specs.declared.mark.Mark.{Mark}
-use Rattle.core_state.specs.declared.words.Field.{Field}
 use Rattle.core_state.specs.declared.words.Field.TheVariants.{State, Life}
 use Rattle.core_state.specs.declared.view.Held.{Held}
-use Rattle.core_state.specs.declared.view.Move.{Move}
 use Rattle.core_state.specs.declared.view.Retired.{Retired}
 use Rattle.core_state.specs.declared.view.Spent.{Spent}
 use Rattle.core_state.specs.declared.view.View.{View}
 use Rattle.core_state.specs.Lists.{times, total, flag, IsIn, Each, IsEven, IsOdd}
 use Rattle.core_state.specs.Memory.{Memory}
-use Rattle.core_state.specs.Views.{Works, spares_of, retired_of, slots_of}
+use Rattle.core_state.specs.Views.{retired_of, slots_of}
 use Rattle.core_state.specs.Chart.{Chart}
-use Rattle.core_state.specs.SlotParts.{roles_of, HasFewSlots, IsRetired, IsRetiredOf, IsHeldKnown, AreHandsKnown, SlotParts}
+use Rattle.core_state.specs.SlotParts.{HasFewSlots, IsRetired, IsHeldKnown, AreHandsKnown, SlotParts}
 use Rattle.core_state.proofs.Lists.{each_change, total_same}
 use Rattle.core_state.proofs.MarkFacts.{QuietMarks}
-use Rattle.core_state.proofs.Same.{SameSlots, own_same, content_same, SamePlaces, retired_same, spares_same, slots_same, was, still}
+use Rattle.core_state.proofs.Same.{SameSlots, own_same, content_same, SamePlaces, retired_same, spares_same, slots_same, still}
 
 -- What a step leaves of a view for the parts on slots: its places, its hands, its move.
 pub record SameForSlots (v w : View) : Type 0 where
@@ -81,10 +79,10 @@ slot_frame m m' n g vs id v w h h' there slots same quiet t =
       root = slots.nodes.life 0 ∙ t.root;
       hands = each_change (AreHandsKnown m) (AreHandsKnown m') vs id v w there (hands_same m m' slots v w same) (λ u i. hands_same m m' slots u u (same_for_slots u) i) t.hands;
       retired = each_change (λ (u : View). Each (retired_of u) (IsRetired m h)) (λ (u : View). Each (retired_of u) (IsRetired m' h')) vs id v w there
-        (λ i. subst (λ rs. Each rs (IsRetired m' h')) (sym (retired_same v w same.places same.hands)) (λ j r e. retired_is m m' slots h h' r quiet (i j r e)))
-        (λ u i j r e. retired_is m m' slots h h' r quiet (i j r e)) t.retired;
+          (λ i. subst (λ rs. Each rs (IsRetired m' h')) (sym (retired_same v w same.places same.hands)) (λ j r e. retired_is m m' slots h h' r quiet (i j r e)))
+          (λ u i j r e. retired_is m m' slots h h' r quiet (i j r e)) t.retired;
       unlinked = λ s p gone.
-        (let r = t.unlinked s p (sym (quiet.gone s) ∙ gone) in
-        let z = still retired_of vs id v w there (retired_same v w same.places same.hands) r.id r.view r.there in
-        record { id = r.id; view = z.0; retired = r.retired; there = z.1; has = subst (λ rs. IsIn rs r.retired) (sym z.2) r.has; slot = r.slot });
+          (let r = t.unlinked s p (sym (quiet.gone s) ∙ gone) in
+          let z = still retired_of vs id v w there (retired_same v w same.places same.hands) r.id r.view r.there in
+          record { id = r.id; view = z.0; retired = r.retired; there = z.1; has = subst (λ rs. IsIn rs r.retired) (sym z.2) r.has; slot = r.slot });
     }

@@ -1,6 +1,6 @@
 -- The parts on the tree read keys, values, links and lives of slots, the moves, locks and records of views, and the updates. A step
 -- that leaves these keeps them.
-use Rattle.std.proofs.Common.{◌≡◌, ◌≢◌, ℕ, zero, suc, ◌+◌, ◌*◌, ◌<◌, ◌≤◌, ◌⊎◌, true, false, List, set, Option, Some, None, refl, sym, ap, subst, ◌∙◌, ⊎_elim, inl, inr, arith}
+use Rattle.std.proofs.Common.{◌≡◌, ℕ, zero, suc, ◌+◌, ◌*◌, true, List, set, Option, Some, refl, sym, ap, subst, ◌∙◌, ⊎_elim, inl, inr, arith}
 use Rattle.std.specs.FinMap as finite
 use mathlib.Core.Option.{some}
 use lib.ListN.{get_elem?}
@@ -10,19 +10,19 @@ use Rattle.prcu_model.specs.declared.mark.Side.{Side}
 use Rattle.prcu_model.specs.declared.mark.Side.TheVariants.{Left, Right}
 use Rattle.prcu_model.specs.declared.operation.Op.TheVariants.{Del}
 use Rattle.prcu_model.specs.Dictionary.{map_of}
-use Rattle.core_state.specs.declared.words.Field.TheVariants.{Life, Key, Value, Link}
+use Rattle.core_state.specs.declared.words.Field.TheVariants.{Life}
 use Rattle.core_state.specs.declared.view.HeldLock.{HeldLock}
 use Rattle.core_state.specs.declared.view.Move.{Move}
 use Rattle.core_state.specs.declared.view.Reading.{Reading}
 use Rattle.core_state.specs.declared.view.View.{View}
-use Rattle.core_state.specs.Lists.{IsIn, Each}
+use Rattle.core_state.specs.Lists.{IsIn}
 use Rattle.core_state.specs.Memory.{Memory}
-use Rattle.core_state.specs.Known.{lock_of, HasLock, LoadedGeneration}
+use Rattle.core_state.specs.Known.{lock_of, HasLock}
 use Rattle.core_state.specs.Nodes.{after}
-use Rattle.core_state.specs.Chart.{Chart, low_of, high_of, IsBelow, Hangs, IsKeyed, IsAged, IsShaped, HoldsMap}
+use Rattle.core_state.specs.Chart.{Chart, low_of, high_of, IsShaped, HoldsMap}
 use Rattle.core_state.specs.LockParts.{HasGeneration}
 use Rattle.core_state.specs.Readers.{IsPending}
-use Rattle.core_state.specs.TreeParts.{map_now, IsOldRecorded, IsMoving, IsOldOf, AreMoving, TreeParts}
+use Rattle.core_state.specs.TreeParts.{map_now, IsMoving, TreeParts}
 use Rattle.core_state.proofs.Lists.{each_set}
 use Rattle.core_state.proofs.MarkFacts.{QuietMarks}
 use Rattle.core_state.proofs.Same.{SameNodes, was, still}
@@ -48,7 +48,7 @@ module _ (m m' : Memory) (nodes : SameNodes m m') where
     root_high = h.root_high;
     root_new = h.root_new;
     below = λ s c b l e ne. (let i = h.below s c b l (sym (nodes.link s b) ∙ e) ne in
-    record { linked = i.linked; up = i.up; side = i.side; rank = i.rank; low = i.low ∙ sym (low_same g s b); high = i.high ∙ sym (high_same g s b) });
+        record { linked = i.linked; up = i.up; side = i.side; rank = i.rank; low = i.low ∙ sym (low_same g s b); high = i.high ∙ sym (high_same g s b) });
     hangs = λ c l ne. (let i = h.hangs c l ne in record { above = i.above; link = nodes.link (g.up c) (g.side c) ∙ i.link });
     keyed = λ s l ne o. (let i = h.keyed s l ne o in let e = nodes.key s in record { low = omega (arith, i.low); high = omega (arith, i.high) });
     aged = λ s l o. (let i = h.aged s l o in let e = nodes.key s in record { low = omega (arith, i.low); high = i.high; left = nodes.link s Left ∙ i.left });
@@ -89,7 +89,7 @@ module _ (m m' : Memory) (nodes : SameNodes m m') where
     parent_lock = lock_same u z locks move.parent i.parent_lock;
     made = quiet.longer move.made _ (i.made ∙ ap (λ p. some (Done (record { caller = p; op = Del move.key }))) (sym place));
     recorded = (let r = i.recorded in
-    record { reading = r.reading; generation = r.generation; lock = r.lock; kept = more r.reading r.kept; loaded = r.loaded; locked = ap (λ ls. lock_of ls move.old) locks ∙ r.locked; same = generation_same move.old r.generation r.lock r.same });
+        record { reading = r.reading; generation = r.generation; lock = r.lock; kept = more r.reading r.kept; loaded = r.loaded; locked = ap (λ ls. lock_of ls move.old) locks ∙ r.locked; same = generation_same move.old r.generation r.lock r.same });
     unmet = λ r generation has loaded e. i.unmet r generation (fewer r has) loaded (sym (nodes.life move.copy.slot) ∙ e);
   }
 
@@ -115,16 +115,16 @@ tree_frame m m' n g vs id v w h h' there nodes same quiet t = record {
   map = subst (λ us. HoldsMap m' g (λ x. finite.get (map_of us) x)) (sym quiet.updates) (map_same m m' nodes g (map_now h) t.map);
   moves = record {
     each = each_set (λ j u. (move : Move) → u.moving ≡ Some move → IsMoving m' g h' u move) vs id w
-      (λ move is. moving_same m m' nodes g h h' v w move quiet same.place same.locks same.more (same.fewer move (sym same.moving ∙ is)) (t.moves.each id v there move (sym same.moving ∙ is)))
-      (λ j u other e move is. moving_same m m' nodes g h h' u u move quiet refl refl (λ r i. i) (λ r i. i) (t.moves.each j u e move is));
+        (λ move is. moving_same m m' nodes g h h' v w move quiet same.place same.locks same.more (same.fewer move (sym same.moving ∙ is)) (t.moves.each id v there move (sym same.moving ∙ is)))
+        (λ j u other e move is. moving_same m m' nodes g h h' u u move quiet refl refl (λ r i. i) (λ r i. i) (t.moves.each j u e move is));
     every = λ s l o. (let a = t.moves.every s l o in record { move = a.move; pending = pending_still vs id v w there same.moving a.move a.pending; old = a.old });
     one_old = λ i j a b x y ea eb ia ib e.
-      (let p = was (λ (u : View). u.moving) vs id v w there same.moving i a ea in
-      let q = was (λ (u : View). u.moving) vs id v w there same.moving j b eb in
-      t.moves.one_old i j p.0 q.0 x y p.1 q.1 (sym p.2 ∙ ia) (sym q.2 ∙ ib) e);
+        (let p = was (λ (u : View). u.moving) vs id v w there same.moving i a ea in
+        let q = was (λ (u : View). u.moving) vs id v w there same.moving j b eb in
+        t.moves.one_old i j p.0 q.0 x y p.1 q.1 (sym p.2 ∙ ia) (sym q.2 ∙ ib) e);
     one_copy = λ i j a b x y ea eb ia ib e.
-      (let p = was (λ (u : View). u.moving) vs id v w there same.moving i a ea in
-      let q = was (λ (u : View). u.moving) vs id v w there same.moving j b eb in
-      t.moves.one_copy i j p.0 q.0 x y p.1 q.1 (sym p.2 ∙ ia) (sym q.2 ∙ ib) e);
+        (let p = was (λ (u : View). u.moving) vs id v w there same.moving i a ea in
+        let q = was (λ (u : View). u.moving) vs id v w there same.moving j b eb in
+        t.moves.one_copy i j p.0 q.0 x y p.1 q.1 (sym p.2 ∙ ia) (sym q.2 ∙ ib) e);
   };
 }

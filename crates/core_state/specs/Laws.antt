@@ -27,7 +27,13 @@ use Rattle.core_state.specs.Tree.{IsTree}
 use Rattle.core_state.specs.Readers.{WasSaid, IsPending, MayPass, IsOldFor, IsEmptied, Stands}
 use Rattle.core_state.specs.ReaderParts.{stand_slot, IsAsRecorded}
 use Rattle.core_state.specs.TreeParts.{map_now}
-use Rattle.core_state.specs.Slots.{IsContent}
+use Rattle.core_state.specs.Slots.{IsContent, Needs12Retired}
+use Rattle.core_state.specs.Waits.{Needs7, after7}
+use Rattle.core_state.specs.Locks.{Needs14, after14}
+use Rattle.core_state.specs.WaiterParts.{AreExcused}
+use Rattle.core_state.specs.GraceParts.{IsClear}
+use Rattle.core_state.specs.declared.view.Retired.{Retired}
+use Rattle.core_state.specs.declared.view.HeldLock.{HeldLock}
 use Rattle.core_state.specs.Views.{Works, readings_of}
 use Rattle.core_state.specs.Steps.{IsStep, Steps}
 use Rattle.core_state.specs.Fresh.{first_view, IsFresh}
@@ -136,3 +142,18 @@ NotesKeep = (kind : Kind) → Keeps kind → KeepsNoted kind
 -- A table as it is made has the invariant, whatever its waiter.
 abbrev pub FreshHolds : Type 0
 FreshHolds = (k : Shape) (m : Memory) → IsShape k → IsFresh k m → Invariant k m (first_view k ∷ []) []
+
+-- Pieces of laws to come. A wait begins with nothing excused, so what the waits have excused stays right.
+abbrev pub WaitsBeginFresh : Type 0
+WaitsBeginFresh = (k : Shape) (m : Memory) (vs : List View) (h : List Mark) → Invariant k m vs h → (id low high : ℕ) (v : View) → get_elem? vs id ≡ some v → Needs7 v low high
+    → AreExcused k (set vs id (after7 v low high (m Clock) h))
+
+-- The life of a retired slot is raised only where no section is open that was entered before its unlinking.
+abbrev pub RaisesMeetNobody : Type 0
+RaisesMeetNobody = (k : Shape) (m : Memory) (vs : List View) (h : List Mark) → Invariant k m vs h → (id i slot life number : ℕ) (v : View) (r : Retired) → get_elem? vs id ≡ some v
+    → Needs12Retired v i r slot life number → IsClear vs r.unlinked 0 18446744073709551615
+
+-- Who gives a lock up forgets no side that it emptied.
+abbrev pub UnlocksForgetNothing : Type 0
+UnlocksForgetNothing = (vs : List View) (id slot s : ℕ) (v : View) (lock : HeldLock) (b : Side) → get_elem? vs id ≡ some v → Needs14 v lock slot → IsEmptied vs s b
+    → IsEmptied (set vs id (after14 v slot)) s b
