@@ -26,3 +26,6 @@ pub mod Keeping
 pub mod First
 pub mod Counting
 pub mod Pieces
+pub mod Choices
+pub mod Chosen
+pub mod Example
