@@ -1,32 +1,18 @@
 -- A run on literal words, in which each step is allowed: inserts, a replaced value, a listing, deletes with two children and with none,
 -- with their waits, and the reuse of slots. So no need of these kinds of step is one that cannot be met.
-use Rattle.std.proofs.Common.{◌≡◌, ℕ, zero, suc, ◌+◌, ◌<◌, ◌≤◌, List, [], ◌∷◌, map, refl, sym, ap, ◌∙◌, inl, inr, arith, Option, Some, None, length, true, false}
+use Rattle.std.proofs.Common.{List, [], ◌∷◌, refl, ap, inl, inr, arith, Some}
 use mathlib.Core.Option.{some}
-use lib.ListN.{get_elem?}
-use Rattle.prcu_model.specs.declared.mark.Mark.{Mark}
-use Rattle.prcu_model.specs.declared.mark.Mark.TheVariants.{Entered, Unlinked}
-use Rattle.prcu_model.specs.declared.mark.Side.{Side}
 use Rattle.prcu_model.specs.declared.mark.Side.TheVariants.{Left, Right}
 use Rattle.core_state.specs.declared.shape.Shape.{Shape}
 use Rattle.core_state.specs.declared.words.Field.{Field}
 use Rattle.core_state.specs.declared.words.Field.TheVariants.{Clock, Front, Free, Announced, Stamp, Gate, Count, Row, State as StateWord, Lock, Key, Value, Life, Link, Tag}
-use Rattle.core_state.specs.declared.words.Kind.TheVariants.{K5, K13, K14, K17, K18, K23}
-use Rattle.core_state.specs.declared.view.Clocked.{Clocked}
-use Rattle.core_state.specs.declared.view.HeldLock.{HeldLock}
-use Rattle.core_state.specs.declared.view.Section.{Section}
 use Rattle.core_state.specs.declared.view.Waiting.{Waiting}
-use Rattle.core_state.specs.declared.view.View.{View}
 use Rattle.core_state.specs.Fresh.{first_view}
 use Rattle.core_state.specs.Lists.{IsIn}
 use Rattle.core_state.specs.Memory.{idle}
-use Rattle.core_state.specs.Known.{HasLock, IsLoadable, known_in, is_emptied, lock_of}
-use Rattle.core_state.specs.Locks.{after13, after14, after18, after23}
-use Rattle.core_state.specs.Loads.{after17}
-use Rattle.core_state.specs.Sections.{after5}
-use Rattle.core_state.specs.Waits.{IsSpot, new_wait}
-use Rattle.core_state.specs.declared.view.Retired.{Retired}
-use Rattle.core_state.specs.Steps.{IsStep, step3, step4, step5, step6, step7, step8_key, step8_stamp, step9_held, step9_keep, step9_retired, step10, step11, step12_content, step12_hand, step12_spare, step12_raised, step13, step14, step15_hand, step15_retired, step16, step17, step17_list, step18, step19, step20, step21, step22, step23, step24, step25, step26, step27, step36, step37}
-use Rattle.core_state.proofs.Choices.{State, Choice, reached, AllAllowed, over, ◌⟫◌, le_now, lt_now, ne_now, no_lock, some_not_none, announces, begins, bypasses, clocks, counts_free, enters, fills, frees_hand, frees_retired, keeps, leaves, links_copy, links_leaf, lists, loads, loads_life, loads_locked, loads_retired, locks, looks_front, looks_key, looks_stamp, marks_node, raises_hand, raises_retired, raises_spare, raises_tag, replaces, reserves, seizes, turns_even, turns_odd, unlinks_left, unlinks_right, unlocks}
+use Rattle.core_state.specs.Waits.{IsSpot}
+use Rattle.core_state.specs.Steps.{step3, step4, step5, step6, step9_held, step10, step11, step12_content, step13, step14, step17, step17_list, step18, step19, step20, step24, step36, step37}
+use Rattle.core_state.proofs.Choices.{State, Choice, reached, AllAllowed, over, ◌⟫◌, le_now, lt_now, ne_now, announces, clocks, enters, fills, leaves, links_leaf, lists, loads, loads_life, loads_locked, locks, looks_front, replaces, reserves, seizes, turns_even, turns_odd, unlocks}
 
 abbrev pub small : Shape
 small = record { way = 0; slots = 5; places = 1; tickets = 100 }
@@ -34,13 +20,13 @@ small = record { way = 0; slots = 5; places = 1; tickets = 100 }
 abbrev pub start : State
 start = record {
   words = 0 ∷ 0 ∷ 5 ∷ 0 ∷ idle ∷
-    1 ∷ 0 ∷ 0 ∷ 0 ∷ 0 ∷ 0 ∷ 0 ∷ 0 ∷ 0 ∷
-    1 ∷ 0 ∷ 0 ∷ 0 ∷ 0 ∷ 0 ∷ 0 ∷ 0 ∷ 0 ∷
-    0 ∷ 0 ∷ 0 ∷ 0 ∷ 0 ∷ 0 ∷ 0 ∷ 0 ∷ 0 ∷
-    0 ∷ 0 ∷ 0 ∷ 0 ∷ 0 ∷ 0 ∷ 0 ∷ 0 ∷ 0 ∷
-    0 ∷ 0 ∷ 0 ∷ 0 ∷ 0 ∷ 0 ∷ 0 ∷ 0 ∷ 0 ∷
-    0 ∷ 0 ∷ 0 ∷ 0 ∷ 0 ∷ 0 ∷ 0 ∷ 0 ∷ 0 ∷
-    0 ∷ 0 ∷ 0 ∷ 0 ∷ 0 ∷ 0 ∷ 0 ∷ 0 ∷ 0 ∷ [];
+      1 ∷ 0 ∷ 0 ∷ 0 ∷ 0 ∷ 0 ∷ 0 ∷ 0 ∷ 0 ∷
+      1 ∷ 0 ∷ 0 ∷ 0 ∷ 0 ∷ 0 ∷ 0 ∷ 0 ∷ 0 ∷
+      0 ∷ 0 ∷ 0 ∷ 0 ∷ 0 ∷ 0 ∷ 0 ∷ 0 ∷ 0 ∷
+      0 ∷ 0 ∷ 0 ∷ 0 ∷ 0 ∷ 0 ∷ 0 ∷ 0 ∷ 0 ∷
+      0 ∷ 0 ∷ 0 ∷ 0 ∷ 0 ∷ 0 ∷ 0 ∷ 0 ∷ 0 ∷
+      0 ∷ 0 ∷ 0 ∷ 0 ∷ 0 ∷ 0 ∷ 0 ∷ 0 ∷ 0 ∷
+      0 ∷ 0 ∷ 0 ∷ 0 ∷ 0 ∷ 0 ∷ 0 ∷ 0 ∷ 0 ∷ [];
   view = first_view small;
   marks = [];
 }

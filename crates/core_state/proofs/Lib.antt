@@ -29,3 +29,5 @@ pub mod Pieces
 pub mod Choices
 pub mod Chosen
 pub mod Example
+pub mod Deletes
+pub mod Reusing
