@@ -31,3 +31,4 @@ pub mod Chosen
 pub mod Example
 pub mod Deletes
 pub mod Reusing
+pub mod ListingLaws

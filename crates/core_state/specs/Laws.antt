@@ -10,8 +10,10 @@ use Rattle.prcu_model.specs.Dictionary.{map_of}
 use Rattle.prcu_model.specs.Marks.{updates_of, gone_at, IsGone}
 use Rattle.core_state.specs.declared.shape.Shape.{Shape}
 use Rattle.core_state.specs.declared.words.Field.{Field}
-use Rattle.core_state.specs.declared.words.Field.TheVariants.{Clock, Free, Life, Link, Tag}
+use Rattle.core_state.specs.declared.words.Field.TheVariants.{Clock, Front, Free, Life, Link, Tag}
 use Rattle.core_state.specs.declared.words.Kind.{Kind}
+use Rattle.core_state.specs.declared.view.Listing.{Listing}
+use Rattle.core_state.specs.ListingParts.{IsBetween}
 use Rattle.core_state.specs.declared.view.Move.{Move}
 use Rattle.core_state.specs.declared.view.Reading.{Reading}
 use Rattle.core_state.specs.declared.view.Section.{Section}
@@ -20,7 +22,7 @@ use Rattle.core_state.specs.declared.view.Stand.TheVariants.{At, Unread, Found, 
 use Rattle.core_state.specs.declared.view.Waiting.{Waiting}
 use Rattle.core_state.specs.Known.{known_in}
 use Rattle.core_state.specs.declared.view.View.{View}
-use Rattle.core_state.specs.Lists.{IsIn, IsOdd}
+use Rattle.core_state.specs.Lists.{IsIn, IsEven, IsOdd}
 use Rattle.core_state.specs.Memory.{Memory, is_field, stored, slot_count}
 use Rattle.core_state.specs.Nodes.{last_of, follow, Hops}
 use Rattle.core_state.specs.Tree.{IsTree}
@@ -94,6 +96,15 @@ abbrev pub StampsAreOld : Type 0
 StampsAreOld = (k : Shape) (m : Memory) (vs : List View) (h : List Mark) → Invariant k m vs h → k.way ≢ 1 → (i j : ℕ) (v u : View) (wait : Waiting) (section : Section)
     → get_elem? vs i ≡ some v → v.wait ≡ Some wait → get_elem? vs j ≡ some u → u.section ≡ Some section
     → (section.clocked ≤ wait.began → section.stamp ≤ wait.clock) × (section.stamp ≤ m Clock) × (wait.clock < m Clock)
+
+-- While the front is the even number that a listing loaded first, its walk goes on to what the dictionary has now: for each key strictly
+-- between its bounds, the follow from where it stands answers as the dictionary; and it passes an old successor only for keys above
+-- that one's.
+abbrev pub ListingsGoOn : Type 0
+ListingsGoOn = (k : Shape) (m : Memory) (vs : List View) (h : List Mark) → Invariant k m vs h → (id : ℕ) (v : View) (section : Section) (listing : Listing) → get_elem? vs id ≡ some v
+    → v.section ≡ Some section → section.listing ≡ Some listing → IsEven listing.front → m Front ≡ listing.front → listing.slot ≢ 0 → (y : ℕ) → y < 2 ^ 64 → IsBetween listing.bounds y
+    → (follow m (slot_count k) listing.slot y ≡ map_now h y)
+    × ((move : Move) (hops : ℕ) → IsPending vs move → Hops m y hops listing.slot move.old → move.next_key < y)
 
 -- A slot at which an open section stood is linked, or was unlinked after the section was entered.
 abbrev pub StoodIsYoung : Type 0
