@@ -1,5 +1,5 @@
 -- What a section found out is a record that says the truth, when the section is left.
-use Rattle.std.proofs.Common.{◌≡◌, ◌≢◌, ℕ, zero, suc, ◌+◌, ◌<◌, ◌⊎◌, nat_lt, cond, true, false, List, [], Option, Some, None, refl, sym, ap, subst, ◌∙◌, ⊎_elim, inl, inr, arith, eq-eqb, ne_eqb}
+use Rattle.std.proofs.Common.{◌^◌, ◌≡◌, ◌≢◌, ℕ, zero, suc, ◌+◌, ◌<◌, ◌⊎◌, nat_lt, cond, true, false, List, [], Option, Some, None, refl, sym, ap, subst, ◌∙◌, ⊎_elim, inl, inr, arith, eq-eqb, ne_eqb}
 use Rattle.std.proofs.lemmas.Bool.{lt-ltb, le-ltb}
 use mathlib.Core.Logic.{dite}
 use native.Mathlib.Decide.{dec_le, ℕ_discrete}
@@ -83,9 +83,10 @@ linked_now m g h section s stood as_recorded =
     ⊎_elim (λ l. l) (λ (x : IsHeldBack g h section.entered s × IsOdd (m (Life s))). absurd (let odd = x.1 in let even = as_recorded.2 in omega arith)) stood.here
 
 -- What a section found out is a record that says the truth.
-pub record_of : (m : Memory) (n : ℕ) (g : Chart) (vs : List View) (h : List Mark) (section : Section) → IsShaped m n g → IsReading section.reading → section.reading.key ≡ section.key
+pub record_of : (m : Memory) (n : ℕ) (g : Chart) (vs : List View) (h : List Mark) (section : Section) → IsShaped m n g → IsReading section.reading → section.reading.key ≡ section.key → section.key < 2 ^ 64
     → IsServed m g h vs section → IsRecord m g vs section.reading
-record_of m n g vs h section shape reading sought served = record {
+record_of m n g vs h section shape reading sought fits served = record {
+  key_fits = subst (λ x. x < 2 ^ 64) (sym sought) fits;
   side = λ s tag b missed life known empty same settled. side_case section.listing refl s b missed life empty;
   walk = λ node parent b value walk found walks.
       (let here : stand_slot section.reading.stand ≡ node = ap stand_slot found in

@@ -169,15 +169,15 @@ reading_says k m vs h i id v r there has = ⊎_elim (λ (x : IsIn (open_reading 
     open_case None e (suc j, is) = absurd (some-ne-none r (sym is))
     open_case (Some section) e (zero, is) =
         subst (IsRecord m i.chart vs) (some-injective section.reading r is)
-        (record_of m (slot_count k) i.chart vs h section i.tree.shape (i.readers.readings id v there 0 section.reading (ap (λ o. get_elem? (open_reading o ++ v.records) 0) e)) (i.seats.sections id v there section e).sought (i.readers.served id v there section e))
+        (record_of m (slot_count k) i.chart vs h section i.tree.shape (i.readers.readings id v there 0 section.reading (ap (λ o. get_elem? (open_reading o ++ v.records) 0) e)) (i.seats.sections id v there section e).sought (i.seats.sections id v there section e).key_fits (i.readers.served id v there section e))
     open_case (Some section) e (suc j, is) = absurd (some-ne-none r (sym is))
 
 pub records_say : RecordsSay
-records_say k m vs h i id v r s tag b there has fits missed life known empty same settled =
+records_say k m vs h i id v r s tag b there has missed life known empty same settled =
     let reading = i.readers.readings id v there has.0 r has.1 in
     let goes : GoesTo r s b = (subst (StandsWell r) missed reading.well).0 in
     let linked = (let l = life.1 in (i.locks.readings id v there has.0 r has.1).linked s l.0 l.1 (life.2 ∙ ap (λ z. 2 * z) l.2)) in
-    ⊎_elim (λ o. inl o) (λ belongs. inr (ends_there m (slot_count k) i.chart r.key s b i.tree.shape fits linked (root_side goes) empty belongs))
+    ⊎_elim (λ o. inl o) (λ belongs. inr (ends_there m (slot_count k) i.chart r.key s b i.tree.shape (reading_says k m vs h i id v r there has).key_fits linked (root_side goes) empty belongs))
     ((reading_says k m vs h i id v r there has).side s tag b missed life known empty same settled)
   where
     root_side : GoesTo r s b → s ≡ 0 → b ≡ Right

@@ -118,6 +118,7 @@ module _ (m m' : Memory) (nodes : SameNodes m m') (g : Chart) (vs : List View) (
 
   pub record_same : (r : Reading) → IsRecord m g vs r → IsRecord m' g (set vs id w) r
   record_same r i = record {
+    key_fits = i.key_fits;
     side = λ s tag b missed life known empty same settled.
         ⊎_elim (λ o. inl (old_still vs id v w there moving r.key s o)) (λ x. inr (belongs_same m m' nodes g r.key s b x))
         (i.side s tag b missed (recorded_back m m' nodes r s life) known (sym (nodes.link s b) ∙ empty) (sym (nodes.tag s b) ∙ same) (λ x. settled (emptied_still vs id v w there locks s b x)));

@@ -245,7 +245,7 @@ module _ (k : Shape) (m : Memory) (vs : List View) (h : List Mark) (id : ℕ) (v
       let served = i.readers.served id v there section needs in
       let same_readings : readings_of v ≡ section.reading ∷ v.records = ap (λ s. open_reading s ++ v.records) needs in
       let left_reading : IsReading section.reading = i.readers.readings id v there 0 section.reading (ap (λ rs. get_elem? rs 0) same_readings) in
-      let told : IsRecord m i.chart vs section.reading = record_of m (slot_count k) i.chart vs h section i.tree.shape left_reading stands.sought served in
+      let told : IsRecord m i.chart vs section.reading = record_of m (slot_count k) i.chart vs h section i.tree.shape left_reading stands.sought stands.key_fits served in
       record {
         table = i.table;
         chart = i.chart;

@@ -87,7 +87,7 @@ FewPass = (k : Shape) (m : Memory) (vs : List View) (h : List Mark) → Invarian
 -- emptied, the search for the key from the root ends there, or the slot is the old successor of a move whose interval holds the key.
 abbrev pub RecordsSay : Type 0
 RecordsSay = (k : Shape) (m : Memory) (vs : List View) (h : List Mark) → Invariant k m vs h → (id : ℕ) (v : View) (r : Reading) (s tag : ℕ) (b : Side) → get_elem? vs id ≡ some v → IsIn (readings_of v) r
-    → r.key < 2 ^ 64 → r.stand ≡ Missed s b → IsAsRecorded m r s → known_in r.loads (Tag s b) ≡ Some tag → m (Link s b) ≡ 0 → m (Tag s b) ≡ tag → (IsEmptied vs s b → ⊥)
+    → r.stand ≡ Missed s b → IsAsRecorded m r s → known_in r.loads (Tag s b) ≡ Some tag → m (Link s b) ≡ 0 → m (Tag s b) ≡ tag → (IsEmptied vs s b → ⊥)
     → IsOldFor vs r.key s ⊎ (last_of m r.key (slot_count k) 0 ≡ s)
 
 -- A stamp whose clock was loaded before a wait began isn't above the wait's clock; no stamp is above the clock word, and each wait's

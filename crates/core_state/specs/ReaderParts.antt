@@ -1,6 +1,6 @@
 -- The invariant on readers, their records and walks, and on how old an unlinked slot is that a section may meet.
 -- Source: docs/ALGORITHM.md, "The invariant of the tree".
-use Rattle.std.specs.Prelude.{◌≡◌, ◌≢◌, ℕ, ◌*◌, ◌/◌, ◌<◌, ◌⊎◌, true, List, [], Option, Some, None}
+use Rattle.std.specs.Prelude.{◌≡◌, ◌≢◌, ℕ, ◌*◌, ◌/◌, ◌^◌, ◌<◌, ◌⊎◌, true, List, [], Option, Some, None}
 use mathlib.Core.Option.{some}
 use lib.ListN.{get_elem?}
 use Rattle.prcu_model.specs.declared.mark.Mark.{Mark}
@@ -109,7 +109,9 @@ pub record SaysOfWalk (m : Memory) (r : Reading) (node : ℕ) (walk : Walk) : Ty
   pub parent : IsAsRecorded m r node → IsAsRecorded m r walk.parent → (walk.parent ≡ node) ⊎ OnRightLeft m node walk.parent
   pub slot : IsAsRecorded m r node → IsAsRecorded m r walk.slot → OnRightLeft m node walk.slot
 
+-- What holds of a kept record.
 pub record IsRecord (m : Memory) (g : Chart) (vs : List View) (r : Reading) : Type 0 where
+  pub key_fits : r.key < 2 ^ 64
   pub side : SaysOfSide m g vs r
   pub walk : (node parent : ℕ) (b : Side) (value : Option ℕ) (walk : Walk) → r.stand ≡ Found node parent b value → r.walk ≡ Some walk → SaysOfWalk m r node walk
 
