@@ -20,7 +20,7 @@ measure() {
     shift 2
     for _ in 1 2 3; do
         "$out/measure" "$@" <"$input" 2>&1 >"$output" | tail -1
-    done | sort -n | head -1
+    done | sort -n | head -1 | cut -d' ' -f 1,2
 }
 
 # One command on one input, by both programs, which write the same: `both OPS SCRIPTS INPUT WORDS..`.

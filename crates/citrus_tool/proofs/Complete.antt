@@ -1,14 +1,15 @@
 -- Which inputs are answered.
-use Rattle.std.proofs.Common.{◌≡◌, ℕ, ◌≤◌, ◌<◌, List, [], ◌∷◌, ◌++◌, length, Option, Some, ◌⊎◌, inl, inr, refl, sym, ap, subst, ◌∙◌, append-nil, length-append, arith}
-use Rattle.io_edge.specs.Edge.{Takes, IsAtEnd}
+use Rattle.std.proofs.Common.{◌≡◌, ℕ, ◌≤◌, ◌<◌, List, [], ◌++◌, length, Option, Some, ◌⊎◌, inl, inr, refl, sym, ap, subst, ◌∙◌, append-nil, length-append, arith}
+use Rattle.io_edge.specs.Edge.{Takes, IsAtEnd, Appends}
 use Rattle.io_edge.specs.Whole.{TakesToLimit}
 use Rattle.citrus_tool.specs.declared.commands.Command.{Command}
-use Rattle.citrus_tool.specs.declared.commands.Command.TheVariants.{Run, Check, Load}
+use Rattle.citrus_tool.specs.declared.commands.Command.TheVariants.{Run, Check, Load, Hash}
+use Rattle.citrus_tool.specs.declared.outcome.Ran.{Ran}
 use Rattle.citrus_tool.specs.declared.outcome.Status.{Status}
 use Rattle.citrus_tool.specs.declared.outcome.Status.TheVariants.{Done, Refused, Usage, BadScript, ReadFault, WriteFault, NoMemory, TooLong}
 use Rattle.script_text.specs.Grammar.{IsScriptText}
-use Rattle.citrus_tool.specs.Commands.{Reads}
-use Rattle.citrus_tool.specs.Answers.{Writes, AnsweredBy, IsAnswerable}
+use Rattle.citrus_tool.specs.Commands.{Reads, limit_of}
+use Rattle.citrus_tool.specs.Answers.{Writes, Leaves, AnsweredBy, IsAnswerable}
 use Rattle.citrus_tool.proofs.InputParts.{one_before}
 
 -- what was taken of an input is no longer than that
@@ -30,17 +31,37 @@ no_bad_line (Check slots) input text bad good =
     let same = one_before input bad.before claims.before bad.account good.1 bad.parts claims.parts in
     bad.bad.none good.0 (subst (λ b. IsScriptText b good.0) (sym same) claims.read)
 no_bad_line (Load number scripts ops) input text bad good = bad
+no_bad_line Hash input text bad good = bad.none good.0 good.1
 
 reads_bad : (command : Command) (input text : List ℕ) → Writes command BadScript input text → Reads command
 reads_bad (Run slots) input text bad = tt
 reads_bad (Check slots) input text bad = tt
 reads_bad (Load number scripts ops) input text bad = bad
+reads_bad Hash input text bad = tt
 
 -- an input with good scripts isn't told bad
-pub not_bad : (command : Command) (input : List ℕ) (after written written_now : Option (List ℕ)) → AnsweredBy command BadScript (Some input) after written written_now → IsAnswerable command input → ⊥
-not_bad command input after written written_now a good =
+pub not_bad : (command : Command) (input : List ℕ) (after written written_now : Option (List ℕ)) (ran : Ran) → AnsweredBy command BadScript (Some input) after written written_now ran → IsAnswerable command input → ⊥
+not_bad command input after written written_now ran a good =
     let same = whole_input input after a.input a.read (a.ended (reads_bad command a.input a.text a.answers)) in
     no_bad_line command a.input a.text a.answers (subst (IsAnswerable command) (sym same) good)
+
+-- an input that was read whole, and an answer that was written whole
+pub answered : (command : Command) (status : Status) (left left_now written written_now : Option (List ℕ)) (ran : Ran) (input seen text sent : List ℕ) → seen ≡ input → sent ≡ text
+    → length input ≤ limit_of command → Takes left left_now input → (Reads command → IsAtEnd left_now)
+    → (writes : Writes command status seen text) × Leaves command status seen text writes ran → Appends written written_now sent
+    → AnsweredBy command status left left_now written written_now ran
+answered command status left left_now written written_now ran input seen text sent is wrote short took ended answers appended =
+    let of_input = subst (λ i. (writes : Writes command status i text) × Leaves command status i text writes ran) is answers in
+    record {
+      input = input;
+      short = short;
+      read = took;
+      ended = ended;
+      text = text;
+      answers = of_input.0;
+      leaves = of_input.1;
+      appended = subst (Appends written written_now) wrote appended;
+    }
 
 -- the statuses that are left
 pub one_of_three : (status : Status) → (status ≡ Usage → ⊥) → (status ≡ ReadFault → ⊥) → (status ≡ WriteFault → ⊥) → (status ≡ TooLong → ⊥) → (status ≡ BadScript → ⊥) → (status ≡ Done) ⊎ (status ≡ Refused) ⊎ (status ≡ NoMemory)

@@ -3,6 +3,7 @@ pub mod PlainExplained
 pub mod Spellings
 pub mod Joining
 pub mod SlotCounts
+pub mod HashLeavings
 pub mod LineCount
 pub mod InputParts
 pub mod Complete

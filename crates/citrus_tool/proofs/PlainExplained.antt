@@ -1,5 +1,5 @@
 -- A history explains what scripts were told that were run one after another, on a map with a limit or without.
-use Rattle.std.proofs.Common.{◌≡◌, ◌≢◌, ℕ, zero, suc, ◌+◌, ◌-◌, ◌<◌, ◌≤◌, true, false, cond, eqb, leb, MatchBool, List, [], ◌∷◌, ◌++◌, length, get_or, map as list_map, Option, Some, None, is_some, refl, sym, ap, subst, ◌∙◌, append_assoc, length-append, arith}
+use Rattle.std.proofs.Common.{◌≡◌, ◌≢◌, ℕ, zero, suc, ◌+◌, ◌-◌, ◌<◌, ◌≤◌, true, false, cond, eqb, MatchBool, List, [], ◌∷◌, ◌++◌, length, get_or, map as list_map, Option, Some, None, is_some, refl, sym, ap, subst, ◌∙◌, append_assoc, length-append, arith}
 use Rattle.std.specs.FinMap as map
 use Rattle.std.specs.List.{AllByRecursion}
 use Rattle.std.proofs.lemmas.Bool.{false≢true}
@@ -16,6 +16,7 @@ use Rattle.prcu_model.specs.History.{IsLegal, IsUpdateAt, AreUpdatesFrom}
 use Rattle.prcu_model.specs.Replies.{Room, Explains, Confirms, tells_update}
 use Rattle.prcu_model.specs.Plain.{with_value, is_filled, plain_reply, history_with, history_after, told_after, history_after_all, told_after_all, plain_history, plain_tolds}
 use Rattle.prcu_model.proofs.Fronts.{map_of-push, updated_all-append}
+use Rattle.prcu_model.proofs.OwnMarks.{own_updates_from-append}
 use Rattle.citrus_tool.specs.Limits.{IsFilledAt}
 use Rattle.prcu_model.specs.Fronts.{told_lines, all_told_lines, own_updates_from, own_updates, told_updates, IsConfirmed, MayStandBeside, CanBeNumbered, AreExplainable}
 
@@ -54,17 +55,6 @@ module _ (limit : Option ℕ) (room : Room) (fits : IsFilledAt limit room.script
         | None ↦ λ e. ap is_some e
         | Some v ↦ λ e. (e, ap is_some e)
       ] refl
-
-own_updates_from-append : (p c : ℕ) (us vs : List Update) → own_updates_from p c (us ++ vs) ≡ own_updates_from p c us ++ own_updates_from (p + length us) c vs
-own_updates_from-append p c [] vs = ap (λ n. own_updates_from n c vs) (omega arith)
-own_updates_from-append p c (u ∷ us) vs =
-    let rest : own_updates_from (p + 1) c (us ++ vs) ≡ own_updates_from (p + 1) c us ++ own_updates_from (p + suc (length us)) c vs =
-    own_updates_from-append (p + 1) c us vs ∙ ap (λ n. own_updates_from (p + 1) c us ++ own_updates_from n c vs) (omega arith) in
-    elim (eqb u.caller c) as (λ b. cond b (record { position = p; op = u.op } ∷ own_updates_from (p + 1) c (us ++ vs)) (own_updates_from (p + 1) c (us ++ vs))
-    ≡ cond b (record { position = p; op = u.op } ∷ own_updates_from (p + 1) c us) (own_updates_from (p + 1) c us) ++ own_updates_from (p + suc (length us)) c vs) [
-      | true ↦ ap (λ x. record { position = p; op = u.op } ∷ x) rest
-      | false ↦ rest
-    ]
 
 same : (n : ℕ) → eqb n n ≡ true
 same n = grind (arith, nat_tests)

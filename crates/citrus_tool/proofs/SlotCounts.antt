@@ -1,5 +1,5 @@
 -- What follows from how many slots scripts share.
-use Rattle.std.proofs.Common.{◌≡◌, ℕ, ◌+◌, ◌-◌, ◌*◌, ◌≤◌, List, length, map, Option, Some, None, sym, ap, subst, ◌∙◌, arith}
+use Rattle.std.proofs.Common.{◌≡◌, ℕ, ◌+◌, ◌-◌, ◌*◌, List, length, Option, Some, None, sym, ap, subst, ◌∙◌, arith}
 use Rattle.std.proofs.lemmas.List.{length-map}
 use Rattle.prcu_model.specs.declared.operation.Op.{Op}
 use Rattle.prcu_model.specs.declared.operation.Update.{Update}
@@ -38,9 +38,8 @@ within_slots None scripts text account is = within_default scripts text account
 within_slots (Some most) scripts text account is =
     subst (λ us. StaysWithin us (most + 20 * (length scripts - 1))) (sym is) (λ front at. let few = plain-StaysWithin most scripts front at in omega (arith, few))
 
--- the same of a text that prints the account
-pub plain_account : (limit : Option ℕ) (scripts : List (List Op)) (slots : ℕ) (history : List Update) (made text : List ℕ) → slots ≡ slots_of limit scripts → history ≡ plain_history limit scripts → text ≡ made → (account : IsAccount scripts slots made) × (account.history ≡ history) → (account : IsAccount scripts (slots_of limit scripts) text) × StaysWithin account.history (slots_of limit scripts)
-plain_account limit scripts slots history made text shared plain printed account =
-    let written = subst (λ t. (a : IsAccount scripts (slots_of limit scripts) t) × (a.history ≡ history)) (sym printed)
-    (subst (λ s. (a : IsAccount scripts s made) × (a.history ≡ history)) shared account) in
+-- the same of an account with that history
+pub plain_account : (limit : Option ℕ) (scripts : List (List Op)) (slots : ℕ) (history : List Update) (text : List ℕ) → slots ≡ slots_of limit scripts → history ≡ plain_history limit scripts → (account : IsAccount scripts slots text) × (account.history ≡ history) → (account : IsAccount scripts (slots_of limit scripts) text) × StaysWithin account.history (slots_of limit scripts)
+plain_account limit scripts slots history text shared plain account =
+    let written = subst (λ s. (a : IsAccount scripts s text) × (a.history ≡ history)) shared account in
     (written.0, within_slots limit scripts text written.0 (written.1 ∙ plain))

@@ -1,11 +1,11 @@
 -- Options and arguments are spelled in one way.
-use Rattle.std.proofs.Common.{◌≡◌, ◌≢◌, ℕ, zero, suc, ◌+◌, ◌<◌, ◌≤◌, ◌^◌, List, [], ◌∷◌, ◌++◌, length, get_or, take, drop, map, codes, Some, None, Option, slice_get, inl, inr, refl, sym, ap, subst, ◌∙◌, append-nil, arith}
+use Rattle.std.proofs.Common.{◌≡◌, ◌≢◌, ℕ, zero, suc, ◌<◌, ◌^◌, List, [], ◌∷◌, ◌++◌, length, get_or, take, map, codes, Some, slice_get, inl, inr, sym, ap, ◌∙◌, append-nil, arith}
 use Rattle.std.specs.Fmt.{decimal}
 use Rattle.std.proofs.lemmas.Bool.{cases_eq}
 use Rattle.std.proofs.lemmas.Fmt.{decimal_digit, first_decimal, decimal_injective}
 use Rattle.citrus_tool.specs.declared.arguments.Argument.{Argument}
 use Rattle.citrus_tool.specs.declared.arguments.Argument.TheVariants.{Slots, Number}
-use Rattle.citrus_tool.specs.Arguments.{IsOption, IsSpelled, AreSpelled}
+use Rattle.citrus_tool.specs.Arguments.{IsOption, IsSpelled}
 
 -- words that are seen as bytes, of which the first is known
 module _ {S : Type 0} (seen : S → List ℕ) (words : List S) (word : S) (others : List S) (split : words ≡ word ∷ others) (bytes : List ℕ) (is : bytes ≡ seen word) where

@@ -10,10 +10,13 @@ use Rattle.workload.specs.Draws.{made_scripts}
 use Rattle.workload.specs.Summaries.{plain_summary}
 use Rattle.workload.specs.SummaryText.{summary_text}
 use Rattle.citrus_tool.specs.declared.commands.Command.{Command}
-use Rattle.citrus_tool.specs.declared.commands.Command.TheVariants.{Run, Check, Load}
+use Rattle.citrus_tool.specs.declared.commands.Command.TheVariants.{Run, Check, Load, Hash}
 use Rattle.citrus_tool.specs.declared.outcome.Status.{Status}
 use Rattle.citrus_tool.specs.declared.outcome.Status.TheVariants.{Done, Refused, Usage, BadScript, ReadFault, NoMemory, TooLong}
+use Rattle.citrus_tool.specs.declared.outcome.Ran.{Ran}
+use Rattle.citrus_tool.specs.declared.outcome.Ran.TheVariants.{Nothing}
 use Rattle.citrus_tool.specs.Commands.{Asks, Reads, limit_of}
+use Rattle.citrus_tool.specs.Leavings.{LeavesHash}
 use Rattle.citrus_tool.specs.Limits.{slots_of}
 use Rattle.citrus_tool.specs.Parts.{HasParts}
 
@@ -78,21 +81,29 @@ Writes (Check slots) Done input text = SaysYes slots input text
 Writes (Check slots) Refused input text = SaysNo slots input text
 Writes (Check slots) BadScript input text = TellsBadLineBefore input text
 Writes (Load number scripts ops) Done input text = text ≡ summary_text (plain_summary (made_scripts number scripts ops))
+Writes Hash Done input text = AccountsFor None input text
+Writes Hash BadScript input text = TellsBadLine input text
 Writes _ _ input text = ⊥
 
 -- a text that the command writes for the input, whatever the status
 abbrev pub MayWrite : Command → List ℕ → List ℕ → Type 0
 MayWrite command input text = (status : Status) × Writes command status input text
 
+-- what the run of a command leaves, beside what it wrote
+abbrev pub Leaves : (command : Command) (status : Status) (input text : List ℕ) → Writes command status input text → Ran → Type 0
+Leaves Hash Done input text account ran = LeavesHash account.scripts account.account.history ran
+Leaves _ _ input text writes ran = ran ≡ Nothing
+
 -- The input was read to its end, where the command reads, and is within the command's limit; what was written is a text
--- that answers it.
-pub record AnsweredBy (command : Command) (status : Status) (left left_now written written_now : Option (List ℕ)) : Type 0 where
+-- that answers it, and what is left is what the run made.
+pub record AnsweredBy (command : Command) (status : Status) (left left_now written written_now : Option (List ℕ)) (ran : Ran) : Type 0 where
   pub input : List ℕ
   pub short : length input ≤ limit_of command
   pub read : Takes left left_now input
   pub ended : Reads command → IsAtEnd left_now
   pub text : List ℕ
   pub answers : Writes command status input text
+  pub leaves : Leaves command status input text answers ran
   pub appended : Appends written written_now text
 
 -- The same, where only a front of the text was written.
@@ -106,10 +117,10 @@ pub record AnsweredInPartBy (command : Command) (left left_now written written_n
   pub appended : AppendsFront written written_now text
 
 -- The words ask for a command, and that is answered.
-pub record Answered (words : List (List ℕ)) (status : Status) (left left_now written written_now : Option (List ℕ)) : Type 0 where
+pub record Answered (words : List (List ℕ)) (status : Status) (left left_now written written_now : Option (List ℕ)) (ran : Ran) : Type 0 where
   pub command : Command
   pub asked : Asks words command
-  pub answered : AnsweredBy command status left left_now written written_now
+  pub answered : AnsweredBy command status left left_now written written_now ran
 
 pub record AnsweredInPart (words : List (List ℕ)) (left left_now written written_now : Option (List ℕ)) : Type 0 where
   pub command : Command
@@ -121,6 +132,7 @@ abbrev pub IsAnswerable : Command → List ℕ → Type 0
 IsAnswerable (Run slots) input = (scripts : List (List Op)) × IsScriptText input scripts
 IsAnswerable (Check slots) input = (scripts : List (List Op)) × (account : List ℕ) × Claims input scripts account
 IsAnswerable (Load number scripts ops) input = Unit {0}
+IsAnswerable Hash input = (scripts : List (List Op)) × IsScriptText input scripts
 
 -- the statuses with which nothing is written
 abbrev pub WritesNothing : Status → Type 0

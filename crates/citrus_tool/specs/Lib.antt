@@ -3,4 +3,5 @@ pub mod Arguments
 pub mod Commands
 pub mod Limits
 pub mod Parts
+pub mod Leavings
 pub mod Answers

@@ -17,6 +17,8 @@ pub enum Command {
     Check { slots: Option<u32> },
     /// Runs so many scripts of so many operations each, made from the number, and writes a summary.
     Load { number: u64, scripts: u32, ops: u32 },
+    /// Runs the scripts of the input beside each other on one hash dictionary, and writes their account.
+    Hash,
 }
 
 impl Command {
@@ -28,7 +30,7 @@ impl Command {
         ensures { result ≡ limit_of self }
     {
         match self {
-            Command::Run { .. } => 16_777_216,
+            Command::Run { .. } | Command::Hash => 16_777_216,
             Command::Check { .. } => 134_217_728,
             Command::Load { .. } => 0,
         }
@@ -72,6 +74,18 @@ pub fn command_of(words: &[String]) -> Option<Command>
             slots: slots_alone(arguments)?,
         }),
         "load" => load_of(arguments),
+        "hash" => hash_of(arguments),
+        _ => None,
+    }
+}
+
+// The command `hash`, where it stands alone.
+fn hash_of(arguments: Arguments) -> Option<Command>
+    ensures some { IfSome result (λ command. (command ≡ Command.Hash) × (arguments.slots ≡ None) × (numbers_of arguments.numbers ≡ [])) }
+    ensures only { arguments.slots ≡ None → numbers_of arguments.numbers ≡ [] → result ≡ Some Command.Hash }
+{
+    match (arguments.slots, arguments.numbers) {
+        (None, Numbers::Zero) => Some(Command::Hash),
         _ => None,
     }
 }

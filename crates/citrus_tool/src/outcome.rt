@@ -1,5 +1,7 @@
 //! What the top call answers.
 
+use class_hash::{HashSeat, HashTable};
+
 /// How a call of `tool` ended. The numbers are the program's exit statuses.
 #[derive(Clone, Copy, Debug, PartialEq, Eq)]
 pub enum Status {
@@ -34,15 +36,32 @@ impl Status {
 }
 
 /// What a run leaves.
-#[derive(Debug, Drop)]
+#[derive(Drop)]
 pub enum Ran {
     /// Nothing.
     Nothing,
+    /// The hash dictionary, and the one seat into which those of all scripts were joined.
+    Hash { table: HashTable, seat: HashSeat },
 }
 
 /// How a call of `tool` ended, and what its run leaves.
-#[derive(Debug, Drop)]
+#[derive(Drop)]
 pub struct Outcome {
     pub status: Status,
     pub ran: Ran,
+}
+
+impl Outcome {
+    ghost use Rattle.std.specs.Prelude.{◌≡◌};
+
+    // That of a call whose run leaves nothing.
+    pub fn nothing(status: Status) -> Outcome
+        ensures status { result.status ≡ status }
+        ensures ran { result.ran ≡ Ran.Nothing }
+    {
+        Outcome {
+            status,
+            ran: Ran::Nothing,
+        }
+    }
 }

@@ -5,32 +5,48 @@ ghost use Rattle.account_text.specs.Account.{IsAccount};
 ghost use Rattle.workload.specs.Draws.{made_scripts};
 ghost use Rattle.workload.specs.Summaries.{plain_summary};
 ghost use Rattle.workload.specs.SummaryText.{summary_text};
-ghost use Rattle.citrus_tool.specs.Answers.{Writes, Judges};
+ghost use Rattle.prcu_model.specs.History.{IsLegal};
+ghost use Rattle.prcu_model.specs.Lists.{entries_of};
+ghost use Rattle.prcu_model.specs.Fronts.{AreExplainable};
+ghost use Rattle.prcu_model.specs.Scripts.{default_slots_of};
+ghost use Rattle.citrus_tool.specs.Answers.{Writes, Leaves, Judges};
+ghost use Rattle.citrus_tool.specs.Leavings.{LeavesHash};
 ghost use Rattle.citrus_tool.specs.Commands.{AreSlots, IsInRange, limit_of};
 ghost use Rattle.citrus_tool.specs.Limits.{slots_of};
 
 use crate::commands::Command;
-use crate::outcome::Status;
+use crate::outcome::{Ran, Status};
 use crate::parts::parts_of;
 use crate::plain::run_plain;
 use account_text::{check, fronts, write_account};
-use prcu_model::{NoMemory, Scripts};
+use hash_run::run_scripts;
+use prcu_model::{Gate, NoMemory, Scripts, ToldList, Update};
 use script_text::{ScriptError, parse, push_number};
 use std::alloc::Global;
+use std::sync::Wait;
+use std::thread::Threads;
 use workload::{make, summary_of, write_summary};
 
-/// The text that answers an input, and the status with which it is written whole.
+/// The text that answers an input, the status with which it is written whole, and what the run leaves.
 #[derive(Drop)]
 pub struct Answer {
     pub status: Status,
     pub text: Vec<u8>,
+    pub ran: Ran,
 }
 
 /// Makes what the command writes for an input.
-pub fn answer_to(alloc: Global, command: Command, input: &[u8]) -> Result<Answer, NoMemory>
+pub fn answer_to<R: Threads + Wait + Sync, G: Gate + Sync>(
+    rt: &R,
+    alloc: Global,
+    command: Command,
+    input: &[u8],
+    gate: &G,
+) -> Result<Answer, NoMemory>
     requires short { length input.now ≤ limit_of command }
     requires in_range { IsInRange command }
-    ensures { IfOk result (λ answer. Writes command answer.status input.now answer.text.items) }
+    ensures { IfOk result (λ answer. (writes : Writes command answer.status input.now answer.text.items)
+        × Leaves command answer.status input.now answer.text.items writes answer.ran) }
 {
     match command {
         Command::Run { slots } => run(alloc, slots, input),
@@ -40,6 +56,7 @@ pub fn answer_to(alloc: Global, command: Command, input: &[u8]) -> Result<Answer
             scripts,
             ops,
         } => load(alloc, number, scripts, ops),
+        Command::Hash => hash(rt, alloc, input, gate),
     }
 }
 
@@ -47,16 +64,19 @@ pub fn answer_to(alloc: Global, command: Command, input: &[u8]) -> Result<Answer
 fn run(alloc: Global, slots: Option<u32>, input: &[u8]) -> Result<Answer, NoMemory>
     requires short { length input.now ≤ 134217728 }
     requires slots { AreSlots slots }
-    ensures { IfOk result (λ answer. Writes (Command.Run slots) answer.status input.now answer.text.items) }
+    ensures written { IfOk result (λ answer. Writes (Command.Run slots) answer.status input.now answer.text.items) }
+    ensures ran { IfOk result (λ answer. answer.ran ≡ Ran.Nothing) }
 {
     match parse(alloc, input) {
         Ok(scripts) => Ok(Answer {
             status: Status::Done,
             text: account_for(alloc, slots, &scripts)?,
+            ran: Ran::Nothing,
         }),
         Err(ScriptError::Line { number }) => Ok(Answer {
             status: Status::BadScript,
             text: bad_line(alloc, number)?,
+            ran: Ran::Nothing,
         }),
         Err(ScriptError::NoMemory) => Err(NoMemory),
     }
@@ -66,7 +86,8 @@ fn run(alloc: Global, slots: Option<u32>, input: &[u8]) -> Result<Answer, NoMemo
 fn check_claim(alloc: Global, slots: Option<u32>, input: &[u8]) -> Result<Answer, NoMemory>
     requires short { length input.now ≤ 134217728 }
     requires slots { AreSlots slots }
-    ensures { IfOk result (λ answer. Writes (Command.Check slots) answer.status input.now answer.text.items) }
+    ensures written { IfOk result (λ answer. Writes (Command.Check slots) answer.status input.now answer.text.items) }
+    ensures ran { IfOk result (λ answer. answer.ran ≡ Ran.Nothing) }
 {
     let (before, account) = parts_of(input);
     match parse(alloc, before) {
@@ -74,6 +95,7 @@ fn check_claim(alloc: Global, slots: Option<u32>, input: &[u8]) -> Result<Answer
         Err(ScriptError::Line { number }) => Ok(Answer {
             status: Status::BadScript,
             text: bad_line(alloc, number)?,
+            ran: Ran::Nothing,
         }),
         Err(ScriptError::NoMemory) => Err(NoMemory),
     }
@@ -87,17 +109,20 @@ fn judge(
     account: &[u8],
 ) -> Result<Answer, NoMemory>
     requires { AreSlots slots }
-    ensures { IfOk result (λ answer. Judges slots scripts.now account.now answer.status answer.text.items) }
+    ensures judges { IfOk result (λ answer. Judges slots scripts.now account.now answer.status answer.text.items) }
+    ensures ran { IfOk result (λ answer. answer.ran ≡ Ran.Nothing) }
 {
     if check(alloc, scripts, slots_for(slots, scripts), account)? {
         return Ok(Answer {
             status: Status::Done,
             text: Vec::from_slice(alloc, b"yes\n")?,
+            ran: Ran::Nothing,
         });
     }
     Ok(Answer {
         status: Status::Refused,
         text: Vec::from_slice(alloc, b"no\n")?,
+        ran: Ran::Nothing,
     })
 }
 
@@ -119,14 +144,88 @@ fn account_for(alloc: Global, slots: Option<u32>, scripts: &Scripts) -> Result<V
         × StaysWithin account.history (slots_of slots scripts.now)) }
 {
     let ended = run_plain(alloc, slots, scripts)?;
-    let lines = fronts(
+    account_of(
         alloc,
         scripts,
         &ended.told,
         &ended.history,
         slots_for(slots, scripts),
+    )
+}
+
+// The account of what the scripts were told, with this history.
+fn account_of(
+    alloc: Global,
+    scripts: &Scripts,
+    told: &[ToldList],
+    history: &[Update],
+    slots: u32,
+) -> Result<Vec<u8>, NoMemory>
+    requires explained { AreExplainable scripts.now (entries_of told.now) history.now slots }
+    requires legal { IsLegal history.now }
+    ensures { IfOk result (λ text. (account : IsAccount scripts.now slots text.items) × (account.history ≡ history.now)) }
+{
+    let lines = fronts(alloc, scripts, told, history, slots)?;
+    write_account(alloc, &lines, history)
+}
+
+// Runs the scripts that the input holds beside each other on one hash dictionary: their account, or the number of the first
+// bad line.
+fn hash<R: Threads + Wait + Sync, G: Gate + Sync>(
+    rt: &R,
+    alloc: Global,
+    input: &[u8],
+    gate: &G,
+) -> Result<Answer, NoMemory>
+    requires short { length input.now ≤ 16777216 }
+    ensures { IfOk result (λ answer. (writes : Writes Command.Hash answer.status input.now answer.text.items)
+        × Leaves Command.Hash answer.status input.now answer.text.items writes answer.ran) }
+{
+    match parse(alloc, input) {
+        Ok(scripts) => {
+            let (text, ran) = hash_scripts(rt, alloc, &scripts, gate)?;
+            Ok(Answer {
+                status: Status::Done,
+                text,
+                ran,
+            })
+        }
+        Err(ScriptError::Line { number }) => Ok(Answer {
+            status: Status::BadScript,
+            text: bad_line(alloc, number)?,
+            ran: Ran::Nothing,
+        }),
+        Err(ScriptError::NoMemory) => Err(NoMemory),
+    }
+}
+
+// Runs the scripts beside each other on one hash dictionary: their account, and the dictionary with the seats of all as one.
+// Without scripts no dictionary is made.
+fn hash_scripts<R: Threads + Wait + Sync, G: Gate + Sync>(
+    rt: &R,
+    alloc: Global,
+    scripts: &Scripts,
+    gate: &G,
+) -> Result<(Vec<u8>, Ran), NoMemory>
+    ensures { IfOk result (λ made. (account : IsAccount scripts.now (default_slots_of scripts.now) made.0.items)
+        × LeavesHash scripts.now account.history made.1) }
+{
+    if scripts.count() == 0 {
+        return Ok((account_for(alloc, None, scripts)?, Ran::Nothing));
+    }
+    let ended = run_scripts(rt, alloc, scripts, gate)?;
+    let text = account_of(
+        alloc,
+        scripts,
+        &ended.told,
+        &ended.history,
+        scripts.default_slots(),
     )?;
-    write_account(alloc, &lines, &ended.history)
+    let ran = Ran::Hash {
+        table: ended.table,
+        seat: ended.seat,
+    };
+    Ok((text, ran))
 }
 
 // Runs a made workload one script after another: its summary.
@@ -134,6 +233,7 @@ fn load(alloc: Global, number: u64, scripts: u32, ops: u32) -> Result<Answer, No
     requires { IsInRange (Command.Load number scripts ops) }
     ensures status { IfOk result (λ answer. answer.status ≡ Status.Done) }
     ensures text { IfOk result (λ answer. answer.text.items ≡ summary_text (plain_summary (made_scripts number scripts ops))) }
+    ensures ran { IfOk result (λ answer. answer.ran ≡ Ran.Nothing) }
 {
     let made = make(alloc, number, scripts, ops)?;
     let ended = run_plain(alloc, None, &made)?;
@@ -141,6 +241,7 @@ fn load(alloc: Global, number: u64, scripts: u32, ops: u32) -> Result<Answer, No
     Ok(Answer {
         status: Status::Done,
         text: write_summary(alloc, &summary)?,
+        ran: Ran::Nothing,
     })
 }
 

@@ -3,13 +3,14 @@ ghost use Rattle.std.specs.Prelude.{◌≤◌};
 
 use super::*;
 use io_edge::{MemorySink, MemorySource};
-use prcu_model::OpenGate;
+use prcu_model::{Gate, OpenGate};
 use std::alloc::Global;
 use std::sync::Wait;
 use std::test::Fail;
 use std::thread::Threads;
 
 mod faults;
+mod hashes;
 mod loads;
 mod slots;
 mod words;
@@ -22,12 +23,24 @@ fn answer<R: Threads + Wait + Sync>(
     source: &mut MemorySource,
     room: usize,
 ) -> Result<(Status, Vec<u8>), Fail> {
+    answer_through(rt, alloc, words, source, room, &OpenGate)
+}
+
+// The same where the scripts pass this gate.
+fn answer_through<R: Threads + Wait + Sync, G: Gate + Sync>(
+    rt: &R,
+    alloc: Global,
+    words: &[&str],
+    source: &mut MemorySource,
+    room: usize,
+    gate: &G,
+) -> Result<(Status, Vec<u8>), Fail> {
     let mut owned = Vec::new(alloc);
     for word in words {
         owned.push(String::from_str(alloc, word)?)?;
     }
     let mut sink = MemorySink::new(alloc, room, 7, Vec::new(alloc))?;
-    let outcome = tool(rt, alloc, &owned, source, &mut sink, &OpenGate);
+    let outcome = tool(rt, alloc, &owned, source, &mut sink, gate);
     let written = Vec::from_slice(alloc, sink.bytes())?;
     Ok((outcome.status, written))
 }
@@ -44,8 +57,8 @@ fn source_of(alloc: Global, text: &[u8], piece: usize, fails: &[u64]) -> Result<
 }
 
 #[test]
-fn run_writes_the_account_of_its_scripts(rt: HostRuntime) -> Result<(), Fail> {
-    let cases: [(&[u8], Status, &[u8]); 20] = [
+fn run_and_hash_write_the_account_of_their_scripts(rt: HostRuntime) -> Result<(), Fail> {
+    let cases: [(&[u8], Status, &[u8]); 18] = [
         (b"", Status::Done, b"history 0\nfinal 0\nend\n"),
         (
             b"script\nput 5 50\nget 5\ndel 5\nget 5\n",
@@ -73,19 +86,9 @@ fn run_writes_the_account_of_its_scripts(rt: HostRuntime) -> Result<(), Fail> {
             b"script 0\nput 5 50 new 1\nput 2 20 new 2\nput 8 80 new 3\nput 6 60 new 4\nput 9 90 new 5\ndel 5 gone 6\nhistory 6\n1 0 put 5 50\n2 0 put 2 20\n3 0 put 8 80\n4 0 put 6 60\n5 0 put 9 90\n6 0 del 5\nfinal 4\n2 20\n6 60\n8 80\n9 90\nend\n",
         ),
         (
-            b"script\nput 1 1\nscript\nset 1 2\nscript\nget 1\n",
-            Status::Done,
-            b"script 0\nput 1 1 new 1\nscript 1\nset 1 2 was 1 2\nscript 2\nget 1 val 2 2\nhistory 2\n1 0 put 1 1\n2 1 set 1 2\nfinal 1\n1 2\nend\n",
-        ),
-        (
             b"script\nput 5 50\nput 2 20\nput 8 80\nput 9 90\ndel 5\n",
             Status::Done,
             b"script 0\nput 5 50 new 1\nput 2 20 new 2\nput 8 80 new 3\nput 9 90 new 4\ndel 5 gone 5\nhistory 5\n1 0 put 5 50\n2 0 put 2 20\n3 0 put 8 80\n4 0 put 9 90\n5 0 del 5\nfinal 3\n2 20\n8 80\n9 90\nend\n",
-        ),
-        (
-            b"script\nput 1 1\nscript\nget 1\n",
-            Status::Done,
-            b"script 0\nput 1 1 new 1\nscript 1\nget 1 val 1 1\nhistory 1\n1 0 put 1 1\nfinal 1\n1 1\nend\n",
         ),
         (
             b"# note\n\nscript\nput 1 2\nget 1",
@@ -121,12 +124,34 @@ fn run_writes_the_account_of_its_scripts(rt: HostRuntime) -> Result<(), Fail> {
     ];
     let alloc = rt.alloc();
     for (i, (input, status, text)) in cases.iter().enumerate() {
-        for piece in [1, 4, 1000] {
+        for (command, piece) in [("run", 1), ("run", 4), ("hash", 1000)] {
             let mut source = source_of(alloc, input, piece, &[])?;
-            let (got, written) = answer(&rt, alloc, &["run"], &mut source, 1000)?;
+            let (got, written) = answer(&rt, alloc, &[command], &mut source, 1000)?;
             assert_eq!(rt; got, *status, "case {i}");
             assert!(rt; written.as_slice() == *text, "case {i}");
         }
+    }
+    Ok(())
+}
+
+#[test]
+fn run_runs_its_scripts_one_after_another(rt: HostRuntime) -> Result<(), Fail> {
+    let alloc = rt.alloc();
+    let cases: [(&[u8], &[u8]); 2] = [
+        (
+            b"script\nput 1 1\nscript\nset 1 2\nscript\nget 1\n",
+            b"script 0\nput 1 1 new 1\nscript 1\nset 1 2 was 1 2\nscript 2\nget 1 val 2 2\nhistory 2\n1 0 put 1 1\n2 1 set 1 2\nfinal 1\n1 2\nend\n",
+        ),
+        (
+            b"script\nput 1 1\nscript\nget 1\n",
+            b"script 0\nput 1 1 new 1\nscript 1\nget 1 val 1 1\nhistory 1\n1 0 put 1 1\nfinal 1\n1 1\nend\n",
+        ),
+    ];
+    for (input, text) in cases.iter() {
+        let mut source = source_of(alloc, input, 100, &[])?;
+        let (status, written) = answer(&rt, alloc, &["run"], &mut source, 1000)?;
+        assert_eq!(rt; status, Status::Done);
+        assert!(rt; written.as_slice() == *text);
     }
     Ok(())
 }

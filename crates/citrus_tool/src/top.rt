@@ -19,14 +19,14 @@ use std::thread::Threads;
 /// first byte is written. Where several causes meet, the first of these is told: words, reading and length, scripts,
 /// memory for the work, writing; `NoMemory` may come in place of any before the first byte is written.
 ///
-/// `rt` and `gate` are for scripts that run beside each other; no command does so yet.
+/// Scripts that run beside each other do so in threads of `rt`, and pass `gate`, which may hold one back.
 pub fn tool<R: Threads + Wait + Sync, S: Source, K: Sink, G: Gate + Sync>(
-    _rt: &R,
+    rt: &R,
     alloc: Global,
     words: &[String],
     source: &mut S,
     sink: &mut K,
-    _gate: &G,
+    gate: &G,
 ) -> Outcome
     // Usage comes exactly for words that are no command, and then nothing is read or written.
     ensures usage { (result.status ≡ Status.Usage) ↔ (IsCommand (map string_bytes words.now) → ⊥) }
@@ -47,13 +47,13 @@ pub fn tool<R: Threads + Wait + Sync, S: Source, K: Sink, G: Gate + Sync>(
     ensures too_long { (command : command.Command) → Asks (map string_bytes words.now) command
         → TakesToLimit (limit_of command) (S.rest source.old) (S.rest source.new) (result.status ≡ Status.TooLong) }
 
-    // What was written answers what was read.
+    // What was written answers what was read, and what is left is what the run made.
     ensures done { result.status ≡ Status.Done → Answered (map string_bytes words.now) Status.Done
-        (S.rest source.old) (S.rest source.new) (K.bytes sink.old) (K.bytes sink.new) }
+        (S.rest source.old) (S.rest source.new) (K.bytes sink.old) (K.bytes sink.new) result.ran }
     ensures refused { result.status ≡ Status.Refused → Answered (map string_bytes words.now) Status.Refused
-        (S.rest source.old) (S.rest source.new) (K.bytes sink.old) (K.bytes sink.new) }
+        (S.rest source.old) (S.rest source.new) (K.bytes sink.old) (K.bytes sink.new) result.ran }
     ensures bad_script { result.status ≡ Status.BadScript → Answered (map string_bytes words.now) Status.BadScript
-        (S.rest source.old) (S.rest source.new) (K.bytes sink.old) (K.bytes sink.new) }
+        (S.rest source.old) (S.rest source.new) (K.bytes sink.old) (K.bytes sink.new) result.ran }
     ensures cut_short { result.status ≡ Status.WriteFault → AnsweredInPart (map string_bytes words.now)
         (S.rest source.old) (S.rest source.new) (K.bytes sink.old) (K.bytes sink.new) }
     ensures unwritten { WritesNothing result.status → sink.new ≡ sink.old }
@@ -63,57 +63,60 @@ pub fn tool<R: Threads + Wait + Sync, S: Source, K: Sink, G: Gate + Sync>(
         → S.rest source.old ≡ Some input → IsAnswerable command input → length input ≤ limit_of command
         → (Rose (S.faults source.old) (S.faults source.new) → ⊥) → (Rose (K.faults sink.old) (K.faults sink.new) → ⊥)
         → (result.status ≡ Status.Done) ⊎ (result.status ≡ Status.Refused) ⊎ (result.status ≡ Status.NoMemory) }
-    ensures ran { result.ran ≡ Ran.Nothing }
+    // Nothing is left where the text wasn't written whole.
+    ensures left { (result.status ≡ Status.Done → ⊥) → result.ran ≡ Ran.Nothing }
 {
-    let status = match command_of(words) {
-        Some(command) => answer_from(alloc, command, source, sink),
-        None => Status::Usage,
-    };
-    Outcome {
-        status,
-        ran: Ran::Nothing,
+    match command_of(words) {
+        Some(command) => answer_from(rt, alloc, command, source, sink, gate),
+        None => Outcome::nothing(Status::Usage),
     }
 }
 
 // Reads the command's input from the source, and writes what answers it to the sink.
-fn answer_from<S: Source, K: Sink>(
+fn answer_from<R: Threads + Wait + Sync, S: Source, K: Sink, G: Gate + Sync>(
+    rt: &R,
     alloc: Global,
     command: Command,
     source: &mut S,
     sink: &mut K,
-) -> Status
+    gate: &G,
+) -> Outcome
     requires { IsInRange command }
-    ensures read_fault { result ≡ Status.ReadFault → Rose (S.faults source.old) (S.faults source.new) }
-    ensures write_fault { result ≡ Status.WriteFault → Rose (K.faults sink.old) (K.faults sink.new) }
-    ensures no_read_fault { (result ≡ Status.ReadFault → ⊥) → S.faults source.new ≡ S.faults source.old }
-    ensures no_write_fault { (result ≡ Status.WriteFault → ⊥) → K.faults sink.new ≡ K.faults sink.old }
+    ensures read_fault { result.status ≡ Status.ReadFault → Rose (S.faults source.old) (S.faults source.new) }
+    ensures write_fault { result.status ≡ Status.WriteFault → Rose (K.faults sink.old) (K.faults sink.new) }
+    ensures no_read_fault { (result.status ≡ Status.ReadFault → ⊥) → S.faults source.new ≡ S.faults source.old }
+    ensures no_write_fault { (result.status ≡ Status.WriteFault → ⊥) → K.faults sink.new ≡ K.faults sink.old }
     ensures source_counted { S.faults source.old ≤ S.faults source.new }
     ensures sink_counted { K.faults sink.old ≤ K.faults sink.new }
-    ensures too_long { TakesToLimit (limit_of command) (S.rest source.old) (S.rest source.new) (result ≡ Status.TooLong) }
-    ensures done { result ≡ Status.Done → AnsweredBy command Status.Done
+    ensures too_long { TakesToLimit (limit_of command) (S.rest source.old) (S.rest source.new) (result.status ≡ Status.TooLong) }
+    ensures done { result.status ≡ Status.Done → AnsweredBy command Status.Done
+        (S.rest source.old) (S.rest source.new) (K.bytes sink.old) (K.bytes sink.new) result.ran }
+    ensures refused { result.status ≡ Status.Refused → AnsweredBy command Status.Refused
+        (S.rest source.old) (S.rest source.new) (K.bytes sink.old) (K.bytes sink.new) result.ran }
+    ensures bad_script { result.status ≡ Status.BadScript → AnsweredBy command Status.BadScript
+        (S.rest source.old) (S.rest source.new) (K.bytes sink.old) (K.bytes sink.new) result.ran }
+    ensures cut_short { result.status ≡ Status.WriteFault → AnsweredInPartBy command
         (S.rest source.old) (S.rest source.new) (K.bytes sink.old) (K.bytes sink.new) }
-    ensures refused { result ≡ Status.Refused → AnsweredBy command Status.Refused
-        (S.rest source.old) (S.rest source.new) (K.bytes sink.old) (K.bytes sink.new) }
-    ensures bad_script { result ≡ Status.BadScript → AnsweredBy command Status.BadScript
-        (S.rest source.old) (S.rest source.new) (K.bytes sink.old) (K.bytes sink.new) }
-    ensures cut_short { result ≡ Status.WriteFault → AnsweredInPartBy command
-        (S.rest source.old) (S.rest source.new) (K.bytes sink.old) (K.bytes sink.new) }
-    ensures unwritten { WritesNothing result → sink.new ≡ sink.old }
-    ensures a_command { result ≡ Status.Usage → ⊥ }
+    ensures unwritten { WritesNothing result.status → sink.new ≡ sink.old }
+    ensures a_command { result.status ≡ Status.Usage → ⊥ }
     ensures reads_nothing { (Reads command → ⊥) → source.new ≡ source.old }
+    ensures left { (result.status ≡ Status.Done → ⊥) → result.ran ≡ Ran.Nothing }
 {
     let input = match input_of(alloc, command, source) {
         Ok(input) => input,
-        Err(ReadError::Fault) => return Status::ReadFault,
-        Err(ReadError::TooLong) => return Status::TooLong,
-        Err(ReadError::NoMemory) => return Status::NoMemory,
+        Err(ReadError::Fault) => return Outcome::nothing(Status::ReadFault),
+        Err(ReadError::TooLong) => return Outcome::nothing(Status::TooLong),
+        Err(ReadError::NoMemory) => return Outcome::nothing(Status::NoMemory),
     };
-    let Ok(answer) = answer_to(alloc, command, &input) else {
-        return Status::NoMemory;
+    let Ok(answer) = answer_to(rt, alloc, command, &input, gate) else {
+        return Outcome::nothing(Status::NoMemory);
     };
     match write_all(sink, &answer.text) {
-        Ok(()) => answer.status,
-        Err(_) => Status::WriteFault,
+        Ok(()) => Outcome {
+            status: answer.status,
+            ran: answer.ran,
+        },
+        Err(_) => Outcome::nothing(Status::WriteFault),
     }
 }
 
@@ -133,7 +136,9 @@ fn input_of<S: Source>(
     ensures counted { S.faults source.old ≤ S.faults source.new }
 {
     match command {
-        Command::Run { .. } | Command::Check { .. } => read_all(alloc, source, command.limit()),
+        Command::Run { .. } | Command::Check { .. } | Command::Hash => {
+            read_all(alloc, source, command.limit())
+        }
         Command::Load { .. } => Ok(Vec::new(alloc)),
     }
 }

@@ -32,11 +32,11 @@ use Rattle.hash_core.proofs.Links.{law13, law15}
 use Rattle.hash_core.proofs.Unlinks.{law14}
 use Rattle.hash_core.proofs.Stocks.{law_take, law_refill, law_move, law_push, law_chain, law11, is_known}
 use Rattle.class_hash.specs.declared.rule.Nothing.{Nothing}
-use Rattle.class_hash.specs.Answers.{GivesAnswer, IsLinkOf}
+use Rattle.class_hash.specs.Answers.{IsHeldByOther, GivesAnswer, IsLinkOf}
 use Rattle.class_hash.specs.Told.{told2, told3, told4, told5, told6, told7, told8, told9, told_take, told_refill, told_move, told_push, told_chain, told11, told12, told13, told14, told15, told16}
 use Rattle.class_hash.proofs.Plumbing.{stores, loads, found_is}
 use Rattle.class_hash.proofs.Readers.{few_readers}
-use Rattle.class_hash.proofs.Facts.{field_inside, searched_key, few_tickets, gives_answer, stands_in_class, link_of, front_small, updated, free_off, full_now, old_value}
+use Rattle.class_hash.proofs.Facts.{informed, held_by_other, field_inside, searched_key, few_tickets, gives_answer, stands_in_class, link_of, front_small, updated, free_off, full_now, old_value}
 
 module _ (k : Shape) (slots id : ℕ) (me : Me Nothing View) where
   abbrev Holds : State Nothing View → Type 0
@@ -54,13 +54,14 @@ module _ (k : Shape) (slots id : ℕ) (me : Me Nothing View) where
   class_inside : (c : ℕ) → c % 64 < 64
   class_inside c = omega arith
 
-  pub allows2 : Allows Holds slots id me 0 (λ n. n) (told2 (step slots 0 0 0 none) me)
-  allows2 s r len at below =
+  pub allows2 : (places : ℕ) → places ≡ k.places → 1 ≤ me.0.places → Allows Holds slots id me 0 (λ n. n) (told2 places (step slots 0 0 0 none) me)
+  allows2 places all live = subst (λ z. Allows Holds slots id me 0 (λ n. n) (told2 z (step slots 0 0 0 none) me)) (sym all)
+      (λ s r len at below.
       let n : ℕ = slice_index s.words 0 in
-      let t = loads k id me.0 s.words s.views r at Front refl H2 n (λ w. told2 (step slots 0 0 0 none) me n (w, me.1))
+      let t = loads k id me.0 s.words s.views r at Front refl H2 n (λ w. told2 k.places (step slots 0 0 0 none) me n (w, me.1))
       (λ vs1 r1 at1. let v1 : View = trod me.0 H2 Front n in
-      (v1, r.marks, subst (λ z. M (memory_of k.capacities.items s.words) z r.marks) (sym (set_again vs1 id v1 at1)) r1, (refl, refl, few_tickets caps k.places k.tickets _ vs1 r.marks r1 id v1 at1))) in
-      (t.0, keeps, tt, t.1, t.2)
+      (v1, r.marks, subst (λ z. M (memory_of k.capacities.items s.words) z r.marks) (sym (set_again vs1 id v1 at1)) r1, (refl, refl, few_tickets caps k.places k.tickets _ vs1 r.marks r1 id v1 at1, informed caps k.places k.tickets _ vs1 r.marks r1 id v1 at1 live))) in
+      (t.0, keeps, tt, t.1, t.2))
 
   pub allows3 : (key word : ℕ) → word ≡ word_of (Readers (key % 64)) → key < 2 ^ 64 → 1 ≤ me.0.places → IsQuiet me.0
       → Allows Holds slots id me word (λ n. (n + 1) % 2 ^ 64) (told3 key (step slots word 1 0 none) me)
@@ -93,9 +94,9 @@ module _ (k : Shape) (slots id : ℕ) (me : Me Nothing View) where
         present = λ value is. subst (λ us. WasSaid us section.key section.from (Some value)) (sym same) (gives.present value is);
       }
 
-  pub allows4 : (section : Section) (word : ℕ) → me.0.section ≡ Some section → word ≡ word_of (Readers (section.key % 64))
-      → Allows Holds slots id me word (λ n. (n + (2 ^ 64 - 1)) % 2 ^ 64) (told4 (step slots word 1 0 none) me)
-  allows4 section word inside at_word = subst (λ i. Allows Holds slots id me i (λ n. (n + (2 ^ 64 - 1)) % 2 ^ 64) (told4 (step slots i 1 0 none) me)) (sym at_word)
+  pub allows4 : (places : ℕ) (section : Section) (word : ℕ) → places ≡ k.places → 1 ≤ me.0.places → me.0.section ≡ Some section → word ≡ word_of (Readers (section.key % 64))
+      → Allows Holds slots id me word (λ n. (n + (2 ^ 64 - 1)) % 2 ^ 64) (told4 places (step slots word 1 0 none) me)
+  allows4 places section word all live inside at_word = subst (λ (z : ℕ × ℕ). Allows Holds slots id me z.0 (λ n. (n + (2 ^ 64 - 1)) % 2 ^ 64) (told4 z.1 (step slots z.0 1 0 none) me)) (λ i. (sym at_word i, sym all i))
       (λ s r len at below.
       let field : Field = Readers (section.key % 64) in
       let is : is_field caps field ≡ true = lt-ltb (section.key % 64) 64 (class_inside section.key) in
@@ -103,13 +104,20 @@ module _ (k : Shape) (slots id : ℕ) (me : Me Nothing View) where
       let found = found_is k id me.0 s.words s.views r at field is in
       let one = some_reader caps k.places k.tickets _ s.views r.marks r.holds id me.0 at section inside (class_inside section.key) in
       let less : (n + (2 ^ 64 - 1)) % 2 ^ 64 ≡ n - 1 = omega arith in
-      let t = stores k id me.0 s.words s.views r at field is H4 n (n - 1) (λ w. told4 (step slots (word_of field) 1 0 none) me n (w, me.1))
-      (λ vs1 r1 at1. let v1 : View = trod me.0 H4 field n in (
-        after4 v1 section r.marks,
+      let t = stores k id me.0 s.words s.views r at field is H4 n (n - 1) (λ w. told4 k.places (step slots (word_of field) 1 0 none) me n (w, me.1))
+      (λ vs1 r1 at1. let v1 : View = trod me.0 H4 field n in
+      let w : View = after4 v1 section r.marks in
+      let rule : M (stored (memory_of k.capacities.items s.words) field (n - 1)) (set vs1 id w) (r.marks ++ Left me.0.place section.count ∷ []) =
+      subst (λ z. M (stored (memory_of k.capacities.items s.words) field (z - 1)) (set vs1 id (after4 v1 section r.marks)) (r.marks ++ Left me.0.place section.count ∷ [])) found
+      (law4 caps k.places k.tickets _ vs1 r.marks r1 id v1 at1 section inside) in (
+        w,
         r.marks ++ Left me.0.place section.count ∷ [],
-        subst (λ z. M (stored (memory_of k.capacities.items s.words) field (z - 1)) (set vs1 id (after4 v1 section r.marks)) (r.marks ++ Left me.0.place section.count ∷ [])) found
-            (law4 caps k.places k.tickets _ vs1 r.marks r1 id v1 at1 section inside),
-        (refl, (section, inside, (r.marks, r.holds.seen.begins id me.0 at, refl), left_answer section r.marks me.0.place (gives_answer caps k.places k.tickets _ s.views r.marks r.holds id me.0 at section inside))),
+        rule,
+        (
+          refl,
+          (section, inside, (r.marks, r.holds.seen.begins id me.0 at, refl), left_answer section r.marks me.0.place (gives_answer caps k.places k.tickets _ s.views r.marks r.holds id me.0 at section inside)),
+          informed caps k.places k.tickets _ (set vs1 id w) (r.marks ++ Left me.0.place section.count ∷ []) rule id w (set_here vs1 id w (at_below vs1 id v1 at1)) live,
+        ),
       )) in
       (t.0, keeps, tt, subst (λ z. Rule k (set s.words (word_of field) z) (set s.views id t.0)) (sym less) t.1, t.2))
 
@@ -131,16 +139,17 @@ module _ (k : Shape) (slots id : ℕ) (me : Me Nothing View) where
       )) in
       (t.0, keeps, tt, t.1, t.2))
 
-  pub allows6 : (c mine word : ℕ) → word ≡ word_of (Lock c) → mine ≡ me.0.place + 1 → c < 64 → 1 ≤ me.0.places → IsQuiet me.0
-      → Allows Holds slots id me word (λ n. either (n == 0) mine n) (told6 c (step slots word 0 mine none) me)
-  allows6 c mine word at_word is_mine small live quiet = subst (λ (z : ℕ × ℕ). Allows Holds slots id me z.0 (λ n. either (n == 0) z.1 n) (told6 c (step slots z.0 0 z.1 none) me)) (λ i. (sym at_word i, sym is_mine i))
+  pub allows6 : (places c mine word : ℕ) → places ≡ k.places → word ≡ word_of (Lock c) → mine ≡ me.0.place + 1 → c < 64 → 1 ≤ me.0.places → IsQuiet me.0
+      → Allows Holds slots id me word (λ n. either (n == 0) mine n) (told6 places c (step slots word 0 mine none) me)
+  allows6 places c mine word all at_word is_mine small live quiet = subst (λ (z : ℕ × ℕ × ℕ). Allows Holds slots id me z.0 (λ n. either (n == 0) z.1 n) (told6 z.2 c (step slots z.0 0 z.1 none) me)) (λ i. (sym at_word i, sym is_mine i, sym all i))
       (λ s r len at below.
       let field : Field = Lock c in
       let is : is_field caps field ≡ true = lt-ltb c 64 small in
       let n : ℕ = slice_index s.words (word_of field) in
       let found = found_is k id me.0 s.words s.views r at field is in
       let even = quiet_turn (memory_of k.capacities.items s.words) s.views (length (updates_of r.marks)) r.holds.turned id me.0 at quiet.1 in
-      let T : View → Type 0 = λ w. told6 c (step slots (word_of field) 0 (me.0.place + 1) none) me n (w, me.1) in
+      let other = subst (IsHeldByOther k.places me.0) found (held_by_other caps k.places k.tickets _ s.views r.marks r.holds id me.0 at c small quiet.1) in
+      let T : View → Type 0 = λ w. told6 k.places c (step slots (word_of field) 0 (me.0.place + 1) none) me n (w, me.1) in
       let t : (w : View) × Rule k (set s.words (word_of field) (either (n == 0) (me.0.place + 1) n)) (set s.views id w) × T w = dite (ℕ_discrete n 0)
       (λ e.
       let same : either true (me.0.place + 1) n ≡ either (n == 0) (me.0.place + 1) n = ap (λ b. either b (me.0.place + 1) n) (sym (eq-eqb n 0 e)) in
@@ -149,7 +158,7 @@ module _ (k : Shape) (slots id : ℕ) (me : Me Nothing View) where
         record v1 { hold = Some (fresh_hold c) },
         r.marks,
         law6 caps k.places k.tickets _ vs1 r.marks r1 id v1 at1 c small quiet live (found ∙ e),
-        (refl, ap (λ b. cond b (record v1 { hold = Some (fresh_hold c) }) v1) (sym (eq-eqb n 0 e)), even),
+        (refl, ap (λ b. cond b (record v1 { hold = Some (fresh_hold c) }) v1) (sym (eq-eqb n 0 e)), even, other),
       )) in
       (q.0, subst (λ z. Rule k (set s.words (word_of field) z) (set s.views id q.0)) same q.1, q.2))
       (λ ne.
@@ -159,16 +168,18 @@ module _ (k : Shape) (slots id : ℕ) (me : Me Nothing View) where
         v1,
         r.marks,
         subst (λ z. M (memory_of k.capacities.items s.words) z r.marks) (sym (set_again vs1 id v1 at1)) r1,
-        (refl, ap (λ b. cond b (record v1 { hold = Some (fresh_hold c) }) v1) (sym (ne_eqb n 0 ne)), even),
+        (refl, ap (λ b. cond b (record v1 { hold = Some (fresh_hold c) }) v1) (sym (ne_eqb n 0 ne)), even, other),
       )) in
       (q.0, subst (λ z. Rule k (set s.words (word_of field) z) (set s.views id q.0)) same q.1, q.2)) in
       (t.0, keeps, tt, t.1, t.2))
 
-  pub allows7 : (hold : Hold) (word : ℕ) → word ≡ word_of (Lock hold.class) → hold.class < 64 → Needs7 me.0 hold → Allows Holds slots id me word (λ _. 0) (λ _. told7 (step slots word 0 0 none) me 0)
-  allows7 hold word at_word small needs = subst (λ i. Allows Holds slots id me i (λ _. 0) (λ _. told7 (step slots i 0 0 none) me 0)) (sym at_word)
+  pub allows7 : (places : ℕ) (hold : Hold) (word : ℕ) → places ≡ k.places → 1 ≤ me.0.places → word ≡ word_of (Lock hold.class) → hold.class < 64 → Needs7 me.0 hold → Allows Holds slots id me word (λ _. 0) (λ _. told7 places (step slots word 0 0 none) me 0)
+  allows7 places hold word all live at_word small needs = subst (λ (z : ℕ × ℕ). Allows Holds slots id me z.0 (λ _. 0) (λ _. told7 z.1 (step slots z.0 0 0 none) me 0)) (λ i. (sym at_word i, sym all i))
       (λ s r len at below.
-      let t = stores k id me.0 s.words s.views r at (Lock hold.class) (lt-ltb hold.class 64 small) H7 0 0 (λ w. told7 (step slots (word_of (Lock hold.class)) 0 0 none) me 0 (w, me.1))
-      (λ vs1 r1 at1. let v1 : View = trod me.0 H7 (Lock hold.class) 0 in (after7 v1, r.marks, law7 caps k.places k.tickets _ vs1 r.marks r1 id v1 at1 hold needs, (refl, (hold, needs.0, refl)))) in
+      let t = stores k id me.0 s.words s.views r at (Lock hold.class) (lt-ltb hold.class 64 small) H7 0 0 (λ w. told7 k.places (step slots (word_of (Lock hold.class)) 0 0 none) me 0 (w, me.1))
+      (λ vs1 r1 at1. let v1 : View = trod me.0 H7 (Lock hold.class) 0 in
+      let rule = law7 caps k.places k.tickets _ vs1 r.marks r1 id v1 at1 hold needs in
+      (after7 v1, r.marks, rule, (refl, (hold, needs.0, refl), informed caps k.places k.tickets _ (set vs1 id (after7 v1)) r.marks rule id (after7 v1) (set_here vs1 id (after7 v1) (at_below vs1 id v1 at1)) live))) in
       (t.0, keeps, tt, t.1, t.2))
 
   pub allows8 : (hold : Hold) (word : ℕ) → word ≡ word_of (Readers hold.class) → hold.class < 64 → me.0.hold ≡ Some hold → Allows Holds slots id me word (λ n. n) (told8 (step slots word 0 0 none) me)

@@ -1,5 +1,5 @@
 -- What the rule tells of a seat and of the words.
-use Rattle.std.proofs.Common.{◌≡◌, ◌≢◌, ℕ, ◌+◌, ◌*◌, ◌%◌, ◌<◌, ◌≤◌, nat_le, ◌&&◌, Bool, true, false, cond, List, [], ◌∷◌, ◌++◌, length, sum, Some, None, refl, sym, ap, subst, ◌∙◌, inl, inr, arith}
+use Rattle.std.proofs.Common.{◌≡◌, ◌≢◌, ℕ, ◌+◌, ◌*◌, ◌%◌, ◌<◌, ◌≤◌, nat_le, ◌&&◌, Bool, true, false, cond, List, [], ◌∷◌, ◌++◌, length, sum, Option, Some, None, refl, sym, ap, subst, ◌∙◌, inl, inr, arith}
 use Rattle.std.proofs.lemmas.Bool.{lt-ltb, le-leb}
 use mathlib.Core.Logic.{dite}
 use native.Mathlib.Decide.{ℕ_discrete}
@@ -7,7 +7,7 @@ use mathlib.Core.Option.{some}
 use lib.ListN.{get_elem?}
 use Rattle.prcu_model.specs.declared.mark.Mark.{Mark}
 use Rattle.hash_core.specs.declared.words.Field.{Field}
-use Rattle.hash_core.specs.declared.words.Field.TheVariants.{Front, Head, Free, Retired, Key, Value, Next, Chain}
+use Rattle.hash_core.specs.declared.words.Field.TheVariants.{Front, Lock, Head, Free, Retired, Key, Value, Next, Chain}
 use Rattle.hash_core.specs.declared.view.Stand.{Stand}
 use Rattle.hash_core.specs.declared.view.Stand.TheVariants.{Start, Unread, Passed, Found}
 use Rattle.hash_core.specs.declared.view.Section.{Section}
@@ -17,14 +17,16 @@ use Rattle.hash_core.specs.declared.view.View.{View}
 use Rattle.hash_core.specs.Lists.{times, IsPath}
 use Rattle.hash_core.specs.Memory.{Memory, word_of, is_field}
 use Rattle.hash_core.specs.Slots.{capacity, is_slot_of, IsOfClass, word_count}
-use Rattle.prcu_model.specs.Marks.{updates_of}
+use Rattle.prcu_model.specs.Marks.{updates_of, own_of}
+use Rattle.prcu_model.proofs.MarkLists.{updates_of-append, own_of-append}
+use Rattle.prcu_model.proofs.Fronts.{AreUpdatesFrom-front}
 use Rattle.hash_core.specs.Known.{known_in, ComesTo, IsOnWalk}
 use Rattle.std.specs.FinMap as finite
 use Rattle.prcu_model.specs.Dictionary.{map_of}
 use Rattle.hash_core.proofs.Cuts.{seek_slot}
-use Rattle.hash_core.specs.Buckets.{seek, HaveDistinctKeys}
+use Rattle.hash_core.specs.Buckets.{seek, HaveDistinctKeys, IsLocked}
 use Rattle.hash_core.specs.Readers.{HasWay, WillAnswer}
-use Rattle.hash_core.specs.Seats.{updates_by, IsTurned}
+use Rattle.hash_core.specs.Seats.{AnswersFor, updates_by, IsTurned}
 use Rattle.hash_core.specs.Steps.{StandsAt, searched}
 use Rattle.hash_core.specs.Rule.{BucketRule, MemoryRule}
 use Rattle.hash_core.proofs.Lists.{at_one, all_times, total_part, times_here, times_append}
@@ -40,7 +42,7 @@ use Rattle.hash_core.specs.Pairs.{HasPairs}
 use Rattle.hash_core.proofs.Stocks.{rule as held_rule, is_known, roles_by}
 use Rattle.prcu_model.specs.History.{IsLegal}
 use Rattle.class_hash.specs.Stepped.{IsUpdated}
-use Rattle.class_hash.specs.Answers.{GivesAnswer, StandsInClass, IsLink, IsLinkOf, IsFull, FindsFull}
+use Rattle.class_hash.specs.Answers.{IsInformed, IsHeldByOther, GivesAnswer, StandsInClass, IsLink, IsLinkOf, IsFull, FindsFull}
 
 -- what is of a class lies in the table
 slot_inside : (capacities : List ℕ) (c s : ℕ) → is_slot_of capacities c s ≡ true → (nat_le 1 s && nat_le s (sum capacities)) ≡ true
@@ -78,6 +80,41 @@ module _ (capacities : List ℕ) (places tickets : ℕ) (m : Memory) (vs : List 
 
   pub few_updates : length (updates_of h) ≤ 1099511627776
   few_updates = let b = r.tickets_are in let c = r.shape.few_tickets in omega arith
+
+  -- what the view has seen
+  pub informed : 1 ≤ v.places → IsInformed places v
+  informed works =
+      let more = r.seen.begins id v at in
+      record {
+        works = works;
+        heard = r.seen.heard id v at;
+        legal = AreUpdatesFrom-front finite.empty (updates_of v.seen) (updates_of more.0) (subst IsLegal (ap updates_of (sym more.1) ∙ updates_of-append v.seen more.0) r.legal);
+        met = λ p answers. r.owned.met id v p at answers;
+        within = λ p far. front_none (own_of p v.seen) (own_of p more.0) (sym (own_of-append p v.seen more.0) ∙ ap (own_of p) more.1 ∙ r.owned.within p far);
+      }
+    where
+      front_none : (xs ys : List Mark) → xs ++ ys ≡ [] → xs ≡ []
+      front_none [] ys none = refl
+      front_none (x ∷ xs) ys none = absurd (cc)
+
+  -- who holds a lock, where this view holds none
+  pub held_by_other : (c : ℕ) → c < 64 → v.hold ≡ None → IsHeldByOther places v (m (Lock c))
+  held_by_other c below quiet = by (r.bucket c).hold (r.buckets c below).locked
+    where
+      by : (held : Option Hold) → IsLocked c m vs held → IsHeldByOther places v (m (Lock c))
+      by None locked = λ some_holder. absurd (some_holder locked.0)
+      by (Some hold) locked = λ some_holder.
+          let u : View = locked.1 in
+          let mine : AnswersFor locked.1 locked.1.place = (let works = (r.held.held locked.0 locked.1 hold locked.2 locked.3).1 in inl (omega arith, omega arith)) in (
+            locked.1.place,
+            locked.5,
+            r.apart.within locked.0 locked.1 locked.1.place locked.2 mine,
+            λ also.
+                let same : id ≡ locked.0 = r.apart.apart id locked.0 locked.1.place v locked.1 at locked.2 also mine in
+                let one : v ≡ locked.1 = at_one vs id v locked.1 at (subst (λ z. get_elem? vs z ≡ some locked.1) (sym same) locked.2) in
+                let e : Some hold ≡ None = sym locked.3 ∙ ap (λ (z : View). z.hold) (sym one) ∙ quiet in
+                absurd (cc),
+          )
 
   mod_small : (key : ℕ) → key % 64 < 64
   mod_small key = omega arith

@@ -17,10 +17,13 @@ use Rattle.hash_core.proofs.Classes.{slot_within}
 use Rattle.class_hash.specs.declared.bucket.Poll.TheVariants.{NotYet}
 use Rattle.class_hash.specs.Stepped.{Loads, Takes, Writes}
 use Rattle.class_hash.specs.Calls.{HasFinished, Lists, MayPoll, Refilled, Polls, polled}
+use Rattle.class_hash.specs.Trails.{AddsNoLists}
 use Rattle.class_hash.specs.Walks.{HasLoaded, KnowsMore}
+use Rattle.class_hash.specs.Updates.{HasStepped}
 use Rattle.class_hash.specs.Puts.{HasPolled, HasFree, MayFill, Filled}
 use Rattle.class_hash.proofs.Walking.{not_loaded, loaded_more, knows_more, known_here, lacks_still, avoids_zero, whole_kept, lacks_kept}
 use Rattle.prcu_model.proofs.ListFacts.{prefix_trans}
+use Rattle.class_hash.proofs.Trails.{adds_none, adds_step}
 
 -- a walk that never comes to a slot
 pub avoids : (known : List Known) (slot first : ℕ) (ss : List ℕ) → IsWholeWalk known first ss → ((before : List ℕ) → ComesTo known first before slot → ⊥) → AllByRecursion (λ s. s ≢ slot) ss
@@ -86,33 +89,37 @@ filled_absent hold slot next key value first other off shows =
     keys s ne = ap (λ t. cond t (Some key) (known_in hold.known (Key s))) (ne_eqb slot s (λ e. ne (sym e)))
 
 -- looks for readers that found some changed nothing
-pub may_poll_still : (v w : View) → MayPoll v → w ≡ record v { trail = w.trail } → MayPoll w
+pub may_poll_still : (v w : View) → MayPoll v → HasStepped v w → MayPoll w
 may_poll_still v w may idle = record {
   hold = may.hold;
-  finished = (ap (λ (z : View). z.hold) idle ∙ may.finished.0, may.finished.1, may.finished.2, may.finished.3, ap (λ (z : View). z.turn) idle ∙ may.finished.4);
+  finished = (ap (λ (z : View). z.hold) idle.view ∙ may.finished.0, may.finished.1, may.finished.2, may.finished.3, ap (λ (z : View). z.turn) idle.view ∙ may.finished.4);
   free = may.free;
   first = may.first;
   some = may.some;
   retired = may.retired;
 }
 
-pub polled_on : (v w x : View) → w ≡ record v { trail = w.trail } → Refilled w x → HasPolled v x
+pub polled_on : (v w x : View) → HasStepped v w → Refilled w x → HasPolled v x
 polled_on v w x idle r =
     let F : View → View = λ z. record (trod (trod (trod z H8 (Readers r.hold.class) 0) H10 (Retired r.hold.class) 0) H10 (Free r.hold.class) r.first) { hold = Some (polled r.hold r.first) } in
-    let whole : x ≡ F (record v { trail = w.trail }) = r.rest ∙ ap F idle in
+    let whole : x ≡ F (record v { trail = w.trail }) = r.rest ∙ ap F idle.view in
     record {
       hold = r.hold;
-      is = sym (ap (λ (z : View). z.hold) idle) ∙ r.is;
+      is = sym (ap (λ (z : View). z.hold) idle.view) ∙ r.is;
       first = r.first;
       retired = r.retired;
+      trail = subst (λ (z : View). AddsNoLists v.trail z.trail) (sym whole) (adds_step v.trail _ H10 (Free r.hold.class) r.first refl (adds_step v.trail _ H10 (Retired r.hold.class) 0 refl (adds_step v.trail w.trail H8 (Readers r.hold.class) 0 refl idle.trail)));
       view = whole ∙ sym (ap (λ (z : View). record v { hold = Some (polled r.hold r.first); trail = z.trail }) whole);
     }
 
-pub waited_on : (v w x : View) (why : Why) → w ≡ record v { trail = w.trail } → Polls w (NotYet why) x → x ≡ record v { trail = x.trail }
+pub waited_on : (v w x : View) (why : Why) → HasStepped v w → Polls w (NotYet why) x → HasStepped v x
 waited_on v w x (Counter class side count) idle p =
     let F : View → View = λ z. trod z H8 (Readers p.1.hold.class) count in
-    let whole : x ≡ F (record v { trail = w.trail }) = p.1.rest ∙ ap F idle in
-    whole ∙ sym (ap (λ (z : View). record v { trail = z.trail }) whole)
+    let whole : x ≡ F (record v { trail = w.trail }) = p.1.rest ∙ ap F idle.view in
+    record {
+      trail = subst (λ (z : View). AddsNoLists v.trail z.trail) (sym whole) (adds_step v.trail w.trail H8 (Readers p.1.hold.class) count refl idle.trail);
+      view = whole ∙ sym (ap (λ (z : View). record v { trail = z.trail }) whole);
+    }
 waited_on v w x _ idle p = absurd p
 
 -- from the lists to a slot that is free
@@ -145,6 +152,7 @@ module _ (capacities : List ℕ) (v : View) (f : HasFinished v) (free retired : 
     first = free_is;
     slot_is = l.free_link ne;
     absent = λ key shows. listed_absent l.hold free retired key shows;
+    room = record { listed = x; free = free; retired = retired; lists = l; some = λ none. absurd (ne none); trail = adds_none x.trail };
     seen = l.seen;
     view = l.rest;
   }
@@ -168,6 +176,7 @@ module _ (capacities : List ℕ) (v : View) (f : HasFinished v) (free retired : 
         first = known_here (knowing listed_hold (Retired l.hold.class) 0) (Free l.hold.class) retired;
         slot_is = l.retired_link ne;
         absent = λ key shows. polled_absent listed_hold retired key (listed_absent l.hold free retired key shows);
+        room = record { listed = x; free = free; retired = retired; lists = l; some = λ _. ne; trail = p.trail };
         seen = subst (IsPrefix v.seen) (sym (ap (λ (u : View). u.seen) whole)) l.seen;
         view = whole ∙ sym (ap (λ (u : View). record v { hold = Some (polled listed_hold retired); trail = y.trail; seen = u.seen }) whole);
       }
@@ -178,7 +187,7 @@ module _ (capacities : List ℕ) (v : View) (slot key value : ℕ) (may : MayFil
   none_loaded = not_loaded v may.hold may.finished.0
 
   loaded1 : HasLoaded v may.hold x1 (knowing may.hold (Chain slot) next)
-  loaded1 = loaded_more capacities v may.hold v may.hold none_loaded (Chain slot) next x1 a
+  loaded1 = loaded_more capacities v may.hold v may.hold none_loaded (Chain slot) next x1 a refl
 
   more1 : KnowsMore may.hold.known (knowing may.hold (Chain slot) next).known
   more1 = knows_more capacities v may.hold v may.hold none_loaded (Chain slot) next x1 a
@@ -191,7 +200,7 @@ module _ (capacities : List ℕ) (v : View) (slot key value : ℕ) (may : MayFil
     k2 = knowing (knowing may.hold (Chain slot) next) (Head class) first
 
     loaded2 : HasLoaded v may.hold x2 (knowing (knowing may.hold (Chain slot) next) (Head class) first)
-    loaded2 = loaded_more capacities v may.hold x1 (knowing may.hold (Chain slot) next) loaded1 (Head class) first x2 b
+    loaded2 = loaded_more capacities v may.hold x1 (knowing may.hold (Chain slot) next) loaded1 (Head class) first x2 b refl
 
     step2 : KnowsMore (knowing may.hold (Chain slot) next).known (knowing (knowing may.hold (Chain slot) next) (Head class) first).known
     step2 = knows_more capacities v may.hold x1 (knowing may.hold (Chain slot) next) loaded1 (Head class) first x2 b
@@ -286,5 +295,6 @@ module _ (capacities : List ℕ) (v : View) (slot key value : ℕ) (may : MayFil
                   absent = filled_absent k2 slot next key value first key off (absent_still may.hold k2.known key more2 may.absent);
                   ticket = subst (λ n. 1 ≤ n) (sym (ap (λ (z : View). z.tickets) view6)) may.ticket;
                 };
+                trail = subst (λ (z : View). AddsNoLists v.trail z.trail) (sym view6) (adds_step v.trail _ H11 (Next slot) first refl (adds_step v.trail _ H11 (Value slot) value refl (adds_step v.trail _ H11 (Key slot) key refl (adds_step v.trail x2.trail H10 (Free may.hold.class) next refl loaded2.trail))));
                 view = view6 ∙ sym (ap (λ (z : View). record v { hold = z.hold; trail = z.trail; seen = t.2.0 ++ Given slot ∷ [] }) view6);
               }

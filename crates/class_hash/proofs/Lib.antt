@@ -1,4 +1,5 @@
 pub mod Plumbing
+pub mod Trails
 pub mod Readers
 pub mod Facts
 pub mod Allowed
@@ -12,3 +13,5 @@ pub mod Trying
 pub mod Unlinking
 pub mod Filling
 pub mod Putting
+pub mod Clients
+pub mod Exactly

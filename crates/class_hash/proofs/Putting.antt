@@ -14,9 +14,11 @@ use Rattle.hash_core.specs.Slots.{is_slot_of}
 use Rattle.hash_core.specs.Known.{knowing, ShowsAbsent}
 use Rattle.hash_core.specs.Steps.{trod, Needs7, Needs13, Needs16, after7, after13, after16}
 use Rattle.class_hash.specs.Stepped.{Unlocks, Evens, Links}
+use Rattle.class_hash.specs.Trails.{AddsNoLists}
 use Rattle.class_hash.specs.Updates.{HasTurned}
 use Rattle.class_hash.specs.Puts.{HasFree, MayAdd, MayFill, MayLink, Filled, Linked, Added}
 use Rattle.prcu_model.proofs.ListFacts.{prefix_trans}
+use Rattle.class_hash.proofs.Trails.{adds_step, adds_both}
 
 -- the front was made odd, the slot linked, the front made even, and the lock given up
 module _ (v : View) (slot key value : ℕ) (may : MayLink v slot key value) (even : ℕ) (x1 : View) (t : HasTurned v even x1) where
@@ -72,6 +74,11 @@ module _ (v : View) (slot key value : ℕ) (may : MayLink v slot key value) (eve
                 ∙ sym (ap (λ (z : View). record v { tickets = v.tickets - 1; hold = None; own = v.own ++ Done (record { caller = v.place; op = Put key value }) ∷ []; trail = z.trail; seen = c.2.0 ++ Done (record { caller = v.place; op = Put key value }) ∷ [] }) last);
           }
 
+      pub linked_trail : (x4 : View) → Unlocks x3 x4 → AddsNoLists v.trail x4.trail
+      linked_trail x4 e =
+          let last : x4 ≡ after7 (trod v3 H7 (Lock e.0.class) 0) = e.2 ∙ ap (λ (z : View). after7 (trod z H7 (Lock e.0.class) 0)) view3 in
+          subst (λ (z : View). AddsNoLists v.trail z.trail) (sym last) (adds_step v.trail _ H7 (Lock e.0.class) 0 refl (adds_step v.trail _ H16 Front (even + 2) refl (adds_step v.trail x1.trail H13 (Head may.hold.class) slot refl t.trail)))
+
 -- a slot that is free may be filled
 pub may_fill : (capacities : List ℕ) (v x : View) (key free slot : ℕ) → MayAdd v key → HasFree capacities v free x → slot ≡ free → MayFill capacities x slot key
 may_fill capacities v x key free slot may f is =
@@ -87,10 +94,11 @@ may_fill capacities v x key free slot may f is =
       slot_is = subst (λ c. is_slot_of capacities c free ≡ true) (sym f.class) f.slot_is;
     })
 
-pub added : (capacities : List ℕ) (v x y w : View) (key value free slot number : ℕ) → HasFree capacities v free x → Filled x slot key value y → Linked y key value number w → Added v key value number w
-added capacities v x y w key value free slot number f g l =
+pub added : (capacities : List ℕ) (v x y w : View) (key value free slot number : ℕ) → HasFree capacities v free x → Filled x slot key value y → Linked y key value number w → AddsNoLists y.trail w.trail → Added capacities v key value number w
+added capacities v x y w key value free slot number f g l on =
     let F : View → View = λ z. record z { tickets = z.tickets - 1; hold = None; own = z.own ++ Done (record { caller = z.place; op = Put key value }) ∷ []; trail = w.trail; seen = l.before ++ Done (record { caller = z.place; op = Put key value }) ∷ [] } in
     let since : IsPrefix v.seen g.before = prefix_trans v.seen x.seen g.before f.seen g.since in
+    let until_w : AddsNoLists x.trail w.trail = adds_both x.trail y.trail w.trail g.trail on in
     let until : IsPrefix (g.before ++ Given slot ∷ []) l.before = subst (λ (z : View). IsPrefix z.seen l.before) g.view l.since in
     record {
       linked = record {
@@ -102,4 +110,5 @@ added capacities v x y w key value free slot number f g l =
       };
       slot = slot;
       given = record { before = g.before; since = since; until = until };
+      room = record { listed = f.room.listed; free = f.room.free; retired = f.room.retired; lists = f.room.lists; some = f.room.some; trail = adds_both f.room.listed.trail x.trail w.trail f.room.trail until_w };
     }

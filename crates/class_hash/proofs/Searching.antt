@@ -1,8 +1,6 @@
 -- Searches in a section.
-use Rattle.std.proofs.Common.{◌≡◌, ◌≢◌, ℕ, ◌+◌, ◌%◌, true, cond, List, [], ◌∷◌, ◌++◌, length, Option, Some, None, refl, sym, ap, subst, ◌∙◌, eq-eqb, ne_eqb, append_assoc}
-use mathlib.Core.Logic.{dite}
+use Rattle.std.proofs.Common.{◌≡◌, ◌≢◌, ℕ, ◌+◌, ◌%◌, true, false, cond, List, [], ◌∷◌, ◌++◌, length, Option, Some, None, refl, sym, ap, subst, ◌∙◌, eq-eqb, ne_eqb, append_assoc}
 use mathlib.Core.List.{IsPrefix}
-use native.Mathlib.Decide.{ℕ_discrete}
 use Rattle.prcu_model.specs.declared.mark.Mark.{Mark}
 use Rattle.prcu_model.specs.declared.mark.Mark.TheVariants.{Entered, Left}
 use Rattle.hash_core.specs.declared.words.Field.{Field}
@@ -19,7 +17,9 @@ use Rattle.hash_core.specs.Readers.{WasSaid}
 use Rattle.hash_core.specs.Steps.{IsQuiet, StandsAt, link_stand, searched}
 use Rattle.class_hash.specs.Answers.{GivesAnswer}
 use Rattle.class_hash.specs.Stepped.{Enters, Leaves, Searches}
+use Rattle.class_hash.specs.Trails.{loads_free}
 use Rattle.class_hash.specs.Lookups.{IsSearching, IsAtLink, Looked}
+use Rattle.prcu_model.proofs.ListFacts.{all_append}
 
 module _ (v : View) (key : ℕ) where
   abbrev at : ℕ → ℕ → Stand → Option ℕ → Section
@@ -50,6 +50,7 @@ module _ (v : View) (key : ℕ) where
       record {
         before = i.before;
         steps = i.steps ++ record { kind = H5; field = field; number = n } ∷ [];
+        plain = all_append (λ (step : Trod). loads_free step.kind step.field ≡ false) i.steps (record { kind = H5; field = field; number = n } ∷ []) i.plain (refl, tt);
         since = i.since;
         view = s.2 ∙ (λ j. record (i.view j) { section = Some (found j); trail = (i.view j).trail ++ record { kind = H5; field = field; number = n } ∷ [] })
             ∙ (λ j. record (inside i.before (i.steps ++ record { kind = H5; field = field; number = n } ∷ []) stand' loaded') { trail = append_assoc v.trail i.steps (record { kind = H5; field = field; number = n } ∷ []) j });
@@ -60,6 +61,7 @@ module _ (v : View) (key : ℕ) where
   begun w found e = record {
     before = e.0;
     steps = record { kind = H3; field = Readers (key % 64); number = found } ∷ [];
+    plain = (refl, tt);
     since = e.1;
     view = e.2;
   }
@@ -117,6 +119,7 @@ module _ (v : View) (key : ℕ) where
         before = i.before;
         until = l.2.0;
         steps = i.steps ++ step ∷ [];
+        plain = all_append (λ (step : Trod). loads_free step.kind step.field ≡ false) i.steps (record { kind = H4; field = Readers (key % 64); number = found } ∷ []) i.plain (refl, tt);
         since = i.since;
         within = subst (λ (z : View). IsPrefix z.seen l.2.0) i.view l.2.1;
         view = l.2.2 ∙ (λ j. record (i.view j) {

@@ -1,5 +1,5 @@
 -- Tries of an update: a search, the lock, a walk under it, and the lock given up or the update made.
-use Rattle.std.proofs.Common.{◌≡◌, ℕ, ◌+◌, ◌-◌, ◌%◌, ◌≤◌, true, List, [], ◌∷◌, ◌++◌, Option, Some, None, IfNone, IfSome, is_some, refl, sym, ap, subst, ◌∙◌, append_assoc, append-nil}
+use Rattle.std.proofs.Common.{◌≡◌, ℕ, ◌+◌, ◌-◌, ◌%◌, ◌≤◌, ◌==◌, true, cond, arith, eq-eqb, List, [], ◌∷◌, ◌++◌, Option, Some, None, IfNone, IfSome, is_some, refl, sym, ap, subst, ◌∙◌, append_assoc, append-nil}
 use Rattle.std.specs.List.{AllByRecursion}
 use mathlib.Core.List.{IsPrefix}
 use Rattle.prcu_model.specs.declared.mark.Mark.{Mark}
@@ -19,25 +19,29 @@ use Rattle.class_hash.specs.Answers.{IsFull}
 use Rattle.hash_core.specs.Known.{ShowsAbsent}
 use Rattle.hash_core.specs.Steps.{trod, IsQuiet, Needs7, after7, fresh_hold}
 use Rattle.prcu_model.proofs.ListFacts.{all_append, prefix_self, prefix_trans}
+use Rattle.class_hash.proofs.Trails.{adds_step, adds_both}
+use Rattle.prcu_model.specs.Callers.{entered_for}
+use Rattle.prcu_model.proofs.OwnMarks.{entered_for-append}
 use Rattle.class_hash.specs.Stepped.{Unlocks}
+use Rattle.class_hash.specs.Trails.{AddsNoLists}
 use Rattle.class_hash.specs.Lookups.{Looked}
 use Rattle.class_hash.specs.Walks.{HasLoaded, IsFoundAt}
 use Rattle.class_hash.specs.Updates.{HasLocked, MayReplace, Replaced, link_after, MayUnlink, Removed}
 use Rattle.class_hash.specs.Calls.{HasFinished, Lists}
 use Rattle.class_hash.specs.Puts.{MayAdd, Linked, Added, LeavesFull}
-use Rattle.class_hash.specs.Replies.{IsOfSection, HasTried, told_added, PutsBy, Puts, SetsBy, DelsBy}
+use Rattle.class_hash.specs.Replies.{IsOfSection, HasTried, HasWalked, told_added, PutsBy, Puts, SetsBy, DelsBy}
 
-pub nothing_tried : (v : View) → HasTried v v
-nothing_tried v = record { marks = []; plain = tt; own = sym (append-nil v.own); seen = prefix_self v.seen; view = refl }
+pub nothing_tried : (v : View) (key : ℕ) → HasTried v key v
+nothing_tried v key = record { marks = []; plain = tt; own = sym (append-nil v.own); seen = prefix_self v.seen; view = refl }
 
-pub still_quiet : (v w : View) → IsQuiet v → HasTried v w → IsQuiet w
-still_quiet v w quiet t = (ap (λ (z : View). z.section) t.view ∙ quiet.0, ap (λ (z : View). z.hold) t.view ∙ quiet.1)
+pub still_quiet : (v w : View) (key : ℕ) → IsQuiet v → HasTried v key w → IsQuiet w
+still_quiet v w key quiet t = (ap (λ (z : View). z.section) t.view ∙ quiet.0, ap (λ (z : View). z.hold) t.view ∙ quiet.1)
 
 pub looked_quiet : (w x : View) (key : ℕ) (answer : Option ℕ) → IsQuiet w → Looked w key answer x → IsQuiet x
 looked_quiet w x key answer quiet l = (ap (λ (z : View). z.section) l.view, ap (λ (z : View). z.hold) l.view ∙ quiet.1)
 
 -- from the search to the walk
-module _ (v w x y z : View) (key class : ℕ) (answer : Option ℕ) (new : Hold) (quiet : IsQuiet v) (t : HasTried v w) (l : Looked w key answer x) (k : HasLocked x class y) (n : HasLoaded y (fresh_hold class) z new) (no_turn : x.turn ≡ None) where
+module _ (v w x y z : View) (key class : ℕ) (answer : Option ℕ) (new : Hold) (quiet : IsQuiet v) (t : HasTried v key w) (l : Looked w key answer x) (k : HasLocked x class y) (n : HasLoaded y (fresh_hold class) z new) (no_turn : x.turn ≡ None) where
   marks : List Mark
   marks = Entered w.place w.sections key ∷ Left w.place w.sections ∷ []
 
@@ -49,7 +53,7 @@ module _ (v w x y z : View) (key class : ℕ) (answer : Option ℕ) (new : Hold)
 
   -- after the walk: that of the start, but for the lock, what was seen and done
   z_is : z ≡ record v { section = None; sections = w.sections + 1; hold = Some new; own = (w.own ++ Entered w.place w.sections key ∷ []) ++ Left w.place w.sections ∷ []; trail = z.trail; seen = z.seen }
-  z_is = n.view ∙ (λ j. record (k j) { hold = Some new; trail = z.trail; seen = z.seen }) ∙ (λ j. record (x_is j) { hold = Some new; trail = z.trail; seen = z.seen })
+  z_is = n.view ∙ (λ j. record (k.view j) { hold = Some new; trail = z.trail; seen = z.seen }) ∙ (λ j. record (x_is j) { hold = Some new; trail = z.trail; seen = z.seen })
       ∙ (λ j. record (t.view j) { section = None; sections = w.sections + 1; hold = Some new; own = (w.own ++ Entered w.place w.sections key ∷ []) ++ Left w.place w.sections ∷ []; trail = z.trail; seen = z.seen })
 
   same_place : w.place ≡ v.place
@@ -59,17 +63,30 @@ module _ (v w x y z : View) (key class : ℕ) (answer : Option ℕ) (new : Hold)
   seen_x = subst (IsPrefix w.seen) (sym (ap (λ (u : View). u.seen) l.view)) (prefix_trans w.seen l.before _ l.since (prefix_trans l.before (l.before ++ Entered w.place w.sections key ∷ []) _ (Entered w.place w.sections key ∷ [], refl) (prefix_trans _ l.until _ l.within (Left w.place w.sections ∷ [], refl))))
 
   seen_z : IsPrefix v.seen z.seen
-  seen_z = prefix_trans v.seen w.seen z.seen t.seen (prefix_trans w.seen x.seen z.seen seen_x (subst (λ s. IsPrefix s z.seen) (ap (λ (u : View). u.seen) k) n.seen))
+  seen_z = prefix_trans v.seen w.seen z.seen t.seen (prefix_trans w.seen x.seen z.seen seen_x (subst (λ s. IsPrefix s z.seen) (ap (λ (u : View). u.seen) k.view) n.seen))
+
+  -- the lists weren't loaded
+  trail_z : AddsNoLists v.trail w.trail → AddsNoLists v.trail z.trail
+  trail_z before =
+      let searched : AddsNoLists w.trail x.trail = record { steps = l.steps; plain = l.plain; trail = ap (λ (u : View). u.trail) l.view } in
+      adds_both v.trail w.trail z.trail before (adds_both w.trail x.trail z.trail searched (adds_both x.trail y.trail z.trail k.trail n.trail))
 
   own_z : z.own ≡ v.own ++ (t.marks ++ Entered w.place w.sections key ∷ Left w.place w.sections ∷ [])
   own_z = ap (λ (u : View). u.own) z_is ∙ append_assoc w.own (Entered w.place w.sections key ∷ []) (Left w.place w.sections ∷ [])
       ∙ ap (λ o. o ++ Entered w.place w.sections key ∷ Left w.place w.sections ∷ []) t.own ∙ append_assoc v.own t.marks (Entered w.place w.sections key ∷ Left w.place w.sections ∷ [])
 
-  plain_z : AllByRecursion IsOfSection (t.marks ++ Entered w.place w.sections key ∷ Left w.place w.sections ∷ [])
-  plain_z = all_append IsOfSection t.marks (Entered w.place w.sections key ∷ Left w.place w.sections ∷ []) t.plain (tt, (tt, tt))
+  plain_z : AllByRecursion (IsOfSection v.place key) (t.marks ++ Entered w.place w.sections key ∷ Left w.place w.sections ∷ [])
+  plain_z = all_append (IsOfSection v.place key) t.marks (Entered w.place w.sections key ∷ Left w.place w.sections ∷ []) t.plain ((same_place, refl), (same_place, tt))
+
+  searched_z : 1 ≤ entered_for v.place key (t.marks ++ Entered w.place w.sections key ∷ Left w.place w.sections ∷ [])
+  searched_z =
+      let split = entered_for-append v.place key t.marks (Entered w.place w.sections key ∷ Left w.place w.sections ∷ []) in
+      let one : entered_for v.place key (Entered w.place w.sections key ∷ Left w.place w.sections ∷ []) ≡ 1 =
+      ap (λ b. cond b (cond (key == key) 1 0) 0 + 0) (eq-eqb w.place v.place same_place) ∙ ap (λ b. cond b 1 0 + 0) (eq-eqb key key refl) in
+      omega arith
 
   turn_z : z.turn ≡ None
-  turn_z = ap (λ (u : View). u.turn) n.view ∙ ap (λ (u : View). u.turn) k ∙ no_turn
+  turn_z = ap (λ (u : View). u.turn) n.view ∙ ap (λ (u : View). u.turn) k.view ∙ no_turn
 
   needs_z : Needs7 z new
   needs_z = (ap (λ (u : View). u.hold) n.view, ap (λ (h : Hold). h.taken) n.only, ap (λ (h : Hold). h.unlinked) n.only, ap (λ (h : Hold). h.moved) n.only, turn_z)
@@ -90,7 +107,7 @@ module _ (v w x y z : View) (key class : ℕ) (answer : Option ℕ) (new : Hold)
   abbrev walked : View
   walked = record v { section = None; sections = w.sections + 1; hold = Some new; own = (w.own ++ Entered w.place w.sections key ∷ []) ++ Left w.place w.sections ∷ []; trail = z.trail; seen = z.seen }
 
-  pub tried_again : (u : View) → Unlocks z u → HasTried v u
+  pub tried_again : (u : View) → Unlocks z u → HasTried v key u
   tried_again u e =
       let F : View → View = λ y. after7 (trod y H7 (Lock e.0.class) 0) in
       let u_is : u ≡ F walked = e.2 ∙ ap F z_is in
@@ -103,6 +120,9 @@ module _ (v w x y z : View) (key class : ℕ) (answer : Option ℕ) (new : Hold)
         view = whole ∙ sym (ap (λ (y : View). record v { sections = y.sections; own = y.own; trail = y.trail; seen = y.seen }) whole);
       }
 
+  pub tried_on : AddsNoLists v.trail w.trail → (u : View) → Unlocks z u → AddsNoLists v.trail u.trail
+  tried_on before u e = subst (λ (y : View). AddsNoLists v.trail y.trail) (sym e.2) (adds_step v.trail z.trail H7 (Lock e.0.class) 0 refl (trail_z before))
+
   pub updated_once : (u : View) (value old number : ℕ) → Replaced z key value old number u → SetsBy v key value (Was old) number u
   updated_once u value old number r =
       let place : z.place ≡ v.place = ap (λ (y : View). y.place) z_is in
@@ -113,6 +133,7 @@ module _ (v w x y z : View) (key class : ℕ) (answer : Option ℕ) (new : Hold)
         record {
           marks = t.marks ++ Entered w.place w.sections key ∷ Left w.place w.sections ∷ [];
           plain = plain_z;
+          searched = searched_z;
           own = ap (λ (y : View). y.own) r.view ∙ ap (λ o. o ++ Done (record { caller = z.place; op = Set key value }) ∷ []) own_z
               ∙ ap (λ p. (v.own ++ (t.marks ++ Entered w.place w.sections key ∷ Left w.place w.sections ∷ [])) ++ Done (record { caller = p; op = Set key value }) ∷ []) place;
           since = prefix_trans v.seen z.seen r.before seen_z r.since;
@@ -149,6 +170,7 @@ module _ (v w x y z : View) (key class : ℕ) (answer : Option ℕ) (new : Hold)
         record {
           marks = t.marks ++ Entered w.place w.sections key ∷ Left w.place w.sections ∷ [];
           plain = plain_z;
+          searched = searched_z;
           own = ap (λ (y : View). y.own) r.view ∙ ap (λ o. o ++ Done (record { caller = z.place; op = Del key }) ∷ []) own_z
               ∙ ap (λ p. (v.own ++ (t.marks ++ Entered w.place w.sections key ∷ Left w.place w.sections ∷ [])) ++ Done (record { caller = p; op = Del key }) ∷ []) place;
           since = prefix_trans v.seen z.seen r.before seen_z r.since;
@@ -168,8 +190,17 @@ module _ (v w x y z : View) (key class : ℕ) (answer : Option ℕ) (new : Hold)
     ticket = subst (λ q. 1 ≤ q) (sym (ap (λ (u : View). u.tickets) z_is)) ticket;
   }
 
-  pub added_once : (capacities : List ℕ) (u : View) (value number : ℕ) → Added z key value number u → PutsBy capacities v key value New number u
-  added_once capacities u value number a =
+  -- nothing but the lock, what was seen and done has changed
+  walked_is : z ≡ record v { sections = z.sections; hold = Some new; own = z.own; trail = z.trail; seen = z.seen }
+  walked_is =
+      let whole : z ≡ record walked { section = v.section } = z_is ∙ ap (λ q. record walked { section = q }) (sym quiet.0) in
+      whole ∙ sym (ap (λ (y : View). record v { sections = y.sections; hold = Some new; own = y.own; trail = y.trail; seen = y.seen }) whole)
+
+  has_walked : AddsNoLists v.trail w.trail → key % 64 ≡ class → ShowsAbsent new key → HasWalked v key z
+  has_walked before of absent = record { hold = new; class = ap (λ (h : Hold). h.class) n.only ∙ sym of; absent = absent; trail = trail_z before; seen = seen_z; view = walked_is }
+
+  pub added_once : (capacities : List ℕ) (u : View) (value number : ℕ) → AddsNoLists v.trail w.trail → key % 64 ≡ class → ShowsAbsent new key → Added capacities z key value number u → PutsBy capacities v key value New number u
+  added_once capacities u value number before of absent a =
       let r : Linked z key value number u = a.linked in
       let place : z.place ≡ v.place = ap (λ (y : View). y.place) z_is in
       let F : View → View = λ y. record y { tickets = y.tickets - 1; hold = None; own = z.own ++ Done (record { caller = z.place; op = Put key value }) ∷ []; trail = u.trail; seen = r.before ++ Done (record { caller = z.place; op = Put key value }) ∷ [] } in
@@ -180,6 +211,7 @@ module _ (v w x y z : View) (key class : ℕ) (answer : Option ℕ) (new : Hold)
         record {
           marks = t.marks ++ Entered w.place w.sections key ∷ Left w.place w.sections ∷ [];
           plain = plain_z;
+          searched = searched_z;
           own = ap (λ (y : View). y.own) r.view ∙ ap (λ o. o ++ Done (record { caller = z.place; op = Put key value }) ∷ []) own_z
               ∙ ap (λ p. (v.own ++ (t.marks ++ Entered w.place w.sections key ∷ Left w.place w.sections ∷ [])) ++ Done (record { caller = p; op = Put key value }) ∷ []) place;
           since = prefix_trans v.seen z.seen r.before seen_z r.since;
@@ -189,16 +221,11 @@ module _ (v w x y z : View) (key class : ℕ) (answer : Option ℕ) (new : Hold)
           view = whole ∙ sym (ap (λ (y : View). record v { tickets = v.tickets - 1; sections = y.sections; own = y.own; trail = y.trail; seen = y.seen }) whole);
         },
         record { before = a.given.before; since = prefix_trans v.seen z.seen a.given.before seen_z a.given.since; until = a.given.until },
+        (z, has_walked before of absent, a.room),
       )
 
-  -- nothing but the lock, what was seen and done has changed
-  walked_is : z ≡ record v { sections = z.sections; hold = Some new; own = z.own; trail = z.trail; seen = z.seen }
-  walked_is =
-      let whole : z ≡ record walked { section = v.section } = z_is ∙ ap (λ q. record walked { section = q }) (sym quiet.0) in
-      whole ∙ sym (ap (λ (y : View). record v { sections = y.sections; hold = Some new; own = y.own; trail = y.trail; seen = y.seen }) whole)
-
-  pub full_once : (capacities : List ℕ) (u : View) (value : ℕ) → key % 64 ≡ class → ShowsAbsent new key → LeavesFull capacities z u → PutsBy capacities v key value Full 0 u
-  full_once capacities u value of absent left =
+  pub full_once : (capacities : List ℕ) (u : View) (value : ℕ) → AddsNoLists v.trail w.trail → key % 64 ≡ class → ShowsAbsent new key → LeavesFull capacities z u → PutsBy capacities v key value Full 0 u
+  full_once capacities u value before of absent left =
       let y : View = left.0 in
       let l : Lists capacities z 0 0 left.0 = left.1 in
       let e : Unlocks left.0 u = left.2 in
@@ -211,23 +238,27 @@ module _ (v w x y z : View) (key class : ℕ) (answer : Option ℕ) (new : Hold)
       let class_new : new.class ≡ key % 64 = ap (λ (h : Hold). h.class) n.only ∙ sym of in
       let full : IsFull capacities new u.seen = subst (λ s. IsFull capacities new s) (sym (ap (λ (q : View). q.seen) first)) (subst (λ (k : Hold). IsFull capacities k left.0.seen) same (l.full refl refl)) in
       let own_u : u.own ≡ z.own = ap (λ (q : View). q.own) first ∙ ap (λ (q : View). q.own) l.rest in (
-        record {
-          marks = t.marks ++ Entered w.place w.sections key ∷ Left w.place w.sections ∷ [];
-          plain = plain_z;
-          own = own_u ∙ own_z;
-          seen = subst (IsPrefix v.seen) (sym (ap (λ (q : View). q.seen) first)) (prefix_trans v.seen z.seen left.0.seen seen_z l.seen);
-          view = whole ∙ sym (ap (λ (q : View). record v { sections = q.sections; own = q.own; trail = q.trail; seen = q.seen }) whole);
-        },
-        (z, record { hold = new; class = ap (λ (h : Hold). h.class) n.only ∙ sym of; absent = absent; seen = seen_z; view = walked_is }, left),
+        (
+          record {
+            marks = t.marks ++ Entered w.place w.sections key ∷ Left w.place w.sections ∷ [];
+            plain = plain_z;
+            own = own_u ∙ own_z;
+            seen = subst (IsPrefix v.seen) (sym (ap (λ (q : View). q.seen) first)) (prefix_trans v.seen z.seen left.0.seen seen_z l.seen);
+            view = whole ∙ sym (ap (λ (q : View). record v { sections = q.sections; own = q.own; trail = q.trail; seen = q.seen }) whole);
+          },
+          searched_z,
+        ),
+        (z, has_walked before of absent, left),
         record { absent = full.absent key (sym class_new) absent; pairs = subst (λ d. HasPairs d (map_of (updates_of u.seen)) (capacity capacities d)) class_new full.pairs },
         refl,
       )
 
-  pub put_once : (capacities : List ℕ) (u : View) (value : ℕ) (answer : Option ℕ) → key % 64 ≡ class → ShowsAbsent new key → IfNone answer (LeavesFull capacities z u) → IfSome answer (λ number. Added z key value number u) → Puts capacities v key value (told_added answer) u
-  put_once capacities u value None of absent left added = full_once capacities u value of absent left
-  put_once capacities u value (Some number) of absent left added = added_once capacities u value number added
+  pub put_once : (capacities : List ℕ) (u : View) (value : ℕ) (answer : Option ℕ) → AddsNoLists v.trail w.trail → key % 64 ≡ class → ShowsAbsent new key → IfNone answer (LeavesFull capacities z u) → IfSome answer (λ number. Added capacities z key value number u) → Puts capacities v key value (told_added answer) u
+  put_once capacities u value None before of absent left added = full_once capacities u value before of absent left
+  put_once capacities u value (Some number) before of absent left added = added_once capacities u value number before of absent added
 
 -- a search that found the key
-pub found_once : (capacities : List ℕ) (v w x : View) (key value : ℕ) (answer : Option ℕ) → is_some answer ≡ true → HasTried v w → Looked w key answer x → PutsBy capacities v key value Old 0 x
-found_once capacities v w x key value None is t l = absurd (cc)
-found_once capacities v w x key value (Some old) is t l = (w, t, (old, l), refl)
+pub found_once : (capacities : List ℕ) (v w x : View) (key value : ℕ) (answer : Option ℕ) → is_some answer ≡ true → HasTried v key w → AddsNoLists v.trail w.trail → Looked w key answer x → PutsBy capacities v key value Old 0 x
+found_once capacities v w x key value None is t before l = absurd (cc)
+found_once capacities v w x key value (Some old) is t before l =
+    (w, t, (old, l), refl, adds_both v.trail w.trail x.trail before (record { steps = l.steps; plain = l.plain; trail = ap (λ (u : View). u.trail) l.view }))

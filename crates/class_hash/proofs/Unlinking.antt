@@ -32,7 +32,7 @@ module _ (capacities : List ℕ) (v : View) (previous : Option ℕ) (slot key : 
   none_loaded = not_loaded v may.hold may.finished.0
 
   loaded1 : HasLoaded v may.hold x1 (knowing may.hold (Next slot) next)
-  loaded1 = loaded_more capacities v may.hold v may.hold none_loaded (Next slot) next x1 a
+  loaded1 = loaded_more capacities v may.hold v may.hold none_loaded (Next slot) next x1 a refl
 
   more1 : KnowsMore may.hold.known (knowing may.hold (Next slot) next).known
   more1 = knows_more capacities v may.hold v may.hold none_loaded (Next slot) next x1 a
@@ -45,7 +45,7 @@ module _ (capacities : List ℕ) (v : View) (previous : Option ℕ) (slot key : 
     k2 = knowing (knowing may.hold (Next slot) next) (Retired class) first
 
     loaded2 : HasLoaded v may.hold x2 (knowing (knowing may.hold (Next slot) next) (Retired class) first)
-    loaded2 = loaded_more capacities v may.hold x1 (knowing may.hold (Next slot) next) loaded1 (Retired class) first x2 b
+    loaded2 = loaded_more capacities v may.hold x1 (knowing may.hold (Next slot) next) loaded1 (Retired class) first x2 b refl
 
     step2 : KnowsMore (knowing may.hold (Next slot) next).known (knowing (knowing may.hold (Next slot) next) (Retired class) first).known
     step2 = knows_more capacities v may.hold x1 (knowing may.hold (Next slot) next) loaded1 (Retired class) first x2 b

@@ -1,5 +1,5 @@
 -- Updates under a bucket's lock.
-use Rattle.std.proofs.Common.{◌≡◌, ◌≢◌, ℕ, ◌+◌, ◌-◌, ◌/◌, ◌%◌, ◌≤◌, true, false, cond, List, [], ◌∷◌, ◌++◌, length, Option, Some, None, sym, ap, subst, ◌∙◌, arith, eq-eqb, ne_eqb}
+use Rattle.std.proofs.Common.{◌≡◌, ◌≢◌, ℕ, ◌+◌, ◌-◌, ◌/◌, ◌%◌, ◌≤◌, true, false, cond, List, [], ◌∷◌, ◌++◌, length, Option, Some, None, refl, sym, ap, subst, ◌∙◌, arith, eq-eqb, ne_eqb}
 use mathlib.Core.List.{IsPrefix}
 use Rattle.prcu_model.specs.declared.mark.Mark.{Mark}
 use Rattle.prcu_model.specs.declared.mark.Mark.TheVariants.{Done}
@@ -15,49 +15,64 @@ use Rattle.hash_core.specs.Known.{known_in, knowing}
 use Rattle.hash_core.specs.Slots.{is_slot_of}
 use Rattle.hash_core.specs.Steps.{trod, Needs7, Needs15, Needs16, after6, after15, after16, after7, fresh_hold}
 use Rattle.class_hash.specs.Stepped.{Locks, Unlocks, Loads, Turns, Evens, Replaces}
+use Rattle.class_hash.specs.Trails.{AddsNoLists}
 use Rattle.class_hash.specs.Walks.{HasLoaded, KnowsMore}
-use Rattle.class_hash.specs.Updates.{HasLocked, HasTurned, MayReplace, Replaced}
+use Rattle.class_hash.specs.Updates.{HasStepped, HasLocked, HasTurned, MayReplace, Replaced}
 use Rattle.class_hash.proofs.Walking.{not_loaded, loaded_more, knows_more, known_here, comes_to_still}
 use Rattle.prcu_model.proofs.ListFacts.{prefix_trans}
+use Rattle.class_hash.proofs.Trails.{adds_none, adds_step}
+
+-- no step was made yet
+pub not_stepped : (v : View) → HasStepped v v
+not_stepped v = record { trail = adds_none v.trail; view = refl }
 
 -- a lock that was free
-pub locked : (v w x : View) (class : ℕ) → w ≡ record v { trail = w.trail } → Locks w class 0 x → HasLocked v class x
+pub locked : (v w x : View) (class : ℕ) → HasStepped v w → Locks w class 0 x → HasLocked v class x
 locked v w x class idle a =
-    let whole : x ≡ after6 (trod (record v { trail = w.trail }) H6 (Lock class) 0) class 0 = a ∙ ap (λ (z : View). after6 (trod z H6 (Lock class) 0) class 0) idle in
-    whole ∙ sym (ap (λ (z : View). record v { hold = Some (fresh_hold class); trail = z.trail }) whole)
+    let whole : x ≡ after6 (trod (record v { trail = w.trail }) H6 (Lock class) 0) class 0 = a ∙ ap (λ (z : View). after6 (trod z H6 (Lock class) 0) class 0) idle.view in
+    record {
+      trail = subst (λ (z : View). AddsNoLists v.trail z.trail) (sym whole) (adds_step v.trail w.trail H6 (Lock class) 0 refl idle.trail);
+      view = whole ∙ sym (ap (λ (z : View). record v { hold = Some (fresh_hold class); trail = z.trail }) whole);
+    }
 
 -- a lock that was held
-pub not_locked : (v w x : View) (class found : ℕ) → found ≢ 0 → w ≡ record v { trail = w.trail } → Locks w class found x → x ≡ record v { trail = x.trail }
+pub not_locked : (v w x : View) (class found : ℕ) → found ≢ 0 → HasStepped v w → Locks w class found x → HasStepped v x
 not_locked v w x class found ne idle a =
     let e : x ≡ trod w H6 (Lock class) found = a ∙ ap (λ b. cond b (record (trod w H6 (Lock class) found) { hold = Some (fresh_hold class) }) (trod w H6 (Lock class) found)) (ne_eqb found 0 ne) in
-    let whole : x ≡ trod (record v { trail = w.trail }) H6 (Lock class) found = e ∙ ap (λ (z : View). trod z H6 (Lock class) found) idle in
-    whole ∙ sym (ap (λ (z : View). record v { trail = z.trail }) whole)
+    let whole : x ≡ trod (record v { trail = w.trail }) H6 (Lock class) found = e ∙ ap (λ (z : View). trod z H6 (Lock class) found) idle.view in
+    record {
+      trail = subst (λ (z : View). AddsNoLists v.trail z.trail) (sym whole) (adds_step v.trail w.trail H6 (Lock class) found refl idle.trail);
+      view = whole ∙ sym (ap (λ (z : View). record v { trail = z.trail }) whole);
+    }
 
 -- the front was even, and is odd
-pub turned : (v w x : View) (even found : ℕ) → found ≡ even → found ≤ 2199023255553 → w ≡ record v { trail = w.trail } → Turns w even found x → HasTurned v even x
+pub turned : (v w x : View) (even found : ℕ) → found ≡ even → found ≤ 2199023255553 → HasStepped v w → Turns w even found x → HasTurned v even x
 turned v w x even found same small idle a =
     let odd : View → View = λ z. record (trod z H12 Front found) { turn = Some (record { found = even; stored = false }) } in
     let e : x ≡ odd w = a ∙ ap (λ b. cond b (odd w) (trod w H12 Front found)) (eq-eqb found even same) in
-    let whole : x ≡ odd (record v { trail = w.trail }) = e ∙ ap odd idle in
-    record { small = (let s = same in omega arith); view = whole ∙ sym (ap (λ (z : View). record v { turn = Some (record { found = even; stored = false }); trail = z.trail }) whole) }
+    let whole : x ≡ odd (record v { trail = w.trail }) = e ∙ ap odd idle.view in
+    record { small = (let s = same in omega arith); trail = subst (λ (z : View). AddsNoLists v.trail z.trail) (sym whole) (adds_step v.trail w.trail H12 Front found refl idle.trail); view = whole ∙ sym (ap (λ (z : View). record v { turn = Some (record { found = even; stored = false }); trail = z.trail }) whole) }
 
 -- the front was another
-pub not_turned : (v w x : View) (even found : ℕ) → found ≢ even → w ≡ record v { trail = w.trail } → Turns w even found x → x ≡ record v { trail = x.trail }
+pub not_turned : (v w x : View) (even found : ℕ) → found ≢ even → HasStepped v w → Turns w even found x → HasStepped v x
 not_turned v w x even found ne idle a =
     let e : x ≡ trod w H12 Front found = a ∙ ap (λ b. cond b (record (trod w H12 Front found) { turn = Some (record { found = even; stored = false }) }) (trod w H12 Front found)) (ne_eqb found even ne) in
-    let whole : x ≡ trod (record v { trail = w.trail }) H12 Front found = e ∙ ap (λ (z : View). trod z H12 Front found) idle in
-    whole ∙ sym (ap (λ (z : View). record v { trail = z.trail }) whole)
+    let whole : x ≡ trod (record v { trail = w.trail }) H12 Front found = e ∙ ap (λ (z : View). trod z H12 Front found) idle.view in
+    record {
+      trail = subst (λ (z : View). AddsNoLists v.trail z.trail) (sym whole) (adds_step v.trail w.trail H12 Front found refl idle.trail);
+      view = whole ∙ sym (ap (λ (z : View). record v { trail = z.trail }) whole);
+    }
 
 pub even_next : (found : ℕ) → (found + found % 2) % 2 ≡ 0
 even_next found = omega arith
 
-pub still_held : (v w : View) (hold : Hold) → v.hold ≡ Some hold → w ≡ record v { trail = w.trail } → w.hold ≡ Some hold
-still_held v w hold is idle = ap (λ (z : View). z.hold) idle ∙ is
+pub still_held : (v w : View) (hold : Hold) → v.hold ≡ Some hold → HasStepped v w → w.hold ≡ Some hold
+still_held v w hold is idle = ap (λ (z : View). z.hold) idle.view ∙ is
 
 -- after the load of the value
 pub holds_loaded : (capacities : List ℕ) (v x1 : View) (slot key old : ℕ) → (may : MayReplace capacities v slot key) → Loads capacities v (Value slot) old x1 → (hold : Hold) × (x1.hold ≡ Some hold)
 holds_loaded capacities v x1 slot key old may a =
-    (knowing may.hold (Value slot) old, ap (λ (z : View). z.hold) (loaded_more capacities v may.hold v may.hold (not_loaded v may.hold may.finished.0) (Value slot) old x1 a).view)
+    (knowing may.hold (Value slot) old, ap (λ (z : View). z.hold) (loaded_more capacities v may.hold v may.hold (not_loaded v may.hold may.finished.0) (Value slot) old x1 a refl).view)
 
 -- the value was loaded, the front made odd, the value replaced, the front made even, the lock given up
 module _ (capacities : List ℕ) (v x1 x2 : View) (slot key value old even : ℕ) (may : MayReplace capacities v slot key) (a : Loads capacities v (Value slot) old x1) (b : HasTurned x1 even x2) where
@@ -65,7 +80,7 @@ module _ (capacities : List ℕ) (v x1 x2 : View) (slot key value old even : ℕ
   hold1 = knowing may.hold (Value slot) old
 
   loaded1 : HasLoaded v may.hold x1 (knowing may.hold (Value slot) old)
-  loaded1 = loaded_more capacities v may.hold v may.hold (not_loaded v may.hold may.finished.0) (Value slot) old x1 a
+  loaded1 = loaded_more capacities v may.hold v may.hold (not_loaded v may.hold may.finished.0) (Value slot) old x1 a refl
 
   more1 : KnowsMore may.hold.known (knowing may.hold (Value slot) old).known
   more1 = knows_more capacities v may.hold v may.hold (not_loaded v may.hold may.finished.0) (Value slot) old x1 a

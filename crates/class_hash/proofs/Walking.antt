@@ -2,7 +2,6 @@
 use Rattle.std.proofs.Common.{◌≡◌, ◌≢◌, ℕ, ◌==◌, Bool, true, false, cond, List, [], ◌∷◌, ◌++◌, Option, Some, None, IfSome, refl, sym, ap, subst, ◌∙◌}
 use Rattle.std.specs.List.{AllByRecursion}
 use mathlib.Core.List.{IsPrefix}
-use Rattle.prcu_model.specs.declared.mark.Mark.{Mark}
 use Rattle.hash_core.specs.declared.words.Field.{Field}
 use Rattle.hash_core.specs.declared.words.Field.TheVariants.{Head, Free, Key, Next}
 use Rattle.hash_core.specs.declared.words.Kind.TheVariants.{H9}
@@ -13,10 +12,12 @@ use Rattle.hash_core.specs.Memory.{same_field}
 use Rattle.hash_core.specs.Slots.{is_slot_of}
 use Rattle.hash_core.specs.Known.{known_in, knowing, IsWholeWalk, LacksKey, ShowsAbsent, ComesTo, IsOnWalk}
 use Rattle.hash_core.specs.Steps.{trod, after9}
-use Rattle.prcu_model.proofs.ListFacts.{prefix_self, prefix_more, prefix_trans}
+use Rattle.prcu_model.proofs.ListFacts.{prefix_self, prefix_trans}
+use Rattle.class_hash.proofs.Trails.{adds_none, adds_step}
 use Rattle.hash_core.proofs.Stores.{same_self, same_is}
 use Rattle.class_hash.specs.Answers.{IsLinkOf}
 use Rattle.class_hash.specs.Stepped.{Loads}
+use Rattle.class_hash.specs.Trails.{loads_free, AddsNoLists}
 use Rattle.class_hash.specs.Walks.{KnowsMore, HasLoaded, ComesOver, IsLinkedFrom, IsWalking, IsFoundAt}
 
 -- what was loaded is known, and all that was known before
@@ -63,7 +64,7 @@ comes_to known first (s ∷ ss) slot ne c = (c.0, c.1, (c.2.0, c.2.1, comes_to k
 
 -- nothing was loaded yet
 pub not_loaded : (v : View) (hold : Hold) → v.hold ≡ Some hold → HasLoaded v hold v hold
-not_loaded v hold was = record { was = was; more = λ f n is. is; only = refl; seen = prefix_self v.seen; view = λ j. record v { hold = was j } }
+not_loaded v hold was = record { was = was; more = λ f n is. is; only = refl; trail = adds_none v.trail; seen = prefix_self v.seen; view = λ j. record v { hold = was j } }
 
 -- one more load
 module _ (capacities : List ℕ) (v : View) (hold : Hold) (w : View) (now : Hold) (loaded : HasLoaded v hold w now) (field : Field) (n : ℕ) (x : View) (s : Loads capacities w field n x) where
@@ -85,14 +86,15 @@ module _ (capacities : List ℕ) (v : View) (hold : Hold) (w : View) (now : Hold
   after : x ≡ after9 (trod w H9 field n) now field n s.2.0
   after = s.2.2 ∙ ap (λ (z : Hold). after9 (trod w H9 field n) z field n s.2.0) same_hold
 
-  pub loaded_more : HasLoaded v hold x (knowing now field n)
-  loaded_more =
+  pub loaded_more : loads_free H9 field ≡ false → HasLoaded v hold x (knowing now field n)
+  loaded_more plain =
       let there : View = after9 (trod w H9 field n) now field n s.2.0 in
       let longer : IsPrefix v.seen s.2.0 = prefix_trans v.seen w.seen s.2.0 loaded.seen s.2.1 in
       record {
         was = loaded.was;
         more = λ f number is. knows_more f number (loaded.more f number is);
         only = λ j. record (loaded.only j) { known = record { field = field; number = n } ∷ now.known };
+        trail = subst (λ (z : View). AddsNoLists v.trail z.trail) (sym after) (adds_step v.trail w.trail H9 field n plain loaded.trail);
         seen = subst (λ (z : View). IsPrefix v.seen z.seen) (sym after) (by (n == 0) longer);
         view = after ∙ (λ j. record (loaded.view j) { hold = Some (knowing now field n); trail = there.trail; seen = there.seen }) ∙ (λ j. record v { hold = Some (knowing now field n); trail = (sym after j).trail; seen = (sym after j).seen });
       }
@@ -102,7 +104,7 @@ module _ (capacities : List ℕ) (v : View) (hold : Hold) (w : View) (now : Hold
       by false longer = loaded.seen
 
   pub holds_then : x.hold ≡ Some (knowing now field n)
-  holds_then = ap (λ (z : View). z.hold) loaded_more.view
+  holds_then = ap (λ (z : View). z.hold) after
 
 -- the walk at its start
 pub walk_begins : (capacities : List ℕ) (key : ℕ) (v : View) (hold : Hold) → v.hold ≡ Some hold → (class : ℕ) → class ≡ hold.class → (link : ℕ) (x : View) → Loads capacities v (Head class) link x
@@ -111,7 +113,7 @@ walk_begins capacities key v hold was class same link x s =
     let none : HasLoaded v hold v hold = not_loaded v hold was in
     let head : known_in (knowing hold (Head class) link).known (Head hold.class) ≡ Some link = subst (λ z. known_in (knowing hold (Head class) link).known (Head z) ≡ Some link) same (known_here hold (Head class) link) in (
       knowing hold (Head class) link,
-      loaded_more capacities v hold v hold none (Head class) link x s,
+      loaded_more capacities v hold v hold none (Head class) link x s refl,
       record { first = link; passed = []; head = head; comes = refl; lacks = tt; from = head; slot = link_now capacities v hold v hold none (Head class) link x s; before = tt },
     )
 
@@ -152,7 +154,7 @@ module _ (capacities : List ℕ) (key : ℕ) (v : View) (hold : Hold) (w : View)
   pub walk_found : k ≡ key → (new : Hold) × HasLoaded v hold x new × IsFoundAt key new previous slot × (is_slot_of capacities hold.class slot ≡ true) × IfSome previous (λ p. is_slot_of capacities hold.class p ≡ true)
   walk_found e = (
     knowing now (Key slot) k,
-    loaded_more capacities v hold w now loaded (Key slot) k x s,
+    loaded_more capacities v hold w now loaded (Key slot) k x s refl,
     record { some = some_slot; on = on_then; from = from_then previous walk.from; key_is = known_here now (Key slot) k ∙ ap Some e },
     subst (λ z. is_slot_of capacities z slot ≡ true) same_class of_class,
     subst (λ z. IfSome previous (λ p. is_slot_of capacities z p ≡ true)) same_class walk.before,
@@ -164,12 +166,12 @@ module _ (capacities : List ℕ) (key : ℕ) (v : View) (hold : Hold) (w : View)
 
   pub walk_passes : k ≢ key → (next : ℕ) (y : View) → Loads capacities x (Next slot) next y → (new : Hold) × HasLoaded v hold y new × IsWalking capacities key new (Some slot) next
   walk_passes not next y t =
-      let here : HasLoaded v hold x (knowing now (Key slot) k) = loaded_more capacities v hold w now loaded (Key slot) k x s in
+      let here : HasLoaded v hold x (knowing now (Key slot) k) = loaded_more capacities v hold w now loaded (Key slot) k x s refl in
       let further : KnowsMore (knowing now (Key slot) k).known (knowing (knowing now (Key slot) k) (Next slot) next).known = knows_more capacities v hold x (knowing now (Key slot) k) here (Next slot) next y t in
       let next_is : known_in (knowing (knowing now (Key slot) k) (Next slot) next).known (Next slot) ≡ Some next = known_here (knowing now (Key slot) k) (Next slot) next in
       let both : KnowsMore now.known (knowing (knowing now (Key slot) k) (Next slot) next).known = (λ f n e. further f n (more f n e)) in (
         knowing (knowing now (Key slot) k) (Next slot) next,
-        loaded_more capacities v hold x (knowing now (Key slot) k) here (Next slot) next y t,
+        loaded_more capacities v hold x (knowing now (Key slot) k) here (Next slot) next y t refl,
         record {
           first = walk.first;
           passed = walk.passed ++ slot ∷ [];

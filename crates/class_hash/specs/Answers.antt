@@ -1,13 +1,16 @@
 -- What a step tells from the rule.
 -- Source: docs/ALGORITHM.md, "The steps of the hash dictionary".
-use Rattle.std.specs.Prelude.{◌≡◌, ◌≢◌, ℕ, ◌%◌, true, List, Some, None}
+use Rattle.std.specs.Prelude.{◌≡◌, ◌≢◌, ℕ, ◌+◌, ◌%◌, ◌<◌, ◌≤◌, true, List, [], Some, None}
 use Rattle.prcu_model.specs.declared.mark.Mark.{Mark}
 use Rattle.hash_core.specs.declared.words.Field.{Field}
 use Rattle.hash_core.specs.declared.words.Field.TheVariants.{Head, Free, Retired, Next}
 use Rattle.hash_core.specs.declared.view.Stand.TheVariants.{Ended}
 use Rattle.hash_core.specs.declared.view.Section.{Section}
 use Rattle.hash_core.specs.declared.view.Hold.{Hold}
-use Rattle.prcu_model.specs.Marks.{updates_of}
+use Rattle.prcu_model.specs.Marks.{updates_of, own_of}
+use Rattle.prcu_model.specs.History.{IsLegal}
+use Rattle.hash_core.specs.declared.view.View.{View}
+use Rattle.hash_core.specs.Seats.{HasHeard, AnswersFor}
 use Rattle.hash_core.specs.Slots.{capacity, is_slot_of}
 use Rattle.hash_core.specs.Pairs.{HasPairs}
 use Rattle.prcu_model.specs.Dictionary.{map_of}
@@ -25,6 +28,23 @@ pub record GivesAnswer (seen : List Mark) (section : Section) : Type 0 where
 -- the slot at which the search stands is one of its class
 abbrev pub StandsInClass : List ℕ → Section → Type 0
 StandsInClass capacities section = (slot : ℕ) → StandsAt section.stand slot → is_slot_of capacities (section.key % 64) slot ≡ true
+
+-- What a seat has seen, which works at a place: its updates are a history; the marks of each place for which it answers are
+-- those that it has; and places that the table hasn't have none.
+pub record IsInformed (places : ℕ) (v : View) : Type 0 where
+  pub works : 1 ≤ v.places
+  pub heard : HasHeard v
+  pub legal : IsLegal (updates_of v.seen)
+  pub met : (p : ℕ) → AnswersFor v p → own_of p v.seen ≡ own_of p v.own
+  pub within : (p : ℕ) → places ≤ p → own_of p v.seen ≡ []
+
+-- The number is a place of the table plus 1, and this view doesn't answer for that place.
+abbrev pub IsPlaceOfOther : ℕ → View → ℕ → Type 0
+IsPlaceOfOther places v found = (place : ℕ) × (found ≡ place + 1) × (place < places) × (AnswersFor v place → ⊥)
+
+-- where a lock isn't free, it names the place of who holds it
+abbrev pub IsHeldByOther : ℕ → View → ℕ → Type 0
+IsHeldByOther places v found = found ≢ 0 → IsPlaceOfOther places v found
 
 -- a link is 0 or a slot of the class
 abbrev pub IsLink : List ℕ → ℕ → ℕ → Type 0

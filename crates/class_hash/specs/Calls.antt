@@ -13,13 +13,13 @@ use Rattle.class_hash.specs.declared.bucket.Lock.{Lock}
 use Rattle.class_hash.specs.declared.bucket.Lock.TheVariants.{Held, Busy}
 use Rattle.class_hash.specs.declared.bucket.Poll.{Poll}
 use Rattle.class_hash.specs.declared.bucket.Poll.TheVariants.{Over, NotYet}
-use Rattle.class_hash.specs.Answers.{IsLink, IsFull}
+use Rattle.class_hash.specs.Answers.{IsPlaceOfOther, IsLink, IsFull}
 use Rattle.class_hash.specs.Stepped.{Locks}
 
 -- The one exchange of the lock found 0, or it found the place plus 1 of who holds it.
-abbrev pub Tries : View → ℕ → Lock → View → Type 0
-Tries v class Held w = Locks v class 0 w
-Tries v class (Busy found) w = (found ≢ 0) × Locks v class found w
+abbrev pub Tries : ℕ → View → ℕ → Lock → View → Type 0
+Tries places v class Held w = Locks v class 0 w
+Tries places v class (Busy found) w = IsPlaceOfOther places v found × Locks v class found w
 
 -- a bucket's lock is held, and what was begun there is finished
 abbrev pub HasFinished : View → Type 0

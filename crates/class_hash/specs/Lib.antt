@@ -5,9 +5,11 @@ pub mod Added
 pub mod Answers
 pub mod Stepped
 pub mod Told
+pub mod Trails
 pub mod Lookups
 pub mod Calls
 pub mod Walks
 pub mod Replies
 pub mod Updates
 pub mod Puts
+pub mod Clients

@@ -11,11 +11,13 @@ use Rattle.prcu_model.specs.Marks.{updates_of}
 use Rattle.hash_core.specs.Readers.{WasSaid}
 use Rattle.hash_core.specs.Steps.{link_stand}
 use Rattle.hash_core.specs.Slots.{is_slot_of}
+use Rattle.class_hash.specs.Trails.{LoadNoLists}
 
 -- A section with the key was entered after these marks, and its search stands there.
 pub record IsSearching (v : View) (key : ℕ) (stand : Stand) (loaded : Option ℕ) (w : View) : Type 0 where
   pub before : List Mark
   pub steps : List Trod
+  pub plain : LoadNoLists steps
   pub since : IsPrefix v.seen before
   pub view : w ≡ record v {
     section = Some (record { key = key; count = v.sections; entered = length before; from = length (updates_of before); stand = stand; loaded = loaded });
@@ -35,6 +37,7 @@ pub record Looked (v : View) (key : ℕ) (answer : Option ℕ) (w : View) : Type
   pub before : List Mark
   pub until : List Mark
   pub steps : List Trod
+  pub plain : LoadNoLists steps
   pub since : IsPrefix v.seen before
   pub within : IsPrefix (before ++ Entered v.place v.sections key ∷ []) until
   pub view : w ≡ record v {

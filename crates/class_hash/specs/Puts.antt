@@ -1,6 +1,6 @@
 -- What a put makes of a view, under a bucket's lock.
 -- Source: docs/ALGORITHM.md, "The calls of the hash dictionary".
-use Rattle.std.specs.Prelude.{◌≡◌, ℕ, ◌-◌, ◌%◌, ◌≤◌, true, List, [], ◌∷◌, ◌++◌, length, Some, None}
+use Rattle.std.specs.Prelude.{◌≡◌, ◌≢◌, ℕ, ◌-◌, ◌%◌, ◌≤◌, true, List, [], ◌∷◌, ◌++◌, length, Some, None}
 use mathlib.Core.List.{IsPrefix}
 use Rattle.prcu_model.specs.declared.mark.Mark.{Mark}
 use Rattle.prcu_model.specs.declared.mark.Mark.TheVariants.{Done, Given}
@@ -14,6 +14,7 @@ use Rattle.hash_core.specs.Slots.{is_slot_of}
 use Rattle.hash_core.specs.Known.{known_in, ShowsAbsent}
 use Rattle.hash_core.specs.Steps.{Needs7}
 use Rattle.class_hash.specs.Stepped.{Unlocks}
+use Rattle.class_hash.specs.Trails.{AddsNoLists}
 use Rattle.class_hash.specs.Calls.{Lists, polled}
 
 -- After some looks for readers, the retired list became the free list.
@@ -22,9 +23,20 @@ pub record HasPolled (v w : View) : Type 0 where
   pub is : v.hold ≡ Some hold
   pub first : ℕ
   pub retired : known_in hold.known (Retired hold.class) ≡ Some first
+  pub trail : AddsNoLists v.trail w.trail
   pub view : w ≡ record v { hold = Some (polled hold first); trail = w.trail }
 
--- Under the lock, with nothing begun, the first free slot is known. What was known to be absent is so still.
+-- The free and the retired word of the class were loaded, and one of them wasn't 0. They weren't loaded again.
+pub record HasSeenRoom (capacities : List ℕ) (v w : View) : Type 0 where
+  pub listed : View
+  pub free : ℕ
+  pub retired : ℕ
+  pub lists : Lists capacities v free retired listed
+  pub some : free ≡ 0 → retired ≢ 0
+  pub trail : AddsNoLists listed.trail w.trail
+
+-- Under the lock, with nothing begun, the first free slot is known, after the lists were not both found empty. What was known to
+-- be absent is so still.
 pub record HasFree (capacities : List ℕ) (v : View) (slot : ℕ) (w : View) : Type 0 where
   pub hold : Hold
   pub new : Hold
@@ -34,6 +46,7 @@ pub record HasFree (capacities : List ℕ) (v : View) (slot : ℕ) (w : View) : 
   pub first : known_in new.known (Free new.class) ≡ Some slot
   pub slot_is : is_slot_of capacities hold.class slot ≡ true
   pub absent : (key : ℕ) → ShowsAbsent hold key → ShowsAbsent new key
+  pub room : HasSeenRoom capacities v w
   pub seen : IsPrefix v.seen w.seen
   pub view : w ≡ record v { hold = Some new; trail = w.trail; seen = w.seen }
 
@@ -77,6 +90,7 @@ pub record Filled (v : View) (slot key value : ℕ) (w : View) : Type 0 where
   pub before : List Mark
   pub since : IsPrefix v.seen before
   pub may : MayLink w slot key value
+  pub trail : AddsNoLists v.trail w.trail
   pub view : w ≡ record v { hold = w.hold; trail = w.trail; seen = before ++ Given slot ∷ [] }
 
 -- The one update of the call was made as the last of the history so far, which is as long as the number, and the lock was
@@ -100,11 +114,12 @@ pub record HasGiven (first : List Mark) (slot : ℕ) (last : List Mark) : Type 0
   pub since : IsPrefix first before
   pub until : IsPrefix (before ++ Given slot ∷ []) last
 
--- As where a pair is linked; and before that its slot was given.
-pub record Added (v : View) (key value number : ℕ) (w : View) : Type 0 where
+-- As where a pair is linked; before that its slot was given, and before that the lists were not both found empty.
+pub record Added (capacities : List ℕ) (v : View) (key value number : ℕ) (w : View) : Type 0 where
   pub linked : Linked v key value number w
   pub slot : ℕ
   pub given : HasGiven v.seen slot linked.before
+  pub room : HasSeenRoom capacities v w
 
 -- The free and the retired word of the class were loaded as 0, and then the lock was given up.
 abbrev pub LeavesFull : List ℕ → View → View → Type 0

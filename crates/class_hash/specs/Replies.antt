@@ -1,6 +1,6 @@
 -- What the calls of the dictionary are told.
 -- Source: docs/ALGORITHM.md, "The calls of the hash dictionary".
-use Rattle.std.specs.Prelude.{◌≡◌, ℕ, ◌-◌, ◌%◌, List, [], ◌∷◌, ◌++◌, length, Option, Some, None}
+use Rattle.std.specs.Prelude.{◌≡◌, ℕ, ◌-◌, ◌%◌, ◌≤◌, List, [], ◌∷◌, ◌++◌, length, Option, Some, None}
 use Rattle.prcu_model.specs.declared.operation.Reply.{Reply}
 use Rattle.prcu_model.specs.declared.operation.Reply.TheVariants.{New, Old, Full, Val, Absent, Gone, Was}
 use Rattle.std.specs.List.{AllByRecursion}
@@ -10,7 +10,8 @@ use Rattle.prcu_model.specs.declared.mark.Mark.{Mark}
 use Rattle.prcu_model.specs.declared.mark.Mark.TheVariants.{Entered, Left, Done, Unlinked}
 use Rattle.prcu_model.specs.declared.operation.Op.{Op}
 use Rattle.prcu_model.specs.declared.operation.Op.TheVariants.{Put, Set, Del}
-use Rattle.prcu_model.specs.Dictionary.{map_of}
+use Rattle.prcu_model.specs.Dictionary.{key_of, map_of}
+use Rattle.prcu_model.specs.Callers.{entered_for}
 use Rattle.prcu_model.specs.History.{IsLegal}
 use Rattle.prcu_model.specs.Marks.{updates_of}
 use Rattle.prcu_model.specs.declared.operation.Told.{Told}
@@ -19,8 +20,9 @@ use Rattle.hash_core.specs.declared.view.View.{View}
 use Rattle.hash_core.specs.Slots.{capacity}
 use Rattle.hash_core.specs.Pairs.{HasPairs}
 use Rattle.hash_core.specs.Known.{ShowsAbsent}
+use Rattle.class_hash.specs.Trails.{AddsNoLists}
 use Rattle.class_hash.specs.Lookups.{Looked}
-use Rattle.class_hash.specs.Puts.{HasGiven, LeavesFull}
+use Rattle.class_hash.specs.Puts.{HasGiven, HasSeenRoom, LeavesFull}
 
 -- what a get is told
 abbrev pub told_of : Option ℕ → Told
@@ -31,25 +33,26 @@ told_of (Some value) = record { reply = Val value; number = 0 }
 abbrev pub Gets : View → ℕ → Told → View → Type 0
 Gets v key told w = (answer : Option ℕ) × (told ≡ told_of answer) × Looked v key answer w
 
--- a mark of a section
-abbrev pub IsOfSection : Mark → Type 0
-IsOfSection (Entered p c x) = Unit {0}
-IsOfSection (Left p c) = Unit {0}
-IsOfSection _ = ⊥
+-- a mark of a section with the key at the place
+abbrev pub IsOfSection : ℕ → ℕ → Mark → Type 0
+IsOfSection place key (Entered p c x) = (p ≡ place) × (x ≡ key)
+IsOfSection place key (Left p c) = p ≡ place
+IsOfSection place key _ = ⊥
 
--- Some sections were entered and left, and nothing else has changed but what was seen and done.
-pub record HasTried (v w : View) : Type 0 where
+-- Some sections with the key were entered and left, and nothing else has changed but what was seen and done.
+pub record HasTried (v : View) (key : ℕ) (w : View) : Type 0 where
   pub marks : List Mark
-  pub plain : AllByRecursion IsOfSection marks
+  pub plain : AllByRecursion (IsOfSection v.place key) marks
   pub own : w.own ≡ v.own ++ marks
   pub seen : IsPrefix v.seen w.seen
   pub view : w ≡ record v { sections = w.sections; own = w.own; trail = w.trail; seen = w.seen }
 
 -- The one update of the call was made, as the last of the history so far, which is as long as the number. It used a ticket.
--- No other mark than these came with it.
+-- No other mark than these came with it, and those of one section at least.
 pub record HasUpdated (v : View) (op : Op) (before more : List Mark) (number : ℕ) (w : View) : Type 0 where
   pub marks : List Mark
-  pub plain : AllByRecursion IsOfSection marks
+  pub plain : AllByRecursion (IsOfSection v.place (key_of op)) marks
+  pub searched : 1 ≤ entered_for v.place (key_of op) marks
   pub own : w.own ≡ (v.own ++ marks) ++ Done (record { caller = v.place; op = op }) ∷ []
   pub since : IsPrefix v.seen before
   pub seen : w.seen ≡ before ++ Done (record { caller = v.place; op = op }) ∷ more
@@ -60,7 +63,7 @@ pub record HasUpdated (v : View) (op : Op) (before more : List Mark) (number : �
 -- A set is told Absent where its last search found nothing, and made no update. It is told the old value where it made its
 -- update: the dictionary gave the key that value just before.
 abbrev pub SetsBy : View → ℕ → ℕ → Reply → ℕ → View → Type 0
-SetsBy v key value Absent number w = (u : View) × HasTried v u × Looked u key None w × (number ≡ 0)
+SetsBy v key value Absent number w = (u : View) × HasTried v key u × Looked u key None w × (number ≡ 0)
 SetsBy v key value (Was old) number w = (before : List Mark) × HasUpdated v (Set key value) before [] number w × (finite.get (map_of (updates_of before)) key ≡ Some old)
 SetsBy v key value _ number w = ⊥
 
@@ -69,7 +72,7 @@ Sets v key value told w = SetsBy v key value told.reply told.number w
 
 -- A del is told Absent as a set is. It is told Gone where it made its update and unlinked the key's slot.
 abbrev pub DelsBy : View → ℕ → Reply → ℕ → View → Type 0
-DelsBy v key Absent number w = (u : View) × HasTried v u × Looked u key None w × (number ≡ 0)
+DelsBy v key Absent number w = (u : View) × HasTried v key u × Looked u key None w × (number ≡ 0)
 DelsBy v key Gone number w = (before : List Mark) × (slot : ℕ) × HasUpdated v (Del key) before (Unlinked slot ∷ []) number w
 DelsBy v key _ number w = ⊥
 
@@ -81,6 +84,7 @@ pub record HasWalked (v : View) (key : ℕ) (w : View) : Type 0 where
   pub hold : Hold
   pub class : hold.class ≡ key % 64
   pub absent : ShowsAbsent hold key
+  pub trail : AddsNoLists v.trail w.trail
   pub seen : IsPrefix v.seen w.seen
   pub view : w ≡ record v { sections = w.sections; hold = Some hold; own = w.own; trail = w.trail; seen = w.seen }
 
@@ -95,12 +99,12 @@ told_added None = record { reply = Full; number = 0 }
 told_added (Some number) = record { reply = New; number = number }
 
 -- A put is told Old where its last search found the key, and made no update. It is told New where it was given a slot and made
--- its update. It is told Full where it made no update, and under the lock, where the key was absent, found no free slot and no
--- retired one: so the class had no room.
+-- its update; under the lock, where the key was absent, it had found a free slot or a retired one. It is told Full where it made
+-- no update, and under the lock, where the key was absent, found no free slot and no retired one: so the class had no room.
 abbrev pub PutsBy : List ℕ → View → ℕ → ℕ → Reply → ℕ → View → Type 0
-PutsBy capacities v key value Old number w = (u : View) × HasTried v u × ((old : ℕ) × Looked u key (Some old) w) × (number ≡ 0)
-PutsBy capacities v key value New number w = (before : List Mark) × (slot : ℕ) × HasUpdated v (Put key value) before [] number w × HasGiven v.seen slot before
-PutsBy capacities v key value Full number w = HasTried v w × ((u : View) × HasWalked v key u × LeavesFull capacities u w) × HasNoRoom capacities key w.seen × (number ≡ 0)
+PutsBy capacities v key value Old number w = (u : View) × HasTried v key u × ((old : ℕ) × Looked u key (Some old) w) × (number ≡ 0) × AddsNoLists v.trail w.trail
+PutsBy capacities v key value New number w = (before : List Mark) × (slot : ℕ) × HasUpdated v (Put key value) before [] number w × HasGiven v.seen slot before × ((u : View) × HasWalked v key u × HasSeenRoom capacities u w)
+PutsBy capacities v key value Full number w = ((tried : HasTried v key w) × (1 ≤ entered_for v.place key tried.marks)) × ((u : View) × HasWalked v key u × LeavesFull capacities u w) × HasNoRoom capacities key w.seen × (number ≡ 0)
 PutsBy capacities v key value _ number w = ⊥
 
 abbrev pub Puts : List ℕ → View → ℕ → ℕ → Told → View → Type 0

@@ -16,15 +16,23 @@ use Rattle.prcu_model.specs.Marks.{updates_of}
 use Rattle.hash_core.specs.Slots.{is_slot_of, IsOfClass}
 use Rattle.hash_core.specs.Known.{known_in, IsOnWalk}
 use Rattle.hash_core.specs.Steps.{fresh_hold, Needs7}
+use Rattle.class_hash.specs.Trails.{AddsNoLists}
 use Rattle.class_hash.specs.Walks.{IsFoundAt}
 
--- a bucket's lock was taken, after some steps
-abbrev pub HasLocked : View → ℕ → View → Type 0
-HasLocked v class w = w ≡ record v { hold = Some (fresh_hold class); trail = w.trail }
+-- Some steps were made, and nothing else has changed.
+pub record HasStepped (v w : View) : Type 0 where
+  pub trail : AddsNoLists v.trail w.trail
+  pub view : w ≡ record v { trail = w.trail }
+
+-- A bucket's lock was taken, after some steps.
+pub record HasLocked (v : View) (class : ℕ) (w : View) : Type 0 where
+  pub trail : AddsNoLists v.trail w.trail
+  pub view : w ≡ record v { hold = Some (fresh_hold class); trail = w.trail }
 
 -- the front was made odd, after some steps
 pub record HasTurned (v : View) (even : ℕ) (w : View) : Type 0 where
   pub small : even ≤ 2199023255553
+  pub trail : AddsNoLists v.trail w.trail
   pub view : w ≡ record v { turn = Some (record { found = even; stored = false }); trail = w.trail }
 
 -- Under the lock, with nothing begun, the slot is on the known walk and has the key; and a ticket is left.

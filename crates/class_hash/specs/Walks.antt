@@ -9,6 +9,7 @@ use Rattle.hash_core.specs.declared.view.Known.{Known}
 use Rattle.hash_core.specs.declared.view.View.{View}
 use Rattle.hash_core.specs.Slots.{is_slot_of}
 use Rattle.hash_core.specs.Known.{known_in, LacksKey, IsOnWalk}
+use Rattle.class_hash.specs.Trails.{AddsNoLists}
 
 -- what is known in the first is known in the second
 abbrev pub KnowsMore : List Known → List Known → Type 0
@@ -19,6 +20,7 @@ pub record HasLoaded (v : View) (hold : Hold) (w : View) (new : Hold) : Type 0 w
   pub was : v.hold ≡ Some hold
   pub more : KnowsMore hold.known new.known
   pub only : new ≡ record hold { known = new.known }
+  pub trail : AddsNoLists v.trail w.trail
   pub seen : IsPrefix v.seen w.seen
   pub view : w ≡ record v { hold = Some new; trail = w.trail; seen = w.seen }
 

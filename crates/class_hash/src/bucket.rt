@@ -1,6 +1,7 @@
 //! Buckets: their locks, their lists, and the wait for the readers of their class.
 ghost use Rattle.std.specs.Prelude.{◌≡◌, ◌<◌, None};
 ghost use Rattle.hash_core.specs.Steps.{IsQuiet};
+ghost use Rattle.class_hash.specs.Answers.{IsInformed};
 ghost use Rattle.class_hash.specs.Stepped.{Unlocks};
 ghost use Rattle.class_hash.specs.Calls.{Tries, HasFinished, Lists, MayPoll, Polls};
 
@@ -34,7 +35,7 @@ pub fn try_bucket(table: &HashTable, seat: &mut HashSeat, class: u32) -> Lock
     requires quiet { IsQuiet seat.old.view }
     requires class { class < 64 }
     ensures table { seat.new.table ≡ seat.old.table }
-    ensures view { Tries seat.old.view class result seat.new.view }
+    ensures view { Tries table.now.places seat.old.view class result seat.new.view }
     ensures turn { seat.old.view.turn ≡ None }
 {
     match h6(table, seat, class) {
@@ -49,6 +50,7 @@ pub fn free_bucket(table: &HashTable, seat: &mut HashSeat)
     requires finished { HasFinished seat.old.view }
     ensures table { seat.new.table ≡ seat.old.table }
     ensures view { Unlocks seat.old.view seat.new.view }
+    ensures informed { IsInformed table.now.places seat.new.view }
 {
     h7(table, seat);
 }

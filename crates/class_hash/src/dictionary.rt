@@ -1,6 +1,9 @@
 //! The calls of the dictionary.
-ghost use Rattle.std.specs.Prelude.{◌≡◌, ◌≤◌};
+ghost use Rattle.std.specs.Prelude.{◌≡◌, ◌≤◌, ◌%◌, ◌↔◌};
+ghost use Rattle.prcu_model.specs.declared.operation.Reply.TheVariants.{Full};
 ghost use Rattle.hash_core.specs.Steps.{IsQuiet};
+ghost use Rattle.class_hash.specs.Answers.{IsInformed};
+ghost use Rattle.class_hash.specs.Trails.{LoadsBothEmpty};
 ghost use Rattle.class_hash.specs.Replies.{Gets, told_added, Puts, Sets, Dels};
 
 use crate::bucket::free_bucket;
@@ -9,7 +12,7 @@ use crate::search::search;
 use crate::seat::HashSeat;
 use crate::table::HashTable;
 use crate::updates::{lock_bucket, replace, unlink};
-use crate::walk::walk_locked;
+use crate::walk::{lacks, walk_locked};
 use prcu_model::{Reply, Told};
 use std::sync::Wait;
 
@@ -35,6 +38,8 @@ pub fn get<R: Wait>(rt: &R, table: &HashTable, seat: &mut HashSeat, key: u64) ->
     requires quiet { IsQuiet seat.old.view }
     ensures table { seat.new.table ≡ seat.old.table }
     ensures view { Gets seat.old.view key result seat.new.view }
+    ensures informed { IsInformed table.now.places seat.new.view }
+    ensures quiet { IsQuiet seat.new.view }
 {
     match search(rt, table, seat, key) {
         Some(value) => told(Reply::Val { value }, 0),
@@ -51,15 +56,18 @@ pub fn put<R: Wait>(rt: &R, table: &HashTable, seat: &mut HashSeat, key: u64, va
     requires ticket { 1 ≤ seat.old.view.tickets }
     ensures table { seat.new.table ≡ seat.old.table }
     ensures view { Puts table.now.capacities seat.old.view key value result seat.new.view }
+    ensures full { (result.reply ≡ Full) ↔ LoadsBothEmpty (key % 64) seat.old.view.trail seat.new.view.trail }
+    ensures informed { IsInformed table.now.places seat.new.view }
+    ensures quiet { IsQuiet seat.new.view }
 {
     for _ in rt.forever() {
         if search(rt, table, seat, key).is_some() {
             return told(Reply::Old, 0);
         }
         lock_bucket(rt, table, seat, (key % 64) as u32);
-        let Some(_) = walk_locked(rt, table, seat, key) else {
+        if lacks(rt, table, seat, key) {
             return told_added(add(rt, table, seat, key, value));
-        };
+        }
         free_bucket(table, seat);
     }
     unreachable!()
@@ -73,6 +81,8 @@ pub fn set<R: Wait>(rt: &R, table: &HashTable, seat: &mut HashSeat, key: u64, va
     requires ticket { 1 ≤ seat.old.view.tickets }
     ensures table { seat.new.table ≡ seat.old.table }
     ensures view { Sets seat.old.view key value result seat.new.view }
+    ensures informed { IsInformed table.now.places seat.new.view }
+    ensures quiet { IsQuiet seat.new.view }
 {
     for _ in rt.forever() {
         if search(rt, table, seat, key).is_none() {
@@ -96,6 +106,8 @@ pub fn del<R: Wait>(rt: &R, table: &HashTable, seat: &mut HashSeat, key: u64) ->
     requires ticket { 1 ≤ seat.old.view.tickets }
     ensures table { seat.new.table ≡ seat.old.table }
     ensures view { Dels seat.old.view key result seat.new.view }
+    ensures informed { IsInformed table.now.places seat.new.view }
+    ensures quiet { IsQuiet seat.new.view }
 {
     for _ in rt.forever() {
         if search(rt, table, seat, key).is_none() {

@@ -3,6 +3,7 @@
 #![tactic(auto)]
 
 mod bucket;
+mod client;
 mod dictionary;
 mod puts;
 mod rule;
@@ -16,6 +17,7 @@ mod updates;
 mod walk;
 
 pub use bucket::{Lock, Poll, free_bucket, lists, poll_class, try_bucket};
+pub use client::{HashClient, chains_meet_fronts};
 pub use dictionary::{del, get, put, set};
 pub use seat::HashSeat;
 pub use sections::{enter, leave};

@@ -1,5 +1,7 @@
 //! A pair added under a bucket's lock.
 ghost use Rattle.std.specs.Prelude.{◌≡◌, ◌≢◌, IfNone, IfSome};
+ghost use Rattle.class_hash.specs.Answers.{IsInformed};
+ghost use Rattle.class_hash.specs.Trails.{AddsNoLists};
 ghost use Rattle.class_hash.specs.Calls.{HasFinished, Lists, MayPoll};
 ghost use Rattle.class_hash.specs.Puts.{HasPolled, HasFree, MayAdd, MayFill, MayLink, Filled, Linked, Added, LeavesFull};
 
@@ -79,6 +81,8 @@ fn link<R: Wait>(
     requires case { MayLink seat.old.view slot key value }
     ensures table { seat.new.table ≡ seat.old.table }
     ensures view { Linked seat.old.view key value result seat.new.view }
+    ensures trail { AddsNoLists seat.old.view.trail seat.new.view.trail }
+    ensures informed { IsInformed table.now.places seat.new.view }
 {
     let even = turn_front(rt, table, seat);
     h13(table, seat, even, slot, key, value);
@@ -100,7 +104,8 @@ pub(crate) fn add<R: Wait>(
     requires case { MayAdd seat.old.view key }
     ensures table { seat.new.table ≡ seat.old.table }
     ensures full { IfNone result (LeavesFull table.now.capacities seat.old.view seat.new.view) }
-    ensures added { IfSome result (λ number. Added seat.old.view key value number seat.new.view) }
+    ensures added { IfSome result (λ number. Added table.now.capacities seat.old.view key value number seat.new.view) }
+    ensures informed { IsInformed table.now.places seat.new.view }
 {
     let free = find_free(rt, table, seat);
     if free == 0 {

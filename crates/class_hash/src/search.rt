@@ -4,6 +4,7 @@ ghost use Rattle.hash_core.specs.declared.view.Stand.TheVariants.{Start, Unread,
 ghost use Rattle.hash_core.specs.declared.view.View.{View};
 ghost use Rattle.hash_core.specs.Slots.{is_slot_of};
 ghost use Rattle.hash_core.specs.Steps.{IsQuiet};
+ghost use Rattle.class_hash.specs.Answers.{IsInformed};
 ghost use Rattle.class_hash.specs.Lookups.{IsSearching, IsAtLink, Looked};
 
 use crate::seat::HashSeat;
@@ -23,6 +24,7 @@ pub(crate) fn search<R: Wait>(
     requires quiet { IsQuiet seat.old.view }
     ensures table { seat.new.table ≡ seat.old.table }
     ensures view { Looked seat.old.view key result seat.new.view }
+    ensures informed { IsInformed table.now.places seat.new.view }
 {
     h3(table, seat, key);
     let answer = walk_unlocked(rt, table, seat, key);

@@ -1,15 +1,17 @@
 //! The seats on the table, and how they are split and joined.
 ghost use Rattle.std.specs.Prelude.{◌≡◌, ℕ, ◌+◌, ◌%◌, ◌<◌, ◌≤◌, Some};
+ghost use mathlib.Core.List.{IsPrefix};
 ghost use Rattle.hash_core.specs.declared.view.Section.{Section};
 ghost use Rattle.hash_core.specs.declared.view.Hold.{Hold};
 ghost use Rattle.hash_core.specs.declared.words.Field.TheVariants.{Front, Retired};
 ghost use Rattle.hash_core.specs.declared.words.Kind.TheVariants.{H2};
 ghost use Rattle.hash_core.specs.Known.{known_in};
 ghost use Rattle.hash_core.specs.Steps.{IsQuiet, first_of, second_of, both_of, trod};
+ghost use Rattle.class_hash.specs.Answers.{IsInformed};
 
 use crate::rule::Nothing;
 use crate::table::HashTable;
-use crate::told::{Cut, Glue, Share, Told2};
+use crate::told::{Cut, Detail, Glue, Share, Told2};
 use atomic_table::Seat;
 use hash_core::View;
 use std::marker::{Brand, Model};
@@ -124,39 +126,53 @@ impl HashSeat {
         cut::<Brand>(self, table, places, tickets)
     }
 
-    /// This seat gets the other's tickets, and has seen what either has. The other's places are spent.
+    /// This seat gets the other's tickets, and has seen what either has. The other's places are spent: this seat answers for
+    /// them now, and has seen all marks of each place for which it answers.
     pub fn join(self, table: &HashTable, other: HashSeat) -> HashSeat
         requires table { (self.table ≡ table.now.id) × (other.table ≡ table.now.id) }
         requires quiet { IsQuiet self.view × IsQuiet other.view }
         ensures table { result.table ≡ self.table }
         ensures view { (front : ℕ) × (result.view ≡ trod (both_of self.view other.view) H2 Front front) }
+        ensures seen { IsPrefix self.view.seen result.view.seen × IsPrefix other.view.seen result.view.seen }
+        ensures informed { IsInformed table.now.places result.view }
     {
-        let HashSeat {
-            mut seat,
-            place,
-            places,
-            tickets,
-            key,
-            bucket,
-        } = self;
-        let HashSeat {
-            seat: theirs,
-            place: _,
-            places: _,
-            tickets: more,
-            key: _,
-            bucket: _,
-        } = other;
-        table.table.shared.join_seat::<Glue>(&mut seat, theirs);
-        table.table.shared.load::<Told2>(&mut seat, 0);
-        HashSeat {
-            seat,
-            place,
-            places,
-            tickets: tickets + more,
-            key,
-            bucket,
-        }
+        glued::<Brand>(self, table, other)
+    }
+}
+
+fn glued<A: Detail>(mine: HashSeat, table: &HashTable, other: HashSeat) -> HashSeat
+    requires picked { A.places ≡ table.now.places }
+    requires table { (mine.table ≡ table.now.id) × (other.table ≡ table.now.id) }
+    requires quiet { IsQuiet mine.view × IsQuiet other.view }
+    ensures table { result.table ≡ mine.table }
+    ensures view { (front : ℕ) × (result.view ≡ trod (both_of mine.view other.view) H2 Front front) }
+    ensures informed { IsInformed table.now.places result.view }
+{
+    let HashSeat {
+        mut seat,
+        place,
+        places,
+        tickets,
+        key,
+        bucket,
+    } = mine;
+    let HashSeat {
+        seat: theirs,
+        place: _,
+        places: _,
+        tickets: more,
+        key: _,
+        bucket: _,
+    } = other;
+    table.table.shared.join_seat::<Glue>(&mut seat, theirs);
+    table.table.shared.load::<Told2<A>>(&mut seat, 0);
+    HashSeat {
+        seat,
+        place,
+        places,
+        tickets: tickets + more,
+        key,
+        bucket,
     }
 }
 

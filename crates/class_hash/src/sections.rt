@@ -2,6 +2,7 @@
 ghost use Rattle.std.specs.Prelude.{◌≡◌, ℕ, Some};
 ghost use Rattle.hash_core.specs.declared.view.Section.{Section};
 ghost use Rattle.hash_core.specs.Steps.{IsQuiet};
+ghost use Rattle.class_hash.specs.Answers.{IsInformed};
 ghost use Rattle.class_hash.specs.Stepped.{Enters, Leaves};
 
 use crate::seat::HashSeat;
@@ -25,6 +26,7 @@ pub fn leave(table: &HashTable, seat: &mut HashSeat)
     requires inside { (section : Section) × (seat.old.view.section ≡ Some section) }
     ensures table { seat.new.table ≡ seat.old.table }
     ensures view { (found : ℕ) × Leaves seat.old.view found seat.new.view }
+    ensures informed { IsInformed table.now.places seat.new.view }
 {
     h4(table, seat);
 }

@@ -3,7 +3,10 @@ use super::*;
 use prcu_model::{Reply, Told};
 use std::test::Fail;
 
-fn told(reply: Reply, number: u64) -> Told {
+mod readers;
+mod run;
+
+fn answer(reply: Reply, number: u64) -> Told {
     Told { reply, number }
 }
 
@@ -54,10 +57,23 @@ fn a_slot_is_put_into_again_after_its_key_is_taken_out(rt: HostRuntime) -> Resul
     let mut capacities = [0; 64];
     capacities[6] = 1;
     let (table, mut seat) = HashTable::new(rt.alloc(), &capacities, 1, 8)?;
-    assert_eq!(rt; put(&rt, &table, &mut seat, 6, 10), told(Reply::New, 1));
-    assert_eq!(rt; put(&rt, &table, &mut seat, 6, 11), told(Reply::Old, 0));
-    assert_eq!(rt; put(&rt, &table, &mut seat, 70, 12), told(Reply::Full, 0));
-    assert_eq!(rt; del(&rt, &table, &mut seat, 6), told(Reply::Gone, 2));
-    assert_eq!(rt; put(&rt, &table, &mut seat, 70, 13), told(Reply::New, 3));
+    assert_eq!(rt; put(&rt, &table, &mut seat, 6, 10), answer(Reply::New, 1));
+    assert_eq!(rt; put(&rt, &table, &mut seat, 70, 12), answer(Reply::Full, 0));
+    assert_eq!(rt; del(&rt, &table, &mut seat, 6), answer(Reply::Gone, 2));
+    assert_eq!(rt; put(&rt, &table, &mut seat, 70, 13), answer(Reply::New, 3));
+    Ok(())
+}
+
+#[test]
+fn a_pair_stays_until_it_is_set(rt: HostRuntime) -> Result<(), Fail> {
+    let mut capacities = [0; 64];
+    capacities[6] = 1;
+    let (table, mut seat) = HashTable::new(rt.alloc(), &capacities, 1, 8)?;
+    let was = Reply::Was { value: 10 };
+    let val = Reply::Val { value: 11 };
+    assert_eq!(rt; put(&rt, &table, &mut seat, 6, 10), answer(Reply::New, 1));
+    assert_eq!(rt; put(&rt, &table, &mut seat, 6, 12), answer(Reply::Old, 0));
+    assert_eq!(rt; set(&rt, &table, &mut seat, 6, 11), answer(was, 2));
+    assert_eq!(rt; get(&rt, &table, &mut seat, 6), answer(val, 0));
     Ok(())
 }

@@ -40,14 +40,16 @@ impl Join<View> for Glue {
     ghost spent = { spent };
 }
 
-pub(crate) struct Told2;
-
-impl Play<Nothing, View> for Told2 {
-    ghost then = { told2 };
+pub(crate) struct Told2<A> {
+    marker: PhantomData<A>,
 }
 
-/// What a step is of: a number, its field and slot, the key, value and even front of an update, and how many slots the
-/// classes own. Each call picks it.
+impl<A: Detail> Play<Nothing, View> for Told2<A> {
+    ghost then = { told2 A.places };
+}
+
+/// What a step is of: a number, its field and slot, the key, value and even front of an update, how many slots the classes
+/// own, and how many places the table has. Each call picks it.
 pub(crate) trait Detail {
     ghost use Rattle.std.specs.Prelude.{ℕ, List};
     ghost use Rattle.hash_core.specs.declared.words.Field.{Field};
@@ -65,6 +67,8 @@ pub(crate) trait Detail {
     ghost even: { ℕ };
 
     ghost capacities: { List ℕ };
+
+    ghost places: { ℕ };
 }
 
 impl Detail for Brand {
@@ -84,6 +88,8 @@ impl Detail for Brand {
     ghost even = { 0 };
 
     ghost capacities = { [] };
+
+    ghost places = { 0 };
 }
 
 pub(crate) struct Told3<A> {
@@ -94,10 +100,12 @@ impl<A: Detail> Play<Nothing, View> for Told3<A> {
     ghost then = { told3 A.number };
 }
 
-pub(crate) struct Told4;
+pub(crate) struct Told4<A> {
+    marker: PhantomData<A>,
+}
 
-impl Play<Nothing, View> for Told4 {
-    ghost then = { told4 };
+impl<A: Detail> Play<Nothing, View> for Told4<A> {
+    ghost then = { told4 A.places };
 }
 
 pub(crate) struct Told5<A> {
@@ -113,13 +121,15 @@ pub(crate) struct Told6<A> {
 }
 
 impl<A: Detail> Play<Nothing, View> for Told6<A> {
-    ghost then = { told6 A.number };
+    ghost then = { told6 A.places A.number };
 }
 
-pub(crate) struct Told7;
+pub(crate) struct Told7<A> {
+    marker: PhantomData<A>,
+}
 
-impl Play<Nothing, View> for Told7 {
-    ghost then = { told7 };
+impl<A: Detail> Play<Nothing, View> for Told7<A> {
+    ghost then = { told7 A.places };
 }
 
 pub(crate) struct Told8;

@@ -2,6 +2,7 @@
 ghost use Rattle.std.specs.Prelude.{◌≡◌, ◌+◌, ◌<◌, Some, None};
 ghost use Rattle.hash_core.specs.declared.view.Hold.{Hold};
 ghost use Rattle.hash_core.specs.Steps.{IsQuiet};
+ghost use Rattle.class_hash.specs.Answers.{IsInformed};
 ghost use Rattle.class_hash.specs.Updates.{HasLocked, HasTurned, MayReplace, Replaced, link_after, MayUnlink, Removed};
 
 use crate::bucket::{Lock, try_bucket};
@@ -64,6 +65,7 @@ pub(crate) fn replace<R: Wait>(
     requires case { MayReplace table.now.capacities seat.old.view slot key }
     ensures table { seat.new.table ≡ seat.old.table }
     ensures view { Replaced seat.old.view key value result.0 result.1 seat.new.view }
+    ensures informed { IsInformed table.now.places seat.new.view }
 {
     let old = h9(table, seat, Field::Value { slot });
     let even = turn_front(rt, table, seat);
@@ -96,6 +98,7 @@ pub(crate) fn unlink<R: Wait>(
     requires case { MayUnlink table.now.capacities seat.old.view previous slot key }
     ensures table { seat.new.table ≡ seat.old.table }
     ensures view { Removed seat.old.view key result seat.new.view }
+    ensures informed { IsInformed table.now.places seat.new.view }
 {
     let class = seat.class_held();
     let next = h9(table, seat, Field::Next { slot });

@@ -48,3 +48,13 @@ pub(crate) fn walk_locked<R: Wait>(
     }
     unreachable!()
 }
+
+/// Whether the chain of the key's class, whose lock the seat holds, lacks the key.
+pub(crate) fn lacks<R: Wait>(rt: &R, table: &HashTable, seat: &mut HashSeat, key: u64) -> bool
+    requires table { seat.old.table ≡ table.now.id }
+    requires held { (hold : Hold) × (seat.old.view.hold ≡ Some hold) }
+    ensures table { seat.new.table ≡ seat.old.table }
+    ensures walked { (hold : Hold) → seat.old.view.hold ≡ Some hold → (new : Hold) × HasLoaded seat.old.view hold seat.new.view new × (result ≡ true → ShowsAbsent new key) }
+{
+    walk_locked(rt, table, seat, key).is_none()
+}

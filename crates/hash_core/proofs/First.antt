@@ -16,7 +16,7 @@ use Rattle.hash_core.specs.Slots.{capacity, base, is_slot_of}
 use Rattle.prcu_model.specs.Marks.{own_of, open_at, entered_at}
 use Rattle.hash_core.specs.Buckets.{Bucket, HoldsOther, IsFreeOfReaders}
 use Rattle.hash_core.specs.Readers.{WasSaid, WillAnswer}
-use Rattle.hash_core.specs.Seats.{AnswersFor, open_of, HasNoTurn}
+use Rattle.hash_core.specs.Seats.{HasHeard, AnswersFor, open_of, HasNoTurn}
 use Rattle.hash_core.specs.Steps.{places_from}
 use Rattle.hash_core.specs.Fresh.{first_view, first_slot, slot_after, IsFresh}
 use Rattle.hash_core.specs.Rule.{BucketRule, IsShape, MemoryRule}
@@ -113,7 +113,7 @@ module _ (capacities : List ℕ) (places tickets : ℕ) (shape : IsShape capacit
   pub starts : MemoryRule capacities places tickets m (first_view places tickets ∷ []) []
   starts = record {
     shape = shape;
-    seen = record { begins = each_view (λ j u. IsPrefix u.seen []) ([], refl); longest = (0, first_view places tickets, refl, refl) };
+    seen = record { begins = each_view (λ j u. IsPrefix u.seen []) ([], refl); heard = each_view (λ j u. HasHeard u) tt; longest = (0, first_view places tickets, refl, refl) };
     apart = record {
       within = λ j u q there a. each_view (λ k z. AnswersFor z q → q < places) (place_first q) j u there a;
       apart = λ i j q a b ei ej aa ab. each_view (λ k z. k ≡ j) (each_view (λ l y. 0 ≡ l) refl j b ej) i a ei;

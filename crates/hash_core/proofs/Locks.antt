@@ -103,6 +103,7 @@ module _ (capacities : List ℕ) (places tickets : ℕ) (m : Memory) (vs : List 
           kept = λ turn hold is held. (fresh_hold c, refl);
           held = λ hold is. let e : fresh_hold c ≡ hold = cc in (subst (λ (z : Hold). z.class < 64) e small, place);
           own = refl;
+          heard = refl;
         }) refl refl
 
     bucket6 : c < 64 → BucketRule capacities c m6 h (updates_of h) (set vs id w6) b6
@@ -165,6 +166,7 @@ module _ (capacities : List ℕ) (places tickets : ℕ) (m : Memory) (vs : List 
           kept = λ turn held is mine. absurd (let z : Some turn ≡ None = sym is ∙ needs.4 in cc);
           held = λ other is. absurd (cc);
           own = refl;
+          heard = refl;
         }) refl refl
 
     bucket7 : hold.class < 64 → BucketRule capacities hold.class m7 h (updates_of h) (set vs id w7) b7
@@ -270,6 +272,7 @@ module _ (capacities : List ℕ) (places tickets : ℕ) (m : Memory) (vs : List 
           kept = λ turn held is had. (new8, refl);
           held = λ other is. let e : new8 ≡ other = cc in (subst (λ (z : Hold). z.class < 64) e (class_small hold mine), works hold mine);
           own = refl;
+          heard = refl;
         }) refl refl)
         hold.class (held_bucket hold new8)
         (λ small.
@@ -309,8 +312,8 @@ module _ (capacities : List ℕ) (places tickets : ℕ) (m : Memory) (vs : List 
     seen9 = seen_case see refl
       where
         seen_case : (t : Bool) → see ≡ t → AreSeen (set vs id w9) h
-        seen_case true is = seen_whole vs id v w9 at h h (ap (λ b. cond b h v.seen) is) (prefix_self h) r.seen
-        seen_case false is = seen_same vs id v w9 at h (ap (λ b. cond b h v.seen) is) r.seen
+        seen_case true is = seen_whole vs id v w9 at h h (ap (λ b. cond b h v.seen) is) refl (prefix_self h) r.seen
+        seen_case false is = seen_same vs id v w9 at h (ap (λ b. cond b h v.seen) is) refl r.seen
 
     met9 : (t : Bool) → see ≡ t → (w9.seen ≡ v.seen) ⊎ (w9.seen ≡ h ++ [])
     met9 true is = inr (ap (λ b. cond b h v.seen) is ∙ sym (append-nil h))
@@ -386,7 +389,7 @@ module _ (capacities : List ℕ) (places tickets : ℕ) (m : Memory) (vs : List 
     pub law12 : MemoryRule capacities places tickets m12 (set vs id w12) h
     law12 = after_quiet capacities places tickets m vs h r id v w12 at m12 h
         (record {
-          seen = seen_same vs id v w12 at h refl r.seen;
+          seen = seen_same vs id v w12 at h refl refl r.seen;
           apart = apart_same vs id v w12 at places (record { place = refl; places = refl; joined = refl }) r.apart;
           owned = subst (AreOwned places (set vs id w12)) (append-nil h) (owned_same vs id v w12 at places h [] (record { place = refl; places = refl; joined = refl }) refl (inl refl) no_marks r.owned);
           sections = open_same vs id v w12 at h h (updates_of h) (updates_of h) refl refl refl (section_back v w12 refl) (section_forth v w12 refl) (λ p. refl) (λ p. refl) (omega arith) r.sections;
@@ -428,7 +431,7 @@ module _ (capacities : List ℕ) (places tickets : ℕ) (m : Memory) (vs : List 
     pub law16 : MemoryRule capacities places tickets m16 (set vs id w16) h
     law16 = after_quiet capacities places tickets m vs h r id v w16 at m16 h
         (record {
-          seen = seen_same vs id v w16 at h refl r.seen;
+          seen = seen_same vs id v w16 at h refl refl r.seen;
           apart = apart_same vs id v w16 at places (record { place = refl; places = refl; joined = refl }) r.apart;
           owned = subst (AreOwned places (set vs id w16)) (append-nil h) (owned_same vs id v w16 at places h [] (record { place = refl; places = refl; joined = refl }) refl (inl refl) no_marks r.owned);
           sections = open_same vs id v w16 at h h (updates_of h) (updates_of h) refl refl refl (section_back v w16 refl) (section_forth v w16 refl) (λ p. refl) (λ p. refl) (omega arith) r.sections;

@@ -34,6 +34,7 @@ pub record SameSeat (v w : View) : Type 0 where
   pub kept : (turn : Turn) (hold : Hold) → v.turn ≡ Some turn → v.hold ≡ Some hold → (k : Hold) × (w.hold ≡ Some k)
   pub held : (hold : Hold) → w.hold ≡ Some hold → (hold.class < 64) × (1 ≤ w.places)
   pub own : w.own ≡ v.own
+  pub heard : w.heard ≡ v.heard
 
 -- a section that stays
 pub section_back : (v w : View) → w.section ≡ v.section → (section : Section) → w.section ≡ Some section → (old : Section) × (v.section ≡ Some old) × (open_of section ≡ open_of old) × (section.from ≡ old.from)
@@ -63,7 +64,7 @@ module _ (capacities : List ℕ) (places tickets : ℕ) (m : Memory) (vs : List 
   -- no mark, and nothing more was seen
   pub seats_same : SameSeat v w → w.seen ≡ v.seen → m' Front ≡ m Front → SeatsRule capacities places tickets m' (set vs id w) h
   seats_same same seen front = record {
-    seen = seen_same vs id v w at h seen r.seen;
+    seen = seen_same vs id v w at h seen same.heard r.seen;
     apart = apart_same vs id v w at places same.places r.apart;
     owned = subst (λ z. AreOwned places (set vs id w) z) (append-nil h) (owned_same vs id v w at places h [] same.places same.own (inl seen) no_marks r.owned);
     sections = open_same vs id v w at h h (updates_of h) (updates_of h) same.places.place same.places.places same.sections same.back same.forth (λ p. refl) (λ p. refl) (omega arith) r.sections;
@@ -91,6 +92,7 @@ law_trod capacities places tickets m vs h r id v at kind field number =
       kept = λ turn hold is held. (hold, held);
       held = λ hold is. r.held.held id v hold at is;
       own = refl;
+      heard = refl;
     }) refl refl)
     (λ d small. record { words = same_words capacities d m; marks = same_marks capacities d h; view = record { place = refl; section = same_section d v.section; hold = same_hold d v.hold } })
 

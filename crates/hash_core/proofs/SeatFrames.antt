@@ -1,5 +1,6 @@
 -- What keeps the parts of the rule on seats.
 use Rattle.std.proofs.Common.{◌≡◌, ◌≢◌, ◌⊎◌, ℕ, ◌^◌, ◌<◌, ◌≤◌, true, false, cond, List, [], ◌∷◌, ◌++◌, length, set, Some, refl, sym, ap, subst, ◌∙◌, inl, inr, arith, append_assoc, append-nil}
+use Rattle.std.specs.List.{AllByRecursion}
 use mathlib.Core.Logic.{dite}
 use mathlib.Core.Option.{some}
 use mathlib.Core.List.{IsPrefix}
@@ -16,8 +17,8 @@ use Rattle.hash_core.specs.declared.view.View.{View}
 use Rattle.hash_core.specs.Lists.{times}
 use Rattle.hash_core.specs.Memory.{Memory}
 use Rattle.prcu_model.specs.Marks.{Open, open_at, own_of, is_of, entered_at}
-use Rattle.hash_core.specs.Seats.{AreSeen, HasPlace, AnswersFor, AreApart, AreOwned, open_of, AreOpen, AreHeld, HasNoTurn, IsTurned}
-use Rattle.prcu_model.proofs.ListFacts.{prefix_self, prefix_trans}
+use Rattle.hash_core.specs.Seats.{HasHeard, AreSeen, HasPlace, AnswersFor, AreApart, AreOwned, open_of, AreOpen, AreHeld, HasNoTurn, IsTurned}
+use Rattle.prcu_model.proofs.ListFacts.{prefix_self, prefix_trans, all_map}
 use Rattle.hash_core.proofs.Lists.{at_below, at_one, each_set}
 use Rattle.prcu_model.proofs.MarkLists.{own_of-append}
 
@@ -28,8 +29,9 @@ pub record SamePlaces (v w : View) : Type 0 where
   pub joined : w.joined ≡ v.joined
 
 module _ (vs : List View) (id : ℕ) (v w : View) (at : get_elem? vs id ≡ some v) where
-  pub seen_same : (h : List Mark) → w.seen ≡ v.seen → AreSeen vs h → AreSeen (set vs id w) h
-  seen_same h same s = record {
+  pub seen_same : (h : List Mark) → w.seen ≡ v.seen → w.heard ≡ v.heard → AreSeen vs h → AreSeen (set vs id w) h
+  seen_same h same heard s = record {
+    heard = each_set (λ j u. HasHeard u) vs id w (subst (λ (z : List Mark × List (List Mark)). AllByRecursion (λ seen. IsPrefix seen z.0) z.1) (λ i. (sym same i, sym heard i)) (s.heard id v at)) (λ j u other e. s.heard j u e);
     begins = each_set (λ j u. IsPrefix u.seen h) vs id w (subst (λ z. IsPrefix z h) (sym same) (s.begins id v at)) (λ j u other e. s.begins j u e);
     longest = let l = s.longest in dite (ℕ_discrete l.0 id)
         (λ e. let g : v ≡ l.1 = at_one vs id v l.1 at (subst (λ k. get_elem? vs k ≡ some l.1) e l.2) in
@@ -37,8 +39,12 @@ module _ (vs : List View) (id : ℕ) (v w : View) (at : get_elem? vs id ≡ some
         (λ other. (l.0, l.1, set_else vs id l.0 w other ∙ l.2, l.3));
   }
 
-  pub seen_whole : (h h' : List Mark) → w.seen ≡ h' → IsPrefix h h' → AreSeen vs h → AreSeen (set vs id w) h'
-  seen_whole h h' new longer s = record {
+  pub seen_whole : (h h' : List Mark) → w.seen ≡ h' → w.heard ≡ v.heard → IsPrefix h h' → AreSeen vs h → AreSeen (set vs id w) h'
+  seen_whole h h' new heard longer s = record {
+    heard = each_set (λ j u. HasHeard u) vs id w
+        (subst (λ (z : List Mark × List (List Mark)). AllByRecursion (λ seen. IsPrefix seen z.0) z.1) (λ i. (sym new i, sym heard i))
+        (all_map (λ seen. IsPrefix seen v.seen) (λ seen. IsPrefix seen h') v.heard (λ seen p. prefix_trans seen v.seen h' p (prefix_trans v.seen h h' (s.begins id v at) longer)) (s.heard id v at)))
+        (λ j u other e. s.heard j u e);
     begins = each_set (λ j u. IsPrefix u.seen h') vs id w (subst (λ z. IsPrefix z h') (sym new) (prefix_self h')) (λ j u other e. prefix_trans u.seen h h' (s.begins j u e) longer);
     longest = (id, w, set_here vs id w (at_below vs id v at), new);
   }
@@ -101,8 +107,8 @@ module _ (vs : List View) (id : ℕ) (v w : View) (at : get_elem? vs id ≡ some
       let own_else : (p : ℕ) → p ≢ v.place → own_of p w.own ≡ own_of p v.own = λ p ne. ap (own_of p) own ∙ own_of-append p v.own (m ∷ []) ∙ ap (λ z. own_of p v.own ++ z) (none_one p ne) ∙ append-nil (own_of p v.own) in
       let at_place : AnswersFor v v.place = inl (omega arith, omega arith) in
       let own_now : (p : ℕ) → AnswersFor w p → own_of p (h ++ m ∷ ms) ≡ own_of p w.own = λ p mine. dite (ℕ_discrete p v.place)
-          (λ e. subst (λ q. own_of q (h ++ m ∷ ms) ≡ own_of q w.own) (sym e) (h_here ∙ ap (λ z. z ++ m ∷ []) (s.own id v v.place at at_place) ∙ sym own_here))
-          (λ ne. h_else p ne ∙ s.own id v p at (answers_back p same mine) ∙ sym (own_else p ne)) in
+      (λ e. subst (λ q. own_of q (h ++ m ∷ ms) ≡ own_of q w.own) (sym e) (h_here ∙ ap (λ z. z ++ m ∷ []) (s.own id v v.place at at_place) ∙ sym own_here))
+      (λ ne. h_else p ne ∙ s.own id v p at (answers_back p same mine) ∙ sym (own_else p ne)) in
       record {
         own = λ j u p there a. each_set (λ k z. AnswersFor z p → own_of p (h ++ m ∷ ms) ≡ own_of p z.own) vs id w (own_now p)
             (λ k z other e theirs. h_else p (λ f. other (apart.apart k id p z v e at theirs (subst (AnswersFor v) (sym f) at_place))) ∙ s.own k z p e theirs) j u there a;

@@ -130,7 +130,7 @@ module _ (capacities : List ℕ) (places tickets : ℕ) (m : Memory) (vs : List 
 
     seats3 : SeatsRule capacities places tickets m3 (set vs id w3) h3
     seats3 = record {
-      seen = seen_whole vs id v w3 at h h3 refl (mark3 ∷ [], refl) r.seen;
+      seen = seen_whole vs id v w3 at h h3 refl refl (mark3 ∷ [], refl) r.seen;
       apart = apart_same vs id v w3 at places (record { place = refl; places = refl; joined = refl }) r.apart;
       owned = owned_more vs id v w3 at places h [] mark3 (record { place = refl; places = refl; joined = refl }) works refl refl (eq-eqb v.place v.place refl) (λ p ne. ne_eqb v.place p (λ e. ne (sym e))) (λ p. refl) r.apart r.owned;
       sections = sections3;
@@ -247,7 +247,7 @@ module _ (capacities : List ℕ) (places tickets : ℕ) (m : Memory) (vs : List 
 
     seats4 : SeatsRule capacities places tickets m4 (set vs id w4) h4
     seats4 = record {
-      seen = seen_whole vs id v w4 at h h4 refl (mark4 ∷ [], refl) r.seen;
+      seen = seen_whole vs id v w4 at h h4 refl refl (mark4 ∷ [], refl) r.seen;
       apart = apart_same vs id v w4 at places (record { place = refl; places = refl; joined = refl }) r.apart;
       owned = owned_more vs id v w4 at places h [] mark4 (record { place = refl; places = refl; joined = refl }) works4 refl refl (eq-eqb v.place v.place refl) (λ p ne. ne_eqb v.place p (λ e. ne (sym e))) (λ p. refl) r.apart r.owned;
       sections = sections4;
@@ -447,6 +447,7 @@ module _ (capacities : List ℕ) (places tickets : ℕ) (m : Memory) (vs : List 
             kept = λ turn hold is held. (hold, held);
             held = λ hold is. r.held.held id v hold at is;
             own = refl;
+            heard = refl;
           }) refl refl
 
       bucket5 : section.key % 64 < 64 → BucketRule capacities (section.key % 64) m h (updates_of h) (set vs id w5) (r.bucket (section.key % 64))

@@ -15,11 +15,11 @@ use Rattle.hash_core.specs.Lists.{times, total}
 use Rattle.hash_core.specs.Memory.{Memory}
 use Rattle.prcu_model.specs.Marks.{own_of, entered_at, updates_of}
 use Rattle.hash_core.specs.Buckets.{inside_count}
-use Rattle.hash_core.specs.Seats.{AreSeen, HasPlace, AnswersFor, AreApart, AreOwned, HasNoTurn}
+use Rattle.hash_core.specs.Seats.{HasHeard, AreSeen, HasPlace, AnswersFor, AreApart, AreOwned, HasNoTurn}
 use Rattle.hash_core.specs.Steps.{IsQuiet, Needs1, first_of, second_of, places_from, longer, both_of, spent}
 use Rattle.hash_core.specs.Rule.{MemoryRule}
 use Rattle.hash_core.proofs.Lists.{at_below, at_end, at_one, each_set, total_set, total_append, times_append, times_here, times_other}
-use Rattle.prcu_model.proofs.ListFacts.{prefix_self, prefix_of_longer}
+use Rattle.prcu_model.proofs.ListFacts.{prefix_self, prefix_trans, prefix_of_longer, all_map, all_append}
 use Rattle.prcu_model.proofs.MarkLists.{own_of-append, own_of-between}
 use Rattle.hash_core.proofs.Busy.{SameBusy, quiet_turn, rule_busy}
 
@@ -97,6 +97,7 @@ module _ (capacities : List ℕ) (places tickets : ℕ) (m : Memory) (vs : List 
     seen1 : AreSeen vs1 h
     seen1 = record {
       begins = each1 (λ j u. IsPrefix u.seen h) (r.seen.begins id v at) (r.seen.begins id v at) (λ j u _ e. r.seen.begins j u e);
+      heard = each1 (λ j u. HasHeard u) (r.seen.heard id v at) tt (λ j u _ e. r.seen.heard j u e);
       longest = let l = r.seen.longest in dite (ℕ_discrete l.0 id)
           (λ e. let same : v ≡ l.1 = at_one vs id v l.1 at (subst (λ k. get_elem? vs k ≡ some l.1) e l.2) in
           (id, first1, end_else (set vs id first1) second1 first1 id (set_here vs id first1 (at_below vs id v at)), ap (λ (z : View). z.seen) same ∙ l.3))
@@ -277,8 +278,21 @@ module _ (capacities : List ℕ) (places tickets : ℕ) (m : Memory) (vs : List 
       (id, both2, both_at, longer_case (λ z. z ≡ h) v.seen other.seen (λ more. prefix_whole v.seen h mine (omega arith)) (λ less. whole)))
       (λ not_j. (l.0, l.1, else_at l.0 l.1 not_id not_j l.2, l.3)))
 
+  -- the list that is kept begins with what each of the two has seen
+  longer_mine : IsPrefix v.seen both2.seen
+  longer_mine = longer_case (λ z. IsPrefix v.seen z) v.seen other.seen (λ _. prefix_self v.seen) (λ less. prefix_of_longer v.seen other.seen h (r.seen.begins id v at) (r.seen.begins j other there) (omega arith))
+
+  longer_theirs : IsPrefix other.seen both2.seen
+  longer_theirs = longer_case (λ z. IsPrefix other.seen z) v.seen other.seen (λ more. prefix_of_longer other.seen v.seen h (r.seen.begins j other there) (r.seen.begins id v at) (omega arith)) (λ _. prefix_self other.seen)
+
+  heard2 : HasHeard both2
+  heard2 =
+      (longer_mine, (longer_theirs, all_append (λ s. IsPrefix s both2.seen) v.heard other.heard
+      (all_map (λ s. IsPrefix s v.seen) (λ s. IsPrefix s both2.seen) v.heard (λ s p. prefix_trans s v.seen both2.seen p longer_mine) (r.seen.heard id v at))
+      (all_map (λ s. IsPrefix s other.seen) (λ s. IsPrefix s both2.seen) other.heard (λ s p. prefix_trans s other.seen both2.seen p longer_theirs) (r.seen.heard j other there))))
+
   seen2 : AreSeen vs2 h
-  seen2 = record { begins = each2 (λ k u. IsPrefix u.seen h) longer_begins (h, refl) (λ k u _ _ e. r.seen.begins k u e); longest = longest2 }
+  seen2 = record { begins = each2 (λ k u. IsPrefix u.seen h) longer_begins (h, refl) (λ k u _ _ e. r.seen.begins k u e); heard = each2 (λ k u. HasHeard u) heard2 tt (λ k u _ _ e. r.seen.heard k u e); longest = longest2 }
 
   apart2 : AreApart places vs2
   apart2 = record {
@@ -310,13 +324,6 @@ module _ (capacities : List ℕ) (places tickets : ℕ) (m : Memory) (vs : List 
 
   own_theirs : (q : ℕ) → AnswersFor other q → own_of q both2.own ≡ own_of q other.own
   own_theirs q theirs = own_append q ∙ ap (λ z. z ++ own_of q other.own) (r.owned.none id v q at (λ mine. not_two q mine theirs))
-
-  -- the list that is kept begins with what each of the two has seen
-  longer_mine : IsPrefix v.seen both2.seen
-  longer_mine = longer_case (λ z. IsPrefix v.seen z) v.seen other.seen (λ _. prefix_self v.seen) (λ less. prefix_of_longer v.seen other.seen h (r.seen.begins id v at) (r.seen.begins j other there) (omega arith))
-
-  longer_theirs : IsPrefix other.seen both2.seen
-  longer_theirs = longer_case (λ z. IsPrefix other.seen z) v.seen other.seen (λ more. prefix_of_longer other.seen v.seen h (r.seen.begins j other there) (r.seen.begins id v at) (omega arith)) (λ _. prefix_self other.seen)
 
   -- what is between a list that has all marks of a place and the whole list has them too
   met_longer : (q : ℕ) (u : View) → own_of q u.seen ≡ own_of q u.own → own_of q h ≡ own_of q u.own → IsPrefix u.seen both2.seen → own_of q both2.seen ≡ own_of q u.own

@@ -99,6 +99,7 @@ module _ (capacities : List ℕ) (places tickets : ℕ) (m : Memory) (vs : List 
         kept = λ turn held is had_it. (new, refl);
         held = λ other is. let e : new ≡ other = cc in (subst (λ (z : Hold). z.class < 64) e (subst (λ z. z < 64) (sym class) small), works capacities places tickets m vs h r id v at hold mine);
         own = refl;
+        heard = refl;
       }) refl front
 
   -- readers' answers, where the slots on their ways stay
@@ -429,7 +430,7 @@ module _ (capacities : List ℕ) (places tickets : ℕ) (m : Memory) (vs : List 
 
     seats_take : SeatsRule capacities places tickets m_take (set vs id w_take) h_take
     seats_take = record {
-      seen = seen_whole vs id v w_take at h h_take refl (Given slot ∷ [], refl) r.seen;
+      seen = seen_whole vs id v w_take at h h_take refl refl (Given slot ∷ [], refl) r.seen;
       apart = apart_same vs id v w_take at places (record { place = refl; places = refl; joined = refl }) r.apart;
       owned = owned_same vs id v w_take at places h (Given slot ∷ []) (record { place = refl; places = refl; joined = refl }) refl (inr refl) (λ p. refl) r.owned;
       sections = open_same vs id v w_take at h h_take (updates_of h) (updates_of h_take) refl refl refl (section_back v w_take refl) (section_forth v w_take refl) (open_at-same h (Given slot) tt) (λ p. let a = entered_at-append p h (Given slot ∷ []) in omega arith) (let n = ap length same_updates_take in omega arith) r.sections;

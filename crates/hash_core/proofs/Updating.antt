@@ -82,7 +82,7 @@ module _ (capacities : List ℕ) (places tickets : ℕ) (m : Memory) (vs : List 
 
       pub seats_updated : SeatsRule capacities places tickets m' (set vs id w_new) h_new
       seats_updated = record {
-        seen = seen_whole vs id v w_new at h h_new refl (Done (record { caller = v.place; op = op }) ∷ more, refl) r.seen;
+        seen = seen_whole vs id v w_new at h h_new refl refl (Done (record { caller = v.place; op = op }) ∷ more, refl) r.seen;
         apart = apart_same vs id v w_new at places (record { place = refl; places = refl; joined = refl }) r.apart;
         owned = owned_more vs id v w_new at places h more (Done (record { caller = v.place; op = op })) (record { place = refl; places = refl; joined = refl }) (works capacities places tickets m vs h r id v at hold mine) refl refl
             (eq-eqb v.place v.place refl) (λ p ne. ne_eqb v.place p (λ e. ne (sym e))) none r.apart r.owned;

@@ -16,6 +16,7 @@ first_view places tickets = record {
   hold = None;
   turn = None;
   joined = [];
+  heard = [];
   own = [];
   trail = [];
   seen = [];

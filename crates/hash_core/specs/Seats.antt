@@ -1,6 +1,7 @@
 -- The rule's parts on seats: who has which place, what each has seen and left, and whose the front is.
 -- Source: docs/ALGORITHM.md, "The hash dictionary's rule".
 use Rattle.std.specs.Prelude.{◌≡◌, ◌≢◌, ◌⊎◌, ℕ, ◌+◌, ◌*◌, ◌^◌, ◌<◌, ◌≤◌, if◌then◌else◌, List, [], length, Some, None}
+use Rattle.std.specs.List.{AllByRecursion}
 use mathlib.Core.Option.{some}
 use mathlib.Core.List.{IsPrefix}
 use lib.ListN.{get_elem?}
@@ -15,9 +16,14 @@ use Rattle.hash_core.specs.Lists.{times}
 use Rattle.hash_core.specs.Memory.{Memory}
 use Rattle.prcu_model.specs.Marks.{Open, open_at, own_of, entered_at}
 
--- Each view has seen a beginning of the marks, and one view has seen them all.
+-- what the view has seen begins with what it heard of when seats were joined into it
+abbrev pub HasHeard : View → Type 0
+HasHeard v = AllByRecursion (λ seen. IsPrefix seen v.seen) v.heard
+
+-- Each view has seen a beginning of the marks, with what it heard of at its beginning, and one view has seen them all.
 pub record AreSeen (vs : List View) (h : List Mark) : Type 0 where
   pub begins : (id : ℕ) (v : View) → get_elem? vs id ≡ some v → IsPrefix v.seen h
+  pub heard : (id : ℕ) (v : View) → get_elem? vs id ≡ some v → HasHeard v
   pub longest : (id : ℕ) × (v : View) × (get_elem? vs id ≡ some v) × (v.seen ≡ h)
 
 -- the place is one of the view's

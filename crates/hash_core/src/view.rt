@@ -83,6 +83,8 @@ pub struct View {
     pub turn: Option<Turn>,
     /// The places of seats that were joined into it.
     pub joined: LinkedList<u32>,
+    /// What the seats had seen that were joined into it, and what it had seen itself, each at the time of the join.
+    pub heard: LinkedList<LinkedList<Mark>>,
     /// The marks that its places left, those of the seats that were joined into it among them, place by place in their
     /// order.
     pub own: LinkedList<Mark>,

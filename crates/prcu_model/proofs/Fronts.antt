@@ -5,10 +5,16 @@ use Rattle.std.specs.Ordering.{nat_cmp}
 use Rattle.std.proofs.lemmas.List.{take_more}
 use Rattle.prcu_model.specs.declared.operation.Update.{Update}
 use Rattle.prcu_model.specs.Dictionary.{Dictionary, updated, updated_all, map_of, map_at}
+use Rattle.prcu_model.specs.History.{AreUpdatesFrom}
 
 pub updated_all-append : (m : Dictionary) (us vs : List Update) → updated_all m (us ++ vs) ≡ updated_all (updated_all m us) vs
 updated_all-append m [] vs = refl
 updated_all-append m (u ∷ us) vs = updated_all-append (updated m u.op) us vs
+
+-- a history begins with a history
+pub AreUpdatesFrom-front : (m : Dictionary) (us vs : List Update) → AreUpdatesFrom m (us ++ vs) → AreUpdatesFrom m us
+AreUpdatesFrom-front m [] vs legal = tt
+AreUpdatesFrom-front m (u ∷ us) vs legal = (legal.0, AreUpdatesFrom-front (updated m u.op) us vs legal.1)
 
 -- one update at the end
 pub map_of-push : (history : List Update) (u : Update) → map_of (history ++ u ∷ []) ≡ updated (map_of history) u.op

@@ -10,3 +10,6 @@ pub mod PlainSizes
 pub mod ToldLists
 pub mod ListFacts
 pub mod MarkLists
+pub mod OwnMarks
+pub mod Callers
+pub mod Runs

@@ -3,10 +3,11 @@
 use Rattle.std.specs.Prelude.{◌≡◌, ℕ, ◌+◌, ◌-◌, ◌<◌, ◌≤◌, ◌==◌, if◌then◌else◌, MatchBool, IsTrue, List, [], ◌∷◌, length, map, slice_index_or}
 use Rattle.std.specs.List.{AllByRecursion}
 use Rattle.prcu_model.specs.declared.operation.Op.{Op}
+use Rattle.prcu_model.specs.declared.operation.Reply.{Reply}
 use Rattle.prcu_model.specs.declared.operation.Told.{Told}
 use Rattle.prcu_model.specs.declared.operation.Line.{Line}
 use Rattle.prcu_model.specs.declared.operation.Update.{Update}
-use Rattle.prcu_model.specs.Dictionary.{map_at}
+use Rattle.prcu_model.specs.Dictionary.{Dictionary, map_at}
 use Rattle.prcu_model.specs.Replies.{Room, Explains, Confirms, tells_update}
 
 -- the operations of one script, each with what it was told
@@ -50,16 +51,23 @@ IsConfirmed history line = IsTrue (tells_update line.reply) → Confirms (map_at
 
 -- A number that may stand beside a line, after the number of the line before it: at an update its position, which is
 -- higher, and else a front at which the dictionary explains the reply, which isn't lower.
-abbrev pub MayStand : Room → List Update → ℕ → Line → ℕ → Type 0
-MayStand room history before line number =
+abbrev pub MayStandBy : (Dictionary → Op → Reply → Type 0) → List Update → ℕ → Line → ℕ → Type 0
+MayStandBy explains history before line number =
     MatchBool (tells_update line.reply) ((number ≡ line.number) × (before < number))
-    ((before ≤ number) × (number ≤ length history) × Explains room (map_at history number) line.op line.reply)
+    ((before ≤ number) × (number ≤ length history) × explains (map_at history number) line.op line.reply)
 
 -- numbers that may stand beside lines
+abbrev pub MayStandBesideBy : (Dictionary → Op → Reply → Type 0) → List Update → ℕ → List Line → List ℕ → Type 0
+MayStandBesideBy explains history before [] [] = Unit {0}
+MayStandBesideBy explains history before (line ∷ lines) (number ∷ numbers) = MayStandBy explains history before line number × MayStandBesideBy explains history number lines numbers
+MayStandBesideBy explains history before _ _ = ⊥
+
+-- the same where so many scripts share so many slots
+abbrev pub MayStand : Room → List Update → ℕ → Line → ℕ → Type 0
+MayStand room = MayStandBy (Explains room)
+
 abbrev pub MayStandBeside : Room → List Update → ℕ → List Line → List ℕ → Type 0
-MayStandBeside room history before [] [] = Unit {0}
-MayStandBeside room history before (line ∷ lines) (number ∷ numbers) = MayStand room history before line number × MayStandBeside room history number lines numbers
-MayStandBeside room history before _ _ = ⊥
+MayStandBeside room = MayStandBesideBy (Explains room)
 
 abbrev pub CanBeNumbered : Room → List Update → List Line → Type 0
 CanBeNumbered room history lines = (numbers : List ℕ) × MayStandBeside room history 0 lines numbers

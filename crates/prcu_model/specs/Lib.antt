@@ -9,3 +9,5 @@ pub mod Held
 pub mod Slots
 pub mod Chains
 pub mod Marks
+pub mod Callers
+pub mod Runs

@@ -6,13 +6,16 @@ use std::test::Fail;
 #[test]
 fn words_that_are_no_command_touch_nothing(rt: HostRuntime) -> Result<(), Fail> {
     let alloc = rt.alloc();
-    let cases: [&[&str]; 36] = [
+    let cases: [&[&str]; 39] = [
         &[],
         &[""],
         &["run", "check"],
         &["frob"],
         &["Run"],
         &["run", "run"],
+        &["hash", "hash"],
+        &["hash", "3"],
+        &["hash", "--slots", "3"],
         &["run", "--help"],
         &["run", "-h"],
         &["run", ""],

@@ -3,6 +3,7 @@ ghost use Rattle.std.specs.Prelude.{◌≡◌, ◌+◌, ◌%◌, ◌<◌, ◌≤
 ghost use Rattle.hash_core.specs.declared.view.Hold.{Hold};
 ghost use Rattle.hash_core.specs.Steps.{IsQuiet, Needs7};
 ghost use Rattle.hash_core.specs.Slots.{IsOfClass};
+ghost use Rattle.class_hash.specs.Answers.{IsInformed, IsHeldByOther};
 ghost use Rattle.class_hash.specs.Stepped.{Locks, Unlocks, LoadsReaders, Loads};
 
 use super::words::{remember, stock_of, word_at};
@@ -13,13 +14,14 @@ use hash_core::Field;
 use std::marker::Brand;
 
 fn locks<A: Detail>(table: &HashTable, seat: &mut HashSeat, class: u32) -> u64
-    requires picked { A.number ≡ class }
+    requires picked { (A.number ≡ class) × (A.places ≡ table.now.places) }
     requires table { seat.old.table ≡ table.now.id }
     requires quiet { IsQuiet seat.old.view }
     requires class { class < 64 }
     ensures table { seat.new.table ≡ seat.old.table }
     ensures view { Locks seat.old.view class result seat.new.view }
     ensures turn { seat.old.view.turn ≡ None }
+    ensures holder { IsHeldByOther table.now.places seat.old.view result }
 {
     let word = word_at(Field::Lock { class });
     let mine = seat.place as u64 + 1;
@@ -45,8 +47,27 @@ pub(crate) fn h6(table: &HashTable, seat: &mut HashSeat, class: u32) -> u64
     ensures table { seat.new.table ≡ seat.old.table }
     ensures view { Locks seat.old.view class result seat.new.view }
     ensures turn { seat.old.view.turn ≡ None }
+    ensures holder { IsHeldByOther table.now.places seat.old.view result }
 {
     locks::<Brand>(table, seat, class)
+}
+
+fn unlocks<A: Detail>(table: &HashTable, seat: &mut HashSeat)
+    requires picked { A.places ≡ table.now.places }
+    requires table { seat.old.table ≡ table.now.id }
+    requires case { (hold : Hold) × Needs7 seat.old.view hold }
+    ensures table { seat.new.table ≡ seat.old.table }
+    ensures view { Unlocks seat.old.view seat.new.view }
+    ensures informed { IsInformed table.now.places seat.new.view }
+{
+    let word = word_at(Field::Lock {
+        class: seat.class_held(),
+    });
+    seat.bucket = None;
+    table
+        .table
+        .shared
+        .store::<Told7<A>>(&mut seat.seat, word, 0);
 }
 
 /// H7: gives the lock up.
@@ -55,12 +76,9 @@ pub(crate) fn h7(table: &HashTable, seat: &mut HashSeat)
     requires case { (hold : Hold) × Needs7 seat.old.view hold }
     ensures table { seat.new.table ≡ seat.old.table }
     ensures view { Unlocks seat.old.view seat.new.view }
+    ensures informed { IsInformed table.now.places seat.new.view }
 {
-    let word = word_at(Field::Lock {
-        class: seat.class_held(),
-    });
-    seat.bucket = None;
-    table.table.shared.store::<Told7>(&mut seat.seat, word, 0);
+    unlocks::<Brand>(table, seat);
 }
 
 /// H8: loads the readers of the class whose lock the seat holds.

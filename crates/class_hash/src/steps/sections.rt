@@ -3,6 +3,7 @@ ghost use Rattle.std.specs.Prelude.{◌≡◌, ◌+◌, ◌%◌, ◌<◌, ◌≤
 ghost use Rattle.hash_core.specs.declared.view.Section.{Section};
 ghost use Rattle.hash_core.specs.Steps.{IsQuiet, MayLoad};
 ghost use Rattle.hash_core.specs.Slots.{IsOfClass};
+ghost use Rattle.class_hash.specs.Answers.{IsInformed};
 ghost use Rattle.class_hash.specs.Stepped.{Enters, Leaves, Searches};
 
 use super::words::word_at;
@@ -39,12 +40,13 @@ pub(crate) fn h3(table: &HashTable, seat: &mut HashSeat, key: u64) -> u64
     enters::<Brand>(table, seat, key)
 }
 
-/// H4: takes 1 from the readers of the key's class, and leaves the section.
-pub(crate) fn h4(table: &HashTable, seat: &mut HashSeat) -> u64
+fn leaves<A: Detail>(table: &HashTable, seat: &mut HashSeat) -> u64
+    requires picked { A.places ≡ table.now.places }
     requires table { seat.old.table ≡ table.now.id }
     requires inside { (section : Section) × (seat.old.view.section ≡ Some section) }
     ensures table { seat.new.table ≡ seat.old.table }
     ensures view { Leaves seat.old.view result seat.new.view }
+    ensures informed { IsInformed table.now.places seat.new.view }
 {
     let word = word_at(Field::Readers {
         class: seat.class_read(),
@@ -53,7 +55,18 @@ pub(crate) fn h4(table: &HashTable, seat: &mut HashSeat) -> u64
     table
         .table
         .shared
-        .fetch_sub::<Told4>(&mut seat.seat, word, 1)
+        .fetch_sub::<Told4<A>>(&mut seat.seat, word, 1)
+}
+
+/// H4: takes 1 from the readers of the key's class, and leaves the section.
+pub(crate) fn h4(table: &HashTable, seat: &mut HashSeat) -> u64
+    requires table { seat.old.table ≡ table.now.id }
+    requires inside { (section : Section) × (seat.old.view.section ≡ Some section) }
+    ensures table { seat.new.table ≡ seat.old.table }
+    ensures view { Leaves seat.old.view result seat.new.view }
+    ensures informed { IsInformed table.now.places seat.new.view }
+{
+    leaves::<Brand>(table, seat)
 }
 
 fn searches<A: Detail>(table: &HashTable, seat: &mut HashSeat, field: Field) -> u64

@@ -1,8 +1,8 @@
-use Rattle.std.proofs.Common.{◌≡◌, ℕ, List, [], drop, map, length, take, string_bytes, refl, sym, ap, subst, ◌∙◌, arith}
+use Rattle.std.proofs.Common.{◌≡◌, List, [], map, length, string_bytes, sym, ap, subst, arith}
 use Rattle.std.proofs.lemmas.Bool.Decides.{nat_tests}
 use Rattle.std.proofs.lemmas.List.{take_rest, drop-map, length-map, nil_from_length}
 use Rattle.citrus_tool.specs.declared.arguments.Argument.{Argument}
-use Rattle.citrus_tool.specs.Arguments.{AreSpelled, Joins, FollowWith}
+use Rattle.citrus_tool.specs.Arguments.{AreSpelled, Joins}
 use Rattle.citrus_tool.proofs.Joining.{none_spelled, Joins-none, not_spelled, not_followed, read_others, AreSpelled-more}
 use Rattle.citrus_tool.proofs.arguments.+read_arguments.Goals as goal
 

@@ -1,4 +1,4 @@
-use Rattle.std.proofs.Common.{ℕ, map, string_bytes, arith}
+use Rattle.std.proofs.Common.{map, string_bytes, arith}
 use Rattle.citrus_tool.proofs.Spellings.{not_spelled, slots_spelled, nothing_spelled, number_spelled, number_first}
 use Rattle.citrus_tool.proofs.arguments.next_argument.Goals as goal
 

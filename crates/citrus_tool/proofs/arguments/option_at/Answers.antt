@@ -1,4 +1,4 @@
-use Rattle.std.proofs.Common.{None, Some, string_bytes, sym, ◌∙◌}
+use Rattle.std.proofs.Common.{None, Some, string_bytes, sym}
 use Rattle.std.proofs.lemmas.Bool.Decides.{Decides-eqb}
 use Rattle.std.proofs.lemmas.List.{nil_from_length}
 use Rattle.std.proofs.lemmas.Slice.Eq.{strip_prefix_is}

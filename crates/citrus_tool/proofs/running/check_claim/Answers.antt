@@ -3,8 +3,8 @@ use Rattle.citrus_tool.proofs.InputParts.{length-before}
 use Rattle.citrus_tool.proofs.LineCount.{TellsBadLine-made}
 use Rattle.citrus_tool.proofs.running.check_claim.Goals as goal
 
-pub returns-in_ok-bad_line-in-Err-Line : goal.returns-in_ok-bad_line-in-Err-Line
-returns-in_ok-bad_line-in-Err-Line c =
+pub returns-in_ok-bad_line-in-Err-Line-clause-written : goal.returns-in_ok-bad_line-in-Err-Line-clause-written
+returns-in_ok-bad_line-in-Err-Line-clause-written c =
     let parts = c.parts_of.result in
     let within = length-before c.args.input.now parts.0.now parts.1.now c.parts_of.ensures in
     let found = c.in-Err-Line.ensures.line c.in-Err-Line.number (ap Err c.in-Err-Line.field-0-is) in

@@ -3,22 +3,36 @@ use Rattle.prcu_model.specs.declared.operation.Told.{Told}
 use Rattle.hash_core.specs.declared.view.View.{View}
 use Rattle.hash_core.specs.Steps.{fresh_hold}
 use Rattle.class_hash.specs.Replies.{Puts}
-use Rattle.class_hash.proofs.Trying.{tried_again, put_once}
+use Rattle.class_hash.proofs.Trying.{tried_again, tried_on, put_once, found_once}
+use Rattle.class_hash.proofs.Exactly.{full_exactly}
 use Rattle.class_hash.proofs.dictionary.put.Goals as goal
 
-pub walk_locked-requires-clause-held : goal.walk_locked-requires-clause-held
-walk_locked-requires-clause-held g c = (fresh_hold (c.args.key % 64), ap (λ (z : View). z.hold) c.lock_bucket.ensures.view)
+pub lacks-requires-clause-held : goal.lacks-requires-clause-held
+lacks-requires-clause-held g c = (fresh_hold (c.args.key % 64), ap (λ (z : View). z.hold) c.lock_bucket.ensures.view.view)
 
-pub returns-in_default-clause-view : goal.returns-in_default-clause-view
-returns-in_default-clause-view g c =
+pub returns-then-lacks-clause-view : goal.returns-then-lacks-clause-view
+returns-then-lacks-clause-view g c =
     let v = c.args.seat.now.view in
-    let f = c.in_default.ensures.absent (fresh_hold (c.args.key % 64)) (ap (λ (z : View). z.hold) c.lock_bucket.ensures.view) in
+    let f = c.lacks.ensures.walked (fresh_hold (c.args.key % 64)) (ap (λ (z : View). z.hold) c.lock_bucket.ensures.view.view) in
     subst (λ (t : Told). Puts c.args.table.now.capacities c.args.seat.now.view c.args.key c.args.value t c.add.new.seat.view) (sym c.told_added.ensures)
-    (put_once v c.loop.seat.view c.search.new.seat.view c.lock_bucket.new.seat.view c.walk_locked.new.seat.view c.args.key (c.args.key % 64) c.search.result f.0 c.requires.quiet c.loop.invariant.1 c.search.ensures.view c.lock_bucket.ensures.view f.1 c.lock_bucket.ensures.turn
-    c.args.table.now.capacities c.add.new.seat.view c.args.value c.add.result refl f.2 c.add.ensures.full c.add.ensures.added)
+    (put_once v c.loop.seat.view c.search.new.seat.view c.lock_bucket.new.seat.view c.lacks.new.seat.view c.args.key (c.args.key % 64) c.search.result f.0 c.requires.quiet c.loop.invariant.1 c.search.ensures.view c.lock_bucket.ensures.view f.1 c.lock_bucket.ensures.turn
+    c.args.table.now.capacities c.add.new.seat.view c.args.value c.add.result c.loop.invariant.2 refl (f.2 c.if-lacks.true) c.add.ensures.full c.add.ensures.added)
+
+pub returns-then-lacks-clause-full : goal.returns-then-lacks-clause-full
+returns-then-lacks-clause-full g c = full_exactly c.args.table.now.capacities c.args.seat.now.view c.add.new.seat.view c.args.key c.args.value c.told_added.result (returns-then-lacks-clause-view g c)
+
+pub returns-then-is_some-clause-full : goal.returns-then-is_some-clause-full
+returns-then-is_some-clause-full g c =
+    let v = c.args.seat.now.view in
+    full_exactly c.args.table.now.capacities c.args.seat.now.view c.search.new.seat.view c.args.key c.args.value c.told.result
+    (subst (λ (t : Told). Puts c.args.table.now.capacities c.args.seat.now.view c.args.key c.args.value t c.search.new.seat.view) (sym c.told.ensures)
+    (found_once c.args.table.now.capacities v c.loop.seat.view c.search.new.seat.view c.args.key c.args.value c.search.result (search rules) c.loop.invariant.1 c.loop.invariant.2 c.search.ensures.view))
 
 pub loop-preserved : goal.loop-preserved
 loop-preserved g c =
     let v = c.args.seat.now.view in
-    let f = c.in-Some-walk_locked.ensures.found (fresh_hold (c.args.key % 64)) (ap (λ (z : View). z.hold) c.lock_bucket.ensures.view) in
-    (search rules, tried_again v c.loop.seat.view c.search.new.seat.view c.lock_bucket.new.seat.view c.walk_locked.new.seat.view c.args.key (c.args.key % 64) c.search.result f.0 c.requires.quiet c.loop.invariant.1 c.search.ensures.view c.lock_bucket.ensures.view f.1 c.lock_bucket.ensures.turn c.free_bucket.new.seat.view c.free_bucket.ensures.view)
+    let f = c.lacks.ensures.walked (fresh_hold (c.args.key % 64)) (ap (λ (z : View). z.hold) c.lock_bucket.ensures.view.view) in (
+      search rules,
+      tried_again v c.loop.seat.view c.search.new.seat.view c.lock_bucket.new.seat.view c.lacks.new.seat.view c.args.key (c.args.key % 64) c.search.result f.0 c.requires.quiet c.loop.invariant.1 c.search.ensures.view c.lock_bucket.ensures.view f.1 c.lock_bucket.ensures.turn c.free_bucket.new.seat.view c.free_bucket.ensures.view,
+      tried_on v c.loop.seat.view c.search.new.seat.view c.lock_bucket.new.seat.view c.lacks.new.seat.view c.args.key (c.args.key % 64) c.search.result f.0 c.requires.quiet c.loop.invariant.1 c.search.ensures.view c.lock_bucket.ensures.view f.1 c.lock_bucket.ensures.turn c.loop.invariant.2 c.free_bucket.new.seat.view c.free_bucket.ensures.view,
+    )

@@ -1,6 +1,7 @@
 use Rattle.std.proofs.Common.{◌≡◌}
+use Rattle.class_hash.specs.Trails.{AddsNoLists}
 use Rattle.class_hash.specs.Replies.{HasTried}
 use Rattle.class_hash.proofs.dictionary.put.Given as goal
 
 abbrev pub invariant-loop : goal.invariant-loop
-invariant-loop g l = (l.seat.table ≡ l.fn.seat.table) × HasTried l.fn.seat.view l.seat.view
+invariant-loop g l = (l.seat.table ≡ l.fn.seat.table) × HasTried l.fn.seat.view l.key l.seat.view × AddsNoLists l.fn.seat.view.trail l.seat.view.trail

@@ -3,4 +3,4 @@ use Rattle.class_hash.specs.Replies.{HasTried}
 use Rattle.class_hash.proofs.dictionary.set.Given as goal
 
 abbrev pub invariant-loop : goal.invariant-loop
-invariant-loop g l = (l.seat.table ≡ l.fn.seat.table) × HasTried l.fn.seat.view l.seat.view
+invariant-loop g l = (l.seat.table ≡ l.fn.seat.table) × HasTried l.fn.seat.view l.key l.seat.view

@@ -1,0 +1,10 @@
+use Rattle.std.proofs.Common.{sym, subst, IfOk}
+use Rattle.citrus_tool.specs.declared.commands.Command.{Command}
+use Rattle.citrus_tool.specs.Answers.{Writes, Leaves}
+use Rattle.citrus_tool.proofs.running.answer_to.Goals as goal
+
+pub returns-in-Hash : goal.returns-in-Hash
+returns-in-Hash g c =
+    let input = c.args.input.now in
+    subst (λ (k : Command). IfOk c.hash.result (λ answer. (writes : Writes k answer.status input answer.text.items) × Leaves k answer.status input answer.text.items writes answer.ran))
+    (sym c.in-Hash.is) c.hash.ensures

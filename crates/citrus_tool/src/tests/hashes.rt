@@ -1,0 +1,119 @@
+//! Scripts that run beside each other on the hash dictionary.
+use super::{answer, answer_through, drawn, source_of};
+use crate::Status;
+use prcu_model::{Gate, Point};
+use std::alloc::Global;
+use std::sync::atomic::{AtomicU64, Ordering};
+use std::test::Fail;
+use std::thread;
+
+#[test]
+fn the_one_slot_of_a_class_is_used_again(rt: HostRuntime) -> Result<(), Fail> {
+    let alloc = rt.alloc();
+    let text = b"script\nput 6 1\ndel 6\nput 6 2\nget 6\n";
+    let wanted =
+        b"script 0\nput 6 1 new 1\ndel 6 gone 2\nput 6 2 new 3\nget 6 val 2 3\nhistory 3\n1 0 put 6 1\n2 0 del 6\n3 0 put 6 2\nfinal 1\n6 2\nend\n";
+    let mut source = source_of(alloc, text, 100, &[])?;
+    let (status, written) = answer(&rt, alloc, &["hash"], &mut source, 1000)?;
+    assert_eq!(rt; status, Status::Done);
+    assert!(rt; written.as_slice() == wanted.as_slice());
+    Ok(())
+}
+
+#[test]
+fn a_get_beside_a_put_is_told_one_of_two_things(rt: HostRuntime) -> Result<(), Fail> {
+    let alloc = rt.alloc();
+    let found =
+        b"script 0\nput 1 1 new 1\nscript 1\nget 1 val 1 1\nhistory 1\n1 0 put 1 1\nfinal 1\n1 1\nend\n".as_slice();
+    let missed =
+        b"script 0\nput 1 1 new 1\nscript 1\nget 1 none 0\nhistory 1\n1 0 put 1 1\nfinal 1\n1 1\nend\n".as_slice();
+    for turn in 0..100 {
+        let mut source = source_of(alloc, b"script\nput 1 1\nscript\nget 1\n", 100, &[])?;
+        let (status, written) = answer(&rt, alloc, &["hash"], &mut source, 1000)?;
+        assert_eq!(rt; status, Status::Done, "turn {turn}");
+        assert!(rt; written.as_slice() == found || written.as_slice() == missed, "turn {turn}");
+    }
+    Ok(())
+}
+
+// Holds callers 0 and 1 at their answers until each has come there, for so many turns at most.
+#[derive(Drop)]
+struct Meeting {
+    arrived: [AtomicU64; 2],
+    misses: AtomicU64,
+}
+
+const MOST_TURNS: u64 = 10_000_000;
+
+impl Gate for Meeting {
+    fn pass(&self, point: Point, caller: u32) {
+        if point != Point::Answered || caller > 1 {
+            return;
+        }
+        self.arrived[caller as usize].store(1, Ordering::SeqCst);
+        let other = 1 - caller as usize;
+        for _ in 0..MOST_TURNS {
+            if self.arrived[other].load(Ordering::SeqCst) == 1 {
+                return;
+            }
+            thread::yield_now();
+        }
+        self.misses.store(1, Ordering::SeqCst);
+    }
+}
+
+#[test]
+fn two_scripts_are_at_their_answers_at_once(rt: HostRuntime) -> Result<(), Fail> {
+    let alloc = rt.alloc();
+    let meeting = Meeting {
+        arrived: [AtomicU64::new(0), AtomicU64::new(0)],
+        misses: AtomicU64::new(0),
+    };
+    let wanted =
+        b"script 0\nget 1 none 0\nscript 1\nget 2 none 0\nhistory 0\nfinal 0\nend\n".as_slice();
+    let mut source = source_of(alloc, b"script\nget 1\nscript\nget 2\n", 100, &[])?;
+    let (status, written) = answer_through(&rt, alloc, &["hash"], &mut source, 1000, &meeting)?;
+    assert_eq!(rt; status, Status::Done);
+    assert!(rt; written.as_slice() == wanted);
+    assert_eq!(rt; meeting.misses.load(Ordering::SeqCst), 0);
+    Ok(())
+}
+
+// Scripts that nobody chose, which share a few keys, most of them of one class.
+fn scripts_of(alloc: Global, number: u64) -> Result<Vec<u8>, Fail> {
+    let mut text = Vec::new(alloc);
+    let mut state = number;
+    for _ in 0..2 + number % 63 {
+        text.extend_from_slice(b"script\n")?;
+        for i in 0..12u64 {
+            state = drawn(state);
+            let key = (state >> 33) % 4 * ((state >> 40) % 2 * 63 + 1);
+            let line = match (state >> 50) % 5 {
+                0 | 1 => format!(in alloc; "put {key} {i}\n")?,
+                2 => format!(in alloc; "get {key}\n")?,
+                3 => format!(in alloc; "del {key}\n")?,
+                _ => format!(in alloc; "set {key} {i}\n")?,
+            };
+            text.extend_from_slice(line.as_bytes())?;
+        }
+    }
+    Ok(text)
+}
+
+#[test]
+fn what_hash_writes_is_checked_as_true(rt: HostRuntime) -> Result<(), Fail> {
+    let alloc = rt.alloc();
+    for number in 0..300 {
+        let text = scripts_of(alloc, number / 3)?;
+        let mut source = source_of(alloc, &text, 1000, &[])?;
+        let (status, account) = answer(&rt, alloc, &["hash"], &mut source, 100_000)?;
+        assert_eq!(rt; status, Status::Done, "run {number}");
+        let mut claim = text;
+        claim.extend_from_slice(b"account\n")?;
+        claim.extend_from_slice(&account)?;
+        let mut source = source_of(alloc, &claim, 1000, &[])?;
+        let (status, _) = answer(&rt, alloc, &["check"], &mut source, 100)?;
+        assert_eq!(rt; status, Status::Done, "run {number}");
+    }
+    Ok(())
+}

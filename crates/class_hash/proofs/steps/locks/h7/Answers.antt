@@ -1,7 +1,0 @@
-use Rattle.std.proofs.Common.{rules, arith}
-use Rattle.class_hash.proofs.Allowed.{allows7}
-use Rattle.class_hash.proofs.Facts.{class_below}
-use Rattle.class_hash.proofs.steps.locks.h7.Goals as goal
-
-pub store-requires : goal.store-requires
-store-requires c = let hold = c.requires.case.0 in (search rules, class_below c.table.inside.table.shared.key.capacities.items 1 hold.class _ _ (search rules) (search rules) (omega arith) (search rules), allows7 _ _ _ _ hold _ (search rules) (search rules) (search rules))

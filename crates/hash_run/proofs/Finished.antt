@@ -1,0 +1,218 @@
+-- A run of scripts on the hash dictionary, from the workers' chains of calls to one explained history.
+use Rattle.std.proofs.Common.{◌≡◌, ◌≢◌, ℕ, zero, suc, ◌+◌, ◌<◌, true, false, cond, List, [], ◌∷◌, ◌++◌, length, get_or, map, Option, Some, None, refl, sym, ap, subst, ◌∙◌, arith, append-nil, ne_eqb}
+use Rattle.std.specs.List.{AllByRecursion, slice_get}
+use Rattle.std.proofs.lemmas.Bool.{eqb-true}
+use Rattle.std.proofs.lemmas.List.{get_or-map, length-map}
+use Rattle.std.proofs.lemmas.Option.{slice_get-get_or, slice_get_within, get_or_from_slice_get}
+use mathlib.Core.List.{IsPrefix}
+use Rattle.prcu_model.specs.declared.mark.Mark.{Mark}
+use Rattle.prcu_model.specs.declared.mark.Mark.TheVariants.{Entered, Left, Began, Ended, Done, Given, Unlinked, Freed}
+use Rattle.prcu_model.specs.declared.operation.Op.{Op}
+use Rattle.prcu_model.specs.declared.operation.Told.{Told}
+use Rattle.prcu_model.specs.declared.operation.Line.{Line}
+use Rattle.prcu_model.specs.declared.operation.Update.{Update}
+use Rattle.prcu_model.specs.Lists.{Roomy, entries_of}
+use Rattle.prcu_model.specs.Marks.{updates_of, is_of, own_of}
+use Rattle.prcu_model.specs.Chains.{IsChain}
+use Rattle.prcu_model.specs.Callers.{Caller}
+use Rattle.prcu_model.specs.Runs.{FitsScripts}
+use Rattle.prcu_model.specs.Fronts.{Placed, all_told_lines, AreExplainable}
+use Rattle.prcu_model.proofs.Chains.{chain_keeps}
+use Rattle.prcu_model.proofs.MarkLists.{own_of-append}
+use Rattle.prcu_model.proofs.OwnMarks.{own_of-all}
+use Rattle.prcu_model.proofs.Callers.{HasTold}
+use Rattle.prcu_model.proofs.Runs.{HaveTold, newcomer, run_updates, run_lengths, run_confirmed, run_fronts, run_fits}
+use Rattle.client_run.specs.Workers.{Work, AreReadyFor, HaveMade}
+use Rattle.hash_core.specs.declared.view.View.{View}
+use Rattle.class_hash.specs.Answers.{IsInformed}
+use Rattle.class_hash.specs.Seats.{TableAt}
+use Rattle.class_hash.specs.Clients.{ClientAt, caller_of, HasCalled, ExplainsInClasses}
+use Rattle.class_hash.proofs.Clients.{chain_has_told, calls_stay}
+use Rattle.hash_run.specs.Capacities.{put_keys, AreCapacities}
+use Rattle.hash_run.specs.Crews.{idle_view, IsHired, IsCrew, IsDone, AreDone, IsJoined, all_own}
+use Rattle.hash_run.proofs.Roomy.{PutsInto, each_put_there, all_stand, all_from_own, told_from_lines, all_lines_from_ops, at_number}
+
+-- a seat that has done nothing is informed
+idle_informed : (places place tickets : ℕ) → IsInformed places (idle_view place 1 tickets)
+idle_informed places place tickets = record { works = omega arith; heard = tt; legal = tt; met = λ p answers. refl; within = λ p far. refl }
+
+pub ready : (table : TableAt) (scripts : List (List Op)) (workers : List (Work ClientAt)) → IsCrew table scripts workers → AreReadyFor (λ (c : ClientAt). c.view.tickets) workers scripts
+ready table scripts workers crew i worker there =
+    let hired = crew.each i worker there in
+    let tickets : worker.client.view.tickets ≡ length (get_or scripts i []) = ap (λ (c : ClientAt). c.view.tickets) hired.client in
+    record { empty = hired.empty; room = hired.room; means = omega arith }
+
+module _ (table : TableAt) (scripts : List (List Op)) (befores afters : List (Work ClientAt)) (crew : IsCrew table scripts befores) (count : length afters ≡ length befores) (made : HaveMade HasCalled befores scripts afters) where
+  -- the worker before, and its chain
+  before_of : (i : ℕ) (after : Work ClientAt) → slice_get afters i ≡ Some after → (before : Work ClientAt) × IsHired table i (get_or scripts i []) before × IsChain HasCalled before.client (get_or scripts i []) after.told.entries after.client
+  before_of i after there =
+      let below = slice_get_within afters i after there in
+      let same = slice_get-get_or befores i after (omega arith) in
+      (get_or befores i after, crew.each i (get_or befores i after) same, made i (get_or befores i after) after same there)
+
+  done_at : (i : ℕ) (after : Work ClientAt) → slice_get afters i ≡ Some after → IsDone table i after
+  done_at i after there =
+      let b = before_of i after there in
+      let start : b.0.client ≡ record { table = table; view = idle_view i 1 (length (get_or scripts i [])) } = b.1.client in
+      let d = chain_keeps HasCalled (λ c. (c.table ≡ table) × (c.view.place ≡ i) × (c.view.places ≡ 1) × IsInformed table.places c.view)
+      (λ c op told d so call.
+      let stays = calls_stay c.table.capacities c.view d.view op told call.makes in (
+        call.table ∙ so.0,
+        stays.0 ∙ so.1,
+        stays.1 ∙ so.2,
+        subst (λ (t : TableAt). IsInformed t.places d.view) so.0 call.informed,
+      ))
+      (get_or scripts i []) after.told.entries b.0.client after.client
+      (ap (λ (c : ClientAt). c.table) start, ap (λ (c : ClientAt). c.view.place) start, ap (λ (c : ClientAt). c.view.places) start, subst (λ (c : ClientAt). IsInformed table.places c.view) (sym start) (idle_informed table.places i (length (get_or scripts i []))))
+      b.2 in
+      record { table_is = d.0; place = d.1; one_place = d.2; informed = d.3 }
+
+  pub all_done : AreDone table afters
+  all_done i after there = done_at i after there
+
+  -- what the worker's script was told
+  told_at : (i : ℕ) (after : Work ClientAt) → slice_get afters i ≡ Some after → HasTold (ExplainsInClasses table.capacities) (newcomer i) (get_or scripts i []) after.told.entries (caller_of after.client)
+  told_at i after there =
+      let b = before_of i after there in
+      let start : b.0.client ≡ record { table = table; view = idle_view i 1 (length (get_or scripts i [])) } = b.1.client in
+      let fresh : caller_of b.0.client ≡ newcomer i = ap caller_of start in
+      let chain : IsChain HasCalled (record { table = table; view = idle_view i 1 (length (get_or scripts i [])) }) (get_or scripts i []) after.told.entries after.client =
+      subst (λ (c : ClientAt). IsChain HasCalled c (get_or scripts i []) after.told.entries after.client) start b.2 in
+      chain_has_told table.capacities (get_or scripts i []) after.told.entries (record { table = table; view = idle_view i 1 (length (get_or scripts i [])) }) after.client refl refl refl chain
+
+  -- ---- the joined seat
+
+  module _ (seat : View) (joined : IsJoined (map (λ (w : Work ClientAt). w.client.view) afters) seat) (informed : IsInformed table.places seat) (places : table.places ≡ length scripts) where
+    abbrev views : List View
+    views = map (λ (w : Work ClientAt). w.client.view) afters
+
+    view_at : (i : ℕ) (after : Work ClientAt) → slice_get afters i ≡ Some after → slice_get (map (λ (w : Work ClientAt). w.client.view) afters) i ≡ Some after.client.view
+    view_at i after there =
+        let below = slice_get_within afters i after there in
+        slice_get-get_or (map (λ (w : Work ClientAt). w.client.view) afters) i after.client.view (let n = length-map afters (λ (w : Work ClientAt). w.client.view) in omega arith)
+        ∙ ap Some (get_or-map (λ (w : Work ClientAt). w.client.view) afters i after after.client.view below ∙ ap (λ (w : Work ClientAt). w.client.view) (get_or_from_slice_get afters i after after there))
+
+    -- marks of another place
+    not_of : (p q : ℕ) (m : Mark) → p ≢ q → is_of p m ≡ true → is_of q m ≡ false
+    not_of p q (Entered r c x) ne is = ne_eqb r q (λ e. ne (sym (eqb-true r p is) ∙ e))
+    not_of p q (Left r c) ne is = ne_eqb r q (λ e. ne (sym (eqb-true r p is) ∙ e))
+    not_of p q (Began r c low high) ne is = ne_eqb r q (λ e. ne (sym (eqb-true r p is) ∙ e))
+    not_of p q (Ended r c) ne is = ne_eqb r q (λ e. ne (sym (eqb-true r p is) ∙ e))
+    not_of p q (Done u) ne is = ne_eqb u.caller q (λ e. ne (sym (eqb-true u.caller p is) ∙ e))
+    not_of p q (Given s) ne is = refl
+    not_of p q (Unlinked s) ne is = refl
+    not_of p q (Freed s) ne is = refl
+
+    none_of : (p q : ℕ) (ms : List Mark) → p ≢ q → AllByRecursion (λ m. is_of p m ≡ true) ms → own_of q ms ≡ []
+    none_of p q [] ne all = refl
+    none_of p q (m ∷ ms) ne all = ap (λ b. cond b (m ∷ own_of q ms) (own_of q ms)) (not_of p q m ne all.0) ∙ none_of p q ms ne all.1
+
+    -- of the marks of all views those of a place are those of the view of its number
+    own_among : (vs : List View) (first i : ℕ) → ((j : ℕ) (v : View) → slice_get vs j ≡ Some v → AllByRecursion (λ m. is_of (first + j) m ≡ true) v.own) → (k : ℕ) (v : View) → i ≡ first + k → slice_get vs k ≡ Some v → own_of i (all_own vs) ≡ v.own
+    own_among [] first i each k v at there = absurd (cc)
+    own_among (u ∷ vs) first i each zero v at there =
+        let same : u ≡ v = cc in
+        let mine : AllByRecursion (λ m. is_of i m ≡ true) u.own = subst (λ p. AllByRecursion (λ m. is_of p m ≡ true) u.own) (sym at) (each zero u refl) in
+        own_of-append i u.own (all_own vs) ∙ ap (λ xs. own_of i u.own ++ xs) (none_among vs (first + 1) i (omega arith) (λ j w e. subst (λ p. AllByRecursion (λ m. is_of p m ≡ true) w.own) (omega arith) (each (suc j) w e))) ∙ append-nil (own_of i u.own)
+        ∙ own_of-all i u.own mine ∙ ap (λ (z : View). z.own) same
+      where
+        none_among : (ws : List View) (from p : ℕ) → p < from → ((j : ℕ) (w : View) → slice_get ws j ≡ Some w → AllByRecursion (λ m. is_of (from + j) m ≡ true) w.own) → own_of p (all_own ws) ≡ []
+        none_among [] from p low each = refl
+        none_among (w ∷ ws) from p low each =
+            own_of-append p w.own (all_own ws) ∙ ap (λ xs. xs ++ own_of p (all_own ws)) (none_of (from + 0) p w.own (λ e. absurd (omega arith)) (each zero w refl))
+            ∙ none_among ws (from + 1) p (omega arith) (λ j x e. subst (λ q. AllByRecursion (λ m. is_of q m ≡ true) x.own) (omega arith) (each (suc j) x e))
+    own_among (u ∷ vs) first i each (suc k) v at there =
+        own_of-append i u.own (all_own vs) ∙ ap (λ xs. xs ++ own_of i (all_own vs)) (none_of (first + 0) i u.own (λ e. absurd (omega arith)) (each zero u refl))
+        ∙ own_among vs (first + 1) i (λ j w e. subst (λ p. AllByRecursion (λ m. is_of p m ≡ true) w.own) (omega arith) (each (suc j) w e)) k v (omega arith) there
+
+    -- each view's marks are those of its place
+    each_own : (j : ℕ) (v : View) → slice_get (map (λ (w : Work ClientAt). w.client.view) afters) j ≡ Some v → AllByRecursion (λ m. is_of (0 + j) m ≡ true) v.own
+    each_own j v there =
+        let below : j < length afters = (let n = length-map afters (λ (w : Work ClientAt). w.client.view) in let b = slice_get_within (map (λ (w : Work ClientAt). w.client.view) afters) j v there in omega arith) in
+        by (slice_get afters j) refl below
+      where
+        by : (found : Option (Work ClientAt)) → slice_get afters j ≡ found → j < length afters → AllByRecursion (λ m. is_of (0 + j) m ≡ true) v.own
+        by None none below = absurd (some_there afters j below none)
+          where
+            some_there : (xs : List (Work ClientAt)) (k : ℕ) → k < length xs → slice_get xs k ≡ None → ⊥
+            some_there [] k low e = absurd (omega arith)
+            some_there (x ∷ xs) zero low e = absurd (cc)
+            some_there (x ∷ xs) (suc k) low e = some_there xs k (omega arith) e
+        by (Some after) is below =
+            let told = told_at j after is in
+            let same : after.client.view ≡ v = (let e : Some after.client.view ≡ Some v = sym (view_at j after is) ∙ there in cc) in
+            let place : j ≡ 0 + j = omega arith in
+            subst (λ (z : List Mark × ℕ). AllByRecursion (λ m. is_of z.1 m ≡ true) z.0) (λ k. ((sym told.own ∙ ap (λ (z : View). z.own) same) k, place k)) told.mine
+
+    pub have_told : HaveTold (ExplainsInClasses table.capacities) scripts (map (λ (w : Work ClientAt). w.told.entries) afters) seat.seen
+    have_told = record {
+      count = length-map afters (λ (w : Work ClientAt). w.told.entries) ∙ count ∙ crew.count;
+      each = λ i below.
+          let n = crew.count in
+          let among : i < length afters = omega arith in
+          found i (slice_get afters i) refl among;
+      others = λ i past. informed.within i (omega arith);
+      legal = informed.legal;
+    }
+      where
+        found : (i : ℕ) (w : Option (Work ClientAt)) → slice_get afters i ≡ w → i < length afters
+            → (c : Caller) × HasTold (ExplainsInClasses table.capacities) (newcomer i) (get_or scripts i []) (get_or (map (λ (w : Work ClientAt). w.told.entries) afters) i []) c × IsPrefix c.seen seat.seen × (own_of i seat.seen ≡ own_of i c.own)
+        found i None none below = absurd (some_there afters i below none)
+          where
+            some_there : (xs : List (Work ClientAt)) (k : ℕ) → k < length xs → slice_get xs k ≡ None → ⊥
+            some_there [] k low e = absurd (omega arith)
+            some_there (x ∷ xs) zero low e = absurd (cc)
+            some_there (x ∷ xs) (suc k) low e = some_there xs k (omega arith) e
+        found i (Some after) is below =
+            let told = told_at i after is in
+            let here : get_or (map (λ (w : Work ClientAt). w.told.entries) afters) i [] ≡ after.told.entries = get_or-map (λ (w : Work ClientAt). w.told.entries) afters i after [] below ∙ ap (λ (w : Work ClientAt). w.told.entries) (get_or_from_slice_get afters i after after is) in
+            let long = length-map afters (λ (w : Work ClientAt). w.client.view) in
+            let mine : own_of i seat.seen ≡ after.client.view.own =
+            informed.met i (joined.answers i (omega arith)) ∙ ap (own_of i) joined.own ∙ own_among (map (λ (w : Work ClientAt). w.client.view) afters) 0 i each_own i after.client.view (omega arith) (view_at i after is) in
+            let all : own_of i after.client.view.own ≡ after.client.view.own = ap (own_of i) told.own ∙ own_of-all i told.marks told.mine ∙ sym told.own in (
+              caller_of after.client,
+              subst (λ ts. HasTold (ExplainsInClasses table.capacities) (newcomer i) (get_or scripts i []) ts (caller_of after.client)) (sym here) told,
+              joined.seen i after.client.view (view_at i after is),
+              mine ∙ sym all,
+            )
+
+    -- the run is explained, whatever the number of slots
+    module _ (right : AreCapacities scripts table.capacities) where
+      abbrev tolds : List (List Told)
+      tolds = map (λ (w : Work ClientAt). w.told.entries) afters
+
+      lines_put : AllByRecursion (AllByRecursion (λ (line : Line). PutsInto (put_keys scripts) line.op)) (all_told_lines scripts (map (λ (w : Work ClientAt). w.told.entries) afters))
+      lines_put = all_lines_from_ops (PutsInto (put_keys scripts)) scripts (map (λ (w : Work ClientAt). w.told.entries) afters) (each_put_there scripts)
+
+      updates_put : AllByRecursion (λ (u : Update). PutsInto (put_keys scripts) u.op) (updates_of seat.seen)
+      updates_put = all_from_own (PutsInto (put_keys scripts)) 1 (updates_of seat.seen) (λ c.
+          subst (λ ps. AllByRecursion (λ (q : Placed). PutsInto (put_keys scripts) q.op) ps) (sym (run_updates (ExplainsInClasses table.capacities) scripts (map (λ (w : Work ClientAt). w.told.entries) afters) seat.seen have_told c))
+          (told_from_lines (PutsInto (put_keys scripts)) (get_or (all_told_lines scripts (map (λ (w : Work ClientAt). w.told.entries) afters)) c []) (at_number (PutsInto (put_keys scripts)) (all_told_lines scripts (map (λ (w : Work ClientAt). w.told.entries) afters)) c lines_put)))
+
+      pub run_explained : (slots : ℕ) → AreExplainable scripts (map (λ (w : Work ClientAt). w.told.entries) afters) (updates_of seat.seen) slots
+      run_explained slots = record {
+        lengths = run_lengths (ExplainsInClasses table.capacities) scripts (map (λ (w : Work ClientAt). w.told.entries) afters) seat.seen have_told;
+        explained = record {
+          updates = run_updates (ExplainsInClasses table.capacities) scripts (map (λ (w : Work ClientAt). w.told.entries) afters) seat.seen have_told;
+          confirmed = run_confirmed (ExplainsInClasses table.capacities) scripts (map (λ (w : Work ClientAt). w.told.entries) afters) seat.seen have_told;
+          fronts = all_stand scripts table.capacities right (record { scripts = length scripts; slots = slots }) (updates_of seat.seen) updates_put (all_told_lines scripts (map (λ (w : Work ClientAt). w.told.entries) afters)) lines_put
+              (run_fronts (ExplainsInClasses table.capacities) scripts (map (λ (w : Work ClientAt). w.told.entries) afters) seat.seen have_told);
+        };
+      }
+
+      pub run_marks : FitsScripts scripts seat.seen
+      run_marks = run_fits (ExplainsInClasses table.capacities) scripts (map (λ (w : Work ClientAt). w.told.entries) afters) seat.seen have_told
+
+-- what workers were told, as lists
+pub entries_are : (workers : List (Work ClientAt)) → entries_of (map (λ (w : Work ClientAt). w.told) workers) ≡ map (λ (w : Work ClientAt). w.told.entries) workers
+entries_are [] = refl
+entries_are (w ∷ ws) = ap (λ xs. w.told.entries ∷ xs) (entries_are ws)
+
+-- What a run hands on once its seats are one: these told lists are explained by the updates that the seat has seen.
+pub told_explained : (table : TableAt) (scripts : List (List Op)) (befores afters : List (Work ClientAt)) → IsCrew table scripts befores → length afters ≡ length befores → HaveMade HasCalled befores scripts afters
+    → (seat : View) → IsJoined (map (λ (w : Work ClientAt). w.client.view) afters) seat → IsInformed table.places seat → table.places ≡ length scripts → AreCapacities scripts table.capacities
+    → (told : List (Roomy Told)) → told ≡ [] ++ map (λ (w : Work ClientAt). w.told) afters
+    → (slots : ℕ) → AreExplainable scripts (entries_of told) (updates_of seat.seen) slots
+told_explained table scripts befores afters crew count made seat joined informed places right told is slots =
+    subst (λ ts. AreExplainable scripts ts (updates_of seat.seen) slots) (sym (ap entries_of is ∙ entries_are afters))
+    (run_explained table scripts befores afters crew count made seat joined informed places right slots)

@@ -1,0 +1,5 @@
+pub mod Counts
+pub mod Hiring
+pub mod Joining
+pub mod Roomy
+pub mod Finished
