@@ -1,0 +1,114 @@
+-- Lists of views, of slots and of marks.
+use Rattle.std.proofs.Common.{◌≡◌, ◌≢◌, ℕ, zero, suc, ◌+◌, ◌<◌, ◌≤◌, ◌⊎◌, cond, List, [], ◌∷◌, ◌++◌, length, map, set, refl, sym, ap, subst, ◌∙◌, ⊎_elim, inl, inr, arith, eq-eqb, ne_eqb}
+use mathlib.Core.Logic.{dite}
+use mathlib.Core.Option.{some, some-injective, some-ne-none}
+use native.Mathlib.Decide.{dec_le, ℕ_discrete}
+use lib.ListN.{get_elem?}
+use Rattle.atomic_table.proofs.Lists.{at_set, at_longer}
+use Rattle.core_state.specs.Lists.{times, numbers_from, total, IsIn, Each}
+
+module _ {A : Type 0} where
+  pub at_below : (l : List A) (i : ℕ) (a : A) → get_elem? l i ≡ some a → i < length l
+  at_below [] i a e = absurd (some-ne-none a (sym e))
+  at_below (x ∷ xs) zero a e = omega arith
+  at_below (x ∷ xs) (suc i) a e = let p = at_below xs i a e in omega arith
+
+  -- what stands in a list with one more element: it stood there, or is the new one at the end
+  pub at_end : (l : List A) (a b : A) (j : ℕ) → get_elem? (l ++ a ∷ []) j ≡ some b → (get_elem? l j ≡ some b) ⊎ ((j ≡ length l) × (a ≡ b))
+  at_end [] a b zero e = inr (refl, some-injective a b e)
+  at_end [] a b (suc j) e = absurd (some-ne-none b (sym e))
+  at_end (x ∷ xs) a b zero e = inl e
+  at_end (x ∷ xs) a b (suc j) e = elim (at_end xs a b j e) [ inl t ↦ inl t | inr t ↦ inr (ap suc t.0, t.1) ]
+
+  pub set_twice : (l : List A) (i : ℕ) (a b : A) → set (set l i a) i b ≡ set l i b
+  set_twice [] i a b = refl
+  set_twice (x ∷ xs) zero a b = refl
+  set_twice (x ∷ xs) (suc i) a b = ap (λ ys. x ∷ ys) (set_twice xs i a b)
+
+  -- the element at a place is one
+  pub at_one : (l : List A) (i : ℕ) (a b : A) → get_elem? l i ≡ some a → get_elem? l i ≡ some b → a ≡ b
+  at_one l i a b ea eb = some-injective a b (sym ea ∙ eb)
+
+  -- a fact of each element, after one has changed
+  pub each_set : (P : ℕ → A → Type 0) (vs : List A) (id : ℕ) (w : A) → P id w → ((j : ℕ) (u : A) → j ≢ id → get_elem? vs j ≡ some u → P j u)
+      → (j : ℕ) (u : A) → get_elem? (set vs id w) j ≡ some u → P j u
+  each_set P vs id w mine others j u e = ⊎_elim (λ (t : (j ≡ id) × (w ≡ u)). subst (λ (x : ℕ × A). P x.0 x.1) (λ i. (sym t.0 i, t.1 i)) mine)
+      (λ (t : (j ≢ id) × (get_elem? vs j ≡ some u)). others j u t.0 t.1) (at_set vs id j w u e)
+
+  -- the same, where what holds of the old elements follows from what held
+  pub each_change : (P Q : A → Type 0) (vs : List A) (id : ℕ) (v w : A) → get_elem? vs id ≡ some v → (P v → Q w) → ((u : A) → P u → Q u) → Each vs P → Each (set vs id w) Q
+  each_change P Q vs id v w at mine others all = each_set (λ j u. Q u) vs id w (mine (all id v at)) (λ j u other e. others u (all j u e))
+
+  -- what stands in the changed list has one in its place in the old list, which is it or the one that was changed
+  pub back_at : (vs : List A) (id : ℕ) (v w : A) → get_elem? vs id ≡ some v → (j : ℕ) (u : A) → get_elem? (set vs id w) j ≡ some u
+      → ((j ≡ id) × (w ≡ u)) ⊎ ((j ≢ id) × (get_elem? vs j ≡ some u))
+  back_at vs id v w at j u e = at_set vs id j w u e
+
+  pub total_set : (f : A → ℕ) (vs : List A) (id : ℕ) (v w : A) → get_elem? vs id ≡ some v → total f (set vs id w) + f v ≡ total f vs + f w
+  total_set f [] id v w e = absurd (some-ne-none v (sym e))
+  total_set f (x ∷ xs) zero v w e = let s = ap f (some-injective x v e) in omega arith
+  total_set f (x ∷ xs) (suc id) v w e = let s = total_set f xs id v w e in omega arith
+
+  pub total_same : (f : A → ℕ) (vs : List A) (id : ℕ) (v w : A) → get_elem? vs id ≡ some v → f w ≡ f v → total f (set vs id w) ≡ total f vs
+  total_same f vs id v w at same = let s = total_set f vs id v w at in omega arith
+
+  pub total_part : (f : A → ℕ) (vs : List A) (id : ℕ) (v : A) → get_elem? vs id ≡ some v → f v ≤ total f vs
+  total_part f [] id v e = absurd (some-ne-none v (sym e))
+  total_part f (x ∷ xs) zero v e = let s = ap f (some-injective x v e) in omega arith
+  total_part f (x ∷ xs) (suc id) v e = let s = total_part f xs id v e in omega arith
+
+  -- two elements count for two
+  pub total_two : (f : A → ℕ) (vs : List A) (i j : ℕ) (v w : A) → get_elem? vs i ≡ some v → get_elem? vs j ≡ some w → i ≢ j → f v + f w ≤ total f vs
+  total_two f [] i j v w ei ej ne = absurd (some-ne-none v (sym ei))
+  total_two f (x ∷ xs) zero zero v w ei ej ne = absurd (ne refl)
+  total_two f (x ∷ xs) zero (suc j) v w ei ej ne = let s = ap f (some-injective x v ei) in let t = total_part f xs j w ej in omega arith
+  total_two f (x ∷ xs) (suc i) zero v w ei ej ne = let s = ap f (some-injective x w ej) in let t = total_part f xs i v ei in omega arith
+  total_two f (x ∷ xs) (suc i) (suc j) v w ei ej ne = let s = total_two f xs i j v w ei ej (λ e. ne (ap suc e)) in omega arith
+
+  -- an element of a list of two parts is one of the first or of the second
+  pub in_append : (xs ys : List A) (a : A) → IsIn (xs ++ ys) a → IsIn xs a ⊎ IsIn ys a
+  in_append [] ys a i = inr i
+  in_append (x ∷ xs) ys a (zero, e) = inl (0, e)
+  in_append (x ∷ xs) ys a (suc j, e) = ⊎_elim (λ (t : IsIn xs a). inl (suc t.0, t.1)) (λ t. inr t) (in_append xs ys a (j, e))
+
+  pub in_first : (xs ys : List A) (a : A) → IsIn xs a → IsIn (xs ++ ys) a
+  in_first xs ys a i = (i.0, at_longer xs ys i.0 a i.1)
+
+  pub in_second : (xs ys : List A) (a : A) → IsIn ys a → IsIn (xs ++ ys) a
+  in_second [] ys a i = i
+  in_second (x ∷ xs) ys a i = let r = in_second xs ys a i in (suc r.0, r.1)
+
+-- how often numbers stand in lists
+pub times_append : (x : ℕ) (ys zs : List ℕ) → times x (ys ++ zs) ≡ times x ys + times x zs
+times_append x [] zs = omega arith
+times_append x (y ∷ ys) zs = let s = times_append x ys zs in omega arith
+
+pub times_here : (x : ℕ) (ys : List ℕ) → times x (x ∷ ys) ≡ 1 + times x ys
+times_here x ys = ap (λ b. cond b 1 0 + times x ys) (eq-eqb x x refl)
+
+pub times_other : (x y : ℕ) (ys : List ℕ) → y ≢ x → times x (y ∷ ys) ≡ times x ys
+times_other x y ys ne = let e : times x (y ∷ ys) ≡ 0 + times x ys = ap (λ b. cond b 1 0 + times x ys) (ne_eqb y x ne) in omega arith
+
+-- a number that stands in a mapped list
+pub times_in : {A : Type 0} (f : A → ℕ) (xs : List A) (a : A) → IsIn xs a → 1 ≤ times (f a) (map f xs)
+times_in f [] a i = absurd (some-ne-none a (sym i.1))
+times_in f (x ∷ xs) a (zero, e) = let t : times (f a) (f x ∷ map f xs) ≡ 1 + times (f a) (map f xs) = subst (λ z. times (f a) (z ∷ map f xs) ≡ 1 + times (f a) (map f xs)) (ap f (sym (some-injective x a e))) (times_here (f a) (map f xs)) in omega arith
+times_in f (x ∷ xs) a (suc j, e) = let t = times_in f xs a (j, e) in omega arith
+
+-- the numbers of a row, each once
+pub times_from : (x first n : ℕ) → 1 ≤ times x (numbers_from first n) → (first ≤ x) × (x < first + n)
+times_from x first zero there = absurd (omega arith)
+times_from x first (suc n) there =
+    dite (ℕ_discrete first x) (λ e. (omega arith, omega arith))
+    (λ ne. let t = times_other x first (numbers_from (first + 1) n) ne in let r = times_from x (first + 1) n (omega arith) in let low = r.0 in let high = r.1 in (omega arith, omega arith))
+
+pub from_times : (x first n : ℕ) → first ≤ x → x < first + n → times x (numbers_from first n) ≡ 1
+from_times x first zero low high = absurd (omega arith)
+from_times x first (suc n) low high =
+    dite (ℕ_discrete first x)
+    (λ e. let t : times x (first ∷ numbers_from (first + 1) n) ≡ 1 + times x (numbers_from (first + 1) n) = subst (λ z. times z (first ∷ numbers_from (first + 1) n) ≡ 1 + times z (numbers_from (first + 1) n)) e (times_here first (numbers_from (first + 1) n)) in
+    dite (dec_le 1 (times x (numbers_from (first + 1) n))) (λ again. absurd (let r = (times_from x (first + 1) n again).0 in omega arith)) (λ once. omega arith))
+    (λ ne. let t = times_other x first (numbers_from (first + 1) n) ne in let r = from_times x (first + 1) n (omega arith) (omega arith) in omega arith)
+
+pub not_from : (x first n : ℕ) → (x < first) ⊎ (first + n ≤ x) → times x (numbers_from first n) ≡ 0
+not_from x first n out = dite (dec_le 1 (times x (numbers_from first n))) (λ there. absurd (let r = times_from x first n there in let low = r.0 in let high = r.1 in ⊎_elim (λ (a : x < first). omega arith) (λ (b : first + n ≤ x). omega arith) out)) (λ none. omega arith)
