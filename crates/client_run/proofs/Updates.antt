@@ -74,7 +74,6 @@ module _ (scripts : List (List Op)) (told : List (Roomy Told)) (i : ℕ) (script
 pub all_left-end : (scripts : List (List Op)) (told : List (Roomy Told)) (i : ℕ) → length scripts ≤ i → all_left scripts told i ≡ []
 all_left-end scripts told i past = ap (λ ss. all_numbered_updates i (all_told_lines ss (entries_of (drop i told)))) (drop_all i scripts past)
 
-
 -- no more updates than operations
 length-told_updates-le : (script : List Op) (told : List Told) → length (told_updates (told_lines script told)) ≤ length script
 length-told_updates-le [] told = omega arith

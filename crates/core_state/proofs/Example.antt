@@ -1,9 +1,10 @@
 -- A run on literal words, in which each step is allowed: inserts, a replaced value, a listing, deletes with two children and with none,
 -- with their waits, and the reuse of slots. So no need of these kinds of step is one that cannot be met.
-use Rattle.std.proofs.Common.{List, [], ◌∷◌, refl, ap, inl, inr, arith, Some}
+use Rattle.std.proofs.Common.{◌≡◌, List, [], ◌∷◌, refl, ap, inl, inr, arith, Some}
 use mathlib.Core.Option.{some}
 use Rattle.prcu_model.specs.declared.mark.Side.TheVariants.{Left, Right}
 use Rattle.core_state.specs.declared.shape.Shape.{Shape}
+use Rattle.core_state.specs.declared.shape.Waiter.TheVariants.{Eer, Domain, Deer}
 use Rattle.core_state.specs.declared.words.Field.{Field}
 use Rattle.core_state.specs.declared.words.Field.TheVariants.{Clock, Front, Free, Announced, Stamp, Gate, Count, Row, State as StateWord, Lock, Key, Value, Life, Link, Tag}
 use Rattle.core_state.specs.declared.view.Waiting.{Waiting}
@@ -15,7 +16,7 @@ use Rattle.core_state.specs.Steps.{step3, step4, step5, step6, step9_held, step1
 use Rattle.core_state.proofs.Choices.{State, Choice, reached, AllAllowed, over, ◌⟫◌, le_now, lt_now, ne_now, announces, clocks, enters, fills, leaves, links_leaf, lists, loads, loads_life, loads_locked, locks, looks_front, replaces, reserves, seizes, turns_even, turns_odd, unlocks}
 
 abbrev pub small : Shape
-small = record { way = 0; slots = 5; places = 1; tickets = 100 }
+small = record { waiter = Eer; slots = 5; places = 1; tickets = 100 }
 
 abbrev pub start : State
 start = record {
@@ -34,8 +35,8 @@ start = record {
 -- the spots of a wait on a table with one place: its stamp
 pub only_spot : (wait : Waiting) (other : Field) → IsSpot small wait other → IsIn (Stamp 0 ∷ []) other
 only_spot wait (Stamp p) spot = (0, ap (λ q. some (Stamp q)) (let lt = spot.1 in omega arith))
-only_spot wait (Count c side) spot = absurd (let w = spot.0 in omega arith)
-only_spot wait (Row p c) spot = absurd (let w = spot.0 in omega arith)
+only_spot wait (Count c side) spot = absurd (let w : Eer ≡ Domain = spot.0 in cc)
+only_spot wait (Row p c) spot = absurd (let w : Eer ≡ Deer = spot.0 in cc)
 only_spot wait Clock spot = absurd spot
 only_spot wait Front spot = absurd spot
 only_spot wait Free spot = absurd spot

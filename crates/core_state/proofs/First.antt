@@ -170,7 +170,7 @@ module _ (k : Shape) (m : Memory) (table : IsShape k) (fresh : IsFresh k m) wher
     };
     waiters = record {
       clock = fresh.clock;
-      clocked = each_one (IsClocked k.way []) (first_view k) (record { loaded = λ c none. absurd (cc); stamped = λ s none. absurd (cc) });
+      clocked = each_one (IsClocked k.waiter []) (first_view k) (record { loaded = λ c none. absurd (cc); stamped = λ s none. absurd (cc) });
       excused = λ i j v u wait section e waits. absurd (each_one (λ (z : View). (x : Waiting) → z.wait ≡ Some x → ⊥) (first_view k) (λ x none. absurd (let q : None ≡ Some x = none in cc)) i v e wait waits);
       turned = each_one (λ (u : View). (wait : Waiting) → u.wait ≡ Some wait → IsTurnedOnce wait) (first_view k) (λ wait none. absurd (cc));
       eer = λ way. record {

@@ -26,9 +26,9 @@ waits_begin_fresh k m vs h i id low high v there needs a b x y wait section ea w
     let q = was {X = ℕ × Option Section} (λ (u : View). (u.post.place, u.section)) vs id v w there refl b y eb in
     each_set (λ n u. u.wait ≡ Some wait → ⊥) vs id w
     (λ is. (let e : new_wait v low high (m Clock) h ≡ wait = cc in
-    let none : IsIn [] (spot_of k y.post.place section) = subst (λ (z : Waiting). IsIn z.excused (spot_of k y.post.place section)) (sym e) has in
-    absurd (some-ne-none (spot_of k y.post.place section) (sym none.1))))
-    (λ n u ne e is. i.waiters.excused n b u q.0 wait section e is going q.1 (ap (λ z. z.1) (sym q.2) ∙ inside) older holds (subst (λ p. IsIn wait.excused (spot_of k p section)) (ap (λ z. z.0) q.2) has))
+    let none : IsIn [] (spot_of k.waiter y.post.place section) = subst (λ (z : Waiting). IsIn z.excused (spot_of k.waiter y.post.place section)) (sym e) has in
+    absurd (some-ne-none (spot_of k.waiter y.post.place section) (sym none.1))))
+    (λ n u ne e is. i.waiters.excused n b u q.0 wait section e is going q.1 (ap (λ z. z.1) (sym q.2) ∙ inside) older holds (subst (λ p. IsIn wait.excused (spot_of k.waiter p section)) (ap (λ z. z.0) q.2) has))
     a x ea waits
 
 pub raises_meet_nobody : RaisesMeetNobody

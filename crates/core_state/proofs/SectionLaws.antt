@@ -8,6 +8,7 @@ use lib.ListN.{get_elem?}
 use Rattle.prcu_model.specs.declared.mark.Mark.{Mark}
 use Rattle.prcu_model.specs.declared.mark.Mark.TheVariants.{Entered, Left}
 use Rattle.core_state.specs.declared.shape.Shape.{Shape}
+use Rattle.core_state.specs.declared.shape.Waiter.TheVariants.{Eer}
 use Rattle.core_state.specs.declared.words.Field.{Field}
 use Rattle.core_state.specs.declared.words.Field.TheVariants.{Clock, Front, Free, Announced, Stamp, Life, Key}
 use Rattle.core_state.specs.declared.words.Kind.{Kind}
@@ -149,13 +150,13 @@ module _ (k : Shape) (m : Memory) (vs : List View) (h : List Mark) (id : ℕ) (v
       (λ clocked is. (let now : Clocked = record { number = m Clock; at = length h } in let e : now ≡ clocked = cc in subst (λ (c : Clocked). (c.at ≤ length h) × (c.number ≡ begun (take c.at h))) e (omega arith, i.waiters.clock ∙ ap begun (sym (take_all (length h) h (omega arith)))))) i.waiters)
 
   -- K4: the own key word is stored
-  pub law4 : (key : ℕ) → k.way ≡ 0 → Needs4 v → Invariant k (stored m (Announced v.post.place) key) (set vs id (after4 v key)) h
+  pub law4 : (key : ℕ) → k.waiter ≡ Eer → Needs4 v → Invariant k (stored m (Announced v.post.place) key) (set vs id (after4 v key)) h
   law4 key way needs =
       quiet_law (stored m (Announced v.post.place) key) (after4 v key) (announced_slots m v.post.place key) refl refl refl refl refl refl refl refl refl refl refl refl refl
       (waiters4 k m vs id v h there way i.waiters key needs (λ j u s ne e is. apart j u s ne e is) (λ j u ne e other is. alone j u ne e other is))
 
   -- K5: a section is entered
-  pub law5 : (key stamp : ℕ) (clocked : Clocked) → k.way ≡ 0 → Needs5 v key stamp clocked
+  pub law5 : (key stamp : ℕ) (clocked : Clocked) → k.waiter ≡ Eer → Needs5 v key stamp clocked
       → Invariant k (stored m (Stamp v.post.place) clocked.number) (set vs id (after5 v key clocked h)) (h ++ Entered v.post.place v.counts.sections key ∷ [])
   law5 key stamp clocked way needs =
       let w : View = after5 v key clocked h in
@@ -232,7 +233,7 @@ module _ (k : Shape) (m : Memory) (vs : List View) (h : List Mark) (id : ℕ) (v
       entered_readings (suc j) r e = let a = in_second (open_reading v.section) v.records r (j, e) in i.readers.readings id v there a.0 r a.1
 
   -- K6: the section is left
-  pub law6 : (section : Section) → k.way ≡ 0 → Needs6 v section → Invariant k (stored m (Stamp v.post.place) idle) (set vs id (leaving v section h)) (h ++ Left v.post.place section.count ∷ [])
+  pub law6 : (section : Section) → k.waiter ≡ Eer → Needs6 v section → Invariant k (stored m (Stamp v.post.place) idle) (set vs id (leaving v section h)) (h ++ Left v.post.place section.count ∷ [])
   law6 section way needs =
       let w : View = leaving v section h in
       let mark : Mark = Left v.post.place section.count in

@@ -10,6 +10,7 @@ use Rattle.prcu_model.specs.declared.mark.Mark.TheVariants.{Entered, Left}
 use Rattle.prcu_model.specs.Marks.{open_at}
 use Rattle.key_interval.specs.Keys.{Holds, class_of}
 use Rattle.core_state.specs.declared.shape.Shape.{Shape}
+use Rattle.core_state.specs.declared.shape.Waiter.TheVariants.{Eer, Domain, Deer}
 use Rattle.core_state.specs.declared.words.Field.TheVariants.{Clock, Announced, Stamp, Count, Row}
 use Rattle.core_state.specs.declared.view.Clocked.{Clocked}
 use Rattle.core_state.specs.declared.view.Section.{Section}
@@ -38,7 +39,7 @@ excused_same k vs id v w there same t i j a b wait section ea waits going eb ins
     let p = was {X = ℕ × Option Section × Option Waiting} (λ (u : View). (u.post.place, u.section, u.wait)) vs id v w there (λ n. (same.place n, same.section n, same.wait n)) i a ea in
     let q = was {X = ℕ × Option Section × Option Waiting} (λ (u : View). (u.post.place, u.section, u.wait)) vs id v w there (λ n. (same.place n, same.section n, same.wait n)) j b eb in
     t i j p.0 q.0 wait section p.1 (ap (λ x. x.2) (sym p.2) ∙ waits) going q.1 (ap (λ x. x.1) (sym q.2) ∙ inside) older holds
-    (subst (λ n. IsIn wait.excused (spot_of k n section)) (ap (λ x. x.0) q.2) has)
+    (subst (λ n. IsIn wait.excused (spot_of k.waiter n section)) (ap (λ x. x.0) q.2) has)
 
 turned_same : (vs : List View) (id : ℕ) (v w : View) → get_elem? vs id ≡ some v → w.wait ≡ v.wait → Each vs (λ u. (wait : Waiting) → u.wait ≡ Some wait → IsTurnedOnce wait) → Each (set vs id w) (λ u. (wait : Waiting) → u.wait ≡ Some wait → IsTurnedOnce wait)
 turned_same vs id v w there wait t = each_change (λ (u : View). (x : Waiting) → u.wait ≡ Some x → IsTurnedOnce x) (λ (u : View). (x : Waiting) → u.wait ≡ Some x → IsTurnedOnce x) vs id v w there (λ i x is. i x (sym wait ∙ is)) (λ u i. i) t
@@ -50,7 +51,7 @@ pub waiter_frame : (k : Shape) (m m' : Memory) (vs : List View) (id : ℕ) (v w 
     → WaiterParts k m vs h → WaiterParts k m' (set vs id w) h
 waiter_frame k m m' vs id v w h there same clock keys stamps counts rows announced loaded t = record {
   clock = clock ∙ t.clock;
-  clocked = each_change (IsClocked k.way h) (IsClocked k.way h) vs id v w there (λ i. record { loaded = loaded; stamped = λ section is. i.stamped section (sym same.section ∙ is) }) (λ u i. i) t.clocked;
+  clocked = each_change (IsClocked k.waiter h) (IsClocked k.waiter h) vs id v w there (λ i. record { loaded = loaded; stamped = λ section is. i.stamped section (sym same.section ∙ is) }) (λ u i. i) t.clocked;
   excused = excused_same k vs id v w there same t.excused;
   turned = turned_same vs id v w there same.wait t.turned;
   eer = λ way. (let e = t.eer way in record {
@@ -80,12 +81,12 @@ own_word : (p n x : ℕ) → cond (p == p) n x ≡ n
 own_word p n x = ap (λ b. cond b n x) (eq-eqb p p refl)
 
 -- The steps of the first waiter. Each other view that works is at another place.
-module _ (k : Shape) (m : Memory) (vs : List View) (id : ℕ) (v : View) (h : List Mark) (there : get_elem? vs id ≡ some v) (way : k.way ≡ 0) (t : WaiterParts k m vs h) where
-  not_one : k.way ≡ 1 → ⊥
-  not_one e = absurd (omega arith)
+module _ (k : Shape) (m : Memory) (vs : List View) (id : ℕ) (v : View) (h : List Mark) (there : get_elem? vs id ≡ some v) (is_eer : k.waiter ≡ Eer) (t : WaiterParts k m vs h) where
+  not_domain : k.waiter ≡ Domain → ⊥
+  not_domain e = let d : Eer ≡ Domain = sym is_eer ∙ e in absurd (cc)
 
-  not_two : k.way ≡ 2 → ⊥
-  not_two e = absurd (omega arith)
+  not_deer : k.waiter ≡ Deer → ⊥
+  not_deer e = let d : Eer ≡ Deer = sym is_eer ∙ e in absurd (cc)
 
   -- K4: the key word of a place without a section is stored
   module _ (key : ℕ) (outside : v.section ≡ None) (apart : (j : ℕ) (u : View) (section : Section) → j ≢ id → get_elem? vs j ≡ some u → u.section ≡ Some section → u.post.place ≢ v.post.place)
@@ -96,23 +97,23 @@ module _ (k : Shape) (m : Memory) (vs : List View) (id : ℕ) (v : View) (h : Li
     pub waiters4 : WaiterParts k m4 (set vs id (after4 v key)) h
     waiters4 = record {
       clock = t.clock;
-      clocked = each_change (IsClocked k.way h) (IsClocked k.way h) vs id v (after4 v key) there (λ i. record { loaded = i.loaded; stamped = i.stamped }) (λ u i. i) t.clocked;
+      clocked = each_change (IsClocked k.waiter h) (IsClocked k.waiter h) vs id v (after4 v key) there (λ i. record { loaded = i.loaded; stamped = i.stamped }) (λ u i. i) t.clocked;
       excused = excused_same k vs id v (after4 v key) there (record { place = refl; section = refl; wait = refl }) t.excused;
       turned = turned_same vs id v (after4 v key) there refl t.turned;
       eer = λ _. record {
         inside = each_set (λ j u. (section : Section) → u.section ≡ Some section → (m4 (Announced u.post.place) ≡ section.key) × (m4 (Stamp u.post.place) ≡ section.stamp)) vs id (after4 v key)
             (λ section is. absurd (let e : None ≡ Some section = sym outside ∙ is in cc))
-            (λ j u ne e section is. (let r = (t.eer way).inside j u e section is in (other_word v.post.place u.post.place key (m (Announced u.post.place)) (apart j u section ne e is) ∙ r.0, r.1)));
-        outside = λ p lt none. (t.eer way).outside p lt none;
+            (λ j u ne e section is. (let r = (t.eer is_eer).inside j u e section is in (other_word v.post.place u.post.place key (m (Announced u.post.place)) (apart j u section ne e is) ∙ r.0, r.1)));
+        outside = λ p lt none. (t.eer is_eer).outside p lt none;
         announced = each_set (λ j u. (other : ℕ) → u.enter.announced ≡ Some other → m4 (Announced u.post.place) ≡ other) vs id (after4 v key)
             (λ other is. (let e : key ≡ other = cc in own_word v.post.place key (m (Announced v.post.place)) ∙ e))
-            (λ j u ne e other is. other_word v.post.place u.post.place key (m (Announced u.post.place)) (alone j u ne e other is) ∙ (t.eer way).announced j u e other is);
+            (λ j u ne e other is. other_word v.post.place u.post.place key (m (Announced u.post.place)) (alone j u ne e other is) ∙ (t.eer is_eer).announced j u e other is);
       };
-      domain = λ e. absurd (not_one e);
-      deer = λ e. absurd (not_two e);
+      domain = λ e. absurd (not_domain e);
+      deer = λ e. absurd (not_deer e);
     }
 
-  clocked_more : (mark : Mark) (u : View) → TurnsNoWait mark → ((section : Section) → u.section ≡ Some section → section.clocked ≤ length h) → IsClocked k.way h u → IsClocked k.way (h ++ mark ∷ []) u
+  clocked_more : (mark : Mark) (u : View) → TurnsNoWait mark → ((section : Section) → u.section ≡ Some section → section.clocked ≤ length h) → IsClocked k.waiter h u → IsClocked k.waiter (h ++ mark ∷ []) u
   clocked_more mark u none low i = record {
     loaded = λ clocked is. (let r = i.loaded clocked is in (let a = length_more h mark in let b = r.0 in omega arith, r.1 ∙ ap begun (sym (take-more h (mark ∷ []) clocked.at r.0))));
     stamped = λ section is. (let r = i.stamped section is in (r.0, λ ne. r.1 ne ∙ ap begun (sym (take-more h (mark ∷ []) section.clocked (low section is)))));
@@ -142,33 +143,33 @@ module _ (k : Shape) (m : Memory) (vs : List View) (id : ℕ) (v : View) (h : Li
     pub waiters5 : WaiterParts k m5 (set vs id w5) (h ++ mark5 ∷ [])
     waiters5 = record {
       clock = t.clock ∙ sym (begun-same h mark5 tt);
-      clocked = each_set (λ j u. IsClocked k.way (h ++ mark5 ∷ []) u) vs id w5
+      clocked = each_set (λ j u. IsClocked k.waiter (h ++ mark5 ∷ []) u) vs id w5
           (record {
             loaded = λ c is. absurd (let e : None ≡ Some c = is in cc);
             stamped = λ section is. (let e : new_section v key clocked.number clocked.at h ≡ section = cc in
                 let r = (t.clocked id v there).loaded clocked clock in
-                subst (λ (s : Section). (s.clocked ≤ s.entered) × (k.way ≢ 1 → s.stamp ≡ begun (take s.clocked (h ++ mark5 ∷ [])))) e (r.0, λ ne. r.1 ∙ ap begun (sym (take-more h (mark5 ∷ []) clocked.at r.0))));
+                subst (λ (s : Section). (s.clocked ≤ s.entered) × (k.waiter ≢ Domain → s.stamp ≡ begun (take s.clocked (h ++ mark5 ∷ [])))) e (r.0, λ ne. r.1 ∙ ap begun (sym (take-more h (mark5 ∷ []) clocked.at r.0))));
           })
           (λ j u ne e. clocked_more mark5 u tt (λ section is. low j u section e is) (t.clocked j u e));
       excused = λ i j a b wait section ea waits going eb inside older holds has.
           (let p = waits_back i a ea in
           let w = sym p.2 ∙ waits in
-          each_set (λ n u. (s : Section) → u.section ≡ Some s → s.entered < wait.began → Holds (keys_of wait) s.key → IsIn wait.excused (spot_of k u.post.place s) → ⊥) vs id w5
+          each_set (λ n u. (s : Section) → u.section ≡ Some s → s.entered < wait.began → Holds (keys_of wait) s.key → IsIn wait.excused (spot_of k.waiter u.post.place s) → ⊥) vs id w5
           (λ s is lt hs x. absurd (let e : new_section v key clocked.number clocked.at h ≡ s = cc in let f = ap (λ (z : Section). z.entered) e in let l = late i p.0 wait p.1 w in omega arith))
           (λ n u ne e s is lt hs x. t.excused i n p.0 u wait s p.1 w going e is lt hs x) j b eb section inside older holds has);
       turned = turned_same vs id v w5 there refl t.turned;
       eer = λ _. record {
         inside = each_set (λ j u. (section : Section) → u.section ≡ Some section → (m5 (Announced u.post.place) ≡ section.key) × (m5 (Stamp u.post.place) ≡ section.stamp)) vs id w5
             (λ section is. (let e : new_section v key clocked.number clocked.at h ≡ section = cc in
-            subst (λ (s : Section). (m5 (Announced v.post.place) ≡ s.key) × (m5 (Stamp v.post.place) ≡ s.stamp)) e ((t.eer way).announced id v there key announced, own_word v.post.place clocked.number (m (Stamp v.post.place)))))
-            (λ j u ne e section is. (let r = (t.eer way).inside j u e section is in (r.0, other_word v.post.place u.post.place clocked.number (m (Stamp u.post.place)) (apart j u section ne e is) ∙ r.1)));
+            subst (λ (s : Section). (m5 (Announced v.post.place) ≡ s.key) × (m5 (Stamp v.post.place) ≡ s.stamp)) e ((t.eer is_eer).announced id v there key announced, own_word v.post.place clocked.number (m (Stamp v.post.place)))))
+            (λ j u ne e section is. (let r = (t.eer is_eer).inside j u e section is in (r.0, other_word v.post.place u.post.place clocked.number (m (Stamp u.post.place)) (apart j u section ne e is) ∙ r.1)));
         outside = λ p lt none. dite (ℕ_discrete p v.post.place)
             (λ here. absurd (let q = sym (open_entered v.post.place h v.counts.sections key) ∙ ap (λ n. open_at n (h ++ mark5 ∷ [])) (sym here) ∙ none in cc))
-            (λ ne. other_word v.post.place p clocked.number (m (Stamp p)) ne ∙ (t.eer way).outside p lt (sym (open_entered_other v.post.place h p v.counts.sections key ne) ∙ none));
-        announced = each_change (λ (u : View). (other : ℕ) → u.enter.announced ≡ Some other → m (Announced u.post.place) ≡ other) (λ (u : View). (other : ℕ) → u.enter.announced ≡ Some other → m5 (Announced u.post.place) ≡ other) vs id v w5 there (λ i. i) (λ u i. i) (t.eer way).announced;
+            (λ ne. other_word v.post.place p clocked.number (m (Stamp p)) ne ∙ (t.eer is_eer).outside p lt (sym (open_entered_other v.post.place h p v.counts.sections key ne) ∙ none));
+        announced = each_change (λ (u : View). (other : ℕ) → u.enter.announced ≡ Some other → m (Announced u.post.place) ≡ other) (λ (u : View). (other : ℕ) → u.enter.announced ≡ Some other → m5 (Announced u.post.place) ≡ other) vs id v w5 there (λ i. i) (λ u i. i) (t.eer is_eer).announced;
       };
-      domain = λ e. absurd (not_one e);
-      deer = λ e. absurd (not_two e);
+      domain = λ e. absurd (not_domain e);
+      deer = λ e. absurd (not_deer e);
     }
 
   -- K6: the section is left
@@ -190,25 +191,25 @@ module _ (k : Shape) (m : Memory) (vs : List View) (id : ℕ) (v : View) (h : Li
     pub waiters6 : WaiterParts k m6 (set vs id w6) (h ++ mark6 ∷ [])
     waiters6 = record {
       clock = t.clock ∙ sym (begun-same h mark6 tt);
-      clocked = each_set (λ j u. IsClocked k.way (h ++ mark6 ∷ []) u) vs id w6
+      clocked = each_set (λ j u. IsClocked k.waiter (h ++ mark6 ∷ []) u) vs id w6
           (record { loaded = λ c is. absurd (let e : None ≡ Some c = is in cc); stamped = λ s is. absurd (let e : None ≡ Some s = is in cc) })
           (λ j u ne e. clocked_more mark6 u tt (λ s is. low j u s e is) (t.clocked j u e));
       excused = λ i j a b wait s ea waits going eb inside older holds has.
           (let p = waits_were i a ea in
           let w = sym p.2 ∙ waits in
-          each_set (λ n u. (z : Section) → u.section ≡ Some z → z.entered < wait.began → Holds (keys_of wait) z.key → IsIn wait.excused (spot_of k u.post.place z) → ⊥) vs id w6
+          each_set (λ n u. (z : Section) → u.section ≡ Some z → z.entered < wait.began → Holds (keys_of wait) z.key → IsIn wait.excused (spot_of k.waiter u.post.place z) → ⊥) vs id w6
           (λ z none lt hs x. absurd (let e : None ≡ Some z = none in cc))
           (λ n u ne e z is lt hs x. t.excused i n p.0 u wait z p.1 w going e is lt hs x) j b eb s inside older holds has);
       turned = turned_same vs id v w6 there refl t.turned;
       eer = λ _. record {
         inside = each_set (λ j u. (s : Section) → u.section ≡ Some s → (m6 (Announced u.post.place) ≡ s.key) × (m6 (Stamp u.post.place) ≡ s.stamp)) vs id w6
             (λ s none. absurd (let e : None ≡ Some s = none in cc))
-            (λ j u ne e s is. (let r = (t.eer way).inside j u e s is in (r.0, other_word v.post.place u.post.place idle (m (Stamp u.post.place)) (apart j u s ne e is) ∙ r.1)));
+            (λ j u ne e s is. (let r = (t.eer is_eer).inside j u e s is in (r.0, other_word v.post.place u.post.place idle (m (Stamp u.post.place)) (apart j u s ne e is) ∙ r.1)));
         outside = λ p lt none. dite (ℕ_discrete p v.post.place)
             (λ here. subst (λ q. m6 (Stamp q) ≡ idle) (sym here) (own_word v.post.place idle (m (Stamp v.post.place))))
-            (λ ne. other_word v.post.place p idle (m (Stamp p)) ne ∙ (t.eer way).outside p lt (sym (open_left_other v.post.place h p section.count ne) ∙ none));
-        announced = each_change (λ (u : View). (other : ℕ) → u.enter.announced ≡ Some other → m (Announced u.post.place) ≡ other) (λ (u : View). (other : ℕ) → u.enter.announced ≡ Some other → m6 (Announced u.post.place) ≡ other) vs id v w6 there (λ i. i) (λ u i. i) (t.eer way).announced;
+            (λ ne. other_word v.post.place p idle (m (Stamp p)) ne ∙ (t.eer is_eer).outside p lt (sym (open_left_other v.post.place h p section.count ne) ∙ none));
+        announced = each_change (λ (u : View). (other : ℕ) → u.enter.announced ≡ Some other → m (Announced u.post.place) ≡ other) (λ (u : View). (other : ℕ) → u.enter.announced ≡ Some other → m6 (Announced u.post.place) ≡ other) vs id v w6 there (λ i. i) (λ u i. i) (t.eer is_eer).announced;
       };
-      domain = λ e. absurd (not_one e);
-      deer = λ e. absurd (not_two e);
+      domain = λ e. absurd (not_domain e);
+      deer = λ e. absurd (not_deer e);
     }

@@ -9,6 +9,7 @@ use Rattle.prcu_model.specs.declared.mark.Side.{Side}
 use Rattle.prcu_model.specs.Dictionary.{map_of}
 use Rattle.prcu_model.specs.Marks.{updates_of, gone_at, IsGone}
 use Rattle.core_state.specs.declared.shape.Shape.{Shape}
+use Rattle.core_state.specs.declared.shape.Waiter.TheVariants.{Domain}
 use Rattle.core_state.specs.declared.words.Field.{Field}
 use Rattle.core_state.specs.declared.words.Field.TheVariants.{Clock, Front, Free, Life, Link, Tag}
 use Rattle.core_state.specs.declared.words.Kind.{Kind}
@@ -93,7 +94,7 @@ RecordsSay = (k : Shape) (m : Memory) (vs : List View) (h : List Mark) → Invar
 -- A stamp whose clock was loaded before a wait began isn't above the wait's clock; no stamp is above the clock word, and each wait's
 -- clock is below it.
 abbrev pub StampsAreOld : Type 0
-StampsAreOld = (k : Shape) (m : Memory) (vs : List View) (h : List Mark) → Invariant k m vs h → k.way ≢ 1 → (i j : ℕ) (v u : View) (wait : Waiting) (section : Section)
+StampsAreOld = (k : Shape) (m : Memory) (vs : List View) (h : List Mark) → Invariant k m vs h → k.waiter ≢ Domain → (i j : ℕ) (v u : View) (wait : Waiting) (section : Section)
     → get_elem? vs i ≡ some v → v.wait ≡ Some wait → get_elem? vs j ≡ some u → u.section ≡ Some section
     → (section.clocked ≤ wait.began → section.stamp ≤ wait.clock) × (section.stamp ≤ m Clock) × (wait.clock < m Clock)
 

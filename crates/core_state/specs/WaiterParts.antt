@@ -7,6 +7,8 @@ use Rattle.prcu_model.specs.declared.mark.Mark.{Mark}
 use Rattle.prcu_model.specs.Marks.{Open, open_at}
 use Rattle.key_interval.specs.Keys.{Holds, MeetsClass, class_of}
 use Rattle.core_state.specs.declared.shape.Shape.{Shape}
+use Rattle.core_state.specs.declared.shape.Waiter.{Waiter}
+use Rattle.core_state.specs.declared.shape.Waiter.TheVariants.{Eer, Domain, Deer}
 use Rattle.core_state.specs.declared.words.Field.TheVariants.{Clock, Announced, Stamp, Count, Row}
 use Rattle.core_state.specs.declared.view.Clocked.{Clocked}
 use Rattle.core_state.specs.declared.view.Section.{Section}
@@ -19,15 +21,15 @@ use Rattle.core_state.specs.Waits.{keys_of, spot_of}
 
 -- A clock that was loaded is the number of waits that had begun then; so is the stamp of a section, which was loaded before it was
 -- entered.
-pub record IsClocked (way : ℕ) (h : List Mark) (v : View) : Type 0 where
+pub record IsClocked (waiter : Waiter) (h : List Mark) (v : View) : Type 0 where
   pub loaded : (clocked : Clocked) → v.enter.clock ≡ Some clocked → (clocked.at ≤ length h) × (clocked.number ≡ begun (take clocked.at h))
-  pub stamped : (section : Section) → v.section ≡ Some section → (section.clocked ≤ section.entered) × (way ≢ 1 → section.stamp ≡ begun (take section.clocked h))
+  pub stamped : (section : Section) → v.section ≡ Some section → (section.clocked ≤ section.entered) × (waiter ≢ Domain → section.stamp ≡ begun (take section.clocked h))
 
 -- A wait that hasn't ended excused no spot in which an older reader stands that it is for.
 abbrev pub AreExcused : Shape → List View → Type 0
 AreExcused k vs = (i j : ℕ) (v u : View) (wait : Waiting) (section : Section) → get_elem? vs i ≡ some v → v.wait ≡ Some wait → wait.ended ≡ false
     → get_elem? vs j ≡ some u → u.section ≡ Some section → section.entered < wait.began → Holds (keys_of wait) section.key
-    → IsIn wait.excused (spot_of k u.post.place section) → ⊥
+    → IsIn wait.excused (spot_of k.waiter u.post.place section) → ⊥
 
 -- A wait turned the gates of classes that its keys meet, each once.
 pub record IsTurnedOnce (wait : Waiting) : Type 0 where
@@ -59,9 +61,9 @@ pub record DeerWords (places : ℕ) (m : Memory) (vs : List View) (h : List Mark
 -- The clock counts the waits, stamps are clocks of before the section, and the waiter's words show the open sections.
 pub record WaiterParts (k : Shape) (m : Memory) (vs : List View) (h : List Mark) : Type 0 where
   pub clock : m Clock ≡ begun h
-  pub clocked : Each vs (IsClocked k.way h)
+  pub clocked : Each vs (IsClocked k.waiter h)
   pub excused : AreExcused k vs
   pub turned : Each vs (λ v. (wait : Waiting) → v.wait ≡ Some wait → IsTurnedOnce wait)
-  pub eer : k.way ≡ 0 → EerWords k.places m vs h
-  pub domain : k.way ≡ 1 → DomainWords m vs
-  pub deer : k.way ≡ 2 → DeerWords k.places m vs h
+  pub eer : k.waiter ≡ Eer → EerWords k.places m vs h
+  pub domain : k.waiter ≡ Domain → DomainWords m vs
+  pub deer : k.waiter ≡ Deer → DeerWords k.places m vs h

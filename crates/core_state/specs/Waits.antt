@@ -5,6 +5,8 @@ use Rattle.prcu_model.specs.declared.mark.Mark.{Mark}
 use Rattle.prcu_model.specs.declared.mark.Mark.TheVariants.{Began, Ended}
 use Rattle.key_interval.specs.Keys.{Interval, MeetsClass, class_of}
 use Rattle.core_state.specs.declared.shape.Shape.{Shape}
+use Rattle.core_state.specs.declared.shape.Waiter.{Waiter}
+use Rattle.core_state.specs.declared.shape.Waiter.TheVariants.{Eer, Domain, Deer}
 use Rattle.core_state.specs.declared.words.Field.{Field}
 use Rattle.core_state.specs.declared.words.Field.TheVariants.{Announced, Stamp, Count, Row}
 use Rattle.core_state.specs.declared.view.Move.{Move}
@@ -43,14 +45,16 @@ is_for wait key = nat_le wait.low key && nat_le key wait.high
 -- The spots of a wait are the words in which its readers can stand: the stamp of each place; each side of each class that the
 -- keys meet; each place's word of each such class.
 abbrev pub IsSpot : Shape → Waiting → Field → Type 0
-IsSpot k wait (Stamp p) = (k.way ≡ 0) × (p < k.places)
-IsSpot k wait (Count c side) = (k.way ≡ 1) × (c < 64) × (side < 2) × MeetsClass (keys_of wait) c
-IsSpot k wait (Row p c) = (k.way ≡ 2) × (p < k.places) × (c < 64) × MeetsClass (keys_of wait) c
+IsSpot k wait (Stamp p) = (k.waiter ≡ Eer) × (p < k.places)
+IsSpot k wait (Count c side) = (k.waiter ≡ Domain) × (c < 64) × (side < 2) × MeetsClass (keys_of wait) c
+IsSpot k wait (Row p c) = (k.waiter ≡ Deer) × (p < k.places) × (c < 64) × MeetsClass (keys_of wait) c
 IsSpot k wait _ = ⊥
 
 -- the spot in which an open section of a place stands
-abbrev pub spot_of : Shape → ℕ → Section → Field
-spot_of k place section = if k.way == 0 then Stamp place else if k.way == 1 then Count (class_of section.key) section.stamp else Row place (class_of section.key)
+abbrev pub spot_of : Waiter → ℕ → Section → Field
+spot_of Eer place section = Stamp place
+spot_of Domain place section = Count (class_of section.key) section.stamp
+spot_of Deer place section = Row place (class_of section.key)
 
 -- the spot that a load looks at: a place's key is looked at for its stamp
 abbrev pub spot_seen : Field → Field

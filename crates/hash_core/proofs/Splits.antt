@@ -286,10 +286,15 @@ module _ (capacities : List ℕ) (places tickets : ℕ) (m : Memory) (vs : List 
   longer_theirs = longer_case (λ z. IsPrefix other.seen z) v.seen other.seen (λ more. prefix_of_longer other.seen v.seen h (r.seen.begins j other there) (r.seen.begins id v at) (omega arith)) (λ _. prefix_self other.seen)
 
   heard2 : HasHeard both2
-  heard2 =
-      (longer_mine, (longer_theirs, all_append (λ s. IsPrefix s both2.seen) v.heard other.heard
-      (all_map (λ s. IsPrefix s v.seen) (λ s. IsPrefix s both2.seen) v.heard (λ s p. prefix_trans s v.seen both2.seen p longer_mine) (r.seen.heard id v at))
-      (all_map (λ s. IsPrefix s other.seen) (λ s. IsPrefix s both2.seen) other.heard (λ s p. prefix_trans s other.seen both2.seen p longer_theirs) (r.seen.heard j other there))))
+  heard2 = (
+    longer_mine,
+    (
+      longer_theirs,
+      all_append (λ s. IsPrefix s both2.seen) v.heard other.heard
+          (all_map (λ s. IsPrefix s v.seen) (λ s. IsPrefix s both2.seen) v.heard (λ s p. prefix_trans s v.seen both2.seen p longer_mine) (r.seen.heard id v at))
+          (all_map (λ s. IsPrefix s other.seen) (λ s. IsPrefix s both2.seen) other.heard (λ s p. prefix_trans s other.seen both2.seen p longer_theirs) (r.seen.heard j other there)),
+    ),
+  )
 
   seen2 : AreSeen vs2 h
   seen2 = record { begins = each2 (λ k u. IsPrefix u.seen h) longer_begins (h, refl) (λ k u _ _ e. r.seen.begins k u e); heard = each2 (λ k u. HasHeard u) heard2 tt (λ k u _ _ e. r.seen.heard k u e); longest = longest2 }

@@ -31,7 +31,10 @@ fn a_get_beside_a_put_is_told_one_of_two_things(rt: HostRuntime) -> Result<(), F
         let mut source = source_of(alloc, b"script\nput 1 1\nscript\nget 1\n", 100, &[])?;
         let (status, written) = answer(&rt, alloc, &["hash"], &mut source, 1000)?;
         assert_eq!(rt; status, Status::Done, "turn {turn}");
-        assert!(rt; written.as_slice() == found || written.as_slice() == missed, "turn {turn}");
+        assert!(rt;
+            written.as_slice() == found || written.as_slice() == missed,
+            "turn {turn}"
+        );
     }
     Ok(())
 }
