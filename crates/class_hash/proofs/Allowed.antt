@@ -19,10 +19,10 @@ use Rattle.hash_core.specs.declared.view.View.{View}
 use Rattle.hash_core.specs.Memory.{Memory, word_of, is_field, memory_of, stored}
 use Rattle.hash_core.specs.Slots.{IsOfClass}
 use Rattle.prcu_model.specs.Marks.{updates_of}
-use Rattle.hash_core.specs.Readers.{WasSaid}
+use Rattle.prcu_model.specs.Dictionary.{WasSaid}
 use Rattle.hash_core.specs.Rule.{MemoryRule, Rule}
 use Rattle.hash_core.specs.Steps.{trod, IsQuiet, after3, after4, after5, searched, MayLoad, fresh_hold, Needs7, after7, after9, NeedsTake, after_take, NeedsRefill, after_refill, NeedsMove, after_move, NeedsPush, after_push, NeedsChain, after_chain, Needs11, after11, Needs12, Needs13, after13, Needs14, after14, Needs15, after15, Needs16, after16}
-use Rattle.hash_core.proofs.Lists.{at_below}
+use Rattle.list_laws.proofs.Lists.{at_below}
 use Rattle.prcu_model.proofs.MarkLists.{updates_of-append}
 use Rattle.hash_core.proofs.Busy.{quiet_turn}
 use Rattle.hash_core.proofs.Sections.{law3, law4, law5, some_reader}

@@ -14,7 +14,8 @@ use Rattle.hash_core.specs.declared.view.Section.{Section}
 use Rattle.hash_core.specs.declared.view.Hold.{Hold}
 use Rattle.hash_core.specs.declared.view.Turn.{Turn}
 use Rattle.hash_core.specs.declared.view.View.{View}
-use Rattle.hash_core.specs.Lists.{times, IsPath}
+use Rattle.list_laws.specs.Counts.{times}
+use Rattle.hash_core.specs.Lists.{IsPath}
 use Rattle.hash_core.specs.Memory.{Memory, word_of, is_field}
 use Rattle.hash_core.specs.Slots.{capacity, is_slot_of, IsOfClass, word_count}
 use Rattle.prcu_model.specs.Marks.{updates_of, own_of}
@@ -29,7 +30,7 @@ use Rattle.hash_core.specs.Readers.{HasWay, WillAnswer}
 use Rattle.hash_core.specs.Seats.{AnswersFor, updates_by, IsTurned}
 use Rattle.hash_core.specs.Steps.{StandsAt, searched}
 use Rattle.hash_core.specs.Rule.{BucketRule, MemoryRule}
-use Rattle.hash_core.proofs.Lists.{at_one, all_times, total_part, times_here, times_append}
+use Rattle.list_laws.proofs.Lists.{at_one, all_times, total_part, times_here, times_append}
 use Rattle.hash_core.proofs.Paths.{path_cons, IsPath-from}
 use Rattle.hash_core.proofs.Classes.{slot_within}
 use Rattle.hash_core.proofs.Memories.{word_inside}

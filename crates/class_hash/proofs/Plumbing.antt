@@ -12,7 +12,7 @@ use Rattle.hash_core.specs.declared.view.View.{View}
 use Rattle.hash_core.specs.Memory.{Memory, word_of, is_field, memory_of, stored}
 use Rattle.hash_core.specs.Rule.{MemoryRule, Rule}
 use Rattle.hash_core.specs.Steps.{trod}
-use Rattle.hash_core.proofs.Lists.{at_below, set_twice}
+use Rattle.list_laws.proofs.Lists.{at_below, set_twice}
 use Rattle.hash_core.proofs.Quiet.{law_trod}
 use Rattle.hash_core.proofs.Memories.{memory-stored, memory-word}
 

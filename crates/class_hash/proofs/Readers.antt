@@ -7,7 +7,7 @@ use lib.ListN.{get_elem?}
 use Rattle.prcu_model.specs.declared.mark.Mark.{Mark}
 use Rattle.hash_core.specs.declared.view.Section.{Section}
 use Rattle.hash_core.specs.declared.view.View.{View}
-use Rattle.hash_core.specs.Lists.{total}
+use Rattle.list_laws.specs.Counts.{total}
 use Rattle.hash_core.specs.Memory.{Memory}
 use Rattle.hash_core.specs.Buckets.{inside_count}
 use Rattle.hash_core.specs.Rule.{MemoryRule}

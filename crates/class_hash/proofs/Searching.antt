@@ -13,7 +13,7 @@ use Rattle.hash_core.specs.declared.view.Trod.{Trod}
 use Rattle.hash_core.specs.declared.view.View.{View}
 use Rattle.prcu_model.specs.Marks.{updates_of}
 use Rattle.hash_core.specs.Slots.{is_slot_of}
-use Rattle.hash_core.specs.Readers.{WasSaid}
+use Rattle.prcu_model.specs.Dictionary.{WasSaid}
 use Rattle.hash_core.specs.Steps.{IsQuiet, StandsAt, link_stand, searched}
 use Rattle.class_hash.specs.Answers.{GivesAnswer}
 use Rattle.class_hash.specs.Stepped.{Enters, Leaves, Searches}

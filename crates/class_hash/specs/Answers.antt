@@ -16,7 +16,7 @@ use Rattle.hash_core.specs.Pairs.{HasPairs}
 use Rattle.prcu_model.specs.Dictionary.{map_of}
 use Rattle.std.specs.FinMap as finite
 use Rattle.hash_core.specs.Known.{known_in, ShowsAbsent, IsOnWalk}
-use Rattle.hash_core.specs.Readers.{WasSaid}
+use Rattle.prcu_model.specs.Dictionary.{WasSaid}
 use Rattle.hash_core.specs.Steps.{StandsAt}
 
 -- What the section's search found, the dictionary said at some front since it was entered: nothing where the search came

@@ -8,7 +8,7 @@ use Rattle.hash_core.specs.declared.view.Stand.{Stand}
 use Rattle.hash_core.specs.declared.view.Trod.{Trod}
 use Rattle.hash_core.specs.declared.view.View.{View}
 use Rattle.prcu_model.specs.Marks.{updates_of}
-use Rattle.hash_core.specs.Readers.{WasSaid}
+use Rattle.prcu_model.specs.Dictionary.{WasSaid}
 use Rattle.hash_core.specs.Steps.{link_stand}
 use Rattle.hash_core.specs.Slots.{is_slot_of}
 use Rattle.class_hash.specs.Trails.{LoadNoLists}

@@ -12,13 +12,14 @@ use Rattle.prcu_model.specs.Marks.{updates_of}
 use Rattle.core_state.specs.declared.words.Field.TheVariants.{Clock, Front, Free, State, Life, Tag}
 use Rattle.core_state.specs.declared.view.Turn.{Turn}
 use Rattle.core_state.specs.declared.view.View.{View}
-use Rattle.core_state.specs.Lists.{sum_below, flag, count_below, has, Each}
+use Rattle.list_laws.specs.Counts.{Each}
+use Rattle.core_state.specs.Lists.{sum_below, flag, count_below, has}
 use Rattle.core_state.specs.Memory.{Memory}
 use Rattle.core_state.specs.Views.{unraised_hand, unraised_among, unraised_of, emptied_among}
 use Rattle.core_state.specs.Chart.{Chart}
 use Rattle.core_state.specs.CountParts.{turns_to_come, CountParts}
 use Rattle.core_state.specs.FrontParts.{IsTurned, IsOddBy, FrontParts}
-use Rattle.core_state.proofs.Lists.{each_change, total_same}
+use Rattle.list_laws.proofs.Lists.{each_change, total_same}
 use Rattle.core_state.proofs.MarkFacts.{QuietMarks}
 use Rattle.core_state.proofs.Same.{SameSlots, SamePlaces, retired_same, was, still}
 

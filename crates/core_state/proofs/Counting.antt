@@ -13,7 +13,8 @@ use Rattle.core_state.specs.declared.view.Move.{Move}
 use Rattle.core_state.specs.declared.view.Retired.{Retired}
 use Rattle.core_state.specs.declared.view.Spent.{Spent}
 use Rattle.core_state.specs.declared.view.View.{View}
-use Rattle.core_state.specs.Lists.{times, numbers_from, total, sum_below, flag, count_below, has, Each}
+use Rattle.list_laws.specs.Counts.{times, numbers_from, total, Each}
+use Rattle.core_state.specs.Lists.{sum_below, flag, count_below, has}
 use Rattle.core_state.specs.Memory.{Memory, slot_count}
 use Rattle.core_state.specs.Views.{places_of, slot_list, held_list, joined_spares, spares_of, joined_retired, retired_of, slots_of}
 use Rattle.core_state.specs.Seating.{spent_view}

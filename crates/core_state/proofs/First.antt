@@ -19,7 +19,8 @@ use Rattle.core_state.specs.declared.view.Spent.{Spent}
 use Rattle.core_state.specs.declared.view.Turn.{Turn}
 use Rattle.core_state.specs.declared.view.Waiting.{Waiting}
 use Rattle.core_state.specs.declared.view.View.{View}
-use Rattle.core_state.specs.Lists.{times, numbers_from, sum_below, flag, count_below, Each, IsEven}
+use Rattle.list_laws.specs.Counts.{times, numbers_from, Each}
+use Rattle.core_state.specs.Lists.{sum_below, flag, count_below, IsEven}
 use Rattle.core_state.specs.Memory.{Memory, slot_count}
 use Rattle.core_state.specs.Views.{Works, slots_of, retired_of, readings_of}
 use Rattle.core_state.specs.Seating.{spent_view, unknown_slot}
@@ -38,7 +39,7 @@ use Rattle.core_state.specs.ListingParts.{IsListing}
 use Rattle.core_state.specs.GraceParts.{IsWaitedRetired, IsWaitedMove}
 use Rattle.core_state.specs.Invariant.{IsShape, Invariant}
 use Rattle.core_state.specs.Laws.{FreshHolds}
-use Rattle.core_state.proofs.Lists.{times_append, times_here, times_other, from_times, not_from}
+use Rattle.list_laws.proofs.Lists.{times_append, times_here, times_other, from_times, not_from}
 
 -- a fact of the one element of a list
 each_one : {A : Type 0} (P : A → Type 0) (a : A) → P a → Each (a ∷ []) P

@@ -18,14 +18,14 @@ use Rattle.core_state.specs.declared.view.Retired.{Retired}
 use Rattle.core_state.specs.declared.view.Section.{Section}
 use Rattle.core_state.specs.declared.view.Spent.{Spent}
 use Rattle.core_state.specs.declared.view.View.{View}
-use Rattle.core_state.specs.Lists.{Each}
+use Rattle.list_laws.specs.Counts.{Each}
 use Rattle.core_state.specs.Memory.{Memory}
 use Rattle.core_state.specs.Marks.{last_unlinked, Grace, IsReused, Reuse, HasWaited}
 use Rattle.core_state.specs.Chart.{Chart}
 use Rattle.core_state.specs.TreeParts.{map_now}
 use Rattle.core_state.specs.ListingParts.{IsBetween, HasBounds, GoesRight, WasOld, IsListing, ListingParts}
 use Rattle.core_state.specs.GraceParts.{IsClear, IsWaitedRetired, IsWaitedMove, GraceParts}
-use Rattle.core_state.proofs.Lists.{at_below, at_end, each_set, each_change}
+use Rattle.list_laws.proofs.Lists.{at_below, at_end, each_set, each_change}
 use Rattle.core_state.proofs.MarkFacts.{IsOutside, TurnsNoWait, QuietMarks, last_unlinked-below, take-more}
 use Rattle.core_state.proofs.Same.{SameNodes}
 use Rattle.core_state.proofs.ReaderFrame.{held_back_same}

@@ -18,7 +18,7 @@ use Rattle.atomic_table.proofs.Lists.{set_here}
 use Rattle.core_state.specs.Seating.{trod}
 use Rattle.core_state.specs.Steps.{is_store}
 use Rattle.core_state.specs.Laws.{IsKept, Keeps, NotesKeep}
-use Rattle.core_state.proofs.Lists.{at_below, set_twice}
+use Rattle.list_laws.proofs.Lists.{at_below, set_twice}
 use Rattle.core_state.proofs.Same.{SameSlots, announced_slots, stamp_slots}
 use Rattle.core_state.proofs.SectionLaws.{ages_kept, trod_keeps, law3, law4, law5, law6}
 

@@ -14,12 +14,14 @@ use Rattle.core_state.specs.declared.view.Section.{Section}
 use Rattle.core_state.specs.declared.view.Stand.TheVariants.{Missed}
 use Rattle.core_state.specs.declared.view.View.{View}
 use Rattle.core_state.specs.Words.{step_side}
-use Rattle.core_state.specs.Lists.{IsIn, IsOdd}
+use Rattle.list_laws.specs.Counts.{IsIn}
+use Rattle.core_state.specs.Lists.{IsOdd}
 use Rattle.core_state.specs.Memory.{Memory}
 use Rattle.core_state.specs.Known.{known_in}
 use Rattle.core_state.specs.Nodes.{OnRightLeft, first, further}
 use Rattle.core_state.specs.Chart.{Chart, Belongs, IsShaped, IsInRange}
-use Rattle.core_state.specs.Readers.{WasSaid, IsHeldBack, MayPass, IsOldFor, bottom, more, Place, in_range, at_old, at_end, on, Walks, at_linked, at_stop, at_live}
+use Rattle.prcu_model.specs.Dictionary.{WasSaid}
+use Rattle.core_state.specs.Readers.{IsHeldBack, MayPass, IsOldFor, bottom, more, Place, in_range, at_old, at_end, on, Walks, at_linked, at_stop, at_live}
 use Rattle.core_state.specs.ReaderParts.{stand_slot, StandsWell, GoesTo, IsReading, HasStood, IsServed, IsAsRecorded, IsRecord}
 use Rattle.core_state.proofs.Ranges.{after-node}
 use Rattle.core_state.proofs.Places.{not_root}

@@ -6,7 +6,6 @@ pub mod Places
 pub mod Stands
 pub mod Passes
 pub mod Trees
-pub mod Lists
 pub mod Plain
 pub mod MarkFacts
 pub mod Same

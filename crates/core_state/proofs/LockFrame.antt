@@ -9,13 +9,14 @@ use Rattle.core_state.specs.declared.view.HeldLock.{HeldLock}
 use Rattle.core_state.specs.declared.view.Reading.{Reading}
 use Rattle.core_state.specs.declared.view.Section.{Section}
 use Rattle.core_state.specs.declared.view.View.{View}
-use Rattle.core_state.specs.Lists.{times, IsIn, Each, IsOdd}
+use Rattle.list_laws.specs.Counts.{times, IsIn, Each}
+use Rattle.core_state.specs.Lists.{IsOdd}
 use Rattle.core_state.specs.Memory.{Memory}
 use Rattle.core_state.specs.Known.{known_in, lock_of, LoadedGeneration}
 use Rattle.core_state.specs.Views.{readings_of}
 use Rattle.core_state.specs.Chart.{Chart}
 use Rattle.core_state.specs.LockParts.{IsHolderOf, HasFewLocks, IsUnraised, IsLockKept, IsLockKnown, IsReadingKept, LockParts}
-use Rattle.core_state.proofs.Lists.{each_change}
+use Rattle.list_laws.proofs.Lists.{each_change}
 use Rattle.core_state.proofs.Same.{SameSlots, own_same, still}
 use Rattle.core_state.proofs.TreeFrame.{generation_back}
 

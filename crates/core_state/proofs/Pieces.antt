@@ -12,12 +12,12 @@ use Rattle.core_state.specs.declared.view.HeldLock.{HeldLock}
 use Rattle.core_state.specs.declared.view.Section.{Section}
 use Rattle.core_state.specs.declared.view.Waiting.{Waiting}
 use Rattle.core_state.specs.declared.view.View.{View}
-use Rattle.core_state.specs.Lists.{IsIn}
+use Rattle.list_laws.specs.Counts.{IsIn}
 use Rattle.core_state.specs.Known.{lock_of, is_emptied, without_lock}
 use Rattle.core_state.specs.Waits.{new_wait, after7, spot_of}
 use Rattle.core_state.specs.Locks.{after14}
 use Rattle.core_state.specs.Laws.{WaitsBeginFresh, RaisesMeetNobody, UnlocksForgetNothing}
-use Rattle.core_state.proofs.Lists.{at_below, each_set}
+use Rattle.list_laws.proofs.Lists.{at_below, each_set}
 use Rattle.core_state.proofs.Same.{was}
 
 pub waits_begin_fresh : WaitsBeginFresh

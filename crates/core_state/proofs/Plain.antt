@@ -16,7 +16,7 @@ use Rattle.core_state.specs.declared.view.Move.{Move}
 use Rattle.core_state.specs.declared.view.Retired.{Retired}
 use Rattle.core_state.specs.declared.view.Section.{Section}
 use Rattle.core_state.specs.declared.view.View.{View}
-use Rattle.core_state.specs.Lists.{times, IsIn}
+use Rattle.list_laws.specs.Counts.{times, IsIn}
 use Rattle.core_state.specs.Memory.{Memory, slot_count}
 use Rattle.core_state.specs.Nodes.{next, last_of, follow, Hops}
 use Rattle.core_state.specs.Views.{retired_of, slots_of, spares_of, held_list, open_reading, readings_of}
@@ -29,14 +29,15 @@ use Rattle.prcu_model.specs.declared.mark.Side.{Side}
 use Rattle.prcu_model.specs.declared.mark.Side.TheVariants.{Left, Right}
 use Rattle.prcu_model.specs.declared.mark.Mark.TheVariants.{Began}
 use Rattle.core_state.specs.Chart.{Chart, Belongs, IsInRange, IsShaped}
-use Rattle.core_state.specs.Readers.{WasSaid, IsHeldBack, IsPending, MayPass}
+use Rattle.prcu_model.specs.Dictionary.{WasSaid}
+use Rattle.core_state.specs.Readers.{IsHeldBack, IsPending, MayPass}
 use Rattle.core_state.specs.ReaderParts.{stand_slot, Answered, IsPlaced, IsRecord}
 use Rattle.core_state.specs.TreeParts.{map_now}
 use Rattle.core_state.specs.Invariant.{Invariant}
 use Rattle.core_state.specs.Laws.{LinksAreTree, FollowIsMap, Searches, answer_of, SearchesAreAnswered, SearchesStand, FewPass, RecordsSay, StampsAreOld, StoodIsYoung}
 use Rattle.core_state.specs.declared.view.Stand.{Stand}
 use Rattle.core_state.specs.declared.view.Stand.TheVariants.{At, Unread, Found, Missed}
-use Rattle.core_state.proofs.Lists.{at_one, in_append, total_part, times_append, times_in}
+use Rattle.list_laws.proofs.Lists.{at_one, in_append, total_part, times_append, times_in}
 use Rattle.core_state.proofs.Ranges.{bool_cases, after-node, next-left, next-right}
 use Rattle.core_state.proofs.Endings.{answer_is, end_of_range, one_end, same_end}
 use Rattle.core_state.proofs.Places.{place_told}

@@ -13,16 +13,19 @@ use Rattle.core_state.specs.declared.view.Section.{Section}
 use Rattle.core_state.specs.declared.view.Stand.{Stand}
 use Rattle.core_state.specs.declared.view.Stand.TheVariants.{At, Unread, Found, Missed}
 use Rattle.core_state.specs.declared.view.View.{View}
-use Rattle.core_state.specs.Lists.{Each, IsOdd}
+use Rattle.list_laws.specs.Counts.{Each}
+use Rattle.core_state.specs.Lists.{IsOdd}
 use Rattle.core_state.specs.Memory.{Memory}
 use Rattle.core_state.specs.Known.{lock_of}
 use Rattle.core_state.specs.Nodes.{next, answer_at, OnRightLeft, first, further}
 use Rattle.core_state.specs.Views.{readings_of}
 use Rattle.core_state.specs.Chart.{Chart, Belongs}
-use Rattle.core_state.specs.Readers.{WasSaid, IsHeldBack, MayPass, IsOldFor, IsEmptied, Spine, bottom, more, Place, in_range, at_old, Walks, at_linked, at_stop, at_live}
+use Rattle.prcu_model.specs.Dictionary.{WasSaid}
+use Rattle.core_state.specs.Readers.{IsHeldBack, MayPass, IsOldFor, IsEmptied, Spine, bottom, more, Place, in_range, at_old, Walks, at_linked, at_stop, at_live}
 use Rattle.core_state.specs.ReaderParts.{Answered, IsServed, IsAsRecorded, IsRecord, IsReading, IsMetBefore, ReaderParts}
-use Rattle.core_state.proofs.Lists.{each_set}
-use Rattle.core_state.proofs.MarkFacts.{QuietMarks, gone_at-below}
+use Rattle.list_laws.proofs.Lists.{each_set}
+use Rattle.prcu_model.proofs.MarkPlaces.{gone_at-below}
+use Rattle.core_state.proofs.MarkFacts.{QuietMarks}
 use Rattle.core_state.proofs.Same.{SameNodes, still}
 use Rattle.core_state.proofs.TreeFrame.{low_same, high_same, pending_still}
 use Rattle.core_state.proofs.Places.{carry}

@@ -11,10 +11,10 @@ use Rattle.prcu_model.specs.Marks.{open_at, entered_at}
 use Rattle.prcu_model.proofs.MarkLists.{open_at-snoc}
 use Rattle.core_state.specs.declared.view.Spent.{Spent}
 use Rattle.core_state.specs.declared.view.View.{View}
-use Rattle.core_state.specs.Lists.{times, numbers_from, total}
+use Rattle.list_laws.specs.Counts.{times, numbers_from, total}
 use Rattle.core_state.specs.Views.{Works, places_of, IsUnused}
 use Rattle.core_state.specs.SeatParts.{ArePlaced}
-use Rattle.core_state.proofs.Lists.{total_part, total_two, times_append, from_times}
+use Rattle.list_laws.proofs.Lists.{total_part, total_two, times_append, from_times}
 use Rattle.core_state.proofs.MarkFacts.{entered_at-append}
 
 -- a place between the first and the last of a view is one of its places

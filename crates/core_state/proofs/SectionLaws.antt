@@ -18,7 +18,7 @@ use Rattle.core_state.specs.declared.view.Reading.{Reading}
 use Rattle.core_state.specs.declared.view.Section.{Section}
 use Rattle.core_state.specs.declared.view.Waiting.{Waiting}
 use Rattle.core_state.specs.declared.view.View.{View}
-use Rattle.core_state.specs.Lists.{IsIn, Each, times}
+use Rattle.list_laws.specs.Counts.{IsIn, Each, times}
 use Rattle.core_state.specs.Memory.{Memory, stored, slot_count, idle}
 use Rattle.core_state.specs.Known.{known_in, lock_of}
 use Rattle.core_state.specs.Marks.{begun}
@@ -31,8 +31,9 @@ use Rattle.core_state.specs.ReaderParts.{IsReading, IsServed, IsRecord, HasStood
 use Rattle.core_state.specs.WaiterParts.{WaiterParts}
 use Rattle.core_state.specs.Invariant.{Invariant}
 use Rattle.core_state.specs.Laws.{KeepsAges}
-use Rattle.core_state.proofs.Lists.{at_below, in_second}
-use Rattle.core_state.proofs.MarkFacts.{QuietMarks, quiet_same, quiet_snoc, open_at-below}
+use Rattle.list_laws.proofs.Lists.{at_below, in_second}
+use Rattle.prcu_model.proofs.MarkPlaces.{open_at-below}
+use Rattle.core_state.proofs.MarkFacts.{QuietMarks, quiet_same, quiet_snoc}
 use Rattle.core_state.proofs.Same.{SameSlots, same_slots, announced_slots, stamp_slots, SamePlaces, content_same}
 use Rattle.core_state.proofs.SeatFacts.{works_there, places_apart, place_within}
 use Rattle.core_state.proofs.MarkFrame.{mark_frame, mark_frame_more}

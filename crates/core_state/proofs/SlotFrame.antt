@@ -9,12 +9,13 @@ use Rattle.core_state.specs.declared.view.Held.{Held}
 use Rattle.core_state.specs.declared.view.Retired.{Retired}
 use Rattle.core_state.specs.declared.view.Spent.{Spent}
 use Rattle.core_state.specs.declared.view.View.{View}
-use Rattle.core_state.specs.Lists.{times, total, flag, IsIn, Each, IsEven, IsOdd}
+use Rattle.list_laws.specs.Counts.{times, total, IsIn, Each}
+use Rattle.core_state.specs.Lists.{flag, IsEven, IsOdd}
 use Rattle.core_state.specs.Memory.{Memory}
 use Rattle.core_state.specs.Views.{retired_of, slots_of}
 use Rattle.core_state.specs.Chart.{Chart}
 use Rattle.core_state.specs.SlotParts.{HasFewSlots, IsRetired, IsHeldKnown, AreHandsKnown, SlotParts}
-use Rattle.core_state.proofs.Lists.{each_change, total_same}
+use Rattle.list_laws.proofs.Lists.{each_change, total_same}
 use Rattle.core_state.proofs.MarkFacts.{QuietMarks}
 use Rattle.core_state.proofs.Same.{SameSlots, own_same, content_same, SamePlaces, retired_same, spares_same, slots_same, still}
 

@@ -15,7 +15,7 @@ use Rattle.core_state.specs.declared.view.HeldLock.{HeldLock}
 use Rattle.core_state.specs.declared.view.Move.{Move}
 use Rattle.core_state.specs.declared.view.Reading.{Reading}
 use Rattle.core_state.specs.declared.view.View.{View}
-use Rattle.core_state.specs.Lists.{IsIn}
+use Rattle.list_laws.specs.Counts.{IsIn}
 use Rattle.core_state.specs.Memory.{Memory}
 use Rattle.core_state.specs.Known.{lock_of, HasLock}
 use Rattle.core_state.specs.Nodes.{after}
@@ -23,7 +23,7 @@ use Rattle.core_state.specs.Chart.{Chart, low_of, high_of, IsShaped, HoldsMap}
 use Rattle.core_state.specs.LockParts.{HasGeneration}
 use Rattle.core_state.specs.Readers.{IsPending}
 use Rattle.core_state.specs.TreeParts.{map_now, IsMoving, TreeParts}
-use Rattle.core_state.proofs.Lists.{each_set}
+use Rattle.list_laws.proofs.Lists.{each_set}
 use Rattle.core_state.proofs.MarkFacts.{QuietMarks}
 use Rattle.core_state.proofs.Same.{SameNodes, was, still}
 

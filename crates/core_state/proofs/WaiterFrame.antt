@@ -16,13 +16,13 @@ use Rattle.core_state.specs.declared.view.Clocked.{Clocked}
 use Rattle.core_state.specs.declared.view.Section.{Section}
 use Rattle.core_state.specs.declared.view.Waiting.{Waiting}
 use Rattle.core_state.specs.declared.view.View.{View}
-use Rattle.core_state.specs.Lists.{IsIn, Each}
+use Rattle.list_laws.specs.Counts.{IsIn, Each}
 use Rattle.core_state.specs.Memory.{Memory, stored, idle}
 use Rattle.core_state.specs.Marks.{begun}
 use Rattle.core_state.specs.Waits.{keys_of, spot_of}
 use Rattle.core_state.specs.Sections.{after4, entering, leaving, new_section}
 use Rattle.core_state.specs.WaiterParts.{IsClocked, AreExcused, IsTurnedOnce, inside_count, WaiterParts}
-use Rattle.core_state.proofs.Lists.{each_set, each_change, total_same}
+use Rattle.list_laws.proofs.Lists.{each_set, each_change, total_same}
 use Rattle.core_state.proofs.MarkFacts.{TurnsNoWait, begun-same, take-more}
 use Rattle.core_state.proofs.Same.{was}
 use Rattle.core_state.proofs.SeatFacts.{open_entered, open_entered_other, open_left_other}

@@ -23,11 +23,13 @@ use Rattle.core_state.specs.declared.view.Stand.TheVariants.{At, Unread, Found, 
 use Rattle.core_state.specs.declared.view.Waiting.{Waiting}
 use Rattle.core_state.specs.Known.{known_in}
 use Rattle.core_state.specs.declared.view.View.{View}
-use Rattle.core_state.specs.Lists.{IsIn, IsEven, IsOdd}
+use Rattle.list_laws.specs.Counts.{IsIn}
+use Rattle.core_state.specs.Lists.{IsEven, IsOdd}
 use Rattle.core_state.specs.Memory.{Memory, is_field, stored, slot_count}
 use Rattle.core_state.specs.Nodes.{last_of, follow, Hops}
 use Rattle.core_state.specs.Tree.{IsTree}
-use Rattle.core_state.specs.Readers.{WasSaid, IsPending, MayPass, IsOldFor, IsEmptied, Stands}
+use Rattle.prcu_model.specs.Dictionary.{WasSaid}
+use Rattle.core_state.specs.Readers.{IsPending, MayPass, IsOldFor, IsEmptied, Stands}
 use Rattle.core_state.specs.ReaderParts.{stand_slot, IsAsRecorded}
 use Rattle.core_state.specs.TreeParts.{map_now}
 use Rattle.core_state.specs.Slots.{IsContent, Needs12Retired}

@@ -15,7 +15,8 @@ use Rattle.core_state.specs.declared.view.Gap.{Gap}
 use Rattle.core_state.specs.declared.view.Listing.{Listing}
 use Rattle.core_state.specs.declared.view.Section.{Section}
 use Rattle.core_state.specs.declared.view.View.{View}
-use Rattle.core_state.specs.Lists.{Each, IsEven}
+use Rattle.list_laws.specs.Counts.{Each}
+use Rattle.core_state.specs.Lists.{IsEven}
 use Rattle.core_state.specs.Memory.{Memory}
 use Rattle.core_state.specs.Chart.{Chart}
 use Rattle.core_state.specs.Readers.{IsHeldBack}

@@ -11,7 +11,8 @@ use Rattle.core_state.specs.declared.view.Reading.{Reading}
 use Rattle.core_state.specs.declared.view.Retired.{Retired}
 use Rattle.core_state.specs.declared.view.Section.{Section}
 use Rattle.core_state.specs.declared.view.View.{View}
-use Rattle.core_state.specs.Lists.{times, IsIn, Each, IsOdd}
+use Rattle.list_laws.specs.Counts.{times, IsIn, Each}
+use Rattle.core_state.specs.Lists.{IsOdd}
 use Rattle.core_state.specs.Memory.{Memory}
 use Rattle.core_state.specs.Known.{known_in, lock_of, is_emptied, IsOwnField, LoadedGeneration}
 use Rattle.core_state.specs.Views.{readings_of}

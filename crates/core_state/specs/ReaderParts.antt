@@ -17,7 +17,8 @@ use Rattle.core_state.specs.declared.view.Stand.{Stand}
 use Rattle.core_state.specs.declared.view.Stand.TheVariants.{At, Unread, Found, Missed}
 use Rattle.core_state.specs.declared.view.Walk.{Walk}
 use Rattle.core_state.specs.declared.view.View.{View}
-use Rattle.core_state.specs.Lists.{IsIn, Each, IsOdd}
+use Rattle.list_laws.specs.Counts.{IsIn, Each}
+use Rattle.core_state.specs.Lists.{IsOdd}
 use Rattle.core_state.specs.Memory.{Memory}
 use Rattle.core_state.specs.Words.{step_side}
 use Rattle.core_state.specs.Nodes.{OnRightLeft}
@@ -25,7 +26,8 @@ use Rattle.core_state.specs.Known.{known_in, IsLoadable, LoadedGeneration}
 use Rattle.core_state.specs.Views.{readings_of}
 use Rattle.core_state.specs.Sections.{fresh_reading}
 use Rattle.core_state.specs.Chart.{Chart, Belongs}
-use Rattle.core_state.specs.Readers.{WasSaid, IsHeldBack, MayPass, IsOldFor, IsEmptied, Place, Walks}
+use Rattle.prcu_model.specs.Dictionary.{WasSaid}
+use Rattle.core_state.specs.Readers.{IsHeldBack, MayPass, IsOldFor, IsEmptied, Place, Walks}
 
 -- the slot at which a search stands or ended
 abbrev pub stand_slot : Stand → ℕ

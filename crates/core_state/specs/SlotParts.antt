@@ -12,7 +12,8 @@ use Rattle.core_state.specs.declared.view.Move.{Move}
 use Rattle.core_state.specs.declared.view.Retired.{Retired}
 use Rattle.core_state.specs.declared.view.Spent.{Spent}
 use Rattle.core_state.specs.declared.view.View.{View}
-use Rattle.core_state.specs.Lists.{times, total, flag, IsIn, Each, IsEven, IsOdd}
+use Rattle.list_laws.specs.Counts.{times, total, IsIn, Each}
+use Rattle.core_state.specs.Lists.{flag, IsEven, IsOdd}
 use Rattle.core_state.specs.Memory.{Memory}
 use Rattle.core_state.specs.Known.{known_in, IsOwnField}
 use Rattle.core_state.specs.Slots.{IsContent}

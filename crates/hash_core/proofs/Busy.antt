@@ -7,7 +7,7 @@ use Rattle.prcu_model.specs.declared.operation.Update.{Update}
 use Rattle.hash_core.specs.declared.view.Section.{Section}
 use Rattle.hash_core.specs.declared.view.Hold.{Hold}
 use Rattle.hash_core.specs.declared.view.View.{View}
-use Rattle.hash_core.specs.Lists.{total}
+use Rattle.list_laws.specs.Counts.{total}
 use Rattle.hash_core.specs.Memory.{Memory}
 use Rattle.prcu_model.specs.Marks.{updates_of, entered_at}
 use Rattle.hash_core.specs.Buckets.{Bucket, IsLocked, inside_count, IsFreeOfReaders}
@@ -15,7 +15,7 @@ use Rattle.hash_core.specs.Seats.{AreSeen, AreApart, AreOwned, HasNoTurn, IsTurn
 use Rattle.hash_core.specs.Steps.{IsQuiet}
 use Rattle.hash_core.specs.Rule.{BucketRule, MemoryRule}
 use Rattle.prcu_model.proofs.ListFacts.{all_map}
-use Rattle.hash_core.proofs.Lists.{at_one}
+use Rattle.list_laws.proofs.Lists.{at_one}
 
 -- Each view that isn't quiet stands where it stood, and the open sections of each class are as many.
 pub record SameBusy (vs vs' : List View) : Type 0 where

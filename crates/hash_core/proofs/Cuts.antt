@@ -4,11 +4,12 @@ use mathlib.Core.Logic.{dite}
 use native.Mathlib.Decide.{ℕ_discrete}
 use Rattle.hash_core.specs.declared.words.Field.TheVariants.{Key, Value, Next}
 use Rattle.hash_core.specs.declared.view.Known.{Known}
-use Rattle.hash_core.specs.Lists.{times, IsPath}
+use Rattle.list_laws.specs.Counts.{times}
+use Rattle.hash_core.specs.Lists.{IsPath}
 use Rattle.hash_core.specs.Memory.{Memory}
 use Rattle.hash_core.specs.Known.{known_in, IsWholeWalk, LacksKey, ComesTo}
 use Rattle.hash_core.specs.Buckets.{seek, HaveDistinctKeys}
-use Rattle.hash_core.proofs.Lists.{times_here, times_other}
+use Rattle.list_laws.proofs.Lists.{times_here, times_other}
 use Rattle.hash_core.proofs.Paths.{IsPath-same, path_cons, seek_here, seek_past}
 
 -- a path that goes past the slot after `p` where the link of `p` does

@@ -10,17 +10,19 @@ use native.Mathlib.Decide.{dec_le, ℕ_discrete}
 use lib.ListN.{get_elem?}
 use Rattle.hash_core.specs.declared.words.Field.TheVariants.{Free, Chain}
 use Rattle.hash_core.specs.declared.view.View.{View}
-use Rattle.hash_core.specs.Lists.{times, IsPath}
+use Rattle.list_laws.specs.Counts.{times}
+use Rattle.hash_core.specs.Lists.{IsPath}
 use Rattle.hash_core.specs.Memory.{Memory, memory_of}
 use Rattle.hash_core.specs.Slots.{capacity, base, is_slot_of}
 use Rattle.prcu_model.specs.Marks.{own_of, open_at, entered_at}
 use Rattle.hash_core.specs.Buckets.{Bucket, HoldsOther, IsFreeOfReaders}
-use Rattle.hash_core.specs.Readers.{WasSaid, WillAnswer}
+use Rattle.prcu_model.specs.Dictionary.{WasSaid}
+use Rattle.hash_core.specs.Readers.{WillAnswer}
 use Rattle.hash_core.specs.Seats.{HasHeard, AnswersFor, open_of, HasNoTurn}
 use Rattle.hash_core.specs.Steps.{places_from}
 use Rattle.hash_core.specs.Fresh.{first_view, first_slot, slot_after, IsFresh}
 use Rattle.hash_core.specs.Rule.{BucketRule, IsShape, MemoryRule}
-use Rattle.hash_core.proofs.Lists.{times_here, times_other, all_from_times}
+use Rattle.list_laws.proofs.Lists.{times_here, times_other, all_from_times}
 use Rattle.hash_core.proofs.Classes.{slot_bounds, slot_within}
 use Rattle.hash_core.proofs.Splits.{times_from, from_times}
 

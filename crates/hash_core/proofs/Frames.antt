@@ -17,15 +17,16 @@ use Rattle.hash_core.specs.declared.view.Stand.TheVariants.{Start, Unread, Passe
 use Rattle.hash_core.specs.declared.view.Section.{Section}
 use Rattle.hash_core.specs.declared.view.Hold.{Hold}
 use Rattle.hash_core.specs.declared.view.View.{View}
-use Rattle.hash_core.specs.Lists.{times}
+use Rattle.list_laws.specs.Counts.{times}
 use Rattle.hash_core.specs.Memory.{Memory}
 use Rattle.hash_core.specs.Slots.{is_slot_of, IsOfClass}
 use Rattle.prcu_model.specs.Marks.{gone_at, IsGone}
 use Rattle.hash_core.specs.Buckets.{Bucket, IsChained, AreListed, HaveOneRole, IsMapped, HoldsOther, IsLocked, IsKnown, HaveAges, inside_count, AreCounted, IsFreeOfReaders, AreClean, taken_of, unlinked_of, moved_of, link_of}
-use Rattle.hash_core.specs.Readers.{WasSaid, IsHeldBack, HasWay, WillAnswer, AreAnswered}
+use Rattle.prcu_model.specs.Dictionary.{WasSaid}
+use Rattle.hash_core.specs.Readers.{IsHeldBack, HasWay, WillAnswer, AreAnswered}
 use Rattle.hash_core.specs.Rule.{BucketRule}
 use Rattle.std.proofs.Common.{ne_eqb, length-append}
-use Rattle.hash_core.proofs.Lists.{at_below, each_set, total_set, all_change, all_times, times_here, times_append}
+use Rattle.list_laws.proofs.Lists.{at_below, each_set, total_set, all_change, all_times, times_here, times_append}
 use Rattle.hash_core.proofs.Paths.{path_cons, IsPath-same, IsPath-from, seek-same, HaveDistinctKeys-same}
 
 -- What stands in the slots of a class is the same.

@@ -11,7 +11,8 @@ use Rattle.prcu_model.specs.Dictionary.{map_of}
 use Rattle.hash_core.specs.declared.words.Field.TheVariants.{Free, Retired, Key, Value, Chain}
 use Rattle.hash_core.specs.declared.view.Hold.{Hold}
 use Rattle.hash_core.specs.declared.view.View.{View}
-use Rattle.hash_core.specs.Lists.{times, IsPath}
+use Rattle.list_laws.specs.Counts.{times}
+use Rattle.hash_core.specs.Lists.{IsPath}
 use Rattle.hash_core.specs.Memory.{Memory}
 use Rattle.hash_core.specs.Slots.{capacity, base, is_slot_of}
 use Rattle.prcu_model.specs.Marks.{updates_of}
@@ -19,7 +20,7 @@ use Rattle.hash_core.specs.Known.{known_in}
 use Rattle.hash_core.specs.Buckets.{seek, HaveDistinctKeys, link_of}
 use Rattle.hash_core.specs.Pairs.{HasPairs}
 use Rattle.hash_core.specs.Rule.{BucketRule, MemoryRule}
-use Rattle.hash_core.proofs.Lists.{times_here, times_other, times_append}
+use Rattle.list_laws.proofs.Lists.{times_here, times_other, times_append}
 use Rattle.hash_core.proofs.Paths.{path_none, seek_here, seek_past}
 use Rattle.hash_core.proofs.Cuts.{cut_at}
 use Rattle.hash_core.proofs.Stocks.{rule, is_known, roles_by, moved_by}

@@ -1,4 +1,3 @@
-pub mod Lists
 pub mod Paths
 pub mod Classes
 pub mod Frames

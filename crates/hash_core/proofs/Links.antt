@@ -1,5 +1,5 @@
 -- The kinds of step that make an update: a slot is linked, a value is replaced.
-use Rattle.std.proofs.Common.{◌≡◌, ◌≢◌, ◌⊎◌, ℕ, ◌%◌, ◌<◌, ◌≤◌, ◌==◌, true, false, cond, List, [], ◌∷◌, ◌++◌, length, set, Option, Some, None, is_some, refl, sym, ap, subst, ◌∙◌, inl, inr, arith, ne_eqb, option_to_list}
+use Rattle.std.proofs.Common.{◌≡◌, ◌≢◌, ◌⊎◌, ℕ, ◌%◌, ◌<◌, ◌≤◌, true, false, cond, List, [], ◌∷◌, ◌++◌, length, set, Option, Some, None, is_some, refl, sym, ap, subst, ◌∙◌, inl, inr, arith, ne_eqb, option_to_list}
 use Rattle.std.specs.FinMap as finite
 use mathlib.Core.Logic.{dite}
 use mathlib.Core.Option.{some}
@@ -18,23 +18,26 @@ use Rattle.hash_core.specs.declared.view.Stand.TheVariants.{Start, Unread, Passe
 use Rattle.hash_core.specs.declared.view.Section.{Section}
 use Rattle.hash_core.specs.declared.view.Hold.{Hold}
 use Rattle.hash_core.specs.declared.view.View.{View}
-use Rattle.hash_core.specs.Lists.{times, IsPath}
+use Rattle.list_laws.specs.Counts.{times}
+use Rattle.hash_core.specs.Lists.{IsPath}
 use Rattle.hash_core.specs.Memory.{Memory, stored}
 use Rattle.hash_core.specs.Slots.{is_slot_of}
 use Rattle.prcu_model.specs.Marks.{updates_of, open_at, gone_at, IsGone, entered_at}
 use Rattle.hash_core.specs.Marks.{ReuseByClass}
 use Rattle.hash_core.specs.Known.{knowing, ShowsAbsent, IsOnWalk}
-use Rattle.hash_core.specs.Buckets.{Bucket, seek, IsFreeOfReaders, taken_of, unlinked_of, moved_of, link_of, HaveDistinctKeys}
-use Rattle.hash_core.specs.Readers.{AreAnswered, WillAnswer, WasSaid, IsHeldBack, HasWay}
+use Rattle.hash_core.specs.Buckets.{Bucket, seek, IsFreeOfReaders, taken_of, unlinked_of, HaveDistinctKeys}
+use Rattle.prcu_model.specs.Dictionary.{WasSaid}
+use Rattle.hash_core.specs.Readers.{AreAnswered, WillAnswer, IsHeldBack, HasWay}
 use Rattle.hash_core.specs.Seats.{open_of}
 use Rattle.hash_core.specs.Steps.{Needs13, after13, Needs15, after15}
 use Rattle.hash_core.specs.Rule.{BucketRule, MemoryRule}
 use Rattle.prcu_model.proofs.ListFacts.{all_map}
-use Rattle.hash_core.proofs.Lists.{each_set, all_times}
+use Rattle.list_laws.proofs.Lists.{each_set, all_times}
 use Rattle.hash_core.proofs.Paths.{seek_here, seek_past, seek-same, HaveDistinctKeys-same}
 use Rattle.prcu_model.proofs.MarkLists.{updates_of-append}
 use Rattle.hash_core.proofs.Classes.{slot_within}
-use Rattle.hash_core.proofs.Adds.{open_at-same, gone_at-same, open_at-below, reuse_more}
+use Rattle.prcu_model.proofs.MarkPlaces.{open_at-below}
+use Rattle.hash_core.proofs.Adds.{open_at-same, gone_at-same, reuse_more}
 use Rattle.hash_core.proofs.Frames.{SameMarks, chain_slot, taken_slot, WasSaid-longer}
 use Rattle.hash_core.proofs.Stores.{class_words, stored_here, same_self}
 use Rattle.hash_core.proofs.Sections.{entered_at-append, free_each}

@@ -1,6 +1,5 @@
 -- The kinds of step on locks and on the front, and the loads under a lock.
-use Rattle.std.proofs.Common.{◌≡◌, ◌≢◌, ◌⊎◌, ℕ, ◌+◌, ◌*◌, ◌%◌, ◌<◌, ◌≤◌, Bool, true, false, cond, List, [], ◌∷◌, ◌++◌, length, set, Option, Some, None, refl, sym, ap, subst, ◌∙◌, inl, inr, arith, eq-eqb, append-nil, option_to_list}
-use Rattle.std.specs.List.{AllByRecursion}
+use Rattle.std.proofs.Common.{◌≡◌, ◌≢◌, ◌⊎◌, ℕ, ◌+◌, ◌*◌, ◌%◌, ◌<◌, ◌≤◌, Bool, true, false, cond, List, [], ◌++◌, length, set, Option, Some, None, refl, sym, ap, subst, ◌∙◌, inl, inr, arith, eq-eqb, append-nil, option_to_list}
 use mathlib.Core.Logic.{dite}
 use mathlib.Core.Option.{some}
 use native.Mathlib.Decide.{ℕ_discrete}
@@ -14,18 +13,20 @@ use Rattle.hash_core.specs.declared.view.Section.{Section}
 use Rattle.hash_core.specs.declared.view.Hold.{Hold}
 use Rattle.hash_core.specs.declared.view.Turn.{Turn}
 use Rattle.hash_core.specs.declared.view.View.{View}
-use Rattle.hash_core.specs.Lists.{times, IsPath}
+use Rattle.list_laws.specs.Counts.{times}
+use Rattle.hash_core.specs.Lists.{IsPath}
 use Rattle.hash_core.specs.Memory.{Memory, same_field, stored}
 use Rattle.hash_core.specs.Slots.{is_slot_of, IsOfClass}
 use Rattle.prcu_model.specs.Marks.{updates_of}
 use Rattle.hash_core.specs.Known.{known_in, knowing}
 use Rattle.hash_core.specs.Buckets.{Bucket, inside_count, AreCounted, HoldsOther, IsLocked, AreClean, IsFreeOfReaders, HaveOneRole, taken_of, unlinked_of, moved_of, link_of}
-use Rattle.hash_core.specs.Readers.{AreAnswered, WillAnswer, WasSaid}
+use Rattle.prcu_model.specs.Dictionary.{WasSaid}
+use Rattle.hash_core.specs.Readers.{AreAnswered, WillAnswer}
 use Rattle.hash_core.specs.Seats.{HasNoTurn, updates_by, IsTurned, AreOwned, AreSeen}
 use Rattle.hash_core.specs.Steps.{IsQuiet, fresh_hold, Needs7, after7, Needs12, Needs16, after16}
 use Rattle.hash_core.specs.Rule.{BucketRule, MemoryRule}
 use Rattle.prcu_model.proofs.ListFacts.{prefix_self, all_map}
-use Rattle.hash_core.proofs.Lists.{at_below, at_one, each_set, total_set, total_part}
+use Rattle.list_laws.proofs.Lists.{at_below, at_one, each_set, total_set, total_part}
 use Rattle.hash_core.proofs.Frames.{SameSlots, SameSection, SameHold, SameView, still_answer}
 use Rattle.hash_core.proofs.Stores.{same_words, lock_words, front_words, stored_here, same_self, same_is}
 use Rattle.hash_core.proofs.SeatFrames.{seen_same, seen_whole, apart_same, owned_same, open_same, held_still, turned_same}

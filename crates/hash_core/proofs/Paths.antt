@@ -3,10 +3,11 @@ use Rattle.std.proofs.Common.{◌≡◌, ◌≢◌, ℕ, ◌≤◌, ◌==◌, co
 use mathlib.Core.Logic.{dite}
 use native.Mathlib.Decide.{ℕ_discrete}
 use Rattle.hash_core.specs.declared.words.Field.TheVariants.{Key, Value}
-use Rattle.hash_core.specs.Lists.{times, IsPath}
+use Rattle.list_laws.specs.Counts.{times}
+use Rattle.hash_core.specs.Lists.{IsPath}
 use Rattle.hash_core.specs.Memory.{Memory}
 use Rattle.hash_core.specs.Buckets.{seek, HaveDistinctKeys}
-use Rattle.hash_core.proofs.Lists.{times_here}
+use Rattle.list_laws.proofs.Lists.{times_here}
 
 -- a path goes on where no link on it changes
 pub IsPath-same : (next next' : ℕ → ℕ) (first : ℕ) (xs : List ℕ) → ((s : ℕ) → 1 ≤ times s xs → next' s ≡ next s) → IsPath next first xs → IsPath next' first xs

@@ -10,13 +10,13 @@ use Rattle.hash_core.specs.declared.view.Section.{Section}
 use Rattle.hash_core.specs.declared.view.Hold.{Hold}
 use Rattle.hash_core.specs.declared.view.Turn.{Turn}
 use Rattle.hash_core.specs.declared.view.View.{View}
-use Rattle.hash_core.specs.Lists.{total}
+use Rattle.list_laws.specs.Counts.{total}
 use Rattle.hash_core.specs.Memory.{Memory}
 use Rattle.prcu_model.specs.Marks.{updates_of, own_of}
 use Rattle.hash_core.specs.Seats.{open_of, AreOwned}
 use Rattle.hash_core.specs.Steps.{trod}
 use Rattle.hash_core.specs.Rule.{MemoryRule}
-use Rattle.hash_core.proofs.Lists.{at_below, total_set, set_twice}
+use Rattle.list_laws.proofs.Lists.{at_below, total_set, set_twice}
 use Rattle.atomic_table.proofs.Lists.{set_here}
 use Rattle.hash_core.proofs.Frames.{SameMarks, SameSection, SameHold}
 use Rattle.hash_core.proofs.Stores.{same_words}

@@ -18,20 +18,23 @@ use Rattle.hash_core.specs.declared.view.Stand.{Stand}
 use Rattle.hash_core.specs.declared.view.Stand.TheVariants.{Start, Unread, Passed, Found, Ended}
 use Rattle.hash_core.specs.declared.view.Section.{Section}
 use Rattle.hash_core.specs.declared.view.View.{View}
-use Rattle.hash_core.specs.Lists.{IsPath, total}
+use Rattle.list_laws.specs.Counts.{total}
+use Rattle.hash_core.specs.Lists.{IsPath}
 use Rattle.hash_core.specs.Memory.{Memory, stored}
 use Rattle.hash_core.specs.Slots.{is_slot_of, IsOfClass}
 use Rattle.prcu_model.specs.Marks.{updates_of, Open, open_at, gone_at, entered_at}
 use Rattle.hash_core.specs.Buckets.{Bucket, seek, inside_count, IsKnown, IsFreeOfReaders, AreClean}
-use Rattle.hash_core.specs.Readers.{WasSaid, IsHeldBack, HasWay, WillAnswer}
+use Rattle.prcu_model.specs.Dictionary.{WasSaid}
+use Rattle.hash_core.specs.Readers.{IsHeldBack, HasWay, WillAnswer}
 use Rattle.hash_core.specs.Seats.{open_of, AreOpen, IsTurned}
 use Rattle.hash_core.specs.Steps.{after3, after4, after5, link_stand, searched, MayLoad}
 use Rattle.hash_core.specs.Rule.{BucketRule, MemoryRule}
 use Rattle.prcu_model.proofs.ListFacts.{all_map}
-use Rattle.hash_core.proofs.Lists.{at_below, at_one, each_set, total_set, total_part, all_change}
+use Rattle.list_laws.proofs.Lists.{at_below, at_one, each_set, total_set, total_part, all_change}
 use Rattle.hash_core.proofs.Paths.{path_cons, path_none, seek_here, seek_past}
 use Rattle.prcu_model.proofs.MarkLists.{open_at-snoc, updates_of-append}
-use Rattle.hash_core.proofs.Adds.{gone_at-same, gone_at-below, reuse_more}
+use Rattle.prcu_model.proofs.MarkPlaces.{gone_at-below}
+use Rattle.hash_core.proofs.Adds.{gone_at-same, reuse_more}
 use Rattle.hash_core.proofs.Frames.{SameMarks, SameSection, locked_same, still_said, still_answer, frame_ages_same}
 use Rattle.hash_core.proofs.Stores.{same_words, readers_words, stored_here, same_self}
 use Rattle.hash_core.proofs.SeatFrames.{seen_whole, apart_same, owned_more, held_still, turned_same}

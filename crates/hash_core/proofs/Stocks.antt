@@ -18,19 +18,21 @@ use Rattle.hash_core.specs.declared.words.Field.TheVariants.{Front, Lock, Reader
 use Rattle.hash_core.specs.declared.view.Section.{Section}
 use Rattle.hash_core.specs.declared.view.Hold.{Hold}
 use Rattle.hash_core.specs.declared.view.View.{View}
-use Rattle.hash_core.specs.Lists.{times, IsPath, total}
+use Rattle.list_laws.specs.Counts.{times, total}
+use Rattle.hash_core.specs.Lists.{IsPath}
 use Rattle.hash_core.specs.Memory.{Memory, same_field, stored}
 use Rattle.hash_core.specs.Slots.{is_slot_of, IsOfClass}
 use Rattle.prcu_model.specs.Marks.{updates_of, Open, open_at, gone_at, IsGone}
 use Rattle.hash_core.specs.Marks.{ReuseByClass}
 use Rattle.hash_core.specs.Known.{known_in, knowing}
 use Rattle.hash_core.specs.Buckets.{Bucket, IsKnown, IsFreeOfReaders, taken_of, unlinked_of, moved_of, link_of}
-use Rattle.hash_core.specs.Readers.{AreAnswered, WillAnswer, WasSaid}
+use Rattle.prcu_model.specs.Dictionary.{WasSaid}
+use Rattle.hash_core.specs.Readers.{AreAnswered, WillAnswer}
 use Rattle.hash_core.specs.Seats.{IsTurned}
 use Rattle.hash_core.specs.Steps.{NeedsTake, after_take, NeedsRefill, after_refill, NeedsMove, after_move, NeedsPush, after_push, NeedsChain, after_chain, IsFieldOf, Needs11, after11}
 use Rattle.hash_core.specs.Rule.{BucketRule, MemoryRule}
 use Rattle.prcu_model.proofs.ListFacts.{all_map}
-use Rattle.hash_core.proofs.Lists.{at_below, at_end, each_set, all_change, all_from_times, times_here}
+use Rattle.list_laws.proofs.Lists.{at_below, at_end, each_set, all_change, all_from_times, times_here}
 use Rattle.hash_core.proofs.Paths.{path_cons, path_none, IsPath-same, seek-same, HaveDistinctKeys-same}
 use Rattle.prcu_model.proofs.MarkLists.{updates_of-append}
 use Rattle.hash_core.proofs.Adds.{open_at-same, gone_at-given_here, gone_at-given_other}

@@ -20,11 +20,11 @@ use Rattle.hash_core.specs.declared.view.View.{View}
 use Rattle.hash_core.specs.Memory.{Memory}
 use Rattle.prcu_model.specs.Marks.{updates_of, open_at, own_of, entered_at}
 use Rattle.hash_core.specs.Marks.{ReuseByClass}
-use Rattle.hash_core.specs.Readers.{WasSaid}
+use Rattle.prcu_model.specs.Dictionary.{WasSaid}
 use Rattle.hash_core.specs.Seats.{HasNoTurn, updates_by}
 use Rattle.hash_core.specs.Steps.{HasTurn, updated_view}
 use Rattle.hash_core.specs.Rule.{MemoryRule}
-use Rattle.hash_core.proofs.Lists.{at_below, at_one, each_set, total_set, total_part}
+use Rattle.list_laws.proofs.Lists.{at_below, at_one, each_set, total_set, total_part}
 use Rattle.atomic_table.proofs.Lists.{set_here}
 use Rattle.hash_core.proofs.SeatFrames.{seen_whole, apart_same, owned_more, open_same, held_still}
 use Rattle.hash_core.proofs.Quiet.{section_back, section_forth}

@@ -8,11 +8,12 @@ use Rattle.hash_core.specs.declared.words.Field.TheVariants.{Key, Value, Next}
 use Rattle.hash_core.specs.declared.view.Stand.{Stand}
 use Rattle.hash_core.specs.declared.view.Stand.TheVariants.{Start, Unread, Passed, Found, Ended}
 use Rattle.hash_core.specs.declared.view.Section.{Section}
-use Rattle.hash_core.specs.Lists.{times}
+use Rattle.list_laws.specs.Counts.{times}
 use Rattle.hash_core.specs.Memory.{Memory}
 use Rattle.hash_core.specs.Slots.{is_slot_of}
-use Rattle.hash_core.specs.Readers.{WasSaid, IsHeldBack, HasWay, WillAnswer}
-use Rattle.hash_core.proofs.Lists.{all_change, all_times, times_here, times_append}
+use Rattle.prcu_model.specs.Dictionary.{WasSaid}
+use Rattle.hash_core.specs.Readers.{IsHeldBack, HasWay, WillAnswer}
+use Rattle.list_laws.proofs.Lists.{all_change, all_times, times_here, times_append}
 use Rattle.hash_core.proofs.Paths.{IsPath-same, path_cons, seek-same}
 
 -- What a step leaves of the slots on readers' ways: they are linked, or held back by the reader.

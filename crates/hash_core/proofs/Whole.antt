@@ -7,7 +7,7 @@ use lib.ListN.{get_elem?}
 use Rattle.prcu_model.specs.declared.mark.Mark.{Mark}
 use Rattle.prcu_model.specs.History.{IsLegal}
 use Rattle.hash_core.specs.declared.view.View.{View}
-use Rattle.hash_core.specs.Lists.{total}
+use Rattle.list_laws.specs.Counts.{total}
 use Rattle.hash_core.specs.Memory.{Memory}
 use Rattle.prcu_model.specs.Marks.{updates_of}
 use Rattle.hash_core.specs.Marks.{ReuseByClass}

@@ -13,7 +13,8 @@ use Rattle.hash_core.specs.declared.words.Field.TheVariants.{Lock, Readers, Head
 use Rattle.hash_core.specs.declared.view.Hold.{Hold}
 use Rattle.hash_core.specs.declared.view.Section.{Section}
 use Rattle.hash_core.specs.declared.view.View.{View}
-use Rattle.hash_core.specs.Lists.{times, IsPath, total}
+use Rattle.list_laws.specs.Counts.{times, total}
+use Rattle.hash_core.specs.Lists.{IsPath}
 use Rattle.hash_core.specs.Memory.{Memory}
 use Rattle.hash_core.specs.Slots.{is_slot_of, IsOfClass}
 use Rattle.prcu_model.specs.Marks.{gone_at, IsGone}

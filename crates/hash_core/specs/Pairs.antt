@@ -4,7 +4,7 @@ use Rattle.std.specs.Prelude.{◌≡◌, ℕ, ◌%◌, ◌≤◌, ◌↔◌, Lis
 use Rattle.std.specs.List.{AllByRecursion}
 use Rattle.std.specs.FinMap as finite
 use Rattle.prcu_model.specs.Dictionary.{Dictionary}
-use Rattle.hash_core.specs.Lists.{times}
+use Rattle.list_laws.specs.Counts.{times}
 
 -- The keys of the class that the dictionary has are so many: they are those of a list without repetition of that length.
 pub record HasPairs (c : ℕ) (dictionary : Dictionary) (count : ℕ) : Type 0 where

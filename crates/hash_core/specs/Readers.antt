@@ -1,13 +1,12 @@
 -- The rule's part on readers: where a search stands, and what it will answer.
 -- Source: docs/ALGORITHM.md, "The hash dictionary's rule".
-use Rattle.std.specs.Prelude.{◌≡◌, ◌≢◌, ℕ, ◌%◌, ◌<◌, ◌≤◌, true, List, ◌++◌, length, Option, Some, None}
+use Rattle.std.specs.Prelude.{◌≡◌, ◌≢◌, ℕ, ◌%◌, ◌<◌, true, List, ◌++◌, Some, None}
+use Rattle.prcu_model.specs.Dictionary.{WasSaid}
 use Rattle.std.specs.List.{AllByRecursion}
-use Rattle.std.specs.FinMap as finite
 use mathlib.Core.Option.{some}
 use lib.ListN.{get_elem?}
 use Rattle.prcu_model.specs.declared.mark.Mark.{Mark}
 use Rattle.prcu_model.specs.declared.operation.Update.{Update}
-use Rattle.prcu_model.specs.Dictionary.{map_at}
 use Rattle.hash_core.specs.declared.words.Field.TheVariants.{Key, Next}
 use Rattle.hash_core.specs.declared.view.Stand.{Stand}
 use Rattle.hash_core.specs.declared.view.Stand.TheVariants.{Start, Unread, Passed, Found, Ended}
@@ -18,13 +17,6 @@ use Rattle.hash_core.specs.Memory.{Memory}
 use Rattle.hash_core.specs.Slots.{is_slot_of}
 use Rattle.prcu_model.specs.Marks.{gone_at}
 use Rattle.hash_core.specs.Buckets.{seek}
-
--- At some front from this one to now the dictionary gave the key this answer.
-pub record WasSaid (us : List Update) (key from : ℕ) (answer : Option ℕ) : Type 0 where
-  pub front : ℕ
-  pub since : from ≤ front
-  pub made : front ≤ length us
-  pub answers : finite.get (map_at us front) key ≡ answer
 
 -- The slot was unlinked after the section was entered, and not given since.
 abbrev pub IsHeldBack : List Mark → Section → ℕ → Type 0

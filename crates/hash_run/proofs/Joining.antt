@@ -12,10 +12,10 @@ use Rattle.client_run.specs.Workers.{Work}
 use Rattle.hash_core.specs.declared.view.View.{View}
 use Rattle.hash_core.specs.declared.words.Field.TheVariants.{Front}
 use Rattle.hash_core.specs.declared.words.Kind.TheVariants.{H2}
-use Rattle.hash_core.specs.Lists.{times}
+use Rattle.list_laws.specs.Counts.{times}
 use Rattle.hash_core.specs.Seats.{AnswersFor}
 use Rattle.hash_core.specs.Steps.{trod, IsQuiet, both_of, places_from}
-use Rattle.hash_core.proofs.Lists.{times_append}
+use Rattle.list_laws.proofs.Lists.{times_append}
 use Rattle.hash_core.proofs.Splits.{from_times}
 use Rattle.class_hash.specs.Answers.{IsInformed}
 use Rattle.class_hash.specs.Seats.{TableAt}

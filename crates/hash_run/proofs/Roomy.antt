@@ -19,10 +19,10 @@ use Rattle.prcu_model.specs.Scripts.{is_put}
 use Rattle.prcu_model.specs.Fronts.{Placed, told_lines, all_told_lines, own_updates_from, told_updates, MayStandBy, MayStandBesideBy, CanBeNumbered}
 use Rattle.prcu_model.proofs.ListFacts.{all_append, all_front, all_back}
 use Rattle.prcu_model.proofs.Worth.{get-updated_other, get-put, get-del}
-use Rattle.hash_core.specs.Lists.{times}
+use Rattle.list_laws.specs.Counts.{times}
 use Rattle.hash_core.specs.Pairs.{HasPairs}
 use Rattle.hash_core.specs.Slots.{capacity}
-use Rattle.hash_core.proofs.Lists.{times_here, times_other, times_append, all_times}
+use Rattle.list_laws.proofs.Lists.{times_here, times_other, times_append, all_times}
 use Rattle.hash_core.proofs.Cuts.{cut_at}
 use Rattle.class_hash.specs.Clients.{ExplainsInClasses}
 use Rattle.hash_run.specs.Capacities.{puts_of, all_puts, put_keys, class_len, AreCapacities}

@@ -16,7 +16,7 @@ use Rattle.prcu_model.specs.declared.operation.Update.{Update}
 use Rattle.prcu_model.specs.Dictionary.{Dictionary, key_of, map_of, map_at}
 use Rattle.prcu_model.specs.Replies.{Confirms, tells_update}
 use Rattle.prcu_model.specs.Marks.{updates_of, is_of, own_of}
-use Rattle.prcu_model.specs.Fronts.{told_lines, Placed, own_updates, own_updates_from, told_updates, IsConfirmed, MayStandBy, MayStandBesideBy}
+use Rattle.prcu_model.specs.Fronts.{told_lines, own_updates, own_updates_from, told_updates, IsConfirmed, MayStandBy, MayStandBesideBy}
 use Rattle.prcu_model.specs.Chains.{IsChain}
 use Rattle.prcu_model.specs.Callers.{Caller, HasSeenItsOwn, IsLeftBy, entered_for, WaitsFor, HasMadeUpdate, WasExplained, HasAnswered, MeetsFronts}
 use Rattle.prcu_model.specs.Runs.{asking}

@@ -18,9 +18,9 @@ use Rattle.prcu_model.specs.declared.operation.Update.{Update}
 use Rattle.prcu_model.specs.Dictionary.{Dictionary, updated, updated_all, map_at}
 use Rattle.prcu_model.specs.Replies.{Room, Explains, tells_update}
 use Rattle.prcu_model.specs.Scripts.{is_put, put_count, default_slots_of}
-use Rattle.prcu_model.specs.Fronts.{Placed, own_updates, own_updates_from, told_updates, told_lines, all_told_lines, ops_of, MayStand, MayStandBeside, CanBeNumbered, AreExplained, AreExplainable}
+use Rattle.prcu_model.specs.Fronts.{Placed, own_updates, own_updates_from, told_updates, all_told_lines, ops_of, MayStand, MayStandBeside, CanBeNumbered, AreExplained, AreExplainable}
 use Rattle.prcu_model.specs.Slots.{LacksFull, StaysWithin}
-use Rattle.prcu_model.proofs.ToldLists.{ops_of-told_lines, ops_of-all_told_lines}
+use Rattle.prcu_model.proofs.ToldLists.{ops_of-all_told_lines}
 
 len_case : (b : Bool) (n k : ℕ) → cond b n k ≤ max n k
 len_case true n k = omega arith

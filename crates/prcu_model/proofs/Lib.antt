@@ -10,6 +10,7 @@ pub mod PlainSizes
 pub mod ToldLists
 pub mod ListFacts
 pub mod MarkLists
+pub mod MarkPlaces
 pub mod OwnMarks
 pub mod Callers
 pub mod Runs

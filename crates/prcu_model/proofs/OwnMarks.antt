@@ -1,12 +1,11 @@
 -- A place's own marks and updates.
-use Rattle.std.proofs.Common.{◌≡◌, ◌≢◌, ℕ, zero, suc, ◌+◌, ◌==◌, Bool, true, false, cond, List, [], ◌∷◌, ◌++◌, length, Some, refl, sym, ap, ◌∙◌, arith, eqb, eq-eqb, append-nil}
+use Rattle.std.proofs.Common.{◌≡◌, ℕ, zero, suc, ◌+◌, ◌==◌, Bool, true, false, cond, List, [], ◌∷◌, ◌++◌, length, Some, refl, sym, ap, ◌∙◌, arith, eqb, eq-eqb}
 use Rattle.std.specs.List.{AllByRecursion, slice_get}
-use Rattle.std.proofs.lemmas.Bool.{eqb-true}
 use Rattle.prcu_model.specs.declared.mark.Mark.{Mark}
 use Rattle.prcu_model.specs.declared.mark.Mark.TheVariants.{Entered, Left, Began, Ended, Done, Given, Unlinked, Freed}
 use Rattle.prcu_model.specs.declared.operation.Update.{Update}
 use Rattle.prcu_model.specs.Marks.{updates_of, is_of, own_of}
-use Rattle.prcu_model.specs.Fronts.{Placed, own_updates_from}
+use Rattle.prcu_model.specs.Fronts.{own_updates_from}
 use Rattle.prcu_model.specs.Callers.{IsLeftBy, entered_for}
 
 pub own_updates_from-append : (p c : ℕ) (us vs : List Update) → own_updates_from p c (us ++ vs) ≡ own_updates_from p c us ++ own_updates_from (p + length us) c vs

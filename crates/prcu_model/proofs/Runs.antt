@@ -1,9 +1,8 @@
 -- A run of scripts, each by a caller at the place of its number: what the callers' chains tell of together.
 use Rattle.std.proofs.Common.{◌≡◌, ℕ, zero, suc, ◌+◌, ◌<◌, ◌≤◌, ◌==◌, Bool, true, false, cond, List, [], ◌∷◌, ◌++◌, length, get_or, map, refl, sym, ap, subst, ◌∙◌, arith, inl, inr, append-nil, eq-eqb}
-use Rattle.std.specs.List.{All, AllByRecursion}
+use Rattle.std.specs.List.{AllByRecursion}
 use Rattle.std.proofs.lemmas.Bool.{eqb-true, cases_lt}
-use Rattle.std.proofs.lemmas.List.{append_cancel_left, get_or_past, length-map}
-use Rattle.std.proofs.lemmas.List.Elements.{recursion_from_All}
+use Rattle.std.proofs.lemmas.List.{append_cancel_left, get_or_past}
 use mathlib.Core.List.{IsPrefix}
 use Rattle.prcu_model.specs.declared.mark.Mark.{Mark}
 use Rattle.prcu_model.specs.declared.mark.Mark.TheVariants.{Entered, Left, Began, Ended, Done, Given, Unlinked, Freed}
@@ -15,7 +14,7 @@ use Rattle.prcu_model.specs.declared.operation.Update.{Update}
 use Rattle.prcu_model.specs.Dictionary.{Dictionary}
 use Rattle.prcu_model.specs.History.{IsLegal}
 use Rattle.prcu_model.specs.Marks.{updates_of, is_of, own_of}
-use Rattle.prcu_model.specs.Fronts.{told_lines, all_told_lines, own_updates, own_updates_from, told_updates, IsConfirmed, MayStandBesideBy}
+use Rattle.prcu_model.specs.Fronts.{told_lines, all_told_lines, own_updates, told_updates, IsConfirmed, MayStandBesideBy}
 use Rattle.prcu_model.specs.Callers.{Caller, entered_for, WaitsFor}
 use Rattle.prcu_model.specs.Runs.{asking, FitsScript, FitsScripts}
 use Rattle.prcu_model.proofs.ListFacts.{all_map}

@@ -1,6 +1,6 @@
 -- The dictionary as a value, and what each update makes of it.
 -- Source: docs/ALGORITHM.md, "The dictionary".
-use Rattle.std.specs.Prelude.{ℕ, List, [], ◌∷◌, take, if◌then◌else◌}
+use Rattle.std.specs.Prelude.{◌≡◌, ℕ, ◌≤◌, List, [], ◌∷◌, length, take, if◌then◌else◌, Option}
 use Rattle.std.specs.Ordering.{nat_cmp}
 use Rattle.std.specs.Coded.{Coded, coded_ℕ}
 use Rattle.std.specs.FinMap as map
@@ -43,3 +43,10 @@ map_at history front = map_of (take front history)
 -- a dictionary is stored as its pairs, keys ascending
 abbrev pub dictionary_code : Coded Dictionary
 dictionary_code = map.code coded_ℕ coded_ℕ
+
+-- At some front from this one to now the dictionary gave the key this answer.
+pub record WasSaid (us : List Update) (key from : ℕ) (answer : Option ℕ) : Type 0 where
+  pub front : ℕ
+  pub since : from ≤ front
+  pub made : front ≤ length us
+  pub answers : map.get (map_at us front) key ≡ answer

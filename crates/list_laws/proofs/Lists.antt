@@ -1,11 +1,12 @@
--- Lists of views, of slots and of marks.
+-- Lists of views, and of numbers of slots and places.
 use Rattle.std.proofs.Common.{◌≡◌, ◌≢◌, ℕ, zero, suc, ◌+◌, ◌<◌, ◌≤◌, ◌⊎◌, cond, List, [], ◌∷◌, ◌++◌, length, map, set, refl, sym, ap, subst, ◌∙◌, ⊎_elim, inl, inr, arith, eq-eqb, ne_eqb}
+use Rattle.std.specs.List.{AllByRecursion}
 use mathlib.Core.Logic.{dite}
 use mathlib.Core.Option.{some, some-injective, some-ne-none}
 use native.Mathlib.Decide.{dec_le, ℕ_discrete}
 use lib.ListN.{get_elem?}
 use Rattle.atomic_table.proofs.Lists.{at_set, at_longer}
-use Rattle.core_state.specs.Lists.{times, numbers_from, total, IsIn, Each}
+use Rattle.list_laws.specs.Counts.{times, numbers_from, total, IsIn, Each}
 
 module _ {A : Type 0} where
   pub at_below : (l : List A) (i : ℕ) (a : A) → get_elem? l i ≡ some a → i < length l
@@ -39,11 +40,6 @@ module _ {A : Type 0} where
   pub each_change : (P Q : A → Type 0) (vs : List A) (id : ℕ) (v w : A) → get_elem? vs id ≡ some v → (P v → Q w) → ((u : A) → P u → Q u) → Each vs P → Each (set vs id w) Q
   each_change P Q vs id v w at mine others all = each_set (λ j u. Q u) vs id w (mine (all id v at)) (λ j u other e. others u (all j u e))
 
-  -- what stands in the changed list has one in its place in the old list, which is it or the one that was changed
-  pub back_at : (vs : List A) (id : ℕ) (v w : A) → get_elem? vs id ≡ some v → (j : ℕ) (u : A) → get_elem? (set vs id w) j ≡ some u
-      → ((j ≡ id) × (w ≡ u)) ⊎ ((j ≢ id) × (get_elem? vs j ≡ some u))
-  back_at vs id v w at j u e = at_set vs id j w u e
-
   pub total_set : (f : A → ℕ) (vs : List A) (id : ℕ) (v w : A) → get_elem? vs id ≡ some v → total f (set vs id w) + f v ≡ total f vs + f w
   total_set f [] id v w e = absurd (some-ne-none v (sym e))
   total_set f (x ∷ xs) zero v w e = let s = ap f (some-injective x v e) in omega arith
@@ -56,6 +52,10 @@ module _ {A : Type 0} where
   total_part f [] id v e = absurd (some-ne-none v (sym e))
   total_part f (x ∷ xs) zero v e = let s = ap f (some-injective x v e) in omega arith
   total_part f (x ∷ xs) (suc id) v e = let s = total_part f xs id v e in omega arith
+
+  pub total_append : (f : A → ℕ) (us vs : List A) → total f (us ++ vs) ≡ total f us + total f vs
+  total_append f [] vs = omega arith
+  total_append f (u ∷ us) vs = let s = total_append f us vs in omega arith
 
   -- two elements count for two
   pub total_two : (f : A → ℕ) (vs : List A) (i j : ℕ) (v w : A) → get_elem? vs i ≡ some v → get_elem? vs j ≡ some w → i ≢ j → f v + f w ≤ total f vs
@@ -112,3 +112,21 @@ from_times x first (suc n) low high =
 
 pub not_from : (x first n : ℕ) → (x < first) ⊎ (first + n ≤ x) → times x (numbers_from first n) ≡ 0
 not_from x first n out = dite (dec_le 1 (times x (numbers_from first n))) (λ there. absurd (let r = times_from x first n there in let low = r.0 in let high = r.1 in ⊎_elim (λ (a : x < first). omega arith) (λ (b : first + n ≤ x). omega arith) out)) (λ none. omega arith)
+
+-- what holds of all numbers of a list holds of one that stands there
+pub all_times : (P : ℕ → Type 0) (xs : List ℕ) (x : ℕ) → AllByRecursion P xs → 1 ≤ times x xs → P x
+all_times P [] x all there = absurd (omega arith)
+all_times P (y ∷ ys) x all there =
+    dite (ℕ_discrete y x) (λ e. subst P e all.0) (λ ne. let t = times_other x y ys ne in all_times P ys x all.1 (omega arith))
+
+-- a fact of all numbers of a list, where it follows for those that stand there
+pub all_from_times : (P : ℕ → Type 0) (xs : List ℕ) → ((x : ℕ) → 1 ≤ times x xs → P x) → AllByRecursion P xs
+all_from_times P [] f = tt
+all_from_times P (y ∷ ys) f = (
+  f y (let t = times_here y ys in omega arith),
+  all_from_times P ys (λ x there. f x (dite (ℕ_discrete y x) (λ e. let t : times x (y ∷ ys) ≡ 1 + times x ys = subst (λ z. times z (y ∷ ys) ≡ 1 + times z ys) e (times_here y ys) in omega arith) (λ ne. let t = times_other x y ys ne in omega arith))),
+)
+
+-- one fact from another for the numbers that stand there
+pub all_change : (P Q : ℕ → Type 0) (xs : List ℕ) → ((x : ℕ) → 1 ≤ times x xs → P x → Q x) → AllByRecursion P xs → AllByRecursion Q xs
+all_change P Q xs f all = all_from_times Q xs (λ x there. f x there (all_times P xs x all there))
