@@ -3,12 +3,8 @@
 # how it ended. Anything but the right status and the right bytes is an error. It stands outside the gate; what it printed
 # stands in docs/PROOFS.md.
 set -eu
-top=$(cd "$(dirname "$0")/.." && pwd)
-citrus=$top/crates/citrus_cli/out/citrus_cli
-out=$top/bench/out
-mkdir -p "$out"
-# Words that are no command: the program is built, and does nothing.
-"$top/citrus" 2>"$out/told" || [ $? = 2 ]
+# shellcheck source=bench/built.sh
+. "$(dirname "$0")/built.sh"
 cc -O2 -shared -fPIC -o "$out/faults.so" "$top/bench/faults.c"
 errors=0
 
@@ -87,5 +83,6 @@ words='check' input=$out/claim always=0 && try
 words='check' input=$out/scripts always=1 && try
 words='run' input=$out/bad always=3 && try
 words='load 1 2 100' input=/dev/null always=0 && try
+words='hash' input=$out/scripts always=0 && try
 echo "$errors errors"
 [ "$errors" = 0 ]

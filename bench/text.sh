@@ -3,12 +3,8 @@
 # program in C++ that writes the same bytes, and of inputs at the limits. It stands outside the gate; what it printed on one
 # machine stands in docs/BENCHMARKS.md.
 set -eu
-top=$(cd "$(dirname "$0")/.." && pwd)
-citrus=$top/crates/citrus_cli/out/citrus_cli
-out=$top/bench/out
-mkdir -p "$out"
-# Words that are no command: the program is built, and does nothing.
-"$top/citrus" 2>"$out/told" || [ $? = 2 ]
+# shellcheck source=bench/built.sh
+. "$(dirname "$0")/built.sh"
 for name in made_text plain; do
     g++ -O2 -std=c++17 -o "$out/$name" "$top/bench/$name.cpp"
 done

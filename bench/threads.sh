@@ -2,12 +2,8 @@
 # Prints the time and the peak memory of `hash`, which runs scripts in threads, beside those of `run` on the same texts. Nine in ten
 # operations are gets. It stands outside the gate; what it printed on one machine stands in docs/BENCHMARKS.md.
 set -eu
-top=$(cd "$(dirname "$0")/.." && pwd)
-citrus=$top/crates/citrus_cli/out/citrus_cli
-out=$top/bench/out
-mkdir -p "$out"
-# Words that are no command: the program is built, and does nothing.
-"$top/citrus" 2>"$out/told" || [ $? = 2 ]
+# shellcheck source=bench/built.sh
+. "$(dirname "$0")/built.sh"
 g++ -O2 -std=c++17 -o "$out/made_text" "$top/bench/made_text.cpp"
 cc -O2 -o "$out/measure" "$top/bench/measure.c"
 
