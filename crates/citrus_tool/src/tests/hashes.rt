@@ -78,6 +78,9 @@ fn two_scripts_are_at_their_answers_at_once(rt: HostRuntime) -> Result<(), Fail>
     let (status, written) = answer_through(&rt, alloc, &["hash"], &mut source, 1000, &meeting)?;
     assert_eq!(rt; status, Status::Done);
     assert!(rt; written.as_slice() == wanted);
+    for arrived in meeting.arrived.iter() {
+        assert_eq!(rt; arrived.load(Ordering::SeqCst), 1);
+    }
     assert_eq!(rt; meeting.misses.load(Ordering::SeqCst), 0);
     Ok(())
 }
