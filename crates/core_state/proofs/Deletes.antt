@@ -1,29 +1,15 @@
 -- A run on literal words, continued: deletes with their waits.
-use Rattle.std.proofs.Common.{◌≡◌, List, [], ◌∷◌, take, refl, inl, inr, None, length, true}
+use Rattle.std.proofs.Common.{List, [], ◌∷◌, take, refl, inl, inr, None, length, true}
 use Rattle.prcu_model.specs.declared.mark.Side.TheVariants.{Left, Right}
 use Rattle.core_state.specs.declared.words.Field.TheVariants.{Key, Value, Life, Link, Tag}
-use Rattle.core_state.specs.Fresh.{first_view}
-use Rattle.core_state.specs.Memory.{idle}
 use Rattle.core_state.specs.Steps.{step3, step4, step5, step6, step7, step8_key, step9_held, step12_content, step13, step14, step17, step18, step19, step21, step22, step23, step24, step25, step26, step27}
 use Rattle.core_state.proofs.Example.{small, only_spot, after_put70, after_put60}
 use Rattle.core_state.proofs.Chosen.{lock_now, reading_now, moving_now}
 use Rattle.core_state.proofs.Choices.{State, Choice, reached, AllAllowed, over, ◌⟫◌, turn_now, spare_now, wait_now, le_now, lt_now, ne_now, announces, begins, bypasses, clocks, enters, fills, leaves, links_copy, loads, loads_life, loads_locked, locks, looks_key, marks_node, raises_tag, turns_even, turns_odd, unlinks_left, unlinks_right, unlocks}
 
--- The same words met by a seat that comes to them: three nodes, and a delete of a leaf, and one with two children whose successor is
--- the right child.
+-- After three inserts: a delete of a leaf, and one with two children whose successor is the right child.
 abbrev pub three : State
-three = record {
-  words = 0 ∷ 6 ∷ 2 ∷ 70 ∷ idle ∷
-      1 ∷ 0 ∷ 0 ∷ 0 ∷ 0 ∷ 0 ∷ 2 ∷ 0 ∷ 0 ∷
-      1 ∷ 0 ∷ 0 ∷ 0 ∷ 0 ∷ 0 ∷ 0 ∷ 0 ∷ 0 ∷
-      1 ∷ 0 ∷ 0 ∷ 50 ∷ 5 ∷ 3 ∷ 4 ∷ 0 ∷ 0 ∷
-      1 ∷ 0 ∷ 0 ∷ 20 ∷ 2 ∷ 0 ∷ 0 ∷ 0 ∷ 0 ∷
-      1 ∷ 0 ∷ 0 ∷ 70 ∷ 7 ∷ 0 ∷ 0 ∷ 0 ∷ 0 ∷
-      0 ∷ 0 ∷ 0 ∷ 0 ∷ 0 ∷ 0 ∷ 0 ∷ 0 ∷ 0 ∷
-      0 ∷ 0 ∷ 0 ∷ 0 ∷ 0 ∷ 0 ∷ 0 ∷ 0 ∷ 0 ∷ [];
-  view = first_view small;
-  marks = [];
-}
+three = after_put70
 
 -- 20, which has no child, is deleted, part 1
 abbrev pub del20_first : List Choice
@@ -45,7 +31,7 @@ del20_first_allowed : AllAllowed small three del20_first
 del20_first_allowed =
     step3 ⟫
     step4 refl refl ⟫
-    step5 (record { number = 0; at = 0 }) refl (record { entry = record { outside = refl; free = refl; key_fits = lt_now _ _ refl }; clock = refl; stamp_is = refl; announced = refl }) ⟫
+    step5 (record { number = 0; at = 12 }) refl (record { entry = record { outside = refl; free = refl; key_fits = lt_now _ _ refl }; clock = refl; stamp_is = refl; announced = refl }) ⟫
     step17 (record { section_is = refl; searches = refl; stood = (0, refl); loadable = refl }) ⟫
     step17 (record { section_is = refl; searches = refl; stood = (0, refl); loadable = refl }) ⟫
     step17 (record { section_is = refl; searches = refl; stood = (0, refl); loadable = refl }) ⟫
@@ -168,7 +154,7 @@ right50_first_allowed : AllAllowed small three right50_first
 right50_first_allowed =
     step3 ⟫
     step4 refl refl ⟫
-    step5 (record { number = 0; at = 0 }) refl (record { entry = record { outside = refl; free = refl; key_fits = lt_now _ _ refl }; clock = refl; stamp_is = refl; announced = refl }) ⟫
+    step5 (record { number = 0; at = 12 }) refl (record { entry = record { outside = refl; free = refl; key_fits = lt_now _ _ refl }; clock = refl; stamp_is = refl; announced = refl }) ⟫
     step17 (record { section_is = refl; searches = refl; stood = (0, refl); loadable = refl }) ⟫
     step17 (record { section_is = refl; searches = refl; stood = (0, refl); loadable = refl }) ⟫
     step17 (record { section_is = refl; searches = refl; stood = (1, refl); loadable = refl }) ⟫
@@ -381,24 +367,9 @@ right50_fifth_allowed =
     step14 (lock_now right50_fifth_7.view 2) (record { held = refl; no_end = tt; left = refl; right = refl; unmarked = refl }) ⟫
     step14 (lock_now right50_fifth_8.view 0) (record { held = refl; no_end = tt; left = refl; right = refl; unmarked = refl }) ⟫ over
 
--- they are the words that the puts left
-three_words : after_put70.words ≡ three.words
-three_words = refl
-
--- Four nodes, and a delete whose successor is further down.
+-- After four inserts: a delete whose successor is further down.
 abbrev pub four : State
-four = record {
-  words = 0 ∷ 8 ∷ 1 ∷ 60 ∷ idle ∷
-      1 ∷ 0 ∷ 0 ∷ 0 ∷ 0 ∷ 0 ∷ 2 ∷ 0 ∷ 0 ∷
-      1 ∷ 0 ∷ 0 ∷ 0 ∷ 0 ∷ 0 ∷ 0 ∷ 0 ∷ 0 ∷
-      1 ∷ 0 ∷ 0 ∷ 50 ∷ 5 ∷ 3 ∷ 4 ∷ 0 ∷ 0 ∷
-      1 ∷ 0 ∷ 0 ∷ 20 ∷ 2 ∷ 0 ∷ 0 ∷ 0 ∷ 0 ∷
-      1 ∷ 0 ∷ 0 ∷ 70 ∷ 7 ∷ 5 ∷ 0 ∷ 0 ∷ 0 ∷
-      1 ∷ 0 ∷ 0 ∷ 60 ∷ 6 ∷ 0 ∷ 0 ∷ 0 ∷ 0 ∷
-      0 ∷ 0 ∷ 0 ∷ 0 ∷ 0 ∷ 0 ∷ 0 ∷ 0 ∷ 0 ∷ [];
-  view = first_view small;
-  marks = [];
-}
+four = after_put60
 
 -- 50 is deleted: its successor is 60, left of 70, part 1
 abbrev pub left50_first : List Choice
@@ -416,7 +387,7 @@ left50_first_allowed : AllAllowed small four left50_first
 left50_first_allowed =
     step3 ⟫
     step4 refl refl ⟫
-    step5 (record { number = 0; at = 0 }) refl (record { entry = record { outside = refl; free = refl; key_fits = lt_now _ _ refl }; clock = refl; stamp_is = refl; announced = refl }) ⟫
+    step5 (record { number = 0; at = 16 }) refl (record { entry = record { outside = refl; free = refl; key_fits = lt_now _ _ refl }; clock = refl; stamp_is = refl; announced = refl }) ⟫
     step17 (record { section_is = refl; searches = refl; stood = (0, refl); loadable = refl }) ⟫
     step17 (record { section_is = refl; searches = refl; stood = (0, refl); loadable = refl }) ⟫ over
 
@@ -716,6 +687,3 @@ left50_eleventh_0 = reached small after_left50_tenth (take 0 left50_eleventh)
 left50_eleventh_allowed : AllAllowed small after_left50_tenth left50_eleventh
 left50_eleventh_allowed =
     step14 (lock_now left50_eleventh_0.view 0) (record { held = refl; no_end = tt; left = refl; right = refl; unmarked = refl }) ⟫ over
-
-four_words : after_put60.words ≡ four.words
-four_words = refl

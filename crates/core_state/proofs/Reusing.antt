@@ -1,33 +1,16 @@
 -- A run on literal words, continued: slots are used again after a wait, taken and given back; and seats are split and joined.
-use Rattle.std.proofs.Common.{ℕ, List, [], ◌∷◌, take, refl, inl, None, true, false}
-use Rattle.prcu_model.specs.declared.mark.Mark.TheVariants.{Unlinked}
+use Rattle.std.proofs.Common.{List, [], ◌∷◌, take, refl, inl, true}
 use Rattle.core_state.specs.declared.view.View.{View}
-use Rattle.core_state.specs.Fresh.{first_view}
-use Rattle.core_state.specs.Memory.{idle}
 use Rattle.core_state.specs.Waits.{new_wait}
 use Rattle.core_state.specs.Seating.{new_view, Needs1, Needs2, first_of, second_of}
-use Rattle.core_state.specs.declared.view.Retired.{Retired}
 use Rattle.core_state.specs.Steps.{step7, step8_stamp, step9_held, step9_keep, step9_retired, step10, step11, step12_hand, step12_spare, step12_raised, step15_hand, step15_retired, step16}
 use Rattle.core_state.proofs.Example.{small, only_spot}
+use Rattle.core_state.proofs.Deletes.{after_left50_eleventh}
 use Rattle.core_state.proofs.Choices.{State, Choice, reached, AllAllowed, over, ◌⟫◌, le_now, lt_now, ne_now, no_lock, some_not_none, begins, counts_free, frees_hand, frees_retired, keeps, loads_life, loads_retired, looks_stamp, raises_hand, raises_retired, raises_spare, reserves, seizes}
 
--- A place with two retired slots and no spare, after such a delete.
-abbrev retired_slot : ℕ → ℕ → Retired
-retired_slot s at = record { slot = s; unlinked = at; raised = false; waited = false; life = None; known = [] }
-
+-- After that delete the place has two retired slots and no spare.
 abbrev pub waiting : State
-waiting = record {
-  words = 0 ∷ 10 ∷ 1 ∷ 50 ∷ idle ∷
-      1 ∷ 0 ∷ 0 ∷ 0 ∷ 0 ∷ 0 ∷ 1 ∷ 0 ∷ 0 ∷
-      1 ∷ 0 ∷ 0 ∷ 60 ∷ 6 ∷ 3 ∷ 4 ∷ 0 ∷ 0 ∷
-      1 ∷ 0 ∷ 1 ∷ 50 ∷ 5 ∷ 3 ∷ 4 ∷ 0 ∷ 0 ∷
-      1 ∷ 0 ∷ 0 ∷ 20 ∷ 2 ∷ 0 ∷ 0 ∷ 0 ∷ 0 ∷
-      1 ∷ 0 ∷ 0 ∷ 70 ∷ 7 ∷ 0 ∷ 0 ∷ 1 ∷ 0 ∷
-      1 ∷ 0 ∷ 1 ∷ 60 ∷ 6 ∷ 0 ∷ 0 ∷ 0 ∷ 0 ∷
-      0 ∷ 0 ∷ 0 ∷ 0 ∷ 0 ∷ 0 ∷ 0 ∷ 0 ∷ 0 ∷ [];
-  view = record (first_view small) { hands = record { reserved = false; owes = false; hand = None; spare = None; retired = retired_slot 2 0 ∷ retired_slot 5 1 ∷ [] } };
-  marks = Unlinked 2 ∷ Unlinked 5 ∷ [];
-}
+waiting = after_left50_eleventh
 
 -- after a wait for everybody its slot becomes the spare, and that of the old successor is freed, part 1
 abbrev pub reclaim_first : List Choice
@@ -50,7 +33,7 @@ reclaim_first_0 = reached small waiting (take 0 reclaim_first)
 reclaim_first_allowed : AllAllowed small waiting reclaim_first
 reclaim_first_allowed =
     step7 (record { outside = refl; ticket = le_now 1 reclaim_first_0.view.post.tickets refl; some = le_now _ _ refl; high_fits = lt_now _ _ refl }) ⟫
-    step8_stamp {last = true} refl (record { wait_is = refl; going = refl; rest = λ l e other spot. only_spot (new_wait waiting.view 0 18446744073709551615 0 waiting.marks) other spot }) ⟫
+    step8_stamp {last = true} refl (record { wait_is = refl; going = refl; rest = λ l e other spot. only_spot (new_wait waiting.view 0 18446744073709551615 1 waiting.marks) other spot }) ⟫
     step9_retired 0 _ (refl, refl) ⟫
     step12_spare 0 1 _ (record { retired = (refl, refl); unraised = refl; unlocked = no_lock [] 2 refl; waited = refl; loaded = refl; next = refl }) refl ⟫
     step9_retired 0 _ (refl, refl) ⟫
