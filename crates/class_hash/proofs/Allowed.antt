@@ -21,7 +21,7 @@ use Rattle.hash_core.specs.Slots.{IsOfClass}
 use Rattle.prcu_model.specs.Marks.{updates_of}
 use Rattle.prcu_model.specs.Dictionary.{WasSaid}
 use Rattle.hash_core.specs.Rule.{MemoryRule, Rule}
-use Rattle.hash_core.specs.Steps.{trod, IsQuiet, after3, after4, after5, searched, MayLoad, fresh_hold, Needs7, after7, after9, NeedsTake, after_take, NeedsRefill, after_refill, NeedsMove, after_move, NeedsPush, after_push, NeedsChain, after_chain, Needs11, after11, Needs12, Needs13, after13, Needs14, after14, Needs15, after15, Needs16, after16}
+use Rattle.hash_core.specs.Steps.{stepped, IsQuiet, after_clock_load, after_announce, after_enter_by_stamp, searched, MayLoad, fresh_hold, NeedsBegin, after_begin, after9, NeedsTake, after_take, NeedsRefill, after_refill, NeedsMove, after_move, NeedsPush, after_push, NeedsChain, after_chain, NeedsSeize, after_seize, Needs12, NeedsLock, after_lock, NeedsUnlock, after_unlock, Needs15, after15, NeedsCountFree, after_count_free}
 use Rattle.list_laws.proofs.Lists.{at_below}
 use Rattle.prcu_model.proofs.MarkLists.{updates_of-append}
 use Rattle.hash_core.proofs.Busy.{quiet_turn}
@@ -59,7 +59,7 @@ module _ (k : Shape) (slots id : ℕ) (me : Me Nothing View) where
       (λ s r len at below.
       let n : ℕ = slice_index s.words 0 in
       let t = loads k id me.0 s.words s.views r at Front refl H2 n (λ w. told2 k.places (step slots 0 0 0 none) me n (w, me.1))
-      (λ vs1 r1 at1. let v1 : View = trod me.0 H2 Front n in
+      (λ vs1 r1 at1. let v1 : View = stepped me.0 H2 Front n in
       (v1, r.marks, subst (λ z. M (memory_of k.capacities.items s.words) z r.marks) (sym (set_again vs1 id v1 at1)) r1, (refl, refl, few_tickets caps k.places k.tickets _ vs1 r.marks r1 id v1 at1, informed caps k.places k.tickets _ vs1 r.marks r1 id v1 at1 live))) in
       (t.0, keeps, tt, t.1, t.2))
 
@@ -76,10 +76,10 @@ module _ (k : Shape) (slots id : ℕ) (me : Me Nothing View) where
       let places = r.holds.shape.few_places in
       let small : (n + 1) % 2 ^ 64 ≡ n + 1 = omega arith in
       let t = stores k id me.0 s.words s.views r at field is H3 n (n + 1) (λ w. told3 key (step slots (word_of field) 1 0 none) me n (w, me.1))
-      (λ vs1 r1 at1. let v1 : View = trod me.0 H3 field n in (
-        after3 v1 key r.marks,
+      (λ vs1 r1 at1. let v1 : View = stepped me.0 H3 field n in (
+        after_clock_load v1 key r.marks,
         r.marks ++ Entered me.0.place me.0.sections key ∷ [],
-        subst (λ z. M (stored (memory_of k.capacities.items s.words) field (z + 1)) (set vs1 id (after3 v1 key r.marks)) (r.marks ++ Entered me.0.place me.0.sections key ∷ [])) found
+        subst (λ z. M (stored (memory_of k.capacities.items s.words) field (z + 1)) (set vs1 id (after_clock_load v1 key r.marks)) (r.marks ++ Entered me.0.place me.0.sections key ∷ [])) found
             (law3 caps k.places k.tickets _ vs1 r.marks r1 id v1 at1 key fits live quiet.0),
         (refl, (r.marks, r.holds.seen.begins id me.0 at, refl)),
       )) in
@@ -105,10 +105,10 @@ module _ (k : Shape) (slots id : ℕ) (me : Me Nothing View) where
       let one = some_reader caps k.places k.tickets _ s.views r.marks r.holds id me.0 at section inside (class_inside section.key) in
       let less : (n + (2 ^ 64 - 1)) % 2 ^ 64 ≡ n - 1 = omega arith in
       let t = stores k id me.0 s.words s.views r at field is H4 n (n - 1) (λ w. told4 k.places (step slots (word_of field) 1 0 none) me n (w, me.1))
-      (λ vs1 r1 at1. let v1 : View = trod me.0 H4 field n in
-      let w : View = after4 v1 section r.marks in
+      (λ vs1 r1 at1. let v1 : View = stepped me.0 H4 field n in
+      let w : View = after_announce v1 section r.marks in
       let rule : M (stored (memory_of k.capacities.items s.words) field (n - 1)) (set vs1 id w) (r.marks ++ Left me.0.place section.count ∷ []) =
-      subst (λ z. M (stored (memory_of k.capacities.items s.words) field (z - 1)) (set vs1 id (after4 v1 section r.marks)) (r.marks ++ Left me.0.place section.count ∷ [])) found
+      subst (λ z. M (stored (memory_of k.capacities.items s.words) field (z - 1)) (set vs1 id (after_announce v1 section r.marks)) (r.marks ++ Left me.0.place section.count ∷ [])) found
       (law4 caps k.places k.tickets _ vs1 r.marks r1 id v1 at1 section inside) in (
         w,
         r.marks ++ Left me.0.place section.count ∷ [],
@@ -129,13 +129,13 @@ module _ (k : Shape) (slots id : ℕ) (me : Me Nothing View) where
       let n : ℕ = slice_index s.words (word_of field) in
       let found = found_is k id me.0 s.words s.views r at field is in
       let t = loads k id me.0 s.words s.views r at field is H5 n (λ w. told5 caps field (step slots (word_of field) 0 0 none) me n (w, me.1))
-      (λ vs1 r1 at1. let v1 : View = trod me.0 H5 field n in let w : View = after5 v1 section field n in
-      let rule : M (memory_of k.capacities.items s.words) (set vs1 id w) r.marks = subst (λ z. M (memory_of k.capacities.items s.words) (set vs1 id (after5 v1 section field z)) r.marks) found
+      (λ vs1 r1 at1. let v1 : View = stepped me.0 H5 field n in let w : View = after_enter_by_stamp v1 section field n in
+      let rule : M (memory_of k.capacities.items s.words) (set vs1 id w) r.marks = subst (λ z. M (memory_of k.capacities.items s.words) (set vs1 id (after_enter_by_stamp v1 section field z)) r.marks) found
       (law5 caps k.places k.tickets _ vs1 r.marks r1 id v1 at1 section inside field may) in (
         w,
         r.marks,
         rule,
-        (refl, (section, inside, refl, searched_key section section.stand field n, stands_in_class caps k.places k.tickets _ (set vs1 id w) r.marks rule id w (set_here vs1 id w (at_below vs1 id v1 at1)) (searched section section.stand field n) refl)),
+        (refl, (section, inside, refl, searched_key section section.state field n, stands_in_class caps k.places k.tickets _ (set vs1 id w) r.marks rule id w (set_here vs1 id w (at_below vs1 id v1 at1)) (searched section section.state field n) refl)),
       )) in
       (t.0, keeps, tt, t.1, t.2))
 
@@ -154,7 +154,7 @@ module _ (k : Shape) (slots id : ℕ) (me : Me Nothing View) where
       (λ e.
       let same : either true (me.0.place + 1) n ≡ either (n == 0) (me.0.place + 1) n = ap (λ b. either b (me.0.place + 1) n) (sym (eq-eqb n 0 e)) in
       let q = stores k id me.0 s.words s.views r at field is H6 n (me.0.place + 1) T
-      (λ vs1 r1 at1. let v1 : View = trod me.0 H6 field n in (
+      (λ vs1 r1 at1. let v1 : View = stepped me.0 H6 field n in (
         record v1 { hold = Some (fresh_hold c) },
         r.marks,
         law6 caps k.places k.tickets _ vs1 r.marks r1 id v1 at1 c small quiet live (found ∙ e),
@@ -164,7 +164,7 @@ module _ (k : Shape) (slots id : ℕ) (me : Me Nothing View) where
       (λ ne.
       let same : n ≡ either (n == 0) (me.0.place + 1) n = ap (λ b. either b (me.0.place + 1) n) (sym (ne_eqb n 0 ne)) in
       let q = loads k id me.0 s.words s.views r at field is H6 n T
-      (λ vs1 r1 at1. let v1 : View = trod me.0 H6 field n in (
+      (λ vs1 r1 at1. let v1 : View = stepped me.0 H6 field n in (
         v1,
         r.marks,
         subst (λ z. M (memory_of k.capacities.items s.words) z r.marks) (sym (set_again vs1 id v1 at1)) r1,
@@ -173,13 +173,13 @@ module _ (k : Shape) (slots id : ℕ) (me : Me Nothing View) where
       (q.0, subst (λ z. Rule k (set s.words (word_of field) z) (set s.views id q.0)) same q.1, q.2)) in
       (t.0, keeps, tt, t.1, t.2))
 
-  pub allows7 : (places : ℕ) (hold : Hold) (word : ℕ) → places ≡ k.places → 1 ≤ me.0.places → word ≡ word_of (Lock hold.class) → hold.class < 64 → Needs7 me.0 hold → Allows Holds slots id me word (λ _. 0) (λ _. told7 places (step slots word 0 0 none) me 0)
+  pub allows7 : (places : ℕ) (hold : Hold) (word : ℕ) → places ≡ k.places → 1 ≤ me.0.places → word ≡ word_of (Lock hold.class) → hold.class < 64 → NeedsBegin me.0 hold → Allows Holds slots id me word (λ _. 0) (λ _. told7 places (step slots word 0 0 none) me 0)
   allows7 places hold word all live at_word small needs = subst (λ (z : ℕ × ℕ). Allows Holds slots id me z.0 (λ _. 0) (λ _. told7 z.1 (step slots z.0 0 0 none) me 0)) (λ i. (sym at_word i, sym all i))
       (λ s r len at below.
       let t = stores k id me.0 s.words s.views r at (Lock hold.class) (lt-ltb hold.class 64 small) H7 0 0 (λ w. told7 k.places (step slots (word_of (Lock hold.class)) 0 0 none) me 0 (w, me.1))
-      (λ vs1 r1 at1. let v1 : View = trod me.0 H7 (Lock hold.class) 0 in
+      (λ vs1 r1 at1. let v1 : View = stepped me.0 H7 (Lock hold.class) 0 in
       let rule = law7 caps k.places k.tickets _ vs1 r.marks r1 id v1 at1 hold needs in
-      (after7 v1, r.marks, rule, (refl, (hold, needs.0, refl), informed caps k.places k.tickets _ (set vs1 id (after7 v1)) r.marks rule id (after7 v1) (set_here vs1 id (after7 v1) (at_below vs1 id v1 at1)) live))) in
+      (after_begin v1, r.marks, rule, (refl, (hold, needs.0, refl), informed caps k.places k.tickets _ (set vs1 id (after_begin v1)) r.marks rule id (after_begin v1) (set_here vs1 id (after_begin v1) (at_below vs1 id v1 at1)) live))) in
       (t.0, keeps, tt, t.1, t.2))
 
   pub allows8 : (hold : Hold) (word : ℕ) → word ≡ word_of (Readers hold.class) → hold.class < 64 → me.0.hold ≡ Some hold → Allows Holds slots id me word (λ n. n) (told8 (step slots word 0 0 none) me)
@@ -190,7 +190,7 @@ module _ (k : Shape) (slots id : ℕ) (me : Me Nothing View) where
       let n : ℕ = slice_index s.words (word_of field) in
       let found = found_is k id me.0 s.words s.views r at field is in
       let t = loads k id me.0 s.words s.views r at field is H8 n (λ w. told8 (step slots (word_of field) 0 0 none) me n (w, me.1))
-      (λ vs1 r1 at1. let v1 : View = trod me.0 H8 field n in let cleared : View = record v1 { hold = Some (record hold { clear = true }) } in dite (ℕ_discrete n 0)
+      (λ vs1 r1 at1. let v1 : View = stepped me.0 H8 field n in let cleared : View = record v1 { hold = Some (record hold { clear = true }) } in dite (ℕ_discrete n 0)
       (λ e. (cleared, r.marks, law8 caps k.places k.tickets _ vs1 r.marks r1 id v1 at1 hold mine (found ∙ e), (refl, (hold, mine, ap (λ b. cond b cleared v1) (sym (eq-eqb n 0 e))))))
       (λ ne. (v1, r.marks, subst (λ z. M (memory_of k.capacities.items s.words) z r.marks) (sym (set_again vs1 id v1 at1)) r1, (refl, (hold, mine, ap (λ b. cond b cleared v1) (sym (ne_eqb n 0 ne))))))) in
       (t.0, keeps, tt, t.1, t.2))
@@ -204,7 +204,7 @@ module _ (k : Shape) (slots id : ℕ) (me : Me Nothing View) where
       let m : Memory = memory_of k.capacities.items s.words in
       let found : m field ≡ n = found_is k id me.0 s.words s.views r at field is in
       let t = loads k id me.0 s.words s.views r at field is H9 n (λ w. told9 caps field (step slots (word_of field) 0 0 none) me n (w, me.1))
-      (λ vs1 r1 at1. let v1 : View = trod me.0 H9 field n in (
+      (λ vs1 r1 at1. let v1 : View = stepped me.0 H9 field n in (
         after9 v1 hold field n r.marks,
         r.marks,
         subst (λ z. M (memory_of k.capacities.items s.words) (set vs1 id (after9 v1 hold field z r.marks)) r.marks) found (law9 caps k.places k.tickets m vs1 r.marks r1 id v1 at1 hold mine field of (m field == 0)),
@@ -227,7 +227,7 @@ module _ (k : Shape) (slots id : ℕ) (me : Me Nothing View) where
     allows_take slot next word at_word needs = subst (λ i. Allows Holds slots id me i (λ _. next) (λ _. told_take slot next (step slots i next 0 none) me next)) (sym at_word)
         (λ s r len at below.
         let t = stores k id me.0 s.words s.views r at (Free hold.class) (lt-ltb hold.class 64 small) H10 next next (λ w. told_take slot next (step slots (word_of (Free hold.class)) next 0 none) me next (w, me.1))
-        (λ vs1 r1 at1. let v1 : View = trod me.0 H10 (Free hold.class) next in (
+        (λ vs1 r1 at1. let v1 : View = stepped me.0 H10 (Free hold.class) next in (
           after_take v1 hold slot next r.marks,
           r.marks ++ Given slot ∷ [],
           law_take caps k.places k.tickets _ vs1 r.marks r1 id v1 at1 hold needs.hold_is slot next (record { hold_is = needs.hold_is; some = needs.some; first = needs.first; next_is = needs.next_is; empty = needs.empty }),
@@ -239,7 +239,7 @@ module _ (k : Shape) (slots id : ℕ) (me : Me Nothing View) where
     allows_refill slot word at_word needs = subst (λ i. Allows Holds slots id me i (λ _. slot) (λ _. told_refill slot (step slots i slot 0 none) me slot)) (sym at_word)
         (λ s r len at below.
         let t = stores k id me.0 s.words s.views r at (Free hold.class) (lt-ltb hold.class 64 small) H10 slot slot (λ w. told_refill slot (step slots (word_of (Free hold.class)) slot 0 none) me slot (w, me.1))
-        (λ vs1 r1 at1. let v1 : View = trod me.0 H10 (Free hold.class) slot in (
+        (λ vs1 r1 at1. let v1 : View = stepped me.0 H10 (Free hold.class) slot in (
           after_refill v1 hold slot,
           r.marks,
           law_refill caps k.places k.tickets _ vs1 r.marks r1 id v1 at1 hold needs.hold_is slot (record { hold_is = needs.hold_is; empty = needs.empty; moved = needs.moved }),
@@ -251,7 +251,7 @@ module _ (k : Shape) (slots id : ℕ) (me : Me Nothing View) where
     allows_move slot word at_word needs = subst (λ i. Allows Holds slots id me i (λ _. 0) (λ _. told_move slot (step slots i 0 0 none) me 0)) (sym at_word)
         (λ s r len at below.
         let t = stores k id me.0 s.words s.views r at (Retired hold.class) (lt-ltb hold.class 64 small) H10 0 0 (λ w. told_move slot (step slots (word_of (Retired hold.class)) 0 0 none) me 0 (w, me.1))
-        (λ vs1 r1 at1. let v1 : View = trod me.0 H10 (Retired hold.class) 0 in (
+        (λ vs1 r1 at1. let v1 : View = stepped me.0 H10 (Retired hold.class) 0 in (
           after_move v1 hold slot,
           r.marks,
           law_move caps k.places k.tickets _ vs1 r.marks r1 id v1 at1 hold needs.hold_is slot (record { hold_is = needs.hold_is; some = needs.some; first = needs.first; clear = needs.clear; empty = needs.empty }),
@@ -263,7 +263,7 @@ module _ (k : Shape) (slots id : ℕ) (me : Me Nothing View) where
     allows_push slot first word at_word needs = subst (λ i. Allows Holds slots id me i (λ _. slot) (λ _. told_push slot (step slots i slot 0 none) me slot)) (sym at_word)
         (λ s r len at below.
         let t = stores k id me.0 s.words s.views r at (Retired hold.class) (lt-ltb hold.class 64 small) H10 slot slot (λ w. told_push slot (step slots (word_of (Retired hold.class)) slot 0 none) me slot (w, me.1))
-        (λ vs1 r1 at1. let v1 : View = trod me.0 H10 (Retired hold.class) slot in (
+        (λ vs1 r1 at1. let v1 : View = stepped me.0 H10 (Retired hold.class) slot in (
           after_push v1 hold slot,
           r.marks,
           law_push caps k.places k.tickets _ vs1 r.marks r1 id v1 at1 hold needs.hold_is slot first (record { hold_is = needs.hold_is; unlinked = needs.unlinked; first_is = needs.first_is; chained = needs.chained }),
@@ -275,7 +275,7 @@ module _ (k : Shape) (slots id : ℕ) (me : Me Nothing View) where
     allows_chain slot number word at_word of needs = subst (λ i. Allows Holds slots id me i (λ _. number) (λ _. told_chain slot number (step slots i number 0 none) me number)) (sym at_word)
         (λ s r len at below.
         let t = stores k id me.0 s.words s.views r at (Chain slot) (field_inside caps hold.class small (Chain slot) of) H10 number number (λ w. told_chain slot number (step slots (word_of (Chain slot)) number 0 none) me number (w, me.1))
-        (λ vs1 r1 at1. let v1 : View = trod me.0 H10 (Chain slot) number in (
+        (λ vs1 r1 at1. let v1 : View = stepped me.0 H10 (Chain slot) number in (
           after_chain v1 hold slot number,
           r.marks,
           law_chain caps k.places k.tickets _ vs1 r.marks r1 id v1 at1 hold needs.0 slot number needs,
@@ -283,12 +283,12 @@ module _ (k : Shape) (slots id : ℕ) (me : Me Nothing View) where
         )) in
         (t.0, keeps, tt, t.1, t.2))
 
-    pub allows11 : (slot number : ℕ) (field : Field) (word : ℕ) → word ≡ word_of field → IsOfClass k.capacities.items hold.class field → Needs11 me.0 hold slot field → Allows Holds slots id me word (λ _. number) (λ _. told11 field number (step slots word number 0 none) me number)
+    pub allows11 : (slot number : ℕ) (field : Field) (word : ℕ) → word ≡ word_of field → IsOfClass k.capacities.items hold.class field → NeedsSeize me.0 hold slot field → Allows Holds slots id me word (λ _. number) (λ _. told11 field number (step slots word number 0 none) me number)
     allows11 slot number field word at_word of needs = subst (λ i. Allows Holds slots id me i (λ _. number) (λ _. told11 field number (step slots i number 0 none) me number)) (sym at_word)
         (λ s r len at below.
         let t = stores k id me.0 s.words s.views r at field (field_inside caps hold.class small field of) H11 number number (λ w. told11 field number (step slots (word_of field) number 0 none) me number (w, me.1))
-        (λ vs1 r1 at1. let v1 : View = trod me.0 H11 field number in (
-          after11 v1 hold field number,
+        (λ vs1 r1 at1. let v1 : View = stepped me.0 H11 field number in (
+          after_seize v1 hold field number,
           r.marks,
           law11 caps k.places k.tickets _ vs1 r.marks r1 id v1 at1 hold needs.hold_is slot field number (record { hold_is = needs.hold_is; taken = needs.taken; field_is = needs.field_is }),
           (refl, (hold, needs.hold_is, refl)),
@@ -306,7 +306,7 @@ module _ (k : Shape) (slots id : ℕ) (me : Me Nothing View) where
       (λ e.
       let same : even + 1 ≡ either (n == even) (even + 1) n = ap (λ b. either b (even + 1) n) (sym (eq-eqb n even e)) in
       let q = stores k id me.0 s.words s.views r at Front refl H12 n (even + 1) T
-      (λ vs1 r1 at1. let v1 : View = trod me.0 H12 Front n in let turned : View = record v1 { turn = Some (record { found = even; stored = false }) } in (
+      (λ vs1 r1 at1. let v1 : View = stepped me.0 H12 Front n in let turned : View = record v1 { commit = Some (record { found = even; stored = false }) } in (
         turned,
         r.marks,
         law12 caps k.places k.tickets _ vs1 r.marks r1 id v1 at1 hold even needs (found ∙ e),
@@ -316,7 +316,7 @@ module _ (k : Shape) (slots id : ℕ) (me : Me Nothing View) where
       (λ ne.
       let same : n ≡ either (n == even) (even + 1) n = ap (λ b. either b (even + 1) n) (sym (ne_eqb n even ne)) in
       let q = loads k id me.0 s.words s.views r at Front refl H12 n T
-      (λ vs1 r1 at1. let v1 : View = trod me.0 H12 Front n in let turned : View = record v1 { turn = Some (record { found = even; stored = false }) } in (
+      (λ vs1 r1 at1. let v1 : View = stepped me.0 H12 Front n in let turned : View = record v1 { commit = Some (record { found = even; stored = false }) } in (
         v1,
         r.marks,
         subst (λ z. M (memory_of k.capacities.items s.words) z r.marks) (sym (set_again vs1 id v1 at1)) r1,
@@ -325,23 +325,23 @@ module _ (k : Shape) (slots id : ℕ) (me : Me Nothing View) where
       (q.0, subst (λ z. Rule k (set s.words 0 z) (set s.views id q.0)) same q.1, q.2)) in
       (t.0, keeps, tt, t.1, t.2))
 
-  pub allows16 : (even number : ℕ) → number ≡ even + 2 → Needs16 me.0 even → Allows Holds slots id me 0 (λ _. number) (λ _. told16 number (step slots 0 number 0 none) me number)
+  pub allows16 : (even number : ℕ) → number ≡ even + 2 → NeedsCountFree me.0 even → Allows Holds slots id me 0 (λ _. number) (λ _. told16 number (step slots 0 number 0 none) me number)
   allows16 even number is_number needs = subst (λ z. Allows Holds slots id me 0 (λ _. z) (λ _. told16 z (step slots 0 z 0 none) me z)) (sym is_number)
       (λ s r len at below.
       let t = stores k id me.0 s.words s.views r at Front refl H16 (even + 2) (even + 2) (λ w. told16 (even + 2) (step slots 0 (even + 2) 0 none) me (even + 2) (w, me.1))
-      (λ vs1 r1 at1. let v1 : View = trod me.0 H16 Front (even + 2) in (after16 v1, r.marks, law16 caps k.places k.tickets _ vs1 r.marks r1 id v1 at1 even needs, (refl, refl))) in
+      (λ vs1 r1 at1. let v1 : View = stepped me.0 H16 Front (even + 2) in (after_count_free v1, r.marks, law16 caps k.places k.tickets _ vs1 r.marks r1 id v1 at1 even needs, (refl, refl))) in
       (t.0, keeps, tt, t.1, t.2))
 
   module _ (hold : Hold) (small : hold.class < 64) where
-    pub allows13 : (even slot key value first word : ℕ) → word ≡ word_of (Head hold.class) → Needs13 me.0 hold even slot key value first
+    pub allows13 : (even slot key value first word : ℕ) → word ≡ word_of (Head hold.class) → NeedsLock me.0 hold even slot key value first
         → Allows Holds slots id me word (λ _. slot) (λ _. told13 even slot key value (step slots word slot 0 none) me slot)
     allows13 even slot key value first word at_word needs = subst (λ i. Allows Holds slots id me i (λ _. slot) (λ _. told13 even slot key value (step slots i slot 0 none) me slot)) (sym at_word)
         (λ s r len at below.
         let t = stores k id me.0 s.words s.views r at (Head hold.class) (lt-ltb hold.class 64 small) H13 slot slot (λ w. told13 even slot key value (step slots (word_of (Head hold.class)) slot 0 none) me slot (w, me.1))
-        (λ vs1 r1 at1. let v1 : View = trod me.0 H13 (Head hold.class) slot in let w : View = after13 v1 hold even slot key value r.marks in
+        (λ vs1 r1 at1. let v1 : View = stepped me.0 H13 (Head hold.class) slot in let w : View = after_lock v1 hold even slot key value r.marks in
         let h' : List Mark = r.marks ++ Done (record { caller = me.0.place; op = Put key value }) ∷ [] in
-        let needs1 : Needs13 v1 hold even slot key value first = record {
-          turn = record { hold_is = needs.turn.hold_is; turn_is = needs.turn.turn_is; ticket = needs.turn.ticket };
+        let needs1 : NeedsLock v1 hold even slot key value first = record {
+          commit = record { hold_is = needs.commit.hold_is; commit_is = needs.commit.commit_is; ticket = needs.commit.ticket };
           taken = needs.taken;
           key_is = needs.key_is;
           value_is = needs.value_is;
@@ -351,19 +351,19 @@ module _ (k : Shape) (slots id : ℕ) (me : Me Nothing View) where
           absent = needs.absent;
         } in
         let rule : M (stored (memory_of k.capacities.items s.words) (Head hold.class) slot) (set vs1 id w) h' =
-        law13 caps k.places k.tickets _ vs1 r.marks r1 id v1 at1 hold needs.turn.hold_is even slot key value first needs1 in
-        (w, h', rule, (refl, (hold, needs.turn.hold_is, (r.marks, r.holds.seen.begins id me.0 at, refl), updated caps k.places k.tickets _ (set vs1 id w) h' rule id w (set_here vs1 id w (at_below vs1 id v1 at1)) even refl refl)))) in
+        law13 caps k.places k.tickets _ vs1 r.marks r1 id v1 at1 hold needs.commit.hold_is even slot key value first needs1 in
+        (w, h', rule, (refl, (hold, needs.commit.hold_is, (r.marks, r.holds.seen.begins id me.0 at, refl), updated caps k.places k.tickets _ (set vs1 id w) h' rule id w (set_here vs1 id w (at_below vs1 id v1 at1)) even refl refl)))) in
         (t.0, keeps, tt, t.1, t.2))
 
-    pub allows14 : (even : ℕ) (link : Field) (slot key next word : ℕ) → word ≡ word_of link → IsOfClass k.capacities.items hold.class link → Needs14 me.0 hold even link slot key next
+    pub allows14 : (even : ℕ) (link : Field) (slot key next word : ℕ) → word ≡ word_of link → IsOfClass k.capacities.items hold.class link → NeedsUnlock me.0 hold even link slot key next
         → Allows Holds slots id me word (λ _. next) (λ _. told14 even link slot key next (step slots word next 0 none) me next)
     allows14 even link slot key next word at_word of needs = subst (λ i. Allows Holds slots id me i (λ _. next) (λ _. told14 even link slot key next (step slots i next 0 none) me next)) (sym at_word)
         (λ s r len at below.
         let t = stores k id me.0 s.words s.views r at link (field_inside caps hold.class small link of) H14 next next (λ w. told14 even link slot key next (step slots (word_of link) next 0 none) me next (w, me.1))
-        (λ vs1 r1 at1. let v1 : View = trod me.0 H14 link next in let w : View = after14 v1 hold even link slot key next r.marks in
+        (λ vs1 r1 at1. let v1 : View = stepped me.0 H14 link next in let w : View = after_unlock v1 hold even link slot key next r.marks in
         let h' : List Mark = r.marks ++ Done (record { caller = me.0.place; op = Del key }) ∷ Unlinked slot ∷ [] in
-        let needs1 : Needs14 v1 hold even link slot key next = record {
-          turn = record { hold_is = needs.turn.hold_is; turn_is = needs.turn.turn_is; ticket = needs.turn.ticket };
+        let needs1 : NeedsUnlock v1 hold even link slot key next = record {
+          commit = record { hold_is = needs.commit.hold_is; commit_is = needs.commit.commit_is; ticket = needs.commit.ticket };
           empty = needs.empty;
           link_is = needs.link_is;
           linked = needs.linked;
@@ -372,8 +372,8 @@ module _ (k : Shape) (slots id : ℕ) (me : Me Nothing View) where
           next_is = needs.next_is;
         } in
         let rule : M (stored (memory_of k.capacities.items s.words) link next) (set vs1 id w) h' =
-        law14 caps k.places k.tickets _ vs1 r.marks r1 id v1 at1 hold needs.turn.hold_is even link slot key next needs1 in
-        (w, h', rule, (refl, (hold, needs.turn.hold_is, (r.marks, r.holds.seen.begins id me.0 at, refl), updated caps k.places k.tickets _ (set vs1 id w) h' rule id w (set_here vs1 id w (at_below vs1 id v1 at1)) even refl refl)))) in
+        law14 caps k.places k.tickets _ vs1 r.marks r1 id v1 at1 hold needs.commit.hold_is even link slot key next needs1 in
+        (w, h', rule, (refl, (hold, needs.commit.hold_is, (r.marks, r.holds.seen.begins id me.0 at, refl), updated caps k.places k.tickets _ (set vs1 id w) h' rule id w (set_here vs1 id w (at_below vs1 id v1 at1)) even refl refl)))) in
         (t.0, keeps, tt, t.1, t.2))
 
     pub allows15 : (even slot key value word : ℕ) → word ≡ word_of (Value slot) → IsOfClass k.capacities.items hold.class (Value slot) → Needs15 me.0 hold even slot key
@@ -381,16 +381,16 @@ module _ (k : Shape) (slots id : ℕ) (me : Me Nothing View) where
     allows15 even slot key value word at_word of needs = subst (λ i. Allows Holds slots id me i (λ _. value) (λ _. told15 even slot key value (step slots i value 0 none) me value)) (sym at_word)
         (λ s r len at below.
         let t = stores k id me.0 s.words s.views r at (Value slot) (field_inside caps hold.class small (Value slot) of) H15 value value (λ w. told15 even slot key value (step slots (word_of (Value slot)) value 0 none) me value (w, me.1))
-        (λ vs1 r1 at1. let v1 : View = trod me.0 H15 (Value slot) value in let w : View = after15 v1 hold even slot key value r.marks in
+        (λ vs1 r1 at1. let v1 : View = stepped me.0 H15 (Value slot) value in let w : View = after15 v1 hold even slot key value r.marks in
         let h' : List Mark = r.marks ++ Done (record { caller = me.0.place; op = Set key value }) ∷ [] in
         let needs1 : Needs15 v1 hold even slot key = record {
-          turn = record { hold_is = needs.turn.hold_is; turn_is = needs.turn.turn_is; ticket = needs.turn.ticket };
+          commit = record { hold_is = needs.commit.hold_is; commit_is = needs.commit.commit_is; ticket = needs.commit.ticket };
           on_walk = needs.on_walk;
           key_is = needs.key_is;
         } in
         let rule : M (stored (memory_of k.capacities.items s.words) (Value slot) value) (set vs1 id w) h' =
-        law15 caps k.places k.tickets _ vs1 r.marks r1 id v1 at1 hold needs.turn.hold_is even slot key value needs1 in
-        (w, h', rule, (refl, (hold, needs.turn.hold_is, (r.marks, r.holds.seen.begins id me.0 at, refl, λ old value_is. old_value caps k.places k.tickets _ s.views r.marks r.holds id me.0 at hold needs.turn.hold_is slot key old needs.on_walk needs.key_is value_is), updated caps k.places k.tickets _ (set vs1 id w) h' rule id w (set_here vs1 id w (at_below vs1 id v1 at1)) even refl refl)))) in
+        law15 caps k.places k.tickets _ vs1 r.marks r1 id v1 at1 hold needs.commit.hold_is even slot key value needs1 in
+        (w, h', rule, (refl, (hold, needs.commit.hold_is, (r.marks, r.holds.seen.begins id me.0 at, refl, λ old value_is. old_value caps k.places k.tickets _ s.views r.marks r.holds id me.0 at hold needs.commit.hold_is slot key old needs.on_walk needs.key_is value_is), updated caps k.places k.tickets _ (set vs1 id w) h' rule id w (set_here vs1 id w (at_below vs1 id v1 at1)) even refl refl)))) in
         (t.0, keeps, tt, t.1, t.2))
 
   -- the same, for what a call has picked
@@ -418,21 +418,21 @@ module _ (k : Shape) (slots id : ℕ) (me : Me Nothing View) where
     pub chains_as : (slot number s n word : ℕ) → s ≡ slot → n ≡ number → word ≡ word_of (Chain slot) → IsOfClass k.capacities.items hold.class (Chain slot) → NeedsChain me.0 hold slot → Allows Holds slots id me word (λ _. number) (λ _. told_chain s n (step slots word number 0 none) me number)
     chains_as slot number s n word is_slot is_number at_word of needs = subst (λ (z : ℕ × ℕ). Allows Holds slots id me word (λ _. number) (λ _. told_chain z.0 z.1 (step slots word number 0 none) me number)) (λ i. (sym is_slot i, sym is_number i)) (allows_chain hold small slot number word at_word of needs)
 
-    pub writes_as : (slot number : ℕ) (field picked : Field) (n word : ℕ) → picked ≡ field → n ≡ number → word ≡ word_of field → IsOfClass k.capacities.items hold.class field → Needs11 me.0 hold slot field → Allows Holds slots id me word (λ _. number) (λ _. told11 picked n (step slots word number 0 none) me number)
+    pub writes_as : (slot number : ℕ) (field picked : Field) (n word : ℕ) → picked ≡ field → n ≡ number → word ≡ word_of field → IsOfClass k.capacities.items hold.class field → NeedsSeize me.0 hold slot field → Allows Holds slots id me word (λ _. number) (λ _. told11 picked n (step slots word number 0 none) me number)
     writes_as slot number field picked n word is is_number at_word of needs = subst (λ (z : Field × ℕ). Allows Holds slots id me word (λ _. number) (λ _. told11 z.0 z.1 (step slots word number 0 none) me number)) (λ i. (sym is i, sym is_number i)) (allows11 hold small slot number field word at_word of needs)
 
   pub turns_as : (hold : Hold) (even next e : ℕ) → e ≡ even → next ≡ even + 1 → Needs12 me.0 hold even → Allows Holds slots id me 0 (λ n. either (n == even) next n) (told12 e (step slots 0 even next none) me)
   turns_as hold even next e is is_next needs = subst (λ z. Allows Holds slots id me 0 (λ n. either (n == even) next n) (told12 z (step slots 0 even next none) me)) (sym is) (allows12 hold even next is_next needs)
 
-  pub evens_as : (even number n : ℕ) → n ≡ even + 2 → number ≡ even + 2 → Needs16 me.0 even → Allows Holds slots id me 0 (λ _. number) (λ _. told16 n (step slots 0 number 0 none) me number)
+  pub evens_as : (even number n : ℕ) → n ≡ even + 2 → number ≡ even + 2 → NeedsCountFree me.0 even → Allows Holds slots id me 0 (λ _. number) (λ _. told16 n (step slots 0 number 0 none) me number)
   evens_as even number n is is_number needs = subst (λ z. Allows Holds slots id me 0 (λ _. number) (λ _. told16 z (step slots 0 number 0 none) me number)) (is_number ∙ sym is) (allows16 even number is_number needs)
 
   module _ (hold : Hold) (small : hold.class < 64) where
-    pub links_as : (even slot key value e s x y first word : ℕ) → e ≡ even → s ≡ slot → x ≡ key → y ≡ value → word ≡ word_of (Head hold.class) → Needs13 me.0 hold even slot key value first
+    pub links_as : (even slot key value e s x y first word : ℕ) → e ≡ even → s ≡ slot → x ≡ key → y ≡ value → word ≡ word_of (Head hold.class) → NeedsLock me.0 hold even slot key value first
         → Allows Holds slots id me word (λ _. slot) (λ _. told13 e s x y (step slots word slot 0 none) me slot)
     links_as even slot key value e s x y first word p q a b at_word needs = subst (λ (z : ℕ × ℕ × ℕ × ℕ). Allows Holds slots id me word (λ _. slot) (λ _. told13 z.0 z.1 z.2 z.3 (step slots word slot 0 none) me slot)) (λ i. (sym p i, sym q i, sym a i, sym b i)) (allows13 hold small even slot key value first word at_word needs)
 
-    pub cuts_as : (even : ℕ) (link : Field) (slot key next e : ℕ) (f : Field) (s x y word : ℕ) → e ≡ even → f ≡ link → s ≡ slot → x ≡ key → y ≡ next → word ≡ word_of link → IsOfClass k.capacities.items hold.class link → Needs14 me.0 hold even link slot key next
+    pub cuts_as : (even : ℕ) (link : Field) (slot key next e : ℕ) (f : Field) (s x y word : ℕ) → e ≡ even → f ≡ link → s ≡ slot → x ≡ key → y ≡ next → word ≡ word_of link → IsOfClass k.capacities.items hold.class link → NeedsUnlock me.0 hold even link slot key next
         → Allows Holds slots id me word (λ _. next) (λ _. told14 e f s x y (step slots word next 0 none) me next)
     cuts_as even link slot key next e f s x y word p l q a b at_word of needs = subst (λ (z : ℕ × Field × ℕ × ℕ × ℕ). Allows Holds slots id me word (λ _. next) (λ _. told14 z.0 z.1 z.2 z.3 z.4 (step slots word next 0 none) me next)) (λ i. (sym p i, sym l i, sym q i, sym a i, sym b i)) (allows14 hold small even link slot key next word at_word of needs)
 

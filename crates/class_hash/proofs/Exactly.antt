@@ -7,34 +7,34 @@ use Rattle.prcu_model.specs.declared.operation.Told.{Told}
 use Rattle.hash_core.specs.declared.words.Field.TheVariants.{Lock, Free, Retired}
 use Rattle.hash_core.specs.declared.words.Kind.TheVariants.{H7, H9}
 use Rattle.hash_core.specs.declared.view.Hold.{Hold}
-use Rattle.hash_core.specs.declared.view.Trod.{Trod}
+use Rattle.hash_core.specs.declared.view.StepMade.{StepMade}
 use Rattle.hash_core.specs.declared.view.View.{View}
 use Rattle.class_hash.specs.Trails.{loads_free, LoadNoLists, LoadsBothEmpty}
 use Rattle.class_hash.specs.Calls.{Lists}
 use Rattle.class_hash.specs.Replies.{Puts, PutsBy}
 
-none_within : (xs : List Trod) (s : Trod) (ys : List Trod) → LoadNoLists (xs ++ s ∷ ys) → loads_free s.kind s.field ≡ false
+none_within : (xs : List StepMade) (s : StepMade) (ys : List StepMade) → LoadNoLists (xs ++ s ∷ ys) → loads_free s.kind s.field ≡ false
 none_within [] s ys plain = plain.0
 none_within (x ∷ xs) s ys plain = none_within xs s ys plain.1
 
-no_load : (steps xs : List Trod) (s : Trod) (ys : List Trod) → LoadNoLists steps → loads_free s.kind s.field ≡ true → steps ≡ xs ++ s ∷ ys → ⊥
+no_load : (steps xs : List StepMade) (s : StepMade) (ys : List StepMade) → LoadNoLists steps → loads_free s.kind s.field ≡ true → steps ≡ xs ++ s ∷ ys → ⊥
 no_load steps xs s ys plain loads e = let none = none_within xs s ys (subst LoadNoLists e plain) in absurd (cc)
 
 -- steps of which one loads the lists can be cut there in one way
-cut_once : (xs : List Trod) (s : Trod) (ys xs' : List Trod) (s' : Trod) (ys' : List Trod) → LoadNoLists xs → LoadNoLists ys → loads_free s'.kind s'.field ≡ true → xs ++ s ∷ ys ≡ xs' ++ s' ∷ ys' → (s ≡ s') × (ys ≡ ys')
+cut_once : (xs : List StepMade) (s : StepMade) (ys xs' : List StepMade) (s' : StepMade) (ys' : List StepMade) → LoadNoLists xs → LoadNoLists ys → loads_free s'.kind s'.field ≡ true → xs ++ s ∷ ys ≡ xs' ++ s' ∷ ys' → (s ≡ s') × (ys ≡ ys')
 cut_once [] s ys [] s' ys' before after loads e = (cc, cc)
 cut_once [] s ys (x' ∷ xs') s' ys' before after loads e = absurd (no_load ys xs' s' ys' after loads cc)
-cut_once (x ∷ xs) s ys [] s' ys' before after loads e = let same : x ≡ s' = cc in let none : loads_free s'.kind s'.field ≡ false = subst (λ (z : Trod). loads_free z.kind z.field ≡ false) same before.0 in absurd (cc)
+cut_once (x ∷ xs) s ys [] s' ys' before after loads e = let same : x ≡ s' = cc in let none : loads_free s'.kind s'.field ≡ false = subst (λ (z : StepMade). loads_free z.kind z.field ≡ false) same before.0 in absurd (cc)
 cut_once (x ∷ xs) s ys (x' ∷ xs') s' ys' before after loads e = cut_once xs s ys xs' s' ys' before.1 after loads cc
 
-abbrev loaded : ℕ → ℕ → Trod
+abbrev loaded : ℕ → ℕ → StepMade
 loaded class free = record { kind = H9; field = Free class; number = free }
 
-abbrev loaded_next : ℕ → ℕ → Trod
+abbrev loaded_next : ℕ → ℕ → StepMade
 loaded_next class retired = record { kind = H9; field = Retired class; number = retired }
 
 -- the steps of a call that loads the lists once
-once : (v u x w s1 s2 : List Trod) (a b : Trod) → u ≡ v ++ s1 → x ≡ (u ++ a ∷ []) ++ b ∷ [] → w ≡ x ++ s2 → w ≡ v ++ (s1 ++ a ∷ b ∷ s2)
+once : (v u x w s1 s2 : List StepMade) (a b : StepMade) → u ≡ v ++ s1 → x ≡ (u ++ a ∷ []) ++ b ∷ [] → w ≡ x ++ s2 → w ≡ v ++ (s1 ++ a ∷ b ∷ s2)
 once v u x w s1 s2 a b first second third =
     third ∙ ap (λ t. t ++ s2) second ∙ ap (λ t. ((t ++ a ∷ []) ++ b ∷ []) ++ s2) first ∙ append_assoc ((v ++ s1) ++ a ∷ []) (b ∷ []) s2 ∙ append_assoc (v ++ s1) (a ∷ []) (b ∷ s2) ∙ append_assoc v s1 (a ∷ b ∷ s2)
 
@@ -54,13 +54,13 @@ module _ (capacities : List ℕ) (v w : View) (key value : ℕ) where
           let walked = p.4.1 in
           let room = p.4.2 in
           let l = room.lists in
-          let a : Trod = loaded l.hold.class room.free in
-          let b : Trod = loaded_next l.hold.class room.retired in
+          let a : StepMade = loaded l.hold.class room.free in
+          let b : StepMade = loaded_next l.hold.class room.retired in
           let whole = once v.trail u.trail room.listed.trail w.trail walked.trail.steps room.trail.steps (loaded l.hold.class room.free) (loaded_next l.hold.class room.retired) walked.trail.trail l.trail room.trail.trail in
           let cut = cut_once walked.trail.steps (loaded l.hold.class room.free) (loaded_next l.hold.class room.retired ∷ room.trail.steps) both.earlier (loaded (key % 64) 0) (loaded_next (key % 64) 0 ∷ both.later) walked.trail.plain (refl, room.trail.plain) refl
           (append_cancel_left v.trail _ _ (sym whole ∙ both.trail)) in
           let next : loaded_next l.hold.class room.retired ≡ loaded_next (key % 64) 0 = (let e = cut.1 in cc) in
-          room.some (ap (λ (s : Trod). s.number) cut.0) (ap (λ (s : Trod). s.number) next)
+          room.some (ap (λ (s : StepMade). s.number) cut.0) (ap (λ (s : StepMade). s.number) next)
   exactly Full number p = (λ e. both, λ b. refl)
     where
       both : LoadsBothEmpty (key % 64) v.trail w.trail

@@ -8,11 +8,11 @@ use lib.ListN.{get_elem?}
 use Rattle.prcu_model.specs.declared.mark.Mark.{Mark}
 use Rattle.hash_core.specs.declared.words.Field.{Field}
 use Rattle.hash_core.specs.declared.words.Field.TheVariants.{Front, Lock, Head, Free, Retired, Key, Value, Next, Chain}
-use Rattle.hash_core.specs.declared.view.Stand.{Stand}
-use Rattle.hash_core.specs.declared.view.Stand.TheVariants.{Start, Unread, Passed, Found}
+use Rattle.hash_core.specs.declared.view.SearchState.{SearchState}
+use Rattle.hash_core.specs.declared.view.SearchState.TheVariants.{Start, Unread, Passed, Found}
 use Rattle.hash_core.specs.declared.view.Section.{Section}
 use Rattle.hash_core.specs.declared.view.Hold.{Hold}
-use Rattle.hash_core.specs.declared.view.Turn.{Turn}
+use Rattle.hash_core.specs.declared.view.Commit.{Commit}
 use Rattle.hash_core.specs.declared.view.View.{View}
 use Rattle.list_laws.specs.Counts.{times}
 use Rattle.hash_core.specs.Lists.{IsPath}
@@ -62,7 +62,7 @@ field_inside capacities c small (Chain s) of = slot_inside capacities c s of
 field_inside capacities c small _ of = absurd of
 
 -- the key of a section stays
-pub searched_key : (section : Section) (stand : Stand) (field : Field) (n : ℕ) → (searched section stand field n).key ≡ section.key
+pub searched_key : (section : Section) (state : SearchState) (field : Field) (n : ℕ) → (searched section state field n).key ≡ section.key
 searched_key section Start (Head d) n = refl
 searched_key section (Unread s) (Key t) n = refl
 searched_key section (Passed s) (Next t) n = refl
@@ -132,14 +132,14 @@ module _ (capacities : List ℕ) (places tickets : ℕ) (m : Memory) (vs : List 
   stands_in_class section inside =
       let c : ℕ = section.key % 64 in
       let rule = r.buckets c (mod_small section.key) in
-      stand_case section.stand (rule.answered.readers id v section at inside refl)
+      stand_case section.state (rule.answered.readers id v section at inside refl)
     where
       at_slot : (s slot : ℕ) → HasWay capacities (section.key % 64) m h (updates_of h) (r.bucket (section.key % 64)).chain section s → s ≡ slot → is_slot_of capacities (section.key % 64) slot ≡ true
       at_slot s slot way e =
           let c : ℕ = section.key % 64 in
           subst (λ z. is_slot_of capacities c z ≡ true) e (way_slot capacities c m m h h (updates_of h) (updates_of h) (r.bucket c) (λ t _. (refl, refl, refl, refl)) (same_marks capacities c h) (r.buckets c (mod_small section.key)).roles section s way)
 
-      stand_case : (stand : Stand) → WillAnswer capacities (section.key % 64) m h (updates_of h) (r.bucket (section.key % 64)).chain section stand → (slot : ℕ) → StandsAt stand slot → is_slot_of capacities (section.key % 64) slot ≡ true
+      stand_case : (state : SearchState) → WillAnswer capacities (section.key % 64) m h (updates_of h) (r.bucket (section.key % 64)).chain section state → (slot : ℕ) → StandsAt state slot → is_slot_of capacities (section.key % 64) slot ≡ true
       stand_case (Unread s) will slot stands = at_slot s slot will stands
       stand_case (Passed s) will slot stands = at_slot s slot will.0 stands
       stand_case (Found s) will slot stands = at_slot s slot will.0 stands
@@ -229,20 +229,20 @@ module _ (capacities : List ℕ) (places tickets : ℕ) (m : Memory) (vs : List 
           by false n b a = let c = few_updates in omega arith
 
   -- after an update the front shows how many there are
-  pub position : (turn : Turn) → v.turn ≡ Some turn → updates_by turn ≡ 2 * length (updates_of h)
-  position turn is = turn_case r.turned
+  pub position : (commit : Commit) → v.commit ≡ Some commit → updates_by commit ≡ 2 * length (updates_of h)
+  position commit is = turn_case r.turned
     where
-      turn_case : IsTurned m vs (length (updates_of h)) → updates_by turn ≡ 2 * length (updates_of h)
-      turn_case (inl free) = absurd (let z : Some turn ≡ None = sym is ∙ free.1 id v at in cc)
+      turn_case : IsTurned m vs (length (updates_of h)) → updates_by commit ≡ 2 * length (updates_of h)
+      turn_case (inl free) = absurd (let z : Some commit ≡ None = sym is ∙ free.1 id v at in cc)
       turn_case (inr odd) =
-          let me : id ≡ odd.0 = dite (ℕ_discrete id odd.0) (λ q. q) (λ q. absurd (let z : Some turn ≡ None = sym is ∙ odd.9 id v q at in cc)) in
+          let me : id ≡ odd.0 = dite (ℕ_discrete id odd.0) (λ q. q) (λ q. absurd (let z : Some commit ≡ None = sym is ∙ odd.9 id v q at in cc)) in
           let same : v ≡ odd.1 = at_one vs id v odd.1 at (subst (λ k. get_elem? vs k ≡ some odd.1) (sym me) odd.4) in
-          let e : Some turn ≡ Some odd.2 = sym is ∙ ap (λ (z : View). z.turn) same ∙ odd.5 in
-          let t : turn ≡ odd.2 = cc in
+          let e : Some commit ≡ Some odd.2 = sym is ∙ ap (λ (z : View). z.commit) same ∙ odd.5 in
+          let t : commit ≡ odd.2 = cc in
           ap updates_by t ∙ odd.8
 
   -- after an update the updates are a history, and the front shows how many there are
-  pub updated : (even : ℕ) → v.turn ≡ Some (record { found = even; stored = true }) → v.seen ≡ h → IsUpdated even v
+  pub updated : (even : ℕ) → v.commit ≡ Some (record { found = even; stored = true }) → v.seen ≡ h → IsUpdated even v
   updated even is seen = record {
     legal = subst (λ z. IsLegal (updates_of z)) (sym seen) r.legal;
     position = subst (λ z. even + 2 ≡ 2 * length (updates_of z)) (sym seen) (position (record { found = even; stored = true }) is);

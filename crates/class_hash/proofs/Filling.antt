@@ -12,7 +12,7 @@ use Rattle.hash_core.specs.declared.view.Known.{Known}
 use Rattle.hash_core.specs.declared.view.View.{View}
 use Rattle.hash_core.specs.Slots.{is_slot_of}
 use Rattle.hash_core.specs.Known.{known_in, knowing, IsWholeWalk, ShowsAbsent, ComesTo, IsOnWalk}
-use Rattle.hash_core.specs.Steps.{trod, Needs7, NeedsTake, Needs11, after_take, after11}
+use Rattle.hash_core.specs.Steps.{stepped, NeedsBegin, NeedsTake, NeedsSeize, after_take, after_seize}
 use Rattle.hash_core.proofs.Classes.{slot_within}
 use Rattle.class_hash.specs.declared.bucket.Poll.TheVariants.{NotYet}
 use Rattle.class_hash.specs.Stepped.{Loads, Takes, Writes}
@@ -92,7 +92,7 @@ filled_absent hold slot next key value first other off shows =
 pub may_poll_still : (v w : View) → MayPoll v → HasStepped v w → MayPoll w
 may_poll_still v w may idle = record {
   hold = may.hold;
-  finished = (ap (λ (z : View). z.hold) idle.view ∙ may.finished.0, may.finished.1, may.finished.2, may.finished.3, ap (λ (z : View). z.turn) idle.view ∙ may.finished.4);
+  finished = (ap (λ (z : View). z.hold) idle.view ∙ may.finished.0, may.finished.1, may.finished.2, may.finished.3, ap (λ (z : View). z.commit) idle.view ∙ may.finished.4);
   free = may.free;
   first = may.first;
   some = may.some;
@@ -101,7 +101,7 @@ may_poll_still v w may idle = record {
 
 pub polled_on : (v w x : View) → HasStepped v w → Refilled w x → HasPolled v x
 polled_on v w x idle r =
-    let F : View → View = λ z. record (trod (trod (trod z H8 (Readers r.hold.class) 0) H10 (Retired r.hold.class) 0) H10 (Free r.hold.class) r.first) { hold = Some (polled r.hold r.first) } in
+    let F : View → View = λ z. record (stepped (stepped (stepped z H8 (Readers r.hold.class) 0) H10 (Retired r.hold.class) 0) H10 (Free r.hold.class) r.first) { hold = Some (polled r.hold r.first) } in
     let whole : x ≡ F (record v { trail = w.trail }) = r.rest ∙ ap F idle.view in
     record {
       hold = r.hold;
@@ -114,7 +114,7 @@ polled_on v w x idle r =
 
 pub waited_on : (v w x : View) (why : Why) → HasStepped v w → Polls w (NotYet why) x → HasStepped v x
 waited_on v w x (Counter class side count) idle p =
-    let F : View → View = λ z. trod z H8 (Readers p.1.hold.class) count in
+    let F : View → View = λ z. stepped z H8 (Readers p.1.hold.class) count in
     let whole : x ≡ F (record v { trail = w.trail }) = p.1.rest ∙ ap F idle.view in
     record {
       trail = subst (λ (z : View). AddsNoLists v.trail z.trail) (sym whole) (adds_step v.trail w.trail H8 (Readers p.1.hold.class) count refl idle.trail);
@@ -127,11 +127,11 @@ module _ (capacities : List ℕ) (v : View) (f : HasFinished v) (free retired : 
   abbrev listed_hold : Hold
   listed_hold = knowing (knowing l.hold (Free l.hold.class) free) (Retired l.hold.class) retired
 
-  needs : Needs7 v l.hold
-  needs = let z : Some f.0 ≡ Some l.hold = sym f.1.0 ∙ l.is in let e : f.0 ≡ l.hold = cc in subst (Needs7 v) e f.1
+  needs : NeedsBegin v l.hold
+  needs = let z : Some f.0 ≡ Some l.hold = sym f.1.0 ∙ l.is in let e : f.0 ≡ l.hold = cc in subst (NeedsBegin v) e f.1
 
-  needs_listed : Needs7 x listed_hold
-  needs_listed = (ap (λ (z : View). z.hold) l.rest, needs.1, needs.2, needs.3, ap (λ (z : View). z.turn) l.rest ∙ needs.4)
+  needs_listed : NeedsBegin x listed_hold
+  needs_listed = (ap (λ (z : View). z.hold) l.rest, needs.1, needs.2, needs.3, ap (λ (z : View). z.commit) l.rest ∙ needs.4)
 
   free_is : known_in listed_hold.known (Free l.hold.class) ≡ Some free
   free_is = known_here l.hold (Free l.hold.class) free
@@ -171,7 +171,7 @@ module _ (capacities : List ℕ) (v : View) (f : HasFinished v) (free retired : 
         hold = l.hold;
         new = polled listed_hold retired;
         was = l.is;
-        finished = (ap (λ (u : View). u.hold) whole, needs.1, needs.2, refl, ap (λ (u : View). u.turn) whole ∙ needs.4);
+        finished = (ap (λ (u : View). u.hold) whole, needs.1, needs.2, refl, ap (λ (u : View). u.commit) whole ∙ needs.4);
         class = refl;
         first = known_here (knowing listed_hold (Retired l.hold.class) 0) (Free l.hold.class) retired;
         slot_is = l.retired_link ne;
@@ -228,15 +228,15 @@ module _ (capacities : List ℕ) (v : View) (slot key value : ℕ) (may : MayFil
       k3 = taken_hold k2 slot next
 
       abbrev v3 : View
-      v3 = after_take (trod (record v { hold = Some k2; trail = x2.trail; seen = x2.seen }) H10 (Free may.hold.class) next) k2 slot next t.2.0
+      v3 = after_take (stepped (record v { hold = Some k2; trail = x2.trail; seen = x2.seen }) H10 (Free may.hold.class) next) k2 slot next t.2.0
 
       same2 : t.0 ≡ k2
       same2 = let z : Some t.0 ≡ Some k2 = sym t.1 ∙ ap (λ (z : View). z.hold) loaded2.view in cc
 
       view3 : x3 ≡ v3
-      view3 = t.2.2 ∙ ap (λ (k : Hold). after_take (trod x2 H10 (Free k.class) next) k slot next t.2.0) same2 ∙ ap (λ (z : View). after_take (trod z H10 (Free may.hold.class) next) k2 slot next t.2.0) loaded2.view
+      view3 = t.2.2 ∙ ap (λ (k : Hold). after_take (stepped x2 H10 (Free k.class) next) k slot next t.2.0) same2 ∙ ap (λ (z : View). after_take (stepped z H10 (Free may.hold.class) next) k2 slot next t.2.0) loaded2.view
 
-      pub may_write_key : (hold : Hold) × (other : ℕ) × Needs11 x3 hold other (Key slot) × (is_slot_of capacities hold.class slot ≡ true)
+      pub may_write_key : (hold : Hold) × (other : ℕ) × NeedsSeize x3 hold other (Key slot) × (is_slot_of capacities hold.class slot ≡ true)
       may_write_key = (k3, slot, record { hold_is = ap (λ (z : View). z.hold) view3; taken = refl; field_is = refl }, may.slot_is)
 
       module _ (x4 : View) (d : Writes x3 (Key slot) key x4) where
@@ -244,15 +244,15 @@ module _ (capacities : List ℕ) (v : View) (slot key value : ℕ) (may : MayFil
         k4 = knowing k3 (Key slot) key
 
         abbrev v4 : View
-        v4 = after11 (trod v3 H11 (Key slot) key) k3 (Key slot) key
+        v4 = after_seize (stepped v3 H11 (Key slot) key) k3 (Key slot) key
 
         same3 : d.0 ≡ k3
         same3 = let z : Some d.0 ≡ Some k3 = sym d.1 ∙ ap (λ (z : View). z.hold) view3 in cc
 
         view4 : x4 ≡ v4
-        view4 = d.2 ∙ ap (λ (k : Hold). after11 (trod x3 H11 (Key slot) key) k (Key slot) key) same3 ∙ ap (λ (z : View). after11 (trod z H11 (Key slot) key) k3 (Key slot) key) view3
+        view4 = d.2 ∙ ap (λ (k : Hold). after_seize (stepped x3 H11 (Key slot) key) k (Key slot) key) same3 ∙ ap (λ (z : View). after_seize (stepped z H11 (Key slot) key) k3 (Key slot) key) view3
 
-        pub may_write_value : (hold : Hold) × (other : ℕ) × Needs11 x4 hold other (Value slot) × (is_slot_of capacities hold.class slot ≡ true)
+        pub may_write_value : (hold : Hold) × (other : ℕ) × NeedsSeize x4 hold other (Value slot) × (is_slot_of capacities hold.class slot ≡ true)
         may_write_value = (k4, slot, record { hold_is = ap (λ (z : View). z.hold) view4; taken = refl; field_is = refl }, may.slot_is)
 
         module _ (x5 : View) (e : Writes x4 (Value slot) value x5) where
@@ -260,21 +260,21 @@ module _ (capacities : List ℕ) (v : View) (slot key value : ℕ) (may : MayFil
           k5 = knowing k4 (Value slot) value
 
           abbrev v5 : View
-          v5 = after11 (trod v4 H11 (Value slot) value) k4 (Value slot) value
+          v5 = after_seize (stepped v4 H11 (Value slot) value) k4 (Value slot) value
 
           same4 : e.0 ≡ k4
           same4 = let z : Some e.0 ≡ Some k4 = sym e.1 ∙ ap (λ (z : View). z.hold) view4 in cc
 
           view5 : x5 ≡ v5
-          view5 = e.2 ∙ ap (λ (k : Hold). after11 (trod x4 H11 (Value slot) value) k (Value slot) value) same4 ∙ ap (λ (z : View). after11 (trod z H11 (Value slot) value) k4 (Value slot) value) view4
+          view5 = e.2 ∙ ap (λ (k : Hold). after_seize (stepped x4 H11 (Value slot) value) k (Value slot) value) same4 ∙ ap (λ (z : View). after_seize (stepped z H11 (Value slot) value) k4 (Value slot) value) view4
 
-          pub may_write_next : (hold : Hold) × (other : ℕ) × Needs11 x5 hold other (Next slot) × (is_slot_of capacities hold.class slot ≡ true)
+          pub may_write_next : (hold : Hold) × (other : ℕ) × NeedsSeize x5 hold other (Next slot) × (is_slot_of capacities hold.class slot ≡ true)
           may_write_next = (k5, slot, record { hold_is = ap (λ (z : View). z.hold) view5; taken = refl; field_is = refl }, may.slot_is)
 
           pub filled : (x6 : View) → Writes x5 (Next slot) first x6 → Filled v slot key value x6
           filled x6 g =
               let same5 : g.0 ≡ k5 = (let z : Some g.0 ≡ Some k5 = sym g.1 ∙ ap (λ (z : View). z.hold) view5 in cc) in
-              let view6 : x6 ≡ after11 (trod v5 H11 (Next slot) first) k5 (Next slot) first = g.2 ∙ ap (λ (k : Hold). after11 (trod x5 H11 (Next slot) first) k (Next slot) first) same5 ∙ ap (λ (z : View). after11 (trod z H11 (Next slot) first) k5 (Next slot) first) view5 in
+              let view6 : x6 ≡ after_seize (stepped v5 H11 (Next slot) first) k5 (Next slot) first = g.2 ∙ ap (λ (k : Hold). after_seize (stepped x5 H11 (Next slot) first) k (Next slot) first) same5 ∙ ap (λ (z : View). after_seize (stepped z H11 (Next slot) first) k5 (Next slot) first) view5 in
               let off : IsOnWalk k2 slot → ⊥ = subst (λ (k : Hold). IsOnWalk k slot → ⊥) same2 t.3 in
               record {
                 before = t.2.0;
@@ -286,7 +286,7 @@ module _ (capacities : List ℕ) (v : View) (slot key value : ℕ) (may : MayFil
                   taken = refl;
                   unlinked = may.finished.2;
                   moved = may.finished.3;
-                  turn = ap (λ (z : View). z.turn) view6 ∙ may.finished.4;
+                  commit = ap (λ (z : View). z.commit) view6 ∙ may.finished.4;
                   key_is = known_here k3 (Key slot) key;
                   value_is = known_here k4 (Value slot) value;
                   next_is = known_here k5 (Next slot) first;

@@ -11,9 +11,9 @@ use Rattle.hash_core.specs.declared.words.Kind.{Kind}
 use Rattle.hash_core.specs.declared.view.View.{View}
 use Rattle.hash_core.specs.Memory.{Memory, word_of, is_field, memory_of, stored}
 use Rattle.hash_core.specs.Rule.{MemoryRule, Rule}
-use Rattle.hash_core.specs.Steps.{trod}
+use Rattle.hash_core.specs.Steps.{stepped}
 use Rattle.list_laws.proofs.Lists.{at_below, set_twice}
-use Rattle.hash_core.proofs.Quiet.{law_trod}
+use Rattle.hash_core.proofs.Quiet.{law_stepped}
 use Rattle.hash_core.proofs.Memories.{memory-stored, memory-word}
 
 module _ (k : Shape) (id : ℕ) (v : View) (ws : List ℕ) (vs : List View) (r : Rule k ws vs) (at : get_elem? vs id ≡ some v) (field : Field) (is : is_field k.capacities.items field ≡ true) where
@@ -25,20 +25,20 @@ module _ (k : Shape) (id : ℕ) (v : View) (ws : List ℕ) (vs : List View) (r :
 
   -- the law of a kind that stores n, for the view with one more step in its trail, whatever the views are
   abbrev pub Keeps : Kind → ℕ → Memory → (View → Type 0) → Type 0
-  Keeps kind number m' T = (vs1 : List View) → MemoryRule k.capacities.items k.places k.tickets (memory_of k.capacities.items ws) vs1 r.marks → get_elem? vs1 id ≡ some (trod v kind field number)
+  Keeps kind number m' T = (vs1 : List View) → MemoryRule k.capacities.items k.places k.tickets (memory_of k.capacities.items ws) vs1 r.marks → get_elem? vs1 id ≡ some (stepped v kind field number)
       → (w : View) × (h : List Mark) × MemoryRule k.capacities.items k.places k.tickets m' (set vs1 id w) h × T w
 
-  stepped : (kind : Kind) (number : ℕ) (m' : Memory) (T : View → Type 0) → Keeps kind number m' T
+  one_step : (kind : Kind) (number : ℕ) (m' : Memory) (T : View → Type 0) → Keeps kind number m' T
       → (w : View) × (h : List Mark) × MemoryRule k.capacities.items k.places k.tickets m' (set vs id w) h × T w
-  stepped kind number m' T go =
-      let v1 : View = trod v kind field number in
-      let t = go (set vs id v1) (law_trod caps k.places k.tickets m vs r.marks r.holds id v at kind field number) (set_here vs id v1 (at_below vs id v at)) in
+  one_step kind number m' T go =
+      let v1 : View = stepped v kind field number in
+      let t = go (set vs id v1) (law_stepped caps k.places k.tickets m vs r.marks r.holds id v at kind field number) (set_here vs id v1 (at_below vs id v at)) in
       (t.0, t.1, subst (λ z. MemoryRule caps k.places k.tickets m' z t.1) (set_twice vs id v1 t.0) t.2, t.3)
 
   pub stores : (kind : Kind) (number n : ℕ) (T : View → Type 0) → Keeps kind number (stored (memory_of k.capacities.items ws) field n) T
       → (w : View) × Rule k (set ws (word_of field) n) (set vs id w) × T w
   stores kind number n T go =
-      let t = stepped kind number (stored m field n) T go in (
+      let t = one_step kind number (stored m field n) T go in (
         t.0,
         record {
           marks = t.1;
@@ -51,7 +51,7 @@ module _ (k : Shape) (id : ℕ) (v : View) (ws : List ℕ) (vs : List View) (r :
   pub loads : (kind : Kind) (number : ℕ) (T : View → Type 0) → Keeps kind number (memory_of k.capacities.items ws) T
       → (w : View) × Rule k (set ws (word_of field) (slice_index ws (word_of field))) (set vs id w) × T w
   loads kind number T go =
-      let t = stepped kind number m T go in (
+      let t = one_step kind number m T go in (
         t.0,
         record {
           marks = t.1;

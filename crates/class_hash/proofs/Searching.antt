@@ -6,10 +6,10 @@ use Rattle.prcu_model.specs.declared.mark.Mark.TheVariants.{Entered, Left}
 use Rattle.hash_core.specs.declared.words.Field.{Field}
 use Rattle.hash_core.specs.declared.words.Field.TheVariants.{Head, Key, Value, Next, Readers}
 use Rattle.hash_core.specs.declared.words.Kind.TheVariants.{H3, H4, H5}
-use Rattle.hash_core.specs.declared.view.Stand.{Stand}
-use Rattle.hash_core.specs.declared.view.Stand.TheVariants.{Start, Unread, Passed, Found, Ended}
+use Rattle.hash_core.specs.declared.view.SearchState.{SearchState}
+use Rattle.hash_core.specs.declared.view.SearchState.TheVariants.{Start, Unread, Passed, Found, Ended}
 use Rattle.hash_core.specs.declared.view.Section.{Section}
-use Rattle.hash_core.specs.declared.view.Trod.{Trod}
+use Rattle.hash_core.specs.declared.view.StepMade.{StepMade}
 use Rattle.hash_core.specs.declared.view.View.{View}
 use Rattle.prcu_model.specs.Marks.{updates_of}
 use Rattle.hash_core.specs.Slots.{is_slot_of}
@@ -22,13 +22,13 @@ use Rattle.class_hash.specs.Lookups.{IsSearching, IsAtLink, Looked}
 use Rattle.prcu_model.proofs.ListFacts.{all_append}
 
 module _ (v : View) (key : ℕ) where
-  abbrev at : ℕ → ℕ → Stand → Option ℕ → Section
-  at entered from stand loaded = record { key = key; count = v.sections; entered = entered; from = from; stand = stand; loaded = loaded }
+  abbrev at : ℕ → ℕ → SearchState → Option ℕ → Section
+  at entered from state loaded = record { key = key; count = v.sections; entered = entered; from = from; state = state; loaded = loaded }
 
   -- the view in the section
-  abbrev inside : List Mark → List Trod → Stand → Option ℕ → View
-  inside before steps stand loaded = record v {
-    section = Some (record { key = key; count = v.sections; entered = length before; from = length (updates_of before); stand = stand; loaded = loaded });
+  abbrev inside : List Mark → List StepMade → SearchState → Option ℕ → View
+  inside before steps state loaded = record v {
+    section = Some (record { key = key; count = v.sections; entered = length before; from = length (updates_of before); state = state; loaded = loaded });
     sections = v.sections + 1;
     own = v.own ++ Entered v.place v.sections key ∷ [];
     trail = v.trail ++ steps;
@@ -36,21 +36,21 @@ module _ (v : View) (key : ℕ) where
   }
 
   -- the section that a search is in
-  pub section_of : (stand : Stand) (loaded : Option ℕ) (w : View) (i : IsSearching v key stand loaded w) → w.section ≡ Some (at (length i.before) (length (updates_of i.before)) stand loaded)
-  section_of stand loaded w i = ap (λ (z : View). z.section) i.view
+  pub section_of : (state : SearchState) (loaded : Option ℕ) (w : View) (i : IsSearching v key state loaded w) → w.section ≡ Some (at (length i.before) (length (updates_of i.before)) state loaded)
+  section_of state loaded w i = ap (λ (z : View). z.section) i.view
 
   -- a load in the section
-  pub moved : (capacities : List ℕ) (stand stand' : Stand) (loaded loaded' : Option ℕ) (field : Field) (n : ℕ) (w x : View)
-      → ((entered from : ℕ) → ◌≡◌ {A = Section} (searched (at entered from stand loaded) stand field n) (at entered from stand' loaded')) → IsSearching v key stand loaded w → Searches capacities w field n x → IsSearching v key stand' loaded' x
-  moved capacities stand stand' loaded loaded' field n w x goes i s =
+  pub moved : (capacities : List ℕ) (state stand' : SearchState) (loaded loaded' : Option ℕ) (field : Field) (n : ℕ) (w x : View)
+      → ((entered from : ℕ) → ◌≡◌ {A = Section} (searched (at entered from state loaded) state field n) (at entered from stand' loaded')) → IsSearching v key state loaded w → Searches capacities w field n x → IsSearching v key stand' loaded' x
+  moved capacities state stand' loaded loaded' field n w x goes i s =
       let t : Section = s.0 in
-      let it : Some t ≡ Some (at (length i.before) (length (updates_of i.before)) stand loaded) = sym s.1 ∙ section_of stand loaded w i in
-      let is : ◌≡◌ {A = Section} t (at (length i.before) (length (updates_of i.before)) stand loaded) = cc in
-      let found : ◌≡◌ {A = Section} (searched t t.stand field n) (at (length i.before) (length (updates_of i.before)) stand' loaded') = ap (λ (z : Section). searched z z.stand field n) is ∙ goes (length i.before) (length (updates_of i.before)) in
+      let it : Some t ≡ Some (at (length i.before) (length (updates_of i.before)) state loaded) = sym s.1 ∙ section_of state loaded w i in
+      let is : ◌≡◌ {A = Section} t (at (length i.before) (length (updates_of i.before)) state loaded) = cc in
+      let found : ◌≡◌ {A = Section} (searched t t.state field n) (at (length i.before) (length (updates_of i.before)) stand' loaded') = ap (λ (z : Section). searched z z.state field n) is ∙ goes (length i.before) (length (updates_of i.before)) in
       record {
         before = i.before;
         steps = i.steps ++ record { kind = H5; field = field; number = n } ∷ [];
-        plain = all_append (λ (step : Trod). loads_free step.kind step.field ≡ false) i.steps (record { kind = H5; field = field; number = n } ∷ []) i.plain (refl, tt);
+        plain = all_append (λ (step : StepMade). loads_free step.kind step.field ≡ false) i.steps (record { kind = H5; field = field; number = n } ∷ []) i.plain (refl, tt);
         since = i.since;
         view = s.2 ∙ (λ j. record (i.view j) { section = Some (found j); trail = (i.view j).trail ++ record { kind = H5; field = field; number = n } ∷ [] })
             ∙ (λ j. record (inside i.before (i.steps ++ record { kind = H5; field = field; number = n } ∷ []) stand' loaded') { trail = append_assoc v.trail i.steps (record { kind = H5; field = field; number = n } ∷ []) j });
@@ -70,15 +70,15 @@ module _ (v : View) (key : ℕ) where
   stands link ne = subst (λ z. StandsAt z link) (sym (ap (λ b. cond b Ended (Unread link)) (ne_eqb link 0 ne))) refl
 
   -- a link was loaded
-  pub at_link : (capacities : List ℕ) (stand : Stand) (field : Field) (link : ℕ) (w x : View) → ((entered from : ℕ) → ◌≡◌ {A = Section} (searched (at entered from stand None) stand field link) (at entered from (link_stand link) None))
-      → IsSearching v key stand None w → Searches capacities w field link x → IsAtLink capacities v key link x
-  at_link capacities stand field link w x goes i s =
-      let it : Some s.0 ≡ Some (at (length i.before) (length (updates_of i.before)) stand None) = sym s.1 ∙ section_of stand None w i in
-      let is : ◌≡◌ {A = Section} s.0 (at (length i.before) (length (updates_of i.before)) stand None) = cc in
-      let found : ◌≡◌ {A = Section} (searched s.0 s.0.stand field link) (at (length i.before) (length (updates_of i.before)) (link_stand link) None) = ap (λ (z : Section). searched z z.stand field link) is ∙ goes (length i.before) (length (updates_of i.before)) in
+  pub at_link : (capacities : List ℕ) (state : SearchState) (field : Field) (link : ℕ) (w x : View) → ((entered from : ℕ) → ◌≡◌ {A = Section} (searched (at entered from state None) state field link) (at entered from (link_stand link) None))
+      → IsSearching v key state None w → Searches capacities w field link x → IsAtLink capacities v key link x
+  at_link capacities state field link w x goes i s =
+      let it : Some s.0 ≡ Some (at (length i.before) (length (updates_of i.before)) state None) = sym s.1 ∙ section_of state None w i in
+      let is : ◌≡◌ {A = Section} s.0 (at (length i.before) (length (updates_of i.before)) state None) = cc in
+      let found : ◌≡◌ {A = Section} (searched s.0 s.0.state field link) (at (length i.before) (length (updates_of i.before)) (link_stand link) None) = ap (λ (z : Section). searched z z.state field link) is ∙ goes (length i.before) (length (updates_of i.before)) in
       record {
-        searching = moved capacities stand (link_stand link) None None field link w x goes i s;
-        slot = λ ne. subst (λ (z : Section). is_slot_of capacities (z.key % 64) link ≡ true) found (s.4 link (subst (λ (z : Section). StandsAt z.stand link) (sym found) (stands link ne)));
+        searching = moved capacities state (link_stand link) None None field link w x goes i s;
+        slot = λ ne. subst (λ (z : Section). is_slot_of capacities (z.key % 64) link ≡ true) found (s.4 link (subst (λ (z : Section). StandsAt z.state link) (sym found) (stands link ne)));
       }
 
   -- the stand at a link that isn't 0, and at one that is
@@ -95,11 +95,11 @@ module _ (v : View) (key : ℕ) where
   -- the key of the slot, where it is the sought one, and where not
   pub found_key : (capacities : List ℕ) (slot n : ℕ) (w x : View) → n ≡ key → IsSearching v key (Unread slot) None w → Searches capacities w (Key slot) n x → IsSearching v key (Found slot) None x
   found_key capacities slot n w x e i s = moved capacities (Unread slot) (Found slot) None None (Key slot) n w x
-      (λ entered from j. record { key = key; count = v.sections; entered = entered; from = from; stand = ap (λ b. cond b (Found slot) (Passed slot)) (eq-eqb n key e) j; loaded = None }) i s
+      (λ entered from j. record { key = key; count = v.sections; entered = entered; from = from; state = ap (λ b. cond b (Found slot) (Passed slot)) (eq-eqb n key e) j; loaded = None }) i s
 
   pub passed_key : (capacities : List ℕ) (slot n : ℕ) (w x : View) → n ≢ key → IsSearching v key (Unread slot) None w → Searches capacities w (Key slot) n x → IsSearching v key (Passed slot) None x
   passed_key capacities slot n w x ne i s = moved capacities (Unread slot) (Passed slot) None None (Key slot) n w x
-      (λ entered from j. record { key = key; count = v.sections; entered = entered; from = from; stand = ap (λ b. cond b (Found slot) (Passed slot)) (ne_eqb n key ne) j; loaded = None }) i s
+      (λ entered from j. record { key = key; count = v.sections; entered = entered; from = from; state = ap (λ b. cond b (Found slot) (Passed slot)) (ne_eqb n key ne) j; loaded = None }) i s
 
   pub read_value : (capacities : List ℕ) (slot n : ℕ) (w x : View) → IsSearching v key (Found slot) None w → Searches capacities w (Value slot) n x → IsSearching v key (Found slot) (Some n) x
   read_value capacities slot n w x i s = moved capacities (Found slot) (Found slot) None (Some n) (Value slot) n w x (λ entered from. refl) i s
@@ -108,18 +108,18 @@ module _ (v : View) (key : ℕ) where
   next_link capacities slot link w x i s = at_link capacities (Passed slot) (Next slot) link w x (λ entered from. refl) i s
 
   -- the section was left: what its search came to was said since it was entered
-  pub looked : (stand : Stand) (loaded answer : Option ℕ) (w x : View) (found : ℕ) → IsQuiet v → IsSearching v key stand loaded w → Leaves w found x
-      → ((seen : List Mark) (section : Section) → section.stand ≡ stand → section.loaded ≡ loaded → GivesAnswer seen section → WasSaid (updates_of seen) section.key section.from answer) → Looked v key answer x
-  looked stand loaded answer w x found quiet i l gives =
-      let it : Some l.0 ≡ Some (at (length i.before) (length (updates_of i.before)) stand loaded) = sym l.1 ∙ section_of stand loaded w i in
-      let is : ◌≡◌ {A = Section} l.0 (at (length i.before) (length (updates_of i.before)) stand loaded) = cc in
-      let step : Trod = record { kind = H4; field = Readers (key % 64); number = found } in
-      let said : WasSaid (updates_of x.seen) l.0.key l.0.from answer = gives x.seen l.0 (ap (λ (z : Section). z.stand) is) (ap (λ (z : Section). z.loaded) is) l.3 in
+  pub looked : (state : SearchState) (loaded answer : Option ℕ) (w x : View) (found : ℕ) → IsQuiet v → IsSearching v key state loaded w → Leaves w found x
+      → ((seen : List Mark) (section : Section) → section.state ≡ state → section.loaded ≡ loaded → GivesAnswer seen section → WasSaid (updates_of seen) section.key section.from answer) → Looked v key answer x
+  looked state loaded answer w x found quiet i l gives =
+      let it : Some l.0 ≡ Some (at (length i.before) (length (updates_of i.before)) state loaded) = sym l.1 ∙ section_of state loaded w i in
+      let is : ◌≡◌ {A = Section} l.0 (at (length i.before) (length (updates_of i.before)) state loaded) = cc in
+      let step : StepMade = record { kind = H4; field = Readers (key % 64); number = found } in
+      let said : WasSaid (updates_of x.seen) l.0.key l.0.from answer = gives x.seen l.0 (ap (λ (z : Section). z.state) is) (ap (λ (z : Section). z.loaded) is) l.3 in
       record {
         before = i.before;
         until = l.2.0;
         steps = i.steps ++ step ∷ [];
-        plain = all_append (λ (step : Trod). loads_free step.kind step.field ≡ false) i.steps (record { kind = H4; field = Readers (key % 64); number = found } ∷ []) i.plain (refl, tt);
+        plain = all_append (λ (step : StepMade). loads_free step.kind step.field ≡ false) i.steps (record { kind = H4; field = Readers (key % 64); number = found } ∷ []) i.plain (refl, tt);
         since = i.since;
         within = subst (λ (z : View). IsPrefix z.seen l.2.0) i.view l.2.1;
         view = l.2.2 ∙ (λ j. record (i.view j) {
@@ -140,13 +140,13 @@ module _ (v : View) (key : ℕ) where
 -- What a load asks for, and what one turn of the search makes.
 module _ (v : View) (key : ℕ) (capacities : List ℕ) where
   pub may_load_head : (w : View) → IsSearching v key Start None w → (x : Section) × (w.section ≡ Some x) × (x.key % 64 ≡ key % 64) × (key % 64 ≡ x.key % 64)
-  may_load_head w i = (record { key = key; count = v.sections; entered = length i.before; from = length (updates_of i.before); stand = Start; loaded = None }, section_of v key Start None w i, refl, refl)
+  may_load_head w i = (record { key = key; count = v.sections; entered = length i.before; from = length (updates_of i.before); state = Start; loaded = None }, section_of v key Start None w i, refl, refl)
 
-  may_load : (stand : Stand) (slot n : ℕ) (w : View) → n ≡ slot → StandsAt stand slot → is_slot_of capacities (key % 64) slot ≡ true → IsSearching v key stand None w → (x : Section) × (w.section ≡ Some x) × StandsAt x.stand n × (is_slot_of capacities (x.key % 64) n ≡ true)
-  may_load stand slot n w e stands of i = (
-    record { key = key; count = v.sections; entered = length i.before; from = length (updates_of i.before); stand = stand; loaded = None },
-    section_of v key stand None w i,
-    subst (StandsAt stand) (sym e) stands,
+  may_load : (state : SearchState) (slot n : ℕ) (w : View) → n ≡ slot → StandsAt state slot → is_slot_of capacities (key % 64) slot ≡ true → IsSearching v key state None w → (x : Section) × (w.section ≡ Some x) × StandsAt x.state n × (is_slot_of capacities (x.key % 64) n ≡ true)
+  may_load state slot n w e stands of i = (
+    record { key = key; count = v.sections; entered = length i.before; from = length (updates_of i.before); state = state; loaded = None },
+    section_of v key state None w i,
+    subst (StandsAt state) (sym e) stands,
     subst (λ z. is_slot_of capacities (key % 64) z ≡ true) (sym e) of,
   )
 
@@ -157,14 +157,14 @@ module _ (v : View) (key : ℕ) (capacities : List ℕ) where
     of_class : is_slot_of capacities (key % 64) slot ≡ true
     of_class = subst (λ z. is_slot_of capacities (key % 64) z ≡ true) (sym e) (a.slot ne)
 
-    pub may_load_key : (x : Section) × (w1.section ≡ Some x) × StandsAt x.stand slot × (is_slot_of capacities (x.key % 64) slot ≡ true)
+    pub may_load_key : (x : Section) × (w1.section ≡ Some x) × StandsAt x.state slot × (is_slot_of capacities (x.key % 64) slot ≡ true)
     may_load_key = may_load (Unread slot) slot slot w1 refl refl of_class unread
 
     module _ (w2 : View) (s : Searches capacities w1 (Key slot) k w2) where
-      pub may_load_value : k ≡ key → (x : Section) × (w2.section ≡ Some x) × StandsAt x.stand slot × (is_slot_of capacities (x.key % 64) slot ≡ true)
+      pub may_load_value : k ≡ key → (x : Section) × (w2.section ≡ Some x) × StandsAt x.state slot × (is_slot_of capacities (x.key % 64) slot ≡ true)
       may_load_value is = may_load (Found slot) slot slot w2 refl refl of_class (found_key v key capacities slot k w1 w2 is unread s)
 
-      pub may_load_next : k ≢ key → (x : Section) × (w2.section ≡ Some x) × StandsAt x.stand slot × (is_slot_of capacities (x.key % 64) slot ≡ true)
+      pub may_load_next : k ≢ key → (x : Section) × (w2.section ≡ Some x) × StandsAt x.state slot × (is_slot_of capacities (x.key % 64) slot ≡ true)
       may_load_next not = may_load (Passed slot) slot slot w2 refl refl of_class (passed_key v key capacities slot k w1 w2 not unread s)
 
       pub turn_found : (value : ℕ) (w3 : View) → k ≡ key → Searches capacities w2 (Value slot) value w3 → IsSearching v key (Found slot) (Some value) w3
@@ -175,9 +175,9 @@ module _ (v : View) (key : ℕ) (capacities : List ℕ) where
 
 module _ (v : View) (key : ℕ) (w : View) where
   pub in_section : (answer : Option ℕ) → (answer ≡ None → IsSearching v key Ended None w) → ((value : ℕ) → answer ≡ Some value → (slot : ℕ) × IsSearching v key (Found slot) (Some value) w) → (x : Section) × (w.section ≡ Some x)
-  in_section None ended found = let i = ended refl in (record { key = key; count = v.sections; entered = length i.before; from = length (updates_of i.before); stand = Ended; loaded = None }, section_of v key Ended None w i)
-  in_section (Some value) ended found = let f = found value refl in (record { key = key; count = v.sections; entered = length f.1.before; from = length (updates_of f.1.before); stand = Found f.0; loaded = Some value }, section_of v key (Found f.0) (Some value) w f.1)
+  in_section None ended found = let i = ended refl in (record { key = key; count = v.sections; entered = length i.before; from = length (updates_of i.before); state = Ended; loaded = None }, section_of v key Ended None w i)
+  in_section (Some value) ended found = let f = found value refl in (record { key = key; count = v.sections; entered = length f.1.before; from = length (updates_of f.1.before); state = Found f.0; loaded = Some value }, section_of v key (Found f.0) (Some value) w f.1)
 
   pub looked_at : (answer : Option ℕ) → (answer ≡ None → IsSearching v key Ended None w) → ((value : ℕ) → answer ≡ Some value → (slot : ℕ) × IsSearching v key (Found slot) (Some value) w) → IsQuiet v → (found : ℕ) (x : View) → Leaves w found x → Looked v key answer x
-  looked_at None ended found quiet n x leaves = looked v key Ended None None w x n quiet (ended refl) leaves (λ seen section stand loaded gives. gives.absent stand)
-  looked_at (Some value) ended found quiet n x leaves = let f = found value refl in looked v key (Found f.0) (Some value) (Some value) w x n quiet f.1 leaves (λ seen section stand loaded gives. gives.present value loaded)
+  looked_at None ended found quiet n x leaves = looked v key Ended None None w x n quiet (ended refl) leaves (λ seen section state loaded gives. gives.absent state)
+  looked_at (Some value) ended found quiet n x leaves = let f = found value refl in looked v key (Found f.0) (Some value) (Some value) w x n quiet f.1 leaves (λ seen section state loaded gives. gives.present value loaded)

@@ -4,7 +4,7 @@ use Rattle.atomic_table.specs.Table.{State, Splits, Joins}
 use Rattle.hash_core.specs.declared.shape.Shape.{Shape}
 use Rattle.hash_core.specs.declared.view.View.{View}
 use Rattle.hash_core.specs.Rule.{Rule}
-use Rattle.hash_core.specs.Steps.{IsQuiet, Needs1, first_of, second_of, both_of, spent}
+use Rattle.hash_core.specs.Steps.{IsQuiet, NeedsSplit, first_of, second_of, both_of, spent}
 use Rattle.atomic_table.proofs.Lists.{set_else}
 use Rattle.hash_core.proofs.Splits.{law1, law2}
 use Rattle.class_hash.specs.declared.rule.Nothing.{Nothing}
@@ -13,7 +13,7 @@ module _ (k : Shape) (id : ℕ) (v : View) where
   abbrev Keeps : State Nothing View → Type 0
   Keeps s = Rule k s.words s.views
 
-  pub splits : (places tickets : ℕ) → Needs1 v places tickets → Splits Keeps id v (first_of places tickets v) (second_of places tickets v)
+  pub splits : (places tickets : ℕ) → NeedsSplit v places tickets → Splits Keeps id v (first_of places tickets v) (second_of places tickets v)
   splits places tickets needs s r at = record {
     marks = r.marks;
     long = r.long;

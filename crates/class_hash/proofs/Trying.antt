@@ -17,7 +17,7 @@ use Rattle.hash_core.specs.Pairs.{HasPairs}
 use Rattle.hash_core.specs.Slots.{capacity, is_slot_of, IsOfClass}
 use Rattle.class_hash.specs.Answers.{IsFull}
 use Rattle.hash_core.specs.Known.{ShowsAbsent}
-use Rattle.hash_core.specs.Steps.{trod, IsQuiet, Needs7, after7, fresh_hold}
+use Rattle.hash_core.specs.Steps.{stepped, IsQuiet, NeedsBegin, after_begin, fresh_hold}
 use Rattle.prcu_model.proofs.ListFacts.{all_append, prefix_self, prefix_trans}
 use Rattle.class_hash.proofs.Trails.{adds_step, adds_both}
 use Rattle.prcu_model.specs.Callers.{entered_for}
@@ -41,7 +41,7 @@ pub looked_quiet : (w x : View) (key : ℕ) (answer : Option ℕ) → IsQuiet w 
 looked_quiet w x key answer quiet l = (ap (λ (z : View). z.section) l.view, ap (λ (z : View). z.hold) l.view ∙ quiet.1)
 
 -- from the search to the walk
-module _ (v w x y z : View) (key class : ℕ) (answer : Option ℕ) (new : Hold) (quiet : IsQuiet v) (t : HasTried v key w) (l : Looked w key answer x) (k : HasLocked x class y) (n : HasLoaded y (fresh_hold class) z new) (no_turn : x.turn ≡ None) where
+module _ (v w x y z : View) (key class : ℕ) (answer : Option ℕ) (new : Hold) (quiet : IsQuiet v) (t : HasTried v key w) (l : Looked w key answer x) (k : HasLocked x class y) (n : HasLoaded y (fresh_hold class) z new) (no_turn : x.commit ≡ None) where
   marks : List Mark
   marks = Entered w.place w.sections key ∷ Left w.place w.sections ∷ []
 
@@ -85,10 +85,10 @@ module _ (v w x y z : View) (key class : ℕ) (answer : Option ℕ) (new : Hold)
       ap (λ b. cond b (cond (key == key) 1 0) 0 + 0) (eq-eqb w.place v.place same_place) ∙ ap (λ b. cond b 1 0 + 0) (eq-eqb key key refl) in
       omega arith
 
-  turn_z : z.turn ≡ None
-  turn_z = ap (λ (u : View). u.turn) n.view ∙ ap (λ (u : View). u.turn) k.view ∙ no_turn
+  turn_z : z.commit ≡ None
+  turn_z = ap (λ (u : View). u.commit) n.view ∙ ap (λ (u : View). u.commit) k.view ∙ no_turn
 
-  needs_z : Needs7 z new
+  needs_z : NeedsBegin z new
   needs_z = (ap (λ (u : View). u.hold) n.view, ap (λ (h : Hold). h.taken) n.only, ap (λ (h : Hold). h.unlinked) n.only, ap (λ (h : Hold). h.moved) n.only, turn_z)
 
   pub has_finished : HasFinished z
@@ -109,7 +109,7 @@ module _ (v w x y z : View) (key class : ℕ) (answer : Option ℕ) (new : Hold)
 
   pub tried_again : (u : View) → Unlocks z u → HasTried v key u
   tried_again u e =
-      let F : View → View = λ y. after7 (trod y H7 (Lock e.0.class) 0) in
+      let F : View → View = λ y. after_begin (stepped y H7 (Lock e.0.class) 0) in
       let u_is : u ≡ F walked = e.2 ∙ ap F z_is in
       let whole : u ≡ record (F walked) { section = v.section; hold = v.hold } = u_is ∙ ap (λ (q : Option Section × Option Hold). record (F walked) { section = q.0; hold = q.1 }) (λ i. (sym quiet.0 i, sym quiet.1 i)) in
       record {
@@ -230,7 +230,7 @@ module _ (v w x y z : View) (key class : ℕ) (answer : Option ℕ) (new : Hold)
       let l : Lists capacities z 0 0 left.0 = left.1 in
       let e : Unlocks left.0 u = left.2 in
       let F : View → View = λ q. record q { hold = None; trail = u.trail; seen = left.0.seen } in
-      let G : View → View = λ q. after7 (trod q H7 (Lock e.0.class) 0) in
+      let G : View → View = λ q. after_begin (stepped q H7 (Lock e.0.class) 0) in
       let first : u ≡ record left.0 { hold = None; trail = u.trail } = e.2 ∙ sym (ap (λ (q : View). record left.0 { hold = None; trail = q.trail }) e.2) in
       let u_is : u ≡ F walked = first ∙ ap F l.rest ∙ ap F z_is in
       let whole : u ≡ record (F walked) { section = v.section; hold = v.hold } = u_is ∙ ap (λ (q : Option Section × Option Hold). record (F walked) { section = q.0; hold = q.1 }) (λ i. (sym quiet.0 i, sym quiet.1 i)) in

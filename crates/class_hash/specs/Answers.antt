@@ -4,7 +4,7 @@ use Rattle.std.specs.Prelude.{◌≡◌, ◌≢◌, ℕ, ◌+◌, ◌%◌, ◌<�
 use Rattle.prcu_model.specs.declared.mark.Mark.{Mark}
 use Rattle.hash_core.specs.declared.words.Field.{Field}
 use Rattle.hash_core.specs.declared.words.Field.TheVariants.{Head, Free, Retired, Next}
-use Rattle.hash_core.specs.declared.view.Stand.TheVariants.{Ended}
+use Rattle.hash_core.specs.declared.view.SearchState.TheVariants.{Ended}
 use Rattle.hash_core.specs.declared.view.Section.{Section}
 use Rattle.hash_core.specs.declared.view.Hold.{Hold}
 use Rattle.prcu_model.specs.Marks.{updates_of, own_of}
@@ -22,12 +22,12 @@ use Rattle.hash_core.specs.Steps.{StandsAt}
 -- What the section's search found, the dictionary said at some front since it was entered: nothing where the search came
 -- to an end, and the value where it loaded one.
 pub record GivesAnswer (seen : List Mark) (section : Section) : Type 0 where
-  pub absent : section.stand ≡ Ended → WasSaid (updates_of seen) section.key section.from None
+  pub absent : section.state ≡ Ended → WasSaid (updates_of seen) section.key section.from None
   pub present : (value : ℕ) → section.loaded ≡ Some value → WasSaid (updates_of seen) section.key section.from (Some value)
 
 -- the slot at which the search stands is one of its class
 abbrev pub StandsInClass : List ℕ → Section → Type 0
-StandsInClass capacities section = (slot : ℕ) → StandsAt section.stand slot → is_slot_of capacities (section.key % 64) slot ≡ true
+StandsInClass capacities section = (slot : ℕ) → StandsAt section.state slot → is_slot_of capacities (section.key % 64) slot ≡ true
 
 -- What a seat has seen, which works at a place: its updates are a history; the marks of each place for which it answers are
 -- those that it has; and places that the table hasn't have none.

@@ -8,7 +8,7 @@ use Rattle.hash_core.specs.declared.words.Kind.TheVariants.{H8, H9, H10}
 use Rattle.hash_core.specs.declared.view.Hold.{Hold}
 use Rattle.hash_core.specs.declared.view.View.{View}
 use Rattle.hash_core.specs.Known.{known_in, knowing}
-use Rattle.hash_core.specs.Steps.{trod, Needs7}
+use Rattle.hash_core.specs.Steps.{stepped, NeedsBegin}
 use Rattle.class_hash.specs.declared.bucket.Lock.{Lock}
 use Rattle.class_hash.specs.declared.bucket.Lock.TheVariants.{Held, Busy}
 use Rattle.class_hash.specs.declared.bucket.Poll.{Poll}
@@ -23,7 +23,7 @@ Tries places v class (Busy found) w = IsPlaceOfOther places v found × Locks v c
 
 -- a bucket's lock is held, and what was begun there is finished
 abbrev pub HasFinished : View → Type 0
-HasFinished v = (hold : Hold) × Needs7 v hold
+HasFinished v = (hold : Hold) × NeedsBegin v hold
 
 -- The free and then the retired word of the class were loaded. Where both are 0, the class is full.
 pub record Lists (capacities : List ℕ) (v : View) (free retired : ℕ) (w : View) : Type 0 where
@@ -39,7 +39,7 @@ pub record Lists (capacities : List ℕ) (v : View) (free retired : ℕ) (w : Vi
 -- What was begun is finished. The free list was last known to be empty, and the retired list not to be.
 pub record MayPoll (v : View) : Type 0 where
   pub hold : Hold
-  pub finished : Needs7 v hold
+  pub finished : NeedsBegin v hold
   pub free : known_in hold.known (Free hold.class) ≡ Some 0
   pub first : ℕ
   pub some : first ≢ 0
@@ -55,7 +55,7 @@ pub record Refilled (v w : View) : Type 0 where
   pub is : v.hold ≡ Some hold
   pub first : ℕ
   pub retired : known_in hold.known (Retired hold.class) ≡ Some first
-  pub rest : w ≡ record (trod (trod (trod v H8 (Readers hold.class) 0) H10 (Retired hold.class) 0) H10 (Free hold.class) first) { hold = Some (polled hold first) }
+  pub rest : w ≡ record (stepped (stepped (stepped v H8 (Readers hold.class) 0) H10 (Retired hold.class) 0) H10 (Free hold.class) first) { hold = Some (polled hold first) }
 
 -- So many readers of the class were found, and nothing changed.
 pub record Waits (v : View) (class count : ℕ) (w : View) : Type 0 where
@@ -63,7 +63,7 @@ pub record Waits (v : View) (class count : ℕ) (w : View) : Type 0 where
   pub is : v.hold ≡ Some hold
   pub same : class ≡ hold.class
   pub some : count ≢ 0
-  pub rest : w ≡ trod v H8 (Readers hold.class) count
+  pub rest : w ≡ stepped v H8 (Readers hold.class) count
 
 abbrev pub Polls : View → Poll → View → Type 0
 Polls v Over w = Refilled v w

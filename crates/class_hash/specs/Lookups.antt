@@ -4,8 +4,8 @@ use Rattle.std.specs.Prelude.{◌≡◌, ◌≢◌, ℕ, ◌+◌, ◌%◌, true,
 use mathlib.Core.List.{IsPrefix}
 use Rattle.prcu_model.specs.declared.mark.Mark.{Mark}
 use Rattle.prcu_model.specs.declared.mark.Mark.TheVariants.{Entered, Left}
-use Rattle.hash_core.specs.declared.view.Stand.{Stand}
-use Rattle.hash_core.specs.declared.view.Trod.{Trod}
+use Rattle.hash_core.specs.declared.view.SearchState.{SearchState}
+use Rattle.hash_core.specs.declared.view.StepMade.{StepMade}
 use Rattle.hash_core.specs.declared.view.View.{View}
 use Rattle.prcu_model.specs.Marks.{updates_of}
 use Rattle.prcu_model.specs.Dictionary.{WasSaid}
@@ -14,13 +14,13 @@ use Rattle.hash_core.specs.Slots.{is_slot_of}
 use Rattle.class_hash.specs.Trails.{LoadNoLists}
 
 -- A section with the key was entered after these marks, and its search stands there.
-pub record IsSearching (v : View) (key : ℕ) (stand : Stand) (loaded : Option ℕ) (w : View) : Type 0 where
+pub record IsSearching (v : View) (key : ℕ) (state : SearchState) (loaded : Option ℕ) (w : View) : Type 0 where
   pub before : List Mark
-  pub steps : List Trod
+  pub steps : List StepMade
   pub plain : LoadNoLists steps
   pub since : IsPrefix v.seen before
   pub view : w ≡ record v {
-    section = Some (record { key = key; count = v.sections; entered = length before; from = length (updates_of before); stand = stand; loaded = loaded });
+    section = Some (record { key = key; count = v.sections; entered = length before; from = length (updates_of before); state = state; loaded = loaded });
     sections = v.sections + 1;
     own = v.own ++ Entered v.place v.sections key ∷ [];
     trail = v.trail ++ steps;
@@ -36,7 +36,7 @@ pub record IsAtLink (capacities : List ℕ) (v : View) (key link : ℕ) (w : Vie
 pub record Looked (v : View) (key : ℕ) (answer : Option ℕ) (w : View) : Type 0 where
   pub before : List Mark
   pub until : List Mark
-  pub steps : List Trod
+  pub steps : List StepMade
   pub plain : LoadNoLists steps
   pub since : IsPrefix v.seen before
   pub within : IsPrefix (before ++ Entered v.place v.sections key ∷ []) until

@@ -14,68 +14,68 @@ use Rattle.prcu_model.specs.Dictionary.{map_of}
 use Rattle.prcu_model.specs.History.{IsLegal}
 use Rattle.prcu_model.specs.Marks.{updates_of}
 use Rattle.hash_core.specs.Known.{known_in, IsOnWalk}
-use Rattle.hash_core.specs.Steps.{trod, Goes, after3, after4, after5, searched, after6, after7, after8, after9, after_take, after_refill, after_move, after_push, after_chain, after11, after12, after13, after14, after15, after16}
+use Rattle.hash_core.specs.Steps.{stepped, Goes, after_clock_load, after_announce, after_enter_by_stamp, searched, after6, after_begin, after8, after9, after_take, after_refill, after_move, after_push, after_chain, after_seize, after12, after_lock, after_unlock, after15, after_count_free}
 use Rattle.class_hash.specs.Answers.{GivesAnswer, StandsInClass, IsLinkOf, IsFull, FindsFull}
 
 -- a section was entered
 abbrev pub Enters : View → ℕ → ℕ → View → Type 0
-Enters v key found w = Goes v (after3 (trod v H3 (Readers (key % 64)) found) key) w
+Enters v key found w = Goes v (after_clock_load (stepped v H3 (Readers (key % 64)) found) key) w
 
 -- the section was left, and what it found was so
 abbrev pub Leaves : View → ℕ → View → Type 0
-Leaves v found w = (section : Section) × (v.section ≡ Some section) × Goes v (after4 (trod v H4 (Readers (section.key % 64)) found) section) w × GivesAnswer w.seen section
+Leaves v found w = (section : Section) × (v.section ≡ Some section) × Goes v (after_announce (stepped v H4 (Readers (section.key % 64)) found) section) w × GivesAnswer w.seen section
 
 -- the section's search went on
 abbrev pub Searches : List ℕ → View → Field → ℕ → View → Type 0
-Searches capacities v field found w = (section : Section) × (v.section ≡ Some section) × (w ≡ after5 (trod v H5 field found) section field found) × ((searched section section.stand field found).key ≡ section.key) × StandsInClass capacities (searched section section.stand field found)
+Searches capacities v field found w = (section : Section) × (v.section ≡ Some section) × (w ≡ after_enter_by_stamp (stepped v H5 field found) section field found) × ((searched section section.state field found).key ≡ section.key) × StandsInClass capacities (searched section section.state field found)
 
 -- the lock was exchanged
 abbrev pub Locks : View → ℕ → ℕ → View → Type 0
-Locks v class found w = w ≡ after6 (trod v H6 (Lock class) found) class found
+Locks v class found w = w ≡ after6 (stepped v H6 (Lock class) found) class found
 
 -- the lock was given up
 abbrev pub Unlocks : View → View → Type 0
-Unlocks v w = (hold : Hold) × (v.hold ≡ Some hold) × (w ≡ after7 (trod v H7 (Lock hold.class) 0))
+Unlocks v w = (hold : Hold) × (v.hold ≡ Some hold) × (w ≡ after_begin (stepped v H7 (Lock hold.class) 0))
 
 -- the readers were loaded under the lock
 abbrev pub LoadsReaders : View → ℕ → View → Type 0
-LoadsReaders v found w = (hold : Hold) × (v.hold ≡ Some hold) × (w ≡ after8 (trod v H8 (Readers hold.class) found) hold found)
+LoadsReaders v found w = (hold : Hold) × (v.hold ≡ Some hold) × (w ≡ after8 (stepped v H8 (Readers hold.class) found) hold found)
 
 -- a field was loaded under the lock
 abbrev pub Loads : List ℕ → View → Field → ℕ → View → Type 0
-Loads capacities v field found w = (hold : Hold) × (v.hold ≡ Some hold) × Goes v (after9 (trod v H9 field found) hold field found) w × IsLinkOf capacities hold field found × ((number : ℕ) → known_in hold.known field ≡ Some number → found ≡ number) × (FindsFull hold field found → IsFull capacities hold w.seen)
+Loads capacities v field found w = (hold : Hold) × (v.hold ≡ Some hold) × Goes v (after9 (stepped v H9 field found) hold field found) w × IsLinkOf capacities hold field found × ((number : ℕ) → known_in hold.known field ≡ Some number → found ≡ number) × (FindsFull hold field found → IsFull capacities hold w.seen)
 
 -- the first free slot was taken, which wasn't on the known walk
 abbrev pub Takes : View → ℕ → ℕ → View → Type 0
-Takes v slot next w = (hold : Hold) × (v.hold ≡ Some hold) × Goes v (after_take (trod v H10 (Free hold.class) next) hold slot next) w × (IsOnWalk hold slot → ⊥)
+Takes v slot next w = (hold : Hold) × (v.hold ≡ Some hold) × Goes v (after_take (stepped v H10 (Free hold.class) next) hold slot next) w × (IsOnWalk hold slot → ⊥)
 
 -- the list in hand was made the free list
 abbrev pub Refills : View → ℕ → View → Type 0
-Refills v slot w = (hold : Hold) × (v.hold ≡ Some hold) × (w ≡ after_refill (trod v H10 (Free hold.class) slot) hold slot)
+Refills v slot w = (hold : Hold) × (v.hold ≡ Some hold) × (w ≡ after_refill (stepped v H10 (Free hold.class) slot) hold slot)
 
 -- the retired list was taken in hand
 abbrev pub Moves : View → ℕ → View → Type 0
-Moves v slot w = (hold : Hold) × (v.hold ≡ Some hold) × (w ≡ after_move (trod v H10 (Retired hold.class) 0) hold slot)
+Moves v slot w = (hold : Hold) × (v.hold ≡ Some hold) × (w ≡ after_move (stepped v H10 (Retired hold.class) 0) hold slot)
 
 -- the slot unlinked was put on the retired list
 abbrev pub Pushes : View → ℕ → View → Type 0
-Pushes v slot w = (hold : Hold) × (v.hold ≡ Some hold) × (w ≡ after_push (trod v H10 (Retired hold.class) slot) hold slot)
+Pushes v slot w = (hold : Hold) × (v.hold ≡ Some hold) × (w ≡ after_push (stepped v H10 (Retired hold.class) slot) hold slot)
 
 -- the chain of the slot unlinked was stored
 abbrev pub Chains : View → ℕ → ℕ → View → Type 0
-Chains v slot number w = (hold : Hold) × (v.hold ≡ Some hold) × (w ≡ after_chain (trod v H10 (Chain slot) number) hold slot number)
+Chains v slot number w = (hold : Hold) × (v.hold ≡ Some hold) × (w ≡ after_chain (stepped v H10 (Chain slot) number) hold slot number)
 
 -- a field of the slot taken was stored
 abbrev pub Writes : View → Field → ℕ → View → Type 0
-Writes v field number w = (hold : Hold) × (v.hold ≡ Some hold) × (w ≡ after11 (trod v H11 field number) hold field number)
+Writes v field number w = (hold : Hold) × (v.hold ≡ Some hold) × (w ≡ after_seize (stepped v H11 field number) hold field number)
 
 -- the front was exchanged
 abbrev pub Turns : View → ℕ → ℕ → View → Type 0
-Turns v even found w = w ≡ after12 (trod v H12 Front found) even found
+Turns v even found w = w ≡ after12 (stepped v H12 Front found) even found
 
 -- the front was made even
 abbrev pub Evens : View → ℕ → View → Type 0
-Evens v number w = w ≡ after16 (trod v H16 Front number)
+Evens v number w = w ≡ after_count_free (stepped v H16 Front number)
 
 -- The updates seen are a history, and the front shows how many there are.
 pub record IsUpdated (even : ℕ) (w : View) : Type 0 where
@@ -84,13 +84,13 @@ pub record IsUpdated (even : ℕ) (w : View) : Type 0 where
 
 -- the slot taken was linked
 abbrev pub Links : View → ℕ → ℕ → ℕ → ℕ → View → Type 0
-Links v even slot key value w = (hold : Hold) × (v.hold ≡ Some hold) × Goes v (after13 (trod v H13 (Head hold.class) slot) hold even slot key value) w × IsUpdated even w
+Links v even slot key value w = (hold : Hold) × (v.hold ≡ Some hold) × Goes v (after_lock (stepped v H13 (Head hold.class) slot) hold even slot key value) w × IsUpdated even w
 
 -- a slot was unlinked
 abbrev pub Cuts : View → ℕ → Field → ℕ → ℕ → ℕ → View → Type 0
-Cuts v even link slot key next w = (hold : Hold) × (v.hold ≡ Some hold) × Goes v (after14 (trod v H14 link next) hold even link slot key next) w × IsUpdated even w
+Cuts v even link slot key next w = (hold : Hold) × (v.hold ≡ Some hold) × Goes v (after_unlock (stepped v H14 link next) hold even link slot key next) w × IsUpdated even w
 
 -- A value was replaced. What it was, where that is known, the dictionary gave the key before.
 abbrev pub Replaces : View → ℕ → ℕ → ℕ → ℕ → View → Type 0
-Replaces v even slot key value w = (hold : Hold) × (v.hold ≡ Some hold) × ((h : List Mark) × IsPrefix v.seen h × (w ≡ after15 (trod v H15 (Value slot) value) hold even slot key value h)
+Replaces v even slot key value w = (hold : Hold) × (v.hold ≡ Some hold) × ((h : List Mark) × IsPrefix v.seen h × (w ≡ after15 (stepped v H15 (Value slot) value) hold even slot key value h)
     × ((old : ℕ) → known_in hold.known (Value slot) ≡ Some old → finite.get (map_of (updates_of h)) key ≡ Some old)) × IsUpdated even w

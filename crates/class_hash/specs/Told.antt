@@ -6,7 +6,7 @@ use Rattle.hash_core.specs.declared.words.Field.{Field}
 use Rattle.hash_core.specs.declared.words.Field.TheVariants.{Front}
 use Rattle.hash_core.specs.declared.words.Kind.TheVariants.{H2}
 use Rattle.hash_core.specs.declared.view.View.{View}
-use Rattle.hash_core.specs.Steps.{trod}
+use Rattle.hash_core.specs.Steps.{stepped}
 use Rattle.class_hash.specs.declared.rule.Nothing.{Nothing}
 use Rattle.class_hash.specs.Answers.{IsInformed, IsHeldByOther}
 use Rattle.class_hash.specs.Stepped.{Enters, Leaves, Searches, Locks, Unlocks, LoadsReaders, Loads, Takes, Refills, Moves, Pushes, Chains, Writes, Turns, Evens, Links, Cuts, Replaces}
@@ -18,7 +18,7 @@ abbrev At : Type 0
 At = Step Nothing
 
 abbrev pub told2 : ℕ → At → Seated → ℕ → Seated → Type 0
-told2 places st me found me' = (me'.1 ≡ me.1) × (me'.0 ≡ trod me.0 H2 Front found) × (me'.0.tickets ≤ 1099511627776) × IsInformed places me'.0
+told2 places st me found me' = (me'.1 ≡ me.1) × (me'.0 ≡ stepped me.0 H2 Front found) × (me'.0.tickets ≤ 1099511627776) × IsInformed places me'.0
 
 abbrev pub told3 : ℕ → At → Seated → ℕ → Seated → Type 0
 told3 key st me found me' = (me'.1 ≡ me.1) × Enters me.0 key found me'.0
@@ -30,7 +30,7 @@ abbrev pub told5 : List ℕ → Field → At → Seated → ℕ → Seated → T
 told5 capacities field st me found me' = (me'.1 ≡ me.1) × Searches capacities me.0 field found me'.0
 
 abbrev pub told6 : ℕ → ℕ → At → Seated → ℕ → Seated → Type 0
-told6 places class st me found me' = (me'.1 ≡ me.1) × Locks me.0 class found me'.0 × (me.0.turn ≡ None) × IsHeldByOther places me.0 found
+told6 places class st me found me' = (me'.1 ≡ me.1) × Locks me.0 class found me'.0 × (me.0.commit ≡ None) × IsHeldByOther places me.0 found
 
 abbrev pub told7 : ℕ → At → Seated → ℕ → Seated → Type 0
 told7 places st me found me' = (me'.1 ≡ me.1) × Unlocks me.0 me'.0 × IsInformed places me'.0

@@ -15,7 +15,7 @@ use Rattle.hash_core.specs.declared.view.View.{View}
 use Rattle.prcu_model.specs.Marks.{updates_of}
 use Rattle.hash_core.specs.Slots.{is_slot_of, IsOfClass}
 use Rattle.hash_core.specs.Known.{known_in, IsOnWalk}
-use Rattle.hash_core.specs.Steps.{fresh_hold, Needs7}
+use Rattle.hash_core.specs.Steps.{fresh_hold, NeedsBegin}
 use Rattle.class_hash.specs.Trails.{AddsNoLists}
 use Rattle.class_hash.specs.Walks.{IsFoundAt}
 
@@ -33,12 +33,12 @@ pub record HasLocked (v : View) (class : ℕ) (w : View) : Type 0 where
 pub record HasTurned (v : View) (even : ℕ) (w : View) : Type 0 where
   pub small : even ≤ 2199023255553
   pub trail : AddsNoLists v.trail w.trail
-  pub view : w ≡ record v { turn = Some (record { found = even; stored = false }); trail = w.trail }
+  pub view : w ≡ record v { commit = Some (record { found = even; stored = false }); trail = w.trail }
 
 -- Under the lock, with nothing begun, the slot is on the known walk and has the key; and a ticket is left.
 pub record MayReplace (capacities : List ℕ) (v : View) (slot key : ℕ) : Type 0 where
   pub hold : Hold
-  pub finished : Needs7 v hold
+  pub finished : NeedsBegin v hold
   pub on : IsOnWalk hold slot
   pub key_is : known_in hold.known (Key slot) ≡ Some key
   pub slot_is : is_slot_of capacities hold.class slot ≡ true
@@ -68,7 +68,7 @@ link_after class (Some slot) = Next slot
 -- Under the lock, with nothing begun, the slot was found on the known walk, from a link of the class; and a ticket is left.
 pub record MayUnlink (capacities : List ℕ) (v : View) (previous : Option ℕ) (slot key : ℕ) : Type 0 where
   pub hold : Hold
-  pub finished : Needs7 v hold
+  pub finished : NeedsBegin v hold
   pub found : IsFoundAt key hold previous slot
   pub link : IsOfClass capacities hold.class (link_after hold.class previous)
   pub slot_is : is_slot_of capacities hold.class slot ≡ true

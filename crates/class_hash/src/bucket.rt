@@ -36,7 +36,7 @@ pub fn try_bucket(table: &HashTable, seat: &mut HashSeat, class: u32) -> Lock
     requires class { class < 64 }
     ensures table { seat.new.table ≡ seat.old.table }
     ensures view { Tries table.now.places seat.old.view class result seat.new.view }
-    ensures turn { seat.old.view.turn ≡ None }
+    ensures commit { seat.old.view.commit ≡ None }
 {
     match h6(table, seat, class) {
         0 => Lock::Held,

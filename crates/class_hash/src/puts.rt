@@ -10,7 +10,7 @@ use crate::search::slot_at;
 use crate::seat::HashSeat;
 use crate::steps::{h7, h9, h10_take, h11, h13, h16};
 use crate::table::HashTable;
-use crate::updates::turn_front;
+use crate::updates::open_commit;
 use crossbeam_utils::Backoff;
 use hash_core::Field;
 use std::sync::Wait;
@@ -84,7 +84,7 @@ fn link<R: Wait>(
     ensures trail { AddsNoLists seat.old.view.trail seat.new.view.trail }
     ensures informed { IsInformed table.now.places seat.new.view }
 {
-    let even = turn_front(rt, table, seat);
+    let even = open_commit(rt, table, seat);
     h13(table, seat, even, slot, key, value);
     h16(table, seat, even);
     h7(table, seat);

@@ -1,6 +1,6 @@
 //! A search in a section, without a lock.
 ghost use Rattle.std.specs.Prelude.{◌≡◌, ◌≢◌, ℕ, ◌%◌, true, Option, Some, None};
-ghost use Rattle.hash_core.specs.declared.view.Stand.TheVariants.{Start, Unread, Passed, Found, Ended};
+ghost use Rattle.hash_core.specs.declared.view.SearchState.TheVariants.{Start, Unread, Passed, Found, Ended};
 ghost use Rattle.hash_core.specs.declared.view.View.{View};
 ghost use Rattle.hash_core.specs.Slots.{is_slot_of};
 ghost use Rattle.hash_core.specs.Steps.{IsQuiet};

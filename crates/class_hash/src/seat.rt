@@ -6,7 +6,7 @@ ghost use Rattle.hash_core.specs.declared.view.Hold.{Hold};
 ghost use Rattle.hash_core.specs.declared.words.Field.TheVariants.{Front, Retired};
 ghost use Rattle.hash_core.specs.declared.words.Kind.TheVariants.{H2};
 ghost use Rattle.hash_core.specs.Known.{known_in};
-ghost use Rattle.hash_core.specs.Steps.{IsQuiet, first_of, second_of, both_of, trod};
+ghost use Rattle.hash_core.specs.Steps.{IsQuiet, first_of, second_of, both_of, stepped};
 ghost use Rattle.class_hash.specs.Answers.{IsInformed};
 
 use crate::rule::Nothing;
@@ -132,7 +132,7 @@ impl HashSeat {
         requires table { (self.table ≡ table.now.id) × (other.table ≡ table.now.id) }
         requires quiet { IsQuiet self.view × IsQuiet other.view }
         ensures table { result.table ≡ self.table }
-        ensures view { (front : ℕ) × (result.view ≡ trod (both_of self.view other.view) H2 Front front) }
+        ensures view { (front : ℕ) × (result.view ≡ stepped (both_of self.view other.view) H2 Front front) }
         ensures seen { IsPrefix self.view.seen result.view.seen × IsPrefix other.view.seen result.view.seen }
         ensures informed { IsInformed table.now.places result.view }
     {
@@ -145,7 +145,7 @@ fn glued<A: Detail>(mine: HashSeat, table: &HashTable, other: HashSeat) -> HashS
     requires table { (mine.table ≡ table.now.id) × (other.table ≡ table.now.id) }
     requires quiet { IsQuiet mine.view × IsQuiet other.view }
     ensures table { result.table ≡ mine.table }
-    ensures view { (front : ℕ) × (result.view ≡ trod (both_of mine.view other.view) H2 Front front) }
+    ensures view { (front : ℕ) × (result.view ≡ stepped (both_of mine.view other.view) H2 Front front) }
     ensures informed { IsInformed table.now.places result.view }
 {
     let HashSeat {

@@ -20,7 +20,7 @@ pub(crate) fn lock_bucket<R: Wait>(rt: &R, table: &HashTable, seat: &mut HashSea
     requires class { class < 64 }
     ensures table { seat.new.table ≡ seat.old.table }
     ensures view { HasLocked seat.old.view class seat.new.view }
-    ensures turn { seat.old.view.turn ≡ None }
+    ensures commit { seat.old.view.commit ≡ None }
 {
     let backoff = Backoff::new();
     for _ in rt.forever() {
@@ -33,7 +33,7 @@ pub(crate) fn lock_bucket<R: Wait>(rt: &R, table: &HashTable, seat: &mut HashSea
 }
 
 /// Makes the front odd, as soon as it is even, and answers what it was.
-pub(crate) fn turn_front<R: Wait>(rt: &R, table: &HashTable, seat: &mut HashSeat) -> u64
+pub(crate) fn open_commit<R: Wait>(rt: &R, table: &HashTable, seat: &mut HashSeat) -> u64
     requires table { seat.old.table ≡ table.now.id }
     requires held { (hold : Hold) × (seat.old.view.hold ≡ Some hold) }
     ensures table { seat.new.table ≡ seat.old.table }
@@ -68,7 +68,7 @@ pub(crate) fn replace<R: Wait>(
     ensures informed { IsInformed table.now.places seat.new.view }
 {
     let old = h9(table, seat, Field::Value { slot });
-    let even = turn_front(rt, table, seat);
+    let even = open_commit(rt, table, seat);
     h15(table, seat, even, slot, key, value);
     h16(table, seat, even);
     h7(table, seat);
@@ -103,7 +103,7 @@ pub(crate) fn unlink<R: Wait>(
     let class = seat.class_held();
     let next = h9(table, seat, Field::Next { slot });
     let first = h9(table, seat, Field::Retired { class });
-    let even = turn_front(rt, table, seat);
+    let even = open_commit(rt, table, seat);
     h14(
         table,
         seat,

@@ -11,7 +11,7 @@ use Rattle.list_laws.specs.Counts.{total}
 use Rattle.hash_core.specs.Memory.{Memory}
 use Rattle.prcu_model.specs.Marks.{updates_of, entered_at}
 use Rattle.hash_core.specs.Buckets.{Bucket, IsLocked, inside_count, IsFreeOfReaders}
-use Rattle.hash_core.specs.Seats.{AreSeen, AreApart, AreOwned, HasNoTurn, IsTurned}
+use Rattle.hash_core.specs.Seats.{AreSeen, AreApart, AreOwned, HasNoCommit, IsTurned}
 use Rattle.hash_core.specs.Steps.{IsQuiet}
 use Rattle.hash_core.specs.Rule.{BucketRule, MemoryRule}
 use Rattle.prcu_model.proofs.ListFacts.{all_map}
@@ -19,12 +19,12 @@ use Rattle.list_laws.proofs.Lists.{at_one}
 
 -- Each view that isn't quiet stands where it stood, and the open sections of each class are as many.
 pub record SameBusy (vs vs' : List View) : Type 0 where
-  pub back : (j : ℕ) (u : View) → get_elem? vs' j ≡ some u → (get_elem? vs j ≡ some u) ⊎ (IsQuiet u × HasNoTurn u)
+  pub back : (j : ℕ) (u : View) → get_elem? vs' j ≡ some u → (get_elem? vs j ≡ some u) ⊎ (IsQuiet u × HasNoCommit u)
   pub forth : (j : ℕ) (u : View) → get_elem? vs j ≡ some u → (get_elem? vs' j ≡ some u) ⊎ IsQuiet u
   pub count : (c : ℕ) → total (λ v. inside_count c v.section) vs' ≡ total (λ v. inside_count c v.section) vs
 
--- who holds no lock has no turn
-pub quiet_turn : (m : Memory) (vs : List View) (count : ℕ) → IsTurned m vs count → (id : ℕ) (v : View) → get_elem? vs id ≡ some v → v.hold ≡ None → HasNoTurn v
+-- who holds no lock has no commit
+pub quiet_turn : (m : Memory) (vs : List View) (count : ℕ) → IsTurned m vs count → (id : ℕ) (v : View) → get_elem? vs id ≡ some v → v.hold ≡ None → HasNoCommit v
 quiet_turn m vs count (inl even) id v at free = even.1 id v at
 quiet_turn m vs count (inr odd) id v at free = odd.9 id v
     (λ e.

@@ -18,7 +18,7 @@ use Rattle.prcu_model.specs.Marks.{own_of, open_at, entered_at}
 use Rattle.hash_core.specs.Buckets.{Bucket, HoldsOther, IsFreeOfReaders}
 use Rattle.prcu_model.specs.Dictionary.{WasSaid}
 use Rattle.hash_core.specs.Readers.{WillAnswer}
-use Rattle.hash_core.specs.Seats.{HasHeard, AnswersFor, open_of, HasNoTurn}
+use Rattle.hash_core.specs.Seats.{HasHeard, AnswersFor, open_of, HasNoCommit}
 use Rattle.hash_core.specs.Steps.{places_from}
 use Rattle.hash_core.specs.Fresh.{first_view, first_slot, slot_after, IsFresh}
 use Rattle.hash_core.specs.Rule.{BucketRule, IsShape, MemoryRule}
@@ -102,7 +102,7 @@ module _ (capacities : List ℕ) (places tickets : ℕ) (shape : IsShape capacit
       counted = record { readers = let none = fresh.readers c small in omega arith };
       clean = record { free = all_from_times (IsFreeOfReaders c [] one_view) (first_bucket c).free (λ s _. all_free s); moved = tt; clear = λ hold is clear s of. all_free s };
       answered = record {
-        readers = λ j u section there is class. each_view (λ k z. z.section ≡ Some section → WillAnswer capacities c m [] [] [] section section.stand) (λ mine. absurd (cc)) j u there is;
+        readers = λ j u section there is class. each_view (λ k z. z.section ≡ Some section → WillAnswer capacities c m [] [] [] section section.state) (λ mine. absurd (cc)) j u there is;
         loaded = λ j u section value there is class read. each_view (λ k z. z.section ≡ Some section → WasSaid [] section.key section.from (Some value)) (λ mine. absurd (cc)) j u there is;
       };
     }
@@ -134,7 +134,7 @@ module _ (capacities : List ℕ) (places tickets : ℕ) (shape : IsShape capacit
       all = λ p o is. absurd (cc);
     };
     held = record { held = λ j u hold there is. each_view (λ k z. z.hold ≡ Some hold → (hold.class < 64) × (1 ≤ z.places)) (λ mine. absurd (cc)) j u there is };
-    turned = inl (let zero_front = fresh.front in omega arith, each_view (λ j u. HasNoTurn u) refl);
+    turned = inl (let zero_front = fresh.front in omega arith, each_view (λ j u. HasNoCommit u) refl);
     tickets_are = omega arith;
     legal = tt;
     reuse = λ j s c i p o given. absurd (cc);

@@ -12,8 +12,8 @@ use Rattle.prcu_model.specs.declared.operation.Update.{Update}
 use Rattle.prcu_model.specs.Dictionary.{map_of}
 use Rattle.hash_core.specs.declared.words.Field.{Field}
 use Rattle.hash_core.specs.declared.words.Field.TheVariants.{Lock, Readers, Head, Free, Retired, Key, Value, Next, Chain}
-use Rattle.hash_core.specs.declared.view.Stand.{Stand}
-use Rattle.hash_core.specs.declared.view.Stand.TheVariants.{Start, Unread, Passed, Found, Ended}
+use Rattle.hash_core.specs.declared.view.SearchState.{SearchState}
+use Rattle.hash_core.specs.declared.view.SearchState.TheVariants.{Start, Unread, Passed, Found, Ended}
 use Rattle.hash_core.specs.declared.view.Section.{Section}
 use Rattle.hash_core.specs.declared.view.Hold.{Hold}
 use Rattle.hash_core.specs.declared.view.View.{View}
@@ -171,7 +171,7 @@ module _ (capacities : List ℕ) (c : ℕ) (m m' : Memory) (h h' : List Mark) (u
       (λ in_olds. all_times (λ t. is_slot_of capacities c t ≡ true) way.olds slot way.slots in_olds)
       (λ not_olds. let cut = times_append slot way.front way.rest in let whole = ap (times slot) way.joins in chain_slot capacities c b roles slot (omega arith))
 
-  pub still_answer : (section : Section) (stand : Stand) → WillAnswer capacities c m h us b.chain section stand → WillAnswer capacities c m' h' us' b.chain section stand
+  pub still_answer : (section : Section) (state : SearchState) → WillAnswer capacities c m h us b.chain section state → WillAnswer capacities c m' h' us' b.chain section state
   still_answer section Start a = tt
   still_answer section (Unread s) a = still_way section s a
   still_answer section (Passed s) a = (still_way section s a.0, λ e. a.1 (sym (slots s (way_slot section s a.0)).0 ∙ e))
@@ -291,9 +291,9 @@ module _ (capacities : List ℕ) (c : ℕ) (m m' : Memory) (h h' : List Mark) (u
   frame_answered : AreAnswered capacities c m' h' us' (set vs id w) b.chain
   frame_answered = record {
     readers = λ j u section there is class.
-        each_set (λ k z. z.section ≡ Some section → WillAnswer capacities c m' h' us' b.chain section section.stand) vs id w
-        (λ mine. still_answer capacities c m m' h h' us us' b words.slots marks r.roles section section.stand (r.answered.readers id v section at (section_back c v.section w.section section view.section mine class) class))
-        (λ k z other e theirs. still_answer capacities c m m' h h' us us' b words.slots marks r.roles section section.stand (r.answered.readers k z section e theirs class)) j u there is;
+        each_set (λ k z. z.section ≡ Some section → WillAnswer capacities c m' h' us' b.chain section section.state) vs id w
+        (λ mine. still_answer capacities c m m' h h' us us' b words.slots marks r.roles section section.state (r.answered.readers id v section at (section_back c v.section w.section section view.section mine class) class))
+        (λ k z other e theirs. still_answer capacities c m m' h h' us us' b words.slots marks r.roles section section.state (r.answered.readers k z section e theirs class)) j u there is;
     loaded = λ j u section value there is class read.
         each_set (λ k z. z.section ≡ Some section → WasSaid us' section.key section.from (Some value)) vs id w
         (λ mine. still_said capacities c m m' h h' us us' b words.slots marks r.roles section.key section.from (Some value) (r.answered.loaded id v section value at (section_back c v.section w.section section view.section mine class) class read))

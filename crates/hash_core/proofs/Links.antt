@@ -13,8 +13,8 @@ use Rattle.prcu_model.specs.declared.operation.Update.{Update}
 use Rattle.prcu_model.specs.Dictionary.{updated, map_of, key_of}
 use Rattle.prcu_model.proofs.Fronts.{map_of-push}
 use Rattle.hash_core.specs.declared.words.Field.TheVariants.{Head, Key, Value, Next}
-use Rattle.hash_core.specs.declared.view.Stand.{Stand}
-use Rattle.hash_core.specs.declared.view.Stand.TheVariants.{Start, Unread, Passed, Found, Ended}
+use Rattle.hash_core.specs.declared.view.SearchState.{SearchState}
+use Rattle.hash_core.specs.declared.view.SearchState.TheVariants.{Start, Unread, Passed, Found, Ended}
 use Rattle.hash_core.specs.declared.view.Section.{Section}
 use Rattle.hash_core.specs.declared.view.Hold.{Hold}
 use Rattle.hash_core.specs.declared.view.View.{View}
@@ -29,7 +29,7 @@ use Rattle.hash_core.specs.Buckets.{Bucket, seek, IsFreeOfReaders, taken_of, unl
 use Rattle.prcu_model.specs.Dictionary.{WasSaid}
 use Rattle.hash_core.specs.Readers.{AreAnswered, WillAnswer, IsHeldBack, HasWay}
 use Rattle.hash_core.specs.Seats.{open_of}
-use Rattle.hash_core.specs.Steps.{Needs13, after13, Needs15, after15}
+use Rattle.hash_core.specs.Steps.{NeedsLock, after_lock, Needs15, after15}
 use Rattle.hash_core.specs.Rule.{BucketRule, MemoryRule}
 use Rattle.prcu_model.proofs.ListFacts.{all_map}
 use Rattle.list_laws.proofs.Lists.{each_set, all_times}
@@ -76,14 +76,14 @@ module _ (capacities : List ℕ) (places tickets : ℕ) (m : Memory) (vs : List 
 
   -- readers' answers after a step of a view that stays in its section
   pub answered_from : (w : View) → w.section ≡ v.section → (m' : Memory) (h' : List Mark) (us' : List Update) (chain' : List ℕ)
-      → ((section : Section) → section.entered < length h → section.from ≤ length (updates_of h) → section.key % 64 ≡ hold.class → (stand : Stand) → WillAnswer capacities hold.class m h (updates_of h) (r.bucket hold.class).chain section stand → WillAnswer capacities hold.class m' h' us' chain' section stand)
+      → ((section : Section) → section.entered < length h → section.from ≤ length (updates_of h) → section.key % 64 ≡ hold.class → (state : SearchState) → WillAnswer capacities hold.class m h (updates_of h) (r.bucket hold.class).chain section state → WillAnswer capacities hold.class m' h' us' chain' section state)
       → ((section : Section) (answer : Option ℕ) → WasSaid (updates_of h) section.key section.from answer → WasSaid us' section.key section.from answer)
       → AreAnswered capacities hold.class m' h' us' (set vs id w) chain'
   answered_from w same m' h' us' chain' will said =
-      let each : (j : ℕ) (u : View) (section : Section) → get_elem? vs j ≡ some u → u.section ≡ Some section → section.key % 64 ≡ hold.class → WillAnswer capacities hold.class m' h' us' chain' section section.stand = λ j u section there is class.
-      let b = section_bounds j u section there is in will section b.0 b.1 class section.stand (bucket_rule.answered.readers j u section there is class) in
+      let each : (j : ℕ) (u : View) (section : Section) → get_elem? vs j ≡ some u → u.section ≡ Some section → section.key % 64 ≡ hold.class → WillAnswer capacities hold.class m' h' us' chain' section section.state = λ j u section there is class.
+      let b = section_bounds j u section there is in will section b.0 b.1 class section.state (bucket_rule.answered.readers j u section there is class) in
       record {
-        readers = λ j u section there is class. each_set (λ k z. z.section ≡ Some section → WillAnswer capacities hold.class m' h' us' chain' section section.stand) vs id w
+        readers = λ j u section there is class. each_set (λ k z. z.section ≡ Some section → WillAnswer capacities hold.class m' h' us' chain' section section.state) vs id w
             (λ yes. each id v section at (sym same ∙ yes) class) (λ k z far e theirs. each k z section e theirs class) j u there is;
         loaded = λ j u section value there is class read. each_set (λ k z. z.section ≡ Some section → WasSaid us' section.key section.from (Some value)) vs id w
             (λ yes. said section (Some value) (bucket_rule.answered.loaded id v section value at (sym same ∙ yes) class read)) (λ k z far e theirs. said section (Some value) (bucket_rule.answered.loaded k z section value e theirs class read)) j u there is;
@@ -134,7 +134,7 @@ module _ (capacities : List ℕ) (places tickets : ℕ) (m : Memory) (vs : List 
     get_done_other key ne = get_done key ∙ get-updated_other (map_of (updates_of h)) op key ne
 
   -- H13
-  module _ (even slot key value first : ℕ) (needs : Needs13 v hold even slot key value first) where
+  module _ (even slot key value first : ℕ) (needs : NeedsLock v hold even slot key value first) where
     abbrev new13 : Hold
     new13 = record (knowing hold (Head hold.class) slot) { taken = None }
 
@@ -145,7 +145,7 @@ module _ (capacities : List ℕ) (places tickets : ℕ) (m : Memory) (vs : List 
     h13 = h ++ Done (record { caller = v.place; op = Put key value }) ∷ []
 
     abbrev w13 : View
-    w13 = after13 v hold even slot key value h
+    w13 = after_lock v hold even slot key value h
 
     is_key13 : m (Key slot) ≡ key
     is_key13 = (is_known capacities places tickets m vs h r id v at hold mine (Key slot) key needs.key_is).1
@@ -174,11 +174,11 @@ module _ (capacities : List ℕ) (places tickets : ℕ) (m : Memory) (vs : List 
     distinct13 : HaveDistinctKeys m13 (slot ∷ chain_now)
     distinct13 = (seek-same m m13 (m (Key slot)) chain_now (λ s _. (refl, refl)) ∙ ap (λ z. seek m z chain_now) is_key13 ∙ nothing13, HaveDistinctKeys-same m m13 chain_now (λ s _. (refl, refl)) bucket_rule.chained.distinct)
 
-    pub law13 : MemoryRule capacities places tickets m13 (set vs id (after13 v hold even slot key value h)) h13
+    pub law13 : MemoryRule capacities places tickets m13 (set vs id (after_lock v hold even slot key value h)) h13
     law13 =
         let held : (r.bucket hold.class).hold ≡ Some hold = had capacities places tickets m vs h r id v at hold mine in
         after_step capacities places tickets m vs h r id v w13 at m13 h13
-        (seats_updated capacities places tickets m vs h r id v at hold mine even needs.turn (Put key value) new13 refl m13 refl [] (done_longer even (Put key value)) (λ p. refl) (done_open even (Put key value)) (done_entered even (Put key value)) (done_reuse even (Put key value)) absent13)
+        (seats_updated capacities places tickets m vs h r id v at hold mine even needs.commit (Put key value) new13 refl m13 refl [] (done_longer even (Put key value)) (λ p. refl) (done_open even (Put key value)) (done_entered even (Put key value)) (done_reuse even (Put key value)) absent13)
         hold.class b13
         (λ _. record {
           chained = record {
@@ -209,13 +209,13 @@ module _ (capacities : List ℕ) (places tickets : ℕ) (m : Memory) (vs : List 
             clear = λ other is yes s of. let e : new13 ≡ other = cc in free_done even (Put key value) w13 refl s (bucket_rule.clean.clear hold held (ap (λ (z : Hold). z.clear) e ∙ yes) s of);
           };
           answered = answered_from w13 refl m13 h13 (updates_of h13) (slot ∷ chain_now)
-              (λ section entered from class stand. will_still capacities hold.class m m13 h h13 (updates_of h) (updates_of h13) chain_now (slot ∷ chain_now) section (record {
+              (λ section entered from class state. will_still capacities hold.class m m13 h h13 (updates_of h) (updates_of h13) chain_now (slot ∷ chain_now) section (record {
                 linked = λ t _. (refl, refl, refl);
                 old = λ t _ _. (refl, refl, refl);
                 held = λ t _ p. (p.0, done_gone even (Put key value) t ∙ p.1, p.2);
                 joins = λ front rest e. (slot ∷ front, ap (λ z. slot ∷ z) e);
                 said = said_done even (Put key value) section;
-              }) stand)
+              }) state)
               (said_done even (Put key value));
         })
         (λ d _ ne. record {
@@ -312,7 +312,7 @@ module _ (capacities : List ℕ) (places tickets : ℕ) (m : Memory) (vs : List 
       said = said_way15 section from (way.olds ++ way.rest) way.said;
     }
 
-    will15 : (section : Section) → section.from ≤ length (updates_of h) → (stand : Stand) → WillAnswer capacities hold.class m h (updates_of h) chain_now section stand → WillAnswer capacities hold.class m15 h15 (updates_of h15) chain_now section stand
+    will15 : (section : Section) → section.from ≤ length (updates_of h) → (state : SearchState) → WillAnswer capacities hold.class m h (updates_of h) chain_now section state → WillAnswer capacities hold.class m15 h15 (updates_of h15) chain_now section state
     will15 section from Start a = tt
     will15 section from (Unread s) a = way15 section from s a
     will15 section from (Passed s) a = (way15 section from s a.0, a.1)
@@ -324,7 +324,7 @@ module _ (capacities : List ℕ) (places tickets : ℕ) (m : Memory) (vs : List 
         let held : (r.bucket hold.class).hold ≡ Some hold = had capacities places tickets m vs h r id v at hold mine in
         let gone : (s : ℕ) → gone_at s h15 ≡ gone_at s h = done_gone even (Set key value) in
         after_step capacities places tickets m vs h r id v w15 at m15 h15
-        (seats_updated capacities places tickets m vs h r id v at hold mine even needs.turn (Set key value) new15 refl m15 refl [] (done_longer even (Set key value)) (λ p. refl) (done_open even (Set key value)) (done_entered even (Set key value)) (done_reuse even (Set key value)) present15)
+        (seats_updated capacities places tickets m vs h r id v at hold mine even needs.commit (Set key value) new15 refl m15 refl [] (done_longer even (Set key value)) (λ p. refl) (done_open even (Set key value)) (done_entered even (Set key value)) (done_reuse even (Set key value)) present15)
         hold.class (record (r.bucket hold.class) { hold = Some new15 })
         (λ _. record {
           chained = record { path = bucket_rule.chained.path; classes = bucket_rule.chained.classes; distinct = distinct15 chain_now bucket_rule.chained.distinct };
@@ -346,7 +346,7 @@ module _ (capacities : List ℕ) (places tickets : ℕ) (m : Memory) (vs : List 
             moved = all_map (IsFreeOfReaders hold.class h vs) (IsFreeOfReaders hold.class h15 (set vs id w15)) (r.bucket hold.class).moved (free_done even (Set key value) w15 refl) bucket_rule.clean.moved;
             clear = λ other is yes s of. let e : new15 ≡ other = cc in free_done even (Set key value) w15 refl s (bucket_rule.clean.clear hold held (ap (λ (z : Hold). z.clear) e ∙ yes) s of);
           };
-          answered = answered_from w15 refl m15 h15 (updates_of h15) chain_now (λ section entered from class stand. will15 section from stand) (said_done even (Set key value));
+          answered = answered_from w15 refl m15 h15 (updates_of h15) chain_now (λ section entered from class state. will15 section from state) (said_done even (Set key value));
         })
         (λ d _ ne. record {
           words = class_words capacities hold.class d m value ne (Value slot) slot_of15;

@@ -11,7 +11,7 @@ use Rattle.hash_core.specs.declared.words.Field.{Field}
 use Rattle.hash_core.specs.declared.words.Field.TheVariants.{Front, Lock, Readers, Chain}
 use Rattle.hash_core.specs.declared.view.Section.{Section}
 use Rattle.hash_core.specs.declared.view.Hold.{Hold}
-use Rattle.hash_core.specs.declared.view.Turn.{Turn}
+use Rattle.hash_core.specs.declared.view.Commit.{Commit}
 use Rattle.hash_core.specs.declared.view.View.{View}
 use Rattle.list_laws.specs.Counts.{times}
 use Rattle.hash_core.specs.Lists.{IsPath}
@@ -22,8 +22,8 @@ use Rattle.hash_core.specs.Known.{known_in, knowing}
 use Rattle.hash_core.specs.Buckets.{Bucket, inside_count, AreCounted, HoldsOther, IsLocked, AreClean, IsFreeOfReaders, HaveOneRole, taken_of, unlinked_of, moved_of, link_of}
 use Rattle.prcu_model.specs.Dictionary.{WasSaid}
 use Rattle.hash_core.specs.Readers.{AreAnswered, WillAnswer}
-use Rattle.hash_core.specs.Seats.{HasNoTurn, updates_by, IsTurned, AreOwned, AreSeen}
-use Rattle.hash_core.specs.Steps.{IsQuiet, fresh_hold, Needs7, after7, Needs12, Needs16, after16}
+use Rattle.hash_core.specs.Seats.{HasNoCommit, updates_by, IsTurned, AreOwned, AreSeen}
+use Rattle.hash_core.specs.Steps.{IsQuiet, fresh_hold, NeedsBegin, after_begin, Needs12, NeedsCountFree, after_count_free}
 use Rattle.hash_core.specs.Rule.{BucketRule, MemoryRule}
 use Rattle.prcu_model.proofs.ListFacts.{prefix_self, all_map}
 use Rattle.list_laws.proofs.Lists.{at_below, at_one, each_set, total_set, total_part}
@@ -48,9 +48,9 @@ module _ (capacities : List ℕ) (c : ℕ) (m : Memory) (h : List Mark) (vs : Li
   pub answered_still : (m' : Memory) (b : Bucket) → SameSlots capacities c m m' → HaveOneRole capacities c b → AreAnswered capacities c m h (updates_of h) vs b.chain → AreAnswered capacities c m' h (updates_of h) (set vs id w) b.chain
   answered_still m' b slots roles answered =
       let us : List Update = updates_of h in
-      let will : (section : Section) → WillAnswer capacities c m h us b.chain section section.stand → WillAnswer capacities c m' h us b.chain section section.stand = λ section. still_answer capacities c m m' h h us us b slots (same_marks capacities c h) roles section section.stand in
+      let will : (section : Section) → WillAnswer capacities c m h us b.chain section section.state → WillAnswer capacities c m' h us b.chain section section.state = λ section. still_answer capacities c m m' h h us us b slots (same_marks capacities c h) roles section section.state in
       record {
-        readers = λ j u section there is class. each_set (λ k z. z.section ≡ Some section → WillAnswer capacities c m' h us b.chain section section.stand) vs id w
+        readers = λ j u section there is class. each_set (λ k z. z.section ≡ Some section → WillAnswer capacities c m' h us b.chain section section.state) vs id w
             (λ mine. will section (answered.readers id v section at (sym same ∙ mine) class)) (λ k z far e theirs. will section (answered.readers k z section e theirs class)) j u there is;
         loaded = λ j u section value there is class read. each_set (λ k z. z.section ≡ Some section → WasSaid us section.key section.from (Some value)) vs id w
             (λ mine. answered.loaded id v section value at (sym same ∙ mine) class read) (λ k z far e theirs. answered.loaded k z section value e theirs class read) j u there is;
@@ -100,8 +100,8 @@ module _ (capacities : List ℕ) (places tickets : ℕ) (m : Memory) (vs : List 
           sections = refl;
           back = section_back v w6 refl;
           forth = section_forth v w6 refl;
-          turn = refl;
-          kept = λ turn hold is held. (fresh_hold c, refl);
+          commit = refl;
+          kept = λ commit hold is held. (fresh_hold c, refl);
           held = λ hold is. let e : fresh_hold c ≡ hold = cc in (subst (λ (z : Hold). z.class < 64) e small, place);
           own = refl;
           heard = refl;
@@ -145,9 +145,9 @@ module _ (capacities : List ℕ) (places tickets : ℕ) (m : Memory) (vs : List 
         })
 
   -- H7
-  module _ (hold : Hold) (needs : Needs7 v hold) where
+  module _ (hold : Hold) (needs : NeedsBegin v hold) where
     abbrev w7 : View
-    w7 = after7 v
+    w7 = after_begin v
 
     abbrev m7 : Memory
     m7 = stored m (Lock hold.class) 0
@@ -163,8 +163,8 @@ module _ (capacities : List ℕ) (places tickets : ℕ) (m : Memory) (vs : List 
           sections = refl;
           back = section_back v w7 refl;
           forth = section_forth v w7 refl;
-          turn = refl;
-          kept = λ turn held is mine. absurd (let z : Some turn ≡ None = sym is ∙ needs.4 in cc);
+          commit = refl;
+          kept = λ commit held is mine. absurd (let z : Some commit ≡ None = sym is ∙ needs.4 in cc);
           held = λ other is. absurd (cc);
           own = refl;
           heard = refl;
@@ -269,8 +269,8 @@ module _ (capacities : List ℕ) (places tickets : ℕ) (m : Memory) (vs : List 
           sections = refl;
           back = section_back v w8 refl;
           forth = section_forth v w8 refl;
-          turn = refl;
-          kept = λ turn held is had. (new8, refl);
+          commit = refl;
+          kept = λ commit held is had. (new8, refl);
           held = λ other is. let e : new8 ≡ other = cc in (subst (λ (z : Hold). z.class < 64) e (class_small hold mine), works hold mine);
           own = refl;
           heard = refl;
@@ -328,7 +328,7 @@ module _ (capacities : List ℕ) (places tickets : ℕ) (m : Memory) (vs : List 
           owned = subst (AreOwned places (set vs id w9)) (append-nil h) (owned_same vs id v w9 at places h [] (record { place = refl; places = refl; joined = refl }) refl (met9 see refl) no_marks r.owned);
           sections = open_same vs id v w9 at h h (updates_of h) (updates_of h) refl refl refl (section_back v w9 refl) (section_forth v w9 refl) (λ p. refl) (λ p. refl) (omega arith) r.sections;
           held = held_still vs id v w9 at (λ other is. let e : new9 ≡ other = cc in (subst (λ (z : Hold). z.class < 64) e (class_small hold mine), works hold mine)) r.held;
-          turned = turned_same vs id v w9 at m m (length (updates_of h)) refl refl (λ turn held is had. (new9, refl)) r.turned;
+          turned = turned_same vs id v w9 at m m (length (updates_of h)) refl refl (λ commit held is had. (new9, refl)) r.turned;
           tickets_are = tickets_same capacities places tickets m vs h r id v w9 at m refl;
           legal = r.legal;
           reuse = r.reuse;
@@ -356,11 +356,11 @@ module _ (capacities : List ℕ) (places tickets : ℕ) (m : Memory) (vs : List 
 
   -- H12, where the front was the even number
   module _ (hold : Hold) (even : ℕ) (needs : Needs12 v hold even) (found : m Front ≡ even) where
-    abbrev turn12 : Turn
+    abbrev turn12 : Commit
     turn12 = record { found = even; stored = false }
 
     abbrev w12 : View
-    w12 = record v { turn = Some turn12 }
+    w12 = record v { commit = Some turn12 }
 
     abbrev m12 : Memory
     m12 = stored m Front (even + 1)
@@ -379,7 +379,7 @@ module _ (capacities : List ℕ) (places tickets : ℕ) (m : Memory) (vs : List 
           needs.0,
           refl,
           (let a = free.0 in omega arith),
-          λ j u ne there. each_set (λ k z. k ≢ id → HasNoTurn z) vs id w12 (λ f. absurd (f refl)) (λ k z far e _. free.1 k z e) j u there ne,
+          λ j u ne there. each_set (λ k z. k ≢ id → HasNoCommit z) vs id w12 (λ f. absurd (f refl)) (λ k z far e _. free.1 k z e) j u there ne,
         )
         turn_case (inr odd) = absurd (let a = odd.7 in let b = odd.8 in let z = needs.1 in parity odd.2.stored odd.2.found b a)
           where
@@ -403,9 +403,9 @@ module _ (capacities : List ℕ) (places tickets : ℕ) (m : Memory) (vs : List 
         (λ d _. record { words = front_words capacities d m (even + 1); marks = same_marks capacities d h; view = record { place = refl; section = same_section d v.section; hold = same_hold d v.hold } })
 
   -- H16
-  module _ (even : ℕ) (needs : Needs16 v even) where
+  module _ (even : ℕ) (needs : NeedsCountFree v even) where
     abbrev w16 : View
-    w16 = after16 v
+    w16 = after_count_free v
 
     abbrev m16 : Memory
     m16 = stored m Front (even + 2)
@@ -418,14 +418,14 @@ module _ (capacities : List ℕ) (places tickets : ℕ) (m : Memory) (vs : List 
         turn_case (inr odd) =
             let me : id ≡ odd.0 = dite (ℕ_discrete id odd.0) (λ q. q) (λ q. absurd (let z : Some (record { found = even; stored = true }) ≡ None = sym needs ∙ odd.9 id v q at in cc)) in
             let same : v ≡ odd.1 = at_one vs id v odd.1 at (subst (λ k. get_elem? vs k ≡ some odd.1) (sym me) odd.4) in
-            let turn : Some (record { found = even; stored = true }) ≡ Some odd.2 = sym needs ∙ ap (λ (z : View). z.turn) same ∙ odd.5 in
-            let by : updates_by (record { found = even; stored = true }) ≡ updates_by odd.2 = ap (λ (o : Option Turn). turn_updates o) turn in
+            let commit : Some (record { found = even; stored = true }) ≡ Some odd.2 = sym needs ∙ ap (λ (z : View). z.commit) same ∙ odd.5 in
+            let by : updates_by (record { found = even; stored = true }) ≡ updates_by odd.2 = ap (λ (o : Option Commit). turn_updates o) commit in
             inl (
               (let b = odd.8 in omega arith),
-              λ j u there. each_set (λ k z. HasNoTurn z) vs id w16 refl (λ k z far e. odd.9 k z (λ f. far (f ∙ sym me)) e) j u there,
+              λ j u there. each_set (λ k z. HasNoCommit z) vs id w16 refl (λ k z far e. odd.9 k z (λ f. far (f ∙ sym me)) e) j u there,
             )
           where
-            turn_updates : Option Turn → ℕ
+            turn_updates : Option Commit → ℕ
             turn_updates None = 0
             turn_updates (Some t) = updates_by t
 

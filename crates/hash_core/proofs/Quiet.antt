@@ -8,13 +8,13 @@ use Rattle.hash_core.specs.declared.words.Field.TheVariants.{Front}
 use Rattle.hash_core.specs.declared.words.Kind.{Kind}
 use Rattle.hash_core.specs.declared.view.Section.{Section}
 use Rattle.hash_core.specs.declared.view.Hold.{Hold}
-use Rattle.hash_core.specs.declared.view.Turn.{Turn}
+use Rattle.hash_core.specs.declared.view.Commit.{Commit}
 use Rattle.hash_core.specs.declared.view.View.{View}
 use Rattle.list_laws.specs.Counts.{total}
 use Rattle.hash_core.specs.Memory.{Memory}
 use Rattle.prcu_model.specs.Marks.{updates_of, own_of}
 use Rattle.hash_core.specs.Seats.{open_of, AreOwned}
-use Rattle.hash_core.specs.Steps.{trod}
+use Rattle.hash_core.specs.Steps.{stepped}
 use Rattle.hash_core.specs.Rule.{MemoryRule}
 use Rattle.list_laws.proofs.Lists.{at_below, total_set, set_twice}
 use Rattle.atomic_table.proofs.Lists.{set_here}
@@ -30,8 +30,8 @@ pub record SameSeat (v w : View) : Type 0 where
   pub sections : w.sections ≡ v.sections
   pub back : (section : Section) → w.section ≡ Some section → (old : Section) × (v.section ≡ Some old) × (open_of section ≡ open_of old) × (section.from ≡ old.from)
   pub forth : (section : Section) → v.section ≡ Some section → (new : Section) × (w.section ≡ Some new) × (open_of section ≡ open_of new)
-  pub turn : w.turn ≡ v.turn
-  pub kept : (turn : Turn) (hold : Hold) → v.turn ≡ Some turn → v.hold ≡ Some hold → (k : Hold) × (w.hold ≡ Some k)
+  pub commit : w.commit ≡ v.commit
+  pub kept : (commit : Commit) (hold : Hold) → v.commit ≡ Some commit → v.hold ≡ Some hold → (k : Hold) × (w.hold ≡ Some k)
   pub held : (hold : Hold) → w.hold ≡ Some hold → (hold.class < 64) × (1 ≤ w.places)
   pub own : w.own ≡ v.own
   pub heard : w.heard ≡ v.heard
@@ -69,17 +69,17 @@ module _ (capacities : List ℕ) (places tickets : ℕ) (m : Memory) (vs : List 
     owned = subst (λ z. AreOwned places (set vs id w) z) (append-nil h) (owned_same vs id v w at places h [] same.places same.own (inl seen) no_marks r.owned);
     sections = open_same vs id v w at h h (updates_of h) (updates_of h) same.places.place same.places.places same.sections same.back same.forth (λ p. refl) (λ p. refl) (omega arith) r.sections;
     held = held_still vs id v w at same.held r.held;
-    turned = turned_same vs id v w at m m' (length (updates_of h)) front same.turn same.kept r.turned;
+    turned = turned_same vs id v w at m m' (length (updates_of h)) front same.commit same.kept r.turned;
     tickets_are = tickets_same same.tickets;
     legal = r.legal;
     reuse = r.reuse;
   }
 
 -- the trail is read by no part
-pub law_trod : (capacities : List ℕ) (places tickets : ℕ) (m : Memory) (vs : List View) (h : List Mark) → MemoryRule capacities places tickets m vs h → (id : ℕ) (v : View) → get_elem? vs id ≡ some v → (kind : Kind) (field : Field) (number : ℕ)
-    → MemoryRule capacities places tickets m (set vs id (trod v kind field number)) h
-law_trod capacities places tickets m vs h r id v at kind field number =
-    let w : View = trod v kind field number in
+pub law_stepped : (capacities : List ℕ) (places tickets : ℕ) (m : Memory) (vs : List View) (h : List Mark) → MemoryRule capacities places tickets m vs h → (id : ℕ) (v : View) → get_elem? vs id ≡ some v → (kind : Kind) (field : Field) (number : ℕ)
+    → MemoryRule capacities places tickets m (set vs id (stepped v kind field number)) h
+law_stepped capacities places tickets m vs h r id v at kind field number =
+    let w : View = stepped v kind field number in
     after_quiet capacities places tickets m vs h r id v w at m h
     (seats_same capacities places tickets m vs h r id v w at m
     (record {
@@ -88,8 +88,8 @@ law_trod capacities places tickets m vs h r id v at kind field number =
       sections = refl;
       back = section_back v w refl;
       forth = section_forth v w refl;
-      turn = refl;
-      kept = λ turn hold is held. (hold, held);
+      commit = refl;
+      kept = λ commit hold is held. (hold, held);
       held = λ hold is. r.held.held id v hold at is;
       own = refl;
       heard = refl;
@@ -97,11 +97,11 @@ law_trod capacities places tickets m vs h r id v at kind field number =
     (λ d small. record { words = same_words capacities d m; marks = same_marks capacities d h; view = record { place = refl; section = same_section d v.section; hold = same_hold d v.hold } })
 
 -- A step of a kind is made of the view with one more step in its trail.
-pub after_trod : (capacities : List ℕ) (places tickets : ℕ) (m : Memory) (vs : List View) (h : List Mark) → MemoryRule capacities places tickets m vs h → (id : ℕ) (v : View) → get_elem? vs id ≡ some v → (kind : Kind) (field : Field) (number : ℕ)
+pub after_stepped : (capacities : List ℕ) (places tickets : ℕ) (m : Memory) (vs : List View) (h : List Mark) → MemoryRule capacities places tickets m vs h → (id : ℕ) (v : View) → get_elem? vs id ≡ some v → (kind : Kind) (field : Field) (number : ℕ)
     → (m' : Memory) (w : View) (h' : List Mark)
-    → ((vs1 : List View) → MemoryRule capacities places tickets m vs1 h → get_elem? vs1 id ≡ some (trod v kind field number) → MemoryRule capacities places tickets m' (set vs1 id w) h')
+    → ((vs1 : List View) → MemoryRule capacities places tickets m vs1 h → get_elem? vs1 id ≡ some (stepped v kind field number) → MemoryRule capacities places tickets m' (set vs1 id w) h')
     → MemoryRule capacities places tickets m' (set vs id w) h'
-after_trod capacities places tickets m vs h r id v at kind field number m' w h' law =
-    let v1 : View = trod v kind field number in
+after_stepped capacities places tickets m vs h r id v at kind field number m' w h' law =
+    let v1 : View = stepped v kind field number in
     subst (λ z. MemoryRule capacities places tickets m' z h') (set_twice vs id v1 w)
-    (law (set vs id v1) (law_trod capacities places tickets m vs h r id v at kind field number) (set_here vs id v1 (at_below vs id v at)))
+    (law (set vs id v1) (law_stepped capacities places tickets m vs h r id v at kind field number) (set_here vs id v1 (at_below vs id v at)))

@@ -12,12 +12,12 @@ use Rattle.prcu_model.specs.declared.operation.Update.{Update}
 use Rattle.hash_core.specs.declared.words.Field.TheVariants.{Front}
 use Rattle.hash_core.specs.declared.view.Section.{Section}
 use Rattle.hash_core.specs.declared.view.Hold.{Hold}
-use Rattle.hash_core.specs.declared.view.Turn.{Turn}
+use Rattle.hash_core.specs.declared.view.Commit.{Commit}
 use Rattle.hash_core.specs.declared.view.View.{View}
 use Rattle.list_laws.specs.Counts.{times}
 use Rattle.hash_core.specs.Memory.{Memory}
 use Rattle.prcu_model.specs.Marks.{Open, open_at, own_of, is_of, entered_at}
-use Rattle.hash_core.specs.Seats.{HasHeard, AreSeen, HasPlace, AnswersFor, AreApart, AreOwned, open_of, AreOpen, AreHeld, HasNoTurn, IsTurned}
+use Rattle.hash_core.specs.Seats.{HasHeard, AreSeen, HasPlace, AnswersFor, AreApart, AreOwned, open_of, AreOpen, AreHeld, HasNoCommit, IsTurned}
 use Rattle.prcu_model.proofs.ListFacts.{prefix_self, prefix_trans, all_map}
 use Rattle.list_laws.proofs.Lists.{at_below, at_one, each_set}
 use Rattle.prcu_model.proofs.MarkLists.{own_of-append}
@@ -155,25 +155,25 @@ module _ (vs : List View) (id : ℕ) (v w : View) (at : get_elem? vs id ≡ some
     held = λ j u hold there is. each_set (λ k z. z.hold ≡ Some hold → (hold.class < 64) × (1 ≤ z.places)) vs id w (mine hold) (λ k z other e theirs. s.held k z hold e theirs) j u there is;
   }
 
-  -- a step that leaves the front and whose turn it is
-  pub turned_same : (m m' : Memory) (count : ℕ) → m' Front ≡ m Front → w.turn ≡ v.turn → ((turn : Turn) (hold : Hold) → v.turn ≡ Some turn → v.hold ≡ Some hold → (k : Hold) × (w.hold ≡ Some k)) → IsTurned m vs count → IsTurned m' (set vs id w) count
-  turned_same m m' count front turn hold (inl even) = inl (front ∙ even.0, each_set (λ k z. HasNoTurn z) vs id w (turn ∙ even.1 id v at) (λ k z other e. even.1 k z e))
-  turned_same m m' count front turn hold (inr odd) = inr (
+  -- a step that leaves the front and whose commit it is
+  pub turned_same : (m m' : Memory) (count : ℕ) → m' Front ≡ m Front → w.commit ≡ v.commit → ((commit : Commit) (hold : Hold) → v.commit ≡ Some commit → v.hold ≡ Some hold → (k : Hold) × (w.hold ≡ Some k)) → IsTurned m vs count → IsTurned m' (set vs id w) count
+  turned_same m m' count front commit hold (inl even) = inl (front ∙ even.0, each_set (λ k z. HasNoCommit z) vs id w (commit ∙ even.1 id v at) (λ k z other e. even.1 k z e))
+  turned_same m m' count front commit hold (inr odd) = inr (
       dite (ℕ_discrete odd.0 id)
       (λ e.
       let same : v ≡ odd.1 = at_one vs id v odd.1 at (subst (λ k. get_elem? vs k ≡ some odd.1) e odd.4) in
-      let mine : v.turn ≡ Some odd.2 = ap (λ (z : View). z.turn) same ∙ odd.5 in
+      let mine : v.commit ≡ Some odd.2 = ap (λ (z : View). z.commit) same ∙ odd.5 in
       let held = hold odd.2 odd.3 mine (ap (λ (z : View). z.hold) same ∙ odd.6) in (
         id,
         w,
         odd.2,
         held.0,
         set_here vs id w (at_below vs id v at),
-        turn ∙ mine,
+        commit ∙ mine,
         held.1,
         front ∙ odd.7,
         odd.8,
-        λ j u ne there. each_set (λ k z. k ≢ id → HasNoTurn z) vs id w (λ f. absurd (f refl)) (λ k z other q _. odd.9 k z (λ f. other (f ∙ e)) q) j u there ne,
+        λ j u ne there. each_set (λ k z. k ≢ id → HasNoCommit z) vs id w (λ f. absurd (f refl)) (λ k z other q _. odd.9 k z (λ f. other (f ∙ e)) q) j u there ne,
       ))
       (λ ne. (
         odd.0,
@@ -185,6 +185,6 @@ module _ (vs : List View) (id : ℕ) (v w : View) (at : get_elem? vs id ≡ some
         odd.6,
         front ∙ odd.7,
         odd.8,
-        λ j u far there. each_set (λ k z. k ≢ odd.0 → HasNoTurn z) vs id w (λ f. turn ∙ odd.9 id v (λ g. ne (sym g)) at) (λ k z other q f. odd.9 k z f q) j u there far,
+        λ j u far there. each_set (λ k z. k ≢ odd.0 → HasNoCommit z) vs id w (λ f. commit ∙ odd.9 id v (λ g. ne (sym g)) at) (λ k z other q f. odd.9 k z f q) j u there far,
       ))
       )

@@ -14,8 +14,8 @@ use Rattle.prcu_model.specs.Dictionary.{map_of}
 use Rattle.prcu_model.specs.History.{IsLegal}
 use Rattle.hash_core.specs.declared.words.Field.{Field}
 use Rattle.hash_core.specs.declared.words.Field.TheVariants.{Readers, Head, Free, Retired, Key, Value, Next, Chain}
-use Rattle.hash_core.specs.declared.view.Stand.{Stand}
-use Rattle.hash_core.specs.declared.view.Stand.TheVariants.{Start, Unread, Passed, Found, Ended}
+use Rattle.hash_core.specs.declared.view.SearchState.{SearchState}
+use Rattle.hash_core.specs.declared.view.SearchState.TheVariants.{Start, Unread, Passed, Found, Ended}
 use Rattle.hash_core.specs.declared.view.Section.{Section}
 use Rattle.hash_core.specs.declared.view.View.{View}
 use Rattle.list_laws.specs.Counts.{total}
@@ -27,7 +27,7 @@ use Rattle.hash_core.specs.Buckets.{Bucket, seek, inside_count, IsKnown, IsFreeO
 use Rattle.prcu_model.specs.Dictionary.{WasSaid}
 use Rattle.hash_core.specs.Readers.{IsHeldBack, HasWay, WillAnswer}
 use Rattle.hash_core.specs.Seats.{open_of, AreOpen, IsTurned}
-use Rattle.hash_core.specs.Steps.{after3, after4, after5, link_stand, searched, MayLoad}
+use Rattle.hash_core.specs.Steps.{after_clock_load, after_announce, after_enter_by_stamp, link_stand, searched, MayLoad}
 use Rattle.hash_core.specs.Rule.{BucketRule, MemoryRule}
 use Rattle.prcu_model.proofs.ListFacts.{all_map}
 use Rattle.list_laws.proofs.Lists.{at_below, at_one, each_set, total_set, total_part, all_change}
@@ -53,7 +53,7 @@ entered_at-append p (Unlinked s ∷ h) ms = entered_at-append p h ms
 entered_at-append p (Freed s ∷ h) ms = entered_at-append p h ms
 
 -- a link that was loaded: the end, or the next slot
-link_case : (P : Stand → Type 0) (link : ℕ) → (link ≡ 0 → P Ended) → (link ≢ 0 → P (Unread link)) → P (link_stand link)
+link_case : (P : SearchState → Type 0) (link : ℕ) → (link ≡ 0 → P Ended) → (link ≢ 0 → P (Unread link)) → P (link_stand link)
 link_case P link end more = dite (ℕ_discrete link 0)
     (λ e. subst P (sym (ap (λ b. cond b Ended (Unread link)) (eq-eqb link 0 e))) (end e))
     (λ ne. subst P (sym (ap (λ b. cond b Ended (Unread link)) (ne_eqb link 0 ne))) (more ne))
@@ -87,7 +87,7 @@ module _ (capacities : List ℕ) (places tickets : ℕ) (m : Memory) (vs : List 
 
   module _ (key : ℕ) (fits : key < 2 ^ 64) (works : 1 ≤ v.places) (outside : v.section ≡ None) where
     abbrev section3 : Section
-    section3 = record { key = key; count = v.sections; entered = length h; from = length (updates_of h); stand = Start; loaded = None }
+    section3 = record { key = key; count = v.sections; entered = length h; from = length (updates_of h); state = Start; loaded = None }
 
     abbrev mark3 : Mark
     mark3 = Entered v.place v.sections key
@@ -96,7 +96,7 @@ module _ (capacities : List ℕ) (places tickets : ℕ) (m : Memory) (vs : List 
     h3 = h ++ mark3 ∷ []
 
     abbrev w3 : View
-    w3 = after3 v key h
+    w3 = after_clock_load v key h
 
     abbrev m3 : Memory
     m3 = stored m (Readers (key % 64)) (m (Readers (key % 64)) + 1)
@@ -138,7 +138,7 @@ module _ (capacities : List ℕ) (places tickets : ℕ) (m : Memory) (vs : List 
       owned = owned_more vs id v w3 at places h [] mark3 (record { place = refl; places = refl; joined = refl }) works refl refl (eq-eqb v.place v.place refl) (λ p ne. ne_eqb v.place p (λ e. ne (sym e))) (λ p. refl) r.apart r.owned;
       sections = sections3;
       held = held_still vs id v w3 at (λ hold is. r.held.held id v hold at is) r.held;
-      turned = subst (IsTurned m3 (set vs id w3)) (sym (ap length same_updates3)) (turned_same vs id v w3 at m m3 (length (updates_of h)) refl refl (λ turn hold is held. (hold, held)) r.turned);
+      turned = subst (IsTurned m3 (set vs id w3)) (sym (ap length same_updates3)) (turned_same vs id v w3 at m m3 (length (updates_of h)) refl refl (λ commit hold is held. (hold, held)) r.turned);
       tickets_are = ap (λ us. length us + total (λ (z : View). z.tickets) (set vs id w3)) same_updates3 ∙ tickets_same capacities places tickets m vs h r id v w3 at m3 refl;
       legal = subst IsLegal (sym same_updates3) r.legal;
       reuse = reuse_more capacities h mark3 (λ s e. absurd (cc)) r.reuse;
@@ -169,9 +169,9 @@ module _ (capacities : List ℕ) (places tickets : ℕ) (m : Memory) (vs : List 
           };
           clean = clean_each capacities c h h3 vs id w3 (r.bucket c) gone (λ s p section free was is class. let e : section3 ≡ section = cc in let l = gone_at-below s h p was in subst (λ (z : Section). p < z.entered) e l) b.clean;
           answered = record {
-            readers = λ j u section there is class. each_set (λ k z. z.section ≡ Some section → WillAnswer capacities c m3 h3 (updates_of h3) (r.bucket c).chain section section.stand) vs id w3
-                (λ mine. let e : section3 ≡ section = cc in subst (λ (z : Section). WillAnswer capacities c m3 h3 (updates_of h3) (r.bucket c).chain z z.stand) e tt)
-                (λ k z other e theirs. still_answer capacities c m m3 h h3 (updates_of h) (updates_of h3) (r.bucket c) (λ s _. (refl, refl, refl, refl)) marks b.roles section section.stand (b.answered.readers k z section e theirs class)) j u there is;
+            readers = λ j u section there is class. each_set (λ k z. z.section ≡ Some section → WillAnswer capacities c m3 h3 (updates_of h3) (r.bucket c).chain section section.state) vs id w3
+                (λ mine. let e : section3 ≡ section = cc in subst (λ (z : Section). WillAnswer capacities c m3 h3 (updates_of h3) (r.bucket c).chain z z.state) e tt)
+                (λ k z other e theirs. still_answer capacities c m m3 h h3 (updates_of h) (updates_of h3) (r.bucket c) (λ s _. (refl, refl, refl, refl)) marks b.roles section section.state (b.answered.readers k z section e theirs class)) j u there is;
             loaded = λ j u section value there is class read. each_set (λ k z. z.section ≡ Some section → WasSaid (updates_of h3) section.key section.from (Some value)) vs id w3
                 (λ mine. absurd (let e : section3 ≡ section = cc in let none : section.loaded ≡ None = ap (λ (z : Section). z.loaded) (sym e) in cc))
                 (λ k z other e theirs. still_said capacities c m m3 h h3 (updates_of h) (updates_of h3) (r.bucket c) (λ s _. (refl, refl, refl, refl)) marks b.roles section.key section.from (Some value) (b.answered.loaded k z section value e theirs class read)) j u there is;
@@ -212,7 +212,7 @@ module _ (capacities : List ℕ) (places tickets : ℕ) (m : Memory) (vs : List 
     h4 = h ++ mark4 ∷ []
 
     abbrev w4 : View
-    w4 = after4 v section h
+    w4 = after_announce v section h
 
     abbrev m4 : Memory
     m4 = stored m (Readers (section.key % 64)) (m (Readers (section.key % 64)) - 1)
@@ -255,7 +255,7 @@ module _ (capacities : List ℕ) (places tickets : ℕ) (m : Memory) (vs : List 
       owned = owned_more vs id v w4 at places h [] mark4 (record { place = refl; places = refl; joined = refl }) works4 refl refl (eq-eqb v.place v.place refl) (λ p ne. ne_eqb v.place p (λ e. ne (sym e))) (λ p. refl) r.apart r.owned;
       sections = sections4;
       held = held_still vs id v w4 at (λ hold is. r.held.held id v hold at is) r.held;
-      turned = subst (IsTurned m4 (set vs id w4)) (sym (ap length same_updates4)) (turned_same vs id v w4 at m m4 (length (updates_of h)) refl refl (λ turn hold is held. (hold, held)) r.turned);
+      turned = subst (IsTurned m4 (set vs id w4)) (sym (ap length same_updates4)) (turned_same vs id v w4 at m m4 (length (updates_of h)) refl refl (λ commit hold is held. (hold, held)) r.turned);
       tickets_are = ap (λ us. length us + total (λ (z : View). z.tickets) (set vs id w4)) same_updates4 ∙ tickets_same capacities places tickets m vs h r id v w4 at m4 refl;
       legal = subst IsLegal (sym same_updates4) r.legal;
       reuse = reuse_more capacities h mark4 (λ s e. absurd (cc)) r.reuse;
@@ -295,9 +295,9 @@ module _ (capacities : List ℕ) (places tickets : ℕ) (m : Memory) (vs : List 
           };
           clean = clean_each capacities c h h4 vs id w4 (r.bucket c) gone (λ s p other free was is class. absurd (cc)) b.clean;
           answered = record {
-            readers = λ j u other there is class. each_set (λ k z. z.section ≡ Some other → WillAnswer capacities c m4 h4 (updates_of h4) (r.bucket c).chain other other.stand) vs id w4
+            readers = λ j u other there is class. each_set (λ k z. z.section ≡ Some other → WillAnswer capacities c m4 h4 (updates_of h4) (r.bucket c).chain other other.state) vs id w4
                 (λ mine. absurd (cc))
-                (λ k z far e theirs. still_answer capacities c m m4 h h4 (updates_of h) (updates_of h4) (r.bucket c) (λ s _. (refl, refl, refl, refl)) marks b.roles other other.stand (b.answered.readers k z other e theirs class)) j u there is;
+                (λ k z far e theirs. still_answer capacities c m m4 h h4 (updates_of h) (updates_of h4) (r.bucket c) (λ s _. (refl, refl, refl, refl)) marks b.roles other other.state (b.answered.readers k z other e theirs class)) j u there is;
             loaded = λ j u other value there is class read. each_set (λ k z. z.section ≡ Some other → WasSaid (updates_of h4) other.key other.from (Some value)) vs id w4
                 (λ mine. absurd (cc))
                 (λ k z far e theirs. still_said capacities c m m4 h h4 (updates_of h) (updates_of h4) (r.bucket c) (λ s _. (refl, refl, refl, refl)) marks b.roles other.key other.from (Some value) (b.answered.loaded k z other value e theirs class read)) j u there is;
@@ -395,10 +395,10 @@ module _ (capacities : List ℕ) (places tickets : ℕ) (m : Memory) (vs : List 
 
     -- what the search will answer after a load, and what value it has loaded
     module _ (c : ℕ) (small : c < 64) (class : section.key % 64 ≡ c) (field : Field) (may : MayLoad section field) where
-      abbrev Will : Stand → Type 0
-      Will stand = WillAnswer capacities c m h (updates_of h) (r.bucket c).chain section stand
+      abbrev Will : SearchState → Type 0
+      Will state = WillAnswer capacities c m h (updates_of h) (r.bucket c).chain section state
 
-      will_case : (stand : Stand) (f : Field) → MayLoad (record section { stand = stand }) f → Will stand → Will section.stand → Will (searched section stand f (m f)).stand
+      will_case : (state : SearchState) (f : Field) → MayLoad (record section { state = state }) f → Will state → Will section.state → Will (searched section state f (m f)).state
       will_case Start (Head d) may will now = way_from_head c small class (m (Head d)) (ap (λ z. m (Head z)) (sym may ∙ class))
       will_case (Unread s) (Key t) may will now =
           dite (ℕ_discrete (m (Key t)) section.key)
@@ -408,8 +408,8 @@ module _ (capacities : List ℕ) (places tickets : ℕ) (m : Memory) (vs : List 
       will_case (Found s) (Value t) may will now = now
       will_case _ _ may will now = now
 
-      loaded_case : (stand : Stand) (f : Field) → MayLoad (record section { stand = stand }) f → Will stand → ((value : ℕ) → section.loaded ≡ Some value → WasSaid (updates_of h) section.key section.from (Some value))
-          → (value : ℕ) → (searched section stand f (m f)).loaded ≡ Some value → WasSaid (updates_of h) section.key section.from (Some value)
+      loaded_case : (state : SearchState) (f : Field) → MayLoad (record section { state = state }) f → Will state → ((value : ℕ) → section.loaded ≡ Some value → WasSaid (updates_of h) section.key section.from (Some value))
+          → (value : ℕ) → (searched section state f (m f)).loaded ≡ Some value → WasSaid (updates_of h) section.key section.from (Some value)
       loaded_case (Found s) (Value t) may will now value is =
           let e : m (Value s) ≡ value = let z : m (Value t) ≡ value = cc in ap (λ y. m (Value y)) may ∙ z in
           subst (λ n. WasSaid (updates_of h) section.key section.from (Some n)) e (value_said c small class s will.0 will.1)
@@ -418,7 +418,7 @@ module _ (capacities : List ℕ) (places tickets : ℕ) (m : Memory) (vs : List 
       loaded_case (Passed s) (Next t) may will now value is = now value is
       loaded_case _ _ may will now value is = now value is
 
-    searched_same : (stand : Stand) (f : Field) (n : ℕ) → (open_of (searched section stand f n) ≡ open_of section) × ((searched section stand f n).from ≡ section.from)
+    searched_same : (state : SearchState) (f : Field) (n : ℕ) → (open_of (searched section state f n) ≡ open_of section) × ((searched section state f n).from ≡ section.from)
     searched_same Start (Head d) n = (refl, refl)
     searched_same (Unread s) (Key t) n = (refl, refl)
     searched_same (Passed s) (Next t) n = (refl, refl)
@@ -427,16 +427,16 @@ module _ (capacities : List ℕ) (places tickets : ℕ) (m : Memory) (vs : List 
 
     module _ (field : Field) (may : MayLoad section field) where
       abbrev section5 : Section
-      section5 = searched section section.stand field (m field)
+      section5 = searched section section.state field (m field)
 
       abbrev w5 : View
-      w5 = after5 v section field (m field)
+      w5 = after_enter_by_stamp v section field (m field)
 
       key5 : section5.key ≡ section.key
-      key5 = ap (λ (o : Open). o.key) (searched_same section.stand field (m field)).0
+      key5 = ap (λ (o : Open). o.key) (searched_same section.state field (m field)).0
 
       entered5 : section5.entered ≡ section.entered
-      entered5 = ap (λ (o : Open). o.at) (searched_same section.stand field (m field)).0
+      entered5 = ap (λ (o : Open). o.at) (searched_same section.state field (m field)).0
 
       seats5 : SeatsRule capacities places tickets m (set vs id w5) h
       seats5 = seats_same capacities places tickets m vs h r id v w5 at m
@@ -444,10 +444,10 @@ module _ (capacities : List ℕ) (places tickets : ℕ) (m : Memory) (vs : List 
             places = record { place = refl; places = refl; joined = refl };
             tickets = refl;
             sections = refl;
-            back = λ new is. let e : section5 ≡ new = cc in let s = searched_same section.stand field (m field) in (section, inside, ap open_of (sym e) ∙ s.0, ap (λ (z : Section). z.from) (sym e) ∙ s.1);
-            forth = λ old is. let e : section ≡ old = cc in (section5, refl, ap open_of (sym e) ∙ sym (searched_same section.stand field (m field)).0);
-            turn = refl;
-            kept = λ turn hold is held. (hold, held);
+            back = λ new is. let e : section5 ≡ new = cc in let s = searched_same section.state field (m field) in (section, inside, ap open_of (sym e) ∙ s.0, ap (λ (z : Section). z.from) (sym e) ∙ s.1);
+            forth = λ old is. let e : section ≡ old = cc in (section5, refl, ap open_of (sym e) ∙ sym (searched_same section.state field (m field)).0);
+            commit = refl;
+            kept = λ commit hold is held. (hold, held);
             held = λ hold is. r.held.held id v hold at is;
             own = refl;
             heard = refl;
@@ -479,22 +479,22 @@ module _ (capacities : List ℕ) (places tickets : ℕ) (m : Memory) (vs : List 
                 let l = free p id v section was at inside refl in
                 let f : section.entered ≡ new.entered = sym entered5 ∙ ap (λ (z : Section). z.entered) e in omega arith) b.clean;
             answered = record {
-              readers = λ j u new there is class. each_set (λ k z. z.section ≡ Some new → WillAnswer capacities c m h (updates_of h) (r.bucket c).chain new new.stand) vs id w5
+              readers = λ j u new there is class. each_set (λ k z. z.section ≡ Some new → WillAnswer capacities c m h (updates_of h) (r.bucket c).chain new new.state) vs id w5
                   (λ mine. let e : section5 ≡ new = cc in
-                  subst (λ (z : Section). WillAnswer capacities c m h (updates_of h) (r.bucket c).chain z z.stand) e (same_will c section5 section5.stand (searched_same section.stand field (m field)).0 (searched_same section.stand field (m field)).1 (will_case c small refl field may section.stand field may will will)))
+                  subst (λ (z : Section). WillAnswer capacities c m h (updates_of h) (r.bucket c).chain z z.state) e (same_will c section5 section5.state (searched_same section.state field (m field)).0 (searched_same section.state field (m field)).1 (will_case c small refl field may section.state field may will will)))
                   (λ k z far e theirs. b.answered.readers k z new e theirs class) j u there is;
               loaded = λ j u new value there is class read. each_set (λ k z. z.section ≡ Some new → WasSaid (updates_of h) new.key new.from (Some value)) vs id w5
                   (λ mine. let e : section5 ≡ new = cc in
-                  let said = loaded_case c small refl field may section.stand field may will (λ n has. b.answered.loaded id v section n at inside refl has) value (ap (λ (z : Section). z.loaded) e ∙ read) in
-                  let s = searched_same section.stand field (m field) in
+                  let said = loaded_case c small refl field may section.state field may will (λ n has. b.answered.loaded id v section n at inside refl has) value (ap (λ (z : Section). z.loaded) e ∙ read) in
+                  let s = searched_same section.state field (m field) in
                   subst (λ (q : ℕ × ℕ). WasSaid (updates_of h) q.0 q.1 (Some value)) (λ i. ((sym key5 ∙ ap (λ (z : Section). z.key) e) i, (sym s.1 ∙ ap (λ (z : Section). z.from) e) i)) said)
                   (λ k z far e theirs. b.answered.loaded k z new value e theirs class read) j u there is;
             };
           }
         where
           -- what is answered is read of the key, the entry and the front alone
-          same_will : (c : ℕ) (new : Section) (stand : Stand) → open_of new ≡ open_of section → new.from ≡ section.from → WillAnswer capacities c m h (updates_of h) (r.bucket c).chain section stand → WillAnswer capacities c m h (updates_of h) (r.bucket c).chain new stand
-          same_will c new stand o f will = like stand will
+          same_will : (c : ℕ) (new : Section) (state : SearchState) → open_of new ≡ open_of section → new.from ≡ section.from → WillAnswer capacities c m h (updates_of h) (r.bucket c).chain section state → WillAnswer capacities c m h (updates_of h) (r.bucket c).chain new state
+          same_will c new state o f will = like state will
             where
               key : new.key ≡ section.key
               key = ap (λ (z : Open). z.key) o
@@ -518,7 +518,7 @@ module _ (capacities : List ℕ) (places tickets : ℕ) (m : Memory) (vs : List 
                 said = said_like (λ k. seek m k (way.olds ++ way.rest)) way.said;
               }
 
-              like : (st : Stand) → WillAnswer capacities c m h (updates_of h) (r.bucket c).chain section st → WillAnswer capacities c m h (updates_of h) (r.bucket c).chain new st
+              like : (st : SearchState) → WillAnswer capacities c m h (updates_of h) (r.bucket c).chain section st → WillAnswer capacities c m h (updates_of h) (r.bucket c).chain new st
               like Start w = tt
               like (Unread s) w = way_like s w
               like (Passed s) w = (way_like s w.0, λ e. w.1 (e ∙ key))

@@ -15,8 +15,8 @@ use Rattle.list_laws.specs.Counts.{times, total}
 use Rattle.hash_core.specs.Memory.{Memory}
 use Rattle.prcu_model.specs.Marks.{own_of, entered_at, updates_of}
 use Rattle.hash_core.specs.Buckets.{inside_count}
-use Rattle.hash_core.specs.Seats.{HasHeard, AreSeen, HasPlace, AnswersFor, AreApart, AreOwned, HasNoTurn}
-use Rattle.hash_core.specs.Steps.{IsQuiet, Needs1, first_of, second_of, places_from, longer, both_of, spent}
+use Rattle.hash_core.specs.Seats.{HasHeard, AreSeen, HasPlace, AnswersFor, AreApart, AreOwned, HasNoCommit}
+use Rattle.hash_core.specs.Steps.{IsQuiet, NeedsSplit, first_of, second_of, places_from, longer, both_of, spent}
 use Rattle.hash_core.specs.Rule.{MemoryRule}
 use Rattle.list_laws.proofs.Lists.{at_below, at_end, at_one, each_set, total_set, total_append, times_append, times_here, times_other}
 use Rattle.prcu_model.proofs.ListFacts.{prefix_self, prefix_trans, prefix_of_longer, all_map, all_append}
@@ -55,7 +55,7 @@ module _ (capacities : List ℕ) (places tickets : ℕ) (m : Memory) (vs : List 
   not_other : (j p : ℕ) (u : View) → j ≢ id → get_elem? vs j ≡ some u → AnswersFor u p → AnswersFor v p → ⊥
   not_other j p u far there theirs mine = far (r.apart.apart j id p u v there at theirs mine)
 
-  module _ (p t : ℕ) (needs : Needs1 v p t) where
+  module _ (p t : ℕ) (needs : NeedsSplit v p t) where
     abbrev first1 : View
     first1 = first_of p t v
 
@@ -140,7 +140,7 @@ module _ (capacities : List ℕ) (places tickets : ℕ) (m : Memory) (vs : List 
           (λ f ne. r.owned.unused id v q at (let low = f.0 in let high = f.1 in (low, omega arith)) ne) (λ _ _. refl) (λ k z _ e o ne. r.owned.unused k z q e o ne) j u there has far;
     }
 
-    turn1 : HasNoTurn v
+    turn1 : HasNoCommit v
     turn1 = quiet_turn m vs (length (updates_of h)) r.turned id v at needs.0.1
 
     count1 : (c : ℕ) → total (λ (z : View). inside_count c z.section) vs1 ≡ total (λ (z : View). inside_count c z.section) vs
@@ -151,7 +151,7 @@ module _ (capacities : List ℕ) (places tickets : ℕ) (m : Memory) (vs : List 
 
     busy1 : SameBusy vs vs1
     busy1 = record {
-      back = each1 (λ j u. (get_elem? vs j ≡ some u) ⊎ (IsQuiet u × HasNoTurn u)) (inr (needs.0, turn1)) (inr ((refl, refl), refl)) (λ j u _ e. inl e);
+      back = each1 (λ j u. (get_elem? vs j ≡ some u) ⊎ (IsQuiet u × HasNoCommit u)) (inr (needs.0, turn1)) (inr ((refl, refl), refl)) (λ j u _ e. inl e);
       forth = λ j u e. dite (ℕ_discrete j id)
           (λ same. inr (subst IsQuiet (at_one vs id v u at (subst (λ k. get_elem? vs k ≡ some u) same e)) needs.0))
           (λ far. inl (end_else (set vs id first1) second1 u j (set_else vs id j first1 far ∙ e)));
@@ -363,7 +363,7 @@ module _ (capacities : List ℕ) (places tickets : ℕ) (m : Memory) (vs : List 
 
   busy2 : SameBusy vs vs2
   busy2 = record {
-    back = each2 (λ k u. (get_elem? vs k ≡ some u) ⊎ (IsQuiet u × HasNoTurn u)) (inr (quiet, quiet_turn m vs (length (updates_of h)) r.turned id v at quiet.1)) (inr ((refl, refl), refl)) (λ k u _ _ e. inl e);
+    back = each2 (λ k u. (get_elem? vs k ≡ some u) ⊎ (IsQuiet u × HasNoCommit u)) (inr (quiet, quiet_turn m vs (length (updates_of h)) r.turned id v at quiet.1)) (inr ((refl, refl), refl)) (λ k u _ _ e. inl e);
     forth = λ k u e. dite (ℕ_discrete k id)
         (λ same. inr (subst IsQuiet (at_one vs id v u at (subst (λ l. get_elem? vs l ≡ some u) same e)) quiet))
         (λ not_id. dite (ℕ_discrete k j)

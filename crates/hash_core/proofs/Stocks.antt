@@ -29,7 +29,7 @@ use Rattle.hash_core.specs.Buckets.{Bucket, IsKnown, IsFreeOfReaders, taken_of, 
 use Rattle.prcu_model.specs.Dictionary.{WasSaid}
 use Rattle.hash_core.specs.Readers.{AreAnswered, WillAnswer}
 use Rattle.hash_core.specs.Seats.{IsTurned}
-use Rattle.hash_core.specs.Steps.{NeedsTake, after_take, NeedsRefill, after_refill, NeedsMove, after_move, NeedsPush, after_push, NeedsChain, after_chain, IsFieldOf, Needs11, after11}
+use Rattle.hash_core.specs.Steps.{NeedsTake, after_take, NeedsRefill, after_refill, NeedsMove, after_move, NeedsPush, after_push, NeedsChain, after_chain, IsFieldOf, NeedsSeize, after_seize}
 use Rattle.hash_core.specs.Rule.{BucketRule, MemoryRule}
 use Rattle.prcu_model.proofs.ListFacts.{all_map}
 use Rattle.list_laws.proofs.Lists.{at_below, at_end, each_set, all_change, all_from_times, times_here}
@@ -97,8 +97,8 @@ module _ (capacities : List ℕ) (places tickets : ℕ) (m : Memory) (vs : List 
         sections = refl;
         back = section_back v w refl;
         forth = section_forth v w refl;
-        turn = refl;
-        kept = λ turn held is had_it. (new, refl);
+        commit = refl;
+        kept = λ commit held is had_it. (new, refl);
         held = λ other is. let e : new ≡ other = cc in (subst (λ (z : Hold). z.class < 64) e (subst (λ z. z < 64) (sym class) small), works capacities places tickets m vs h r id v at hold mine);
         own = refl;
         heard = refl;
@@ -109,9 +109,9 @@ module _ (capacities : List ℕ) (places tickets : ℕ) (m : Memory) (vs : List 
   answered_by w same m' chain' keeps =
       let us : List Update = updates_of h in
       let chain : List ℕ = (r.bucket hold.class).chain in
-      let will : (section : Section) → WillAnswer capacities hold.class m h us chain section section.stand → WillAnswer capacities hold.class m' h us chain' section section.stand = λ section. will_still capacities hold.class m m' h h us us chain chain' section (keeps section) section.stand in
+      let will : (section : Section) → WillAnswer capacities hold.class m h us chain section section.state → WillAnswer capacities hold.class m' h us chain' section section.state = λ section. will_still capacities hold.class m m' h h us us chain chain' section (keeps section) section.state in
       record {
-        readers = λ j u section there is class. each_set (λ k z. z.section ≡ Some section → WillAnswer capacities hold.class m' h us chain' section section.stand) vs id w
+        readers = λ j u section there is class. each_set (λ k z. z.section ≡ Some section → WillAnswer capacities hold.class m' h us chain' section section.state) vs id w
             (λ yes. will section (rule.answered.readers id v section at (sym same ∙ yes) class)) (λ k z far e theirs. will section (rule.answered.readers k z section e theirs class)) j u there is;
         loaded = λ j u section value there is class read. each_set (λ k z. z.section ≡ Some section → WasSaid us section.key section.from (Some value)) vs id w
             (λ yes. rule.answered.loaded id v section value at (sym same ∙ yes) class read) (λ k z far e theirs. rule.answered.loaded k z section value e theirs class read) j u there is;
@@ -278,7 +278,7 @@ module _ (capacities : List ℕ) (places tickets : ℕ) (m : Memory) (vs : List 
         (λ d _ ne. record { words = class_words capacities hold.class d m number ne (Chain slot) slot_of_chain; marks = same_marks capacities d h; view = elsewhere_held capacities places tickets m vs h r id v at d hold new_chain mine refl ne w refl refl refl })
 
   -- H11
-  module _ (slot : ℕ) (field : Field) (number : ℕ) (needs : Needs11 v hold slot field) where
+  module _ (slot : ℕ) (field : Field) (number : ℕ) (needs : NeedsSeize v hold slot field) where
     abbrev new11 : Hold
     new11 = knowing hold field number
 
@@ -321,9 +321,9 @@ module _ (capacities : List ℕ) (places tickets : ℕ) (m : Memory) (vs : List 
         let b : times slot (option_to_list hold.taken) ≡ 1 = ap (λ o. times slot (option_to_list o)) needs.taken ∙ (let t = times_here slot [] in omega arith) in
         let d : 1 ≤ times slot (r.bucket hold.class).chain = subst (λ z. 1 ≤ times z (r.bucket hold.class).chain) e there in omega arith
 
-    pub law11 : MemoryRule capacities places tickets m11 (set vs id (after11 v hold field number)) h
+    pub law11 : MemoryRule capacities places tickets m11 (set vs id (after_seize v hold field number)) h
     law11 =
-        let w : View = after11 v hold field number in
+        let w : View = after_seize v hold field number in
         let f = needs.field_is in
         let c : ℕ = hold.class in
         let chain : List ℕ = (r.bucket hold.class).chain in
@@ -437,7 +437,7 @@ module _ (capacities : List ℕ) (places tickets : ℕ) (m : Memory) (vs : List 
       owned = owned_same vs id v w_take at places h (Given slot ∷ []) (record { place = refl; places = refl; joined = refl }) refl (inr refl) (λ p. refl) r.owned;
       sections = open_same vs id v w_take at h h_take (updates_of h) (updates_of h_take) refl refl refl (section_back v w_take refl) (section_forth v w_take refl) (open_at-same h (Given slot) tt) (λ p. let a = entered_at-append p h (Given slot ∷ []) in omega arith) (let n = ap length same_updates_take in omega arith) r.sections;
       held = held_still vs id v w_take at (λ other is. let e : new_take ≡ other = cc in (subst (λ (z : Hold). z.class < 64) e small, works capacities places tickets m vs h r id v at hold mine)) r.held;
-      turned = subst (IsTurned m_take (set vs id w_take)) (sym (ap length same_updates_take)) (turned_same vs id v w_take at m m_take (length (updates_of h)) refl refl (λ turn held is had_it. (new_take, refl)) r.turned);
+      turned = subst (IsTurned m_take (set vs id w_take)) (sym (ap length same_updates_take)) (turned_same vs id v w_take at m m_take (length (updates_of h)) refl refl (λ commit held is had_it. (new_take, refl)) r.turned);
       tickets_are = ap (λ us. length us + total (λ (z : View). z.tickets) (set vs id w_take)) same_updates_take ∙ tickets_same capacities places tickets m vs h r id v w_take at m_take refl;
       legal = subst IsLegal (sym same_updates_take) r.legal;
       reuse = reuse_take;
@@ -486,9 +486,9 @@ module _ (capacities : List ℕ) (places tickets : ℕ) (m : Memory) (vs : List 
             clear = λ other is yes s of. let e : new_take ≡ other = cc in still_free_take s (rule.clean.clear hold had (ap (λ (z : Hold). z.clear) e ∙ yes) s of);
           };
           answered = record {
-            readers = λ j u section there is class. each_set (λ k z. z.section ≡ Some section → WillAnswer capacities hold.class m_take h_take us' chain section section.stand) vs id w_take
-                (λ yes. will_still capacities hold.class m m_take h h_take us us' chain chain section (keeps section id v at yes class) section.stand (rule.answered.readers id v section at yes class))
-                (λ k z far e theirs. will_still capacities hold.class m m_take h h_take us us' chain chain section (keeps section k z e theirs class) section.stand (rule.answered.readers k z section e theirs class)) j u there is;
+            readers = λ j u section there is class. each_set (λ k z. z.section ≡ Some section → WillAnswer capacities hold.class m_take h_take us' chain section section.state) vs id w_take
+                (λ yes. will_still capacities hold.class m m_take h h_take us us' chain chain section (keeps section id v at yes class) section.state (rule.answered.readers id v section at yes class))
+                (λ k z far e theirs. will_still capacities hold.class m m_take h h_take us us' chain chain section (keeps section k z e theirs class) section.state (rule.answered.readers k z section e theirs class)) j u there is;
             loaded = λ j u section value there is class read. each_set (λ k z. z.section ≡ Some section → WasSaid us' section.key section.from (Some value)) vs id w_take
                 (λ yes. (keeps section id v at yes class).said (Some value) (rule.answered.loaded id v section value at yes class read))
                 (λ k z far e theirs. (keeps section k z e theirs class).said (Some value) (rule.answered.loaded k z section value e theirs class read)) j u there is;

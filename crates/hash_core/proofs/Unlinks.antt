@@ -12,8 +12,8 @@ use Rattle.prcu_model.specs.Dictionary.{updated, map_of}
 use Rattle.prcu_model.proofs.Fronts.{map_of-push}
 use Rattle.hash_core.specs.declared.words.Field.{Field}
 use Rattle.hash_core.specs.declared.words.Field.TheVariants.{Front, Lock, Readers, Head, Free, Retired, Key, Value, Next, Chain}
-use Rattle.hash_core.specs.declared.view.Stand.{Stand}
-use Rattle.hash_core.specs.declared.view.Stand.TheVariants.{Start, Unread, Passed, Found, Ended}
+use Rattle.hash_core.specs.declared.view.SearchState.{SearchState}
+use Rattle.hash_core.specs.declared.view.SearchState.TheVariants.{Start, Unread, Passed, Found, Ended}
 use Rattle.hash_core.specs.declared.view.Section.{Section}
 use Rattle.hash_core.specs.declared.view.Hold.{Hold}
 use Rattle.hash_core.specs.declared.view.View.{View}
@@ -27,7 +27,7 @@ use Rattle.hash_core.specs.Known.{known_in, knowing}
 use Rattle.hash_core.specs.Buckets.{Bucket, seek, HaveDistinctKeys, IsFreeOfReaders, taken_of, link_of}
 use Rattle.prcu_model.specs.Dictionary.{WasSaid}
 use Rattle.hash_core.specs.Readers.{WillAnswer, IsHeldBack, HasWay}
-use Rattle.hash_core.specs.Steps.{LinksTo, Needs14, after14}
+use Rattle.hash_core.specs.Steps.{LinksTo, NeedsUnlock, after_unlock}
 use Rattle.hash_core.specs.Rule.{BucketRule, MemoryRule}
 use Rattle.prcu_model.proofs.ListFacts.{all_append, all_map}
 use Rattle.list_laws.proofs.Lists.{all_change, all_times, all_from_times, times_here, times_append}
@@ -126,7 +126,7 @@ cut_next head next next' chain p slot once some_slot is is' same there path =
     none_of olds far = dite (dec_le 1 (times p olds)) (λ in_olds. absurd (let z = far p in_olds in let a = there in omega arith)) (λ out. omega arith)
 
 module _ (capacities : List ℕ) (places tickets : ℕ) (m : Memory) (vs : List View) (h : List Mark) (r : MemoryRule capacities places tickets m vs h) (id : ℕ) (v : View) (at : get_elem? vs id ≡ some v) (hold : Hold) (mine : v.hold ≡ Some hold)
-    (even : ℕ) (link : Field) (slot key next : ℕ) (needs : Needs14 v hold even link slot key next) where
+    (even : ℕ) (link : Field) (slot key next : ℕ) (needs : NeedsUnlock v hold even link slot key next) where
   abbrev bucket_rule : BucketRule capacities hold.class m h (updates_of h) vs (r.bucket hold.class)
   bucket_rule = rule capacities places tickets m vs h r id v at hold mine
 
@@ -143,7 +143,7 @@ module _ (capacities : List ℕ) (places tickets : ℕ) (m : Memory) (vs : List 
   h14 = h ++ Done (record { caller = v.place; op = Del key }) ∷ Unlinked slot ∷ []
 
   abbrev w14 : View
-  w14 = after14 v hold even link slot key next h
+  w14 = after_unlock v hold even link slot key next h
 
   abbrev new14 : Hold
   new14 = record (knowing hold link next) { clear = false; unlinked = Some slot }
@@ -376,7 +376,7 @@ module _ (capacities : List ℕ) (places tickets : ℕ) (m : Memory) (vs : List 
       by_back [] e = way_from section entered s way (sym e)
       by_back (k ∷ ks) e = way_after section s way ks (let z : slot ∷ cut.after ≡ k ∷ (ks ++ way.rest) = e in cc)
 
-  will14 : (section : Section) → section.entered < length h → section.from ≤ length (updates_of h) → (stand : Stand) → WillAnswer capacities hold.class m h (updates_of h) chain_now section stand → WillAnswer capacities hold.class m14 h14 (updates_of h14) (cut.before ++ cut.after) section stand
+  will14 : (section : Section) → section.entered < length h → section.from ≤ length (updates_of h) → (state : SearchState) → WillAnswer capacities hold.class m h (updates_of h) chain_now section state → WillAnswer capacities hold.class m14 h14 (updates_of h14) (cut.before ++ cut.after) section state
   will14 section entered from Start a = tt
   will14 section entered from (Unread s) a = way14 section entered from s a
   will14 section entered from (Passed s) a = (way14 section entered from s a.0, λ e. a.1 (sym (slots14 link needs.link_is s).0 ∙ e))
@@ -393,7 +393,7 @@ module _ (capacities : List ℕ) (places tickets : ℕ) (m : Memory) (vs : List 
   b14 = record (r.bucket hold.class) { chain = cut.before ++ cut.after; hold = Some new14 }
 
   -- H14
-  pub law14 : MemoryRule capacities places tickets m14 (set vs id (after14 v hold even link slot key next h)) h14
+  pub law14 : MemoryRule capacities places tickets m14 (set vs id (after_unlock v hold even link slot key next h)) h14
   law14 =
       let held : (r.bucket hold.class).hold ≡ Some hold = had capacities places tickets m vs h r id v at hold mine in
       let words = words14 link needs.link_is hold.class in
@@ -402,7 +402,7 @@ module _ (capacities : List ℕ) (places tickets : ℕ) (m : Memory) (vs : List 
       let other_moved : times slot (r.bucket hold.class).moved ≡ 0 = elsewhere (r.bucket hold.class).moved (λ x. let a = roles14 x in let l = at_most_one (is_slot_of capacities hold.class x) _ a in omega arith) in
       let other_taken : times slot (option_to_list hold.taken) ≡ 0 = elsewhere (option_to_list hold.taken) (λ x. let a = roles14 x in let l = at_most_one (is_slot_of capacities hold.class x) _ a in omega arith) in
       after_step capacities places tickets m vs h r id v w14 at m14 h14
-      (seats_updated capacities places tickets m vs h r id v at hold mine even needs.turn (Del key) new14 refl m14 words.4 (Unlinked slot ∷ []) longer14 (λ p. refl) open14 entered14 reuse14 present14)
+      (seats_updated capacities places tickets m vs h r id v at hold mine even needs.commit (Del key) new14 refl m14 words.4 (Unlinked slot ∷ []) longer14 (λ p. refl) open14 entered14 reuse14 present14)
       hold.class b14
       (λ _. record {
         chained = record {
@@ -432,7 +432,7 @@ module _ (capacities : List ℕ) (places tickets : ℕ) (m : Memory) (vs : List 
           moved = all_change (IsFreeOfReaders hold.class h vs) (IsFreeOfReaders hold.class h14 (set vs id w14)) (r.bucket hold.class).moved (λ s is. free14 s (not_slot (r.bucket hold.class).moved other_moved s is)) bucket_rule.clean.moved;
           clear = λ other is yes s of. absurd (let e : new14 ≡ other = cc in let z : false ≡ true = ap (λ (k : Hold). k.clear) e ∙ yes in cc);
         };
-        answered = answered_from capacities places tickets m vs h r id v at hold mine w14 refl m14 h14 (updates_of h14) (cut.before ++ cut.after) (λ section entered from class stand. will14 section entered from stand) said14;
+        answered = answered_from capacities places tickets m vs h r id v at hold mine w14 refl m14 h14 (updates_of h14) (cut.before ++ cut.after) (λ section entered from class state. will14 section entered from state) said14;
       })
       (λ d _ ne. record {
         words = class_words capacities hold.class d m next ne link (of_class14 link needs.link_is);

@@ -15,14 +15,14 @@ use Rattle.prcu_model.specs.History.{IsUpdateAt, AreUpdatesFrom, IsLegal}
 use Rattle.prcu_model.proofs.Fronts.{map_of-push}
 use Rattle.hash_core.specs.declared.words.Field.TheVariants.{Front}
 use Rattle.hash_core.specs.declared.view.Hold.{Hold}
-use Rattle.hash_core.specs.declared.view.Turn.{Turn}
+use Rattle.hash_core.specs.declared.view.Commit.{Commit}
 use Rattle.hash_core.specs.declared.view.View.{View}
 use Rattle.hash_core.specs.Memory.{Memory}
 use Rattle.prcu_model.specs.Marks.{updates_of, open_at, own_of, entered_at}
 use Rattle.hash_core.specs.Marks.{ReuseByClass}
 use Rattle.prcu_model.specs.Dictionary.{WasSaid}
-use Rattle.hash_core.specs.Seats.{HasNoTurn, updates_by}
-use Rattle.hash_core.specs.Steps.{HasTurn, updated_view}
+use Rattle.hash_core.specs.Seats.{HasNoCommit, updates_by}
+use Rattle.hash_core.specs.Steps.{HasCommit, updated_view}
 use Rattle.hash_core.specs.Rule.{MemoryRule}
 use Rattle.list_laws.proofs.Lists.{at_below, at_one, each_set, total_set, total_part}
 use Rattle.atomic_table.proofs.Lists.{set_here}
@@ -48,17 +48,17 @@ said_now us u key from answer since e = record {
   answers = ap (λ z. finite.get (map_of z) key) (take_all (length us + 1) (us ++ u ∷ []) (let l = length-append us (u ∷ []) in omega arith)) ∙ ap (λ z. finite.get z key) (map_of-push us u) ∙ e;
 }
 
-module _ (capacities : List ℕ) (places tickets : ℕ) (m : Memory) (vs : List View) (h : List Mark) (r : MemoryRule capacities places tickets m vs h) (id : ℕ) (v : View) (at : get_elem? vs id ≡ some v) (hold : Hold) (mine : v.hold ≡ Some hold) (even : ℕ) (turn : HasTurn v hold even) where
+module _ (capacities : List ℕ) (places tickets : ℕ) (m : Memory) (vs : List View) (h : List Mark) (r : MemoryRule capacities places tickets m vs h) (id : ℕ) (v : View) (at : get_elem? vs id ≡ some v) (hold : Hold) (mine : v.hold ≡ Some hold) (even : ℕ) (commit : HasCommit v hold even) where
   -- the front is odd by this view
-  pub turned_by : (m Front ≡ even + 1) × (even ≡ 2 * length (updates_of h)) × ((j : ℕ) (u : View) → j ≢ id → get_elem? vs j ≡ some u → HasNoTurn u)
+  pub turned_by : (m Front ≡ even + 1) × (even ≡ 2 * length (updates_of h)) × ((j : ℕ) (u : View) → j ≢ id → get_elem? vs j ≡ some u → HasNoCommit u)
   turned_by = elim r.turned [
-    | inl quiet ↦ absurd (let a : None ≡ Some (record { found = even; stored = false }) = sym (quiet.1 id v at) ∙ turn.turn_is in cc)
+    | inl quiet ↦ absurd (let a : None ≡ Some (record { found = even; stored = false }) = sym (quiet.1 id v at) ∙ commit.commit_is in cc)
     | inr odd ↦
-        let me : id ≡ odd.0 = dite (ℕ_discrete id odd.0) (λ q. q) (λ ne. absurd (let a : None ≡ Some (record { found = even; stored = false }) = sym (odd.9 id v ne at) ∙ turn.turn_is in cc)) in
+        let me : id ≡ odd.0 = dite (ℕ_discrete id odd.0) (λ q. q) (λ ne. absurd (let a : None ≡ Some (record { found = even; stored = false }) = sym (odd.9 id v ne at) ∙ commit.commit_is in cc)) in
         let same : v ≡ odd.1 = at_one vs id v odd.1 at (subst (λ k. get_elem? vs k ≡ some odd.1) (sym me) odd.4) in
-        let there : Some odd.2 ≡ Some (record { found = even; stored = false }) = sym odd.5 ∙ ap (λ (z : View). z.turn) (sym same) ∙ turn.turn_is in
-        let it : ◌≡◌ {A = Turn} odd.2 (record { found = even; stored = false }) = cc in
-        let found : odd.2.found ≡ even = ap (λ (z : Turn). z.found) it in
+        let there : Some odd.2 ≡ Some (record { found = even; stored = false }) = sym odd.5 ∙ ap (λ (z : View). z.commit) (sym same) ∙ commit.commit_is in
+        let it : ◌≡◌ {A = Commit} odd.2 (record { found = even; stored = false }) = cc in
+        let found : odd.2.found ≡ even = ap (λ (z : Commit). z.found) it in
         let count : updates_by odd.2 ≡ updates_by (record { found = even; stored = false }) = ap updates_by it in
         (let a = odd.7 in omega arith, let a = odd.8 in omega arith, λ j u ne there. odd.9 j u (λ e. ne (e ∙ sym me)) there)
   ]
@@ -98,12 +98,12 @@ module _ (capacities : List ℕ) (places tickets : ℕ) (m : Memory) (vs : List 
           refl,
           front ∙ turned_by.0,
           (let a = turned_by.1 in let n = one_longer in omega arith),
-          λ j u ne there. each_set (λ k z. k ≢ id → HasNoTurn z) vs id w_new (λ f. absurd (f refl)) (λ k z far e _. turned_by.2 k z far e) j u there ne,
+          λ j u ne there. each_set (λ k z. k ≢ id → HasNoCommit z) vs id w_new (λ f. absurd (f refl)) (λ k z far e _. turned_by.2 k z far e) j u there ne,
         );
         tickets_are =
             (let sum = total_set (λ (z : View). z.tickets) vs id v w_new at in
             let was = r.tickets_are in
-            let some_ticket = turn.ticket in
+            let some_ticket = commit.ticket in
             let part = total_part (λ (z : View). z.tickets) vs id v at in
             let n = one_longer in omega arith);
         legal = subst IsLegal (sym longer) (legal_more (updates_of h) (record { caller = v.place; op = op }) r.legal is_update);

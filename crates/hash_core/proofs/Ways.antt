@@ -5,8 +5,8 @@ use native.Mathlib.Decide.{dec_le}
 use Rattle.prcu_model.specs.declared.mark.Mark.{Mark}
 use Rattle.prcu_model.specs.declared.operation.Update.{Update}
 use Rattle.hash_core.specs.declared.words.Field.TheVariants.{Key, Value, Next}
-use Rattle.hash_core.specs.declared.view.Stand.{Stand}
-use Rattle.hash_core.specs.declared.view.Stand.TheVariants.{Start, Unread, Passed, Found, Ended}
+use Rattle.hash_core.specs.declared.view.SearchState.{SearchState}
+use Rattle.hash_core.specs.declared.view.SearchState.TheVariants.{Start, Unread, Passed, Found, Ended}
 use Rattle.hash_core.specs.declared.view.Section.{Section}
 use Rattle.list_laws.specs.Counts.{times}
 use Rattle.hash_core.specs.Memory.{Memory}
@@ -53,7 +53,7 @@ module _ (capacities : List ℕ) (c : ℕ) (m m' : Memory) (h h' : List Mark) (u
       let first = path_cons (λ s. m (Next s)) slot (way.olds ++ way.rest) way.some way.path in
       (on_way slot way slot (let t = times_here slot first.0 in let e = ap (times slot) first.1 in omega arith)).0
 
-  pub will_still : (stand : Stand) → WillAnswer capacities c m h us chain section stand → WillAnswer capacities c m' h' us' chain' section stand
+  pub will_still : (state : SearchState) → WillAnswer capacities c m h us chain section state → WillAnswer capacities c m' h' us' chain' section state
   will_still Start a = tt
   will_still (Unread s) a = way_still s a
   will_still (Passed s) a = (way_still s a.0, λ e. a.1 (sym (key_still s a.0) ∙ e))

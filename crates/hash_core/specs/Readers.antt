@@ -8,8 +8,8 @@ use lib.ListN.{get_elem?}
 use Rattle.prcu_model.specs.declared.mark.Mark.{Mark}
 use Rattle.prcu_model.specs.declared.operation.Update.{Update}
 use Rattle.hash_core.specs.declared.words.Field.TheVariants.{Key, Next}
-use Rattle.hash_core.specs.declared.view.Stand.{Stand}
-use Rattle.hash_core.specs.declared.view.Stand.TheVariants.{Start, Unread, Passed, Found, Ended}
+use Rattle.hash_core.specs.declared.view.SearchState.{SearchState}
+use Rattle.hash_core.specs.declared.view.SearchState.TheVariants.{Start, Unread, Passed, Found, Ended}
 use Rattle.hash_core.specs.declared.view.Section.{Section}
 use Rattle.hash_core.specs.declared.view.View.{View}
 use Rattle.hash_core.specs.Lists.{IsPath}
@@ -36,7 +36,7 @@ pub record HasWay (capacities : List ℕ) (c : ℕ) (m : Memory) (h : List Mark)
   pub said : WasSaid us section.key section.from (seek m section.key (olds ++ rest))
 
 -- what a search will answer, by where it stands
-abbrev pub WillAnswer : List ℕ → ℕ → Memory → List Mark → List Update → List ℕ → Section → Stand → Type 0
+abbrev pub WillAnswer : List ℕ → ℕ → Memory → List Mark → List Update → List ℕ → Section → SearchState → Type 0
 WillAnswer capacities c m h us chain section Start = Unit {0}
 WillAnswer capacities c m h us chain section (Unread s) = HasWay capacities c m h us chain section s
 WillAnswer capacities c m h us chain section (Passed s) = HasWay capacities c m h us chain section s × (m (Key s) ≢ section.key)
@@ -46,5 +46,5 @@ WillAnswer capacities c m h us chain section Ended = WasSaid us section.key sect
 -- Each open section of the class will be answered what the dictionary said since it was entered; and so was the value that
 -- it has loaded.
 pub record AreAnswered (capacities : List ℕ) (c : ℕ) (m : Memory) (h : List Mark) (us : List Update) (vs : List View) (chain : List ℕ) : Type 0 where
-  pub readers : (id : ℕ) (v : View) (section : Section) → get_elem? vs id ≡ some v → v.section ≡ Some section → section.key % 64 ≡ c → WillAnswer capacities c m h us chain section section.stand
+  pub readers : (id : ℕ) (v : View) (section : Section) → get_elem? vs id ≡ some v → v.section ≡ Some section → section.key % 64 ≡ c → WillAnswer capacities c m h us chain section section.state
   pub loaded : (id : ℕ) (v : View) (section : Section) (value : ℕ) → get_elem? vs id ≡ some v → v.section ≡ Some section → section.key % 64 ≡ c → section.loaded ≡ Some value → WasSaid us section.key section.from (Some value)

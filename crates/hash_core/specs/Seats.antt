@@ -10,7 +10,7 @@ use Rattle.prcu_model.specs.declared.operation.Update.{Update}
 use Rattle.hash_core.specs.declared.words.Field.TheVariants.{Front}
 use Rattle.hash_core.specs.declared.view.Section.{Section}
 use Rattle.hash_core.specs.declared.view.Hold.{Hold}
-use Rattle.hash_core.specs.declared.view.Turn.{Turn}
+use Rattle.hash_core.specs.declared.view.Commit.{Commit}
 use Rattle.hash_core.specs.declared.view.View.{View}
 use Rattle.list_laws.specs.Counts.{times}
 use Rattle.hash_core.specs.Memory.{Memory}
@@ -65,16 +65,16 @@ pub record AreOpen (vs : List View) (h : List Mark) (us : List Update) : Type 0 
 pub record AreHeld (vs : List View) : Type 0 where
   pub held : (id : ℕ) (v : View) (hold : Hold) → get_elem? vs id ≡ some v → v.hold ≡ Some hold → (hold.class < 64) × (1 ≤ v.places)
 
-abbrev pub HasNoTurn : View → Type 0
-HasNoTurn v = v.turn ≡ None
+abbrev pub HasNoCommit : View → Type 0
+HasNoCommit v = v.commit ≡ None
 
--- how far the front is by a turn
-abbrev pub updates_by : Turn → ℕ
-updates_by turn = turn.found + (if turn.stored then 2 else 0)
+-- how far the front is by a commit
+abbrev pub updates_by : Commit → ℕ
+updates_by commit = commit.found + (if commit.stored then 2 else 0)
 
 -- An even front is twice the number of updates. An odd one belongs to one view, which holds a lock.
 abbrev pub IsTurned : Memory → List View → ℕ → Type 0
 IsTurned m vs count =
-    ((m Front ≡ 2 * count) × ((id : ℕ) (v : View) → get_elem? vs id ≡ some v → HasNoTurn v))
-    ⊎ ((owner : ℕ) × (u : View) × (turn : Turn) × (hold : Hold) × (get_elem? vs owner ≡ some u) × (u.turn ≡ Some turn) × (u.hold ≡ Some hold) × (m Front ≡ turn.found + 1) × (updates_by turn ≡ 2 * count)
-    × ((id : ℕ) (v : View) → id ≢ owner → get_elem? vs id ≡ some v → HasNoTurn v))
+    ((m Front ≡ 2 * count) × ((id : ℕ) (v : View) → get_elem? vs id ≡ some v → HasNoCommit v))
+    ⊎ ((owner : ℕ) × (u : View) × (commit : Commit) × (hold : Hold) × (get_elem? vs owner ≡ some u) × (u.commit ≡ Some commit) × (u.hold ≡ Some hold) × (m Front ≡ commit.found + 1) × (updates_by commit ≡ 2 * count)
+    × ((id : ℕ) (v : View) → id ≢ owner → get_elem? vs id ≡ some v → HasNoCommit v))

@@ -9,8 +9,8 @@ use Rattle.prcu_model.specs.declared.operation.Op.TheVariants.{Put, Del, Set}
 use Rattle.hash_core.specs.declared.words.Field.{Field}
 use Rattle.hash_core.specs.declared.words.Field.TheVariants.{Head, Free, Retired, Key, Value, Next, Chain}
 use Rattle.hash_core.specs.declared.words.Kind.{Kind}
-use Rattle.hash_core.specs.declared.view.Stand.{Stand}
-use Rattle.hash_core.specs.declared.view.Stand.TheVariants.{Start, Unread, Passed, Found, Ended}
+use Rattle.hash_core.specs.declared.view.SearchState.{SearchState}
+use Rattle.hash_core.specs.declared.view.SearchState.TheVariants.{Start, Unread, Passed, Found, Ended}
 use Rattle.hash_core.specs.declared.view.Section.{Section}
 use Rattle.hash_core.specs.declared.view.Hold.{Hold}
 use Rattle.hash_core.specs.declared.view.View.{View}
@@ -22,8 +22,8 @@ abbrev pub Goes : View → (List Mark → View) → View → Type 0
 Goes v after w = (h : List Mark) × IsPrefix v.seen h × (w ≡ after h)
 
 -- the view with one more step in its trail: the kinds of step below are made of this view
-abbrev pub trod : View → Kind → Field → ℕ → View
-trod v kind field number = record v { trail = v.trail ++ record { kind = kind; field = field; number = number } ∷ [] }
+abbrev pub stepped : View → Kind → Field → ℕ → View
+stepped v kind field number = record v { trail = v.trail ++ record { kind = kind; field = field; number = number } ∷ [] }
 
 -- the view with another mark of its place, which ends what it has seen
 abbrev pub marked : View → List Mark → Mark → View
@@ -34,8 +34,8 @@ abbrev pub IsQuiet : View → Type 0
 IsQuiet v = (v.section ≡ None) × (v.hold ≡ None)
 
 -- H1: the second seat gets the last places, and tickets. It has seen what the first has, and made no step.
-abbrev pub Needs1 : View → ℕ → ℕ → Type 0
-Needs1 v places tickets = IsQuiet v × (1 ≤ places) × (places < v.places) × (tickets ≤ v.tickets)
+abbrev pub NeedsSplit : View → ℕ → ℕ → Type 0
+NeedsSplit v places tickets = IsQuiet v × (1 ≤ places) × (places < v.places) × (tickets ≤ v.tickets)
 
 abbrev pub first_of : ℕ → ℕ → View → View
 first_of places tickets v = record v { places = v.places - places; tickets = v.tickets - tickets }
@@ -48,7 +48,7 @@ second_of places tickets v = record {
   section = None;
   sections = 0;
   hold = None;
-  turn = None;
+  commit = None;
   joined = [];
   heard = [];
   own = [];
@@ -83,7 +83,7 @@ spent = record {
   section = None;
   sections = 0;
   hold = None;
-  turn = None;
+  commit = None;
   joined = [];
   heard = [];
   own = [];
@@ -92,18 +92,18 @@ spent = record {
 }
 
 -- H3: a section with this key is entered.
-abbrev pub after3 : View → ℕ → List Mark → View
-after3 v key h = record (marked v h (Entered v.place v.sections key)) {
-  section = Some (record { key = key; count = v.sections; entered = length h; from = length (updates_of h); stand = Start; loaded = None });
+abbrev pub after_clock_load : View → ℕ → List Mark → View
+after_clock_load v key h = record (marked v h (Entered v.place v.sections key)) {
+  section = Some (record { key = key; count = v.sections; entered = length h; from = length (updates_of h); state = Start; loaded = None });
   sections = v.sections + 1;
 }
 
 -- H4: it is left.
-abbrev pub after4 : View → Section → List Mark → View
-after4 v section h = record (marked v h (Left v.place section.count)) { section = None }
+abbrev pub after_announce : View → Section → List Mark → View
+after_announce v section h = record (marked v h (Left v.place section.count)) { section = None }
 
 -- the slot at which a search stands
-abbrev pub StandsAt : Stand → ℕ → Type 0
+abbrev pub StandsAt : SearchState → ℕ → Type 0
 StandsAt Start slot = ⊥
 StandsAt (Unread s) slot = s ≡ slot
 StandsAt (Passed s) slot = s ≡ slot
@@ -113,24 +113,24 @@ StandsAt Ended slot = ⊥
 -- H5: the head of the own class, or a field of the slot at which the search stands, is loaded.
 abbrev pub MayLoad : Section → Field → Type 0
 MayLoad section (Head c) = section.key % 64 ≡ c
-MayLoad section (Key s) = StandsAt section.stand s
-MayLoad section (Value s) = StandsAt section.stand s
-MayLoad section (Next s) = StandsAt section.stand s
+MayLoad section (Key s) = StandsAt section.state s
+MayLoad section (Value s) = StandsAt section.state s
+MayLoad section (Next s) = StandsAt section.state s
 MayLoad section _ = ⊥
 
-abbrev pub link_stand : ℕ → Stand
+abbrev pub link_stand : ℕ → SearchState
 link_stand link = if link == 0 then Ended else Unread link
 
 -- the search after it loaded the number there
-abbrev pub searched : Section → Stand → Field → ℕ → Section
-searched section Start (Head c) number = record section { stand = link_stand number }
-searched section (Unread s) (Key t) number = record section { stand = if number == section.key then Found s else Passed s }
-searched section (Passed s) (Next t) number = record section { stand = link_stand number }
+abbrev pub searched : Section → SearchState → Field → ℕ → Section
+searched section Start (Head c) number = record section { state = link_stand number }
+searched section (Unread s) (Key t) number = record section { state = if number == section.key then Found s else Passed s }
+searched section (Passed s) (Next t) number = record section { state = link_stand number }
 searched section (Found s) (Value t) number = record section { loaded = Some number }
 searched section _ _ number = section
 
-abbrev pub after5 : View → Section → Field → ℕ → View
-after5 v section field number = record v { section = Some (searched section section.stand field number) }
+abbrev pub after_enter_by_stamp : View → Section → Field → ℕ → View
+after_enter_by_stamp v section field number = record v { section = Some (searched section section.state field number) }
 
 -- H6: the lock of a class's bucket is exchanged from 0 to the place plus 1.
 abbrev pub fresh_hold : ℕ → Hold
@@ -140,11 +140,11 @@ abbrev pub after6 : View → ℕ → ℕ → View
 after6 v c found = if found == 0 then record v { hold = Some (fresh_hold c) } else v
 
 -- H7: the lock is given up, with nothing in hand and no odd front.
-abbrev pub Needs7 : View → Hold → Type 0
-Needs7 v hold = (v.hold ≡ Some hold) × (hold.taken ≡ None) × (hold.unlinked ≡ None) × (hold.moved ≡ None) × (v.turn ≡ None)
+abbrev pub NeedsBegin : View → Hold → Type 0
+NeedsBegin v hold = (v.hold ≡ Some hold) × (hold.taken ≡ None) × (hold.unlinked ≡ None) × (hold.moved ≡ None) × (v.commit ≡ None)
 
-abbrev pub after7 : View → View
-after7 v = record v { hold = None }
+abbrev pub after_begin : View → View
+after_begin v = record v { hold = None }
 
 -- H8: the readers of the class are loaded under its lock.
 abbrev pub after8 : View → Hold → ℕ → View
@@ -210,25 +210,25 @@ IsFieldOf slot (Value s) = s ≡ slot
 IsFieldOf slot (Next s) = s ≡ slot
 IsFieldOf slot _ = ⊥
 
-pub record Needs11 (v : View) (hold : Hold) (slot : ℕ) (field : Field) : Type 0 where
+pub record NeedsSeize (v : View) (hold : Hold) (slot : ℕ) (field : Field) : Type 0 where
   pub hold_is : v.hold ≡ Some hold
   pub taken : hold.taken ≡ Some slot
   pub field_is : IsFieldOf slot field
 
-abbrev pub after11 : View → Hold → Field → ℕ → View
-after11 v hold field number = record v { hold = Some (knowing hold field number) }
+abbrev pub after_seize : View → Hold → Field → ℕ → View
+after_seize v hold field number = record v { hold = Some (knowing hold field number) }
 
 -- H12: the front is exchanged from an even number to the next, by the holder of a lock.
 abbrev pub Needs12 : View → Hold → ℕ → Type 0
 Needs12 v hold even = (v.hold ≡ Some hold) × (even % 2 ≡ 0)
 
 abbrev pub after12 : View → ℕ → ℕ → View
-after12 v even found = if found == even then record v { turn = Some (record { found = even; stored = false }) } else v
+after12 v even found = if found == even then record v { commit = Some (record { found = even; stored = false }) } else v
 
 -- the front is odd by this view, and its update isn't made yet
-pub record HasTurn (v : View) (hold : Hold) (even : ℕ) : Type 0 where
+pub record HasCommit (v : View) (hold : Hold) (even : ℕ) : Type 0 where
   pub hold_is : v.hold ≡ Some hold
-  pub turn_is : v.turn ≡ Some (record { found = even; stored = false })
+  pub commit_is : v.commit ≡ Some (record { found = even; stored = false })
   pub ticket : 1 ≤ v.tickets
 
 -- the view after its update, with another hold
@@ -236,14 +236,14 @@ abbrev pub updated_view : View → Hold → ℕ → Op → List Mark → List Ma
 updated_view v hold even op h more = record v {
   tickets = v.tickets - 1;
   hold = Some hold;
-  turn = Some (record { found = even; stored = true });
+  commit = Some (record { found = even; stored = true });
   own = v.own ++ Done (record { caller = v.place; op = op }) ∷ [];
   seen = h ++ Done (record { caller = v.place; op = op }) ∷ more;
 }
 
 -- H13: the slot taken is linked at the head, where the known walk shows its key absent.
-pub record Needs13 (v : View) (hold : Hold) (even slot key value first : ℕ) : Type 0 where
-  pub turn : HasTurn v hold even
+pub record NeedsLock (v : View) (hold : Hold) (even slot key value first : ℕ) : Type 0 where
+  pub commit : HasCommit v hold even
   pub taken : hold.taken ≡ Some slot
   pub key_is : known_in hold.known (Key slot) ≡ Some key
   pub value_is : known_in hold.known (Value slot) ≡ Some value
@@ -252,8 +252,8 @@ pub record Needs13 (v : View) (hold : Hold) (even slot key value first : ℕ) : 
   pub class : key % 64 ≡ hold.class
   pub absent : ShowsAbsent hold key
 
-abbrev pub after13 : View → Hold → ℕ → ℕ → ℕ → ℕ → List Mark → View
-after13 v hold even slot key value h = updated_view v (record (knowing hold (Head hold.class) slot) { taken = None }) even (Put key value) h []
+abbrev pub after_lock : View → Hold → ℕ → ℕ → ℕ → ℕ → List Mark → View
+after_lock v hold even slot key value h = updated_view v (record (knowing hold (Head hold.class) slot) { taken = None }) even (Put key value) h []
 
 -- the link to a slot on the known walk: the head, or the next of a slot on the walk
 abbrev pub LinksTo : Hold → Field → Type 0
@@ -262,8 +262,8 @@ LinksTo hold (Next s) = IsOnWalk hold s
 LinksTo hold _ = ⊥
 
 -- H14: a slot on the known walk is unlinked.
-pub record Needs14 (v : View) (hold : Hold) (even : ℕ) (link : Field) (slot key next : ℕ) : Type 0 where
-  pub turn : HasTurn v hold even
+pub record NeedsUnlock (v : View) (hold : Hold) (even : ℕ) (link : Field) (slot key next : ℕ) : Type 0 where
+  pub commit : HasCommit v hold even
   pub empty : hold.unlinked ≡ None
   pub link_is : LinksTo hold link
   pub linked : known_in hold.known link ≡ Some slot
@@ -271,12 +271,12 @@ pub record Needs14 (v : View) (hold : Hold) (even : ℕ) (link : Field) (slot ke
   pub key_is : known_in hold.known (Key slot) ≡ Some key
   pub next_is : known_in hold.known (Next slot) ≡ Some next
 
-abbrev pub after14 : View → Hold → ℕ → Field → ℕ → ℕ → ℕ → List Mark → View
-after14 v hold even link slot key next h = updated_view v (record (knowing hold link next) { clear = false; unlinked = Some slot }) even (Del key) h (Unlinked slot ∷ [])
+abbrev pub after_unlock : View → Hold → ℕ → Field → ℕ → ℕ → ℕ → List Mark → View
+after_unlock v hold even link slot key next h = updated_view v (record (knowing hold link next) { clear = false; unlinked = Some slot }) even (Del key) h (Unlinked slot ∷ [])
 
 -- H15: the value of a slot on the known walk is replaced.
 pub record Needs15 (v : View) (hold : Hold) (even slot key : ℕ) : Type 0 where
-  pub turn : HasTurn v hold even
+  pub commit : HasCommit v hold even
   pub on_walk : IsOnWalk hold slot
   pub key_is : known_in hold.known (Key slot) ≡ Some key
 
@@ -284,8 +284,8 @@ abbrev pub after15 : View → Hold → ℕ → ℕ → ℕ → ℕ → List Mark
 after15 v hold even slot key value h = updated_view v (knowing hold (Value slot) value) even (Set key value) h []
 
 -- H16: the front is made even again.
-abbrev pub Needs16 : View → ℕ → Type 0
-Needs16 v even = v.turn ≡ Some (record { found = even; stored = true })
+abbrev pub NeedsCountFree : View → ℕ → Type 0
+NeedsCountFree v even = v.commit ≡ Some (record { found = even; stored = true })
 
-abbrev pub after16 : View → View
-after16 v = record v { turn = None }
+abbrev pub after_count_free : View → View
+after_count_free v = record v { commit = None }

@@ -7,5 +7,5 @@ pub mod view;
 pub mod words;
 
 pub use shape::Shape;
-pub use view::{Hold, Known, Section, Stand, Trod, Turn, View};
+pub use view::{Hold, Known, Section, SearchState, StepMade, Commit, View};
 pub use words::{Field, Kind};

@@ -5,7 +5,7 @@ use prcu_model::Mark;
 use std::collections::LinkedList;
 
 /// Where the search of an open section stands.
-pub enum Stand {
+pub enum SearchState {
     /// The head is to be loaded.
     Start,
     /// A link to the slot was loaded, and its key wasn't yet.
@@ -28,7 +28,7 @@ pub struct Section {
     pub entered: u64,
     /// How many updates there were then.
     pub from: u64,
-    pub stand: Stand,
+    pub state: SearchState,
     /// The value that was loaded at the slot found.
     pub loaded: Option<u64>,
 }
@@ -55,7 +55,7 @@ pub struct Hold {
 }
 
 /// The front is odd by this view.
-pub struct Turn {
+pub struct Commit {
     /// The even number that was found.
     pub found: u64,
     /// The update was made.
@@ -63,7 +63,7 @@ pub struct Turn {
 }
 
 /// A step that was made: its kind, its word, and the number that was found there, or stored where it is a store.
-pub struct Trod {
+pub struct StepMade {
     pub kind: Kind,
     pub field: Field,
     pub number: u64,
@@ -80,7 +80,7 @@ pub struct View {
     /// How many sections were entered at its place.
     pub sections: u64,
     pub hold: Option<Hold>,
-    pub turn: Option<Turn>,
+    pub commit: Option<Commit>,
     /// The places of seats that were joined into it.
     pub joined: LinkedList<u32>,
     /// What the seats had seen that were joined into it, and what it had seen itself, each at the time of the join.
@@ -89,7 +89,7 @@ pub struct View {
     /// order.
     pub own: LinkedList<Mark>,
     /// The steps that it made.
-    pub trail: LinkedList<Trod>,
+    pub trail: LinkedList<StepMade>,
     /// The marks that it has seen: a beginning of the one list of all marks.
     pub seen: LinkedList<Mark>,
 }

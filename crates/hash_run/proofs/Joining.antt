@@ -14,7 +14,7 @@ use Rattle.hash_core.specs.declared.words.Field.TheVariants.{Front}
 use Rattle.hash_core.specs.declared.words.Kind.TheVariants.{H2}
 use Rattle.list_laws.specs.Counts.{times}
 use Rattle.hash_core.specs.Seats.{AnswersFor}
-use Rattle.hash_core.specs.Steps.{trod, IsQuiet, both_of, places_from}
+use Rattle.hash_core.specs.Steps.{stepped, IsQuiet, both_of, places_from}
 use Rattle.list_laws.proofs.Lists.{times_append}
 use Rattle.hash_core.proofs.Splits.{from_times}
 use Rattle.class_hash.specs.Answers.{IsInformed}
@@ -46,7 +46,7 @@ joined_first v quiet place works = record {
 
 -- one more, at the next place
 joined_more : (vs : List View) (seat other w : View) (front : ℕ) → IsJoined vs seat → IsQuiet other → other.place ≡ length vs → 1 ≤ other.places
-    → w ≡ trod (both_of seat other) H2 Front front → IsPrefix seat.seen w.seen → IsPrefix other.seen w.seen → IsJoined (vs ++ other ∷ []) w
+    → w ≡ stepped (both_of seat other) H2 Front front → IsPrefix seat.seen w.seen → IsPrefix other.seen w.seen → IsJoined (vs ++ other ∷ []) w
 joined_more vs seat other w front joined quiet place works is mine theirs = record {
   quiet = (ap (λ (z : View). z.section) is ∙ joined.quiet.0, ap (λ (z : View). z.hold) is ∙ joined.quiet.1);
   own = ap (λ (z : View). z.own) is ∙ ap (λ xs. xs ++ other.own) joined.own ∙ sym (all_own-append vs other);
@@ -65,16 +65,16 @@ joined_more vs seat other w front joined quiet place works is mine theirs = reco
 }
   where
     both : View
-    both = trod (both_of seat other) H2 Front front
+    both = stepped (both_of seat other) H2 Front front
 
     joined_places : (p : ℕ) → times p (seat.joined ++ (places_from other.place other.places ++ other.joined)) ≡ times p seat.joined + (times p (places_from other.place other.places) + times p other.joined)
     joined_places p = let outer = times_append p seat.joined (places_from other.place other.places ++ other.joined) in let inner = times_append p (places_from other.place other.places) other.joined in omega arith
 
-    keeps_answer : (p : ℕ) → AnswersFor seat p → AnswersFor (trod (both_of seat other) H2 Front front) p
+    keeps_answer : (p : ℕ) → AnswersFor seat p → AnswersFor (stepped (both_of seat other) H2 Front front) p
     keeps_answer p (inl has) = inl has
     keeps_answer p (inr there) = inr (let all = joined_places p in omega arith)
 
-    answers_now : (p : ℕ) → p < length vs + 1 → AnswersFor (trod (both_of seat other) H2 Front front) p
+    answers_now : (p : ℕ) → p < length vs + 1 → AnswersFor (stepped (both_of seat other) H2 Front front) p
     answers_now p below = elim (cases_lt p (length vs)) [
       | inl earlier ↦ keeps_answer p (joined.answers p earlier)
       | inr late ↦ inr (let all = joined_places p in let there = from_times p other.place other.places (omega arith) (omega arith) in omega arith)
@@ -107,7 +107,7 @@ gathered_first table workers rest before told id seat done d =
     }
 
 pub gathered_more : (table : TableAt) (workers rest left : List (Work ClientAt)) (before told more : List (Roomy Told)) (id : _) (seat other w : View) (front : ℕ) → AreDone table workers → IsGathered table workers rest before told seat → HasDismissed rest left told more id other
-    → w ≡ trod (both_of seat other) H2 Front front → IsPrefix seat.seen w.seen → IsPrefix other.seen w.seen → IsInformed table.places w → IsGathered table workers left before more w
+    → w ≡ stepped (both_of seat other) H2 Front front → IsPrefix seat.seen w.seen → IsPrefix other.seen w.seen → IsInformed table.places w → IsGathered table workers left before more w
 gathered_more table workers rest left before told more id seat other w front done g d is mine theirs informed =
     let whole : workers ≡ g.gone ++ d.worker ∷ left = g.whole ∙ ap (λ ws. g.gone ++ ws) d.first in
     let worker = done (length g.gone) d.worker (ap (λ ws. slice_get ws (length g.gone)) whole ∙ at_front g.gone left d.worker) in

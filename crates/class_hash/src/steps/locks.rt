@@ -1,7 +1,7 @@
 //! Steps of locks, and loads under them.
 ghost use Rattle.std.specs.Prelude.{◌≡◌, ◌+◌, ◌%◌, ◌<◌, ◌≤◌, Some, None};
 ghost use Rattle.hash_core.specs.declared.view.Hold.{Hold};
-ghost use Rattle.hash_core.specs.Steps.{IsQuiet, Needs7};
+ghost use Rattle.hash_core.specs.Steps.{IsQuiet, NeedsBegin};
 ghost use Rattle.hash_core.specs.Slots.{IsOfClass};
 ghost use Rattle.class_hash.specs.Answers.{IsInformed, IsHeldByOther};
 ghost use Rattle.class_hash.specs.Stepped.{Locks, Unlocks, LoadsReaders, Loads};
@@ -20,7 +20,7 @@ fn locks<A: Detail>(table: &HashTable, seat: &mut HashSeat, class: u32) -> u64
     requires class { class < 64 }
     ensures table { seat.new.table ≡ seat.old.table }
     ensures view { Locks seat.old.view class result seat.new.view }
-    ensures turn { seat.old.view.turn ≡ None }
+    ensures commit { seat.old.view.commit ≡ None }
     ensures holder { IsHeldByOther table.now.places seat.old.view result }
 {
     let word = word_at(Field::Lock { class });
@@ -46,7 +46,7 @@ pub(crate) fn h6(table: &HashTable, seat: &mut HashSeat, class: u32) -> u64
     requires class { class < 64 }
     ensures table { seat.new.table ≡ seat.old.table }
     ensures view { Locks seat.old.view class result seat.new.view }
-    ensures turn { seat.old.view.turn ≡ None }
+    ensures commit { seat.old.view.commit ≡ None }
     ensures holder { IsHeldByOther table.now.places seat.old.view result }
 {
     locks::<Brand>(table, seat, class)
@@ -55,7 +55,7 @@ pub(crate) fn h6(table: &HashTable, seat: &mut HashSeat, class: u32) -> u64
 fn unlocks<A: Detail>(table: &HashTable, seat: &mut HashSeat)
     requires picked { A.places ≡ table.now.places }
     requires table { seat.old.table ≡ table.now.id }
-    requires case { (hold : Hold) × Needs7 seat.old.view hold }
+    requires case { (hold : Hold) × NeedsBegin seat.old.view hold }
     ensures table { seat.new.table ≡ seat.old.table }
     ensures view { Unlocks seat.old.view seat.new.view }
     ensures informed { IsInformed table.now.places seat.new.view }
@@ -73,7 +73,7 @@ fn unlocks<A: Detail>(table: &HashTable, seat: &mut HashSeat)
 /// H7: gives the lock up.
 pub(crate) fn h7(table: &HashTable, seat: &mut HashSeat)
     requires table { seat.old.table ≡ table.now.id }
-    requires case { (hold : Hold) × Needs7 seat.old.view hold }
+    requires case { (hold : Hold) × NeedsBegin seat.old.view hold }
     ensures table { seat.new.table ≡ seat.old.table }
     ensures view { Unlocks seat.old.view seat.new.view }
     ensures informed { IsInformed table.now.places seat.new.view }

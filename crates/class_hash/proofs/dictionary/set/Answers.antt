@@ -14,10 +14,10 @@ returns-in-Some-walk_locked-clause-view g c =
     let v = c.args.seat.now.view in
     let f = c.in-Some-walk_locked.ensures.found (fresh_hold (c.args.key % 64)) (ap (λ (z : View). z.hold) c.lock_bucket.ensures.view.view) in
     subst (λ (t : Told). Sets c.args.seat.now.view c.args.key c.args.value t c.replace-old.new.seat.view) (sym c.told-in-Some-walk_locked.ensures)
-    (updated_once v c.loop.seat.view c.search.new.seat.view c.lock_bucket.new.seat.view c.walk_locked.new.seat.view c.args.key (c.args.key % 64) c.search.result f.0 c.requires.quiet c.loop.invariant.1 c.search.ensures.view c.lock_bucket.ensures.view f.1 c.lock_bucket.ensures.turn c.replace-old.new.seat.view c.args.value c.replace-old.result.0 c.replace-old.result.1 c.replace-old.ensures.view)
+    (updated_once v c.loop.seat.view c.search.new.seat.view c.lock_bucket.new.seat.view c.walk_locked.new.seat.view c.args.key (c.args.key % 64) c.search.result f.0 c.requires.quiet c.loop.invariant.1 c.search.ensures.view c.lock_bucket.ensures.view f.1 c.lock_bucket.ensures.commit c.replace-old.new.seat.view c.args.value c.replace-old.result.0 c.replace-old.result.1 c.replace-old.ensures.view)
 
 pub loop-preserved : goal.loop-preserved
 loop-preserved g c =
     let v = c.args.seat.now.view in
     let f = c.in_default.ensures.absent (fresh_hold (c.args.key % 64)) (ap (λ (z : View). z.hold) c.lock_bucket.ensures.view.view) in
-    (search rules, tried_again v c.loop.seat.view c.search.new.seat.view c.lock_bucket.new.seat.view c.walk_locked.new.seat.view c.args.key (c.args.key % 64) c.search.result f.0 c.requires.quiet c.loop.invariant.1 c.search.ensures.view c.lock_bucket.ensures.view f.1 c.lock_bucket.ensures.turn c.free_bucket.new.seat.view c.free_bucket.ensures.view)
+    (search rules, tried_again v c.loop.seat.view c.search.new.seat.view c.lock_bucket.new.seat.view c.walk_locked.new.seat.view c.args.key (c.args.key % 64) c.search.result f.0 c.requires.quiet c.loop.invariant.1 c.search.ensures.view c.lock_bucket.ensures.view f.1 c.lock_bucket.ensures.commit c.free_bucket.new.seat.view c.free_bucket.ensures.view)

@@ -1,7 +1,7 @@
 //! Steps on the front.
 ghost use Rattle.std.specs.Prelude.{◌≡◌, ◌<◌, ◌≤◌, ◌+◌};
 ghost use Rattle.hash_core.specs.declared.view.Hold.{Hold};
-ghost use Rattle.hash_core.specs.Steps.{Needs12, Needs16};
+ghost use Rattle.hash_core.specs.Steps.{Needs12, NeedsCountFree};
 ghost use Rattle.class_hash.specs.Stepped.{Turns, Evens};
 
 use crate::seat::HashSeat;
@@ -39,7 +39,7 @@ pub(crate) fn h12(table: &HashTable, seat: &mut HashSeat, even: u64) -> u64
 fn evens<A: Detail>(table: &HashTable, seat: &mut HashSeat, even: u64)
     requires picked { A.number ≡ even + 2 }
     requires table { seat.old.table ≡ table.now.id }
-    requires case { Needs16 seat.old.view even }
+    requires case { NeedsCountFree seat.old.view even }
     requires small { even ≤ 2199023255554 }
     ensures table { seat.new.table ≡ seat.old.table }
     ensures view { Evens seat.old.view (even + 2) seat.new.view }
@@ -53,7 +53,7 @@ fn evens<A: Detail>(table: &HashTable, seat: &mut HashSeat, even: u64)
 /// H16: stores the next even number in the front.
 pub(crate) fn h16(table: &HashTable, seat: &mut HashSeat, even: u64)
     requires table { seat.old.table ≡ table.now.id }
-    requires case { Needs16 seat.old.view even }
+    requires case { NeedsCountFree seat.old.view even }
     requires small { even ≤ 2199023255554 }
     ensures table { seat.new.table ≡ seat.old.table }
     ensures view { Evens seat.old.view (even + 2) seat.new.view }
