@@ -27,12 +27,12 @@ module _ (history : List Update) (i : ℕ) (below : i < length history) where
   ]
 
   pub turns-more : (turns : List ℕ) (n : ℕ) → length turns ≡ i → ((j : ℕ) (none : Update) → j < i → get_or turns j 0 ≡ own_count (get_or history j none).caller (take j history)) → n ≡ own_count owner (take i history) → (j : ℕ) (none : Update) → j < i + 1 → get_or (turns ++ n ∷ []) j 0 ≡ own_count (get_or history j none).caller (take j history)
-  turns-more turns n long commit is j none lower = elim (cases_eq j i) [
+  turns-more turns n long turn is j none lower = elim (cases_eq j i) [
     | inl new ↦
         get_or_push turns n 0 j (long ∙ sym new) ∙ is ∙ ap (λ (u : Update). own_count u.caller (take i history)) (get_or_default history i no_update none below) ∙ ap (λ k. own_count (get_or history k none).caller (take k history)) (sym new)
     | inr old ↦
         let within : j < length turns = omega (arith, old) in
-        get_or_append_left turns (n ∷ []) 0 j within ∙ commit j none (omega (arith, old))
+        get_or_append_left turns (n ∷ []) 0 j within ∙ turn j none (omega (arith, old))
   ]
 
 -- a caller has no more updates than there are

@@ -17,8 +17,8 @@ told_lines-drop ops tolds i op told in_ops in_tolds =
     ap (λ os. told_lines os (drop i tolds)) (drop_more ops i op in_ops) ∙ ap (told_lines (get_or ops i op ∷ drop (i + 1) ops)) (drop_more tolds i told in_tolds)
 
 -- the next line that is left, where it was read
-pub told_lines-commit : (ops : List Op) (tolds : List Told) (i : ℕ) (op : Op) (told : Told) → i < length ops → i < length tolds → op ≡ get_or ops i op → told ≡ get_or tolds i told → told_lines (drop i ops) (drop i tolds) ≡ line_of op told ∷ told_lines (drop (i + 1) ops) (drop (i + 1) tolds)
-told_lines-commit ops tolds i op told in_ops in_tolds is_op is_told =
+pub told_lines-turn : (ops : List Op) (tolds : List Told) (i : ℕ) (op : Op) (told : Told) → i < length ops → i < length tolds → op ≡ get_or ops i op → told ≡ get_or tolds i told → told_lines (drop i ops) (drop i tolds) ≡ line_of op told ∷ told_lines (drop (i + 1) ops) (drop (i + 1) tolds)
+told_lines-turn ops tolds i op told in_ops in_tolds is_op is_told =
     let rest = told_lines (drop (i + 1) ops) (drop (i + 1) tolds) in
     told_lines-drop ops tolds i op told in_ops in_tolds ∙ ap (λ o. line_of o (get_or tolds i told) ∷ rest) (sym is_op) ∙ ap (λ t. line_of op t ∷ rest) (sym is_told)
 

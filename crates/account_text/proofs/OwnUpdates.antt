@@ -61,17 +61,17 @@ module _ (caller : ℕ) where
       (own-at us (position + 1) i none (omega arith) own ∙ ap (λ p. Some (placed p (get_or us i none))) next)
 
   -- where an update that stands at a turn is in the history
-  pub record IsAt (us : List Update) (position commit : ℕ) (is : Placed) : Type 0 where
+  pub record IsAt (us : List Update) (position turn : ℕ) (is : Placed) : Type 0 where
     pub place : ℕ
     pub within : place < length us
     pub own : (none : Update) → (get_or us place none).caller ≡ caller
     pub position_is : position + place ≡ is.position
     pub op : (none : Update) → (get_or us place none).op ≡ is.op
-    pub commit_is : own_count caller (take place us) ≡ commit
+    pub turn_is : own_count caller (take place us) ≡ turn
 
-  pub at-own : (us : List Update) (position commit : ℕ) (is : Placed) → slice_get (own_updates_from position caller us) commit ≡ Some is → IsAt us position commit is
-  at-own [] position commit is e = absurd (cc)
-  at-own (u ∷ us) position commit is e = elim (parts_cond (u.caller == caller) (placed position u) is (own_updates_from (position + 1) caller us) commit e) [
+  pub at-own : (us : List Update) (position turn : ℕ) (is : Placed) → slice_get (own_updates_from position caller us) turn ≡ Some is → IsAt us position turn is
+  at-own [] position turn is e = absurd (cc)
+  at-own (u ∷ us) position turn is e = elim (parts_cond (u.caller == caller) (placed position u) is (own_updates_from (position + 1) caller us) turn e) [
     | inl here ↦
         let own : u.caller ≡ caller = grind (arith, nat_tests, here.0) in
         record {
@@ -80,7 +80,7 @@ module _ (caller : ℕ) where
           own = λ none. own;
           position_is = omega (arith, ap (λ p. p.position) here.2);
           op = λ none. ap (λ p. p.op) here.2;
-          commit_is = sym here.1;
+          turn_is = sym here.1;
         }
     | inr later ↦
         let rest = at-own us (position + 1) later.0 is later.2 in
@@ -90,36 +90,36 @@ module _ (caller : ℕ) where
           own = rest.own;
           position_is = omega (arith, rest.position_is);
           op = rest.op;
-          commit_is = count-cons u (take rest.place us) ∙ ap (λ n. cond (u.caller == caller) 1 0 + n) rest.commit_is ∙ later.1;
+          turn_is = count-cons u (take rest.place us) ∙ ap (λ n. cond (u.caller == caller) 1 0 + n) rest.turn_is ∙ later.1;
         }
   ]
 
 module _ (history : List Update) (caller : ℕ) where
   -- An update is at its turn exactly where it is the caller's, at this position, with so many before it.
-  pub own-is : (position commit : ℕ) (op : Op) (i : ℕ) (none : Update) → position ≡ i + 1 → i < length history → ((get_or history i none).caller ≡ caller) × ((get_or history i none).op ≡ op) × (own_count caller (take i history) ≡ commit) ↔ (slice_get (own_updates caller history) commit ≡ Some (record { position = position; op = op }))
-  own-is position commit op i none at below = (
+  pub own-is : (position turn : ℕ) (op : Op) (i : ℕ) (none : Update) → position ≡ i + 1 → i < length history → ((get_or history i none).caller ≡ caller) × ((get_or history i none).op ≡ op) × (own_count caller (take i history) ≡ turn) ↔ (slice_get (own_updates caller history) turn ≡ Some (record { position = position; op = op }))
+  own-is position turn op i none at below = (
     λ h.
         let position_is : 1 + i ≡ position = omega arith in
         ap (slice_get (own_updates caller history)) (sym h.2) ∙ own-at caller history 1 i none below h.0 ∙ (λ k. Some (record { position = position_is k; op = h.1 k })),
     λ e.
-        let is = at-own caller history 1 commit (record { position = position; op = op }) e in
+        let is = at-own caller history 1 turn (record { position = position; op = op }) e in
         let place : is.place ≡ i = omega (arith, is.position_is) in
-        (ap (λ k. (get_or history k none).caller) (sym place) ∙ is.own none, ap (λ k. (get_or history k none).op) (sym place) ∙ is.op none, ap (λ k. own_count caller (take k history)) (sym place) ∙ is.commit_is),
+        (ap (λ k. (get_or history k none).caller) (sym place) ∙ is.own none, ap (λ k. (get_or history k none).op) (sym place) ∙ is.op none, ap (λ k. own_count caller (take k history)) (sym place) ∙ is.turn_is),
   )
 
-  pub own-bounds : (position commit : ℕ) (op : Op) → slice_get (own_updates caller history) commit ≡ Some (record { position = position; op = op }) → (0 < position) × (position ≤ length history)
-  own-bounds position commit op e =
-      let is = at-own caller history 1 commit (record { position = position; op = op }) e in
+  pub own-bounds : (position turn : ℕ) (op : Op) → slice_get (own_updates caller history) turn ≡ Some (record { position = position; op = op }) → (0 < position) × (position ≤ length history)
+  own-bounds position turn op e =
+      let is = at-own caller history 1 turn (record { position = position; op = op }) e in
       (omega (arith, is.position_is), omega (arith, is.position_is, is.within))
 
-  pub own-commit : (commit : ℕ) (is : Placed) → slice_get (own_updates caller history) commit ≡ Some is → commit < length (own_updates caller history)
-  own-commit commit is e = slice_get_within (own_updates caller history) commit is e
+  pub own-turn : (turn : ℕ) (is : Placed) → slice_get (own_updates caller history) turn ≡ Some is → turn < length (own_updates caller history)
+  own-turn turn is e = slice_get_within (own_updates caller history) turn is e
 
   -- no line tells exactly of no update
-  pub AreToldFrom-end : (commit : ℕ) → commit ≤ length (own_updates caller history) → AreToldFrom history caller commit [] ↔ (commit ≡ length (own_updates caller history))
-  AreToldFrom-end commit le = (
-    λ h. omega (arith, ap length h.updates, length-drop commit (own_updates caller history)),
-    λ all. record { updates = drop_all commit (own_updates caller history) (omega (arith, all)); confirmed = tt },
+  pub AreToldFrom-end : (turn : ℕ) → turn ≤ length (own_updates caller history) → AreToldFrom history caller turn [] ↔ (turn ≡ length (own_updates caller history))
+  AreToldFrom-end turn le = (
+    λ h. omega (arith, ap length h.updates, length-drop turn (own_updates caller history)),
+    λ all. record { updates = drop_all turn (own_updates caller history) (omega (arith, all)); confirmed = tt },
   )
 
 -- what a line adds to what lines tell, by whether it tells of an update
@@ -138,9 +138,9 @@ first_left (x ∷ xs) ys (suc n) y e =
     let rest = first_left xs ys n y e in
     (rest.0, ap (λ k. drop k (x ∷ xs)) next ∙ rest.1)
 
-module _ (history : List Update) (caller commit : ℕ) (line : Line) (lines : List Line) where
+module _ (history : List Update) (caller turn : ℕ) (line : Line) (lines : List Line) where
   -- a line that tells of no update
-  pub AreToldFrom-other : tells_update line.reply ≡ false → AreToldFrom history caller commit (line ∷ lines) ↔ AreToldFrom history caller commit lines
+  pub AreToldFrom-other : tells_update line.reply ≡ false → AreToldFrom history caller turn (line ∷ lines) ↔ AreToldFrom history caller turn lines
   AreToldFrom-other is =
       let same = other_case (tells_update line.reply) (record { position = line.number; op = line.op }) (told_updates lines) is in (
         λ h. record { updates = h.updates ∙ same; confirmed = h.confirmed.1 },
@@ -148,14 +148,14 @@ module _ (history : List Update) (caller commit : ℕ) (line : Line) (lines : Li
       )
 
   -- a line that tells of one
-  pub AreToldFrom-next : tells_update line.reply ≡ true → AreToldFrom history caller commit (line ∷ lines) ↔ (IsTold history caller commit line × AreToldFrom history caller (commit + 1) lines)
+  pub AreToldFrom-next : tells_update line.reply ≡ true → AreToldFrom history caller turn (line ∷ lines) ↔ (IsTold history caller turn line × AreToldFrom history caller (turn + 1) lines)
   AreToldFrom-next is =
       let same = told_case (tells_update line.reply) (record { position = line.number; op = line.op }) (told_updates lines) is in (
         λ h.
-            let left = first_left (own_updates caller history) (told_updates lines) commit (record { position = line.number; op = line.op }) (h.updates ∙ same) in
+            let left = first_left (own_updates caller history) (told_updates lines) turn (record { position = line.number; op = line.op }) (h.updates ∙ same) in
             ((left.0, h.confirmed.0 is), record { updates = left.1; confirmed = h.confirmed.1 }),
         λ h. record {
-          updates = drop-there (own_updates caller history) commit (record { position = line.number; op = line.op }) h.0.0 ∙ ap (λ ps. record { position = line.number; op = line.op } ∷ ps) h.1.updates ∙ sym same;
+          updates = drop-there (own_updates caller history) turn (record { position = line.number; op = line.op }) h.0.0 ∙ ap (λ ps. record { position = line.number; op = line.op } ∷ ps) h.1.updates ∙ sym same;
           confirmed = ((λ _. h.0.1), h.1.confirmed);
         },
       )

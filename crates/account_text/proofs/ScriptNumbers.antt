@@ -23,12 +23,12 @@ abbrev pub lines_left : List (List Op) → List (Roomy Told) → ℕ → List (L
 lines_left scripts told i = all_told_lines (drop i scripts) (entries_of (drop i told))
 
 module _ (scripts : List (List Op)) (told : List (Roomy Told)) (i : ℕ) (script : List Op) (list : Roomy Told) (there : slice_get scripts i ≡ Some script) (below : i < length told) (is : list ≡ get_or told i list) where
-  pub lines_left-commit : lines_left scripts told i ≡ told_lines script list.entries ∷ lines_left scripts told (i + 1)
-  lines_left-commit = rw (drop-there scripts i script there, drop-read told i list below is) refl
+  pub lines_left-turn : lines_left scripts told i ≡ told_lines script list.entries ∷ lines_left scripts told (i + 1)
+  lines_left-turn = rw (drop-there scripts i script there, drop-read told i list below is) refl
 
   -- the script's answers are as many as its operations, and so in the other scripts
-  pub SameLengths-commit : length list.entries ≡ length script → SameLengths scripts told (i + 1) → SameLengths scripts told i
-  SameLengths-commit same rest = rw (drop-there scripts i script there, drop-read told i list below is) (λ k. same k ∷ rest k)
+  pub SameLengths-turn : length list.entries ≡ length script → SameLengths scripts told (i + 1) → SameLengths scripts told i
+  SameLengths-turn same rest = rw (drop-there scripts i script there, drop-read told i list below is) (λ k. same k ∷ rest k)
 
 pub SameLengths-end : (scripts : List (List Op)) (told : List (Roomy Told)) (i : ℕ) → length scripts ≤ i → length told ≤ i → SameLengths scripts told i
 SameLengths-end scripts told i past also = rw (drop_all i scripts past, drop_all i told also) refl

@@ -60,11 +60,11 @@ fn are_callers_below(history: &[Update], count: u32) -> bool
 }
 
 // Whether the line tells of the caller's update after so many others of its own, and the reply fits it.
-fn is_told(caller: u32, commit: u64, op: Op, told: Told, timeline: &Timeline, turns: &Turns) -> bool
+fn is_told(caller: u32, turn: u64, op: Op, told: Told, timeline: &Timeline, turns: &Turns) -> bool
     requires { turns.now.history ≡ timeline.now.history }
-    ensures { IsTrue result ↔ IsTold timeline.now.history caller commit (line_of op told) }
+    ensures { IsTrue result ↔ IsTold timeline.now.history caller turn (line_of op told) }
 {
-    turns.is_update(caller, commit, told.number, op)
+    turns.is_update(caller, turn, told.number, op)
         && timeline.confirms(told.number - 1, op, told.reply)
 }
 

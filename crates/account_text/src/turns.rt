@@ -58,14 +58,14 @@ impl<'a> Turns<'a> {
     }
 
     /// Whether the caller's update after so many others of its own is this operation at this position.
-    pub fn is_update(&self, caller: u32, commit: u64, position: u64, op: Op) -> bool
+    pub fn is_update(&self, caller: u32, turn: u64, position: u64, op: Op) -> bool
         ensures { IsTrue result
-            ↔ (slice_get (own_updates caller self.now.history) commit ≡ Some (record { position = position; op = op })) }
+            ↔ (slice_get (own_updates caller self.now.history) turn ≡ Some (record { position = position; op = op })) }
     {
         if position == 0 || position > self.history.len() as u64 {
             return false;
         }
         let i = (position - 1) as usize;
-        self.history[i] == Update { caller, op } && self.turns[i] == commit
+        self.history[i] == Update { caller, op } && self.turns[i] == turn
     }
 }

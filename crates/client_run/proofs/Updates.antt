@@ -29,9 +29,9 @@ with_told-at caller op told lines = elim (tells_update told.reply) as (λ tells.
     map (λ (own : Placed). record { number = own.position; update = record { caller = caller; op = own.op } }) (if tells then record { position = told.number; op = op } ∷ told_updates lines else told_updates lines)
     ≡ (if tells then record { number = told.number; update = record { caller = caller; op = op } } ∷ numbered_updates caller lines else numbered_updates caller lines)) [ true ↦ refl | false ↦ refl ]
 
-pub own_left-commit : (caller : ℕ) (script : List Op) (told : List Told) (i : ℕ) (op : Op) (answer : Told) → i < length script → i < length told → op ≡ get_or script i op → answer ≡ get_or told i answer
+pub own_left-turn : (caller : ℕ) (script : List Op) (told : List Told) (i : ℕ) (op : Op) (answer : Told) → i < length script → i < length told → op ≡ get_or script i op → answer ≡ get_or told i answer
     → own_left caller script told i ≡ with_told caller op answer (own_left caller script told (i + 1))
-own_left-commit caller script told i op answer in_script in_told is_op is_answer =
+own_left-turn caller script told i op answer in_script in_told is_op is_answer =
     rw (drop-read script i op in_script is_op, drop-read told i answer in_told is_answer) (with_told-at caller op answer (told_lines (drop (i + 1) script) (drop (i + 1) told)))
 
 told_lines-none : (ops : List Op) → told_lines ops [] ≡ []
@@ -68,8 +68,8 @@ abbrev pub all_left : List (List Op) → List (Roomy Told) → ℕ → List Numb
 all_left scripts told i = all_numbered_updates i (all_told_lines (drop i scripts) (entries_of (drop i told)))
 
 module _ (scripts : List (List Op)) (told : List (Roomy Told)) (i : ℕ) (script : List Op) (list : Roomy Told) (there : slice_get scripts i ≡ Some script) (below : i < length told) (is : list ≡ get_or told i list) where
-  pub all_left-commit : all_left scripts told i ≡ numbered_updates i (told_lines script list.entries) ++ all_left scripts told (i + 1)
-  all_left-commit = rw (drop-there scripts i script there, drop-read told i list below is) refl
+  pub all_left-turn : all_left scripts told i ≡ numbered_updates i (told_lines script list.entries) ++ all_left scripts told (i + 1)
+  all_left-turn = rw (drop-there scripts i script there, drop-read told i list below is) refl
 
 pub all_left-end : (scripts : List (List Op)) (told : List (Roomy Told)) (i : ℕ) → length scripts ≤ i → all_left scripts told i ≡ []
 all_left-end scripts told i past = ap (λ ss. all_numbered_updates i (all_told_lines ss (entries_of (drop i told)))) (drop_all i scripts past)
@@ -102,7 +102,7 @@ counted_turn scripts told i list below is same lengths =
     let many = same_count scripts told same in
     let script = get_or scripts i [] in
     let there : slice_get scripts i ≡ Some script = slice_get-get_or scripts i [] (omega arith) in
-    let commit = ap length (all_left-commit scripts told i script list there below is) in
+    let turn = ap length (all_left-turn scripts told i script list there below is) in
     let both = length-append (numbered_updates i (told_lines script list.entries)) (all_left scripts told (i + 1)) in
     let own = length-numbered_updates i script list.entries (same_length scripts told i script list there below is lengths) in
     (SameLengths-next scripts told i script list there below is lengths, omega arith)

@@ -20,14 +20,14 @@ abbrev pub SameLengths : List (List Op) → List (Roomy Told) → ℕ → Type 0
 SameLengths scripts told i = map length (entries_of (drop i told)) ≡ map length (drop i scripts)
 
 module _ (scripts : List (List Op)) (told : List (Roomy Told)) (i : ℕ) (script : List Op) (list : Roomy Told) (there : slice_get scripts i ≡ Some script) (below : i < length told) (is : list ≡ get_or told i list) where
-  lengths-commit : SameLengths scripts told i → length list.entries ∷ map length (entries_of (drop (i + 1) told)) ≡ length script ∷ map length (drop (i + 1) scripts)
-  lengths-commit same = rw (drop-there scripts i script there, drop-read told i list below is) at same
+  lengths-turn : SameLengths scripts told i → length list.entries ∷ map length (entries_of (drop (i + 1) told)) ≡ length script ∷ map length (drop (i + 1) scripts)
+  lengths-turn same = rw (drop-there scripts i script there, drop-read told i list below is) at same
 
   pub same_length : SameLengths scripts told i → length list.entries ≡ length script
-  same_length same = let both = lengths-commit same in cc
+  same_length same = let both = lengths-turn same in cc
 
   pub SameLengths-next : SameLengths scripts told i → SameLengths scripts told (i + 1)
-  SameLengths-next same = let both = lengths-commit same in cc
+  SameLengths-next same = let both = lengths-turn same in cc
 
 pub same_count : (scripts : List (List Op)) (told : List (Roomy Told)) → map length (entries_of told) ≡ map length scripts → length told ≡ length scripts
 same_count scripts told same =

@@ -27,13 +27,13 @@ fn a_get_beside_a_put_is_told_one_of_two_things(rt: HostRuntime) -> Result<(), F
         b"script 0\nput 1 1 new 1\nscript 1\nget 1 val 1 1\nhistory 1\n1 0 put 1 1\nfinal 1\n1 1\nend\n".as_slice();
     let missed =
         b"script 0\nput 1 1 new 1\nscript 1\nget 1 none 0\nhistory 1\n1 0 put 1 1\nfinal 1\n1 1\nend\n".as_slice();
-    for commit in 0..100 {
+    for turn in 0..100 {
         let mut source = source_of(alloc, b"script\nput 1 1\nscript\nget 1\n", 100, &[])?;
         let (status, written) = answer(&rt, alloc, &["hash"], &mut source, 1000)?;
-        assert_eq!(rt; status, Status::Done, "commit {commit}");
+        assert_eq!(rt; status, Status::Done, "turn {turn}");
         assert!(rt;
             written.as_slice() == found || written.as_slice() == missed,
-            "commit {commit}"
+            "turn {turn}"
         );
     }
     Ok(())

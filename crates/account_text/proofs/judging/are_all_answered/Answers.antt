@@ -1,6 +1,6 @@
 use Rattle.std.proofs.Common.{◌≡◌, length, refl, ap, sym, ◌∙◌, arith}
 use Rattle.std.proofs.lemmas.Bool.{false≢true}
-use Rattle.account_text.proofs.ScriptNumbers.{SameLengths-commit, SameLengths-end}
+use Rattle.account_text.proofs.ScriptNumbers.{SameLengths-turn, SameLengths-end}
 use Rattle.account_text.proofs.judging.are_all_answered.Goals as goal
 use Rattle.prcu_model.proofs.ToldLists.{same_length, same_count, SameLengths-next}
 
@@ -14,7 +14,7 @@ loop-i-preserved c =
     let told = c.args.told.now in
     let inv = c.loop-i.invariant in
     let one : length c.index-told-i.result.entries ≡ length c.script.result.now = sym (ap length c.entries.ensures) ∙ c.if-entries-script.false in (
-      λ rest. inv.0 (SameLengths-commit scripts told c.loop-i.i c.script.result.now c.index-told-i.result c.script.ensures.script c.loop-i-test.true c.index-told-i.is one rest),
+      λ rest. inv.0 (SameLengths-turn scripts told c.loop-i.i c.script.result.now c.index-told-i.result c.script.ensures.script c.loop-i-test.true c.index-told-i.is one rest),
       λ all. SameLengths-next scripts told c.loop-i.i c.script.result.now c.index-told-i.result c.script.ensures.script c.loop-i-test.true c.index-told-i.is (inv.1 all),
     )
 

@@ -2,7 +2,7 @@ use Rattle.std.proofs.Common.{◌≡◌, ◌+◌, ◌∷◌, length, refl, ap, s
 use Rattle.std.proofs.lemmas.Bool.{false≢true}
 use Rattle.prcu_model.specs.Lists.{entries_of}
 use Rattle.prcu_model.specs.Fronts.{told_lines}
-use Rattle.account_text.proofs.ScriptNumbers.{lines_left, lines_left-commit, lines_left-end}
+use Rattle.account_text.proofs.ScriptNumbers.{lines_left, lines_left-turn, lines_left-end}
 use Rattle.account_text.proofs.Explained.{AreBelow, AreExplainable-by_room, below_from_explainable}
 use Rattle.account_text.proofs.judging.are_explained_by.Goals as goal
 use Rattle.account_text.proofs.judging.are_explained_by.Goals.{After-entries, then-not-are_all_answered-via-then-not-are_all_answered, then-not-are_all_answered-via-else-not-are_all_answered+then-not-are_callers_below}
@@ -10,7 +10,7 @@ use Rattle.prcu_model.proofs.ToldLists.{same_count}
 
 next_script : (c : After-entries) → lines_left c.args.scripts.now c.args.told.now c.loop-i.i ≡ told_lines c.script-script.result.now c.entries.result.now ∷ lines_left c.args.scripts.now c.args.told.now (c.loop-i.i + 1)
 next_script c =
-    lines_left-commit c.args.scripts.now c.args.told.now c.loop-i.i c.script-script.result.now c.index-told-i.result c.script-script.ensures.script c.loop-i-test.true c.index-told-i.is
+    lines_left-turn c.args.scripts.now c.args.told.now c.loop-i.i c.script-script.result.now c.index-told-i.result c.script-script.ensures.script c.loop-i-test.true c.index-told-i.is
     ∙ ap (λ list. told_lines c.script-script.result.now list ∷ lines_left c.args.scripts.now c.args.told.now (c.loop-i.i + 1)) (sym c.entries.ensures)
 
 pub loop-i-preserved : goal.loop-i-preserved

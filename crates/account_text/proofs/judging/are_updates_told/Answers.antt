@@ -5,15 +5,15 @@ use Rattle.std.proofs.lemmas.List.{length_push}
 use Rattle.std.proofs.lemmas.Slice.Zip.{zip_turn, zip_end}
 use Rattle.prcu_model.specs.Fronts.{own_updates, told_lines}
 use Rattle.account_text.specs.Lines.{line_of}
-use Rattle.account_text.proofs.LineNumbers.{told_lines-commit, told_lines-past}
-use Rattle.account_text.proofs.OwnUpdates.{own-commit, AreToldFrom-end, AreToldFrom-other, AreToldFrom-next}
+use Rattle.account_text.proofs.LineNumbers.{told_lines-turn, told_lines-past}
+use Rattle.account_text.proofs.OwnUpdates.{own-turn, AreToldFrom-end, AreToldFrom-other, AreToldFrom-next}
 use Rattle.account_text.proofs.judging.are_updates_told.Goals as goal
 use Rattle.account_text.proofs.judging.are_updates_told.Goals.{In-Some}
 
 next_line : (c : In-Some) → told_lines (drop (length c.loop-op.yielded) c.args.script.now) (drop (length c.loop-op.yielded) c.args.told.now) ≡ line_of c.in-Some.op.now c.in-Some.answer.now ∷ told_lines (drop (length c.loop-op.yielded + 1) c.args.script.now) (drop (length c.loop-op.yielded + 1) c.args.told.now)
 next_line c =
     let t = zip_turn c.args.script.now c.args.told.now c.loop-op.yielded c.into_iter-op-iterator.result c.loop-op.op-iterator c.next.new.self c.next.result (cc) (cc) c.loop-op.yielded_by (c.in-Some.op, c.in-Some.answer) c.in-Some.is c.next.ensures.steps in
-    told_lines-commit c.args.script.now c.args.told.now (length c.loop-op.yielded) c.in-Some.op.now c.in-Some.answer.now t.0 t.1 (t.2 c.in-Some.op.now) (t.3 c.in-Some.answer.now)
+    told_lines-turn c.args.script.now c.args.told.now (length c.loop-op.yielded) c.in-Some.op.now c.in-Some.answer.now t.0 t.1 (t.2 c.in-Some.op.now) (t.3 c.in-Some.answer.now)
 
 pub returns-then-not-is_told : goal.returns-then-not-is_told
 returns-then-not-is_told c =
@@ -35,11 +35,11 @@ loop-op-preserved-then-tells_update c =
     let same = rw here at inv.told in
     let is = c.is_told.ensures.0 c.if-not-is_told.false in
     let next = AreToldFrom-next history c.args.caller c.loop-op.passed line left (sym c.tells_update.ensures ∙ c.if-tells_update.true) in
-    let commit = own-commit history c.args.caller c.loop-op.passed (record { position = line.number; op = line.op }) is.0 in
+    let turn = own-turn history c.args.caller c.loop-op.passed (record { position = line.number; op = line.op }) is.0 in
     let more : length (c.loop-op.yielded ++ (c.in-Some.op, c.in-Some.answer) ∷ []) ≡ n + 1 = length_push c.loop-op.yielded (c.in-Some.op, c.in-Some.answer) in
     rw more (record {
       few = omega (arith, inv.few);
-      most = omega (arith, commit);
+      most = omega (arith, turn);
       told = (λ rest. same.0 (next.1 (is, rest)), λ all. (next.0 (same.1 all)).1);
     })
 

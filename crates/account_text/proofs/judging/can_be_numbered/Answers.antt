@@ -4,14 +4,14 @@ use Rattle.std.proofs.lemmas.List.{length_push}
 use Rattle.std.proofs.lemmas.Slice.Zip.{zip_turn, zip_end}
 use Rattle.prcu_model.specs.Fronts.{told_lines, IsLeastFor}
 use Rattle.account_text.specs.Lines.{line_of}
-use Rattle.account_text.proofs.LineNumbers.{told_lines-commit, told_lines-past, Can-first, Can-rest, Can-more}
+use Rattle.account_text.proofs.LineNumbers.{told_lines-turn, told_lines-past, Can-first, Can-rest, Can-more}
 use Rattle.account_text.proofs.judging.can_be_numbered.Goals as goal
 use Rattle.account_text.proofs.judging.can_be_numbered.Goals.{In-Some}
 
 next_line : (c : In-Some) → told_lines (drop (length c.loop-op.yielded) c.args.script.now) (drop (length c.loop-op.yielded) c.args.told.now) ≡ line_of c.in-Some.op.now c.in-Some.answer.now ∷ told_lines (drop (length c.loop-op.yielded + 1) c.args.script.now) (drop (length c.loop-op.yielded + 1) c.args.told.now)
 next_line c =
     let t = zip_turn c.args.script.now c.args.told.now c.loop-op.yielded c.into_iter-op-iterator.result c.loop-op.op-iterator c.next.new.self c.next.result (cc) (cc) c.loop-op.yielded_by (c.in-Some.op, c.in-Some.answer) c.in-Some.is c.next.ensures.steps in
-    told_lines-commit c.args.script.now c.args.told.now (length c.loop-op.yielded) c.in-Some.op.now c.in-Some.answer.now t.0 t.1 (t.2 c.in-Some.op.now) (t.3 c.in-Some.answer.now)
+    told_lines-turn c.args.script.now c.args.told.now (length c.loop-op.yielded) c.in-Some.op.now c.in-Some.answer.now t.0 t.1 (t.2 c.in-Some.op.now) (t.3 c.in-Some.answer.now)
 
 pub loop-op-preserved : goal.loop-op-preserved
 loop-op-preserved c =

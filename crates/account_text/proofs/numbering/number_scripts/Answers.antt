@@ -3,7 +3,7 @@ use Rattle.std.specs.List.{AllByRecursion}
 use Rattle.std.proofs.lemmas.List.{append-nil, map-append}
 use Rattle.prcu_model.specs.Lists.{entries_of}
 use Rattle.prcu_model.specs.Fronts.{CanBeNumbered, AreNumbered, AllAreNumbered, told_lines, all_told_lines}
-use Rattle.account_text.proofs.ScriptNumbers.{lines_left, lines_left-commit, lines_left-end, length-le-op_count}
+use Rattle.account_text.proofs.ScriptNumbers.{lines_left, lines_left-turn, lines_left-end, length-le-op_count}
 use Rattle.account_text.proofs.Explained.{room_of}
 use Rattle.account_text.proofs.numbering.number_scripts.Goals as goal
 use Rattle.account_text.proofs.numbering.number_scripts.Goals.{After-entries}
@@ -11,7 +11,7 @@ use Rattle.prcu_model.proofs.ToldLists.{same_length, SameLengths-next, same_coun
 
 next_script : (c : After-entries) → lines_left c.args.scripts.now c.args.told.now c.loop-i.i ≡ told_lines c.script-script.result.now c.entries.result.now ∷ lines_left c.args.scripts.now c.args.told.now (c.loop-i.i + 1)
 next_script c =
-    lines_left-commit c.args.scripts.now c.args.told.now c.loop-i.i c.script-script.result.now c.index-told-i.result c.script-script.ensures.script c.loop-i-test.true c.index-told-i.is
+    lines_left-turn c.args.scripts.now c.args.told.now c.loop-i.i c.script-script.result.now c.index-told-i.result c.script-script.ensures.script c.loop-i-test.true c.index-told-i.is
     ∙ ap (λ told. told_lines c.script-script.result.now told ∷ lines_left c.args.scripts.now c.args.told.now (c.loop-i.i + 1)) (sym c.entries.ensures)
 
 pub number_script-requires-clause-same_length : goal.number_script-requires-clause-same_length

@@ -3,7 +3,7 @@ use Rattle.prcu_model.specs.declared.operation.Told.{Told}
 use Rattle.prcu_model.specs.Fronts.{told_lines}
 use Rattle.client_run.specs.Merging.{numbered_updates}
 use Rattle.client_run.specs.Storing.{stored, AreInside}
-use Rattle.client_run.proofs.Updates.{all_left, all_left-commit, all_left-end}
+use Rattle.client_run.proofs.Updates.{all_left, all_left-turn, all_left-end}
 use Rattle.client_run.proofs.Stores.{length-stored, stored-append, inside-append}
 use Rattle.client_run.proofs.merging.store_all.Goals as goal
 use Rattle.client_run.proofs.merging.store_all.Goals.{After-entries}
@@ -13,7 +13,7 @@ use Rattle.prcu_model.proofs.ToldLists.{SameLengths-next, same_count}
 next_left : (c : After-entries) → all_left c.args.scripts.now c.args.told.now c.loop-i.i
     ≡ numbered_updates c.loop-i.i (told_lines c.script.result.now c.entries.result.now) ++ all_left c.args.scripts.now c.args.told.now (c.loop-i.i + 1)
 next_left c =
-    all_left-commit c.args.scripts.now c.args.told.now c.loop-i.i c.script.result.now c.index-told-i.result c.script.ensures.script c.loop-i-test.true c.index-told-i.is
+    all_left-turn c.args.scripts.now c.args.told.now c.loop-i.i c.script.result.now c.index-told-i.result c.script.ensures.script c.loop-i-test.true c.index-told-i.is
     ∙ ap (λ (told : List Told). numbered_updates c.loop-i.i (told_lines c.script.result.now told) ++ all_left c.args.scripts.now c.args.told.now (c.loop-i.i + 1)) (sym c.entries.ensures)
 
 pub store_script-requires : goal.store_script-requires

@@ -2,7 +2,7 @@ use Rattle.std.proofs.Common.{◌≡◌, ◌+◌, ◌++◌, ◌∷◌, [], lengt
 use Rattle.std.proofs.lemmas.List.{length_push}
 use Rattle.std.proofs.lemmas.Slice.Zip.{zip_turn, zip_end}
 use Rattle.client_run.specs.Storing.{AreInside}
-use Rattle.client_run.proofs.Updates.{own_left, own_left-commit, own_left-past, with_told}
+use Rattle.client_run.proofs.Updates.{own_left, own_left-turn, own_left-past, with_told}
 use Rattle.client_run.proofs.Stores.{fits_with_told, stored-with_told, length-with_told, inside-with_told}
 use Rattle.client_run.proofs.merging.store_script.Goals as goal
 use Rattle.client_run.proofs.merging.store_script.Goals.{In-Some}
@@ -12,7 +12,7 @@ next_left : (c : In-Some) → own_left c.args.caller c.args.script.now c.args.to
     ≡ with_told c.args.caller c.in-Some.op.now c.in-Some.answer.now (own_left c.args.caller c.args.script.now c.args.told.now (length c.loop-op.yielded + 1))
 next_left c =
     let t = zip_turn c.args.script.now c.args.told.now c.loop-op.yielded c.into_iter-op-iterator.result c.loop-op.op-iterator c.next.new.self c.next.result (cc) (cc) c.loop-op.yielded_by (c.in-Some.op, c.in-Some.answer) c.in-Some.is c.next.ensures.steps in
-    own_left-commit c.args.caller c.args.script.now c.args.told.now (length c.loop-op.yielded) c.in-Some.op.now c.in-Some.answer.now t.0 t.1 (t.2 c.in-Some.op.now) (t.3 c.in-Some.answer.now)
+    own_left-turn c.args.caller c.args.script.now c.args.told.now (length c.loop-op.yielded) c.in-Some.op.now c.in-Some.answer.now t.0 t.1 (t.2 c.in-Some.op.now) (t.3 c.in-Some.answer.now)
 
 pub store_update-requires : goal.store_update-requires
 store_update-requires c =

@@ -11,7 +11,7 @@ use Rattle.hash_run.proofs.crew.hire.Goals as goal
 
 pub overflow_sub-tickets : goal.overflow_sub-tickets
 overflow_sub-tickets g c =
-    let commit = tickets_turn c.args.scripts.now c.loop-i.i c.script-script.result.now c.script-script.ensures.script in
+    let turn = tickets_turn c.args.scripts.now c.loop-i.i c.script-script.result.now c.script-script.ensures.script in
     let left = ap (λ (v : View). v.tickets) c.loop-i.invariant.left in
     omega arith
 
@@ -20,7 +20,7 @@ loop-i-preserved g c =
     let scripts = c.args.scripts.now in
     let i = c.loop-i.i in
     let script = c.script-script.result.now in
-    let commit = tickets_turn scripts i script c.script-script.ensures.script in
+    let turn = tickets_turn scripts i script c.script-script.ensures.script in
     let is : get_or c.args.scripts.now c.loop-i.i [] ≡ c.script-script.result.now = get_or_from_slice_get scripts i script [] c.script-script.ensures.script in
     let left = c.loop-i.invariant.left in
     let have : c.tickets.result ≡ op_count (drop c.loop-i.i c.args.scripts.now) = c.tickets.ensures ∙ ap (λ (v : View). v.tickets) left in
@@ -52,7 +52,7 @@ returns g c =
     let count = c.count-last.ensures.count in
     let end : c.loop-i.i ≡ c.count-last.result - 1 = (let past = c.loop-i-test.false in let inside = c.loop-i.auto.i-end in omega arith) in
     let there : Rattle.std.specs.List.slice_get c.args.scripts.now c.loop-i.i ≡ Some c.script.result.now = subst (λ n. Rattle.std.specs.List.slice_get c.args.scripts.now n ≡ Some c.script.result.now) (sym end) c.script.ensures.script in
-    let commit = tickets_turn scripts i script there in
+    let turn = tickets_turn scripts i script there in
     let none : op_count (drop (c.loop-i.i + 1) c.args.scripts.now) ≡ 0 = ap op_count (drop_all (c.loop-i.i + 1) c.args.scripts.now (omega arith)) in
     let is : get_or c.args.scripts.now c.loop-i.i [] ≡ c.script.result.now = get_or_from_slice_get scripts i script [] there in
     let left = c.loop-i.invariant.left in

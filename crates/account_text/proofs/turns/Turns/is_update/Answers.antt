@@ -17,7 +17,7 @@ returns-then-position-eq0 c =
     rw (← c.self.view_is) (
       λ e. absurd (false≢true e),
       λ is.
-          let bounds = own-bounds t.history.now c.args.caller c.args.position c.args.commit c.args.op is in
+          let bounds = own-bounds t.history.now c.args.caller c.args.position c.args.turn c.args.op is in
           elim c.then-position-eq0.branch [
             | then-position-eq0-via-then-position-eq0 w ↦ absurd (omega (arith, bounds, w.if-position-eq0.true))
             | then-position-eq0-via-else-position-eq0+then-position-self w ↦ absurd (omega (arith, bounds, w.if-position-self.true))
@@ -30,9 +30,9 @@ IsSame c = Decides c.eq.result (get_or c.self.inside.history.now (c.args.positio
 same : (c : After-eq) → IsSame c
 same c = search rules
 
-at_place : (c : After-eq) → ((get_or c.self.inside.history.now (c.args.position - 1) no_update).caller ≡ c.args.caller) × ((get_or c.self.inside.history.now (c.args.position - 1) no_update).op ≡ c.args.op) × (own_count c.args.caller (take (c.args.position - 1) c.self.inside.history.now) ≡ c.args.commit) ↔ (slice_get (own_updates c.args.caller c.self.inside.history.now) c.args.commit ≡ Some (record { position = c.args.position; op = c.args.op }))
+at_place : (c : After-eq) → ((get_or c.self.inside.history.now (c.args.position - 1) no_update).caller ≡ c.args.caller) × ((get_or c.self.inside.history.now (c.args.position - 1) no_update).op ≡ c.args.op) × (own_count c.args.caller (take (c.args.position - 1) c.self.inside.history.now) ≡ c.args.turn) ↔ (slice_get (own_updates c.args.caller c.self.inside.history.now) c.args.turn ≡ Some (record { position = c.args.position; op = c.args.op }))
 at_place c =
-    own-is c.self.inside.history.now c.args.caller c.args.position c.args.commit c.args.op (c.args.position - 1) no_update (omega (arith, c.if-position-eq0.false)) (omega (arith, c.if-position-eq0.false, c.if-position-self.false))
+    own-is c.self.inside.history.now c.args.caller c.args.position c.args.turn c.args.op (c.args.position - 1) no_update (omega (arith, c.if-position-eq0.false)) (omega (arith, c.if-position-eq0.false, c.if-position-self.false))
 
 pub returns-then-eq : goal.returns-then-eq
 returns-then-eq c =
@@ -42,12 +42,12 @@ returns-then-eq c =
     let there : i < length t.history.now = omega (arith, c.if-position-eq0.false, c.if-position-self.false) in
     let update = (same at).0 c.if-eq.true in
     let place = at_place at in
-    let commit : c.index.result.now ≡ own_count c.args.caller (take i t.history.now) =
-    c.index.ensures ∙ get_or_default_zero t.turns.items i c.index.result.now (omega (arith, there, c.self.invariant.all)) ∙ c.self.invariant.commit i no_update there ∙ ap (λ (u : Update). own_count u.caller (take i t.history.now)) update in
-    let test = Decides-eqb c.index.result.now c.args.commit in
+    let turn : c.index.result.now ≡ own_count c.args.caller (take i t.history.now) =
+    c.index.ensures ∙ get_or_default_zero t.turns.items i c.index.result.now (omega (arith, there, c.self.invariant.all)) ∙ c.self.invariant.turn i no_update there ∙ ap (λ (u : Update). own_count u.caller (take i t.history.now)) update in
+    let test = Decides-eqb c.index.result.now c.args.turn in
     rw (← c.self.view_is) (
-      λ e. place.0 (ap (λ u. u.caller) update, ap (λ u. u.op) update, sym commit ∙ test.0 e),
-      λ is. test.1 (commit ∙ (place.1 is).2),
+      λ e. place.0 (ap (λ u. u.caller) update, ap (λ u. u.op) update, sym turn ∙ test.0 e),
+      λ is. test.1 (turn ∙ (place.1 is).2),
     )
 
 pub returns-else-eq : goal.returns-else-eq

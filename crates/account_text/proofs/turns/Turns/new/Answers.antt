@@ -30,7 +30,7 @@ loop-update-preserved c =
     record {
       callers = length-set c.loop-update.counts.items (owner history i c.loop-update-test.true) (n + 1) ∙ inv.callers;
       all = ap length c.in_ok-push.ensures.items ∙ length_push c.loop-update.turns.items n ∙ ap (λ m. m + 1) inv.all;
-      commit = rw c.in_ok-push.ensures.items (turns-more history i c.loop-update-test.true c.loop-update.turns.items n inv.all inv.commit (count-now at));
+      turn = rw c.in_ok-push.ensures.items (turns-more history i c.loop-update-test.true c.loop-update.turns.items n inv.all inv.turn (count-now at));
       count = λ caller within. counts-more history i c.loop-update-test.true c.loop-update.counts.items n (λ k lt. inv.count k (omega (arith, lt, inv.callers))) (there at) (count-now at) caller (omega (arith, within, inv.callers));
     }
 
@@ -41,6 +41,6 @@ invariant_of-result c =
     let end : c.loop-update.update-index ≡ length history = omega arith in
     record {
       all = inv.all ∙ end;
-      commit = λ i none lt. inv.commit i none (omega arith);
+      turn = λ i none lt. inv.turn i none (omega arith);
       count = λ caller lt. inv.count caller (omega (arith, lt, inv.callers)) ∙ ap (own_count caller) (take_all c.loop-update.update-index history (omega arith));
     }
