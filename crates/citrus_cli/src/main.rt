@@ -3,7 +3,7 @@
 
 use citrus_tool::{Status, tool};
 use io_edge::{StdSink, StdSource};
-use prcu_model::OpenGate;
+use prcu_marks::OpenGate;
 use std::alloc::Global;
 use std::io::{ErrorKind, Read, Write};
 use std::process::ExitCode;

@@ -16,7 +16,7 @@ use Rattle.prcu_model.specs.History.{IsLegal, IsUpdateAt, AreUpdatesFrom}
 use Rattle.prcu_model.specs.Replies.{Room, Explains, Confirms, tells_update}
 use Rattle.prcu_model.specs.Plain.{with_value, is_filled, plain_reply, history_with, history_after, told_after, history_after_all, told_after_all, plain_history, plain_tolds}
 use Rattle.prcu_model.proofs.Fronts.{map_of-push, updated_all-append}
-use Rattle.prcu_model.proofs.OwnMarks.{own_updates_from-append}
+use Rattle.prcu_marks.proofs.OwnMarks.{own_updates_from-append}
 use Rattle.citrus_tool.specs.Limits.{IsFilledAt}
 use Rattle.prcu_model.specs.Fronts.{told_lines, all_told_lines, own_updates_from, own_updates, told_updates, IsConfirmed, MayStandBeside, CanBeNumbered, AreExplainable}
 

@@ -3,8 +3,8 @@
 use Rattle.std.specs.Prelude.{◌≡◌, List, [], ◌∷◌}
 use Rattle.prcu_model.specs.declared.operation.Op.{Op}
 use Rattle.prcu_model.specs.declared.operation.Update.{Update}
-use Rattle.prcu_model.specs.Marks.{updates_of}
-use Rattle.prcu_model.specs.Runs.{FitsScripts}
+use Rattle.prcu_marks.specs.Marks.{updates_of}
+use Rattle.prcu_marks.specs.Runs.{FitsScripts}
 use Rattle.class_hash.specs.Seats.{SeatAt, TableAt}
 use Rattle.hash_run.specs.Capacities.{AreCapacities}
 use Rattle.citrus_tool.specs.declared.outcome.Ran.{Ran}

@@ -3,7 +3,7 @@ ghost use Rattle.std.specs.Prelude.{◌≤◌};
 
 use super::*;
 use io_edge::{MemorySink, MemorySource};
-use prcu_model::{Gate, OpenGate};
+use prcu_marks::{Gate, OpenGate};
 use std::alloc::Global;
 use std::sync::Wait;
 use std::test::Fail;

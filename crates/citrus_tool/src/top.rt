@@ -10,7 +10,7 @@ use crate::commands::{Command, command_of};
 use crate::outcome::{Outcome, Ran, Status};
 use crate::running::answer_to;
 use io_edge::{ReadError, Sink, Source, read_all, write_all};
-use prcu_model::Gate;
+use prcu_marks::Gate;
 use std::alloc::Global;
 use std::sync::Wait;
 use std::thread::Threads;

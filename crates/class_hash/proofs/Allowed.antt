@@ -7,8 +7,8 @@ use native.Mathlib.Decide.{ℕ_discrete}
 use prog.Atomic.{either}
 use Rattle.atomic_table.specs.Table.{State, Me, step, keeps, Allows}
 use Rattle.atomic_table.proofs.Lists.{set_here, set_again}
-use Rattle.prcu_model.specs.declared.mark.Mark.{Mark}
-use Rattle.prcu_model.specs.declared.mark.Mark.TheVariants.{Entered, Left, Done, Given, Unlinked}
+use Rattle.prcu_marks.specs.declared.mark.Mark.{Mark}
+use Rattle.prcu_marks.specs.declared.mark.Mark.TheVariants.{Entered, Left, Done, Given, Unlinked}
 use Rattle.hash_core.specs.declared.shape.Shape.{Shape}
 use Rattle.hash_core.specs.declared.words.Field.{Field}
 use Rattle.hash_core.specs.declared.words.Field.TheVariants.{Front, Lock, Readers, Head, Free, Retired, Value, Chain}
@@ -18,12 +18,12 @@ use Rattle.hash_core.specs.declared.view.Hold.{Hold}
 use Rattle.hash_core.specs.declared.view.View.{View}
 use Rattle.hash_core.specs.Memory.{Memory, word_of, is_field, memory_of, stored}
 use Rattle.hash_core.specs.Slots.{IsOfClass}
-use Rattle.prcu_model.specs.Marks.{updates_of}
+use Rattle.prcu_marks.specs.Marks.{updates_of}
 use Rattle.prcu_model.specs.Dictionary.{WasSaid}
 use Rattle.hash_core.specs.Rule.{MemoryRule, Rule}
 use Rattle.hash_core.specs.Steps.{stepped, IsQuiet, after_clock_load, after_announce, after_enter_by_stamp, searched, MayLoad, fresh_hold, NeedsBegin, after_begin, after9, NeedsTake, after_take, NeedsRefill, after_refill, NeedsMove, after_move, NeedsPush, after_push, NeedsChain, after_chain, NeedsSeize, after_seize, Needs12, NeedsLock, after_lock, NeedsUnlock, after_unlock, Needs15, after15, NeedsCountFree, after_count_free}
 use Rattle.list_laws.proofs.Lists.{at_below}
-use Rattle.prcu_model.proofs.MarkLists.{updates_of-append}
+use Rattle.prcu_marks.proofs.MarkLists.{updates_of-append}
 use Rattle.hash_core.proofs.Busy.{quiet_turn}
 use Rattle.hash_core.proofs.Sections.{law3, law4, law5, some_reader}
 use Rattle.hash_core.proofs.Locks.{law6, law7, law8, law9, law12, law16}

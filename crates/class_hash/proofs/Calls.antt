@@ -1,7 +1,7 @@
 -- What a few steps leave together.
 use Rattle.std.proofs.Common.{◌≡◌, ◌≢◌, ℕ, ◌==◌, Bool, true, false, cond, List, length, Some, None, refl, sym, ap, subst, ◌∙◌, ne_eqb}
 use mathlib.Core.List.{IsPrefix}
-use Rattle.prcu_model.specs.declared.mark.Mark.{Mark}
+use Rattle.prcu_marks.specs.declared.mark.Mark.{Mark}
 use Rattle.hash_core.specs.declared.words.Field.{Field}
 use Rattle.hash_core.specs.declared.words.Field.TheVariants.{Readers, Free, Retired}
 use Rattle.hash_core.specs.declared.words.Kind.TheVariants.{H8, H9, H10}
@@ -14,7 +14,7 @@ use Rattle.class_hash.specs.Answers.{IsLink, IsFull}
 use Rattle.class_hash.proofs.Walking.{known_here, free_absent}
 use Rattle.hash_core.specs.declared.view.Section.{Section}
 use Rattle.hash_core.specs.declared.view.SearchState.TheVariants.{Start}
-use Rattle.prcu_model.specs.Marks.{updates_of}
+use Rattle.prcu_marks.specs.Marks.{updates_of}
 use Rattle.class_hash.specs.Stepped.{Enters, LoadsReaders, Loads, Moves, Refills}
 use Rattle.class_hash.specs.Calls.{Lists, MayPoll, Refilled, Waits}
 

@@ -4,8 +4,8 @@ use Rattle.std.specs.List.{AllByRecursion, slice_get}
 use Rattle.std.specs.FinMap as finite
 use Rattle.std.proofs.lemmas.List.{take_all, take_at}
 use mathlib.Core.List.{IsPrefix}
-use Rattle.prcu_model.specs.declared.mark.Mark.{Mark}
-use Rattle.prcu_model.specs.declared.mark.Mark.TheVariants.{Entered, Left, Began, Ended, Done, Given, Unlinked, Freed}
+use Rattle.prcu_marks.specs.declared.mark.Mark.{Mark}
+use Rattle.prcu_marks.specs.declared.mark.Mark.TheVariants.{Entered, Left, Began, Ended, Done, Given, Unlinked, Freed}
 use Rattle.prcu_model.specs.declared.operation.Op.{Op}
 use Rattle.prcu_model.specs.declared.operation.Op.TheVariants.{Put, Get, Del, Set}
 use Rattle.prcu_model.specs.declared.operation.Reply.{Reply}
@@ -14,19 +14,19 @@ use Rattle.prcu_model.specs.declared.operation.Told.{Told}
 use Rattle.prcu_model.specs.declared.operation.Update.{Update}
 use Rattle.prcu_model.specs.Dictionary.{Dictionary, key_of, map_of, map_at}
 use Rattle.prcu_model.specs.Replies.{Confirms, tells_update}
-use Rattle.prcu_model.specs.Marks.{updates_of}
-use Rattle.prcu_model.specs.Callers.{Caller, HasSeenItsOwn, IsLeftBy, entered_for, WaitsFor, HasMadeUpdate, WasExplained, HasAnswered}
+use Rattle.prcu_marks.specs.Marks.{updates_of}
+use Rattle.prcu_marks.specs.Callers.{Caller, HasSeenItsOwn, IsLeftBy, entered_for, WaitsFor, HasMadeUpdate, WasExplained, HasAnswered}
 use Rattle.prcu_model.proofs.ListFacts.{prefix_self, prefix_trans, all_map, all_append}
-use Rattle.prcu_model.proofs.MarkLists.{updates_of-append}
-use Rattle.prcu_model.proofs.OwnMarks.{entered_for-append}
+use Rattle.prcu_marks.proofs.MarkLists.{updates_of-append}
+use Rattle.prcu_marks.proofs.OwnMarks.{entered_for-append}
 use Rattle.hash_core.specs.declared.view.View.{View}
 use Rattle.class_hash.specs.Answers.{IsInformed}
 use Rattle.class_hash.specs.Lookups.{Looked}
 use Rattle.class_hash.specs.Replies.{IsOfSection, HasTried, HasUpdated, told_of, Gets, PutsBy, SetsBy, DelsBy}
 use Rattle.class_hash.specs.Seats.{TableAt}
-use Rattle.prcu_model.specs.Chains.{IsChain}
+use Rattle.prcu_marks.specs.Chains.{IsChain}
 use Rattle.prcu_model.specs.Fronts.{own_updates}
-use Rattle.prcu_model.proofs.Callers.{HasTold, chain_tells, told_meets}
+use Rattle.prcu_marks.proofs.Callers.{HasTold, chain_tells, told_meets}
 use Rattle.class_hash.specs.Clients.{ChainsMeetFronts, ClientAt, caller_of, Makes, HasCalled, ExplainsInClasses}
 
 -- ---- marks of sections

@@ -5,7 +5,7 @@ use mathlib.Core.Logic.{dite}
 use native.Mathlib.Decide.{ℕ_discrete}
 use mathlib.Core.Option.{some}
 use lib.ListN.{get_elem?}
-use Rattle.prcu_model.specs.declared.mark.Mark.{Mark}
+use Rattle.prcu_marks.specs.declared.mark.Mark.{Mark}
 use Rattle.hash_core.specs.declared.words.Field.{Field}
 use Rattle.hash_core.specs.declared.words.Field.TheVariants.{Front, Lock, Head, Free, Retired, Key, Value, Next, Chain}
 use Rattle.hash_core.specs.declared.view.SearchState.{SearchState}
@@ -18,8 +18,8 @@ use Rattle.list_laws.specs.Counts.{times}
 use Rattle.hash_core.specs.Lists.{IsPath}
 use Rattle.hash_core.specs.Memory.{Memory, word_of, is_field}
 use Rattle.hash_core.specs.Slots.{capacity, is_slot_of, IsOfClass, word_count}
-use Rattle.prcu_model.specs.Marks.{updates_of, own_of}
-use Rattle.prcu_model.proofs.MarkLists.{updates_of-append, own_of-append}
+use Rattle.prcu_marks.specs.Marks.{updates_of, own_of}
+use Rattle.prcu_marks.proofs.MarkLists.{updates_of-append, own_of-append}
 use Rattle.prcu_model.proofs.Fronts.{AreUpdatesFrom-front}
 use Rattle.hash_core.specs.Known.{known_in, ComesTo, IsOnWalk}
 use Rattle.std.specs.FinMap as finite

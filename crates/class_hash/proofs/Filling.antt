@@ -2,9 +2,9 @@
 use Rattle.std.proofs.Common.{◌≡◌, ◌≢◌, ℕ, ◌≤◌, true, cond, List, [], ◌∷◌, ◌++◌, Some, refl, sym, ap, subst, ◌∙◌, arith, ne_eqb}
 use Rattle.std.specs.List.{AllByRecursion}
 use mathlib.Core.List.{IsPrefix}
-use Rattle.prcu_model.specs.declared.mark.Mark.TheVariants.{Given}
-use Rattle.prcu_model.specs.declared.mark.Why.{Why}
-use Rattle.prcu_model.specs.declared.mark.Why.TheVariants.{Counter}
+use Rattle.prcu_marks.specs.declared.mark.Mark.TheVariants.{Given}
+use Rattle.prcu_marks.specs.declared.mark.Why.{Why}
+use Rattle.prcu_marks.specs.declared.mark.Why.TheVariants.{Counter}
 use Rattle.hash_core.specs.declared.words.Field.TheVariants.{Readers, Head, Free, Retired, Key, Value, Next, Chain}
 use Rattle.hash_core.specs.declared.words.Kind.TheVariants.{H8, H10, H11}
 use Rattle.hash_core.specs.declared.view.Hold.{Hold}

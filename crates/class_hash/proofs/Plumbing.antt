@@ -4,7 +4,7 @@ use lib.Seq.{set-get_or}
 use mathlib.Core.Option.{some}
 use lib.ListN.{get_elem?}
 use Rattle.atomic_table.proofs.Lists.{set_here}
-use Rattle.prcu_model.specs.declared.mark.Mark.{Mark}
+use Rattle.prcu_marks.specs.declared.mark.Mark.{Mark}
 use Rattle.hash_core.specs.declared.shape.Shape.{Shape}
 use Rattle.hash_core.specs.declared.words.Field.{Field}
 use Rattle.hash_core.specs.declared.words.Kind.{Kind}

@@ -1,7 +1,7 @@
 -- A slot linked under a bucket's lock.
 use Rattle.std.proofs.Common.{◌≡◌, ℕ, ◌+◌, ◌-◌, ◌/◌, ◌≤◌, true, false, List, [], ◌∷◌, ◌++◌, length, Option, Some, None, refl, sym, ap, subst, ◌∙◌, arith}
 use mathlib.Core.List.{IsPrefix}
-use Rattle.prcu_model.specs.declared.mark.Mark.TheVariants.{Done, Given}
+use Rattle.prcu_marks.specs.declared.mark.Mark.TheVariants.{Done, Given}
 use Rattle.prcu_model.specs.declared.operation.Op.TheVariants.{Put}
 use Rattle.prcu_model.specs.History.{IsLegal}
 use Rattle.hash_core.specs.declared.words.Field.TheVariants.{Front, Lock, Head}
@@ -9,7 +9,7 @@ use Rattle.hash_core.specs.declared.words.Kind.TheVariants.{H7, H13, H16}
 use Rattle.hash_core.specs.declared.view.Hold.{Hold}
 use Rattle.hash_core.specs.declared.view.Commit.{Commit}
 use Rattle.hash_core.specs.declared.view.View.{View}
-use Rattle.prcu_model.specs.Marks.{updates_of}
+use Rattle.prcu_marks.specs.Marks.{updates_of}
 use Rattle.hash_core.specs.Slots.{is_slot_of}
 use Rattle.hash_core.specs.Known.{knowing, ShowsAbsent}
 use Rattle.hash_core.specs.Steps.{stepped, NeedsBegin, NeedsLock, NeedsCountFree, after_begin, after_lock, after_count_free}

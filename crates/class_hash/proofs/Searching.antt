@@ -1,8 +1,8 @@
 -- Searches in a section.
 use Rattle.std.proofs.Common.{◌≡◌, ◌≢◌, ℕ, ◌+◌, ◌%◌, true, false, cond, List, [], ◌∷◌, ◌++◌, length, Option, Some, None, refl, sym, ap, subst, ◌∙◌, eq-eqb, ne_eqb, append_assoc}
 use mathlib.Core.List.{IsPrefix}
-use Rattle.prcu_model.specs.declared.mark.Mark.{Mark}
-use Rattle.prcu_model.specs.declared.mark.Mark.TheVariants.{Entered, Left}
+use Rattle.prcu_marks.specs.declared.mark.Mark.{Mark}
+use Rattle.prcu_marks.specs.declared.mark.Mark.TheVariants.{Entered, Left}
 use Rattle.hash_core.specs.declared.words.Field.{Field}
 use Rattle.hash_core.specs.declared.words.Field.TheVariants.{Head, Key, Value, Next, Readers}
 use Rattle.hash_core.specs.declared.words.Kind.TheVariants.{H3, H4, H5}
@@ -11,7 +11,7 @@ use Rattle.hash_core.specs.declared.view.SearchState.TheVariants.{Start, Unread,
 use Rattle.hash_core.specs.declared.view.Section.{Section}
 use Rattle.hash_core.specs.declared.view.StepMade.{StepMade}
 use Rattle.hash_core.specs.declared.view.View.{View}
-use Rattle.prcu_model.specs.Marks.{updates_of}
+use Rattle.prcu_marks.specs.Marks.{updates_of}
 use Rattle.hash_core.specs.Slots.{is_slot_of}
 use Rattle.prcu_model.specs.Dictionary.{WasSaid}
 use Rattle.hash_core.specs.Steps.{IsQuiet, StandsAt, link_stand, searched}

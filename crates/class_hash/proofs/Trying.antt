@@ -2,8 +2,8 @@
 use Rattle.std.proofs.Common.{◌≡◌, ℕ, ◌+◌, ◌-◌, ◌%◌, ◌≤◌, ◌==◌, true, cond, arith, eq-eqb, List, [], ◌∷◌, ◌++◌, Option, Some, None, IfNone, IfSome, is_some, refl, sym, ap, subst, ◌∙◌, append_assoc, append-nil}
 use Rattle.std.specs.List.{AllByRecursion}
 use mathlib.Core.List.{IsPrefix}
-use Rattle.prcu_model.specs.declared.mark.Mark.{Mark}
-use Rattle.prcu_model.specs.declared.mark.Mark.TheVariants.{Entered, Left, Done, Unlinked}
+use Rattle.prcu_marks.specs.declared.mark.Mark.{Mark}
+use Rattle.prcu_marks.specs.declared.mark.Mark.TheVariants.{Entered, Left, Done, Unlinked}
 use Rattle.prcu_model.specs.declared.operation.Op.TheVariants.{Put, Set, Del}
 use Rattle.prcu_model.specs.declared.operation.Reply.TheVariants.{New, Old, Full, Gone, Was}
 use Rattle.hash_core.specs.declared.words.Field.TheVariants.{Lock}
@@ -12,7 +12,7 @@ use Rattle.hash_core.specs.declared.view.Section.{Section}
 use Rattle.hash_core.specs.declared.view.Hold.{Hold}
 use Rattle.hash_core.specs.declared.view.View.{View}
 use Rattle.prcu_model.specs.Dictionary.{map_of}
-use Rattle.prcu_model.specs.Marks.{updates_of}
+use Rattle.prcu_marks.specs.Marks.{updates_of}
 use Rattle.hash_core.specs.Pairs.{HasPairs}
 use Rattle.hash_core.specs.Slots.{capacity, is_slot_of, IsOfClass}
 use Rattle.class_hash.specs.Answers.{IsFull}
@@ -20,8 +20,8 @@ use Rattle.hash_core.specs.Known.{ShowsAbsent}
 use Rattle.hash_core.specs.Steps.{stepped, IsQuiet, NeedsBegin, after_begin, fresh_hold}
 use Rattle.prcu_model.proofs.ListFacts.{all_append, prefix_self, prefix_trans}
 use Rattle.class_hash.proofs.Trails.{adds_step, adds_both}
-use Rattle.prcu_model.specs.Callers.{entered_for}
-use Rattle.prcu_model.proofs.OwnMarks.{entered_for-append}
+use Rattle.prcu_marks.specs.Callers.{entered_for}
+use Rattle.prcu_marks.proofs.OwnMarks.{entered_for-append}
 use Rattle.class_hash.specs.Stepped.{Unlocks}
 use Rattle.class_hash.specs.Trails.{AddsNoLists}
 use Rattle.class_hash.specs.Lookups.{Looked}

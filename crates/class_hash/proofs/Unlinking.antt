@@ -1,7 +1,7 @@
 -- A slot unlinked under a bucket's lock.
 use Rattle.std.proofs.Common.{◌≡◌, ℕ, ◌+◌, ◌-◌, ◌/◌, ◌≤◌, true, false, List, [], ◌∷◌, ◌++◌, length, Option, Some, None, refl, sym, ap, subst, ◌∙◌, arith}
 use mathlib.Core.List.{IsPrefix}
-use Rattle.prcu_model.specs.declared.mark.Mark.TheVariants.{Done, Unlinked}
+use Rattle.prcu_marks.specs.declared.mark.Mark.TheVariants.{Done, Unlinked}
 use Rattle.prcu_model.specs.declared.operation.Op.TheVariants.{Del}
 use Rattle.prcu_model.specs.History.{IsLegal}
 use Rattle.hash_core.specs.declared.words.Field.{Field}
@@ -10,7 +10,7 @@ use Rattle.hash_core.specs.declared.words.Kind.TheVariants.{H7, H10, H14, H16}
 use Rattle.hash_core.specs.declared.view.Hold.{Hold}
 use Rattle.hash_core.specs.declared.view.Commit.{Commit}
 use Rattle.hash_core.specs.declared.view.View.{View}
-use Rattle.prcu_model.specs.Marks.{updates_of}
+use Rattle.prcu_marks.specs.Marks.{updates_of}
 use Rattle.hash_core.specs.Known.{known_in, knowing}
 use Rattle.hash_core.specs.Slots.{is_slot_of, IsOfClass}
 use Rattle.hash_core.specs.Steps.{stepped, LinksTo, NeedsBegin, NeedsUnlock, NeedsCountFree, NeedsPush, after_begin, after_unlock, after_count_free, after_chain, after_push}

@@ -2,7 +2,7 @@
 -- Source: docs/ALGORITHM.md, "The hash dictionary".
 use Rattle.std.specs.Prelude.{◌≡◌, ◌≢◌, ℕ, true, List, [], ◌∷◌, ◌++◌, Some, None}
 use mathlib.Core.List.{IsPrefix}
-use Rattle.prcu_model.specs.declared.mark.Why.TheVariants.{Counter}
+use Rattle.prcu_marks.specs.declared.mark.Why.TheVariants.{Counter}
 use Rattle.hash_core.specs.declared.words.Field.TheVariants.{Readers, Free, Retired}
 use Rattle.hash_core.specs.declared.words.Kind.TheVariants.{H8, H9, H10}
 use Rattle.hash_core.specs.declared.view.Hold.{Hold}

@@ -9,10 +9,10 @@ use Rattle.prcu_model.specs.declared.operation.Reply.TheVariants.{Full}
 use Rattle.prcu_model.specs.declared.operation.Told.{Told}
 use Rattle.prcu_model.specs.Dictionary.{Dictionary}
 use Rattle.prcu_model.specs.Replies.{Explains}
-use Rattle.prcu_model.specs.Marks.{updates_of}
+use Rattle.prcu_marks.specs.Marks.{updates_of}
 use Rattle.prcu_model.specs.Fronts.{told_lines, own_updates}
-use Rattle.prcu_model.specs.Chains.{IsChain}
-use Rattle.prcu_model.specs.Callers.{Caller, MeetsFronts}
+use Rattle.prcu_marks.specs.Chains.{IsChain}
+use Rattle.prcu_marks.specs.Callers.{Caller, MeetsFronts}
 use Rattle.hash_core.specs.declared.view.View.{View}
 use Rattle.hash_core.specs.Slots.{capacity}
 use Rattle.hash_core.specs.Pairs.{HasPairs}

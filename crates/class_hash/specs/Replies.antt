@@ -6,14 +6,14 @@ use Rattle.prcu_model.specs.declared.operation.Reply.TheVariants.{New, Old, Full
 use Rattle.std.specs.List.{AllByRecursion}
 use Rattle.std.specs.FinMap as finite
 use mathlib.Core.List.{IsPrefix}
-use Rattle.prcu_model.specs.declared.mark.Mark.{Mark}
-use Rattle.prcu_model.specs.declared.mark.Mark.TheVariants.{Entered, Left, Done, Unlinked}
+use Rattle.prcu_marks.specs.declared.mark.Mark.{Mark}
+use Rattle.prcu_marks.specs.declared.mark.Mark.TheVariants.{Entered, Left, Done, Unlinked}
 use Rattle.prcu_model.specs.declared.operation.Op.{Op}
 use Rattle.prcu_model.specs.declared.operation.Op.TheVariants.{Put, Set, Del}
 use Rattle.prcu_model.specs.Dictionary.{key_of, map_of}
-use Rattle.prcu_model.specs.Callers.{entered_for}
+use Rattle.prcu_marks.specs.Callers.{entered_for}
 use Rattle.prcu_model.specs.History.{IsLegal}
-use Rattle.prcu_model.specs.Marks.{updates_of}
+use Rattle.prcu_marks.specs.Marks.{updates_of}
 use Rattle.prcu_model.specs.declared.operation.Told.{Told}
 use Rattle.hash_core.specs.declared.view.Hold.{Hold}
 use Rattle.hash_core.specs.declared.view.View.{View}

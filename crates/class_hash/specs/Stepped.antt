@@ -9,10 +9,10 @@ use Rattle.hash_core.specs.declared.view.Hold.{Hold}
 use Rattle.hash_core.specs.declared.view.View.{View}
 use mathlib.Core.List.{IsPrefix}
 use Rattle.std.specs.FinMap as finite
-use Rattle.prcu_model.specs.declared.mark.Mark.{Mark}
+use Rattle.prcu_marks.specs.declared.mark.Mark.{Mark}
 use Rattle.prcu_model.specs.Dictionary.{map_of}
 use Rattle.prcu_model.specs.History.{IsLegal}
-use Rattle.prcu_model.specs.Marks.{updates_of}
+use Rattle.prcu_marks.specs.Marks.{updates_of}
 use Rattle.hash_core.specs.Known.{known_in, IsOnWalk}
 use Rattle.hash_core.specs.Steps.{stepped, Goes, after_clock_load, after_announce, after_enter_by_stamp, searched, after6, after_begin, after8, after9, after_take, after_refill, after_move, after_push, after_chain, after_seize, after12, after_lock, after_unlock, after15, after_count_free}
 use Rattle.class_hash.specs.Answers.{GivesAnswer, StandsInClass, IsLinkOf, IsFull, FindsFull}

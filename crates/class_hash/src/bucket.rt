@@ -9,7 +9,7 @@ use crate::seat::HashSeat;
 use crate::steps::{h6, h7, h8, h9, h10_move, h10_refill};
 use crate::table::HashTable;
 use hash_core::Field;
-use prcu_model::Why;
+use prcu_marks::Why;
 
 /// What `try_bucket` answers.
 #[derive(Clone, Copy, Debug, PartialEq, Eq)]

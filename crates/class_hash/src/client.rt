@@ -6,7 +6,8 @@ ghost use Rattle.class_hash.specs.Clients.{ChainsMeetFronts};
 use crate::dictionary::{del, get, put, set};
 use crate::seat::HashSeat;
 use crate::table::HashTable;
-use prcu_model::{Client, Gate, Op, Point, Told};
+use prcu_marks::{Client, Gate, Point};
+use prcu_model::{Op, Told};
 use std::marker::Model;
 use std::sync::Wait;
 

@@ -4,8 +4,8 @@ use Rattle.std.proofs.lemmas.List.{take_more, take_all}
 use Rattle.prcu_model.specs.declared.operation.Op.{Op}
 use Rattle.prcu_model.specs.declared.operation.Told.{Told}
 use Rattle.prcu_model.specs.Lists.{Roomy}
-use Rattle.prcu_model.specs.Chains.{IsChain}
-use Rattle.prcu_model.proofs.Chains.{chain_push}
+use Rattle.prcu_marks.specs.Chains.{IsChain}
+use Rattle.prcu_marks.proofs.Chains.{chain_push}
 use Rattle.client_run.specs.Workers.{IsReadyFor, Work}
 
 -- so many of the script's operations were made, from this client to that of the worker

@@ -4,7 +4,7 @@ use Rattle.std.specs.Prelude.{◌≡◌, ℕ, ◌≤◌, List, [], length, slice
 use Rattle.prcu_model.specs.declared.operation.Op.{Op}
 use Rattle.prcu_model.specs.declared.operation.Told.{Told}
 use Rattle.prcu_model.specs.Lists.{Roomy}
-use Rattle.prcu_model.specs.Chains.{IsChain}
+use Rattle.prcu_marks.specs.Chains.{IsChain}
 
 -- what contracts see of a worker: its client, and what the client was told
 pub record Work (C : Type 0) : Type 0 where

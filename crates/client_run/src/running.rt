@@ -1,10 +1,11 @@
 //! Scripts run beside each other.
 ghost use Rattle.std.specs.Prelude.{◌≡◌, ℕ, ◌+◌, ◌<◌, ◌≤◌, [], length, slice_index_or, slice_get, Some};
-ghost use Rattle.prcu_model.specs.Chains.{IsChain};
+ghost use Rattle.prcu_marks.specs.Chains.{IsChain};
 ghost use Rattle.client_run.specs.Workers.{IsReadyFor, AreReadyFor, HaveMade};
 
 use crate::worker::Worker;
-use prcu_model::{Client, Scripts};
+use prcu_marks::Client;
+use prcu_model::Scripts;
 use std::sync::Wait;
 use std::thread;
 use std::thread::Threads;

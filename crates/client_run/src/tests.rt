@@ -3,7 +3,8 @@ ghost use Rattle.std.specs.Prelude.{◌≡◌, ◌^◌, ◌<◌, length, IfOk, v
 ghost use Rattle.client_run.specs.Workers.{AreReadyFor};
 
 use crate::{Worker, merge, run_all};
-use prcu_model::{Client, NoMemory, Op, Reply, Scripts, Told, ToldList, Update};
+use prcu_marks::Client;
+use prcu_model::{NoMemory, Op, Reply, Scripts, Told, ToldList, Update};
 use std::alloc::Global;
 use std::process::Abort;
 use std::sync::Wait;

@@ -1,9 +1,10 @@
 //! A client with the list of what it is told.
 ghost use Rattle.std.specs.Prelude.{◌≡◌, ◌+◌, ◌≤◌, [], length, IfOk};
-ghost use Rattle.prcu_model.specs.Chains.{IsChain};
+ghost use Rattle.prcu_marks.specs.Chains.{IsChain};
 ghost use Rattle.client_run.specs.Workers.{IsReadyFor};
 
-use prcu_model::{Client, NoMemory, Op, ToldList};
+use prcu_marks::Client;
+use prcu_model::{NoMemory, Op, ToldList};
 use std::alloc::Global;
 use std::marker::Model;
 use std::sync::Wait;

@@ -1,12 +1,12 @@
 -- What one more mark leaves as it was.
 use Rattle.std.proofs.Common.{◌≡◌, ◌≢◌, ℕ, ◌≤◌, cond, List, [], ◌∷◌, ◌++◌, length, take, Option, Some, None, refl, sym, ap, subst, ◌∙◌, inl, inr, arith, eq-eqb, ne_eqb, append-nil}
 use Rattle.std.proofs.lemmas.List.{take-append-le}
-use Rattle.prcu_model.specs.declared.mark.Mark.{Mark}
-use Rattle.prcu_model.specs.declared.mark.Mark.TheVariants.{Entered, Left, Began, Ended, Done, Given, Unlinked, Freed}
-use Rattle.prcu_model.specs.Marks.{Open, next_open, open_at, next_gone, gone_at}
+use Rattle.prcu_marks.specs.declared.mark.Mark.{Mark}
+use Rattle.prcu_marks.specs.declared.mark.Mark.TheVariants.{Entered, Left, Began, Ended, Done, Given, Unlinked, Freed}
+use Rattle.prcu_marks.specs.Marks.{Open, next_open, open_at, next_gone, gone_at}
 use Rattle.hash_core.specs.Marks.{ReuseByClass}
 use Rattle.list_laws.proofs.Lists.{at_below, at_end}
-use Rattle.prcu_model.proofs.MarkLists.{open_at-snoc, gone_at-snoc}
+use Rattle.prcu_marks.proofs.MarkLists.{open_at-snoc, gone_at-snoc}
 
 -- a mark that neither enters nor leaves a section
 abbrev pub TurnsNoSection : Mark → Type 0

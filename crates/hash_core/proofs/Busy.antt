@@ -2,14 +2,14 @@
 use Rattle.std.proofs.Common.{◌≡◌, ◌⊎◌, ℕ, ◌+◌, ◌≤◌, List, length, Option, Some, None, sym, ap, subst, ◌∙◌, inl, inr}
 use mathlib.Core.Option.{some}
 use lib.ListN.{get_elem?}
-use Rattle.prcu_model.specs.declared.mark.Mark.{Mark}
+use Rattle.prcu_marks.specs.declared.mark.Mark.{Mark}
 use Rattle.prcu_model.specs.declared.operation.Update.{Update}
 use Rattle.hash_core.specs.declared.view.Section.{Section}
 use Rattle.hash_core.specs.declared.view.Hold.{Hold}
 use Rattle.hash_core.specs.declared.view.View.{View}
 use Rattle.list_laws.specs.Counts.{total}
 use Rattle.hash_core.specs.Memory.{Memory}
-use Rattle.prcu_model.specs.Marks.{updates_of, entered_at}
+use Rattle.prcu_marks.specs.Marks.{updates_of, entered_at}
 use Rattle.hash_core.specs.Buckets.{Bucket, IsLocked, inside_count, IsFreeOfReaders}
 use Rattle.hash_core.specs.Seats.{AreSeen, AreApart, AreOwned, HasNoCommit, IsTurned}
 use Rattle.hash_core.specs.Steps.{IsQuiet}

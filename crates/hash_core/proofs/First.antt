@@ -14,7 +14,7 @@ use Rattle.list_laws.specs.Counts.{times}
 use Rattle.hash_core.specs.Lists.{IsPath}
 use Rattle.hash_core.specs.Memory.{Memory, memory_of}
 use Rattle.hash_core.specs.Slots.{capacity, base, is_slot_of}
-use Rattle.prcu_model.specs.Marks.{own_of, open_at, entered_at}
+use Rattle.prcu_marks.specs.Marks.{own_of, open_at, entered_at}
 use Rattle.hash_core.specs.Buckets.{Bucket, HoldsOther, IsFreeOfReaders}
 use Rattle.prcu_model.specs.Dictionary.{WasSaid}
 use Rattle.hash_core.specs.Readers.{WillAnswer}

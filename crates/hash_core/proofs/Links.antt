@@ -5,8 +5,8 @@ use mathlib.Core.Logic.{dite}
 use mathlib.Core.Option.{some}
 use native.Mathlib.Decide.{ℕ_discrete}
 use lib.ListN.{get_elem?}
-use Rattle.prcu_model.specs.declared.mark.Mark.{Mark}
-use Rattle.prcu_model.specs.declared.mark.Mark.TheVariants.{Done}
+use Rattle.prcu_marks.specs.declared.mark.Mark.{Mark}
+use Rattle.prcu_marks.specs.declared.mark.Mark.TheVariants.{Done}
 use Rattle.prcu_model.specs.declared.operation.Op.{Op}
 use Rattle.prcu_model.specs.declared.operation.Op.TheVariants.{Put, Set}
 use Rattle.prcu_model.specs.declared.operation.Update.{Update}
@@ -22,7 +22,7 @@ use Rattle.list_laws.specs.Counts.{times}
 use Rattle.hash_core.specs.Lists.{IsPath}
 use Rattle.hash_core.specs.Memory.{Memory, stored}
 use Rattle.hash_core.specs.Slots.{is_slot_of}
-use Rattle.prcu_model.specs.Marks.{updates_of, open_at, gone_at, IsGone, entered_at}
+use Rattle.prcu_marks.specs.Marks.{updates_of, open_at, gone_at, IsGone, entered_at}
 use Rattle.hash_core.specs.Marks.{ReuseByClass}
 use Rattle.hash_core.specs.Known.{knowing, ShowsAbsent, IsOnWalk}
 use Rattle.hash_core.specs.Buckets.{Bucket, seek, IsFreeOfReaders, taken_of, unlinked_of, HaveDistinctKeys}
@@ -34,9 +34,9 @@ use Rattle.hash_core.specs.Rule.{BucketRule, MemoryRule}
 use Rattle.prcu_model.proofs.ListFacts.{all_map}
 use Rattle.list_laws.proofs.Lists.{each_set, all_times}
 use Rattle.hash_core.proofs.Paths.{seek_here, seek_past, seek-same, HaveDistinctKeys-same}
-use Rattle.prcu_model.proofs.MarkLists.{updates_of-append}
+use Rattle.prcu_marks.proofs.MarkLists.{updates_of-append}
 use Rattle.hash_core.proofs.Classes.{slot_within}
-use Rattle.prcu_model.proofs.MarkPlaces.{open_at-below}
+use Rattle.prcu_marks.proofs.MarkPlaces.{open_at-below}
 use Rattle.hash_core.proofs.Adds.{open_at-same, gone_at-same, reuse_more}
 use Rattle.hash_core.proofs.Frames.{SameMarks, chain_slot, taken_slot, WasSaid-longer}
 use Rattle.hash_core.proofs.Stores.{class_words, stored_here, same_self}

@@ -2,7 +2,7 @@
 use Rattle.std.proofs.Common.{◌≡◌, ℕ, ◌+◌, ◌<◌, ◌≤◌, List, [], length, set, Option, Some, None, refl, sym, subst, ◌∙◌, inl, arith, append-nil}
 use mathlib.Core.Option.{some}
 use lib.ListN.{get_elem?}
-use Rattle.prcu_model.specs.declared.mark.Mark.{Mark}
+use Rattle.prcu_marks.specs.declared.mark.Mark.{Mark}
 use Rattle.hash_core.specs.declared.words.Field.{Field}
 use Rattle.hash_core.specs.declared.words.Field.TheVariants.{Front}
 use Rattle.hash_core.specs.declared.words.Kind.{Kind}
@@ -12,7 +12,7 @@ use Rattle.hash_core.specs.declared.view.Commit.{Commit}
 use Rattle.hash_core.specs.declared.view.View.{View}
 use Rattle.list_laws.specs.Counts.{total}
 use Rattle.hash_core.specs.Memory.{Memory}
-use Rattle.prcu_model.specs.Marks.{updates_of, own_of}
+use Rattle.prcu_marks.specs.Marks.{updates_of, own_of}
 use Rattle.hash_core.specs.Seats.{open_of, AreOwned}
 use Rattle.hash_core.specs.Steps.{stepped}
 use Rattle.hash_core.specs.Rule.{MemoryRule}

@@ -7,7 +7,7 @@ use mathlib.Core.List.{IsPrefix}
 use native.Mathlib.Decide.{ℕ_discrete}
 use lib.ListN.{get_elem?}
 use Rattle.atomic_table.proofs.Lists.{set_here, set_else}
-use Rattle.prcu_model.specs.declared.mark.Mark.{Mark}
+use Rattle.prcu_marks.specs.declared.mark.Mark.{Mark}
 use Rattle.prcu_model.specs.declared.operation.Update.{Update}
 use Rattle.hash_core.specs.declared.words.Field.TheVariants.{Front}
 use Rattle.hash_core.specs.declared.view.Section.{Section}
@@ -16,11 +16,11 @@ use Rattle.hash_core.specs.declared.view.Commit.{Commit}
 use Rattle.hash_core.specs.declared.view.View.{View}
 use Rattle.list_laws.specs.Counts.{times}
 use Rattle.hash_core.specs.Memory.{Memory}
-use Rattle.prcu_model.specs.Marks.{Open, open_at, own_of, is_of, entered_at}
+use Rattle.prcu_marks.specs.Marks.{Open, open_at, own_of, is_of, entered_at}
 use Rattle.hash_core.specs.Seats.{HasHeard, AreSeen, HasPlace, AnswersFor, AreApart, AreOwned, open_of, AreOpen, AreHeld, HasNoCommit, IsTurned}
 use Rattle.prcu_model.proofs.ListFacts.{prefix_self, prefix_trans, all_map}
 use Rattle.list_laws.proofs.Lists.{at_below, at_one, each_set}
-use Rattle.prcu_model.proofs.MarkLists.{own_of-append}
+use Rattle.prcu_marks.proofs.MarkLists.{own_of-append}
 
 -- Who answers for which places is the same.
 pub record SamePlaces (v w : View) : Type 0 where

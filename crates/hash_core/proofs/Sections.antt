@@ -8,8 +8,8 @@ use mathlib.Core.Option.{some}
 use native.Mathlib.Decide.{ℕ_discrete}
 use lib.ListN.{get_elem?}
 use Rattle.atomic_table.proofs.Lists.{set_here, set_else}
-use Rattle.prcu_model.specs.declared.mark.Mark.{Mark}
-use Rattle.prcu_model.specs.declared.mark.Mark.TheVariants.{Entered, Left, Began, Ended, Done, Given, Unlinked, Freed}
+use Rattle.prcu_marks.specs.declared.mark.Mark.{Mark}
+use Rattle.prcu_marks.specs.declared.mark.Mark.TheVariants.{Entered, Left, Began, Ended, Done, Given, Unlinked, Freed}
 use Rattle.prcu_model.specs.Dictionary.{map_of}
 use Rattle.prcu_model.specs.History.{IsLegal}
 use Rattle.hash_core.specs.declared.words.Field.{Field}
@@ -22,7 +22,7 @@ use Rattle.list_laws.specs.Counts.{total}
 use Rattle.hash_core.specs.Lists.{IsPath}
 use Rattle.hash_core.specs.Memory.{Memory, stored}
 use Rattle.hash_core.specs.Slots.{is_slot_of, IsOfClass}
-use Rattle.prcu_model.specs.Marks.{updates_of, Open, open_at, gone_at, entered_at}
+use Rattle.prcu_marks.specs.Marks.{updates_of, Open, open_at, gone_at, entered_at}
 use Rattle.hash_core.specs.Buckets.{Bucket, seek, inside_count, IsKnown, IsFreeOfReaders, AreClean}
 use Rattle.prcu_model.specs.Dictionary.{WasSaid}
 use Rattle.hash_core.specs.Readers.{IsHeldBack, HasWay, WillAnswer}
@@ -32,8 +32,8 @@ use Rattle.hash_core.specs.Rule.{BucketRule, MemoryRule}
 use Rattle.prcu_model.proofs.ListFacts.{all_map}
 use Rattle.list_laws.proofs.Lists.{at_below, at_one, each_set, total_set, total_part, all_change}
 use Rattle.hash_core.proofs.Paths.{path_cons, path_none, seek_here, seek_past}
-use Rattle.prcu_model.proofs.MarkLists.{open_at-snoc, updates_of-append}
-use Rattle.prcu_model.proofs.MarkPlaces.{gone_at-below}
+use Rattle.prcu_marks.proofs.MarkLists.{open_at-snoc, updates_of-append}
+use Rattle.prcu_marks.proofs.MarkPlaces.{gone_at-below}
 use Rattle.hash_core.proofs.Adds.{gone_at-same, reuse_more}
 use Rattle.hash_core.proofs.Frames.{SameMarks, SameSection, locked_same, still_said, still_answer, frame_ages_same}
 use Rattle.hash_core.proofs.Stores.{same_words, readers_words, stored_here, same_self}

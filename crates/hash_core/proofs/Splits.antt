@@ -8,19 +8,19 @@ use mathlib.Core.List.{IsPrefix}
 use native.Mathlib.Decide.{dec_le, ℕ_discrete}
 use lib.ListN.{get_elem?}
 use Rattle.atomic_table.proofs.Lists.{set_here, set_else}
-use Rattle.prcu_model.specs.declared.mark.Mark.{Mark}
-use Rattle.prcu_model.specs.declared.mark.Mark.TheVariants.{Entered, Left, Began, Ended, Done, Given, Unlinked, Freed}
+use Rattle.prcu_marks.specs.declared.mark.Mark.{Mark}
+use Rattle.prcu_marks.specs.declared.mark.Mark.TheVariants.{Entered, Left, Began, Ended, Done, Given, Unlinked, Freed}
 use Rattle.hash_core.specs.declared.view.View.{View}
 use Rattle.list_laws.specs.Counts.{times, total}
 use Rattle.hash_core.specs.Memory.{Memory}
-use Rattle.prcu_model.specs.Marks.{own_of, entered_at, updates_of}
+use Rattle.prcu_marks.specs.Marks.{own_of, entered_at, updates_of}
 use Rattle.hash_core.specs.Buckets.{inside_count}
 use Rattle.hash_core.specs.Seats.{HasHeard, AreSeen, HasPlace, AnswersFor, AreApart, AreOwned, HasNoCommit}
 use Rattle.hash_core.specs.Steps.{IsQuiet, NeedsSplit, first_of, second_of, places_from, longer, both_of, spent}
 use Rattle.hash_core.specs.Rule.{MemoryRule}
 use Rattle.list_laws.proofs.Lists.{at_below, at_end, at_one, each_set, total_set, total_append, times_append, times_here, times_other}
 use Rattle.prcu_model.proofs.ListFacts.{prefix_self, prefix_trans, prefix_of_longer, all_map, all_append}
-use Rattle.prcu_model.proofs.MarkLists.{own_of-append, own_of-between}
+use Rattle.prcu_marks.proofs.MarkLists.{own_of-append, own_of-between}
 use Rattle.hash_core.proofs.Busy.{SameBusy, quiet_turn, rule_busy}
 
 module _ {A : Type 0} where

@@ -8,8 +8,8 @@ use mathlib.Core.Logic.{dite}
 use mathlib.Core.Option.{some}
 use native.Mathlib.Decide.{ℕ_discrete}
 use lib.ListN.{get_elem?}
-use Rattle.prcu_model.specs.declared.mark.Mark.{Mark}
-use Rattle.prcu_model.specs.declared.mark.Mark.TheVariants.{Given}
+use Rattle.prcu_marks.specs.declared.mark.Mark.{Mark}
+use Rattle.prcu_marks.specs.declared.mark.Mark.TheVariants.{Given}
 use Rattle.prcu_model.specs.declared.operation.Update.{Update}
 use Rattle.prcu_model.specs.Dictionary.{map_of}
 use Rattle.prcu_model.specs.History.{IsLegal}
@@ -22,7 +22,7 @@ use Rattle.list_laws.specs.Counts.{times, total}
 use Rattle.hash_core.specs.Lists.{IsPath}
 use Rattle.hash_core.specs.Memory.{Memory, same_field, stored}
 use Rattle.hash_core.specs.Slots.{is_slot_of, IsOfClass}
-use Rattle.prcu_model.specs.Marks.{updates_of, Open, open_at, gone_at, IsGone}
+use Rattle.prcu_marks.specs.Marks.{updates_of, Open, open_at, gone_at, IsGone}
 use Rattle.hash_core.specs.Marks.{ReuseByClass}
 use Rattle.hash_core.specs.Known.{known_in, knowing}
 use Rattle.hash_core.specs.Buckets.{Bucket, IsKnown, IsFreeOfReaders, taken_of, unlinked_of, moved_of, link_of}
@@ -34,7 +34,7 @@ use Rattle.hash_core.specs.Rule.{BucketRule, MemoryRule}
 use Rattle.prcu_model.proofs.ListFacts.{all_map}
 use Rattle.list_laws.proofs.Lists.{at_below, at_end, each_set, all_change, all_from_times, times_here}
 use Rattle.hash_core.proofs.Paths.{path_cons, path_none, IsPath-same, seek-same, HaveDistinctKeys-same}
-use Rattle.prcu_model.proofs.MarkLists.{updates_of-append}
+use Rattle.prcu_marks.proofs.MarkLists.{updates_of-append}
 use Rattle.hash_core.proofs.Adds.{open_at-same, gone_at-given_here, gone_at-given_other}
 use Rattle.hash_core.proofs.Classes.{one_class, slot_within, at_most_one}
 use Rattle.hash_core.proofs.Frames.{SameMarks, free_slot, retired_slot, taken_slot, unlinked_slot}

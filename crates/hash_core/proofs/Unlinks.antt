@@ -5,8 +5,8 @@ use mathlib.Core.Logic.{dite}
 use mathlib.Core.Option.{some}
 use native.Mathlib.Decide.{dec_le, ℕ_discrete}
 use lib.ListN.{get_elem?}
-use Rattle.prcu_model.specs.declared.mark.Mark.{Mark}
-use Rattle.prcu_model.specs.declared.mark.Mark.TheVariants.{Done, Unlinked}
+use Rattle.prcu_marks.specs.declared.mark.Mark.{Mark}
+use Rattle.prcu_marks.specs.declared.mark.Mark.TheVariants.{Done, Unlinked}
 use Rattle.prcu_model.specs.declared.operation.Op.TheVariants.{Del}
 use Rattle.prcu_model.specs.Dictionary.{updated, map_of}
 use Rattle.prcu_model.proofs.Fronts.{map_of-push}
@@ -21,7 +21,7 @@ use Rattle.list_laws.specs.Counts.{times}
 use Rattle.hash_core.specs.Lists.{IsPath}
 use Rattle.hash_core.specs.Memory.{Memory, stored}
 use Rattle.hash_core.specs.Slots.{is_slot_of, IsOfClass}
-use Rattle.prcu_model.specs.Marks.{updates_of, open_at, gone_at, IsGone, entered_at}
+use Rattle.prcu_marks.specs.Marks.{updates_of, open_at, gone_at, IsGone, entered_at}
 use Rattle.hash_core.specs.Marks.{ReuseByClass}
 use Rattle.hash_core.specs.Known.{known_in, knowing}
 use Rattle.hash_core.specs.Buckets.{Bucket, seek, HaveDistinctKeys, IsFreeOfReaders, taken_of, link_of}
@@ -32,7 +32,7 @@ use Rattle.hash_core.specs.Rule.{BucketRule, MemoryRule}
 use Rattle.prcu_model.proofs.ListFacts.{all_append, all_map}
 use Rattle.list_laws.proofs.Lists.{all_change, all_times, all_from_times, times_here, times_append}
 use Rattle.hash_core.proofs.Paths.{IsPath-same, path_cons, seek-same, seek_here, seek_past, seek_append, HaveDistinctKeys-same}
-use Rattle.prcu_model.proofs.MarkLists.{updates_of-append}
+use Rattle.prcu_marks.proofs.MarkLists.{updates_of-append}
 use Rattle.hash_core.proofs.Classes.{one_class, at_most_one}
 use Rattle.hash_core.proofs.Adds.{open_at-same, gone_at-same, gone_at-unlinked_here, gone_at-unlinked_other, reuse_more}
 use Rattle.hash_core.proofs.Frames.{chain_slot, WasSaid-longer}

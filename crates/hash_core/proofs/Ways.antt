@@ -2,7 +2,7 @@
 use Rattle.std.proofs.Common.{◌≡◌, ℕ, ◌≤◌, true, List, ◌++◌, Option, None, sym, ap, subst, ◌∙◌, arith}
 use mathlib.Core.Logic.{dite}
 use native.Mathlib.Decide.{dec_le}
-use Rattle.prcu_model.specs.declared.mark.Mark.{Mark}
+use Rattle.prcu_marks.specs.declared.mark.Mark.{Mark}
 use Rattle.prcu_model.specs.declared.operation.Update.{Update}
 use Rattle.hash_core.specs.declared.words.Field.TheVariants.{Key, Value, Next}
 use Rattle.hash_core.specs.declared.view.SearchState.{SearchState}

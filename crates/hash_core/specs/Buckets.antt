@@ -5,7 +5,7 @@ use Rattle.std.specs.List.{AllByRecursion}
 use Rattle.std.specs.FinMap as finite
 use mathlib.Core.Option.{some}
 use lib.ListN.{get_elem?}
-use Rattle.prcu_model.specs.declared.mark.Mark.{Mark}
+use Rattle.prcu_marks.specs.declared.mark.Mark.{Mark}
 use Rattle.prcu_model.specs.declared.operation.Update.{Update}
 use Rattle.prcu_model.specs.Dictionary.{map_of}
 use Rattle.hash_core.specs.declared.words.Field.{Field}
@@ -17,7 +17,7 @@ use Rattle.list_laws.specs.Counts.{times, total}
 use Rattle.hash_core.specs.Lists.{IsPath}
 use Rattle.hash_core.specs.Memory.{Memory}
 use Rattle.hash_core.specs.Slots.{is_slot_of, IsOfClass}
-use Rattle.prcu_model.specs.Marks.{gone_at, IsGone}
+use Rattle.prcu_marks.specs.Marks.{gone_at, IsGone}
 use Rattle.hash_core.specs.Known.{known_in}
 
 -- A class: its chain, its free list, its retired list, the list that its holder has in hand, and what the holder knows.

@@ -3,9 +3,9 @@
 use Rattle.std.specs.Prelude.{◌≡◌, ℕ, ◌%◌, ◌<◌, IsTrue, List, take, Some}
 use mathlib.Core.Option.{some}
 use lib.ListN.{get_elem?}
-use Rattle.prcu_model.specs.declared.mark.Mark.{Mark}
-use Rattle.prcu_model.specs.declared.mark.Mark.TheVariants.{Given}
-use Rattle.prcu_model.specs.Marks.{Open, open_at, gone_at}
+use Rattle.prcu_marks.specs.declared.mark.Mark.{Mark}
+use Rattle.prcu_marks.specs.declared.mark.Mark.TheVariants.{Given}
+use Rattle.prcu_marks.specs.Marks.{Open, open_at, gone_at}
 use Rattle.hash_core.specs.Slots.{is_slot_of}
 
 -- Reuse by class: where a slot is given that was unlinked before, no section of its class is open that was entered before

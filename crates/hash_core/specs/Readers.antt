@@ -5,7 +5,7 @@ use Rattle.prcu_model.specs.Dictionary.{WasSaid}
 use Rattle.std.specs.List.{AllByRecursion}
 use mathlib.Core.Option.{some}
 use lib.ListN.{get_elem?}
-use Rattle.prcu_model.specs.declared.mark.Mark.{Mark}
+use Rattle.prcu_marks.specs.declared.mark.Mark.{Mark}
 use Rattle.prcu_model.specs.declared.operation.Update.{Update}
 use Rattle.hash_core.specs.declared.words.Field.TheVariants.{Key, Next}
 use Rattle.hash_core.specs.declared.view.SearchState.{SearchState}
@@ -15,7 +15,7 @@ use Rattle.hash_core.specs.declared.view.View.{View}
 use Rattle.hash_core.specs.Lists.{IsPath}
 use Rattle.hash_core.specs.Memory.{Memory}
 use Rattle.hash_core.specs.Slots.{is_slot_of}
-use Rattle.prcu_model.specs.Marks.{gone_at}
+use Rattle.prcu_marks.specs.Marks.{gone_at}
 use Rattle.hash_core.specs.Buckets.{seek}
 
 -- The slot was unlinked after the section was entered, and not given since.

@@ -5,7 +5,7 @@ use Rattle.std.specs.List.{AllByRecursion}
 use mathlib.Core.Option.{some}
 use mathlib.Core.List.{IsPrefix}
 use lib.ListN.{get_elem?}
-use Rattle.prcu_model.specs.declared.mark.Mark.{Mark}
+use Rattle.prcu_marks.specs.declared.mark.Mark.{Mark}
 use Rattle.prcu_model.specs.declared.operation.Update.{Update}
 use Rattle.hash_core.specs.declared.words.Field.TheVariants.{Front}
 use Rattle.hash_core.specs.declared.view.Section.{Section}
@@ -14,7 +14,7 @@ use Rattle.hash_core.specs.declared.view.Commit.{Commit}
 use Rattle.hash_core.specs.declared.view.View.{View}
 use Rattle.list_laws.specs.Counts.{times}
 use Rattle.hash_core.specs.Memory.{Memory}
-use Rattle.prcu_model.specs.Marks.{Open, open_at, own_of, entered_at}
+use Rattle.prcu_marks.specs.Marks.{Open, open_at, own_of, entered_at}
 
 -- what the view has seen begins with what it heard of when seats were joined into it
 abbrev pub HasHeard : View → Type 0

@@ -1,7 +1,7 @@
 //! What a seat knows of the table.
 
 use crate::words::{Field, Kind};
-use prcu_model::Mark;
+use prcu_marks::Mark;
 use std::collections::LinkedList;
 
 /// Where the search of an open section stands.

@@ -5,23 +5,23 @@ use Rattle.std.proofs.lemmas.Bool.{eqb-true}
 use Rattle.std.proofs.lemmas.List.{get_or-map, length-map}
 use Rattle.std.proofs.lemmas.Option.{slice_get-get_or, slice_get_within, get_or_from_slice_get}
 use mathlib.Core.List.{IsPrefix}
-use Rattle.prcu_model.specs.declared.mark.Mark.{Mark}
-use Rattle.prcu_model.specs.declared.mark.Mark.TheVariants.{Entered, Left, Began, Ended, Done, Given, Unlinked, Freed}
+use Rattle.prcu_marks.specs.declared.mark.Mark.{Mark}
+use Rattle.prcu_marks.specs.declared.mark.Mark.TheVariants.{Entered, Left, Began, Ended, Done, Given, Unlinked, Freed}
 use Rattle.prcu_model.specs.declared.operation.Op.{Op}
 use Rattle.prcu_model.specs.declared.operation.Told.{Told}
 use Rattle.prcu_model.specs.declared.operation.Line.{Line}
 use Rattle.prcu_model.specs.declared.operation.Update.{Update}
 use Rattle.prcu_model.specs.Lists.{Roomy, entries_of}
-use Rattle.prcu_model.specs.Marks.{updates_of, is_of, own_of}
-use Rattle.prcu_model.specs.Chains.{IsChain}
-use Rattle.prcu_model.specs.Callers.{Caller}
-use Rattle.prcu_model.specs.Runs.{FitsScripts}
+use Rattle.prcu_marks.specs.Marks.{updates_of, is_of, own_of}
+use Rattle.prcu_marks.specs.Chains.{IsChain}
+use Rattle.prcu_marks.specs.Callers.{Caller}
+use Rattle.prcu_marks.specs.Runs.{FitsScripts}
 use Rattle.prcu_model.specs.Fronts.{Placed, all_told_lines, AreExplainable}
-use Rattle.prcu_model.proofs.Chains.{chain_keeps}
-use Rattle.prcu_model.proofs.MarkLists.{own_of-append}
-use Rattle.prcu_model.proofs.OwnMarks.{own_of-all}
-use Rattle.prcu_model.proofs.Callers.{HasTold}
-use Rattle.prcu_model.proofs.Runs.{HaveTold, newcomer, run_updates, run_lengths, run_confirmed, run_fronts, run_fits}
+use Rattle.prcu_marks.proofs.Chains.{chain_keeps}
+use Rattle.prcu_marks.proofs.MarkLists.{own_of-append}
+use Rattle.prcu_marks.proofs.OwnMarks.{own_of-all}
+use Rattle.prcu_marks.proofs.Callers.{HasTold}
+use Rattle.prcu_marks.proofs.Runs.{HaveTold, newcomer, run_updates, run_lengths, run_confirmed, run_fronts, run_fits}
 use Rattle.client_run.specs.Workers.{Work, AreReadyFor, HaveMade}
 use Rattle.hash_core.specs.declared.view.View.{View}
 use Rattle.class_hash.specs.Answers.{IsInformed}

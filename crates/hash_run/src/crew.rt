@@ -6,7 +6,8 @@ ghost use Rattle.hash_run.specs.Crews.{idle_view, IsHired, IsCrew};
 
 use class_hash::{HashClient, HashSeat, HashTable};
 use client_run::Worker;
-use prcu_model::{Gate, NoMemory, Op, Scripts};
+use prcu_marks::Gate;
+use prcu_model::{NoMemory, Op, Scripts};
 use std::alloc::Global;
 
 /// A worker for each script, whose client has the place of the script's number and a ticket for each operation.

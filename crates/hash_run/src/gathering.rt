@@ -5,7 +5,8 @@ ghost use Rattle.hash_run.specs.Crews.{AreDone, HasDismissed, IsJoined};
 
 use class_hash::{HashClient, HashSeat, HashTable};
 use client_run::Worker;
-use prcu_model::{Gate, ToldList};
+use prcu_marks::Gate;
+use prcu_model::ToldList;
 
 /// The workers' seats as one. What each worker was told goes to the end of a list that has room for it. It takes no memory.
 pub(crate) fn gather<G: Gate>(

@@ -5,7 +5,8 @@ ghost use Rattle.client_run.specs.Workers.{AreReadyFor};
 
 use class_hash::{HashClient, HashSeat, HashTable, get};
 use client_run::{Worker, run_all};
-use prcu_model::{NoMemory, Op, OpenGate, PlainMap, Reply, Scripts, Told, ToldList};
+use prcu_marks::OpenGate;
+use prcu_model::{NoMemory, Op, PlainMap, Reply, Scripts, Told, ToldList};
 use std::alloc::Global;
 use std::process::Abort;
 use std::sync::Wait;

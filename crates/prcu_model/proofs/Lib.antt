@@ -4,13 +4,7 @@ pub mod Updates
 pub mod Searches
 pub mod Fronts
 pub mod EnoughSlots
-pub mod Chains
 pub mod Worth
 pub mod PlainSizes
 pub mod ToldLists
 pub mod ListFacts
-pub mod MarkLists
-pub mod MarkPlaces
-pub mod OwnMarks
-pub mod Callers
-pub mod Runs

@@ -7,7 +7,3 @@ pub mod Lists
 pub mod Scripts
 pub mod Held
 pub mod Slots
-pub mod Chains
-pub mod Marks
-pub mod Callers
-pub mod Runs

@@ -1,7 +1,7 @@
 //! Scripts that run beside each other on the hash dictionary.
 use super::{answer, answer_through, drawn, source_of};
 use crate::Status;
-use prcu_model::{Gate, Point};
+use prcu_marks::{Gate, Point};
 use std::alloc::Global;
 use std::sync::atomic::{AtomicU64, Ordering};
 use std::test::Fail;

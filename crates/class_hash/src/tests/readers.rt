@@ -9,7 +9,8 @@ use crate::{
     HashSeat, HashTable, Lock, Poll, del, enter, free_bucket, leave, lists, poll_class, put,
     try_bucket,
 };
-use prcu_model::{Reply, Why};
+use prcu_marks::Why;
+use prcu_model::Reply;
 use std::alloc::Global;
 use std::process::Abort;
 use std::sync::{Barrier, Wait};

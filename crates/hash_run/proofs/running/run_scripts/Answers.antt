@@ -1,7 +1,7 @@
 use Rattle.std.proofs.Common.{◌≡◌, [], ◌++◌, map, sym, ap, subst, ◌∙◌}
 use Rattle.prcu_model.specs.Lists.{entries_of}
 use Rattle.prcu_model.specs.History.{IsLegal}
-use Rattle.prcu_model.specs.Marks.{updates_of}
+use Rattle.prcu_marks.specs.Marks.{updates_of}
 use Rattle.prcu_model.specs.Fronts.{all_told_lines, AreExplainable}
 use Rattle.client_run.specs.Workers.{Work}
 use Rattle.client_run.specs.Merging.{TellOwnUpdates}

@@ -1,5 +1,5 @@
 use Rattle.std.proofs.Common.{◌≡◌, ◌≢◌, Some, refl, sym, ap, subst, ◌∙◌}
-use Rattle.prcu_model.specs.declared.mark.Why.{Why}
+use Rattle.prcu_marks.specs.declared.mark.Why.{Why}
 use Rattle.hash_core.specs.declared.view.View.{View}
 use Rattle.hash_core.specs.Steps.{NeedsBegin}
 use Rattle.class_hash.specs.declared.bucket.Poll.{Poll}

@@ -1,0 +1,10 @@
+pub mod chart
+pub mod views
+pub mod marks
+pub mod frames
+pub mod First
+pub mod Counting
+pub mod ListingLaws
+pub mod Pieces
+pub mod SectionLaws
+pub mod Keeping

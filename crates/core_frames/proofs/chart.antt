@@ -1,0 +1,9 @@
+pub mod Ranges
+pub mod Hops
+pub mod Endings
+pub mod Unique
+pub mod Places
+pub mod Stands
+pub mod Passes
+pub mod Trees
+pub mod Plain

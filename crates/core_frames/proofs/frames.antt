@@ -1,0 +1,11 @@
+pub mod TreeFrame
+pub mod SlotFrame
+pub mod LockFrame
+pub mod CountFrame
+pub mod ReaderFrame
+pub mod MarkFrame
+pub mod GraceFrame
+pub mod SeatFrame
+pub mod WaiterFrame
+pub mod PlainFrames
+pub mod PlainGrace

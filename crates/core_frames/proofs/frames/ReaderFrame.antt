@@ -1,0 +1,224 @@
+-- The parts on readers read the words of nodes, the sections, records, moves and locks of views, the updates and where slots were
+-- unlinked. A step that leaves nodes, moves and locks keeps what holds of the other views' sections and records.
+use Rattle.atomic_table.proofs.Lists.{set_here, set_else}
+use mathlib.Core.Logic.{dite}
+use native.Mathlib.Decide.{ℕ_discrete}
+use Rattle.core_state.specs.declared.view.HeldLock.{HeldLock}
+use Rattle.std.proofs.Common.{◌≡◌, ℕ, zero, suc, ◌/◌, ◌<◌, ◌≤◌, ◌==◌, ◌⊎◌, nat_lt, if◌then◌else◌, List, length, set, Option, Some, None, refl, sym, ap, subst, ◌∙◌, ⊎_elim, inl, inr, arith, ◌++◌, true}
+use mathlib.Core.Option.{some}
+use lib.ListN.{get_elem?}
+use Rattle.prcu_marks.specs.declared.mark.Mark.{Mark}
+use Rattle.prcu_marks.specs.declared.mark.Side.{Side}
+use Rattle.prcu_marks.specs.declared.mark.Side.TheVariants.{Left, Right}
+use Rattle.prcu_marks.specs.Marks.{updates_of, gone_at}
+use Rattle.core_state.specs.declared.words.Field.TheVariants.{Life}
+use Rattle.core_state.specs.declared.view.Reading.{Reading}
+use Rattle.core_state.specs.declared.view.Section.{Section}
+use Rattle.core_state.specs.declared.view.SearchState.{SearchState}
+use Rattle.core_state.specs.declared.view.SearchState.TheVariants.{At, Unread, Found, Missed}
+use Rattle.core_state.specs.declared.view.View.{View}
+use Rattle.list_laws.specs.Counts.{Each}
+use Rattle.core_state.specs.memory.Lists.{IsOdd}
+use Rattle.core_state.specs.memory.Memory.{Memory}
+use Rattle.core_state.specs.views.Known.{lock_of, is_emptied}
+use Rattle.core_state.specs.tree.Nodes.{next, answer_at, OnRightLeft, first, further}
+use Rattle.core_state.specs.views.Views.{readings_of, open_reading}
+use Rattle.core_state.specs.tree.Chart.{Chart, Belongs}
+use Rattle.prcu_model.specs.Dictionary.{WasSaid}
+use Rattle.core_state.specs.tree.Readers.{IsHeldBack, MayPass, IsOldFor, IsEmptied, Spine, bottom, more, Place, in_range, at_old, Walks, at_linked, at_stop, at_live}
+use Rattle.core_state.specs.parts.ReaderParts.{Answered, IsServed, IsAsRecorded, IsStillLinked, IsRecord, IsReading, IsMetBefore, ReaderParts}
+use Rattle.list_laws.proofs.Lists.{each_set, each_change, at_below, at_one}
+use Rattle.prcu_marks.proofs.MarkPlaces.{gone_at-below}
+use Rattle.core_frames.proofs.marks.MarkFacts.{QuietMarks}
+use Rattle.core_frames.proofs.views.Same.{SameNodes, still, was}
+use Rattle.core_frames.proofs.frames.TreeFrame.{SameMoves, low_same, high_same, pending_still}
+use Rattle.core_frames.proofs.chart.Places.{carry}
+
+module _ (m m' : Memory) (nodes : SameNodes m m') where
+  pub next_same : (x s : ℕ) → next m' x s ≡ next m x s
+  next_same x zero = nodes.link 0 Right
+  next_same x (suc s) = λ i. if nat_lt x (nodes.key (suc s) i) then nodes.link (suc s) Left i else if nat_lt (nodes.key (suc s) i) x then nodes.link (suc s) Right i else 0
+
+  pub answer_same : (x s : ℕ) → answer_at m' x s ≡ answer_at m x s
+  answer_same x zero = refl
+  answer_same x (suc s) = λ i. if nodes.key (suc s) i == x then Some (nodes.value (suc s) i) else None
+
+  pub spine_same : (g : Chart) (x u s : ℕ) → Spine m g x u s → Spine m' g x u s
+  spine_same g x u s (bottom e l) = bottom e l
+  spine_same g x u s (more {c = c} l lt e ne sp) = more l (let k = nodes.key s in omega arith) (nodes.link s Left ∙ e) ne (spine_same g x u c sp)
+
+  pub right_left_same : (d s : ℕ) → OnRightLeft m d s → OnRightLeft m' d s
+  right_left_same d s (first e ne) = first (nodes.link d Right ∙ e) ne
+  right_left_same d s (further {s = p} on e ne) = further (right_left_same d p on) (nodes.link p Left ∙ e) ne
+
+  pub walks_same : (g : Chart) (k : ℕ) (live later : ℕ → Type 0) → ((s : ℕ) → live s → later s) → (s : ℕ) → Walks m g k live s → Walks m' g k later s
+  walks_same g k live later f s (at_linked l e) = at_linked l (right_left_same k s e)
+  walks_same g k live later f s (at_stop l e) = at_stop (f s l) (nodes.link s Left ∙ e)
+  walks_same g k live later f s (at_live {c = c} l e ne w) = at_live (f s l) (nodes.link s Left ∙ e) ne (walks_same g k live later f c w)
+
+  pub place_same : (g : Chart) (x : ℕ) (live later pend due : ℕ → Type 0) (told more_told : Option ℕ → Type 0)
+      → ((s : ℕ) → live s → later s) → ((s : ℕ) → pend s → due s) → ((o : Option ℕ) → told o → more_told o)
+      → (s : ℕ) → Place m g x live pend told s → Place m' g x later due more_told s
+  place_same g x live later pend due told more_told f p t =
+      carry m m' g g x live later pend due told more_told (record {
+        range = λ s i. in_range i;
+        old = λ s u q o le a sp. at_old (p u q) o (let k = nodes.key u in omega arith) (subst more_told (sym (answer_same x u)) (t (answer_at m x u) a)) (spine_same g x u s sp);
+        still_live = f;
+        same_next = λ s l. next_same x s;
+        same_answer = λ s l. answer_same x s;
+        same_rank = λ s l. refl;
+        still_told = t;
+      })
+
+  pub recorded_back : (r : Reading) (s : ℕ) → IsAsRecorded m' r s → IsAsRecorded m r s
+  recorded_back r s i = (i.0, i.1, sym (nodes.life s) ∙ i.2)
+
+  pub linked_back : (g : Chart) (r : Reading) (s : ℕ) → IsStillLinked m' g r s → IsStillLinked m g r s
+  linked_back g r s i = record { linked = i.linked; generation = i.generation; recorded = i.recorded; same = ap (λ x. x / 2) (sym (nodes.life s)) ∙ i.same }
+
+  pub belongs_same : (g : Chart) (x s : ℕ) (b : Side) → Belongs m g x s b → Belongs m' g x s b
+  belongs_same g x s b i = let low = low_same m m' nodes g s b in let high = high_same m m' nodes g s b in let p = i.0 in let q = i.1 in (omega arith, omega arith)
+
+pub held_back_same : (g : Chart) (h h' : List Mark) (entered s : ℕ) → QuietMarks h h' → IsHeldBack g h entered s → IsHeldBack g h' entered s
+held_back_same g h h' entered s quiet i = record { out = i.out; at = i.at; gone = quiet.gone s ∙ i.gone; later = i.later }
+
+pub said_same : (h h' : List Mark) (key from : ℕ) (o : Option ℕ) → QuietMarks h h' → WasSaid (updates_of h) key from o → WasSaid (updates_of h') key from o
+said_same h h' key from o quiet i = subst (λ us. WasSaid us key from o) (sym quiet.updates) i
+
+-- The stepping view's moves and locks stay.
+module _ (vs : List View) (id : ℕ) (v w : View) (there : get_elem? vs id ≡ some v) (moving : w.moving ≡ v.moving) where
+  pub may_still : (key entered s : ℕ) → MayPass vs key entered s → MayPass (set vs id w) key entered s
+  may_still key entered s i = record { move = i.move; pending = pending_still vs id v w there moving i.move i.pending; old = i.old; low = i.low; high = i.high; before = i.before }
+
+  pub old_still : (key s : ℕ) → IsOldFor vs key s → IsOldFor (set vs id w) key s
+  old_still key s i = record { move = i.move; pending = pending_still vs id v w there moving i.move i.pending; old = i.old; low = i.low; high = i.high }
+
+pub emptied_still : (vs : List View) (id : ℕ) (v w : View) → get_elem? vs id ≡ some v → w.locks ≡ v.locks → (s : ℕ) (b : Side) → IsEmptied vs s b → IsEmptied (set vs id w) s b
+emptied_still vs id v w there locks s b i =
+    let z = still (λ (u : View). u.locks) vs id v w there locks i.id i.view i.there in
+    record { id = i.id; view = z.0; lock = i.lock; there = z.1; holds = ap (λ ls. lock_of ls s) z.2 ∙ i.holds; emptied = i.emptied }
+
+-- the view's locks still say which sides it emptied
+pub emptied_by : (vs : List View) (id : ℕ) (v w : View) → get_elem? vs id ≡ some v
+    → ((s : ℕ) (lock : HeldLock) → lock_of v.locks s ≡ Some lock → (b : Side) → is_emptied lock b ≡ true → (l : HeldLock) × (lock_of w.locks s ≡ Some l) × (is_emptied l b ≡ true)) → (s : ℕ) (b : Side) → IsEmptied vs s b → IsEmptied (set vs id w) s b
+emptied_by vs id v w there forth s b i = dite (ℕ_discrete i.id id)
+    (λ here.
+    (let it : i.view ≡ v = at_one vs id i.view v (subst (λ n. get_elem? vs n ≡ some i.view) here i.there) there in
+    let f = forth s i.lock (ap (λ (u : View). lock_of u.locks s) (sym it) ∙ i.holds) b i.emptied in
+    record { id = id; view = w; lock = f.0; there = set_here vs id w (at_below vs id v there); holds = f.1; emptied = f.2 }))
+    (λ ne. record { id = i.id; view = i.view; lock = i.lock; there = set_else vs id i.id w ne ∙ i.there; holds = i.holds; emptied = i.emptied })
+
+-- What readers see of the views: who may pass an old successor, which slots are old for a key, and which sides were emptied.
+pub record ReadersSee (vs us : List View) : Type 0 where
+  pub may : (key entered s : ℕ) → MayPass vs key entered s → MayPass us key entered s
+  pub old_for : (key s : ℕ) → IsOldFor vs key s → IsOldFor us key s
+  pub emptied : (s : ℕ) (b : Side) → IsEmptied vs s b → IsEmptied us s b
+
+pub see_by : (vs us : List View) → SameMoves vs us → ((s : ℕ) (b : Side) → IsEmptied vs s b → IsEmptied us s b) → ReadersSee vs us
+see_by vs us same emptied = record {
+  may = λ key entered s i.
+      (let p = same.forth i.move i.pending in
+      let f = p.2 in
+      let a = f.key in let c = f.next_key in let d = f.made in let low = i.low in let high = i.high in let before = i.before in
+      record { move = p.0; pending = p.1; old = f.old ∙ i.old; low = omega arith; high = omega arith; before = omega arith });
+  old_for = λ key s i.
+      (let p = same.forth i.move i.pending in
+      let f = p.2 in
+      let a = f.key in let c = f.next_key in let low = i.low in let high = i.high in
+      record { move = p.0; pending = p.1; old = f.old ∙ i.old; low = omega arith; high = omega arith });
+  emptied = emptied;
+}
+
+pub see_same : (vs : List View) (id : ℕ) (v w : View) → get_elem? vs id ≡ some v → w.moving ≡ v.moving → w.locks ≡ v.locks → ReadersSee vs (set vs id w)
+see_same vs id v w there moving locks = record { may = may_still vs id v w there moving; old_for = old_still vs id v w there moving; emptied = emptied_still vs id v w there locks }
+
+module _ (m m' : Memory) (nodes : SameNodes m m') (g : Chart) (vs us : List View) (h h' : List Mark) (quiet : QuietMarks h h') (see : ReadersSee vs us) where
+  answered_same : (section : Section) (state : SearchState) → Answered (updates_of h) section state → Answered (updates_of h') section state
+  answered_same section (At s b) i = tt
+  answered_same section (Unread s parent b) i = tt
+  answered_same section (Found s parent b None) i = tt
+  answered_same section (Found s parent b (Some value)) i = said_same h h' section.key section.from (Some value) quiet i
+  answered_same section (Missed s b) i = said_same h h' section.key section.from None quiet i
+
+  pub served_by : (section : Section) → IsServed m g h vs section → IsServed m' g h' us section
+  served_by section i = record {
+    placed = λ none. (let p = i.placed none in record {
+      place = place_same m m' nodes g section.key (IsHeldBack g h section.entered) (IsHeldBack g h' section.entered) (MayPass vs section.key section.entered) (MayPass us section.key section.entered)
+          (WasSaid (updates_of h) section.key section.from) (WasSaid (updates_of h') section.key section.from)
+          (λ s. held_back_same g h h' section.entered s quiet) (see.may section.key section.entered) (λ o. said_same h h' section.key section.from o quiet) _ p.place;
+      answered = answered_same section section.reading.state p.answered;
+    });
+    lists = i.lists;
+    walking = λ node parent b value walk found on. (let p = i.walking node parent b value walk found on in record {
+      walks = λ l. walks_same m m' nodes g node (IsHeldBack g h section.entered) (IsHeldBack g h' section.entered) (λ s. held_back_same g h h' section.entered s quiet) walk.slot (p.walks l);
+      parent = λ l k. ⊎_elim (λ e. inl e) (λ e. inr (right_left_same m m' nodes node walk.parent e)) (p.parent l k);
+    });
+    stood = λ s has. (let p = i.stood s has in record {
+      here = ⊎_elim (λ l. inl l) (λ (x : IsHeldBack g h section.entered s × IsOdd (m (Life s))). inr (held_back_same g h h' section.entered s quiet x.0, subst IsOdd (sym (nodes.life s)) x.1)) p.here;
+      key = λ key e. nodes.key s ∙ p.key key e;
+      life = λ life e. ap (λ x. x / 2) (nodes.life s) ∙ p.life life e;
+    });
+  }
+
+  pub record_by : (r : Reading) → IsRecord m g vs r → IsRecord m' g us r
+  record_by r i = record {
+    key_fits = i.key_fits;
+    side = λ s tag b missed life known empty same settled.
+        ⊎_elim (λ o. inl (see.old_for r.key s o)) (λ x. inr (belongs_same m m' nodes g r.key s b x))
+        (i.side s tag b missed (recorded_back m m' nodes r s life) known (sym (nodes.link s b) ∙ empty) (sym (nodes.tag s b) ∙ same) (λ x. settled (see.emptied s b x)));
+    walk = λ node parent b value walk found on. (let p = i.walk node parent b value walk found on in record {
+      parent = λ x y. ⊎_elim (λ e. inl e) (λ e. inr (right_left_same m m' nodes node walk.parent e)) (p.parent (linked_back m m' nodes g r node x) (recorded_back m m' nodes r walk.parent y));
+      slot = λ x y. right_left_same m m' nodes node walk.slot (p.slot (linked_back m m' nodes g r node x) (recorded_back m m' nodes r walk.slot y));
+    });
+  }
+
+-- The stepping view's section and records stay.
+module _ (m m' : Memory) (nodes : SameNodes m m') (g : Chart) (vs : List View) (id : ℕ) (v w : View) (h h' : List Mark) (there : get_elem? vs id ≡ some v) (quiet : QuietMarks h h') (see : ReadersSee vs (set vs id w)) (section : w.section ≡ v.section) (records : w.records ≡ v.records) where
+  served_stays : (s : Section) → IsServed m g h vs s → IsServed m' g h' (set vs id w) s
+  served_stays = served_by m m' nodes g vs (set vs id w) h h' quiet see
+
+  record_stays : (r : Reading) → IsRecord m g vs r → IsRecord m' g (set vs id w) r
+  record_stays = record_by m m' nodes g vs (set vs id w) h h' quiet see
+
+  pub readers_stay : ReaderParts m g vs h → ReaderParts m' g (set vs id w) h'
+  readers_stay t = record {
+    readings = each_change (λ (u : View). Each (readings_of u) IsReading) (λ (u : View). Each (readings_of u) IsReading) vs id v w there (λ i. subst (λ rs. Each rs IsReading) (λ n. open_reading (sym section n) ++ sym records n) i) (λ u i. i) t.readings;
+    served = each_change (λ (u : View). (s : Section) → u.section ≡ Some s → IsServed m g h vs s) (λ (u : View). (s : Section) → u.section ≡ Some s → IsServed m' g h' (set vs id w) s) vs id v w there
+        (λ i s is. served_stays s (i s (sym section ∙ is))) (λ u i s is. served_stays s (i s is)) t.served;
+    records = each_change (λ (u : View). Each u.records (IsRecord m g vs)) (λ (u : View). Each u.records (IsRecord m' g (set vs id w))) vs id v w there
+        (λ i. subst (λ rs. Each rs (IsRecord m' g (set vs id w))) (sym records) (λ j r e. record_stays r (i j r e))) (λ u i j r e. record_stays r (i j r e)) t.records;
+    ages = λ s at c b gone met link ne.
+        (let z = was (λ (u : View). u.section) vs id v w there section met.0 met.1 met.3 in
+        ⊎_elim (λ l. inl l) (λ (x : (later : ℕ) × (gone_at c h ≡ Some later) × (at < later)). inr (x.0, quiet.gone c ∙ x.1, x.2))
+        (t.ages s at c b (sym (quiet.gone s) ∙ gone) (met.0, z.0, met.2, z.1, sym z.2 ∙ met.4, met.5) (sym (nodes.link s b) ∙ link) ne));
+  }
+
+module _ (m m' : Memory) (nodes : SameNodes m m') (g : Chart) (vs : List View) (id : ℕ) (v w : View) (h h' : List Mark) (there : get_elem? vs id ≡ some v) (moving : w.moving ≡ v.moving) (locks : w.locks ≡ v.locks) (quiet : QuietMarks h h') where
+  pub served_same : (section : Section) → IsServed m g h vs section → IsServed m' g h' (set vs id w) section
+  served_same = served_by m m' nodes g vs (set vs id w) h h' quiet (see_same vs id v w there moving locks)
+
+  pub record_same : (r : Reading) → IsRecord m g vs r → IsRecord m' g (set vs id w) r
+  record_same = record_by m m' nodes g vs (set vs id w) h h' quiet (see_same vs id v w there moving locks)
+
+  -- The stepping view's own section and records are what the step has to say of; a section that is new comes after all unlinkings.
+  pub record OwnReaders : Type 0 where
+    pub readings : Each (readings_of w) IsReading
+    pub served : (section : Section) → w.section ≡ Some section → IsServed m' g h' (set vs id w) section
+    pub records : Each w.records (IsRecord m' g (set vs id w))
+    pub older : (section : Section) → w.section ≡ Some section → (length h ≤ section.entered) ⊎ ((z : Section) × (v.section ≡ Some z) × (z.entered ≡ section.entered))
+
+  met_back : OwnReaders → (at : ℕ) → at < length h → IsMetBefore (set vs id w) at → IsMetBefore vs at
+  met_back own at small i =
+      each_set (λ j u. (section : Section) → u.section ≡ Some section → section.entered < at → IsMetBefore vs at) vs id w
+      (λ section is lt. ⊎_elim (λ late. absurd (omega arith)) (λ (z : (z : Section) × (v.section ≡ Some z) × (z.entered ≡ section.entered)). (id, v, z.0, there, z.1, (let e = z.2 in omega arith))) (own.older section is))
+      (λ j u other e section is lt. (j, u, section, e, is, lt)) i.0 i.1 i.3 i.2 i.4 i.5
+
+  pub reader_frame : OwnReaders → ReaderParts m g vs h → ReaderParts m' g (set vs id w) h'
+  reader_frame own t = record {
+    readings = each_set (λ j u. Each (readings_of u) IsReading) vs id w own.readings (λ j u other e. t.readings j u e);
+    served = each_set (λ j u. (section : Section) → u.section ≡ Some section → IsServed m' g h' (set vs id w) section) vs id w own.served (λ j u other e section is. served_same section (t.served j u e section is));
+    records = each_set (λ j u. Each u.records (IsRecord m' g (set vs id w))) vs id w own.records (λ j u other e i r is. record_same r (t.records j u e i r is));
+    ages = λ s at c b gone met link ne.
+        (let was_gone = sym (quiet.gone s) ∙ gone in
+        ⊎_elim (λ l. inl l) (λ (x : (later : ℕ) × (gone_at c h ≡ Some later) × (at < later)). inr (x.0, quiet.gone c ∙ x.1, x.2)) (t.ages s at c b was_gone (met_back own at (gone_at-below s h at was_gone) met) (sym (nodes.link s b) ∙ link) ne));
+  }

@@ -1,0 +1,5 @@
+use Rattle.core_frames.proofs.chart.Plain.{few_pass}
+use Rattle.core_frames.proofs.laws.few_pass.Goals as goal
+
+pub returns : goal.returns
+returns c = few_pass

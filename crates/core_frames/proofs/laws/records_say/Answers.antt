@@ -1,0 +1,5 @@
+use Rattle.core_frames.proofs.chart.Plain.{records_say}
+use Rattle.core_frames.proofs.laws.records_say.Goals as goal
+
+pub returns : goal.returns
+returns c = records_say

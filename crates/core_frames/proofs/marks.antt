@@ -1,0 +1,4 @@
+pub mod MarkFacts
+pub mod MarkTold
+pub mod PlainMarks
+pub mod UpdateMarks

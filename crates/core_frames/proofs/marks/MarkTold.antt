@@ -1,0 +1,94 @@
+-- Where an unlinking stands, and where a section was entered that is open.
+use Rattle.std.proofs.Common.{◌≡◌, ℕ, suc, ◌+◌, ◌==◌, ◌⊎◌, Bool, true, false, cond, List, [], ◌∷◌, Option, Some, None, refl, ap, ◌∙◌, ⊎_elim, inl, inr, arith}
+use Rattle.std.proofs.lemmas.Bool.{eqb-true}
+use mathlib.Core.Option.{some}
+use lib.ListN.{get_elem?}
+use Rattle.prcu_marks.specs.declared.mark.Mark.{Mark}
+use Rattle.prcu_marks.specs.declared.mark.Mark.TheVariants.{Entered, Left, Began, Ended, Done, Given, Unlinked, Freed}
+use Rattle.prcu_marks.specs.Marks.{Open, open_from, open_at, gone_from, gone_at}
+use Rattle.core_state.specs.Marks.{unlinked_from, last_unlinked}
+
+-- what stands in a list from a place on
+abbrev StandsFrom : ℕ → List Mark → ℕ → Mark → Type 0
+StandsFrom i h p m = (j : ℕ) × (p ≡ i + j) × (get_elem? h j ≡ some m)
+
+further : (i : ℕ) (x : Mark) (h : List Mark) (p : ℕ) (m : Mark) → StandsFrom (i + 1) h p m → StandsFrom i (x ∷ h) p m
+further i x h p m w = (suc w.0, (let e = w.1 in omega arith), w.2)
+
+-- where a slot is unlinked, its mark stands, and it is the last
+gone_stands : (s i : ℕ) (g : Option ℕ) (h : List Mark) (p : ℕ) → gone_from s i g h ≡ Some p → (g ≡ Some p) ⊎ StandsFrom i h p (Unlinked s)
+gone_stands s i g [] p e = inl e
+gone_stands s i g (Entered q c x ∷ h) p e = ⊎_elim (λ o. inl o) (λ w. inr (further i (Entered q c x) h p (Unlinked s) w)) (gone_stands s (i + 1) g h p e)
+gone_stands s i g (Left q c ∷ h) p e = ⊎_elim (λ o. inl o) (λ w. inr (further i (Left q c) h p (Unlinked s) w)) (gone_stands s (i + 1) g h p e)
+gone_stands s i g (Began q c a b ∷ h) p e = ⊎_elim (λ o. inl o) (λ w. inr (further i (Began q c a b) h p (Unlinked s) w)) (gone_stands s (i + 1) g h p e)
+gone_stands s i g (Ended q c ∷ h) p e = ⊎_elim (λ o. inl o) (λ w. inr (further i (Ended q c) h p (Unlinked s) w)) (gone_stands s (i + 1) g h p e)
+gone_stands s i g (Done u ∷ h) p e = ⊎_elim (λ o. inl o) (λ w. inr (further i (Done u) h p (Unlinked s) w)) (gone_stands s (i + 1) g h p e)
+gone_stands s i g (Given t ∷ h) p e = ⊎_elim (λ (o : cond (t == s) None g ≡ Some p). inl (kept (t == s) o)) (λ w. inr (further i (Given t) h p (Unlinked s) w)) (gone_stands s (i + 1) (cond (t == s) None g) h p e)
+  where
+    kept : (b : Bool) → cond b None g ≡ Some p → g ≡ Some p
+    kept true o = absurd (cc)
+    kept false o = o
+gone_stands s i g (Freed t ∷ h) p e = ⊎_elim (λ (o : cond (t == s) None g ≡ Some p). inl (kept (t == s) o)) (λ w. inr (further i (Freed t) h p (Unlinked s) w)) (gone_stands s (i + 1) (cond (t == s) None g) h p e)
+  where
+    kept : (b : Bool) → cond b None g ≡ Some p → g ≡ Some p
+    kept true o = absurd (cc)
+    kept false o = o
+gone_stands s i g (Unlinked t ∷ h) p e = ⊎_elim (λ (o : cond (t == s) (Some i) g ≡ Some p). kept (t == s) refl o) (λ w. inr (further i (Unlinked t) h p (Unlinked s) w)) (gone_stands s (i + 1) (cond (t == s) (Some i) g) h p e)
+  where
+    kept : (b : Bool) → (t == s) ≡ b → cond b (Some i) g ≡ Some p → (g ≡ Some p) ⊎ StandsFrom i (Unlinked t ∷ h) p (Unlinked s)
+    kept true same o = inr (0, (let q : i ≡ p = cc in omega arith), ap (λ x. some (Unlinked x)) (eqb-true t s same))
+    kept false same o = inl o
+
+pub gone_mark : (s : ℕ) (h : List Mark) (p : ℕ) → gone_at s h ≡ Some p → get_elem? h p ≡ some (Unlinked s)
+gone_mark s h p e = ⊎_elim (λ (o : None ≡ Some p). absurd (cc)) (λ (w : StandsFrom 0 h p (Unlinked s)). (let q = w.1 in let same : p ≡ w.0 = omega arith in ap (get_elem? h) same ∙ w.2)) (gone_stands s 0 None h p e)
+
+gone_last : (s i : ℕ) (g l : Option ℕ) (h : List Mark) (p : ℕ) → (g ≡ Some p → l ≡ Some p) → gone_from s i g h ≡ Some p → unlinked_from s i l h ≡ Some p
+gone_last s i g l [] p f e = f e
+gone_last s i g l (Entered q c x ∷ h) p f e = gone_last s (i + 1) g l h p f e
+gone_last s i g l (Left q c ∷ h) p f e = gone_last s (i + 1) g l h p f e
+gone_last s i g l (Began q c a b ∷ h) p f e = gone_last s (i + 1) g l h p f e
+gone_last s i g l (Ended q c ∷ h) p f e = gone_last s (i + 1) g l h p f e
+gone_last s i g l (Done u ∷ h) p f e = gone_last s (i + 1) g l h p f e
+gone_last s i g l (Given t ∷ h) p f e = gone_last s (i + 1) (cond (t == s) None g) l h p (λ o. f (kept (t == s) o)) e
+  where
+    kept : (b : Bool) → cond b None g ≡ Some p → g ≡ Some p
+    kept true o = absurd (cc)
+    kept false o = o
+gone_last s i g l (Freed t ∷ h) p f e = gone_last s (i + 1) (cond (t == s) None g) l h p (λ o. f (kept (t == s) o)) e
+  where
+    kept : (b : Bool) → cond b None g ≡ Some p → g ≡ Some p
+    kept true o = absurd (cc)
+    kept false o = o
+gone_last s i g l (Unlinked t ∷ h) p f e = gone_last s (i + 1) (cond (t == s) (Some i) g) (cond (t == s) (Some i) l) h p (both (t == s)) e
+  where
+    both : (b : Bool) → cond b (Some i) g ≡ Some p → cond b (Some i) l ≡ Some p
+    both true o = o
+    both false o = f o
+
+pub last_gone : (s : ℕ) (h : List Mark) (p : ℕ) → gone_at s h ≡ Some p → last_unlinked s h ≡ Some p
+last_gone s h p e = gone_last s 0 None None h p (λ o. absurd (cc)) e
+
+-- where a section is open, it was entered there
+open_stands : (p i : ℕ) (a : Option Open) (h : List Mark) (o : Open) → open_from p i a h ≡ Some o → (a ≡ Some o) ⊎ StandsFrom i h o.at (Entered p o.count o.key)
+open_stands p i a [] o e = inl e
+open_stands p i a (Began q c x y ∷ h) o e = ⊎_elim (λ w. inl w) (λ w. inr (further i (Began q c x y) h o.at (Entered p o.count o.key) w)) (open_stands p (i + 1) a h o e)
+open_stands p i a (Ended q c ∷ h) o e = ⊎_elim (λ w. inl w) (λ w. inr (further i (Ended q c) h o.at (Entered p o.count o.key) w)) (open_stands p (i + 1) a h o e)
+open_stands p i a (Done u ∷ h) o e = ⊎_elim (λ w. inl w) (λ w. inr (further i (Done u) h o.at (Entered p o.count o.key) w)) (open_stands p (i + 1) a h o e)
+open_stands p i a (Given t ∷ h) o e = ⊎_elim (λ w. inl w) (λ w. inr (further i (Given t) h o.at (Entered p o.count o.key) w)) (open_stands p (i + 1) a h o e)
+open_stands p i a (Freed t ∷ h) o e = ⊎_elim (λ w. inl w) (λ w. inr (further i (Freed t) h o.at (Entered p o.count o.key) w)) (open_stands p (i + 1) a h o e)
+open_stands p i a (Unlinked t ∷ h) o e = ⊎_elim (λ w. inl w) (λ w. inr (further i (Unlinked t) h o.at (Entered p o.count o.key) w)) (open_stands p (i + 1) a h o e)
+open_stands p i a (Left q c ∷ h) o e = ⊎_elim (λ (w : cond (q == p) None a ≡ Some o). inl (kept (q == p) w)) (λ w. inr (further i (Left q c) h o.at (Entered p o.count o.key) w)) (open_stands p (i + 1) (cond (q == p) None a) h o e)
+  where
+    kept : (b : Bool) → cond b None a ≡ Some o → a ≡ Some o
+    kept true w = absurd (cc)
+    kept false w = w
+open_stands p i a (Entered q c x ∷ h) o e = ⊎_elim (λ (w : cond (q == p) (Some (record { count = c; key = x; at = i })) a ≡ Some o). kept (q == p) refl w) (λ w. inr (further i (Entered q c x) h o.at (Entered p o.count o.key) w)) (open_stands p (i + 1) (cond (q == p) (Some (record { count = c; key = x; at = i })) a) h o e)
+  where
+    kept : (b : Bool) → (q == p) ≡ b → cond b (Some (record { count = c; key = x; at = i })) a ≡ Some o → (a ≡ Some o) ⊎ StandsFrom i (Entered q c x ∷ h) o.at (Entered p o.count o.key)
+    kept true same w =
+        let it : ◌≡◌ {A = Open} (record { count = c; key = x; at = i }) o = cc in
+        inr (0, (let q : i ≡ o.at = ap (λ (z : Open). z.at) it in omega arith), (λ l. some (Entered (eqb-true q p same l) (it l).count (it l).key)))
+    kept false same w = inl w
+
+pub open_mark : (p : ℕ) (h : List Mark) (o : Open) → open_at p h ≡ Some o → get_elem? h o.at ≡ some (Entered p o.count o.key)
+open_mark p h o e = ⊎_elim (λ (w : None ≡ Some o). absurd (cc)) (λ (w : StandsFrom 0 h o.at (Entered p o.count o.key)). (let q = w.1 in let same : o.at ≡ w.0 = omega arith in ap (get_elem? h) same ∙ w.2)) (open_stands p 0 None h o e)

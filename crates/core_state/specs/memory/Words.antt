@@ -1,0 +1,26 @@
+-- What single words say.
+-- Source: docs/ALGORITHM.md, "The words of the tree's table".
+use Rattle.std.specs.Prelude.{ℕ, ◌-◌, ◌==◌, nat_lt, if◌then◌else◌, Option, Some, None}
+use Rattle.prcu_marks.specs.declared.mark.Side.{Side}
+use Rattle.prcu_marks.specs.declared.mark.Side.TheVariants.{Left, Right}
+
+-- the place of who holds a lock
+abbrev pub holder_of : ℕ → Option ℕ
+holder_of lock = if lock == 0 then None else Some (lock - 1)
+
+-- the slot to which a link leads
+abbrev pub child_of : ℕ → Option ℕ
+child_of link = if link == 0 then None else Some link
+
+-- the numbers of a side's link and tag among the fields of a slot
+abbrev pub side_number : Side → ℕ
+side_number Left = 5
+side_number Right = 6
+
+abbrev pub tag_number : Side → ℕ
+tag_number Left = 7
+tag_number Right = 8
+
+-- the side to which a search goes on at a node with another key
+abbrev pub step_side : ℕ → ℕ → Option Side
+step_side x key = if x == key then None else if nat_lt x key then Some Left else Some Right

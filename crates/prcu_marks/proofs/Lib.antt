@@ -1,0 +1,6 @@
+pub mod MarkLists
+pub mod MarkPlaces
+pub mod OwnMarks
+pub mod Chains
+pub mod Callers
+pub mod Runs

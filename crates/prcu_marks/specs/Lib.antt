@@ -1,0 +1,4 @@
+pub mod Marks
+pub mod Callers
+pub mod Chains
+pub mod Runs

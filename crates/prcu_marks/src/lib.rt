@@ -1,0 +1,9 @@
+//! What calls that are made beside each other leave behind: the one list of marks of readers, waits and updates; what a call of a
+//! caller adds to it, what a chain of calls does, and how such chains make an account; and the traits `Client` and `Gate`.
+#![tactic(auto)]
+
+pub mod client;
+pub mod mark;
+
+pub use client::{Client, Gate, OpenGate, Point};
+pub use mark::{Mark, Side, Why};
