@@ -20,6 +20,7 @@ use Rattle.hash_core.specs.Memory.{Memory, word_of, is_field}
 use Rattle.hash_core.specs.Slots.{capacity, is_slot_of, IsOfClass, word_count}
 use Rattle.prcu_marks.specs.Marks.{updates_of, own_of}
 use Rattle.prcu_marks.proofs.MarkLists.{updates_of-append, own_of-append}
+use Rattle.prcu_marks.specs.Bounds.{most_tickets}
 use Rattle.prcu_model.proofs.Fronts.{AreUpdatesFrom-front}
 use Rattle.hash_core.specs.Known.{known_in, ComesTo, IsOnWalk}
 use Rattle.std.specs.FinMap as finite
@@ -76,10 +77,10 @@ first_slot capacities c next first xs of path there =
     of first (let e = ap (times first) p.1 in let t = times_here first p.0 in omega arith)
 
 module _ (capacities : List ℕ) (places tickets : ℕ) (m : Memory) (vs : List View) (h : List Mark) (r : MemoryRule capacities places tickets m vs h) (id : ℕ) (v : View) (at : get_elem? vs id ≡ some v) where
-  pub few_tickets : v.tickets ≤ 1099511627776
+  pub few_tickets : v.tickets ≤ most_tickets
   few_tickets = let a = total_part (λ (u : View). u.tickets) vs id v at in let b = r.tickets_are in let c = r.shape.few_tickets in omega arith
 
-  pub few_updates : length (updates_of h) ≤ 1099511627776
+  pub few_updates : length (updates_of h) ≤ most_tickets
   few_updates = let b = r.tickets_are in let c = r.shape.few_tickets in omega arith
 
   -- what the view has seen

@@ -11,6 +11,7 @@ use Rattle.hash_core.proofs.First.{starts, fresh_memory}
 use Rattle.hash_core.specs.Slots.{capacity, base}
 use Rattle.class_hash.specs.Fresh.{IsFresh, IsFreshClass, IsFreshSlot, first_link, next_link, first_seated}
 use Rattle.class_hash.specs.Added.{HasClasses, HasSlots, HasClassSlots}
+use Rattle.prcu_marks.specs.Bounds.{most_tickets}
 
 pub base_le : (capacities : List ℕ) (c : ℕ) → base capacities c ≤ sum capacities
 base_le capacities c = sum_by-take-le (λ (n : ℕ). n) capacities c
@@ -140,7 +141,7 @@ all_fresh capacities ws ws' all classes slots =
     }
 
 -- The rule holds of the first words.
-pub rule_starts : (k : Shape) (cs ws : List ℕ) → k.capacities.items ≡ cs → length cs ≡ 64 → sum cs ≤ 2097152 → (1 ≤ k.places) × (k.places ≤ 64) → k.tickets ≤ 1099511627776 → IsFresh cs ws → Rule k ws (first_seated k ∷ [])
+pub rule_starts : (k : Shape) (cs ws : List ℕ) → k.capacities.items ≡ cs → length cs ≡ 64 → sum cs ≤ 2097152 → (1 ≤ k.places) × (k.places ≤ 64) → k.tickets ≤ most_tickets → IsFresh cs ws → Rule k ws (first_seated k ∷ [])
 rule_starts k cs ws same classes slots places tickets fresh =
     let shape : IsShape k.capacities.items k.places k.tickets = subst (λ z. IsShape z k.places k.tickets) (sym same) (record { classes = classes; slots = slots; some_place = places.0; few_places = places.1; few_tickets = tickets }) in
     let all : IsFresh k.capacities.items ws = subst (λ z. IsFresh z ws) (sym same) fresh in

@@ -7,6 +7,7 @@ use Rattle.hash_core.specs.declared.view.Section.{Section}
 use Rattle.hash_core.specs.declared.view.Hold.{Hold}
 use Rattle.hash_core.specs.declared.view.View.{View}
 use Rattle.hash_core.specs.Known.{known_in}
+use Rattle.prcu_marks.specs.Bounds.{most_tickets}
 
 -- a seat: of which table it is, and what it knows
 pub record SeatAt : Type 0 where
@@ -24,7 +25,7 @@ pub record TableAt : Type 0 where
 pub record HasRoom (v : View) : Type 0 where
   pub live : 1 ≤ v.places
   pub few : v.place + v.places ≤ 64
-  pub few_tickets : v.tickets ≤ 1099511627776
+  pub few_tickets : v.tickets ≤ most_tickets
 
 -- the key of the open section, if there is one
 abbrev pub IsInside : Option ℕ → Option Section → Type 0

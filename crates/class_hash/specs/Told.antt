@@ -10,6 +10,7 @@ use Rattle.hash_core.specs.Steps.{stepped}
 use Rattle.class_hash.specs.declared.rule.Nothing.{Nothing}
 use Rattle.class_hash.specs.Answers.{IsInformed, IsHeldByOther}
 use Rattle.class_hash.specs.Stepped.{Enters, Leaves, Searches, Locks, Unlocks, LoadsReaders, Loads, Takes, Refills, Moves, Pushes, Chains, Writes, Turns, Evens, Links, Cuts, Replaces}
+use Rattle.prcu_marks.specs.Bounds.{most_tickets}
 
 abbrev Seated : Type 0
 Seated = Me Nothing View
@@ -18,7 +19,7 @@ abbrev At : Type 0
 At = Step Nothing
 
 abbrev pub told2 : ℕ → At → Seated → ℕ → Seated → Type 0
-told2 places st me found me' = (me'.1 ≡ me.1) × (me'.0 ≡ stepped me.0 H2 Front found) × (me'.0.tickets ≤ 1099511627776) × IsInformed places me'.0
+told2 places st me found me' = (me'.1 ≡ me.1) × (me'.0 ≡ stepped me.0 H2 Front found) × (me'.0.tickets ≤ most_tickets) × IsInformed places me'.0
 
 abbrev pub told3 : ℕ → At → Seated → ℕ → Seated → Type 0
 told3 key st me found me' = (me'.1 ≡ me.1) × Enters me.0 key found me'.0

@@ -7,6 +7,7 @@ use Rattle.core_state.specs.steps.Steps.{step7, step8_stamp, step9_held, step9_k
 use Rattle.core_examples.proofs.Example.{small, only_spot}
 use Rattle.core_examples.proofs.Choices.{State, Choice, reached, AllAllowed, over, ◌⟫◌, le_now, lt_now, ne_now, no_lock, some_not_none, begins, counts_free, frees_hand, frees_retired, keeps, loads_life, loads_retired, looks_stamp, raises_hand, raises_retired, raises_spare, reserves, seizes}
 use Rattle.core_examples.proofs.MovingDelete.{after_left50_eleventh}
+use Rattle.prcu_marks.specs.Bounds.{greatest_key}
 
 -- After that delete the place has two retired slots and no spare.
 abbrev pub waiting : State
@@ -15,7 +16,7 @@ waiting = after_left50_eleventh
 -- after a wait for everybody its slot becomes the spare, and that of the old successor is freed, part 1
 abbrev pub reclaim_first : List Choice
 reclaim_first =
-    begins 0 18446744073709551615 ∷
+    begins 0 greatest_key ∷
     looks_stamp ∷
     loads_retired 2 ∷
     raises_spare 2 2 ∷
@@ -33,7 +34,7 @@ reclaim_first_0 = reached small waiting (take 0 reclaim_first)
 reclaim_first_allowed : AllAllowed small waiting reclaim_first
 reclaim_first_allowed =
     step7 (record { outside = refl; ticket = le_now 1 reclaim_first_0.view.allowance.tickets refl; some = le_now _ _ refl; high_fits = lt_now _ _ refl }) ⟫
-    step8_stamp {last = true} refl (record { wait_is = refl; going = refl; rest = λ l e other spot. only_spot (new_wait waiting.view 0 18446744073709551615 1 waiting.marks) other spot }) ⟫
+    step8_stamp {last = true} refl (record { wait_is = refl; going = refl; rest = λ l e other spot. only_spot (new_wait waiting.view 0 greatest_key 1 waiting.marks) other spot }) ⟫
     step9_retired 0 _ (refl, refl) ⟫
     step12_spare 0 1 _ (record { retired = (refl, refl); unraised = refl; unlocked = no_lock [] 2 refl; waited = refl; loaded = refl; next = refl }) refl ⟫
     step9_retired 0 _ (refl, refl) ⟫

@@ -20,7 +20,7 @@ use Rattle.core_state.specs.views.Views.{places_of, slot_list, held_list, joined
 use Rattle.core_state.specs.steps.Seating.{spent_view}
 use Rattle.core_state.specs.parts.SlotParts.{roles_of, HasSpareToCome, HasFewSlots}
 use Rattle.core_state.specs.parts.CountParts.{young_count, old_count}
-use Rattle.core_state.specs.Invariant.{Invariant}
+use Rattle.core_state.specs.Invariant.{HoldsNow}
 use Rattle.core_frames.specs.Laws.{HoldsNothing, EmptyIsFull, PairsFit}
 use Rattle.list_laws.proofs.Lists.{total_part}
 use Rattle.core_frames.proofs.views.SeatFacts.{place_within}
@@ -152,7 +152,7 @@ share_own v few nothing =
     let works = nothing.works in
     omega arith
 
-module _ (k : Shape) (m : Memory) (vs : List View) (h : List Mark) (i : Invariant k m vs h) where
+module _ (k : Shape) (m : Memory) (vs : List View) (h : List Mark) (i : HoldsNow k m vs h) where
   pub all_places : total (λ (v : View). length (places_of v)) vs ≤ k.places
   all_places =
       let a = total_le (λ (v : View). length (places_of v)) (λ (v : View). sum_below (λ p. times p (places_of v)) k.places) vs
@@ -242,7 +242,7 @@ share_least v few spent =
     one works None e = let r = few.next_spare works e in let a = length_some v.hands.retired r.0 r.1 in omega arith
     one works (Some held) e = let a = ap (λ x. length (held_list x)) e in omega arith
 
-module _ (k : Shape) (m : Memory) (vs : List View) (h : List Mark) (i : Invariant k m vs h) where
+module _ (k : Shape) (m : Memory) (vs : List View) (h : List Mark) (i : HoldsNow k m vs h) where
   each_place : k.places ≤ total (λ (v : View). length (places_of v)) vs
   each_place =
       let a = total_le (λ (v : View). sum_below (λ p. times p (places_of v)) k.places) (λ (v : View). length (places_of v)) vs (λ j v at. sum_times (places_of v) k.places) in

@@ -37,7 +37,7 @@ use Rattle.core_state.specs.parts.TreeParts.{IsMoving}
 use Rattle.core_state.specs.parts.ReaderParts.{IsReading, IsServed, IsRecord}
 use Rattle.core_state.specs.parts.ListingParts.{IsListing}
 use Rattle.core_state.specs.parts.GraceParts.{IsWaitedRetired, IsWaitedMove}
-use Rattle.core_state.specs.Invariant.{IsShape, Invariant}
+use Rattle.core_state.specs.Invariant.{IsShape, HoldsNow}
 use Rattle.core_frames.specs.Laws.{FreshHolds}
 use Rattle.list_laws.proofs.Lists.{times_append, times_here, times_other, from_times, not_from}
 
@@ -151,7 +151,7 @@ module _ (k : Shape) (m : Memory) (table : IsShape k) (fresh : IsFresh k m) wher
   no_moves : (v w : View) (i j : ℕ) (a b : Move) → get_elem? one_view i ≡ some v → v.moving ≡ Some a → i ≡ j
   no_moves v w i j a b e is = absurd (each_one (λ (u : View). (x : Move) → u.moving ≡ Some x → ⊥) (first_view k) (λ x none. absurd (let q : None ≡ Some x = none in cc)) i v e a is)
 
-  pub starts : Invariant k m (first_view k ∷ []) []
+  pub starts : HoldsNow k m (first_view k ∷ []) []
   starts = record {
     table = table;
     chart = fresh_chart;

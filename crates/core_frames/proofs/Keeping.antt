@@ -15,7 +15,7 @@ use Rattle.core_state.specs.memory.Memory.{Memory, stored, idle}
 use Rattle.core_state.specs.views.Views.{Works}
 use Rattle.core_state.specs.steps.Sections.{after_clock_load, after_announce, after_enter_by_stamp}
 use Rattle.core_state.specs.steps.Steps.{IsStep, step3, step4, step5, step6}
-use Rattle.core_state.specs.Invariant.{Invariant}
+use Rattle.core_state.specs.Invariant.{HoldsNow}
 use Rattle.atomic_table.proofs.Lists.{set_here}
 use Rattle.core_state.specs.steps.Seating.{stepped}
 use Rattle.core_state.specs.steps.Steps.{is_store}
@@ -31,11 +31,11 @@ clock_slots m n = record { nodes = record { life = λ s. refl; key = λ s. refl;
 pub no_mark : (k : Shape) (m to : Memory) (h : List Mark) (vs : List View) → IsKept k m h to vs h → IsKept k m h to vs (h ++ [])
 no_mark k m to h vs kept = subst (IsKept k m h to vs) (sym (append-nil h)) kept
 
-module _ (k : Shape) (m : Memory) (vs : List View) (h : List Mark) (id : ℕ) (v : View) (i : Invariant k m vs h) (there : get_elem? vs id ≡ some v) (works : Works v) where
+module _ (k : Shape) (m : Memory) (vs : List View) (h : List Mark) (id : ℕ) (v : View) (i : HoldsNow k m vs h) (there : get_elem? vs id ≡ some v) (works : Works v) where
   case3 : (w : View) (field : Field) (found left : ℕ) (marks : List Mark) → IsStep k h v K3 field found left w marks → m field ≡ found → IsKept k m h (stored m field left) (set vs id w) (h ++ marks)
   case3 w field found left marks (step3 {n = n}) e =
       no_mark k m (stored m Clock n) h (set vs id (after_clock_load v n h)) (record {
-        invariant = subst (λ z. Invariant k (stored m Clock z) (set vs id (after_clock_load v z h)) h) e (law3 k m vs h id v i there works);
+        invariant = subst (λ z. HoldsNow k (stored m Clock z) (set vs id (after_clock_load v z h)) h) e (law3 k m vs h id v i there works);
         ages = past_kept m (stored m Clock n) h (clock_slots m n);
       })
 
@@ -48,7 +48,7 @@ module _ (k : Shape) (m : Memory) (vs : List View) (h : List Mark) (id : ℕ) (v
 
   case5 : (w : View) (field : Field) (found left : ℕ) (marks : List Mark) → IsStep k h v K5 field found left w marks → IsKept k m h (stored m field left) (set vs id w) (h ++ marks)
   case5 w field found left marks (step5 {key = key} {stamp = stamp} clocked way needs) = record {
-    invariant = subst (λ z. Invariant k (stored m (Stamp v.allowance.place) z) (set vs id (after_enter_by_stamp v key clocked h)) (h ++ Entered v.allowance.place v.counts.sections key ∷ [])) (sym needs.stamp_is) (law5 k m vs h id v i there works key stamp clocked way needs);
+    invariant = subst (λ z. HoldsNow k (stored m (Stamp v.allowance.place) z) (set vs id (after_enter_by_stamp v key clocked h)) (h ++ Entered v.allowance.place v.counts.sections key ∷ [])) (sym needs.stamp_is) (law5 k m vs h id v i there works key stamp clocked way needs);
     ages = past_kept m (stored m (Stamp v.allowance.place) stamp) h (stamp_slots m v.allowance.place stamp);
   }
 
@@ -79,5 +79,5 @@ notes_keep kind keeps k m vs h id v w field left marks i there works is_field st
     (keeps k m (set vs id noted) h id noted w field left marks (stepped_keeps k m vs h id v i there works kind field number) (set_here vs id noted (at_below vs id v there)) works is_field step)
 
 -- a step that only loads
-pub only_loaded : (k : Shape) (m : Memory) (h : List Mark) (field : Field) (vs : List View) (h' : List Mark) → Invariant k m vs h' → IsKept k m h (stored m field (m field)) vs h'
+pub only_loaded : (k : Shape) (m : Memory) (h : List Mark) (field : Field) (vs : List View) (h' : List Mark) → HoldsNow k m vs h' → IsKept k m h (stored m field (m field)) vs h'
 only_loaded k m h field vs h' i = subst (λ z. IsKept k m h z vs h') (sym (stored_same m field)) (record { invariant = i; ages = past_kept m m h (same_slots m) })

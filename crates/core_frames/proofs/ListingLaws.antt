@@ -15,7 +15,7 @@ use Rattle.core_state.specs.tree.Chart.{Chart, IsShaped, HoldsMap, IsInRange}
 use Rattle.core_state.specs.tree.Readers.{IsPending}
 use Rattle.core_state.specs.parts.TreeParts.{map_now}
 use Rattle.core_state.specs.parts.ListingParts.{low_bound, IsBetween, HasBounds, WasOld}
-use Rattle.core_state.specs.Invariant.{Invariant}
+use Rattle.core_state.specs.Invariant.{HoldsNow}
 use Rattle.core_frames.specs.Laws.{ListingsGoOn}
 use Rattle.prcu_marks.specs.Marks.{gone_at}
 use Rattle.list_laws.specs.Counts.{times}
@@ -38,7 +38,7 @@ range_answer m n g map x a fuel h k fits i enough =
     let e : last_of m x fuel a ≡ r.slot = last_of-ends m x r.hops fuel a r.slot r.way r.last (omega arith) in
     ap (answer_at m x) e ∙ ended_is m n g map x r.slot h k fits r.met r.last (map x) refl
 
-module _ (k : Shape) (m : Memory) (vs : List View) (h : List Mark) (i : Invariant k m vs h) (y : ℕ) (fits : y < 2 ^ 64) where
+module _ (k : Shape) (m : Memory) (vs : List View) (h : List Mark) (i : HoldsNow k m vs h) (y : ℕ) (fits : y < 2 ^ 64) where
   in_bounds : (bounds : Gap) (s : ℕ) → HasBounds i.chart bounds s → IsBetween bounds y → IsInRange i.chart y s
   in_bounds bounds s has between = let low = has.low in let high = has.high in let p = between.0 in let q = between.1 in record { linked = has.linked; low = omega arith; high = omega arith }
 
@@ -98,7 +98,7 @@ module _ (k : Shape) (m : Memory) (vs : List View) (h : List Mark) (i : Invarian
       goes_on (suc hops) move pending way e range = passes_less (m (Link s Right)) range move hops pending (subst (λ z. Hops m y hops z move.old) e way.1)
 
 -- an unlinked slot isn't linked
-gone_out : (k : Shape) (m : Memory) (vs : List View) (h : List Mark) (i : Invariant k m vs h) (s p : ℕ) → gone_at s h ≡ Some p → i.chart.linked s ≡ false
+gone_out : (k : Shape) (m : Memory) (vs : List View) (h : List Mark) (i : HoldsNow k m vs h) (s p : ℕ) → gone_at s h ≡ Some p → i.chart.linked s ≡ false
 gone_out k m vs h i s p gone =
     let r = i.slots.unlinked s p gone in
     let one = subst (λ z. 1 ≤ times z (slots_of r.view)) r.slot (retired_in_slots r.view r.retired r.has) in

@@ -29,7 +29,7 @@ use Rattle.core_state.specs.steps.Sections.{after_clock_load, NeedsAnnounce, aft
 use Rattle.core_state.specs.tree.Readers.{in_range}
 use Rattle.core_state.specs.parts.ReaderParts.{IsReading, IsServed, IsRecord, HasStood}
 use Rattle.core_state.specs.parts.WaiterParts.{WaiterParts}
-use Rattle.core_state.specs.Invariant.{Invariant}
+use Rattle.core_state.specs.Invariant.{HoldsNow}
 use Rattle.core_frames.specs.Laws.{KeepsPast}
 use Rattle.list_laws.proofs.Lists.{at_below, in_second}
 use Rattle.prcu_marks.proofs.MarkPlaces.{open_at-below}
@@ -56,7 +56,7 @@ past_kept m m' h slots = record {
   content = λ s field gone odd content. content_same m m' slots.nodes s field content;
 }
 
-module _ (k : Shape) (m : Memory) (vs : List View) (h : List Mark) (id : ℕ) (v : View) (i : Invariant k m vs h) (there : get_elem? vs id ≡ some v) (works : Works v) where
+module _ (k : Shape) (m : Memory) (vs : List View) (h : List Mark) (id : ℕ) (v : View) (i : HoldsNow k m vs h) (there : get_elem? vs id ≡ some v) (works : Works v) where
   -- another view that is inside a section, or has announced a key, works at another place
   apart : (j : ℕ) (u : View) (section : Section) → (j ≡ id → ⊥) → get_elem? vs j ≡ some u → u.section ≡ Some section → (u.allowance.place ≡ v.allowance.place → ⊥)
   apart j u section ne e is same =
@@ -96,7 +96,7 @@ module _ (k : Shape) (m : Memory) (vs : List View) (h : List Mark) (id : ℕ) (v
     readings : readings_of w ≡ readings_of v
     readings = λ n. open_reading (section n) ++ records n
 
-    pub quiet_law : WaiterParts k m' (set vs id w) h → Invariant k m' (set vs id w) h
+    pub quiet_law : WaiterParts k m' (set vs id w) h → HoldsNow k m' (set vs id w) h
     quiet_law waiters = record {
       table = i.table;
       chart = i.chart;
@@ -121,14 +121,14 @@ module _ (k : Shape) (m : Memory) (vs : List View) (h : List Mark) (id : ℕ) (v
     }
 
   -- a step is noted in the trail
-  pub stepped_keeps : (kind : Kind) (field : Field) (number : ℕ) → Invariant k m (set vs id (stepped v kind field number)) h
+  pub stepped_keeps : (kind : Kind) (field : Field) (number : ℕ) → HoldsNow k m (set vs id (stepped v kind field number)) h
   stepped_keeps kind field number =
       let w : View = stepped v kind field number in
       quiet_law m w (same_slots m) refl refl refl refl refl refl refl refl refl refl refl refl refl
       (waiter_frame k m m vs id v w h there (record { place = refl; section = refl; wait = refl }) refl (λ p. refl) (λ p. refl) (λ c d. refl) (λ p c. refl) refl (λ clocked is. (i.waiters.clocked id v there).loaded clocked is) i.waiters)
 
   -- K3: the clock is loaded
-  pub law3 : Invariant k (stored m Clock (m Clock)) (set vs id (after_clock_load v (m Clock) h)) h
+  pub law3 : HoldsNow k (stored m Clock (m Clock)) (set vs id (after_clock_load v (m Clock) h)) h
   law3 =
       let w : View = after_clock_load v (m Clock) h in
       let m' : Memory = stored m Clock (m Clock) in
@@ -138,14 +138,14 @@ module _ (k : Shape) (m : Memory) (vs : List View) (h : List Mark) (id : ℕ) (v
       (λ clocked is. (let now : Clocked = record { number = m Clock; at = length h } in let e : now ≡ clocked = cc in subst (λ (c : Clocked). (c.at ≤ length h) × (c.number ≡ begun (take c.at h))) e (omega arith, i.waiters.clock ∙ ap begun (sym (take_all (length h) h (omega arith)))))) i.waiters)
 
   -- K4: the own key word is stored
-  pub law4 : (key : ℕ) → k.waiter ≡ Eer → NeedsAnnounce v → Invariant k (stored m (Announced v.allowance.place) key) (set vs id (after_announce v key)) h
+  pub law4 : (key : ℕ) → k.waiter ≡ Eer → NeedsAnnounce v → HoldsNow k (stored m (Announced v.allowance.place) key) (set vs id (after_announce v key)) h
   law4 key way needs =
       quiet_law (stored m (Announced v.allowance.place) key) (after_announce v key) (announced_slots m v.allowance.place key) refl refl refl refl refl refl refl refl refl refl refl refl refl
       (waiters4 k m vs id v h there way i.waiters key needs (λ j u s ne e is. apart j u s ne e is) (λ j u ne e other is. alone j u ne e other is))
 
   -- K5: a section is entered
   pub law5 : (key stamp : ℕ) (clocked : Clocked) → k.waiter ≡ Eer → NeedsEnterByStamp v key stamp clocked
-      → Invariant k (stored m (Stamp v.allowance.place) clocked.number) (set vs id (after_enter_by_stamp v key clocked h)) (h ++ Entered v.allowance.place v.counts.sections key ∷ [])
+      → HoldsNow k (stored m (Stamp v.allowance.place) clocked.number) (set vs id (after_enter_by_stamp v key clocked h)) (h ++ Entered v.allowance.place v.counts.sections key ∷ [])
   law5 key stamp clocked way needs =
       let w : View = after_enter_by_stamp v key clocked h in
       let mark : Mark = Entered v.allowance.place v.counts.sections key in
@@ -221,7 +221,7 @@ module _ (k : Shape) (m : Memory) (vs : List View) (h : List Mark) (id : ℕ) (v
       entered_readings (suc j) r e = let a = in_second (open_reading v.section) v.records r (j, e) in i.readers.readings id v there a.0 r a.1
 
   -- K6: the section is left
-  pub law6 : (section : Section) → k.waiter ≡ Eer → NeedsLeaveByStamp v section → Invariant k (stored m (Stamp v.allowance.place) idle) (set vs id (leaving v section h)) (h ++ Left v.allowance.place section.count ∷ [])
+  pub law6 : (section : Section) → k.waiter ≡ Eer → NeedsLeaveByStamp v section → HoldsNow k (stored m (Stamp v.allowance.place) idle) (set vs id (leaving v section h)) (h ++ Left v.allowance.place section.count ∷ [])
   law6 section way needs =
       let w : View = leaving v section h in
       let mark : Mark = Left v.allowance.place section.count in

@@ -8,6 +8,7 @@ use Rattle.prcu_marks.specs.declared.mark.Mark.{Mark}
 use Rattle.prcu_marks.specs.declared.mark.Side.{Side}
 use Rattle.prcu_model.specs.Dictionary.{map_of}
 use Rattle.prcu_marks.specs.Marks.{updates_of, gone_at, IsGone}
+use Rattle.prcu_marks.specs.Bounds.{greatest_key}
 use Rattle.core_state.specs.declared.shape.Shape.{Shape}
 use Rattle.core_state.specs.declared.shape.Waiter.TheVariants.{Domain}
 use Rattle.core_state.specs.declared.words.Field.{Field}
@@ -42,15 +43,15 @@ use Rattle.core_state.specs.declared.view.HeldLock.{HeldLock}
 use Rattle.core_state.specs.views.Views.{Works, readings_of}
 use Rattle.core_state.specs.steps.Steps.{IsStep, Steps}
 use Rattle.core_state.specs.Fresh.{first_view, IsFresh}
-use Rattle.core_state.specs.Invariant.{IsShape, Invariant}
+use Rattle.core_state.specs.Invariant.{IsShape, HoldsNow}
 
 -- The links from the root are a tree of distinct slots in search order, the linked slots.
 abbrev pub LinksAreTree : Type 0
-LinksAreTree = (k : Shape) (m : Memory) (vs : List View) (h : List Mark) (i : Invariant k m vs h) → IsTree m i.chart.linked i.chart.old
+LinksAreTree = (k : Shape) (m : Memory) (vs : List View) (h : List Mark) (i : HoldsNow k m vs h) → IsTree m i.chart.linked i.chart.old
 
 -- A search from the root answers as the dictionary now.
 abbrev pub FollowIsMap : Type 0
-FollowIsMap = (k : Shape) (m : Memory) (vs : List View) (h : List Mark) → Invariant k m vs h → (x : ℕ) → x < 2 ^ 64 → follow m (slot_count k) 0 x ≡ map_now h x
+FollowIsMap = (k : Shape) (m : Memory) (vs : List View) (h : List Mark) → HoldsNow k m vs h → (x : ℕ) → x < 2 ^ 64 → follow m (slot_count k) 0 x ≡ map_now h x
 
 -- A section that is open and is no listing.
 pub record Searches (vs : List View) (section : Section) : Type 0 where
@@ -71,32 +72,32 @@ answer_of m slots x (Missed s b) = None
 
 -- What each open search will answer the dictionary said at some front since it was entered.
 abbrev pub SearchesAreAnswered : Type 0
-SearchesAreAnswered = (k : Shape) (m : Memory) (vs : List View) (h : List Mark) → Invariant k m vs h → (section : Section) → Searches vs section
+SearchesAreAnswered = (k : Shape) (m : Memory) (vs : List View) (h : List Mark) → HoldsNow k m vs h → (section : Section) → Searches vs section
     → WasSaid (updates_of h) section.key section.from (answer_of m (slot_count k) section.key section.reading.state)
 
 -- Where an open search stands: it passes an old successor that it may pass, or meets the path from the root, or ends at a slot that
 -- isn't linked.
 abbrev pub SearchesStand : Type 0
-SearchesStand = (k : Shape) (m : Memory) (vs : List View) (h : List Mark) (i : Invariant k m vs h) (section : Section) → Searches vs section
+SearchesStand = (k : Shape) (m : Memory) (vs : List View) (h : List Mark) (i : HoldsNow k m vs h) (section : Section) → Searches vs section
     → Stands m i.chart.linked section.key (MayPass vs section.key section.entered) (state_slot section.reading.state)
 
 -- Only sections entered before a move's update pass its old successor with a key of its interval; after the move's wait none does.
 abbrev pub FewPass : Type 0
-FewPass = (k : Shape) (m : Memory) (vs : List View) (h : List Mark) → Invariant k m vs h → (section : Section) → Searches vs section → (move : Move) → IsPending vs move
+FewPass = (k : Shape) (m : Memory) (vs : List View) (h : List Mark) → HoldsNow k m vs h → (section : Section) → Searches vs section → (move : Move) → IsPending vs move
     → move.key < section.key → section.key ≤ move.next_key → (hops : ℕ) → Hops m section.key hops (state_slot section.reading.state) move.old
     → (section.entered < move.made) × (move.waited ≡ false)
 
 -- A record of an empty side, kept or of a section that is open: where the slot is as recorded and its side isn't one that was just
 -- emptied, the search for the key from the root ends there, or the slot is the old successor of a move whose interval holds the key.
 abbrev pub RecordsSay : Type 0
-RecordsSay = (k : Shape) (m : Memory) (vs : List View) (h : List Mark) → Invariant k m vs h → (id : ℕ) (v : View) (r : Reading) (s tag : ℕ) (b : Side) → get_elem? vs id ≡ some v → IsIn (readings_of v) r
+RecordsSay = (k : Shape) (m : Memory) (vs : List View) (h : List Mark) → HoldsNow k m vs h → (id : ℕ) (v : View) (r : Reading) (s tag : ℕ) (b : Side) → get_elem? vs id ≡ some v → IsIn (readings_of v) r
     → r.state ≡ Missed s b → IsAsRecorded m r s → known_in r.loads (Tag s b) ≡ Some tag → m (Link s b) ≡ 0 → m (Tag s b) ≡ tag → (IsEmptied vs s b → ⊥)
     → IsOldFor vs r.key s ⊎ (last_of m r.key (slot_count k) 0 ≡ s)
 
 -- A stamp whose clock was loaded before a wait began isn't above the wait's clock; no stamp is above the clock word, and each wait's
 -- clock is below it.
 abbrev pub StampsAreOld : Type 0
-StampsAreOld = (k : Shape) (m : Memory) (vs : List View) (h : List Mark) → Invariant k m vs h → k.waiter ≢ Domain → (i j : ℕ) (v u : View) (wait : Waiting) (section : Section)
+StampsAreOld = (k : Shape) (m : Memory) (vs : List View) (h : List Mark) → HoldsNow k m vs h → k.waiter ≢ Domain → (i j : ℕ) (v u : View) (wait : Waiting) (section : Section)
     → get_elem? vs i ≡ some v → v.wait ≡ Some wait → get_elem? vs j ≡ some u → u.section ≡ Some section
     → (section.clocked ≤ wait.began → section.stamp ≤ wait.clock) × (section.stamp ≤ m Clock) × (wait.clock < m Clock)
 
@@ -104,14 +105,14 @@ StampsAreOld = (k : Shape) (m : Memory) (vs : List View) (h : List Mark) → Inv
 -- between its bounds, the follow from where it stands answers as the dictionary; and it passes an old successor only for keys above
 -- that one's.
 abbrev pub ListingsGoOn : Type 0
-ListingsGoOn = (k : Shape) (m : Memory) (vs : List View) (h : List Mark) → Invariant k m vs h → (id : ℕ) (v : View) (section : Section) (listing : Listing) → get_elem? vs id ≡ some v
+ListingsGoOn = (k : Shape) (m : Memory) (vs : List View) (h : List Mark) → HoldsNow k m vs h → (id : ℕ) (v : View) (section : Section) (listing : Listing) → get_elem? vs id ≡ some v
     → v.section ≡ Some section → section.listing ≡ Some listing → IsEven listing.front → m Front ≡ listing.front → listing.slot ≢ 0 → (y : ℕ) → y < 2 ^ 64 → IsBetween listing.bounds y
     → (follow m (slot_count k) listing.slot y ≡ map_now h y)
     × ((move : Move) (hops : ℕ) → IsPending vs move → Hops m y hops listing.slot move.old → move.next_key < y)
 
 -- A slot at which an open section stood is linked, or was unlinked after the section was entered.
 abbrev pub StoodIsYoung : Type 0
-StoodIsYoung = (k : Shape) (m : Memory) (vs : List View) (h : List Mark) (i : Invariant k m vs h) (id s : ℕ) (v : View) (section : Section)
+StoodIsYoung = (k : Shape) (m : Memory) (vs : List View) (h : List Mark) (i : HoldsNow k m vs h) (id s : ℕ) (v : View) (section : Section)
     → get_elem? vs id ≡ some v → v.section ≡ Some section → IsIn section.reading.stood s
     → (i.chart.linked s ≡ true) ⊎ ((at : ℕ) × (gone_at s h ≡ Some at) × (section.entered < at))
 
@@ -125,12 +126,12 @@ pub record HoldsNothing (v : View) : Type 0 where
   pub moving : v.moving ≡ None
 
 abbrev pub EmptyIsFull : Type 0
-EmptyIsFull = (k : Shape) (m : Memory) (vs : List View) (h : List Mark) → Invariant k m vs h → (id : ℕ) (v : View) → get_elem? vs id ≡ some v → HoldsNothing v → m Free ≡ 0
+EmptyIsFull = (k : Shape) (m : Memory) (vs : List View) (h : List Mark) → HoldsNow k m vs h → (id : ℕ) (v : View) → get_elem? vs id ≡ some v → HoldsNothing v → m Free ≡ 0
     → k.slots ≤ finite.len (map_of (updates_of h)) + length v.hands.retired + 20 * (k.places - 1)
 
 -- The dictionary has no more pairs than there are slots for them: each place keeps a slot.
 abbrev pub PairsFit : Type 0
-PairsFit = (k : Shape) (m : Memory) (vs : List View) (h : List Mark) → Invariant k m vs h → finite.len (map_of (updates_of h)) ≤ k.slots
+PairsFit = (k : Shape) (m : Memory) (vs : List View) (h : List Mark) → HoldsNow k m vs h → finite.len (map_of (updates_of h)) ≤ k.slots
 
 -- What a step leaves: no life and no tag falls, and the key, value and links of an unlinked slot stay until its life is raised.
 pub record KeepsPast (m : Memory) (h : List Mark) (to : Memory) : Type 0 where
@@ -139,19 +140,19 @@ pub record KeepsPast (m : Memory) (h : List Mark) (to : Memory) : Type 0 where
   pub content : (s : ℕ) (field : Field) → IsGone h s → IsOdd (m (Life s)) → IsContent s field → to field ≡ m field
 
 pub record IsKept (k : Shape) (m : Memory) (h : List Mark) (to : Memory) (vs : List View) (h' : List Mark) : Type 0 where
-  pub invariant : Invariant k to vs h'
+  pub invariant : HoldsNow k to vs h'
   pub ages : KeepsPast m h to
 
 -- Each step of the kind keeps the invariant: by any view that works at a place, from any state that has the invariant.
 abbrev pub Keeps : Kind → Type 0
 Keeps kind = (k : Shape) (m : Memory) (vs : List View) (h : List Mark) (id : ℕ) (v w : View) (field : Field) (left : ℕ) (marks : List Mark)
-    → Invariant k m vs h → get_elem? vs id ≡ some v → Works v → is_field k field ≡ true → IsStep k h v kind field (m field) left w marks
+    → HoldsNow k m vs h → get_elem? vs id ≡ some v → Works v → is_field k field ≡ true → IsStep k h v kind field (m field) left w marks
     → IsKept k m h (stored m field left) (set vs id w) (h ++ marks)
 
 -- The same of steps as seats make them, which are noted in their trails.
 abbrev pub KeepsNoted : Kind → Type 0
 KeepsNoted kind = (k : Shape) (m : Memory) (vs : List View) (h : List Mark) (id : ℕ) (v w : View) (field : Field) (left : ℕ) (marks : List Mark)
-    → Invariant k m vs h → get_elem? vs id ≡ some v → Works v → is_field k field ≡ true → Steps k h v kind field (m field) left w marks
+    → HoldsNow k m vs h → get_elem? vs id ≡ some v → Works v → is_field k field ≡ true → Steps k h v kind field (m field) left w marks
     → IsKept k m h (stored m field left) (set vs id w) (h ++ marks)
 
 abbrev pub NotesKeep : Type 0
@@ -159,17 +160,17 @@ NotesKeep = (kind : Kind) → Keeps kind → KeepsNoted kind
 
 -- A table as it is made has the invariant, whatever its waiter.
 abbrev pub FreshHolds : Type 0
-FreshHolds = (k : Shape) (m : Memory) → IsShape k → IsFresh k m → Invariant k m (first_view k ∷ []) []
+FreshHolds = (k : Shape) (m : Memory) → IsShape k → IsFresh k m → HoldsNow k m (first_view k ∷ []) []
 
 -- Pieces of the laws of K7, K12 and K14. A wait begins with nothing excused, so what the waits have excused stays right.
 abbrev pub WaitsBeginFresh : Type 0
-WaitsBeginFresh = (k : Shape) (m : Memory) (vs : List View) (h : List Mark) → Invariant k m vs h → (id low high : ℕ) (v : View) → get_elem? vs id ≡ some v → NeedsBegin v low high
+WaitsBeginFresh = (k : Shape) (m : Memory) (vs : List View) (h : List Mark) → HoldsNow k m vs h → (id low high : ℕ) (v : View) → get_elem? vs id ≡ some v → NeedsBegin v low high
     → AreExcused k (set vs id (after_begin v low high (m Clock) h))
 
 -- The life of a retired slot is raised only where no section is open that was entered before its unlinking.
 abbrev pub RaisesMeetNobody : Type 0
-RaisesMeetNobody = (k : Shape) (m : Memory) (vs : List View) (h : List Mark) → Invariant k m vs h → (id i slot life number : ℕ) (v : View) (r : Retired) → get_elem? vs id ≡ some v
-    → NeedsRaiseRetired v i r slot life number → IsClear vs r.unlinked 0 18446744073709551615
+RaisesMeetNobody = (k : Shape) (m : Memory) (vs : List View) (h : List Mark) → HoldsNow k m vs h → (id i slot life number : ℕ) (v : View) (r : Retired) → get_elem? vs id ≡ some v
+    → NeedsRaiseRetired v i r slot life number → IsClear vs r.unlinked 0 greatest_key
 
 -- Who gives a lock up forgets no side that it emptied.
 abbrev pub UnlocksForgetNothing : Type 0

@@ -10,6 +10,7 @@ use Rattle.list_laws.specs.Counts.{total}
 use Rattle.hash_core.specs.Memory.{Memory, memory_of}
 use Rattle.hash_core.specs.Slots.{word_count}
 use Rattle.prcu_marks.specs.Marks.{updates_of}
+use Rattle.prcu_marks.specs.Bounds.{most_tickets}
 use Rattle.hash_core.specs.Marks.{ReuseByClass}
 use Rattle.hash_core.specs.Buckets.{Bucket, IsChained, AreListed, HaveOneRole, IsMapped, IsLocked, IsKnown, HaveAges, AreCounted, AreClean}
 use Rattle.hash_core.specs.Readers.{AreAnswered}
@@ -34,7 +35,7 @@ pub record IsShape (capacities : List ℕ) (places tickets : ℕ) : Type 0 where
   pub slots : sum capacities ≤ 2097152
   pub some_place : 1 ≤ places
   pub few_places : places ≤ 64
-  pub few_tickets : tickets ≤ 1099511627776
+  pub few_tickets : tickets ≤ most_tickets
 
 -- what holds of the memory and of all views, with this list of marks
 pub record MemoryRule (capacities : List ℕ) (places tickets : ℕ) (m : Memory) (vs : List View) (h : List Mark) : Type 0 where

@@ -35,7 +35,7 @@ use Rattle.prcu_model.specs.Dictionary.{WasSaid}
 use Rattle.core_state.specs.tree.Readers.{IsHeldBack, IsPending, MayPass}
 use Rattle.core_state.specs.parts.ReaderParts.{state_slot, Answered, IsPlaced, IsRecord}
 use Rattle.core_state.specs.parts.TreeParts.{map_now}
-use Rattle.core_state.specs.Invariant.{Invariant}
+use Rattle.core_state.specs.Invariant.{HoldsNow}
 use Rattle.core_frames.specs.Laws.{LinksAreTree, FollowIsMap, Searches, answer_of, SearchesAreAnswered, SearchesStand, FewPass, RecordsSay, StampsAreOld, StoodIsYoung}
 use Rattle.core_state.specs.declared.view.SearchState.{SearchState}
 use Rattle.core_state.specs.declared.view.SearchState.TheVariants.{At, Unread, Found, Missed}
@@ -51,7 +51,7 @@ pub links_are_tree : LinksAreTree
 links_are_tree k m vs h i = is_tree m (slot_count k) i.chart i.tree.shape
 
 -- the root has every key in its range
-pub root_range : (k : Shape) (m : Memory) (vs : List View) (h : List Mark) (i : Invariant k m vs h) (x : ℕ) → x < 2 ^ 64 → IsInRange i.chart x 0
+pub root_range : (k : Shape) (m : Memory) (vs : List View) (h : List Mark) (i : HoldsNow k m vs h) (x : ℕ) → x < 2 ^ 64 → IsInRange i.chart x 0
 root_range k m vs h i x fits = let s = i.tree.shape in record { linked = s.root; low = omega (arith, s.root_low); high = omega (arith, s.root_high) }
 
 pub follow_is_map : FollowIsMap
@@ -74,14 +74,14 @@ retired_in_slots v r has =
     omega arith
 
 -- an unlinked slot is one of the table's
-pub gone_within : (k : Shape) (m : Memory) (vs : List View) (h : List Mark) → Invariant k m vs h → (s p : ℕ) → gone_at s h ≡ Some p → s < slot_count k
+pub gone_within : (k : Shape) (m : Memory) (vs : List View) (h : List Mark) → HoldsNow k m vs h → (s p : ℕ) → gone_at s h ≡ Some p → s < slot_count k
 gone_within k m vs h i s p gone =
     let r = i.slots.unlinked s p gone in
     let one = subst (λ z. 1 ≤ times z (slots_of r.view)) r.slot (retired_in_slots r.view r.retired r.has) in
     let part = total_part (λ (v : View). times s (slots_of v)) vs r.id r.view r.there in
     dite (dec_le (slot_count k) s) (λ far. absurd (let none = i.slots.roles.beyond s far in omega arith)) (λ near. omega arith)
 
-module _ (k : Shape) (m : Memory) (vs : List View) (h : List Mark) (i : Invariant k m vs h) (section : Section) (searches : Searches vs section) where
+module _ (k : Shape) (m : Memory) (vs : List View) (h : List Mark) (i : HoldsNow k m vs h) (section : Section) (searches : Searches vs section) where
   placed : IsPlaced m i.chart h vs section
   placed = (i.readers.served searches.id searches.view searches.there section searches.inside).placed searches.no_list
 
@@ -164,7 +164,7 @@ ends_there m n g x s b h fits l root empty belongs =
     at_side (suc s) b l root empty w = at_node (suc s) b l empty w (omega arith) (bool_cases (g.old (suc s)))
 
 -- what a reading of a view says of an empty side, be its section open or not
-reading_says : (k : Shape) (m : Memory) (vs : List View) (h : List Mark) (i : Invariant k m vs h) (id : ℕ) (v : View) (r : Reading) → get_elem? vs id ≡ some v → IsIn (readings_of v) r → IsRecord m i.chart vs r
+reading_says : (k : Shape) (m : Memory) (vs : List View) (h : List Mark) (i : HoldsNow k m vs h) (id : ℕ) (v : View) (r : Reading) → get_elem? vs id ≡ some v → IsIn (readings_of v) r → IsRecord m i.chart vs r
 reading_says k m vs h i id v r there has = ⊎_elim (λ (x : IsIn (open_reading v.section) r). open_case v.section refl x) (λ (x : IsIn v.records r). i.readers.records id v there x.0 r x.1) (in_append (open_reading v.section) v.records r has)
   where
     open_case : (o : Option Section) → v.section ≡ o → IsIn (open_reading o) r → IsRecord m i.chart vs r
@@ -221,8 +221,8 @@ stamps_are_old k m vs h i way a b v u wait section there waits other inside =
     )
 
 -- an open section was entered before the marks that come
-pub entered_before : (k : Shape) (m : Memory) (vs : List View) (h : List Mark) → Invariant k m vs h → (j : ℕ) (z : View) (section : Section) → get_elem? vs j ≡ some z → z.section ≡ Some section → section.entered < length h
+pub entered_before : (k : Shape) (m : Memory) (vs : List View) (h : List Mark) → HoldsNow k m vs h → (j : ℕ) (z : View) (section : Section) → get_elem? vs j ≡ some z → z.section ≡ Some section → section.entered < length h
 entered_before k m vs h i j z section e is = open_at-below z.allowance.place h (open_of section) (i.seats.sections j z e section is).is_open
 
-pub clocked_before : (k : Shape) (m : Memory) (vs : List View) (h : List Mark) → Invariant k m vs h → (j : ℕ) (z : View) (section : Section) → get_elem? vs j ≡ some z → z.section ≡ Some section → section.clocked ≤ length h
+pub clocked_before : (k : Shape) (m : Memory) (vs : List View) (h : List Mark) → HoldsNow k m vs h → (j : ℕ) (z : View) (section : Section) → get_elem? vs j ≡ some z → z.section ≡ Some section → section.clocked ≤ length h
 clocked_before k m vs h i j z section e is = let a = ((i.waiters.clocked j z e).stamped section is).0 in let c = entered_before k m vs h i j z section e is in omega arith

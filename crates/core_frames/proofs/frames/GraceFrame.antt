@@ -9,6 +9,7 @@ use Rattle.prcu_marks.specs.declared.mark.Mark.TheVariants.{Entered, Began, Ende
 use Rattle.prcu_marks.specs.declared.mark.Side.TheVariants.{Left as LeftSide, Right as RightSide}
 use Rattle.prcu_model.specs.Dictionary.{map_of}
 use Rattle.prcu_marks.specs.Marks.{open_at}
+use Rattle.prcu_marks.specs.Bounds.{greatest_key}
 use Rattle.core_state.specs.declared.words.Field.TheVariants.{Front, Key, Link}
 use Rattle.core_state.specs.declared.view.Fact.{Fact}
 use Rattle.core_state.specs.declared.view.Gap.{Gap}
@@ -86,9 +87,9 @@ module _ (vs : List View) (id : ℕ) (v w : View) (h h' : List Mark) (there : ge
 
   retired_still : (p : ℕ) (r : Retired) → IsWaitedRetired vs h p r → IsWaitedRetired (set vs id w) h' p r
   retired_still p r i = record {
-    shown = λ e. waited_more p r.unlinked 0 18446744073709551615 (i.shown e);
-    noted = λ has. i.noted (waited_back p r.unlinked 0 18446744073709551615 has);
-    clear = λ e. clear_still r.unlinked 0 18446744073709551615 (waited_below p r.unlinked 0 18446744073709551615 (i.shown e)) (i.clear e);
+    shown = λ e. waited_more p r.unlinked 0 greatest_key (i.shown e);
+    noted = λ has. i.noted (waited_back p r.unlinked 0 greatest_key has);
+    clear = λ e. clear_still r.unlinked 0 greatest_key (waited_below p r.unlinked 0 greatest_key (i.shown e)) (i.clear e);
   }
 
   move_still : (p : ℕ) (move : Move) → IsWaitedMove vs h p move → IsWaitedMove (set vs id w) h' p move
@@ -102,7 +103,7 @@ module _ (vs : List View) (id : ℕ) (v w : View) (h h' : List Mark) (there : ge
   grace_frame place joined retired moving grace reuse t = record {
     grace = grace;
     reuse = reuse;
-    clean = λ s at gone last. (let l = sym (quiet.last s) ∙ last in clear_still at 0 18446744073709551615 (last_unlinked-below s h at l) (t.clean s at (sym (quiet.gone s) ∙ gone) l));
+    clean = λ s at gone last. (let l = sym (quiet.last s) ∙ last in clear_still at 0 greatest_key (last_unlinked-below s h at l) (t.clean s at (sym (quiet.gone s) ∙ gone) l));
     retired = each_change (λ (u : View). Each u.hands.retired (IsWaitedRetired vs h u.allowance.place)) (λ (u : View). Each u.hands.retired (IsWaitedRetired (set vs id w) h' u.allowance.place)) vs id v w there
         (λ i. subst (λ (z : ℕ × List Retired). Each z.1 (IsWaitedRetired (set vs id w) h' z.0)) (λ k. (sym place k, sym retired k)) (λ j r e. retired_still v.allowance.place r (i j r e)))
         (λ u i j r e. retired_still u.allowance.place r (i j r e)) t.retired;

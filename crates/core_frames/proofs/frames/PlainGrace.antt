@@ -6,6 +6,7 @@ use Rattle.prcu_marks.specs.declared.mark.Mark.{Mark}
 use Rattle.prcu_marks.specs.declared.mark.Mark.TheVariants.{Done, Unlinked}
 use Rattle.prcu_model.specs.declared.operation.Op.TheVariants.{Del}
 use Rattle.prcu_marks.specs.Marks.{open_at, entered_at, gone_at}
+use Rattle.prcu_marks.specs.Bounds.{greatest_key}
 use Rattle.core_state.specs.declared.view.Move.{Move}
 use Rattle.core_state.specs.declared.view.Retired.{Retired}
 use Rattle.core_state.specs.declared.view.Section.{Section}
@@ -65,9 +66,9 @@ module _ (h h' : List Mark) (grow : (p after low high : ℕ) → HasWaited h p a
 
   pub retired_still : (p : ℕ) (r : Retired) → IsWaitedRetired vs h p r → IsWaitedRetired (set vs id w) h' p r
   retired_still p r i = record {
-    shown = λ e. grow p r.unlinked 0 18446744073709551615 (i.shown e);
-    noted = λ has. i.noted (shrink p r.unlinked 0 18446744073709551615 has);
-    clear = λ e. clear_still r.unlinked 0 18446744073709551615 (i.clear e);
+    shown = λ e. grow p r.unlinked 0 greatest_key (i.shown e);
+    noted = λ has. i.noted (shrink p r.unlinked 0 greatest_key has);
+    clear = λ e. clear_still r.unlinked 0 greatest_key (i.clear e);
   }
 
   pub move_still : (p : ℕ) (move : Move) → IsWaitedMove vs h p move → IsWaitedMove (set vs id w) h' p move
@@ -77,13 +78,13 @@ module _ (h h' : List Mark) (grow : (p after low high : ℕ) → HasWaited h p a
     clear = λ e. clear_still move.made (move.key + 1) move.next_key (i.clear e);
   }
 
-  pub grace_frame_by : w.allowance.joined ≡ v.allowance.joined → Grace h' → Reuse h' → ((s at : ℕ) → gone_at s h' ≡ None → last_unlinked s h' ≡ Some at → IsClear vs at 0 18446744073709551615)
+  pub grace_frame_by : w.allowance.joined ≡ v.allowance.joined → Grace h' → Reuse h' → ((s at : ℕ) → gone_at s h' ≡ None → last_unlinked s h' ≡ Some at → IsClear vs at 0 greatest_key)
       → Each w.hands.retired (IsWaitedRetired (set vs id w) h' w.allowance.place) → ((move : Move) → w.moving ≡ Some move → IsWaitedMove (set vs id w) h' w.allowance.place move)
       → GraceParts vs h → GraceParts (set vs id w) h'
   grace_frame_by joined grace reuse clean retired moves t = record {
     grace = grace;
     reuse = reuse;
-    clean = λ s at gone last. clear_still at 0 18446744073709551615 (clean s at gone last);
+    clean = λ s at gone last. clear_still at 0 greatest_key (clean s at gone last);
     retired = each_set (λ j u. Each u.hands.retired (IsWaitedRetired (set vs id w) h' u.allowance.place)) vs id w retired (λ j u ne e n r is. retired_still u.allowance.place r (t.retired j u e n r is));
     joined = each_change (λ (u : View). Each u.allowance.joined (λ (s : Spent). Each s.retired (IsWaitedRetired vs h s.place))) (λ (u : View). Each u.allowance.joined (λ (s : Spent). Each s.retired (IsWaitedRetired (set vs id w) h' s.place))) vs id v w there
         (λ i. subst (λ z. Each z (λ (s : Spent). Each s.retired (IsWaitedRetired (set vs id w) h' s.place))) (sym joined) (λ j s e n r f. retired_still s.place r (i j s e n r f)))
@@ -96,7 +97,7 @@ module _ (place : ℕ) (h h' : List Mark) (more : PlainMarks place h h') (vs : L
   waited_still : (p : ℕ) (r : Retired) → IsWaitedRetired vs h p r → IsWaitedRetired (set vs id w) h' p r
   waited_still = retired_still h h' (waited_more place h h' more) (waited_back place h h' more) vs id v w there section
 
-  settled_by : ((s at : ℕ) → gone_at s h' ≡ None → last_unlinked s h' ≡ Some at → IsClear vs at 0 18446744073709551615) → ((rs : List Retired) → w.hands.retired ≡ rs → Each rs (IsWaitedRetired (set vs id w) h' v.allowance.place)) → GraceParts vs h → GraceParts (set vs id w) h'
+  settled_by : ((s at : ℕ) → gone_at s h' ≡ None → last_unlinked s h' ≡ Some at → IsClear vs at 0 greatest_key) → ((rs : List Retired) → w.hands.retired ≡ rs → Each rs (IsWaitedRetired (set vs id w) h' v.allowance.place)) → GraceParts vs h → GraceParts (set vs id w) h'
   settled_by clean own t =
       grace_frame_by h h' (waited_more place h h' more) (waited_back place h h' more) vs id v w there section places.joined (grace_plain place h h' more t.grace) reuse clean
       (subst (λ p. Each w.hands.retired (IsWaitedRetired (set vs id w) h' p)) (sym places.place) (own w.hands.retired refl))
@@ -112,7 +113,7 @@ module _ (place : ℕ) (h h' : List Mark) (more : PlainMarks place h h') (vs : L
       fresh : IsWaitedRetired (set vs id w) h' v.allowance.place r
       fresh = record {
         shown = λ e. absurd (let q : false ≡ true = sym unwaited ∙ e in cc);
-        noted = λ has. absurd (waited_early place h h' more v.allowance.place r.unlinked 0 18446744073709551615 (let a = now.after in omega arith) has);
+        noted = λ has. absurd (waited_early place h h' more v.allowance.place r.unlinked 0 greatest_key (let a = now.after in omega arith) has);
         clear = λ e. absurd (let q : false ≡ true = sym unwaited ∙ e in cc);
       }
 

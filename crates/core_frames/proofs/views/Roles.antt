@@ -19,7 +19,7 @@ use Rattle.core_state.specs.views.Views.{held_list, joined_spares, spares_of, jo
 use Rattle.core_state.specs.tree.Chart.{Chart}
 use Rattle.core_state.specs.parts.SlotParts.{SlotParts}
 use Rattle.core_state.specs.tree.Readers.{IsHeldBack}
-use Rattle.core_state.specs.Invariant.{Invariant}
+use Rattle.core_state.specs.Invariant.{HoldsNow}
 use Rattle.list_laws.proofs.Lists.{total_part, total_two, times_append, times_here, times_in, in_first}
 use Rattle.core_frames.proofs.chart.Ranges.{bool_cases}
 
@@ -115,7 +115,7 @@ module _ (m : Memory) (n : ℕ) (g : Chart) (vs : List View) (h : List Mark) (t 
     held_unmet s entered has back = absurd (let e : None ≡ Some back.at = sym (not_gone s has) ∙ back.gone in cc)
 
 -- nor can one meet a retired slot that was waited for
-pub waited_unmet : (k : Shape) (m : Memory) (vs : List View) (h : List Mark) (i : Invariant k m vs h) (id : ℕ) (v : View) → get_elem? vs id ≡ some v → (r : Retired) → IsIn v.hands.retired r → r.waited ≡ true
+pub waited_unmet : (k : Shape) (m : Memory) (vs : List View) (h : List Mark) (i : HoldsNow k m vs h) (id : ℕ) (v : View) → get_elem? vs id ≡ some v → (r : Retired) → IsIn v.hands.retired r → r.waited ≡ true
     → (j : ℕ) (u : View) (section : Section) → get_elem? vs j ≡ some u → u.section ≡ Some section → IsHeldBack i.chart h section.entered r.slot → ⊥
 waited_unmet k m vs h i id v there r has waited j u section e is back =
     let told = i.grace.retired id v there has.0 r has.1 in

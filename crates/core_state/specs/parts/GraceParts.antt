@@ -5,6 +5,7 @@ use mathlib.Core.Option.{some}
 use lib.ListN.{get_elem?}
 use Rattle.prcu_marks.specs.declared.mark.Mark.{Mark}
 use Rattle.prcu_marks.specs.Marks.{gone_at}
+use Rattle.prcu_marks.specs.Bounds.{greatest_key}
 use Rattle.core_state.specs.declared.view.Move.{Move}
 use Rattle.core_state.specs.declared.view.Retired.{Retired}
 use Rattle.core_state.specs.declared.view.Section.{Section}
@@ -19,9 +20,9 @@ IsClear vs at low high = (id : ℕ) (v : View) (section : Section) → get_elem?
 
 -- That a retired slot of a place was waited for is what the marks show; and then no section is open that may meet it.
 pub record IsWaitedRetired (vs : List View) (h : List Mark) (p : ℕ) (r : Retired) : Type 0 where
-  pub shown : r.waited ≡ true → HasWaited h p r.unlinked 0 18446744073709551615
-  pub noted : HasWaited h p r.unlinked 0 18446744073709551615 → r.waited ≡ true
-  pub clear : r.waited ≡ true → IsClear vs r.unlinked 0 18446744073709551615
+  pub shown : r.waited ≡ true → HasWaited h p r.unlinked 0 greatest_key
+  pub noted : HasWaited h p r.unlinked 0 greatest_key → r.waited ≡ true
+  pub clear : r.waited ≡ true → IsClear vs r.unlinked 0 greatest_key
 
 -- The same of a pending move, and the readers that may pass its old successor.
 pub record IsWaitedMove (vs : List View) (h : List Mark) (p : ℕ) (move : Move) : Type 0 where
@@ -34,7 +35,7 @@ pub record IsWaitedMove (vs : List View) (h : List Mark) (p : ℕ) (move : Move)
 pub record GraceParts (vs : List View) (h : List Mark) : Type 0 where
   pub grace : Grace h
   pub reuse : Reuse h
-  pub clean : (s at : ℕ) → gone_at s h ≡ None → last_unlinked s h ≡ Some at → IsClear vs at 0 18446744073709551615
+  pub clean : (s at : ℕ) → gone_at s h ≡ None → last_unlinked s h ≡ Some at → IsClear vs at 0 greatest_key
   pub retired : Each vs (λ v. Each v.hands.retired (IsWaitedRetired vs h v.allowance.place))
   pub joined : Each vs (λ v. Each v.allowance.joined (λ (s : Spent). Each s.retired (IsWaitedRetired vs h s.place)))
   pub moves : Each vs (λ v. (move : Move) → v.moving ≡ Some move → IsWaitedMove vs h v.allowance.place move)

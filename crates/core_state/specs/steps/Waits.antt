@@ -3,6 +3,7 @@
 use Rattle.std.specs.Prelude.{◌≡◌, ℕ, ◌+◌, ◌-◌, ◌%◌, ◌^◌, ◌<◌, ◌≤◌, ◌==◌, nat_lt, nat_le, ◌&&◌, ◌||◌, not, Bool, true, false, if◌then◌else◌, List, [], ◌∷◌, ◌++◌, length, map, Option, Some, None}
 use Rattle.prcu_marks.specs.declared.mark.Mark.{Mark}
 use Rattle.prcu_marks.specs.declared.mark.Mark.TheVariants.{Began, Ended}
+use Rattle.prcu_marks.specs.Bounds.{greatest_key}
 use Rattle.key_interval.specs.Keys.{Interval, MeetsClass, class_of}
 use Rattle.core_state.specs.declared.shape.Shape.{Shape}
 use Rattle.core_state.specs.declared.shape.Waiter.{Waiter}
@@ -79,7 +80,7 @@ pub record NeedsLook (k : Shape) (v : View) (wait : Waiting) (field : Field) (la
 
 -- the wait was for everybody and began after this mark
 abbrev pub is_grace_for : Waiting → ℕ → Bool
-is_grace_for wait unlinked = nat_lt unlinked wait.began && (wait.low == 0 && wait.high == 18446744073709551615)
+is_grace_for wait unlinked = nat_lt unlinked wait.began && (wait.low == 0 && wait.high == greatest_key)
 
 abbrev pub waited_retired : Waiting → Retired → Retired
 waited_retired wait r = record r { waited = r.waited || is_grace_for wait r.unlinked }
