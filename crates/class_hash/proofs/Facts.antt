@@ -12,7 +12,7 @@ use Rattle.hash_core.specs.declared.view.SearchState.{SearchState}
 use Rattle.hash_core.specs.declared.view.SearchState.TheVariants.{Start, Unread, Passed, Found}
 use Rattle.hash_core.specs.declared.view.Section.{Section}
 use Rattle.hash_core.specs.declared.view.Hold.{Hold}
-use Rattle.hash_core.specs.declared.view.Commit.{Commit}
+use Rattle.prcu_marks.specs.declared.commit.Commit.{Commit}
 use Rattle.hash_core.specs.declared.view.View.{View}
 use Rattle.list_laws.specs.Counts.{times}
 use Rattle.hash_core.specs.Lists.{IsPath}
@@ -28,7 +28,8 @@ use Rattle.prcu_model.specs.Dictionary.{map_of}
 use Rattle.hash_core.proofs.Cuts.{seek_slot}
 use Rattle.hash_core.specs.Buckets.{seek, HaveDistinctKeys, IsLocked}
 use Rattle.hash_core.specs.Readers.{HasWay, WillAnswer}
-use Rattle.hash_core.specs.Seats.{AnswersFor, updates_by, IsTurned}
+use Rattle.prcu_marks.specs.Commits.{updates_by}
+use Rattle.hash_core.specs.Seats.{AnswersFor, IsTurned}
 use Rattle.hash_core.specs.Steps.{StandsAt, searched}
 use Rattle.hash_core.specs.Rule.{BucketRule, MemoryRule}
 use Rattle.list_laws.proofs.Lists.{at_one, all_times, total_part, times_here, times_append}

@@ -8,7 +8,7 @@ use Rattle.prcu_model.specs.History.{IsLegal}
 use Rattle.hash_core.specs.declared.words.Field.TheVariants.{Front, Lock, Head, Key, Value}
 use Rattle.hash_core.specs.declared.words.Kind.TheVariants.{H6, H7, H12, H15, H16}
 use Rattle.hash_core.specs.declared.view.Hold.{Hold}
-use Rattle.hash_core.specs.declared.view.Commit.{Commit}
+use Rattle.prcu_marks.specs.declared.commit.Commit.{Commit}
 use Rattle.hash_core.specs.declared.view.View.{View}
 use Rattle.prcu_marks.specs.Marks.{updates_of}
 use Rattle.hash_core.specs.Known.{known_in, knowing}

@@ -16,7 +16,7 @@ use Rattle.core_state.specs.declared.view.Listing.{Listing}
 use Rattle.core_state.specs.declared.view.Move.{Move}
 use Rattle.core_state.specs.declared.view.Section.{Section}
 use Rattle.core_state.specs.declared.view.Spent.{Spent}
-use Rattle.core_state.specs.declared.view.Commit.{Commit}
+use Rattle.prcu_marks.specs.declared.commit.Commit.{Commit}
 use Rattle.core_state.specs.declared.view.Waiting.{Waiting}
 use Rattle.core_state.specs.declared.view.View.{View}
 use Rattle.list_laws.specs.Counts.{times, numbers_from, Each}

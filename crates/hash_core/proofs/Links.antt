@@ -34,13 +34,13 @@ use Rattle.hash_core.specs.Rule.{BucketRule, MemoryRule}
 use Rattle.prcu_model.proofs.ListFacts.{all_map}
 use Rattle.list_laws.proofs.Lists.{each_set, all_times}
 use Rattle.hash_core.proofs.Paths.{seek_here, seek_past, seek-same, HaveDistinctKeys-same}
-use Rattle.prcu_marks.proofs.MarkLists.{updates_of-append}
+use Rattle.prcu_marks.proofs.MarkLists.{updates_of-append, entered_at-append}
 use Rattle.hash_core.proofs.Classes.{slot_within}
 use Rattle.prcu_marks.proofs.MarkPlaces.{open_at-below}
 use Rattle.hash_core.proofs.Adds.{open_at-same, gone_at-same, reuse_more}
 use Rattle.hash_core.proofs.Frames.{SameMarks, chain_slot, taken_slot, WasSaid-longer}
 use Rattle.hash_core.proofs.Stores.{class_words, stored_here, same_self}
-use Rattle.hash_core.proofs.Sections.{entered_at-append, free_each}
+use Rattle.hash_core.proofs.Sections.{free_each}
 use Rattle.hash_core.proofs.Locks.{counted_still, locked_by, elsewhere_held}
 use Rattle.hash_core.proofs.Ways.{will_still}
 use Rattle.hash_core.proofs.Whole.{after_step}

@@ -11,7 +11,7 @@ use Rattle.hash_core.specs.declared.words.Field.{Field}
 use Rattle.hash_core.specs.declared.words.Field.TheVariants.{Front, Lock, Readers, Chain}
 use Rattle.hash_core.specs.declared.view.Section.{Section}
 use Rattle.hash_core.specs.declared.view.Hold.{Hold}
-use Rattle.hash_core.specs.declared.view.Commit.{Commit}
+use Rattle.prcu_marks.specs.declared.commit.Commit.{Commit}
 use Rattle.hash_core.specs.declared.view.View.{View}
 use Rattle.list_laws.specs.Counts.{times}
 use Rattle.hash_core.specs.Lists.{IsPath}
@@ -22,7 +22,8 @@ use Rattle.hash_core.specs.Known.{known_in, knowing}
 use Rattle.hash_core.specs.Buckets.{Bucket, inside_count, AreCounted, HoldsOther, IsLocked, AreClean, IsFreeOfReaders, HaveOneRole, taken_of, unlinked_of, moved_of, link_of}
 use Rattle.prcu_model.specs.Dictionary.{WasSaid}
 use Rattle.hash_core.specs.Readers.{AreAnswered, WillAnswer}
-use Rattle.hash_core.specs.Seats.{HasNoCommit, updates_by, IsTurned, AreOwned, AreSeen}
+use Rattle.prcu_marks.specs.Commits.{updates_by}
+use Rattle.hash_core.specs.Seats.{HasNoCommit, IsTurned, AreOwned, AreSeen}
 use Rattle.hash_core.specs.Steps.{IsQuiet, fresh_hold, NeedsBegin, after_begin, Needs12, NeedsCountFree, after_count_free}
 use Rattle.hash_core.specs.Rule.{BucketRule, MemoryRule}
 use Rattle.prcu_model.proofs.ListFacts.{prefix_self, all_map}

@@ -8,7 +8,7 @@ use Rattle.hash_core.specs.declared.words.Field.TheVariants.{Front}
 use Rattle.hash_core.specs.declared.words.Kind.{Kind}
 use Rattle.hash_core.specs.declared.view.Section.{Section}
 use Rattle.hash_core.specs.declared.view.Hold.{Hold}
-use Rattle.hash_core.specs.declared.view.Commit.{Commit}
+use Rattle.prcu_marks.specs.declared.commit.Commit.{Commit}
 use Rattle.hash_core.specs.declared.view.View.{View}
 use Rattle.list_laws.specs.Counts.{total}
 use Rattle.hash_core.specs.Memory.{Memory}

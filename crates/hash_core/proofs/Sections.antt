@@ -32,7 +32,7 @@ use Rattle.hash_core.specs.Rule.{BucketRule, MemoryRule}
 use Rattle.prcu_model.proofs.ListFacts.{all_map}
 use Rattle.list_laws.proofs.Lists.{at_below, at_one, each_set, total_set, total_part, all_change}
 use Rattle.hash_core.proofs.Paths.{path_cons, path_none, seek_here, seek_past}
-use Rattle.prcu_marks.proofs.MarkLists.{open_at-snoc, updates_of-append}
+use Rattle.prcu_marks.proofs.MarkLists.{open_at-snoc, updates_of-append, entered_at-append}
 use Rattle.prcu_marks.proofs.MarkPlaces.{gone_at-below}
 use Rattle.hash_core.proofs.Adds.{gone_at-same, reuse_more}
 use Rattle.hash_core.proofs.Frames.{SameMarks, SameSection, locked_same, still_said, still_answer, frame_ages_same}
@@ -40,17 +40,6 @@ use Rattle.hash_core.proofs.Stores.{same_words, readers_words, stored_here, same
 use Rattle.hash_core.proofs.SeatFrames.{seen_whole, apart_same, owned_more, held_still, turned_same}
 use Rattle.hash_core.proofs.Quiet.{same_marks, same_hold, seats_same, tickets_same}
 use Rattle.hash_core.proofs.Whole.{SeatsRule, after_step}
-
-pub entered_at-append : (p : ℕ) (h ms : List Mark) → entered_at p (h ++ ms) ≡ entered_at p h + entered_at p ms
-entered_at-append p [] ms = omega arith
-entered_at-append p (Entered q c x ∷ h) ms = let rest = entered_at-append p h ms in omega arith
-entered_at-append p (Left q c ∷ h) ms = entered_at-append p h ms
-entered_at-append p (Began q c a b ∷ h) ms = entered_at-append p h ms
-entered_at-append p (Ended q c ∷ h) ms = entered_at-append p h ms
-entered_at-append p (Done u ∷ h) ms = entered_at-append p h ms
-entered_at-append p (Given s ∷ h) ms = entered_at-append p h ms
-entered_at-append p (Unlinked s ∷ h) ms = entered_at-append p h ms
-entered_at-append p (Freed s ∷ h) ms = entered_at-append p h ms
 
 -- a link that was loaded: the end, or the next slot
 link_case : (P : SearchState → Type 0) (link : ℕ) → (link ≡ 0 → P Ended) → (link ≢ 0 → P (Unread link)) → P (link_stand link)

@@ -13,10 +13,10 @@ use Rattle.prcu_marks.specs.declared.mark.Mark.TheVariants.{Entered, Left, Began
 use Rattle.hash_core.specs.declared.view.View.{View}
 use Rattle.list_laws.specs.Counts.{times, total}
 use Rattle.hash_core.specs.Memory.{Memory}
-use Rattle.prcu_marks.specs.Marks.{own_of, entered_at, updates_of}
+use Rattle.prcu_marks.specs.Marks.{own_of, entered_at, updates_of, longer}
 use Rattle.hash_core.specs.Buckets.{inside_count}
 use Rattle.hash_core.specs.Seats.{HasHeard, AreSeen, HasPlace, AnswersFor, AreApart, AreOwned, HasNoCommit}
-use Rattle.hash_core.specs.Steps.{IsQuiet, NeedsSplit, first_of, second_of, places_from, longer, both_of, spent}
+use Rattle.hash_core.specs.Steps.{IsQuiet, NeedsSplit, first_of, second_of, places_from, both_of, spent}
 use Rattle.hash_core.specs.Rule.{MemoryRule}
 use Rattle.list_laws.proofs.Lists.{at_below, at_end, at_one, each_set, total_set, total_append, times_append, times_here, times_other}
 use Rattle.prcu_model.proofs.ListFacts.{prefix_self, prefix_trans, prefix_of_longer, all_map, all_append}

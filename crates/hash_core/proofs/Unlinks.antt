@@ -32,12 +32,12 @@ use Rattle.hash_core.specs.Rule.{BucketRule, MemoryRule}
 use Rattle.prcu_model.proofs.ListFacts.{all_append, all_map}
 use Rattle.list_laws.proofs.Lists.{all_change, all_times, all_from_times, times_here, times_append}
 use Rattle.hash_core.proofs.Paths.{IsPath-same, path_cons, seek-same, seek_here, seek_past, seek_append, HaveDistinctKeys-same}
-use Rattle.prcu_marks.proofs.MarkLists.{updates_of-append}
+use Rattle.prcu_marks.proofs.MarkLists.{updates_of-append, entered_at-append}
 use Rattle.hash_core.proofs.Classes.{one_class, at_most_one}
 use Rattle.hash_core.proofs.Adds.{open_at-same, gone_at-same, gone_at-unlinked_here, gone_at-unlinked_other, reuse_more}
 use Rattle.hash_core.proofs.Frames.{chain_slot, WasSaid-longer}
 use Rattle.hash_core.proofs.Stores.{class_words, stored_here, same_self}
-use Rattle.hash_core.proofs.Sections.{entered_at-append, free_each}
+use Rattle.hash_core.proofs.Sections.{free_each}
 use Rattle.hash_core.proofs.Locks.{counted_still, locked_by, elsewhere_held}
 use Rattle.hash_core.proofs.Whole.{after_step}
 use Rattle.hash_core.proofs.Stocks.{rule, had, is_known, known_after, roles_by, moved_by}

@@ -15,13 +15,14 @@ use Rattle.prcu_model.specs.History.{IsUpdateAt, AreUpdatesFrom, IsLegal}
 use Rattle.prcu_model.proofs.Fronts.{map_of-push}
 use Rattle.hash_core.specs.declared.words.Field.TheVariants.{Front}
 use Rattle.hash_core.specs.declared.view.Hold.{Hold}
-use Rattle.hash_core.specs.declared.view.Commit.{Commit}
+use Rattle.prcu_marks.specs.declared.commit.Commit.{Commit}
 use Rattle.hash_core.specs.declared.view.View.{View}
 use Rattle.hash_core.specs.Memory.{Memory}
 use Rattle.prcu_marks.specs.Marks.{updates_of, open_at, own_of, entered_at}
 use Rattle.hash_core.specs.Marks.{ReuseByClass}
 use Rattle.prcu_model.specs.Dictionary.{WasSaid}
-use Rattle.hash_core.specs.Seats.{HasNoCommit, updates_by}
+use Rattle.prcu_marks.specs.Commits.{updates_by}
+use Rattle.hash_core.specs.Seats.{HasNoCommit}
 use Rattle.hash_core.specs.Steps.{HasCommit, updated_view}
 use Rattle.hash_core.specs.Rule.{MemoryRule}
 use Rattle.list_laws.proofs.Lists.{at_below, at_one, each_set, total_set, total_part}

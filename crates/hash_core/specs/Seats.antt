@@ -1,6 +1,6 @@
 -- The rule's parts on seats: who has which place, what each has seen and left, and whose the front is.
 -- Source: docs/ALGORITHM.md, "The hash dictionary's rule".
-use Rattle.std.specs.Prelude.{◌≡◌, ◌≢◌, ◌⊎◌, ℕ, ◌+◌, ◌*◌, ◌^◌, ◌<◌, ◌≤◌, if◌then◌else◌, List, [], length, Some, None}
+use Rattle.std.specs.Prelude.{◌≡◌, ◌≢◌, ◌⊎◌, ℕ, ◌+◌, ◌*◌, ◌^◌, ◌<◌, ◌≤◌, List, [], length, Some, None}
 use Rattle.std.specs.List.{AllByRecursion}
 use mathlib.Core.Option.{some}
 use mathlib.Core.List.{IsPrefix}
@@ -10,10 +10,11 @@ use Rattle.prcu_model.specs.declared.operation.Update.{Update}
 use Rattle.hash_core.specs.declared.words.Field.TheVariants.{Front}
 use Rattle.hash_core.specs.declared.view.Section.{Section}
 use Rattle.hash_core.specs.declared.view.Hold.{Hold}
-use Rattle.hash_core.specs.declared.view.Commit.{Commit}
+use Rattle.prcu_marks.specs.declared.commit.Commit.{Commit}
 use Rattle.hash_core.specs.declared.view.View.{View}
 use Rattle.list_laws.specs.Counts.{times}
 use Rattle.hash_core.specs.Memory.{Memory}
+use Rattle.prcu_marks.specs.Commits.{updates_by}
 use Rattle.prcu_marks.specs.Marks.{Open, open_at, own_of, entered_at}
 
 -- what the view has seen begins with what it heard of when seats were joined into it
@@ -67,10 +68,6 @@ pub record AreHeld (vs : List View) : Type 0 where
 
 abbrev pub HasNoCommit : View → Type 0
 HasNoCommit v = v.commit ≡ None
-
--- how far the front is by a commit
-abbrev pub updates_by : Commit → ℕ
-updates_by commit = commit.found + (if commit.stored then 2 else 0)
 
 -- An even front is twice the number of updates. An odd one belongs to one view, which holds a lock.
 abbrev pub IsTurned : Memory → List View → ℕ → Type 0

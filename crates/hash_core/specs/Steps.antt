@@ -14,7 +14,7 @@ use Rattle.hash_core.specs.declared.view.SearchState.TheVariants.{Start, Unread,
 use Rattle.hash_core.specs.declared.view.Section.{Section}
 use Rattle.hash_core.specs.declared.view.Hold.{Hold}
 use Rattle.hash_core.specs.declared.view.View.{View}
-use Rattle.prcu_marks.specs.Marks.{updates_of}
+use Rattle.prcu_marks.specs.Marks.{updates_of, longer}
 use Rattle.hash_core.specs.Known.{known_in, knowing, ShowsAbsent, IsOnWalk}
 
 -- the view after a step is `after` of the whole list of marks before it, of which the view had seen a beginning
@@ -62,9 +62,6 @@ places_from first zero = []
 places_from first (suc n) = first ∷ places_from (first + 1) n
 
 -- H2: the other seat's places are spent, and the longer of the two lists was seen.
-abbrev pub longer : List Mark → List Mark → List Mark
-longer a b = if nat_lt (length a) (length b) then b else a
-
 abbrev pub both_of : View → View → View
 both_of v other = record v {
   tickets = v.tickets + other.tickets;

@@ -7,5 +7,5 @@ pub mod view;
 pub mod words;
 
 pub use shape::Shape;
-pub use view::{Hold, Known, Section, SearchState, StepMade, Commit, View};
+pub use view::{Hold, Known, Section, SearchState, StepMade, View};
 pub use words::{Field, Kind};

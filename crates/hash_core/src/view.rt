@@ -1,7 +1,7 @@
 //! What a seat knows of the table.
 
 use crate::words::{Field, Kind};
-use prcu_marks::Mark;
+use prcu_marks::{Commit, Mark};
 use std::collections::LinkedList;
 
 /// Where the search of an open section stands.
@@ -52,14 +52,6 @@ pub struct Hold {
     pub unlinked: Option<u32>,
     /// The first slot of the list that was taken off the retired word and isn't on the free word yet.
     pub moved: Option<u32>,
-}
-
-/// The front is odd by this view.
-pub struct Commit {
-    /// The even number that was found.
-    pub found: u64,
-    /// The update was made.
-    pub stored: bool,
 }
 
 /// A step that was made: its kind, its word, and the number that was found there, or stored where it is a store.

@@ -3,7 +3,7 @@ use Rattle.std.proofs.Common.{◌≡◌, ℕ, suc, ◌+◌, true, false, cond, L
 use mathlib.Core.List.{IsPrefix}
 use Rattle.prcu_marks.specs.declared.mark.Mark.{Mark}
 use Rattle.prcu_marks.specs.declared.mark.Mark.TheVariants.{Entered, Left, Began, Ended, Done, Given, Unlinked, Freed}
-use Rattle.prcu_marks.specs.Marks.{updates_of, Open, next_open, open_from, open_at, next_gone, gone_from, gone_at, is_of, own_of}
+use Rattle.prcu_marks.specs.Marks.{updates_of, Open, next_open, open_from, open_at, next_gone, gone_from, gone_at, is_of, own_of, entered_at}
 
 pub updates_of-append : (h ms : List Mark) → updates_of (h ++ ms) ≡ updates_of h ++ updates_of ms
 updates_of-append [] ms = refl
@@ -50,3 +50,14 @@ own_of-between p a b c first second same =
     no_length : (xs : List Mark) → length xs ≡ 0 → xs ≡ []
     no_length [] e = refl
     no_length (x ∷ xs) e = absurd (omega arith)
+
+pub entered_at-append : (p : ℕ) (h ms : List Mark) → entered_at p (h ++ ms) ≡ entered_at p h + entered_at p ms
+entered_at-append p [] ms = omega arith
+entered_at-append p (Entered q c x ∷ h) ms = let e = entered_at-append p h ms in omega arith
+entered_at-append p (Left q c ∷ h) ms = entered_at-append p h ms
+entered_at-append p (Began q c a b ∷ h) ms = entered_at-append p h ms
+entered_at-append p (Ended q c ∷ h) ms = entered_at-append p h ms
+entered_at-append p (Done u ∷ h) ms = entered_at-append p h ms
+entered_at-append p (Given t ∷ h) ms = entered_at-append p h ms
+entered_at-append p (Unlinked t ∷ h) ms = entered_at-append p h ms
+entered_at-append p (Freed t ∷ h) ms = entered_at-append p h ms

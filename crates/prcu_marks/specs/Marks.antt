@@ -1,6 +1,6 @@
 -- What a list of marks says.
 -- Source: docs/ALGORITHM.md, "Marks".
-use Rattle.std.specs.Prelude.{ℕ, ◌+◌, ◌==◌, Bool, false, if◌then◌else◌, List, [], ◌∷◌, ◌≡◌, Option, Some, None}
+use Rattle.std.specs.Prelude.{ℕ, ◌+◌, ◌==◌, nat_lt, length, Bool, false, if◌then◌else◌, List, [], ◌∷◌, ◌≡◌, Option, Some, None}
 use Rattle.prcu_marks.specs.declared.mark.Mark.{Mark}
 use Rattle.prcu_marks.specs.declared.mark.Mark.TheVariants.{Entered, Left, Began, Ended, Done, Given, Unlinked, Freed}
 use Rattle.prcu_model.specs.declared.operation.Update.{Update}
@@ -67,3 +67,7 @@ abbrev pub entered_at : ℕ → List Mark → ℕ
 entered_at p [] = 0
 entered_at p (Entered q c x ∷ ms) = (if q == p then 1 else 0) + entered_at p ms
 entered_at p (_ ∷ ms) = entered_at p ms
+
+-- the longer of two lists
+abbrev pub longer : List Mark → List Mark → List Mark
+longer a b = if nat_lt (length a) (length b) then b else a

@@ -3,7 +3,9 @@
 #![tactic(auto)]
 
 pub mod client;
+pub mod commit;
 pub mod mark;
 
 pub use client::{Client, Gate, OpenGate, Point};
+pub use commit::Commit;
 pub use mark::{Mark, Side, Why};

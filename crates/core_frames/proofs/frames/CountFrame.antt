@@ -10,7 +10,7 @@ use Rattle.prcu_model.specs.Dictionary.{map_of}
 use Rattle.prcu_model.specs.History.{IsLegal}
 use Rattle.prcu_marks.specs.Marks.{updates_of}
 use Rattle.core_state.specs.declared.words.Field.TheVariants.{Clock, Front, Free, State, Life, Tag}
-use Rattle.core_state.specs.declared.view.Commit.{Commit}
+use Rattle.prcu_marks.specs.declared.commit.Commit.{Commit}
 use Rattle.core_state.specs.declared.view.View.{View}
 use Rattle.list_laws.specs.Counts.{Each, total}
 use Rattle.core_state.specs.memory.Lists.{sum_below, flag, count_below, has}

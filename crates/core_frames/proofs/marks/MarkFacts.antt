@@ -159,17 +159,6 @@ begun_at-append p (Freed t ∷ h) ms = begun_at-append p h ms
 pub begun_at-same : (p : ℕ) (h : List Mark) (m : Mark) → TurnsNoWait m → begun_at p (h ++ m ∷ []) ≡ begun_at p h
 begun_at-same p h m n = let a = begun_at-append p h (m ∷ []) in let b = begun_at_same p m n in omega arith
 
-pub entered_at-append : (p : ℕ) (h ms : List Mark) → entered_at p (h ++ ms) ≡ entered_at p h + entered_at p ms
-entered_at-append p [] ms = omega arith
-entered_at-append p (Entered q c x ∷ h) ms = let e = entered_at-append p h ms in omega arith
-entered_at-append p (Left q c ∷ h) ms = entered_at-append p h ms
-entered_at-append p (Began q c a b ∷ h) ms = entered_at-append p h ms
-entered_at-append p (Ended q c ∷ h) ms = entered_at-append p h ms
-entered_at-append p (Done u ∷ h) ms = entered_at-append p h ms
-entered_at-append p (Given t ∷ h) ms = entered_at-append p h ms
-entered_at-append p (Unlinked t ∷ h) ms = entered_at-append p h ms
-entered_at-append p (Freed t ∷ h) ms = entered_at-append p h ms
-
 -- a beginning of the list is the same with more marks
 pub take-more : (h ms : List Mark) (n : ℕ) → n ≤ length h → take n (h ++ ms) ≡ take n h
 take-more h ms n le = take-append-le n h ms le

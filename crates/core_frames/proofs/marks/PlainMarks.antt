@@ -8,10 +8,10 @@ use Rattle.prcu_marks.specs.declared.mark.Mark.{Mark}
 use Rattle.prcu_marks.specs.declared.mark.Mark.TheVariants.{Entered, Left, Began, Ended, Done, Given, Unlinked, Freed}
 use Rattle.prcu_marks.specs.Marks.{gone_at, open_at, own_of, entered_at}
 use Rattle.prcu_model.proofs.ListFacts.{prefix_self, prefix_more, prefix_trans}
-use Rattle.prcu_marks.proofs.MarkLists.{open_at-snoc, own_of-append}
+use Rattle.prcu_marks.proofs.MarkLists.{open_at-snoc, own_of-append, entered_at-append}
 use Rattle.core_state.specs.Marks.{last_unlinked, begun, begun_at}
 use Rattle.list_laws.proofs.Lists.{at_end}
-use Rattle.core_frames.proofs.marks.MarkFacts.{begun-append, begun_at-append, entered_at-append, take-more}
+use Rattle.core_frames.proofs.marks.MarkFacts.{begun-append, begun_at-append, take-more}
 
 -- a mark of a slot, or of an update by this place
 abbrev pub IsPlain : ℕ → Mark → Type 0

@@ -8,14 +8,13 @@ use lib.ListN.{get_elem?}
 use Rattle.prcu_marks.specs.declared.mark.Mark.{Mark}
 use Rattle.prcu_marks.specs.declared.mark.Mark.TheVariants.{Entered, Left}
 use Rattle.prcu_marks.specs.Marks.{open_at, entered_at}
-use Rattle.prcu_marks.proofs.MarkLists.{open_at-snoc}
+use Rattle.prcu_marks.proofs.MarkLists.{open_at-snoc, entered_at-append}
 use Rattle.core_state.specs.declared.view.Spent.{Spent}
 use Rattle.core_state.specs.declared.view.View.{View}
 use Rattle.list_laws.specs.Counts.{times, numbers_from, total}
 use Rattle.core_state.specs.views.Views.{Works, places_of, IsUnused}
 use Rattle.core_state.specs.parts.SeatParts.{ArePlaced}
 use Rattle.list_laws.proofs.Lists.{total_part, total_two, times_append, from_times}
-use Rattle.core_frames.proofs.marks.MarkFacts.{entered_at-append}
 
 -- a place between the first and the last of a view is one of its places
 pub own_place : (v : View) (p : ℕ) → v.allowance.place ≤ p → p < v.allowance.place + v.allowance.places → 1 ≤ times p (places_of v)

@@ -1,20 +1,17 @@
 -- The invariant on the front and the history.
 -- Source: docs/ALGORITHM.md, "The invariant of the tree".
-use Rattle.std.specs.Prelude.{◌≡◌, ◌≢◌, ◌⊎◌, ℕ, ◌+◌, ◌*◌, if◌then◌else◌, false, List, length, Some, None}
+use Rattle.std.specs.Prelude.{◌≡◌, ◌≢◌, ◌⊎◌, ℕ, ◌+◌, ◌*◌, false, List, length, Some, None}
 use mathlib.Core.Option.{some}
 use lib.ListN.{get_elem?}
 use Rattle.prcu_marks.specs.declared.mark.Mark.{Mark}
 use Rattle.prcu_model.specs.History.{IsLegal}
 use Rattle.prcu_marks.specs.Marks.{updates_of}
+use Rattle.prcu_marks.specs.Commits.{updates_by}
 use Rattle.core_state.specs.declared.words.Field.TheVariants.{Front}
-use Rattle.core_state.specs.declared.view.Commit.{Commit}
+use Rattle.prcu_marks.specs.declared.commit.Commit.{Commit}
 use Rattle.core_state.specs.declared.view.View.{View}
 use Rattle.list_laws.specs.Counts.{Each}
 use Rattle.core_state.specs.memory.Memory.{Memory}
-
--- twice the number of updates by a commit: two more once its update is made
-abbrev pub updates_by : Commit → ℕ
-updates_by commit = commit.found + (if commit.stored then 2 else 0)
 
 -- the front is odd by this view, and by no other
 pub record IsOddBy (m : Memory) (vs : List View) (count : ℕ) : Type 0 where

@@ -3,6 +3,7 @@
 use Rattle.std.specs.Prelude.{◌≡◌, ℕ, ◌+◌, ◌-◌, ◌<◌, ◌≤◌, nat_lt, false, if◌then◌else◌, List, [], ◌∷◌, ◌++◌, length, map, Option, Some, None}
 use mathlib.Core.List.{IsPrefix}
 use Rattle.prcu_marks.specs.declared.mark.Mark.{Mark}
+use Rattle.prcu_marks.specs.Marks.{longer}
 use Rattle.core_state.specs.declared.words.Kind.{Kind}
 use Rattle.core_state.specs.declared.words.Field.{Field}
 use Rattle.core_state.specs.declared.view.Held.{Held}
@@ -59,9 +60,6 @@ second_of places tickets v = new_view (v.allowance.place + v.allowance.places - 
 pub record NeedsJoin (v other : View) : Type 0 where
   pub first : IsQuiet v
   pub second : IsQuiet other
-
-abbrev pub longer : List Mark → List Mark → List Mark
-longer a b = if nat_lt (length a) (length b) then b else a
 
 abbrev pub spare_slot : Option Held → Option ℕ
 spare_slot None = None
