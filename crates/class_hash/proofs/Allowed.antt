@@ -21,7 +21,7 @@ use Rattle.hash_core.specs.Slots.{IsOfClass}
 use Rattle.prcu_marks.specs.Marks.{updates_of}
 use Rattle.prcu_model.specs.Dictionary.{WasSaid}
 use Rattle.hash_core.specs.Rule.{MemoryRule, Rule}
-use Rattle.hash_core.specs.Steps.{stepped, IsQuiet, after_clock_load, after_announce, after_enter_by_stamp, searched, MayLoad, fresh_hold, NeedsBegin, after_begin, after9, NeedsTake, after_take, NeedsRefill, after_refill, NeedsMove, after_move, NeedsPush, after_push, NeedsChain, after_chain, NeedsSeize, after_seize, Needs12, NeedsLock, after_lock, NeedsUnlock, after_unlock, Needs15, after15, NeedsCountFree, after_count_free}
+use Rattle.hash_core.specs.Steps.{stepped, IsQuiet, after_enter, after_leave, after_search_load, searched, MayLoad, fresh_hold, NeedsUnlock, after_unlock, after_held_load, NeedsTake, after_take, NeedsRefill, after_refill, NeedsMove, after_move, NeedsPush, after_push, NeedsChain, after_chain, NeedsWrite, after_write, NeedsCommit, NeedsLink, after_link, NeedsUnlink, after_unlink, NeedsReplace, after_replace, NeedsEven, after_even}
 use Rattle.list_laws.proofs.Lists.{at_below}
 use Rattle.prcu_marks.proofs.MarkLists.{updates_of-append}
 use Rattle.hash_core.proofs.Busy.{quiet_turn}
@@ -54,11 +54,11 @@ module _ (k : Shape) (slots id : ℕ) (me : Me Nothing View) where
   class_inside : (c : ℕ) → c % 64 < 64
   class_inside c = omega arith
 
-  pub allows2 : (places : ℕ) → places ≡ k.places → 1 ≤ me.0.places → Allows Holds slots id me 0 (λ n. n) (told2 places (step slots 0 0 0 none) me)
-  allows2 places all live = subst (λ z. Allows Holds slots id me 0 (λ n. n) (told2 z (step slots 0 0 0 none) me)) (sym all)
+  pub allows2 : (places : ℕ) → places ≡ k.places → 1 ≤ me.0.places → Allows Holds slots id me 0 (λ n. n) (told2 k.capacities.items places (step slots 0 0 0 none) me)
+  allows2 places all live = subst (λ z. Allows Holds slots id me 0 (λ n. n) (told2 k.capacities.items z (step slots 0 0 0 none) me)) (sym all)
       (λ s r len at below.
       let n : ℕ = slice_index s.words 0 in
-      let t = loads k id me.0 s.words s.views r at Front refl H2 n (λ w. told2 k.places (step slots 0 0 0 none) me n (w, me.1))
+      let t = loads k id me.0 s.words s.views r at Front refl H2 n (λ w. told2 k.capacities.items k.places (step slots 0 0 0 none) me n (w, me.1))
       (λ vs1 r1 at1. let v1 : View = stepped me.0 H2 Front n in
       (v1, r.marks, subst (λ z. M (memory_of k.capacities.items s.words) z r.marks) (sym (set_again vs1 id v1 at1)) r1, (refl, refl, few_tickets caps k.places k.tickets _ vs1 r.marks r1 id v1 at1, informed caps k.places k.tickets _ vs1 r.marks r1 id v1 at1 live))) in
       (t.0, keeps, tt, t.1, t.2))
@@ -77,9 +77,9 @@ module _ (k : Shape) (slots id : ℕ) (me : Me Nothing View) where
       let small : (n + 1) % 2 ^ 64 ≡ n + 1 = omega arith in
       let t = stores k id me.0 s.words s.views r at field is H3 n (n + 1) (λ w. told3 key (step slots (word_of field) 1 0 none) me n (w, me.1))
       (λ vs1 r1 at1. let v1 : View = stepped me.0 H3 field n in (
-        after_clock_load v1 key r.marks,
+        after_enter v1 key r.marks,
         r.marks ++ Entered me.0.place me.0.sections key ∷ [],
-        subst (λ z. M (stored (memory_of k.capacities.items s.words) field (z + 1)) (set vs1 id (after_clock_load v1 key r.marks)) (r.marks ++ Entered me.0.place me.0.sections key ∷ [])) found
+        subst (λ z. M (stored (memory_of k.capacities.items s.words) field (z + 1)) (set vs1 id (after_enter v1 key r.marks)) (r.marks ++ Entered me.0.place me.0.sections key ∷ [])) found
             (law3 caps k.places k.tickets _ vs1 r.marks r1 id v1 at1 key fits live quiet.0),
         (refl, (r.marks, r.holds.seen.begins id me.0 at, refl)),
       )) in
@@ -95,8 +95,8 @@ module _ (k : Shape) (slots id : ℕ) (me : Me Nothing View) where
       }
 
   pub allows4 : (places : ℕ) (section : Section) (word : ℕ) → places ≡ k.places → 1 ≤ me.0.places → me.0.section ≡ Some section → word ≡ word_of (Readers (section.key % 64))
-      → Allows Holds slots id me word (λ n. (n + (2 ^ 64 - 1)) % 2 ^ 64) (told4 places (step slots word 1 0 none) me)
-  allows4 places section word all live inside at_word = subst (λ (z : ℕ × ℕ). Allows Holds slots id me z.0 (λ n. (n + (2 ^ 64 - 1)) % 2 ^ 64) (told4 z.1 (step slots z.0 1 0 none) me)) (λ i. (sym at_word i, sym all i))
+      → Allows Holds slots id me word (λ n. (n + (2 ^ 64 - 1)) % 2 ^ 64) (told4 k.capacities.items places (step slots word 1 0 none) me)
+  allows4 places section word all live inside at_word = subst (λ (z : ℕ × ℕ). Allows Holds slots id me z.0 (λ n. (n + (2 ^ 64 - 1)) % 2 ^ 64) (told4 k.capacities.items z.1 (step slots z.0 1 0 none) me)) (λ i. (sym at_word i, sym all i))
       (λ s r len at below.
       let field : Field = Readers (section.key % 64) in
       let is : is_field caps field ≡ true = lt-ltb (section.key % 64) 64 (class_inside section.key) in
@@ -104,11 +104,11 @@ module _ (k : Shape) (slots id : ℕ) (me : Me Nothing View) where
       let found = found_is k id me.0 s.words s.views r at field is in
       let one = some_reader caps k.places k.tickets _ s.views r.marks r.holds id me.0 at section inside (class_inside section.key) in
       let less : (n + (2 ^ 64 - 1)) % 2 ^ 64 ≡ n - 1 = omega arith in
-      let t = stores k id me.0 s.words s.views r at field is H4 n (n - 1) (λ w. told4 k.places (step slots (word_of field) 1 0 none) me n (w, me.1))
+      let t = stores k id me.0 s.words s.views r at field is H4 n (n - 1) (λ w. told4 k.capacities.items k.places (step slots (word_of field) 1 0 none) me n (w, me.1))
       (λ vs1 r1 at1. let v1 : View = stepped me.0 H4 field n in
-      let w : View = after_announce v1 section r.marks in
+      let w : View = after_leave v1 section r.marks in
       let rule : M (stored (memory_of k.capacities.items s.words) field (n - 1)) (set vs1 id w) (r.marks ++ Left me.0.place section.count ∷ []) =
-      subst (λ z. M (stored (memory_of k.capacities.items s.words) field (z - 1)) (set vs1 id (after_announce v1 section r.marks)) (r.marks ++ Left me.0.place section.count ∷ [])) found
+      subst (λ z. M (stored (memory_of k.capacities.items s.words) field (z - 1)) (set vs1 id (after_leave v1 section r.marks)) (r.marks ++ Left me.0.place section.count ∷ [])) found
       (law4 caps k.places k.tickets _ vs1 r.marks r1 id v1 at1 section inside) in (
         w,
         r.marks ++ Left me.0.place section.count ∷ [],
@@ -129,8 +129,8 @@ module _ (k : Shape) (slots id : ℕ) (me : Me Nothing View) where
       let n : ℕ = slice_index s.words (word_of field) in
       let found = found_is k id me.0 s.words s.views r at field is in
       let t = loads k id me.0 s.words s.views r at field is H5 n (λ w. told5 caps field (step slots (word_of field) 0 0 none) me n (w, me.1))
-      (λ vs1 r1 at1. let v1 : View = stepped me.0 H5 field n in let w : View = after_enter_by_stamp v1 section field n in
-      let rule : M (memory_of k.capacities.items s.words) (set vs1 id w) r.marks = subst (λ z. M (memory_of k.capacities.items s.words) (set vs1 id (after_enter_by_stamp v1 section field z)) r.marks) found
+      (λ vs1 r1 at1. let v1 : View = stepped me.0 H5 field n in let w : View = after_search_load v1 section field n in
+      let rule : M (memory_of k.capacities.items s.words) (set vs1 id w) r.marks = subst (λ z. M (memory_of k.capacities.items s.words) (set vs1 id (after_search_load v1 section field z)) r.marks) found
       (law5 caps k.places k.tickets _ vs1 r.marks r1 id v1 at1 section inside field may) in (
         w,
         r.marks,
@@ -173,13 +173,13 @@ module _ (k : Shape) (slots id : ℕ) (me : Me Nothing View) where
       (q.0, subst (λ z. Rule k (set s.words (word_of field) z) (set s.views id q.0)) same q.1, q.2)) in
       (t.0, keeps, tt, t.1, t.2))
 
-  pub allows7 : (places : ℕ) (hold : Hold) (word : ℕ) → places ≡ k.places → 1 ≤ me.0.places → word ≡ word_of (Lock hold.class) → hold.class < 64 → NeedsBegin me.0 hold → Allows Holds slots id me word (λ _. 0) (λ _. told7 places (step slots word 0 0 none) me 0)
-  allows7 places hold word all live at_word small needs = subst (λ (z : ℕ × ℕ). Allows Holds slots id me z.0 (λ _. 0) (λ _. told7 z.1 (step slots z.0 0 0 none) me 0)) (λ i. (sym at_word i, sym all i))
+  pub allows7 : (places : ℕ) (hold : Hold) (word : ℕ) → places ≡ k.places → 1 ≤ me.0.places → word ≡ word_of (Lock hold.class) → hold.class < 64 → NeedsUnlock me.0 hold → Allows Holds slots id me word (λ _. 0) (λ _. told7 k.capacities.items places (step slots word 0 0 none) me 0)
+  allows7 places hold word all live at_word small needs = subst (λ (z : ℕ × ℕ). Allows Holds slots id me z.0 (λ _. 0) (λ _. told7 k.capacities.items z.1 (step slots z.0 0 0 none) me 0)) (λ i. (sym at_word i, sym all i))
       (λ s r len at below.
-      let t = stores k id me.0 s.words s.views r at (Lock hold.class) (lt-ltb hold.class 64 small) H7 0 0 (λ w. told7 k.places (step slots (word_of (Lock hold.class)) 0 0 none) me 0 (w, me.1))
+      let t = stores k id me.0 s.words s.views r at (Lock hold.class) (lt-ltb hold.class 64 small) H7 0 0 (λ w. told7 k.capacities.items k.places (step slots (word_of (Lock hold.class)) 0 0 none) me 0 (w, me.1))
       (λ vs1 r1 at1. let v1 : View = stepped me.0 H7 (Lock hold.class) 0 in
       let rule = law7 caps k.places k.tickets _ vs1 r.marks r1 id v1 at1 hold needs in
-      (after_begin v1, r.marks, rule, (refl, (hold, needs.0, refl), informed caps k.places k.tickets _ (set vs1 id (after_begin v1)) r.marks rule id (after_begin v1) (set_here vs1 id (after_begin v1) (at_below vs1 id v1 at1)) live))) in
+      (after_unlock v1, r.marks, rule, (refl, (hold, needs.0, refl), informed caps k.places k.tickets _ (set vs1 id (after_unlock v1)) r.marks rule id (after_unlock v1) (set_here vs1 id (after_unlock v1) (at_below vs1 id v1 at1)) live))) in
       (t.0, keeps, tt, t.1, t.2))
 
   pub allows8 : (hold : Hold) (word : ℕ) → word ≡ word_of (Readers hold.class) → hold.class < 64 → me.0.hold ≡ Some hold → Allows Holds slots id me word (λ n. n) (told8 (step slots word 0 0 none) me)
@@ -205,9 +205,9 @@ module _ (k : Shape) (slots id : ℕ) (me : Me Nothing View) where
       let found : m field ≡ n = found_is k id me.0 s.words s.views r at field is in
       let t = loads k id me.0 s.words s.views r at field is H9 n (λ w. told9 caps field (step slots (word_of field) 0 0 none) me n (w, me.1))
       (λ vs1 r1 at1. let v1 : View = stepped me.0 H9 field n in (
-        after9 v1 hold field n r.marks,
+        after_held_load v1 hold field n r.marks,
         r.marks,
-        subst (λ z. M (memory_of k.capacities.items s.words) (set vs1 id (after9 v1 hold field z r.marks)) r.marks) found (law9 caps k.places k.tickets m vs1 r.marks r1 id v1 at1 hold mine field of (m field == 0)),
+        subst (λ z. M (memory_of k.capacities.items s.words) (set vs1 id (after_held_load v1 hold field z r.marks)) r.marks) found (law9 caps k.places k.tickets m vs1 r.marks r1 id v1 at1 hold mine field of (m field == 0)),
         (
           refl,
           (
@@ -283,19 +283,19 @@ module _ (k : Shape) (slots id : ℕ) (me : Me Nothing View) where
         )) in
         (t.0, keeps, tt, t.1, t.2))
 
-    pub allows11 : (slot number : ℕ) (field : Field) (word : ℕ) → word ≡ word_of field → IsOfClass k.capacities.items hold.class field → NeedsSeize me.0 hold slot field → Allows Holds slots id me word (λ _. number) (λ _. told11 field number (step slots word number 0 none) me number)
+    pub allows11 : (slot number : ℕ) (field : Field) (word : ℕ) → word ≡ word_of field → IsOfClass k.capacities.items hold.class field → NeedsWrite me.0 hold slot field → Allows Holds slots id me word (λ _. number) (λ _. told11 field number (step slots word number 0 none) me number)
     allows11 slot number field word at_word of needs = subst (λ i. Allows Holds slots id me i (λ _. number) (λ _. told11 field number (step slots i number 0 none) me number)) (sym at_word)
         (λ s r len at below.
         let t = stores k id me.0 s.words s.views r at field (field_inside caps hold.class small field of) H11 number number (λ w. told11 field number (step slots (word_of field) number 0 none) me number (w, me.1))
         (λ vs1 r1 at1. let v1 : View = stepped me.0 H11 field number in (
-          after_seize v1 hold field number,
+          after_write v1 hold field number,
           r.marks,
           law11 caps k.places k.tickets _ vs1 r.marks r1 id v1 at1 hold needs.hold_is slot field number (record { hold_is = needs.hold_is; taken = needs.taken; field_is = needs.field_is }),
           (refl, (hold, needs.hold_is, refl)),
         )) in
         (t.0, keeps, tt, t.1, t.2))
 
-  pub allows12 : (hold : Hold) (even next : ℕ) → next ≡ even + 1 → Needs12 me.0 hold even → Allows Holds slots id me 0 (λ n. either (n == even) next n) (told12 even (step slots 0 even next none) me)
+  pub allows12 : (hold : Hold) (even next : ℕ) → next ≡ even + 1 → NeedsCommit me.0 hold even → Allows Holds slots id me 0 (λ n. either (n == even) next n) (told12 even (step slots 0 even next none) me)
   allows12 hold even next is_next needs = subst (λ z. Allows Holds slots id me 0 (λ n. either (n == even) z n) (told12 even (step slots 0 even z none) me)) (sym is_next)
       (λ s r len at below.
       let n : ℕ = slice_index s.words 0 in
@@ -325,22 +325,22 @@ module _ (k : Shape) (slots id : ℕ) (me : Me Nothing View) where
       (q.0, subst (λ z. Rule k (set s.words 0 z) (set s.views id q.0)) same q.1, q.2)) in
       (t.0, keeps, tt, t.1, t.2))
 
-  pub allows16 : (even number : ℕ) → number ≡ even + 2 → NeedsCountFree me.0 even → Allows Holds slots id me 0 (λ _. number) (λ _. told16 number (step slots 0 number 0 none) me number)
+  pub allows16 : (even number : ℕ) → number ≡ even + 2 → NeedsEven me.0 even → Allows Holds slots id me 0 (λ _. number) (λ _. told16 number (step slots 0 number 0 none) me number)
   allows16 even number is_number needs = subst (λ z. Allows Holds slots id me 0 (λ _. z) (λ _. told16 z (step slots 0 z 0 none) me z)) (sym is_number)
       (λ s r len at below.
       let t = stores k id me.0 s.words s.views r at Front refl H16 (even + 2) (even + 2) (λ w. told16 (even + 2) (step slots 0 (even + 2) 0 none) me (even + 2) (w, me.1))
-      (λ vs1 r1 at1. let v1 : View = stepped me.0 H16 Front (even + 2) in (after_count_free v1, r.marks, law16 caps k.places k.tickets _ vs1 r.marks r1 id v1 at1 even needs, (refl, refl))) in
+      (λ vs1 r1 at1. let v1 : View = stepped me.0 H16 Front (even + 2) in (after_even v1, r.marks, law16 caps k.places k.tickets _ vs1 r.marks r1 id v1 at1 even needs, (refl, refl))) in
       (t.0, keeps, tt, t.1, t.2))
 
   module _ (hold : Hold) (small : hold.class < 64) where
-    pub allows13 : (even slot key value first word : ℕ) → word ≡ word_of (Head hold.class) → NeedsLock me.0 hold even slot key value first
+    pub allows13 : (even slot key value first word : ℕ) → word ≡ word_of (Head hold.class) → NeedsLink me.0 hold even slot key value first
         → Allows Holds slots id me word (λ _. slot) (λ _. told13 even slot key value (step slots word slot 0 none) me slot)
     allows13 even slot key value first word at_word needs = subst (λ i. Allows Holds slots id me i (λ _. slot) (λ _. told13 even slot key value (step slots i slot 0 none) me slot)) (sym at_word)
         (λ s r len at below.
         let t = stores k id me.0 s.words s.views r at (Head hold.class) (lt-ltb hold.class 64 small) H13 slot slot (λ w. told13 even slot key value (step slots (word_of (Head hold.class)) slot 0 none) me slot (w, me.1))
-        (λ vs1 r1 at1. let v1 : View = stepped me.0 H13 (Head hold.class) slot in let w : View = after_lock v1 hold even slot key value r.marks in
+        (λ vs1 r1 at1. let v1 : View = stepped me.0 H13 (Head hold.class) slot in let w : View = after_link v1 hold even slot key value r.marks in
         let h' : List Mark = r.marks ++ Done (record { caller = me.0.place; op = Put key value }) ∷ [] in
-        let needs1 : NeedsLock v1 hold even slot key value first = record {
+        let needs1 : NeedsLink v1 hold even slot key value first = record {
           commit = record { hold_is = needs.commit.hold_is; commit_is = needs.commit.commit_is; ticket = needs.commit.ticket };
           taken = needs.taken;
           key_is = needs.key_is;
@@ -355,14 +355,14 @@ module _ (k : Shape) (slots id : ℕ) (me : Me Nothing View) where
         (w, h', rule, (refl, (hold, needs.commit.hold_is, (r.marks, r.holds.seen.begins id me.0 at, refl), updated caps k.places k.tickets _ (set vs1 id w) h' rule id w (set_here vs1 id w (at_below vs1 id v1 at1)) even refl refl)))) in
         (t.0, keeps, tt, t.1, t.2))
 
-    pub allows14 : (even : ℕ) (link : Field) (slot key next word : ℕ) → word ≡ word_of link → IsOfClass k.capacities.items hold.class link → NeedsUnlock me.0 hold even link slot key next
+    pub allows14 : (even : ℕ) (link : Field) (slot key next word : ℕ) → word ≡ word_of link → IsOfClass k.capacities.items hold.class link → NeedsUnlink me.0 hold even link slot key next
         → Allows Holds slots id me word (λ _. next) (λ _. told14 even link slot key next (step slots word next 0 none) me next)
     allows14 even link slot key next word at_word of needs = subst (λ i. Allows Holds slots id me i (λ _. next) (λ _. told14 even link slot key next (step slots i next 0 none) me next)) (sym at_word)
         (λ s r len at below.
         let t = stores k id me.0 s.words s.views r at link (field_inside caps hold.class small link of) H14 next next (λ w. told14 even link slot key next (step slots (word_of link) next 0 none) me next (w, me.1))
-        (λ vs1 r1 at1. let v1 : View = stepped me.0 H14 link next in let w : View = after_unlock v1 hold even link slot key next r.marks in
+        (λ vs1 r1 at1. let v1 : View = stepped me.0 H14 link next in let w : View = after_unlink v1 hold even link slot key next r.marks in
         let h' : List Mark = r.marks ++ Done (record { caller = me.0.place; op = Del key }) ∷ Unlinked slot ∷ [] in
-        let needs1 : NeedsUnlock v1 hold even link slot key next = record {
+        let needs1 : NeedsUnlink v1 hold even link slot key next = record {
           commit = record { hold_is = needs.commit.hold_is; commit_is = needs.commit.commit_is; ticket = needs.commit.ticket };
           empty = needs.empty;
           link_is = needs.link_is;
@@ -376,14 +376,14 @@ module _ (k : Shape) (slots id : ℕ) (me : Me Nothing View) where
         (w, h', rule, (refl, (hold, needs.commit.hold_is, (r.marks, r.holds.seen.begins id me.0 at, refl), updated caps k.places k.tickets _ (set vs1 id w) h' rule id w (set_here vs1 id w (at_below vs1 id v1 at1)) even refl refl)))) in
         (t.0, keeps, tt, t.1, t.2))
 
-    pub allows15 : (even slot key value word : ℕ) → word ≡ word_of (Value slot) → IsOfClass k.capacities.items hold.class (Value slot) → Needs15 me.0 hold even slot key
+    pub allows15 : (even slot key value word : ℕ) → word ≡ word_of (Value slot) → IsOfClass k.capacities.items hold.class (Value slot) → NeedsReplace me.0 hold even slot key
         → Allows Holds slots id me word (λ _. value) (λ _. told15 even slot key value (step slots word value 0 none) me value)
     allows15 even slot key value word at_word of needs = subst (λ i. Allows Holds slots id me i (λ _. value) (λ _. told15 even slot key value (step slots i value 0 none) me value)) (sym at_word)
         (λ s r len at below.
         let t = stores k id me.0 s.words s.views r at (Value slot) (field_inside caps hold.class small (Value slot) of) H15 value value (λ w. told15 even slot key value (step slots (word_of (Value slot)) value 0 none) me value (w, me.1))
-        (λ vs1 r1 at1. let v1 : View = stepped me.0 H15 (Value slot) value in let w : View = after15 v1 hold even slot key value r.marks in
+        (λ vs1 r1 at1. let v1 : View = stepped me.0 H15 (Value slot) value in let w : View = after_replace v1 hold even slot key value r.marks in
         let h' : List Mark = r.marks ++ Done (record { caller = me.0.place; op = Set key value }) ∷ [] in
-        let needs1 : Needs15 v1 hold even slot key = record {
+        let needs1 : NeedsReplace v1 hold even slot key = record {
           commit = record { hold_is = needs.commit.hold_is; commit_is = needs.commit.commit_is; ticket = needs.commit.ticket };
           on_walk = needs.on_walk;
           key_is = needs.key_is;
@@ -394,6 +394,17 @@ module _ (k : Shape) (slots id : ℕ) (me : Me Nothing View) where
         (t.0, keeps, tt, t.1, t.2))
 
   -- the same, for what a call has picked
+  pub joins_as : (cs : List ℕ) (places : ℕ) → cs ≡ k.capacities.items → places ≡ k.places → 1 ≤ me.0.places → Allows Holds slots id me 0 (λ n. n) (told2 cs places (step slots 0 0 0 none) me)
+  joins_as cs places capacities all live = subst (λ z. Allows Holds slots id me 0 (λ n. n) (told2 z places (step slots 0 0 0 none) me)) (sym capacities) (allows2 places all live)
+
+  pub leaves_as : (cs : List ℕ) (places : ℕ) (section : Section) (word : ℕ) → cs ≡ k.capacities.items → places ≡ k.places → 1 ≤ me.0.places → me.0.section ≡ Some section → word ≡ word_of (Readers (section.key % 64))
+      → Allows Holds slots id me word (λ n. (n + (2 ^ 64 - 1)) % 2 ^ 64) (told4 cs places (step slots word 1 0 none) me)
+  leaves_as cs places section word capacities all live inside at_word = subst (λ z. Allows Holds slots id me word (λ n. (n + (2 ^ 64 - 1)) % 2 ^ 64) (told4 z places (step slots word 1 0 none) me)) (sym capacities) (allows4 places section word all live inside at_word)
+
+  pub unlocks_as : (cs : List ℕ) (places : ℕ) (hold : Hold) (word : ℕ) → cs ≡ k.capacities.items → places ≡ k.places → 1 ≤ me.0.places → word ≡ word_of (Lock hold.class) → hold.class < 64 → NeedsUnlock me.0 hold
+      → Allows Holds slots id me word (λ _. 0) (λ _. told7 cs places (step slots word 0 0 none) me 0)
+  unlocks_as cs places hold word capacities all live at_word small needs = subst (λ z. Allows Holds slots id me word (λ _. 0) (λ _. told7 z places (step slots word 0 0 none) me 0)) (sym capacities) (allows7 places hold word all live at_word small needs)
+
   pub searches_as : (section : Section) (field picked : Field) (cs : List ℕ) (word : ℕ) → picked ≡ field → cs ≡ k.capacities.items → me.0.section ≡ Some section → word ≡ word_of field → MayLoad section field → IsOfClass k.capacities.items (section.key % 64) field
       → Allows Holds slots id me word (λ n. n) (told5 cs picked (step slots word 0 0 none) me)
   searches_as section field picked cs word is all inside at_word may of = subst (λ (z : Field × List ℕ). Allows Holds slots id me word (λ n. n) (told5 z.1 z.0 (step slots word 0 0 none) me)) (λ i. (sym is i, sym all i)) (allows5 section field word inside at_word may of)
@@ -418,24 +429,24 @@ module _ (k : Shape) (slots id : ℕ) (me : Me Nothing View) where
     pub chains_as : (slot number s n word : ℕ) → s ≡ slot → n ≡ number → word ≡ word_of (Chain slot) → IsOfClass k.capacities.items hold.class (Chain slot) → NeedsChain me.0 hold slot → Allows Holds slots id me word (λ _. number) (λ _. told_chain s n (step slots word number 0 none) me number)
     chains_as slot number s n word is_slot is_number at_word of needs = subst (λ (z : ℕ × ℕ). Allows Holds slots id me word (λ _. number) (λ _. told_chain z.0 z.1 (step slots word number 0 none) me number)) (λ i. (sym is_slot i, sym is_number i)) (allows_chain hold small slot number word at_word of needs)
 
-    pub writes_as : (slot number : ℕ) (field picked : Field) (n word : ℕ) → picked ≡ field → n ≡ number → word ≡ word_of field → IsOfClass k.capacities.items hold.class field → NeedsSeize me.0 hold slot field → Allows Holds slots id me word (λ _. number) (λ _. told11 picked n (step slots word number 0 none) me number)
+    pub writes_as : (slot number : ℕ) (field picked : Field) (n word : ℕ) → picked ≡ field → n ≡ number → word ≡ word_of field → IsOfClass k.capacities.items hold.class field → NeedsWrite me.0 hold slot field → Allows Holds slots id me word (λ _. number) (λ _. told11 picked n (step slots word number 0 none) me number)
     writes_as slot number field picked n word is is_number at_word of needs = subst (λ (z : Field × ℕ). Allows Holds slots id me word (λ _. number) (λ _. told11 z.0 z.1 (step slots word number 0 none) me number)) (λ i. (sym is i, sym is_number i)) (allows11 hold small slot number field word at_word of needs)
 
-  pub turns_as : (hold : Hold) (even next e : ℕ) → e ≡ even → next ≡ even + 1 → Needs12 me.0 hold even → Allows Holds slots id me 0 (λ n. either (n == even) next n) (told12 e (step slots 0 even next none) me)
+  pub turns_as : (hold : Hold) (even next e : ℕ) → e ≡ even → next ≡ even + 1 → NeedsCommit me.0 hold even → Allows Holds slots id me 0 (λ n. either (n == even) next n) (told12 e (step slots 0 even next none) me)
   turns_as hold even next e is is_next needs = subst (λ z. Allows Holds slots id me 0 (λ n. either (n == even) next n) (told12 z (step slots 0 even next none) me)) (sym is) (allows12 hold even next is_next needs)
 
-  pub evens_as : (even number n : ℕ) → n ≡ even + 2 → number ≡ even + 2 → NeedsCountFree me.0 even → Allows Holds slots id me 0 (λ _. number) (λ _. told16 n (step slots 0 number 0 none) me number)
+  pub evens_as : (even number n : ℕ) → n ≡ even + 2 → number ≡ even + 2 → NeedsEven me.0 even → Allows Holds slots id me 0 (λ _. number) (λ _. told16 n (step slots 0 number 0 none) me number)
   evens_as even number n is is_number needs = subst (λ z. Allows Holds slots id me 0 (λ _. number) (λ _. told16 z (step slots 0 number 0 none) me number)) (is_number ∙ sym is) (allows16 even number is_number needs)
 
   module _ (hold : Hold) (small : hold.class < 64) where
-    pub links_as : (even slot key value e s x y first word : ℕ) → e ≡ even → s ≡ slot → x ≡ key → y ≡ value → word ≡ word_of (Head hold.class) → NeedsLock me.0 hold even slot key value first
+    pub links_as : (even slot key value e s x y first word : ℕ) → e ≡ even → s ≡ slot → x ≡ key → y ≡ value → word ≡ word_of (Head hold.class) → NeedsLink me.0 hold even slot key value first
         → Allows Holds slots id me word (λ _. slot) (λ _. told13 e s x y (step slots word slot 0 none) me slot)
     links_as even slot key value e s x y first word p q a b at_word needs = subst (λ (z : ℕ × ℕ × ℕ × ℕ). Allows Holds slots id me word (λ _. slot) (λ _. told13 z.0 z.1 z.2 z.3 (step slots word slot 0 none) me slot)) (λ i. (sym p i, sym q i, sym a i, sym b i)) (allows13 hold small even slot key value first word at_word needs)
 
-    pub cuts_as : (even : ℕ) (link : Field) (slot key next e : ℕ) (f : Field) (s x y word : ℕ) → e ≡ even → f ≡ link → s ≡ slot → x ≡ key → y ≡ next → word ≡ word_of link → IsOfClass k.capacities.items hold.class link → NeedsUnlock me.0 hold even link slot key next
+    pub cuts_as : (even : ℕ) (link : Field) (slot key next e : ℕ) (f : Field) (s x y word : ℕ) → e ≡ even → f ≡ link → s ≡ slot → x ≡ key → y ≡ next → word ≡ word_of link → IsOfClass k.capacities.items hold.class link → NeedsUnlink me.0 hold even link slot key next
         → Allows Holds slots id me word (λ _. next) (λ _. told14 e f s x y (step slots word next 0 none) me next)
     cuts_as even link slot key next e f s x y word p l q a b at_word of needs = subst (λ (z : ℕ × Field × ℕ × ℕ × ℕ). Allows Holds slots id me word (λ _. next) (λ _. told14 z.0 z.1 z.2 z.3 z.4 (step slots word next 0 none) me next)) (λ i. (sym p i, sym l i, sym q i, sym a i, sym b i)) (allows14 hold small even link slot key next word at_word of needs)
 
-    pub replaces_as : (even slot key value e s x y word : ℕ) → e ≡ even → s ≡ slot → x ≡ key → y ≡ value → word ≡ word_of (Value slot) → IsOfClass k.capacities.items hold.class (Value slot) → Needs15 me.0 hold even slot key
+    pub replaces_as : (even slot key value e s x y word : ℕ) → e ≡ even → s ≡ slot → x ≡ key → y ≡ value → word ≡ word_of (Value slot) → IsOfClass k.capacities.items hold.class (Value slot) → NeedsReplace me.0 hold even slot key
         → Allows Holds slots id me word (λ _. value) (λ _. told15 e s x y (step slots word value 0 none) me value)
     replaces_as even slot key value e s x y word p q a b at_word of needs = subst (λ (z : ℕ × ℕ × ℕ × ℕ). Allows Holds slots id me word (λ _. value) (λ _. told15 z.0 z.1 z.2 z.3 (step slots word value 0 none) me value)) (λ i. (sym p i, sym q i, sym a i, sym b i)) (allows15 hold small even slot key value word at_word of needs)

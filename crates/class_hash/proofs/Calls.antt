@@ -8,7 +8,7 @@ use Rattle.hash_core.specs.declared.words.Kind.TheVariants.{H8, H9, H10}
 use Rattle.hash_core.specs.declared.view.Hold.{Hold}
 use Rattle.hash_core.specs.declared.view.View.{View}
 use Rattle.hash_core.specs.Known.{known_in, knowing}
-use Rattle.hash_core.specs.Steps.{stepped, after8, after9, after_move, after_refill, NeedsBegin, NeedsMove, NeedsRefill}
+use Rattle.hash_core.specs.Steps.{stepped, after_readers_load, after_held_load, after_move, after_refill, NeedsUnlock, NeedsMove, NeedsRefill}
 use Rattle.prcu_model.proofs.ListFacts.{prefix_self, prefix_trans}
 use Rattle.class_hash.specs.Answers.{IsLink, IsFull}
 use Rattle.class_hash.proofs.Walking.{known_here, free_absent}
@@ -23,18 +23,18 @@ pub seen_more : (a h : List Mark) (b : Bool) → IsPrefix a h → IsPrefix a (co
 seen_more a h true p = p
 seen_more a h false p = prefix_self a
 
-listed_at : (capacities : List ℕ) (v mid w : View) (free retired : ℕ) (hold : Hold) → NeedsBegin v hold → Loads capacities v (Free hold.class) free mid → Loads capacities mid (Retired hold.class) retired w → Lists capacities v free retired w
+listed_at : (capacities : List ℕ) (v mid w : View) (free retired : ℕ) (hold : Hold) → NeedsUnlock v hold → Loads capacities v (Free hold.class) free mid → Loads capacities mid (Retired hold.class) retired w → Lists capacities v free retired w
 listed_at capacities v mid w free retired hold done a b =
     let is : v.hold ≡ Some hold = done.0 in
     let c : ℕ = hold.class in
     let one : a.0 ≡ hold = (let z : Some a.0 ≡ Some hold = sym a.1 ∙ is in cc) in
     let h1 : List Mark = a.2.0 in
     let h2 : List Mark = b.2.0 in
-    let M : Hold → View = λ k. after9 (stepped v H9 (Free hold.class) free) k (Free hold.class) free h1 in
+    let M : Hold → View = λ k. after_held_load (stepped v H9 (Free hold.class) free) k (Free hold.class) free h1 in
     let mid_is : mid ≡ M hold = a.2.2 ∙ ap M one in
     let mid_hold : mid.hold ≡ Some (knowing hold (Free hold.class) free) = ap (λ (z : View). z.hold) mid_is in
     let two : b.0 ≡ knowing hold (Free hold.class) free = (let z : Some b.0 ≡ Some (knowing hold (Free hold.class) free) = sym b.1 ∙ mid_hold in cc) in
-    let F : View → Hold → View = λ z k. after9 (stepped z H9 (Retired hold.class) retired) k (Retired hold.class) retired h2 in
+    let F : View → Hold → View = λ z k. after_held_load (stepped z H9 (Retired hold.class) retired) k (Retired hold.class) retired h2 in
     let whole : w ≡ F (M hold) (knowing hold (Free hold.class) free) = b.2.2 ∙ ap (λ z. F z b.0) mid_is ∙ ap (F (M hold)) two in
     let seen1 : IsPrefix v.seen (M hold).seen = seen_more v.seen h1 (free == 0) a.2.1 in
     let seen2 : IsPrefix (M hold).seen (F (M hold) (knowing hold (Free hold.class) free)).seen = seen_more (M hold).seen h2 (retired == 0) (subst (λ (z : View). IsPrefix z.seen h2) mid_is b.2.1) in
@@ -59,7 +59,7 @@ listed_at capacities v mid w free retired hold done a b =
       rest = whole ∙ sym (ap (λ (z : View). record v { hold = Some (knowing (knowing hold (Free hold.class) free) (Retired hold.class) retired); trail = z.trail; seen = z.seen }) whole);
     }
 
-pub listed : (capacities : List ℕ) (v mid w : View) (free retired c : ℕ) (hold : Hold) → NeedsBegin v hold → c ≡ hold.class → Loads capacities v (Free c) free mid → Loads capacities mid (Retired c) retired w → Lists capacities v free retired w
+pub listed : (capacities : List ℕ) (v mid w : View) (free retired c : ℕ) (hold : Hold) → NeedsUnlock v hold → c ≡ hold.class → Loads capacities v (Free c) free mid → Loads capacities mid (Retired c) retired w → Lists capacities v free retired w
 listed capacities v mid w free retired c hold is class a b =
     listed_at capacities v mid w free retired hold is (subst (λ z. Loads capacities v (Free z) free mid) class a) (subst (λ z. Loads capacities mid (Retired z) retired w) class b)
 
@@ -73,7 +73,7 @@ still_holds capacities v w field found c hold is class a =
 cleared : (v w : View) (count : ℕ) (hold : Hold) → count ≡ 0 → v.hold ≡ Some hold → LoadsReaders v count w → w ≡ record (stepped v H8 (Readers hold.class) 0) { hold = Some (record hold { clear = true }) }
 cleared v w count hold none is a =
     let one : a.0 ≡ hold = (let z : Some a.0 ≡ Some hold = sym a.1 ∙ is in cc) in
-    a.2 ∙ ap (λ (k : Hold). after8 (stepped v H8 (Readers k.class) count) k count) one ∙ ap (λ n. after8 (stepped v H8 (Readers hold.class) n) hold n) none
+    a.2 ∙ ap (λ (k : Hold). after_readers_load (stepped v H8 (Readers k.class) count) k count) one ∙ ap (λ n. after_readers_load (stepped v H8 (Readers hold.class) n) hold n) none
 
 pub may_move : (v w : View) (count first : ℕ) → count ≡ 0 → MayPoll v → ((hold : Hold) → v.hold ≡ Some hold → known_in hold.known (Retired hold.class) ≡ Some first) → LoadsReaders v count w → (hold : Hold) × NeedsMove w hold first
 may_move v w count first none may retired a =
@@ -126,7 +126,7 @@ waited v w count c hold some_count is class a =
       is = is;
       same = class;
       some = some_count;
-      rest = a.2 ∙ ap (λ (k : Hold). after8 (stepped v H8 (Readers k.class) count) k count) one
+      rest = a.2 ∙ ap (λ (k : Hold). after_readers_load (stepped v H8 (Readers k.class) count) k count) one
           ∙ ap (λ b. cond b (record (stepped v H8 (Readers hold.class) count) { hold = Some (record hold { clear = true }) }) (stepped v H8 (Readers hold.class) count)) (ne_eqb count 0 some_count);
     }
 

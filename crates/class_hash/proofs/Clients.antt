@@ -153,7 +153,7 @@ absent : (capacities : List ℕ) (m : Dictionary) (key : ℕ) → finite.get m k
 absent capacities m key none = ap is_some none
 
 -- each call answers as its marks say
-module _ (capacities : List ℕ) (v w : View) (places : ℕ) (informed : IsInformed places w) where
+module _ (capacities : List ℕ) (v w : View) (places : ℕ) (informed : IsInformed capacities places w) where
   met_here : HasSeenItsOwn (record { place = w.place; own = w.own; seen = w.seen })
   met_here = informed.met w.place (inl (omega arith, (let works = informed.works in omega arith)))
 

@@ -35,6 +35,7 @@ use Rattle.hash_core.specs.Rule.{BucketRule, MemoryRule}
 use Rattle.list_laws.proofs.Lists.{at_one, all_times, total_part, times_here, times_append}
 use Rattle.hash_core.proofs.Paths.{path_cons, IsPath-from}
 use Rattle.hash_core.proofs.Classes.{slot_within}
+use Rattle.hash_core.proofs.MarkOrder.{marks_begin, reuse_begins}
 use Rattle.hash_core.proofs.Memories.{word_inside}
 use Rattle.hash_core.proofs.Frames.{way_slot, chain_slot, free_slot, retired_slot}
 use Rattle.hash_core.proofs.Quiet.{same_marks}
@@ -85,14 +86,17 @@ module _ (capacities : List ℕ) (places tickets : ℕ) (m : Memory) (vs : List 
   few_updates = let b = r.tickets_are in let c = r.shape.few_tickets in omega arith
 
   -- what the view has seen
-  pub informed : 1 ≤ v.places → IsInformed places v
+  pub informed : 1 ≤ v.places → IsInformed capacities places v
   informed works =
       let more = r.seen.begins id v at in
       record {
         works = works;
         heard = r.seen.heard id v at;
         legal = AreUpdatesFrom-front finite.empty (updates_of v.seen) (updates_of more.0) (subst IsLegal (ap updates_of (sym more.1) ∙ updates_of-append v.seen more.0) r.legal);
+        marks = marks_begin places v.seen h more r.marks;
+        reuse = reuse_begins capacities v.seen h more r.reuse;
         met = λ p answers. r.owned.met id v p at answers;
+        unused = λ p has far. r.owned.unused id v p at has far;
         within = λ p far. front_none (own_of p v.seen) (own_of p more.0) (sym (own_of-append p v.seen more.0) ∙ ap (own_of p) more.1 ∙ r.owned.within p far);
       }
     where

@@ -12,7 +12,7 @@ use Rattle.hash_core.specs.declared.view.Known.{Known}
 use Rattle.hash_core.specs.declared.view.View.{View}
 use Rattle.hash_core.specs.Slots.{is_slot_of}
 use Rattle.hash_core.specs.Known.{known_in, knowing, IsWholeWalk, ShowsAbsent, ComesTo, IsOnWalk}
-use Rattle.hash_core.specs.Steps.{stepped, NeedsBegin, NeedsTake, NeedsSeize, after_take, after_seize}
+use Rattle.hash_core.specs.Steps.{stepped, NeedsUnlock, NeedsTake, NeedsWrite, after_take, after_write}
 use Rattle.hash_core.proofs.Classes.{slot_within}
 use Rattle.class_hash.specs.declared.bucket.Poll.TheVariants.{NotYet}
 use Rattle.class_hash.specs.Stepped.{Loads, Takes, Writes}
@@ -127,10 +127,10 @@ module _ (capacities : List ℕ) (v : View) (f : HasFinished v) (free retired : 
   abbrev listed_hold : Hold
   listed_hold = knowing (knowing l.hold (Free l.hold.class) free) (Retired l.hold.class) retired
 
-  needs : NeedsBegin v l.hold
-  needs = let z : Some f.0 ≡ Some l.hold = sym f.1.0 ∙ l.is in let e : f.0 ≡ l.hold = cc in subst (NeedsBegin v) e f.1
+  needs : NeedsUnlock v l.hold
+  needs = let z : Some f.0 ≡ Some l.hold = sym f.1.0 ∙ l.is in let e : f.0 ≡ l.hold = cc in subst (NeedsUnlock v) e f.1
 
-  needs_listed : NeedsBegin x listed_hold
+  needs_listed : NeedsUnlock x listed_hold
   needs_listed = (ap (λ (z : View). z.hold) l.rest, needs.1, needs.2, needs.3, ap (λ (z : View). z.commit) l.rest ∙ needs.4)
 
   free_is : known_in listed_hold.known (Free l.hold.class) ≡ Some free
@@ -236,7 +236,7 @@ module _ (capacities : List ℕ) (v : View) (slot key value : ℕ) (may : MayFil
       view3 : x3 ≡ v3
       view3 = t.2.2 ∙ ap (λ (k : Hold). after_take (stepped x2 H10 (Free k.class) next) k slot next t.2.0) same2 ∙ ap (λ (z : View). after_take (stepped z H10 (Free may.hold.class) next) k2 slot next t.2.0) loaded2.view
 
-      pub may_write_key : (hold : Hold) × (other : ℕ) × NeedsSeize x3 hold other (Key slot) × (is_slot_of capacities hold.class slot ≡ true)
+      pub may_write_key : (hold : Hold) × (other : ℕ) × NeedsWrite x3 hold other (Key slot) × (is_slot_of capacities hold.class slot ≡ true)
       may_write_key = (k3, slot, record { hold_is = ap (λ (z : View). z.hold) view3; taken = refl; field_is = refl }, may.slot_is)
 
       module _ (x4 : View) (d : Writes x3 (Key slot) key x4) where
@@ -244,15 +244,15 @@ module _ (capacities : List ℕ) (v : View) (slot key value : ℕ) (may : MayFil
         k4 = knowing k3 (Key slot) key
 
         abbrev v4 : View
-        v4 = after_seize (stepped v3 H11 (Key slot) key) k3 (Key slot) key
+        v4 = after_write (stepped v3 H11 (Key slot) key) k3 (Key slot) key
 
         same3 : d.0 ≡ k3
         same3 = let z : Some d.0 ≡ Some k3 = sym d.1 ∙ ap (λ (z : View). z.hold) view3 in cc
 
         view4 : x4 ≡ v4
-        view4 = d.2 ∙ ap (λ (k : Hold). after_seize (stepped x3 H11 (Key slot) key) k (Key slot) key) same3 ∙ ap (λ (z : View). after_seize (stepped z H11 (Key slot) key) k3 (Key slot) key) view3
+        view4 = d.2 ∙ ap (λ (k : Hold). after_write (stepped x3 H11 (Key slot) key) k (Key slot) key) same3 ∙ ap (λ (z : View). after_write (stepped z H11 (Key slot) key) k3 (Key slot) key) view3
 
-        pub may_write_value : (hold : Hold) × (other : ℕ) × NeedsSeize x4 hold other (Value slot) × (is_slot_of capacities hold.class slot ≡ true)
+        pub may_write_value : (hold : Hold) × (other : ℕ) × NeedsWrite x4 hold other (Value slot) × (is_slot_of capacities hold.class slot ≡ true)
         may_write_value = (k4, slot, record { hold_is = ap (λ (z : View). z.hold) view4; taken = refl; field_is = refl }, may.slot_is)
 
         module _ (x5 : View) (e : Writes x4 (Value slot) value x5) where
@@ -260,21 +260,21 @@ module _ (capacities : List ℕ) (v : View) (slot key value : ℕ) (may : MayFil
           k5 = knowing k4 (Value slot) value
 
           abbrev v5 : View
-          v5 = after_seize (stepped v4 H11 (Value slot) value) k4 (Value slot) value
+          v5 = after_write (stepped v4 H11 (Value slot) value) k4 (Value slot) value
 
           same4 : e.0 ≡ k4
           same4 = let z : Some e.0 ≡ Some k4 = sym e.1 ∙ ap (λ (z : View). z.hold) view4 in cc
 
           view5 : x5 ≡ v5
-          view5 = e.2 ∙ ap (λ (k : Hold). after_seize (stepped x4 H11 (Value slot) value) k (Value slot) value) same4 ∙ ap (λ (z : View). after_seize (stepped z H11 (Value slot) value) k4 (Value slot) value) view4
+          view5 = e.2 ∙ ap (λ (k : Hold). after_write (stepped x4 H11 (Value slot) value) k (Value slot) value) same4 ∙ ap (λ (z : View). after_write (stepped z H11 (Value slot) value) k4 (Value slot) value) view4
 
-          pub may_write_next : (hold : Hold) × (other : ℕ) × NeedsSeize x5 hold other (Next slot) × (is_slot_of capacities hold.class slot ≡ true)
+          pub may_write_next : (hold : Hold) × (other : ℕ) × NeedsWrite x5 hold other (Next slot) × (is_slot_of capacities hold.class slot ≡ true)
           may_write_next = (k5, slot, record { hold_is = ap (λ (z : View). z.hold) view5; taken = refl; field_is = refl }, may.slot_is)
 
           pub filled : (x6 : View) → Writes x5 (Next slot) first x6 → Filled v slot key value x6
           filled x6 g =
               let same5 : g.0 ≡ k5 = (let z : Some g.0 ≡ Some k5 = sym g.1 ∙ ap (λ (z : View). z.hold) view5 in cc) in
-              let view6 : x6 ≡ after_seize (stepped v5 H11 (Next slot) first) k5 (Next slot) first = g.2 ∙ ap (λ (k : Hold). after_seize (stepped x5 H11 (Next slot) first) k (Next slot) first) same5 ∙ ap (λ (z : View). after_seize (stepped z H11 (Next slot) first) k5 (Next slot) first) view5 in
+              let view6 : x6 ≡ after_write (stepped v5 H11 (Next slot) first) k5 (Next slot) first = g.2 ∙ ap (λ (k : Hold). after_write (stepped x5 H11 (Next slot) first) k (Next slot) first) same5 ∙ ap (λ (z : View). after_write (stepped z H11 (Next slot) first) k5 (Next slot) first) view5 in
               let off : IsOnWalk k2 slot → ⊥ = subst (λ (k : Hold). IsOnWalk k slot → ⊥) same2 t.3 in
               record {
                 before = t.2.0;

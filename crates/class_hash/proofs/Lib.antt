@@ -4,6 +4,7 @@ pub mod Readers
 pub mod Facts
 pub mod Allowed
 pub mod Seats
+pub mod Informed
 pub mod Words
 pub mod Calls
 pub mod Searching

@@ -12,7 +12,7 @@ use Rattle.hash_core.specs.declared.view.View.{View}
 use Rattle.prcu_marks.specs.Marks.{updates_of}
 use Rattle.hash_core.specs.Slots.{is_slot_of}
 use Rattle.hash_core.specs.Known.{knowing, ShowsAbsent}
-use Rattle.hash_core.specs.Steps.{stepped, NeedsBegin, NeedsLock, NeedsCountFree, after_begin, after_lock, after_count_free}
+use Rattle.hash_core.specs.Steps.{stepped, NeedsUnlock, NeedsLink, NeedsEven, after_unlock, after_link, after_even}
 use Rattle.class_hash.specs.Stepped.{Unlocks, Evens, Links}
 use Rattle.class_hash.specs.Trails.{AddsNoLists}
 use Rattle.class_hash.specs.Updates.{HasTurned}
@@ -22,7 +22,7 @@ use Rattle.class_hash.proofs.Trails.{adds_step, adds_both}
 
 -- the front was made odd, the slot linked, the front made even, and the lock given up
 module _ (v : View) (slot key value : ℕ) (may : MayLink v slot key value) (even : ℕ) (x1 : View) (t : HasTurned v even x1) where
-  pub may_link : (hold : Hold) × (first : ℕ) × NeedsLock x1 hold even slot key value first
+  pub may_link : (hold : Hold) × (first : ℕ) × NeedsLink x1 hold even slot key value first
   may_link = (
     may.hold,
     may.first,
@@ -40,43 +40,43 @@ module _ (v : View) (slot key value : ℕ) (may : MayLink v slot key value) (eve
 
   module _ (x2 : View) (c : Links x1 even slot key value x2) where
     abbrev v2 : View
-    v2 = after_lock (stepped (record v { commit = Some (record { found = even; stored = false }); trail = x1.trail }) H13 (Head may.hold.class) slot) may.hold even slot key value c.2.0
+    v2 = after_link (stepped (record v { commit = Some (record { found = even; stored = false }); trail = x1.trail }) H13 (Head may.hold.class) slot) may.hold even slot key value c.2.0
 
     same1 : c.0 ≡ may.hold
     same1 = let z : Some c.0 ≡ Some may.hold = sym c.1 ∙ ap (λ (z : View). z.hold) t.view ∙ may.is in cc
 
     view2 : x2 ≡ v2
-    view2 = c.2.2 ∙ ap (λ (k : Hold). after_lock (stepped x1 H13 (Head k.class) slot) k even slot key value c.2.0) same1 ∙ ap (λ (z : View). after_lock (stepped z H13 (Head may.hold.class) slot) may.hold even slot key value c.2.0) t.view
+    view2 = c.2.2 ∙ ap (λ (k : Hold). after_link (stepped x1 H13 (Head k.class) slot) k even slot key value c.2.0) same1 ∙ ap (λ (z : View). after_link (stepped z H13 (Head may.hold.class) slot) may.hold even slot key value c.2.0) t.view
 
-    pub may_even : NeedsCountFree x2 even
+    pub may_even : NeedsEven x2 even
     may_even = ap (λ (z : View). z.commit) view2
 
     module _ (x3 : View) (d : Evens x2 (even + 2) x3) where
       abbrev v3 : View
-      v3 = after_count_free (stepped v2 H16 Front (even + 2))
+      v3 = after_even (stepped v2 H16 Front (even + 2))
 
       view3 : x3 ≡ v3
-      view3 = d ∙ ap (λ (z : View). after_count_free (stepped z H16 Front (even + 2))) view2
+      view3 = d ∙ ap (λ (z : View). after_even (stepped z H16 Front (even + 2))) view2
 
-      pub may_unlock : (hold : Hold) × NeedsBegin x3 hold
+      pub may_unlock : (hold : Hold) × NeedsUnlock x3 hold
       may_unlock = (record (knowing may.hold (Head may.hold.class) slot) { taken = None }, (ap (λ (z : View). z.hold) view3, refl, may.unlinked, may.moved, ap (λ (z : View). z.commit) view3))
 
       pub linked : (x4 : View) → Unlocks x3 x4 → Linked v key value (even / 2 + 1) x4
       linked x4 e =
-          let last : x4 ≡ after_begin (stepped v3 H7 (Lock e.0.class) 0) = e.2 ∙ ap (λ (z : View). after_begin (stepped z H7 (Lock e.0.class) 0)) view3 in
+          let last : x4 ≡ after_unlock (stepped v3 H7 (Lock e.0.class) 0) = e.2 ∙ ap (λ (z : View). after_unlock (stepped z H7 (Lock e.0.class) 0)) view3 in
           let seen4 : x4.seen ≡ x2.seen = ap (λ (z : View). z.seen) last ∙ sym (ap (λ (z : View). z.seen) view2) in
           record {
             before = c.2.0;
             since = subst (λ (z : View). IsPrefix z.seen c.2.0) t.view c.2.1;
             legal = subst (λ z. IsLegal (updates_of z)) (sym seen4) c.3.legal;
             number_is = (let p = c.3.position in let half : even / 2 + 1 ≡ length (updates_of x2.seen) = omega arith in half) ∙ ap (λ z. length (updates_of z)) (sym seen4);
-            view = last ∙ ap (λ (q : Option Commit). record (after_begin (stepped v3 H7 (Lock e.0.class) 0)) { commit = q }) (sym may.commit)
+            view = last ∙ ap (λ (q : Option Commit). record (after_unlock (stepped v3 H7 (Lock e.0.class) 0)) { commit = q }) (sym may.commit)
                 ∙ sym (ap (λ (z : View). record v { tickets = v.tickets - 1; hold = None; own = v.own ++ Done (record { caller = v.place; op = Put key value }) ∷ []; trail = z.trail; seen = c.2.0 ++ Done (record { caller = v.place; op = Put key value }) ∷ [] }) last);
           }
 
       pub linked_trail : (x4 : View) → Unlocks x3 x4 → AddsNoLists v.trail x4.trail
       linked_trail x4 e =
-          let last : x4 ≡ after_begin (stepped v3 H7 (Lock e.0.class) 0) = e.2 ∙ ap (λ (z : View). after_begin (stepped z H7 (Lock e.0.class) 0)) view3 in
+          let last : x4 ≡ after_unlock (stepped v3 H7 (Lock e.0.class) 0) = e.2 ∙ ap (λ (z : View). after_unlock (stepped z H7 (Lock e.0.class) 0)) view3 in
           subst (λ (z : View). AddsNoLists v.trail z.trail) (sym last) (adds_step v.trail _ H7 (Lock e.0.class) 0 refl (adds_step v.trail _ H16 Front (even + 2) refl (adds_step v.trail x1.trail H13 (Head may.hold.class) slot refl t.trail)))
 
 -- a slot that is free may be filled

@@ -1,5 +1,5 @@
 -- Searches in a section.
-use Rattle.std.proofs.Common.{◌≡◌, ◌≢◌, ℕ, ◌+◌, ◌%◌, true, false, cond, List, [], ◌∷◌, ◌++◌, length, Option, Some, None, refl, sym, ap, subst, ◌∙◌, eq-eqb, ne_eqb, append_assoc}
+use Rattle.std.proofs.Common.{◌≡◌, ◌≢◌, ℕ, ◌+◌, ◌%◌, true, cond, List, [], ◌∷◌, ◌++◌, length, Option, Some, None, refl, sym, ap, subst, ◌∙◌, eq-eqb, ne_eqb, append_assoc}
 use mathlib.Core.List.{IsPrefix}
 use Rattle.prcu_marks.specs.declared.mark.Mark.{Mark}
 use Rattle.prcu_marks.specs.declared.mark.Mark.TheVariants.{Entered, Left}
@@ -17,7 +17,6 @@ use Rattle.prcu_model.specs.Dictionary.{WasSaid}
 use Rattle.hash_core.specs.Steps.{IsQuiet, StandsAt, link_stand, searched}
 use Rattle.class_hash.specs.Answers.{GivesAnswer}
 use Rattle.class_hash.specs.Stepped.{Enters, Leaves, Searches}
-use Rattle.class_hash.specs.Trails.{loads_free}
 use Rattle.class_hash.specs.Lookups.{IsSearching, IsAtLink, Looked}
 use Rattle.prcu_model.proofs.ListFacts.{all_append}
 
@@ -50,7 +49,12 @@ module _ (v : View) (key : ℕ) where
       record {
         before = i.before;
         steps = i.steps ++ record { kind = H5; field = field; number = n } ∷ [];
-        plain = all_append (λ (step : StepMade). loads_free step.kind step.field ≡ false) i.steps (record { kind = H5; field = field; number = n } ∷ []) i.plain (refl, tt);
+        made = record {
+          entry = i.made.entry;
+          loads = i.made.loads ++ record { kind = H5; field = field; number = n } ∷ [];
+          inside = all_append (λ (step : StepMade). step.kind ≡ H5) i.made.loads (record { kind = H5; field = field; number = n } ∷ []) i.made.inside (refl, tt);
+          are = ap (λ steps. steps ++ record { kind = H5; field = field; number = n } ∷ []) i.made.are;
+        };
         since = i.since;
         view = s.2 ∙ (λ j. record (i.view j) { section = Some (found j); trail = (i.view j).trail ++ record { kind = H5; field = field; number = n } ∷ [] })
             ∙ (λ j. record (inside i.before (i.steps ++ record { kind = H5; field = field; number = n } ∷ []) stand' loaded') { trail = append_assoc v.trail i.steps (record { kind = H5; field = field; number = n } ∷ []) j });
@@ -61,7 +65,7 @@ module _ (v : View) (key : ℕ) where
   begun w found e = record {
     before = e.0;
     steps = record { kind = H3; field = Readers (key % 64); number = found } ∷ [];
-    plain = (refl, tt);
+    made = record { entry = found; loads = []; inside = tt; are = refl };
     since = e.1;
     view = e.2;
   }
@@ -119,7 +123,7 @@ module _ (v : View) (key : ℕ) where
         before = i.before;
         until = l.2.0;
         steps = i.steps ++ step ∷ [];
-        plain = all_append (λ (step : StepMade). loads_free step.kind step.field ≡ false) i.steps (record { kind = H4; field = Readers (key % 64); number = found } ∷ []) i.plain (refl, tt);
+        made = record { begun = i.steps; first = i.made; exit = found; are = refl };
         since = i.since;
         within = subst (λ (z : View). IsPrefix z.seen l.2.0) i.view l.2.1;
         view = l.2.2 ∙ (λ j. record (i.view j) {

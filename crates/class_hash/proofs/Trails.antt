@@ -1,10 +1,13 @@
 -- Steps that are made one after another.
-use Rattle.std.proofs.Common.{◌≡◌, ℕ, false, List, [], ◌∷◌, ◌++◌, sym, ap, ◌∙◌, append_assoc, append-nil}
+use Rattle.std.proofs.Common.{◌≡◌, ℕ, ◌%◌, false, List, [], ◌∷◌, ◌++◌, refl, sym, ap, subst, ◌∙◌, append_assoc, append-nil}
 use Rattle.hash_core.specs.declared.words.Field.{Field}
 use Rattle.hash_core.specs.declared.words.Kind.{Kind}
+use Rattle.hash_core.specs.declared.words.Kind.TheVariants.{H4, H5}
+use Rattle.std.specs.List.{AllByRecursion}
+use Rattle.hash_core.specs.declared.words.Field.TheVariants.{Readers}
 use Rattle.hash_core.specs.declared.view.StepMade.{StepMade}
 use Rattle.prcu_model.proofs.ListFacts.{all_append}
-use Rattle.class_hash.specs.Trails.{loads_free, AddsNoLists}
+use Rattle.class_hash.specs.Trails.{IsLookup, loads_free, LoadNoLists, AddsNoLists}
 
 pub adds_none : (trail : List StepMade) → AddsNoLists trail trail
 adds_none trail = record { steps = []; plain = tt; trail = sym (append-nil trail) }
@@ -22,3 +25,13 @@ adds_both a b c first second = record {
   plain = all_append (λ (step : StepMade). loads_free step.kind step.field ≡ false) first.steps second.steps first.plain second.plain;
   trail = second.trail ∙ ap (λ t. t ++ second.steps) first.trail ∙ append_assoc a first.steps second.steps;
 }
+
+-- a lookup loads no lists
+plain_loads : (loads : List StepMade) → AllByRecursion (λ (step : StepMade). step.kind ≡ H5) loads → LoadNoLists loads
+plain_loads [] inside = tt
+plain_loads (step ∷ loads) inside = (subst (λ kind. loads_free kind step.field ≡ false) (sym inside.0) refl, plain_loads loads inside.1)
+
+pub lookup_plain : (key : ℕ) (steps : List StepMade) → IsLookup key steps → LoadNoLists steps
+lookup_plain key steps is =
+    let begun : LoadNoLists is.begun = subst LoadNoLists (sym is.first.are) (refl, plain_loads is.first.loads is.first.inside) in
+    subst LoadNoLists (sym is.are) (all_append (λ (step : StepMade). loads_free step.kind step.field ≡ false) is.begun (record { kind = H4; field = Readers (key % 64); number = is.exit } ∷ []) begun (refl, tt))

@@ -17,9 +17,9 @@ use Rattle.hash_core.specs.Pairs.{HasPairs}
 use Rattle.hash_core.specs.Slots.{capacity, is_slot_of, IsOfClass}
 use Rattle.class_hash.specs.Answers.{IsFull}
 use Rattle.hash_core.specs.Known.{ShowsAbsent}
-use Rattle.hash_core.specs.Steps.{stepped, IsQuiet, NeedsBegin, after_begin, fresh_hold}
+use Rattle.hash_core.specs.Steps.{stepped, IsQuiet, NeedsUnlock, after_unlock, fresh_hold}
 use Rattle.prcu_model.proofs.ListFacts.{all_append, prefix_self, prefix_trans}
-use Rattle.class_hash.proofs.Trails.{adds_step, adds_both}
+use Rattle.class_hash.proofs.Trails.{adds_step, adds_both, lookup_plain}
 use Rattle.prcu_marks.specs.Callers.{entered_for}
 use Rattle.prcu_marks.proofs.OwnMarks.{entered_for-append}
 use Rattle.class_hash.specs.Stepped.{Unlocks}
@@ -68,7 +68,7 @@ module _ (v w x y z : View) (key class : ℕ) (answer : Option ℕ) (new : Hold)
   -- the lists weren't loaded
   trail_z : AddsNoLists v.trail w.trail → AddsNoLists v.trail z.trail
   trail_z before =
-      let searched : AddsNoLists w.trail x.trail = record { steps = l.steps; plain = l.plain; trail = ap (λ (u : View). u.trail) l.view } in
+      let searched : AddsNoLists w.trail x.trail = record { steps = l.steps; plain = lookup_plain key l.steps l.made; trail = ap (λ (u : View). u.trail) l.view } in
       adds_both v.trail w.trail z.trail before (adds_both w.trail x.trail z.trail searched (adds_both x.trail y.trail z.trail k.trail n.trail))
 
   own_z : z.own ≡ v.own ++ (t.marks ++ Entered w.place w.sections key ∷ Left w.place w.sections ∷ [])
@@ -88,7 +88,7 @@ module _ (v w x y z : View) (key class : ℕ) (answer : Option ℕ) (new : Hold)
   turn_z : z.commit ≡ None
   turn_z = ap (λ (u : View). u.commit) n.view ∙ ap (λ (u : View). u.commit) k.view ∙ no_turn
 
-  needs_z : NeedsBegin z new
+  needs_z : NeedsUnlock z new
   needs_z = (ap (λ (u : View). u.hold) n.view, ap (λ (h : Hold). h.taken) n.only, ap (λ (h : Hold). h.unlinked) n.only, ap (λ (h : Hold). h.moved) n.only, turn_z)
 
   pub has_finished : HasFinished z
@@ -109,7 +109,7 @@ module _ (v w x y z : View) (key class : ℕ) (answer : Option ℕ) (new : Hold)
 
   pub tried_again : (u : View) → Unlocks z u → HasTried v key u
   tried_again u e =
-      let F : View → View = λ y. after_begin (stepped y H7 (Lock e.0.class) 0) in
+      let F : View → View = λ y. after_unlock (stepped y H7 (Lock e.0.class) 0) in
       let u_is : u ≡ F walked = e.2 ∙ ap F z_is in
       let whole : u ≡ record (F walked) { section = v.section; hold = v.hold } = u_is ∙ ap (λ (q : Option Section × Option Hold). record (F walked) { section = q.0; hold = q.1 }) (λ i. (sym quiet.0 i, sym quiet.1 i)) in
       record {
@@ -230,7 +230,7 @@ module _ (v w x y z : View) (key class : ℕ) (answer : Option ℕ) (new : Hold)
       let l : Lists capacities z 0 0 left.0 = left.1 in
       let e : Unlocks left.0 u = left.2 in
       let F : View → View = λ q. record q { hold = None; trail = u.trail; seen = left.0.seen } in
-      let G : View → View = λ q. after_begin (stepped q H7 (Lock e.0.class) 0) in
+      let G : View → View = λ q. after_unlock (stepped q H7 (Lock e.0.class) 0) in
       let first : u ≡ record left.0 { hold = None; trail = u.trail } = e.2 ∙ sym (ap (λ (q : View). record left.0 { hold = None; trail = q.trail }) e.2) in
       let u_is : u ≡ F walked = first ∙ ap F l.rest ∙ ap F z_is in
       let whole : u ≡ record (F walked) { section = v.section; hold = v.hold } = u_is ∙ ap (λ (q : Option Section × Option Hold). record (F walked) { section = q.0; hold = q.1 }) (λ i. (sym quiet.0 i, sym quiet.1 i)) in
@@ -261,4 +261,4 @@ module _ (v w x y z : View) (key class : ℕ) (answer : Option ℕ) (new : Hold)
 pub found_once : (capacities : List ℕ) (v w x : View) (key value : ℕ) (answer : Option ℕ) → is_some answer ≡ true → HasTried v key w → AddsNoLists v.trail w.trail → Looked w key answer x → PutsBy capacities v key value Old 0 x
 found_once capacities v w x key value None is t before l = absurd (cc)
 found_once capacities v w x key value (Some old) is t before l =
-    (w, t, (old, l), refl, adds_both v.trail w.trail x.trail before (record { steps = l.steps; plain = l.plain; trail = ap (λ (u : View). u.trail) l.view }))
+    (w, t, (old, l), refl, adds_both v.trail w.trail x.trail before (record { steps = l.steps; plain = lookup_plain key l.steps l.made; trail = ap (λ (u : View). u.trail) l.view }))

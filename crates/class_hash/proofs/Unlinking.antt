@@ -13,7 +13,7 @@ use Rattle.hash_core.specs.declared.view.View.{View}
 use Rattle.prcu_marks.specs.Marks.{updates_of}
 use Rattle.hash_core.specs.Known.{known_in, knowing}
 use Rattle.hash_core.specs.Slots.{is_slot_of, IsOfClass}
-use Rattle.hash_core.specs.Steps.{stepped, LinksTo, NeedsBegin, NeedsUnlock, NeedsCountFree, NeedsPush, after_begin, after_unlock, after_count_free, after_chain, after_push}
+use Rattle.hash_core.specs.Steps.{stepped, LinksTo, NeedsUnlock, NeedsUnlink, NeedsEven, NeedsPush, after_unlock, after_unlink, after_even, after_chain, after_push}
 use Rattle.class_hash.specs.Stepped.{Unlocks, Loads, Evens, Cuts, Chains, Pushes}
 use Rattle.class_hash.specs.Walks.{HasLoaded, KnowsMore, IsLinkedFrom}
 use Rattle.class_hash.specs.Updates.{HasTurned, link_after, MayUnlink, Removed}
@@ -67,7 +67,7 @@ module _ (capacities : List ℕ) (v : View) (previous : Option ℕ) (slot key : 
       link_by None f = (refl, more2 (Head may.hold.class) slot f)
       link_by (Some p) f = (record { first = f.0.first; before = f.0.before; head = more2 (Head may.hold.class) f.0.first f.0.head; comes = comes_to_still may.hold.known (knowing (knowing may.hold (Next slot) next) (Retired class) first).known more2 f.0.first f.0.before p f.0.comes }, more2 (Next p) slot f.1)
 
-      needs14 : NeedsUnlock x3 (knowing (knowing may.hold (Next slot) next) (Retired class) first) even (link_after may.hold.class previous) slot key next
+      needs14 : NeedsUnlink x3 (knowing (knowing may.hold (Next slot) next) (Retired class) first) even (link_after may.hold.class previous) slot key next
       needs14 = record {
         commit = record { hold_is = ap (λ (z : View). z.hold) view3; commit_is = ap (λ (z : View). z.commit) view3; ticket = subst (λ n. 1 ≤ n) (sym (ap (λ (z : View). z.tickets) view3)) may.ticket };
         empty = may.finished.2;
@@ -81,10 +81,10 @@ module _ (capacities : List ℕ) (v : View) (previous : Option ℕ) (slot key : 
       same_link : link_after may.hold.class previous ≡ link_after class previous
       same_link = ap (λ c. link_after c previous) (sym is)
 
-      pub may_cut : (link : Field) → link ≡ link_after class previous → (hold : Hold) × NeedsUnlock x3 hold even link slot key next × IsOfClass capacities hold.class link
+      pub may_cut : (link : Field) → link ≡ link_after class previous → (hold : Hold) × NeedsUnlink x3 hold even link slot key next × IsOfClass capacities hold.class link
       may_cut link at = (
         knowing (knowing may.hold (Next slot) next) (Retired class) first,
-        subst (λ z. NeedsUnlock x3 (knowing (knowing may.hold (Next slot) next) (Retired class) first) even z slot key next) (same_link ∙ sym at) needs14,
+        subst (λ z. NeedsUnlink x3 (knowing (knowing may.hold (Next slot) next) (Retired class) first) even z slot key next) (same_link ∙ sym at) needs14,
         subst (λ z. IsOfClass capacities may.hold.class z) (same_link ∙ sym at) may.link,
       )
 
@@ -93,13 +93,13 @@ module _ (capacities : List ℕ) (v : View) (previous : Option ℕ) (slot key : 
         k4 = record (knowing (knowing (knowing may.hold (Next slot) next) (Retired class) first) link next) { clear = false; unlinked = Some slot }
 
         abbrev v4 : View
-        v4 = after_unlock (stepped (record v { hold = Some (knowing (knowing may.hold (Next slot) next) (Retired class) first); commit = Some (record { found = even; stored = false }); trail = x3.trail; seen = x2.seen }) H14 link next) (knowing (knowing may.hold (Next slot) next) (Retired class) first) even link slot key next c.2.0
+        v4 = after_unlink (stepped (record v { hold = Some (knowing (knowing may.hold (Next slot) next) (Retired class) first); commit = Some (record { found = even; stored = false }); trail = x3.trail; seen = x2.seen }) H14 link next) (knowing (knowing may.hold (Next slot) next) (Retired class) first) even link slot key next c.2.0
 
         same3 : c.0 ≡ knowing (knowing may.hold (Next slot) next) (Retired class) first
         same3 = let z : Some c.0 ≡ Some (knowing (knowing may.hold (Next slot) next) (Retired class) first) = sym c.1 ∙ ap (λ (z : View). z.hold) view3 in cc
 
         view4 : x4 ≡ v4
-        view4 = c.2.2 ∙ ap (λ (k : Hold). after_unlock (stepped x3 H14 link next) k even link slot key next c.2.0) same3 ∙ ap (λ (z : View). after_unlock (stepped z H14 link next) (knowing (knowing may.hold (Next slot) next) (Retired class) first) even link slot key next c.2.0) view3
+        view4 = c.2.2 ∙ ap (λ (k : Hold). after_unlink (stepped x3 H14 link next) k even link slot key next c.2.0) same3 ∙ ap (λ (z : View). after_unlink (stepped z H14 link next) (knowing (knowing may.hold (Next slot) next) (Retired class) first) even link slot key next c.2.0) view3
 
         pub may_chain : (hold : Hold) × ((x4.hold ≡ Some hold) × (hold.unlinked ≡ Some slot)) × (is_slot_of capacities hold.class slot ≡ true)
         may_chain = (k4, (ap (λ (z : View). z.hold) view4, refl), may.slot_is)
@@ -147,22 +147,22 @@ module _ (capacities : List ℕ) (v : View) (previous : Option ℕ) (slot key : 
             view6 : x6 ≡ v6
             view6 = e.2 ∙ ap (λ (k : Hold). after_push (stepped x5 H10 (Retired k.class) slot) k slot) same5 ∙ ap (λ (z : View). after_push (stepped z H10 (Retired may.hold.class) slot) k5 slot) view5
 
-            pub may_even : NeedsCountFree x6 even
+            pub may_even : NeedsEven x6 even
             may_even = ap (λ (z : View). z.commit) view6
 
             module _ (x7 : View) (f : Evens x6 (even + 2) x7) where
               abbrev v7 : View
-              v7 = after_count_free (stepped v6 H16 Front (even + 2))
+              v7 = after_even (stepped v6 H16 Front (even + 2))
 
               view7 : x7 ≡ v7
-              view7 = f ∙ ap (λ (z : View). after_count_free (stepped z H16 Front (even + 2))) view6
+              view7 = f ∙ ap (λ (z : View). after_even (stepped z H16 Front (even + 2))) view6
 
-              pub may_unlock : (hold : Hold) × NeedsBegin x7 hold
+              pub may_unlock : (hold : Hold) × NeedsUnlock x7 hold
               may_unlock = (k6, (ap (λ (z : View). z.hold) view7, may.finished.1, refl, may.finished.3, ap (λ (z : View). z.commit) view7))
 
               pub removed : (x8 : View) → Unlocks x7 x8 → Removed v key (even / 2 + 1) x8
               removed x8 g =
-                  let last : x8 ≡ after_begin (stepped v7 H7 (Lock g.0.class) 0) = g.2 ∙ ap (λ (z : View). after_begin (stepped z H7 (Lock g.0.class) 0)) view7 in
+                  let last : x8 ≡ after_unlock (stepped v7 H7 (Lock g.0.class) 0) = g.2 ∙ ap (λ (z : View). after_unlock (stepped z H7 (Lock g.0.class) 0)) view7 in
                   let seen8 : x8.seen ≡ x4.seen = ap (λ (z : View). z.seen) last ∙ sym (ap (λ (z : View). z.seen) view4) in
                   let from2 : IsPrefix x2.seen c.2.0 = subst (λ (z : View). IsPrefix z.seen c.2.0) view3 c.2.1 in
                   record {
@@ -171,6 +171,6 @@ module _ (capacities : List ℕ) (v : View) (previous : Option ℕ) (slot key : 
                     since = prefix_trans v.seen x2.seen c.2.0 loaded2.seen from2;
                     legal = subst (λ z. IsLegal (updates_of z)) (sym seen8) c.3.legal;
                     number_is = (let p = c.3.position in let half : even / 2 + 1 ≡ length (updates_of x4.seen) = omega arith in half) ∙ ap (λ z. length (updates_of z)) (sym seen8);
-                    view = last ∙ ap (λ (q : Option Commit). record (after_begin (stepped v7 H7 (Lock g.0.class) 0)) { commit = q }) (sym may.finished.4)
+                    view = last ∙ ap (λ (q : Option Commit). record (after_unlock (stepped v7 H7 (Lock g.0.class) 0)) { commit = q }) (sym may.finished.4)
                         ∙ sym (ap (λ (z : View). record v { tickets = v.tickets - 1; hold = None; own = v.own ++ Done (record { caller = v.place; op = Del key }) ∷ []; trail = z.trail; seen = c.2.0 ++ Done (record { caller = v.place; op = Del key }) ∷ Unlinked slot ∷ [] }) last);
                   }

@@ -13,7 +13,7 @@ use Rattle.hash_core.specs.declared.view.View.{View}
 use Rattle.prcu_marks.specs.Marks.{updates_of}
 use Rattle.hash_core.specs.Known.{known_in, knowing}
 use Rattle.hash_core.specs.Slots.{is_slot_of}
-use Rattle.hash_core.specs.Steps.{stepped, NeedsBegin, Needs15, NeedsCountFree, after6, after15, after_count_free, after_begin, fresh_hold}
+use Rattle.hash_core.specs.Steps.{stepped, NeedsUnlock, NeedsReplace, NeedsEven, after_lock, after_replace, after_even, after_unlock, fresh_hold}
 use Rattle.class_hash.specs.Stepped.{Locks, Unlocks, Loads, Turns, Evens, Replaces}
 use Rattle.class_hash.specs.Trails.{AddsNoLists}
 use Rattle.class_hash.specs.Walks.{HasLoaded, KnowsMore}
@@ -29,7 +29,7 @@ not_stepped v = record { trail = adds_none v.trail; view = refl }
 -- a lock that was free
 pub locked : (v w x : View) (class : ℕ) → HasStepped v w → Locks w class 0 x → HasLocked v class x
 locked v w x class idle a =
-    let whole : x ≡ after6 (stepped (record v { trail = w.trail }) H6 (Lock class) 0) class 0 = a ∙ ap (λ (z : View). after6 (stepped z H6 (Lock class) 0) class 0) idle.view in
+    let whole : x ≡ after_lock (stepped (record v { trail = w.trail }) H6 (Lock class) 0) class 0 = a ∙ ap (λ (z : View). after_lock (stepped z H6 (Lock class) 0) class 0) idle.view in
     record {
       trail = subst (λ (z : View). AddsNoLists v.trail z.trail) (sym whole) (adds_step v.trail w.trail H6 (Lock class) 0 refl idle.trail);
       view = whole ∙ sym (ap (λ (z : View). record v { hold = Some (fresh_hold class); trail = z.trail }) whole);
@@ -91,7 +91,7 @@ module _ (capacities : List ℕ) (v x1 x2 : View) (slot key value old even : ℕ
   view2 : x2 ≡ record v { hold = Some (knowing may.hold (Value slot) old); commit = Some (record { found = even; stored = false }); trail = x2.trail; seen = x1.seen }
   view2 = b.view ∙ ap (λ (z : View). record z { commit = Some (record { found = even; stored = false }); trail = x2.trail; seen = x1.seen }) loaded1.view
 
-  pub may_store : (hold : Hold) × Needs15 x2 hold even slot key × (is_slot_of capacities hold.class slot ≡ true)
+  pub may_store : (hold : Hold) × NeedsReplace x2 hold even slot key × (is_slot_of capacities hold.class slot ≡ true)
   may_store = (
     knowing may.hold (Value slot) old,
     record {
@@ -110,24 +110,24 @@ module _ (capacities : List ℕ) (v x1 x2 : View) (slot key value old even : ℕ
     before3 = c.2.0
 
     done : View → Hold → View
-    done z k = after15 (stepped z H15 (Value slot) value) k even slot key value c.2.0
+    done z k = after_replace (stepped z H15 (Value slot) value) k even slot key value c.2.0
 
-    view3 : x3 ≡ after15 (stepped (record v { hold = Some (knowing may.hold (Value slot) old); commit = Some (record { found = even; stored = false }); trail = x2.trail; seen = x1.seen }) H15 (Value slot) value) (knowing may.hold (Value slot) old) even slot key value c.2.0
-    view3 = c.2.2 ∙ ap (λ (k : Hold). after15 (stepped x2 H15 (Value slot) value) k even slot key value c.2.0) same3 ∙ ap (λ (z : View). after15 (stepped z H15 (Value slot) value) (knowing may.hold (Value slot) old) even slot key value c.2.0) view2
+    view3 : x3 ≡ after_replace (stepped (record v { hold = Some (knowing may.hold (Value slot) old); commit = Some (record { found = even; stored = false }); trail = x2.trail; seen = x1.seen }) H15 (Value slot) value) (knowing may.hold (Value slot) old) even slot key value c.2.0
+    view3 = c.2.2 ∙ ap (λ (k : Hold). after_replace (stepped x2 H15 (Value slot) value) k even slot key value c.2.0) same3 ∙ ap (λ (z : View). after_replace (stepped z H15 (Value slot) value) (knowing may.hold (Value slot) old) even slot key value c.2.0) view2
 
-    pub may_even : NeedsCountFree x3 even
+    pub may_even : NeedsEven x3 even
     may_even = ap (λ (z : View). z.commit) view3
 
     module _ (x4 : View) (d : Evens x3 (even + 2) x4) where
-      view4 : x4 ≡ after_count_free (stepped (after15 (stepped (record v { hold = Some (knowing may.hold (Value slot) old); commit = Some (record { found = even; stored = false }); trail = x2.trail; seen = x1.seen }) H15 (Value slot) value) (knowing may.hold (Value slot) old) even slot key value c.2.0) H16 Front (even + 2))
-      view4 = d ∙ ap (λ (z : View). after_count_free (stepped z H16 Front (even + 2))) view3
+      view4 : x4 ≡ after_even (stepped (after_replace (stepped (record v { hold = Some (knowing may.hold (Value slot) old); commit = Some (record { found = even; stored = false }); trail = x2.trail; seen = x1.seen }) H15 (Value slot) value) (knowing may.hold (Value slot) old) even slot key value c.2.0) H16 Front (even + 2))
+      view4 = d ∙ ap (λ (z : View). after_even (stepped z H16 Front (even + 2))) view3
 
-      pub may_unlock : (hold : Hold) × NeedsBegin x4 hold
+      pub may_unlock : (hold : Hold) × NeedsUnlock x4 hold
       may_unlock = (knowing (knowing may.hold (Value slot) old) (Value slot) value, (ap (λ (z : View). z.hold) view4, may.finished.1, may.finished.2, may.finished.3, ap (λ (z : View). z.commit) view4))
 
       pub replaced : (x5 : View) → Unlocks x4 x5 → Replaced v key value old (even / 2 + 1) x5
       replaced x5 e =
-          let last : x5 ≡ after_begin (stepped (after_count_free (stepped (after15 (stepped (record v { hold = Some (knowing may.hold (Value slot) old); commit = Some (record { found = even; stored = false }); trail = x2.trail; seen = x1.seen }) H15 (Value slot) value) (knowing may.hold (Value slot) old) even slot key value c.2.0) H16 Front (even + 2))) H7 (Lock e.0.class) 0) = e.2 ∙ ap (λ (z : View). after_begin (stepped z H7 (Lock e.0.class) 0)) view4 in
+          let last : x5 ≡ after_unlock (stepped (after_even (stepped (after_replace (stepped (record v { hold = Some (knowing may.hold (Value slot) old); commit = Some (record { found = even; stored = false }); trail = x2.trail; seen = x1.seen }) H15 (Value slot) value) (knowing may.hold (Value slot) old) even slot key value c.2.0) H16 Front (even + 2))) H7 (Lock e.0.class) 0) = e.2 ∙ ap (λ (z : View). after_unlock (stepped z H7 (Lock e.0.class) 0)) view4 in
           let seen5 : x5.seen ≡ x3.seen = ap (λ (z : View). z.seen) e.2 ∙ ap (λ (z : View). z.seen) d in
           let from1 : IsPrefix x1.seen c.2.0 = subst (λ (z : View). IsPrefix z.seen c.2.0) view2 c.2.1 in
           record {
@@ -136,6 +136,6 @@ module _ (capacities : List ℕ) (v x1 x2 : View) (slot key value old even : ℕ
             was = c.2.3 old (subst (λ (k : Hold). known_in k.known (Value slot) ≡ Some old) (sym same3) (known_here may.hold (Value slot) old));
             legal = subst (λ z. IsLegal (updates_of z)) (sym seen5) c.3.legal;
             number_is = (let p = c.3.position in let half : even / 2 + 1 ≡ length (updates_of x3.seen) = omega arith in half) ∙ ap (λ z. length (updates_of z)) (sym seen5);
-            view = last ∙ ap (λ (t : Option Commit). record (after_begin (stepped (after_count_free (stepped (after15 (stepped (record v { hold = Some (knowing may.hold (Value slot) old); commit = Some (record { found = even; stored = false }); trail = x2.trail; seen = x1.seen }) H15 (Value slot) value) (knowing may.hold (Value slot) old) even slot key value c.2.0) H16 Front (even + 2))) H7 (Lock e.0.class) 0)) { commit = t }) (sym may.finished.4)
+            view = last ∙ ap (λ (t : Option Commit). record (after_unlock (stepped (after_even (stepped (after_replace (stepped (record v { hold = Some (knowing may.hold (Value slot) old); commit = Some (record { found = even; stored = false }); trail = x2.trail; seen = x1.seen }) H15 (Value slot) value) (knowing may.hold (Value slot) old) even slot key value c.2.0) H16 Front (even + 2))) H7 (Lock e.0.class) 0)) { commit = t }) (sym may.finished.4)
                 ∙ sym (ap (λ (z : View). record v { tickets = v.tickets - 1; hold = None; own = v.own ++ Done (record { caller = v.place; op = Set key value }) ∷ []; trail = z.trail; seen = c.2.0 ++ Done (record { caller = v.place; op = Set key value }) ∷ [] }) last);
           }

@@ -11,7 +11,7 @@ use Rattle.hash_core.specs.declared.view.View.{View}
 use Rattle.hash_core.specs.Memory.{same_field}
 use Rattle.hash_core.specs.Slots.{is_slot_of}
 use Rattle.hash_core.specs.Known.{known_in, knowing, IsWholeWalk, LacksKey, ShowsAbsent, ComesTo, IsOnWalk}
-use Rattle.hash_core.specs.Steps.{stepped, after9}
+use Rattle.hash_core.specs.Steps.{stepped, after_held_load}
 use Rattle.prcu_model.proofs.ListFacts.{prefix_self, prefix_trans}
 use Rattle.class_hash.proofs.Trails.{adds_none, adds_step}
 use Rattle.hash_core.proofs.Stores.{same_self, same_is}
@@ -83,12 +83,12 @@ module _ (capacities : List ℕ) (v : View) (hold : Hold) (w : View) (now : Hold
   pub link_now : IsLinkOf capacities now field n
   link_now = subst (λ (z : Hold). IsLinkOf capacities z field n) same_hold s.3
 
-  after : x ≡ after9 (stepped w H9 field n) now field n s.2.0
-  after = s.2.2 ∙ ap (λ (z : Hold). after9 (stepped w H9 field n) z field n s.2.0) same_hold
+  after : x ≡ after_held_load (stepped w H9 field n) now field n s.2.0
+  after = s.2.2 ∙ ap (λ (z : Hold). after_held_load (stepped w H9 field n) z field n s.2.0) same_hold
 
   pub loaded_more : loads_free H9 field ≡ false → HasLoaded v hold x (knowing now field n)
   loaded_more plain =
-      let there : View = after9 (stepped w H9 field n) now field n s.2.0 in
+      let there : View = after_held_load (stepped w H9 field n) now field n s.2.0 in
       let longer : IsPrefix v.seen s.2.0 = prefix_trans v.seen w.seen s.2.0 loaded.seen s.2.1 in
       record {
         was = loaded.was;

@@ -10,7 +10,8 @@ use Rattle.hash_core.specs.declared.view.Hold.{Hold}
 use Rattle.prcu_marks.specs.Marks.{updates_of, own_of}
 use Rattle.prcu_model.specs.History.{IsLegal}
 use Rattle.hash_core.specs.declared.view.View.{View}
-use Rattle.hash_core.specs.Seats.{HasHeard, AnswersFor}
+use Rattle.hash_core.specs.Marks.{AreMarks, ReuseByClass}
+use Rattle.hash_core.specs.Seats.{HasHeard, HasPlace, AnswersFor}
 use Rattle.hash_core.specs.Slots.{capacity, is_slot_of}
 use Rattle.hash_core.specs.Pairs.{HasPairs}
 use Rattle.prcu_model.specs.Dictionary.{map_of}
@@ -29,13 +30,17 @@ pub record GivesAnswer (seen : List Mark) (section : Section) : Type 0 where
 abbrev pub StandsInClass : List ℕ → Section → Type 0
 StandsInClass capacities section = (slot : ℕ) → StandsAt section.state slot → is_slot_of capacities (section.key % 64) slot ≡ true
 
--- What a seat has seen, which works at a place: its updates are a history; the marks of each place for which it answers are
--- those that it has; and places that the table hasn't have none.
-pub record IsInformed (places : ℕ) (v : View) : Type 0 where
+-- What a seat has seen, which works at a place: its updates are a history, its marks stand in order, and slots were used again by
+-- class; the marks of each place for which it answers are those that it has, none of its unused places; and places that the table
+-- hasn't have none.
+pub record IsInformed (capacities : List ℕ) (places : ℕ) (v : View) : Type 0 where
   pub works : 1 ≤ v.places
   pub heard : HasHeard v
   pub legal : IsLegal (updates_of v.seen)
+  pub marks : AreMarks places v.seen
+  pub reuse : ReuseByClass capacities v.seen
   pub met : (p : ℕ) → AnswersFor v p → own_of p v.seen ≡ own_of p v.own
+  pub unused : (p : ℕ) → HasPlace v p → p ≢ v.place → own_of p v.own ≡ []
   pub within : (p : ℕ) → places ≤ p → own_of p v.seen ≡ []
 
 -- The number is a place of the table plus 1, and this view doesn't answer for that place.

@@ -8,7 +8,7 @@ use Rattle.hash_core.specs.declared.words.Kind.TheVariants.{H8, H9, H10}
 use Rattle.hash_core.specs.declared.view.Hold.{Hold}
 use Rattle.hash_core.specs.declared.view.View.{View}
 use Rattle.hash_core.specs.Known.{known_in, knowing}
-use Rattle.hash_core.specs.Steps.{stepped, NeedsBegin}
+use Rattle.hash_core.specs.Steps.{stepped, NeedsUnlock}
 use Rattle.class_hash.specs.declared.bucket.Lock.{Lock}
 use Rattle.class_hash.specs.declared.bucket.Lock.TheVariants.{Held, Busy}
 use Rattle.class_hash.specs.declared.bucket.Poll.{Poll}
@@ -23,7 +23,7 @@ Tries places v class (Busy found) w = IsPlaceOfOther places v found × Locks v c
 
 -- a bucket's lock is held, and what was begun there is finished
 abbrev pub HasFinished : View → Type 0
-HasFinished v = (hold : Hold) × NeedsBegin v hold
+HasFinished v = (hold : Hold) × NeedsUnlock v hold
 
 -- The free and then the retired word of the class were loaded. Where both are 0, the class is full.
 pub record Lists (capacities : List ℕ) (v : View) (free retired : ℕ) (w : View) : Type 0 where
@@ -39,7 +39,7 @@ pub record Lists (capacities : List ℕ) (v : View) (free retired : ℕ) (w : Vi
 -- What was begun is finished. The free list was last known to be empty, and the retired list not to be.
 pub record MayPoll (v : View) : Type 0 where
   pub hold : Hold
-  pub finished : NeedsBegin v hold
+  pub finished : NeedsUnlock v hold
   pub free : known_in hold.known (Free hold.class) ≡ Some 0
   pub first : ℕ
   pub some : first ≢ 0

@@ -40,7 +40,7 @@ Makes capacities v (Set key value) told w = Sets v key value told w
 pub record HasCalled (before : ClientAt) (op : Op) (told : Told) (after : ClientAt) : Type 0 where
   pub table : after.table ≡ before.table
   pub makes : Makes before.table.capacities before.view op told after.view
-  pub informed : IsInformed before.table.places after.view
+  pub informed : IsInformed before.table.capacities before.table.places after.view
 
 -- The dictionary at which an operation is given this reply, and changes nothing. A put is told that no slot is left where the key
 -- is absent and its class has as many pairs as slots. All other replies are those of a plain dictionary.
@@ -50,6 +50,6 @@ ExplainsInClasses capacities m op reply = Explains (record { scripts = 0; slots 
 
 -- Of a client whose place had made no update, the calls so far tell of lines that fit the updates that it has seen.
 abbrev pub ChainsMeetFronts : Type 0
-ChainsMeetFronts = (ops : List Op) (tolds : List Told) (before after : ClientAt) → IsInformed before.table.places before.view
+ChainsMeetFronts = (ops : List Op) (tolds : List Told) (before after : ClientAt) → IsInformed before.table.capacities before.table.places before.view
     → own_updates before.view.place (updates_of before.view.seen) ≡ [] → IsChain HasCalled before ops tolds after
     → MeetsFronts (ExplainsInClasses before.table.capacities) (updates_of after.view.seen) before.view.place (told_lines ops tolds)

@@ -11,13 +11,13 @@ use Rattle.prcu_marks.specs.Marks.{updates_of}
 use Rattle.prcu_model.specs.Dictionary.{WasSaid}
 use Rattle.hash_core.specs.Steps.{link_stand}
 use Rattle.hash_core.specs.Slots.{is_slot_of}
-use Rattle.class_hash.specs.Trails.{LoadNoLists}
+use Rattle.class_hash.specs.Trails.{HasBegunLookup, IsLookup}
 
--- A section with the key was entered after these marks, and its search stands there.
+-- A section with the key was entered after these marks, and its search stands there. There were loads in it alone since then.
 pub record IsSearching (v : View) (key : ℕ) (state : SearchState) (loaded : Option ℕ) (w : View) : Type 0 where
   pub before : List Mark
   pub steps : List StepMade
-  pub plain : LoadNoLists steps
+  pub made : HasBegunLookup key steps
   pub since : IsPrefix v.seen before
   pub view : w ≡ record v {
     section = Some (record { key = key; count = v.sections; entered = length before; from = length (updates_of before); state = state; loaded = loaded });
@@ -32,12 +32,12 @@ pub record IsAtLink (capacities : List ℕ) (v : View) (key link : ℕ) (w : Vie
   pub searching : IsSearching v key (link_stand link) None w
   pub slot : link ≢ 0 → is_slot_of capacities (key % 64) link ≡ true
 
--- A section with the key was entered and left. The dictionary gave the answer at a front in between.
+-- A section with the key was entered and left, with loads in it alone. The dictionary gave the answer at a front in between.
 pub record Looked (v : View) (key : ℕ) (answer : Option ℕ) (w : View) : Type 0 where
   pub before : List Mark
   pub until : List Mark
   pub steps : List StepMade
-  pub plain : LoadNoLists steps
+  pub made : IsLookup key steps
   pub since : IsPrefix v.seen before
   pub within : IsPrefix (before ++ Entered v.place v.sections key ∷ []) until
   pub view : w ≡ record v {

@@ -12,7 +12,7 @@ use Rattle.hash_core.specs.declared.view.View.{View}
 use Rattle.prcu_marks.specs.Marks.{updates_of}
 use Rattle.hash_core.specs.Slots.{is_slot_of}
 use Rattle.hash_core.specs.Known.{known_in, ShowsAbsent}
-use Rattle.hash_core.specs.Steps.{NeedsBegin}
+use Rattle.hash_core.specs.Steps.{NeedsUnlock}
 use Rattle.class_hash.specs.Stepped.{Unlocks}
 use Rattle.class_hash.specs.Trails.{AddsNoLists}
 use Rattle.class_hash.specs.Calls.{Lists, polled}
@@ -41,7 +41,7 @@ pub record HasFree (capacities : List ℕ) (v : View) (slot : ℕ) (w : View) : 
   pub hold : Hold
   pub new : Hold
   pub was : v.hold ≡ Some hold
-  pub finished : NeedsBegin w new
+  pub finished : NeedsUnlock w new
   pub class : new.class ≡ hold.class
   pub first : known_in new.known (Free new.class) ≡ Some slot
   pub slot_is : is_slot_of capacities hold.class slot ≡ true
@@ -53,7 +53,7 @@ pub record HasFree (capacities : List ℕ) (v : View) (slot : ℕ) (w : View) : 
 -- Under the lock of the key's class, with nothing begun, the walk shows the key absent; and a ticket is left.
 pub record MayAdd (v : View) (key : ℕ) : Type 0 where
   pub hold : Hold
-  pub finished : NeedsBegin v hold
+  pub finished : NeedsUnlock v hold
   pub class : key % 64 ≡ hold.class
   pub absent : ShowsAbsent hold key
   pub ticket : 1 ≤ v.tickets
@@ -61,7 +61,7 @@ pub record MayAdd (v : View) (key : ℕ) : Type 0 where
 -- The first free slot is known besides.
 pub record MayFill (capacities : List ℕ) (v : View) (slot key : ℕ) : Type 0 where
   pub hold : Hold
-  pub finished : NeedsBegin v hold
+  pub finished : NeedsUnlock v hold
   pub class : key % 64 ≡ hold.class
   pub absent : ShowsAbsent hold key
   pub ticket : 1 ≤ v.tickets

@@ -18,14 +18,14 @@ Seated = Me Nothing View
 abbrev At : Type 0
 At = Step Nothing
 
-abbrev pub told2 : ℕ → At → Seated → ℕ → Seated → Type 0
-told2 places st me found me' = (me'.1 ≡ me.1) × (me'.0 ≡ stepped me.0 H2 Front found) × (me'.0.tickets ≤ most_tickets) × IsInformed places me'.0
+abbrev pub told2 : List ℕ → ℕ → At → Seated → ℕ → Seated → Type 0
+told2 capacities places st me found me' = (me'.1 ≡ me.1) × (me'.0 ≡ stepped me.0 H2 Front found) × (me'.0.tickets ≤ most_tickets) × IsInformed capacities places me'.0
 
 abbrev pub told3 : ℕ → At → Seated → ℕ → Seated → Type 0
 told3 key st me found me' = (me'.1 ≡ me.1) × Enters me.0 key found me'.0
 
-abbrev pub told4 : ℕ → At → Seated → ℕ → Seated → Type 0
-told4 places st me found me' = (me'.1 ≡ me.1) × Leaves me.0 found me'.0 × IsInformed places me'.0
+abbrev pub told4 : List ℕ → ℕ → At → Seated → ℕ → Seated → Type 0
+told4 capacities places st me found me' = (me'.1 ≡ me.1) × Leaves me.0 found me'.0 × IsInformed capacities places me'.0
 
 abbrev pub told5 : List ℕ → Field → At → Seated → ℕ → Seated → Type 0
 told5 capacities field st me found me' = (me'.1 ≡ me.1) × Searches capacities me.0 field found me'.0
@@ -33,8 +33,8 @@ told5 capacities field st me found me' = (me'.1 ≡ me.1) × Searches capacities
 abbrev pub told6 : ℕ → ℕ → At → Seated → ℕ → Seated → Type 0
 told6 places class st me found me' = (me'.1 ≡ me.1) × Locks me.0 class found me'.0 × (me.0.commit ≡ None) × IsHeldByOther places me.0 found
 
-abbrev pub told7 : ℕ → At → Seated → ℕ → Seated → Type 0
-told7 places st me found me' = (me'.1 ≡ me.1) × Unlocks me.0 me'.0 × IsInformed places me'.0
+abbrev pub told7 : List ℕ → ℕ → At → Seated → ℕ → Seated → Type 0
+told7 capacities places st me found me' = (me'.1 ≡ me.1) × Unlocks me.0 me'.0 × IsInformed capacities places me'.0
 
 abbrev pub told8 : At → Seated → ℕ → Seated → Type 0
 told8 st me found me' = (me'.1 ≡ me.1) × LoadsReaders me.0 found me'.0

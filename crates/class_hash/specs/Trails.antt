@@ -1,12 +1,27 @@
 -- Steps that are made one after another.
 -- Source: docs/ALGORITHM.md, "The calls of the hash dictionary".
-use Rattle.std.specs.Prelude.{◌≡◌, ℕ, Bool, true, false, List, ◌∷◌, ◌++◌}
+use Rattle.std.specs.Prelude.{◌≡◌, ℕ, ◌%◌, Bool, true, false, List, [], ◌∷◌, ◌++◌}
 use Rattle.std.specs.List.{AllByRecursion}
 use Rattle.hash_core.specs.declared.words.Field.{Field}
-use Rattle.hash_core.specs.declared.words.Field.TheVariants.{Free, Retired}
+use Rattle.hash_core.specs.declared.words.Field.TheVariants.{Readers, Free, Retired}
 use Rattle.hash_core.specs.declared.words.Kind.{Kind}
-use Rattle.hash_core.specs.declared.words.Kind.TheVariants.{H9}
+use Rattle.hash_core.specs.declared.words.Kind.TheVariants.{H3, H4, H5, H9}
 use Rattle.hash_core.specs.declared.view.StepMade.{StepMade}
+
+-- The steps of a lookup so far: a section was entered for the key, and then there were loads in it alone.
+pub record HasBegunLookup (key : ℕ) (steps : List StepMade) : Type 0 where
+  pub entry : ℕ
+  pub loads : List StepMade
+  pub inside : AllByRecursion (λ (step : StepMade). step.kind ≡ H5) loads
+  pub are : steps ≡ record { kind = H3; field = Readers (key % 64); number = entry } ∷ loads
+
+-- The steps of a whole lookup: a section was entered for the key, there were loads in it alone, and it was left. So no lock was
+-- taken, and no word but the readers of the key's class was changed.
+pub record IsLookup (key : ℕ) (steps : List StepMade) : Type 0 where
+  pub begun : List StepMade
+  pub first : HasBegunLookup key begun
+  pub exit : ℕ
+  pub are : steps ≡ begun ++ record { kind = H4; field = Readers (key % 64); number = exit } ∷ []
 
 -- whether a step loads the free word of a class under its lock, as who loads both lists does first
 abbrev pub loads_free : Kind → Field → Bool

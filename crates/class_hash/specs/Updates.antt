@@ -15,7 +15,7 @@ use Rattle.hash_core.specs.declared.view.View.{View}
 use Rattle.prcu_marks.specs.Marks.{updates_of}
 use Rattle.hash_core.specs.Slots.{is_slot_of, IsOfClass}
 use Rattle.hash_core.specs.Known.{known_in, IsOnWalk}
-use Rattle.hash_core.specs.Steps.{fresh_hold, NeedsBegin}
+use Rattle.hash_core.specs.Steps.{fresh_hold, NeedsUnlock}
 use Rattle.class_hash.specs.Trails.{AddsNoLists}
 use Rattle.class_hash.specs.Walks.{IsFoundAt}
 
@@ -38,7 +38,7 @@ pub record HasTurned (v : View) (even : ℕ) (w : View) : Type 0 where
 -- Under the lock, with nothing begun, the slot is on the known walk and has the key; and a ticket is left.
 pub record MayReplace (capacities : List ℕ) (v : View) (slot key : ℕ) : Type 0 where
   pub hold : Hold
-  pub finished : NeedsBegin v hold
+  pub finished : NeedsUnlock v hold
   pub on : IsOnWalk hold slot
   pub key_is : known_in hold.known (Key slot) ≡ Some key
   pub slot_is : is_slot_of capacities hold.class slot ≡ true
@@ -68,7 +68,7 @@ link_after class (Some slot) = Next slot
 -- Under the lock, with nothing begun, the slot was found on the known walk, from a link of the class; and a ticket is left.
 pub record MayUnlink (capacities : List ℕ) (v : View) (previous : Option ℕ) (slot key : ℕ) : Type 0 where
   pub hold : Hold
-  pub finished : NeedsBegin v hold
+  pub finished : NeedsUnlock v hold
   pub found : IsFoundAt key hold previous slot
   pub link : IsOfClass capacities hold.class (link_after hold.class previous)
   pub slot_is : is_slot_of capacities hold.class slot ≡ true

@@ -50,7 +50,7 @@ pub fn free_bucket(table: &HashTable, seat: &mut HashSeat)
     requires finished { HasFinished seat.old.view }
     ensures table { seat.new.table ≡ seat.old.table }
     ensures view { Unlocks seat.old.view seat.new.view }
-    ensures informed { IsInformed table.now.places seat.new.view }
+    ensures informed { IsInformed table.now.capacities table.now.places seat.new.view }
 {
     h7(table, seat);
 }
@@ -70,6 +70,9 @@ pub fn lists(table: &HashTable, seat: &mut HashSeat) -> (u64, u64)
 
 /// Looks once for readers of the bucket's class. `Over` comes exactly where there is none: the retired list, whose slots
 /// none can come to now, is then the free list. `NotYet` names how many there are, at least 1, and nothing changed.
+///
+/// What was begun under the lock is to be finished, as each call leaves it: the retired list is in the seat's hand between the two
+/// stores that move it, and a hand holds one list at a time. So a lock that is held after it may be given up, as before it.
 pub fn poll_class(table: &HashTable, seat: &mut HashSeat) -> Poll
     requires table { seat.old.table ≡ table.now.id }
     requires lists { MayPoll seat.old.view }

@@ -38,7 +38,7 @@ pub fn get<R: Wait>(rt: &R, table: &HashTable, seat: &mut HashSeat, key: u64) ->
     requires quiet { IsQuiet seat.old.view }
     ensures table { seat.new.table ≡ seat.old.table }
     ensures view { Gets seat.old.view key result seat.new.view }
-    ensures informed { IsInformed table.now.places seat.new.view }
+    ensures informed { IsInformed table.now.capacities table.now.places seat.new.view }
     ensures quiet { IsQuiet seat.new.view }
 {
     match search(rt, table, seat, key) {
@@ -57,7 +57,7 @@ pub fn put<R: Wait>(rt: &R, table: &HashTable, seat: &mut HashSeat, key: u64, va
     ensures table { seat.new.table ≡ seat.old.table }
     ensures view { Puts table.now.capacities seat.old.view key value result seat.new.view }
     ensures full { (result.reply ≡ Full) ↔ LoadsBothEmpty (key % 64) seat.old.view.trail seat.new.view.trail }
-    ensures informed { IsInformed table.now.places seat.new.view }
+    ensures informed { IsInformed table.now.capacities table.now.places seat.new.view }
     ensures quiet { IsQuiet seat.new.view }
 {
     for _ in rt.forever() {
@@ -81,7 +81,7 @@ pub fn set<R: Wait>(rt: &R, table: &HashTable, seat: &mut HashSeat, key: u64, va
     requires ticket { 1 ≤ seat.old.view.tickets }
     ensures table { seat.new.table ≡ seat.old.table }
     ensures view { Sets seat.old.view key value result seat.new.view }
-    ensures informed { IsInformed table.now.places seat.new.view }
+    ensures informed { IsInformed table.now.capacities table.now.places seat.new.view }
     ensures quiet { IsQuiet seat.new.view }
 {
     for _ in rt.forever() {
@@ -106,7 +106,7 @@ pub fn del<R: Wait>(rt: &R, table: &HashTable, seat: &mut HashSeat, key: u64) ->
     requires ticket { 1 ≤ seat.old.view.tickets }
     ensures table { seat.new.table ≡ seat.old.table }
     ensures view { Dels seat.old.view key result seat.new.view }
-    ensures informed { IsInformed table.now.places seat.new.view }
+    ensures informed { IsInformed table.now.capacities table.now.places seat.new.view }
     ensures quiet { IsQuiet seat.new.view }
 {
     for _ in rt.forever() {

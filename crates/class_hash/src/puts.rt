@@ -82,7 +82,7 @@ fn link<R: Wait>(
     ensures table { seat.new.table ≡ seat.old.table }
     ensures view { Linked seat.old.view key value result seat.new.view }
     ensures trail { AddsNoLists seat.old.view.trail seat.new.view.trail }
-    ensures informed { IsInformed table.now.places seat.new.view }
+    ensures informed { IsInformed table.now.capacities table.now.places seat.new.view }
 {
     let even = open_commit(rt, table, seat);
     h13(table, seat, even, slot, key, value);
@@ -105,7 +105,7 @@ pub(crate) fn add<R: Wait>(
     ensures table { seat.new.table ≡ seat.old.table }
     ensures full { IfNone result (LeavesFull table.now.capacities seat.old.view seat.new.view) }
     ensures added { IfSome result (λ number. Added table.now.capacities seat.old.view key value number seat.new.view) }
-    ensures informed { IsInformed table.now.places seat.new.view }
+    ensures informed { IsInformed table.now.capacities table.now.places seat.new.view }
 {
     let free = find_free(rt, table, seat);
     if free == 0 {

@@ -24,7 +24,7 @@ pub(crate) fn search<R: Wait>(
     requires quiet { IsQuiet seat.old.view }
     ensures table { seat.new.table ≡ seat.old.table }
     ensures view { Looked seat.old.view key result seat.new.view }
-    ensures informed { IsInformed table.now.places seat.new.view }
+    ensures informed { IsInformed table.now.capacities table.now.places seat.new.view }
 {
     h3(table, seat, key);
     let answer = walk_unlocked(rt, table, seat, key);

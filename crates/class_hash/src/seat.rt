@@ -114,7 +114,8 @@ impl HashSeat {
         }
     }
 
-    /// The second seat gets the last `places` unused places and `tickets` tickets. It has seen what this one has.
+    /// The second seat gets the last `places` unused places and `tickets` tickets. It has seen what this one has. Where this one is
+    /// informed, as `new` and each call leave it, so are both.
     pub fn split(self, table: &HashTable, places: u32, tickets: u64) -> (HashSeat, HashSeat)
         requires table { self.table ≡ table.now.id }
         requires quiet { IsQuiet self.view }
@@ -122,6 +123,7 @@ impl HashSeat {
         requires tickets { tickets ≤ self.view.tickets }
         ensures table { (result.0.table ≡ self.table) × (result.1.table ≡ self.table) }
         ensures views { (result.0.view ≡ first_of places tickets self.view) × (result.1.view ≡ second_of places tickets self.view) }
+        ensures informed { IsInformed table.now.capacities table.now.places self.view → IsInformed table.now.capacities table.now.places result.0.view × IsInformed table.now.capacities table.now.places result.1.view }
     {
         cut::<Brand>(self, table, places, tickets)
     }
@@ -134,19 +136,19 @@ impl HashSeat {
         ensures table { result.table ≡ self.table }
         ensures view { (front : ℕ) × (result.view ≡ stepped (both_of self.view other.view) H2 Front front) }
         ensures seen { IsPrefix self.view.seen result.view.seen × IsPrefix other.view.seen result.view.seen }
-        ensures informed { IsInformed table.now.places result.view }
+        ensures informed { IsInformed table.now.capacities table.now.places result.view }
     {
         glued::<Brand>(self, table, other)
     }
 }
 
 fn glued<A: Detail>(mine: HashSeat, table: &HashTable, other: HashSeat) -> HashSeat
-    requires picked { A.places ≡ table.now.places }
+    requires picked { (A.capacities ≡ table.now.capacities) × (A.places ≡ table.now.places) }
     requires table { (mine.table ≡ table.now.id) × (other.table ≡ table.now.id) }
     requires quiet { IsQuiet mine.view × IsQuiet other.view }
     ensures table { result.table ≡ mine.table }
     ensures view { (front : ℕ) × (result.view ≡ stepped (both_of mine.view other.view) H2 Front front) }
-    ensures informed { IsInformed table.now.places result.view }
+    ensures informed { IsInformed table.now.capacities table.now.places result.view }
 {
     let HashSeat {
         mut seat,

@@ -26,7 +26,7 @@ pub fn leave(table: &HashTable, seat: &mut HashSeat)
     requires inside { (section : Section) × (seat.old.view.section ≡ Some section) }
     ensures table { seat.new.table ≡ seat.old.table }
     ensures view { (found : ℕ) × Leaves seat.old.view found seat.new.view }
-    ensures informed { IsInformed table.now.places seat.new.view }
+    ensures informed { IsInformed table.now.capacities table.now.places seat.new.view }
 {
     h4(table, seat);
 }

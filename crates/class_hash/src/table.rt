@@ -2,6 +2,7 @@
 ghost use Rattle.std.specs.Prelude.{◌≡◌, ◌+◌, ◌*◌, ◌^◌, ◌<◌, ◌≤◌, ◌∷◌, ◌++◌, [], IfOk, length, sum};
 ghost use Rattle.hash_core.specs.Slots.{base};
 ghost use Rattle.class_hash.specs.Fresh.{IsFresh, first_link, next_link, fresh_seat};
+ghost use Rattle.class_hash.specs.Answers.{IsInformed};
 ghost use Rattle.class_hash.specs.Added.{HasClasses, HasSlots, HasClassSlots};
 
 use crate::rule::{Nothing, Ruled};
@@ -136,6 +137,7 @@ impl HashTable {
         requires places { (1 ≤ places) × (places ≤ 64) }
         requires tickets { tickets ≤ 2 ^ 40 }
         ensures made { IfOk result (λ made. (made.0.capacities ≡ capacities.now) × (made.0.places ≡ places) × (made.0.tickets ≡ tickets) × (made.1 ≡ fresh_seat made.0)) }
+        ensures informed { IfOk result (λ made. IsInformed made.0.capacities made.0.places made.1.view) }
     {
         let shape = Shape {
             capacities: capacities.to_vec(alloc)?,

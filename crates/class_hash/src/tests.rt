@@ -1,5 +1,6 @@
 //! What no clause says: that a table is made, that it may cross threads, and what its calls answer together.
 use super::*;
+use prcu_marks::{Gate, OpenGate};
 use prcu_model::{Reply, Told};
 use std::test::Fail;
 
@@ -14,10 +15,18 @@ fn is_send<T: Send>() {}
 fn is_sync<T: Sync>() {}
 
 #[test]
-fn a_table_and_its_seats_cross_threads() {
+fn a_table_its_seats_and_clients_cross_threads() {
     is_send::<HashTable>();
     is_sync::<HashTable>();
     is_send::<HashSeat>();
+    a_client_crosses_threads::<OpenGate>();
+    is_send::<Lock>();
+    is_send::<Poll>();
+}
+
+// A client may cross threads where its gate may be shared by them.
+fn a_client_crosses_threads<G: Gate + Sync + 'static>() {
+    is_send::<HashClient<'static, G>>();
 }
 
 #[test]

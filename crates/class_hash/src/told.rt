@@ -45,7 +45,7 @@ pub(crate) struct Told2<A> {
 }
 
 impl<A: Detail> Play<Nothing, View> for Told2<A> {
-    ghost then = { told2 A.places };
+    ghost then = { told2 A.capacities A.places };
 }
 
 /// What a step is of: a number, its field and slot, the key, value and even front of an update, how many slots the classes
@@ -105,7 +105,7 @@ pub(crate) struct Told4<A> {
 }
 
 impl<A: Detail> Play<Nothing, View> for Told4<A> {
-    ghost then = { told4 A.places };
+    ghost then = { told4 A.capacities A.places };
 }
 
 pub(crate) struct Told5<A> {
@@ -129,7 +129,7 @@ pub(crate) struct Told7<A> {
 }
 
 impl<A: Detail> Play<Nothing, View> for Told7<A> {
-    ghost then = { told7 A.places };
+    ghost then = { told7 A.capacities A.places };
 }
 
 pub(crate) struct Told8;

@@ -65,7 +65,7 @@ pub(crate) fn replace<R: Wait>(
     requires case { MayReplace table.now.capacities seat.old.view slot key }
     ensures table { seat.new.table ≡ seat.old.table }
     ensures view { Replaced seat.old.view key value result.0 result.1 seat.new.view }
-    ensures informed { IsInformed table.now.places seat.new.view }
+    ensures informed { IsInformed table.now.capacities table.now.places seat.new.view }
 {
     let old = h9(table, seat, Field::Value { slot });
     let even = open_commit(rt, table, seat);
@@ -98,7 +98,7 @@ pub(crate) fn unlink<R: Wait>(
     requires case { MayUnlink table.now.capacities seat.old.view previous slot key }
     ensures table { seat.new.table ≡ seat.old.table }
     ensures view { Removed seat.old.view key result seat.new.view }
-    ensures informed { IsInformed table.now.places seat.new.view }
+    ensures informed { IsInformed table.now.capacities table.now.places seat.new.view }
 {
     let class = seat.class_held();
     let next = h9(table, seat, Field::Next { slot });

@@ -4,7 +4,7 @@ use Rattle.std.proofs.lemmas.List.{take-append-le}
 use Rattle.prcu_marks.specs.declared.mark.Mark.{Mark}
 use Rattle.prcu_marks.specs.declared.mark.Mark.TheVariants.{Entered, Left, Began, Ended, Done, Given, Unlinked, Freed}
 use Rattle.prcu_marks.specs.Marks.{Open, next_open, open_at, next_gone, gone_at}
-use Rattle.hash_core.specs.Marks.{ReuseByClass}
+use Rattle.hash_core.specs.Marks.{last_unlinked, ReuseByClass}
 use Rattle.list_laws.proofs.Lists.{at_below, at_end}
 use Rattle.prcu_marks.proofs.MarkLists.{open_at-snoc, gone_at-snoc}
 
@@ -67,7 +67,7 @@ reuse_more capacities h m none reuse j s c i p o given of gone there class =
       | inl old ↦
           let below = at_below h j (Given s) old in
           let same : take j (h ++ m ∷ []) ≡ take j h = (let le : j ≤ length h = omega arith in take-append-le j h (m ∷ []) le) in
-          reuse j s c i p o old of (ap (gone_at s) (sym same) ∙ gone) (ap (open_at p) (sym same) ∙ there) class
+          reuse j s c i p o old of (ap (last_unlinked s) (sym same) ∙ gone) (ap (open_at p) (sym same) ∙ there) class
       | inr new ↦ absurd (none s new.1)
     ]
 

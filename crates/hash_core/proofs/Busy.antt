@@ -113,6 +113,7 @@ module _ (vs vs' : List View) (busy : SameBusy vs vs') where
     turned = turned_busy m (length (updates_of h)) r.turned;
     tickets_are = ap (λ n. length (updates_of h) + n) same ∙ r.tickets_are;
     legal = r.legal;
+    marks = r.marks;
     reuse = r.reuse;
     bucket = r.bucket;
     buckets = λ c small. bucket_busy capacities c m h (updates_of h) (r.bucket c) (r.buckets c small);

@@ -10,7 +10,7 @@ use native.Mathlib.Decide.{dec_le, ℕ_discrete}
 use lib.ListN.{get_elem?}
 use Rattle.hash_core.specs.declared.words.Field.TheVariants.{Free, Chain}
 use Rattle.hash_core.specs.declared.view.View.{View}
-use Rattle.list_laws.specs.Counts.{times}
+use Rattle.list_laws.specs.Counts.{times, numbers_from}
 use Rattle.hash_core.specs.Lists.{IsPath}
 use Rattle.hash_core.specs.Memory.{Memory, memory_of}
 use Rattle.hash_core.specs.Slots.{capacity, base, is_slot_of}
@@ -19,12 +19,10 @@ use Rattle.hash_core.specs.Buckets.{Bucket, HoldsOther, IsFreeOfReaders}
 use Rattle.prcu_model.specs.Dictionary.{WasSaid}
 use Rattle.hash_core.specs.Readers.{WillAnswer}
 use Rattle.hash_core.specs.Seats.{HasHeard, AnswersFor, open_of, HasNoCommit}
-use Rattle.hash_core.specs.Steps.{places_from}
 use Rattle.hash_core.specs.Fresh.{first_view, first_slot, slot_after, IsFresh}
 use Rattle.hash_core.specs.Rule.{BucketRule, IsShape, MemoryRule}
-use Rattle.list_laws.proofs.Lists.{times_here, times_other, all_from_times}
+use Rattle.list_laws.proofs.Lists.{times_from, from_times, all_from_times}
 use Rattle.hash_core.proofs.Classes.{slot_bounds, slot_within}
-use Rattle.hash_core.proofs.Splits.{times_from, from_times}
 
 -- a fact of the one element of a list
 each_one : {A : Type 0} (P : ℕ → A → Type 0) (a : A) → P 0 a → (j : ℕ) (b : A) → get_elem? (a ∷ []) j ≡ some b → P j b
@@ -33,7 +31,7 @@ each_one P a mine (suc j) b e = absurd (some-ne-none b (sym e))
 
 -- numbers in their order lead from one to the next
 path_from : (next : ℕ → ℕ) (n first link : ℕ) → 1 ≤ first → (n ≡ 0 → link ≡ 0) → (1 ≤ n → link ≡ first) → ((s : ℕ) → first ≤ s → s + 1 < first + n → next s ≡ s + 1) → ((s : ℕ) → 1 ≤ n → s + 1 ≡ first + n → next s ≡ 0)
-    → IsPath next link (places_from first n)
+    → IsPath next link (numbers_from first n)
 path_from next zero first link some_slot none begins goes ends = none refl
 path_from next (suc n) first link some_slot none begins goes ends = (
   begins (omega arith),
@@ -41,22 +39,12 @@ path_from next (suc n) first link some_slot none begins goes ends = (
   path_from next n (first + 1) (next first) (omega arith) (λ e. ends first (omega arith) (omega arith)) (λ more. goes first (omega arith) (omega arith)) (λ s low high. goes s (omega arith) (omega arith)) (λ s more e. ends s (omega arith) (omega arith)),
 )
 
-times_once : (q n first : ℕ) → times q (places_from first n) ≤ 1
-times_once q zero first = omega arith
-times_once q (suc n) first =
-    let rest = times_once q n (first + 1) in
-    dite (ℕ_discrete first q)
-    (λ e.
-    let here : times q (first ∷ places_from (first + 1) n) ≡ 1 + times q (places_from (first + 1) n) = subst (λ z. times z (first ∷ places_from (first + 1) n) ≡ 1 + times z (places_from (first + 1) n)) e (times_here first (places_from (first + 1) n)) in
-    dite (dec_le 1 (times q (places_from (first + 1) n))) (λ again. absurd (let low = (times_from q (first + 1) n again).0 in omega arith)) (λ no_more. omega arith))
-    (λ ne. let other = times_other q first (places_from (first + 1) n) ne in omega arith)
-
 module _ (capacities : List ℕ) (places tickets : ℕ) (shape : IsShape capacities places tickets) (m : Memory) (fresh : IsFresh capacities m) where
   abbrev one_view : List View
   one_view = first_view places tickets ∷ []
 
   abbrev first_bucket : ℕ → Bucket
-  first_bucket c = record { chain = []; free = places_from (base capacities c + 1) (capacity capacities c); retired = []; moved = []; hold = None }
+  first_bucket c = record { chain = []; free = numbers_from (base capacities c + 1) (capacity capacities c); retired = []; moved = []; hold = None }
 
   each_view : (P : ℕ → View → Type 0) → P 0 (first_view places tickets) → (j : ℕ) (u : View) → get_elem? one_view j ≡ some u → P j u
   each_view P = each_one P (first_view places tickets)
@@ -65,7 +53,7 @@ module _ (capacities : List ℕ) (places tickets : ℕ) (shape : IsShape capacit
     is_slot : (s : ℕ) → base capacities c + 1 ≤ s → s < base capacities c + 1 + capacity capacities c → is_slot_of capacities c s ≡ true
     is_slot s low high = and_from _ _ (lt-ltb (base capacities c) s (omega arith)) (le-leb s (base capacities c + capacity capacities c) (omega arith))
 
-    free_path : IsPath (λ s. m (Chain s)) (m (Free c)) (places_from (base capacities c + 1) (capacity capacities c))
+    free_path : IsPath (λ s. m (Chain s)) (m (Free c)) (numbers_from (base capacities c + 1) (capacity capacities c))
     free_path =
         let room : ℕ = capacity capacities c in
         let before : ℕ = base capacities c in
@@ -75,15 +63,14 @@ module _ (capacities : List ℕ) (places tickets : ℕ) (shape : IsShape capacit
         (λ s low high. fresh.chains c s small (is_slot s low (omega arith)) ∙ ap (λ b. cond b 0 (s + 1)) (ne_eqb s (before + room) (λ e. omega arith)))
         (λ s some_slot last. fresh.chains c s small (is_slot s (omega arith) (omega arith)) ∙ ap (λ b. cond b 0 (s + 1)) (eq-eqb s (before + room) (omega arith)))
 
-    once_free : (x : ℕ) → times x (places_from (base capacities c + 1) (capacity capacities c)) ≡ cond (is_slot_of capacities c x) 1 0
+    once_free : (x : ℕ) → times x (numbers_from (base capacities c + 1) (capacity capacities c)) ≡ cond (is_slot_of capacities c x) 1 0
     once_free x = once_case (is_slot_of capacities c x) refl
       where
-        once_case : (t : Bool) → is_slot_of capacities c x ≡ t → times x (places_from (base capacities c + 1) (capacity capacities c)) ≡ cond t 1 0
+        once_case : (t : Bool) → is_slot_of capacities c x ≡ t → times x (numbers_from (base capacities c + 1) (capacity capacities c)) ≡ cond t 1 0
         once_case true is =
             let bounds = slot_bounds capacities c x is in let low = bounds.0 in let high = bounds.1 in
-            let there = from_times x (base capacities c + 1) (capacity capacities c) (omega arith) (omega arith) in
-            let once = times_once x (capacity capacities c) (base capacities c + 1) in omega arith
-        once_case false is = dite (dec_le 1 (times x (places_from (base capacities c + 1) (capacity capacities c))))
+            from_times x (base capacities c + 1) (capacity capacities c) (omega arith) (omega arith)
+        once_case false is = dite (dec_le 1 (times x (numbers_from (base capacities c + 1) (capacity capacities c))))
             (λ there. let bounds = times_from x (base capacities c + 1) (capacity capacities c) there in absurd (let z : false ≡ true = sym is ∙ is_slot x bounds.0 bounds.1 in cc))
             (λ not_there. omega arith)
 
@@ -137,6 +124,7 @@ module _ (capacities : List ℕ) (places tickets : ℕ) (shape : IsShape capacit
     turned = inl (let zero_front = fresh.front in omega arith, each_view (λ j u. HasNoCommit u) refl);
     tickets_are = omega arith;
     legal = tt;
+    marks = record { entered = λ j p c x e. absurd (cc); left = λ j p c e. absurd (cc); others = λ j a e. absurd (cc) };
     reuse = λ j s c i p o given. absurd (cc);
     bucket = first_bucket;
     buckets = bucket_first;

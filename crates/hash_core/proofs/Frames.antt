@@ -21,6 +21,7 @@ use Rattle.list_laws.specs.Counts.{times}
 use Rattle.hash_core.specs.Memory.{Memory}
 use Rattle.hash_core.specs.Slots.{is_slot_of, IsOfClass}
 use Rattle.prcu_marks.specs.Marks.{gone_at, IsGone}
+use Rattle.hash_core.specs.Marks.{last_unlinked}
 use Rattle.hash_core.specs.Buckets.{Bucket, IsChained, AreListed, HaveOneRole, IsMapped, HoldsOther, IsLocked, IsKnown, HaveAges, inside_count, AreCounted, IsFreeOfReaders, AreClean, taken_of, unlinked_of, moved_of, link_of}
 use Rattle.prcu_model.specs.Dictionary.{WasSaid}
 use Rattle.hash_core.specs.Readers.{IsHeldBack, HasWay, WillAnswer, AreAnswered}
@@ -42,11 +43,13 @@ pub record SameWords (capacities : List ℕ) (c : ℕ) (m m' : Memory) : Type 0 
   pub retired : m' (Retired c) ≡ m (Retired c)
   pub slots : SameSlots capacities c m m'
 
--- The marks and updates that came say nothing of the class: where its slots were unlinked, and its keys' pairs.
+-- The marks and updates that came say nothing of the class: where its slots were unlinked, whether they were given since, and its
+-- keys' pairs.
 pub record SameMarks (capacities : List ℕ) (c : ℕ) (h h' : List Mark) (us us' : List Update) : Type 0 where
   pub more : List Update
   pub longer : us' ≡ us ++ more
   pub gone : (s : ℕ) → is_slot_of capacities c s ≡ true → gone_at s h' ≡ gone_at s h
+  pub last : (s : ℕ) → is_slot_of capacities c s ≡ true → last_unlinked s h' ≡ last_unlinked s h
   pub pairs : (key : ℕ) → key % 64 ≡ c → finite.get (map_of us') key ≡ finite.get (map_of us) key
 
 -- what the parts on one class read of a view's section: where it is of the class, all of it
@@ -223,12 +226,12 @@ module _ (c : ℕ) (m m' : Memory) (vs : List View) (id : ℕ) (v w : View) (at 
       ))
 
 -- slots that no section holds back, where the sections are the same
-module _ (capacities : List ℕ) (c : ℕ) (h h' : List Mark) (vs : List View) (id : ℕ) (v w : View) (at : get_elem? vs id ≡ some v) (gone : (s : ℕ) → is_slot_of capacities c s ≡ true → gone_at s h' ≡ gone_at s h) (sections : SameSection c v.section w.section) where
+module _ (capacities : List ℕ) (c : ℕ) (h h' : List Mark) (vs : List View) (id : ℕ) (v w : View) (at : get_elem? vs id ≡ some v) (last : (s : ℕ) → is_slot_of capacities c s ≡ true → last_unlinked s h' ≡ last_unlinked s h) (sections : SameSection c v.section w.section) where
   pub still_free : (s : ℕ) → is_slot_of capacities c s ≡ true → IsFreeOfReaders c h vs s → IsFreeOfReaders c h' (set vs id w) s
   still_free s of free p j u section was there is class =
       each_set (λ k z. z.section ≡ Some section → p < section.entered) vs id w
-      (λ mine. free p id v section (sym (gone s of) ∙ was) at (section_back c v.section w.section section sections mine class) class)
-      (λ k z other e theirs. free p k z section (sym (gone s of) ∙ was) e theirs class) j u there is
+      (λ mine. free p id v section (sym (last s of) ∙ was) at (section_back c v.section w.section section sections mine class) class)
+      (λ k z other e theirs. free p k z section (sym (last s of) ∙ was) e theirs class) j u there is
 
 module _ (capacities : List ℕ) (c : ℕ) (m m' : Memory) (h h' : List Mark) (us us' : List Update) (vs : List View) (id : ℕ) (v w : View) (b : Bucket)
     (at : get_elem? vs id ≡ some v) (words : SameWords capacities c m m') (marks : SameMarks capacities c h h' us us') (view : SameView c v w) (r : BucketRule capacities c m h us vs b) where
@@ -283,9 +286,9 @@ module _ (capacities : List ℕ) (c : ℕ) (m m' : Memory) (h h' : List Mark) (u
 
   frame_clean : AreClean capacities c h' (set vs id w) b
   frame_clean = record {
-    free = all_change (IsFreeOfReaders c h vs) (IsFreeOfReaders c h' (set vs id w)) b.free (λ s there p. still_free capacities c h h' vs id v w at marks.gone view.section s (free_slot capacities c b r.roles s there) p) r.clean.free;
-    moved = all_change (IsFreeOfReaders c h vs) (IsFreeOfReaders c h' (set vs id w)) b.moved (λ s there p. still_free capacities c h h' vs id v w at marks.gone view.section s (moved_slot capacities c b r.roles s there) p) r.clean.moved;
-    clear = λ hold is clear s of. still_free capacities c h h' vs id v w at marks.gone view.section s of (r.clean.clear hold is clear s of);
+    free = all_change (IsFreeOfReaders c h vs) (IsFreeOfReaders c h' (set vs id w)) b.free (λ s there p. still_free capacities c h h' vs id v w at marks.last view.section s (free_slot capacities c b r.roles s there) p) r.clean.free;
+    moved = all_change (IsFreeOfReaders c h vs) (IsFreeOfReaders c h' (set vs id w)) b.moved (λ s there p. still_free capacities c h h' vs id v w at marks.last view.section s (moved_slot capacities c b r.roles s there) p) r.clean.moved;
+    clear = λ hold is clear s of. still_free capacities c h h' vs id v w at marks.last view.section s of (r.clean.clear hold is clear s of);
   }
 
   frame_answered : AreAnswered capacities c m' h' us' (set vs id w) b.chain

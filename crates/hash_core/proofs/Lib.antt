@@ -4,6 +4,8 @@ pub mod Frames
 pub mod Stores
 pub mod SeatFrames
 pub mod Whole
+pub mod LastUnlinked
+pub mod MarkOrder
 pub mod Adds
 pub mod Quiet
 pub mod Sections
@@ -19,3 +21,5 @@ pub mod Splits
 pub mod First
 pub mod Unlinks
 pub mod Full
+pub mod Keeping
+pub mod Giving

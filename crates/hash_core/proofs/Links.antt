@@ -23,13 +23,13 @@ use Rattle.hash_core.specs.Lists.{IsPath}
 use Rattle.hash_core.specs.Memory.{Memory, stored}
 use Rattle.hash_core.specs.Slots.{is_slot_of}
 use Rattle.prcu_marks.specs.Marks.{updates_of, open_at, gone_at, IsGone, entered_at}
-use Rattle.hash_core.specs.Marks.{ReuseByClass}
+use Rattle.hash_core.specs.Marks.{last_unlinked, AreMarks, ReuseByClass}
 use Rattle.hash_core.specs.Known.{knowing, ShowsAbsent, IsOnWalk}
 use Rattle.hash_core.specs.Buckets.{Bucket, seek, IsFreeOfReaders, taken_of, unlinked_of, HaveDistinctKeys}
 use Rattle.prcu_model.specs.Dictionary.{WasSaid}
 use Rattle.hash_core.specs.Readers.{AreAnswered, WillAnswer, IsHeldBack, HasWay}
 use Rattle.hash_core.specs.Seats.{open_of}
-use Rattle.hash_core.specs.Steps.{NeedsLock, after_lock, Needs15, after15}
+use Rattle.hash_core.specs.Steps.{NeedsLink, after_link, NeedsReplace, after_replace}
 use Rattle.hash_core.specs.Rule.{BucketRule, MemoryRule}
 use Rattle.prcu_model.proofs.ListFacts.{all_map}
 use Rattle.list_laws.proofs.Lists.{each_set, all_times}
@@ -37,6 +37,8 @@ use Rattle.hash_core.proofs.Paths.{seek_here, seek_past, seek-same, HaveDistinct
 use Rattle.prcu_marks.proofs.MarkLists.{updates_of-append, entered_at-append}
 use Rattle.hash_core.proofs.Classes.{slot_within}
 use Rattle.prcu_marks.proofs.MarkPlaces.{open_at-below}
+use Rattle.hash_core.proofs.LastUnlinked.{last_unlinked-same}
+use Rattle.hash_core.proofs.MarkOrder.{marks_snoc}
 use Rattle.hash_core.proofs.Adds.{open_at-same, gone_at-same, reuse_more}
 use Rattle.hash_core.proofs.Frames.{SameMarks, chain_slot, taken_slot, WasSaid-longer}
 use Rattle.hash_core.proofs.Stores.{class_words, stored_here, same_self}
@@ -90,11 +92,13 @@ module _ (capacities : List ℕ) (places tickets : ℕ) (m : Memory) (vs : List 
       }
 
   -- what an update says of the keys of another class
-  pub marks_elsewhere : (d : ℕ) → d ≢ hold.class → (u : Update) → key_of u.op % 64 ≡ hold.class → (h' : List Mark) → updates_of h' ≡ updates_of h ++ u ∷ [] → ((s : ℕ) → is_slot_of capacities d s ≡ true → gone_at s h' ≡ gone_at s h) → SameMarks capacities d h h' (updates_of h) (updates_of h')
-  marks_elsewhere d ne u class h' longer gone = record {
+  pub marks_elsewhere : (d : ℕ) → d ≢ hold.class → (u : Update) → key_of u.op % 64 ≡ hold.class → (h' : List Mark) → updates_of h' ≡ updates_of h ++ u ∷ [] → ((s : ℕ) → is_slot_of capacities d s ≡ true → gone_at s h' ≡ gone_at s h)
+      → ((s : ℕ) → is_slot_of capacities d s ≡ true → last_unlinked s h' ≡ last_unlinked s h) → SameMarks capacities d h h' (updates_of h) (updates_of h')
+  marks_elsewhere d ne u class h' longer gone last = record {
     more = u ∷ [];
     longer = longer;
     gone = gone;
+    last = last;
     pairs = λ key of. ap (λ z. finite.get (map_of z) key) longer ∙ ap (λ z. finite.get z key) (map_of-push (updates_of h) u) ∙ get-updated_other (map_of (updates_of h)) u.op key (λ e. ne (sym of ∙ ap (λ z. z % 64) e ∙ class));
   }
 
@@ -111,17 +115,23 @@ module _ (capacities : List ℕ) (places tickets : ℕ) (m : Memory) (vs : List 
     pub done_gone : (s : ℕ) → gone_at s h_done ≡ gone_at s h
     done_gone s = gone_at-same h (Done update) tt s
 
+    pub done_last : (s : ℕ) → last_unlinked s h_done ≡ last_unlinked s h
+    done_last s = last_unlinked-same h (Done update) tt s
+
     pub done_open : (p : ℕ) → open_at p h_done ≡ open_at p h
     done_open p = open_at-same h (Done update) tt p
 
     pub done_entered : (p : ℕ) → entered_at p h_done ≡ entered_at p h
     done_entered p = let a = entered_at-append p h (Done update ∷ []) in omega arith
 
+    pub done_marks : AreMarks places h_done
+    done_marks = marks_snoc places h (Done update) tt r.marks
+
     pub done_reuse : ReuseByClass capacities h_done
     done_reuse = reuse_more capacities h (Done update) (λ s e. absurd (cc)) r.reuse
 
     pub free_done : (w : View) → w.section ≡ v.section → (s : ℕ) → IsFreeOfReaders hold.class h vs s → IsFreeOfReaders hold.class h_done (set vs id w) s
-    free_done w same s free = free_each hold.class h h_done vs id w s (done_gone s) (λ p section was is class. free p id v section was at (sym same ∙ is) class) free
+    free_done w same s free = free_each hold.class h h_done vs id w s (done_last s) (λ p section was is class. free p id v section was at (sym same ∙ is) class) free
 
     pub said_done : (section : Section) (answer : Option ℕ) → WasSaid (updates_of h) section.key section.from answer → WasSaid (updates_of h_done) section.key section.from answer
     said_done section answer said = subst (λ z. WasSaid z section.key section.from answer) (sym done_longer) (WasSaid-longer (updates_of h) (update ∷ []) section.key section.from answer said)
@@ -134,7 +144,7 @@ module _ (capacities : List ℕ) (places tickets : ℕ) (m : Memory) (vs : List 
     get_done_other key ne = get_done key ∙ get-updated_other (map_of (updates_of h)) op key ne
 
   -- H13
-  module _ (even slot key value first : ℕ) (needs : NeedsLock v hold even slot key value first) where
+  module _ (even slot key value first : ℕ) (needs : NeedsLink v hold even slot key value first) where
     abbrev new13 : Hold
     new13 = record (knowing hold (Head hold.class) slot) { taken = None }
 
@@ -145,7 +155,7 @@ module _ (capacities : List ℕ) (places tickets : ℕ) (m : Memory) (vs : List 
     h13 = h ++ Done (record { caller = v.place; op = Put key value }) ∷ []
 
     abbrev w13 : View
-    w13 = after_lock v hold even slot key value h
+    w13 = after_link v hold even slot key value h
 
     is_key13 : m (Key slot) ≡ key
     is_key13 = (is_known capacities places tickets m vs h r id v at hold mine (Key slot) key needs.key_is).1
@@ -174,11 +184,11 @@ module _ (capacities : List ℕ) (places tickets : ℕ) (m : Memory) (vs : List 
     distinct13 : HaveDistinctKeys m13 (slot ∷ chain_now)
     distinct13 = (seek-same m m13 (m (Key slot)) chain_now (λ s _. (refl, refl)) ∙ ap (λ z. seek m z chain_now) is_key13 ∙ nothing13, HaveDistinctKeys-same m m13 chain_now (λ s _. (refl, refl)) bucket_rule.chained.distinct)
 
-    pub law13 : MemoryRule capacities places tickets m13 (set vs id (after_lock v hold even slot key value h)) h13
+    pub law13 : MemoryRule capacities places tickets m13 (set vs id (after_link v hold even slot key value h)) h13
     law13 =
         let held : (r.bucket hold.class).hold ≡ Some hold = had capacities places tickets m vs h r id v at hold mine in
         after_step capacities places tickets m vs h r id v w13 at m13 h13
-        (seats_updated capacities places tickets m vs h r id v at hold mine even needs.commit (Put key value) new13 refl m13 refl [] (done_longer even (Put key value)) (λ p. refl) (done_open even (Put key value)) (done_entered even (Put key value)) (done_reuse even (Put key value)) absent13)
+        (seats_updated capacities places tickets m vs h r id v at hold mine even needs.commit (Put key value) new13 refl m13 refl [] (done_longer even (Put key value)) (λ p. refl) (done_open even (Put key value)) (done_entered even (Put key value)) (done_marks even (Put key value)) (done_reuse even (Put key value)) absent13)
         hold.class b13
         (λ _. record {
           chained = record {
@@ -220,12 +230,12 @@ module _ (capacities : List ℕ) (places tickets : ℕ) (m : Memory) (vs : List 
         })
         (λ d _ ne. record {
           words = class_words capacities hold.class d m slot ne (Head hold.class) refl;
-          marks = marks_elsewhere d ne (record { caller = v.place; op = Put key value }) needs.class h13 (done_longer even (Put key value)) (λ s _. done_gone even (Put key value) s);
+          marks = marks_elsewhere d ne (record { caller = v.place; op = Put key value }) needs.class h13 (done_longer even (Put key value)) (λ s _. done_gone even (Put key value) s) (λ s _. done_last even (Put key value) s);
           view = elsewhere_held capacities places tickets m vs h r id v at d hold new13 mine refl ne w13 refl refl refl;
         })
 
   -- H15
-  module _ (even slot key value : ℕ) (needs : Needs15 v hold even slot key) where
+  module _ (even slot key value : ℕ) (needs : NeedsReplace v hold even slot key) where
     abbrev new15 : Hold
     new15 = knowing hold (Value slot) value
 
@@ -236,7 +246,7 @@ module _ (capacities : List ℕ) (places tickets : ℕ) (m : Memory) (vs : List 
     h15 = h ++ Done (record { caller = v.place; op = Set key value }) ∷ []
 
     abbrev w15 : View
-    w15 = after15 v hold even slot key value h
+    w15 = after_replace v hold even slot key value h
 
     is_key15 : m (Key slot) ≡ key
     is_key15 = (is_known capacities places tickets m vs h r id v at hold mine (Key slot) key needs.key_is).1
@@ -319,12 +329,12 @@ module _ (capacities : List ℕ) (places tickets : ℕ) (m : Memory) (vs : List 
     will15 section from (Found s) a = (way15 section from s a.0, a.1)
     will15 section from Ended a = said_done even (Set key value) section None a
 
-    pub law15 : MemoryRule capacities places tickets m15 (set vs id (after15 v hold even slot key value h)) h15
+    pub law15 : MemoryRule capacities places tickets m15 (set vs id (after_replace v hold even slot key value h)) h15
     law15 =
         let held : (r.bucket hold.class).hold ≡ Some hold = had capacities places tickets m vs h r id v at hold mine in
         let gone : (s : ℕ) → gone_at s h15 ≡ gone_at s h = done_gone even (Set key value) in
         after_step capacities places tickets m vs h r id v w15 at m15 h15
-        (seats_updated capacities places tickets m vs h r id v at hold mine even needs.commit (Set key value) new15 refl m15 refl [] (done_longer even (Set key value)) (λ p. refl) (done_open even (Set key value)) (done_entered even (Set key value)) (done_reuse even (Set key value)) present15)
+        (seats_updated capacities places tickets m vs h r id v at hold mine even needs.commit (Set key value) new15 refl m15 refl [] (done_longer even (Set key value)) (λ p. refl) (done_open even (Set key value)) (done_entered even (Set key value)) (done_marks even (Set key value)) (done_reuse even (Set key value)) present15)
         hold.class (record (r.bucket hold.class) { hold = Some new15 })
         (λ _. record {
           chained = record { path = bucket_rule.chained.path; classes = bucket_rule.chained.classes; distinct = distinct15 chain_now bucket_rule.chained.distinct };
@@ -350,6 +360,6 @@ module _ (capacities : List ℕ) (places tickets : ℕ) (m : Memory) (vs : List 
         })
         (λ d _ ne. record {
           words = class_words capacities hold.class d m value ne (Value slot) slot_of15;
-          marks = marks_elsewhere d ne (record { caller = v.place; op = Set key value }) class15 h15 (done_longer even (Set key value)) (λ s _. gone s);
+          marks = marks_elsewhere d ne (record { caller = v.place; op = Set key value }) class15 h15 (done_longer even (Set key value)) (λ s _. gone s) (λ s _. done_last even (Set key value) s);
           view = elsewhere_held capacities places tickets m vs h r id v at d hold new15 mine refl ne w15 refl refl refl;
         })

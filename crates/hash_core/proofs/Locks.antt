@@ -24,7 +24,7 @@ use Rattle.prcu_model.specs.Dictionary.{WasSaid}
 use Rattle.hash_core.specs.Readers.{AreAnswered, WillAnswer}
 use Rattle.prcu_marks.specs.Commits.{updates_by}
 use Rattle.hash_core.specs.Seats.{HasNoCommit, IsTurned, AreOwned, AreSeen}
-use Rattle.hash_core.specs.Steps.{IsQuiet, fresh_hold, NeedsBegin, after_begin, Needs12, NeedsCountFree, after_count_free}
+use Rattle.hash_core.specs.Steps.{IsQuiet, fresh_hold, NeedsUnlock, after_unlock, NeedsCommit, NeedsEven, after_even}
 use Rattle.hash_core.specs.Rule.{BucketRule, MemoryRule}
 use Rattle.prcu_model.proofs.ListFacts.{prefix_self, all_map}
 use Rattle.list_laws.proofs.Lists.{at_below, at_one, each_set, total_set, total_part}
@@ -146,9 +146,9 @@ module _ (capacities : List ℕ) (places tickets : ℕ) (m : Memory) (vs : List 
         })
 
   -- H7
-  module _ (hold : Hold) (needs : NeedsBegin v hold) where
+  module _ (hold : Hold) (needs : NeedsUnlock v hold) where
     abbrev w7 : View
-    w7 = after_begin v
+    w7 = after_unlock v
 
     abbrev m7 : Memory
     m7 = stored m (Lock hold.class) 0
@@ -332,6 +332,7 @@ module _ (capacities : List ℕ) (places tickets : ℕ) (m : Memory) (vs : List 
           turned = turned_same vs id v w9 at m m (length (updates_of h)) refl refl (λ commit held is had. (new9, refl)) r.turned;
           tickets_are = tickets_same capacities places tickets m vs h r id v w9 at m refl;
           legal = r.legal;
+          marks = r.marks;
           reuse = r.reuse;
         }
 
@@ -356,7 +357,7 @@ module _ (capacities : List ℕ) (places tickets : ℕ) (m : Memory) (vs : List 
         (λ d _ ne. record { words = same_words capacities d m; marks = same_marks capacities d h; view = elsewhere_held d hold new9 mine refl ne w9 refl refl refl })
 
   -- H12, where the front was the even number
-  module _ (hold : Hold) (even : ℕ) (needs : Needs12 v hold even) (found : m Front ≡ even) where
+  module _ (hold : Hold) (even : ℕ) (needs : NeedsCommit v hold even) (found : m Front ≡ even) where
     abbrev turn12 : Commit
     turn12 = record { found = even; stored = false }
 
@@ -399,14 +400,15 @@ module _ (capacities : List ℕ) (places tickets : ℕ) (m : Memory) (vs : List 
           turned = turned12;
           tickets_are = tickets_same capacities places tickets m vs h r id v w12 at m12 refl;
           legal = r.legal;
+          marks = r.marks;
           reuse = r.reuse;
         })
         (λ d _. record { words = front_words capacities d m (even + 1); marks = same_marks capacities d h; view = record { place = refl; section = same_section d v.section; hold = same_hold d v.hold } })
 
   -- H16
-  module _ (even : ℕ) (needs : NeedsCountFree v even) where
+  module _ (even : ℕ) (needs : NeedsEven v even) where
     abbrev w16 : View
-    w16 = after_count_free v
+    w16 = after_even v
 
     abbrev m16 : Memory
     m16 = stored m Front (even + 2)
@@ -441,6 +443,7 @@ module _ (capacities : List ℕ) (places tickets : ℕ) (m : Memory) (vs : List 
           turned = turned16;
           tickets_are = tickets_same capacities places tickets m vs h r id v w16 at m16 refl;
           legal = r.legal;
+          marks = r.marks;
           reuse = r.reuse;
         })
         (λ d _. record { words = front_words capacities d m (even + 2); marks = same_marks capacities d h; view = record { place = refl; section = same_section d v.section; hold = same_hold d v.hold } })

@@ -47,7 +47,7 @@ pub no_marks : (p : ℕ) → own_of p [] ≡ []
 no_marks p = refl
 
 pub same_marks : (capacities : List ℕ) (d : ℕ) (h : List Mark) → SameMarks capacities d h h (updates_of h) (updates_of h)
-same_marks capacities d h = record { more = []; longer = sym (append-nil _); gone = λ s of. refl; pairs = λ key class. refl }
+same_marks capacities d h = record { more = []; longer = sym (append-nil _); gone = λ s of. refl; last = λ s of. refl; pairs = λ key class. refl }
 
 pub same_section : (d : ℕ) (a : Option Section) → SameSection d a a
 same_section d None = tt
@@ -72,6 +72,7 @@ module _ (capacities : List ℕ) (places tickets : ℕ) (m : Memory) (vs : List 
     turned = turned_same vs id v w at m m' (length (updates_of h)) front same.commit same.kept r.turned;
     tickets_are = tickets_same same.tickets;
     legal = r.legal;
+    marks = r.marks;
     reuse = r.reuse;
   }
 

@@ -23,17 +23,19 @@ use Rattle.hash_core.specs.Lists.{IsPath}
 use Rattle.hash_core.specs.Memory.{Memory, stored}
 use Rattle.hash_core.specs.Slots.{is_slot_of, IsOfClass}
 use Rattle.prcu_marks.specs.Marks.{updates_of, Open, open_at, gone_at, entered_at}
+use Rattle.hash_core.specs.Marks.{last_unlinked}
 use Rattle.hash_core.specs.Buckets.{Bucket, seek, inside_count, IsKnown, IsFreeOfReaders, AreClean}
 use Rattle.prcu_model.specs.Dictionary.{WasSaid}
 use Rattle.hash_core.specs.Readers.{IsHeldBack, HasWay, WillAnswer}
 use Rattle.hash_core.specs.Seats.{open_of, AreOpen, IsTurned}
-use Rattle.hash_core.specs.Steps.{after_clock_load, after_announce, after_enter_by_stamp, link_stand, searched, MayLoad}
+use Rattle.hash_core.specs.Steps.{after_enter, after_leave, after_search_load, link_stand, searched, MayLoad}
 use Rattle.hash_core.specs.Rule.{BucketRule, MemoryRule}
 use Rattle.prcu_model.proofs.ListFacts.{all_map}
 use Rattle.list_laws.proofs.Lists.{at_below, at_one, each_set, total_set, total_part, all_change}
 use Rattle.hash_core.proofs.Paths.{path_cons, path_none, seek_here, seek_past}
 use Rattle.prcu_marks.proofs.MarkLists.{open_at-snoc, updates_of-append, entered_at-append}
-use Rattle.prcu_marks.proofs.MarkPlaces.{gone_at-below}
+use Rattle.hash_core.proofs.LastUnlinked.{last_unlinked-below, last_unlinked-same}
+use Rattle.hash_core.proofs.MarkOrder.{marks_snoc}
 use Rattle.hash_core.proofs.Adds.{gone_at-same, reuse_more}
 use Rattle.hash_core.proofs.Frames.{SameMarks, SameSection, locked_same, still_said, still_answer, frame_ages_same}
 use Rattle.hash_core.proofs.Stores.{same_words, readers_words, stored_here, same_self}
@@ -48,8 +50,8 @@ link_case P link end more = dite (ℕ_discrete link 0)
     (λ ne. subst P (sym (ap (λ b. cond b Ended (Unread link)) (ne_eqb link 0 ne))) (more ne))
 
 -- slots that no section holds back, where one view's section is another
-pub free_each : (c : ℕ) (h h' : List Mark) (vs : List View) (id : ℕ) (w : View) (s : ℕ) → gone_at s h' ≡ gone_at s h
-    → ((p : ℕ) (section : Section) → gone_at s h ≡ Some p → w.section ≡ Some section → section.key % 64 ≡ c → p < section.entered)
+pub free_each : (c : ℕ) (h h' : List Mark) (vs : List View) (id : ℕ) (w : View) (s : ℕ) → last_unlinked s h' ≡ last_unlinked s h
+    → ((p : ℕ) (section : Section) → last_unlinked s h ≡ Some p → w.section ≡ Some section → section.key % 64 ≡ c → p < section.entered)
     → IsFreeOfReaders c h vs s → IsFreeOfReaders c h' (set vs id w) s
 free_each c h h' vs id w s same mine free p j u section was there is class =
     each_set (λ k z. z.section ≡ Some section → p < section.entered) vs id w
@@ -57,8 +59,8 @@ free_each c h h' vs id w s same mine free p j u section was there is class =
     (λ k z other e theirs. free p k z section (sym same ∙ was) e theirs class) j u there is
 
 -- the same of all slots that are to be free
-pub clean_each : (capacities : List ℕ) (c : ℕ) (h h' : List Mark) (vs : List View) (id : ℕ) (w : View) (b : Bucket) → ((s : ℕ) → gone_at s h' ≡ gone_at s h)
-    → ((s p : ℕ) (section : Section) → IsFreeOfReaders c h vs s → gone_at s h ≡ Some p → w.section ≡ Some section → section.key % 64 ≡ c → p < section.entered)
+pub clean_each : (capacities : List ℕ) (c : ℕ) (h h' : List Mark) (vs : List View) (id : ℕ) (w : View) (b : Bucket) → ((s : ℕ) → last_unlinked s h' ≡ last_unlinked s h)
+    → ((s p : ℕ) (section : Section) → IsFreeOfReaders c h vs s → last_unlinked s h ≡ Some p → w.section ≡ Some section → section.key % 64 ≡ c → p < section.entered)
     → AreClean capacities c h vs b → AreClean capacities c h' (set vs id w) b
 clean_each capacities c h h' vs id w b same mine clean =
     let each : (s : ℕ) → IsFreeOfReaders c h vs s → IsFreeOfReaders c h' (set vs id w) s = λ s free. free_each c h h' vs id w s (same s) (λ p section. mine s p section free) free in
@@ -85,7 +87,7 @@ module _ (capacities : List ℕ) (places tickets : ℕ) (m : Memory) (vs : List 
     h3 = h ++ mark3 ∷ []
 
     abbrev w3 : View
-    w3 = after_clock_load v key h
+    w3 = after_enter v key h
 
     abbrev m3 : Memory
     m3 = stored m (Readers (key % 64)) (m (Readers (key % 64)) + 1)
@@ -94,13 +96,26 @@ module _ (capacities : List ℕ) (places tickets : ℕ) (m : Memory) (vs : List 
     same_updates3 = updates_of-append h (mark3 ∷ []) ∙ append-nil (updates_of h)
 
     same_marks3 : (d : ℕ) → SameMarks capacities d h h3 (updates_of h) (updates_of h3)
-    same_marks3 d = record { more = []; longer = same_updates3 ∙ sym (append-nil _); gone = λ s _. gone_at-same h mark3 tt s; pairs = λ k class. ap (λ us. finite.get (map_of us) k) same_updates3 }
+    same_marks3 d = record { more = []; longer = same_updates3 ∙ sym (append-nil _); gone = λ s _. gone_at-same h mark3 tt s; last = λ s _. last_unlinked-same h mark3 tt s; pairs = λ k class. ap (λ us. finite.get (map_of us) k) same_updates3 }
 
     open_here3 : open_at v.place h3 ≡ Some (open_of section3)
     open_here3 = open_at-snoc v.place h mark3 ∙ ap (λ b. cond b (Some (open_of section3)) (open_at v.place h)) (eq-eqb v.place v.place refl)
 
     open_else3 : (p : ℕ) → p ≢ v.place → open_at p h3 ≡ open_at p h
     open_else3 p ne = open_at-snoc p h mark3 ∙ ap (λ b. cond b (Some (open_of section3)) (open_at p h)) (ne_eqb v.place p (λ e. ne (sym e)))
+
+    -- no section is open at the place
+    closed3 : open_at v.place h ≡ None
+    closed3 = closed_case (open_at v.place h) refl
+      where
+        closed_case : (o : Option Open) → open_at v.place h ≡ o → o ≡ None
+        closed_case None is = refl
+        closed_case (Some o) is =
+            let q = r.sections.all v.place o is in
+            let there = r.sections.open_here q.0 q.1 q.2 q.3 q.5 in
+            let me : q.0 ≡ id = r.apart.apart q.0 id v.place q.1 v q.3 at (let e = q.4 in let w = there.0 in inl (omega arith, omega arith)) (inl (omega arith, omega arith)) in
+            let same : v ≡ q.1 = at_one vs id v q.1 at (subst (λ k. get_elem? vs k ≡ some q.1) me q.3) in
+            absurd (let z : Some q.2 ≡ None = sym (ap (λ (y : View). y.section) same ∙ q.5) ∙ outside in cc)
 
     sections3 : AreOpen (set vs id w3) h3 (updates_of h3)
     sections3 = record {
@@ -130,6 +145,7 @@ module _ (capacities : List ℕ) (places tickets : ℕ) (m : Memory) (vs : List 
       turned = subst (IsTurned m3 (set vs id w3)) (sym (ap length same_updates3)) (turned_same vs id v w3 at m m3 (length (updates_of h)) refl refl (λ commit hold is held. (hold, held)) r.turned);
       tickets_are = ap (λ us. length us + total (λ (z : View). z.tickets) (set vs id w3)) same_updates3 ∙ tickets_same capacities places tickets m vs h r id v w3 at m3 refl;
       legal = subst IsLegal (sym same_updates3) r.legal;
+      marks = marks_snoc places h mark3 (r.apart.within id v v.place at (inl (omega arith, omega arith)), fits, r.sections.entered id v at works, closed3) r.marks;
       reuse = reuse_more capacities h mark3 (λ s e. absurd (cc)) r.reuse;
     }
 
@@ -156,7 +172,7 @@ module _ (capacities : List ℕ) (places tickets : ℕ) (m : Memory) (vs : List 
                 let was = b.counted.readers in
                 omega arith;
           };
-          clean = clean_each capacities c h h3 vs id w3 (r.bucket c) gone (λ s p section free was is class. let e : section3 ≡ section = cc in let l = gone_at-below s h p was in subst (λ (z : Section). p < z.entered) e l) b.clean;
+          clean = clean_each capacities c h h3 vs id w3 (r.bucket c) (last_unlinked-same h mark3 tt) (λ s p section free was is class. let e : section3 ≡ section = cc in let l = last_unlinked-below s h p was in subst (λ (z : Section). p < z.entered) e l) b.clean;
           answered = record {
             readers = λ j u section there is class. each_set (λ k z. z.section ≡ Some section → WillAnswer capacities c m3 h3 (updates_of h3) (r.bucket c).chain section section.state) vs id w3
                 (λ mine. let e : section3 ≡ section = cc in subst (λ (z : Section). WillAnswer capacities c m3 h3 (updates_of h3) (r.bucket c).chain z z.state) e tt)
@@ -201,7 +217,7 @@ module _ (capacities : List ℕ) (places tickets : ℕ) (m : Memory) (vs : List 
     h4 = h ++ mark4 ∷ []
 
     abbrev w4 : View
-    w4 = after_announce v section h
+    w4 = after_leave v section h
 
     abbrev m4 : Memory
     m4 = stored m (Readers (section.key % 64)) (m (Readers (section.key % 64)) - 1)
@@ -210,7 +226,7 @@ module _ (capacities : List ℕ) (places tickets : ℕ) (m : Memory) (vs : List 
     same_updates4 = updates_of-append h (mark4 ∷ []) ∙ append-nil (updates_of h)
 
     same_marks4 : (d : ℕ) → SameMarks capacities d h h4 (updates_of h) (updates_of h4)
-    same_marks4 d = record { more = []; longer = same_updates4 ∙ sym (append-nil _); gone = λ s _. gone_at-same h mark4 tt s; pairs = λ k class. ap (λ us. finite.get (map_of us) k) same_updates4 }
+    same_marks4 d = record { more = []; longer = same_updates4 ∙ sym (append-nil _); gone = λ s _. gone_at-same h mark4 tt s; last = λ s _. last_unlinked-same h mark4 tt s; pairs = λ k class. ap (λ us. finite.get (map_of us) k) same_updates4 }
 
     open_here4 : open_at v.place h4 ≡ None
     open_here4 = open_at-snoc v.place h mark4 ∙ ap (λ b. cond b None (open_at v.place h)) (eq-eqb v.place v.place refl)
@@ -247,6 +263,7 @@ module _ (capacities : List ℕ) (places tickets : ℕ) (m : Memory) (vs : List 
       turned = subst (IsTurned m4 (set vs id w4)) (sym (ap length same_updates4)) (turned_same vs id v w4 at m m4 (length (updates_of h)) refl refl (λ commit hold is held. (hold, held)) r.turned);
       tickets_are = ap (λ us. length us + total (λ (z : View). z.tickets) (set vs id w4)) same_updates4 ∙ tickets_same capacities places tickets m vs h r id v w4 at m4 refl;
       legal = subst IsLegal (sym same_updates4) r.legal;
+      marks = marks_snoc places h mark4 (open_of section, (r.sections.open_here id v section at inside).1, refl) r.marks;
       reuse = reuse_more capacities h mark4 (λ s e. absurd (cc)) r.reuse;
     }
 
@@ -282,7 +299,7 @@ module _ (capacities : List ℕ) (places tickets : ℕ) (m : Memory) (vs : List 
                 let has = some_reader small in
                 omega arith;
           };
-          clean = clean_each capacities c h h4 vs id w4 (r.bucket c) gone (λ s p other free was is class. absurd (cc)) b.clean;
+          clean = clean_each capacities c h h4 vs id w4 (r.bucket c) (last_unlinked-same h mark4 tt) (λ s p other free was is class. absurd (cc)) b.clean;
           answered = record {
             readers = λ j u other there is class. each_set (λ k z. z.section ≡ Some other → WillAnswer capacities c m4 h4 (updates_of h4) (r.bucket c).chain other other.state) vs id w4
                 (λ mine. absurd (cc))
@@ -419,7 +436,7 @@ module _ (capacities : List ℕ) (places tickets : ℕ) (m : Memory) (vs : List 
       section5 = searched section section.state field (m field)
 
       abbrev w5 : View
-      w5 = after_enter_by_stamp v section field (m field)
+      w5 = after_search_load v section field (m field)
 
       key5 : section5.key ≡ section.key
       key5 = ap (λ (o : Open). o.key) (searched_same section.state field (m field)).0

@@ -11,14 +11,14 @@ use Rattle.atomic_table.proofs.Lists.{set_here, set_else}
 use Rattle.prcu_marks.specs.declared.mark.Mark.{Mark}
 use Rattle.prcu_marks.specs.declared.mark.Mark.TheVariants.{Entered, Left, Began, Ended, Done, Given, Unlinked, Freed}
 use Rattle.hash_core.specs.declared.view.View.{View}
-use Rattle.list_laws.specs.Counts.{times, total}
+use Rattle.list_laws.specs.Counts.{times, numbers_from, total}
 use Rattle.hash_core.specs.Memory.{Memory}
 use Rattle.prcu_marks.specs.Marks.{own_of, entered_at, updates_of, longer}
 use Rattle.hash_core.specs.Buckets.{inside_count}
 use Rattle.hash_core.specs.Seats.{HasHeard, AreSeen, HasPlace, AnswersFor, AreApart, AreOwned, HasNoCommit}
-use Rattle.hash_core.specs.Steps.{IsQuiet, NeedsSplit, first_of, second_of, places_from, both_of, spent}
+use Rattle.hash_core.specs.Steps.{IsQuiet, NeedsSplit, first_of, second_of, both_of, spent}
 use Rattle.hash_core.specs.Rule.{MemoryRule}
-use Rattle.list_laws.proofs.Lists.{at_below, at_end, at_one, each_set, total_set, total_append, times_append, times_here, times_other}
+use Rattle.list_laws.proofs.Lists.{at_below, at_end, at_one, each_set, total_set, total_append, times_append, times_from, from_times}
 use Rattle.prcu_model.proofs.ListFacts.{prefix_self, prefix_trans, prefix_of_longer, all_map, all_append}
 use Rattle.prcu_marks.proofs.MarkLists.{own_of-append, own_of-between}
 use Rattle.hash_core.proofs.Busy.{SameBusy, quiet_turn, rule_busy}
@@ -175,21 +175,6 @@ module _ (capacities : List ℕ) (places tickets : ℕ) (m : Memory) (vs : List 
     pub law1 : MemoryRule capacities places tickets m (set vs id (first_of p t v) ++ second_of p t v ∷ []) h
     law1 = rule_busy vs vs1 busy1 capacities places tickets m h r seen1 apart1 owned1 entered1 tickets1
 
--- which numbers stand among those from the first on
-pub times_from : (q first n : ℕ) → 1 ≤ times q (places_from first n) → (first ≤ q) × (q < first + n)
-times_from q first zero there = absurd (omega arith)
-times_from q first (suc n) there =
-    dite (ℕ_discrete first q)
-    (λ e. (omega arith, omega arith))
-    (λ ne. let other = times_other q first (places_from (first + 1) n) ne in let rest = times_from q (first + 1) n (omega arith) in let low = rest.0 in let high = rest.1 in (omega arith, omega arith))
-
-pub from_times : (q first n : ℕ) → first ≤ q → q < first + n → 1 ≤ times q (places_from first n)
-from_times q first zero low high = absurd (omega arith)
-from_times q first (suc n) low high =
-    dite (ℕ_discrete first q)
-    (λ e. subst (λ z. 1 ≤ times z (first ∷ places_from (first + 1) n)) e (let here = times_here first (places_from (first + 1) n) in omega arith))
-    (λ ne. let other = times_other q first (places_from (first + 1) n) ne in let rest = from_times q (first + 1) n (omega arith) (omega arith) in omega arith)
-
 -- the longer of two lists is one of them
 longer_case : (P : List Mark → Type 0) (a b : List Mark) → (length b ≤ length a → P a) → (length a < length b → P b) → P (longer a b)
 longer_case P a b first second =
@@ -228,8 +213,8 @@ module _ (capacities : List ℕ) (places tickets : ℕ) (m : Memory) (vs : List 
   spent_none q (inl has) = let high = has.1 in omega arith
   spent_none q (inr joined) = omega arith
 
-  joined_times : (q : ℕ) → times q both2.joined ≡ times q v.joined + (times q (places_from other.place other.places) + times q other.joined)
-  joined_times q = let outer = times_append q v.joined (places_from other.place other.places ++ other.joined) in let inner = times_append q (places_from other.place other.places) other.joined in omega arith
+  joined_times : (q : ℕ) → times q both2.joined ≡ times q v.joined + (times q (numbers_from other.place other.places) + times q other.joined)
+  joined_times q = let outer = times_append q v.joined (numbers_from other.place other.places ++ other.joined) in let inner = times_append q (numbers_from other.place other.places) other.joined in omega arith
 
   from_both : (q : ℕ) → AnswersFor both2 q → AnswersFor v q ⊎ AnswersFor other q
   from_both q (inl has) = inl (inl has)
@@ -237,7 +222,7 @@ module _ (capacities : List ℕ) (places tickets : ℕ) (m : Memory) (vs : List 
       let sum = joined_times q in
       dite (dec_le 1 (times q v.joined))
       (λ mine. inl (inr mine))
-      (λ not_mine. dite (dec_le 1 (times q (places_from other.place other.places)))
+      (λ not_mine. dite (dec_le 1 (times q (numbers_from other.place other.places)))
       (λ theirs. inr (inl (times_from q other.place other.places theirs)))
       (λ not_theirs. inr (inr (omega arith))))
 
@@ -314,7 +299,7 @@ module _ (capacities : List ℕ) (places tickets : ℕ) (m : Memory) (vs : List 
         let sum = joined_times q in
         let none = r.apart.joined id v q at mine in
         dite (dec_le 1 (times q both2.joined))
-        (λ some_time. dite (dec_le 1 (times q (places_from other.place other.places)))
+        (λ some_time. dite (dec_le 1 (times q (numbers_from other.place other.places)))
         (λ theirs. absurd (not_two q (inl mine) (inl (times_from q other.place other.places theirs))))
         (λ not_theirs. absurd (not_two q (inl mine) (inr (omega arith)))))
         (λ no_time. omega arith))

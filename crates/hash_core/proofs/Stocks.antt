@@ -4,9 +4,7 @@ use Rattle.std.specs.List.{AllByRecursion}
 use Rattle.std.specs.FinMap as finite
 use Rattle.std.proofs.Math.Seq.{take-append_seam}
 use Rattle.std.proofs.lemmas.List.{take-append-le}
-use mathlib.Core.Logic.{dite}
 use mathlib.Core.Option.{some}
-use native.Mathlib.Decide.{ℕ_discrete}
 use lib.ListN.{get_elem?}
 use Rattle.prcu_marks.specs.declared.mark.Mark.{Mark}
 use Rattle.prcu_marks.specs.declared.mark.Mark.TheVariants.{Given}
@@ -23,18 +21,20 @@ use Rattle.hash_core.specs.Lists.{IsPath}
 use Rattle.hash_core.specs.Memory.{Memory, same_field, stored}
 use Rattle.hash_core.specs.Slots.{is_slot_of, IsOfClass}
 use Rattle.prcu_marks.specs.Marks.{updates_of, Open, open_at, gone_at, IsGone}
-use Rattle.hash_core.specs.Marks.{ReuseByClass}
+use Rattle.hash_core.specs.Marks.{last_unlinked, ReuseByClass}
 use Rattle.hash_core.specs.Known.{known_in, knowing}
 use Rattle.hash_core.specs.Buckets.{Bucket, IsKnown, IsFreeOfReaders, taken_of, unlinked_of, moved_of, link_of}
 use Rattle.prcu_model.specs.Dictionary.{WasSaid}
 use Rattle.hash_core.specs.Readers.{AreAnswered, WillAnswer}
 use Rattle.hash_core.specs.Seats.{IsTurned}
-use Rattle.hash_core.specs.Steps.{NeedsTake, after_take, NeedsRefill, after_refill, NeedsMove, after_move, NeedsPush, after_push, NeedsChain, after_chain, IsFieldOf, NeedsSeize, after_seize}
+use Rattle.hash_core.specs.Steps.{NeedsTake, after_take, NeedsRefill, after_refill, NeedsMove, after_move, NeedsPush, after_push, NeedsChain, after_chain, IsFieldOf, NeedsWrite, after_write}
 use Rattle.hash_core.specs.Rule.{BucketRule, MemoryRule}
 use Rattle.prcu_model.proofs.ListFacts.{all_map}
 use Rattle.list_laws.proofs.Lists.{at_below, at_end, each_set, all_change, all_from_times, times_here}
 use Rattle.hash_core.proofs.Paths.{path_cons, path_none, IsPath-same, seek-same, HaveDistinctKeys-same}
 use Rattle.prcu_marks.proofs.MarkLists.{updates_of-append, entered_at-append}
+use Rattle.hash_core.proofs.LastUnlinked.{last_unlinked-same, last_gone}
+use Rattle.hash_core.proofs.MarkOrder.{marks_snoc}
 use Rattle.hash_core.proofs.Adds.{open_at-same, gone_at-given_here, gone_at-given_other}
 use Rattle.hash_core.proofs.Classes.{one_class, slot_within, at_most_one}
 use Rattle.hash_core.proofs.Frames.{SameMarks, free_slot, retired_slot, taken_slot, unlinked_slot}
@@ -277,7 +277,7 @@ module _ (capacities : List ℕ) (places tickets : ℕ) (m : Memory) (vs : List 
         (λ d _ ne. record { words = class_words capacities hold.class d m number ne (Chain slot) slot_of_chain; marks = same_marks capacities d h; view = elsewhere_held capacities places tickets m vs h r id v at d hold new_chain mine refl ne w refl refl refl })
 
   -- H11
-  module _ (slot : ℕ) (field : Field) (number : ℕ) (needs : NeedsSeize v hold slot field) where
+  module _ (slot : ℕ) (field : Field) (number : ℕ) (needs : NeedsWrite v hold slot field) where
     abbrev new11 : Hold
     new11 = knowing hold field number
 
@@ -320,9 +320,9 @@ module _ (capacities : List ℕ) (places tickets : ℕ) (m : Memory) (vs : List 
         let b : times slot (option_to_list hold.taken) ≡ 1 = ap (λ o. times slot (option_to_list o)) needs.taken ∙ (let t = times_here slot [] in omega arith) in
         let d : 1 ≤ times slot (r.bucket hold.class).chain = subst (λ z. 1 ≤ times z (r.bucket hold.class).chain) e there in omega arith
 
-    pub law11 : MemoryRule capacities places tickets m11 (set vs id (after_seize v hold field number)) h
+    pub law11 : MemoryRule capacities places tickets m11 (set vs id (after_write v hold field number)) h
     law11 =
-        let w : View = after_seize v hold field number in
+        let w : View = after_write v hold field number in
         let f = needs.field_is in
         let c : ℕ = hold.class in
         let chain : List ℕ = (r.bucket hold.class).chain in
@@ -391,6 +391,9 @@ module _ (capacities : List ℕ) (places tickets : ℕ) (m : Memory) (vs : List 
     gone_take : (s : ℕ) → s ≢ slot → gone_at s h_take ≡ gone_at s h
     gone_take s ne = gone_at-given_other h s slot (λ e. ne (sym e))
 
+    last_take : (s : ℕ) → last_unlinked s h_take ≡ last_unlinked s h
+    last_take s = last_unlinked-same h (Given slot) tt s
+
     -- the slot is in no other list
     not_take : (xs : List ℕ) → ((x : ℕ) → times x xs + times x (r.bucket hold.class).free ≤ 1) → (s : ℕ) → 1 ≤ times s xs → s ≢ slot
     not_take xs once s there e =
@@ -400,9 +403,7 @@ module _ (capacities : List ℕ) (places tickets : ℕ) (m : Memory) (vs : List 
         let d : 1 ≤ times slot xs = subst (λ z. 1 ≤ times z xs) e there in omega arith
 
     still_free_take : (s : ℕ) → IsFreeOfReaders hold.class h vs s → IsFreeOfReaders hold.class h_take (set vs id w_take) s
-    still_free_take s free = dite (ℕ_discrete s slot)
-        (λ e. λ p j u section gone there is class. absurd (let g : gone_at slot h_take ≡ Some p = subst (λ z. gone_at z h_take ≡ Some p) e gone in let z : None ≡ Some p = sym (gone_at-given_here h slot) ∙ g in cc))
-        (λ ne. λ p j u section gone there is class. free_still capacities hold.class m h vs id v w_take at refl s free p j u section (sym (gone_take s ne) ∙ gone) there is class)
+    still_free_take s free p j u section last there is class = free_still capacities hold.class m h vs id v w_take at refl s free p j u section (sym (last_take s) ∙ last) there is class
 
     reuse_take : ReuseByClass capacities h_take
     reuse_take j s d i p o given of gone there class =
@@ -410,14 +411,14 @@ module _ (capacities : List ℕ) (places tickets : ℕ) (m : Memory) (vs : List 
           | inl old ↦
               let below = at_below h j (Given s) old in
               let same : take j h_take ≡ take j h = (let le : j ≤ length h = omega arith in take-append-le j h (Given slot ∷ []) le) in
-              r.reuse j s d i p o old of (ap (gone_at s) (sym same) ∙ gone) (ap (open_at p) (sym same) ∙ there) class
+              r.reuse j s d i p o old of (ap (last_unlinked s) (sym same) ∙ gone) (ap (open_at p) (sym same) ∙ there) class
           | inr new ↦
               let e : slot ≡ s = (let z = new.1 in cc) in
               let same : take j h_take ≡ h = ap (λ n. take n h_take) new.0 ∙ take-append_seam h (Given slot ∷ []) in
               let q = r.sections.all p o (ap (open_at p) (sym same) ∙ there) in
               let c_is : hold.class ≡ d = one_class capacities hold.class d slot slot_of_take (subst (λ z. is_slot_of capacities d z ≡ true) (sym e) of) in
               let key : q.2.key % 64 ≡ hold.class = ap (λ (z : Open). z.key % 64) (sym q.6) ∙ class ∙ sym c_is in
-              let l = slot_clean i q.0 q.1 q.2 (ap (λ z. gone_at z h) e ∙ ap (gone_at s) (sym same) ∙ gone) q.3 q.5 key in
+              let l = slot_clean i q.0 q.1 q.2 (ap (λ z. last_unlinked z h) e ∙ ap (last_unlinked s) (sym same) ∙ gone) q.3 q.5 key in
               let at_is : o.at ≡ q.2.entered = ap (λ (z : Open). z.at) q.6 in omega arith
         ]
 
@@ -426,6 +427,7 @@ module _ (capacities : List ℕ) (places tickets : ℕ) (m : Memory) (vs : List 
       more = [];
       longer = same_updates_take ∙ sym (append-nil _);
       gone = λ s of. gone_take s (λ e. ne (one_class capacities d hold.class slot (subst (λ z. is_slot_of capacities d z ≡ true) e of) slot_of_take));
+      last = λ s _. last_take s;
       pairs = λ key class. ap (λ us. finite.get (map_of us) key) same_updates_take;
     }
 
@@ -439,6 +441,7 @@ module _ (capacities : List ℕ) (places tickets : ℕ) (m : Memory) (vs : List 
       turned = subst (IsTurned m_take (set vs id w_take)) (sym (ap length same_updates_take)) (turned_same vs id v w_take at m m_take (length (updates_of h)) refl refl (λ commit held is had_it. (new_take, refl)) r.turned);
       tickets_are = ap (λ us. length us + total (λ (z : View). z.tickets) (set vs id w_take)) same_updates_take ∙ tickets_same capacities places tickets m vs h r id v w_take at m_take refl;
       legal = subst IsLegal (sym same_updates_take) r.legal;
+      marks = marks_snoc places h (Given slot) tt r.marks;
       reuse = reuse_take;
     }
 
@@ -453,7 +456,7 @@ module _ (capacities : List ℕ) (places tickets : ℕ) (m : Memory) (vs : List 
         let keeps : (section : Section) (j : ℕ) (u : View) → get_elem? vs j ≡ some u → u.section ≡ Some section → section.key % 64 ≡ hold.class → KeepsWays capacities hold.class m m_take h h_take us us' chain chain section = λ section j u there is class. record {
           linked = λ t _. (refl, refl, refl);
           old = λ t _ _. (refl, refl, refl);
-          held = λ t _ p. (p.0, gone_take t (λ e. absurd (let l = slot_clean p.0 j u section (subst (λ z. gone_at z h ≡ Some p.0) e p.1) there is class in let g = p.2 in omega arith)) ∙ p.1, p.2);
+          held = λ t _ p. (p.0, gone_take t (λ e. absurd (let l = slot_clean p.0 j u section (last_gone slot h p.0 (subst (λ z. gone_at z h ≡ Some p.0) e p.1)) there is class in let g = p.2 in omega arith)) ∙ p.1, p.2);
           joins = λ front rest e. (front, e);
           said = λ answer s. subst (λ z. WasSaid z section.key section.from answer) (sym same_updates_take) s;
         } in

@@ -22,18 +22,20 @@ use Rattle.hash_core.specs.Lists.{IsPath}
 use Rattle.hash_core.specs.Memory.{Memory, stored}
 use Rattle.hash_core.specs.Slots.{is_slot_of, IsOfClass}
 use Rattle.prcu_marks.specs.Marks.{updates_of, open_at, gone_at, IsGone, entered_at}
-use Rattle.hash_core.specs.Marks.{ReuseByClass}
+use Rattle.hash_core.specs.Marks.{last_unlinked, AreMarks, ReuseByClass}
 use Rattle.hash_core.specs.Known.{known_in, knowing}
 use Rattle.hash_core.specs.Buckets.{Bucket, seek, HaveDistinctKeys, IsFreeOfReaders, taken_of, link_of}
 use Rattle.prcu_model.specs.Dictionary.{WasSaid}
 use Rattle.hash_core.specs.Readers.{WillAnswer, IsHeldBack, HasWay}
-use Rattle.hash_core.specs.Steps.{LinksTo, NeedsUnlock, after_unlock}
+use Rattle.hash_core.specs.Steps.{LinksTo, NeedsUnlink, after_unlink}
 use Rattle.hash_core.specs.Rule.{BucketRule, MemoryRule}
 use Rattle.prcu_model.proofs.ListFacts.{all_append, all_map}
 use Rattle.list_laws.proofs.Lists.{all_change, all_times, all_from_times, times_here, times_append}
 use Rattle.hash_core.proofs.Paths.{IsPath-same, path_cons, seek-same, seek_here, seek_past, seek_append, HaveDistinctKeys-same}
 use Rattle.prcu_marks.proofs.MarkLists.{updates_of-append, entered_at-append}
 use Rattle.hash_core.proofs.Classes.{one_class, at_most_one}
+use Rattle.hash_core.proofs.LastUnlinked.{last_unlinked-same, last_unlinked-other}
+use Rattle.hash_core.proofs.MarkOrder.{marks_snoc}
 use Rattle.hash_core.proofs.Adds.{open_at-same, gone_at-same, gone_at-unlinked_here, gone_at-unlinked_other, reuse_more}
 use Rattle.hash_core.proofs.Frames.{chain_slot, WasSaid-longer}
 use Rattle.hash_core.proofs.Stores.{class_words, stored_here, same_self}
@@ -126,7 +128,7 @@ cut_next head next next' chain p slot once some_slot is is' same there path =
     none_of olds far = dite (dec_le 1 (times p olds)) (λ in_olds. absurd (let z = far p in_olds in let a = there in omega arith)) (λ out. omega arith)
 
 module _ (capacities : List ℕ) (places tickets : ℕ) (m : Memory) (vs : List View) (h : List Mark) (r : MemoryRule capacities places tickets m vs h) (id : ℕ) (v : View) (at : get_elem? vs id ≡ some v) (hold : Hold) (mine : v.hold ≡ Some hold)
-    (even : ℕ) (link : Field) (slot key next : ℕ) (needs : NeedsUnlock v hold even link slot key next) where
+    (even : ℕ) (link : Field) (slot key next : ℕ) (needs : NeedsUnlink v hold even link slot key next) where
   abbrev bucket_rule : BucketRule capacities hold.class m h (updates_of h) vs (r.bucket hold.class)
   bucket_rule = rule capacities places tickets m vs h r id v at hold mine
 
@@ -143,7 +145,7 @@ module _ (capacities : List ℕ) (places tickets : ℕ) (m : Memory) (vs : List 
   h14 = h ++ Done (record { caller = v.place; op = Del key }) ∷ Unlinked slot ∷ []
 
   abbrev w14 : View
-  w14 = after_unlock v hold even link slot key next h
+  w14 = after_unlink v hold even link slot key next h
 
   abbrev new14 : Hold
   new14 = record (knowing hold link next) { clear = false; unlinked = Some slot }
@@ -244,6 +246,12 @@ module _ (capacities : List ℕ) (places tickets : ℕ) (m : Memory) (vs : List 
 
   gone14 : (s : ℕ) → s ≢ slot → gone_at s h14 ≡ gone_at s h
   gone14 s ne = ap (gone_at s) (sym whole14) ∙ gone_at-unlinked_other h1 s slot (λ e. ne (sym e)) ∙ gone_at-same h (Done (record { caller = v.place; op = Del key })) tt s
+
+  last14 : (s : ℕ) → s ≢ slot → last_unlinked s h14 ≡ last_unlinked s h
+  last14 s ne = ap (last_unlinked s) (sym whole14) ∙ last_unlinked-other h1 s slot (λ e. ne (sym e)) ∙ last_unlinked-same h (Done (record { caller = v.place; op = Del key })) tt s
+
+  order14 : AreMarks places h14
+  order14 = subst (AreMarks places) whole14 (marks_snoc places h1 (Unlinked slot) tt (marks_snoc places h (Done (record { caller = v.place; op = Del key })) tt r.marks))
 
   gone_here14 : gone_at slot h14 ≡ Some (length h + 1)
   gone_here14 = ap (gone_at slot) (sym whole14) ∙ gone_at-unlinked_here h1 slot ∙ ap Some (length-append h (Done (record { caller = v.place; op = Del key }) ∷ []))
@@ -384,7 +392,7 @@ module _ (capacities : List ℕ) (places tickets : ℕ) (m : Memory) (vs : List 
   will14 section entered from Ended a = said14 section None a
 
   free14 : (s : ℕ) → s ≢ slot → IsFreeOfReaders hold.class h vs s → IsFreeOfReaders hold.class h14 (set vs id w14) s
-  free14 s ne free = free_each hold.class h h14 vs id w14 s (gone14 s ne) (λ p section was is class. free p id v section was at is class) free
+  free14 s ne free = free_each hold.class h h14 vs id w14 s (last14 s ne) (λ p section was is class. free p id v section was at is class) free
 
   chains14 : (first : ℕ) (xs : List ℕ) → IsPath (λ s. m (Chain s)) first xs → IsPath (λ s. m14 (Chain s)) first xs
   chains14 first xs path = IsPath-same (λ s. m (Chain s)) (λ s. m14 (Chain s)) first xs (λ s _. (slots14 link needs.link_is s).2) path
@@ -393,7 +401,7 @@ module _ (capacities : List ℕ) (places tickets : ℕ) (m : Memory) (vs : List 
   b14 = record (r.bucket hold.class) { chain = cut.before ++ cut.after; hold = Some new14 }
 
   -- H14
-  pub law14 : MemoryRule capacities places tickets m14 (set vs id (after_unlock v hold even link slot key next h)) h14
+  pub law14 : MemoryRule capacities places tickets m14 (set vs id (after_unlink v hold even link slot key next h)) h14
   law14 =
       let held : (r.bucket hold.class).hold ≡ Some hold = had capacities places tickets m vs h r id v at hold mine in
       let words = words14 link needs.link_is hold.class in
@@ -402,7 +410,7 @@ module _ (capacities : List ℕ) (places tickets : ℕ) (m : Memory) (vs : List 
       let other_moved : times slot (r.bucket hold.class).moved ≡ 0 = elsewhere (r.bucket hold.class).moved (λ x. let a = roles14 x in let l = at_most_one (is_slot_of capacities hold.class x) _ a in omega arith) in
       let other_taken : times slot (option_to_list hold.taken) ≡ 0 = elsewhere (option_to_list hold.taken) (λ x. let a = roles14 x in let l = at_most_one (is_slot_of capacities hold.class x) _ a in omega arith) in
       after_step capacities places tickets m vs h r id v w14 at m14 h14
-      (seats_updated capacities places tickets m vs h r id v at hold mine even needs.commit (Del key) new14 refl m14 words.4 (Unlinked slot ∷ []) longer14 (λ p. refl) open14 entered14 reuse14 present14)
+      (seats_updated capacities places tickets m vs h r id v at hold mine even needs.commit (Del key) new14 refl m14 words.4 (Unlinked slot ∷ []) longer14 (λ p. refl) open14 entered14 order14 reuse14 present14)
       hold.class b14
       (λ _. record {
         chained = record {
@@ -436,6 +444,7 @@ module _ (capacities : List ℕ) (places tickets : ℕ) (m : Memory) (vs : List 
       })
       (λ d _ ne. record {
         words = class_words capacities hold.class d m next ne link (of_class14 link needs.link_is);
-        marks = marks_elsewhere capacities places tickets m vs h r id v at hold mine d ne (record { caller = v.place; op = Del key }) class14 h14 longer14 (λ s of. gone14 s (λ e. ne (one_class capacities d hold.class slot (subst (λ z. is_slot_of capacities d z ≡ true) e of) slot_of14)));
+        marks = marks_elsewhere capacities places tickets m vs h r id v at hold mine d ne (record { caller = v.place; op = Del key }) class14 h14 longer14 (λ s of. gone14 s (λ e. ne (one_class capacities d hold.class slot (subst (λ z. is_slot_of capacities d z ≡ true) e of) slot_of14)))
+            (λ s of. last14 s (λ e. ne (one_class capacities d hold.class slot (subst (λ z. is_slot_of capacities d z ≡ true) e of) slot_of14)));
         view = elsewhere_held capacities places tickets m vs h r id v at d hold new14 mine refl ne w14 refl refl refl;
       })

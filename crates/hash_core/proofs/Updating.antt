@@ -19,7 +19,7 @@ use Rattle.prcu_marks.specs.declared.commit.Commit.{Commit}
 use Rattle.hash_core.specs.declared.view.View.{View}
 use Rattle.hash_core.specs.Memory.{Memory}
 use Rattle.prcu_marks.specs.Marks.{updates_of, open_at, own_of, entered_at}
-use Rattle.hash_core.specs.Marks.{ReuseByClass}
+use Rattle.hash_core.specs.Marks.{AreMarks, ReuseByClass}
 use Rattle.prcu_model.specs.Dictionary.{WasSaid}
 use Rattle.prcu_marks.specs.Commits.{updates_by}
 use Rattle.hash_core.specs.Seats.{HasNoCommit}
@@ -69,6 +69,7 @@ module _ (capacities : List ℕ) (places tickets : ℕ) (m : Memory) (vs : List 
       (none : (p : ℕ) → own_of p more ≡ [])
       (opened : (p : ℕ) → open_at p (h ++ Done (record { caller = v.place; op = op }) ∷ more) ≡ open_at p h)
       (entered : (p : ℕ) → entered_at p (h ++ Done (record { caller = v.place; op = op }) ∷ more) ≡ entered_at p h)
+      (order : AreMarks places (h ++ Done (record { caller = v.place; op = op }) ∷ more))
       (reuse : ReuseByClass capacities (h ++ Done (record { caller = v.place; op = op }) ∷ more))
       (is_update : IsUpdateAt (map_of (updates_of h)) op)
     where
@@ -108,5 +109,6 @@ module _ (capacities : List ℕ) (places tickets : ℕ) (m : Memory) (vs : List 
             let part = total_part (λ (z : View). z.tickets) vs id v at in
             let n = one_longer in omega arith);
         legal = subst IsLegal (sym longer) (legal_more (updates_of h) (record { caller = v.place; op = op }) r.legal is_update);
+        marks = order;
         reuse = reuse;
       }

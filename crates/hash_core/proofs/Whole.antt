@@ -10,7 +10,7 @@ use Rattle.hash_core.specs.declared.view.View.{View}
 use Rattle.list_laws.specs.Counts.{total}
 use Rattle.hash_core.specs.Memory.{Memory}
 use Rattle.prcu_marks.specs.Marks.{updates_of}
-use Rattle.hash_core.specs.Marks.{ReuseByClass}
+use Rattle.hash_core.specs.Marks.{AreMarks, ReuseByClass}
 use Rattle.hash_core.specs.Buckets.{Bucket}
 use Rattle.hash_core.specs.Seats.{AreSeen, AreApart, AreOwned, AreOpen, AreHeld, IsTurned}
 use Rattle.hash_core.specs.Rule.{BucketRule, MemoryRule}
@@ -26,6 +26,7 @@ pub record SeatsRule (capacities : List ℕ) (places tickets : ℕ) (m : Memory)
   pub turned : IsTurned m vs (length (updates_of h))
   pub tickets_are : length (updates_of h) + total (λ v. v.tickets) vs ≡ tickets
   pub legal : IsLegal (updates_of h)
+  pub marks : AreMarks places h
   pub reuse : ReuseByClass capacities h
 
 -- What the parts on a class read is the same after the step.
@@ -51,6 +52,7 @@ module _ (capacities : List ℕ) (places tickets : ℕ) (m : Memory) (vs : List 
     turned = seats.turned;
     tickets_are = seats.tickets_are;
     legal = seats.legal;
+    marks = seats.marks;
     reuse = seats.reuse;
     bucket = λ d. cond (d == c) b (r.bucket d);
     buckets = λ d small. dite (ℕ_discrete d c)
@@ -72,6 +74,7 @@ module _ (capacities : List ℕ) (places tickets : ℕ) (m : Memory) (vs : List 
     turned = seats.turned;
     tickets_are = seats.tickets_are;
     legal = seats.legal;
+    marks = seats.marks;
     reuse = seats.reuse;
     bucket = r.bucket;
     buckets = λ d small. still d small (others d small);

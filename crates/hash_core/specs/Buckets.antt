@@ -18,6 +18,7 @@ use Rattle.hash_core.specs.Lists.{IsPath}
 use Rattle.hash_core.specs.Memory.{Memory}
 use Rattle.hash_core.specs.Slots.{is_slot_of, IsOfClass}
 use Rattle.prcu_marks.specs.Marks.{gone_at, IsGone}
+use Rattle.hash_core.specs.Marks.{last_unlinked}
 use Rattle.hash_core.specs.Known.{known_in}
 
 -- A class: its chain, its free list, its retired list, the list that its holder has in hand, and what the holder knows.
@@ -108,9 +109,9 @@ inside_count c (Some section) = if section.key % 64 == c then 1 else 0
 pub record AreCounted (c : ℕ) (m : Memory) (vs : List View) : Type 0 where
   pub readers : m (Readers c) ≡ total (λ v. inside_count c v.section) vs
 
--- No open section of the class was entered before the slot was unlinked.
+-- No open section of the class was entered before the slot was unlinked last, whatever came after that.
 abbrev pub IsFreeOfReaders : ℕ → List Mark → List View → ℕ → Type 0
-IsFreeOfReaders c h vs s = (p id : ℕ) (v : View) (section : Section) → gone_at s h ≡ Some p → get_elem? vs id ≡ some v → v.section ≡ Some section → section.key % 64 ≡ c → p < section.entered
+IsFreeOfReaders c h vs s = (p id : ℕ) (v : View) (section : Section) → last_unlinked s h ≡ Some p → get_elem? vs id ≡ some v → v.section ≡ Some section → section.key % 64 ≡ c → p < section.entered
 
 -- That holds of free slots and of the list in hand, and where the holder found no reader of all slots of the class.
 pub record AreClean (capacities : List ℕ) (c : ℕ) (h : List Mark) (vs : List View) (b : Bucket) : Type 0 where

@@ -1,26 +1,14 @@
 -- A table as it is made: all slots are free, and one view has all places.
 -- Source: docs/ALGORITHM.md, "The hash dictionary".
-use Rattle.std.specs.Prelude.{◌≡◌, ℕ, ◌+◌, ◌<◌, ◌==◌, if◌then◌else◌, true, List, [], None}
+use Rattle.std.specs.Prelude.{◌≡◌, ℕ, ◌+◌, ◌<◌, ◌==◌, if◌then◌else◌, true, List, []}
 use Rattle.hash_core.specs.declared.words.Field.TheVariants.{Front, Lock, Readers, Head, Free, Retired, Chain}
 use Rattle.hash_core.specs.declared.view.View.{View}
 use Rattle.hash_core.specs.Memory.{Memory}
 use Rattle.hash_core.specs.Slots.{capacity, base, is_slot_of}
+use Rattle.hash_core.specs.Steps.{new_view}
 
 abbrev pub first_view : ℕ → ℕ → View
-first_view places tickets = record {
-  place = 0;
-  places = places;
-  tickets = tickets;
-  section = None;
-  sections = 0;
-  hold = None;
-  commit = None;
-  joined = [];
-  heard = [];
-  own = [];
-  trail = [];
-  seen = [];
-}
+first_view places tickets = new_view 0 places tickets []
 
 -- the first slot of a class, 0 where it has none
 abbrev pub first_slot : List ℕ → ℕ → ℕ

@@ -4,9 +4,11 @@ pub mod Slots
 pub mod Marks
 pub mod Known
 pub mod Steps
+pub mod Kinds
 pub mod Fresh
 pub mod Buckets
 pub mod Readers
 pub mod Seats
 pub mod Rule
 pub mod Pairs
+pub mod Laws

@@ -11,7 +11,7 @@ use Rattle.hash_core.specs.Memory.{Memory, memory_of}
 use Rattle.hash_core.specs.Slots.{word_count}
 use Rattle.prcu_marks.specs.Marks.{updates_of}
 use Rattle.prcu_marks.specs.Bounds.{most_tickets}
-use Rattle.hash_core.specs.Marks.{ReuseByClass}
+use Rattle.hash_core.specs.Marks.{AreMarks, ReuseByClass}
 use Rattle.hash_core.specs.Buckets.{Bucket, IsChained, AreListed, HaveOneRole, IsMapped, IsLocked, IsKnown, HaveAges, AreCounted, AreClean}
 use Rattle.hash_core.specs.Readers.{AreAnswered}
 use Rattle.hash_core.specs.Seats.{AreSeen, AreApart, AreOwned, AreOpen, AreHeld, IsTurned}
@@ -48,6 +48,7 @@ pub record MemoryRule (capacities : List ℕ) (places tickets : ℕ) (m : Memory
   pub turned : IsTurned m vs (length (updates_of h))
   pub tickets_are : length (updates_of h) + total (λ v. v.tickets) vs ≡ tickets
   pub legal : IsLegal (updates_of h)
+  pub marks : AreMarks places h
   pub reuse : ReuseByClass capacities h
   pub bucket : ℕ → Bucket
   pub buckets : (c : ℕ) → c < 64 → BucketRule capacities c m h (updates_of h) vs (bucket c)

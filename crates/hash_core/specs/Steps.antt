@@ -1,6 +1,6 @@
 -- The kinds of step: what each needs of the stepping view, and the view after it.
 -- Source: docs/ALGORITHM.md, "The steps of the hash dictionary".
-use Rattle.std.specs.Prelude.{◌≡◌, ◌≢◌, ℕ, zero, suc, ◌+◌, ◌-◌, ◌%◌, ◌<◌, ◌≤◌, ◌==◌, nat_lt, if◌then◌else◌, true, false, List, [], ◌∷◌, ◌++◌, length, Some, None}
+use Rattle.std.specs.Prelude.{◌≡◌, ◌≢◌, ℕ, ◌+◌, ◌-◌, ◌%◌, ◌<◌, ◌≤◌, ◌==◌, nat_lt, if◌then◌else◌, true, false, List, [], ◌∷◌, ◌++◌, length, Some, None}
 use mathlib.Core.List.{IsPrefix}
 use Rattle.prcu_marks.specs.declared.mark.Mark.{Mark}
 use Rattle.prcu_marks.specs.declared.mark.Mark.TheVariants.{Entered, Left, Done, Given, Unlinked}
@@ -15,6 +15,7 @@ use Rattle.hash_core.specs.declared.view.Section.{Section}
 use Rattle.hash_core.specs.declared.view.Hold.{Hold}
 use Rattle.hash_core.specs.declared.view.View.{View}
 use Rattle.prcu_marks.specs.Marks.{updates_of, longer}
+use Rattle.list_laws.specs.Counts.{numbers_from}
 use Rattle.hash_core.specs.Known.{known_in, knowing, ShowsAbsent, IsOnWalk}
 
 -- the view after a step is `after` of the whole list of marks before it, of which the view had seen a beginning
@@ -33,16 +34,10 @@ marked v h mark = record v { own = v.own ++ mark ∷ []; seen = h ++ mark ∷ []
 abbrev pub IsQuiet : View → Type 0
 IsQuiet v = (v.section ≡ None) × (v.hold ≡ None)
 
--- H1: the second seat gets the last places, and tickets. It has seen what the first has, and made no step.
-abbrev pub NeedsSplit : View → ℕ → ℕ → Type 0
-NeedsSplit v places tickets = IsQuiet v × (1 ≤ places) × (places < v.places) × (tickets ≤ v.tickets)
-
-abbrev pub first_of : ℕ → ℕ → View → View
-first_of places tickets v = record v { places = v.places - places; tickets = v.tickets - tickets }
-
-abbrev pub second_of : ℕ → ℕ → View → View
-second_of places tickets v = record {
-  place = v.place + v.places - places;
+-- a view that has made no step, and has seen these marks
+abbrev pub new_view : ℕ → ℕ → ℕ → List Mark → View
+new_view place places tickets seen = record {
+  place = place;
   places = places;
   tickets = tickets;
   section = None;
@@ -53,19 +48,24 @@ second_of places tickets v = record {
   heard = [];
   own = [];
   trail = [];
-  seen = v.seen;
+  seen = seen;
 }
 
--- the numbers from the first on, so many
-abbrev pub places_from : ℕ → ℕ → List ℕ
-places_from first zero = []
-places_from first (suc n) = first ∷ places_from (first + 1) n
+-- H1: the second seat gets the last places, and tickets. It has seen what the first has, and made no step.
+abbrev pub NeedsSplit : View → ℕ → ℕ → Type 0
+NeedsSplit v places tickets = IsQuiet v × (1 ≤ places) × (places < v.places) × (tickets ≤ v.tickets)
+
+abbrev pub first_of : ℕ → ℕ → View → View
+first_of places tickets v = record v { places = v.places - places; tickets = v.tickets - tickets }
+
+abbrev pub second_of : ℕ → ℕ → View → View
+second_of places tickets v = new_view (v.place + v.places - places) places tickets v.seen
 
 -- H2: the other seat's places are spent, and the longer of the two lists was seen.
 abbrev pub both_of : View → View → View
 both_of v other = record v {
   tickets = v.tickets + other.tickets;
-  joined = v.joined ++ (places_from other.place other.places ++ other.joined);
+  joined = v.joined ++ (numbers_from other.place other.places ++ other.joined);
   heard = v.seen ∷ other.seen ∷ (v.heard ++ other.heard);
   own = v.own ++ other.own;
   trail = v.trail ++ other.trail;
@@ -73,31 +73,18 @@ both_of v other = record v {
 }
 
 abbrev pub spent : View
-spent = record {
-  place = 0;
-  places = 0;
-  tickets = 0;
-  section = None;
-  sections = 0;
-  hold = None;
-  commit = None;
-  joined = [];
-  heard = [];
-  own = [];
-  trail = [];
-  seen = [];
-}
+spent = new_view 0 0 0 []
 
 -- H3: a section with this key is entered.
-abbrev pub after_clock_load : View → ℕ → List Mark → View
-after_clock_load v key h = record (marked v h (Entered v.place v.sections key)) {
+abbrev pub after_enter : View → ℕ → List Mark → View
+after_enter v key h = record (marked v h (Entered v.place v.sections key)) {
   section = Some (record { key = key; count = v.sections; entered = length h; from = length (updates_of h); state = Start; loaded = None });
   sections = v.sections + 1;
 }
 
 -- H4: it is left.
-abbrev pub after_announce : View → Section → List Mark → View
-after_announce v section h = record (marked v h (Left v.place section.count)) { section = None }
+abbrev pub after_leave : View → Section → List Mark → View
+after_leave v section h = record (marked v h (Left v.place section.count)) { section = None }
 
 -- the slot at which a search stands
 abbrev pub StandsAt : SearchState → ℕ → Type 0
@@ -126,30 +113,30 @@ searched section (Passed s) (Next t) number = record section { state = link_stan
 searched section (Found s) (Value t) number = record section { loaded = Some number }
 searched section _ _ number = section
 
-abbrev pub after_enter_by_stamp : View → Section → Field → ℕ → View
-after_enter_by_stamp v section field number = record v { section = Some (searched section section.state field number) }
+abbrev pub after_search_load : View → Section → Field → ℕ → View
+after_search_load v section field number = record v { section = Some (searched section section.state field number) }
 
 -- H6: the lock of a class's bucket is exchanged from 0 to the place plus 1.
 abbrev pub fresh_hold : ℕ → Hold
 fresh_hold c = record { class = c; known = []; clear = false; taken = None; unlinked = None; moved = None }
 
-abbrev pub after6 : View → ℕ → ℕ → View
-after6 v c found = if found == 0 then record v { hold = Some (fresh_hold c) } else v
+abbrev pub after_lock : View → ℕ → ℕ → View
+after_lock v c found = if found == 0 then record v { hold = Some (fresh_hold c) } else v
 
 -- H7: the lock is given up, with nothing in hand and no odd front.
-abbrev pub NeedsBegin : View → Hold → Type 0
-NeedsBegin v hold = (v.hold ≡ Some hold) × (hold.taken ≡ None) × (hold.unlinked ≡ None) × (hold.moved ≡ None) × (v.commit ≡ None)
+abbrev pub NeedsUnlock : View → Hold → Type 0
+NeedsUnlock v hold = (v.hold ≡ Some hold) × (hold.taken ≡ None) × (hold.unlinked ≡ None) × (hold.moved ≡ None) × (v.commit ≡ None)
 
-abbrev pub after_begin : View → View
-after_begin v = record v { hold = None }
+abbrev pub after_unlock : View → View
+after_unlock v = record v { hold = None }
 
 -- H8: the readers of the class are loaded under its lock.
-abbrev pub after8 : View → Hold → ℕ → View
-after8 v hold found = if found == 0 then record v { hold = Some (record hold { clear = true }) } else v
+abbrev pub after_readers_load : View → Hold → ℕ → View
+after_readers_load v hold found = if found == 0 then record v { hold = Some (record hold { clear = true }) } else v
 
 -- H9: another word of the class, or of a slot of it, is loaded under the lock. Who finds 0 has seen all marks.
-abbrev pub after9 : View → Hold → Field → ℕ → List Mark → View
-after9 v hold field found h = record v { hold = Some (knowing hold field found); seen = if found == 0 then h else v.seen }
+abbrev pub after_held_load : View → Hold → Field → ℕ → List Mark → View
+after_held_load v hold field found h = record v { hold = Some (knowing hold field found); seen = if found == 0 then h else v.seen }
 
 -- H10: the free word, the retired word, or the chain of the slot in hand is stored.
 -- Take: the first free slot comes into the hand.
@@ -207,20 +194,20 @@ IsFieldOf slot (Value s) = s ≡ slot
 IsFieldOf slot (Next s) = s ≡ slot
 IsFieldOf slot _ = ⊥
 
-pub record NeedsSeize (v : View) (hold : Hold) (slot : ℕ) (field : Field) : Type 0 where
+pub record NeedsWrite (v : View) (hold : Hold) (slot : ℕ) (field : Field) : Type 0 where
   pub hold_is : v.hold ≡ Some hold
   pub taken : hold.taken ≡ Some slot
   pub field_is : IsFieldOf slot field
 
-abbrev pub after_seize : View → Hold → Field → ℕ → View
-after_seize v hold field number = record v { hold = Some (knowing hold field number) }
+abbrev pub after_write : View → Hold → Field → ℕ → View
+after_write v hold field number = record v { hold = Some (knowing hold field number) }
 
 -- H12: the front is exchanged from an even number to the next, by the holder of a lock.
-abbrev pub Needs12 : View → Hold → ℕ → Type 0
-Needs12 v hold even = (v.hold ≡ Some hold) × (even % 2 ≡ 0)
+abbrev pub NeedsCommit : View → Hold → ℕ → Type 0
+NeedsCommit v hold even = (v.hold ≡ Some hold) × (even % 2 ≡ 0)
 
-abbrev pub after12 : View → ℕ → ℕ → View
-after12 v even found = if found == even then record v { commit = Some (record { found = even; stored = false }) } else v
+abbrev pub after_commit : View → ℕ → ℕ → View
+after_commit v even found = if found == even then record v { commit = Some (record { found = even; stored = false }) } else v
 
 -- the front is odd by this view, and its update isn't made yet
 pub record HasCommit (v : View) (hold : Hold) (even : ℕ) : Type 0 where
@@ -239,7 +226,7 @@ updated_view v hold even op h more = record v {
 }
 
 -- H13: the slot taken is linked at the head, where the known walk shows its key absent.
-pub record NeedsLock (v : View) (hold : Hold) (even slot key value first : ℕ) : Type 0 where
+pub record NeedsLink (v : View) (hold : Hold) (even slot key value first : ℕ) : Type 0 where
   pub commit : HasCommit v hold even
   pub taken : hold.taken ≡ Some slot
   pub key_is : known_in hold.known (Key slot) ≡ Some key
@@ -249,8 +236,8 @@ pub record NeedsLock (v : View) (hold : Hold) (even slot key value first : ℕ) 
   pub class : key % 64 ≡ hold.class
   pub absent : ShowsAbsent hold key
 
-abbrev pub after_lock : View → Hold → ℕ → ℕ → ℕ → ℕ → List Mark → View
-after_lock v hold even slot key value h = updated_view v (record (knowing hold (Head hold.class) slot) { taken = None }) even (Put key value) h []
+abbrev pub after_link : View → Hold → ℕ → ℕ → ℕ → ℕ → List Mark → View
+after_link v hold even slot key value h = updated_view v (record (knowing hold (Head hold.class) slot) { taken = None }) even (Put key value) h []
 
 -- the link to a slot on the known walk: the head, or the next of a slot on the walk
 abbrev pub LinksTo : Hold → Field → Type 0
@@ -259,7 +246,7 @@ LinksTo hold (Next s) = IsOnWalk hold s
 LinksTo hold _ = ⊥
 
 -- H14: a slot on the known walk is unlinked.
-pub record NeedsUnlock (v : View) (hold : Hold) (even : ℕ) (link : Field) (slot key next : ℕ) : Type 0 where
+pub record NeedsUnlink (v : View) (hold : Hold) (even : ℕ) (link : Field) (slot key next : ℕ) : Type 0 where
   pub commit : HasCommit v hold even
   pub empty : hold.unlinked ≡ None
   pub link_is : LinksTo hold link
@@ -268,21 +255,21 @@ pub record NeedsUnlock (v : View) (hold : Hold) (even : ℕ) (link : Field) (slo
   pub key_is : known_in hold.known (Key slot) ≡ Some key
   pub next_is : known_in hold.known (Next slot) ≡ Some next
 
-abbrev pub after_unlock : View → Hold → ℕ → Field → ℕ → ℕ → ℕ → List Mark → View
-after_unlock v hold even link slot key next h = updated_view v (record (knowing hold link next) { clear = false; unlinked = Some slot }) even (Del key) h (Unlinked slot ∷ [])
+abbrev pub after_unlink : View → Hold → ℕ → Field → ℕ → ℕ → ℕ → List Mark → View
+after_unlink v hold even link slot key next h = updated_view v (record (knowing hold link next) { clear = false; unlinked = Some slot }) even (Del key) h (Unlinked slot ∷ [])
 
 -- H15: the value of a slot on the known walk is replaced.
-pub record Needs15 (v : View) (hold : Hold) (even slot key : ℕ) : Type 0 where
+pub record NeedsReplace (v : View) (hold : Hold) (even slot key : ℕ) : Type 0 where
   pub commit : HasCommit v hold even
   pub on_walk : IsOnWalk hold slot
   pub key_is : known_in hold.known (Key slot) ≡ Some key
 
-abbrev pub after15 : View → Hold → ℕ → ℕ → ℕ → ℕ → List Mark → View
-after15 v hold even slot key value h = updated_view v (knowing hold (Value slot) value) even (Set key value) h []
+abbrev pub after_replace : View → Hold → ℕ → ℕ → ℕ → ℕ → List Mark → View
+after_replace v hold even slot key value h = updated_view v (knowing hold (Value slot) value) even (Set key value) h []
 
 -- H16: the front is made even again.
-abbrev pub NeedsCountFree : View → ℕ → Type 0
-NeedsCountFree v even = v.commit ≡ Some (record { found = even; stored = true })
+abbrev pub NeedsEven : View → ℕ → Type 0
+NeedsEven v even = v.commit ≡ Some (record { found = even; stored = true })
 
-abbrev pub after_count_free : View → View
-after_count_free v = record v { commit = None }
+abbrev pub after_even : View → View
+after_even v = record v { commit = None }

@@ -33,8 +33,17 @@ use Rattle.hash_run.specs.Crews.{idle_view, IsHired, IsCrew, IsDone, AreDone, Is
 use Rattle.hash_run.proofs.Roomy.{PutsInto, each_put_there, all_stand, all_from_own, told_from_lines, all_lines_from_ops, at_number}
 
 -- a seat that has done nothing is informed
-idle_informed : (places place tickets : ℕ) → IsInformed places (idle_view place 1 tickets)
-idle_informed places place tickets = record { works = omega arith; heard = tt; legal = tt; met = λ p answers. refl; within = λ p far. refl }
+idle_informed : (capacities : List ℕ) (places place tickets : ℕ) → IsInformed capacities places (idle_view place 1 tickets)
+idle_informed capacities places place tickets = record {
+  works = omega arith;
+  heard = tt;
+  legal = tt;
+  marks = record { entered = λ j p c x e. absurd (cc); left = λ j p c e. absurd (cc); others = λ j m e. absurd (cc) };
+  reuse = λ j s c i p o given. absurd (cc);
+  met = λ p answers. refl;
+  unused = λ p has far. refl;
+  within = λ p far. refl;
+}
 
 pub ready : (table : TableAt) (scripts : List (List Op)) (workers : List (Work ClientAt)) → IsCrew table scripts workers → AreReadyFor (λ (c : ClientAt). c.view.tickets) workers scripts
 ready table scripts workers crew i worker there =
@@ -54,16 +63,16 @@ module _ (table : TableAt) (scripts : List (List Op)) (befores afters : List (Wo
   done_at i after there =
       let b = before_of i after there in
       let start : b.0.client ≡ record { table = table; view = idle_view i 1 (length (get_or scripts i [])) } = b.1.client in
-      let d = chain_keeps HasCalled (λ c. (c.table ≡ table) × (c.view.place ≡ i) × (c.view.places ≡ 1) × IsInformed table.places c.view)
+      let d = chain_keeps HasCalled (λ c. (c.table ≡ table) × (c.view.place ≡ i) × (c.view.places ≡ 1) × IsInformed table.capacities table.places c.view)
       (λ c op told d so call.
       let stays = calls_stay c.table.capacities c.view d.view op told call.makes in (
         call.table ∙ so.0,
         stays.0 ∙ so.1,
         stays.1 ∙ so.2,
-        subst (λ (t : TableAt). IsInformed t.places d.view) so.0 call.informed,
+        subst (λ (t : TableAt). IsInformed t.capacities t.places d.view) so.0 call.informed,
       ))
       (get_or scripts i []) after.told.entries b.0.client after.client
-      (ap (λ (c : ClientAt). c.table) start, ap (λ (c : ClientAt). c.view.place) start, ap (λ (c : ClientAt). c.view.places) start, subst (λ (c : ClientAt). IsInformed table.places c.view) (sym start) (idle_informed table.places i (length (get_or scripts i []))))
+      (ap (λ (c : ClientAt). c.table) start, ap (λ (c : ClientAt). c.view.place) start, ap (λ (c : ClientAt). c.view.places) start, subst (λ (c : ClientAt). IsInformed table.capacities table.places c.view) (sym start) (idle_informed table.capacities table.places i (length (get_or scripts i []))))
       b.2 in
       record { table_is = d.0; place = d.1; one_place = d.2; informed = d.3 }
 
@@ -82,7 +91,7 @@ module _ (table : TableAt) (scripts : List (List Op)) (befores afters : List (Wo
 
   -- ---- the joined seat
 
-  module _ (seat : View) (joined : IsJoined (map (λ (w : Work ClientAt). w.client.view) afters) seat) (informed : IsInformed table.places seat) (places : table.places ≡ length scripts) where
+  module _ (seat : View) (joined : IsJoined (map (λ (w : Work ClientAt). w.client.view) afters) seat) (informed : IsInformed table.capacities table.places seat) (places : table.places ≡ length scripts) where
     abbrev views : List View
     views = map (λ (w : Work ClientAt). w.client.view) afters
 
@@ -210,7 +219,7 @@ entries_are (w ∷ ws) = ap (λ xs. w.told.entries ∷ xs) (entries_are ws)
 
 -- What a run hands on once its seats are one: these told lists are explained by the updates that the seat has seen.
 pub told_explained : (table : TableAt) (scripts : List (List Op)) (befores afters : List (Work ClientAt)) → IsCrew table scripts befores → length afters ≡ length befores → HaveMade HasCalled befores scripts afters
-    → (seat : View) → IsJoined (map (λ (w : Work ClientAt). w.client.view) afters) seat → IsInformed table.places seat → table.places ≡ length scripts → AreCapacities scripts table.capacities
+    → (seat : View) → IsJoined (map (λ (w : Work ClientAt). w.client.view) afters) seat → IsInformed table.capacities table.places seat → table.places ≡ length scripts → AreCapacities scripts table.capacities
     → (told : List (Roomy Told)) → told ≡ [] ++ map (λ (w : Work ClientAt). w.told) afters
     → (slots : ℕ) → AreExplainable scripts (entries_of told) (updates_of seat.seen) slots
 told_explained table scripts befores afters crew count made seat joined informed places right told is slots =

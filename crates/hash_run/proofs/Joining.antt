@@ -12,11 +12,10 @@ use Rattle.client_run.specs.Workers.{Work}
 use Rattle.hash_core.specs.declared.view.View.{View}
 use Rattle.hash_core.specs.declared.words.Field.TheVariants.{Front}
 use Rattle.hash_core.specs.declared.words.Kind.TheVariants.{H2}
-use Rattle.list_laws.specs.Counts.{times}
+use Rattle.list_laws.specs.Counts.{times, numbers_from}
 use Rattle.hash_core.specs.Seats.{AnswersFor}
-use Rattle.hash_core.specs.Steps.{stepped, IsQuiet, both_of, places_from}
-use Rattle.list_laws.proofs.Lists.{times_append}
-use Rattle.hash_core.proofs.Splits.{from_times}
+use Rattle.hash_core.specs.Steps.{stepped, IsQuiet, both_of}
+use Rattle.list_laws.proofs.Lists.{times_append, from_times}
 use Rattle.class_hash.specs.Answers.{IsInformed}
 use Rattle.class_hash.specs.Seats.{TableAt}
 use Rattle.class_hash.specs.Clients.{ClientAt}
@@ -67,8 +66,8 @@ joined_more vs seat other w front joined quiet place works is mine theirs = reco
     both : View
     both = stepped (both_of seat other) H2 Front front
 
-    joined_places : (p : ℕ) → times p (seat.joined ++ (places_from other.place other.places ++ other.joined)) ≡ times p seat.joined + (times p (places_from other.place other.places) + times p other.joined)
-    joined_places p = let outer = times_append p seat.joined (places_from other.place other.places ++ other.joined) in let inner = times_append p (places_from other.place other.places) other.joined in omega arith
+    joined_places : (p : ℕ) → times p (seat.joined ++ (numbers_from other.place other.places ++ other.joined)) ≡ times p seat.joined + (times p (numbers_from other.place other.places) + times p other.joined)
+    joined_places p = let outer = times_append p seat.joined (numbers_from other.place other.places ++ other.joined) in let inner = times_append p (numbers_from other.place other.places) other.joined in omega arith
 
     keeps_answer : (p : ℕ) → AnswersFor seat p → AnswersFor (stepped (both_of seat other) H2 Front front) p
     keeps_answer p (inl has) = inl has
@@ -86,7 +85,7 @@ pub record IsGathered (table : TableAt) (workers rest : List (Work ClientAt)) (b
   pub whole : workers ≡ gone ++ rest
   pub told_is : told ≡ before ++ map (λ (w : Work ClientAt). w.told) gone
   pub joined : IsJoined (map (λ (w : Work ClientAt). w.client.view) gone) seat
-  pub informed : IsInformed table.places seat
+  pub informed : IsInformed table.capacities table.places seat
 
 -- the worker at the front of those that are left
 at_front : (gone rest : List (Work ClientAt)) (w : Work ClientAt) → slice_get (gone ++ w ∷ rest) (length gone) ≡ Some w
@@ -103,11 +102,11 @@ gathered_first table workers rest before told id seat done d =
       whole = d.first;
       told_is = d.told_is;
       joined = subst (λ (v : View). IsJoined (d.worker.client.view ∷ []) v) (sym d.view_is) (joined_first d.worker.client.view (subst IsQuiet d.view_is d.quiet) is.place works);
-      informed = subst (IsInformed table.places) (sym d.view_is) is.informed;
+      informed = subst (IsInformed table.capacities table.places) (sym d.view_is) is.informed;
     }
 
 pub gathered_more : (table : TableAt) (workers rest left : List (Work ClientAt)) (before told more : List (Roomy Told)) (id : _) (seat other w : View) (front : ℕ) → AreDone table workers → IsGathered table workers rest before told seat → HasDismissed rest left told more id other
-    → w ≡ stepped (both_of seat other) H2 Front front → IsPrefix seat.seen w.seen → IsPrefix other.seen w.seen → IsInformed table.places w → IsGathered table workers left before more w
+    → w ≡ stepped (both_of seat other) H2 Front front → IsPrefix seat.seen w.seen → IsPrefix other.seen w.seen → IsInformed table.capacities table.places w → IsGathered table workers left before more w
 gathered_more table workers rest left before told more id seat other w front done g d is mine theirs informed =
     let whole : workers ≡ g.gone ++ d.worker ∷ left = g.whole ∙ ap (λ ws. g.gone ++ ws) d.first in
     let worker = done (length g.gone) d.worker (ap (λ ws. slice_get ws (length g.gone)) whole ∙ at_front g.gone left d.worker) in

@@ -1,36 +1,26 @@
 -- Workers on one hash dictionary, before and after their scripts.
 -- Source: docs/ALGORITHM.md, "Scripts beside each other on the hash dictionary".
-use Rattle.std.specs.Prelude.{◌≡◌, ℕ, ◌<◌, ◌≤◌, List, [], ◌∷◌, ◌++◌, length, slice_get, slice_index_or, Some, None}
+use Rattle.std.specs.Prelude.{◌≡◌, ℕ, ◌<◌, ◌≤◌, List, [], ◌∷◌, ◌++◌, length, slice_get, slice_index_or, Some}
 use mathlib.Core.List.{IsPrefix}
+use mathlib.Core.Option.{some}
+use lib.ListN.{get_elem?}
 use Rattle.prcu_model.specs.declared.operation.Op.{Op}
 use Rattle.prcu_marks.specs.declared.mark.Mark.{Mark}
+use Rattle.prcu_marks.specs.declared.mark.Mark.TheVariants.{Began}
 use Rattle.prcu_model.specs.declared.operation.Told.{Told}
 use Rattle.prcu_model.specs.Lists.{Roomy}
 use Rattle.atomic_table.specs.Seated.{TableId}
 use Rattle.client_run.specs.Workers.{Work}
 use Rattle.hash_core.specs.declared.view.View.{View}
 use Rattle.hash_core.specs.Seats.{AnswersFor}
-use Rattle.hash_core.specs.Steps.{IsQuiet}
+use Rattle.hash_core.specs.Steps.{IsQuiet, new_view}
 use Rattle.class_hash.specs.Answers.{IsInformed}
 use Rattle.class_hash.specs.Seats.{TableAt}
 use Rattle.class_hash.specs.Clients.{ClientAt}
 
 -- what a seat knows that has done and seen nothing, and has these places and tickets
 abbrev pub idle_view : ℕ → ℕ → ℕ → View
-idle_view place places tickets = record {
-  place = place;
-  places = places;
-  tickets = tickets;
-  section = None;
-  sections = 0;
-  hold = None;
-  commit = None;
-  joined = [];
-  heard = [];
-  own = [];
-  trail = [];
-  seen = [];
-}
+idle_view place places tickets = new_view place places tickets []
 
 -- The worker of script i has a client at place i with a ticket for each operation, was told nothing, and has room for the answers.
 pub record IsHired (table : TableAt) (i : ℕ) (script : List Op) (worker : Work ClientAt) : Type 0 where
@@ -48,10 +38,14 @@ pub record IsDone (table : TableAt) (i : ℕ) (worker : Work ClientAt) : Type 0 
   pub table_is : worker.client.table ≡ table
   pub place : worker.client.view.place ≡ i
   pub one_place : worker.client.view.places ≡ 1
-  pub informed : IsInformed table.places worker.client.view
+  pub informed : IsInformed table.capacities table.places worker.client.view
 
 abbrev pub AreDone : TableAt → List (Work ClientAt) → Type 0
 AreDone table workers = (i : ℕ) (worker : Work ClientAt) → slice_get workers i ≡ Some worker → IsDone table i worker
+
+-- no wait was begun
+abbrev pub HaveNoWaits : List Mark → Type 0
+HaveNoWaits marks = (j place count low high : ℕ) → get_elem? marks j ≡ some (Began place count low high) → ⊥
 
 -- the marks that views left, one view after another
 abbrev pub all_own : List View → List Mark

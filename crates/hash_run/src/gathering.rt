@@ -19,7 +19,7 @@ pub(crate) fn gather<G: Gate>(
     requires room { vec_len told.old + vec_len workers ≤ vec_capacity told.old }
     ensures table { result.table ≡ table.now.id }
     ensures joined { IsJoined (map (λ worker. worker.client.view) workers.entry.items) result.view }
-    ensures informed { IsInformed table.now.places result.view }
+    ensures informed { IsInformed table.now.capacities table.now.places result.view }
     ensures told { told.new.items ≡ told.old.items ++ map (λ worker. worker.told) workers.entry.items }
 {
     let mut rest = workers;

@@ -1,15 +1,19 @@
 //! Scripts run beside each other.
-ghost use Rattle.std.specs.Prelude.{◌≡◌, ℕ, ◌≤◌, IfOk, length};
+ghost use Rattle.std.specs.Prelude.{◌≡◌, ℕ, ◌<◌, ◌≤◌, IfOk, length};
 ghost use Rattle.prcu_model.specs.Fronts.{AreExplainable};
 ghost use Rattle.prcu_model.specs.History.{IsLegal};
 ghost use Rattle.prcu_model.specs.Lists.{entries_of};
 ghost use Rattle.prcu_marks.specs.Marks.{updates_of};
 ghost use Rattle.prcu_marks.specs.Runs.{FitsScripts};
+ghost use Rattle.prcu_model.specs.Scripts.{op_count};
 ghost use Rattle.client_run.specs.Workers.{HaveMade};
+ghost use Rattle.hash_core.specs.Seats.{AnswersFor};
+ghost use Rattle.hash_core.specs.Steps.{IsQuiet};
+ghost use Rattle.class_hash.specs.Answers.{IsInformed};
 ghost use Rattle.class_hash.specs.Seats.{TableAt};
 ghost use Rattle.class_hash.specs.Clients.{HasCalled};
 ghost use Rattle.hash_run.specs.Capacities.{AreCapacities};
-ghost use Rattle.hash_run.specs.Crews.{IsCrew};
+ghost use Rattle.hash_run.specs.Crews.{HaveNoWaits, IsCrew};
 
 use crate::capacities::capacities_for;
 use crate::crew::hire;
@@ -36,7 +40,8 @@ pub struct HashRun {
 
 /// Runs each script by a client of its own on one new table, in threads beside each other where they can be made. A class has as
 /// many slots as there are different keys of it in puts, so no put is told `Full`: whatever the number of slots, one legal history
-/// explains what the scripts were told. It is that of the updates among the marks that the joined seat has seen.
+/// explains what the scripts were told. It is that of the updates among the marks that the joined seat has seen. That seat may go
+/// on: it is quiet, answers for the place of every script, and is informed of all that their clients did.
 pub fn run_scripts<R: Threads + Wait + Sync, G: Gate + Sync>(
     rt: &R,
     alloc: Global,
@@ -48,8 +53,14 @@ pub fn run_scripts<R: Threads + Wait + Sync, G: Gate + Sync>(
     ensures legal { IfOk result (λ run. IsLegal run.history.items) }
     ensures history { IfOk result (λ run. run.history.items ≡ updates_of run.seat.view.seen) }
     ensures marks { IfOk result (λ run. FitsScripts scripts.now run.seat.view.seen) }
-    ensures seat { IfOk result (λ run. run.seat.table ≡ run.table.id) }
+    ensures waits { IfOk result (λ run. HaveNoWaits run.seat.view.seen) }
     ensures capacities { IfOk result (λ run. AreCapacities scripts.now run.table.capacities) }
+    ensures places { IfOk result (λ run. run.table.places ≡ length scripts.now) }
+    ensures tickets { IfOk result (λ run. run.table.tickets ≡ op_count scripts.now) }
+    ensures seat { IfOk result (λ run. run.seat.table ≡ run.table.id) }
+    ensures quiet { IfOk result (λ run. IsQuiet run.seat.view) }
+    ensures informed { IfOk result (λ run. IsInformed run.table.capacities run.table.places run.seat.view) }
+    ensures answers { IfOk result (λ run. (place : ℕ) → place < length scripts.now → AnswersFor run.seat.view place) }
 {
     let capacities = capacities_for(alloc, scripts)?;
     let count = scripts.count();

@@ -1,7 +1,7 @@
 //! Steps on the front.
 ghost use Rattle.std.specs.Prelude.{◌≡◌, ◌<◌, ◌≤◌, ◌+◌};
 ghost use Rattle.hash_core.specs.declared.view.Hold.{Hold};
-ghost use Rattle.hash_core.specs.Steps.{Needs12, NeedsCountFree};
+ghost use Rattle.hash_core.specs.Steps.{NeedsCommit, NeedsEven};
 ghost use Rattle.class_hash.specs.Stepped.{Turns, Evens};
 
 use crate::seat::HashSeat;
@@ -12,7 +12,7 @@ use std::marker::Brand;
 fn turns<A: Detail>(table: &HashTable, seat: &mut HashSeat, even: u64) -> u64
     requires picked { A.number ≡ even }
     requires table { seat.old.table ≡ table.now.id }
-    requires case { (hold : Hold) × Needs12 seat.old.view hold even }
+    requires case { (hold : Hold) × NeedsCommit seat.old.view hold even }
     requires small { even ≤ 2199023255554 }
     ensures table { seat.new.table ≡ seat.old.table }
     ensures view { Turns seat.old.view even result seat.new.view }
@@ -27,7 +27,7 @@ fn turns<A: Detail>(table: &HashTable, seat: &mut HashSeat, even: u64) -> u64
 /// H12: exchanges the front from an even number to the next. The front is never large.
 pub(crate) fn h12(table: &HashTable, seat: &mut HashSeat, even: u64) -> u64
     requires table { seat.old.table ≡ table.now.id }
-    requires case { (hold : Hold) × Needs12 seat.old.view hold even }
+    requires case { (hold : Hold) × NeedsCommit seat.old.view hold even }
     requires small { even ≤ 2199023255554 }
     ensures table { seat.new.table ≡ seat.old.table }
     ensures view { Turns seat.old.view even result seat.new.view }
@@ -39,7 +39,7 @@ pub(crate) fn h12(table: &HashTable, seat: &mut HashSeat, even: u64) -> u64
 fn evens<A: Detail>(table: &HashTable, seat: &mut HashSeat, even: u64)
     requires picked { A.number ≡ even + 2 }
     requires table { seat.old.table ≡ table.now.id }
-    requires case { NeedsCountFree seat.old.view even }
+    requires case { NeedsEven seat.old.view even }
     requires small { even ≤ 2199023255554 }
     ensures table { seat.new.table ≡ seat.old.table }
     ensures view { Evens seat.old.view (even + 2) seat.new.view }
@@ -53,7 +53,7 @@ fn evens<A: Detail>(table: &HashTable, seat: &mut HashSeat, even: u64)
 /// H16: stores the next even number in the front.
 pub(crate) fn h16(table: &HashTable, seat: &mut HashSeat, even: u64)
     requires table { seat.old.table ≡ table.now.id }
-    requires case { NeedsCountFree seat.old.view even }
+    requires case { NeedsEven seat.old.view even }
     requires small { even ≤ 2199023255554 }
     ensures table { seat.new.table ≡ seat.old.table }
     ensures view { Evens seat.old.view (even + 2) seat.new.view }

@@ -3,7 +3,7 @@ ghost use Rattle.std.specs.Prelude.{◌≡◌, ℕ, Some};
 ghost use Rattle.hash_core.specs.declared.view.Hold.{Hold};
 ghost use Rattle.hash_core.specs.declared.words.Field.TheVariants.{Chain};
 ghost use Rattle.hash_core.specs.Slots.{IsOfClass};
-ghost use Rattle.hash_core.specs.Steps.{NeedsTake, NeedsRefill, NeedsMove, NeedsPush, NeedsChain, NeedsSeize};
+ghost use Rattle.hash_core.specs.Steps.{NeedsTake, NeedsRefill, NeedsMove, NeedsPush, NeedsChain, NeedsWrite};
 ghost use Rattle.class_hash.specs.Stepped.{Takes, Refills, Moves, Pushes, Chains, Writes};
 
 use super::words::{remember, word_at};
@@ -148,7 +148,7 @@ pub(crate) fn h10_chain(table: &HashTable, seat: &mut HashSeat, slot: u32, numbe
 fn writes<A: Detail>(table: &HashTable, seat: &mut HashSeat, field: Field, number: u64)
     requires picked { (A.field ≡ field) × (A.number ≡ number) }
     requires table { seat.old.table ≡ table.now.id }
-    requires case { (hold : Hold) × (slot : ℕ) × NeedsSeize seat.old.view hold slot field × IsOfClass table.now.capacities hold.class field }
+    requires case { (hold : Hold) × (slot : ℕ) × NeedsWrite seat.old.view hold slot field × IsOfClass table.now.capacities hold.class field }
     ensures table { seat.new.table ≡ seat.old.table }
     ensures view { Writes seat.old.view field number seat.new.view }
 {
@@ -162,7 +162,7 @@ fn writes<A: Detail>(table: &HashTable, seat: &mut HashSeat, field: Field, numbe
 /// H11: stores a field of the slot taken.
 pub(crate) fn h11(table: &HashTable, seat: &mut HashSeat, field: Field, number: u64)
     requires table { seat.old.table ≡ table.now.id }
-    requires case { (hold : Hold) × (slot : ℕ) × NeedsSeize seat.old.view hold slot field × IsOfClass table.now.capacities hold.class field }
+    requires case { (hold : Hold) × (slot : ℕ) × NeedsWrite seat.old.view hold slot field × IsOfClass table.now.capacities hold.class field }
     ensures table { seat.new.table ≡ seat.old.table }
     ensures view { Writes seat.old.view field number seat.new.view }
 {

@@ -1,7 +1,7 @@
 //! Steps of locks, and loads under them.
 ghost use Rattle.std.specs.Prelude.{◌≡◌, ◌+◌, ◌%◌, ◌<◌, ◌≤◌, Some, None};
 ghost use Rattle.hash_core.specs.declared.view.Hold.{Hold};
-ghost use Rattle.hash_core.specs.Steps.{IsQuiet, NeedsBegin};
+ghost use Rattle.hash_core.specs.Steps.{IsQuiet, NeedsUnlock};
 ghost use Rattle.hash_core.specs.Slots.{IsOfClass};
 ghost use Rattle.class_hash.specs.Answers.{IsInformed, IsHeldByOther};
 ghost use Rattle.class_hash.specs.Stepped.{Locks, Unlocks, LoadsReaders, Loads};
@@ -53,12 +53,12 @@ pub(crate) fn h6(table: &HashTable, seat: &mut HashSeat, class: u32) -> u64
 }
 
 fn unlocks<A: Detail>(table: &HashTable, seat: &mut HashSeat)
-    requires picked { A.places ≡ table.now.places }
+    requires picked { (A.capacities ≡ table.now.capacities) × (A.places ≡ table.now.places) }
     requires table { seat.old.table ≡ table.now.id }
-    requires case { (hold : Hold) × NeedsBegin seat.old.view hold }
+    requires case { (hold : Hold) × NeedsUnlock seat.old.view hold }
     ensures table { seat.new.table ≡ seat.old.table }
     ensures view { Unlocks seat.old.view seat.new.view }
-    ensures informed { IsInformed table.now.places seat.new.view }
+    ensures informed { IsInformed table.now.capacities table.now.places seat.new.view }
 {
     let word = word_at(Field::Lock {
         class: seat.class_held(),
@@ -73,10 +73,10 @@ fn unlocks<A: Detail>(table: &HashTable, seat: &mut HashSeat)
 /// H7: gives the lock up.
 pub(crate) fn h7(table: &HashTable, seat: &mut HashSeat)
     requires table { seat.old.table ≡ table.now.id }
-    requires case { (hold : Hold) × NeedsBegin seat.old.view hold }
+    requires case { (hold : Hold) × NeedsUnlock seat.old.view hold }
     ensures table { seat.new.table ≡ seat.old.table }
     ensures view { Unlocks seat.old.view seat.new.view }
-    ensures informed { IsInformed table.now.places seat.new.view }
+    ensures informed { IsInformed table.now.capacities table.now.places seat.new.view }
 {
     unlocks::<Brand>(table, seat);
 }

@@ -41,12 +41,12 @@ pub(crate) fn h3(table: &HashTable, seat: &mut HashSeat, key: u64) -> u64
 }
 
 fn leaves<A: Detail>(table: &HashTable, seat: &mut HashSeat) -> u64
-    requires picked { A.places ≡ table.now.places }
+    requires picked { (A.capacities ≡ table.now.capacities) × (A.places ≡ table.now.places) }
     requires table { seat.old.table ≡ table.now.id }
     requires inside { (section : Section) × (seat.old.view.section ≡ Some section) }
     ensures table { seat.new.table ≡ seat.old.table }
     ensures view { Leaves seat.old.view result seat.new.view }
-    ensures informed { IsInformed table.now.places seat.new.view }
+    ensures informed { IsInformed table.now.capacities table.now.places seat.new.view }
 {
     let word = word_at(Field::Readers {
         class: seat.class_read(),
@@ -64,7 +64,7 @@ pub(crate) fn h4(table: &HashTable, seat: &mut HashSeat) -> u64
     requires inside { (section : Section) × (seat.old.view.section ≡ Some section) }
     ensures table { seat.new.table ≡ seat.old.table }
     ensures view { Leaves seat.old.view result seat.new.view }
-    ensures informed { IsInformed table.now.places seat.new.view }
+    ensures informed { IsInformed table.now.capacities table.now.places seat.new.view }
 {
     leaves::<Brand>(table, seat)
 }

@@ -3,7 +3,7 @@ ghost use Rattle.std.specs.Prelude.{◌≡◌, ℕ};
 ghost use Rattle.hash_core.specs.declared.view.Hold.{Hold};
 ghost use Rattle.hash_core.specs.declared.words.Field.TheVariants.{Value};
 ghost use Rattle.hash_core.specs.Slots.{IsOfClass};
-ghost use Rattle.hash_core.specs.Steps.{NeedsLock, NeedsUnlock, Needs15};
+ghost use Rattle.hash_core.specs.Steps.{NeedsLink, NeedsUnlink, NeedsReplace};
 ghost use Rattle.class_hash.specs.Stepped.{Links, Cuts, Replaces};
 
 use super::words::word_at;
@@ -23,7 +23,7 @@ fn links<A: Detail>(
 )
     requires picked { (A.even ≡ even) × (A.slot ≡ slot) × (A.key ≡ key) × (A.value ≡ value) }
     requires table { seat.old.table ≡ table.now.id }
-    requires case { (hold : Hold) × (first : ℕ) × NeedsLock seat.old.view hold even slot key value first }
+    requires case { (hold : Hold) × (first : ℕ) × NeedsLink seat.old.view hold even slot key value first }
     ensures table { seat.new.table ≡ seat.old.table }
     ensures view { Links seat.old.view even slot key value seat.new.view }
 {
@@ -47,7 +47,7 @@ pub(crate) fn h13(
     value: u64,
 )
     requires table { seat.old.table ≡ table.now.id }
-    requires case { (hold : Hold) × (first : ℕ) × NeedsLock seat.old.view hold even slot key value first }
+    requires case { (hold : Hold) × (first : ℕ) × NeedsLink seat.old.view hold even slot key value first }
     ensures table { seat.new.table ≡ seat.old.table }
     ensures view { Links seat.old.view even slot key value seat.new.view }
 {
@@ -65,7 +65,7 @@ fn cuts<A: Detail>(
 )
     requires picked { (A.even ≡ even) × (A.field ≡ link) × (A.slot ≡ slot) × (A.key ≡ key) × (A.number ≡ next) }
     requires table { seat.old.table ≡ table.now.id }
-    requires case { (hold : Hold) × NeedsUnlock seat.old.view hold even link slot key next × IsOfClass table.now.capacities hold.class link }
+    requires case { (hold : Hold) × NeedsUnlink seat.old.view hold even link slot key next × IsOfClass table.now.capacities hold.class link }
     ensures table { seat.new.table ≡ seat.old.table }
     ensures view { Cuts seat.old.view even link slot key next seat.new.view }
 {
@@ -88,7 +88,7 @@ pub(crate) fn h14(
     next: u64,
 )
     requires table { seat.old.table ≡ table.now.id }
-    requires case { (hold : Hold) × NeedsUnlock seat.old.view hold even link slot key next × IsOfClass table.now.capacities hold.class link }
+    requires case { (hold : Hold) × NeedsUnlink seat.old.view hold even link slot key next × IsOfClass table.now.capacities hold.class link }
     ensures table { seat.new.table ≡ seat.old.table }
     ensures view { Cuts seat.old.view even link slot key next seat.new.view }
 {
@@ -105,7 +105,7 @@ fn replaces<A: Detail>(
 )
     requires picked { (A.even ≡ even) × (A.slot ≡ slot) × (A.key ≡ key) × (A.value ≡ value) }
     requires table { seat.old.table ≡ table.now.id }
-    requires case { (hold : Hold) × Needs15 seat.old.view hold even slot key × IsOfClass table.now.capacities hold.class (Value slot) }
+    requires case { (hold : Hold) × NeedsReplace seat.old.view hold even slot key × IsOfClass table.now.capacities hold.class (Value slot) }
     ensures table { seat.new.table ≡ seat.old.table }
     ensures view { Replaces seat.old.view even slot key value seat.new.view }
 {
@@ -127,7 +127,7 @@ pub(crate) fn h15(
     value: u64,
 )
     requires table { seat.old.table ≡ table.now.id }
-    requires case { (hold : Hold) × Needs15 seat.old.view hold even slot key × IsOfClass table.now.capacities hold.class (Value slot) }
+    requires case { (hold : Hold) × NeedsReplace seat.old.view hold even slot key × IsOfClass table.now.capacities hold.class (Value slot) }
     ensures table { seat.new.table ≡ seat.old.table }
     ensures view { Replaces seat.old.view even slot key value seat.new.view }
 {

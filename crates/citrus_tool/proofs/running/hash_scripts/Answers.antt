@@ -20,5 +20,5 @@ returns g c =
     left_beside scripts c.default_slots.result history c.in_ok-ended.ended.table c.in_ok-ended.ended.seat c.in_ok-text.text.items
     (omega (arith, c.count.ensures.count, c.if-count-eq0.false))
     c.default_slots.ensures
-    (record { of_table = e.seat; capacities = e.capacities; fits = e.marks; updates = sym (c.deref-2.ensures.value ∙ e.history) })
+    (record { of_table = e.seat; capacities = e.capacities; places = e.places; tickets = e.tickets; quiet = e.quiet; answers = e.answers; informed = e.informed; fits = e.marks; waits = e.waits; updates = sym (c.deref-2.ensures.value ∙ e.history) })
     c.in_ok-text.ensures

@@ -21,12 +21,14 @@ returns-then-lacks-clause-view g c =
 pub returns-then-lacks-clause-full : goal.returns-then-lacks-clause-full
 returns-then-lacks-clause-full g c = full_exactly c.args.table.now.capacities c.args.seat.now.view c.add.new.seat.view c.args.key c.args.value c.told_added.result (returns-then-lacks-clause-view g c)
 
-pub returns-then-is_some-clause-full : goal.returns-then-is_some-clause-full
-returns-then-is_some-clause-full g c =
+pub returns-then-is_some-clause-view : goal.returns-then-is_some-clause-view
+returns-then-is_some-clause-view g c =
     let v = c.args.seat.now.view in
-    full_exactly c.args.table.now.capacities c.args.seat.now.view c.search.new.seat.view c.args.key c.args.value c.told.result
-    (subst (λ (t : Told). Puts c.args.table.now.capacities c.args.seat.now.view c.args.key c.args.value t c.search.new.seat.view) (sym c.told.ensures)
-    (found_once c.args.table.now.capacities v c.loop.seat.view c.search.new.seat.view c.args.key c.args.value c.search.result (search rules) c.loop.invariant.1 c.loop.invariant.2 c.search.ensures.view))
+    subst (λ (t : Told). Puts c.args.table.now.capacities c.args.seat.now.view c.args.key c.args.value t c.search.new.seat.view) (sym c.told.ensures)
+    (found_once c.args.table.now.capacities v c.loop.seat.view c.search.new.seat.view c.args.key c.args.value c.search.result (search rules) c.loop.invariant.1 c.loop.invariant.2 c.search.ensures.view)
+
+pub returns-then-is_some-clause-full : goal.returns-then-is_some-clause-full
+returns-then-is_some-clause-full g c = full_exactly c.args.table.now.capacities c.args.seat.now.view c.search.new.seat.view c.args.key c.args.value c.told.result (returns-then-is_some-clause-view g c)
 
 pub loop-preserved : goal.loop-preserved
 loop-preserved g c =

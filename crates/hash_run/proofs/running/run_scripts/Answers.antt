@@ -1,4 +1,6 @@
-use Rattle.std.proofs.Common.{◌≡◌, [], ◌++◌, map, sym, ap, subst, ◌∙◌}
+use Rattle.std.proofs.Common.{◌≡◌, [], ◌++◌, map, sym, ap, subst, ◌∙◌, arith}
+use Rattle.std.proofs.lemmas.List.{length-map}
+use Rattle.prcu_marks.specs.declared.mark.Mark.TheVariants.{Began}
 use Rattle.prcu_model.specs.Lists.{entries_of}
 use Rattle.prcu_model.specs.History.{IsLegal}
 use Rattle.prcu_marks.specs.Marks.{updates_of}
@@ -67,3 +69,13 @@ returns-clause-marks g c =
     let table = c.in_ok-table.ensures.made in
     let capacities : AreCapacities c.args.scripts.now c.in_ok-table.table.capacities = subst (AreCapacities c.args.scripts.now) (sym table.0) c.in_ok-capacities.ensures.capacities in
     run_marks c.in_ok-table.table c.args.scripts.now c.in_ok-workers.workers.items c.run_crew.result.items c.in_ok-workers.ensures c.run_crew.ensures.count c.run_crew.ensures.made c.gather-seat.result.view c.gather-seat.ensures.joined c.gather-seat.ensures.informed (table.1 ∙ c.count-count.ensures.count) capacities
+
+pub returns-clause-waits : goal.returns-clause-waits
+returns-clause-waits g c = λ j place count low high there. c.gather-seat.ensures.informed.marks.others j (Began place count low high) there
+
+pub returns-clause-answers : goal.returns-clause-answers
+returns-clause-answers g c = λ place below.
+    let hired = c.in_ok-workers.ensures.count in
+    let ran = c.run_crew.ensures.count in
+    let long = length-map c.run_crew.result.items (λ (w : Work ClientAt). w.client.view) in
+    c.gather-seat.ensures.joined.answers place (omega arith)

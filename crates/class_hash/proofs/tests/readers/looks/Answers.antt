@@ -1,7 +1,7 @@
 use Rattle.std.proofs.Common.{◌≡◌, ◌≢◌, Some, refl, sym, ap, subst, ◌∙◌}
 use Rattle.prcu_marks.specs.declared.mark.Why.{Why}
 use Rattle.hash_core.specs.declared.view.View.{View}
-use Rattle.hash_core.specs.Steps.{NeedsBegin}
+use Rattle.hash_core.specs.Steps.{NeedsUnlock}
 use Rattle.class_hash.specs.declared.bucket.Poll.{Poll}
 use Rattle.class_hash.specs.declared.bucket.Poll.TheVariants.{Over, NotYet}
 use Rattle.class_hash.specs.Calls.{HasFinished, MayPoll, Polls, polled}
@@ -24,7 +24,7 @@ same_tickets v w (NotYet why) p = ap (λ (z : View). z.tickets) (waited v w why 
 finished : (v w : View) (poll : Poll) → MayPoll v → Polls v poll w → HasFinished w
 finished v w Over may p =
     let same : may.hold ≡ p.hold = (let z : Some may.hold ≡ Some p.hold = sym may.finished.0 ∙ p.is in cc) in
-    let done : NeedsBegin v p.hold = subst (NeedsBegin v) same may.finished in
+    let done : NeedsUnlock v p.hold = subst (NeedsUnlock v) same may.finished in
     (polled p.hold p.first, (ap (λ (z : View). z.hold) p.rest, done.1, done.2, refl, ap (λ (z : View). z.commit) p.rest ∙ done.4))
 finished v w (NotYet why) may p = let still = may_poll_still v w may (waited v w why p) in (still.hold, still.finished)
 

@@ -1,0 +1,5 @@
+use Rattle.hash_core.proofs.Giving.{chains_are_map}
+use Rattle.hash_core.proofs.laws.chains_are_map.Goals as goal
+
+pub returns : goal.returns
+returns c = chains_are_map

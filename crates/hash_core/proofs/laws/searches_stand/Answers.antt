@@ -1,0 +1,5 @@
+use Rattle.hash_core.proofs.Giving.{searches_stand}
+use Rattle.hash_core.proofs.laws.searches_stand.Goals as goal
+
+pub returns : goal.returns
+returns c = searches_stand

@@ -1,0 +1,5 @@
+use Rattle.hash_core.proofs.Giving.{slots_are_reused}
+use Rattle.hash_core.proofs.laws.slots_are_reused.Goals as goal
+
+pub returns : goal.returns
+returns c = slots_are_reused
