@@ -1,5 +1,5 @@
 -- What a run leaves beside its account.
--- Source: docs/ALGORITHM.md, "Scripts beside each other on the hash dictionary".
+-- Source: docs/HASH_DICTIONARY.md, "Scripts beside each other on the hash dictionary".
 use Rattle.std.specs.Prelude.{◌≡◌, ℕ, ◌<◌, List, [], ◌∷◌, length}
 use Rattle.prcu_model.specs.declared.operation.Op.{Op}
 use Rattle.prcu_model.specs.declared.operation.Update.{Update}

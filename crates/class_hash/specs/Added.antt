@@ -1,5 +1,5 @@
 -- The first words of a table, as far as they were pushed.
--- Source: docs/ALGORITHM.md, "The hash dictionary".
+-- Source: docs/HASH_DICTIONARY.md, "The hash dictionary".
 use Rattle.std.specs.Prelude.{◌≡◌, ℕ, ◌+◌, ◌*◌, ◌<◌, List, length, slice_index}
 use Rattle.hash_core.specs.Slots.{capacity, base}
 use Rattle.class_hash.specs.Fresh.{IsFreshClass, IsFreshSlot, first_link, next_link}

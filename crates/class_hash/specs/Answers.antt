@@ -1,5 +1,5 @@
 -- What a step tells from the rule.
--- Source: docs/ALGORITHM.md, "The steps of the hash dictionary".
+-- Source: docs/HASH_DICTIONARY.md, "The steps of the hash dictionary".
 use Rattle.std.specs.Prelude.{◌≡◌, ◌≢◌, ℕ, ◌+◌, ◌%◌, ◌<◌, ◌≤◌, true, List, [], Some, None}
 use Rattle.prcu_marks.specs.declared.mark.Mark.{Mark}
 use Rattle.hash_core.specs.declared.words.Field.{Field}

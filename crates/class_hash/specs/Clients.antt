@@ -1,5 +1,5 @@
 -- Clients of the hash dictionary.
--- Source: docs/ALGORITHM.md, "Clients".
+-- Source: docs/ACCOUNTS.md, "Clients".
 use Rattle.std.specs.Prelude.{◌≡◌, ℕ, ◌%◌, List, [], None}
 use Rattle.std.specs.FinMap as finite
 use Rattle.prcu_model.specs.declared.operation.Op.{Op}

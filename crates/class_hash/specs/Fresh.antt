@@ -1,5 +1,5 @@
 -- A table as it is made.
--- Source: docs/ALGORITHM.md, "The hash dictionary".
+-- Source: docs/HASH_DICTIONARY.md, "The hash dictionary".
 use Rattle.std.specs.Prelude.{◌≡◌, ℕ, ◌+◌, ◌*◌, ◌<◌, ◌==◌, if◌then◌else◌, List, length, slice_index}
 use Rattle.hash_core.specs.declared.shape.Shape.{Shape}
 use Rattle.hash_core.specs.declared.view.View.{View}

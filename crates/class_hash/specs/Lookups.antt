@@ -1,5 +1,5 @@
 -- What a lookup makes of a view, and what it answers.
--- Source: docs/ALGORITHM.md, "The calls of the hash dictionary".
+-- Source: docs/HASH_DICTIONARY.md, "The calls of the hash dictionary".
 use Rattle.std.specs.Prelude.{◌≡◌, ◌≢◌, ℕ, ◌+◌, ◌%◌, true, List, [], ◌∷◌, ◌++◌, length, Option, Some, None}
 use mathlib.Core.List.{IsPrefix}
 use Rattle.prcu_marks.specs.declared.mark.Mark.{Mark}

@@ -1,5 +1,5 @@
 -- What a put makes of a view, under a bucket's lock.
--- Source: docs/ALGORITHM.md, "The calls of the hash dictionary".
+-- Source: docs/HASH_DICTIONARY.md, "The calls of the hash dictionary".
 use Rattle.std.specs.Prelude.{◌≡◌, ◌≢◌, ℕ, ◌-◌, ◌%◌, ◌≤◌, true, List, [], ◌∷◌, ◌++◌, length, Some, None}
 use mathlib.Core.List.{IsPrefix}
 use Rattle.prcu_marks.specs.declared.mark.Mark.{Mark}

@@ -1,5 +1,5 @@
 -- What the calls of the dictionary are told.
--- Source: docs/ALGORITHM.md, "The calls of the hash dictionary".
+-- Source: docs/HASH_DICTIONARY.md, "The calls of the hash dictionary".
 use Rattle.std.specs.Prelude.{◌≡◌, ℕ, ◌-◌, ◌%◌, ◌≤◌, List, [], ◌∷◌, ◌++◌, length, Option, Some, None}
 use Rattle.prcu_model.specs.declared.operation.Reply.{Reply}
 use Rattle.prcu_model.specs.declared.operation.Reply.TheVariants.{New, Old, Full, Val, Absent, Gone, Was}

@@ -1,5 +1,5 @@
 -- What a seat remembers, beside its view.
--- Source: docs/ALGORITHM.md, "The hash dictionary".
+-- Source: docs/HASH_DICTIONARY.md, "The hash dictionary".
 use Rattle.std.specs.Prelude.{ℕ, Option, Some, None}
 use Rattle.hash_core.specs.declared.words.Field.{Field}
 use Rattle.hash_core.specs.declared.words.Field.TheVariants.{Free as FreeWord, Retired as RetiredWord}

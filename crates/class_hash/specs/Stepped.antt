@@ -1,5 +1,5 @@
 -- What each kind of step makes of a view, and what it tells from the rule.
--- Source: docs/ALGORITHM.md, "The steps of the hash dictionary".
+-- Source: docs/HASH_DICTIONARY.md, "The steps of the hash dictionary".
 use Rattle.std.specs.Prelude.{◌≡◌, ℕ, ◌+◌, ◌*◌, ◌%◌, List, length, Some}
 use Rattle.hash_core.specs.declared.words.Field.{Field}
 use Rattle.hash_core.specs.declared.words.Field.TheVariants.{Front, Lock, Readers, Head, Free, Retired, Value, Chain}

@@ -1,5 +1,5 @@
 -- What each kind of step tells, of the step, the seat before, the number found and the seat after.
--- Source: docs/ALGORITHM.md, "The steps of the hash dictionary".
+-- Source: docs/HASH_DICTIONARY.md, "The steps of the hash dictionary".
 use Rattle.std.specs.Prelude.{◌≡◌, ℕ, ◌≤◌, List, None}
 use Rattle.atomic_table.specs.Table.{Me, Step}
 use Rattle.hash_core.specs.declared.words.Field.{Field}

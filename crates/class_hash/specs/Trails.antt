@@ -1,5 +1,5 @@
 -- Steps that are made one after another.
--- Source: docs/ALGORITHM.md, "The calls of the hash dictionary".
+-- Source: docs/HASH_DICTIONARY.md, "The calls of the hash dictionary".
 use Rattle.std.specs.Prelude.{◌≡◌, ℕ, ◌%◌, Bool, true, false, List, [], ◌∷◌, ◌++◌}
 use Rattle.std.specs.List.{AllByRecursion}
 use Rattle.hash_core.specs.declared.words.Field.{Field}

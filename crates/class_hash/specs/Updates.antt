@@ -1,5 +1,5 @@
 -- What an update makes of a view, under a bucket's lock.
--- Source: docs/ALGORITHM.md, "The calls of the hash dictionary".
+-- Source: docs/HASH_DICTIONARY.md, "The calls of the hash dictionary".
 use Rattle.std.specs.Prelude.{◌≡◌, ℕ, ◌-◌, ◌≤◌, true, false, List, [], ◌∷◌, ◌++◌, length, Option, Some, None}
 use Rattle.std.specs.FinMap as finite
 use mathlib.Core.List.{IsPrefix}

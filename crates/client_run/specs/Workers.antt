@@ -1,5 +1,5 @@
 -- Workers, and what is asked of them before a run.
--- Source: docs/ALGORITHM.md, "Clients".
+-- Source: docs/ACCOUNTS.md, "Clients".
 use Rattle.std.specs.Prelude.{◌≡◌, ℕ, ◌≤◌, List, [], length, slice_get, slice_index_or, Some}
 use Rattle.prcu_model.specs.declared.operation.Op.{Op}
 use Rattle.prcu_model.specs.declared.operation.Told.{Told}

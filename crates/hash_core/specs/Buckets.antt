@@ -1,5 +1,5 @@
 -- The rule's parts on one class: its chain, its lists, its lock, and which slot is where.
--- Source: docs/ALGORITHM.md, "The hash dictionary's rule".
+-- Source: docs/HASH_DICTIONARY.md, "The hash dictionary's rule".
 use Rattle.std.specs.Prelude.{◌≡◌, ◌≢◌, ℕ, ◌+◌, ◌%◌, ◌<◌, if◌then◌else◌, true, List, [], ◌∷◌, ◌==◌, Option, Some, None, option_to_list}
 use Rattle.std.specs.List.{AllByRecursion}
 use Rattle.std.specs.FinMap as finite

@@ -1,6 +1,6 @@
 -- The kinds of step together: for each the word that it is on, what the view needs, the number found there and the number left,
 -- the view after it, and the marks left.
--- Source: docs/ALGORITHM.md, "The steps of the hash dictionary".
+-- Source: docs/HASH_DICTIONARY.md, "The steps of the hash dictionary".
 use Rattle.std.specs.Prelude.{◌≡◌, ℕ, ◌+◌, ◌-◌, ◌%◌, ◌^◌, ◌<◌, ◌==◌, if◌then◌else◌, Bool, true, false, List, [], ◌∷◌, Some}
 use Rattle.prcu_marks.specs.declared.mark.Mark.{Mark}
 use Rattle.prcu_marks.specs.declared.mark.Mark.TheVariants.{Entered, Left, Done, Given, Unlinked}

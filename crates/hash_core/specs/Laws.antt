@@ -1,5 +1,5 @@
 -- What the rule gives, in plain words; and what it is for a kind of step to keep it.
--- Source: docs/ALGORITHM.md, "The hash dictionary's rule".
+-- Source: docs/HASH_DICTIONARY.md, "The hash dictionary's rule".
 use Rattle.std.specs.Prelude.{◌≡◌, ◌≢◌, ◌⊎◌, ℕ, ◌%◌, ◌<◌, ◌≤◌, true, List, [], ◌∷◌, ◌++◌, length, set, Option, Some, None}
 use Rattle.std.specs.List.{AllByRecursion}
 use mathlib.Core.Option.{some}

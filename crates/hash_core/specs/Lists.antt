@@ -1,5 +1,5 @@
 -- Lists of slots that lead from one to the next.
--- Source: docs/ALGORITHM.md, "The hash dictionary".
+-- Source: docs/HASH_DICTIONARY.md, "The hash dictionary".
 use Rattle.std.specs.Prelude.{◌≡◌, ℕ, ◌≤◌, List, [], ◌∷◌}
 
 -- The slots that are come to from the first, one after another, up to a link that is 0.

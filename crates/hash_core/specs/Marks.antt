@@ -1,5 +1,5 @@
 -- What a list of marks says of slots that are used again, and what is true of each such list.
--- Source: docs/ALGORITHM.md, "Marks".
+-- Source: docs/ACCOUNTS.md, "Marks".
 use Rattle.std.specs.Prelude.{◌≡◌, ℕ, ◌+◌, ◌%◌, ◌^◌, ◌<◌, ◌==◌, if◌then◌else◌, IsTrue, List, [], ◌∷◌, take, Option, Some, None}
 use mathlib.Core.Option.{some}
 use lib.ListN.{get_elem?}

@@ -1,5 +1,5 @@
 -- The table's words as a memory with named fields.
--- Source: docs/ALGORITHM.md, "The hash dictionary".
+-- Source: docs/HASH_DICTIONARY.md, "The hash dictionary".
 use Rattle.std.specs.Prelude.{ℕ, ◌+◌, ◌*◌, ◌==◌, nat_lt, nat_le, ◌&&◌, Bool, true, false, if◌then◌else◌, List, slice_index, sum}
 use Rattle.hash_core.specs.declared.words.Field.{Field}
 use Rattle.hash_core.specs.declared.words.Field.TheVariants.{Front, Lock, Readers, Head, Free, Retired, Key, Value, Next, Chain}

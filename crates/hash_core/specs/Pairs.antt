@@ -1,5 +1,5 @@
 -- How many pairs of a class a dictionary has.
--- Source: docs/ALGORITHM.md, "The hash dictionary".
+-- Source: docs/HASH_DICTIONARY.md, "The hash dictionary".
 use Rattle.std.specs.Prelude.{◌≡◌, ℕ, ◌%◌, ◌≤◌, ◌↔◌, List, length, true}
 use Rattle.std.specs.List.{AllByRecursion}
 use Rattle.std.specs.FinMap as finite

@@ -1,5 +1,5 @@
 -- The rule's part on readers: where a search stands, and what it will answer.
--- Source: docs/ALGORITHM.md, "The hash dictionary's rule".
+-- Source: docs/HASH_DICTIONARY.md, "The hash dictionary's rule".
 use Rattle.std.specs.Prelude.{◌≡◌, ◌≢◌, ℕ, ◌%◌, ◌<◌, true, List, ◌++◌, Some, None}
 use Rattle.prcu_model.specs.Dictionary.{WasSaid}
 use Rattle.std.specs.List.{AllByRecursion}

@@ -1,5 +1,5 @@
 -- The rule that holds between any two steps.
--- Source: docs/ALGORITHM.md, "The hash dictionary's rule".
+-- Source: docs/HASH_DICTIONARY.md, "The hash dictionary's rule".
 use Rattle.std.specs.Prelude.{◌≡◌, ℕ, ◌+◌, ◌<◌, ◌≤◌, List, length, sum}
 use Rattle.prcu_marks.specs.declared.mark.Mark.{Mark}
 use Rattle.prcu_model.specs.declared.operation.Update.{Update}

@@ -1,5 +1,5 @@
 -- The rule's parts on seats: who has which place, what each has seen and left, and whose the front is.
--- Source: docs/ALGORITHM.md, "The hash dictionary's rule".
+-- Source: docs/HASH_DICTIONARY.md, "The hash dictionary's rule".
 use Rattle.std.specs.Prelude.{◌≡◌, ◌≢◌, ◌⊎◌, ℕ, ◌+◌, ◌*◌, ◌^◌, ◌<◌, ◌≤◌, List, [], length, Some, None}
 use Rattle.std.specs.List.{AllByRecursion}
 use mathlib.Core.Option.{some}

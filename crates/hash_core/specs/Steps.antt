@@ -1,5 +1,5 @@
 -- The kinds of step: what each needs of the stepping view, and the view after it.
--- Source: docs/ALGORITHM.md, "The steps of the hash dictionary".
+-- Source: docs/HASH_DICTIONARY.md, "The steps of the hash dictionary".
 use Rattle.std.specs.Prelude.{◌≡◌, ◌≢◌, ℕ, ◌+◌, ◌-◌, ◌%◌, ◌<◌, ◌≤◌, ◌==◌, nat_lt, if◌then◌else◌, true, false, List, [], ◌∷◌, ◌++◌, length, Some, None}
 use mathlib.Core.List.{IsPrefix}
 use Rattle.prcu_marks.specs.declared.mark.Mark.{Mark}

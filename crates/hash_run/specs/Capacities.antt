@@ -1,5 +1,5 @@
 -- How many slots each class needs for the keys that scripts put.
--- Source: docs/ALGORITHM.md, "Scripts beside each other on the hash dictionary".
+-- Source: docs/HASH_DICTIONARY.md, "Scripts beside each other on the hash dictionary".
 use Rattle.std.specs.Prelude.{◌≡◌, ℕ, ◌+◌, ◌%◌, ◌<◌, ◌==◌, if◌then◌else◌, List, [], ◌∷◌, ◌++◌, length, slice_index, slice_set}
 use Rattle.std.specs.FinMap as map
 use Rattle.prcu_model.specs.declared.operation.Op.{Op}

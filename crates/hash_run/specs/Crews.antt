@@ -1,5 +1,5 @@
 -- Workers on one hash dictionary, before and after their scripts.
--- Source: docs/ALGORITHM.md, "Scripts beside each other on the hash dictionary".
+-- Source: docs/HASH_DICTIONARY.md, "Scripts beside each other on the hash dictionary".
 use Rattle.std.specs.Prelude.{◌≡◌, ℕ, ◌<◌, ◌≤◌, List, [], ◌∷◌, ◌++◌, length, slice_get, slice_index_or, Some}
 use mathlib.Core.List.{IsPrefix}
 use mathlib.Core.Option.{some}

@@ -1,5 +1,5 @@
 -- Closed intervals of keys, and the classes of keys.
--- Source: docs/ALGORITHM.md, "Keys and classes".
+-- Source: docs/TREE.md, "Keys and classes".
 use Rattle.std.specs.Prelude.{◌≡◌, ℕ, ◌%◌, ◌≤◌}
 
 -- the keys from low to high, both among them

@@ -1,5 +1,5 @@
 -- What a call of a client leaves in the list of marks, and how what it is told fits them.
--- Source: docs/ALGORITHM.md, "Clients".
+-- Source: docs/ACCOUNTS.md, "Clients".
 use Rattle.std.specs.Prelude.{◌≡◌, ◌⊎◌, ℕ, ◌+◌, ◌-◌, ◌^◌, ◌<◌, ◌≤◌, ◌==◌, if◌then◌else◌, MatchBool, true, List, [], ◌∷◌, ◌++◌, length, slice_get, Some}
 use Rattle.std.specs.List.{AllByRecursion}
 use Rattle.std.specs.FinMap as map

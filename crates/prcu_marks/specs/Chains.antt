@@ -1,6 +1,6 @@
 -- Calls of one client, one after another. What a call did is a relation between the client before it, the operation,
 -- what was told, and the client after it.
--- Source: docs/ALGORITHM.md, "Clients".
+-- Source: docs/ACCOUNTS.md, "Clients".
 use Rattle.std.specs.Prelude.{◌≡◌, List, [], ◌∷◌}
 use Rattle.prcu_model.specs.declared.operation.Op.{Op}
 use Rattle.prcu_model.specs.declared.operation.Told.{Told}

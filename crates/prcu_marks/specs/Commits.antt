@@ -1,5 +1,5 @@
 -- The front word while an update is being committed.
--- Source: docs/ALGORITHM.md, "Marks".
+-- Source: docs/ACCOUNTS.md, "Marks".
 use Rattle.std.specs.Prelude.{ℕ, ◌+◌, if◌then◌else◌}
 use Rattle.prcu_marks.specs.declared.commit.Commit.{Commit}
 

@@ -1,5 +1,5 @@
 -- What a list of marks says.
--- Source: docs/ALGORITHM.md, "Marks".
+-- Source: docs/ACCOUNTS.md, "Marks".
 use Rattle.std.specs.Prelude.{ℕ, ◌+◌, ◌==◌, nat_lt, length, Bool, false, if◌then◌else◌, List, [], ◌∷◌, ◌≡◌, Option, Some, None}
 use Rattle.prcu_marks.specs.declared.mark.Mark.{Mark}
 use Rattle.prcu_marks.specs.declared.mark.Mark.TheVariants.{Entered, Left, Began, Ended, Done, Given, Unlinked, Freed}

@@ -1,5 +1,5 @@
 -- What the marks of a run of scripts are, where the caller of each script has the place of its number.
--- Source: docs/ALGORITHM.md, "Clients".
+-- Source: docs/ACCOUNTS.md, "Clients".
 use Rattle.std.specs.Prelude.{ℕ, ◌+◌, ◌<◌, ◌≤◌, ◌==◌, if◌then◌else◌, List, [], ◌∷◌, length, slice_index_or}
 use Rattle.std.specs.List.{AllByRecursion}
 use Rattle.prcu_marks.specs.declared.mark.Mark.{Mark}

@@ -1,5 +1,5 @@
 -- The dictionary as a value, and what each update makes of it.
--- Source: docs/ALGORITHM.md, "The dictionary".
+-- Source: docs/ACCOUNTS.md, "The dictionary".
 use Rattle.std.specs.Prelude.{◌≡◌, ℕ, ◌≤◌, List, [], ◌∷◌, length, take, if◌then◌else◌, Option}
 use Rattle.std.specs.Ordering.{nat_cmp}
 use Rattle.std.specs.Coded.{Coded, coded_ℕ}

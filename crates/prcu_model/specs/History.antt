@@ -1,5 +1,5 @@
 -- Which lists of updates are histories.
--- Source: docs/ALGORITHM.md, "The dictionary".
+-- Source: docs/ACCOUNTS.md, "The dictionary".
 use Rattle.std.specs.Prelude.{◌≡◌, List, [], ◌∷◌, IsTrue, false}
 use Rattle.std.specs.FinMap as map
 use Rattle.prcu_model.specs.declared.operation.Op.{Op}

@@ -1,5 +1,5 @@
 -- Scripts run one after another on a plain map, with a limit on its pairs or without.
--- Source: docs/ALGORITHM.md, "The dictionary".
+-- Source: docs/ACCOUNTS.md, "The dictionary".
 use Rattle.std.specs.Prelude.{ℕ, ◌+◌, nat_le, Bool, false, if◌then◌else◌, List, [], ◌∷◌, ◌++◌, length, Option, Some, None}
 use Rattle.std.specs.FinMap as map
 use Rattle.prcu_model.specs.declared.operation.Op.{Op}

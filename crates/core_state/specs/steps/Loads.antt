@@ -1,5 +1,5 @@
 -- The steps in a section: K17, K37, and the load of a listing.
--- Source: docs/ALGORITHM.md, "The steps of the tree".
+-- Source: docs/TREE.md, "The steps of the tree".
 use Rattle.std.specs.Prelude.{◌≡◌, ℕ, ◌==◌, ◌&&◌, ◌⊎◌, not, false, if◌then◌else◌, [], ◌∷◌, ◌++◌, Option, Some, None}
 use Rattle.prcu_marks.specs.declared.mark.Side.{Side}
 use Rattle.prcu_marks.specs.declared.mark.Side.TheVariants.{Left, Right}

@@ -1,6 +1,6 @@
 -- What is known of each slot beside its words, and what holds of the linked ones: the shape of the tree, said of one slot and
 -- its neighbours at a time.
--- Source: docs/ALGORITHM.md, "The chart of ranges".
+-- Source: docs/TREE.md, "The chart of ranges".
 use Rattle.std.specs.Prelude.{◌≡◌, ◌≢◌, ℕ, ◌+◌, ◌<◌, ◌≤◌, ◌^◌, Bool, true, false, Option, Some}
 use Rattle.prcu_marks.specs.declared.mark.Side.{Side}
 use Rattle.prcu_marks.specs.declared.mark.Side.TheVariants.{Left, Right}

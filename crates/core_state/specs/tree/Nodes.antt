@@ -1,5 +1,5 @@
 -- Where a search goes by the links as they stand.
--- Source: docs/ALGORITHM.md, "The tree".
+-- Source: docs/TREE.md, "The tree".
 use Rattle.std.specs.Prelude.{zero, suc, ◌≡◌, ◌≢◌, ℕ, ◌+◌, ◌==◌, nat_lt, if◌then◌else◌, Option, Some, None}
 use Rattle.prcu_marks.specs.declared.mark.Side.TheVariants.{Left, Right}
 use Rattle.core_state.specs.declared.words.Field.TheVariants.{Key, Value, Link}

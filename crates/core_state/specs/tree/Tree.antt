@@ -1,5 +1,5 @@
 -- The links from the root as a tree, in plain words.
--- Source: docs/ALGORITHM.md, "The tree".
+-- Source: docs/TREE.md, "The tree".
 use Rattle.std.specs.Prelude.{◌≡◌, ◌≢◌, ◌<◌, ℕ, ◌⊎◌, Bool, true}
 use Rattle.prcu_marks.specs.declared.mark.Side.TheVariants.{Left, Right}
 use Rattle.core_state.specs.declared.words.Field.TheVariants.{Key, Link}
