@@ -153,14 +153,6 @@ share_own v few nothing =
     omega arith
 
 module _ (k : Shape) (m : Memory) (vs : List View) (h : List Mark) (i : HoldsNow k m vs h) where
-  pub all_places : total (λ (v : View). length (places_of v)) vs ≤ k.places
-  all_places =
-      let a = total_le (λ (v : View). length (places_of v)) (λ (v : View). sum_below (λ p. times p (places_of v)) k.places) vs
-      (λ j v at. times_sum (places_of v) k.places (λ x there. place_within k.places vs i.seats.placed j x v at there)) in
-      let b = sum_total (λ p (v : View). times p (places_of v)) vs k.places in
-      let c = sum_one (λ p. total (λ (v : View). times p (places_of v)) vs) k.places (λ p lt. i.seats.placed p ∙ ap flag (lt-ltb p k.places lt)) in
-      omega arith
-
   -- linked slots are the root, those that hold pairs, and old successors
   linked_most : count_below i.chart.linked (slot_count k) ≤ 1 + young_count i.chart (slot_count k) + old_count i.chart (slot_count k)
   linked_most =
@@ -181,14 +173,34 @@ module _ (k : Shape) (m : Memory) (vs : List View) (h : List Mark) (i : HoldsNow
           (λ e. (let a = ap flag (eq-eqb 0 s e) in let b = flag_most (i.chart.linked s) in omega arith))
           (λ ne. (let a = split (i.chart.linked s) (s == 0) (i.chart.old s) (ne_eqb s 0 (λ e. ne (sym e))) in omega arith))
 
-  all_slots : slot_count k ≤ count_below (λ s. m (State s) == 0) (slot_count k) + count_below i.chart.linked (slot_count k) + total (λ (v : View). length (slots_of v)) vs
-  all_slots =
+  -- each slot is counted in one role
+  pub all_roles : slot_count k ≡ count_below (λ s. m (State s) == 0) (slot_count k) + count_below i.chart.linked (slot_count k) + total (λ (v : View). sum_below (λ s. times s (slots_of v)) (slot_count k)) vs
+  all_roles =
       let n : ℕ = slot_count k in
       let one = sum_one (roles_of m i.chart vs) n (λ s lt. i.slots.roles.once s lt) in
       let a = sum_add (λ s. flag (m (State s) == 0) + flag (i.chart.linked s)) (λ s. total (λ (v : View). times s (slots_of v)) vs) n in
       let b = sum_add (λ s. flag (m (State s) == 0)) (λ s. flag (i.chart.linked s)) n in
       let c = sum_total (λ s (v : View). times s (slots_of v)) vs n in
-      let d = total_le (λ (v : View). sum_below (λ s. times s (slots_of v)) n) (λ (v : View). length (slots_of v)) vs (λ j v at. sum_times (slots_of v) n) in
+      omega arith
+
+  -- and each place
+  pub all_placed : k.places ≡ total (λ (v : View). sum_below (λ p. times p (places_of v)) k.places) vs
+  all_placed =
+      let a = sum_total (λ p (v : View). times p (places_of v)) vs k.places in
+      let b = sum_one (λ p. total (λ (v : View). times p (places_of v)) vs) k.places (λ p lt. i.seats.placed p ∙ ap flag (lt-ltb p k.places lt)) in
+      omega arith
+
+  all_slots : slot_count k ≤ count_below (λ s. m (State s) == 0) (slot_count k) + count_below i.chart.linked (slot_count k) + total (λ (v : View). length (slots_of v)) vs
+  all_slots =
+      let a = all_roles in
+      let b = total_le (λ (v : View). sum_below (λ s. times s (slots_of v)) (slot_count k)) (λ (v : View). length (slots_of v)) vs (λ j v at. sum_times (slots_of v) (slot_count k)) in
+      omega arith
+
+  pub all_places : total (λ (v : View). length (places_of v)) vs ≤ k.places
+  all_places =
+      let a = all_placed in
+      let b = total_le (λ (v : View). length (places_of v)) (λ (v : View). sum_below (λ p. times p (places_of v)) k.places) vs
+      (λ j v at. times_sum (places_of v) k.places (λ x there. place_within k.places vs i.seats.placed j x v at there)) in
       omega arith
 
 pub empty_is_full : EmptyIsFull
@@ -245,9 +257,8 @@ share_least v few spent =
 module _ (k : Shape) (m : Memory) (vs : List View) (h : List Mark) (i : HoldsNow k m vs h) where
   each_place : k.places ≤ total (λ (v : View). length (places_of v)) vs
   each_place =
-      let a = total_le (λ (v : View). sum_below (λ p. times p (places_of v)) k.places) (λ (v : View). length (places_of v)) vs (λ j v at. sum_times (places_of v) k.places) in
-      let b = sum_total (λ p (v : View). times p (places_of v)) vs k.places in
-      let c = sum_one (λ p. total (λ (v : View). times p (places_of v)) vs) k.places (λ p lt. i.seats.placed p ∙ ap flag (lt-ltb p k.places lt)) in
+      let a = all_placed k m vs h i in
+      let b = total_le (λ (v : View). sum_below (λ p. times p (places_of v)) k.places) (λ (v : View). length (places_of v)) vs (λ j v at. sum_times (places_of v) k.places) in
       omega arith
 
   -- linked slots are the root and those that hold pairs, and others
@@ -279,13 +290,9 @@ module _ (k : Shape) (m : Memory) (vs : List View) (h : List Mark) (i : HoldsNow
 
   no_more_slots : count_below i.chart.linked (slot_count k) + total (λ (v : View). length (slots_of v)) vs ≤ slot_count k
   no_more_slots =
-      let n : ℕ = slot_count k in
-      let one = sum_one (roles_of m i.chart vs) n (λ s lt. i.slots.roles.once s lt) in
-      let a = sum_add (λ s. flag (m (State s) == 0) + flag (i.chart.linked s)) (λ s. total (λ (v : View). times s (slots_of v)) vs) n in
-      let b = sum_add (λ s. flag (m (State s) == 0)) (λ s. flag (i.chart.linked s)) n in
-      let c = sum_total (λ s (v : View). times s (slots_of v)) vs n in
-      let d = total_le (λ (v : View). length (slots_of v)) (λ (v : View). sum_below (λ s. times s (slots_of v)) n) vs
-          (λ j v at. times_sum (slots_of v) n (λ s there. slot_within j s v at there)) in
+      let a = all_roles k m vs h i in
+      let b = total_le (λ (v : View). length (slots_of v)) (λ (v : View). sum_below (λ s. times s (slots_of v)) (slot_count k)) vs
+      (λ j v at. times_sum (slots_of v) (slot_count k) (λ s there. slot_within j s v at there)) in
       omega arith
 
 pub pairs_fit : PairsFit

@@ -5,6 +5,4 @@ pub mod frames
 pub mod First
 pub mod Counting
 pub mod ListingLaws
-pub mod Pieces
-pub mod SectionLaws
 pub mod Keeping

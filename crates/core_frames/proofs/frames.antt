@@ -2,10 +2,12 @@ pub mod TreeFrame
 pub mod SlotFrame
 pub mod LockFrame
 pub mod CountFrame
+pub mod FrontFrame
 pub mod ReaderFrame
 pub mod MarkFrame
 pub mod GraceFrame
+pub mod ListingFrame
 pub mod SeatFrame
 pub mod WaiterFrame
 pub mod PlainFrames
-pub mod PlainGrace
+pub mod WholeFrame

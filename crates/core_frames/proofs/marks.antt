@@ -1,4 +1,5 @@
 pub mod MarkFacts
+pub mod MoreMarks
 pub mod MarkTold
 pub mod PlainMarks
 pub mod UpdateMarks

@@ -2,7 +2,6 @@ pub mod Same
 pub mod Fields
 pub mod Sums
 pub mod SeatFacts
-pub mod WaiterWords
 pub mod Roles
 pub mod RetiredLists
 pub mod Leaving

@@ -8,7 +8,6 @@ use Rattle.prcu_marks.specs.declared.mark.Mark.{Mark}
 use Rattle.prcu_marks.specs.declared.mark.Side.{Side}
 use Rattle.prcu_model.specs.Dictionary.{map_of}
 use Rattle.prcu_marks.specs.Marks.{updates_of, gone_at, IsGone}
-use Rattle.prcu_marks.specs.Bounds.{greatest_key}
 use Rattle.core_state.specs.declared.shape.Shape.{Shape}
 use Rattle.core_state.specs.declared.shape.Waiter.TheVariants.{Domain}
 use Rattle.core_state.specs.declared.words.Field.{Field}
@@ -33,13 +32,7 @@ use Rattle.prcu_model.specs.Dictionary.{WasSaid}
 use Rattle.core_state.specs.tree.Readers.{IsPending, MayPass, IsOldFor, IsEmptied, Stands}
 use Rattle.core_state.specs.parts.ReaderParts.{state_slot, IsAsRecorded}
 use Rattle.core_state.specs.parts.TreeParts.{map_now}
-use Rattle.core_state.specs.steps.Slots.{IsContent, NeedsRaiseRetired}
-use Rattle.core_state.specs.steps.Waits.{NeedsBegin, after_begin}
-use Rattle.core_state.specs.steps.Locks.{NeedsUnlock, after_unlock}
-use Rattle.core_state.specs.parts.WaiterParts.{AreExcused}
-use Rattle.core_state.specs.parts.GraceParts.{IsClear}
-use Rattle.core_state.specs.declared.view.Retired.{Retired}
-use Rattle.core_state.specs.declared.view.HeldLock.{HeldLock}
+use Rattle.core_state.specs.steps.Slots.{IsContent}
 use Rattle.core_state.specs.views.Views.{Works, readings_of}
 use Rattle.core_state.specs.steps.Steps.{IsStep, Steps}
 use Rattle.core_state.specs.Fresh.{first_view, IsFresh}
@@ -141,7 +134,7 @@ pub record KeepsPast (m : Memory) (h : List Mark) (to : Memory) : Type 0 where
 
 pub record IsKept (k : Shape) (m : Memory) (h : List Mark) (to : Memory) (vs : List View) (h' : List Mark) : Type 0 where
   pub invariant : HoldsNow k to vs h'
-  pub ages : KeepsPast m h to
+  pub past : KeepsPast m h to
 
 -- Each step of the kind keeps the invariant: by any view that works at a place, from any state that has the invariant.
 abbrev pub Keeps : Kind → Type 0
@@ -161,18 +154,3 @@ NotesKeep = (kind : Kind) → Keeps kind → KeepsNoted kind
 -- A table as it is made has the invariant, whatever its waiter.
 abbrev pub FreshHolds : Type 0
 FreshHolds = (k : Shape) (m : Memory) → IsShape k → IsFresh k m → HoldsNow k m (first_view k ∷ []) []
-
--- Pieces of the laws of K7, K12 and K14. A wait begins with nothing excused, so what the waits have excused stays right.
-abbrev pub WaitsBeginFresh : Type 0
-WaitsBeginFresh = (k : Shape) (m : Memory) (vs : List View) (h : List Mark) → HoldsNow k m vs h → (id low high : ℕ) (v : View) → get_elem? vs id ≡ some v → NeedsBegin v low high
-    → AreExcused k (set vs id (after_begin v low high (m Clock) h))
-
--- The life of a retired slot is raised only where no section is open that was entered before its unlinking.
-abbrev pub RaisesMeetNobody : Type 0
-RaisesMeetNobody = (k : Shape) (m : Memory) (vs : List View) (h : List Mark) → HoldsNow k m vs h → (id i slot life number : ℕ) (v : View) (r : Retired) → get_elem? vs id ≡ some v
-    → NeedsRaiseRetired v i r slot life number → IsClear vs r.unlinked 0 greatest_key
-
--- Who gives a lock up forgets no side that it emptied.
-abbrev pub UnlocksForgetNothing : Type 0
-UnlocksForgetNothing = (vs : List View) (id slot s : ℕ) (v : View) (lock : HeldLock) (b : Side) → get_elem? vs id ≡ some v → NeedsUnlock v lock slot → IsEmptied vs s b
-    → IsEmptied (set vs id (after_unlock v slot)) s b

@@ -1,7 +1,5 @@
-//! What the invariant gives, and the kinds of step that are proved here to keep it. Each is a function without a body whose promise is
-//! the law.
-ghost use Rattle.core_state.specs.declared.words.Kind.TheVariants.{K3, K4, K5, K6};
-ghost use Rattle.core_frames.specs.Laws.{LinksAreTree, FollowIsMap, SearchesAreAnswered, SearchesStand, FewPass, RecordsSay, StampsAreOld, StoodIsYoung, EmptyIsFull, PairsFit, ListingsGoOn, FreshHolds, Keeps, NotesKeep, WaitsBeginFresh, RaisesMeetNobody, UnlocksForgetNothing};
+//! What the invariant gives, and that a step noted in a trail keeps it too. Each is a function without a body whose promise is the law.
+ghost use Rattle.core_frames.specs.Laws.{LinksAreTree, FollowIsMap, SearchesAreAnswered, SearchesStand, FewPass, RecordsSay, StampsAreOld, StoodIsYoung, EmptyIsFull, PairsFit, ListingsGoOn, FreshHolds, NotesKeep};
 
 /// The links from the root are a tree of distinct slots in search order.
 pub fn links_are_tree()
@@ -66,39 +64,4 @@ pub fn fresh_holds()
 /// Where each step of a kind keeps the invariant, so does each that is noted in its seat's trail.
 pub fn notes_keep()
     ensures { NotesKeep }
-{}
-
-/// A load of the clock keeps the invariant.
-pub fn k3()
-    ensures { Keeps K3 }
-{}
-
-/// A store of the own key word keeps the invariant.
-pub fn k4()
-    ensures { Keeps K4 }
-{}
-
-/// Entering a section of the first waiter keeps the invariant.
-pub fn k5()
-    ensures { Keeps K5 }
-{}
-
-/// Leaving it keeps the invariant.
-pub fn k6()
-    ensures { Keeps K6 }
-{}
-
-/// A wait begins with nothing excused.
-pub fn waits_begin_fresh()
-    ensures { WaitsBeginFresh }
-{}
-
-/// A retired slot's life is raised only where nobody may meet it.
-pub fn raises_meet_nobody()
-    ensures { RaisesMeetNobody }
-{}
-
-/// Who gives a lock up forgets no side that it emptied.
-pub fn unlocks_forget_nothing()
-    ensures { UnlocksForgetNothing }
 {}

@@ -4,7 +4,7 @@ use Rattle.std.proofs.Common.{◌≡◌, ℕ, ◌+◌, ◌/◌, ◌<◌, ◌≤�
 use mathlib.Core.Option.{some}
 use lib.ListN.{get_elem?}
 use Rattle.core_state.specs.declared.words.Field.{Field}
-use Rattle.core_state.specs.declared.words.Field.TheVariants.{Lock, Life, Tag}
+use Rattle.core_state.specs.declared.words.Field.TheVariants.{Lock, Life, Tag, State}
 use Rattle.core_state.specs.declared.view.HeldLock.{HeldLock}
 use Rattle.core_state.specs.declared.view.Reading.{Reading}
 use Rattle.core_state.specs.declared.view.Section.{Section}
@@ -17,7 +17,7 @@ use Rattle.core_state.specs.views.Views.{readings_of}
 use Rattle.core_state.specs.tree.Chart.{Chart}
 use Rattle.core_state.specs.parts.LockParts.{IsHolderOf, HasFewLocks, IsUnraised, IsLockKept, IsLockKnown, IsReadingKept, LockParts}
 use Rattle.list_laws.proofs.Lists.{each_change}
-use Rattle.core_frames.proofs.views.Same.{SameSlots, own_same, still}
+use Rattle.core_frames.proofs.views.Same.{SameSlots, own_same, still, SameNodes}
 use Rattle.core_frames.proofs.frames.TreeFrame.{generation_back}
 
 pub record SameForLocks (v w : View) : Type 0 where
@@ -50,36 +50,37 @@ few_same v w e i = record {
   outside = λ section is. (let r = e.outside section is in (e.locks ∙ r.0, e.settled r.1));
 }
 
-module _ (m m' : Memory) (slots : SameSlots m m') (g : Chart) where
+-- What is kept of locks and of readings, where nodes and states are the same.
+module _ (m m' : Memory) (nodes : SameNodes m m') (states : (s : ℕ) → m' (State s) ≡ m (State s)) (g : Chart) where
   odd_back : (s : ℕ) → IsOdd (m' (Life s)) → IsOdd (m (Life s))
-  odd_back s e = subst IsOdd (slots.nodes.life s) e
+  odd_back s e = subst IsOdd (nodes.life s) e
 
   odd_same : (s : ℕ) → IsOdd (m (Life s)) → IsOdd (m' (Life s))
-  odd_same s e = subst IsOdd (sym (slots.nodes.life s)) e
+  odd_same s e = subst IsOdd (sym (nodes.life s)) e
 
-  kept_same : (u z : View) (s : ℕ) (lock : HeldLock) → (IsUnraised u s → IsUnraised z s) → IsLockKept m g u s lock → IsLockKept m' g z s lock
+  pub kept_same : (u z : View) (s : ℕ) (lock : HeldLock) → (IsUnraised u s → IsUnraised z s) → IsLockKept m g u s lock → IsLockKept m' g z s lock
   kept_same u z s lock e i = record {
     marked = λ q. (let r = i.marked q in (r.0, odd_same s r.1));
     own_mark = λ l o. i.own_mark l (odd_back s o);
-    emptied = λ b q. (let r = i.emptied b q in (slots.nodes.link s b ∙ r.0, ⊎_elim (λ l. inl l) (λ (x : IsUnraised u s). inr (e x)) r.1));
+    emptied = λ b q. (let r = i.emptied b q in (nodes.link s b ∙ r.0, ⊎_elim (λ l. inl l) (λ (x : IsUnraised u s). inr (e x)) r.1));
   }
 
-  known_same : (u z : View) (s : ℕ) (lock : HeldLock) → ((r : Reading) → IsIn (readings_of z) r → IsIn (readings_of u) r ⊎ (r.loads ≡ [])) → IsLockKnown m u s lock → IsLockKnown m' z s lock
+  pub known_same : (u z : View) (s : ℕ) (lock : HeldLock) → ((r : Reading) → IsIn (readings_of z) r → IsIn (readings_of u) r ⊎ (r.loads ≡ [])) → IsLockKnown m u s lock → IsLockKnown m' z s lock
   known_same u z s lock back i = record {
     own = i.own;
-    tags = λ b number e. slots.nodes.tag s b ∙ i.tags b number e;
-    fields = λ r generation number field has loaded same e. ⊎_elim (λ there. own_same m m' slots s field (i.own field number e) ∙ i.fields r generation number field there loaded (generation_back m m' slots.nodes s generation lock same) e)
+    tags = λ b number e. nodes.tag s b ∙ i.tags b number e;
+    fields = λ r generation number field has loaded same e. ⊎_elim (λ there. own_same m m' nodes states s field (i.own field number e) ∙ i.fields r generation number field there loaded (generation_back m m' nodes s generation lock same) e)
         (λ none. absurd (no_load r s generation none loaded)) (back r has);
-    lives = λ r generation has loaded e. ⊎_elim (λ there. slots.nodes.life s ∙ i.lives r generation there loaded e) (λ none. absurd (no_load r s generation none loaded)) (back r has);
-    marked_life = λ q. i.marked_life q ∙ ap Some (sym (slots.nodes.life s));
+    lives = λ r generation has loaded e. ⊎_elim (λ there. nodes.life s ∙ i.lives r generation there loaded e) (λ none. absurd (no_load r s generation none loaded)) (back r has);
+    marked_life = λ q. i.marked_life q ∙ ap Some (sym (nodes.life s));
   }
 
-  reading_same : (r : Reading) → IsReadingKept m g r → IsReadingKept m' g r
+  pub reading_same : (r : Reading) → IsReadingKept m g r → IsReadingKept m' g r
   reading_same r i = record {
-    generations = λ s life e. subst (λ x. life / 2 ≤ x / 2) (sym (slots.nodes.life s)) (i.generations s life e);
-    tags = λ s number b e. subst (λ x. number ≤ x) (sym (slots.nodes.tag s b)) (i.tags s number b e);
-    linked = λ s life e f. i.linked s life e (sym (slots.nodes.life s) ∙ f);
-    keys = λ s life key e f k. slots.nodes.key s ∙ i.keys s life key e (ap (λ x. x / 2) (sym (slots.nodes.life s)) ∙ f) k;
+    generations = λ s life e. subst (λ x. life / 2 ≤ x / 2) (sym (nodes.life s)) (i.generations s life e);
+    tags = λ s number b e. subst (λ x. number ≤ x) (sym (nodes.tag s b)) (i.tags s number b e);
+    linked = λ s life e f. i.linked s life e (sym (nodes.life s) ∙ f);
+    keys = λ s life key e f k. nodes.key s ∙ i.keys s life key e (ap (λ x. x / 2) (sym (nodes.life s)) ∙ f) k;
   }
 
 pub lock_frame : (m m' : Memory) (n : ℕ) (g : Chart) (vs : List View) (id : ℕ) (v w : View)
@@ -96,13 +97,13 @@ lock_frame m m' n g vs id v w there slots same t =
       };
       few = each_change HasFewLocks HasFewLocks vs id v w there (few_same v w same) (λ u i. i) t.few;
       kept = each_change (λ (u : View). (s : ℕ) (lock : HeldLock) → lock_of u.locks s ≡ Some lock → IsLockKept m g u s lock) (λ (u : View). (s : ℕ) (lock : HeldLock) → lock_of u.locks s ≡ Some lock → IsLockKept m' g u s lock) vs id v w there
-          (λ i s lock e. kept_same m m' slots g v w s lock (same.unraised s) (i s lock (ap (λ ls. lock_of ls s) (sym same.locks) ∙ e)))
-          (λ u i s lock e. kept_same m m' slots g u u s lock (λ x. x) (i s lock e)) t.kept;
-      marked = λ s l o. (let r = t.marked s l (odd_back m m' slots g s o) in (r.0, holder s r.0 r.1, r.2));
+          (λ i s lock e. kept_same m m' slots.nodes slots.state g v w s lock (same.unraised s) (i s lock (ap (λ ls. lock_of ls s) (sym same.locks) ∙ e)))
+          (λ u i s lock e. kept_same m m' slots.nodes slots.state g u u s lock (λ x. x) (i s lock e)) t.kept;
+      marked = λ s l o. (let r = t.marked s l (odd_back m m' slots.nodes slots.state g s o) in (r.0, holder s r.0 r.1, r.2));
       known = each_change (λ (u : View). (s : ℕ) (lock : HeldLock) → lock_of u.locks s ≡ Some lock → IsLockKnown m u s lock) (λ (u : View). (s : ℕ) (lock : HeldLock) → lock_of u.locks s ≡ Some lock → IsLockKnown m' u s lock) vs id v w there
-          (λ i s lock e. known_same m m' slots g v w s lock same.readings (i s lock (ap (λ ls. lock_of ls s) (sym same.locks) ∙ e)))
-          (λ u i s lock e. known_same m m' slots g u u s lock (λ r has. inl has) (i s lock e)) t.known;
+          (λ i s lock e. known_same m m' slots.nodes slots.state g v w s lock same.readings (i s lock (ap (λ ls. lock_of ls s) (sym same.locks) ∙ e)))
+          (λ u i s lock e. known_same m m' slots.nodes slots.state g u u s lock (λ r has. inl has) (i s lock e)) t.known;
       readings = each_change (λ (u : View). Each (readings_of u) (IsReadingKept m g)) (λ (u : View). Each (readings_of u) (IsReadingKept m' g)) vs id v w there
-          (λ i j r e. ⊎_elim (λ (x : IsIn (readings_of v) r). reading_same m m' slots g r (i x.0 r x.1)) (λ none. reading_empty m' g r none) (same.readings r (j, e)))
-          (λ u i j r e. reading_same m m' slots g r (i j r e)) t.readings;
+          (λ i j r e. ⊎_elim (λ (x : IsIn (readings_of v) r). reading_same m m' slots.nodes slots.state g r (i x.0 r x.1)) (λ none. reading_empty m' g r none) (same.readings r (j, e)))
+          (λ u i j r e. reading_same m m' slots.nodes slots.state g r (i j r e)) t.readings;
     }

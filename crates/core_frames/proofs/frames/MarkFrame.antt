@@ -1,6 +1,6 @@
 -- The parts on marks and waits read what views have seen, their places and waits, and the marks. One more mark keeps them where it
 -- stands in order.
-use Rattle.std.proofs.Common.{◌≡◌, ℕ, ◌+◌, ◌^◌, ◌<◌, ◌≤◌, List, [], ◌∷◌, ◌++◌, length, take, set, Some, None, refl, sym, ap, subst, ◌∙◌, ⊎_elim, arith}
+use Rattle.std.proofs.Common.{◌≡◌, ℕ, ◌+◌, ◌^◌, ◌<◌, ◌≤◌, List, [], ◌∷◌, ◌++◌, length, take, set, Some, None, refl, sym, ap, subst, ◌∙◌, ⊎_elim, arith, ◌≢◌, ◌⊎◌, inl, inr}
 use mathlib.Core.Option.{some}
 use mathlib.Core.List.{IsPrefix}
 use lib.ListN.{get_elem?}
@@ -10,14 +10,16 @@ use Rattle.prcu_marks.specs.declared.mark.Mark.{Mark}
 use Rattle.prcu_marks.specs.declared.mark.Mark.TheVariants.{Entered, Left, Began, Ended, Done}
 use Rattle.prcu_model.specs.declared.operation.Op.TheVariants.{Del}
 use Rattle.prcu_marks.specs.Marks.{Open, open_at, entered_at}
-use Rattle.prcu_model.proofs.ListFacts.{prefix_self, prefix_more}
+use Rattle.prcu_model.proofs.ListFacts.{prefix_self, prefix_trans}
 use Rattle.core_state.specs.declared.view.Waiting.{Waiting}
 use Rattle.core_state.specs.declared.view.View.{View}
 use Rattle.core_state.specs.Marks.{begun, begun_at, AreMarks}
 use Rattle.core_state.specs.parts.MarkParts.{HasEnded, WaitStands, MarkParts}
-use Rattle.list_laws.proofs.Lists.{at_below, at_end, each_change}
-use Rattle.core_frames.proofs.marks.MarkFacts.{TurnsNoWait, take-more}
+use Rattle.list_laws.proofs.Lists.{at_below, at_end, each_change, each_set}
+use Rattle.core_frames.proofs.marks.MarkFacts.{take-more}
 use Rattle.core_frames.proofs.views.Same.{still}
+use Rattle.core_state.specs.views.Views.{Works}
+use Rattle.core_frames.proofs.marks.MoreMarks.{QuietWaits, cut_at, longer_at, waits_same}
 
 -- what a new mark has to meet, after these
 abbrev pub NewMark : ℕ → List Mark → Mark → Type 0
@@ -67,56 +69,62 @@ pub record SameForMarks (v w : View) : Type 0 where
   pub wait : w.wait ≡ v.wait
   pub waits : w.counts.waits ≡ v.counts.waits
 
-same_for_marks : (u : View) → SameForMarks u u
-same_for_marks u = record { place = refl; places = refl; wait = refl; waits = refl }
-
-wait_same : (h : List Mark) (u z : View) (wait : Waiting) → SameForMarks u z → WaitStands h u wait → WaitStands h z wait
-wait_same h u z wait e i = record {
-  works = subst (λ x. 1 ≤ x) (sym e.places) i.works;
-  begins = i.begins ∙ ap (λ p. some (Began p wait.count wait.low wait.high)) (sym e.place);
+pub wait_same : (h : List Mark) (u z : View) (wait : Waiting) → z.allowance.place ≡ u.allowance.place → Works z → z.counts.waits ≡ u.counts.waits → WaitStands h u wait → WaitStands h z wait
+wait_same h u z wait place works waits i = record {
+  works = works;
+  begins = i.begins ∙ ap (λ p. some (Began p wait.count wait.low wait.high)) (sym place);
   clock = i.clock;
-  newest = i.newest ∙ sym e.waits;
-  over = λ x. subst (λ p. HasEnded h p wait.count) (sym e.place) (i.over x);
-  going = λ x has. i.going x (subst (λ p. HasEnded h p wait.count) e.place has);
+  newest = i.newest ∙ sym waits;
+  over = λ x. subst (λ p. HasEnded h p wait.count) (sym place) (i.over x);
+  going = λ x has. i.going x (subst (λ p. HasEnded h p wait.count) place has);
 }
 
-ended_back : (h : List Mark) (m : Mark) → TurnsNoWait m → (p c : ℕ) → HasEnded (h ++ m ∷ []) p c → HasEnded h p c
-ended_back h m none p c has = ⊎_elim (λ (o : get_elem? h has.0 ≡ some (Ended p c)). (has.0, o)) (λ n. absurd (subst TurnsNoWait n.1 none)) (at_end h m (Ended p c) has.0 has.1)
-
-wait_more : (h : List Mark) (m : Mark) (u : View) (wait : Waiting) → TurnsNoWait m → WaitStands h u wait → WaitStands (h ++ m ∷ []) u wait
-wait_more h m u wait none i = record {
+-- a wait after more marks, which don't end it
+pub wait_longer : (h h' : List Mark) (u : View) (wait : Waiting) → IsPrefix h h' → (HasEnded h' u.allowance.place wait.count → HasEnded h u.allowance.place wait.count) → WaitStands h u wait → WaitStands h' u wait
+wait_longer h h' u wait grows back i = record {
   works = i.works;
-  begins = at_longer h (m ∷ []) wait.began _ i.begins;
-  clock = i.clock ∙ ap begun (sym (before_old h m wait.began _ i.begins));
+  begins = longer_at h h' grows wait.began _ i.begins;
+  clock = i.clock ∙ ap begun (sym (cut_at h h' grows wait.began (let b = at_below h wait.began _ i.begins in omega arith)));
   newest = i.newest;
-  over = λ x. (let r = i.over x in (r.0, at_longer h (m ∷ []) r.0 _ r.1));
-  going = λ x has. i.going x (ended_back h m none u.allowance.place wait.count has);
+  over = λ x. (let r = i.over x in (r.0, longer_at h h' grows r.0 _ r.1));
+  going = λ x has. i.going x (back has);
 }
+
+-- Where marks come, the step's view has seen them all; where none come, it may have seen no more than before.
+abbrev pub Sees : List Mark → List Mark → View → View → Type 0
+Sees h h' v w = (w.seen ≡ h') ⊎ ((h' ≡ h) × (w.seen ≡ v.seen))
+
+module _ (places : ℕ) (vs : List View) (id : ℕ) (v w : View) (h h' : List Mark) (there : get_elem? vs id ≡ some v) (grows : IsPrefix h h') (sees : Sees h h' v w) (marks : AreMarks places h') (t : MarkParts places vs h) where
+  seen_by : IsPrefix v.seen h → Sees h h' v w → IsPrefix w.seen h'
+  seen_by i (inl all) = subst (λ s. IsPrefix s h') (sym all) (prefix_self h')
+  seen_by i (inr none) = subst (λ s. IsPrefix s h') (sym none.1) (prefix_trans v.seen h h' i grows)
+
+  longest_by : Sees h h' v w → (j : ℕ) × (u : View) × (get_elem? (set vs id w) j ≡ some u) × (u.seen ≡ h')
+  longest_by (inl all) = (id, w, set_here vs id w (at_below vs id v there), all)
+  longest_by (inr none) = let l = t.seen.longest in let z = still (λ (u : View). u.seen) vs id v w there none.1 l.0 l.1 l.2 in (l.0, z.0, z.1, z.2 ∙ l.3 ∙ sym none.0)
+
+  -- the step says how its own wait stands, and that the others do
+  pub mark_frame_by : ((wait : Waiting) → w.wait ≡ Some wait → WaitStands h' w wait)
+      → ((j : ℕ) (u : View) (wait : Waiting) → j ≢ id → get_elem? vs j ≡ some u → WaitStands h u wait → HasEnded h' u.allowance.place wait.count → HasEnded h u.allowance.place wait.count) → MarkParts places (set vs id w) h'
+  mark_frame_by own back = record {
+    seen = record {
+      begins = each_change (λ (u : View). IsPrefix u.seen h) (λ (u : View). IsPrefix u.seen h') vs id v w there (λ i. seen_by i sees) (λ u i. prefix_trans u.seen h h' i grows) t.seen.begins;
+      longest = longest_by sees;
+    };
+    marks = marks;
+    waits = each_set (λ j u. (wait : Waiting) → u.wait ≡ Some wait → WaitStands h' u wait) vs id w own
+        (λ j u ne e wait is. (let i = t.waits j u e wait is in wait_longer h h' u wait grows (back j u wait ne e i) i));
+  }
+
+  -- no wait begins or ends
+  pub mark_frame_still : QuietWaits h h' → SameForMarks v w → MarkParts places (set vs id w) h'
+  mark_frame_still quiet same =
+      let back : (p c : ℕ) → HasEnded h' p c → HasEnded h p c = λ p c has. (has.0, quiet.ended has.0 p c has.1) in
+      mark_frame_by
+      (λ wait is. (let i = t.waits id v there wait (sym same.wait ∙ is) in
+      wait_same h' v w wait same.place (subst (λ x. 1 ≤ x) (sym same.places) i.works) same.waits (wait_longer h h' v wait grows (back v.allowance.place wait.count) i)))
+      (λ j u wait ne e i. back u.allowance.place wait.count)
 
 -- a step without a mark
 pub mark_frame : (places : ℕ) (vs : List View) (id : ℕ) (v w : View) (h : List Mark) → get_elem? vs id ≡ some v → SameForMarks v w → w.seen ≡ v.seen → MarkParts places vs h → MarkParts places (set vs id w) h
-mark_frame places vs id v w h there same seen t = record {
-  seen = record {
-    begins = each_change (λ (u : View). IsPrefix u.seen h) (λ (u : View). IsPrefix u.seen h) vs id v w there (λ i. subst (λ s. IsPrefix s h) (sym seen) i) (λ u i. i) t.seen.begins;
-    longest = longest_still;
-  };
-  marks = t.marks;
-  waits = each_change (λ (u : View). (wait : Waiting) → u.wait ≡ Some wait → WaitStands h u wait) (λ (u : View). (wait : Waiting) → u.wait ≡ Some wait → WaitStands h u wait) vs id v w there
-      (λ i wait is. wait_same h v w wait same (i wait (sym same.wait ∙ is))) (λ u i. i) t.waits;
-}
-  where
-    longest_still : (j : ℕ) × (u : View) × (get_elem? (set vs id w) j ≡ some u) × (u.seen ≡ h)
-    longest_still = let l = t.seen.longest in let z = still (λ (u : View). u.seen) vs id v w there seen l.0 l.1 l.2 in (l.0, z.0, z.1, z.2 ∙ l.3)
-
--- a step with a mark of its own, which neither begins nor ends a wait
-pub mark_frame_more : (places : ℕ) (vs : List View) (id : ℕ) (v w : View) (h : List Mark) (m : Mark) → get_elem? vs id ≡ some v → SameForMarks v w → w.seen ≡ h ++ m ∷ [] → TurnsNoWait m → NewMark places h m
-    → MarkParts places vs h → MarkParts places (set vs id w) (h ++ m ∷ [])
-mark_frame_more places vs id v w h m there same seen none new t = record {
-  seen = record {
-    begins = each_change (λ (u : View). IsPrefix u.seen h) (λ (u : View). IsPrefix u.seen (h ++ m ∷ [])) vs id v w there (λ i. subst (λ s. IsPrefix s (h ++ m ∷ [])) (sym seen) (prefix_self (h ++ m ∷ []))) (λ u i. prefix_more u.seen h (m ∷ []) i) t.seen.begins;
-    longest = (id, w, set_here vs id w (at_below vs id v there), seen);
-  };
-  marks = marks_snoc places h m new t.marks;
-  waits = each_change (λ (u : View). (wait : Waiting) → u.wait ≡ Some wait → WaitStands h u wait) (λ (u : View). (wait : Waiting) → u.wait ≡ Some wait → WaitStands (h ++ m ∷ []) u wait) vs id v w there
-      (λ i wait is. wait_more h m w wait none (wait_same h v w wait same (i wait (sym same.wait ∙ is)))) (λ u i wait is. wait_more h m u wait none (i wait is)) t.waits;
-}
+mark_frame places vs id v w h there same seen t = mark_frame_still places vs id v w h h there (prefix_self h) (inr (refl, seen)) t.marks t (waits_same h) same

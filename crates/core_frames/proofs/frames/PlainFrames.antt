@@ -1,33 +1,30 @@
--- What marks of updates and slots leave of the parts on marks, seats and waiters.
-use Rattle.std.proofs.Common.{◌≡◌, ◌≢◌, ℕ, ◌≤◌, List, length, take, set, Option, Some, refl, sym, ap, subst, ◌∙◌, arith}
+-- What marks of updates and slots leave: such a step keeps the parts on marks, seats, waiters and grace by the frames of each group.
+use Rattle.std.proofs.Common.{List, None, Some, [], ap, arith, false, length, refl, set, subst, sym, true, ℕ, ⊎_elim, ◌++◌, ◌∙◌, ◌∷◌, ◌≡◌, ◌≢◌, ◌≤◌, inl}
 use mathlib.Core.Option.{some}
-use mathlib.Core.List.{IsPrefix}
 use lib.ListN.{get_elem?}
-use Rattle.atomic_table.proofs.Lists.{set_here}
 use Rattle.prcu_marks.specs.declared.mark.Mark.{Mark}
-use Rattle.prcu_marks.specs.declared.mark.Mark.TheVariants.{Began}
-use Rattle.prcu_marks.specs.Marks.{open_at, own_of, entered_at, updates_of}
-use Rattle.prcu_model.proofs.ListFacts.{prefix_self, prefix_trans}
-use Rattle.prcu_marks.proofs.MarkPlaces.{open_at-below}
-use Rattle.core_state.specs.declared.shape.Shape.{Shape}
-use Rattle.core_state.specs.declared.words.Field.TheVariants.{Clock, Announced, Stamp, Count, Row}
-use Rattle.core_state.specs.declared.view.Section.{Section}
-use Rattle.core_state.specs.declared.view.Waiting.{Waiting}
+use Rattle.prcu_marks.specs.Marks.{gone_at}
+use Rattle.prcu_marks.specs.Bounds.{greatest_key}
+use Rattle.core_state.specs.declared.view.Retired.{Retired}
 use Rattle.core_state.specs.declared.view.View.{View}
-use Rattle.list_laws.specs.Counts.{times}
+use Rattle.list_laws.specs.Counts.{Each}
+use Rattle.core_state.specs.Marks.{AreMarks, Grace, HasWaited, Reuse, last_unlinked}
+use Rattle.core_state.specs.parts.GraceParts.{GraceParts, IsClear, IsWaitedRetired}
+use Rattle.list_laws.proofs.Lists.{at_below, at_end}
+use Rattle.core_frames.proofs.views.Same.{SamePlaces, reader_words}
+use Rattle.core_frames.proofs.marks.PlainMarks.{IsUnlinkedNow, PlainMarks, others_plain, waits_plain}
+use Rattle.core_state.specs.declared.shape.Shape.{Shape}
+use Rattle.core_state.specs.declared.words.Field.TheVariants.{Clock}
 use Rattle.core_state.specs.memory.Memory.{Memory}
-use Rattle.core_state.specs.Marks.{begun, begun_at, AreMarks}
-use Rattle.core_state.specs.views.Views.{Works, places_of, open_of}
-use Rattle.core_state.specs.steps.Seating.{spent_view}
-use Rattle.core_state.specs.parts.MarkParts.{HasEnded, WaitStands, MarkParts}
-use Rattle.core_state.specs.parts.SeatParts.{IsOwned, SectionStands, IsCounted, SeatParts}
-use Rattle.core_state.specs.parts.WaiterParts.{IsClocked, WaiterParts}
-use Rattle.list_laws.proofs.Lists.{at_below, each_set, each_change, total_same}
-use Rattle.core_frames.proofs.views.Same.{SamePlaces, places_same, still}
-use Rattle.core_frames.proofs.views.SeatFacts.{works_there, unused_there, places_apart, place_within}
-use Rattle.core_frames.proofs.frames.WaiterFrame.{excused_same, turned_same}
-use Rattle.core_frames.proofs.views.WaiterWords.{waiters_wait}
-use Rattle.core_frames.proofs.marks.PlainMarks.{PlainMarks}
+use Rattle.core_state.specs.views.Views.{Works}
+use Rattle.core_state.specs.parts.MarkParts.{MarkParts}
+use Rattle.core_state.specs.parts.SeatParts.{SeatParts}
+use Rattle.core_state.specs.parts.WaiterParts.{WaiterParts}
+use Rattle.core_frames.proofs.frames.WaiterFrame.{excused_same, turned_same, AreLoaded, clocked_same, waiters_by}
+use Rattle.core_frames.proofs.frames.GraceFrame.{grace_frame_by, grace_longer, retired_still, waited_before, waited_longer}
+use Rattle.core_frames.proofs.frames.MarkFrame.{mark_frame_still}
+use Rattle.core_frames.proofs.frames.SeatFrame.{seat_frame_still, counted_still}
+use Rattle.core_frames.proofs.marks.MoreMarks.{OtherMarks}
 
 -- What a step with such marks leaves of a view for the parts on marks and seats. It has seen all marks.
 pub record SameForMore (v w : View) (h' : List Mark) : Type 0 where
@@ -39,112 +36,66 @@ pub record SameForMore (v w : View) (h' : List Mark) : Type 0 where
   pub waits : w.counts.waits ≡ v.counts.waits
   pub seen : w.seen ≡ h'
 
--- The parts on seats, after marks that neither open nor leave a section. Only the stepping view's place may have got marks.
-module _ (h h' : List Mark) (place : ℕ) (cut : (n : ℕ) → n ≤ length h → take n h' ≡ take n h) (opens : (p : ℕ) → open_at p h' ≡ open_at p h) (own : (p : ℕ) → p ≢ place → own_of p h' ≡ own_of p h)
-    (entries : (p : ℕ) → entered_at p h' ≡ entered_at p h) (waits_at : (p : ℕ) → p ≢ place → begun_at p h' ≡ begun_at p h) where
-  section_longer : (u : View) (section : Section) → SectionStands h u section → SectionStands h' u section
-  section_longer u section s = record {
-    works = s.works;
-    is_open = opens u.allowance.place ∙ s.is_open;
-    from = s.from ∙ ap (λ z. length (updates_of z)) (sym (cut section.entered (let o = open_at-below u.allowance.place h (open_of section) s.is_open in omega arith)));
-    key_fits = s.key_fits;
-    sought = s.sought;
-  }
-
-  pub seat_frame_by : (places : ℕ) (vs : List View) (id : ℕ) (v w : View) → get_elem? vs id ≡ some v → Works v → v.allowance.place ≡ place → SamePlaces v w → w.section ≡ v.section → w.seen ≡ h' → IsCounted h' w
-      → SeatParts places vs h → SeatParts places (set vs id w) h'
-  seat_frame_by places vs id v w there works at same section seen counted t = record {
-    placed = λ p. total_same (λ (u : View). times p (places_of u)) vs id v w there (ap (times p) (places_same v w same)) ∙ t.placed p;
-    spent = each_change (λ (u : View). u.allowance.places ≡ 0 → u ≡ spent_view) (λ (u : View). u.allowance.places ≡ 0 → u ≡ spent_view) vs id v w there (λ i none. absurd (let e = same.places in omega arith)) (λ u i. i) t.spent;
-    owned = each_set (λ j u. IsOwned h' u) vs id w
-        (record {
-          met = λ p has. ap (own_of p) seen;
-          unused = λ p u. (let a = same.place in let b = same.places in let low = u.0 in let high = u.1 in own p (λ e. omega arith) ∙ (t.owned id v there).unused p (omega arith, omega arith));
-        })
-        (λ j u ne e. (let i = t.owned j u e in record {
-          met = λ p has. i.met p has ∙ sym (own p (far j p u ne e has));
-          unused = λ p x. own p (far j p u ne e (unused_there u p x)) ∙ i.unused p x;
-        }));
-    within = λ p le. own p (λ e. far_place p le e) ∙ t.within p le;
-    sections = each_change (λ (u : View). (z : Section) → u.section ≡ Some z → SectionStands h u z) (λ (u : View). (z : Section) → u.section ≡ Some z → SectionStands h' u z) vs id v w there
-        (λ i z is. (let s = section_longer v z (i z (sym section ∙ is)) in record {
-          works = subst (λ x. 1 ≤ x) (sym same.places) s.works;
-          is_open = ap (λ p. open_at p h') same.place ∙ s.is_open;
-          from = s.from;
-          key_fits = s.key_fits;
-          sought = s.sought;
-        }))
-        (λ u i z is. section_longer u z (i z is)) t.sections;
-    opened = λ p o e.
-        (let i = t.opened p o (sym (opens p) ∙ e) in
-        let z = still {X = ℕ × Option Section} (λ (u : View). (u.allowance.place, u.section)) vs id v w there (λ k. (same.place k, section k)) i.id i.view i.there in
-        record { id = i.id; view = z.0; section = i.section; there = z.1; place = ap (λ x. x.0) z.2 ∙ i.place; inside = ap (λ x. x.1) z.2 ∙ i.inside; same = i.same });
-    counted = each_set (λ j u. Works u → IsCounted h' u) vs id w (λ _. counted)
-        (λ j u ne e here. (let c = t.counted j u e here in record { sections = c.sections ∙ sym (entries u.allowance.place); waits = c.waits ∙ sym (waits_at u.allowance.place (far j u.allowance.place u ne e (works_there u here))) }));
-  }
-    where
-      far : (j p : ℕ) (u : View) → j ≢ id → get_elem? vs j ≡ some u → 1 ≤ times p (places_of u) → p ≢ place
-      far j p u ne e has same_place = ne (places_apart places vs t.placed j id p u v e there has (subst (λ q. 1 ≤ times q (places_of v)) (at ∙ sym same_place) (works_there v works)))
-
-      far_place : (p : ℕ) → places ≤ p → p ≡ place → ⊥
-      far_place p le e = let lt = place_within places vs t.placed id v.allowance.place v there (works_there v works) in absurd (omega arith)
-
 module _ (h h' : List Mark) (place : ℕ) (more : PlainMarks place h h') where
-  wait_longer : (u : View) (wait : Waiting) → WaitStands h u wait → WaitStands h' u wait
-  wait_longer u wait i = record {
-    works = i.works;
-    begins = more.longer wait.began _ i.begins;
-    clock = i.clock ∙ ap begun (sym (more.cut wait.began (let b = at_below h wait.began _ i.begins in omega arith)));
-    newest = i.newest;
-    over = λ x. (let r = i.over x in (r.0, more.longer r.0 _ r.1));
-    going = λ x has. i.going x (has.0, more.ended has.0 u.allowance.place wait.count has.1);
-  }
-
-  wait_moved : (u z : View) (wait : Waiting) → z.allowance.place ≡ u.allowance.place → z.allowance.places ≡ u.allowance.places → z.counts.waits ≡ u.counts.waits → WaitStands h' u wait → WaitStands h' z wait
-  wait_moved u z wait place places waits i = record {
-    works = subst (λ x. 1 ≤ x) (sym places) i.works;
-    begins = i.begins ∙ ap (λ p. some (Began p wait.count wait.low wait.high)) (sym place);
-    clock = i.clock;
-    newest = i.newest ∙ sym waits;
-    over = λ x. subst (λ p. HasEnded h' p wait.count) (sym place) (i.over x);
-    going = λ x has. i.going x (subst (λ p. HasEnded h' p wait.count) place has);
-  }
-
   pub mark_frame_plain : (places : ℕ) (vs : List View) (id : ℕ) (v w : View) → get_elem? vs id ≡ some v → SameForMore v w h' → AreMarks places h' → MarkParts places vs h → MarkParts places (set vs id w) h'
-  mark_frame_plain places vs id v w there same marks t = record {
-    seen = record {
-      begins = each_change (λ (u : View). IsPrefix u.seen h) (λ (u : View). IsPrefix u.seen h') vs id v w there (λ i. subst (λ s. IsPrefix s h') (sym same.seen) (prefix_self h')) (λ u i. prefix_trans u.seen h h' i more.begins) t.seen.begins;
-      longest = (id, w, set_here vs id w (at_below vs id v there), same.seen);
-    };
-    marks = marks;
-    waits = each_change (λ (u : View). (wait : Waiting) → u.wait ≡ Some wait → WaitStands h u wait) (λ (u : View). (wait : Waiting) → u.wait ≡ Some wait → WaitStands h' u wait) vs id v w there
-        (λ i wait is. wait_moved v w wait same.places.place same.places.places same.waits (wait_longer v wait (i wait (sym same.wait ∙ is)))) (λ u i wait is. wait_longer u wait (i wait is)) t.waits;
-  }
+  mark_frame_plain places vs id v w there same marks t =
+      mark_frame_still places vs id v w h h' there more.begins (inl same.seen) marks t (waits_plain place h h' more) (record { place = same.places.place; places = same.places.places; wait = same.wait; waits = same.waits })
 
   pub seat_frame_plain : (places : ℕ) (vs : List View) (id : ℕ) (v w : View) → get_elem? vs id ≡ some v → Works v → v.allowance.place ≡ place → SameForMore v w h' → SeatParts places vs h → SeatParts places (set vs id w) h'
   seat_frame_plain places vs id v w there works at same t =
-      let c = t.counted id v there works in
-      seat_frame_by h h' place more.cut more.opens more.own more.entries (λ p _. more.waits_at p) places vs id v w there works at same.places same.section same.seen
-      (record {
-        sections = same.sections ∙ c.sections ∙ sym (more.entries v.allowance.place) ∙ ap (λ p. entered_at p h') (sym same.places.place);
-        waits = same.waits ∙ c.waits ∙ sym (more.waits_at v.allowance.place) ∙ ap (λ p. begun_at p h') (sym same.places.place);
-      }) t
+      seat_frame_still places vs id v w h h' there works same.places (subst (λ p. OtherMarks p h h') (sym at) (others_plain place h h' more)) (inl same.seen)
+      (counted_still h h' v w same.places.place (more.entries v.allowance.place) (more.waits_at v.allowance.place) same.sections same.waits (t.counted id v there works)) t same.section (more.opens v.allowance.place)
 
-  clocked_longer : (k : Shape) (u z : View) → z.section ≡ u.section → z.enter ≡ u.enter → ((section : Section) → u.section ≡ Some section → section.clocked ≤ length h) → IsClocked k.waiter h u → IsClocked k.waiter h' z
-  clocked_longer k u z section enter low i = record {
-    loaded = λ clocked is. (let r = i.loaded clocked (ap (λ e. e.clock) (sym enter) ∙ is) in ((let a = r.0 in let b = more.room in omega arith), r.1 ∙ ap begun (sym (more.cut clocked.at r.0))));
-    stamped = λ s is. (let here = sym section ∙ is in let r = i.stamped s here in (r.0, λ ne. r.1 ne ∙ ap begun (sym (more.cut s.clocked (low s here)))));
-  }
-
-  -- the words of the waiters stay
-  pub waiter_frame_plain : (k : Shape) (m m' : Memory) (vs : List View) (id : ℕ) (v w : View) → get_elem? vs id ≡ some v → SameForMore v w h'
-      → m' Clock ≡ m Clock → ((p : ℕ) → m' (Announced p) ≡ m (Announced p)) → ((p : ℕ) → m' (Stamp p) ≡ m (Stamp p)) → ((c d : ℕ) → m' (Count c d) ≡ m (Count c d)) → ((p c : ℕ) → m' (Row p c) ≡ m (Row p c))
-      → ((j : ℕ) (u : View) (section : Section) → get_elem? vs j ≡ some u → u.section ≡ Some section → section.clocked ≤ length h)
-      → WaiterParts k m vs h → WaiterParts k m' (set vs id w) h'
-  waiter_frame_plain k m m' vs id v w there same clock keys stamps counts rows low t =
-      waiters_wait k m m' vs id v w h h' there (record { place = same.places.place; section = same.section; announced = ap (λ e. e.announced) same.enter }) (record { keys = keys; stamps = stamps; counts = counts; rows = rows })
-      (clock ∙ t.clock ∙ sym more.waits) more.opens
-      (each_set (λ j u. IsClocked k.waiter h' u) vs id w
-      (clocked_longer k v w same.section same.enter (λ s is. low id v s there is) (t.clocked id v there))
-      (λ j u ne e. clocked_longer k u u refl refl (λ s is. low j u s e is) (t.clocked j u e)))
+  pub waiter_frame_plain : (k : Shape) (m m' : Memory) (vs : List View) (id : ℕ) (v w : View) → get_elem? vs id ≡ some v → SameForMore v w h' → m' Clock ≡ m Clock → reader_words m' ≡ reader_words m → AreLoaded vs h → WaiterParts k m vs h → WaiterParts k m' (set vs id w) h'
+  waiter_frame_plain k m m' vs id v w there same clock words low t =
+      waiters_by k m m' vs id v w h h' there (record { place = same.places.place; section = same.section; announced = ap (λ e. e.announced) same.enter }) words (clock ∙ t.clock ∙ sym more.waits) more.opens
+      (clocked_same k.waiter vs id v w h h' there more.begins low same.section (ap (λ e. e.clock) same.enter) t.clocked)
       (excused_same k vs id v w there (record { place = same.places.place; section = same.section; wait = same.wait }) t.excused) (turned_same vs id v w there same.wait t.turned) t
+
+module _ (place : ℕ) (h h' : List Mark) (more : PlainMarks place h h') where
+  pub grace_plain : Grace h → Grace h'
+  grace_plain = grace_longer h h' more.begins (waits_plain place h h' more)
+
+  pub waited_more : (p after low high : ℕ) → HasWaited h p after low high → HasWaited h' p after low high
+  waited_more = waited_longer h h' more.longer
+
+  pub waited_back : (p after low high : ℕ) → HasWaited h' p after low high → HasWaited h p after low high
+  waited_back = waited_before h h' (waits_plain place h h' more)
+
+  -- nobody has waited for what comes with these marks
+  pub waited_early : (p after low high : ℕ) → length h ≤ after → HasWaited h' p after low high → ⊥
+  waited_early p after low high le i = let b = waited_back p after low high i in let l = at_below h b.began _ b.begins in let late = b.late in absurd (omega arith)
+
+-- Where no move is pending afterwards.
+module _ (place : ℕ) (h h' : List Mark) (more : PlainMarks place h h') (vs : List View) (id : ℕ) (v w : View) (there : get_elem? vs id ≡ some v) (section : w.section ≡ v.section) (places : SamePlaces v w) (settled : w.moving ≡ None) (reuse : Reuse h') where
+  waited_still : (p : ℕ) (r : Retired) → IsWaitedRetired vs h p r → IsWaitedRetired (set vs id w) h' p r
+  waited_still = retired_still h h' (waited_more place h h' more) (waited_back place h h' more) vs id v w there section
+
+  settled_by : ((s at : ℕ) → gone_at s h' ≡ None → last_unlinked s h' ≡ Some at → IsClear vs at 0 greatest_key) → ((rs : List Retired) → w.hands.retired ≡ rs → Each rs (IsWaitedRetired (set vs id w) h' v.allowance.place)) → GraceParts vs h → GraceParts (set vs id w) h'
+  settled_by clean own t =
+      grace_frame_by h h' (waited_more place h h' more) (waited_back place h h' more) vs id v w there section places.joined (grace_plain place h h' more t.grace) reuse clean
+      (subst (λ p. Each w.hands.retired (IsWaitedRetired (set vs id w) h' p)) (sym places.place) (own w.hands.retired refl))
+      (λ move is. absurd (let q : None ≡ Some move = sym settled ∙ is in cc)) t
+
+  -- the step unlinks a slot, for which nobody has waited
+  pub grace_unlinked : (d at : ℕ) (r : Retired) → IsUnlinkedNow h h' d at → w.hands.retired ≡ v.hands.retired ++ r ∷ [] → r.unlinked ≡ at → r.waited ≡ false → GraceParts vs h → GraceParts (set vs id w) h'
+  grace_unlinked d at r now retired unlinked unwaited t =
+      settled_by
+      (λ s p gone last. (let ne : s ≢ d = (λ e. (let q : None ≡ Some at = sym gone ∙ ap (λ x. gone_at x h') e ∙ now.here in absurd (cc))) in t.clean s p (sym (now.gone s ne) ∙ gone) (sym (now.last s ne) ∙ last)))
+      (λ rs is. subst (λ z. Each z (IsWaitedRetired (set vs id w) h' v.allowance.place)) (sym retired ∙ is) own) t
+    where
+      fresh : IsWaitedRetired (set vs id w) h' v.allowance.place r
+      fresh = record {
+        shown = λ e. absurd (let q : false ≡ true = sym unwaited ∙ e in cc);
+        noted = λ has. absurd (waited_early place h h' more v.allowance.place r.unlinked 0 greatest_key (let a = now.after in omega arith) has);
+        clear = λ e. absurd (let q : false ≡ true = sym unwaited ∙ e in cc);
+      }
+
+      own : Each (v.hands.retired ++ r ∷ []) (IsWaitedRetired (set vs id w) h' v.allowance.place)
+      own j q e = ⊎_elim (λ (o : get_elem? v.hands.retired j ≡ some q). waited_still v.allowance.place q (t.retired id v there j q o)) (λ n. subst (IsWaitedRetired (set vs id w) h' v.allowance.place) n.1 fresh) (at_end v.hands.retired r q j e)
+
+  -- it unlinks none
+  pub grace_same : ((s : ℕ) → gone_at s h' ≡ gone_at s h) → ((s : ℕ) → last_unlinked s h' ≡ last_unlinked s h) → w.hands.retired ≡ v.hands.retired → GraceParts vs h → GraceParts (set vs id w) h'
+  grace_same gone last retired t =
+      settled_by (λ s p none is. t.clean s p (sym (gone s) ∙ none) (sym (last s) ∙ is))
+      (λ rs is. subst (λ z. Each z (IsWaitedRetired (set vs id w) h' v.allowance.place)) (sym retired ∙ is) (λ j q e. waited_still v.allowance.place q (t.retired id v there j q e))) t

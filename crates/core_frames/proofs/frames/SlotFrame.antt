@@ -1,6 +1,6 @@
 -- The parts on slots read the slots' words, the hands, places and moves of views, and where slots were unlinked. A step that leaves
 -- these keeps them.
-use Rattle.std.proofs.Common.{◌≡◌, ℕ, ◌+◌, ◌≤◌, ◌==◌, List, length, set, refl, sym, ap, subst, ◌∙◌}
+use Rattle.std.proofs.Common.{◌≡◌, ℕ, ◌+◌, ◌≤◌, ◌==◌, List, length, set, sym, ap, subst, ◌∙◌, None, true}
 use mathlib.Core.Option.{some}
 use lib.ListN.{get_elem?}
 use Rattle.prcu_marks.specs.declared.mark.Mark.{Mark}
@@ -17,30 +17,25 @@ use Rattle.core_state.specs.tree.Chart.{Chart}
 use Rattle.core_state.specs.parts.SlotParts.{HasSpareToCome, HasFewSlots, IsRetired, IsRetiredOf, IsHeldKnown, AreHandsKnown, SlotParts}
 use Rattle.list_laws.proofs.Lists.{each_change, total_same}
 use Rattle.core_frames.proofs.marks.MarkFacts.{QuietMarks}
-use Rattle.core_frames.proofs.views.Same.{SameSlots, own_same, content_same, SamePlaces, retired_same, spares_same, slots_same, still}
+use Rattle.core_frames.proofs.views.Same.{SameSlots, own_same, content_same, retired_same, spares_same, slots_same, still, OwnSlots, SameNodes, own_slots}
 
--- What a step leaves of a view for the parts on slots: its places, its hands, its move.
-pub record SameForSlots (v w : View) : Type 0 where
-  pub places : SamePlaces v w
-  pub hands : w.hands ≡ v.hands
-  pub moving : w.moving ≡ v.moving
-
-module _ (m m' : Memory) (slots : SameSlots m m') where
+-- Where nodes and states are the same, so are these parts: no lock word is read.
+module _ (m m' : Memory) (nodes : SameNodes m m') (states : (s : ℕ) → m' (State s) ≡ m (State s)) where
   even_same : (s : ℕ) → IsEven (m (Life s)) → IsEven (m' (Life s))
-  even_same s e = subst IsEven (sym (slots.nodes.life s)) e
+  even_same s e = subst IsEven (sym (nodes.life s)) e
 
   odd_same : (s : ℕ) → IsOdd (m (Life s)) → IsOdd (m' (Life s))
-  odd_same s e = subst IsOdd (sym (slots.nodes.life s)) e
+  odd_same s e = subst IsOdd (sym (nodes.life s)) e
 
   held_same : (held : Held) → IsHeldKnown m held → IsHeldKnown m' held
-  held_same held i field number e = let r = i field number e in (r.0, own_same m m' slots held.slot field r.0 ∙ r.1)
+  held_same held i field number e = let r = i field number e in (r.0, own_same m m' nodes states held.slot field r.0 ∙ r.1)
 
-  hands_same : (u z : View) → SameForSlots u z → AreHandsKnown m u → AreHandsKnown m' z
-  hands_same u z e i = record {
-    hand = λ held is. (let r = i.hand held (ap (λ x. x.hand) (sym e.hands) ∙ is) in (held_same held r.0, even_same held.slot r.1));
-    spare = λ held is. held_same held (i.spare held (ap (λ x. x.spare) (sym e.hands) ∙ is));
-    copy = λ move is. (let r = i.copy move (sym e.moving ∙ is) in (held_same move.copy r.0, even_same move.copy.slot r.1));
-    spares = λ s has. even_same s (i.spares s (subst (λ l. 1 ≤ times s l) (spares_same u z e.places e.hands) has));
+  hands_same : (u : View) → AreHandsKnown m u → AreHandsKnown m' u
+  hands_same u i = record {
+    hand = λ held is. (let r = i.hand held is in (held_same held r.0, even_same held.slot r.1));
+    spare = λ held is. held_same held (i.spare held is);
+    copy = λ move is. (let r = i.copy move is in (held_same move.copy r.0, even_same move.copy.slot r.1));
+    spares = λ s has. even_same s (i.spares s has);
   }
 
   retired_is : (h h' : List Mark) (r : Retired) → QuietMarks h h' → IsRetired m h r → IsRetired m' h' r
@@ -48,49 +43,28 @@ module _ (m m' : Memory) (slots : SameSlots m m') where
     unlinked = quiet.gone r.slot ∙ i.unlinked;
     some_slot = i.some_slot;
     marked = λ e. odd_same r.slot (i.marked e);
-    life = λ number e f. slots.nodes.life r.slot ∙ i.life number e f;
-    stays = λ field number e c f. content_same m m' slots.nodes r.slot field c ∙ i.stays field number e c f;
+    life = λ number e f. nodes.life r.slot ∙ i.life number e f;
+    stays = λ field number e c f. content_same m m' nodes r.slot field c ∙ i.stays field number e c f;
     unmarked = λ e. even_same r.slot (i.unmarked e);
     after_wait = i.after_wait;
   }
 
-pub same_for_slots : (u : View) → SameForSlots u u
-same_for_slots u = record { places = record { place = refl; places = refl; joined = refl }; hands = refl; moving = refl }
+  pub slots_elsewhere : (n : ℕ) (g : Chart) (vs : List View) (h h' : List Mark) → QuietMarks h h' → SlotParts m n g vs h → SlotParts m' n g vs h'
+  slots_elsewhere n g vs h h' quiet t = record {
+    roles = record {
+      once = λ s lt. ap (λ x. flag (x == 0) + flag (g.linked s) + total (λ (u : View). times s (slots_of u)) vs) (states s) ∙ t.roles.once s lt;
+      beyond = t.roles.beyond;
+      states = λ s lt. subst (λ x. x ≤ 1) (sym (states s)) (t.roles.states s lt);
+    };
+    few = t.few;
+    free = λ s lt e. even_same s (t.free s lt (sym (states s) ∙ e));
+    root = nodes.life 0 ∙ t.root;
+    hands = λ j u e. hands_same u (t.hands j u e);
+    retired = λ j u e n r is. retired_is h h' r quiet (t.retired j u e n r is);
+    unlinked = λ s p gone. t.unlinked s p (sym (quiet.gone s) ∙ gone);
+  }
 
-few_same : (v w : View) → SameForSlots v w → HasFewSlots v → HasFewSlots w
-few_same v w e i = record {
-  one = λ r. ap (λ x. x.hand) e.hands ∙ i.one (ap (λ x. x.reserved) (sym e.hands) ∙ r);
-  few = subst (λ x. length x.retired ≤ 16) (sym e.hands) i.few;
-  room = λ move is. subst (λ x. length x.retired ≤ 15) (sym e.hands) (i.room move (sym e.moving ∙ is));
-  joined = subst (λ x. Each x (λ (s : Spent). length s.retired ≤ 16)) (sym e.places.joined) i.joined;
-  joined_spare = subst (λ ss. Each ss HasSpareToCome) (sym e.places.joined) i.joined_spare;
-  next_spare = λ works none. (let r = i.next_spare (subst (λ x. 1 ≤ x) e.places.places works) (ap (λ x. x.spare) (sym e.hands) ∙ none) in (r.0, subst (λ x. IsIn x.retired r.0) (sym e.hands) r.1, r.2));
-}
-
-pub slot_frame : (m m' : Memory) (n : ℕ) (g : Chart) (vs : List View) (id : ℕ) (v w : View) (h h' : List Mark)
-    → get_elem? vs id ≡ some v → SameSlots m m' → SameForSlots v w → QuietMarks h h' → SlotParts m n g vs h → SlotParts m' n g (set vs id w) h'
-slot_frame m m' n g vs id v w h h' there slots same quiet t =
-    let whole : (s : ℕ) → total (λ (u : View). times s (slots_of u)) (set vs id w) ≡ total (λ (u : View). times s (slots_of u)) vs = λ s. total_same (λ (u : View). times s (slots_of u)) vs id v w there (ap (times s) (slots_same v w same.places same.hands)) in
-    record {
-      roles = record {
-        once = λ s lt. ap (λ x. flag (x == 0) + flag (g.linked s) + total (λ (u : View). times s (slots_of u)) (set vs id w)) (slots.state s) ∙ ap (λ x. flag (m (State s) == 0) + flag (g.linked s) + x) (whole s) ∙ t.roles.once s lt;
-        beyond = λ s far. whole s ∙ t.roles.beyond s far;
-        states = λ s lt. subst (λ x. x ≤ 1) (sym (slots.state s)) (t.roles.states s lt);
-      };
-      few = each_change HasFewSlots HasFewSlots vs id v w there (few_same v w same) (λ u i. i) t.few;
-      free = λ s lt e. even_same m m' slots s (t.free s lt (sym (slots.state s) ∙ e));
-      root = slots.nodes.life 0 ∙ t.root;
-      hands = each_change (AreHandsKnown m) (AreHandsKnown m') vs id v w there (hands_same m m' slots v w same) (λ u i. hands_same m m' slots u u (same_for_slots u) i) t.hands;
-      retired = each_change (λ (u : View). Each (retired_of u) (IsRetired m h)) (λ (u : View). Each (retired_of u) (IsRetired m' h')) vs id v w there
-          (λ i. subst (λ rs. Each rs (IsRetired m' h')) (sym (retired_same v w same.places same.hands)) (λ j r e. retired_is m m' slots h h' r quiet (i j r e)))
-          (λ u i j r e. retired_is m m' slots h h' r quiet (i j r e)) t.retired;
-      unlinked = λ s p gone.
-          (let r = t.unlinked s p (sym (quiet.gone s) ∙ gone) in
-          let z = still retired_of vs id v w there (retired_same v w same.places same.hands) r.id r.view r.there in
-          record { id = r.id; view = z.0; retired = r.retired; there = z.1; has = subst (λ rs. IsIn rs r.retired) (sym z.2) r.has; slot = r.slot });
-    }
-
--- Where no word changes, and the view changes what it has in hand: it has to say what that leaves.
+-- Where the view changes what it has in hand, it has to say what that leaves.
 module _ (m : Memory) (n : ℕ) (g : Chart) (vs : List View) (id : ℕ) (v w : View) (h : List Mark) (there : get_elem? vs id ≡ some v) where
   pub retired_of_still : retired_of w ≡ retired_of v → (s : ℕ) → IsRetiredOf vs s → IsRetiredOf (set vs id w) s
   retired_of_still same s r =
@@ -114,3 +88,34 @@ module _ (m : Memory) (n : ℕ) (g : Chart) (vs : List View) (id : ℕ) (v w : V
         retired = each_change (λ (u : View). Each (retired_of u) (IsRetired m h)) (λ (u : View). Each (retired_of u) (IsRetired m h)) vs id v w there retired (λ u i. i) t.retired;
         unlinked = λ s p gone. forth s (t.unlinked s p gone);
       }
+
+-- What a step leaves of a view for the parts on slots: its own slots and its move. It may reserve one where none is in hand.
+pub record SameForSlots (v w : View) : Type 0 where
+  pub own : own_slots w ≡ own_slots v
+  pub moving : w.moving ≡ v.moving
+  pub one : (v.hands.reserved ≡ true → v.hands.hand ≡ None) → w.hands.reserved ≡ true → w.hands.hand ≡ None
+
+few_same : (v w : View) → SameForSlots v w → HasFewSlots v → HasFewSlots w
+few_same v w e i = record {
+  one = e.one i.one;
+  few = subst (λ (x : OwnSlots). length x.retired ≤ 16) (sym e.own) i.few;
+  room = λ move is. subst (λ (x : OwnSlots). length x.retired ≤ 15) (sym e.own) (i.room move (sym e.moving ∙ is));
+  joined = subst (λ (x : OwnSlots). Each x.joined (λ (s : Spent). length s.retired ≤ 16)) (sym e.own) i.joined;
+  joined_spare = subst (λ (x : OwnSlots). Each x.joined HasSpareToCome) (sym e.own) i.joined_spare;
+  next_spare = λ works none. (let r = i.next_spare (subst (λ (x : OwnSlots). 1 ≤ x.places) e.own works) ((λ n. (sym e.own n).spare) ∙ none) in (r.0, subst (λ (x : OwnSlots). IsIn x.retired r.0) (sym e.own) r.1, r.2));
+}
+
+hands_view : (m : Memory) (v w : View) → SameForSlots v w → AreHandsKnown m v → AreHandsKnown m w
+hands_view m v w e i = record {
+  hand = λ held is. i.hand held ((λ n. (sym e.own n).hand) ∙ is);
+  spare = λ held is. i.spare held ((λ n. (sym e.own n).spare) ∙ is);
+  copy = λ move is. i.copy move (sym e.moving ∙ is);
+  spares = λ s has. i.spares s (subst (λ l. 1 ≤ times s l) (spares_same v w e.own) has);
+}
+
+pub slot_frame : (m m' : Memory) (n : ℕ) (g : Chart) (vs : List View) (id : ℕ) (v w : View) (h h' : List Mark)
+    → get_elem? vs id ≡ some v → SameSlots m m' → SameForSlots v w → QuietMarks h h' → SlotParts m n g vs h → SlotParts m' n g (set vs id w) h'
+slot_frame m m' n g vs id v w h h' there slots same quiet t =
+    slots_by m' n g vs id v w h' there (λ s. ap (times s) (slots_same v w same.own)) (few_same v w same) (hands_view m' v w same)
+    (λ rs. subst (λ x. Each x (IsRetired m' h')) (sym (retired_same v w same.own)) rs) (retired_of_still m' n g vs id v w h' there (retired_same v w same.own))
+    (slots_elsewhere m m' slots.nodes slots.state n g vs h h' quiet t)

@@ -1,32 +1,29 @@
--- The parts on the waiters' words, after a step that leaves the sections and the waits, and after the steps of the first waiter's
--- sections.
-use Rattle.std.proofs.Common.{◌≡◌, ◌≢◌, ℕ, ◌<◌, ◌≤◌, ◌==◌, cond, List, [], ◌∷◌, ◌++◌, length, take, set, Option, Some, None, refl, sym, ap, subst, ◌∙◌, arith, eq-eqb, ne_eqb}
-use mathlib.Core.Logic.{dite}
+-- The parts on the waiters' words read the clock, the words in which readers show, the places, sections and waits of views, and what
+-- they loaded and announced for their next section. A step says what it does to sections or to waits.
+use Rattle.std.proofs.Common.{◌≡◌, ℕ, ◌<◌, ◌≤◌, List, [], ◌∷◌, ◌++◌, length, take, set, Option, Some, refl, sym, ap, subst, ◌∙◌, arith, false}
 use mathlib.Core.Option.{some}
-use native.Mathlib.Decide.{ℕ_discrete}
 use lib.ListN.{get_elem?}
 use Rattle.prcu_marks.specs.declared.mark.Mark.{Mark}
-use Rattle.prcu_marks.specs.declared.mark.Mark.TheVariants.{Entered, Left}
 use Rattle.prcu_marks.specs.Marks.{open_at}
-use Rattle.key_interval.specs.Keys.{Holds}
+use Rattle.key_interval.specs.Keys.{Holds, class_of}
 use Rattle.core_state.specs.declared.shape.Shape.{Shape}
 use Rattle.core_state.specs.declared.shape.Waiter.TheVariants.{Eer, Domain, Deer}
-use Rattle.core_state.specs.declared.words.Field.TheVariants.{Clock, Announced, Stamp, Count, Row}
+use Rattle.core_state.specs.declared.words.Field.TheVariants.{Clock, Announced, Stamp, Row}
 use Rattle.core_state.specs.declared.view.Clocked.{Clocked}
 use Rattle.core_state.specs.declared.view.Section.{Section}
 use Rattle.core_state.specs.declared.view.Waiting.{Waiting}
 use Rattle.core_state.specs.declared.view.View.{View}
 use Rattle.list_laws.specs.Counts.{IsIn, Each}
-use Rattle.core_state.specs.memory.Memory.{Memory, stored, idle}
+use Rattle.core_state.specs.memory.Memory.{Memory}
 use Rattle.core_state.specs.Marks.{begun}
 use Rattle.core_state.specs.steps.Waits.{keys_of, spot_of}
-use Rattle.core_state.specs.steps.Sections.{after_announce, entering, leaving, new_section}
-use Rattle.core_state.specs.parts.WaiterParts.{IsClocked, AreExcused, IsTurnedOnce, WaiterParts}
-use Rattle.list_laws.proofs.Lists.{each_set, each_change}
-use Rattle.core_frames.proofs.marks.MarkFacts.{begun-same, take-more}
-use Rattle.core_frames.proofs.views.Same.{was}
-use Rattle.core_frames.proofs.views.WaiterWords.{waiters_wait, clocked_more}
-use Rattle.core_frames.proofs.views.SeatFacts.{open_entered, open_entered_other, open_left_other}
+use Rattle.core_state.specs.parts.WaiterParts.{IsClocked, AreExcused, IsTurnedOnce, WaiterParts, DeerWords, DomainWords, EerWords, inside_count}
+use Rattle.list_laws.proofs.Lists.{each_set, each_change, total_same}
+use Rattle.core_frames.proofs.marks.MarkFacts.{begun-same, TurnsNoWait}
+use Rattle.core_frames.proofs.views.Same.{was, reader_words}
+use mathlib.Core.List.{IsPrefix}
+use Rattle.core_state.specs.declared.shape.Waiter.{Waiter}
+use Rattle.core_frames.proofs.marks.MoreMarks.{cut_at, prefix_snoc, room_at}
 
 -- What a step leaves of a view for the parts on waiters.
 pub record SameForWaiters (v w : View) : Type 0 where
@@ -34,154 +31,113 @@ pub record SameForWaiters (v w : View) : Type 0 where
   pub section : w.section ≡ v.section
   pub wait : w.wait ≡ v.wait
 
--- the excuses are the same where the sections and waits are
+-- The words in which readers show are the same, and so are place, section and announced key of the view.
+pub record SameReaders (v w : View) : Type 0 where
+  pub place : w.allowance.place ≡ v.allowance.place
+  pub section : w.section ≡ v.section
+  pub announced : w.enter.announced ≡ v.enter.announced
+
+-- A step that leaves these says what the clock is, what was loaded of it, and what it does to waits.
+pub waiters_by : (k : Shape) (m m' : Memory) (vs : List View) (id : ℕ) (v w : View) (h h' : List Mark) → get_elem? vs id ≡ some v → SameReaders v w → reader_words m' ≡ reader_words m → m' Clock ≡ begun h' → ((p : ℕ) → open_at p h' ≡ open_at p h)
+    → Each (set vs id w) (IsClocked k.waiter h') → AreExcused k (set vs id w) → Each (set vs id w) (λ u. (wait : Waiting) → u.wait ≡ Some wait → IsTurnedOnce wait) → WaiterParts k m vs h → WaiterParts k m' (set vs id w) h'
+waiters_by k m m' vs id v w h h' there same words clock opens clocked excused turned t = record {
+  clock = clock;
+  clocked = clocked;
+  excused = excused;
+  turned = turned;
+  eer = λ way. (let e = t.eer way in record {
+    inside = each_change (λ (u : View). (section : Section) → u.section ≡ Some section → (m (Announced u.allowance.place) ≡ section.key) × (m (Stamp u.allowance.place) ≡ section.stamp)) (λ (u : View). (section : Section) → u.section ≡ Some section → (m' (Announced u.allowance.place) ≡ section.key) × (m' (Stamp u.allowance.place) ≡ section.stamp)) vs id v w there
+        (λ i section is. (let r = i section (sym same.section ∙ is) in ((λ n. (words n).announced (same.place n)) ∙ r.0, (λ n. (words n).stamp (same.place n)) ∙ r.1)))
+        (λ u i section is. (let r = i section is in ((λ n. (words n).announced u.allowance.place) ∙ r.0, (λ n. (words n).stamp u.allowance.place) ∙ r.1))) e.inside;
+    outside = λ p lt none. (λ n. (words n).stamp p) ∙ e.outside p lt (sym (opens p) ∙ none);
+    announced = each_change (λ (u : View). (key : ℕ) → u.enter.announced ≡ Some key → m (Announced u.allowance.place) ≡ key) (λ (u : View). (key : ℕ) → u.enter.announced ≡ Some key → m' (Announced u.allowance.place) ≡ key) vs id v w there
+        (λ i key is. (λ n. (words n).announced (same.place n)) ∙ i key (sym same.announced ∙ is)) (λ u i key is. (λ n. (words n).announced u.allowance.place) ∙ i key is) e.announced;
+  });
+  domain = λ way. (let e = t.domain way in record {
+    counts = λ c side small low. (λ n. (words n).count c side) ∙ e.counts c side small low ∙ sym (total_same (λ (u : View). inside_count c side u.section) vs id v w there (ap (inside_count c side) same.section));
+    sides = each_change (λ (u : View). (section : Section) → u.section ≡ Some section → section.stamp < 2) (λ (u : View). (section : Section) → u.section ≡ Some section → section.stamp < 2) vs id v w there (λ i section is. i section (sym same.section ∙ is)) (λ u i. i) e.sides;
+  });
+  deer = λ way. (let e = t.deer way in record {
+    inside = each_change (λ (u : View). (section : Section) → u.section ≡ Some section → m (Row u.allowance.place (class_of section.key)) ≡ section.stamp) (λ (u : View). (section : Section) → u.section ≡ Some section → m' (Row u.allowance.place (class_of section.key)) ≡ section.stamp) vs id v w there
+        (λ i section is. (λ n. (words n).row (same.place n) (class_of section.key)) ∙ i section (sym same.section ∙ is)) (λ u i section is. (λ n. (words n).row u.allowance.place (class_of section.key)) ∙ i section is) e.inside;
+    outside = λ p c lt small none. (λ n. (words n).row p c) ∙ e.outside p c lt small (λ o open_now. none o (opens p ∙ open_now));
+  });
+}
+
+-- Each open section's clock was loaded before now.
+abbrev pub AreLoaded : List View → List Mark → Type 0
+AreLoaded vs h = (j : ℕ) (u : View) (section : Section) → get_elem? vs j ≡ some u → u.section ≡ Some section → section.clocked ≤ length h
+
+-- what was loaded of the clock, and the stamps, are as old with more marks
+pub clocked_longer : (waiter : Waiter) (h h' : List Mark) (u z : View) → IsPrefix h h' → z.section ≡ u.section → z.enter.clock ≡ u.enter.clock → ((section : Section) → u.section ≡ Some section → section.clocked ≤ length h) → IsClocked waiter h u → IsClocked waiter h' z
+clocked_longer waiter h h' u z grows section clock low i = record {
+  loaded = λ clocked is. (let r = i.loaded clocked (sym clock ∙ is) in let a = r.0 in let b = room_at h h' grows in (omega arith, r.1 ∙ ap begun (sym (cut_at h h' grows clocked.at r.0))));
+  stamped = λ s is. (let here = sym section ∙ is in let r = i.stamped s here in (r.0, λ ne. r.1 ne ∙ ap begun (sym (cut_at h h' grows s.clocked (low s here)))));
+}
+
+pub clocked_frame : (waiter : Waiter) (vs : List View) (id : ℕ) (w : View) (h h' : List Mark) → IsPrefix h h' → AreLoaded vs h → IsClocked waiter h' w → Each vs (IsClocked waiter h) → Each (set vs id w) (IsClocked waiter h')
+clocked_frame waiter vs id w h h' grows low own t = each_set (λ j u. IsClocked waiter h' u) vs id w own (λ j u ne e. clocked_longer waiter h h' u u grows refl refl (λ s is. low j u s e is) (t j u e))
+
+pub clocked_same : (waiter : Waiter) (vs : List View) (id : ℕ) (v w : View) (h h' : List Mark) → get_elem? vs id ≡ some v → IsPrefix h h' → AreLoaded vs h → w.section ≡ v.section → w.enter.clock ≡ v.enter.clock → Each vs (IsClocked waiter h) → Each (set vs id w) (IsClocked waiter h')
+clocked_same waiter vs id v w h h' there grows low section clock t = clocked_frame waiter vs id w h h' grows low (clocked_longer waiter h h' v w grows section clock (λ s is. low id v s there is) (t id v there)) t
+
+-- A reader stands in a spot that a wait for its key has excused.
+abbrev pub StandsExcused : Shape → Waiting → View → Section → Type 0
+StandsExcused k wait u section = (section.entered < wait.began) × Holds (keys_of wait) section.key × IsIn wait.excused (spot_of k.waiter u.allowance.place section)
+
+-- Sections stay. Of the view's own wait the step says that no reader stands so; other waits are as they were.
+pub excused_wait : (k : Shape) (vs : List View) (id : ℕ) (v w : View) → get_elem? vs id ≡ some v → w.allowance.place ≡ v.allowance.place → w.section ≡ v.section
+    → ((wait : Waiting) (j : ℕ) (u : View) (section : Section) → w.wait ≡ Some wait → wait.ended ≡ false → get_elem? vs j ≡ some u → u.section ≡ Some section → StandsExcused k wait u section → ⊥)
+    → AreExcused k vs → AreExcused k (set vs id w)
+excused_wait k vs id v w there place same own t x y a b wait section ea waits going eb inside older holds spot =
+    let q = was {X = ℕ × Option Section} (λ (u : View). (u.allowance.place, u.section)) vs id v w there (λ n. (place n, same n)) y b eb in
+    let inside_was = ap (λ z. z.1) (sym q.2) ∙ inside in
+    let spot_was = subst (λ p. IsIn wait.excused (spot_of k.waiter p section)) (ap (λ z. z.0) q.2) spot in
+    each_set (λ n u. u.wait ≡ Some wait → ⊥) vs id w
+    (λ is. own wait y q.0 section is going q.1 inside_was (older, holds, spot_was))
+    (λ n u ne e is. t n y u q.0 wait section e is going q.1 inside_was older holds spot_was)
+    x a ea waits
+
+-- The waits stay too.
 pub excused_same : (k : Shape) (vs : List View) (id : ℕ) (v w : View) → get_elem? vs id ≡ some v → SameForWaiters v w → AreExcused k vs → AreExcused k (set vs id w)
-excused_same k vs id v w there same t i j a b wait section ea waits going eb inside older holds has =
-    let p = was {X = ℕ × Option Section × Option Waiting} (λ (u : View). (u.allowance.place, u.section, u.wait)) vs id v w there (λ n. (same.place n, same.section n, same.wait n)) i a ea in
-    let q = was {X = ℕ × Option Section × Option Waiting} (λ (u : View). (u.allowance.place, u.section, u.wait)) vs id v w there (λ n. (same.place n, same.section n, same.wait n)) j b eb in
-    t i j p.0 q.0 wait section p.1 (ap (λ x. x.2) (sym p.2) ∙ waits) going q.1 (ap (λ x. x.1) (sym q.2) ∙ inside) older holds
-    (subst (λ n. IsIn wait.excused (spot_of k.waiter n section)) (ap (λ x. x.0) q.2) has)
+excused_same k vs id v w there same t = excused_wait k vs id v w there same.place same.section (λ wait j u section is going e inside x. t id j v u wait section there (sym same.wait ∙ is) going e inside x.0 x.1 x.2) t
+
+-- Waits stay. A section that the view has now was entered after each of them began.
+pub excused_section : (k : Shape) (vs : List View) (id : ℕ) (v w : View) → get_elem? vs id ≡ some v → w.wait ≡ v.wait → ((j : ℕ) (u : View) (wait : Waiting) (section : Section) → get_elem? vs j ≡ some u → u.wait ≡ Some wait → w.section ≡ Some section → section.entered < wait.began → ⊥)
+    → AreExcused k vs → AreExcused k (set vs id w)
+excused_section k vs id v w there waits_same own t x y a b wait section ea waits going eb inside older holds spot =
+    let p = was (λ (u : View). u.wait) vs id v w there waits_same x a ea in
+    let wait_was = sym p.2 ∙ waits in
+    each_set (λ n u. u.section ≡ Some section → IsIn wait.excused (spot_of k.waiter u.allowance.place section) → ⊥) vs id w
+    (λ is has. own x p.0 wait section p.1 wait_was is older)
+    (λ n u ne e is has. t x n p.0 u wait section p.1 wait_was going e is older holds has) y b eb inside spot
+
+pub turned_frame : (vs : List View) (id : ℕ) (w : View) → ((wait : Waiting) → w.wait ≡ Some wait → IsTurnedOnce wait) → Each vs (λ u. (wait : Waiting) → u.wait ≡ Some wait → IsTurnedOnce wait) → Each (set vs id w) (λ u. (wait : Waiting) → u.wait ≡ Some wait → IsTurnedOnce wait)
+turned_frame vs id w own t = each_set (λ j u. (wait : Waiting) → u.wait ≡ Some wait → IsTurnedOnce wait) vs id w own (λ j u ne e. t j u e)
 
 pub turned_same : (vs : List View) (id : ℕ) (v w : View) → get_elem? vs id ≡ some v → w.wait ≡ v.wait → Each vs (λ u. (wait : Waiting) → u.wait ≡ Some wait → IsTurnedOnce wait) → Each (set vs id w) (λ u. (wait : Waiting) → u.wait ≡ Some wait → IsTurnedOnce wait)
-turned_same vs id v w there wait t = each_change (λ (u : View). (x : Waiting) → u.wait ≡ Some x → IsTurnedOnce x) (λ (u : View). (x : Waiting) → u.wait ≡ Some x → IsTurnedOnce x) vs id v w there (λ i x is. i x (sym wait ∙ is)) (λ u i. i) t
+turned_same vs id v w there wait t = turned_frame vs id w (λ x is. t id v there x (sym wait ∙ is)) t
 
--- A step that leaves all words of the waiter, sections and waits; what it loaded for the next section has to be so.
-pub waiter_frame : (k : Shape) (m m' : Memory) (vs : List View) (id : ℕ) (v w : View) (h : List Mark) → get_elem? vs id ≡ some v → SameForWaiters v w
-    → m' Clock ≡ m Clock → ((p : ℕ) → m' (Announced p) ≡ m (Announced p)) → ((p : ℕ) → m' (Stamp p) ≡ m (Stamp p)) → ((c d : ℕ) → m' (Count c d) ≡ m (Count c d)) → ((p c : ℕ) → m' (Row p c) ≡ m (Row p c))
+-- A step that leaves all words of the waiter, sections and waits, and no mark; what it loaded for the next section has to be so.
+pub waiter_frame : (k : Shape) (m m' : Memory) (vs : List View) (id : ℕ) (v w : View) (h : List Mark) → get_elem? vs id ≡ some v → SameForWaiters v w → m' Clock ≡ m Clock → reader_words m' ≡ reader_words m
     → w.enter.announced ≡ v.enter.announced → ((clocked : Clocked) → w.enter.clock ≡ Some clocked → (clocked.at ≤ length h) × (clocked.number ≡ begun (take clocked.at h)))
     → WaiterParts k m vs h → WaiterParts k m' (set vs id w) h
-waiter_frame k m m' vs id v w h there same clock keys stamps counts rows announced loaded t =
-    waiters_wait k m m' vs id v w h h there (record { place = same.place; section = same.section; announced = announced }) (record { keys = keys; stamps = stamps; counts = counts; rows = rows }) (clock ∙ t.clock) (λ p. refl)
-    (each_change (IsClocked k.waiter h) (IsClocked k.waiter h) vs id v w there (λ i. record { loaded = loaded; stamped = λ section is. i.stamped section (sym same.section ∙ is) }) (λ u i. i) t.clocked)
+waiter_frame k m m' vs id v w h there same clock words announced loaded t =
+    waiters_by k m m' vs id v w h h there (record { place = same.place; section = same.section; announced = announced }) words (clock ∙ t.clock) (λ p. refl)
+    (each_set (λ j u. IsClocked k.waiter h u) vs id w (record { loaded = loaded; stamped = λ section is. (t.clocked id v there).stamped section (sym same.section ∙ is) }) (λ j u ne e. t.clocked j u e))
     (excused_same k vs id v w there same t.excused) (turned_same vs id v w there same.wait t.turned) t
 
--- a word of another place
-other_word : (p q n x : ℕ) → q ≢ p → cond (p == q) n x ≡ x
-other_word p q n x ne = ap (λ b. cond b n x) (ne_eqb p q (λ e. ne (sym e)))
-
-own_word : (p n x : ℕ) → cond (p == p) n x ≡ n
-own_word p n x = ap (λ b. cond b n x) (eq-eqb p p refl)
-
--- The steps of the first waiter. Each other view that works is at another place.
-module _ (k : Shape) (m : Memory) (vs : List View) (id : ℕ) (v : View) (h : List Mark) (there : get_elem? vs id ≡ some v) (is_eer : k.waiter ≡ Eer) (t : WaiterParts k m vs h) where
-  not_domain : k.waiter ≡ Domain → ⊥
-  not_domain e = let d : Eer ≡ Domain = sym is_eer ∙ e in absurd (cc)
-
-  not_deer : k.waiter ≡ Deer → ⊥
-  not_deer e = let d : Eer ≡ Deer = sym is_eer ∙ e in absurd (cc)
-
-  -- K4: the key word of a place without a section is stored
-  module _ (key : ℕ) (outside : v.section ≡ None) (apart : (j : ℕ) (u : View) (section : Section) → j ≢ id → get_elem? vs j ≡ some u → u.section ≡ Some section → u.allowance.place ≢ v.allowance.place)
-      (alone : (j : ℕ) (u : View) → j ≢ id → get_elem? vs j ≡ some u → (other : ℕ) → u.enter.announced ≡ Some other → u.allowance.place ≢ v.allowance.place) where
-    abbrev m4 : Memory
-    m4 = stored m (Announced v.allowance.place) key
-
-    pub waiters4 : WaiterParts k m4 (set vs id (after_announce v key)) h
-    waiters4 = record {
-      clock = t.clock;
-      clocked = each_change (IsClocked k.waiter h) (IsClocked k.waiter h) vs id v (after_announce v key) there (λ i. record { loaded = i.loaded; stamped = i.stamped }) (λ u i. i) t.clocked;
-      excused = excused_same k vs id v (after_announce v key) there (record { place = refl; section = refl; wait = refl }) t.excused;
-      turned = turned_same vs id v (after_announce v key) there refl t.turned;
-      eer = λ _. record {
-        inside = each_set (λ j u. (section : Section) → u.section ≡ Some section → (m4 (Announced u.allowance.place) ≡ section.key) × (m4 (Stamp u.allowance.place) ≡ section.stamp)) vs id (after_announce v key)
-            (λ section is. absurd (let e : None ≡ Some section = sym outside ∙ is in cc))
-            (λ j u ne e section is. (let r = (t.eer is_eer).inside j u e section is in (other_word v.allowance.place u.allowance.place key (m (Announced u.allowance.place)) (apart j u section ne e is) ∙ r.0, r.1)));
-        outside = λ p lt none. (t.eer is_eer).outside p lt none;
-        announced = each_set (λ j u. (other : ℕ) → u.enter.announced ≡ Some other → m4 (Announced u.allowance.place) ≡ other) vs id (after_announce v key)
-            (λ other is. (let e : key ≡ other = cc in own_word v.allowance.place key (m (Announced v.allowance.place)) ∙ e))
-            (λ j u ne e other is. other_word v.allowance.place u.allowance.place key (m (Announced u.allowance.place)) (alone j u ne e other is) ∙ (t.eer is_eer).announced j u e other is);
-      };
-      domain = λ e. absurd (not_domain e);
-      deer = λ e. absurd (not_deer e);
-    }
-
-  -- K5: a section is entered
-  module _ (key : ℕ) (clocked : Clocked) (outside : v.section ≡ None) (clock : v.enter.clock ≡ Some clocked) (announced : v.enter.announced ≡ Some key)
-      (apart : (j : ℕ) (u : View) (section : Section) → j ≢ id → get_elem? vs j ≡ some u → u.section ≡ Some section → u.allowance.place ≢ v.allowance.place)
-      (low : (j : ℕ) (u : View) (section : Section) → get_elem? vs j ≡ some u → u.section ≡ Some section → section.clocked ≤ length h)
-      (late : (j : ℕ) (u : View) (wait : Waiting) → get_elem? vs j ≡ some u → u.wait ≡ Some wait → wait.began ≤ length h) where
-    abbrev w5 : View
-    w5 = entering v key clocked.number clocked.at h
-
-    abbrev mark5 : Mark
-    mark5 = Entered v.allowance.place v.counts.sections key
-
-    abbrev m5 : Memory
-    m5 = stored m (Stamp v.allowance.place) clocked.number
-
-    waits_back : (i : ℕ) (a : View) → get_elem? (set vs id w5) i ≡ some a → (z : View) × (get_elem? vs i ≡ some z) × (a.wait ≡ z.wait)
-    waits_back i a e = was (λ (u : View). u.wait) vs id v w5 there refl i a e
-
-    pub waiters5 : WaiterParts k m5 (set vs id w5) (h ++ mark5 ∷ [])
-    waiters5 = record {
-      clock = t.clock ∙ sym (begun-same h mark5 tt);
-      clocked = each_set (λ j u. IsClocked k.waiter (h ++ mark5 ∷ []) u) vs id w5
-          (record {
-            loaded = λ c is. absurd (let e : None ≡ Some c = is in cc);
-            stamped = λ section is. (let e : new_section v key clocked.number clocked.at h ≡ section = cc in
-                let r = (t.clocked id v there).loaded clocked clock in
-                subst (λ (s : Section). (s.clocked ≤ s.entered) × (k.waiter ≢ Domain → s.stamp ≡ begun (take s.clocked (h ++ mark5 ∷ [])))) e (r.0, λ ne. r.1 ∙ ap begun (sym (take-more h (mark5 ∷ []) clocked.at r.0))));
-          })
-          (λ j u ne e. clocked_more k.waiter h mark5 u (λ section is. low j u section e is) (t.clocked j u e));
-      excused = λ i j a b wait section ea waits going eb inside older holds has.
-          (let p = waits_back i a ea in
-          let w = sym p.2 ∙ waits in
-          each_set (λ n u. (s : Section) → u.section ≡ Some s → s.entered < wait.began → Holds (keys_of wait) s.key → IsIn wait.excused (spot_of k.waiter u.allowance.place s) → ⊥) vs id w5
-          (λ s is lt hs x. absurd (let e : new_section v key clocked.number clocked.at h ≡ s = cc in let f = ap (λ (z : Section). z.entered) e in let l = late i p.0 wait p.1 w in omega arith))
-          (λ n u ne e s is lt hs x. t.excused i n p.0 u wait s p.1 w going e is lt hs x) j b eb section inside older holds has);
-      turned = turned_same vs id v w5 there refl t.turned;
-      eer = λ _. record {
-        inside = each_set (λ j u. (section : Section) → u.section ≡ Some section → (m5 (Announced u.allowance.place) ≡ section.key) × (m5 (Stamp u.allowance.place) ≡ section.stamp)) vs id w5
-            (λ section is. (let e : new_section v key clocked.number clocked.at h ≡ section = cc in
-            subst (λ (s : Section). (m5 (Announced v.allowance.place) ≡ s.key) × (m5 (Stamp v.allowance.place) ≡ s.stamp)) e ((t.eer is_eer).announced id v there key announced, own_word v.allowance.place clocked.number (m (Stamp v.allowance.place)))))
-            (λ j u ne e section is. (let r = (t.eer is_eer).inside j u e section is in (r.0, other_word v.allowance.place u.allowance.place clocked.number (m (Stamp u.allowance.place)) (apart j u section ne e is) ∙ r.1)));
-        outside = λ p lt none. dite (ℕ_discrete p v.allowance.place)
-            (λ here. absurd (let q = sym (open_entered v.allowance.place h v.counts.sections key) ∙ ap (λ n. open_at n (h ++ mark5 ∷ [])) (sym here) ∙ none in cc))
-            (λ ne. other_word v.allowance.place p clocked.number (m (Stamp p)) ne ∙ (t.eer is_eer).outside p lt (sym (open_entered_other v.allowance.place h p v.counts.sections key ne) ∙ none));
-        announced = each_change (λ (u : View). (other : ℕ) → u.enter.announced ≡ Some other → m (Announced u.allowance.place) ≡ other) (λ (u : View). (other : ℕ) → u.enter.announced ≡ Some other → m5 (Announced u.allowance.place) ≡ other) vs id v w5 there (λ i. i) (λ u i. i) (t.eer is_eer).announced;
-      };
-      domain = λ e. absurd (not_domain e);
-      deer = λ e. absurd (not_deer e);
-    }
-
-  -- K6: the section is left
-  module _ (section : Section) (is_inside : v.section ≡ Some section)
-      (apart : (j : ℕ) (u : View) (other : Section) → j ≢ id → get_elem? vs j ≡ some u → u.section ≡ Some other → u.allowance.place ≢ v.allowance.place)
-      (low : (j : ℕ) (u : View) (other : Section) → get_elem? vs j ≡ some u → u.section ≡ Some other → other.clocked ≤ length h) where
-    abbrev w6 : View
-    w6 = leaving v section h
-
-    abbrev mark6 : Mark
-    mark6 = Left v.allowance.place section.count
-
-    abbrev m6 : Memory
-    m6 = stored m (Stamp v.allowance.place) idle
-
-    waits_were : (i : ℕ) (a : View) → get_elem? (set vs id w6) i ≡ some a → (z : View) × (get_elem? vs i ≡ some z) × (a.wait ≡ z.wait)
-    waits_were i a e = was (λ (u : View). u.wait) vs id v w6 there refl i a e
-
-    pub waiters6 : WaiterParts k m6 (set vs id w6) (h ++ mark6 ∷ [])
-    waiters6 = record {
-      clock = t.clock ∙ sym (begun-same h mark6 tt);
-      clocked = each_set (λ j u. IsClocked k.waiter (h ++ mark6 ∷ []) u) vs id w6
-          (record { loaded = λ c is. absurd (let e : None ≡ Some c = is in cc); stamped = λ s is. absurd (let e : None ≡ Some s = is in cc) })
-          (λ j u ne e. clocked_more k.waiter h mark6 u (λ s is. low j u s e is) (t.clocked j u e));
-      excused = λ i j a b wait s ea waits going eb inside older holds has.
-          (let p = waits_were i a ea in
-          let w = sym p.2 ∙ waits in
-          each_set (λ n u. (z : Section) → u.section ≡ Some z → z.entered < wait.began → Holds (keys_of wait) z.key → IsIn wait.excused (spot_of k.waiter u.allowance.place z) → ⊥) vs id w6
-          (λ z none lt hs x. absurd (let e : None ≡ Some z = none in cc))
-          (λ n u ne e z is lt hs x. t.excused i n p.0 u wait z p.1 w going e is lt hs x) j b eb s inside older holds has);
-      turned = turned_same vs id v w6 there refl t.turned;
-      eer = λ _. record {
-        inside = each_set (λ j u. (s : Section) → u.section ≡ Some s → (m6 (Announced u.allowance.place) ≡ s.key) × (m6 (Stamp u.allowance.place) ≡ s.stamp)) vs id w6
-            (λ s none. absurd (let e : None ≡ Some s = none in cc))
-            (λ j u ne e s is. (let r = (t.eer is_eer).inside j u e s is in (r.0, other_word v.allowance.place u.allowance.place idle (m (Stamp u.allowance.place)) (apart j u s ne e is) ∙ r.1)));
-        outside = λ p lt none. dite (ℕ_discrete p v.allowance.place)
-            (λ here. subst (λ q. m6 (Stamp q) ≡ idle) (sym here) (own_word v.allowance.place idle (m (Stamp v.allowance.place))))
-            (λ ne. other_word v.allowance.place p idle (m (Stamp p)) ne ∙ (t.eer is_eer).outside p lt (sym (open_left_other v.allowance.place h p section.count ne) ∙ none));
-        announced = each_change (λ (u : View). (other : ℕ) → u.enter.announced ≡ Some other → m (Announced u.allowance.place) ≡ other) (λ (u : View). (other : ℕ) → u.enter.announced ≡ Some other → m6 (Announced u.allowance.place) ≡ other) vs id v w6 there (λ i. i) (λ u i. i) (t.eer is_eer).announced;
-      };
-      domain = λ e. absurd (not_domain e);
-      deer = λ e. absurd (not_deer e);
-    }
+-- A step that enters or leaves a section: what it does to the words of its waiter it says itself.
+pub waiters_section : (k : Shape) (m m' : Memory) (vs : List View) (id : ℕ) (v w : View) (h : List Mark) (mark : Mark) → get_elem? vs id ≡ some v → w.wait ≡ v.wait → m' Clock ≡ m Clock → TurnsNoWait mark → AreLoaded vs h → IsClocked k.waiter (h ++ mark ∷ []) w
+    → ((j : ℕ) (u : View) (wait : Waiting) (section : Section) → get_elem? vs j ≡ some u → u.wait ≡ Some wait → w.section ≡ Some section → section.entered < wait.began → ⊥)
+    → (k.waiter ≡ Eer → EerWords k.places m' (set vs id w) (h ++ mark ∷ [])) → (k.waiter ≡ Domain → DomainWords m' (set vs id w)) → (k.waiter ≡ Deer → DeerWords k.places m' (set vs id w) (h ++ mark ∷ []))
+    → WaiterParts k m vs h → WaiterParts k m' (set vs id w) (h ++ mark ∷ [])
+waiters_section k m m' vs id v w h mark there wait clock none low clocked late eer domain deer t = record {
+  clock = clock ∙ t.clock ∙ sym (begun-same h mark none);
+  clocked = clocked_frame k.waiter vs id w h (h ++ mark ∷ []) (prefix_snoc h mark) low clocked t.clocked;
+  excused = excused_section k vs id v w there wait late t.excused;
+  turned = turned_same vs id v w there wait t.turned;
+  eer = eer;
+  domain = domain;
+  deer = deer;
+}

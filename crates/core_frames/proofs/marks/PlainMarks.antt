@@ -1,5 +1,5 @@
 -- Marks of updates and slots: they open and leave no section, and begin and end no wait.
-use Rattle.std.proofs.Common.{◌≡◌, ◌≢◌, ℕ, ◌≤◌, cond, List, [], ◌∷◌, ◌++◌, length, take, Some, refl, sym, ap, subst, ◌∙◌, ⊎_elim, arith, ne_eqb, append-nil, length-append}
+use Rattle.std.proofs.Common.{◌≡◌, ◌≢◌, ℕ, ◌≤◌, cond, List, [], ◌∷◌, ◌++◌, length, take, Some, refl, sym, ap, subst, ◌∙◌, ⊎_elim, arith, ne_eqb, append-nil, length-append, ◌+◌}
 use mathlib.Core.Option.{some}
 use mathlib.Core.List.{IsPrefix}
 use lib.ListN.{get_elem?}
@@ -9,9 +9,11 @@ use Rattle.prcu_marks.specs.declared.mark.Mark.TheVariants.{Entered, Left, Began
 use Rattle.prcu_marks.specs.Marks.{gone_at, open_at, own_of, entered_at}
 use Rattle.prcu_model.proofs.ListFacts.{prefix_self, prefix_more, prefix_trans}
 use Rattle.prcu_marks.proofs.MarkLists.{open_at-snoc, own_of-append, entered_at-append}
-use Rattle.core_state.specs.Marks.{last_unlinked, begun, begun_at}
-use Rattle.list_laws.proofs.Lists.{at_end}
+use Rattle.core_state.specs.Marks.{last_unlinked, begun, begun_at, AreMarks}
+use Rattle.list_laws.proofs.Lists.{at_end, at_below}
 use Rattle.core_frames.proofs.marks.MarkFacts.{begun-append, begun_at-append, take-more}
+use Rattle.prcu_model.specs.declared.operation.Op.TheVariants.{Del}
+use Rattle.core_frames.proofs.marks.MoreMarks.{OtherMarks, QuietWaits}
 
 -- a mark of a slot, or of an update by this place
 abbrev pub IsPlain : ℕ → Mark → Type 0
@@ -101,6 +103,23 @@ module _ (place : ℕ) (h : List Mark) where
     entered = λ j p c x e. ⊎_elim (λ (o : get_elem? h j ≡ some (Entered p c x)). o) (λ n. absurd (subst (IsPlain place) n.1 is)) (at_end h m (Entered p c x) j e);
     left = λ j p c e. ⊎_elim (λ (o : get_elem? h j ≡ some (Left p c)). o) (λ n. absurd (subst (IsPlain place) n.1 is)) (at_end h m (Left p c) j e);
   }
+
+-- marks in order stay so, where each delete among those that come is followed by its unlinking
+module _ (place : ℕ) (h h' : List Mark) (more : PlainMarks place h h') where
+  pub marks_plain : (places : ℕ) → ((j p x : ℕ) → get_elem? h' j ≡ some (Done (record { caller = p; op = Del x })) → (s : ℕ) × (get_elem? h' (j + 1) ≡ some (Unlinked s))) → AreMarks places h → AreMarks places h'
+  marks_plain places deleted t = record {
+    entered = λ j p c x e. (let o = more.entered j p c x e in let r = t.entered j p c x o in let b = sym (more.cut j (let l = at_below h j _ o in omega arith)) in (r.0, r.1, r.2 ∙ ap (entered_at p) b, ap (open_at p) (sym b) ∙ r.3));
+    left = λ j p c e. (let o = more.left j p c e in let r = t.left j p c o in (r.0, ap (open_at p) (more.cut j (let l = at_below h j _ o in omega arith)) ∙ r.1, r.2));
+    began = λ j p c low high e. (let o = more.began j p c low high e in let r = t.began j p c low high o in (r.0, r.1 ∙ ap (begun_at p) (sym (more.cut j (let l = at_below h j _ o in omega arith))), r.2, r.3));
+    ended = λ j p c e. (let r = t.ended j p c (more.ended j p c e) in (r.0, r.1, r.2, r.3, more.longer r.0 _ r.4));
+    deleted = deleted;
+  }
+
+  pub waits_plain : QuietWaits h h'
+  waits_plain = record { began = λ j p c low high has e. more.began j p c low high e; ended = more.ended }
+
+  pub others_plain : OtherMarks place h h'
+  others_plain = record { begins = more.begins; own = more.own; opens = λ p ne. more.opens p; entries = λ p ne. more.entries p; waits = λ p ne. more.waits_at p }
 
 -- after these marks a slot was just unlinked, and no other slot
 pub record IsUnlinkedNow (h h' : List Mark) (d at : ℕ) : Type 0 where

@@ -12,8 +12,8 @@ use Rattle.prcu_marks.specs.Marks.{updates_of, gone_at}
 use Rattle.prcu_marks.proofs.MarkLists.{updates_of-append, gone_at-snoc}
 use Rattle.core_state.specs.Marks.{unlinked_from, last_unlinked, AreMarks, Reuse}
 use Rattle.list_laws.proofs.Lists.{at_end}
-use Rattle.core_frames.proofs.marks.PlainMarks.{PlainMarks, plain_one, plain_trans, IsUnlinkedNow}
-use Rattle.core_frames.proofs.frames.PlainGrace.{reuse_more, marks_plain}
+use Rattle.core_frames.proofs.marks.PlainMarks.{PlainMarks, plain_one, plain_trans, marks_plain, IsUnlinkedNow}
+use Rattle.core_frames.proofs.frames.GraceFrame.{reuse_more}
 
 abbrev next_last : ℕ → ℕ → Option ℕ → Mark → Option ℕ
 next_last s i last (Unlinked t) = cond (t == s) (Some i) last

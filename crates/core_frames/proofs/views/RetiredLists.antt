@@ -35,12 +35,16 @@ module _ (s : ℕ) where
       (λ other. (let a = ap (λ ys. times t (slots_in ys)) (with_other x xs other) in let c = without_else t ne xs in omega arith))
       (cases_eq x.slot s)
 
-  pub without_length : (rs : List Retired) → length (without_retired s rs) ≤ length rs
-  without_length [] = omega arith
-  without_length (x ∷ xs) = ⊎_elim
-      (λ (e : x.slot ≡ s). (let a = ap length (with_here x xs e) in let c = without_length xs in omega arith))
-      (λ ne. (let a = ap length (with_other x xs ne) in let c = without_length xs in omega arith))
+  -- a number of a list that each of its elements may make greater, and none less
+  without_less : (f : List Retired → ℕ) → ((x : Retired) (xs : List Retired) → f xs ≤ f (x ∷ xs)) → ((x : Retired) (xs ys : List Retired) → f ys ≤ f xs → f (x ∷ ys) ≤ f (x ∷ xs)) → (rs : List Retired) → f (without_retired s rs) ≤ f rs
+  without_less f more same [] = omega arith
+  without_less f more same (x ∷ xs) = ⊎_elim
+      (λ (e : x.slot ≡ s). (let a = ap f (with_here x xs e) in let b = more x xs in let c = without_less f more same xs in omega arith))
+      (λ ne. (let a = ap f (with_other x xs ne) in let b = same x xs (without_retired s xs) (without_less f more same xs) in omega arith))
       (cases_eq x.slot s)
+
+  pub without_length : (rs : List Retired) → length (without_retired s rs) ≤ length rs
+  without_length = without_less length (λ x xs. omega arith) (λ x xs ys le. omega arith)
 
   pub in_without : (rs : List Retired) (r : Retired) → IsIn (without_retired s rs) r → IsIn rs r × (r.slot ≢ s)
   in_without [] r has = absurd (some-ne-none r (sym has.1))
@@ -83,11 +87,7 @@ module _ (s : ℕ) where
 
   -- no more have a generation that wasn't raised
   pub without_raised : (rs : List Retired) → unraised_among (without_retired s rs) ≤ unraised_among rs
-  without_raised [] = omega arith
-  without_raised (x ∷ xs) = ⊎_elim
-      (λ (e : x.slot ≡ s). (let a = ap unraised_among (with_here x xs e) in let c = without_raised xs in omega arith))
-      (λ ne. (let a = ap unraised_among (with_other x xs ne) in let c = without_raised xs in omega arith))
-      (cases_eq x.slot s)
+  without_raised = without_less unraised_among (λ x xs. omega arith) (λ x xs ys le. omega arith)
 
   -- a slot that stands once is one of them
   pub one_in : (rs : List Retired) (a b : Retired) → times s (slots_in rs) ≤ 1 → IsIn rs a → IsIn rs b → a.slot ≡ s → b.slot ≡ s → a ≡ b

@@ -51,10 +51,6 @@ module _ (places : ℕ) (vs : List View) (placed : ArePlaced places vs) where
       let part = total_part (λ (u : View). times p (places_of u)) vs i v e in
       ltb-true p places (some_is (nat_lt p places) (total (λ (u : View). times p (places_of u)) vs) (placed p) (omega arith))
 
--- a mark of a section of this place
-pub IsSectionMarkOf : ℕ → Mark → Type 0
-IsSectionMarkOf p m = ((c x : ℕ) × (m ≡ Entered p c x)) ⊎ ((c : ℕ) × (m ≡ Left p c))
-
 module _ (p : ℕ) (h : List Mark) where
   pub open_entered : (c x : ℕ) → open_at p (h ++ Entered p c x ∷ []) ≡ Some (record { count = c; key = x; at = length h })
   open_entered c x = open_at-snoc p h (Entered p c x) ∙ ap (λ b. cond b (Some (record { count = c; key = x; at = length h })) (open_at p h)) (eq-eqb p p refl)
@@ -70,9 +66,6 @@ module _ (p : ℕ) (h : List Mark) where
 
   pub entered_here : (c x : ℕ) → entered_at p (h ++ Entered p c x ∷ []) ≡ entered_at p h + 1
   entered_here c x = let a = entered_at-append p h (Entered p c x ∷ []) in let b : entered_at p (Entered p c x ∷ []) ≡ 1 + 0 = ap (λ t. cond t 1 0 + 0) (eq-eqb p p refl) in omega arith
-
-  pub entered_other : (q c x : ℕ) → q ≢ p → entered_at q (h ++ Entered p c x ∷ []) ≡ entered_at q h
-  entered_other q c x ne = let a = entered_at-append q h (Entered p c x ∷ []) in let b : entered_at q (Entered p c x ∷ []) ≡ 0 + 0 = ap (λ t. cond t 1 0 + 0) (ne_eqb p q (λ e. ne (sym e))) in omega arith
 
   pub entered_left : (q c : ℕ) → entered_at q (h ++ Left p c ∷ []) ≡ entered_at q h
   entered_left q c = let a = entered_at-append q h (Left p c ∷ []) in let b : entered_at q (Left p c ∷ []) ≡ 0 = refl in omega arith

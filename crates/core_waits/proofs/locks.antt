@@ -1,0 +1,3 @@
+pub mod LockWords
+pub mod OtherLocks
+pub mod Locking

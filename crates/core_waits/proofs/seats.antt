@@ -1,0 +1,4 @@
+pub mod Regroup
+pub mod Splitting
+pub mod Joining
+pub mod NotedSeats
