@@ -3,8 +3,8 @@ use Rattle.std.proofs.Common.{◌≡◌, ◌≢◌, ℕ, ◌≤◌, cond, List, 
 use Rattle.std.proofs.lemmas.List.{take-append-le}
 use Rattle.prcu_marks.specs.declared.mark.Mark.{Mark}
 use Rattle.prcu_marks.specs.declared.mark.Mark.TheVariants.{Entered, Left, Began, Ended, Done, Given, Unlinked, Freed}
-use Rattle.prcu_marks.specs.Marks.{Open, next_open, open_at, next_gone, gone_at}
-use Rattle.hash_core.specs.Marks.{last_unlinked, ReuseByClass}
+use Rattle.prcu_marks.specs.Marks.{Open, next_open, open_at, next_gone, gone_at, last_unlinked}
+use Rattle.hash_core.specs.Marks.{ReuseByClass}
 use Rattle.list_laws.proofs.Lists.{at_below, at_end}
 use Rattle.prcu_marks.proofs.MarkLists.{open_at-snoc, gone_at-snoc}
 

@@ -20,8 +20,7 @@ use Rattle.hash_core.specs.declared.view.View.{View}
 use Rattle.list_laws.specs.Counts.{times}
 use Rattle.hash_core.specs.Memory.{Memory}
 use Rattle.hash_core.specs.Slots.{is_slot_of, IsOfClass}
-use Rattle.prcu_marks.specs.Marks.{gone_at, IsGone}
-use Rattle.hash_core.specs.Marks.{last_unlinked}
+use Rattle.prcu_marks.specs.Marks.{gone_at, IsGone, last_unlinked}
 use Rattle.hash_core.specs.Buckets.{Bucket, IsChained, AreListed, HaveOneRole, IsMapped, HoldsOther, IsLocked, IsKnown, HaveAges, inside_count, AreCounted, IsFreeOfReaders, AreClean, taken_of, unlinked_of, moved_of, link_of}
 use Rattle.prcu_model.specs.Dictionary.{WasSaid}
 use Rattle.hash_core.specs.Readers.{IsHeldBack, HasWay, WillAnswer, AreAnswered}

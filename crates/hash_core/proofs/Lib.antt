@@ -4,7 +4,6 @@ pub mod Frames
 pub mod Stores
 pub mod SeatFrames
 pub mod Whole
-pub mod LastUnlinked
 pub mod MarkOrder
 pub mod Adds
 pub mod Quiet

@@ -22,8 +22,8 @@ use Rattle.list_laws.specs.Counts.{times}
 use Rattle.hash_core.specs.Lists.{IsPath}
 use Rattle.hash_core.specs.Memory.{Memory, stored}
 use Rattle.hash_core.specs.Slots.{is_slot_of}
-use Rattle.prcu_marks.specs.Marks.{updates_of, open_at, gone_at, IsGone, entered_at}
-use Rattle.hash_core.specs.Marks.{last_unlinked, AreMarks, ReuseByClass}
+use Rattle.prcu_marks.specs.Marks.{updates_of, open_at, gone_at, IsGone, entered_at, last_unlinked}
+use Rattle.hash_core.specs.Marks.{AreMarks, ReuseByClass}
 use Rattle.hash_core.specs.Known.{knowing, ShowsAbsent, IsOnWalk}
 use Rattle.hash_core.specs.Buckets.{Bucket, seek, IsFreeOfReaders, taken_of, unlinked_of, HaveDistinctKeys}
 use Rattle.prcu_model.specs.Dictionary.{WasSaid}
@@ -37,7 +37,7 @@ use Rattle.hash_core.proofs.Paths.{seek_here, seek_past, seek-same, HaveDistinct
 use Rattle.prcu_marks.proofs.MarkLists.{updates_of-append, entered_at-append}
 use Rattle.hash_core.proofs.Classes.{slot_within}
 use Rattle.prcu_marks.proofs.MarkPlaces.{open_at-below}
-use Rattle.hash_core.proofs.LastUnlinked.{last_unlinked-same}
+use Rattle.prcu_marks.proofs.LastUnlinked.{last_unlinked-same}
 use Rattle.hash_core.proofs.MarkOrder.{marks_snoc}
 use Rattle.hash_core.proofs.Adds.{open_at-same, gone_at-same, reuse_more}
 use Rattle.hash_core.proofs.Frames.{SameMarks, chain_slot, taken_slot, WasSaid-longer}

@@ -8,8 +8,8 @@ use lib.ListN.{get_elem?}
 use Rattle.atomic_table.proofs.Lists.{at_longer}
 use Rattle.prcu_marks.specs.declared.mark.Mark.{Mark}
 use Rattle.prcu_marks.specs.declared.mark.Mark.TheVariants.{Entered, Left, Began, Ended, Done, Given, Unlinked, Freed}
-use Rattle.prcu_marks.specs.Marks.{Open, open_at, entered_at}
-use Rattle.hash_core.specs.Marks.{IsLeftHere, AreMarks, ReuseByClass, last_unlinked}
+use Rattle.prcu_marks.specs.Marks.{Open, open_at, entered_at, last_unlinked}
+use Rattle.hash_core.specs.Marks.{IsLeftHere, AreMarks, ReuseByClass}
 use Rattle.list_laws.proofs.Lists.{at_below, at_end}
 
 -- what a new mark has to meet, after these

@@ -22,8 +22,7 @@ use Rattle.list_laws.specs.Counts.{total}
 use Rattle.hash_core.specs.Lists.{IsPath}
 use Rattle.hash_core.specs.Memory.{Memory, stored}
 use Rattle.hash_core.specs.Slots.{is_slot_of, IsOfClass}
-use Rattle.prcu_marks.specs.Marks.{updates_of, Open, open_at, gone_at, entered_at}
-use Rattle.hash_core.specs.Marks.{last_unlinked}
+use Rattle.prcu_marks.specs.Marks.{updates_of, Open, open_at, gone_at, entered_at, last_unlinked}
 use Rattle.hash_core.specs.Buckets.{Bucket, seek, inside_count, IsKnown, IsFreeOfReaders, AreClean}
 use Rattle.prcu_model.specs.Dictionary.{WasSaid}
 use Rattle.hash_core.specs.Readers.{IsHeldBack, HasWay, WillAnswer}
@@ -34,7 +33,7 @@ use Rattle.prcu_model.proofs.ListFacts.{all_map}
 use Rattle.list_laws.proofs.Lists.{at_below, at_one, each_set, total_set, total_part, all_change}
 use Rattle.hash_core.proofs.Paths.{path_cons, path_none, seek_here, seek_past}
 use Rattle.prcu_marks.proofs.MarkLists.{open_at-snoc, updates_of-append, entered_at-append}
-use Rattle.hash_core.proofs.LastUnlinked.{last_unlinked-below, last_unlinked-same}
+use Rattle.prcu_marks.proofs.LastUnlinked.{last_unlinked-below, last_unlinked-same}
 use Rattle.hash_core.proofs.MarkOrder.{marks_snoc}
 use Rattle.hash_core.proofs.Adds.{gone_at-same, reuse_more}
 use Rattle.hash_core.proofs.Frames.{SameMarks, SameSection, locked_same, still_said, still_answer, frame_ages_same}

@@ -19,8 +19,9 @@ use Rattle.hash_core.specs.Seats.{HasHeard, AreSeen, HasPlace, AnswersFor, AreAp
 use Rattle.hash_core.specs.Steps.{IsQuiet, NeedsSplit, first_of, second_of, both_of, spent}
 use Rattle.hash_core.specs.Rule.{MemoryRule}
 use Rattle.list_laws.proofs.Lists.{at_below, at_end, at_one, each_set, total_set, total_append, times_append, times_from, from_times}
-use Rattle.prcu_model.proofs.ListFacts.{prefix_self, prefix_trans, prefix_of_longer, all_map, all_append}
+use Rattle.prcu_model.proofs.ListFacts.{prefix_trans, all_map, all_append}
 use Rattle.prcu_marks.proofs.MarkLists.{own_of-append, own_of-between}
+use Rattle.prcu_marks.proofs.Seen.{longer_begins, longer_first, longer_second, longer_whole_first, longer_whole_second}
 use Rattle.hash_core.proofs.Busy.{SameBusy, quiet_turn, rule_busy}
 
 module _ {A : Type 0} where
@@ -175,17 +176,6 @@ module _ (capacities : List ℕ) (places tickets : ℕ) (m : Memory) (vs : List 
     pub law1 : MemoryRule capacities places tickets m (set vs id (first_of p t v) ++ second_of p t v ∷ []) h
     law1 = rule_busy vs vs1 busy1 capacities places tickets m h r seen1 apart1 owned1 entered1 tickets1
 
--- the longer of two lists is one of them
-longer_case : (P : List Mark → Type 0) (a b : List Mark) → (length b ≤ length a → P a) → (length a < length b → P b) → P (longer a b)
-longer_case P a b first second =
-    dite (dec_le (suc (length a)) (length b))
-    (λ less. subst (λ z. P (cond z b a)) (sym (lt-ltb (length a) (length b) less)) (second less))
-    (λ not_less. subst (λ z. P (cond z b a)) (sym (le-ltb (length a) (length b) (omega arith))) (first (omega arith)))
-
--- a beginning as long as the whole is the whole
-prefix_whole : (a h : List Mark) → IsPrefix a h → length h ≤ length a → a ≡ h
-prefix_whole a h p long = sym (append-nil a) ∙ ap (λ z. a ++ z) (sym (nil_from_length p.0 (let e = ap length p.1 in let n = length-append a p.0 in omega arith))) ∙ p.1
-
 module _ (capacities : List ℕ) (places tickets : ℕ) (m : Memory) (vs : List View) (h : List Mark) (r : MemoryRule capacities places tickets m vs h) (id : ℕ) (v : View) (at : get_elem? vs id ≡ some v)
     (j : ℕ) (other : View) (there : get_elem? vs j ≡ some other) (two : id ≢ j) (quiet : IsQuiet v) (quiet_other : IsQuiet other) where
   abbrev both2 : View
@@ -238,37 +228,34 @@ module _ (capacities : List ℕ) (places tickets : ℕ) (m : Memory) (vs : List 
   not_third : (k q : ℕ) (u : View) → k ≢ id → k ≢ j → get_elem? vs k ≡ some u → AnswersFor u q → AnswersFor both2 q → ⊥
   not_third k q u not_id not_j e third both = elim (from_both q both) [ inl mine ↦ not_id (r.apart.apart k id q u v e at third mine) | inr theirs ↦ not_j (r.apart.apart k j q u other e there third theirs) ]
 
-  longer_begins : IsPrefix both2.seen h
-  longer_begins = longer_case (λ z. IsPrefix z h) v.seen other.seen (λ _. r.seen.begins id v at) (λ _. r.seen.begins j other there)
+  mine_seen : IsPrefix v.seen h
+  mine_seen = r.seen.begins id v at
 
-  prefix_below : (a : List Mark) → IsPrefix a h → length a ≤ length h
-  prefix_below a p = let e = ap length p.1 in let n = length-append a p.0 in omega arith
+  theirs_seen : IsPrefix other.seen h
+  theirs_seen = r.seen.begins j other there
+
+  both_seen : IsPrefix both2.seen h
+  both_seen = longer_begins v.seen other.seen h mine_seen theirs_seen
 
   longest2 : (k : ℕ) × (u : View) × (get_elem? vs2 k ≡ some u) × (u.seen ≡ h)
   longest2 =
       let l = r.seen.longest in
-      let mine = r.seen.begins id v at in
-      let theirs = r.seen.begins j other there in
-      let short_mine = prefix_below v.seen mine in
-      let short_theirs = prefix_below other.seen theirs in
       dite (ℕ_discrete l.0 id)
       (λ e.
       let whole : v.seen ≡ h = ap (λ (z : View). z.seen) (at_one vs id v l.1 at (subst (λ k. get_elem? vs k ≡ some l.1) e l.2)) ∙ l.3 in
-      let long = ap length whole in
-      (id, both2, both_at, longer_case (λ z. z ≡ h) v.seen other.seen (λ _. whole) (λ less. absurd (omega arith))))
+      (id, both2, both_at, longer_whole_first v.seen other.seen h mine_seen theirs_seen whole))
       (λ not_id. dite (ℕ_discrete l.0 j)
       (λ e.
       let whole : other.seen ≡ h = ap (λ (z : View). z.seen) (at_one vs j other l.1 there (subst (λ k. get_elem? vs k ≡ some l.1) e l.2)) ∙ l.3 in
-      let long = ap length whole in
-      (id, both2, both_at, longer_case (λ z. z ≡ h) v.seen other.seen (λ more. prefix_whole v.seen h mine (omega arith)) (λ less. whole)))
+      (id, both2, both_at, longer_whole_second v.seen other.seen h mine_seen theirs_seen whole))
       (λ not_j. (l.0, l.1, else_at l.0 l.1 not_id not_j l.2, l.3)))
 
   -- the list that is kept begins with what each of the two has seen
   longer_mine : IsPrefix v.seen both2.seen
-  longer_mine = longer_case (λ z. IsPrefix v.seen z) v.seen other.seen (λ _. prefix_self v.seen) (λ less. prefix_of_longer v.seen other.seen h (r.seen.begins id v at) (r.seen.begins j other there) (omega arith))
+  longer_mine = longer_first v.seen other.seen h mine_seen theirs_seen
 
   longer_theirs : IsPrefix other.seen both2.seen
-  longer_theirs = longer_case (λ z. IsPrefix other.seen z) v.seen other.seen (λ more. prefix_of_longer other.seen v.seen h (r.seen.begins j other there) (r.seen.begins id v at) (omega arith)) (λ _. prefix_self other.seen)
+  longer_theirs = longer_second v.seen other.seen h mine_seen theirs_seen
 
   heard2 : HasHeard both2
   heard2 = (
@@ -282,7 +269,7 @@ module _ (capacities : List ℕ) (places tickets : ℕ) (m : Memory) (vs : List 
   )
 
   seen2 : AreSeen vs2 h
-  seen2 = record { begins = each2 (λ k u. IsPrefix u.seen h) longer_begins (h, refl) (λ k u _ _ e. r.seen.begins k u e); heard = each2 (λ k u. HasHeard u) heard2 tt (λ k u _ _ e. r.seen.heard k u e); longest = longest2 }
+  seen2 = record { begins = each2 (λ k u. IsPrefix u.seen h) both_seen (h, refl) (λ k u _ _ e. r.seen.begins k u e); heard = each2 (λ k u. HasHeard u) heard2 tt (λ k u _ _ e. r.seen.heard k u e); longest = longest2 }
 
   apart2 : AreApart places vs2
   apart2 = record {
@@ -317,7 +304,7 @@ module _ (capacities : List ℕ) (places tickets : ℕ) (m : Memory) (vs : List 
 
   -- what is between a list that has all marks of a place and the whole list has them too
   met_longer : (q : ℕ) (u : View) → own_of q u.seen ≡ own_of q u.own → own_of q h ≡ own_of q u.own → IsPrefix u.seen both2.seen → own_of q both2.seen ≡ own_of q u.own
-  met_longer q u met whole longer = own_of-between q u.seen both2.seen h longer longer_begins (met ∙ sym whole) ∙ met
+  met_longer q u met whole longer = own_of-between q u.seen both2.seen h longer both_seen (met ∙ sym whole) ∙ met
 
   owned2 : AreOwned places vs2 h
   owned2 = record {

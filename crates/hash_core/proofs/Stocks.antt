@@ -20,8 +20,8 @@ use Rattle.list_laws.specs.Counts.{times, total}
 use Rattle.hash_core.specs.Lists.{IsPath}
 use Rattle.hash_core.specs.Memory.{Memory, same_field, stored}
 use Rattle.hash_core.specs.Slots.{is_slot_of, IsOfClass}
-use Rattle.prcu_marks.specs.Marks.{updates_of, Open, open_at, gone_at, IsGone}
-use Rattle.hash_core.specs.Marks.{last_unlinked, ReuseByClass}
+use Rattle.prcu_marks.specs.Marks.{updates_of, Open, open_at, gone_at, IsGone, last_unlinked}
+use Rattle.hash_core.specs.Marks.{ReuseByClass}
 use Rattle.hash_core.specs.Known.{known_in, knowing}
 use Rattle.hash_core.specs.Buckets.{Bucket, IsKnown, IsFreeOfReaders, taken_of, unlinked_of, moved_of, link_of}
 use Rattle.prcu_model.specs.Dictionary.{WasSaid}
@@ -33,7 +33,7 @@ use Rattle.prcu_model.proofs.ListFacts.{all_map}
 use Rattle.list_laws.proofs.Lists.{at_below, at_end, each_set, all_change, all_from_times, times_here}
 use Rattle.hash_core.proofs.Paths.{path_cons, path_none, IsPath-same, seek-same, HaveDistinctKeys-same}
 use Rattle.prcu_marks.proofs.MarkLists.{updates_of-append, entered_at-append}
-use Rattle.hash_core.proofs.LastUnlinked.{last_unlinked-same, last_gone}
+use Rattle.prcu_marks.proofs.LastUnlinked.{last_unlinked-same, last_gone}
 use Rattle.hash_core.proofs.MarkOrder.{marks_snoc}
 use Rattle.hash_core.proofs.Adds.{open_at-same, gone_at-given_here, gone_at-given_other}
 use Rattle.hash_core.proofs.Classes.{one_class, slot_within, at_most_one}

@@ -21,8 +21,8 @@ use Rattle.list_laws.specs.Counts.{times}
 use Rattle.hash_core.specs.Lists.{IsPath}
 use Rattle.hash_core.specs.Memory.{Memory, stored}
 use Rattle.hash_core.specs.Slots.{is_slot_of, IsOfClass}
-use Rattle.prcu_marks.specs.Marks.{updates_of, open_at, gone_at, IsGone, entered_at}
-use Rattle.hash_core.specs.Marks.{last_unlinked, AreMarks, ReuseByClass}
+use Rattle.prcu_marks.specs.Marks.{updates_of, open_at, gone_at, IsGone, entered_at, last_unlinked}
+use Rattle.hash_core.specs.Marks.{AreMarks, ReuseByClass}
 use Rattle.hash_core.specs.Known.{known_in, knowing}
 use Rattle.hash_core.specs.Buckets.{Bucket, seek, HaveDistinctKeys, IsFreeOfReaders, taken_of, link_of}
 use Rattle.prcu_model.specs.Dictionary.{WasSaid}
@@ -34,7 +34,7 @@ use Rattle.list_laws.proofs.Lists.{all_change, all_times, all_from_times, times_
 use Rattle.hash_core.proofs.Paths.{IsPath-same, path_cons, seek-same, seek_here, seek_past, seek_append, HaveDistinctKeys-same}
 use Rattle.prcu_marks.proofs.MarkLists.{updates_of-append, entered_at-append}
 use Rattle.hash_core.proofs.Classes.{one_class, at_most_one}
-use Rattle.hash_core.proofs.LastUnlinked.{last_unlinked-same, last_unlinked-other}
+use Rattle.prcu_marks.proofs.LastUnlinked.{last_unlinked-same, last_unlinked-other}
 use Rattle.hash_core.proofs.MarkOrder.{marks_snoc}
 use Rattle.hash_core.proofs.Adds.{open_at-same, gone_at-same, gone_at-unlinked_here, gone_at-unlinked_other, reuse_more}
 use Rattle.hash_core.proofs.Frames.{chain_slot, WasSaid-longer}

@@ -17,8 +17,7 @@ use Rattle.list_laws.specs.Counts.{times, total}
 use Rattle.hash_core.specs.Lists.{IsPath}
 use Rattle.hash_core.specs.Memory.{Memory}
 use Rattle.hash_core.specs.Slots.{is_slot_of, IsOfClass}
-use Rattle.prcu_marks.specs.Marks.{gone_at, IsGone}
-use Rattle.hash_core.specs.Marks.{last_unlinked}
+use Rattle.prcu_marks.specs.Marks.{gone_at, IsGone, last_unlinked}
 use Rattle.hash_core.specs.Known.{known_in}
 
 -- A class: its chain, its free list, its retired list, the list that its holder has in hand, and what the holder knows.

@@ -5,17 +5,8 @@ use mathlib.Core.Option.{some}
 use lib.ListN.{get_elem?}
 use Rattle.prcu_marks.specs.declared.mark.Mark.{Mark}
 use Rattle.prcu_marks.specs.declared.mark.Mark.TheVariants.{Entered, Left, Began, Ended, Given, Unlinked, Freed}
-use Rattle.prcu_marks.specs.Marks.{Open, open_at, entered_at}
+use Rattle.prcu_marks.specs.Marks.{Open, open_at, entered_at, last_unlinked}
 use Rattle.hash_core.specs.Slots.{is_slot_of}
-
--- where a slot was unlinked last, whatever came after
-abbrev pub unlinked_from : ℕ → ℕ → Option ℕ → List Mark → Option ℕ
-unlinked_from s i last [] = last
-unlinked_from s i last (Unlinked t ∷ ms) = unlinked_from s (i + 1) (if t == s then Some i else last) ms
-unlinked_from s i last (_ ∷ ms) = unlinked_from s (i + 1) last ms
-
-abbrev pub last_unlinked : ℕ → List Mark → Option ℕ
-last_unlinked s h = unlinked_from s 0 None h
 
 -- the steps here leave no mark of a wait, and free no slot
 abbrev pub IsLeftHere : Mark → Type 0

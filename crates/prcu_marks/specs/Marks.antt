@@ -48,6 +48,15 @@ gone_at s h = gone_from s 0 None h
 abbrev pub IsGone : List Mark → ℕ → Type 0
 IsGone h s = (p : ℕ) × (gone_at s h ≡ Some p)
 
+-- where a slot was unlinked last, whatever came after
+abbrev pub unlinked_from : ℕ → ℕ → Option ℕ → List Mark → Option ℕ
+unlinked_from s i last [] = last
+unlinked_from s i last (Unlinked t ∷ ms) = unlinked_from s (i + 1) (if t == s then Some i else last) ms
+unlinked_from s i last (_ ∷ ms) = unlinked_from s (i + 1) last ms
+
+abbrev pub last_unlinked : ℕ → List Mark → Option ℕ
+last_unlinked s h = unlinked_from s 0 None h
+
 -- the mark was left by a step at the place
 abbrev pub is_of : ℕ → Mark → Bool
 is_of p (Entered q c x) = q == p

@@ -5,7 +5,7 @@ use mathlib.Core.Option.{some}
 use lib.ListN.{get_elem?}
 use Rattle.prcu_marks.specs.declared.mark.Mark.{Mark}
 use Rattle.prcu_marks.specs.declared.mark.Mark.TheVariants.{Entered, Began, Given, Freed}
-use Rattle.prcu_marks.specs.Marks.{open_at, gone_at}
+use Rattle.prcu_marks.specs.Marks.{open_at, gone_at, last_unlinked}
 use Rattle.prcu_marks.specs.Bounds.{greatest_key}
 use Rattle.core_state.specs.declared.view.Move.{Move}
 use Rattle.core_state.specs.declared.view.Retired.{Retired}
@@ -13,10 +13,11 @@ use Rattle.core_state.specs.declared.view.Section.{Section}
 use Rattle.core_state.specs.declared.view.Spent.{Spent}
 use Rattle.core_state.specs.declared.view.View.{View}
 use Rattle.list_laws.specs.Counts.{Each}
-use Rattle.core_state.specs.Marks.{last_unlinked, Grace, IsReused, Reuse, HasWaited}
+use Rattle.core_state.specs.Marks.{Grace, IsReused, Reuse, HasWaited}
 use Rattle.core_state.specs.parts.GraceParts.{IsClear, IsWaitedRetired, IsWaitedMove, GraceParts}
 use Rattle.list_laws.proofs.Lists.{at_below, at_end, each_set, each_change}
-use Rattle.core_frames.proofs.marks.MarkFacts.{IsOutside, TurnsNoWait, QuietMarks, last_unlinked-below, take-more}
+use Rattle.prcu_marks.proofs.LastUnlinked.{last_unlinked-below}
+use Rattle.core_frames.proofs.marks.MarkFacts.{IsOutside, TurnsNoWait, QuietMarks, take-more}
 use Rattle.core_frames.proofs.views.Same.{was}
 use mathlib.Core.List.{IsPrefix}
 use Rattle.core_frames.proofs.marks.MoreMarks.{QuietWaits, back_at, longer_at, prefix_snoc, waits_snoc}

@@ -3,12 +3,12 @@ use Rattle.std.proofs.Common.{List, None, Some, [], ap, arith, false, length, re
 use mathlib.Core.Option.{some}
 use lib.ListN.{get_elem?}
 use Rattle.prcu_marks.specs.declared.mark.Mark.{Mark}
-use Rattle.prcu_marks.specs.Marks.{gone_at}
+use Rattle.prcu_marks.specs.Marks.{gone_at, last_unlinked}
 use Rattle.prcu_marks.specs.Bounds.{greatest_key}
 use Rattle.core_state.specs.declared.view.Retired.{Retired}
 use Rattle.core_state.specs.declared.view.View.{View}
 use Rattle.list_laws.specs.Counts.{Each}
-use Rattle.core_state.specs.Marks.{AreMarks, Grace, HasWaited, Reuse, last_unlinked}
+use Rattle.core_state.specs.Marks.{AreMarks, Grace, HasWaited, Reuse}
 use Rattle.core_state.specs.parts.GraceParts.{GraceParts, IsClear, IsWaitedRetired}
 use Rattle.list_laws.proofs.Lists.{at_below, at_end}
 use Rattle.core_frames.proofs.views.Same.{SamePlaces, reader_words}

@@ -7,9 +7,10 @@ use Rattle.atomic_table.proofs.Lists.{at_longer}
 use Rattle.prcu_marks.specs.declared.mark.Mark.{Mark}
 use Rattle.prcu_marks.specs.declared.mark.Mark.TheVariants.{Entered, Left, Began, Ended, Done, Given, Unlinked, Freed}
 use Rattle.prcu_model.specs.declared.operation.Update.{Update}
-use Rattle.prcu_marks.specs.Marks.{updates_of, next_gone, gone_at, is_of, own_of, entered_at}
+use Rattle.prcu_marks.specs.Marks.{updates_of, next_gone, gone_at, is_of, own_of, entered_at, last_unlinked}
 use Rattle.prcu_marks.proofs.MarkLists.{updates_of-append, gone_at-snoc, own_of-append}
-use Rattle.core_state.specs.Marks.{begun, begun_at, unlinked_from, last_unlinked}
+use Rattle.prcu_marks.proofs.LastUnlinked.{UnlinksNone, last_unlinked-same}
+use Rattle.core_state.specs.Marks.{begun, begun_at}
 use Rattle.list_laws.proofs.Lists.{at_end}
 
 -- a mark of a section or a wait
@@ -26,39 +27,15 @@ TurnsNoWait (Began p c low high) = ⊥
 TurnsNoWait (Ended p c) = ⊥
 TurnsNoWait _ = Unit {0}
 
-last_below : (s i : ℕ) (g : Option ℕ) (h : List Mark) (p : ℕ) → ((q : ℕ) → g ≡ Some q → q < i) → unlinked_from s i g h ≡ Some p → p < i + length h
-last_below s i g [] p old e = let l = old p e in omega arith
-last_below s i g (Entered q c x ∷ h) p old e = let l = last_below s (i + 1) g h p (λ q f. let z = old q f in omega arith) e in omega arith
-last_below s i g (Left q c ∷ h) p old e = let l = last_below s (i + 1) g h p (λ q f. let z = old q f in omega arith) e in omega arith
-last_below s i g (Began q c a b ∷ h) p old e = let l = last_below s (i + 1) g h p (λ q f. let z = old q f in omega arith) e in omega arith
-last_below s i g (Ended q c ∷ h) p old e = let l = last_below s (i + 1) g h p (λ q f. let z = old q f in omega arith) e in omega arith
-last_below s i g (Done u ∷ h) p old e = let l = last_below s (i + 1) g h p (λ q f. let z = old q f in omega arith) e in omega arith
-last_below s i g (Given t ∷ h) p old e = let l = last_below s (i + 1) g h p (λ q f. let z = old q f in omega arith) e in omega arith
-last_below s i g (Freed t ∷ h) p old e = let l = last_below s (i + 1) g h p (λ q f. let z = old q f in omega arith) e in omega arith
-last_below s i g (Unlinked t ∷ h) p old e =
-    let new : (q : ℕ) → cond (t == s) (Some i) g ≡ Some q → q < i + 1 = λ q. elim (t == s) as (λ b. cond b (Some i) g ≡ Some q → q < i + 1) [ true ↦ λ f. let z : i ≡ q = cc in omega arith | false ↦ λ f. let z = old q f in omega arith ] in
-    let l = last_below s (i + 1) (cond (t == s) (Some i) g) h p new e in omega arith
-
-pub last_unlinked-below : (s : ℕ) (h : List Mark) (p : ℕ) → last_unlinked s h ≡ Some p → p < length h
-last_unlinked-below s h p e = let l = last_below s 0 None h p (λ q f. absurd (cc)) e in omega arith
-
-last_same : (s i : ℕ) (g : Option ℕ) (h : List Mark) (m : Mark) → IsOutside m → unlinked_from s i g (h ++ m ∷ []) ≡ unlinked_from s i g h
-last_same s i g [] (Entered q c x) o = refl
-last_same s i g [] (Left q c) o = refl
-last_same s i g [] (Began q c a b) o = refl
-last_same s i g [] (Ended q c) o = refl
-last_same s i g [] (Done u) o = absurd o
-last_same s i g [] (Given t) o = absurd o
-last_same s i g [] (Unlinked t) o = absurd o
-last_same s i g [] (Freed t) o = absurd o
-last_same s i g (Entered q c x ∷ h) m o = last_same s (i + 1) g h m o
-last_same s i g (Left q c ∷ h) m o = last_same s (i + 1) g h m o
-last_same s i g (Began q c a b ∷ h) m o = last_same s (i + 1) g h m o
-last_same s i g (Ended q c ∷ h) m o = last_same s (i + 1) g h m o
-last_same s i g (Done u ∷ h) m o = last_same s (i + 1) g h m o
-last_same s i g (Given t ∷ h) m o = last_same s (i + 1) g h m o
-last_same s i g (Freed t ∷ h) m o = last_same s (i + 1) g h m o
-last_same s i g (Unlinked t ∷ h) m o = last_same s (i + 1) (cond (t == s) (Some i) g) h m o
+unlinks_none : (m : Mark) → IsOutside m → UnlinksNone m
+unlinks_none (Entered q c x) o = tt
+unlinks_none (Left q c) o = tt
+unlinks_none (Began q c a b) o = tt
+unlinks_none (Ended q c) o = tt
+unlinks_none (Done u) o = absurd o
+unlinks_none (Given t) o = absurd o
+unlinks_none (Unlinked t) o = absurd o
+unlinks_none (Freed t) o = absurd o
 
 gone_same : (s i : ℕ) (g : Option ℕ) (m : Mark) → IsOutside m → next_gone s i g m ≡ g
 gone_same s i g (Entered q c x) n = refl
@@ -105,7 +82,7 @@ pub quiet_snoc : (h : List Mark) (m : Mark) → IsOutside m → QuietMarks h (h 
 quiet_snoc h m o = record {
   updates = updates_of-append h (m ∷ []) ∙ ap (λ z. updates_of h ++ z) (updates_same m o) ∙ append-nil (updates_of h);
   gone = λ s. gone_at-snoc s h m ∙ gone_same s (length h) (gone_at s h) m o;
-  last = λ s. last_same s 0 None h m o;
+  last = λ s. last_unlinked-same h m (unlinks_none m o) s;
   longer = λ j a e. at_longer h (m ∷ []) j a e;
   done = λ j u e. ⊎_elim (λ (t : get_elem? h j ≡ some (Done u)). t) (λ t. absurd (not_done m u o t.1)) (at_end h m (Done u) j e);
 }

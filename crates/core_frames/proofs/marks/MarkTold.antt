@@ -6,7 +6,6 @@ use lib.ListN.{get_elem?}
 use Rattle.prcu_marks.specs.declared.mark.Mark.{Mark}
 use Rattle.prcu_marks.specs.declared.mark.Mark.TheVariants.{Entered, Left, Began, Ended, Done, Given, Unlinked, Freed}
 use Rattle.prcu_marks.specs.Marks.{Open, open_from, open_at, gone_from, gone_at}
-use Rattle.core_state.specs.Marks.{unlinked_from, last_unlinked}
 
 -- what stands in a list from a place on
 abbrev StandsFrom : ℕ → List Mark → ℕ → Mark → Type 0
@@ -41,32 +40,6 @@ gone_stands s i g (Unlinked t ∷ h) p e = ⊎_elim (λ (o : cond (t == s) (Some
 
 pub gone_mark : (s : ℕ) (h : List Mark) (p : ℕ) → gone_at s h ≡ Some p → get_elem? h p ≡ some (Unlinked s)
 gone_mark s h p e = ⊎_elim (λ (o : None ≡ Some p). absurd (cc)) (λ (w : StandsFrom 0 h p (Unlinked s)). (let q = w.1 in let same : p ≡ w.0 = omega arith in ap (get_elem? h) same ∙ w.2)) (gone_stands s 0 None h p e)
-
-gone_last : (s i : ℕ) (g l : Option ℕ) (h : List Mark) (p : ℕ) → (g ≡ Some p → l ≡ Some p) → gone_from s i g h ≡ Some p → unlinked_from s i l h ≡ Some p
-gone_last s i g l [] p f e = f e
-gone_last s i g l (Entered q c x ∷ h) p f e = gone_last s (i + 1) g l h p f e
-gone_last s i g l (Left q c ∷ h) p f e = gone_last s (i + 1) g l h p f e
-gone_last s i g l (Began q c a b ∷ h) p f e = gone_last s (i + 1) g l h p f e
-gone_last s i g l (Ended q c ∷ h) p f e = gone_last s (i + 1) g l h p f e
-gone_last s i g l (Done u ∷ h) p f e = gone_last s (i + 1) g l h p f e
-gone_last s i g l (Given t ∷ h) p f e = gone_last s (i + 1) (cond (t == s) None g) l h p (λ o. f (kept (t == s) o)) e
-  where
-    kept : (b : Bool) → cond b None g ≡ Some p → g ≡ Some p
-    kept true o = absurd (cc)
-    kept false o = o
-gone_last s i g l (Freed t ∷ h) p f e = gone_last s (i + 1) (cond (t == s) None g) l h p (λ o. f (kept (t == s) o)) e
-  where
-    kept : (b : Bool) → cond b None g ≡ Some p → g ≡ Some p
-    kept true o = absurd (cc)
-    kept false o = o
-gone_last s i g l (Unlinked t ∷ h) p f e = gone_last s (i + 1) (cond (t == s) (Some i) g) (cond (t == s) (Some i) l) h p (both (t == s)) e
-  where
-    both : (b : Bool) → cond b (Some i) g ≡ Some p → cond b (Some i) l ≡ Some p
-    both true o = o
-    both false o = f o
-
-pub last_gone : (s : ℕ) (h : List Mark) (p : ℕ) → gone_at s h ≡ Some p → last_unlinked s h ≡ Some p
-last_gone s h p e = gone_last s 0 None None h p (λ o. absurd (cc)) e
 
 -- where a section is open, it was entered there
 open_stands : (p i : ℕ) (a : Option Open) (h : List Mark) (o : Open) → open_from p i a h ≡ Some o → (a ≡ Some o) ⊎ StandsFrom i h o.at (Entered p o.count o.key)

@@ -6,10 +6,10 @@ use lib.ListN.{get_elem?}
 use Rattle.atomic_table.proofs.Lists.{at_longer}
 use Rattle.prcu_marks.specs.declared.mark.Mark.{Mark}
 use Rattle.prcu_marks.specs.declared.mark.Mark.TheVariants.{Entered, Left, Began, Ended, Done, Given, Unlinked, Freed}
-use Rattle.prcu_marks.specs.Marks.{gone_at, open_at, own_of, entered_at}
+use Rattle.prcu_marks.specs.Marks.{gone_at, open_at, own_of, entered_at, last_unlinked}
 use Rattle.prcu_model.proofs.ListFacts.{prefix_self, prefix_more, prefix_trans}
 use Rattle.prcu_marks.proofs.MarkLists.{open_at-snoc, own_of-append, entered_at-append}
-use Rattle.core_state.specs.Marks.{last_unlinked, begun, begun_at, AreMarks}
+use Rattle.core_state.specs.Marks.{begun, begun_at, AreMarks}
 use Rattle.list_laws.proofs.Lists.{at_end, at_below}
 use Rattle.core_frames.proofs.marks.MarkFacts.{begun-append, begun_at-append, take-more}
 use Rattle.prcu_model.specs.declared.operation.Op.TheVariants.{Del}

@@ -8,43 +8,20 @@ use Rattle.prcu_marks.specs.declared.mark.Mark.TheVariants.{Entered, Left, Began
 use Rattle.prcu_model.specs.declared.operation.Op.{Op}
 use Rattle.prcu_model.specs.declared.operation.Op.TheVariants.{Get, Del}
 use Rattle.prcu_model.specs.declared.operation.Update.{Update}
-use Rattle.prcu_marks.specs.Marks.{updates_of, gone_at}
+use Rattle.prcu_marks.specs.Marks.{updates_of, gone_at, last_unlinked}
 use Rattle.prcu_marks.proofs.MarkLists.{updates_of-append, gone_at-snoc}
-use Rattle.core_state.specs.Marks.{unlinked_from, last_unlinked, AreMarks, Reuse}
+use Rattle.core_state.specs.Marks.{AreMarks, Reuse}
+use Rattle.prcu_marks.proofs.LastUnlinked.{last_unlinked-same, last_unlinked-other}
 use Rattle.list_laws.proofs.Lists.{at_end}
 use Rattle.core_frames.proofs.marks.PlainMarks.{PlainMarks, plain_one, plain_trans, marks_plain, IsUnlinkedNow}
 use Rattle.core_frames.proofs.frames.GraceFrame.{reuse_more}
 
-abbrev next_last : ℕ → ℕ → Option ℕ → Mark → Option ℕ
-next_last s i last (Unlinked t) = cond (t == s) (Some i) last
-next_last s i last _ = last
-
-last_snoc : (s i : ℕ) (g : Option ℕ) (h : List Mark) (m : Mark) → unlinked_from s i g (h ++ m ∷ []) ≡ next_last s (i + length h) (unlinked_from s i g h) m
-last_snoc s i g [] (Entered q c x) = refl
-last_snoc s i g [] (Left q c) = refl
-last_snoc s i g [] (Began q c a b) = refl
-last_snoc s i g [] (Ended q c) = refl
-last_snoc s i g [] (Done u) = refl
-last_snoc s i g [] (Given t) = refl
-last_snoc s i g [] (Freed t) = refl
-last_snoc s i g [] (Unlinked t) = let e : i ≡ i + 0 = omega arith in ap (λ k. cond (t == s) (Some k) g) e
-last_snoc s i g (Entered q c x ∷ h) m = let e : i + 1 + length h ≡ i + suc (length h) = omega arith in last_snoc s (i + 1) g h m ∙ ap (λ k. next_last s k (unlinked_from s (i + 1) g h) m) e
-last_snoc s i g (Left q c ∷ h) m = let e : i + 1 + length h ≡ i + suc (length h) = omega arith in last_snoc s (i + 1) g h m ∙ ap (λ k. next_last s k (unlinked_from s (i + 1) g h) m) e
-last_snoc s i g (Began q c a b ∷ h) m = let e : i + 1 + length h ≡ i + suc (length h) = omega arith in last_snoc s (i + 1) g h m ∙ ap (λ k. next_last s k (unlinked_from s (i + 1) g h) m) e
-last_snoc s i g (Ended q c ∷ h) m = let e : i + 1 + length h ≡ i + suc (length h) = omega arith in last_snoc s (i + 1) g h m ∙ ap (λ k. next_last s k (unlinked_from s (i + 1) g h) m) e
-last_snoc s i g (Done u ∷ h) m = let e : i + 1 + length h ≡ i + suc (length h) = omega arith in last_snoc s (i + 1) g h m ∙ ap (λ k. next_last s k (unlinked_from s (i + 1) g h) m) e
-last_snoc s i g (Given t ∷ h) m = let e : i + 1 + length h ≡ i + suc (length h) = omega arith in last_snoc s (i + 1) g h m ∙ ap (λ k. next_last s k (unlinked_from s (i + 1) g h) m) e
-last_snoc s i g (Freed t ∷ h) m = let e : i + 1 + length h ≡ i + suc (length h) = omega arith in last_snoc s (i + 1) g h m ∙ ap (λ k. next_last s k (unlinked_from s (i + 1) g h) m) e
-last_snoc s i g (Unlinked t ∷ h) m =
-    let e : i + 1 + length h ≡ i + suc (length h) = omega arith in
-    last_snoc s (i + 1) (cond (t == s) (Some i) g) h m ∙ ap (λ k. next_last s k (unlinked_from s (i + 1) (cond (t == s) (Some i) g) h) m) e
-
 -- where a slot was unlinked last, after one more mark
 pub last_other : (s t : ℕ) (h : List Mark) → t ≢ s → last_unlinked s (h ++ Unlinked t ∷ []) ≡ last_unlinked s h
-last_other s t h ne = last_snoc s 0 None h (Unlinked t) ∙ ap (λ b. cond b (Some (0 + length h)) (last_unlinked s h)) (ne_eqb t s ne)
+last_other s t h ne = last_unlinked-other h s t ne
 
 pub last_done : (h : List Mark) (u : Update) (s : ℕ) → last_unlinked s (h ++ Done u ∷ []) ≡ last_unlinked s h
-last_done h u s = last_snoc s 0 None h (Done u)
+last_done h u s = last_unlinked-same h (Done u) tt s
 
 pub gone_done : (h : List Mark) (u : Update) (s : ℕ) → gone_at s (h ++ Done u ∷ []) ≡ gone_at s h
 gone_done h u s = gone_at-snoc s h (Done u)
@@ -59,7 +36,7 @@ pub reuse_unlinked : (h : List Mark) (d : ℕ) → Reuse h → Reuse (h ++ Unlin
 reuse_unlinked h d reuse = reuse_more h (Unlinked d) (λ s r. ⊎_elim (λ (e : Unlinked d ≡ Given s). absurd (cc)) (λ (e : Unlinked d ≡ Freed s). absurd (cc)) r) reuse
 
 pub last_given : (s t : ℕ) (h : List Mark) → last_unlinked s (h ++ Given t ∷ []) ≡ last_unlinked s h
-last_given s t h = last_snoc s 0 None h (Given t)
+last_given s t h = last_unlinked-same h (Given t) tt s
 
 pub gone_other : (s t : ℕ) (h : List Mark) → t ≢ s → gone_at s (h ++ Unlinked t ∷ []) ≡ gone_at s h
 gone_other s t h ne = gone_at-snoc s h (Unlinked t) ∙ ap (λ b. cond b (Some (length h)) (gone_at s h)) (ne_eqb t s ne)

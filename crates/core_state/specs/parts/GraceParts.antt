@@ -4,7 +4,7 @@ use Rattle.std.specs.Prelude.{◌≡◌, ℕ, ◌+◌, ◌<◌, ◌≤◌, true,
 use mathlib.Core.Option.{some}
 use lib.ListN.{get_elem?}
 use Rattle.prcu_marks.specs.declared.mark.Mark.{Mark}
-use Rattle.prcu_marks.specs.Marks.{gone_at}
+use Rattle.prcu_marks.specs.Marks.{gone_at, last_unlinked}
 use Rattle.prcu_marks.specs.Bounds.{greatest_key}
 use Rattle.core_state.specs.declared.view.Move.{Move}
 use Rattle.core_state.specs.declared.view.Retired.{Retired}
@@ -12,7 +12,7 @@ use Rattle.core_state.specs.declared.view.Section.{Section}
 use Rattle.core_state.specs.declared.view.Spent.{Spent}
 use Rattle.core_state.specs.declared.view.View.{View}
 use Rattle.list_laws.specs.Counts.{Each}
-use Rattle.core_state.specs.Marks.{last_unlinked, Grace, Reuse, HasWaited}
+use Rattle.core_state.specs.Marks.{Grace, Reuse, HasWaited}
 
 -- no section is open that was entered before this mark with a key in the interval
 abbrev pub IsClear : List View → ℕ → ℕ → ℕ → Type 0

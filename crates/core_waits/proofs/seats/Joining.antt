@@ -1,6 +1,5 @@
 -- K2: two seats are joined.
 use Rattle.std.proofs.Common.{◌≡◌, ◌≢◌, ℕ, zero, suc, ◌+◌, ◌-◌, ◌<◌, ◌≤◌, ◌⊎◌, cond, List, [], ◌∷◌, ◌++◌, length, map, set, Option, Some, None, refl, sym, ap, subst, ◌∙◌, ⊎_elim, inl, inr, arith, append-nil, append_assoc, length-append}
-use Rattle.std.proofs.lemmas.Bool.{lt-ltb, le-ltb}
 use Rattle.std.proofs.lemmas.List.{nil_from_length}
 use mathlib.Core.Logic.{dite}
 use mathlib.Core.Option.{some, some-injective, some-ne-none}
@@ -9,8 +8,8 @@ use native.Mathlib.Decide.{dec_le, ℕ_discrete}
 use lib.ListN.{get_elem?}
 use Rattle.atomic_table.proofs.Lists.{at_set, set_here, set_else}
 use Rattle.prcu_marks.specs.declared.mark.Mark.{Mark}
-use Rattle.prcu_model.proofs.ListFacts.{prefix_self, prefix_of_longer}
 use Rattle.prcu_marks.proofs.MarkLists.{own_of-between}
+use Rattle.prcu_marks.proofs.Seen.{longer_begins, longer_first, longer_second, longer_whole_first, longer_whole_second}
 use Rattle.core_state.specs.declared.shape.Shape.{Shape}
 use Rattle.core_state.specs.declared.view.Held.{Held}
 use Rattle.core_state.specs.declared.view.Retired.{Retired}
@@ -20,7 +19,6 @@ use Rattle.list_laws.specs.Counts.{times, numbers_from, total, IsIn, Each}
 use Rattle.core_state.specs.memory.Lists.{flag, has}
 use Rattle.core_state.specs.memory.Memory.{Memory}
 use Rattle.core_state.specs.views.Views.{Works, places_of, held_list, slot_list, joined_spares, spares_of, joined_retired, retired_of, slots_of, unraised_hand, unraised_among, unraised_of, emptied_among}
-use Rattle.prcu_marks.specs.Marks.{longer}
 use Rattle.core_state.specs.steps.Seating.{NeedsJoin, spare_slot, unused_spent, spent_places, both_of, spent_view}
 use Rattle.core_state.specs.parts.SeatParts.{IsOwned, IsCounted}
 use Rattle.core_state.specs.parts.WaiterParts.{inside_count}
@@ -110,17 +108,6 @@ each_spent P u own unused joined (suc n) a e = each_append P (map unused_spent (
 no_spare : (o : Option Held) → spare_slot o ≡ None → o ≡ None
 no_spare None none = refl
 no_spare (Some held) none = absurd (let q : Some held.slot ≡ None = none in cc)
-
--- the longer of two lists is one of them
-longer_case : (P : List Mark → Type 0) (a b : List Mark) → (length b ≤ length a → P a) → (length a < length b → P b) → P (longer a b)
-longer_case P a b first second =
-    dite (dec_le (suc (length a)) (length b))
-    (λ less. subst (λ z. P (cond z b a)) (sym (lt-ltb (length a) (length b) less)) (second less))
-    (λ not_less. subst (λ z. P (cond z b a)) (sym (le-ltb (length a) (length b) (omega arith))) (first (omega arith)))
-
--- a beginning as long as the whole is the whole
-prefix_whole : (a h : List Mark) → IsPrefix a h → length h ≤ length a → a ≡ h
-prefix_whole a h p long = sym (append-nil a) ∙ ap (λ z. a ++ z) (sym (nil_from_length p.0 (let e = ap length p.1 in let n = length-append a p.0 in omega arith))) ∙ p.1
 
 module _ (k : Shape) (m : Memory) (vs : List View) (h : List Mark) (i : HoldsNow k m vs h) (id : ℕ) (v : View) (there : get_elem? vs id ≡ some v) (j : ℕ) (other : View) (there_other : get_elem? vs j ≡ some other) (two : id ≢ j)
     (works : Works v) (works_other : Works other) (needs : NeedsJoin v other) where
@@ -273,30 +260,23 @@ module _ (k : Shape) (m : Memory) (vs : List View) (h : List Mark) (i : HoldsNow
   theirs_seen = i.marks.seen.begins j other there_other
 
   both_seen : IsPrefix both.seen h
-  both_seen = longer_case (λ z. IsPrefix z h) v.seen other.seen (λ _. mine_seen) (λ _. theirs_seen)
+  both_seen = longer_begins v.seen other.seen h mine_seen theirs_seen
 
   longer_mine : IsPrefix v.seen both.seen
-  longer_mine = longer_case (λ z. IsPrefix v.seen z) v.seen other.seen (λ _. prefix_self v.seen) (λ less. prefix_of_longer v.seen other.seen h mine_seen theirs_seen (omega arith))
+  longer_mine = longer_first v.seen other.seen h mine_seen theirs_seen
 
   longer_theirs : IsPrefix other.seen both.seen
-  longer_theirs = longer_case (λ z. IsPrefix other.seen z) v.seen other.seen (λ more. prefix_of_longer other.seen v.seen h theirs_seen mine_seen more) (λ _. prefix_self other.seen)
-
-  prefix_below : (a : List Mark) → IsPrefix a h → length a ≤ length h
-  prefix_below a p = let e = ap length p.1 in let n = length-append a p.0 in omega arith
+  longer_theirs = longer_second v.seen other.seen h mine_seen theirs_seen
 
   longest : (n : ℕ) × (u : View) × (get_elem? us n ≡ some u) × (u.seen ≡ h)
   longest =
       let l = i.marks.seen.longest in
-      let short_mine = prefix_below v.seen mine_seen in
-      let short_theirs = prefix_below other.seen theirs_seen in
       dite (ℕ_discrete l.0 id)
       (λ here. let whole : v.seen ≡ h = ap (λ (z : View). z.seen) (view_here l.0 l.1 here l.2) ∙ l.3 in
-      let long = ap length whole in
-      (id, both, both_there, longer_case (λ z. z ≡ h) v.seen other.seen (λ _. whole) (λ less. absurd (omega arith))))
+      (id, both, both_there, longer_whole_first v.seen other.seen h mine_seen theirs_seen whole))
       (λ not_id. dite (ℕ_discrete l.0 j)
       (λ here. let whole : other.seen ≡ h = ap (λ (z : View). z.seen) (other_here l.0 l.1 here l.2) ∙ l.3 in
-      let long = ap length whole in
-      (id, both, both_there, longer_case (λ z. z ≡ h) v.seen other.seen (λ more. prefix_whole v.seen h mine_seen (omega arith)) (λ _. whole)))
+      (id, both, both_there, longer_whole_second v.seen other.seen h mine_seen theirs_seen whole))
       (λ not_j. (l.0, l.1, else_there l.0 l.1 not_id not_j l.2, l.3)))
 
   owned_both : IsOwned h both

@@ -2,8 +2,7 @@
 use Rattle.std.proofs.Common.{◌≡◌, ◌≢◌, ℕ, ◌+◌, ◌<◌, ◌==◌, Bool, true, false, cond, List, [], ◌∷◌, ◌++◌, length, Option, Some, None, refl, ap, ◌∙◌, arith, ne_eqb}
 use Rattle.prcu_marks.specs.declared.mark.Mark.{Mark}
 use Rattle.prcu_marks.specs.declared.mark.Mark.TheVariants.{Entered, Left, Began, Ended, Done, Given, Unlinked, Freed}
-use Rattle.prcu_marks.specs.Marks.{gone_from, gone_at}
-use Rattle.hash_core.specs.Marks.{unlinked_from, last_unlinked}
+use Rattle.prcu_marks.specs.Marks.{gone_from, gone_at, unlinked_from, last_unlinked}
 
 -- a mark that unlinks no slot
 abbrev pub UnlinksNone : Mark → Type 0
@@ -28,7 +27,7 @@ pub last_unlinked-below : (s : ℕ) (h : List Mark) (p : ℕ) → last_unlinked 
 last_unlinked-below s h p e = let l = last_below s 0 None h p (λ q f. absurd (cc)) e in omega arith
 
 -- where it was before a mark, and is after it
-abbrev next_last : ℕ → ℕ → Option ℕ → Mark → Option ℕ
+abbrev pub next_last : ℕ → ℕ → Option ℕ → Mark → Option ℕ
 next_last s i last (Unlinked t) = cond (t == s) (Some i) last
 next_last s i last _ = last
 
@@ -54,7 +53,7 @@ last_later s i g (Freed t ∷ h) m n e = last_later s (i + 1) g h m n (omega ari
 last_later s i g (Unlinked t ∷ h) m n e = last_later s (i + 1) (cond (t == s) (Some i) g) h m n (omega arith)
 
 -- the last unlinking, after one more mark
-last_unlinked-snoc : (s : ℕ) (h : List Mark) (m : Mark) → last_unlinked s (h ++ m ∷ []) ≡ next_last s (length h) (last_unlinked s h) m
+pub last_unlinked-snoc : (s : ℕ) (h : List Mark) (m : Mark) → last_unlinked s (h ++ m ∷ []) ≡ next_last s (length h) (last_unlinked s h) m
 last_unlinked-snoc s h m = last_later s 0 None h m (length h) (omega arith)
 
 next_last-same : (s i : ℕ) (g : Option ℕ) (m : Mark) → UnlinksNone m → next_last s i g m ≡ g
