@@ -16,6 +16,7 @@ use Rattle.hash_core.specs.Slots.{is_slot_of}
 use Rattle.hash_core.specs.Steps.{stepped, NeedsUnlock, NeedsReplace, NeedsEven, after_lock, after_replace, after_even, after_unlock, fresh_hold}
 use Rattle.class_hash.specs.Stepped.{Locks, Unlocks, Loads, Turns, Evens, Replaces}
 use Rattle.class_hash.specs.Trails.{AddsNoLists}
+use Rattle.class_hash.specs.Calls.{HasFinished}
 use Rattle.class_hash.specs.Walks.{HasLoaded, KnowsMore}
 use Rattle.class_hash.specs.Updates.{HasStepped, HasLocked, HasTurned, MayReplace, Replaced}
 use Rattle.class_hash.proofs.Walking.{not_loaded, loaded_more, knows_more, known_here, comes_to_still}
@@ -34,6 +35,10 @@ locked v w x class idle a =
       trail = subst (λ (z : View). AddsNoLists v.trail z.trail) (sym whole) (adds_step v.trail w.trail H6 (Lock class) 0 refl idle.trail);
       view = whole ∙ sym (ap (λ (z : View). record v { hold = Some (fresh_hold class); trail = z.trail }) whole);
     }
+
+-- who has just locked a bucket has begun nothing there, and may give it up
+pub locked_finished : (v w : View) (class : ℕ) → Locks v class 0 w → v.commit ≡ None → HasFinished w
+locked_finished v w class l even = (fresh_hold class, (ap (λ (z : View). z.hold) l, refl, refl, refl, ap (λ (z : View). z.commit) l ∙ even))
 
 -- a lock that was held
 pub not_locked : (v w x : View) (class found : ℕ) → found ≢ 0 → HasStepped v w → Locks w class found x → HasStepped v x

@@ -29,7 +29,7 @@ pub enum Poll {
 }
 
 /// Tries once to lock the bucket of a class: `Held` comes exactly where its lock was free, `Busy` exactly where it was
-/// held.
+/// held. Nothing is begun under a lock that was just taken.
 pub fn try_bucket(table: &HashTable, seat: &mut HashSeat, class: u32) -> Lock
     requires table { seat.old.table ≡ table.now.id }
     requires quiet { IsQuiet seat.old.view }
@@ -37,6 +37,7 @@ pub fn try_bucket(table: &HashTable, seat: &mut HashSeat, class: u32) -> Lock
     ensures table { seat.new.table ≡ seat.old.table }
     ensures view { Tries table.now.places seat.old.view class result seat.new.view }
     ensures commit { seat.old.view.commit ≡ None }
+    ensures held { result ≡ Lock.Held → HasFinished seat.new.view }
 {
     match h6(table, seat, class) {
         0 => Lock::Held,

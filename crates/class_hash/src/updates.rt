@@ -3,6 +3,7 @@ ghost use Rattle.std.specs.Prelude.{◌≡◌, ◌+◌, ◌<◌, Some, None};
 ghost use Rattle.hash_core.specs.declared.view.Hold.{Hold};
 ghost use Rattle.hash_core.specs.Steps.{IsQuiet};
 ghost use Rattle.class_hash.specs.Answers.{IsInformed};
+ghost use Rattle.class_hash.specs.Calls.{HasFinished};
 ghost use Rattle.class_hash.specs.Updates.{HasLocked, HasTurned, MayReplace, Replaced, link_after, MayUnlink, Removed};
 
 use crate::bucket::{Lock, try_bucket};
@@ -21,6 +22,7 @@ pub(crate) fn lock_bucket<R: Wait>(rt: &R, table: &HashTable, seat: &mut HashSea
     ensures table { seat.new.table ≡ seat.old.table }
     ensures view { HasLocked seat.old.view class seat.new.view }
     ensures commit { seat.old.view.commit ≡ None }
+    ensures finished { HasFinished seat.new.view }
 {
     let backoff = Backoff::new();
     for _ in rt.forever() {
