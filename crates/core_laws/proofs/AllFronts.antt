@@ -67,12 +67,13 @@ one_update (step37 a) = omega arith
 -- with one update more, or none
 more_fronts : (us more : List Update) (slots : ℕ) → length more ≤ 1 → StaysWithin us slots → finite.len (map_of (us ++ more)) ≤ slots → StaysWithin (us ++ more) slots
 more_fronts us more slots few within now front made = elim (nat_le front (length us)) as (λ b. nat_le front (length us) ≡ b → finite.len (map_at (us ++ more) front) ≤ slots) [
-    true ↦ λ e. before (leb-true front (length us) e)
-    | false ↦ λ e. after (let lt = leb-false front (length us) e in omega arith)
-    ] refl
+  | true ↦ λ e. before (leb-true front (length us) e)
+  | false ↦ λ e. after (let lt = leb-false front (length us) e in omega arith)
+] refl
   where
     before : front ≤ length us → finite.len (map_at (us ++ more) front) ≤ slots
     before le = subst (λ ts. finite.len (map_of ts) ≤ slots) (sym (take-append-le front us more le)) (within front le)
+
     after : length us + 1 ≤ front → finite.len (map_at (us ++ more) front) ≤ slots
     after ge = subst (λ ts. finite.len (map_of ts) ≤ slots) (sym (take_all front (us ++ more) (let e = length-append us more in omega arith))) now
 
