@@ -236,7 +236,7 @@ module _ (k : Shape) (m : Memory) (table : IsShape k) (fresh : IsFresh k m) wher
         below = λ s c b l e ne. absurd (ne (sym e ∙ fresh.links s b));
         hangs = λ c l ne. absurd (ne (only_root c l));
         keyed = λ s l ne o. absurd (ne (only_root s l));
-        aged = λ s l o. absurd (cc);
+        displaced = λ s l o. absurd (cc);
         within = λ s l. (let e = only_root s l in omega arith);
       };
       map = record {

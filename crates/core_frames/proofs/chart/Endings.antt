@@ -48,7 +48,7 @@ pub ended_is : (m : Memory) (n : ℕ) (g : Chart) (map : ℕ → Option ℕ) (x 
 ended_is m n g map x e h p bound i z None q = answer-none m x e (λ ne k. not_there m n g map x e h p i q ne k (bool_cases (g.old e)))
   where
     not_there : (m : Memory) (n : ℕ) (g : Chart) (map : ℕ → Option ℕ) (x e : ℕ) → IsShaped m n g → HoldsMap m g map → IsInRange g x e → map x ≡ None → e ≢ 0 → m (Key e) ≡ x → (g.old e ≡ true) ⊎ (g.old e ≡ false) → ⊥
-    not_there m n g map x e h p i q ne k (inl o) = omega (arith, h.aged e i.linked o, i.low)
+    not_there m n g map x e h p i q ne k (inl o) = omega (arith, h.displaced e i.linked o, i.low)
     not_there m n g map x e h p i q ne k (inr o) = let s = p.sound e i.linked ne o in cc (ap map k)
 ended_is m n g map x e h p bound i z (Some v) q =
     let s = p.complete x v q in

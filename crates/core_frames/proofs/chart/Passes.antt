@@ -13,14 +13,14 @@ use Rattle.core_state.specs.memory.Memory.{Memory}
 module _ (m : Memory) (n : ℕ) (g : Chart) (x u : ℕ) (h : IsShaped m n g) (l : g.linked u ≡ true) (o : g.old u ≡ true) (le : x ≤ m (Key u)) where
   -- not who is in range
   pub range_past : (k s : ℕ) → IsInRange g x s → Hops m x k s u → ⊥
-  range_past zero s i w = omega (arith, (h.aged u l o).low, i.low, ap g.low w)
+  range_past zero s i w = omega (arith, (h.displaced u l o).low, i.low, ap g.low w)
   range_past (suc k) s i w = range_past k (next m x s) (range_hop m n g x s (next m x s) h i refl w.0).0 w.1
 
   -- nor who will pass another
   spine_past : (v : ℕ) → g.linked v ≡ true → g.old v ≡ true → x ≤ m (Key v) → (s : ℕ) → Spine m g x v s → (k : ℕ) → Hops m x k s u → v ≡ u
   spine_past v lv ov lev s (bottom e y) zero w = sym e ∙ w
   spine_past v lv ov lev s (bottom e y) (suc k) w = absurd (w.0 (ap (next m x) e ∙ old_end m n g x v h lv ov lev))
-  spine_past v lv ov lev s (more ls lt e nz sp) zero w = absurd (nz (sym e ∙ ap (λ y. m (Link y Left)) w ∙ (h.aged u l o).left))
+  spine_past v lv ov lev s (more ls lt e nz sp) zero w = absurd (nz (sym e ∙ ap (λ y. m (Link y Left)) w ∙ (h.displaced u l o).left))
   spine_past v lv ov lev s (more {c = c} ls lt e nz sp) (suc k) w =
       spine_past v lv ov lev c sp k (subst (λ y. Hops m x k y u) (next-left m x s (not_root m n g s c h e nz) lt ∙ e) w.1)
 

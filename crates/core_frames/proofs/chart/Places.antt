@@ -24,7 +24,7 @@ not_root m n g s c h e ne z = ne (sym e ∙ ap (λ y. m (Link y Left)) z ∙ h.r
 
 -- a search for no more than its key ends at an old successor
 pub old_end : (m : Memory) (n : ℕ) (g : Chart) (x u : ℕ) → IsShaped m n g → g.linked u ≡ true → g.old u ≡ true → x ≤ m (Key u) → next m x u ≡ 0
-old_end m n g x u h l o le = ⊎_elim (λ (e : x ≡ m (Key u)). next-here m x u nz (sym e)) (λ ne. next-left m x u nz (omega arith) ∙ (h.aged u l o).left) (cases_eq x (m (Key u)))
+old_end m n g x u h l o le = ⊎_elim (λ (e : x ≡ m (Key u)). next-here m x u nz (sym e)) (λ ne. next-left m x u nz (omega arith) ∙ (h.displaced u l o).left) (cases_eq x (m (Key u)))
   where
     nz : u ≢ 0
     nz z = let e = h.root_new in cc (ap g.old z)

@@ -153,9 +153,9 @@ ends_there m n g x s b h fits l root empty belongs =
     sym a ∙ e.1 ∙ one_end m n g x e.0 s h fits e.3 e.2 here.0 here.1
   where
     at_node : (s : ℕ) (b : Side) → g.linked s ≡ true → m (Link s b) ≡ 0 → Belongs m g x s b → s ≢ 0 → (g.old s ≡ true) ⊎ (g.old s ≡ false) → IsInRange g x s × (next m x s ≡ 0)
-    at_node s Left l empty w nz (inl o) = (record { linked = l; low = w.0; high = (let a = h.aged s l o in omega (arith, a.low, w.0, w.1)) }, next-left m x s nz w.1 ∙ empty)
+    at_node s Left l empty w nz (inl o) = (record { linked = l; low = w.0; high = (let a = h.displaced s l o in omega (arith, a.low, w.0, w.1)) }, next-left m x s nz w.1 ∙ empty)
     at_node s Left l empty w nz (inr o) = (record { linked = l; low = w.0; high = omega (arith, (h.keyed s l nz o).high, w.1) }, next-left m x s nz w.1 ∙ empty)
-    at_node s Right l empty w nz (inl o) = (record { linked = l; low = omega (arith, (h.aged s l o).low, after-node m s nz, w.0); high = w.1 }, next-right m x s nz (omega (arith, after-node m s nz, w.0)) ∙ empty)
+    at_node s Right l empty w nz (inl o) = (record { linked = l; low = omega (arith, (h.displaced s l o).low, after-node m s nz, w.0); high = w.1 }, next-right m x s nz (omega (arith, after-node m s nz, w.0)) ∙ empty)
     at_node s Right l empty w nz (inr o) = (record { linked = l; low = omega (arith, (h.keyed s l nz o).low, after-node m s nz, w.0); high = w.1 }, next-right m x s nz (omega (arith, after-node m s nz, w.0)) ∙ empty)
 
     at_side : (s : ℕ) (b : Side) → g.linked s ≡ true → (s ≡ 0 → b ≡ Right) → m (Link s b) ≡ 0 → Belongs m g x s b → IsInRange g x s × (next m x s ≡ 0)

@@ -53,8 +53,8 @@ side_in m n g x zero Right h l ne lo hi = record { linked = h.root; low = omega 
 side_in m n g x (suc s) b h l ne lo hi = node m n g x (suc s) b h l ne lo hi (omega arith) (bool_cases (g.old (suc s)))
   where
     node : (m : Memory) (n : ℕ) (g : Chart) (x s : ℕ) (b : Side) → IsShaped m n g → g.linked s ≡ true → m (Link s b) ≢ 0 → low_of m g s b ≤ x → x < high_of m g s b → s ≢ 0 → (g.old s ≡ true) ⊎ (g.old s ≡ false) → IsInRange g x s
-    node m n g x s Left h l ne lo hi nz (inl o) = absurd (ne (h.aged s l o).left)
-    node m n g x s Right h l ne lo hi nz (inl o) = record { linked = l; low = omega (arith, h.aged s l o, after-node m s nz); high = hi }
+    node m n g x s Left h l ne lo hi nz (inl o) = absurd (ne (h.displaced s l o).left)
+    node m n g x s Right h l ne lo hi nz (inl o) = record { linked = l; low = omega (arith, h.displaced s l o, after-node m s nz); high = hi }
     node m n g x s Left h l ne lo hi nz (inr o) = record { linked = l; low = lo; high = omega (arith, h.keyed s l nz o) }
     node m n g x s Right h l ne lo hi nz (inr o) = record { linked = l; low = omega (arith, h.keyed s l nz o, after-node m s nz); high = hi }
 

@@ -105,8 +105,8 @@ module _ (m : Memory) (n : ℕ) (g : Chart) (h : IsShaped m n g) where
   side_within (suc p) b l ne = node (suc p) b l ne (omega arith) (bool_cases (g.old (suc p)))
     where
       node : (s : ℕ) (b : Side) → g.linked s ≡ true → m (Link s b) ≢ 0 → s ≢ 0 → (g.old s ≡ true) ⊎ (g.old s ≡ false) → (g.low s ≤ low_of m g s b) × (high_of m g s b ≤ g.high s)
-      node s Left l ne nz (inl o) = absurd (ne (h.aged s l o).left)
-      node s Right l ne nz (inl o) = (omega (arith, (h.aged s l o).low, after-node m s nz), omega arith)
+      node s Left l ne nz (inl o) = absurd (ne (h.displaced s l o).left)
+      node s Right l ne nz (inl o) = (omega (arith, (h.displaced s l o).low, after-node m s nz), omega arith)
       node s Left l ne nz (inr o) = (omega arith, omega (arith, (h.keyed s l nz o).high))
       node s Right l ne nz (inr o) = (omega (arith, (h.keyed s l nz o).low, after-node m s nz), omega arith)
 
@@ -121,10 +121,10 @@ module _ (m : Memory) (n : ℕ) (g : Chart) (h : IsShaped m n g) where
       (omega (arith, w.low, v.0, r.0), omega (arith, w.high, v.1, r.1))
 
   key_below : (x key : ℕ) → g.linked x ≡ true → x ≢ 0 → g.high x ≤ key → m (Key x) < key
-  key_below x key l ne le = ⊎_elim (λ o. omega (arith, h.aged x l o)) (λ o. omega (arith, h.keyed x l ne o)) (bool_cases (g.old x))
+  key_below x key l ne le = ⊎_elim (λ o. omega (arith, h.displaced x l o)) (λ o. omega (arith, h.keyed x l ne o)) (bool_cases (g.old x))
 
   key_above : (x key : ℕ) → g.linked x ≡ true → x ≢ 0 → key + 1 ≤ g.low x → (key < m (Key x)) ⊎ ((g.old x ≡ true) × (m (Key x) ≡ key))
-  key_above x key l ne le = ⊎_elim (λ o. dite (ℕ_discrete (m (Key x)) key) (λ e. inr (o, e)) (λ other. inl (omega (arith, h.aged x l o)))) (λ o. inl (omega (arith, h.keyed x l ne o))) (bool_cases (g.old x))
+  key_above x key l ne le = ⊎_elim (λ o. dite (ℕ_discrete (m (Key x)) key) (λ e. inr (o, e)) (λ other. inl (omega (arith, h.displaced x l o)))) (λ o. inl (omega (arith, h.keyed x l ne o))) (bool_cases (g.old x))
 
   ordered : (fuel s : ℕ) → Enough fuel s → Ordered m g.old (tree_of m fuel s)
   unfolding Enough

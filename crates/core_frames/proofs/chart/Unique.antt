@@ -16,7 +16,7 @@ high_within m n g p Left h l ne = go m n g p h l ne (cases_eq p 0) (bool_cases (
   where
     go : (m : Memory) (n : ℕ) (g : Chart) (p : ℕ) → IsShaped m n g → g.linked p ≡ true → m (Link p Left) ≢ 0 → (p ≡ 0) ⊎ (p ≢ 0) → (g.old p ≡ true) ⊎ (g.old p ≡ false) → m (Key p) ≤ g.high p
     go m n g p h l ne (inl z) o = absurd (ne (ap (λ s. m (Link s Left)) z ∙ h.root_left))
-    go m n g p h l ne (inr z) (inl o) = absurd (ne (h.aged p l o).left)
+    go m n g p h l ne (inr z) (inl o) = absurd (ne (h.displaced p l o).left)
     go m n g p h l ne (inr z) (inr o) = omega (arith, h.keyed p l z o)
 
 pub high_bound : (m : Memory) (n : ℕ) (g : Chart) → IsShaped m n g → (fuel s : ℕ) → g.rank s < fuel → g.linked s ≡ true → g.high s ≤ 2 ^ 64

@@ -52,7 +52,7 @@ module _ (m m' : Memory) (nodes : SameNodes m m') where
         record { linked = i.linked; up = i.up; side = i.side; rank = i.rank; low = i.low ∙ sym (low_same g s b); high = i.high ∙ sym (high_same g s b) });
     hangs = λ c l ne. (let i = h.hangs c l ne in record { above = i.above; link = nodes.link (g.up c) (g.side c) ∙ i.link });
     keyed = λ s l ne o. (let i = h.keyed s l ne o in let e = nodes.key s in record { low = omega (arith, i.low); high = omega (arith, i.high) });
-    aged = λ s l o. (let i = h.aged s l o in let e = nodes.key s in record { low = omega (arith, i.low); high = i.high; left = nodes.link s Left ∙ i.left });
+    displaced = λ s l o. (let i = h.displaced s l o in let e = nodes.key s in record { low = omega (arith, i.low); high = i.high; left = nodes.link s Left ∙ i.left });
     within = h.within;
   }
 

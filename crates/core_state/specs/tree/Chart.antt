@@ -1,5 +1,6 @@
 -- What is known of each slot beside its words, and what holds of the linked ones: the shape of the tree, said of one slot and
--- its neighbours at a time.
+-- its neighbours at a time. The range of a slot, from `low` on and below `high`, is what the literature on search structures
+-- calls its inset (Shasha and Goodman; Krishna, Shasha and Wies): the keys for which a search from the root reaches the slot.
 -- Source: docs/TREE.md, "The chart of ranges".
 use Rattle.std.specs.Prelude.{◌≡◌, ◌≢◌, ℕ, ◌+◌, ◌<◌, ◌≤◌, ◌^◌, Bool, true, false, Option, Some}
 use Rattle.prcu_marks.specs.declared.mark.Side.{Side}
@@ -74,7 +75,7 @@ pub record IsShaped (m : Memory) (n : ℕ) (g : Chart) : Type 0 where
   pub below : (s c : ℕ) (b : Side) → g.linked s ≡ true → m (Link s b) ≡ c → c ≢ 0 → IsBelow m g s b c
   pub hangs : (c : ℕ) → g.linked c ≡ true → c ≢ 0 → Hangs m g c
   pub keyed : (s : ℕ) → g.linked s ≡ true → s ≢ 0 → g.old s ≡ false → IsKeyed m g s
-  pub aged : (s : ℕ) → g.linked s ≡ true → g.old s ≡ true → IsDisplaced m g s
+  pub displaced : (s : ℕ) → g.linked s ≡ true → g.old s ≡ true → IsDisplaced m g s
   pub within : (s : ℕ) → g.linked s ≡ true → s < n
 
 -- The linked slots but the root and the old successors hold just the pairs of the map.

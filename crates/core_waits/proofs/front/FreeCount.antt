@@ -49,18 +49,18 @@ module _ (k : Shape) (m : Memory) (vs : List View) (h : List Mark) (id : ℕ) (v
   reserves expected n false true e needs hit = loaded_quiet k m h Free n e (λ _. set vs id (record (with_free v 0) { seen = h })) (seen_law k m vs h id v i there works (record v.latest { free = Some 0 }) h (inl refl))
   reserves expected n false false e needs hit = loaded_quiet k m h Free n e (λ _. set vs id (with_free v n)) (seen_law k m vs h id v i there works (record v.latest { free = Some n }) v.seen (inr refl))
 
-found10 : KeepsFound K10
-found10 k m vs h id v field found left w marks i there works fits e (step10 {n = n} expected needs) =
-    no_mark k m (stored m Free (cond (n == expected) (expected - 1) n)) h (set vs id (after_reserve v expected n h)) (reserves k m vs h id v i there works expected n (n == expected) (n == 0) e needs refl)
-
-found16 : KeepsFound K16
-found16 k m vs h id v field found left w marks i there works fits e (step16 {n = n} needs) =
-    let m' : Memory = stored m Free (n + 1) in
-    let us : List View = set vs id (after_count_free v n) in
-    no_mark k m m' h us (kept k m m' h us h (slots_stay m m' refl) (law16 k m vs h id v i there works n e needs))
-
 pub keeps10 : Keeps K10
-keeps10 = keeps_found K10 found10
+keeps10 = keeps_found K10 kept_found
+  where
+    kept_found : KeepsFound K10
+    kept_found k m vs h id v field found left w marks i there works fits e (step10 {n = n} expected needs) =
+        no_mark k m (stored m Free (cond (n == expected) (expected - 1) n)) h (set vs id (after_reserve v expected n h)) (reserves k m vs h id v i there works expected n (n == expected) (n == 0) e needs refl)
 
 pub keeps16 : Keeps K16
-keeps16 = keeps_found K16 found16
+keeps16 = keeps_found K16 kept_found
+  where
+    kept_found : KeepsFound K16
+    kept_found k m vs h id v field found left w marks i there works fits e (step16 {n = n} needs) =
+        let m' : Memory = stored m Free (n + 1) in
+        let us : List View = set vs id (after_count_free v n) in
+        no_mark k m m' h us (kept k m m' h us h (slots_stay m m' refl) (law16 k m vs h id v i there works n e needs))

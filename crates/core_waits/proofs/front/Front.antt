@@ -127,18 +127,18 @@ module _ (k : Shape) (m : Memory) (vs : List View) (h : List Mark) (id : ℕ) (v
       kept k m m' h (set vs id (odd_view expected)) h (slots_stay m m' refl) (law19 expected needs (e ∙ eqb-true n expected hit))
   turns_odd expected n false e needs hit = loaded_quiet k m h Front n e (λ _. set vs id (with_front v n)) (seen_law k m vs h id v i there works (record v.latest { front = Some n }) v.seen (inr refl))
 
-found19 : KeepsFound K19
-found19 k m vs h id v field found left w marks i there works fits e (step19 {n = n} expected needs) =
-    no_mark k m (stored m Front (cond (n == expected) (expected + 1) n)) h (set vs id (after_open_commit v expected n)) (turns_odd k m vs h id v i there works expected n (n == expected) e needs refl)
-
-found24 : KeepsFound K24
-found24 k m vs h id v field found left w marks i there works fits e (step24 {n = n} {front = front} needs) =
-    let m' : Memory = stored m Front front in
-    let us : List View = set vs id (after_close_commit v front) in
-    no_mark k m m' h us (kept k m m' h us h (slots_stay m m' refl) (law24 k m vs h id v i there works front needs))
-
 pub keeps19 : Keeps K19
-keeps19 = keeps_found K19 found19
+keeps19 = keeps_found K19 kept_found
+  where
+    kept_found : KeepsFound K19
+    kept_found k m vs h id v field found left w marks i there works fits e (step19 {n = n} expected needs) =
+        no_mark k m (stored m Front (cond (n == expected) (expected + 1) n)) h (set vs id (after_open_commit v expected n)) (turns_odd k m vs h id v i there works expected n (n == expected) e needs refl)
 
 pub keeps24 : Keeps K24
-keeps24 = keeps_found K24 found24
+keeps24 = keeps_found K24 kept_found
+  where
+    kept_found : KeepsFound K24
+    kept_found k m vs h id v field found left w marks i there works fits e (step24 {n = n} {front = front} needs) =
+        let m' : Memory = stored m Front front in
+        let us : List View = set vs id (after_close_commit v front) in
+        no_mark k m m' h us (kept k m m' h us h (slots_stay m m' refl) (law24 k m vs h id v i there works front needs))

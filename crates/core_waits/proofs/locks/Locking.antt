@@ -188,16 +188,16 @@ module _ (k : Shape) (m : Memory) (vs : List View) (h : List Mark) (id : ℕ) (v
   takes slot n true small e needs free = record { invariant = law13 k m vs h id v i there works slot small needs (e ∙ eqb-true n 0 free); past = lock_past m slot (v.allowance.place + 1) h }
   takes slot n false small e needs free = loaded_quiet k m h (Lock slot) n e (λ _. set vs id v) (subst (λ us. HoldsNow k m us h) (sym (set_again vs id v there)) i)
 
-found13 : KeepsFound K13
-found13 k m vs h id v field found left w marks i there works fits e (step13 {n = n} {slot = slot} needs) =
-    no_mark k m (stored m (Lock slot) (cond (n == 0) (v.allowance.place + 1) n)) h (set vs id (after_lock v slot n)) (takes k m vs h id v i there works slot n (n == 0) (ltb-true slot (slot_count k) fits) e needs refl)
-
-found14 : KeepsFound K14
-found14 k m vs h id v field found left w marks i there works fits e (step14 {n = n} {slot = slot} lock needs) =
-    no_mark k m (stored m (Lock slot) 0) h (set vs id (after_unlock v slot)) (record { invariant = law14 k m vs h id v i there works slot (ltb-true slot (slot_count k) fits) lock needs; past = lock_past m slot 0 h })
-
 pub keeps13 : Keeps K13
-keeps13 = keeps_found K13 found13
+keeps13 = keeps_found K13 kept_found
+  where
+    kept_found : KeepsFound K13
+    kept_found k m vs h id v field found left w marks i there works fits e (step13 {n = n} {slot = slot} needs) =
+        no_mark k m (stored m (Lock slot) (cond (n == 0) (v.allowance.place + 1) n)) h (set vs id (after_lock v slot n)) (takes k m vs h id v i there works slot n (n == 0) (ltb-true slot (slot_count k) fits) e needs refl)
 
 pub keeps14 : Keeps K14
-keeps14 = keeps_found K14 found14
+keeps14 = keeps_found K14 kept_found
+  where
+    kept_found : KeepsFound K14
+    kept_found k m vs h id v field found left w marks i there works fits e (step14 {n = n} {slot = slot} lock needs) =
+        no_mark k m (stored m (Lock slot) 0) h (set vs id (after_unlock v slot)) (record { invariant = law14 k m vs h id v i there works slot (ltb-true slot (slot_count k) fits) lock needs; past = lock_past m slot 0 h })

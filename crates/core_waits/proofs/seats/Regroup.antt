@@ -117,8 +117,8 @@ idle_few u idle = record {
   outside = λ section is. absurd (idle_section u section is idle);
 }
 
-each_none : {A : Type 0} (P : A → Type 0) (xs : List A) → xs ≡ [] → Each xs P
-each_none P xs none = subst (λ l. Each l P) (sym none) (λ j a e. absurd (some-ne-none a (sym e)))
+each_empty : {A : Type 0} (P : A → Type 0) (xs : List A) → xs ≡ [] → Each xs P
+each_empty P xs none = subst (λ l. Each l P) (sym none) (λ j a e. absurd (some-ne-none a (sym e)))
 
 -- Two views come in place of an idle one. The first has what that one leaves, the second has done nothing; other views that do something
 -- stay.
@@ -193,7 +193,7 @@ module _ (vs us : List View) (id : ℕ) (v a b : View) (r : Regroups vs us id v 
     known = each_regroup (λ (u : View). (s : ℕ) (lock : HeldLock) → lock_of u.locks s ≡ Some lock → IsLockKnown m u s lock) (λ (u : View). (s : ℕ) (lock : HeldLock) → lock_of u.locks s ≡ Some lock → IsLockKnown m u s lock)
         (λ u i. i) (λ i s lock e. absurd (idle_lock a s lock e r.idle_a)) (λ s lock e. absurd (idle_lock b s lock e idle_b)) t.known;
     readings = each_regroup (λ (u : View). Each (readings_of u) (IsReadingKept m g)) (λ (u : View). Each (readings_of u) (IsReadingKept m g))
-        (λ u i. i) (λ i. subst (λ rs. Each rs (IsReadingKept m g)) (sym readings_a) i) (each_none (IsReadingKept m g) (readings_of b) readings_b) t.readings;
+        (λ u i. i) (λ i. subst (λ rs. Each rs (IsReadingKept m g)) (sym readings_a) i) (each_empty (IsReadingKept m g) (readings_of b) readings_b) t.readings;
   }
 
   moves_regroup : SameMoves vs us
@@ -213,13 +213,13 @@ module _ (vs us : List View) (id : ℕ) (v a b : View) (r : Regroups vs us id v 
 
     readers_regroup : ReaderParts m g vs h → ReaderParts m g us h
     readers_regroup t = record {
-      readings = each_regroup (λ (u : View). Each (readings_of u) IsReading) (λ (u : View). Each (readings_of u) IsReading) (λ u i. i) (λ i. subst (λ rs. Each rs IsReading) (sym readings_a) i) (each_none IsReading (readings_of b) readings_b) t.readings;
+      readings = each_regroup (λ (u : View). Each (readings_of u) IsReading) (λ (u : View). Each (readings_of u) IsReading) (λ u i. i) (λ i. subst (λ rs. Each rs IsReading) (sym readings_a) i) (each_empty IsReading (readings_of b) readings_b) t.readings;
       served = each_regroup (λ (u : View). (section : Section) → u.section ≡ Some section → IsServed m g h vs section) (λ (u : View). (section : Section) → u.section ≡ Some section → IsServed m g h us section)
           (λ u i section is. served_by m m (same_slots m).nodes g vs us h h (quiet_same h) see section (i section is)) (λ i section is. absurd (idle_section a section is r.idle_a)) (λ section is. absurd (idle_section b section is idle_b)) t.served;
       records = each_regroup (λ (u : View). Each u.records (IsRecord m g vs)) (λ (u : View). Each u.records (IsRecord m g us))
           (λ u i j x e. record_by m m (same_slots m).nodes g vs us h h (quiet_same h) see x (i j x e))
           (λ i. subst (λ (z : Remains). Each z.records (IsRecord m g us)) (sym r.rest) (λ j x e. record_by m m (same_slots m).nodes g vs us h h (quiet_same h) see x (i j x e)))
-          (each_none (IsRecord m g us) b.records (λ n. (r.bare n).left.records)) t.records;
+          (each_empty (IsRecord m g us) b.records (λ n. (r.bare n).left.records)) t.records;
       ages = λ s at c side gone met link ne. t.ages s at c side gone (met.0, met.1, met.2, inside_back met.0 met.1 met.2 met.3 met.4, met.4, met.5) link ne;
     }
 
@@ -265,9 +265,9 @@ module _ (vs us : List View) (id : ℕ) (v a b : View) (r : Regroups vs us id v 
       retired = each_regroup (λ (u : View). Each u.hands.retired (IsWaitedRetired vs h u.allowance.place)) (λ (u : View). Each u.hands.retired (IsWaitedRetired us h u.allowance.place))
           (λ u i j x e. retired_stays vs us h h u.allowance.place (stays u.allowance.place) x (i j x e))
           (λ i. subst (λ (z : Remains). Each z.retired (IsWaitedRetired us h z.place)) (sym r.rest) (λ j x e. retired_stays vs us h h v.allowance.place (stays v.allowance.place) x (i j x e)))
-          (each_none (IsWaitedRetired us h b.allowance.place) b.hands.retired (λ n. (r.bare n).left.retired)) t.retired;
+          (each_empty (IsWaitedRetired us h b.allowance.place) b.hands.retired (λ n. (r.bare n).left.retired)) t.retired;
       joined = each_regroup (λ (u : View). Each u.allowance.joined (λ (s : Spent). Each s.retired (IsWaitedRetired vs h s.place))) (λ (u : View). Each u.allowance.joined (λ (s : Spent). Each s.retired (IsWaitedRetired us h s.place)))
-          (λ u i. spent_regroup u.allowance.joined i) (λ i. spent_regroup a.allowance.joined joined) (each_none (λ (s : Spent). Each s.retired (IsWaitedRetired us h s.place)) b.allowance.joined (λ n. (r.bare n).joined)) t.joined;
+          (λ u i. spent_regroup u.allowance.joined i) (λ i. spent_regroup a.allowance.joined joined) (each_empty (λ (s : Spent). Each s.retired (IsWaitedRetired us h s.place)) b.allowance.joined (λ n. (r.bare n).joined)) t.joined;
       moves = each_regroup (λ (u : View). (move : Move) → u.moving ≡ Some move → IsWaitedMove vs h u.allowance.place move) (λ (u : View). (move : Move) → u.moving ≡ Some move → IsWaitedMove us h u.allowance.place move)
           (λ u i move is. move_stays vs us h h u.allowance.place (stays u.allowance.place) move (i move is)) (λ i move is. absurd (idle_move a move is r.idle_a)) (λ move is. absurd (idle_move b move is idle_b)) t.moves;
     }
@@ -332,7 +332,7 @@ module _ (vs us : List View) (id : ℕ) (v a b : View) (r : Regroups vs us id v 
     free = t.free;
     root = t.root;
     hands = each_regroup (AreHandsKnown m) (AreHandsKnown m) (λ u i. i) (λ i. hands_a) hands_b t.hands;
-    retired = each_regroup (λ (u : View). Each (retired_of u) (IsRetired m h)) (λ (u : View). Each (retired_of u) (IsRetired m h)) (λ u i. i) (λ i. retired_a) (each_none (IsRetired m h) (retired_of b) retired_b) t.retired;
+    retired = each_regroup (λ (u : View). Each (retired_of u) (IsRetired m h)) (λ (u : View). Each (retired_of u) (IsRetired m h)) (λ u i. i) (λ i. retired_a) (each_empty (IsRetired m h) (retired_of b) retired_b) t.retired;
     unlinked = λ s p gone. unlinked s (t.unlinked s p gone);
   }
 

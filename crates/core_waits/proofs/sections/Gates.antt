@@ -116,30 +116,30 @@ module _ (k : Shape) (m : Memory) (vs : List View) (h : List Mark) (id : ℕ) (v
         leave_law k m m30 vs h id v i there works section needs.section_is refl
         (no_other _ k Domain Eer refl way) (λ _. words30) (no_other _ k Domain Deer refl way)
 
-found28 : KeepsFound K28
-found28 k m vs h id v field found left w marks i there works fits e (step28 {n = n} {class = class} way needs) =
-    let us : ℕ → List View = λ z. set vs id (gated v class z v.section) in
-    no_mark k m (stored m (Gate class) n) h (us n) (loaded_quiet k m h (Gate class) n e us (law28 k m vs h id v i there works class (m (Gate class)) v.section))
-
-found29 : KeepsFound K29
-found29 k m vs h id v field found left w marks i there works fits e (step29 {n = n} {key = key} {side = side} gate way needs) =
-    let m' : Memory = stored m (Count (class_of key) side) (n + 1) in
-    let us : List View = set vs id (entering v key side (length h) h) in
-    let h' : List Mark = h ++ Entered v.allowance.place v.counts.sections key ∷ [] in
-    kept k m m' h us h' (slots_stay m m' refl) (subst (λ z. HoldsNow k (stored m (Count (class_of key) side) (z + 1)) us h') e (law29 k m vs h id v i there works key side gate way needs))
-
-found30 : KeepsFound K30
-found30 k m vs h id v field found left w marks i there works fits e (step30 {n = n} {class = class} {side = side} {section = section} way needs) =
-    let m' : Memory = stored m (Count class side) (n - 1) in
-    let us : List View = set vs id (leaving v section h) in
-    let h' : List Mark = h ++ Left v.allowance.place section.count ∷ [] in
-    kept k m m' h us h' (slots_stay m m' refl) (subst (λ z. HoldsNow k (stored m (Count class side) (z - 1)) us h') e (law30 k m vs h id v i there works section class side way needs))
-
 pub keeps28 : Keeps K28
-keeps28 = keeps_found K28 found28
+keeps28 = keeps_found K28 kept_found
+  where
+    kept_found : KeepsFound K28
+    kept_found k m vs h id v field found left w marks i there works fits e (step28 {n = n} {class = class} way needs) =
+        let us : ℕ → List View = λ z. set vs id (gated v class z v.section) in
+        no_mark k m (stored m (Gate class) n) h (us n) (loaded_quiet k m h (Gate class) n e us (law28 k m vs h id v i there works class (m (Gate class)) v.section))
 
 pub keeps29 : Keeps K29
-keeps29 = keeps_found K29 found29
+keeps29 = keeps_found K29 kept_found
+  where
+    kept_found : KeepsFound K29
+    kept_found k m vs h id v field found left w marks i there works fits e (step29 {n = n} {key = key} {side = side} gate way needs) =
+        let m' : Memory = stored m (Count (class_of key) side) (n + 1) in
+        let us : List View = set vs id (entering v key side (length h) h) in
+        let h' : List Mark = h ++ Entered v.allowance.place v.counts.sections key ∷ [] in
+        kept k m m' h us h' (slots_stay m m' refl) (subst (λ z. HoldsNow k (stored m (Count (class_of key) side) (z + 1)) us h') e (law29 k m vs h id v i there works key side gate way needs))
 
 pub keeps30 : Keeps K30
-keeps30 = keeps_found K30 found30
+keeps30 = keeps_found K30 kept_found
+  where
+    kept_found : KeepsFound K30
+    kept_found k m vs h id v field found left w marks i there works fits e (step30 {n = n} {class = class} {side = side} {section = section} way needs) =
+        let m' : Memory = stored m (Count class side) (n - 1) in
+        let us : List View = set vs id (leaving v section h) in
+        let h' : List Mark = h ++ Left v.allowance.place section.count ∷ [] in
+        kept k m m' h us h' (slots_stay m m' refl) (subst (λ z. HoldsNow k (stored m (Count class side) (z - 1)) us h') e (law30 k m vs h id v i there works section class side way needs))

@@ -120,20 +120,20 @@ module _ (k : Shape) (m : Memory) (vs : List View) (h : List Mark) (id : ℕ) (v
         leave_law k m m34 vs h id v i there works section needs.section_is refl
         (no_other _ k Deer Eer refl way) (no_other _ k Deer Domain refl way) (λ _. words34)
 
-found33 : KeepsFound K33
-found33 k m vs h id v field found left w marks i there works fits e (step33 {n = n} {key = key} {stamp = stamp} clocked way needs) =
-    let m' : Memory = stored m (Row v.allowance.place (class_of key)) stamp in
-    let us : List View = set vs id (after_enter_by_stamp v key clocked h) in
-    let h' : List Mark = h ++ Entered v.allowance.place v.counts.sections key ∷ [] in
-    kept k m m' h us h' (slots_stay m m' refl) (subst (λ z. HoldsNow k (stored m (Row v.allowance.place (class_of key)) z) us h') (sym needs.stamp_is) (law33 k m vs h id v i there works way key stamp clocked needs))
-
-found34 : KeepsFound K34
-found34 k m vs h id v field found left w marks i there works fits e (step34 {n = n} {class = class} {section = section} way needs) =
-    let m' : Memory = stored m (Row v.allowance.place class) idle in
-    kept k m m' h (set vs id (leaving v section h)) (h ++ Left v.allowance.place section.count ∷ []) (slots_stay m m' refl) (law34 k m vs h id v i there works way section class needs)
-
 pub keeps33 : Keeps K33
-keeps33 = keeps_found K33 found33
+keeps33 = keeps_found K33 kept_found
+  where
+    kept_found : KeepsFound K33
+    kept_found k m vs h id v field found left w marks i there works fits e (step33 {n = n} {key = key} {stamp = stamp} clocked way needs) =
+        let m' : Memory = stored m (Row v.allowance.place (class_of key)) stamp in
+        let us : List View = set vs id (after_enter_by_stamp v key clocked h) in
+        let h' : List Mark = h ++ Entered v.allowance.place v.counts.sections key ∷ [] in
+        kept k m m' h us h' (slots_stay m m' refl) (subst (λ z. HoldsNow k (stored m (Row v.allowance.place (class_of key)) z) us h') (sym needs.stamp_is) (law33 k m vs h id v i there works way key stamp clocked needs))
 
 pub keeps34 : Keeps K34
-keeps34 = keeps_found K34 found34
+keeps34 = keeps_found K34 kept_found
+  where
+    kept_found : KeepsFound K34
+    kept_found k m vs h id v field found left w marks i there works fits e (step34 {n = n} {class = class} {section = section} way needs) =
+        let m' : Memory = stored m (Row v.allowance.place class) idle in
+        kept k m m' h (set vs id (leaving v section h)) (h ++ Left v.allowance.place section.count ∷ []) (slots_stay m m' refl) (law34 k m vs h id v i there works way section class needs)

@@ -146,35 +146,35 @@ module _ (k : Shape) (m : Memory) (vs : List View) (h : List Mark) (id : ℕ) (v
       law6 : HoldsNow k m6 (set vs id w6) (h ++ mark6 ∷ [])
       law6 = leave_law k m m6 vs h id v i there works section is_inside refl (λ _. words6) (no_other _ k Eer Domain refl way) (no_other _ k Eer Deer refl way)
 
-found3 : KeepsFound K3
-found3 k m vs h id v field found left w marks i there works fits e (step3 {n = n}) =
-    loaded k m h Clock n e (λ z. set vs id (after_clock_load v z h)) (λ _. []) (subst (HoldsNow k m (set vs id (after_clock_load v (m Clock) h))) (sym (append-nil h)) (law3 k m vs h id v i there works))
-
-found4 : KeepsFound K4
-found4 k m vs h id v field found left w marks i there works fits e (step4 {key = key} way needs) =
-    let m' : Memory = stored m (Announced v.allowance.place) key in
-    no_mark k m m' h (set vs id (after_announce v key)) (kept k m m' h (set vs id (after_announce v key)) h (slots_stay m m' refl) (law4 k m vs h id v i there works way key needs))
-
-found5 : KeepsFound K5
-found5 k m vs h id v field found left w marks i there works fits e (step5 {key = key} {stamp = stamp} clocked way needs) =
-    let m' : Memory = stored m (Stamp v.allowance.place) stamp in
-    let us : List View = set vs id (after_enter_by_stamp v key clocked h) in
-    let h' : List Mark = h ++ Entered v.allowance.place v.counts.sections key ∷ [] in
-    kept k m m' h us h' (slots_stay m m' refl) (subst (λ z. HoldsNow k (stored m (Stamp v.allowance.place) z) us h') (sym needs.stamp_is) (law5 k m vs h id v i there works way key stamp clocked needs))
-
-found6 : KeepsFound K6
-found6 k m vs h id v field found left w marks i there works fits e (step6 {section = section} way needs) =
-    let m' : Memory = stored m (Stamp v.allowance.place) idle in
-    kept k m m' h (set vs id (leaving v section h)) (h ++ Left v.allowance.place section.count ∷ []) (slots_stay m m' refl) (law6 k m vs h id v i there works way section needs)
-
 pub keeps3 : Keeps K3
-keeps3 = keeps_found K3 found3
+keeps3 = keeps_found K3 kept_found
+  where
+    kept_found : KeepsFound K3
+    kept_found k m vs h id v field found left w marks i there works fits e (step3 {n = n}) =
+        loaded k m h Clock n e (λ z. set vs id (after_clock_load v z h)) (λ _. []) (subst (HoldsNow k m (set vs id (after_clock_load v (m Clock) h))) (sym (append-nil h)) (law3 k m vs h id v i there works))
 
 pub keeps4 : Keeps K4
-keeps4 = keeps_found K4 found4
+keeps4 = keeps_found K4 kept_found
+  where
+    kept_found : KeepsFound K4
+    kept_found k m vs h id v field found left w marks i there works fits e (step4 {key = key} way needs) =
+        let m' : Memory = stored m (Announced v.allowance.place) key in
+        no_mark k m m' h (set vs id (after_announce v key)) (kept k m m' h (set vs id (after_announce v key)) h (slots_stay m m' refl) (law4 k m vs h id v i there works way key needs))
 
 pub keeps5 : Keeps K5
-keeps5 = keeps_found K5 found5
+keeps5 = keeps_found K5 kept_found
+  where
+    kept_found : KeepsFound K5
+    kept_found k m vs h id v field found left w marks i there works fits e (step5 {key = key} {stamp = stamp} clocked way needs) =
+        let m' : Memory = stored m (Stamp v.allowance.place) stamp in
+        let us : List View = set vs id (after_enter_by_stamp v key clocked h) in
+        let h' : List Mark = h ++ Entered v.allowance.place v.counts.sections key ∷ [] in
+        kept k m m' h us h' (slots_stay m m' refl) (subst (λ z. HoldsNow k (stored m (Stamp v.allowance.place) z) us h') (sym needs.stamp_is) (law5 k m vs h id v i there works way key stamp clocked needs))
 
 pub keeps6 : Keeps K6
-keeps6 = keeps_found K6 found6
+keeps6 = keeps_found K6 kept_found
+  where
+    kept_found : KeepsFound K6
+    kept_found k m vs h id v field found left w marks i there works fits e (step6 {section = section} way needs) =
+        let m' : Memory = stored m (Stamp v.allowance.place) idle in
+        kept k m m' h (set vs id (leaving v section h)) (h ++ Left v.allowance.place section.count ∷ []) (slots_stay m m' refl) (law6 k m vs h id v i there works way section needs)

@@ -63,25 +63,25 @@ module _ (k : Shape) (m : Memory) (vs : List View) (h : List Mark) (id : ℕ) (v
       let here : NeedsLook k v wait field last (m field) = subst (NeedsLook k v wait field last) (sym e) needs in
       loaded k m h field n e (λ z. set vs id (after_look v wait field last z h)) (look_marks v wait field last) (look_law k m vs h id v i there works wait field last here (none here))
 
-found8 : KeepsFound K8
-found8 k m vs h id v field found left w marks i there works fits e (step8_key {n = n} {p = p} {wait = wait} {last = last} way needs) =
-    looked k m vs h id v i there works (Announced p) wait last n e needs (λ here. none_by_key k m vs h i id v there wait here.wait_is way p)
-found8 k m vs h id v field found left w marks i there works fits e (step8_stamp {n = n} {p = p} {wait = wait} {last = last} way needs) =
-    looked k m vs h id v i there works (Stamp p) wait last n e needs (λ here. none_by_stamp k m vs h i id v there wait here.wait_is way p)
-
-found31 : KeepsFound K31
-found31 k m vs h id v field found left w marks i there works fits e (step31 {n = n} {class = class} {side = side} {wait = wait} {last = last} way needs) =
-    looked k m vs h id v i there works (Count class side) wait last n e needs (λ here. none_by_count k m vs h i id v there wait here.wait_is way class side)
-
-found35 : KeepsFound K35
-found35 k m vs h id v field found left w marks i there works fits e (step35 {n = n} {p = p} {class = class} {wait = wait} {last = last} way needs) =
-    looked k m vs h id v i there works (Row p class) wait last n e needs (λ here. none_by_row k m vs h i id v there wait here.wait_is way p class)
-
 pub keeps8 : Keeps K8
-keeps8 = keeps_found K8 found8
+keeps8 = keeps_found K8 kept_found
+  where
+    kept_found : KeepsFound K8
+    kept_found k m vs h id v field found left w marks i there works fits e (step8_key {n = n} {p = p} {wait = wait} {last = last} way needs) =
+        looked k m vs h id v i there works (Announced p) wait last n e needs (λ here. none_by_key k m vs h i id v there wait here.wait_is way p)
+    kept_found k m vs h id v field found left w marks i there works fits e (step8_stamp {n = n} {p = p} {wait = wait} {last = last} way needs) =
+        looked k m vs h id v i there works (Stamp p) wait last n e needs (λ here. none_by_stamp k m vs h i id v there wait here.wait_is way p)
 
 pub keeps31 : Keeps K31
-keeps31 = keeps_found K31 found31
+keeps31 = keeps_found K31 kept_found
+  where
+    kept_found : KeepsFound K31
+    kept_found k m vs h id v field found left w marks i there works fits e (step31 {n = n} {class = class} {side = side} {wait = wait} {last = last} way needs) =
+        looked k m vs h id v i there works (Count class side) wait last n e needs (λ here. none_by_count k m vs h i id v there wait here.wait_is way class side)
 
 pub keeps35 : Keeps K35
-keeps35 = keeps_found K35 found35
+keeps35 = keeps_found K35 kept_found
+  where
+    kept_found : KeepsFound K35
+    kept_found k m vs h id v field found left w marks i there works fits e (step35 {n = n} {p = p} {class = class} {wait = wait} {last = last} way needs) =
+        looked k m vs h id v i there works (Row p class) wait last n e needs (λ here. none_by_row k m vs h i id v there wait here.wait_is way p class)

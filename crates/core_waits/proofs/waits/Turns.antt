@@ -77,11 +77,11 @@ module _ (k : Shape) (m : Memory) (vs : List View) (h : List Mark) (id : ℕ) (v
       (same_stands h v (after_gate_turn v wait class) wait wait.excused (class ∷ wait.turned) refl works refl (i.marks.waits id v there wait needs.wait_is))
       (λ j u section going e inside x. i.waiters.excused id j v u wait section there needs.wait_is going e inside x.0 x.1 x.2) turned_now fewer_turns
 
-found32 : KeepsFound K32
-found32 k m vs h id v field found left w marks i there works fits e (step32 {n = n} {class = class} {wait = wait} way needs) =
-    let m' : Memory = stored m (Gate class) (turned_gate n) in
-    let us : List View = set vs id (after_gate_turn v wait class) in
-    no_mark k m m' h us (kept k m m' h us h (slots_stay m m' refl) (law32 k m vs h id v i there works wait class (turned_gate n) needs))
-
 pub keeps32 : Keeps K32
-keeps32 = keeps_found K32 found32
+keeps32 = keeps_found K32 kept_found
+  where
+    kept_found : KeepsFound K32
+    kept_found k m vs h id v field found left w marks i there works fits e (step32 {n = n} {class = class} {wait = wait} way needs) =
+        let m' : Memory = stored m (Gate class) (turned_gate n) in
+        let us : List View = set vs id (after_gate_turn v wait class) in
+        no_mark k m m' h us (kept k m m' h us h (slots_stay m m' refl) (law32 k m vs h id v i there works wait class (turned_gate n) needs))

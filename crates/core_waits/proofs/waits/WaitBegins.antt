@@ -133,12 +133,12 @@ module _ (k : Shape) (m : Memory) (vs : List View) (h : List Mark) (id : ℕ) (v
       (front_frame m new vs id v w h hs there refl refl (λ e. e) quiet i.front)
       (listing_frame_still m new slots.nodes refl i.chart h hs quiet vs id v w there refl i.listings)
 
-found7 : KeepsFound K7
-found7 k m vs h id v field found left w marks i there works fits e (step7 {n = n} {low = low} {high = high} needs) =
-    let m' : Memory = stored m Clock (n + 1) in
-    let us : ℕ → List View = λ z. set vs id (after_begin v low high z h) in
-    let h' : List Mark = h ++ Began v.allowance.place v.counts.waits low high ∷ [] in
-    kept k m m' h (us n) h' (slots_stay m m' refl) (subst (λ z. HoldsNow k (stored m Clock (z + 1)) (us z) h') e (law7 k m vs h id v i there works low high needs))
-
 pub keeps7 : Keeps K7
-keeps7 = keeps_found K7 found7
+keeps7 = keeps_found K7 kept_found
+  where
+    kept_found : KeepsFound K7
+    kept_found k m vs h id v field found left w marks i there works fits e (step7 {n = n} {low = low} {high = high} needs) =
+        let m' : Memory = stored m Clock (n + 1) in
+        let us : ℕ → List View = λ z. set vs id (after_begin v low high z h) in
+        let h' : List Mark = h ++ Began v.allowance.place v.counts.waits low high ∷ [] in
+        kept k m m' h (us n) h' (slots_stay m m' refl) (subst (λ z. HoldsNow k (stored m Clock (z + 1)) (us z) h') e (law7 k m vs h id v i there works low high needs))

@@ -1,0 +1,12 @@
+pub mod OtherSlots
+pub mod OffStep
+pub mod OffLocks
+pub mod OffSlots
+pub mod GivenMarks
+pub mod UsedAgain
+pub mod Filling
+pub mod Raising
+pub mod Restating
+pub mod Seizing
+pub mod GivingBack
+pub mod KeepingSlots

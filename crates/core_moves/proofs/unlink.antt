@@ -1,0 +1,4 @@
+pub mod Unlinking
+pub mod UnlinkListings
+pub mod OldUnlinked
+pub mod KeepingOld

@@ -1,0 +1,3 @@
+pub mod Cutting
+pub mod CutCounts
+pub mod NodeBypassed

@@ -1,0 +1,4 @@
+pub mod LeafNeeds
+pub mod LeafLocks
+pub mod LeafTree
+pub mod LeafLinked

@@ -1,0 +1,5 @@
+pub mod LinkSteps
+pub mod LinkServed
+pub mod LinkLocks
+pub mod LinkSlots
+pub mod LinkKept

@@ -1,0 +1,10 @@
+pub mod Relocking
+pub mod Holders
+pub mod Locked
+pub mod LockSteps
+pub mod LockHeld
+pub mod UnderLock
+pub mod LockLoads
+pub mod NodeMarked
+pub mod TagRaised
+pub mod Sides

@@ -1,0 +1,6 @@
+pub mod Knowing
+pub mod Notes
+pub mod KnownCopy
+pub mod KnownHands
+pub mod RetiredLife
+pub mod OwnLoads
