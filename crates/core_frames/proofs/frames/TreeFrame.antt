@@ -106,9 +106,6 @@ pub record SameForTree (v w : View) : Type 0 where
   pub fewer : (move : Move) → v.moving ≡ Some move → (r : Reading) → IsIn w.records r → IsIn v.records r
 
 module _ (vs : List View) (id : ℕ) (v w : View) (there : get_elem? vs id ≡ some v) (moving : w.moving ≡ v.moving) where
-  pub pending_back : (move : Move) → IsPending (set vs id w) move → IsPending vs move
-  pending_back move p = let z = was (λ (u : View). u.moving) vs id v w there moving p.id p.view p.there in record { id = p.id; view = z.0; there = z.1; moving = sym z.2 ∙ p.moving }
-
   pub pending_still : (move : Move) → IsPending vs move → IsPending (set vs id w) move
   pending_still move p = let z = still (λ (u : View). u.moving) vs id v w there moving p.id p.view p.there in record { id = p.id; view = z.0; there = z.1; moving = z.2 ∙ p.moving }
 

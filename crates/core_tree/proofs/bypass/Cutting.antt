@@ -152,9 +152,6 @@ module _ (z : Cut) where
   not_even : (s : ℕ) → IsEven (m (Life s)) → s ≢ d
   not_even s even e = let f = ap (λ y. m (Life y)) e in let o = z.odd in absurd (omega arith)
 
-  not_off : (s : ℕ) → g.linked s ≡ false → s ≢ d
-  not_off s off e = let l = d_linked in cc (ap g.linked e)
-
   others_stay : (j : ℕ) (u : View) (s : ℕ) → j ≢ id → get_elem? vs j ≡ some u → HasLock u s → g.linked s ≡ true → to.linked s ≡ true
   others_stay j u s ne e locks l = still s l (λ y. ne (one_holder k m vs h i j id u v d e there (subst (HasLock u) y locks) z.has_node))
 

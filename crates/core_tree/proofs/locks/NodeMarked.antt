@@ -21,7 +21,7 @@ use Rattle.list_laws.specs.Counts.{times, IsIn}
 use Rattle.core_state.specs.memory.Lists.{has, IsEven}
 use Rattle.core_state.specs.memory.Memory.{Memory, stored, slot_count}
 use Rattle.core_state.specs.views.Known.{known_in, lock_of, known_under, HasLock, is_emptied, change_lock, note_lock, IsOwnField, LoadedGeneration}
-use Rattle.core_state.specs.views.Views.{Works, readings_of, open_reading, spares_of, slots_of}
+use Rattle.core_state.specs.views.Views.{Works, readings_of, open_reading, spares_of}
 use Rattle.core_state.specs.steps.Links.{NodeRecords, IsUnmarkedNode, FewChildren, BothChildren, IsNodeOfDelete, IsOldOfMove, NeedsMark, with_mark, after_mark}
 use Rattle.core_state.specs.tree.Chart.{Chart}
 use Rattle.core_state.specs.tree.Readers.{IsEmptied}
@@ -32,7 +32,7 @@ use Rattle.core_state.specs.steps.Steps.{IsStep, step22}
 use Rattle.core_state.specs.Invariant.{HoldsNow}
 use Rattle.core_frames.specs.Laws.{KeepsPast, IsKept, Keeps}
 use Rattle.list_laws.proofs.Lists.{in_second}
-use Rattle.core_tree.proofs.locks.LockHeld.{lock_outside, lock_alone, linked_nobody, linked_hand, linked_spare}
+use Rattle.core_tree.proofs.locks.LockHeld.{lock_outside, lock_alone, linked_hand, linked_spare}
 use Rattle.core_tree.proofs.notes.Knowing.{known_here as noted_here}
 use Rattle.core_tree.proofs.locks.Relocking.{emptied_change_same}
 use Rattle.core_tree.proofs.locks.Locked.{lock_under, loaded_known, under_lock as known_under_lock}
@@ -149,9 +149,6 @@ module _ (k : Shape) (m : Memory) (vs : List View) (h : List Mark) (id : ℕ) (v
 
   alone : (j : ℕ) (u : View) → j ≢ id → get_elem? vs j ≡ some u → HasLock u slot → ⊥
   alone = lock_alone k m vs h i id v there slot lock needs.locked
-
-  nobody : (j : ℕ) (u : View) → get_elem? vs j ≡ some u → times slot (slots_of u) ≡ 0
-  nobody j u e = linked_nobody k m vs h i slot ready.linked j u e
 
   hand_apart : (j : ℕ) (u : View) (x : Held) → get_elem? vs j ≡ some u → u.hands.hand ≡ Some x → x.slot ≢ slot
   hand_apart j u x e is = linked_hand k m vs h i slot ready.linked j u e x is
