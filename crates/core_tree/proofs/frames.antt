@@ -6,4 +6,3 @@ pub mod ChartStays
 pub mod ReadersStay
 pub mod RestStays
 pub mod GraceSteps
-pub mod CountSteps

@@ -25,7 +25,7 @@ use Rattle.core_frames.proofs.views.Sums.{sum_equal, sum_add, in_one, not_one, o
 use Rattle.core_tree.proofs.notes.Notes.{note_option-unraised}
 use Rattle.core_frames.proofs.views.RetiredLists.{unraised_append}
 use Rattle.core_tree.proofs.updates.Deletion.{node_marked, node_young, settled, some_node, has_key}
-use Rattle.core_tree.proofs.frames.CountSteps.{counts_go}
+use Rattle.core_frames.proofs.frames.CountFrame.{counts_by}
 
 module _ (z : CopyStep) where
   open z use {who.{k, m, vs, h, id, v, there, inv, inv.{chart as g}}, held.{slot as c}}
@@ -192,11 +192,10 @@ module _ (z : CopyStep) where
       let unraised = unraised_more in
       let longer = updates_longer in
       let linked = linked_same in
-      counts_go m new n g to v w h hs k.tickets vs id there (record {
-        clock = refl;
+      counts_by k.tickets m new n g to vs id v w h hs there (record {
         free = refl;
-        updates = omega arith;
-        lives = omega arith;
+        clock = omega arith;
+        generations = omega arith;
         tags = omega arith;
         turns = omega arith;
         pairs = (let pairs = inv.counts.pairs in let less = pairs_less in let young = young_less in omega arith);

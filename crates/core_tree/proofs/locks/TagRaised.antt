@@ -45,7 +45,7 @@ use Rattle.core_tree.proofs.locks.UnderLock.{age_stores, under_lock}
 use Rattle.core_tree.proofs.locks.Sides.{side_at, emptied_back, emptied_other, emptied_flags, emptied_less}
 use Rattle.core_frames.proofs.views.Fields.{same_is, stored_here, stored_else}
 use Rattle.core_tree.proofs.stores.Stores.{StoresIn, stores_in, held_beside}
-use Rattle.core_tree.proofs.frames.CountSteps.{tags_raised}
+use Rattle.core_frames.proofs.frames.CountFrame.{tags_raised}
 use Rattle.core_state.specs.views.Views.{emptied_among}
 
 module _ (k : Shape) (m : Memory) (vs : List View) (h : List Mark) (id : ℕ) (v : View) (i : HoldsNow k m vs h) (there : get_elem? vs id ≡ some v) (works : Works v)

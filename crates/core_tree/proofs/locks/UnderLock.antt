@@ -38,7 +38,7 @@ use Rattle.core_tree.proofs.locks.LockSteps.{OneLock}
 use native.Mathlib.Decide.{ℕ_discrete}
 use Rattle.core_state.specs.memory.Lists.{sum_below, count_below}
 use Rattle.core_state.specs.views.Views.{emptied_among}
-use Rattle.core_tree.proofs.frames.CountSteps.{free_slots, generations, tags_raised, counts_go}
+use Rattle.core_frames.proofs.frames.CountFrame.{free_slots, generations_in, tags_raised, counts_by}
 use Rattle.core_tree.proofs.frames.GraceSteps.{grace_same}
 
 -- what the store leaves of the words
@@ -163,14 +163,13 @@ module _ (k : Shape) (m m' : Memory) (vs : List View) (h : List Mark) (id : ℕ)
 
     -- tags with those still to be raised are no more than before
     counts_under : tags_raised m' (slot_count k) + emptied_among locks ≤ tags_raised m (slot_count k) + emptied_among v.locks → CountParts k.tickets m' (slot_count k) g (set vs id w) h
-    counts_under tags = counts_go m m' (slot_count k) g g v w h h k.tickets vs id there (record {
-      clock = stores.beside Clock tt;
+    counts_under tags = counts_by k.tickets m m' (slot_count k) g g vs id v w h h there (record {
       free = (let a = stores.beside Free tt in let b : free_slots m' (slot_count k) ≡ free_slots m (slot_count k) = (λ j. count_below (λ s. stores.state s j == 0) (slot_count k)) in omega arith);
-      updates = omega arith;
-      lives = (let a : generations m' (slot_count k) ≡ generations m (slot_count k) = (λ j. sum_below (λ s. c.half s j) (slot_count k)) in omega arith);
+      clock = (let a = stores.beside Clock tt in omega arith);
+      generations = (let a : generations_in m' (slot_count k) ≡ generations_in m (slot_count k) = (λ j. sum_below (λ s. c.half s j) (slot_count k)) in omega arith);
       tags = omega arith;
-      turns = omega arith;
-      pairs = i.counts.pairs;
+      turns = (let a = stores.beside Clock tt in omega arith);
+      pairs = refl;
       olds = refl;
     }) i.counts
 

@@ -14,7 +14,7 @@ use Rattle.core_state.specs.declared.view.View.{View}
 use Rattle.core_state.specs.memory.Lists.{IsEven}
 use Rattle.core_state.specs.memory.Memory.{Memory}
 use Rattle.core_state.specs.steps.Links.{HasCommit}
-use Rattle.core_state.specs.parts.FrontParts.{IsTurned, IsOddBy, FrontParts}
+use Rattle.core_state.specs.parts.FrontParts.{IsOddBy, FrontParts}
 use Rattle.list_laws.specs.Counts.{Each}
 use Rattle.list_laws.proofs.Lists.{at_below, each_set}
 use Rattle.core_frames.proofs.frames.FrontFrame.{front_by}
