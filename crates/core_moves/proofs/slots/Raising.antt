@@ -35,7 +35,7 @@ use Rattle.prcu_marks.proofs.LastUnlinked.{last_gone}
 use Rattle.list_laws.proofs.Lists.{in_first, times_in, in_second, in_append}
 use Rattle.prcu_marks.specs.declared.mark.Mark.TheVariants.{Given}
 use Rattle.prcu_marks.specs.Bounds.{greatest_key}
-use Rattle.core_tree.proofs.locks.UnderLock.{age_stores}
+use Rattle.core_tree.proofs.locks.UnderLock.{life_or_tag_stores}
 use Rattle.core_state.specs.parts.LockParts.{IsUnraised}
 use Rattle.core_state.specs.parts.GraceParts.{GraceParts, IsClear}
 use Rattle.core_frames.proofs.views.RetiredLists.{slots_in, without_in, raise, without_none, change_in, in_change, without_else, one_in, unraised_append, change_slots, change_length, without_length, change_unraised, in_without, without_unraised}
@@ -111,7 +111,7 @@ module _ (z : RaiseStep) where
   raised_past = record {
     lives = λ t. ⊎_elim (λ (e : t ≡ s). (let a = ap (λ x. m' (Life x)) e in let b = ap (λ x. m (Life x)) e in let d = here in omega arith)) (λ ne. (let a = stores.away t (Life t) ne refl in omega arith)) (cases_eq t s);
     tags = λ t b. omega arith;
-    content = λ t field gone o c. (age_stores m s (Life s) number refl tt).content t field c;
+    content = λ t field gone o c. (life_or_tag_stores m s (Life s) number refl tt).content t field c;
   }
 
   -- What the step makes of the view's spare and retired slots, and the marks afterwards.

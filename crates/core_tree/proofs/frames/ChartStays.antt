@@ -91,18 +91,18 @@ module _ (P : ℕ → Type 0) (z : ChartStep P) where
       → IsMoving m' g hs x move
   moving_else j u x move e is place records held generation = let t = z.who.inv.tree.moves.each j u e move is in moving_left m m' g g h hs u x move (record {
     copy_linked = t.copy_linked;
-    copy_age = refl;
+    copy_old = refl;
     copy_key = z.contents.key move.copy.slot (z.on move.copy.slot t.copy_linked);
     copy_value = z.contents.value move.copy.slot (z.on move.copy.slot t.copy_linked);
     copy_life = z.copies j u move e is;
     old_linked = t.old_linked;
-    old_age = refl;
+    old_old = refl;
     old_key = z.contents.key move.old (z.on move.old t.old_linked);
     old_value = z.contents.value move.old (z.on move.old t.old_linked);
     parent = refl;
     side = refl;
     held = held;
-    generation = λ l age f x. generation l age f t.old_linked x;
+    generation = λ l life f x. generation l life f t.old_linked x;
     place = place;
     records = records;
     longer = z.longer;

@@ -75,12 +75,12 @@ module _ (z : LeafLink) where
       let o = same_at m new n g slot b leaf i.tree.shape (links z) move.old t.old_linked in
       moving_left m new g to h hs u u move (record {
         copy_linked = c.linked ∙ t.copy_linked;
-        copy_age = c.old;
+        copy_old = c.old;
         copy_key = refl;
         copy_value = refl;
         copy_life = refl;
         old_linked = o.linked ∙ t.old_linked;
-        old_age = o.old;
+        old_old = o.old;
         old_key = refl;
         old_value = refl;
         parent = o.up;

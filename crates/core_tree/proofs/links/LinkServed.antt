@@ -171,8 +171,8 @@ module _ (z : LinkStep) where
         each_set (λ j u. (section : Section) → u.section ≡ Some section → section.entered < at → IsMetBefore vs at) vs id w
         (λ section is lt. (id, v, section, there, sym z.same.section ∙ is, lt)) (λ j u ne e section is lt. (j, u, section, e, is, lt)) y.0 y.1 y.3 y.2 y.4 y.5
 
-    ages_after : AreAged (words_after z) to (views_after z) hs
-    ages_after s at y a gone met link nz = ⊎_elim (λ (e : s ≡ d). at_gone e (cases_eq d 0)) (λ ne. other (λ e. absurd (ne e))) (cases_eq s d)
+    aged_after : AreAged (words_after z) to (views_after z) hs
+    aged_after s at y a gone met link nz = ⊎_elim (λ (e : s ≡ d). at_gone e (cases_eq d 0)) (λ ne. other (λ e. absurd (ne e))) (cases_eq s d)
       where
         led : at < length h → (g.linked y ≡ true) ⊎ ((after : ℕ) × (gone_at y h ≡ Some after) × (at < after)) → (to.linked y ≡ true) ⊎ ((after : ℕ) × (gone_at y hs ≡ Some after) × (at < after))
         led small (inl l) = ⊎_elim
@@ -205,7 +205,7 @@ module _ (z : LinkStep) where
       records = each_set (λ j u. Each u.records (IsRecord (words_after z) to (views_after z))) vs id w
           (subst (λ rs. Each rs (IsRecord (words_after z) to (views_after z))) (sym z.records) (λ l x e. one id v there l x e))
           (λ j u ne e l x is. one j u e l x is);
-      ages = ages_after;
+      ages = aged_after;
     }
       where
         one : (j : ℕ) (u : View) → get_elem? vs j ≡ some u → (l : ℕ) (x : Reading) → get_elem? u.records l ≡ some x → IsRecord (words_after z) to (views_after z) x

@@ -39,7 +39,7 @@ use Rattle.core_tree.proofs.locks.Locked.{lock_under, loaded_known, under_lock a
 use Rattle.core_tree.proofs.locks.LockSteps.{emptied_after, OneLock, noted_then, lock_stays}
 use Rattle.core_frames.proofs.views.Roles.{own_off, slots_count}
 use Rattle.core_tree.proofs.notes.Notes.{lock_noted, noting-lock}
-use Rattle.core_tree.proofs.locks.UnderLock.{age_stores, under_lock}
+use Rattle.core_tree.proofs.locks.UnderLock.{life_or_tag_stores, under_lock}
 use Rattle.core_frames.proofs.views.Fields.{stored_here, stored_else}
 use Rattle.core_tree.proofs.stores.Stores.{StoresIn, stores_in, held_beside}
 
@@ -223,7 +223,7 @@ module _ (k : Shape) (m : Memory) (vs : List View) (h : List Mark) (id : ℕ) (v
       (λ (e : (m (Life slot) ≡ 2 * x + 1) × (lock.marked ≡ true)). absurd (let f = e.0 in let r = ready in let a = r.now in let d = r.life_is in omega arith)) has
 
   marked_before : HoldsNow k marked_memory (set vs id w) h
-  marked_before = under_lock k m marked_memory vs h id v i there works locks slot lock new_lock one (age_stores m slot (Life slot) (life + 1) refl tt) (record {
+  marked_before = under_lock k m marked_memory vs h id v i there works locks slot lock new_lock one (life_or_tag_stores m slot (Life slot) (life + 1) refl tt) (record {
     half = half;
     off = λ s off. life_else s (off_slot s off);
     root = life_else 0 (λ e. ready.some_slot (sym e)) ∙ i.slots.root;
@@ -239,11 +239,11 @@ module _ (k : Shape) (m : Memory) (vs : List View) (h : List Mark) (id : ℕ) (v
   pub node_marked : HoldsNow k marked_memory (set vs id (after_mark v slot life)) h
   node_marked = subst (λ (z : View). HoldsNow k marked_memory (set vs id z) h) (sym after_is) marked_before
 
-  pub ages_marked : KeepsPast m h marked_memory
-  ages_marked = record {
+  pub past_marked : KeepsPast m h marked_memory
+  past_marked = record {
     lives = λ s. dite (ℕ_discrete s slot) (λ same. subst (λ z. m (Life z) ≤ marked_memory (Life z)) (sym same) (let a = life_here in let r = ready in let c = r.now in omega arith)) (λ ne. (let e = life_else s ne in omega arith));
     tags = λ s b. omega arith;
-    content = λ s field gone odd content. (age_stores m slot (Life slot) (life + 1) refl tt).content s field content;
+    content = λ s field gone odd content. (life_or_tag_stores m slot (Life slot) (life + 1) refl tt).content s field content;
   }
 
 pub keeps22 : Keeps K22
@@ -253,5 +253,5 @@ keeps22 k m vs h id v w field left marks i there works is_field step = cases fie
     cases field found left marks w (step22 {slot = slot} {life = life} lock needs) =
         subst (IsKept k m h (stored m (Life slot) (life + 1)) (set vs id (after_mark v slot life))) (sym (append-nil h)) (record {
           invariant = node_marked k m vs h id v i there works lock slot life needs;
-          past = ages_marked k m vs h id v i there works lock slot life needs;
+          past = past_marked k m vs h id v i there works lock slot life needs;
         })

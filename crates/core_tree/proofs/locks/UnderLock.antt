@@ -42,7 +42,7 @@ use Rattle.core_frames.proofs.frames.CountFrame.{free_slots, generations_in, tag
 use Rattle.core_tree.proofs.frames.GraceSteps.{grace_same}
 
 -- what the store leaves of the words
-pub record StoresAge (m m' : Memory) : Type 0 where
+pub record StoresLifeOrTag (m m' : Memory) : Type 0 where
   pub content : (s : ℕ) (field : Field) → IsContent s field → m' field ≡ m field
   pub state : (s : ℕ) → m' (State s) ≡ m (State s)
   pub beside : (field : Field) → IsBesideSlots field → m' field ≡ m field
@@ -52,21 +52,21 @@ IsLifeOrTag (Life t) = Unit {0}
 IsLifeOrTag (Tag t b) = Unit {0}
 IsLifeOrTag _ = ⊥
 
-content_age : (s : ℕ) (field : Field) → IsContent s field → IsLifeOrTag field → ⊥
-content_age s (Life t) c a = c
-content_age s (Tag t b) c a = c
-content_age s _ c a = a
+content_apart : (s : ℕ) (field : Field) → IsContent s field → IsLifeOrTag field → ⊥
+content_apart s (Life t) c a = c
+content_apart s (Tag t b) c a = c
+content_apart s _ c a = a
 
 -- a store of a life or a tag leaves what is neither
-pub age_stores : (m : Memory) (p : ℕ) (f : Field) (n : ℕ) → IsOwnField p f → IsLifeOrTag f → StoresAge m (stored m f n)
-age_stores m p f n own age = record {
-  content = λ s field c. stored_else m f field n (λ e. content_age s field c (subst IsLifeOrTag e age));
-  state = λ s. stored_else m f (State s) n (λ e. subst IsLifeOrTag e age);
+pub life_or_tag_stores : (m : Memory) (p : ℕ) (f : Field) (n : ℕ) → IsOwnField p f → IsLifeOrTag f → StoresLifeOrTag m (stored m f n)
+life_or_tag_stores m p f n own kind = record {
+  content = λ s field c. stored_else m f field n (λ e. content_apart s field c (subst IsLifeOrTag e kind));
+  state = λ s. stored_else m f (State s) n (λ e. subst IsLifeOrTag e kind);
   beside = (stores_in m p f n own).beside;
 }
 
 module _ (k : Shape) (m m' : Memory) (vs : List View) (h : List Mark) (id : ℕ) (v : View) (i : HoldsNow k m vs h) (there : get_elem? vs id ≡ some v) (works : Works v)
-    (locks : List HeldLock) (slot : ℕ) (lock new : HeldLock) (one : OneLock v (record v { locks = locks }) slot lock new) (stores : StoresAge m m') where
+    (locks : List HeldLock) (slot : ℕ) (lock new : HeldLock) (one : OneLock v (record v { locks = locks }) slot lock new) (stores : StoresLifeOrTag m m') where
   abbrev w : View
   w = record v { locks = locks }
 

@@ -47,12 +47,12 @@ module _ (k : Shape) (m : Memory) (vs : List View) (h : List Mark) (i : HoldsNow
         let q = c.hangs j u move ne e is in
         moving_left m m' i.chart to h h' u u move (record {
           copy_linked = c.stays j u move.copy.slot ne e t.copy_lock t.copy_linked;
-          copy_age = c.old_same move.copy.slot;
+          copy_old = c.old_same move.copy.slot;
           copy_key = stores.key move.copy.slot;
           copy_value = stores.away move.copy.slot (Value move.copy.slot) (apart move.copy.slot t.copy_lock) refl;
           copy_life = stores.life move.copy.slot;
           old_linked = c.stays j u move.old ne e t.old_lock t.old_linked;
-          old_age = c.old_same move.old;
+          old_old = c.old_same move.old;
           old_key = stores.key move.old;
           old_value = stores.away move.old (Value move.old) (apart move.old t.old_lock) refl;
           parent = q.0;

@@ -46,7 +46,7 @@ use Rattle.core_tree.proofs.locks.Relocking.{IsNoted, noted_forth, noted_back, s
 use Rattle.core_tree.proofs.updates.Updates.{said_longer, legal_more, there_of, len_set}
 use Rattle.core_tree.proofs.stores.StoreLocks.{LockChange, locks_stored}
 use Rattle.core_tree.proofs.stores.StoreSlots.{slots_stored}
-use Rattle.core_tree.proofs.stores.StoreReaders.{StoresRead, readers_after, ages_same}
+use Rattle.core_tree.proofs.stores.StoreReaders.{StoresRead, readers_after, aged_same}
 use Rattle.core_tree.proofs.stores.StoreMoves.{moves_stored, pending_still}
 use Rattle.core_tree.proofs.stores.StoreCounts.{counts_made}
 use Rattle.core_tree.proofs.stores.StoreFront.{odd_front, front_made}
@@ -298,7 +298,7 @@ module _ (k : Shape) (m : Memory) (vs : List View) (h : List Mark) (i : HoldsNow
         own_gone = λ other is l. (let y : None ≡ Some other = sym settled ∙ is in absurd (cc));
       });
     };
-    readers = readers_after m m' g g vs id v w there h h' read (ages_same m m' g g vs id v w there h h' outside (gone_done h update) (λ s a. refl) (λ s l. l) i.readers.ages) i.locks.readings i.readers;
+    readers = readers_after m m' g g vs id v w there h h' read (aged_same m m' g g vs id v w there h h' outside (gone_done h update) (λ s a. refl) (λ s l. l) i.readers.ages) i.locks.readings i.readers;
     front = front_made m m' vs id v w there h h' (stores.within.beside Front tt) moving_none i.front commit needs.has_commit refl one_longer
         (subst IsLegal (sym more_updates) (legal_more (updates_of h) update i.front.legal there_now));
     listings = listings_after m m' g g vs id w h h' outside (stores.within.beside Front tt) stores.key
