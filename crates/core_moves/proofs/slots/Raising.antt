@@ -18,7 +18,7 @@ use Rattle.core_frames.proofs.views.Fields.{stored_here}
 use Rattle.core_tree.proofs.stores.Stores.{StoresIn, stores_in}
 use Rattle.core_frames.proofs.frames.CountFrame.{counts_by, generations_in}
 use Rattle.core_tree.proofs.frames.ChartStays.{SameOutside, same_but}
-use Rattle.core_tree.proofs.frames.Stepper.{Stepper}
+use Rattle.core_frames.proofs.frames.Stepper.{Stepper}
 use Rattle.core_tree.proofs.frames.RestStays.{outer_same, outer_marked, OuterParts}
 use Rattle.core_moves.proofs.slots.OffStep.{OffStep, no_marks, same_lock, SameElse, no_others}
 use Rattle.core_moves.proofs.slots.OffSlots.{off_law, retired_away, held_away, even_away, copy_away}

@@ -38,7 +38,7 @@ use Rattle.core_tree.proofs.links.LinkLocks.{Relinks, locks_after, emptied_still
 use Rattle.core_tree.proofs.links.LinkKept.{link_kept}
 use Rattle.core_tree.proofs.links.LinkSteps.{LinkStep, Retires, range_stays, side_stays}
 use Rattle.core_tree.proofs.chart.Splices.{Splices, spliced, at as at_node, parent_not, was_linked, still_linked, child_below, child_linked, place_stays, changes}
-use Rattle.core_tree.proofs.frames.Stepper.{Stepper}
+use Rattle.core_frames.proofs.frames.Stepper.{Stepper}
 use Rattle.core_tree.proofs.locks.Relocking.{relocked}
 use Rattle.core_frames.proofs.marks.PlainMarks.{PlainMarks, IsUnlinkedNow}
 use Rattle.core_frames.proofs.frames.PlainFrames.{SameForMore, grace_unlinked}

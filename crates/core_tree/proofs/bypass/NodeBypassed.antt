@@ -17,7 +17,7 @@ use Rattle.core_state.specs.parts.TreeParts.{map_now}
 use Rattle.core_frames.specs.Laws.{IsKept}
 use Rattle.core_tree.proofs.stores.Stores.{stores_link}
 use Rattle.core_frames.proofs.marks.UpdateMarks.{delete_plain, delete_now, delete_reuse, delete_marks}
-use Rattle.core_tree.proofs.frames.Stepper.{Stepper}
+use Rattle.core_frames.proofs.frames.Stepper.{Stepper}
 use Rattle.core_tree.proofs.links.LinkSteps.{listings_of_commit}
 use Rattle.core_tree.proofs.stores.StoreFront.{front_made}
 use Rattle.core_tree.proofs.updates.Deletion.{Deletion, settled, parent_alive, link_is, node_marked, node_field, left_is, right_is, some_node, node_lock, node_young, node_key, single, has_key}

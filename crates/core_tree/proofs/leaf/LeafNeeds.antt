@@ -31,12 +31,12 @@ use Rattle.list_laws.proofs.Lists.{in_second}
 use Rattle.core_tree.proofs.locks.LockHeld.{lock_outside, lock_alone, linked_spare}
 use Rattle.core_tree.proofs.stores.Stores.{stores_link}
 use Rattle.core_tree.proofs.chart.Leaves.{LinksLeaf, leaf_linked, changes}
-use Rattle.core_tree.proofs.chart.Absent.{absent}
+use Rattle.core_frames.proofs.chart.Absent.{absent}
 use Rattle.core_tree.proofs.locks.Locked.{holds_alone}
 use Rattle.core_frames.proofs.views.Roles.{own_off, own_below, hand_own, not_gone, held_there}
 use Rattle.core_tree.proofs.chart.ChangedFunctions.{put-other}
 use Rattle.core_tree.proofs.updates.PutMarks.{put_marks, put_update, put_plain, put_said, marks_put}
-use Rattle.core_tree.proofs.frames.Stepper.{Stepper}
+use Rattle.core_frames.proofs.frames.Stepper.{Stepper}
 use Rattle.core_tree.proofs.links.LinkSteps.{LinkStep}
 use Rattle.core_frames.proofs.marks.UpdateMarks.{gone_done}
 

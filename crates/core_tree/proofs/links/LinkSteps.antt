@@ -27,7 +27,7 @@ use Rattle.core_frames.proofs.frames.PlainFrames.{SameForMore, mark_frame_plain,
 use Rattle.core_frames.proofs.marks.PlainMarks.{PlainMarks}
 use Rattle.core_frames.proofs.views.Roles.{gone_off}
 use Rattle.core_tree.proofs.chart.ChartChanges.{ChangesChart, in_after, was_empty}
-use Rattle.core_tree.proofs.frames.Stepper.{Stepper}
+use Rattle.core_frames.proofs.frames.Stepper.{Stepper}
 use Rattle.core_tree.proofs.stores.StoreFront.{odd_front}
 use Rattle.core_tree.proofs.stores.StoreListings.{listings_after}
 use Rattle.core_tree.proofs.stores.Stores.{link_stores}
