@@ -106,5 +106,5 @@ module _ (who : Stepper) (commit : Commit) (r : Reading) (p : ℕ) (b : Side) (d
       cut_kept cut
       (counts_without_node cut (record { reserved = refl; owes = refl; wait = refl; turns = refl; moving = moving_none }) (node_young deletion) (settled deletion) needs.has_commit.ticket refl (delete_longer h v.allowance.place r.key d) (delete_count h v.allowance.place r.key d (has_key deletion)))
       (subst (HoldsMap new (bypassed m g p b d c)) (sym (delete_map h v.allowance.place r.key d (m (Key d)) (node_key deletion))) (bypass_map m new n g p b d c i.tree.shape bypass (map_now h) i.tree.map))
-      (front_made m new vs id v w there h hs refl moving_none i.front commit needs.has_commit refl (delete_longer h v.allowance.place r.key d) (delete_legal h v.allowance.place r.key d (has_key deletion) i.front.legal))
-      (listings_of_commit (cut_step cut) commit needs.has_commit (settled deletion))
+      (front_made m new vs id v w there h hs refl i.front commit needs.has_commit refl (delete_longer h v.allowance.place r.key d) (delete_legal h v.allowance.place r.key d (has_key deletion) i.front.legal))
+      (listings_of_commit (cut_step cut) commit needs.has_commit)

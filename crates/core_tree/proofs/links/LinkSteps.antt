@@ -160,5 +160,5 @@ module _ (z : LinkStep) where
       (λ j u section listing e is even same lists. now listing even same lists) i.listings
 
   -- while the view's commit is under way the front is odd, and nothing holds of listings
-  pub listings_of_commit : (commit : Commit) → HasCommit v commit → v.moving ≡ None → ListingParts (words_after z) to (views_after z) hs
-  listings_of_commit commit has settled = listings_by (λ listing even same _. absurd (odd_front m m vs id v v there h h refl settled i.front commit has (subst IsEven (sym same) even)))
+  pub listings_of_commit : (commit : Commit) → HasCommit v commit → ListingParts (words_after z) to (views_after z) hs
+  listings_of_commit commit has = listings_by (λ listing even same _. absurd (odd_front m m vs id v v there h h refl i.front commit has (subst IsEven (sym same) even)))

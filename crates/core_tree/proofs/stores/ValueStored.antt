@@ -296,11 +296,11 @@ module _ (k : Shape) (m : Memory) (vs : List View) (h : List Mark) (i : HoldsNow
       });
     };
     readers = readers_after m m' g g vs id v w there h h' read (aged_same m m' g g vs id v w there h h' outside (gone_done h update) (λ s a. refl) (λ s l. l) i.readers.ages) i.locks.readings i.readers;
-    front = front_made m m' vs id v w there h h' (stores.within.beside Front tt) moving_none i.front commit needs.has_commit refl one_longer
+    front = front_made m m' vs id v w there h h' (stores.within.beside Front tt) i.front commit needs.has_commit refl one_longer
         (subst IsLegal (sym more_updates) (legal_more (updates_of h) update i.front.legal there_now));
     listings = listings_after m m' g g vs id w h h' outside (stores.within.beside Front tt) stores.key
         (λ j z section s e is y. ⊎_elim (λ (l : g.linked s ≡ true). inl l) (λ q. inr (held section.entered s q)) y)
-        (λ j z section listing e is even same lists. absurd (odd_front m m vs id v w there h h' refl moving_none i.front commit needs.has_commit (subst IsEven (sym same) even))) i.listings;
+        (λ j z section listing e is even same lists. absurd (odd_front m m vs id v w there h h' refl i.front commit needs.has_commit (subst IsEven (sym same) even))) i.listings;
     grace = grace_same v.allowance.place h h' plain vs id v w there refl (record { place = refl; places = refl; joined = refl }) moving_none (reuse_done h update i.grace.reuse) (gone_done h update) (last_done h update) refl i.grace;
   }
 
