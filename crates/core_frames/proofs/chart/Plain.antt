@@ -1,7 +1,7 @@
 -- What the invariant gives, in plain words.
 use Rattle.core_state.specs.views.Views.{open_of}
 use Rattle.prcu_marks.proofs.MarkPlaces.{open_at-below}
-use Rattle.std.proofs.Common.{◌*◌, ◌≡◌, ◌⊎◌, ℕ, zero, suc, ◌^◌, ◌<◌, ◌≤◌, true, false, List, [], ◌∷◌, ◌++◌, length, map, take, drop, Option, Some, None, refl, sym, ap, subst, ◌∙◌, ⊎_elim, inl, inr, arith, length-append, take_all}
+use Rattle.std.proofs.Common.{◌*◌, ◌≡◌, ◌⊎◌, ℕ, zero, suc, ◌^◌, ◌<◌, ◌≤◌, true, false, List, [], ◌∷◌, ◌++◌, length, map, take, drop, Option, Some, None, refl, sym, ap, subst, ◌∙◌, ⊎_elim, inl, inr, arith, length-append}
 use Rattle.std.proofs.lemmas.List.{take-append-drop}
 use Rattle.std.specs.FinMap as finite
 use mathlib.Core.Logic.{dite}
@@ -9,9 +9,9 @@ use mathlib.Core.Option.{some, some-injective, some-ne-none}
 use native.Mathlib.Decide.{dec_le}
 use lib.ListN.{get_elem?}
 use Rattle.prcu_marks.specs.declared.mark.Mark.{Mark}
-use Rattle.prcu_model.specs.Dictionary.{map_of}
 use Rattle.prcu_marks.specs.Marks.{updates_of, gone_at}
 use Rattle.prcu_marks.proofs.MarkLists.{updates_of-append}
+use Rattle.prcu_marks.proofs.Histories.{said_now}
 use Rattle.core_state.specs.declared.shape.Shape.{Shape}
 use Rattle.core_state.specs.declared.words.Field.TheVariants.{Key, Link}
 use Rattle.core_state.specs.declared.view.Move.{Move}
@@ -66,6 +66,11 @@ updates_before h n =
     let sum = length-append (updates_of (take n h)) (updates_of (drop n h)) in
     omega arith
 
+-- what the dictionary says now was said in each open section
+pub told_now : (k : Shape) (m : Memory) (vs : List View) (h : List Mark) → HoldsNow k m vs h → (j : ℕ) (u : View) (section : Section) → get_elem? vs j ≡ some u → u.section ≡ Some section
+    → WasSaid (updates_of h) section.key section.from (map_now h section.key)
+told_now k m vs h i j u section e is = said_now (updates_of h) section.key section.from (let from = (i.seats.sections j u e section is).from in let before = updates_before h section.entered in omega arith)
+
 -- a retired slot of a view is one of its slots
 pub retired_in_slots : (v : View) (r : Retired) → IsIn (retired_of v) r → 1 ≤ times r.slot (slots_of v)
 retired_in_slots v r has =
@@ -86,20 +91,10 @@ module _ (k : Shape) (m : Memory) (vs : List View) (h : List Mark) (i : HoldsNow
   placed : IsPlaced m i.chart h vs section
   placed = (i.readers.served searches.id searches.view searches.there section searches.inside).placed searches.no_list
 
-  said_now : WasSaid (updates_of h) section.key section.from (map_now h section.key)
-  said_now =
-      let us = updates_of h in
-      record {
-        front = length us;
-        since = (let from = (i.seats.sections searches.id searches.view searches.there section searches.inside).from in let before = updates_before h section.entered in omega arith);
-        made = omega arith;
-        answers = ap (λ z. finite.get (map_of z) section.key) (take_all (length us) us (omega arith));
-      }
-
   answered : WasSaid (updates_of h) section.key section.from (follow m (slot_count k) (state_slot section.reading.state) section.key)
   answered =
       place_told m (slot_count k) i.chart section.key (IsHeldBack i.chart h section.entered) (MayPass vs section.key section.entered) (WasSaid (updates_of h) section.key section.from)
-      i.tree.shape (map_now h) i.tree.map (i.seats.sections searches.id searches.view searches.there section searches.inside).key_fits said_now
+      i.tree.shape (map_now h) i.tree.map (i.seats.sections searches.id searches.view searches.there section searches.inside).key_fits (told_now k m vs h i searches.id searches.view section searches.there searches.inside)
       (λ s live. gone_within k m vs h i s live.at live.gone) (state_slot section.reading.state) placed.place
 
   -- what it will answer, by where it stands

@@ -29,7 +29,7 @@ use Rattle.core_frames.proofs.chart.Plain.{entered_before}
 use Rattle.core_frames.proofs.chart.Ranges.{bool_cases}
 use Rattle.core_tree.proofs.chart.ChartReaders.{readers, told_here, path_after, walks_after}
 use Rattle.core_tree.proofs.links.LinkSteps.{LinkStep, words_after, views_after, below, unlinked_off, still_linked, not_gone, off_not_gone, held, held_gone, here_after, met_linked}
-use Rattle.core_tree.proofs.updates.Updates.{told_now}
+use Rattle.core_frames.proofs.chart.Plain.{told_now}
 
 module _ (z : LinkStep) where
   open z use {who.{k, m, vs, h, id, v, there, inv as i, inv.{chart as g}}, to, w, hs, p, b, d, c, lower, upper, changes}

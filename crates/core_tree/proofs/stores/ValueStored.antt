@@ -43,7 +43,8 @@ use Rattle.core_tree.proofs.stores.Stores.{StoresAt, value_stores}
 use Rattle.core_tree.proofs.locks.Holders.{linked_stays}
 use Rattle.core_tree.proofs.locks.Locked.{IsAlive, alive, young_locked}
 use Rattle.core_tree.proofs.locks.Relocking.{IsNoted, noted_forth, noted_back, slots_change, length_change, emptied_change_same}
-use Rattle.core_tree.proofs.updates.Updates.{said_longer, legal_more, there_of, len_set}
+use Rattle.prcu_marks.proofs.Histories.{said_longer, legal_more}
+use Rattle.core_tree.proofs.updates.Updates.{there_of, len_set}
 use Rattle.core_tree.proofs.stores.StoreLocks.{LockChange, locks_stored}
 use Rattle.core_tree.proofs.stores.StoreSlots.{slots_stored}
 use Rattle.core_tree.proofs.stores.StoreReaders.{StoresRead, readers_after, aged_same}
