@@ -1,6 +1,7 @@
 pub mod Ranges
 pub mod Hops
 pub mod Endings
+pub mod Absent
 pub mod Unique
 pub mod Places
 pub mod Stands

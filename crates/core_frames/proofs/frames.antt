@@ -1,3 +1,4 @@
+pub mod Contents
 pub mod TreeFrame
 pub mod SlotFrame
 pub mod LockFrame
@@ -11,3 +12,4 @@ pub mod SeatFrame
 pub mod WaiterFrame
 pub mod PlainFrames
 pub mod WholeFrame
+pub mod Stepper

@@ -1,4 +1,3 @@
-pub mod OtherSlots
 pub mod OffStep
 pub mod OffLocks
 pub mod OffSlots

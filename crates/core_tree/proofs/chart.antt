@@ -1,7 +1,6 @@
 pub mod ChangedFunctions
 pub mod ChartChanges
 pub mod ChartReaders
-pub mod Absent
 pub mod Leaves
 pub mod Splices
 pub mod Bypass

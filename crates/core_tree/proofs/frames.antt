@@ -1,9 +1,6 @@
 pub mod CountedBelow
-pub mod Contents
 pub mod MoveSteps
-pub mod Stepper
 pub mod ChartStays
 pub mod ReadersStay
 pub mod RestStays
 pub mod GraceSteps
-pub mod CountSteps

@@ -1,7 +1,6 @@
 -- What keeps the parts of the rule on one class, when a step elsewhere was made.
 use Rattle.std.proofs.Common.{◌≡◌, ◌≢◌, ◌⊎◌, ℕ, ◌+◌, ◌%◌, ◌<◌, ◌≤◌, Bool, true, false, cond, List, [], ◌++◌, set, Option, Some, None, refl, sym, ap, subst, ◌∙◌, inl, inr, arith, option_to_list}
 use Rattle.std.specs.FinMap as finite
-use Rattle.std.proofs.lemmas.List.{take-append-le}
 use mathlib.Core.Logic.{dite}
 use mathlib.Core.Option.{some, some-injective}
 use native.Mathlib.Decide.{dec_le, ℕ_discrete}
@@ -10,6 +9,7 @@ use Rattle.atomic_table.proofs.Lists.{set_here, set_else}
 use Rattle.prcu_marks.specs.declared.mark.Mark.{Mark}
 use Rattle.prcu_model.specs.declared.operation.Update.{Update}
 use Rattle.prcu_model.specs.Dictionary.{map_of}
+use Rattle.prcu_marks.proofs.Histories.{said_longer}
 use Rattle.hash_core.specs.declared.words.Field.{Field}
 use Rattle.hash_core.specs.declared.words.Field.TheVariants.{Lock, Readers, Head, Free, Retired, Key, Value, Next, Chain}
 use Rattle.hash_core.specs.declared.view.SearchState.{SearchState}
@@ -25,7 +25,7 @@ use Rattle.hash_core.specs.Buckets.{Bucket, IsChained, AreListed, HaveOneRole, I
 use Rattle.prcu_model.specs.Dictionary.{WasSaid}
 use Rattle.hash_core.specs.Readers.{IsHeldBack, HasWay, WillAnswer, AreAnswered}
 use Rattle.hash_core.specs.Rule.{BucketRule}
-use Rattle.std.proofs.Common.{ne_eqb, length-append}
+use Rattle.std.proofs.Common.{ne_eqb}
 use Rattle.list_laws.proofs.Lists.{at_below, each_set, total_set, all_change, all_times, times_here, times_append}
 use Rattle.hash_core.proofs.Paths.{path_cons, IsPath-same, IsPath-from, seek-same, HaveDistinctKeys-same}
 
@@ -101,14 +101,6 @@ hold_same c (Some j) (Some l) k same is class =
     let e : j ≡ k = cc in
     elim same [ inl q ↦ ap Some (sym q ∙ e) | inr n ↦ absurd (n.0 (ap (λ (z : Hold). z.class) e ∙ class)) ]
 
-pub WasSaid-longer : (us more : List Update) (key from : ℕ) (answer : Option ℕ) → WasSaid us key from answer → WasSaid (us ++ more) key from answer
-WasSaid-longer us more key from answer said = record {
-  front = said.front;
-  since = said.since;
-  made = let l = length-append us more in let a = said.made in omega arith;
-  answers = ap (λ ts. finite.get (map_of ts) key) (let le = said.made in take-append-le said.front us more le) ∙ said.answers;
-}
-
 -- a slot that stands in one of the class's lists is one of the class
 module _ (capacities : List ℕ) (c : ℕ) (b : Bucket) (roles : HaveOneRole capacities c b) where
   slot_case : (t : Bool) (n : ℕ) → n ≡ cond t 1 0 → 1 ≤ n → t ≡ true
@@ -142,7 +134,7 @@ module _ (capacities : List ℕ) (c : ℕ) (b : Bucket) (roles : HaveOneRole cap
 -- What readers of a class will answer, where its slots and marks are the same.
 module _ (capacities : List ℕ) (c : ℕ) (m m' : Memory) (h h' : List Mark) (us us' : List Update) (b : Bucket) (slots : SameSlots capacities c m m') (marks : SameMarks capacities c h h' us us') (roles : HaveOneRole capacities c b) where
   pub still_said : (key from : ℕ) (answer : Option ℕ) → WasSaid us key from answer → WasSaid us' key from answer
-  still_said key from answer said = subst (λ z. WasSaid z key from answer) (sym marks.longer) (WasSaid-longer us marks.more key from answer said)
+  still_said key from answer said = subst (λ z. WasSaid z key from answer) (sym marks.longer) (said_longer us marks.more key from answer said)
 
   pub still_way : (section : Section) (slot : ℕ) → HasWay capacities c m h us b.chain section slot → HasWay capacities c m' h' us' b.chain section slot
   still_way section slot way =

@@ -1,13 +1,12 @@
 -- What the rule gives of chains, slots, readers and searches.
-use Rattle.std.proofs.Common.{◌≡◌, ◌⊎◌, ℕ, ◌%◌, ◌<◌, ◌≤◌, true, List, ◌++◌, length, Option, Some, None, refl, sym, ap, subst, ◌∙◌, inl, inr, arith}
+use Rattle.std.proofs.Common.{◌≡◌, ◌⊎◌, ℕ, ◌%◌, ◌<◌, ◌≤◌, true, List, ◌++◌, Option, Some, None, refl, sym, ap, subst, ◌∙◌, inl, inr, arith}
 use Rattle.std.specs.FinMap as finite
-use Rattle.std.proofs.lemmas.List.{take_all}
 use mathlib.Core.Logic.{dite}
 use native.Mathlib.Decide.{dec_le}
 use Rattle.prcu_marks.specs.declared.mark.Mark.{Mark}
-use Rattle.prcu_model.specs.declared.operation.Update.{Update}
 use Rattle.prcu_model.specs.Dictionary.{map_of, WasSaid}
 use Rattle.prcu_marks.specs.Marks.{updates_of}
+use Rattle.prcu_marks.proofs.Histories.{said_now}
 use Rattle.hash_core.specs.declared.words.Field.TheVariants.{Value, Next}
 use Rattle.hash_core.specs.declared.view.SearchState.{SearchState}
 use Rattle.hash_core.specs.declared.view.SearchState.TheVariants.{Start, Unread, Passed, Found, Ended}
@@ -53,10 +52,6 @@ marks_are_in_order capacities places tickets m vs h r = r.marks
 pub slots_are_reused : SlotsAreReused
 slots_are_reused capacities places tickets m vs h r = r.reuse
 
--- what the dictionary says now
-says_now : (us : List Update) (key from : ℕ) → from ≤ length us → WasSaid us key from (finite.get (map_of us) key)
-says_now us key from since = record { front = length us; since = since; made = omega arith; answers = ap (λ z. finite.get (map_of z) key) (take_all (length us) us (omega arith)) }
-
 module _ (capacities : List ℕ) (places tickets : ℕ) (m : Memory) (vs : List View) (h : List Mark) (r : MemoryRule capacities places tickets m vs h) (section : Section) (opened : IsOpenIn vs section) where
   c : ℕ
   c = section.key % 64
@@ -80,7 +75,7 @@ module _ (capacities : List ℕ) (places tickets : ℕ) (m : Memory) (vs : List 
   answered Start w = (
     finite.get (map_of (updates_of h)) section.key,
     record { path = (r.bucket (section.key % 64)).chain; leads = bucket_rule.chained.path; found = sym (bucket_rule.mapped.answers section.key refl) },
-    says_now (updates_of h) section.key section.from (r.sections.open_here opened.id opened.view section opened.there opened.inside).2,
+    said_now (updates_of h) section.key section.from (r.sections.open_here opened.id opened.view section opened.there opened.inside).2,
   )
   answered (Unread s) w = (seek m section.key (w.olds ++ w.rest), record { path = w.olds ++ w.rest; leads = w.path; found = refl }, w.said)
   answered (Passed s) w =

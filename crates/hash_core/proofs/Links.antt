@@ -40,7 +40,8 @@ use Rattle.prcu_marks.proofs.MarkPlaces.{open_at-below}
 use Rattle.prcu_marks.proofs.LastUnlinked.{last_unlinked-same}
 use Rattle.hash_core.proofs.MarkOrder.{marks_snoc}
 use Rattle.hash_core.proofs.Adds.{open_at-same, gone_at-same, reuse_more}
-use Rattle.hash_core.proofs.Frames.{SameMarks, chain_slot, taken_slot, WasSaid-longer}
+use Rattle.hash_core.proofs.Frames.{SameMarks, chain_slot, taken_slot}
+use Rattle.prcu_marks.proofs.Histories.{said_longer}
 use Rattle.hash_core.proofs.Stores.{class_words, stored_here, same_self}
 use Rattle.hash_core.proofs.Sections.{free_each}
 use Rattle.hash_core.proofs.Locks.{counted_still, locked_by, elsewhere_held}
@@ -49,7 +50,7 @@ use Rattle.hash_core.proofs.Whole.{after_step}
 use Rattle.hash_core.proofs.Stocks.{rule, had, is_known, known_after, roles_by, moved_by}
 use Rattle.hash_core.proofs.Cuts.{whole_path, comes_on, lacks_none, cut_at, seek_some, seek_slot, seek_replaced}
 use Rattle.prcu_model.proofs.Worth.{get-updated_other, get-put, get-set}
-use Rattle.hash_core.proofs.Updating.{said_now, seats_updated}
+use Rattle.hash_core.proofs.Updating.{said_after, seats_updated}
 
 module _ (capacities : List ℕ) (places tickets : ℕ) (m : Memory) (vs : List View) (h : List Mark) (r : MemoryRule capacities places tickets m vs h) (id : ℕ) (v : View) (at : get_elem? vs id ≡ some v) (hold : Hold) (mine : v.hold ≡ Some hold) where
   abbrev bucket_rule : BucketRule capacities hold.class m h (updates_of h) vs (r.bucket hold.class)
@@ -134,7 +135,7 @@ module _ (capacities : List ℕ) (places tickets : ℕ) (m : Memory) (vs : List 
     free_done w same s free = free_each hold.class h h_done vs id w s (done_last s) (λ p section was is class. free p id v section was at (sym same ∙ is) class) free
 
     pub said_done : (section : Section) (answer : Option ℕ) → WasSaid (updates_of h) section.key section.from answer → WasSaid (updates_of h_done) section.key section.from answer
-    said_done section answer said = subst (λ z. WasSaid z section.key section.from answer) (sym done_longer) (WasSaid-longer (updates_of h) (update ∷ []) section.key section.from answer said)
+    said_done section answer said = subst (λ z. WasSaid z section.key section.from answer) (sym done_longer) (said_longer (updates_of h) (update ∷ []) section.key section.from answer said)
 
     pub get_done : (key : ℕ) → finite.get (map_of (updates_of h_done)) key ≡ finite.get (updated (map_of (updates_of h)) op) key
     get_done key = ap (λ z. finite.get (map_of z) key) done_longer ∙ ap (λ z. finite.get z key) (map_of-push (updates_of h) update)
@@ -306,7 +307,7 @@ module _ (capacities : List ℕ) (places tickets : ℕ) (m : Memory) (vs : List 
           let key_is : section.key ≡ key = sym e.0 ∙ is_key15 in
           subst (WasSaid (updates_of h15) section.key section.from) (sym e.1)
           (subst (λ z. WasSaid z section.key section.from (Some value)) (sym (done_longer even (Set key value)))
-          (said_now (updates_of h) (record { caller = v.place; op = Set key value }) section.key section.from (Some value) from (ap (finite.get (updated (map_of (updates_of h)) (Set key value))) key_is ∙ get-set (map_of (updates_of h)) key value present15)))
+          (said_after (updates_of h) (record { caller = v.place; op = Set key value }) section.key section.from (Some value) from (ap (finite.get (updated (map_of (updates_of h)) (Set key value))) key_is ∙ get-set (map_of (updates_of h)) key value present15)))
     ]
 
     way15 : (section : Section) → section.from ≤ length (updates_of h) → (s : ℕ) → HasWay capacities hold.class m h (updates_of h) chain_now section s → HasWay capacities hold.class m15 h15 (updates_of h15) chain_now section s

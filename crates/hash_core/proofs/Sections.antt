@@ -2,16 +2,16 @@
 use Rattle.std.proofs.Common.{◌≡◌, ◌≢◌, ℕ, ◌+◌, ◌-◌, ◌%◌, ◌^◌, ◌<◌, ◌≤◌, ◌==◌, true, cond, List, [], ◌∷◌, ◌++◌, length, set, Option, Some, None, refl, sym, ap, subst, ◌∙◌, inl, inr, arith, eq-eqb, ne_eqb, append-nil, append_assoc}
 use Rattle.std.specs.List.{AllByRecursion}
 use Rattle.std.specs.FinMap as finite
-use Rattle.std.proofs.lemmas.List.{take_all}
 use mathlib.Core.Logic.{dite}
 use mathlib.Core.Option.{some}
 use native.Mathlib.Decide.{ℕ_discrete}
 use lib.ListN.{get_elem?}
 use Rattle.atomic_table.proofs.Lists.{set_here, set_else}
 use Rattle.prcu_marks.specs.declared.mark.Mark.{Mark}
-use Rattle.prcu_marks.specs.declared.mark.Mark.TheVariants.{Entered, Left, Began, Ended, Done, Given, Unlinked, Freed}
+use Rattle.prcu_marks.specs.declared.mark.Mark.TheVariants.{Entered, Left, Ended}
 use Rattle.prcu_model.specs.Dictionary.{map_of}
 use Rattle.prcu_model.specs.History.{IsLegal}
+use Rattle.prcu_marks.proofs.Histories.{said_now}
 use Rattle.hash_core.specs.declared.words.Field.{Field}
 use Rattle.hash_core.specs.declared.words.Field.TheVariants.{Readers, Head, Free, Retired, Key, Value, Next, Chain}
 use Rattle.hash_core.specs.declared.view.SearchState.{SearchState}
@@ -334,20 +334,15 @@ module _ (capacities : List ℕ) (places tickets : ℕ) (m : Memory) (vs : List 
       chain5 = (r.bucket c).chain
 
       -- what the dictionary says now
-      said_now : (answer : Option ℕ) → seek m section.key (r.bucket c).chain ≡ answer → WasSaid (updates_of h) section.key section.from answer
-      said_now answer is = record {
-        front = length (updates_of h);
-        since = (r.sections.open_here id v section at inside).2;
-        made = omega arith;
-        answers = ap (λ us. finite.get (map_of us) section.key) (take_all (length (updates_of h)) (updates_of h) (omega arith)) ∙ (r.buckets c small).mapped.answers section.key class ∙ is;
-      }
+      says : (answer : Option ℕ) → seek m section.key (r.bucket c).chain ≡ answer → WasSaid (updates_of h) section.key section.from answer
+      says answer is = subst (WasSaid (updates_of h) section.key section.from) ((r.buckets c small).mapped.answers section.key class ∙ is) (said_now (updates_of h) section.key section.from (r.sections.open_here id v section at inside).2)
 
       -- from the head
       pub way_from_head : (link : ℕ) → link ≡ m (Head c) → WillAnswer capacities c m h (updates_of h) (r.bucket c).chain section (link_stand link)
       way_from_head link is = link_case (WillAnswer capacities c m h (updates_of h) (r.bucket c).chain section) link
           (λ e.
           let none : (r.bucket c).chain ≡ [] = path_none (λ s. m (Next s)) (r.bucket c).chain (subst (λ z. IsPath (λ s. m (Next s)) z (r.bucket c).chain) (sym is ∙ e) (r.buckets c small).chained.path) in
-          said_now None (ap (seek m section.key) none))
+          says None (ap (seek m section.key) none))
           (λ ne. record {
             olds = [];
             front = [];
@@ -357,7 +352,7 @@ module _ (capacities : List ℕ) (places tickets : ℕ) (m : Memory) (vs : List 
             held = tt;
             slots = tt;
             joins = refl;
-            said = said_now _ refl;
+            said = says _ refl;
           })
 
       -- past a slot with another key

@@ -37,7 +37,8 @@ use Rattle.hash_core.proofs.Classes.{one_class, at_most_one}
 use Rattle.prcu_marks.proofs.LastUnlinked.{last_unlinked-same, last_unlinked-other}
 use Rattle.hash_core.proofs.MarkOrder.{marks_snoc}
 use Rattle.hash_core.proofs.Adds.{open_at-same, gone_at-same, gone_at-unlinked_here, gone_at-unlinked_other, reuse_more}
-use Rattle.hash_core.proofs.Frames.{chain_slot, WasSaid-longer}
+use Rattle.hash_core.proofs.Frames.{chain_slot}
+use Rattle.prcu_marks.proofs.Histories.{said_longer}
 use Rattle.hash_core.proofs.Stores.{class_words, stored_here, same_self}
 use Rattle.hash_core.proofs.Sections.{free_each}
 use Rattle.hash_core.proofs.Locks.{counted_still, locked_by, elsewhere_held}
@@ -45,7 +46,7 @@ use Rattle.hash_core.proofs.Whole.{after_step}
 use Rattle.hash_core.proofs.Stocks.{rule, had, is_known, known_after, roles_by, moved_by}
 use Rattle.hash_core.proofs.Cuts.{path_past, path_back, cut_at, two_cuts, seek_without, distinct_without, seek_some}
 use Rattle.prcu_model.proofs.Worth.{get-updated_other, get-del}
-use Rattle.hash_core.proofs.Updating.{said_now, seats_updated}
+use Rattle.hash_core.proofs.Updating.{said_after, seats_updated}
 use Rattle.hash_core.proofs.Links.{on_chain, answered_from, marks_elsewhere}
 
 -- A chain from which a slot is unlinked: the slots before it lead on past it.
@@ -282,7 +283,7 @@ module _ (capacities : List ℕ) (places tickets : ℕ) (m : Memory) (vs : List 
 
   -- readers
   said14 : (section : Section) (answer : Option ℕ) → WasSaid (updates_of h) section.key section.from answer → WasSaid (updates_of h14) section.key section.from answer
-  said14 section answer said = subst (λ z. WasSaid z section.key section.from answer) (sym longer14) (WasSaid-longer (updates_of h) (record { caller = v.place; op = Del key } ∷ []) section.key section.from answer said)
+  said14 section answer said = subst (λ z. WasSaid z section.key section.from answer) (sym longer14) (said_longer (updates_of h) (record { caller = v.place; op = Del key } ∷ []) section.key section.from answer said)
 
   outside14 : (section : Section) (t : ℕ) → IsHeldBack h section t → times t chain_now ≡ 0
   outside14 section t back = dite (dec_le 1 (times t chain_now))
@@ -335,7 +336,7 @@ module _ (capacities : List ℕ) (places tickets : ℕ) (m : Memory) (vs : List 
           let now : seek m section.key (olds ++ (ks ++ cut.after)) ≡ None = (seek_append m section.key olds (ks ++ cut.after)).0 none ∙ ap (λ z. seek m z (ks ++ cut.after)) key_is ∙ lost_in fs ks e in
           subst (WasSaid (updates_of h14) section.key section.from) (sym now)
           (subst (λ z. WasSaid z section.key section.from None) (sym longer14)
-          (said_now (updates_of h) (record { caller = v.place; op = Del key }) section.key section.from None from (ap (finite.get (updated (map_of (updates_of h)) (Del key))) key_is ∙ get-del (map_of (updates_of h)) key)))
+          (said_after (updates_of h) (record { caller = v.place; op = Del key }) section.key section.from None from (ap (finite.get (updated (map_of (updates_of h)) (Del key))) key_is ∙ get-del (map_of (updates_of h)) key)))
       by_olds same (Some value) found =
           subst (WasSaid (updates_of h14) section.key section.from) ((seek_append m section.key olds (ks ++ slot ∷ cut.after)).1 value found ∙ sym ((seek_append m section.key olds (ks ++ cut.after)).1 value found)) (said14 section _ said)
 

@@ -1,7 +1,6 @@
 -- What an update leaves of the parts on seats and on other classes, and what it makes of the dictionary.
 use Rattle.std.proofs.Common.{◌≡◌, ◌≢◌, ℕ, ◌+◌, ◌*◌, ◌<◌, ◌≤◌, true, false, List, [], ◌∷◌, ◌++◌, length, set, Option, Some, None, refl, sym, ap, subst, ◌∙◌, inl, inr, arith, eq-eqb, ne_eqb, length-append}
 use Rattle.std.specs.FinMap as finite
-use Rattle.std.proofs.lemmas.List.{take_all}
 use mathlib.Core.Logic.{dite}
 use mathlib.Core.Option.{some}
 use native.Mathlib.Decide.{ℕ_discrete}
@@ -10,8 +9,8 @@ use Rattle.prcu_marks.specs.declared.mark.Mark.{Mark}
 use Rattle.prcu_marks.specs.declared.mark.Mark.TheVariants.{Done}
 use Rattle.prcu_model.specs.declared.operation.Op.{Op}
 use Rattle.prcu_model.specs.declared.operation.Update.{Update}
-use Rattle.prcu_model.specs.Dictionary.{Dictionary, updated, map_of, map_at}
-use Rattle.prcu_model.specs.History.{IsUpdateAt, AreUpdatesFrom, IsLegal}
+use Rattle.prcu_model.specs.Dictionary.{updated, map_of}
+use Rattle.prcu_model.specs.History.{IsUpdateAt, IsLegal}
 use Rattle.prcu_model.proofs.Fronts.{map_of-push}
 use Rattle.hash_core.specs.declared.words.Field.TheVariants.{Front}
 use Rattle.hash_core.specs.declared.view.Hold.{Hold}
@@ -22,6 +21,7 @@ use Rattle.prcu_marks.specs.Marks.{updates_of, open_at, own_of, entered_at}
 use Rattle.hash_core.specs.Marks.{AreMarks, ReuseByClass}
 use Rattle.prcu_model.specs.Dictionary.{WasSaid}
 use Rattle.prcu_marks.specs.Commits.{updates_by}
+use Rattle.prcu_marks.proofs.Histories.{legal_more, said_now}
 use Rattle.hash_core.specs.Seats.{HasNoCommit}
 use Rattle.hash_core.specs.Steps.{HasCommit, updated_view}
 use Rattle.hash_core.specs.Rule.{MemoryRule}
@@ -32,22 +32,11 @@ use Rattle.hash_core.proofs.Quiet.{section_back, section_forth}
 use Rattle.hash_core.proofs.Locks.{class_small, works}
 use Rattle.hash_core.proofs.Whole.{SeatsRule}
 
-legal_from : (m : Dictionary) (us : List Update) (u : Update) → AreUpdatesFrom m us → ((n : Dictionary) → n ≡ Rattle.prcu_model.specs.Dictionary.updated_all m us → IsUpdateAt n u.op) → AreUpdatesFrom m (us ++ u ∷ [])
-legal_from m [] u a last = (last m refl, tt)
-legal_from m (x ∷ us) u a last = (a.0, legal_from (updated m x.op) us u a.1 last)
-
--- a history with one more update at the end
-pub legal_more : (us : List Update) (u : Update) → IsLegal us → IsUpdateAt (map_of us) u.op → IsLegal (us ++ u ∷ [])
-legal_more us u legal last = legal_from finite.empty us u legal (λ n e. subst (λ z. IsUpdateAt z u.op) (sym e) last)
-
 -- what the last front says
-pub said_now : (us : List Update) (u : Update) (key from : ℕ) (answer : Option ℕ) → from ≤ length us → finite.get (updated (map_of us) u.op) key ≡ answer → WasSaid (us ++ u ∷ []) key from answer
-said_now us u key from answer since e = record {
-  front = length us + 1;
-  since = omega arith;
-  made = let l = length-append us (u ∷ []) in omega arith;
-  answers = ap (λ z. finite.get (map_of z) key) (take_all (length us + 1) (us ++ u ∷ []) (let l = length-append us (u ∷ []) in omega arith)) ∙ ap (λ z. finite.get z key) (map_of-push us u) ∙ e;
-}
+pub said_after : (us : List Update) (u : Update) (key from : ℕ) (answer : Option ℕ) → from ≤ length us → finite.get (updated (map_of us) u.op) key ≡ answer → WasSaid (us ++ u ∷ []) key from answer
+said_after us u key from answer since e =
+    let l = length-append us (u ∷ []) in
+    subst (WasSaid (us ++ u ∷ []) key from) (ap (λ z. finite.get z key) (map_of-push us u) ∙ e) (said_now (us ++ u ∷ []) key from (omega arith))
 
 module _ (capacities : List ℕ) (places tickets : ℕ) (m : Memory) (vs : List View) (h : List Mark) (r : MemoryRule capacities places tickets m vs h) (id : ℕ) (v : View) (at : get_elem? vs id ≡ some v) (hold : Hold) (mine : v.hold ≡ Some hold) (even : ℕ) (commit : HasCommit v hold even) where
   -- the front is odd by this view

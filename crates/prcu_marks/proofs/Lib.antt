@@ -5,4 +5,5 @@ pub mod Seen
 pub mod OwnMarks
 pub mod Chains
 pub mod Callers
+pub mod Histories
 pub mod Runs

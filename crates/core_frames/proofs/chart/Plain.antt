@@ -1,7 +1,7 @@
 -- What the invariant gives, in plain words.
 use Rattle.core_state.specs.views.Views.{open_of}
 use Rattle.prcu_marks.proofs.MarkPlaces.{open_at-below}
-use Rattle.std.proofs.Common.{◌*◌, ◌≡◌, ◌≢◌, ◌⊎◌, ℕ, zero, suc, ◌^◌, ◌<◌, ◌≤◌, true, false, List, [], ◌∷◌, ◌++◌, length, map, take, drop, Option, Some, None, refl, sym, ap, subst, ◌∙◌, ⊎_elim, inl, inr, arith, length-append, take_all}
+use Rattle.std.proofs.Common.{◌*◌, ◌≡◌, ◌⊎◌, ℕ, zero, suc, ◌^◌, ◌<◌, ◌≤◌, true, false, List, [], ◌∷◌, ◌++◌, length, map, take, drop, Option, Some, None, refl, sym, ap, subst, ◌∙◌, ⊎_elim, inl, inr, arith, length-append}
 use Rattle.std.proofs.lemmas.List.{take-append-drop}
 use Rattle.std.specs.FinMap as finite
 use mathlib.Core.Logic.{dite}
@@ -9,9 +9,9 @@ use mathlib.Core.Option.{some, some-injective, some-ne-none}
 use native.Mathlib.Decide.{dec_le}
 use lib.ListN.{get_elem?}
 use Rattle.prcu_marks.specs.declared.mark.Mark.{Mark}
-use Rattle.prcu_model.specs.Dictionary.{map_of}
 use Rattle.prcu_marks.specs.Marks.{updates_of, gone_at}
 use Rattle.prcu_marks.proofs.MarkLists.{updates_of-append}
+use Rattle.prcu_marks.proofs.Histories.{said_now}
 use Rattle.core_state.specs.declared.shape.Shape.{Shape}
 use Rattle.core_state.specs.declared.words.Field.TheVariants.{Key, Link}
 use Rattle.core_state.specs.declared.view.Move.{Move}
@@ -20,7 +20,7 @@ use Rattle.core_state.specs.declared.view.Section.{Section}
 use Rattle.core_state.specs.declared.view.View.{View}
 use Rattle.list_laws.specs.Counts.{times, IsIn}
 use Rattle.core_state.specs.memory.Memory.{Memory, slot_count}
-use Rattle.core_state.specs.tree.Nodes.{next, last_of, follow, Hops}
+use Rattle.core_state.specs.tree.Nodes.{last_of, follow, Hops}
 use Rattle.core_state.specs.views.Views.{retired_of, slots_of, spares_of, held_list, open_reading, readings_of}
 use Rattle.core_state.specs.declared.view.Reading.{Reading}
 use Rattle.core_state.specs.Marks.{begun}
@@ -28,7 +28,7 @@ use Rattle.core_frames.proofs.marks.MarkFacts.{begun-append}
 use Rattle.core_frames.proofs.views.Leaving.{record_of}
 use Rattle.core_state.specs.parts.ReaderParts.{GoesTo, StandsWell}
 use Rattle.prcu_marks.specs.declared.mark.Side.{Side}
-use Rattle.prcu_marks.specs.declared.mark.Side.TheVariants.{Left, Right}
+use Rattle.prcu_marks.specs.declared.mark.Side.TheVariants.{Right}
 use Rattle.prcu_marks.specs.declared.mark.Mark.TheVariants.{Began}
 use Rattle.core_state.specs.tree.Chart.{Chart, Belongs, IsInRange, IsShaped}
 use Rattle.prcu_model.specs.Dictionary.{WasSaid}
@@ -40,8 +40,9 @@ use Rattle.core_frames.specs.Laws.{LinksAreTree, FollowIsMap, Searches, answer_o
 use Rattle.core_state.specs.declared.view.SearchState.{SearchState}
 use Rattle.core_state.specs.declared.view.SearchState.TheVariants.{At, Unread, Found, Missed}
 use Rattle.list_laws.proofs.Lists.{at_one, in_append, total_part, times_append, times_in}
-use Rattle.core_frames.proofs.chart.Ranges.{bool_cases, after-node, next-left, next-right}
+use Rattle.core_frames.proofs.chart.Ranges.{bool_cases}
 use Rattle.core_frames.proofs.chart.Endings.{answer_is, end_of_range, one_end, same_end}
+use Rattle.core_frames.proofs.chart.Absent.{range_of_side, stops}
 use Rattle.core_frames.proofs.chart.Places.{place_told}
 use Rattle.core_frames.proofs.chart.Stands.{stands}
 use Rattle.core_frames.proofs.chart.Passes.{passes_pends}
@@ -65,6 +66,11 @@ updates_before h n =
     let sum = length-append (updates_of (take n h)) (updates_of (drop n h)) in
     omega arith
 
+-- what the dictionary says now was said in each open section
+pub told_now : (k : Shape) (m : Memory) (vs : List View) (h : List Mark) → HoldsNow k m vs h → (j : ℕ) (u : View) (section : Section) → get_elem? vs j ≡ some u → u.section ≡ Some section
+    → WasSaid (updates_of h) section.key section.from (map_now h section.key)
+told_now k m vs h i j u section e is = said_now (updates_of h) section.key section.from (let from = (i.seats.sections j u e section is).from in let before = updates_before h section.entered in omega arith)
+
 -- a retired slot of a view is one of its slots
 pub retired_in_slots : (v : View) (r : Retired) → IsIn (retired_of v) r → 1 ≤ times r.slot (slots_of v)
 retired_in_slots v r has =
@@ -85,20 +91,10 @@ module _ (k : Shape) (m : Memory) (vs : List View) (h : List Mark) (i : HoldsNow
   placed : IsPlaced m i.chart h vs section
   placed = (i.readers.served searches.id searches.view searches.there section searches.inside).placed searches.no_list
 
-  said_now : WasSaid (updates_of h) section.key section.from (map_now h section.key)
-  said_now =
-      let us = updates_of h in
-      record {
-        front = length us;
-        since = (let from = (i.seats.sections searches.id searches.view searches.there section searches.inside).from in let before = updates_before h section.entered in omega arith);
-        made = omega arith;
-        answers = ap (λ z. finite.get (map_of z) section.key) (take_all (length us) us (omega arith));
-      }
-
   answered : WasSaid (updates_of h) section.key section.from (follow m (slot_count k) (state_slot section.reading.state) section.key)
   answered =
       place_told m (slot_count k) i.chart section.key (IsHeldBack i.chart h section.entered) (MayPass vs section.key section.entered) (WasSaid (updates_of h) section.key section.from)
-      i.tree.shape (map_now h) i.tree.map (i.seats.sections searches.id searches.view searches.there section searches.inside).key_fits said_now
+      i.tree.shape (map_now h) i.tree.map (i.seats.sections searches.id searches.view searches.there section searches.inside).key_fits (told_now k m vs h i searches.id searches.view section searches.there searches.inside)
       (λ s live. gone_within k m vs h i s live.at live.gone) (state_slot section.reading.state) placed.place
 
   -- what it will answer, by where it stands
@@ -147,21 +143,10 @@ stood_is_young k m vs h i id s v section there inside stood =
 -- what belongs below an empty side: the search from the root ends there
 ends_there : (m : Memory) (n : ℕ) (g : Chart) (x s : ℕ) (b : Side) → IsShaped m n g → x < 2 ^ 64 → g.linked s ≡ true → (s ≡ 0 → b ≡ Right) → m (Link s b) ≡ 0 → Belongs m g x s b → last_of m x n 0 ≡ s
 ends_there m n g x s b h fits l root empty belongs =
-    let here : IsInRange g x s × (next m x s ≡ 0) = at_side s b l root empty belongs in
-    let a = same_end m n g x s h fits here.0 in
-    let e = end_of_range m n g x s h here.0 in
-    sym a ∙ e.1 ∙ one_end m n g x e.0 s h fits e.3 e.2 here.0 here.1
-  where
-    at_node : (s : ℕ) (b : Side) → g.linked s ≡ true → m (Link s b) ≡ 0 → Belongs m g x s b → s ≢ 0 → (g.old s ≡ true) ⊎ (g.old s ≡ false) → IsInRange g x s × (next m x s ≡ 0)
-    at_node s Left l empty w nz (inl o) = (record { linked = l; low = w.0; high = (let a = h.displaced s l o in omega (arith, a.low, w.0, w.1)) }, next-left m x s nz w.1 ∙ empty)
-    at_node s Left l empty w nz (inr o) = (record { linked = l; low = w.0; high = omega (arith, (h.keyed s l nz o).high, w.1) }, next-left m x s nz w.1 ∙ empty)
-    at_node s Right l empty w nz (inl o) = (record { linked = l; low = omega (arith, (h.displaced s l o).low, after-node m s nz, w.0); high = w.1 }, next-right m x s nz (omega (arith, after-node m s nz, w.0)) ∙ empty)
-    at_node s Right l empty w nz (inr o) = (record { linked = l; low = omega (arith, (h.keyed s l nz o).low, after-node m s nz, w.0); high = w.1 }, next-right m x s nz (omega (arith, after-node m s nz, w.0)) ∙ empty)
-
-    at_side : (s : ℕ) (b : Side) → g.linked s ≡ true → (s ≡ 0 → b ≡ Right) → m (Link s b) ≡ 0 → Belongs m g x s b → IsInRange g x s × (next m x s ≡ 0)
-    at_side zero Left l root empty w = absurd (let e = root refl in cc)
-    at_side zero Right l root empty w = (record { linked = l; low = (let r = h.root_low in omega arith); high = w.1 }, empty)
-    at_side (suc s) b l root empty w = at_node (suc s) b l empty w (omega arith) (bool_cases (g.old (suc s)))
+    let here = range_of_side m n g x s b h l root belongs in
+    let a = same_end m n g x s h fits here in
+    let e = end_of_range m n g x s h here in
+    sym a ∙ e.1 ∙ one_end m n g x e.0 s h fits e.3 e.2 here (stops m n g x s b h l root empty belongs)
 
 -- what a reading of a view says of an empty side, be its section open or not
 reading_says : (k : Shape) (m : Memory) (vs : List View) (h : List Mark) (i : HoldsNow k m vs h) (id : ℕ) (v : View) (r : Reading) → get_elem? vs id ≡ some v → IsIn (readings_of v) r → IsRecord m i.chart vs r

@@ -40,12 +40,22 @@ numbers_of u = record {
   turns = u.counts.turns + turns_to_come u.wait;
 }
 
+-- the sums over the words of slots
+abbrev pub free_slots : Memory → ℕ → ℕ
+free_slots m n = count_below (λ s. m (State s) == 0) n
+
+abbrev pub generations_in : Memory → ℕ → ℕ
+generations_in m n = sum_below (λ s. m (Life s) / 2) n
+
+abbrev pub tags_raised : Memory → ℕ → ℕ
+tags_raised m n = sum_below (λ s. m (Tag s Left) + m (Tag s Right)) n
+
 -- What a step does to the counts, with what its view adds before and after.
 pub record CountsStep (m m' : Memory) (n : ℕ) (g to : Chart) (h h' : List Mark) (a b : Numbers) : Type 0 where
-  pub free : m' Free + b.reserved + b.owes + count_below (λ s. m (State s) == 0) n ≡ m Free + a.reserved + a.owes + count_below (λ s. m' (State s) == 0) n
+  pub free : m' Free + b.reserved + b.owes + free_slots m n ≡ m Free + a.reserved + a.owes + free_slots m' n
   pub clock : m' Clock + length (updates_of h') + b.tickets ≤ m Clock + length (updates_of h) + a.tickets
-  pub generations : sum_below (λ s. m' (Life s) / 2) n + b.reserved + linked_count to n + b.unraised + b.tickets ≤ sum_below (λ s. m (Life s) / 2) n + a.reserved + linked_count g n + a.unraised + a.tickets
-  pub tags : sum_below (λ s. m' (Tag s Left) + m' (Tag s Right)) n + b.emptied + b.pending + b.tickets ≤ sum_below (λ s. m (Tag s Left) + m (Tag s Right)) n + a.emptied + a.pending + a.tickets
+  pub generations : generations_in m' n + b.reserved + linked_count to n + b.unraised + b.tickets ≤ generations_in m n + a.reserved + linked_count g n + a.unraised + a.tickets
+  pub tags : tags_raised m' n + b.emptied + b.pending + b.tickets ≤ tags_raised m n + a.emptied + a.pending + a.tickets
   pub turns : b.turns + 64 * m Clock ≤ a.turns + 64 * m' Clock
   pub pairs : young_count to n + finite.len (map_of (updates_of h)) ≡ young_count g n + finite.len (map_of (updates_of h'))
   pub olds : old_count to n + a.pending ≡ old_count g n + b.pending
@@ -70,11 +80,11 @@ counts_by tickets m m' n g to vs id v w h h' there step t =
       olds = (let a = t.olds in let b = step.olds in omega arith);
     }
 
--- the sums over the words of slots
+-- that a step leaves them
 pub record SameSums (m m' : Memory) (n : ℕ) : Type 0 where
-  pub states : count_below (λ s. m' (State s) == 0) n ≡ count_below (λ s. m (State s) == 0) n
-  pub lives : sum_below (λ s. m' (Life s) / 2) n ≡ sum_below (λ s. m (Life s) / 2) n
-  pub tags : sum_below (λ s. m' (Tag s Left) + m' (Tag s Right)) n ≡ sum_below (λ s. m (Tag s Left) + m (Tag s Right)) n
+  pub states : free_slots m' n ≡ free_slots m n
+  pub lives : generations_in m' n ≡ generations_in m n
+  pub tags : tags_raised m' n ≡ tags_raised m n
 
 pub sums_same : (m m' : Memory) (n : ℕ) → SameNodes m m' → ((s : ℕ) → m' (State s) ≡ m (State s)) → SameSums m m' n
 sums_same m m' n nodes states = record {

@@ -4,12 +4,11 @@ use Rattle.atomic_table.proofs.Lists.{set_here, set_else}
 use mathlib.Core.Logic.{dite}
 use native.Mathlib.Decide.{ℕ_discrete}
 use Rattle.core_state.specs.declared.view.HeldLock.{HeldLock}
-use Rattle.std.proofs.Common.{◌≡◌, ℕ, zero, suc, ◌/◌, ◌<◌, ◌≤◌, ◌==◌, ◌⊎◌, nat_lt, List, length, set, Option, Some, None, refl, sym, ap, subst, ◌∙◌, ⊎_elim, inl, inr, arith, ◌++◌, true, if◌then◌else◌}
+use Rattle.std.proofs.Common.{◌≡◌, ℕ, ◌/◌, ◌<◌, ◌≤◌, ◌⊎◌, List, length, set, Option, Some, None, sym, ap, subst, ◌∙◌, ⊎_elim, inl, inr, arith, ◌++◌, true}
 use mathlib.Core.Option.{some}
 use lib.ListN.{get_elem?}
 use Rattle.prcu_marks.specs.declared.mark.Mark.{Mark}
 use Rattle.prcu_marks.specs.declared.mark.Side.{Side}
-use Rattle.prcu_marks.specs.declared.mark.Side.TheVariants.{Left, Right}
 use Rattle.prcu_marks.specs.Marks.{updates_of, gone_at}
 use Rattle.core_state.specs.declared.words.Field.TheVariants.{Life}
 use Rattle.core_state.specs.declared.view.Reading.{Reading}
@@ -21,63 +20,25 @@ use Rattle.list_laws.specs.Counts.{Each}
 use Rattle.core_state.specs.memory.Lists.{IsOdd}
 use Rattle.core_state.specs.memory.Memory.{Memory}
 use Rattle.core_state.specs.views.Known.{lock_of, is_emptied}
-use Rattle.core_state.specs.tree.Nodes.{next, answer_at, OnRightLeft, first, further}
+use Rattle.core_state.specs.tree.Nodes.{OnRightLeft}
 use Rattle.core_state.specs.views.Views.{readings_of, open_reading}
-use Rattle.core_state.specs.tree.Chart.{Chart, Belongs}
+use Rattle.core_state.specs.tree.Chart.{Chart}
 use Rattle.prcu_model.specs.Dictionary.{WasSaid}
-use Rattle.core_state.specs.tree.Readers.{IsHeldBack, MayPass, IsOldFor, IsEmptied, Spine, bottom, more, Place, in_range, at_old, Walks, at_linked, at_stop, at_live}
+use Rattle.core_state.specs.tree.Readers.{IsHeldBack, MayPass, IsOldFor, IsEmptied}
 use Rattle.core_state.specs.parts.ReaderParts.{Answered, IsServed, IsAsRecorded, IsStillLinked, IsRecord, IsReading, IsMetBefore, ReaderParts}
 use Rattle.list_laws.proofs.Lists.{each_set, each_change, at_below, at_one}
 use Rattle.prcu_marks.proofs.MarkPlaces.{gone_at-below}
 use Rattle.core_frames.proofs.marks.MarkFacts.{QuietMarks}
 use Rattle.core_frames.proofs.views.Same.{SameNodes, still, was}
-use Rattle.core_frames.proofs.frames.TreeFrame.{SameMoves, low_same, high_same, pending_still}
-use Rattle.core_frames.proofs.chart.Places.{carry}
+use Rattle.core_frames.proofs.frames.TreeFrame.{SameMoves, pending_still}
+use Rattle.core_frames.proofs.frames.Contents.{any, SameContents, all_same, place_same, walks_by, right_left_by, belongs_same}
 
 module _ (m m' : Memory) (nodes : SameNodes m m') where
-  pub next_same : (x s : ℕ) → next m' x s ≡ next m x s
-  next_same x zero = nodes.link 0 Right
-  next_same x (suc s) = λ i. if nat_lt x (nodes.key (suc s) i) then nodes.link (suc s) Left i else if nat_lt (nodes.key (suc s) i) x then nodes.link (suc s) Right i else 0
-
-  pub answer_same : (x s : ℕ) → answer_at m' x s ≡ answer_at m x s
-  answer_same x zero = refl
-  answer_same x (suc s) = λ i. if nodes.key (suc s) i == x then Some (nodes.value (suc s) i) else None
-
-  pub spine_same : (g : Chart) (x u s : ℕ) → Spine m g x u s → Spine m' g x u s
-  spine_same g x u s (bottom e l) = bottom e l
-  spine_same g x u s (more {c = c} l lt e ne sp) = more l (let k = nodes.key s in omega arith) (nodes.link s Left ∙ e) ne (spine_same g x u c sp)
-
-  pub right_left_same : (d s : ℕ) → OnRightLeft m d s → OnRightLeft m' d s
-  right_left_same d s (first e ne) = first (nodes.link d Right ∙ e) ne
-  right_left_same d s (further {s = p} on e ne) = further (right_left_same d p on) (nodes.link p Left ∙ e) ne
-
-  pub walks_same : (g : Chart) (k : ℕ) (live later : ℕ → Type 0) → ((s : ℕ) → live s → later s) → (s : ℕ) → Walks m g k live s → Walks m' g k later s
-  walks_same g k live later f s (at_linked l e) = at_linked l (right_left_same k s e)
-  walks_same g k live later f s (at_stop l e) = at_stop (f s l) (nodes.link s Left ∙ e)
-  walks_same g k live later f s (at_live {c = c} l e ne w) = at_live (f s l) (nodes.link s Left ∙ e) ne (walks_same g k live later f c w)
-
-  pub place_same : (g : Chart) (x : ℕ) (live later pend due : ℕ → Type 0) (told more_told : Option ℕ → Type 0)
-      → ((s : ℕ) → live s → later s) → ((s : ℕ) → pend s → due s) → ((o : Option ℕ) → told o → more_told o)
-      → (s : ℕ) → Place m g x live pend told s → Place m' g x later due more_told s
-  place_same g x live later pend due told more_told f p t =
-      carry m m' g g x live later pend due told more_told (record {
-        range = λ s i. in_range i;
-        old = λ s u q o le a sp. at_old (p u q) o (let k = nodes.key u in omega arith) (subst more_told (sym (answer_same x u)) (t (answer_at m x u) a)) (spine_same g x u s sp);
-        still_live = f;
-        same_next = λ s l. next_same x s;
-        same_answer = λ s l. answer_same x s;
-        same_rank = λ s l. refl;
-        still_told = t;
-      })
-
   pub recorded_back : (r : Reading) (s : ℕ) → IsAsRecorded m' r s → IsAsRecorded m r s
   recorded_back r s i = (i.0, i.1, sym (nodes.life s) ∙ i.2)
 
   pub linked_back : (g : Chart) (r : Reading) (s : ℕ) → IsStillLinked m' g r s → IsStillLinked m g r s
   linked_back g r s i = record { linked = i.linked; generation = i.generation; recorded = i.recorded; same = ap (λ x. x / 2) (sym (nodes.life s)) ∙ i.same }
-
-  pub belongs_same : (g : Chart) (x s : ℕ) (b : Side) → Belongs m g x s b → Belongs m' g x s b
-  belongs_same g x s b i = let low = low_same m m' nodes g s b in let high = high_same m m' nodes g s b in let p = i.0 in let q = i.1 in (omega arith, omega arith)
 
 pub held_back_same : (g : Chart) (h h' : List Mark) (entered s : ℕ) → QuietMarks h h' → IsHeldBack g h entered s → IsHeldBack g h' entered s
 held_back_same g h h' entered s quiet i = record { out = i.out; at = i.at; gone = quiet.gone s ∙ i.gone; later = i.later }
@@ -133,6 +94,15 @@ pub see_same : (vs : List View) (id : ℕ) (v w : View) → get_elem? vs id ≡ 
 see_same vs id v w there moving locks = record { may = may_still vs id v w there moving; old_for = old_still vs id v w there moving; emptied = emptied_still vs id v w there locks }
 
 module _ (m m' : Memory) (nodes : SameNodes m m') (g : Chart) (vs us : List View) (h h' : List Mark) (quiet : QuietMarks h h') (see : ReadersSee vs us) where
+  contents : SameContents m m' any any
+  contents = all_same m m' nodes
+
+  linked_any : (s : ℕ) → g.linked s ≡ true → any s
+  linked_any s l = tt
+
+  path_same : (d s : ℕ) → OnRightLeft m d s → OnRightLeft m' d s
+  path_same d s = right_left_by m m' any any contents g linked_any d s tt (λ p way. tt)
+
   answered_same : (section : Section) (state : SearchState) → Answered (updates_of h) section state → Answered (updates_of h') section state
   answered_same section (At s b) i = tt
   answered_same section (Unread s parent b) i = tt
@@ -143,15 +113,15 @@ module _ (m m' : Memory) (nodes : SameNodes m m') (g : Chart) (vs us : List View
   pub served_by : (section : Section) → IsServed m g h vs section → IsServed m' g h' us section
   served_by section i = record {
     placed = λ none. (let p = i.placed none in record {
-      place = place_same m m' nodes g section.key (IsHeldBack g h section.entered) (IsHeldBack g h' section.entered) (MayPass vs section.key section.entered) (MayPass us section.key section.entered)
+      place = place_same m m' any any contents g linked_any (λ u l o. tt) section.key (IsHeldBack g h section.entered) (IsHeldBack g h' section.entered) (MayPass vs section.key section.entered) (MayPass us section.key section.entered)
           (WasSaid (updates_of h) section.key section.from) (WasSaid (updates_of h') section.key section.from)
-          (λ s. held_back_same g h h' section.entered s quiet) (see.may section.key section.entered) (λ o. said_same h h' section.key section.from o quiet) _ p.place;
+          (λ s l. tt) (λ s l. tt) (λ s. held_back_same g h h' section.entered s quiet) (see.may section.key section.entered) (λ o. said_same h h' section.key section.from o quiet) _ p.place;
       answered = answered_same section section.reading.state p.answered;
     });
     lists = i.lists;
     walking = λ node parent b value walk found on. (let p = i.walking node parent b value walk found on in record {
-      walks = λ l. walks_same m m' nodes g node (IsHeldBack g h section.entered) (IsHeldBack g h' section.entered) (λ s. held_back_same g h h' section.entered s quiet) walk.slot (p.walks l);
-      parent = λ l k. ⊎_elim (λ e. inl e) (λ e. inr (right_left_same m m' nodes node walk.parent e)) (p.parent l k);
+      walks = λ l. walks_by m m' any any contents g linked_any node (IsHeldBack g h section.entered) (IsHeldBack g h' section.entered) tt (λ s way. tt) (λ s l. tt) (λ s. held_back_same g h h' section.entered s quiet) walk.slot (p.walks l);
+      parent = λ l k. ⊎_elim (λ e. inl e) (λ e. inr (path_same node walk.parent e)) (p.parent l k);
     });
     stood = λ s has. (let p = i.stood s has in record {
       here = ⊎_elim (λ l. inl l) (λ (x : IsHeldBack g h section.entered s × IsOdd (m (Life s))). inr (held_back_same g h h' section.entered s quiet x.0, subst IsOdd (sym (nodes.life s)) x.1)) p.here;
@@ -164,11 +134,11 @@ module _ (m m' : Memory) (nodes : SameNodes m m') (g : Chart) (vs us : List View
   record_by r i = record {
     key_fits = i.key_fits;
     side = λ s tag b missed life known empty same settled.
-        ⊎_elim (λ o. inl (see.old_for r.key s o)) (λ x. inr (belongs_same m m' nodes g r.key s b x))
+        ⊎_elim (λ o. inl (see.old_for r.key s o)) (λ x. inr (belongs_same m m' any any contents g linked_any r.key s b tt x))
         (i.side s tag b missed (recorded_back m m' nodes r s life) known (sym (nodes.link s b) ∙ empty) (sym (nodes.tag s b) ∙ same) (λ x. settled (see.emptied s b x)));
     walk = λ node parent b value walk found on. (let p = i.walk node parent b value walk found on in record {
-      parent = λ x y. ⊎_elim (λ e. inl e) (λ e. inr (right_left_same m m' nodes node walk.parent e)) (p.parent (linked_back m m' nodes g r node x) (recorded_back m m' nodes r walk.parent y));
-      slot = λ x y. right_left_same m m' nodes node walk.slot (p.slot (linked_back m m' nodes g r node x) (recorded_back m m' nodes r walk.slot y));
+      parent = λ x y. ⊎_elim (λ e. inl e) (λ e. inr (path_same node walk.parent e)) (p.parent (linked_back m m' nodes g r node x) (recorded_back m m' nodes r walk.parent y));
+      slot = λ x y. path_same node walk.slot (p.slot (linked_back m m' nodes g r node x) (recorded_back m m' nodes r walk.slot y));
     });
   }
 

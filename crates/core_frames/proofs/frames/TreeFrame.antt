@@ -1,14 +1,12 @@
 -- The parts on the tree read keys, values, links and lives of slots, the moves, locks and records of views, and the updates. A step
 -- that leaves these keeps them.
 use Rattle.core_state.specs.declared.view.Known.{Known}
-use Rattle.std.proofs.Common.{◌≡◌, ℕ, zero, suc, ◌+◌, ◌*◌, true, List, set, Option, Some, refl, sym, ap, subst, ◌∙◌, ⊎_elim, inl, inr, arith, Bool, ◌⊎◌}
+use Rattle.std.proofs.Common.{◌≡◌, ℕ, ◌+◌, ◌*◌, true, List, set, Some, refl, sym, ap, subst, ◌∙◌, ⊎_elim, inl, inr, Bool, ◌⊎◌}
 use Rattle.std.specs.FinMap as finite
 use mathlib.Core.Option.{some}
 use lib.ListN.{get_elem?}
 use Rattle.prcu_marks.specs.declared.mark.Mark.{Mark}
 use Rattle.prcu_marks.specs.declared.mark.Mark.TheVariants.{Done}
-use Rattle.prcu_marks.specs.declared.mark.Side.{Side}
-use Rattle.prcu_marks.specs.declared.mark.Side.TheVariants.{Left, Right}
 use Rattle.prcu_model.specs.declared.operation.Op.TheVariants.{Del}
 use Rattle.prcu_model.specs.Dictionary.{map_of}
 use Rattle.core_state.specs.declared.words.Field.TheVariants.{Life}
@@ -19,49 +17,16 @@ use Rattle.core_state.specs.declared.view.View.{View}
 use Rattle.list_laws.specs.Counts.{IsIn, Each}
 use Rattle.core_state.specs.memory.Memory.{Memory}
 use Rattle.core_state.specs.views.Known.{lock_of}
-use Rattle.core_state.specs.tree.Nodes.{after}
-use Rattle.core_state.specs.tree.Chart.{Chart, low_of, high_of, IsShaped, HoldsMap}
+use Rattle.core_state.specs.tree.Chart.{Chart, HoldsMap}
 use Rattle.core_state.specs.parts.LockParts.{HasGeneration}
 use Rattle.core_state.specs.tree.Readers.{IsPending}
 use Rattle.core_state.specs.parts.TreeParts.{map_now, IsMoving, TreeParts}
 use Rattle.list_laws.proofs.Lists.{each_set}
 use Rattle.core_frames.proofs.marks.MarkFacts.{QuietMarks}
 use Rattle.core_frames.proofs.views.Same.{SameNodes, was, still}
+use Rattle.core_frames.proofs.frames.Contents.{any, all_same, shape_same, map_same}
 
 module _ (m m' : Memory) (nodes : SameNodes m m') where
-  pub after_same : (s : ℕ) → after m' s ≡ after m s
-  after_same zero = refl
-  after_same (suc s) = ap (λ z. z + 1) (nodes.key (suc s))
-
-  pub low_same : (g : Chart) (s : ℕ) (b : Side) → low_of m' g s b ≡ low_of m g s b
-  low_same g s Left = refl
-  low_same g s Right = after_same s
-
-  pub high_same : (g : Chart) (s : ℕ) (b : Side) → high_of m' g s b ≡ high_of m g s b
-  high_same g s Left = nodes.key s
-  high_same g s Right = refl
-
-  pub shape_same : (n : ℕ) (g : Chart) → IsShaped m n g → IsShaped m' n g
-  shape_same n g h = record {
-    root = h.root;
-    root_left = nodes.link 0 Left ∙ h.root_left;
-    root_low = h.root_low;
-    root_high = h.root_high;
-    root_new = h.root_new;
-    below = λ s c b l e ne. (let i = h.below s c b l (sym (nodes.link s b) ∙ e) ne in
-        record { linked = i.linked; up = i.up; side = i.side; rank = i.rank; low = i.low ∙ sym (low_same g s b); high = i.high ∙ sym (high_same g s b) });
-    hangs = λ c l ne. (let i = h.hangs c l ne in record { above = i.above; link = nodes.link (g.up c) (g.side c) ∙ i.link });
-    keyed = λ s l ne o. (let i = h.keyed s l ne o in let e = nodes.key s in record { low = omega (arith, i.low); high = omega (arith, i.high) });
-    displaced = λ s l o. (let i = h.displaced s l o in let e = nodes.key s in record { low = omega (arith, i.low); high = i.high; left = nodes.link s Left ∙ i.left });
-    within = h.within;
-  }
-
-  pub map_same : (g : Chart) (map : ℕ → Option ℕ) → HoldsMap m g map → HoldsMap m' g map
-  map_same g map h = record {
-    sound = λ s l ne o. ap map (nodes.key s) ∙ h.sound s l ne o ∙ ap Some (sym (nodes.value s));
-    complete = λ x v e. (let i = h.complete x v e in (i.0, i.1, i.2, i.3, nodes.key i.0 ∙ i.4, nodes.value i.0 ∙ i.5));
-  }
-
   pub generation_same : (s generation : ℕ) (lock : HeldLock) → HasGeneration m s generation lock → HasGeneration m' s generation lock
   generation_same s generation lock has = ⊎_elim (λ e. inl (nodes.life s ∙ e)) (λ (e : (m (Life s) ≡ 2 * generation + 1) × (lock.marked ≡ true)). inr (nodes.life s ∙ e.0, e.1)) has
 
@@ -106,9 +71,6 @@ pub record SameForTree (v w : View) : Type 0 where
   pub fewer : (move : Move) → v.moving ≡ Some move → (r : Reading) → IsIn w.records r → IsIn v.records r
 
 module _ (vs : List View) (id : ℕ) (v w : View) (there : get_elem? vs id ≡ some v) (moving : w.moving ≡ v.moving) where
-  pub pending_back : (move : Move) → IsPending (set vs id w) move → IsPending vs move
-  pending_back move p = let z = was (λ (u : View). u.moving) vs id v w there moving p.id p.view p.there in record { id = p.id; view = z.0; there = z.1; moving = sym z.2 ∙ p.moving }
-
   pub pending_still : (move : Move) → IsPending vs move → IsPending (set vs id w) move
   pending_still move p = let z = still (λ (u : View). u.moving) vs id v w there moving p.id p.view p.there in record { id = p.id; view = z.0; there = z.1; moving = z.2 ∙ p.moving }
 
@@ -144,8 +106,8 @@ moves_same vs id v w there moving = record {
 
 pub tree_by : (m m' : Memory) (n : ℕ) (g : Chart) (vs us : List View) (h h' : List Mark) → SameNodes m m' → QuietMarks h h' → SameMoves vs us → Each us (λ u. (move : Move) → u.moving ≡ Some move → IsMoving m' g h' u move) → TreeParts m n g vs h → TreeParts m' n g us h'
 tree_by m m' n g vs us h h' nodes quiet same each t = record {
-  shape = shape_same m m' nodes n g t.shape;
-  map = subst (λ us. HoldsMap m' g (λ x. finite.get (map_of us) x)) (sym quiet.updates) (map_same m m' nodes g (map_now h) t.map);
+  shape = shape_same m m' any any (all_same m m' nodes) g (λ s l. tt) n t.shape;
+  map = subst (λ us. HoldsMap m' g (λ x. finite.get (map_of us) x)) (sym quiet.updates) (map_same m m' any any (all_same m m' nodes) g (λ s l. tt) (λ s l. tt) (map_now h) t.map);
   moves = record {
     each = each;
     every = λ s l o. (let a = t.moves.every s l o in let p = same.forth a.move a.pending in record { move = p.0; pending = p.1; old = (let f = p.2 in f.old) ∙ a.old });

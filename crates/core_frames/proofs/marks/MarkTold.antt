@@ -1,11 +1,11 @@
--- Where an unlinking stands, and where a section was entered that is open.
+-- Where a section was entered that is open.
 use Rattle.std.proofs.Common.{◌≡◌, ℕ, suc, ◌+◌, ◌==◌, ◌⊎◌, Bool, true, false, cond, List, [], ◌∷◌, Option, Some, None, refl, ap, ◌∙◌, ⊎_elim, inl, inr, arith}
 use Rattle.std.proofs.lemmas.Bool.{eqb-true}
 use mathlib.Core.Option.{some}
 use lib.ListN.{get_elem?}
 use Rattle.prcu_marks.specs.declared.mark.Mark.{Mark}
 use Rattle.prcu_marks.specs.declared.mark.Mark.TheVariants.{Entered, Left, Began, Ended, Done, Given, Unlinked, Freed}
-use Rattle.prcu_marks.specs.Marks.{Open, open_from, open_at, gone_from, gone_at}
+use Rattle.prcu_marks.specs.Marks.{Open, open_from, open_at}
 
 -- what stands in a list from a place on
 abbrev StandsFrom : ℕ → List Mark → ℕ → Mark → Type 0
@@ -13,33 +13,6 @@ StandsFrom i h p m = (j : ℕ) × (p ≡ i + j) × (get_elem? h j ≡ some m)
 
 further : (i : ℕ) (x : Mark) (h : List Mark) (p : ℕ) (m : Mark) → StandsFrom (i + 1) h p m → StandsFrom i (x ∷ h) p m
 further i x h p m w = (suc w.0, (let e = w.1 in omega arith), w.2)
-
--- where a slot is unlinked, its mark stands, and it is the last
-gone_stands : (s i : ℕ) (g : Option ℕ) (h : List Mark) (p : ℕ) → gone_from s i g h ≡ Some p → (g ≡ Some p) ⊎ StandsFrom i h p (Unlinked s)
-gone_stands s i g [] p e = inl e
-gone_stands s i g (Entered q c x ∷ h) p e = ⊎_elim (λ o. inl o) (λ w. inr (further i (Entered q c x) h p (Unlinked s) w)) (gone_stands s (i + 1) g h p e)
-gone_stands s i g (Left q c ∷ h) p e = ⊎_elim (λ o. inl o) (λ w. inr (further i (Left q c) h p (Unlinked s) w)) (gone_stands s (i + 1) g h p e)
-gone_stands s i g (Began q c a b ∷ h) p e = ⊎_elim (λ o. inl o) (λ w. inr (further i (Began q c a b) h p (Unlinked s) w)) (gone_stands s (i + 1) g h p e)
-gone_stands s i g (Ended q c ∷ h) p e = ⊎_elim (λ o. inl o) (λ w. inr (further i (Ended q c) h p (Unlinked s) w)) (gone_stands s (i + 1) g h p e)
-gone_stands s i g (Done u ∷ h) p e = ⊎_elim (λ o. inl o) (λ w. inr (further i (Done u) h p (Unlinked s) w)) (gone_stands s (i + 1) g h p e)
-gone_stands s i g (Given t ∷ h) p e = ⊎_elim (λ (o : cond (t == s) None g ≡ Some p). inl (kept (t == s) o)) (λ w. inr (further i (Given t) h p (Unlinked s) w)) (gone_stands s (i + 1) (cond (t == s) None g) h p e)
-  where
-    kept : (b : Bool) → cond b None g ≡ Some p → g ≡ Some p
-    kept true o = absurd (cc)
-    kept false o = o
-gone_stands s i g (Freed t ∷ h) p e = ⊎_elim (λ (o : cond (t == s) None g ≡ Some p). inl (kept (t == s) o)) (λ w. inr (further i (Freed t) h p (Unlinked s) w)) (gone_stands s (i + 1) (cond (t == s) None g) h p e)
-  where
-    kept : (b : Bool) → cond b None g ≡ Some p → g ≡ Some p
-    kept true o = absurd (cc)
-    kept false o = o
-gone_stands s i g (Unlinked t ∷ h) p e = ⊎_elim (λ (o : cond (t == s) (Some i) g ≡ Some p). kept (t == s) refl o) (λ w. inr (further i (Unlinked t) h p (Unlinked s) w)) (gone_stands s (i + 1) (cond (t == s) (Some i) g) h p e)
-  where
-    kept : (b : Bool) → (t == s) ≡ b → cond b (Some i) g ≡ Some p → (g ≡ Some p) ⊎ StandsFrom i (Unlinked t ∷ h) p (Unlinked s)
-    kept true same o = inr (0, (let q : i ≡ p = cc in omega arith), ap (λ x. some (Unlinked x)) (eqb-true t s same))
-    kept false same o = inl o
-
-pub gone_mark : (s : ℕ) (h : List Mark) (p : ℕ) → gone_at s h ≡ Some p → get_elem? h p ≡ some (Unlinked s)
-gone_mark s h p e = ⊎_elim (λ (o : None ≡ Some p). absurd (cc)) (λ (w : StandsFrom 0 h p (Unlinked s)). (let q = w.1 in let same : p ≡ w.0 = omega arith in ap (get_elem? h) same ∙ w.2)) (gone_stands s 0 None h p e)
 
 -- where a section is open, it was entered there
 open_stands : (p i : ℕ) (a : Option Open) (h : List Mark) (o : Open) → open_from p i a h ≡ Some o → (a ≡ Some o) ⊎ StandsFrom i h o.at (Entered p o.count o.key)

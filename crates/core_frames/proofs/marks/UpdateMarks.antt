@@ -1,10 +1,10 @@
 -- The marks of an update, of an unlinking, and of a delete: the update, and then the unlinking of its node.
-use Rattle.std.proofs.Common.{◌≡◌, ◌≢◌, ℕ, suc, ◌+◌, ◌==◌, ◌⊎◌, cond, List, [], ◌∷◌, ◌++◌, length, Option, Some, None, refl, sym, ap, subst, ◌∙◌, ⊎_elim, inl, inr, arith, eq-eqb, ne_eqb, append_assoc, length-append}
+use Rattle.std.proofs.Common.{◌≡◌, ◌≢◌, ℕ, ◌+◌, ◌⊎◌, cond, List, [], ◌∷◌, ◌++◌, length, Some, refl, sym, ap, subst, ◌∙◌, ⊎_elim, inl, inr, arith, eq-eqb, ne_eqb, append_assoc, length-append}
 use mathlib.Core.Option.{some}
 use lib.ListN.{get_elem?}
 use Rattle.atomic_table.proofs.Lists.{at_longer, at_last}
 use Rattle.prcu_marks.specs.declared.mark.Mark.{Mark}
-use Rattle.prcu_marks.specs.declared.mark.Mark.TheVariants.{Entered, Left, Began, Ended, Done, Given, Unlinked, Freed}
+use Rattle.prcu_marks.specs.declared.mark.Mark.TheVariants.{Done, Given, Unlinked, Freed}
 use Rattle.prcu_model.specs.declared.operation.Op.{Op}
 use Rattle.prcu_model.specs.declared.operation.Op.TheVariants.{Get, Del}
 use Rattle.prcu_model.specs.declared.operation.Update.{Update}
@@ -34,9 +34,6 @@ reuse_done h u reuse = reuse_more h (Done u) (λ s r. ⊎_elim (λ (e : Done u �
 
 pub reuse_unlinked : (h : List Mark) (d : ℕ) → Reuse h → Reuse (h ++ Unlinked d ∷ [])
 reuse_unlinked h d reuse = reuse_more h (Unlinked d) (λ s r. ⊎_elim (λ (e : Unlinked d ≡ Given s). absurd (cc)) (λ (e : Unlinked d ≡ Freed s). absurd (cc)) r) reuse
-
-pub last_given : (s t : ℕ) (h : List Mark) → last_unlinked s (h ++ Given t ∷ []) ≡ last_unlinked s h
-last_given s t h = last_unlinked-same h (Given t) tt s
 
 pub gone_other : (s t : ℕ) (h : List Mark) → t ≢ s → gone_at s (h ++ Unlinked t ∷ []) ≡ gone_at s h
 gone_other s t h ne = gone_at-snoc s h (Unlinked t) ∙ ap (λ b. cond b (Some (length h)) (gone_at s h)) (ne_eqb t s ne)

@@ -1,11 +1,9 @@
 -- K25: the parts on counts and on the front.
-use Rattle.std.proofs.Common.{◌≡◌, ◌≢◌, ℕ, ◌+◌, ◌-◌, ◌<◌, ◌==◌, ◌⊎◌, not, ◌&&◌, Bool, true, false, [], ◌∷◌, ◌++◌, length, Some, None, refl, sym, ap, ◌∙◌, ⊎_elim, inl, inr, arith}
+use Rattle.std.proofs.Common.{◌≡◌, ◌≢◌, ℕ, ◌+◌, ◌-◌, ◌<◌, ◌==◌, ◌⊎◌, not, ◌&&◌, Bool, true, false, [], ◌∷◌, ◌++◌, length, refl, sym, ap, ◌∙◌, ⊎_elim, inl, inr, arith}
 use Rattle.std.specs.FinMap as finite
 use Rattle.std.proofs.lemmas.Bool.{cases_eq}
-use Rattle.atomic_table.proofs.Lists.{set_here, set_else}
 use Rattle.prcu_model.specs.Dictionary.{map_of}
 use Rattle.prcu_marks.specs.Marks.{updates_of}
-use Rattle.prcu_marks.specs.declared.commit.Commit.{Commit}
 use Rattle.list_laws.specs.Counts.{times}
 use Rattle.core_state.specs.memory.Lists.{sum_below, flag, has}
 use Rattle.core_state.specs.views.Known.{note_lock, change_lock}
@@ -13,19 +11,18 @@ use Rattle.core_state.specs.steps.Links.{with_mark}
 use Rattle.core_state.specs.views.Views.{unraised_of, emptied_among, joined_retired}
 use Rattle.core_state.specs.parts.CountParts.{linked_count, young_count, old_count, CountParts}
 use Rattle.core_state.specs.parts.FrontParts.{FrontParts}
-use Rattle.list_laws.proofs.Lists.{at_below, each_set}
 use Rattle.core_tree.proofs.locks.Relocking.{emptied_change_same}
 use Rattle.core_moves.proofs.copy.CopyShape.{c_linked, c_young, not_c, next_not}
 use Rattle.core_moves.proofs.copy.CopyNeeds.{CopyStep, copy_link, old_alive, old_young, old_some, copy_off, copy_below, copy_some, copied, deletion}
 use Rattle.core_moves.proofs.copy.CopySlots.{node_not_copy, linked_after}
 use Rattle.core_tree.proofs.updates.DeleteMarks.{delete_longer, delete_count, delete_legal}
-use Rattle.core_tree.proofs.stores.StoreFront.{turned_by}
+use Rattle.core_tree.proofs.stores.StoreFront.{front_made}
 use Rattle.core_tree.proofs.chart.ChangedFunctions.{put, put-same, put-other}
 use Rattle.core_frames.proofs.views.Sums.{sum_equal, sum_add, in_one, not_one, one_sum, sum_swapped, sum_one_more, flag_root, flag_node, young_root, young_node}
 use Rattle.core_tree.proofs.notes.Notes.{note_option-unraised}
 use Rattle.core_frames.proofs.views.RetiredLists.{unraised_append}
 use Rattle.core_tree.proofs.updates.Deletion.{node_marked, node_young, settled, some_node, has_key}
-use Rattle.core_tree.proofs.frames.CountSteps.{counts_go}
+use Rattle.core_frames.proofs.frames.CountFrame.{counts_by}
 
 module _ (z : CopyStep) where
   open z use {who.{k, m, vs, h, id, v, there, inv, inv.{chart as g}}, held.{slot as c}}
@@ -192,11 +189,10 @@ module _ (z : CopyStep) where
       let unraised = unraised_more in
       let longer = updates_longer in
       let linked = linked_same in
-      counts_go m new n g to v w h hs k.tickets vs id there (record {
-        clock = refl;
+      counts_by k.tickets m new n g to vs id v w h hs there (record {
         free = refl;
-        updates = omega arith;
-        lives = omega arith;
+        clock = omega arith;
+        generations = omega arith;
         tags = omega arith;
         turns = omega arith;
         pairs = (let pairs = inv.counts.pairs in let less = pairs_less in let young = young_less in omega arith);
@@ -204,23 +200,4 @@ module _ (z : CopyStep) where
       }) inv.counts
 
   pub copy_front : FrontParts new us hs
-  copy_front =
-      let odd = turned_by m m vs id v v there h h refl (settled (deletion z)) inv.front z.commit z.needs.has_commit in
-      let longer = updates_longer in
-      let many = odd.1 in
-      record {
-        turned = inr (record {
-          id = id;
-          view = w;
-          commit = record { found = z.commit.found; stored = true };
-          there = set_here vs id w (at_below vs id v there);
-          has = refl;
-          word = odd.0;
-          updates = omega arith;
-          alone = λ j u ne e. odd.2 j u ne (sym (set_else vs id j w ne) ∙ e);
-        });
-        settled = each_set (λ j u. (t : Commit) → u.commit ≡ Some t → t.stored ≡ false → u.moving ≡ None) vs id w
-            (λ t is unmade. absurd (let e : ◌≡◌ {A = Commit} (record { found = z.commit.found; stored = true }) t = cc in let f : true ≡ false = ap (λ (x : Commit). x.stored) e ∙ unmade in cc))
-            (λ j u ne e. inv.front.settled j u e);
-        legal = delete_legal h v.allowance.place z.r.key z.d (has_key (deletion z)) inv.front.legal;
-      }
+  copy_front = front_made m new vs id v w there h hs refl inv.front z.commit z.needs.has_commit refl updates_longer (delete_legal h v.allowance.place z.r.key z.d (has_key (deletion z)) inv.front.legal)

@@ -38,8 +38,8 @@ use Rattle.core_moves.proofs.copy.CopySlots.{copy_slots}
 use Rattle.core_tree.proofs.links.LinkServed.{LinkReads}
 use Rattle.core_tree.proofs.links.LinkKept.{link_kept}
 use Rattle.core_tree.proofs.links.LinkSteps.{LinkStep, not_gone, listings_of_commit}
-use Rattle.core_tree.proofs.updates.Updates.{told_now}
-use Rattle.core_tree.proofs.updates.Deletion.{node_key, settled, some_node}
+use Rattle.core_frames.proofs.chart.Plain.{told_now}
+use Rattle.core_tree.proofs.updates.Deletion.{node_key, some_node}
 use Rattle.core_tree.proofs.links.LinkSlots.{slots_after}
 use Rattle.core_frames.proofs.frames.PlainFrames.{waited_early, waited_more, waited_back, grace_plain}
 use Rattle.core_frames.proofs.frames.GraceFrame.{retired_still, grace_frame_by}
@@ -123,7 +123,7 @@ module _ (z : CopyStep) where
     moves = copy_moves z;
     reads = reads;
     front = copy_front z;
-    listings = listings_of_commit step z.commit z.needs.has_commit (settled (deletion z));
+    listings = listings_of_commit step z.commit z.needs.has_commit;
     grace = grace;
   })
 

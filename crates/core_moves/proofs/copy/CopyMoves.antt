@@ -107,12 +107,12 @@ module _ (z : CopyStep) where
       let old_c : move.old ≢ c = (λ f. not_c (copy_link z) move.old i.old_linked f) in
       moving_left m new g to h hs u u move (record {
         copy_linked = still_linked (copy_link z) move.copy.slot i.copy_linked far_d.0;
-        copy_age = was_old (copy_link z) move.copy.slot i.copy_linked far_u.0;
+        copy_old = was_old (copy_link z) move.copy.slot i.copy_linked far_u.0;
         copy_key = refl;
         copy_value = refl;
         copy_life = refl;
         old_linked = still_linked (copy_link z) move.old i.old_linked far_d.1;
-        old_age = was_old (copy_link z) move.old i.old_linked far_u.1;
+        old_old = was_old (copy_link z) move.old i.old_linked far_u.1;
         old_key = refl;
         old_value = refl;
         parent = put-other (λ y. moved z.d c (g.up y)) c z.p move.old old_c ∙ moved-other z.d c (g.up move.old) (λ f. far_d.2 (sym i.parent ∙ f));

@@ -31,7 +31,7 @@ use Rattle.core_frames.proofs.views.Leaving.{right_left_low}
 use Rattle.core_frames.proofs.views.Roles.{spare_own, spare_among, own_below, own_off, not_gone}
 use Rattle.core_tree.proofs.updates.DeleteMarks.{delete_update, both_marks, delete_said}
 use Rattle.core_tree.proofs.locks.LockHeld.{lock_outside}
-use Rattle.core_tree.proofs.frames.Stepper.{Stepper}
+use Rattle.core_frames.proofs.frames.Stepper.{Stepper}
 use Rattle.core_tree.proofs.locks.Locked.{loaded_known, no_end_of, young_locked, IsAlive, alive, alive_field}
 use Rattle.core_moves.proofs.copy.CopyChart.{CopyLink, after_copy}
 use Rattle.core_tree.proofs.updates.Deletion.{Deletion, settled, kept, reading, parent_alive, link_is, node_marked, node_life, left_is, right_is, some_node, node_young, single, node_lock, node_field}

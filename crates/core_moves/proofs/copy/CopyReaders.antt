@@ -13,7 +13,7 @@ use Rattle.core_frames.proofs.chart.Endings.{one_end}
 use Rattle.core_frames.proofs.chart.Places.{range_hop}
 use Rattle.core_moves.proofs.copy.CopyChart.{CopyLink, after_copy}
 use Rattle.core_moves.proofs.copy.CopyShape.{lower, upper, changes, still_linked, not_c, key_stays, low_in, high_is, next_keyed, next_not, ends_at_next, none_between}
-use Rattle.core_tree.proofs.chart.Absent.{range_of_side, stops}
+use Rattle.core_frames.proofs.chart.Absent.{range_of_side, stops}
 use Rattle.core_tree.proofs.chart.ChangedFunctions.{put, put-same, moved_tells}
 use Rattle.core_tree.proofs.chart.ChartChanges.{in_after}
 use Rattle.core_tree.proofs.chart.ChartReaders.{spines, told_here, belongs_after}

@@ -23,7 +23,7 @@ use Rattle.core_frames.specs.Laws.{IsKept}
 use Rattle.core_frames.proofs.Keeping.{no_mark}
 use Rattle.core_frames.proofs.views.Fields.{stored_here, stored_else}
 use Rattle.core_tree.proofs.stores.Stores.{StoresIn, stores_in, content_away}
-use Rattle.core_tree.proofs.frames.CountSteps.{counts_go, generations, free_slots, tags_raised}
+use Rattle.core_frames.proofs.frames.CountFrame.{counts_by, generations_in, free_slots, tags_raised}
 use Rattle.core_tree.proofs.frames.ChartStays.{SameOutside}
 use Rattle.core_tree.proofs.frames.RestStays.{outer_same}
 use Rattle.core_moves.proofs.slots.OffStep.{OffStep, no_marks, OffLock, no_others}
@@ -170,7 +170,7 @@ module _ (k : Shape) (m : Memory) (vs : List View) (h : List Mark) (id : ℕ) (v
 
       -- with generations so many more, and so many slots fewer that aren't raised
       pub filled : (more : ℕ) → held_list hand ≡ held_list v.hands.hand → (v.hands.hand ≡ None → hand ≡ None) → ((held : Held) → hand ≡ Some held → IsHeldKnown m' held × IsEven (m' (Life held.slot)))
-          → generations m' n ≡ generations m n + more → unraised_hand hand + more ≡ unraised_hand v.hands.hand → IsKept k m h m' (set vs id w) (h ++ [])
+          → generations_in m' n ≡ generations_in m n + more → unraised_hand hand + more ≡ unraised_hand v.hands.hand → IsKept k m h m' (set vs id w) (h ++ [])
       filled more same_hand no_hand hand_known lives unraised = no_mark k m m' h (set vs id w) (record {
         invariant = off_law step (record {
           role = same_role s (another (State s) (λ x. x));
@@ -181,14 +181,13 @@ module _ (k : Shape) (m : Memory) (vs : List View) (h : List Mark) (id : ℕ) (v
           hands = record { hand = hand_known; spare = hands.spare; copy = hands.copy; spares = hands.spares };
           retired = λ j r e. retired_away step r (not_retired r (j, e)) (inv.slots.retired id v there j r e);
           unlinked = λ t p gone r has is. (r, has, is);
-        }) (outer_same k m m' vs h id v w inv there works stores.beside view refl) (counts_go m m' n inv.chart inv.chart v w h h k.tickets vs id there (record {
-          clock = stores.beside Clock tt;
+        }) (outer_same k m m' vs h id v w inv there works stores.beside view refl) (counts_by k.tickets m m' n inv.chart inv.chart vs id v w h h there (record {
           free = (let a = stores.beside Free tt in let b : free_slots m' n ≡ free_slots m n = (λ i. count_below (λ t. another (State t) (λ x. x) i == 0) n) in omega arith);
-          updates = omega arith;
-          lives = (let a = lives in let b = unraised in omega arith);
+          clock = (let a = stores.beside Clock tt in omega arith);
+          generations = (let a = lives in let b = unraised in omega arith);
           tags = (let a = emptied_change_same s (note_lock known) (λ x. refl) (λ l. refl) v.locks in let b = ap has view.moving in let c : tags_raised m' n ≡ tags_raised m n = (λ i. sum_below (λ t. another (Tag t Left) (λ x. x) i + another (Tag t Right) (λ x. x) i) n) in omega arith);
-          turns = omega arith;
-          pairs = inv.counts.pairs;
+          turns = (let a = stores.beside Clock tt in omega arith);
+          pairs = refl;
           olds = (let a = ap has view.moving in omega arith);
         }) inv.counts) (grace_same k m vs h id v w inv there view (λ y has. (y, has, refl, refl)));
         past = record {
@@ -226,7 +225,7 @@ module _ (k : Shape) (m : Memory) (vs : List View) (h : List Mark) (id : ℕ) (v
       let same_life : (t : ℕ) → stored m field number (Life t) ≡ m (Life t) = λ t. stored_else m field (Life t) number (λ e. subst (IsContent s) e content) in
       let fill : Fill = record { s = s; field = field; number = number; own = own_content s field content; kind = filled_content s field content; role = role.0; was_even = role.1; even = subst IsEven (sym (same_life s)) role.1; grows = (let a = same_life s in omega arith) } in
       filled fill (note_option s known v.hands.hand) 0 (note_option-slots s known v.hands.hand) (λ e. ap (note_option s known) e) (hands fill).hand
-      (let e : generations (stored m field number) n ≡ generations m n = (λ i. sum_below (λ t. same_life t i / 2) n) in omega arith) (let a = note_option-unraised s known v.hands.hand in omega arith)
+      (let e : generations_in (stored m field number) n ≡ generations_in m n = (λ i. sum_below (λ t. same_life t i / 2) n) in omega arith) (let a = note_option-unraised s known v.hands.hand in omega arith)
 
   -- the life of the slot in hand
   pub life_filled : (held : Held) (life number : ℕ) → NeedsRaiseInHand v held held.slot life number → IsKept k m h (stored m (Life held.slot) number) (set vs id (after_raise_in_hand v held.slot number)) (h ++ [])

@@ -24,7 +24,7 @@ use Rattle.list_laws.proofs.Lists.{in_second}
 use Rattle.core_frames.proofs.frames.ReaderFrame.{emptied_by}
 use Rattle.core_tree.proofs.stores.Stores.{StoresIn}
 use Rattle.core_tree.proofs.frames.ChartStays.{SameOutside, ChartStep}
-use Rattle.core_tree.proofs.frames.Stepper.{Stepper}
+use Rattle.core_frames.proofs.frames.Stepper.{Stepper}
 use Rattle.core_state.specs.parts.ReaderParts.{IsAsRecorded}
 use Rattle.core_state.specs.tree.Chart.{Chart}
 use Rattle.core_state.specs.parts.SlotParts.{SlotParts}

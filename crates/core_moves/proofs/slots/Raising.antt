@@ -16,9 +16,9 @@ use Rattle.core_frames.specs.Laws.{IsKept, KeepsPast}
 use Rattle.core_frames.proofs.Keeping.{no_mark}
 use Rattle.core_frames.proofs.views.Fields.{stored_here}
 use Rattle.core_tree.proofs.stores.Stores.{StoresIn, stores_in}
-use Rattle.core_tree.proofs.frames.CountSteps.{counts_go, generations}
+use Rattle.core_frames.proofs.frames.CountFrame.{counts_by, generations_in}
 use Rattle.core_tree.proofs.frames.ChartStays.{SameOutside, same_but}
-use Rattle.core_tree.proofs.frames.Stepper.{Stepper}
+use Rattle.core_frames.proofs.frames.Stepper.{Stepper}
 use Rattle.core_tree.proofs.frames.RestStays.{outer_same, outer_marked, OuterParts}
 use Rattle.core_moves.proofs.slots.OffStep.{OffStep, no_marks, same_lock, SameElse, no_others}
 use Rattle.core_moves.proofs.slots.OffSlots.{off_law, retired_away, held_away, even_away, copy_away}
@@ -35,7 +35,7 @@ use Rattle.prcu_marks.proofs.LastUnlinked.{last_gone}
 use Rattle.list_laws.proofs.Lists.{in_first, times_in, in_second, in_append}
 use Rattle.prcu_marks.specs.declared.mark.Mark.TheVariants.{Given}
 use Rattle.prcu_marks.specs.Bounds.{greatest_key}
-use Rattle.core_tree.proofs.locks.UnderLock.{age_stores}
+use Rattle.core_tree.proofs.locks.UnderLock.{life_or_tag_stores}
 use Rattle.core_state.specs.parts.LockParts.{IsUnraised}
 use Rattle.core_state.specs.parts.GraceParts.{GraceParts, IsClear}
 use Rattle.core_frames.proofs.views.RetiredLists.{slots_in, without_in, raise, without_none, change_in, in_change, without_else, one_in, unraised_append, change_slots, change_length, without_length, change_unraised, in_without, without_unraised}
@@ -101,7 +101,7 @@ module _ (z : RaiseStep) where
   joined_apart : (y : Retired) → IsIn (joined_retired v.allowance.joined) y → y.slot ≢ s
   joined_apart y has same = let a = times_in (λ (x : Retired). x.slot) (joined_retired v.allowance.joined) y has in let b = one_role.3 in let c = ap (λ x. times x (slots_in (joined_retired v.allowance.joined))) same in omega arith
 
-  lives_more : generations m' n ≡ generations m n + 1
+  lives_more : generations_in m' n ≡ generations_in m n + 1
   lives_more = sum_one_more (λ t. m (Life t) / 2) (λ t. m' (Life t) / 2) s n below (λ t. ⊎_elim
       (λ (e : t ≡ s). (let a = ap (λ x. m' (Life x)) e in let b = ap (λ x. m (Life x)) e in let c = in_one t s e in let d = here in let o = odd in omega arith))
       (λ ne. (let a = stores.away t (Life t) ne refl in let c = not_one t s ne in omega arith))
@@ -111,7 +111,7 @@ module _ (z : RaiseStep) where
   raised_past = record {
     lives = λ t. ⊎_elim (λ (e : t ≡ s). (let a = ap (λ x. m' (Life x)) e in let b = ap (λ x. m (Life x)) e in let d = here in omega arith)) (λ ne. (let a = stores.away t (Life t) ne refl in omega arith)) (cases_eq t s);
     tags = λ t b. omega arith;
-    content = λ t field gone o c. (age_stores m s (Life s) number refl tt).content t field c;
+    content = λ t field gone o c. (life_or_tag_stores m s (Life s) number refl tt).content t field c;
   }
 
   -- What the step makes of the view's spare and retired slots, and the marks afterwards.
@@ -186,14 +186,13 @@ module _ (z : RaiseStep) where
           (λ (a : IsIn v.hands.retired y). (let x = d.kept t p y gone a at in (x.0, in_first c.retired (joined_retired v.allowance.joined) x.0 x.1, x.2)))
           (λ a. (y, in_second c.retired (joined_retired v.allowance.joined) y a, at))
           (in_append v.hands.retired (joined_retired v.allowance.joined) y has);
-    }) outer (counts_go m m' n inv.chart inv.chart v w h c.hs k.tickets vs id there (record {
-      clock = refl;
+    }) outer (counts_by k.tickets m m' n inv.chart inv.chart vs id v w h c.hs there (record {
       free = refl;
-      updates = (let a = ap length c.marks.updates in omega arith);
-      lives = (let a = lives_more in let b = d.fewer in let x = unraised_append c.retired (joined_retired v.allowance.joined) in let y = unraised_append v.hands.retired (joined_retired v.allowance.joined) in omega arith);
+      clock = (let a = ap length c.marks.updates in omega arith);
+      generations = (let a = lives_more in let b = d.fewer in let x = unraised_append c.retired (joined_retired v.allowance.joined) in let y = unraised_append v.hands.retired (joined_retired v.allowance.joined) in omega arith);
       tags = omega arith;
       turns = omega arith;
-      pairs = inv.counts.pairs ∙ ap (λ us. finite.len (map_of us)) (sym c.marks.updates);
+      pairs = (let a = ap (λ us. finite.len (map_of us)) c.marks.updates in omega arith);
       olds = refl;
     }) inv.counts) grace
       where

@@ -19,7 +19,7 @@ use Rattle.core_state.specs.Invariant.{HoldsNow}
 use Rattle.core_frames.specs.Laws.{IsKept}
 use Rattle.core_frames.proofs.views.Fields.{stored_here, stored_else}
 use Rattle.core_tree.proofs.stores.Stores.{held_beside, stores_in}
-use Rattle.core_tree.proofs.frames.CountSteps.{counts_go}
+use Rattle.core_frames.proofs.frames.CountFrame.{counts_by}
 use Rattle.core_tree.proofs.frames.ChartStays.{SameOutside, same_but}
 use Rattle.core_tree.proofs.frames.RestStays.{outer_marked}
 use Rattle.core_moves.proofs.slots.OffStep.{OffStep, same_lock}
@@ -144,14 +144,13 @@ module _ (k : Shape) (m : Memory) (vs : List View) (h : List Mark) (id : ℕ) (v
           retired = λ j y e. (let q = c.retired y (j, e) in let o = q.1 in retired_away step y q.0 (inv.slots.retired id v there o.0 y o.1));
           unlinked = λ t p gone y has at. (y, c.kept y has (λ e. (used_back given slot h t p gone).0 (sym at ∙ e)), at);
         }) (outer_marked k m m' vs h id v w inv there works (stores_in m slot (State slot) x refl).beside same (used_mark given slot) (used_plain given slot h v.allowance.place) (used_new given slot h k.places) refl)
-            (counts_go m m' n inv.chart inv.chart v w h hs k.tickets vs id there (record {
-              clock = refl;
+            (counts_by k.tickets m m' n inv.chart inv.chart vs id v w h hs there (record {
               free = (let a = sum_one_other (λ t. flag (m (State t) == 0)) (λ t. flag (m' (State t) == 0)) slot n z.small (λ t ne. ap (λ y. flag (y == 0)) ((stores_in m slot (State slot) x refl).away t (State t) ne refl)) in let b = ap (λ y. flag (y == 0)) now in let d = c.counted in omega arith);
-              updates = (let a = ap length (used_updates given slot h) in omega arith);
-              lives = (let a = c.raised in omega arith);
+              clock = (let a = ap length (used_updates given slot h) in omega arith);
+              generations = (let a = c.raised in omega arith);
               tags = omega arith;
               turns = omega arith;
-              pairs = inv.counts.pairs ∙ ap (λ us. finite.len (map_of us)) (sym (used_updates given slot h));
+              pairs = (let a = ap (λ us. finite.len (map_of us)) (used_updates given slot h) in omega arith);
               olds = refl;
             }) inv.counts)
             (grace_used k m vs h id v w inv there same (λ y has. (y, c.came y has, refl, refl)) given slot z.clear);

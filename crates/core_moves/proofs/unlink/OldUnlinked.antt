@@ -29,7 +29,7 @@ use Rattle.list_laws.proofs.Lists.{in_second}
 use Rattle.core_tree.proofs.stores.Stores.{link_at, stores_link}
 use Rattle.core_tree.proofs.locks.Holders.{linked_stays, move_holder}
 use Rattle.core_tree.proofs.locks.Locked.{under_lock}
-use Rattle.core_tree.proofs.frames.Stepper.{Stepper}
+use Rattle.core_frames.proofs.frames.Stepper.{Stepper}
 use Rattle.core_tree.proofs.links.LinkSteps.{listings_by}
 use Rattle.core_tree.proofs.stores.StoreFront.{front_still}
 use Rattle.core_tree.proofs.bypass.Cutting.{Cut, cut_step, cut_kept}

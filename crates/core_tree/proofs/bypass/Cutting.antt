@@ -38,7 +38,7 @@ use Rattle.core_tree.proofs.links.LinkLocks.{Relinks, locks_after, emptied_still
 use Rattle.core_tree.proofs.links.LinkKept.{link_kept}
 use Rattle.core_tree.proofs.links.LinkSteps.{LinkStep, Retires, range_stays, side_stays}
 use Rattle.core_tree.proofs.chart.Splices.{Splices, spliced, at as at_node, parent_not, was_linked, still_linked, child_below, child_linked, place_stays, changes}
-use Rattle.core_tree.proofs.frames.Stepper.{Stepper}
+use Rattle.core_frames.proofs.frames.Stepper.{Stepper}
 use Rattle.core_tree.proofs.locks.Relocking.{relocked}
 use Rattle.core_frames.proofs.marks.PlainMarks.{PlainMarks, IsUnlinkedNow}
 use Rattle.core_frames.proofs.frames.PlainFrames.{SameForMore, grace_unlinked}
@@ -151,9 +151,6 @@ module _ (z : Cut) where
 
   not_even : (s : ℕ) → IsEven (m (Life s)) → s ≢ d
   not_even s even e = let f = ap (λ y. m (Life y)) e in let o = z.odd in absurd (omega arith)
-
-  not_off : (s : ℕ) → g.linked s ≡ false → s ≢ d
-  not_off s off e = let l = d_linked in cc (ap g.linked e)
 
   others_stay : (j : ℕ) (u : View) (s : ℕ) → j ≢ id → get_elem? vs j ≡ some u → HasLock u s → g.linked s ≡ true → to.linked s ≡ true
   others_stay j u s ne e locks l = still s l (λ y. ne (one_holder k m vs h i j id u v d e there (subst (HasLock u) y locks) z.has_node))

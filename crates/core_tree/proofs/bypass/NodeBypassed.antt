@@ -17,7 +17,7 @@ use Rattle.core_state.specs.parts.TreeParts.{map_now}
 use Rattle.core_frames.specs.Laws.{IsKept}
 use Rattle.core_tree.proofs.stores.Stores.{stores_link}
 use Rattle.core_frames.proofs.marks.UpdateMarks.{delete_plain, delete_now, delete_reuse, delete_marks}
-use Rattle.core_tree.proofs.frames.Stepper.{Stepper}
+use Rattle.core_frames.proofs.frames.Stepper.{Stepper}
 use Rattle.core_tree.proofs.links.LinkSteps.{listings_of_commit}
 use Rattle.core_tree.proofs.stores.StoreFront.{front_made}
 use Rattle.core_tree.proofs.updates.Deletion.{Deletion, settled, parent_alive, link_is, node_marked, node_field, left_is, right_is, some_node, node_lock, node_young, node_key, single, has_key}
@@ -106,5 +106,5 @@ module _ (who : Stepper) (commit : Commit) (r : Reading) (p : ℕ) (b : Side) (d
       cut_kept cut
       (counts_without_node cut (record { reserved = refl; owes = refl; wait = refl; turns = refl; moving = moving_none }) (node_young deletion) (settled deletion) needs.has_commit.ticket refl (delete_longer h v.allowance.place r.key d) (delete_count h v.allowance.place r.key d (has_key deletion)))
       (subst (HoldsMap new (bypassed m g p b d c)) (sym (delete_map h v.allowance.place r.key d (m (Key d)) (node_key deletion))) (bypass_map m new n g p b d c i.tree.shape bypass (map_now h) i.tree.map))
-      (front_made m new vs id v w there h hs refl moving_none i.front commit needs.has_commit refl (delete_longer h v.allowance.place r.key d) (delete_legal h v.allowance.place r.key d (has_key deletion) i.front.legal))
-      (listings_of_commit (cut_step cut) commit needs.has_commit (settled deletion))
+      (front_made m new vs id v w there h hs refl i.front commit needs.has_commit refl (delete_longer h v.allowance.place r.key d) (delete_legal h v.allowance.place r.key d (has_key deletion) i.front.legal))
+      (listings_of_commit (cut_step cut) commit needs.has_commit)

@@ -29,9 +29,9 @@ use Rattle.list_laws.proofs.Lists.{each_set}
 use Rattle.core_frames.proofs.views.Same.{SamePlaces, was}
 use Rattle.core_frames.proofs.frames.TreeFrame.{pending_still}
 use Rattle.core_tree.proofs.stores.Stores.{IsBesideSlots}
-use Rattle.core_tree.proofs.frames.Contents.{SameContents, shape_same, map_same}
+use Rattle.core_frames.proofs.frames.Contents.{SameContents, shape_same, map_same}
 use Rattle.core_tree.proofs.frames.MoveSteps.{moving_left}
-use Rattle.core_tree.proofs.frames.Stepper.{Stepper}
+use Rattle.core_frames.proofs.frames.Stepper.{Stepper}
 use Rattle.core_state.specs.declared.view.Hands.{Hands}
 
 -- what such a step leaves of its view: all but locks and hands, and what it has seen
@@ -91,18 +91,18 @@ module _ (P : ℕ → Type 0) (z : ChartStep P) where
       → IsMoving m' g hs x move
   moving_else j u x move e is place records held generation = let t = z.who.inv.tree.moves.each j u e move is in moving_left m m' g g h hs u x move (record {
     copy_linked = t.copy_linked;
-    copy_age = refl;
+    copy_old = refl;
     copy_key = z.contents.key move.copy.slot (z.on move.copy.slot t.copy_linked);
     copy_value = z.contents.value move.copy.slot (z.on move.copy.slot t.copy_linked);
     copy_life = z.copies j u move e is;
     old_linked = t.old_linked;
-    old_age = refl;
+    old_old = refl;
     old_key = z.contents.key move.old (z.on move.old t.old_linked);
     old_value = z.contents.value move.old (z.on move.old t.old_linked);
     parent = refl;
     side = refl;
     held = held;
-    generation = λ l age f x. generation l age f t.old_linked x;
+    generation = λ l life f x. generation l life f t.old_linked x;
     place = place;
     records = records;
     longer = z.longer;
@@ -110,8 +110,8 @@ module _ (P : ℕ → Type 0) (z : ChartStep P) where
 
   pub tree_stays : TreeParts m' (slot_count k) g us hs
   tree_stays = let t = z.who.inv.tree in let moving = z.view.moving in record {
-    shape = shape_same m m' P P z.contents (slot_count k) g z.on t.shape;
-    map = subst (HoldsMap m' g) (sym map_stays) (map_same m m' P P z.contents (slot_count k) g z.on t.shape z.on (map_now h) t.map);
+    shape = shape_same m m' P P z.contents g z.on (slot_count k) t.shape;
+    map = subst (HoldsMap m' g) (sym map_stays) (map_same m m' P P z.contents g z.on z.on (map_now h) t.map);
     moves = record {
       each = each_set (λ j u. (move : Move) → u.moving ≡ Some move → IsMoving m' g hs u move) vs id w
           (λ move is. moving_else id v w move there (sym moving ∙ is) z.view.places.place z.view.records z.held (λ l generation e on f. z.own_generation move.old l generation e on f))

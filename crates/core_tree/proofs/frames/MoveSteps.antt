@@ -20,12 +20,12 @@ module _ (m m' : Memory) (g to : Chart) (h hs : List Mark) (u z : View) (move : 
   -- what such a step leaves
   pub record LeavesMove : Type 0 where
     pub copy_linked : to.linked move.copy.slot ≡ true
-    pub copy_age : to.old move.copy.slot ≡ g.old move.copy.slot
+    pub copy_old : to.old move.copy.slot ≡ g.old move.copy.slot
     pub copy_key : m' (Key move.copy.slot) ≡ m (Key move.copy.slot)
     pub copy_value : m' (Value move.copy.slot) ≡ m (Value move.copy.slot)
     pub copy_life : m' (Life move.copy.slot) ≡ m (Life move.copy.slot)
     pub old_linked : to.linked move.old ≡ true
-    pub old_age : to.old move.old ≡ g.old move.old
+    pub old_old : to.old move.old ≡ g.old move.old
     pub old_key : m' (Key move.old) ≡ m (Key move.old)
     pub old_value : m' (Value move.old) ≡ m (Value move.old)
     pub parent : to.up move.old ≡ g.up move.old
@@ -41,10 +41,10 @@ module _ (m m' : Memory) (g to : Chart) (h hs : List Mark) (u z : View) (move : 
     order = i.order;
     copy_some = i.copy_some;
     copy_linked = c.copy_linked;
-    copy_young = c.copy_age ∙ i.copy_young;
+    copy_young = c.copy_old ∙ i.copy_young;
     copy_key = c.copy_key ∙ i.copy_key;
     old_linked = c.old_linked;
-    old_old = c.old_age ∙ i.old_old;
+    old_old = c.old_old ∙ i.old_old;
     old_key = c.old_key ∙ i.old_key;
     same_value = c.copy_value ∙ i.same_value ∙ sym c.old_value;
     parent = c.parent ∙ i.parent;

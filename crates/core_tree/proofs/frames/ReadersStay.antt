@@ -25,7 +25,7 @@ use Rattle.core_state.specs.parts.TreeParts.{map_now}
 use Rattle.list_laws.proofs.Lists.{each_set, in_second}
 use Rattle.core_frames.proofs.views.Same.{was}
 use Rattle.core_frames.proofs.frames.ReaderFrame.{may_still, old_still}
-use Rattle.core_tree.proofs.frames.Contents.{right_left_same, walks_same, place_same, belongs_same}
+use Rattle.core_frames.proofs.frames.Contents.{right_left_same, walks_same, place_same, belongs_same}
 use Rattle.core_tree.proofs.frames.ChartStays.{ChartStep, map_stays}
 use Rattle.core_frames.proofs.chart.Ranges.{bool_cases}
 use Rattle.core_tree.proofs.locks.Holders.{linked_stays}
@@ -50,7 +50,7 @@ module _ (P : ℕ → Type 0) (z : ChartStep P) where
       let kind = λ (s : ℕ) (x : IsHeldBack g h section.entered s). (z.met j u section e inside s x).0 in
       record {
         placed = λ none. (let p = i.placed none in record {
-          place = place_same m m' P P z.contents n g z.on z.who.inv.tree.shape (λ s l _. z.on s l) section.key (IsHeldBack g h section.entered) (IsHeldBack g hs section.entered) (MayPass vs section.key section.entered) (MayPass us section.key section.entered)
+          place = place_same m m' P P z.contents g z.on (λ s l _. z.on s l) section.key (IsHeldBack g h section.entered) (IsHeldBack g hs section.entered) (MayPass vs section.key section.entered) (MayPass us section.key section.entered)
               (WasSaid (updates_of h) section.key section.from) (WasSaid (updates_of hs) section.key section.from)
               kind kind (held_on j u section e inside) (may_still vs id v w there z.view.moving section.key section.entered) (λ o y. subst (λ x. WasSaid x section.key section.from o) (sym z.updates) y) (state_slot section.reading.state) p.place;
           answered = subst (λ x. Answered x section section.reading.state) (sym z.updates) p.answered;
@@ -60,8 +60,8 @@ module _ (P : ℕ → Type 0) (z : ChartStep P) where
             (let p = i.walking node parent b value walk found on in
             let nz = (subst (StandsWell section.reading) found reading.well).0.some_slot in
             record {
-              walks = λ l. walks_same m m' P P z.contents n g z.on z.who.inv.tree.shape node (IsHeldBack g h section.entered) (IsHeldBack g hs section.entered) l nz kind (held_on j u section e inside) walk.slot (p.walks l);
-              parent = λ l q. ⊎_elim (λ y. inl y) (λ (y : OnRightLeft m node walk.parent). inr (right_left_same m m' P P z.contents n g z.on z.who.inv.tree.shape node walk.parent l nz y)) (p.parent l q);
+              walks = λ l. walks_same m m' P P z.contents g z.on n z.who.inv.tree.shape node (IsHeldBack g h section.entered) (IsHeldBack g hs section.entered) l nz kind (held_on j u section e inside) walk.slot (p.walks l);
+              parent = λ l q. ⊎_elim (λ y. inl y) (λ (y : OnRightLeft m node walk.parent). inr (right_left_same m m' P P z.contents g z.on n z.who.inv.tree.shape node walk.parent l nz y)) (p.parent l q);
             });
         stood = λ s has.
             (let p = i.stood s has in
@@ -84,15 +84,15 @@ module _ (P : ℕ → Type 0) (z : ChartStep P) where
         side = λ s tag b missed life known empty tagged settled.
             (let x = z.recorded j u r e has s life in
             let y = z.side j u r s tag b e has known tagged settled in
-            ⊎_elim (λ (o : IsOldFor vs r.key s). inl (old_still vs id v w there z.view.moving r.key s o)) (λ (q : Belongs m g r.key s b). inr (belongs_same m m' P P z.contents n g z.on z.who.inv.tree.shape r.key s b x.0 q))
+            ⊎_elim (λ (o : IsOldFor vs r.key s). inl (old_still vs id v w there z.view.moving r.key s o)) (λ (q : Belongs m g r.key s b). inr (belongs_same m m' P P z.contents g z.on r.key s b x.0 q))
             (i.side s tag b missed x.1 known (sym (z.contents.link s b x.0) ∙ empty) y.0 y.1));
         walk = λ node parent b value walk found on.
             (let p = i.walk node parent b value walk found on in
             let nz = (subst (StandsWell r) found reading.well).0.some_slot in
             let back : IsStillLinked m' g r node → IsStillLinked m g r node = (λ y. record { linked = y.linked; generation = y.generation; recorded = y.recorded; same = sym (z.half node (z.on node y.linked)) ∙ y.same }) in
             record {
-              parent = λ x y. ⊎_elim (λ q. inl q) (λ (q : OnRightLeft m node walk.parent). inr (right_left_same m m' P P z.contents n g z.on z.who.inv.tree.shape node walk.parent x.linked nz q)) (p.parent (back x) (z.recorded j u r e has walk.parent y).1);
-              slot = λ x y. right_left_same m m' P P z.contents n g z.on z.who.inv.tree.shape node walk.slot x.linked nz (p.slot (back x) (z.recorded j u r e has walk.slot y).1);
+              parent = λ x y. ⊎_elim (λ q. inl q) (λ (q : OnRightLeft m node walk.parent). inr (right_left_same m m' P P z.contents g z.on n z.who.inv.tree.shape node walk.parent x.linked nz q)) (p.parent (back x) (z.recorded j u r e has walk.parent y).1);
+              slot = λ x y. right_left_same m m' P P z.contents g z.on n z.who.inv.tree.shape node walk.slot x.linked nz (p.slot (back x) (z.recorded j u r e has walk.slot y).1);
             });
       }
 

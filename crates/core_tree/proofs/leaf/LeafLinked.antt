@@ -68,8 +68,8 @@ module _ (z : LeafLink) where
     map = leaf_map_after z;
     moves = leaf_moves z;
     reads = reads;
-    front = front_made m new vs id v w there h hs refl (settled z) i.front commit z.needs.has_commit refl (put_count h v.allowance.place r.key value (key_absent z)) (put_legal h v.allowance.place r.key value (key_absent z) i.front.legal);
-    listings = listings_of_commit step commit z.needs.has_commit (settled z);
+    front = front_made m new vs id v w there h hs refl i.front commit z.needs.has_commit refl (put_count h v.allowance.place r.key value (key_absent z)) (put_legal h v.allowance.place r.key value (key_absent z) i.front.legal);
+    listings = listings_of_commit step commit z.needs.has_commit;
     grace = grace_same v.allowance.place h hs step.plain vs id v w there refl step.same.places (settled z) (reuse_done h (put_update h v.allowance.place r.key value) i.grace.reuse)
         (gone_done h (put_update h v.allowance.place r.key value)) (last_done h (put_update h v.allowance.place r.key value)) refl i.grace;
   })

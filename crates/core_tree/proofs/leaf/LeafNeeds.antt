@@ -28,15 +28,15 @@ use Rattle.core_state.specs.parts.LockParts.{IsLockKnown}
 use Rattle.core_state.specs.parts.TreeParts.{map_now}
 use Rattle.core_state.specs.parts.ReaderParts.{GoesTo, StandsWell, IsRecord}
 use Rattle.list_laws.proofs.Lists.{in_second}
-use Rattle.core_tree.proofs.locks.LockHeld.{lock_outside, lock_alone, linked_nobody, linked_hand, linked_spare}
+use Rattle.core_tree.proofs.locks.LockHeld.{lock_outside, lock_alone, linked_spare}
 use Rattle.core_tree.proofs.stores.Stores.{stores_link}
 use Rattle.core_tree.proofs.chart.Leaves.{LinksLeaf, leaf_linked, changes}
-use Rattle.core_tree.proofs.chart.Absent.{absent}
+use Rattle.core_frames.proofs.chart.Absent.{absent}
 use Rattle.core_tree.proofs.locks.Locked.{holds_alone}
 use Rattle.core_frames.proofs.views.Roles.{own_off, own_below, hand_own, not_gone, held_there}
 use Rattle.core_tree.proofs.chart.ChangedFunctions.{put-other}
 use Rattle.core_tree.proofs.updates.PutMarks.{put_marks, put_update, put_plain, put_said, marks_put}
-use Rattle.core_tree.proofs.frames.Stepper.{Stepper}
+use Rattle.core_frames.proofs.frames.Stepper.{Stepper}
 use Rattle.core_tree.proofs.links.LinkSteps.{LinkStep}
 use Rattle.core_frames.proofs.marks.UpdateMarks.{gone_done}
 
@@ -194,13 +194,6 @@ module _ (z : LeafLink) where
 
   pub still_linked : (s : ℕ) → g.linked s ≡ true → to.linked s ≡ true
   still_linked s l = put-other g.linked leaf true s (λ e. absurd (let q : true ≡ false = sym l ∙ ap g.linked e ∙ leaf_off in cc)) ∙ l
-
-  -- a linked slot is in nobody's hands
-  pub nobody : (j : ℕ) (u : View) → get_elem? vs j ≡ some u → times slot (slots_of u) ≡ 0
-  nobody j u e = linked_nobody k m vs h i slot linked_slot j u e
-
-  pub hand_apart : (j : ℕ) (u : View) (x : Held) → get_elem? vs j ≡ some u → u.hands.hand ≡ Some x → x.slot ≢ slot
-  hand_apart j u x e is = linked_hand k m vs h i slot linked_slot j u e x is
 
   pub spare_apart : (j : ℕ) (u : View) (x : Held) → get_elem? vs j ≡ some u → u.hands.spare ≡ Some x → x.slot ≢ slot
   spare_apart j u x e is = linked_spare k m vs h i slot linked_slot j u e x is

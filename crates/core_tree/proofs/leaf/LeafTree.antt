@@ -21,7 +21,7 @@ use Rattle.core_tree.proofs.updates.PutMarks.{put_update, put_here, put_else, pu
 use Rattle.core_tree.proofs.locks.Relocking.{emptied_change_same}
 use Rattle.core_tree.proofs.leaf.LeafNeeds.{LeafLink, leafed, settled, hand_is, leaf_off, some_leaf, leaf_key, leaf_value, links, key_absent}
 use Rattle.core_tree.proofs.chart.ChangedFunctions.{put-same, put-other}
-use Rattle.core_tree.proofs.frames.CountSteps.{counts_go}
+use Rattle.core_frames.proofs.frames.CountFrame.{counts_by}
 use Rattle.core_tree.proofs.frames.MoveSteps.{moving_left}
 
 module _ (z : LeafLink) where
@@ -58,14 +58,13 @@ module _ (z : LeafLink) where
       let linked = more_linked in
       let ticket = z.needs.has_commit.ticket in
       let longer = put_count h v.allowance.place r.key value (key_absent z) in
-      counts_go m new n g to v w h hs k.tickets vs id there (record {
-        clock = refl;
+      counts_by k.tickets m new n g to vs id v w h hs there (record {
         free = refl;
-        updates = omega arith;
-        lives = omega arith;
+        clock = omega arith;
+        generations = omega arith;
         tags = omega arith;
         turns = omega arith;
-        pairs = more_young ∙ ap (λ y. y + 1) i.counts.pairs ∙ sym (put_length h v.allowance.place r.key value (key_absent z));
+        pairs = (let a = more_young in let b = put_length h v.allowance.place r.key value (key_absent z) in omega arith);
         olds = (let o = same_old in omega arith);
       }) i.counts
 
@@ -76,12 +75,12 @@ module _ (z : LeafLink) where
       let o = same_at m new n g slot b leaf i.tree.shape (links z) move.old t.old_linked in
       moving_left m new g to h hs u u move (record {
         copy_linked = c.linked ∙ t.copy_linked;
-        copy_age = c.old;
+        copy_old = c.old;
         copy_key = refl;
         copy_value = refl;
         copy_life = refl;
         old_linked = o.linked ∙ t.old_linked;
-        old_age = o.old;
+        old_old = o.old;
         old_key = refl;
         old_value = refl;
         parent = o.up;

@@ -29,7 +29,7 @@ use Rattle.core_frames.proofs.chart.Plain.{entered_before}
 use Rattle.core_frames.proofs.chart.Ranges.{bool_cases}
 use Rattle.core_tree.proofs.chart.ChartReaders.{readers, told_here, path_after, walks_after}
 use Rattle.core_tree.proofs.links.LinkSteps.{LinkStep, words_after, views_after, below, unlinked_off, still_linked, not_gone, off_not_gone, held, held_gone, here_after, met_linked}
-use Rattle.core_tree.proofs.updates.Updates.{told_now}
+use Rattle.core_frames.proofs.chart.Plain.{told_now}
 
 module _ (z : LinkStep) where
   open z use {who.{k, m, vs, h, id, v, there, inv as i, inv.{chart as g}}, to, w, hs, p, b, d, c, lower, upper, changes}
@@ -171,8 +171,8 @@ module _ (z : LinkStep) where
         each_set (λ j u. (section : Section) → u.section ≡ Some section → section.entered < at → IsMetBefore vs at) vs id w
         (λ section is lt. (id, v, section, there, sym z.same.section ∙ is, lt)) (λ j u ne e section is lt. (j, u, section, e, is, lt)) y.0 y.1 y.3 y.2 y.4 y.5
 
-    ages_after : AreAged (words_after z) to (views_after z) hs
-    ages_after s at y a gone met link nz = ⊎_elim (λ (e : s ≡ d). at_gone e (cases_eq d 0)) (λ ne. other (λ e. absurd (ne e))) (cases_eq s d)
+    aged_after : AreAged (words_after z) to (views_after z) hs
+    aged_after s at y a gone met link nz = ⊎_elim (λ (e : s ≡ d). at_gone e (cases_eq d 0)) (λ ne. other (λ e. absurd (ne e))) (cases_eq s d)
       where
         led : at < length h → (g.linked y ≡ true) ⊎ ((after : ℕ) × (gone_at y h ≡ Some after) × (at < after)) → (to.linked y ≡ true) ⊎ ((after : ℕ) × (gone_at y hs ≡ Some after) × (at < after))
         led small (inl l) = ⊎_elim
@@ -205,7 +205,7 @@ module _ (z : LinkStep) where
       records = each_set (λ j u. Each u.records (IsRecord (words_after z) to (views_after z))) vs id w
           (subst (λ rs. Each rs (IsRecord (words_after z) to (views_after z))) (sym z.records) (λ l x e. one id v there l x e))
           (λ j u ne e l x is. one j u e l x is);
-      ages = ages_after;
+      ages = aged_after;
     }
       where
         one : (j : ℕ) (u : View) → get_elem? vs j ≡ some u → (l : ℕ) (x : Reading) → get_elem? u.records l ≡ some x → IsRecord (words_after z) to (views_after z) x

@@ -27,7 +27,7 @@ use Rattle.core_frames.proofs.frames.PlainFrames.{SameForMore, mark_frame_plain,
 use Rattle.core_frames.proofs.marks.PlainMarks.{PlainMarks}
 use Rattle.core_frames.proofs.views.Roles.{gone_off}
 use Rattle.core_tree.proofs.chart.ChartChanges.{ChangesChart, in_after, was_empty}
-use Rattle.core_tree.proofs.frames.Stepper.{Stepper}
+use Rattle.core_frames.proofs.frames.Stepper.{Stepper}
 use Rattle.core_tree.proofs.stores.StoreFront.{odd_front}
 use Rattle.core_tree.proofs.stores.StoreListings.{listings_after}
 use Rattle.core_tree.proofs.stores.Stores.{link_stores}
@@ -160,5 +160,5 @@ module _ (z : LinkStep) where
       (λ j u section listing e is even same lists. now listing even same lists) i.listings
 
   -- while the view's commit is under way the front is odd, and nothing holds of listings
-  pub listings_of_commit : (commit : Commit) → HasCommit v commit → v.moving ≡ None → ListingParts (words_after z) to (views_after z) hs
-  listings_of_commit commit has settled = listings_by (λ listing even same _. absurd (odd_front m m vs id v v there h h refl settled i.front commit has (subst IsEven (sym same) even)))
+  pub listings_of_commit : (commit : Commit) → HasCommit v commit → ListingParts (words_after z) to (views_after z) hs
+  listings_of_commit commit has = listings_by (λ listing even same _. absurd (odd_front m m vs id v v there h h refl i.front commit has (subst IsEven (sym same) even)))

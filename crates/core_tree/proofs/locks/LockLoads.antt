@@ -35,11 +35,11 @@ use Rattle.core_tree.proofs.locks.LockSteps.{emptied_after, OneLock, one_changed
 use Rattle.core_tree.proofs.notes.Notes.{note_held-form, lock_noted, note_held-slot, note_option-slots, held_noted, hands_noted, note_option-unraised, note_option-none, note_option-still_none}
 use Rattle.core_tree.proofs.notes.KnownHands.{law_hands}
 use Rattle.core_tree.proofs.notes.KnownCopy.{law_copy}
-use Rattle.core_tree.proofs.locks.UnderLock.{StoresAge, under_lock}
+use Rattle.core_tree.proofs.locks.UnderLock.{StoresLifeOrTag, under_lock}
 use Rattle.core_frames.proofs.views.Fields.{loadable_own, stored_same}
 use Rattle.core_frames.proofs.Keeping.{past_kept}
 
-no_store : (m : Memory) → StoresAge m m
+no_store : (m : Memory) → StoresLifeOrTag m m
 no_store m = record { content = λ t f x. refl; state = λ t. refl; beside = λ f x. refl }
 
 -- Who has the lock of a slot may note what is so of a field of it.

@@ -21,7 +21,7 @@ use Rattle.list_laws.specs.Counts.{times, IsIn}
 use Rattle.core_state.specs.memory.Lists.{has, IsEven}
 use Rattle.core_state.specs.memory.Memory.{Memory, stored, slot_count}
 use Rattle.core_state.specs.views.Known.{known_in, lock_of, known_under, HasLock, is_emptied, change_lock, note_lock, IsOwnField, LoadedGeneration}
-use Rattle.core_state.specs.views.Views.{Works, readings_of, open_reading, spares_of, slots_of}
+use Rattle.core_state.specs.views.Views.{Works, readings_of, open_reading, spares_of}
 use Rattle.core_state.specs.steps.Links.{NodeRecords, IsUnmarkedNode, FewChildren, BothChildren, IsNodeOfDelete, IsOldOfMove, NeedsMark, with_mark, after_mark}
 use Rattle.core_state.specs.tree.Chart.{Chart}
 use Rattle.core_state.specs.tree.Readers.{IsEmptied}
@@ -32,14 +32,14 @@ use Rattle.core_state.specs.steps.Steps.{IsStep, step22}
 use Rattle.core_state.specs.Invariant.{HoldsNow}
 use Rattle.core_frames.specs.Laws.{KeepsPast, IsKept, Keeps}
 use Rattle.list_laws.proofs.Lists.{in_second}
-use Rattle.core_tree.proofs.locks.LockHeld.{lock_outside, lock_alone, linked_nobody, linked_hand, linked_spare}
+use Rattle.core_tree.proofs.locks.LockHeld.{lock_outside, lock_alone, linked_hand, linked_spare}
 use Rattle.core_tree.proofs.notes.Knowing.{known_here as noted_here}
 use Rattle.core_tree.proofs.locks.Relocking.{emptied_change_same}
 use Rattle.core_tree.proofs.locks.Locked.{lock_under, loaded_known, under_lock as known_under_lock}
 use Rattle.core_tree.proofs.locks.LockSteps.{emptied_after, OneLock, noted_then, lock_stays}
 use Rattle.core_frames.proofs.views.Roles.{own_off, slots_count}
 use Rattle.core_tree.proofs.notes.Notes.{lock_noted, noting-lock}
-use Rattle.core_tree.proofs.locks.UnderLock.{age_stores, under_lock}
+use Rattle.core_tree.proofs.locks.UnderLock.{life_or_tag_stores, under_lock}
 use Rattle.core_frames.proofs.views.Fields.{stored_here, stored_else}
 use Rattle.core_tree.proofs.stores.Stores.{StoresIn, stores_in, held_beside}
 
@@ -150,9 +150,6 @@ module _ (k : Shape) (m : Memory) (vs : List View) (h : List Mark) (id : ℕ) (v
   alone : (j : ℕ) (u : View) → j ≢ id → get_elem? vs j ≡ some u → HasLock u slot → ⊥
   alone = lock_alone k m vs h i id v there slot lock needs.locked
 
-  nobody : (j : ℕ) (u : View) → get_elem? vs j ≡ some u → times slot (slots_of u) ≡ 0
-  nobody j u e = linked_nobody k m vs h i slot ready.linked j u e
-
   hand_apart : (j : ℕ) (u : View) (x : Held) → get_elem? vs j ≡ some u → u.hands.hand ≡ Some x → x.slot ≢ slot
   hand_apart j u x e is = linked_hand k m vs h i slot ready.linked j u e x is
 
@@ -226,7 +223,7 @@ module _ (k : Shape) (m : Memory) (vs : List View) (h : List Mark) (id : ℕ) (v
       (λ (e : (m (Life slot) ≡ 2 * x + 1) × (lock.marked ≡ true)). absurd (let f = e.0 in let r = ready in let a = r.now in let d = r.life_is in omega arith)) has
 
   marked_before : HoldsNow k marked_memory (set vs id w) h
-  marked_before = under_lock k m marked_memory vs h id v i there works locks slot lock new_lock one (age_stores m slot (Life slot) (life + 1) refl tt) (record {
+  marked_before = under_lock k m marked_memory vs h id v i there works locks slot lock new_lock one (life_or_tag_stores m slot (Life slot) (life + 1) refl tt) (record {
     half = half;
     off = λ s off. life_else s (off_slot s off);
     root = life_else 0 (λ e. ready.some_slot (sym e)) ∙ i.slots.root;
@@ -242,11 +239,11 @@ module _ (k : Shape) (m : Memory) (vs : List View) (h : List Mark) (id : ℕ) (v
   pub node_marked : HoldsNow k marked_memory (set vs id (after_mark v slot life)) h
   node_marked = subst (λ (z : View). HoldsNow k marked_memory (set vs id z) h) (sym after_is) marked_before
 
-  pub ages_marked : KeepsPast m h marked_memory
-  ages_marked = record {
+  pub past_marked : KeepsPast m h marked_memory
+  past_marked = record {
     lives = λ s. dite (ℕ_discrete s slot) (λ same. subst (λ z. m (Life z) ≤ marked_memory (Life z)) (sym same) (let a = life_here in let r = ready in let c = r.now in omega arith)) (λ ne. (let e = life_else s ne in omega arith));
     tags = λ s b. omega arith;
-    content = λ s field gone odd content. (age_stores m slot (Life slot) (life + 1) refl tt).content s field content;
+    content = λ s field gone odd content. (life_or_tag_stores m slot (Life slot) (life + 1) refl tt).content s field content;
   }
 
 pub keeps22 : Keeps K22
@@ -256,5 +253,5 @@ keeps22 k m vs h id v w field left marks i there works is_field step = cases fie
     cases field found left marks w (step22 {slot = slot} {life = life} lock needs) =
         subst (IsKept k m h (stored m (Life slot) (life + 1)) (set vs id (after_mark v slot life))) (sym (append-nil h)) (record {
           invariant = node_marked k m vs h id v i there works lock slot life needs;
-          past = ages_marked k m vs h id v i there works lock slot life needs;
+          past = past_marked k m vs h id v i there works lock slot life needs;
         })

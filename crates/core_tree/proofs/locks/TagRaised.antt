@@ -41,11 +41,11 @@ use Rattle.core_tree.proofs.locks.LockSteps.{emptied_after, OneLock, one_changed
 use Rattle.core_frames.proofs.views.Roles.{linked_none, not_gone, held_there, spare_among, slots_count}
 use Rattle.core_tree.proofs.notes.Notes.{note_held-form, lock_noted, note_option-else, note_held-slot, held_noted}
 use Rattle.core_tree.proofs.notes.KnownCopy.{law_copy}
-use Rattle.core_tree.proofs.locks.UnderLock.{age_stores, under_lock}
+use Rattle.core_tree.proofs.locks.UnderLock.{life_or_tag_stores, under_lock}
 use Rattle.core_tree.proofs.locks.Sides.{side_at, emptied_back, emptied_other, emptied_flags, emptied_less}
 use Rattle.core_frames.proofs.views.Fields.{same_is, stored_here, stored_else}
 use Rattle.core_tree.proofs.stores.Stores.{StoresIn, stores_in, held_beside}
-use Rattle.core_tree.proofs.frames.CountSteps.{tags_raised}
+use Rattle.core_frames.proofs.frames.CountFrame.{tags_raised}
 use Rattle.core_state.specs.views.Views.{emptied_among}
 
 module _ (k : Shape) (m : Memory) (vs : List View) (h : List Mark) (id : ℕ) (v : View) (i : HoldsNow k m vs h) (there : get_elem? vs id ≡ some v) (works : Works v)
@@ -207,7 +207,7 @@ module _ (k : Shape) (m : Memory) (vs : List View) (h : List Mark) (id : ℕ) (v
     }
 
     pub raised_but_copy : HoldsNow k raised_memory (set vs id w) h
-    raised_but_copy = under_lock k m raised_memory vs h id v i there works raised_locks slot lock new_lock one (age_stores m slot (Tag slot b) (tag + 1) refl tt) (record {
+    raised_but_copy = under_lock k m raised_memory vs h id v i there works raised_locks slot lock new_lock one (life_or_tag_stores m slot (Tag slot b) (tag + 1) refl tt) (record {
       half = λ s. refl;
       off = λ s off. refl;
       root = i.slots.root;
@@ -220,8 +220,8 @@ module _ (k : Shape) (m : Memory) (vs : List View) (h : List Mark) (id : ℕ) (v
       copies = λ j u move e is. refl;
     }) locks_parts tags_counted
 
-  pub ages_raised : KeepsPast m h raised_memory
-  ages_raised = record { lives = λ s. omega arith; tags = tag_le; content = λ s field gone odd content. (age_stores m slot (Tag slot b) (tag + 1) refl tt).content s field content }
+  pub past_raised : KeepsPast m h raised_memory
+  past_raised = record { lives = λ s. omega arith; tags = tag_le; content = λ s field gone odd content. (life_or_tag_stores m slot (Tag slot b) (tag + 1) refl tt).content s field content }
 
   -- what is noted in hands is nothing
   pub hands_same : (o : Option Move) → record (after_raise_tag v slot b tag) { moving = o } ≡ record v { locks = raised_locks; moving = o }
@@ -281,5 +281,5 @@ keeps23 k m vs h id v w field left marks i there works is_field step = cases fie
     cases field found left marks w (step23 {slot = slot} {tag = tag} {b = b} lock needs) =
         subst (IsKept k m h (stored m (Tag slot b) (tag + 1)) (set vs id (after_raise_tag v slot b tag))) (sym (append-nil h)) (record {
           invariant = tag_raised k m vs h id v i there works lock slot b tag needs;
-          past = ages_raised k m vs h id v i there works lock slot b tag needs;
+          past = past_raised k m vs h id v i there works lock slot b tag needs;
         })

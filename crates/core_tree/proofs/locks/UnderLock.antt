@@ -38,11 +38,11 @@ use Rattle.core_tree.proofs.locks.LockSteps.{OneLock}
 use native.Mathlib.Decide.{ℕ_discrete}
 use Rattle.core_state.specs.memory.Lists.{sum_below, count_below}
 use Rattle.core_state.specs.views.Views.{emptied_among}
-use Rattle.core_tree.proofs.frames.CountSteps.{free_slots, generations, tags_raised, counts_go}
+use Rattle.core_frames.proofs.frames.CountFrame.{free_slots, generations_in, tags_raised, counts_by}
 use Rattle.core_tree.proofs.frames.GraceSteps.{grace_same}
 
 -- what the store leaves of the words
-pub record StoresAge (m m' : Memory) : Type 0 where
+pub record StoresLifeOrTag (m m' : Memory) : Type 0 where
   pub content : (s : ℕ) (field : Field) → IsContent s field → m' field ≡ m field
   pub state : (s : ℕ) → m' (State s) ≡ m (State s)
   pub beside : (field : Field) → IsBesideSlots field → m' field ≡ m field
@@ -52,21 +52,21 @@ IsLifeOrTag (Life t) = Unit {0}
 IsLifeOrTag (Tag t b) = Unit {0}
 IsLifeOrTag _ = ⊥
 
-content_age : (s : ℕ) (field : Field) → IsContent s field → IsLifeOrTag field → ⊥
-content_age s (Life t) c a = c
-content_age s (Tag t b) c a = c
-content_age s _ c a = a
+content_apart : (s : ℕ) (field : Field) → IsContent s field → IsLifeOrTag field → ⊥
+content_apart s (Life t) c a = c
+content_apart s (Tag t b) c a = c
+content_apart s _ c a = a
 
 -- a store of a life or a tag leaves what is neither
-pub age_stores : (m : Memory) (p : ℕ) (f : Field) (n : ℕ) → IsOwnField p f → IsLifeOrTag f → StoresAge m (stored m f n)
-age_stores m p f n own age = record {
-  content = λ s field c. stored_else m f field n (λ e. content_age s field c (subst IsLifeOrTag e age));
-  state = λ s. stored_else m f (State s) n (λ e. subst IsLifeOrTag e age);
+pub life_or_tag_stores : (m : Memory) (p : ℕ) (f : Field) (n : ℕ) → IsOwnField p f → IsLifeOrTag f → StoresLifeOrTag m (stored m f n)
+life_or_tag_stores m p f n own kind = record {
+  content = λ s field c. stored_else m f field n (λ e. content_apart s field c (subst IsLifeOrTag e kind));
+  state = λ s. stored_else m f (State s) n (λ e. subst IsLifeOrTag e kind);
   beside = (stores_in m p f n own).beside;
 }
 
 module _ (k : Shape) (m m' : Memory) (vs : List View) (h : List Mark) (id : ℕ) (v : View) (i : HoldsNow k m vs h) (there : get_elem? vs id ≡ some v) (works : Works v)
-    (locks : List HeldLock) (slot : ℕ) (lock new : HeldLock) (one : OneLock v (record v { locks = locks }) slot lock new) (stores : StoresAge m m') where
+    (locks : List HeldLock) (slot : ℕ) (lock new : HeldLock) (one : OneLock v (record v { locks = locks }) slot lock new) (stores : StoresLifeOrTag m m') where
   abbrev w : View
   w = record v { locks = locks }
 
@@ -163,14 +163,13 @@ module _ (k : Shape) (m m' : Memory) (vs : List View) (h : List Mark) (id : ℕ)
 
     -- tags with those still to be raised are no more than before
     counts_under : tags_raised m' (slot_count k) + emptied_among locks ≤ tags_raised m (slot_count k) + emptied_among v.locks → CountParts k.tickets m' (slot_count k) g (set vs id w) h
-    counts_under tags = counts_go m m' (slot_count k) g g v w h h k.tickets vs id there (record {
-      clock = stores.beside Clock tt;
+    counts_under tags = counts_by k.tickets m m' (slot_count k) g g vs id v w h h there (record {
       free = (let a = stores.beside Free tt in let b : free_slots m' (slot_count k) ≡ free_slots m (slot_count k) = (λ j. count_below (λ s. stores.state s j == 0) (slot_count k)) in omega arith);
-      updates = omega arith;
-      lives = (let a : generations m' (slot_count k) ≡ generations m (slot_count k) = (λ j. sum_below (λ s. c.half s j) (slot_count k)) in omega arith);
+      clock = (let a = stores.beside Clock tt in omega arith);
+      generations = (let a : generations_in m' (slot_count k) ≡ generations_in m (slot_count k) = (λ j. sum_below (λ s. c.half s j) (slot_count k)) in omega arith);
       tags = omega arith;
-      turns = omega arith;
-      pairs = i.counts.pairs;
+      turns = (let a = stores.beside Clock tt in omega arith);
+      pairs = refl;
       olds = refl;
     }) i.counts
 

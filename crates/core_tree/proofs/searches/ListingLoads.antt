@@ -29,7 +29,6 @@ use Rattle.core_frames.specs.Laws.{KeepsPast, IsKept, Keeps}
 use Rattle.list_laws.proofs.Lists.{at_below, set_twice}
 use Rattle.core_frames.proofs.chart.Plain.{updates_before}
 use Rattle.core_frames.proofs.views.Same.{same_slots}
-use Rattle.core_frames.proofs.frames.WaiterFrame.{waiter_frame}
 use Rattle.core_tree.proofs.searches.InSection.{in_section}
 use Rattle.core_frames.proofs.views.Fields.{stored_same}
 use Rattle.core_frames.proofs.First.{each_none}

@@ -1,12 +1,11 @@
 -- A load in a section keeps the invariant: K17.
-use Rattle.std.proofs.Common.{◌≡◌, ◌≢◌, ◌⊎◌, ℕ, ◌/◌, ◌≤◌, true, false, List, [], ◌++◌, length, set, Some, None, refl, sym, ap, subst, ◌∙◌, inl, inr, ⊎_elim, arith, append-nil}
-use Rattle.std.proofs.lemmas.List.{take_all}
+use Rattle.std.proofs.Common.{◌≡◌, ◌≢◌, ◌⊎◌, ℕ, ◌/◌, ◌≤◌, true, false, List, [], ◌++◌, set, Some, None, refl, sym, ap, subst, ◌∙◌, inl, inr, ⊎_elim, arith, append-nil}
 use Rattle.std.specs.FinMap as finite
 use mathlib.Core.Option.{some}
 use lib.ListN.{get_elem?}
 use Rattle.prcu_marks.specs.declared.mark.Mark.{Mark}
 use Rattle.prcu_marks.specs.declared.mark.Side.{Side}
-use Rattle.prcu_model.specs.Dictionary.{map_of, WasSaid}
+use Rattle.prcu_model.specs.Dictionary.{WasSaid}
 use Rattle.prcu_marks.specs.Marks.{updates_of}
 use Rattle.core_state.specs.declared.shape.Shape.{Shape}
 use Rattle.core_state.specs.declared.words.Field.{Field}
@@ -31,7 +30,7 @@ use Rattle.core_state.specs.steps.Loads.{loaded, NeedsSearchLoad, after_search_l
 use Rattle.core_state.specs.steps.Steps.{IsStep, step17, step17_list}
 use Rattle.core_state.specs.Invariant.{HoldsNow}
 use Rattle.core_frames.specs.Laws.{KeepsPast, IsKept, Keeps}
-use Rattle.core_frames.proofs.chart.Plain.{updates_before}
+use Rattle.core_frames.proofs.chart.Plain.{told_now}
 use Rattle.core_frames.proofs.views.Same.{same_slots}
 use Rattle.core_tree.proofs.notes.Knowing.{known_more}
 use Rattle.core_tree.proofs.searches.Outcomes.{noted, Outcome, stays, ended, hopped, turned, found, valued, began, went_on, outcome}
@@ -66,14 +65,7 @@ module _ (k : Shape) (m : Memory) (vs : List View) (h : List Mark) (id : ℕ) (v
   was_kept = i.locks.readings id v there 0 section.reading first_reading
 
   said_now : WasSaid (updates_of h) section.key section.from (map_now h section.key)
-  said_now =
-      let us = updates_of h in
-      record {
-        front = length us;
-        since = (let from = (i.seats.sections id v there section inside).from in let before = updates_before h section.entered in omega arith);
-        made = omega arith;
-        answers = ap (λ z. finite.get (map_of z) section.key) (take_all (length us) us (omega arith));
-      }
+  said_now = told_now k m vs h i id v section there inside
 
   child_stood : (s c : ℕ) (b : Side) → IsIn section.reading.stood s → m (Link s b) ≡ c → c ≢ 0
       → (i.chart.linked c ≡ true) ⊎ (IsHeldBack i.chart h section.entered c × IsOdd (m (Life c)))

@@ -19,7 +19,7 @@ use Rattle.core_state.specs.tree.Chart.{Chart}
 use Rattle.core_state.specs.parts.CountParts.{turns_to_come, linked_count, young_count, old_count, CountParts}
 use Rattle.core_state.specs.Invariant.{HoldsNow}
 use Rattle.core_tree.proofs.stores.Stores.{StoresAt}
-use Rattle.core_tree.proofs.frames.CountSteps.{free_slots, counts_go}
+use Rattle.core_frames.proofs.frames.CountFrame.{free_slots, counts_by}
 use Rattle.core_tree.proofs.frames.CountedBelow.{sum_same, sum_less}
 
 -- the slot d goes off
@@ -76,14 +76,13 @@ module _ (k : Shape) (m : Memory) (vs : List View) (h : List Mark) (i : HoldsNow
     -- so many slots are unlinked, and so many updates made
     counts_stored : (to : Chart) (gone made : ℕ) → linked_count i.chart (slot_count k) ≡ linked_count to (slot_count k) + gone → young_count to (slot_count k) ≡ finite.len (map_of (updates_of h')) → old_count i.chart (slot_count k) ≡ old_count to (slot_count k) + has v.moving
         → w.allowance.tickets + made ≡ v.allowance.tickets → unraised_of w ≡ unraised_of v + gone → emptied_among w.locks + has w.moving ≤ emptied_among v.locks + has v.moving + made → length (updates_of h') ≡ length (updates_of h) + made → CountParts k.tickets m' (slot_count k) to (set vs id w) h'
-    counts_stored to gone made linked young old tickets unraised emptied longer = counts_go m m' (slot_count k) i.chart to v w h h' k.tickets vs id there (record {
-      clock = stores.within.beside Clock tt;
+    counts_stored to gone made linked young old tickets unraised emptied longer = counts_by k.tickets m m' (slot_count k) i.chart to vs id v w h h' there (record {
       free = (let a = stores.within.beside Free tt in let b = ap flag c.reserved in let d = ap flag c.owes in let e : free_slots m' (slot_count k) ≡ free_slots m (slot_count k) = (λ z. count_below (λ s. stores.state s z == 0) (slot_count k)) in omega arith);
-      updates = omega arith;
-      lives = (let a = ap flag c.reserved in let b : sum_below (λ s. m' (Life s) / 2) (slot_count k) ≡ sum_below (λ s. m (Life s) / 2) (slot_count k) = (λ z. sum_below (λ s. stores.life s z / 2) (slot_count k)) in omega arith);
+      clock = (let a = stores.within.beside Clock tt in omega arith);
+      generations = (let a = ap flag c.reserved in let b : sum_below (λ s. m' (Life s) / 2) (slot_count k) ≡ sum_below (λ s. m (Life s) / 2) (slot_count k) = (λ z. sum_below (λ s. stores.life s z / 2) (slot_count k)) in omega arith);
       tags = (let b : sum_below (λ s. m' (Tag s Left) + m' (Tag s Right)) (slot_count k) ≡ sum_below (λ s. m (Tag s Left) + m (Tag s Right)) (slot_count k) = (λ z. sum_below (λ s. stores.tag s Left z + stores.tag s Right z) (slot_count k)) in omega arith);
-      turns = (let a = c.turns in let b = ap turns_to_come c.wait in omega arith);
-      pairs = young;
+      turns = (let clock = stores.within.beside Clock tt in let a = c.turns in let b = ap turns_to_come c.wait in omega arith);
+      pairs = (let a = young in let b = i.counts.pairs in omega arith);
       olds = (let a = ap has c.moving in omega arith);
     }) i.counts
 

@@ -14,7 +14,7 @@ use Rattle.core_state.specs.declared.view.View.{View}
 use Rattle.core_state.specs.memory.Lists.{IsEven}
 use Rattle.core_state.specs.memory.Memory.{Memory}
 use Rattle.core_state.specs.steps.Links.{HasCommit}
-use Rattle.core_state.specs.parts.FrontParts.{IsTurned, IsOddBy, FrontParts}
+use Rattle.core_state.specs.parts.FrontParts.{IsOddBy, FrontParts}
 use Rattle.list_laws.specs.Counts.{Each}
 use Rattle.list_laws.proofs.Lists.{at_below, each_set}
 use Rattle.core_frames.proofs.frames.FrontFrame.{front_by}
@@ -23,7 +23,7 @@ use Rattle.core_frames.proofs.frames.FrontFrame.{front_by}
 pub front_still : (m m' : Memory) (vs : List View) (id : ℕ) (v w : View) → get_elem? vs id ≡ some v → (h h' : List Mark) → m' Front ≡ m Front → (v.moving ≡ None → w.moving ≡ None) → w.commit ≡ v.commit → updates_of h' ≡ updates_of h → FrontParts m vs h → FrontParts m' (set vs id w) h'
 front_still m m' vs id v w there h h' front settled commit updates t = front_by m m' vs id v w h h' there front commit settled updates t
 
-module _ (m m' : Memory) (vs : List View) (id : ℕ) (v w : View) (there : get_elem? vs id ≡ some v) (h h' : List Mark) (front : m' Front ≡ m Front) (moving : w.moving ≡ None) (t : FrontParts m vs h) where
+module _ (m m' : Memory) (vs : List View) (id : ℕ) (v w : View) (there : get_elem? vs id ≡ some v) (h h' : List Mark) (front : m' Front ≡ m Front) (t : FrontParts m vs h) where
   -- the view whose commit it is
   pub turned_by : (commit : Commit) → HasCommit v commit → (m Front ≡ commit.found + 1) × (commit.found ≡ 2 * length (updates_of h)) × ((j : ℕ) (u : View) → j ≢ id → get_elem? vs j ≡ some u → u.commit ≡ None)
   turned_by commit has = ⊎_elim none one t.turned
@@ -63,6 +63,6 @@ module _ (m m' : Memory) (vs : List View) (id : ℕ) (v w : View) (there : get_e
           updates = (let b = r.1 in omega arith);
           alone = λ j u ne e. each_set (λ l z. l ≢ id → z.commit ≡ None) vs id w (λ f. absurd (f refl)) (λ l z far q _. r.2 l z far q) j u e ne;
         });
-        settled = each_set (λ j u. (x : Commit) → u.commit ≡ Some x → x.stored ≡ false → u.moving ≡ None) vs id w (λ x is unmade. moving) (λ j u ne e. t.settled j u e);
+        settled = each_set (λ j u. (x : Commit) → u.commit ≡ Some x → x.stored ≡ false → u.moving ≡ None) vs id w (λ x is unmade. absurd (let q : Some (record commit { stored = true }) ≡ Some x = sym turned ∙ is in let e : ◌≡◌ {A = Commit} (record commit { stored = true }) x = cc in let f : true ≡ false = ap (λ (y : Commit). y.stored) e ∙ unmade in cc)) (λ j u ne e. t.settled j u e);
         legal = legal;
       }

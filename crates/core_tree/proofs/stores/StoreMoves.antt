@@ -27,11 +27,6 @@ use Rattle.core_tree.proofs.frames.MoveSteps.{moving_left}
 pub pending_still : (vs : List View) (id : ℕ) (w : View) (move : Move) (p : IsPending vs move) → p.id ≢ id → IsPending (set vs id w) move
 pending_still vs id w move p ne = record { id = p.id; view = p.view; there = set_else vs id p.id w ne ∙ p.there; moving = p.moving }
 
--- a pending move was pending before
-pub pending_back : (vs : List View) (id : ℕ) (w : View) (move : Move) → w.moving ≡ None → IsPending (set vs id w) move → IsPending vs move
-pending_back vs id w move none p =
-    each_set (λ j u. u.moving ≡ Some move → IsPending vs move) vs id w (λ is. absurd (let q : None ≡ Some move = sym none ∙ is in cc)) (λ j u ne e is. record { id = j; view = u; there = e; moving = is }) p.id p.view p.there p.moving
-
 module _ (k : Shape) (m : Memory) (vs : List View) (h : List Mark) (i : HoldsNow k m vs h) (id : ℕ) (v w : View) (there : get_elem? vs id ≡ some v)
     (f : Field) (n p : ℕ) (stores : StoresAt m (stored m f n) p f) (mine : HasLock v p) (moving : w.moving ≡ None) (to : Chart) (h' : List Mark) (more : PlainMarks v.allowance.place h h') where
   abbrev m' : Memory
@@ -52,12 +47,12 @@ module _ (k : Shape) (m : Memory) (vs : List View) (h : List Mark) (i : HoldsNow
         let q = c.hangs j u move ne e is in
         moving_left m m' i.chart to h h' u u move (record {
           copy_linked = c.stays j u move.copy.slot ne e t.copy_lock t.copy_linked;
-          copy_age = c.old_same move.copy.slot;
+          copy_old = c.old_same move.copy.slot;
           copy_key = stores.key move.copy.slot;
           copy_value = stores.away move.copy.slot (Value move.copy.slot) (apart move.copy.slot t.copy_lock) refl;
           copy_life = stores.life move.copy.slot;
           old_linked = c.stays j u move.old ne e t.old_lock t.old_linked;
-          old_age = c.old_same move.old;
+          old_old = c.old_same move.old;
           old_key = stores.key move.old;
           old_value = stores.away move.old (Value move.old) (apart move.old t.old_lock) refl;
           parent = q.0;

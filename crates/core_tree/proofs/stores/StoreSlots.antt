@@ -1,8 +1,7 @@
 -- The parts on slots, after the store of a link or a value of a linked slot.
-use Rattle.std.proofs.Common.{◌≡◌, ◌≢◌, ℕ, zero, suc, ◌+◌, ◌-◌, ◌<◌, ◌≤◌, ◌⊎◌, ◌==◌, Bool, true, false, List, [], ◌∷◌, ◌++◌, length, map, set, Some, None, refl, sym, ap, subst, ◌∙◌, ⊎_elim, inl, inr, arith, length-append}
-use Rattle.std.proofs.lemmas.Bool.{cases_eq}
+use Rattle.std.proofs.Common.{◌≡◌, ◌≢◌, ℕ, ◌+◌, ◌-◌, ◌≤◌, ◌==◌, Bool, true, false, List, ◌++◌, length, map, set, Some, None, refl, sym, ap, subst, ◌∙◌, arith}
 use mathlib.Core.Logic.{dite}
-use mathlib.Core.Option.{some, some-injective, some-ne-none}
+use mathlib.Core.Option.{some, some-injective}
 use native.Mathlib.Decide.{ℕ_discrete}
 use lib.ListN.{get_elem?}
 use Rattle.atomic_table.proofs.Lists.{set_here, set_else}
@@ -21,15 +20,13 @@ use Rattle.core_state.specs.memory.Lists.{flag, IsEven, IsOdd}
 use Rattle.core_state.specs.memory.Memory.{Memory, stored, slot_count}
 use Rattle.core_state.specs.views.Known.{HasLock, note_option}
 use Rattle.core_state.specs.views.Views.{held_list, joined_spares, joined_retired, spares_of, retired_of, slots_of}
-use Rattle.core_state.specs.tree.Chart.{Chart}
 use Rattle.core_state.specs.parts.SlotParts.{HasSpareToCome, HasFewSlots, IsRetired, IsRetiredOf, IsHeldKnown, AreHandsKnown, SlotParts}
 use Rattle.core_state.specs.Invariant.{HoldsNow}
-use Rattle.list_laws.proofs.Lists.{at_below, each_set, total_set, total_same, times_append, times_here, times_other, in_append, in_first, in_second}
+use Rattle.list_laws.proofs.Lists.{at_below, each_set, total_same}
 use Rattle.core_frames.proofs.views.Same.{SamePlaces}
 use Rattle.core_frames.proofs.views.Fields.{stored_here, stored_else}
 use Rattle.core_tree.proofs.stores.Stores.{StoresAt, held_beside}
 use Rattle.core_tree.proofs.locks.Holders.{hand_counts, spare_counts, retired_counts, linked_apart, one_holder}
-use Rattle.core_frames.proofs.views.RetiredLists.{retired_times}
 use Rattle.core_tree.proofs.notes.Notes.{hands_noted, note_option-none, note_option-still_none, note_option-slots}
 
 module _ (k : Shape) (m : Memory) (vs : List View) (h : List Mark) (i : HoldsNow k m vs h) (id : ℕ) (v w : View) (there : get_elem? vs id ≡ some v)
@@ -158,71 +155,3 @@ module _ (k : Shape) (m : Memory) (vs : List View) (h : List Mark) (i : HoldsNow
         where
           whole : (s : ℕ) → total (λ (u : View). times s (slots_of u)) (set vs id w) ≡ total (λ (u : View). times s (slots_of u)) vs
           whole s = total_same (λ (u : View). times s (slots_of u)) vs id v w there (ap (times s) slots_same)
-
-    -- The slot d is unlinked.
-    module _ (to : Chart) (d at : ℕ) (x : Retired) (is_d : x.slot ≡ d) (d_linked : i.chart.linked d ≡ true) (d_off : to.linked d ≡ false) (others : (s : ℕ) → s ≢ d → to.linked s ≡ i.chart.linked s)
-        (more : w.hands.retired ≡ v.hands.retired ++ x ∷ []) (few : length v.hands.retired < 16) (retires : IsRetired m' h' x) (gone : (s : ℕ) → s ≢ d → gone_at s h' ≡ gone_at s h) where
-      retired_more : retired_of w ≡ (v.hands.retired ++ x ∷ []) ++ joined_retired v.allowance.joined
-      retired_more = λ z. more z ++ joined_retired (c.places.joined z)
-
-      slots_more : (s : ℕ) → times s (slots_of w) ≡ times s (slots_of v) + times s (d ∷ [])
-      slots_more s =
-          let whole : slots_of w ≡ held_list v.hands.hand ++ (spares_of v ++ map (λ (r : Retired). r.slot) ((v.hands.retired ++ x ∷ []) ++ joined_retired v.allowance.joined)) =
-          λ z. hand_list_noted z ++ (spares_noted z ++ map (λ (r : Retired). r.slot) (retired_more z)) in
-          let e = ap (times s) whole in
-          let a = times_append s (held_list v.hands.hand) (spares_of v ++ map (λ (r : Retired). r.slot) ((v.hands.retired ++ x ∷ []) ++ joined_retired v.allowance.joined)) in
-          let b = times_append s (spares_of v) (map (λ (r : Retired). r.slot) ((v.hands.retired ++ x ∷ []) ++ joined_retired v.allowance.joined)) in
-          let q = retired_times s (v.hands.retired ++ x ∷ []) (joined_retired v.allowance.joined) in
-          let y = retired_times s v.hands.retired (x ∷ []) in
-          let a2 = times_append s (held_list v.hands.hand) (spares_of v ++ map (λ (r : Retired). r.slot) (v.hands.retired ++ joined_retired v.allowance.joined)) in
-          let b2 = times_append s (spares_of v) (map (λ (r : Retired). r.slot) (v.hands.retired ++ joined_retired v.allowance.joined)) in
-          let q2 = retired_times s v.hands.retired (joined_retired v.allowance.joined) in
-          let z = ap (λ t. times s (t ∷ [])) is_d in
-          omega arith
-
-      more_than : (s : ℕ) → total (λ (u : View). times s (slots_of u)) (set vs id w) ≡ total (λ (u : View). times s (slots_of u)) vs + times s (d ∷ [])
-      more_than s = let a = total_set (λ (u : View). times s (slots_of u)) vs id v w there in let b = slots_more s in omega arith
-
-      in_more : (r : Retired) → IsIn (retired_of v) r → IsIn (retired_of w) r
-      in_more r has = subst (λ rs. IsIn rs r) (sym retired_more) (⊎_elim
-          (λ (a : IsIn v.hands.retired r). in_first (v.hands.retired ++ x ∷ []) (joined_retired v.allowance.joined) r (in_first v.hands.retired (x ∷ []) r a))
-          (λ (b : IsIn (joined_retired v.allowance.joined) r). in_second (v.hands.retired ++ x ∷ []) (joined_retired v.allowance.joined) r b)
-          (in_append v.hands.retired (joined_retired v.allowance.joined) r has))
-
-      in_new : IsIn (retired_of w) x
-      in_new = subst (λ rs. IsIn rs x) (sym retired_more) (in_first (v.hands.retired ++ x ∷ []) (joined_retired v.allowance.joined) x (in_second v.hands.retired (x ∷ []) x (0, refl)))
-
-      one_of : (r : Retired) → IsIn (retired_of w) r → IsIn (retired_of v) r ⊎ (x ≡ r)
-      one_of r has = ⊎_elim
-          (λ (a : IsIn (v.hands.retired ++ x ∷ []) r). ⊎_elim (λ (b : IsIn v.hands.retired r). inl (in_first v.hands.retired (joined_retired v.allowance.joined) r b)) (λ (b : IsIn (x ∷ []) r). inr (only r b)) (in_append v.hands.retired (x ∷ []) r a))
-          (λ (b : IsIn (joined_retired v.allowance.joined) r). inl (in_second v.hands.retired (joined_retired v.allowance.joined) r b))
-          (in_append (v.hands.retired ++ x ∷ []) (joined_retired v.allowance.joined) r (subst (λ rs. IsIn rs r) retired_more has))
-        where
-          only : (r : Retired) → IsIn (x ∷ []) r → x ≡ r
-          only r (zero, e) = some-injective x r e
-          only r (suc j, e) = absurd (some-ne-none r (sym e))
-
-      pub slots_unlinked : SlotParts m' (slot_count k) to (set vs id w) h'
-      slots_unlinked = record {
-        roles = record {
-          once = λ s lt.
-              (let a = i.slots.roles.once s lt in
-              let b = ap (λ y. flag (y == 0)) (stores.state s) in
-              let e = more_than s in
-              ⊎_elim (λ (z : s ≡ d). (let q = ap flag (ap to.linked z ∙ d_off) in let y = ap flag (ap i.chart.linked z ∙ d_linked) in let o : times s (d ∷ []) ≡ 1 + times s [] = subst (λ t. times s (t ∷ []) ≡ 1 + times s []) z (times_here s []) in omega arith))
-              (λ ne. (let q = ap flag (others s ne) in let o = times_other s d [] (λ z. ne (sym z)) in omega arith)) (cases_eq s d));
-          beyond = λ s far. (let e = more_than s in let a = i.slots.roles.beyond s far in let o = times_other s d [] (λ z. let lt = i.tree.shape.within d d_linked in omega arith) in omega arith);
-          states = λ s lt. subst (λ y. y ≤ 1) (sym (stores.state s)) (i.slots.roles.states s lt);
-        };
-        few = each_set (λ j u. HasFewSlots u) vs id w (few_same (subst (λ rs. length rs ≤ 16) (sym more) (let l = length-append v.hands.retired (x ∷ []) in omega arith)) (λ r has. subst (λ rs. IsIn rs r) (sym more) (in_first v.hands.retired (x ∷ []) r has)) (i.slots.few id v there))
-            (λ j u ne e. i.slots.few j u e);
-        free = λ s lt e. even_same s (i.slots.free s lt (sym (stores.state s) ∙ e));
-        root = stores.life 0 ∙ i.slots.root;
-        hands = hands_stored;
-        retired = each_set (λ j u. Each (retired_of u) (IsRetired m' h')) vs id w
-            (λ j r e. ⊎_elim (λ (was : IsIn (retired_of v) r). retired_kept id v r there was) (λ (new_one : x ≡ r). subst (IsRetired m' h') new_one retires) (one_of r (j, e)))
-            (λ j u ne e l r is. retired_kept j u r e (l, is));
-        unlinked = λ s q is. ⊎_elim
-            (λ (z : s ≡ d). record { id = id; view = w; retired = x; there = set_here vs id w (at_below vs id v there); has = in_new; slot = is_d ∙ sym z })
-            (λ ne. still_retired in_more s (i.slots.unlinked s q (sym (gone s ne) ∙ is))) (cases_eq s d);
-      }

@@ -96,7 +96,6 @@ pub record StoresAt (m new : Memory) (p : ℕ) (f : Field) : Type 0 where
   pub away : (s : ℕ) (field : Field) → s ≢ p → IsOwnField s field → new field ≡ m field
   pub content : (s : ℕ) (field : Field) → s ≢ p → IsContent s field → new field ≡ m field
   pub no_life : (s : ℕ) → f ≢ Life s
-  pub no_tag : (s : ℕ) (b : Side) → f ≢ Tag s b
 
 module _ (m : Memory) (p : ℕ) (f : Field) (n : ℕ) (own : IsOwnField p f) (kind : IsValueOrLink f) where
   another : (field : Field) → (IsValueOrLink field → ⊥) → f ≢ field
@@ -113,7 +112,6 @@ module _ (m : Memory) (p : ℕ) (f : Field) (n : ℕ) (own : IsOwnField p f) (ki
     away = within.away;
     content = content_away m (stored m f n) p within;
     no_life = λ s. another (Life s) (λ x. x);
-    no_tag = λ s b. another (Tag s b) (λ x. x);
   }
 
 pub link_stores : (m : Memory) (p : ℕ) (b : Side) (n : ℕ) → StoresAt m (stored m (Link p b) n) p (Link p b)
@@ -164,17 +162,8 @@ module _ (m : Memory) (p : ℕ) (b : Side) (v : ℕ) where
   abbrev new : Memory
   new = stored m (Link p b) v
 
-  pub link_here : new (Link p b) ≡ v
-  link_here = (stores_link m p b v).here
-
-  pub link_other : (s : ℕ) (a : Side) → (s ≡ p → a ≢ b) → new (Link s a) ≡ m (Link s a)
-  link_other = (stores_link m p b v).link
-
   pub after_stays : (s : ℕ) → after new s ≡ after m s
   after_stays s = same_after m new s refl
-
-  pub next_stays : (x s : ℕ) → s ≢ p → next new x s ≡ next m x s
-  next_stays x s ne = store_next m new p b v x s (stores_link m p b v) ne
 
   pub answer_stays : (x s : ℕ) → answer_at new x s ≡ answer_at m x s
   answer_stays x s = same_answer m new x s refl refl

@@ -43,10 +43,11 @@ use Rattle.core_tree.proofs.stores.Stores.{StoresAt, value_stores}
 use Rattle.core_tree.proofs.locks.Holders.{linked_stays}
 use Rattle.core_tree.proofs.locks.Locked.{IsAlive, alive, young_locked}
 use Rattle.core_tree.proofs.locks.Relocking.{IsNoted, noted_forth, noted_back, slots_change, length_change, emptied_change_same}
-use Rattle.core_tree.proofs.updates.Updates.{said_longer, legal_more, there_of, len_set}
+use Rattle.prcu_marks.proofs.Histories.{said_longer, legal_more}
+use Rattle.core_tree.proofs.updates.Updates.{there_of, len_set}
 use Rattle.core_tree.proofs.stores.StoreLocks.{LockChange, locks_stored}
 use Rattle.core_tree.proofs.stores.StoreSlots.{slots_stored}
-use Rattle.core_tree.proofs.stores.StoreReaders.{StoresRead, readers_after, ages_same}
+use Rattle.core_tree.proofs.stores.StoreReaders.{StoresRead, readers_after, aged_same}
 use Rattle.core_tree.proofs.stores.StoreMoves.{moves_stored, pending_still}
 use Rattle.core_tree.proofs.stores.StoreCounts.{counts_made}
 use Rattle.core_tree.proofs.stores.StoreFront.{odd_front, front_made}
@@ -58,7 +59,7 @@ use Rattle.core_frames.proofs.marks.PlainMarks.{plain_one, PlainMarks}
 use Rattle.core_frames.proofs.marks.UpdateMarks.{marks_done, gone_done, last_done, reuse_done}
 use Rattle.core_tree.proofs.notes.Notes.{note_option-unraised}
 use Rattle.core_frames.proofs.frames.ReaderFrame.{emptied_by}
-use Rattle.core_tree.proofs.frames.Contents.{SameContents, shape_same, place_same, walks_by, right_left_by, belongs_same}
+use Rattle.core_frames.proofs.frames.Contents.{any, SameContents, shape_same, place_same, walks_by, right_left_by, belongs_same}
 
 module _ (k : Shape) (m : Memory) (vs : List View) (h : List Mark) (i : HoldsNow k m vs h) (id : ℕ) (v : View) (there : get_elem? vs id ≡ some v) (works : Works v)
     (commit : Commit) (r : Reading) (d generation value : ℕ) (needs : NeedsReplace v commit r d generation) where
@@ -214,9 +215,6 @@ module _ (k : Shape) (m : Memory) (vs : List View) (h : List Mark) (i : HoldsNow
   may_still key entered s y = record { move = y.move; pending = pending_still vs id w y.move y.pending (another y.move y.pending); old = y.old; low = y.low; high = y.high; before = y.before }
 
   -- all keys and links are the same, and all values but one
-  abbrev any : ℕ → Type 0
-  any s = Unit {0}
-
   abbrev others : ℕ → Type 0
   others s = s ≢ d
 
@@ -240,12 +238,12 @@ module _ (k : Shape) (m : Memory) (vs : List View) (h : List Mark) (i : HoldsNow
     linked_back = λ s l. l;
     said = said;
     place = λ j z section e is.
-        place_same m m' any others contents n g on i.tree.shape (λ u l o same. (let f : true ≡ false = sym o ∙ ap g.old same ∙ young in absurd (cc))) section.key (IsHeldBack g h section.entered) (IsHeldBack g h' section.entered) (MayPass vs section.key section.entered) (MayPass (set vs id w) section.key section.entered)
+        place_same m m' any others contents g on (λ u l o same. (let f : true ≡ false = sym o ∙ ap g.old same ∙ young in absurd (cc))) section.key (IsHeldBack g h section.entered) (IsHeldBack g h' section.entered) (MayPass vs section.key section.entered) (MayPass (set vs id w) section.key section.entered)
         (WasSaid (updates_of h) section.key section.from) (WasSaid (updates_of h') section.key section.from) (λ s l. tt) (λ s l. not_d s l.out) (held section.entered) (may_still section.key section.entered) (said section.key section.from);
-    walks = λ j z section e is node_slot s l. walks_by m m' any others contents n g on i.tree.shape node_slot (IsHeldBack g h section.entered) (IsHeldBack g h' section.entered) tt (λ p way. tt) (λ p held_there. tt) (held section.entered) s;
-    path = λ node_slot s l which. right_left_by m m' any others contents n g on i.tree.shape node_slot s tt (λ p way. tt);
+    walks = λ j z section e is node_slot s l. walks_by m m' any others contents g on node_slot (IsHeldBack g h section.entered) (IsHeldBack g h' section.entered) tt (λ p way. tt) (λ p held_there. tt) (held section.entered) s;
+    path = λ node_slot s l which. right_left_by m m' any others contents g on node_slot s tt (λ p way. tt);
     stood = λ j z section e is s y. ⊎_elim (λ (l : g.linked s ≡ true). inl l) (λ (q : IsHeldBack g h section.entered s × IsOdd (m (Life s))). inr (held section.entered s q.0, q.1)) y;
-    side = λ y s a l even root none. belongs_same m m' any others contents n g on i.tree.shape y s a tt;
+    side = λ y s a l even root none. belongs_same m m' any others contents g on y s a tt;
     link_back = λ s a free none. none;
     emptied = emptied_still;
     old_for = λ y s even o. record { move = o.move; pending = pending_still vs id w o.move o.pending (another o.move o.pending); old = o.old; low = o.low; high = o.high };
@@ -288,7 +286,7 @@ module _ (k : Shape) (m : Memory) (vs : List View) (h : List Mark) (i : HoldsNow
         (ap has settled) needs.has_commit.ticket refl unraised_kept (emptied_change_same d (note_lock known) (λ l. refl) (λ l. refl) v.locks) one_longer
         (ap (λ us. finite.len (map_of us)) more_updates ∙ len_set (updates_of h) v.allowance.place r.key value there_now);
     tree = record {
-      shape = shape_same m m' any others contents n g on i.tree.shape;
+      shape = shape_same m m' any others contents g on n i.tree.shape;
       map = holds;
       moves = moves_stored k m vs h i id v w there (Value d) value d stores has_node moving_none g h' plain (record {
         stays = λ j z s ne e locks l. l;
@@ -298,12 +296,12 @@ module _ (k : Shape) (m : Memory) (vs : List View) (h : List Mark) (i : HoldsNow
         own_gone = λ other is l. (let y : None ≡ Some other = sym settled ∙ is in absurd (cc));
       });
     };
-    readers = readers_after m m' g g vs id v w there h h' read (ages_same m m' g g vs id v w there h h' outside (gone_done h update) (λ s a. refl) (λ s l. l) i.readers.ages) i.locks.readings i.readers;
-    front = front_made m m' vs id v w there h h' (stores.within.beside Front tt) moving_none i.front commit needs.has_commit refl one_longer
+    readers = readers_after m m' g g vs id v w there h h' read (aged_same m m' g g vs id v w there h h' outside (gone_done h update) (λ s a. refl) (λ s l. l) i.readers.ages) i.locks.readings i.readers;
+    front = front_made m m' vs id v w there h h' (stores.within.beside Front tt) i.front commit needs.has_commit refl one_longer
         (subst IsLegal (sym more_updates) (legal_more (updates_of h) update i.front.legal there_now));
     listings = listings_after m m' g g vs id w h h' outside (stores.within.beside Front tt) stores.key
         (λ j z section s e is y. ⊎_elim (λ (l : g.linked s ≡ true). inl l) (λ q. inr (held section.entered s q)) y)
-        (λ j z section listing e is even same lists. absurd (odd_front m m vs id v w there h h' refl moving_none i.front commit needs.has_commit (subst IsEven (sym same) even))) i.listings;
+        (λ j z section listing e is even same lists. absurd (odd_front m m vs id v w there h h' refl i.front commit needs.has_commit (subst IsEven (sym same) even))) i.listings;
     grace = grace_same v.allowance.place h h' plain vs id v w there refl (record { place = refl; places = refl; joined = refl }) moving_none (reuse_done h update i.grace.reuse) (gone_done h update) (last_done h update) refl i.grace;
   }
 

@@ -14,7 +14,8 @@ use Rattle.prcu_model.proofs.Worth.{get-updated_other, get-del}
 use Rattle.core_state.specs.parts.TreeParts.{map_now}
 use Rattle.core_frames.proofs.marks.UpdateMarks.{delete_updates}
 use Rattle.core_tree.proofs.chart.ChangedFunctions.{put, put-same, put-other}
-use Rattle.core_tree.proofs.updates.Updates.{said_longer, legal_more, len_del}
+use Rattle.prcu_marks.proofs.Histories.{said_longer, legal_more}
+use Rattle.core_tree.proofs.updates.Updates.{len_del}
 
 module _ (h : List Mark) (caller key d : ℕ) where
   abbrev pub delete_update : Update

@@ -22,7 +22,7 @@ use Rattle.core_state.specs.views.Views.{readings_of, open_reading}
 use Rattle.list_laws.proofs.Lists.{in_second}
 use Rattle.core_frames.proofs.chart.Unique.{one_key}
 use Rattle.core_tree.proofs.locks.Locked.{loaded_known, under_lock, IsAlive, alive, alive_field, young_locked, no_end_of}
-use Rattle.core_tree.proofs.frames.Stepper.{Stepper}
+use Rattle.core_frames.proofs.frames.Stepper.{Stepper}
 use Rattle.core_tree.proofs.updates.Updates.{there_of}
 
 -- the delete's record r, side b of the parent p, the node d and its links

@@ -14,7 +14,7 @@ use Rattle.prcu_model.proofs.Updates.{updated-put_absent}
 use Rattle.prcu_model.proofs.Worth.{get-updated_other, get-put}
 use Rattle.core_state.specs.Marks.{AreMarks}
 use Rattle.core_state.specs.parts.TreeParts.{map_now}
-use Rattle.core_tree.proofs.updates.Updates.{said_longer, legal_more}
+use Rattle.prcu_marks.proofs.Histories.{said_longer, legal_more}
 use Rattle.core_frames.proofs.marks.PlainMarks.{PlainMarks, plain_one}
 use Rattle.core_frames.proofs.marks.UpdateMarks.{marks_done, updates_done}
 

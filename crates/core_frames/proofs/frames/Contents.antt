@@ -8,6 +8,7 @@ use Rattle.core_state.specs.tree.Nodes.{after, next, answer_at, OnRightLeft, fir
 use Rattle.core_state.specs.tree.Chart.{Chart, low_of, high_of, Belongs, IsShaped, HoldsMap}
 use Rattle.core_state.specs.tree.Readers.{Spine, bottom, more, Place, in_range, at_old, Walks, at_linked, at_stop, at_live}
 use Rattle.core_frames.proofs.chart.Places.{carry}
+use Rattle.core_frames.proofs.views.Same.{SameNodes}
 use Rattle.core_frames.proofs.views.Leaving.{right_left_low}
 
 -- The keys and links of the slots of one kind are the same, and the values of those of another.
@@ -16,8 +17,15 @@ pub record SameContents (m m' : Memory) (P Q : ℕ → Type 0) : Type 0 where
   pub link : (s : ℕ) (b : Side) → P s → m' (Link s b) ≡ m (Link s b)
   pub value : (s : ℕ) → Q s → m' (Value s) ≡ m (Value s)
 
+-- all of them
+abbrev pub any : ℕ → Type 0
+any s = Unit {0}
+
+pub all_same : (m m' : Memory) → SameNodes m m' → SameContents m m' any any
+all_same m m' nodes = record { key = λ s p. nodes.key s; link = λ s b p. nodes.link s b; value = λ s q. nodes.value s }
+
 -- Linked slots are of the first kind.
-module _ (m m' : Memory) (P Q : ℕ → Type 0) (same : SameContents m m' P Q) (n : ℕ) (g : Chart) (on : (s : ℕ) → g.linked s ≡ true → P s) (h : IsShaped m n g) where
+module _ (m m' : Memory) (P Q : ℕ → Type 0) (same : SameContents m m' P Q) (g : Chart) (on : (s : ℕ) → g.linked s ≡ true → P s) where
   after_same : (s : ℕ) → P s → after m' s ≡ after m s
   after_same zero p = refl
   after_same (suc s) p = ap (λ z. z + 1) (same.key (suc s) p)
@@ -29,21 +37,6 @@ module _ (m m' : Memory) (P Q : ℕ → Type 0) (same : SameContents m m' P Q) (
   high_same : (s : ℕ) (b : Side) → P s → high_of m' g s b ≡ high_of m g s b
   high_same s Left p = same.key s p
   high_same s Right p = refl
-
-  pub shape_same : IsShaped m' n g
-  shape_same = record {
-    root = h.root;
-    root_left = same.link 0 Left (on 0 h.root) ∙ h.root_left;
-    root_low = h.root_low;
-    root_high = h.root_high;
-    root_new = h.root_new;
-    below = λ s c b l e ne. (let p = on s l in let i = h.below s c b l (sym (same.link s b p) ∙ e) ne in
-        record { linked = i.linked; up = i.up; side = i.side; rank = i.rank; low = i.low ∙ sym (low_same s b p); high = i.high ∙ sym (high_same s b p) });
-    hangs = λ c l ne. (let i = h.hangs c l ne in record { above = i.above; link = same.link (g.up c) (g.side c) (on (g.up c) i.above) ∙ i.link });
-    keyed = λ s l ne o. (let i = h.keyed s l ne o in let e = same.key s (on s l) in record { low = omega (arith, i.low); high = omega (arith, i.high) });
-    displaced = λ s l o. (let i = h.displaced s l o in let e = same.key s (on s l) in record { low = omega (arith, i.low); high = i.high; left = same.link s Left (on s l) ∙ i.left });
-    within = h.within;
-  }
 
   pub map_same : ((s : ℕ) → g.linked s ≡ true → Q s) → (map : ℕ → Option ℕ) → HoldsMap m g map → HoldsMap m' g map
   map_same valued map i = record {
@@ -72,19 +65,10 @@ module _ (m m' : Memory) (P Q : ℕ → Type 0) (same : SameContents m m' P Q) (
   right_left_by d s kind all (first e ne) = first (same.link d Right kind ∙ e) ne
   right_left_by d s kind all (further {s = p} way e ne) = further (right_left_by d p kind all way) (same.link p Left (all p way) ∙ e) ne
 
-  below_on : (d : ℕ) → g.linked d ≡ true → d ≢ 0 → (p : ℕ) → OnRightLeft m d p → P p
-  below_on d l nz p way = on p (right_left_low m n g d p h l nz way).0
-
-  pub right_left_same : (d s : ℕ) → g.linked d ≡ true → d ≢ 0 → OnRightLeft m d s → OnRightLeft m' d s
-  right_left_same d s l nz = right_left_by d s (on d l) (below_on d l nz)
-
   pub walks_by : (k : ℕ) (live later : ℕ → Type 0) → P k → ((p : ℕ) → OnRightLeft m k p → P p) → ((s : ℕ) → live s → P s) → ((s : ℕ) → live s → later s) → (s : ℕ) → Walks m g k live s → Walks m' g k later s
   walks_by k live later here all kind f s (at_linked l e) = at_linked l (right_left_by k s here all e)
   walks_by k live later here all kind f s (at_stop z e) = at_stop (f s z) (same.link s Left (kind s z) ∙ e)
   walks_by k live later here all kind f s (at_live {c = c} z e ne w) = at_live (f s z) (same.link s Left (kind s z) ∙ e) ne (walks_by k live later here all kind f c w)
-
-  pub walks_same : (k : ℕ) (live later : ℕ → Type 0) → g.linked k ≡ true → k ≢ 0 → ((s : ℕ) → live s → P s) → ((s : ℕ) → live s → later s) → (s : ℕ) → Walks m g k live s → Walks m' g k later s
-  walks_same k live later l nz = walks_by k live later (on k l) (below_on k l nz)
 
   pub place_same : ((u : ℕ) → g.linked u ≡ true → g.old u ≡ true → Q u) → (x : ℕ) (live later pend due : ℕ → Type 0) (told more_told : Option ℕ → Type 0)
       → ((s : ℕ) → live s → P s) → ((s : ℕ) → live s → Q s) → ((s : ℕ) → live s → later s) → ((s : ℕ) → pend s → due s) → ((o : Option ℕ) → told o → more_told o)
@@ -102,3 +86,28 @@ module _ (m m' : Memory) (P Q : ℕ → Type 0) (same : SameContents m m' P Q) (
 
   pub belongs_same : (x s : ℕ) (b : Side) → P s → Belongs m g x s b → Belongs m' g x s b
   belongs_same x s b kind i = let p = i.0 in let q = i.1 in let e = low_same s b kind in let f = high_same s b kind in (omega arith, omega arith)
+
+  module _ (n : ℕ) (h : IsShaped m n g) where
+    pub shape_same : IsShaped m' n g
+    shape_same = record {
+      root = h.root;
+      root_left = same.link 0 Left (on 0 h.root) ∙ h.root_left;
+      root_low = h.root_low;
+      root_high = h.root_high;
+      root_new = h.root_new;
+      below = λ s c b l e ne. (let p = on s l in let i = h.below s c b l (sym (same.link s b p) ∙ e) ne in
+          record { linked = i.linked; up = i.up; side = i.side; rank = i.rank; low = i.low ∙ sym (low_same s b p); high = i.high ∙ sym (high_same s b p) });
+      hangs = λ c l ne. (let i = h.hangs c l ne in record { above = i.above; link = same.link (g.up c) (g.side c) (on (g.up c) i.above) ∙ i.link });
+      keyed = λ s l ne o. (let i = h.keyed s l ne o in let e = same.key s (on s l) in record { low = omega (arith, i.low); high = omega (arith, i.high) });
+      displaced = λ s l o. (let i = h.displaced s l o in let e = same.key s (on s l) in record { low = omega (arith, i.low); high = i.high; left = same.link s Left (on s l) ∙ i.left });
+      within = h.within;
+    }
+
+    below_on : (d : ℕ) → g.linked d ≡ true → d ≢ 0 → (p : ℕ) → OnRightLeft m d p → P p
+    below_on d l nz p way = on p (right_left_low m n g d p h l nz way).0
+
+    pub right_left_same : (d s : ℕ) → g.linked d ≡ true → d ≢ 0 → OnRightLeft m d s → OnRightLeft m' d s
+    right_left_same d s l nz = right_left_by d s (on d l) (below_on d l nz)
+
+    pub walks_same : (k : ℕ) (live later : ℕ → Type 0) → g.linked k ≡ true → k ≢ 0 → ((s : ℕ) → live s → P s) → ((s : ℕ) → live s → later s) → (s : ℕ) → Walks m g k live s → Walks m' g k later s
+    walks_same k live later l nz = walks_by k live later (on k l) (below_on k l nz)
