@@ -1,0 +1,87 @@
+-- The points of giving back the slot in hand: what each step needs is known, and what the next point needs is known after it.
+use Rattle.std.proofs.Common.{◌≡◌, ℕ, ◌+◌, ◌*◌, ◌/◌, true, false, List, [], ◌∷◌, Some, None, refl, sym, ap, subst, ◌∙◌, arith}
+use Rattle.prcu_marks.specs.declared.mark.Mark.{Mark}
+use Rattle.core_state.specs.declared.shape.Shape.{Shape}
+use Rattle.core_state.specs.declared.words.Field.{Field}
+use Rattle.core_state.specs.declared.words.Field.TheVariants.{Life}
+use Rattle.core_state.specs.declared.view.Held.{Held}
+use Rattle.core_state.specs.declared.view.View.{View}
+use Rattle.core_state.specs.views.Known.{note_option}
+use Rattle.core_state.specs.steps.Slots.{raise_held, after_raise_in_hand, after_count_free}
+use Rattle.core_state.specs.Invariant.{HoldsNow}
+use Rattle.core_state.specs.memory.Memory.{Memory}
+use Rattle.prcu_model.specs.declared.operation.Reply.TheVariants.{Old}
+use lib.ListN.{get_elem?}
+use mathlib.Core.Option.{some}
+use Rattle.core_points.specs.declared.stage.Stage.TheVariants as at
+use Rattle.core_points.specs.Acts.{Needs, view_after, raise_hand, free_hand}
+use Rattle.core_points.specs.Callers.{Own, go, key_now, or_root, value_in}
+use Rattle.core_points.specs.Programs.{act_at, after}
+use Rattle.core_points.specs.Facts.{HandFits, stored_at}
+use Rattle.core_points.specs.Fits.{Fits}
+use Rattle.core_points.specs.Told.{Tells}
+use Rattle.core_points.proofs.Answers.{answers}
+use Rattle.core_points.proofs.Notes.{owns_noted, bare_noted, held_here}
+
+module _ (k : Shape) (h : List Mark) (o : Own) (v : View) (n : ℕ) where
+  pub needs_raise : Fits o at.Raise v → Needs k v n (act_at o at.Raise)
+  needs_raise f =
+      let hand = (f.point).1 in
+      let leaf = subst (λ x. HandFits x o.hand_life (key_now o) (value_in o.op) v.hands.hand) hand.1 ((f.point).2).1 in
+      let is = leaf.2 in
+      subst (λ s. Needs k v n (raise_hand s (2 * (o.hand_life / 2 + 1)))) (sym (ap or_root hand.1))
+      (leaf.0, o.hand_life, record { in_hand = (leaf.1, is.slot_is); unraised = is.unraised; loaded = is.life_is; next = refl })
+
+  pub next_raise : Fits o at.Raise v → Fits (after o n at.Raise) at.Free (view_after v h n (act_at o at.Raise))
+  next_raise f =
+      let hand = (f.point).1 in
+      let s : ℕ = hand.0 in
+      let number : ℕ = 2 * (o.hand_life / 2 + 1) in
+      let leaf = subst (λ x. HandFits x o.hand_life (key_now o) (value_in o.op) v.hands.hand) hand.1 ((f.point).2).1 in
+      let held : Held = leaf.0 in
+      let raised : Held = record held { known = stored_at (Life s) number ∷ held.known; raised = true } in
+      let e : raise_held (note_option s (stored_at (Life s) number) v.hands.hand) ≡ Some raised =
+      ap (λ x. raise_held (note_option s (stored_at (Life s) number) x)) leaf.1 ∙ ap (λ x. raise_held (Some x)) (held_here s (stored_at (Life s) number) held (leaf.2).slot_is) in
+      subst (λ x. Fits (go o at.Free) at.Free (after_raise_in_hand v x number)) (sym (ap or_root hand.1))
+      (record {
+        owns = owns_noted o v s (Life s) number true f.owns;
+        unraised = λ z. f.unraised refl;
+        tickets = f.tickets;
+        point = ((f.point).0, bare_noted v s (Life s) number true [] [] None false ((f.point).2).0 refl, (s, raised, hand.1, (leaf.2).slot_is, refl, e), (f.point).3);
+      })
+
+  pub needs_free : Fits o at.Free v → Needs k v n (act_at o at.Free)
+  needs_free f =
+      let q = (f.point).2 in
+      subst (λ s. Needs k v n (free_hand s)) (sym (ap or_root q.2))
+      (q.1, record { paid = ((f.point).1).4; in_hand = (q.5, q.3); raised = q.4 })
+
+  pub next_free : Fits o at.Free v → Fits (after o n at.Free) at.Count (view_after v h n (act_at o at.Free))
+  next_free f = let b = (f.point).1 in record {
+    owns = record {
+      same = f.owns.same;
+      alone = f.owns.alone;
+      spare_is = f.owns.spare_is;
+      retired_are = f.owns.retired_are;
+      locks_are = f.owns.locks_are;
+      key_fits = f.owns.key_fits;
+      keys_fit = f.owns.keys_fit;
+      scans = f.owns.scans;
+      scans_table = f.owns.scans_table;
+    };
+    unraised = λ z. f.unraised refl;
+    tickets = f.tickets;
+    point = ((f.point).0, refl, refl, b.0, b.1, b.2, b.3, refl, (f.point).3);
+  }
+
+  pub needs_count : Fits o at.Count v → Needs k v n (act_at o at.Count)
+  needs_count f = (f.point).7
+
+  pub next_count : Fits o at.Count v → Fits (after o n at.Count) (after o n at.Count).stage (view_after v h n (act_at o at.Count))
+  next_count f = let p = f.point in
+      answers (record o { free = n + 1 }) (after_count_free v n) Old 0
+      (record { owns = f.owns; outside = p.0; empty = p.1; bare = (p.3, p.4, p.5, p.6, refl); no_hand = p.2; unraised = f.unraised refl }) (let t = f.tickets in omega arith)
+
+-- A load of a field of the slot in hand finds what is known of it.
+pub tells : (k : Shape) (m : Memory) (vs : List View) (h : List Mark) (id : ℕ) (v : View) (s : ℕ) (field : Field) → HoldsNow k m vs h → get_elem? vs id ≡ some v → Tells v s field (m field)
+tells k m vs h id v s field inv there held is same number known = ((((inv.slots.hands id v there).hand held is).0) field number known).1

@@ -1,0 +1,188 @@
+-- The points of a search and of a get: what the step needs is known, and what the next point needs is known after it.
+use Rattle.std.proofs.Common.{◌≡◌, ℕ, suc, ◌+◌, ◌*◌, ◌==◌, ◌≤◌, ◌&&◌, cond, Bool, true, false, List, [], ◌∷◌, length, Option, Some, None, refl, sym, ap, subst, ◌∙◌, arith, eq-eqb}
+use Rattle.prcu_marks.specs.declared.mark.Mark.{Mark}
+use Rattle.prcu_marks.specs.declared.mark.Side.{Side}
+use Rattle.prcu_marks.specs.declared.mark.Side.TheVariants.{Left, Right}
+use Rattle.prcu_model.specs.declared.operation.Op.{Op}
+use Rattle.prcu_model.specs.declared.operation.Op.TheVariants.{Put, Get, Del, Set}
+use Rattle.prcu_model.specs.Dictionary.{key_of}
+use Rattle.core_state.specs.declared.shape.Shape.{Shape}
+use Rattle.core_state.specs.declared.words.Field.{Field}
+use Rattle.core_state.specs.declared.words.Field.TheVariants.{Key, Value, Link}
+use Rattle.core_state.specs.declared.view.Reading.{Reading}
+use Rattle.core_state.specs.declared.view.Section.{Section}
+use Rattle.core_state.specs.declared.view.SearchState.TheVariants.{At, Unread, Found, Missed}
+use Rattle.core_state.specs.declared.view.View.{View}
+use Rattle.list_laws.specs.Counts.{IsIn}
+use Rattle.core_state.specs.memory.Words.{step_side}
+use Rattle.core_state.specs.memory.Memory.{same_side}
+use Rattle.core_state.specs.steps.Sections.{after_enter_by_stamp, new_section}
+use Rattle.core_state.specs.steps.Loads.{key_stand, linked_on, searched, loaded, after_search_load}
+use Rattle.core_points.specs.declared.stage.Then.TheVariants as then
+use Rattle.core_points.specs.declared.stage.Stage.TheVariants as at
+use Rattle.core_points.specs.Acts.{Needs, view_after, given}
+use Rattle.core_points.specs.Callers.{Own, go, key_now}
+use Rattle.core_points.specs.Programs.{act_at, after, ended, found, key_read}
+use Rattle.core_points.specs.Facts.{Calm, Inside, Nothing, Stands, is_delete, is_put, is_set}
+use Rattle.core_points.specs.Tickets.{owed, owed_op}
+use Rattle.core_points.specs.Fits.{Fits, Point}
+
+-- The facts on readings: of plain values, for the running calls too.
+same_side-refl : (b : Side) → same_side b b ≡ true
+same_side-refl Left = refl
+same_side-refl Right = refl
+
+pub link_moves : (r : Reading) (s : ℕ) (b : Side) (n : ℕ) → r.state ≡ At s b
+    → loaded r (Link s b) n ≡ linked_on (record r { loads = record { field = Link s b; number = n; stored = false } ∷ r.loads }) s b n
+link_moves r s b n e =
+    let r' : Reading = record r { loads = record { field = Link s b; number = n; stored = false } ∷ r.loads } in
+    ap (λ z. searched r' z (Link s b) n) e ∙ ap (λ z. cond z (linked_on r' s b n) r') (ap (λ z. z && same_side b b) (eq-eqb s s refl) ∙ same_side-refl b)
+
+pub key_moves : (r : Reading) (s p : ℕ) (b : Side) (n : ℕ) → r.state ≡ Unread s p b
+    → loaded r (Key s) n ≡ record r { loads = record { field = Key s; number = n; stored = false } ∷ r.loads; state = key_stand s p b (step_side r.key n) }
+key_moves r s p b n e =
+    let r' : Reading = record r { loads = record { field = Key s; number = n; stored = false } ∷ r.loads } in
+    ap (λ z. searched r' z (Key s) n) e ∙ ap (λ z. cond z (record r' { state = key_stand s p b (step_side r'.key n) }) r') (eq-eqb s s refl)
+
+pub value_moves : (r : Reading) (s p : ℕ) (b : Side) (n : ℕ) → r.state ≡ Found s p b None
+    → loaded r (Value s) n ≡ record r { loads = record { field = Value s; number = n; stored = false } ∷ r.loads; state = Found s p b (Some n) }
+value_moves r s p b n e =
+    let r' : Reading = record r { loads = record { field = Value s; number = n; stored = false } ∷ r.loads } in
+    ap (λ z. searched r' z (Value s) n) e ∙ ap (λ z. cond z (record r' { state = Found s p b (Some n) }) r') (eq-eqb s s refl)
+
+-- a load at the end of a search that missed only adds what it loaded
+pub missed_stays : (r : Reading) (s : ℕ) (b : Side) (field : Field) (n : ℕ) → r.state ≡ Missed s b
+    → loaded r field n ≡ record r { loads = record { field = field; number = n; stored = false } ∷ r.loads }
+missed_stays r s b field n e = ap (λ z. searched (record r { loads = record { field = field; number = n; stored = false } ∷ r.loads }) z field n) e
+
+deeper : {A : Type 0} (xs : List A) (x a : A) → IsIn xs a → IsIn (x ∷ xs) a
+deeper xs x a (i, e) = (suc i, e)
+
+first_in : {A : Type 0} (xs : List A) (a : A) → IsIn (a ∷ xs) a
+first_in xs a = (0, refl)
+
+-- The points of a caller.
+module _ (k : Shape) (h : List Mark) (o : Own) (v : View) (n : ℕ) where
+  pub next_clock : Fits o at.EnterClock v → Fits (after o n at.EnterClock) (at.EnterKey n) (view_after v h n (act_at o at.EnterClock))
+  next_clock f = let p = f.point in record { owns = f.owns; unraised = λ z. f.unraised refl; tickets = f.tickets; point = (p.0, p.1, (record { number = n; at = length h }, refl, refl)) }
+
+  pub needs_key : (clock : ℕ) → Fits o (at.EnterKey clock) v → Needs k v n (act_at o (at.EnterKey clock))
+  needs_key clock f = (f.point).0
+
+  pub next_key : (clock : ℕ) → Fits o (at.EnterKey clock) v → Fits (after o n (at.EnterKey clock)) (at.EnterStamp clock) (view_after v h n (act_at o (at.EnterKey clock)))
+  next_key clock f = let p = f.point in record { owns = f.owns; unraised = λ z. f.unraised refl; tickets = f.tickets; point = (p.0, p.1, p.2, refl) }
+
+  pub needs_stamp : (clock : ℕ) → Fits o (at.EnterStamp clock) v → Needs k v n (act_at o (at.EnterStamp clock))
+  needs_stamp clock f =
+      let p = f.point in
+      let c = p.2 in
+      (c.0, record { entry = record { outside = p.0; free = ((p.1).0).0; key_fits = f.owns.key_fits }; clock = c.1; stamp_is = sym c.2; announced = p.3 })
+
+  pub next_stamp : (clock : ℕ) → Fits o (at.EnterStamp clock) v → Fits (after o n (at.EnterStamp clock)) (at.AtLink 0 Right) (view_after v h n (act_at o (at.EnterStamp clock)))
+  next_stamp clock f =
+      let p = f.point in
+      let c = p.2 in
+      let w : View = after_enter_by_stamp v (key_now o) c.0 h in
+      subst (λ x. Fits (go o (at.AtLink 0 Right)) (at.AtLink 0 Right) (given v x (λ z. after_enter_by_stamp v (key_now o) z h))) (sym c.1)
+      (record { owns = f.owns; unraised = λ z. f.unraised refl; tickets = f.tickets; point = (p.1, (new_section v (key_now o) (c.0).number (c.0).at h, refl, record { searches = refl; key_is = refl; sought = refl; state_is = refl; here = first_in [] 0 }, tt)) })
+
+  pub needs_link : (s : ℕ) (b : Side) → Fits o (at.AtLink s b) v → Needs k v n (act_at o (at.AtLink s b))
+  needs_link s b f = let i = (f.point).1 in (i.0, record { section_is = i.1; searches = (i.2).searches; stood = (i.2).here; loadable = refl })
+
+  ended_point : (op : Op) → o.op ≡ op → (s : ℕ) (b : Side) (w : View) → Calm o w → Inside w (key_now o) (Missed s b) Nothing → Point (go o (ended op s b)) (ended op s b) w
+  ended_point (Put key value) e s b w calm inside = (calm, ap is_put e, inside)
+  ended_point (Get key) e s b w calm inside = (calm, (ap is_put e, (s, b, inside)))
+  ended_point (Del key) e s b w calm inside = (calm, (ap is_put e, (s, b, inside)))
+  ended_point (Set key value) e s b w calm inside = (calm, (ap is_put e, (s, b, inside)))
+
+  ended_owed : (w : Own) (op : Op) (s : ℕ) (b : Side) (more m : ℕ) → owed_op w.op w.hand w.retired + more ≤ m → owed w (ended op s b) + more ≤ m
+  ended_owed w (Put key value) s b more m le = le
+  ended_owed w (Get key) s b more m le = omega arith
+  ended_owed w (Del key) s b more m le = omega arith
+  ended_owed w (Set key value) s b more m le = omega arith
+
+  pub next_link : (s : ℕ) (b : Side) → Fits o (at.AtLink s b) v → Fits (after o n (at.AtLink s b)) (after o n (at.AtLink s b)).stage (view_after v h n (act_at o (at.AtLink s b)))
+  next_link s b f =
+      let p = f.point in
+      let i = p.1 in
+      let section : Section = i.0 in
+      subst (λ x. Fits (after o n (at.AtLink s b)) (after o n (at.AtLink s b)).stage (given v x (λ z. after_search_load v z (Link s b) n))) (sym i.1)
+      (subst (λ (r : Reading). Fits (after o n (at.AtLink s b)) (after o n (at.AtLink s b)).stage (record v { section = Some (record section { reading = r }) })) (sym (link_moves section.reading s b n (i.2).state_is))
+      (go_on (n == 0) section p.0 i.2))
+    where
+      go_on : (z : Bool) (section : Section) → Calm o v → Stands section (key_now o) (At s b) →
+          let r' : Reading = record section.reading { loads = record { field = Link s b; number = n; stored = false } ∷ section.reading.loads } in
+          Fits (go o (cond z (ended o.op s b) (at.AtKey n s b))) (cond z (ended o.op s b) (at.AtKey n s b))
+          (record v { section = Some (record section { reading = cond z (record r' { state = Missed s b }) (record r' { state = Unread n s b; stood = n ∷ r'.stood }) }) })
+      go_on true section calm stands = record {
+        owns = f.owns;
+        unraised = λ z. f.unraised refl;
+        tickets = ended_owed (go o (ended o.op s b)) o.op s b (4 * length o.rest) v.allowance.tickets f.tickets;
+        point = ended_point o.op refl s b _ calm (_, refl, record { searches = stands.searches; key_is = stands.key_is; sought = stands.sought; state_is = refl; here = stands.here }, tt);
+      }
+      go_on false section calm stands = record {
+        owns = f.owns;
+        unraised = λ z. f.unraised refl;
+        tickets = f.tickets;
+        point = (calm, (_, refl, record { searches = stands.searches; key_is = stands.key_is; sought = stands.sought; state_is = refl; here = first_in section.reading.stood n }, deeper section.reading.stood n s stands.here));
+      }
+
+  pub needs_read : (s p : ℕ) (b : Side) → Fits o (at.AtKey s p b) v → Needs k v n (act_at o (at.AtKey s p b))
+  needs_read s p b f = let i = (f.point).1 in (i.0, record { section_is = i.1; searches = (i.2).searches; stood = (i.2).here; loadable = refl })
+
+  is_get : (key : ℕ) → o.op ≡ Get key → o.op ≡ Get (key_now o)
+  is_get key e = e ∙ ap (λ x. Get x) (sym (ap key_of e))
+
+  found_point : (op : Op) → o.op ≡ op → (s p : ℕ) (b : Side) (w : View) → Calm o w → Inside w (key_now o) (Found s p b None) (λ section. IsIn section.reading.stood p) → Point (go o (found op s p b)) (found op s p b) w
+  found_point (Put key value) e s p b w calm i = (calm, (ap is_put e, (s, p, b, (i.0, i.1, i.2, tt))))
+  found_point (Get key) e s p b w calm i = (calm, is_get key e, (p, b, (i.0, i.1, i.2, tt)))
+  found_point (Del key) e s p b w calm i = (calm, ap is_delete e, (i.0, i.1, i.2, (i.3, tt)))
+  found_point (Set key value) e s p b w calm i = (calm, ap is_set e, (p, b, (i.0, i.1, i.2, tt)))
+
+  found_owed : (w : Own) (op : Op) (s p : ℕ) (b : Side) (more m : ℕ) → owed_op w.op w.hand w.retired + more ≤ m → owed w (found op s p b) + more ≤ m
+  found_owed w (Put key value) s p b more m le = omega arith
+  found_owed w (Get key) s p b more m le = le
+  found_owed w (Del key) s p b more m le = le
+  found_owed w (Set key value) s p b more m le = le
+
+  pub next_read : (s p : ℕ) (b : Side) → Fits o (at.AtKey s p b) v → Fits (after o n (at.AtKey s p b)) (after o n (at.AtKey s p b)).stage (view_after v h n (act_at o (at.AtKey s p b)))
+  next_read s p b f =
+      let i = (f.point).1 in
+      let section : Section = i.0 in
+      subst (λ x. Fits (after o n (at.AtKey s p b)) (after o n (at.AtKey s p b)).stage (given v x (λ z. after_search_load v z (Key s) n))) (sym i.1)
+      (subst (λ (r : Reading). Fits (after o n (at.AtKey s p b)) (after o n (at.AtKey s p b)).stage (record v { section = Some (record section { reading = r }) }))
+      (sym (key_moves section.reading s p b n (i.2).state_is ∙ ap (λ x. record section.reading { loads = record { field = Key s; number = n; stored = false } ∷ section.reading.loads; state = key_stand s p b (step_side x n) }) (i.2).sought))
+      (go_on (step_side (key_now o) n) section (f.point).0 i.2 i.3))
+    where
+      go_on : (z : Option Side) (section : Section) → Calm o v → Stands section (key_now o) (Unread s p b) → IsIn section.reading.stood p →
+          Fits (go o (key_read o s p b z)) (key_read o s p b z)
+          (record v { section = Some (record section { reading = record section.reading { loads = record { field = Key s; number = n; stored = false } ∷ section.reading.loads; state = key_stand s p b z } }) })
+      go_on None section calm stands stood = record {
+        owns = f.owns;
+        unraised = λ z. f.unraised refl;
+        tickets = found_owed (go o (found o.op s p b)) o.op s p b (4 * length o.rest) v.allowance.tickets f.tickets;
+        point = found_point o.op refl s p b _ calm (_, refl, record { searches = stands.searches; key_is = stands.key_is; sought = stands.sought; state_is = refl; here = stands.here }, stood);
+      }
+      go_on (Some c) section calm stands stood = record {
+        owns = f.owns;
+        unraised = λ z. f.unraised refl;
+        tickets = f.tickets;
+        point = (calm, (_, refl, record { searches = stands.searches; key_is = stands.key_is; sought = stands.sought; state_is = refl; here = stands.here }, tt));
+      }
+
+  pub needs_value : (s : ℕ) → Fits o (at.Value s) v → Needs k v n (act_at o (at.Value s))
+  needs_value s f = let i = ((f.point).2).2 in (i.0, record { section_is = i.1; searches = (i.2).searches; stood = (i.2).here; loadable = refl })
+
+  pub next_value : (s : ℕ) → Fits o (at.Value s) v → Fits (after o n (at.Value s)) (at.Leave (then.Value n)) (view_after v h n (act_at o (at.Value s)))
+  next_value s f =
+      let p = (f.point).2 in
+      let i = p.2 in
+      let section : Section = i.0 in
+      subst (λ x. Fits (go o (at.Leave (then.Value n))) (at.Leave (then.Value n)) (given v x (λ z. after_search_load v z (Value s) n))) (sym i.1)
+      (subst (λ (r : Reading). Fits (go o (at.Leave (then.Value n))) (at.Leave (then.Value n)) (record v { section = Some (record section { reading = r }) })) (sym (value_moves section.reading s p.0 p.1 n (i.2).state_is))
+      (record {
+        owns = f.owns;
+        unraised = λ z. f.unraised refl;
+        tickets = (let t = f.tickets in omega arith);
+        point = ((f.point).0, ((f.point).1, (s, p.0, p.1, (_, refl, record { searches = (i.2).searches; key_is = (i.2).key_is; sought = (i.2).sought; state_is = refl; here = (i.2).here }, tt))));
+      }))

@@ -1,0 +1,109 @@
+-- What the invariant tells a caller at its step, of its own view.
+use Rattle.std.proofs.Common.{◌≡◌, ◌≢◌, ◌^◌, None, false, sym, ℕ, zero, suc, ◌+◌, ◌<◌, ◌≤◌, List, [], ◌∷◌, ◌++◌, length, map, Some, ap, subst, ◌∙◌, arith, true, ⊎_elim}
+use mathlib.Core.Option.{some, some-ne-none}
+use lib.ListN.{get_elem?}
+use Rattle.prcu_marks.specs.declared.mark.Mark.{Mark}
+use Rattle.prcu_marks.proofs.MarkPlaces.{gone_at-below}
+use Rattle.core_state.specs.declared.shape.Shape.{Shape}
+use Rattle.core_state.specs.declared.view.Retired.{Retired}
+use Rattle.core_state.specs.declared.view.View.{View}
+use Rattle.core_state.specs.declared.view.Section.{Section}
+use Rattle.core_state.specs.declared.words.Field.TheVariants.{Life, Lock}
+use Rattle.core_state.specs.memory.Lists.{IsOdd}
+use Rattle.core_state.specs.tree.Readers.{IsHeldBack}
+use Rattle.core_state.specs.memory.Memory.{Memory, slot_count}
+use Rattle.core_state.specs.views.Views.{Works, open_reading, retired_of, joined_retired, held_list, spares_of}
+use Rattle.core_state.specs.Invariant.{HoldsNow}
+use Rattle.list_laws.specs.Counts.{IsIn, Each, times}
+use Rattle.list_laws.proofs.Lists.{at_below, in_second, times_append, times_in, times_here}
+use Rattle.prcu_marks.specs.declared.mark.Mark.TheVariants.{Done}
+use Rattle.prcu_model.specs.declared.operation.Op.TheVariants.{Del}
+use Rattle.core_frames.proofs.chart.Unique.{key_bound}
+use Rattle.core_frames.proofs.views.SeatFacts.{place_within, works_there}
+use Rattle.core_state.specs.declared.view.Held.{Held}
+use Rattle.core_state.specs.declared.view.Move.{Move}
+use Rattle.core_points.specs.DeleteFacts.{Holds}
+use Rattle.core_points.specs.Told.{TellsAlone, TellsAside, TellsMove, TellsOnce}
+use Rattle.core_frames.proofs.views.Roles.{own_once, own_below, own_off, hand_own, retired_own, spare_own}
+use Rattle.core_tree.proofs.locks.Locked.{alive}
+
+in_front : {A : Type 0} (xs ys : List A) (i : ℕ) (a : A) → get_elem? xs i ≡ some a → get_elem? (xs ++ ys) i ≡ some a
+in_front [] ys i a e = cc
+in_front (x ∷ xs) ys zero a e = e
+in_front (x ∷ xs) ys (suc i) a e = in_front xs ys i a e
+
+module _ (k : Shape) (m : Memory) (vs : List View) (h : List Mark) (inv : HoldsNow k m vs h) (id : ℕ) (v : View) (there : get_elem? vs id ≡ some v) where
+  -- each unlinking of its retired slots is an old mark
+  pub tells_older : Each v.hands.retired (λ (r : Retired). r.unlinked < length h)
+  tells_older i r e = gone_at-below r.slot h r.unlinked (inv.slots.retired id v there i r (in_front v.hands.retired (joined_retired v.allowance.joined) i r e)).unlinked
+
+  -- its retired slots are distinct
+  pub tells_alone : TellsAlone v
+  tells_alone r rs e i x at same =
+      let slots : List Retired → List ℕ = map (λ (r : Retired). r.slot) in
+      let rest : List Retired = rs ++ joined_retired v.allowance.joined in
+      let once = own_once m (slot_count k) inv.chart vs h inv.slots id v there r.slot in
+      let all : slots (retired_of v) ≡ r.slot ∷ slots rest = ap (λ xs. slots (xs ++ joined_retired v.allowance.joined)) e in
+      let two : 1 ≤ times x.slot (slots rest) = times_in (λ (r : Retired). r.slot) rest x (i, in_front rs (joined_retired v.allowance.joined) i x at) in
+      let here : times r.slot (slots (retired_of v)) ≡ 1 + times r.slot (slots rest) = ap (times r.slot) all ∙ times_here r.slot (slots rest) in
+      let a = times_append r.slot (held_list v.hands.hand) (spares_of v ++ slots (retired_of v)) in
+      let b = times_append r.slot (spares_of v) (slots (retired_of v)) in
+      let c : times x.slot (slots rest) ≡ times r.slot (slots rest) = ap (λ s. times s (slots rest)) same in
+      omega arith
+
+  -- each slot at which its section stood is one of the table's
+  pub tells_stood : (section : Section) → v.section ≡ Some section → (s : ℕ) → IsIn section.reading.stood s → s < slot_count k
+  tells_stood section e s has = ⊎_elim
+      (λ (on : inv.chart.linked s ≡ true). inv.tree.shape.within s on)
+      (λ (back : IsHeldBack inv.chart h section.entered s × IsOdd (m (Life s))).
+      (let held = back.0 in
+      let of = inv.slots.unlinked s held.at held.gone in
+      subst (λ x. x < slot_count k) of.slot
+      (own_below m (slot_count k) inv.chart vs h inv.slots of.id of.view of.there of.retired.slot (retired_own m (slot_count k) inv.chart vs h inv.slots of.id of.view of.there of.retired of.has))))
+      ((inv.readers.served id v there section e).stood s has).here
+
+  -- a place without a spare has a retired slot
+  pub tells_spare : Works v → v.hands.spare ≡ None → v.hands.retired ≢ []
+  tells_spare works none e = let x = (inv.slots.few id v there).next_spare works none in absurd (let i = x.1 in let q : IsIn [] x.0 = subst (λ (rs : List Retired). IsIn rs x.0) e i in some-ne-none x.0 (sym q.1))
+
+  -- each lock once, and none of them is free
+  pub tells_once : TellsOnce v
+  tells_once = (inv.locks.few id v there).once
+
+  pub tells_busy : (s : ℕ) → Holds v.locks s → m (Lock s) ≢ 0
+  tells_busy s (l, e) z = let q = (inv.locks.locked.held id v there s l e).0 in absurd (omega arith)
+
+  -- a slot whose recorded generation was found under its lock is linked, and no spare is
+  pub tells_aside : TellsAside v
+  tells_aside r s generation kept loaded known held is same =
+      let a = alive k m vs h inv id v there r s generation (in_second (open_reading v.section) v.records r kept) loaded known in
+      let off = own_off m (slot_count k) inv.chart vs h inv.slots id v there held.slot (spare_own m (slot_count k) inv.chart vs h inv.slots id v there held is) in
+      absurd (let q : true ≡ false = sym a.on ∙ ap inv.chart.linked (sym same) ∙ off in cc)
+
+  -- a pending move
+  pub tells_move : TellsMove v h
+  tells_move move is =
+      let w = inv.tree.moves.each id v there move is in (
+        w.order,
+        subst (λ x. x < 2 ^ 64) w.copy_key (key_bound m (slot_count k) inv.chart move.copy.slot inv.tree.shape w.copy_linked w.copy_some w.copy_young),
+        at_below h move.made (Done (record { caller = v.allowance.place; op = Del move.key })) w.made,
+      )
+
+  -- its place, and the slots that it has to do with, are the table's
+  pub tells_place : Works v → v.allowance.place < k.places
+  tells_place works = place_within k.places vs inv.seats.placed id v.allowance.place v there (works_there v works)
+
+  pub tells_held : (s : ℕ) → Holds v.locks s → s < slot_count k
+  tells_held s (l, e) = (inv.locks.locked.held id v there s l e).1
+
+  pub tells_hand : (held : Held) → v.hands.hand ≡ Some held → held.slot < slot_count k
+  tells_hand held is = own_below m (slot_count k) inv.chart vs h inv.slots id v there held.slot (hand_own m (slot_count k) inv.chart vs h inv.slots id v there held is)
+
+  pub tells_spare_within : (held : Held) → v.hands.spare ≡ Some held → held.slot < slot_count k
+  tells_spare_within held is = own_below m (slot_count k) inv.chart vs h inv.slots id v there held.slot (spare_own m (slot_count k) inv.chart vs h inv.slots id v there held is)
+
+  pub tells_retired : Each v.hands.retired (λ (r : Retired). r.slot < slot_count k)
+  tells_retired i r e = own_below m (slot_count k) inv.chart vs h inv.slots id v there r.slot (retired_own m (slot_count k) inv.chart vs h inv.slots id v there r (i, in_front v.hands.retired (joined_retired v.allowance.joined) i r e))
+
+  pub tells_parent : (move : Move) → v.moving ≡ Some move → move.parent < slot_count k
+  tells_parent move is = tells_held move.parent (inv.tree.moves.each id v there move is).parent_lock

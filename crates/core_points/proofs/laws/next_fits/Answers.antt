@@ -1,0 +1,5 @@
+use Rattle.core_points.proofs.All.{next_fits}
+use Rattle.core_points.proofs.laws.next_fits.Goals as goal
+
+pub returns : goal.returns
+returns c = next_fits

@@ -1,0 +1,5 @@
+use Rattle.core_points.proofs.All.{rule_tells}
+use Rattle.core_points.proofs.laws.rule_tells.Goals as goal
+
+pub returns : goal.returns
+returns c = rule_tells

@@ -1,0 +1,5 @@
+use Rattle.core_points.proofs.All.{trails_are_free}
+use Rattle.core_points.proofs.laws.trails_are_free.Goals as goal
+
+pub returns : goal.returns
+returns c = trails_are_free

@@ -1,0 +1,201 @@
+-- What the view of a caller knows of what the caller keeps: the parts of which the points are made.
+-- Source: docs/TREE.md, "The calls".
+use Rattle.std.specs.Prelude.{◌≡◌, ℕ, ◌+◌, ◌*◌, ◌^◌, ◌<◌, ◌≤◌, ◌==◌, if◌then◌else◌, Bool, true, false, List, [], ◌∷◌, length, map, Option, Some, None}
+use Rattle.prcu_marks.specs.declared.mark.Side.{Side}
+use Rattle.prcu_marks.specs.declared.mark.Side.TheVariants.{Left, Right}
+use Rattle.prcu_model.specs.declared.operation.Op.{Op}
+use Rattle.prcu_model.specs.declared.operation.Op.TheVariants.{Put, Del, Set}
+use Rattle.core_state.specs.declared.words.Field.{Field}
+use Rattle.core_state.specs.declared.words.Field.TheVariants.{Stamp, State, Life, Key, Value, Link, Tag}
+use Rattle.core_state.specs.declared.view.Held.{Held}
+use Rattle.core_state.specs.declared.view.HeldLock.{HeldLock}
+use Rattle.core_state.specs.declared.view.Known.{Known}
+use Rattle.core_state.specs.declared.view.Reading.{Reading}
+use Rattle.core_state.specs.declared.view.Retired.{Retired}
+use Rattle.core_state.specs.declared.view.Section.{Section}
+use Rattle.core_state.specs.declared.view.SearchState.{SearchState}
+use Rattle.core_state.specs.declared.view.SearchState.TheVariants.{Found, Missed}
+use Rattle.prcu_marks.specs.declared.commit.Commit.{Commit}
+use Rattle.core_state.specs.declared.view.View.{View}
+use Rattle.core_state.specs.declared.view.Waiting.{Waiting}
+use Rattle.list_laws.specs.Counts.{IsIn, Each, times}
+use Rattle.core_state.specs.views.Known.{known_in, LoadedGeneration}
+use Rattle.core_state.specs.parts.ReaderParts.{state_slot}
+use Rattle.core_state.specs.steps.Seating.{spare_slot}
+use Rattle.prcu_model.specs.Dictionary.{key_of}
+use Rattle.core_points.specs.declared.stage.Spot.{Spot}
+use Rattle.core_points.specs.declared.stage.Aim.{Aim}
+use Rattle.core_points.specs.declared.stage.Aim.TheVariants.{Leaf}
+use Rattle.core_points.specs.Callers.{Own, key_now, value_in, is_some, is_none_left}
+
+abbrev pub is_put : Op → Bool
+is_put (Put key value) = true
+is_put _ = false
+
+abbrev pub is_delete : Op → Bool
+is_delete (Del key) = true
+is_delete _ = false
+
+abbrev pub is_set : Op → Bool
+is_set (Set key value) = true
+is_set _ = false
+
+-- how many slots the table has
+abbrev pub table_of : Own → ℕ
+table_of o = o.slots + o.places + 1
+
+-- The next facts are of a view's groups and of plain values: the running calls of the tree have them too.
+
+-- what was loaded, and what was stored
+abbrev pub read_at : Field → ℕ → Known
+read_at field n = record { field = field; number = n; stored = false }
+
+abbrev pub stored_at : Field → ℕ → Known
+stored_at field n = record { field = field; number = n; stored = true }
+
+-- the slot in hand, whose life was loaded, after so many of the four fields of a leaf were stored
+abbrev pub taken_known : ℕ → ℕ → List Known
+taken_known s life = read_at (Life s) life ∷ (stored_at (State s) 1 ∷ [])
+
+abbrev pub leaf_known : ℕ → ℕ → ℕ → ℕ → ℕ → List Known
+leaf_known s life key value i =
+    if i == 0 then taken_known s life
+    else if i == 1 then stored_at (Key s) key ∷ taken_known s life
+    else if i == 2 then stored_at (Value s) value ∷ (stored_at (Key s) key ∷ taken_known s life)
+    else if i == 3 then stored_at (Link s Left) 0 ∷ (stored_at (Value s) value ∷ (stored_at (Key s) key ∷ taken_known s life))
+    else stored_at (Link s Right) 0 ∷ (stored_at (Link s Left) 0 ∷ (stored_at (Value s) value ∷ (stored_at (Key s) key ∷ taken_known s life)))
+
+abbrev pub leaf_held : ℕ → ℕ → ℕ → ℕ → ℕ → Held
+leaf_held s life key value i = record { slot = s; known = leaf_known s life key value i; raised = false }
+
+-- a slot in hand that has a leaf's fields, whose life was loaded, and that wasn't raised
+pub record IsLeaf (held : Held) (s life key value : ℕ) : Type 0 where
+  pub slot_is : held.slot ≡ s
+  pub unraised : held.raised ≡ false
+  pub life_is : known_in held.known (Life s) ≡ Some life
+  pub key_is : known_in held.known (Key s) ≡ Some key
+  pub value_is : known_in held.known (Value s) ≡ Some value
+  pub left_is : known_in held.known (Link s Left) ≡ Some 0
+  pub right_is : known_in held.known (Link s Right) ≡ Some 0
+
+abbrev pub HandFits : Option ℕ → ℕ → ℕ → ℕ → Option Held → Type 0
+HandFits None life key value hand = hand ≡ None
+HandFits (Some s) life key value hand = (held : Held) × (hand ≡ Some held) × IsLeaf held s life key value
+
+-- nothing is under way but this much: locks, the front odd, a reservation
+abbrev pub Bare : View → List HeldLock → Option Commit → Bool → Type 0
+Bare v locks commit reserved = (v.locks ≡ locks) × (v.commit ≡ commit) × (v.moving ≡ None) × (v.hands.reserved ≡ reserved) × (v.hands.owes ≡ false)
+
+-- an open section that searches for a key, and where its search stands
+pub record Stands (section : Section) (key : ℕ) (state : SearchState) : Type 0 where
+  pub searches : section.listing ≡ None
+  pub key_is : section.key ≡ key
+  pub sought : section.reading.key ≡ key
+  pub state_is : section.reading.state ≡ state
+  pub here : IsIn section.reading.stood (state_slot state)
+
+abbrev pub Inside : View → ℕ → SearchState → (Section → Type 0) → Type 0
+Inside v key state more = (section : Section) × (v.section ≡ Some section) × Stands section key state × more section
+
+abbrev pub Nothing : Section → Type 0
+Nothing section = Unit {0}
+
+-- a section that was left recorded an empty side of one of so many slots
+abbrev pub HasSpot : ℕ → List Reading → ℕ → Spot → Type 0
+HasSpot n records key spot = (r : Reading) × IsIn records r × (r.key ≡ key) × (r.state ≡ Missed spot.slot spot.side) × LoadedGeneration r spot.slot spot.generation
+    × (known_in r.loads (Tag spot.slot spot.side) ≡ Some spot.tag) × (spot.slot < n)
+
+-- the one lock of a put or a set, with what was loaded and stored under it
+abbrev pub one_lock : ℕ → List Known → List HeldLock
+one_lock s known = record { slot = s; known = known; left_emptied = false; right_emptied = false; marked = false } ∷ []
+
+-- what a put loaded under its lock, where it holds its record
+abbrev pub spot_known : Spot → List Known
+spot_known spot = read_at (Tag spot.slot spot.side) spot.tag ∷ (read_at (Link spot.slot spot.side) 0 ∷ (read_at (Life spot.slot) (2 * spot.generation) ∷ []))
+
+-- locks of which none has an emptied side or a mark
+abbrev pub AreClear : List HeldLock → Type 0
+AreClear locks = Each locks (λ (l : HeldLock). (l.left_emptied ≡ false) × (l.right_emptied ≡ false) × (l.marked ≡ false))
+
+-- the locks that a caller keeps are those that its view holds, in some order
+abbrev pub SameLocks : List ℕ → List HeldLock → Type 0
+SameLocks slots locks = (s : ℕ) → times s (map (λ (l : HeldLock). l.slot) locks) ≡ times s slots
+
+-- What a caller keeps is what its view says: of its place, the spare and the retired slots.
+pub record OwnsParts (o_place key : ℕ) (rest : List Op) (scan most : ℕ) (o_spare : Option ℕ) (o_retired o_locks : List ℕ) (place places : ℕ) (spare : Option Held) (retired : List Retired) (locks : List HeldLock) : Type 0 where
+  pub same : place ≡ o_place
+  pub alone : places ≡ 1
+  pub spare_is : spare_slot spare ≡ o_spare
+  pub retired_are : map (λ (r : Retired). r.slot) retired ≡ o_retired
+  pub locks_are : SameLocks o_locks locks
+  pub key_fits : key < 2 ^ 64
+  pub keys_fit : Each rest (λ later. key_of later < 2 ^ 64)
+  pub scans : 1 ≤ scan
+  pub scans_table : scan ≤ most
+
+abbrev pub Owns : Own → View → Type 0
+Owns o v = OwnsParts o.place (key_now o) o.rest o.scan (o.slots + o.places) o.spare o.retired o.locks v.allowance.place v.allowance.places v.hands.spare v.hands.retired v.locks
+
+-- What a call has before it searches: only a put has a slot in hand, and a delete has a spare and room among its retired slots.
+pub record IsReady (op : Op) (hand spare : Option ℕ) (retired : List ℕ) : Type 0 where
+  pub empty : is_put op ≡ false → hand ≡ None
+  pub room : is_delete op ≡ true → length retired < 15
+  pub has_spare : is_delete op ≡ true → is_some spare ≡ true
+
+abbrev pub Ready : Own → Type 0
+Ready o = IsReady o.op o.hand o.spare o.retired
+
+-- the slot in hand of a caller is a filled one
+abbrev pub Hand : Own → View → Type 0
+Hand o v = HandFits o.hand o.hand_life (key_now o) (value_in o.op) v.hands.hand
+
+-- with nothing under way but a filled slot in hand
+abbrev pub Calm : Own → View → Type 0
+Calm o v = Bare v [] None false × Hand o v × Ready o
+
+-- a put that has a slot in hand, a record, and this much under way
+abbrev pub Putting : Own → View → Spot → List HeldLock → Option Commit → Type 0
+Putting o v spot locks commit = (v.section ≡ None) × ((s : ℕ) × (o.hand ≡ Some s)) × Bare v locks commit false × Hand o v × HasSpot (table_of o) v.records (key_now o) spot × (is_put o.op ≡ true)
+
+-- outside a section, with nothing in hand or under way
+abbrev pub Idle : Own → View → Type 0
+Idle o v = (v.section ≡ None) × Bare v [] None false × (v.hands.hand ≡ None) × (o.hand ≡ None)
+
+abbrev pub ForAim : Own → View → Aim → Type 0
+ForAim o v (Leaf spot) = HasSpot (table_of o) v.records (key_now o) spot × (is_put o.op ≡ true)
+ForAim o v aim = is_delete o.op ≡ true
+
+-- the place's wait is for everybody, began after each unlinking, and has excused the places below this one
+pub record Outlasts (wait : Waiting) (retired : List Retired) (clock p : ℕ) : Type 0 where
+  pub going : wait.ended ≡ false
+  pub low_is : wait.low ≡ 0
+  pub high_is : wait.high ≡ 18446744073709551615
+  pub clock_is : wait.clock ≡ clock
+  pub past : (q : ℕ) → q < p → IsIn wait.excused (Stamp q)
+  pub later : Each retired (λ (r : Retired). r.unlinked < wait.began)
+
+abbrev pub Outlasting : Own → View → ℕ → ℕ → Type 0
+Outlasting o v clock p = (wait : Waiting) × (v.wait ≡ Some wait) × Outlasts wait v.hands.retired clock p
+
+-- Outside a section, with no slot in hand and no move: what holds before and after an update under locks.
+abbrev pub Quiet : Own → View → Option Commit → Type 0
+Quiet o v commit = (v.section ≡ None) × (v.commit ≡ commit) × (v.moving ≡ None) × (v.hands.reserved ≡ false) × (v.hands.owes ≡ false) × (v.hands.hand ≡ None) × (o.hand ≡ None)
+
+abbrev pub HasLocks : Own → Type 0
+HasLocks o = is_none_left o.locks ≡ false
+
+-- before a lock is given up
+abbrev pub Unlocking : Own → View → Type 0
+Unlocking o v = (v.section ≡ None) × (v.commit ≡ None) × (v.moving ≡ None) × (v.hands.reserved ≡ false) × (v.hands.owes ≡ false) × AreClear v.locks × HasLocks o
+
+-- a section that was left found one of so many slots, and loaded its generation
+abbrev pub HasFound : ℕ → List Reading → ℕ → ℕ → ℕ → Type 0
+HasFound n records key s generation = (r : Reading) × IsIn records r × (r.key ≡ key) × ((p : ℕ) × (b : Side) × (value : Option ℕ) × (r.state ≡ Found s p b value)) × LoadedGeneration r s generation × (s < n)
+
+-- a set that has a record, and this much under way
+abbrev pub Setting : Own → View → ℕ → ℕ → List HeldLock → Option Commit → Type 0
+Setting o v s generation locks commit = Quiet o v commit × (v.locks ≡ locks) × HasFound (table_of o) v.records (key_now o) s generation × (is_set o.op ≡ true)
+
+-- what a set loaded under its lock, where it holds its record
+abbrev pub set_known : ℕ → ℕ → ℕ → List Known
+set_known s generation value = read_at (Value s) value ∷ (read_at (Life s) (2 * generation) ∷ [])
