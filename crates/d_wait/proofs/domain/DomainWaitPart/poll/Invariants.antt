@@ -1,0 +1,7 @@
+use Rattle.std.proofs.Common.{◌≡◌}
+use Rattle.seat_table.specs.Seats.{shape_of}
+use Rattle.seat_table.specs.Waits.{IsGoingOn}
+use Rattle.d_wait.proofs.domain.DomainWaitPart.poll.Given as goal
+
+abbrev pub invariant-loop-class : goal.invariant-loop-class
+invariant-loop-class l = (l.seat.table ≡ l.fn.seat.table) × (l.seat.listed ≡ l.fn.seat.listed) × (l.grace.keys ≡ l.fn.grace.keys) × (l.grace.clock ≡ l.fn.grace.clock) × (l.grace.class ≡ l.class) × IsGoingOn (shape_of 1 l.table) l.fn.seat.view l.grace l.seat.view

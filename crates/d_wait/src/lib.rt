@@ -1,0 +1,9 @@
+//! The waiter that counts readers by the class of their key.
+#![tactic(auto)]
+
+mod domain;
+
+pub use domain::Domain;
+
+#[cfg(test)]
+mod tests;

@@ -1,0 +1,9 @@
+-- The rows of stamps that a wait of the third waiter goes over.
+-- Source: docs/TREE.md, "The tree's waits".
+use Rattle.std.specs.Prelude.{ℕ, ◌<◌}
+use Rattle.key_interval.specs.Keys.{Interval, MeetsClass}
+
+-- Some key has this class, and none has a greater one.
+pub record IsLastClass (keys : Interval) (class : ℕ) : Type 0 where
+  pub met : MeetsClass keys class
+  pub greatest : (other : ℕ) → class < other → other < 64 → MeetsClass keys other → ⊥

@@ -1,0 +1,33 @@
+use Rattle.std.proofs.Common.{rules, ◌≡◌, ℕ, ◌-◌, refl, subst, arith}
+use Rattle.core_state.specs.declared.words.Field.TheVariants.{Stamp}
+use Rattle.seat_table.specs.Seats.{shape_of}
+use Rattle.seat_table.specs.Waits.{IsGoingOn}
+use Rattle.seat_table.proofs.Polls.{is_not_yet, ends}
+use Rattle.seat_table.proofs.Waiting.{begins_on}
+use Rattle.eer_wait.proofs.Places.{at_place, not_domain, next_place}
+use Rattle.eer_wait.proofs.eer.EerWaitPart.poll.Goals as goal
+
+pub loop-place-init : goal.loop-place-init
+loop-place-init c = (refl, refl, refl, refl, begins_on (shape_of 0 c.args.table.now) c.args.seat.now.view c.args.grace.now c.requires.latest)
+
+pub returns-in-Some-clause-polled : goal.returns-in-Some-clause-polled
+returns-in-Some-clause-polled c = let come = c.loop-place.invariant.4 in
+    is_not_yet (shape_of 0 c.args.table.now) c.args.seat.now.view c.loop-place.seat.view c.look.new.seat.view (at_place c.loop-place.grace c.loop-place.place) come c.in-Some.why c.in-Some.ensures.met
+
+pub loop-place-preserved : goal.loop-place-preserved
+loop-place-preserved c = let i = c.loop-place.invariant in
+    (search rules, search rules, i.2, i.3, next_place (shape_of 0 c.args.table.now) refl (at_place c.loop-place.grace c.loop-place.place) c.args.seat.now.view c.loop-place.seat.view c.look.new.seat.view i.4 c.in_default.ensures.passed (omega (arith, c.loop-place-test.true, c.places-last.ensures.places)))
+
+pub returns-in-Some-look-clause-polled : goal.returns-in-Some-look-clause-polled
+returns-in-Some-look-clause-polled c = let i = c.loop-place.invariant in
+    let last : ℕ = c.places-last.result - 1 in
+    let at_end : c.loop-place.place ≡ last = omega (arith, c.loop-place-test.false, c.loop-place.auto.place-end, c.places-last.ensures.places, c.requires.latest.2.inside) in
+    let come = subst (λ p. IsGoingOn (shape_of 0 c.args.table.now) c.args.seat.now.view (at_place c.loop-place.grace p) c.loop-place.seat.view) at_end i.4 in
+    is_not_yet (shape_of 0 c.args.table.now) c.args.seat.now.view c.loop-place.seat.view c.look-2.new.seat.view (at_place c.loop-place.grace last) come c.in-Some-look.why c.in-Some-look.ensures.met
+
+pub returns-clause-polled : goal.returns-clause-polled
+returns-clause-polled c = let i = c.loop-place.invariant in
+    let last : ℕ = c.places-last.result - 1 in
+    let at_end : c.loop-place.place ≡ last = omega (arith, c.loop-place-test.false, c.loop-place.auto.place-end, c.places-last.ensures.places, c.requires.latest.2.inside) in
+    let come = subst (λ p. IsGoingOn (shape_of 0 c.args.table.now) c.args.seat.now.view (at_place c.loop-place.grace p) c.loop-place.seat.view) at_end i.4 in
+    ends (shape_of 0 c.args.table.now) c.args.seat.now.view c.loop-place.seat.view c.look-2.new.seat.view (at_place c.loop-place.grace last) come (Stamp last) c.in_default-look.ensures.passed not_domain

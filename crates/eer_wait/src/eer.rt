@@ -1,0 +1,89 @@
+//! Sections and waits of the first waiter.
+ghost use Rattle.std.specs.Prelude.{◌≡◌, ◌+◌, ◌<◌, true, IfNone, IfSome};
+ghost use Rattle.core_state.specs.declared.words.Field.TheVariants.{Stamp};
+ghost use Rattle.seat_table.specs.Seats.{shape_of};
+ghost use Rattle.seat_table.specs.Waits.{IsLatestOf};
+ghost use Rattle.seat_table.specs.Looks.{HasPassed, HasMet};
+
+use key_interval::Keys;
+use prcu_marks::Why;
+use seat_table::steps::{k3, k4, k5, k6, k7, k8};
+use seat_table::{CitrusTable, Grace, Poll, Seat, WaitPart, WaitWords};
+use std::marker::PhantomData;
+
+/// The waiter that looks at the key and the stamp of each reader. A reader announces its key and then stores the clock that it
+/// loaded as its stamp. A wait goes over all places.
+pub struct Eer;
+
+impl WaitWords for Eer {
+    ghost WAY = { 0 };
+
+    const WAY: u32 = 0;
+}
+
+// Looks at the place that the grace has come to, the last one or another, and answers what stands in the wait's way there.
+fn look(
+    table: &CitrusTable<Eer>,
+    seat: &mut Seat<Eer>,
+    grace: &Grace<Eer>,
+    last: bool,
+) -> Option<Why>
+    requires table { seat.old.table ≡ table.now }
+    requires latest { IsLatestOf (shape_of 0 table.now) grace.now seat.old.view }
+    requires inside { grace.now.place < table.now.places }
+    requires end { last ≡ true → grace.now.place + 1 ≡ table.now.places }
+    ensures seat { (seat.new.table ≡ seat.old.table) × (seat.new.listed ≡ seat.old.listed) }
+    ensures passed { IfNone result (HasPassed seat.old.view last (Stamp grace.now.place) seat.new.view) }
+    ensures met { IfSome result (λ why. HasMet seat.old.view why seat.new.view) }
+{
+    let place = grace.place;
+    let key = k8(table, seat, place, false, last);
+    if !grace.keys.holds(key) {
+        return None;
+    }
+    let stamp = k8(table, seat, place, true, last);
+    if stamp == u64::MAX || grace.clock < stamp {
+        return None;
+    }
+    Some(Why::Reader { place, key, stamp })
+}
+
+impl WaitPart for Eer {
+    fn enter(table: &CitrusTable<Eer>, seat: &mut Seat<Eer>, key: u64) {
+        let stamp = k3(table, seat);
+        k4(table, seat, key);
+        k5(table, seat, key, stamp);
+    }
+
+    fn leave(table: &CitrusTable<Eer>, seat: &mut Seat<Eer>) {
+        k6(table, seat);
+    }
+
+    fn begin(table: &CitrusTable<Eer>, seat: &mut Seat<Eer>, keys: Keys) -> Grace<Eer> {
+        let clock = k7(table, seat, keys);
+        Grace {
+            keys,
+            clock,
+            place: 0,
+            class: 0,
+            gate: 0,
+            turned: false,
+            waiter: PhantomData,
+        }
+    }
+
+    fn poll(table: &CitrusTable<Eer>, seat: &mut Seat<Eer>, grace: &mut Grace<Eer>) -> Poll {
+        let last = table.places() - 1;
+        for place in grace.place..last {
+            grace.place = place;
+            if let Some(why) = look(table, seat, grace, false) {
+                return Poll::NotYet { why };
+            }
+        }
+        grace.place = last;
+        if let Some(why) = look(table, seat, grace, true) {
+            return Poll::NotYet { why };
+        }
+        Poll::Over
+    }
+}

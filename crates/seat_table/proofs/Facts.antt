@@ -1,0 +1,344 @@
+-- What the rule tells of a seat and of the words.
+use Rattle.std.proofs.Common.{◌≡◌, ℕ, ◌+◌, ◌*◌, ◌/◌, ◌<◌, ◌≤◌, ◌==◌, zero, suc, nat_lt, ◌&&◌, Bool, true, false, cond, List, [], ◌∷◌, ◌++◌, length, map, take, Option, Some, None, refl, sym, ap, subst, ◌∙◌, ⊎_elim, arith, eq-eqb}
+use Rattle.std.proofs.lemmas.Bool.{lt-ltb, ltb-true}
+use Rattle.std.specs.FinMap as finite
+use mathlib.Core.Logic.{dite}
+use native.Mathlib.Decide.{ℕ_discrete}
+use mathlib.Core.Option.{some}
+use lib.ListN.{get_elem?}
+use Rattle.atomic_table.proofs.Lists.{at_longer}
+use Rattle.list_laws.specs.Counts.{times}
+use Rattle.list_laws.proofs.Lists.{at_below, in_first, times_in, total_part}
+use Rattle.prcu_marks.specs.declared.mark.Mark.{Mark}
+use Rattle.prcu_marks.specs.declared.mark.Mark.TheVariants.{Entered, Left as LeftMark, Began, Ended, Done, Given, Unlinked, Freed}
+use Rattle.prcu_marks.specs.declared.mark.Side.{Side}
+use Rattle.prcu_marks.specs.declared.mark.Side.TheVariants.{Left, Right}
+use Rattle.prcu_marks.specs.Marks.{updates_of, open_at, last_unlinked}
+use Rattle.prcu_model.specs.History.{IsLegal}
+use Rattle.prcu_marks.proofs.MarkLists.{updates_of-append}
+use Rattle.prcu_model.proofs.Fronts.{AreUpdatesFrom-front}
+use Rattle.core_state.specs.declared.shape.Shape.{Shape}
+use Rattle.core_state.specs.declared.shape.Waiter.TheVariants.{Eer, Domain, Deer}
+use Rattle.core_state.specs.declared.words.Field.{Field}
+use Rattle.core_state.specs.declared.words.Field.TheVariants.{Clock, Front, Free, Count, State as StateWord, Lock, Life, Tag}
+use Rattle.core_state.specs.declared.view.Retired.{Retired}
+use Rattle.core_state.specs.declared.view.Section.{Section}
+use Rattle.core_state.specs.declared.view.View.{View}
+use Rattle.core_state.specs.memory.Memory.{Memory, slot_count, slot_base, word_count, word_of, is_field, same_waiter}
+use Rattle.core_state.specs.memory.Lists.{sum_below, flag}
+use Rattle.core_state.specs.views.Known.{lock_of}
+use Rattle.core_state.specs.Marks.{begun, begun_at, Grace, Reuse}
+use Rattle.core_state.specs.views.Views.{Works, places_of, held_list, joined_retired, retired_of, slots_of}
+use Rattle.core_state.specs.steps.Slots.{IsInHand, IsSpare}
+use Rattle.core_state.specs.parts.CountParts.{turns_to_come}
+use Rattle.core_state.specs.parts.WaiterParts.{inside_count}
+use Rattle.core_state.specs.parts.FrontParts.{IsOddBy}
+use Rattle.core_state.specs.Invariant.{HoldsNow}
+use Rattle.core_frames.proofs.views.SeatFacts.{works_there, place_within}
+use Rattle.core_frames.proofs.views.Roles.{slots_count, spares_count, held_there, own_below}
+use Rattle.core_frames.proofs.marks.MarkFacts.{take-more}
+use Rattle.core_frames.proofs.chart.Plain.{gone_within}
+use Rattle.core_frames.proofs.Counting.{total_le, places_length, all_places}
+use Rattle.key_interval.specs.Keys.{class_of}
+use Rattle.seat_table.specs.declared.case.Case.{Case}
+use Rattle.seat_table.specs.declared.case.Case.TheVariants.{K3, K4, K5, K6, K7, K8, K9, K10, K11, K12, K13, K14, K15, K16, K17, K18, K19, K20, K21, K22, K23, K24, K25, K26, K27, K28, K29, K30, K31, K32, K33, K34, K35, K36, K37, ListLoad}
+use Rattle.seat_table.specs.Seats.{TableAt, way_of, shape_of, HasPlace}
+use Rattle.seat_table.specs.Cases.{Access, loads, stores, exchanges, adds, subtracts, flips, left_by, said_by, slot_field, what, Needs}
+use Rattle.seat_table.specs.Gains.{Sees, IsInformed, WordFits, IsApart, IsSlot, StoodInside, HasSide}
+use Rattle.seat_table.proofs.Memories.{both_true, word_inside}
+
+-- a list's beginning has the same elements
+at_front : {A : Type 0} (a rest : List A) (i : ℕ) (x : A) → i < length a → get_elem? (a ++ rest) i ≡ some x → get_elem? a i ≡ some x
+at_front [] rest i x below e = absurd (omega arith)
+at_front (y ∷ ys) rest zero x below e = e
+at_front (y ∷ ys) rest (suc i) x below e = at_front ys rest i x (omega arith) e
+
+-- what holds of all marks holds of a beginning of them
+grace_front : (a rest : List Mark) → Grace (a ++ rest) → Grace a
+grace_front a rest grace i j e p n low high q c x began ended entered before least most =
+    let t = grace i j e p n low high q c x (at_longer a rest i _ began) (at_longer a rest j _ ended) (at_longer a rest e _ entered) before least most in
+    let end = at_below a j _ ended in
+    (t.0, t.1, t.2, at_front a rest t.0 _ (let less = t.2 in omega arith) t.3)
+
+reuse_front : (a rest : List Mark) → Reuse (a ++ rest) → Reuse a
+reuse_front a rest reuse j s i p m o there reused last opened =
+    let below = at_below a j m there in
+    let same : take j (a ++ rest) ≡ take j a = take-more a rest j (omega arith) in
+    reuse j s i p m o (at_longer a rest j m there) reused (ap (last_unlinked s) same ∙ last) (ap (open_at p) same ∙ opened)
+
+-- a place begins no more waits than there are
+begun_part : (p : ℕ) (h : List Mark) → begun_at p h ≤ begun h
+begun_part p [] = omega arith
+begun_part p (Began q n low high ∷ ms) = let rest = begun_part p ms in let one : cond (q == p) 1 0 ≤ 1 = at_most (q == p) in omega arith
+  where
+    at_most : (b : Bool) → cond b 1 0 ≤ 1
+    at_most true = omega arith
+    at_most false = omega arith
+begun_part p (Entered q c x ∷ ms) = begun_part p ms
+begun_part p (LeftMark q c ∷ ms) = begun_part p ms
+begun_part p (Ended q c ∷ ms) = begun_part p ms
+begun_part p (Done u ∷ ms) = begun_part p ms
+begun_part p (Given s ∷ ms) = begun_part p ms
+begun_part p (Unlinked s ∷ ms) = begun_part p ms
+begun_part p (Freed s ∷ ms) = begun_part p ms
+
+-- what is added never wraps, and what is subtracted is there
+abbrev pub Fits : Access → ℕ → Type 0
+Fits (adds x) n = n + x < 18446744073709551616
+Fits (subtracts x) n = x ≤ n
+Fits _ n = Unit {0}
+
+sum_most : (test : ℕ → Bool) (n : ℕ) → sum_below (λ s. flag (test s)) n ≤ n
+sum_most test zero = omega arith
+sum_most test (suc n) = let rest = sum_most test n in let one = flag_most (test n) in omega arith
+  where
+    flag_most : (b : Bool) → flag b ≤ 1
+    flag_most true = omega arith
+    flag_most false = omega arith
+
+sum_part : (f : ℕ → ℕ) (n s : ℕ) → s < n → f s ≤ sum_below f n
+sum_part f zero s below = absurd (omega arith)
+sum_part f (suc n) s below = dite (ℕ_discrete s n) (λ e. let same : f s ≡ f n = ap f e in omega arith) (λ ne. let rest = sum_part f n s (omega arith) in omega arith)
+
+pub said_fits : (k : Shape) (field : Field) (a : Access) (n : ℕ) → WordFits k field n → WordFits k field (left_by a n) → WordFits k field (said_by a n)
+said_fits k field loads n found left = found
+said_fits k field (stores x) n found left = left
+said_fits k field (exchanges old new) n found left = found
+said_fits k field (adds x) n found left = found
+said_fits k field (subtracts x) n found left = found
+said_fits k field flips n found left = found
+
+pub has_slot_field : (k : Shape) (s field : ℕ) → nat_lt s (slot_count k) ≡ true → is_field k (slot_field s field) ≡ true
+has_slot_field k s zero e = e
+has_slot_field k s (suc zero) e = e
+has_slot_field k s (suc (suc zero)) e = e
+has_slot_field k s (suc (suc (suc zero))) e = e
+has_slot_field k s (suc (suc (suc (suc zero)))) e = e
+has_slot_field k s (suc (suc (suc (suc (suc zero))))) e = e
+has_slot_field k s (suc (suc (suc (suc (suc (suc zero)))))) e = e
+has_slot_field k s (suc (suc (suc (suc (suc (suc (suc zero))))))) e = e
+has_slot_field k s (suc (suc (suc (suc (suc (suc (suc (suc n)))))))) e = e
+
+-- where it lies
+pub slot_word : (k : Shape) (s field : ℕ) → field < 9 → slot_base k + 9 * s + field ≡ word_of k (slot_field s field)
+slot_word k s zero small = omega arith
+slot_word k s (suc zero) small = refl
+slot_word k s (suc (suc zero)) small = refl
+slot_word k s (suc (suc (suc zero))) small = refl
+slot_word k s (suc (suc (suc (suc zero)))) small = refl
+slot_word k s (suc (suc (suc (suc (suc zero))))) small = refl
+slot_word k s (suc (suc (suc (suc (suc (suc zero)))))) small = refl
+slot_word k s (suc (suc (suc (suc (suc (suc (suc zero))))))) small = refl
+slot_word k s (suc (suc (suc (suc (suc (suc (suc (suc n)))))))) small = omega arith
+
+module _ (k : Shape) (m : Memory) (vs : List View) (h : List Mark) (i : HoldsNow k m vs h) (id : ℕ) (v : View) (at : get_elem? vs id ≡ some v) where
+  pub sees : Works v → Sees v h
+  sees works = record { works = works; begins = i.marks.seen.begins id v at; own = (i.seats.owned id v at).met }
+
+  -- the waits of a place and its tickets are paid for
+  few_waits : v.counts.waits + v.allowance.tickets ≤ 1099511627776
+  few_waits = dite (ℕ_discrete v.allowance.places 0)
+      (λ none. let e = i.seats.spent id v at none in let waits : v.counts.waits ≡ 0 = ap (λ (z : View). z.counts.waits) e in let tickets : v.allowance.tickets ≡ 0 = ap (λ (z : View). z.allowance.tickets) e in omega arith)
+      (λ some_place.
+      let counted = (i.seats.counted id v at (omega arith)).waits in
+      let part = begun_part v.allowance.place h in
+      let clock = i.waiters.clock in
+      let paid = i.counts.clock in
+      let mine = total_part (λ (u : View). u.allowance.tickets) vs id v at in
+      let few = i.table.few_tickets in
+      omega arith)
+
+  few_turns : v.counts.turns ≤ 70368744177664
+  few_turns =
+      let all = i.counts.turns in
+      let mine = total_part (λ (u : View). u.counts.turns + turns_to_come u.wait) vs id v at in
+      let paid = i.counts.clock in
+      let few = i.table.few_tickets in
+      omega arith
+
+  pub informed : IsInformed v
+  informed =
+      let more = i.marks.seen.begins id v at in record {
+        legal = AreUpdatesFrom-front finite.empty (updates_of v.seen) (updates_of more.0) (subst IsLegal (ap updates_of (sym more.1) ∙ updates_of-append v.seen more.0) i.front.legal);
+        grace = grace_front v.seen more.0 (subst Grace (sym more.1) i.grace.grace);
+        reuse = reuse_front v.seen more.0 (subst Reuse (sym more.1) i.grace.reuse);
+        few_waits = few_waits;
+        few_turns = few_turns;
+      }
+
+  small_clock : m Clock ≤ 1099511627776
+  small_clock = let paid = i.counts.clock in let few = i.table.few_tickets in omega arith
+
+  small_free : m Free ≤ 2097217
+  small_free = let free = i.counts.free in let most = sum_most (λ s. m (StateWord s) == 0) (slot_count k) in let a = i.table.few_slots in let b = i.table.few_places in omega arith
+
+  pub small_front : m Front ≤ 2199023255553
+  small_front =
+      let paid = i.counts.clock in
+      let few = i.table.few_tickets in
+      ⊎_elim (λ even. let is = even.0 in omega arith) (λ (odd : IsOddBy m vs (length (updates_of h))). let is = odd.word in let updates = odd.updates in odd_case odd.commit.stored odd.commit.found refl updates is) i.front.turned
+    where
+      odd_case : (stored : Bool) (found : ℕ) → stored ≡ stored → found + cond stored 2 0 ≡ 2 * length (updates_of h) → m Front ≡ found + 1 → m Front ≤ 2199023255553
+      odd_case true found e updates is = let paid = i.counts.clock in let few = i.table.few_tickets in omega arith
+      odd_case false found e updates is = let paid = i.counts.clock in let few = i.table.few_tickets in omega arith
+
+  -- a class has no more sections open than there are places
+  small_count : (c side : ℕ) → k.waiter ≡ Domain → c < 64 → side < 2 → m (Count c side) ≤ 64
+  small_count c side way small few =
+      let is = (i.waiters.domain way).counts c side small few in
+      let most = total_le (λ (u : View). inside_count c side u.section) (λ (u : View). length (places_of u)) vs (λ j u there. one_each u u.section refl (λ section inside. (i.seats.sections j u there section inside).works)) in
+      let places = all_places k m vs h i in
+      let few_places = i.table.few_places in
+      omega arith
+    where
+      at_most : (b : Bool) → cond b 1 0 ≤ 1
+      at_most true = omega arith
+      at_most false = omega arith
+
+      one_each : (u : View) (o : Option Section) → u.section ≡ o → ((section : Section) → u.section ≡ Some section → Works u) → inside_count c side o ≤ length (places_of u)
+      one_each u None e works = omega arith
+      one_each u (Some section) e works = let one = at_most (class_of section.key == c && section.stamp == side) in let some_place = works section e in let long = places_length u in omega arith
+
+  -- and the view's own is one of them
+  own_count : (c side : ℕ) (section : Section) → k.waiter ≡ Domain → c < 64 → side < 2 → v.section ≡ Some section → c ≡ class_of section.key → side ≡ section.stamp → 1 ≤ m (Count c side)
+  own_count c side section way small few inside at_class at_side =
+      let is = (i.waiters.domain way).counts c side small few in
+      let part = total_part (λ (u : View). inside_count c side u.section) vs id v at in
+      let mine : inside_count c side v.section ≡ 1 = ap (inside_count c side) inside ∙ ap (λ b. cond b 1 0) (both_true _ _ (eq-eqb (class_of section.key) c (sym at_class)) (eq-eqb section.stamp side (sym at_side))) in
+      omega arith
+
+  pub fits : (c : Case) → Needs k v c → Fits (what v c).access (m (what v c).field)
+  fits (K7 low high) needs = let small = small_clock in omega arith
+  fits K16 needs = let small = small_free in omega arith
+  fits (K29 key side) needs = let small = small_count (class_of key) side needs.0 (omega arith) needs.1 in omega arith
+  fits (K30 class side) needs = let section = needs.1.0 in let n = needs.1.1 in
+      own_count class side section needs.0 (let e = n.class_is in omega arith) (let e = n.side_is in let small = (i.waiters.domain needs.0).sides id v at section n.section_is in omega arith) n.section_is n.class_is n.side_is
+  fits _ needs = tt
+
+  -- the number in a word is small
+  lock_small : (s : ℕ) → s < slot_count k → m (Lock s) ≤ k.places
+  lock_small s below = dite (ℕ_discrete (m (Lock s)) 0) (λ none. omega arith)
+      (λ some_holder.
+      let by = i.locks.locked.named s below some_holder in
+      let is = (i.locks.locked.held by.1.id by.1.view by.1.there s by.0 by.1.holds).0 in
+      let works : 1 ≤ by.1.view.allowance.places = dite (ℕ_discrete by.1.view.allowance.places 0)
+      (λ none. let none_held : None ≡ Some by.0 = sym (ap (λ (z : View). lock_of z.locks s) (i.seats.spent by.1.id by.1.view by.1.there none)) ∙ by.1.holds in absurd (cc))
+      (λ some_place. omega arith) in
+      let place = place_within k.places vs i.seats.placed by.1.id by.1.view.allowance.place by.1.view by.1.there (works_there by.1.view works) in
+      omega arith)
+
+  life_small : (s : ℕ) → s < slot_count k → m (Life s) ≤ 2199023255553
+  life_small s below =
+      let part = sum_part (λ t. m (Life t) / 2) (slot_count k) s below in
+      let paid = i.counts.generations in
+      let few = i.table.few_tickets in
+      omega arith
+
+  tag_small : (s : ℕ) (b : Side) → s < slot_count k → m (Tag s b) ≤ 1099511627776
+  tag_small s Left below = let part = sum_part (λ t. m (Tag t Left) + m (Tag t Right)) (slot_count k) s below in let paid = i.counts.tags in let few = i.table.few_tickets in omega arith
+  tag_small s Right below = let part = sum_part (λ t. m (Tag t Left) + m (Tag t Right)) (slot_count k) s below in let paid = i.counts.tags in let few = i.table.few_tickets in omega arith
+
+  pub word_fits : (field : Field) → is_field k field ≡ true → WordFits k field (m field)
+  word_fits Clock has = small_clock
+  word_fits Front has = small_front
+  word_fits Free has = small_free
+  word_fits (Lock s) has = lock_small s (ltb-true s (slot_count k) has)
+  word_fits (Life s) has = life_small s (ltb-true s (slot_count k) has)
+  word_fits (Tag s b) has = tag_small s b (ltb-true s (slot_count k) has)
+  word_fits _ has = tt
+
+  -- a slot has one role
+  pub is_apart : (slot : ℕ) → IsApart v slot
+  is_apart slot = record {
+    not_both = λ held own j r gone.
+        let in_retired = in_first v.hands.retired (joined_retired v.allowance.joined) r (j, gone.0) in
+        let listed : 1 ≤ times slot (map (λ (z : Retired). z.slot) (retired_of v)) = subst (λ s. 1 ≤ times s (map (λ (z : Retired). z.slot) (retired_of v))) gone.1 (times_in (λ (z : Retired). z.slot) (retired_of v) r in_retired) in
+        let all = slots_count v slot in
+        let spares = spares_count v slot in
+        let below = own_below m (slot_count k) i.chart vs h i.slots id v at slot (omega arith) in
+        let role = i.slots.roles.once slot below in
+        let part = total_part (λ (u : View). times slot (slots_of u)) vs id v at in
+        ⊎_elim
+        (λ (mine : IsInHand v held slot). absurd (let there : 1 ≤ times slot (held_list v.hands.hand) = subst (λ s. 1 ≤ times s (held_list v.hands.hand)) mine.1 (held_there v.hands.hand held mine.0) in omega arith))
+        (λ (mine : IsSpare v held slot). absurd (let there : 1 ≤ times slot (held_list v.hands.spare) = subst (λ s. 1 ≤ times s (held_list v.hands.spare)) mine.1 (held_there v.hands.spare held mine.0) in omega arith))
+        own;
+  }
+
+  -- the slots at which an open section stood are the table's
+  pub stood_inside : StoodInside k v
+  stood_inside = record {
+    stood = λ section s inside has. slot (⊎_elim (λ linked. i.tree.shape.within s linked) (λ held. let back = held.0 in gone_within k m vs h i s back.at back.gone)
+        ((i.readers.served id v at section inside).stood s has).here);
+    listed = λ section listing inside lists. slot (dite (ℕ_discrete listing.slot 0) (λ none. omega arith)
+        (λ some_slot. ⊎_elim (λ linked. i.tree.shape.within listing.slot linked) (λ back. gone_within k m vs h i listing.slot back.at back.gone) ((i.listings.listings id v at section listing inside lists).here some_slot)));
+  }
+    where
+      slot : {s : ℕ} → s < slot_count k → IsSlot k s
+      slot {s} below = let few = i.table.few_slots in let places = i.table.few_places in record { inside = below; fits = omega arith }
+
+  pub has_side : HasSide k v
+  has_side = record { small = λ section inside domain. (i.waiters.domain domain).sides id v at section inside }
+
+-- a word of a place, of the first waiter
+eer_field : (k : Shape) (p : ℕ) → k.waiter ≡ Eer → p < k.places → (same_waiter k.waiter Eer && nat_lt p k.places) ≡ true
+eer_field k p eer small = both_true _ _ (ap (λ w. same_waiter w Eer) eer) (lt-ltb p k.places small)
+
+-- a word of a class, of the second waiter
+domain_field : (k : Shape) {b : Bool} → k.waiter ≡ Domain → b ≡ true → (same_waiter k.waiter Domain && b) ≡ true
+domain_field k {b} is e = both_true _ _ (ap (λ w. same_waiter w Domain) is) e
+
+module _ (way : ℕ) (t : TableAt) (v : View) (room : HasPlace t v) where
+  abbrev k : Shape
+  k = shape_of way t
+
+  own : v.allowance.place < t.places
+  own = let a = room.works in let b = room.inside in omega arith
+
+  own_field : way_of way ≡ Eer → (same_waiter (way_of way) Eer && nat_lt v.allowance.place t.places) ≡ true
+  own_field eer = eer_field k v.allowance.place eer own
+
+  -- the table has each case's word
+  pub has_field : (c : Case) → HasSide (shape_of way t) v → Needs (shape_of way t) v c → is_field (shape_of way t) (what v c).field ≡ true
+  has_field K3 sides needs = refl
+  has_field (K4 key) sides needs = own_field needs.0
+  has_field (K5 key stamp) sides needs = own_field needs.0
+  has_field K6 sides needs = own_field needs.0
+  has_field (K7 low high) sides needs = refl
+  has_field (K8 place true last) sides needs = eer_field k place needs.0 needs.1
+  has_field (K8 place false last) sides needs = eer_field k place needs.0 needs.1
+  has_field (K9 slot keep) sides needs = lt-ltb slot (slot_count k) needs.0
+  has_field (K10 expected) sides needs = refl
+  has_field (K11 slot) sides needs = lt-ltb slot (slot_count k) needs.0
+  has_field (K12 slot field value) sides needs = has_slot_field k slot field (lt-ltb slot (slot_count k) needs.0)
+  has_field (K13 slot) sides needs = lt-ltb slot (slot_count k) needs.0
+  has_field (K14 slot) sides needs = lt-ltb slot (slot_count k) needs.0
+  has_field (K15 slot) sides needs = lt-ltb slot (slot_count k) needs.0
+  has_field K16 sides needs = refl
+  has_field (K17 slot field) sides needs = has_slot_field k slot field (lt-ltb slot (slot_count k) needs.0.0)
+  has_field (K18 slot field) sides needs = has_slot_field k slot field (lt-ltb slot (slot_count k) needs.0.0)
+  has_field (K19 expected) sides needs = refl
+  has_field (K20 slot b leaf) sides needs = lt-ltb slot (slot_count k) needs.0
+  has_field (K21 parent b node child) sides needs = lt-ltb parent (slot_count k) needs.0
+  has_field (K22 slot life) sides needs = lt-ltb slot (slot_count k) needs.0
+  has_field (K23 slot b tag) sides needs = lt-ltb slot (slot_count k) needs.0
+  has_field (K24 front) sides needs = refl
+  has_field (K25 parent b node copy old old_parent) sides needs = lt-ltb parent (slot_count k) needs.0
+  has_field (K26 parent old child) sides needs = lt-ltb parent (slot_count k) needs.0
+  has_field (K27 copy old child) sides needs = lt-ltb copy (slot_count k) needs.0
+  has_field (K28 class) sides needs = domain_field k needs.0 (lt-ltb class 64 needs.1)
+  has_field (K29 key side) sides needs = domain_field k needs.0 (both_true _ _ (lt-ltb (class_of key) 64 (omega arith)) (lt-ltb side 2 needs.1))
+  has_field (K30 class side) sides needs =
+      let n = needs.1.1 in
+      let small = sides.small needs.1.0 n.section_is needs.0 in
+      domain_field k needs.0 (both_true _ _ (lt-ltb class 64 (let e = n.class_is in omega arith)) (lt-ltb side 2 (let e = n.side_is in omega arith)))
+  has_field (K31 class side last) sides needs = domain_field k needs.0 (both_true _ _ (lt-ltb class 64 needs.1) (lt-ltb side 2 needs.2))
+  has_field (K32 class) sides needs = domain_field k needs.0 (lt-ltb class 64 needs.1.1.small)
+  has_field (K33 key stamp) sides needs = both_true _ _ (ap (λ w. same_waiter w Deer) needs.0) (both_true _ _ (lt-ltb v.allowance.place t.places own) (lt-ltb (class_of key) 64 (omega arith)))
+  has_field (K34 class) sides needs = both_true _ _ (ap (λ w. same_waiter w Deer) needs.0) (both_true _ _ (lt-ltb v.allowance.place t.places own) (lt-ltb class 64 (let e = needs.1.1.class_is in omega arith)))
+  has_field (K35 place class last) sides needs = both_true _ _ (ap (λ w. same_waiter w Deer) needs.0) (both_true _ _ (lt-ltb place t.places needs.1) (lt-ltb class 64 needs.2))
+  has_field (K36 slot value) sides needs = lt-ltb slot (slot_count k) needs.0
+  has_field K37 sides needs = refl
+  has_field (ListLoad slot field) sides needs = has_slot_field k slot field (lt-ltb slot (slot_count k) needs.0.0)
+
+  pub word_below : (c : Case) (word words : ℕ) → word ≡ word_of (shape_of way t) (what v c).field → words ≡ word_count (shape_of way t) → HasSide (shape_of way t) v → Needs (shape_of way t) v c → word < words
+  word_below c word words at is sides needs = subst (λ (z : ℕ × ℕ). z.0 < z.1) (λ i. (sym at i, sym is i)) (word_inside k (what v c).field (has_field c sides needs))

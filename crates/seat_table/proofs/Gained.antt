@@ -1,0 +1,195 @@
+-- What the rule tells after a step of a kind.
+use Rattle.std.proofs.Common.{◌≡◌, ℕ, ◌+◌, ◌*◌, ◌<◌, ◌≤◌, ◌==◌, ◌-◌, Bool, true, false, cond, inr, List, [], ◌∷◌, ◌++◌, length, Some, None, refl, sym, ap, subst, ◌∙◌, ⊎_elim, arith, eq-eqb, ne_eqb, append-nil, length-append}
+use Rattle.std.specs.FinMap as finite
+use mathlib.Core.Logic.{dite}
+use native.Mathlib.Decide.{ℕ_discrete}
+use mathlib.Core.Option.{some}
+use lib.ListN.{get_elem?}
+use Rattle.list_laws.specs.Counts.{times}
+use Rattle.list_laws.proofs.Lists.{at_one, in_first, total_part}
+use Rattle.prcu_marks.specs.declared.mark.Mark.{Mark}
+use Rattle.prcu_marks.specs.declared.mark.Mark.TheVariants.{Left as LeftMark, Began}
+use Rattle.prcu_marks.specs.Marks.{updates_of, gone_at}
+use Rattle.prcu_model.specs.Dictionary.{map_of, WasSaid}
+use Rattle.prcu_marks.proofs.MarkLists.{updates_of-append}
+use Rattle.core_state.specs.declared.shape.Shape.{Shape}
+use Rattle.core_state.specs.declared.words.Field.TheVariants.{Front, Free, Lock, Key, State as StateWord}
+use Rattle.core_state.specs.declared.view.Held.{Held}
+use Rattle.core_state.specs.declared.view.Retired.{Retired}
+use Rattle.core_state.specs.declared.view.Section.{Section}
+use Rattle.prcu_marks.specs.declared.commit.Commit.{Commit}
+use Rattle.core_state.specs.declared.view.View.{View}
+use Rattle.core_state.specs.memory.Memory.{Memory, slot_count}
+use Rattle.core_state.specs.memory.Lists.{flag, IsEven}
+use Rattle.core_state.specs.views.Known.{known_in, lock_of}
+use Rattle.core_state.specs.views.Views.{Works, places_of, joined_retired, slots_of}
+use Rattle.core_state.specs.steps.Slots.{with_free, reserving, after_reserve}
+use Rattle.core_state.specs.parts.FrontParts.{IsOddBy}
+use Rattle.core_state.specs.Invariant.{HoldsNow}
+use Rattle.core_frames.specs.Laws.{answer_of}
+use Rattle.core_frames.proofs.chart.Plain.{searches_are_answered, gone_within}
+use Rattle.prcu_marks.proofs.MarkPlaces.{gone_at-below}
+use Rattle.core_frames.proofs.views.SeatFacts.{works_there, places_apart}
+use Rattle.core_frames.proofs.Counting.{empty_is_full}
+use Rattle.seat_table.specs.declared.case.Case.{Case}
+use Rattle.seat_table.specs.declared.case.Case.TheVariants.{K6, K7, K9, K10, K11, K12, K13, K15, K20, K21, K25, K30, K34, K36, K37}
+use Rattle.seat_table.specs.Cases.{said_by, what, noted, Needs, IsRecordOf, After}
+use Rattle.seat_table.specs.Gains.{GivesAnswer, LeavesAnswer, AreGone, FindsFull, WasNoOwn, IsOthers, IsCounted, IsNextKey, LooksAgain, Gains}
+use Rattle.seat_table.proofs.Facts.{is_apart}
+use Rattle.seat_table.proofs.Records.{one_key, value_now, copy_next}
+
+module _ (k : Shape) (m : Memory) (vs : List View) (h : List Mark) (i : HoldsNow k m vs h) (id : ℕ) (v : View) (at : get_elem? vs id ≡ some v) where
+  -- what the open section found, the dictionary said
+  gives : (section : Section) → v.section ≡ Some section → GivesAnswer h section
+  gives section inside =
+      record {
+        absent = λ slot b no_list state. subst (λ z. WasSaid (updates_of h) section.key section.from (answer_of m (slot_count k) section.key z)) state (said no_list);
+        present = λ slot parent value b no_list state. subst (λ z. WasSaid (updates_of h) section.key section.from (answer_of m (slot_count k) section.key z)) state (said no_list);
+      }
+    where
+      said : section.listing ≡ None → WasSaid (updates_of h) section.key section.from (answer_of m (slot_count k) section.key section.reading.state)
+      said no_list = searches_are_answered k m vs h i section (record { id = id; view = v; there = at; inside = inside; no_list = no_list })
+
+  -- what its turn found counts the updates, until its update is made
+  commit_counts : (commit : Commit) → v.commit ≡ Some commit → commit.stored ≡ false → commit.found ≡ 2 * length (updates_of h)
+  commit_counts commit mine unmade = ⊎_elim
+      (λ even. let none : None ≡ Some commit = sym (even.1 id v at) ∙ mine in absurd (cc))
+      (λ (odd : IsOddBy m vs (length (updates_of h))). dite (ℕ_discrete id odd.id)
+      (λ same.
+      let one : v ≡ odd.view = at_one vs odd.id v odd.view (subst (λ z. get_elem? vs z ≡ some v) same at) odd.there in
+      let e : Some odd.commit ≡ Some commit = sym odd.has ∙ ap (λ (z : View). z.commit) (sym one) ∙ mine in
+      let t : odd.commit ≡ commit = cc in
+      let all : commit.found + cond commit.stored 2 0 ≡ 2 * length (updates_of h) = subst (λ (z : Commit). z.found + cond z.stored 2 0 ≡ 2 * length (updates_of h)) t odd.updates in
+      let none : commit.found + cond false 2 0 ≡ 2 * length (updates_of h) = subst (λ b. commit.found + cond b 2 0 ≡ 2 * length (updates_of h)) unmade all in
+      omega arith)
+      (λ other. let none : None ≡ Some commit = sym (odd.alone id v other at) ∙ mine in absurd (cc)))
+      i.front.turned
+
+  -- leaving adds no update
+  gives_later : (section : Section) (mark : Mark) → updates_of (mark ∷ []) ≡ [] → GivesAnswer h section → GivesAnswer (h ++ mark ∷ []) section
+  gives_later section mark none gives =
+      let same : updates_of (h ++ mark ∷ []) ≡ updates_of h = updates_of-append h (mark ∷ []) ∙ ap (λ us. updates_of h ++ us) none ∙ append-nil (updates_of h) in
+      record {
+        absent = λ slot b no_list state. subst (λ us. WasSaid us section.key section.from None) (sym same) (gives.absent slot b no_list state);
+        present = λ slot parent value b no_list state. subst (λ us. WasSaid us section.key section.from (Some value)) (sym same) (gives.present slot parent value b no_list state);
+      }
+
+  -- after an update there is one more
+  counted : (w : View) (commit : Commit) (marks : List Mark) → w.seen ≡ h ++ marks → length (updates_of marks) ≡ 1 → v.commit ≡ Some commit → commit.stored ≡ false → IsCounted v w
+  counted w commit marks seen one mine unmade = record {
+    found = λ other is.
+        let e : length (updates_of w.seen) ≡ length (updates_of h) + length (updates_of marks) = ap (λ s. length (updates_of s)) seen ∙ ap length (updates_of-append h marks) ∙ length-append (updates_of h) (updates_of marks) in
+        let same : Some commit ≡ Some other = sym mine ∙ is in
+        let same_commit : commit ≡ other = cc in
+        let found : other.found ≡ 2 * length (updates_of h) = subst (λ (z : Commit). z.found ≡ 2 * length (updates_of h)) same_commit (commit_counts commit mine unmade) in
+        omega arith;
+  }
+
+  left_gives : (w : View) (section : Section) → v.section ≡ Some section → w.seen ≡ h ++ LeftMark v.allowance.place section.count ∷ [] → LeavesAnswer v w
+  left_gives w section mine seen = record { answer = λ other inside. subst (λ s. GivesAnswer s other) (sym seen) (gives_later other (LeftMark v.allowance.place section.count) refl (gives other inside)) }
+
+  -- a slot that was free is none of the view's
+  was_no_own : (slot : ℕ) → slot < slot_count k → WasNoOwn v slot (m (StateWord slot))
+  was_no_own slot below = record {
+    none = λ free.
+        let role = i.slots.roles.once slot below in
+        let is : flag (m (StateWord slot) == 0) ≡ 1 = ap flag (eq-eqb (m (StateWord slot)) 0 free) in
+        let part = total_part (λ (u : View). times slot (slots_of u)) vs id v at in
+        omega arith;
+  }
+
+  -- a lock is another's, where the view doesn't hold it
+  is_others : (slot : ℕ) → slot < slot_count k → Works v → IsOthers v slot (m (Lock slot))
+  is_others slot below works = record {
+    other = λ none mine.
+        let by = i.locks.locked.named slot below (λ e. omega arith) in
+        let word = (i.locks.locked.held by.1.id by.1.view by.1.there slot by.0 by.1.holds).0 in
+        let place : by.1.view.allowance.place ≡ v.allowance.place = omega arith in
+        let other_works : Works by.1.view = dite (ℕ_discrete by.1.view.allowance.places 0)
+        (λ spent. absurd (let e : None ≡ Some by.0 = sym (ap (λ (z : View). lock_of z.locks slot) (i.seats.spent by.1.id by.1.view by.1.there spent)) ∙ by.1.holds in cc))
+        (λ some_place. omega arith) in
+        let same : by.1.id ≡ id = places_apart k.places vs i.seats.placed by.1.id id v.allowance.place by.1.view v by.1.there at (subst (λ p. 1 ≤ times p (places_of by.1.view)) place (works_there by.1.view other_works)) (works_there v works) in
+        let one : by.1.view ≡ v = at_one vs id by.1.view v (subst (λ z. get_elem? vs z ≡ some by.1.view) same by.1.there) at in
+        let e : None ≡ Some by.0 = sym none ∙ ap (λ (z : View). lock_of z.locks slot) (sym one) ∙ by.1.holds in
+        cc;
+  }
+
+  -- a later look of a listing that found the same even number
+  looks_again : LooksAgain v h (m Front)
+  looks_again = record {
+    same = λ section listing inside lists even found.
+        let is = i.listings.listings id v at section listing inside lists in
+        let even_front : IsEven listing.front = subst IsEven found even in
+        let now = is.now even_front found in
+        let front : m Front ≡ 2 * length (updates_of h) = ⊎_elim (λ e. e.0) (λ (odd : IsOddBy m vs (length (updates_of h))). absurd (odd_not odd even)) i.front.turned in
+        let since = is.since even_front in
+        record { front = sym found ∙ front; since = omega arith; facts = now.facts; gaps = now.gaps };
+  }
+    where
+      odd_not : IsOddBy m vs (length (updates_of h)) → IsEven (m Front) → ⊥
+      odd_not odd even = by_stored odd.commit.stored odd.commit.found refl odd.updates odd.word even
+        where
+          by_stored : (stored : Bool) (found : ℕ) → stored ≡ stored → found + cond stored 2 0 ≡ 2 * length (updates_of h) → m Front ≡ found + 1 → IsEven (m Front) → ⊥
+          by_stored true found e updates word even = absurd (omega arith)
+          by_stored false found e updates word even = absurd (omega arith)
+
+  -- the retired slots are the table's, and were unlinked before
+  are_gone : (w : View) (low high : ℕ) → w.seen ≡ h ++ Began v.allowance.place v.counts.waits low high ∷ [] → AreGone k v w
+  are_gone w low high seen = record {
+    each = λ r has.
+        let there = in_first v.hands.retired (joined_retired v.allowance.joined) r has in
+        let gone : gone_at r.slot h ≡ Some r.unlinked = (i.slots.retired id v at there.0 r there.1).unlinked in
+        let below : r.unlinked < length h = gone_at-below r.slot h r.unlinked gone in
+        let long : length w.seen ≡ length h + 1 = ap length seen ∙ length-append h (Began v.allowance.place v.counts.waits low high ∷ []) in
+        (gone_within k m vs h i r.slot r.unlinked gone, omega arith);
+  }
+
+  -- where the free count is 0, the dictionary is full
+  finds_full : (expected : ℕ) (w : View) → Works v → Needs k v (K10 expected) → w ≡ after_reserve (noted v (K10 expected) (m Free)) expected (m Free) h → FindsFull k v (m Free) w
+  finds_full expected w works needs after = record {
+    full = λ none still paid.
+        let n : ℕ = m Free in
+        let first : (n == expected) ≡ false = ne_eqb n expected (λ e. let some = needs.some in omega arith) in
+        let second : (n == 0) ≡ true = eq-eqb n 0 none in
+        let u : View = noted v (K10 expected) n in
+        let empty : View = record (with_free u 0) { seen = h } in
+        let is : w ≡ empty = after ∙ ap (λ b. cond b (reserving (with_free u (expected - 1))) (cond (n == 0) empty (with_free u n))) first ∙ ap (λ b. cond b empty (with_free u n)) second in
+        let seen : w.seen ≡ h = ap (λ (z : View). z.seen) is in
+        let retired : w.hands.retired ≡ v.hands.retired = ap (λ (z : View). z.hands.retired) is in
+        subst (λ (z : List Mark × List Retired). k.slots ≤ finite.len (map_of (updates_of z.0)) + length z.1 + 20 * (k.places - 1)) (λ i. (sym seen i, sym retired i))
+        (empty_is_full k m vs h i id v at (record { works = works; reserved = needs.unreserved; hand = needs.empty; owes = paid; moving = still }) none);
+  }
+
+  -- by the kind of step, what is gained
+  pub gains : (c : Case) (w : View) → Works v → Needs k v c → After v (noted v c (said_by (what v c).access (m (what v c).field))) c h (said_by (what v c).access (m (what v c).field)) w → Gains k v c h (said_by (what v c).access (m (what v c).field)) w
+  gains K6 w works needs after = left_gives w after.0 after.1 (ap (λ (z : View). z.seen) after.2)
+  gains (K7 low high) w works needs after = are_gone w low high (ap (λ (z : View). z.seen) after)
+  gains (K9 slot keep) w works needs after = is_apart k m vs h i id v at slot
+  gains (K10 expected) w works needs after = finds_full expected w works needs after
+  gains (K11 slot) w works needs after = was_no_own slot needs.0
+  gains (K13 slot) w works needs after = is_others slot needs.0 works
+  gains (K12 slot field number) w works needs after = is_apart k m vs h i id v at slot
+  gains (K15 slot) w works needs after = is_apart k m vs h i id v at slot
+  gains (K20 slot b leaf) w works needs after = counted w needs.1.0 _ (ap (λ (z : View). z.seen) after.8) refl needs.1.7.has_commit.commit_is needs.1.7.has_commit.unmade
+  gains (K21 parent b node child) w works needs after = record { counted = counted w needs.1.0 _ (ap (λ (z : View). z.seen) after.4) refl needs.1.4.has_commit.commit_is needs.1.4.has_commit.unmade; one_key = one_key k m vs h i id v at node }
+  gains (K25 parent b node copy old old_parent) w works needs after = record {
+    deletes = record { counted = counted w needs.1.0 _ (ap (λ (z : View). z.seen) after.8) refl needs.1.7.has_commit.commit_is needs.1.7.has_commit.unmade; one_key = one_key k m vs h i id v at node };
+    next = λ r held next is spare key.
+        let n = needs.1.7 in
+        let mine : IsRecordOf v node needs.1.1 = record { kept = n.records.records.kept; found = (parent, b, n.records.records.found.0, n.records.records.found.1); now = inr n.marked } in
+        let keys : needs.1.1.key ≡ r.key = (one_key k m vs h i id v at node).same needs.1.1 r mine is in
+        let one : Some needs.1.2 ≡ Some held = sym n.spare_is.0 ∙ spare in
+        let same : needs.1.2 ≡ held = cc in
+        let two : Some needs.1.5 ≡ Some next = sym n.key_is ∙ ap (λ (z : Held). known_in z.known (Key copy)) same ∙ key in
+        let last : needs.1.5 ≡ next = cc in
+        subst (λ (z : ℕ × ℕ). IsNextKey h z.0 z.1) (λ i. (keys i, last i)) (copy_next k m vs h i id v at needs.1.0 needs.1.1 needs.1.2 parent b node copy old old_parent needs.1.3 needs.1.4 needs.1.5 needs.1.6 works n);
+  }
+  gains (K36 slot value) w works needs after = record {
+    counted = counted w needs.1.0 _ (ap (λ (z : View). z.seen) after.4) refl needs.1.3.has_commit.commit_is needs.1.3.has_commit.unmade;
+    one_key = one_key k m vs h i id v at slot;
+    was = λ r old is known. value_now k m vs h i id v at slot r old (i.front.settled id v at needs.1.0 needs.1.3.has_commit.commit_is needs.1.3.has_commit.unmade) is known;
+  }
+  gains (K30 class side) w works needs after = left_gives w after.0 after.1 (ap (λ (z : View). z.seen) after.2)
+  gains (K34 class) w works needs after = left_gives w after.0 after.1 (ap (λ (z : View). z.seen) after.2)
+  gains K37 w works needs after = looks_again
+  gains _ w works needs after = tt

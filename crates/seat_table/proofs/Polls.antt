@@ -1,0 +1,107 @@
+-- Polls of any waiter: what its tests show, and from look to look.
+use Rattle.std.proofs.Common.{◌≡◌, ◌≢◌, ℕ, ◌<◌, ◌≤◌, ◌⊎◌, inl, inr, ⊎_elim, ◌==◌, ◌||◌, nat_le, nat_lt, Bool, true, false, List, ◌++◌, Some, refl, sym, subst, ◌∙◌, arith, eq-eqb}
+use Rattle.std.proofs.lemmas.Bool.{eqb-true, ltb-true, leb-true, lt-ltb, and_from, and_parts, or_cases, or_left, or_right, le-leb}
+use Rattle.prcu_marks.specs.declared.mark.Mark.{Mark}
+use Rattle.prcu_marks.specs.declared.mark.Why.{Why}
+use Rattle.core_state.specs.declared.shape.Shape.{Shape}
+use Rattle.core_state.specs.declared.shape.Waiter.TheVariants.{Domain}
+use Rattle.core_state.specs.declared.words.Field.{Field}
+use Rattle.core_state.specs.declared.words.Kind.{Kind}
+use Rattle.core_state.specs.declared.view.Waiting.{Waiting}
+use Rattle.core_state.specs.declared.view.View.{View}
+use Rattle.core_state.specs.memory.Memory.{idle}
+use Rattle.core_state.specs.steps.Seating.{stepped}
+use Rattle.core_state.specs.steps.Waits.{keys_of, is_for, excuses, with_excused, after_look}
+use Rattle.key_interval.specs.Keys.{Interval, Holds, MeetsClass}
+use Rattle.list_laws.specs.Counts.{times}
+use Rattle.seat_table.specs.declared.wait.Grace.{Grace}
+use Rattle.seat_table.specs.declared.wait.Poll.TheVariants.{NotYet}
+use Rattle.seat_table.specs.Gains.{Sees, IsInformed}
+use Rattle.seat_table.specs.Waits.{reached, HasReached, Shows, HasLooked, HasEnded, ended_by, IsGoingOn, IsOver, Polled, Passed}
+use Rattle.seat_table.specs.Looks.{HasPassed, HasMet}
+use Rattle.seat_table.proofs.Waiting.{step_of, look_passes, look_stays, looks_on, looks_end, have_left, shows_later, shows_by}
+
+bool_cases : (b : Bool) → (b ≡ true) ⊎ (b ≡ false)
+bool_cases true = inl refl
+bool_cases false = inr refl
+
+falsely : (b : Bool) → (b ≡ true → ⊥) → b ≡ false
+falsely b never = ⊎_elim (λ (t : b ≡ true). absurd (never t)) (λ (f : b ≡ false). f) (bool_cases b)
+
+pub not_so : {P : Type 0} (b : Bool) → (P → b ≡ true) → b ≡ false → P → ⊥
+not_so b then is p = absurd (let e : true ≡ false = sym (then p) ∙ is in cc)
+
+-- A stamp that is idle or above the wait's clock is no reader's for whom the wait is.
+module _ (clock stamp : ℕ) where
+  pub stamp_idle : stamp ≡ idle → (stamp == idle || nat_lt clock stamp) ≡ true
+  stamp_idle is = or_left (stamp == idle) (nat_lt clock stamp) (eq-eqb stamp idle is)
+
+  pub stamp_late : clock < stamp → (stamp == idle || nat_lt clock stamp) ≡ true
+  stamp_late late = or_right (stamp == idle) (nat_lt clock stamp) (lt-ltb clock stamp late)
+
+  pub stamp_stays : stamp ≢ idle → stamp ≤ clock → (stamp == idle || nat_lt clock stamp) ≡ false
+  stamp_stays busy early = falsely (stamp == idle || nat_lt clock stamp) (λ t. ⊎_elim
+      (λ (e : (stamp == idle) ≡ true). busy (eqb-true stamp idle e))
+      (λ (l : nat_lt clock stamp ≡ true). let m : clock < stamp = ltb-true clock stamp l in absurd (omega (arith, m, early)))
+      (or_cases (stamp == idle) (nat_lt clock stamp) t))
+
+-- Nor is a key outside the interval.
+module _ (wait : Waiting) (keys : Interval) (key : ℕ) (low : wait.low ≡ keys.low) (high : wait.high ≡ keys.high) where
+  pub key_out : (Holds keys key → ⊥) → is_for wait key ≡ false
+  key_out out = falsely (is_for wait key) (λ t.
+      let p = and_parts (nat_le wait.low key) (nat_le key wait.high) t in
+      let a : wait.low ≤ key = leb-true wait.low key p.0 in
+      let b : key ≤ wait.high = leb-true key wait.high p.1 in
+      out (omega (arith, a, low), omega (arith, b, high)))
+
+  pub key_in : Holds keys key → is_for wait key ≡ true
+  key_in inside = and_from (nat_le wait.low key) (nat_le key wait.high) (le-leb wait.low key (omega (arith, inside.0, low))) (le-leb key wait.high (omega (arith, inside.1, high)))
+
+-- one load, as its call tells it
+module _ (v w : View) (kind : Kind) (field : Field) (wait : Waiting) (found : ℕ) (last : Bool) (h : List Mark) (was : v.wait ≡ Some wait) (sees : Sees v h) (after : (other : Waiting) × (v.wait ≡ Some other) × (w ≡ after_look (stepped v kind field found) other field last found h)) (informed : IsInformed w) where
+  look_is : w ≡ after_look (stepped v kind field found) wait field last found h
+  look_is =
+      let one : Some after.0 ≡ Some wait = sym after.1 ∙ was in
+      let same : after.0 ≡ wait = cc in
+      subst (λ z. w ≡ after_look (stepped v kind field found) z field last found h) same after.2
+
+  pub load_passes : excuses wait field found ≡ true → Passed v wait last (step_of kind field found) field w
+  load_passes is = look_passes v w kind field wait found h was sees informed last is look_is
+
+  pub load_stays : excuses wait field found ≡ false → HasLooked v wait (step_of kind field found) wait w
+  load_stays is = look_stays v w kind field wait found h was sees informed last is look_is
+
+-- from look to look
+module _ {W : Type 0} (k : Shape) (v u w : View) (grace : Grace W) (come : IsGoingOn k v grace u) where
+  same_was : (wait : Waiting) → u.wait ≡ Some wait → wait ≡ come.2
+  same_was wait was = let one : Some wait ≡ Some come.2 = sym was ∙ come.4.wait_is in cc
+
+  pub goes_on : (next : Grace W) (field : Field) → HasPassed u false field w → HasReached k next.keys next.clock (reached next) (with_excused come.2 field) → IsGoingOn k v next w
+  goes_on next field p there =
+      let second = subst (λ z. HasLooked u z p.1 (with_excused z field) w) (same_was p.0 p.2) p.3 in
+      (come.0, come.1 ++ p.1, with_excused come.2 field, come.3, looks_on v u w come.0 come.2 (with_excused come.2 field) come.1 p.1 come.4 second, there)
+
+  pub is_not_yet : (why : Why) → HasMet u why w → Polled k v (NotYet why) grace w
+  is_not_yet why p =
+      let same = same_was p.0 p.2 in
+      let second = subst (λ z. HasLooked u z p.1 z w) same p.3 in
+      let shows = shows_later come.1 p.1 come.2 why (subst (λ z. Shows z p.1 why) same p.4) in
+      (come.0, come.1 ++ p.1, come.2, come.3, looks_on v u w come.0 come.2 come.2 come.1 p.1 come.4 second, come.5, shows_by come.0 come.2 come.4.same (come.1 ++ p.1) why shows)
+
+  pub is_over : (field : Field) → HasPassed u true field w → (k.waiter ≡ Domain → (c : ℕ) → c < 64 → MeetsClass (keys_of come.2) c → times c come.2.turned ≡ 1) → IsOver k v w
+  is_over field p each =
+      let second = subst (λ z. HasEnded u z p.1 (ended_by z field) w) (same_was p.0 p.2) p.3 in
+      let ended = looks_end v u w come.0 come.2 (ended_by come.2 field) come.1 p.1 come.4 second in
+      record {
+        wait = come.0;
+        steps = come.1 ++ p.1;
+        new = ended_by come.2 field;
+        was = come.3;
+        ended = ended;
+        turned = record { only = come.5.met; each = each };
+        left = have_left v come.0 (come.1 ++ p.1) (ended_by come.2 field) w ended;
+      }
+
+  -- the same for waiters that turn no gates
+  pub ends : (field : Field) → HasPassed u true field w → (k.waiter ≡ Domain → ⊥) → IsOver k v w
+  ends field p never = is_over field p (λ domain. absurd (never domain))

@@ -1,0 +1,180 @@
+-- What several steps told, one after another: a section is entered, left, and a wait is begun.
+use Rattle.std.specs.List.{AllByRecursion}
+use Rattle.std.proofs.Common.{◌≡◌, ℕ, Bool, true, cond, append_assoc, append-nil, eq-eqb, ◌%◌, ◌^◌, ◌<◌, List, [], ◌∷◌, ◌++◌, length, Some, None, refl, sym, ap, subst, ◌∙◌}
+use mathlib.Core.List.{IsPrefix}
+use Rattle.prcu_model.proofs.ListFacts.{all_append, prefix_trans}
+use Rattle.prcu_marks.specs.declared.mark.Mark.{Mark}
+use Rattle.prcu_marks.specs.declared.mark.Mark.TheVariants.{Entered, Left}
+use Rattle.prcu_marks.specs.Marks.{is_of, own_of}
+use Rattle.prcu_marks.proofs.MarkLists.{own_of-append}
+use Rattle.core_frames.proofs.views.SeatFacts.{works_there}
+use Rattle.core_state.specs.declared.shape.Shape.{Shape}
+use Rattle.core_state.specs.declared.words.Field.{Field}
+use Rattle.core_state.specs.declared.words.Kind.{Kind}
+use Rattle.core_state.specs.declared.words.Kind.TheVariants as kinds
+use Rattle.core_state.specs.declared.view.Clocked.{Clocked}
+use Rattle.core_state.specs.declared.view.Section.{Section}
+use Rattle.core_state.specs.declared.view.StepMade.{StepMade}
+use Rattle.core_state.specs.declared.view.Trail.{Trail}
+use Rattle.core_state.specs.declared.view.View.{View}
+use Rattle.core_state.specs.steps.Seating.{stepped}
+use Rattle.core_state.specs.steps.Sections.{after_clock_load, after_announce, NeedsEnterByStamp, gated, gate_in, NeedsEnterByCount, NeedsEnterByRow, entering, new_section, leaving}
+use Rattle.core_state.specs.steps.Waits.{after_begin}
+use Rattle.key_interval.specs.Keys.{class_of}
+use Rattle.seat_table.specs.declared.case.Case.TheVariants.{K3, K4, K5, K6, K7, K28, K29, K30, K33, K34}
+use Rattle.seat_table.specs.Cases.{noted}
+use Rattle.seat_table.specs.Gains.{Sees, IsInformed, GivesAnswer, LeavesAnswer}
+use Rattle.seat_table.specs.Told.{Told}
+use Rattle.seat_table.specs.Sections.{Leaves, Makes, is_entry, is_exit, HasEntered, HasLeft, HasBegun}
+
+-- Steps that are made one after another.
+pub made_none : (which : Kind → Bool) (a : Trail) → Makes which a a
+made_none which a = record { steps = []; each = tt; trail = sym (ap (λ (l : List StepMade). record a { steps = l }) (append-nil a.steps)) }
+
+pub made_more : (which : Kind → Bool) (a : Trail) (w : View) (kind : Kind) (field : Field) (number : ℕ) → which kind ≡ true → Makes which a w.trail → Makes which a (stepped w kind field number).trail
+made_more which a w kind field number is m =
+    let t : StepMade = record { kind = kind; field = field; number = number } in
+    record {
+      steps = m.steps ++ t ∷ [];
+      each = all_append (λ (t : StepMade). which t.kind ≡ true) m.steps (t ∷ []) m.each (is, tt);
+      trail = (λ i. record (m.trail i) { steps = (m.trail i).steps ++ t ∷ [] }) ∙ (λ i. record a { steps = append_assoc a.steps m.steps (t ∷ []) i });
+    }
+
+all_of : (f g : Kind → Bool) → ((kind : Kind) → f kind ≡ true → g kind ≡ true) → (ts : List StepMade) → AllByRecursion (λ (t : StepMade). f t.kind ≡ true) ts → AllByRecursion (λ (t : StepMade). g t.kind ≡ true) ts
+all_of f g more [] all = tt
+all_of f g more (t ∷ ts) all = (more t.kind all.0, all_of f g more ts all.1)
+
+pub made_both : (f g h : Kind → Bool) → ((kind : Kind) → f kind ≡ true → h kind ≡ true) → ((kind : Kind) → g kind ≡ true → h kind ≡ true) → (a b c : Trail) → Makes f a b → Makes g b c → Makes h a c
+made_both f g h first second a b c m n = record {
+  steps = m.steps ++ n.steps;
+  each = all_append (λ (t : StepMade). h t.kind ≡ true) m.steps n.steps (all_of f h first m.steps m.each) (all_of g h second n.steps n.each);
+  trail = n.trail ∙ (λ i. record (m.trail i) { steps = (m.trail i).steps ++ n.steps }) ∙ (λ i. record a { steps = append_assoc a.steps m.steps n.steps i });
+}
+
+-- One mark after another: what was seen is a beginning of what is seen then.
+pub seen_more : (v w : View) (mark : Mark) → Leaves v mark w → IsPrefix v.seen w.seen
+seen_more v w mark leaves =
+    let more = leaves.seen.begins in
+    (more.0 ++ mark ∷ [], sym (append_assoc v.seen more.0 (mark ∷ [])) ∙ ap (λ l. l ++ mark ∷ []) more.1 ∙ sym leaves.marked)
+
+-- and the marks of the own place are one more
+pub own_more : (v w : View) (mark : Mark) → is_of v.allowance.place mark ≡ true → Leaves v mark w → own_of v.allowance.place w.seen ≡ own_of v.allowance.place v.seen ++ mark ∷ []
+own_more v w mark mine leaves =
+    ap (own_of v.allowance.place) leaves.marked ∙ own_of-append v.allowance.place leaves.before (mark ∷ [])
+    ∙ ap (λ l. l ++ own_of v.allowance.place (mark ∷ [])) (sym (leaves.seen.own v.allowance.place (works_there v leaves.seen.works)))
+    ∙ ap (λ b. own_of v.allowance.place v.seen ++ cond b (mark ∷ []) []) mine
+
+-- A section that is entered from a view in which only what was done for it changed.
+entered_from : (v u w : View) (key stamp clocked : ℕ) (h : List Mark) → Makes is_entry v.trail u.trail → u ≡ record v { enter = u.enter; trail = u.trail } → Sees u h → w ≡ entering u key stamp clocked h → IsInformed w → HasEntered v key w
+entered_from v u w key stamp clocked h made same sees is told = subst (HasEntered v key) (sym is)
+    (subst (λ z. Sees z h → IsInformed (entering z key stamp clocked h) → HasEntered v key (entering z key stamp clocked h)) (sym same)
+    (λ s i. record {
+      leaves = record { before = h; seen = record { works = s.works; begins = s.begins; own = s.own }; marked = refl };
+      section = new_section (record v { enter = u.enter; trail = u.trail }) key stamp clocked h;
+      inside = refl;
+      key_is = refl;
+      count_is = refl;
+      no_list = refl;
+      from_is = refl;
+      reading_is = refl;
+      made = made;
+      others = refl;
+      informed = i;
+    }) sees (subst IsInformed is told))
+
+-- the first waiter: the clock, the key, then the stamp
+module _ (k : Shape) (v : View) (key stamp : ℕ) (v1 v2 : View) (first : Told k v K3 stamp v1) (second : Told k v1 (K4 key) key v2) where
+  abbrev announced : View
+  announced = after_announce (noted (after_clock_load (noted v K3 stamp) stamp first.0) (K4 key) key) key
+
+  second_is : v2 ≡ announced
+  second_is = second.2 ∙ ap (λ z. after_announce (noted z (K4 key) key) key) first.2
+
+  -- what the third step of enter needs
+  pub needs_entry : v.section ≡ None → v.locks ≡ [] → key < 2 ^ 64 → (clocked : Clocked) × NeedsEnterByStamp v2 key stamp clocked
+  needs_entry outside free fits =
+      let clocked : Clocked = record { number = stamp; at = length first.0 } in
+      (clocked, subst (λ z. NeedsEnterByStamp z key stamp clocked) (sym second_is) (record { entry = record { outside = outside; free = free; key_fits = fits }; clock = refl; stamp_is = refl; announced = refl }))
+
+  pub entered : (w : View) → Told k v2 (K5 key stamp) stamp w → HasEntered v key w
+  entered w third =
+      let s = third.1 in
+      entered_from v (noted v2 (K5 key stamp) stamp) w key third.2.0.number third.2.0.at third.0
+      (subst (λ z. Makes is_entry v.trail (noted z (K5 key stamp) stamp).trail) (sym second_is) (made_more is_entry v.trail announced kinds.K5 _ _ refl (made_more is_entry v.trail (after_clock_load (noted v K3 stamp) stamp first.0) kinds.K4 _ _ refl (made_more is_entry v.trail v kinds.K3 _ _ refl (made_none is_entry v.trail)))))
+      (subst (λ z. noted z (K5 key stamp) stamp ≡ record v { enter = z.enter; trail = (noted z (K5 key stamp) stamp).trail }) (sym second_is) refl) (record { works = s.works; begins = s.begins; own = s.own }) third.2.3 third.3
+
+-- the third waiter: the clock, then the stamp
+module _ (k : Shape) (v v1 : View) (key stamp : ℕ) (first : Told k v K3 stamp v1) where
+  pub needs_row : v.section ≡ None → v.locks ≡ [] → key < 2 ^ 64 → (clocked : Clocked) × NeedsEnterByRow v1 key stamp clocked
+  needs_row outside free fits =
+      let clocked : Clocked = record { number = stamp; at = length first.0 } in
+      (clocked, subst (λ z. NeedsEnterByRow z key stamp clocked) (sym first.2) (record { entry = record { outside = outside; free = free; key_fits = fits }; clock = refl; stamp_is = refl }))
+
+  pub entered_row : (w : View) → Told k v1 (K33 key stamp) stamp w → HasEntered v key w
+  entered_row w second =
+      let s = second.1 in
+      entered_from v (noted v1 (K33 key stamp) stamp) w key second.2.0.number second.2.0.at second.0
+      (subst (λ z. Makes is_entry v.trail (noted z (K33 key stamp) stamp).trail) (sym first.2) (made_more is_entry v.trail (after_clock_load (noted v K3 stamp) stamp first.0) kinds.K33 _ _ refl (made_more is_entry v.trail v kinds.K3 _ _ refl (made_none is_entry v.trail))))
+      (subst (λ z. noted z (K33 key stamp) stamp ≡ record v { enter = z.enter; trail = (noted z (K33 key stamp) stamp).trail }) (sym first.2) refl) (record { works = s.works; begins = s.begins; own = s.own }) second.2.3 second.3
+
+-- the second waiter: the gate, then the count
+module _ (k : Shape) (v v1 : View) (key gate : ℕ) (outside : v.section ≡ None) (first : Told k v (K28 (class_of key)) gate v1) where
+  abbrev read : View
+  read = noted v (K28 (class_of key)) gate
+
+  gate_is : v1 ≡ gated read (class_of key) gate None
+  gate_is = first.2 ∙ ap (gated read (class_of key) gate) outside
+
+  pub needs_count : (side : ℕ) → v.locks ≡ [] → key < 2 ^ 64 → side ≡ gate % 2 → (g : ℕ) × NeedsEnterByCount v1 key side g
+  needs_count side free fits side_is = (gate, subst (λ z. NeedsEnterByCount z key side gate) (sym gate_is) (record { entry = record { outside = outside; free = free; key_fits = fits }; gate_is = ap (λ same. cond same (Some gate) (gate_in v.enter.gates (class_of key))) (eq-eqb (class_of key) (class_of key) refl); side_is = side_is }))
+
+  pub entered_count : (w : View) (side found : ℕ) → Told k v1 (K29 key side) found w → HasEntered v key w
+  entered_count w side found second =
+      let s = second.1 in
+      entered_from v (noted v1 (K29 key side) found) w key side (length second.0) second.0
+      (subst (λ z. Makes is_entry v.trail (noted z (K29 key side) found).trail) (sym gate_is) (made_more is_entry v.trail (gated read (class_of key) gate None) kinds.K29 _ _ refl (made_more is_entry v.trail v kinds.K28 _ _ refl (made_none is_entry v.trail))))
+      (subst (λ z. noted z (K29 key side) found ≡ record v { enter = z.enter; trail = (noted z (K29 key side) found).trail }) (sym gate_is) refl) (record { works = s.works; begins = s.begins; own = s.own }) second.2 second.3
+
+-- A section is left by one step.
+left_by : (v w : View) (kind : Kind) (field : Field) (number : ℕ) (section : Section) (h : List Mark) → is_exit kind ≡ true → v.section ≡ Some section → Sees v h → w ≡ leaving (stepped v kind field number) section h → LeavesAnswer v w → IsInformed w → HasLeft v w
+left_by v w kind field number section h exit was sees is answers informed = subst (HasLeft v) (sym is) (record {
+  section = section;
+  was = was;
+  leaves = record { before = h; seen = sees; marked = refl };
+  outside = refl;
+  made = made_more is_exit v.trail v kind field number exit (made_none is_exit v.trail);
+  others = refl;
+  answer = subst (λ z. GivesAnswer z section) (ap (λ (z : View). z.seen) is) (answers.answer section was);
+  informed = subst IsInformed is informed;
+})
+
+pub left : (k : Shape) (v w : View) (found : ℕ) → Told k v K6 found w → HasLeft v w
+left k v w found told = left_by v w kinds.K6 _ found told.2.0 told.0 refl told.2.1 told.1 told.2.2 told.5 told.3
+
+pub left_count : (k : Shape) (v w : View) (class side found : ℕ) → Told k v (K30 class side) found w → HasLeft v w
+left_count k v w class side found told = left_by v w kinds.K30 _ found told.2.0 told.0 refl told.2.1 told.1 told.2.2 told.5 told.3
+
+pub left_row : (k : Shape) (v w : View) (class found : ℕ) → Told k v (K34 class) found w → HasLeft v w
+left_row k v w class found told = left_by v w kinds.K34 _ found told.2.0 told.0 refl told.2.1 told.1 told.2.2 told.5 told.3
+
+-- A section is entered and left.
+module _ (v mid w : View) (key : ℕ) (first : HasEntered v key mid) (second : HasLeft mid w) where
+  pub visit_seen : IsPrefix v.seen w.seen
+  visit_seen = prefix_trans v.seen mid.seen w.seen (seen_more v mid _ first.leaves) (seen_more mid w _ second.leaves)
+
+  pub visit_own : own_of v.allowance.place w.seen ≡ own_of v.allowance.place v.seen ++ Entered v.allowance.place v.counts.sections key ∷ Left v.allowance.place v.counts.sections ∷ []
+  visit_own =
+      let place : mid.allowance.place ≡ v.allowance.place = ap (λ (z : View). z.allowance.place) first.others in
+      let one : Some first.section ≡ Some second.section = sym first.inside ∙ second.was in
+      let same : first.section ≡ second.section = cc in
+      let count : second.section.count ≡ v.counts.sections = ap (λ (z : Section). z.count) (sym same) ∙ first.count_is in
+      let a = own_more v mid _ (eq-eqb v.allowance.place v.allowance.place refl) first.leaves in
+      let b = own_more mid w _ (eq-eqb mid.allowance.place mid.allowance.place refl) second.leaves in
+      let c : own_of v.allowance.place w.seen ≡ own_of v.allowance.place mid.seen ++ Left v.allowance.place v.counts.sections ∷ [] = subst (λ (z : ℕ × ℕ). own_of z.0 w.seen ≡ own_of z.0 mid.seen ++ Left z.0 z.1 ∷ []) (λ i. (place i, count i)) b in
+      c ∙ ap (λ l. l ++ Left v.allowance.place v.counts.sections ∷ []) a ∙ append_assoc (own_of v.allowance.place v.seen) (Entered v.allowance.place v.counts.sections key ∷ []) (Left v.allowance.place v.counts.sections ∷ [])
+
+pub begun : (k : Shape) (v w : View) (low high found : ℕ) → Told k v (K7 low high) found w → HasBegun v low high w
+begun k v w low high found told =
+    let h : List Mark = told.0 in
+    let is : w ≡ after_begin (noted v (K7 low high) found) low high found h = told.2 in
+    subst (HasBegun v low high) (sym is) (record { clock = found; leaves = record { before = h; seen = told.1; marked = refl }; wait_is = refl; made = refl; others = refl; informed = subst IsInformed is told.3 })

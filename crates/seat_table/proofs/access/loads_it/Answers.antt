@@ -1,0 +1,20 @@
+use Rattle.std.proofs.Common.{rules}
+use Rattle.core_state.specs.declared.shape.Shape.{Shape}
+use Rattle.seat_table.specs.Seats.{shape_of}
+use Rattle.seat_table.specs.Told.{tells}
+use Rattle.seat_table.proofs.Facts.{has_field, word_below}
+use Rattle.seat_table.proofs.Allowed.{allows_load, same_shape, as_table}
+use Rattle.seat_table.proofs.access.loads_it.Goals as goal
+
+pub load-requires : goal.load-requires
+load-requires g c =
+    let way = g.W.WaitWords.WAY in
+    let k : Shape = shape_of way c.args.table.now in
+    let key : Shape = c.table.inside.table.shared.key in
+    let asks = c.requires.asks in
+    let same = same_shape way key k (search rules) (search rules) in (
+      search rules,
+      word_below way c.args.table.now c.args.seat.now.me.0 asks.room c.args.case c.args.word _ asks.at (search rules) asks.side asks.needs,
+      as_table key k g.A.Detail.shape g.A.Detail.case c.args.case _ _ _ _ (λ n. n) (λ k z n me. tells k z c.args.seat.now.me n me) same c.requires.picked.0 c.requires.picked.1
+          (allows_load k _ _ c.args.seat.now.me c.args.case c.args.word (has_field way c.args.table.now c.args.seat.now.me.0 asks.room c.args.case asks.side asks.needs) asks.at asks.room.works asks.needs asks.does),
+    )

@@ -1,0 +1,167 @@
+-- What a call takes from the rule after a step.
+-- Source: docs/TREE.md, "What a step sees".
+use Rattle.std.specs.Prelude.{◌≡◌, ◌≢◌, ℕ, ◌+◌, ◌-◌, ◌*◌, ◌<◌, ◌≤◌, ◌⊎◌, false, List, length, Some, None}
+use Rattle.std.specs.FinMap as finite
+use mathlib.Core.List.{IsPrefix}
+use Rattle.prcu_marks.specs.declared.mark.Mark.{Mark}
+use Rattle.prcu_marks.specs.declared.mark.Side.{Side}
+use Rattle.prcu_marks.specs.Marks.{updates_of, own_of}
+use Rattle.prcu_model.specs.History.{IsLegal}
+use Rattle.prcu_model.specs.Dictionary.{map_of, WasSaid}
+use Rattle.core_state.specs.declared.shape.Shape.{Shape}
+use Rattle.core_state.specs.declared.shape.Waiter.TheVariants.{Domain}
+use Rattle.core_state.specs.declared.words.Field.{Field}
+use Rattle.core_state.specs.declared.words.Field.TheVariants.{Clock, Front, Free, Lock, Life, Key, Value, Tag}
+use Rattle.prcu_marks.specs.declared.commit.Commit.{Commit}
+use Rattle.core_state.specs.declared.view.Fact.{Fact}
+use Rattle.core_state.specs.declared.view.Gap.{Gap}
+use Rattle.core_state.specs.declared.view.Held.{Held}
+use Rattle.core_state.specs.declared.view.Listing.{Listing}
+use Rattle.core_state.specs.declared.view.Reading.{Reading}
+use Rattle.core_state.specs.declared.view.Retired.{Retired}
+use Rattle.core_state.specs.declared.view.SearchState.TheVariants.{Found, Missed}
+use Rattle.core_state.specs.declared.view.Section.{Section}
+use Rattle.core_state.specs.declared.view.View.{View}
+use Rattle.list_laws.specs.Counts.{times, IsIn, Each}
+use Rattle.core_state.specs.memory.Lists.{IsEven}
+use Rattle.core_state.specs.memory.Memory.{slot_count}
+use Rattle.core_state.specs.Marks.{Grace, Reuse}
+use Rattle.core_state.specs.parts.ListingParts.{IsBetween}
+use Rattle.core_state.specs.parts.TreeParts.{map_now}
+use Rattle.core_state.specs.steps.Slots.{IsInHand, IsSpare, IsRetiredAt}
+use Rattle.core_state.specs.views.Known.{known_in, known_under, lock_of}
+use Rattle.core_state.specs.views.Views.{Works, places_of, slots_of}
+use Rattle.seat_table.specs.Cases.{IsRecordOf}
+use Rattle.seat_table.specs.declared.case.Case.{Case}
+use Rattle.seat_table.specs.declared.case.Case.TheVariants.{K6, K7, K9, K10, K11, K12, K13, K15, K20, K21, K25, K30, K34, K36, K37}
+
+-- All marks at a step: the view, which works at a place, has seen a beginning of them, and all marks of each place for which it answers.
+pub record Sees (v : View) (h : List Mark) : Type 0 where
+  pub works : Works v
+  pub begins : IsPrefix v.seen h
+  pub own : (p : ℕ) → 1 ≤ times p (places_of v) → own_of p v.seen ≡ own_of p h
+
+-- What a seat has seen: its updates are a history, waits outlast the readers they are for, and no slot is used again that an open
+-- reader may meet. Its waits with its tickets are few, and so are the gates that it turned.
+pub record IsInformed (w : View) : Type 0 where
+  pub legal : IsLegal (updates_of w.seen)
+  pub grace : Grace w.seen
+  pub reuse : Reuse w.seen
+  pub few_waits : w.counts.waits + w.allowance.tickets ≤ 1099511627776
+  pub few_turns : w.counts.turns ≤ 70368744177664
+
+-- how large the number in a word can be
+abbrev pub WordFits : Shape → Field → ℕ → Type 0
+WordFits k Clock n = n ≤ 1099511627776
+WordFits k Front n = n ≤ 2199023255553
+WordFits k Free n = n ≤ 2097217
+WordFits k (Lock s) n = n ≤ k.places
+WordFits k (Life s) n = n ≤ 2199023255553
+WordFits k (Tag s b) n = n ≤ 1099511627776
+WordFits k _ n = Unit {0}
+
+-- a slot of the table; its number fits 32 bits
+pub record IsSlot (k : Shape) (s : ℕ) : Type 0 where
+  pub inside : s < slot_count k
+  pub fits : s < 4294967296
+
+-- The slots at which the open section has stood are the table's, and so is that of its listing.
+pub record StoodInside (k : Shape) (w : View) : Type 0 where
+  pub stood : (section : Section) (s : ℕ) → w.section ≡ Some section → IsIn section.reading.stood s → IsSlot k s
+  pub listed : (section : Section) (listing : Listing) → w.section ≡ Some section → section.listing ≡ Some listing → IsSlot k listing.slot
+
+-- The side of an open section of the second waiter is 0 or 1.
+pub record HasSide (k : Shape) (w : View) : Type 0 where
+  pub small : (section : Section) → w.section ≡ Some section → k.waiter ≡ Domain → section.stamp < 2
+
+-- What the search of a section found, the dictionary said at some front since the section was entered.
+pub record GivesAnswer (seen : List Mark) (section : Section) : Type 0 where
+  pub absent : (slot : ℕ) (b : Side) → section.listing ≡ None → section.reading.state ≡ Missed slot b → WasSaid (updates_of seen) section.key section.from None
+  pub present : (slot parent value : ℕ) (b : Side) → section.listing ≡ None → section.reading.state ≡ Found slot parent b (Some value) → WasSaid (updates_of seen) section.key section.from (Some value)
+
+-- after a section was left
+pub record LeavesAnswer (v w : View) : Type 0 where
+  pub answer : (section : Section) → v.section ≡ Some section → GivesAnswer w.seen section
+
+-- After a wait was begun: the retired slots are the table's, and were unlinked before the latest mark.
+pub record AreGone (k : Shape) (v w : View) : Type 0 where
+  pub each : (r : Retired) → IsIn v.hands.retired r → (r.slot < slot_count k) × (r.unlinked + 1 < length w.seen)
+
+-- the dictionary is as large as Full asks for, with the slots that the place has retired
+abbrev pub IsFull : Shape → View → Type 0
+IsFull k w = k.slots ≤ finite.len (map_of (updates_of w.seen)) + length w.hands.retired + 20 * (k.places - 1)
+
+-- after the free count was found
+pub record FindsFull (k : Shape) (v : View) (found : ℕ) (w : View) : Type 0 where
+  pub full : found ≡ 0 → v.moving ≡ None → v.hands.owes ≡ false → IsFull k w
+
+-- No slot that is in hand or the spare is a retired one.
+pub record IsApart (v : View) (slot : ℕ) : Type 0 where
+  pub not_both : (held : Held) → IsInHand v held slot ⊎ IsSpare v held slot → (i : ℕ) (r : Retired) → IsRetiredAt v i r slot → ⊥
+
+-- A slot that was found free was none of the place's own.
+pub record WasNoOwn (v : View) (slot found : ℕ) : Type 0 where
+  pub none : found ≡ 0 → times slot (slots_of v) ≡ 0
+
+-- A lock that was found taken is another's, where the place doesn't hold it.
+pub record IsOthers (v : View) (slot found : ℕ) : Type 0 where
+  pub other : lock_of v.locks slot ≡ None → found ≢ v.allowance.place + 1
+
+-- After an update: the front that was found shows how many updates there are.
+pub record IsCounted (v w : View) : Type 0 where
+  pub found : (commit : Commit) → v.commit ≡ Some commit → commit.found + 2 ≡ 2 * length (updates_of w.seen)
+
+-- All records that the place keeps of the node as it is now are of one key.
+pub record HasOneKey (v : View) (node : ℕ) : Type 0 where
+  pub same : (r other : Reading) → IsRecordOf v node r → IsRecordOf v node other → r.key ≡ other.key
+
+pub record Deletes (v w : View) (node : ℕ) : Type 0 where
+  pub counted : IsCounted v w
+  pub one_key : HasOneKey v node
+
+-- the least key above a key
+pub record IsNextKey (h : List Mark) (key next : ℕ) : Type 0 where
+  pub above : key < next
+  pub there : (value : ℕ) × (map_now h next ≡ Some value)
+  pub least : (y : ℕ) → key < y → y < next → map_now h y ≡ None
+
+-- The spare's key, where a copy is linked, is the next key that the dictionary had.
+pub record Moves (v w : View) (h : List Mark) (node copy : ℕ) : Type 0 where
+  pub deletes : Deletes v w node
+  pub next : (r : Reading) (held : Held) (next : ℕ) → IsRecordOf v node r → v.hands.spare ≡ Some held → known_in held.known (Key copy) ≡ Some next → IsNextKey h r.key next
+
+-- The value loaded under the lock, where it is replaced, is the one that the dictionary had.
+pub record Replaces (v w : View) (h : List Mark) (slot : ℕ) : Type 0 where
+  pub counted : IsCounted v w
+  pub one_key : HasOneKey v slot
+  pub was : (r : Reading) (value : ℕ) → IsRecordOf v slot r → known_in (known_under v slot) (Value slot) ≡ Some value → map_now h r.key ≡ Some value
+
+-- What a listing found is so of the dictionary now, after half as many updates as the front says; the section saw fewer or as many.
+pub record IsListedNow (h : List Mark) (section : Section) (listing : Listing) : Type 0 where
+  pub front : listing.front ≡ 2 * length (updates_of h)
+  pub since : section.from ≤ length (updates_of h)
+  pub facts : Each listing.facts (λ (f : Fact). map_now h f.key ≡ Some f.value)
+  pub gaps : Each listing.gaps (λ (gap : Gap). (y : ℕ) → IsBetween gap y → map_now h y ≡ None)
+
+-- after a later look that found the even number which the first one found
+pub record LooksAgain (v : View) (h : List Mark) (found : ℕ) : Type 0 where
+  pub same : (section : Section) (listing : Listing) → v.section ≡ Some section → section.listing ≡ Some listing → IsEven found → found ≡ listing.front → IsListedNow h section listing
+
+-- by the kind of step, with the view before, all marks before, the number found and the view after
+abbrev pub Gains : Shape → View → Case → List Mark → ℕ → View → Type 0
+Gains k v K6 h found w = LeavesAnswer v w
+Gains k v (K7 low high) h found w = AreGone k v w
+Gains k v (K9 slot keep) h found w = IsApart v slot
+Gains k v (K10 expected) h found w = FindsFull k v found w
+Gains k v (K11 slot) h found w = WasNoOwn v slot found
+Gains k v (K12 slot field number) h found w = IsApart v slot
+Gains k v (K13 slot) h found w = IsOthers v slot found
+Gains k v (K15 slot) h found w = IsApart v slot
+Gains k v (K20 slot b leaf) h found w = IsCounted v w
+Gains k v (K21 parent b node child) h found w = Deletes v w node
+Gains k v (K25 parent b node copy old old_parent) h found w = Moves v w h node copy
+Gains k v (K30 class side) h found w = LeavesAnswer v w
+Gains k v (K34 class) h found w = LeavesAnswer v w
+Gains k v (K36 slot value) h found w = Replaces v w h slot
+Gains k v K37 h found w = LooksAgain v h found
+Gains k v _ h found w = Unit {0}

@@ -1,0 +1,101 @@
+-- What a clause sees of a seat and of a table.
+-- Source: docs/TREE.md, "The tree's table".
+use Rattle.std.specs.Prelude.{◌≡◌, ℕ, zero, suc, ◌+◌, ◌≤◌, ◌==◌, ◌&&◌, Bool, true, false, not, filter, List, map, Option, Some, None}
+use Rattle.atomic_table.specs.Seated.{TableId}
+use Rattle.core_state.specs.declared.shape.Shape.{Shape}
+use Rattle.core_state.specs.declared.shape.Waiter.{Waiter}
+use Rattle.core_state.specs.declared.shape.Waiter.TheVariants.{Eer, Domain, Deer}
+use Rattle.core_state.specs.declared.view.Held.{Held}
+use Rattle.core_state.specs.declared.view.Retired.{Retired}
+use Rattle.core_state.specs.declared.view.Section.{Section}
+use Rattle.core_state.specs.declared.view.View.{View}
+use Rattle.list_laws.specs.Counts.{times}
+use Rattle.core_state.specs.views.Views.{IsQuiet}
+
+-- the waiter with this number
+abbrev pub way_of : ℕ → Waiter
+way_of zero = Eer
+way_of (suc zero) = Domain
+way_of (suc (suc _)) = Deer
+
+-- a table: which it is, and for how many slots, places and tickets it was made
+pub record TableAt : Type 0 where
+  pub id : TableId
+  pub slots : ℕ
+  pub places : ℕ
+  pub tickets : ℕ
+
+-- the shape of a table with the waiter of this number
+abbrev pub shape_of : ℕ → TableAt → Shape
+shape_of way t = record { waiter = way_of way; slots = t.slots; places = t.places; tickets = t.tickets }
+
+-- a seat: of which table it is, what it knows, and the retired slots that it lists
+pub record SeatAt : Type 0 where
+  pub table : TableAt
+  pub view : View
+  pub listed : List ℕ
+
+-- The seat works at a place of the table, which has at most 64.
+pub record HasPlace (t : TableAt) (v : View) : Type 0 where
+  pub works : 1 ≤ v.allowance.places
+  pub inside : v.allowance.place + v.allowance.places ≤ t.places
+  pub few_places : t.places ≤ 64
+
+-- The waits of its place and its tickets are few, and so are the gates that it turned.
+pub record HasFew (v : View) : Type 0 where
+  pub waits : v.counts.waits + v.allowance.tickets ≤ 1099511627776
+  pub turns : v.counts.turns ≤ 70368744177664
+
+-- the key of the open section, if there is one
+abbrev pub IsInside : Option ℕ → Option Section → Type 0
+IsInside None None = Unit {0}
+IsInside None (Some section) = ⊥
+IsInside (Some key) None = ⊥
+IsInside (Some key) (Some section) = key ≡ section.key
+
+-- its stamp; for the second waiter its side
+abbrev pub IsStamp : ℕ → Option Section → Type 0
+IsStamp stamp None = Unit {0}
+IsStamp stamp (Some section) = stamp ≡ section.stamp
+
+-- the slot in hand, or the spare, if there is one
+abbrev pub IsSlotOf : Option ℕ → Option Held → Type 0
+IsSlotOf None None = Unit {0}
+IsSlotOf None (Some held) = ⊥
+IsSlotOf (Some slot) None = ⊥
+IsSlotOf (Some slot) (Some held) = slot ≡ held.slot
+
+-- what was last found or left in a word, or the first number where nothing was
+abbrev pub IsLastFound : ℕ → ℕ → Option ℕ → Type 0
+IsLastFound first number None = number ≡ first
+IsLastFound first number (Some latest) = number ≡ latest
+
+-- the shape that a table was told, with the waiter of this number
+abbrev pub with_way : ℕ → Shape → Shape
+with_way way k = record { waiter = way_of way; slots = k.slots; places = k.places; tickets = k.tickets }
+
+-- the slots that are listed, without one
+abbrev pub unlisted : ℕ → List ℕ → List ℕ
+unlisted slot xs = filter (λ x. not (x == slot)) xs
+
+-- whether a slot is the one in hand
+abbrev pub is_in_hand : Option Held → ℕ → Bool
+is_in_hand None slot = false
+is_in_hand (Some held) slot = held.slot == slot
+
+abbrev pub is_none : Option Held → Bool
+is_none None = true
+is_none (Some held) = false
+
+-- whether a store makes a retired slot the spare: its life is raised, where the place has no spare
+abbrev pub makes_spare : View → ℕ → ℕ → Bool
+makes_spare v slot field = field == 2 && (is_none v.hands.spare && not (is_in_hand v.hands.hand slot))
+
+-- The listed slots are the retired ones, each once.
+pub record AreListed (s : SeatAt) : Type 0 where
+  pub each : (slot : ℕ) → times slot s.listed ≡ times slot (map (λ (r : Retired). r.slot) s.view.hands.retired)
+
+-- The seat is quiet: outside a section, with nothing held, owed or under way; each retired slot is listed, and none was raised.
+pub record IsQuietSeat (s : SeatAt) : Type 0 where
+  pub view : IsQuiet s.view
+  pub listed : AreListed s

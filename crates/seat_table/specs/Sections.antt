@@ -1,0 +1,81 @@
+-- What is made of a view by entering a section, by leaving it, and by beginning a wait.
+-- Source: docs/TREE.md, "The tree's sections".
+use Rattle.std.specs.Prelude.{◌≡◌, ℕ, ◌+◌, ◌-◌, Bool, true, false, List, [], ◌∷◌, ◌++◌, length, Some, None}
+use Rattle.std.specs.List.{AllByRecursion}
+use Rattle.prcu_marks.specs.declared.mark.Mark.{Mark}
+use Rattle.prcu_marks.specs.declared.mark.Mark.TheVariants.{Entered, Left, Began}
+use Rattle.prcu_marks.specs.Marks.{updates_of}
+use Rattle.core_state.specs.declared.words.Field.TheVariants.{Clock}
+use Rattle.core_state.specs.declared.words.Kind.{Kind}
+use Rattle.core_state.specs.declared.words.Kind.TheVariants.{K3, K4, K5, K6, K7, K28, K29, K30, K33, K34}
+use Rattle.core_state.specs.declared.view.Section.{Section}
+use Rattle.core_state.specs.declared.view.StepMade.{StepMade}
+use Rattle.core_state.specs.declared.view.Trail.{Trail}
+use Rattle.core_state.specs.declared.view.View.{View}
+use Rattle.core_state.specs.steps.Seating.{stepped}
+use Rattle.core_state.specs.steps.Sections.{fresh_reading}
+use Rattle.core_state.specs.steps.Waits.{new_wait}
+use Rattle.seat_table.specs.Gains.{Sees, IsInformed, GivesAnswer}
+
+-- One mark was left, after all marks that there were then; of these the seat has seen a beginning, and all of its places.
+pub record Leaves (v : View) (mark : Mark) (w : View) : Type 0 where
+  pub before : List Mark
+  pub seen : Sees v before
+  pub marked : w.seen ≡ before ++ mark ∷ []
+
+-- More steps were made, each of one of these kinds.
+pub record Makes (which : Kind → Bool) (before after : Trail) : Type 0 where
+  pub steps : List StepMade
+  pub each : AllByRecursion (λ (t : StepMade). which t.kind ≡ true) steps
+  pub trail : after ≡ record before { steps = before.steps ++ steps }
+
+-- the kinds of step by which a section is entered, and left
+abbrev pub is_entry : Kind → Bool
+is_entry K3 = true
+is_entry K4 = true
+is_entry K5 = true
+is_entry K28 = true
+is_entry K29 = true
+is_entry K33 = true
+is_entry _ = false
+
+abbrev pub is_exit : Kind → Bool
+is_exit K6 = true
+is_exit K30 = true
+is_exit K34 = true
+is_exit _ = false
+
+-- A section with this key was entered at the seat's place, and its search stands at the root. Nothing else of what the seat knows
+-- changed.
+pub record HasEntered (v : View) (key : ℕ) (w : View) : Type 0 where
+  pub leaves : Leaves v (Entered v.allowance.place v.counts.sections key) w
+  pub section : Section
+  pub inside : w.section ≡ Some section
+  pub key_is : section.key ≡ key
+  pub count_is : section.count ≡ v.counts.sections
+  pub no_list : section.listing ≡ None
+  pub from_is : section.from ≡ length (updates_of leaves.before)
+  pub reading_is : section.reading ≡ fresh_reading key
+  pub made : Makes is_entry v.trail w.trail
+  pub others : w ≡ record v { enter = w.enter; section = w.section; counts = record v.counts { sections = v.counts.sections + 1 }; trail = w.trail; seen = w.seen }
+  pub informed : IsInformed w
+
+-- The open section was left. What its search found, the dictionary said at some front since it was entered.
+pub record HasLeft (v : View) (w : View) : Type 0 where
+  pub section : Section
+  pub was : v.section ≡ Some section
+  pub leaves : Leaves v (Left v.allowance.place section.count) w
+  pub outside : w.section ≡ None
+  pub made : Makes is_exit v.trail w.trail
+  pub others : w ≡ record v { enter = w.enter; section = None; records = section.reading ∷ v.records; trail = w.trail; seen = w.seen }
+  pub answer : GivesAnswer w.seen section
+  pub informed : IsInformed w
+
+-- A wait for these keys was begun at the seat's place, by one step and with one of its tickets.
+pub record HasBegun (v : View) (low high : ℕ) (w : View) : Type 0 where
+  pub clock : ℕ
+  pub leaves : Leaves v (Began v.allowance.place v.counts.waits low high) w
+  pub wait_is : w.wait ≡ Some (new_wait v low high clock leaves.before)
+  pub made : w.trail ≡ (stepped v K7 Clock clock).trail
+  pub others : w ≡ record v { allowance = record v.allowance { tickets = v.allowance.tickets - 1 }; wait = w.wait; counts = record v.counts { waits = v.counts.waits + 1 }; trail = w.trail; seen = w.seen }
+  pub informed : IsInformed w

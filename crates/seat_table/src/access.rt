@@ -1,0 +1,211 @@
+//! The accesses to a word: each step of a kind is one of them.
+ghost use Rattle.std.specs.Prelude.{◌≡◌, ◌≤◌};
+ghost use Rattle.seat_table.specs.Seats.{shape_of};
+ghost use Rattle.seat_table.specs.Cases.{loads, stores, exchanges, adds, subtracts, flips};
+ghost use Rattle.seat_table.specs.Told.{Asks, Told};
+
+use crate::case::Case;
+use crate::rule::Nothing;
+use crate::table::CitrusTable;
+use crate::told::{Detail, Told as Tells};
+use crate::waiter::WaitWords;
+use atomic_table::Seat;
+use core_state::View;
+use std::marker::Brand;
+
+type Token = Seat<Nothing, View>;
+
+fn loads_it<W: WaitWords, A: Detail>(
+    table: &CitrusTable<W>,
+    seat: &mut Token,
+    case: Case,
+    word: usize,
+) -> u64
+    requires picked { (A.shape ≡ shape_of W.WAY table.now) × (A.case ≡ case) }
+    requires table { seat.old.table_id ≡ table.now.id }
+    requires asks { Asks W.WAY table.now seat.old.me.0 case loads word }
+    ensures seat { (seat.new.table_id ≡ seat.old.table_id) × (seat.new.me.1 ≡ seat.old.me.1) }
+    ensures told { Told (shape_of W.WAY table.now) seat.old.me.0 case result seat.new.me.0 }
+{
+    table.table.shared.load::<Tells<A>>(seat, word)
+}
+
+/// A load.
+pub(crate) fn load<W: WaitWords>(
+    table: &CitrusTable<W>,
+    seat: &mut Token,
+    case: Case,
+    word: usize,
+) -> u64
+    requires table { seat.old.table_id ≡ table.now.id }
+    requires asks { Asks W.WAY table.now seat.old.me.0 case loads word }
+    ensures seat { (seat.new.table_id ≡ seat.old.table_id) × (seat.new.me.1 ≡ seat.old.me.1) }
+    ensures told { Told (shape_of W.WAY table.now) seat.old.me.0 case result seat.new.me.0 }
+{
+    loads_it::<W, Brand>(table, seat, case, word)
+}
+
+fn stores_it<W: WaitWords, A: Detail>(
+    table: &CitrusTable<W>,
+    seat: &mut Token,
+    case: Case,
+    word: usize,
+    number: u64,
+)
+    requires picked { (A.shape ≡ shape_of W.WAY table.now) × (A.case ≡ case) }
+    requires table { seat.old.table_id ≡ table.now.id }
+    requires asks { Asks W.WAY table.now seat.old.me.0 case (stores number) word }
+    ensures seat { (seat.new.table_id ≡ seat.old.table_id) × (seat.new.me.1 ≡ seat.old.me.1) }
+    ensures told { Told (shape_of W.WAY table.now) seat.old.me.0 case number seat.new.me.0 }
+{
+    table.table.shared.store::<Tells<A>>(seat, word, number);
+}
+
+/// A store.
+pub(crate) fn store<W: WaitWords>(
+    table: &CitrusTable<W>,
+    seat: &mut Token,
+    case: Case,
+    word: usize,
+    number: u64,
+)
+    requires table { seat.old.table_id ≡ table.now.id }
+    requires asks { Asks W.WAY table.now seat.old.me.0 case (stores number) word }
+    ensures seat { (seat.new.table_id ≡ seat.old.table_id) × (seat.new.me.1 ≡ seat.old.me.1) }
+    ensures told { Told (shape_of W.WAY table.now) seat.old.me.0 case number seat.new.me.0 }
+{
+    stores_it::<W, Brand>(table, seat, case, word, number);
+}
+
+fn exchanges_it<W: WaitWords, A: Detail>(
+    table: &CitrusTable<W>,
+    seat: &mut Token,
+    case: Case,
+    word: usize,
+    old: u64,
+    new: u64,
+) -> u64
+    requires picked { (A.shape ≡ shape_of W.WAY table.now) × (A.case ≡ case) }
+    requires table { seat.old.table_id ≡ table.now.id }
+    requires asks { Asks W.WAY table.now seat.old.me.0 case (exchanges old new) word }
+    ensures seat { (seat.new.table_id ≡ seat.old.table_id) × (seat.new.me.1 ≡ seat.old.me.1) }
+    ensures told { Told (shape_of W.WAY table.now) seat.old.me.0 case result seat.new.me.0 }
+{
+    table
+        .table
+        .shared
+        .compare_exchange::<Tells<A>>(seat, word, old, new)
+}
+
+/// A compare-and-exchange.
+pub(crate) fn exchange<W: WaitWords>(
+    table: &CitrusTable<W>,
+    seat: &mut Token,
+    case: Case,
+    word: usize,
+    old: u64,
+    new: u64,
+) -> u64
+    requires table { seat.old.table_id ≡ table.now.id }
+    requires asks { Asks W.WAY table.now seat.old.me.0 case (exchanges old new) word }
+    ensures seat { (seat.new.table_id ≡ seat.old.table_id) × (seat.new.me.1 ≡ seat.old.me.1) }
+    ensures told { Told (shape_of W.WAY table.now) seat.old.me.0 case result seat.new.me.0 }
+{
+    exchanges_it::<W, Brand>(table, seat, case, word, old, new)
+}
+
+fn adds_it<W: WaitWords, A: Detail>(
+    table: &CitrusTable<W>,
+    seat: &mut Token,
+    case: Case,
+    word: usize,
+    number: u64,
+) -> u64
+    requires picked { (A.shape ≡ shape_of W.WAY table.now) × (A.case ≡ case) }
+    requires table { seat.old.table_id ≡ table.now.id }
+    requires asks { Asks W.WAY table.now seat.old.me.0 case (adds number) word }
+    ensures seat { (seat.new.table_id ≡ seat.old.table_id) × (seat.new.me.1 ≡ seat.old.me.1) }
+    ensures told { Told (shape_of W.WAY table.now) seat.old.me.0 case result seat.new.me.0 }
+{
+    table.table.shared.fetch_add::<Tells<A>>(seat, word, number)
+}
+
+/// An addition.
+pub(crate) fn add<W: WaitWords>(
+    table: &CitrusTable<W>,
+    seat: &mut Token,
+    case: Case,
+    word: usize,
+    number: u64,
+) -> u64
+    requires table { seat.old.table_id ≡ table.now.id }
+    requires asks { Asks W.WAY table.now seat.old.me.0 case (adds number) word }
+    ensures seat { (seat.new.table_id ≡ seat.old.table_id) × (seat.new.me.1 ≡ seat.old.me.1) }
+    ensures told { Told (shape_of W.WAY table.now) seat.old.me.0 case result seat.new.me.0 }
+{
+    adds_it::<W, Brand>(table, seat, case, word, number)
+}
+
+fn subtracts_it<W: WaitWords, A: Detail>(
+    table: &CitrusTable<W>,
+    seat: &mut Token,
+    case: Case,
+    word: usize,
+    number: u64,
+) -> u64
+    requires picked { (A.shape ≡ shape_of W.WAY table.now) × (A.case ≡ case) }
+    requires table { seat.old.table_id ≡ table.now.id }
+    requires one { number ≤ 1 }
+    requires asks { Asks W.WAY table.now seat.old.me.0 case (subtracts number) word }
+    ensures seat { (seat.new.table_id ≡ seat.old.table_id) × (seat.new.me.1 ≡ seat.old.me.1) }
+    ensures told { Told (shape_of W.WAY table.now) seat.old.me.0 case result seat.new.me.0 }
+{
+    table.table.shared.fetch_sub::<Tells<A>>(seat, word, number)
+}
+
+/// A subtraction of at most 1.
+pub(crate) fn subtract<W: WaitWords>(
+    table: &CitrusTable<W>,
+    seat: &mut Token,
+    case: Case,
+    word: usize,
+    number: u64,
+) -> u64
+    requires table { seat.old.table_id ≡ table.now.id }
+    requires one { number ≤ 1 }
+    requires asks { Asks W.WAY table.now seat.old.me.0 case (subtracts number) word }
+    ensures seat { (seat.new.table_id ≡ seat.old.table_id) × (seat.new.me.1 ≡ seat.old.me.1) }
+    ensures told { Told (shape_of W.WAY table.now) seat.old.me.0 case result seat.new.me.0 }
+{
+    subtracts_it::<W, Brand>(table, seat, case, word, number)
+}
+
+fn flips_it<W: WaitWords, A: Detail>(
+    table: &CitrusTable<W>,
+    seat: &mut Token,
+    case: Case,
+    word: usize,
+) -> u64
+    requires picked { (A.shape ≡ shape_of W.WAY table.now) × (A.case ≡ case) }
+    requires table { seat.old.table_id ≡ table.now.id }
+    requires asks { Asks W.WAY table.now seat.old.me.0 case flips word }
+    ensures seat { (seat.new.table_id ≡ seat.old.table_id) × (seat.new.me.1 ≡ seat.old.me.1) }
+    ensures told { Told (shape_of W.WAY table.now) seat.old.me.0 case result seat.new.me.0 }
+{
+    table.table.shared.fetch_xor::<Tells<A>>(seat, word, 1)
+}
+
+/// An exchange-xor with 1.
+pub(crate) fn flip<W: WaitWords>(
+    table: &CitrusTable<W>,
+    seat: &mut Token,
+    case: Case,
+    word: usize,
+) -> u64
+    requires table { seat.old.table_id ≡ table.now.id }
+    requires asks { Asks W.WAY table.now seat.old.me.0 case flips word }
+    ensures seat { (seat.new.table_id ≡ seat.old.table_id) × (seat.new.me.1 ≡ seat.old.me.1) }
+    ensures told { Told (shape_of W.WAY table.now) seat.old.me.0 case result seat.new.me.0 }
+{
+    flips_it::<W, Brand>(table, seat, case, word)
+}

@@ -1,0 +1,22 @@
+//! The search tree's table: its shared words, the seats that step on them, one call for each kind of atomic step, and the trait of the
+//! ways to wait.
+#![tactic(auto)]
+
+mod access;
+mod case;
+mod rule;
+mod seat;
+pub mod steps;
+mod table;
+mod told;
+mod wait;
+mod waiter;
+
+pub use case::Case;
+pub use seat::Seat;
+pub use table::CitrusTable;
+pub use wait::{Grace, Poll, WaitPart, wait_for_readers};
+pub use waiter::WaitWords;
+
+#[cfg(test)]
+mod tests;

@@ -1,0 +1,319 @@
+//! The seats on the table.
+ghost use Rattle.std.specs.Prelude.{◌≡◌, ℕ, ◌+◌, ◌-◌, ◌<◌, ◌≤◌, [], ◌∷◌, ◌++◌, length, Some};
+ghost use Rattle.list_laws.specs.Counts.{IsIn};
+ghost use Rattle.core_state.specs.declared.view.Section.{Section};
+ghost use Rattle.core_state.specs.declared.view.Retired.{Retired};
+ghost use Rattle.core_state.specs.steps.Seating.{NeedsSplit, first_of, second_of, both_of};
+ghost use Rattle.core_state.specs.steps.Slots.{IsRetiredAt};
+ghost use Rattle.core_state.specs.views.Known.{HasLock};
+ghost use Rattle.seat_table.specs.declared.case.Case.TheVariants.{K3};
+ghost use Rattle.seat_table.specs.Seats.{IsQuietSeat, IsInside, IsSlotOf, IsLastFound, shape_of};
+ghost use Rattle.seat_table.specs.Told.{Told};
+
+use crate::access::load;
+use crate::case::Case;
+use crate::rule::Nothing;
+use crate::table::CitrusTable;
+use crate::told::{Cut, Glue, Share};
+use crate::waiter::WaitWords;
+use arrayvec::ArrayVec;
+use core_state::View;
+use std::marker::{Brand, Model, PhantomData};
+
+/// What one caller steps with. A clause sees the table that it is of, what it knows, and the retired slots that it lists.
+#[derive(Drop)]
+pub struct Seat<W: WaitWords> {
+    pub(crate) seat: atomic_table::Seat<Nothing, View>,
+    pub(crate) slots: u32,
+    pub(crate) table_places: u32,
+    pub(crate) table_tickets: u64,
+    pub(crate) place: u32,
+    pub(crate) places: u32,
+    pub(crate) tickets: u64,
+    pub(crate) key: Option<u64>,
+    pub(crate) stamp: u64,
+    pub(crate) hand: Option<u32>,
+    pub(crate) spare: Option<u32>,
+    pub(crate) waits: u64,
+    pub(crate) turns: u64,
+    pub(crate) free: u64,
+    pub(crate) front: u64,
+    pub(crate) listed: ArrayVec<u32, 16>,
+    pub(crate) marker: PhantomData<W>,
+}
+
+impl<W: WaitWords> Model for Seat<W> {
+    ghost use Rattle.std.specs.Prelude.{◌≡◌, []};
+    ghost use Rattle.seat_table.specs.Gains.{HasSide};
+    ghost use Rattle.seat_table.specs.Seats.{SeatAt, HasPlace, HasFew, IsInside, IsStamp, IsSlotOf, IsLastFound, shape_of};
+
+    ghost Value = { SeatAt };
+
+    ghost view = { λ s. record { table = record { id = s.seat.table_id; slots = s.slots; places = s.table_places; tickets = s.table_tickets }; view = s.seat.me.0; listed = s.listed.items } };
+
+    ghost invariant = { λ s. (s.seat.me.1 ≡ []) × HasPlace (record { id = s.seat.table_id; slots = s.slots; places = s.table_places; tickets = s.table_tickets }) s.seat.me.0 × HasSide (shape_of W.WAY (record { id = s.seat.table_id; slots = s.slots; places = s.table_places; tickets = s.table_tickets })) s.seat.me.0 × HasFew s.seat.me.0 × (s.seat.me.0.allowance.place ≡ s.place) × (s.seat.me.0.allowance.places ≡ s.places) × (s.seat.me.0.allowance.tickets ≡ s.tickets) × IsInside s.key s.seat.me.0.section × IsStamp s.stamp s.seat.me.0.section × IsSlotOf s.hand s.seat.me.0.hands.hand × IsSlotOf s.spare s.seat.me.0.hands.spare × (s.seat.me.0.counts.waits ≡ s.waits) × (s.seat.me.0.counts.turns ≡ s.turns) × IsLastFound s.slots s.free s.seat.me.0.latest.free × IsLastFound 0 s.front s.seat.me.0.latest.front };
+}
+
+impl<W: WaitWords> Seat<W> {
+    /// The place at which the seat works.
+    pub fn place(&self) -> u32
+        ensures { result ≡ self.now.view.allowance.place }
+    {
+        self.place
+    }
+
+    /// How many more places it has, which it can give away.
+    pub fn unused(&self) -> u32
+        ensures { result + 1 ≡ self.now.view.allowance.places }
+    {
+        self.places - 1
+    }
+
+    /// How many tickets it has left.
+    pub fn tickets(&self) -> u64
+        ensures { result ≡ self.now.view.allowance.tickets }
+    {
+        self.tickets
+    }
+
+    /// The announced key of the open section, and `None` exactly outside one.
+    pub fn section(&self) -> Option<u64>
+        ensures { IsInside result self.now.view.section }
+    {
+        self.key
+    }
+
+    /// The side on which the open section of the second waiter counts.
+    pub fn side(&self) -> u32
+        requires way { W.WAY ≡ 1 }
+        requires inside { (section : Section) × (self.now.view.section ≡ Some section) }
+        ensures side { (section : Section) → self.now.view.section ≡ Some section → result ≡ section.stamp }
+        ensures small { result < 2 }
+    {
+        self.stamp as u32
+    }
+
+    /// The slot in hand, and `None` exactly where there is none.
+    pub fn in_hand(&self) -> Option<u32>
+        ensures { IsSlotOf result self.now.view.hands.hand }
+    {
+        self.hand
+    }
+
+    /// The slot that is kept for the copy of a successor, and `None` exactly where the place has none.
+    pub fn spare(&self) -> Option<u32>
+        ensures { IsSlotOf result self.now.view.hands.spare }
+    {
+        self.spare
+    }
+
+    /// The retired slots that are listed.
+    pub fn retired(&self) -> &[u32]
+        ensures { result.now ≡ self.now.listed }
+    {
+        self.listed.as_slice()
+    }
+
+    /// Lists a retired slot, as the last one.
+    pub fn list_retired(&mut self, slot: u32)
+        requires retired { (i : ℕ) × (r : Retired) × IsRetiredAt self.old.view i r slot }
+        requires unlocked { HasLock self.old.view slot → ⊥ }
+        requires unlisted { IsIn self.old.listed slot → ⊥ }
+        requires few { length self.old.listed < 16 }
+        ensures seat { (self.new.table ≡ self.old.table) × (self.new.view ≡ self.old.view) }
+        ensures listed { self.new.listed ≡ self.old.listed ++ slot ∷ [] }
+    {
+        self.listed.push(slot);
+    }
+
+    /// How many waits its place has begun.
+    pub fn waits(&self) -> u64
+        ensures { result ≡ self.now.view.counts.waits }
+    {
+        self.waits
+    }
+
+    /// How many gates it has turned.
+    pub fn turns(&self) -> u64
+        ensures { result ≡ self.now.view.counts.turns }
+    {
+        self.turns
+    }
+
+    /// What this place last found or left in the free count, at first the number of slots.
+    pub fn free_seen(&self) -> u64
+        ensures { IsLastFound self.now.table.slots result self.now.view.latest.free }
+    {
+        self.free
+    }
+
+    /// What this place last found or left in the front, at first 0.
+    pub fn front_seen(&self) -> u64
+        ensures { IsLastFound 0 result self.now.view.latest.front }
+    {
+        self.front
+    }
+}
+
+fn cut<W: WaitWords, A: Share>(
+    seat: Seat<W>,
+    table: &CitrusTable<W>,
+    away: u32,
+    tickets: u64,
+) -> (Seat<W>, Seat<W>)
+    requires picked { (A.places ≡ away) × (A.tickets ≡ tickets) }
+    requires table { seat.table ≡ table.now }
+    requires needs { NeedsSplit seat.view away tickets }
+    ensures seats { (result.0.table ≡ seat.table) × (result.1.table ≡ seat.table) × (result.0.listed ≡ seat.listed) × (result.1.listed ≡ []) }
+    ensures views { (result.0.view ≡ first_of away tickets seat.view) × (result.1.view ≡ second_of away tickets seat.view) }
+{
+    let Seat {
+        seat: mut first,
+        slots,
+        table_places,
+        table_tickets,
+        place,
+        places,
+        tickets: all,
+        key,
+        stamp,
+        hand,
+        spare,
+        waits,
+        turns,
+        free,
+        front,
+        listed,
+        marker,
+    } = seat;
+    let second = table.table.shared.split_seat::<Cut<A>>(&mut first);
+    let new_place = place + (places - away);
+    (
+        Seat {
+            seat: first,
+            slots,
+            table_places,
+            table_tickets,
+            place,
+            places: places - away,
+            tickets: all - tickets,
+            key,
+            stamp,
+            hand,
+            spare,
+            waits,
+            turns,
+            free,
+            front,
+            listed,
+            marker,
+        },
+        Seat {
+            seat: second,
+            slots,
+            table_places,
+            table_tickets,
+            place: new_place,
+            places: away,
+            tickets,
+            key: None,
+            stamp: 0,
+            hand: None,
+            spare: Some(new_place + 1),
+            waits: 0,
+            turns: 0,
+            free: slots as u64,
+            front: 0,
+            listed: ArrayVec::new(),
+            marker: PhantomData,
+        },
+    )
+}
+
+impl<W: WaitWords> Seat<W> {
+    /// Gives away the last of the unused places, and tickets. The second seat works at the first of these places. Both seats have seen
+    /// what this one has.
+    pub fn split(self, table: &CitrusTable<W>, places: u32, tickets: u64) -> (Seat<W>, Seat<W>)
+        requires table { self.table ≡ table.now }
+        requires quiet { IsQuietSeat self }
+        requires places { (1 ≤ places) × (places < self.view.allowance.places) }
+        requires tickets { tickets ≤ self.view.allowance.tickets }
+        ensures seats { (result.0.table ≡ self.table) × (result.1.table ≡ self.table) × (result.0.listed ≡ self.listed) × (result.1.listed ≡ []) }
+        ensures views { (result.0.view ≡ first_of places tickets self.view) × (result.1.view ≡ second_of places tickets self.view) }
+        ensures quiet { IsQuietSeat result.0 × IsQuietSeat result.1 }
+    {
+        cut::<W, Brand>(self, table, places, tickets)
+    }
+
+    /// This seat gets the other's tickets, and answers for its places from now on. It loads the clock once more, to learn
+    /// that all tickets together are few.
+    pub fn join(self, table: &CitrusTable<W>, other: Seat<W>) -> Seat<W>
+        requires table { (self.table ≡ table.now) × (other.table ≡ table.now) }
+        requires quiet { IsQuietSeat self × IsQuietSeat other }
+        ensures seat { (result.table ≡ self.table) × (result.listed ≡ self.listed) }
+        ensures told { (clock : ℕ) × Told (shape_of W.WAY table.now) (both_of self.view other.view) K3 clock result.view }
+        ensures quiet { IsQuietSeat result }
+    {
+        let Seat {
+            mut seat,
+            slots,
+            table_places,
+            table_tickets,
+            place,
+            places,
+            tickets,
+            key,
+            stamp,
+            hand,
+            spare,
+            waits,
+            turns,
+            free,
+            front,
+            listed,
+            marker,
+        } = self;
+        let Seat {
+            seat: theirs,
+            slots: _,
+            table_places: _,
+            table_tickets: _,
+            place: _,
+            places: _,
+            tickets: more,
+            key: _,
+            stamp: _,
+            hand: _,
+            spare: _,
+            waits: _,
+            turns: their_turns,
+            free: _,
+            front: _,
+            listed: _,
+            marker: _,
+        } = other;
+        table.table.shared.join_seat::<Glue>(&mut seat, theirs);
+        load(table, &mut seat, Case::K3, 0);
+        Seat {
+            seat,
+            slots,
+            table_places,
+            table_tickets,
+            place,
+            places,
+            tickets: tickets + more,
+            key,
+            stamp,
+            hand,
+            spare,
+            waits,
+            turns: turns + their_turns,
+            free,
+            front,
+            listed,
+            marker,
+        }
+    }
+}
+
+unsafe impl<W: WaitWords> Send for Seat<W> {}

@@ -1,0 +1,68 @@
+//! What each step tells. These types are for the proofs alone.
+ghost use Rattle.seat_table.specs.Told.{told};
+ghost use Rattle.core_state.specs.steps.Seating.{first_of, second_of, both_of, spent_view};
+
+use crate::rule::Nothing;
+use atomic_table::{Join, Play, Split};
+use core_state::View;
+use std::marker::{Brand, PhantomData};
+
+/// Which step it is, on a table of which shape. Each access picks it.
+pub(crate) trait Detail {
+    ghost use Rattle.core_state.specs.declared.shape.Shape.{Shape};
+    ghost use Rattle.seat_table.specs.declared.case.Case.{Case};
+
+    ghost shape: { Shape };
+
+    ghost case: { Case };
+}
+
+impl Detail for Brand {
+    ghost use Rattle.core_state.specs.declared.shape.Waiter.TheVariants.{Eer};
+    ghost use Rattle.seat_table.specs.declared.case.Case.TheVariants.{K3};
+
+    ghost shape = { record { waiter = Eer; slots = 0; places = 0; tickets = 0 } };
+
+    ghost case = { K3 };
+}
+
+pub(crate) struct Told<A> {
+    marker: PhantomData<A>,
+}
+
+impl<A: Detail> Play<Nothing, View> for Told<A> {
+    ghost then = { told A.shape A.case };
+}
+
+/// What a split gives away. Each call picks it.
+pub(crate) trait Share {
+    ghost use Rattle.std.specs.Prelude.{ℕ};
+
+    ghost places: { ℕ };
+
+    ghost tickets: { ℕ };
+}
+
+impl Share for Brand {
+    ghost places = { 0 };
+
+    ghost tickets = { 0 };
+}
+
+pub(crate) struct Cut<A> {
+    marker: PhantomData<A>,
+}
+
+impl<A: Share> Split<View> for Cut<A> {
+    ghost left = { first_of A.places A.tickets };
+
+    ghost right = { second_of A.places A.tickets };
+}
+
+pub(crate) struct Glue;
+
+impl Join<View> for Glue {
+    ghost both = { both_of };
+
+    ghost spent = { spent_view };
+}

@@ -1,0 +1,97 @@
+//! Waits, whatever the waiter.
+ghost use Rattle.std.specs.Prelude.{◌≡◌, ◌≤◌, [], Some, None};
+ghost use Rattle.core_state.specs.declared.view.Section.{Section};
+ghost use Rattle.seat_table.specs.Seats.{shape_of};
+ghost use Rattle.seat_table.specs.Sections.{HasEntered, HasLeft, HasBegun};
+ghost use Rattle.seat_table.specs.Waits.{IsLatestOf, Polled, HasWaited};
+
+use crate::seat::Seat;
+use crate::table::CitrusTable;
+use crate::waiter::WaitWords;
+use crossbeam_utils::Backoff;
+use key_interval::Keys;
+use prcu_marks::Why;
+use std::marker::PhantomData;
+use std::sync::Wait;
+
+/// A wait that is under way: its keys, its clock, and where the next poll goes on.
+#[derive(Drop)]
+pub struct Grace<W> {
+    pub keys: Keys,
+    pub clock: u64,
+    pub place: u32,
+    pub class: u32,
+    pub gate: u64,
+    pub turned: bool,
+    pub waiter: PhantomData<W>,
+}
+
+/// What a poll answers.
+#[derive(Clone, Copy, Debug, PartialEq, Eq)]
+pub enum Poll {
+    /// Each reader that the wait is for has left.
+    Over,
+    /// This poll found a reader that the wait is for, or a count or a stamp that may be one's.
+    NotYet { why: Why },
+}
+
+/// How readers show that they read, and how a wait looks for them.
+pub trait WaitPart: WaitWords {
+    /// Enters a section with this key.
+    fn enter(table: &CitrusTable<Self>, seat: &mut Seat<Self>, key: u64)
+        requires table { seat.old.table ≡ table.now }
+        requires outside { seat.old.view.section ≡ None }
+        requires unlocked { seat.old.view.locks ≡ [] }
+        ensures seat { (seat.new.table ≡ seat.old.table) × (seat.new.listed ≡ seat.old.listed) }
+        ensures entered { HasEntered seat.old.view key seat.new.view };
+
+    /// Leaves the open section.
+    fn leave(table: &CitrusTable<Self>, seat: &mut Seat<Self>)
+        requires table { seat.old.table ≡ table.now }
+        requires inside { (section : Section) × (seat.old.view.section ≡ Some section) }
+        ensures seat { (seat.new.table ≡ seat.old.table) × (seat.new.listed ≡ seat.old.listed) }
+        ensures left { HasLeft seat.old.view seat.new.view };
+
+    /// Begins a wait for the readers with one of these keys. An earlier grace of the seat isn't its latest any more.
+    fn begin(table: &CitrusTable<Self>, seat: &mut Seat<Self>, keys: Keys) -> Grace<Self>
+        requires table { seat.old.table ≡ table.now }
+        requires outside { seat.old.view.section ≡ None }
+        requires ticket { 1 ≤ seat.old.view.allowance.tickets }
+        ensures seat { (seat.new.table ≡ seat.old.table) × (seat.new.listed ≡ seat.old.listed) }
+        ensures begun { HasBegun seat.old.view keys.low keys.high seat.new.view }
+        ensures keys { result.keys ≡ keys }
+        ensures latest { IsLatestOf (shape_of Self.WAY table.now) result seat.new.view };
+
+    /// Looks for readers that the wait is for, from where the last poll stopped. `Over` comes where there is none any more; `NotYet`
+    /// comes where this poll loaded what it names.
+    fn poll(table: &CitrusTable<Self>, seat: &mut Seat<Self>, grace: &mut Grace<Self>) -> Poll
+        requires table { seat.old.table ≡ table.now }
+        requires latest { IsLatestOf (shape_of Self.WAY table.now) grace.old seat.old.view }
+        ensures seat { (seat.new.table ≡ seat.old.table) × (seat.new.listed ≡ seat.old.listed) }
+        ensures grace { (grace.new.keys ≡ grace.old.keys) × (grace.new.clock ≡ grace.old.clock) }
+        ensures polled { Polled (shape_of Self.WAY table.now) seat.old.view result grace.new seat.new.view };
+}
+
+/// Waits until each reader with one of these keys has left that is reading now.
+pub fn wait_for_readers<R: Wait, W: WaitPart>(
+    rt: &R,
+    table: &CitrusTable<W>,
+    seat: &mut Seat<W>,
+    keys: Keys,
+)
+    requires table { seat.old.table ≡ table.now }
+    requires outside { seat.old.view.section ≡ None }
+    requires ticket { 1 ≤ seat.old.view.allowance.tickets }
+    ensures seat { (seat.new.table ≡ seat.old.table) × (seat.new.listed ≡ seat.old.listed) }
+    ensures waited { HasWaited (shape_of W.WAY table.now) seat.old.view keys.low keys.high seat.new.view }
+{
+    let mut grace = W::begin(table, seat, keys);
+    let backoff = Backoff::new();
+    for _ in rt.forever() {
+        match W::poll(table, seat, &mut grace) {
+            Poll::Over => return,
+            Poll::NotYet { why: _ } => backoff.snooze(),
+        }
+    }
+    unreachable!()
+}
