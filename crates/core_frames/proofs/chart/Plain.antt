@@ -40,9 +40,9 @@ use Rattle.core_frames.specs.Laws.{LinksAreTree, FollowIsMap, Searches, answer_o
 use Rattle.core_state.specs.declared.view.SearchState.{SearchState}
 use Rattle.core_state.specs.declared.view.SearchState.TheVariants.{At, Unread, Found, Missed}
 use Rattle.list_laws.proofs.Lists.{at_one, in_append, total_part, times_append, times_in}
-use Rattle.core_frames.proofs.chart.Ranges.{bool_cases}
+use Rattle.core_frames.proofs.chart.Ranges.{bool_cases, range_of_side}
 use Rattle.core_frames.proofs.chart.Endings.{answer_is, end_of_range, one_end, same_end}
-use Rattle.core_frames.proofs.chart.Absent.{range_of_side, stops}
+use Rattle.core_frames.proofs.chart.Absent.{stops}
 use Rattle.core_frames.proofs.chart.Places.{place_told}
 use Rattle.core_frames.proofs.chart.Stands.{stands}
 use Rattle.core_frames.proofs.chart.Passes.{passes_pends}

@@ -154,9 +154,6 @@ module _ (z : LeafLink) where
   pub leaf_off : g.linked leaf ≡ false
   leaf_off = own_off m n g vs h i.slots id v there leaf leaf_own
 
-  apart : leaf ≢ slot
-  apart e = absurd (let q : false ≡ true = sym leaf_off ∙ ap g.linked e ∙ linked_slot in cc)
-
   pub some_leaf : leaf ≢ 0
   some_leaf e = absurd (let q : false ≡ true = sym leaf_off ∙ ap g.linked e ∙ i.tree.shape.root in cc)
 
