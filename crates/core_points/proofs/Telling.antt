@@ -59,7 +59,7 @@ module _ (k : Shape) (m : Memory) (vs : List View) (h : List Mark) (inv : HoldsN
       (let held = back.0 in
       let of = inv.slots.unlinked s held.at held.gone in
       subst (λ x. x < slot_count k) of.slot
-      (own_below m (slot_count k) inv.chart vs h inv.slots of.id of.view of.there of.retired.slot (of.view of.retired of.has))))
+      (own_below m (slot_count k) inv.chart vs h inv.slots of.id of.view of.there of.retired.slot (retired_own of.view of.retired of.has))))
       ((inv.readers.served id v there section e).stood s has).here
 
   -- a place without a spare has a retired slot
