@@ -22,7 +22,8 @@ use Rattle.list_laws.specs.Counts.{times}
 use Rattle.core_state.specs.memory.Lists.{flag}
 use Rattle.core_state.specs.views.Views.{slots_of}
 use Rattle.list_laws.proofs.Lists.{total_part}
-use Rattle.core_frames.proofs.chart.Plain.{retired_in_slots, gone_within}
+use Rattle.core_frames.proofs.chart.Plain.{gone_within}
+use Rattle.core_frames.proofs.views.Roles.{retired_own}
 use Rattle.core_frames.proofs.chart.Ranges.{bool_cases, next-right}
 use Rattle.core_frames.proofs.chart.Hops.{above, above_less, ends, last_of-ends, last_of-stop, last_of-hop}
 use Rattle.core_frames.proofs.chart.Endings.{ended_is}
@@ -101,7 +102,7 @@ module _ (k : Shape) (m : Memory) (vs : List View) (h : List Mark) (i : HoldsNow
 gone_out : (k : Shape) (m : Memory) (vs : List View) (h : List Mark) (i : HoldsNow k m vs h) (s p : ℕ) → gone_at s h ≡ Some p → i.chart.linked s ≡ false
 gone_out k m vs h i s p gone =
     let r = i.slots.unlinked s p gone in
-    let one = subst (λ z. 1 ≤ times z (slots_of r.view)) r.slot (retired_in_slots r.view r.retired r.has) in
+    let one = subst (λ z. 1 ≤ times z (slots_of r.view)) r.slot (retired_own r.view r.retired r.has) in
     let part = total_part (λ (v : View). times s (slots_of v)) vs r.id r.view r.there in
     let role = i.slots.roles.once s (gone_within k m vs h i s p gone) in
     ⊎_elim (λ l. absurd (let f = ap flag l in omega arith)) (λ l. l) (bool_cases (i.chart.linked s))

@@ -59,7 +59,7 @@ module _ (k : Shape) (m : Memory) (vs : List View) (h : List Mark) (inv : HoldsN
       (let held = back.0 in
       let of = inv.slots.unlinked s held.at held.gone in
       subst (λ x. x < slot_count k) of.slot
-      (own_below m (slot_count k) inv.chart vs h inv.slots of.id of.view of.there of.retired.slot (retired_own m (slot_count k) inv.chart vs h inv.slots of.id of.view of.there of.retired of.has))))
+      (own_below m (slot_count k) inv.chart vs h inv.slots of.id of.view of.there of.retired.slot (retired_own of.view of.retired of.has))))
       ((inv.readers.served id v there section e).stood s has).here
 
   -- a place without a spare has a retired slot
@@ -77,7 +77,7 @@ module _ (k : Shape) (m : Memory) (vs : List View) (h : List Mark) (inv : HoldsN
   pub tells_aside : TellsAside v
   tells_aside r s generation kept loaded known held is same =
       let a = alive k m vs h inv id v there r s generation (in_second (open_reading v.section) v.records r kept) loaded known in
-      let off = own_off m (slot_count k) inv.chart vs h inv.slots id v there held.slot (spare_own m (slot_count k) inv.chart vs h inv.slots id v there held is) in
+      let off = own_off m (slot_count k) inv.chart vs h inv.slots id v there held.slot (spare_own v held is) in
       absurd (let q : true ≡ false = sym a.on ∙ ap inv.chart.linked (sym same) ∙ off in cc)
 
   -- a pending move
@@ -97,13 +97,13 @@ module _ (k : Shape) (m : Memory) (vs : List View) (h : List Mark) (inv : HoldsN
   tells_held s (l, e) = (inv.locks.locked.held id v there s l e).1
 
   pub tells_hand : (held : Held) → v.hands.hand ≡ Some held → held.slot < slot_count k
-  tells_hand held is = own_below m (slot_count k) inv.chart vs h inv.slots id v there held.slot (hand_own m (slot_count k) inv.chart vs h inv.slots id v there held is)
+  tells_hand held is = own_below m (slot_count k) inv.chart vs h inv.slots id v there held.slot (hand_own v held is)
 
   pub tells_spare_within : (held : Held) → v.hands.spare ≡ Some held → held.slot < slot_count k
-  tells_spare_within held is = own_below m (slot_count k) inv.chart vs h inv.slots id v there held.slot (spare_own m (slot_count k) inv.chart vs h inv.slots id v there held is)
+  tells_spare_within held is = own_below m (slot_count k) inv.chart vs h inv.slots id v there held.slot (spare_own v held is)
 
   pub tells_retired : Each v.hands.retired (λ (r : Retired). r.slot < slot_count k)
-  tells_retired i r e = own_below m (slot_count k) inv.chart vs h inv.slots id v there r.slot (retired_own m (slot_count k) inv.chart vs h inv.slots id v there r (i, in_front v.hands.retired (joined_retired v.allowance.joined) i r e))
+  tells_retired i r e = own_below m (slot_count k) inv.chart vs h inv.slots id v there r.slot (retired_own v r (i, in_front v.hands.retired (joined_retired v.allowance.joined) i r e))
 
   pub tells_parent : (move : Move) → v.moving ≡ Some move → move.parent < slot_count k
   tells_parent move is = tells_held move.parent (inv.tree.moves.each id v there move is).parent_lock

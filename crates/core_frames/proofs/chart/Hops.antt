@@ -82,10 +82,7 @@ last_of-ends m x zero (suc fuel) a e w z le = stay m x fuel a e w z (cases_eq (n
     stay m x fuel a e w z (inl y) = rw y w
     stay m x fuel a e w z (inr y) = absurd (y (ap (next m x) w ∙ z))
 last_of-ends m x (suc k) zero a e w z le = absurd (omega arith)
-last_of-ends m x (suc k) (suc fuel) a e w z le = rw (one_hop m x fuel a w.0) (last_of-ends m x k fuel (next m x a) e w.1 z (omega arith))
-  where
-    one_hop : (m : Memory) (x fuel a : ℕ) → next m x a ≢ 0 → last_of m x (suc fuel) a ≡ last_of m x fuel (next m x a)
-    one_hop m x fuel a ne = grind (arith, nat_tests)
+last_of-ends m x (suc k) (suc fuel) a e w z le = rw (last_of-hop m x fuel a w.0) (last_of-ends m x k fuel (next m x a) e w.1 z (omega arith))
 
 -- one hop more at the end
 pub hops_more : (m : Memory) (x k a b c : ℕ) → Hops m x k a b → next m x b ≡ c → c ≢ 0 → Hops m x (suc k) a c

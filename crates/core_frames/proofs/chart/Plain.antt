@@ -15,16 +15,16 @@ use Rattle.prcu_marks.proofs.Histories.{said_now}
 use Rattle.core_state.specs.declared.shape.Shape.{Shape}
 use Rattle.core_state.specs.declared.words.Field.TheVariants.{Key, Link}
 use Rattle.core_state.specs.declared.view.Move.{Move}
-use Rattle.core_state.specs.declared.view.Retired.{Retired}
 use Rattle.core_state.specs.declared.view.Section.{Section}
 use Rattle.core_state.specs.declared.view.View.{View}
 use Rattle.list_laws.specs.Counts.{times, IsIn}
 use Rattle.core_state.specs.memory.Memory.{Memory, slot_count}
 use Rattle.core_state.specs.tree.Nodes.{last_of, follow, Hops}
-use Rattle.core_state.specs.views.Views.{retired_of, slots_of, spares_of, held_list, open_reading, readings_of}
+use Rattle.core_state.specs.views.Views.{slots_of, open_reading, readings_of}
 use Rattle.core_state.specs.declared.view.Reading.{Reading}
 use Rattle.core_state.specs.Marks.{begun}
 use Rattle.core_frames.proofs.marks.MarkFacts.{begun-append}
+use Rattle.core_frames.proofs.views.Roles.{retired_own}
 use Rattle.core_frames.proofs.views.Leaving.{record_of}
 use Rattle.core_state.specs.parts.ReaderParts.{GoesTo, StandsWell}
 use Rattle.prcu_marks.specs.declared.mark.Side.{Side}
@@ -39,10 +39,10 @@ use Rattle.core_state.specs.Invariant.{HoldsNow}
 use Rattle.core_frames.specs.Laws.{LinksAreTree, FollowIsMap, Searches, answer_of, SearchesAreAnswered, SearchesStand, FewPass, RecordsSay, StampsAreOld, StoodIsYoung}
 use Rattle.core_state.specs.declared.view.SearchState.{SearchState}
 use Rattle.core_state.specs.declared.view.SearchState.TheVariants.{At, Unread, Found, Missed}
-use Rattle.list_laws.proofs.Lists.{at_one, in_append, total_part, times_append, times_in}
-use Rattle.core_frames.proofs.chart.Ranges.{bool_cases}
+use Rattle.list_laws.proofs.Lists.{at_one, in_append, total_part}
+use Rattle.core_frames.proofs.chart.Ranges.{bool_cases, range_of_side}
 use Rattle.core_frames.proofs.chart.Endings.{answer_is, end_of_range, one_end, same_end}
-use Rattle.core_frames.proofs.chart.Absent.{range_of_side, stops}
+use Rattle.core_frames.proofs.chart.Absent.{stops}
 use Rattle.core_frames.proofs.chart.Places.{place_told}
 use Rattle.core_frames.proofs.chart.Stands.{stands}
 use Rattle.core_frames.proofs.chart.Passes.{passes_pends}
@@ -71,19 +71,11 @@ pub told_now : (k : Shape) (m : Memory) (vs : List View) (h : List Mark) → Hol
     → WasSaid (updates_of h) section.key section.from (map_now h section.key)
 told_now k m vs h i j u section e is = said_now (updates_of h) section.key section.from (let from = (i.seats.sections j u e section is).from in let before = updates_before h section.entered in omega arith)
 
--- a retired slot of a view is one of its slots
-pub retired_in_slots : (v : View) (r : Retired) → IsIn (retired_of v) r → 1 ≤ times r.slot (slots_of v)
-retired_in_slots v r has =
-    let a = times_append r.slot (held_list v.hands.hand) (spares_of v ++ map (λ (z : Retired). z.slot) (retired_of v)) in
-    let b = times_append r.slot (spares_of v) (map (λ (z : Retired). z.slot) (retired_of v)) in
-    let c = times_in (λ (z : Retired). z.slot) (retired_of v) r has in
-    omega arith
-
 -- an unlinked slot is one of the table's
 pub gone_within : (k : Shape) (m : Memory) (vs : List View) (h : List Mark) → HoldsNow k m vs h → (s p : ℕ) → gone_at s h ≡ Some p → s < slot_count k
 gone_within k m vs h i s p gone =
     let r = i.slots.unlinked s p gone in
-    let one = subst (λ z. 1 ≤ times z (slots_of r.view)) r.slot (retired_in_slots r.view r.retired r.has) in
+    let one = subst (λ z. 1 ≤ times z (slots_of r.view)) r.slot (retired_own r.view r.retired r.has) in
     let part = total_part (λ (v : View). times s (slots_of v)) vs r.id r.view r.there in
     dite (dec_le (slot_count k) s) (λ far. absurd (let none = i.slots.roles.beyond s far in omega arith)) (λ near. omega arith)
 

@@ -1,9 +1,9 @@
 -- The path of a search, by ranges.
-use Rattle.std.proofs.Common.{zero, suc, ◌≡◌, ◌≢◌, ℕ, ◌+◌, ◌<◌, ◌≤◌, ◌^◌, Bool, true, false, refl, sym, ◌∙◌, arith, ◌⊎◌, inl, inr}
+use Rattle.std.proofs.Common.{zero, suc, ◌≡◌, ◌≢◌, ℕ, ◌+◌, ◌<◌, ◌≤◌, ◌^◌, Bool, true, false, refl, sym, ap, ◌∙◌, arith, ◌⊎◌, inl, inr}
 use Rattle.std.proofs.lemmas.Bool.Decides.{nat_tests}
 use Rattle.std.proofs.lemmas.Bool.{cases_order}
 use Rattle.core_state.specs.tree.Nodes.{after, next, OnPath, root, down}
-use Rattle.core_state.specs.tree.Chart.{Chart, low_of, high_of, IsShaped, IsInRange}
+use Rattle.core_state.specs.tree.Chart.{Chart, low_of, high_of, Belongs, IsShaped, IsInRange}
 use Rattle.prcu_marks.specs.declared.mark.Side.{Side}
 use Rattle.prcu_marks.specs.declared.mark.Side.TheVariants.{Left, Right}
 use Rattle.core_state.specs.declared.words.Field.TheVariants.{Key, Link}
@@ -46,17 +46,26 @@ next_goes m g x (suc s) c i e ne = goes_on m g x (suc s) c i e ne (omega arith) 
     goes_on m g x s c i e ne nz (inl same) = absurd (ne (sym e ∙ next-here m x s nz (sym same)))
     goes_on m g x s c i e ne nz (inr (inr gt)) = (Right, sym (next-right m x s nz gt) ∙ e, rw after-node (omega arith), i.high)
 
--- the ranges below a side lie in the slot's
-pub side_in : (m : Memory) (n : ℕ) (g : Chart) (x s : ℕ) (b : Side) → IsShaped m n g → g.linked s ≡ true → m (Link s b) ≢ 0 → low_of m g s b ≤ x → x < high_of m g s b → IsInRange g x s
-side_in m n g x zero Left h l ne lo hi = absurd (ne h.root_left)
-side_in m n g x zero Right h l ne lo hi = record { linked = h.root; low = omega (arith, h.root_low); high = hi }
-side_in m n g x (suc s) b h l ne lo hi = node m n g x (suc s) b h l ne lo hi (omega arith) (bool_cases (g.old (suc s)))
+-- the ranges below a side lie in the slot's; below the root nothing is on the left
+pub side_within : (m : Memory) (n : ℕ) (g : Chart) (s : ℕ) (b : Side) → IsShaped m n g → g.linked s ≡ true → (s ≡ 0 → b ≡ Right) → (g.low s ≤ low_of m g s b) × (high_of m g s b ≤ g.high s)
+side_within m n g zero Left h l right = absurd (let e = right refl in cc)
+side_within m n g zero Right h l right = (omega (arith, h.root_low), omega arith)
+side_within m n g (suc s) b h l right = node (suc s) b l (omega arith) (bool_cases (g.old (suc s)))
   where
-    node : (m : Memory) (n : ℕ) (g : Chart) (x s : ℕ) (b : Side) → IsShaped m n g → g.linked s ≡ true → m (Link s b) ≢ 0 → low_of m g s b ≤ x → x < high_of m g s b → s ≢ 0 → (g.old s ≡ true) ⊎ (g.old s ≡ false) → IsInRange g x s
-    node m n g x s Left h l ne lo hi nz (inl o) = absurd (ne (h.displaced s l o).left)
-    node m n g x s Right h l ne lo hi nz (inl o) = record { linked = l; low = omega (arith, h.displaced s l o, after-node m s nz); high = hi }
-    node m n g x s Left h l ne lo hi nz (inr o) = record { linked = l; low = lo; high = omega (arith, h.keyed s l nz o) }
-    node m n g x s Right h l ne lo hi nz (inr o) = record { linked = l; low = omega (arith, h.keyed s l nz o, after-node m s nz); high = hi }
+    node : (s : ℕ) (b : Side) → g.linked s ≡ true → s ≢ 0 → (g.old s ≡ true) ⊎ (g.old s ≡ false) → (g.low s ≤ low_of m g s b) × (high_of m g s b ≤ g.high s)
+    node s Left l nz (inl o) = (omega arith, omega (arith, h.displaced s l o))
+    node s Right l nz (inl o) = (omega (arith, h.displaced s l o, after-node m s nz), omega arith)
+    node s Left l nz (inr o) = (omega arith, omega (arith, h.keyed s l nz o))
+    node s Right l nz (inr o) = (omega (arith, h.keyed s l nz o, after-node m s nz), omega arith)
+
+-- what belongs below a side is in the slot's range
+pub range_of_side : (m : Memory) (n : ℕ) (g : Chart) (x s : ℕ) (b : Side) → IsShaped m n g → g.linked s ≡ true → (s ≡ 0 → b ≡ Right) → Belongs m g x s b → IsInRange g x s
+range_of_side m n g x s b h l right k = let r = side_within m n g s b h l right in record { linked = l; low = omega (arith, k.0, r.0); high = omega (arith, k.1, r.1) }
+
+-- a side that leads on isn't the root's left
+pub leads_right : (m : Memory) (n : ℕ) (g : Chart) (s : ℕ) (b : Side) → IsShaped m n g → m (Link s b) ≢ 0 → s ≡ 0 → b ≡ Right
+leads_right m n g s Left h ne z = absurd (ne (ap (λ y. m (Link y Left)) z ∙ h.root_left))
+leads_right m n g s Right h ne z = refl
 
 -- the path of a search for x passes linked slots that have x in their range
 pub range_on_path : (m : Memory) (n : ℕ) (g : Chart) (x : ℕ) → IsShaped m n g → x < 2 ^ 64 → (s : ℕ) → OnPath m x s → IsInRange g x s
@@ -79,4 +88,4 @@ path_of_range m n g x h (suc fuel) (suc s) lt i =
     let ne : m (Link (g.up (suc s)) (g.side (suc s))) ≢ 0 = omega (arith, k.link) in
     let lo : low_of m g (g.up (suc s)) (g.side (suc s)) ≤ x = omega (arith, b.low, i.low) in
     let hi : x < high_of m g (g.up (suc s)) (g.side (suc s)) = omega (arith, b.high, i.high) in
-    down (path_of_range m n g x h fuel (g.up (suc s)) (omega (arith, b.rank)) (side_in m n g x (g.up (suc s)) (g.side (suc s)) h k.above ne lo hi)) (next-side m n g x (g.up (suc s)) (g.side (suc s)) h ne lo hi ∙ k.link) (omega arith)
+    down (path_of_range m n g x h fuel (g.up (suc s)) (omega (arith, b.rank)) (range_of_side m n g x (g.up (suc s)) (g.side (suc s)) h k.above (leads_right m n g (g.up (suc s)) (g.side (suc s)) h ne) (lo, hi))) (next-side m n g x (g.up (suc s)) (g.side (suc s)) h ne lo hi ∙ k.link) (omega arith)

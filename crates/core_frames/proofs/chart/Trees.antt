@@ -1,12 +1,12 @@
 -- The chart gives a tree.
-use Rattle.std.proofs.Common.{zero, suc, ◌≡◌, ◌≢◌, ℕ, ◌+◌, ◌<◌, ◌≤◌, true, false, refl, sym, ap, ◌∙◌, subst, arith, ◌⊎◌, inl, inr, ⊎_elim}
+use Rattle.std.proofs.Common.{zero, suc, ◌≡◌, ◌≢◌, ℕ, ◌+◌, ◌<◌, ◌≤◌, true, refl, sym, ap, ◌∙◌, subst, arith, ◌⊎◌, inl, inr, ⊎_elim}
 use Rattle.std.proofs.lemmas.Bool.{cases_eq}
 use mathlib.Core.Logic.{dite}
 use native.Mathlib.Decide.{ℕ_discrete}
-use Rattle.core_state.specs.tree.Chart.{Chart, low_of, high_of, IsShaped}
+use Rattle.core_state.specs.tree.Chart.{Chart, IsShaped}
 use Rattle.core_state.specs.tree.Tree.{Tree, Leaf, Node, Realises, In, Distinct, Ordered, IsTree}
 use Rattle.core_frames.proofs.chart.Hops.{above, above-lt}
-use Rattle.core_frames.proofs.chart.Ranges.{bool_cases, after-node}
+use Rattle.core_frames.proofs.chart.Ranges.{bool_cases, side_within, leads_right}
 use Rattle.prcu_marks.specs.declared.mark.Side.{Side}
 use Rattle.prcu_marks.specs.declared.mark.Side.TheVariants.{Left, Right}
 use Rattle.core_state.specs.declared.words.Field.TheVariants.{Key, Link}
@@ -98,25 +98,13 @@ module _ (m : Memory) (n : ℕ) (g : Chart) (h : IsShaped m n g) where
         distinct fuel (m (Link (suc s) Right)) r,
       )
 
-  -- the ranges below a side lie in the slot's range
-  side_within : (p : ℕ) (b : Side) → g.linked p ≡ true → m (Link p b) ≢ 0 → (g.low p ≤ low_of m g p b) × (high_of m g p b ≤ g.high p)
-  side_within zero Left l ne = absurd (ne h.root_left)
-  side_within zero Right l ne = (omega (arith, h.root_low), omega arith)
-  side_within (suc p) b l ne = node (suc p) b l ne (omega arith) (bool_cases (g.old (suc p)))
-    where
-      node : (s : ℕ) (b : Side) → g.linked s ≡ true → m (Link s b) ≢ 0 → s ≢ 0 → (g.old s ≡ true) ⊎ (g.old s ≡ false) → (g.low s ≤ low_of m g s b) × (high_of m g s b ≤ g.high s)
-      node s Left l ne nz (inl o) = absurd (ne (h.displaced s l o).left)
-      node s Right l ne nz (inl o) = (omega (arith, (h.displaced s l o).low, after-node m s nz), omega arith)
-      node s Left l ne nz (inr o) = (omega arith, omega (arith, (h.keyed s l nz o).high))
-      node s Right l ne nz (inr o) = (omega (arith, (h.keyed s l nz o).low, after-node m s nz), omega arith)
-
-  -- and so do those of all slots below it
+  -- the ranges of all slots below a slot lie in its range
   nested : (s x : ℕ) → Under g s x → (g.low s ≤ g.low x) × (g.high x ≤ g.high s)
   nested s x (same e) = (omega (arith, ap g.low e), omega (arith, ap g.high e))
   nested s x (lower l ne u) =
       let k = h.hangs x l ne in
       let w = h.below (g.up x) x (g.side x) k.above k.link ne in
-      let v = side_within (g.up x) (g.side x) k.above (λ z. ne (sym k.link ∙ z)) in
+      let v = side_within m n g (g.up x) (g.side x) h k.above (leads_right m n g (g.up x) (g.side x) h (λ z. ne (sym k.link ∙ z))) in
       let r = nested s (g.up x) u in
       (omega (arith, w.low, v.0, r.0), omega (arith, w.high, v.1, r.1))
 

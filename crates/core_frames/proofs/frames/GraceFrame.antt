@@ -1,6 +1,7 @@
 -- The parts on grace and reuse read what was waited for, by the views and by the marks, and the open sections. A step that ends no
 -- wait keeps them, where no section comes that was entered before the marks that come.
 use Rattle.std.proofs.Common.{◌≡◌, ℕ, ◌+◌, ◌<◌, ◌≤◌, ◌⊎◌, List, [], ◌∷◌, ◌++◌, length, set, Some, None, sym, ap, subst, ◌∙◌, ⊎_elim, arith, Bool, true}
+use Rattle.std.proofs.lemmas.List.{take-append-le}
 use mathlib.Core.Option.{some}
 use lib.ListN.{get_elem?}
 use Rattle.prcu_marks.specs.declared.mark.Mark.{Mark}
@@ -17,7 +18,7 @@ use Rattle.core_state.specs.Marks.{Grace, IsReused, Reuse, HasWaited}
 use Rattle.core_state.specs.parts.GraceParts.{IsClear, IsWaitedRetired, IsWaitedMove, GraceParts}
 use Rattle.list_laws.proofs.Lists.{at_below, at_end, each_set, each_change}
 use Rattle.prcu_marks.proofs.LastUnlinked.{last_unlinked-below}
-use Rattle.core_frames.proofs.marks.MarkFacts.{IsOutside, TurnsNoWait, QuietMarks, take-more}
+use Rattle.core_frames.proofs.marks.MarkFacts.{IsOutside, TurnsNoWait, QuietMarks}
 use Rattle.core_frames.proofs.views.Same.{was}
 use mathlib.Core.List.{IsPrefix}
 use Rattle.core_frames.proofs.marks.MoreMarks.{QuietWaits, back_at, longer_at, prefix_snoc, waits_snoc}
@@ -55,7 +56,7 @@ pub reuse_more : (h : List Mark) (m : Mark) → ((s : ℕ) → IsReused m s → 
 reuse_more h m none reuse j s i p a o at used last there =
     ⊎_elim
     (λ (old : get_elem? h j ≡ some a).
-    (let same = take-more h (m ∷ []) j (let l = at_below h j a old in omega arith) in
+    (let same = take-append-le j h (m ∷ []) (let l = at_below h j a old in omega arith) in
     reuse j s i p a o old used (ap (last_unlinked s) (sym same) ∙ last) (ap (open_at p) (sym same) ∙ there)))
     (λ new. absurd (none s (subst (λ z. IsReused z s) (sym new.1) used))) (at_end h m a j at)
 

@@ -1,6 +1,7 @@
 -- The parts on marks and waits read what views have seen, their places and waits, and the marks. One more mark keeps them where it
 -- stands in order.
 use Rattle.std.proofs.Common.{◌≡◌, ℕ, ◌+◌, ◌^◌, ◌<◌, ◌≤◌, List, [], ◌∷◌, ◌++◌, length, take, set, Some, None, refl, sym, ap, subst, ◌∙◌, ⊎_elim, arith, ◌≢◌, ◌⊎◌, inl, inr}
+use Rattle.std.proofs.lemmas.List.{take-append-le}
 use mathlib.Core.Option.{some}
 use mathlib.Core.List.{IsPrefix}
 use lib.ListN.{get_elem?}
@@ -16,7 +17,6 @@ use Rattle.core_state.specs.declared.view.View.{View}
 use Rattle.core_state.specs.Marks.{begun, begun_at, AreMarks}
 use Rattle.core_state.specs.parts.MarkParts.{HasEnded, WaitStands, MarkParts}
 use Rattle.list_laws.proofs.Lists.{at_below, at_end, each_change, each_set}
-use Rattle.core_frames.proofs.marks.MarkFacts.{take-more}
 use Rattle.core_frames.proofs.views.Same.{still}
 use Rattle.core_state.specs.views.Views.{Works}
 use Rattle.core_frames.proofs.marks.MoreMarks.{QuietWaits, cut_at, longer_at, waits_same}
@@ -33,7 +33,7 @@ NewMark places h _ = Unit {0}
 -- what stands before a mark is the same, whether it is old or the new one
 module _ (h : List Mark) (m : Mark) where
   before_old : (j : ℕ) (a : Mark) → get_elem? h j ≡ some a → take j (h ++ m ∷ []) ≡ take j h
-  before_old j a e = take-more h (m ∷ []) j (let l = at_below h j a e in omega arith)
+  before_old j a e = take-append-le j h (m ∷ []) (let l = at_below h j a e in omega arith)
 
   before_new : (j : ℕ) → j ≡ length h → take j (h ++ m ∷ []) ≡ h
   before_new j e = ap (λ i. take i (h ++ m ∷ [])) e ∙ take-append_seam h (m ∷ [])

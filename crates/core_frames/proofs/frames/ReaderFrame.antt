@@ -23,6 +23,7 @@ use Rattle.core_state.specs.views.Known.{lock_of, is_emptied}
 use Rattle.core_state.specs.tree.Nodes.{OnRightLeft}
 use Rattle.core_state.specs.views.Views.{readings_of, open_reading}
 use Rattle.core_state.specs.tree.Chart.{Chart}
+use Rattle.prcu_model.specs.declared.operation.Update.{Update}
 use Rattle.prcu_model.specs.Dictionary.{WasSaid}
 use Rattle.core_state.specs.tree.Readers.{IsHeldBack, MayPass, IsOldFor, IsEmptied}
 use Rattle.core_state.specs.parts.ReaderParts.{Answered, IsServed, IsAsRecorded, IsStillLinked, IsRecord, IsReading, IsMetBefore, ReaderParts}
@@ -45,6 +46,14 @@ held_back_same g h h' entered s quiet i = record { out = i.out; at = i.at; gone 
 
 pub said_same : (h h' : List Mark) (key from : ℕ) (o : Option ℕ) → QuietMarks h h' → WasSaid (updates_of h) key from o → WasSaid (updates_of h') key from o
 said_same h h' key from o quiet i = subst (λ us. WasSaid us key from o) (sym quiet.updates) i
+
+-- what a search found is an answer as long as what was said of its key stays said
+pub answered_by : (us more : List Update) (section : Section) → ((o : Option ℕ) → WasSaid us section.key section.from o → WasSaid more section.key section.from o) → (state : SearchState) → Answered us section state → Answered more section state
+answered_by us more section said (At s b) i = tt
+answered_by us more section said (Unread s parent b) i = tt
+answered_by us more section said (Found s parent b None) i = tt
+answered_by us more section said (Found s parent b (Some value)) i = said (Some value) i
+answered_by us more section said (Missed s b) i = said None i
 
 -- The stepping view's moves and locks stay.
 module _ (vs : List View) (id : ℕ) (v w : View) (there : get_elem? vs id ≡ some v) (moving : w.moving ≡ v.moving) where
@@ -103,20 +112,13 @@ module _ (m m' : Memory) (nodes : SameNodes m m') (g : Chart) (vs us : List View
   path_same : (d s : ℕ) → OnRightLeft m d s → OnRightLeft m' d s
   path_same d s = right_left_by m m' any any contents g linked_any d s tt (λ p way. tt)
 
-  answered_same : (section : Section) (state : SearchState) → Answered (updates_of h) section state → Answered (updates_of h') section state
-  answered_same section (At s b) i = tt
-  answered_same section (Unread s parent b) i = tt
-  answered_same section (Found s parent b None) i = tt
-  answered_same section (Found s parent b (Some value)) i = said_same h h' section.key section.from (Some value) quiet i
-  answered_same section (Missed s b) i = said_same h h' section.key section.from None quiet i
-
   pub served_by : (section : Section) → IsServed m g h vs section → IsServed m' g h' us section
   served_by section i = record {
     placed = λ none. (let p = i.placed none in record {
       place = place_same m m' any any contents g linked_any (λ u l o. tt) section.key (IsHeldBack g h section.entered) (IsHeldBack g h' section.entered) (MayPass vs section.key section.entered) (MayPass us section.key section.entered)
           (WasSaid (updates_of h) section.key section.from) (WasSaid (updates_of h') section.key section.from)
           (λ s l. tt) (λ s l. tt) (λ s. held_back_same g h h' section.entered s quiet) (see.may section.key section.entered) (λ o. said_same h h' section.key section.from o quiet) _ p.place;
-      answered = answered_same section section.reading.state p.answered;
+      answered = answered_by (updates_of h) (updates_of h') section (λ o. said_same h h' section.key section.from o quiet) section.reading.state p.answered;
     });
     lists = i.lists;
     walking = λ node parent b value walk found on. (let p = i.walking node parent b value walk found on in record {

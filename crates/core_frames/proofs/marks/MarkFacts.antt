@@ -1,13 +1,12 @@
 -- What one more mark leaves as it was.
-use Rattle.std.proofs.Common.{◌≡◌, ◌≢◌, ℕ, ◌+◌, ◌<◌, ◌≤◌, ◌==◌, true, false, cond, List, [], ◌∷◌, ◌++◌, length, take, Option, Some, None, refl, ap, ◌∙◌, ⊎_elim, arith, append-nil, ◌-◌, ◌⊎◌}
-use Rattle.std.proofs.lemmas.List.{take-append-le}
+use Rattle.std.proofs.Common.{◌≡◌, ◌≢◌, ℕ, ◌+◌, false, cond, List, [], ◌∷◌, ◌++◌, length, Option, refl, ap, ◌∙◌, ⊎_elim, arith, append-nil, ◌-◌, ◌⊎◌}
 use mathlib.Core.Option.{some}
 use lib.ListN.{get_elem?}
 use Rattle.atomic_table.proofs.Lists.{at_longer}
 use Rattle.prcu_marks.specs.declared.mark.Mark.{Mark}
 use Rattle.prcu_marks.specs.declared.mark.Mark.TheVariants.{Entered, Left, Began, Ended, Done, Given, Unlinked, Freed}
 use Rattle.prcu_model.specs.declared.operation.Update.{Update}
-use Rattle.prcu_marks.specs.Marks.{updates_of, next_gone, gone_at, is_of, own_of, entered_at, last_unlinked}
+use Rattle.prcu_marks.specs.Marks.{updates_of, next_gone, gone_at, is_of, own_of, last_unlinked}
 use Rattle.prcu_marks.proofs.MarkLists.{updates_of-append, gone_at-snoc, own_of-append}
 use Rattle.prcu_marks.proofs.LastUnlinked.{UnlinksNone, last_unlinked-same}
 use Rattle.core_state.specs.Marks.{begun, begun_at}
@@ -135,10 +134,6 @@ begun_at-append p (Freed t ∷ h) ms = begun_at-append p h ms
 
 pub begun_at-same : (p : ℕ) (h : List Mark) (m : Mark) → TurnsNoWait m → begun_at p (h ++ m ∷ []) ≡ begun_at p h
 begun_at-same p h m n = let a = begun_at-append p h (m ∷ []) in let b = begun_at_same p m n in omega arith
-
--- a beginning of the list is the same with more marks
-pub take-more : (h ms : List Mark) (n : ℕ) → n ≤ length h → take n (h ++ ms) ≡ take n h
-take-more h ms n le = take-append-le n h ms le
 
 -- the marks of a place, after a mark of another
 pub own_of-other : (p : ℕ) (h : List Mark) (m : Mark) → is_of p m ≡ false → own_of p (h ++ m ∷ []) ≡ own_of p h

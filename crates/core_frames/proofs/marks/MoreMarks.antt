@@ -1,6 +1,7 @@
 -- Where more marks come at the end of the list: what stood in it stands there still, and what the marks of one place leave of waits and of
 -- other places.
 use Rattle.std.proofs.Common.{zero, suc, ◌≡◌, ◌≢◌, ℕ, ◌+◌, ◌<◌, ◌≤◌, false, cond, List, [], ◌∷◌, ◌++◌, length, take, Option, Some, None, refl, ap, ◌∙◌, ⊎_elim, arith, length-append, subst, sym, ◌-◌, ◌⊎◌}
+use Rattle.std.proofs.lemmas.List.{take-append-le}
 use mathlib.Core.Option.{some, some-injective}
 use lib.ListN.{get_elem?}
 use Rattle.atomic_table.proofs.Lists.{at_longer}
@@ -13,7 +14,7 @@ use Rattle.list_laws.proofs.Lists.{at_end}
 use Rattle.core_state.specs.parts.MarkParts.{HasEnded}
 use mathlib.Core.List.{IsPrefix}
 use Rattle.prcu_model.proofs.ListFacts.{prefix_more, prefix_self}
-use Rattle.core_frames.proofs.marks.MarkFacts.{TurnsNoWait, begun_at-append, own_of-other, take-more}
+use Rattle.core_frames.proofs.marks.MarkFacts.{TurnsNoWait, begun_at-append, own_of-other}
 
 -- what stands at a place of a list
 pub at_some : {A : Type 0} (l : List A) (j : ℕ) → j < length l → (a : A) × (get_elem? l j ≡ some a)
@@ -23,7 +24,7 @@ at_some (x ∷ xs) (suc j) lt = at_some xs j (omega arith)
 
 module _ (h h' : List Mark) (grows : IsPrefix h h') where
   pub cut_at : (n : ℕ) → n ≤ length h → take n h' ≡ take n h
-  cut_at n le = subst (λ z. take n z ≡ take n h) grows.1 (take-more h grows.0 n le)
+  cut_at n le = subst (λ z. take n z ≡ take n h) grows.1 (take-append-le n h grows.0 le)
 
   pub longer_at : (j : ℕ) (a : Mark) → get_elem? h j ≡ some a → get_elem? h' j ≡ some a
   longer_at j a e = subst (λ z. get_elem? z j ≡ some a) grows.1 (at_longer h grows.0 j a e)

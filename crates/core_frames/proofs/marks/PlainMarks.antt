@@ -1,5 +1,6 @@
 -- Marks of updates and slots: they open and leave no section, and begin and end no wait.
 use Rattle.std.proofs.Common.{◌≡◌, ◌≢◌, ℕ, ◌≤◌, cond, List, [], ◌∷◌, ◌++◌, length, take, Some, refl, sym, ap, subst, ◌∙◌, ⊎_elim, arith, ne_eqb, append-nil, length-append, ◌+◌}
+use Rattle.std.proofs.lemmas.List.{take-append-le}
 use mathlib.Core.Option.{some}
 use mathlib.Core.List.{IsPrefix}
 use lib.ListN.{get_elem?}
@@ -11,7 +12,7 @@ use Rattle.prcu_model.proofs.ListFacts.{prefix_self, prefix_more, prefix_trans}
 use Rattle.prcu_marks.proofs.MarkLists.{open_at-snoc, own_of-append, entered_at-append}
 use Rattle.core_state.specs.Marks.{begun, begun_at, AreMarks}
 use Rattle.list_laws.proofs.Lists.{at_end, at_below}
-use Rattle.core_frames.proofs.marks.MarkFacts.{begun-append, begun_at-append, take-more}
+use Rattle.core_frames.proofs.marks.MarkFacts.{begun-append, begun_at-append}
 use Rattle.prcu_model.specs.declared.operation.Op.TheVariants.{Del}
 use Rattle.core_frames.proofs.marks.MoreMarks.{OtherMarks, QuietWaits}
 
@@ -92,7 +93,7 @@ module _ (place : ℕ) (h : List Mark) where
     begins = prefix_more h h (m ∷ []) (prefix_self h);
     longer = λ j a e. at_longer h (m ∷ []) j a e;
     room = (let l = length-append h (m ∷ []) in omega arith);
-    cut = λ n le. take-more h (m ∷ []) n le;
+    cut = λ n le. take-append-le n h (m ∷ []) le;
     opens = opens_one m is;
     entries = λ p. (let a = entered_at-append p h (m ∷ []) in let b = (entries_none m is p).0 in omega arith);
     waits = (let a = begun-append h (m ∷ []) in let b = (entries_none m is 0).1 in omega arith);

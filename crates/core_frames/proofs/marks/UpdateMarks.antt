@@ -17,9 +17,6 @@ use Rattle.core_frames.proofs.marks.PlainMarks.{PlainMarks, plain_one, plain_tra
 use Rattle.core_frames.proofs.frames.GraceFrame.{reuse_more}
 
 -- where a slot was unlinked last, after one more mark
-pub last_other : (s t : ℕ) (h : List Mark) → t ≢ s → last_unlinked s (h ++ Unlinked t ∷ []) ≡ last_unlinked s h
-last_other s t h ne = last_unlinked-other h s t ne
-
 pub last_done : (h : List Mark) (u : Update) (s : ℕ) → last_unlinked s (h ++ Done u ∷ []) ≡ last_unlinked s h
 last_done h u s = last_unlinked-same h (Done u) tt s
 
@@ -64,7 +61,7 @@ marks_unlinked place h d places t = marks_plain place h (h ++ Unlinked d ∷ [])
     (λ n. absurd (let q = n.1 in cc)) (at_end h (Unlinked d) (Done (record { caller = p; op = Del x })) j e)) t
 
 pub unlinked_snoc : (h : List Mark) (d : ℕ) → IsUnlinkedNow h (h ++ Unlinked d ∷ []) d (length h)
-unlinked_snoc h d = record { here = gone_here d h; gone = λ s ne. gone_other s d h (λ e. ne (sym e)); last = λ s ne. last_other s d h (λ e. ne (sym e)); after = omega arith }
+unlinked_snoc h d = record { here = gone_here d h; gone = λ s ne. gone_other s d h (λ e. ne (sym e)); last = λ s ne. last_unlinked-other h s d (λ e. ne (sym e)); after = omega arith }
 
 module _ (h : List Mark) (u : Update) (d : ℕ) where
   abbrev one : List Mark
@@ -92,7 +89,7 @@ module _ (h : List Mark) (u : Update) (d : ℕ) where
   delete_gone_other s ne = ap (gone_at s) (sym both_is) ∙ gone_other s d one (λ e. ne (sym e)) ∙ gone_at-snoc s h (Done u)
 
   pub delete_last_other : (s : ℕ) → s ≢ d → last_unlinked s both ≡ last_unlinked s h
-  delete_last_other s ne = ap (last_unlinked s) (sym both_is) ∙ last_other s d one (λ e. ne (sym e)) ∙ last_done h u s
+  delete_last_other s ne = ap (last_unlinked s) (sym both_is) ∙ last_unlinked-other one s d (λ e. ne (sym e)) ∙ last_done h u s
 
   pub delete_done : get_elem? both (length h) ≡ some (Done u)
   delete_done = subst (λ z. get_elem? z (length h) ≡ some (Done u)) both_is (at_longer one (Unlinked d ∷ []) (length h) (Done u) (at_last h (Done u) (length h) refl))

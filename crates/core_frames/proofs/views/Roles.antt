@@ -43,6 +43,23 @@ retired_count v s = ap (times s) (map_append v.hands.retired (joined_retired v.a
 pub held_there : (o : Option Held) (held : Held) → o ≡ Some held → 1 ≤ times held.slot (held_list o)
 held_there o held e = subst (λ z. 1 ≤ times held.slot (held_list z)) (sym e) (let t = times_here held.slot [] in omega arith)
 
+-- what is in hand, a spare, or retired is among the slots of its view
+module _ (v : View) where
+  pub retired_there : (r : Retired) → IsIn (retired_of v) r → 1 ≤ times r.slot (map (λ (x : Retired). x.slot) (retired_of v))
+  retired_there r has = times_in (λ (x : Retired). x.slot) (retired_of v) r has
+
+  pub retired_own : (r : Retired) → IsIn (retired_of v) r → 1 ≤ times r.slot (slots_of v)
+  retired_own r has = let a = retired_there r has in let b = slots_count v r.slot in omega arith
+
+  pub hand_own : (held : Held) → v.hands.hand ≡ Some held → 1 ≤ times held.slot (slots_of v)
+  hand_own held is = let a = held_there v.hands.hand held is in let b = slots_count v held.slot in omega arith
+
+  pub spare_among : (held : Held) → v.hands.spare ≡ Some held → 1 ≤ times held.slot (spares_of v)
+  spare_among held is = let a = held_there v.hands.spare held is in let b = spares_count v held.slot in omega arith
+
+  pub spare_own : (held : Held) → v.hands.spare ≡ Some held → 1 ≤ times held.slot (slots_of v)
+  spare_own held is = let a = spare_among held is in let b = slots_count v held.slot in omega arith
+
 module _ (m : Memory) (n : ℕ) (g : Chart) (vs : List View) (h : List Mark) (t : SlotParts m n g vs h) where
   below : (s : ℕ) → 1 ≤ total (λ (u : View). times s (slots_of u)) vs → s < n
   below s some_role = dite (dec_le n s) (λ far. absurd (let e = t.roles.beyond s far in omega arith)) (λ near. omega arith)
@@ -73,24 +90,9 @@ module _ (m : Memory) (n : ℕ) (g : Chart) (vs : List View) (h : List Mark) (t 
         let one = t.roles.once s (own_below s has) in
         absurd (omega arith))
 
-    pub retired_there : (r : Retired) → IsIn (retired_of v) r → 1 ≤ times r.slot (map (λ (x : Retired). x.slot) (retired_of v))
-    retired_there r has = times_in (λ (x : Retired). x.slot) (retired_of v) r has
-
-    pub retired_own : (r : Retired) → IsIn (retired_of v) r → 1 ≤ times r.slot (slots_of v)
-    retired_own r has = let a = retired_there r has in let b = slots_count v r.slot in omega arith
-
-    pub hand_own : (held : Held) → v.hands.hand ≡ Some held → 1 ≤ times held.slot (slots_of v)
-    hand_own held is = let a = held_there v.hands.hand held is in let b = slots_count v held.slot in omega arith
-
-    pub spare_among : (held : Held) → v.hands.spare ≡ Some held → 1 ≤ times held.slot (spares_of v)
-    spare_among held is = let a = held_there v.hands.spare held is in let b = spares_count v held.slot in omega arith
-
-    pub spare_own : (held : Held) → v.hands.spare ≡ Some held → 1 ≤ times held.slot (slots_of v)
-    spare_own held is = let a = spare_among held is in let b = slots_count v held.slot in omega arith
-
   -- an unlinked slot is retired
   pub gone_off : (s p : ℕ) → gone_at s h ≡ Some p → g.linked s ≡ false
-  gone_off s p gone = let r = t.unlinked s p gone in subst (λ z. g.linked z ≡ false) r.slot (own_off r.id r.view r.there r.retired.slot (retired_own r.id r.view r.there r.retired r.has))
+  gone_off s p gone = let r = t.unlinked s p gone in subst (λ z. g.linked z ≡ false) r.slot (own_off r.id r.view r.there r.retired.slot (retired_own r.view r.retired r.has))
 
   module _ (id : ℕ) (v : View) (there : get_elem? vs id ≡ some v) where
     -- so a slot in hand or a spare isn't unlinked, by the marks
@@ -103,10 +105,10 @@ module _ (m : Memory) (n : ℕ) (g : Chart) (vs : List View) (h : List Mark) (t 
             let r = t.unlinked s p e in
             let c = slots_count v s in
             let mine : 1 ≤ times s (slots_of v) = omega arith in
-            let theirs : 1 ≤ times s (slots_of r.view) = subst (λ z. 1 ≤ times z (slots_of r.view)) r.slot (retired_own r.id r.view r.there r.retired r.has) in
+            let theirs : 1 ≤ times s (slots_of r.view) = subst (λ z. 1 ≤ times z (slots_of r.view)) r.slot (retired_own r.view r.retired r.has) in
             let same = own_apart id v there s r.id r.view r.there mine theirs in
             let is : r.view ≡ v = some-injective r.view v (sym r.there ∙ subst (λ z. get_elem? vs z ≡ some v) (sym same) there) in
-            let again : 1 ≤ times s (map (λ (x : Retired). x.slot) (retired_of v)) = subst (λ (u : View). 1 ≤ times s (map (λ (x : Retired). x.slot) (retired_of u))) is (subst (λ z. 1 ≤ times z (map (λ (x : Retired). x.slot) (retired_of r.view))) r.slot (retired_there r.id r.view r.there r.retired r.has)) in
+            let again : 1 ≤ times s (map (λ (x : Retired). x.slot) (retired_of v)) = subst (λ (u : View). 1 ≤ times s (map (λ (x : Retired). x.slot) (retired_of u))) is (subst (λ z. 1 ≤ times z (map (λ (x : Retired). x.slot) (retired_of r.view))) r.slot (retired_there r.view r.retired r.has)) in
             let once = own_once id v there s in
             absurd (omega arith)
 

@@ -111,7 +111,7 @@ module _ (z : CopyStep) where
   spare_known = (inv.slots.hands id v there).spare z.held z.needs.spare_is.0
 
   pub copy_own : 1 ≤ times c (slots_of v)
-  copy_own = spare_own m n g vs h inv.slots id v there z.held z.needs.spare_is.0
+  copy_own = spare_own v z.held z.needs.spare_is.0
 
   pub copy_off : g.linked c ≡ false
   copy_off = own_off m n g vs h inv.slots id v there c copy_own
@@ -120,7 +120,7 @@ module _ (z : CopyStep) where
   copy_below = own_below m n g vs h inv.slots id v there c copy_own
 
   copy_among : 1 ≤ times c (spares_of v)
-  copy_among = spare_among m n g vs h inv.slots id v there z.held z.needs.spare_is.0
+  copy_among = spare_among v z.held z.needs.spare_is.0
 
   pub copy_even : IsEven (m (Life c))
   copy_even = (inv.slots.hands id v there).spares c copy_among

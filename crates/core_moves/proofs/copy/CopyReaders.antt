@@ -7,13 +7,13 @@ use Rattle.core_state.specs.declared.words.Field.TheVariants.{Key, Link}
 use Rattle.core_state.specs.tree.Nodes.{next, answer_at, Hops}
 use Rattle.core_state.specs.tree.Chart.{low_of, high_of, Belongs, HoldsMap, IsInRange}
 use Rattle.core_state.specs.tree.Readers.{Spine, bottom, more, Place, in_range, at_old}
-use Rattle.core_frames.proofs.chart.Ranges.{bool_cases, after-node, next_goes}
+use Rattle.core_frames.proofs.chart.Ranges.{range_of_side, bool_cases, after-node, next_goes}
 use Rattle.core_frames.proofs.chart.Hops.{above, ends}
 use Rattle.core_frames.proofs.chart.Endings.{one_end}
 use Rattle.core_frames.proofs.chart.Places.{range_hop}
 use Rattle.core_moves.proofs.copy.CopyChart.{CopyLink, after_copy}
 use Rattle.core_moves.proofs.copy.CopyShape.{lower, upper, changes, still_linked, not_c, key_stays, low_in, high_is, next_keyed, next_not, ends_at_next, none_between}
-use Rattle.core_frames.proofs.chart.Absent.{range_of_side, stops}
+use Rattle.core_frames.proofs.chart.Absent.{stops}
 use Rattle.core_tree.proofs.chart.ChangedFunctions.{put, put-same, moved_tells}
 use Rattle.core_tree.proofs.chart.ChartChanges.{in_after}
 use Rattle.core_tree.proofs.chart.ChartReaders.{spines, told_here, belongs_after}

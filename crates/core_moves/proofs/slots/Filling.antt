@@ -112,7 +112,7 @@ module _ (k : Shape) (m : Memory) (vs : List View) (h : List Mark) (id : ℕ) (v
     not_retired r has e =
         let a = own_once m n inv.chart vs h inv.slots id v there s in
         let b = slots_count v s in
-        let c = subst (λ x. 1 ≤ times x (map (λ (y : Retired). y.slot) (retired_of v))) e (retired_there m n inv.chart vs h inv.slots id v there r has) in
+        let c = subst (λ x. 1 ≤ times x (map (λ (y : Retired). y.slot) (retired_of v))) e (retired_there v r has) in
         let d = z.role in
         omega arith
 
@@ -213,7 +213,7 @@ module _ (k : Shape) (m : Memory) (vs : List View) (h : List Mark) (id : ℕ) (v
   held_role : (held : Held) → (v.hands.hand ≡ Some held) ⊎ (v.hands.spare ≡ Some held) → (1 ≤ times held.slot (held_list v.hands.hand) + times held.slot (spares_of v)) × IsEven (m (Life held.slot))
   held_role held is = ⊎_elim
       (λ (a : v.hands.hand ≡ Some held). ((let b = held_there v.hands.hand held a in omega arith), ((inv.slots.hands id v there).hand held a).1))
-      (λ (a : v.hands.spare ≡ Some held). (let b = spare_among m n inv.chart vs h inv.slots id v there held a in (omega arith, (inv.slots.hands id v there).spares held.slot b)))
+      (λ (a : v.hands.spare ≡ Some held). (let b = spare_among v held a in (omega arith, (inv.slots.hands id v there).spares held.slot b)))
       is
 
   -- a key, a value or a link
@@ -243,7 +243,7 @@ module _ (k : Shape) (m : Memory) (vs : List View) (h : List Mark) (id : ℕ) (v
       let none = raised_unraised (note_option s known v.hands.hand) in
       filled fill (raise_held (note_option s known v.hands.hand)) 1 (raised_list (note_option s known v.hands.hand) ∙ note_option-slots s known v.hands.hand) (λ e. ap (λ o. raise_held (note_option s known o)) e)
       (λ x e. (let a = raised_back (note_option s known v.hands.hand) x e in subst (λ (y : Held). IsHeldKnown (stored m (Life s) number) y × IsEven (stored m (Life s) number (Life y.slot))) a.2 ((hands fill).hand a.0 a.1)))
-      (sum_one_more (λ t. m (Life t) / 2) (λ t. stored m (Life s) number (Life t) / 2) s n (own_below m n inv.chart vs h inv.slots id v there s (hand_own m n inv.chart vs h inv.slots id v there held in_hand)) (λ t. ⊎_elim
+      (sum_one_more (λ t. m (Life t) / 2) (λ t. stored m (Life s) number (Life t) / 2) s n (own_below m n inv.chart vs h inv.slots id v there s (hand_own v held in_hand)) (λ t. ⊎_elim
       (λ (e : t ≡ s). (let a = ap (λ x. stored m (Life s) number (Life x)) e in let b = ap (λ x. m (Life x)) e in let c = in_one t s e in omega arith))
       (λ ne. (let a = (stores_in m s (Life s) number refl).away t (Life t) ne refl in let c = not_one t s ne in omega arith))
       (cases_eq t s)))

@@ -1,5 +1,6 @@
 -- A slot is given or freed: what the mark says of it, and that it is used again only after all sections that may meet it.
 use Rattle.std.proofs.Common.{◌≡◌, ◌≢◌, ℕ, suc, ◌+◌, ◌<◌, ◌⊎◌, ◌==◌, Bool, true, false, cond, List, [], ◌∷◌, ◌++◌, length, take, Option, Some, None, refl, sym, ap, subst, ◌∙◌, ⊎_elim, inl, inr, arith, append-nil, ne_eqb, eq-eqb}
+use Rattle.std.proofs.lemmas.List.{take-append-le}
 use Rattle.std.proofs.lemmas.Bool.{eqb-true}
 use Rattle.std.proofs.Math.Seq.{take-append_seam}
 use mathlib.Core.Option.{some, some-injective}
@@ -12,7 +13,6 @@ use Rattle.prcu_marks.proofs.MarkLists.{updates_of-append, gone_at-snoc}
 use Rattle.prcu_marks.specs.Bounds.{greatest_key}
 use Rattle.core_state.specs.Marks.{IsReused, Reuse}
 use Rattle.list_laws.proofs.Lists.{at_below, at_end}
-use Rattle.core_frames.proofs.marks.MarkFacts.{take-more}
 use Rattle.core_frames.proofs.marks.MarkTold.{open_mark}
 use Rattle.core_frames.proofs.marks.PlainMarks.{IsPlain}
 use Rattle.core_frames.proofs.frames.MarkFrame.{NewMark}
@@ -134,7 +134,7 @@ module _ (given : Bool) (s : ℕ) (h : List Mark) where
   used_reuse clean reuse j t i p a o at used last there =
       ⊎_elim
       (λ (old : get_elem? h j ≡ some a).
-      let same = take-more h (used_mark given s ∷ []) j (let l = at_below h j a old in omega arith) in
+      let same = take-append-le j h (used_mark given s ∷ []) (let l = at_below h j a old in omega arith) in
       reuse j t i p a o old used (ap (last_unlinked t) (sym same) ∙ last) (ap (open_at p) (sym same) ∙ there))
       (λ (new : (j ≡ length h) × (used_mark given s ≡ a)).
       let whole : take j hs ≡ h = ap (λ n. take n hs) new.0 ∙ take-append_seam h (used_mark given s ∷ []) in

@@ -34,7 +34,7 @@ module _ (z : OffStep) where
   unraised_else : (j : ℕ) (u : View) → j ≢ id → get_elem? vs j ≡ some u → (t : ℕ) → IsUnraised u t → (t ≢ s) × IsUnraised u t
   unraised_else j u ne e t i =
       let among = in_first u.hands.retired (joined_retired u.allowance.joined) i.0 i.1 in
-      ((λ same. (let none = z.others j u ne e in let one = retired_own m (slot_count z.who.k) g vs h z.who.inv.slots j u e i.0 among in let a = ap (λ x. times x (slots_of u)) (i.2 ∙ same) in absurd (omega arith))), i)
+      ((λ same. (let none = z.others j u ne e in let one = retired_own u i.0 among in let a = ap (λ x. times x (slots_of u)) (i.2 ∙ same) in absurd (omega arith))), i)
 
   known_any : (j : ℕ) (u x : View) → get_elem? vs j ≡ some u → readings_of x ≡ readings_of u → (t : ℕ) (l l' : HeldLock) → lock_of u.locks t ≡ Some l → OffLock m' s t l l' → IsLockKnown m' x t l'
   known_any j u x e readings t l l' holds same =

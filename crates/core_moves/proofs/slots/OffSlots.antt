@@ -64,7 +64,7 @@ module _ (z : OffStep) where
   pub hands_away : (j : ℕ) (u : View) → get_elem? vs j ≡ some u → times s (held_list u.hands.hand) + times s (spares_of u) ≡ 0 → AreHandsKnown m' u
   hands_away j u e none = let i = z.who.inv.slots.hands j u e in record {
     hand = λ held q. (let far : held.slot ≢ s = (λ same. (let a = held_there u.hands.hand held q in let b = ap (λ x. times x (held_list u.hands.hand)) same in absurd (omega arith))) in let a = i.hand held q in (held_away held far a.0, even_away held.slot far a.1));
-    spare = λ held q. held_away held (λ same. (let a = spare_among m n g vs h z.who.inv.slots j u e held q in let b = ap (λ x. times x (spares_of u)) same in absurd (omega arith))) (i.spare held q);
+    spare = λ held q. held_away held (λ same. (let a = spare_among u held q in let b = ap (λ x. times x (spares_of u)) same in absurd (omega arith))) (i.spare held q);
     copy = λ move q. copy_away j u e move q;
     spares = λ t has. even_away t (λ same. (let b = ap (λ x. times x (spares_of u)) same in absurd (omega arith))) (i.spares t has);
   }
@@ -108,7 +108,7 @@ module _ (z : OffStep) where
       root = life_away z 0 (on_apart z 0 z.who.inv.tree.shape.root) ∙ t.root;
       hands = each_set (λ j u. AreHandsKnown m' u) vs id w c.hands (λ j u ne e. hands_away j u e (let none = z.others j u ne e in let a = slots_count u s in omega arith));
       retired = each_set (λ j u. Each (retired_of u) (IsRetired m' hs)) vs id w c.retired
-          (λ j u ne e i r f. retired_away r (λ same. (let none = z.others j u ne e in let one = retired_own m n g vs h t j u e r (i, f) in let a = ap (λ x. times x (slots_of u)) same in absurd (omega arith))) (t.retired j u e i r f));
+          (λ j u ne e i r f. retired_away r (λ same. (let none = z.others j u ne e in let one = retired_own u r (i, f) in let a = ap (λ x. times x (slots_of u)) same in absurd (omega arith))) (t.retired j u e i r f));
       unlinked = λ x p gone. unlinked_now x p gone (t.unlinked x p (z.marks.back x p gone));
     }
       where

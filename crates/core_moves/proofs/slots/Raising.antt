@@ -81,7 +81,7 @@ module _ (z : RaiseStep) where
   here = stored_here m (Life s) number ∙ (let a = is.life z.life z.needs.unraised z.needs.loaded in let b = odd in let c = z.needs.next in omega arith)
 
   among : 1 ≤ times s (slots_of v)
-  among = retired_own m n inv.chart vs h inv.slots id v there z.r whole
+  among = retired_own v z.r whole
 
   below : s < n
   below = own_below m n inv.chart vs h inv.slots id v there s among
@@ -279,7 +279,7 @@ module _ (z : RaiseStep) where
       same = λ t. (let a = slots_count (w to_raised) t in let b = slots_count v t in let c = retired_count (w to_raised) t in let d = retired_count v t in let e = ap (times t) (change_slots s v.hands.retired) in let f = spares_count (w to_raised) t in let q = spares_count v t in omega arith);
       few = (let i = inv.slots.few id v there in let l = change_length s v.hands.retired in let a = i.few in
           record { one = i.one; few = omega arith; room = λ move q. (let b = i.room move q in omega arith); joined = i.joined; joined_spare = i.joined_spare; next_spare = λ _ none. absurd (some_spare none) });
-      spare = λ held q. held_away (step to_raised) held (λ e. (let b = one_role.1 in let c = spare_among m n inv.chart vs h inv.slots id v there held q in let d = ap (λ x. times x (spares_of v)) e in omega arith)) ((inv.slots.hands id v there).spare held q);
+      spare = λ held q. held_away (step to_raised) held (λ e. (let b = one_role.1 in let c = spare_among v held q in let d = ap (λ x. times x (spares_of v)) e in omega arith)) ((inv.slots.hands id v there).spare held q);
       spares = λ t ne has. has;
       retired = changed_is;
       kept = λ t p y gone has at. (let c = change_in s v.hands.retired y has in (c.0, c.1, c.2 ∙ at));

@@ -83,7 +83,7 @@ module _ (k : Shape) (m : Memory) (vs : List View) (h : List Mark) (id : ℕ) (v
     pub state_hands : (to : View) → to.hands.spare ≡ v.hands.spare → to.moving ≡ v.moving → spares_of to ≡ spares_of v → times slot (spares_of v) ≡ 0 → ((held : Held) → to.hands.hand ≡ Some held → IsHeldKnown m' held × IsEven (m (Life held.slot))) → AreHandsKnown m' to
     state_hands to spare moving spares none hand = let i = inv.slots.hands id v there in record {
       hand = hand;
-      spare = λ held is. held_beside m m' slot (stores_in m slot (State slot) x refl) held (λ e. (let a = spare_among m n inv.chart vs h inv.slots id v there held (sym spare ∙ is) in let b = ap (λ y. times y (spares_of v)) e in omega arith)) (i.spare held (sym spare ∙ is));
+      spare = λ held is. held_beside m m' slot (stores_in m slot (State slot) x refl) held (λ e. (let a = spare_among v held (sym spare ∙ is) in let b = ap (λ y. times y (spares_of v)) e in omega arith)) (i.spare held (sym spare ∙ is));
       copy = λ move is.
           (let on = (inv.tree.moves.each id v there move (sym moving ∙ is)).copy_linked in
           let r = i.copy move (sym moving ∙ is) in

@@ -55,12 +55,12 @@ module _ (k : Shape) (m : Memory) (vs : List View) (h : List Mark) (id : ℕ) (v
         cases None e = refl
         cases (Some p) e =
             let r = inv.slots.unlinked slot p e in
-            let has = subst (λ z. 1 ≤ times z (slots_of r.view)) r.slot (retired_own m n inv.chart vs h inv.slots r.id r.view r.there r.retired r.has) in
+            let has = subst (λ z. 1 ≤ times z (slots_of r.view)) r.slot (retired_own r.view r.retired r.has) in
             let none = nobody r.id r.view r.there in
             absurd (omega arith)
 
     no_retired : (y : Retired) → IsIn (retired_of v) y → y.slot ≢ slot
-    no_retired y has same = let none = nobody id v there in let one = retired_own m n inv.chart vs h inv.slots id v there y has in let a = ap (λ z. times z (slots_of v)) same in omega arith
+    no_retired y has same = let none = nobody id v there in let one = retired_own v y has in let a = ap (λ z. times z (slots_of v)) same in omega arith
 
     abbrev step : StateStep k m vs h id v inv there works
     step = record {
@@ -119,7 +119,7 @@ module _ (k : Shape) (m : Memory) (vs : List View) (h : List Mark) (id : ℕ) (v
         (omega arith, omega arith, omega arith)
 
     not_retired : (y : Retired) → IsIn (retired_of v) y → y.slot ≢ slot
-    not_retired y has same = let one = retired_there m n inv.chart vs h inv.slots id v there y has in let a = ap (λ z. times z (map (λ (r : Retired). r.slot) (retired_of v))) same in let b = slots_count v slot in let c = mine_once.2 in let d = in_hand in omega arith
+    not_retired y has same = let one = retired_there v y has in let a = ap (λ z. times z (map (λ (r : Retired). r.slot) (retired_of v))) same in let b = slots_count v slot in let c = mine_once.2 in let d = in_hand in omega arith
 
     abbrev freeing : StateStep k m vs h id v inv there works
     freeing = record {

@@ -31,7 +31,7 @@ use Rattle.core_tree.proofs.locks.Holders.{linked_stays, move_holder}
 use Rattle.core_tree.proofs.locks.Locked.{under_lock}
 use Rattle.core_frames.proofs.frames.Stepper.{Stepper}
 use Rattle.core_tree.proofs.links.LinkSteps.{listings_by}
-use Rattle.core_tree.proofs.stores.StoreFront.{front_still}
+use Rattle.core_frames.proofs.frames.FrontFrame.{front_by}
 use Rattle.core_tree.proofs.bypass.Cutting.{Cut, cut_step, cut_kept}
 use Rattle.core_tree.proofs.bypass.CutCounts.{counts_without_old}
 use Rattle.core_moves.proofs.unlink.Unlinking.{Unlinks, unlinked, right_below, splice, unlinked_map}
@@ -171,5 +171,5 @@ module _ (who : Stepper) (move : Move) (lock : HeldLock) (child : ℕ) (b : Side
       cut_kept cut
       (counts_without_old cut (record { reserved = refl; owes = refl; wait = refl; turns = refl; moving = refl }) is_moving.old_old move moving refl same_updates)
       (subst (λ us. HoldsMap new (unlinked g q b u child) (λ y. finite.get (map_of us) y)) (sym same_updates) (unlinked_map m new n g q b u child i.tree.shape unlinks (map_now h) i.tree.map))
-      (front_still m new vs id v w there h hs refl (λ e. refl) refl same_updates i.front)
+      (front_by m new vs id v w h hs there refl refl (λ e. refl) same_updates i.front)
       (listings_by (cut_step cut) (λ listing even same lists. lists_unlinked m new n g q b u child i.tree.shape unlinks h i.tree.map i.marks.marks.deleted (λ s at l gone. linked_stays k m vs h i s at l gone) young_right copied listing lists))

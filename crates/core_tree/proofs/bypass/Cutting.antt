@@ -37,7 +37,7 @@ use Rattle.core_tree.proofs.links.LinkServed.{LinkReads}
 use Rattle.core_tree.proofs.links.LinkLocks.{Relinks, locks_after, emptied_still, link_back}
 use Rattle.core_tree.proofs.links.LinkKept.{link_kept}
 use Rattle.core_tree.proofs.links.LinkSteps.{LinkStep, Retires, range_stays, side_stays}
-use Rattle.core_tree.proofs.chart.Splices.{Splices, spliced, at as at_node, parent_not, was_linked, still_linked, child_below, child_linked, place_stays, changes}
+use Rattle.core_tree.proofs.chart.Splices.{Splices, spliced, at as at_node, was_linked, still_linked, child_below, child_linked, place_stays, changes}
 use Rattle.core_frames.proofs.frames.Stepper.{Stepper}
 use Rattle.core_tree.proofs.locks.Relocking.{relocked}
 use Rattle.core_frames.proofs.marks.PlainMarks.{PlainMarks, IsUnlinkedNow}
@@ -139,9 +139,6 @@ module _ (z : Cut) where
 
   d_linked : g.linked d ≡ true
   d_linked = (at_node m new n g p b d c lower upper i.tree.shape splice).linked
-
-  apart : p ≢ d
-  apart = parent_not m new n g p b d c lower upper i.tree.shape splice
 
   was : (s : ℕ) → to.linked s ≡ true → (g.linked s ≡ true) × (s ≢ d)
   was = was_linked m new n g p b d c lower upper i.tree.shape splice

@@ -26,7 +26,7 @@ use Rattle.core_frames.proofs.frames.PlainFrames.{SameForMore, mark_frame_plain,
 use Rattle.core_tree.proofs.stores.Stores.{IsBesideSlots}
 use Rattle.core_tree.proofs.frames.ChartStays.{SameOutside, ChartStep, tree_stays}
 use Rattle.core_tree.proofs.frames.ReadersStay.{readers_stay, listings_stay}
-use Rattle.core_tree.proofs.stores.StoreFront.{front_still}
+use Rattle.core_frames.proofs.frames.FrontFrame.{front_by}
 use Rattle.core_frames.proofs.frames.ReaderFrame.{emptied_still}
 use Rattle.core_state.specs.views.Known.{lock_of}
 use Rattle.core_frames.proofs.frames.LockFrame.{lock_frame}
@@ -83,7 +83,7 @@ module _ (P : ℕ → Type 0) (z : ChartStep P) where
     counts = counts;
     tree = tree_stays P z;
     readers = readers_stay P z;
-    front = front_still m m' vs id v w there h hs (z.beside Front tt) (λ e. z.view.moving ∙ e) z.view.commit z.updates inv.front;
+    front = front_by m m' vs id v w h hs there (z.beside Front tt) z.view.commit (λ e. z.view.moving ∙ e) z.updates inv.front;
     listings = listings_stay P z;
     grace = grace;
   }

@@ -2,8 +2,6 @@
 use Rattle.std.proofs.Common.{◌≡◌, ℕ, List, ◌++◌, set, None, refl, sym, subst, ◌∙◌, inr}
 use Rattle.prcu_marks.specs.declared.mark.Mark.{Mark}
 use Rattle.prcu_marks.specs.declared.mark.Side.{Side}
-use Rattle.prcu_marks.specs.declared.mark.Side.TheVariants.{Left, Right}
-use Rattle.core_state.specs.declared.view.HeldLock.{HeldLock}
 use Rattle.core_state.specs.declared.view.View.{View}
 use Rattle.core_state.specs.declared.words.Field.{Field}
 use Rattle.core_state.specs.declared.words.Kind.TheVariants.{K20}
@@ -11,7 +9,6 @@ use Rattle.core_state.specs.memory.Memory.{stored}
 use Rattle.core_state.specs.steps.Links.{after_leaf_link}
 use Rattle.core_state.specs.steps.Steps.{IsStep, step20}
 use Rattle.core_state.specs.tree.Readers.{in_range, IsEmptied}
-use Rattle.core_state.specs.views.Known.{is_emptied, note_lock}
 use Rattle.core_frames.specs.Laws.{IsKept, Keeps}
 use Rattle.core_frames.proofs.frames.ReaderFrame.{may_still, old_still}
 use Rattle.core_frames.proofs.marks.UpdateMarks.{gone_done, last_done, reuse_done}
@@ -20,7 +17,7 @@ use Rattle.core_tree.proofs.leaf.LeafLocks.{leaf_lock, leaf_locks, leaf_slots}
 use Rattle.core_tree.proofs.leaf.LeafNeeds.{LeafLink, leafed, settled, some_leaf, links, key_absent, still_linked, spare_apart, copy_apart, leaf_step}
 use Rattle.core_tree.proofs.leaf.LeafTree.{leaf_counts, leaf_map_after, leaf_moves}
 use Rattle.core_tree.proofs.links.LinkSteps.{LinkStep, listings_of_commit, range_stays, side_stays, empty_stays}
-use Rattle.core_tree.proofs.locks.LockSteps.{emptied_after}
+use Rattle.core_tree.proofs.locks.LockSteps.{note_side, emptied_after}
 use Rattle.core_tree.proofs.notes.Notes.{note_option-else, note_moving-else}
 use Rattle.core_tree.proofs.updates.PutMarks.{put_update, put_legal, put_count}
 use Rattle.core_tree.proofs.stores.StoreFront.{front_made}
@@ -44,11 +41,7 @@ module _ (z : LeafLink) where
   step = leaf_step z
 
   emptied : (s : ℕ) (a : Side) → IsEmptied vs s a → IsEmptied (set vs id w) s a
-  emptied s a = emptied_after vs id v w slot lock new_lock there (leaf_lock z) s a (λ _ e. same_side a lock ∙ e)
-    where
-      same_side : (a : Side) (l : HeldLock) → is_emptied (note_lock entry l) a ≡ is_emptied l a
-      same_side Left l = refl
-      same_side Right l = refl
+  emptied s a = emptied_after vs id v w slot lock new_lock there (leaf_lock z) s a (λ _ e. note_side entry a lock ∙ e)
 
   reads : LinkReads step
   reads = record {

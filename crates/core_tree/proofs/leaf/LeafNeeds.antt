@@ -149,13 +149,10 @@ module _ (z : LeafLink) where
   leaf_is = let x = needs.in_hand in x.1
 
   leaf_own : 1 ≤ times leaf (slots_of v)
-  leaf_own = subst (λ z. 1 ≤ times z (slots_of v)) leaf_is (hand_own m n g vs h i.slots id v there held hand_is)
+  leaf_own = subst (λ z. 1 ≤ times z (slots_of v)) leaf_is (hand_own v held hand_is)
 
   pub leaf_off : g.linked leaf ≡ false
   leaf_off = own_off m n g vs h i.slots id v there leaf leaf_own
-
-  apart : leaf ≢ slot
-  apart e = absurd (let q : false ≡ true = sym leaf_off ∙ ap g.linked e ∙ linked_slot in cc)
 
   pub some_leaf : leaf ≢ 0
   some_leaf e = absurd (let q : false ≡ true = sym leaf_off ∙ ap g.linked e ∙ i.tree.shape.root in cc)

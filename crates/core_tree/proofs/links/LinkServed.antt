@@ -11,9 +11,8 @@ use Rattle.prcu_model.specs.Dictionary.{WasSaid}
 use Rattle.core_state.specs.declared.words.Field.TheVariants.{Life, Link}
 use Rattle.core_state.specs.declared.view.Reading.{Reading}
 use Rattle.core_state.specs.declared.view.Section.{Section}
-use Rattle.core_state.specs.declared.view.SearchState.{SearchState}
-use Rattle.core_state.specs.declared.view.SearchState.TheVariants.{At, Unread, Found, Missed}
 use Rattle.core_state.specs.declared.view.View.{View}
+use Rattle.core_frames.proofs.frames.ReaderFrame.{answered_by}
 use Rattle.list_laws.specs.Counts.{IsIn, Each}
 use Rattle.core_state.specs.memory.Lists.{IsEven, IsOdd}
 use Rattle.core_state.specs.memory.Memory.{slot_count}
@@ -22,7 +21,7 @@ use Rattle.core_state.specs.tree.Nodes.{OnRightLeft}
 use Rattle.core_state.specs.tree.Chart.{Belongs, IsInRange}
 use Rattle.core_state.specs.tree.Readers.{IsHeldBack, MayPass, IsOldFor, IsEmptied, Place}
 use Rattle.core_state.specs.parts.LockParts.{IsReadingKept}
-use Rattle.core_state.specs.parts.ReaderParts.{state_slot, Answered, StandsWell, GoesTo, IsReading, IsServed, IsAsRecorded, IsStillLinked, IsRecord, IsMetBefore, AreAged, ReaderParts}
+use Rattle.core_state.specs.parts.ReaderParts.{state_slot, StandsWell, GoesTo, IsReading, IsServed, IsAsRecorded, IsStillLinked, IsRecord, IsMetBefore, AreAged, ReaderParts}
 use Rattle.core_state.specs.parts.TreeParts.{map_now}
 use Rattle.list_laws.proofs.Lists.{each_set, in_second}
 use Rattle.core_frames.proofs.chart.Plain.{entered_before}
@@ -50,13 +49,6 @@ module _ (z : LinkStep) where
     pub emptied : (s : ℕ) (a : Side) → IsEmptied vs s a → IsEmptied (views_after z) s a
 
   module _ (r : LinkReads) where
-    answered_after : (section : Section) (state : SearchState) → Answered (updates_of h) section state → Answered (updates_of hs) section state
-    answered_after section (At s a) t = tt
-    answered_after section (Unread s parent a) t = tt
-    answered_after section (Found s parent a None) t = tt
-    answered_after section (Found s parent a (Some value)) t = z.said section.key section.from (Some value) t
-    answered_after section (Missed s a) t = z.said section.key section.from None t
-
     -- an open section of another view
     module _ (j : ℕ) (u : View) (section : Section) (e : get_elem? vs j ≡ some u) (inside : u.section ≡ Some section) where
       abbrev live : ℕ → Type 0
@@ -97,7 +89,7 @@ module _ (z : LinkStep) where
 
       served_after : IsServed (words_after z) to hs (views_after z) section
       served_after = record {
-        placed = λ none. (let q = was.placed none in record { place = placed_after (state_slot section.reading.state) q.place; answered = answered_after section section.reading.state q.answered });
+        placed = λ none. (let q = was.placed none in record { place = placed_after (state_slot section.reading.state) q.place; answered = answered_by (updates_of h) (updates_of hs) section (z.said section.key section.from) section.reading.state q.answered });
         lists = was.lists;
         walking = λ node parent a value walk found on.
             (let q = was.walking node parent a value walk found on in

@@ -49,17 +49,17 @@ module _ (z : LinkStep) where
   held_stays x ne t field number known = let y = t field number known in (y.0, (link_stores m p b c).away x.slot field ne y.0 ∙ y.1)
 
   pub hand_stays : (j : ℕ) (u : View) (x : Held) → get_elem? vs j ≡ some u → u.hands.hand ≡ Some x → IsHeldKnown new x × IsEven (m (Life x.slot))
-  hand_stays j u x e is = let t = (i.slots.hands j u e).hand x is in (held_stays x (own_apart j u x.slot e (hand_own m n g vs h i.slots j u e x is)) t.0, t.1)
+  hand_stays j u x e is = let t = (i.slots.hands j u e).hand x is in (held_stays x (own_apart j u x.slot e (hand_own u x is)) t.0, t.1)
 
   pub spare_stays : (j : ℕ) (u : View) (x : Held) → get_elem? vs j ≡ some u → u.hands.spare ≡ Some x → IsHeldKnown new x
-  spare_stays j u x e is = held_stays x (own_apart j u x.slot e (spare_own m n g vs h i.slots j u e x is)) ((i.slots.hands j u e).spare x is)
+  spare_stays j u x e is = held_stays x (own_apart j u x.slot e (spare_own u x is)) ((i.slots.hands j u e).spare x is)
 
   -- so what is noted of p is noted of neither
   pub hand_noted : (known : Known) → note_option p known v.hands.hand ≡ v.hands.hand
-  hand_noted known = note_option-else p known v.hands.hand (λ x is. own_apart id v x.slot there (hand_own m n g vs h i.slots id v there x is))
+  hand_noted known = note_option-else p known v.hands.hand (λ x is. own_apart id v x.slot there (hand_own v x is))
 
   pub spare_noted : (known : Known) → note_option p known v.hands.spare ≡ v.hands.spare
-  spare_noted known = note_option-else p known v.hands.spare (λ x is. own_apart id v x.slot there (spare_own m n g vs h i.slots id v there x is))
+  spare_noted known = note_option-else p known v.hands.spare (λ x is. own_apart id v x.slot there (spare_own v x is))
 
   retired_stays : (j : ℕ) (u : View) (x : Retired) → get_elem? vs j ≡ some u → IsIn (retired_of u) x → IsRetired new hs x
   retired_stays j u x e has =
@@ -69,7 +69,7 @@ module _ (z : LinkStep) where
         some_slot = t.some_slot;
         marked = t.marked;
         life = t.life;
-        stays = λ field number raised content known. (link_stores m p b c).content x.slot field (own_apart j u x.slot e (retired_own m n g vs h i.slots j u e x has)) content ∙ t.stays field number raised content known;
+        stays = λ field number raised content known. (link_stores m p b c).content x.slot field (own_apart j u x.slot e (retired_own u x has)) content ∙ t.stays field number raised content known;
         unmarked = t.unmarked;
         after_wait = t.after_wait;
       }

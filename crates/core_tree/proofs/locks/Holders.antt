@@ -7,30 +7,16 @@ use lib.ListN.{get_elem?}
 use Rattle.prcu_marks.specs.declared.mark.Mark.{Mark}
 use Rattle.prcu_marks.specs.Marks.{gone_at}
 use Rattle.core_state.specs.declared.shape.Shape.{Shape}
-use Rattle.core_state.specs.declared.view.Held.{Held}
 use Rattle.core_state.specs.declared.view.Move.{Move}
-use Rattle.core_state.specs.declared.view.Retired.{Retired}
 use Rattle.core_state.specs.declared.view.View.{View}
-use Rattle.list_laws.specs.Counts.{times, IsIn}
+use Rattle.list_laws.specs.Counts.{times}
 use Rattle.core_state.specs.memory.Memory.{Memory, slot_count}
 use Rattle.core_state.specs.views.Known.{lock_of, HasLock}
-use Rattle.core_state.specs.views.Views.{Works, places_of, retired_of, slots_of}
+use Rattle.core_state.specs.views.Views.{Works, places_of, slots_of}
 use Rattle.core_state.specs.tree.Readers.{IsPending}
 use Rattle.core_state.specs.Invariant.{HoldsNow}
-use Rattle.list_laws.proofs.Lists.{times_in}
 use Rattle.core_frames.proofs.views.SeatFacts.{works_there, places_apart}
-use Rattle.core_frames.proofs.views.Roles.{slots_count, spares_count, held_there}
 use Rattle.core_frames.proofs.views.Roles.{linked_none, gone_off}
-
--- what is in hand, a spare, retired is among the slots of a view
-pub hand_counts : (u : View) (held : Held) → u.hands.hand ≡ Some held → 1 ≤ times held.slot (slots_of u)
-hand_counts u held is = let a = slots_count u held.slot in let b = held_there u.hands.hand held is in omega arith
-
-pub spare_counts : (u : View) (held : Held) → u.hands.spare ≡ Some held → 1 ≤ times held.slot (slots_of u)
-spare_counts u held is = let a = slots_count u held.slot in let b = spares_count u held.slot in let c = held_there u.hands.spare held is in omega arith
-
-pub retired_counts : (u : View) (r : Retired) → IsIn (retired_of u) r → 1 ≤ times r.slot (slots_of u)
-retired_counts u r has = let a = slots_count u r.slot in let b = times_in (λ (x : Retired). x.slot) (retired_of u) r has in omega arith
 
 module _ (k : Shape) (m : Memory) (vs : List View) (h : List Mark) (i : HoldsNow k m vs h) where
   -- who has a lock works at a place

@@ -34,7 +34,7 @@ module _ (k : Shape) (m : Memory) (vs : List View) (h : List Mark) (i : HoldsNow
     linked_nobody = linked_none m (slot_count k) i.chart vs h i.slots j u at slot linked
 
     pub linked_hand : (x : Held) → u.hands.hand ≡ Some x → x.slot ≢ slot
-    linked_hand x is same = absurd (let a = hand_own m (slot_count k) i.chart vs h i.slots j u at x is in let c = linked_nobody in let d = ap (λ z. times z (slots_of u)) same in omega arith)
+    linked_hand x is same = absurd (let a = hand_own u x is in let c = linked_nobody in let d = ap (λ z. times z (slots_of u)) same in omega arith)
 
     pub linked_spare : (x : Held) → u.hands.spare ≡ Some x → x.slot ≢ slot
-    linked_spare x is same = absurd (let a = spare_own m (slot_count k) i.chart vs h i.slots j u at x is in let c = linked_nobody in let d = ap (λ z. times z (slots_of u)) same in omega arith)
+    linked_spare x is same = absurd (let a = spare_own u x is in let c = linked_nobody in let d = ap (λ z. times z (slots_of u)) same in omega arith)

@@ -6,7 +6,6 @@ use lib.ListN.{get_elem?}
 use Rattle.atomic_table.proofs.Lists.{set_again, set_here}
 use Rattle.prcu_marks.specs.declared.mark.Mark.{Mark}
 use Rattle.prcu_marks.specs.declared.mark.Side.{Side}
-use Rattle.prcu_marks.specs.declared.mark.Side.TheVariants.{Left, Right}
 use Rattle.core_state.specs.declared.shape.Shape.{Shape}
 use Rattle.core_state.specs.declared.words.Field.{Field}
 use Rattle.core_state.specs.declared.words.Field.TheVariants.{Life}
@@ -16,7 +15,7 @@ use Rattle.core_state.specs.declared.view.Known.{Known}
 use Rattle.core_state.specs.declared.view.Move.{Move}
 use Rattle.core_state.specs.declared.view.View.{View}
 use Rattle.core_state.specs.memory.Memory.{Memory, stored, slot_count}
-use Rattle.core_state.specs.views.Known.{known_in, lock_of, is_emptied, change_lock, note_lock, note_held, note_option, note_moving, noting, IsOwnField}
+use Rattle.core_state.specs.views.Known.{known_in, lock_of, change_lock, note_lock, note_held, note_option, note_moving, noting, IsOwnField}
 use Rattle.core_state.specs.views.Views.{Works}
 use Rattle.core_state.specs.steps.Locks.{after_locked_load}
 use Rattle.core_state.specs.tree.Chart.{Chart}
@@ -31,7 +30,7 @@ use Rattle.core_frames.proofs.views.Same.{same_slots}
 use Rattle.core_tree.proofs.locks.LockHeld.{lock_outside, lock_alone}
 use Rattle.core_tree.proofs.notes.Knowing.{known_still}
 use Rattle.core_tree.proofs.locks.Relocking.{emptied_change_same}
-use Rattle.core_tree.proofs.locks.LockSteps.{emptied_after, OneLock, one_changed, lock_stays}
+use Rattle.core_tree.proofs.locks.LockSteps.{note_side, emptied_after, OneLock, one_changed, lock_stays}
 use Rattle.core_tree.proofs.notes.Notes.{note_held-form, lock_noted, note_held-slot, note_option-slots, held_noted, hands_noted, note_option-unraised, note_option-none, note_option-still_none}
 use Rattle.core_tree.proofs.notes.KnownHands.{law_hands}
 use Rattle.core_tree.proofs.notes.KnownCopy.{law_copy}
@@ -63,15 +62,11 @@ module _ (k : Shape) (m : Memory) (vs : List View) (h : List Mark) (id : ℕ) (v
   outside : v.section ≡ None
   outside = lock_outside k m vs h i id v there slot lock held
 
-  note_side : (a : Side) (l : HeldLock) → is_emptied (note_lock entry l) a ≡ is_emptied l a
-  note_side Left l = refl
-  note_side Right l = refl
-
   one : OneLock v noted_view slot lock (note_lock entry lock)
   one = one_changed v slot lock (note_lock entry) (λ l. refl) held outside
 
   kept_slot : IsLockKept m g noted_view slot (note_lock entry lock)
-  kept_slot = let t = i.locks.kept id v there slot lock held in record { marked = t.marked; own_mark = t.own_mark; emptied = λ a e. t.emptied a (sym (note_side a lock) ∙ e) }
+  kept_slot = let t = i.locks.kept id v there slot lock held in record { marked = t.marked; own_mark = t.own_mark; emptied = λ a e. t.emptied a (sym (note_side entry a lock) ∙ e) }
 
   -- the life of a slot that the view marked is known
   marked_life : lock.marked ≡ true → known_in (entry ∷ lock.known) (Life slot) ≡ Some (m (Life slot))
@@ -83,7 +78,7 @@ module _ (k : Shape) (m : Memory) (vs : List View) (h : List Mark) (id : ℕ) (v
       (λ r x. x) i.locks
 
   emptied_now : (s : ℕ) (a : Side) → IsEmptied vs s a → IsEmptied (set vs id noted_view) s a
-  emptied_now s a = emptied_after vs id v noted_view slot lock (note_lock entry lock) there one s a (λ _ e. note_side a lock ∙ e)
+  emptied_now s a = emptied_after vs id v noted_view slot lock (note_lock entry lock) there one s a (λ _ e. note_side entry a lock ∙ e)
 
   -- under its lock
   pub noted_first : HoldsNow k m (set vs id noted_view) h

@@ -22,7 +22,7 @@ use Rattle.core_state.specs.declared.view.View.{View}
 use Rattle.list_laws.specs.Counts.{times, IsIn}
 use Rattle.core_state.specs.memory.Lists.{sum_below, has}
 use Rattle.core_state.specs.memory.Memory.{Memory, same_field, stored, slot_count}
-use Rattle.core_state.specs.views.Known.{known_in, HasLock, is_emptied, with_emptied, change_lock, note_lock, note_held, note_moving, IsOwnField}
+use Rattle.core_state.specs.views.Known.{known_in, HasLock, with_emptied, change_lock, note_lock, note_held, note_moving, IsOwnField}
 use Rattle.core_state.specs.views.Views.{Works, open_reading, held_list, spares_of, slots_of, joined_retired}
 use Rattle.core_state.specs.steps.Locks.{NeedsRaiseTag, after_raise_tag}
 use Rattle.core_state.specs.tree.Chart.{Chart}
@@ -37,7 +37,7 @@ use Rattle.core_tree.proofs.locks.LockHeld.{lock_outside, lock_alone}
 use Rattle.core_tree.proofs.stores.Stores.{cases_side}
 use Rattle.core_tree.proofs.frames.CountedBelow.{sum_more}
 use Rattle.core_tree.proofs.locks.Relocking.{emptied_change_same, emptied_slot, emptied_known, emptied_marked}
-use Rattle.core_tree.proofs.locks.LockSteps.{emptied_after, OneLock, one_changed, noted_then, lock_stays}
+use Rattle.core_tree.proofs.locks.LockSteps.{note_side, emptied_after, OneLock, one_changed, noted_then, lock_stays}
 use Rattle.core_frames.proofs.views.Roles.{linked_none, not_gone, held_there, spare_among, slots_count}
 use Rattle.core_tree.proofs.notes.Notes.{note_held-form, lock_noted, note_option-else, note_held-slot, held_noted}
 use Rattle.core_tree.proofs.notes.KnownCopy.{law_copy}
@@ -99,7 +99,7 @@ module _ (k : Shape) (m : Memory) (vs : List View) (h : List Mark) (id : ℕ) (v
   hand_apart j u x e is = not_ours j u x.slot e (let a = held_there u.hands.hand x is in omega arith)
 
   spare_apart : (j : ℕ) (u : View) (x : Held) → get_elem? vs j ≡ some u → u.hands.spare ≡ Some x → x.slot ≢ slot
-  spare_apart j u x e is = not_ours j u x.slot e (let a = spare_among m (slot_count k) g vs h i.slots j u e x is in omega arith)
+  spare_apart j u x e is = not_ours j u x.slot e (let a = spare_among u x is in omega arith)
 
   stores : StoresIn m raised_memory slot
   stores = stores_in m slot (Tag slot b) (tag + 1) refl
@@ -113,15 +113,11 @@ module _ (k : Shape) (m : Memory) (vs : List View) (h : List Mark) (id : ℕ) (v
   one : OneLock v w slot lock new_lock
   one = noted_then v slot lock entry (with_emptied b false) (emptied_slot b false) needs.held outside
 
-  note_side : (a : Side) (l : HeldLock) → is_emptied (note_lock entry l) a ≡ is_emptied l a
-  note_side Left l = refl
-  note_side Right l = refl
-
   kept_slot : IsLockKept raised_memory g w slot new_lock
   kept_slot = let t = i.locks.kept id v there slot lock needs.held in record {
     marked = λ e. t.marked (sym (emptied_marked b false (note_lock entry lock)) ∙ e);
     own_mark = λ l odd. emptied_marked b false (note_lock entry lock) ∙ t.own_mark l odd;
-    emptied = λ a e. (let x = t.emptied a (sym (note_side a lock) ∙ (emptied_back b a (note_lock entry lock) e).0) in (x.0, ⊎_elim (λ l. inl l) (λ (y : IsUnraised v slot). inr y) x.1));
+    emptied = λ a e. (let x = t.emptied a (sym (note_side entry a lock) ∙ (emptied_back b a (note_lock entry lock) e).0) in (x.0, ⊎_elim (λ l. inl l) (λ (y : IsUnraised v slot). inr y) x.1));
   }
 
   tag_le : (s : ℕ) (a : Side) → m (Tag s a) ≤ raised_memory (Tag s a)
@@ -168,14 +164,14 @@ module _ (k : Shape) (m : Memory) (vs : List View) (h : List Mark) (id : ℕ) (v
   tags_counted =
       let first = one_changed v slot lock (note_lock entry) (λ l. refl) needs.held outside in
       let fewer = emptied_less slot (with_emptied b false) noted_locks (note_lock entry lock) first.now
-      (subst (λ ls. times slot ls ≤ 1) (sym first.slots) ((i.locks.few id v there).once slot)) (emptied_flags b (note_lock entry lock) (note_side b lock ∙ needs.emptied)) in
+      (subst (λ ls. times slot ls ≤ 1) (sym first.slots) ((i.locks.few id v there).once slot)) (emptied_flags b (note_lock entry lock) (note_side entry b lock ∙ needs.emptied)) in
       let noted = emptied_change_same slot (note_lock entry) (λ l. refl) (λ l. refl) v.locks in
       let sum = tag_sum in
       omega arith
 
   -- another side that was emptied still is
   emptied_still : (s : ℕ) (a : Side) → ((s ≡ slot) → a ≢ b) → IsEmptied vs s a → IsEmptied (set vs id w) s a
-  emptied_still s a other = emptied_after vs id v w slot lock new_lock there one s a (λ same e. emptied_other b a (note_lock entry lock) (other same) ∙ note_side a lock ∙ e)
+  emptied_still s a other = emptied_after vs id v w slot lock new_lock there one s a (λ same e. emptied_other b a (note_lock entry lock) (other same) ∙ note_side entry a lock ∙ e)
 
   -- a record with the tag from before says nothing
   tag_back : (j : ℕ) (u : View) (r : Reading) (s number : ℕ) (a : Side) → get_elem? vs j ≡ some u → IsIn u.records r → known_in r.loads (Tag s a) ≡ Some number → raised_memory (Tag s a) ≡ number → (IsEmptied (set vs id w) s a → ⊥)

@@ -108,7 +108,7 @@ module _ (k : Shape) (m m' : Memory) (vs : List View) (h : List Mark) (id : ℕ)
 
         retired_is : (j : ℕ) (u : View) (x : Retired) → get_elem? vs j ≡ some u → IsIn (retired_of u) x → IsRetired m h x → IsRetired m' h x
         retired_is j u x e is t =
-            let same = c.off x.slot (own_off m (slot_count k) g vs h i.slots j u e x.slot (retired_own m (slot_count k) g vs h i.slots j u e x is)) in
+            let same = c.off x.slot (own_off m (slot_count k) g vs h i.slots j u e x.slot (retired_own u x is)) in
             record {
               unlinked = t.unlinked;
               some_slot = t.some_slot;

@@ -20,7 +20,8 @@ use Rattle.core_state.specs.parts.CountParts.{turns_to_come, linked_count, young
 use Rattle.core_state.specs.Invariant.{HoldsNow}
 use Rattle.core_tree.proofs.stores.Stores.{StoresAt}
 use Rattle.core_frames.proofs.frames.CountFrame.{free_slots, counts_by}
-use Rattle.core_tree.proofs.frames.CountedBelow.{sum_same, sum_less}
+use Rattle.core_tree.proofs.frames.CountedBelow.{sum_less}
+use Rattle.core_frames.proofs.views.Sums.{sum_equal}
 
 -- the slot d goes off
 module _ (g to : Chart) (d n : ℕ) (small : d < n) (nz : d ≢ 0) (was : g.linked d ≡ true) (off : to.linked d ≡ false) (others : (s : ℕ) → s ≢ d → to.linked s ≡ g.linked s) (same_old : (s : ℕ) → to.old s ≡ g.old s) where
@@ -40,7 +41,7 @@ module _ (g to : Chart) (d n : ℕ) (small : d < n) (nz : d ≢ 0) (was : g.link
       (λ s ne. λ z. flag (others s ne z && same_old s z))
 
   pub young_same : g.old d ≡ true → young_count to n ≡ young_count g n
-  young_same old = sum_same (λ s. flag (g.linked s && (not (s == 0) && not (g.old s)))) (λ s. flag (to.linked s && (not (s == 0) && not (to.old s)))) n
+  young_same old = sum_equal (λ s. flag (to.linked s && (not (s == 0) && not (to.old s)))) (λ s. flag (g.linked s && (not (s == 0) && not (g.old s)))) n
       (λ s _. ⊎_elim (λ (e : s ≡ d). none (to.linked s) (to.old s) (same_old s ∙ ap g.old e ∙ old) s ∙ sym (none (g.linked s) (g.old s) (ap g.old e ∙ old) s)) (λ ne. λ z. flag (others s ne z && (not (s == 0) && not (same_old s z)))) (cases_eq s d))
     where
       none : (l o : Bool) → o ≡ true → (s : ℕ) → flag (l && (not (s == 0) && not o)) ≡ 0
@@ -52,7 +53,7 @@ module _ (g to : Chart) (d n : ℕ) (small : d < n) (nz : d ≢ 0) (was : g.link
           zero_flag false b = refl
 
   pub old_same : g.old d ≡ false → old_count to n ≡ old_count g n
-  old_same young = sum_same (λ s. flag (g.linked s && g.old s)) (λ s. flag (to.linked s && to.old s)) n
+  old_same young = sum_equal (λ s. flag (to.linked s && to.old s)) (λ s. flag (g.linked s && g.old s)) n
       (λ s _. ⊎_elim (λ (e : s ≡ d). none (to.linked s) (to.old s) (same_old s ∙ ap g.old e ∙ young) ∙ sym (none (g.linked s) (g.old s) (ap g.old e ∙ young))) (λ ne. λ z. flag (others s ne z && same_old s z)) (cases_eq s d))
     where
       none : (l o : Bool) → o ≡ false → flag (l && o) ≡ 0

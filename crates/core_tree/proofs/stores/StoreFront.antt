@@ -1,4 +1,4 @@
--- The parts on the front, after a step that stores in no front: one that makes an update, and one that makes none.
+-- The parts on the front, after a step that stores in no front and makes an update.
 use Rattle.std.proofs.Common.{◌≡◌, ◌≢◌, ℕ, ◌+◌, ◌*◌, cond, true, false, List, length, set, Some, None, refl, sym, ap, subst, ◌∙◌, ⊎_elim, inr, arith}
 use mathlib.Core.Logic.{dite}
 use mathlib.Core.Option.{some, some-injective}
@@ -17,11 +17,6 @@ use Rattle.core_state.specs.steps.Links.{HasCommit}
 use Rattle.core_state.specs.parts.FrontParts.{IsOddBy, FrontParts}
 use Rattle.list_laws.specs.Counts.{Each}
 use Rattle.list_laws.proofs.Lists.{at_below, each_set}
-use Rattle.core_frames.proofs.frames.FrontFrame.{front_by}
-
--- no update was made
-pub front_still : (m m' : Memory) (vs : List View) (id : ℕ) (v w : View) → get_elem? vs id ≡ some v → (h h' : List Mark) → m' Front ≡ m Front → (v.moving ≡ None → w.moving ≡ None) → w.commit ≡ v.commit → updates_of h' ≡ updates_of h → FrontParts m vs h → FrontParts m' (set vs id w) h'
-front_still m m' vs id v w there h h' front settled commit updates t = front_by m m' vs id v w h h' there front commit settled updates t
 
 module _ (m m' : Memory) (vs : List View) (id : ℕ) (v w : View) (there : get_elem? vs id ≡ some v) (h h' : List Mark) (front : m' Front ≡ m Front) (t : FrontParts m vs h) where
   -- the view whose commit it is

@@ -26,7 +26,8 @@ use Rattle.list_laws.proofs.Lists.{at_below, each_set, total_same}
 use Rattle.core_frames.proofs.views.Same.{SamePlaces}
 use Rattle.core_frames.proofs.views.Fields.{stored_here, stored_else}
 use Rattle.core_tree.proofs.stores.Stores.{StoresAt, held_beside}
-use Rattle.core_tree.proofs.locks.Holders.{hand_counts, spare_counts, retired_counts, linked_apart, one_holder}
+use Rattle.core_frames.proofs.views.Roles.{hand_own, spare_own, retired_own}
+use Rattle.core_tree.proofs.locks.Holders.{linked_apart, one_holder}
 use Rattle.core_tree.proofs.notes.Notes.{hands_noted, note_option-none, note_option-still_none, note_option-slots}
 
 module _ (k : Shape) (m : Memory) (vs : List View) (h : List Mark) (i : HoldsNow k m vs h) (id : ℕ) (v w : View) (there : get_elem? vs id ≡ some v)
@@ -80,8 +81,8 @@ module _ (k : Shape) (m : Memory) (vs : List View) (h : List Mark) (i : HoldsNow
 
     hands_others : (j : ℕ) (u : View) → j ≢ id → get_elem? vs j ≡ some u → AreHandsKnown m u → AreHandsKnown m' u
     hands_others j u ne e t = record {
-      hand = λ held is. (let r = t.hand held is in (held_same held (not_mine held.slot j u e (hand_counts u held is)) r.0, even_same held.slot r.1));
-      spare = λ held is. held_same held (not_mine held.slot j u e (spare_counts u held is)) (t.spare held is);
+      hand = λ held is. (let r = t.hand held is in (held_same held (not_mine held.slot j u e (hand_own u held is)) r.0, even_same held.slot r.1));
+      spare = λ held is. held_same held (not_mine held.slot j u e (spare_own u held is)) (t.spare held is);
       copy = λ move is.
           (let r = t.copy move is in
           let lock = (i.tree.moves.each j u e move is).copy_lock in
@@ -96,7 +97,7 @@ module _ (k : Shape) (m : Memory) (vs : List View) (h : List Mark) (i : HoldsNow
     pub retired_kept : (j : ℕ) (u : View) (r : Retired) → get_elem? vs j ≡ some u → IsIn (retired_of u) r → IsRetired m' h' r
     retired_kept j u r e has =
         let t = i.slots.retired j u e has.0 r has.1 in
-        let ne = not_mine r.slot j u e (retired_counts u r has) in
+        let ne = not_mine r.slot j u e (retired_own u r has) in
         record {
           unlinked = c.same_gone r.slot (off j u r e has) ∙ t.unlinked;
           some_slot = t.some_slot;
@@ -111,7 +112,7 @@ module _ (k : Shape) (m : Memory) (vs : List View) (h : List Mark) (i : HoldsNow
         off j u r e has = cases (i.chart.linked r.slot) refl
           where
             cases : (b : Bool) → i.chart.linked r.slot ≡ b → b ≡ false
-            cases true l = absurd (let none = linked_apart k m vs h i r.slot l j u e in let one = retired_counts u r has in omega arith)
+            cases true l = absurd (let none = linked_apart k m vs h i r.slot l j u e in let one = retired_own u r has in omega arith)
             cases false l = refl
 
     few_same : length w.hands.retired ≤ 16 → ((r : Retired) → IsIn v.hands.retired r → IsIn w.hands.retired r) → HasFewSlots v → HasFewSlots w

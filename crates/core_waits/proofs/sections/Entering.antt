@@ -1,5 +1,6 @@
 -- A section is entered: what keeps the invariant whatever the waiter, where the waiter's words show it.
 use Rattle.std.proofs.Common.{◌≡◌, ◌≢◌, ℕ, zero, suc, ◌≤◌, ◌⊎◌, true, List, [], ◌∷◌, ◌++◌, length, take, set, Some, None, refl, sym, ap, subst, ◌∙◌, inl, inr, arith}
+use Rattle.std.proofs.lemmas.List.{take-append-le}
 use mathlib.Core.Option.{some, some-injective, some-ne-none}
 use lib.ListN.{get_elem?}
 use Rattle.prcu_marks.specs.declared.mark.Mark.{Mark}
@@ -21,7 +22,7 @@ use Rattle.core_state.specs.parts.ReaderParts.{IsReading, IsServed, HasStood}
 use Rattle.core_state.specs.parts.WaiterParts.{EerWords, DomainWords, DeerWords, WaiterParts}
 use Rattle.core_state.specs.Invariant.{HoldsNow}
 use Rattle.list_laws.proofs.Lists.{in_second}
-use Rattle.core_frames.proofs.marks.MarkFacts.{quiet_snoc, take-more, QuietMarks}
+use Rattle.core_frames.proofs.marks.MarkFacts.{quiet_snoc, QuietMarks}
 use Rattle.core_frames.proofs.views.Same.{SameSlots, slots_stay, quiet_words}
 use Rattle.core_frames.proofs.views.SeatFacts.{works_there, place_within}
 use Rattle.core_frames.proofs.frames.SeatFrame.{open_none, seats_enter}
@@ -62,7 +63,7 @@ module _ (k : Shape) (m m' : Memory) (vs : List View) (h : List Mark) (id : ℕ)
       (record {
         loaded = λ c none. absurd (let e : None ≡ Some c = none in cc);
         stamped = λ s is. subst (λ (z : Section). (z.clocked ≤ z.entered) × (k.waiter ≢ Domain → z.stamp ≡ begun (take z.clocked (h ++ mark ∷ [])))) (is_new s is)
-            (stamped.0, λ ne. stamped.1 ne ∙ ap begun (sym (take-more h (mark ∷ []) clocked stamped.0)));
+            (stamped.0, λ ne. stamped.1 ne ∙ ap begun (sym (take-append-le clocked h (mark ∷ []) stamped.0)));
       })
       (λ j u wait s e waits is older. (let now = ap (λ (z : Section). z.entered) (is_new s is) in let began = began_low k m vs h i j u wait e waits in absurd (omega arith)))
       eer domain deer i.waiters

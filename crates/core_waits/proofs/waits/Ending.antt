@@ -1,5 +1,6 @@
 -- The last look ends a wait: all its readers have left, and what was waited for is noted.
 use Rattle.std.proofs.Common.{◌≡◌, ◌≢◌, ℕ, zero, suc, ◌+◌, ◌^◌, ◌<◌, ◌≤◌, ◌⊎◌, ◌==◌, ◌&&◌, ◌||◌, nat_lt, nat_le, true, false, List, [], ◌∷◌, ◌++◌, length, map, set, Option, Some, None, refl, sym, ap, subst, ◌∙◌, ⊎_elim, inl, inr, arith, eq-eqb, ne_eqb}
+use Rattle.std.proofs.lemmas.List.{take-append-le}
 use Rattle.std.proofs.lemmas.Bool.{eqb-true, ltb-true, leb-true, lt-ltb, le-leb, and_from, and_parts, or_cases, or_left, or_right}
 use mathlib.Core.Option.{some, some-injective, some-ne-none}
 use lib.ListN.{get_elem?}
@@ -28,7 +29,7 @@ use Rattle.core_state.specs.parts.CountParts.{CountParts}
 use Rattle.core_state.specs.parts.GraceParts.{IsClear, IsWaitedRetired, IsWaitedMove, GraceParts}
 use Rattle.core_state.specs.Invariant.{HoldsNow}
 use Rattle.list_laws.proofs.Lists.{at_below, at_end, each_set, set_twice}
-use Rattle.core_frames.proofs.marks.MarkFacts.{QuietMarks, quiet_snoc, begun-append, begun_at-append, take-more}
+use Rattle.core_frames.proofs.marks.MarkFacts.{QuietMarks, quiet_snoc, begun-append, begun_at-append}
 use Rattle.core_frames.proofs.views.Same.{same_slots}
 use Rattle.core_frames.proofs.frames.MarkFrame.{marks_snoc, mark_frame_by}
 use Rattle.core_frames.proofs.frames.CountFrame.{counts_still, sums_same}
@@ -124,7 +125,7 @@ module _ (k : Shape) (m : Memory) (vs : List View) (h : List Mark) (id : ℕ) (v
       let s = stands in record {
         works = works;
         begins = at_longer h (mark ∷ []) wait.began _ s.begins;
-        clock = s.clock ∙ ap begun (sym (take-more h (mark ∷ []) wait.began (let l = at_below h wait.began _ s.begins in omega arith)));
+        clock = s.clock ∙ ap begun (sym (take-append-le wait.began h (mark ∷ []) (let l = at_below h wait.began _ s.begins in omega arith)));
         newest = s.newest;
         over = λ f. (length h, at_last h mark (length h) refl);
         going = λ f has. absurd (let q : true ≡ false = f in cc);
