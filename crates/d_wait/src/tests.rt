@@ -34,6 +34,6 @@ fn other_readers_are_not_waited_for(rt: HostRuntime) -> Result<(), Fail> {
     Domain::enter(&table, &mut reader, 100);
     wait_for_readers(&rt, &table, &mut waiter, Keys::between(6, 8));
     Domain::leave(&table, &mut reader);
-    assert_eq!(rt; waiter.turns(), 3);
+    assert_eq!(rt; waiter.turns(), 2);
     Ok(())
 }

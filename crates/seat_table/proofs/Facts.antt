@@ -36,7 +36,7 @@ use Rattle.core_state.specs.parts.FrontParts.{IsOddBy}
 use Rattle.core_state.specs.Invariant.{HoldsNow}
 use Rattle.core_frames.proofs.views.SeatFacts.{works_there, place_within}
 use Rattle.core_frames.proofs.views.Roles.{slots_count, spares_count, held_there, own_below}
-use Rattle.core_frames.proofs.marks.MarkFacts.{take-more}
+use Rattle.std.proofs.lemmas.List.{take-append-le}
 use Rattle.core_frames.proofs.chart.Plain.{gone_within}
 use Rattle.core_frames.proofs.Counting.{total_le, places_length, all_places}
 use Rattle.key_interval.specs.Keys.{class_of}
@@ -63,7 +63,7 @@ grace_front a rest grace i j e p n low high q c x began ended entered before lea
 reuse_front : (a rest : List Mark) → Reuse (a ++ rest) → Reuse a
 reuse_front a rest reuse j s i p m o there reused last opened =
     let below = at_below a j m there in
-    let same : take j (a ++ rest) ≡ take j a = take-more a rest j (omega arith) in
+    let same : take j (a ++ rest) ≡ take j a = take-append-le j a rest (omega arith) in
     reuse j s i p m o (at_longer a rest j m there) reused (ap (last_unlinked s) same ∙ last) (ap (open_at p) same ∙ opened)
 
 -- a place begins no more waits than there are
