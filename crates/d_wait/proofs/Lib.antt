@@ -1,1 +1,4 @@
+pub mod Polling
 pub mod Sides
+pub mod Classes
+pub mod Turning

@@ -1,1 +1,3 @@
-pub mod Sides
+pub mod Classes
+pub mod Looks
+pub mod Turns

@@ -1,14 +1,12 @@
 //! Sections and waits of the second waiter.
-ghost use Rattle.std.specs.Prelude.{◌≡◌, ◌≢◌, ◌+◌, ◌%◌, ◌<◌, ◌≤◌, List, true, false, Some, IfNone, IfSome};
+ghost use Rattle.std.specs.Prelude.{◌≡◌, ◌+◌, ◌%◌, ◌<◌, ◌≤◌, Some, IfNone, IfSome, true, false};
 ghost use Rattle.core_state.specs.declared.words.Field.TheVariants.{Count};
-ghost use Rattle.core_state.specs.declared.view.StepMade.{StepMade};
-ghost use Rattle.core_state.specs.declared.view.Waiting.{Waiting};
 ghost use Rattle.key_interval.specs.Keys.{MeetsClass};
-ghost use Rattle.seat_table.specs.Cases.{MayLook};
-ghost use Rattle.seat_table.specs.Seats.{shape_of};
-ghost use Rattle.seat_table.specs.Waits.{HasLooked, Passed, Shows, IsLatestOf, IsGoingOn, IsOver, Polled};
 ghost use Rattle.seat_table.specs.declared.wait.Poll.TheVariants.{NotYet};
-ghost use Rattle.d_wait.specs.Sides.{stopped, IsLastClass, Stays};
+ghost use Rattle.seat_table.specs.Seats.{shape_of};
+ghost use Rattle.seat_table.specs.Waits.{IsLatestOf, IsGoingOn, IsOver, Polled};
+ghost use Rattle.d_wait.specs.Classes.{IsLastClass, StaysAt, at_next, IsBack};
+ghost use Rattle.d_wait.specs.Looks.{HasPassed, HasMet};
 
 use key_interval::{Keys, class_of};
 use prcu_marks::Why;
@@ -16,7 +14,9 @@ use seat_table::steps::{k7, k28, k29, k30, k31, k32};
 use seat_table::{CitrusTable, Grace, Poll, Seat, WaitPart, WaitWords};
 use std::marker::PhantomData;
 
-/// The waiter that counts readers by the class of their key.
+/// The waiter that counts readers by the class of their key. A reader adds 1 to the side of its key's class that the class's gate
+/// names, and takes it away when it leaves. A wait goes over the classes of its keys: it finds the side that the gate doesn't name
+/// at 0, turns the gate, and finds the other side at 0.
 pub struct Domain;
 
 impl WaitWords for Domain {
@@ -25,21 +25,55 @@ impl WaitWords for Domain {
     const WAY: u32 = 1;
 }
 
-/// Looks at a side of a class, the last one or another, and answers what stands in the wait's way there.
+// What a grace has for a gate that isn't loaded yet. A gate is 0 or 1.
+const NOT_LOADED: u64 = u64::MAX;
+
+// The greatest class of the keys.
+fn last_class(keys: &Keys) -> u32
+    ensures class { result < 64 }
+    ensures last { IsLastClass keys.now result }
+{
+    if keys.low() / 64 < keys.high() / 64 {
+        63
+    } else {
+        class_of(keys.high())
+    }
+}
+
+// Loads the gate of the class that the grace has come to, unless that was done.
+fn load_gate(table: &CitrusTable<Domain>, seat: &mut Seat<Domain>, grace: &mut Grace<Domain>)
+    requires table { seat.old.table ≡ table.now }
+    requires latest { IsLatestOf (shape_of 1 table.now) grace.old seat.old.view }
+    requires unturned { grace.old.turned ≡ false }
+    ensures seat { (seat.new.table ≡ seat.old.table) × (seat.new.listed ≡ seat.old.listed) }
+    ensures grace { grace.new ≡ record grace.old { gate = grace.new.gate } }
+    ensures gone_on { IsGoingOn (shape_of 1 table.now) seat.old.view grace.new seat.new.view }
+{
+    if grace.gate != NOT_LOADED {
+        return;
+    }
+    grace.gate = k28(table, seat, grace.class);
+}
+
+// Looks at a side of the class that the grace has come to, as the last look of the wait or another, and answers what stands in the
+// wait's way there.
 fn look(
     table: &CitrusTable<Domain>,
     seat: &mut Seat<Domain>,
-    class: u32,
+    grace: &Grace<Domain>,
     side: u32,
     last: bool,
 ) -> Option<Why>
     requires table { seat.old.table ≡ table.now }
-    requires side { (class < 64) × (side < 2) }
-    requires may { (wait : Waiting) × MayLook (shape_of 1 table.now) seat.old.view wait (Count class side) last }
+    requires latest { IsLatestOf (shape_of 1 table.now) grace.now seat.old.view }
+    requires met { MeetsClass grace.now.keys grace.now.class }
+    requires side { side < 2 }
+    requires end { last ≡ true → (grace.now.turned ≡ true) × (side ≡ grace.now.gate % 2) × IsLastClass grace.now.keys grace.now.class }
     ensures seat { (seat.new.table ≡ seat.old.table) × (seat.new.listed ≡ seat.old.listed) }
-    ensures passed { IfNone result ((wait : Waiting) × (steps : List StepMade) × (seat.old.view.wait ≡ Some wait) × Passed seat.old.view wait last steps (Count class side) seat.new.view) }
-    ensures met { IfSome result (λ why. (wait : Waiting) × (steps : List StepMade) × (seat.old.view.wait ≡ Some wait) × HasLooked seat.old.view wait steps wait seat.new.view × (MeetsClass (record { low = wait.low; high = wait.high }) class → Shows wait steps why)) }
+    ensures passed { IfNone result (HasPassed seat.old.view last (Count grace.now.class side) seat.new.view) }
+    ensures met { IfSome result (λ why. HasMet seat.old.view why seat.new.view) }
 {
+    let class = grace.class;
     let count = k31(table, seat, class, side, last);
     if count == 0 {
         return None;
@@ -47,141 +81,104 @@ fn look(
     Some(Why::Counter { class, side, count })
 }
 
-/// The gate of the class where the grace stands, loaded where it isn't yet.
-fn gate_of(table: &CitrusTable<Domain>, seat: &mut Seat<Domain>, grace: &Grace<Domain>) -> u64
-    requires table { seat.old.table ≡ table.now }
-    requires latest { IsLatestOf (shape_of 1 table.now) grace.now seat.old.view }
-    ensures seat { (seat.new.table ≡ seat.old.table) × (seat.new.listed ≡ seat.old.listed) }
-    ensures stays { Stays seat.old.view seat.new.view }
-{
-    if grace.gate != u64::MAX {
-        return grace.gate;
-    }
-    k28(table, seat, grace.class)
-}
-
-/// Looks at the side that isn't entered now, and turns the gate.
+// Finds the side at 0 that the gate doesn't name, and turns the gate, unless that was done; or answers what stands in the wait's way.
 fn turn(
     table: &CitrusTable<Domain>,
     seat: &mut Seat<Domain>,
     grace: &mut Grace<Domain>,
 ) -> Option<Why>
     requires table { seat.old.table ≡ table.now }
-    requires met { MeetsClass grace.old.keys grace.old.class }
-    requires unturned { grace.old.turned ≡ false }
     requires latest { IsLatestOf (shape_of 1 table.now) grace.old seat.old.view }
-    ensures seat { (seat.new.table ≡ seat.old.table) × (seat.new.listed ≡ seat.old.listed) }
-    ensures grace { grace.new ≡ stopped grace.old.class grace.new.gate grace.new.turned grace.old }
-    ensures passed { IfNone result (IsGoingOn (shape_of 1 table.now) seat.old.view grace.new seat.new.view × (grace.new.turned ≡ true)) }
-    ensures met { IfSome result (λ why. Polled (shape_of 1 table.now) seat.old.view (NotYet why) grace.new seat.new.view) }
-{
-    let class = grace.class;
-    let gate = gate_of(table, seat, grace);
-    grace.gate = gate;
-    if let Some(why) = look(table, seat, class, 1 - (gate % 2) as u32, false) {
-        return Some(why);
-    }
-    k32(table, seat, class);
-    grace.turned = true;
-    None
-}
-
-/// Sees to it that the gate of the class where the grace stands is turned.
-fn turned(
-    table: &CitrusTable<Domain>,
-    seat: &mut Seat<Domain>,
-    grace: &mut Grace<Domain>,
-) -> Option<Why>
-    requires table { seat.old.table ≡ table.now }
     requires met { MeetsClass grace.old.keys grace.old.class }
-    requires latest { IsLatestOf (shape_of 1 table.now) grace.old seat.old.view }
     ensures seat { (seat.new.table ≡ seat.old.table) × (seat.new.listed ≡ seat.old.listed) }
-    ensures grace { grace.new ≡ stopped grace.old.class grace.new.gate grace.new.turned grace.old }
-    ensures passed { IfNone result (IsGoingOn (shape_of 1 table.now) seat.old.view grace.new seat.new.view × (grace.new.turned ≡ true)) }
+    ensures grace { StaysAt grace.old grace.new }
+    ensures turned { IfNone result ((grace.new.turned ≡ true) × IsGoingOn (shape_of 1 table.now) seat.old.view grace.new seat.new.view) }
     ensures met { IfSome result (λ why. Polled (shape_of 1 table.now) seat.old.view (NotYet why) grace.new seat.new.view) }
 {
     if grace.turned {
         return None;
     }
-    turn(table, seat, grace)
+    load_gate(table, seat, grace);
+    let side = 1 - (grace.gate % 2) as u32;
+    if let Some(why) = look(table, seat, grace, side, false) {
+        return Some(why);
+    }
+    k32(table, seat, grace.class);
+    grace.turned = true;
+    None
 }
 
-/// Goes past a class that isn't the last one.
+// The grace comes to the next class.
+fn go_on(grace: &mut Grace<Domain>)
+    requires { grace.old.class < 63 }
+    ensures { grace.new ≡ at_next grace.old }
+{
+    grace.class += 1;
+    grace.gate = NOT_LOADED;
+    grace.turned = false;
+}
+
+// Passes the class that the grace has come to, which isn't the last one; or answers what stands in the wait's way there.
 fn pass(
     table: &CitrusTable<Domain>,
     seat: &mut Seat<Domain>,
     grace: &mut Grace<Domain>,
 ) -> Option<Why>
     requires table { seat.old.table ≡ table.now }
-    requires room { grace.old.class + 1 < 64 }
     requires latest { IsLatestOf (shape_of 1 table.now) grace.old seat.old.view }
+    requires small { grace.old.class < 63 }
     ensures seat { (seat.new.table ≡ seat.old.table) × (seat.new.listed ≡ seat.old.listed) }
     ensures grace { (grace.new.keys ≡ grace.old.keys) × (grace.new.clock ≡ grace.old.clock) }
-    ensures passed { IfNone result (IsGoingOn (shape_of 1 table.now) seat.old.view grace.new seat.new.view × (grace.new.class ≡ grace.old.class + 1)) }
+    ensures passed { IfNone result ((grace.new.class ≡ grace.old.class + 1) × IsGoingOn (shape_of 1 table.now) seat.old.view grace.new seat.new.view) }
     ensures met { IfSome result (λ why. Polled (shape_of 1 table.now) seat.old.view (NotYet why) grace.new seat.new.view) }
 {
-    if grace.keys.meets_class(grace.class) {
-        if let Some(why) = turned(table, seat, grace) {
-            return Some(why);
-        }
-        let side = (grace.gate % 2) as u32;
-        if let Some(why) = look(table, seat, grace.class, side, false) {
-            return Some(why);
-        }
-        grace.class += 1;
-        grace.gate = u64::MAX;
-        grace.turned = false;
+    if !grace.keys.meets_class(grace.class) {
+        go_on(grace);
         return None;
     }
-    grace.class += 1;
-    grace.gate = u64::MAX;
-    grace.turned = false;
-    None
-}
-
-/// The greatest class that some key has.
-fn last_class(keys: &Keys) -> u32
-    ensures { IsLastClass keys.now result }
-{
-    for back in 0..64 {
-        let class = 63 - back;
-        if keys.meets_class(class) {
-            return class;
-        }
-    }
-    class_of(keys.low())
-}
-
-/// Looks at what is left of the greatest class, which ends the wait where nothing stands in its way.
-fn finish(
-    table: &CitrusTable<Domain>,
-    seat: &mut Seat<Domain>,
-    grace: &mut Grace<Domain>,
-    last: u32,
-) -> Option<Why>
-    requires table { seat.old.table ≡ table.now }
-    requires last { IsLastClass grace.old.keys last }
-    requires reached { last ≤ grace.old.class }
-    requires latest { IsLatestOf (shape_of 1 table.now) grace.old seat.old.view }
-    ensures seat { (seat.new.table ≡ seat.old.table) × (seat.new.listed ≡ seat.old.listed) }
-    ensures grace { (grace.new.keys ≡ grace.old.keys) × (grace.new.clock ≡ grace.old.clock) }
-    ensures passed { IfNone result (IsOver (shape_of 1 table.now) seat.old.view seat.new.view) }
-    ensures met { IfSome result (λ why. Polled (shape_of 1 table.now) seat.old.view (NotYet why) grace.new seat.new.view) }
-{
-    if grace.class != last {
-        if let Some(why) = look(table, seat, last, 0, true) {
-            return Some(why);
-        }
-        return None;
-    }
-    if let Some(why) = turned(table, seat, grace) {
+    if let Some(why) = turn(table, seat, grace) {
         return Some(why);
     }
     let side = (grace.gate % 2) as u32;
-    if let Some(why) = look(table, seat, last, side, true) {
+    if let Some(why) = look(table, seat, grace, side, false) {
+        return Some(why);
+    }
+    go_on(grace);
+    None
+}
+
+// Passes the last class, which the grace has come to: the wait is over. Or answers what stands in its way there.
+fn end(
+    table: &CitrusTable<Domain>,
+    seat: &mut Seat<Domain>,
+    grace: &mut Grace<Domain>,
+) -> Option<Why>
+    requires table { seat.old.table ≡ table.now }
+    requires latest { IsLatestOf (shape_of 1 table.now) grace.old seat.old.view }
+    requires last { IsLastClass grace.old.keys grace.old.class }
+    ensures seat { (seat.new.table ≡ seat.old.table) × (seat.new.listed ≡ seat.old.listed) }
+    ensures grace { (grace.new.keys ≡ grace.old.keys) × (grace.new.clock ≡ grace.old.clock) }
+    ensures over { IfNone result (IsOver (shape_of 1 table.now) seat.old.view seat.new.view) }
+    ensures met { IfSome result (λ why. Polled (shape_of 1 table.now) seat.old.view (NotYet why) grace.new seat.new.view) }
+{
+    if let Some(why) = turn(table, seat, grace) {
+        return Some(why);
+    }
+    let side = (grace.gate % 2) as u32;
+    if let Some(why) = look(table, seat, grace, side, true) {
         return Some(why);
     }
     None
+}
+
+// A grace beyond the last class has nothing left to wait for. It goes back, since one look has to end the wait.
+fn go_back(grace: &mut Grace<Domain>, last: u32)
+    ensures { IsBack last grace.old grace.new }
+{
+    if last < grace.class {
+        grace.class = last;
+        grace.turned = true;
+    }
 }
 
 impl WaitPart for Domain {
@@ -204,7 +201,7 @@ impl WaitPart for Domain {
             clock,
             place: 0,
             class: 0,
-            gate: u64::MAX,
+            gate: NOT_LOADED,
             turned: false,
             waiter: PhantomData,
         }
@@ -216,12 +213,13 @@ impl WaitPart for Domain {
         grace: &mut Grace<Domain>,
     ) -> Poll {
         let last = last_class(&grace.keys);
-        for class in grace.class..last {
+        for _ in grace.class..last {
             if let Some(why) = pass(table, seat, grace) {
                 return Poll::NotYet { why };
             }
         }
-        if let Some(why) = finish(table, seat, grace, last) {
+        go_back(grace, last);
+        if let Some(why) = end(table, seat, grace) {
             return Poll::NotYet { why };
         }
         Poll::Over

@@ -2,6 +2,7 @@
 #![tactic(auto)]
 
 mod domain;
+pub mod laws;
 
 pub use domain::Domain;
 

@@ -1,17 +1,34 @@
-use Rattle.std.proofs.Common.{rules, refl}
+use Rattle.std.proofs.Common.{rules, ◌≡◌, ◌+◌, ◌%◌, arith, refl, sym, ap, subst, ◌∙◌}
+use Rattle.seat_table.specs.declared.wait.Grace.{Grace}
 use Rattle.seat_table.specs.Seats.{shape_of}
-use Rattle.seat_table.proofs.Waiting.{begins_on}
-use Rattle.d_wait.proofs.Sides.{look_not_yet, both_sides, skips}
+use Rattle.seat_table.specs.Waits.{IsGoingOn}
+use Rattle.d_wait.specs.declared.domain.Domain.{Domain}
+use Rattle.d_wait.proofs.Polling.{comes_to, goes_further, stops_further, stops_here}
+use Rattle.d_wait.proofs.Sides.{skips, passes_class}
 use Rattle.d_wait.proofs.domain.pass.Goals as goal
+
+pub returns-then-not-meets_class-clause-passed : goal.returns-then-not-meets_class-clause-passed
+returns-then-not-meets_class-clause-passed c = (
+  ap (λ (z : Grace Domain). z.class) c.go_on.ensures,
+  subst (λ (z : Grace Domain). IsGoingOn (shape_of 1 c.args.table.now) c.args.seat.now.view z c.args.seat.now.view) (sym c.go_on.ensures) (skips (shape_of 1 c.args.table.now) refl c.args.grace.now c.args.seat.now.view c.requires.small (search rules) c.requires.latest),
+)
 
 pub returns-in-Some-look-clause-met : goal.returns-in-Some-look-clause-met
 returns-in-Some-look-clause-met c =
-    look_not_yet (shape_of 1 c.args.table.now) refl c.turned.new.grace c.args.seat.now.view c.turned.new.seat.view c.in_default.ensures.passed.0 c.look.new.seat.view c.in-Some-look.why c.turned.new.grace.class (search rules) c.in-Some-look.ensures.met
-
-pub returns-then-meets_class-clause-passed : goal.returns-then-meets_class-clause-passed
-returns-then-meets_class-clause-passed c =
-    (both_sides (shape_of 1 c.args.table.now) refl c.turned.new.grace c.args.seat.now.view c.turned.new.seat.view c.in_default.ensures.passed.0 18446744073709551615 c.look.new.seat.view c.in_default.ensures.passed.1 (search rules) c.in_default-look.ensures.passed, search rules)
+    let come = c.in_default.ensures.turned.1 in
+    let here = c.turn.new.grace in
+    stops_further (shape_of 1 c.args.table.now) c.args.seat.now.view c.turn.new.seat.view c.look.new.seat.view here here come c.in-Some-look.why
+    (stops_here (shape_of 1 c.args.table.now) c.turn.new.seat.view c.look.new.seat.view here (comes_to (shape_of 1 c.args.table.now) c.args.seat.now.view c.turn.new.seat.view here come) c.in-Some-look.why c.in-Some-look.ensures.met)
 
 pub returns-clause-passed : goal.returns-clause-passed
 returns-clause-passed c =
-    (skips (shape_of 1 c.args.table.now) refl c.args.grace.now c.args.seat.now.view c.args.seat.now.view (begins_on (shape_of 1 c.args.table.now) c.args.seat.now.view c.args.grace.now c.requires.latest) 18446744073709551615 (search rules) c.requires.room, refl)
+    let come = c.in_default.ensures.turned.1 in
+    let here = c.turn.new.grace in
+    let next = c.go_on-2.new.grace in
+    let same : here.class ≡ c.args.grace.now.class = ap (λ (z : Grace Domain). z.class) c.turn.ensures.grace in
+    let latest = comes_to (shape_of 1 c.args.table.now) c.args.seat.now.view c.turn.new.seat.view here come in (
+      ap (λ (z : Grace Domain). z.class) c.go_on-2.ensures ∙ ap (λ n. n + 1) same,
+      goes_further (shape_of 1 c.args.table.now) c.args.seat.now.view c.turn.new.seat.view c.look.new.seat.view here next come
+          (subst (λ (z : Grace Domain). IsGoingOn (shape_of 1 c.args.table.now) c.turn.new.seat.view z c.look.new.seat.view) (sym c.go_on-2.ensures)
+          (passes_class (shape_of 1 c.args.table.now) refl here c.turn.new.seat.view c.look.new.seat.view (here.gate % 2) (omega (arith, same, c.requires.small)) c.in_default.ensures.turned.0 refl latest c.in_default-look.ensures.passed)),
+    )

@@ -3,5 +3,5 @@ use Rattle.seat_table.specs.Seats.{shape_of}
 use Rattle.seat_table.specs.Waits.{IsGoingOn}
 use Rattle.d_wait.proofs.domain.DomainWaitPart.poll.Given as goal
 
-abbrev pub invariant-loop-class : goal.invariant-loop-class
-invariant-loop-class l = (l.seat.table ≡ l.fn.seat.table) × (l.seat.listed ≡ l.fn.seat.listed) × (l.grace.keys ≡ l.fn.grace.keys) × (l.grace.clock ≡ l.fn.grace.clock) × (l.grace.class ≡ l.class) × IsGoingOn (shape_of 1 l.table) l.fn.seat.view l.grace l.seat.view
+abbrev pub invariant-loop : goal.invariant-loop
+invariant-loop l = (l.seat.table ≡ l.fn.seat.table) × (l.seat.listed ≡ l.fn.seat.listed) × (l.grace.keys ≡ l.fn.grace.keys) × (l.grace.clock ≡ l.fn.grace.clock) × (l.grace.class ≡ l.counter) × IsGoingOn (shape_of 1 l.table) l.fn.seat.view l.grace l.seat.view

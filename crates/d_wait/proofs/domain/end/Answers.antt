@@ -1,0 +1,25 @@
+use Rattle.std.proofs.Common.{◌%◌, refl, sym, subst}
+use Rattle.seat_table.specs.declared.wait.Grace.{Grace}
+use Rattle.seat_table.specs.Seats.{shape_of}
+use Rattle.seat_table.proofs.Waiting.{polls_end}
+use Rattle.d_wait.specs.Classes.{IsLastClass}
+use Rattle.d_wait.specs.declared.domain.Domain.{Domain}
+use Rattle.d_wait.proofs.Polling.{comes_to, stops_further, stops_here}
+use Rattle.d_wait.proofs.Sides.{ends}
+use Rattle.d_wait.proofs.domain.end.Goals as goal
+
+pub returns-in-Some-look-clause-met : goal.returns-in-Some-look-clause-met
+returns-in-Some-look-clause-met c =
+    let come = c.in_default.ensures.turned.1 in
+    let here = c.turn.new.grace in
+    stops_further (shape_of 1 c.args.table.now) c.args.seat.now.view c.turn.new.seat.view c.look.new.seat.view here here come c.in-Some-look.why
+    (stops_here (shape_of 1 c.args.table.now) c.turn.new.seat.view c.look.new.seat.view here (comes_to (shape_of 1 c.args.table.now) c.args.seat.now.view c.turn.new.seat.view here come) c.in-Some-look.why c.in-Some-look.ensures.met)
+
+pub returns-clause-over : goal.returns-clause-over
+returns-clause-over c =
+    let come = c.in_default.ensures.turned.1 in
+    let here = c.turn.new.grace in
+    let latest = comes_to (shape_of 1 c.args.table.now) c.args.seat.now.view c.turn.new.seat.view here come in
+    let last = subst (λ (z : Grace Domain). IsLastClass z.keys z.class) (sym c.turn.ensures.grace) c.requires.last in
+    polls_end (shape_of 1 c.args.table.now) c.args.seat.now.view c.turn.new.seat.view c.look.new.seat.view here here come
+    (ends (shape_of 1 c.args.table.now) refl here c.turn.new.seat.view c.look.new.seat.view (here.gate % 2) c.in_default.ensures.turned.0 last latest c.in_default-look.ensures.passed)
