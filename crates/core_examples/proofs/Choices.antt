@@ -1,35 +1,25 @@
 -- Steps of one seat on literal words, one after another: what each does, chosen with the state that it finds.
-use Rattle.std.proofs.lemmas.Bool.{leb-true, ltb-true}
-use Rattle.core_state.specs.declared.view.HeldLock.{HeldLock}
-use Rattle.core_state.specs.views.Known.{lock_of}
-use Rattle.std.proofs.Common.{◌≢◌, ◌<◌, ◌≤◌, nat_le, nat_lt, sym, eq-eqb, ◌≡◌, ℕ, ◌+◌, ◌-◌, ◌==◌, true, false, cond, List, [], ◌∷◌, ◌++◌, set, Option, Some, None, ◌∙◌}
+use Rattle.std.proofs.Common.{ℕ, ◌+◌, ◌-◌, ◌==◌, Bool, cond, List, [], ◌∷◌, ◌++◌, set}
 use Rattle.prcu_marks.specs.declared.mark.Mark.{Mark}
 use Rattle.prcu_marks.specs.declared.mark.Mark.TheVariants.{Entered, Left as LeftMark, Began, Given, Unlinked, Freed}
 use Rattle.prcu_marks.specs.declared.mark.Side.{Side}
-use Rattle.prcu_marks.specs.declared.mark.Side.TheVariants.{Left, Right}
 use Rattle.prcu_model.specs.declared.operation.Op.TheVariants.{Put, Del, Set}
 use Rattle.core_state.specs.declared.shape.Shape.{Shape}
 use Rattle.core_state.specs.declared.words.Field.{Field}
 use Rattle.core_state.specs.declared.words.Field.TheVariants.{Clock, Front, Free, Announced, Stamp, State as StateWord, Lock, Life, Value, Link, Tag}
 use Rattle.core_state.specs.declared.words.Kind.{Kind}
-use Rattle.core_state.specs.declared.words.Kind.TheVariants.{K3, K4, K5, K6, K7, K8, K9, K10, K11, K12, K13, K14, K15, K16, K17, K18, K19, K20, K21, K22, K23, K24, K25, K26, K27, K36, K37}
-use Rattle.core_state.specs.declared.view.Clocked.{Clocked}
-use Rattle.core_state.specs.declared.view.Held.{Held}
-use Rattle.core_state.specs.declared.view.Listing.{Listing}
-use Rattle.core_state.specs.declared.view.Section.{Section}
-use Rattle.prcu_marks.specs.declared.commit.Commit.{Commit}
-use Rattle.core_state.specs.declared.view.Waiting.{Waiting}
+use Rattle.core_state.specs.declared.words.Kind.TheVariants.{K3, K4, K5, K6, K7, K9, K10, K11, K12, K13, K14, K15, K16, K17, K18, K19, K20, K21, K22, K23, K24, K25, K36, K37}
 use Rattle.core_state.specs.declared.view.View.{View}
 use Rattle.core_state.specs.memory.Memory.{memory_of, word_of, idle}
-use Rattle.core_state.specs.steps.Sections.{after_clock_load, after_announce, after_enter_by_stamp, leaving, fresh_reading}
+use Rattle.core_state.specs.steps.Sections.{after_clock_load, after_announce, after_enter_by_stamp, leaving}
 use Rattle.core_state.specs.steps.Waits.{after_begin, after_look, look_marks}
 use Rattle.core_state.specs.steps.Slots.{after_own_life, after_kept_as_spare, after_retired_life, after_reserve, after_seize, after_fill, after_raise_in_hand, after_raise_to_spare, after_raise_retired, after_free_in_hand, after_free_retired, after_count_free}
 use Rattle.core_state.specs.steps.Locks.{after_lock, after_unlock, after_locked_load, after_open_commit, after_raise_tag, after_close_commit}
-use Rattle.core_state.specs.steps.Loads.{after_search_load, after_front_look, after_list_load, new_listing}
+use Rattle.core_state.specs.steps.Loads.{after_search_load, after_front_look, after_list_load}
 use Rattle.core_state.specs.steps.Links.{after_leaf_link, after_bypass, after_mark, after_replace}
 use Rattle.core_state.specs.steps.Moves.{after_copy_link, after_unlink_old}
-use Rattle.core_state.specs.steps.Seating.{unknown_slot}
 use Rattle.core_state.specs.steps.Steps.{IsStep, done_by}
+use Rattle.core_examples.proofs.Chosen.{clock_now, section_now, listing_now, wait_now, commit_now, reading_now, spare_now}
 
 pub record State : Type 0 where
   pub words : List ℕ
@@ -66,46 +56,6 @@ pub data AllAllowed (k : Shape) : State → List Choice → Type 0 where
   over : {s : State} → AllAllowed k s []
   ◌⟫◌ : {s : State} {c : Choice} {cs : List Choice} → Allowed k s (c k s) → AllAllowed k (after k s (c k s)) cs → AllAllowed k s (c ∷ cs)
 
--- what the view has, where it has it
-abbrev pub clock_from : Option Clocked → Clocked
-clock_from None = record { number = 0; at = 0 }
-clock_from (Some c) = c
-
-abbrev pub section_from : Option Section → Section
-section_from None = record { key = 0; count = 0; entered = 0; from = 0; stamp = 0; clocked = 0; reading = fresh_reading 0; listing = None }
-section_from (Some s) = s
-
-abbrev pub section_now : State → Section
-section_now s = section_from s.view.section
-
-abbrev pub listing_from : Option Listing → Listing
-listing_from None = new_listing 0
-listing_from (Some l) = l
-
-abbrev pub listing_now : State → Listing
-listing_now s = listing_from (section_now s).listing
-
-abbrev pub wait_from : Option Waiting → Waiting
-wait_from None = record { count = 0; low = 0; high = 0; clock = 0; began = 0; excused = []; turned = []; ended = false }
-wait_from (Some w) = w
-
-abbrev pub wait_now : State → Waiting
-wait_now s = wait_from s.view.wait
-
-abbrev pub turn_from : Option Commit → Commit
-turn_from None = record { found = 0; stored = false }
-turn_from (Some t) = t
-
-abbrev pub turn_now : State → Commit
-turn_now s = turn_from s.view.commit
-
-abbrev pub held_from : Option Held → Held
-held_from None = unknown_slot 0
-held_from (Some held) = held
-
-abbrev pub spare_now : State → Held
-spare_now s = held_from s.view.hands.spare
-
 abbrev pub clocks : Choice
 clocks k s =
     let n : ℕ = found k s (Clock) in
@@ -113,45 +63,41 @@ clocks k s =
 
 abbrev pub announces : ℕ → Choice
 announces key k s =
-    record { kind = K4; field = Announced 0; left = key; view = after_announce s.view key; marks = [] }
+    record { kind = K4; field = Announced s.view.allowance.place; left = key; view = after_announce s.view key; marks = [] }
 
 abbrev pub enters : ℕ → Choice
 enters key k s =
-    record { kind = K5; field = Stamp 0; left = (clock_from s.view.enter.clock).number; view = after_enter_by_stamp s.view key (clock_from s.view.enter.clock) s.marks; marks = Entered 0 s.view.counts.sections key ∷ [] }
+    record { kind = K5; field = Stamp s.view.allowance.place; left = (clock_now s.view).number; view = after_enter_by_stamp s.view key (clock_now s.view) s.marks; marks = Entered s.view.allowance.place s.view.counts.sections key ∷ [] }
 
 abbrev pub leaves : Choice
 leaves k s =
-    record { kind = K6; field = Stamp 0; left = idle; view = leaving s.view (section_now s) s.marks; marks = LeftMark 0 (section_now s).count ∷ [] }
+    record { kind = K6; field = Stamp s.view.allowance.place; left = idle; view = leaving s.view (section_now s.view) s.marks; marks = LeftMark s.view.allowance.place (section_now s.view).count ∷ [] }
 
 abbrev pub begins : ℕ → ℕ → Choice
 begins low high k s =
     let n : ℕ = found k s (Clock) in
-    record { kind = K7; field = Clock; left = n + 1; view = after_begin s.view low high n s.marks; marks = Began 0 s.view.counts.waits low high ∷ [] }
+    record { kind = K7; field = Clock; left = n + 1; view = after_begin s.view low high n s.marks; marks = Began s.view.allowance.place s.view.counts.waits low high ∷ [] }
 
-abbrev pub looks_key : Choice
-looks_key k s =
-    let n : ℕ = found k s (Announced 0) in
-    record { kind = K8; field = Announced 0; left = n; view = after_look s.view (wait_now s) (Announced 0) true n s.marks; marks = look_marks s.view (wait_now s) (Announced 0) true n }
+-- a waiter looks at a word, as the last look of its wait or not
+abbrev pub looks_by : Kind → Field → Bool → Choice
+looks_by kind field last k s =
+    let n : ℕ = found k s field in
+    record { kind = kind; field = field; left = n; view = after_look s.view (wait_now s.view) field last n s.marks; marks = look_marks s.view (wait_now s.view) field last n }
 
-abbrev pub looks_stamp : Choice
-looks_stamp k s =
-    let n : ℕ = found k s (Stamp 0) in
-    record { kind = K8; field = Stamp 0; left = n; view = after_look s.view (wait_now s) (Stamp 0) true n s.marks; marks = look_marks s.view (wait_now s) (Stamp 0) true n }
+-- the life of a slot that isn't linked is loaded, and the view is so afterwards
+abbrev pub loads_life_so : (View → ℕ → ℕ → View) → ℕ → Choice
+loads_life_so then_view slot k s =
+    let n : ℕ = found k s (Life slot) in
+    record { kind = K9; field = Life slot; left = n; view = then_view s.view slot n; marks = [] }
 
 abbrev pub loads_life : ℕ → Choice
-loads_life slot k s =
-    let n : ℕ = found k s (Life slot) in
-    record { kind = K9; field = Life slot; left = n; view = after_own_life s.view slot n; marks = [] }
+loads_life = loads_life_so after_own_life
 
 abbrev pub keeps : ℕ → Choice
-keeps slot k s =
-    let n : ℕ = found k s (Life slot) in
-    record { kind = K9; field = Life slot; left = n; view = after_kept_as_spare s.view slot n; marks = [] }
+keeps = loads_life_so after_kept_as_spare
 
 abbrev pub loads_retired : ℕ → Choice
-loads_retired slot k s =
-    let n : ℕ = found k s (Life slot) in
-    record { kind = K9; field = Life slot; left = n; view = after_retired_life s.view slot n; marks = [] }
+loads_retired = loads_life_so after_retired_life
 
 abbrev pub reserves : ℕ → Choice
 reserves e k s =
@@ -178,7 +124,7 @@ raises_retired slot x k s =
 abbrev pub locks : ℕ → Choice
 locks slot k s =
     let n : ℕ = found k s (Lock slot) in
-    record { kind = K13; field = Lock slot; left = cond (n == 0) 1 n; view = after_lock s.view slot n; marks = [] }
+    record { kind = K13; field = Lock slot; left = cond (n == 0) (s.view.allowance.place + 1) n; view = after_lock s.view slot n; marks = [] }
 
 abbrev pub unlocks : ℕ → Choice
 unlocks slot k s =
@@ -197,13 +143,13 @@ counts_free k s =
     let n : ℕ = found k s (Free) in
     record { kind = K16; field = Free; left = n + 1; view = after_count_free s.view n; marks = [] }
 
-abbrev pub turns_odd : ℕ → Choice
-turns_odd e k s =
+abbrev pub opens_commit : ℕ → Choice
+opens_commit e k s =
     let n : ℕ = found k s (Front) in
     record { kind = K19; field = Front; left = cond (n == e) (e + 1) n; view = after_open_commit s.view e n; marks = [] }
 
-abbrev pub turns_even : ℕ → Choice
-turns_even x k s =
+abbrev pub closes_commit : ℕ → Choice
+closes_commit x k s =
     record { kind = K24; field = Front; left = x; view = after_close_commit s.view x; marks = [] }
 
 abbrev pub marks_node : ℕ → ℕ → Choice
@@ -213,7 +159,7 @@ marks_node slot life k s =
 abbrev pub looks_front : Choice
 looks_front k s =
     let n : ℕ = found k s (Front) in
-    record { kind = K37; field = Front; left = n; view = after_front_look s.view (section_now s) n; marks = [] }
+    record { kind = K37; field = Front; left = n; view = after_front_look s.view (section_now s.view) n; marks = [] }
 
 abbrev pub fills : ℕ → Field → ℕ → Choice
 fills slot field x k s =
@@ -222,7 +168,7 @@ fills slot field x k s =
 abbrev pub loads : Field → Choice
 loads field k s =
     let n : ℕ = found k s field in
-    record { kind = K17; field = field; left = n; view = after_search_load s.view (section_now s) field n; marks = [] }
+    record { kind = K17; field = field; left = n; view = after_search_load s.view (section_now s.view) field n; marks = [] }
 
 abbrev pub loads_locked : ℕ → Field → Choice
 loads_locked slot field k s =
@@ -232,48 +178,32 @@ loads_locked slot field k s =
 abbrev pub lists : ℕ → Field → Choice
 lists slot field k s =
     let n : ℕ = found k s field in
-    record { kind = K17; field = field; left = n; view = after_list_load s.view (section_now s) (listing_now s) slot field n; marks = [] }
+    record { kind = K17; field = field; left = n; view = after_list_load s.view (section_now s.view) (listing_now s.view) slot field n; marks = [] }
 
-abbrev pub links_leaf : ℕ → Side → ℕ → ℕ → ℕ → Choice
-links_leaf slot b leaf key value k s =
-    record { kind = K20; field = Link slot b; left = leaf; view = after_leaf_link s.view (turn_now s) slot b leaf key value s.marks; marks = done_by s.view (Put key value) ∷ [] }
+abbrev pub links_leaf : ℕ → Side → ℕ → ℕ → Choice
+links_leaf slot b leaf value k s =
+    let key : ℕ = (reading_now s.view).key in
+    record { kind = K20; field = Link slot b; left = leaf; view = after_leaf_link s.view (commit_now s.view) slot b leaf key value s.marks; marks = done_by s.view (Put key value) ∷ [] }
 
-abbrev pub bypasses : ℕ → Side → ℕ → ℕ → ℕ → Choice
-bypasses parent b node child key k s =
-    record { kind = K21; field = Link parent b; left = child; view = after_bypass s.view (turn_now s) parent b node child key s.marks; marks = done_by s.view (Del key) ∷ (Unlinked node ∷ []) }
+abbrev pub bypasses : ℕ → Side → ℕ → ℕ → Choice
+bypasses parent b node child k s =
+    let key : ℕ = (reading_now s.view).key in
+    record { kind = K21; field = Link parent b; left = child; view = after_bypass s.view (commit_now s.view) parent b node child key s.marks; marks = done_by s.view (Del key) ∷ (Unlinked node ∷ []) }
 
 abbrev pub raises_tag : ℕ → Side → ℕ → Choice
 raises_tag slot b tag k s =
     record { kind = K23; field = Tag slot b; left = tag + 1; view = after_raise_tag s.view slot b tag; marks = [] }
 
-abbrev pub replaces : ℕ → ℕ → ℕ → Choice
-replaces slot key value k s =
-    record { kind = K36; field = Value slot; left = value; view = after_replace s.view (turn_now s) slot key value s.marks; marks = done_by s.view (Set key value) ∷ [] }
+abbrev pub replaces : ℕ → ℕ → Choice
+replaces slot value k s =
+    let key : ℕ = (reading_now s.view).key in
+    record { kind = K36; field = Value slot; left = value; view = after_replace s.view (commit_now s.view) slot key value s.marks; marks = done_by s.view (Set key value) ∷ [] }
 
-abbrev pub links_copy : ℕ → Side → ℕ → ℕ → ℕ → ℕ → ℕ → ℕ → Choice
-links_copy parent b node copy old old_parent key next_key k s =
-    record { kind = K25; field = Link parent b; left = copy; view = after_copy_link s.view (turn_now s) (spare_now s) parent b node old old_parent key next_key s.marks; marks = done_by s.view (Del key) ∷ (Unlinked node ∷ []) }
+abbrev pub links_copy : ℕ → Side → ℕ → ℕ → ℕ → ℕ → ℕ → Choice
+links_copy parent b node copy old old_parent next_key k s =
+    let key : ℕ = (reading_now s.view).key in
+    record { kind = K25; field = Link parent b; left = copy; view = after_copy_link s.view (commit_now s.view) (spare_now s.view) parent b node old old_parent key next_key s.marks; marks = done_by s.view (Del key) ∷ (Unlinked node ∷ []) }
 
-abbrev pub unlinks_left : ℕ → ℕ → ℕ → Choice
-unlinks_left parent old child k s =
-    record { kind = K26; field = Link parent Left; left = child; view = after_unlink_old s.view parent Left old child s.marks; marks = Unlinked old ∷ [] }
-
-abbrev pub unlinks_right : ℕ → ℕ → ℕ → Choice
-unlinks_right copy old child k s =
-    record { kind = K27; field = Link copy Right; left = child; view = after_unlink_old s.view copy Right old child s.marks; marks = Unlinked old ∷ [] }
-
--- numbers that are known are compared by computing
-pub le_now : (a b : ℕ) → nat_le a b ≡ true → a ≤ b
-le_now a b e = leb-true a b e
-
-pub lt_now : (a b : ℕ) → nat_lt a b ≡ true → a < b
-lt_now a b e = ltb-true a b e
-
-pub ne_now : (a b : ℕ) → (a == b) ≡ false → a ≢ b
-ne_now a b e same = absurd (let q : true ≡ false = sym (eq-eqb a b same) ∙ e in cc)
-
-pub no_lock : (ls : List HeldLock) (s : ℕ) → lock_of ls s ≡ None → ((lock : HeldLock) × (lock_of ls s ≡ Some lock)) → ⊥
-no_lock ls s none has = absurd (let q : None ≡ Some has.0 = sym none ∙ has.1 in cc)
-
-pub some_not_none : (held : Held) → Some held ≡ None → ⊥
-some_not_none held e = cc
+abbrev pub unlinks_old : Kind → ℕ → Side → ℕ → ℕ → Choice
+unlinks_old kind parent b old child k s =
+    record { kind = kind; field = Link parent b; left = child; view = after_unlink_old s.view parent b old child s.marks; marks = Unlinked old ∷ [] }

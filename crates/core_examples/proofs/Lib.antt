@@ -1,6 +1,13 @@
-pub mod Choices
 pub mod Chosen
-pub mod Example
+pub mod Choices
+pub mod Tests
+pub mod Records
+pub mod Spots
+pub mod Acts
+pub mod Updates
+pub mod Reuses
+pub mod Puts
+pub mod Successors
 pub mod Deletes
 pub mod MovingDelete
 pub mod Reusing

@@ -1,0 +1,84 @@
+-- A run on literal words: from a fresh table with five slots, one place and the first waiter, four pairs are put, a value is replaced,
+-- and the pairs are listed.
+use Rattle.std.proofs.Common.{ℕ, ◌+◌, List, [], ◌∷◌, ◌++◌, refl}
+use Rattle.prcu_marks.specs.declared.mark.Side.{Side}
+use Rattle.prcu_marks.specs.declared.mark.Side.TheVariants.{Left, Right}
+use Rattle.core_state.specs.declared.words.Field.{Field}
+use Rattle.core_state.specs.declared.words.Field.TheVariants.{Key, Value, Life, Link, Tag}
+use Rattle.core_state.specs.Fresh.{first_view}
+use Rattle.core_state.specs.memory.Memory.{idle}
+use Rattle.core_examples.proofs.Choices.{State}
+use Rattle.core_examples.proofs.Acts.{small, Act, Run, run, end_of, enter_for, search_by, leave, take_slot, fill, lock, look_at, look_front, list_root, list_field, open_commit, close_commit, unlock}
+use Rattle.core_examples.proofs.Updates.{link_leaf, replace}
+
+-- the front, the clock and the like, and then a line for each slot: those of the root and of the first spare are taken
+abbrev pub fresh : State
+fresh = record {
+  words = 0 ∷ 0 ∷ 5 ∷ 0 ∷ idle ∷
+      1 ∷ 0 ∷ 0 ∷ 0 ∷ 0 ∷ 0 ∷ 0 ∷ 0 ∷ 0 ∷
+      1 ∷ 0 ∷ 0 ∷ 0 ∷ 0 ∷ 0 ∷ 0 ∷ 0 ∷ 0 ∷
+      0 ∷ 0 ∷ 0 ∷ 0 ∷ 0 ∷ 0 ∷ 0 ∷ 0 ∷ 0 ∷
+      0 ∷ 0 ∷ 0 ∷ 0 ∷ 0 ∷ 0 ∷ 0 ∷ 0 ∷ 0 ∷
+      0 ∷ 0 ∷ 0 ∷ 0 ∷ 0 ∷ 0 ∷ 0 ∷ 0 ∷ 0 ∷
+      0 ∷ 0 ∷ 0 ∷ 0 ∷ 0 ∷ 0 ∷ 0 ∷ 0 ∷ 0 ∷
+      0 ∷ 0 ∷ 0 ∷ 0 ∷ 0 ∷ 0 ∷ 0 ∷ 0 ∷ 0 ∷ [];
+  view = first_view small;
+  marks = [];
+}
+
+-- A pair that is put: the way on which its key is sought, the slot and the side where it is missed, its leaf, the free count that is
+-- found, and the front.
+pub record Pair : Type 0 where
+  pub key : ℕ
+  pub value : ℕ
+  pub way : List Field
+  pub parent : ℕ
+  pub side : Side
+  pub leaf : ℕ
+  pub free : ℕ
+  pub front : ℕ
+
+abbrev pub put : Pair → List Act
+put p =
+    enter_for p.key
+    ++ (search_by p.way
+    ++ (search_by (Link p.parent p.side ∷ Tag p.parent p.side ∷ Life p.parent ∷ [])
+    ++ (leave ∷ take_slot p.free p.leaf
+    ++ (fill p.leaf p.key p.value 0 0
+    ++ (lock p.parent ∷ look_at (Life p.parent ∷ Link p.parent p.side ∷ Tag p.parent p.side ∷ [])
+    ++ (open_commit p.front ∷ link_leaf p.parent p.side p.leaf p.value ∷ close_commit (p.front + 2) ∷ unlock p.parent ∷ []))))))
+
+-- 50 is put below the root
+abbrev pub put_fifty : Run fresh
+put_fifty = run (put (record { key = 50; value = 5; way = []; parent = 0; side = Right; leaf = 2; free = 5; front = 0 })) refl
+
+-- 20 is put left of it
+abbrev pub put_twenty : Run (end_of put_fifty)
+put_twenty = run (put (record { key = 20; value = 2; way = Link 0 Right ∷ Key 2 ∷ []; parent = 2; side = Left; leaf = 3; free = 4; front = 2 })) refl
+
+-- 70 is put right of 50
+abbrev pub put_seventy : Run (end_of put_twenty)
+put_seventy = run (put (record { key = 70; value = 7; way = Link 0 Right ∷ Key 2 ∷ []; parent = 2; side = Right; leaf = 4; free = 3; front = 4 })) refl
+
+-- 60 is put left of 70
+abbrev pub put_sixty : Run (end_of put_seventy)
+put_sixty =
+    run (put (record { key = 60; value = 6; way = Link 0 Right ∷ Key 2 ∷ Link 2 Right ∷ Key 4 ∷ []; parent = 4; side = Left; leaf = 5; free = 2; front = 6 })) refl
+
+-- the value of 20 is replaced
+abbrev pub set_twenty : Run (end_of put_sixty)
+set_twenty =
+    run
+    (enter_for 20
+    ++ (search_by (Link 0 Right ∷ Key 2 ∷ Link 2 Left ∷ Key 3 ∷ Value 3 ∷ Life 3 ∷ [])
+    ++ (leave ∷ lock 3 ∷ look_at (Life 3 ∷ Value 3 ∷ [])
+    ++ (open_commit 8 ∷ replace 3 2 Left 22 ∷ close_commit 10 ∷ unlock 3 ∷ []))))
+    refl
+
+-- a listing finds 50
+abbrev pub list_fifty : Run (end_of set_twenty)
+list_fifty =
+    run
+    (enter_for 0
+    ++ (look_front ∷ list_root ∷ list_field (Key 2) ∷ list_field (Value 2) ∷ look_front ∷ leave ∷ []))
+    refl
