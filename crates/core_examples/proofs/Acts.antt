@@ -24,6 +24,7 @@ use Rattle.core_examples.proofs.Choices.{looks_front, lists, looks_by, State, Ch
 abbrev pub small : Shape
 small = record { waiter = Eer; slots = 5; places = 1; tickets = 100 }
 
+-- a step: what it does with the state that it finds, the tests of its needs, and that it is allowed where they are all true
 pub record Act : Type 0 where
   pub choice : Choice
   pub tests : State → List Bool
@@ -33,6 +34,7 @@ abbrev pub choices : List Act → List Choice
 choices [] = []
 choices (act ∷ acts) = act.choice ∷ choices acts
 
+-- each act's tests are true in the state that the acts before it leave
 abbrev pub are_ready : State → List Act → Bool
 are_ready s [] = true
 are_ready s (act ∷ acts) = all_of (act.tests s) && are_ready (after small s (act.choice small s)) acts

@@ -4,9 +4,12 @@ use Rattle.std.proofs.Common.{[], ◌∷◌, ◌++◌, refl}
 use Rattle.prcu_marks.specs.declared.mark.Side.TheVariants.{Left, Right}
 use Rattle.core_state.specs.declared.words.Field.TheVariants.{Key, Life, Link}
 use Rattle.core_examples.proofs.Acts.{Run, run, end_of, enter_for, search_by, leave, lock_all, look_at, open_commit, close_commit, raise_emptied, unlock_all}
-use Rattle.core_examples.proofs.Updates.{bypass, mark_few, unlink_right}
+use Rattle.core_examples.proofs.Updates.{Node, bypass, mark_few, unlink_right}
 use Rattle.core_examples.proofs.Puts.{put_seventy}
 use Rattle.core_examples.proofs.Successors.{Successor, find_fifty, move_up}
+
+abbrev pub twenty : Node
+twenty = record { parent = 2; side = Left; slot = 3; left = 0; right = 0 }
 
 -- 20, which has no child, is deleted: it is bypassed, and the tag of the side that this empties is raised
 abbrev pub delete_twenty : Run (end_of put_seventy)
@@ -16,7 +19,7 @@ delete_twenty =
     ++ (search_by (Link 0 Right ∷ Key 2 ∷ Link 2 Left ∷ Key 3 ∷ Life 2 ∷ Life 3 ∷ Link 3 Left ∷ Link 3 Right ∷ [])
     ++ (leave ∷ lock_all (2 ∷ 3 ∷ [])
     ++ (look_at (Life 2 ∷ Link 2 Left ∷ Life 3 ∷ Link 3 Left ∷ Link 3 Right ∷ [])
-    ++ (mark_few 3 0 2 Left 0 0 ∷ open_commit 6 ∷ bypass 2 Left 3 0 0 ∷ close_commit 8 ∷ raise_emptied 2 Left ++ unlock_all (3 ∷ 2 ∷ []))))))
+    ++ (mark_few twenty 0 ∷ open_commit 6 ∷ bypass twenty ∷ close_commit 8 ∷ raise_emptied 2 Left ++ unlock_all (3 ∷ 2 ∷ []))))))
     refl
 
 -- the successor of 50 is 70, its right child

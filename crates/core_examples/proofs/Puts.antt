@@ -11,7 +11,8 @@ use Rattle.core_examples.proofs.Choices.{State}
 use Rattle.core_examples.proofs.Acts.{small, Act, Run, run, end_of, enter_for, search_by, leave, take_slot, fill, lock, look_at, look_front, list_root, list_field, open_commit, close_commit, unlock}
 use Rattle.core_examples.proofs.Updates.{link_leaf, replace}
 
--- the front, the clock and the like, and then a line for each slot: those of the root and of the first spare are taken
+-- the clock, the front, the free count, the place's key and its stamp; and then a line for each slot, of which the root and the first
+-- spare are taken
 abbrev pub fresh : State
 fresh = record {
   words = 0 ∷ 0 ∷ 5 ∷ 0 ∷ idle ∷

@@ -17,10 +17,7 @@ use Rattle.core_state.specs.views.Known.{known_in, loaded_in, known_under, lock_
 use Rattle.core_state.specs.steps.Links.{NodeRecords, FewChildren, BothChildren, IsMarkedNode, LacksChild, SuccessorLink}
 use Rattle.core_frames.proofs.views.Fields.{side_is, same_is}
 use Rattle.core_examples.proofs.Chosen.{from, lock_now, reading_now}
-use Rattle.core_examples.proofs.Tests.{all_of, passed, test_at, is_some, some_is, is_empty, is_number, number_is, false_is, not_same, first_in}
-
-abbrev pub Passed : List Bool → Type 0
-Passed tests = (i : ℕ) → test_at tests i ≡ true
+use Rattle.core_examples.proofs.Tests.{all_of, passed, is_some, some_is, is_empty, is_number, number_is, false_is, not_same, first_in}
 
 -- the generation of a slot that the search found out
 abbrev pub generation_of : View → ℕ → ℕ

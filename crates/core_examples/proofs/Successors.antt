@@ -4,7 +4,10 @@ use Rattle.prcu_marks.specs.declared.mark.Side.TheVariants.{Left, Right}
 use Rattle.core_state.specs.declared.words.Field.{Field}
 use Rattle.core_state.specs.declared.words.Field.TheVariants.{Key, Value, Life, Link}
 use Rattle.core_examples.proofs.Acts.{Act, enter_for, search_by, leave, own_life, fill, lock, lock_all, look_at, look, open_commit, close_commit, begin, look_key}
-use Rattle.core_examples.proofs.Updates.{mark_both, mark_old, link_copy}
+use Rattle.core_examples.proofs.Updates.{Node, mark_both, mark_old, link_copy}
+
+abbrev pub fifty : Node
+fifty = record { parent = 0; side = Right; slot = 2; left = 3; right = 4 }
 
 -- the successor: its slot, its parent, its key and its value; what is loaded of it in the section and under the locks besides what is
 -- loaded of 50; and the front
@@ -31,7 +34,7 @@ find_fifty next =
 -- successor is marked
 abbrev pub move_up : Successor → List Act
 move_up next =
-    fill 1 next.key next.value 3 4
-    ++ (own_life 1 ∷ lock 1 ∷ mark_both 2 0 0 Right 3 4 next.parent next.slot
-    ∷ open_commit next.front ∷ link_copy 0 Right 2 1 3 4 next.parent next.slot next.key next.value ∷ close_commit (next.front + 2)
+    fill 1 next.key next.value fifty.left fifty.right
+    ++ (own_life 1 ∷ lock 1 ∷ mark_both fifty 0 next.parent next.slot
+    ∷ open_commit next.front ∷ link_copy fifty 1 next.parent next.slot next.key next.value ∷ close_commit (next.front + 2)
     ∷ begin 51 next.key ∷ look_key ∷ mark_old next.slot 0 ∷ look (Link next.slot Right) ∷ [])

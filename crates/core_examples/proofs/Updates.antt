@@ -16,6 +16,14 @@ use Rattle.core_examples.proofs.Records.{generation_of, is_recorded, recorded_is
 use Rattle.core_examples.proofs.Choices.{links_leaf, replaces, bypasses, marks_node, links_copy, unlinks_old}
 use Rattle.core_examples.proofs.Acts.{Act}
 
+-- the node of a delete: where it hangs, its slot, and its links
+pub record Node : Type 0 where
+  pub parent : ℕ
+  pub side : Side
+  pub slot : ℕ
+  pub left : ℕ
+  pub right : ℕ
+
 -- what each update needs of the front: it is odd by this view, whose update isn't made yet
 abbrev pub can_commit : View → Bool
 can_commit v = is_some v.commit && (not (commit_now v).stored && nat_le 1 v.allowance.tickets)
@@ -88,20 +96,20 @@ replace slot parent b value = record {
   });
 }
 
-abbrev pub bypass : ℕ → Side → ℕ → ℕ → ℕ → Act
-bypass parent b node left right = record {
-  choice = bypasses parent b node (cond (left == 0) right left);
+abbrev pub bypass : Node → Act
+bypass node = record {
+  choice = bypasses node.parent node.side node.slot (cond (node.left == 0) node.right node.left);
   tests = λ s.
       can_commit s.view ∷
       nat_lt (length s.view.hands.retired) 16 ∷
-      all_of (few_tests s.view parent b node left right) ∷
-      all_of (marked_tests s.view node) ∷
+      all_of (few_tests s.view node.parent node.side node.slot node.left node.right) ∷
+      all_of (marked_tests s.view node.slot) ∷
       [];
   allowed = λ s t. step21 (reading_now s.view) (record {
     has_commit = commit_is s.view (t 0);
     room = ltb-true _ _ (t 1);
-    records = few_children s.view parent b node left right (t 2);
-    marked = marked_node s.view node (t 3);
+    records = few_children s.view node.parent node.side node.slot node.left node.right (t 2);
+    marked = marked_node s.view node.slot (t 3);
     child_is = refl;
   });
 }
@@ -115,18 +123,18 @@ why_mark v slot life e why =
     let t = passed (mark_tests v slot life) e in
     record { locked = some_is _ (lock_of v.locks slot) (t 0); life_now = number_is _ _ (t 1); unmarked = eqb-true _ _ (t 2); why = why }
 
-abbrev pub mark_few : ℕ → ℕ → ℕ → Side → ℕ → ℕ → Act
-mark_few slot life parent b left right = record {
-  choice = marks_node slot life;
-  tests = λ s. all_of (mark_tests s.view slot life) ∷ is_recorded s.view slot ∷ all_of (few_tests s.view parent b slot left right) ∷ [];
-  allowed = λ s t. step22 (lock_now s.view slot) (why_mark s.view slot life (t 0) (inl (reading_now s.view, parent, left, right, b, recorded_is s.view slot (t 1), inl (few_children s.view parent b slot left right (t 2)))));
+abbrev pub mark_few : Node → ℕ → Act
+mark_few node life = record {
+  choice = marks_node node.slot life;
+  tests = λ s. all_of (mark_tests s.view node.slot life) ∷ is_recorded s.view node.slot ∷ all_of (few_tests s.view node.parent node.side node.slot node.left node.right) ∷ [];
+  allowed = λ s t. step22 (lock_now s.view node.slot) (why_mark s.view node.slot life (t 0) (inl (reading_now s.view, node.parent, node.left, node.right, node.side, recorded_is s.view node.slot (t 1), inl (few_children s.view node.parent node.side node.slot node.left node.right (t 2)))));
 }
 
-abbrev pub mark_both : ℕ → ℕ → ℕ → Side → ℕ → ℕ → ℕ → ℕ → Act
-mark_both slot life parent b left right old_parent old = record {
-  choice = marks_node slot life;
-  tests = λ s. all_of (mark_tests s.view slot life) ∷ is_recorded s.view slot ∷ all_of (both_tests s.view parent b slot left right old_parent old) ∷ [];
-  allowed = λ s t. step22 (lock_now s.view slot) (why_mark s.view slot life (t 0) (inl (reading_now s.view, parent, left, right, b, recorded_is s.view slot (t 1), inr (old_parent, old, both_children s.view parent b slot left right old_parent old (t 2)))));
+abbrev pub mark_both : Node → ℕ → ℕ → ℕ → Act
+mark_both node life old_parent old = record {
+  choice = marks_node node.slot life;
+  tests = λ s. all_of (mark_tests s.view node.slot life) ∷ is_recorded s.view node.slot ∷ all_of (both_tests s.view node.parent node.side node.slot node.left node.right old_parent old) ∷ [];
+  allowed = λ s t. step22 (lock_now s.view node.slot) (why_mark s.view node.slot life (t 0) (inl (reading_now s.view, node.parent, node.left, node.right, node.side, recorded_is s.view node.slot (t 1), inr (old_parent, old, both_children s.view node.parent node.side node.slot node.left node.right old_parent old (t 2)))));
 }
 
 abbrev pub mark_old : ℕ → ℕ → Act
@@ -137,14 +145,14 @@ mark_old slot life = record {
 }
 
 -- a move: the copy is linked in the node's place, and the old successor is unlinked after the wait
-abbrev pub link_copy : ℕ → Side → ℕ → ℕ → ℕ → ℕ → ℕ → ℕ → ℕ → ℕ → Act
-link_copy parent b node copy left right old_parent old next_key value = record {
-  choice = links_copy parent b node copy old old_parent next_key;
+abbrev pub link_copy : Node → ℕ → ℕ → ℕ → ℕ → ℕ → Act
+link_copy node copy old_parent old next_key value = record {
+  choice = links_copy node.parent node.side node.slot copy old old_parent next_key;
   tests = λ s.
       can_commit s.view ∷
       nat_lt (length s.view.hands.retired) 15 ∷
-      all_of (both_tests s.view parent b node left right old_parent old) ∷
-      all_of (marked_tests s.view node) ∷
+      all_of (both_tests s.view node.parent node.side node.slot node.left node.right old_parent old) ∷
+      all_of (marked_tests s.view node.slot) ∷
       is_some s.view.hands.spare ∷
       ((spare_now s.view).slot == copy) ∷
       is_some (lock_of s.view.locks copy) ∷
@@ -152,14 +160,14 @@ link_copy parent b node copy left right old_parent old next_key value = record {
       is_number (known_in (known_under s.view old) (Value old)) value ∷
       is_number (known_in (spare_now s.view).known (Key copy)) next_key ∷
       is_number (known_in (spare_now s.view).known (Value copy)) value ∷
-      is_number (known_in (spare_now s.view).known (Link copy Left)) left ∷
-      is_number (known_in (spare_now s.view).known (Link copy Right)) right ∷
+      is_number (known_in (spare_now s.view).known (Link copy Left)) node.left ∷
+      is_number (known_in (spare_now s.view).known (Link copy Right)) node.right ∷
       [];
   allowed = λ s t. step25 (reading_now s.view) (record {
     has_commit = commit_is s.view (t 0);
     room = ltb-true _ _ (t 1);
-    records = both_children s.view parent b node left right old_parent old (t 2);
-    marked = marked_node s.view node (t 3);
+    records = both_children s.view node.parent node.side node.slot node.left node.right old_parent old (t 2);
+    marked = marked_node s.view node.slot (t 3);
     spare_is = (some_is _ s.view.hands.spare (t 4), eqb-true _ _ (t 5));
     locked = (lock_now s.view copy, some_is _ (lock_of s.view.locks copy) (t 6));
     old_key = number_is _ _ (t 7);

@@ -87,6 +87,8 @@ two_spots wait low high = all_spots {k = counted} {wait = wait} {spots = Count 5
   rows = λ p c spot. absurd (let w : Domain ≡ Deer = spot.0 in cc);
 })
 
+-- a section on the first side; a wait for its key, which finds that side empty, turns the gate, and finds the other side empty; and a
+-- section on that other side
 abbrev pub counted_run : List Choice
 counted_run =
     loads_gate 5 ∷
@@ -137,6 +139,7 @@ one_spot wait low high = all_spots {k = rowed} {wait = wait} {spots = Row 0 5 �
       (0, (λ n. some (Row (place_is n) (class_is n)))));
 })
 
+-- a section, and a wait for its key, which finds the place's word idle
 abbrev pub rowed_run : List Choice
 rowed_run = clocks ∷ enters_row 5 ∷ leaves_row 5 ∷ begins 5 5 ∷ looks_by K35 (Row 0 5) true ∷ []
 
