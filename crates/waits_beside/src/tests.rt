@@ -7,6 +7,7 @@ use std::test::Fail;
 
 mod notes;
 mod stress;
+mod values;
 
 #[test]
 fn a_value_is_read_until_it_is_replaced(rt: HostRuntime) -> Result<(), Fail> {
