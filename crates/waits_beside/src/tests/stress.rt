@@ -1,5 +1,5 @@
 //! Four readers and a waiter in threads of their own, for each of the waiters.
-ghost use Rattle.std.specs.Prelude.{◌≡◌, ◌+◌, ◌<◌, ◌≤◌, [], None};
+ghost use Rattle.std.specs.Prelude.{◌≡◌, ◌<◌, ◌≤◌, [], None};
 ghost use Rattle.seat_table.specs.Seats.{IsQuietSeat};
 
 use super::notes::{Board, Draws};

@@ -1,5 +1,5 @@
 //! A reader and a writer of one value in threads of their own.
-ghost use Rattle.std.specs.Prelude.{◌≡◌, ◌<◌, ◌≤◌};
+ghost use Rattle.std.specs.Prelude.{◌≡◌};
 ghost use Rattle.seat_table.specs.Seats.{IsQuietSeat};
 
 use crate::{Published, read, replace};
