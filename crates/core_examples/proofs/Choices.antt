@@ -159,7 +159,7 @@ marks_node slot life k s =
 abbrev pub looks_front : Choice
 looks_front k s =
     let n : ℕ = found k s (Front) in
-    record { kind = K37; field = Front; left = n; view = after_front_look s.view (section_now s.view) n; marks = [] }
+    record { kind = K37; field = Front; left = n; view = after_front_look s.view (section_now s.view) n s.marks; marks = [] }
 
 abbrev pub fills : ℕ → Field → ℕ → Choice
 fills slot field x k s =

@@ -163,7 +163,7 @@ module _ (k : Shape) (m : Memory) (table : IsShape k) (fresh : IsFresh k m) wher
     seats = record {
       placed = placed;
       spent = each_one (λ (u : View). u.allowance.places ≡ 0 → u ≡ spent_view) (first_view k) (λ none. absurd (let s = table.some_place in omega arith));
-      owned = each_one (IsOwned []) (first_view k) (record { met = λ p has. refl; unused = λ p u. refl });
+      owned = each_one (IsOwned []) (first_view k) (record { met = λ p has. refl; unused = λ p u. refl; joined = λ i meeting at. absurd (some-ne-none meeting (sym at)) });
       within = λ p le. refl;
       sections = each_one (λ (u : View). (section : Section) → u.section ≡ Some section → SectionStands [] u section) (first_view k) (λ section none. absurd (let q : None ≡ Some section = none in cc));
       opened = λ p o e. absurd (cc);

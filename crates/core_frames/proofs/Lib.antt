@@ -6,3 +6,4 @@ pub mod First
 pub mod Counting
 pub mod ListingLaws
 pub mod Keeping
+pub mod Telling

@@ -8,3 +8,4 @@ pub mod Stands
 pub mod Passes
 pub mod Trees
 pub mod Plain
+pub mod Here

@@ -5,3 +5,4 @@ pub mod SeatFacts
 pub mod Roles
 pub mod RetiredLists
 pub mod Leaving
+pub mod Readings

@@ -1,5 +1,6 @@
 //! What the invariant gives, and that a step noted in a trail keeps it too. Each is a function without a body whose promise is the law.
 ghost use Rattle.core_frames.specs.Laws.{LinksAreTree, FollowIsMap, SearchesAreAnswered, SearchesStand, FewPass, RecordsSay, StampsAreOld, StoodIsYoung, EmptyIsFull, PairsFit, ListingsGoOn, FreshHolds, NotesKeep};
+ghost use Rattle.core_frames.specs.Telling.{ViewsAreTold};
 
 /// The links from the root are a tree of distinct slots in search order.
 pub fn links_are_tree()
@@ -64,4 +65,9 @@ pub fn fresh_holds()
 /// Where each step of a kind keeps the invariant, so does each that is noted in its seat's trail.
 pub fn notes_keep()
     ensures { NotesKeep }
+{}
+
+/// What the invariant tells of each view that works at a place.
+pub fn views_are_told()
+    ensures { ViewsAreTold }
 {}

@@ -1,5 +1,5 @@
 -- A table as it is made has the invariant with one view a place: the first view is split, place by place.
-use Rattle.std.proofs.Common.{◌≡◌, ℕ, zero, suc, ◌+◌, ◌-◌, ◌≤◌, List, [], ◌∷◌, ◌++◌, length, set, refl, sym, ap, subst, ◌∙◌, arith, append_assoc}
+use Rattle.std.proofs.Common.{◌≡◌, ℕ, suc, ◌+◌, ◌-◌, ◌≤◌, List, [], ◌∷◌, ◌++◌, length, set, refl, ap, subst, arith, append_assoc}
 use mathlib.Core.Option.{some}
 use lib.ListN.{get_elem?}
 use Rattle.core_state.specs.declared.shape.Shape.{Shape}

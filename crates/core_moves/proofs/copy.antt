@@ -2,6 +2,7 @@ pub mod CopyChart
 pub mod CopyShape
 pub mod CopyReaders
 pub mod CopyNeeds
+pub mod NextKey
 pub mod CopySlots
 pub mod CopyCounts
 pub mod CopyMoves

@@ -1,5 +1,5 @@
 -- All points: what each act needs is given, and after it the view fits the next point.
-use Rattle.std.proofs.Common.{◌≡◌, ◌≢◌, ℕ, ◌*◌, ◌<◌, ◌≤◌, false, List, [], ◌∷◌, map, Some, refl, sym, ap, subst, ◌∙◌, ⊎_elim, arith}
+use Rattle.std.proofs.Common.{◌≡◌, ◌≢◌, ℕ, ◌*◌, false, List, [], ◌∷◌, map, Some, refl, sym, ap, subst, ◌∙◌, ⊎_elim}
 use Rattle.prcu_marks.specs.declared.mark.Mark.{Mark}
 use Rattle.core_state.specs.declared.shape.Shape.{Shape}
 use Rattle.core_state.specs.declared.shape.Waiter.TheVariants.{Eer}
@@ -25,6 +25,8 @@ use Rattle.core_points.specs.Programs.{act_at, after}
 use Rattle.core_points.specs.Facts.{Inside, Nothing, Owns}
 use Rattle.core_points.specs.DeleteFacts.{BeforeCopy, IsAside, under}
 use Rattle.core_points.specs.Told.{IsTold, SpareComes}
+use Rattle.core_frames.specs.Telling.{IsToldOf}
+use Rattle.core_frames.proofs.Telling.{told_of}
 use Rattle.core_points.specs.Fits.{Fits}
 use Rattle.core_points.specs.Laws.{NeedsAreGiven, NextFits, RuleTells, TrailsAreFree, is_finished}
 use Rattle.core_points.proofs.Bypasses.{needs_mark, next_mark, needs_bypass, next_bypass, needs_empty_tag, next_empty_tag, needs_empty_raise, next_empty_raise}
@@ -35,7 +37,7 @@ use Rattle.core_points.proofs.Leaves.{next_absent, next_val, next_old, next_link
 use Rattle.core_points.proofs.MoveEnds.{needs_old_mark, next_old_mark, needs_old_right, next_old_right, needs_unlink, next_unlink}
 use Rattle.core_points.proofs.MoveWaits.{needs_move_begin, next_move_begin, needs_move_key, next_move_key, needs_move_stamp, next_move_stamp}
 use Rattle.core_points.proofs.OldSlots.{needs_old_age, next_old_age, needs_old_raise, next_old_raise, needs_old_free, next_old_free, needs_old_count, next_old_count, no_spare}
-use Rattle.core_points.proofs.PutBack.{needs_raise, next_raise, needs_free, next_free, needs_count, next_count, tells}
+use Rattle.core_points.proofs.PutBack.{needs_raise, next_raise, needs_free, next_free, needs_count, next_count}
 use Rattle.core_points.proofs.PutLocks.{needs_field, next_field, needs_lock, next_lock, needs_life, next_life, needs_side, next_side, needs_tag, next_tag}
 use Rattle.core_points.proofs.PutUpdates.{needs_store, next_store}
 use Rattle.core_points.proofs.Puts.{needs_spot_tag, next_spot_tag, needs_spot_life, next_spot_life, needs_reserve, next_reserve, needs_seize, next_seize, needs_age, next_age}
@@ -44,35 +46,17 @@ use Rattle.core_points.proofs.Searches.{next_clock, needs_key, next_key, needs_s
 use Rattle.core_points.proofs.Sets.{needs_set_life, next_set_life, next_replace, needs_set_lock, next_set_lock, needs_set_check, next_set_check, needs_set_value, next_set_value, needs_set_store, next_set_store}
 use Rattle.core_points.proofs.Spares.{needs_reserve_spare, next_reserve_spare, needs_seize_spare, next_seize_spare, needs_age_spare, next_age_spare, needs_keep, next_keep}
 use Rattle.core_points.proofs.Targets.{needs_target_lock, next_target_lock, needs_target_load, next_target_load}
-use Rattle.core_points.proofs.Telling.{tells_older, tells_alone, tells_stood, tells_spare, tells_once, tells_busy, tells_aside, tells_move, tells_place, tells_held, tells_hand, tells_spare_within, tells_retired, tells_parent}
 use Rattle.core_points.proofs.Unlocks.{needs_unlock, next_unlock}
 use Rattle.core_tree.proofs.locks.Locked.{loaded_known}
 
 pub rule_tells : RuleTells
-rule_tells k m vs h id o v inv there works slots places = record {
-  some_place = subst (λ x. 1 ≤ x) places inv.table.some_place;
-  loads = λ s field. tells k m vs h id v s field inv there;
-  older = tells_older k m vs h inv id v there;
-  alone = tells_alone k m vs h inv id v there;
-  spare_comes = tells_spare k m vs h inv id v there works;
-  stood = λ section e s has. (let lt = tells_stood k m vs h inv id v there section e s has in omega arith);
-  once = tells_once k m vs h inv id v there;
-  busy = tells_busy k m vs h inv id v there;
-  aside = tells_aside k m vs h inv id v there;
-  moves = tells_move k m vs h inv id v there;
-  place_within = subst (λ x. v.allowance.place < x) places (tells_place k m vs h inv id v there works);
-  locks_within = λ s held. (let lt = tells_held k m vs h inv id v there s held in omega arith);
-  hand_within = λ held is. (let lt = tells_hand k m vs h inv id v there held is in omega arith);
-  spare_within = λ held is. (let lt = tells_spare_within k m vs h inv id v there held is in omega arith);
-  retired_within = λ i r e. (let lt = tells_retired k m vs h inv id v there i r e in omega arith);
-  move_within = λ move is. (let lt = tells_parent k m vs h inv id v there move is in omega arith);
-}
+rule_tells k m vs h id o v inv there works slots places = subst (λ (z : ℕ × ℕ). IsToldOf z.0 z.1 v h m) (λ i. (slots i, places i)) (told_of k m vs h id v inv there works)
 
 none_are : (rs : List Retired) (os : List ℕ) → map (λ (r : Retired). r.slot) rs ≡ os → rs ≢ [] → is_none_left os ≡ false
 none_are [] os e ne = absurd (ne refl)
 none_are (r ∷ rs) os e ne = ap is_none_left (sym e)
 
-comes : (o : Own) (v : View) (h : List Mark) (word : Field → ℕ) → IsTold o v h word → Owns o v → SpareComes o
+pub comes : (o : Own) (v : View) (h : List Mark) (word : Field → ℕ) → IsTold o v h word → Owns o v → SpareComes o
 comes o v h word told owns none = none_are v.hands.retired o.retired owns.retired_are (told.spare_comes (no_spare v.hands.spare o.spare owns.spare_is none))
 
 -- the spare is none of the slots of a delete whose records hold
@@ -287,5 +271,7 @@ trails_are_free h o v word stage kind field number = (
     spare_within = told.spare_within;
     retired_within = told.retired_within;
     move_within = told.move_within;
+    links_within = told.links_within;
+    old_links_within = told.old_links_within;
   }),
 )

@@ -1,7 +1,5 @@
 -- The history explains the answers.
 use Rattle.prcu_marks.specs.declared.mark.Side.TheVariants.{Left, Right}
-use Rattle.core_state.specs.tree.Nodes.{answer_at, follow, last_of, next}
-use Rattle.std.proofs.lemmas.Bool.{ltb-true}
 use Rattle.std.proofs.Common.{◌≡◌, ◌≢◌, ℕ, zero, suc, nat_lt, cond, Bool, eq-eqb, ◌+◌, ◌-◌, ◌*◌, ◌/◌, ◌≤◌, true, false, List, [], ◌∷◌, length, map, Some, None, refl, sym, ap, subst, ◌∙◌, inl, ⊎_elim, arith}
 use Rattle.std.specs.FinMap as finite
 use mathlib.Core.Logic.{dite}
@@ -28,6 +26,7 @@ use Rattle.prcu_marks.specs.Commits.{updates_by}
 use Rattle.core_state.specs.parts.ReaderParts.{StandsWell}
 use Rattle.core_state.specs.Invariant.{HoldsNow}
 use Rattle.list_laws.specs.Counts.{IsIn}
+use Rattle.core_frames.proofs.chart.Here.{follow_here}
 use Rattle.list_laws.proofs.Lists.{in_first, in_second}
 use Rattle.core_frames.specs.Laws.{answer_of}
 use Rattle.core_frames.proofs.chart.Plain.{searches_are_answered}
@@ -72,27 +71,6 @@ absent_said k m vs h id v o inv there f =
     let i = q.2 in
     (i.0, i.1, search_said k m vs h id v (key_now o) (Missed q.0 q.1) Nothing inv there i)
 
--- A search that stands at a slot with its key ends there.
-follow_here : (m : Memory) (hops s x : ℕ) → s ≢ 0 → m (Key s) ≡ x → follow m hops s x ≡ Some (m (Value s))
-follow_here m hops zero x some_slot e = absurd (some_slot refl)
-follow_here m hops (suc s) x some_slot e = ap (answer_at m x) (stays hops) ∙ ap (λ z. cond z (Some (m (Value (suc s)))) None) (eq-eqb (m (Key (suc s))) x e)
-  where
-    not_below : (q : ℕ) → nat_lt q q ≡ false
-    not_below q = by (nat_lt q q) refl
-      where
-        by : (z : Bool) → nat_lt q q ≡ z → z ≡ false
-        by true less = absurd (let lt = ltb-true q q less in omega arith)
-        by false less = refl
-
-    ends : next m x (suc s) ≡ 0
-    ends = subst (λ y. next m y (suc s) ≡ 0) e
-        (let q : ℕ = m (Key (suc s)) in
-        ap (λ z. cond z (m (Link (suc s) Left)) (cond (nat_lt q q) (m (Link (suc s) Right)) 0)) (not_below q) ∙ ap (λ z. cond z (m (Link (suc s) Right)) 0) (not_below q))
-
-    stays : (hops : ℕ) → last_of m x hops (suc s) ≡ suc s
-    stays zero = refl
-    stays (suc hops) = ap (λ z. cond z (suc s) (last_of m x hops (next m x (suc s)))) (eq-eqb (next m x (suc s)) 0 ends)
-
 -- A put that found its key: it had a value.
 old_said : (k : Shape) (m : Memory) (vs : List View) (h : List Mark) (id : ℕ) (v : View) (o : Own) → HoldsNow k m vs h → get_elem? vs id ≡ some v → Fits o (at.Leave then.Old) v
     → (section : Section) × (v.section ≡ Some section) × ((value : ℕ) × WasSaid (updates_of h) (key_now o) section.from (Some value))
@@ -118,7 +96,7 @@ full_said : (k : Shape) (m : Memory) (vs : List View) (h : List Mark) (id : ℕ)
     → Fits o (at.Reserve (Leaf spot) expected) v → is_none_left o.retired ≡ true → m Free ≡ 0 → k.slots ≤ finite.len (map_of (updates_of h)) + 20 * (k.places - 1)
 full_said k m vs h id v o spot expected inv there f none empty =
     let b = (f.point).1 in
-    let full = empty_is_full k m vs h inv id v there (record { works = (let one = f.owns.alone in omega arith); reserved = b.3; hand = (f.point).2; owes = b.4; moving = b.2 }) empty in
+    let full = empty_is_full k m vs h inv id v there (record { works = f.owns.works; reserved = b.3; hand = (f.point).2; owes = b.4; moving = b.2 }) empty in
     let no = none_retired v.hands.retired o.retired f.owns.retired_are none in omega arith
 
 -- The number of an update is its place in the history.

@@ -54,7 +54,7 @@ module _ (o : Own) (v : View) (free : IsFree o v) where
       → OwnsParts o.place (key_of op) ops o.scan (o.slots + o.places) o.spare o.retired o.locks v.allowance.place v.allowance.places v.hands.spare v.hands.retired v.locks
   owns_op op ops fit = record {
     same = free.owns.same;
-    alone = free.owns.alone;
+    works = free.owns.works;
     spare_is = free.owns.spare_is;
     retired_are = free.owns.retired_are;
     locks_are = free.owns.locks_are;
@@ -64,7 +64,7 @@ module _ (o : Own) (v : View) (free : IsFree o v) where
     scans_table = free.owns.scans_table;
   }
 
-  starts : (op : Op) (ops : List Op) → IsReady op o.hand o.spare o.retired → Each (op ∷ ops) (λ later. key_of later < 2 ^ 64) → 4 * length (op ∷ ops) ≤ v.allowance.tickets
+  starts : (op : Op) (ops : List Op) → IsReady op o.hand o.spare o.retired → Each (op ∷ ops) (λ later. key_of later < 2 ^ 64) → 4 * length (op ∷ ops) + o.kept ≤ v.allowance.tickets
       → Fits (record o { op = op; rest = ops; stage = at.EnterClock }) at.EnterClock v
   starts op ops ready fit paid = record {
     owns = owns_op op ops fit;
@@ -77,7 +77,7 @@ module _ (o : Own) (v : View) (free : IsFree o v) where
   ready_other : (op : Op) → is_delete op ≡ false → IsReady op o.hand o.spare o.retired
   ready_other op other = record { empty = λ z. free.empty; room = λ is. absurd (let q : true ≡ false = sym is ∙ other in cc); has_spare = λ is. absurd (let q : true ≡ false = sym is ∙ other in cc) }
 
-  first : (op : Op) (ops : List Op) → Each (op ∷ ops) (λ later. key_of later < 2 ^ 64) → 4 * length (op ∷ ops) ≤ v.allowance.tickets
+  first : (op : Op) (ops : List Op) → Each (op ∷ ops) (λ later. key_of later < 2 ^ 64) → 4 * length (op ∷ ops) + o.kept ≤ v.allowance.tickets
       → Fits (record o { op = op; rest = ops; stage = first_point o op }) (first_point o op) v
   first (Put key value) ops fit paid = starts (Put key value) ops (ready_other (Put key value) refl) fit paid
   first (Get key) ops fit paid = starts (Get key) ops (ready_other (Get key) refl) fit paid
@@ -98,11 +98,11 @@ module _ (o : Own) (v : View) (free : IsFree o v) where
       many true e = record { owns = owns_op (Del key) ops fit; unraised = λ z. free.unraised; tickets = omega arith; point = (idle, refl) }
       many false e = has_spare (few e) (is_some o.spare) refl
 
-  pub begins : (ops : List Op) → Each ops (λ later. key_of later < 2 ^ 64) → 4 * length ops ≤ v.allowance.tickets → Fits (begun_with o ops) (begun_with o ops).stage v
+  pub begins : (ops : List Op) → Each ops (λ later. key_of later < 2 ^ 64) → 4 * length ops + o.kept ≤ v.allowance.tickets → Fits (begun_with o ops) (begun_with o ops).stage v
   begins [] fit paid = record {
     owns = record {
       same = free.owns.same;
-      alone = free.owns.alone;
+      works = free.owns.works;
       spare_is = free.owns.spare_is;
       retired_are = free.owns.retired_are;
       locks_are = free.owns.locks_are;
@@ -118,7 +118,7 @@ module _ (o : Own) (v : View) (free : IsFree o v) where
   begins (op ∷ ops) fit paid = first op ops fit paid
 
 -- a caller that answers goes on with its next operation
-pub answers : (o : Own) (v : View) (reply : Reply) (number : ℕ) → IsFree o v → 4 * length o.rest ≤ v.allowance.tickets → Fits (answer o reply number) (answer o reply number).stage v
+pub answers : (o : Own) (v : View) (reply : Reply) (number : ℕ) → IsFree o v → 4 * length o.rest + o.kept ≤ v.allowance.tickets → Fits (answer o reply number) (answer o reply number).stage v
 answers o v reply number free paid = begins (record o { told = o.told ++ record { reply = reply; number = number } ∷ [] }) v (record { owns = free.owns; outside = free.outside; empty = free.empty; bare = free.bare; no_hand = free.no_hand; unraised = free.unraised }) o.rest free.owns.keys_fit paid
 
 -- a new view
@@ -126,7 +126,7 @@ pub new_views_are_free : NewViewsAreFree
 new_views_are_free o tickets seen hand spare retired locks some few key keys = record {
   owns = record {
     same = refl;
-    alone = refl;
+    works = omega arith;
     spare_is = sym spare;
     retired_are = sym retired;
     locks_are = λ x. ap (times x) (sym locks);

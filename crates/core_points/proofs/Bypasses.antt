@@ -203,7 +203,7 @@ module _ (k : Shape) (h : List Mark) (o : Own) (v : View) (n : ℕ) where
       (record {
         owns = record {
           same = owns.same;
-          alone = owns.alone;
+          works = owns.works;
           spare_is = owns.spare_is;
           retired_are = slots_push v.hands.retired (newly_retired v d.node (length h + 1)) ∙ ap (λ xs. xs ++ d.node ∷ []) f.owns.retired_are;
           locks_are = λ x. ap (times x) (relinked_slots d.parent d.side child d.node (change_lock d.parent (note_lock kn) v.locks)) ∙ owns.locks_are x;

@@ -453,7 +453,7 @@ module _ (k : Shape) (h : List Mark) (o : Own) (v : View) (n : ℕ) where
       (record {
         owns = record {
           same = owns.same;
-          alone = owns.alone;
+          works = owns.works;
           spare_is = refl;
           retired_are = slots_push v.hands.retired (newly_retired v d.node (length h + 1)) ∙ ap (λ xs. xs ++ d.node ∷ []) f.owns.retired_are;
           locks_are = λ x. ap (times x) (slots_change d.node (with_mark false) (λ l. refl) noted) ∙ owns.locks_are x;

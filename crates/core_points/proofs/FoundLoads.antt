@@ -61,7 +61,7 @@ link_still r s p b t c n e = subst (λ (x : Reading). StillFound r x (Link t c) 
 -- the next point in the section
 module _ (h : List Mark) (o : Own) (v : View) (n : ℕ) where
   pub found_next : (s p : ℕ) (b : Side) (field : Field) (more more' : Reading → Type 0) (stage' : Stage)
-      → Owns o v → Each v.hands.retired (λ (r : Retired). r.raised ≡ false) → owed (go o stage') stage' + 4 * length o.rest ≤ v.allowance.tickets
+      → Owns o v → Each v.hands.retired (λ (r : Retired). r.raised ≡ false) → owed (go o stage') stage' + 4 * length o.rest + o.kept ≤ v.allowance.tickets
       → Inside v (key_now o) (Found s p b None) (λ section. more section.reading)
       → ((r : Reading) → r.state ≡ Found s p b None → IsIn r.stood s → more r → StillFound r (loaded r field n) field n × more' (loaded r field n))
       → ((section : Section) → Inside (record v { section = Some section }) (key_now o) (Found s p b None) (λ section. more' section.reading) → Point (go o stage') stage' (plain (record v { section = Some section })))

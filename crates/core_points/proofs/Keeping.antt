@@ -1,5 +1,5 @@
 -- Whoever makes the act of its point keeps the invariant, and fits the next point.
-use Rattle.std.proofs.Common.{ℕ, cond, subst, arith}
+use Rattle.std.proofs.Common.{ℕ, cond, subst}
 use Rattle.core_state.specs.declared.words.Field.{Field}
 use Rattle.core_state.specs.declared.view.View.{View}
 use Rattle.core_state.specs.views.Views.{Works}
@@ -22,7 +22,7 @@ points_keep k m vs h id o v inv there eer slots places going f =
     let left : ℕ = left_of o.place a n in
     let noted : View = noted_act o v a n in
     let w : View = view_after noted h n a in
-    let works : Works v = (let one = f.owns.alone in omega arith) in
+    let works : Works v = f.owns.works in
     let told : IsTold o v h m = rule_tells k m vs h id o v inv.now there works slots places in
     let free = trails_are_free h o v m o.stage (kind_of a) field (cond (is_store (kind_of a)) left n) in
     let fits : Fits o o.stage noted = free.0 f in

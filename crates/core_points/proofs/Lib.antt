@@ -24,7 +24,6 @@ pub mod Bypasses
 pub mod Copies
 pub mod MoveWaits
 pub mod MoveEnds
-pub mod Telling
 pub mod All
 pub mod Within
 pub mod Answering

@@ -177,7 +177,7 @@ module _ (k : Shape) (h : List Mark) (o : Own) (v : View) (n : ℕ) where
           let w = owns_noted o v parent (Link parent b) child true f.owns in
           let p = (f.point).0 in record {
             same = w.same;
-            alone = w.alone;
+            works = w.works;
             spare_is = w.spare_is;
             retired_are = slots_push v.hands.retired (newly_retired v s (length h)) ∙ ap (λ xs. xs ++ s ∷ []) f.owns.retired_are;
             locks_are = λ x. ap (times x) (relinked_slots parent b child s (change_lock parent (note_lock (stored_at (Link parent b) child)) v.locks)) ∙ w.locks_are x ∙ ap (times x) p.7 ∙ sym (in_order m x (m.successor.parent == m.node.node) refl);

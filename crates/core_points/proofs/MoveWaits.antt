@@ -33,7 +33,7 @@ or_true true = refl
 or_true false = refl
 
 -- after such a wait the move is waited for
-graced_move : (wait : Waiting) (moving : Option moves.Move) (key : ℕ) (m : Moving) (clock p : ℕ) → IsMove moving key m false → OutlastsMove wait moving (key + 1) m.next_key clock p → IsMove (waited_move wait moving) key m true
+pub graced_move : (wait : Waiting) (moving : Option moves.Move) (key : ℕ) (m : Moving) (clock p : ℕ) → IsMove moving key m false → OutlastsMove wait moving (key + 1) m.next_key clock p → IsMove (waited_move wait moving) key m true
 graced_move wait moving key m clock p is out =
     let move : moves.Move = is.0 in
     let made = out.later move is.1 in
@@ -87,7 +87,7 @@ module _ (k : Shape) (h : List Mark) (o : Own) (v : View) (n : ℕ) where
       (q.0, record { wait_is = q.1; going = (q.2).going; rest = λ is_last ex other spot. seen_all k h o v n q.0 p (Stamp p) (p + 1 == o.places) eer places refl refl w.0 (q.2).past is_last other spot })
 
   -- a look that excuses a place
-  excused_move : (m : Moving) (clock p : ℕ) (field : Field) (wait : Waiting) → spot_seen field ≡ Stamp p → 0 + 4 * length o.rest ≤ v.allowance.tickets → Shifting o v m false None → HoldsOld v.locks m false → AreClear v.locks
+  excused_move : (m : Moving) (clock p : ℕ) (field : Field) (wait : Waiting) → spot_seen field ≡ Stamp p → 0 + 4 * length o.rest + o.kept ≤ v.allowance.tickets → Shifting o v m false None → HoldsOld v.locks m false → AreClear v.locks
       → p < o.places → OutlastsMove wait v.moving (key_now o + 1) m.next_key clock p → Owns o v → ((i : ℕ) (r : Retired) → get_elem? v.hands.retired i ≡ some r → r.raised ≡ false)
       → Fits (excused o (Move m) clock p) (excused o (Move m) clock p).stage (cond (p + 1 == o.places) (ending v (with_excused wait field) h) (record v { wait = Some (with_excused wait field) }))
   excused_move m clock p field wait spot paid shifting old clear small out owns unraised = by_last (p + 1 == o.places) refl
@@ -100,7 +100,7 @@ module _ (k : Shape) (h : List Mark) (o : Own) (v : View) (n : ℕ) where
           let s = shifting in record {
             owns = record {
               same = owns.same;
-              alone = owns.alone;
+              works = owns.works;
               spare_is = owns.spare_is;
               retired_are = same_slots (waited_retired now) (λ r. refl) v.hands.retired ∙ owns.retired_are;
               locks_are = owns.locks_are;

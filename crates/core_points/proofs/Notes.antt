@@ -40,7 +40,7 @@ pub owns_noted : (o : Own) (v : View) (s : ℕ) (field : Field) (n : ℕ) (by_st
 owns_noted o v s field n by_store w =
     let kn : Known = record { field = field; number = n; stored = by_store } in record {
       same = w.same;
-      alone = w.alone;
+      works = w.works;
       spare_is = spare_noted s kn v.hands.spare ∙ w.spare_is;
       retired_are = w.retired_are;
       locks_are = λ x. ap (times x) (slots_noted s kn v.locks) ∙ w.locks_are x;
@@ -54,7 +54,7 @@ owns_noted o v s field n by_store w =
 pub owns_relocked : (o : Own) (v : View) (locks : List HeldLock) → map (λ (l : HeldLock). l.slot) locks ≡ map (λ (l : HeldLock). l.slot) v.locks → Owns o v → Owns o (record v { locks = locks })
 owns_relocked o v locks slots w = record {
   same = w.same;
-  alone = w.alone;
+  works = w.works;
   spare_is = w.spare_is;
   retired_are = w.retired_are;
   locks_are = λ x. ap (times x) slots ∙ w.locks_are x;
@@ -68,7 +68,7 @@ owns_relocked o v locks slots w = record {
 pub owns_more : (o : Own) (v : View) (s : ℕ) → Owns o v → Owns (record o { locks = s ∷ o.locks }) (record v { locks = new_lock s ∷ v.locks })
 owns_more o v s w = record {
   same = w.same;
-  alone = w.alone;
+  works = w.works;
   spare_is = w.spare_is;
   retired_are = w.retired_are;
   locks_are = λ x. ap (λ t. cond (s == x) 1 0 + t) (w.locks_are x);
@@ -92,7 +92,7 @@ next_within s most some le =
 pub owns_scanned : (o : Own) (v : View) → Owns o v → Owns (record o { scan = cond (o.scan == o.slots + o.places) 1 (o.scan + 1) }) v
 owns_scanned o v w = record {
   same = w.same;
-  alone = w.alone;
+  works = w.works;
   spare_is = w.spare_is;
   retired_are = w.retired_are;
   locks_are = w.locks_are;

@@ -85,7 +85,7 @@ module _ (k : Shape) (h : List Mark) (o : Own) (v : View) (n : ℕ) where
       let owns = owns_noted o v slot (Life slot) n false f.owns in record {
         owns = record {
           same = owns.same;
-          alone = owns.alone;
+          works = owns.works;
           spare_is = owns.spare_is;
           retired_are = same_slots (changed_at slot to) (λ r. slot_kept to (λ r. refl) r (r.slot == slot)) v.hands.retired ∙ f.owns.retired_are;
           locks_are = owns.locks_are;
@@ -145,7 +145,7 @@ module _ (k : Shape) (h : List Mark) (o : Own) (v : View) (n : ℕ) where
           let to : Retired → Retired = λ r. record r { raised = true } in record {
             owns = record {
               same = f.owns.same;
-              alone = f.owns.alone;
+              works = f.owns.works;
               spare_is = f.owns.spare_is;
               retired_are = same_slots (changed_at slot to) (λ r. slot_kept to (λ r. refl) r (r.slot == slot)) v.hands.retired ∙ f.owns.retired_are;
               locks_are = f.owns.locks_are;
@@ -175,7 +175,7 @@ module _ (k : Shape) (h : List Mark) (o : Own) (v : View) (n : ℕ) where
           giving_fits (record o { spare = Some slot; retired = but_first o.retired }) aim (after_raise_to_spare v slot number h) (λ none. cc)
           (record {
             same = f.owns.same;
-            alone = f.owns.alone;
+            works = f.owns.works;
             spare_is = refl;
             retired_are = ap (map (λ (r : Retired). r.slot)) left ∙ sym (ap but_first e);
             locks_are = f.owns.locks_are;
@@ -210,7 +210,7 @@ module _ (k : Shape) (h : List Mark) (o : Own) (v : View) (n : ℕ) where
       let b = i.1 in record {
         owns = record {
           same = f.owns.same;
-          alone = f.owns.alone;
+          works = f.owns.works;
           spare_is = f.owns.spare_is;
           retired_are = ap (map (λ (r : Retired). r.slot)) left ∙ sym (ap but_first e);
           locks_are = f.owns.locks_are;

@@ -2,24 +2,18 @@
 use Rattle.std.proofs.Common.{◌≡◌, ℕ, ◌+◌, ◌*◌, ◌/◌, true, false, List, [], ◌∷◌, Some, None, refl, sym, ap, subst, ◌∙◌, arith}
 use Rattle.prcu_marks.specs.declared.mark.Mark.{Mark}
 use Rattle.core_state.specs.declared.shape.Shape.{Shape}
-use Rattle.core_state.specs.declared.words.Field.{Field}
 use Rattle.core_state.specs.declared.words.Field.TheVariants.{Life}
 use Rattle.core_state.specs.declared.view.Held.{Held}
 use Rattle.core_state.specs.declared.view.View.{View}
 use Rattle.core_state.specs.views.Known.{note_option}
 use Rattle.core_state.specs.steps.Slots.{raise_held, after_raise_in_hand, after_count_free}
-use Rattle.core_state.specs.Invariant.{HoldsNow}
-use Rattle.core_state.specs.memory.Memory.{Memory}
 use Rattle.prcu_model.specs.declared.operation.Reply.TheVariants.{Old}
-use lib.ListN.{get_elem?}
-use mathlib.Core.Option.{some}
 use Rattle.core_points.specs.declared.stage.Stage.TheVariants as at
 use Rattle.core_points.specs.Acts.{Needs, view_after, raise_hand, free_hand}
 use Rattle.core_points.specs.Callers.{Own, go, key_now, or_root, value_in}
 use Rattle.core_points.specs.Programs.{act_at, after}
 use Rattle.core_points.specs.Facts.{HandFits, stored_at}
 use Rattle.core_points.specs.Fits.{Fits}
-use Rattle.core_points.specs.Told.{Tells}
 use Rattle.core_points.proofs.Answers.{answers}
 use Rattle.core_points.proofs.Notes.{owns_noted, bare_noted, held_here}
 
@@ -60,7 +54,7 @@ module _ (k : Shape) (h : List Mark) (o : Own) (v : View) (n : ℕ) where
   next_free f = let b = (f.point).1 in record {
     owns = record {
       same = f.owns.same;
-      alone = f.owns.alone;
+      works = f.owns.works;
       spare_is = f.owns.spare_is;
       retired_are = f.owns.retired_are;
       locks_are = f.owns.locks_are;
@@ -81,7 +75,3 @@ module _ (k : Shape) (h : List Mark) (o : Own) (v : View) (n : ℕ) where
   next_count f = let p = f.point in
       answers (record o { free = n + 1 }) (after_count_free v n) Old 0
       (record { owns = f.owns; outside = p.0; empty = p.1; bare = (p.3, p.4, p.5, p.6, refl); no_hand = p.2; unraised = f.unraised refl }) (let t = f.tickets in omega arith)
-
--- A load of a field of the slot in hand finds what is known of it.
-pub tells : (k : Shape) (m : Memory) (vs : List View) (h : List Mark) (id : ℕ) (v : View) (s : ℕ) (field : Field) → HoldsNow k m vs h → get_elem? vs id ≡ some v → Tells v s field (m field)
-tells k m vs h id v s field inv there held is same number known = ((((inv.slots.hands id v there).hand held is).0) field number known).1

@@ -87,7 +87,7 @@ module _ (k : Shape) (h : List Mark) (o : Own) (v : View) (n : ℕ) where
       filled (suc (suc (suc zero))) le s is e = record {
         owns = owns_noted o v s (Link s Right) 0 true f.owns;
         unraised = λ z. f.unraised refl;
-        tickets = subst (λ x. owed_op o.op x o.retired + 4 * length o.rest ≤ v.allowance.tickets) (sym is) (one_owed o.op (f.point).4 s f.tickets);
+        tickets = subst (λ x. owed_op o.op x o.retired + 4 * length o.rest + o.kept ≤ v.allowance.tickets) (sym is) (one_owed o.op (f.point).4 s f.tickets);
         point = (
           (f.point).0,
           (s, is),
@@ -99,7 +99,7 @@ module _ (k : Shape) (h : List Mark) (o : Own) (v : View) (n : ℕ) where
         );
       }
         where
-          one_owed : (op : Op) → is_put op ≡ true → (s : ℕ) → 1 + 4 * length o.rest ≤ v.allowance.tickets → owed_op op (Some s) o.retired + 4 * length o.rest ≤ v.allowance.tickets
+          one_owed : (op : Op) → is_put op ≡ true → (s : ℕ) → 1 + 4 * length o.rest + o.kept ≤ v.allowance.tickets → owed_op op (Some s) o.retired + 4 * length o.rest + o.kept ≤ v.allowance.tickets
           one_owed (Put key value) e s le = le
           one_owed (Get key) e s le = cc
           one_owed (Del key) e s le = cc
@@ -177,11 +177,11 @@ module _ (k : Shape) (h : List Mark) (o : Own) (v : View) (n : ℕ) where
             point = ((p.0, p.1, ((p.2).0 ∙ same, (p.2).1, (p.2).2, (p.2).3, (p.2).4), p.3, p.4, p.5), made_even o.front);
           }
         where
-          put_owed : (op : Op) → is_put op ≡ true → (hand : Option ℕ) → owed_op op hand o.retired + 4 * length o.rest ≤ v.allowance.tickets → 1 + 4 * length o.rest ≤ v.allowance.tickets
+          put_owed : (op : Op) → is_put op ≡ true → (hand : Option ℕ) → owed_op op hand o.retired + 4 * length o.rest + o.kept ≤ v.allowance.tickets → 1 + 4 * length o.rest + o.kept ≤ v.allowance.tickets
           put_owed (Put key value) e (Some s) le = le
           put_owed (Put key value) e None le = less o.retired le
             where
-              less : (rs : List ℕ) → owed_op (Put key value) None rs + 4 * length o.rest ≤ v.allowance.tickets → 1 + 4 * length o.rest ≤ v.allowance.tickets
+              less : (rs : List ℕ) → owed_op (Put key value) None rs + 4 * length o.rest + o.kept ≤ v.allowance.tickets → 1 + 4 * length o.rest + o.kept ≤ v.allowance.tickets
               less [] le = omega arith
               less (r ∷ rs) le = omega arith
           put_owed (Get key) e hand le = cc

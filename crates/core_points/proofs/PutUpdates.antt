@@ -80,7 +80,7 @@ module _ (k : Shape) (h : List Mark) (o : Own) (v : View) (n : ℕ) where
       (record {
         owns = record {
           same = owns.same;
-          alone = owns.alone;
+          works = owns.works;
           spare_is = owns.spare_is;
           retired_are = owns.retired_are;
           locks_are = owns.locks_are;

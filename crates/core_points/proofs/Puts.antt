@@ -26,7 +26,7 @@ use Rattle.core_points.specs.Tickets.{owed_reserve}
 use Rattle.core_points.specs.Fits.{Fits}
 use Rattle.core_points.proofs.Answers.{answers}
 use Rattle.core_points.proofs.Notes.{owns_scanned, owns_noted, bare_noted, held_here}
-use Rattle.core_points.proofs.Searches.{missed_stays}
+use Rattle.core_frames.proofs.views.Readings.{missed_stays}
 use Rattle.core_tree.proofs.notes.Knowing.{known_here}
 
 two_owed : (spot : Spot) (retired : List ℕ) → 2 ≤ owed_reserve (Leaf spot) retired
@@ -99,7 +99,7 @@ module _ (k : Shape) (h : List Mark) (o : Own) (v : View) (n : ℕ) where
       empties (s ∷ ss) e = record {
         owns = f.owns;
         unraised = λ z. f.unraised refl;
-        tickets = subst (λ rs. owed_reserve (Leaf spot) rs + 4 * length o.rest ≤ v.allowance.tickets) e f.tickets;
+        tickets = subst (λ rs. owed_reserve (Leaf spot) rs + 4 * length o.rest + o.kept ≤ v.allowance.tickets) e f.tickets;
         point = (((f.point).0, (f.point).1, (f.point).2, (f.point).3), ((f.point).5, (f.point).6));
       }
 

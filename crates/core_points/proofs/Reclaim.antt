@@ -33,7 +33,7 @@ use Rattle.core_points.specs.Told.{SpareComes}
 use Rattle.core_points.proofs.Answers.{positive}
 
 -- after a wait for everybody that began after its unlinking, a slot is waited
-graced : (wait : Waiting) (r : Retired) → wait.low ≡ 0 → wait.high ≡ 18446744073709551615 → r.unlinked < wait.began → (waited_retired wait r).waited ≡ true
+pub graced : (wait : Waiting) (r : Retired) → wait.low ≡ 0 → wait.high ≡ 18446744073709551615 → r.unlinked < wait.began → (waited_retired wait r).waited ≡ true
 graced wait r low high later =
     let e : is_grace_for wait r.unlinked ≡ true = ap (λ b. b && (wait.low == 0 && wait.high == 18446744073709551615)) (lt-ltb r.unlinked wait.began later)
     ∙ ap (λ b. b && wait.high == 18446744073709551615) (eq-eqb wait.low 0 low) ∙ eq-eqb wait.high 18446744073709551615 high in
@@ -60,7 +60,7 @@ few_owed (Del key) hand retired e none = omega arith
 few_owed (Set key value) hand retired e none = omega arith
 
 -- the next slot to give back, or what the slots were given back for
-pub giving_fits : (o : Own) (aim : Aim) (w : View) → SpareComes o → Owns o w → Idle o w → ForAim o w aim → owed_given (Reuse aim) + 4 * length o.rest ≤ w.allowance.tickets
+pub giving_fits : (o : Own) (aim : Aim) (w : View) → SpareComes o → Owns o w → Idle o w → ForAim o w aim → owed_given (Reuse aim) + 4 * length o.rest + o.kept ≤ w.allowance.tickets
     → Each w.hands.retired (λ (r : Retired). r.raised ≡ false) → Each w.hands.retired (λ (r : Retired). r.waited ≡ true) → Fits (giving o aim) (giving o aim).stage w
 giving_fits o aim w comes owns idle for paid unraised waited = by_left (is_none_left o.retired) refl
   where
@@ -83,21 +83,21 @@ giving_fits o aim w comes owns idle for paid unraised waited = by_left (is_none_
       record { empty = λ z. idle.3; room = λ z. none_left o.retired none; has_spare = λ z. spare_now none },
     )
 
-    enters : is_none_left o.retired ≡ true → (m : ℕ) → 2 ≤ m → m + 4 * length o.rest ≤ w.allowance.tickets → Fits (go o at.EnterClock) at.EnterClock w
+    enters : is_none_left o.retired ≡ true → (m : ℕ) → 2 ≤ m → m + 4 * length o.rest + o.kept ≤ w.allowance.tickets → Fits (go o at.EnterClock) at.EnterClock w
     enters none m two paid = record { owns = owns; tickets = (let few = few_owed o.op o.hand o.retired idle.3 none in omega arith); unraised = λ z. unraised; point = (idle.0, calm none) }
 
     reserved : (retired : List ℕ) (spot : Spot) → is_none_left retired ≡ true → owed_reserve (Leaf spot) retired ≡ 2
     reserved [] spot none = refl
     reserved (s ∷ ss) spot none = cc
 
-    spares : is_none_left o.retired ≡ true → 3 + 4 * length o.rest ≤ w.allowance.tickets → (z : Bool) → is_some o.spare ≡ z → let st : Stage = cond z at.EnterClock (taking o Spare) in Fits (go o st) st w
+    spares : is_none_left o.retired ≡ true → 3 + 4 * length o.rest + o.kept ≤ w.allowance.tickets → (z : Bool) → is_some o.spare ≡ z → let st : Stage = cond z at.EnterClock (taking o Spare) in Fits (go o st) st w
     spares none paid true e = enters none 3 (omega arith) paid
     spares none paid false e = absurd (let q : true ≡ false = sym (spare_now none) ∙ e in cc)
 
-    back : (aim : Aim) → is_none_left o.retired ≡ true → ForAim o w aim → owed_given (Reuse aim) + 4 * length o.rest ≤ w.allowance.tickets → Fits (go o (given_back o aim)) (given_back o aim) w
+    back : (aim : Aim) → is_none_left o.retired ≡ true → ForAim o w aim → owed_given (Reuse aim) + 4 * length o.rest + o.kept ≤ w.allowance.tickets → Fits (go o (given_back o aim)) (given_back o aim) w
     back (Leaf spot) none for paid = record {
       owns = owns;
-      tickets = subst (λ x. x + 4 * length o.rest ≤ w.allowance.tickets) (sym (reserved o.retired spot none)) paid;
+      tickets = subst (λ x. x + 4 * length o.rest + o.kept ≤ w.allowance.tickets) (sym (reserved o.retired spot none)) paid;
       unraised = λ z. unraised;
       point = (idle.0, idle.1, idle.2, idle.3, positive o.free, for.0, for.1);
     }
@@ -158,18 +158,18 @@ module _ (k : Shape) (h : List Mark) (o : Own) (v : View) (n : ℕ) where
       let q = (f.point).3 in
       (q.0, record { wait_is = q.1; going = (q.2).going; rest = λ is_last ex other spot. seen_all q.0 p (Stamp p) (p + 1 == o.places) eer places refl refl (f.point).2 (q.2).past is_last other spot })
 
-  for_aim_same : (aim : Aim) (w : View) → w.records ≡ v.records → ForAim o v aim → ForAim o w aim
+  pub for_aim_same : (aim : Aim) (w : View) → w.records ≡ v.records → ForAim o v aim → ForAim o w aim
   for_aim_same (Leaf spot) w e (has, put) = (subst (λ rs. HasSpot (table_of o) rs (key_now o) spot) (sym e) has, put)
   for_aim_same Spare w e a = a
   for_aim_same Room w e a = a
 
-  for_aim_plain : (aim : Aim) → ForAim o (plain v) aim → ForAim o v aim
+  pub for_aim_plain : (aim : Aim) → ForAim o (plain v) aim → ForAim o v aim
   for_aim_plain (Leaf spot) a = a
   for_aim_plain Spare a = a
   for_aim_plain Room a = a
 
   -- a look that excuses a place
-  excused_fits : (aim : Aim) (clock p : ℕ) (field : Field) (wait : Waiting) → SpareComes o → spot_seen field ≡ Stamp p → Owns o v → Idle o v → ForAim o v aim → owed_given (Reuse aim) + 4 * length o.rest ≤ v.allowance.tickets
+  excused_fits : (aim : Aim) (clock p : ℕ) (field : Field) (wait : Waiting) → SpareComes o → spot_seen field ≡ Stamp p → Owns o v → Idle o v → ForAim o v aim → owed_given (Reuse aim) + 4 * length o.rest + o.kept ≤ v.allowance.tickets
       → Each v.hands.retired (λ (r : Retired). r.raised ≡ false) → p < o.places → Outlasts wait v.hands.retired clock p
       → Fits (excused o (Reuse aim) clock p) (excused o (Reuse aim) clock p).stage (cond (p + 1 == o.places) (ending v (with_excused wait field) h) (record v { wait = Some (with_excused wait field) }))
   excused_fits aim clock p field wait comes spot owns idle for paid unraised small out = by_last (p + 1 == o.places) refl
@@ -181,7 +181,7 @@ module _ (k : Shape) (h : List Mark) (o : Own) (v : View) (n : ℕ) where
           giving_fits o aim (ending v (with_excused wait field) h) comes
           (record {
             same = owns.same;
-            alone = owns.alone;
+            works = owns.works;
             spare_is = owns.spare_is;
             retired_are = same_slots (waited_retired (with_excused wait field)) (λ r. refl) v.hands.retired ∙ owns.retired_are;
             locks_are = owns.locks_are;

@@ -1,13 +1,12 @@
 -- The points of a search and of a get: what the step needs is known, and what the next point needs is known after it.
-use Rattle.std.proofs.Common.{◌≡◌, ℕ, suc, ◌+◌, ◌*◌, ◌==◌, ◌≤◌, ◌&&◌, cond, Bool, true, false, List, [], ◌∷◌, length, Option, Some, None, refl, sym, ap, subst, ◌∙◌, arith, eq-eqb}
+use Rattle.std.proofs.Common.{◌≡◌, ℕ, suc, ◌+◌, ◌*◌, ◌==◌, ◌≤◌, cond, Bool, true, false, List, [], ◌∷◌, length, Option, Some, None, refl, sym, ap, subst, ◌∙◌, arith}
 use Rattle.prcu_marks.specs.declared.mark.Mark.{Mark}
 use Rattle.prcu_marks.specs.declared.mark.Side.{Side}
-use Rattle.prcu_marks.specs.declared.mark.Side.TheVariants.{Left, Right}
+use Rattle.prcu_marks.specs.declared.mark.Side.TheVariants.{Right}
 use Rattle.prcu_model.specs.declared.operation.Op.{Op}
 use Rattle.prcu_model.specs.declared.operation.Op.TheVariants.{Put, Get, Del, Set}
 use Rattle.prcu_model.specs.Dictionary.{key_of}
 use Rattle.core_state.specs.declared.shape.Shape.{Shape}
-use Rattle.core_state.specs.declared.words.Field.{Field}
 use Rattle.core_state.specs.declared.words.Field.TheVariants.{Key, Value, Link}
 use Rattle.core_state.specs.declared.view.Reading.{Reading}
 use Rattle.core_state.specs.declared.view.Section.{Section}
@@ -15,9 +14,9 @@ use Rattle.core_state.specs.declared.view.SearchState.TheVariants.{At, Unread, F
 use Rattle.core_state.specs.declared.view.View.{View}
 use Rattle.list_laws.specs.Counts.{IsIn}
 use Rattle.core_state.specs.memory.Words.{step_side}
-use Rattle.core_state.specs.memory.Memory.{same_side}
 use Rattle.core_state.specs.steps.Sections.{after_enter_by_stamp, new_section}
-use Rattle.core_state.specs.steps.Loads.{key_stand, linked_on, searched, loaded, after_search_load}
+use Rattle.core_state.specs.steps.Loads.{key_stand, after_search_load}
+use Rattle.core_frames.proofs.views.Readings.{link_moves, key_moves, value_moves}
 use Rattle.core_points.specs.declared.stage.Then.TheVariants as then
 use Rattle.core_points.specs.declared.stage.Stage.TheVariants as at
 use Rattle.core_points.specs.Acts.{Needs, view_after, given}
@@ -26,34 +25,6 @@ use Rattle.core_points.specs.Programs.{act_at, after, ended, found, key_read}
 use Rattle.core_points.specs.Facts.{Calm, Inside, Nothing, Stands, is_delete, is_put, is_set}
 use Rattle.core_points.specs.Tickets.{owed, owed_op}
 use Rattle.core_points.specs.Fits.{Fits, Point}
-
--- The facts on readings: of plain values, for the running calls too.
-same_side-refl : (b : Side) → same_side b b ≡ true
-same_side-refl Left = refl
-same_side-refl Right = refl
-
-pub link_moves : (r : Reading) (s : ℕ) (b : Side) (n : ℕ) → r.state ≡ At s b
-    → loaded r (Link s b) n ≡ linked_on (record r { loads = record { field = Link s b; number = n; stored = false } ∷ r.loads }) s b n
-link_moves r s b n e =
-    let r' : Reading = record r { loads = record { field = Link s b; number = n; stored = false } ∷ r.loads } in
-    ap (λ z. searched r' z (Link s b) n) e ∙ ap (λ z. cond z (linked_on r' s b n) r') (ap (λ z. z && same_side b b) (eq-eqb s s refl) ∙ same_side-refl b)
-
-pub key_moves : (r : Reading) (s p : ℕ) (b : Side) (n : ℕ) → r.state ≡ Unread s p b
-    → loaded r (Key s) n ≡ record r { loads = record { field = Key s; number = n; stored = false } ∷ r.loads; state = key_stand s p b (step_side r.key n) }
-key_moves r s p b n e =
-    let r' : Reading = record r { loads = record { field = Key s; number = n; stored = false } ∷ r.loads } in
-    ap (λ z. searched r' z (Key s) n) e ∙ ap (λ z. cond z (record r' { state = key_stand s p b (step_side r'.key n) }) r') (eq-eqb s s refl)
-
-pub value_moves : (r : Reading) (s p : ℕ) (b : Side) (n : ℕ) → r.state ≡ Found s p b None
-    → loaded r (Value s) n ≡ record r { loads = record { field = Value s; number = n; stored = false } ∷ r.loads; state = Found s p b (Some n) }
-value_moves r s p b n e =
-    let r' : Reading = record r { loads = record { field = Value s; number = n; stored = false } ∷ r.loads } in
-    ap (λ z. searched r' z (Value s) n) e ∙ ap (λ z. cond z (record r' { state = Found s p b (Some n) }) r') (eq-eqb s s refl)
-
--- a load at the end of a search that missed only adds what it loaded
-pub missed_stays : (r : Reading) (s : ℕ) (b : Side) (field : Field) (n : ℕ) → r.state ≡ Missed s b
-    → loaded r field n ≡ record r { loads = record { field = field; number = n; stored = false } ∷ r.loads }
-missed_stays r s b field n e = ap (λ z. searched (record r { loads = record { field = field; number = n; stored = false } ∷ r.loads }) z field n) e
 
 deeper : {A : Type 0} (xs : List A) (x a : A) → IsIn xs a → IsIn (x ∷ xs) a
 deeper xs x a (i, e) = (suc i, e)
@@ -95,11 +66,11 @@ module _ (k : Shape) (h : List Mark) (o : Own) (v : View) (n : ℕ) where
   ended_point (Del key) e s b w calm inside = (calm, (ap is_put e, (s, b, inside)))
   ended_point (Set key value) e s b w calm inside = (calm, (ap is_put e, (s, b, inside)))
 
-  ended_owed : (w : Own) (op : Op) (s : ℕ) (b : Side) (more m : ℕ) → owed_op w.op w.hand w.retired + more ≤ m → owed w (ended op s b) + more ≤ m
-  ended_owed w (Put key value) s b more m le = le
-  ended_owed w (Get key) s b more m le = omega arith
-  ended_owed w (Del key) s b more m le = omega arith
-  ended_owed w (Set key value) s b more m le = omega arith
+  ended_owed : (w : Own) (op : Op) (s : ℕ) (b : Side) (more kept m : ℕ) → owed_op w.op w.hand w.retired + more + kept ≤ m → owed w (ended op s b) + more + kept ≤ m
+  ended_owed w (Put key value) s b more kept m le = le
+  ended_owed w (Get key) s b more kept m le = omega arith
+  ended_owed w (Del key) s b more kept m le = omega arith
+  ended_owed w (Set key value) s b more kept m le = omega arith
 
   pub next_link : (s : ℕ) (b : Side) → Fits o (at.AtLink s b) v → Fits (after o n (at.AtLink s b)) (after o n (at.AtLink s b)).stage (view_after v h n (act_at o (at.AtLink s b)))
   next_link s b f =
@@ -117,7 +88,7 @@ module _ (k : Shape) (h : List Mark) (o : Own) (v : View) (n : ℕ) where
       go_on true section calm stands = record {
         owns = f.owns;
         unraised = λ z. f.unraised refl;
-        tickets = ended_owed (go o (ended o.op s b)) o.op s b (4 * length o.rest) v.allowance.tickets f.tickets;
+        tickets = ended_owed (go o (ended o.op s b)) o.op s b (4 * length o.rest) o.kept v.allowance.tickets f.tickets;
         point = ended_point o.op refl s b _ calm (_, refl, record { searches = stands.searches; key_is = stands.key_is; sought = stands.sought; state_is = refl; here = stands.here }, tt);
       }
       go_on false section calm stands = record {
@@ -139,11 +110,11 @@ module _ (k : Shape) (h : List Mark) (o : Own) (v : View) (n : ℕ) where
   found_point (Del key) e s p b w calm i = (calm, ap is_delete e, (i.0, i.1, i.2, (i.3, tt)))
   found_point (Set key value) e s p b w calm i = (calm, ap is_set e, (p, b, (i.0, i.1, i.2, tt)))
 
-  found_owed : (w : Own) (op : Op) (s p : ℕ) (b : Side) (more m : ℕ) → owed_op w.op w.hand w.retired + more ≤ m → owed w (found op s p b) + more ≤ m
-  found_owed w (Put key value) s p b more m le = omega arith
-  found_owed w (Get key) s p b more m le = le
-  found_owed w (Del key) s p b more m le = le
-  found_owed w (Set key value) s p b more m le = le
+  found_owed : (w : Own) (op : Op) (s p : ℕ) (b : Side) (more kept m : ℕ) → owed_op w.op w.hand w.retired + more + kept ≤ m → owed w (found op s p b) + more + kept ≤ m
+  found_owed w (Put key value) s p b more kept m le = omega arith
+  found_owed w (Get key) s p b more kept m le = le
+  found_owed w (Del key) s p b more kept m le = le
+  found_owed w (Set key value) s p b more kept m le = le
 
   pub next_read : (s p : ℕ) (b : Side) → Fits o (at.AtKey s p b) v → Fits (after o n (at.AtKey s p b)) (after o n (at.AtKey s p b)).stage (view_after v h n (act_at o (at.AtKey s p b)))
   next_read s p b f =
@@ -160,7 +131,7 @@ module _ (k : Shape) (h : List Mark) (o : Own) (v : View) (n : ℕ) where
       go_on None section calm stands stood = record {
         owns = f.owns;
         unraised = λ z. f.unraised refl;
-        tickets = found_owed (go o (found o.op s p b)) o.op s p b (4 * length o.rest) v.allowance.tickets f.tickets;
+        tickets = found_owed (go o (found o.op s p b)) o.op s p b (4 * length o.rest) o.kept v.allowance.tickets f.tickets;
         point = found_point o.op refl s p b _ calm (_, refl, record { searches = stands.searches; key_is = stands.key_is; sought = stands.sought; state_is = refl; here = stands.here }, stood);
       }
       go_on (Some c) section calm stands stood = record {

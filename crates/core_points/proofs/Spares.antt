@@ -118,7 +118,7 @@ module _ (k : Shape) (h : List Mark) (o : Own) (v : View) (n : ℕ) where
       let b = bare_noted v s (Life s) n false [] [] None false p.1 refl in record {
         owns = record {
           same = owns.same;
-          alone = owns.alone;
+          works = owns.works;
           spare_is = spare_noted s (read_at (Life s) n) v.hands.hand ∙ ap spare_slot q.1 ∙ ap Some q.2;
           retired_are = owns.retired_are;
           locks_are = owns.locks_are;

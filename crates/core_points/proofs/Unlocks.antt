@@ -1,5 +1,5 @@
 -- Giving up a lock: what the step needs is known, and what the next point needs is known after it.
-use Rattle.std.proofs.Common.{◌≡◌, ℕ, ◌*◌, ◌≤◌, cond, Bool, true, false, List, [], ◌∷◌, length, None, refl, sym, ap, subst, ◌∙◌, arith}
+use Rattle.std.proofs.Common.{◌≡◌, ℕ, ◌+◌, ◌*◌, ◌≤◌, cond, Bool, true, false, List, [], ◌∷◌, length, None, refl, sym, ap, subst, ◌∙◌, arith}
 use Rattle.prcu_marks.specs.declared.mark.Mark.{Mark}
 use Rattle.prcu_model.specs.declared.operation.Reply.{Reply}
 use Rattle.prcu_model.specs.declared.operation.Reply.TheVariants.{New, Gone, Was}
@@ -52,7 +52,7 @@ module _ (k : Shape) (h : List Mark) (o : Own) (v : View) (n : ℕ) where
   less : (s : ℕ) (rest : List ℕ) → o.locks ≡ s ∷ rest → TellsOnce v → Owns o v → Owns (record o { locks = rest }) (after_unlock v s)
   less s rest e once owns = record {
     same = owns.same;
-    alone = owns.alone;
+    works = owns.works;
     spare_is = owns.spare_is;
     retired_are = owns.retired_are;
     locks_are = same_without s rest v.locks (λ x. owns.locks_are x ∙ ap (times x) e) once;
@@ -95,7 +95,7 @@ module _ (k : Shape) (h : List Mark) (o : Own) (v : View) (n : ℕ) where
           bare : without_lock s v.locks ≡ []
           bare = no_slots (without_lock s v.locks) (λ x. owns.locks_are x ∙ ap (times x) (none_in rest none))
 
-          answered : (reply : Reply) (number : ℕ) → (v.hands.hand ≡ None) × (o.hand ≡ None) → 4 * length o.rest ≤ v.allowance.tickets → let a : Own = answer (record o { locks = rest }) reply number in Fits a a.stage w
+          answered : (reply : Reply) (number : ℕ) → (v.hands.hand ≡ None) × (o.hand ≡ None) → 4 * length o.rest + o.kept ≤ v.allowance.tickets → let a : Own = answer (record o { locks = rest }) reply number in Fits a a.stage w
           answered reply number hands paid = answers (record o { locks = rest }) w reply number
               (record { owns = owns; outside = u.0; empty = hands.1; bare = (bare, u.1, u.2, u.3, u.4); no_hand = hands.0; unraised = f.unraised refl }) paid
 

@@ -13,7 +13,8 @@ use Rattle.core_points.specs.declared.stage.Waits.TheVariants.{Reuse, Move}
 use Rattle.core_points.specs.declared.stage.Stage.{Stage}
 
 -- What a caller keeps: its place in a table of so many places and slots, its operation and those after it, where it is in it, what it
--- told, the slots of its place, its locks (the latest first), and what its place last found or left in the free count and in the front.
+-- told, the slots of its place, its locks (the latest first), what its place last found or left in the free count and in the front, and how
+-- many of its tickets are none of its operations'.
 pub record Own : Type 0 where
   pub place : ℕ
   pub places : ℕ
@@ -30,6 +31,7 @@ pub record Own : Type 0 where
   pub scan : ℕ
   pub free : ℕ
   pub front : ℕ
+  pub kept : ℕ
 
 abbrev pub key_now : Own → ℕ
 key_now o = key_of o.op

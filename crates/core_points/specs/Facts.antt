@@ -124,7 +124,7 @@ SameLocks slots locks = (s : ℕ) → times s (map (λ (l : HeldLock). l.slot) l
 -- What a caller keeps is what its view says: of its place, the spare and the retired slots.
 pub record OwnsParts (o_place key : ℕ) (rest : List Op) (scan most : ℕ) (o_spare : Option ℕ) (o_retired o_locks : List ℕ) (place places : ℕ) (spare : Option Held) (retired : List Retired) (locks : List HeldLock) : Type 0 where
   pub same : place ≡ o_place
-  pub alone : places ≡ 1
+  pub works : 1 ≤ places
   pub spare_is : spare_slot spare ≡ o_spare
   pub retired_are : map (λ (r : Retired). r.slot) retired ≡ o_retired
   pub locks_are : SameLocks o_locks locks

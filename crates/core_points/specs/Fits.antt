@@ -149,6 +149,6 @@ plain v = record v { trail = record { steps = []; joined = [] } }
 
 pub record Fits (o : Own) (stage : Stage) (v : View) : Type 0 where
   pub owns : Owns o v
-  pub tickets : owed o stage + 4 * length o.rest ≤ v.allowance.tickets
+  pub tickets : owed o stage + 4 * length o.rest + o.kept ≤ v.allowance.tickets
   pub unraised : is_raising stage ≡ false → Each v.hands.retired (λ (r : Retired). r.raised ≡ false)
   pub point : Point o stage (plain v)

@@ -57,9 +57,9 @@ abbrev pub ActsAreWithin : Type 0
 ActsAreWithin = (k : Shape) (h : List Mark) (o : Own) (v : View) (word : Field → ℕ) (stage : Stage) → k.waiter ≡ Eer → k.slots ≡ o.slots → k.places ≡ o.places → IsTold o v h word → Fits o stage v
     → is_field k (field_of o.place (act_at o stage)) ≡ true
 
--- A caller between two calls fits the first point of its next one, with four tickets for each operation.
+-- A caller between two calls fits the first point of its next one, with four tickets for each operation and those that it keeps.
 abbrev pub CallsBegin : Type 0
-CallsBegin = (o : Own) (v : View) (ops : List Op) → IsFree o v → Each ops (λ op. key_of op < 2 ^ 64) → 4 * length ops ≤ v.allowance.tickets → Fits (begun_with o ops) (begun_with o ops).stage v
+CallsBegin = (o : Own) (v : View) (ops : List Op) → IsFree o v → Each ops (λ op. key_of op < 2 ^ 64) → 4 * length ops + o.kept ≤ v.allowance.tickets → Fits (begun_with o ops) (begun_with o ops).stage v
 
 -- A view that works at a place for the first time is so for a caller that keeps nothing but the place's spare.
 abbrev pub NewViewsAreFree : Type 0

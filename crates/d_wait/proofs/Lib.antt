@@ -1,4 +1,3 @@
 pub mod Polling
 pub mod Sides
-pub mod Classes
 pub mod Turning

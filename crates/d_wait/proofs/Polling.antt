@@ -8,7 +8,7 @@ use Rattle.seat_table.specs.declared.wait.Grace.{Grace}
 use Rattle.seat_table.specs.declared.wait.Poll.TheVariants.{NotYet}
 use Rattle.seat_table.specs.Waits.{HasLooked, Shows, IsLatestOf, IsGoingOn, Polled}
 use Rattle.seat_table.proofs.Waiting.{looks_on, shows_later, shows_by}
-use Rattle.d_wait.specs.Looks.{HasMet}
+use Rattle.seat_table.specs.Looks.{HasMet}
 
 -- The wait of a view is one.
 pub one_wait : (v : View) (a b : Waiting) → v.wait ≡ Some a → v.wait ≡ Some b → a ≡ b

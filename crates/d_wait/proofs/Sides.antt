@@ -22,8 +22,9 @@ use Rattle.seat_table.specs.Cases.{MayLook, noted}
 use Rattle.seat_table.specs.Told.{Told}
 use Rattle.seat_table.specs.Waits.{Reached, reached, IsBefore, IsTurnedBefore, HasReached, HasLooked, HasEnded, ended_by, IsLatestOf, IsGoingOn, IsOver}
 use Rattle.seat_table.proofs.Waiting.{step_of, look_passes, look_stays, looks_on, begins_on, have_left}
-use Rattle.d_wait.specs.Classes.{IsLastClass, at_next, IsBack}
-use Rattle.d_wait.specs.Looks.{HasPassed}
+use Rattle.key_interval.specs.LastClass.{IsLastClass}
+use Rattle.d_wait.specs.Classes.{at_next, IsBack}
+use Rattle.seat_table.specs.Looks.{HasPassed}
 use Rattle.d_wait.proofs.Polling.{one_wait}
 use Rattle.core_waits.proofs.waits.Turns.{in_times}
 

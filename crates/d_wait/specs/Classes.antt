@@ -1,13 +1,7 @@
 -- The classes that a wait of the second waiter goes over.
 -- Source: docs/TREE.md, "The tree's waits".
 use Rattle.std.specs.Prelude.{◌≡◌, ℕ, ◌+◌, ◌<◌, ◌≤◌, true, false}
-use Rattle.key_interval.specs.Keys.{Interval, MeetsClass}
 use Rattle.seat_table.specs.declared.wait.Grace.{Grace}
-
--- Some key has this class, and none has a greater one.
-pub record IsLastClass (keys : Interval) (class : ℕ) : Type 0 where
-  pub met : MeetsClass keys class
-  pub greatest : (other : ℕ) → class < other → other < 64 → MeetsClass keys other → ⊥
 
 -- The grace is still at the same class of the same wait.
 abbrev pub StaysAt : {W : Type 0} → Grace W → Grace W → Type 0

@@ -2,17 +2,17 @@
 ghost use Rattle.std.specs.Prelude.{◌≡◌, ◌+◌, ◌%◌, ◌<◌, ◌≤◌, Some, IfNone, IfSome, true, false};
 ghost use Rattle.core_state.specs.declared.words.Field.TheVariants.{Count};
 ghost use Rattle.key_interval.specs.Keys.{MeetsClass};
+ghost use Rattle.key_interval.specs.LastClass.{IsLastClass};
 ghost use Rattle.seat_table.specs.declared.wait.Poll.TheVariants.{NotYet};
+ghost use Rattle.seat_table.specs.Looks.{HasPassed, HasMet};
 ghost use Rattle.seat_table.specs.Seats.{shape_of};
 ghost use Rattle.seat_table.specs.Waits.{IsLatestOf, IsGoingOn, IsOver, Polled};
-ghost use Rattle.d_wait.specs.Classes.{IsLastClass, StaysAt, at_next, IsBack};
-ghost use Rattle.d_wait.specs.Looks.{HasPassed, HasMet};
+ghost use Rattle.d_wait.specs.Classes.{StaysAt, at_next, IsBack};
 
 use key_interval::{Keys, class_of};
 use prcu_marks::Why;
 use seat_table::steps::{k7, k28, k29, k30, k31, k32};
 use seat_table::{CitrusTable, Grace, Poll, Seat, WaitPart, WaitWords};
-use std::marker::PhantomData;
 
 /// The waiter that counts readers by the class of their key. A reader adds 1 to the side of its key's class that the class's gate
 /// names, and takes it away when it leaves. A wait goes over the classes of its keys: it finds the side that the gate doesn't name
@@ -27,18 +27,6 @@ impl WaitWords for Domain {
 
 // What a grace has for a gate that isn't loaded yet. A gate is 0 or 1.
 const NOT_LOADED: u64 = u64::MAX;
-
-// The greatest class of the keys.
-fn last_class(keys: &Keys) -> u32
-    ensures class { result < 64 }
-    ensures last { IsLastClass keys.now result }
-{
-    if keys.low() / 64 < keys.high() / 64 {
-        63
-    } else {
-        class_of(keys.high())
-    }
-}
 
 // Loads the gate of the class that the grace has come to, unless that was done.
 fn load_gate(table: &CitrusTable<Domain>, seat: &mut Seat<Domain>, grace: &mut Grace<Domain>)
@@ -196,15 +184,7 @@ impl WaitPart for Domain {
 
     fn begin(table: &CitrusTable<Domain>, seat: &mut Seat<Domain>, keys: Keys) -> Grace<Domain> {
         let clock = k7(table, seat, keys);
-        Grace {
-            keys,
-            clock,
-            place: 0,
-            class: 0,
-            gate: NOT_LOADED,
-            turned: false,
-            waiter: PhantomData,
-        }
+        Grace::new(keys, clock)
     }
 
     fn poll(
@@ -212,7 +192,7 @@ impl WaitPart for Domain {
         seat: &mut Seat<Domain>,
         grace: &mut Grace<Domain>,
     ) -> Poll {
-        let last = last_class(&grace.keys);
+        let last = grace.keys.last_class();
         for _ in grace.class..last {
             if let Some(why) = pass(table, seat, grace) {
                 return Poll::NotYet { why };

@@ -16,7 +16,7 @@ use Rattle.seat_table.specs.Cases.{MayLook}
 use Rattle.seat_table.specs.Waits.{reached, IsBefore, HasReached, IsLatestOf, IsGoingOn}
 use Rattle.seat_table.specs.Looks.{HasPassed}
 use Rattle.seat_table.proofs.Polls.{goes_on}
-use Rattle.deer_wait.specs.Rows.{IsLastClass}
+use Rattle.key_interval.specs.LastClass.{IsLastClass}
 
 pub not_domain : Deer ≡ Domain → ⊥
 not_domain e = cc

@@ -2,16 +2,15 @@
 ghost use Rattle.std.specs.Prelude.{◌≡◌, ◌+◌, ◌<◌, true, IfNone, IfSome};
 ghost use Rattle.core_state.specs.declared.words.Field.TheVariants.{Row};
 ghost use Rattle.key_interval.specs.Keys.{MeetsClass};
+ghost use Rattle.key_interval.specs.LastClass.{IsLastClass};
 ghost use Rattle.seat_table.specs.Seats.{shape_of};
 ghost use Rattle.seat_table.specs.Waits.{IsLatestOf};
 ghost use Rattle.seat_table.specs.Looks.{HasPassed, HasMet};
-ghost use Rattle.deer_wait.specs.Rows.{IsLastClass};
 
 use key_interval::{Keys, class_of};
 use prcu_marks::Why;
 use seat_table::steps::{k3, k7, k33, k34, k35};
 use seat_table::{CitrusTable, Grace, Poll, Seat, WaitPart, WaitWords};
-use std::marker::PhantomData;
 
 /// The waiter that looks at the stamps of each reader by class. A reader stores the clock that it loaded as its stamp of its key's
 /// class. A wait goes over all places, and at each over the classes of its keys.
@@ -21,18 +20,6 @@ impl WaitWords for Deer {
     ghost WAY = { 2 };
 
     const WAY: u32 = 2;
-}
-
-// The greatest class of the keys.
-fn last_class(keys: &Keys) -> u32
-    ensures class { result < 64 }
-    ensures last { IsLastClass keys.now result }
-{
-    if keys.low() / 64 < keys.high() / 64 {
-        63
-    } else {
-        class_of(keys.high())
-    }
 }
 
 // Looks at the place that the grace has come to, in the class that it has come to, the last one or another, and answers what
@@ -80,20 +67,12 @@ impl WaitPart for Deer {
 
     fn begin(table: &CitrusTable<Deer>, seat: &mut Seat<Deer>, keys: Keys) -> Grace<Deer> {
         let clock = k7(table, seat, keys);
-        Grace {
-            keys,
-            clock,
-            place: 0,
-            class: 0,
-            gate: 0,
-            turned: false,
-            waiter: PhantomData,
-        }
+        Grace::new(keys, clock)
     }
 
     fn poll(table: &CitrusTable<Deer>, seat: &mut Seat<Deer>, grace: &mut Grace<Deer>) -> Poll {
         let last = table.places() - 1;
-        let class = last_class(&grace.keys);
+        let class = grace.keys.last_class();
         for row in 64 * grace.place + grace.class..64 * last + class {
             grace.place = row / 64;
             grace.class = row % 64;

@@ -4,6 +4,3 @@
 mod deer;
 
 pub use deer::Deer;
-
-#[cfg(test)]
-mod tests;

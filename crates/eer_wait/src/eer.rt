@@ -9,7 +9,6 @@ use key_interval::Keys;
 use prcu_marks::Why;
 use seat_table::steps::{k3, k4, k5, k6, k7, k8};
 use seat_table::{CitrusTable, Grace, Poll, Seat, WaitPart, WaitWords};
-use std::marker::PhantomData;
 
 /// The waiter that looks at the key and the stamp of each reader. A reader announces its key and then stores the clock that it
 /// loaded as its stamp. A wait goes over all places.
@@ -61,15 +60,7 @@ impl WaitPart for Eer {
 
     fn begin(table: &CitrusTable<Eer>, seat: &mut Seat<Eer>, keys: Keys) -> Grace<Eer> {
         let clock = k7(table, seat, keys);
-        Grace {
-            keys,
-            clock,
-            place: 0,
-            class: 0,
-            gate: 0,
-            turned: false,
-            waiter: PhantomData,
-        }
+        Grace::new(keys, clock)
     }
 
     fn poll(table: &CitrusTable<Eer>, seat: &mut Seat<Eer>, grace: &mut Grace<Eer>) -> Poll {

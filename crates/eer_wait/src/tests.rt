@@ -1,4 +1,4 @@
-//! What a wait finds beside a reader and after it, by one thread and by two.
+//! What no clause says: a reader that came later isn't waited for, and one in a thread of its own is.
 ghost use Rattle.std.specs.Prelude.{◌≡◌, ◌≤◌};
 ghost use Rattle.seat_table.specs.Seats.{IsQuietSeat};
 
@@ -19,43 +19,6 @@ fn reader(key: u64) -> Poll {
             stamp: 0,
         },
     }
-}
-
-// What a wait for the keys finds beside a reader with this key, and once it has left.
-fn found_beside(
-    alloc: Global,
-    key: u64,
-    low: u64,
-    high: u64,
-) -> Result<(Poll, Option<Poll>), Fail> {
-    let keys = Keys::new(low, high).ok_or("low is at most high")?;
-    let (table, seat) = CitrusTable::<Eer>::new(alloc, 1, 2, 4)?;
-    let (mut b, mut a) = seat.split(&table, 1, 2);
-    Eer::enter(&table, &mut a, key);
-    let mut grace = Eer::begin(&table, &mut b, keys);
-    let first = Eer::poll(&table, &mut b, &mut grace);
-    Eer::leave(&table, &mut a);
-    let second = match first {
-        Poll::Over => None,
-        Poll::NotYet { .. } => Some(Eer::poll(&table, &mut b, &mut grace)),
-    };
-    Ok((first, second))
-}
-
-#[test]
-fn a_wait_is_over_once_its_reader_has_left(rt: HostRuntime) -> Result<(), Fail> {
-    assert_eq!(rt;
-        found_beside(rt.alloc(), 7, 6, 8)?,
-        (reader(7), Some(Poll::Over))
-    );
-    Ok(())
-}
-
-#[test]
-fn a_reader_with_another_key_is_not_waited_for(rt: HostRuntime) -> Result<(), Fail> {
-    assert_eq!(rt; found_beside(rt.alloc(), 7, 8, 9)?, (Poll::Over, None));
-    assert_eq!(rt; found_beside(rt.alloc(), 70, 6, 6)?, (Poll::Over, None));
-    Ok(())
 }
 
 #[test]
@@ -103,7 +66,7 @@ fn waits<R: Wait>(
     (first, second)
 }
 
-// The same as `found_beside` with a thread for the reader and one for the wait.
+// What a wait for the keys finds beside a reader with this key, and once it has left: a thread for the reader and one for the wait.
 fn found_by_threads<R: Threads + Wait + Sync>(
     rt: &R,
     alloc: Global,

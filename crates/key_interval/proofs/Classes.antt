@@ -1,7 +1,8 @@
--- How far the first key of a class lies above a key.
-use Rattle.std.proofs.Common.{◌≡◌, ℕ, ◌+◌, ◌-◌, ◌%◌, ◌<◌, ◌≤◌, ◌↔◌, IsTrue, leb, arith}
+-- How far the first key of a class lies above a key; and the greatest class of an interval.
+use Rattle.std.proofs.Common.{◌≡◌, ℕ, ◌+◌, ◌-◌, ◌*◌, ◌/◌, ◌%◌, ◌<◌, ◌≤◌, ◌↔◌, IsTrue, leb, refl, arith}
 use Rattle.std.proofs.lemmas.Bool.{leb-true, le-leb}
 use Rattle.key_interval.specs.Keys.{Interval, MeetsClass}
+use Rattle.key_interval.specs.LastClass.{IsLastClass}
 
 abbrev pub steps_to : ℕ → ℕ → ℕ
 steps_to low class = (class + 64 - low % 64) % 64
@@ -23,3 +24,17 @@ MeetsClass-by_steps keys class fits ordered = (
       let inside = met.1.1 in
       le-leb (steps_to keys.low class) (keys.high - keys.low) (omega arith),
 )
+
+-- Where the keys go on into another run of 64, the last class is among them.
+pub last_across : (keys : Interval) → keys.low / 64 < keys.high / 64 → IsLastClass keys 63
+last_across keys across = record {
+  met = (64 * (keys.low / 64) + 63, (omega arith, omega (arith, across)), omega arith);
+  greatest = λ other more small met. omega (arith, more, small);
+}
+
+-- Else it is the class of the greatest key.
+pub last_within : (keys : Interval) → keys.low ≤ keys.high → keys.high / 64 ≤ keys.low / 64 → IsLastClass keys (keys.high % 64)
+last_within keys ordered within = record {
+  met = (keys.high, (ordered, omega arith), refl);
+  greatest = λ other more small met. let low = met.1.0 in let high = met.1.1 in let is = met.2 in omega (arith, more, low, high, is, within);
+}

@@ -1,6 +1,7 @@
 //! The keys that a wait, a list or a section speaks of.
 ghost use Rattle.std.specs.Prelude.{◌≡◌, ◌+◌, ◌<◌, ◌≤◌, ◌↔◌, IsTrue, IsNone, IfSome};
 ghost use Rattle.key_interval.specs.Keys.{Interval, Holds, Covers, MeetsClass, class_of};
+ghost use Rattle.key_interval.specs.LastClass.{IsLastClass};
 
 use std::marker::Model;
 
@@ -97,6 +98,18 @@ impl Keys {
         // How far the first key of this class lies above the least key.
         let steps = (u64::from(c) + CLASSES - self.low % CLASSES) % CLASSES;
         steps <= self.high - self.low
+    }
+
+    /// The greatest class that some key has.
+    pub fn last_class(&self) -> u32
+        ensures class { result < 64 }
+        ensures last { IsLastClass self.now result }
+    {
+        if self.low / CLASSES < self.high / CLASSES {
+            63
+        } else {
+            class_of(self.high)
+        }
     }
 }
 

@@ -26,9 +26,10 @@ use Rattle.seat_table.specs.Cases.{Access, loads, stores, exchanges, adds, subtr
 use Rattle.seat_table.specs.Told.{tells}
 use Rattle.seat_table.specs.Gains.{WordFits}
 use Rattle.core_frames.proofs.views.Fields.{same_self}
+use Rattle.core_frames.proofs.Telling.{told_of}
 use Rattle.seat_table.proofs.Memories.{memory-word, memory-stored}
 use Rattle.seat_table.proofs.Doing.{Does, does, slot_of}
-use Rattle.seat_table.proofs.Facts.{sees, informed, Fits, fits, word_fits, said_fits, is_apart, stood_inside, has_side}
+use Rattle.seat_table.proofs.Facts.{sees, informed, Fits, fits, word_fits, said_fits, is_apart, stood_inside, has_side, stays_in, still_works, tells_apart}
 use Rattle.seat_table.proofs.Gained.{gains}
 
 either_is : (b : Bool) (x y : ℕ) → either b x y ≡ cond b x y
@@ -70,8 +71,10 @@ module _ (k : Shape) (slots id : ℕ) (me : Me Nothing View) (c : Case) (word : 
       let m' : Memory = stored m field left in
       let vs' : List View = set s.views id d.view in
       let h' : List Mark = h ++ d.marks in
+      let still : Works d.view = still_works k.places s.views id me.0 d.view at r.holds.now.seats.placed kept.now.seats.placed (kept.now.seats.spent id d.view there) works in
       let telling : tells k c me (said_by access (m field)) (d.view, me.1) = (
         refl,
+        record { marks = h'; word = m'; tells = told_of k m' vs' h' id d.view kept.now there still; apart = tells_apart k m' vs' h' kept.now id d.view there },
         (
           h,
           sees k m s.views h r.holds.now id me.0 at works,
@@ -82,6 +85,8 @@ module _ (k : Shape) (slots id : ℕ) (me : Me Nothing View) (c : Case) (word : 
           gains k m s.views h r.holds.now id me.0 at c d.view works needs d.after,
           stood_inside k m' vs' h' kept.now id d.view there,
           has_side k m' vs' h' kept.now id d.view there,
+          record { word = m; found_is = refl; tells = told_of k m s.views h id me.0 r.holds.now at works },
+          stays_in k m' vs' h' kept.now id d.view there kept.within,
         ),
       ) in (
         d.view,

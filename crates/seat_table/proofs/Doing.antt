@@ -164,5 +164,5 @@ does k v (K33 key stamp) needs apart h n = record { view = after_enter_by_stamp 
 does k v (K34 class) needs apart h n = record { view = leaving (noted v (K34 class) 18446744073709551615) needs.1.0 h; marks = (Left v.allowance.place needs.1.0.count ∷ []); step = step34 {section = needs.1.0} needs.0 (search rules); after = (needs.1.0, needs.1.1.section_is, refl) }
 does k v (K35 place class last) needs apart h n = record { view = after_look (noted v (K35 place class last) n) needs.3.0 (Row place class) last n h; marks = (look_marks (noted v (K35 place class last) n) needs.3.0 (Row place class) last n); step = step35 needs.0 (looks k v _ needs.3.0 (Row place class) last n refl needs.3.1); after = (needs.3.0, needs.3.1.wait_is, refl) }
 does k v (K36 slot value) needs apart h n = record { view = after_replace (noted v (K36 slot value) value) needs.1.0 slot needs.1.1.key value h; marks = (done_by v (Set needs.1.1.key value) ∷ []); step = step36 {generation = needs.1.2} {commit = needs.1.0} needs.1.1 (search rules); after = (needs.1.0, needs.1.1, needs.1.3.has_commit.commit_is, record { kept = needs.1.3.kept; found = needs.1.3.found; now = inl (needs.1.2, needs.1.3.generation_is, needs.1.3.life_now) }, refl) }
-does k v K37 needs apart h n = record { view = after_front_look (noted v K37 n) needs.0 n; marks = []; step = step37 {section = needs.0} (search rules); after = (needs.0, needs.1.section_is, refl) }
+does k v K37 needs apart h n = record { view = after_front_look (noted v K37 n) needs.0 n h; marks = []; step = step37 {section = needs.0} (search rules); after = (needs.0, needs.1.section_is, refl) }
 does k v (ListLoad slot field) needs apart h n = record { view = after_list_load (noted v (ListLoad slot field) n) needs.1.0 needs.1.1 slot (slot_field slot field) n; marks = []; step = step17_list {slot = slot} {section = needs.1.0} {listing = needs.1.1} (search rules); after = (needs.1.0, needs.1.1, needs.1.2.section_is, needs.1.2.lists, refl) }

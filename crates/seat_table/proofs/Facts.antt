@@ -1,5 +1,5 @@
 -- What the rule tells of a seat and of the words.
-use Rattle.std.proofs.Common.{◌≡◌, ℕ, ◌+◌, ◌*◌, ◌/◌, ◌<◌, ◌≤◌, ◌==◌, zero, suc, nat_lt, ◌&&◌, Bool, true, false, cond, List, [], ◌∷◌, ◌++◌, length, map, take, Option, Some, None, refl, sym, ap, subst, ◌∙◌, ⊎_elim, arith, eq-eqb}
+use Rattle.std.proofs.Common.{◌≡◌, ℕ, ◌+◌, ◌*◌, ◌/◌, ◌<◌, ◌≤◌, ◌==◌, zero, suc, nat_lt, ◌&&◌, Bool, true, false, cond, List, [], ◌∷◌, ◌++◌, length, map, take, set, Option, Some, None, refl, length-append, sym, ap, subst, ◌∙◌, ⊎_elim, arith, eq-eqb}
 use Rattle.std.proofs.lemmas.Bool.{lt-ltb, ltb-true}
 use Rattle.std.specs.FinMap as finite
 use mathlib.Core.Logic.{dite}
@@ -7,15 +7,18 @@ use native.Mathlib.Decide.{ℕ_discrete}
 use mathlib.Core.Option.{some}
 use lib.ListN.{get_elem?}
 use Rattle.atomic_table.proofs.Lists.{at_longer}
-use Rattle.list_laws.specs.Counts.{times}
-use Rattle.list_laws.proofs.Lists.{at_below, in_first, times_in, total_part}
+use Rattle.list_laws.specs.Counts.{times, total}
+use Rattle.list_laws.proofs.Lists.{at_below, in_first, times_in, total_part, total_set}
 use Rattle.prcu_marks.specs.declared.mark.Mark.{Mark}
 use Rattle.prcu_marks.specs.declared.mark.Mark.TheVariants.{Entered, Left as LeftMark, Began, Ended, Done, Given, Unlinked, Freed}
 use Rattle.prcu_marks.specs.declared.mark.Side.{Side}
 use Rattle.prcu_marks.specs.declared.mark.Side.TheVariants.{Left, Right}
-use Rattle.prcu_marks.specs.Marks.{updates_of, open_at, last_unlinked}
+use Rattle.prcu_marks.specs.Marks.{updates_of, open_at, last_unlinked, own_of}
 use Rattle.prcu_model.specs.History.{IsLegal}
-use Rattle.prcu_marks.proofs.MarkLists.{updates_of-append}
+use Rattle.prcu_model.specs.declared.operation.Update.{Update}
+use Rattle.prcu_model.specs.Dictionary.{map_of}
+use Rattle.prcu_model.specs.Slots.{StaysWithin}
+use Rattle.prcu_marks.proofs.MarkLists.{updates_of-append, own_of-append}
 use Rattle.prcu_model.proofs.Fronts.{AreUpdatesFrom-front}
 use Rattle.core_state.specs.declared.shape.Shape.{Shape}
 use Rattle.core_state.specs.declared.shape.Waiter.TheVariants.{Eer, Domain, Deer}
@@ -30,12 +33,14 @@ use Rattle.core_state.specs.views.Known.{lock_of}
 use Rattle.core_state.specs.Marks.{begun, begun_at, Grace, Reuse}
 use Rattle.core_state.specs.views.Views.{Works, places_of, held_list, joined_retired, retired_of, slots_of}
 use Rattle.core_state.specs.steps.Slots.{IsInHand, IsSpare}
+use Rattle.core_state.specs.parts.SeatParts.{ArePlaced}
+use Rattle.core_state.specs.steps.Seating.{spent_view}
 use Rattle.core_state.specs.parts.CountParts.{turns_to_come}
 use Rattle.core_state.specs.parts.WaiterParts.{inside_count}
 use Rattle.core_state.specs.parts.FrontParts.{IsOddBy}
 use Rattle.core_state.specs.Invariant.{HoldsNow}
 use Rattle.core_frames.proofs.views.SeatFacts.{works_there, place_within}
-use Rattle.core_frames.proofs.views.Roles.{slots_count, spares_count, held_there, own_below}
+use Rattle.core_frames.proofs.views.Roles.{slots_count, spares_count, held_there, own_below, own_once, retired_count}
 use Rattle.std.proofs.lemmas.List.{take-append-le}
 use Rattle.core_frames.proofs.chart.Plain.{gone_within}
 use Rattle.core_frames.proofs.Counting.{total_le, places_length, all_places}
@@ -44,7 +49,7 @@ use Rattle.seat_table.specs.declared.case.Case.{Case}
 use Rattle.seat_table.specs.declared.case.Case.TheVariants.{K3, K4, K5, K6, K7, K8, K9, K10, K11, K12, K13, K14, K15, K16, K17, K18, K19, K20, K21, K22, K23, K24, K25, K26, K27, K28, K29, K30, K31, K32, K33, K34, K35, K36, K37, ListLoad}
 use Rattle.seat_table.specs.Seats.{TableAt, way_of, shape_of, HasPlace}
 use Rattle.seat_table.specs.Cases.{Access, loads, stores, exchanges, adds, subtracts, flips, left_by, said_by, slot_field, what, Needs}
-use Rattle.seat_table.specs.Gains.{Sees, IsInformed, WordFits, IsApart, IsSlot, StoodInside, HasSide}
+use Rattle.seat_table.specs.Gains.{Sees, IsInformed, WordFits, IsApart, IsSlot, StoodInside, HasSide, StaysIn, TellsApart}
 use Rattle.seat_table.proofs.Memories.{both_true, word_inside}
 
 -- a list's beginning has the same elements
@@ -65,6 +70,15 @@ reuse_front a rest reuse j s i p m o there reused last opened =
     let below = at_below a j m there in
     let same : take j (a ++ rest) ≡ take j a = take-append-le j a rest (omega arith) in
     reuse j s i p m o (at_longer a rest j m there) reused (ap (last_unlinked s) same ∙ last) (ap (open_at p) same ∙ opened)
+
+begins_none : {A : Type 0} (xs ys : List A) → xs ++ ys ≡ [] → xs ≡ []
+begins_none [] ys e = refl
+begins_none (x ∷ xs) ys e = absurd (cc)
+
+within_front : (us more : List Update) (slots : ℕ) → StaysWithin (us ++ more) slots → StaysWithin us slots
+within_front us more slots all front below =
+    let long = length-append us more in
+    subst (λ us'. finite.len (map_of us') ≤ slots) (take-append-le front us more below) (all front (omega arith))
 
 -- a place begins no more waits than there are
 begun_part : (p : ℕ) (h : List Mark) → begun_at p h ≤ begun h
@@ -130,6 +144,18 @@ slot_word k s (suc (suc (suc (suc (suc zero))))) small = refl
 slot_word k s (suc (suc (suc (suc (suc (suc zero)))))) small = refl
 slot_word k s (suc (suc (suc (suc (suc (suc (suc zero))))))) small = refl
 slot_word k s (suc (suc (suc (suc (suc (suc (suc (suc n)))))))) small = omega arith
+
+-- a view that worked at a place still does: nobody else answers for its places
+pub still_works : (places : ℕ) (vs : List View) (id : ℕ) (v w : View) → get_elem? vs id ≡ some v → ArePlaced places vs → ArePlaced places (set vs id w) → (w.allowance.places ≡ 0 → w ≡ spent_view) → Works v → Works w
+still_works places vs id v w at before after spent works = dite (ℕ_discrete w.allowance.places 0)
+    (λ none.
+    let p : ℕ = v.allowance.place in
+    let had = works_there v works in
+    let moved = total_set (λ (u : View). times p (places_of u)) vs id v w at in
+    let same : total (λ (u : View). times p (places_of u)) (set vs id w) ≡ total (λ (u : View). times p (places_of u)) vs = after p ∙ sym (before p) in
+    let gone : times p (places_of w) ≡ 0 = ap (λ (u : View). times p (places_of u)) (spent none) in
+    absurd (omega arith))
+    (λ some_place. omega arith)
 
 module _ (k : Shape) (m : Memory) (vs : List View) (h : List Mark) (i : HoldsNow k m vs h) (id : ℕ) (v : View) (at : get_elem? vs id ≡ some v) where
   pub sees : Works v → Sees v h
@@ -264,6 +290,15 @@ module _ (k : Shape) (m : Memory) (vs : List View) (h : List Mark) (i : HoldsNow
         own;
   }
 
+  -- each retired slot is there once
+  pub tells_apart : TellsApart v
+  tells_apart s =
+      let once = own_once m (slot_count k) i.chart vs h i.slots id v at s in
+      let all = slots_count v s in
+      let spares = spares_count v s in
+      let back = retired_count v s in
+      omega arith
+
   -- the slots at which an open section stood are the table's
   pub stood_inside : StoodInside k v
   stood_inside = record {
@@ -275,6 +310,16 @@ module _ (k : Shape) (m : Memory) (vs : List View) (h : List Mark) (i : HoldsNow
     where
       slot : {s : ℕ} → s < slot_count k → IsSlot k s
       slot {s} below = let few = i.table.few_slots in let places = i.table.few_places in record { inside = below; fits = omega arith }
+
+  -- no front of what it has seen has more pairs than slots
+  pub stays_in : StaysWithin (updates_of h) k.slots → StaysIn k v
+  stays_in all =
+      let more = i.marks.seen.begins id v at in
+      let whole : updates_of h ≡ updates_of v.seen ++ updates_of more.0 = ap updates_of (sym more.1) ∙ updates_of-append v.seen more.0 in
+      record {
+        within = within_front (updates_of v.seen) (updates_of more.0) k.slots (subst (λ us. StaysWithin us k.slots) whole all);
+        others = λ p past. begins_none (own_of p v.seen) (own_of p more.0) (sym (own_of-append p v.seen more.0) ∙ ap (own_of p) more.1 ∙ i.seats.within p past);
+      }
 
   pub has_side : HasSide k v
   has_side = record { small = λ section inside domain. (i.waiters.domain domain).sides id v at section inside }

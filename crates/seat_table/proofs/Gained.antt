@@ -5,38 +5,45 @@ use mathlib.Core.Logic.{dite}
 use native.Mathlib.Decide.{ℕ_discrete}
 use mathlib.Core.Option.{some}
 use lib.ListN.{get_elem?}
-use Rattle.list_laws.specs.Counts.{times}
+use Rattle.list_laws.specs.Counts.{times, IsIn}
 use Rattle.list_laws.proofs.Lists.{at_one, in_first, total_part}
 use Rattle.prcu_marks.specs.declared.mark.Mark.{Mark}
 use Rattle.prcu_marks.specs.declared.mark.Mark.TheVariants.{Left as LeftMark, Began}
 use Rattle.prcu_marks.specs.Marks.{updates_of, gone_at}
+use Rattle.prcu_marks.specs.Callers.{IsNextKey}
+use Rattle.core_moves.proofs.copy.NextKey.{copy_next}
 use Rattle.prcu_model.specs.Dictionary.{map_of, WasSaid}
 use Rattle.prcu_marks.proofs.MarkLists.{updates_of-append}
 use Rattle.core_state.specs.declared.shape.Shape.{Shape}
-use Rattle.core_state.specs.declared.words.Field.TheVariants.{Front, Free, Lock, Key, State as StateWord}
+use Rattle.core_state.specs.declared.words.Field.TheVariants.{Front, Free, Lock, Key, Value, State as StateWord}
 use Rattle.core_state.specs.declared.view.Held.{Held}
 use Rattle.core_state.specs.declared.view.Retired.{Retired}
 use Rattle.core_state.specs.declared.view.Section.{Section}
+use Rattle.core_state.specs.declared.view.Reading.{Reading}
+use Rattle.core_state.specs.declared.view.SearchState.TheVariants.{Found}
+use Rattle.core_state.specs.parts.ReaderParts.{StandsWell}
+use Rattle.prcu_marks.specs.declared.mark.Side.{Side}
 use Rattle.prcu_marks.specs.declared.commit.Commit.{Commit}
 use Rattle.core_state.specs.declared.view.View.{View}
 use Rattle.core_state.specs.memory.Memory.{Memory, slot_count}
 use Rattle.core_state.specs.memory.Lists.{flag, IsEven}
 use Rattle.core_state.specs.views.Known.{known_in, lock_of}
-use Rattle.core_state.specs.views.Views.{Works, places_of, joined_retired, slots_of}
+use Rattle.core_state.specs.views.Views.{Works, places_of, joined_retired, slots_of, open_reading}
 use Rattle.core_state.specs.steps.Slots.{with_free, reserving, after_reserve}
 use Rattle.core_state.specs.parts.FrontParts.{IsOddBy}
 use Rattle.core_state.specs.Invariant.{HoldsNow}
 use Rattle.core_frames.specs.Laws.{answer_of}
 use Rattle.core_frames.proofs.chart.Plain.{searches_are_answered, gone_within}
 use Rattle.prcu_marks.proofs.MarkPlaces.{gone_at-below}
+use Rattle.core_frames.proofs.chart.Here.{follow_here}
 use Rattle.core_frames.proofs.views.SeatFacts.{works_there, places_apart}
 use Rattle.core_frames.proofs.Counting.{empty_is_full}
 use Rattle.seat_table.specs.declared.case.Case.{Case}
-use Rattle.seat_table.specs.declared.case.Case.TheVariants.{K6, K7, K9, K10, K11, K12, K13, K15, K20, K21, K25, K30, K34, K36, K37}
+use Rattle.seat_table.specs.declared.case.Case.TheVariants.{K3, K6, K7, K9, K10, K11, K12, K13, K15, K20, K21, K25, K30, K34, K36, K37}
 use Rattle.seat_table.specs.Cases.{said_by, what, noted, Needs, IsRecordOf, After}
-use Rattle.seat_table.specs.Gains.{GivesAnswer, LeavesAnswer, AreGone, FindsFull, WasNoOwn, IsOthers, IsCounted, IsNextKey, LooksAgain, Gains}
+use Rattle.seat_table.specs.Gains.{GivesAnswer, LeavesAnswer, AreGone, FindsFull, WasNoOwn, IsOthers, IsCounted, LooksAgain, Gains}
 use Rattle.seat_table.proofs.Facts.{is_apart}
-use Rattle.seat_table.proofs.Records.{one_key, value_now, copy_next}
+use Rattle.seat_table.proofs.Records.{one_key, value_now}
 
 module _ (k : Shape) (m : Memory) (vs : List View) (h : List Mark) (i : HoldsNow k m vs h) (id : ℕ) (v : View) (at : get_elem? vs id ≡ some v) where
   -- what the open section found, the dictionary said
@@ -45,10 +52,24 @@ module _ (k : Shape) (m : Memory) (vs : List View) (h : List Mark) (i : HoldsNow
       record {
         absent = λ slot b no_list state. subst (λ z. WasSaid (updates_of h) section.key section.from (answer_of m (slot_count k) section.key z)) state (said no_list);
         present = λ slot parent value b no_list state. subst (λ z. WasSaid (updates_of h) section.key section.from (answer_of m (slot_count k) section.key z)) state (said no_list);
+        there = held;
       }
     where
       said : section.listing ≡ None → WasSaid (updates_of h) section.key section.from (answer_of m (slot_count k) section.key section.reading.state)
       said no_list = searches_are_answered k m vs h i section (record { id = id; view = v; there = at; inside = inside; no_list = no_list })
+
+      held : (slot parent : ℕ) (b : Side) → section.listing ≡ None → section.reading.state ≡ Found slot parent b None → IsIn section.reading.stood slot → section.reading.key ≡ section.key → (value : ℕ) × WasSaid (updates_of h) section.key section.from (Some value)
+      held slot parent b no_list state here sought =
+          let r : Reading = section.reading in
+          let kept = in_first (open_reading v.section) v.records r (subst (λ x. IsIn (open_reading x) r) (sym inside) (0, refl)) in
+          let reading = i.readers.readings id v at kept.0 r kept.1 in
+          let well = subst (StandsWell r) state reading.well in
+          let stood = (i.readers.served id v at section inside).stood slot here in
+          let key : m (Key slot) ≡ section.key = stood.key r.key well.1 ∙ sought in (
+            m (Value slot),
+            subst (WasSaid (updates_of h) section.key section.from) (follow_here m (slot_count k) slot section.key (well.0).some_slot key)
+                (subst (λ z. WasSaid (updates_of h) section.key section.from (answer_of m (slot_count k) section.key z)) state (said no_list)),
+          )
 
   -- what its turn found counts the updates, until its update is made
   commit_counts : (commit : Commit) → v.commit ≡ Some commit → commit.stored ≡ false → commit.found ≡ 2 * length (updates_of h)
@@ -72,6 +93,7 @@ module _ (k : Shape) (m : Memory) (vs : List View) (h : List Mark) (i : HoldsNow
       record {
         absent = λ slot b no_list state. subst (λ us. WasSaid us section.key section.from None) (sym same) (gives.absent slot b no_list state);
         present = λ slot parent value b no_list state. subst (λ us. WasSaid us section.key section.from (Some value)) (sym same) (gives.present slot parent value b no_list state);
+        there = λ slot parent b no_list state here sought. (let given = gives.there slot parent b no_list state here sought in (given.0, subst (λ us. WasSaid us section.key section.from (Some given.0)) (sym same) given.1));
       }
 
   -- after an update there is one more
@@ -162,6 +184,7 @@ module _ (k : Shape) (m : Memory) (vs : List View) (h : List Mark) (i : HoldsNow
 
   -- by the kind of step, what is gained
   pub gains : (c : Case) (w : View) → Works v → Needs k v c → After v (noted v c (said_by (what v c).access (m (what v c).field))) c h (said_by (what v c).access (m (what v c).field)) w → Gains k v c h (said_by (what v c).access (m (what v c).field)) w
+  gains K3 w works needs after = record { each = (i.seats.owned id v at).joined }
   gains K6 w works needs after = left_gives w after.0 after.1 (ap (λ (z : View). z.seen) after.2)
   gains (K7 low high) w works needs after = are_gone w low high (ap (λ (z : View). z.seen) after)
   gains (K9 slot keep) w works needs after = is_apart k m vs h i id v at slot
@@ -182,7 +205,7 @@ module _ (k : Shape) (m : Memory) (vs : List View) (h : List Mark) (i : HoldsNow
         let same : needs.1.2 ≡ held = cc in
         let two : Some needs.1.5 ≡ Some next = sym n.key_is ∙ ap (λ (z : Held). known_in z.known (Key copy)) same ∙ key in
         let last : needs.1.5 ≡ next = cc in
-        subst (λ (z : ℕ × ℕ). IsNextKey h z.0 z.1) (λ i. (keys i, last i)) (copy_next k m vs h i id v at needs.1.0 needs.1.1 needs.1.2 parent b node copy old old_parent needs.1.3 needs.1.4 needs.1.5 needs.1.6 works n);
+        subst (λ (z : ℕ × ℕ). IsNextKey (map_of (updates_of h)) z.0 z.1) (λ i. (keys i, last i)) (copy_next k m vs h id v i at works needs.1.0 needs.1.1 needs.1.2 parent b node copy old old_parent needs.1.3 needs.1.4 needs.1.5 needs.1.6 n);
   }
   gains (K36 slot value) w works needs after = record {
     counted = counted w needs.1.0 _ (ap (λ (z : View). z.seen) after.4) refl needs.1.3.has_commit.commit_is needs.1.3.has_commit.unmade;

@@ -1,14 +1,11 @@
 -- What the rule tells of the records that a place keeps of a node: their key is the node's, and its value is what the lock's holder knows.
-use Rattle.std.proofs.Common.{◌≢◌, ◌≡◌, ℕ, ◌+◌, ◌*◌, ◌/◌, ◌<◌, inl, inr, ⊎_elim, true, List, Option, Some, None, refl, sym, ap, subst, ◌∙◌, arith}
+use Rattle.std.proofs.Common.{◌≡◌, ℕ, ◌+◌, ◌*◌, ◌/◌, inl, inr, ⊎_elim, true, List, Option, Some, None, refl, sym, ap, subst, ◌∙◌, arith}
 use mathlib.Core.Option.{some}
 use lib.ListN.{get_elem?}
 use Rattle.prcu_marks.specs.declared.mark.Mark.{Mark}
-use Rattle.prcu_marks.specs.declared.mark.Side.{Side}
 use Rattle.core_state.specs.declared.shape.Shape.{Shape}
 use Rattle.core_state.specs.declared.words.Field.{Field}
 use Rattle.core_state.specs.declared.words.Field.TheVariants.{Life, Key, Value}
-use Rattle.prcu_marks.specs.declared.commit.Commit.{Commit}
-use Rattle.core_state.specs.declared.view.Held.{Held}
 use Rattle.core_state.specs.declared.view.HeldLock.{HeldLock}
 use Rattle.core_state.specs.declared.view.Reading.{Reading}
 use Rattle.core_state.specs.declared.view.SearchState.TheVariants.{Found}
@@ -17,19 +14,15 @@ use Rattle.list_laws.specs.Counts.{IsIn}
 use Rattle.list_laws.proofs.Lists.{in_second}
 use Rattle.core_state.specs.memory.Memory.{Memory}
 use Rattle.core_state.specs.views.Known.{known_in, known_of, known_under, lock_of, LoadedGeneration}
-use Rattle.core_state.specs.views.Views.{Works, open_reading, readings_of}
+use Rattle.core_state.specs.views.Views.{open_reading, readings_of}
 use Rattle.core_state.specs.steps.Links.{IsMarkedNode}
-use Rattle.core_state.specs.steps.Moves.{NeedsCopyLink}
 use Rattle.core_state.specs.parts.LockParts.{HasGeneration}
 use Rattle.core_state.specs.parts.ReaderParts.{StandsWell}
 use Rattle.core_state.specs.parts.TreeParts.{map_now}
 use Rattle.core_state.specs.Invariant.{HoldsNow}
 use Rattle.seat_table.specs.Cases.{HasRecordedLife, IsRecordOf}
-use Rattle.seat_table.specs.Gains.{HasOneKey, IsNextKey}
+use Rattle.seat_table.specs.Gains.{HasOneKey}
 use Rattle.core_tree.proofs.locks.Locked.{young_locked}
-use Rattle.core_moves.proofs.copy.CopyNeeds.{CopyStep, deletion, copy_link, old_key, old_low}
-use Rattle.core_tree.proofs.updates.Deletion.{node_key}
-use Rattle.core_moves.proofs.copy.CopyShape.{none_between, next_keyed}
 
 lock_there : (o : Option HeldLock) (field : Field) (n : ℕ) → known_in (known_of o) field ≡ Some n → (lock : HeldLock) × (o ≡ Some lock) × (known_in lock.known field ≡ Some n)
 lock_there None field n e = absurd (cc)
@@ -89,49 +82,3 @@ module _ (k : Shape) (m : Memory) (vs : List View) (h : List Mark) (i : HoldsNow
       let held : known_in n.lock.known (Value node) ≡ Some value = subst (λ o. known_in (known_of o) (Value node) ≡ Some value) n.locked known in
       let word : m (Value node) ≡ value = (i.locks.known id v at node n.lock n.locked).fields r n.generation value (Value node) (among node r is) n.recorded n.now held in
       ap (map_now h) (sym (key_now node r is)) ∙ e ∙ ap (λ z. Some z) word
-
-  -- the copy of a move has the next key
-  pub copy_next : (commit : Commit) (r : Reading) (held : Held) (parent : ℕ) (b : Side) (node copy old old_parent left right next value : ℕ) → Works v → NeedsCopyLink v commit r held parent b node copy old old_parent left right next value → IsNextKey h r.key next
-  copy_next commit r held parent b node copy old old_parent left right next value works needs =
-      let z : CopyStep = record {
-        who = record { k = k; m = m; vs = vs; h = h; id = id; v = v; inv = i; there = at; works = works };
-        commit = commit;
-        r = r;
-        held = held;
-        p = parent;
-        b = b;
-        d = node;
-        u = old;
-        q = old_parent;
-        left = left;
-        right = right;
-        next_key = next;
-        value = value;
-        needs = subst (λ c. NeedsCopyLink v commit r held parent b node c old old_parent left right next value) (sym needs.spare_is.1) needs;
-      } in
-      next_of z
-    where
-      next_of : (z : CopyStep) → IsNextKey z.who.h z.r.key z.next_key
-      next_of z =
-          let g = z.who.inv.chart in
-          let c = copy_link z in
-          let low = (next_keyed c).low in
-          let base = old_low z in
-          let key = node_key (deletion z) in
-          let last = old_key z in
-          let some : z.u ≢ 0 = (λ e. let none = ap g.low e in let root = z.who.inv.tree.shape.root_low in absurd (omega arith)) in record {
-            above = omega arith;
-            there = (z.who.m (Value z.u), ap (map_now z.who.h) (sym last) ∙ z.who.inv.tree.map.sound z.u c.next_on some c.next_young);
-            least = λ y above below. none_at z y (map_now z.who.h y) refl above below;
-          }
-        where
-          none_at : (z : CopyStep) (y : ℕ) (o : Option ℕ) → map_now z.who.h y ≡ o → z.r.key < y → y < z.next_key → o ≡ None
-          none_at z y None e above below = refl
-          none_at z y (Some w) e above below =
-              let s = z.who.inv.tree.map.complete y w e in
-              let key = node_key (deletion z) in
-              let last = old_key z in
-              let at : z.who.m (Key s.0) ≡ y = s.4 in
-              let same : s.0 ≡ z.u = none_between (copy_link z) s.0 s.1 s.2 s.3 (omega arith) (omega arith) in
-              let there : z.who.m (Key s.0) ≡ z.who.m (Key z.u) = ap (λ t. z.who.m (Key t)) same in
-              absurd (omega arith)

@@ -1,22 +1,27 @@
 -- Seats may be split and joined.
-use Rattle.std.proofs.Common.{◌≡◌, ℕ, List, [], length, map, refl, sym, ap, subst, ◌∙◌}
+use Rattle.std.proofs.Common.{take, ◌≡◌, ℕ, ◌+◌, ◌-◌, ◌<◌, ◌≤◌, List, [], length, map, Some, refl, sym, ap, subst, ◌∙◌, arith}
 use Rattle.atomic_table.specs.Table.{State, Splits, Joins}
 use Rattle.atomic_table.proofs.Lists.{set_else}
 use Rattle.core_state.specs.declared.shape.Shape.{Shape}
 use Rattle.core_state.specs.declared.view.Hands.{Hands}
+use Rattle.core_state.specs.declared.view.Held.{Held}
 use Rattle.core_state.specs.declared.view.Retired.{Retired}
 use Rattle.core_state.specs.declared.view.View.{View}
 use Rattle.prcu_marks.specs.declared.mark.Mark.{Mark}
 use Rattle.list_laws.specs.Counts.{times}
-use Rattle.core_state.specs.views.Views.{Works, unraised_among, IsQuiet}
-use Rattle.core_state.specs.steps.Seating.{new_view, NeedsSplit, first_of, second_of, NeedsJoin, both_of, spent_view}
+use Rattle.core_state.specs.views.Views.{Works, unraised_among, IsQuiet, places_of}
+use Rattle.core_state.specs.steps.Seating.{new_view, unknown_slot, NeedsSplit, first_of, second_of, NeedsJoin, both_of, spent_view, meeting_of, spent_places}
 use Rattle.core_state.specs.Invariant.{Rule}
 use Rattle.seat_table.specs.declared.rule.Nothing.{Nothing}
 use Rattle.seat_table.specs.declared.case.Case.TheVariants.{K3}
-use Rattle.seat_table.specs.Seats.{SeatAt, IsQuietSeat}
+use Rattle.seat_table.specs.Seats.{SeatAt, IsQuietSeat, KeepsOwn}
+use Rattle.seat_table.specs.Gains.{TellsNow}
 use Rattle.seat_table.specs.Told.{Told}
-use Rattle.core_waits.proofs.seats.Splitting.{split_keeps}
-use Rattle.core_waits.proofs.seats.Joining.{join_keeps}
+use Rattle.core_waits.proofs.seats.Splitting.{split_keeps, places_count}
+use Rattle.core_waits.proofs.seats.Joining.{join_keeps, spent_places_append, spent_places_are}
+use Rattle.prcu_marks.specs.Marks.{own_of, longer}
+use mathlib.Core.List.{IsPrefix}
+use Rattle.std.proofs.Math.Seq.{take-append_seam}
 
 module _ (k : Shape) (id : ℕ) (v : View) where
   abbrev Holds : State Nothing View → Type 0
@@ -34,6 +39,69 @@ module _ (k : Shape) (id : ℕ) (v : View) where
       within = r.holds.within;
     };
   }
+
+-- what is told of the view that gives places away
+pub first_told : (k : Shape) (v w : View) (places tickets : ℕ) → w ≡ first_of places tickets v → TellsNow k v → TellsNow k w
+first_told k v w places tickets is told =
+    let t = told.tells in
+    subst (TellsNow k) (sym is) (record {
+      marks = told.marks;
+      word = told.word;
+      tells = record {
+        some_place = t.some_place;
+        loads = t.loads;
+        older = t.older;
+        alone = t.alone;
+        spare_comes = t.spare_comes;
+        stood = t.stood;
+        once = t.once;
+        busy = t.busy;
+        aside = t.aside;
+        moves = t.moves;
+        place_within = t.place_within;
+        locks_within = t.locks_within;
+        hand_within = t.hand_within;
+        spare_within = t.spare_within;
+        retired_within = t.retired_within;
+        move_within = t.move_within;
+        links_within = t.links_within;
+        old_links_within = t.old_links_within;
+      };
+      apart = told.apart;
+    })
+
+-- and of one that works at a place for the first time, of which it knows the spare alone
+pub second_told : (k : Shape) (v w : View) (places tickets : ℕ) → w ≡ second_of places tickets v → 1 ≤ places → places < v.allowance.places → v.allowance.place + v.allowance.places ≤ k.places → TellsNow k v → TellsNow k w
+second_told k v w places tickets is some few inside told =
+    let t = told.tells in
+    subst (TellsNow k) (sym is) (record {
+      marks = told.marks;
+      word = told.word;
+      tells = record {
+        some_place = t.some_place;
+        loads = λ s field held hand. absurd (cc);
+        older = λ i r e. absurd (cc);
+        alone = λ r rs e. absurd (cc);
+        spare_comes = λ none. absurd (cc);
+        stood = λ section inside. absurd (cc);
+        once = λ s. omega arith;
+        busy = λ s lock. absurd (let e = lock.1 in cc);
+        aside = λ r s generation kept loaded known. absurd (cc);
+        moves = λ move is. absurd (cc);
+        place_within = omega arith;
+        locks_within = λ s lock. absurd (let e = lock.1 in cc);
+        hand_within = λ held hand. absurd (cc);
+        spare_within = λ held spare. (let slot : held.slot ≡ v.allowance.place + v.allowance.places - places + 1 = same_slot spare in omega arith);
+        retired_within = λ i r e. absurd (cc);
+        move_within = λ move is. absurd (cc);
+        links_within = λ r s generation kept loaded life b child known. absurd (cc);
+        old_links_within = λ move is b child known. absurd (cc);
+      };
+      apart = λ s. omega arith;
+    })
+  where
+    same_slot : {held : Held} {s : ℕ} → Some (unknown_slot s) ≡ Some held → held.slot ≡ s
+    same_slot {held} {s} e = let q : unknown_slot s ≡ held = cc in ap (λ (z : Held). z.slot) (sym q)
 
 -- what a quiet view is, for another view with the same fields
 quiet_as : (v w : View) → w.section ≡ v.section → w.locks ≡ v.locks → w.hands ≡ v.hands → w.moving ≡ v.moving → w.commit ≡ v.commit → IsQuiet v → IsQuiet w
@@ -68,3 +136,28 @@ pub joined_quiet : (k : Shape) (s o t : SeatAt) (clock : ℕ) → Told k (both_o
 joined_quiet k s o t clock told listed q =
     let is = told.2 in
     still_quiet s t (ap (λ (z : View). z.section) is) (ap (λ (z : View). z.locks) is) (ap (λ (z : View). z.hands) is) (ap (λ (z : View). z.moving) is) (ap (λ (z : View). z.commit) is) listed q
+
+pub joined_own : (k : Shape) (v other w : View) (clock : ℕ) → Works other → Told k (both_of v other) K3 clock w → KeepsOwn v other w
+joined_own k v other w clock works told =
+    let both : List Mark = longer v.seen other.seen in
+    let cut : take (length both) told.0 ≡ both = subst (λ z. take (length both) z ≡ both) told.1.begins.1 (take-append_seam both told.1.begins.0) in
+    let seen : w.seen ≡ take (length both) told.0 = ap (λ (z : View). z.seen) told.2 ∙ sym cut in
+    let first = told.5.each 0 (meeting_of v both) refl in
+    let second = told.5.each 1 (meeting_of other both) refl in
+    record {
+      places = λ p.
+          let all : places_of w ≡ places_of (both_of v other) = ap places_of told.2 in
+          let count = ap (times p) all in
+          let mine = places_count v p in
+          let both_are = places_count (both_of v other) p in
+          let joined = spent_places_append p v.allowance.joined (spent_places other) in
+          let theirs = spent_places_are other works p in
+          omega arith;
+      first_seen = subst (IsPrefix v.seen) (sym seen) first.begins;
+      second_seen = subst (IsPrefix other.seen) (sym seen) second.begins;
+      first_own = λ p has. ap (own_of p) seen ∙ first.own p has;
+      second_own = λ p has. ap (own_of p) seen ∙ second.own p has;
+    }
+
+pub joined_own_at : (k : Shape) (v other both w : View) (clock : ℕ) → both ≡ both_of v other → Works other → Told k both K3 clock w → KeepsOwn v other w
+joined_own_at k v other both w clock is works told = joined_own k v other w clock works (subst (λ z. Told k z K3 clock w) is told)

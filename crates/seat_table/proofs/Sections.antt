@@ -177,4 +177,4 @@ pub begun : (k : Shape) (v w : View) (low high found : ℕ) → Told k v (K7 low
 begun k v w low high found told =
     let h : List Mark = told.0 in
     let is : w ≡ after_begin (noted v (K7 low high) found) low high found h = told.2 in
-    subst (HasBegun v low high) (sym is) (record { clock = found; leaves = record { before = h; seen = told.1; marked = refl }; wait_is = refl; made = refl; others = refl; informed = subst IsInformed is told.3 })
+    subst (HasBegun v low high) (sym is) (record { clock = found; leaves = record { before = h; seen = told.1; marked = refl }; wait_is = refl; older = ((told.8).tells).older; moves = λ move is. (((told.8).tells).moves move is).2; made = refl; others = refl; informed = subst IsInformed is told.3 })

@@ -13,7 +13,7 @@ use Rattle.core_state.specs.steps.Slots.{IsContent, IsRetiredAt, NeedsOwnLife, r
 use Rattle.seat_table.specs.declared.case.Case.TheVariants.{K9, K12, K15}
 use Rattle.seat_table.specs.declared.rule.Nothing.{Nothing}
 use Rattle.seat_table.specs.Cases.{slot_field, Fills, RaisesInHand, RaisesRetired, FreesInHand, FreesRetired, Needs, noted}
-use Rattle.seat_table.specs.Gains.{IsInformed, IsApart, HasSide}
+use Rattle.seat_table.specs.Gains.{IsInformed, IsApart, HasSide, TellsNow}
 use Rattle.seat_table.specs.Seats.{HasPlace, HasFew, IsInside, IsStamp, IsSlotOf, IsLastFound, shape_of, is_in_hand, is_none, makes_spare}
 use Rattle.seat_table.specs.Told.{Told}
 
@@ -26,25 +26,26 @@ pub record KeepsRest (v w : View) : Type 0 where
 
 -- a seat's numbers then
 pub numbers_still : (way : ℕ) (id id' : TableId) (me me' : Me Nothing View) (slots table_places table_tickets place places tickets stamp waits turns free front : ℕ) (key hand spare hand' spare' : Option ℕ)
-    → ((me.1 ≡ []) × HasPlace (record { id = id; slots = slots; places = table_places; tickets = table_tickets }) me.0 × HasSide (shape_of way (record { id = id; slots = slots; places = table_places; tickets = table_tickets })) me.0 × HasFew me.0 × (me.0.allowance.place ≡ place) × (me.0.allowance.places ≡ places) × (me.0.allowance.tickets ≡ tickets) × IsInside key me.0.section × IsStamp stamp me.0.section × IsSlotOf hand me.0.hands.hand × IsSlotOf spare me.0.hands.spare × (me.0.counts.waits ≡ waits) × (me.0.counts.turns ≡ turns) × IsLastFound slots free me.0.latest.free × IsLastFound 0 front me.0.latest.front)
-    → me'.1 ≡ me.1 → KeepsRest me.0 me'.0 → IsInformed me'.0 → HasSide (shape_of way (record { id = id; slots = slots; places = table_places; tickets = table_tickets })) me'.0 → IsSlotOf hand' me'.0.hands.hand → IsSlotOf spare' me'.0.hands.spare
-    → (me'.1 ≡ []) × HasPlace (record { id = id'; slots = slots; places = table_places; tickets = table_tickets }) me'.0 × HasSide (shape_of way (record { id = id'; slots = slots; places = table_places; tickets = table_tickets })) me'.0 × HasFew me'.0 × (me'.0.allowance.place ≡ place) × (me'.0.allowance.places ≡ places) × (me'.0.allowance.tickets ≡ tickets) × IsInside key me'.0.section × IsStamp stamp me'.0.section × IsSlotOf hand' me'.0.hands.hand × IsSlotOf spare' me'.0.hands.spare × (me'.0.counts.waits ≡ waits) × (me'.0.counts.turns ≡ turns) × IsLastFound slots free me'.0.latest.free × IsLastFound 0 front me'.0.latest.front
-numbers_still way id id' me me' slots table_places table_tickets place places tickets stamp waits turns free front key hand spare hand' spare' was rest kept informed side is_hand is_spare = (
+    → ((me.1 ≡ []) × HasPlace (record { id = id; slots = slots; places = table_places; tickets = table_tickets }) me.0 × HasSide (shape_of way (record { id = id; slots = slots; places = table_places; tickets = table_tickets })) me.0 × TellsNow (shape_of way (record { id = id; slots = slots; places = table_places; tickets = table_tickets })) me.0 × HasFew me.0 × (me.0.allowance.place ≡ place) × (me.0.allowance.places ≡ places) × (me.0.allowance.tickets ≡ tickets) × IsInside key me.0.section × IsStamp stamp me.0.section × IsSlotOf hand me.0.hands.hand × IsSlotOf spare me.0.hands.spare × (me.0.counts.waits ≡ waits) × (me.0.counts.turns ≡ turns) × IsLastFound slots free me.0.latest.free × IsLastFound 0 front me.0.latest.front)
+    → me'.1 ≡ me.1 → KeepsRest me.0 me'.0 → IsInformed me'.0 → HasSide (shape_of way (record { id = id; slots = slots; places = table_places; tickets = table_tickets })) me'.0 → TellsNow (shape_of way (record { id = id; slots = slots; places = table_places; tickets = table_tickets })) me'.0 → IsSlotOf hand' me'.0.hands.hand → IsSlotOf spare' me'.0.hands.spare
+    → (me'.1 ≡ []) × HasPlace (record { id = id'; slots = slots; places = table_places; tickets = table_tickets }) me'.0 × HasSide (shape_of way (record { id = id'; slots = slots; places = table_places; tickets = table_tickets })) me'.0 × TellsNow (shape_of way (record { id = id'; slots = slots; places = table_places; tickets = table_tickets })) me'.0 × HasFew me'.0 × (me'.0.allowance.place ≡ place) × (me'.0.allowance.places ≡ places) × (me'.0.allowance.tickets ≡ tickets) × IsInside key me'.0.section × IsStamp stamp me'.0.section × IsSlotOf hand' me'.0.hands.hand × IsSlotOf spare' me'.0.hands.spare × (me'.0.counts.waits ≡ waits) × (me'.0.counts.turns ≡ turns) × IsLastFound slots free me'.0.latest.free × IsLastFound 0 front me'.0.latest.front
+numbers_still way id id' me me' slots table_places table_tickets place places tickets stamp waits turns free front key hand spare hand' spare' was rest kept informed side told is_hand is_spare = (
   rest ∙ was.0,
   subst (λ a. HasPlace (record { id = id'; slots = slots; places = table_places; tickets = table_tickets }) (record me'.0 { allowance = a })) (sym kept.allowance) (record { works = was.1.works; inside = was.1.inside; few_places = was.1.few_places }),
   record { small = side.small },
+  record { marks = told.marks; word = told.word; tells = told.tells; apart = told.apart },
   record { waits = informed.few_waits; turns = informed.few_turns },
-  ap (λ a. a.place) kept.allowance ∙ was.4,
-  ap (λ a. a.places) kept.allowance ∙ was.5,
-  ap (λ a. a.tickets) kept.allowance ∙ was.6,
-  subst (IsInside key) (sym kept.section) was.7,
-  subst (IsStamp stamp) (sym kept.section) was.8,
+  ap (λ a. a.place) kept.allowance ∙ was.5,
+  ap (λ a. a.places) kept.allowance ∙ was.6,
+  ap (λ a. a.tickets) kept.allowance ∙ was.7,
+  subst (IsInside key) (sym kept.section) was.8,
+  subst (IsStamp stamp) (sym kept.section) was.9,
   is_hand,
   is_spare,
-  ap (λ c. c.waits) kept.counts ∙ was.11,
-  ap (λ c. c.turns) kept.counts ∙ was.12,
-  subst (λ l. IsLastFound slots free l.free) (sym kept.latest) was.13,
-  subst (λ l. IsLastFound 0 front l.front) (sym kept.latest) was.14,
+  ap (λ c. c.waits) kept.counts ∙ was.12,
+  ap (λ c. c.turns) kept.counts ∙ was.13,
+  subst (λ l. IsLastFound slots free l.free) (sym kept.latest) was.14,
+  subst (λ l. IsLastFound 0 front l.front) (sym kept.latest) was.15,
 )
 
 -- what is noted of a slot leaves it the one that it is

@@ -12,7 +12,9 @@ use Rattle.core_state.specs.steps.Links.{NeedsBypass, after_bypass, NeedsReplace
 use Rattle.core_state.specs.steps.Moves.{NeedsCopyLink, after_copy_link}
 use Rattle.seat_table.specs.declared.case.Case.TheVariants.{K21, K25, K36}
 use Rattle.seat_table.specs.Cases.{noted, IsRecordOf}
-use Rattle.seat_table.specs.Gains.{IsNextKey}
+use Rattle.prcu_marks.specs.Callers.{IsNextKey}
+use Rattle.prcu_marks.specs.Marks.{updates_of}
+use Rattle.prcu_model.specs.Dictionary.{map_of}
 use Rattle.seat_table.specs.Told.{Told}
 
 module _ (k : Shape) (v w : View) (found : ℕ) where
@@ -34,7 +36,7 @@ module _ (k : Shape) (v w : View) (found : ℕ) where
 
   pub copied : (commit : Commit) (r : Reading) (held : Held) (parent : ℕ) (b : Side) (node copy old old_parent left right next value : ℕ) → NeedsCopyLink v commit r held parent b node copy old old_parent left right next value
       → (told : Told k v (K25 parent b node copy old old_parent) found w)
-      → (w ≡ after_copy_link (noted v (K25 parent b node copy old old_parent) found) commit held parent b node old old_parent r.key next told.0) × IsNextKey told.0 r.key next
+      → (w ≡ after_copy_link (noted v (K25 parent b node copy old old_parent) found) commit held parent b node old old_parent r.key next told.0) × IsNextKey (map_of (updates_of told.0)) r.key next
   copied commit r held parent b node copy old old_parent left right next value needs told =
       let is = record_copied commit r held parent b node copy old old_parent left right next value needs in
       let key : told.2.1.key ≡ r.key = told.5.deletes.one_key.same told.2.1 r told.2.5 is in

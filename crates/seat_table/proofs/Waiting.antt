@@ -25,7 +25,8 @@ use Rattle.seat_table.specs.Cases.{noted}
 use Rattle.seat_table.specs.Told.{Told}
 use Rattle.seat_table.specs.Gains.{Sees, IsInformed}
 use Rattle.seat_table.specs.Sections.{Leaves}
-use Rattle.seat_table.specs.Waits.{reached, IsBefore, IsTurnedBefore, IsSameWait, Made, EndWith, Shows, HasLooked, HasEnded, HaveLeft, ended_by, Passed, IsLatestOf, IsOver, Polled, IsGoingOn}
+use Rattle.seat_table.specs.Waits.{Reached, reached, start, IsBefore, IsTurnedBefore, IsSameWait, Made, EndWith, Shows, HasLooked, HasEnded, HaveLeft, ended_by, Passed, IsLatestOf, IsOver, Polled, IsGoingOn}
+use Rattle.key_interval.specs.Keys.{Interval}
 
 abbrev pub step_of : Kind → Field → ℕ → List StepMade
 step_of kind field found = record { kind = kind; field = field; number = found } ∷ []
@@ -148,14 +149,14 @@ pub shows_by : (wait new : Waiting) → IsSameWait wait new → (steps : List St
 shows_by wait new same steps why is = shows_same wait new steps why (subst (λ z. Shows z steps why) same is)
 
 -- A grace that begins at the first place and class is that of a wait that was just begun, whatever the waiter.
-pub latest : {W : Type 0} (k : Shape) (v w : View) (low high found : ℕ) (grace : Grace W) → grace.keys.low ≡ low → grace.keys.high ≡ high → grace.clock ≡ found → grace.place ≡ 0 → grace.class ≡ 0 → grace.turned ≡ false → Told k v (K7 low high) found w → IsLatestOf k grace w
-latest k v w low high found grace low_is high_is clock_is place class turned told = (
-  new_wait (noted v (K7 low high) found) low high found told.0,
+pub latest : {W : Type 0} (k : Shape) (v w : View) (keys : Interval) (found : ℕ) (grace : Grace W) → grace.keys ≡ keys → grace.clock ≡ found → reached grace ≡ start → Told k v (K7 keys.low keys.high) found w → IsLatestOf k grace w
+latest k v w keys found grace keys_is clock_is begins told = (
+  new_wait (noted v (K7 keys.low keys.high) found) keys.low keys.high found told.0,
   ap (λ (z : View). z.wait) told.2,
   record {
     going = refl;
-    low_is = sym low_is;
-    high_is = sym high_is;
+    low_is = ap (λ (z : Interval). z.low) (sym keys_is);
+    high_is = ap (λ (z : Interval). z.high) (sym keys_is);
     clock_is = sym clock_is;
     inside = omega (arith, place);
     small = omega (arith, class);
@@ -166,10 +167,19 @@ latest k v w low high found grace low_is high_is clock_is place class turned tol
   },
 )
   where
+    place : grace.place ≡ 0
+    place = ap (λ (r : Reached). r.place) begins
+
+    class : grace.class ≡ 0
+    class = ap (λ (r : Reached). r.class) begins
+
+    turned : grace.turned ≡ false
+    turned = ap (λ (r : Reached). r.turned) begins
+
     no_class : (c : ℕ) → IsTurnedBefore (reached grace) c → ⊥
     no_class c before = ⊎_elim (λ less. omega (arith, less, class)) (λ (on : (c ≡ grace.class) × (grace.turned ≡ true)). let e : false ≡ true = sym turned ∙ on.1 in cc) before
 
-    none_before : (field : Field) → IsSpot k (new_wait (noted v (K7 low high) found) low high found told.0) field → IsBefore (reached grace) field → IsIn [] field
+    none_before : (field : Field) → IsSpot k (new_wait (noted v (K7 keys.low keys.high) found) keys.low keys.high found told.0) field → IsBefore (reached grace) field → IsIn [] field
     none_before (Stamp q) spot before = absurd (omega (arith, before, place))
     none_before (Count c side) spot before = absurd (⊎_elim (λ less. omega (arith, less, class)) (λ (on : (c ≡ grace.class) × (grace.turned ≡ true) × (side ≢ grace.gate % 2)). let e : false ≡ true = sym turned ∙ on.1 in cc) before)
     none_before (Row p c) spot before = absurd (⊎_elim (λ less. omega (arith, less, place)) (λ (on : (p ≡ grace.place) × (c < grace.class)). omega (arith, on.1, class)) before)

@@ -260,5 +260,5 @@ After v u (K33 key stamp) h found w = (clocked : Clocked) × (v.enter.clock ≡ 
 After v u (K34 class) h found w = (section : Section) × (v.section ≡ Some section) × (w ≡ leaving u section h)
 After v u (K35 place class last) h found w = (wait : Waiting) × (v.wait ≡ Some wait) × (w ≡ after_look u wait (Row place class) last found h)
 After v u (K36 slot value) h found w = (commit : Commit) × (r : Reading) × (v.commit ≡ Some commit) × IsRecordOf v slot r × (w ≡ after_replace u commit slot r.key value h)
-After v u K37 h found w = (section : Section) × (v.section ≡ Some section) × (w ≡ after_front_look u section found)
+After v u K37 h found w = (section : Section) × (v.section ≡ Some section) × (w ≡ after_front_look u section found h)
 After v u (ListLoad slot field) h found w = (section : Section) × (listing : Listing) × (v.section ≡ Some section) × (section.listing ≡ Some listing) × (w ≡ after_list_load u section listing slot (slot_field slot field) found)

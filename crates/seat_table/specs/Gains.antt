@@ -1,11 +1,12 @@
 -- What a call takes from the rule after a step.
 -- Source: docs/TREE.md, "What a step sees".
-use Rattle.std.specs.Prelude.{◌≡◌, ◌≢◌, ℕ, ◌+◌, ◌-◌, ◌*◌, ◌<◌, ◌≤◌, ◌⊎◌, false, List, length, Some, None}
+use Rattle.std.specs.Prelude.{◌≡◌, ◌≢◌, ℕ, ◌+◌, ◌-◌, ◌*◌, ◌<◌, ◌≤◌, ◌⊎◌, false, List, length, map, Some, None, []}
 use Rattle.std.specs.FinMap as finite
 use mathlib.Core.List.{IsPrefix}
 use Rattle.prcu_marks.specs.declared.mark.Mark.{Mark}
 use Rattle.prcu_marks.specs.declared.mark.Side.{Side}
 use Rattle.prcu_marks.specs.Marks.{updates_of, own_of}
+use Rattle.prcu_marks.specs.Callers.{IsNextKey}
 use Rattle.prcu_model.specs.History.{IsLegal}
 use Rattle.prcu_model.specs.Dictionary.{map_of, WasSaid}
 use Rattle.core_state.specs.declared.shape.Shape.{Shape}
@@ -27,13 +28,16 @@ use Rattle.core_state.specs.memory.Lists.{IsEven}
 use Rattle.core_state.specs.memory.Memory.{slot_count}
 use Rattle.core_state.specs.Marks.{Grace, Reuse}
 use Rattle.core_state.specs.parts.ListingParts.{IsBetween}
+use Rattle.core_state.specs.parts.SeatParts.{HasMet}
 use Rattle.core_state.specs.parts.TreeParts.{map_now}
 use Rattle.core_state.specs.steps.Slots.{IsInHand, IsSpare, IsRetiredAt}
 use Rattle.core_state.specs.views.Known.{known_in, known_under, lock_of}
 use Rattle.core_state.specs.views.Views.{Works, places_of, slots_of}
-use Rattle.seat_table.specs.Cases.{IsRecordOf}
+use Rattle.core_frames.specs.Telling.{IsToldOf}
+use Rattle.prcu_model.specs.Slots.{StaysWithin}
+use Rattle.seat_table.specs.Cases.{said_by, what, IsRecordOf}
 use Rattle.seat_table.specs.declared.case.Case.{Case}
-use Rattle.seat_table.specs.declared.case.Case.TheVariants.{K6, K7, K9, K10, K11, K12, K13, K15, K20, K21, K25, K30, K34, K36, K37}
+use Rattle.seat_table.specs.declared.case.Case.TheVariants.{K3, K6, K7, K9, K10, K11, K12, K13, K15, K20, K21, K25, K30, K34, K36, K37}
 
 -- All marks at a step: the view, which works at a place, has seen a beginning of them, and all marks of each place for which it answers.
 pub record Sees (v : View) (h : List Mark) : Type 0 where
@@ -74,10 +78,36 @@ pub record StoodInside (k : Shape) (w : View) : Type 0 where
 pub record HasSide (k : Shape) (w : View) : Type 0 where
   pub small : (section : Section) → w.section ≡ Some section → k.waiter ≡ Domain → section.stamp < 2
 
--- What the search of a section found, the dictionary said at some front since the section was entered.
+-- a place has retired each slot once
+abbrev pub TellsApart : View → Type 0
+TellsApart v = (s : ℕ) → times s (map (λ (r : Retired). r.slot) v.hands.retired) ≤ 1
+
+-- What the rule tells of the seat's view, with some list of all marks and some words.
+pub record TellsNow (k : Shape) (v : View) : Type 0 where
+  pub marks : List Mark
+  pub word : Field → ℕ
+  pub tells : IsToldOf k.slots k.places v marks word
+  pub apart : TellsApart v
+
+-- What it told of the view before the step, with all marks before it and the words there were: by them the step found its number.
+pub record TellsBefore (k : Shape) (v : View) (c : Case) (h : List Mark) (found : ℕ) : Type 0 where
+  pub word : Field → ℕ
+  pub found_is : said_by (what v c).access (word (what v c).field) ≡ found
+  pub tells : IsToldOf k.slots k.places v h word
+
+-- At no front of what the seat has seen were there more pairs than the table was made with slots, and no mark is of a place that the
+-- table hasn't.
+pub record StaysIn (k : Shape) (w : View) : Type 0 where
+  pub within : StaysWithin (updates_of w.seen) k.slots
+  pub others : (p : ℕ) → k.places ≤ p → own_of p w.seen ≡ []
+
+-- What the search of a section found, the dictionary said at some front since the section was entered. Where it found the key and loaded
+-- no value, the key had some value then.
 pub record GivesAnswer (seen : List Mark) (section : Section) : Type 0 where
   pub absent : (slot : ℕ) (b : Side) → section.listing ≡ None → section.reading.state ≡ Missed slot b → WasSaid (updates_of seen) section.key section.from None
   pub present : (slot parent value : ℕ) (b : Side) → section.listing ≡ None → section.reading.state ≡ Found slot parent b (Some value) → WasSaid (updates_of seen) section.key section.from (Some value)
+  pub there : (slot parent : ℕ) (b : Side) → section.listing ≡ None → section.reading.state ≡ Found slot parent b None → IsIn section.reading.stood slot → section.reading.key ≡ section.key
+      → (value : ℕ) × WasSaid (updates_of seen) section.key section.from (Some value)
 
 -- after a section was left
 pub record LeavesAnswer (v w : View) : Type 0 where
@@ -119,16 +149,10 @@ pub record Deletes (v w : View) (node : ℕ) : Type 0 where
   pub counted : IsCounted v w
   pub one_key : HasOneKey v node
 
--- the least key above a key
-pub record IsNextKey (h : List Mark) (key next : ℕ) : Type 0 where
-  pub above : key < next
-  pub there : (value : ℕ) × (map_now h next ≡ Some value)
-  pub least : (y : ℕ) → key < y → y < next → map_now h y ≡ None
-
 -- The spare's key, where a copy is linked, is the next key that the dictionary had.
 pub record Moves (v w : View) (h : List Mark) (node copy : ℕ) : Type 0 where
   pub deletes : Deletes v w node
-  pub next : (r : Reading) (held : Held) (next : ℕ) → IsRecordOf v node r → v.hands.spare ≡ Some held → known_in held.known (Key copy) ≡ Some next → IsNextKey h r.key next
+  pub next : (r : Reading) (held : Held) (next : ℕ) → IsRecordOf v node r → v.hands.spare ≡ Some held → known_in held.known (Key copy) ≡ Some next → IsNextKey (map_of (updates_of h)) r.key next
 
 -- The value loaded under the lock, where it is replaced, is the one that the dictionary had.
 pub record Replaces (v w : View) (h : List Mark) (slot : ℕ) : Type 0 where
@@ -147,8 +171,13 @@ pub record IsListedNow (h : List Mark) (section : Section) (listing : Listing) :
 pub record LooksAgain (v : View) (h : List Mark) (found : ℕ) : Type 0 where
   pub same : (section : Section) (listing : Listing) → v.section ≡ Some section → section.listing ≡ Some listing → IsEven found → found ≡ listing.front → IsListedNow h section listing
 
+-- When the seat was last joined with another, the marks of each one's places were those that it had seen itself.
+pub record HaveMet (v : View) (h : List Mark) : Type 0 where
+  pub each : Each v.allowance.met (HasMet h)
+
 -- by the kind of step, with the view before, all marks before, the number found and the view after
 abbrev pub Gains : Shape → View → Case → List Mark → ℕ → View → Type 0
+Gains k v K3 h found w = HaveMet v h
 Gains k v K6 h found w = LeavesAnswer v w
 Gains k v (K7 low high) h found w = AreGone k v w
 Gains k v (K9 slot keep) h found w = IsApart v slot

@@ -1,7 +1,9 @@
 -- What a clause sees of a seat and of a table.
 -- Source: docs/TREE.md, "The tree's table".
 use Rattle.std.specs.Prelude.{◌≡◌, ℕ, zero, suc, ◌+◌, ◌≤◌, ◌==◌, ◌&&◌, Bool, true, false, not, filter, List, map, Option, Some, None}
+use mathlib.Core.List.{IsPrefix}
 use Rattle.atomic_table.specs.Seated.{TableId}
+use Rattle.prcu_marks.specs.Marks.{own_of}
 use Rattle.core_state.specs.declared.shape.Shape.{Shape}
 use Rattle.core_state.specs.declared.shape.Waiter.{Waiter}
 use Rattle.core_state.specs.declared.shape.Waiter.TheVariants.{Eer, Domain, Deer}
@@ -10,7 +12,7 @@ use Rattle.core_state.specs.declared.view.Retired.{Retired}
 use Rattle.core_state.specs.declared.view.Section.{Section}
 use Rattle.core_state.specs.declared.view.View.{View}
 use Rattle.list_laws.specs.Counts.{times}
-use Rattle.core_state.specs.views.Views.{IsQuiet}
+use Rattle.core_state.specs.views.Views.{IsQuiet, places_of}
 
 -- the waiter with this number
 abbrev pub way_of : ℕ → Waiter
@@ -99,3 +101,12 @@ pub record AreListed (s : SeatAt) : Type 0 where
 pub record IsQuietSeat (s : SeatAt) : Type 0 where
   pub view : IsQuiet s.view
   pub listed : AreListed s
+
+-- After a join the seat answers for the places of both. It has seen what both had, and of each one's places just the marks that it had
+-- seen itself.
+pub record KeepsOwn (v other w : View) : Type 0 where
+  pub places : (p : ℕ) → times p (places_of w) ≡ times p (places_of v) + times p (places_of other)
+  pub first_seen : IsPrefix v.seen w.seen
+  pub second_seen : IsPrefix other.seen w.seen
+  pub first_own : (p : ℕ) → 1 ≤ times p (places_of v) → own_of p w.seen ≡ own_of p v.seen
+  pub second_own : (p : ℕ) → 1 ≤ times p (places_of other) → own_of p w.seen ≡ own_of p other.seen

@@ -1,6 +1,6 @@
 -- What is made of a view by entering a section, by leaving it, and by beginning a wait.
 -- Source: docs/TREE.md, "The tree's sections".
-use Rattle.std.specs.Prelude.{◌≡◌, ℕ, ◌+◌, ◌-◌, Bool, true, false, List, [], ◌∷◌, ◌++◌, length, Some, None}
+use Rattle.std.specs.Prelude.{◌≡◌, ℕ, ◌+◌, ◌-◌, ◌<◌, Bool, true, false, List, [], ◌∷◌, ◌++◌, length, Some, None}
 use Rattle.std.specs.List.{AllByRecursion}
 use Rattle.prcu_marks.specs.declared.mark.Mark.{Mark}
 use Rattle.prcu_marks.specs.declared.mark.Mark.TheVariants.{Entered, Left, Began}
@@ -8,11 +8,14 @@ use Rattle.prcu_marks.specs.Marks.{updates_of}
 use Rattle.core_state.specs.declared.words.Field.TheVariants.{Clock}
 use Rattle.core_state.specs.declared.words.Kind.{Kind}
 use Rattle.core_state.specs.declared.words.Kind.TheVariants.{K3, K4, K5, K6, K7, K28, K29, K30, K33, K34}
+use Rattle.core_state.specs.declared.view.Move.{Move}
+use Rattle.core_state.specs.declared.view.Retired.{Retired}
 use Rattle.core_state.specs.declared.view.Section.{Section}
 use Rattle.core_state.specs.declared.view.StepMade.{StepMade}
 use Rattle.core_state.specs.declared.view.Trail.{Trail}
 use Rattle.core_state.specs.declared.view.View.{View}
 use Rattle.core_state.specs.steps.Seating.{stepped}
+use Rattle.list_laws.specs.Counts.{Each}
 use Rattle.core_state.specs.steps.Sections.{fresh_reading}
 use Rattle.core_state.specs.steps.Waits.{new_wait}
 use Rattle.seat_table.specs.Gains.{Sees, IsInformed, GivesAnswer}
@@ -71,11 +74,14 @@ pub record HasLeft (v : View) (w : View) : Type 0 where
   pub answer : GivesAnswer w.seen section
   pub informed : IsInformed w
 
--- A wait for these keys was begun at the seat's place, by one step and with one of its tickets.
+-- A wait for these keys was begun at the seat's place, by one step and with one of its tickets, after the place's unlinkings and after the
+-- update of its pending move.
 pub record HasBegun (v : View) (low high : ℕ) (w : View) : Type 0 where
   pub clock : ℕ
   pub leaves : Leaves v (Began v.allowance.place v.counts.waits low high) w
   pub wait_is : w.wait ≡ Some (new_wait v low high clock leaves.before)
+  pub older : Each v.hands.retired (λ (r : Retired). r.unlinked < length leaves.before)
+  pub moves : (move : Move) → v.moving ≡ Some move → move.made < length leaves.before
   pub made : w.trail ≡ (stepped v K7 Clock clock).trail
   pub others : w ≡ record v { allowance = record v.allowance { tickets = v.allowance.tickets - 1 }; wait = w.wait; counts = record v.counts { waits = v.counts.waits + 1 }; trail = w.trail; seen = w.seen }
   pub informed : IsInformed w

@@ -36,6 +36,10 @@ pub record Reached : Type 0 where
 abbrev pub reached : {W : Type 0} → Grace W → Reached
 reached grace = record { place = grace.place; class = grace.class; gate = grace.gate; turned = grace.turned }
 
+-- where a wait begins: its first gate isn't loaded yet
+abbrev pub start : Reached
+start = record { place = 0; class = 0; gate = 18446744073709551615; turned = false }
+
 -- the spots before that one
 abbrev pub IsBefore : Reached → Field → Type 0
 IsBefore r (Stamp p) = p < r.place

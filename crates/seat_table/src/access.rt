@@ -2,6 +2,7 @@
 ghost use Rattle.std.specs.Prelude.{◌≡◌, ◌≤◌};
 ghost use Rattle.seat_table.specs.Seats.{shape_of};
 ghost use Rattle.seat_table.specs.Cases.{loads, stores, exchanges, adds, subtracts, flips};
+ghost use Rattle.seat_table.specs.Gains.{TellsNow};
 ghost use Rattle.seat_table.specs.Told.{Asks, Told};
 
 use crate::case::Case;
@@ -26,6 +27,7 @@ fn loads_it<W: WaitWords, A: Detail>(
     requires asks { Asks W.WAY table.now seat.old.me.0 case loads word }
     ensures seat { (seat.new.table_id ≡ seat.old.table_id) × (seat.new.me.1 ≡ seat.old.me.1) }
     ensures told { Told (shape_of W.WAY table.now) seat.old.me.0 case result seat.new.me.0 }
+    ensures now { TellsNow (shape_of W.WAY table.now) seat.new.me.0 }
 {
     table.table.shared.load::<Tells<A>>(seat, word)
 }
@@ -41,6 +43,7 @@ pub(crate) fn load<W: WaitWords>(
     requires asks { Asks W.WAY table.now seat.old.me.0 case loads word }
     ensures seat { (seat.new.table_id ≡ seat.old.table_id) × (seat.new.me.1 ≡ seat.old.me.1) }
     ensures told { Told (shape_of W.WAY table.now) seat.old.me.0 case result seat.new.me.0 }
+    ensures now { TellsNow (shape_of W.WAY table.now) seat.new.me.0 }
 {
     loads_it::<W, Brand>(table, seat, case, word)
 }
@@ -57,6 +60,7 @@ fn stores_it<W: WaitWords, A: Detail>(
     requires asks { Asks W.WAY table.now seat.old.me.0 case (stores number) word }
     ensures seat { (seat.new.table_id ≡ seat.old.table_id) × (seat.new.me.1 ≡ seat.old.me.1) }
     ensures told { Told (shape_of W.WAY table.now) seat.old.me.0 case number seat.new.me.0 }
+    ensures now { TellsNow (shape_of W.WAY table.now) seat.new.me.0 }
 {
     table.table.shared.store::<Tells<A>>(seat, word, number);
 }
@@ -73,6 +77,7 @@ pub(crate) fn store<W: WaitWords>(
     requires asks { Asks W.WAY table.now seat.old.me.0 case (stores number) word }
     ensures seat { (seat.new.table_id ≡ seat.old.table_id) × (seat.new.me.1 ≡ seat.old.me.1) }
     ensures told { Told (shape_of W.WAY table.now) seat.old.me.0 case number seat.new.me.0 }
+    ensures now { TellsNow (shape_of W.WAY table.now) seat.new.me.0 }
 {
     stores_it::<W, Brand>(table, seat, case, word, number);
 }
@@ -90,6 +95,7 @@ fn exchanges_it<W: WaitWords, A: Detail>(
     requires asks { Asks W.WAY table.now seat.old.me.0 case (exchanges old new) word }
     ensures seat { (seat.new.table_id ≡ seat.old.table_id) × (seat.new.me.1 ≡ seat.old.me.1) }
     ensures told { Told (shape_of W.WAY table.now) seat.old.me.0 case result seat.new.me.0 }
+    ensures now { TellsNow (shape_of W.WAY table.now) seat.new.me.0 }
 {
     table
         .table
@@ -110,6 +116,7 @@ pub(crate) fn exchange<W: WaitWords>(
     requires asks { Asks W.WAY table.now seat.old.me.0 case (exchanges old new) word }
     ensures seat { (seat.new.table_id ≡ seat.old.table_id) × (seat.new.me.1 ≡ seat.old.me.1) }
     ensures told { Told (shape_of W.WAY table.now) seat.old.me.0 case result seat.new.me.0 }
+    ensures now { TellsNow (shape_of W.WAY table.now) seat.new.me.0 }
 {
     exchanges_it::<W, Brand>(table, seat, case, word, old, new)
 }
@@ -126,6 +133,7 @@ fn adds_it<W: WaitWords, A: Detail>(
     requires asks { Asks W.WAY table.now seat.old.me.0 case (adds number) word }
     ensures seat { (seat.new.table_id ≡ seat.old.table_id) × (seat.new.me.1 ≡ seat.old.me.1) }
     ensures told { Told (shape_of W.WAY table.now) seat.old.me.0 case result seat.new.me.0 }
+    ensures now { TellsNow (shape_of W.WAY table.now) seat.new.me.0 }
 {
     table.table.shared.fetch_add::<Tells<A>>(seat, word, number)
 }
@@ -142,6 +150,7 @@ pub(crate) fn add<W: WaitWords>(
     requires asks { Asks W.WAY table.now seat.old.me.0 case (adds number) word }
     ensures seat { (seat.new.table_id ≡ seat.old.table_id) × (seat.new.me.1 ≡ seat.old.me.1) }
     ensures told { Told (shape_of W.WAY table.now) seat.old.me.0 case result seat.new.me.0 }
+    ensures now { TellsNow (shape_of W.WAY table.now) seat.new.me.0 }
 {
     adds_it::<W, Brand>(table, seat, case, word, number)
 }
@@ -159,6 +168,7 @@ fn subtracts_it<W: WaitWords, A: Detail>(
     requires asks { Asks W.WAY table.now seat.old.me.0 case (subtracts number) word }
     ensures seat { (seat.new.table_id ≡ seat.old.table_id) × (seat.new.me.1 ≡ seat.old.me.1) }
     ensures told { Told (shape_of W.WAY table.now) seat.old.me.0 case result seat.new.me.0 }
+    ensures now { TellsNow (shape_of W.WAY table.now) seat.new.me.0 }
 {
     table.table.shared.fetch_sub::<Tells<A>>(seat, word, number)
 }
@@ -176,6 +186,7 @@ pub(crate) fn subtract<W: WaitWords>(
     requires asks { Asks W.WAY table.now seat.old.me.0 case (subtracts number) word }
     ensures seat { (seat.new.table_id ≡ seat.old.table_id) × (seat.new.me.1 ≡ seat.old.me.1) }
     ensures told { Told (shape_of W.WAY table.now) seat.old.me.0 case result seat.new.me.0 }
+    ensures now { TellsNow (shape_of W.WAY table.now) seat.new.me.0 }
 {
     subtracts_it::<W, Brand>(table, seat, case, word, number)
 }
@@ -191,6 +202,7 @@ fn flips_it<W: WaitWords, A: Detail>(
     requires asks { Asks W.WAY table.now seat.old.me.0 case flips word }
     ensures seat { (seat.new.table_id ≡ seat.old.table_id) × (seat.new.me.1 ≡ seat.old.me.1) }
     ensures told { Told (shape_of W.WAY table.now) seat.old.me.0 case result seat.new.me.0 }
+    ensures now { TellsNow (shape_of W.WAY table.now) seat.new.me.0 }
 {
     table.table.shared.fetch_xor::<Tells<A>>(seat, word, 1)
 }
@@ -206,6 +218,7 @@ pub(crate) fn flip<W: WaitWords>(
     requires asks { Asks W.WAY table.now seat.old.me.0 case flips word }
     ensures seat { (seat.new.table_id ≡ seat.old.table_id) × (seat.new.me.1 ≡ seat.old.me.1) }
     ensures told { Told (shape_of W.WAY table.now) seat.old.me.0 case result seat.new.me.0 }
+    ensures now { TellsNow (shape_of W.WAY table.now) seat.new.me.0 }
 {
     flips_it::<W, Brand>(table, seat, case, word)
 }

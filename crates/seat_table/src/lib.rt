@@ -14,7 +14,7 @@ mod waiter;
 
 pub use case::Case;
 pub use seat::Seat;
-pub use table::CitrusTable;
+pub use table::{CitrusTable, words_of};
 pub use wait::{Grace, Poll, WaitPart, wait_for_readers};
 pub use waiter::WaitWords;
 

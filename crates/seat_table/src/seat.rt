@@ -7,7 +7,8 @@ ghost use Rattle.core_state.specs.steps.Seating.{NeedsSplit, first_of, second_of
 ghost use Rattle.core_state.specs.steps.Slots.{IsRetiredAt};
 ghost use Rattle.core_state.specs.views.Known.{HasLock};
 ghost use Rattle.seat_table.specs.declared.case.Case.TheVariants.{K3};
-ghost use Rattle.seat_table.specs.Seats.{IsQuietSeat, IsInside, IsSlotOf, IsLastFound, shape_of};
+ghost use Rattle.seat_table.specs.Seats.{IsQuietSeat, KeepsOwn, IsInside, IsSlotOf, IsLastFound, shape_of};
+ghost use Rattle.seat_table.specs.Gains.{TellsNow};
 ghost use Rattle.seat_table.specs.Told.{Told};
 
 use crate::access::load;
@@ -38,20 +39,21 @@ pub struct Seat<W: WaitWords> {
     pub(crate) turns: u64,
     pub(crate) free: u64,
     pub(crate) front: u64,
+    pub(crate) seized: u32,
     pub(crate) listed: ArrayVec<u32, 16>,
     pub(crate) marker: PhantomData<W>,
 }
 
 impl<W: WaitWords> Model for Seat<W> {
     ghost use Rattle.std.specs.Prelude.{◌≡◌, []};
-    ghost use Rattle.seat_table.specs.Gains.{HasSide};
+    ghost use Rattle.seat_table.specs.Gains.{HasSide, TellsNow};
     ghost use Rattle.seat_table.specs.Seats.{SeatAt, HasPlace, HasFew, IsInside, IsStamp, IsSlotOf, IsLastFound, shape_of};
 
     ghost Value = { SeatAt };
 
     ghost view = { λ s. record { table = record { id = s.seat.table_id; slots = s.slots; places = s.table_places; tickets = s.table_tickets }; view = s.seat.me.0; listed = s.listed.items } };
 
-    ghost invariant = { λ s. (s.seat.me.1 ≡ []) × HasPlace (record { id = s.seat.table_id; slots = s.slots; places = s.table_places; tickets = s.table_tickets }) s.seat.me.0 × HasSide (shape_of W.WAY (record { id = s.seat.table_id; slots = s.slots; places = s.table_places; tickets = s.table_tickets })) s.seat.me.0 × HasFew s.seat.me.0 × (s.seat.me.0.allowance.place ≡ s.place) × (s.seat.me.0.allowance.places ≡ s.places) × (s.seat.me.0.allowance.tickets ≡ s.tickets) × IsInside s.key s.seat.me.0.section × IsStamp s.stamp s.seat.me.0.section × IsSlotOf s.hand s.seat.me.0.hands.hand × IsSlotOf s.spare s.seat.me.0.hands.spare × (s.seat.me.0.counts.waits ≡ s.waits) × (s.seat.me.0.counts.turns ≡ s.turns) × IsLastFound s.slots s.free s.seat.me.0.latest.free × IsLastFound 0 s.front s.seat.me.0.latest.front };
+    ghost invariant = { λ s. (s.seat.me.1 ≡ []) × HasPlace (record { id = s.seat.table_id; slots = s.slots; places = s.table_places; tickets = s.table_tickets }) s.seat.me.0 × HasSide (shape_of W.WAY (record { id = s.seat.table_id; slots = s.slots; places = s.table_places; tickets = s.table_tickets })) s.seat.me.0 × TellsNow (shape_of W.WAY (record { id = s.seat.table_id; slots = s.slots; places = s.table_places; tickets = s.table_tickets })) s.seat.me.0 × HasFew s.seat.me.0 × (s.seat.me.0.allowance.place ≡ s.place) × (s.seat.me.0.allowance.places ≡ s.places) × (s.seat.me.0.allowance.tickets ≡ s.tickets) × IsInside s.key s.seat.me.0.section × IsStamp s.stamp s.seat.me.0.section × IsSlotOf s.hand s.seat.me.0.hands.hand × IsSlotOf s.spare s.seat.me.0.hands.spare × (s.seat.me.0.counts.waits ≡ s.waits) × (s.seat.me.0.counts.turns ≡ s.turns) × IsLastFound s.slots s.free s.seat.me.0.latest.free × IsLastFound 0 s.front s.seat.me.0.latest.front };
 }
 
 impl<W: WaitWords> Seat<W> {
@@ -114,6 +116,15 @@ impl<W: WaitWords> Seat<W> {
         self.listed.as_slice()
     }
 
+    /// What the rule of the table tells of this seat between two steps, for a proof that needs it: a call changes nothing, and answers
+    /// nothing.
+    pub fn rule_tells(&self)
+        ensures tells { TellsNow (shape_of W.WAY self.now.table) self.now.view }
+    {
+        // The invariant is known where a field is read.
+        let _place = self.place;
+    }
+
     /// Lists a retired slot, as the last one.
     pub fn list_retired(&mut self, slot: u32)
         requires retired { (i : ℕ) × (r : Retired) × IsRetiredAt self.old.view i r slot }
@@ -153,6 +164,11 @@ impl<W: WaitWords> Seat<W> {
     {
         self.front
     }
+
+    /// The slot that it seized last, at first 0. It says where to look for the next free slot, and no clause rests on it.
+    pub fn last_seized(&self) -> u32 {
+        self.seized
+    }
 }
 
 fn cut<W: WaitWords, A: Share>(
@@ -183,6 +199,7 @@ fn cut<W: WaitWords, A: Share>(
         turns,
         free,
         front,
+        seized,
         listed,
         marker,
     } = seat;
@@ -205,6 +222,7 @@ fn cut<W: WaitWords, A: Share>(
             turns,
             free,
             front,
+            seized,
             listed,
             marker,
         },
@@ -224,6 +242,7 @@ fn cut<W: WaitWords, A: Share>(
             turns: 0,
             free: slots as u64,
             front: 0,
+            seized: 0,
             listed: ArrayVec::new(),
             marker: PhantomData,
         },
@@ -252,6 +271,7 @@ impl<W: WaitWords> Seat<W> {
         requires quiet { IsQuietSeat self × IsQuietSeat other }
         ensures seat { (result.table ≡ self.table) × (result.listed ≡ self.listed) }
         ensures told { (clock : ℕ) × Told (shape_of W.WAY table.now) (both_of self.view other.view) K3 clock result.view }
+        ensures own { KeepsOwn self.view other.view result.view }
         ensures quiet { IsQuietSeat result }
     {
         let Seat {
@@ -270,6 +290,7 @@ impl<W: WaitWords> Seat<W> {
             turns,
             free,
             front,
+            seized,
             listed,
             marker,
         } = self;
@@ -289,6 +310,7 @@ impl<W: WaitWords> Seat<W> {
             turns: their_turns,
             free: _,
             front: _,
+            seized: _,
             listed: _,
             marker: _,
         } = other;
@@ -310,6 +332,7 @@ impl<W: WaitWords> Seat<W> {
             turns: turns + their_turns,
             free,
             front,
+            seized,
             listed,
             marker,
         }

@@ -157,6 +157,7 @@ pub fn k11<W: WaitWords>(table: &CitrusTable<W>, seat: &mut Seat<W>, slot: u32) 
     let found = exchange(table, &mut seat.seat, Case::K11 { slot }, word, 0, 1);
     if found == 0 {
         seat.hand = Some(slot);
+        seat.seized = slot;
     }
     found
 }

@@ -100,7 +100,8 @@ fn add_waiter(words: &mut Vec<u64>, waiter: Waiter, places: u32) -> Result<(), A
     }
 }
 
-fn words_of(alloc: Global, shape: &Shape) -> Result<Vec<u64>, AllocError>
+/// The words of a table as it is made for this shape.
+pub fn words_of(alloc: Global, shape: &Shape) -> Result<Vec<u64>, AllocError>
     requires places { shape.now.places ≤ 64 }
     ensures { IfOk result (λ words. words.items ≡ first_words shape.now) }
 {
@@ -166,6 +167,7 @@ impl<W: WaitWords> CitrusTable<W> {
             turns: 0,
             free: slots as u64,
             front: 0,
+            seized: 0,
             listed: ArrayVec::new(),
             marker: PhantomData,
         };

@@ -3,7 +3,7 @@ ghost use Rattle.std.specs.Prelude.{◌≡◌, ◌≤◌, [], Some, None};
 ghost use Rattle.core_state.specs.declared.view.Section.{Section};
 ghost use Rattle.seat_table.specs.Seats.{shape_of};
 ghost use Rattle.seat_table.specs.Sections.{HasEntered, HasLeft, HasBegun};
-ghost use Rattle.seat_table.specs.Waits.{IsLatestOf, Polled, HasWaited};
+ghost use Rattle.seat_table.specs.Waits.{IsLatestOf, Polled, HasWaited, reached, start};
 
 use crate::seat::Seat;
 use crate::table::CitrusTable;
@@ -24,6 +24,25 @@ pub struct Grace<W> {
     pub gate: u64,
     pub turned: bool,
     pub waiter: PhantomData<W>,
+}
+
+impl<W> Grace<W> {
+    /// A wait that was just begun: its next poll begins at the first place and the first class, whose gate isn't loaded yet.
+    pub fn new(keys: Keys, clock: u64) -> Grace<W>
+        ensures keys { result.keys ≡ keys }
+        ensures clock { result.clock ≡ clock }
+        ensures start { reached result ≡ start }
+    {
+        Grace {
+            keys,
+            clock,
+            place: 0,
+            class: 0,
+            gate: u64::MAX,
+            turned: false,
+            waiter: PhantomData,
+        }
+    }
 }
 
 /// What a poll answers.

@@ -5,6 +5,7 @@ use key_interval::Keys;
 use seat_table::CitrusTable;
 use std::test::Fail;
 
+mod beside;
 mod notes;
 mod stress;
 mod values;

@@ -1,6 +1,6 @@
 -- The parts on seats read places, sections and how many there were, what views have seen, and the marks. A step leaves places alone; a
 -- section it may leave as it is, or enter or leave one.
-use Rattle.std.proofs.Common.{◌≡◌, ◌≢◌, ℕ, ◌^◌, ◌<◌, ◌≤◌, false, List, [], ◌∷◌, ◌++◌, length, set, Option, Some, None, refl, sym, ap, subst, ◌∙◌, arith, ne_eqb, ◌==◌, inl, inr}
+use Rattle.std.proofs.Common.{◌≡◌, ◌≢◌, ℕ, ◌^◌, ◌<◌, ◌≤◌, false, List, [], ◌∷◌, ◌++◌, length, set, Option, Some, None, refl, sym, ap, subst, ◌∙◌, arith, ne_eqb, ◌==◌, inl, inr, length-append}
 use Rattle.std.proofs.Math.Seq.{take-append_seam}
 use mathlib.Core.Logic.{dite}
 use mathlib.Core.Option.{some, some-injective}
@@ -10,14 +10,15 @@ use Rattle.atomic_table.proofs.Lists.{set_here, set_else}
 use Rattle.prcu_marks.specs.declared.mark.Mark.{Mark}
 use Rattle.prcu_marks.specs.declared.mark.Mark.TheVariants.{Entered, Left}
 use Rattle.prcu_marks.specs.Marks.{Open, open_at, own_of, entered_at, updates_of}
+use Rattle.core_state.specs.declared.view.Meeting.{Meeting}
 use Rattle.core_state.specs.declared.view.Section.{Section}
 use Rattle.core_state.specs.declared.view.View.{View}
-use Rattle.list_laws.specs.Counts.{times}
+use Rattle.list_laws.specs.Counts.{times, Each}
 use Rattle.core_state.specs.Marks.{begun_at}
 use Rattle.core_state.specs.views.Views.{Works, places_of, open_of, IsUnused}
 use Rattle.core_state.specs.steps.Seating.{spent_view}
 use Rattle.core_state.specs.steps.Sections.{entering, leaving, new_section}
-use Rattle.core_state.specs.parts.SeatParts.{IsOwned, SectionStands, IsCounted, SeatParts}
+use Rattle.core_state.specs.parts.SeatParts.{HasMet, IsOwned, SectionStands, IsCounted, SeatParts}
 use Rattle.list_laws.proofs.Lists.{at_below, each_set, each_change, total_same}
 use Rattle.core_frames.proofs.marks.MarkFacts.{begun_at-same}
 use Rattle.core_frames.proofs.views.Same.{SamePlaces, places_same}
@@ -62,14 +63,26 @@ module _ (places : ℕ) (vs : List View) (id : ℕ) (v w : View) (h h' : List Ma
   works_still : Works w
   works_still = subst (λ x. 1 ≤ x) (sym same.places) works
 
+  -- earlier joins are a matter of old marks
+  met_stands : (meeting : Meeting) → HasMet h meeting → HasMet h' meeting
+  met_stands meeting x = record {
+    past = (let e = ap length others.begins.1 in let n = length-append h others.begins.0 in let low = x.past in omega arith);
+    begins = subst (IsPrefix meeting.seen) (sym (cut_at h h' others.begins meeting.until x.past)) x.begins;
+    own = λ p has. ap (own_of p) (cut_at h h' others.begins meeting.until x.past) ∙ x.own p has;
+  }
+
+  joined_stand : Each w.allowance.met (HasMet h')
+  joined_stand i meeting at = met_stands meeting ((t.owned id v there).joined i meeting (subst (λ (xs : List Meeting). get_elem? xs i ≡ some meeting) same.met at))
+
   owned_by : Sees h h' v w → IsOwned h' w
-  owned_by (inl all) = record { met = λ p has. ap (own_of p) all; unused = own_unused }
+  owned_by (inl all) = record { met = λ p has. ap (own_of p) all; unused = own_unused; joined = joined_stand }
     where
       own_unused : (p : ℕ) → IsUnused w p → own_of p h' ≡ []
       own_unused p u = let a = same.place in let b = same.places in let low = u.0 in let high = u.1 in others.own p (λ e. omega arith) ∙ (t.owned id v there).unused p (omega arith, omega arith)
   owned_by (inr none) = record {
     met = λ p has. ap (own_of p) none.1 ∙ (t.owned id v there).met p (subst (λ l. 1 ≤ times p l) (places_same v w same) has) ∙ ap (own_of p) (sym none.0);
     unused = λ p u. (let a = same.place in let b = same.places in let low = u.0 in let high = u.1 in ap (own_of p) none.0 ∙ (t.owned id v there).unused p (omega arith, omega arith));
+    joined = joined_stand;
   }
 
   -- the step says how its own section stands, and that it is the one that is open
@@ -81,6 +94,7 @@ module _ (places : ℕ) (vs : List View) (id : ℕ) (v w : View) (h h' : List Ma
         (λ j u ne e. (let i = t.owned j u e in record {
           met = λ p has. i.met p has ∙ sym (others.own p (far j p u ne e has));
           unused = λ p x. others.own p (far j p u ne e (unused_there u p x)) ∙ i.unused p x;
+          joined = λ n meeting at. met_stands meeting (i.joined n meeting at);
         }));
     within = λ p le. others.own p (λ e. let lt = place_within places vs t.placed id v.allowance.place v there (works_there v works) in absurd (omega arith)) ∙ t.within p le;
     sections = each_set (λ j u. (section : Section) → u.section ≡ Some section → SectionStands h' u section) vs id w own
@@ -138,7 +152,7 @@ module _ (places : ℕ) (vs : List View) (id : ℕ) (v : View) (h : List Mark) (
         key_fits = key_fits;
         sought = refl;
       } in
-      seat_frame_by places vs id v w h (h ++ mark ∷ []) there works (record { place = refl; places = refl; joined = refl }) (others_snoc v.allowance.place h mark own_only) (inl refl)
+      seat_frame_by places vs id v w h (h ++ mark ∷ []) there works (record { place = refl; places = refl; joined = refl; met = refl }) (others_snoc v.allowance.place h mark own_only) (inl refl)
       (record { sections = omega arith; waits = c.waits ∙ sym (begun_at-same v.allowance.place h mark tt) }) t
       (λ s is. (let e : section ≡ s = cc in subst (SectionStands (h ++ mark ∷ []) w) e stands))
       (λ o e. (let now : Some (open_of section) ≡ Some o = sym (open_entered v.allowance.place h v.counts.sections key) ∙ e in let same : open_of section ≡ o = cc in (section, refl, sym same)))
@@ -148,7 +162,7 @@ module _ (places : ℕ) (vs : List View) (id : ℕ) (v : View) (h : List Mark) (
   seats_left section =
       let w : View = leaving v section h in
       let mark : Mark = Left v.allowance.place section.count in
-      seat_frame_by places vs id v w h (h ++ mark ∷ []) there works (record { place = refl; places = refl; joined = refl }) (others_snoc v.allowance.place h mark own_only) (inl refl)
+      seat_frame_by places vs id v w h (h ++ mark ∷ []) there works (record { place = refl; places = refl; joined = refl; met = refl }) (others_snoc v.allowance.place h mark own_only) (inl refl)
       (counted_still h (h ++ mark ∷ []) v w refl (entered_left v.allowance.place h v.allowance.place section.count) (begun_at-same v.allowance.place h mark tt) refl refl (t.counted id v there works)) t
       (λ s none. absurd (let e : None ≡ Some s = none in cc))
       (λ o e. absurd (let q : None ≡ Some o = sym (open_left v.allowance.place h section.count) ∙ e in cc))

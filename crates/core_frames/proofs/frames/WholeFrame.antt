@@ -6,8 +6,11 @@ use lib.ListN.{get_elem?}
 use Rattle.prcu_marks.specs.declared.mark.Mark.{Mark}
 use Rattle.core_state.specs.declared.shape.Shape.{Shape}
 use Rattle.core_state.specs.declared.words.Field.TheVariants.{Clock, Front}
+use Rattle.core_state.specs.declared.view.Latest.{Latest}
+use Rattle.core_state.specs.declared.view.Look.{Look}
 use Rattle.core_state.specs.declared.view.Move.{Move}
 use Rattle.core_state.specs.declared.view.Reading.{Reading}
+use Rattle.core_state.specs.declared.view.Meeting.{Meeting}
 use Rattle.core_state.specs.declared.view.Section.{Section}
 use Rattle.core_state.specs.declared.view.Waiting.{Waiting}
 use Rattle.core_state.specs.declared.view.View.{View}
@@ -20,7 +23,7 @@ use Rattle.core_state.specs.parts.ReaderParts.{ReaderParts}
 use Rattle.core_state.specs.parts.WaiterParts.{WaiterParts}
 use Rattle.core_state.specs.Invariant.{HoldsNow, IsShape}
 use Rattle.core_frames.proofs.marks.MarkFacts.{QuietMarks, quiet_same}
-use Rattle.core_frames.proofs.views.Same.{SameSlots, OwnSlots, own_slots, reader_words, slots_stay, quiet_words}
+use Rattle.core_frames.proofs.views.Same.{SameSlots, OwnSlots, own_slots, reader_words, slots_stay, same_slots, quiet_words}
 use Rattle.core_frames.proofs.frames.MarkFrame.{Sees, mark_frame_by, wait_same}
 use Rattle.core_frames.proofs.frames.SeatFrame.{counted_still, seat_frame_still}
 use Rattle.core_frames.proofs.frames.WaiterFrame.{waiter_frame}
@@ -64,6 +67,7 @@ pub record SeatSide : Type 0 where
   pub place : ℕ
   pub places : ℕ
   pub joined : List Spent
+  pub met : List Meeting
   pub section : Option Section
   pub sections : ℕ
   pub waits : ℕ
@@ -71,7 +75,7 @@ pub record SeatSide : Type 0 where
   pub moving : Option Move
 
 abbrev pub seat_side : View → SeatSide
-seat_side u = record { place = u.allowance.place; places = u.allowance.places; joined = u.allowance.joined; section = u.section; sections = u.counts.sections; waits = u.counts.waits; retired = u.hands.retired; moving = u.moving }
+seat_side u = record { place = u.allowance.place; places = u.allowance.places; joined = u.allowance.joined; met = u.allowance.met; section = u.section; sections = u.counts.sections; waits = u.counts.waits; retired = u.hands.retired; moving = u.moving }
 
 -- The groups that read what views have of slots.
 pub record SlotHalf (k : Shape) (m : Memory) (g : Chart) (vs : List View) (h : List Mark) : Type 0 where
@@ -135,7 +139,7 @@ module _ (k : Shape) (m : Memory) (vs : List View) (h : List Mark) (id : ℕ) (v
       let section : w.section ≡ v.section = (λ n. (same n).section) in
       record {
         marks = mark_frame_by k.places vs id v w h h there (prefix_self h) sees i.marks.marks i.marks stands (λ j u wait ne e s has. has);
-        seats = seat_frame_still k.places vs id v w h h there works (record { place = place; places = λ n. (same n).places; joined = λ n. (same n).joined }) (others_same v.allowance.place h) sees
+        seats = seat_frame_still k.places vs id v w h h there works (record { place = place; places = λ n. (same n).places; joined = λ n. (same n).joined; met = λ n. (same n).met }) (others_same v.allowance.place h) sees
             (counted_still h h v w place refl refl (λ n. (same n).sections) (λ n. (same n).waits) (i.seats.counted id v there works)) i.seats section refl;
         grace = grace_frame vs id v w h h there (λ s is. inr (s, sym section ∙ is, refl, refl)) (quiet_same h) (waits_same h) place (λ n. (same n).joined) (λ n. (same n).retired) (λ n. (same n).moving) i.grace.grace i.grace.reuse i.grace;
       }
@@ -179,3 +183,15 @@ pub waiters_stay : (k : Shape) (m m' : Memory) (vs : List View) (h : List Mark) 
 waiters_stay k m m' vs h id v w i there clock words same =
     waiter_frame k m m' vs id v w h there (record { place = λ n. (same n).place; section = λ n. (same n).section; wait = λ n. (same n).wait }) clock words (λ n. (same n).announced)
     (λ clocked is. (i.waiters.clocked id v there).loaded clocked ((λ n. (sym same n).clock) ∙ is)) i.waiters
+
+-- A view that has seen all marks, with other latest numbers and looks.
+pub all_seen : (k : Shape) (m : Memory) (vs : List View) (h : List Mark) (id : ℕ) (v : View) (i : HoldsNow k m vs h) → get_elem? vs id ≡ some v → Works v → (latest : Latest) (looks : List Look) → HoldsNow k m (set vs id (record v { latest = latest; looks = looks; seen = h })) h
+all_seen k m vs h id v i there works latest looks =
+    let w : View = record v { latest = latest; looks = looks; seen = h } in
+    let slots = same_slots m in
+    whole k m i.chart (set vs id w) h i.table (slot_half k m vs h id v w i there m h slots (quiet_same h) refl (λ one. one))
+    (seat_half k m vs h id v w i there works refl (inl refl) (wait_still k m vs h id v w i there refl refl))
+    (waiters_stay k m m vs h id v w i there refl refl refl)
+    (count_frame k.tickets m m (slot_count k) i.chart vs id v w h h there slots refl refl refl (quiet_same h) i.counts)
+    (front_frame m m vs id v w h h there refl refl (λ e. e) (quiet_same h) i.front)
+    (listing_frame_still m m slots.nodes refl i.chart h h (quiet_same h) vs id v w there refl i.listings)

@@ -1,6 +1,6 @@
 -- Where more marks come at the end of the list: what stood in it stands there still, and what the marks of one place leave of waits and of
 -- other places.
-use Rattle.std.proofs.Common.{zero, suc, ◌≡◌, ◌≢◌, ℕ, ◌+◌, ◌<◌, ◌≤◌, false, cond, List, [], ◌∷◌, ◌++◌, length, take, Option, Some, None, refl, ap, ◌∙◌, ⊎_elim, arith, length-append, subst, sym, ◌-◌, ◌⊎◌}
+use Rattle.std.proofs.Common.{zero, suc, ◌≡◌, ◌≢◌, ℕ, ◌+◌, ◌<◌, ◌≤◌, false, cond, List, [], ◌∷◌, ◌++◌, length, take, Option, Some, None, refl, ap, ◌∙◌, ⊎_elim, arith, length-append, subst, sym}
 use Rattle.std.proofs.lemmas.List.{take-append-le}
 use mathlib.Core.Option.{some, some-injective}
 use lib.ListN.{get_elem?}

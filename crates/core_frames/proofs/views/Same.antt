@@ -115,6 +115,7 @@ pub record SamePlaces (v w : View) : Type 0 where
   pub place : w.allowance.place ≡ v.allowance.place
   pub places : w.allowance.places ≡ v.allowance.places
   pub joined : w.allowance.joined ≡ v.allowance.joined
+  pub met : w.allowance.met ≡ v.allowance.met
 
 pub places_same : (v w : View) → SamePlaces v w → places_of w ≡ places_of v
 places_same v w e = λ i. numbers_from (e.place i) (e.places i) ++ map (λ (s : Spent). s.place) (e.joined i)

@@ -205,7 +205,7 @@ module _ (z : CopyStep) where
     w = w;
     hs = hs;
     changes = changes (copy_link z);
-    same = record { places = record { place = refl; places = refl; joined = refl }; section = refl; enter = refl; wait = refl; sections = refl; waits = refl; seen = refl };
+    same = record { places = record { place = refl; places = refl; joined = refl; met = refl }; section = refl; enter = refl; wait = refl; sections = refl; waits = refl; seen = refl };
     outside = outside z;
     records = refl;
     plain = delete_plain h (update_of z) z.d;

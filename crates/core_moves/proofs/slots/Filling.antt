@@ -128,7 +128,7 @@ module _ (k : Shape) (m : Memory) (vs : List View) (h : List Mark) (id : ℕ) (v
       w = let noted = noting v z.s z.field z.number true in record noted { hands = record noted.hands { hand = hand } }
 
       view : SameOutside v w
-      view = record { places = record { place = refl; places = refl; joined = refl }; section = refl; enter = refl; records = refl; moving = note_moving-else s known v.moving copy_apart; commit = refl; wait = refl; sections = refl; waits = refl }
+      view = record { places = record { place = refl; places = refl; joined = refl; met = refl }; section = refl; enter = refl; records = refl; moving = note_moving-else s known v.moving copy_apart; commit = refl; wait = refl; sections = refl; waits = refl }
 
       abbrev step : OffStep
       step = record {

@@ -132,7 +132,7 @@ module _ (who : Stepper) (move : Move) (lock : HeldLock) (child : ℕ) (b : Side
     said = λ key from o y. subst (λ us. WasSaid us key from o) (sym same_updates) y;
     now = unlinked_snoc h u;
     reuse = reuse_unlinked h u i.grace.reuse;
-    same = record { places = record { place = refl; places = refl; joined = refl }; section = refl; enter = refl; wait = refl; sections = refl; waits = refl; seen = refl };
+    same = record { places = record { place = refl; places = refl; joined = refl; met = refl }; section = refl; enter = refl; wait = refl; sections = refl; waits = refl; seen = refl };
     locks = refl;
     hand = refl;
     spare = refl;

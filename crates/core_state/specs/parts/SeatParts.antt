@@ -2,9 +2,11 @@
 -- Source: docs/TREE.md, "The invariant of the tree".
 use Rattle.std.specs.Prelude.{◌≡◌, ℕ, ◌^◌, ◌<◌, ◌≤◌, nat_lt, if◌then◌else◌, List, [], length, take, Some}
 use mathlib.Core.Option.{some}
+use mathlib.Core.List.{IsPrefix}
 use lib.ListN.{get_elem?}
 use Rattle.prcu_marks.specs.declared.mark.Mark.{Mark}
 use Rattle.prcu_marks.specs.Marks.{Open, open_at, own_of, entered_at, updates_of}
+use Rattle.core_state.specs.declared.view.Meeting.{Meeting}
 use Rattle.core_state.specs.declared.view.Section.{Section}
 use Rattle.core_state.specs.declared.view.View.{View}
 use Rattle.list_laws.specs.Counts.{times, total, Each}
@@ -16,10 +18,17 @@ use Rattle.core_state.specs.steps.Seating.{spent_view}
 abbrev pub ArePlaced : ℕ → List View → Type 0
 ArePlaced places vs = (p : ℕ) → total (λ v. times p (places_of v)) vs ≡ (if nat_lt p places then 1 else 0)
 
+-- When two seats were joined, the marks of the places of each were among those that it had seen itself.
+pub record HasMet (h : List Mark) (meeting : Meeting) : Type 0 where
+  pub past : meeting.until ≤ length h
+  pub begins : IsPrefix meeting.seen (take meeting.until h)
+  pub own : (p : ℕ) → 1 ≤ times p meeting.places → own_of p (take meeting.until h) ≡ own_of p meeting.seen
+
 -- The marks of a place are all seen by the view that answers for it, and its unused places have none.
 pub record IsOwned (h : List Mark) (v : View) : Type 0 where
   pub met : (p : ℕ) → 1 ≤ times p (places_of v) → own_of p v.seen ≡ own_of p h
   pub unused : (p : ℕ) → IsUnused v p → own_of p h ≡ []
+  pub joined : Each v.allowance.met (HasMet h)
 
 -- A view's section is the open one of its place, and it knows how many updates there were when it was entered.
 pub record SectionStands (h : List Mark) (v : View) (section : Section) : Type 0 where

@@ -1,6 +1,7 @@
 -- The steps in a section: K17, K37, and the load of a listing.
 -- Source: docs/TREE.md, "The steps of the tree".
-use Rattle.std.specs.Prelude.{◌≡◌, ℕ, ◌==◌, ◌&&◌, ◌⊎◌, not, false, if◌then◌else◌, [], ◌∷◌, ◌++◌, Option, Some, None}
+use Rattle.std.specs.Prelude.{◌≡◌, ℕ, ◌==◌, ◌&&◌, ◌⊎◌, not, false, if◌then◌else◌, List, [], ◌∷◌, ◌++◌, Option, Some, None}
+use Rattle.prcu_marks.specs.declared.mark.Mark.{Mark}
 use Rattle.prcu_marks.specs.declared.mark.Side.{Side}
 use Rattle.prcu_marks.specs.declared.mark.Side.TheVariants.{Left, Right}
 use Rattle.core_state.specs.declared.words.Field.{Field}
@@ -59,7 +60,8 @@ pub record NeedsSearchLoad (v : View) (section : Section) (slot : ℕ) (field : 
 abbrev pub after_search_load : View → Section → Field → ℕ → View
 after_search_load v section field found = record v { section = Some (record section { reading = loaded section.reading field found }) }
 
--- K37: the front is loaded in a section in which nothing was loaded by K17. From then on the section is a listing.
+-- K37: the front is loaded in a section in which nothing was loaded by K17. From then on the section is a listing. Who looks at the front has
+-- seen all marks: what a listing found is so after just these updates.
 pub record NeedsFrontLook (v : View) (section : Section) : Type 0 where
   pub section_is : v.section ≡ Some section
   pub first : section.reading.loads ≡ []
@@ -74,11 +76,12 @@ abbrev pub looked : ℕ → Option Listing → Option Listing
 looked found None = Some (new_listing found)
 looked found (Some listing) = Some listing
 
-abbrev pub after_front_look : View → Section → ℕ → View
-after_front_look v section found = record v {
+abbrev pub after_front_look : View → Section → ℕ → List Mark → View
+after_front_look v section found h = record v {
   section = Some (record section { listing = looked found section.listing });
   latest = record v.latest { front = Some found };
   looks = v.looks ++ record { place = v.allowance.place; section = section.count; front = found } ∷ [];
+  seen = h;
 }
 
 -- the bounds past a slot with this key, on a side

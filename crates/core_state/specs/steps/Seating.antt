@@ -1,16 +1,17 @@
 -- The steps of seats: K1 and K2, a split and a join.
 -- Source: docs/TREE.md, "The steps of the tree".
-use Rattle.std.specs.Prelude.{◌≡◌, ℕ, ◌+◌, ◌-◌, ◌<◌, ◌≤◌, nat_lt, false, if◌then◌else◌, List, [], ◌∷◌, ◌++◌, length, map, Option, Some, None}
+use Rattle.std.specs.Prelude.{◌≡◌, ℕ, ◌+◌, ◌-◌, ◌<◌, ◌≤◌, false, List, [], ◌∷◌, ◌++◌, length, map, Option, Some, None}
 use mathlib.Core.List.{IsPrefix}
 use Rattle.prcu_marks.specs.declared.mark.Mark.{Mark}
 use Rattle.prcu_marks.specs.Marks.{longer}
 use Rattle.core_state.specs.declared.words.Kind.{Kind}
 use Rattle.core_state.specs.declared.words.Field.{Field}
 use Rattle.core_state.specs.declared.view.Held.{Held}
+use Rattle.core_state.specs.declared.view.Meeting.{Meeting}
 use Rattle.core_state.specs.declared.view.Spent.{Spent}
 use Rattle.core_state.specs.declared.view.View.{View}
 use Rattle.list_laws.specs.Counts.{numbers_from}
-use Rattle.core_state.specs.views.Views.{IsQuiet}
+use Rattle.core_state.specs.views.Views.{IsQuiet, places_of}
 
 -- the view after a step is `after` of the whole list of marks before it, of which the view had seen a beginning
 abbrev pub Goes : View → (List Mark → View) → View → Type 0
@@ -27,7 +28,7 @@ unknown_slot s = record { slot = s; known = []; raised = false }
 -- a view that works at a place for the first time
 abbrev pub new_view : ℕ → ℕ → ℕ → List Mark → View
 new_view place places tickets seen = record {
-  allowance = record { place = place; places = places; tickets = tickets; joined = [] };
+  allowance = record { place = place; places = places; tickets = tickets; joined = []; met = [] };
   enter = record { clock = None; announced = None; gates = [] };
   section = None;
   records = [];
@@ -71,9 +72,13 @@ unused_spent p = record { place = p; spare = Some (p + 1); retired = [] }
 abbrev pub spent_places : View → List Spent
 spent_places v = record { place = v.allowance.place; spare = spare_slot v.hands.spare; retired = v.hands.retired } ∷ (map unused_spent (numbers_from (v.allowance.place + 1) (v.allowance.places - 1)) ++ v.allowance.joined)
 
+-- what a view had seen when it was joined with another, after which both have seen these marks
+abbrev pub meeting_of : View → List Mark → Meeting
+meeting_of v seen = record { places = places_of v; seen = v.seen; until = length seen }
+
 abbrev pub both_of : View → View → View
 both_of v other = record v {
-  allowance = record v.allowance { tickets = v.allowance.tickets + other.allowance.tickets; joined = v.allowance.joined ++ spent_places other };
+  allowance = record v.allowance { tickets = v.allowance.tickets + other.allowance.tickets; joined = v.allowance.joined ++ spent_places other; met = meeting_of v (longer v.seen other.seen) ∷ (meeting_of other (longer v.seen other.seen) ∷ []) };
   counts = record v.counts { turns = v.counts.turns + other.counts.turns };
   looks = v.looks ++ other.looks;
   trail = record v.trail { joined = v.trail.joined ++ (other.trail.joined ++ other.trail.steps) };

@@ -96,7 +96,7 @@ pub data IsStep (k : Shape) (h : List Mark) (v : View) : Kind → Field → ℕ 
   step17 : {n slot : ℕ} {field : Field} {section : Section} → NeedsSearchLoad v section slot field → IsStep k h v K17 field n n (after_search_load v section field n) []
   step17_list : {n slot : ℕ} {field : Field} {section : Section} {listing : Listing} → NeedsListLoad v section listing slot field
       → IsStep k h v K17 field n n (after_list_load v section listing slot field n) []
-  step37 : {n : ℕ} {section : Section} → NeedsFrontLook v section → IsStep k h v K37 Front n n (after_front_look v section n) []
+  step37 : {n : ℕ} {section : Section} → NeedsFrontLook v section → IsStep k h v K37 Front n n (after_front_look v section n h) []
   -- an update, and the mark of a node
   step20 : {n slot leaf value generation tag : ℕ} {commit : Commit} {b : Side} (r : Reading) (lock : HeldLock) (held : Held)
       → NeedsLeafLink v commit r lock held slot b leaf value generation tag

@@ -89,7 +89,7 @@ module _ (who : Stepper) (commit : Commit) (r : Reading) (p : ℕ) (b : Side) (d
     said = delete_said h v.allowance.place r.key d;
     now = delete_now h update d;
     reuse = delete_reuse h update d i.grace.reuse;
-    same = record { places = record { place = refl; places = refl; joined = refl }; section = refl; enter = refl; wait = refl; sections = refl; waits = refl; seen = refl };
+    same = record { places = record { place = refl; places = refl; joined = refl; met = refl }; section = refl; enter = refl; wait = refl; sections = refl; waits = refl; seen = refl };
     locks = refl;
     hand = refl;
     spare = refl;

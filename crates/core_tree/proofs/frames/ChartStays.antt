@@ -48,7 +48,7 @@ pub record SameOutside (v w : View) : Type 0 where
 
 -- a view with other locks and hands that has seen more
 pub same_but : (v : View) (locks : List HeldLock) (hands : Hands) (seen : List Mark) → SameOutside v (record v { locks = locks; hands = hands; seen = seen })
-same_but v locks hands seen = record { places = record { place = refl; places = refl; joined = refl }; section = refl; enter = refl; records = refl; moving = refl; commit = refl; wait = refl; sections = refl; waits = refl }
+same_but v locks hands seen = record { places = record { place = refl; places = refl; joined = refl; met = refl }; section = refl; enter = refl; records = refl; moving = refl; commit = refl; wait = refl; sections = refl; waits = refl }
 
 -- Such a step, for the slots that P holds of. It need not leave their lives, nor tags; it says what records make of these.
 pub record ChartStep (P : ℕ → Type 0) : Type 0 where

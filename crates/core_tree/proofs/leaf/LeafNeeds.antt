@@ -218,7 +218,7 @@ module _ (z : LeafLink) where
     w = w;
     hs = hs;
     changes = changes m new n g slot b leaf i.tree.shape (links z);
-    same = record { places = record { place = refl; places = refl; joined = refl }; section = refl; enter = refl; wait = refl; sections = refl; waits = refl; seen = refl };
+    same = record { places = record { place = refl; places = refl; joined = refl; met = refl }; section = refl; enter = refl; wait = refl; sections = refl; waits = refl; seen = refl };
     outside = outside z;
     records = refl;
     plain = put_plain h v.allowance.place r.key value;

@@ -80,7 +80,7 @@ module _ (k : Shape) (m : Memory) (vs : List View) (h : List Mark) (id : ℕ) (v
   seats = let t = i.seats in record {
     placed = λ p. total_same (λ (u : View). times p (places_of u)) vs id v w there refl ∙ t.placed p;
     spent = each_change (λ (u : View). u.allowance.places ≡ 0 → u ≡ spent_view) (λ (u : View). u.allowance.places ≡ 0 → u ≡ spent_view) vs id v w there (λ _ none. absurd (omega arith)) (λ u x. x) t.spent;
-    owned = each_change (IsOwned h) (IsOwned h) vs id v w there (λ x. record { met = x.met; unused = x.unused }) (λ u x. x) t.owned;
+    owned = each_change (IsOwned h) (IsOwned h) vs id v w there (λ x. record { met = x.met; unused = x.unused; joined = x.joined }) (λ u x. x) t.owned;
     within = t.within;
     sections = each_set (λ j u. (s : Section) → u.section ≡ Some s → SectionStands h u s) vs id w
         (λ s is. (let x = t.sections id v there section inside in subst (SectionStands h w) (is_new s is) (record {

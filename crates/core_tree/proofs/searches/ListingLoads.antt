@@ -33,7 +33,7 @@ use Rattle.core_tree.proofs.searches.InSection.{in_section}
 use Rattle.core_frames.proofs.views.Fields.{stored_same}
 use Rattle.core_frames.proofs.First.{each_none}
 use Rattle.core_frames.proofs.Keeping.{past_kept}
-use Rattle.core_frames.proofs.frames.WholeFrame.{quiet_law, waiters_stay}
+use Rattle.core_frames.proofs.frames.WholeFrame.{all_seen}
 
 module _ (k : Shape) (m : Memory) (vs : List View) (h : List Mark) (id : ℕ) (v : View) (i : HoldsNow k m vs h) (there : get_elem? vs id ≡ some v) (works : Works v) (section : Section) (needs : NeedsFrontLook v section) where
   abbrev new : Section
@@ -86,20 +86,18 @@ module _ (k : Shape) (m : Memory) (vs : List View) (h : List Mark) (id : ℕ) (v
       (i.locks.readings id v there 0 section.reading first_reading) (i.readers.readings id v there 0 section.reading first_reading) served (listing_is section.listing refl)
 
   abbrev looked_view : View
-  looked_view = after_front_look v section (m Front)
+  looked_view = after_front_look v section (m Front) h
 
   pub front_looked : HoldsNow k m (set vs id looked_view) h
-  front_looked = subst (λ us. HoldsNow k m us h) (set_twice vs id listing_view looked_view)
-      (quiet_law k m m (set vs id listing_view) h id listing_view looked_view listed (set_here vs id listing_view (at_below vs id v there)) works refl refl
-      (waiters_stay k m m (set vs id listing_view) h id listing_view looked_view listed (set_here vs id listing_view (at_below vs id v there)) refl refl refl))
+  front_looked = subst (λ us. HoldsNow k m us h) (set_twice vs id listing_view looked_view) (all_seen k m (set vs id listing_view) h id listing_view listed (set_here vs id listing_view (at_below vs id v there)) works looked_view.latest looked_view.looks)
 
 pub keeps37 : Keeps K37
 keeps37 k m vs h id v w field left marks i there works is_field step = cases field (m field) left marks w step refl
   where
     cases : (field : Field) (n left : ℕ) (marks : List Mark) (w : View) → IsStep k h v K37 field n left w marks → m field ≡ n → IsKept k m h (stored m field left) (set vs id w) (h ++ marks)
     cases field n left marks w (step37 {section = section} needs) e =
-        subst (λ z. IsKept k m h (stored m Front z) (set vs id (after_front_look v section z)) (h ++ [])) e
-        (subst (IsKept k m h (stored m Front (m Front)) (set vs id (after_front_look v section (m Front)))) (sym (append-nil h)) (record {
-          invariant = subst (λ z. HoldsNow k z (set vs id (after_front_look v section (m Front))) h) (sym (stored_same m Front)) (front_looked k m vs h id v i there works section needs);
+        subst (λ z. IsKept k m h (stored m Front z) (set vs id (after_front_look v section z h)) (h ++ [])) e
+        (subst (IsKept k m h (stored m Front (m Front)) (set vs id (after_front_look v section (m Front) h))) (sym (append-nil h)) (record {
+          invariant = subst (λ z. HoldsNow k z (set vs id (after_front_look v section (m Front) h)) h) (sym (stored_same m Front)) (front_looked k m vs h id v i there works section needs);
           past = subst (KeepsPast m h) (sym (stored_same m Front)) (past_kept m m h (same_slots m));
         }))

@@ -149,7 +149,7 @@ module _ (k : Shape) (m : Memory) (vs : List View) (h : List Mark) (i : HoldsNow
   one_longer = ap length more_updates ∙ length-append (updates_of h) (update ∷ [])
 
   same : SameForMore v w h'
-  same = record { places = record { place = refl; places = refl; joined = refl }; section = refl; enter = refl; wait = refl; sections = refl; waits = refl; seen = refl }
+  same = record { places = record { place = refl; places = refl; joined = refl; met = refl }; section = refl; enter = refl; wait = refl; sections = refl; waits = refl; seen = refl }
 
   -- the dictionary
   present : map_now h (m (Key d)) ≡ Some (m (Value d))
@@ -261,7 +261,7 @@ module _ (k : Shape) (m : Memory) (vs : List View) (h : List Mark) (i : HoldsNow
     waiters = waiter_frame_plain h h' v.allowance.place plain k m m' vs id v w there same refl refl (clocked_before k m vs h i) i.waiters;
     slots = slots_stored k m vs h i id v w there (Value d) value d stores true d_linked h'
         (record {
-          places = record { place = refl; places = refl; joined = refl };
+          places = record { place = refl; places = refl; joined = refl; met = refl };
           hand = refl;
           spare = refl;
           reserved = refl;
@@ -302,7 +302,7 @@ module _ (k : Shape) (m : Memory) (vs : List View) (h : List Mark) (i : HoldsNow
     listings = listings_after m m' g g vs id w h h' outside (stores.within.beside Front tt) stores.key
         (λ j z section s e is y. ⊎_elim (λ (l : g.linked s ≡ true). inl l) (λ q. inr (held section.entered s q)) y)
         (λ j z section listing e is even same lists. absurd (odd_front m m vs id v w there h h' refl i.front commit needs.has_commit (subst IsEven (sym same) even))) i.listings;
-    grace = grace_same v.allowance.place h h' plain vs id v w there refl (record { place = refl; places = refl; joined = refl }) moving_none (reuse_done h update i.grace.reuse) (gone_done h update) (last_done h update) refl i.grace;
+    grace = grace_same v.allowance.place h h' plain vs id v w there refl (record { place = refl; places = refl; joined = refl; met = refl }) moving_none (reuse_done h update i.grace.reuse) (gone_done h update) (last_done h update) refl i.grace;
   }
 
   pub stored_kept : IsKept k m h m' (set vs id w) h'

@@ -1,12 +1,14 @@
 -- K2: two seats are joined.
-use Rattle.std.proofs.Common.{◌≡◌, ◌≢◌, ℕ, zero, suc, ◌+◌, ◌-◌, ◌<◌, ◌≤◌, ◌⊎◌, cond, List, [], ◌∷◌, ◌++◌, length, map, set, Option, Some, None, refl, sym, ap, subst, ◌∙◌, ⊎_elim, inl, inr, arith, append-nil, append_assoc, length-append}
-use Rattle.std.proofs.lemmas.List.{nil_from_length}
+use Rattle.std.proofs.Common.{◌≡◌, ◌≢◌, ℕ, zero, suc, ◌+◌, ◌-◌, ◌≤◌, ◌⊎◌, List, [], ◌∷◌, ◌++◌, length, map, set, Option, Some, None, refl, sym, ap, subst, ◌∙◌, ⊎_elim, inl, inr, arith, append_assoc, length-append, take}
 use mathlib.Core.Logic.{dite}
 use mathlib.Core.Option.{some, some-injective, some-ne-none}
 use mathlib.Core.List.{IsPrefix}
 use native.Mathlib.Decide.{dec_le, ℕ_discrete}
 use lib.ListN.{get_elem?}
 use Rattle.atomic_table.proofs.Lists.{at_set, set_here, set_else}
+use Rattle.std.proofs.Math.Seq.{take-append_seam}
+use Rattle.prcu_marks.specs.Marks.{own_of}
+use Rattle.core_state.specs.parts.SeatParts.{HasMet}
 use Rattle.prcu_marks.specs.declared.mark.Mark.{Mark}
 use Rattle.prcu_marks.proofs.MarkLists.{own_of-between}
 use Rattle.prcu_marks.proofs.Seen.{longer_begins, longer_first, longer_second, longer_whole_first, longer_whole_second}
@@ -19,7 +21,7 @@ use Rattle.list_laws.specs.Counts.{times, numbers_from, total, IsIn, Each}
 use Rattle.core_state.specs.memory.Lists.{flag, has}
 use Rattle.core_state.specs.memory.Memory.{Memory}
 use Rattle.core_state.specs.views.Views.{Works, places_of, held_list, slot_list, joined_spares, spares_of, joined_retired, retired_of, slots_of, unraised_hand, unraised_among, unraised_of, emptied_among}
-use Rattle.core_state.specs.steps.Seating.{NeedsJoin, spare_slot, unused_spent, spent_places, both_of, spent_view}
+use Rattle.core_state.specs.steps.Seating.{NeedsJoin, meeting_of, spare_slot, unused_spent, spent_places, both_of, spent_view}
 use Rattle.core_state.specs.parts.SeatParts.{IsOwned, IsCounted}
 use Rattle.core_state.specs.parts.WaiterParts.{inside_count}
 use Rattle.core_state.specs.parts.SlotParts.{HasSpareToCome, HasFewSlots, IsRetired, IsRetiredOf, AreHandsKnown}
@@ -37,7 +39,7 @@ each_append : {A : Type 0} (P : A → Type 0) (xs ys : List A) → Each xs P →
 each_append P xs ys first second j a e = ⊎_elim (λ (x : IsIn xs a). first x.0 a x.1) (λ (y : IsIn ys a). second y.0 a y.1) (in_append xs ys a (j, e))
 
 -- places that stay behind
-spent_places_append : (p : ℕ) (xs ys : List Spent) → times p (map (λ (s : Spent). s.place) (xs ++ ys)) ≡ times p (map (λ (s : Spent). s.place) xs) + times p (map (λ (s : Spent). s.place) ys)
+pub spent_places_append : (p : ℕ) (xs ys : List Spent) → times p (map (λ (s : Spent). s.place) (xs ++ ys)) ≡ times p (map (λ (s : Spent). s.place) xs) + times p (map (λ (s : Spent). s.place) ys)
 spent_places_append p [] ys = omega arith
 spent_places_append p (x ∷ xs) ys = let r = spent_places_append p xs ys in omega arith
 
@@ -76,7 +78,7 @@ spare_list None = refl
 spare_list (Some held) = refl
 
 -- what a view leaves behind is what it had
-spent_places_are : (u : View) → Works u → (p : ℕ) → times p (map (λ (s : Spent). s.place) (spent_places u)) ≡ times p (places_of u)
+pub spent_places_are : (u : View) → Works u → (p : ℕ) → times p (map (λ (s : Spent). s.place) (spent_places u)) ≡ times p (places_of u)
 spent_places_are u works p =
     let a = spent_places_append p (map unused_spent (numbers_from (u.allowance.place + 1) (u.allowance.places - 1))) u.allowance.joined in
     let b = unused_places p (u.allowance.place + 1) (u.allowance.places - 1) in
@@ -288,12 +290,28 @@ module _ (k : Shape) (m : Memory) (vs : List View) (h : List Mark) (i : HoldsNow
             (λ has_mine. let met = mine.met p has_mine in own_of-between p v.seen both.seen h longer_mine both_seen met ∙ met)
             (λ not_mine. let met = theirs.met p (let a = places_two p in omega arith) in own_of-between p other.seen both.seen h longer_theirs both_seen met ∙ met);
         unused = mine.unused;
+        joined = met_both;
       }
+    where
+      met_of : (u : View) → IsOwned h u → IsPrefix u.seen h → IsPrefix u.seen both.seen → HasMet h (meeting_of u both.seen)
+      met_of u owned begins grows =
+          let cut : take (length both.seen) h ≡ both.seen = subst (λ z. take (length both.seen) z ≡ both.seen) both_seen.1 (take-append_seam both.seen both_seen.0) in
+          record {
+            past = (let e = ap length both_seen.1 in let n = length-append both.seen both_seen.0 in omega arith);
+            begins = subst (IsPrefix u.seen) (sym cut) grows;
+            own = λ p has. ap (own_of p) cut ∙ own_of-between p u.seen both.seen h grows both_seen (owned.met p has);
+          }
+
+      met_both : Each both.allowance.met (HasMet h)
+      met_both zero meeting at = subst (HasMet h) (some-injective (meeting_of v both.seen) meeting at) (met_of v (i.seats.owned id v there) mine_seen longer_mine)
+      met_both (suc zero) meeting at = subst (HasMet h) (some-injective (meeting_of other both.seen) meeting at) (met_of other (i.seats.owned j other there_other) theirs_seen longer_theirs)
+      met_both (suc (suc n)) meeting at = absurd (some-ne-none meeting (sym at))
 
   owned_spent : IsOwned h spent_view
   owned_spent = record {
     met = λ p some_time. absurd (let c : times p (places_of spent_view) ≡ 0 = refl in omega arith);
     unused = λ p x. absurd (let low = x.0 in let high = x.1 in omega arith);
+    joined = λ n meeting at. absurd (some-ne-none meeting (sym at));
   }
 
   counted_both : Works both → IsCounted h both

@@ -181,12 +181,14 @@ module _ (k : Shape) (m : Memory) (vs : List View) (h : List Mark) (i : HoldsNow
   owned_first = let o = i.seats.owned id v there in record {
     met = λ p has. o.met p (let a = places_two p in omega arith);
     unused = λ p x. o.unused p (let low = x.0 in let high = x.1 in (low, omega arith));
+    joined = o.joined;
   }
 
   owned_second : IsOwned h second
   owned_second = let o = i.seats.owned id v there in record {
     met = λ p has. o.met p (let a = places_two p in omega arith);
     unused = λ p x. second_unused p (let low = x.0 in omega arith) x.1;
+    joined = λ n meeting at. absurd (some-ne-none meeting (sym at));
   }
 
   counted_first : Works first → IsCounted h first

@@ -142,7 +142,7 @@ module _ (k : Shape) (m : Memory) (vs : List View) (h : List Mark) (id : ℕ) (v
 
   seats_end : SeatParts k.places (set vs id w) h'
   seats_end =
-      seat_frame_still k.places vs id v w h h' there works (record { place = refl; places = refl; joined = refl }) (others_snoc v.allowance.place h mark (λ p ne. ne_eqb v.allowance.place p (λ e. ne (sym e)))) (inl refl)
+      seat_frame_still k.places vs id v w h h' there works (record { place = refl; places = refl; joined = refl; met = refl }) (others_snoc v.allowance.place h mark (λ p ne. ne_eqb v.allowance.place p (λ e. ne (sym e)))) (inl refl)
       (counted_still h h' v w refl entries begins refl refl (i.seats.counted id v there works)) i.seats refl (open_at-snoc v.allowance.place h mark)
     where
       entries : entered_at v.allowance.place h' ≡ entered_at v.allowance.place h

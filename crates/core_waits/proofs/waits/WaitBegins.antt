@@ -111,7 +111,7 @@ module _ (k : Shape) (m : Memory) (vs : List View) (h : List Mark) (id : ℕ) (v
         marks = mark_frame_by k.places vs id v w h hs there (prefix_snoc h mark) (inl refl)
             (marks_snoc k.places h mark (place_within k.places vs i.seats.placed id v.allowance.place v there (works_there v works), counted, needs.some, needs.high_fits) i.marks.marks) i.marks
             (λ x is. of_wait (WaitStands hs w) w.wait wait x refl stands is) (λ j u x ne e s has. (has.0, waits.ended has.0 u.allowance.place x.count has.1));
-        seats = seat_frame_still k.places vs id v w h hs there works (record { place = refl; places = refl; joined = refl }) (others_snoc v.allowance.place h mark (λ p ne. ne_eqb v.allowance.place p (λ e. ne (sym e)))) (inl refl)
+        seats = seat_frame_still k.places vs id v w h hs there works (record { place = refl; places = refl; joined = refl; met = refl }) (others_snoc v.allowance.place h mark (λ p ne. ne_eqb v.allowance.place p (λ e. ne (sym e)))) (inl refl)
             (record { sections = c.sections ∙ sym (entered_more v.allowance.place); waits = omega arith }) i.seats refl (open_at-snoc v.allowance.place h mark);
         grace = grace_frame vs id v w h hs there (λ s is. inr (s, is, refl, refl)) quiet waits refl refl refl refl (grace_longer h hs (prefix_snoc h mark) waits i.grace.grace) (reuse_snoc h mark tt i.grace.reuse) i.grace;
       }

@@ -2,7 +2,7 @@ use Rattle.std.proofs.Common.{◌%◌, refl, sym, subst}
 use Rattle.seat_table.specs.declared.wait.Grace.{Grace}
 use Rattle.seat_table.specs.Seats.{shape_of}
 use Rattle.seat_table.proofs.Waiting.{polls_end}
-use Rattle.d_wait.specs.Classes.{IsLastClass}
+use Rattle.key_interval.specs.LastClass.{IsLastClass}
 use Rattle.d_wait.specs.declared.domain.Domain.{Domain}
 use Rattle.d_wait.proofs.Polling.{comes_to, stops_further, stops_here}
 use Rattle.d_wait.proofs.Sides.{ends}

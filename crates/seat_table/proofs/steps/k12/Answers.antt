@@ -16,7 +16,7 @@ invariant_of-seat g c =
     let needs : Needs k v (K12 c.args.slot c.args.field c.args.value) = subst (λ (z : SeatAt). Needs k z.view (K12 c.args.slot c.args.field c.args.value)) (sym c.seat.view_is) c.requires.needs in
     let made : makes_spare v c.args.slot c.args.field ≡ true = subst (λ (z : SeatAt). makes_spare z.view c.args.slot c.args.field ≡ true) (sym c.seat.view_is) (sym c.makes_spare.ensures ∙ c.if-makes_spare.true) in
     numbers_still g.W.WaitWords.WAY _ _ c.seat.inside.seat.me c.store.new.seat.me _ _ _ _ _ _ _ _ _ _ _ _ _ _ _ (Some c.args.slot) c.seat.invariant c.store.ensures.seat.1
-    (kept_rest k v w c.args.slot c.args.field c.args.value needs told made) told.3 (search rules)
+    (kept_rest k v w c.args.slot c.args.field c.args.value needs told made) told.3 (search rules) (search rules)
     (kept_hand k v w c.args.slot c.args.field c.args.value needs told made _ (search rules))
     (kept_spare k v w c.args.slot c.args.field c.args.value needs told made)
 
@@ -29,6 +29,6 @@ invariant_of-seat-2 g c =
     let needs : Needs k v (K12 c.args.slot c.args.field c.args.value) = subst (λ (z : SeatAt). Needs k z.view (K12 c.args.slot c.args.field c.args.value)) (sym c.seat.view_is) c.requires.needs in
     let made : makes_spare v c.args.slot c.args.field ≡ false = subst (λ (z : SeatAt). makes_spare z.view c.args.slot c.args.field ≡ false) (sym c.seat.view_is) (sym c.makes_spare.ensures ∙ c.if-makes_spare.false) in
     numbers_still g.W.WaitWords.WAY _ _ c.seat.inside.seat.me c.store-2.new.seat.me _ _ _ _ _ _ _ _ _ _ _ _ _ _ _ _ c.seat.invariant c.store-2.ensures.seat.1
-    (store_rest k v w c.args.slot c.args.field c.args.value needs told made) told.3 (search rules)
+    (store_rest k v w c.args.slot c.args.field c.args.value needs told made) told.3 (search rules) (search rules)
     (store_hand k v w c.args.slot c.args.field c.args.value needs told made _ (search rules))
     (store_spare k v w c.args.slot c.args.field c.args.value needs told made _ (search rules))

@@ -16,7 +16,7 @@ invariant_of-seat g c =
     let needs : Needs k v (K15 c.args.slot) = subst (λ (z : SeatAt). Needs k z.view (K15 c.args.slot)) (sym c.seat.view_is) c.requires.needs in
     let holds : is_in_hand v.hands.hand c.args.slot ≡ true = subst (λ (z : SeatAt). is_in_hand z.view.hands.hand c.args.slot ≡ true) (sym c.seat.view_is) (sym c.holds.ensures ∙ c.if-holds.true) in
     numbers_still g.W.WaitWords.WAY _ _ c.seat.inside.seat.me c.store.new.seat.me _ _ _ _ _ _ _ _ _ _ _ _ _ _ None _ c.seat.invariant c.store.ensures.seat.1
-    (free_rest k v w c.args.slot needs told) told.3 (search rules)
+    (free_rest k v w c.args.slot needs told) told.3 (search rules) (search rules)
     (free_hand k v w c.args.slot needs told holds)
     (free_spare k v w c.args.slot needs told _ (search rules))
 
@@ -29,6 +29,6 @@ invariant_of-seat-2 g c =
     let needs : Needs k v (K15 c.args.slot) = subst (λ (z : SeatAt). Needs k z.view (K15 c.args.slot)) (sym c.seat.view_is) c.requires.needs in
     let other : is_in_hand v.hands.hand c.args.slot ≡ false = subst (λ (z : SeatAt). is_in_hand z.view.hands.hand c.args.slot ≡ false) (sym c.seat.view_is) (sym c.holds.ensures ∙ c.if-holds.false) in
     numbers_still g.W.WaitWords.WAY _ _ c.seat.inside.seat.me c.store-2.new.seat.me _ _ _ _ _ _ _ _ _ _ _ _ _ _ _ _ c.seat.invariant c.store-2.ensures.seat.1
-    (free_rest k v w c.args.slot needs told) told.3 (search rules)
+    (free_rest k v w c.args.slot needs told) told.3 (search rules) (search rules)
     (free_other k v w c.args.slot needs told _ (search rules) other)
     (free_spare k v w c.args.slot needs told _ (search rules))

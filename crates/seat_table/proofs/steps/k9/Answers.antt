@@ -17,6 +17,6 @@ invariant_of-seat-else-keep g c =
     let told : Told k v (K9 c.args.slot false) c.load-found.result w = subst (λ b. Told k v (K9 c.args.slot b) c.load-found.result w) no c.load-found.ensures.told in
     let needs : Needs k v (K9 c.args.slot false) = subst (λ b. Needs k v (K9 c.args.slot b)) no (subst (λ (z : SeatAt). Needs k z.view (K9 c.args.slot c.args.keep)) (sym c.seat.view_is) c.requires.needs) in
     numbers_still g.W.WaitWords.WAY _ _ c.seat.inside.seat.me c.load-found.new.seat.me _ _ _ _ _ _ _ _ _ _ _ _ _ _ _ _ c.seat.invariant c.load-found.ensures.seat.1
-    (life_rest k v w c.args.slot _ needs told) told.3 (search rules)
+    (life_rest k v w c.args.slot _ needs told) told.3 (search rules) (search rules)
     (life_hand k v w c.args.slot _ needs told _ (search rules))
     (life_spare k v w c.args.slot _ needs told _ (search rules))

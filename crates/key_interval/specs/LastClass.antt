@@ -1,5 +1,5 @@
--- The rows of stamps that a wait of the third waiter goes over.
--- Source: docs/TREE.md, "The tree's waits".
+-- The greatest class of an interval.
+-- Source: docs/TREE.md, "Keys and classes".
 use Rattle.std.specs.Prelude.{ℕ, ◌<◌}
 use Rattle.key_interval.specs.Keys.{Interval, MeetsClass}
 
