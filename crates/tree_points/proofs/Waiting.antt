@@ -1,0 +1,201 @@
+-- A wait over the points: of the place's retired slots, and of a move.
+use Rattle.std.proofs.Common.{◌≡◌, ◌≢◌, ℕ, ◌+◌, ◌<◌, true, false, List, [], map, length, ◌-◌, ◌∷◌, Some, refl, sym, ap, subst, ◌∙◌, arith}
+use Rattle.prcu_model.specs.declared.operation.Op.{Op}
+use Rattle.prcu_model.specs.Dictionary.{key_of}
+use Rattle.core_state.specs.declared.shape.Shape.{Shape}
+use Rattle.core_state.specs.declared.view.View.{View}
+use Rattle.core_points.specs.declared.stage.Moving.{Moving}
+use Rattle.core_points.specs.declared.stage.Aim.{Aim}
+use Rattle.core_points.specs.declared.stage.Aim.TheVariants.{Leaf, Spare, Room}
+use Rattle.core_points.specs.declared.stage.Waits.TheVariants.{Reuse, Move}
+use Rattle.core_points.specs.declared.stage.Stage.TheVariants as at
+use Rattle.core_points.specs.Callers.{Own, go, is_none_left, key_now}
+use Rattle.core_points.specs.Fits.{Fits, plain}
+use Rattle.seat_table.specs.Gains.{TellsNow}
+use Rattle.tree_points.specs.At.{IsAt}
+use Rattle.core_state.specs.declared.view.Retired.{Retired}
+use Rattle.core_state.specs.declared.view.Waiting.{Waiting}
+use Rattle.core_state.specs.steps.Waits.{new_wait, waited_move, waited_retired}
+use Rattle.core_points.specs.Facts.{ForAim}
+use Rattle.core_points.specs.DeleteFacts.{OutlastsMove}
+use Rattle.core_points.proofs.MoveWaits.{graced_move}
+use Rattle.core_points.proofs.Reclaim.{each_map, graced, same_slots}
+use Rattle.seat_table.specs.Sections.{HasBegun}
+use Rattle.seat_table.specs.Waits.{HasWaited, IsOver}
+
+-- The wait that was begun is the one that ended, and the view after it.
+module _ (k : Shape) (v w : View) (low high : ℕ) (waited : HasWaited k v low high w) where
+  abbrev pub begun : HasBegun v low high waited.0
+  begun = waited.1
+
+  abbrev pub over : IsOver k waited.0 w
+  over = waited.2
+
+  abbrev pub the_wait : Waiting
+  the_wait = over.wait
+
+  pub is_new : the_wait ≡ new_wait v low high begun.clock begun.leaves.before
+  is_new = let q : Some over.wait ≡ Some (new_wait v low high begun.clock begun.leaves.before) = sym over.was ∙ begun.wait_is in cc
+
+  abbrev pub outlasted : View
+  outlasted = record v {
+    allowance = record v.allowance { tickets = v.allowance.tickets - 1 };
+    enter = w.enter;
+    hands = record v.hands { retired = map (waited_retired over.wait) v.hands.retired };
+    moving = waited_move over.wait v.moving;
+    wait = w.wait;
+    counts = w.counts;
+    trail = w.trail;
+    seen = w.seen;
+  }
+
+  pub outlasts : w ≡ outlasted
+  outlasts =
+      let e = over.ended.others in
+      let c : w.counts ≡ w.counts = refl in
+      e ∙ ap (λ (z : View). record z {
+        enter = w.enter;
+        hands = record z.hands { retired = map (waited_retired over.wait) z.hands.retired };
+        moving = waited_move over.wait z.moving;
+        wait = w.wait;
+        counts = record z.counts { turns = w.counts.turns };
+        trail = w.trail;
+        seen = w.seen;
+      }) begun.others ∙ ap (λ c. record outlasted { counts = c }) (sym counts_are)
+    where
+      counts_are : w.counts ≡ record v.counts { waits = v.counts.waits + 1; turns = w.counts.turns }
+      counts_are = ap (λ (z : View). z.counts) (over.ended).others ∙ ap (λ (z : View). record z.counts { turns = w.counts.turns }) begun.others
+
+  pub began_is : over.wait.began ≡ length begun.leaves.before
+  began_is = ap (λ (z : Waiting). z.began) is_new
+
+-- After a wait for everybody the retired slots may be given back.
+pub waits_old : {k : Shape} {op : Op} {kept : ℕ} {v w : View} {aim : Aim} → v.hands.retired ≢ [] → TellsNow k v → IsAt k op kept (at.Begin (Reuse aim)) v → HasWaited k v 0 18446744073709551615 w → IsAt k op kept (at.OldAge aim) w
+waits_old {k} {op} {kept} {v} {w} {aim} some now a waited = record {
+  own = go o (at.OldAge aim);
+  op_is = a.op_is;
+  slots_are = a.slots_are;
+  places_are = a.places_are;
+  last = a.last;
+  keeps = a.keeps;
+  fits = subst (Fits (go o (at.OldAge aim)) (at.OldAge aim)) (sym (outlasts k v w 0 18446744073709551615 waited)) fits;
+}
+  where
+    o : Own
+    o = a.own
+
+    x : View
+    x = outlasted k v w 0 18446744073709551615 waited
+
+    wait : Waiting
+    wait = (waited.2).wait
+
+    new : wait ≡ new_wait v 0 18446744073709551615 (waited.1).clock ((waited.1).leaves).before
+    new = is_new k v w 0 18446744073709551615 waited
+
+    for_aim : (aim : Aim) → ForAim o v aim → ForAim o x aim
+    for_aim (Leaf spot) f = f
+    for_aim Spare f = f
+    for_aim Room f = f
+
+    for_plain : (aim : Aim) → ForAim o (plain v) aim → ForAim o v aim
+    for_plain (Leaf spot) f = f
+    for_plain Spare f = f
+    for_plain Room f = f
+
+    old_retired : (rs : List Retired) (os : List ℕ) → map (λ (r : Retired). r.slot) rs ≡ os → rs ≢ [] → is_none_left os ≡ false
+    old_retired [] os e ne = absurd (ne refl)
+    old_retired (r ∷ rs) os e ne = ap is_none_left (sym e)
+
+    fits : Fits (go o (at.OldAge aim)) (at.OldAge aim) x
+    fits =
+        let f = a.fits in
+        let owns = f.owns in
+        let idle = (f.point).0 in
+        let bare = idle.1 in
+        record {
+          owns = record {
+            same = owns.same;
+            works = owns.works;
+            spare_is = owns.spare_is;
+            retired_are = same_slots (waited_retired wait) (λ r. refl) v.hands.retired ∙ owns.retired_are;
+            locks_are = owns.locks_are;
+            key_fits = owns.key_fits;
+            keys_fit = owns.keys_fit;
+            scans = owns.scans;
+            scans_table = owns.scans_table;
+          };
+          tickets = (let paid = f.tickets in omega arith);
+          unraised = λ z. each_map (waited_retired wait) (λ (r : Retired). r.raised ≡ false) (λ (r : Retired). r.raised ≡ false) v.hands.retired (λ r q. q) (f.unraised refl);
+          point = (
+            (idle.0, (bare.0, bare.1, ap (waited_move wait) bare.2, bare.3, bare.4), idle.2, idle.3),
+            for_aim aim (for_plain aim (f.point).1),
+            old_retired v.hands.retired o.retired owns.retired_are some,
+            each_map (waited_retired wait) (λ (r : Retired). r.unlinked < wait.began) (λ (r : Retired). r.waited ≡ true) v.hands.retired
+                (λ r q. graced wait r (ap (λ (z : Waiting). z.low) new) (ap (λ (z : Waiting). z.high) new) q)
+                (λ i r e. subst (λ n. r.unlinked < n) (sym (ap (λ (z : Waiting). z.began) new)) ((waited.1).older i r e)),
+          );
+        }
+
+-- After the wait of a move the old successor may be unlinked.
+pub waits_move : {k : Shape} {op : Op} {kept : ℕ} {v w : View} {m : Moving} → IsAt k op kept (at.Begin (Move m)) v → HasWaited k v (key_of op + 1) m.next_key w → IsAt k op kept (at.OldMark m) w
+waits_move {k} {op} {kept} {v} {w} {m} a waited = record {
+  own = go o (at.OldMark m);
+  op_is = a.op_is;
+  slots_are = a.slots_are;
+  places_are = a.places_are;
+  last = a.last;
+  keeps = a.keeps;
+  fits = subst (Fits (go o (at.OldMark m)) (at.OldMark m)) (sym (outlasts k v w (key_of op + 1) m.next_key waited)) fits;
+}
+  where
+    o : Own
+    o = a.own
+
+    x : View
+    x = outlasted k v w (key_of op + 1) m.next_key waited
+
+    wait : Waiting
+    wait = (waited.2).wait
+
+    new : wait ≡ new_wait v (key_of op + 1) m.next_key (waited.1).clock ((waited.1).leaves).before
+    new = is_new k v w (key_of op + 1) m.next_key waited
+
+    key_is : key_now o ≡ key_of op
+    key_is = ap key_of a.op_is
+
+    out : OutlastsMove (record wait { ended = false }) v.moving (key_now o + 1) m.next_key wait.clock 0
+    out = record {
+      going = refl;
+      low_is = ap (λ (z : Waiting). z.low) new ∙ ap (λ n. n + 1) (sym key_is);
+      high_is = ap (λ (z : Waiting). z.high) new;
+      clock_is = refl;
+      past = λ q lt. absurd (omega arith);
+      later = λ move is. subst (λ n. move.made < n) (sym (ap (λ (z : Waiting). z.began) new)) ((waited.1).moves move is);
+    }
+
+    fits : Fits (go o (at.OldMark m)) (at.OldMark m) x
+    fits =
+        let f = a.fits in
+        let owns = f.owns in
+        let s = (f.point).0 in
+        record {
+          owns = record {
+            same = owns.same;
+            works = owns.works;
+            spare_is = owns.spare_is;
+            retired_are = same_slots (waited_retired wait) (λ r. refl) v.hands.retired ∙ owns.retired_are;
+            locks_are = owns.locks_are;
+            key_fits = owns.key_fits;
+            keys_fit = owns.keys_fit;
+            scans = owns.scans;
+            scans_table = owns.scans_table;
+          };
+          tickets = (let paid = f.tickets in omega arith);
+          unraised = λ z. each_map (waited_retired wait) (λ (r : Retired). r.raised ≡ false) (λ (r : Retired). r.raised ≡ false) v.hands.retired (λ r q. q) (f.unraised refl);
+          point = (
+            (s.0, s.1, s.2, s.3, s.4, s.5, graced_move (record wait { ended = false }) v.moving (key_now o) m wait.clock 0 s.6 out, s.7, s.8, s.9, s.10),
+            (f.point).1,
+            (f.point).2,
+          );
+        }

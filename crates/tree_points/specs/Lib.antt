@@ -1,0 +1,4 @@
+pub mod At
+pub mod Asked
+pub mod Progress
+pub mod Laws
