@@ -1,0 +1,10 @@
+pub mod Seizing
+pub mod Takes
+pub mod PuttingBack
+pub mod Returning
+pub mod Marking
+pub mod Listing
+pub mod Reclaims
+pub mod Points
+pub mod Listed
+pub mod Locked

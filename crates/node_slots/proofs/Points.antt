@@ -1,0 +1,298 @@
+-- The calls on slots over the points of a call of the tree: where one begins its conditions are met, and where it ends the next point stands.
+use Rattle.std.proofs.Common.{◌≡◌, ◌≢◌, ℕ, ◌+◌, ◌-◌, ◌≤◌, true, false, List, [], ◌∷◌, map, Option, Some, None, refl, sym, ap, subst, ◌∙◌, arith}
+use Rattle.prcu_model.specs.declared.operation.Op.{Op}
+use Rattle.prcu_marks.specs.declared.mark.Mark.TheVariants.{Given, Freed, Began, Ended}
+use Rattle.core_state.specs.declared.shape.Shape.{Shape}
+use Rattle.core_state.specs.declared.words.Field.TheVariants.{Life}
+use Rattle.core_state.specs.declared.view.Held.{Held}
+use Rattle.core_state.specs.declared.view.Retired.{Retired}
+use Rattle.core_state.specs.declared.view.View.{View}
+use Rattle.core_state.specs.steps.Seating.{spare_slot}
+use Rattle.core_state.specs.views.Known.{noting}
+use Rattle.core_state.specs.views.Views.{held_list}
+use Rattle.list_laws.specs.Counts.{times, Each}
+use Rattle.list_laws.proofs.Lists.{times_here}
+use Rattle.core_points.specs.declared.stage.Spot.{Spot}
+use Rattle.core_points.specs.declared.stage.Aim.{Aim}
+use Rattle.core_points.specs.declared.stage.Aim.TheVariants.{Leaf, Spare, Room}
+use Rattle.core_points.specs.declared.stage.Waits.TheVariants.{Reuse}
+use Rattle.core_points.specs.declared.stage.Stage.{Stage}
+use Rattle.core_points.specs.declared.stage.Stage.TheVariants as at
+use Rattle.core_points.specs.Callers.{Own, go, is_none_left, is_some, key_now, value_in}
+use Rattle.core_points.specs.Facts.{HandFits}
+use Rattle.core_points.specs.Fits.{Fits}
+use Rattle.core_points.specs.Tickets.{owed_reserve}
+use Rattle.core_points.proofs.Notes.{owns_noted, bare_noted}
+use Rattle.seat_table.specs.Gains.{IsFull, TellsNow}
+use Rattle.seat_table.specs.Seats.{IsSlotOf}
+use Rattle.tree_points.specs.At.{IsAt, IsDone}
+use Rattle.tree_points.specs.Progress.{HasGone, HasGivenAll}
+use Rattle.tree_points.proofs.Gone.{gone_with, gone_all}
+use Rattle.node_slots.specs.Slots.{aged, next_life, renewing, PutsBack}
+use Rattle.node_slots.specs.Taking.{HasTaken, FoundNone}
+use Rattle.node_slots.specs.Reclaiming.{first_spare, HasReclaimed}
+
+-- The same call at another point, with what it keeps then.
+moves_to : {k : Shape} {op : Op} {kept : ℕ} {from : Stage} {v : View} (a : IsAt k op kept from v) (o : Own) (to : Stage) (w : View) → o.op ≡ a.own.op → o.slots ≡ a.own.slots → o.places ≡ a.own.places → o.rest ≡ a.own.rest → o.kept ≡ a.own.kept → Fits o to w → IsAt k op kept to w
+moves_to a o to w op_is slots_are places_are rest_is kept_is fits = record {
+  own = o;
+  op_is = op_is ∙ a.op_is;
+  slots_are = slots_are ∙ a.slots_are;
+  places_are = places_are ∙ a.places_are;
+  last = rest_is ∙ a.last;
+  keeps = kept_is ∙ a.keeps;
+  fits = fits;
+}
+
+least_two : (retired : List ℕ) (spot : Spot) → 2 ≤ owed_reserve (Leaf spot) retired
+least_two [] spot = omega arith
+least_two (s ∷ ss) spot = omega arith
+
+three_left : (retired : List ℕ) (spot : Spot) → is_none_left retired ≡ false → owed_reserve (Leaf spot) retired ≡ 3
+three_left [] spot e = cc
+three_left (s ∷ ss) spot e = refl
+
+-- What take asks.
+pub record MayTake (v : View) : Type 0 where
+  pub unreserved : v.hands.reserved ≡ false
+  pub empty : v.hands.hand ≡ None
+  pub ticket : 1 ≤ v.allowance.tickets
+
+pub may_take : {k : Shape} {op : Op} {kept e : ℕ} {aim : Aim} {v : View} → IsAt k op kept (at.Reserve aim e) v → MayTake v
+may_take {e = e} {aim = aim} {v = v} a = by aim a.fits
+  where
+    by : (aim : Aim) → Fits a.own (at.Reserve aim e) v → MayTake v
+    by (Leaf spot) f = let p = f.point in record { unreserved = (p.1).3; empty = p.2; ticket = (let t = f.tickets in let two = least_two a.own.retired spot in omega arith) }
+    by Spare f = let i = (f.point).0 in record { unreserved = (i.1).3; empty = i.2; ticket = (let t = f.tickets in omega arith) }
+    by Room f = absurd f.point
+
+-- A slot was taken, for a leaf or for a spare.
+module _ {slot generation : ℕ} {v w : View} (taken : HasTaken v slot generation w) where
+  abbrev life : ℕ
+  life = taken.life
+
+  abbrev u : View
+  u = noting v slot (Life slot) life false
+
+  abbrev after_taking : View
+  after_taking = record u {
+    allowance = record v.allowance { tickets = v.allowance.tickets - 1 };
+    hands = record u.hands { hand = Some (aged slot life) };
+    latest = record v.latest { free = w.latest.free };
+    trail = w.trail;
+    seen = w.seen;
+  }
+
+  pub taken_in_hand : w.hands.hand ≡ Some (aged slot taken.life)
+  taken_in_hand = ap (λ (z : View). z.hands.hand) taken.rest
+
+  pub taken_slot : IsSlotOf (Some slot) w.hands.hand
+  taken_slot = subst (IsSlotOf (Some slot)) (sym taken_in_hand) refl
+
+  pub taken_gone : HasGone v w []
+  taken_gone = gone_with taken.given.before (Given slot ∷ []) taken.given.seen (ap (λ (z : View). z.allowance.place) taken.rest) taken.given.marked
+
+  pub taken_retired : w.hands.retired ≡ v.hands.retired
+  taken_retired = ap (λ (z : View). z.hands.retired) taken.rest
+
+  pub takes_leaf : {k : Shape} {op : Op} {kept e : ℕ} {spot : Spot} → IsAt k op kept (at.Reserve (Leaf spot) e) v → IsAt k op kept (at.LeafField spot 0) w
+  takes_leaf {spot = spot} a =
+      let o : Own = a.own in
+      let f = a.fits in
+      let p = f.point in
+      let o' : Own = go (record o { hand = Some slot; hand_life = life }) (at.LeafField spot 0) in
+      let b = bare_noted v slot (Life slot) life false [] [] None false p.1 refl in
+      let owns = owns_noted o v slot (Life slot) life false f.owns in
+      let fits : Fits o' (at.LeafField spot 0) after_taking = record {
+        owns = record { same = owns.same; works = owns.works; spare_is = owns.spare_is; retired_are = owns.retired_are; locks_are = owns.locks_are; key_fits = owns.key_fits; keys_fit = owns.keys_fit; scans = owns.scans; scans_table = owns.scans_table };
+        tickets = (let t = f.tickets in let two = least_two o.retired spot in omega arith);
+        unraised = λ z. f.unraised refl;
+        point = (p.0, b, (slot, refl, refl), p.5, p.6, omega arith);
+      } in
+      moves_to a o' (at.LeafField spot 0) w refl refl refl refl refl (subst (Fits o' (at.LeafField spot 0)) (sym taken.rest) fits)
+
+  pub takes_spare : {k : Shape} {op : Op} {kept e : ℕ} → IsAt k op kept (at.Reserve Spare e) v → IsAt k op kept (at.Keep slot) w
+  takes_spare a =
+      let o : Own = a.own in
+      let f = a.fits in
+      let p = f.point in
+      let i = p.0 in
+      let o' : Own = go (record o { hand = Some slot; hand_life = life }) (at.Keep slot) in
+      let b = bare_noted v slot (Life slot) life false [] [] None false i.1 refl in
+      let owns = owns_noted o v slot (Life slot) life false f.owns in
+      let fits : Fits o' (at.Keep slot) after_taking = record {
+        owns = record { same = owns.same; works = owns.works; spare_is = owns.spare_is; retired_are = owns.retired_are; locks_are = owns.locks_are; key_fits = owns.key_fits; keys_fit = owns.keys_fit; scans = owns.scans; scans_table = owns.scans_table };
+        tickets = (let t = f.tickets in omega arith);
+        unraised = λ z. f.unraised refl;
+        point = (i.0, b, (aged slot life, refl, refl), p.2, p.3, p.4);
+      } in
+      moves_to a o' (at.Keep slot) w refl refl refl refl refl (subst (Fits o' (at.Keep slot)) (sym taken.rest) fits)
+
+-- No slot was free.
+none_retired : (rs : List Retired) (os : List ℕ) → map (λ (r : Retired). r.slot) rs ≡ os → rs ≢ [] → is_none_left os ≡ false
+none_retired [] os e some = absurd (some refl)
+none_retired (r ∷ rs) os e some = ap is_none_left (sym e)
+
+module _ {k : Shape} {v w : View} (none : FoundNone k v w) where
+  abbrev after_none : View
+  after_none = record v { latest = record v.latest { free = Some 0 }; trail = w.trail; seen = w.seen }
+
+  pub none_gone : HasGone v w []
+  none_gone = gone_all w.seen none.sees (ap (λ (z : View). z.allowance.place) none.rest) refl
+
+  pub none_retired_now : w.hands.retired ≡ v.hands.retired
+  none_retired_now = ap (λ (z : View). z.hands.retired) none.rest
+
+  -- A put answers Full, where nothing is retired; then the dictionary is as large as that asks for.
+  pub none_is_full : {op : Op} {kept e : ℕ} {spot : Spot} → IsAt k op kept (at.Reserve (Leaf spot) e) v → IsFull k w
+  none_is_full a = let b = (a.fits.point).1 in none.full b.2 b.4
+
+  pub none_ends : {op : Op} {kept e : ℕ} {spot : Spot} → IsAt k op kept (at.Reserve (Leaf spot) e) v → IsDone k op kept w
+  none_ends {spot = spot} a =
+      let o : Own = a.own in
+      let f = a.fits in
+      let p = f.point in
+      let o' : Own = go o at.Finished in
+      let fits : Fits o' at.Finished after_none = record {
+        owns = f.owns;
+        tickets = (let t = f.tickets in omega arith);
+        unraised = λ z. f.unraised refl;
+        point = (p.0, p.1, p.2);
+      } in
+      moves_to a o' at.Finished w refl refl refl refl refl (subst (Fits o' at.Finished) (sym none.rest) fits)
+
+  -- Where something is retired it is given back first.
+  pub none_begins : {op : Op} {kept e : ℕ} {spot : Spot} → v.hands.retired ≢ [] → IsAt k op kept (at.Reserve (Leaf spot) e) v → IsAt k op kept (at.Begin (Reuse (Leaf spot))) w
+  none_begins {spot = spot} some a =
+      let o : Own = a.own in
+      let f = a.fits in
+      let p = f.point in
+      let o' : Own = go o (at.Begin (Reuse (Leaf spot))) in
+      let fits : Fits o' (at.Begin (Reuse (Leaf spot))) after_none = record {
+        owns = f.owns;
+        tickets = (let t = f.tickets in let three = three_left o.retired spot (none_retired v.hands.retired o.retired f.owns.retired_are some) in omega arith);
+        unraised = λ z. f.unraised refl;
+        point = ((p.0, p.1, p.2, p.3), (p.5, p.6));
+      } in
+      moves_to a o' (at.Begin (Reuse (Leaf spot))) w refl refl refl refl refl (subst (Fits o' (at.Begin (Reuse (Leaf spot)))) (sym none.rest) fits)
+
+  pub none_begins_spare : {op : Op} {kept e : ℕ} → IsAt k op kept (at.Reserve Spare e) v → IsAt k op kept (at.Begin (Reuse Spare)) w
+  none_begins_spare a =
+      let o : Own = a.own in
+      let f = a.fits in
+      let p = f.point in
+      let o' : Own = go o (at.Begin (Reuse Spare)) in
+      let fits : Fits o' (at.Begin (Reuse Spare)) after_none = record {
+        owns = f.owns;
+        tickets = f.tickets;
+        unraised = λ z. f.unraised refl;
+        point = (p.0, p.2);
+      } in
+      moves_to a o' (at.Begin (Reuse Spare)) w refl refl refl refl refl (subst (Fits o' (at.Begin (Reuse Spare))) (sym none.rest) fits)
+
+-- What put_back asks.
+pub record MayPutBack (v : View) : Type 0 where
+  pub paid : v.hands.owes ≡ false
+  pub hand : (held : Held) × (v.hands.hand ≡ Some held) × (held.raised ≡ false)
+
+pub may_put_back : {k : Shape} {op : Op} {kept : ℕ} {v : View} → IsAt k op kept at.Raise v → MayPutBack v
+may_put_back {v = v} a =
+    let o : Own = a.own in
+    let p = a.fits.point in
+    let calm = p.2 in
+    let leaf = subst (λ x. HandFits x o.hand_life (key_now o) (value_in o.op) v.hands.hand) (p.1).1 calm.1 in
+    record { paid = (calm.0).4; hand = (leaf.0, leaf.1, (leaf.2).unraised) }
+
+module _ {slot : ℕ} {v w : View} (back : PutsBack v slot w) where
+  pub back_gone : HasGone v w []
+  back_gone = gone_with back.freed.before (Freed slot ∷ []) back.freed.seen (ap (λ (z : View). z.allowance.place) back.rest) back.freed.marked
+
+  pub back_retired : w.hands.retired ≡ v.hands.retired
+  back_retired = ap (λ (z : View). z.hands.retired) back.rest
+
+  -- The call has answered: the key was there.
+  pub back_ends : {k : Shape} {op : Op} {kept : ℕ} → IsAt k op kept at.Raise v → IsDone k op kept w
+  back_ends a =
+      let o : Own = a.own in
+      let f = a.fits in
+      let p = f.point in
+      let life : ℕ = back.life in
+      let first : View = noting v slot (Life slot) life false in
+      let u : View = renewing v slot life in
+      let last : View = record u { hands = record u.hands { hand = None }; latest = record v.latest { free = Some (back.found + 1) }; trail = w.trail; seen = w.seen } in
+      let e = ap (λ (z : View). z.trail) back.rest in
+      let is : w ≡ last = back.rest ∙ (λ i. record u { hands = record u.hands { hand = None }; latest = record v.latest { free = Some (back.found + 1) }; trail = sym e i; seen = w.seen }) in
+      let o' : Own = go (record o { hand = None }) at.Finished in
+      let b1 = bare_noted v slot (Life slot) life false [] [] None false (p.2).0 refl in
+      let b2 = bare_noted first slot (Life slot) (next_life life) true [] [] None false b1 refl in
+      let owns = owns_noted o first slot (Life slot) (next_life life) true (owns_noted o v slot (Life slot) life false f.owns) in
+      let fits : Fits o' at.Finished last = record {
+        owns = record { same = owns.same; works = owns.works; spare_is = owns.spare_is; retired_are = owns.retired_are; locks_are = owns.locks_are; key_fits = owns.key_fits; keys_fit = owns.keys_fit; scans = owns.scans; scans_table = owns.scans_table };
+        tickets = f.tickets;
+        unraised = λ z. f.unraised refl;
+        point = (p.0, b2, refl);
+      } in
+      moves_to a o' at.Finished w refl refl refl refl refl (subst (Fits o' at.Finished) (sym is) fits)
+
+-- What reclaim asks.
+pub record MayReclaim (v : View) : Type 0 where
+  pub outside : v.section ≡ None
+  pub unlocked : v.locks ≡ []
+  pub settled : v.moving ≡ None
+  pub paid : v.hands.owes ≡ false
+  pub ticket : 1 ≤ v.allowance.tickets
+  pub unraised : Each v.hands.retired (λ (r : Retired). r.raised ≡ false)
+
+pub may_reclaim : {k : Shape} {op : Op} {kept : ℕ} {aim : Aim} {v : View} → IsAt k op kept (at.Begin (Reuse aim)) v → MayReclaim v
+may_reclaim a =
+    let f = a.fits in
+    let i = (f.point).0 in
+    let b = i.1 in
+    record { outside = i.0; unlocked = b.0; settled = b.2; paid = b.4; ticket = (let t = f.tickets in omega arith); unraised = f.unraised refl }
+
+pub reclaim_gone : {k : Shape} {v w : View} {listed : List ℕ} → HasReclaimed k v listed w → HasGone v w (Began v.allowance.place v.counts.waits 0 18446744073709551615 ∷ (Ended v.allowance.place v.counts.waits ∷ []))
+reclaim_gone back = record { same = ap (λ (z : View). z.allowance.place) back.rest; begins = back.seen; own = back.own }
+
+pub reclaim_retired : {k : Shape} {v w : View} {listed : List ℕ} → HasReclaimed k v listed w → w.hands.retired ≡ []
+reclaim_retired back = ap (λ (z : View). z.hands.retired) back.rest
+
+some_listed : (rs : List Retired) (xs : List ℕ) → rs ≢ [] → ((t : ℕ) → times t xs ≡ times t (map (λ (r : Retired). r.slot) rs)) → (x : ℕ) × (more : List ℕ) × (xs ≡ x ∷ more)
+some_listed [] xs ne eq = absurd (ne refl)
+some_listed (r ∷ rs) [] ne eq = absurd (let one = times_here r.slot (map (λ (r : Retired). r.slot) rs) in let none = eq r.slot in omega arith)
+some_listed (r ∷ rs) (x ∷ xs) ne eq = (x, xs, refl)
+
+one_held : (o : Option Held) (x : ℕ) → held_list o ≡ x ∷ [] → is_some (spare_slot o) ≡ true
+one_held None x e = let bad : [] ≡ x ∷ [] = e in absurd (cc)
+one_held (Some held) x e = refl
+
+module _ {k : Shape} {v w : View} {listed : List ℕ} (now : TellsNow k v) (same : (t : ℕ) → times t listed ≡ times t (map (λ (r : Retired). r.slot) v.hands.retired)) (back : HasReclaimed k v listed w) where
+  -- the place has a spare then
+  spare_there : (o : Option Held) → v.hands.spare ≡ o → is_some (spare_slot w.hands.spare) ≡ true
+  spare_there None e =
+      let l = some_listed v.hands.retired listed (now.tells.spare_comes e) same in
+      one_held w.hands.spare l.0 (back.spare ∙ ap (λ o. first_spare (held_list o) listed) e ∙ ap (first_spare []) l.2)
+  spare_there (Some held) e = one_held w.hands.spare held.slot (back.spare ∙ ap (λ o. first_spare (held_list o) listed) e)
+
+  some_spare : (o : Option Held) → is_some (spare_slot o) ≡ true → o ≢ None
+  some_spare None there none = absurd (cc)
+  some_spare (Some held) there none = cc
+
+  -- All retired slots were given back, and the place has a spare: a put takes a slot then, and a delete enters its section.
+  pub gives_all : HasGivenAll v w
+  gives_all =
+      let e = back.rest in
+      let tickets : w.allowance.tickets ≡ v.allowance.tickets - 1 = ap (λ (z : View). z.allowance.tickets) e in record {
+        place = ap (λ (z : View). z.allowance.place) e;
+        places = ap (λ (z : View). z.allowance.places) e;
+        paid = omega (arith, tickets);
+        section = ap (λ (z : View). z.section) e;
+        records = ap (λ (z : View). z.records) e;
+        locks = ap (λ (z : View). z.locks) e;
+        commit = ap (λ (z : View). z.commit) e;
+        moving = ap (λ (z : View). z.moving) e;
+        reserved = ap (λ (z : View). z.hands.reserved) e;
+        owes = ap (λ (z : View). z.hands.owes) e;
+        hand = ap (λ (z : View). z.hands.hand) e;
+        retired = ap (λ (z : View). z.hands.retired) e;
+        spare = some_spare w.hands.spare (spare_there v.hands.spare refl);
+      }

@@ -1,0 +1,18 @@
+//! Slots of the search tree's table, and their locks: free slots are taken and given back, locks are held for a while, and slots that were
+//! unlinked go back after a wait for everybody.
+#![tactic(auto)]
+
+mod answers;
+mod locks;
+mod reclaiming;
+mod slots;
+mod taking;
+
+pub use answers::{Lock, Reserve, Seize, Taken};
+pub use locks::{try_lock, unlock};
+pub use reclaiming::{give_back, reclaim};
+pub use slots::{put_back, reserve, retire, seize};
+pub use taking::take;
+
+#[cfg(test)]
+mod tests;
