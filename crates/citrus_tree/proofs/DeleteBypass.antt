@@ -1,0 +1,76 @@
+-- A bypass, point by point.
+use Rattle.std.proofs.Common.{◌≡◌, ◌≢◌, ℕ, ◌+◌, ◌*◌, ◌/◌, ◌<◌, ◌==◌, if◌then◌else◌, cond, Bool, true, false, List, [], ◌∷◌, map, Some, None, refl, sym, ap, subst, arith, eq-eqb, ne_eqb}
+use Rattle.prcu_marks.specs.declared.mark.Side.{Side}
+use Rattle.prcu_marks.specs.declared.mark.Side.TheVariants.{Left, Right}
+use Rattle.prcu_model.specs.declared.operation.Op.{Op}
+use Rattle.core_state.specs.declared.shape.Shape.{Shape}
+use Rattle.core_state.specs.declared.view.HeldLock.{HeldLock}
+use Rattle.core_state.specs.declared.view.Known.{Known}
+use Rattle.core_state.specs.declared.words.Field.{Field}
+use Rattle.core_state.specs.memory.Memory.{same_field}
+use Rattle.core_state.specs.declared.words.Field.TheVariants.{Life, Link}
+use Rattle.core_state.specs.views.Known.{known_in, known_under, loaded_in}
+use Rattle.core_state.specs.declared.view.Retired.{Retired}
+use Rattle.core_state.specs.declared.view.View.{View}
+use Rattle.core_points.specs.declared.stage.Node.{Node}
+use Rattle.core_points.specs.declared.stage.Last.TheVariants as last
+use Rattle.core_points.specs.declared.stage.Stage.TheVariants as at
+use Rattle.core_points.specs.declared.stage.Update.TheVariants as update
+use Rattle.core_points.specs.Programs.{deleting}
+use Rattle.seat_table.specs.declared.case.Case.TheVariants.{K22}
+use Rattle.seat_table.specs.Gains.{TellsNow}
+use Rattle.seat_table.specs.Told.{Told}
+use Rattle.tree_points.specs.At.{IsAt}
+use Rattle.tree_points.proofs.Updating.{passes_mark}
+use Rattle.citrus_tree.specs.Going.{Opened, Closed}
+use Rattle.citrus_tree.specs.Deletes.{KeepsAll, relinked_at}
+use Rattle.citrus_tree.proofs.DeleteKeeps.{keeps}
+
+-- what was loaded is known
+pub loaded_known : (ls : List Known) (field : Field) (number : ℕ) → loaded_in ls field ≡ Some number → known_in ls field ≡ Some number
+loaded_known [] field number e = e
+loaded_known (l ∷ ls) field number e =
+    elim (same_field l.field field) as (λ b. cond b (cond l.stored None (Some l.number)) (loaded_in ls field) ≡ Some number → cond b (Some l.number) (known_in ls field) ≡ Some number) [
+      | true ↦ λ f. elim l.stored as (λ b. cond b None (Some l.number) ≡ Some number → Some l.number ≡ Some number) [ true ↦ λ g. absurd (cc) | false ↦ λ g. g ] f
+      | false ↦ λ f. loaded_known ls field number f
+    ] e
+
+pub opened_keeps : (v w : View) (front : ℕ) → Opened v front w → KeepsAll v w
+opened_keeps v w front e = keeps v w (ap (λ (x : View). x.allowance.place) e) (ap (λ (x : View). x.seen) e) (ap (λ (x : View). x.wait) e) (ap (λ (x : View). x.counts.waits) e) (ap (λ (x : View). map (λ (r : Retired). r.slot) x.hands.retired) e) (ap (λ (x : View). map (λ (l : HeldLock). l.slot) x.locks) e)
+
+pub closed_keeps : (v w : View) → Closed v w → KeepsAll v w
+closed_keeps v w e = keeps v w (ap (λ (x : View). x.allowance.place) e) (ap (λ (x : View). x.seen) e) (ap (λ (x : View). x.wait) e) (ap (λ (x : View). x.counts.waits) e) (ap (λ (x : View). map (λ (r : Retired). r.slot) x.hands.retired) e) (ap (λ (x : View). map (λ (l : HeldLock). l.slot) x.locks) e)
+
+abbrev pub only : Node → ℕ
+only d = if d.left == 0 then d.right else d.left
+
+-- the child is a slot, or there is none
+pub child_within : {k : Shape} {op : Op} {kept : ℕ} {v : View} (d : Node) → IsAt k op kept (deleting d None) v → TellsNow k v → only d < k.slots + k.places + 1
+child_within {k} {op} {kept} {v} d a now = by (d.left == 0)
+  where
+    by : (z : Bool) → cond z d.right d.left < k.slots + k.places + 1
+    by true = let f = (a.fits.point).4 in (now.tells.links_within f.0 d.node d.generation f.2.kept f.2.recorded (loaded_known (known_under v d.node) (Life d.node) (2 * d.generation) (a.fits.point).5) Right d.right (loaded_known (known_under v d.node) (Link d.node Right) d.right f.2.right)).0
+    by false = let f = (a.fits.point).4 in (now.tells.links_within f.0 d.node d.generation f.2.kept f.2.recorded (loaded_known (known_under v d.node) (Life d.node) (2 * d.generation) (a.fits.point).5) Left d.left (loaded_known (known_under v d.node) (Link d.node Left) d.left f.2.left)).0
+
+module _ {k : Shape} {op : Op} {kept : ℕ} (d : Node) (child : ℕ) (is : child ≡ only d) where
+  pub marking : {v : View} → IsAt k op kept (deleting d None) v → IsAt k op kept (at.Mark d child) v
+  marking {v} a = subst (λ x. IsAt k op kept (at.Mark d x) v) (sym is) a
+
+  pub marked : {v w : View} {n : ℕ} → IsAt k op kept (deleting d None) v → Told k v (K22 d.node (2 * d.generation)) n w → IsAt k op kept (at.Commit (update.Bypass d child) 0) w
+  marked a t = passes_mark (marking a) t 0 refl
+
+-- with the front to be opened, and open
+pub bypass_paid : {k : Shape} {op : Op} {kept child e : ℕ} {v : View} (d : Node) → IsAt k op kept (at.Commit (update.Bypass d child) e) v → (v.moving ≡ None) × (v.commit ≡ None)
+bypass_paid d a = let q = ((a.fits.point).0).0 in (q.2, q.1)
+
+pub bypass_odd : {k : Shape} {op : Op} {kept child front : ℕ} {v : View} (d : Node) → IsAt k op kept (at.Even (update.Bypass d child) front) v → v.commit ≡ Some (record { found = front; stored = true })
+bypass_odd d a = ((a.fits.point).0).1
+
+pub settled : {k : Shape} {op : Op} {kept number child : ℕ} {v : View} (slot : ℕ) (b : Side) → child ≢ 0 → IsAt k op kept (relinked_at number slot b child) v → IsAt k op kept (at.Unlock (last.Gone number)) v
+settled {k} {op} {kept} {number} {child} {v} slot b some a = subst (λ z. IsAt k op kept (if z then at.EmptyTag number slot b else at.Unlock (last.Gone number)) v) (ne_eqb child 0 some) a
+
+pub emptied : {k : Shape} {op : Op} {kept number slot child : ℕ} {v : View} (b : Side) → child ≡ 0 → IsAt k op kept (relinked_at number slot b child) v → IsAt k op kept (at.EmptyTag number slot b) v
+emptied {k} {op} {kept} {number} {slot} {child} {v} b none a = subst (λ z. IsAt k op kept (if z then at.EmptyTag number slot b else at.Unlock (last.Gone number)) v) (eq-eqb child 0 none) a
+
+pub half_two : (front : ℕ) → front / 2 + 1 ≡ (front + 2) / 2
+half_two front = omega arith

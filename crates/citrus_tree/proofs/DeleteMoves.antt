@@ -1,0 +1,84 @@
+-- The wait of a move, and what is retired after it.
+use Rattle.std.proofs.Common.{◌≡◌, ℕ, ◌+◌, ◌<◌, ◌≤◌, Option, Some, None, inr, List, [], ◌∷◌, ◌++◌, map, length, refl, sym, ap, subst, ◌∙◌, arith}
+use Rattle.list_laws.specs.Counts.{times, IsIn}
+use Rattle.list_laws.proofs.Lists.{times_append, times_here}
+use Rattle.prcu_model.specs.declared.operation.Op.TheVariants.{Del}
+use Rattle.prcu_model.specs.Dictionary.{key_of}
+use Rattle.core_state.specs.declared.shape.Shape.{Shape}
+use Rattle.core_state.specs.declared.view.Retired.{Retired}
+use Rattle.core_state.specs.declared.view.View.{View}
+use Rattle.core_state.specs.declared.view.Waiting.{Waiting}
+use Rattle.core_state.specs.steps.Waits.{new_wait, waited_retired}
+use Rattle.key_interval.specs.Keys.{Interval}
+use Rattle.core_points.specs.declared.stage.Moving.{Moving}
+use Rattle.core_points.specs.declared.stage.Waits.TheVariants as waits
+use Rattle.core_points.specs.declared.stage.Stage.TheVariants as at
+use Rattle.seat_table.specs.Gains.{TellsNow}
+use Rattle.seat_table.specs.Waits.{HasWaited}
+use Rattle.tree_points.specs.At.{IsAt}
+use Rattle.citrus_tree.specs.Deletes.{retired_slots}
+use Rattle.citrus_tree.specs.Gone.{KeepsWait}
+use Rattle.node_slots.proofs.Listed.{not_in}
+
+pub move_keys : {k : Shape} {kept key : ℕ} {v : View} (m : Moving) → IsAt k (Del key) kept (at.Begin (waits.Move m)) v → TellsNow k v → key < m.next_key
+move_keys {k} {kept} {key} {v} m a now =
+    let i = ((a.fits.point).0).6 in
+    let t = now.tells.moves i.0 i.1 in
+    let mine : i.0.key ≡ key = i.2 ∙ ap key_of a.op_is in
+    let next = i.3 in
+    let lt = t.0 in
+    omega (arith, mine, next, lt)
+
+pub move_outside : {k : Shape} {kept key : ℕ} {v : View} (m : Moving) → IsAt k (Del key) kept (at.Begin (waits.Move m)) v → v.section ≡ None
+move_outside m a = ((a.fits.point).0).0
+
+pub move_paid : {k : Shape} {kept key : ℕ} {v : View} (m : Moving) → IsAt k (Del key) kept (at.Begin (waits.Move m)) v → 1 ≤ v.allowance.tickets
+move_paid m a = let t = a.fits.tickets in omega (arith, t)
+
+pub waited_for : {k : Shape} {v w : View} {keys : Interval} (low high : ℕ) → keys ≡ record { low = low; high = high } → HasWaited k v keys.low keys.high w → HasWaited k v low high w
+waited_for {k} {v} {w} low high e waited = subst (λ (x : Interval). HasWaited k v x.low x.high w) e waited
+
+waited_slots : (wait : Waiting) (rs : List Retired) → map (λ (r : Retired). r.slot) (map (waited_retired wait) rs) ≡ map (λ (r : Retired). r.slot) rs
+waited_slots wait [] = refl
+waited_slots wait (r ∷ rs) = ap (λ xs. r.slot ∷ xs) (waited_slots wait rs)
+
+pub waited_keeps : {k : Shape} {v w : View} {low high : ℕ} → HasWaited k v low high w → retired_slots w ≡ retired_slots v
+waited_keeps {k} {v} {w} (mid, began, over) =
+    ap (λ (x : View). map (λ (r : Retired). r.slot) x.hands.retired) over.ended.others ∙ waited_slots over.wait mid.hands.retired ∙ ap (λ (x : View). map (λ (r : Retired). r.slot) x.hands.retired) began.others
+
+-- Two more are retired, of which none is listed yet.
+module _ (listed : List ℕ) (v w : View) (node old : ℕ) (each : (t : ℕ) → times t listed + times t (node ∷ []) ≡ times t (retired_slots v)) (more : retired_slots w ≡ retired_slots v ++ old ∷ []) where
+  two_times : (t : ℕ) → times t (retired_slots w) ≡ times t listed + times t (node ∷ []) + times t (old ∷ [])
+  two_times t = (let a = ap (times t) more ∙ times_append t (retired_slots v) (old ∷ []) in let e = each t in omega (arith, a, e))
+
+  pub node_retired : 1 ≤ times node (retired_slots w)
+  node_retired = let a = two_times node in let b = times_here node [] in omega arith
+
+  pub old_retired : 1 ≤ times old (retired_slots w)
+  old_retired = let a = two_times old in let b = times_here old [] in omega arith
+
+  pub node_unlisted : times node (retired_slots w) ≤ 1 → IsIn listed node → ⊥
+  node_unlisted once = not_in node listed (let a = two_times node in let b = times_here node [] in omega arith)
+
+  pub old_unlisted : times old (retired_slots w) ≤ 1 → IsIn (listed ++ node ∷ []) old → ⊥
+  old_unlisted once = not_in old (listed ++ node ∷ []) (let a = two_times old in let b = times_here old [] in let d = times_append old listed (node ∷ []) in omega arith)
+
+  pub two_listed : (t : ℕ) → times t ((listed ++ node ∷ []) ++ old ∷ []) ≡ times t (retired_slots w)
+  two_listed t = (let a = two_times t in let b = times_append t (listed ++ node ∷ []) (old ∷ []) in let d = times_append t listed (node ∷ []) in omega arith)
+
+pub length_more : (xs : List ℕ) (x : ℕ) → length (xs ++ x ∷ []) ≡ length xs + 1
+length_more [] x = refl
+length_more (y ∷ xs) x = let e = length_more xs x in omega arith
+
+pub waited_latest : {k : Shape} {v w : View} {low high : ℕ} → HasWaited k v low high w → (wait : Waiting) × (w.wait ≡ Some wait) × (v.counts.waits ≤ wait.count)
+waited_latest {k} {v} {w} {low} {high} (mid, began, over) =
+    let one : Some over.wait ≡ Some (new_wait v low high began.clock began.leaves.before) = sym over.was ∙ began.wait_is in
+    let count : over.new.count ≡ v.counts.waits = ap (λ (z : Waiting). z.count) over.ended.same ∙ ap (λ (z : Option Waiting). count_of z) one in
+    (over.new, over.ended.wait_is, omega (arith, count))
+  where
+    count_of : Option Waiting → ℕ
+    count_of None = 0
+    count_of (Some wait) = wait.count
+
+pub keeps_latest : (v w x : View) → ((wait : Waiting) × (w.wait ≡ Some wait) × (v.counts.waits ≤ wait.count)) → x.wait ≡ w.wait → KeepsWait v x
+keeps_latest v w x l e = inr (l.0, e ∙ l.1, l.2)

@@ -1,0 +1,120 @@
+-- What a delete does before its first search: it sees to a spare, and to room among the retired slots.
+use Rattle.std.proofs.Common.{◌≡◌, ◌≢◌, ℕ, ◌+◌, ◌^◌, ◌<◌, ◌≤◌, true, false, List, [], ◌∷◌, map, length, Option, Some, None, refl, sym, ap, subst, ◌∙◌, ◌⊎◌, inl, inr, ⊎_elim, arith}
+use Rattle.std.specs.Option.{is_some}
+use Rattle.list_laws.specs.Counts.{times}
+use Rattle.prcu_marks.specs.declared.mark.Mark.TheVariants.{Began, Ended}
+use Rattle.prcu_model.specs.declared.operation.Op.TheVariants.{Del}
+use Rattle.core_state.specs.declared.shape.Shape.{Shape}
+use Rattle.core_state.specs.declared.view.Held.{Held}
+use Rattle.core_state.specs.declared.view.Retired.{Retired}
+use Rattle.core_state.specs.declared.view.View.{View}
+use Rattle.core_state.specs.views.Views.{IsQuiet, Works}
+use Rattle.core_points.specs.declared.stage.Aim.TheVariants.{Spare}
+use Rattle.core_points.specs.declared.stage.Stage.TheVariants as at
+use Rattle.seat_table.specs.declared.case.Case.TheVariants.{K9}
+use Rattle.seat_table.specs.Cases.{Needs}
+use Rattle.seat_table.specs.Gains.{TellsNow}
+use Rattle.seat_table.specs.Seats.{AreListed, IsSlotOf, SeatAt}
+use Rattle.seat_table.specs.Told.{Told}
+use Rattle.node_slots.specs.Reclaiming.{HasReclaimed}
+use Rattle.node_slots.specs.Taking.{FoundNone, HasTaken}
+use Rattle.node_slots.proofs.Points.{MayReclaim, gives_all, may_reclaim, none_begins_spare, none_gone, reclaim_gone, taken_gone, takes_spare}
+use Rattle.tree_points.specs.At.{IsAt}
+use Rattle.tree_points.specs.Progress.{HasGone}
+use Rattle.tree_points.proofs.Ends.{begins_delete, begins_room, begins_spare}
+use Rattle.tree_points.proofs.Gone.{gone_on, gone_same, gone_stays}
+use Rattle.tree_points.proofs.Reclaiming.{reclaims_room, reclaims_spare}
+use Rattle.tree_points.proofs.Staying.{stays}
+use Rattle.tree_points.proofs.Updating.{needs_keep, passes_keep}
+use Rattle.citrus_tree.specs.Deletes.{HasMadeRoom, HasWaitedForRoom, IsReadyToDelete, KeepsWaits}
+use Rattle.citrus_tree.proofs.DeleteMoves.{keeps_latest, waited_latest}
+use Rattle.citrus_tree.proofs.DeletePieces.{wait_later}
+
+zero_fits : 0 < 2 ^ 64
+zero_fits = omega arith
+
+pub empty_listed : (s : SeatAt) → s.listed ≡ [] → s.view.hands.retired ≡ [] → AreListed s
+empty_listed s none gone = record { each = λ t. ap (times t) none ∙ ap (λ (rs : List Retired). times t (map (λ (r : Retired). r.slot) rs)) (sym gone) }
+
+-- the place has a spare
+pub given_spare : (o : Option ℕ) (held : Option Held) → IsSlotOf o held → is_some o ≡ true → held ≢ None
+given_spare None held is some none = absurd (let e : false ≡ true = some in cc)
+given_spare (Some slot) None is some none = is
+given_spare (Some slot) (Some held) is some none = cc
+
+-- Nothing had to be done.
+pub room_same : (v : View) → HasMadeRoom v v
+room_same v = record { marks = []; gone = gone_same; waited = inl refl; waits = omega arith; latest = inl refl }
+
+-- All retired slots were given back.
+pub room_reclaimed : {k : Shape} {v w : View} {listed : List ℕ} → HasReclaimed k v listed w → (15 ≤ length v.hands.retired) ⊎ (v.hands.spare ≡ None) → HasMadeRoom v w
+room_reclaimed {k} {v} {w} {listed} back why = record {
+  marks = Began v.allowance.place v.counts.waits 0 18446744073709551615 ∷ (Ended v.allowance.place v.counts.waits ∷ []);
+  gone = reclaim_gone back;
+  waited = inr (record { count = v.counts.waits; marks_are = refl; why = why });
+  waits = (let e : w.counts.waits ≡ v.counts.waits + 1 = ap (λ (z : View). z.counts.waits) back.rest in omega arith);
+  latest = keeps_latest v back.waited w (waited_latest back.waits) (ap (λ (z : View). z.wait) back.gives.rest);
+}
+
+-- Nothing of the place's own was left before.
+pub room_later : {v w x : View} → HasGone v w [] → KeepsWaits v w → w.hands.retired ≡ v.hands.retired → w.hands.spare ≡ v.hands.spare → HasMadeRoom w x → HasMadeRoom v x
+room_later {v} {w} {x} g same retired spare r = record {
+  marks = r.marks;
+  gone = gone_on g r.gone;
+  waited = ⊎_elim (λ (none : r.marks ≡ []). inl none)
+      (λ (f : HasWaitedForRoom w r.marks). inr (record {
+        count = f.count;
+        marks_are = f.marks_are ∙ ap (λ p. Began p f.count 0 18446744073709551615 ∷ (Ended p f.count ∷ [])) g.same;
+        why = ⊎_elim (λ (many : 15 ≤ length w.hands.retired). inl (subst (λ (rs : List Retired). 15 ≤ length rs) retired many)) (λ (none : w.hands.spare ≡ None). inr (sym spare ∙ none)) f.why;
+      })) r.waited;
+  waits = subst (λ n. n ≤ x.counts.waits) same.count r.waits;
+  latest = wait_later v w x same r.latest;
+}
+
+module _ {k : Shape} {v : View} (quiet : IsQuiet v) (works : Works v) (now : TellsNow k v) where
+  pub ready_at_once : length v.hands.retired < 15 → v.hands.spare ≢ None → IsReadyToDelete k v v
+  ready_at_once few given = λ key kept fits paid. begins_delete quiet works now fits paid few given
+
+  pub ready_reclaimed : {w : View} {listed : List ℕ} → 15 ≤ length v.hands.retired → ((t : ℕ) → times t listed ≡ times t (map (λ (r : Retired). r.slot) v.hands.retired)) → HasReclaimed k v listed w → IsReadyToDelete k v w
+  ready_reclaimed many same back = λ key kept fits paid. reclaims_room (begins_room quiet works now fits paid many) (gives_all now same back)
+
+  -- A spare is taken.
+  module _ (few : length v.hands.retired < 15) (none : v.hands.spare ≡ None) where
+    reserving : (key kept : ℕ) → key < 2 ^ 64 → kept + 4 ≤ v.allowance.tickets → IsAt k (Del key) kept (at.Reserve Spare 1) v
+    reserving key kept fits paid = begins_spare quiet works now fits paid few none 1 (omega arith)
+
+    module _ {slot generation : ℕ} {w : View} (taken : HasTaken v slot generation w) where
+      keeping : (key kept : ℕ) → key < 2 ^ 64 → kept + 4 ≤ v.allowance.tickets → IsAt k (Del key) kept (at.Keep slot) w
+      keeping key kept fits paid = takes_spare taken (reserving key kept fits paid)
+
+      pub needs_kept : 4 ≤ v.allowance.tickets → TellsNow k w → Needs k w (K9 slot true)
+      needs_kept paid told = needs_keep (keeping 0 0 zero_fits paid) told
+
+      module _ {n : ℕ} {x : View} (needs : Needs k w (K9 slot true)) (t : Told k w (K9 slot true) n x) where
+        pub ready_kept : IsReadyToDelete k v x
+        ready_kept = λ key kept fits paid. passes_keep (keeping key kept fits paid) t
+
+        pub room_kept : HasMadeRoom v x
+        room_kept = record {
+          marks = [];
+          gone = gone_stays (taken_gone taken) (stays (K9 slot true) refl needs t);
+          waited = inl refl;
+          waits = (let a : x.counts.waits ≡ w.counts.waits = ap (λ (z : View). z.counts.waits) t.2 in let b : w.counts.waits ≡ v.counts.waits = ap (λ (z : View). z.counts.waits) taken.rest in omega arith);
+          latest = inl (ap (λ (z : View). z.wait) t.2 ∙ ap (λ (z : View). z.wait) taken.rest);
+        }
+
+        pub kept_retired : x.hands.retired ≡ v.hands.retired
+        kept_retired = ap (λ (z : View). z.hands.retired) t.2 ∙ ap (λ (z : View). z.hands.retired) taken.rest
+
+    -- None was free: the retired slots are given back.
+    module _ {w : View} (empty : FoundNone k v w) where
+      pub may_reclaim_spare : 4 ≤ v.allowance.tickets → MayReclaim w
+      may_reclaim_spare paid = may_reclaim (none_begins_spare empty (reserving 0 0 zero_fits paid))
+
+      module _ {x : View} {listed : List ℕ} (told : TellsNow k w) (same : (t : ℕ) → times t listed ≡ times t (map (λ (r : Retired). r.slot) w.hands.retired)) (back : HasReclaimed k w listed x) where
+        pub ready_spare : IsReadyToDelete k v x
+        ready_spare = λ key kept fits paid. reclaims_spare (none_begins_spare empty (reserving key kept fits paid)) (gives_all told same back)
+
+        pub room_spare : HasMadeRoom v x
+        room_spare = room_later (none_gone empty) (record { wait = ap (λ (z : View). z.wait) empty.rest; count = ap (λ (z : View). z.counts.waits) empty.rest })
+            (ap (λ (z : View). z.hands.retired) empty.rest) (ap (λ (z : View). z.hands.spare) empty.rest) (room_reclaimed back (inr (ap (λ (z : View). z.hands.spare) empty.rest ∙ none)))

@@ -1,0 +1,127 @@
+-- The section of a delete: what it found, and where the call goes on.
+use Rattle.std.proofs.Common.{◌≡◌, ℕ, ◌+◌, List, [], ◌∷◌, ◌++◌, map, Option, None, refl, sym, ap, subst, ◌∙◌, arith}
+use mathlib.Core.List.{IsPrefix}
+use Rattle.prcu_marks.specs.declared.mark.Mark.{Mark}
+use Rattle.prcu_marks.specs.declared.mark.Mark.TheVariants.{Entered, Left as LeftMark}
+use Rattle.prcu_marks.specs.declared.mark.Side.{Side}
+use Rattle.prcu_model.specs.declared.operation.Op.TheVariants.{Del}
+use Rattle.prcu_model.specs.Dictionary.{key_of}
+use Rattle.prcu_model.proofs.ListFacts.{prefix_trans}
+use Rattle.core_state.specs.declared.shape.Shape.{Shape}
+use Rattle.core_state.specs.declared.view.Retired.{Retired}
+use Rattle.core_state.specs.declared.view.SearchState.{SearchState}
+use Rattle.core_state.specs.declared.view.SearchState.TheVariants.{Found}
+use Rattle.core_state.specs.declared.view.View.{View}
+use Rattle.core_points.specs.declared.stage.Target.{Target}
+use Rattle.core_points.specs.declared.stage.Then.TheVariants as next
+use Rattle.core_points.specs.declared.stage.Stage.TheVariants as at
+use Rattle.core_points.specs.Facts.{is_delete}
+use Rattle.seat_table.specs.Gains.{TellsNow}
+use Rattle.seat_table.specs.Sections.{HasLeft}
+use Rattle.tree_points.specs.At.{IsAt, IsDone}
+use Rattle.tree_points.specs.Progress.{HasGone}
+use Rattle.tree_points.proofs.Gone.{gone_entered, gone_left, gone_none, gone_on, gone_same, gone_stays}
+use Rattle.tree_points.proofs.Leaving.{leaves_delete}
+use Rattle.tree_points.proofs.Standing.{no_hand_enter}
+use Rattle.citrus_tree.specs.Deletes.{HasSearched, KeepsAll, retired_slots}
+use Rattle.citrus_tree.specs.Lookups.{IsSearching, Looked}
+use Rattle.citrus_tree.specs.Replies.{WasAnswered}
+use Rattle.citrus_tree.proofs.Leavings.{goes_looked, was_answered}
+
+module _ {k : Shape} {kept key : ℕ} where
+  -- the search found the node
+  pub at_parent : {v w : View} {p s : ℕ} {b : Side} → IsAt k (Del key) kept at.EnterClock v → IsSearching v key (Found s p b None) w → IsAt k (Del key) kept (at.ParentLife p b s) w
+  at_parent {v} {w} {p} {s} {b} a i =
+      let e = i.entered in
+      let same : w ≡ record v { enter = i.entry.enter; section = w.section; counts = record v.counts { sections = v.counts.sections + 1 }; trail = w.trail; seen = i.entry.seen } =
+      i.others ∙ ap (λ (z : View). record z { section = w.section; trail = w.trail }) e.others in
+      subst (λ (z : View). IsAt k (Del key) kept (at.ParentLife p b s) z) (sym same) (record {
+        own = a.own;
+        op_is = a.op_is;
+        slots_are = a.slots_are;
+        places_are = a.places_are;
+        last = a.last;
+        keeps = a.keeps;
+        fits = record {
+          owns = a.fits.owns;
+          tickets = a.fits.tickets;
+          unraised = a.fits.unraised;
+          point = (
+            (a.fits.point).1,
+            ap is_delete a.op_is,
+            (
+              record e.section { reading = i.reading },
+              i.inside,
+              record { searches = e.no_list; key_is = e.key_is ∙ ap key_of (sym a.op_is); sought = i.key_is ∙ ap key_of (sym a.op_is); state_is = i.state_is; here = i.here },
+              (i.above, tt),
+            ),
+          );
+        };
+      })
+
+  -- or nothing: the call is over
+  pub at_end : {v w : View} → IsAt k (Del key) kept at.EnterClock v → Looked v key None w → IsDone k (Del key) kept w
+  at_end {v} {w} a l =
+      let bare = ((a.fits.point).1).0 in
+      let hand = no_hand_enter refl a in
+      subst (λ (z : View). IsDone k (Del key) kept z) (sym l.others) (record {
+        own = a.own;
+        op_is = a.op_is;
+        slots_are = a.slots_are;
+        places_are = a.places_are;
+        last = a.last;
+        keeps = a.keeps;
+        fits = record {
+          owns = a.fits.owns;
+          tickets = (let t = a.fits.tickets in omega arith);
+          unraised = a.fits.unraised;
+          point = (refl, bare, hand);
+        };
+      })
+
+  -- the section was left with a target
+  pub at_target : {v w : View} {t : Target} → IsAt k (Del key) kept (at.Leave (next.Delete t)) v → TellsNow k v → HasLeft v w → IsAt k (Del key) kept (at.TargetLock t 0) w
+  at_target {v} {w} a now left = leaves_delete k (Del key) kept v w left now a
+
+-- What the section leaves.
+pub searched_found : {v w x y : View} {key : ℕ} {state : SearchState} → IsSearching v key state w → KeepsAll w x → HasLeft x y → HasSearched v key y
+searched_found {v} {w} {x} {y} {key} {state} i k left =
+    let e = i.entered in
+    let inside : HasGone v w (Entered v.allowance.place v.counts.sections key ∷ []) = gone_stays (gone_entered e) (gone_none (ap (λ (z : View). z.allowance.place) i.others) (ap (λ (z : View). z.seen) i.others)) in
+    let before : HasGone v x (Entered v.allowance.place v.counts.sections key ∷ []) = gone_stays inside k.gone in
+    record {
+      count = v.counts.sections;
+      left = left.section.count;
+      gone = subst (λ p. HasGone v y (Entered v.allowance.place v.counts.sections key ∷ (LeftMark p left.section.count ∷ []))) before.same (gone_on before (gone_left left));
+      waits = record {
+        wait = ap (λ (z : View). z.wait) left.others ∙ k.waits.wait ∙ ap (λ (z : View). z.wait) i.others ∙ ap (λ (z : View). z.wait) e.others;
+        count = ap (λ (z : View). z.counts.waits) left.others ∙ k.waits.count ∙ ap (λ (z : View). z.counts.waits) i.others ∙ ap (λ (z : View). z.counts.waits) e.others;
+      };
+      retired = ap retired_slots left.others ∙ k.retired ∙ ap retired_slots i.others ∙ ap retired_slots e.others;
+    }
+
+pub searched_missed : {v w : View} {key : ℕ} {answer : Option ℕ} → Looked v key answer w → HasSearched v key w
+searched_missed {v} {w} l =
+    let goes = goes_looked l in
+    record {
+      count = v.counts.sections;
+      left = v.counts.sections;
+      gone = goes.gone;
+      waits = record { wait = goes.wait; count = goes.waits };
+      retired = ap (map (λ (r : Retired). r.slot)) goes.retired;
+    }
+
+pub answered_now : {v w : View} {key : ℕ} {answer : Option ℕ} → Looked v key answer w → WasAnswered v key answer w
+answered_now l = was_answered l gone_same
+
+-- An answer since a later moment is one since an earlier.
+pub answered_before : {u v w : View} {key : ℕ} {answer : Option ℕ} {marks : List Mark} → HasGone u v marks → WasAnswered v key answer w → WasAnswered u key answer w
+answered_before {u} {v} {w} {key} g a = record {
+  count = a.count;
+  before = a.before;
+  until = a.until;
+  since = prefix_trans u.seen v.seen a.before g.begins a.since;
+  within = subst (λ p. IsPrefix (a.before ++ Entered p a.count key ∷ []) a.until) g.same a.within;
+  seen = subst (λ p. IsPrefix (a.until ++ LeftMark p a.count ∷ []) w.seen) g.same a.seen;
+  said = a.said;
+}

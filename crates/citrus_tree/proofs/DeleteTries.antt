@@ -1,0 +1,190 @@
+-- A delete's tries, one after another, and the call whole.
+use Rattle.std.proofs.Common.{◌≡◌, ℕ, ◌+◌, ◌-◌, ◌^◌, ◌<◌, ◌≤◌, ◌==◌, cond, List, [], ◌∷◌, ◌++◌, Some, None, refl, sym, ap, subst, ◌∙◌, inl, inr, ⊎_elim, arith, eq-eqb, append_assoc}
+use Rattle.std.specs.List.{AllByRecursion}
+use mathlib.Core.List.{IsPrefix}
+use Rattle.prcu_marks.specs.declared.mark.Mark.{Mark}
+use Rattle.prcu_marks.specs.declared.mark.Mark.TheVariants.{Entered, Left as LeftMark, Began, Ended, Done}
+use Rattle.prcu_marks.specs.Callers.{entered_for}
+use Rattle.prcu_marks.proofs.OwnMarks.{entered_for-append}
+use Rattle.prcu_model.specs.declared.operation.Op.TheVariants.{Del}
+use Rattle.prcu_model.specs.declared.operation.Reply.{Reply}
+use Rattle.prcu_model.specs.declared.operation.Reply.TheVariants.{New, Old, Full, Val, Absent, Gone, Was}
+use Rattle.prcu_model.specs.declared.operation.Told.{Told}
+use Rattle.prcu_model.proofs.ListFacts.{all_append, prefix_trans}
+use Rattle.core_state.specs.declared.shape.Shape.{Shape}
+use Rattle.core_state.specs.declared.view.View.{View}
+use Rattle.core_state.specs.declared.view.Waiting.{Waiting}
+use Rattle.core_state.specs.views.Views.{IsQuiet}
+use Rattle.core_points.specs.declared.stage.Stage.TheVariants as at
+use Rattle.list_laws.specs.Counts.{times}
+use Rattle.seat_table.specs.Gains.{IsInformed}
+use Rattle.seat_table.specs.Seats.{AreListed, SeatAt}
+use Rattle.tree_points.specs.At.{IsAt, IsDone}
+use Rattle.tree_points.specs.Progress.{HasGone}
+use Rattle.tree_points.proofs.Ends.{has_kept, is_quiet}
+use Rattle.tree_points.proofs.Gone.{gone_on, gone_same, gone_stays}
+use Rattle.citrus_tree.specs.Deletes.{DelsAtOnce, HasDeleted, HasMadeRoom, HasSearched, HasWaitedForRoom, IsReadyToDelete, KeepsRest, KeepsWaits, retired_slots}
+use Rattle.citrus_tree.specs.Gone.{AreTries, IsOfTry, KeepsWait, waits_in}
+use Rattle.citrus_tree.specs.Replies.{Dels, DelsBy, IsMoveWait, WasAnswered}
+use Rattle.citrus_tree.proofs.Replacing.{waits_in-append}
+use Rattle.citrus_tree.proofs.DeletePieces.{wait_later}
+use Rattle.citrus_tree.proofs.DeleteSearch.{answered_before}
+
+-- as many of each slot are retired as before
+pub listed_still : (s t : SeatAt) → t.listed ≡ s.listed → retired_slots t.view ≡ retired_slots s.view → AreListed s → AreListed t
+listed_still s t listed retired are = record { each = λ slot. ap (times slot) listed ∙ are.each slot ∙ ap (times slot) (sym retired) }
+
+pub waits_on : {v w x : View} → KeepsWaits v w → KeepsWaits w x → KeepsWaits v x
+waits_on a b = record { wait = b.wait ∙ a.wait; count = b.count ∙ a.count }
+
+-- So far there were only sections with the key, and the call may begin its next try.
+pub record TriesToDelete (k : Shape) (key : ℕ) (v w : View) : Type 0 where
+  pub marks : List Mark
+  pub gone : HasGone v w marks
+  pub each : AllByRecursion (IsOfTry v.allowance.place key) marks
+  pub none : waits_in marks ≡ 0
+  pub waits : KeepsWaits v w
+  pub ready : (kept : ℕ) → IsAt k (Del key) kept at.EnterClock v → IsAt k (Del key) kept at.EnterClock w
+
+pub tries_first : (k : Shape) (key : ℕ) (v : View) → TriesToDelete k key v v
+tries_first k key v = record { marks = []; gone = gone_same; each = tt; none = refl; waits = record { wait = refl; count = refl }; ready = λ kept a. a }
+
+-- one more section
+module _ {k : Shape} {key : ℕ} {v w x : View} (t : TriesToDelete k key v w) (s : HasSearched w key x) where
+  place : w.allowance.place ≡ v.allowance.place
+  place = t.gone.same
+
+  gone : HasGone v x (t.marks ++ (Entered w.allowance.place s.count key ∷ (LeftMark w.allowance.place s.left ∷ [])))
+  gone = gone_on t.gone s.gone
+
+  none : waits_in (t.marks ++ (Entered w.allowance.place s.count key ∷ (LeftMark w.allowance.place s.left ∷ []))) ≡ 0
+  none = waits_in-append t.marks (Entered w.allowance.place s.count key ∷ (LeftMark w.allowance.place s.left ∷ [])) ∙ ap (λ n. n + 0) t.none
+
+  each : AllByRecursion (IsOfTry v.allowance.place key) (t.marks ++ (Entered w.allowance.place s.count key ∷ (LeftMark w.allowance.place s.left ∷ [])))
+  each = all_append (IsOfTry v.allowance.place key) t.marks (Entered w.allowance.place s.count key ∷ (LeftMark w.allowance.place s.left ∷ [])) t.each ((place, refl), (place, tt))
+
+  tries : AreTries v.allowance.place key (t.marks ++ (Entered w.allowance.place s.count key ∷ (LeftMark w.allowance.place s.left ∷ [])))
+  tries = record {
+    each = each;
+    entered =
+        (let split = entered_for-append v.allowance.place key t.marks (Entered w.allowance.place s.count key ∷ (LeftMark w.allowance.place s.left ∷ [])) in
+        let one : entered_for v.allowance.place key (Entered w.allowance.place s.count key ∷ (LeftMark w.allowance.place s.left ∷ [])) ≡ 1 =
+        ap (λ b. cond b (cond (key == key) 1 0) 0 + 0) (eq-eqb w.allowance.place v.allowance.place place) ∙ ap (λ b. cond b 1 0 + 0) (eq-eqb key key refl) in
+        omega arith);
+    once = (let n = none in omega arith);
+  }
+
+  pub searched_waits : KeepsWaits v x
+  searched_waits = waits_on t.waits s.waits
+
+  -- the key is absent
+  pub absent_dels : WasAnswered w key None x → DelsAtOnce v key (record { reply = Absent; number = 0 }) x
+  absent_dels a = (t.marks ++ (Entered w.allowance.place s.count key ∷ (LeftMark w.allowance.place s.left ∷ [])), (refl, record { tried = tries; own = gone }, answered_before t.gone a), none)
+
+  pub absent_wait : KeepsWait v x
+  absent_wait = inl searched_waits.wait
+
+  -- the target wasn't taken out
+  pub tries_again : {y : View} → KeepsRest x y → ((kept : ℕ) → IsAt k (Del key) kept at.EnterClock w → IsAt k (Del key) kept at.EnterClock y) → TriesToDelete k key v y
+  tries_again {y} rest again = record {
+    marks = t.marks ++ (Entered w.allowance.place s.count key ∷ (LeftMark w.allowance.place s.left ∷ []));
+    gone = gone_stays gone rest.gone;
+    each = each;
+    none = none;
+    waits = waits_on searched_waits rest.waits;
+    ready = λ kept a. again kept (t.ready kept a);
+  }
+
+  -- or it was
+  pub gone_dels : {y : View} {number : ℕ} → HasDeleted x key number y → IsInformed y → DelsAtOnce v key (record { reply = Gone; number = number }) y
+  gone_dels {y} {number} d informed =
+      let same : x.allowance.place ≡ v.allowance.place = gone.same in
+      let all : HasGone v y ((t.marks ++ (Entered w.allowance.place s.count key ∷ (LeftMark w.allowance.place s.left ∷ []))) ++ (Done (record { caller = v.allowance.place; op = Del key }) ∷ d.after)) =
+      subst (λ p. HasGone v y ((t.marks ++ (Entered w.allowance.place s.count key ∷ (LeftMark w.allowance.place s.left ∷ []))) ++ (Done (record { caller = p; op = Del key }) ∷ d.after))) same (gone_on gone d.done.gone) in (
+        t.marks ++ (Entered w.allowance.place s.count key ∷ (LeftMark w.allowance.place s.left ∷ [])),
+        (
+          d.done.before,
+          d.after,
+          record {
+            tried = tries;
+            own = subst (HasGone v y) (sym (append_assoc (t.marks ++ (Entered w.allowance.place s.count key ∷ (LeftMark w.allowance.place s.left ∷ []))) (Done (record { caller = v.allowance.place; op = Del key }) ∷ []) d.after)) all;
+            since = prefix_trans v.seen x.seen d.done.before gone.begins d.done.since;
+            stands = subst (λ p. IsPrefix (d.done.before ++ Done (record { caller = p; op = Del key }) ∷ []) y.seen) same d.done.stands;
+            number_is = d.done.number_is;
+            legal = informed.legal;
+          },
+          ⊎_elim (λ (bare : d.after ≡ []). inl bare)
+              (λ (m : IsMoveWait x d.done.before key d.after). inr (m.0, m.1, m.2 ∙ ap (λ p. Began p m.0 (key + 1) m.1 ∷ (Ended p m.0 ∷ [])) same, m.3)) d.move,
+        ),
+        none,
+      )
+
+  pub gone_wait : (y : View) → KeepsWait x y → KeepsWait v y
+  gone_wait y later = wait_later v x y searched_waits later
+
+-- The call whole: what came before its first search, and the rest.
+module _ {v u : View} (room : HasMadeRoom v u) (key : ℕ) where
+  place_first : u.allowance.place ≡ v.allowance.place
+  place_first = room.gone.same
+
+  first_each : AllByRecursion (IsOfTry v.allowance.place key) room.marks
+  first_each = ⊎_elim (λ (bare : room.marks ≡ []). subst (AllByRecursion (IsOfTry v.allowance.place key)) (sym bare) tt)
+      (λ (f : HasWaitedForRoom v room.marks). subst (AllByRecursion (IsOfTry v.allowance.place key)) (sym f.marks_are) ((refl, refl, refl), (refl, tt))) room.waited
+
+  first_once : waits_in room.marks ≤ 1
+  first_once = ⊎_elim (λ (bare : room.marks ≡ []). subst (λ ms. waits_in ms ≤ 1) (sym bare) (omega arith)) (λ (f : HasWaitedForRoom v room.marks). subst (λ ms. waits_in ms ≤ 1) (sym f.marks_are) (omega arith)) room.waited
+
+  all_tries : (ms : List Mark) → waits_in ms ≡ 0 → AreTries u.allowance.place key ms → AreTries v.allowance.place key (room.marks ++ ms)
+  all_tries ms bare are = record {
+    each = all_append (IsOfTry v.allowance.place key) room.marks ms first_each (subst (λ p. AllByRecursion (IsOfTry p key) ms) place_first are.each);
+    entered = (let split = entered_for-append v.allowance.place key room.marks ms in let some : 1 ≤ entered_for v.allowance.place key ms = subst (λ p. 1 ≤ entered_for p key ms) place_first are.entered in omega arith);
+    once = (let split = waits_in-append room.marks ms in let few = first_once in omega arith);
+  }
+
+  all_gone : (ms after : List Mark) (w : View) → HasGone u w ((ms ++ Done (record { caller = u.allowance.place; op = Del key }) ∷ []) ++ after) → HasGone v w (((room.marks ++ ms) ++ Done (record { caller = v.allowance.place; op = Del key }) ∷ []) ++ after)
+  all_gone ms after w g =
+      let d : List Mark = Done (record { caller = v.allowance.place; op = Del key }) ∷ [] in
+      let mine : HasGone u w ((ms ++ d) ++ after) = subst (λ p. HasGone u w ((ms ++ Done (record { caller = p; op = Del key }) ∷ []) ++ after)) place_first g in
+      subst (HasGone v w) (sym (append_assoc room.marks (ms ++ d) after) ∙ ap (λ l. l ++ after) (sym (append_assoc room.marks ms d))) (gone_on room.gone mine)
+
+  dels_by : (ms : List Mark) → waits_in ms ≡ 0 → (w : View) (reply : Reply) (number : ℕ) → DelsBy u key ms reply number w → DelsBy v key (room.marks ++ ms) reply number w
+  dels_by ms bare w Gone number (before, after, up, move) = (
+    before,
+    after,
+    record {
+      tried = all_tries ms bare up.tried;
+      own = all_gone ms after w up.own;
+      since = prefix_trans v.seen u.seen before room.gone.begins up.since;
+      stands = subst (λ p. IsPrefix (before ++ Done (record { caller = p; op = Del key }) ∷ []) w.seen) place_first up.stands;
+      number_is = up.number_is;
+      legal = up.legal;
+    },
+    ⊎_elim (λ (e : after ≡ []). inl e) (λ (m : IsMoveWait u before key after). inr (m.0, m.1, m.2 ∙ ap (λ p. Began p m.0 (key + 1) m.1 ∷ (Ended p m.0 ∷ [])) place_first, m.3)) move,
+  )
+  dels_by ms bare w Absent number (zero_is, tried, answered) = (zero_is, record { tried = all_tries ms bare tried.tried; own = gone_on room.gone tried.own }, answered_before room.gone answered)
+  dels_by ms bare w New number d = absurd d
+  dels_by ms bare w Old number d = absurd d
+  dels_by ms bare w Full number d = absurd d
+  dels_by ms bare w (Val value) number d = absurd d
+  dels_by ms bare w (Was value) number d = absurd d
+
+  pub dels : (w : View) (told : Told) → DelsAtOnce u key told w → Dels v key told w
+  dels w told (ms, by, bare) = (
+    room.marks ++ ms,
+    dels_by ms bare w told.reply told.number by,
+    λ some. ⊎_elim (λ (e : room.marks ≡ []). absurd (let f : waits_in room.marks ≡ 0 = ap waits_in e in let split = waits_in-append room.marks ms in omega arith)) (λ (f : HasWaitedForRoom v room.marks). f.why) room.waited,
+  )
+
+  pub keeps_wait : (w : View) → KeepsWait u w → KeepsWait v w
+  keeps_wait w later = ⊎_elim
+      (λ (e : w.wait ≡ u.wait). ⊎_elim (λ (f : u.wait ≡ v.wait). inl (e ∙ f)) (λ (l : (wait : Waiting) × (u.wait ≡ Some wait) × (v.counts.waits ≤ wait.count)). inr (l.0, e ∙ l.1, l.2)) room.latest)
+      (λ (l : (wait : Waiting) × (w.wait ≡ Some wait) × (u.counts.waits ≤ wait.count)). inr (l.0, l.1, (let a = l.2 in let b = room.waits in omega arith))) later
+
+-- What a call that is ready and comes to its end leaves: the seat is quiet, and it used four tickets at most.
+module _ {k : Shape} (v : View) {u w : View} {key : ℕ} (ready : IsReadyToDelete k v u) (fits : key < 2 ^ 64) (paid : 4 ≤ v.allowance.tickets) where
+  module _ (done : (kept : ℕ) → IsAt k (Del key) kept at.EnterClock u → IsDone k (Del key) kept w) where
+    pub ends_quiet : IsQuiet w
+    ends_quiet = is_quiet (done 0 (ready key 0 fits paid))
+
+    pub ends_tickets : v.allowance.tickets ≤ w.allowance.tickets + 4
+    ends_tickets = (let left = has_kept (done (v.allowance.tickets - 4) (ready key (v.allowance.tickets - 4) fits (omega arith))) in omega arith)

@@ -1,0 +1,367 @@
+-- A put's tries, one after another.
+use Rattle.std.proofs.Common.{◌≡◌, ℕ, ◌+◌, ◌-◌, ◌*◌, ◌<◌, ◌≤◌, ◌==◌, ◌^◌, cond, List, [], ◌∷◌, ◌++◌, length, Option, Some, None, refl, sym, ap, subst, ◌∙◌, inl, inr, ⊎_elim, arith, eq-eqb, append-nil}
+use Rattle.std.specs.FinMap as finite
+use Rattle.std.specs.List.{AllByRecursion}
+use mathlib.Core.List.{IsPrefix}
+use Rattle.prcu_marks.specs.declared.mark.Mark.{Mark}
+use Rattle.prcu_marks.specs.declared.mark.Mark.TheVariants.{Entered, Left as LeftMark, Began, Ended, Done, Given, Unlinked, Freed}
+use Rattle.prcu_marks.specs.Callers.{entered_for}
+use Rattle.prcu_marks.specs.Marks.{updates_of}
+use Rattle.prcu_marks.proofs.OwnMarks.{entered_for-append}
+use Rattle.prcu_model.specs.declared.operation.Op.{Op}
+use Rattle.prcu_model.specs.declared.operation.Op.TheVariants.{Put}
+use Rattle.prcu_model.specs.declared.operation.Reply.TheVariants.{New, Old, Full}
+use Rattle.prcu_model.specs.Dictionary.{key_of, map_of}
+use Rattle.prcu_model.proofs.ListFacts.{all_append, prefix_trans}
+use Rattle.core_state.specs.declared.shape.Shape.{Shape}
+use Rattle.core_state.specs.declared.view.Held.{Held}
+use Rattle.core_state.specs.declared.view.Retired.{Retired}
+use Rattle.core_state.specs.declared.view.View.{View}
+use Rattle.core_state.specs.memory.Memory.{slot_count}
+use Rattle.core_state.specs.steps.Seating.{spare_slot}
+use Rattle.core_state.specs.views.Views.{IsQuiet, Works}
+use Rattle.core_points.specs.Callers.{key_now}
+use Rattle.core_points.specs.Facts.{HasSpot, is_put, table_of}
+use Rattle.core_points.specs.Tickets.{owed_op}
+use Rattle.core_points.specs.declared.stage.Spot.{Spot}
+use Rattle.core_points.specs.declared.stage.Stage.TheVariants as at
+use Rattle.seat_table.specs.Gains.{TellsNow}
+use Rattle.tree_points.specs.At.{IsAt}
+use Rattle.tree_points.specs.Progress.{HasGone}
+use Rattle.tree_points.proofs.Ends.{begins_put, has_kept, is_quiet}
+use Rattle.tree_points.proofs.Gone.{gone_on, gone_same}
+use Rattle.tree_points.proofs.Holding.{slot_in_hand}
+use Rattle.tree_points.proofs.Standing.{outside_enter, unlocked_enter}
+use Rattle.citrus_tree.specs.Going.{Goes, Searched, Since, Unwaited, Waited, leaf_stage}
+use Rattle.citrus_tree.specs.Gone.{AreTries, IsOfTry, KeepsWait, NeededRoom, waits_in}
+use Rattle.citrus_tree.specs.Hops.{Records}
+use Rattle.citrus_tree.specs.Lookups.{Looked}
+use Rattle.citrus_tree.specs.Putting.{Links, MakesRoom, Reused, old_stage}
+use Rattle.citrus_tree.specs.Replies.{IsFullNow, Puts}
+use Rattle.citrus_tree.proofs.Filling.{needed_on}
+use Rattle.citrus_tree.proofs.Leavings.{goes_looked, was_answered}
+
+-- the view after a lookup
+abbrev left_view : {v w : View} {key : ℕ} {answer : Option ℕ} → Looked v key answer w → View
+left_view {v} {w} l = record v { enter = w.enter; section = None; records = l.reading ∷ v.records; counts = record v.counts { sections = v.counts.sections + 1 }; trail = w.trail; seen = w.seen }
+
+-- Where a put stands after its search.
+module _ {k : Shape} {kept key value : ℕ} {v : View} (a : IsAt k (Put key value) kept at.EnterClock v) where
+  own_hand : (h : Option Held) → v.hands.hand ≡ h → a.own.hand ≡ spare_slot h
+  own_hand h e = sym (slot_in_hand a.own.hand _ _ _ v.hands.hand ((a.fits.point).1).1) ∙ ap spare_slot e
+
+  -- the key is there
+  pub old_at : {w : View} {old : ℕ} → Looked v key (Some old) w → IsAt k (Put key value) kept (old_stage w.hands.hand) w
+  old_at {w} l = subst (λ (z : View). IsAt k (Put key value) kept (old_stage z.hands.hand) z) (sym l.others) (by v.hands.hand refl)
+    where
+      by : (h : Option Held) → v.hands.hand ≡ h → IsAt k (Put key value) kept (old_stage h) (left_view l)
+      by None e = record {
+        own = a.own;
+        op_is = a.op_is;
+        slots_are = a.slots_are;
+        places_are = a.places_are;
+        last = a.last;
+        keeps = a.keeps;
+        fits = record { owns = a.fits.owns; tickets = (let t = a.fits.tickets in omega arith); unraised = a.fits.unraised; point = (refl, ((a.fits.point).1).0, e) };
+      }
+      by (Some held) e = record {
+        own = a.own;
+        op_is = a.op_is;
+        slots_are = a.slots_are;
+        places_are = a.places_are;
+        last = a.last;
+        keeps = a.keeps;
+        fits = record {
+          owns = a.fits.owns;
+          tickets = (let t = a.fits.tickets in omega arith);
+          unraised = a.fits.unraised;
+          point = (refl, (held.slot, own_hand (Some held) e), (a.fits.point).1, ap is_put a.op_is);
+        };
+      }
+
+  -- it isn't, and the empty side is recorded
+  pub spot_at : {w : View} {spot : Spot} (l : Looked v key None w) → Records l.reading spot → spot.slot < slot_count k → IsAt k (Put key value) kept (leaf_stage w.hands.hand spot) w
+  spot_at {w} {spot} l r below = subst (λ (z : View). IsAt k (Put key value) kept (leaf_stage z.hands.hand spot) z) (sym l.others) (by v.hands.hand refl)
+    where
+      has : HasSpot (table_of a.own) (left_view l).records (key_now a.own) spot
+      has = (l.reading, (0, refl), l.sought ∙ sym (ap key_of a.op_is), r.state_is, r.generation_is, r.tag_is, (let s = a.slots_are in let p = a.places_are in omega arith))
+
+      by : (h : Option Held) → v.hands.hand ≡ h → IsAt k (Put key value) kept (leaf_stage h spot) (left_view l)
+      by None e = record {
+        own = a.own;
+        op_is = a.op_is;
+        slots_are = a.slots_are;
+        places_are = a.places_are;
+        last = a.last;
+        keeps = a.keeps;
+        fits = record {
+          owns = a.fits.owns;
+          tickets = subst (λ (z : Op × Option ℕ). owed_op z.0 z.1 a.own.retired + 4 * length a.own.rest + a.own.kept ≤ v.allowance.tickets) (λ i. (a.op_is i, own_hand None e i)) a.fits.tickets;
+          unraised = a.fits.unraised;
+          point = (refl, ((a.fits.point).1).0, e, own_hand None e, omega arith, has, ap is_put a.op_is);
+        };
+      }
+      by (Some held) e = record {
+        own = a.own;
+        op_is = a.op_is;
+        slots_are = a.slots_are;
+        places_are = a.places_are;
+        last = a.last;
+        keeps = a.keeps;
+        fits = record {
+          owns = a.fits.owns;
+          tickets = a.fits.tickets;
+          unraised = a.fits.unraised;
+          point = (refl, (held.slot, own_hand (Some held) e), ((a.fits.point).1).0, ((a.fits.point).1).1, has, ap is_put a.op_is);
+        };
+      }
+
+waits_both : (a b : List Mark) → waits_in (a ++ b) ≡ waits_in a + waits_in b
+waits_both [] b = omega arith
+waits_both (Entered p c x ∷ a) b = waits_both a b
+waits_both (LeftMark p c ∷ a) b = waits_both a b
+waits_both (Began p c low high ∷ a) b = (let e = waits_both a b in omega arith)
+waits_both (Ended p c ∷ a) b = waits_both a b
+waits_both (Done u ∷ a) b = waits_both a b
+waits_both (Given s ∷ a) b = waits_both a b
+waits_both (Unlinked s ∷ a) b = waits_both a b
+waits_both (Freed s ∷ a) b = waits_both a b
+
+-- the marks of one more section
+abbrev section_of : View → ℕ → List Mark
+section_of w key = Entered w.allowance.place w.counts.sections key ∷ (LeftMark w.allowance.place w.counts.sections ∷ [])
+
+-- What was left so far goes on.
+module _ {k : Shape} {v w : View} {key : ℕ} {marks : List Mark} (s : Since k v key marks w) where
+  since_goes : {x : View} (more : List Mark) → Goes w x more → AllByRecursion (IsOfTry v.allowance.place key) more → waits_in more ≡ 0 → Since k v key (marks ++ more) x
+  since_goes {x} more g each none = record {
+    gone = gone_on s.gone g.gone;
+    each = all_append (IsOfTry v.allowance.place key) marks more s.each each;
+    waits = ⊎_elim
+        (λ (u : Unwaited v w marks). inl (record { none = (let both = waits_both marks more in let first = u.none in omega arith); retired = g.retired ∙ u.retired; wait = g.wait ∙ u.wait; waits = g.waits ∙ u.waits }))
+        (λ (t : Waited k v w marks). inr (record {
+          one = (let both = waits_both marks more in let first = t.one in omega arith);
+          none = g.retired ∙ t.none;
+          needed = needed_on t.needed g.gone.begins;
+          wait = (t.wait.0, g.wait ∙ t.wait.1, t.wait.2);
+        }))
+        s.waits;
+  }
+
+  pub since_stays : {x : View} → Goes w x [] → Since k v key marks x
+  since_stays {x} g = subst (λ ms. Since k v key ms x) (append-nil marks) (since_goes [] g tt refl)
+
+  since_reused : {x : View} → Reused k w x → Since k v key (marks ++ (Began w.allowance.place w.counts.waits 0 18446744073709551615 ∷ (Ended w.allowance.place w.counts.waits ∷ []))) x
+  since_reused {x} r =
+      let more : List Mark = Began w.allowance.place w.counts.waits 0 18446744073709551615 ∷ (Ended w.allowance.place w.counts.waits ∷ []) in
+      record {
+        gone = gone_on s.gone r.gone;
+        each = all_append (IsOfTry v.allowance.place key) marks more s.each ((s.gone.same, refl, refl), (s.gone.same, tt));
+        waits = ⊎_elim
+            (λ (u : Unwaited v w marks). inr (record {
+              one = (let both = waits_both marks more in let first = u.none in omega arith);
+              none = r.none;
+              needed = record {
+                retired = subst (λ (rs : List Retired). 1 ≤ length rs) u.retired r.needed.retired;
+                until = r.needed.until;
+                since = prefix_trans v.seen w.seen r.needed.until s.gone.begins r.needed.since;
+                made = r.needed.made;
+                fills = subst (λ (rs : List Retired). k.slots ≤ finite.len (map_of (updates_of r.needed.until)) + length rs + 20 * (k.places - 1)) u.retired r.needed.fills;
+              };
+              wait = (r.wait.0, r.wait.1, (let same = u.waits in let later = r.wait.2 in omega arith));
+            }))
+            (λ (t : Waited k v w marks). absurd (let some = r.needed.retired in let none = ap length t.none in omega arith))
+            s.waits;
+      }
+
+  pub since_room : {x : View} → MakesRoom k w x → (more : List Mark) × Since k v key (marks ++ more) x
+  since_room {x} room = ⊎_elim
+      (λ (g : Goes w x []). ([], since_goes [] g tt refl))
+      (λ (r : Reused k w x). (Began w.allowance.place w.counts.waits 0 18446744073709551615 ∷ (Ended w.allowance.place w.counts.waits ∷ []), since_reused r))
+      room
+
+  -- one more section
+  module _ {answer : Option ℕ} {x : View} (l : Looked w key answer x) where
+    pub since_looked : Since k v key (marks ++ section_of w key) x
+    since_looked = since_goes (section_of w key) (goes_looked l) ((s.gone.same, refl), (s.gone.same, tt)) refl
+
+    pub entered_looked : 1 ≤ entered_for v.allowance.place key (marks ++ section_of w key)
+    entered_looked =
+        let split = entered_for-append v.allowance.place key marks (section_of w key) in
+        let one : entered_for v.allowance.place key (section_of w key) ≡ 1 =
+        ap (λ b. cond b (cond (key == key) 1 0) 0 + 0) (eq-eqb w.allowance.place v.allowance.place s.gone.same) ∙ ap (λ b. cond b 1 0 + 0) (eq-eqb key key refl) in
+        omega arith
+
+  pub are_tries : 1 ≤ entered_for v.allowance.place key marks → AreTries v.allowance.place key marks
+  are_tries some = record {
+    each = s.each;
+    entered = some;
+    once = ⊎_elim (λ (u : Unwaited v w marks). (let none = u.none in omega arith)) (λ (t : Waited k v w marks). (let one = t.one in omega arith)) s.waits;
+  }
+
+  pub needs_room : {x : View} → IsPrefix w.seen x.seen → 1 ≤ waits_in marks → NeededRoom k v x
+  needs_room {x} more some = ⊎_elim (λ (u : Unwaited v w marks). absurd (let none = u.none in omega arith)) (λ (t : Waited k v w marks). needed_on t.needed more) s.waits
+
+  pub keeps_wait : (x : View) → x.wait ≡ w.wait → KeepsWait v x
+  keeps_wait x same = ⊎_elim (λ (u : Unwaited v w marks). inl (same ∙ u.wait)) (λ (t : Waited k v w marks). inr (t.wait.0, same ∙ t.wait.1, t.wait.2)) s.waits
+
+no_more : (xs : List Mark) → IsPrefix xs xs
+no_more xs = ([], append-nil xs)
+
+-- So far there were only sections with the key, and at most one wait; and the call may begin its next try.
+pub record Trying (k : Shape) (key value : ℕ) (v w : View) : Type 0 where
+  pub marks : List Mark
+  pub since : Since k v key marks w
+  pub ready : (kept : ℕ) → kept + 4 ≤ v.allowance.tickets → IsAt k (Put key value) kept at.EnterClock w
+
+module _ {k : Shape} {key value : ℕ} {v : View} where
+  pub begins : IsQuiet v → Works v → TellsNow k v → key < 2 ^ 64 → Trying k key value v v
+  begins quiet works now fits = record {
+    marks = [];
+    since = record { gone = gone_same; each = tt; waits = inl (record { none = refl; retired = refl; wait = refl; waits = refl }) };
+    ready = λ kept few. begins_put quiet works now fits few;
+  }
+
+  module _ {w : View} (t : Trying k key value v w) (few : 4 ≤ v.allowance.tickets) where
+    pub outside : w.section ≡ None
+    outside = outside_enter (t.ready 0 few)
+
+    pub unlocked : w.locks ≡ []
+    unlocked = unlocked_enter (t.ready 0 few)
+
+    -- the key is there
+    module _ {x : View} (f : Searched k w key None x) where
+      old_ready : (kept : ℕ) → kept + 4 ≤ v.allowance.tickets → IsAt k (Put key value) kept (old_stage x.hands.hand) x
+      old_ready kept enough = old_at (t.ready kept enough) f.1
+
+      pub may_give_up : (a b c : ℕ) × IsAt k (Put a b) c (old_stage x.hands.hand) x
+      may_give_up = (key, value, 0, old_ready 0 few)
+
+      pub old_retired : x.hands.retired ≡ w.hands.retired
+      old_retired = (goes_looked f.1).retired
+
+      module _ {y : View} (g : Goes x y []) where
+        pub old_puts : Puts k v key value (record { reply = Old; number = 0 }) y
+        old_puts =
+            let before = since_looked t.since f.1 in
+            let s = since_stays before g in
+            let said = was_answered f.1 t.since.gone in (
+              t.marks ++ section_of w key,
+              (
+                refl,
+                record { tried = are_tries s (entered_looked t.since f.1); own = s.gone },
+                (f.0, record { count = said.count; before = said.before; until = said.until; since = said.since; within = said.within; seen = prefix_trans _ x.seen y.seen said.seen g.gone.begins; said = said.said }),
+              ),
+              needs_room s (no_more y.seen),
+            )
+
+        pub old_wait : KeepsWait v y
+        old_wait = keeps_wait (since_stays (since_looked t.since f.1) g) y refl
+
+        module _ (ends : (a b c : ℕ) → IsAt k (Put a b) c (old_stage x.hands.hand) x → IsAt k (Put a b) c at.Finished y) where
+          pub old_quiet : IsQuiet y
+          old_quiet = is_quiet (ends key value 0 (old_ready 0 few))
+
+          pub old_tickets : v.allowance.tickets ≤ y.allowance.tickets + 4
+          old_tickets = (let left = has_kept (ends key value (v.allowance.tickets - 4) (old_ready (v.allowance.tickets - 4) (omega arith))) in omega arith)
+
+    -- it isn't
+    module _ {x : View} (spot : Spot) (f : Searched k w key (Some spot) x) where
+      spot_ready : (kept : ℕ) → kept + 4 ≤ v.allowance.tickets → IsAt k (Put key value) kept (leaf_stage x.hands.hand spot) x
+      spot_ready kept enough = spot_at (t.ready kept enough) f.0 f.1 f.2.inside
+
+      pub may_take_leaf : (c : ℕ) × (s : Spot) × IsAt k (Put key value) c (leaf_stage x.hands.hand s) x
+      may_take_leaf = (0, spot, spot_ready 0 few)
+
+      pub spot_retired : x.hands.retired ≡ w.hands.retired
+      spot_retired = (goes_looked f.0).retired
+
+      module _ {y : View} (room : MakesRoom k x y) where
+        abbrev tried : List Mark
+        tried = (t.marks ++ section_of w key) ++ (since_room (since_looked t.since f.0) room).0
+
+        since : Since k v key tried y
+        since = (since_room (since_looked t.since f.0) room).1
+
+        entered : 1 ≤ entered_for v.allowance.place key tried
+        entered =
+            let split = entered_for-append v.allowance.place key (t.marks ++ section_of w key) (since_room (since_looked t.since f.0) room).0 in
+            let some = entered_looked t.since f.0 in
+            omega arith
+
+        pub full_puts : IsFullNow k y → Puts k v key value (record { reply = Full; number = 0 }) y
+        full_puts full = (
+          tried,
+          (refl, record { tried = are_tries since entered; own = since.gone }, full),
+          needs_room since (no_more y.seen),
+        )
+
+        pub full_wait : KeepsWait v y
+        full_wait = keeps_wait since y refl
+
+        module _ (ends : (c : ℕ) (s : Spot) → IsAt k (Put key value) c (leaf_stage x.hands.hand s) x → IsAt k (Put key value) c at.Finished y) where
+          pub full_quiet : IsQuiet y
+          full_quiet = is_quiet (ends 0 spot (spot_ready 0 few))
+
+          pub full_tickets : v.allowance.tickets ≤ y.allowance.tickets + 4
+          full_tickets = (let left = has_kept (ends (v.allowance.tickets - 4) spot (spot_ready (v.allowance.tickets - 4) (omega arith))) in omega arith)
+
+        -- a filled slot is in hand
+        module _ (filled : (c : ℕ) (s : Spot) → IsAt k (Put key value) c (leaf_stage x.hands.hand s) x → IsAt k (Put key value) c (at.LeafLock s) y) where
+          locking : (kept : ℕ) → kept + 4 ≤ v.allowance.tickets → IsAt k (Put key value) kept (at.LeafLock spot) y
+          locking kept enough = filled kept spot (spot_ready kept enough)
+
+          pub may_link : (a b c : ℕ) × IsAt k (Put a b) c (at.LeafLock spot) y
+          may_link = (key, value, 0, locking 0 few)
+
+          -- it wasn't linked
+          pub tries_again : {z : View} → Goes y z [] → ((a b c : ℕ) → IsAt k (Put a b) c (at.LeafLock spot) y → IsAt k (Put a b) c at.EnterClock z) → Trying k key value v z
+          tries_again g again = record { marks = tried; since = since_stays since g; ready = λ kept enough. again key value kept (locking kept enough) }
+
+          -- it was linked
+          module _ {z : View} (number : ℕ) (made : (a b c n : ℕ) → IsAt k (Put a b) c (at.LeafLock spot) y → ◌≡◌ {A = Option ℕ} (Some number) (Some n) → Links y a b n z) where
+            linked : Links y key value number z
+            linked = made key value 0 number (locking 0 few) refl
+
+            same_place : y.allowance.place ≡ v.allowance.place
+            same_place = since.gone.same
+
+            all_gone : HasGone v z (tried ++ Done (record { caller = v.allowance.place; op = Put key value }) ∷ [])
+            all_gone = subst (λ (p : ℕ). HasGone v z (tried ++ Done (record { caller = p; op = Put key value }) ∷ [])) same_place (gone_on since.gone linked.1.goes.gone)
+
+            stands : IsPrefix (linked.0 ++ Done (record { caller = v.allowance.place; op = Put key value }) ∷ []) z.seen
+            stands = ([], append-nil (linked.0 ++ Done (record { caller = v.allowance.place; op = Put key value }) ∷ []) ∙ sym (linked.1.seen ∙ (λ i. linked.0 ++ Done (record { caller = same_place i; op = Put key value }) ∷ [])))
+
+            newest : IsPrefix z.seen (linked.0 ++ Done (record { caller = v.allowance.place; op = Put key value }) ∷ [])
+            newest = ([], append-nil z.seen ∙ (linked.1.seen ∙ (λ i. linked.0 ++ Done (record { caller = same_place i; op = Put key value }) ∷ [])))
+
+            pub new_puts : Puts k v key value (record { reply = New; number = number }) z
+            new_puts = (
+              tried,
+              (
+                linked.0,
+                record {
+                  tried = are_tries since entered;
+                  own = subst (HasGone v z) (sym (append-nil (tried ++ Done (record { caller = v.allowance.place; op = Put key value }) ∷ []))) all_gone;
+                  since = prefix_trans v.seen y.seen linked.0 since.gone.begins linked.1.since;
+                  stands = stands;
+                  number_is = linked.1.number_is;
+                  legal = linked.1.legal;
+                },
+                newest,
+              ),
+              needs_room since linked.1.goes.gone.begins,
+            )
+
+            pub new_retired : z.hands.retired ≡ y.hands.retired
+            new_retired = linked.1.goes.retired
+
+            pub new_wait : KeepsWait v z
+            new_wait = keeps_wait since z linked.1.goes.wait
+
+            module _ (ends : (a b c : ℕ) → IsAt k (Put a b) c (at.LeafLock spot) y → IsAt k (Put a b) c at.Finished z) where
+              pub new_quiet : IsQuiet z
+              new_quiet = is_quiet (ends key value 0 (locking 0 few))
+
+              pub new_tickets : v.allowance.tickets ≤ z.allowance.tickets + 4
+              new_tickets = (let left = has_kept (ends key value (v.allowance.tickets - 4) (locking (v.allowance.tickets - 4) (omega arith))) in omega arith)

@@ -1,0 +1,94 @@
+-- What steps and searches leave of marks, and what they leave alone.
+use Rattle.std.proofs.Common.{◌≡◌, ℕ, ◌==◌, cond, Bool, true, false, List, [], ◌∷◌, ◌++◌, length, Option, refl, sym, ap, subst, ◌∙◌, append_assoc, append-nil}
+use mathlib.Core.List.{IsPrefix}
+use Rattle.prcu_marks.specs.declared.mark.Mark.{Mark}
+use Rattle.prcu_marks.specs.declared.mark.Mark.TheVariants.{Entered, Left as LeftMark}
+use Rattle.prcu_marks.specs.Marks.{updates_of, own_of}
+use Rattle.prcu_marks.proofs.MarkLists.{own_of-append, updates_of-append}
+use Rattle.prcu_model.specs.Dictionary.{WasSaid}
+use Rattle.prcu_model.proofs.ListFacts.{prefix_trans}
+use Rattle.std.proofs.Common.{eq-eqb}
+use Rattle.core_state.specs.declared.shape.Shape.{Shape}
+use Rattle.core_state.specs.declared.view.View.{View}
+use Rattle.core_frames.proofs.views.SeatFacts.{works_there}
+use Rattle.seat_table.specs.declared.case.Case.TheVariants.{K13, K14, K18}
+use Rattle.seat_table.specs.Cases.{Needs}
+use Rattle.seat_table.specs.Told.{Told}
+use Rattle.tree_points.specs.Progress.{HasGone}
+use Rattle.tree_points.proofs.Gone.{gone_none, gone_on, gone_stays, gone_same}
+use Rattle.tree_points.proofs.Staying.{stays}
+use Rattle.citrus_tree.specs.Going.{Goes, Opened, Closed}
+use Rattle.citrus_tree.specs.Lookups.{Looked}
+use Rattle.citrus_tree.specs.Replies.{WasAnswered}
+
+-- the retired slots and the waits are the same
+record Rest (v x : View) : Type 0 where
+  retired : x.hands.retired ≡ v.hands.retired
+  wait : x.wait ≡ v.wait
+  waits : x.counts.waits ≡ v.counts.waits
+
+rest_if : (z : Bool) (v x y : View) → Rest v x → Rest v y → Rest v (cond z x y)
+rest_if true v x y a b = a
+rest_if false v x y a b = b
+
+with_rest : {v w : View} {marks : List Mark} → HasGone v w marks → (x : View) → w ≡ x → Rest v x → Goes v w marks
+with_rest gone x e r = record { gone = gone; retired = ap (λ (z : View). z.hands.retired) e ∙ r.retired; wait = ap (λ (z : View). z.wait) e ∙ r.wait; waits = ap (λ (z : View). z.counts.waits) e ∙ r.waits }
+
+pub goes_same : (v : View) → Goes v v []
+goes_same v = record { gone = gone_same; retired = refl; wait = refl; waits = refl }
+
+pub goes_on : {u v w : View} {first second : List Mark} → Goes u v first → Goes v w second → Goes u w (first ++ second)
+goes_on a b = record { gone = gone_on a.gone b.gone; retired = b.retired ∙ a.retired; wait = b.wait ∙ a.wait; waits = b.waits ∙ a.waits }
+
+pub goes_stays : {u v w : View} {first : List Mark} → Goes u v first → Goes v w [] → Goes u w first
+goes_stays a b = record { gone = gone_stays a.gone b.gone; retired = b.retired ∙ a.retired; wait = b.wait ∙ a.wait; waits = b.waits ∙ a.waits }
+
+pub goes_lock : {k : Shape} {v w : View} {n s : ℕ} → Needs k v (K13 s) → Told k v (K13 s) n w → Goes v w []
+goes_lock {k} {v} {w} {n} {s} needs t = with_rest (stays (K13 s) refl needs t) _ t.2 (rest_if (n == 0) v _ _ (record { retired = refl; wait = refl; waits = refl }) (record { retired = refl; wait = refl; waits = refl }))
+
+pub goes_load : {k : Shape} {v w : View} {n s f : ℕ} → Needs k v (K18 s f) → Told k v (K18 s f) n w → Goes v w []
+goes_load {k} {v} {w} {n} {s} {f} needs t = with_rest (stays (K18 s f) refl needs t) _ t.2 (record { retired = refl; wait = refl; waits = refl })
+
+pub goes_unlock : {k : Shape} {v w : View} {n s : ℕ} → Needs k v (K14 s) → Told k v (K14 s) n w → Goes v w []
+goes_unlock {k} {v} {w} {n} {s} needs t = with_rest (stays (K14 s) refl needs t) _ t.2 (record { retired = refl; wait = refl; waits = refl })
+
+pub goes_opened : {v w : View} {front : ℕ} → Opened v front w → Goes v w []
+goes_opened e = with_rest (gone_none (ap (λ (z : View). z.allowance.place) e) (ap (λ (z : View). z.seen) e)) _ e (record { retired = refl; wait = refl; waits = refl })
+
+pub goes_closed : {v w : View} → Closed v w → Goes v w []
+goes_closed e = with_rest (gone_none (ap (λ (z : View). z.allowance.place) e) (ap (λ (z : View). z.seen) e)) _ e (record { retired = refl; wait = refl; waits = refl })
+
+module _ {v w : View} {key : ℕ} {answer : Option ℕ} (l : Looked v key answer w) where
+  -- the marks of the section
+  abbrev pub section_marks : List Mark
+  section_marks = Entered v.allowance.place v.counts.sections key ∷ (LeftMark v.allowance.place v.counts.sections ∷ [])
+
+  to_end : IsPrefix l.before w.seen
+  to_end = subst (IsPrefix l.before) (sym l.seen) (prefix_trans l.before (l.before ++ Entered v.allowance.place v.counts.sections key ∷ []) _ (Entered v.allowance.place v.counts.sections key ∷ [], refl) (prefix_trans _ l.until _ l.within (LeftMark v.allowance.place v.counts.sections ∷ [], refl)))
+
+  pub goes_looked : Goes v w (Entered v.allowance.place v.counts.sections key ∷ (LeftMark v.allowance.place v.counts.sections ∷ []))
+  goes_looked =
+      let p : ℕ = v.allowance.place in
+      let e : Mark = Entered p v.counts.sections key in
+      let m : Mark = LeftMark p v.counts.sections in
+      let last : own_of p w.seen ≡ own_of p l.until ++ m ∷ [] = ap (own_of p) l.seen ∙ own_of-append p l.until (m ∷ []) ∙ ap (λ b. own_of p l.until ++ cond b (m ∷ []) []) (eq-eqb p p refl) in
+      let before : own_of p v.seen ≡ own_of p l.before = l.sees.own p (works_there v l.sees.works) in
+      with_rest
+      (record {
+        same = ap (λ (z : View). z.allowance.place) l.others;
+        begins = prefix_trans v.seen l.before w.seen l.sees.begins to_end;
+        own = last ∙ ap (λ o. o ++ m ∷ []) l.between ∙ append_assoc (own_of p l.before) (e ∷ []) (m ∷ []) ∙ ap (λ o. o ++ e ∷ (m ∷ [])) (sym before);
+      })
+      _ l.others (record { retired = refl; wait = refl; waits = refl })
+
+  pub was_answered : {u : View} {marks : List Mark} → HasGone u v marks → WasAnswered u key answer w
+  was_answered {u} g = record {
+    count = v.counts.sections;
+    before = l.before;
+    until = l.until;
+    since = prefix_trans u.seen v.seen l.before g.begins l.sees.begins;
+    within = subst (λ p. IsPrefix (l.before ++ Entered p v.counts.sections key ∷ []) l.until) g.same l.within;
+    seen = subst (λ p. IsPrefix (l.until ++ LeftMark p v.counts.sections ∷ []) w.seen) g.same ([], append-nil (l.until ++ LeftMark v.allowance.place v.counts.sections ∷ []) ∙ sym l.seen);
+    said = subst (λ us. WasSaid us key (length (updates_of l.before)) answer)
+        (ap updates_of l.seen ∙ updates_of-append l.until (LeftMark v.allowance.place v.counts.sections ∷ []) ∙ append-nil (updates_of l.until)) l.said;
+  }

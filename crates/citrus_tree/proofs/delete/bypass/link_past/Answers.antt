@@ -1,0 +1,65 @@
+use Rattle.std.proofs.Common.{◌+◌, ◌<◌, ◌/◌, [], sym, subst, ◌∙◌}
+use Rattle.core_points.specs.declared.stage.Last.TheVariants as last
+use Rattle.core_points.specs.declared.stage.Stage.TheVariants as at
+use Rattle.core_points.specs.declared.stage.Update.TheVariants as update
+use Rattle.seat_table.specs.Seats.{shape_of}
+use Rattle.tree_points.specs.At.{IsAt}
+use Rattle.tree_points.proofs.Updating.{needs_mark, needs_store_bypass, passes_store_bypass}
+use Rattle.citrus_tree.specs.Deletes.{HasDone}
+use Rattle.citrus_tree.proofs.DeleteBypass.{child_within, marked, opened_keeps, closed_keeps, half_two}
+use Rattle.citrus_tree.proofs.DeleteKeeps.{tells_as, keeps_on, keeps_k22}
+use Rattle.citrus_tree.proofs.DeleteUpdates.{bypass_done, bypass_locked, done_later, done_still}
+use Rattle.citrus_tree.proofs.delete.bypass.link_past.Goals as goal
+
+pub slot_of-child-requires : goal.slot_of-child-requires
+slot_of-child-requires g c =
+    record { inside = subst (λ x. x < c.args.table.now.slots + c.args.table.now.places + 1) (sym c.only_child.ensures) (child_within c.args.node (c.requires.at).2 (tells_as g.W.WaitWords.WAY c.requires.table c.rule_tells.ensures.tells)) }
+
+pub k22-requires-clause-needs : goal.k22-requires-clause-needs
+k22-requires-clause-needs g c = needs_mark (c.requires.at).2 (tells_as g.W.WaitWords.WAY c.requires.table c.rule_tells.ensures.tells)
+
+pub k21-requires-clause-needs : goal.k21-requires-clause-needs
+k21-requires-clause-needs g c =
+    let child_is = c.slot_of-child.ensures ∙ c.only_child.ensures in
+    let u = update.Bypass c.args.node c.slot_of-child.result in
+    needs_store_bypass (c.open_front-front.ensures.at _ _ 0 u (marked c.args.node c.slot_of-child.result child_is (c.requires.at).2 c.k22.ensures.told))
+    (tells_as g.W.WaitWords.WAY ((c.open_front-front.ensures.seat).0 ∙ (c.k22.ensures.seat).0 ∙ c.requires.table) c.rule_tells-2.ensures.tells)
+
+pub settle_side-requires-clause-at : goal.settle_side-requires-clause-at
+settle_side-requires-clause-at g c =
+    let child_is = c.slot_of-child.ensures ∙ c.only_child.ensures in
+    let u = update.Bypass c.args.node c.slot_of-child.result in
+    let a = c.requires.at in (
+      (c.open_front-front.result + 2) / 2,
+      (
+        a.0,
+        a.1,
+        c.close_front-number.ensures.at a.0 a.1 u (passes_store_bypass (c.open_front-front.ensures.at a.0 a.1 0 u (marked c.args.node c.slot_of-child.result child_is a.2 c.k22.ensures.told)) c.k21.ensures.told),
+      ),
+    )
+
+pub returns-clause-at : goal.returns-clause-at
+returns-clause-at g c = λ op kept a.
+    (let child_is = c.slot_of-child.ensures ∙ c.only_child.ensures in
+    let u = update.Bypass c.args.node c.slot_of-child.result in
+    subst (λ n. IsAt (shape_of g.W.WaitWords.WAY c.args.table.now) op kept (at.Unlock (last.Gone n)) c.settle_side.new.seat.view) (sym c.close_front-number.ensures.number)
+    (c.settle_side.ensures.at ((c.open_front-front.result + 2) / 2) op kept
+    (c.close_front-number.ensures.at op kept u (passes_store_bypass (c.open_front-front.ensures.at op kept 0 u (marked c.args.node c.slot_of-child.result child_is a c.k22.ensures.told)) c.k21.ensures.told))))
+
+pub returns-clause-done : goal.returns-clause-done
+returns-clause-done g c = λ op kept a.
+    (let k = (shape_of g.W.WaitWords.WAY c.args.table.now) in
+    let child_is = c.slot_of-child.ensures ∙ c.only_child.ensures in
+    let u = update.Bypass c.args.node c.slot_of-child.result in
+    let stored = c.open_front-front.ensures.at op kept 0 u (marked c.args.node c.slot_of-child.result child_is a c.k22.ensures.told) in
+    let made = bypass_done k op kept c.args.node c.slot_of-child.result c.open_front-front.result _ c.open_front-front.new.seat.view c.k21.new.seat.view stored c.k21.ensures.told in
+    let first = keeps_on _ _ _ (keeps_k22 k _ _ _ _ _ c.k22.ensures.told) (opened_keeps _ _ c.open_front-front.result c.open_front-front.ensures.opened) in
+    let later = keeps_on _ _ _ (closed_keeps _ _ c.close_front-number.ensures.closed) c.settle_side.ensures.same in
+    subst (λ n. HasDone c.args.seat.now.view op [] n c.settle_side.new.seat.view) (half_two c.open_front-front.result ∙ sym c.close_front-number.ensures.number)
+    (done_still _ _ _ op [] _ (done_later _ _ _ op [] _ first made) later.gone))
+
+pub returns-clause-locked : goal.returns-clause-locked
+returns-clause-locked g c =
+    let k = (shape_of g.W.WaitWords.WAY c.args.table.now) in
+    (c.settle_side.ensures.same).locked ∙ (closed_keeps c.k21.new.seat.view c.close_front-number.new.seat.view c.close_front-number.ensures.closed).locked ∙ bypass_locked k _ _ _ _ _ _ _ c.k21.ensures.told
+    ∙ (opened_keeps c.k22.new.seat.view c.open_front-front.new.seat.view c.open_front-front.result c.open_front-front.ensures.opened).locked ∙ (keeps_k22 k _ _ _ _ _ c.k22.ensures.told).locked

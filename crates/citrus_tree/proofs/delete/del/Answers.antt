@@ -1,0 +1,11 @@
+use Rattle.citrus_tree.proofs.DeleteTries.{dels, ends_quiet, ends_tickets}
+use Rattle.citrus_tree.proofs.delete.del.Goals as goal
+
+pub returns-clause-dels : goal.returns-clause-dels
+returns-clause-dels g c = dels c.make_room.ensures.room c.args.key c.delete-told.new.seat.view c.delete-told.result c.delete-told.ensures.dels
+
+pub returns-clause-tickets : goal.returns-clause-tickets
+returns-clause-tickets g c = ends_tickets c.args.seat.now.view c.make_room.ensures.at c.ranges.key.fits c.requires.tickets c.delete-told.ensures.done
+
+pub returns-clause-quiet : goal.returns-clause-quiet
+returns-clause-quiet g c = record { view = ends_quiet c.args.seat.now.view c.make_room.ensures.at c.ranges.key.fits c.requires.tickets c.delete-told.ensures.done; listed = c.delete-told.ensures.listed }

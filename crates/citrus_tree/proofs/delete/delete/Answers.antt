@@ -1,0 +1,25 @@
+use Rattle.std.proofs.Common.{refl, ◌∙◌}
+use Rattle.citrus_tree.proofs.DeleteTries.{absent_dels, gone_dels, tries_again, tries_first}
+use Rattle.citrus_tree.proofs.delete.delete.Goals as goal
+
+pub loop-init : goal.loop-init
+loop-init g c = (refl, c.requires.listed, tries_first _ c.args.key c.args.seat.now.view)
+
+pub find_target-requires-clause-at : goal.find_target-requires-clause-at
+find_target-requires-clause-at g c = let a = c.requires.at in (a.0, c.loop.invariant.2.ready a.0 a.1)
+
+pub returns-in_default-clause-dels : goal.returns-in_default-clause-dels
+returns-in_default-clause-dels g c = absent_dels c.loop.invariant.2 c.find_target.ensures.searched c.in_default.ensures.absent
+
+pub take_out-requires-clause-at : goal.take_out-requires-clause-at
+take_out-requires-clause-at g c = let a = c.requires.at in (a.0, c.in-Some-find_target.ensures.found a.0 (c.loop.invariant.2.ready a.0 a.1))
+
+pub returns-in-Some-take_out-clause-dels : goal.returns-in-Some-take_out-clause-dels
+returns-in-Some-take_out-clause-dels g c = gone_dels c.loop.invariant.2 c.find_target.ensures.searched c.in-Some-take_out.ensures.deleted c.in-Some-take_out.ensures.informed
+
+pub loop-preserved : goal.loop-preserved
+loop-preserved g c = (
+  c.take_out.ensures.table ∙ c.find_target.ensures.seat.0 ∙ c.loop.invariant.0,
+  c.take_out.ensures.listed,
+  tries_again c.loop.invariant.2 c.find_target.ensures.searched c.in_default-take_out.ensures.same (λ kept a. c.in_default-take_out.ensures.again kept (c.in-Some-find_target.ensures.found kept a)),
+)

@@ -1,0 +1,59 @@
+use Rattle.std.proofs.Common.{◌+◌, [], ◌∷◌, ◌++◌, length, sym, ap, subst, ◌∙◌, arith}
+use Rattle.prcu_model.specs.declared.operation.Op.TheVariants.{Del}
+use Rattle.list_laws.specs.Counts.{times}
+use Rattle.core_points.specs.DeleteFacts.{all_locks}
+use Rattle.core_points.specs.Facts.{SameLocks}
+use Rattle.seat_table.specs.Seats.{shape_of}
+use Rattle.tree_points.proofs.Holding.{needs_copy_lock, passes_copy_lock_free, passes_copy_lock_busy}
+use Rattle.tree_points.proofs.Locking.{locks_copy_lock}
+use Rattle.citrus_tree.proofs.DeleteKeeps.{tells_as, gone_on, keeps_rest, locks_busy, rest_k13, rest_of, spare_k13}
+use Rattle.citrus_tree.proofs.DeletePieces.{few_moved, one_listed, move_deletes}
+use Rattle.citrus_tree.proofs.delete.shift.shift.Goals as goal
+
+pub k13-requires-clause-needs : goal.k13-requires-clause-needs
+k13-requires-clause-needs g c = let a = c.requires.at in needs_copy_lock c.fill_copy-next_key.ensures.spare (c.fill_copy-next_key.ensures.at (Del c.args.key) a.0 a.1) (tells_as g.W.WaitWords.WAY ((c.fill_copy-next_key.ensures.seat).0 ∙ c.requires.table) c.rule_tells.ensures.tells)
+
+pub unlock_target-requires-clause-at : goal.unlock_target-requires-clause-at
+unlock_target-requires-clause-at g c = let a = c.requires.at in (Del c.args.key, a.0, passes_copy_lock_busy c.if-k13-ne0.true c.fill_copy-next_key.ensures.spare (c.fill_copy-next_key.ensures.at (Del c.args.key) a.0 a.1) c.k13.ensures.told)
+
+pub unlock_target-requires-clause-locked : goal.unlock_target-requires-clause-locked
+unlock_target-requires-clause-locked g c =
+    let a = c.requires.at in
+    record { same = subst (λ ls. SameLocks (all_locks c.args.node c.args.successor) ls) (sym (locks_busy (shape_of g.W.WaitWords.WAY c.args.table.now) _ _ _ _ c.if-k13-ne0.true c.k13.ensures.told)) (locks_copy_lock (c.fill_copy-next_key.ensures.at (Del c.args.key) a.0 a.1)).same }
+
+pub returns-then-k13-ne0-clause-again : goal.returns-then-k13-ne0-clause-again
+returns-then-k13-ne0-clause-again g c = λ op kept a. c.unlock_target.ensures.at op kept (passes_copy_lock_busy c.if-k13-ne0.true c.fill_copy-next_key.ensures.spare (c.fill_copy-next_key.ensures.at op kept a) c.k13.ensures.told)
+
+pub link_copy-number-requires-clause-at : goal.link_copy-number-requires-clause-at
+link_copy-number-requires-clause-at g c = let a = c.requires.at in (c.fill_copy-next_key.result, (Del c.args.key, a.0, (passes_copy_lock_free c.if-k13-ne0.false c.fill_copy-next_key.ensures.spare (c.fill_copy-next_key.ensures.at (Del c.args.key) a.0 a.1) c.k13.ensures.told)))
+
+pub link_copy-number-requires-clause-spare : goal.link_copy-number-requires-clause-spare
+link_copy-number-requires-clause-spare g c = spare_k13 (shape_of g.W.WaitWords.WAY c.args.table.now) _ _ _ _ _ c.k13.ensures.told c.fill_copy-next_key.ensures.spare
+
+pub finish-requires-clause-at : goal.finish-requires-clause-at
+finish-requires-clause-at g c = let a = c.requires.at in (a.0, c.link_copy-number.ensures.at c.fill_copy-next_key.result (Del c.args.key) a.0 (passes_copy_lock_free c.if-k13-ne0.false c.fill_copy-next_key.ensures.spare (c.fill_copy-next_key.ensures.at (Del c.args.key) a.0 a.1) c.k13.ensures.told))
+
+pub finish-requires-clause-listed : goal.finish-requires-clause-listed
+finish-requires-clause-listed g c = λ t.
+    (let k = (shape_of g.W.WaitWords.WAY c.args.table.now) in
+    ap (λ xs. times t xs + times t (c.args.node.node ∷ [])) ((c.link_copy-number.ensures.seat).1 ∙ (c.k13.ensures.seat).1 ∙ (c.fill_copy-next_key.ensures.seat).1)
+    ∙ one_listed c.args.seat.now.listed c.args.seat.now.view c.link_copy-number.new.seat.view c.args.node.node c.requires.listed.each (c.link_copy-number.ensures.retired ∙ ap (λ xs. xs ++ c.args.node.node ∷ []) ((rest_k13 k _ _ _ _ c.k13.ensures.told).retired ∙ c.fill_copy-next_key.ensures.same.retired)) t)
+
+pub finish-requires-clause-few : goal.finish-requires-clause-few
+finish-requires-clause-few g c =
+    let few = few_moved c.args.seat.now c.args.node c.args.successor (c.requires.at).1 c.requires.listed in
+    let same = ap length ((c.link_copy-number.ensures.seat).1 ∙ (c.k13.ensures.seat).1 ∙ (c.fill_copy-next_key.ensures.seat).1) in
+    omega (arith, few, same)
+
+pub returns-clause-done : goal.returns-clause-done
+returns-clause-done g c = λ kept a. c.finish.ensures.done kept (c.link_copy-number.ensures.at c.fill_copy-next_key.result (Del c.args.key) kept (passes_copy_lock_free c.if-k13-ne0.false c.fill_copy-next_key.ensures.spare (c.fill_copy-next_key.ensures.at (Del c.args.key) kept a) c.k13.ensures.told))
+
+pub returns-clause-deleted : goal.returns-clause-deleted
+returns-clause-deleted g c =
+    let k = (shape_of g.W.WaitWords.WAY c.args.table.now) in
+    let a = c.requires.at in
+    move_deletes _ _ _ _ c.args.key c.fill_copy-next_key.result c.link_copy-number.result (gone_on _ _ _ [] [] c.fill_copy-next_key.ensures.same.gone (rest_k13 k _ _ _ _ c.k13.ensures.told).gone) (c.link_copy-number.ensures.done (Del c.args.key) a.0 c.fill_copy-next_key.result (passes_copy_lock_free c.if-k13-ne0.false c.fill_copy-next_key.ensures.spare (c.fill_copy-next_key.ensures.at (Del c.args.key) a.0 a.1) c.k13.ensures.told)) c.finish.ensures.waited
+
+pub returns-then-k13-ne0-clause-same : goal.returns-then-k13-ne0-clause-same
+returns-then-k13-ne0-clause-same g c =
+    keeps_rest _ _ _ (rest_of _ _ c.fill_copy-next_key.ensures.same) (keeps_rest _ _ _ (rest_k13 (shape_of g.W.WaitWords.WAY c.args.table.now) _ _ _ _ c.k13.ensures.told) c.unlock_target.ensures.same)

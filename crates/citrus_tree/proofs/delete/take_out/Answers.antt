@@ -1,0 +1,37 @@
+use Rattle.std.proofs.Common.{[], subst}
+use Rattle.prcu_model.specs.declared.operation.Op.TheVariants.{Del}
+use Rattle.core_points.specs.Programs.{deleting}
+use Rattle.seat_table.specs.Seats.{shape_of}
+use Rattle.tree_points.specs.At.{IsAt}
+use Rattle.citrus_tree.proofs.DeleteKeeps.{gone_on}
+use Rattle.citrus_tree.proofs.DeletePieces.{deleted_later, bypass_deletes, if_some, if_none}
+use Rattle.citrus_tree.proofs.delete.take_out.Goals as goal
+
+pub lock_target-requires-clause-at : goal.lock_target-requires-clause-at
+lock_target-requires-clause-at g c = let a = c.requires.at in (Del c.args.key, a.0, a.1)
+
+pub validate-requires-clause-at : goal.validate-requires-clause-at
+validate-requires-clause-at g c = let a = c.requires.at in (Del c.args.key, a.0, (c.lock_target.ensures.got c.if-not-lock_target.false (Del c.args.key) a.0 a.1))
+
+pub unlock_target-requires-clause-at : goal.unlock_target-requires-clause-at
+unlock_target-requires-clause-at g c = let a = c.requires.at in (Del c.args.key, a.0, c.in_default.ensures.fails (Del c.args.key) a.0 (c.lock_target.ensures.got c.if-not-lock_target.false (Del c.args.key) a.0 a.1))
+
+pub bypass-requires-clause-at : goal.bypass-requires-clause-at
+bypass-requires-clause-at g c = let a = c.requires.at in (Del c.args.key, a.0, (subst (λ o. IsAt (shape_of g.W.WaitWords.WAY c.args.table.now) (Del c.args.key) a.0 (deleting c.in-Some.node o) c.validate.new.seat.view) c.in-None.is (c.in-Some.ensures.holds (Del c.args.key) a.0 (c.lock_target.ensures.got c.if-not-lock_target.false (Del c.args.key) a.0 a.1))))
+
+pub returns-in-None-clause-done : goal.returns-in-None-clause-done
+returns-in-None-clause-done g c = λ kept a. (c.bypass.ensures.done (Del c.args.key) kept (subst (λ o. IsAt (shape_of g.W.WaitWords.WAY c.args.table.now) (Del c.args.key) kept (deleting c.in-Some.node o) c.validate.new.seat.view) c.in-None.is (c.in-Some.ensures.holds (Del c.args.key) kept (c.lock_target.ensures.got c.if-not-lock_target.false (Del c.args.key) kept a)))).0
+
+pub returns-in-None-clause-deleted : goal.returns-in-None-clause-deleted
+returns-in-None-clause-deleted g c =
+    let a = c.requires.at in
+    deleted_later _ _ _ c.args.key c.bypass.result (gone_on _ _ _ [] [] c.lock_target.ensures.same.gone c.validate.ensures.same.gone) (bypass_deletes _ _ c.args.key c.bypass.result (c.bypass.ensures.done (Del c.args.key) a.0 (subst (λ o. IsAt (shape_of g.W.WaitWords.WAY c.args.table.now) (Del c.args.key) a.0 (deleting c.in-Some.node o) c.validate.new.seat.view) c.in-None.is (c.in-Some.ensures.holds (Del c.args.key) a.0 (c.lock_target.ensures.got c.if-not-lock_target.false (Del c.args.key) a.0 a.1)))).1)
+
+pub returns-in-Some-successor-clause-done : goal.returns-in-Some-successor-clause-done
+returns-in-Some-successor-clause-done g c = if_some c.shift.result (λ n f kept a. f kept (subst (λ o. IsAt (shape_of g.W.WaitWords.WAY c.args.table.now) (Del c.args.key) kept (deleting c.in-Some.node o) c.validate.new.seat.view) c.in-Some-successor.is (c.in-Some.ensures.holds (Del c.args.key) kept (c.lock_target.ensures.got c.if-not-lock_target.false (Del c.args.key) kept a)))) c.shift.ensures.done
+
+pub returns-in-Some-successor-clause-deleted : goal.returns-in-Some-successor-clause-deleted
+returns-in-Some-successor-clause-deleted g c = if_some c.shift.result (λ n d. deleted_later _ _ _ c.args.key n (gone_on _ _ _ [] [] c.lock_target.ensures.same.gone c.validate.ensures.same.gone) d) c.shift.ensures.deleted
+
+pub returns-in-Some-successor-clause-again : goal.returns-in-Some-successor-clause-again
+returns-in-Some-successor-clause-again g c = if_none c.shift.result (λ f kept a. f (Del c.args.key) kept (subst (λ o. IsAt (shape_of g.W.WaitWords.WAY c.args.table.now) (Del c.args.key) kept (deleting c.in-Some.node o) c.validate.new.seat.view) c.in-Some-successor.is (c.in-Some.ensures.holds (Del c.args.key) kept (c.lock_target.ensures.got c.if-not-lock_target.false (Del c.args.key) kept a)))) c.shift.ensures.again

@@ -1,0 +1,11 @@
+use Rattle.seat_table.specs.Seats.{shape_of}
+use Rattle.citrus_tree.proofs.Searching.{valued, looked_found, looked_missed}
+use Rattle.citrus_tree.proofs.lookup.look_up.Goals as goal
+
+pub returns-in-Found-clause-looked : goal.returns-in-Found-clause-looked
+returns-in-Found-clause-looked g c = looked_found (shape_of g.W.WaitWords.WAY c.args.table.now) c.args.seat.now.view c.args.key c.in-Found.slot c.in-Found.parent c.k17-value.result c.in-Found.side c.k17-value.new.seat.view c.leave.new.seat.view
+    (valued (shape_of g.W.WaitWords.WAY c.args.table.now) c.args.seat.now.view c.args.key c.in-Found.slot c.in-Found.parent c.in-Found.side c.k17-value.result c.descend.new.seat.view c.k17-value.new.seat.view c.in-Found.ensures.searching c.k17-value.ensures.told)
+    c.leave.ensures.left
+
+pub returns-in-Ended-clause-looked : goal.returns-in-Ended-clause-looked
+returns-in-Ended-clause-looked g c = looked_missed (shape_of g.W.WaitWords.WAY c.args.table.now) c.args.seat.now.view c.args.key c.in-Ended.slot c.in-Ended.side c.descend.new.seat.view c.leave-in-Ended.new.seat.view c.in-Ended.ensures.searching c.leave-in-Ended.ensures.left

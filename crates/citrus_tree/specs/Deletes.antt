@@ -1,0 +1,129 @@
+-- What the parts of a delete come to, from point to point of the call.
+-- Source: docs/TREE.md, "The calls".
+use Rattle.std.specs.Prelude.{◌≡◌, ◌⊎◌, ℕ, ◌+◌, ◌*◌, ◌^◌, ◌<◌, ◌≤◌, ◌==◌, if◌then◌else◌, List, [], ◌∷◌, ◌++◌, length, map, Option, Some, None}
+use mathlib.Core.List.{IsPrefix}
+use Rattle.prcu_marks.specs.declared.mark.Mark.{Mark}
+use Rattle.prcu_marks.specs.declared.mark.Mark.TheVariants.{Entered, Left, Began, Ended, Done}
+use Rattle.prcu_marks.specs.declared.mark.Side.{Side}
+use Rattle.prcu_marks.specs.Callers.{IsNextKey}
+use Rattle.prcu_marks.specs.Marks.{updates_of}
+use Rattle.prcu_model.specs.Dictionary.{map_of}
+use Rattle.prcu_model.specs.declared.operation.Told.{Told}
+use Rattle.prcu_model.specs.declared.operation.Op.{Op}
+use Rattle.prcu_model.specs.declared.operation.Op.TheVariants.{Del}
+use Rattle.core_state.specs.declared.shape.Shape.{Shape}
+use Rattle.core_state.specs.declared.view.HeldLock.{HeldLock}
+use Rattle.core_state.specs.declared.view.Retired.{Retired}
+use Rattle.core_state.specs.declared.view.View.{View}
+use Rattle.core_points.specs.declared.stage.Node.{Node}
+use Rattle.core_points.specs.declared.stage.Successor.{Successor}
+use Rattle.core_points.specs.declared.stage.Target.{Target}
+use Rattle.core_points.specs.declared.stage.Last.TheVariants as last
+use Rattle.core_points.specs.declared.stage.Stage.{Stage}
+use Rattle.core_points.specs.declared.stage.Stage.TheVariants as at
+use Rattle.tree_points.specs.At.{IsAt}
+use Rattle.citrus_tree.specs.Gone.{KeepsWait, waits_in}
+use Rattle.citrus_tree.specs.Replies.{DelsBy, IsMoveWait}
+use Rattle.tree_points.specs.Progress.{HasGone}
+
+-- A call stands at this point.
+abbrev pub StandsAt : Shape → Stage → View → Type 0
+StandsAt k stage v = (op : Op) × (kept : ℕ) × IsAt k op kept stage v
+
+-- A call that stood at the first point stands at the second now.
+abbrev pub Comes : Shape → Stage → View → Stage → View → Type 0
+Comes k from v to w = (op : Op) (kept : ℕ) → IsAt k op kept from v → IsAt k op kept to w
+
+-- the slots that a view has locked, and those that its place has retired
+abbrev pub locked_slots : View → List ℕ
+locked_slots v = map (λ (l : HeldLock). l.slot) v.locks
+
+abbrev pub retired_slots : View → List ℕ
+retired_slots v = map (λ (r : Retired). r.slot) v.hands.retired
+
+-- The place has begun no wait.
+pub record KeepsWaits (v w : View) : Type 0 where
+  pub wait : w.wait ≡ v.wait
+  pub count : w.counts.waits ≡ v.counts.waits
+
+-- No mark was left at the place, and the same slots are locked and retired.
+pub record KeepsAll (v w : View) : Type 0 where
+  pub gone : HasGone v w []
+  pub waits : KeepsWaits v w
+  pub retired : retired_slots w ≡ retired_slots v
+  pub locked : locked_slots w ≡ locked_slots v
+
+-- The same, but for the locks.
+pub record KeepsRest (v w : View) : Type 0 where
+  pub gone : HasGone v w []
+  pub waits : KeepsWaits v w
+  pub retired : retired_slots w ≡ retired_slots v
+
+-- A section with the key was entered, and then one was left.
+pub record HasSearched (v : View) (key : ℕ) (w : View) : Type 0 where
+  pub count : ℕ
+  pub left : ℕ
+  pub gone : HasGone v w (Entered v.allowance.place count key ∷ (Left v.allowance.place left ∷ []))
+  pub waits : KeepsWaits v w
+  pub retired : retired_slots w ≡ retired_slots v
+
+-- a slot to which a walk came, below another, with no generation loaded yet
+abbrev pub walked_to : ℕ → ℕ → Successor
+walked_to parent slot = record { parent = parent; slot = slot; parent_generation = 0; generation = 0 }
+
+-- where a delete goes on that gives up so many locks and starts again
+abbrev pub giving_up : ℕ → Stage
+giving_up count = if count == 0 then at.EnterClock else at.Unlock last.Again
+
+-- The update of the operation was made, at its number, and these marks were left after it.
+pub record HasDone (v : View) (op : Op) (after : List Mark) (number : ℕ) (w : View) : Type 0 where
+  pub before : List Mark
+  pub gone : HasGone v w (Done (record { caller = v.allowance.place; op = op }) ∷ after)
+  pub since : IsPrefix v.seen before
+  pub stands : IsPrefix (before ++ Done (record { caller = v.allowance.place; op = op }) ∷ []) w.seen
+  pub number_is : number ≡ length (updates_of before) + 1
+
+-- the node of a target, with its links as they are now
+abbrev pub IsNodeOf : Target → Node → Type 0
+IsNodeOf t node = node ≡ record t.node { left = node.left; right = node.right }
+
+-- the lives of what is deleted fit a word
+abbrev pub AreLivesSmall : Node → Option Successor → Type 0
+AreLivesSmall node None = 2 * node.generation < 2 ^ 64
+AreLivesSmall node (Some successor) = (2 * node.generation < 2 ^ 64) × (2 * successor.generation < 2 ^ 64)
+
+-- A delete made its update, and after it began no wait, or just the one for its move.
+pub record HasDeleted (v : View) (key number : ℕ) (w : View) : Type 0 where
+  pub after : List Mark
+  pub done : HasDone v (Del key) after number w
+  pub move : (after ≡ []) ⊎ IsMoveWait v done.before key after
+
+-- The copy was linked, with the next key that the dictionary had.
+pub record HasCopied (v : View) (op : Op) (next_key number : ℕ) (w : View) : Type 0 where
+  pub done : HasDone v op [] number w
+  pub next : (key : ℕ) → op ≡ Del key → IsNextKey (map_of (updates_of done.before)) key next_key
+
+-- The place has a spare for a copy, and room for two more retired slots: a delete of any key may begin its search.
+abbrev pub IsReadyToDelete : Shape → View → View → Type 0
+IsReadyToDelete k v w = (key kept : ℕ) → key < 2 ^ 64 → kept + 4 ≤ v.allowance.tickets → IsAt k (Del key) kept at.EnterClock w
+
+-- A wait for everybody was begun and has ended; that comes only where 15 slots were retired or the place had no spare.
+pub record HasWaitedForRoom (v : View) (marks : List Mark) : Type 0 where
+  pub count : ℕ
+  pub marks_are : marks ≡ Began v.allowance.place count 0 18446744073709551615 ∷ (Ended v.allowance.place count ∷ [])
+  pub why : (15 ≤ length v.hands.retired) ⊎ (v.hands.spare ≡ None)
+
+pub record HasMadeRoom (v w : View) : Type 0 where
+  pub marks : List Mark
+  pub gone : HasGone v w marks
+  pub waited : (marks ≡ []) ⊎ HasWaitedForRoom v marks
+  pub waits : v.counts.waits ≤ w.counts.waits
+  pub latest : KeepsWait v w
+
+-- A delete came to its end with no wait for everybody.
+abbrev pub DelsAtOnce : View → ℕ → Told → View → Type 0
+DelsAtOnce v key told w = (tries : List Mark) × DelsBy v key tries told.reply told.number w × (waits_in tries ≡ 0)
+
+-- where a delete goes on after it stored this link in a side
+abbrev pub relinked_at : ℕ → ℕ → Side → ℕ → Stage
+relinked_at number slot b child = if child == 0 then at.EmptyTag number slot b else at.Unlock (last.Gone number)

@@ -1,0 +1,47 @@
+-- What a call leaves of marks, and what it leaves alone.
+-- Source: docs/TREE.md, "The calls".
+use Rattle.std.specs.Prelude.{◌≡◌, ◌⊎◌, ℕ, ◌+◌, ◌-◌, ◌*◌, ◌≤◌, List, [], ◌∷◌, length, Some}
+use Rattle.std.specs.List.{AllByRecursion}
+use Rattle.std.specs.FinMap as finite
+use mathlib.Core.List.{IsPrefix}
+use Rattle.prcu_marks.specs.declared.mark.Mark.{Mark}
+use Rattle.prcu_marks.specs.declared.mark.Mark.TheVariants.{Entered, Left, Began, Ended}
+use Rattle.prcu_marks.specs.Callers.{entered_for}
+use Rattle.prcu_marks.specs.Marks.{updates_of}
+use Rattle.prcu_model.specs.Dictionary.{map_of}
+use Rattle.core_state.specs.declared.shape.Shape.{Shape}
+use Rattle.core_state.specs.declared.view.View.{View}
+use Rattle.core_state.specs.declared.view.Waiting.{Waiting}
+
+-- a mark of a section with the key at the place, or of a wait there for everybody
+abbrev pub IsOfTry : ℕ → ℕ → Mark → Type 0
+IsOfTry place key (Entered p c x) = (p ≡ place) × (x ≡ key)
+IsOfTry place key (Left p c) = p ≡ place
+IsOfTry place key (Began p c low high) = (p ≡ place) × (low ≡ 0) × (high ≡ 18446744073709551615)
+IsOfTry place key (Ended p c) = p ≡ place
+IsOfTry place key _ = ⊥
+
+-- how many waits were begun
+abbrev pub waits_in : List Mark → ℕ
+waits_in [] = 0
+waits_in (Began p c low high ∷ ms) = 1 + waits_in ms
+waits_in (_ ∷ ms) = waits_in ms
+
+-- Sections with the key were entered and left, one at least. At most one wait was begun, which is for everybody.
+pub record AreTries (place key : ℕ) (marks : List Mark) : Type 0 where
+  pub each : AllByRecursion (IsOfTry place key) marks
+  pub entered : 1 ≤ entered_for place key marks
+  pub once : waits_in marks ≤ 1
+
+-- The latest wait is the one that was the latest at the call, or one that was begun in it. So no gate was turned of an earlier wait.
+abbrev pub KeepsWait : View → View → Type 0
+KeepsWait v w = (w.wait ≡ v.wait) ⊎ ((wait : Waiting) × (w.wait ≡ Some wait) × (v.counts.waits ≤ wait.count))
+
+-- A put begins a wait only where slots were retired at the call, and where with these, and twenty for each other place, the dictionary
+-- filled the slots at some front in the call: after these marks.
+pub record NeededRoom (k : Shape) (v w : View) : Type 0 where
+  pub retired : 1 ≤ length v.hands.retired
+  pub until : List Mark
+  pub since : IsPrefix v.seen until
+  pub made : IsPrefix until w.seen
+  pub fills : k.slots ≤ finite.len (map_of (updates_of until)) + length v.hands.retired + 20 * (k.places - 1)

@@ -1,0 +1,58 @@
+-- What a search is told, hop by hop.
+-- Source: docs/TREE.md, "The calls".
+use Rattle.std.specs.Prelude.{◌≡◌, ◌≢◌, ℕ, Some, None}
+use Rattle.prcu_marks.specs.declared.mark.Side.{Side}
+use Rattle.core_state.specs.declared.shape.Shape.{Shape}
+use Rattle.core_state.specs.declared.words.Field.TheVariants.{Tag}
+use Rattle.core_state.specs.declared.view.Reading.{Reading}
+use Rattle.core_state.specs.declared.view.SearchState.{SearchState}
+use Rattle.core_state.specs.declared.view.SearchState.TheVariants as at
+use Rattle.core_state.specs.declared.view.View.{View}
+use Rattle.core_state.specs.views.Known.{known_in, LoadedGeneration}
+use Rattle.core_state.specs.memory.Words.{side_number, step_side}
+use Rattle.core_points.specs.declared.stage.Spot.{Spot}
+use Rattle.seat_table.specs.declared.case.Case.TheVariants.{K17}
+use Rattle.seat_table.specs.Gains.{IsSlot}
+use Rattle.seat_table.specs.Told.{Told}
+use Rattle.citrus_tree.specs.declared.descent.Step.{Step}
+use Rattle.citrus_tree.specs.declared.descent.Step.TheVariants as step
+use Rattle.citrus_tree.specs.declared.search.Hop.{Hop}
+use Rattle.citrus_tree.specs.declared.search.Hop.TheVariants.{Moved, Found, Ended}
+use Rattle.citrus_tree.specs.declared.search.End.{End}
+use Rattle.citrus_tree.specs.declared.search.End.TheVariants.{Hit, Missing}
+use Rattle.citrus_tree.specs.Lookups.{IsSearching, Looked}
+
+-- where a search stands that went on from a slot and a side
+abbrev pub state_after : ℕ → Side → Step → SearchState
+state_after s b (step.Moved c d) = at.At c d
+state_after s b (step.Found c) = at.Found c s b None
+state_after s b step.Ended = at.Missed s b
+
+-- What a step down loads: a link to a slot, and that slot's key, which is another or the sought one; or a link that is 0.
+abbrev pub Loads : Shape → View → ℕ → ℕ → Side → Step → View → Type 0
+Loads k v key s b (step.Moved c d) w = (c ≢ 0) × ((u : View) × (there : ℕ) × Told k v (K17 s (side_number b)) c u × Told k u (K17 c 3) there w × (step_side key there ≡ Some d))
+Loads k v key s b (step.Found c) w = (c ≢ 0) × ((u : View) × Told k v (K17 s (side_number b)) c u × Told k u (K17 c 3) key w)
+Loads k v key s b step.Ended w = Told k v (K17 s (side_number b)) 0 w
+
+-- From the view v a section with the key was entered. Where its search stands, by what its last hop came to.
+abbrev pub Stands : Shape → View → ℕ → Hop → ℕ → Side → View → Type 0
+Stands k v key Moved s b w = IsSlot k s × IsSearching v key (at.At s b) w
+Stands k v key (Found c) s b w = (c ≡ s) × IsSlot k c × ((p : ℕ) × (d : Side) × IsSearching v key (at.Found c p d None) w)
+Stands k v key (Ended c d) s b w = (c ≡ s) × (d ≡ b) × IsSlot k c × IsSearching v key (at.Missed c d) w
+
+-- What a hop loads, by where it stood before and stands afterwards.
+abbrev pub Hops : Shape → View → ℕ → ℕ → Side → Hop → ℕ → Side → View → Type 0
+Hops k v key s b Moved c d w = Loads k v key s b (step.Moved c d) w
+Hops k v key s b (Found slot) c d w = (slot ≡ c) × Loads k v key s b (step.Found c) w
+Hops k v key s b (Ended slot side) c d w = (slot ≡ s) × (side ≡ b) × Loads k v key s b step.Ended w
+
+-- The section recorded the empty side.
+pub record Records (r : Reading) (spot : Spot) : Type 0 where
+  pub state_is : r.state ≡ at.Missed spot.slot spot.side
+  pub generation_is : LoadedGeneration r spot.slot spot.generation
+  pub tag_is : known_in r.loads (Tag spot.slot spot.side) ≡ Some spot.tag
+
+-- The section was left, and the dictionary gave what the search came to at a front in between.
+abbrev pub Finishes : View → ℕ → End → View → Type 0
+Finishes v key (Hit value) w = Looked v key (Some value) w
+Finishes v key (Missing spot) w = (looked : Looked v key None w) × Records looked.reading spot

@@ -1,0 +1,89 @@
+-- What the calls of the tree are told.
+-- Source: docs/TREE.md, "The calls".
+use Rattle.std.specs.Prelude.{◌≡◌, ◌⊎◌, ℕ, ◌+◌, ◌-◌, ◌*◌, ◌≤◌, List, [], ◌∷◌, ◌++◌, length, Option, Some, None}
+use Rattle.std.specs.FinMap as finite
+use mathlib.Core.List.{IsPrefix}
+use Rattle.prcu_marks.specs.declared.mark.Mark.{Mark}
+use Rattle.prcu_marks.specs.declared.mark.Mark.TheVariants.{Entered, Left, Began, Ended, Done}
+use Rattle.prcu_marks.specs.Callers.{IsNextKey}
+use Rattle.prcu_marks.specs.Marks.{updates_of}
+use Rattle.prcu_model.specs.declared.operation.Op.{Op}
+use Rattle.prcu_model.specs.declared.operation.Op.TheVariants.{Put, Del, Set}
+use Rattle.prcu_model.specs.declared.operation.Reply.{Reply}
+use Rattle.prcu_model.specs.declared.operation.Reply.TheVariants.{New, Old, Full, Absent, Gone, Was}
+use Rattle.prcu_model.specs.declared.operation.Told.{Told}
+use Rattle.prcu_model.specs.Dictionary.{WasSaid, key_of, map_of}
+use Rattle.prcu_model.specs.History.{IsLegal}
+use Rattle.core_state.specs.declared.shape.Shape.{Shape}
+use Rattle.core_state.specs.declared.words.Field.TheVariants.{Free}
+use Rattle.core_state.specs.declared.words.Kind.TheVariants.{K10}
+use Rattle.core_state.specs.declared.view.View.{View}
+use Rattle.seat_table.specs.Waits.{EndWith}
+use Rattle.tree_points.specs.Progress.{HasGone}
+use Rattle.citrus_tree.specs.Gone.{AreTries, NeededRoom, waits_in}
+
+-- A section with the key was entered at the place after all that was seen at the call, and left before what is seen now. The dictionary
+-- gave the answer at a front in between.
+pub record WasAnswered (v : View) (key : ℕ) (answer : Option ℕ) (w : View) : Type 0 where
+  pub count : ℕ
+  pub before : List Mark
+  pub until : List Mark
+  pub since : IsPrefix v.seen before
+  pub within : IsPrefix (before ++ Entered v.allowance.place count key ∷ []) until
+  pub seen : IsPrefix (until ++ Left v.allowance.place count ∷ []) w.seen
+  pub said : WasSaid (updates_of until) key (length (updates_of before)) answer
+
+-- The call made its update, which stands in the history at its number, after all that was seen at the call. These are the marks that its
+-- place left before the update, and after it.
+pub record HasUpdated (v : View) (op : Op) (tries before after : List Mark) (number : ℕ) (w : View) : Type 0 where
+  pub tried : AreTries v.allowance.place (key_of op) tries
+  pub own : HasGone v w ((tries ++ Done (record { caller = v.allowance.place; op = op }) ∷ []) ++ after)
+  pub since : IsPrefix v.seen before
+  pub stands : IsPrefix (before ++ Done (record { caller = v.allowance.place; op = op }) ∷ []) w.seen
+  pub number_is : number ≡ length (updates_of before) + 1
+  pub legal : IsLegal (updates_of w.seen)
+
+-- The call made no update. These are the marks that its place left.
+pub record HasTried (v : View) (key : ℕ) (tries : List Mark) (w : View) : Type 0 where
+  pub tried : AreTries v.allowance.place key tries
+  pub own : HasGone v w tries
+
+-- The last step found the free count 0, with nothing retired at the place. So the dictionary, with twenty slots for each other place,
+-- fills the slots.
+pub record IsFullNow (k : Shape) (w : View) : Type 0 where
+  pub none : w.hands.retired ≡ []
+  pub last : EndWith w.trail.steps (record { kind = K10; field = Free; number = 0 } ∷ [])
+  pub fills : k.slots ≤ finite.len (map_of (updates_of w.seen)) + 20 * (k.places - 1)
+
+-- A put is told New where it made its update, Old where its last search found the key, and Full where the last step found nothing free.
+abbrev pub PutsBy : Shape → View → ℕ → ℕ → List Mark → Reply → ℕ → View → Type 0
+PutsBy k v key value tries New number w = (before : List Mark) × HasUpdated v (Put key value) tries before [] number w × IsPrefix w.seen (before ++ Done (record { caller = v.allowance.place; op = Put key value }) ∷ [])
+PutsBy k v key value tries Old number w = (number ≡ 0) × HasTried v key tries w × ((old : ℕ) × WasAnswered v key (Some old) w)
+PutsBy k v key value tries Full number w = (number ≡ 0) × HasTried v key tries w × IsFullNow k w
+PutsBy k v key value tries _ number w = ⊥
+
+abbrev pub Puts : Shape → View → ℕ → ℕ → Told → View → Type 0
+Puts k v key value told w = (tries : List Mark) × PutsBy k v key value tries told.reply told.number w × (1 ≤ waits_in tries → NeededRoom k v w)
+
+-- A set begins no wait. It is told Was where it made its update: just before it the dictionary gave the key the old value.
+abbrev pub SetsBy : View → ℕ → ℕ → List Mark → Reply → ℕ → View → Type 0
+SetsBy v key value tries (Was old) number w = (before : List Mark) × HasUpdated v (Set key value) tries before [] number w × (finite.get (map_of (updates_of before)) key ≡ Some old)
+SetsBy v key value tries Absent number w = (number ≡ 0) × HasTried v key tries w × WasAnswered v key None w
+SetsBy v key value tries _ number w = ⊥
+
+abbrev pub Sets : View → ℕ → ℕ → Told → View → Type 0
+Sets v key value told w = (tries : List Mark) × SetsBy v key value tries told.reply told.number w × (waits_in tries ≡ 0)
+
+-- the marks of a wait for the keys above this one, up to the next that the dictionary had
+abbrev pub IsMoveWait : View → List Mark → ℕ → List Mark → Type 0
+IsMoveWait v before key after = (count next : ℕ) × (after ≡ Began v.allowance.place count (key + 1) next ∷ (Ended v.allowance.place count ∷ [])) × IsNextKey (map_of (updates_of before)) key next
+
+-- After its update a del has begun no other wait, or just the one for its move. Before it one for everybody at most, where at the call 15
+-- slots were retired or the place had no spare.
+abbrev pub DelsBy : View → ℕ → List Mark → Reply → ℕ → View → Type 0
+DelsBy v key tries Gone number w = (before after : List Mark) × HasUpdated v (Del key) tries before after number w × ((after ≡ []) ⊎ IsMoveWait v before key after)
+DelsBy v key tries Absent number w = (number ≡ 0) × HasTried v key tries w × WasAnswered v key None w
+DelsBy v key tries _ number w = ⊥
+
+abbrev pub Dels : View → ℕ → Told → View → Type 0
+Dels v key told w = (tries : List Mark) × DelsBy v key tries told.reply told.number w × (1 ≤ waits_in tries → (15 ≤ length v.hands.retired) ⊎ (v.hands.spare ≡ None))

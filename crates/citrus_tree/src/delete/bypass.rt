@@ -1,0 +1,129 @@
+//! A node with at most one child is taken out.
+ghost use Rattle.std.specs.Prelude.{◌≡◌, ◌+◌, ◌*◌, ◌^◌, ◌<◌, ◌==◌, if◌then◌else◌, ℕ, [], ◌∷◌, ◌++◌, length, None};
+ghost use Rattle.prcu_model.specs.declared.operation.Op.{Op};
+ghost use Rattle.core_points.specs.declared.stage.Last.TheVariants as last;
+ghost use Rattle.core_points.specs.declared.stage.Stage.TheVariants as at;
+ghost use Rattle.core_points.specs.declared.stage.Update.TheVariants as update;
+ghost use Rattle.core_points.specs.Programs.{deleting, past_even};
+ghost use Rattle.seat_table.specs.Gains.{IsInformed};
+ghost use Rattle.seat_table.specs.Seats.{AreListed, shape_of};
+ghost use Rattle.tree_points.specs.At.{HasLocks, IsAt, IsDone};
+ghost use Rattle.citrus_tree.specs.Deletes.{StandsAt, Comes, KeepsAll, KeepsWaits, HasDone, AreLivesSmall, locked_slots, relinked_at, retired_slots};
+
+use crate::commit::{close_front, open_front};
+use core_points::stage::Node;
+use core_state::tag_field;
+use prcu_marks::Side;
+use seat_table::{CitrusTable, Seat, WaitPart, steps};
+use std::sync::Wait;
+
+/// Marks the node, links its parent past it, gives up the locks of both, and answers the update's number.
+pub(crate) fn bypass<R: Wait, W: WaitPart>(
+    rt: &R,
+    table: &CitrusTable<W>,
+    seat: &mut Seat<W>,
+    node: Node,
+) -> u64
+    requires table { seat.old.table ≡ table.now }
+    requires at { StandsAt (shape_of W.WAY table.now) (deleting node None) seat.old.view }
+    requires small { AreLivesSmall node None }
+    requires locked { HasLocks (node.node ∷ node.parent ∷ []) seat.old.view }
+    requires listed { AreListed seat.old }
+    ensures table { seat.new.table ≡ seat.old.table }
+    ensures done { (op : Op) (kept : ℕ) → IsAt (shape_of W.WAY table.now) op kept (deleting node None) seat.old.view → IsDone (shape_of W.WAY table.now) op kept seat.new.view × HasDone seat.old.view op [] result seat.new.view }
+    ensures waits { KeepsWaits seat.old.view seat.new.view }
+    ensures listed { AreListed seat.new }
+    ensures informed { IsInformed seat.new.view }
+{
+    let number = link_past(rt, table, seat, node);
+    seat.rule_tells();
+    steps::k14(table, seat, node.node);
+    seat.rule_tells();
+    steps::k14(table, seat, node.parent);
+    seat.rule_tells();
+    seat.list_retired(node.node);
+    number
+}
+
+// The slot to which a link leads, or 0.
+pub(crate) fn slot_of<W: WaitPart>(table: &CitrusTable<W>, link: u64) -> u32
+    requires inside { link < table.now.slots + table.now.places + 1 }
+    ensures { result ≡ link }
+{
+    let last = table.slots() + table.places();
+    prove!(link <= last as u64);
+    link as u32
+}
+
+// The same, under the locks.
+fn link_past<R: Wait, W: WaitPart>(
+    rt: &R,
+    table: &CitrusTable<W>,
+    seat: &mut Seat<W>,
+    node: Node,
+) -> u64
+    requires table { seat.old.table ≡ table.now }
+    requires at { StandsAt (shape_of W.WAY table.now) (deleting node None) seat.old.view }
+    requires small { AreLivesSmall node None }
+    ensures seat { (seat.new.table ≡ seat.old.table) × (seat.new.listed ≡ seat.old.listed) }
+    ensures at { Comes (shape_of W.WAY table.now) (deleting node None) seat.old.view (at.Unlock (last.Gone result)) seat.new.view }
+    ensures done { (op : Op) (kept : ℕ) → IsAt (shape_of W.WAY table.now) op kept (deleting node None) seat.old.view → HasDone seat.old.view op [] result seat.new.view }
+    ensures locked { locked_slots seat.new.view ≡ locked_slots seat.old.view }
+    ensures retired { retired_slots seat.new.view ≡ retired_slots seat.old.view ++ node.node ∷ [] }
+    ensures waits { KeepsWaits seat.old.view seat.new.view }
+{
+    seat.rule_tells();
+    let child = slot_of(table, only_child(node));
+    steps::k22(table, seat, node.node, 2 * node.generation);
+    let front = open_front(rt, table, seat);
+    seat.rule_tells();
+    steps::k21(table, seat, node.parent, node.side, node.node, child);
+    let number = close_front(table, seat, front);
+    settle_side(table, seat, node.parent, node.side, child);
+    number
+}
+
+// The child of a node that has at most one, and 0 where it has none.
+fn only_child(node: Node) -> u64
+    ensures { result ≡ (if node.left == 0 then node.right else node.left) }
+{
+    if node.left == 0 {
+        node.right
+    } else {
+        node.left
+    }
+}
+
+/// Raises the tag of a side to which a link was stored, where that emptied it.
+pub(crate) fn settle_side<W: WaitPart>(
+    table: &CitrusTable<W>,
+    seat: &mut Seat<W>,
+    slot: u32,
+    side: Side,
+    child: u32,
+)
+    requires table { seat.old.table ≡ table.now }
+    requires at { (number : ℕ) × StandsAt (shape_of W.WAY table.now) (relinked_at number slot side child) seat.old.view }
+    ensures seat { (seat.new.table ≡ seat.old.table) × (seat.new.listed ≡ seat.old.listed) }
+    ensures at { (number : ℕ) → Comes (shape_of W.WAY table.now) (relinked_at number slot side child) seat.old.view (at.Unlock (last.Gone number)) seat.new.view }
+    ensures same { KeepsAll seat.old.view seat.new.view }
+{
+    if child != 0 {
+        return;
+    }
+    raise_tag(table, seat, slot, side);
+}
+
+// Raises the tag of a side that was emptied.
+fn raise_tag<W: WaitPart>(table: &CitrusTable<W>, seat: &mut Seat<W>, slot: u32, side: Side)
+    requires table { seat.old.table ≡ table.now }
+    requires at { (number : ℕ) × StandsAt (shape_of W.WAY table.now) (at.EmptyTag number slot side) seat.old.view }
+    ensures seat { (seat.new.table ≡ seat.old.table) × (seat.new.listed ≡ seat.old.listed) }
+    ensures at { (number : ℕ) → Comes (shape_of W.WAY table.now) (at.EmptyTag number slot side) seat.old.view (at.Unlock (last.Gone number)) seat.new.view }
+    ensures same { KeepsAll seat.old.view seat.new.view }
+{
+    seat.rule_tells();
+    let tag = steps::k18(table, seat, slot, tag_field(side));
+    seat.rule_tells();
+    steps::k23(table, seat, slot, side, tag);
+}

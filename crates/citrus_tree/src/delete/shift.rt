@@ -1,0 +1,272 @@
+//! A node with two children is taken out: its successor moves to its place.
+ghost use Rattle.std.specs.Prelude.{◌≡◌, ◌≢◌, ◌⊎◌, ◌+◌, ◌*◌, ◌^◌, ◌<◌, ◌≤◌, ◌==◌, ℕ, List, [], ◌∷◌, ◌++◌, length, Some, None, IfSome, IfNone};
+ghost use Rattle.list_laws.specs.Counts.{times};
+ghost use Rattle.prcu_marks.specs.declared.mark.Mark.TheVariants.{Began, Ended};
+ghost use Rattle.prcu_model.specs.declared.operation.Op.{Op};
+ghost use Rattle.prcu_model.specs.declared.operation.Op.TheVariants.{Del};
+ghost use Rattle.core_points.specs.declared.stage.Last.TheVariants as last;
+ghost use Rattle.core_points.specs.declared.stage.Stage.TheVariants as at;
+ghost use Rattle.core_points.specs.declared.stage.Waits.TheVariants as waits;
+ghost use Rattle.core_points.specs.DeleteFacts.{all_locks};
+ghost use Rattle.core_points.specs.DeletePlan.{move_locks};
+ghost use Rattle.seat_table.specs.Gains.{IsInformed};
+ghost use Rattle.seat_table.specs.Seats.{AreListed, IsSlotOf, shape_of};
+ghost use Rattle.seat_table.specs.Waits.{HasWaited};
+ghost use Rattle.tree_points.specs.At.{HasLocks, IsAt, IsDone};
+ghost use Rattle.tree_points.specs.Progress.{HasGone};
+ghost use Rattle.citrus_tree.specs.Deletes.{StandsAt, Comes, KeepsAll, KeepsRest, KeepsWaits, HasDeleted, HasCopied, AreLivesSmall, locked_slots, retired_slots};
+ghost use Rattle.citrus_tree.specs.Gone.{KeepsWait};
+
+use crate::commit::{close_front, open_front};
+use crate::delete::bypass::{settle_side, slot_of};
+use crate::delete::locks::unlock_target;
+use core_points::stage::{Moving, Node, Successor, Target};
+use crossbeam_utils::Backoff;
+use key_interval::Keys;
+use prcu_marks::{Gate, Point, Side};
+use seat_table::{CitrusTable, Poll, Seat, WaitPart, steps};
+use std::sync::Wait;
+
+/// Links a copy of the successor in the node's place, waits for the readers that may be on their way to the old one, unlinks that, gives
+/// up all locks, and answers the update's number; or nothing, where the copy's lock is taken.
+pub(crate) fn shift<R: Wait, W: WaitPart, G: Gate>(
+    rt: &R,
+    table: &CitrusTable<W>,
+    seat: &mut Seat<W>,
+    gate: &G,
+    key: u64,
+    node: Node,
+    successor: Successor,
+) -> Option<u64>
+    requires table { seat.old.table ≡ table.now }
+    requires at { (kept : ℕ) × IsAt (shape_of W.WAY table.now) (Del key) kept (at.SuccessorKey node successor) seat.old.view }
+    requires small { AreLivesSmall node (Some successor) }
+    requires listed { AreListed seat.old }
+    ensures table { seat.new.table ≡ seat.old.table }
+    ensures done { IfSome result (λ number. (kept : ℕ) → IsAt (shape_of W.WAY table.now) (Del key) kept (at.SuccessorKey node successor) seat.old.view → IsDone (shape_of W.WAY table.now) (Del key) kept seat.new.view) }
+    ensures deleted { IfSome result (λ number. HasDeleted seat.old.view key number seat.new.view) }
+    ensures again { IfNone result (Comes (shape_of W.WAY table.now) (at.SuccessorKey node successor) seat.old.view at.EnterClock seat.new.view) }
+    ensures same { IfNone result (KeepsRest seat.old.view seat.new.view) }
+    ensures waits { IfSome result (λ _. KeepsWait seat.old.view seat.new.view) }
+    ensures listed { AreListed seat.new }
+    ensures informed { IfSome result (λ number. IsInformed seat.new.view) }
+{
+    let Some(copy) = seat.spare() else {
+        unreachable!()
+    };
+    let next_key = fill_copy(table, seat, node, successor, copy);
+    seat.rule_tells();
+    if steps::k13(table, seat, copy) != 0 {
+        let target = Target {
+            node,
+            successor: Some(successor),
+        };
+        unlock_target(table, seat, &target);
+        return None;
+    }
+    let number = link_copy(rt, table, seat, node, successor, copy);
+    let moving = Moving {
+        node,
+        successor,
+        copy,
+        next_key,
+        number,
+    };
+    finish(rt, table, seat, gate, key, moving);
+    Some(number)
+}
+
+// Fills the spare with the successor's pair and the node's links, and answers the successor's key.
+fn fill_copy<W: WaitPart>(
+    table: &CitrusTable<W>,
+    seat: &mut Seat<W>,
+    node: Node,
+    successor: Successor,
+    copy: u32,
+) -> u64
+    requires table { seat.old.table ≡ table.now }
+    requires at { StandsAt (shape_of W.WAY table.now) (at.SuccessorKey node successor) seat.old.view }
+    requires spare { IsSlotOf (Some copy) seat.old.view.hands.spare }
+    ensures seat { (seat.new.table ≡ seat.old.table) × (seat.new.listed ≡ seat.old.listed) }
+    ensures at { Comes (shape_of W.WAY table.now) (at.SuccessorKey node successor) seat.old.view (at.CopyLock node successor result) seat.new.view }
+    ensures spare { IsSlotOf (Some copy) seat.new.view.hands.spare }
+    ensures same { KeepsAll seat.old.view seat.new.view }
+{
+    seat.rule_tells();
+    let next_key = steps::k18(table, seat, successor.slot, 3);
+    seat.rule_tells();
+    let value = steps::k18(table, seat, successor.slot, 4);
+    seat.rule_tells();
+    steps::k12(table, seat, copy, 3, next_key);
+    seat.rule_tells();
+    steps::k12(table, seat, copy, 4, value);
+    seat.rule_tells();
+    steps::k12(table, seat, copy, 5, node.left);
+    seat.rule_tells();
+    steps::k12(table, seat, copy, 6, node.right);
+    seat.rule_tells();
+    steps::k9(table, seat, copy, false);
+    next_key
+}
+
+// Marks the node, links the copy in its place, and answers the update's number.
+fn link_copy<R: Wait, W: WaitPart>(
+    rt: &R,
+    table: &CitrusTable<W>,
+    seat: &mut Seat<W>,
+    node: Node,
+    successor: Successor,
+    copy: u32,
+) -> u64
+    requires table { seat.old.table ≡ table.now }
+    requires at { (next_key : ℕ) × StandsAt (shape_of W.WAY table.now) (at.CopyMark node successor next_key) seat.old.view }
+    requires spare { IsSlotOf (Some copy) seat.old.view.hands.spare }
+    requires small { AreLivesSmall node (Some successor) }
+    ensures seat { (seat.new.table ≡ seat.old.table) × (seat.new.listed ≡ seat.old.listed) }
+    ensures at { (next_key : ℕ) → Comes (shape_of W.WAY table.now) (at.CopyMark node successor next_key) seat.old.view (at.Begin (waits.Move (record { node = node; successor = successor; copy = copy; next_key = next_key; number = result }))) seat.new.view }
+    ensures done { (op : Op) (kept next_key : ℕ) → IsAt (shape_of W.WAY table.now) op kept (at.CopyMark node successor next_key) seat.old.view → HasCopied seat.old.view op next_key result seat.new.view }
+    ensures locked { locked_slots seat.new.view ≡ locked_slots seat.old.view }
+    ensures retired { retired_slots seat.new.view ≡ retired_slots seat.old.view ++ node.node ∷ [] }
+    ensures waits { KeepsWaits seat.old.view seat.new.view }
+{
+    seat.rule_tells();
+    steps::k22(table, seat, node.node, 2 * node.generation);
+    let front = open_front(rt, table, seat);
+    seat.rule_tells();
+    steps::k25(
+        table,
+        seat,
+        node.parent,
+        node.side,
+        node.node,
+        copy,
+        successor.slot,
+        successor.parent,
+    );
+    close_front(table, seat, front)
+}
+
+// Ends a move that is pending.
+fn finish<R: Wait, W: WaitPart, G: Gate>(
+    rt: &R,
+    table: &CitrusTable<W>,
+    seat: &mut Seat<W>,
+    gate: &G,
+    key: u64,
+    moving: Moving,
+)
+    requires table { seat.old.table ≡ table.now }
+    requires at { (kept : ℕ) × IsAt (shape_of W.WAY table.now) (Del key) kept (at.Begin (waits.Move moving)) seat.old.view }
+    requires small { 2 * moving.successor.generation < 2 ^ 64 }
+    requires listed { (slot : ℕ) → times slot seat.old.listed + times slot (moving.node.node ∷ []) ≡ times slot (retired_slots seat.old.view) }
+    requires few { length seat.old.listed < 15 }
+    ensures table { seat.new.table ≡ seat.old.table }
+    ensures done { (kept : ℕ) → IsAt (shape_of W.WAY table.now) (Del key) kept (at.Begin (waits.Move moving)) seat.old.view → IsDone (shape_of W.WAY table.now) (Del key) kept seat.new.view }
+    ensures waited { HasGone seat.old.view seat.new.view (Began seat.old.view.allowance.place seat.old.view.counts.waits (key + 1) moving.next_key ∷ (Ended seat.old.view.allowance.place seat.old.view.counts.waits ∷ [])) }
+    ensures waits { KeepsWait seat.old.view seat.new.view }
+    ensures listed { AreListed seat.new }
+    ensures informed { IsInformed seat.new.view }
+{
+    seat.rule_tells();
+    wait_in_grace(rt, table, seat, gate, Keys::between(key, moving.next_key));
+    unlink_old(table, seat, moving);
+    unlock_all(table, seat, moving);
+    seat.rule_tells();
+    seat.list_retired(moving.node.node);
+    seat.list_retired(moving.successor.slot);
+}
+
+// Waits until each reader with one of these keys has left that is reading now. It passes the gate once the wait has begun.
+fn wait_in_grace<R: Wait, W: WaitPart, G: Gate>(
+    rt: &R,
+    table: &CitrusTable<W>,
+    seat: &mut Seat<W>,
+    gate: &G,
+    keys: Keys,
+)
+    requires table { seat.old.table ≡ table.now }
+    requires outside { seat.old.view.section ≡ None }
+    requires ticket { 1 ≤ seat.old.view.allowance.tickets }
+    ensures seat { (seat.new.table ≡ seat.old.table) × (seat.new.listed ≡ seat.old.listed) }
+    ensures waited { HasWaited (shape_of W.WAY table.now) seat.old.view keys.low keys.high seat.new.view }
+{
+    let mut grace = W::begin(table, seat, keys);
+    gate.pass(Point::InGrace, seat.place());
+    let backoff = Backoff::new();
+    for _ in rt.forever() {
+        match W::poll(table, seat, &mut grace) {
+            Poll::Over => return,
+            Poll::NotYet { why: _ } => backoff.snooze(),
+        }
+    }
+    unreachable!()
+}
+
+// Marks the old successor and unlinks it: from the copy's right, where it was the node's right, else from its parent's left.
+fn unlink_old<W: WaitPart>(table: &CitrusTable<W>, seat: &mut Seat<W>, moving: Moving)
+    requires table { seat.old.table ≡ table.now }
+    requires at { StandsAt (shape_of W.WAY table.now) (at.OldMark moving) seat.old.view }
+    requires small { 2 * moving.successor.generation < 2 ^ 64 }
+    ensures seat { (seat.new.table ≡ seat.old.table) × (seat.new.listed ≡ seat.old.listed) }
+    ensures at { Comes (shape_of W.WAY table.now) (at.OldMark moving) seat.old.view (at.Unlock (last.Gone moving.number)) seat.new.view }
+    ensures locked { HasLocks (move_locks moving) seat.new.view }
+    ensures gone { HasGone seat.old.view seat.new.view [] }
+    ensures retired { retired_slots seat.new.view ≡ retired_slots seat.old.view ++ moving.successor.slot ∷ [] }
+    ensures waits { KeepsWaits seat.old.view seat.new.view }
+{
+    let node = moving.node;
+    let successor = moving.successor;
+    seat.rule_tells();
+    steps::k22(table, seat, successor.slot, 2 * successor.generation);
+    seat.rule_tells();
+    let right = steps::k18(table, seat, successor.slot, 6);
+    seat.rule_tells();
+    let child = slot_of(table, right);
+    if successor.parent == node.node {
+        steps::k27(table, seat, moving.copy, successor.slot, child);
+        settle_side(table, seat, moving.copy, Side::Right, child);
+        return;
+    }
+    steps::k26(table, seat, successor.parent, successor.slot, child);
+    settle_side(table, seat, successor.parent, Side::Left, child);
+}
+
+// Gives up the locks of a move that is over.
+fn unlock_all<W: WaitPart>(table: &CitrusTable<W>, seat: &mut Seat<W>, moving: Moving)
+    requires table { seat.old.table ≡ table.now }
+    requires at { StandsAt (shape_of W.WAY table.now) (at.Unlock (last.Gone moving.number)) seat.old.view }
+    requires locked { HasLocks (move_locks moving) seat.old.view }
+    ensures seat { (seat.new.table ≡ seat.old.table) × (seat.new.listed ≡ seat.old.listed) }
+    ensures at { Comes (shape_of W.WAY table.now) (at.Unlock (last.Gone moving.number)) seat.old.view at.Finished seat.new.view }
+    ensures same { KeepsRest seat.old.view seat.new.view }
+    ensures informed { IsInformed seat.new.view }
+{
+    unlock_below(table, seat, moving);
+    seat.rule_tells();
+    steps::k14(table, seat, moving.copy);
+    seat.rule_tells();
+    steps::k14(table, seat, moving.node.node);
+    seat.rule_tells();
+    steps::k14(table, seat, moving.node.parent);
+}
+
+// Those of the old successor, and of the slot above it where this isn't the node.
+fn unlock_below<W: WaitPart>(table: &CitrusTable<W>, seat: &mut Seat<W>, moving: Moving)
+    requires table { seat.old.table ≡ table.now }
+    requires at { StandsAt (shape_of W.WAY table.now) (at.Unlock (last.Gone moving.number)) seat.old.view }
+    requires locked { HasLocks (move_locks moving) seat.old.view }
+    ensures seat { (seat.new.table ≡ seat.old.table) × (seat.new.listed ≡ seat.old.listed) }
+    ensures at { Comes (shape_of W.WAY table.now) (at.Unlock (last.Gone moving.number)) seat.old.view (at.Unlock (last.Gone moving.number)) seat.new.view }
+    ensures locked { HasLocks (moving.copy ∷ moving.node.node ∷ moving.node.parent ∷ []) seat.new.view }
+    ensures same { KeepsRest seat.old.view seat.new.view }
+{
+    let node = moving.node;
+    let successor = moving.successor;
+    seat.rule_tells();
+    steps::k14(table, seat, successor.slot);
+    if successor.parent == node.node {
+        return;
+    }
+    seat.rule_tells();
+    steps::k14(table, seat, successor.parent);
+}

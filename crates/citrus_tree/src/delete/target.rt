@@ -1,0 +1,188 @@
+//! What is deleted, as a section finds it.
+ghost use Rattle.std.specs.Prelude.{◌≡◌, ◌<◌, ◌^◌, ℕ, IfSome, IfNone, Some, None};
+ghost use Rattle.prcu_model.specs.declared.operation.Op.TheVariants.{Del};
+ghost use Rattle.core_points.specs.declared.stage.Then.TheVariants as next;
+ghost use Rattle.core_points.specs.declared.stage.Stage.TheVariants as at;
+ghost use Rattle.core_points.specs.Programs.{past_left, past_right};
+ghost use Rattle.seat_table.specs.Gains.{IsInformed, StoodInside};
+ghost use Rattle.seat_table.specs.Seats.{shape_of};
+ghost use Rattle.tree_points.specs.At.{IsAt, IsDone};
+ghost use Rattle.citrus_tree.specs.Deletes.{StandsAt, Comes, KeepsAll, HasSearched, walked_to};
+ghost use Rattle.citrus_tree.specs.Replies.{WasAnswered};
+
+use crate::answer::rule_tells;
+use crate::descent::{Descent, descend};
+use core_points::stage::{Node, Successor, Target};
+use core_state::generation_of;
+use prcu_marks::{Gate, Side};
+use seat_table::{CitrusTable, Seat, WaitPart, steps};
+use std::sync::Wait;
+
+/// Finds the node with the key, in a section of its own, and its successor where it has two children; or nothing, where the key is absent.
+pub(crate) fn find_target<R: Wait, W: WaitPart, G: Gate>(
+    rt: &R,
+    table: &CitrusTable<W>,
+    seat: &mut Seat<W>,
+    gate: &G,
+    key: u64,
+) -> Option<Target>
+    requires table { seat.old.table ≡ table.now }
+    requires at { (kept : ℕ) × IsAt (shape_of W.WAY table.now) (Del key) kept at.EnterClock seat.old.view }
+    ensures seat { (seat.new.table ≡ seat.old.table) × (seat.new.listed ≡ seat.old.listed) }
+    ensures found { IfSome result (λ target. (kept : ℕ) → IsAt (shape_of W.WAY table.now) (Del key) kept at.EnterClock seat.old.view → IsAt (shape_of W.WAY table.now) (Del key) kept (at.TargetLock target 0) seat.new.view) }
+    ensures done { IfNone result ((kept : ℕ) → IsAt (shape_of W.WAY table.now) (Del key) kept at.EnterClock seat.old.view → IsDone (shape_of W.WAY table.now) (Del key) kept seat.new.view) }
+    ensures absent { IfNone result (WasAnswered seat.old.view key None seat.new.view) }
+    ensures searched { HasSearched seat.old.view key seat.new.view }
+    ensures informed { IsInformed seat.new.view }
+{
+    match descend(rt, table, seat, gate, key) {
+        Descent::Found { slot, parent, side } => {
+            let target = load_target(rt, table, seat, parent, side, slot);
+            rule_tells(table, seat);
+            W::leave(table, seat);
+            Some(target)
+        }
+        Descent::Ended { .. } => {
+            W::leave(table, seat);
+            None
+        }
+    }
+}
+
+// What has to be known again of the node that was found, under its locks.
+fn load_target<R: Wait, W: WaitPart>(
+    rt: &R,
+    table: &CitrusTable<W>,
+    seat: &mut Seat<W>,
+    parent: u32,
+    side: Side,
+    slot: u32,
+) -> Target
+    requires table { seat.old.table ≡ table.now }
+    requires at { StandsAt (shape_of W.WAY table.now) (at.ParentLife parent side slot) seat.old.view }
+    ensures seat { (seat.new.table ≡ seat.old.table) × (seat.new.listed ≡ seat.old.listed) }
+    ensures at { Comes (shape_of W.WAY table.now) (at.ParentLife parent side slot) seat.old.view (at.Leave (next.Delete result)) seat.new.view }
+    ensures same { KeepsAll seat.old.view seat.new.view }
+{
+    let node = load_node(table, seat, parent, side, slot);
+    if node.left == 0 || node.right == 0 {
+        return Target {
+            node,
+            successor: None,
+        };
+    }
+    let (parent, slot) = walk(rt, table, seat, node);
+    let successor = load_successor(table, seat, node, parent, slot);
+    Target {
+        node,
+        successor: Some(successor),
+    }
+}
+
+// The node with its links and its generation, and that of its parent.
+fn load_node<W: WaitPart>(
+    table: &CitrusTable<W>,
+    seat: &mut Seat<W>,
+    parent: u32,
+    side: Side,
+    slot: u32,
+) -> Node
+    requires table { seat.old.table ≡ table.now }
+    requires at { StandsAt (shape_of W.WAY table.now) (at.ParentLife parent side slot) seat.old.view }
+    ensures seat { (seat.new.table ≡ seat.old.table) × (seat.new.listed ≡ seat.old.listed) }
+    ensures at { Comes (shape_of W.WAY table.now) (at.ParentLife parent side slot) seat.old.view (past_right result) seat.new.view }
+    ensures inside { StoodInside (shape_of W.WAY table.now) seat.new.view }
+    ensures same { KeepsAll seat.old.view seat.new.view }
+{
+    seat.rule_tells();
+    let parent_life = steps::k17(table, seat, parent, 2);
+    seat.rule_tells();
+    let life = steps::k17(table, seat, slot, 2);
+    seat.rule_tells();
+    let left = steps::k17(table, seat, slot, 5);
+    seat.rule_tells();
+    let right = steps::k17(table, seat, slot, 6);
+    Node {
+        parent,
+        side,
+        node: slot,
+        parent_generation: generation_of(parent_life),
+        generation: generation_of(life),
+        left,
+        right,
+    }
+}
+
+// Goes right of the node, and then left as far as there is a left: the slot at which it ends, after the slot above that one.
+fn walk<R: Wait, W: WaitPart>(
+    rt: &R,
+    table: &CitrusTable<W>,
+    seat: &mut Seat<W>,
+    node: Node,
+) -> (u32, u32)
+    requires table { seat.old.table ≡ table.now }
+    requires at { StandsAt (shape_of W.WAY table.now) (at.SuccessorLeft node (walked_to node.node node.right)) seat.old.view }
+    requires inside { StoodInside (shape_of W.WAY table.now) seat.old.view }
+    ensures seat { (seat.new.table ≡ seat.old.table) × (seat.new.listed ≡ seat.old.listed) }
+    ensures at { Comes (shape_of W.WAY table.now) (at.SuccessorLeft node (walked_to node.node node.right)) seat.old.view (past_left node (walked_to result.0 result.1) 0) seat.new.view }
+    ensures same { KeepsAll seat.old.view seat.new.view }
+{
+    let mut parent = node.node;
+    let mut slot = node.right as u32;
+    for _ in rt.forever() {
+        seat.rule_tells();
+        let left = steps::k17(table, seat, slot, 5);
+        if left == 0 {
+            return (parent, slot);
+        }
+        parent = slot;
+        slot = left as u32;
+    }
+    unreachable!()
+}
+
+// The successor with its generation, and that of its parent where this isn't the node.
+fn load_successor<W: WaitPart>(
+    table: &CitrusTable<W>,
+    seat: &mut Seat<W>,
+    node: Node,
+    parent: u32,
+    slot: u32,
+) -> Successor
+    requires table { seat.old.table ≡ table.now }
+    requires at { StandsAt (shape_of W.WAY table.now) (past_left node (walked_to parent slot) 0) seat.old.view }
+    ensures seat { (seat.new.table ≡ seat.old.table) × (seat.new.listed ≡ seat.old.listed) }
+    ensures at { Comes (shape_of W.WAY table.now) (past_left node (walked_to parent slot) 0) seat.old.view (at.Leave (next.Delete (record { node = node; successor = Some result }))) seat.new.view }
+    ensures same { KeepsAll seat.old.view seat.new.view }
+{
+    let parent_generation = load_above(table, seat, node, parent, slot);
+    seat.rule_tells();
+    let life = steps::k17(table, seat, slot, 2);
+    Successor {
+        parent,
+        slot,
+        parent_generation,
+        generation: generation_of(life),
+    }
+}
+
+// The generation of the successor's parent, and 0 where this is the node.
+fn load_above<W: WaitPart>(
+    table: &CitrusTable<W>,
+    seat: &mut Seat<W>,
+    node: Node,
+    parent: u32,
+    slot: u32,
+) -> u64
+    requires table { seat.old.table ≡ table.now }
+    requires at { StandsAt (shape_of W.WAY table.now) (past_left node (walked_to parent slot) 0) seat.old.view }
+    ensures seat { (seat.new.table ≡ seat.old.table) × (seat.new.listed ≡ seat.old.listed) }
+    ensures at { Comes (shape_of W.WAY table.now) (past_left node (walked_to parent slot) 0) seat.old.view (at.SuccessorLife node (record { parent = parent; slot = slot; parent_generation = result; generation = 0 })) seat.new.view }
+    ensures same { KeepsAll seat.old.view seat.new.view }
+{
+    if parent == node.node {
+        return 0;
+    }
+    seat.rule_tells();
+    generation_of(steps::k17(table, seat, parent, 2))
+}

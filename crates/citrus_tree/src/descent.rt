@@ -1,0 +1,99 @@
+//! The way down from the root, in a section and without a lock.
+ghost use Rattle.std.specs.Prelude.{◌≡◌, [], None};
+ghost use Rattle.core_state.specs.declared.view.SearchState.TheVariants.{At};
+ghost use Rattle.core_state.specs.declared.view.View.{View};
+ghost use Rattle.core_state.specs.parts.ReaderParts.{state_slot};
+ghost use Rattle.seat_table.specs.Gains.{IsSlot};
+ghost use Rattle.seat_table.specs.Seats.{shape_of};
+ghost use Rattle.citrus_tree.specs.Hops.{Loads, state_after};
+ghost use Rattle.citrus_tree.specs.Lookups.{IsSearching, state_of};
+
+use core_state::{side_field, step_side};
+use prcu_marks::{Gate, Point, Side};
+use seat_table::{CitrusTable, Seat, WaitPart, steps};
+use std::sync::Wait;
+
+/// Where a search goes on from a slot and a side.
+#[derive(Clone, Copy)]
+pub(crate) enum Step {
+    /// At that side of a slot with another key.
+    Moved { slot: u32, side: Side },
+    /// Nowhere: the slot has the sought key.
+    Found { slot: u32 },
+    /// Nowhere: the side is empty.
+    Ended,
+}
+
+/// What a search comes to.
+#[derive(Clone, Copy)]
+pub(crate) enum Descent {
+    /// The slot has the key, and hangs on that side of its parent.
+    Found { slot: u32, parent: u32, side: Side },
+    /// The key belongs at an empty side.
+    Ended { slot: u32, side: Side },
+}
+
+/// Loads the link of a side and, where it leads to a slot, that slot's key.
+pub(crate) fn go_down<W: WaitPart>(
+    table: &CitrusTable<W>,
+    seat: &mut Seat<W>,
+    key: u64,
+    slot: u32,
+    side: Side,
+) -> Step
+    requires table { seat.old.table ≡ table.now }
+    requires slot { IsSlot (shape_of W.WAY table.now) slot }
+    requires searching { (v : View) × IsSearching v key (At slot side) seat.old.view }
+    ensures seat { (seat.new.table ≡ seat.old.table) × (seat.new.listed ≡ seat.old.listed) }
+    ensures loads { Loads (shape_of W.WAY table.now) seat.old.view key slot side result seat.new.view }
+    ensures slot { IsSlot (shape_of W.WAY table.now) (state_slot (state_after slot side result)) }
+    ensures searching { (v : View) → IsSearching v key (At slot side) seat.old.view → IsSearching v key (state_after slot side result) seat.new.view }
+{
+    let link = steps::k17(table, seat, slot, side_field(side));
+    if link == 0 {
+        return Step::Ended;
+    }
+    let child = link as u32;
+    match step_side(key, steps::k17(table, seat, child, 3)) {
+        None => Step::Found { slot: child },
+        Some(side) => Step::Moved { slot: child, side },
+    }
+}
+
+/// Enters a section with the key, and goes down from the root until a slot has the key or a side is empty. The section stays open.
+pub(crate) fn descend<R: Wait, W: WaitPart, G: Gate>(
+    rt: &R,
+    table: &CitrusTable<W>,
+    seat: &mut Seat<W>,
+    gate: &G,
+    key: u64,
+) -> Descent
+    requires table { seat.old.table ≡ table.now }
+    requires outside { seat.old.view.section ≡ None }
+    requires unlocked { seat.old.view.locks ≡ [] }
+    ensures seat { (seat.new.table ≡ seat.old.table) × (seat.new.listed ≡ seat.old.listed) }
+    ensures slot { IsSlot (shape_of W.WAY table.now) (state_slot (state_of result)) }
+    ensures searching { IsSearching seat.old.view key (state_of result) seat.new.view }
+{
+    W::enter(table, seat, key);
+    gate.pass(Point::InSection, seat.place());
+    let mut at = 0;
+    let mut side = Side::Right;
+    for _ in rt.forever() {
+        match go_down(table, seat, key, at, side) {
+            Step::Moved { slot, side: next } => {
+                at = slot;
+                side = next;
+            }
+            Step::Found { slot } => {
+                return Descent::Found {
+                    slot,
+                    parent: at,
+                    side,
+                };
+            }
+            Step::Ended => return Descent::Ended { slot: at, side },
+        }
+    }
+    unreachable!()
+}

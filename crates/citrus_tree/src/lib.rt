@@ -1,0 +1,28 @@
+//! The search tree: lookups and updates by callers that each step with a seat of their own. Lookups take no lock; updates lock the few
+//! nodes that they touch; a delete of a node with two children waits for just the readers that may be on their way to the successor.
+#![tactic(auto)]
+
+mod answer;
+mod client;
+mod commit;
+mod delete;
+mod descent;
+mod insert;
+pub mod laws;
+mod lives;
+mod lookup;
+mod replace;
+mod search;
+
+pub use client::TreeClient;
+pub use core_points::stage::Spot;
+pub use delete::del;
+pub use insert::put;
+pub use lookup::get;
+pub use replace::set;
+pub use search::{End, Hop, Search};
+
+#[cfg(test)]
+mod put_tests;
+#[cfg(test)]
+mod tests;

@@ -1,0 +1,60 @@
+//! Lookups, in a section and without a lock.
+ghost use Rattle.std.specs.Prelude.{◌≡◌, [], None};
+ghost use Rattle.seat_table.specs.Seats.{IsQuietSeat};
+ghost use Rattle.citrus_tree.specs.Lookups.{Looked, Gets};
+
+use crate::descent::{Descent, descend};
+use prcu_marks::{Gate, Point};
+use prcu_model::{Reply, Told};
+use seat_table::{CitrusTable, Seat, WaitPart, steps};
+use std::sync::Wait;
+
+// What the dictionary gave the key at some time of a section that is entered and left.
+fn look_up<R: Wait, W: WaitPart, G: Gate>(
+    rt: &R,
+    table: &CitrusTable<W>,
+    seat: &mut Seat<W>,
+    gate: &G,
+    key: u64,
+) -> Option<u64>
+    requires table { seat.old.table ≡ table.now }
+    requires outside { seat.old.view.section ≡ None }
+    requires unlocked { seat.old.view.locks ≡ [] }
+    ensures seat { (seat.new.table ≡ seat.old.table) × (seat.new.listed ≡ seat.old.listed) }
+    ensures looked { Looked seat.old.view key result seat.new.view }
+{
+    match descend(rt, table, seat, gate, key) {
+        Descent::Found { slot, .. } => {
+            let value = steps::k17(table, seat, slot, 4);
+            W::leave(table, seat);
+            Some(value)
+        }
+        Descent::Ended { .. } => {
+            W::leave(table, seat);
+            None
+        }
+    }
+}
+
+/// The key's value, or `Absent`, as the dictionary gave it at some time of the call. It takes no lock and waits for nobody's step, but
+/// others' updates can make the search longer.
+pub fn get<R: Wait, W: WaitPart, G: Gate>(
+    rt: &R,
+    table: &CitrusTable<W>,
+    seat: &mut Seat<W>,
+    gate: &G,
+    key: u64,
+) -> Told
+    requires table { seat.old.table ≡ table.now }
+    requires quiet { IsQuietSeat seat.old }
+    ensures seat { seat.new.table ≡ seat.old.table }
+    ensures gets { Gets seat.old.view key result seat.new.view }
+    ensures quiet { IsQuietSeat seat.new }
+{
+    let reply = match look_up(rt, table, seat, gate, key) {
+        Some(value) => Reply::Val { value },
+        None => Reply::Absent,
+    };
+    gate.pass(Point::Answered, seat.place());
+    Told { reply, number: 0 }
+}

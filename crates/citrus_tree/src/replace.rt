@@ -1,0 +1,141 @@
+//! A value is replaced.
+ghost use Rattle.std.specs.Prelude.{◌≡◌, ℕ, ◌+◌, ◌≤◌, [], Some, None};
+ghost use Rattle.core_points.specs.declared.stage.Stage.TheVariants as at;
+ghost use Rattle.prcu_model.specs.declared.operation.Op.TheVariants.{Set};
+ghost use Rattle.seat_table.specs.Gains.{IsInformed};
+ghost use Rattle.seat_table.specs.Seats.{IsQuietSeat, shape_of};
+ghost use Rattle.tree_points.specs.At.{IsAt};
+ghost use Rattle.citrus_tree.specs.declared.replace.Replaced.{Replaced};
+ghost use Rattle.citrus_tree.specs.Going.{Goes, Sought, Stores, set_stage};
+ghost use Rattle.citrus_tree.specs.Gone.{KeepsWait};
+ghost use Rattle.citrus_tree.specs.Replies.{Sets};
+
+use crate::answer::{answered, rule_tells, works};
+use crate::commit::{close_front, open_front};
+use crate::descent::{Descent, descend};
+use crate::lives::is_life;
+use core_state::generation_of;
+use crossbeam_utils::Backoff;
+use prcu_marks::{Gate, Point};
+use prcu_model::{Reply, Told};
+use seat_table::{CitrusTable, Seat, WaitPart, steps};
+use std::sync::Wait;
+
+/// A slot that had the key, with its generation then.
+#[derive(Clone, Copy)]
+pub(crate) struct Holder {
+    slot: u32,
+    generation: u64,
+}
+
+/// The value that was replaced, and the update's number.
+#[derive(Clone, Copy)]
+pub(crate) struct Replaced {
+    old: u64,
+    number: u64,
+}
+
+/// Gives the key another value, where it is present: `Was` with the old value and the update's position. `Absent` as at `get`. It waits
+/// for the holder of the node's lock and for other updates, and for no reader.
+pub fn set<R: Wait, W: WaitPart, G: Gate>(
+    rt: &R,
+    table: &CitrusTable<W>,
+    seat: &mut Seat<W>,
+    gate: &G,
+    key: u64,
+    value: u64,
+) -> Told
+    requires table { seat.old.table ≡ table.now }
+    requires quiet { IsQuietSeat seat.old }
+    requires tickets { 4 ≤ seat.old.view.allowance.tickets }
+    ensures table { seat.new.table ≡ seat.old.table }
+    ensures sets { Sets seat.old.view key value result seat.new.view }
+    ensures quiet { IsQuietSeat seat.new }
+    ensures wait { KeepsWait seat.old.view seat.new.view }
+    ensures tickets { seat.old.view.allowance.tickets ≤ seat.new.view.allowance.tickets + 4 }
+    ensures informed { IsInformed seat.new.view }
+{
+    works(seat);
+    rule_tells(table, seat);
+    let backoff = Backoff::new();
+    for _ in rt.forever() {
+        let Some(holder) = find_holder(rt, table, seat, gate, key) else {
+            return answered(gate, seat, Reply::Absent, 0);
+        };
+        gate.pass(Point::BeforeLock, seat.place());
+        if let Some(done) = store_value(rt, table, seat, holder, value) {
+            return answered(gate, seat, Reply::Was { value: done.old }, done.number);
+        }
+        backoff.snooze();
+    }
+    unreachable!()
+}
+
+// The slot that has the key, or none where the key is absent.
+fn find_holder<R: Wait, W: WaitPart, G: Gate>(
+    rt: &R,
+    table: &CitrusTable<W>,
+    seat: &mut Seat<W>,
+    gate: &G,
+    key: u64,
+) -> Option<Holder>
+    requires table { seat.old.table ≡ table.now }
+    requires outside { seat.old.view.section ≡ None }
+    requires unlocked { seat.old.view.locks ≡ [] }
+    ensures seat { (seat.new.table ≡ seat.old.table) × (seat.new.listed ≡ seat.old.listed) }
+    ensures sought { Sought (shape_of W.WAY table.now) seat.old.view key result seat.new.view }
+{
+    match descend(rt, table, seat, gate, key) {
+        Descent::Found { slot, .. } => {
+            let life = steps::k17(table, seat, slot, 2);
+            W::leave(table, seat);
+            Some(Holder {
+                slot,
+                generation: generation_of(life),
+            })
+        }
+        Descent::Ended { .. } => {
+            W::leave(table, seat);
+            None
+        }
+    }
+}
+
+// Stores the value in the recorded slot; or nothing, where the lock is taken or the slot's life isn't as recorded any more.
+fn store_value<R: Wait, W: WaitPart>(
+    rt: &R,
+    table: &CitrusTable<W>,
+    seat: &mut Seat<W>,
+    holder: Holder,
+    value: u64,
+) -> Option<Replaced>
+    requires table { seat.old.table ≡ table.now }
+    requires at { (key kept : ℕ) × IsAt (shape_of W.WAY table.now) (Set key value) kept (at.SetLock holder.slot holder.generation) seat.old.view }
+    ensures seat { (seat.new.table ≡ seat.old.table) × (seat.new.listed ≡ seat.old.listed) }
+    ensures again { result ≡ None → Goes seat.old.view seat.new.view [] }
+    ensures stored { (key kept : ℕ) (done : Replaced) → IsAt (shape_of W.WAY table.now) (Set key value) kept (at.SetLock holder.slot holder.generation) seat.old.view → result ≡ Some done → Stores seat.old.view key value done seat.new.view }
+    ensures at { (key kept : ℕ) → IsAt (shape_of W.WAY table.now) (Set key value) kept (at.SetLock holder.slot holder.generation) seat.old.view → IsAt (shape_of W.WAY table.now) (Set key value) kept (set_stage result) seat.new.view }
+    ensures informed { IsInformed seat.new.view }
+{
+    rule_tells(table, seat);
+    if steps::k13(table, seat, holder.slot) != 0 {
+        return None;
+    }
+    rule_tells(table, seat);
+    let life = steps::k18(table, seat, holder.slot, 2);
+    let holds = is_life(life, holder.generation);
+    if !holds {
+        rule_tells(table, seat);
+        steps::k14(table, seat, holder.slot);
+        return None;
+    }
+    rule_tells(table, seat);
+    let old = steps::k18(table, seat, holder.slot, 4);
+    let front = open_front(rt, table, seat);
+    rule_tells(table, seat);
+    steps::k36(table, seat, holder.slot, value);
+    let number = close_front(table, seat, front);
+    rule_tells(table, seat);
+    steps::k14(table, seat, holder.slot);
+    Some(Replaced { old, number })
+}

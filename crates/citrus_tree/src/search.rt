@@ -1,0 +1,159 @@
+//! A search, hop by hop, in one section.
+ghost use Rattle.std.specs.Prelude.{◌≡◌, ◌≢◌, ℕ, [], None};
+ghost use Rattle.core_state.specs.declared.view.SearchState.TheVariants.{Missed};
+ghost use Rattle.core_state.specs.declared.view.View.{View};
+ghost use Rattle.seat_table.specs.Gains.{IsSlot};
+ghost use Rattle.seat_table.specs.Seats.{shape_of};
+ghost use Rattle.citrus_tree.specs.declared.search.Hop.TheVariants.{Moved};
+ghost use Rattle.citrus_tree.specs.Hops.{Stands, Hops, Records, Finishes};
+ghost use Rattle.citrus_tree.specs.Lookups.{IsSearching, Looked};
+
+use crate::descent::{Step, go_down};
+use core_points::stage::Spot;
+use core_state::{generation_of, tag_field};
+use prcu_marks::Side;
+use seat_table::{CitrusTable, Seat, WaitPart, steps};
+
+/// What a hop came to.
+#[derive(Clone, Copy, Debug, PartialEq, Eq)]
+pub enum Hop {
+    /// At a slot with another key.
+    Moved,
+    /// At the slot with the sought key.
+    Found { slot: u32 },
+    /// At a side that is empty.
+    Ended { slot: u32, side: Side },
+}
+
+/// What a search came to.
+#[derive(Clone, Copy)]
+pub enum End {
+    /// The key has this value.
+    Hit { value: u64 },
+    /// The key belongs at this empty side.
+    Missing { spot: Spot },
+}
+
+/// A search in an open section: where it stands, and what its last hop came to.
+pub struct Search<'a, W: WaitPart> {
+    table: &'a CitrusTable<W>,
+    seat: &'a mut Seat<W>,
+    key: u64,
+    slot: u32,
+    side: Side,
+    last: Hop,
+}
+
+impl<'a, W: WaitPart> Search<'a, W> {
+    /// Enters a section with the key. The search stands at the root.
+    pub fn start(table: &'a CitrusTable<W>, seat: &'a mut Seat<W>, key: u64) -> Search<'a, W>
+        requires table { seat.old.table ≡ table.now }
+        requires outside { seat.old.view.section ≡ None }
+        requires unlocked { seat.old.view.locks ≡ [] }
+        ensures same_reference { result.seat.ghost_name ≡ seat.entry.ghost_name }
+        ensures seat { (result.seat.now.table ≡ seat.old.table) × (result.seat.now.listed ≡ seat.old.listed) }
+        ensures asked { (result.table.now ≡ table.now) × (result.key ≡ key) × (result.last ≡ Moved) }
+        ensures stands { Stands (shape_of W.WAY result.table.now) seat.old.view result.key result.last result.slot result.side result.seat.now.view }
+    {
+        W::enter(table, seat, key);
+        Search {
+            table,
+            seat,
+            key,
+            slot: 0,
+            side: Side::Right,
+            last: Hop::Moved,
+        }
+    }
+
+    /// Loads the next link and, where it leads to a slot, that slot's key. The last hop, if there was one, has to have moved.
+    pub fn hop(&mut self) -> Hop
+        requires table { self.old.seat.now.table ≡ self.old.table.now }
+        requires moved { self.old.last ≡ Moved }
+        requires stands { (v : View) × Stands (shape_of W.WAY self.old.table.now) v self.old.key self.old.last self.old.slot self.old.side self.old.seat.now.view }
+        ensures same_reference { self.new.seat.ghost_name ≡ self.old.seat.ghost_name }
+        ensures seat { (self.new.seat.now.table ≡ self.old.seat.now.table) × (self.new.seat.now.listed ≡ self.old.seat.now.listed) }
+        ensures asked { (self.new.table.now ≡ self.old.table.now) × (self.new.key ≡ self.old.key) × (self.new.last ≡ result) }
+        ensures hops { Hops (shape_of W.WAY self.old.table.now) self.old.seat.now.view self.old.key self.old.slot self.old.side result self.new.slot self.new.side self.new.seat.now.view }
+        ensures stands { (v : View) → Stands (shape_of W.WAY self.old.table.now) v self.old.key self.old.last self.old.slot self.old.side self.old.seat.now.view → Stands (shape_of W.WAY self.new.table.now) v self.new.key self.new.last self.new.slot self.new.side self.new.seat.now.view }
+    {
+        match go_down(self.table, self.seat, self.key, self.slot, self.side) {
+            Step::Moved { slot, side } => {
+                self.slot = slot;
+                self.side = side;
+                Hop::Moved
+            }
+            Step::Found { slot } => {
+                self.slot = slot;
+                self.last = Hop::Found { slot };
+                Hop::Found { slot }
+            }
+            Step::Ended => {
+                self.last = Hop::Ended {
+                    slot: self.slot,
+                    side: self.side,
+                };
+                Hop::Ended {
+                    slot: self.slot,
+                    side: self.side,
+                }
+            }
+        }
+    }
+
+    /// Loads the value that was found, or what marks the empty side, and leaves the section. The last hop has to have found or ended.
+    pub fn finish(self) -> End
+        requires table { self.seat.now.table ≡ self.table.now }
+        requires over { self.last ≢ Moved }
+        requires stands { (v : View) × Stands (shape_of W.WAY self.table.now) v self.key self.last self.slot self.side self.seat.now.view }
+        ensures seat { (self.exit.1.0.now.table ≡ self.entry.seat.now.table) × (self.exit.1.0.now.listed ≡ self.entry.seat.now.listed) }
+        ensures finished { (v : View) → Stands (shape_of W.WAY self.entry.table.now) v self.entry.key self.entry.last self.entry.slot self.entry.side self.entry.seat.now.view → Finishes v self.entry.key result self.exit.1.0.now.view }
+    {
+        let Search {
+            table,
+            seat,
+            key: _,
+            slot: _,
+            side: _,
+            last,
+        } = self;
+        match last {
+            Hop::Found { slot } => {
+                let value = steps::k17(table, seat, slot, 4);
+                W::leave(table, seat);
+                End::Hit { value }
+            }
+            Hop::Ended { slot, side } => {
+                End::Missing {
+                    spot: leave_with_spot(table, seat, slot, side),
+                }
+            }
+            Hop::Moved => unreachable!(),
+        }
+    }
+}
+
+/// Loads what marks the empty side at which a search ended, and leaves the section.
+pub(crate) fn leave_with_spot<W: WaitPart>(
+    table: &CitrusTable<W>,
+    seat: &mut Seat<W>,
+    slot: u32,
+    side: Side,
+) -> Spot
+    requires table { seat.old.table ≡ table.now }
+    requires slot { IsSlot (shape_of W.WAY table.now) slot }
+    requires searching { (v : View) × (key : ℕ) × IsSearching v key (Missed slot side) seat.old.view }
+    ensures seat { (seat.new.table ≡ seat.old.table) × (seat.new.listed ≡ seat.old.listed) }
+    ensures slot { result.slot ≡ slot }
+    ensures looked { (v : View) (key : ℕ) → IsSearching v key (Missed slot side) seat.old.view → (looked : Looked v key None seat.new.view) × Records looked.reading result }
+{
+    let tag = steps::k17(table, seat, slot, tag_field(side));
+    let life = steps::k17(table, seat, slot, 2);
+    W::leave(table, seat);
+    Spot {
+        slot,
+        side,
+        generation: generation_of(life),
+        tag,
+    }
+}
