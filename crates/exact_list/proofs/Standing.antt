@@ -1,0 +1,153 @@
+-- What a try tells whose second look found the number of the first, and how tries end.
+use Rattle.std.proofs.Common.{◌≡◌, ◌≢◌, ℕ, zero, suc, ◌+◌, ◌*◌, ◌/◌, ◌%◌, ◌==◌, ◌≤◌, true, false, List, [], ◌∷◌, ◌++◌, length, take, Some, None, refl, sym, ap, subst, ◌∙◌, ⊎_elim, inl, inr, arith, eq-eqb, append_assoc, length-append}
+use Rattle.std.specs.FinMap as finite
+use Rattle.std.proofs.Math.Seq.{take-append_seam}
+use mathlib.Core.List.{IsPrefix}
+use mathlib.Core.Logic.{dite}
+use native.Mathlib.Decide.{ℕ_discrete}
+use Rattle.prcu_model.proofs.ListFacts.{prefix_trans}
+use Rattle.prcu_model.specs.Dictionary.{map_of}
+use Rattle.prcu_marks.specs.declared.mark.Mark.{Mark}
+use Rattle.prcu_marks.specs.declared.mark.Mark.TheVariants.{Left}
+use Rattle.prcu_marks.specs.Marks.{updates_of}
+use Rattle.prcu_marks.proofs.MarkLists.{updates_of-append}
+use Rattle.core_state.specs.declared.shape.Shape.{Shape}
+use Rattle.core_state.specs.declared.view.Fact.{Fact}
+use Rattle.core_state.specs.declared.view.Gap.{Gap}
+use Rattle.core_state.specs.declared.view.View.{View}
+use Rattle.core_state.specs.memory.Lists.{IsEven, IsOdd}
+use Rattle.core_state.specs.parts.TreeParts.{map_now}
+use Rattle.key_interval.specs.Keys.{Interval}
+use Rattle.list_laws.specs.Counts.{IsIn, Each}
+use Rattle.list_laws.proofs.Lists.{in_append}
+use Rattle.seat_table.specs.declared.case.Case.TheVariants.{K37}
+use Rattle.seat_table.specs.Gains.{IsListedNow}
+use Rattle.seat_table.specs.Told.{Told}
+use Rattle.seat_table.specs.Sections.{HasLeft}
+use Rattle.seat_table.proofs.Sections.{seen_more}
+use Rattle.exact_list.specs.declared.listing.Listed.{Listed}
+use Rattle.exact_list.specs.declared.listing.Listed.TheVariants.{Whole, Part, Moved}
+use Rattle.exact_list.specs.Pairs.{Pair, had_at, ArePairs, fact_of, Cover}
+use Rattle.exact_list.specs.Tries.{Try, HasMoved, HasTried}
+use Rattle.exact_list.specs.Answers.{Paged, IsWhole, IsPart, IsBetweenFronts, IsRecent, HasStood, EndAs}
+use Rattle.exact_list.specs.Walked.{HasLoaded, Gathers}
+use Rattle.exact_list.proofs.Covering.{covers_exact}
+use Rattle.exact_list.proofs.Trying.{InTry, looked_try, loaded_try, left_try, front_is}
+
+updates_on : (h seen : List Mark) (p : IsPrefix h seen) → updates_of seen ≡ updates_of h ++ updates_of p.0
+updates_on h seen p = ap updates_of (sym p.1) ∙ updates_of-append h p.0
+
+fewer_updates : (h seen : List Mark) → IsPrefix h seen → length (updates_of h) ≤ length (updates_of seen)
+fewer_updates h seen p = (let e = ap length (updates_on h seen p) ∙ length-append (updates_of h) (updates_of p.0) in omega (arith, e))
+
+-- What the dictionary had after the updates of a beginning of the marks, it has by all marks at that front.
+had_now : (h seen : List Mark) (front : ℕ) → IsPrefix h seen → front ≡ length (updates_of h) → (key : ℕ) → had_at (updates_of seen) front key ≡ map_now h key
+had_now h seen front p is key = ap (λ us. finite.get (map_of us) key) ((λ i. take (is i) (updates_on h seen p i)) ∙ take-append_seam (updates_of h) (updates_of p.0))
+
+half_of : (n front : ℕ) → n ≡ 2 * front → n / 2 ≡ front
+half_of n front is = omega (arith, is)
+
+pub is_even : (n : ℕ) → (n % 2 == 1) ≡ false → IsEven n
+is_even n is = dite (ℕ_discrete (n % 2) 1) (λ odd. absurd (let e : true ≡ false = sym (eq-eqb (n % 2) 1 odd) ∙ is in cc)) (λ ne. omega (arith, ne))
+
+each_one : {A : Type 0} (P : A → Type 0) (a : A) → P a → Each (a ∷ []) P
+each_one P a p zero x at = (let e : a ≡ x = cc in subst P e p)
+each_one P a p (suc zero) x at = absurd (cc)
+each_one P a p (suc (suc i)) x at = absurd (cc)
+
+each_none : {A : Type 0} (P : A → Type 0) → Each {A = A} [] P
+each_none P zero x at = absurd (cc)
+each_none P (suc i) x at = absurd (cc)
+
+each_append : {A : Type 0} (P : A → Type 0) (xs ys : List A) → Each xs P → Each ys P → Each (xs ++ ys) P
+each_append P xs ys p q i x at = ⊎_elim (λ (a : IsIn xs x). p a.0 x a.1) (λ (a : IsIn ys x). q a.0 x a.1) (in_append xs ys x (i, at))
+
+-- a try that counted
+module _ (k : Shape) (v : View) (key first front : ℕ) (a b : View) (i : InTry v key (first ∷ []) a) (l : HasLoaded a b) (n : ℕ) (c : View) (t : Told k b K37 n c) (d : View) (left : HasLeft c d) (outside : v.section ≡ None) where
+  before : InTry v key (first ∷ []) b
+  before = loaded_try v key (first ∷ []) a i b l
+
+  pub tried_twice : HasTried v key (record { first = first; second = Some n } ∷ []) d
+  tried_twice = left_try v key (first ∷ n ∷ []) c (looked_try v key (first ∷ []) b before k n c t) d outside left (record { first = first; second = Some n }) refl
+
+  pub moved_between : (first % 2 == 1) ≡ false → n ≢ first → EndAs (Moved first n) 1 (record { first = first; second = Some n } ∷ [])
+  moved_between even ne = (refl, each_one HasMoved (record { first = first; second = Some n }) (inr (is_even first even, (n, refl, ne))), ([], record { first = first; second = Some n }, refl, refl, refl))
+
+  module _ (same : n ≡ first) (even : (first % 2 == 1) ≡ false) (half : front ≡ first / 2) where
+    now : IsListedNow t.0 (record l.section { listing = Some l.after }) l.after
+    now =
+        let is = front_is v key first a b i l in
+        t.5.same (record l.section { listing = Some l.after }) l.after (ap (λ (z : View). z.section) l.others) refl (subst IsEven (sym same) (is_even first even)) (same ∙ sym is)
+
+    first_is : first ≡ 2 * length (updates_of t.0)
+    first_is = sym (front_is v key first a b i l) ∙ now.front
+
+    count : front ≡ length (updates_of t.0)
+    count = half ∙ half_of first (length (updates_of t.0)) first_is
+
+    twice : first ≡ 2 * front
+    twice = first_is ∙ ap (λ z. 2 * z) (sym count)
+
+    in_all : IsPrefix t.0 d.seen
+    in_all = subst (λ z. IsPrefix z d.seen) (ap (λ (z : View). z.seen) t.2.2) (seen_more c d (Left c.allowance.place left.section.count) left.leaves)
+
+    pub recent : IsBetweenFronts front v.seen d.seen
+    recent =
+        let old = fewer_updates v.seen t.0 (prefix_trans v.seen b.seen t.0 before.seen t.1.begins) in
+        let new = fewer_updates t.0 d.seen in_all in
+        (omega (arith, old, count), omega (arith, new, count))
+
+    had : (y : ℕ) → had_at (updates_of d.seen) front y ≡ map_now t.0 y
+    had = had_now t.0 d.seen front in_all count
+
+    exact : (low below : ℕ) (pairs : List Pair) → Cover l.after.facts l.after.gaps low below pairs → ArePairs (had_at (updates_of d.seen) front) low below pairs
+    exact low below pairs cover = covers_exact (had_at (updates_of d.seen) front) l.after.facts l.after.gaps low below pairs
+        (λ j (f : Fact) at. had f.key ∙ now.facts j f at) (λ j (gap : Gap) at y between. had y ∙ now.gaps j gap at y between) cover
+
+    pub holds_whole : (keys : Interval) (page : Paged) → length page.pairs ≤ page.capacity → Cover l.after.facts l.after.gaps keys.low (keys.high + 1) page.pairs → IsWhole keys d.seen front page
+    holds_whole keys page fit cover = record { pairs = exact keys.low (keys.high + 1) page.pairs cover; fit = fit }
+
+    pub holds_part : (keys : Interval) (next : ℕ) (page : Paged) → Gathers l.after keys page (Some next) → IsPart keys d.seen front next page
+    holds_part keys next page g = record {
+      pairs = exact keys.low next page.pairs g.0;
+      full = g.2;
+      inside = g.1;
+      there = (g.3.0, had next ∙ now.facts g.3.1.0 (fact_of (next, g.3.0)) g.3.1.1);
+    }
+
+    pub stood : HasStood front 1 (record { first = first; second = Some n } ∷ [])
+    stood = (omega arith, ([], each_none HasMoved, λ j. record { first = twice j; second = Some ((same ∙ twice) j) } ∷ []))
+
+-- a try whose first look found an odd number
+module _ (k : Shape) (v : View) (key first : ℕ) (a : View) (i : InTry v key (first ∷ []) a) (d : View) (left : HasLeft a d) (outside : v.section ≡ None) where
+  pub tried_once : HasTried v key (record { first = first; second = None } ∷ []) d
+  tried_once = left_try v key (first ∷ []) a i d outside left (record { first = first; second = None }) refl
+
+  pub moved_at_first : IsOdd first → EndAs (Moved first first) 1 (record { first = first; second = None } ∷ [])
+  moved_at_first odd = (refl, each_one HasMoved (record { first = first; second = None }) (inl (odd, refl)), ([], record { first = first; second = None }, refl, refl, refl))
+
+-- one try after others
+stood_later : (front most : ℕ) (ts us : List Try) → length ts ≡ most → Each ts HasMoved → HasStood front 1 us → HasStood front (most + 1) (ts ++ us)
+stood_later front most ts us long moved stands =
+    let all = length-append ts us in
+    let last : Try = record { first = 2 * front; second = Some (2 * front) } in
+    (omega (arith, all, long, stands.0), (ts ++ stands.1.0, each_append HasMoved ts stands.1.0 moved stands.1.1, ap (λ l. ts ++ l) stands.1.2 ∙ sym (append_assoc ts stands.1.0 (last ∷ []))))
+
+pub ends_later : (r : Listed) (first last most : ℕ) (ts us : List Try) → EndAs (Moved first last) most ts → EndAs r 1 us → EndAs r (most + 1) (ts ++ us)
+ends_later (Whole front) first last most ts us given ends = stood_later front most ts us given.0 given.1 ends
+ends_later (Part front next) first last most ts us given ends = stood_later front most ts us given.0 given.1 ends
+ends_later (Moved f n) first last most ts us given ends =
+    let all = length-append ts us in
+    let e = ends.2 in
+    (omega (arith, all, given.0, ends.0), each_append HasMoved ts us given.1 ends.1, (ts ++ e.0, e.1, ap (λ l. ts ++ l) e.2 ∙ sym (append_assoc ts e.0 (e.1 ∷ [])), e.3, e.4))
+
+-- where tries are left
+pub ends_early : (r : Listed) (most more : ℕ) (ts : List Try) → most ≤ more → ((first last : ℕ) → r ≡ Moved first last → ⊥) → EndAs r most ts → EndAs r more ts
+ends_early (Whole front) most more ts less counted ends = (omega (arith, less, ends.0), ends.1)
+ends_early (Part front next) most more ts less counted ends = (omega (arith, less, ends.0), ends.1)
+ends_early (Moved first last) most more ts less counted ends = absurd (counted first last refl)
+
+pub recent_later : (r : Listed) (a b h : List Mark) → IsPrefix a b → IsRecent r b h → IsRecent r a h
+recent_later (Whole front) a b h p is = (let e = fewer_updates a b p in omega (arith, e, is.0), is.1)
+recent_later (Part front next) a b h p is = (let e = fewer_updates a b p in omega (arith, e, is.0), is.1)
+recent_later (Moved first last) a b h p is = tt

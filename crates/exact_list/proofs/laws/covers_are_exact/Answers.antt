@@ -1,0 +1,5 @@
+use Rattle.exact_list.proofs.Covering.{covers_exact}
+use Rattle.exact_list.proofs.laws.covers_are_exact.Goals as goal
+
+pub returns : goal.returns
+returns c = covers_exact

@@ -1,0 +1,5 @@
+pub mod Pairs
+pub mod Laws
+pub mod Tries
+pub mod Answers
+pub mod Walked

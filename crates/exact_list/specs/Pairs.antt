@@ -1,0 +1,46 @@
+-- The pairs of a dictionary in a range of keys, and what a listing has to find of them.
+-- Source: docs/TREE.md, "Lists of a key range".
+use Rattle.std.specs.Prelude.{◌≡◌, ℕ, ◌<◌, ◌≤◌, ◌⊎◌, List, Option, Some}
+use Rattle.std.specs.FinMap as finite
+use mathlib.Core.Option.{some}
+use lib.ListN.{get_elem?}
+use Rattle.prcu_model.specs.declared.operation.Update.{Update}
+use Rattle.prcu_model.specs.Dictionary.{map_at}
+use Rattle.core_state.specs.declared.view.Fact.{Fact}
+use Rattle.core_state.specs.declared.view.Gap.{Gap}
+use Rattle.core_state.specs.parts.ListingParts.{IsBetween}
+use Rattle.list_laws.specs.Counts.{IsIn, Each}
+
+-- a key and its value
+abbrev pub Pair : Type 0
+Pair = ℕ × ℕ
+
+-- the pair stands there in the list
+abbrev pub IsAt : List Pair → ℕ → Pair → Type 0
+IsAt pairs i pair = get_elem? pairs i ≡ some pair
+
+-- the keys ascend
+abbrev pub Ascend : List Pair → Type 0
+Ascend pairs = (i j : ℕ) (a b : Pair) → IsAt pairs i a → IsAt pairs j b → i < j → a.0 < b.0
+
+-- what the dictionary had for a key after the first so many updates
+abbrev pub had_at : List Update → ℕ → ℕ → Option ℕ
+had_at us front key = finite.get (map_at us front) key
+
+-- These are exactly the pairs of the map whose keys are at least the first number and below the second, keys ascending.
+pub record ArePairs (map : ℕ → Option ℕ) (low below : ℕ) (pairs : List Pair) : Type 0 where
+  pub ascend : Ascend pairs
+  pub inside : Each pairs (λ (p : Pair). (low ≤ p.0) × (p.0 < below))
+  pub there : Each pairs (λ (p : Pair). map p.0 ≡ Some p.1)
+  pub all : (key value : ℕ) → low ≤ key → key < below → map key ≡ Some value → IsIn pairs (key, value)
+
+-- the pair, as a listing notes that it found it
+abbrev pub fact_of : Pair → Fact
+fact_of pair = record { key = pair.0; value = pair.1 }
+
+-- Ascending, each pair is one of the facts found, and each key of the range is that of a pair, or lies in one of the gaps found.
+pub record Cover (facts : List Fact) (gaps : List Gap) (low below : ℕ) (pairs : List Pair) : Type 0 where
+  pub ascend : Ascend pairs
+  pub inside : Each pairs (λ (p : Pair). (low ≤ p.0) × (p.0 < below))
+  pub found : Each pairs (λ (p : Pair). IsIn facts (fact_of p))
+  pub all : (key : ℕ) → low ≤ key → key < below → ((value : ℕ) × IsIn pairs (key, value)) ⊎ ((gap : Gap) × IsIn gaps gap × IsBetween gap key)

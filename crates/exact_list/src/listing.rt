@@ -1,0 +1,100 @@
+//! Lists of a key range.
+ghost use Rattle.std.specs.Prelude.{◌≡◌, ◌≤◌, List, [], ◌∷◌, None};
+ghost use Rattle.seat_table.specs.Seats.{IsQuietSeat};
+ghost use Rattle.exact_list.specs.Answers.{Holds, IsRecent, EndAs};
+ghost use Rattle.exact_list.specs.Tries.{Try, HasTried};
+
+use crate::page::Page;
+use crate::walks::gather;
+use core_state::{front_of, linking};
+use key_interval::Keys;
+use seat_table::steps::look;
+use seat_table::{CitrusTable, Seat, WaitPart};
+use std::sync::Wait;
+
+/// What a list came to.
+#[derive(Clone, Copy, Debug, PartialEq, Eq)]
+pub enum Listed {
+    /// The page holds the pairs that the dictionary had in the range after so many updates, all of them.
+    Whole { front: u64 },
+    /// There were more than the page is for. It holds the first ones, and `next` is the key after them.
+    Part { front: u64, next: u64 },
+    /// An update was under way or made in each of the tries. In the last one the first look at the front found `first`, and the last
+    /// look `last`.
+    Moved { first: u64, last: u64 },
+}
+
+// One try, in a section of its own.
+fn attempt<R: Wait, W: WaitPart>(
+    rt: &R,
+    table: &CitrusTable<W>,
+    seat: &mut Seat<W>,
+    keys: &Keys,
+    page: &mut Page,
+) -> Listed
+    requires table { seat.old.table ≡ table.now }
+    requires outside { seat.old.view.section ≡ None }
+    requires unlocked { seat.old.view.locks ≡ [] }
+    ensures seat { (seat.new.table ≡ seat.old.table) × (seat.new.listed ≡ seat.old.listed) }
+    ensures capacity { page.new.capacity ≡ page.old.capacity }
+    ensures tried { (t : Try) × HasTried seat.old.view keys.now.low (t ∷ []) seat.new.view × EndAs result 1 (t ∷ []) }
+    ensures holds { Holds result keys.now seat.new.view.seen page.new }
+    ensures recent { IsRecent result seat.old.view.seen seat.new.view.seen }
+{
+    page.clear();
+    W::enter(table, seat, keys.low());
+    let first = look(table, seat);
+    if linking(first) {
+        W::leave(table, seat);
+        return Listed::Moved { first, last: first };
+    }
+    let next = gather(rt, table, seat, keys, page);
+    let last = look(table, seat);
+    W::leave(table, seat);
+    if last != first {
+        page.clear();
+        return Listed::Moved { first, last };
+    }
+    let front = front_of(first);
+    match next {
+        None => Listed::Whole { front },
+        Some(next) => Listed::Part { front, next },
+    }
+}
+
+/// Lists the pairs with these keys on the page, keys ascending, as the dictionary had them after some number of updates: the front.
+/// A try reads in a section, without a lock, and looks at the front before and after. It counts where no update was under way or
+/// made in between. `Whole` and `Part` come from the first try that counts, `Moved` where none of the `tries` does.
+///
+/// The front isn't before what the seat has seen. No memory is asked for, and no ticket is taken.
+///
+/// The walk for one pair loads two words for each slot on the way, three where it turns left: so a list of n pairs costs n times the
+/// depth of the tree. The looks at the front are as the sequence numbers of a seqlock.
+pub fn list<R: Wait, W: WaitPart>(
+    rt: &R,
+    table: &CitrusTable<W>,
+    seat: &mut Seat<W>,
+    keys: Keys,
+    page: &mut Page,
+    tries: u32,
+) -> Listed
+    requires table { seat.old.table ≡ table.now }
+    requires quiet { IsQuietSeat seat.old }
+    requires tries { 1 ≤ tries }
+    ensures seat { (seat.new.table ≡ seat.old.table) × (seat.new.listed ≡ seat.old.listed) }
+    ensures quiet { IsQuietSeat seat.new }
+    ensures tickets { seat.new.view.allowance.tickets ≡ seat.old.view.allowance.tickets }
+    ensures capacity { page.new.capacity ≡ page.old.capacity }
+    ensures tried { (made : List Try) × HasTried seat.old.view keys.low made seat.new.view × EndAs result tries made }
+    ensures holds { Holds result keys seat.new.view.seen page.new }
+    ensures recent { IsRecent result seat.old.view.seen seat.new.view.seen }
+{
+    let mut listed = attempt(rt, table, seat, &keys, page);
+    for tried in 1..tries {
+        match listed {
+            Listed::Moved { .. } => listed = attempt(rt, table, seat, &keys, page),
+            _ => return listed,
+        }
+    }
+    listed
+}

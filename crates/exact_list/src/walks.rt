@@ -1,0 +1,91 @@
+//! The walks of a listing.
+ghost use Rattle.std.specs.Prelude.{◌≡◌, ◌<◌, ◌≤◌, [], length};
+ghost use Rattle.seat_table.specs.Seats.{shape_of};
+ghost use Rattle.exact_list.specs.Walked.{IsListing, HasLoaded, FindsLeast, Gathers};
+
+use crate::page::Page;
+use core_state::child_of;
+use key_interval::Keys;
+use seat_table::steps::list_load;
+use seat_table::{CitrusTable, Seat, WaitWords};
+use std::sync::Wait;
+
+// the fields of a slot that a walk loads
+const KEY: u32 = 3;
+
+const VALUE: u32 = 4;
+
+const LEFT: u32 = 5;
+
+const RIGHT: u32 = 6;
+
+// Walks from the root for the least key that is at least `from`. The latest slot with a greater key, past which the walk went to the
+// left, has the pair that is answered where the walk ends. Its value is loaded when the walk comes by: a listing loads only from the
+// slot at which its walk stands.
+pub(crate) fn least<R: Wait, W: WaitWords>(
+    rt: &R,
+    table: &CitrusTable<W>,
+    seat: &mut Seat<W>,
+    from: u64,
+) -> Option<(u64, u64)>
+    requires table { seat.old.table ≡ table.now }
+    requires listing { IsListing seat.old.view }
+    ensures seat { (seat.new.table ≡ seat.old.table) × (seat.new.listed ≡ seat.old.listed) }
+    ensures least { (loaded : HasLoaded seat.old.view seat.new.view) × FindsLeast loaded.after from result }
+{
+    let mut above = None;
+    let mut link = list_load(table, seat, 0, RIGHT);
+    for _ in rt.forever() {
+        let Some(slot) = child_of(link) else {
+            return above;
+        };
+        let key = list_load(table, seat, slot, KEY);
+        if key < from {
+            link = list_load(table, seat, slot, RIGHT);
+            continue;
+        }
+        let value = list_load(table, seat, slot, VALUE);
+        if key == from {
+            return Some((key, value));
+        }
+        above = Some((key, value));
+        link = list_load(table, seat, slot, LEFT);
+    }
+    unreachable!()
+}
+
+// Gathers the pairs with these keys on the page, the least first, and answers the key for which it has no room, if there is one.
+pub(crate) fn gather<R: Wait, W: WaitWords>(
+    rt: &R,
+    table: &CitrusTable<W>,
+    seat: &mut Seat<W>,
+    keys: &Keys,
+    page: &mut Page,
+) -> Option<u64>
+    requires table { seat.old.table ≡ table.now }
+    requires listing { IsListing seat.old.view }
+    requires empty { page.old.pairs ≡ [] }
+    ensures seat { (seat.new.table ≡ seat.old.table) × (seat.new.listed ≡ seat.old.listed) }
+    ensures page { (page.new.capacity ≡ page.old.capacity) × (length page.new.pairs ≤ page.new.capacity) }
+    ensures gathered { (loaded : HasLoaded seat.old.view seat.new.view) × Gathers loaded.after keys.now page.new result }
+{
+    let mut from = keys.low();
+    let high = keys.high();
+    for _ in rt.forever() {
+        let Some((key, value)) = least(rt, table, seat, from) else {
+            return None;
+        };
+        if key > high {
+            return None;
+        }
+        if page.is_full() {
+            return Some(key);
+        }
+        page.add(key, value);
+        if key == high {
+            return None;
+        }
+        from = key + 1;
+    }
+    unreachable!()
+}
