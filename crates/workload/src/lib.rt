@@ -4,7 +4,7 @@
 //! callers take turns, and each run of a workload has one summary.
 #![tactic(auto)]
 
-mod drawing;
+pub mod drawing;
 mod making;
 mod printing;
 mod summing;

@@ -1,0 +1,56 @@
+-- The laws of all runs but for what callers were told.
+use Rattle.std.proofs.Common.{◌≡◌, ℕ, cond, false, List, [], sym, ap, subst, ◌∙◌}
+use mathlib.Core.Option.{Option, some}
+use lib.ListN.{get_elem?}
+use Rattle.prcu_model.specs.declared.operation.Op.{Op}
+use Rattle.core_state.specs.declared.shape.Shape.{Shape}
+use Rattle.core_state.specs.declared.view.View.{View}
+use Rattle.core_state.specs.views.Views.{Works}
+use Rattle.core_state.specs.steps.Steps.{IsStep, is_store}
+use Rattle.core_frames.specs.Laws.{KeepsPast}
+use Rattle.core_points.specs.Acts.{Act, field_of, kind_of, left_of, marks_of, view_after}
+use Rattle.core_points.specs.Callers.{Own}
+use Rattle.core_points.specs.Programs.{act_at}
+use Rattle.core_points.specs.Told.{IsTold}
+use Rattle.core_points.specs.Laws.{is_finished, noted_act}
+use Rattle.core_points.proofs.Acting.{acts}
+use Rattle.core_points.proofs.All.{needs_are_given, rule_tells, trails_are_free}
+use Rattle.core_points.proofs.Within.{acts_are_within}
+use Rattle.core_machine.specs.Runs.{Core, core, moved, moved_by, shape_of, step}
+use Rattle.core_machine.specs.Laws.{CoresAreSound, IsAllowed, IsMachine, StepsAreAllowed}
+use Rattle.core_machine.proofs.Running.{IsRun, past_kept, runs}
+use Rattle.core_machine.proofs.Starting.{made_runs}
+
+pub core_runs : (scripts : List (List Op)) (slots : ℕ) (callers : List ℕ) → IsMachine scripts slots → IsRun (shape_of slots scripts) (core scripts slots callers)
+core_runs scripts slots callers m = runs (shape_of slots scripts) (core scripts slots []) callers (made_runs scripts slots m)
+
+pub cores_are_sound : CoresAreSound
+cores_are_sound scripts slots callers m = let run = core_runs scripts slots callers m in record { invariant = run.holds; grace = run.holds.now.grace.grace; reuse = run.holds.now.grace.reuse }
+
+module _ (k : Shape) (c : Core) (i : ℕ) (o : Own) (v : View) (run : IsRun k c) (own : get_elem? c.owns i ≡ some o) (view : get_elem? c.views i ≡ some v) where
+  pub told_now : IsTold o v c.marks c.memory
+  told_now =
+      let caller = run.callers i o v own view in
+      let works : Works v = caller.fits.owns.works in
+      rule_tells k c.memory c.views c.marks i o v run.holds.now view works caller.slots caller.places
+
+  pub step_is : is_finished o.stage ≡ false → step c i ≡ moved c i o v
+  step_is going = ap (λ (z : Option Own × Option View). moved_by c i z.0 z.1) (λ j. (own j, view j)) ∙ ap (λ b. cond b c (moved c i o v)) going
+
+  pub allowed : is_finished o.stage ≡ false → IsAllowed k c i o v
+  allowed going =
+      let caller = run.callers i o v own view in
+      let a : Act = act_at o o.stage in
+      let n : ℕ = c.memory (field_of o.place a) in
+      let w : View = noted_act o v a n in
+      let free = trails_are_free c.marks o v c.memory o.stage (kind_of a) (field_of o.place a) (cond (is_store (kind_of a)) (left_of o.place a n) n) in
+      let step_of : (p : ℕ) → Type 0 = λ p. IsStep k c.marks w (kind_of a) (field_of p a) n (left_of p a n) (view_after w c.marks n a) (marks_of w n a) in
+      record {
+        field = acts_are_within k c.marks o v c.memory o.stage run.eer caller.slots caller.places told_now caller.fits;
+        allowed = subst step_of caller.fits.owns.same (acts k c.marks w n a run.eer (needs_are_given k c.marks o w c.memory n o.stage run.eer caller.places (free.1 told_now) (free.0 caller.fits)));
+        past = subst (λ (z : Core). KeepsPast c.memory c.marks z.memory) (sym (step_is going)) (past_kept k c i o v run own view going);
+        makes = step_is going;
+      }
+
+pub steps_are_allowed : StepsAreAllowed
+steps_are_allowed scripts slots callers i o v m own view going = allowed (shape_of slots scripts) (core scripts slots callers) i o v (core_runs scripts slots callers m) own view going

@@ -1,0 +1,5 @@
+use Rattle.core_machine.proofs.Sound.{cores_are_sound}
+use Rattle.core_machine.proofs.laws.cores_are_sound.Goals as goal
+
+pub returns : goal.returns
+returns c = cores_are_sound

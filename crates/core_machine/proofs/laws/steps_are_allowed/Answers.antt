@@ -1,0 +1,5 @@
+use Rattle.core_machine.proofs.Sound.{steps_are_allowed}
+use Rattle.core_machine.proofs.laws.steps_are_allowed.Goals as goal
+
+pub returns : goal.returns
+returns c = steps_are_allowed

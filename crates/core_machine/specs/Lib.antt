@@ -1,0 +1,11 @@
+pub mod Runs
+pub mod Stepped
+pub mod Draws
+pub mod Accounts
+pub mod Laws
+pub mod Accesses
+pub mod Stored
+pub mod Stepping
+pub mod StepLaws
+pub mod Machines
+pub mod Standing

@@ -1,0 +1,87 @@
+-- What a machine stores, and that it is the core's.
+-- Source: docs/TREE.md, "The machine".
+use Rattle.std.specs.Prelude.{map, ◌≡◌, ℕ, ◌*◌, ◌<◌, Bool, true, false, List, ◌++◌, set, slice_get, slice_set, Option, Some, None}
+use Rattle.prcu_marks.specs.declared.mark.Why.{Why}
+use Rattle.prcu_model.specs.declared.operation.Op.{Op}
+use Rattle.prcu_model.specs.declared.operation.Update.{Update}
+use Rattle.prcu_model.specs.Scripts.{op_count}
+use Rattle.core_points.specs.Callers.{Own}
+use Rattle.core_points.specs.Programs.{act_at, after}
+use Rattle.core_points.specs.Laws.{is_finished}
+use Rattle.core_machine.specs.declared.caller.Caller.{Caller}
+use Rattle.core_machine.specs.declared.machine.Stepped.{Stepped}
+use Rattle.core_machine.specs.declared.machine.Stepped.TheVariants.{Moved, Blocked, Finished}
+use Rattle.core_machine.specs.Accesses.{left_by}
+use Rattle.core_machine.specs.Runs.{Core, core, history_of, shape_of}
+use Rattle.core_machine.specs.Draws.{AreDrawn}
+use Rattle.core_machine.specs.Laws.{IsMachine}
+use Rattle.core_machine.specs.Stepped.{Answer, goes_on, is_blocked, has_ended, blocked}
+use Rattle.core_machine.specs.Stored.{HasRoom, access_of, own_of}
+use Rattle.core_machine.specs.Standing.{standing_of, stands_after}
+use Rattle.core_machine.specs.Stepping.{CanStep, found_now, index_now, update_now}
+use Rattle.core_machine.specs.StepLaws.{AreWordsOf}
+
+-- the words, what each caller keeps, the updates, and where the search of each caller's section stands
+pub record MachineAt : Type 0 where
+  pub words : List ℕ
+  pub owns : List Own
+  pub updates : List Update
+  pub standing : List (Option ℕ)
+
+-- The machine stores what the core has.
+pub record HasStored (scripts : List (List Op)) (slots : ℕ) (c : Core) (m : MachineAt) : Type 0 where
+  pub words : AreWordsOf (shape_of slots scripts) m.words c
+  pub owns : m.owns ≡ c.owns
+  pub updates : m.updates ≡ history_of c
+  pub standing : m.standing ≡ map standing_of c.views
+
+-- It was made for some scripts, some callers stepped, and there is room for what is still to come.
+pub record IsReached (m : MachineAt) (kept : List Caller) (capacity : ℕ) : Type 0 where
+  pub scripts : List (List Op)
+  pub slots : ℕ
+  pub callers : List ℕ
+  pub machine : IsMachine scripts slots
+  pub stored : HasStored scripts slots (core scripts slots callers) m
+  pub rooms : (i : ℕ) (c : Caller) → slice_get kept i ≡ Some c → HasRoom c
+  pub few : 4 * op_count scripts < capacity
+
+-- After these callers, those that are drawn from the number stepped, until every script had ended.
+pub record HasRun (scripts : List (List Op)) (slots : ℕ) (callers : List ℕ) (number : ℕ) (m : MachineAt) : Type 0 where
+  pub drawn : List ℕ
+  pub draws : AreDrawn (core scripts slots callers) number drawn
+  pub stored : HasStored scripts slots (core scripts slots (callers ++ drawn)) m
+
+-- what a step answers, where it was blocked or not
+abbrev pub stepped_of : Option Why → Stepped
+stepped_of None = Moved
+stepped_of (Some why) = Blocked why
+
+abbrev pub stepped_as : Answer → Stepped
+stepped_as goes_on = Moved
+stepped_as (is_blocked why) = Blocked why
+stepped_as has_ended = Finished
+
+-- the caller can step, where its script hasn't ended
+abbrev pub IsSteppable : List ℕ → List Caller → ℕ → Type 0
+IsSteppable words callers i = (c : Caller) × (slice_get callers i ≡ Some c) × HasRoom c × (is_finished c.stage ≡ false → CanStep words (own_of c))
+
+-- what a step of this caller leaves
+pub record HasMoved (words : List ℕ) (callers : List Caller) (updates : List Update) (i : ℕ) (c : Caller) (words' : List ℕ) (callers' : List Caller) (updates' : List Update) (result : Stepped) : Type 0 where
+  pub words_are : words' ≡ set words (index_now (own_of c)) (left_by (access_of (own_of c).place (act_at (own_of c) c.stage)) (found_now words (own_of c)))
+  pub now : Caller
+  pub callers_are : callers' ≡ slice_set callers i now
+  pub own : own_of now ≡ after (own_of c) (found_now words (own_of c)) c.stage
+  pub room : HasRoom now
+  pub stands : now.stands ≡ stands_after c.stands (found_now words (own_of c)) c.stage
+  pub updates_are : updates' ≡ updates ++ update_now (own_of c)
+  pub answer : result ≡ stepped_of (blocked (own_of c) (found_now words (own_of c)) c.stage)
+
+pub record IsUnmoved (words : List ℕ) (callers : List Caller) (updates : List Update) (words' : List ℕ) (callers' : List Caller) (updates' : List Update) (result : Stepped) : Type 0 where
+  pub words_are : words' ≡ words
+  pub callers_are : callers' ≡ callers
+  pub updates_are : updates' ≡ updates
+  pub answer : result ≡ Finished
+
+abbrev pub StepsBy : Bool → List ℕ → List Caller → List Update → ℕ → Caller → List ℕ → List Caller → List Update → Stepped → Type 0
+StepsBy true words callers updates i c words' callers' updates' result = IsUnmoved words callers updates words' callers' updates' result
+StepsBy false words callers updates i c words' callers' updates' result = HasMoved words callers updates i c words' callers' updates' result

@@ -1,0 +1,105 @@
+-- The core's run: the words, what each caller keeps, its view, and the marks, after these callers have stepped in this order.
+-- Source: docs/TREE.md, "The machine".
+use Rattle.std.specs.Prelude.{ℕ, ◌+◌, ◌*◌, ◌/◌, if◌then◌else◌, List, [], ◌∷◌, ◌++◌, length, map, set, None, Some}
+use mathlib.Core.Option.{Option, some}
+use lib.ListN.{get_elem?}
+use Rattle.list_laws.specs.Counts.{total}
+use Rattle.prcu_marks.specs.declared.mark.Mark.{Mark}
+use Rattle.prcu_marks.specs.Marks.{updates_of}
+use Rattle.prcu_model.specs.declared.operation.Op.{Op}
+use Rattle.prcu_model.specs.declared.operation.Op.TheVariants.{Get}
+use Rattle.prcu_model.specs.declared.operation.Told.{Told}
+use Rattle.prcu_model.specs.declared.operation.Update.{Update}
+use Rattle.core_state.specs.declared.shape.Shape.{Shape}
+use Rattle.core_state.specs.declared.shape.Waiter.TheVariants.{Eer}
+use Rattle.core_state.specs.declared.words.Field.{Field}
+use Rattle.core_state.specs.declared.view.View.{View}
+use Rattle.core_state.specs.memory.Memory.{Memory, memory_of, stored}
+use Rattle.seat_table.specs.Fresh.{first_words}
+use Rattle.core_laws.specs.Whole.{place_views}
+use Rattle.core_points.specs.declared.stage.Stage.TheVariants as at
+use Rattle.core_points.specs.Acts.{Act, field_of, left_of, view_after, marks_of}
+use Rattle.core_points.specs.Callers.{Own}
+use Rattle.core_points.specs.Programs.{act_at, after, begun_with}
+use Rattle.core_points.specs.Laws.{is_finished, noted_act}
+
+-- the words, what each caller keeps, each caller's view, and the marks
+pub record Core : Type 0 where
+  pub memory : Memory
+  pub owns : List Own
+  pub views : List View
+  pub marks : List Mark
+
+-- what each caller was told, and the updates in their order
+abbrev pub tolds_of : Core → List (List Told)
+tolds_of c = map (λ (o : Own). o.told) c.owns
+
+abbrev pub history_of : Core → List Update
+history_of c = updates_of c.marks
+
+-- the core after the step of a caller's point: the act is made on its word, and the caller goes on by the number that it found
+abbrev pub moved : Core → ℕ → Own → View → Core
+moved c i o v =
+    let a : Act = act_at o o.stage in
+    let field : Field = field_of o.place a in
+    let n : ℕ = c.memory field in
+    let w : View = noted_act o v a n in
+    record {
+      memory = stored c.memory field (left_of o.place a n);
+      owns = set c.owns i (after o n o.stage);
+      views = set c.views i (view_after w c.marks n a);
+      marks = c.marks ++ marks_of w n a;
+    }
+
+abbrev pub moved_by : Core → ℕ → Option Own → Option View → Core
+moved_by c i (some o) (some v) = if is_finished o.stage then c else moved c i o v
+moved_by c i _ _ = c
+
+-- the core after a step of this caller: nothing changes where its script has ended
+abbrev pub step : Core → ℕ → Core
+step c i = moved_by c i (get_elem? c.owns i) (get_elem? c.views i)
+
+abbrev pub steps : Core → List ℕ → Core
+steps c [] = c
+steps c (i ∷ is) = steps (step c i) is
+
+-- The core as it is made: the words of a fresh table of the first waiter, one place a script, and 4 tickets for each operation.
+abbrev pub tickets_of : List (List Op) → List ℕ
+tickets_of scripts = map (λ script. 4 * length script) scripts
+
+abbrev pub shape_of : ℕ → List (List Op) → Shape
+shape_of slots scripts = record { waiter = Eer; slots = slots; places = length scripts; tickets = total (λ t. t) (tickets_of scripts) }
+
+-- a caller with the spare of its place, whose first scan for a free slot begins at a part of the slots of its own
+abbrev pub new_own : Shape → ℕ → Own
+new_own k p = record {
+  place = p;
+  places = k.places;
+  slots = k.slots;
+  op = Get 0;
+  rest = [];
+  stage = at.Finished;
+  told = [];
+  hand = None;
+  hand_life = 0;
+  spare = Some (p + 1);
+  retired = [];
+  locks = [];
+  scan = k.places + 1 + p * k.slots / k.places;
+  free = k.slots;
+  front = 0;
+  kept = 0;
+}
+
+abbrev pub made_owns : Shape → ℕ → List (List Op) → List Own
+made_owns k p [] = []
+made_owns k p (script ∷ scripts) = begun_with (new_own k p) script ∷ made_owns k (p + 1) scripts
+
+abbrev pub new_core : List (List Op) → ℕ → Core
+new_core scripts slots =
+    let k : Shape = shape_of slots scripts in
+    record { memory = memory_of k (first_words k); owns = made_owns k 0 scripts; views = place_views 0 (tickets_of scripts); marks = [] }
+
+-- the core of these scripts and so many slots, after these callers have stepped in this order
+abbrev pub core : List (List Op) → ℕ → List ℕ → Core
+core scripts slots callers = steps (new_core scripts slots) callers

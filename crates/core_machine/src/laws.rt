@@ -1,0 +1,35 @@
+//! What is promised of the core's run, for all scripts and all orders of steps. Each function here has no body; its promise is the
+//! law. Read `tolds_are_explained` first.
+ghost use Rattle.core_machine.specs.StepLaws.{CallersCanStep, StepsAreStored};
+ghost use Rattle.core_machine.specs.Laws.{CoresAreSound, EndsAreExplained, StepsAreAllowed, ToldsAreExplained};
+
+/// Whatever callers step in whatever order, the invariant holds. So waits outlast their readers, and no slot is used again too early.
+pub fn cores_are_sound()
+    ensures { CoresAreSound }
+{}
+
+/// Each step of a caller whose script hasn't ended is an allowed step of the tree.
+pub fn steps_are_allowed()
+    ensures { StepsAreAllowed }
+{}
+
+/// At each moment the updates explain what the callers were told: a caller's updates are those that it was told of, and behind them the
+/// one that its call has made and not told of, if any; and each other answer was true at some front.
+pub fn tolds_are_explained()
+    ensures { ToldsAreExplained }
+{}
+
+/// Once all scripts have ended, what was told is an account of them, and the marks fit them.
+pub fn ends_are_explained()
+    ensures { EndsAreExplained }
+{}
+
+/// A caller whose script hasn't ended can step on the core's words.
+pub fn callers_can_step()
+    ensures { CallersCanStep }
+{}
+
+/// Such a step leaves the words, what the callers keep and the updates of the core after that step.
+pub fn steps_are_stored()
+    ensures { StepsAreStored }
+{}

@@ -1,0 +1,23 @@
+//! The tree's calls run one step at a time, by a given order of callers. One step is one atomic step of one caller, on the words of the
+//! first waiter. The laws say that whatever the order is, the tree's invariant holds and what the callers were told is explained.
+#![tactic(auto)]
+
+mod access;
+mod acting;
+mod blocking;
+pub mod caller;
+mod choosing;
+mod going;
+pub mod laws;
+mod layout;
+mod machine;
+mod moving;
+mod plan;
+pub mod stepping;
+
+pub use caller::Caller;
+pub use machine::{Machine, Stepped};
+pub use stepping::step_caller;
+
+#[cfg(test)]
+mod tests;
