@@ -9,8 +9,9 @@ use Rattle.std.proofs.lemmas.Bool.Decides.{nat_tests}
 use Rattle.std.proofs.lemmas.Cmp.{on_total, then_total}
 use Rattle.std.proofs.lemmas.List.{get_or-take, get_or-drop}
 use Rattle.std.proofs.lemmas.List.Sorted.{sorted_far, ranks_by}
-use Rattle.account_text.specs.declared.timeline.Change.{Change}
-use Rattle.account_text.specs.Changes.{IsUpTo, IsPast, IsOrdered}
+use Rattle.account_text.specs.declared.key_index.Change.{Change}
+use Rattle.account_text.specs.Changes.{IsPast}
+use Rattle.account_text.specs.Buckets.{bucket_of, IsUpTo, IsOrdered, IsOrderedByBucket}
 
 abbrev pub is_up_to : ℕ → ℕ → Change → Bool
 is_up_to key front change = nat_lt change.key key || (change.key == key && nat_le change.position front)
@@ -44,16 +45,16 @@ module _ (key front : ℕ) where
         let within : count + k < length changes = omega (arith, lt, ap length is, long) in
         subst (IsPast key front) (sym (get_or-drop count changes k none)) (failed _ _ (point.1 (count + k) none (omega arith) within)))
 
--- by key, and then by position
-abbrev pub place_of : Change → ℕ × ℕ
-place_of change = (change.key, change.position)
+-- by bucket, then by key, and then by position
+abbrev pub place_of : ℕ → Change → ℕ × ℕ × ℕ
+place_of buckets change = (bucket_of buckets change.key, change.key, change.position)
 
-abbrev pub place_cmp : ℕ × ℕ → ℕ × ℕ → Ordering
-place_cmp x y = ordering_then (nat_cmp x.0 y.0) (nat_cmp x.1 y.1)
+abbrev pub place_cmp : ℕ × ℕ × ℕ → ℕ × ℕ × ℕ → Ordering
+place_cmp x y = ordering_then (ordering_then (nat_cmp x.0 y.0) (nat_cmp x.1 y.1)) (nat_cmp x.2 y.2)
 
-not_less : (a b p q : ℕ) → is_lt (ordering_then (nat_cmp a b) (nat_cmp p q)) ≡ false → (b ≤ a) × (b ≡ a → q ≤ p)
-not_less a b p q h = (grind (arith, nat_tests), λ e. grind (arith, nat_tests))
+not_less : (c d a b p q : ℕ) → is_lt (ordering_then (ordering_then (nat_cmp c d) (nat_cmp a b)) (nat_cmp p q)) ≡ false → (d ≤ c) × (d ≡ c → (b ≤ a) × (b ≡ a → q ≤ p))
+not_less c d a b p q h = (grind (arith, nat_tests), λ s. (grind (arith, nat_tests), λ e. grind (arith, nat_tests)))
 
-pub IsOrdered-from_sorted : (changes : List Change) → IsSortedByKey place_of place_cmp changes → IsOrdered changes
-IsOrdered-from_sorted changes sorted i j none le within =
-    not_less _ _ _ _ (sorted_far (λ x y. is_lt (place_cmp (place_of x) (place_of y))) (ranks_by (then_total (on_total (λ (x : ℕ × ℕ). x.0) nat_cmp_total) (on_total (λ (x : ℕ × ℕ). x.1) nat_cmp_total)) place_of) changes sorted i j none le within)
+pub IsOrderedByBucket-from_sorted : (buckets : ℕ) (changes : List Change) → IsSortedByKey (place_of buckets) place_cmp changes → IsOrderedByBucket buckets changes
+IsOrderedByBucket-from_sorted buckets changes sorted i j none le within =
+    not_less _ _ _ _ _ _ (sorted_far (λ x y. is_lt (place_cmp (place_of buckets x) (place_of buckets y))) (ranks_by (then_total (then_total (on_total (λ (x : ℕ × ℕ × ℕ). x.0) nat_cmp_total) (on_total (λ (x : ℕ × ℕ × ℕ). x.1) nat_cmp_total)) (on_total (λ (x : ℕ × ℕ × ℕ). x.2) nat_cmp_total)) (place_of buckets)) changes sorted i j none le within)

@@ -1,13 +1,13 @@
 -- What the changes of a key say of its value at each front.
-use Rattle.std.proofs.Common.{◌≡◌, ◌≢◌, ℕ, zero, suc, ◌+◌, ◌-◌, ◌<◌, ◌≤◌, ◌==◌, ◌⊎◌, inl, inr, true, false, cond, Some, None, List, ◌++◌, length, length-append, get_or, refl, sym, ap, subst, ◌∙◌, arith}
+use Rattle.std.proofs.Common.{◌≡◌, ◌≢◌, ℕ, zero, suc, ◌+◌, ◌-◌, ◌<◌, ◌≤◌, ◌==◌, ◌⊎◌, inl, inr, Bool, true, false, ◌||◌, IsTrue, cond, Some, None, List, ◌++◌, length, length-append, get_or, refl, sym, ap, subst, ◌∙◌, arith}
 use Rattle.std.specs.FinMap as map
-use Rattle.std.specs.List.{All, slice_get}
+use Rattle.std.specs.List.{All, slice_get, list_any}
 use Rattle.std.specs.Ordering.{nat_cmp, eq_by_cmp}
 use Rattle.std.specs.Cmp.{nat_cmp_total}
 use Rattle.std.proofs.lemmas.Bool.{cases_lt, cases_eq}
 use Rattle.std.proofs.lemmas.Bool.Decides.{nat_tests}
 use Rattle.std.proofs.lemmas.List.{get_or_append_left, get_or-append-add, get_or_default}
-use Rattle.std.proofs.lemmas.List.Folds.{Any-from_list_any}
+use Rattle.std.proofs.lemmas.List.Folds.{Any-from_list_any, list_any-append, list_any_none}
 use Rattle.std.proofs.lemmas.Option.{slice_get-get_or, slice_get_past}
 use Rattle.prcu_model.specs.declared.operation.Op.{Op}
 use Rattle.prcu_model.specs.declared.operation.Op.TheVariants.{Put, Get, Del, Set}
@@ -15,8 +15,9 @@ use Rattle.prcu_model.specs.declared.operation.Reply.{Reply}
 use Rattle.prcu_model.specs.declared.operation.Update.{Update}
 use Rattle.prcu_model.specs.Dictionary.{Dictionary, updated, map_at, key_of}
 use Rattle.prcu_model.proofs.Fronts.{map_at-next}
-use Rattle.account_text.specs.declared.timeline.Change.{Change}
-use Rattle.account_text.specs.Changes.{IsShown, IsChangeOf, AreAllChanged, IsUpTo, IsPast, IsOrdered, IsFirstShown, IsIndexed, value_for}
+use Rattle.account_text.specs.declared.key_index.Change.{Change}
+use Rattle.account_text.specs.Buckets.{IsUpTo, IsOrdered, IsCutOut}
+use Rattle.account_text.specs.Changes.{IsShown, IsChangeOf, AreAllChanged, IsPast, IsFirstShown, IsIndexed, value_for}
 
 get-insert_other : (m : Dictionary) (k v key : ℕ) → k ≢ key → map.get (map.insert m k v) key ≡ map.get m key
 get-insert_other m k v key other =
@@ -43,7 +44,12 @@ nothing = record { key = 0; position = 0; value = None }
 abbrev no_update : Update
 no_update = record { caller = 0; op = Put 0 0 }
 
-module _ (history : List Update) (changes : List Change) (right : All (IsChangeOf history) changes) (whole : AreAllChanged changes (length history)) (key : ℕ) where
+-- each update of the key has a change among these
+abbrev pub HaveKey : List Update → List Change → ℕ → Type 0
+HaveKey history changes key =
+    (position : ℕ) → 0 < position → position ≤ length history → key_of (get_or history (position - 1) no_update).op ≡ key → IsTrue (list_any (λ change. change.position == position) changes)
+
+module _ (history : List Update) (changes : List Change) (right : All (IsChangeOf history) changes) (key : ℕ) (whole : HaveKey history changes key) where
   -- a change of the key, later than one front and no later than another, that has left the value at this one
   pub record IsLast (low high : ℕ) : Type 0 where
     pub place : ℕ
@@ -56,7 +62,8 @@ module _ (history : List Update) (changes : List Change) (right : All (IsChangeO
   -- the update at a front is at the key
   last_here : (low front : ℕ) → low ≤ front → front < length history → key_of (get_or history front no_update).op ≡ key → IsLast low (front + 1)
   last_here low front le below own =
-      let some = Any-from_list_any (λ change. change.position == front + 1) changes (whole (front + 1) (omega arith) (omega arith)) in
+      let at_front : (front + 1) - 1 ≡ front = omega arith in
+      let some = Any-from_list_any (λ change. change.position == front + 1) changes (whole (front + 1) (omega arith) (omega arith) (ap (λ i. key_of (get_or history i no_update).op) at_front ∙ own)) in
       let place = some.0 in
       let there : get_or changes place nothing ≡ some.1 = get_or_default changes place nothing some.1 some.2 ∙ some.3 in
       let at : (get_or changes place nothing).position ≡ front + 1 = ap (λ c. c.position) there ∙ grind (arith, nat_tests, some.4) in
@@ -95,20 +102,63 @@ module _ (history : List Update) (changes : List Change) (right : All (IsChangeO
       let n : low + (high - low) ≡ high = omega arith in
       subst (λ f. (map.get (map_at history f) key ≡ map.get (map_at history low) key) ⊎ IsLast low f) n (last_change low (high - low) (omega arith))
 
--- The changes of a history, those of the key up to the front and the others.
+module _ (P : Change → Type 0) (xs ys : List Change) (all : All P (xs ++ ys)) where
+  in_front : All P xs
+  in_front i none lt = subst P (get_or_append_left xs ys none i lt) (all i none (omega (arith, length-append xs ys)))
+
+  in_back : All P ys
+  in_back i none lt = subst P (get_or-append-add xs ys i none) (all (length xs + i) none (omega (arith, length-append xs ys)))
+
+-- none of these is at the position, where the update there has the key
+module _ (history : List Update) (key position : ℕ) (own : key_of (get_or history (position - 1) no_update).op ≡ key) where
+  not_at : (change : Change) → IsChangeOf history change → change.key ≢ key → (change.position == position) ≡ false
+  not_at change is other = elim (cases_eq change.position position) [
+    | inl same ↦ absurd (other (is.key no_update ∙ ap (λ p. key_of (get_or history (p - 1) no_update).op) same ∙ own))
+    | inr apart ↦ grind (arith, nat_tests)
+  ]
+
+  none_at : (changes : List Change) → All (IsChangeOf history) changes → All (λ change. change.key ≢ key) changes → list_any (λ change. change.position == position) changes ≡ false
+  none_at changes right others = list_any_none (λ change. change.position == position) changes (λ i none lt. not_at (get_or changes i none) (right i none lt) (others i none lt))
+
+-- What is cut out for a key has all its changes.
+module _ (history : List Update) (changes part : List Change) (key : ℕ) (right : All (IsChangeOf history) changes) (whole : AreAllChanged changes (length history)) (cut : IsCutOut changes part key) where
+  all_right : All (IsChangeOf history) (cut.front ++ (part ++ cut.back))
+  all_right = subst (All (IsChangeOf history)) cut.is right
+
+  rest_right : All (IsChangeOf history) (part ++ cut.back)
+  rest_right = in_back (IsChangeOf history) cut.front (part ++ cut.back) all_right
+
+  pub cut-right : All (IsChangeOf history) part
+  cut-right = in_front (IsChangeOf history) part cut.back rest_right
+
+  only : (a b c : Bool) → (a || (b || c)) ≡ true → a ≡ false → c ≡ false → b ≡ true
+  only true b c some first last = absurd (cc)
+  only false true c some first last = refl
+  only false false c some first last = absurd (cc)
+
+  pub cut-whole : HaveKey history part key
+  cut-whole position some le own =
+      let test = λ (change : Change). change.position == position in
+      let all : list_any test (cut.front ++ (part ++ cut.back)) ≡ true = ap (list_any test) (sym cut.is) ∙ whole position some le in
+      let parted : (list_any test cut.front || (list_any test part || list_any test cut.back)) ≡ true = ap (λ b. list_any test cut.front || b) (sym (list_any-append test part cut.back)) ∙ sym (list_any-append test cut.front (part ++ cut.back)) ∙ all in
+      only (list_any test cut.front) (list_any test part) (list_any test cut.back) parted
+      (none_at history key position own cut.front (in_front (IsChangeOf history) cut.front (part ++ cut.back) all_right) cut.none_front)
+      (none_at history key position own cut.back (in_back (IsChangeOf history) part cut.back rest_right) cut.none_back)
+
+-- The changes of a key and perhaps of others, those of the key up to the front and the later ones.
 pub record AreSplit (history : List Update) (until later : List Change) (key front : ℕ) : Type 0 where
   pub right : All (IsChangeOf history) (until ++ later)
-  pub whole : AreAllChanged (until ++ later) (length history)
+  pub whole : HaveKey history (until ++ later) key
   pub ordered : IsOrdered (until ++ later)
   pub low : All (IsUpTo key front) until
   pub high : All (IsPast key front) later
   pub fits : front ≤ length history
 
-pub are_split : (history : List Update) (sizes : List ℕ) (changes until later : List Change) (key front : ℕ) → IsIndexed history sizes changes → changes ≡ until ++ later → All (IsUpTo key front) until → All (IsPast key front) later → front ≤ length history → AreSplit history until later key front
-are_split history sizes changes until later key front indexed parts low high fits = record {
-  right = subst (All (IsChangeOf history)) parts indexed.right;
-  whole = subst (λ cs. AreAllChanged cs (length history)) parts indexed.whole;
-  ordered = subst IsOrdered parts indexed.ordered;
+pub are_split : (history : List Update) (sizes : List ℕ) (changes part until later : List Change) (key front : ℕ) → IsIndexed history sizes changes → IsCutOut changes part key → IsOrdered part → part ≡ until ++ later → All (IsUpTo key front) until → All (IsPast key front) later → front ≤ length history → AreSplit history until later key front
+are_split history sizes changes part until later key front indexed cut ordered parts low high fits = record {
+  right = subst (All (IsChangeOf history)) parts (cut-right history changes part key indexed.right indexed.whole cut);
+  whole = subst (λ cs. HaveKey history cs key) parts (cut-whole history changes part key indexed.right indexed.whole cut);
+  ordered = subst IsOrdered parts ordered;
   low = low;
   high = high;
   fits = fits;
@@ -123,7 +173,7 @@ module _ (history : List Update) (until later : List Change) (key front : ℕ) (
   right : All (IsChangeOf history) (until ++ later)
   right = split.right
 
-  whole : AreAllChanged (until ++ later) (length history)
+  whole : HaveKey history (until ++ later) key
   whole = split.whole
 
   ordered : IsOrdered (until ++ later)
@@ -156,7 +206,7 @@ module _ (history : List Update) (until later : List Change) (key front : ℕ) (
   ]
 
   none_until : length until ≤ 0 → map.get (map_at history front) key ≡ None
-  none_until none = elim (last_between history changes right whole key 0 front (omega arith) fits) [
+  none_until none = elim (last_between history changes right key whole 0 front (omega arith) fits) [
     | inl same ↦ same ∙ map.get-empty nat_cmp key
     | inr c ↦ absurd (omega (arith, is_until c.place c.within c.key_is c.until))
   ]
@@ -171,7 +221,7 @@ module _ (history : List Update) (until later : List Change) (key front : ℕ) (
       let up_to = low (length until - 1) nothing (omega arith) in
       let no_later : last.position ≤ front = omega (arith, ap (λ c. c.position) here, up_to.1 (ap (λ c. c.key) (sym here) ∙ own)) in
       let value : last.value ≡ map.get (map_at history last.position) key = is.value ∙ ap (map.get (map_at history last.position)) own in
-      elim (last_between history changes right whole key last.position front no_later fits) [
+      elim (last_between history changes right key whole last.position front no_later fits) [
         | inl same ↦ value ∙ sym same
         | inr c ↦
             let among = is_until c.place c.within c.key_is c.until in
@@ -180,7 +230,7 @@ module _ (history : List Update) (until later : List Change) (key front : ℕ) (
       ]
 
   last_other : 0 < length until → last.key ≢ key → None ≡ map.get (map_at history front) key
-  last_other some other = elim (last_between history changes right whole key 0 front (omega arith) fits) [
+  last_other some other = elim (last_between history changes right key whole 0 front (omega arith) fits) [
     | inl same ↦ sym (same ∙ map.get-empty nat_cmp key)
     | inr c ↦
         let here : last ≡ get_or until (length until - 1) nothing = get_or_append_left until later nothing (length until - 1) (omega arith) in
@@ -219,7 +269,7 @@ module _ (history : List Update) (until later : List Change) (key front : ℕ) (
       pub shown : IsShown op reply (get_or later place nothing).value
 
     shown_by : (other : ℕ) → front ≤ other → other ≤ length history → IsShown op reply (map.get (map_at history other) key) → IsShownBy other
-    shown_by other le within shown = elim (last_between history changes right whole key front other le within) [
+    shown_by other le within shown = elim (last_between history changes right key whole front other le within) [
       | inl same ↦ absurd (not_now (subst (IsShown op reply) same shown))
       | inr c ↦ elim (cases_lt c.place (length until)) [
         | inl among ↦

@@ -10,6 +10,8 @@ pub mod LegalUpdates
 pub mod Explained
 pub mod KeyChanges
 pub mod ChangeOrder
+pub mod BucketStarts
 pub mod Replays
+pub mod Legality
 pub mod OwnUpdates
 pub mod Counts

@@ -12,8 +12,8 @@ use Rattle.std.proofs.lemmas.List.Folds.{list_any-append}
 use Rattle.prcu_model.specs.declared.operation.Update.{Update}
 use Rattle.prcu_model.specs.Dictionary.{map_at, key_of}
 use Rattle.prcu_model.specs.Replies.{Room}
-use Rattle.account_text.specs.declared.timeline.Change.{Change}
-use Rattle.account_text.specs.Changes.{IsFilled, IsChangeOf, AreAllChanged, IsOrdered, IsIndexed}
+use Rattle.account_text.specs.declared.key_index.Change.{Change}
+use Rattle.account_text.specs.Changes.{IsFilled, IsChangeOf, AreAllChanged, IsIndexed}
 
 module _ (history : List Update) (i : ℕ) (below : i < length history) where
   pub sizes-more : (sizes : List ℕ) (n : ℕ) → length sizes ≡ i + 1 → ((front : ℕ) → front ≤ i → get_or sizes front 0 ≡ map.len (map_at history front)) → n ≡ map.len (map_at history (i + 1)) → (front : ℕ) → front ≤ i + 1 → get_or (sizes ++ n ∷ []) front 0 ≡ map.len (map_at history front)
@@ -77,12 +77,11 @@ module _ (room : Room) (history : List Update) (sizes : List ℕ) (changes : Lis
   pub least-filled : (steps : ℕ) → steps < length later → ((i : ℕ) → i < steps → IsFilled room (get_or later i 0) → ⊥) → (other : ℕ) → before ≤ other → other < before + steps → IsFilled room (map.len (map_at history other)) → ⊥
   least-filled steps within first other above lower filled = first (other - before) (omega arith) (filled_at other above (omega (arith, length-later)) filled)
 
--- what a replay has gathered, and the changes in order
-pub indexed-from_replay : (history : List Update) (sizes : List ℕ) (changes ordered : List Change) → length sizes ≡ length history + 1 → ((front : ℕ) → front ≤ length history → get_or sizes front 0 ≡ map.len (map_at history front)) → All (IsChangeOf history) changes → AreAllChanged changes (length history) → IsPermutation changes ordered → IsOrdered ordered → IsIndexed history sizes ordered
-indexed-from_replay history sizes changes ordered fronts size right whole same is_ordered = record {
+-- what a replay has gathered, and the changes in another order
+pub indexed-from_replay : (history : List Update) (sizes : List ℕ) (changes moved : List Change) → length sizes ≡ length history + 1 → ((front : ℕ) → front ≤ length history → get_or sizes front 0 ≡ map.len (map_at history front)) → All (IsChangeOf history) changes → AreAllChanged changes (length history) → IsPermutation changes moved → IsIndexed history sizes moved
+indexed-from_replay history sizes changes moved fronts size right whole same = record {
   fronts = fronts;
   size = size;
-  right = All-permutation (IsChangeOf history) changes ordered same right;
-  whole = λ position some le. sym (list_any-IsPermutation (λ change. change.position == position) changes ordered same) ∙ whole position some le;
-  ordered = is_ordered;
+  right = All-permutation (IsChangeOf history) changes moved same right;
+  whole = λ position some le. sym (list_any-IsPermutation (λ change. change.position == position) changes moved same) ∙ whole position some le;
 }

@@ -10,7 +10,7 @@ use Rattle.prcu_model.specs.declared.operation.Reply.TheVariants.{Old, Full, Val
 use Rattle.prcu_model.specs.declared.operation.Update.{Update}
 use Rattle.prcu_model.specs.Dictionary.{map_at, key_of}
 use Rattle.prcu_model.specs.Replies.{Room, Explains}
-use Rattle.account_text.specs.declared.timeline.Change.{Change}
+use Rattle.account_text.specs.declared.key_index.Change.{Change}
 use Rattle.account_text.specs.Course.{Course}
 
 -- whether the reply says that no slot is left for a put
@@ -47,18 +47,9 @@ pub record IsChangeOf (history : List Update) (change : Change) : Type 0 where
 abbrev pub AreAllChanged : List Change → ℕ → Type 0
 AreAllChanged changes count = (position : ℕ) → 0 < position → position ≤ count → IsTrue (list_any (λ change. change.position == position) changes)
 
--- at a lower key, or at the key and no later than the front
-abbrev pub IsUpTo : ℕ → ℕ → Change → Type 0
-IsUpTo key front change = (change.key ≤ key) × (change.key ≡ key → change.position ≤ front)
-
 -- at a higher key, or at the key and later than the front
 abbrev pub IsPast : ℕ → ℕ → Change → Type 0
 IsPast key front change = (key ≤ change.key) × (change.key ≡ key → front < change.position)
-
--- keys ascend, and for each key the positions do
-abbrev pub IsOrdered : List Change → Type 0
-IsOrdered changes =
-    (i j : ℕ) (none : Change) → i ≤ j → j < length changes → IsUpTo (slice_index_or changes j none).key (slice_index_or changes j none).position (slice_index_or changes i none)
 
 -- the value that the change leaves, if it is at the key
 abbrev pub value_for : ℕ → Option Change → Option ℕ
@@ -74,10 +65,9 @@ pub record IsFirstShown (changes : List Change) (key : ℕ) (op : Op) (reply : R
   pub shown : (none : Change) → IsShown op reply (slice_index_or changes place none).value
   pub first : (i : ℕ) (none : Change) → i < place → IsShown op reply (slice_index_or changes i none).value → ⊥
 
--- `sizes` has the number of pairs at each front, and `changes` the change of each update, in order.
+-- `sizes` has the number of pairs at each front, and `changes` the change of each update.
 pub record IsIndexed (history : List Update) (sizes : List ℕ) (changes : List Change) : Type 0 where
   pub fronts : length sizes ≡ length history + 1
   pub size : (front : ℕ) → front ≤ length history → slice_index sizes front ≡ map.len (map_at history front)
   pub right : All (IsChangeOf history) changes
   pub whole : AreAllChanged changes (length history)
-  pub ordered : IsOrdered changes

@@ -6,5 +6,6 @@ pub mod AccountLines
 pub mod Lines
 pub mod Course
 pub mod Turns
+pub mod Buckets
 pub mod Changes
 pub mod Judging

@@ -4,9 +4,8 @@ ghost use Rattle.prcu_model.specs.Lists.{entries_of};
 ghost use Rattle.account_text.specs.Account.{IsAccount};
 ghost use Rattle.account_text.specs.Checking.{IsPrinted};
 
-use crate::judging::{are_explained_by, is_legal};
-use crate::numbering::number_scripts;
-use crate::printing::write_account;
+use crate::judging::explain;
+use crate::printing::print_account;
 use crate::reading::read_account;
 use crate::timeline::Timeline;
 use prcu_model::{NoMemory, Scripts, ToldList, Update};
@@ -35,14 +34,14 @@ fn prints(
 ) -> Result<bool, NoMemory>
     ensures { IfOk result (λ yes. IsTrue yes ↔ IsPrinted scripts.now slots (entries_of told.now) history.now text.now) }
 {
-    if !is_legal(alloc, history)? {
-        return Ok(false);
-    }
     let timeline = Timeline::new(alloc, history, scripts.count(), slots)?;
-    if !are_explained_by(alloc, scripts, told, &timeline)? {
+    if !timeline.is_legal() {
         return Ok(false);
     }
-    let lines = number_scripts(alloc, scripts, told, &timeline)?;
-    let printed = write_account(alloc, &lines, history)?;
+    let Some(lines) = explain(alloc, scripts, told, &timeline)? else {
+        return Ok(false);
+    };
+    let pairs = timeline.last_pairs(alloc)?;
+    let printed = print_account(alloc, &lines, history, &pairs)?;
     Ok(printed.as_slice() == text)
 }

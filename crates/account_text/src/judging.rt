@@ -1,14 +1,14 @@
 //! Whether a history is one, and whether it explains what scripts were told.
-ghost use Rattle.std.specs.Prelude.{◌≡◌, ◌<◌, ◌↔◌, [], All, IfOk, IsTrue, length, map, slice_index_or};
+ghost use Rattle.std.specs.Prelude.{◌≡◌, ◌<◌, ◌^◌, ◌↔◌, [], All, IfOk, IfNone, IfSome, IsTrue, length, map, slice_index_or};
 ghost use Rattle.prcu_model.specs.History.{IsLegal, IsUpdateAt};
 ghost use Rattle.prcu_model.specs.Lists.{entries_of};
-ghost use Rattle.prcu_model.specs.Fronts.{AreExplainable, CanBeNumbered, told_lines};
+ghost use Rattle.prcu_model.specs.Fronts.{AreExplainable, CanBeNumbered, AreNumbered, AllAreNumbered, told_lines, all_told_lines};
 ghost use Rattle.account_text.specs.Judging.{IsScriptExplained};
 ghost use Rattle.account_text.specs.Lines.{line_of, IsTold, AreToldFrom};
 
 use crate::timeline::Timeline;
 use crate::turns::Turns;
-use prcu_model::{NoMemory, Op, PlainMap, Scripts, Told, ToldList, Update};
+use prcu_model::{Line, LineList, NoMemory, Op, PlainMap, Scripts, Told, ToldList, Update};
 use std::alloc::Global;
 
 // Whether the operation is an update of the dictionary.
@@ -92,66 +92,97 @@ fn are_updates_told(
     passed == turns.count_of(caller)
 }
 
-// Whether numbers may stand beside the lines.
-fn can_be_numbered(script: &[Op], told: &[Told], timeline: &Timeline) -> bool
-    ensures { IsTrue result ↔ CanBeNumbered timeline.now.room timeline.now.history (told_lines script.now told.now) }
+// The lines of one script with their numbers, each the least, and `None` exactly where no numbers may stand beside them.
+fn try_number_script(
+    alloc: Global,
+    script: &[Op],
+    told: &[Told],
+    timeline: &Timeline,
+) -> Result<Option<LineList>, NoMemory>
+    requires same_length { length told.now ≡ length script.now }
+    requires fits { length script.now < 2 ^ 32 }
+    ensures none { IfOk result (λ lines. IfNone lines (CanBeNumbered timeline.now.room timeline.now.history (told_lines script.now told.now) → ⊥)) }
+    ensures able { IfOk result (λ lines. IfSome lines (λ _. CanBeNumbered timeline.now.room timeline.now.history (told_lines script.now told.now))) }
+    ensures numbered { IfOk result (λ lines. IfSome lines (λ list. AreNumbered timeline.now.room timeline.now.history 0 (told_lines script.now told.now) list.entries)) }
 {
+    let mut lines = LineList::new(alloc, script.len() as u32)?;
     let mut before = 0;
     for (op, answer) in script.iter().zip(told) {
         let Some(number) = timeline.try_number_for(before, *op, *answer) else {
-            return false;
+            return Ok(None);
         };
+        lines.push(Line {
+            op: *op,
+            reply: answer.reply,
+            number,
+        });
         before = number;
     }
-    true
+    Ok(Some(lines))
 }
 
-// Whether the history explains what this caller was told: its updates, the replies to them, and the other lines.
-fn is_script_explained(
+// The lines of this caller with their numbers, and `None` exactly where the history doesn't explain what the caller was told: its
+// updates, the replies to them, and the other lines.
+fn explain_script(
+    alloc: Global,
     caller: u32,
     script: &[Op],
     told: &[Told],
     timeline: &Timeline,
     turns: &Turns,
-) -> bool
+) -> Result<Option<LineList>, NoMemory>
     requires history { turns.now.history ≡ timeline.now.history }
     requires caller { caller < turns.now.callers }
-    ensures { IsTrue result ↔ IsScriptExplained timeline.now.room timeline.now.history caller (told_lines script.now told.now) }
+    requires same_length { length told.now ≡ length script.now }
+    requires fits { length script.now < 2 ^ 32 }
+    ensures none { IfOk result (λ lines. IfNone lines (IsScriptExplained timeline.now.room timeline.now.history caller (told_lines script.now told.now) → ⊥)) }
+    ensures explained { IfOk result (λ lines. IfSome lines (λ _. IsScriptExplained timeline.now.room timeline.now.history caller (told_lines script.now told.now))) }
+    ensures numbered { IfOk result (λ lines. IfSome lines (λ list. AreNumbered timeline.now.room timeline.now.history 0 (told_lines script.now told.now) list.entries)) }
 {
-    are_updates_told(caller, script, told, timeline, turns)
-        && can_be_numbered(script, told, timeline)
+    if !are_updates_told(caller, script, told, timeline, turns) {
+        return Ok(None);
+    }
+    try_number_script(alloc, script, told, timeline)
 }
 
-/// What `is_explained` says, of the timeline's history and slots.
-pub fn are_explained_by(
+/// The lines of the scripts with their numbers, as `fronts` gives them, and `None` exactly where the timeline's history doesn't
+/// explain what the scripts were told (`is_explained`).
+pub fn explain(
     alloc: Global,
     scripts: &Scripts,
     told: &[ToldList],
     timeline: &Timeline,
-) -> Result<bool, NoMemory>
+) -> Result<Option<Vec<LineList>>, NoMemory>
     requires { timeline.now.room.scripts ≡ length scripts.now }
-    ensures { IfOk result (λ explained. IsTrue explained
-        ↔ AreExplainable scripts.now (entries_of told.now) timeline.now.history timeline.now.room.slots) }
+    ensures none { IfOk result (λ lists. IfNone lists (AreExplainable scripts.now (entries_of told.now) timeline.now.history timeline.now.room.slots → ⊥)) }
+    ensures explained { IfOk result (λ lists. IfSome lists (λ _. AreExplainable scripts.now (entries_of told.now) timeline.now.history timeline.now.room.slots)) }
+    ensures numbered { IfOk result (λ lists. IfSome lists (λ lists. AllAreNumbered timeline.now.room timeline.now.history
+        (all_told_lines scripts.now (entries_of told.now)) (entries_of lists.items))) }
 {
     let history = timeline.history();
     if !are_all_answered(scripts, told) || !are_callers_below(history, scripts.count()) {
-        return Ok(false);
+        return Ok(None);
     }
+    // No script has more operations than all of them together.
+    prove!(scripts.ops() <= Scripts::MOST_OPS);
     let turns = Turns::new(alloc, history, scripts.count())?;
+    let mut lists = Vec::with_capacity(alloc, told.len())?;
     for (i, list) in told.iter().enumerate() {
         let caller = i as u32;
         let script = scripts.script(caller);
-        if !is_script_explained(caller, script, list.entries(), timeline, &turns) {
-            return Ok(false);
-        }
+        let answers = list.entries();
+        let Some(lines) = explain_script(alloc, caller, script, answers, timeline, &turns)? else {
+            return Ok(None);
+        };
+        lists.push(lines)?;
     }
-    Ok(true)
+    Ok(Some(lists))
 }
 
 /// Whether the history explains what the scripts were told, which share so many slots: each script has an answer for
 /// each operation; the updates that it was told of are those of the history, at their positions, and there are no
 /// others; each reply fits its update; and the other lines have fronts that don't fall. The history is replayed once; a
-/// line takes a search among its updates, and a script passes each of them at most once besides.
+/// line takes a search among its key's updates, and a script passes each of them at most once besides.
 pub fn is_explained(
     alloc: Global,
     scripts: &Scripts,
@@ -162,5 +193,5 @@ pub fn is_explained(
     ensures { IfOk result (λ explained. IsTrue explained ↔ AreExplainable scripts.now (entries_of told.now) history.now slots) }
 {
     let timeline = Timeline::new(alloc, history, scripts.count(), slots)?;
-    are_explained_by(alloc, scripts, told, &timeline)
+    Ok(explain(alloc, scripts, told, &timeline)?.is_some())
 }

@@ -4,6 +4,7 @@
 
 mod checking;
 mod judging;
+mod key_index;
 mod numbering;
 mod printing;
 mod reading;
@@ -12,7 +13,7 @@ mod turns;
 
 pub use checking::check;
 pub use judging::{is_explained, is_legal};
-pub use numbering::fronts;
+pub use numbering::{fronts, make_account};
 pub use printing::write_account;
 pub use reading::{Claimed, read_account};
 

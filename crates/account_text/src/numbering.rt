@@ -8,6 +8,7 @@ ghost use Rattle.prcu_model.specs.Fronts.{AreExplainable, CanBeNumbered, AreNumb
 ghost use Rattle.account_text.specs.Account.{IsAccount};
 ghost use Rattle.account_text.specs.Printing.{account_of};
 
+use crate::printing::print_account;
 use crate::timeline::Timeline;
 use prcu_model::{Line, LineList, NoMemory, Op, Scripts, Told, ToldList, Update};
 use std::alloc::Global;
@@ -38,8 +39,8 @@ fn number_script(
     Ok(lines)
 }
 
-/// What `fronts` gives, of the timeline's history and slots.
-pub fn number_scripts(
+// What `fronts` gives, of the timeline's history and slots.
+fn number_scripts(
     alloc: Global,
     scripts: &Scripts,
     told: &[ToldList],
@@ -63,8 +64,8 @@ pub fn number_scripts(
 
 /// What each script was told, with the number that stands beside each line: at an update its position in the history,
 /// and else the least front that explains the reply and isn't below the number of the line before it. The scripts share
-/// so many slots. The history is replayed once; a line takes a search among its updates, and a script passes each of
-/// them at most once besides.
+/// so many slots. The history is replayed once; a line takes a search among its key's updates, and a script passes each
+/// of them at most once besides.
 pub fn fronts(
     alloc: Global,
     scripts: &Scripts,
@@ -81,4 +82,23 @@ pub fn fronts(
 {
     let timeline = Timeline::new(alloc, history, scripts.count(), slots)?;
     number_scripts(alloc, scripts, told, &timeline)
+}
+
+/// The account of what the scripts were told, with this history. The scripts share so many slots. It is what `fronts` and
+/// `write_account` make of them, with one replay of the history for both.
+pub fn make_account(
+    alloc: Global,
+    scripts: &Scripts,
+    told: &[ToldList],
+    history: &[Update],
+    slots: u32,
+) -> Result<Vec<u8>, NoMemory>
+    requires explained { AreExplainable scripts.now (entries_of told.now) history.now slots }
+    requires legal { IsLegal history.now }
+    ensures { IfOk result (λ text. (account : IsAccount scripts.now slots text.items) × (account.history ≡ history.now)) }
+{
+    let timeline = Timeline::new(alloc, history, scripts.count(), slots)?;
+    let lines = number_scripts(alloc, scripts, told, &timeline)?;
+    let pairs = timeline.last_pairs(alloc)?;
+    print_account(alloc, &lines, history, &pairs)
 }

@@ -6,7 +6,7 @@ ghost use Rattle.prcu_model.specs.Lists.{entries_of};
 ghost use Rattle.script_text.specs.Lines.{op_text};
 ghost use Rattle.account_text.specs.Printing.{reply_text, line_text, script_part, scripts_from, history_from, pair_text, account_of};
 
-use prcu_model::{Dict, Line, LineList, NoMemory, Reply, Update};
+use prcu_model::{Line, LineList, NoMemory, PlainMap, Reply, Update};
 use script_text::{push_number, push_op};
 use std::alloc::Global;
 
@@ -113,17 +113,45 @@ fn push_pair(out: &mut Vec<u8>, pair: (u64, u64)) -> Result<(), NoMemory>
     push_last_number(out, pair.1)
 }
 
-// Appends the final pairs, keys ascending.
-fn push_final(out: &mut Vec<u8>, dict: &Dict) -> Result<(), NoMemory>
+// Appends the final pairs.
+fn push_final(out: &mut Vec<u8>, pairs: &[(u64, u64)]) -> Result<(), NoMemory>
     ensures { OnOk result (out.new.items ≡ out.old.items
-        ++ (codes "final " ++ decimal (length (map.entries dict.now)) ++ codes "\n" ++ flat_map pair_text (map.entries dict.now))) }
+        ++ (codes "final " ++ decimal (length pairs.now) ++ codes "\n" ++ flat_map pair_text pairs.now)) }
 {
     out.extend_from_slice(b"final ")?;
-    push_last_number(out, dict.len())?;
-    for i in 0..dict.len() {
-        push_pair(out, dict.pair(i))?;
+    push_last_number(out, pairs.len() as u64)?;
+    for pair in pairs {
+        push_pair(out, *pair)?;
     }
     Ok(())
+}
+
+/// The account that prints these lines of the scripts, this history, and these final pairs.
+pub fn print_account(
+    alloc: Global,
+    lines: &[LineList],
+    history: &[Update],
+    pairs: &[(u64, u64)],
+) -> Result<Vec<u8>, NoMemory>
+    ensures { IfOk result (λ text. text.items ≡ account_of (entries_of lines.now) history.now pairs.now) }
+{
+    let mut out = Vec::new(alloc);
+    push_scripts(&mut out, lines)?;
+    push_history(&mut out, history)?;
+    push_final(&mut out, pairs)?;
+    out.extend_from_slice(b"end\n")?;
+    Ok(out)
+}
+
+// The pairs that the history makes, keys ascending.
+fn last_pairs(alloc: Global, history: &[Update]) -> Result<Vec<(u64, u64)>, NoMemory>
+    ensures { IfOk result (λ pairs. pairs.items ≡ map.entries (map_of history.now)) }
+{
+    let mut map = PlainMap::new(alloc);
+    for update in history {
+        map.update(update.op)?;
+    }
+    map.pairs(alloc)
 }
 
 /// The account that prints these lines of the scripts and this history, with the final pairs that the history makes.
@@ -134,10 +162,6 @@ pub fn write_account(
 ) -> Result<Vec<u8>, NoMemory>
     ensures { IfOk result (λ text. text.items ≡ account_of (entries_of lines.now) history.now (map.entries (map_of history.now))) }
 {
-    let mut out = Vec::new(alloc);
-    push_scripts(&mut out, lines)?;
-    push_history(&mut out, history)?;
-    push_final(&mut out, &Dict::replay(alloc, history)?)?;
-    out.extend_from_slice(b"end\n")?;
-    Ok(out)
+    let pairs = last_pairs(alloc, history)?;
+    print_account(alloc, lines, history, &pairs)
 }

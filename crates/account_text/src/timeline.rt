@@ -1,24 +1,18 @@
 //! A history that is replayed once, and then answers for the dictionary at any front.
 ghost use Rattle.std.specs.Prelude.{◌≡◌, ℕ, ◌+◌, ◌-◌, ◌<◌, ◌≤◌, ◌↔◌, IsTrue, IfOk, IfNone, IfSome, ◌++◌, length, slice_get, slice_index, All};
 ghost use Rattle.std.specs.FinMap as map;
-ghost use Rattle.std.specs.List.Sorted.{IsPermutation};
-ghost use Rattle.prcu_model.specs.Dictionary.{key_of, map_at};
+ghost use Rattle.prcu_model.specs.Dictionary.{Dictionary, updated, key_of, map_at, map_of};
+ghost use Rattle.prcu_model.specs.History.{IsUpdateAt, IsLegal};
 ghost use Rattle.prcu_model.specs.Replies.{Confirms};
 ghost use Rattle.prcu_model.specs.Fronts.{MayStand, IsLeastFor};
 ghost use Rattle.account_text.specs.Lines.{line_of};
-ghost use Rattle.account_text.specs.Changes.{asks_for_room, IsShown, IsFilled, ExplainsFrom, IsUpTo, IsPast, IsOrdered, IsFirstShown, IsChangeOf, AreAllChanged, value_for};
+ghost use Rattle.account_text.specs.Buckets.{IsUpTo, IsOrdered};
+ghost use Rattle.account_text.specs.Changes.{asks_for_room, IsShown, IsFilled, ExplainsFrom, IsPast, IsFirstShown, IsChangeOf, AreAllChanged, value_for};
 
+use crate::key_index::{Change, KeyIndex};
 use prcu_model::{NoMemory, Op, PlainMap, Reply, Told, Update};
 use std::alloc::Global;
 use std::marker::Model;
-
-// What an update left at its key.
-#[derive(Clone, Copy)]
-struct Change {
-    key: u64,
-    position: u64,
-    value: Option<u64>,
-}
 
 // The key that the operation asks for.
 fn key_of(op: Op) -> u64
@@ -110,47 +104,75 @@ fn first_filled(sizes: &[u64], scripts: u32, slots: u32) -> Option<u64>
     None
 }
 
-// The changes in the order of their keys, and for each key of their positions.
-fn in_order(mut changes: Vec<Change>) -> Vec<Change>
-    ensures same { IsPermutation changes.items result.items }
-    ensures ordered { IsOrdered result.items }
+// Whether the operation was an update, by the dictionary's size before and after it and the value that it left at its key.
+fn was_update(op: Op, before: u64, after: u64, value: Option<u64>) -> bool
+    ensures { (m : Dictionary) → before ≡ map.len m → after ≡ map.len (updated m op) → value ≡ map.get (updated m op) (key_of op) → IsTrue result ↔ IsUpdateAt m op }
 {
-    changes.sort_unstable_by_key(|change| (change.key, change.position));
-    changes
+    match op {
+        Op::Put { .. } => before < after,
+        Op::Get { .. } => false,
+        Op::Del { .. } => after < before,
+        Op::Set { .. } => value.is_some(),
+    }
 }
 
-// The dictionary's size at each front, and the change of each update.
-fn replay(alloc: Global, history: &[Update]) -> Result<(Vec<u64>, Vec<Change>), NoMemory>
-    ensures fronts { IfOk result (λ both. length both.0.items ≡ length history.now + 1) }
-    ensures sizes { IfOk result (λ both. (front : ℕ) → front ≤ length history.now → slice_index both.0.items front ≡ map.len (map_at history.now front)) }
-    ensures right { IfOk result (λ both. All (IsChangeOf history.now) both.1.items) }
-    ensures whole { IfOk result (λ both. AreAllChanged both.1.items (length history.now)) }
+// What one replay of a history gathers: the dictionary's size at each front, the change of each update, the dictionary at the last
+// front, and whether each update was one.
+#[derive(Drop)]
+struct Replayed {
+    sizes: Vec<u64>,
+    changes: Vec<Change>,
+    last: PlainMap,
+    legal: bool,
+}
+
+// Replays the history.
+fn replay(alloc: Global, history: &[Update]) -> Result<Replayed, NoMemory>
+    ensures fronts { IfOk result (λ all. length all.sizes.items ≡ length history.now + 1) }
+    ensures sizes { IfOk result (λ all. (front : ℕ) → front ≤ length history.now → slice_index all.sizes.items front ≡ map.len (map_at history.now front)) }
+    ensures right { IfOk result (λ all. All (IsChangeOf history.now) all.changes.items) }
+    ensures whole { IfOk result (λ all. AreAllChanged all.changes.items (length history.now)) }
+    ensures last { IfOk result (λ all. all.last ≡ map_at history.now (length history.now)) }
+    ensures legal { IfOk result (λ all. IsTrue all.legal ↔ IsLegal history.now) }
 {
     let mut map = PlainMap::new(alloc);
+    let mut legal = true;
     let mut sizes = Vec::with_capacity(alloc, history.len() + 1)?;
     let mut changes = Vec::with_capacity(alloc, history.len())?;
     sizes.push(map.len())?;
     for (i, update) in history.iter().enumerate() {
+        let before = map.len();
         map.update(update.op)?;
-        sizes.push(map.len())?;
+        let after = map.len();
         let key = key_of(update.op);
+        let value = map.get(key);
+        legal &= was_update(update.op, before, after, value);
+        sizes.push(after)?;
         changes.push(Change {
             key,
             position: i as u64 + 1,
-            value: map.get(key),
+            value,
         })?;
     }
-    Ok((sizes, changes))
+    Ok(Replayed {
+        sizes,
+        changes,
+        last: map,
+        legal,
+    })
 }
 
-// A history with the dictionary's size at each front and the changes of each key. So many scripts share so many slots.
+// A history with the dictionary's size at each front, the changes of each key, the dictionary at the last front, and whether the
+// history is legal. So many scripts share so many slots.
 #[derive(Drop)]
 pub struct Timeline<'a> {
     history: &'a [Update],
     scripts: u32,
     slots: u32,
     sizes: Vec<u64>,
-    changes: Vec<Change>,
+    changes: KeyIndex,
+    last: PlainMap,
+    legal: bool,
 }
 
 impl<'a> Model for Timeline<'a> {
@@ -163,14 +185,17 @@ impl<'a> Model for Timeline<'a> {
       history = t.history.now;
     } };
 
+    ghost use Rattle.std.specs.Prelude.{◌≡◌, ◌↔◌, IsTrue, length};
+    ghost use Rattle.prcu_model.specs.History.{IsLegal};
+    ghost use Rattle.prcu_model.specs.Dictionary.{map_at};
     ghost use Rattle.account_text.specs.Changes.{IsIndexed};
 
-    ghost invariant = { λ t. IsIndexed t.history.now t.sizes.items t.changes.items };
+    ghost invariant = { λ t. IsIndexed t.history.now t.sizes.items t.changes × (t.last ≡ map_at t.history.now (length t.history.now)) × (IsTrue t.legal ↔ IsLegal t.history.now) };
 }
 
 impl<'a> Timeline<'a> {
     /// Replays the history, of which nothing is asked. The time is that of the replay, and of putting the changes in
-    /// the order of their keys.
+    /// buckets by their keys.
     pub fn new(
         alloc: Global,
         history: &'a [Update],
@@ -182,13 +207,20 @@ impl<'a> Timeline<'a> {
           history = history.now;
         }) }
     {
-        let (sizes, changes) = replay(alloc, history)?;
+        let Replayed {
+            sizes,
+            changes,
+            last,
+            legal,
+        } = replay(alloc, history)?;
         Ok(Timeline {
             history,
             scripts,
             slots,
             sizes,
-            changes: in_order(changes),
+            changes: KeyIndex::new(alloc, changes)?,
+            last,
+            legal,
         })
     }
 
@@ -199,12 +231,26 @@ impl<'a> Timeline<'a> {
         self.history
     }
 
+    /// Whether the history is legal (`is_legal`). The replay has found it out.
+    pub fn is_legal(&self) -> bool
+        ensures { IsTrue result ↔ IsLegal self.now.history }
+    {
+        self.legal
+    }
+
+    /// The pairs that the whole history makes, keys ascending.
+    pub fn last_pairs(&self, alloc: Global) -> Result<Vec<(u64, u64)>, NoMemory>
+        ensures { IfOk result (λ pairs. pairs.items ≡ map.entries (map_of self.now.history)) }
+    {
+        self.last.pairs(alloc)
+    }
+
     // The value of the key at the front.
     fn value_at(&self, key: u64, front: u64) -> Option<u64>
         requires { front ≤ length self.now.history }
         ensures { result ≡ map.get (map_at self.now.history front) key }
     {
-        let (until, _) = split_changes(&self.changes, key, front);
+        let (until, _) = split_changes(self.changes.near(key), key, front);
         last_value(until, key)
     }
 
@@ -236,7 +282,7 @@ impl<'a> Timeline<'a> {
             → IsShown op reply (map.get (map_at self.now.history other) (key_of op)) → ⊥) }
     {
         let key = key_of(op);
-        let (until, later) = split_changes(&self.changes, key, before);
+        let (until, later) = split_changes(self.changes.near(key), key, before);
         if is_shown(op, reply, last_value(until, key)) {
             return Some(before);
         }
@@ -258,8 +304,8 @@ impl<'a> Timeline<'a> {
     }
 
     /// The least number that may stand beside the line, after the number of the line before it, and `None` exactly
-    /// where none may. The time grows with the logarithm of the history, and with the changes of the line's key, or for
-    /// `Full` the fronts, that lie before the number.
+    /// where none may. The key's changes are found in constant time where keys are spread evenly; then a search takes
+    /// the logarithm of their number, and a walk passes those that lie before the number, or for `Full` the fronts.
     pub fn try_number_for(&self, before: u64, op: Op, told: Told) -> Option<u64>
         ensures none { IfNone result
             ((number : ℕ) → MayStand self.now.room self.now.history before (line_of op told) number → ⊥) }

@@ -5,9 +5,6 @@ ghost use Rattle.account_text.specs.Account.{IsAccount};
 ghost use Rattle.workload.specs.Draws.{made_scripts};
 ghost use Rattle.workload.specs.Summaries.{plain_summary};
 ghost use Rattle.workload.specs.SummaryText.{summary_text};
-ghost use Rattle.prcu_model.specs.History.{IsLegal};
-ghost use Rattle.prcu_model.specs.Lists.{entries_of};
-ghost use Rattle.prcu_model.specs.Fronts.{AreExplainable};
 ghost use Rattle.prcu_model.specs.Scripts.{default_slots_of};
 ghost use Rattle.citrus_tool.specs.Answers.{Writes, Leaves, Judges};
 ghost use Rattle.citrus_tool.specs.Leavings.{LeavesHash};
@@ -18,10 +15,10 @@ use crate::commands::Command;
 use crate::outcome::{Ran, Status};
 use crate::parts::parts_of;
 use crate::plain::run_plain;
-use account_text::{check, fronts, write_account};
+use account_text::{check, make_account};
 use hash_run::run_scripts;
 use prcu_marks::Gate;
-use prcu_model::{NoMemory, Scripts, ToldList, Update};
+use prcu_model::{NoMemory, Scripts};
 use script_text::{ScriptError, parse, push_number};
 use std::alloc::Global;
 use std::sync::Wait;
@@ -145,29 +142,13 @@ fn account_for(alloc: Global, slots: Option<u32>, scripts: &Scripts) -> Result<V
         × StaysWithin account.history (slots_of slots scripts.now)) }
 {
     let ended = run_plain(alloc, slots, scripts)?;
-    account_of(
+    make_account(
         alloc,
         scripts,
         &ended.told,
         &ended.history,
         slots_for(slots, scripts),
     )
-}
-
-// The account of what the scripts were told, with this history.
-fn account_of(
-    alloc: Global,
-    scripts: &Scripts,
-    told: &[ToldList],
-    history: &[Update],
-    slots: u32,
-) -> Result<Vec<u8>, NoMemory>
-    requires explained { AreExplainable scripts.now (entries_of told.now) history.now slots }
-    requires legal { IsLegal history.now }
-    ensures { IfOk result (λ text. (account : IsAccount scripts.now slots text.items) × (account.history ≡ history.now)) }
-{
-    let lines = fronts(alloc, scripts, told, history, slots)?;
-    write_account(alloc, &lines, history)
 }
 
 // Runs the scripts that the input holds beside each other on one hash dictionary: their account, or the number of the first
@@ -215,7 +196,7 @@ fn hash_scripts<R: Threads + Wait + Sync, G: Gate + Sync>(
         return Ok((account_for(alloc, None, scripts)?, Ran::Nothing));
     }
     let ended = run_scripts(rt, alloc, scripts, gate)?;
-    let text = account_of(
+    let text = make_account(
         alloc,
         scripts,
         &ended.told,

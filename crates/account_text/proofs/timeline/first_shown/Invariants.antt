@@ -1,5 +1,5 @@
 use Rattle.std.proofs.Common.{◌≡◌, ℕ, ◌<◌, get_or}
-use Rattle.account_text.specs.declared.timeline.Change.{Change}
+use Rattle.account_text.specs.declared.key_index.Change.{Change}
 use Rattle.account_text.specs.Changes.{IsShown}
 use Rattle.account_text.proofs.timeline.first_shown.Given as goal
 

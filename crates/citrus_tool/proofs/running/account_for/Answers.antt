@@ -5,8 +5,8 @@ use Rattle.prcu_model.specs.Fronts.{AreExplainable}
 use Rattle.citrus_tool.proofs.SlotCounts.{filled_at, plain_account}
 use Rattle.citrus_tool.proofs.running.account_for.Goals as goal
 
-pub account_of-requires-clause-explained : goal.account_of-requires-clause-explained
-account_of-requires-clause-explained c =
+pub make_account-requires-clause-explained : goal.make_account-requires-clause-explained
+make_account-requires-clause-explained c =
     let scripts = c.args.scripts.now in
     let slots = c.slots_for.result in
     subst (λ told. AreExplainable scripts (entries_of told) c.deref-2.result.now slots) (sym c.deref.ensures.value)
@@ -19,6 +19,6 @@ returns c =
     let slots = c.slots_for.result in
     let history = c.deref-2.result.now in
     let plain = c.deref-2.ensures.value ∙ c.in_ok-ended.ensures.history in
-    IfOk-weaker c.account_of.result _ _
+    IfOk-weaker c.make_account.result _ _
     (λ text account. plain_account c.args.slots scripts slots history text.items c.slots_for.ensures plain account)
-    c.account_of.ensures
+    c.make_account.ensures

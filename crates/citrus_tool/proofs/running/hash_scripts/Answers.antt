@@ -4,8 +4,8 @@ use Rattle.prcu_model.specs.Fronts.{AreExplainable}
 use Rattle.citrus_tool.proofs.HashLeavings.{left_beside}
 use Rattle.citrus_tool.proofs.running.hash_scripts.Goals as goal
 
-pub account_of-requires-clause-explained : goal.account_of-requires-clause-explained
-account_of-requires-clause-explained g c =
+pub make_account-requires-clause-explained : goal.make_account-requires-clause-explained
+make_account-requires-clause-explained g c =
     let scripts = c.args.scripts.now in
     let slots = c.default_slots.result in
     subst (λ told. AreExplainable scripts (entries_of told) c.deref-2.result.now slots) (sym c.deref.ensures.value)

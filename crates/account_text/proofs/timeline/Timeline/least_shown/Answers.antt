@@ -16,7 +16,7 @@ split : (c : After-last_value) → AreSplit c.self.inside.history.now c.split_ch
 split c =
     let t = c.self.inside in
     let fits : c.args.before ≤ length t.history.now = rw (← c.self.view_is) at c.requires in
-    are_split t.history.now t.sizes.items t.changes.items c.split_changes.result.0.now c.split_changes.result.1.now c.key_of-key.result c.args.before c.self.invariant (sym c.deref.ensures.value ∙ c.split_changes.ensures.parts) c.split_changes.ensures.until c.split_changes.ensures.later fits
+    are_split t.history.now t.sizes.items t.changes c.near.result.now c.split_changes.result.0.now c.split_changes.result.1.now c.key_of-key.result c.args.before c.self.invariant.0 c.near.ensures.cut c.near.ensures.ordered c.split_changes.ensures.parts c.split_changes.ensures.until c.split_changes.ensures.later fits
 
 value-now : (c : After-last_value) → c.last_value.result ≡ map.get (map_at c.self.inside.history.now c.args.before) c.key_of-key.result
 value-now c =
