@@ -1,3 +1,4 @@
 pub mod Workers
+pub mod Crews
 pub mod Merging
 pub mod Storing
