@@ -1,5 +1,5 @@
 -- A wait of the third waiter goes from row to row: from class to class at a place, and then to the next place.
-use Rattle.std.proofs.Common.{◌≡◌, ℕ, suc, ◌+◌, ◌-◌, ◌*◌, ◌/◌, ◌%◌, ◌<◌, ◌≤◌, ◌⊎◌, inl, inr, ⊎_elim, Bool, true, false, List, ◌∷◌, refl, sym, subst, ◌∙◌, arith}
+use Rattle.std.proofs.Common.{◌≡◌, ℕ, suc, ◌+◌, ◌-◌, ◌*◌, ◌<◌, ◌≤◌, ◌⊎◌, inl, inr, ⊎_elim, Bool, true, false, List, ◌∷◌, refl, sym, subst, ◌∙◌, arith}
 use mathlib.Core.Logic.{dite}
 use native.Mathlib.Decide.{ℕ_discrete}
 use Rattle.core_state.specs.declared.shape.Shape.{Shape}
@@ -17,6 +17,8 @@ use Rattle.seat_table.specs.Waits.{reached, IsBefore, HasReached, IsLatestOf, Is
 use Rattle.seat_table.specs.Looks.{HasPassed}
 use Rattle.seat_table.proofs.Polls.{goes_on}
 use Rattle.key_interval.specs.LastClass.{IsLastClass}
+use Rattle.deer_wait.specs.declared.image.Image.{Image}
+use Rattle.deer_wait.specs.Images.{IsImage, HasSkipped}
 
 pub not_domain : Deer ≡ Domain → ⊥
 not_domain e = cc
@@ -28,21 +30,22 @@ row_of place class = 64 * place + class
 abbrev pub moved : {W : Type 0} → Grace W → ℕ → ℕ → Grace W
 moved grace place class = record grace { place = place; class = class }
 
-abbrev pub at_row : {W : Type 0} → Grace W → ℕ → Grace W
-at_row grace row = moved grace (row / 64) (row % 64)
-
-pub place_at : (place class : ℕ) → class < 64 → row_of place class / 64 ≡ place
-place_at place class small = omega (arith, small)
-
-pub class_at : (place class : ℕ) → class < 64 → row_of place class % 64 ≡ class
-class_at place class small = omega (arith, small)
-
 -- the keys of a wait meet the classes that its interval meets
 pub image_of : (wait : Waiting) (keys : Interval) → wait.low ≡ keys.low → wait.high ≡ keys.high → (c : ℕ) → MeetsClass keys c → MeetsClass (keys_of wait) c
 image_of wait keys low high c met = (met.0, (omega (arith, met.1.0, low), omega (arith, met.1.1, high)), met.2)
 
 image_from : (wait : Waiting) (keys : Interval) → wait.low ≡ keys.low → wait.high ≡ keys.high → (c : ℕ) → MeetsClass (keys_of wait) c → MeetsClass keys c
 image_from wait keys low high c met = (met.0, (omega (arith, met.1.0, low), omega (arith, met.1.1, high)), met.2)
+
+-- the last class of an image is the interval's
+pub last_of : (keys : Interval) (image : Image) → IsImage keys image → IsLastClass keys image.last
+last_of keys image is = record {
+  met = is.second image.last is.filled (omega arith);
+  greatest = λ c more small met. ⊎_elim
+      (λ (b : c < image.below). let a = is.apart in let f = is.filled in omega (arith, b, a, f, more))
+      (λ (l : (image.from ≤ c) × (c ≤ image.last)). omega (arith, l.1, more))
+      (is.only c small met);
+}
 
 either : (a b : ℕ) → (a ≤ b) ⊎ (b < a)
 either a b = grind arith
@@ -111,61 +114,64 @@ module _ {W : Type 0} (k : Shape) (deer : k.waiter ≡ Deer) (grace : Grace W) w
       ⊎_elim (λ (l : p < place). omega (arith, l, s.2)) (λ (r : (p ≡ place) × (c < class)). omega (arith, r.0, r.1)) b
 
   module _ (v u : View) (come : IsGoingOn k v grace u) (place class : ℕ) (inside : place ≤ k.places - 1) (small : class < 64) where
-    -- the next row, after a look at this one
-    pub next_row : (w : View) → row_of place class ≡ row_of grace.place grace.class + 1 → HasPassed u false (Row grace.place grace.class) w → IsGoingOn k v (moved grace place class) w
-    next_row w next passed =
-        let r = come.5 in
-        goes_on k v u w grace come (moved grace place class) (Row grace.place grace.class) passed
-        (reaches place class come.2 (Row grace.place grace.class ∷ come.2.excused) r inside small
-        (λ field spot before. up_to come.2 r field spot (λ p c is. let b = rows_before place class come.2 field spot before p c is in omega (arith, b, next))))
-
-    -- the next row, where this one is of a class that no key has
-    pub next_unmet : row_of place class ≡ row_of grace.place grace.class + 1 → (MeetsClass grace.keys grace.class → ⊥) → IsGoingOn k v (moved grace place class) u
-    next_unmet next unmet =
-        let r = come.5 in
-        (come.0, come.1, come.2, come.3, come.4, reaches place class come.2 come.2.excused r inside small (λ field spot before. met field spot before))
+    -- on to a later row, after a look at this one, where no key has the class of a row between
+    pub passes_to : (w : View) → HasPassed u false (Row grace.place grace.class) w → ((p c : ℕ) → c < 64 → row_of grace.place grace.class < row_of p c → row_of p c < row_of place class → MeetsClass grace.keys c → ⊥) → IsGoingOn k v (moved grace place class) w
+    passes_to w passed unmet = goes_on k v u w grace come (moved grace place class) (Row grace.place grace.class) passed (reaches place class come.2 (Row grace.place grace.class ∷ come.2.excused) come.5 inside small there)
       where
-        here : (p c : ℕ) → IsSpot k come.2 (Row p c) → row_of p c ≡ row_of grace.place grace.class → MeetsClass grace.keys grace.class
-        here p c spot same =
-            let there : c ≡ grace.class = omega (arith, same, spot.2, come.5.small) in
-            subst (MeetsClass grace.keys) there (image_from come.2 grace.keys come.5.low_is come.5.high_is c spot.3)
+        within : (field : Field) (p c : ℕ) → IsSpot k come.2 field → IsBefore (reached (moved grace place class)) field → field ≡ Row p c → row_of p c ≤ row_of grace.place grace.class
+        within field p c spot before is =
+            let s = subst (IsSpot k come.2) is spot in
+            let b = rows_before place class come.2 field spot before p c is in
+            ⊎_elim
+            (λ (l : row_of p c ≤ row_of grace.place grace.class). l)
+            (λ (g : row_of grace.place grace.class < row_of p c). absurd (unmet p c s.2 g b (image_from come.2 grace.keys come.5.low_is come.5.high_is c s.3)))
+            (either (row_of p c) (row_of grace.place grace.class))
 
-        met : (field : Field) → IsSpot k come.2 field → IsBefore (reached (moved grace place class)) field → IsIn come.2.excused field
-        met (Row p c) spot before =
-            let b = rows_before place class come.2 (Row p c) spot before p c refl in
-            dite (ℕ_discrete (row_of p c) (row_of grace.place grace.class))
-            (λ same. absurd (unmet (here p c spot same)))
-            (λ ne. come.5.excused (Row p c) spot (is_before p c spot.2 come.5.small (omega (arith, b, next, ne))))
-        met (Stamp q) spot before = absurd (let e : Deer ≡ Eer = sym deer ∙ spot.0 in cc)
-        met (Count c side) spot before = absurd (let e : Deer ≡ Domain = sym deer ∙ spot.0 in cc)
-        met _ spot before = absurd spot
+        there : (field : Field) → IsSpot k come.2 field → IsBefore (reached (moved grace place class)) field → IsIn (Row grace.place grace.class ∷ come.2.excused) field
+        there field spot before = up_to come.2 come.5 field spot (λ p c is. within field p c spot before is)
 
-    -- an earlier row
-    pub earlier_row : row_of place class ≤ row_of grace.place grace.class → IsGoingOn k v (moved grace place class) u
-    earlier_row less =
-        let r = come.5 in
-        (come.0, come.1, come.2, come.3, come.4, reaches place class come.2 come.2.excused r inside small (λ field spot before. there field spot before))
+    -- on to another row, where no key has the class of a row from this one on and before that
+    pub skips_to : ((p c : ℕ) → c < 64 → row_of grace.place grace.class ≤ row_of p c → row_of p c < row_of place class → MeetsClass grace.keys c → ⊥) → IsGoingOn k v (moved grace place class) u
+    skips_to unmet = (come.0, come.1, come.2, come.3, come.4, reaches place class come.2 come.2.excused come.5 inside small there)
       where
         there : (field : Field) → IsSpot k come.2 field → IsBefore (reached (moved grace place class)) field → IsIn come.2.excused field
         there (Row p c) spot before =
             let b = rows_before place class come.2 (Row p c) spot before p c refl in
-            come.5.excused (Row p c) spot (is_before p c spot.2 come.5.small (omega (arith, b, less)))
+            ⊎_elim
+            (λ (l : row_of grace.place grace.class ≤ row_of p c). absurd (unmet p c spot.2 l b (image_from come.2 grace.keys come.5.low_is come.5.high_is c spot.3)))
+            (λ (e : row_of p c < row_of grace.place grace.class). come.5.excused (Row p c) spot (is_before p c spot.2 come.5.small e))
+            (either (row_of grace.place grace.class) (row_of p c))
         there (Stamp q) spot before = absurd (let e : Deer ≡ Eer = sym deer ∙ spot.0 in cc)
         there (Count c side) spot before = absurd (let e : Deer ≡ Domain = sym deer ∙ spot.0 in cc)
         there _ spot before = absurd spot
 
--- from the first row on, and as far as the last one
-module _ {W : Type 0} (k : Shape) (deer : k.waiter ≡ Deer) (grace : Grace W) (v u : View) (row : ℕ) where
-  pub from_first : IsGoingOn k v grace u → row ≡ row_of grace.place grace.class → IsGoingOn k v (at_row grace row) u
-  from_first come first =
-      let r = come.5 in
-      earlier_row k deer grace v u come (row / 64) (row % 64) (omega (arith, first, r.small, r.inside)) (omega arith) (omega (arith, first))
+-- from class to class at a place, and from the last class of the keys to the next place
+module _ {W : Type 0} (k : Shape) (deer : k.waiter ≡ Deer) (grace : Grace W) (v u : View) (come : IsGoingOn k v grace u) where
+  pub next_class : (w : View) → HasPassed u false (Row grace.place grace.class) w → grace.class + 1 < 64 → IsGoingOn k v (moved grace grace.place (grace.class + 1)) w
+  next_class w passed small = passes_to k deer grace v u come grace.place (grace.class + 1) come.5.inside small w passed (λ p c fits after before met. omega (arith, after, before))
 
-  pub to_last : (place class : ℕ) → IsGoingOn k v (at_row grace row) u → row_of place class ≤ row → place ≤ k.places - 1 → class < 64 → IsGoingOn k v (moved grace place class) u
-  to_last place class come most inside small = earlier_row k deer (at_row grace row) v u come place class inside small (omega (arith, most))
+  pub next_place : (w : View) (image : Image) → IsImage grace.keys image → grace.class ≡ image.last → HasPassed u false (Row grace.place grace.class) w → grace.place + 1 ≤ k.places - 1 → IsGoingOn k v (moved grace (grace.place + 1) 0) w
+  next_place w image is last passed inside = passes_to k deer grace v u come (grace.place + 1) 0 inside (omega arith) w passed (λ p c fits after before met. is_last.greatest c (omega (arith, after, before, fits, last)) fits met)
+    where
+      is_last : IsLastClass grace.keys image.last
+      is_last = last_of grace.keys image is
 
-  pub passes_row : (w : View) → IsGoingOn k v (at_row grace row) u → HasPassed u false (Row (row / 64) (row % 64)) w → (row + 1) / 64 ≤ k.places - 1 → IsGoingOn k v (at_row grace (row + 1)) w
-  passes_row w come passed inside = next_row k deer (at_row grace row) v u come ((row + 1) / 64) ((row + 1) % 64) inside (omega arith) w (omega arith) passed
+  module _ (next : Grace W) (image : Image) (is : IsImage grace.keys image) (skipped : HasSkipped image.from grace next) where
+    next_small : next.class < 64
+    next_small = ⊎_elim
+        (λ (l : next.class ≤ 63). omega (arith, l))
+        (λ (g : 63 < next.class). let early = skipped.gap 63 (let s = come.5.small in omega (arith, s)) g in let f = is.filled in let s = is.small in omega (arith, early, f, s))
+        (either next.class 63)
 
-  pub skips_row : IsGoingOn k v (at_row grace row) u → (MeetsClass grace.keys (row % 64) → ⊥) → (row + 1) / 64 ≤ k.places - 1 → IsGoingOn k v (at_row grace (row + 1)) u
-  skips_row come unmet inside = next_unmet k deer (at_row grace row) v u come ((row + 1) / 64) ((row + 1) % 64) inside (omega arith) (omega arith) unmet
+    -- the classes between the two runs of an image are of no key
+    pub skips_gap : image.below ≤ grace.class → IsGoingOn k v next u
+    skips_gap first = subst (λ z. IsGoingOn k v z u) (sym skipped.stays) (skips_to k deer grace v u come grace.place next.class come.5.inside next_small (λ p c fits after before met.
+        let here : p ≡ grace.place = omega (arith, after, before, fits, next_small, come.5.small) in
+        let early : c < image.from = skipped.gap c (omega (arith, after, here)) (omega (arith, before, here)) in
+        ⊎_elim
+        (λ (b : c < image.below). omega (arith, b, first, after, here))
+        (λ (l : (image.from ≤ c) × (c ≤ image.last)). omega (arith, l.0, early))
+        (is.only c fits met)))
+
+  pub goes_back : (class : ℕ) → class ≤ grace.class → IsGoingOn k v (moved grace grace.place class) u
+  goes_back class less = skips_to k deer grace v u come grace.place class come.5.inside (let s = come.5.small in omega (arith, less, s)) (λ p c fits after before met. omega (arith, after, before, less))

@@ -1,12 +1,15 @@
 //! Sections and waits of the third waiter.
-ghost use Rattle.std.specs.Prelude.{◌≡◌, ◌+◌, ◌<◌, true, IfNone, IfSome};
+ghost use Rattle.std.specs.Prelude.{◌≡◌, ◌≢◌, ◌⊎◌, ◌+◌, ◌<◌, ◌≤◌, true, false, IfNone, IfSome};
 ghost use Rattle.core_state.specs.declared.words.Field.TheVariants.{Row};
 ghost use Rattle.key_interval.specs.Keys.{MeetsClass};
 ghost use Rattle.key_interval.specs.LastClass.{IsLastClass};
 ghost use Rattle.seat_table.specs.Seats.{shape_of};
-ghost use Rattle.seat_table.specs.Waits.{IsLatestOf};
+ghost use Rattle.seat_table.specs.declared.wait.Poll.TheVariants.{NotYet};
+ghost use Rattle.seat_table.specs.Waits.{IsLatestOf, IsGoingOn, Polled};
 ghost use Rattle.seat_table.specs.Looks.{HasPassed, HasMet};
+ghost use Rattle.deer_wait.specs.Images.{IsImage, HasEach, HasSkipped, StaysAt};
 
+use crate::image::{Image, image_of};
 use key_interval::{Keys, class_of};
 use prcu_marks::Why;
 use seat_table::steps::{k3, k7, k33, k34, k35};
@@ -42,7 +45,7 @@ fn look(
     let place = grace.place;
     let class = grace.class;
     let stamp = k35(table, seat, place, class, last);
-    if stamp == u64::MAX || grace.clock < stamp {
+    if !is_early(stamp, grace.clock) {
         return None;
     }
     Some(Why::Row {
@@ -50,6 +53,106 @@ fn look(
         class,
         stamp,
     })
+}
+
+// Whether a stamp may be that of a section that was entered before the wait with this clock began. Idle is the greatest number, so that
+// one comparison tells.
+fn is_early(stamp: u64, clock: u64) -> bool
+    ensures early { result ≡ true → (stamp ≢ 18446744073709551615) × (stamp ≤ clock) }
+    ensures late { result ≡ false → (stamp ≡ 18446744073709551615) ⊎ (clock < stamp) }
+{
+    stamp < clock.saturating_add(1)
+}
+
+// Passes the classes at the grace's place that are below that one; or answers what stands in the wait's way there.
+fn pass(
+    table: &CitrusTable<Deer>,
+    seat: &mut Seat<Deer>,
+    grace: &mut Grace<Deer>,
+    end: u32,
+) -> Option<Why>
+    requires table { seat.old.table ≡ table.now }
+    requires latest { IsLatestOf (shape_of 2 table.now) grace.old seat.old.view }
+    requires inside { grace.old.place < table.now.places }
+    requires each { HasEach grace.old end }
+    requires small { end < 64 }
+    ensures seat { (seat.new.table ≡ seat.old.table) × (seat.new.listed ≡ seat.old.listed) }
+    ensures grace { StaysAt grace.old grace.new }
+    ensures passed { IfNone result ((end ≤ grace.new.class) × IsGoingOn (shape_of 2 table.now) seat.old.view grace.new seat.new.view) }
+    ensures met { IfSome result (λ why. Polled (shape_of 2 table.now) seat.old.view (NotYet why) grace.new seat.new.view) }
+{
+    for class in grace.class..end {
+        if let Some(why) = look(table, seat, grace, false) {
+            return Some(why);
+        }
+        grace.class = class + 1;
+    }
+    None
+}
+
+// The grace comes to that class, unless it has come to a later one.
+fn skip_gap(grace: &mut Grace<Deer>, from: u32)
+    ensures { HasSkipped from grace.old grace.new }
+{
+    if grace.class < from {
+        grace.class = from;
+    }
+}
+
+// Passes the classes at the grace's place before the last one, and comes to that; or answers what stands in the wait's way there.
+fn come_to_last(
+    table: &CitrusTable<Deer>,
+    seat: &mut Seat<Deer>,
+    grace: &mut Grace<Deer>,
+    image: &Image,
+) -> Option<Why>
+    requires table { seat.old.table ≡ table.now }
+    requires latest { IsLatestOf (shape_of 2 table.now) grace.old seat.old.view }
+    requires inside { grace.old.place < table.now.places }
+    requires image { IsImage grace.old.keys image.now }
+    ensures seat { (seat.new.table ≡ seat.old.table) × (seat.new.listed ≡ seat.old.listed) }
+    ensures grace { StaysAt grace.old grace.new }
+    ensures passed { IfNone result ((grace.new.class ≡ image.now.last) × IsGoingOn (shape_of 2 table.now) seat.old.view grace.new seat.new.view) }
+    ensures met { IfSome result (λ why. Polled (shape_of 2 table.now) seat.old.view (NotYet why) grace.new seat.new.view) }
+{
+    if let Some(why) = pass(table, seat, grace, image.below) {
+        return Some(why);
+    }
+    skip_gap(grace, image.from);
+    if let Some(why) = pass(table, seat, grace, image.last) {
+        return Some(why);
+    }
+    grace.class = image.last;
+    None
+}
+
+// Passes the grace's place, which isn't the last one; or answers what stands in the wait's way there.
+fn pass_place(
+    table: &CitrusTable<Deer>,
+    seat: &mut Seat<Deer>,
+    grace: &mut Grace<Deer>,
+    image: &Image,
+) -> Option<Why>
+    requires table { seat.old.table ≡ table.now }
+    requires latest { IsLatestOf (shape_of 2 table.now) grace.old seat.old.view }
+    requires inside { grace.old.place + 1 < table.now.places }
+    requires image { IsImage grace.old.keys image.now }
+    ensures seat { (seat.new.table ≡ seat.old.table) × (seat.new.listed ≡ seat.old.listed) }
+    ensures grace { (grace.new.keys ≡ grace.old.keys) × (grace.new.clock ≡ grace.old.clock) }
+    ensures passed { IfNone result ((grace.new.place ≡ grace.old.place + 1) × IsGoingOn (shape_of 2 table.now) seat.old.view grace.new seat.new.view) }
+    ensures met { IfSome result (λ why. Polled (shape_of 2 table.now) seat.old.view (NotYet why) grace.new seat.new.view) }
+{
+    if let Some(why) = come_to_last(table, seat, grace, image) {
+        return Some(why);
+    }
+    if let Some(why) = look(table, seat, grace, false) {
+        return Some(why);
+    }
+    // So few places are there that the next number fits.
+    let _places = table.places();
+    grace.place += 1;
+    grace.class = 0;
+    None
 }
 
 impl WaitPart for Deer {
@@ -71,20 +174,16 @@ impl WaitPart for Deer {
     }
 
     fn poll(table: &CitrusTable<Deer>, seat: &mut Seat<Deer>, grace: &mut Grace<Deer>) -> Poll {
+        let image = image_of(&grace.keys);
         let last = table.places() - 1;
-        let class = grace.keys.last_class();
-        for row in 64 * grace.place + grace.class..64 * last + class {
-            grace.place = row / 64;
-            grace.class = row % 64;
-            if !grace.keys.meets_class(grace.class) {
-                continue;
-            }
-            if let Some(why) = look(table, seat, grace, false) {
+        for _ in grace.place..last {
+            if let Some(why) = pass_place(table, seat, grace, &image) {
                 return Poll::NotYet { why };
             }
         }
-        grace.place = last;
-        grace.class = class;
+        if let Some(why) = come_to_last(table, seat, grace, &image) {
+            return Poll::NotYet { why };
+        }
         if let Some(why) = look(table, seat, grace, true) {
             return Poll::NotYet { why };
         }

@@ -2,5 +2,6 @@
 #![tactic(auto)]
 
 mod deer;
+mod image;
 
 pub use deer::Deer;

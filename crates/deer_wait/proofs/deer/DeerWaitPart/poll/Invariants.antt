@@ -1,8 +1,7 @@
 use Rattle.std.proofs.Common.{◌≡◌}
 use Rattle.seat_table.specs.Seats.{shape_of}
 use Rattle.seat_table.specs.Waits.{IsGoingOn}
-use Rattle.deer_wait.proofs.Rows.{at_row}
 use Rattle.deer_wait.proofs.deer.DeerWaitPart.poll.Given as goal
 
-abbrev pub invariant-loop-row : goal.invariant-loop-row
-invariant-loop-row l = (l.seat.table ≡ l.fn.seat.table) × (l.seat.listed ≡ l.fn.seat.listed) × (l.grace.keys ≡ l.fn.grace.keys) × (l.grace.clock ≡ l.fn.grace.clock) × IsGoingOn (shape_of 2 l.table) l.fn.seat.view (at_row l.grace l.row) l.seat.view
+abbrev pub invariant-loop : goal.invariant-loop
+invariant-loop l = (l.seat.table ≡ l.fn.seat.table) × (l.seat.listed ≡ l.fn.seat.listed) × (l.grace.keys ≡ l.fn.grace.keys) × (l.grace.clock ≡ l.fn.grace.clock) × (l.grace.place ≡ l.counter) × IsGoingOn (shape_of 2 l.table) l.fn.seat.view l.grace l.seat.view

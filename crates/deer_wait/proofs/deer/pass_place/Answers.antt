@@ -1,0 +1,19 @@
+use Rattle.std.proofs.Common.{◌+◌, refl, sym, ap, subst, arith}
+use Rattle.seat_table.specs.declared.wait.Grace.{Grace}
+use Rattle.seat_table.specs.Seats.{shape_of}
+use Rattle.seat_table.proofs.Polls.{is_not_yet}
+use Rattle.deer_wait.specs.declared.deer.Deer.{Deer}
+use Rattle.deer_wait.specs.Images.{IsImage}
+use Rattle.deer_wait.proofs.Rows.{next_place}
+use Rattle.deer_wait.proofs.deer.pass_place.Goals as goal
+
+pub returns-in-Some-look-clause-met : goal.returns-in-Some-look-clause-met
+returns-in-Some-look-clause-met c = is_not_yet (shape_of 2 c.args.table.now) c.args.seat.now.view c.come_to_last.new.seat.view c.look.new.seat.view c.come_to_last.new.grace c.in_default.ensures.passed.1 c.in-Some-look.why c.in-Some-look.ensures.met
+
+pub returns-clause-passed : goal.returns-clause-passed
+returns-clause-passed c =
+    let keys = ap (λ (z : Grace Deer). z.keys) (sym c.come_to_last.ensures.grace) in
+    let place = ap (λ (z : Grace Deer). z.place) c.come_to_last.ensures.grace in (
+      ap (λ n. n + 1) place,
+      next_place (shape_of 2 c.args.table.now) refl c.come_to_last.new.grace c.args.seat.now.view c.come_to_last.new.seat.view c.in_default.ensures.passed.1 c.look.new.seat.view c.args.image.now (subst (λ z. IsImage z c.args.image.now) keys c.requires.image) c.in_default.ensures.passed.0 c.in_default-look.ensures.passed (omega (arith, place, c.requires.inside)),
+    )
