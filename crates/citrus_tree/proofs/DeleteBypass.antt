@@ -10,7 +10,6 @@ use Rattle.core_state.specs.declared.words.Field.{Field}
 use Rattle.core_state.specs.memory.Memory.{same_field}
 use Rattle.core_state.specs.declared.words.Field.TheVariants.{Life, Link}
 use Rattle.core_state.specs.views.Known.{known_in, known_under, loaded_in}
-use Rattle.core_state.specs.declared.view.Retired.{Retired}
 use Rattle.core_state.specs.declared.view.View.{View}
 use Rattle.core_points.specs.declared.stage.Node.{Node}
 use Rattle.core_points.specs.declared.stage.Last.TheVariants as last
@@ -24,6 +23,7 @@ use Rattle.tree_points.specs.At.{IsAt}
 use Rattle.tree_points.proofs.Updating.{passes_mark}
 use Rattle.citrus_tree.specs.Going.{Opened, Closed}
 use Rattle.citrus_tree.specs.Deletes.{KeepsAll, relinked_at}
+use Rattle.citrus_tree.specs.Gone.{retired_marks}
 use Rattle.citrus_tree.proofs.DeleteKeeps.{keeps}
 
 -- what was loaded is known
@@ -36,10 +36,10 @@ loaded_known (l ∷ ls) field number e =
     ] e
 
 pub opened_keeps : (v w : View) (front : ℕ) → Opened v front w → KeepsAll v w
-opened_keeps v w front e = keeps v w (ap (λ (x : View). x.allowance.place) e) (ap (λ (x : View). x.seen) e) (ap (λ (x : View). x.wait) e) (ap (λ (x : View). x.counts.waits) e) (ap (λ (x : View). map (λ (r : Retired). r.slot) x.hands.retired) e) (ap (λ (x : View). map (λ (l : HeldLock). l.slot) x.locks) e)
+opened_keeps v w front e = keeps v w (ap (λ (x : View). x.allowance.place) e) (ap (λ (x : View). x.seen) e) (ap (λ (x : View). x.wait) e) (ap (λ (x : View). x.counts.waits) e) (ap retired_marks e) (ap (λ (x : View). map (λ (l : HeldLock). l.slot) x.locks) e)
 
 pub closed_keeps : (v w : View) → Closed v w → KeepsAll v w
-closed_keeps v w e = keeps v w (ap (λ (x : View). x.allowance.place) e) (ap (λ (x : View). x.seen) e) (ap (λ (x : View). x.wait) e) (ap (λ (x : View). x.counts.waits) e) (ap (λ (x : View). map (λ (r : Retired). r.slot) x.hands.retired) e) (ap (λ (x : View). map (λ (l : HeldLock). l.slot) x.locks) e)
+closed_keeps v w e = keeps v w (ap (λ (x : View). x.allowance.place) e) (ap (λ (x : View). x.seen) e) (ap (λ (x : View). x.wait) e) (ap (λ (x : View). x.counts.waits) e) (ap retired_marks e) (ap (λ (x : View). map (λ (l : HeldLock). l.slot) x.locks) e)
 
 abbrev pub only : Node → ℕ
 only d = if d.left == 0 then d.right else d.left

@@ -1,11 +1,7 @@
 -- What single steps leave as it was: a delete's other locks and retired slots, its waits, and the marks of its place.
-use Rattle.std.proofs.Common.{◌≡◌, ◌≢◌, ℕ, ◌+◌, ◌==◌, cond, Bool, true, false, Option, Some, None, ⊎_elim, ne_eqb, List, [], ◌∷◌, ◌++◌, map, refl, sym, ap, subst, ◌∙◌, append-nil, append_assoc}
-use mathlib.Core.List.{IsPrefix}
-use Rattle.prcu_model.proofs.ListFacts.{prefix_self, prefix_trans}
-use Rattle.prcu_marks.specs.declared.mark.Mark.{Mark}
+use Rattle.std.proofs.Common.{◌≡◌, ◌≢◌, ℕ, ◌+◌, ◌==◌, cond, Bool, true, false, Option, Some, None, ⊎_elim, ne_eqb, List, [], ◌∷◌, map, refl, sym, ap, subst, ◌∙◌, ◌++◌}
 use Rattle.prcu_marks.specs.declared.mark.Side.{Side}
 use Rattle.prcu_marks.specs.declared.mark.Side.TheVariants.{Left, Right}
-use Rattle.prcu_marks.specs.Marks.{own_of}
 use Rattle.core_state.specs.declared.shape.Shape.{Shape}
 use Rattle.core_state.specs.declared.view.Held.{Held}
 use Rattle.core_state.specs.declared.view.HeldLock.{HeldLock}
@@ -23,44 +19,29 @@ use Rattle.seat_table.specs.Seats.{IsSlotOf, TableAt, shape_of}
 use Rattle.seat_table.specs.Told.{Told}
 use Rattle.list_laws.specs.Counts.{times}
 use Rattle.tree_points.specs.At.{HasLocks}
-use Rattle.tree_points.specs.Progress.{HasGone}
+use Rattle.tree_points.proofs.Gone.{gone_none, gone_on}
 use Rattle.citrus_tree.specs.Deletes.{KeepsAll, KeepsRest, locked_slots, retired_slots}
-
--- Marks.
-pub gone_none : (v w : View) → w.allowance.place ≡ v.allowance.place → w.seen ≡ v.seen → HasGone v w []
-gone_none v w place seen = record {
-  same = place;
-  begins = subst (λ h. IsPrefix v.seen h) (sym seen) (prefix_self v.seen);
-  own = ap (own_of v.allowance.place) seen ∙ sym (append-nil (own_of v.allowance.place v.seen));
-}
-
-pub gone_on : (v w x : View) (a b : List Mark) → HasGone v w a → HasGone w x b → HasGone v x (a ++ b)
-gone_on v w x a b f g =
-    let p = v.allowance.place in
-    let late : own_of p x.seen ≡ own_of p w.seen ++ b = subst (λ q. own_of q x.seen ≡ own_of q w.seen ++ b) f.same g.own in
-    record {
-      same = g.same ∙ f.same;
-      begins = prefix_trans v.seen w.seen x.seen f.begins g.begins;
-      own = late ∙ ap (λ xs. xs ++ b) f.own ∙ append_assoc (own_of p v.seen) a b;
-    }
+use Rattle.citrus_tree.specs.Gone.{retired_marks}
 
 pub keeps_on : (v w x : View) → KeepsAll v w → KeepsAll w x → KeepsAll v x
 keeps_on v w x f g = record {
-  gone = gone_on v w x [] [] f.gone g.gone;
+  gone = gone_on f.gone g.gone;
   waits = record { wait = g.waits.wait ∙ f.waits.wait; count = g.waits.count ∙ f.waits.count };
   retired = g.retired ∙ f.retired;
+  stay = g.stay ∙ f.stay;
   locked = g.locked ∙ f.locked;
 }
 
 pub keeps_rest : (v w x : View) → KeepsRest v w → KeepsRest w x → KeepsRest v x
 keeps_rest v w x f g = record {
-  gone = gone_on v w x [] [] f.gone g.gone;
+  gone = gone_on f.gone g.gone;
   waits = record { wait = g.waits.wait ∙ f.waits.wait; count = g.waits.count ∙ f.waits.count };
   retired = g.retired ∙ f.retired;
+  stay = g.stay ∙ f.stay;
 }
 
 pub rest_of : (v w : View) → KeepsAll v w → KeepsRest v w
-rest_of v w f = record { gone = f.gone; waits = f.waits; retired = f.retired }
+rest_of v w f = record { gone = f.gone; waits = f.waits; retired = f.retired; stay = f.stay }
 
 -- Locks.
 pub slots_kept : (s : ℕ) (f : HeldLock → HeldLock) → ((l : HeldLock) → (f l).slot ≡ l.slot) → (ls : List HeldLock) → map (λ (l : HeldLock). l.slot) (change_lock s f ls) ≡ map (λ (l : HeldLock). l.slot) ls
@@ -76,8 +57,16 @@ same_emptied : (b : Side) (l : HeldLock) → (with_emptied b false l).slot ≡ l
 same_emptied Left l = refl
 same_emptied Right l = refl
 
-pub keeps : (v w : View) → w.allowance.place ≡ v.allowance.place → w.seen ≡ v.seen → w.wait ≡ v.wait → w.counts.waits ≡ v.counts.waits → retired_slots w ≡ retired_slots v → locked_slots w ≡ locked_slots v → KeepsAll v w
-keeps v w place seen wait waits retired locked = record { gone = gone_none v w place seen; waits = record { wait = wait; count = waits }; retired = retired; locked = locked }
+-- the slots of what stays retired
+marked_slots : (rs : List Retired) → map (λ (x : ℕ × ℕ × Bool). x.0) (map (λ (r : Retired). (r.slot, r.unlinked, r.waited)) rs) ≡ map (λ (r : Retired). r.slot) rs
+marked_slots [] = refl
+marked_slots (r ∷ rs) = ap (λ xs. r.slot ∷ xs) (marked_slots rs)
+
+pub slots_stay : (v w : View) → retired_marks w ≡ retired_marks v → retired_slots w ≡ retired_slots v
+slots_stay v w stay = sym (marked_slots w.hands.retired) ∙ ap (map (λ (x : ℕ × ℕ × Bool). x.0)) stay ∙ marked_slots v.hands.retired
+
+pub keeps : (v w : View) → w.allowance.place ≡ v.allowance.place → w.seen ≡ v.seen → w.wait ≡ v.wait → w.counts.waits ≡ v.counts.waits → retired_marks w ≡ retired_marks v → locked_slots w ≡ locked_slots v → KeepsAll v w
+keeps v w place seen wait waits stay locked = record { gone = gone_none place seen; waits = record { wait = wait; count = waits }; retired = slots_stay v w stay; stay = stay; locked = locked }
 
 pub keeps_k17 : (k : Shape) (v w : View) (s f n : ℕ) → Told k v (K17 s f) n w → KeepsAll v w
 keeps_k17 k v w s f n t = subst (KeepsAll v) (sym (t.2).2) (keeps v _ refl refl refl refl refl refl)
@@ -138,11 +127,17 @@ spare_k13 k v w s n copy t is = subst (λ (x : View). IsSlotOf (Some copy) x.han
     by false = is
 
 -- the life of the spare is loaded
-retired_aged : (s n : ℕ) (rs : List Retired) → map (λ (r : Retired). r.slot) (change_retired s (λ (r : Retired). record r { life = Some n }) rs) ≡ map (λ (r : Retired). r.slot) rs
+abbrev marks_in : List Retired → List (ℕ × ℕ × Bool)
+marks_in rs = map (λ (r : Retired). (r.slot, r.unlinked, r.waited)) rs
+
+abbrev aged : ℕ → Retired → Retired
+aged n r = record r { life = Some n }
+
+retired_aged : (s n : ℕ) (rs : List Retired) → marks_in (change_retired s (aged n) rs) ≡ marks_in rs
 retired_aged s n [] = refl
 retired_aged s n (r ∷ rs) =
-    let head : (cond (r.slot == s) (record r { life = Some n }) r).slot ≡ r.slot = elim (r.slot == s) as (λ b. (cond b (record r { life = Some n }) r).slot ≡ r.slot) [ true ↦ refl | false ↦ refl ] in
-    ap (λ x. x ∷ map (λ (r : Retired). r.slot) (change_retired s (λ (r : Retired). record r { life = Some n }) rs)) head ∙ ap (λ xs. r.slot ∷ xs) (retired_aged s n rs)
+    let head : marks_in (cond (r.slot == s) (aged n r) r ∷ []) ≡ marks_in (r ∷ []) = elim (r.slot == s) as (λ b. marks_in (cond b (aged n r) r ∷ []) ≡ marks_in (r ∷ [])) [ true ↦ refl | false ↦ refl ] in
+    ap (λ xs. xs ++ marks_in (change_retired s (aged n) rs)) head ∙ ap (λ xs. (r.slot, r.unlinked, r.waited) ∷ xs) (retired_aged s n rs)
 
 pub keeps_k9 : (k : Shape) (v w : View) (s n : ℕ) → Needs k v (K9 s false) → Told k v (K9 s false) n w → KeepsAll v w
 keeps_k9 k v w s n needs t = ⊎_elim
@@ -157,8 +152,8 @@ spare_k9 k v w s n copy needs t is = ⊎_elim
     needs.1
 
 -- Locks are got and given up.
-pub keeps_rest_of : (v w : View) → w.allowance.place ≡ v.allowance.place → w.seen ≡ v.seen → w.wait ≡ v.wait → w.counts.waits ≡ v.counts.waits → retired_slots w ≡ retired_slots v → KeepsRest v w
-keeps_rest_of v w place seen wait waits retired = record { gone = gone_none v w place seen; waits = record { wait = wait; count = waits }; retired = retired }
+pub keeps_rest_of : (v w : View) → w.allowance.place ≡ v.allowance.place → w.seen ≡ v.seen → w.wait ≡ v.wait → w.counts.waits ≡ v.counts.waits → retired_marks w ≡ retired_marks v → KeepsRest v w
+keeps_rest_of v w place seen wait waits stay = record { gone = gone_none place seen; waits = record { wait = wait; count = waits }; retired = slots_stay v w stay; stay = stay }
 
 pub rest_k13 : (k : Shape) (v w : View) (s n : ℕ) → Told k v (K13 s) n w → KeepsRest v w
 rest_k13 k v w s n t = subst (KeepsRest v) (sym t.2) (by (n == 0))

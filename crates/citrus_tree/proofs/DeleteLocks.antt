@@ -22,11 +22,12 @@ use Rattle.tree_points.proofs.Locking.{needs_target_lock, needs_unlock, passes_t
 use Rattle.tree_points.proofs.Locking.{locks_target_lock}
 use Rattle.tree_points.proofs.Steps.{at_false}
 use Rattle.citrus_tree.specs.Deletes.{Comes, KeepsRest, StandsAt, giving_up}
-use Rattle.citrus_tree.proofs.DeleteKeeps.{gone_none, keeps_rest, locks_busy, rest_k13, rest_k14}
+use Rattle.tree_points.proofs.Gone.{gone_none}
+use Rattle.citrus_tree.proofs.DeleteKeeps.{keeps_rest, locks_busy, rest_k13, rest_k14}
 
 -- Before any step nothing changed.
 pub rest_none : (v : View) → KeepsRest v v
-rest_none v = record { gone = gone_none v v refl refl; waits = record { wait = refl; count = refl }; retired = refl }
+rest_none v = record { gone = gone_none refl refl; waits = record { wait = refl; count = refl }; retired = refl; stay = refl }
 
 -- Giving up: so many locks are left.
 pub record GivesUp (k : Shape) (t : Target) (count left : ℕ) (v w : View) : Type 0 where

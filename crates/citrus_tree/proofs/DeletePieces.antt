@@ -26,7 +26,7 @@ use Rattle.std.specs.Prelude.{IfSome, IfNone}
 use Rattle.citrus_tree.specs.Replies.{IsMoveWait}
 use Rattle.citrus_tree.specs.Deletes.{HasCopied, HasDeleted, HasDone, KeepsWaits, retired_slots}
 use Rattle.citrus_tree.specs.Gone.{KeepsWait}
-use Rattle.citrus_tree.proofs.DeleteKeeps.{gone_on}
+use Rattle.tree_points.proofs.Gone.{gone_on}
 
 -- a delete has a spare, and room
 no_spare : (o : Option Held) → IsSlotOf None o → is_some (spare_slot o) ≡ true → ⊥
@@ -52,13 +52,13 @@ pub move_deletes : (v w x y : View) (key next_key number : ℕ) → HasGone v w 
     → HasGone x y (Began x.allowance.place x.counts.waits (key + 1) next_key ∷ (Ended x.allowance.place x.counts.waits ∷ [])) → HasDeleted v key number y
 move_deletes v w x y key next_key number first copied later =
     let place : x.allowance.place ≡ v.allowance.place = copied.done.gone.same ∙ first.same in
-    let mine = subst (λ p. HasGone v x (Done (record { caller = p; op = Del key }) ∷ [])) first.same (gone_on v w x [] _ first copied.done.gone) in
+    let mine = subst (λ p. HasGone v x (Done (record { caller = p; op = Del key }) ∷ [])) first.same (gone_on first copied.done.gone) in
     let marks = λ (p : ℕ). Began p x.counts.waits (key + 1) next_key ∷ (Ended p x.counts.waits ∷ []) in
     record {
       after = marks v.allowance.place;
       done = record {
         before = copied.done.before;
-        gone = gone_on v x y _ (marks v.allowance.place) mine (subst (λ p. HasGone x y (marks p)) place later);
+        gone = gone_on mine (subst (λ p. HasGone x y (marks p)) place later);
         since = prefix_trans v.seen w.seen copied.done.before first.begins copied.done.since;
         stands = subst (λ p. IsPrefix (copied.done.before ++ Done (record { caller = p; op = Del key }) ∷ []) y.seen) first.same (prefix_trans _ x.seen y.seen copied.done.stands later.begins);
         number_is = copied.done.number_is;
@@ -77,7 +77,7 @@ deleted_later v w x key number g d = record {
   after = d.after;
   done = record {
     before = d.done.before;
-    gone = subst (λ p. HasGone v x (Done (record { caller = p; op = Del key }) ∷ d.after)) g.same (gone_on v w x [] _ g d.done.gone);
+    gone = subst (λ p. HasGone v x (Done (record { caller = p; op = Del key }) ∷ d.after)) g.same (gone_on g d.done.gone);
     since = prefix_trans v.seen w.seen d.done.before g.begins d.done.since;
     stands = subst (λ p. IsPrefix (d.done.before ++ Done (record { caller = p; op = Del key }) ∷ []) x.seen) g.same d.done.stands;
     number_is = d.done.number_is;

@@ -23,6 +23,7 @@ use Rattle.tree_points.specs.Progress.{HasGone}
 use Rattle.tree_points.proofs.Gone.{gone_entered, gone_left, gone_none, gone_on, gone_same, gone_stays}
 use Rattle.tree_points.proofs.Leaving.{leaves_delete}
 use Rattle.tree_points.proofs.Standing.{no_hand_enter}
+use Rattle.citrus_tree.specs.Gone.{retired_marks}
 use Rattle.citrus_tree.specs.Deletes.{HasSearched, KeepsAll, retired_slots}
 use Rattle.citrus_tree.specs.Lookups.{IsSearching, Looked}
 use Rattle.citrus_tree.specs.Replies.{WasAnswered}
@@ -98,6 +99,7 @@ searched_found {v} {w} {x} {y} {key} {state} i k left =
         count = ap (λ (z : View). z.counts.waits) left.others ∙ k.waits.count ∙ ap (λ (z : View). z.counts.waits) i.others ∙ ap (λ (z : View). z.counts.waits) e.others;
       };
       retired = ap retired_slots left.others ∙ k.retired ∙ ap retired_slots i.others ∙ ap retired_slots e.others;
+      stay = ap retired_marks left.others ∙ k.stay ∙ ap retired_marks i.others ∙ ap retired_marks e.others;
     }
 
 pub searched_missed : {v w : View} {key : ℕ} {answer : Option ℕ} → Looked v key answer w → HasSearched v key w
@@ -109,6 +111,7 @@ searched_missed {v} {w} l =
       gone = goes.gone;
       waits = record { wait = goes.wait; count = goes.waits };
       retired = ap (map (λ (r : Retired). r.slot)) goes.retired;
+      stay = ap (map (λ (r : Retired). (r.slot, r.unlinked, r.waited))) goes.retired;
     }
 
 pub answered_now : {v w : View} {key : ℕ} {answer : Option ℕ} → Looked v key answer w → WasAnswered v key answer w

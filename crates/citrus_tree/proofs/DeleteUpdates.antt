@@ -1,5 +1,6 @@
 -- What the two updates of a delete leave: the bypass of a node, and the link of a copy.
 use Rattle.std.proofs.Common.{◌≡◌, ℕ, ◌+◌, ◌*◌, ◌/◌, ◌==◌, cond, Bool, true, false, List, [], ◌∷◌, ◌++◌, Some, length, map, refl, sym, ap, subst, ◌∙◌, inr, arith, append_assoc, append-nil, eq-eqb}
+use Rattle.std.proofs.lemmas.List.{map-append}
 use mathlib.Core.List.{IsPrefix}
 use Rattle.prcu_model.proofs.ListFacts.{prefix_trans}
 use Rattle.prcu_marks.specs.declared.mark.Mark.{Mark}
@@ -15,6 +16,7 @@ use Rattle.prcu_model.specs.Dictionary.{key_of, map_of}
 use Rattle.core_state.specs.declared.shape.Shape.{Shape}
 use Rattle.core_state.specs.declared.view.HeldLock.{HeldLock}
 use Rattle.core_state.specs.declared.view.Reading.{Reading}
+use Rattle.core_state.specs.declared.view.Retired.{Retired}
 use Rattle.core_state.specs.declared.view.View.{View}
 use Rattle.core_state.specs.declared.words.Field.TheVariants.{Key}
 use Rattle.core_state.specs.views.Known.{change_lock, known_in, with_emptied}
@@ -33,8 +35,10 @@ use Rattle.seat_table.specs.Gains.{Sees}
 use Rattle.seat_table.specs.Told.{Told}
 use Rattle.tree_points.specs.At.{IsAt}
 use Rattle.tree_points.specs.Progress.{HasGone}
+use Rattle.citrus_tree.specs.Gone.{retired_marks}
 use Rattle.citrus_tree.specs.Deletes.{HasCopied, HasDone, KeepsAll, KeepsWaits, locked_slots, retired_slots}
-use Rattle.citrus_tree.proofs.DeleteKeeps.{gone_on, noted_kept, slots_kept}
+use Rattle.tree_points.proofs.Gone.{gone_on}
+use Rattle.citrus_tree.proofs.DeleteKeeps.{noted_kept, slots_kept}
 
 delete_is : (op : Op) → is_delete op ≡ true → Del (key_of op) ≡ op
 delete_is (Put key value) e = cc
@@ -89,7 +93,7 @@ done_later v w x op after n k d =
     let same = k.gone.same in
     record {
       before = d.before;
-      gone = subst (λ p. HasGone v x (Done (record { caller = p; op = op }) ∷ after)) same (gone_on v w x [] _ k.gone d.gone);
+      gone = subst (λ p. HasGone v x (Done (record { caller = p; op = op }) ∷ after)) same (gone_on k.gone d.gone);
       since = prefix_trans v.seen w.seen d.before k.gone.begins d.since;
       stands = subst (λ p. IsPrefix (d.before ++ Done (record { caller = p; op = op }) ∷ []) x.seen) same d.stands;
       number_is = d.number_is;
@@ -98,7 +102,7 @@ done_later v w x op after n k d =
 pub done_more : (v w x : View) (op : Op) (after more : List Mark) (n : ℕ) → HasDone v op after n w → HasGone w x more → HasDone v op (after ++ more) n x
 done_more v w x op after more n d g = record {
   before = d.before;
-  gone = gone_on v w x _ more d.gone g;
+  gone = gone_on d.gone g;
   since = d.since;
   stands = prefix_trans _ w.seen x.seen d.stands g.begins;
   number_is = d.number_is;
@@ -141,6 +145,9 @@ bypass_locked k p node child n b v w t = ap locked_slots (t.2).4 ∙ relinked_ke
 
 pub bypass_retired : (k : Shape) (p node child n : ℕ) (b : Side) (v w : View) → Told k v (K21 p b node child) n w → retired_slots w ≡ retired_slots v ++ node ∷ []
 bypass_retired k p node child n b v w t = ap retired_slots (t.2).4 ∙ map_append v.hands.retired _
+
+pub bypass_stay : (k : Shape) (p node child n : ℕ) (b : Side) (v w : View) → Told k v (K21 p b node child) n w → (later : List (ℕ × ℕ × Bool)) × (retired_marks w ≡ retired_marks v ++ later)
+bypass_stay k p node child n b v w t = (_, ap retired_marks (t.2).4 ∙ map-append (λ (r : Retired). (r.slot, r.unlinked, r.waited)) v.hands.retired _)
 
 pub bypass_waits : (k : Shape) (p node child n : ℕ) (b : Side) (v w : View) → Told k v (K21 p b node child) n w → KeepsWaits v w
 bypass_waits k p node child n b v w t = record { wait = ap (λ (x : View). x.wait) (t.2).4; count = ap (λ (x : View). x.counts.waits) (t.2).4 }
@@ -199,7 +206,7 @@ pub copied_still : (v w x : View) (op : Op) (next_key n : ℕ) → HasCopied v o
 copied_still v w x op next_key n c g = record {
   done = record {
     before = c.done.before;
-    gone = subst (HasGone v x) (append-nil _) (gone_on v w x _ [] c.done.gone g);
+    gone = subst (HasGone v x) (append-nil _) (gone_on c.done.gone g);
     since = c.done.since;
     stands = prefix_trans _ w.seen x.seen c.done.stands g.begins;
     number_is = c.done.number_is;

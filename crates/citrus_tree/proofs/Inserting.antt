@@ -4,7 +4,7 @@ use Rattle.std.specs.FinMap as finite
 use Rattle.std.specs.List.{AllByRecursion}
 use mathlib.Core.List.{IsPrefix}
 use Rattle.prcu_marks.specs.declared.mark.Mark.{Mark}
-use Rattle.prcu_marks.specs.declared.mark.Mark.TheVariants.{Entered, Left as LeftMark, Began, Ended, Done, Given, Unlinked, Freed}
+use Rattle.prcu_marks.specs.declared.mark.Mark.TheVariants.{Entered, Left as LeftMark, Began, Ended, Done}
 use Rattle.prcu_marks.specs.Callers.{entered_for}
 use Rattle.prcu_marks.specs.Marks.{updates_of}
 use Rattle.prcu_marks.proofs.OwnMarks.{entered_for-append}
@@ -40,6 +40,7 @@ use Rattle.citrus_tree.specs.Putting.{Links, MakesRoom, Reused, old_stage}
 use Rattle.citrus_tree.specs.Replies.{IsFullNow, Puts}
 use Rattle.citrus_tree.proofs.Filling.{needed_on}
 use Rattle.citrus_tree.proofs.Leavings.{goes_looked, was_answered}
+use Rattle.citrus_tree.proofs.Replacing.{waits_in-append}
 
 -- the view after a lookup
 abbrev left_view : {v w : View} {key : ℕ} {answer : Option ℕ} → Looked v key answer w → View
@@ -116,17 +117,6 @@ module _ {k : Shape} {kept key value : ℕ} {v : View} (a : IsAt k (Put key valu
         };
       }
 
-waits_both : (a b : List Mark) → waits_in (a ++ b) ≡ waits_in a + waits_in b
-waits_both [] b = omega arith
-waits_both (Entered p c x ∷ a) b = waits_both a b
-waits_both (LeftMark p c ∷ a) b = waits_both a b
-waits_both (Began p c low high ∷ a) b = (let e = waits_both a b in omega arith)
-waits_both (Ended p c ∷ a) b = waits_both a b
-waits_both (Done u ∷ a) b = waits_both a b
-waits_both (Given s ∷ a) b = waits_both a b
-waits_both (Unlinked s ∷ a) b = waits_both a b
-waits_both (Freed s ∷ a) b = waits_both a b
-
 -- the marks of one more section
 abbrev section_of : View → ℕ → List Mark
 section_of w key = Entered w.allowance.place w.counts.sections key ∷ (LeftMark w.allowance.place w.counts.sections ∷ [])
@@ -138,9 +128,9 @@ module _ {k : Shape} {v w : View} {key : ℕ} {marks : List Mark} (s : Since k v
     gone = gone_on s.gone g.gone;
     each = all_append (IsOfTry v.allowance.place key) marks more s.each each;
     waits = ⊎_elim
-        (λ (u : Unwaited v w marks). inl (record { none = (let both = waits_both marks more in let first = u.none in omega arith); retired = g.retired ∙ u.retired; wait = g.wait ∙ u.wait; waits = g.waits ∙ u.waits }))
+        (λ (u : Unwaited v w marks). inl (record { none = (let both = waits_in-append marks more in let first = u.none in omega arith); retired = g.retired ∙ u.retired; wait = g.wait ∙ u.wait; waits = g.waits ∙ u.waits }))
         (λ (t : Waited k v w marks). inr (record {
-          one = (let both = waits_both marks more in let first = t.one in omega arith);
+          one = (let both = waits_in-append marks more in let first = t.one in omega arith);
           none = g.retired ∙ t.none;
           needed = needed_on t.needed g.gone.begins;
           wait = (t.wait.0, g.wait ∙ t.wait.1, t.wait.2);
@@ -159,7 +149,7 @@ module _ {k : Shape} {v w : View} {key : ℕ} {marks : List Mark} (s : Since k v
         each = all_append (IsOfTry v.allowance.place key) marks more s.each ((s.gone.same, refl, refl), (s.gone.same, tt));
         waits = ⊎_elim
             (λ (u : Unwaited v w marks). inr (record {
-              one = (let both = waits_both marks more in let first = u.none in omega arith);
+              one = (let both = waits_in-append marks more in let first = u.none in omega arith);
               none = r.none;
               needed = record {
                 retired = subst (λ (rs : List Retired). 1 ≤ length rs) u.retired r.needed.retired;
@@ -352,6 +342,9 @@ module _ {k : Shape} {key value : ℕ} {v : View} where
               ),
               needs_room since linked.1.goes.gone.begins,
             )
+
+            pub new_goes : Goes y z (Done (record { caller = y.allowance.place; op = Put key value }) ∷ [])
+            new_goes = linked.1.goes
 
             pub new_retired : z.hands.retired ≡ y.hands.retired
             new_retired = linked.1.goes.retired

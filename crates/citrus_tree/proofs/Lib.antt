@@ -5,6 +5,7 @@ pub mod Hopping
 pub mod Leavings
 pub mod Storing
 pub mod Replacing
+pub mod KeepingSlots
 pub mod Filling
 pub mod Linking
 pub mod Inserting

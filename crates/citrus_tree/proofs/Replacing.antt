@@ -112,6 +112,9 @@ module _ {k : Shape} {key value : ℕ} {v : View} where
       pub absent_tickets : v.allowance.tickets ≤ x.allowance.tickets + 4
       absent_tickets = (let left = has_kept (done (v.allowance.tickets - 4) (omega arith)) in omega arith)
 
+      pub absent_goes : Goes v x (t.marks ++ (Entered w.allowance.place w.counts.sections key ∷ (LeftMark w.allowance.place w.counts.sections ∷ [])))
+      absent_goes = goes
+
       pub absent_retired : x.hands.retired ≡ v.hands.retired
       absent_retired = goes.retired
 
@@ -146,7 +149,7 @@ module _ {k : Shape} {key value : ℕ} {v : View} where
         same_place : x.allowance.place ≡ v.allowance.place
         same_place = (goes f.1).gone.same
 
-        goes_all : Goes v y ((t.marks ++ (Entered w.allowance.place w.counts.sections key ∷ (LeftMark w.allowance.place w.counts.sections ∷ []))) ++ Done (record { caller = v.allowance.place; op = Set key value }) ∷ [])
+        pub goes_all : Goes v y ((t.marks ++ (Entered w.allowance.place w.counts.sections key ∷ (LeftMark w.allowance.place w.counts.sections ∷ []))) ++ Done (record { caller = v.allowance.place; op = Set key value }) ∷ [])
         goes_all = subst (λ (p : ℕ). Goes v y ((t.marks ++ (Entered w.allowance.place w.counts.sections key ∷ (LeftMark w.allowance.place w.counts.sections ∷ []))) ++ Done (record { caller = p; op = Set key value }) ∷ [])) same_place
             (goes_on (goes f.1) is_stored.1.goes)
 

@@ -1,5 +1,5 @@
 -- A set's search, its record, and its store.
-use Rattle.std.proofs.Common.{◌≡◌, ◌≢◌, ℕ, ◌+◌, ◌*◌, ◌/◌, ◌%◌, ◌<◌, cond, true, false, List, [], ◌∷◌, ◌++◌, length, map, Option, Some, None, refl, sym, ap, subst, ◌∙◌, inl, arith, eq-eqb, length-append}
+use Rattle.std.proofs.Common.{◌≡◌, ◌≢◌, ℕ, ◌+◌, ◌*◌, ◌/◌, ◌%◌, ◌<◌, ◌==◌, cond, Bool, true, false, List, [], ◌∷◌, ◌++◌, length, map, Option, Some, None, refl, sym, ap, subst, ◌∙◌, inl, arith, eq-eqb, eqb-true, length-append}
 use Rattle.std.specs.FinMap as finite
 use Rattle.prcu_marks.specs.declared.commit.Commit.{Commit}
 use Rattle.prcu_marks.specs.declared.mark.Mark.{Mark}
@@ -46,6 +46,13 @@ life_is life generation unmarked half = omega arith
 
 pub life_other : (life generation : ℕ) → life ≡ 2 * generation → (life % 2 ≢ 1) × (life / 2 ≡ generation)
 life_other life generation e = (omega arith, omega arith)
+
+-- the same, by a test for it
+pub is_alive : (life generation : ℕ) {alive : Bool} → alive ≡ (life == 2 * generation) → alive ≡ true → life ≡ 2 * generation
+is_alive life generation e holds = eqb-true life (2 * generation) (sym e ∙ holds)
+
+pub not_alive : (life generation : ℕ) {alive : Bool} → alive ≡ (life == 2 * generation) → alive ≡ false → life ≢ 2 * generation
+not_alive life generation e fails same = absurd (let both : true ≡ false = sym (eq-eqb life (2 * generation) same) ∙ sym e ∙ fails in cc)
 
 module _ {k : Shape} {kept key value : ℕ} where
   -- in what the caller kept for a set there is no slot in hand

@@ -22,7 +22,7 @@ use Rattle.core_points.specs.declared.stage.Last.TheVariants as last
 use Rattle.core_points.specs.declared.stage.Stage.{Stage}
 use Rattle.core_points.specs.declared.stage.Stage.TheVariants as at
 use Rattle.tree_points.specs.At.{IsAt}
-use Rattle.citrus_tree.specs.Gone.{KeepsWait, waits_in}
+use Rattle.citrus_tree.specs.Gone.{KeepsWait, retired_marks, waits_in}
 use Rattle.citrus_tree.specs.Replies.{DelsBy, IsMoveWait}
 use Rattle.tree_points.specs.Progress.{HasGone}
 
@@ -51,6 +51,7 @@ pub record KeepsAll (v w : View) : Type 0 where
   pub gone : HasGone v w []
   pub waits : KeepsWaits v w
   pub retired : retired_slots w ≡ retired_slots v
+  pub stay : retired_marks w ≡ retired_marks v
   pub locked : locked_slots w ≡ locked_slots v
 
 -- The same, but for the locks.
@@ -58,6 +59,7 @@ pub record KeepsRest (v w : View) : Type 0 where
   pub gone : HasGone v w []
   pub waits : KeepsWaits v w
   pub retired : retired_slots w ≡ retired_slots v
+  pub stay : retired_marks w ≡ retired_marks v
 
 -- A section with the key was entered, and then one was left.
 pub record HasSearched (v : View) (key : ℕ) (w : View) : Type 0 where
@@ -66,6 +68,7 @@ pub record HasSearched (v : View) (key : ℕ) (w : View) : Type 0 where
   pub gone : HasGone v w (Entered v.allowance.place count key ∷ (Left v.allowance.place left ∷ []))
   pub waits : KeepsWaits v w
   pub retired : retired_slots w ≡ retired_slots v
+  pub stay : retired_marks w ≡ retired_marks v
 
 -- a slot to which a walk came, below another, with no generation loaded yet
 abbrev pub walked_to : ℕ → ℕ → Successor

@@ -1,6 +1,6 @@
 -- What a call leaves of marks, and what it leaves alone.
 -- Source: docs/TREE.md, "The calls".
-use Rattle.std.specs.Prelude.{◌≡◌, ◌⊎◌, ℕ, ◌+◌, ◌-◌, ◌*◌, ◌≤◌, List, [], ◌∷◌, length, Some}
+use Rattle.std.specs.Prelude.{◌≡◌, ◌⊎◌, ℕ, ◌+◌, ◌-◌, ◌*◌, ◌≤◌, Bool, List, [], ◌∷◌, ◌++◌, length, map, Some}
 use Rattle.std.specs.List.{AllByRecursion}
 use Rattle.std.specs.FinMap as finite
 use mathlib.Core.List.{IsPrefix}
@@ -10,8 +10,10 @@ use Rattle.prcu_marks.specs.Callers.{entered_for}
 use Rattle.prcu_marks.specs.Marks.{updates_of}
 use Rattle.prcu_model.specs.Dictionary.{map_of}
 use Rattle.core_state.specs.declared.shape.Shape.{Shape}
+use Rattle.core_state.specs.declared.view.Retired.{Retired}
 use Rattle.core_state.specs.declared.view.View.{View}
 use Rattle.core_state.specs.declared.view.Waiting.{Waiting}
+use Rattle.seat_table.specs.Seats.{SeatAt}
 
 -- a mark of a section with the key at the place, or of a wait there for everybody
 abbrev pub IsOfTry : ℕ → ℕ → Mark → Type 0
@@ -45,3 +47,15 @@ pub record NeededRoom (k : Shape) (v w : View) : Type 0 where
   pub since : IsPrefix v.seen until
   pub made : IsPrefix until w.seen
   pub fills : k.slots ≤ finite.len (map_of (updates_of until)) + length v.hands.retired + 20 * (k.places - 1)
+
+-- a retired slot with what a later wait needs of it: where its unlinking stands among the marks, and whether it was waited for
+abbrev pub retired_marks : View → List (ℕ × ℕ × Bool)
+retired_marks v = map (λ (r : Retired). (r.slot, r.unlinked, r.waited)) v.hands.retired
+
+-- Where the place has begun no further wait, its latest one is as it was. What was retired and listed stays so, in its order, and what
+-- was retired and listed since is behind.
+pub record KeepsSlots (s t : SeatAt) : Type 0 where
+  pub waits : s.view.counts.waits ≤ t.view.counts.waits
+  pub wait : t.view.counts.waits ≡ s.view.counts.waits → t.view.wait ≡ s.view.wait
+  pub retired : t.view.counts.waits ≡ s.view.counts.waits → (later : List (ℕ × ℕ × Bool)) × (retired_marks t.view ≡ retired_marks s.view ++ later)
+  pub listed : t.view.counts.waits ≡ s.view.counts.waits → (later : List ℕ) × (t.listed ≡ s.listed ++ later)

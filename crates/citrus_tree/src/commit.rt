@@ -45,7 +45,7 @@ pub(crate) fn open_front<R: Wait, W: WaitPart>(
             return found;
         }
         expected = even_from(found);
-        backoff.spin();
+        backoff.snooze();
     }
     unreachable!()
 }

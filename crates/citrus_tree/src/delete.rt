@@ -7,7 +7,7 @@ ghost use Rattle.seat_table.specs.Gains.{IsInformed};
 ghost use Rattle.seat_table.specs.Seats.{AreListed, IsQuietSeat, shape_of};
 ghost use Rattle.tree_points.specs.At.{IsAt, IsDone};
 ghost use Rattle.citrus_tree.specs.Deletes.{KeepsRest, HasDeleted, HasMadeRoom, IsReadyToDelete, DelsAtOnce};
-ghost use Rattle.citrus_tree.specs.Gone.{KeepsWait};
+ghost use Rattle.citrus_tree.specs.Gone.{KeepsSlots, KeepsWait};
 ghost use Rattle.citrus_tree.specs.Replies.{Dels};
 
 mod bypass;
@@ -45,6 +45,7 @@ pub fn del<R: Wait, W: WaitPart, G: Gate>(
     ensures table { seat.new.table ≡ seat.old.table }
     ensures dels { Dels seat.old.view key result seat.new.view }
     ensures wait { KeepsWait seat.old.view seat.new.view }
+    ensures slots { KeepsSlots seat.old seat.new }
     ensures tickets { seat.old.view.allowance.tickets ≤ seat.new.view.allowance.tickets + 4 }
     ensures quiet { IsQuietSeat seat.new }
     ensures informed { IsInformed seat.new.view }
@@ -64,6 +65,7 @@ fn make_room<R: Wait, W: WaitPart>(rt: &R, table: &CitrusTable<W>, seat: &mut Se
     ensures table { seat.new.table ≡ seat.old.table }
     ensures at { IsReadyToDelete (shape_of W.WAY table.now) seat.old.view seat.new.view }
     ensures room { HasMadeRoom seat.old.view seat.new.view }
+    ensures slots { KeepsSlots seat.old seat.new }
     ensures listed { AreListed seat.new }
 {
     works(seat);
@@ -88,6 +90,7 @@ fn take_spare<R: Wait, W: WaitPart>(rt: &R, table: &CitrusTable<W>, seat: &mut S
     ensures table { seat.new.table ≡ seat.old.table }
     ensures at { IsReadyToDelete (shape_of W.WAY table.now) seat.old.view seat.new.view }
     ensures room { HasMadeRoom seat.old.view seat.new.view }
+    ensures slots { KeepsSlots seat.old seat.new }
     ensures listed { AreListed seat.new }
 {
     works(seat);
@@ -119,6 +122,7 @@ fn delete<R: Wait, W: WaitPart, G: Gate>(
     ensures done { (kept : ℕ) → IsAt (shape_of W.WAY table.now) (Del key) kept at.EnterClock seat.old.view → IsDone (shape_of W.WAY table.now) (Del key) kept seat.new.view }
     ensures dels { DelsAtOnce seat.old.view key result seat.new.view }
     ensures wait { KeepsWait seat.old.view seat.new.view }
+    ensures slots { KeepsSlots seat.old seat.new }
     ensures listed { AreListed seat.new }
     ensures informed { IsInformed seat.new.view }
 {
@@ -162,6 +166,7 @@ fn take_out<R: Wait, W: WaitPart, G: Gate>(
     ensures informed { IfSome result (λ number. IsInformed seat.new.view) }
     ensures again { IfNone result ((kept : ℕ) → IsAt (shape_of W.WAY table.now) (Del key) kept (at.TargetLock target.now 0) seat.old.view → IsAt (shape_of W.WAY table.now) (Del key) kept at.EnterClock seat.new.view) }
     ensures same { IfNone result (KeepsRest seat.old.view seat.new.view) }
+    ensures slots { KeepsSlots seat.old seat.new }
     ensures listed { AreListed seat.new }
 {
     if !lock_target(table, seat, target) {
@@ -176,6 +181,3 @@ fn take_out<R: Wait, W: WaitPart, G: Gate>(
         Some(successor) => shift(rt, table, seat, gate, key, node, successor),
     }
 }
-
-#[cfg(test)]
-mod tests;

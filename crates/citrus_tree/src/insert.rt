@@ -8,7 +8,7 @@ ghost use Rattle.seat_table.specs.Gains.{IsInformed};
 ghost use Rattle.seat_table.specs.Seats.{AreListed, IsQuietSeat, IsSlotOf, shape_of};
 ghost use Rattle.tree_points.specs.At.{HasLocks, IsAt};
 ghost use Rattle.citrus_tree.specs.Going.{Goes, Searched, leaf_stage};
-ghost use Rattle.citrus_tree.specs.Gone.{KeepsWait};
+ghost use Rattle.citrus_tree.specs.Gone.{KeepsSlots, KeepsWait};
 ghost use Rattle.citrus_tree.specs.Putting.{old_stage, taken_stage, filled_stage, held_stage, linked_stage, MakesRoom, Links};
 ghost use Rattle.citrus_tree.specs.Replies.{IsFullNow, Puts};
 
@@ -44,6 +44,7 @@ pub fn put<R: Wait, W: WaitPart, G: Gate>(
     ensures puts { Puts (shape_of W.WAY table.now) seat.old.view key value result seat.new.view }
     ensures quiet { IsQuietSeat seat.new }
     ensures wait { KeepsWait seat.old.view seat.new.view }
+    ensures slots { KeepsSlots seat.old seat.new }
     ensures tickets { seat.old.view.allowance.tickets ≤ seat.new.view.allowance.tickets + 4 }
     ensures informed { IsInformed seat.new.view }
 {
@@ -122,6 +123,7 @@ fn leaf_in_hand<R: Wait, W: WaitPart>(
     ensures listed { AreListed seat.new }
     ensures slot { (slot : ℕ) → result ≡ Some slot → IsSlotOf (Some slot) seat.new.view.hands.hand }
     ensures room { MakesRoom (shape_of W.WAY table.now) seat.old.view seat.new.view }
+    ensures slots { KeepsSlots seat.old seat.new }
     ensures full { result ≡ None → IsFullNow (shape_of W.WAY table.now) seat.new.view }
     ensures at { (kept : ℕ) (spot : Spot) → IsAt (shape_of W.WAY table.now) (Put key value) kept (leaf_stage seat.old.view.hands.hand spot) seat.old.view → IsAt (shape_of W.WAY table.now) (Put key value) kept (filled_stage result spot) seat.new.view }
     ensures informed { result ≡ None → IsInformed seat.new.view }
@@ -173,6 +175,7 @@ fn take_slot<R: Wait, W: WaitPart>(
     ensures listed { AreListed seat.new }
     ensures slot { (slot : ℕ) → result ≡ Some slot → IsSlotOf (Some slot) seat.new.view.hands.hand }
     ensures room { MakesRoom (shape_of W.WAY table.now) seat.old.view seat.new.view }
+    ensures slots { KeepsSlots seat.old seat.new }
     ensures full { result ≡ None → IsFullNow (shape_of W.WAY table.now) seat.new.view }
     ensures at { (key value kept expected : ℕ) (spot : Spot) → IsAt (shape_of W.WAY table.now) (Put key value) kept (at.Reserve (Leaf spot) expected) seat.old.view → IsAt (shape_of W.WAY table.now) (Put key value) kept (taken_stage result spot) seat.new.view }
     ensures informed { IsInformed seat.new.view }

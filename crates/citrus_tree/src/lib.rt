@@ -23,6 +23,4 @@ pub use replace::set;
 pub use search::{End, Hop, Search};
 
 #[cfg(test)]
-mod put_tests;
-#[cfg(test)]
 mod tests;

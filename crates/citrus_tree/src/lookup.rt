@@ -48,6 +48,7 @@ pub fn get<R: Wait, W: WaitPart, G: Gate>(
     requires table { seat.old.table ≡ table.now }
     requires quiet { IsQuietSeat seat.old }
     ensures seat { seat.new.table ≡ seat.old.table }
+    ensures listed { seat.new.listed ≡ seat.old.listed }
     ensures gets { Gets seat.old.view key result seat.new.view }
     ensures quiet { IsQuietSeat seat.new }
 {

@@ -7,7 +7,7 @@ ghost use Rattle.seat_table.specs.Seats.{IsQuietSeat, shape_of};
 ghost use Rattle.tree_points.specs.At.{IsAt};
 ghost use Rattle.citrus_tree.specs.declared.replace.Replaced.{Replaced};
 ghost use Rattle.citrus_tree.specs.Going.{Goes, Sought, Stores, set_stage};
-ghost use Rattle.citrus_tree.specs.Gone.{KeepsWait};
+ghost use Rattle.citrus_tree.specs.Gone.{KeepsSlots, KeepsWait};
 ghost use Rattle.citrus_tree.specs.Replies.{Sets};
 
 use crate::answer::{answered, rule_tells, works};
@@ -52,6 +52,7 @@ pub fn set<R: Wait, W: WaitPart, G: Gate>(
     ensures sets { Sets seat.old.view key value result seat.new.view }
     ensures quiet { IsQuietSeat seat.new }
     ensures wait { KeepsWait seat.old.view seat.new.view }
+    ensures slots { KeepsSlots seat.old seat.new }
     ensures tickets { seat.old.view.allowance.tickets ≤ seat.new.view.allowance.tickets + 4 }
     ensures informed { IsInformed seat.new.view }
 {

@@ -1,5 +1,5 @@
 //! A node with at most one child is taken out.
-ghost use Rattle.std.specs.Prelude.{◌≡◌, ◌+◌, ◌*◌, ◌^◌, ◌<◌, ◌==◌, if◌then◌else◌, ℕ, [], ◌∷◌, ◌++◌, length, None};
+ghost use Rattle.std.specs.Prelude.{◌≡◌, ◌+◌, ◌*◌, ◌^◌, ◌<◌, ◌==◌, if◌then◌else◌, ℕ, Bool, List, [], ◌∷◌, ◌++◌, length, None};
 ghost use Rattle.prcu_model.specs.declared.operation.Op.{Op};
 ghost use Rattle.core_points.specs.declared.stage.Last.TheVariants as last;
 ghost use Rattle.core_points.specs.declared.stage.Stage.TheVariants as at;
@@ -9,6 +9,7 @@ ghost use Rattle.seat_table.specs.Gains.{IsInformed};
 ghost use Rattle.seat_table.specs.Seats.{AreListed, shape_of};
 ghost use Rattle.tree_points.specs.At.{HasLocks, IsAt, IsDone};
 ghost use Rattle.citrus_tree.specs.Deletes.{StandsAt, Comes, KeepsAll, KeepsWaits, HasDone, AreLivesSmall, locked_slots, relinked_at, retired_slots};
+ghost use Rattle.citrus_tree.specs.Gone.{KeepsSlots, retired_marks};
 
 use crate::commit::{close_front, open_front};
 use core_points::stage::Node;
@@ -32,6 +33,7 @@ pub(crate) fn bypass<R: Wait, W: WaitPart>(
     ensures table { seat.new.table ≡ seat.old.table }
     ensures done { (op : Op) (kept : ℕ) → IsAt (shape_of W.WAY table.now) op kept (deleting node None) seat.old.view → IsDone (shape_of W.WAY table.now) op kept seat.new.view × HasDone seat.old.view op [] result seat.new.view }
     ensures waits { KeepsWaits seat.old.view seat.new.view }
+    ensures slots { KeepsSlots seat.old seat.new }
     ensures listed { AreListed seat.new }
     ensures informed { IsInformed seat.new.view }
 {
@@ -70,6 +72,7 @@ fn link_past<R: Wait, W: WaitPart>(
     ensures done { (op : Op) (kept : ℕ) → IsAt (shape_of W.WAY table.now) op kept (deleting node None) seat.old.view → HasDone seat.old.view op [] result seat.new.view }
     ensures locked { locked_slots seat.new.view ≡ locked_slots seat.old.view }
     ensures retired { retired_slots seat.new.view ≡ retired_slots seat.old.view ++ node.node ∷ [] }
+    ensures stay { (later : List (ℕ × ℕ × Bool)) × (retired_marks seat.new.view ≡ retired_marks seat.old.view ++ later) }
     ensures waits { KeepsWaits seat.old.view seat.new.view }
 {
     seat.rule_tells();

@@ -9,8 +9,9 @@ ghost use Rattle.seat_table.specs.Seats.{shape_of};
 ghost use Rattle.tree_points.specs.At.{HasLocks};
 ghost use Rattle.citrus_tree.specs.Deletes.{StandsAt, Comes, KeepsAll, KeepsRest, giving_up, AreLivesSmall, IsNodeOf};
 
+use crate::lives::is_life;
 use core_points::stage::{Found, Node, Successor, Target};
-use core_state::{generation_of, marked, side_field};
+use core_state::side_field;
 use seat_table::{CitrusTable, Seat, WaitPart, steps};
 
 // How many locks a target has.
@@ -249,21 +250,14 @@ fn load_link<W: WaitPart>(
     }
 }
 
-// Whether a life is that of the generation, unmarked.
-fn is_life_of(life: u64, generation: u64) -> bool
-    ensures { result ≡ (life == 2 * generation) }
-{
-    generation_of(life) == generation && !marked(life)
-}
-
 // Whether the words are as the section found them.
 fn holds(target: &Target, found: &Found) -> bool
     ensures { result ≡ target_holds target.now found.now }
 {
     let node = target.node;
-    is_life_of(found.parent_life, node.parent_generation)
+    is_life(found.parent_life, node.parent_generation)
         && found.link == node.node as u64
-        && is_life_of(found.life, node.generation)
+        && is_life(found.life, node.generation)
         && successor_holds(target, found)
 }
 
@@ -276,9 +270,9 @@ fn successor_holds(target: &Target, found: &Found) -> bool
         None => few,
         Some(successor) => {
             !few && (successor.parent == target.node.node
-                || is_life_of(found.successor_parent_life, successor.parent_generation))
+                || is_life(found.successor_parent_life, successor.parent_generation))
                 && found.successor_link == successor.slot as u64
-                && is_life_of(found.successor_life, successor.generation)
+                && is_life(found.successor_life, successor.generation)
                 && found.successor_left == 0
         }
     }

@@ -15,7 +15,7 @@ ghost use Rattle.seat_table.specs.Waits.{HasWaited};
 ghost use Rattle.tree_points.specs.At.{HasLocks, IsAt, IsDone};
 ghost use Rattle.tree_points.specs.Progress.{HasGone};
 ghost use Rattle.citrus_tree.specs.Deletes.{StandsAt, Comes, KeepsAll, KeepsRest, KeepsWaits, HasDeleted, HasCopied, AreLivesSmall, locked_slots, retired_slots};
-ghost use Rattle.citrus_tree.specs.Gone.{KeepsWait};
+ghost use Rattle.citrus_tree.specs.Gone.{KeepsSlots, KeepsWait};
 
 use crate::commit::{close_front, open_front};
 use crate::delete::bypass::{settle_side, slot_of};
@@ -48,6 +48,7 @@ pub(crate) fn shift<R: Wait, W: WaitPart, G: Gate>(
     ensures again { IfNone result (Comes (shape_of W.WAY table.now) (at.SuccessorKey node successor) seat.old.view at.EnterClock seat.new.view) }
     ensures same { IfNone result (KeepsRest seat.old.view seat.new.view) }
     ensures waits { IfSome result (λ _. KeepsWait seat.old.view seat.new.view) }
+    ensures slots { KeepsSlots seat.old seat.new }
     ensures listed { AreListed seat.new }
     ensures informed { IfSome result (λ number. IsInformed seat.new.view) }
 {
@@ -164,6 +165,7 @@ fn finish<R: Wait, W: WaitPart, G: Gate>(
     ensures done { (kept : ℕ) → IsAt (shape_of W.WAY table.now) (Del key) kept (at.Begin (waits.Move moving)) seat.old.view → IsDone (shape_of W.WAY table.now) (Del key) kept seat.new.view }
     ensures waited { HasGone seat.old.view seat.new.view (Began seat.old.view.allowance.place seat.old.view.counts.waits (key + 1) moving.next_key ∷ (Ended seat.old.view.allowance.place seat.old.view.counts.waits ∷ [])) }
     ensures waits { KeepsWait seat.old.view seat.new.view }
+    ensures later { seat.old.view.counts.waits < seat.new.view.counts.waits }
     ensures listed { AreListed seat.new }
     ensures informed { IsInformed seat.new.view }
 {

@@ -1,4 +1,5 @@
 use Rattle.citrus_tree.proofs.DeleteTries.{dels, ends_quiet, ends_tickets}
+use Rattle.citrus_tree.proofs.KeepingSlots.{slots_on}
 use Rattle.citrus_tree.proofs.delete.del.Goals as goal
 
 pub returns-clause-dels : goal.returns-clause-dels
@@ -9,3 +10,6 @@ returns-clause-tickets g c = ends_tickets c.args.seat.now.view c.make_room.ensur
 
 pub returns-clause-quiet : goal.returns-clause-quiet
 returns-clause-quiet g c = record { view = ends_quiet c.args.seat.now.view c.make_room.ensures.at c.ranges.key.fits c.requires.tickets c.delete-told.ensures.done; listed = c.delete-told.ensures.listed }
+
+pub returns-clause-slots : goal.returns-clause-slots
+returns-clause-slots g c = slots_on c.args.seat.now c.make_room.new.seat c.delete-told.new.seat c.make_room.ensures.slots c.delete-told.ensures.slots

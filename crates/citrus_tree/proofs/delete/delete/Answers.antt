@@ -1,9 +1,10 @@
 use Rattle.std.proofs.Common.{refl, ◌∙◌}
 use Rattle.citrus_tree.proofs.DeleteTries.{absent_dels, gone_dels, tries_again, tries_first}
+use Rattle.citrus_tree.proofs.KeepingSlots.{searched_slots, slots_on, slots_self}
 use Rattle.citrus_tree.proofs.delete.delete.Goals as goal
 
 pub loop-init : goal.loop-init
-loop-init g c = (refl, c.requires.listed, tries_first _ c.args.key c.args.seat.now.view)
+loop-init g c = (refl, c.requires.listed, tries_first _ c.args.key c.args.seat.now.view, slots_self c.args.seat.now)
 
 pub find_target-requires-clause-at : goal.find_target-requires-clause-at
 find_target-requires-clause-at g c = let a = c.requires.at in (a.0, c.loop.invariant.2.ready a.0 a.1)
@@ -22,4 +23,12 @@ loop-preserved g c = (
   c.take_out.ensures.table ∙ c.find_target.ensures.seat.0 ∙ c.loop.invariant.0,
   c.take_out.ensures.listed,
   tries_again c.loop.invariant.2 c.find_target.ensures.searched c.in_default-take_out.ensures.same (λ kept a. c.in_default-take_out.ensures.again kept (c.in-Some-find_target.ensures.found kept a)),
+  slots_on c.args.seat.now c.find_target.new.seat c.take_out.new.seat (searched_slots c.args.seat.now c.loop.seat c.find_target.new.seat c.args.key c.loop.invariant.3 c.find_target.ensures.searched c.find_target.ensures.seat.1) c.take_out.ensures.slots,
 )
+
+pub returns-in_default-clause-slots : goal.returns-in_default-clause-slots
+returns-in_default-clause-slots g c = searched_slots c.args.seat.now c.loop.seat c.find_target.new.seat c.args.key c.loop.invariant.3 c.find_target.ensures.searched c.find_target.ensures.seat.1
+
+pub returns-in-Some-take_out-clause-slots : goal.returns-in-Some-take_out-clause-slots
+returns-in-Some-take_out-clause-slots g c =
+    slots_on c.args.seat.now c.find_target.new.seat c.take_out.new.seat (searched_slots c.args.seat.now c.loop.seat c.find_target.new.seat c.args.key c.loop.invariant.3 c.find_target.ensures.searched c.find_target.ensures.seat.1) c.take_out.ensures.slots

@@ -1,7 +1,8 @@
 use Rattle.std.proofs.Common.{◌≡◌}
 use Rattle.seat_table.specs.Seats.{AreListed, shape_of}
+use Rattle.citrus_tree.specs.Gone.{KeepsSlots}
 use Rattle.citrus_tree.proofs.DeleteTries.{TriesToDelete}
 use Rattle.citrus_tree.proofs.delete.delete.Given as goal
 
 abbrev pub invariant-loop : goal.invariant-loop
-invariant-loop g l = (l.seat.table ≡ l.fn.seat.table) × AreListed l.seat × TriesToDelete (shape_of g.W.WaitWords.WAY l.table) l.key l.fn.seat.view l.seat.view
+invariant-loop g l = (l.seat.table ≡ l.fn.seat.table) × AreListed l.seat × TriesToDelete (shape_of g.W.WaitWords.WAY l.table) l.key l.fn.seat.view l.seat.view × KeepsSlots l.fn.seat l.seat

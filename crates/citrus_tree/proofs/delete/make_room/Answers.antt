@@ -2,6 +2,7 @@ use Rattle.std.proofs.Common.{◌<◌, ◌≤◌, length, sym, ap, ◌∙◌, in
 use Rattle.node_slots.proofs.Listed.{listed_length}
 use Rattle.tree_points.proofs.Ends.{none_raised}
 use Rattle.citrus_tree.proofs.DeleteRoom.{given_spare, ready_at_once, ready_reclaimed, room_reclaimed}
+use Rattle.citrus_tree.proofs.KeepingSlots.{slots_reclaimed, slots_self}
 use Rattle.citrus_tree.proofs.delete.make_room.Goals as goal
 
 pub reclaim-requires-clause-unraised : goal.reclaim-requires-clause-unraised
@@ -28,3 +29,9 @@ take_spare-requires-clause-few g c =
     let same = ap length c.retired.ensures in
     let long = listed_length c.args.seat.now c.requires.quiet.listed in
     omega arith
+
+pub returns-then-retired-ge15-clause-slots : goal.returns-then-retired-ge15-clause-slots
+returns-then-retired-ge15-clause-slots g c = slots_reclaimed c.args.seat.now c.reclaim.new.seat c.reclaim.ensures.view
+
+pub returns-then-is_some-clause-slots : goal.returns-then-is_some-clause-slots
+returns-then-is_some-clause-slots g c = slots_self c.args.seat.now

@@ -1,10 +1,12 @@
-use Rattle.std.proofs.Common.{[], subst}
+use Rattle.std.proofs.Common.{subst}
 use Rattle.prcu_model.specs.declared.operation.Op.TheVariants.{Del}
 use Rattle.core_points.specs.Programs.{deleting}
 use Rattle.seat_table.specs.Seats.{shape_of}
 use Rattle.tree_points.specs.At.{IsAt}
-use Rattle.citrus_tree.proofs.DeleteKeeps.{gone_on}
+use Rattle.tree_points.proofs.Gone.{gone_on}
+use Rattle.citrus_tree.proofs.DeleteKeeps.{rest_of}
 use Rattle.citrus_tree.proofs.DeletePieces.{deleted_later, bypass_deletes, if_some, if_none}
+use Rattle.citrus_tree.proofs.KeepingSlots.{rest_slots, slots_on, slots_rest}
 use Rattle.citrus_tree.proofs.delete.take_out.Goals as goal
 
 pub lock_target-requires-clause-at : goal.lock_target-requires-clause-at
@@ -25,13 +27,34 @@ returns-in-None-clause-done g c = λ kept a. (c.bypass.ensures.done (Del c.args.
 pub returns-in-None-clause-deleted : goal.returns-in-None-clause-deleted
 returns-in-None-clause-deleted g c =
     let a = c.requires.at in
-    deleted_later _ _ _ c.args.key c.bypass.result (gone_on _ _ _ [] [] c.lock_target.ensures.same.gone c.validate.ensures.same.gone) (bypass_deletes _ _ c.args.key c.bypass.result (c.bypass.ensures.done (Del c.args.key) a.0 (subst (λ o. IsAt (shape_of g.W.WaitWords.WAY c.args.table.now) (Del c.args.key) a.0 (deleting c.in-Some.node o) c.validate.new.seat.view) c.in-None.is (c.in-Some.ensures.holds (Del c.args.key) a.0 (c.lock_target.ensures.got c.if-not-lock_target.false (Del c.args.key) a.0 a.1)))).1)
+    deleted_later _ _ _ c.args.key c.bypass.result (gone_on c.lock_target.ensures.same.gone c.validate.ensures.same.gone) (bypass_deletes _ _ c.args.key c.bypass.result (c.bypass.ensures.done (Del c.args.key) a.0 (subst (λ o. IsAt (shape_of g.W.WaitWords.WAY c.args.table.now) (Del c.args.key) a.0 (deleting c.in-Some.node o) c.validate.new.seat.view) c.in-None.is (c.in-Some.ensures.holds (Del c.args.key) a.0 (c.lock_target.ensures.got c.if-not-lock_target.false (Del c.args.key) a.0 a.1)))).1)
 
 pub returns-in-Some-successor-clause-done : goal.returns-in-Some-successor-clause-done
 returns-in-Some-successor-clause-done g c = if_some c.shift.result (λ n f kept a. f kept (subst (λ o. IsAt (shape_of g.W.WaitWords.WAY c.args.table.now) (Del c.args.key) kept (deleting c.in-Some.node o) c.validate.new.seat.view) c.in-Some-successor.is (c.in-Some.ensures.holds (Del c.args.key) kept (c.lock_target.ensures.got c.if-not-lock_target.false (Del c.args.key) kept a)))) c.shift.ensures.done
 
 pub returns-in-Some-successor-clause-deleted : goal.returns-in-Some-successor-clause-deleted
-returns-in-Some-successor-clause-deleted g c = if_some c.shift.result (λ n d. deleted_later _ _ _ c.args.key n (gone_on _ _ _ [] [] c.lock_target.ensures.same.gone c.validate.ensures.same.gone) d) c.shift.ensures.deleted
+returns-in-Some-successor-clause-deleted g c = if_some c.shift.result (λ n d. deleted_later _ _ _ c.args.key n (gone_on c.lock_target.ensures.same.gone c.validate.ensures.same.gone) d) c.shift.ensures.deleted
 
 pub returns-in-Some-successor-clause-again : goal.returns-in-Some-successor-clause-again
 returns-in-Some-successor-clause-again g c = if_none c.shift.result (λ f kept a. f (Del c.args.key) kept (subst (λ o. IsAt (shape_of g.W.WaitWords.WAY c.args.table.now) (Del c.args.key) kept (deleting c.in-Some.node o) c.validate.new.seat.view) c.in-Some-successor.is (c.in-Some.ensures.holds (Del c.args.key) kept (c.lock_target.ensures.got c.if-not-lock_target.false (Del c.args.key) kept a)))) c.shift.ensures.again
+
+pub returns-then-not-lock_target-clause-slots : goal.returns-then-not-lock_target-clause-slots
+returns-then-not-lock_target-clause-slots g c = slots_rest c.args.seat.now c.lock_target.new.seat c.lock_target.ensures.same c.lock_target.ensures.seat.1
+
+pub returns-in_default-clause-slots : goal.returns-in_default-clause-slots
+returns-in_default-clause-slots g c =
+    let locked = slots_rest c.args.seat.now c.lock_target.new.seat c.lock_target.ensures.same c.lock_target.ensures.seat.1 in
+    let judged = rest_slots c.args.seat.now c.lock_target.new.seat c.validate.new.seat locked (rest_of _ _ c.validate.ensures.same) c.validate.ensures.seat.1 in
+    rest_slots c.args.seat.now c.validate.new.seat c.unlock_target.new.seat judged c.unlock_target.ensures.same c.unlock_target.ensures.seat.1
+
+pub returns-in-None-clause-slots : goal.returns-in-None-clause-slots
+returns-in-None-clause-slots g c =
+    let locked = slots_rest c.args.seat.now c.lock_target.new.seat c.lock_target.ensures.same c.lock_target.ensures.seat.1 in
+    let judged = rest_slots c.args.seat.now c.lock_target.new.seat c.validate.new.seat locked (rest_of _ _ c.validate.ensures.same) c.validate.ensures.seat.1 in
+    slots_on c.args.seat.now c.validate.new.seat c.bypass.new.seat judged c.bypass.ensures.slots
+
+pub returns-in-Some-successor-clause-slots : goal.returns-in-Some-successor-clause-slots
+returns-in-Some-successor-clause-slots g c =
+    let locked = slots_rest c.args.seat.now c.lock_target.new.seat c.lock_target.ensures.same c.lock_target.ensures.seat.1 in
+    let judged = rest_slots c.args.seat.now c.lock_target.new.seat c.validate.new.seat locked (rest_of _ _ c.validate.ensures.same) c.validate.ensures.seat.1 in
+    slots_on c.args.seat.now c.validate.new.seat c.shift.new.seat judged c.shift.ensures.slots

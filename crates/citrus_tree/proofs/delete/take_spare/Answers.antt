@@ -1,6 +1,11 @@
 use Rattle.node_slots.proofs.Points.{none_retired_now}
 use Rattle.citrus_tree.proofs.Replacing.{listed_on}
 use Rattle.citrus_tree.proofs.DeleteRoom.{may_reclaim_spare, needs_kept, ready_kept, ready_spare, room_kept, room_spare}
+use Rattle.std.proofs.Common.{[], ap, ◌∙◌}
+use Rattle.core_state.specs.declared.view.View.{View}
+use Rattle.citrus_tree.proofs.KeepingSlots.{slots_goes, slots_on, slots_reclaimed, slots_same}
+use Rattle.citrus_tree.proofs.Filling.{goes_none}
+use Rattle.citrus_tree.specs.Gone.{retired_marks}
 use Rattle.citrus_tree.proofs.delete.take_spare.Goals as goal
 
 pub reclaim-requires-clause-unraised : goal.reclaim-requires-clause-unraised
@@ -25,3 +30,13 @@ pub returns-in-Empty-clause-room : goal.returns-in-Empty-clause-room
 returns-in-Empty-clause-room g c =
     room_spare c.requires.quiet.view c.works.ensures c.rule_tells.ensures c.requires.few c.requires.none c.in-Empty.ensures.view c.rule_tells-in-Empty.ensures
     (listed_on c.args.seat.now c.take.new.seat c.take.ensures.seat.1 (none_retired_now c.in-Empty.ensures.view) c.requires.quiet.listed).each c.reclaim.ensures.view
+
+pub returns-in-Slot-clause-slots : goal.returns-in-Slot-clause-slots
+returns-in-Slot-clause-slots g c =
+    let t = c.k9.ensures.told.2 in
+    let taken = c.in-Slot.ensures.view.rest in
+    slots_same c.args.seat.now c.k9.new.seat (ap (λ (x : View). x.counts.waits) t ∙ ap (λ (x : View). x.counts.waits) taken) (ap (λ (x : View). x.wait) t ∙ ap (λ (x : View). x.wait) taken) (ap retired_marks t ∙ ap retired_marks taken)
+    (c.k9.ensures.seat.1 ∙ c.take.ensures.seat.1)
+
+pub returns-in-Empty-clause-slots : goal.returns-in-Empty-clause-slots
+returns-in-Empty-clause-slots g c = slots_on c.args.seat.now c.take.new.seat c.reclaim.new.seat (slots_goes c.args.seat.now c.take.new.seat [] (goes_none c.in-Empty.ensures.view) c.take.ensures.seat.1) (slots_reclaimed c.take.new.seat c.reclaim.new.seat c.reclaim.ensures.view)

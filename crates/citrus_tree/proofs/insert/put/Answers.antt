@@ -1,13 +1,15 @@
-use Rattle.std.proofs.Common.{refl, sym, subst, ◌∙◌}
+use Rattle.std.proofs.Common.{[], refl, sym, subst, ◌∙◌}
 use Rattle.prcu_model.specs.declared.operation.Told.{Told}
 use Rattle.seat_table.specs.Seats.{shape_of}
 use Rattle.citrus_tree.specs.Replies.{Puts}
-use Rattle.citrus_tree.proofs.Inserting.{begins, outside, unlocked, may_give_up, old_retired, old_puts, old_wait, old_quiet, old_tickets, may_take_leaf, spot_retired, full_puts, full_wait, full_quiet, full_tickets, may_link, tries_again, new_puts, new_retired, new_wait, new_quiet, new_tickets}
+use Rattle.citrus_tree.proofs.Inserting.{begins, outside, unlocked, may_give_up, old_retired, old_puts, old_wait, old_quiet, old_tickets, may_take_leaf, spot_retired, full_puts, full_wait, full_quiet, full_tickets, may_link, tries_again, new_goes, new_puts, new_retired, new_wait, new_quiet, new_tickets}
 use Rattle.citrus_tree.proofs.Replacing.{listed_on}
+use Rattle.citrus_tree.proofs.KeepingSlots.{goes_slots, slots_on, slots_self}
+use Rattle.citrus_tree.proofs.Leavings.{goes_looked}
 use Rattle.citrus_tree.proofs.insert.put.Goals as goal
 
 pub loop-init : goal.loop-init
-loop-init g c = (refl, c.requires.quiet.listed, begins c.requires.quiet.view c.works.ensures c.rule_tells.ensures c.ranges.key.fits)
+loop-init g c = (refl, c.requires.quiet.listed, begins c.requires.quiet.view c.works.ensures c.rule_tells.ensures c.ranges.key.fits, slots_self c.args.seat.now)
 
 pub find_spot-requires-clause-outside : goal.find_spot-requires-clause-outside
 find_spot-requires-clause-outside g c = outside c.loop.invariant.2 c.requires.tickets
@@ -80,4 +82,18 @@ loop-preserved g c = (
   c.link_leaf.ensures.seat.0 ∙ c.leaf_in_hand.ensures.table ∙ c.find_spot.ensures.seat.0 ∙ c.loop.invariant.0,
   listed_on c.leaf_in_hand.new.seat c.link_leaf.new.seat c.link_leaf.ensures.seat.1 (c.in_default-link_leaf.ensures.again refl).retired c.leaf_in_hand.ensures.listed,
   tries_again c.loop.invariant.2 c.requires.tickets c.in-Some-find_spot.spot c.in-Some-find_spot.ensures.searched c.in-Some-leaf_in_hand.ensures.room c.in-Some-leaf_in_hand.ensures.at (c.in_default-link_leaf.ensures.again refl) c.in_default-link_leaf.ensures.at,
+  goes_slots c.args.seat.now c.leaf_in_hand.new.seat c.link_leaf.new.seat [] (slots_on c.args.seat.now c.find_spot.new.seat c.leaf_in_hand.new.seat (goes_slots c.args.seat.now c.loop.seat c.find_spot.new.seat _ c.loop.invariant.3 (goes_looked c.in-Some-find_spot.ensures.searched.0) c.find_spot.ensures.seat.1) c.leaf_in_hand.ensures.slots) (c.in_default-link_leaf.ensures.again refl) c.link_leaf.ensures.seat.1,
 )
+
+pub returns-in_default-clause-slots : goal.returns-in_default-clause-slots
+returns-in_default-clause-slots g c =
+    let found = goes_slots c.args.seat.now c.loop.seat c.find_spot.new.seat _ c.loop.invariant.3 (goes_looked c.in_default.ensures.searched.1) c.find_spot.ensures.seat.1 in
+    goes_slots c.args.seat.now c.find_spot.new.seat c.give_up_leaf.new.seat [] found c.give_up_leaf.ensures.goes c.give_up_leaf.ensures.seat.1
+
+pub returns-in_default-leaf_in_hand-clause-slots : goal.returns-in_default-leaf_in_hand-clause-slots
+returns-in_default-leaf_in_hand-clause-slots g c = slots_on c.args.seat.now c.find_spot.new.seat c.leaf_in_hand.new.seat (goes_slots c.args.seat.now c.loop.seat c.find_spot.new.seat _ c.loop.invariant.3 (goes_looked c.in-Some-find_spot.ensures.searched.0) c.find_spot.ensures.seat.1) c.leaf_in_hand.ensures.slots
+
+pub returns-in-Some-link_leaf-clause-slots : goal.returns-in-Some-link_leaf-clause-slots
+returns-in-Some-link_leaf-clause-slots g c =
+    let leaf = slots_on c.args.seat.now c.find_spot.new.seat c.leaf_in_hand.new.seat (goes_slots c.args.seat.now c.loop.seat c.find_spot.new.seat _ c.loop.invariant.3 (goes_looked c.in-Some-find_spot.ensures.searched.0) c.find_spot.ensures.seat.1) c.leaf_in_hand.ensures.slots in
+    goes_slots c.args.seat.now c.leaf_in_hand.new.seat c.link_leaf.new.seat _ leaf (new_goes c.loop.invariant.2 c.requires.tickets c.in-Some-find_spot.spot c.in-Some-find_spot.ensures.searched c.in-Some-leaf_in_hand.ensures.room c.in-Some-leaf_in_hand.ensures.at c.in-Some-link_leaf.number c.in-Some-link_leaf.ensures.linked) c.link_leaf.ensures.seat.1

@@ -2,6 +2,8 @@ use Rattle.std.proofs.Common.{sym, ◌∙◌, inl, inr}
 use Rattle.citrus_tree.proofs.Filling.{goes_taken, goes_none, nothing_retired, something_retired, empty_is, empty_not, is_full_now, room_goes, reuses, reserves_again}
 use Rattle.citrus_tree.proofs.Replacing.{listed_on}
 use Rattle.node_slots.proofs.Points.{none_ends, none_retired_now, takes_leaf}
+use Rattle.std.proofs.Common.{[]}
+use Rattle.citrus_tree.proofs.KeepingSlots.{goes_slots, slots_goes, slots_on, slots_reclaimed}
 use Rattle.citrus_tree.proofs.insert.take_slot.Goals as goal
 
 pub returns-in-Slot-clause-room : goal.returns-in-Slot-clause-room
@@ -42,3 +44,19 @@ returns-in-Empty-clause-at g c key value kept expected spot a =
     let listed = listed_on c.args.seat.now c.take.new.seat c.take.ensures.seat.1 (none_retired_now c.in_default.ensures.view) c.requires.listed in
     let some = something_retired c.take.new.seat listed (λ none. empty_not c.retired.result.now (sym c.is_empty.ensures ∙ c.if-is_empty.false) (c.retired.ensures ∙ none)) in
     none_ends c.in-Empty.ensures.view (reserves_again c.in_default.ensures.view some c.reclaim.ensures.view c.rule_tells.ensures listed.each a)
+
+pub returns-in-Slot-clause-slots : goal.returns-in-Slot-clause-slots
+returns-in-Slot-clause-slots g c = slots_goes c.args.seat.now c.take.new.seat [] (goes_taken c.in-Slot.ensures.view) c.take.ensures.seat.1
+
+pub returns-then-is_empty-clause-slots : goal.returns-then-is_empty-clause-slots
+returns-then-is_empty-clause-slots g c = slots_goes c.args.seat.now c.take.new.seat [] (goes_none c.in_default.ensures.view) c.take.ensures.seat.1
+
+pub returns-in-Slot-take-clause-slots : goal.returns-in-Slot-take-clause-slots
+returns-in-Slot-take-clause-slots g c =
+    let back = slots_on c.args.seat.now c.take.new.seat c.reclaim.new.seat (slots_goes c.args.seat.now c.take.new.seat [] (goes_none c.in_default.ensures.view) c.take.ensures.seat.1) (slots_reclaimed c.take.new.seat c.reclaim.new.seat c.reclaim.ensures.view) in
+    goes_slots c.args.seat.now c.reclaim.new.seat c.take-2.new.seat [] back (goes_taken c.in-Slot-take.ensures.view) c.take-2.ensures.seat.1
+
+pub returns-in-Empty-clause-slots : goal.returns-in-Empty-clause-slots
+returns-in-Empty-clause-slots g c =
+    let back = slots_on c.args.seat.now c.take.new.seat c.reclaim.new.seat (slots_goes c.args.seat.now c.take.new.seat [] (goes_none c.in_default.ensures.view) c.take.ensures.seat.1) (slots_reclaimed c.take.new.seat c.reclaim.new.seat c.reclaim.ensures.view) in
+    goes_slots c.args.seat.now c.reclaim.new.seat c.take-2.new.seat [] back (goes_none c.in-Empty.ensures.view) c.take-2.ensures.seat.1

@@ -1,7 +1,8 @@
 use Rattle.std.proofs.Common.{refl, sym, subst, ◌∙◌}
 use Rattle.prcu_model.specs.declared.operation.Told.{Told}
 use Rattle.citrus_tree.specs.Replies.{Sets}
-use Rattle.citrus_tree.proofs.Replacing.{begins, absent_sets, may_store, tries_again, stored_sets, stored_quiet, stored_retired, stored_wait, stored_tickets, listed_on}
+use Rattle.citrus_tree.proofs.Replacing.{absent_goes, begins, absent_sets, goes_all, may_store, tries_again, stored_sets, stored_quiet, stored_retired, stored_wait, stored_tickets, listed_on}
+use Rattle.citrus_tree.proofs.KeepingSlots.{slots_goes}
 use Rattle.citrus_tree.proofs.replace.set.Goals as goal
 
 pub loop-init : goal.loop-init
@@ -36,3 +37,11 @@ loop-preserved g c = (
   c.store_value.ensures.seat.1 ∙ c.find_holder.ensures.seat.1 ∙ c.loop.invariant.1,
   tries_again c.loop.invariant.2 c.requires.tickets c.in-Some-find_holder.ensures.sought (c.in_default-store_value.ensures.again refl) c.in_default-store_value.ensures.at,
 )
+
+pub returns-in_default-clause-slots : goal.returns-in_default-clause-slots
+returns-in_default-clause-slots g c = slots_goes c.args.seat.now c.find_holder.new.seat _ (absent_goes c.loop.invariant.2 c.requires.tickets c.in_default.ensures.sought) (c.find_holder.ensures.seat.1 ∙ c.loop.invariant.1)
+
+pub returns-in-Some-store_value-clause-slots : goal.returns-in-Some-store_value-clause-slots
+returns-in-Some-store_value-clause-slots g c =
+    slots_goes c.args.seat.now c.store_value.new.seat _ (goes_all c.loop.invariant.2 c.requires.tickets c.in-Some-find_holder.ensures.sought c.in-Some-store_value.ensures.stored c.in-Some-store_value.ensures.at)
+    (c.store_value.ensures.seat.1 ∙ c.find_holder.ensures.seat.1 ∙ c.loop.invariant.1)

@@ -8,6 +8,8 @@ use Rattle.citrus_tree.specs.Deletes.{HasDone, retired_slots}
 use Rattle.citrus_tree.proofs.DeleteKeeps.{tells_as, keeps_rest, rest_k14, same_locks, no_lock}
 use Rattle.citrus_tree.proofs.DeleteLists.{in_slots, now_retired, yet_unlisted, listed_more, few_listed}
 use Rattle.citrus_tree.proofs.DeleteUpdates.{done_still}
+use Rattle.citrus_tree.proofs.KeepingSlots.{slots_more}
+use Rattle.citrus_tree.specs.Gone.{retired_marks}
 use Rattle.citrus_tree.proofs.delete.bypass.bypass.Goals as goal
 
 pub k14-requires-clause-needs : goal.k14-requires-clause-needs
@@ -65,3 +67,14 @@ returns-clause-listed g c =
           ∙ listed_more c.args.seat.now.view c.k14-2.new.seat.view c.args.node.node more c.args.seat.now.listed c.requires.listed.each t
           ∙ ap (λ (x : View). times t (retired_slots x)) (sym (c.list_retired.ensures.seat).1);
     }
+
+pub returns-clause-slots : goal.returns-clause-slots
+returns-clause-slots g c =
+    let k = (shape_of g.W.WaitWords.WAY c.args.table.now) in
+    let first = rest_k14 k _ _ _ _ c.k14.ensures.told in
+    let second = rest_k14 k _ _ _ _ c.k14-2.ensures.told in
+    let same = (c.list_retired.ensures.seat).1 in
+    let past = c.link_past-number.ensures in
+    slots_more c.args.seat.now c.list_retired.new.self past.stay.0 (c.args.node.node ∷ []) (ap (λ (x : View). x.counts.waits) same ∙ second.waits.count ∙ first.waits.count ∙ past.waits.count)
+    (ap (λ (x : View). x.wait) same ∙ second.waits.wait ∙ first.waits.wait ∙ past.waits.wait) (ap retired_marks same ∙ second.stay ∙ first.stay ∙ past.stay.1)
+    (c.list_retired.ensures.listed ∙ ap (λ xs. xs ++ c.args.node.node ∷ []) ((c.k14-2.ensures.seat).1 ∙ (c.k14.ensures.seat).1 ∙ (past.seat).1))

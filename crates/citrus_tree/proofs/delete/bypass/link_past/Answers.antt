@@ -1,4 +1,4 @@
-use Rattle.std.proofs.Common.{◌+◌, ◌<◌, ◌/◌, [], sym, subst, ◌∙◌}
+use Rattle.std.proofs.Common.{◌++◌, ap, ◌+◌, ◌<◌, ◌/◌, [], sym, subst, ◌∙◌}
 use Rattle.core_points.specs.declared.stage.Last.TheVariants as last
 use Rattle.core_points.specs.declared.stage.Stage.TheVariants as at
 use Rattle.core_points.specs.declared.stage.Update.TheVariants as update
@@ -8,7 +8,7 @@ use Rattle.tree_points.proofs.Updating.{needs_mark, needs_store_bypass, passes_s
 use Rattle.citrus_tree.specs.Deletes.{HasDone}
 use Rattle.citrus_tree.proofs.DeleteBypass.{child_within, marked, opened_keeps, closed_keeps, half_two}
 use Rattle.citrus_tree.proofs.DeleteKeeps.{tells_as, keeps_on, keeps_k22}
-use Rattle.citrus_tree.proofs.DeleteUpdates.{bypass_done, bypass_locked, done_later, done_still}
+use Rattle.citrus_tree.proofs.DeleteUpdates.{bypass_stay, bypass_done, bypass_locked, done_later, done_still}
 use Rattle.citrus_tree.proofs.delete.bypass.link_past.Goals as goal
 
 pub slot_of-child-requires : goal.slot_of-child-requires
@@ -63,3 +63,12 @@ returns-clause-locked g c =
     let k = (shape_of g.W.WaitWords.WAY c.args.table.now) in
     (c.settle_side.ensures.same).locked ∙ (closed_keeps c.k21.new.seat.view c.close_front-number.new.seat.view c.close_front-number.ensures.closed).locked ∙ bypass_locked k _ _ _ _ _ _ _ c.k21.ensures.told
     ∙ (opened_keeps c.k22.new.seat.view c.open_front-front.new.seat.view c.open_front-front.result c.open_front-front.ensures.opened).locked ∙ (keeps_k22 k _ _ _ _ _ c.k22.ensures.told).locked
+
+pub returns-clause-stay : goal.returns-clause-stay
+returns-clause-stay g c =
+    let k = (shape_of g.W.WaitWords.WAY c.args.table.now) in
+    let b = bypass_stay k _ _ _ _ _ _ _ c.k21.ensures.told in (
+      b.0,
+      (c.settle_side.ensures.same).stay ∙ (closed_keeps c.k21.new.seat.view c.close_front-number.new.seat.view c.close_front-number.ensures.closed).stay ∙ b.1
+          ∙ ap (λ xs. xs ++ b.0) ((opened_keeps c.k22.new.seat.view c.open_front-front.new.seat.view c.open_front-front.result c.open_front-front.ensures.opened).stay ∙ (keeps_k22 k _ _ _ _ _ c.k22.ensures.told).stay),
+    )

@@ -6,12 +6,13 @@ use Rattle.core_state.specs.declared.view.View.{View}
 use Rattle.seat_table.specs.Seats.{shape_of}
 use Rattle.tree_points.specs.At.{IsDone}
 use Rattle.tree_points.specs.Progress.{HasGone}
-use Rattle.tree_points.proofs.Gone.{gone_waited}
+use Rattle.tree_points.proofs.Gone.{gone_on, gone_waited}
 use Rattle.tree_points.proofs.Waiting.{waits_move}
 use Rattle.citrus_tree.specs.Deletes.{retired_slots}
-use Rattle.citrus_tree.proofs.DeleteKeeps.{tells_as, gone_on, no_lock}
+use Rattle.citrus_tree.proofs.DeleteKeeps.{tells_as, no_lock}
 use Rattle.citrus_tree.proofs.DeleteLists.{in_slots}
 use Rattle.citrus_tree.proofs.DeleteMoves.{move_keys, move_outside, move_paid, waited_for, waited_keeps, node_retired, old_retired, node_unlisted, old_unlisted, two_listed, length_more, waited_latest, keeps_latest}
+use Rattle.citrus_tree.proofs.KeepingSlots.{waited_later}
 use Rattle.citrus_tree.proofs.delete.shift.finish.Goals as goal
 
 pub between-requires : goal.between-requires
@@ -64,9 +65,9 @@ returns-clause-done g c = λ kept a.
 
 pub returns-clause-waited : goal.returns-clause-waited
 returns-clause-waited g c =
-    let later = gone_on _ _ _ [] [] c.unlink_old.ensures.gone c.unlock_all.ensures.same.gone in
+    let later = gone_on c.unlink_old.ensures.gone c.unlock_all.ensures.same.gone in
     subst (λ (x : View). HasGone c.args.seat.now.view x (Began c.args.seat.now.view.allowance.place c.args.seat.now.view.counts.waits (c.args.key + 1) c.args.moving.next_key ∷ (Ended c.args.seat.now.view.allowance.place c.args.seat.now.view.counts.waits ∷ [])))
-    (sym ((c.list_retired-2.ensures.seat).1 ∙ (c.list_retired.ensures.seat).1)) (gone_on _ _ _ _ [] (gone_waited (waited_for (c.args.key + 1) c.args.moving.next_key c.between.ensures c.wait_in_grace.ensures.waited)) later)
+    (sym ((c.list_retired-2.ensures.seat).1 ∙ (c.list_retired.ensures.seat).1)) (gone_on (gone_waited (waited_for (c.args.key + 1) c.args.moving.next_key c.between.ensures c.wait_in_grace.ensures.waited)) later)
 
 pub returns-clause-listed : goal.returns-clause-listed
 returns-clause-listed g c = record {
@@ -83,3 +84,11 @@ pub unlock_all-requires-clause-at : goal.unlock_all-requires-clause-at
 unlock_all-requires-clause-at g c =
     let a = c.requires.at in
     (Del c.args.key, a.0, c.unlink_old.ensures.at _ _ (waits_move a.1 (waited_for (c.args.key + 1) c.args.moving.next_key c.between.ensures c.wait_in_grace.ensures.waited)))
+
+pub returns-clause-later : goal.returns-clause-later
+returns-clause-later g c =
+    let a = waited_later c.wait_in_grace.ensures.waited in
+    let b = c.unlink_old.ensures.waits.count in
+    let d = c.unlock_all.ensures.same.waits.count in
+    let e = ap (λ (x : View). x.counts.waits) ((c.list_retired-2.ensures.seat).1 ∙ (c.list_retired.ensures.seat).1) in
+    omega (arith, a, b, d, e)

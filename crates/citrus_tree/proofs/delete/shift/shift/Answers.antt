@@ -6,8 +6,10 @@ use Rattle.core_points.specs.Facts.{SameLocks}
 use Rattle.seat_table.specs.Seats.{shape_of}
 use Rattle.tree_points.proofs.Holding.{needs_copy_lock, passes_copy_lock_free, passes_copy_lock_busy}
 use Rattle.tree_points.proofs.Locking.{locks_copy_lock}
-use Rattle.citrus_tree.proofs.DeleteKeeps.{tells_as, gone_on, keeps_rest, locks_busy, rest_k13, rest_of, spare_k13}
+use Rattle.tree_points.proofs.Gone.{gone_on}
+use Rattle.citrus_tree.proofs.DeleteKeeps.{tells_as, keeps_rest, locks_busy, rest_k13, rest_of, spare_k13}
 use Rattle.citrus_tree.proofs.DeletePieces.{few_moved, one_listed, move_deletes}
+use Rattle.citrus_tree.proofs.KeepingSlots.{slots_later, slots_rest}
 use Rattle.citrus_tree.proofs.delete.shift.shift.Goals as goal
 
 pub k13-requires-clause-needs : goal.k13-requires-clause-needs
@@ -52,8 +54,22 @@ pub returns-clause-deleted : goal.returns-clause-deleted
 returns-clause-deleted g c =
     let k = (shape_of g.W.WaitWords.WAY c.args.table.now) in
     let a = c.requires.at in
-    move_deletes _ _ _ _ c.args.key c.fill_copy-next_key.result c.link_copy-number.result (gone_on _ _ _ [] [] c.fill_copy-next_key.ensures.same.gone (rest_k13 k _ _ _ _ c.k13.ensures.told).gone) (c.link_copy-number.ensures.done (Del c.args.key) a.0 c.fill_copy-next_key.result (passes_copy_lock_free c.if-k13-ne0.false c.fill_copy-next_key.ensures.spare (c.fill_copy-next_key.ensures.at (Del c.args.key) a.0 a.1) c.k13.ensures.told)) c.finish.ensures.waited
+    move_deletes _ _ _ _ c.args.key c.fill_copy-next_key.result c.link_copy-number.result (gone_on c.fill_copy-next_key.ensures.same.gone (rest_k13 k _ _ _ _ c.k13.ensures.told).gone) (c.link_copy-number.ensures.done (Del c.args.key) a.0 c.fill_copy-next_key.result (passes_copy_lock_free c.if-k13-ne0.false c.fill_copy-next_key.ensures.spare (c.fill_copy-next_key.ensures.at (Del c.args.key) a.0 a.1) c.k13.ensures.told)) c.finish.ensures.waited
 
 pub returns-then-k13-ne0-clause-same : goal.returns-then-k13-ne0-clause-same
 returns-then-k13-ne0-clause-same g c =
     keeps_rest _ _ _ (rest_of _ _ c.fill_copy-next_key.ensures.same) (keeps_rest _ _ _ (rest_k13 (shape_of g.W.WaitWords.WAY c.args.table.now) _ _ _ _ c.k13.ensures.told) c.unlock_target.ensures.same)
+
+pub returns-then-k13-ne0-clause-slots : goal.returns-then-k13-ne0-clause-slots
+returns-then-k13-ne0-clause-slots g c =
+    slots_rest c.args.seat.now c.unlock_target.new.seat
+    (keeps_rest _ _ _ (rest_of _ _ c.fill_copy-next_key.ensures.same) (keeps_rest _ _ _ (rest_k13 (shape_of g.W.WaitWords.WAY c.args.table.now) _ _ _ _ c.k13.ensures.told) c.unlock_target.ensures.same))
+    (c.unlock_target.ensures.seat.1 ∙ c.k13.ensures.seat.1 ∙ c.fill_copy-next_key.ensures.seat.1)
+
+pub returns-clause-slots : goal.returns-clause-slots
+returns-clause-slots g c =
+    let a = c.finish.ensures.later in
+    let b = c.link_copy-number.ensures.waits.count in
+    let d = (rest_k13 (shape_of g.W.WaitWords.WAY c.args.table.now) _ _ _ _ c.k13.ensures.told).waits.count in
+    let e = c.fill_copy-next_key.ensures.same.waits.count in
+    slots_later c.args.seat.now c.finish.new.seat (omega (arith, a, b, d, e))

@@ -2,7 +2,8 @@ use Rattle.std.proofs.Common.{[], ◌∷◌, ◌++◌, ap, ◌∙◌, eq-eqb, ne
 use Rattle.seat_table.specs.Seats.{shape_of}
 use Rattle.tree_points.proofs.Deleting.{needs_old_mark, needs_old_right, passes_old_mark, passes_old_right}
 use Rattle.tree_points.proofs.Holding.{needs_unlink_copy, needs_unlink_parent, passes_unlink_copy, passes_unlink_parent}
-use Rattle.citrus_tree.proofs.DeleteKeeps.{tells_as, keeps_on, keeps_k18, keeps_k22, gone_on, same_locks}
+use Rattle.tree_points.proofs.Gone.{gone_on}
+use Rattle.citrus_tree.proofs.DeleteKeeps.{tells_as, keeps_on, keeps_k18, keeps_k22, same_locks}
 use Rattle.citrus_tree.proofs.DeleteShifts.{right_fits, unlinking, copy_unlinks, parent_unlinks}
 use Rattle.citrus_tree.proofs.delete.shift.unlink_old.Goals as goal
 
@@ -43,13 +44,13 @@ pub returns-then-successor-node-clause-gone : goal.returns-then-successor-node-c
 returns-then-successor-node-clause-gone g c =
     let k = (shape_of g.W.WaitWords.WAY c.args.table.now) in
     let first = keeps_on _ _ _ (keeps_k22 k _ _ _ _ _ c.k22.ensures.told) (keeps_k18 k _ _ _ _ _ c.k18-right.ensures.told) in
-    gone_on _ _ _ [] [] first.gone (gone_on _ _ _ [] [] (copy_unlinks k _ _ _ _ _ _ c.k27.ensures.told).gone (c.settle_side.ensures.same).gone)
+    gone_on first.gone (gone_on (copy_unlinks k _ _ _ _ _ _ c.k27.ensures.told).gone (c.settle_side.ensures.same).gone)
 
 pub returns-clause-gone : goal.returns-clause-gone
 returns-clause-gone g c =
     let k = (shape_of g.W.WaitWords.WAY c.args.table.now) in
     let first = keeps_on _ _ _ (keeps_k22 k _ _ _ _ _ c.k22.ensures.told) (keeps_k18 k _ _ _ _ _ c.k18-right.ensures.told) in
-    gone_on _ _ _ [] [] first.gone (gone_on _ _ _ [] [] (parent_unlinks k _ _ _ _ _ _ c.k26.ensures.told).gone (c.settle_side-2.ensures.same).gone)
+    gone_on first.gone (gone_on (parent_unlinks k _ _ _ _ _ _ c.k26.ensures.told).gone (c.settle_side-2.ensures.same).gone)
 
 pub returns-then-successor-node-clause-retired : goal.returns-then-successor-node-clause-retired
 returns-then-successor-node-clause-retired g c =
