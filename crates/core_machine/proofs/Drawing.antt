@@ -1,12 +1,18 @@
 -- A run steps the callers that are drawn.
-use Rattle.std.proofs.Common.{◌≡◌, ℕ, ◌≤◌, ◌%◌, List, [], ◌∷◌, ◌++◌, length, slice_index_or, refl, sym, ap, subst, ◌∙◌, arith}
+use Rattle.std.proofs.Common.{◌≡◌, ℕ, ◌≤◌, ◌%◌, List, [], ◌∷◌, ◌++◌, length, map, slice_index_or, refl, sym, ap, subst, ◌∙◌, arith}
 use Rattle.std.proofs.lemmas.List.{append_assoc}
 use Rattle.workload.specs.Draws.{drawn, next_state}
 use Rattle.prcu_model.specs.declared.operation.Op.{Op}
+use Rattle.prcu_model.specs.Fronts.{AreExplainable}
+use Rattle.prcu_model.specs.History.{IsLegal}
+use Rattle.prcu_model.specs.Slots.{StaysWithin}
 use Rattle.core_points.specs.Callers.{Own}
-use Rattle.core_machine.specs.Runs.{Core, core, new_core, step}
+use Rattle.core_machine.specs.Runs.{Core, core, history_of, new_core, step, steps, tolds_of}
 use Rattle.core_machine.specs.Draws.{AreDrawn, caller_at, unfinished, unfinished_from}
-use Rattle.core_machine.specs.Machines.{HasRun, HasStored, MachineAt}
+use Rattle.core_machine.specs.Laws.{DrawsEnd, IsMachine}
+use Rattle.core_machine.specs.Machines.{HasEnded, HasRun, HasStored, MachineAt}
+use Rattle.core_machine.proofs.Accounts.{ends_are_explained, tolds_are_explained}
+use Rattle.core_machine.proofs.Sound.{cores_are_sound}
 use Rattle.core_machine.proofs.Storing.{steps_more}
 
 -- the callers drawn so far, and that whoever is drawn from the state on goes behind them
@@ -51,3 +57,26 @@ ends_drawing scripts slots callers number state m ended d = record {
   draws = subst (λ is. AreDrawn (core scripts slots callers) number is) (ends_bare d.done) (d.goes_on [] (ap (unfinished_from 0) (sym d.stored.owns) ∙ no_more (unfinished_from 0 m.owns) ended));
   stored = d.stored;
 }
+
+-- ---- how a run ends
+
+pub draws_end : DrawsEnd
+draws_end c state [] drawn = drawn
+draws_end c state (i ∷ is) drawn = draws_end (step c i) (next_state state) is drawn.2
+
+steps_on : (c : Core) (first rest : List ℕ) → steps c (first ++ rest) ≡ steps (steps c first) rest
+steps_on c [] rest = refl
+steps_on c (i ∷ is) rest = steps_on (step c i) is rest
+
+pub run_ends : (scripts : List (List Op)) (slots : ℕ) (callers : List ℕ) (number : ℕ) (m : MachineAt) → IsMachine scripts slots → HasRun scripts slots callers number m → HasEnded scripts slots m
+run_ends scripts slots callers number m machine run =
+    let all : List ℕ = callers ++ run.drawn in
+    let c : Core = core scripts slots all in
+    let over : unfinished c ≡ [] = ap unfinished (steps_on (new_core scripts slots) callers run.drawn) ∙ draws_end (core scripts slots callers) number run.drawn run.draws in
+    let told : map (λ (o : Own). o.told) m.owns ≡ tolds_of c = ap (map (λ (o : Own). o.told)) run.stored.owns in
+    record {
+      explained = subst (λ us. AreExplainable scripts (map (λ (o : Own). o.told) m.owns) us slots) (sym run.stored.updates)
+          (subst (λ ts. AreExplainable scripts ts (history_of c) slots) (sym told) (ends_are_explained scripts slots all machine over).0);
+      legal = subst IsLegal (sym run.stored.updates) (tolds_are_explained scripts slots all machine).legal;
+      within = subst (λ us. StaysWithin us slots) (sym run.stored.updates) (cores_are_sound scripts slots all machine).invariant.within;
+    }

@@ -1,10 +1,12 @@
 -- A step of the machine is the core's.
-use Rattle.std.proofs.Common.{◌≡◌, ℕ, zero, suc, ◌*◌, ◌<◌, ◌≤◌, cond, Bool, true, false, List, [], ◌∷◌, ◌++◌, length, map, set, take, slice_get, slice_set, slice_index_or, Option as Opt, Some, None, refl, sym, ap, subst, ◌∙◌, arith, length-set}
+use Rattle.std.proofs.Common.{◌≡◌, ℕ, zero, suc, ◌*◌, ◌<◌, ◌≤◌, cond, Bool, true, false, List, [], ◌∷◌, ◌++◌, length, get_or, map, set, take, slice_get, slice_set, slice_index_or, Option as Opt, Some, None, refl, sym, ap, subst, ◌∙◌, arith, length-set}
 use Rattle.std.proofs.lemmas.List.{length-map, map-set, set-get_or}
+use Rattle.std.proofs.lemmas.List.Sums.{sum_by-cons}
 use Rattle.std.proofs.lemmas.Option.{get_or_from_slice_get}
 use mathlib.Core.Option.{Option, none, some, some-injective}
 use lib.ListN.{get_elem?}
 use Rattle.atomic_table.proofs.Lists.{at_map}
+use Rattle.list_laws.proofs.Lists.{at_below}
 use Rattle.prcu_marks.specs.declared.mark.Why.{Why}
 use Rattle.prcu_marks.specs.Marks.{updates_of}
 use Rattle.prcu_model.specs.declared.operation.Op.{Op}
@@ -30,7 +32,7 @@ use Rattle.core_machine.specs.Machines.{HasMoved, HasStored, IsReached, IsSteppa
 use Rattle.core_machine.proofs.Running.{IsRun}
 use Rattle.core_machine.proofs.Sound.{core_runs, step_is}
 use Rattle.core_machine.proofs.Starting.{tickets_total}
-use Rattle.core_machine.proofs.Accounts.{cores_tell}
+use Rattle.core_machine.proofs.Accounts.{cores_tell, elem_at, tolds_are_explained}
 use Rattle.core_machine.proofs.Standings.{stands_follow}
 use Rattle.core_machine.proofs.Storing.{callers_can_step, found, steps_are_stored, steps_more, viewed}
 
@@ -59,6 +61,12 @@ module _ {A : Type 0} where
   whole [] ys (suc n) same = absurd (omega (arith, same))
   whole (x ∷ xs) ys zero same = absurd (omega (arith, same))
   whole (x ∷ xs) ys (suc n) same = ap (λ zs. x ∷ zs) (whole xs ys n (omega (arith, same)))
+
+-- a script is no longer than all of them
+script_within : (scripts : List (List Op)) (i : ℕ) (script : List Op) → get_elem? scripts i ≡ some script → length script ≤ op_count scripts
+script_within [] i script e = absurd (cc)
+script_within (s ∷ ss) zero script e = let one = sum_by-cons length s ss in let same : length s ≡ length script = ap length (some-injective s script e) in omega (arith, one, same)
+script_within (s ∷ ss) (suc i) script e = let one = sum_by-cons length s ss in let rest = script_within ss i script e in omega (arith, one, rest)
 
 -- ---- one caller's step, where it stands in the list of callers
 
@@ -96,6 +104,17 @@ module _ (words : List ℕ) (callers : List Caller) (updates : List Update) (i :
       subst (λ b. StepsBy b words callers updates i c words' (slice_set callers i now) updates' result) (sym still)
       (subst (λ (z : Caller). HasMoved words callers updates i z words' (slice_set callers i now) updates' result) same here)
 
+-- a step changes what its caller keeps, and no other's
+set_same : (xs : List Caller) (i : ℕ) (x : Caller) → slice_get xs i ≡ Some x → set xs i x ≡ xs
+set_same [] i x e = absurd (cc)
+set_same (y ∷ ys) zero x e = let same : x ≡ y = cc in ap (λ z. z ∷ ys) same
+set_same (y ∷ ys) (suc i) x e = ap (λ zs. y ∷ zs) (set_same ys i x e)
+
+pub one_changed : (words : List ℕ) (kept : List Caller) (updates : List Update) (i : ℕ) (c : Caller) (words' : List ℕ) (kept' : List Caller) (updates' : List Update) (result : Stepped) → slice_get kept i ≡ Some c
+    → (b : Bool) → StepsBy b words kept updates i c words' kept' updates' result → (own : Own) × (map own_of kept' ≡ set (map own_of kept) i own)
+one_changed words kept updates i c words' kept' updates' result there true s = (own_of c, ap (map own_of) (s.callers_are ∙ sym (set_same kept i c there)) ∙ map-set own_of kept i c)
+one_changed words kept updates i c words' kept' updates' result there false s = (own_of s.now, ap (map own_of) s.callers_are ∙ map-set own_of kept i s.now)
+
 -- ---- the core's step
 
 abbrev pub at_of : List ℕ → List Caller → List Update → MachineAt
@@ -132,6 +151,16 @@ module _ (scripts : List (List Op)) (slots : ℕ) (callers : List ℕ) (machine 
   module _ (i : ℕ) (c : Caller) (there : slice_get kept i ≡ Some c) where
     own_there : get_elem? (core scripts slots callers).owns i ≡ some (own_of c)
     own_there = subst (λ os. get_elem? os i ≡ some (own_of c)) stored.owns (at_map own_of kept i c (elem kept i c there))
+
+    pub few_told : length c.told.entries ≤ 1048576
+    few_told =
+        let told = tolds_are_explained scripts slots callers machine in
+        let below : i < length scripts = subst (λ n. i < n) told.count (at_below (core scripts slots callers).owns i (own_of c) own_there) in
+        let script = elem_at scripts i below in
+        let short : length c.told.entries ≤ length script.0 = (told.each i script.0 (own_of c) script.1 own_there).shorter in
+        let within = script_within scripts i script.0 script.1 in
+        let few = machine.few_ops in
+        omega (arith, short, within, few)
 
     pub can_there : is_finished c.stage ≡ false → CanStep words (own_of c)
     can_there going = callers_can_step scripts slots callers words i (own_of c) machine stored.words own_there going
@@ -195,6 +224,9 @@ module _ (words : List ℕ) (kept : List Caller) (updates : List Update) (capaci
   pub has_room : length updates < capacity
   has_room = let few = few_updates reached.scripts reached.slots reached.callers reached.machine words kept updates reached.stored in let room = reached.few in omega (arith, few, room)
 
+  pub few_answers : (i : ℕ) (c : Caller) → slice_get kept i ≡ Some c → length c.told.entries ≤ 1048576
+  few_answers i c there = few_told reached.scripts reached.slots reached.callers reached.machine words kept updates reached.stored i c there
+
   pub few_kept : length kept ≤ 64
   few_kept = few_callers reached.scripts reached.slots reached.callers reached.machine words kept updates reached.stored
 
@@ -230,3 +262,29 @@ stored_by scripts slots c words ws kept ks updates w k stored = subst (λ (z : L
 
 pub below_by : (i : ℕ) (kept ks : List Caller) (m : MachineAt) → ks ≡ kept → map own_of kept ≡ m.owns → i < length m.owns → i < length ks
 below_by i kept ks m k owns below = let a = length-map kept own_of in let b : length (map own_of kept) ≡ length m.owns = ap length owns in let d : length ks ≡ length kept = ap length k in omega (arith, a, b, d, below)
+
+-- ---- what a caller was told
+
+got_map : (xs : List Caller) (i : ℕ) (x : Caller) → slice_get xs i ≡ Some x → slice_get (map own_of xs) i ≡ Some (own_of x)
+got_map [] i x e = absurd (cc)
+got_map (y ∷ ys) zero x e = let same : y ≡ x = cc in ap (λ z. Some (own_of z)) same
+got_map (y ∷ ys) (suc i) x e = got_map ys i x e
+
+module _ (words : List ℕ) (kept : List Caller) (updates : List Update) (m : MachineAt) (i : ℕ) (x : Caller) (same : at_of words kept updates ≡ m) (below : i < length m.owns) (is : x ≡ get_or kept i x) where
+  shown : slice_get kept i ≡ Some x
+  shown =
+      let owns : length (map own_of kept) ≡ length m.owns = ap (λ (z : MachineAt). length z.owns) same in
+      let long = length-map kept own_of in
+      let y = got kept i (omega (arith, owns, long, below)) in
+      y.1 ∙ ap Some (sym (is ∙ get_or_from_slice_get kept i y.0 x y.1))
+
+  pub shown_own : slice_get m.owns i ≡ Some (own_of x)
+  shown_own = ap (λ (z : MachineAt). slice_get z.owns i) (sym same) ∙ got_map kept i x shown
+
+  pub shown_few : (capacity : ℕ) → IsReached (at_of words kept updates) kept capacity → length x.told.entries ≤ 1048576
+  shown_few capacity reached = few_answers words kept updates capacity reached i x shown
+
+  pub shown_told : (own : Own) → slice_get m.owns i ≡ Some own → x.told.entries ≡ own.told
+  shown_told own there =
+      let here : get_elem? m.owns i ≡ some (own_of x) = ap (λ (z : MachineAt). get_elem? z.owns i) (sym same) ∙ at_map own_of kept i x (elem kept i x shown) in
+      ap (λ (o : Own). o.told) (some-injective (own_of x) own (sym here ∙ elem m.owns i own there))

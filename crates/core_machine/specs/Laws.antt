@@ -18,8 +18,8 @@ use Rattle.core_points.specs.Acts.{Act, field_of, kind_of, left_of, marks_of, vi
 use Rattle.core_points.specs.Callers.{Own}
 use Rattle.core_points.specs.Programs.{act_at}
 use Rattle.core_points.specs.Laws.{is_finished, noted_act}
-use Rattle.core_machine.specs.Runs.{Core, core, history_of, moved, shape_of, step, tolds_of}
-use Rattle.core_machine.specs.Draws.{unfinished}
+use Rattle.core_machine.specs.Runs.{Core, core, history_of, moved, shape_of, step, steps, tolds_of}
+use Rattle.core_machine.specs.Draws.{AreDrawn, unfinished}
 use Rattle.core_machine.specs.Accounts.{AreToldSoFar}
 
 -- what a machine is made for: 1 to 2,097,152 slots and 1 to 64 scripts, with at most 1,048,576 operations on keys that fit a word
@@ -62,3 +62,7 @@ ToldsAreExplained = (scripts : List (List Op)) (slots : ℕ) (callers : List ℕ
 abbrev pub EndsAreExplained : Type 0
 EndsAreExplained = (scripts : List (List Op)) (slots : ℕ) (callers : List ℕ) → IsMachine scripts slots → let c : Core = core scripts slots callers in unfinished c ≡ []
     → AreExplainable scripts (tolds_of c) (history_of c) slots × FitsScripts scripts c.marks
+
+-- Callers that were drawn have stepped until every script had ended.
+abbrev pub DrawsEnd : Type 0
+DrawsEnd = (c : Core) (state : ℕ) (callers : List ℕ) → AreDrawn c state callers → unfinished (steps c callers) ≡ []

@@ -5,6 +5,9 @@ use Rattle.prcu_marks.specs.declared.mark.Why.{Why}
 use Rattle.prcu_model.specs.declared.operation.Op.{Op}
 use Rattle.prcu_model.specs.declared.operation.Update.{Update}
 use Rattle.prcu_model.specs.Scripts.{op_count}
+use Rattle.prcu_model.specs.Fronts.{AreExplainable}
+use Rattle.prcu_model.specs.History.{IsLegal}
+use Rattle.prcu_model.specs.Slots.{StaysWithin}
 use Rattle.core_points.specs.Callers.{Own}
 use Rattle.core_points.specs.Programs.{act_at, after}
 use Rattle.core_points.specs.Laws.{is_finished}
@@ -50,6 +53,12 @@ pub record HasRun (scripts : List (List Op)) (slots : ℕ) (callers : List ℕ) 
   pub drawn : List ℕ
   pub draws : AreDrawn (core scripts slots callers) number drawn
   pub stored : HasStored scripts slots (core scripts slots (callers ++ drawn)) m
+
+-- All scripts have ended: the updates explain what the callers were told, and at none of their fronts were there more pairs than slots.
+pub record HasEnded (scripts : List (List Op)) (slots : ℕ) (m : MachineAt) : Type 0 where
+  pub explained : AreExplainable scripts (map (λ own. own.told) m.owns) m.updates slots
+  pub legal : IsLegal m.updates
+  pub within : StaysWithin m.updates slots
 
 -- what a step answers, where it was blocked or not
 abbrev pub stepped_of : Option Why → Stepped

@@ -1,7 +1,7 @@
 //! What is promised of the core's run, for all scripts and all orders of steps. Each function here has no body; its promise is the
 //! law. Read `tolds_are_explained` first.
 ghost use Rattle.core_machine.specs.StepLaws.{CallersCanStep, StepsAreStored};
-ghost use Rattle.core_machine.specs.Laws.{CoresAreSound, EndsAreExplained, StepsAreAllowed, ToldsAreExplained};
+ghost use Rattle.core_machine.specs.Laws.{CoresAreSound, DrawsEnd, EndsAreExplained, StepsAreAllowed, ToldsAreExplained};
 
 /// Whatever callers step in whatever order, the invariant holds. So waits outlast their readers, and no slot is used again too early.
 pub fn cores_are_sound()
@@ -22,6 +22,11 @@ pub fn tolds_are_explained()
 /// Once all scripts have ended, what was told is an account of them, and the marks fit them.
 pub fn ends_are_explained()
     ensures { EndsAreExplained }
+{}
+
+/// Callers that are drawn from a number step until every script has ended.
+pub fn draws_end()
+    ensures { DrawsEnd }
 {}
 
 /// A caller whose script hasn't ended can step on the core's words.

@@ -1,5 +1,5 @@
 //! The machine: all callers, and the words on which they step.
-ghost use Rattle.std.specs.Prelude.{◌≡◌, ℕ, ◌<◌, ◌≤◌, List, [], ◌∷◌, ◌++◌, length, map, slice_get, slice_index_or, None, Some, vec_len, vec_capacity, IfOk};
+ghost use Rattle.std.specs.Prelude.{◌≡◌, ℕ, ◌<◌, ◌≤◌, false, List, [], ◌∷◌, ◌++◌, length, map, set, slice_get, None, Some, vec_len, vec_capacity, IfOk, OnOk};
 ghost use Rattle.prcu_marks.specs.declared.mark.Why.{Why};
 ghost use Rattle.prcu_model.specs.declared.operation.Op.{Op};
 ghost use Rattle.core_points.specs.Laws.{is_finished};
@@ -12,11 +12,12 @@ ghost use Rattle.core_machine.specs.Laws.{IsMachine};
 ghost use Rattle.core_machine.specs.Stepped.{answers};
 ghost use Rattle.core_machine.specs.Stored.{HasRoom, own_of};
 ghost use Rattle.core_machine.specs.Stepping.{shape_for, update_now};
-ghost use Rattle.core_machine.specs.Machines.{HasRun, HasStored, IsSteppable, StepsBy, stepped_as, stepped_of};
+ghost use Rattle.core_machine.specs.Machines.{HasEnded, HasRun, HasStored, IsSteppable, StepsBy, stepped_as, stepped_of};
 
 use crate::caller::Caller;
-use crate::choosing::{count_unfinished, unfinished_at};
+use crate::choosing::list_unfinished;
 use crate::stepping::step_caller;
+use arrayvec::ArrayVec;
 use core_points::stage::Stage;
 use core_state::Shape;
 use core_state::shape::Waiter;
@@ -127,6 +128,7 @@ impl Machine {
     pub fn new(alloc: Global, scripts: &Scripts, slots: u32) -> Result<Machine, NoMemory>
         requires slots { (1 ≤ slots) × (slots ≤ 2097152) }
         requires scripts { 1 ≤ length scripts.now }
+        ensures made { OnOk result (IsMachine scripts.now slots) }
         ensures stored { IfOk result (λ machine. HasStored scripts.now slots (core scripts.now slots []) machine) }
         ensures count { IfOk result (λ machine. length machine.owns ≡ length scripts.now) }
     {
@@ -154,6 +156,7 @@ impl Machine {
         ensures finished { result ≡ did.Finished → self.new ≡ self.old }
         ensures blocked { (why : Why) → result ≡ did.Blocked why → self.new.words ≡ self.old.words }
         ensures count { length self.new.owns ≡ length self.old.owns }
+        ensures others { (own : Own) × (self.new.owns ≡ set self.old.owns caller own) }
     {
         step_at(
             &mut self.words,
@@ -163,46 +166,51 @@ impl Machine {
         )
     }
 
-    /// How many callers' scripts haven't ended.
-    fn unfinished(&self) -> u32
-        ensures { result ≡ length (unfinished_from 0 self.now.owns) }
+    /// The callers whose scripts haven't ended, ascending.
+    fn unfinished(&self) -> ArrayVec<u32, 64>
+        ensures { result.items ≡ unfinished_from 0 self.now.owns }
     {
-        count_unfinished(&self.callers)
+        list_unfinished(&self.callers)
     }
 
-    /// The caller at this position among those whose scripts haven't ended, in ascending order.
-    fn unfinished_at(&self, position: u32) -> u32
-        requires { position < length (unfinished_from 0 self.now.owns) }
-        ensures chosen { result ≡ slice_index_or (unfinished_from 0 self.now.owns) position 0 }
-        ensures below { result < length self.now.owns }
+    /// Where the caller's script has ended, lists the others anew. Else it leaves the list of those that haven't ended.
+    fn drop_ended(&self, caller: u32, left: &mut ArrayVec<u32, 64>)
+        requires caller { caller < length self.now.owns }
+        requires kept { (own : Own) → slice_get self.now.owns caller ≡ Some own → is_finished own.stage ≡ false → left.old.items ≡ unfinished_from 0 self.now.owns }
+        ensures left { left.new.items ≡ unfinished_from 0 self.now.owns }
     {
-        unfinished_at(&self.callers, position)
+        if self.callers[caller as usize].is_finished() {
+            *left = self.unfinished();
+        }
     }
 
     /// Steps until all scripts have ended. Before each step the generator's state, at first the number, moves on; and the caller at the
     /// drawn position among those that haven't ended makes the step. Where all scripts have ended nothing is drawn.
     pub fn run<R: Wait>(&mut self, rt: &R, number: u64)
         ensures ran { (scripts : List (List Op)) (slots : ℕ) (callers : List ℕ) → IsMachine scripts slots → HasStored scripts slots (core scripts slots callers) self.old → HasRun scripts slots callers number self.new }
+        ensures ended { (scripts : List (List Op)) (slots : ℕ) (callers : List ℕ) → IsMachine scripts slots → HasStored scripts slots (core scripts slots callers) self.old → HasEnded scripts slots self.new }
         ensures count { length self.new.owns ≡ length self.old.owns }
     {
+        let mut left = self.unfinished();
         let mut state = number;
         for _ in rt.forever() {
-            let count = self.unfinished();
-            if count == 0 {
+            if left.is_empty() {
                 return;
             }
             let next = next_state(state);
-            let position = (drawn(next) % u64::from(count)) as u32;
-            let caller = self.unfinished_at(position);
+            let position = (drawn(next) % left.len() as u64) as usize;
+            let caller = left[position];
             self.step(caller);
+            self.drop_ended(caller, &mut left);
             state = next;
         }
     }
 
-    /// What the caller was told so far.
+    /// What the caller was told so far: at most 1,048,576 answers.
     pub fn told(&self, caller: u32) -> &[Told]
         requires { caller < length self.now.owns }
-        ensures { (own : Own) → slice_get self.now.owns caller ≡ Some own → result.now ≡ own.told }
+        ensures few { length result.now ≤ 1048576 }
+        ensures told { (own : Own) → slice_get self.now.owns caller ≡ Some own → result.now ≡ own.told }
     {
         self.callers[caller as usize].told.entries()
     }

@@ -15,6 +15,16 @@ invariant_of-result c =
     c.in_ok-words.words.items c.in_ok-callers.callers.items c.in_ok-updates.updates.items (c.in_ok-words.ensures ∙ ap (λ (n : ℕ). first_words (shape_for c.args.slots n)) c.count.ensures.count) c.in_ok-callers.ensures.owns c.in_ok-updates.ensures.items c.in_ok-callers.ensures.nowhere
     (vec_capacity c.in_ok-updates.updates) few c.in_ok-callers.ensures.rooms
 
+pub returns-clause-made : goal.returns-clause-made
+returns-clause-made c = record {
+  some_slot = c.requires.slots.0;
+  few_slots = c.requires.slots.1;
+  some_script = c.requires.scripts;
+  few_scripts = subst (λ n. n ≤ 64) c.count.ensures.count c.count.ensures.limit;
+  few_ops = subst (λ n. n ≤ 1048576) c.ops.ensures.count c.ops.ensures.limit;
+  fit = c.count.ensures.fits;
+}
+
 pub returns-clause-stored : goal.returns-clause-stored
 returns-clause-stored c =
     made_stored c.args.scripts.now c.args.slots c.requires.slots.0 c.requires.slots.1 c.requires.scripts (subst (λ n. n ≤ 64) c.count.ensures.count c.count.ensures.limit) (subst (λ n. n ≤ 1048576) c.ops.ensures.count c.ops.ensures.limit) c.count.ensures.fits

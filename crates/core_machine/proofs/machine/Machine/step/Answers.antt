@@ -1,10 +1,12 @@
-use Rattle.std.proofs.Common.{◌≡◌, ℕ, ◌<◌, List, [], ◌∷◌, ◌++◌, length, take, drop, slice_get, Some, refl, ◌∙◌, sym, ap, subst, vec_capacity}
+use Rattle.std.proofs.Common.{◌≡◌, ℕ, ◌<◌, List, [], ◌∷◌, ◌++◌, length, map, set, take, drop, slice_get, Some, refl, ◌∙◌, sym, ap, subst, vec_capacity}
 use Rattle.prcu_model.specs.declared.operation.Op.{Op}
+use Rattle.core_points.specs.Callers.{Own}
 use Rattle.core_points.specs.Laws.{is_finished}
 use Rattle.core_machine.specs.declared.caller.Caller.{Caller}
 use Rattle.core_machine.specs.Runs.{core}
+use Rattle.core_machine.specs.Stored.{own_of}
 use Rattle.core_machine.specs.Machines.{HasStored, IsReached, MachineAt}
-use Rattle.core_machine.proofs.Owning.{at_of, below_by, got, has_room, lengths_by, next_answers, next_stored, reached_by, reached_next, steppable, stored_by, whole}
+use Rattle.core_machine.proofs.Owning.{at_of, below_by, got, has_room, lengths_by, next_answers, next_stored, one_changed, reached_by, reached_next, steppable, stored_by, whole}
 use Rattle.core_machine.proofs.Unmoved.{unmoved, words_stay}
 use Rattle.core_machine.proofs.machine.Machine.step.Goals as goal
 
@@ -80,3 +82,11 @@ returns-clause-blocked c why blocked =
     words_back c
     ∙ words_stay c.deref_mut.result.now c.deref_mut-2.result.now c.self.inside.updates.items c.args.caller x.0 c.step_at.new.words c.step_at.new.callers c.step_at.new.updates.items c.step_at.result (is_finished x.0.stage) (c.step_at.ensures.stepped x.0 x.1) why blocked
     ∙ c.deref_mut.ensures.value ∙ ap (λ (z : MachineAt). z.words) c.self.view_is
+
+pub returns-clause-others : goal.returns-clause-others
+returns-clause-others c =
+    let x = stepper c in
+    let one = one_changed c.deref_mut.result.now c.deref_mut-2.result.now c.self.inside.updates.items c.args.caller x.0 c.step_at.new.words c.step_at.new.callers c.step_at.new.updates.items c.step_at.result x.1 (is_finished x.0.stage) (c.step_at.ensures.stepped x.0 x.1) in (
+      one.0,
+      ap (map own_of) (callers_back c) ∙ one.1 ∙ ap (λ (os : List Own). set os c.args.caller one.0) (ap (map own_of) c.deref_mut-2.ensures.value ∙ ap (λ (z : MachineAt). z.owns) c.self.view_is),
+    )

@@ -1,0 +1,5 @@
+use Rattle.core_machine.proofs.Drawing.{draws_end}
+use Rattle.core_machine.proofs.laws.draws_end.Goals as goal
+
+pub returns : goal.returns
+returns c = draws_end

@@ -1,6 +1,0 @@
-use Rattle.std.proofs.Common.{◌≤◌, length, vec_capacity, sym, ap, subst}
-use Rattle.core_machine.proofs.Owning.{few_kept}
-use Rattle.core_machine.proofs.machine.Machine.unfinished_at.Goals as goal
-
-pub unfinished_at-requires-clause-few : goal.unfinished_at-requires-clause-few
-unfinished_at-requires-clause-few c = subst (λ n. n ≤ 64) (ap length (sym c.deref.ensures.value)) (few_kept c.self.inside.words.items c.self.inside.callers.items c.self.inside.updates.items (vec_capacity c.self.inside.updates) c.self.invariant)

@@ -1,0 +1,2 @@
+pub mod Drawn
+mod Copied
