@@ -28,13 +28,13 @@ map-push : {A B : Type 0} (f : A → B) (xs : List A) (x : A) → map f (xs ++ x
 map-push f [] x = refl
 map-push f (y ∷ xs) x = ap (λ ys. f y ∷ ys) (map-push f xs x)
 
-some_there : {A : Type 0} (xs : List A) (i : ℕ) → i < length xs → slice_get xs i ≡ None → ⊥
+pub some_there : {A : Type 0} (xs : List A) (i : ℕ) → i < length xs → slice_get xs i ≡ None → ⊥
 some_there [] i low e = absurd (omega arith)
 some_there (x ∷ xs) zero low e = absurd (cc)
 some_there (x ∷ xs) (suc i) low e = some_there xs i (omega arith) e
 
 -- what stands at a place of a list, and of what was made of it
-mapped_at : {A B : Type 0} (f : A → B) (xs : List A) (i : ℕ) (a : A) → slice_get xs i ≡ Some a → slice_get (map f xs) i ≡ Some (f a)
+pub mapped_at : {A B : Type 0} (f : A → B) (xs : List A) (i : ℕ) (a : A) → slice_get xs i ≡ Some a → slice_get (map f xs) i ≡ Some (f a)
 mapped_at f [] i a e = absurd (cc)
 mapped_at f (x ∷ xs) zero a e = let same : x ≡ a = cc in ap (λ z. Some (f z)) same
 mapped_at f (x ∷ xs) (suc i) a e = mapped_at f xs i a e
@@ -93,8 +93,8 @@ module _ {C : Type 0} (client_for : ℕ → ℕ → C) (scripts : List (List Op)
         subst (λ c. IsChain made c (get_or scripts i []) after.told.entries after.client) (crew.each i (get_or befores i after) same).client_is (runs i (get_or befores i after) after same there)
 
     -- what holds of each client at first, and is kept by each call, holds in the end
-    pub crew_keeps : (P : ℕ → C → Type 0) → ((i n : ℕ) → P i (client_for i n)) → ((i : ℕ) (before : C) (op : Op) (told : Told) (after : C) → P i before → made before op told after → P i after) → AreDone P afters
-    crew_keeps P start keeps i after there = chain_keeps made (P i) (keeps i) (get_or scripts i []) after.told.entries (client_for i (length (get_or scripts i []))) after.client (start i (length (get_or scripts i []))) (chain_of i after there)
+    pub crew_keeps : (P : ℕ → C → Type 0) → ((i : ℕ) → P i (client_for i (length (get_or scripts i [])))) → ((i : ℕ) (before : C) (op : Op) (told : Told) (after : C) → P i before → made before op told after → P i after) → AreDone P afters
+    crew_keeps P start keeps i after there = chain_keeps made (P i) (keeps i) (get_or scripts i []) after.told.entries (client_for i (length (get_or scripts i []))) after.client (start i) (chain_of i after there)
 
     -- what all scripts were told, beside marks that have met all callers
     pub crew_has_told : (explains : Dictionary → Op → Reply → Type 0) (caller_of : C → Caller)
@@ -121,12 +121,12 @@ module _ {C : Type 0} (client_for : ℕ → ℕ → C) (scripts : List (List Op)
             )
 
 module _ {C S : Type 0} (seat_of : C → S) (done : ℕ → C → Type 0) (stands_for : List C → S → Type 0) (workers : List (Work C)) (told : List (Roomy Told)) (all : AreDone done workers) where
-  pub gathered_first : (rest : List (Work C)) (now : List (Roomy Told)) (seat : S) → HasDismissed seat_of workers rest told now seat → ((c : C) → done 0 c → stands_for (c ∷ []) (seat_of c)) → IsGathered stands_for workers rest told now seat
+  pub gathered_first : (rest : List (Work C)) (now : List (Roomy Told)) (seat : S) → HasDismissed seat_of workers rest told now seat → ((c : C) → done 0 c → seat ≡ seat_of c → stands_for (c ∷ []) seat) → IsGathered stands_for workers rest told now seat
   gathered_first rest now seat d start = record {
     gone = d.worker ∷ [];
     whole = d.first;
     told_is = d.told_is;
-    joined = subst (stands_for (d.worker.client ∷ [])) (sym d.seat_is) (start d.worker.client (all 0 d.worker (ap (λ ws. slice_get ws 0) d.first)));
+    joined = start d.worker.client (all 0 d.worker (ap (λ ws. slice_get ws 0) d.first)) d.seat_is;
   }
 
   -- the worker that goes next

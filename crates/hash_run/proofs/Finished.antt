@@ -2,8 +2,8 @@
 use Rattle.std.proofs.Common.{◌≡◌, ◌≢◌, ℕ, zero, suc, ◌+◌, ◌<◌, true, false, cond, List, [], ◌∷◌, ◌++◌, length, get_or, map, Option, Some, None, refl, sym, ap, subst, ◌∙◌, arith, append-nil, ne_eqb}
 use Rattle.std.specs.List.{AllByRecursion, slice_get}
 use Rattle.std.proofs.lemmas.Bool.{eqb-true}
-use Rattle.std.proofs.lemmas.List.{get_or-map, length-map}
-use Rattle.std.proofs.lemmas.Option.{slice_get-get_or, slice_get_within, get_or_from_slice_get}
+use Rattle.std.proofs.lemmas.List.{length-map}
+use Rattle.std.proofs.lemmas.Option.{slice_get_within}
 use mathlib.Core.List.{IsPrefix}
 use Rattle.prcu_marks.specs.declared.mark.Mark.{Mark}
 use Rattle.prcu_marks.specs.declared.mark.Mark.TheVariants.{Entered, Left, Began, Ended, Done, Given, Unlinked, Freed}
@@ -17,7 +17,6 @@ use Rattle.prcu_marks.specs.Chains.{IsChain}
 use Rattle.prcu_marks.specs.Callers.{Caller}
 use Rattle.prcu_marks.specs.Runs.{FitsScripts}
 use Rattle.prcu_model.specs.Fronts.{Placed, all_told_lines, AreExplainable}
-use Rattle.prcu_marks.proofs.Chains.{chain_keeps}
 use Rattle.prcu_marks.proofs.MarkLists.{own_of-append}
 use Rattle.prcu_marks.proofs.OwnMarks.{own_of-all}
 use Rattle.prcu_marks.proofs.Callers.{HasTold}
@@ -29,7 +28,9 @@ use Rattle.class_hash.specs.Seats.{TableAt}
 use Rattle.class_hash.specs.Clients.{ClientAt, caller_of, HasCalled, ExplainsInClasses}
 use Rattle.class_hash.proofs.Clients.{chain_has_told, calls_stay}
 use Rattle.hash_run.specs.Capacities.{put_keys, AreCapacities}
-use Rattle.hash_run.specs.Crews.{idle_view, IsHired, IsCrew, IsDone, AreDone, IsJoined, all_own}
+use Rattle.client_run.specs.Crews.{IsCrew, AreDone, HaveMet}
+use Rattle.client_run.proofs.Crews.{mapped_at, some_there, entries_are, crew_ready, chain_of, crew_keeps, crew_has_told}
+use Rattle.hash_run.specs.Crews.{idle_view, client_for, IsDone, IsJoined, StandsFor, all_own}
 use Rattle.hash_run.proofs.Roomy.{PutsInto, each_put_there, all_stand, all_from_own, told_from_lines, all_lines_from_ops, at_number}
 
 -- a seat that has done nothing is informed
@@ -45,61 +46,40 @@ idle_informed capacities places place tickets = record {
   within = λ p far. refl;
 }
 
-pub ready : (table : TableAt) (scripts : List (List Op)) (workers : List (Work ClientAt)) → IsCrew table scripts workers → AreReadyFor (λ (c : ClientAt). c.view.tickets) workers scripts
-ready table scripts workers crew i worker there =
-    let hired = crew.each i worker there in
-    let tickets : worker.client.view.tickets ≡ length (get_or scripts i []) = ap (λ (c : ClientAt). c.view.tickets) hired.client in
-    record { empty = hired.empty; room = hired.room; means = omega arith }
+pub ready : (table : TableAt) (scripts : List (List Op)) (workers : List (Work ClientAt)) → IsCrew (client_for table) scripts workers → AreReadyFor (λ (c : ClientAt). c.view.tickets) workers scripts
+ready table scripts workers crew = crew_ready (client_for table) scripts (λ (c : ClientAt). c.view.tickets) (λ i n. omega arith) workers crew
 
-module _ (table : TableAt) (scripts : List (List Op)) (befores afters : List (Work ClientAt)) (crew : IsCrew table scripts befores) (count : length afters ≡ length befores) (made : HaveMade HasCalled befores scripts afters) where
-  -- the worker before, and its chain
-  before_of : (i : ℕ) (after : Work ClientAt) → slice_get afters i ≡ Some after → (before : Work ClientAt) × IsHired table i (get_or scripts i []) before × IsChain HasCalled before.client (get_or scripts i []) after.told.entries after.client
-  before_of i after there =
-      let below = slice_get_within afters i after there in
-      let same = slice_get-get_or befores i after (omega arith) in
-      (get_or befores i after, crew.each i (get_or befores i after) same, made i (get_or befores i after) after same there)
+same_views : (workers : List (Work ClientAt)) → map (λ (c : ClientAt). c.view) (map (λ (w : Work ClientAt). w.client) workers) ≡ map (λ (w : Work ClientAt). w.client.view) workers
+same_views [] = refl
+same_views (w ∷ ws) = ap (λ vs. w.client.view ∷ vs) (same_views ws)
 
-  done_at : (i : ℕ) (after : Work ClientAt) → slice_get afters i ≡ Some after → IsDone table i after
-  done_at i after there =
-      let b = before_of i after there in
-      let start : b.0.client ≡ record { table = table; view = idle_view i 1 (length (get_or scripts i [])) } = b.1.client in
-      let d = chain_keeps HasCalled (λ c. (c.table ≡ table) × (c.view.place ≡ i) × (c.view.places ≡ 1) × IsInformed table.capacities table.places c.view)
-      (λ c op told d so call.
-      let stays = calls_stay c.table.capacities c.view d.view op told call.makes in (
-        call.table ∙ so.0,
-        stays.0 ∙ so.1,
-        stays.1 ∙ so.2,
-        subst (λ (t : TableAt). IsInformed t.capacities t.places d.view) so.0 call.informed,
-      ))
-      (get_or scripts i []) after.told.entries b.0.client after.client
-      (ap (λ (c : ClientAt). c.table) start, ap (λ (c : ClientAt). c.view.place) start, ap (λ (c : ClientAt). c.view.places) start, subst (λ (c : ClientAt). IsInformed table.capacities table.places c.view) (sym start) (idle_informed table.capacities table.places i (length (get_or scripts i []))))
-      b.2 in
-      record { table_is = d.0; place = d.1; one_place = d.2; informed = d.3 }
+module _ (table : TableAt) (scripts : List (List Op)) (befores afters : List (Work ClientAt)) (crew : IsCrew (client_for table) scripts befores) (count : length afters ≡ length befores) (made : HaveMade HasCalled befores scripts afters) where
+  pub all_done : AreDone (IsDone table) afters
+  all_done = crew_keeps (client_for table) scripts HasCalled befores afters crew count made (IsDone table)
+      (λ i. record { table_is = refl; place = refl; one_place = refl; informed = idle_informed table.capacities table.places i (length (get_or scripts i [])) })
+      (λ i c op told d so call.
+      let stays = calls_stay c.table.capacities c.view d.view op told call.makes in record {
+        table_is = call.table ∙ so.table_is;
+        place = stays.0 ∙ so.place;
+        one_place = stays.1 ∙ so.one_place;
+        informed = subst (λ (t : TableAt). IsInformed t.capacities t.places d.view) so.table_is call.informed;
+      })
 
-  pub all_done : AreDone table afters
-  all_done i after there = done_at i after there
+  -- what the calls of a chain were told
+  told_by : (i : ℕ) (ops : List Op) (tolds : List Told) (after : ClientAt) → IsChain HasCalled (client_for table i (length ops)) ops tolds after → HasTold (ExplainsInClasses table.capacities) (newcomer i) ops tolds (caller_of after)
+  told_by i ops tolds after chain = chain_has_told table.capacities ops tolds (client_for table i (length ops)) after refl refl refl chain
 
-  -- what the worker's script was told
   told_at : (i : ℕ) (after : Work ClientAt) → slice_get afters i ≡ Some after → HasTold (ExplainsInClasses table.capacities) (newcomer i) (get_or scripts i []) after.told.entries (caller_of after.client)
-  told_at i after there =
-      let b = before_of i after there in
-      let start : b.0.client ≡ record { table = table; view = idle_view i 1 (length (get_or scripts i [])) } = b.1.client in
-      let fresh : caller_of b.0.client ≡ newcomer i = ap caller_of start in
-      let chain : IsChain HasCalled (record { table = table; view = idle_view i 1 (length (get_or scripts i [])) }) (get_or scripts i []) after.told.entries after.client =
-      subst (λ (c : ClientAt). IsChain HasCalled c (get_or scripts i []) after.told.entries after.client) start b.2 in
-      chain_has_told table.capacities (get_or scripts i []) after.told.entries (record { table = table; view = idle_view i 1 (length (get_or scripts i [])) }) after.client refl refl refl chain
+  told_at i after there = told_by i (get_or scripts i []) after.told.entries after.client (chain_of (client_for table) scripts HasCalled befores afters crew count made i after there)
 
   -- ---- the joined seat
 
-  module _ (seat : View) (joined : IsJoined (map (λ (w : Work ClientAt). w.client.view) afters) seat) (informed : IsInformed table.capacities table.places seat) (places : table.places ≡ length scripts) where
-    abbrev views : List View
-    views = map (λ (w : Work ClientAt). w.client.view) afters
+  module _ (seat : View) (stands : StandsFor table (map (λ (w : Work ClientAt). w.client) afters) seat) (places : table.places ≡ length scripts) where
+    joined : IsJoined (map (λ (w : Work ClientAt). w.client.view) afters) seat
+    joined = subst (λ vs. IsJoined vs seat) (same_views afters) stands.joined
 
     view_at : (i : ℕ) (after : Work ClientAt) → slice_get afters i ≡ Some after → slice_get (map (λ (w : Work ClientAt). w.client.view) afters) i ≡ Some after.client.view
-    view_at i after there =
-        let below = slice_get_within afters i after there in
-        slice_get-get_or (map (λ (w : Work ClientAt). w.client.view) afters) i after.client.view (let n = length-map afters (λ (w : Work ClientAt). w.client.view) in omega arith)
-        ∙ ap Some (get_or-map (λ (w : Work ClientAt). w.client.view) afters i after after.client.view below ∙ ap (λ (w : Work ClientAt). w.client.view) (get_or_from_slice_get afters i after after there))
+    view_at i after there = mapped_at (λ (w : Work ClientAt). w.client.view) afters i after there
 
     -- marks of another place
     not_of : (p q : ℕ) (m : Mark) → p ≢ q → is_of p m ≡ true → is_of q m ≡ false
@@ -142,48 +122,31 @@ module _ (table : TableAt) (scripts : List (List Op)) (befores afters : List (Wo
       where
         by : (found : Option (Work ClientAt)) → slice_get afters j ≡ found → j < length afters → AllByRecursion (λ m. is_of (0 + j) m ≡ true) v.own
         by None none below = absurd (some_there afters j below none)
-          where
-            some_there : (xs : List (Work ClientAt)) (k : ℕ) → k < length xs → slice_get xs k ≡ None → ⊥
-            some_there [] k low e = absurd (omega arith)
-            some_there (x ∷ xs) zero low e = absurd (cc)
-            some_there (x ∷ xs) (suc k) low e = some_there xs k (omega arith) e
         by (Some after) is below =
             let told = told_at j after is in
             let same : after.client.view ≡ v = (let e : Some after.client.view ≡ Some v = sym (view_at j after is) ∙ there in cc) in
             let place : j ≡ 0 + j = omega arith in
             subst (λ (z : List Mark × ℕ). AllByRecursion (λ m. is_of z.1 m ≡ true) z.0) (λ k. ((sym told.own ∙ ap (λ (z : View). z.own) same) k, place k)) told.mine
 
-    pub have_told : HaveTold (ExplainsInClasses table.capacities) scripts (map (λ (w : Work ClientAt). w.told.entries) afters) seat.seen
-    have_told = record {
-      count = length-map afters (λ (w : Work ClientAt). w.told.entries) ∙ count ∙ crew.count;
-      each = λ i below.
-          let n = crew.count in
-          let among : i < length afters = omega arith in
-          found i (slice_get afters i) refl among;
-      others = λ i past. informed.within i (omega arith);
-      legal = informed.legal;
-    }
+    -- the seat has met each caller
+    have_met : HaveMet (map (λ (w : Work ClientAt). caller_of w.client) afters) seat.seen
+    have_met i c there =
+        let below : i < length afters = (let n = length-map afters (λ (w : Work ClientAt). caller_of w.client) in let b = slice_get_within (map (λ (w : Work ClientAt). caller_of w.client) afters) i c there in omega arith) in
+        by (slice_get afters i) refl below
       where
-        found : (i : ℕ) (w : Option (Work ClientAt)) → slice_get afters i ≡ w → i < length afters
-            → (c : Caller) × HasTold (ExplainsInClasses table.capacities) (newcomer i) (get_or scripts i []) (get_or (map (λ (w : Work ClientAt). w.told.entries) afters) i []) c × IsPrefix c.seen seat.seen × (own_of i seat.seen ≡ own_of i c.own)
-        found i None none below = absurd (some_there afters i below none)
-          where
-            some_there : (xs : List (Work ClientAt)) (k : ℕ) → k < length xs → slice_get xs k ≡ None → ⊥
-            some_there [] k low e = absurd (omega arith)
-            some_there (x ∷ xs) zero low e = absurd (cc)
-            some_there (x ∷ xs) (suc k) low e = some_there xs k (omega arith) e
-        found i (Some after) is below =
+        by : (found : Option (Work ClientAt)) → slice_get afters i ≡ found → i < length afters → IsPrefix c.seen seat.seen × (own_of i seat.seen ≡ own_of i c.own)
+        by None none below = absurd (some_there afters i below none)
+        by (Some after) is below =
             let told = told_at i after is in
-            let here : get_or (map (λ (w : Work ClientAt). w.told.entries) afters) i [] ≡ after.told.entries = get_or-map (λ (w : Work ClientAt). w.told.entries) afters i after [] below ∙ ap (λ (w : Work ClientAt). w.told.entries) (get_or_from_slice_get afters i after after is) in
+            let same : caller_of after.client ≡ c = (let e : Some (caller_of after.client) ≡ Some c = sym (mapped_at (λ (w : Work ClientAt). caller_of w.client) afters i after is) ∙ there in cc) in
             let long = length-map afters (λ (w : Work ClientAt). w.client.view) in
             let mine : own_of i seat.seen ≡ after.client.view.own =
-            informed.met i (joined.answers i (omega arith)) ∙ ap (own_of i) joined.own ∙ own_among (map (λ (w : Work ClientAt). w.client.view) afters) 0 i each_own i after.client.view (omega arith) (view_at i after is) in
-            let all : own_of i after.client.view.own ≡ after.client.view.own = ap (own_of i) told.own ∙ own_of-all i told.marks told.mine ∙ sym told.own in (
-              caller_of after.client,
-              subst (λ ts. HasTold (ExplainsInClasses table.capacities) (newcomer i) (get_or scripts i []) ts (caller_of after.client)) (sym here) told,
-              joined.seen i after.client.view (view_at i after is),
-              mine ∙ sym all,
-            )
+            stands.informed.met i (joined.answers i (omega arith)) ∙ ap (own_of i) joined.own ∙ own_among (map (λ (w : Work ClientAt). w.client.view) afters) 0 i each_own i after.client.view (omega arith) (view_at i after is) in
+            let all : own_of i after.client.view.own ≡ after.client.view.own = ap (own_of i) told.own ∙ own_of-all i told.marks told.mine ∙ sym told.own in
+            subst (λ (z : Caller). IsPrefix z.seen seat.seen × (own_of i seat.seen ≡ own_of i z.own)) same (joined.seen i after.client.view (view_at i after is), mine ∙ sym all)
+
+    pub have_told : HaveTold (ExplainsInClasses table.capacities) scripts (map (λ (w : Work ClientAt). w.told.entries) afters) seat.seen
+    have_told = crew_has_told (client_for table) scripts HasCalled befores afters crew count made (ExplainsInClasses table.capacities) caller_of told_by seat.seen have_met (λ i past. stands.informed.within i (omega arith)) stands.informed.legal
 
     -- the run is explained, whatever the number of slots
     module _ (right : AreCapacities scripts table.capacities) where
@@ -212,16 +175,11 @@ module _ (table : TableAt) (scripts : List (List Op)) (befores afters : List (Wo
       pub run_marks : FitsScripts scripts seat.seen
       run_marks = run_fits (ExplainsInClasses table.capacities) scripts (map (λ (w : Work ClientAt). w.told.entries) afters) seat.seen have_told
 
--- what workers were told, as lists
-pub entries_are : (workers : List (Work ClientAt)) → entries_of (map (λ (w : Work ClientAt). w.told) workers) ≡ map (λ (w : Work ClientAt). w.told.entries) workers
-entries_are [] = refl
-entries_are (w ∷ ws) = ap (λ xs. w.told.entries ∷ xs) (entries_are ws)
-
 -- What a run hands on once its seats are one: these told lists are explained by the updates that the seat has seen.
-pub told_explained : (table : TableAt) (scripts : List (List Op)) (befores afters : List (Work ClientAt)) → IsCrew table scripts befores → length afters ≡ length befores → HaveMade HasCalled befores scripts afters
-    → (seat : View) → IsJoined (map (λ (w : Work ClientAt). w.client.view) afters) seat → IsInformed table.capacities table.places seat → table.places ≡ length scripts → AreCapacities scripts table.capacities
+pub told_explained : (table : TableAt) (scripts : List (List Op)) (befores afters : List (Work ClientAt)) → IsCrew (client_for table) scripts befores → length afters ≡ length befores → HaveMade HasCalled befores scripts afters
+    → (seat : View) → StandsFor table (map (λ (w : Work ClientAt). w.client) afters) seat → table.places ≡ length scripts → AreCapacities scripts table.capacities
     → (told : List (Roomy Told)) → told ≡ [] ++ map (λ (w : Work ClientAt). w.told) afters
     → (slots : ℕ) → AreExplainable scripts (entries_of told) (updates_of seat.seen) slots
-told_explained table scripts befores afters crew count made seat joined informed places right told is slots =
+told_explained table scripts befores afters crew count made seat stands places right told is slots =
     subst (λ ts. AreExplainable scripts ts (updates_of seat.seen) slots) (sym (ap entries_of is ∙ entries_are afters))
-    (run_explained table scripts befores afters crew count made seat joined informed places right slots)
+    (run_explained table scripts befores afters crew count made seat stands places right slots)

@@ -2,7 +2,8 @@
 ghost use Rattle.std.specs.Prelude.{◌≡◌, ℕ, ◌≤◌, length, IfOk};
 ghost use Rattle.prcu_model.specs.Scripts.{op_count};
 ghost use Rattle.hash_core.specs.Steps.{IsQuiet};
-ghost use Rattle.hash_run.specs.Crews.{idle_view, IsHired, IsCrew};
+ghost use Rattle.client_run.specs.Crews.{IsHired, IsCrew};
+ghost use Rattle.hash_run.specs.Crews.{idle_view, client_for};
 
 use class_hash::{HashClient, HashSeat, HashTable};
 use client_run::Worker;
@@ -21,7 +22,7 @@ pub(crate) fn hire<'a, G: Gate>(
     requires table { seat.table ≡ table.now.id }
     requires some { 1 ≤ length scripts.now }
     requires seat { seat.view ≡ idle_view 0 (length scripts.now) (op_count scripts.now) }
-    ensures { IfOk result (λ workers. IsCrew table.now scripts.now workers.items) }
+    ensures { IfOk result (λ workers. IsCrew (client_for table.now) scripts.now workers.items) }
 {
     let mut workers = Vec::with_capacity(alloc, scripts.count() as usize)?;
     let mut rest = seat;
@@ -48,7 +49,7 @@ fn hire_one<'a, G: Gate>(
     requires table { seat.table ≡ table.now.id }
     requires quiet { IsQuiet seat.view }
     requires script { length script.now ≤ 1048576 }
-    ensures { (place : ℕ) → seat.view ≡ idle_view place 1 (length script.now) → IfOk result (λ worker. IsHired table.now place script.now worker) }
+    ensures { (place : ℕ) → seat.view ≡ idle_view place 1 (length script.now) → IfOk result (λ worker. IsHired (client_for table.now place (length script.now)) script.now worker) }
 {
     Worker::new(
         alloc,

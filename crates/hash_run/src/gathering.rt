@@ -1,7 +1,10 @@
 //! Workers that have made their scripts' calls: their seats as one, and what each was told.
-ghost use Rattle.std.specs.Prelude.{◌≡◌, ◌+◌, ◌≤◌, ◌++◌, length, map, vec_len, vec_capacity};
-ghost use Rattle.class_hash.specs.Answers.{IsInformed};
-ghost use Rattle.hash_run.specs.Crews.{AreDone, HasDismissed, IsJoined};
+ghost use Rattle.std.specs.Prelude.{◌≡◌, ◌+◌, ◌≤◌, ◌∷◌, ◌++◌, length, map, vec_len, vec_capacity};
+ghost use Rattle.class_hash.specs.Clients.{ClientAt};
+ghost use Rattle.client_run.specs.Workers.{Work};
+ghost use Rattle.client_run.specs.Crews.{AreDone, HasDismissed};
+ghost use Rattle.hash_core.specs.Steps.{IsQuiet};
+ghost use Rattle.hash_run.specs.Crews.{IsDone, StandsFor};
 
 use class_hash::{HashClient, HashSeat, HashTable};
 use client_run::Worker;
@@ -14,12 +17,11 @@ pub(crate) fn gather<G: Gate>(
     workers: Vec<Worker<HashClient<'_, G>>>,
     told: &mut Vec<ToldList>,
 ) -> HashSeat
-    requires done { AreDone table.now workers.items }
+    requires done { AreDone (IsDone table.now) workers.items }
     requires some { 1 ≤ vec_len workers }
     requires room { vec_len told.old + vec_len workers ≤ vec_capacity told.old }
     ensures table { result.table ≡ table.now.id }
-    ensures joined { IsJoined (map (λ worker. worker.client.view) workers.entry.items) result.view }
-    ensures informed { IsInformed table.now.capacities table.now.places result.view }
+    ensures joined { StandsFor table.now (map (λ worker. worker.client) workers.entry.items) result.view }
     ensures told { told.new.items ≡ told.old.items ++ map (λ worker. worker.told) workers.entry.items }
 {
     let mut rest = workers;
@@ -37,7 +39,9 @@ fn dismiss_first<G: Gate>(
 ) -> HashSeat
     requires some { 1 ≤ vec_len workers.old }
     requires room { vec_len told.old + 1 ≤ vec_capacity told.old }
-    ensures seat { HasDismissed workers.old.items workers.new.items told.old.items told.new.items result.table result.view }
+    ensures seat { HasDismissed (λ client. client.view) workers.old.items workers.new.items told.old.items told.new.items result.view }
+    ensures table { (worker : Work ClientAt) → workers.old.items ≡ worker ∷ workers.new.items → result.table ≡ worker.client.table.id }
+    ensures quiet { IsQuiet result.view }
     ensures lengths { (vec_len workers.old ≡ vec_len workers.new + 1) × (vec_len told.new ≡ vec_len told.old + 1) }
     ensures room { vec_capacity told.old ≤ vec_capacity told.new }
 {

@@ -13,7 +13,8 @@ ghost use Rattle.class_hash.specs.Answers.{IsInformed};
 ghost use Rattle.class_hash.specs.Seats.{TableAt};
 ghost use Rattle.class_hash.specs.Clients.{HasCalled};
 ghost use Rattle.hash_run.specs.Capacities.{AreCapacities};
-ghost use Rattle.hash_run.specs.Crews.{HaveNoWaits, IsCrew};
+ghost use Rattle.client_run.specs.Crews.{IsCrew};
+ghost use Rattle.hash_run.specs.Crews.{HaveNoWaits, client_for};
 
 use crate::capacities::capacities_for;
 use crate::crew::hire;
@@ -83,7 +84,7 @@ fn run_crew<'a, R: Threads + Wait + Sync, G: Gate + Sync>(
     mut workers: Vec<Worker<HashClient<'a, G>>>,
     scripts: &Scripts,
 ) -> Vec<Worker<HashClient<'a, G>>>
-    requires crew { (table : TableAt) × IsCrew table scripts.now workers.items }
+    requires crew { (table : TableAt) × IsCrew (client_for table) scripts.now workers.items }
     ensures count { length result.items ≡ length workers.entry.items }
     ensures made { HaveMade HasCalled workers.entry.items scripts.now result.items }
 {

@@ -5,8 +5,10 @@ use Rattle.prcu_model.specs.declared.operation.Op.{Op}
 use Rattle.prcu_model.specs.Scripts.{op_count}
 use Rattle.hash_core.specs.declared.view.View.{View}
 use Rattle.hash_core.specs.Steps.{first_of, second_of}
-use Rattle.hash_run.specs.Crews.{idle_view, IsHired, IsCrew}
-use Rattle.hash_run.proofs.Hiring.{AreHired, hired_more, tickets_turn, idle_first, idle_second}
+use Rattle.client_run.specs.Crews.{IsHired, AreHired, IsCrew}
+use Rattle.client_run.proofs.Crews.{hired_more, tickets_turn}
+use Rattle.hash_run.specs.Crews.{idle_view, client_for}
+use Rattle.hash_run.proofs.Hiring.{idle_first, idle_second}
 use Rattle.hash_run.proofs.crew.hire.Goals as goal
 
 pub overflow_sub-tickets : goal.overflow_sub-tickets
@@ -36,10 +38,10 @@ loop-i-preserved g c =
     views.1 ∙ ap (second_of (c.count-last.result - 1 - c.loop-i.i) (c.tickets.result - length c.script-script.result.now)) left
     ∙ idle_second c.loop-i.i (length c.args.scripts.now - c.loop-i.i) (op_count (drop c.loop-i.i c.args.scripts.now)) (c.count-last.result - 1 - c.loop-i.i) (c.tickets.result - length c.script-script.result.now) (omega arith)
     ∙ (let n : c.count-last.result - 1 - c.loop-i.i ≡ length c.args.scripts.now - (c.loop-i.i + 1) = omega arith in λ j. idle_view (c.loop-i.i + 1) (n j) (given j)) in
-    let worker : IsHired c.args.table.now c.loop-i.i c.script-script.result.now c.in_ok-hire_one.field-0 = c.in_ok-hire_one.ensures c.loop-i.i mine in
+    let worker : IsHired (client_for c.args.table.now c.loop-i.i (length c.script-script.result.now)) c.script-script.result.now c.in_ok-hire_one.field-0 = c.in_ok-hire_one.ensures c.loop-i.i mine in
     record {
-      hired = subst (AreHired c.args.table.now c.args.scripts.now (c.loop-i.i + 1)) (sym (c.in_ok-push.ensures.items))
-          (hired_more c.args.table.now c.args.scripts.now c.loop-i.i c.loop-i.workers.items c.in_ok-hire_one.field-0 c.loop-i.invariant.hired (subst (λ (s : List Op). IsHired c.args.table.now c.loop-i.i s c.in_ok-hire_one.field-0) (sym is) worker));
+      hired = subst (AreHired (client_for c.args.table.now) c.args.scripts.now (c.loop-i.i + 1)) (sym (c.in_ok-push.ensures.items))
+          (hired_more (client_for c.args.table.now) c.args.scripts.now c.loop-i.i c.loop-i.workers.items c.in_ok-hire_one.field-0 c.loop-i.invariant.hired (subst (λ (s : List Op). IsHired (client_for c.args.table.now c.loop-i.i (length s)) s c.in_ok-hire_one.field-0) (sym is) worker));
       of_table = c.split-mine.ensures.table.1 ∙ c.loop-i.invariant.of_table;
       left = others;
     }
@@ -58,7 +60,7 @@ returns g c =
     let left = c.loop-i.invariant.left in
     let mine : c.loop-i.rest.view ≡ idle_view c.loop-i.i 1 (length c.script.result.now) =
     left ∙ (let n : length c.args.scripts.now - c.loop-i.i ≡ 1 = omega arith in let t : op_count (drop c.loop-i.i c.args.scripts.now) ≡ length c.script.result.now = omega arith in λ j. idle_view c.loop-i.i (n j) (t j)) in
-    let worker : IsHired c.args.table.now c.loop-i.i c.script.result.now c.in_ok-hire_one-2.field-0 = c.in_ok-hire_one-2.ensures c.loop-i.i mine in
-    let all = hired_more c.args.table.now c.args.scripts.now c.loop-i.i c.loop-i.workers.items c.in_ok-hire_one-2.field-0 c.loop-i.invariant.hired (subst (λ (s : List Op). IsHired c.args.table.now c.loop-i.i s c.in_ok-hire_one-2.field-0) (sym is) worker) in
-    subst (IsCrew c.args.table.now c.args.scripts.now) (sym (c.in_ok-push-2.ensures.items))
+    let worker : IsHired (client_for c.args.table.now c.loop-i.i (length c.script.result.now)) c.script.result.now c.in_ok-hire_one-2.field-0 = c.in_ok-hire_one-2.ensures c.loop-i.i mine in
+    let all = hired_more (client_for c.args.table.now) c.args.scripts.now c.loop-i.i c.loop-i.workers.items c.in_ok-hire_one-2.field-0 c.loop-i.invariant.hired (subst (λ (s : List Op). IsHired (client_for c.args.table.now c.loop-i.i (length s)) s c.in_ok-hire_one-2.field-0) (sym is) worker) in
+    subst (IsCrew (client_for c.args.table.now) c.args.scripts.now) (sym (c.in_ok-push-2.ensures.items))
     (record { count = (let n = all.count in omega arith); each = all.each })

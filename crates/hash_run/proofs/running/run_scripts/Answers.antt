@@ -22,7 +22,7 @@ merge-requires-clause-lengths g c =
     let table = c.in_ok-table.ensures.made in
     let capacities : AreCapacities c.args.scripts.now c.in_ok-table.table.capacities = subst (AreCapacities c.args.scripts.now) (sym table.0) c.in_ok-capacities.ensures.capacities in
     let given : c.deref.result.now ≡ [] ++ map (λ (w : Work ClientAt). w.told) c.run_crew.result.items = c.deref.ensures.value ∙ c.gather-seat.ensures.told ∙ ap (λ ts. ts ++ map (λ (w : Work ClientAt). w.told) c.run_crew.result.items) c.in_ok-told.ensures.items in
-    let all = told_explained c.in_ok-table.table c.args.scripts.now c.in_ok-workers.workers.items c.run_crew.result.items c.in_ok-workers.ensures c.run_crew.ensures.count c.run_crew.ensures.made c.gather-seat.result.view c.gather-seat.ensures.joined c.gather-seat.ensures.informed (table.1 ∙ c.count-count.ensures.count) capacities c.deref.result.now given in
+    let all = told_explained c.in_ok-table.table c.args.scripts.now c.in_ok-workers.workers.items c.run_crew.result.items c.in_ok-workers.ensures c.run_crew.ensures.count c.run_crew.ensures.made c.gather-seat.result.view c.gather-seat.ensures.joined (table.1 ∙ c.count-count.ensures.count) capacities c.deref.result.now given in
     (all 0).lengths
 
 pub merge-requires-clause-numbers : goal.merge-requires-clause-numbers
@@ -30,7 +30,7 @@ merge-requires-clause-numbers g c =
     let table = c.in_ok-table.ensures.made in
     let capacities : AreCapacities c.args.scripts.now c.in_ok-table.table.capacities = subst (AreCapacities c.args.scripts.now) (sym table.0) c.in_ok-capacities.ensures.capacities in
     let given : c.deref.result.now ≡ [] ++ map (λ (w : Work ClientAt). w.told) c.run_crew.result.items = c.deref.ensures.value ∙ c.gather-seat.ensures.told ∙ ap (λ ts. ts ++ map (λ (w : Work ClientAt). w.told) c.run_crew.result.items) c.in_ok-told.ensures.items in
-    let all = told_explained c.in_ok-table.table c.args.scripts.now c.in_ok-workers.workers.items c.run_crew.result.items c.in_ok-workers.ensures c.run_crew.ensures.count c.run_crew.ensures.made c.gather-seat.result.view c.gather-seat.ensures.joined c.gather-seat.ensures.informed (table.1 ∙ c.count-count.ensures.count) capacities c.deref.result.now given in
+    let all = told_explained c.in_ok-table.table c.args.scripts.now c.in_ok-workers.workers.items c.run_crew.result.items c.in_ok-workers.ensures c.run_crew.ensures.count c.run_crew.ensures.made c.gather-seat.result.view c.gather-seat.ensures.joined (table.1 ∙ c.count-count.ensures.count) capacities c.deref.result.now given in
     AreOneToCount-own (updates_of c.gather-seat.result.view.seen) (all_told_lines c.args.scripts.now (entries_of c.deref.result.now)) ((all 0).explained.updates)
 
 pub returns-clause-explained : goal.returns-clause-explained
@@ -38,7 +38,7 @@ returns-clause-explained g c slots =
     let table = c.in_ok-table.ensures.made in
     let capacities : AreCapacities c.args.scripts.now c.in_ok-table.table.capacities = subst (AreCapacities c.args.scripts.now) (sym table.0) c.in_ok-capacities.ensures.capacities in
     let given : c.deref.result.now ≡ [] ++ map (λ (w : Work ClientAt). w.told) c.run_crew.result.items = c.deref.ensures.value ∙ c.gather-seat.ensures.told ∙ ap (λ ts. ts ++ map (λ (w : Work ClientAt). w.told) c.run_crew.result.items) c.in_ok-told.ensures.items in
-    let all = told_explained c.in_ok-table.table c.args.scripts.now c.in_ok-workers.workers.items c.run_crew.result.items c.in_ok-workers.ensures c.run_crew.ensures.count c.run_crew.ensures.made c.gather-seat.result.view c.gather-seat.ensures.joined c.gather-seat.ensures.informed (table.1 ∙ c.count-count.ensures.count) capacities c.deref.result.now given in
+    let all = told_explained c.in_ok-table.table c.args.scripts.now c.in_ok-workers.workers.items c.run_crew.result.items c.in_ok-workers.ensures c.run_crew.ensures.count c.run_crew.ensures.made c.gather-seat.result.view c.gather-seat.ensures.joined (table.1 ∙ c.count-count.ensures.count) capacities c.deref.result.now given in
     let tell : TellOwnUpdates (updates_of c.gather-seat.result.view.seen) (all_told_lines c.args.scripts.now (entries_of c.deref.result.now)) = (all 0).explained.updates in
     let history : c.in_ok-history.history.items ≡ updates_of c.gather-seat.result.view.seen = c.in_ok-history.ensures.only (updates_of c.gather-seat.result.view.seen) tell in
     subst (λ ts. AreExplainable c.args.scripts.now (entries_of ts) c.in_ok-history.history.items slots) c.deref.ensures.value
@@ -49,17 +49,17 @@ returns-clause-legal g c =
     let table = c.in_ok-table.ensures.made in
     let capacities : AreCapacities c.args.scripts.now c.in_ok-table.table.capacities = subst (AreCapacities c.args.scripts.now) (sym table.0) c.in_ok-capacities.ensures.capacities in
     let given : c.deref.result.now ≡ [] ++ map (λ (w : Work ClientAt). w.told) c.run_crew.result.items = c.deref.ensures.value ∙ c.gather-seat.ensures.told ∙ ap (λ ts. ts ++ map (λ (w : Work ClientAt). w.told) c.run_crew.result.items) c.in_ok-told.ensures.items in
-    let all = told_explained c.in_ok-table.table c.args.scripts.now c.in_ok-workers.workers.items c.run_crew.result.items c.in_ok-workers.ensures c.run_crew.ensures.count c.run_crew.ensures.made c.gather-seat.result.view c.gather-seat.ensures.joined c.gather-seat.ensures.informed (table.1 ∙ c.count-count.ensures.count) capacities c.deref.result.now given in
+    let all = told_explained c.in_ok-table.table c.args.scripts.now c.in_ok-workers.workers.items c.run_crew.result.items c.in_ok-workers.ensures c.run_crew.ensures.count c.run_crew.ensures.made c.gather-seat.result.view c.gather-seat.ensures.joined (table.1 ∙ c.count-count.ensures.count) capacities c.deref.result.now given in
     let tell : TellOwnUpdates (updates_of c.gather-seat.result.view.seen) (all_told_lines c.args.scripts.now (entries_of c.deref.result.now)) = (all 0).explained.updates in
     let history : c.in_ok-history.history.items ≡ updates_of c.gather-seat.result.view.seen = c.in_ok-history.ensures.only (updates_of c.gather-seat.result.view.seen) tell in
-    subst IsLegal (sym history) c.gather-seat.ensures.informed.legal
+    subst IsLegal (sym history) c.gather-seat.ensures.joined.informed.legal
 
 pub returns-clause-history : goal.returns-clause-history
 returns-clause-history g c =
     let table = c.in_ok-table.ensures.made in
     let capacities : AreCapacities c.args.scripts.now c.in_ok-table.table.capacities = subst (AreCapacities c.args.scripts.now) (sym table.0) c.in_ok-capacities.ensures.capacities in
     let given : c.deref.result.now ≡ [] ++ map (λ (w : Work ClientAt). w.told) c.run_crew.result.items = c.deref.ensures.value ∙ c.gather-seat.ensures.told ∙ ap (λ ts. ts ++ map (λ (w : Work ClientAt). w.told) c.run_crew.result.items) c.in_ok-told.ensures.items in
-    let all = told_explained c.in_ok-table.table c.args.scripts.now c.in_ok-workers.workers.items c.run_crew.result.items c.in_ok-workers.ensures c.run_crew.ensures.count c.run_crew.ensures.made c.gather-seat.result.view c.gather-seat.ensures.joined c.gather-seat.ensures.informed (table.1 ∙ c.count-count.ensures.count) capacities c.deref.result.now given in
+    let all = told_explained c.in_ok-table.table c.args.scripts.now c.in_ok-workers.workers.items c.run_crew.result.items c.in_ok-workers.ensures c.run_crew.ensures.count c.run_crew.ensures.made c.gather-seat.result.view c.gather-seat.ensures.joined (table.1 ∙ c.count-count.ensures.count) capacities c.deref.result.now given in
     let tell : TellOwnUpdates (updates_of c.gather-seat.result.view.seen) (all_told_lines c.args.scripts.now (entries_of c.deref.result.now)) = (all 0).explained.updates in
     let history : c.in_ok-history.history.items ≡ updates_of c.gather-seat.result.view.seen = c.in_ok-history.ensures.only (updates_of c.gather-seat.result.view.seen) tell in
     history
@@ -68,14 +68,15 @@ pub returns-clause-marks : goal.returns-clause-marks
 returns-clause-marks g c =
     let table = c.in_ok-table.ensures.made in
     let capacities : AreCapacities c.args.scripts.now c.in_ok-table.table.capacities = subst (AreCapacities c.args.scripts.now) (sym table.0) c.in_ok-capacities.ensures.capacities in
-    run_marks c.in_ok-table.table c.args.scripts.now c.in_ok-workers.workers.items c.run_crew.result.items c.in_ok-workers.ensures c.run_crew.ensures.count c.run_crew.ensures.made c.gather-seat.result.view c.gather-seat.ensures.joined c.gather-seat.ensures.informed (table.1 ∙ c.count-count.ensures.count) capacities
+    run_marks c.in_ok-table.table c.args.scripts.now c.in_ok-workers.workers.items c.run_crew.result.items c.in_ok-workers.ensures c.run_crew.ensures.count c.run_crew.ensures.made c.gather-seat.result.view c.gather-seat.ensures.joined (table.1 ∙ c.count-count.ensures.count) capacities
 
 pub returns-clause-waits : goal.returns-clause-waits
-returns-clause-waits g c = λ j place count low high there. c.gather-seat.ensures.informed.marks.others j (Began place count low high) there
+returns-clause-waits g c = λ j place count low high there. c.gather-seat.ensures.joined.informed.marks.others j (Began place count low high) there
 
 pub returns-clause-answers : goal.returns-clause-answers
 returns-clause-answers g c = λ place below.
     let hired = c.in_ok-workers.ensures.count in
     let ran = c.run_crew.ensures.count in
-    let long = length-map c.run_crew.result.items (λ (w : Work ClientAt). w.client.view) in
-    c.gather-seat.ensures.joined.answers place (omega arith)
+    let clients = length-map c.run_crew.result.items (λ (w : Work ClientAt). w.client) in
+    let views = length-map (map (λ (w : Work ClientAt). w.client) c.run_crew.result.items) (λ (client : ClientAt). client.view) in
+    c.gather-seat.ensures.joined.joined.answers place (omega arith)

@@ -1,0 +1,24 @@
+-- A seat that has done nothing, cut into one for each script.
+use Rattle.std.proofs.Common.{◌≡◌, ℕ, ◌+◌, ◌-◌, [], ap, ◌∙◌, arith}
+use Rattle.core_state.specs.declared.view.View.{View}
+use Rattle.core_state.specs.steps.Seating.{new_view, first_of, second_of}
+use Rattle.seat_table.specs.Seats.{TableAt, SeatAt}
+use Rattle.tree_run.specs.Runs.{seat_for}
+
+seat_is : (table : TableAt) (view : View) (s : SeatAt) → s.table ≡ table → s.view ≡ view → s.listed ≡ [] → s ≡ record { table = table; view = view; listed = [] }
+seat_is table view s of_table sees lists = λ j. record { table = of_table j; view = sees j; listed = lists j }
+
+-- a split leaves the first place and gives away the others, or the other way about
+pub idle_first : (table : TableAt) (place places tickets away given : ℕ) (was s : SeatAt) → was ≡ seat_for table place places tickets → s.table ≡ was.table → s.view ≡ first_of away given was.view → s.listed ≡ was.listed
+    → places ≡ away + 1 → s ≡ seat_for table place 1 (tickets - given)
+idle_first table place places tickets away given was s is of_table sees lists all =
+    let one : places - away ≡ 1 = omega arith in
+    seat_is table (new_view place 1 (tickets - given) []) s (of_table ∙ ap (λ (x : SeatAt). x.table) is)
+    (sees ∙ ap (λ (x : SeatAt). first_of away given x.view) is ∙ ap (λ n. new_view place n (tickets - given) []) one) (lists ∙ ap (λ (x : SeatAt). x.listed) is)
+
+pub idle_second : (table : TableAt) (place places tickets away given : ℕ) (was s : SeatAt) → was ≡ seat_for table place places tickets → s.table ≡ was.table → s.view ≡ second_of away given was.view → s.listed ≡ []
+    → places ≡ away + 1 → s ≡ seat_for table (place + 1) away given
+idle_second table place places tickets away given was s is of_table sees lists all =
+    let next : place + places - away ≡ place + 1 = omega arith in
+    seat_is table (new_view (place + 1) away given []) s (of_table ∙ ap (λ (x : SeatAt). x.table) is)
+    (sees ∙ ap (λ (x : SeatAt). second_of away given x.view) is ∙ ap (λ n. new_view n away given []) next) lists

@@ -1,0 +1,3 @@
+pub mod Hiring
+pub mod Joined
+pub mod Finished

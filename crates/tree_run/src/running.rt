@@ -1,0 +1,94 @@
+//! Scripts run beside each other.
+ghost use Rattle.std.specs.Prelude.{◌≡◌, ℕ, ◌<◌, ◌≤◌, ◌*◌, IfOk, length};
+ghost use Rattle.prcu_model.specs.Fronts.{AreExplainable};
+ghost use Rattle.prcu_model.specs.History.{IsLegal};
+ghost use Rattle.prcu_model.specs.Slots.{StaysWithin};
+ghost use Rattle.prcu_model.specs.Lists.{entries_of};
+ghost use Rattle.prcu_model.specs.Scripts.{op_count};
+ghost use Rattle.prcu_marks.specs.Marks.{updates_of};
+ghost use Rattle.prcu_marks.specs.Runs.{FitsScripts};
+ghost use Rattle.client_run.specs.Workers.{HaveMade};
+ghost use Rattle.client_run.specs.Crews.{IsCrew};
+ghost use Rattle.list_laws.specs.Counts.{times};
+ghost use Rattle.core_state.specs.views.Views.{places_of};
+ghost use Rattle.seat_table.specs.Seats.{TableAt, IsQuietSeat};
+ghost use Rattle.seat_table.specs.Gains.{IsInformed};
+ghost use Rattle.citrus_tree.specs.Clients.{HasCalled};
+ghost use Rattle.tree_run.specs.Runs.{client_for};
+
+use crate::crew::{TICKETS, hire};
+use crate::gathering::gather;
+use citrus_tree::TreeClient;
+use client_run::{Worker, merge, run_all};
+use prcu_marks::Gate;
+use prcu_model::{NoMemory, Scripts, ToldList, Update};
+use seat_table::{CitrusTable, Seat, WaitPart};
+use std::alloc::Global;
+use std::sync::Wait;
+use std::thread::Threads;
+
+/// What a run leaves.
+#[derive(Drop)]
+pub struct TreeRun<W: WaitPart> {
+    /// What each script was told.
+    pub told: Vec<ToldList>,
+    /// All updates, in their order.
+    pub history: Vec<Update>,
+    pub table: CitrusTable<W>,
+    /// The seats of all clients, as one.
+    pub seat: Seat<W>,
+}
+
+/// Runs each script by a client of its own on one new tree with so many slots, in threads beside each other where they can be made.
+/// One legal history explains what the scripts were told. It is that of the updates among the marks that the joined seat has seen, and
+/// at none of its fronts were there more pairs than slots. That seat may go on: it is quiet, answers for the place of every script, and
+/// is informed of all that their clients did.
+pub fn run_scripts<R: Threads + Wait + Sync, W: WaitPart + Sync, G: Gate + Sync>(
+    rt: &R,
+    alloc: Global,
+    scripts: &Scripts,
+    slots: u32,
+    gate: &G,
+) -> Result<TreeRun<W>, NoMemory>
+    requires way { W.WAY ≤ 2 }
+    requires some { 1 ≤ length scripts.now }
+    requires slots { (1 ≤ slots) × (slots ≤ 2097152) }
+    ensures explained { IfOk result (λ run. AreExplainable scripts.now (entries_of run.told.items) run.history.items slots) }
+    ensures legal { IfOk result (λ run. IsLegal run.history.items) }
+    ensures within { IfOk result (λ run. StaysWithin run.history.items slots) }
+    ensures history { IfOk result (λ run. run.history.items ≡ updates_of run.seat.view.seen) }
+    ensures marks { IfOk result (λ run. FitsScripts scripts.now run.seat.view.seen) }
+    ensures table { IfOk result (λ run. (run.table.slots ≡ slots) × (run.table.places ≡ length scripts.now) × (run.table.tickets ≡ 4 * op_count scripts.now)) }
+    ensures seat { IfOk result (λ run. run.seat.table ≡ run.table) }
+    ensures quiet { IfOk result (λ run. IsQuietSeat run.seat) }
+    ensures informed { IfOk result (λ run. IsInformed run.seat.view) }
+    ensures answers { IfOk result (λ run. (place : ℕ) → place < length scripts.now → 1 ≤ times place (places_of run.seat.view)) }
+{
+    let count = scripts.count();
+    let tickets = TICKETS * u64::from(scripts.ops());
+    let (table, seat) = CitrusTable::new(alloc, slots, count, tickets)?;
+    let mut told = Vec::with_capacity(alloc, count as usize)?;
+    let workers = hire(alloc, &table, seat, gate, scripts)?;
+    let seat = gather(&table, run_crew(rt, workers, scripts), &mut told);
+    let history = merge(alloc, scripts, &told)?;
+    Ok(TreeRun {
+        told,
+        history,
+        table,
+        seat,
+    })
+}
+
+// The workers, after they have run their scripts.
+fn run_crew<'a, R: Threads + Wait + Sync, W: WaitPart + Sync, G: Gate + Sync>(
+    rt: &R,
+    mut workers: Vec<Worker<TreeClient<'a, W, G>>>,
+    scripts: &Scripts,
+) -> Vec<Worker<TreeClient<'a, W, G>>>
+    requires crew { (table : TableAt) × IsCrew (client_for W.WAY table) scripts.now workers.items }
+    ensures count { length result.items ≡ length workers.entry.items }
+    ensures made { HaveMade HasCalled workers.entry.items scripts.now result.items }
+{
+    run_all(rt, &mut workers, scripts);
+    workers
+}
