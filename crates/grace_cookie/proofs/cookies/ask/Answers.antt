@@ -1,0 +1,43 @@
+use Rattle.std.proofs.Common.{sym, ap, ◌∙◌, refl}
+use Rattle.core_state.specs.declared.shape.Shape.{Shape}
+use Rattle.seat_table.specs.Seats.{shape_of}
+use Rattle.grace_cookie.specs.Cookies.{CookieAt}
+use Rattle.grace_cookie.proofs.Counting.{is_latest}
+use Rattle.grace_cookie.proofs.Asking.{found_over, over_of, over_kept, going_kept}
+use Rattle.grace_cookie.proofs.Quiet.{over_quiet, looked_quiet}
+use Rattle.grace_cookie.proofs.cookies.ask.Goals as goal
+
+pub returns-in-Over-clause-asked : goal.returns-in-Over-clause-asked
+returns-in-Over-clause-asked g c =
+    let k : Shape = shape_of g.W.WaitWords.WAY c.args.table.now in
+    let was = sym (ap (λ (z : CookieAt). z.over) c.cookie.view_is) ∙ c.if-cookie.false in
+    let latest = is_latest _ _ _ _ c.requires.of.begun c.waits-latest.ensures (ap (λ (z : CookieAt). z.count) c.cookie.view_is) c.if-latest-cookie.false in
+    found_over k c.args.cookie.now c.args.seat.now.view c.poll.new.seat.view c.requires.of was latest c.in-Over.ensures.polled _ refl
+
+pub returns-in-Over-clause-of : goal.returns-in-Over-clause-of
+returns-in-Over-clause-of g c =
+    let k : Shape = shape_of g.W.WaitWords.WAY c.args.table.now in
+    let was = sym (ap (λ (z : CookieAt). z.over) c.cookie.view_is) ∙ c.if-cookie.false in
+    let same = ap (λ (z : CookieAt). z.count) c.cookie.view_is in
+    let latest = is_latest _ _ _ _ c.requires.of.begun c.waits-latest.ensures same c.if-latest-cookie.false in
+    over_of k c.args.cookie.now c.args.seat.now.view c.poll.new.seat.view c.requires.of was latest c.in-Over.ensures.polled _ refl same
+
+pub returns-in-Over-clause-kept : goal.returns-in-Over-clause-kept
+returns-in-Over-clause-kept g c =
+    let k : Shape = shape_of g.W.WaitWords.WAY c.args.table.now in
+    let was = sym (ap (λ (z : CookieAt). z.over) c.cookie.view_is) ∙ c.if-cookie.false in
+    let same = ap (λ (z : CookieAt). z.count) c.cookie.view_is in
+    let latest = is_latest _ _ _ _ c.requires.of.begun c.waits-latest.ensures same c.if-latest-cookie.false in
+    over_kept k c.args.cookie.now c.args.seat.now.view c.poll.new.seat.view c.requires.of was latest c.in-Over.ensures.polled _ c.args.seat.now c.poll.new.seat refl same (ap (λ (z : CookieAt). z.slots) c.cookie.view_is) refl refl c.in-Over.ensures.seat.1
+
+pub returns-in-NotYet-clause-kept : goal.returns-in-NotYet-clause-kept
+returns-in-NotYet-clause-kept g c =
+    let p = c.in-NotYet.ensures.polled in
+    let is = c.cookie.view_is in
+    going_kept c.args.cookie.now _ c.args.seat.now.view c.poll.new.seat.view p.0 p.1 p.2 c.args.seat.now c.poll.new.seat p.4 p.3 (ap (λ (z : CookieAt). z.over) is) (ap (λ (z : CookieAt). z.count) is) (ap (λ (z : CookieAt). z.slots) is) refl refl c.in-NotYet.ensures.seat.1
+
+pub returns-in-Over-clause-quiet : goal.returns-in-Over-clause-quiet
+returns-in-Over-clause-quiet g c = over_quiet (shape_of g.W.WaitWords.WAY c.args.table.now) c.args.seat.now c.poll.new.seat c.in-Over.ensures.polled c.in-Over.ensures.seat.1
+
+pub returns-in-NotYet-clause-quiet : goal.returns-in-NotYet-clause-quiet
+returns-in-NotYet-clause-quiet g c = let p = c.in-NotYet.ensures.polled in looked_quiet c.args.seat.now c.poll.new.seat p.0 p.1 p.2 p.4 c.in-NotYet.ensures.seat.1

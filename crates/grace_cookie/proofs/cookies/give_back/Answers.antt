@@ -1,0 +1,29 @@
+use Rattle.std.proofs.Common.{◌≡◌, ◌≤◌, sym, ap, subst, inr, arith}
+use Rattle.core_state.specs.declared.shape.Shape.{Shape}
+use Rattle.seat_table.specs.Seats.{shape_of}
+use Rattle.node_slots.specs.Reclaiming.{AreReady, GivesBack, first_slots, without_slots}
+use Rattle.node_slots.proofs.PuttingBack.{told_of_table}
+use Rattle.grace_cookie.specs.Cookies.{CookieAt}
+use Rattle.grace_cookie.proofs.Counting.{is_latest}
+use Rattle.grace_cookie.proofs.Giving.{all_ready, gives_some}
+use Rattle.grace_cookie.proofs.Quiet.{back_quiet}
+use Rattle.grace_cookie.proofs.cookies.give_back.Goals as goal
+
+pub give_back-requires-clause-ready : goal.give_back-requires-clause-ready
+give_back-requires-clause-ready g c =
+    let k : Shape = shape_of g.W.WaitWords.WAY c.args.table.now in
+    let told = told_of_table g.W.WaitWords.WAY _ _ _ c.requires.table c.rule_tells.ensures.tells in
+    let latest = is_latest _ _ _ _ c.requires.of.begun c.waits.ensures (ap (λ (z : CookieAt). z.count) c.cookie.view_is) c.if-waits-cookie.false in
+    subst (λ n. AreReady k c.args.seat.now.view (first_slots n c.args.seat.now.listed)) (sym (ap (λ (z : CookieAt). z.slots) c.cookie.view_is)) (all_ready c.args.cookie c.args.seat.now (c.requires.kept.kept latest) k told c.requires.over (c.requires.unraised latest))
+
+pub returns-clause-back : goal.returns-clause-back
+returns-clause-back g c =
+    let latest = is_latest _ _ _ _ c.requires.of.begun c.waits.ensures (ap (λ (z : CookieAt). z.count) c.cookie.view_is) c.if-waits-cookie.false in
+    let slots = ap (λ (z : CookieAt). z.slots) c.cookie.view_is in
+    let some : 1 ≤ c.args.cookie.slots = subst (λ n. 1 ≤ n) slots (omega (arith, c.if-cookie-eq0.false)) in
+    let gives = subst (λ n. GivesBack c.args.seat.now.view (first_slots n c.args.seat.now.listed) c.give_back.new.seat.view) slots c.give_back.ensures.view in
+    let listed = subst (λ n. c.give_back.new.seat.listed ≡ without_slots (first_slots n c.args.seat.now.listed) c.args.seat.now.listed) slots c.give_back.ensures.listed in
+    inr (gives_some c.args.cookie c.args.seat.now (c.requires.kept.kept latest) _ c.give_back.new.seat some latest slots gives listed)
+
+pub returns-clause-quiet : goal.returns-clause-quiet
+returns-clause-quiet g c = back_quiet c.args.cookie c.args.seat.now _ c.give_back.new.seat (returns-clause-back g c)

@@ -1,0 +1,3 @@
+pub mod Cookies
+pub mod Asking
+pub mod Keeping

@@ -1,0 +1,14 @@
+//! What is answered about a cookie.
+
+use prcu_marks::Why;
+
+/// What `ask` answers.
+#[derive(Clone, Copy, Debug, PartialEq, Eq)]
+pub enum Ask {
+    /// Each reader has left that read when the cookie was started.
+    Over,
+    /// This call found a reader that the wait is for, or a count or a stamp that may be one's.
+    NotYet { why: Why },
+    /// The place has begun a later wait: this is how many it had begun before the latest one.
+    GivenUp { latest: u64 },
+}

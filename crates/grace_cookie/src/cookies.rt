@@ -1,0 +1,131 @@
+//! Cookies, and the calls that start them, ask about them, and give slots back by them.
+ghost use Rattle.std.specs.Prelude.{◌≡◌, ◌≤◌, ℕ, true, false, [], length, None, take};
+ghost use Rattle.list_laws.specs.Counts.{times};
+ghost use Rattle.seat_table.specs.Gains.{IsInformed};
+ghost use Rattle.seat_table.specs.Seats.{AreListed, IsQuietSeat, shape_of};
+ghost use Rattle.seat_table.specs.Sections.{HasBegun};
+ghost use Rattle.grace_cookie.specs.Cookies.{IsOf, HasKept, IsLatest, AreUnraised};
+ghost use Rattle.grace_cookie.specs.Asking.{IsSameCookie, Asked, HasGivenBack};
+
+use crate::answers::Ask;
+use key_interval::Keys;
+use seat_table::{CitrusTable, Grace, Poll, Seat, WaitPart};
+use std::marker::Model;
+
+/// A wait for everybody that was begun, and is asked about while its seat goes on with other calls.
+#[derive(Drop)]
+pub struct Cookie<W> {
+    grace: Grace<W>,
+    count: u64,
+    slots: u32,
+    over: bool,
+}
+
+impl<W> Model for Cookie<W> {
+    ghost use Rattle.std.specs.Prelude.{◌≡◌};
+    ghost use Rattle.seat_table.specs.Waits.{reached};
+    ghost use Rattle.grace_cookie.specs.Cookies.{CookieAt, everybody};
+
+    ghost Value = { CookieAt };
+
+    ghost view = { λ c. record { count = c.count; slots = c.slots; over = c.over; clock = c.grace.clock; reached = reached c.grace } };
+
+    ghost invariant = { λ c. c.grace.keys ≡ everybody };
+}
+
+// How many slots are retired.
+fn count_retired<W: WaitPart>(table: &CitrusTable<W>, seat: &Seat<W>) -> u32
+    requires table { seat.now.table ≡ table.now }
+    requires listed { AreListed seat.now }
+    ensures many { result ≡ length seat.now.listed }
+    ensures apart { (slot : ℕ) → times slot seat.now.listed ≤ 1 }
+{
+    let _slots = table.slots();
+    let _places = table.places();
+    seat.rule_tells();
+    seat.retired().len() as u32
+}
+
+/// Begins a wait for everybody, and keeps how many slots are retired now. It is asked about by `ask`; when it is over, `give_back` gives
+/// these slots back. A cookie that was started before is given up, and so is this one where the place begins a later wait.
+pub fn start<W: WaitPart>(table: &CitrusTable<W>, seat: &mut Seat<W>) -> Cookie<W>
+    requires table { seat.old.table ≡ table.now }
+    requires outside { seat.old.view.section ≡ None }
+    requires ticket { 1 ≤ seat.old.view.allowance.tickets }
+    requires listed { AreListed seat.old }
+    ensures seat { (seat.new.table ≡ seat.old.table) × (seat.new.listed ≡ seat.old.listed) }
+    ensures begun { HasBegun seat.old.view 0 18446744073709551615 seat.new.view }
+    ensures count { result.count ≡ seat.old.view.counts.waits }
+    ensures slots { result.slots ≡ length seat.old.view.hands.retired }
+    ensures going { result.over ≡ false }
+    ensures of { IsOf (shape_of W.WAY table.now) result seat.new.view }
+    ensures kept { HasKept result seat.new }
+    ensures quiet { IsQuietSeat seat.old → IsQuietSeat seat.new }
+{
+    let count = seat.waits();
+    let slots = count_retired(table, seat);
+    let keys = Keys::all();
+    let grace = W::begin(table, seat, keys);
+    Cookie {
+        grace,
+        count,
+        slots,
+        over: false,
+    }
+}
+
+/// Whether the cookie's wait is over. `Over` stays so for good. `NotYet` comes where one poll of the wait found what it names. `GivenUp`
+/// comes exactly where the cookie wasn't over and the place has begun a later wait. It waits for nobody.
+pub fn ask<W: WaitPart>(table: &CitrusTable<W>, seat: &mut Seat<W>, cookie: &mut Cookie<W>) -> Ask
+    requires table { seat.old.table ≡ table.now }
+    requires of { IsOf (shape_of W.WAY table.now) cookie.old seat.old.view }
+    ensures seat { (seat.new.table ≡ seat.old.table) × (seat.new.listed ≡ seat.old.listed) }
+    ensures cookie { IsSameCookie cookie.old cookie.new }
+    ensures asked { Asked (shape_of W.WAY table.now) cookie.old seat.old.view result cookie.new seat.new.view }
+    ensures of { IsOf (shape_of W.WAY table.now) cookie.new seat.new.view }
+    ensures kept { HasKept cookie.old seat.old → HasKept cookie.new seat.new }
+    ensures quiet { IsQuietSeat seat.old → IsQuietSeat seat.new }
+{
+    if cookie.over {
+        return Ask::Over;
+    }
+    let latest = seat.waits() - 1;
+    if latest != cookie.count {
+        return Ask::GivenUp { latest };
+    }
+    match W::poll(table, seat, &mut cookie.grace) {
+        Poll::Over => {
+            cookie.over = true;
+            Ask::Over
+        }
+        Poll::NotYet { why } => Ask::NotYet { why },
+    }
+}
+
+/// Gives the slots back that were retired when the cookie was started, each with the next generation, and answers their number. Where the
+/// place has no spare the first of them becomes its spare. The answer is 0, and nothing is changed, exactly where the place has begun a later
+/// wait or none was retired then. It begins no wait and waits for nobody.
+pub fn give_back<W: WaitPart>(table: &CitrusTable<W>, seat: &mut Seat<W>, cookie: Cookie<W>) -> u32
+    requires table { seat.old.table ≡ table.now }
+    requires of { IsOf (shape_of W.WAY table.now) cookie seat.old.view }
+    requires over { cookie.over ≡ true }
+    requires kept { HasKept cookie seat.old }
+    requires unraised { IsLatest cookie seat.old.view → AreUnraised seat.old.view (take cookie.slots seat.old.listed) }
+    requires unlocked { seat.old.view.locks ≡ [] }
+    requires settled { seat.old.view.moving ≡ None }
+    requires paid { seat.old.view.hands.owes ≡ false }
+    ensures table { seat.new.table ≡ seat.old.table }
+    ensures back { HasGivenBack cookie seat.old result seat.new }
+    ensures quiet { IsQuietSeat seat.old → IsQuietSeat seat.new }
+    ensures informed { IsInformed seat.old.view → IsInformed seat.new.view }
+{
+    if cookie.slots == 0 {
+        return 0;
+    }
+    if seat.waits() - 1 != cookie.count {
+        return 0;
+    }
+    seat.rule_tells();
+    node_slots::give_back(table, seat, cookie.slots as usize);
+    cookie.slots
+}

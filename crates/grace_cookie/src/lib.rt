@@ -1,0 +1,13 @@
+//! Cookies: a wait for everybody that is begun now and asked about later, so that a writer gives its retired slots back without ever standing
+//! still for readers.
+#![tactic(auto)]
+
+mod answers;
+mod cookies;
+pub mod laws;
+
+pub use answers::Ask;
+pub use cookies::{Cookie, ask, give_back, start};
+
+#[cfg(test)]
+mod tests;
