@@ -25,18 +25,18 @@ whole_input input after taken t ended =
     sym (t.1 ∙ ap (λ rest. taken ++ rest) none ∙ append-nil taken)
 
 no_bad_line : (command : Command) (input text : List ℕ) → Writes command BadScript input text → IsAnswerable command input → ⊥
-no_bad_line (Run slots) input text bad good = bad.none good.0 good.1
+no_bad_line (Run slots mode) input text bad good = bad.none good.0 good.1
 no_bad_line (Check slots) input text bad good =
     let claims = good.2 in
     let same = one_before input bad.before claims.before bad.account good.1 bad.parts claims.parts in
     bad.bad.none good.0 (subst (λ b. IsScriptText b good.0) (sym same) claims.read)
-no_bad_line (Load number scripts ops) input text bad good = bad
+no_bad_line (Load number scripts ops waiter) input text bad good = bad
 no_bad_line Hash input text bad good = bad.none good.0 good.1
 
 reads_bad : (command : Command) (input text : List ℕ) → Writes command BadScript input text → Reads command
-reads_bad (Run slots) input text bad = tt
+reads_bad (Run slots mode) input text bad = tt
 reads_bad (Check slots) input text bad = tt
-reads_bad (Load number scripts ops) input text bad = bad
+reads_bad (Load number scripts ops waiter) input text bad = bad
 reads_bad Hash input text bad = tt
 
 -- an input with good scripts isn't told bad

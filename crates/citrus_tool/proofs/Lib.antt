@@ -1,9 +1,7 @@
-pub mod PlainRun
-pub mod PlainExplained
 pub mod Spellings
 pub mod Joining
 pub mod SlotCounts
-pub mod HashLeavings
+pub mod Leavings
 pub mod LineCount
 pub mod InputParts
 pub mod Complete

@@ -1,11 +1,14 @@
 -- Options and arguments are spelled in one way.
-use Rattle.std.proofs.Common.{◌≡◌, ◌≢◌, ℕ, zero, suc, ◌<◌, ◌^◌, List, [], ◌∷◌, ◌++◌, length, get_or, take, map, codes, Some, slice_get, inl, inr, sym, ap, ◌∙◌, append-nil, arith}
+use Rattle.std.proofs.Common.{◌≡◌, ◌≢◌, ℕ, ◌<◌, ◌^◌, List, [], ◌∷◌, ◌++◌, length, get_or, take, map, codes, Some, slice_get, inl, inr, sym, ap, ◌∙◌, refl, append-nil, length-append, arith}
 use Rattle.std.specs.Fmt.{decimal}
 use Rattle.std.proofs.lemmas.Bool.{cases_eq}
 use Rattle.std.proofs.lemmas.Fmt.{decimal_digit, first_decimal, decimal_injective}
+use Rattle.std.proofs.lemmas.List.{append_cancel_left}
+use Rattle.core_state.specs.declared.shape.Waiter.{Waiter}
+use Rattle.core_state.specs.declared.shape.Waiter.TheVariants.{Eer, Domain, Deer}
 use Rattle.citrus_tool.specs.declared.arguments.Argument.{Argument}
-use Rattle.citrus_tool.specs.declared.arguments.Argument.TheVariants.{Slots, Number}
-use Rattle.citrus_tool.specs.Arguments.{IsOption, IsSpelled}
+use Rattle.citrus_tool.specs.declared.arguments.Argument.TheVariants.{Slots, Schedule, Waits, Number}
+use Rattle.citrus_tool.specs.Arguments.{IsOption, IsSpelled, waiter_word}
 
 -- words that are seen as bytes, of which the first is known
 module _ {S : Type 0} (seen : S → List ℕ) (words : List S) (word : S) (others : List S) (split : words ≡ word ∷ others) (bytes : List ℕ) (is : bytes ≡ seen word) where
@@ -52,48 +55,97 @@ no_dash n after small e =
       | inr more ↦ omega (arith, first_decimal n (omega arith) small, ap (λ x. get_or x 0 0) e)
     ]
 
-head_is : (W front rest : List (List ℕ)) (v : List ℕ) (taken : ℕ) → W ≡ (v ∷ front) ++ rest → (u : List ℕ) (more : List (List ℕ)) → take taken W ≡ u ∷ more → v ≡ u
-head_is [] front rest v taken cut u more front_is = absurd (cc)
-head_is (w ∷ W) front rest v taken cut u more front_is =
-    let e : w ≡ v = cc in
-    sym e ∙ first_of taken front_is
-  where
-    first_of : (n : ℕ) → take n (w ∷ W) ≡ u ∷ more → w ≡ u
-    first_of zero is = absurd (cc)
-    first_of (suc n) is = cc
+longer : (name rest : List ℕ) → name ≡ name ++ (codes "=" ++ rest) → ⊥
+longer name rest e = omega (arith, ap length e, length-append name (codes "=" ++ rest))
 
--- a number is no option
-pub no_option : (n : ℕ) (W first rest : List (List ℕ)) (value : List ℕ) (taken : ℕ) → n < 2 ^ 64 → W ≡ first ++ rest → first ≡ decimal n ∷ [] → IsOption (codes "--slots") value (take taken W) → ⊥
-no_option n W first rest value taken small cut one (inl two) =
-    no_dash n (codes "-slots") small (head_is W [] rest (decimal n) taken (cut ∙ ap (λ f. f ++ rest) one) (codes "--slots") (value ∷ []) two)
-no_option n W first rest value taken small cut one (inr joint) =
-    no_dash n (codes "-slots=" ++ value) small (head_is W [] rest (decimal n) taken (cut ∙ ap (λ f. f ++ rest) one) (codes "--slots=" ++ value) [] joint)
+-- Two ways to cut off the first words, each as an argument.
+module _ (f g r s : List (List ℕ)) (cut : f ++ r ≡ g ++ s) where
+  one_value : (name v w : List ℕ) → IsOption name v f → IsOption name w g → (v ≡ w) × (length f ≡ length g)
+  one_value name v w (inl two) (inl too) =
+      let e : name ∷ v ∷ r ≡ name ∷ w ∷ s = sym (ap (λ x. x ++ r) two) ∙ cut ∙ ap (λ x. x ++ s) too in
+      (cc, ap length two ∙ sym (ap length too))
+  one_value name v w (inl two) (inr one) =
+      let e : name ∷ v ∷ r ≡ (name ++ (codes "=" ++ w)) ∷ s = sym (ap (λ x. x ++ r) two) ∙ cut ∙ ap (λ x. x ++ s) one in
+      absurd (longer name w (cc))
+  one_value name v w (inr one) (inl two) =
+      let e : name ∷ w ∷ s ≡ (name ++ (codes "=" ++ v)) ∷ r = sym (ap (λ x. x ++ s) two) ∙ sym cut ∙ ap (λ x. x ++ r) one in
+      absurd (longer name v (cc))
+  one_value name v w (inr one) (inr too) =
+      let e : (name ++ (codes "=" ++ v)) ∷ r ≡ (name ++ (codes "=" ++ w)) ∷ s = sym (ap (λ x. x ++ r) one) ∙ cut ∙ ap (λ x. x ++ s) too in
+      let heads : name ++ (codes "=" ++ v) ≡ name ++ (codes "=" ++ w) = cc in
+      let values : codes "=" ++ v ≡ codes "=" ++ w = append_cancel_left name _ _ heads in
+      (cc, ap length one ∙ sym (ap length too))
 
--- What an option's value is is known, as soon as the words begin with one.
-abbrev pub OnlyOption : List (List ℕ) → List ℕ → ℕ → Type 0
-OnlyOption W value taken = (v : List ℕ) (first rest : List (List ℕ)) → W ≡ first ++ rest → IsOption (codes "--slots") v first → (value ≡ v) × (taken ≡ length first)
+-- an option's first word begins with its name
+begins : (name v : List ℕ) (f r : List (List ℕ)) → IsOption name v f → (after : List ℕ) × (more : List (List ℕ)) × (f ++ r ≡ (name ++ after) ∷ more)
+begins name v f r (inl two) = ([], v ∷ r, ap (λ x. x ++ r) two ∙ ap (λ n. n ∷ v ∷ r) (sym (append-nil name)))
+begins name v f r (inr one) = (codes "=" ++ v, r, ap (λ x. x ++ r) one)
 
-module _ (W : List (List ℕ)) (value : List ℕ) (taken : ℕ) (here : IsOption (codes "--slots") value (take taken W)) (only : OnlyOption W value taken) where
-  -- an option whose value is no number spells no argument
-  pub not_spelled : ((n : ℕ) → n < 2 ^ 64 → value ≡ decimal n → ⊥) → (argument : Argument) (first rest : List (List ℕ)) → W ≡ first ++ rest → IsSpelled argument first → ⊥
-  not_spelled none (Slots n) first rest cut spelled = none n spelled.0 (only (decimal n) first rest cut spelled.1).0
-  not_spelled none (Number n) first rest cut spelled = no_option n W first rest value taken spelled.0 cut spelled.1 here
+-- the first words of two options, and of an option and a number
+differ : (name other v w : List ℕ) (f g r s : List (List ℕ)) → f ++ r ≡ g ++ s → IsOption name v f → IsOption other w g → ((x y : List ℕ) → name ++ x ≡ other ++ y → ⊥) → ⊥
+differ name other v w f g r s cut a b apart =
+    let p = begins name v f r a in
+    let q = begins other w g s b in
+    let e : (name ++ p.0) ∷ p.1 ≡ (other ++ q.0) ∷ q.1 = sym p.2 ∙ cut ∙ q.2 in
+    apart p.0 q.0 (cc)
 
-  -- an option whose value is a number spells that argument alone
-  pub slots_spelled : (m : ℕ) → m < 2 ^ 64 → value ≡ decimal m → (argument : Argument) (first rest : List (List ℕ)) → W ≡ first ++ rest → IsSpelled argument first → (Slots m ≡ argument) × (taken ≡ length first)
-  slots_spelled m small is (Slots n) first rest cut spelled =
-      let o = only (decimal n) first rest cut spelled.1 in
-      (ap Slots (decimal_injective m n small spelled.0 (sym is ∙ o.0)), o.1)
-  slots_spelled m small is (Number n) first rest cut spelled = absurd (no_option n W first rest value taken spelled.0 cut spelled.1 here)
+no_number : (name v : List ℕ) (n : ℕ) (f g r s : List (List ℕ)) → f ++ r ≡ g ++ s → n < 2 ^ 64 → IsOption (45 ∷ name) v f → g ≡ decimal n ∷ [] → ⊥
+no_number name v n f g r s cut small a is =
+    let p = begins (45 ∷ name) v f r a in
+    let e : ((45 ∷ name) ++ p.0) ∷ p.1 ≡ decimal n ∷ s = sym p.2 ∙ cut ∙ ap (λ x. x ++ s) is in
+    no_dash n (name ++ p.0) small (cc)
 
--- where no option stands, the first word is the number, if an argument is spelled at all
-module _ (W : List (List ℕ)) (no_slots : (v : List ℕ) (first rest : List (List ℕ)) → W ≡ first ++ rest → IsOption (codes "--slots") v first → ⊥) (bytes : List ℕ)
-    (here : (n : ℕ) (first rest : List (List ℕ)) → W ≡ first ++ rest → first ≡ decimal n ∷ [] → bytes ≡ decimal n) where
-  pub nothing_spelled : ((n : ℕ) → n < 2 ^ 64 → bytes ≡ decimal n → ⊥) → (argument : Argument) (first rest : List (List ℕ)) → W ≡ first ++ rest → IsSpelled argument first → ⊥
-  nothing_spelled none (Slots n) first rest cut spelled = no_slots (decimal n) first rest cut spelled.1
-  nothing_spelled none (Number n) first rest cut spelled = none n spelled.0 (here n first rest cut spelled.1)
+waiter_word-injective : (a b : Waiter) → waiter_word a ≡ waiter_word b → a ≡ b
+waiter_word-injective Eer Eer e = refl
+waiter_word-injective Eer Domain e = absurd (omega (arith, ap length e))
+waiter_word-injective Eer Deer e = absurd (omega (arith, ap length e))
+waiter_word-injective Domain Eer e = absurd (omega (arith, ap length e))
+waiter_word-injective Domain Domain e = refl
+waiter_word-injective Domain Deer e = absurd (omega (arith, ap length e))
+waiter_word-injective Deer Eer e = absurd (omega (arith, ap length e))
+waiter_word-injective Deer Domain e = absurd (omega (arith, ap length e))
+waiter_word-injective Deer Deer e = refl
 
-  pub number_spelled : (m : ℕ) → m < 2 ^ 64 → bytes ≡ decimal m → (argument : Argument) (first rest : List (List ℕ)) → W ≡ first ++ rest → IsSpelled argument first → (Number m ≡ argument) × (1 ≡ length first)
-  number_spelled m small is (Slots n) first rest cut spelled = absurd (no_slots (decimal n) first rest cut spelled.1)
-  number_spelled m small is (Number n) first rest cut spelled =
-      (ap Number (decimal_injective m n small spelled.0 (sym is ∙ here n first rest cut spelled.1)), sym (ap length spelled.1))
+-- the third letters of the names
+slots-schedule : (x y : List ℕ) → codes "--slots" ++ x ≡ codes "--schedule" ++ y → ⊥
+slots-schedule x y e = omega (arith, ap (λ w. get_or w 3 0) e)
+
+slots-waiter : (x y : List ℕ) → codes "--slots" ++ x ≡ codes "--waiter" ++ y → ⊥
+slots-waiter x y e = omega (arith, ap (λ w. get_or w 3 0) e)
+
+schedule-waiter : (x y : List ℕ) → codes "--schedule" ++ x ≡ codes "--waiter" ++ y → ⊥
+schedule-waiter x y e = omega (arith, ap (λ w. get_or w 3 0) e)
+
+-- words begin with one argument at most
+module _ (f g r s : List (List ℕ)) (cut : f ++ r ≡ g ++ s) where
+  pub one_spelled : (a b : Argument) → IsSpelled a f → IsSpelled b g → (a ≡ b) × (length f ≡ length g)
+  one_spelled (Slots m) (Slots n) p q = let o = one_value f g r s cut (codes "--slots") _ _ p.1 q.1 in (ap Slots (decimal_injective m n p.0 q.0 o.0), o.1)
+  one_spelled (Slots m) (Schedule n) p q = absurd (differ _ _ _ _ f g r s cut p.1 q.1 slots-schedule)
+  one_spelled (Slots m) (Waits w) p q = absurd (differ _ _ _ _ f g r s cut p.1 q slots-waiter)
+  one_spelled (Slots m) (Number n) p q = absurd (no_number (codes "-slots") _ n f g r s cut q.0 p.1 q.1)
+  one_spelled (Schedule m) (Slots n) p q = absurd (differ _ _ _ _ g f s r (sym cut) q.1 p.1 slots-schedule)
+  one_spelled (Schedule m) (Schedule n) p q = let o = one_value f g r s cut (codes "--schedule") _ _ p.1 q.1 in (ap Schedule (decimal_injective m n p.0 q.0 o.0), o.1)
+  one_spelled (Schedule m) (Waits w) p q = absurd (differ _ _ _ _ f g r s cut p.1 q schedule-waiter)
+  one_spelled (Schedule m) (Number n) p q = absurd (no_number (codes "-schedule") _ n f g r s cut q.0 p.1 q.1)
+  one_spelled (Waits v) (Slots n) p q = absurd (differ _ _ _ _ g f s r (sym cut) q.1 p slots-waiter)
+  one_spelled (Waits v) (Schedule n) p q = absurd (differ _ _ _ _ g f s r (sym cut) q.1 p schedule-waiter)
+  one_spelled (Waits v) (Waits w) p q = let o = one_value f g r s cut (codes "--waiter") _ _ p q in (ap Waits (waiter_word-injective v w o.0), o.1)
+  one_spelled (Waits v) (Number n) p q = absurd (no_number (codes "-waiter") _ n f g r s cut q.0 p q.1)
+  one_spelled (Number m) (Slots n) p q = absurd (no_number (codes "-slots") _ m g f s r (sym cut) p.0 q.1 p.1)
+  one_spelled (Number m) (Schedule n) p q = absurd (no_number (codes "-schedule") _ m g f s r (sym cut) p.0 q.1 p.1)
+  one_spelled (Number m) (Waits w) p q = absurd (no_number (codes "-waiter") _ m g f s r (sym cut) p.0 q p.1)
+  one_spelled (Number m) (Number n) p q =
+      let e : decimal m ∷ r ≡ decimal n ∷ s = sym (ap (λ x. x ++ r) p.1) ∙ cut ∙ ap (λ x. x ++ s) q.1 in
+      (ap Number (decimal_injective m n p.0 q.0 (cc)), ap length p.1 ∙ sym (ap length q.1))
+
+-- words that begin with no option begin with a number, if with an argument at all
+module _ (W : List (List ℕ)) (P : Type 0)
+    (no_slots : (n : ℕ) (first rest : List (List ℕ)) → n < 2 ^ 64 → W ≡ first ++ rest → IsOption (codes "--slots") (decimal n) first → ⊥)
+    (no_schedule : (n : ℕ) (first rest : List (List ℕ)) → n < 2 ^ 64 → W ≡ first ++ rest → IsOption (codes "--schedule") (decimal n) first → ⊥)
+    (no_waiter : (w : Waiter) (first rest : List (List ℕ)) → W ≡ first ++ rest → IsSpelled (Waits w) first → ⊥)
+    (number : (n : ℕ) (first rest : List (List ℕ)) → W ≡ first ++ rest → IsSpelled (Number n) first → P) where
+  pub number_left : (argument : Argument) (first rest : List (List ℕ)) → W ≡ first ++ rest → IsSpelled argument first → P
+  number_left (Slots n) first rest cut spelled = absurd (no_slots n first rest spelled.0 cut spelled.1)
+  number_left (Schedule n) first rest cut spelled = absurd (no_schedule n first rest spelled.0 cut spelled.1)
+  number_left (Waits w) first rest cut spelled = absurd (no_waiter w first rest cut spelled)
+  number_left (Number n) first rest cut spelled = number n first rest cut spelled

@@ -11,12 +11,14 @@ use Rattle.workload.specs.Summaries.{plain_summary}
 use Rattle.workload.specs.SummaryText.{summary_text}
 use Rattle.citrus_tool.specs.declared.commands.Command.{Command}
 use Rattle.citrus_tool.specs.declared.commands.Command.TheVariants.{Run, Check, Load, Hash}
+use Rattle.citrus_tool.specs.declared.commands.Mode.{Mode}
+use Rattle.citrus_tool.specs.declared.commands.Mode.TheVariants.{Threads, Schedule}
 use Rattle.citrus_tool.specs.declared.outcome.Status.{Status}
 use Rattle.citrus_tool.specs.declared.outcome.Status.TheVariants.{Done, Refused, Usage, BadScript, ReadFault, NoMemory, TooLong}
 use Rattle.citrus_tool.specs.declared.outcome.Ran.{Ran}
 use Rattle.citrus_tool.specs.declared.outcome.Ran.TheVariants.{Nothing}
 use Rattle.citrus_tool.specs.Commands.{Asks, Reads, limit_of}
-use Rattle.citrus_tool.specs.Leavings.{LeavesHash}
+use Rattle.citrus_tool.specs.Leavings.{IsDrawn, LeavesTree, LeavesMade, LeavesHash}
 use Rattle.citrus_tool.specs.Limits.{slots_of}
 use Rattle.citrus_tool.specs.Parts.{HasParts}
 
@@ -30,6 +32,21 @@ pub record AccountsFor (slots : Option ℕ) (input text : List ℕ) : Type 0 whe
   pub account : IsAccount scripts (slots_of slots scripts) text
   pub never_full : slots ≡ None → LacksFull account.lines
   pub within_slots : StaysWithin account.history (slots_of slots scripts)
+
+-- The same where the number of a schedule draws which script makes the next step: the history is the one that it draws.
+pub record AccountsByDraws (slots : Option ℕ) (number : ℕ) (input text : List ℕ) : Type 0 where
+  pub accounts : AccountsFor slots input text
+  pub drawn : IsDrawn accounts.scripts (slots_of slots accounts.scripts) number accounts.account.history
+
+-- what `run` writes of good scripts
+abbrev pub WritesRun : Mode → Option ℕ → List ℕ → List ℕ → Type 0
+WritesRun (Threads waiter) slots input text = AccountsFor slots input text
+WritesRun (Schedule number) slots input text = AccountsByDraws slots number input text
+
+-- what it leaves beside that: in threads the tree on which they ran, by a schedule nothing
+abbrev pub LeavesRun : (mode : Mode) (slots : Option ℕ) (input text : List ℕ) → WritesRun mode slots input text → Ran → Type 0
+LeavesRun (Threads waiter) slots input text accounts ran = LeavesTree waiter accounts.scripts (slots_of slots accounts.scripts) accounts.account.history ran
+LeavesRun (Schedule number) slots input text accounts ran = ran ≡ Nothing
 
 -- The input has a bad line, so it is no scripts' text, and the text tells the number of the first.
 pub record TellsBadLine (input text : List ℕ) : Type 0 where
@@ -75,12 +92,12 @@ pub record TellsBadLineBefore (input text : List ℕ) : Type 0 where
 
 -- what a command writes for an input that it read whole, by the status with which it ends
 abbrev pub Writes : Command → Status → List ℕ → List ℕ → Type 0
-Writes (Run slots) Done input text = AccountsFor slots input text
-Writes (Run slots) BadScript input text = TellsBadLine input text
+Writes (Run slots mode) Done input text = WritesRun mode slots input text
+Writes (Run slots mode) BadScript input text = TellsBadLine input text
 Writes (Check slots) Done input text = SaysYes slots input text
 Writes (Check slots) Refused input text = SaysNo slots input text
 Writes (Check slots) BadScript input text = TellsBadLineBefore input text
-Writes (Load number scripts ops) Done input text = text ≡ summary_text (plain_summary (made_scripts number scripts ops))
+Writes (Load number scripts ops waiter) Done input text = text ≡ summary_text (plain_summary (made_scripts number scripts ops))
 Writes Hash Done input text = AccountsFor None input text
 Writes Hash BadScript input text = TellsBadLine input text
 Writes _ _ input text = ⊥
@@ -91,7 +108,9 @@ MayWrite command input text = (status : Status) × Writes command status input t
 
 -- what the run of a command leaves, beside what it wrote
 abbrev pub Leaves : (command : Command) (status : Status) (input text : List ℕ) → Writes command status input text → Ran → Type 0
-Leaves Hash Done input text account ran = LeavesHash account.scripts account.account.history ran
+Leaves (Run slots mode) Done input text accounts ran = LeavesRun mode slots input text accounts ran
+Leaves (Load number scripts ops waiter) Done input text writes ran = LeavesMade waiter (made_scripts number scripts ops) ran
+Leaves Hash Done input text accounts ran = LeavesHash accounts.scripts accounts.account.history ran
 Leaves _ _ input text writes ran = ran ≡ Nothing
 
 -- The input was read to its end, where the command reads, and is within the command's limit; what was written is a text
@@ -129,9 +148,9 @@ pub record AnsweredInPart (words : List (List ℕ)) (left left_now written writt
 
 -- The input has what the command works on.
 abbrev pub IsAnswerable : Command → List ℕ → Type 0
-IsAnswerable (Run slots) input = (scripts : List (List Op)) × IsScriptText input scripts
+IsAnswerable (Run slots mode) input = (scripts : List (List Op)) × IsScriptText input scripts
 IsAnswerable (Check slots) input = (scripts : List (List Op)) × (account : List ℕ) × Claims input scripts account
-IsAnswerable (Load number scripts ops) input = Unit {0}
+IsAnswerable (Load number scripts ops waiter) input = Unit {0}
 IsAnswerable Hash input = (scripts : List (List Op)) × IsScriptText input scripts
 
 -- the statuses with which nothing is written

@@ -1,8 +1,10 @@
 -- How arguments are spelled, and what arguments in whatever order come to.
 -- Source: docs/FORMATS.md, "Commands".
-use Rattle.std.specs.Prelude.{◌≡◌, ◌⊎◌, ℕ, ◌^◌, ◌<◌, ◌≤◌, List, [], ◌∷◌, ◌++◌, length, codes, decimal, option_to_list}
+use Rattle.std.specs.Prelude.{◌≡◌, ◌⊎◌, ℕ, ◌^◌, ◌<◌, List, [], ◌∷◌, ◌++◌, codes, decimal, option_to_list}
+use Rattle.core_state.specs.declared.shape.Waiter.{Waiter}
+use Rattle.core_state.specs.declared.shape.Waiter.TheVariants.{Eer, Domain, Deer}
 use Rattle.citrus_tool.specs.declared.arguments.Argument.{Argument}
-use Rattle.citrus_tool.specs.declared.arguments.Argument.TheVariants.{Slots, Number}
+use Rattle.citrus_tool.specs.declared.arguments.Argument.TheVariants.{Slots, Schedule, Waits, Number}
 use Rattle.citrus_tool.specs.declared.arguments.Numbers.{Numbers}
 use Rattle.citrus_tool.specs.declared.arguments.Numbers.TheVariants.{Zero, One, Two, Three}
 use Rattle.citrus_tool.specs.declared.arguments.Arguments.{Arguments}
@@ -11,9 +13,17 @@ use Rattle.citrus_tool.specs.declared.arguments.Arguments.{Arguments}
 abbrev pub IsOption : List ℕ → List ℕ → List (List ℕ) → Type 0
 IsOption name value words = (words ≡ name ∷ value ∷ []) ⊎ (words ≡ (name ++ (codes "=" ++ value)) ∷ [])
 
+-- the word for a waiter
+abbrev pub waiter_word : Waiter → List ℕ
+waiter_word Eer = codes "eer"
+waiter_word Domain = codes "d"
+waiter_word Deer = codes "deer"
+
 -- the words that spell one argument, with a number that fits a `u64`
 abbrev pub IsSpelled : Argument → List (List ℕ) → Type 0
 IsSpelled (Slots n) words = (n < 2 ^ 64) × IsOption (codes "--slots") (decimal n) words
+IsSpelled (Schedule n) words = (n < 2 ^ 64) × IsOption (codes "--schedule") (decimal n) words
+IsSpelled (Waits waiter) words = IsOption (codes "--waiter") (waiter_word waiter) words
 IsSpelled (Number n) words = (n < 2 ^ 64) × (words ≡ decimal n ∷ [])
 
 -- the words that spell these arguments one after another
@@ -22,17 +32,27 @@ AreSpelled [] words = words ≡ []
 AreSpelled (argument ∷ arguments) words =
     (first rest : List (List ℕ)) × (words ≡ first ++ rest) × IsSpelled argument first × AreSpelled arguments rest
 
--- what is given by the option `--slots`, as often as it stands
-abbrev pub slots_among : List Argument → List ℕ
-slots_among [] = []
-slots_among (Slots n ∷ arguments) = n ∷ slots_among arguments
-slots_among (Number n ∷ arguments) = slots_among arguments
+-- What one argument is of each kind: nothing, or what it gives.
+abbrev pub slots_in : Argument → List ℕ
+slots_in (Slots n) = n ∷ []
+slots_in _ = []
 
--- the numbers that stand by themselves, in their order
-abbrev pub numbers_among : List Argument → List ℕ
-numbers_among [] = []
-numbers_among (Slots n ∷ arguments) = numbers_among arguments
-numbers_among (Number n ∷ arguments) = n ∷ numbers_among arguments
+abbrev pub schedules_in : Argument → List ℕ
+schedules_in (Schedule n) = n ∷ []
+schedules_in _ = []
+
+abbrev pub waiters_in : Argument → List Waiter
+waiters_in (Waits waiter) = waiter ∷ []
+waiters_in _ = []
+
+abbrev pub numbers_in : Argument → List ℕ
+numbers_in (Number n) = n ∷ []
+numbers_in _ = []
+
+-- what arguments give of a kind, in their order
+abbrev pub among : {X : Type 0} → (Argument → List X) → List Argument → List X
+among kind [] = []
+among kind (argument ∷ arguments) = kind argument ++ among kind arguments
 
 abbrev pub numbers_of : Numbers → List ℕ
 numbers_of Zero = []
@@ -40,12 +60,9 @@ numbers_of (One a) = a ∷ []
 numbers_of (Two a b) = a ∷ b ∷ []
 numbers_of (Three a b c) = a ∷ b ∷ c ∷ []
 
--- What was found is what was there before and these arguments.
+-- What was found is what was there before and these arguments: each option at most once, and three numbers at most.
 pub record Joins (before : Arguments) (arguments : List Argument) (found : Arguments) : Type 0 where
-  pub slots : option_to_list found.slots ≡ option_to_list before.slots ++ slots_among arguments
-  pub numbers : numbers_of found.numbers ≡ numbers_of before.numbers ++ numbers_among arguments
-
--- These arguments may follow those before: no option stands twice, and no more than three numbers stand.
-pub record FollowWith (before : Arguments) (arguments : List Argument) : Type 0 where
-  pub slots : length (option_to_list before.slots ++ slots_among arguments) ≤ 1
-  pub numbers : length (numbers_of before.numbers ++ numbers_among arguments) ≤ 3
+  pub slots : option_to_list found.slots ≡ option_to_list before.slots ++ among slots_in arguments
+  pub schedule : option_to_list found.schedule ≡ option_to_list before.schedule ++ among schedules_in arguments
+  pub waiter : option_to_list found.waiter ≡ option_to_list before.waiter ++ among waiters_in arguments
+  pub numbers : numbers_of found.numbers ≡ numbers_of before.numbers ++ among numbers_in arguments

@@ -1,23 +1,82 @@
 -- What a run leaves beside its account.
--- Source: docs/HASH_DICTIONARY.md, "Scripts beside each other on the hash dictionary".
-use Rattle.std.specs.Prelude.{◌≡◌, ℕ, ◌<◌, List, [], ◌∷◌, length}
+-- Source: docs/ARCHITECTURE.md, "A run", and docs/HASH_DICTIONARY.md, "Scripts beside each other on the hash dictionary".
+use Rattle.std.specs.Prelude.{◌≡◌, ℕ, ◌*◌, ◌<◌, ◌≤◌, List, [], ◌∷◌, length}
 use Rattle.prcu_model.specs.declared.operation.Op.{Op}
+use Rattle.prcu_model.specs.declared.operation.Told.{Told}
 use Rattle.prcu_model.specs.declared.operation.Update.{Update}
+use Rattle.prcu_marks.specs.declared.mark.Mark.{Mark}
 use Rattle.prcu_marks.specs.Marks.{updates_of}
 use Rattle.prcu_marks.specs.Runs.{FitsScripts}
-use Rattle.prcu_model.specs.Scripts.{op_count}
+use Rattle.prcu_model.specs.Scripts.{op_count, default_slots_of}
+use Rattle.list_laws.specs.Counts.{times}
+use Rattle.core_state.specs.declared.shape.Waiter.{Waiter}
+use Rattle.core_state.specs.declared.shape.Waiter.TheVariants.{Eer, Domain, Deer}
+use Rattle.core_state.specs.views.Views.{places_of}
+use Rattle.seat_table.specs.Gains as tree_gains
+use Rattle.seat_table.specs.Seats as tree
+use Rattle.schedule_run.specs.Schedules.{IsOfSchedule}
 use Rattle.hash_core.specs.Seats.{AnswersFor}
 use Rattle.hash_core.specs.Steps.{IsQuiet}
 use Rattle.class_hash.specs.Answers.{IsInformed}
 use Rattle.class_hash.specs.Seats.{SeatAt, TableAt}
 use Rattle.hash_run.specs.Capacities.{AreCapacities}
 use Rattle.hash_run.specs.Crews.{HaveNoWaits}
+use Rattle.citrus_tool.specs.declared.commands.Mode.{Mode}
+use Rattle.citrus_tool.specs.declared.commands.Mode.TheVariants.{Threads, Schedule}
 use Rattle.citrus_tool.specs.declared.outcome.Ran.{Ran}
-use Rattle.citrus_tool.specs.declared.outcome.Ran.TheVariants.{Nothing, Hash}
+use Rattle.citrus_tool.specs.declared.outcome.Ran.TheVariants.{Nothing, Eer as OnEer, Domain as OnDomain, Deer as OnDeer, Hash}
 
--- The table on which the scripts ran, which has a place for each and a ticket for each operation, and the one seat into which those
--- of all scripts were joined: its marks are those of the scripts' calls, none of them a wait's, and their updates are the history. The
--- seat is quiet, answers for the place of every script, and is informed, so it may go on.
+-- Whatever the dictionary: the marks are those of the scripts' calls, and their updates are the history.
+pub record AreMarksOf (scripts : List (List Op)) (history : List Update) (seen : List Mark) : Type 0 where
+  pub fits : FitsScripts scripts seen
+  pub updates : updates_of seen ≡ history
+
+-- Without scripts no dictionary is made, and nothing is left.
+abbrev pub LeavesSome : List (List Op) → Ran → Type 0 → Type 0
+LeavesSome [] ran left = ran ≡ Nothing
+LeavesSome (script ∷ scripts) ran left = left
+
+-- The tree on which the scripts ran, which has so many slots, a place for each script and four tickets for each operation, and the
+-- one seat into which those of all scripts were joined. The seat is quiet, answers for the place of every script, and is informed,
+-- so it may go on.
+pub record IsTreeLeftOf (scripts : List (List Op)) (slots : ℕ) (history : List Update) (table : tree.TableAt) (seat : tree.SeatAt) : Type 0 where
+  pub of_table : seat.table ≡ table
+  pub slots_are : table.slots ≡ slots
+  pub places : table.places ≡ length scripts
+  pub tickets : table.tickets ≡ 4 * op_count scripts
+  pub quiet : tree.IsQuietSeat seat
+  pub answers : (place : ℕ) → place < length scripts → 1 ≤ times place (places_of seat.view)
+  pub informed : tree_gains.IsInformed seat.view
+  pub marks : AreMarksOf scripts history seat.view.seen
+
+-- a tree of this waiter and a seat on it
+abbrev pub tree_with : Waiter → tree.TableAt → tree.SeatAt → Ran
+tree_with Eer table seat = OnEer table seat
+tree_with Domain table seat = OnDomain table seat
+tree_with Deer table seat = OnDeer table seat
+
+abbrev pub LeavesTree : Waiter → List (List Op) → ℕ → List Update → Ran → Type 0
+LeavesTree waiter scripts slots history ran =
+    LeavesSome scripts ran ((table : tree.TableAt) × (seat : tree.SeatAt) × (ran ≡ tree_with waiter table seat) × IsTreeLeftOf scripts slots history table seat)
+
+-- The history is that of the run whose steps the number draws. Without scripts there is no step.
+abbrev pub IsDrawn : List (List Op) → ℕ → ℕ → List Update → Type 0
+IsDrawn [] slots number history = history ≡ []
+IsDrawn (script ∷ scripts) slots number history = (told : List (List Told)) × IsOfSchedule (script ∷ scripts) slots number told history
+
+-- In threads the scripts leave the tree of their waiter. By a schedule they leave nothing, and their history is drawn.
+abbrev pub RunsBy : Mode → List (List Op) → ℕ → List Update → Ran → Type 0
+RunsBy (Threads waiter) scripts slots history ran = LeavesTree waiter scripts slots history ran
+RunsBy (Schedule number) scripts slots history ran = (ran ≡ Nothing) × IsDrawn scripts slots number history
+
+-- A made workload leaves the tree too, with the default slots and some history.
+pub record LeavesMade (waiter : Waiter) (scripts : List (List Op)) (ran : Ran) : Type 0 where
+  pub history : List Update
+  pub left : LeavesTree waiter scripts (default_slots_of scripts) history ran
+
+-- The hash dictionary on which the scripts ran, which has a place for each and a ticket for each operation, and the one seat into which
+-- those of all scripts were joined; none of its marks is a wait's. The seat is quiet, answers for the place of every script, and is
+-- informed, so it may go on.
 pub record IsLeftOf (scripts : List (List Op)) (history : List Update) (table : TableAt) (seat : SeatAt) : Type 0 where
   pub of_table : seat.table ≡ table.id
   pub capacities : AreCapacities scripts table.capacities
@@ -26,11 +85,8 @@ pub record IsLeftOf (scripts : List (List Op)) (history : List Update) (table : 
   pub quiet : IsQuiet seat.view
   pub answers : (place : ℕ) → place < length scripts → AnswersFor seat.view place
   pub informed : IsInformed table.capacities table.places seat.view
-  pub fits : FitsScripts scripts seat.view.seen
+  pub marks : AreMarksOf scripts history seat.view.seen
   pub waits : HaveNoWaits seat.view.seen
-  pub updates : updates_of seat.view.seen ≡ history
 
--- Without scripts no table is made.
 abbrev pub LeavesHash : List (List Op) → List Update → Ran → Type 0
-LeavesHash [] history ran = ran ≡ Nothing
-LeavesHash (script ∷ scripts) history ran = (table : TableAt) × (seat : SeatAt) × (ran ≡ Hash table seat) × IsLeftOf (script ∷ scripts) history table seat
+LeavesHash scripts history ran = LeavesSome scripts ran ((table : TableAt) × (seat : SeatAt) × (ran ≡ Hash table seat) × IsLeftOf scripts history table seat)

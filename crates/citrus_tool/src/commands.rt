@@ -1,22 +1,45 @@
 //! The words after the program's name.
 ghost use Rattle.std.specs.Prelude.{◌≡◌, ◌↔◌, ℕ, ◌*◌, ◌≤◌, ◌∷◌, [], IsTrue, IfSome, Some, None, Option, map, string_bytes};
+ghost use Rattle.core_state.specs.declared.shape.Waiter as waiter;
 ghost use Rattle.citrus_tool.specs.declared.commands.Command as command;
+ghost use Rattle.citrus_tool.specs.declared.commands.Mode as mode;
 ghost use Rattle.citrus_tool.specs.Arguments.{numbers_of};
-ghost use Rattle.citrus_tool.specs.Commands.{Asks, AreSlots, IsInRange};
+ghost use Rattle.citrus_tool.specs.Commands.{Asks, AreSlots, IsInRange, IsMode, Suits, chosen};
 
 use crate::arguments::{Arguments, Numbers, read_arguments};
+use core_state::shape::Waiter;
 use prcu_model::Scripts;
+
+/// How `run` runs scripts.
+#[derive(Clone, Copy, Debug, PartialEq, Eq)]
+pub enum Mode {
+    /// Each in a thread of its own, on one tree with this waiter.
+    Threads { waiter: Waiter },
+    /// In one thread, step by step. The number draws which script makes the next step.
+    Schedule { number: u64 },
+}
 
 /// What the words ask for.
 #[derive(Clone, Copy, Debug, PartialEq, Eq)]
 pub enum Command {
-    /// Runs the scripts of the input, and writes their account. With a number of slots the dictionary takes no more pairs
-    /// than that.
-    Run { slots: Option<u32> },
+    /// Runs the scripts of the input on one search tree, and writes their account. With a number of slots the tree takes no
+    /// more pairs than that, and twenty for each script but the first.
+    Run {
+        slots: Option<u32>,
+        mode: Mode,
+    },
     /// Tells whether the bytes after the scripts are an account of them, which may have so many slots.
-    Check { slots: Option<u32> },
-    /// Runs so many scripts of so many operations each, made from the number, and writes a summary.
-    Load { number: u64, scripts: u32, ops: u32 },
+    Check {
+        slots: Option<u32>,
+    },
+    /// Runs so many scripts of so many operations each, made from the number, on one search tree with this waiter, and writes
+    /// a summary.
+    Load {
+        number: u64,
+        scripts: u32,
+        ops: u32,
+        waiter: Waiter,
+    },
     /// Runs the scripts of the input beside each other on one hash dictionary, and writes their account.
     Hash,
 }
@@ -40,21 +63,6 @@ impl Command {
 // The most slots that `--slots` gives: with twenty more for each script but the first they are at most 2,097,152.
 const MOST_SLOTS: u64 = 2_095_892;
 
-// The slots that are given, if any, where nothing else is: `None` where a number stands by itself, or the slots are none
-// or too many.
-fn slots_alone(arguments: Arguments) -> Option<Option<u32>>
-    ensures some { IfSome result (λ slots. (arguments.slots ≡ slots) × (numbers_of arguments.numbers ≡ []) × AreSlots slots) }
-    ensures only { (slots : Option ℕ) → arguments.slots ≡ slots → numbers_of arguments.numbers ≡ [] → AreSlots slots → result ≡ Some slots }
-{
-    match (arguments.slots, arguments.numbers) {
-        (None, Numbers::Zero) => Some(None),
-        (Some(slots), Numbers::Zero) if slots >= 1 && slots <= MOST_SLOTS => Some(Some(
-            slots as u32,
-        )),
-        _ => None,
-    }
-}
-
 /// Reads the words: `None` exactly where they are no command.
 pub fn command_of(words: &[String]) -> Option<Command>
     ensures asked { IfSome result (Asks (map string_bytes words.now)) }
@@ -63,44 +71,110 @@ pub fn command_of(words: &[String]) -> Option<Command>
     let (word, others) = words.split_first()?;
     let none = Arguments {
         slots: None,
+        schedule: None,
+        waiter: None,
         numbers: Numbers::Zero,
     };
     let arguments = read_arguments(others, none)?;
     match word.as_str() {
-        "run" => Some(Command::Run {
-            slots: slots_alone(arguments)?,
-        }),
-        "check" => Some(Command::Check {
-            slots: slots_alone(arguments)?,
-        }),
+        "run" => run_of(arguments),
+        "check" => check_of(arguments),
         "load" => load_of(arguments),
         "hash" => hash_of(arguments),
         _ => None,
     }
 }
 
-// The command `hash`, where it stands alone.
-fn hash_of(arguments: Arguments) -> Option<Command>
-    ensures some { IfSome result (λ command. (command ≡ Command.Hash) × (arguments.slots ≡ None) × (numbers_of arguments.numbers ≡ [])) }
-    ensures only { arguments.slots ≡ None → numbers_of arguments.numbers ≡ [] → result ≡ Some Command.Hash }
+// The slots that are given, if any: `None` where they are none or too many.
+fn slots_of(arguments: Arguments) -> Option<Option<u32>>
+    ensures some { IfSome result (λ slots. (arguments.slots ≡ slots) × AreSlots slots) }
+    ensures only { (slots : Option ℕ) → arguments.slots ≡ slots → AreSlots slots → result ≡ Some slots }
 {
-    match (arguments.slots, arguments.numbers) {
-        (None, Numbers::Zero) => Some(Command::Hash),
+    match arguments.slots {
+        None => Some(None),
+        Some(slots) if slots >= 1 && slots <= MOST_SLOTS => Some(Some(slots as u32)),
         _ => None,
     }
 }
 
-// The numbers of `load`, where they stand alone and are in their ranges.
+// The waiter that is named, or the first.
+fn waiter_of(arguments: Arguments) -> Waiter
+    ensures { result ≡ chosen arguments.waiter }
+{
+    arguments.waiter.unwrap_or(Waiter::Eer)
+}
+
+// How `run` is to run its scripts: `None` where both a schedule and a waiter are given.
+fn mode_of(arguments: Arguments) -> Option<Mode>
+    ensures some { IfSome result (λ mode. IsMode mode arguments.schedule arguments.waiter) }
+    ensures only { (mode : mode.Mode) → IsMode mode arguments.schedule arguments.waiter → result ≡ Some mode }
+{
+    match (arguments.schedule, arguments.waiter) {
+        (None, _) => Some(Mode::Threads {
+            waiter: waiter_of(arguments),
+        }),
+        (Some(number), None) => Some(Mode::Schedule { number }),
+        (Some(_), Some(_)) => None,
+    }
+}
+
+// The command `run`, where its options stand alone.
+fn run_of(arguments: Arguments) -> Option<Command>
+    ensures some { IfSome result (λ command. (slots : Option ℕ) × (mode : mode.Mode) × (command ≡ Command.Run slots mode) × Suits command arguments × IsInRange command) }
+    ensures only { (slots : Option ℕ) (mode : mode.Mode) → Suits (Command.Run slots mode) arguments → AreSlots slots → result ≡ Some (Command.Run slots mode) }
+{
+    let Numbers::Zero = arguments.numbers else {
+        return None;
+    };
+    Some(Command::Run {
+        slots: slots_of(arguments)?,
+        mode: mode_of(arguments)?,
+    })
+}
+
+// The command `check`, where its option stands alone.
+fn check_of(arguments: Arguments) -> Option<Command>
+    ensures some { IfSome result (λ command. (slots : Option ℕ) × (command ≡ Command.Check slots) × Suits command arguments × IsInRange command) }
+    ensures only { (slots : Option ℕ) → Suits (Command.Check slots) arguments → AreSlots slots → result ≡ Some (Command.Check slots) }
+{
+    match (arguments.schedule, arguments.waiter, arguments.numbers) {
+        (None, None, Numbers::Zero) => Some(Command::Check {
+            slots: slots_of(arguments)?,
+        }),
+        _ => None,
+    }
+}
+
+// The command `hash`, where it stands alone.
+fn hash_of(arguments: Arguments) -> Option<Command>
+    ensures some { IfSome result (λ command. (command ≡ Command.Hash) × Suits Command.Hash arguments) }
+    ensures only { Suits Command.Hash arguments → result ≡ Some Command.Hash }
+{
+    match (
+        arguments.slots,
+        arguments.schedule,
+        arguments.waiter,
+        arguments.numbers,
+    ) {
+        (None, None, None, Numbers::Zero) => Some(Command::Hash),
+        _ => None,
+    }
+}
+
+// The numbers of `load`, where nothing but a waiter stands beside them and they are in their ranges.
 fn load_of(arguments: Arguments) -> Option<Command>
-    ensures some { IfSome result (λ command. (number scripts ops : ℕ) × (command ≡ Command.Load number scripts ops) × (arguments.slots ≡ None)
-        × (numbers_of arguments.numbers ≡ number ∷ scripts ∷ ops ∷ []) × IsInRange command) }
-    ensures only { (number scripts ops : ℕ) → arguments.slots ≡ None → numbers_of arguments.numbers ≡ number ∷ scripts ∷ ops ∷ []
-        → IsInRange (Command.Load number scripts ops) → result ≡ Some (Command.Load number scripts ops) }
+    ensures some { IfSome result (λ command. (number scripts ops : ℕ) × (waiter : waiter.Waiter) × (command ≡ Command.Load number scripts ops waiter)
+        × Suits command arguments × IsInRange command) }
+    ensures only { (number scripts ops : ℕ) (waiter : waiter.Waiter) → Suits (Command.Load number scripts ops waiter) arguments
+        → IsInRange (Command.Load number scripts ops waiter) → result ≡ Some (Command.Load number scripts ops waiter) }
 {
     let Numbers::Three(number, scripts, ops) = arguments.numbers else {
         return None;
     };
-    if arguments.slots.is_some() || scripts == 0 || scripts > u64::from(Scripts::MOST_SCRIPTS) {
+    if arguments.slots.is_some() || arguments.schedule.is_some() {
+        return None;
+    }
+    if scripts == 0 || scripts > u64::from(Scripts::MOST_SCRIPTS) {
         return None;
     }
     if ops > u64::from(Scripts::MOST_OPS) || scripts * ops > u64::from(Scripts::MOST_OPS) {
@@ -110,5 +184,6 @@ fn load_of(arguments: Arguments) -> Option<Command>
         number,
         scripts: scripts as u32,
         ops: ops as u32,
+        waiter: waiter_of(arguments),
     })
 }

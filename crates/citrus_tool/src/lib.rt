@@ -5,11 +5,12 @@ mod arguments;
 mod commands;
 mod outcome;
 mod parts;
-mod plain;
 mod running;
+mod slots;
 mod top;
+mod treeing;
 
-pub use commands::Command;
+pub use commands::{Command, Mode};
 pub use outcome::{Outcome, Ran, Status};
 pub use top::tool;
 

@@ -1,6 +1,10 @@
 //! What the top call answers.
 
 use class_hash::{HashSeat, HashTable};
+use d_wait::Domain;
+use deer_wait::Deer;
+use eer_wait::Eer;
+use seat_table::{CitrusTable, Seat};
 
 /// How a call of `tool` ended. The numbers are the program's exit statuses.
 #[derive(Clone, Copy, Debug, PartialEq, Eq)]
@@ -35,13 +39,31 @@ impl Status {
     }
 }
 
-/// What a run leaves.
+/// What a run leaves: a dictionary, and the one seat into which those of all scripts were joined.
 #[derive(Drop)]
 pub enum Ran {
     /// Nothing.
     Nothing,
-    /// The hash dictionary, and the one seat into which those of all scripts were joined.
-    Hash { table: HashTable, seat: HashSeat },
+    /// The search tree, with the first waiter.
+    Eer {
+        table: CitrusTable<Eer>,
+        seat: Seat<Eer>,
+    },
+    /// The search tree, with the second waiter.
+    Domain {
+        table: CitrusTable<Domain>,
+        seat: Seat<Domain>,
+    },
+    /// The search tree, with the third waiter.
+    Deer {
+        table: CitrusTable<Deer>,
+        seat: Seat<Deer>,
+    },
+    /// The hash dictionary.
+    Hash {
+        table: HashTable,
+        seat: HashSeat,
+    },
 }
 
 /// How a call of `tool` ended, and what its run leaves.

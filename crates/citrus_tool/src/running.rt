@@ -1,29 +1,27 @@
 //! What each command makes of its input.
-ghost use Rattle.std.specs.Prelude.{◌≡◌, ◌≤◌, ◌++◌, IfOk, length, codes, decimal};
+ghost use Rattle.std.specs.Prelude.{◌≡◌, ◌≤◌, ◌++◌, [], ℕ, List, IfOk, length, codes, decimal};
 ghost use Rattle.prcu_model.specs.Slots.{StaysWithin};
 ghost use Rattle.account_text.specs.Account.{IsAccount};
-ghost use Rattle.workload.specs.Draws.{made_scripts};
-ghost use Rattle.workload.specs.Summaries.{plain_summary};
-ghost use Rattle.workload.specs.SummaryText.{summary_text};
 ghost use Rattle.prcu_model.specs.Scripts.{default_slots_of};
 ghost use Rattle.citrus_tool.specs.Answers.{Writes, Leaves, Judges};
-ghost use Rattle.citrus_tool.specs.Leavings.{LeavesHash};
+ghost use Rattle.citrus_tool.specs.Leavings.{RunsBy, IsDrawn, LeavesHash};
 ghost use Rattle.citrus_tool.specs.Commands.{AreSlots, IsInRange, limit_of};
 ghost use Rattle.citrus_tool.specs.Limits.{slots_of};
 
-use crate::commands::Command;
+use crate::commands::{Command, Mode};
 use crate::outcome::{Ran, Status};
 use crate::parts::parts_of;
-use crate::plain::run_plain;
+use crate::slots::slots_for;
+use crate::treeing::{account_in_threads, summary_in_threads};
 use account_text::{check, make_account};
-use hash_run::run_scripts;
+use core_state::shape::Waiter;
 use prcu_marks::Gate;
 use prcu_model::{NoMemory, Scripts};
 use script_text::{ScriptError, parse, push_number};
 use std::alloc::Global;
 use std::sync::Wait;
 use std::thread::Threads;
-use workload::{make, summary_of, write_summary};
+use workload::make;
 
 /// The text that answers an input, the status with which it is written whole, and what the run leaves.
 #[derive(Drop)]
@@ -47,30 +45,42 @@ pub fn answer_to<R: Threads + Wait + Sync, G: Gate + Sync>(
         × Leaves command answer.status input.now answer.text.items writes answer.ran) }
 {
     match command {
-        Command::Run { slots } => run(alloc, slots, input),
+        Command::Run { slots, mode } => run(rt, alloc, slots, mode, input, gate),
         Command::Check { slots } => check_claim(alloc, slots, input),
         Command::Load {
             number,
             scripts,
             ops,
-        } => load(alloc, number, scripts, ops),
+            waiter,
+        } => load(rt, alloc, number, scripts, ops, waiter, gate),
         Command::Hash => hash(rt, alloc, input, gate),
     }
 }
 
-// Runs the scripts that the input holds: their account, or the number of the first bad line.
-fn run(alloc: Global, slots: Option<u32>, input: &[u8]) -> Result<Answer, NoMemory>
-    requires short { length input.now ≤ 134217728 }
+// Runs the scripts that the input holds on one search tree: their account, or the number of the first bad line.
+fn run<R: Threads + Wait + Sync, G: Gate + Sync>(
+    rt: &R,
+    alloc: Global,
+    slots: Option<u32>,
+    mode: Mode,
+    input: &[u8],
+    gate: &G,
+) -> Result<Answer, NoMemory>
+    requires short { length input.now ≤ 16777216 }
     requires slots { AreSlots slots }
-    ensures written { IfOk result (λ answer. Writes (Command.Run slots) answer.status input.now answer.text.items) }
-    ensures ran { IfOk result (λ answer. answer.ran ≡ Ran.Nothing) }
+    ensures { IfOk result (λ answer. (writes : Writes (Command.Run slots mode) answer.status input.now answer.text.items)
+        × Leaves (Command.Run slots mode) answer.status input.now answer.text.items writes answer.ran) }
 {
     match parse(alloc, input) {
-        Ok(scripts) => Ok(Answer {
-            status: Status::Done,
-            text: account_for(alloc, slots, &scripts)?,
-            ran: Ran::Nothing,
-        }),
+        Ok(scripts) => {
+            let shared = slots_for(slots, &scripts);
+            let (text, ran) = run_by(rt, alloc, &scripts, shared, mode, gate)?;
+            Ok(Answer {
+                status: Status::Done,
+                text,
+                ran,
+            })
+        }
         Err(ScriptError::Line { number }) => Ok(Answer {
             status: Status::BadScript,
             text: bad_line(alloc, number)?,
@@ -78,6 +88,57 @@ fn run(alloc: Global, slots: Option<u32>, input: &[u8]) -> Result<Answer, NoMemo
         }),
         Err(ScriptError::NoMemory) => Err(NoMemory),
     }
+}
+
+// Runs the scripts as the mode says, on a tree with so many slots: their account, and what is left. Without scripts no tree is
+// made.
+fn run_by<R: Threads + Wait + Sync, G: Gate + Sync>(
+    rt: &R,
+    alloc: Global,
+    scripts: &Scripts,
+    slots: u32,
+    mode: Mode,
+    gate: &G,
+) -> Result<(Vec<u8>, Ran), NoMemory>
+    requires { (1 ≤ slots) × (slots ≤ 2097152) }
+    ensures { IfOk result (λ made. (account : IsAccount scripts.now slots made.0.items) × StaysWithin account.history slots
+        × RunsBy mode scripts.now slots account.history made.1) }
+{
+    if scripts.count() == 0 {
+        return Ok((account_of_none(alloc, scripts, slots)?, Ran::Nothing));
+    }
+    match mode {
+        Mode::Threads { waiter } => account_in_threads(rt, alloc, scripts, slots, waiter, gate),
+        Mode::Schedule { number } => Ok((
+            account_by_schedule(rt, alloc, scripts, slots, number)?,
+            Ran::Nothing,
+        )),
+    }
+}
+
+// The account of no scripts.
+fn account_of_none(alloc: Global, scripts: &Scripts, slots: u32) -> Result<Vec<u8>, NoMemory>
+    requires { length scripts.now ≡ 0 }
+    ensures { IfOk result (λ text. (account : IsAccount scripts.now slots text.items) × (account.history ≡ [])) }
+{
+    make_account(alloc, scripts, &[], &[], slots)
+}
+
+// The account of the scripts, run in one thread step by step, as the number draws them.
+fn account_by_schedule<R: Wait>(
+    rt: &R,
+    alloc: Global,
+    scripts: &Scripts,
+    slots: u32,
+    number: u64,
+) -> Result<Vec<u8>, NoMemory>
+    requires some { 1 ≤ length scripts.now }
+    requires slots { (1 ≤ slots) × (slots ≤ 2097152) }
+    ensures { IfOk result (λ text. (account : IsAccount scripts.now slots text.items) × StaysWithin account.history slots
+        × IsDrawn scripts.now slots number account.history) }
+{
+    let ran = schedule_run::run_scripts(rt, alloc, scripts, slots, number)?;
+    make_account(alloc, scripts, &ran.told, &ran.history, slots)
 }
 
 // Judges the account that the input claims of its scripts.
@@ -124,33 +185,6 @@ fn judge(
     })
 }
 
-// The slots that the scripts share: those that were given and twenty more for each script but the first, or the default.
-fn slots_for(slots: Option<u32>, scripts: &Scripts) -> u32
-    requires { AreSlots slots }
-    ensures { result ≡ slots_of slots scripts.now }
-{
-    match slots {
-        Some(most) => most + 20 * scripts.count().saturating_sub(1),
-        None => scripts.default_slots(),
-    }
-}
-
-// The account of the scripts, run one after another, with no more pairs than so many slots.
-fn account_for(alloc: Global, slots: Option<u32>, scripts: &Scripts) -> Result<Vec<u8>, NoMemory>
-    requires { AreSlots slots }
-    ensures { IfOk result (λ text. (account : IsAccount scripts.now (slots_of slots scripts.now) text.items)
-        × StaysWithin account.history (slots_of slots scripts.now)) }
-{
-    let ended = run_plain(alloc, slots, scripts)?;
-    make_account(
-        alloc,
-        scripts,
-        &ended.told,
-        &ended.history,
-        slots_for(slots, scripts),
-    )
-}
-
 // Runs the scripts that the input holds beside each other on one hash dictionary: their account, or the number of the first
 // bad line.
 fn hash<R: Threads + Wait + Sync, G: Gate + Sync>(
@@ -193,9 +227,12 @@ fn hash_scripts<R: Threads + Wait + Sync, G: Gate + Sync>(
         × LeavesHash scripts.now account.history made.1) }
 {
     if scripts.count() == 0 {
-        return Ok((account_for(alloc, None, scripts)?, Ran::Nothing));
+        return Ok((
+            account_of_none(alloc, scripts, scripts.default_slots())?,
+            Ran::Nothing,
+        ));
     }
-    let ended = run_scripts(rt, alloc, scripts, gate)?;
+    let ended = hash_run::run_scripts(rt, alloc, scripts, gate)?;
     let text = make_account(
         alloc,
         scripts,
@@ -210,20 +247,26 @@ fn hash_scripts<R: Threads + Wait + Sync, G: Gate + Sync>(
     Ok((text, ran))
 }
 
-// Runs a made workload one script after another: its summary.
-fn load(alloc: Global, number: u64, scripts: u32, ops: u32) -> Result<Answer, NoMemory>
-    requires { IsInRange (Command.Load number scripts ops) }
-    ensures status { IfOk result (λ answer. answer.status ≡ Status.Done) }
-    ensures text { IfOk result (λ answer. answer.text.items ≡ summary_text (plain_summary (made_scripts number scripts ops))) }
-    ensures ran { IfOk result (λ answer. answer.ran ≡ Ran.Nothing) }
+// Runs a made workload on one search tree, each script in a thread of its own: its summary.
+fn load<R: Threads + Wait + Sync, G: Gate + Sync>(
+    rt: &R,
+    alloc: Global,
+    number: u64,
+    scripts: u32,
+    ops: u32,
+    waiter: Waiter,
+    gate: &G,
+) -> Result<Answer, NoMemory>
+    requires { IsInRange (Command.Load number scripts ops waiter) }
+    ensures { IfOk result (λ answer. (input : List ℕ) → (writes : Writes (Command.Load number scripts ops waiter) answer.status input answer.text.items)
+        × Leaves (Command.Load number scripts ops waiter) answer.status input answer.text.items writes answer.ran) }
 {
     let made = make(alloc, number, scripts, ops)?;
-    let ended = run_plain(alloc, None, &made)?;
-    let summary = summary_of(alloc, &made, &ended.told, &ended.history)?;
+    let (text, ran) = summary_in_threads(rt, alloc, &made, waiter, gate)?;
     Ok(Answer {
         status: Status::Done,
-        text: write_summary(alloc, &summary)?,
-        ran: Ran::Nothing,
+        text,
+        ran,
     })
 }
 

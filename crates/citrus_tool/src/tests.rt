@@ -13,6 +13,7 @@ mod faults;
 mod hashes;
 mod loads;
 mod slots;
+mod trees;
 mod words;
 
 // The status of a call, and what it wrote, with room for so many bytes.
@@ -124,34 +125,19 @@ fn run_and_hash_write_the_account_of_their_scripts(rt: HostRuntime) -> Result<()
     ];
     let alloc = rt.alloc();
     for (i, (input, status, text)) in cases.iter().enumerate() {
-        for (command, piece) in [("run", 1), ("run", 4), ("hash", 1000)] {
+        let commands: [(&[&str], usize); 5] = [
+            (&["run"], 1),
+            (&["run", "--waiter", "d"], 4),
+            (&["run", "--waiter=deer"], 1000),
+            (&["run", "--schedule", "7"], 1000),
+            (&["hash"], 1000),
+        ];
+        for (words, piece) in commands {
             let mut source = source_of(alloc, input, piece, &[])?;
-            let (got, written) = answer(&rt, alloc, &[command], &mut source, 1000)?;
+            let (got, written) = answer(&rt, alloc, words, &mut source, 1000)?;
             assert_eq!(rt; got, *status, "case {i}");
             assert!(rt; written.as_slice() == *text, "case {i}");
         }
-    }
-    Ok(())
-}
-
-#[test]
-fn run_runs_its_scripts_one_after_another(rt: HostRuntime) -> Result<(), Fail> {
-    let alloc = rt.alloc();
-    let cases: [(&[u8], &[u8]); 2] = [
-        (
-            b"script\nput 1 1\nscript\nset 1 2\nscript\nget 1\n",
-            b"script 0\nput 1 1 new 1\nscript 1\nset 1 2 was 1 2\nscript 2\nget 1 val 2 2\nhistory 2\n1 0 put 1 1\n2 1 set 1 2\nfinal 1\n1 2\nend\n",
-        ),
-        (
-            b"script\nput 1 1\nscript\nget 1\n",
-            b"script 0\nput 1 1 new 1\nscript 1\nget 1 val 1 1\nhistory 1\n1 0 put 1 1\nfinal 1\n1 1\nend\n",
-        ),
-    ];
-    for (input, text) in cases.iter() {
-        let mut source = source_of(alloc, input, 100, &[])?;
-        let (status, written) = answer(&rt, alloc, &["run"], &mut source, 1000)?;
-        assert_eq!(rt; status, Status::Done);
-        assert!(rt; written.as_slice() == *text);
     }
     Ok(())
 }
@@ -328,10 +314,17 @@ fn script_text_of(alloc: Global, mut state: u64) -> Result<Vec<u8>, Fail> {
 #[test]
 fn what_run_writes_is_checked_as_true(rt: HostRuntime) -> Result<(), Fail> {
     let alloc = rt.alloc();
-    for number in 0..200 {
+    let options = [
+        "--waiter=eer",
+        "--waiter=d",
+        "--waiter=deer",
+        "--schedule=9",
+    ];
+    for number in 0..60 {
         let mut text = script_text_of(alloc, number)?;
         let mut source = source_of(alloc, &text, 1000, &[])?;
-        let (status, account) = answer(&rt, alloc, &["run"], &mut source, 10000)?;
+        let option = options[number as usize % options.len()];
+        let (status, account) = answer(&rt, alloc, &["run", option], &mut source, 10000)?;
         assert_eq!(rt; status, Status::Done, "text {number}");
         text.extend_from_slice(b"account\n")?;
         text.extend_from_slice(&account)?;

@@ -6,7 +6,7 @@ use std::test::Fail;
 #[test]
 fn load_writes_the_summary_of_its_workload(rt: HostRuntime) -> Result<(), Fail> {
     let alloc = rt.alloc();
-    let cases: [(&[&str], &[u8]); 4] = [
+    let cases: [(&[&str], &[u8]); 6] = [
         (
             &["load", "0", "1", "1"],
             b"scripts 1\nops 1\nnew 0\nold 0\nval 0\nnone 1\ngone 0\nsize 0\nkeys 0\nvalues 0\nend\n",
@@ -20,7 +20,15 @@ fn load_writes_the_summary_of_its_workload(rt: HostRuntime) -> Result<(), Fail> 
             b"scripts 3\nops 150\nnew 71\nold 1\nval 0\nnone 78\ngone 0\nsize 71\nkeys 9600650\nvalues 77971153488\nend\n",
         ),
         (
-            &["load", "1", "8", "100000"],
+            &["load", "1", "8", "100000", "--waiter=eer"],
+            b"scripts 8\nops 800000\nnew 147673\nold 252636\nval 125110\nnone 148693\ngone 125888\nsize 21785\nkeys 2864125027\nvalues 23214788995286\nend\n",
+        ),
+        (
+            &["load", "1", "--waiter", "d", "8", "100000"],
+            b"scripts 8\nops 800000\nnew 147673\nold 252636\nval 125110\nnone 148693\ngone 125888\nsize 21785\nkeys 2864125027\nvalues 23214788995286\nend\n",
+        ),
+        (
+            &["load", "--waiter=deer", "1", "8", "100000"],
             b"scripts 8\nops 800000\nnew 147673\nold 252636\nval 125110\nnone 148693\ngone 125888\nsize 21785\nkeys 2864125027\nvalues 23214788995286\nend\n",
         ),
     ];

@@ -6,7 +6,7 @@ use std::test::Fail;
 #[test]
 fn a_put_finds_no_slot_at_the_limit(rt: HostRuntime) -> Result<(), Fail> {
     let alloc = rt.alloc();
-    let cases: [(&str, &[u8], &[u8]); 4] = [
+    let cases: [(&str, &[u8], &[u8]); 2] = [
         (
             "--slots=1",
             b"script\nput 1 10\nput 2 20\ndel 1\nput 2 20\n",
@@ -17,22 +17,19 @@ fn a_put_finds_no_slot_at_the_limit(rt: HostRuntime) -> Result<(), Fail> {
             b"script\nput 2 20\nput 1 10\nput 3 30\ndel 2\nput 4 40\nput 5 50\n",
             b"script 0\nput 2 20 new 1\nput 1 10 new 2\nput 3 30 new 3\ndel 2 gone 4\nput 4 40 new 5\nput 5 50 full 5\nhistory 5\n1 0 put 2 20\n2 0 put 1 10\n3 0 put 3 30\n4 0 del 2\n5 0 put 4 40\nfinal 3\n1 10\n3 30\n4 40\nend\n",
         ),
-        (
-            "--slots=1",
-            b"script\nput 1 1\nscript\nput 2 2\n",
-            b"script 0\nput 1 1 new 1\nscript 1\nput 2 2 full 1\nhistory 1\n1 0 put 1 1\nfinal 1\n1 1\nend\n",
-        ),
-        (
-            "--slots=4",
-            b"script\nput 1 1\nput 2 2\nscript\nput 3 3\nput 1 4\n",
-            b"script 0\nput 1 1 new 1\nput 2 2 new 2\nscript 1\nput 3 3 new 3\nput 1 4 old 3\nhistory 3\n1 0 put 1 1\n2 0 put 2 2\n3 1 put 3 3\nfinal 3\n1 1\n2 2\n3 3\nend\n",
-        ),
     ];
     for (i, (slots, input, account)) in cases.iter().enumerate() {
-        let mut source = source_of(alloc, input, 100, &[])?;
-        let (status, written) = answer(&rt, alloc, &["run", slots], &mut source, 1000)?;
-        assert_eq!(rt; status, Status::Done, "case {i}");
-        assert!(rt; written.as_slice() == *account, "case {i}");
+        for option in [
+            "--waiter=eer",
+            "--waiter=d",
+            "--waiter=deer",
+            "--schedule=0",
+        ] {
+            let mut source = source_of(alloc, input, 100, &[])?;
+            let (status, written) = answer(&rt, alloc, &["run", option, slots], &mut source, 1000)?;
+            assert_eq!(rt; status, Status::Done, "case {i} with {option}");
+            assert!(rt; written.as_slice() == *account, "case {i} with {option}");
+        }
     }
     Ok(())
 }

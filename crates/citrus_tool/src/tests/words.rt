@@ -6,7 +6,7 @@ use std::test::Fail;
 #[test]
 fn words_that_are_no_command_touch_nothing(rt: HostRuntime) -> Result<(), Fail> {
     let alloc = rt.alloc();
-    let cases: [&[&str]; 39] = [
+    let cases: [&[&str]; 56] = [
         &[],
         &[""],
         &["run", "check"],
@@ -38,6 +38,23 @@ fn words_that_are_no_command_touch_nothing(rt: HostRuntime) -> Result<(), Fail> 
         &["--slots", "3", "run"],
         &["check", "--slots", "0"],
         &["run", "--schedule", "1", "--waiter", "d"],
+        &["run", "--waiter=eer", "--schedule=1"],
+        &["run", "--schedule"],
+        &["run", "--schedule", "01"],
+        &["run", "--schedule=18446744073709551616"],
+        &["run", "--schedule", "1", "--schedule=1"],
+        &["run", "--waiter"],
+        &["run", "--waiter="],
+        &["run", "--waiter=e"],
+        &["run", "--waiter", "Deer"],
+        &["run", "--waiter", "d", "--waiter=d"],
+        &["run", "--cookies"],
+        &["check", "--waiter", "d"],
+        &["check", "--schedule=1"],
+        &["hash", "--waiter=eer"],
+        &["load", "1", "2", "3", "--schedule", "1"],
+        &["load", "1", "2", "3", "--waiter=eer", "--waiter=eer"],
+        &["watch", "0", "1"],
         &["load"],
         &["load", "1", "2"],
         &["load", "1", "2", "3", "4"],
@@ -61,7 +78,7 @@ fn words_that_are_no_command_touch_nothing(rt: HostRuntime) -> Result<(), Fail> 
 #[test]
 fn options_stand_in_either_form(rt: HostRuntime) -> Result<(), Fail> {
     let alloc = rt.alloc();
-    let cases: [(&[&str], &[u8]); 6] = [
+    let cases: [(&[&str], &[u8]); 9] = [
         (
             &["run", "--slots", "1"],
             b"script 0\nhistory 0\nfinal 0\nend\n",
@@ -69,6 +86,18 @@ fn options_stand_in_either_form(rt: HostRuntime) -> Result<(), Fail> {
         (
             &["run", "--slots=2095892"],
             b"script 0\nhistory 0\nfinal 0\nend\n",
+        ),
+        (
+            &["run", "--schedule=18446744073709551615", "--slots", "1"],
+            b"script 0\nhistory 0\nfinal 0\nend\n",
+        ),
+        (
+            &["run", "--slots=1", "--waiter", "d"],
+            b"script 0\nhistory 0\nfinal 0\nend\n",
+        ),
+        (
+            &["load", "1", "--waiter", "deer", "2", "0"],
+            b"scripts 2\nops 0\nnew 0\nold 0\nval 0\nnone 0\ngone 0\nsize 0\nkeys 0\nvalues 0\nend\n",
         ),
         (&["check"], b"no\n"),
         (&["check", "--slots", "7"], b"no\n"),

@@ -1,13 +1,10 @@
-use Rattle.std.proofs.Common.{sym, subst}
-use Rattle.prcu_model.specs.Lists.{entries_of}
-use Rattle.prcu_model.specs.Fronts.{AreExplainable}
-use Rattle.prcu_model.specs.Scripts.{default_slots_of}
+use Rattle.std.proofs.Common.{ap, subst, ◌∙◌}
+use Rattle.workload.specs.Summaries.{plain_summary}
+use Rattle.workload.specs.SummaryText.{summary_text}
+use Rattle.citrus_tool.specs.Leavings.{LeavesMade}
 use Rattle.citrus_tool.proofs.running.load.Goals as goal
 
-pub summary_of-requires-clause-explainable : goal.summary_of-requires-clause-explainable
-summary_of-requires-clause-explainable c =
-    let scripts = c.in_ok-made.made in
-    let slots = default_slots_of scripts in
-    subst (λ told. AreExplainable scripts (entries_of told) c.deref-2.result.now slots) (sym c.deref.ensures.value)
-    (subst (λ history. AreExplainable scripts (entries_of c.in_ok-ended.ended.told.items) history slots) (sym c.deref-2.ensures.value)
-    (c.in_ok-ended.ensures.explained slots tt))
+pub returns : goal.returns
+returns g c = λ input.
+    let is = c.in_ok-made.ensures in
+    (c.in_ok-text.ensures.text ∙ ap (λ s. summary_text (plain_summary s)) is, subst (λ s. LeavesMade c.args.waiter s c.in_ok-text.ran) is c.in_ok-text.ensures.left)

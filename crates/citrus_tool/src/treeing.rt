@@ -1,0 +1,138 @@
+//! Scripts that run beside each other on one search tree: what is written of them, and the tree.
+ghost use Rattle.std.specs.Prelude.{◌≡◌, ◌≤◌, List, IfOk, length};
+ghost use Rattle.prcu_model.specs.Slots.{StaysWithin};
+ghost use Rattle.prcu_model.specs.Scripts.{default_slots_of};
+ghost use Rattle.prcu_model.specs.declared.operation.Update.{Update};
+ghost use Rattle.account_text.specs.Account.{IsAccount};
+ghost use Rattle.workload.specs.Draws.{IsMade};
+ghost use Rattle.workload.specs.Summaries.{plain_summary};
+ghost use Rattle.workload.specs.SummaryText.{summary_text};
+ghost use Rattle.citrus_tool.specs.Leavings.{IsTreeLeftOf, LeavesTree, LeavesMade};
+
+use crate::outcome::Ran;
+use crate::slots::default_slots;
+use account_text::make_account;
+use core_state::shape::Waiter;
+use d_wait::Domain;
+use deer_wait::Deer;
+use eer_wait::Eer;
+use prcu_marks::Gate;
+use prcu_model::{NoMemory, Scripts};
+use seat_table::{CitrusTable, Seat, WaitPart};
+use std::alloc::Global;
+use std::sync::Wait;
+use std::thread::Threads;
+use tree_run::run_scripts;
+use workload::{summary_of, write_summary};
+
+// What is written of a run, and the tree with the seats of all scripts as one.
+#[derive(Drop)]
+struct Written<W: WaitPart> {
+    text: Vec<u8>,
+    table: CitrusTable<W>,
+    seat: Seat<W>,
+}
+
+/// Runs the scripts on a tree of this waiter with so many slots: their account, and the tree.
+pub(crate) fn account_in_threads<R: Threads + Wait + Sync, G: Gate + Sync>(
+    rt: &R,
+    alloc: Global,
+    scripts: &Scripts,
+    slots: u32,
+    waiter: Waiter,
+    gate: &G,
+) -> Result<(Vec<u8>, Ran), NoMemory>
+    requires some { 1 ≤ length scripts.now }
+    requires slots { (1 ≤ slots) × (slots ≤ 2097152) }
+    ensures { IfOk result (λ made. (account : IsAccount scripts.now slots made.0.items) × StaysWithin account.history slots
+        × LeavesTree waiter scripts.now slots account.history made.1) }
+{
+    match waiter {
+        Waiter::Eer => {
+            let Written { text, table, seat } = account_on(rt, alloc, scripts, slots, gate)?;
+            Ok((text, Ran::Eer { table, seat }))
+        }
+        Waiter::Domain => {
+            let Written { text, table, seat } = account_on(rt, alloc, scripts, slots, gate)?;
+            Ok((text, Ran::Domain { table, seat }))
+        }
+        Waiter::Deer => {
+            let Written { text, table, seat } = account_on(rt, alloc, scripts, slots, gate)?;
+            Ok((text, Ran::Deer { table, seat }))
+        }
+    }
+}
+
+// The same on a tree of the waiter W.
+fn account_on<R: Threads + Wait + Sync, W: WaitPart + Sync, G: Gate + Sync>(
+    rt: &R,
+    alloc: Global,
+    scripts: &Scripts,
+    slots: u32,
+    gate: &G,
+) -> Result<Written<W>, NoMemory>
+    requires way { W.WAY ≤ 2 }
+    requires some { 1 ≤ length scripts.now }
+    requires slots { (1 ≤ slots) × (slots ≤ 2097152) }
+    ensures { IfOk result (λ made. (account : IsAccount scripts.now slots made.text.items) × StaysWithin account.history slots
+        × IsTreeLeftOf scripts.now slots account.history made.table made.seat) }
+{
+    let ran = run_scripts(rt, alloc, scripts, slots, gate)?;
+    let text = make_account(alloc, scripts, &ran.told, &ran.history, slots)?;
+    Ok(Written {
+        text,
+        table: ran.table,
+        seat: ran.seat,
+    })
+}
+
+/// Runs a made workload on a tree of this waiter with the default slots: its summary, and the tree.
+pub(crate) fn summary_in_threads<R: Threads + Wait + Sync, G: Gate + Sync>(
+    rt: &R,
+    alloc: Global,
+    scripts: &Scripts,
+    waiter: Waiter,
+    gate: &G,
+) -> Result<(Vec<u8>, Ran), NoMemory>
+    requires made { IsMade scripts.now }
+    requires some { 1 ≤ length scripts.now }
+    ensures text { IfOk result (λ made. made.0.items ≡ summary_text (plain_summary scripts.now)) }
+    ensures left { IfOk result (λ made. LeavesMade waiter scripts.now made.1) }
+{
+    match waiter {
+        Waiter::Eer => {
+            let Written { text, table, seat } = summary_on(rt, alloc, scripts, gate)?;
+            Ok((text, Ran::Eer { table, seat }))
+        }
+        Waiter::Domain => {
+            let Written { text, table, seat } = summary_on(rt, alloc, scripts, gate)?;
+            Ok((text, Ran::Domain { table, seat }))
+        }
+        Waiter::Deer => {
+            let Written { text, table, seat } = summary_on(rt, alloc, scripts, gate)?;
+            Ok((text, Ran::Deer { table, seat }))
+        }
+    }
+}
+
+// The same on a tree of the waiter W.
+fn summary_on<R: Threads + Wait + Sync, W: WaitPart + Sync, G: Gate + Sync>(
+    rt: &R,
+    alloc: Global,
+    scripts: &Scripts,
+    gate: &G,
+) -> Result<Written<W>, NoMemory>
+    requires way { W.WAY ≤ 2 }
+    requires made { IsMade scripts.now }
+    requires some { 1 ≤ length scripts.now }
+    ensures text { IfOk result (λ made. made.text.items ≡ summary_text (plain_summary scripts.now)) }
+    ensures left { IfOk result (λ made. (history : List Update) × IsTreeLeftOf scripts.now (default_slots_of scripts.now) history made.table made.seat) }
+{
+    let ran = run_scripts(rt, alloc, scripts, default_slots(scripts), gate)?;
+    let summary = summary_of(alloc, scripts, &ran.told, &ran.history)?;
+    Ok(Written {
+        text: write_summary(alloc, &summary)?,
+        table: ran.table,
+        seat: ran.seat,
+    })
+}
