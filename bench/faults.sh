@@ -1,5 +1,5 @@
 #!/usr/bin/env bash
-# Refuses in turn each allocation, each read and each write of the built program at `run`, `check` and `load`, and tells
+# Refuses in turn each allocation, each read and each write of the built program at each command, and tells
 # how it ended. Anything but the right status and the right bytes is an error. It stands outside the gate; what it printed
 # stands in docs/PROOFS.md.
 set -eu
@@ -7,6 +7,7 @@ set -eu
 . "$(dirname "$0")/built.sh"
 cc -O2 -shared -fPIC -o "$out/faults.so" "$top/bench/faults.c"
 errors=0
+threads=
 
 # Runs the command with these settings of the library: `run_with SETTINGS..`. Input and words stand in `input` and `words`.
 run_with() {
@@ -32,7 +33,9 @@ is_cut() {
 is_as_always() { [ "$status" = "$always" ] && cmp -s "$out/written" "$out/wanted"; }
 
 # Refuses each of so many in turn, and two past the last one, where nothing is refused. One allocation is asked for ahead,
-# and again when it is needed: where only the first is refused, the run is as always with one allocation more.
+# and again when it is needed: where only the first is refused, the run is as always with one allocation more. Where `threads` isn't
+# empty scripts run beside each other. Then some allocations are room for a thread: where one is refused the script runs in the program's
+# own, and the run is as always; and their number differs by one or two from run to run.
 # What was written before it is as many bytes for each that wasn't refused: `refuse SETTING COUNT STATUS LINE BYTES OTHER..`
 refuse() {
     local setting=$1 count=$2 wanted=$3 line=$4 before=$5 refused=0 again='' n
@@ -40,11 +43,11 @@ refuse() {
     for n in $(seq 1 $((count + 2))); do
         run_with "$@" "$setting=$n"
         if [ "$n" -gt "$count" ]; then
-            is_as_always || error "${*:+$* }$setting=$n"
+            is_as_always || { [ -n "$threads" ] && is_cut "$wanted" "$line"; } || error "${*:+$* }$setting=$n"
         elif is_cut "$wanted" "$line" && [ "$(stat -c %s "$out/written")" = $((before * (n - 1))) ]; then
             refused=$((refused + 1))
-        elif [ "$setting" = FAIL_ALLOC ] && is_as_always && [ "$allocations" = $((count + 1)) ]; then
-            again=", number $n was asked for again"
+        elif [ "$setting" = FAIL_ALLOC ] && is_as_always && { [ -n "$threads" ] || [ "$allocations" = $((count + 1)) ]; }; then
+            again="$again, number $n was done without"
         else
             error "${*:+$* }$setting=$n"
         fi
@@ -78,11 +81,15 @@ printf '%s\n' script 'put 5 50' 'put 2 20' 'put 8 80' 'put 6 60' 'put 9 90' 'del
 { cat "$out/scripts"; echo account; cat "$out/account"; } >"$out/claim"
 { cat "$out/scripts"; echo frob; } >"$out/bad"
 
-words='run' input=$out/scripts always=0 && try
+for waiter in eer d deer; do
+    words="run --waiter $waiter" input=$out/scripts always=0 && try
+    words="load 1 2 100 --waiter=$waiter" input=/dev/null always=0 threads=yes && try
+    threads=
+done
+words='run --schedule 3' input=$out/scripts always=0 && try
 words='check' input=$out/claim always=0 && try
 words='check' input=$out/scripts always=1 && try
 words='run' input=$out/bad always=3 && try
-words='load 1 2 100' input=/dev/null always=0 && try
 words='hash' input=$out/scripts always=0 && try
 echo "$errors errors"
 [ "$errors" = 0 ]

@@ -1,6 +1,7 @@
 #!/usr/bin/env bash
-# Runs drawn script texts, and has each account checked: `generated.sh [COMMAND [WORD..]]`. Without words the commands are `run` and
-# `hash`; else it is the one that the words are, as `run --slots 3`. A text has 2 to 64 scripts on few keys, so that threads meet.
+# Runs drawn script texts, and has each account checked: `generated.sh [COMMAND [WORD..]]`. Without words the commands are `run` with each
+# waiter, in half of the texts with few slots, `run` by a schedule, and `hash`; else it is the one that the words are, as
+# `run --slots 3`. A text has 2 to 64 scripts on few keys, so that threads meet.
 # TEXTS says how many texts there are, TIMES how often each is run. The script fails unless `check` says `yes` each time.
 # It stands outside the gate.
 set -eu
@@ -10,19 +11,17 @@ texts=${TEXTS:-300}
 times=${TIMES:-5}
 g++ -O2 -std=c++17 -o "$out/drawn_text" "$top/bench/drawn_text.cpp"
 
-# Only `--slots` is a word of `check` too.
-check=(check)
-for ((i = 1; i <= $#; i++)); do
-    case ${!i} in
-        --slots) j=$((i + 1)) && check+=(--slots "${!j}") ;;
-        --slots=*) check+=("${!i}") ;;
-    esac
-done
-
 # Runs the text of this number by these words, and checks the account.
 checked() {
-    local number=$1
+    local number=$1 i j check=(check)
     shift
+    # Only `--slots` is a word of `check` too.
+    for ((i = 1; i <= $#; i++)); do
+        case ${!i} in
+            --slots) j=$((i + 1)) && check+=(--slots "${!j}") ;;
+            --slots=*) check+=("${!i}") ;;
+        esac
+    done
     "$citrus" "$@" <"$out/drawn" >"$out/account" || { echo "generated.sh: text $number, $*: status $?" >&2; exit 1; }
     { cat "$out/drawn"; echo account; cat "$out/account"; } >"$out/claim"
     if [ "$("$citrus" "${check[@]}" <"$out/claim")" != yes ]; then
@@ -37,7 +36,12 @@ for ((number = 1; number <= texts; number++)); do
         if [ $# -gt 0 ]; then
             checked "$number" "$@"
         else
-            checked "$number" run
+            few=()
+            [ $((number % 2)) = 0 ] || few=("--slots=$((number % 7 + 1))")
+            for waiter in eer d deer; do
+                checked "$number" run "--waiter=$waiter" "${few[@]}"
+            done
+            checked "$number" run "--schedule=$((1000 * number + time))" "${few[@]}"
             checked "$number" hash
         fi
     done

@@ -19,13 +19,14 @@ measure() {
     done | sort -n | head -1 | cut -d' ' -f 1,2
 }
 
-# One command on one input, by both programs, which write the same: `both OPS SCRIPTS INPUT WORDS..`.
+# One command on one input, by both programs, which write the same, but where scripts are run in threads: then `check` judges what the
+# tool wrote. `both OPS SCRIPTS INPUT WORDS..`.
 both() {
     local ops=$1 scripts=$2 input=$3 ours plain
     shift 3
     ours=$(measure "$input" "$out/ours" "$citrus" "$@")
     plain=$(measure "$input" "$out/theirs" "$out/plain" "$@")
-    cmp "$out/ours" "$out/theirs"
+    [ "$1 $scripts" = 'run 8' ] || cmp "$out/ours" "$out/theirs"
     # shellcheck disable=SC2086
     set -- "$1" $ours $plain
     awk -v what="$1" -v ops="$ops" -v scripts="$scripts" -v s="$2" -v m="$3" -v ps="$4" -v pm="$5" 'BEGIN {
@@ -73,10 +74,11 @@ full_text() {
         ops = 1048576
         for (i = 0; i < ops; i++) {
             if (i % (ops / scripts) == 0) print "script"
-            if (form == "new") print "put " i " " i % 1000
+            # Keys that come in no order, each once: the tree has no long path.
+            if (form == "new") print "put " (i * 648055) % 1048576 " " i % 1000
             else if (form == "one") print (i % 2 ? "del 7" : "put 7 7")
             else if (i == 0) print "put 7 18446744073709551615"
-            else if (i <= 262100) printf "put 18446744073708%06d 18446744073709551615\n", i
+            else if (i <= 262100) printf "put 18446744073708%06d 18446744073709551615\n", (i * 162013) % 262144
             else print "get 7"
         }
     }' >"$out/full"
