@@ -99,7 +99,7 @@ module _ {C : Type 0} (client_for : ℕ → ℕ → C) (scripts : List (List Op)
     -- what all scripts were told, beside marks that have met all callers
     pub crew_has_told : (explains : Dictionary → Op → Reply → Type 0) (caller_of : C → Caller)
         → ((i : ℕ) (ops : List Op) (tolds : List Told) (after : C) → IsChain made (client_for i (length ops)) ops tolds after → HasTold explains (newcomer i) ops tolds (caller_of after))
-        → (marks : List Mark) → HaveMet (map (λ (w : Work C). caller_of w.client) afters) marks → ((p : ℕ) → length scripts ≤ p → own_of p marks ≡ []) → IsLegal (updates_of marks)
+        → (marks : List Mark) → HaveMet (map (λ (w : Work C). caller_of w.client) afters) marks → ((p : ℕ) → length scripts ≤ p → updates_of (own_of p marks) ≡ []) → IsLegal (updates_of marks)
         → HaveTold explains scripts (map (λ (w : Work C). w.told.entries) afters) marks
     crew_has_told explains caller_of told marks met others legal = record {
       count = length-map afters (λ (w : Work C). w.told.entries) ∙ count ∙ crew.count;

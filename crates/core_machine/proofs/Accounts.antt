@@ -399,7 +399,7 @@ have_told scripts slots c run all over = record {
         t.since.seen,
         t.since.own ∙ ap (λ ms. t.own ++ ms) left.1 ∙ append-nil t.own ∙ sym (own_is room i s.0 o.0 (v.0).section c.marks t),
       );
-  others = λ i past. run.holds.now.seats.within i past;
+  others = λ i past. ap updates_of (run.holds.now.seats.within i past);
   legal = run.holds.now.front.legal;
 }
 

@@ -146,7 +146,7 @@ module _ (table : TableAt) (scripts : List (List Op)) (befores afters : List (Wo
             subst (λ (z : Caller). IsPrefix z.seen seat.seen × (own_of i seat.seen ≡ own_of i z.own)) same (joined.seen i after.client.view (view_at i after is), mine ∙ sym all)
 
     pub have_told : HaveTold (ExplainsInClasses table.capacities) scripts (map (λ (w : Work ClientAt). w.told.entries) afters) seat.seen
-    have_told = crew_has_told (client_for table) scripts HasCalled befores afters crew count made (ExplainsInClasses table.capacities) caller_of told_by seat.seen have_met (λ i past. stands.informed.within i (omega arith)) stands.informed.legal
+    have_told = crew_has_told (client_for table) scripts HasCalled befores afters crew count made (ExplainsInClasses table.capacities) caller_of told_by seat.seen have_met (λ i past. ap updates_of (stands.informed.within i (omega arith))) stands.informed.legal
 
     -- the run is explained, whatever the number of slots
     module _ (right : AreCapacities scripts table.capacities) where

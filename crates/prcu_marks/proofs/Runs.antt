@@ -27,11 +27,11 @@ abbrev pub newcomer : ℕ → Caller
 newcomer place = record { place = place; own = []; seen = [] }
 
 -- The caller of each script made its calls, and all marks begin with those that it has seen, with no others of its place.
--- Other places have left none.
+-- Other places made no update.
 pub record HaveTold (explains : Dictionary → Op → Reply → Type 0) (scripts : List (List Op)) (tolds : List (List Told)) (marks : List Mark) : Type 0 where
   pub count : length tolds ≡ length scripts
   pub each : (i : ℕ) → i < length scripts → (c : Caller) × HasTold explains (newcomer i) (get_or scripts i []) (get_or tolds i []) c × IsPrefix c.seen marks × (own_of i marks ≡ own_of i c.own)
-  pub others : (i : ℕ) → length scripts ≤ i → own_of i marks ≡ []
+  pub others : (i : ℕ) → length scripts ≤ i → updates_of (own_of i marks) ≡ []
   pub legal : IsLegal (updates_of marks)
 
 lines_at : (scripts : List (List Op)) (tolds : List (List Told)) (i : ℕ) → length tolds ≡ length scripts → i < length scripts → get_or (all_told_lines scripts tolds) i [] ≡ told_lines (get_or scripts i []) (get_or tolds i [])
@@ -143,7 +143,7 @@ module _ (explains : Dictionary → Op → Reply → Type 0) (scripts : List (Li
         ∙ ap (λ xs. own_updates c (updates_of e.0.seen) ++ xs) (no_own_update c (1 + length (updates_of e.0.seen)) e.2.0 (ap updates_of (later_none c below)))
         ∙ append-nil (own_updates c (updates_of e.0.seen)) ∙ e.1.updates ∙ ap told_updates (sym (lines_at scripts tolds c told.count below))
     | inr past ↦
-        no_own_update c 1 marks (ap updates_of (told.others c past))
+        no_own_update c 1 marks (told.others c past)
         ∙ ap told_updates (sym (get_or_past (all_told_lines scripts tolds) c [] (let n = lines_count scripts tolds told.count in omega arith)))
   ]
 
