@@ -14,8 +14,5 @@ mod turns;
 pub use checking::check;
 pub use judging::{is_explained, is_legal};
 pub use numbering::{fronts, make_account};
-pub use printing::write_account;
+pub use printing::{push_last_number, push_pairs, write_account};
 pub use reading::{Claimed, read_account};
-
-#[cfg(test)]
-mod tests;

@@ -36,8 +36,8 @@ fn push_reply(out: &mut Vec<u8>, reply: Reply) -> Result<(), NoMemory>
     Ok(())
 }
 
-// Appends a number and the end of the line.
-fn push_last_number(out: &mut Vec<u8>, number: u64) -> Result<(), NoMemory>
+/// Appends a number and the end of the line.
+pub fn push_last_number(out: &mut Vec<u8>, number: u64) -> Result<(), NoMemory>
     ensures { OnOk result (out.new.items ≡ out.old.items ++ (decimal number ++ codes "\n")) }
 {
     push_number(out, number)?;
@@ -104,13 +104,23 @@ fn push_history(out: &mut Vec<u8>, history: &[Update]) -> Result<(), NoMemory>
     Ok(())
 }
 
-// Appends a final pair.
+// Appends the line of a pair.
 fn push_pair(out: &mut Vec<u8>, pair: (u64, u64)) -> Result<(), NoMemory>
     ensures { OnOk result (out.new.items ≡ out.old.items ++ pair_text pair) }
 {
     push_number(out, pair.0)?;
     out.push(b' ')?;
     push_last_number(out, pair.1)
+}
+
+/// Appends a line for each pair, its key and its value.
+pub fn push_pairs(out: &mut Vec<u8>, pairs: &[(u64, u64)]) -> Result<(), NoMemory>
+    ensures { OnOk result (out.new.items ≡ out.old.items ++ flat_map pair_text pairs.now) }
+{
+    for pair in pairs {
+        push_pair(out, *pair)?;
+    }
+    Ok(())
 }
 
 // Appends the final pairs.
@@ -120,10 +130,7 @@ fn push_final(out: &mut Vec<u8>, pairs: &[(u64, u64)]) -> Result<(), NoMemory>
 {
     out.extend_from_slice(b"final ")?;
     push_last_number(out, pairs.len() as u64)?;
-    for pair in pairs {
-        push_pair(out, *pair)?;
-    }
-    Ok(())
+    push_pairs(out, pairs)
 }
 
 /// The account that prints these lines of the scripts, this history, and these final pairs.

@@ -132,7 +132,7 @@ Reads-scripts before (script ∷ scripts) fits few room =
     let others : Reads (before ++ script ∷ []) (flat_map script_lines scripts) ((before ++ script ∷ []) ++ scripts) =
     Reads-scripts (before ++ script ∷ []) scripts (All-tail (All FitsWords) script scripts fits) (omega (arith, length-append before (script ∷ []))) (omega (arith, op_count-last before script)) in
     let P : List (List Op) → Type 0 = λ x. Reads (before ++ script ∷ []) (flat_map script_lines scripts) x in
-    Reads-append (script_lines script) (flat_map script_lines scripts) before (before ++ script ∷ []) (before ++ script ∷ scripts)
+    Reads-append 64 (script_lines script) (flat_map script_lines scripts) before (before ++ script ∷ []) (before ++ script ∷ scripts)
     (Reads-script before script (All-head (All FitsWords) script scripts fits) (omega arith) (omega arith))
     (subst P (append_assoc before (script ∷ []) scripts) others)
 

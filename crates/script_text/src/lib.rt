@@ -18,8 +18,5 @@ pub use error::ScriptError;
 pub use number::{push_number, read_number};
 pub use operation::{push_op, read_op};
 pub use printing::print;
-pub use reading::parse;
+pub use reading::{parse, parse_up_to};
 pub use split::{next_line, split_at_first};
-
-#[cfg(test)]
-mod tests;
