@@ -1,3 +1,2 @@
-pub mod Polling
 pub mod Sides
 pub mod Turning

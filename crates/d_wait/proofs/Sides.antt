@@ -25,7 +25,7 @@ use Rattle.seat_table.proofs.Waiting.{step_of, look_passes, look_stays, looks_on
 use Rattle.key_interval.specs.LastClass.{IsLastClass}
 use Rattle.d_wait.specs.Classes.{at_next, IsBack}
 use Rattle.seat_table.specs.Looks.{HasPassed}
-use Rattle.d_wait.proofs.Polling.{one_wait}
+use Rattle.seat_table.proofs.Polling.{one_wait}
 use Rattle.core_waits.proofs.waits.Turns.{in_times}
 
 -- the image of a wait's keys

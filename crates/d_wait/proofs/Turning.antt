@@ -8,7 +8,7 @@ use Rattle.core_frames.proofs.views.Sums.{times_sum, sum_times, sum_equal}
 use Rattle.key_interval.specs.Keys.{Interval}
 use Rattle.list_laws.specs.Counts.{times}
 use Rattle.d_wait.specs.Turns.{AreClassesOf, EndTurnsRest, WaitTurnsEach}
-use Rattle.d_wait.proofs.Polling.{one_wait}
+use Rattle.seat_table.proofs.Polling.{one_wait}
 use Rattle.core_waits.proofs.waits.Turns.{in_times}
 
 -- Two lists of the same classes are as long.

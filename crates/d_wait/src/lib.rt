@@ -5,6 +5,3 @@ mod domain;
 pub mod laws;
 
 pub use domain::Domain;
-
-#[cfg(test)]
-mod tests;

@@ -11,5 +11,6 @@ pub mod Noted
 pub mod Updates
 pub mod Sections
 pub mod Waiting
+pub mod Polling
 pub mod Polls
 pub mod Seating

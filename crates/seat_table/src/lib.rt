@@ -17,6 +17,3 @@ pub use seat::Seat;
 pub use table::{CitrusTable, words_of};
 pub use wait::{Grace, Poll, WaitPart, wait_for_readers};
 pub use waiter::WaitWords;
-
-#[cfg(test)]
-mod tests;

@@ -4,7 +4,7 @@ use Rattle.seat_table.specs.Seats.{shape_of}
 use Rattle.seat_table.proofs.Waiting.{polls_end}
 use Rattle.key_interval.specs.LastClass.{IsLastClass}
 use Rattle.d_wait.specs.declared.domain.Domain.{Domain}
-use Rattle.d_wait.proofs.Polling.{comes_to, stops_further, stops_here}
+use Rattle.seat_table.proofs.Polling.{comes_to, stops_further, stops_here}
 use Rattle.d_wait.proofs.Sides.{ends}
 use Rattle.d_wait.proofs.domain.end.Goals as goal
 

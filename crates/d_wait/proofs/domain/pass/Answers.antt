@@ -3,7 +3,7 @@ use Rattle.seat_table.specs.declared.wait.Grace.{Grace}
 use Rattle.seat_table.specs.Seats.{shape_of}
 use Rattle.seat_table.specs.Waits.{IsGoingOn}
 use Rattle.d_wait.specs.declared.domain.Domain.{Domain}
-use Rattle.d_wait.proofs.Polling.{comes_to, goes_further, stops_further, stops_here}
+use Rattle.seat_table.proofs.Polling.{comes_to, goes_further, stops_further, stops_here}
 use Rattle.d_wait.proofs.Sides.{skips, passes_class}
 use Rattle.d_wait.proofs.domain.pass.Goals as goal
 

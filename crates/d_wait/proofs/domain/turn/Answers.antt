@@ -4,7 +4,7 @@ use Rattle.seat_table.specs.declared.wait.Grace.{Grace}
 use Rattle.seat_table.specs.Seats.{shape_of}
 use Rattle.seat_table.proofs.Waiting.{begins_on}
 use Rattle.d_wait.specs.declared.domain.Domain.{Domain}
-use Rattle.d_wait.proofs.Polling.{comes_to, goes_further, stops_further, stops_here}
+use Rattle.seat_table.proofs.Polling.{comes_to, goes_further, stops_further, stops_here}
 use Rattle.d_wait.proofs.Sides.{may_turn, turned_on}
 use Rattle.d_wait.proofs.domain.turn.Goals as goal
 

@@ -4,7 +4,7 @@ use Rattle.seat_table.specs.declared.wait.Grace.{Grace}
 use Rattle.seat_table.specs.Seats.{shape_of}
 use Rattle.deer_wait.specs.declared.deer.Deer.{Deer}
 use Rattle.deer_wait.specs.Images.{IsImage}
-use Rattle.deer_wait.proofs.Polling.{comes_to, stops_further}
+use Rattle.seat_table.proofs.Polling.{comes_to, stops_further}
 use Rattle.deer_wait.proofs.Rows.{skips_gap}
 use Rattle.deer_wait.proofs.deer.come_to_last.Goals as goal
 

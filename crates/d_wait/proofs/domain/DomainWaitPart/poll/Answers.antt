@@ -2,7 +2,7 @@ use Rattle.std.proofs.Common.{refl, sym, subst, arith}
 use Rattle.seat_table.specs.Seats.{shape_of}
 use Rattle.seat_table.proofs.Waiting.{begins_on, polls_end}
 use Rattle.key_interval.specs.LastClass.{IsLastClass}
-use Rattle.d_wait.proofs.Polling.{comes_to, stops_further}
+use Rattle.seat_table.proofs.Polling.{comes_to, stops_further}
 use Rattle.d_wait.proofs.Sides.{goes_back}
 use Rattle.d_wait.proofs.domain.DomainWaitPart.poll.Goals as goal
 

@@ -6,7 +6,7 @@ use Rattle.seat_table.specs.Seats.{shape_of}
 use Rattle.seat_table.proofs.Polls.{is_not_yet, ends}
 use Rattle.seat_table.proofs.Waiting.{begins_on}
 use Rattle.deer_wait.specs.declared.deer.Deer.{Deer}
-use Rattle.deer_wait.proofs.Polling.{goes_further, stops_further}
+use Rattle.seat_table.proofs.Polling.{goes_further, stops_further}
 use Rattle.deer_wait.proofs.Rows.{not_domain, last_of}
 use Rattle.deer_wait.proofs.deer.DeerWaitPart.poll.Goals as goal
 
