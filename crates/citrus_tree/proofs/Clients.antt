@@ -91,7 +91,7 @@ at_end (y ∷ us) more x = at_end us more x
 abbrev of_view : View → Caller
 of_view v = record { place = v.allowance.place; own = own_of v.allowance.place v.seen; seen = v.seen }
 
-met_its_own : (v : View) → HasSeenItsOwn (of_view v)
+pub met_its_own : (v : View) → HasSeenItsOwn (of_view v)
 met_its_own v = sym (own_twice v.allowance.place v.seen)
 
 module _ (explains : Dictionary → Op → Reply → Type 0) (v w : View) (op : Op) (told : Told) where
@@ -270,19 +270,27 @@ module _ (k : Shape) (v w : View) where
   made_answers (Del key) told p = was_deleted key p.0 told.reply told.number p.1
   made_answers (Set key value) told p = was_set key value p.0 told.reply told.number p.1
 
--- a chain of calls, from a client whose place had made no update
-pub chain_has_told : (k : Shape) (ops : List Op) (tolds : List Told) (before after : ClientAt) → before.shape ≡ k → own_updates before.seat.view.allowance.place (updates_of before.seat.view.seen) ≡ []
-    → IsChain HasCalled before ops tolds after → HasTold (Explains (room_of k)) (caller_of before) ops tolds (caller_of after)
-chain_has_told k ops tolds before after same none chain =
-    let made : ClientAt → Op → Told → ClientAt → Type 0 = λ c op told d. HasCalled c op told d × (c.shape ≡ k) in
-    chain_tells made caller_of (Explains (room_of k)) (λ c op told d call. subst (λ z. HasAnswered (Explains (room_of z)) (caller_of c) op told (caller_of d)) call.1 (made_answers c.shape c.seat.view d.seat.view op told call.0.answer))
-    ops tolds before after (met_its_own before.seat.view) none (with_shape ops tolds before same chain)
+-- a chain of calls, from a client whose place had made no update, where each call keeps the shape and answers as its marks say
+pub chain_told : {C : Type 0} (made : C → Op → Told → C → Type 0) (on_tree : C → ClientAt)
+    → ((c : C) (op : Op) (told : Told) (d : C) → made c op told d → ((on_tree d).shape ≡ (on_tree c).shape) × HasAnswered (Explains (room_of (on_tree c).shape)) (caller_of (on_tree c)) op told (caller_of (on_tree d)))
+    → (k : Shape) (ops : List Op) (tolds : List Told) (before after : C) → (on_tree before).shape ≡ k → own_updates (on_tree before).seat.view.allowance.place (updates_of (on_tree before).seat.view.seen) ≡ []
+    → IsChain made before ops tolds after → HasTold (Explains (room_of k)) (caller_of (on_tree before)) ops tolds (caller_of (on_tree after))
+chain_told {C} made on_tree answers k ops tolds before after same none chain =
+    chain_tells kept (λ c. caller_of (on_tree c)) (Explains (room_of k)) (λ c op told d call. subst (λ z. HasAnswered (Explains (room_of z)) (caller_of (on_tree c)) op told (caller_of (on_tree d))) call.1 (answers c op told d call.0).1)
+    ops tolds before after (met_its_own (on_tree before).seat.view) none (with_shape ops tolds before same chain)
   where
-    with_shape : (os : List Op) (ts : List Told) (c : ClientAt) → c.shape ≡ k → IsChain HasCalled c os ts after → IsChain (λ (x : ClientAt) (op : Op) (told : Told) (y : ClientAt). HasCalled x op told y × (x.shape ≡ k)) c os ts after
+    kept : C → Op → Told → C → Type 0
+    kept c op told d = made c op told d × ((on_tree c).shape ≡ k)
+
+    with_shape : (os : List Op) (ts : List Told) (c : C) → (on_tree c).shape ≡ k → IsChain made c os ts after → IsChain kept c os ts after
     with_shape [] [] c is done = done
     with_shape [] (t ∷ ts) c is done = absurd done
     with_shape (o ∷ os) [] c is done = absurd done
-    with_shape (o ∷ os) (t ∷ ts) c is done = (done.0, (done.1, is), with_shape os ts done.0 (done.1.shape ∙ is) done.2)
+    with_shape (o ∷ os) (t ∷ ts) c is done = (done.0, (done.1, is), with_shape os ts done.0 ((answers c o t done.0 done.1).0 ∙ is) done.2)
+
+pub chain_has_told : (k : Shape) (ops : List Op) (tolds : List Told) (before after : ClientAt) → before.shape ≡ k → own_updates before.seat.view.allowance.place (updates_of before.seat.view.seen) ≡ []
+    → IsChain HasCalled before ops tolds after → HasTold (Explains (room_of k)) (caller_of before) ops tolds (caller_of after)
+chain_has_told = chain_told HasCalled (λ c. c) (λ c op told d call. (call.shape, made_answers c.shape c.seat.view d.seat.view op told call.answer))
 
 pub chains_meet : ChainsMeetFronts
 chains_meet ops tolds before after none chain = told_meets (Explains (room_of before.shape)) (caller_of before) ops tolds (caller_of after) (chain_has_told before.shape ops tolds before after refl none chain)

@@ -1,6 +1,9 @@
 //! Clients of the tree.
-ghost use Rattle.std.specs.Prelude.{◌≡◌, ◌/◌};
+ghost use Rattle.std.specs.Prelude.{◌≡◌, ◌+◌, ◌/◌, ◌≤◌};
+ghost use Rattle.seat_table.specs.Gains.{IsInformed};
 ghost use Rattle.seat_table.specs.Seats.{IsQuietSeat, shape_of};
+ghost use Rattle.citrus_tree.specs.Clients.{IsTold};
+ghost use Rattle.citrus_tree.specs.Gone.{KeepsSlots, KeepsWait};
 
 use crate::delete::del;
 use crate::insert::put;
@@ -14,6 +17,33 @@ use std::sync::Wait;
 
 /// How many tickets a call may use.
 const TICKETS: u64 = 4;
+
+/// Makes the operation by its own call: `put`, `get`, `del` or `set`. There it is said what it waits for.
+pub fn call<R: Wait, W: WaitPart, G: Gate>(
+    rt: &R,
+    table: &CitrusTable<W>,
+    seat: &mut Seat<W>,
+    gate: &G,
+    op: Op,
+) -> Told
+    requires table { seat.old.table ≡ table.now }
+    requires quiet { IsQuietSeat seat.old }
+    requires tickets { 4 ≤ seat.old.view.allowance.tickets }
+    ensures table { seat.new.table ≡ seat.old.table }
+    ensures told { IsTold (shape_of W.WAY table.now) seat.old.view op result seat.new.view }
+    ensures wait { KeepsWait seat.old.view seat.new.view }
+    ensures slots { KeepsSlots seat.old seat.new }
+    ensures tickets { seat.old.view.allowance.tickets ≤ seat.new.view.allowance.tickets + 4 }
+    ensures quiet { IsQuietSeat seat.new }
+    ensures informed { IsInformed seat.new.view }
+{
+    match op {
+        Op::Put { key, value } => put(rt, table, seat, gate, key, value),
+        Op::Get { key } => get(rt, table, seat, gate, key),
+        Op::Del { key } => del(rt, table, seat, gate, key),
+        Op::Set { key, value } => set(rt, table, seat, gate, key, value),
+    }
+}
 
 /// A seat that makes operations on a tree, one after another, and passes a gate. It may be sent to another thread where its gate may be
 /// shared with one.
@@ -67,12 +97,7 @@ impl<'a, W: WaitPart, G: Gate> Client for TreeClient<'a, W, G> {
     ghost made = { HasCalled };
 
     fn call<R: Wait>(&mut self, rt: &R, op: Op) -> Told {
-        match op {
-            Op::Put { key, value } => put(rt, self.table, &mut self.seat, self.gate, key, value),
-            Op::Get { key } => get(rt, self.table, &mut self.seat, self.gate, key),
-            Op::Del { key } => del(rt, self.table, &mut self.seat, self.gate, key),
-            Op::Set { key, value } => set(rt, self.table, &mut self.seat, self.gate, key, value),
-        }
+        call(rt, self.table, &mut self.seat, self.gate, op)
     }
 
     fn remaining(&self) -> u64 {

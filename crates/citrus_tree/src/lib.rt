@@ -14,13 +14,10 @@ mod lookup;
 mod replace;
 mod search;
 
-pub use client::TreeClient;
+pub use client::{TreeClient, call};
 pub use core_points::stage::Spot;
 pub use delete::del;
 pub use insert::put;
 pub use lookup::get;
 pub use replace::set;
 pub use search::{End, Hop, Search};
-
-#[cfg(test)]
-mod tests;
