@@ -8,6 +8,3 @@ pub mod laws;
 
 pub use answers::Ask;
 pub use cookies::{Cookie, ask, give_back, start};
-
-#[cfg(test)]
-mod tests;

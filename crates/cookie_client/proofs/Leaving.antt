@@ -1,0 +1,149 @@
+-- What asking about a cookie and starting one leaves.
+use Rattle.std.proofs.Common.{◌≡◌, ℕ, ◌+◌, ◌<◌, ◌≤◌, ◌⊎◌, is_some, true, false, List, [], ◌∷◌, ◌++◌, length, take, Option, Some, None, inl, inr, refl, sym, ap, subst, ◌∙◌, ⊎_elim, arith, append-nil}
+use Rattle.prcu_marks.specs.declared.mark.Mark.{Mark}
+use Rattle.prcu_marks.specs.declared.mark.Mark.TheVariants.{Began, Ended}
+use Rattle.prcu_marks.specs.Bounds.{greatest_key}
+use Rattle.core_state.specs.declared.shape.Shape.{Shape}
+use Rattle.core_state.specs.declared.view.Allowance.{Allowance}
+use Rattle.core_state.specs.declared.view.View.{View}
+use Rattle.core_state.specs.declared.view.Waiting.{Waiting}
+use Rattle.core_state.specs.views.Views.{held_list}
+use Rattle.seat_table.specs.Gains.{IsInformed}
+use Rattle.seat_table.specs.Seats.{SeatAt}
+use Rattle.seat_table.specs.Waits.{IsOver}
+use Rattle.tree_points.specs.Progress.{HasGone}
+use Rattle.tree_points.proofs.Gone.{gone_none, gone_on, gone_stays, gone_same, gone_begun, gone_over}
+use Rattle.node_slots.specs.Reclaiming.{return_marks}
+use Rattle.node_slots.proofs.Marking.{each_begins, each_own, returned_nobodys}
+use Rattle.grace_cookie.specs.declared.answers.Ask.{Ask}
+use Rattle.grace_cookie.specs.declared.answers.Ask.TheVariants.{Over, NotYet, GivenUp}
+use Rattle.grace_cookie.specs.Cookies.{CookieAt, IsLatest, IsOf}
+use Rattle.grace_cookie.specs.Asking.{Asked, IsFoundOver, GivesNone, GivesSome, HasGivenBack}
+use Rattle.cookie_client.specs.Settling.{IsGood, GoesOnBy, WasAsked, Asks, WasStarted, Starts, Settles, LeavesWaits, IsFewOrHeld, AreSound}
+
+-- what the seat knows after slots went back: as many waits, and no mark of its place more
+pub back_gone : (c : CookieAt) (s : SeatAt) (number : ℕ) (t : SeatAt) → HasGivenBack c s number t → HasGone s.view t.view [] × (t.view.allowance ≡ s.view.allowance) × (t.view.counts.waits ≡ s.view.counts.waits)
+back_gone c s number t back = ⊎_elim
+    (λ (none : GivesNone c s number t). let e = ap (λ (z : SeatAt). z.view) none.same in (gone_none (ap (λ (z : View). z.allowance.place) e) (ap (λ (z : View). z.seen) e), ap (λ (z : View). z.allowance) e, ap (λ (z : View). z.counts.waits) e))
+    (λ (some : GivesSome c s number t).
+    let g = some.gives in
+    let marks : List Mark = return_marks (held_list s.view.hands.spare) (take c.slots s.listed) in (
+      record {
+        same = ap (λ (z : View). z.allowance.place) g.rest;
+        begins = each_begins s.view t.view marks g.marks;
+        own = each_own s.view t.view marks (returned_nobodys (held_list s.view.hands.spare) _) g.marks ∙ sym (append-nil _);
+      },
+      ap (λ (z : View). z.allowance) g.rest,
+      ap (λ (z : View). z.counts.waits) g.rest,
+    ))
+    back
+
+-- the marks that asking leaves, at most the end of the wait of the cookie that was held
+record AskLeaves (cookie : Option CookieAt) (v w : View) : Type 0 where
+  pub ended : List Mark
+  pub gone : HasGone v w ended
+  pub ends : (ended ≡ []) ⊎ ((c : CookieAt) × (cookie ≡ Some c) × (ended ≡ Ended v.allowance.place c.count ∷ []))
+  pub allowance : w.allowance ≡ v.allowance
+  pub waits : w.counts.waits ≡ v.counts.waits
+
+nothing_left : (cookie : Option CookieAt) (v w : View) → w.allowance ≡ v.allowance → w.counts.waits ≡ v.counts.waits → w.seen ≡ v.seen → AskLeaves cookie v w
+nothing_left cookie v w allowance waits seen = record { ended = []; gone = gone_none (ap (λ (a : Allowance). a.place) allowance) seen; ends = inl refl; allowance = allowance; waits = waits }
+
+same_view : (cookie : Option CookieAt) (v : View) (s t : SeatAt) → t ≡ s → AskLeaves cookie v s.view → AskLeaves cookie v t.view
+same_view cookie v s t same = subst (λ (z : SeatAt). AskLeaves cookie v z.view) (sym same)
+
+module _ (k : Shape) (c : CookieAt) (s : SeatAt) (going : c.over ≡ false) (of : IsOf k c s.view) (left : Option CookieAt) (t : SeatAt) where
+  ended_here : (now : CookieAt) (mid : SeatAt) (number : ℕ) → IsLatest c s.view → IsOver k s.view mid.view → HasGivenBack now mid number t → AskLeaves (Some c) s.view t.view
+  ended_here now mid number latest over back =
+      let on = of.going going latest in
+      let same : Some over.wait ≡ Some on.0 = sym over.was ∙ on.1 in
+      let is : over.wait ≡ on.0 = cc in
+      let count : over.wait.count ≡ c.count = ap (λ (z : Waiting). z.count) is ∙ on.2 in
+      let later = back_gone now mid number t back in
+      let first : HasGone s.view mid.view (Ended s.view.allowance.place c.count ∷ []) = subst (λ n. HasGone s.view mid.view (Ended s.view.allowance.place n ∷ [])) count (gone_over over) in
+      record {
+        ended = Ended s.view.allowance.place c.count ∷ [];
+        gone = gone_stays first later.0;
+        ends = inr (c, refl, refl);
+        allowance = later.1 ∙ ap (λ (z : View). z.allowance) over.ended.others;
+        waits = later.2 ∙ ap (λ (z : View). z.counts.waits) over.ended.others;
+      }
+
+  one_leaves : (answer : Ask) (now : CookieAt) (mid : SeatAt) → Asked k c s.view answer now mid.view → GoesOnBy answer now mid left t → AskLeaves (Some c) s.view t.view
+  one_leaves Over now mid asked goes = elim asked.how [
+    | inl before ↦ absurd (cc)
+    | inr over ↦ ended_here now mid goes.1.0 over.1 over.2 goes.1.1
+  ]
+  one_leaves (NotYet why) now mid asked goes =
+      let e = (asked.3).looked.others in
+      same_view (Some c) s.view mid t goes.1 (nothing_left (Some c) s.view mid.view (ap (λ (z : View). z.allowance) e) (ap (λ (z : View). z.counts.waits) e) (ap (λ (z : View). z.seen) e))
+  one_leaves (GivenUp latest) now mid asked goes =
+      let e = asked.view in
+      same_view (Some c) s.view mid t goes.1 (nothing_left (Some c) s.view mid.view (ap (λ (z : View). z.allowance) e) (ap (λ (z : View). z.counts.waits) e) (ap (λ (z : View). z.seen) e))
+
+asks_leave : (k : Shape) (cookie : Option CookieAt) (s : SeatAt) (left : Option CookieAt) (t : SeatAt) → IsGood k s cookie → Asks k cookie s left t → AskLeaves cookie s.view t.view
+asks_leave k None s left t good asks = same_view None s.view s t asks.1 (nothing_left None s.view s.view refl refl refl)
+asks_leave k (Some c) s left t good asks = one_leaves k c s good.0 good.1 left t asks.answer asks.now asks.seat asks.asked asks.goes
+
+-- the marks that starting leaves, at most the beginning of a wait for everybody
+record StartLeaves (v w : View) : Type 0 where
+  pub began : List Mark
+  pub gone : HasGone v w began
+  pub begins : (began ≡ []) ⊎ (began ≡ Began v.allowance.place v.counts.waits 0 greatest_key ∷ [])
+  pub tickets : v.allowance.tickets ≤ w.allowance.tickets + 1
+
+none_started : (s t : SeatAt) → t ≡ s → StartLeaves s.view t.view
+none_started s t same = subst (λ (z : SeatAt). StartLeaves s.view z.view) (sym same) (record { began = []; gone = gone_same; begins = inl refl; tickets = omega arith })
+
+starts_leave : (left : Option CookieAt) (s : SeatAt) (held : Option CookieAt) (t : SeatAt) → Starts left s held t → StartLeaves s.view t.view
+starts_leave (Some c) s held t starts = none_started s t starts.1
+starts_leave None s None t starts = none_started s t starts.1
+starts_leave None s (Some c) t starts = record {
+  began = Began s.view.allowance.place s.view.counts.waits 0 greatest_key ∷ [];
+  gone = gone_begun starts.begun;
+  begins = inr refl;
+  tickets = let e = ap (λ (z : View). z.allowance.tickets) starts.begun.others in omega arith;
+}
+
+module _ (k : Shape) (cookie : Option CookieAt) (s : SeatAt) (held : Option CookieAt) (t : SeatAt) (good : IsGood k s cookie) (settles : Settles k cookie s held t) where
+  asking : AskLeaves cookie s.view settles.between.view
+  asking = asks_leave k cookie s settles.left settles.between good settles.asks
+
+  starting : StartLeaves settles.between.view t.view
+  starting = starts_leave settles.left settles.between held t settles.starts
+
+  pub settles_leave : LeavesWaits cookie s.view t.view
+  settles_leave = record {
+    ended = asking.ended;
+    began = starting.began;
+    gone = gone_on asking.gone starting.gone;
+    ends = asking.ends;
+    begins = subst (λ (z : ℕ × ℕ). (starting.began ≡ []) ⊎ (starting.began ≡ Began z.0 z.1 0 greatest_key ∷ [])) (λ i. ((asking.allowance i).place, asking.waits i)) starting.begins;
+  }
+
+  pub settles_pay : s.view.allowance.tickets ≤ t.view.allowance.tickets + 1
+  settles_pay = let a = ap (λ (z : Allowance). z.tickets) asking.allowance in let b = starting.tickets in omega arith
+
+-- fewer than 8 slots are retired then, or a cookie is held
+pub starts_few : (left : Option CookieAt) (s : SeatAt) (held : Option CookieAt) (t : SeatAt) → Starts left s held t → IsFewOrHeld t held
+starts_few (Some c) s held t starts = inr (c, starts.0)
+starts_few None s None t starts = subst (λ (z : SeatAt). IsFewOrHeld z None) (sym starts.1) (inl starts.0)
+starts_few None s (Some c) t starts = inr (c, refl)
+
+pub informed_sound : (w : View) → IsInformed w → AreSound w.seen
+informed_sound w informed = record { legal = informed.legal; grace = informed.grace; reuse = informed.reuse }
+
+-- a cookie that wasn't over before, and is found over: the seat learned so by the end of its wait
+pub found_informed : (k : Shape) (c : CookieAt) (v : View) (d : CookieAt) (w : View) → c.over ≡ false → IsFoundOver k c v d w → IsInformed w
+found_informed k c v d w going found = elim found.how [
+  | inl before ↦ absurd (cc)
+  | inr over ↦ (over.2).ended.informed
+]
+
+pub none_started_few : (held : Option CookieAt) (s : SeatAt) → is_some held ≡ false → length s.view.hands.retired < 8 → Starts held s None s
+none_started_few None s none few = (few, refl)
+none_started_few (Some c) s none few = absurd (cc)
+
+pub one_started : (held : Option CookieAt) (s : SeatAt) (c : CookieAt) (t : SeatAt) → is_some held ≡ false → WasStarted s c t → Starts held s (Some c) t
+one_started None s c t none started = started
+one_started (Some d) s c t none started = absurd (cc)

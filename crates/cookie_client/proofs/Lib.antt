@@ -1,0 +1,4 @@
+pub mod Leaving
+pub mod Longer
+pub mod Callers
+pub mod Calls

@@ -1,0 +1,102 @@
+-- Marks that a client leaves after an answer: the answer stays one.
+use Rattle.std.proofs.Common.{◌≡◌, ℕ, ◌+◌, ◌-◌, ◌≤◌, Bool, true, false, MatchBool, List, [], ◌∷◌, ◌++◌, length, Some, inl, refl, sym, ap, subst, ◌∙◌, arith, append_assoc, append-nil, length-append}
+use Rattle.std.specs.List.{AllByRecursion, slice_get}
+use Rattle.std.proofs.lemmas.List.{get_or_append_left}
+use Rattle.std.proofs.lemmas.Option.{slice_get-get_or, slice_get_within, get_or_from_slice_get}
+use mathlib.Core.List.{IsPrefix}
+use Rattle.prcu_model.specs.declared.operation.Op.{Op}
+use Rattle.prcu_model.specs.declared.operation.Reply.{Reply}
+use Rattle.prcu_model.specs.declared.operation.Told.{Told}
+use Rattle.prcu_model.specs.declared.operation.Update.{Update}
+use Rattle.prcu_model.specs.Dictionary.{Dictionary, key_of, map_at}
+use Rattle.prcu_model.specs.Replies.{Confirms, tells_update}
+use Rattle.prcu_model.proofs.ListFacts.{prefix_trans, all_map, all_append}
+use Rattle.prcu_marks.specs.declared.mark.Mark.{Mark}
+use Rattle.prcu_marks.specs.declared.mark.Mark.TheVariants.{Began, Ended}
+use Rattle.prcu_marks.specs.Bounds.{greatest_key}
+use Rattle.prcu_marks.specs.Callers.{Caller, HasSeenItsOwn, IsLeftBy, WaitsFor, HasMadeUpdate, WasExplained, HasAnswered}
+use Rattle.prcu_marks.specs.Marks.{updates_of}
+use Rattle.prcu_marks.proofs.Callers.{map_at-longer, waits_longer}
+use Rattle.prcu_marks.proofs.MarkLists.{updates_of-append}
+use Rattle.prcu_marks.proofs.OwnMarks.{entered_for-append}
+
+-- ---- more marks after an answer
+
+there_longer : (us more : List Update) (i : ℕ) (u : Update) → slice_get us i ≡ Some u → slice_get (us ++ more) i ≡ Some u
+there_longer us more i u there =
+    let below = slice_get_within us i u there in
+    let read = get_or_from_slice_get us i u u there in
+    let long = length-append us more in
+    slice_get-get_or (us ++ more) i u (omega arith) ∙ ap Some (get_or_append_left us more u i below ∙ read)
+
+module _ (explains : Dictionary → Op → Reply → Type 0) (before mid after : Caller) (op : Op) (told : Told) (more : List Mark) (answered : HasAnswered explains before op told mid) (none : updates_of more ≡ []) (since : IsPrefix mid.seen after.seen) where
+  abbrev rest : List Update
+  rest = updates_of since.0
+
+  seen_is : updates_of after.seen ≡ updates_of mid.seen ++ updates_of since.0
+  seen_is = ap updates_of (sym since.1) ∙ updates_of-append mid.seen since.0
+
+  updates_are : updates_of (answered.marks ++ more) ≡ updates_of answered.marks
+  updates_are = updates_of-append answered.marks more ∙ ap (λ us. updates_of answered.marks ++ us) none ∙ append-nil (updates_of answered.marks)
+
+  reply_longer : (b : Bool) → MatchBool b (HasMadeUpdate before op told answered.marks mid.seen) (WasExplained explains before op told answered.marks mid.seen)
+      → MatchBool b (HasMadeUpdate before op told (answered.marks ++ more) after.seen) (WasExplained explains before op told (answered.marks ++ more) after.seen)
+  reply_longer true made =
+      let inside = slice_get_within (updates_of mid.seen) (told.number - 1) _ made.stands in record {
+        left = updates_are ∙ made.left;
+        later = made.later;
+        stands = subst (λ us. slice_get us (told.number - 1) ≡ Some (record { caller = before.place; op = op })) (sym seen_is) (there_longer (updates_of mid.seen) (updates_of since.0) (told.number - 1) _ made.stands);
+        confirms = subst (λ d. Confirms d op told.reply) (sym (ap (λ us. map_at us (told.number - 1)) seen_is ∙ map_at-longer (updates_of mid.seen) (updates_of since.0) (told.number - 1) (omega arith))) made.confirms;
+      }
+  reply_longer false was =
+      let long = ap length seen_is in
+      let both = length-append (updates_of mid.seen) (updates_of since.0) in
+      let until = was.until in record {
+        left = updates_are ∙ was.left;
+        front = was.front;
+        since = was.since;
+        until = omega arith;
+        explained = subst (λ d. explains d op told.reply) (sym (ap (λ us. map_at us was.front) seen_is ∙ map_at-longer (updates_of mid.seen) (updates_of since.0) was.front was.until)) was.explained;
+      }
+
+  -- further marks of the place that are of no section and of no update
+  pub answered_longer : after.place ≡ mid.place → after.own ≡ mid.own ++ more → AllByRecursion (IsLeftBy before.place (key_of op)) more → AllByRecursion (WaitsFor (updates_of after.seen)) more → HasSeenItsOwn after
+      → HasAnswered explains before op told after
+  answered_longer place own keyed waits met = record {
+    place = place ∙ answered.place;
+    marks = answered.marks ++ more;
+    own = own ∙ ap (λ xs. xs ++ more) answered.own ∙ append_assoc before.own answered.marks more;
+    keyed = all_append (IsLeftBy before.place (key_of op)) answered.marks more answered.keyed keyed;
+    entered = let one = answered.entered in let both = entered_for-append before.place (key_of op) answered.marks more in omega arith;
+    waits = all_append (WaitsFor (updates_of after.seen)) answered.marks more
+        (subst (λ us. AllByRecursion (WaitsFor us) answered.marks) (sym seen_is) (all_map (WaitsFor (updates_of mid.seen)) (WaitsFor (updates_of mid.seen ++ updates_of since.0)) answered.marks (waits_longer (updates_of mid.seen) (updates_of since.0)) answered.waits))
+        waits;
+    since = prefix_trans before.seen mid.seen after.seen answered.since since;
+    met = met;
+    reply = reply_longer (tells_update told.reply) answered.reply;
+  }
+
+-- ---- marks that may follow an answer
+
+module _ (p key : ℕ) (us : List Update) where
+  -- at the place, of no section and of no update
+  pub record IsPlain (ms : List Mark) : Type 0 where
+    pub none : updates_of ms ≡ []
+    pub keyed : AllByRecursion (IsLeftBy p key) ms
+    pub waits : AllByRecursion (WaitsFor us) ms
+
+  pub ended_plain : (n : ℕ) → IsPlain (Ended p n ∷ [])
+  ended_plain n = record { none = refl; keyed = (refl, tt); waits = (tt, tt) }
+
+  pub began_plain : (n : ℕ) → IsPlain (Began p n 0 greatest_key ∷ [])
+  began_plain n = record { none = refl; keyed = (refl, tt); waits = (inl (refl, refl), tt) }
+
+  pub no_plain : IsPlain []
+  no_plain = record { none = refl; keyed = tt; waits = tt }
+
+  pub both_plain : (xs ys : List Mark) → IsPlain xs → IsPlain ys → IsPlain (xs ++ ys)
+  both_plain xs ys a b = record {
+    none = updates_of-append xs ys ∙ (λ i. a.none i ++ b.none i);
+    keyed = all_append (IsLeftBy p key) xs ys a.keyed b.keyed;
+    waits = all_append (WaitsFor us) xs ys a.waits b.waits;
+  }

@@ -1,0 +1,37 @@
+-- Clients of the tree that hold a cookie.
+-- Source: docs/TREE.md, "Cookies".
+use Rattle.std.specs.Prelude.{◌≡◌, ◌+◌, ◌≤◌, List, [], Option}
+use Rattle.prcu_model.specs.declared.operation.Op.{Op}
+use Rattle.prcu_model.specs.declared.operation.Told.{Told}
+use Rattle.prcu_model.specs.Fronts.{told_lines, own_updates}
+use Rattle.prcu_model.specs.Replies.{Explains}
+use Rattle.prcu_marks.specs.Callers.{MeetsFronts}
+use Rattle.prcu_marks.specs.Chains.{IsChain}
+use Rattle.prcu_marks.specs.Marks.{updates_of}
+use Rattle.seat_table.specs.Seats.{SeatAt, IsQuietSeat}
+use Rattle.citrus_tree.specs.Clients.{ClientAt, room_of}
+use Rattle.citrus_tree.specs.Clients as tree
+use Rattle.grace_cookie.specs.Cookies.{CookieAt}
+use Rattle.cookie_client.specs.Settling.{Settles, LeavesWaits, IsFewOrHeld, AreSound}
+
+-- what a clause sees of a client: its table and its seat, as those of a client of the tree, and the cookie that it holds, if any
+pub record CookieClientAt : Type 0 where
+  pub tree : ClientAt
+  pub cookie : Option CookieAt
+
+-- A call: that of a client of the tree, which was answered with this seat, and then what was done about the cookie.
+pub record HasCalled (before : CookieClientAt) (op : Op) (told : Told) (after : CookieClientAt) : Type 0 where
+  pub answered : SeatAt
+  pub call : tree.HasCalled before.tree op told (record before.tree { seat = answered })
+  pub settles : Settles before.tree.shape before.cookie answered after.cookie after.tree.seat
+  pub same : after.tree ≡ record before.tree { seat = after.tree.seat }
+  pub waits : LeavesWaits before.cookie answered.view after.tree.seat.view
+  pub few : IsFewOrHeld after.tree.seat after.cookie
+  pub tickets : before.tree.seat.view.allowance.tickets ≤ after.tree.seat.view.allowance.tickets + 5
+  pub quiet : IsQuietSeat after.tree.seat
+  pub sound : AreSound after.tree.seat.view.seen
+
+-- Of a client whose place had made no update, the calls so far tell of lines that fit the updates that it has seen.
+abbrev pub ChainsMeetFronts : Type 0
+ChainsMeetFronts = (ops : List Op) (tolds : List Told) (before after : CookieClientAt) → own_updates before.tree.seat.view.allowance.place (updates_of before.tree.seat.view.seen) ≡ []
+    → IsChain HasCalled before ops tolds after → MeetsFronts (Explains (room_of before.tree.shape)) (updates_of after.tree.seat.view.seen) before.tree.seat.view.allowance.place (told_lines ops tolds)

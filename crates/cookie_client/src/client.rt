@@ -1,0 +1,86 @@
+//! The client.
+ghost use Rattle.std.specs.Prelude.{◌≡◌, ◌/◌, None};
+ghost use Rattle.seat_table.specs.Seats.{IsQuietSeat, shape_of};
+
+use crate::settling::settle;
+use citrus_tree::call;
+use grace_cookie::Cookie;
+use prcu_marks::{Client, Gate};
+use prcu_model::{Op, Told};
+use seat_table::{CitrusTable, Seat, WaitPart};
+use std::marker::Model;
+use std::sync::Wait;
+
+/// How many tickets a call may use: four for its operation, and one for a cookie.
+pub(crate) const TICKETS: u64 = 5;
+
+/// A seat that makes operations on a tree, one after another, passes a gate, and holds at most one cookie. After the answer of each call it
+/// asks once about the cookie that it holds. When the cookie is over, its slots go back; where the call began a later wait, it is
+/// dropped. Then the client starts one, where it holds none and 8 or more slots are retired. It may be sent to another thread where its gate
+/// may be shared with one.
+#[derive(Drop)]
+pub struct CookieClient<'a, W: WaitPart, G: Gate> {
+    table: &'a CitrusTable<W>,
+    seat: Seat<W>,
+    gate: &'a G,
+    cookie: Option<Cookie<W>>,
+}
+
+impl<'a, W: WaitPart, G: Gate> Model for CookieClient<'a, W, G> {
+    ghost use Rattle.std.specs.Prelude.{◌≡◌};
+    ghost use Rattle.seat_table.specs.Seats.{IsQuietSeat, shape_of};
+    ghost use Rattle.cookie_client.specs.Settling.{IsGood};
+    ghost use Rattle.cookie_client.specs.Clients.{CookieClientAt};
+
+    ghost Value = { CookieClientAt };
+
+    ghost view = { λ c. record { tree = record { shape = shape_of W.WAY c.table.now; table = c.table.now; seat = c.seat }; cookie = c.cookie } };
+
+    ghost invariant = { λ c. (c.seat.table ≡ c.table.now) × IsQuietSeat c.seat × IsGood (shape_of W.WAY c.table.now) c.seat c.cookie };
+}
+
+impl<'a, W: WaitPart, G: Gate> CookieClient<'a, W, G> {
+    /// A client with this seat, which holds no cookie. Its caller number is the seat's place.
+    pub fn new(table: &'a CitrusTable<W>, seat: Seat<W>, gate: &'a G) -> CookieClient<'a, W, G>
+        requires table { seat.table ≡ table.now }
+        requires quiet { IsQuietSeat seat }
+        ensures client { result ≡ record { tree = record { shape = shape_of W.WAY table.now; table = table.now; seat = seat }; cookie = None } }
+    {
+        CookieClient {
+            table,
+            seat,
+            gate,
+            cookie: None,
+        }
+    }
+
+    /// The seat, as the calls left it. A cookie that is held is dropped.
+    pub fn into_seat(self) -> Seat<W>
+        ensures seat { result ≡ self.entry.tree.seat }
+        ensures table { result.table ≡ self.entry.tree.table }
+        ensures quiet { IsQuietSeat result }
+    {
+        self.seat
+    }
+}
+
+impl<'a, W: WaitPart, G: Gate> Client for CookieClient<'a, W, G> {
+    ghost use Rattle.std.specs.Prelude.{◌/◌};
+    ghost use Rattle.cookie_client.specs.Clients.{HasCalled};
+
+    /// Five tickets are left for each.
+    ghost left = { λ c. c.tree.seat.view.allowance.tickets / 5 };
+
+    /// The call of the tree, what was done about the cookie after it, and what holds then.
+    ghost made = { HasCalled };
+
+    fn call<R: Wait>(&mut self, rt: &R, op: Op) -> Told {
+        let told = call(rt, self.table, &mut self.seat, self.gate, op);
+        self.cookie = settle(self.table, &mut self.seat, self.cookie.take());
+        told
+    }
+
+    fn remaining(&self) -> u64 {
+        self.seat.tickets() / TICKETS
+    }
+}
