@@ -8,6 +8,3 @@ mod walks;
 
 pub use listing::{Listed, list};
 pub use page::Page;
-
-#[cfg(test)]
-mod tests;

@@ -61,6 +61,13 @@ impl Page {
         self.pairs[i as usize]
     }
 
+    /// The pairs that it holds. Keys ascend.
+    pub fn pairs(&self) -> &[(u64, u64)]
+        ensures { result.now ≡ self.now.pairs }
+    {
+        &self.pairs
+    }
+
     // Whether it has room for no more.
     pub(crate) fn is_full(&self) -> bool
         ensures full { IsTrue result ↔ (length self.now.pairs ≡ self.now.capacity) }

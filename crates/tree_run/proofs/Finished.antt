@@ -1,5 +1,5 @@
 -- A run of scripts on the tree, from the workers' chains of calls to one explained history.
-use Rattle.std.proofs.Common.{◌≡◌, ℕ, ◌*◌, ◌/◌, ◌≤◌, List, [], ◌∷◌, ◌++◌, length, map, get_or, refl, sym, ap, subst, ◌∙◌, arith, inl, inr}
+use Rattle.std.proofs.Common.{◌≡◌, ℕ, ◌*◌, ◌/◌, ◌≤◌, List, [], ◌∷◌, length, map, get_or, refl, sym, ap, subst, ◌∙◌, arith, inl, inr}
 use Rattle.std.proofs.lemmas.Bool.{cases_lt}
 use Rattle.std.proofs.lemmas.List.{get_or_past}
 use Rattle.std.proofs.lemmas.List.Sums.{get_or-le-sum_by}
@@ -9,17 +9,18 @@ use Rattle.prcu_model.specs.Lists.{Roomy, entries_of}
 use Rattle.prcu_model.specs.Replies.{Room, Explains}
 use Rattle.prcu_model.specs.Fronts.{AreExplainable, AreExplained, all_told_lines}
 use Rattle.prcu_model.specs.Scripts.{op_count}
-use Rattle.prcu_marks.specs.Marks.{updates_of}
+use Rattle.prcu_marks.specs.Marks.{updates_of, own_of}
 use Rattle.prcu_marks.specs.Runs.{FitsScripts}
 use Rattle.prcu_marks.proofs.Runs.{HaveTold, run_updates, run_lengths, run_confirmed, run_fronts, run_fits}
 use Rattle.client_run.specs.Workers.{Work, AreReadyFor, HaveMade}
 use Rattle.client_run.specs.Crews.{IsCrew, AreDone, HaveMet}
 use Rattle.client_run.proofs.Crews.{crew_ready, crew_keeps, crew_has_told, entries_are}
-use Rattle.seat_table.specs.Seats.{TableAt, SeatAt, shape_of}
-use Rattle.seat_table.specs.Gains.{StaysIn}
+use Rattle.seat_table.specs.Seats.{TableAt, SeatAt, KeepsOwn, shape_of}
+use Rattle.seat_table.specs.Gains.{IsInformed, StaysIn}
 use Rattle.citrus_tree.specs.Clients.{ClientAt, HasCalled, caller_of, room_of}
 use Rattle.citrus_tree.proofs.Clients.{made_answers, chain_has_told}
-use Rattle.tree_run.specs.Runs.{client_for, IsDone, StandsFor}
+use Rattle.tree_run.specs.Runs.{client_for, IsDone, HasRun}
+use Rattle.tree_run.proofs.Joined.{joined_other}
 
 -- ---- clients before and after the run
 
@@ -63,33 +64,52 @@ module _ (way : ℕ) (table : TableAt) (scripts : List (List Op)) (befores after
         informed = call.informed;
       })
 
-  -- ---- the joined seat
+-- ---- the joined seat
 
-  module _ (seat : SeatAt) (joined : StandsFor (map (λ (w : Work ClientAt). w.client) afters) seat) (stays : StaysIn (shape_of way table) seat.view) (places : table.places ≡ length scripts) where
-    pub have_told : HaveTold (Explains (room_of (shape_of way table))) scripts (map (λ (w : Work ClientAt). w.told.entries) afters) seat.view.seen
-    have_told = crew_has_told (client_for way table) scripts HasCalled befores afters crew count runs (Explains (room_of (shape_of way table))) caller_of
+module _ (way : ℕ) (table : TableAt) (scripts : List (List Op)) (told : List (Roomy Told)) (seat : SeatAt) (run : HasRun way table scripts told seat) where
+  -- another seat, whose place is no script's, may be joined with it
+  pub run_beside : (other both : SeatAt) → KeepsOwn seat.view other.view both.view → IsInformed both.view → HasRun way table scripts told both
+  run_beside other both keeps informed = record {
+    hired = run.hired;
+    workers = run.workers;
+    crew = run.crew;
+    count = run.count;
+    made = run.made;
+    told_is = run.told_is;
+    joined = joined_other (map (λ (w : Work ClientAt). w.client) run.workers) seat other both run.joined keeps informed;
+  }
+
+  -- What a run hands on, where no other place made an update: its updates explain what was told, as far as the table's slots go.
+  module _ (others : (p : ℕ) → length scripts ≤ p → updates_of (own_of p seat.view.seen) ≡ []) where
+    have_told : HaveTold (Explains (room_of (shape_of way table))) scripts (entries_of told) seat.view.seen
+    have_told = subst (λ ts. HaveTold (Explains (room_of (shape_of way table))) scripts ts seat.view.seen) (sym (ap entries_of run.told_is ∙ entries_are run.workers))
+        (crew_has_told (client_for way table) scripts HasCalled run.hired run.workers run.crew run.count run.made (Explains (room_of (shape_of way table))) caller_of
         (λ i ops tolds after chain. chain_has_told (shape_of way table) ops tolds (client_for way table i (length ops)) after refl refl chain)
-        seat.view.seen (subst (λ cs. HaveMet cs seat.view.seen) (same_callers afters) joined.met) (λ p past. stays.others p (omega arith)) joined.informed.legal
+        seat.view.seen (subst (λ cs. HaveMet cs seat.view.seen) (same_callers run.workers) run.joined.met) others run.joined.informed.legal)
 
-    room_is : room_of (shape_of way table) ≡ record { scripts = length scripts; slots = table.slots }
-    room_is = λ j. record { scripts = places j; slots = table.slots }
+    pub run_told : map length (entries_of told) ≡ map length scripts
+    run_told = run_lengths (Explains (room_of (shape_of way table))) scripts (entries_of told) seat.view.seen have_told
 
-    -- one history explains what all scripts were told
-    pub run_explained : AreExplainable scripts (map (λ (w : Work ClientAt). w.told.entries) afters) (updates_of seat.view.seen) table.slots
+    pub run_explained : AreExplained (room_of (shape_of way table)) (updates_of seat.view.seen) (all_told_lines scripts (entries_of told))
     run_explained = record {
-      lengths = run_lengths (Explains (room_of (shape_of way table))) scripts (map (λ (w : Work ClientAt). w.told.entries) afters) seat.view.seen have_told;
-      explained = subst (λ (room : Room). AreExplained room (updates_of seat.view.seen) (all_told_lines scripts (map (λ (w : Work ClientAt). w.told.entries) afters))) room_is (record {
-        updates = run_updates (Explains (room_of (shape_of way table))) scripts (map (λ (w : Work ClientAt). w.told.entries) afters) seat.view.seen have_told;
-        confirmed = run_confirmed (Explains (room_of (shape_of way table))) scripts (map (λ (w : Work ClientAt). w.told.entries) afters) seat.view.seen have_told;
-        fronts = run_fronts (Explains (room_of (shape_of way table))) scripts (map (λ (w : Work ClientAt). w.told.entries) afters) seat.view.seen have_told;
-      });
+      updates = run_updates (Explains (room_of (shape_of way table))) scripts (entries_of told) seat.view.seen have_told;
+      confirmed = run_confirmed (Explains (room_of (shape_of way table))) scripts (entries_of told) seat.view.seen have_told;
+      fronts = run_fronts (Explains (room_of (shape_of way table))) scripts (entries_of told) seat.view.seen have_told;
     }
 
     pub run_marks : FitsScripts scripts seat.view.seen
-    run_marks = run_fits (Explains (room_of (shape_of way table))) scripts (map (λ (w : Work ClientAt). w.told.entries) afters) seat.view.seen have_told
+    run_marks = run_fits (Explains (room_of (shape_of way table))) scripts (entries_of told) seat.view.seen have_told
 
-    -- What a run hands on once its seats are one: these told lists are explained by the updates that the seat has seen.
-    pub told_explained : (told : List (Roomy Told)) (slots : ℕ) → told ≡ [] ++ map (λ (w : Work ClientAt). w.told) afters → table.slots ≡ slots → AreExplainable scripts (entries_of told) (updates_of seat.view.seen) slots
-    told_explained told slots is many =
-        subst (λ ts. AreExplainable scripts ts (updates_of seat.view.seen) slots) (sym (ap entries_of is ∙ entries_are afters))
-        (subst (AreExplainable scripts (map (λ (w : Work ClientAt). w.told.entries) afters) (updates_of seat.view.seen)) many run_explained)
+  -- The same where the table has no other place.
+  module _ (stays : StaysIn (shape_of way table) seat.view) (places : table.places ≡ length scripts) where
+    no_others : (p : ℕ) → length scripts ≤ p → updates_of (own_of p seat.view.seen) ≡ []
+    no_others p past = ap updates_of (stays.others p (omega arith))
+
+    pub alone_explained : (slots : ℕ) → table.slots ≡ slots → AreExplainable scripts (entries_of told) (updates_of seat.view.seen) slots
+    alone_explained slots many = record {
+      lengths = run_told no_others;
+      explained = subst (λ (room : Room). AreExplained room (updates_of seat.view.seen) (all_told_lines scripts (entries_of told))) (λ j. record { scripts = places j; slots = many j }) (run_explained no_others);
+    }
+
+    pub alone_marks : FitsScripts scripts seat.view.seen
+    alone_marks = run_marks no_others

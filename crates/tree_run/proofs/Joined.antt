@@ -1,5 +1,5 @@
 -- Seats joined one after another.
-use Rattle.std.proofs.Common.{◌≡◌, ℕ, zero, suc, ◌≤◌, Bool, true, false, cond, List, [], ◌∷◌, ◌++◌, length, map, Some, inl, inr, refl, sym, ap, subst, ◌∙◌, arith, length-append}
+use Rattle.std.proofs.Common.{◌≡◌, ℕ, zero, suc, ◌<◌, ◌≤◌, Bool, true, false, cond, List, [], ◌∷◌, ◌++◌, length, map, Some, inl, inr, refl, sym, ap, subst, ◌∙◌, arith, length-append}
 use Rattle.std.specs.List.{slice_get}
 use Rattle.std.proofs.lemmas.Bool.{cases_lt}
 use Rattle.std.proofs.lemmas.List.{get_or_append_left, get_or_push, length-map}
@@ -88,6 +88,17 @@ module _ (table : TableAt) where
       map-push : (xs : List ClientAt) → map caller_of (xs ++ c ∷ []) ≡ map caller_of xs ++ caller_of c ∷ []
       map-push [] = refl
       map-push (x ∷ xs) = ap (λ ys. caller_of x ∷ ys) (map-push xs)
+
+-- another seat, joined with one that stands for clients, leaves it so
+pub joined_other : (clients : List ClientAt) (seat other both : SeatAt) → StandsFor clients seat → KeepsOwn seat.view other.view both.view → IsInformed both.view → StandsFor clients both
+joined_other clients seat other both so_far keeps informed = record {
+  answers = λ p below. (let count = keeps.places p in let has = so_far.answers p below in omega arith);
+  met = λ i x there.
+      let met = so_far.met i x there in
+      let below : i < length clients = (let n = slice_get_within (map caller_of clients) i x there in let long = length-map clients caller_of in omega arith) in
+      (prefix_trans x.seen seat.view.seen both.view.seen met.0 keeps.first_seen, keeps.first_own i (so_far.answers i below) ∙ met.1);
+  informed = informed;
+}
 
 -- a look at the clock leaves the seat as it was, but for what it knows of the clock
 pub looked_still : (clients : List ClientAt) (seat after : SeatAt) (clock : ℕ) (h : List Mark) → after.view ≡ after_clock_load (noted seat.view K3 clock) clock h → IsInformed after.view → StandsFor clients seat → StandsFor clients after

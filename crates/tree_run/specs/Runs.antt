@@ -1,13 +1,17 @@
 -- A run of scripts on the tree: its clients before and after it, and the seat that is left.
 -- Source: docs/ACCOUNTS.md, "Clients".
 use Rattle.std.specs.Prelude.{◌≡◌, ℕ, ◌*◌, ◌<◌, ◌≤◌, List, [], length, map}
-use Rattle.client_run.specs.Crews.{HaveMet}
+use Rattle.prcu_model.specs.declared.operation.Op.{Op}
+use Rattle.prcu_model.specs.declared.operation.Told.{Told}
+use Rattle.prcu_model.specs.Lists.{Roomy}
+use Rattle.client_run.specs.Crews.{HaveMet, IsCrew}
+use Rattle.client_run.specs.Workers.{Work, HaveMade}
 use Rattle.list_laws.specs.Counts.{times}
 use Rattle.core_state.specs.views.Views.{places_of}
 use Rattle.core_state.specs.steps.Seating.{new_view}
 use Rattle.seat_table.specs.Seats.{TableAt, SeatAt, shape_of}
 use Rattle.seat_table.specs.Gains.{IsInformed}
-use Rattle.citrus_tree.specs.Clients.{ClientAt, caller_of}
+use Rattle.citrus_tree.specs.Clients.{ClientAt, HasCalled, caller_of}
 
 -- a seat that has done and seen nothing, with these places and tickets
 abbrev pub seat_for : TableAt → ℕ → ℕ → ℕ → SeatAt
@@ -29,3 +33,14 @@ pub record StandsFor (clients : List ClientAt) (seat : SeatAt) : Type 0 where
   pub answers : (p : ℕ) → p < length clients → 1 ≤ times p (places_of seat.view)
   pub met : HaveMet (map caller_of clients) seat.view.seen
   pub informed : IsInformed seat.view
+
+-- Scripts ran on a table: each had a worker whose seat had done nothing, which made the script's calls. Here is what they were told, and
+-- the seat into which theirs were joined.
+pub record HasRun (way : ℕ) (table : TableAt) (scripts : List (List Op)) (told : List (Roomy Told)) (seat : SeatAt) : Type 0 where
+  pub hired : List (Work ClientAt)
+  pub workers : List (Work ClientAt)
+  pub crew : IsCrew (client_for way table) scripts hired
+  pub count : length workers ≡ length hired
+  pub made : HaveMade HasCalled hired scripts workers
+  pub told_is : told ≡ map (λ (worker : Work ClientAt). worker.told) workers
+  pub joined : StandsFor (map (λ (worker : Work ClientAt). worker.client) workers) seat

@@ -13,7 +13,7 @@ use seat_table::{CitrusTable, Seat, WaitPart};
 use std::alloc::Global;
 
 /// How many tickets a call may use.
-pub(crate) const TICKETS: u64 = 4;
+pub const TICKETS: u64 = 4;
 
 /// A worker for each script, whose client has the place of the script's number and four tickets for each operation.
 pub(crate) fn hire<'a, W: WaitPart, G: Gate>(

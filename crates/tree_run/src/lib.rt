@@ -5,7 +5,5 @@ mod crew;
 mod gathering;
 mod running;
 
-pub use running::{TreeRun, run_scripts};
-
-#[cfg(test)]
-mod tests;
+pub use crew::TICKETS;
+pub use running::{SeatRun, TreeRun, run_on, run_scripts};

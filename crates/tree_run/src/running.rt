@@ -11,10 +11,10 @@ ghost use Rattle.client_run.specs.Workers.{HaveMade};
 ghost use Rattle.client_run.specs.Crews.{IsCrew};
 ghost use Rattle.list_laws.specs.Counts.{times};
 ghost use Rattle.core_state.specs.views.Views.{places_of};
-ghost use Rattle.seat_table.specs.Seats.{TableAt, IsQuietSeat};
-ghost use Rattle.seat_table.specs.Gains.{IsInformed};
+ghost use Rattle.seat_table.specs.Seats.{TableAt, IsQuietSeat, shape_of};
+ghost use Rattle.seat_table.specs.Gains.{IsInformed, StaysIn};
 ghost use Rattle.citrus_tree.specs.Clients.{HasCalled};
-ghost use Rattle.tree_run.specs.Runs.{client_for};
+ghost use Rattle.tree_run.specs.Runs.{seat_for, client_for, HasRun};
 
 use crate::crew::{TICKETS, hire};
 use crate::gathering::gather;
@@ -64,19 +64,48 @@ pub fn run_scripts<R: Threads + Wait + Sync, W: WaitPart + Sync, G: Gate + Sync>
     ensures informed { IfOk result (λ run. IsInformed run.seat.view) }
     ensures answers { IfOk result (λ run. (place : ℕ) → place < length scripts.now → 1 ≤ times place (places_of run.seat.view)) }
 {
-    let count = scripts.count();
     let tickets = TICKETS * u64::from(scripts.ops());
-    let (table, seat) = CitrusTable::new(alloc, slots, count, tickets)?;
-    let mut told = Vec::with_capacity(alloc, count as usize)?;
-    let workers = hire(alloc, &table, seat, gate, scripts)?;
-    let seat = gather(&table, run_crew(rt, workers, scripts), &mut told);
-    let history = merge(alloc, scripts, &told)?;
+    let (table, seat) = CitrusTable::new(alloc, slots, scripts.count(), tickets)?;
+    let ran = run_on(rt, alloc, &table, seat, scripts, gate)?;
+    let history = merge(alloc, scripts, &ran.told)?;
     Ok(TreeRun {
-        told,
+        told: ran.told,
         history,
         table,
-        seat,
+        seat: ran.seat,
     })
+}
+
+/// What scripts were told on a table, and the seats of their clients, as one.
+#[derive(Drop)]
+pub struct SeatRun<W: WaitPart> {
+    pub told: Vec<ToldList>,
+    pub seat: Seat<W>,
+}
+
+/// Runs each script by a client of its own on the table, in threads beside each other where they can be made. The seat is cut into one
+/// for each script, at the places from 0 on, with four tickets for each operation. The table may have more places, where others work.
+pub fn run_on<R: Threads + Wait + Sync, W: WaitPart + Sync, G: Gate + Sync>(
+    rt: &R,
+    alloc: Global,
+    table: &CitrusTable<W>,
+    seat: Seat<W>,
+    scripts: &Scripts,
+    gate: &G,
+) -> Result<SeatRun<W>, NoMemory>
+    requires some { 1 ≤ length scripts.now }
+    requires seat { seat ≡ seat_for table.now 0 (length scripts.now) (4 * op_count scripts.now) }
+    requires quiet { IsQuietSeat seat }
+    ensures run { IfOk result (λ run. HasRun W.WAY table.now scripts.now run.told.items run.seat) }
+    ensures table { IfOk result (λ run. run.seat.table ≡ table.now) }
+    ensures quiet { IfOk result (λ run. IsQuietSeat run.seat) }
+    ensures stays { IfOk result (λ run. StaysIn (shape_of W.WAY table.now) run.seat.view) }
+{
+    prove!(scripts.ops() <= Scripts::MOST_OPS);
+    let mut told = Vec::with_capacity(alloc, scripts.count() as usize)?;
+    let workers = hire(alloc, table, seat, gate, scripts)?;
+    let seat = gather(table, run_crew(rt, workers, scripts), &mut told);
+    Ok(SeatRun { told, seat })
 }
 
 // The workers, after they have run their scripts.

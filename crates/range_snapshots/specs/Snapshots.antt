@@ -1,0 +1,37 @@
+-- Snapshots of a key range, taken one after another beside updates, and what they are snapshots of.
+-- Source: docs/FORMATS.md, "Watch texts".
+use Rattle.std.specs.Prelude.{◌≡◌, ℕ, ◌+◌, ◌≤◌, List, [], ◌∷◌, length, Option, Some, None}
+use mathlib.Core.List.{IsPrefix}
+use Rattle.prcu_model.specs.declared.operation.Update.{Update}
+use Rattle.prcu_marks.specs.Marks.{updates_of, own_of}
+use Rattle.core_state.specs.declared.view.View.{View}
+use Rattle.exact_list.specs.Pairs.{Pair, had_at, ArePairs}
+
+-- a snapshot: after how many updates it was so, its pairs, and the key after them where there are more
+pub record SnapshotAt : Type 0 where
+  pub front : ℕ
+  pub pairs : List Pair
+  pub next : Option ℕ
+
+-- These are exactly the map's pairs with keys from the low to the high one, keys ascending: all of them, at most 4,096; or the first
+-- 4,096, and the next key of the map is the one after them.
+abbrev pub AreFirstPairs : (ℕ → Option ℕ) → ℕ → ℕ → List Pair → Option ℕ → Type 0
+AreFirstPairs map low high pairs None = ArePairs map low (high + 1) pairs × (length pairs ≤ 4096)
+AreFirstPairs map low high pairs (Some next) = ArePairs map low next pairs × (length pairs ≡ 4096) × (next ≤ high) × ((value : ℕ) × (map next ≡ Some value))
+
+-- Snapshots of a history, taken one after another. The front of each is one of the history's, and isn't below the number given, nor below
+-- that of the snapshot before.
+abbrev pub AreSnapshots : List Update → ℕ → ℕ → ℕ → List SnapshotAt → Type 0
+AreSnapshots history low high since [] = Unit {0}
+AreSnapshots history low high since (s ∷ ss) =
+    (since ≤ s.front) × (s.front ≤ length history) × AreFirstPairs (had_at history s.front) low high s.pairs s.next × AreSnapshots history low high s.front ss
+
+-- what is there before a first snapshot is taken, and of a dictionary without updates
+abbrev pub none_yet : SnapshotAt
+none_yet = record { front = 0; pairs = []; next = None }
+
+-- From one view to the other the seat has seen no less, and its place made no update. Its places and tickets are the same.
+pub record OnlyLists (v w : View) : Type 0 where
+  pub allowance : w.allowance ≡ v.allowance
+  pub seen : IsPrefix v.seen w.seen
+  pub own : updates_of (own_of v.allowance.place w.seen) ≡ updates_of (own_of v.allowance.place v.seen)
