@@ -3,7 +3,7 @@ use Rattle.std.proofs.Common.{◌≡◌, ℕ, ◌≤◌, ◌<◌, List, [], ◌+
 use Rattle.io_edge.specs.Edge.{Takes, IsAtEnd, Appends}
 use Rattle.io_edge.specs.Whole.{TakesToLimit}
 use Rattle.citrus_tool.specs.declared.commands.Command.{Command}
-use Rattle.citrus_tool.specs.declared.commands.Command.TheVariants.{Run, Check, Load, Hash}
+use Rattle.citrus_tool.specs.declared.commands.Command.TheVariants.{Run, Check, Load, Watch, Hash}
 use Rattle.citrus_tool.specs.declared.outcome.Ran.{Ran}
 use Rattle.citrus_tool.specs.declared.outcome.Status.{Status}
 use Rattle.citrus_tool.specs.declared.outcome.Status.TheVariants.{Done, Refused, Usage, BadScript, ReadFault, WriteFault, NoMemory, TooLong}
@@ -31,12 +31,14 @@ no_bad_line (Check slots) input text bad good =
     let same = one_before input bad.before claims.before bad.account good.1 bad.parts claims.parts in
     bad.bad.none good.0 (subst (λ b. IsScriptText b good.0) (sym same) claims.read)
 no_bad_line (Load number scripts ops waiter) input text bad good = bad
+no_bad_line (Watch low high slots waiter) input text bad good = bad.none good.0 good.1
 no_bad_line Hash input text bad good = bad.none good.0 good.1
 
 reads_bad : (command : Command) (input text : List ℕ) → Writes command BadScript input text → Reads command
 reads_bad (Run slots mode) input text bad = tt
 reads_bad (Check slots) input text bad = tt
 reads_bad (Load number scripts ops waiter) input text bad = bad
+reads_bad (Watch low high slots waiter) input text bad = tt
 reads_bad Hash input text bad = tt
 
 -- an input with good scripts isn't told bad

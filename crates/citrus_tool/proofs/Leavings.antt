@@ -17,7 +17,7 @@ use Rattle.core_state.specs.declared.shape.Waiter.TheVariants.{Eer, Domain, Deer
 use Rattle.hash_core.specs.Steps.{IsQuiet}
 use Rattle.seat_table.specs.Seats as tree
 use Rattle.citrus_tool.specs.declared.commands.Command.{Command}
-use Rattle.citrus_tool.specs.declared.commands.Command.TheVariants.{Run, Check, Load, Hash as HashCommand}
+use Rattle.citrus_tool.specs.declared.commands.Command.TheVariants.{Run, Check, Load, Watch, Hash as HashCommand}
 use Rattle.citrus_tool.specs.declared.commands.Mode.{Mode}
 use Rattle.citrus_tool.specs.declared.commands.Mode.TheVariants.{Threads, Schedule}
 use Rattle.citrus_tool.specs.declared.outcome.Status.TheVariants.{Done}
@@ -26,9 +26,10 @@ use Rattle.citrus_tool.specs.declared.outcome.Ran.TheVariants.{Nothing, Hash}
 use Rattle.citrus_tool.specs.Answers.{AccountsFor, Writes, Leaves, Answered}
 use Rattle.citrus_tool.specs.Leavings.{LeavesSome, RunsBy, IsDrawn, LeavesMade, IsLeftOf, LeavesHash, IsTreeLeftOf, LeavesTree, tree_with}
 use Rattle.citrus_tool.specs.Limits.{slots_of}
+use Rattle.citrus_tool.specs.Watching.{LeavesWatched}
 use Rattle.citrus_tool.proofs.SlotCounts.{never_full}
 
-some_left : (scripts : List (List Op)) (ran : Ran) (left : Type 0) → 1 ≤ length scripts → left → LeavesSome scripts ran left
+pub some_left : (scripts : List (List Op)) (ran : Ran) (left : Type 0) → 1 ≤ length scripts → left → LeavesSome scripts ran left
 some_left [] ran left some is = absurd (omega arith)
 some_left (script ∷ scripts) ran left some is = is
 
@@ -94,7 +95,7 @@ made_left waiter chosen scripts table seat is some left = record {
   left = subst (λ w. LeavesTree w scripts (default_slots_of scripts) left.0 (tree_with chosen table seat)) (sym is) (tree_left chosen scripts (default_slots_of scripts) left.0 table seat some left.1);
 }
 
-none_within : (slots front : ℕ) → map.len (map_at [] front) ≤ slots
+pub none_within : (slots front : ℕ) → map.len (map_at [] front) ≤ slots
 none_within slots zero = let none = map.len-empty nat_cmp ℕ in omega (arith, none)
 none_within slots (suc front) = let none = map.len-empty nat_cmp ℕ in omega (arith, none)
 
@@ -122,6 +123,12 @@ no_tree Eer (script ∷ scripts) slots history table seat left = let e = left.2 
 no_tree Domain (script ∷ scripts) slots history table seat left = let e = left.2 in absurd (cc)
 no_tree Deer (script ∷ scripts) slots history table seat left = let e = left.2 in absurd (cc)
 
+no_watched : (waiter : Waiter) (scripts : List (List Op)) (slots : ℕ) (history : List Update) (table : TableAt) (seat : SeatAt) → LeavesWatched waiter scripts slots history (Hash table seat) → ⊥
+no_watched waiter [] slots history table seat left = absurd (cc)
+no_watched Eer (script ∷ scripts) slots history table seat left = let e = left.2 in absurd (cc)
+no_watched Domain (script ∷ scripts) slots history table seat left = let e = left.2 in absurd (cc)
+no_watched Deer (script ∷ scripts) slots history table seat left = let e = left.2 in absurd (cc)
+
 -- a seat that a run on the hash dictionary leaves may go on
 pub left_ready : (words : List (List ℕ)) (a b c d : Option (List ℕ)) (ran : Ran) (table : TableAt) (seat : SeatAt) → Answered words Done a b c d ran → ran ≡ Hash table seat → (seat.table ≡ table.id) × IsQuiet seat.view
 left_ready words a b c d ran table seat answered is = by answered.command answered.answered.input answered.answered.text answered.answered.answers (subst (Leaves answered.command Done answered.answered.input answered.answered.text answered.answered.answers) is answered.answered.leaves)
@@ -131,4 +138,5 @@ left_ready words a b c d ran table seat answered is = by answered.command answer
     by (Run slots (Schedule number)) input text writes left = absurd (cc)
     by (Check slots) input text writes left = absurd (cc)
     by (Load number scripts ops waiter) input text writes left = absurd (no_tree waiter _ _ _ table seat left.left)
+    by (Watch low high slots waiter) input text writes left = absurd (no_watched waiter writes.scripts _ _ table seat left)
     by HashCommand input text writes left = seat_ready writes.scripts writes.account.history table seat left

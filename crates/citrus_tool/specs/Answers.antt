@@ -4,13 +4,13 @@ use Rattle.std.specs.Prelude.{◌≡◌, ℕ, ◌≤◌, List, ◌++◌, length,
 use Rattle.io_edge.specs.Edge.{Takes, IsAtEnd, Appends, AppendsFront}
 use Rattle.prcu_model.specs.declared.operation.Op.{Op}
 use Rattle.prcu_model.specs.Slots.{LacksFull, StaysWithin}
-use Rattle.script_text.specs.Grammar.{IsScriptText, IsFirstBad}
+use Rattle.script_text.specs.Grammar.{IsScriptText, IsScriptTextUpTo, IsFirstBadUpTo}
 use Rattle.account_text.specs.Account.{IsAccount}
 use Rattle.workload.specs.Draws.{made_scripts}
 use Rattle.workload.specs.Summaries.{plain_summary}
 use Rattle.workload.specs.SummaryText.{summary_text}
 use Rattle.citrus_tool.specs.declared.commands.Command.{Command}
-use Rattle.citrus_tool.specs.declared.commands.Command.TheVariants.{Run, Check, Load, Hash}
+use Rattle.citrus_tool.specs.declared.commands.Command.TheVariants.{Run, Check, Load, Watch, Hash}
 use Rattle.citrus_tool.specs.declared.commands.Mode.{Mode}
 use Rattle.citrus_tool.specs.declared.commands.Mode.TheVariants.{Threads, Schedule}
 use Rattle.citrus_tool.specs.declared.outcome.Status.{Status}
@@ -21,6 +21,7 @@ use Rattle.citrus_tool.specs.Commands.{Asks, Reads, limit_of}
 use Rattle.citrus_tool.specs.Leavings.{IsDrawn, LeavesTree, LeavesMade, LeavesHash}
 use Rattle.citrus_tool.specs.Limits.{slots_of}
 use Rattle.citrus_tool.specs.Parts.{HasParts}
+use Rattle.citrus_tool.specs.Watching.{WatchesFor, LeavesWatched}
 
 -- The text is an account of the scripts that the input holds: the headline. Each script's successful updates stand in
 -- one legal history, once and in order; each reply is the plain dictionary's at its front; in a script the fronts never
@@ -48,12 +49,16 @@ abbrev pub LeavesRun : (mode : Mode) (slots : Option ℕ) (input text : List ℕ
 LeavesRun (Threads waiter) slots input text accounts ran = LeavesTree waiter accounts.scripts (slots_of slots accounts.scripts) accounts.account.history ran
 LeavesRun (Schedule number) slots input text accounts ran = ran ≡ Nothing
 
--- The input has a bad line, so it is no scripts' text, and the text tells the number of the first.
-pub record TellsBadLine (input text : List ℕ) : Type 0 where
+-- The input has a line that is bad where a text may hold so many scripts. So it is no text of such scripts, and the text tells the
+-- number of the first.
+pub record TellsBadLineUpTo (most : ℕ) (input text : List ℕ) : Type 0 where
   pub number : ℕ
-  pub first : IsFirstBad input number
-  pub none : (scripts : List (List Op)) → IsScriptText input scripts → ⊥
+  pub first : IsFirstBadUpTo most input number
+  pub none : (scripts : List (List Op)) → IsScriptTextUpTo most input scripts → ⊥
   pub told : text ≡ codes "bad line " ++ decimal number ++ codes "\n"
+
+abbrev pub TellsBadLine : List ℕ → List ℕ → Type 0
+TellsBadLine = TellsBadLineUpTo 64
 
 -- The input has scripts, and the bytes of a claimed account after them.
 pub record Claims (input : List ℕ) (scripts : List (List Op)) (account : List ℕ) : Type 0 where
@@ -98,6 +103,8 @@ Writes (Check slots) Done input text = SaysYes slots input text
 Writes (Check slots) Refused input text = SaysNo slots input text
 Writes (Check slots) BadScript input text = TellsBadLineBefore input text
 Writes (Load number scripts ops waiter) Done input text = text ≡ summary_text (plain_summary (made_scripts number scripts ops))
+Writes (Watch low high slots waiter) Done input text = WatchesFor slots low high input text
+Writes (Watch low high slots waiter) BadScript input text = TellsBadLineUpTo 63 input text
 Writes Hash Done input text = AccountsFor None input text
 Writes Hash BadScript input text = TellsBadLine input text
 Writes _ _ input text = ⊥
@@ -110,6 +117,7 @@ MayWrite command input text = (status : Status) × Writes command status input t
 abbrev pub Leaves : (command : Command) (status : Status) (input text : List ℕ) → Writes command status input text → Ran → Type 0
 Leaves (Run slots mode) Done input text accounts ran = LeavesRun mode slots input text accounts ran
 Leaves (Load number scripts ops waiter) Done input text writes ran = LeavesMade waiter (made_scripts number scripts ops) ran
+Leaves (Watch low high slots waiter) Done input text watches ran = LeavesWatched waiter watches.scripts (slots_of slots watches.scripts) watches.watch.account.history ran
 Leaves Hash Done input text accounts ran = LeavesHash accounts.scripts accounts.account.history ran
 Leaves _ _ input text writes ran = ran ≡ Nothing
 
@@ -151,6 +159,7 @@ abbrev pub IsAnswerable : Command → List ℕ → Type 0
 IsAnswerable (Run slots mode) input = (scripts : List (List Op)) × IsScriptText input scripts
 IsAnswerable (Check slots) input = (scripts : List (List Op)) × (account : List ℕ) × Claims input scripts account
 IsAnswerable (Load number scripts ops waiter) input = Unit {0}
+IsAnswerable (Watch low high slots waiter) input = (scripts : List (List Op)) × IsScriptTextUpTo 63 input scripts
 IsAnswerable Hash input = (scripts : List (List Op)) × IsScriptText input scripts
 
 -- the statuses with which nothing is written

@@ -7,7 +7,7 @@ use Rattle.citrus_tool.specs.declared.arguments.Argument.{Argument}
 use Rattle.citrus_tool.specs.declared.arguments.Arguments.{Arguments}
 use Rattle.citrus_tool.specs.declared.arguments.Numbers.TheVariants.{Zero}
 use Rattle.citrus_tool.specs.declared.commands.Command.{Command}
-use Rattle.citrus_tool.specs.declared.commands.Command.TheVariants.{Run, Check, Load, Hash}
+use Rattle.citrus_tool.specs.declared.commands.Command.TheVariants.{Run, Check, Load, Watch, Hash}
 use Rattle.citrus_tool.specs.declared.commands.Mode.{Mode}
 use Rattle.citrus_tool.specs.declared.commands.Mode.TheVariants.{Threads, Schedule}
 use Rattle.citrus_tool.specs.Arguments.{AreSpelled, Joins, numbers_of}
@@ -17,6 +17,7 @@ abbrev pub command_word : Command → List ℕ
 command_word (Run slots mode) = codes "run"
 command_word (Check slots) = codes "check"
 command_word (Load number scripts ops waiter) = codes "load"
+command_word (Watch low high slots waiter) = codes "watch"
 command_word Hash = codes "hash"
 
 -- no argument
@@ -39,6 +40,8 @@ Suits (Run slots mode) found = (found.slots ≡ slots) × IsMode mode found.sche
 Suits (Check slots) found = (found.slots ≡ slots) × (found.schedule ≡ None) × (found.waiter ≡ None) × (numbers_of found.numbers ≡ [])
 Suits (Load number scripts ops waiter) found =
     (found.slots ≡ None) × (found.schedule ≡ None) × (waiter ≡ chosen found.waiter) × (numbers_of found.numbers ≡ number ∷ scripts ∷ ops ∷ [])
+Suits (Watch low high slots waiter) found =
+    (found.slots ≡ slots) × (found.schedule ≡ None) × (waiter ≡ chosen found.waiter) × (numbers_of found.numbers ≡ low ∷ high ∷ [])
 Suits Hash found = (found.slots ≡ None) × (found.schedule ≡ None) × (found.waiter ≡ None) × (numbers_of found.numbers ≡ [])
 
 -- a number of slots from 1 on, which with those of 63 more scripts stays within the largest table
@@ -50,6 +53,7 @@ abbrev pub IsInRange : Command → Type 0
 IsInRange (Run slots mode) = AreSlots slots
 IsInRange (Check slots) = AreSlots slots
 IsInRange (Load number scripts ops waiter) = (1 ≤ scripts) × (scripts ≤ 64) × (scripts * ops ≤ 1048576)
+IsInRange (Watch low high slots waiter) = (low ≤ high) × AreSlots slots
 IsInRange Hash = Unit {0}
 
 -- The words ask for the command: its own word, and then its arguments in any order.
@@ -71,6 +75,7 @@ abbrev pub Reads : Command → Type 0
 Reads (Run slots mode) = Unit {0}
 Reads (Check slots) = Unit {0}
 Reads (Load number scripts ops waiter) = ⊥
+Reads (Watch low high slots waiter) = Unit {0}
 Reads Hash = Unit {0}
 
 -- the most bytes that the command reads
@@ -78,4 +83,5 @@ abbrev pub limit_of : Command → ℕ
 limit_of (Run slots mode) = 16777216
 limit_of (Check slots) = 134217728
 limit_of (Load number scripts ops waiter) = 0
+limit_of (Watch low high slots waiter) = 16777216
 limit_of Hash = 16777216

@@ -4,4 +4,5 @@ pub mod Commands
 pub mod Limits
 pub mod Parts
 pub mod Leavings
+pub mod Watching
 pub mod Answers

@@ -40,6 +40,14 @@ pub enum Command {
         ops: u32,
         waiter: Waiter,
     },
+    /// Runs the scripts of the input, at most 63, as `Run` does, and makes four lists of the pairs with keys from the low to the high one
+    /// beside them. Writes the scripts' account with these lists.
+    Watch {
+        low: u64,
+        high: u64,
+        slots: Option<u32>,
+        waiter: Waiter,
+    },
     /// Runs the scripts of the input beside each other on one hash dictionary, and writes their account.
     Hash,
 }
@@ -53,7 +61,7 @@ impl Command {
         ensures { result ≡ limit_of self }
     {
         match self {
-            Command::Run { .. } | Command::Hash => 16_777_216,
+            Command::Run { .. } | Command::Watch { .. } | Command::Hash => 16_777_216,
             Command::Check { .. } => 134_217_728,
             Command::Load { .. } => 0,
         }
@@ -80,6 +88,7 @@ pub fn command_of(words: &[String]) -> Option<Command>
         "run" => run_of(arguments),
         "check" => check_of(arguments),
         "load" => load_of(arguments),
+        "watch" => watch_of(arguments),
         "hash" => hash_of(arguments),
         _ => None,
     }
@@ -184,6 +193,27 @@ fn load_of(arguments: Arguments) -> Option<Command>
         number,
         scripts: scripts as u32,
         ops: ops as u32,
+        waiter: waiter_of(arguments),
+    })
+}
+
+// The range of `watch`, where no schedule stands beside it and the low key isn't above the high one.
+fn watch_of(arguments: Arguments) -> Option<Command>
+    ensures some { IfSome result (λ command. (low high : ℕ) × (slots : Option ℕ) × (waiter : waiter.Waiter) × (command ≡ Command.Watch low high slots waiter)
+        × Suits command arguments × IsInRange command) }
+    ensures only { (low high : ℕ) (slots : Option ℕ) (waiter : waiter.Waiter) → Suits (Command.Watch low high slots waiter) arguments
+        → IsInRange (Command.Watch low high slots waiter) → result ≡ Some (Command.Watch low high slots waiter) }
+{
+    let Numbers::Two(low, high) = arguments.numbers else {
+        return None;
+    };
+    if arguments.schedule.is_some() || low > high {
+        return None;
+    }
+    Some(Command::Watch {
+        low,
+        high,
+        slots: slots_of(arguments)?,
         waiter: waiter_of(arguments),
     })
 }

@@ -9,10 +9,8 @@ mod running;
 mod slots;
 mod top;
 mod treeing;
+mod watching;
 
 pub use commands::{Command, Mode};
 pub use outcome::{Outcome, Ran, Status};
 pub use top::tool;
-
-#[cfg(test)]
-mod tests;

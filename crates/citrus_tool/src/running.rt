@@ -13,15 +13,20 @@ use crate::outcome::{Ran, Status};
 use crate::parts::parts_of;
 use crate::slots::slots_for;
 use crate::treeing::{account_in_threads, summary_in_threads};
+use crate::watching::watch_in_threads;
 use account_text::{check, make_account};
 use core_state::shape::Waiter;
+use key_interval::Keys;
 use prcu_marks::Gate;
 use prcu_model::{NoMemory, Scripts};
-use script_text::{ScriptError, parse, push_number};
+use script_text::{ScriptError, parse, parse_up_to, push_number};
 use std::alloc::Global;
 use std::sync::Wait;
 use std::thread::Threads;
 use workload::make;
+
+// How many scripts may be watched: the lists are made at the last of 64 places.
+const MOST_WATCHED: u32 = 63;
 
 /// The text that answers an input, the status with which it is written whole, and what the run leaves.
 #[derive(Drop)]
@@ -53,6 +58,12 @@ pub fn answer_to<R: Threads + Wait + Sync, G: Gate + Sync>(
             ops,
             waiter,
         } => load(rt, alloc, number, scripts, ops, waiter, gate),
+        Command::Watch {
+            low,
+            high,
+            slots,
+            waiter,
+        } => watch(rt, alloc, low, high, slots, waiter, input, gate),
         Command::Hash => hash(rt, alloc, input, gate),
     }
 }
@@ -245,6 +256,45 @@ fn hash_scripts<R: Threads + Wait + Sync, G: Gate + Sync>(
         seat: ended.seat,
     };
     Ok((text, ran))
+}
+
+// Runs the scripts that the input holds, at most 63, on one search tree, and lists the range beside them: their account with the lists,
+// or the number of the first bad line.
+fn watch<R: Threads + Wait + Sync, G: Gate + Sync>(
+    rt: &R,
+    alloc: Global,
+    low: u64,
+    high: u64,
+    slots: Option<u32>,
+    waiter: Waiter,
+    input: &[u8],
+    gate: &G,
+) -> Result<Answer, NoMemory>
+    requires short { length input.now ≤ 16777216 }
+    requires in_range { IsInRange (Command.Watch low high slots waiter) }
+    ensures { IfOk result (λ answer. (writes : Writes (Command.Watch low high slots waiter) answer.status input.now answer.text.items)
+        × Leaves (Command.Watch low high slots waiter) answer.status input.now answer.text.items writes answer.ran) }
+{
+    let Some(keys) = Keys::new(low, high) else {
+        unreachable!()
+    };
+    match parse_up_to(alloc, input, MOST_WATCHED) {
+        Ok(scripts) => {
+            let shared = slots_for(slots, &scripts);
+            let (text, ran) = watch_in_threads(rt, alloc, &scripts, shared, waiter, keys, gate)?;
+            Ok(Answer {
+                status: Status::Done,
+                text,
+                ran,
+            })
+        }
+        Err(ScriptError::Line { number }) => Ok(Answer {
+            status: Status::BadScript,
+            text: bad_line(alloc, number)?,
+            ran: Ran::Nothing,
+        }),
+        Err(ScriptError::NoMemory) => Err(NoMemory),
+    }
 }
 
 // Runs a made workload on one search tree, each script in a thread of its own: its summary.

@@ -136,7 +136,7 @@ fn input_of<S: Source>(
     ensures counted { S.faults source.old ≤ S.faults source.new }
 {
     match command {
-        Command::Run { .. } | Command::Check { .. } | Command::Hash => {
+        Command::Run { .. } | Command::Check { .. } | Command::Watch { .. } | Command::Hash => {
             read_all(alloc, source, command.limit())
         }
         Command::Load { .. } => Ok(Vec::new(alloc)),

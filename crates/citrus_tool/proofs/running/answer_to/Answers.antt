@@ -21,3 +21,9 @@ returns-in-Hash g c =
     let input = c.args.input.now in
     subst (λ (k : Command). IfOk c.hash.result (λ answer. (writes : Writes k answer.status input answer.text.items) × Leaves k answer.status input answer.text.items writes answer.ran))
     (sym c.in-Hash.is) c.hash.ensures
+
+pub returns-in-Watch : goal.returns-in-Watch
+returns-in-Watch g c =
+    let input = c.args.input.now in
+    subst (λ (k : Command). IfOk c.watch.result (λ answer. (writes : Writes k answer.status input answer.text.items) × Leaves k answer.status input answer.text.items writes answer.ran))
+    (sym c.in-Watch.is) c.watch.ensures

@@ -1,0 +1,94 @@
+//! Scripts that run beside each other on one search tree, and lists of a key range beside them: what is written of both, and the tree.
+ghost use Rattle.std.specs.Prelude.{◌≡◌, ◌+◌, ◌≤◌, IfOk, length};
+ghost use Rattle.prcu_model.specs.Slots.{StaysWithin};
+ghost use Rattle.range_snapshots.specs.WatchText.{IsWatchText};
+ghost use Rattle.citrus_tool.specs.Watching.{IsWatchedTreeOf, LeavesWatched};
+
+use crate::outcome::Ran;
+use core_state::shape::Waiter;
+use key_interval::Keys;
+use prcu_marks::Gate;
+use prcu_model::{NoMemory, Scripts};
+use range_snapshots::{Snapshots, make_watch_text};
+use seat_table::{CitrusTable, Seat, WaitPart};
+use std::alloc::Global;
+use std::sync::Wait;
+use std::thread::Threads;
+use tree_watch::run_watched;
+
+// What is written of a run that was watched, and the tree with all seats as one.
+#[derive(Drop)]
+struct Watched<W: WaitPart> {
+    text: Vec<u8>,
+    table: CitrusTable<W>,
+    seat: Seat<W>,
+}
+
+/// Runs the scripts on a tree of this waiter, as where they share so many slots, and lists the keys beside them: the watch text, and the
+/// tree. Without scripts no tree is made, and the lists are those of an empty dictionary.
+pub(crate) fn watch_in_threads<R: Threads + Wait + Sync, G: Gate + Sync>(
+    rt: &R,
+    alloc: Global,
+    scripts: &Scripts,
+    slots: u32,
+    waiter: Waiter,
+    keys: Keys,
+    gate: &G,
+) -> Result<(Vec<u8>, Ran), NoMemory>
+    requires few { length scripts.now ≤ 63 }
+    requires slots { (1 ≤ slots) × (slots ≤ 2097132) }
+    ensures { IfOk result (λ made. (watch : IsWatchText scripts.now slots keys.low keys.high made.0.items)
+        × StaysWithin watch.account.history (slots + 20) × LeavesWatched waiter scripts.now slots watch.account.history made.1) }
+{
+    if scripts.count() == 0 {
+        let none = Snapshots::empty(alloc)?;
+        let text = make_watch_text(alloc, scripts, &[], &[], slots, keys, &none)?;
+        return Ok((text, Ran::Nothing));
+    }
+    match waiter {
+        Waiter::Eer => {
+            let Watched { text, table, seat } = watch_on(rt, alloc, scripts, slots, keys, gate)?;
+            Ok((text, Ran::Eer { table, seat }))
+        }
+        Waiter::Domain => {
+            let Watched { text, table, seat } = watch_on(rt, alloc, scripts, slots, keys, gate)?;
+            Ok((text, Ran::Domain { table, seat }))
+        }
+        Waiter::Deer => {
+            let Watched { text, table, seat } = watch_on(rt, alloc, scripts, slots, keys, gate)?;
+            Ok((text, Ran::Deer { table, seat }))
+        }
+    }
+}
+
+// The same on a tree of the waiter W.
+fn watch_on<R: Threads + Wait + Sync, W: WaitPart + Sync, G: Gate + Sync>(
+    rt: &R,
+    alloc: Global,
+    scripts: &Scripts,
+    slots: u32,
+    keys: Keys,
+    gate: &G,
+) -> Result<Watched<W>, NoMemory>
+    requires way { W.WAY ≤ 2 }
+    requires scripts { (1 ≤ length scripts.now) × (length scripts.now ≤ 63) }
+    requires slots { (1 ≤ slots) × (slots ≤ 2097132) }
+    ensures { IfOk result (λ made. (watch : IsWatchText scripts.now slots keys.low keys.high made.text.items)
+        × StaysWithin watch.account.history (slots + 20) × IsWatchedTreeOf scripts.now slots watch.account.history made.table made.seat) }
+{
+    let ran = run_watched(rt, alloc, scripts, slots, keys, gate)?;
+    let text = make_watch_text(
+        alloc,
+        scripts,
+        &ran.told,
+        &ran.history,
+        slots,
+        keys,
+        &ran.snapshots,
+    )?;
+    Ok(Watched {
+        text,
+        table: ran.table,
+        seat: ran.seat,
+    })
+}
