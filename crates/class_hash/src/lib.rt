@@ -22,6 +22,3 @@ pub use dictionary::{del, get, put, set};
 pub use seat::HashSeat;
 pub use sections::{enter, leave};
 pub use table::HashTable;
-
-#[cfg(test)]
-mod tests;

@@ -18,6 +18,3 @@ pub mod stepping;
 pub use caller::Caller;
 pub use machine::{Machine, Stepped};
 pub use stepping::step_caller;
-
-#[cfg(test)]
-mod tests;

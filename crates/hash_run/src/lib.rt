@@ -7,6 +7,3 @@ mod gathering;
 mod running;
 
 pub use running::{HashRun, run_scripts};
-
-#[cfg(test)]
-mod tests;

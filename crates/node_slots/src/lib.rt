@@ -13,6 +13,3 @@ pub use locks::{try_lock, unlock};
 pub use reclaiming::{give_back, reclaim};
 pub use slots::{put_back, reserve, retire, seize};
 pub use taking::take;
-
-#[cfg(test)]
-mod tests;

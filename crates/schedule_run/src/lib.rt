@@ -5,6 +5,3 @@ pub mod laws;
 mod running;
 
 pub use running::{Scheduled, run_scripts};
-
-#[cfg(test)]
-mod tests;

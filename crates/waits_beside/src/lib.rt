@@ -5,6 +5,3 @@
 mod published;
 
 pub use published::{Published, read, replace};
-
-#[cfg(test)]
-mod tests;

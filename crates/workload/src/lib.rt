@@ -12,6 +12,3 @@ mod summing;
 pub use making::make;
 pub use printing::write_summary;
 pub use summing::{Summary, summary_of};
-
-#[cfg(test)]
-mod tests;

@@ -1,0 +1,21 @@
+//! What no clause says: what callers are told in given orders of steps, and by which numbers.
+use prcu_model::{NoMemory, Op, Scripts};
+use std::alloc::Global;
+use std::process::Abort;
+
+mod runs;
+mod schedules;
+
+// A script of each of these lists.
+fn scripts_of(rt: &impl Abort, alloc: Global, lists: &[&[Op]]) -> Result<Scripts, NoMemory> {
+    let mut scripts = Scripts::new(alloc);
+    for list in lists {
+        assert!(rt; scripts.count() < Scripts::MOST_SCRIPTS);
+        scripts.add_script()?;
+        for op in *list {
+            assert!(rt; 0 < scripts.count() && scripts.ops() < Scripts::MOST_OPS);
+            scripts.add_op(*op)?;
+        }
+    }
+    Ok(scripts)
+}

@@ -1,0 +1,3 @@
+mod accounts;
+mod scripts;
+mod workloads;

@@ -1,0 +1,84 @@
+//! What no clause says: what a cookie answers beside a reader, and which slots go back. With one slot and two places slots 1 and 2 are the
+//! spares, and slot 3 begins free.
+ghost use Rattle.std.specs.Prelude.{◌≡◌};
+ghost use Rattle.seat_table.specs.Seats.{IsQuietSeat};
+ghost use Rattle.grace_cookie.specs.Keeping.{KeepsCookies};
+
+use super::*;
+use citrus_tree::get;
+use eer_wait::Eer;
+use grace_cookie::{Ask, ask, give_back, start};
+use key_interval::Keys;
+use node_slots::{Taken, take};
+use prcu_marks::Why;
+use seat_table::wait_for_readers;
+use std::test::Fail;
+
+// Puts a pair and takes it out again, so that its slot is retired.
+fn retire_one<R: Wait + Abort>(rt: &R, table: &CitrusTable<Eer>, seat: Seat<Eer>) -> Seat<Eer>
+    requires { (seat.table ≡ table.now) × IsQuietSeat seat }
+    ensures { (result.table ≡ table.now) × IsQuietSeat result }
+{
+    let (put, seat) = call_once(rt, table, seat, Op::Put { key: 5, value: 50 });
+    assert_eq!(rt; put, told(Reply::New, 1));
+    let (del, seat) = call_once(rt, table, seat, Op::Del { key: 5 });
+    assert_eq!(rt; del, told(Reply::Gone, 2));
+    seat
+}
+
+// Gets the pair, which leaves the seat's cookies as they are.
+fn get_beside<R: Wait>(rt: &R, table: &CitrusTable<Eer>, seat: &mut Seat<Eer>) -> Reply
+    requires table { seat.old.table ≡ table.now }
+    requires quiet { IsQuietSeat seat.old }
+    ensures table { seat.new.table ≡ seat.old.table }
+    ensures quiet { IsQuietSeat seat.new }
+    ensures keeps { KeepsCookies seat.old seat.new }
+{
+    let Told { reply, number: _ } = get(rt, table, seat, &OpenGate, 5);
+    reply
+}
+
+#[test]
+fn slots_go_back_once_the_cookie_is_over(rt: HostRuntime) -> Result<(), Fail> {
+    let (table, seat) = CitrusTable::<Eer>::new(rt.alloc(), 1, 2, 16)?;
+    let (writer, mut reader) = seat.split(&table, 1, 4);
+    let mut writer = retire_one(&rt, &table, writer);
+    assert!(rt; writer.tickets() > 0);
+    Eer::enter(&table, &mut reader, 7);
+    let mut cookie = start(&table, &mut writer);
+    let Ask::NotYet { why } = ask(&table, &mut writer, &mut cookie) else {
+        panic!(rt; "the reader is inside");
+    };
+    assert_eq!(rt;
+        why,
+        Why::Reader {
+            place: 1,
+            key: 7,
+            stamp: 0
+        }
+    );
+    let reply = get_beside(&rt, &table, &mut writer);
+    assert_eq!(rt; reply, Reply::Absent);
+    Eer::leave(&table, &mut reader);
+    let Ask::Over = ask(&table, &mut writer, &mut cookie) else {
+        panic!(rt; "the reader has left");
+    };
+    assert_eq!(rt; give_back(&table, &mut writer, cookie), 1);
+    let Taken::Slot { slot, generation } = take(&rt, &table, &mut reader) else {
+        panic!(rt; "the slot is free");
+    };
+    assert_eq!(rt; (slot, generation), (3, 1));
+    Ok(())
+}
+
+#[test]
+fn a_later_wait_gives_the_cookie_up(rt: HostRuntime) -> Result<(), Fail> {
+    let (table, mut seat) = CitrusTable::<Eer>::new(rt.alloc(), 1, 1, 4)?;
+    let mut cookie = start(&table, &mut seat);
+    wait_for_readers(&rt, &table, &mut seat, Keys::all());
+    let Ask::GivenUp { latest } = ask(&table, &mut seat, &mut cookie) else {
+        panic!(rt; "a later wait was begun");
+    };
+    assert_eq!(rt; latest, 1);
+    Ok(())
+}

@@ -1,0 +1,215 @@
+//! Scripts in threads of their own, on few slots: one history explains what all of them were told.
+ghost use Rattle.std.specs.Prelude.{◌≡◌, ◌≤◌};
+ghost use Rattle.seat_table.specs.Seats.{IsQuietSeat};
+
+use citrus_tree::TreeClient;
+use d_wait::Domain;
+use deer_wait::Deer;
+use eer_wait::Eer;
+use prcu_marks::{Client, OpenGate};
+use prcu_model::{NoMemory, Op, PlainMap, Reply, Scripts, Told, ToldList, Update};
+use seat_table::{CitrusTable, Seat, WaitPart};
+use std::alloc::Global;
+use std::process::Abort;
+use std::sync::Wait;
+use std::test::Fail;
+use std::thread::Threads;
+use tree_run::{TreeRun, run_scripts};
+
+const CALLERS: u32 = 4;
+
+const CALLS: u32 = 2000;
+
+const KEYS: u64 = 8;
+
+// The values of the keys at a front.
+type Values = [Option<u64>; 8];
+
+// The next number of a made sequence.
+fn drawn(last: u64) -> u64 {
+    last.wrapping_mul(6_364_136_223_846_793_005)
+        .wrapping_add(1_442_695_040_888_963_407)
+}
+
+// The operation that a number stands for, on one of the keys.
+fn op_of(number: u64, value: u64) -> Op {
+    let key = (number >> 40) % KEYS;
+    match (number >> 32) % 8 {
+        0..=2 => Op::Put { key, value },
+        3..=4 => Op::Del { key },
+        5 => Op::Set { key, value },
+        _ => Op::Get { key },
+    }
+}
+
+fn made_scripts(rt: &impl Abort, alloc: Global) -> Result<Scripts, NoMemory> {
+    let mut scripts = Scripts::new(alloc);
+    let mut number = 1;
+    for caller in 0..CALLERS {
+        assert!(rt; scripts.count() < Scripts::MOST_SCRIPTS);
+        scripts.add_script()?;
+        for call in 0..CALLS {
+            number = drawn(number);
+            assert!(rt; 0 < scripts.count() && scripts.ops() < Scripts::MOST_OPS);
+            scripts.add_op(op_of(number, u64::from(caller * CALLS + call)))?;
+        }
+    }
+    Ok(scripts)
+}
+
+fn key_of(op: Op) -> u64 {
+    match op {
+        Op::Put { key, .. } | Op::Get { key } | Op::Del { key } | Op::Set { key, .. } => key,
+    }
+}
+
+// Whether an operation is given this reply where the keys have these values, and four scripts share the slots.
+fn is_reply(values: &Values, slots: u32, op: Op, reply: Reply) -> bool {
+    let there = values[(key_of(op) % KEYS) as usize];
+    match (op, reply) {
+        (Op::Put { .. }, Reply::New) => there.is_none(),
+        (Op::Put { .. }, Reply::Full) => slots.saturating_sub(60) as usize
+            <= values.iter().flatten().count(),
+        (Op::Put { .. }, Reply::Old) => there.is_some(),
+        (Op::Del { .. }, Reply::Gone) => there.is_some(),
+        (Op::Set { .. }, Reply::Was { value }) | (Op::Get { .. }, Reply::Val { value }) => there
+            == Some(value),
+        (Op::Del { .. } | Op::Set { .. } | Op::Get { .. }, Reply::Absent) => there.is_none(),
+        _ => false,
+    }
+}
+
+// The values after each front of the history, from none on. Each update does something.
+fn values_at(rt: &impl Abort, alloc: Global, history: &[Update]) -> Result<Vec<Values>, NoMemory> {
+    let mut map = PlainMap::new(alloc);
+    let mut fronts = Vec::new(alloc);
+    fronts.push([None; 8])?;
+    for update in history {
+        let op = update.op;
+        assert!(rt;
+            map.reply_to(None, op).tells_update(),
+            "{op:?} does nothing"
+        );
+        map.update(op)?;
+        let mut values = [None; 8];
+        for key in 0..KEYS {
+            values[key as usize] = map.get(key);
+        }
+        fronts.push(values)?;
+    }
+    Ok(fronts)
+}
+
+// The least front from another on at which the operation is given the reply.
+fn least_front(fronts: &[Values], slots: u32, from: usize, op: Op, reply: Reply) -> Option<usize> {
+    for front in from..fronts.len() {
+        if is_reply(&fronts[front], slots, op, reply) {
+            return Some(front);
+        }
+    }
+    None
+}
+
+// That each reply of a script is one at some front, where the fronts never fall. An update's is the one before it.
+fn assert_explained(rt: &impl Abort, fronts: &[Values], slots: u32, script: &[Op], told: &[Told]) {
+    assert_eq!(rt; script.len(), told.len());
+    let mut front = 0;
+    for (op, answer) in script.iter().zip(told) {
+        if answer.reply.tells_update() {
+            let number = answer.number as usize;
+            assert!(rt;
+                front < number && number < fronts.len(),
+                "{op:?} was told {answer:?}"
+            );
+            assert!(rt;
+                is_reply(&fronts[number - 1], slots, *op, answer.reply),
+                "{op:?} was told {answer:?}"
+            );
+            front = number;
+        } else {
+            let found = least_front(fronts, slots, front, *op, answer.reply);
+            assert!(rt; found.is_some(), "{op:?} was told {answer:?}");
+            front = found.unwrap_or(front);
+        }
+    }
+}
+
+// That all that the scripts were told is explained.
+fn assert_all_explained(
+    rt: &impl Abort,
+    fronts: &[Values],
+    slots: u32,
+    scripts: &Scripts,
+    told: &[ToldList],
+) {
+    for (caller, list) in told.iter().enumerate() {
+        assert!(rt; caller < scripts.count() as usize);
+        assert_explained(
+            rt,
+            fronts,
+            slots,
+            scripts.script(caller as u32),
+            list.entries(),
+        );
+    }
+}
+
+// The values that the tree gives the keys.
+fn values_found<R: Wait + Abort, W: WaitPart>(
+    rt: &R,
+    table: &CitrusTable<W>,
+    seat: Seat<W>,
+) -> Values
+    requires { (seat.table ≡ table.now) × IsQuietSeat seat }
+{
+    let mut client = TreeClient::new(table, seat, &OpenGate);
+    let mut values = [None; 8];
+    for key in 0..KEYS {
+        assert!(rt; client.remaining() > 0, "no tickets are left");
+        if let Reply::Val { value } = client.call(rt, Op::Get { key }).reply {
+            values[key as usize] = Some(value);
+        }
+    }
+    values
+}
+
+// That one history explains a run on so many slots, and gives the values that are there in the end.
+fn assert_run<R: Threads + Wait + Sync + Abort, W: WaitPart + Sync>(
+    rt: &R,
+    alloc: Global,
+    slots: u32,
+) -> Result<(), NoMemory>
+    requires { (W.WAY ≤ 2) × (1 ≤ slots) × (slots ≤ 2097152) }
+{
+    let scripts = made_scripts(rt, alloc)?;
+    assert!(rt; 0 < scripts.count());
+    let TreeRun {
+        told,
+        history,
+        table,
+        seat,
+    } = run_scripts::<R, W, OpenGate>(rt, alloc, &scripts, slots, &OpenGate)?;
+    let fronts = values_at(rt, alloc, &history)?;
+    assert_all_explained(rt, &fronts, slots, &scripts, &told);
+    let last = values_found(rt, &table, seat);
+    assert!(rt; fronts.last() == Some(&last), "the tree has {last:?}");
+    Ok(())
+}
+
+#[test]
+fn one_history_explains_the_first_waiters_threads(rt: HostRuntime) -> Result<(), Fail> {
+    assert_run::<HostRuntime, Eer>(&rt, rt.alloc(), 5)?;
+    Ok(())
+}
+
+#[test]
+fn one_history_explains_the_second_waiters_threads(rt: HostRuntime) -> Result<(), Fail> {
+    assert_run::<HostRuntime, Domain>(&rt, rt.alloc(), 70)?;
+    Ok(())
+}
+
+#[test]
+fn one_history_explains_the_third_waiters_threads(rt: HostRuntime) -> Result<(), Fail> {
+    assert_run::<HostRuntime, Deer>(&rt, rt.alloc(), 65)?;
+    Ok(())
+}

@@ -1,0 +1,49 @@
+//! Searches by hand, hop by hop.
+use super::*;
+use citrus_tree::{End, Hop, Search};
+use eer_wait::Eer;
+use prcu_marks::Side;
+use std::test::Fail;
+
+#[test]
+fn a_search_comes_to_a_key_below_another(rt: HostRuntime) -> Result<(), Fail> {
+    let (table, seat) = CitrusTable::<Eer>::new(rt.alloc(), 4, 1, 64)?;
+    let (_, seat) = call_once(&rt, &table, seat, Op::Put { key: 5, value: 50 });
+    let (_, mut seat) = call_once(&rt, &table, seat, Op::Put { key: 2, value: 20 });
+    let mut search = Search::start(&table, &mut seat, 2);
+    let Hop::Moved = search.hop() else {
+        panic!(rt; "5 is at the root");
+    };
+    let Hop::Found { slot } = search.hop() else {
+        panic!(rt; "2 is left of 5");
+    };
+    let End::Hit { value } = search.finish() else {
+        panic!(rt; "2 was found");
+    };
+    assert_eq!(rt; (slot, value), (3, 20));
+    Ok(())
+}
+
+#[test]
+fn a_search_comes_to_the_side_where_a_key_belongs(rt: HostRuntime) -> Result<(), Fail> {
+    let (table, seat) = CitrusTable::<Eer>::new(rt.alloc(), 4, 1, 64)?;
+    let (_, seat) = call_once(&rt, &table, seat, Op::Put { key: 5, value: 50 });
+    let (_, seat) = call_once(&rt, &table, seat, Op::Put { key: 2, value: 20 });
+    let (_, mut seat) = call_once(&rt, &table, seat, Op::Del { key: 2 });
+    let mut search = Search::start(&table, &mut seat, 2);
+    let Hop::Moved = search.hop() else {
+        panic!(rt; "5 is at the root");
+    };
+    let Hop::Ended { slot, side } = search.hop() else {
+        panic!(rt; "nothing is left of 5");
+    };
+    let End::Missing { spot } = search.finish() else {
+        panic!(rt; "2 was not found");
+    };
+    assert_eq!(rt; (slot, side), (2, Side::Left));
+    assert_eq!(rt;
+        (spot.slot, spot.side, spot.generation, spot.tag),
+        (2, Side::Left, 0, 1)
+    );
+    Ok(())
+}
