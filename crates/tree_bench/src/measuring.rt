@@ -1,10 +1,10 @@
 //! Which work is done and timed, and what is written of it.
 ghost use Rattle.std.specs.Prelude.{◌≡◌, ◌≤◌};
-ghost use Rattle.tree_bench.specs.Crews.{count_of};
 
 use crate::locked::{LockedClient, no_pairs};
 use crate::mix::Mix;
 use crate::work::{Work, time_alone, time_by_four, time_by_two, tree_client, two_clients};
+use bench_words::{Ask, Crew, tenths_of};
 use d_wait::Domain;
 use deer_wait::Deer;
 use eer_wait::Eer;
@@ -15,39 +15,8 @@ use std::rt::Runtime;
 use std::sync::Wait;
 use std::thread::Threads;
 
-/// What the words ask for.
-#[derive(Clone, Copy)]
-pub struct Ask {
-    pub rounds: u32,
-    pub timed: bool,
-}
-
-impl Ask {
-    /// So many rounds at most.
-    pub const MOST_ROUNDS: u32 = 100_000_000;
-}
-
-// The threads that do the work, each with a client.
-#[derive(Clone, Copy)]
-enum Crew {
-    One,
-    Two,
-    Four,
-}
-
-impl Crew {
-    const ALL: [Crew; 3] = [Crew::One, Crew::Two, Crew::Four];
-
-    fn count(self) -> u32
-        ensures { result ≡ count_of self }
-    {
-        match self {
-            Crew::One => 1,
-            Crew::Two => 2,
-            Crew::Four => 4,
-        }
-    }
-}
+/// So many rounds at most.
+pub const MOST_ROUNDS: u32 = 100_000_000;
 
 /// Does all work on a tree for each waiter, and on the map, and writes a line for each.
 pub fn measure_all<R: Threads + Wait + Sync + Runtime>(
@@ -105,7 +74,7 @@ fn time_tree<R: Threads + Wait + Sync + Runtime, W: WaitPart + Sync>(
     requires way { W.WAY ≤ 2 }
 {
     let places = crew.count();
-    let rounds = rounds.min(Ask::MOST_ROUNDS);
+    let rounds = rounds.min(MOST_ROUNDS);
     let tickets = 4 * u64::from(places) * (u64::from(rounds) + u64::from(mix.keys()));
     let Ok((table, seat)) = CitrusTable::<W>::new(alloc, mix.keys() + 64, places, tickets) else {
         return Err(io::Error::from(io::ErrorKind::OutOfMemory));
@@ -162,10 +131,6 @@ fn write_line<R: Runtime>(
             ask.rounds
         );
     }
-    let tenths = (nanos.saturating_mul(10)) / u128::from(ask.rounds.max(1));
-    println!(rt;
-        "{name}, {mix}, {threads} threads: {}.{} ns",
-        tenths / 10,
-        tenths % 10
-    )
+    let (whole, tenth) = tenths_of(nanos, u64::from(ask.rounds));
+    println!(rt; "{name}, {mix}, {threads} threads: {whole}.{tenth} ns")
 }

@@ -5,35 +5,19 @@
 mod measuring;
 mod work;
 
-use measuring::{Ask, measure_all};
+use bench_words::read_words;
+use measuring::measure_all;
 use std::process::ExitCode;
-use std::{env, io};
+
+// So many rounds at most.
+const MOST_ROUNDS: u32 = 1_000_000_000;
 
 fn main(rt: HostRuntime) -> ExitCode {
-    let Ok(Some(ask)) = read_words(&rt) else {
+    let Ok(Some(ask)) = read_words(&rt, MOST_ROUNDS) else {
         return ExitCode::from(2);
     };
     match measure_all(&rt, rt.alloc(), &ask) {
         Ok(()) => ExitCode::SUCCESS,
         Err(_) => ExitCode::from(70),
     }
-}
-
-// What the words ask for: a number of rounds from 1 to a thousand million, and perhaps times.
-fn read_words(rt: &(impl env::Env + AllocGlobal)) -> io::Result<Option<Ask>> {
-    let mut words = env::args(rt)?.skip(1);
-    let Some(rounds) = words.next() else {
-        return Ok(None);
-    };
-    let Ok(rounds) = rounds.as_str().parse::<u32>() else {
-        return Ok(None);
-    };
-    if rounds == 0 || rounds > Ask::MOST_ROUNDS {
-        return Ok(None);
-    }
-    let timed = match words.next() {
-        None => false,
-        Some(word) => word.as_str() == "times",
-    };
-    Ok(Some(Ask { rounds, timed }))
 }

@@ -1,8 +1,8 @@
 //! Which work is done and timed, and what is written of it.
 ghost use Rattle.std.specs.Prelude.{◌≡◌, ◌≤◌};
-ghost use Rattle.waits_bench.specs.Crews.{count_of};
 
 use crate::work::{Work, work_alone, work_by_four, work_by_two};
+use bench_words::{Ask, Crew, tenths_of};
 use d_wait::Domain;
 use deer_wait::Deer;
 use eer_wait::Eer;
@@ -14,40 +14,6 @@ use std::rt::Runtime;
 use std::sync::Wait;
 use std::thread::Threads;
 use std::time::Instant;
-
-/// What the words ask for.
-#[derive(Clone, Copy)]
-pub struct Ask {
-    pub rounds: u32,
-    pub timed: bool,
-}
-
-impl Ask {
-    /// So many rounds at most.
-    pub const MOST_ROUNDS: u32 = 1_000_000_000;
-}
-
-// The threads that do the work, each with a seat.
-#[derive(Clone, Copy)]
-enum Crew {
-    One,
-    Two,
-    Four,
-}
-
-impl Crew {
-    const ALL: [Crew; 3] = [Crew::One, Crew::Two, Crew::Four];
-
-    fn count(self) -> u32
-        ensures { result ≡ count_of self }
-    {
-        match self {
-            Crew::One => 1,
-            Crew::Two => 2,
-            Crew::Four => 4,
-        }
-    }
-}
 
 /// Does all work for each waiter, and writes a line for each.
 pub fn measure_all<R: Threads + Wait + Sync + Runtime>(
@@ -136,10 +102,6 @@ fn write_line<R: Runtime>(
             ask.rounds
         );
     }
-    let tenths = (nanos.saturating_mul(10)) / u128::from(ask.rounds.max(1));
-    println!(rt;
-        "{waiter} waiter, {name}, {threads} threads: {}.{} ns",
-        tenths / 10,
-        tenths % 10
-    )
+    let (whole, tenth) = tenths_of(nanos, u64::from(ask.rounds));
+    println!(rt; "{waiter} waiter, {name}, {threads} threads: {whole}.{tenth} ns")
 }

@@ -1,8 +1,8 @@
 -- How many threads a crew has.
 -- Source: docs/BENCHMARKS.md, "The waiters".
 use Rattle.std.specs.Prelude.{ℕ}
-use Rattle.waits_bench.specs.declared.measuring.Crew.{Crew}
-use Rattle.waits_bench.specs.declared.measuring.Crew.TheVariants.{One, Two, Four}
+use Rattle.bench_words.specs.declared.crew.Crew.{Crew}
+use Rattle.bench_words.specs.declared.crew.Crew.TheVariants.{One, Two, Four}
 
 -- one, two or four
 abbrev pub count_of : Crew → ℕ
