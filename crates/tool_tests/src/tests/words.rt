@@ -78,7 +78,8 @@ citrus check --schedule=1
 citrus hash --waiter=eer
 citrus load 1 2 3 --schedule 1
 citrus load 1 2 3 --waiter=eer --waiter=eer
-citrus watch 0 1
+citrus watch 1 0
+citrus watch 0
 citrus load
 citrus load 1 2
 citrus load 1 2 3 4
