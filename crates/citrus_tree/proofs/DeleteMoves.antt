@@ -1,5 +1,5 @@
 -- The wait of a move, and what is retired after it.
-use Rattle.std.proofs.Common.{◌≡◌, ℕ, ◌+◌, ◌<◌, ◌≤◌, Option, Some, None, inr, List, [], ◌∷◌, ◌++◌, map, length, refl, sym, ap, subst, ◌∙◌, arith}
+use Rattle.std.proofs.Common.{◌≡◌, ℕ, ◌+◌, ◌<◌, ◌≤◌, None, List, [], ◌∷◌, ◌++◌, map, length, refl, ap, subst, ◌∙◌, arith}
 use Rattle.list_laws.specs.Counts.{times, IsIn}
 use Rattle.list_laws.proofs.Lists.{times_append, times_here}
 use Rattle.prcu_model.specs.declared.operation.Op.TheVariants.{Del}
@@ -8,7 +8,7 @@ use Rattle.core_state.specs.declared.shape.Shape.{Shape}
 use Rattle.core_state.specs.declared.view.Retired.{Retired}
 use Rattle.core_state.specs.declared.view.View.{View}
 use Rattle.core_state.specs.declared.view.Waiting.{Waiting}
-use Rattle.core_state.specs.steps.Waits.{new_wait, waited_retired}
+use Rattle.core_state.specs.steps.Waits.{waited_retired}
 use Rattle.key_interval.specs.Keys.{Interval}
 use Rattle.core_points.specs.declared.stage.Moving.{Moving}
 use Rattle.core_points.specs.declared.stage.Waits.TheVariants as waits
@@ -17,7 +17,6 @@ use Rattle.seat_table.specs.Gains.{TellsNow}
 use Rattle.seat_table.specs.Waits.{HasWaited}
 use Rattle.tree_points.specs.At.{IsAt}
 use Rattle.citrus_tree.specs.Deletes.{retired_slots}
-use Rattle.citrus_tree.specs.Gone.{KeepsWait}
 use Rattle.node_slots.proofs.Listed.{not_in}
 
 pub move_keys : {k : Shape} {kept key : ℕ} {v : View} (m : Moving) → IsAt k (Del key) kept (at.Begin (waits.Move m)) v → TellsNow k v → key < m.next_key
@@ -69,16 +68,3 @@ module _ (listed : List ℕ) (v w : View) (node old : ℕ) (each : (t : ℕ) →
 pub length_more : (xs : List ℕ) (x : ℕ) → length (xs ++ x ∷ []) ≡ length xs + 1
 length_more [] x = refl
 length_more (y ∷ xs) x = let e = length_more xs x in omega arith
-
-pub waited_latest : {k : Shape} {v w : View} {low high : ℕ} → HasWaited k v low high w → (wait : Waiting) × (w.wait ≡ Some wait) × (v.counts.waits ≤ wait.count)
-waited_latest {k} {v} {w} {low} {high} (mid, began, over) =
-    let one : Some over.wait ≡ Some (new_wait v low high began.clock began.leaves.before) = sym over.was ∙ began.wait_is in
-    let count : over.new.count ≡ v.counts.waits = ap (λ (z : Waiting). z.count) over.ended.same ∙ ap (λ (z : Option Waiting). count_of z) one in
-    (over.new, over.ended.wait_is, omega (arith, count))
-  where
-    count_of : Option Waiting → ℕ
-    count_of None = 0
-    count_of (Some wait) = wait.count
-
-pub keeps_latest : (v w x : View) → ((wait : Waiting) × (w.wait ≡ Some wait) × (v.counts.waits ≤ wait.count)) → x.wait ≡ w.wait → KeepsWait v x
-keeps_latest v w x l e = inr (l.0, e ∙ l.1, l.2)

@@ -1,8 +1,7 @@
 -- A move whole: its copy, its wait and its end.
-use Rattle.std.proofs.Common.{◌≡◌, ℕ, ◌+◌, ◌<◌, ◌≤◌, true, Option, Some, None, inl, inr, ⊎_elim, List, [], ◌∷◌, ◌++◌, length, map, refl, ap, subst, ◌∙◌, arith}
+use Rattle.std.proofs.Common.{◌≡◌, ℕ, ◌+◌, ◌<◌, true, Option, Some, None, inl, inr, ⊎_elim, List, [], ◌∷◌, ◌++◌, length, map, refl, ap, subst, ◌∙◌, arith}
 use mathlib.Core.List.{IsPrefix}
 use Rattle.list_laws.specs.Counts.{times}
-use Rattle.core_state.specs.declared.view.Waiting.{Waiting}
 use Rattle.list_laws.proofs.Lists.{times_append}
 use Rattle.prcu_model.proofs.ListFacts.{prefix_trans}
 use Rattle.prcu_marks.specs.declared.mark.Mark.TheVariants.{Began, Ended, Done}
@@ -24,8 +23,7 @@ use Rattle.tree_points.proofs.Ends.{slots_length}
 use Rattle.node_slots.proofs.Listed.{listed_length}
 use Rattle.std.specs.Prelude.{IfSome, IfNone}
 use Rattle.citrus_tree.specs.Replies.{IsMoveWait}
-use Rattle.citrus_tree.specs.Deletes.{HasCopied, HasDeleted, HasDone, KeepsWaits, retired_slots}
-use Rattle.citrus_tree.specs.Gone.{KeepsWait}
+use Rattle.citrus_tree.specs.Deletes.{HasCopied, HasDeleted, HasDone, retired_slots}
 use Rattle.tree_points.proofs.Gone.{gone_on}
 
 -- a delete has a spare, and room
@@ -65,11 +63,6 @@ move_deletes v w x y key next_key number first copied later =
       };
       move = inr (x.counts.waits, next_key, refl, copied.next key refl);
     }
-
-pub wait_later : (v w x : View) → KeepsWaits v w → KeepsWait w x → KeepsWait v x
-wait_later v w x same later = ⊎_elim
-    (λ (e : x.wait ≡ w.wait). inl (e ∙ same.wait))
-    (λ (l : (wait : Waiting) × (x.wait ≡ Some wait) × (w.counts.waits ≤ wait.count)). inr (l.0, l.1, subst (λ n. n ≤ l.0.count) same.count l.2)) later
 
 -- Nothing of the place's own was left before.
 pub deleted_later : (v w x : View) (key number : ℕ) → HasGone v w [] → HasDeleted w key number x → HasDeleted v key number x

@@ -27,8 +27,7 @@ use Rattle.tree_points.proofs.Reclaiming.{reclaims_room, reclaims_spare}
 use Rattle.tree_points.proofs.Staying.{stays}
 use Rattle.tree_points.proofs.Updating.{needs_keep, passes_keep}
 use Rattle.citrus_tree.specs.Deletes.{HasMadeRoom, HasWaitedForRoom, IsReadyToDelete, KeepsWaits}
-use Rattle.citrus_tree.proofs.DeleteMoves.{keeps_latest, waited_latest}
-use Rattle.citrus_tree.proofs.DeletePieces.{wait_later}
+use Rattle.citrus_tree.proofs.KeepingWaits.{none_begun, none_yet, reclaimed_first, wait_later}
 
 zero_fits : 0 < 2 ^ 64
 zero_fits = omega arith
@@ -44,7 +43,7 @@ given_spare (Some slot) (Some held) is some none = cc
 
 -- Nothing had to be done.
 pub room_same : (v : View) → HasMadeRoom v v
-room_same v = record { marks = []; gone = gone_same; waited = inl refl; waits = omega arith; latest = inl refl }
+room_same v = record { marks = []; gone = gone_same; waited = inl refl; waits = omega arith; latest = inl (none_yet v) }
 
 -- All retired slots were given back.
 pub room_reclaimed : {k : Shape} {v w : View} {listed : List ℕ} → HasReclaimed k v listed w → (15 ≤ length v.hands.retired) ⊎ (v.hands.spare ≡ None) → HasMadeRoom v w
@@ -53,7 +52,7 @@ room_reclaimed {k} {v} {w} {listed} back why = record {
   gone = reclaim_gone back;
   waited = inr (record { count = v.counts.waits; marks_are = refl; why = why });
   waits = (let e : w.counts.waits ≡ v.counts.waits + 1 = ap (λ (z : View). z.counts.waits) back.rest in omega arith);
-  latest = keeps_latest v back.waited w (waited_latest back.waits) (ap (λ (z : View). z.wait) back.gives.rest);
+  latest = inr (reclaimed_first back);
 }
 
 -- Nothing of the place's own was left before.
@@ -68,7 +67,7 @@ room_later {v} {w} {x} g same retired spare r = record {
         why = ⊎_elim (λ (many : 15 ≤ length w.hands.retired). inl (subst (λ (rs : List Retired). 15 ≤ length rs) retired many)) (λ (none : w.hands.spare ≡ None). inr (sym spare ∙ none)) f.why;
       })) r.waited;
   waits = subst (λ n. n ≤ x.counts.waits) same.count r.waits;
-  latest = wait_later v w x same r.latest;
+  latest = wait_later (none_begun g same.count same.wait) r.latest;
 }
 
 module _ {k : Shape} {v : View} (quiet : IsQuiet v) (works : Works v) (now : TellsNow k v) where
@@ -100,7 +99,7 @@ module _ {k : Shape} {v : View} (quiet : IsQuiet v) (works : Works v) (now : Tel
           gone = gone_stays (taken_gone taken) (stays (K9 slot true) refl needs t);
           waited = inl refl;
           waits = (let a : x.counts.waits ≡ w.counts.waits = ap (λ (z : View). z.counts.waits) t.2 in let b : w.counts.waits ≡ v.counts.waits = ap (λ (z : View). z.counts.waits) taken.rest in omega arith);
-          latest = inl (ap (λ (z : View). z.wait) t.2 ∙ ap (λ (z : View). z.wait) taken.rest);
+          latest = inl (none_begun (gone_stays (taken_gone taken) (stays (K9 slot true) refl needs t)) (ap (λ (z : View). z.counts.waits) t.2 ∙ ap (λ (z : View). z.counts.waits) taken.rest) (ap (λ (z : View). z.wait) t.2 ∙ ap (λ (z : View). z.wait) taken.rest));
         }
 
         pub kept_retired : x.hands.retired ≡ v.hands.retired

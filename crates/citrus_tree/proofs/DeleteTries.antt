@@ -1,5 +1,5 @@
 -- A delete's tries, one after another, and the call whole.
-use Rattle.std.proofs.Common.{◌≡◌, ℕ, ◌+◌, ◌-◌, ◌^◌, ◌<◌, ◌≤◌, ◌==◌, cond, List, [], ◌∷◌, ◌++◌, Some, None, refl, sym, ap, subst, ◌∙◌, inl, inr, ⊎_elim, arith, eq-eqb, append_assoc}
+use Rattle.std.proofs.Common.{◌≡◌, ℕ, ◌+◌, ◌-◌, ◌^◌, ◌<◌, ◌≤◌, ◌==◌, cond, List, [], ◌∷◌, ◌++◌, None, refl, sym, ap, subst, ◌∙◌, inl, inr, ⊎_elim, arith, eq-eqb, append_assoc}
 use Rattle.std.specs.List.{AllByRecursion}
 use mathlib.Core.List.{IsPrefix}
 use Rattle.prcu_marks.specs.declared.mark.Mark.{Mark}
@@ -13,7 +13,6 @@ use Rattle.prcu_model.specs.declared.operation.Told.{Told}
 use Rattle.prcu_model.proofs.ListFacts.{all_append, prefix_trans}
 use Rattle.core_state.specs.declared.shape.Shape.{Shape}
 use Rattle.core_state.specs.declared.view.View.{View}
-use Rattle.core_state.specs.declared.view.Waiting.{Waiting}
 use Rattle.core_state.specs.views.Views.{IsQuiet}
 use Rattle.core_points.specs.declared.stage.Stage.TheVariants as at
 use Rattle.list_laws.specs.Counts.{times}
@@ -27,8 +26,8 @@ use Rattle.citrus_tree.specs.Deletes.{DelsAtOnce, HasDeleted, HasMadeRoom, HasSe
 use Rattle.citrus_tree.specs.Gone.{AreTries, IsOfTry, KeepsWait, waits_in}
 use Rattle.citrus_tree.specs.Replies.{Dels, DelsBy, IsMoveWait, WasAnswered}
 use Rattle.citrus_tree.proofs.Replacing.{waits_in-append}
-use Rattle.citrus_tree.proofs.DeletePieces.{wait_later}
 use Rattle.citrus_tree.proofs.DeleteSearch.{answered_before}
+use Rattle.citrus_tree.proofs.KeepingWaits.{none_begun, wait_later, wait_on}
 
 -- as many of each slot are retired as before
 pub listed_still : (s t : SeatAt) → t.listed ≡ s.listed → retired_slots t.view ≡ retired_slots s.view → AreListed s → AreListed t
@@ -82,7 +81,7 @@ module _ {k : Shape} {key : ℕ} {v w x : View} (t : TriesToDelete k key v w) (s
   absent_dels a = (t.marks ++ (Entered w.allowance.place s.count key ∷ (LeftMark w.allowance.place s.left ∷ [])), (refl, record { tried = tries; own = gone }, answered_before t.gone a), none)
 
   pub absent_wait : KeepsWait v x
-  absent_wait = inl searched_waits.wait
+  absent_wait = inl (none_begun gone searched_waits.count searched_waits.wait)
 
   -- the target wasn't taken out
   pub tries_again : {y : View} → KeepsRest x y → ((kept : ℕ) → IsAt k (Del key) kept at.EnterClock w → IsAt k (Del key) kept at.EnterClock y) → TriesToDelete k key v y
@@ -120,7 +119,7 @@ module _ {k : Shape} {key : ℕ} {v w x : View} (t : TriesToDelete k key v w) (s
       )
 
   pub gone_wait : (y : View) → KeepsWait x y → KeepsWait v y
-  gone_wait y later = wait_later v x y searched_waits later
+  gone_wait y later = wait_later (none_begun gone searched_waits.count searched_waits.wait) later
 
 -- The call whole: what came before its first search, and the rest.
 module _ {v u : View} (room : HasMadeRoom v u) (key : ℕ) where
@@ -176,9 +175,7 @@ module _ {v u : View} (room : HasMadeRoom v u) (key : ℕ) where
   )
 
   pub keeps_wait : (w : View) → KeepsWait u w → KeepsWait v w
-  keeps_wait w later = ⊎_elim
-      (λ (e : w.wait ≡ u.wait). ⊎_elim (λ (f : u.wait ≡ v.wait). inl (e ∙ f)) (λ (l : (wait : Waiting) × (u.wait ≡ Some wait) × (v.counts.waits ≤ wait.count)). inr (l.0, e ∙ l.1, l.2)) room.latest)
-      (λ (l : (wait : Waiting) × (w.wait ≡ Some wait) × (u.counts.waits ≤ wait.count)). inr (l.0, l.1, (let a = l.2 in let b = room.waits in omega arith))) later
+  keeps_wait w later = wait_on room.waits room.latest later
 
 -- What a call that is ready and comes to its end leaves: the seat is quiet, and it used four tickets at most.
 module _ {k : Shape} (v : View) {u w : View} {key : ℕ} (ready : IsReadyToDelete k v u) (fits : key < 2 ^ 64) (paid : 4 ≤ v.allowance.tickets) where

@@ -13,8 +13,6 @@ use Rattle.core_state.specs.declared.view.Held.{Held}
 use Rattle.core_state.specs.declared.view.Retired.{Retired}
 use Rattle.core_state.specs.declared.view.Trail.{Trail}
 use Rattle.core_state.specs.declared.view.View.{View}
-use Rattle.core_state.specs.declared.view.Waiting.{Waiting}
-use Rattle.core_state.specs.steps.Waits.{new_wait}
 use Rattle.core_points.specs.declared.stage.Aim.TheVariants.{Leaf}
 use Rattle.core_points.specs.declared.stage.Spot.{Spot}
 use Rattle.core_points.specs.declared.stage.Stage.TheVariants as at
@@ -39,6 +37,7 @@ use Rattle.citrus_tree.specs.Going.{Goes}
 use Rattle.citrus_tree.specs.Gone.{NeededRoom}
 use Rattle.citrus_tree.specs.Putting.{MakesRoom, Reused, old_stage}
 use Rattle.citrus_tree.specs.Replies.{IsFullNow}
+use Rattle.citrus_tree.proofs.KeepingWaits.{first_later, first_stays, none_begun, reclaimed_first}
 use Rattle.citrus_tree.proofs.Leavings.{goes_stays}
 
 -- A field of the slot in hand was stored.
@@ -160,20 +159,8 @@ room_goes {k} {v} {w} {x} room goes = ⊎_elim
       gone = gone_stays r.gone goes.gone;
       needed = needed_on r.needed goes.gone.begins;
       none = goes.retired ∙ r.none;
-      wait = (r.wait.0, goes.wait ∙ r.wait.1, r.wait.2);
+      wait = first_stays r.wait goes.gone.begins goes.wait;
     })) room
-
--- the wait of a reclaim
-pub reclaim_wait : {k : Shape} {v w : View} {listed : List ℕ} → HasReclaimed k v listed w → (wait : Waiting) × (w.wait ≡ Some wait) × (wait.count ≡ v.counts.waits)
-reclaim_wait {k} {v} {w} {listed} back =
-    let began = back.waits.1 in
-    let over = back.waits.2 in
-    let first : Waiting = new_wait v 0 18446744073709551615 began.clock began.leaves.before in
-    let one : Some over.wait ≡ Some first = sym over.was ∙ began.wait_is in (
-      over.new,
-      ap (λ (z : View). z.wait) back.gives.rest ∙ over.ended.wait_is,
-      ap (λ (z : Waiting). z.count) over.ended.same ∙ (let same : ◌≡◌ {A = Waiting} over.wait first = cc in ap (λ (z : Waiting). z.count) same),
-    )
 
 -- none was free, and the retired slots were given back
 module _ {k : Shape} {v x y : View} {listed : List ℕ} (none : FoundNone k v x) (some : x.hands.retired ≢ []) (back : HasReclaimed k x listed y) where
@@ -182,7 +169,6 @@ module _ {k : Shape} {v x y : View} {listed : List ℕ} (none : FoundNone k v x)
       let g = goes_none none in
       let place : x.allowance.place ≡ v.allowance.place = g.gone.same in
       let count : x.counts.waits ≡ v.counts.waits = g.waits in
-      let w = reclaim_wait back in
       record {
         gone = subst (λ (z : ℕ × ℕ). HasGone v y (Began z.0 z.1 0 18446744073709551615 ∷ (Ended z.0 z.1 ∷ []))) (λ i. (place i, count i)) (gone_on g.gone (reclaim_gone back));
         needed = record {
@@ -193,7 +179,7 @@ module _ {k : Shape} {v x y : View} {listed : List ℕ} (none : FoundNone k v x)
           fills = subst (λ (rs : List Retired). k.slots ≤ finite.len (map_of (updates_of x.seen)) + length rs + 20 * (k.places - 1)) g.retired (none_is_full none a);
         };
         none = reclaim_retired back;
-        wait = (w.0, w.1, (let e = w.2 in omega arith));
+        wait = first_later (none_begun g.gone g.waits g.wait) (reclaimed_first back);
       }
 
   pub reserves_again : {op : Op} {kept e : ℕ} {spot : Spot} → TellsNow k x → ((t : ℕ) → times t listed ≡ times t (map (λ (r : Retired). r.slot) x.hands.retired)) → IsAt k op kept (at.Reserve (Leaf spot) e) v → IsAt k op kept (at.Reserve (Leaf spot) 1) y

@@ -33,12 +33,13 @@ use Rattle.tree_points.proofs.Gone.{gone_on, gone_same}
 use Rattle.tree_points.proofs.Holding.{slot_in_hand}
 use Rattle.tree_points.proofs.Standing.{outside_enter, unlocked_enter}
 use Rattle.citrus_tree.specs.Going.{Goes, Searched, Since, Unwaited, Waited, leaf_stage}
-use Rattle.citrus_tree.specs.Gone.{AreTries, IsOfTry, KeepsWait, NeededRoom, waits_in}
+use Rattle.citrus_tree.specs.Gone.{AreTries, HasBegunNone, IsOfTry, KeepsWait, NeededRoom, waits_in}
 use Rattle.citrus_tree.specs.Hops.{Records}
 use Rattle.citrus_tree.specs.Lookups.{Looked}
 use Rattle.citrus_tree.specs.Putting.{Links, MakesRoom, Reused, old_stage}
 use Rattle.citrus_tree.specs.Replies.{IsFullNow, Puts}
 use Rattle.citrus_tree.proofs.Filling.{needed_on}
+use Rattle.citrus_tree.proofs.KeepingWaits.{first_later, first_stays, none_begun, none_on, none_yet}
 use Rattle.citrus_tree.proofs.Leavings.{goes_looked, was_answered}
 use Rattle.citrus_tree.proofs.Replacing.{waits_in-append}
 
@@ -133,7 +134,7 @@ module _ {k : Shape} {v w : View} {key : ℕ} {marks : List Mark} (s : Since k v
           one = (let both = waits_in-append marks more in let first = t.one in omega arith);
           none = g.retired ∙ t.none;
           needed = needed_on t.needed g.gone.begins;
-          wait = (t.wait.0, g.wait ∙ t.wait.1, t.wait.2);
+          wait = first_stays t.wait g.gone.begins g.wait;
         }))
         s.waits;
   }
@@ -158,7 +159,7 @@ module _ {k : Shape} {v w : View} {key : ℕ} {marks : List Mark} (s : Since k v
                 made = r.needed.made;
                 fills = subst (λ (rs : List Retired). k.slots ≤ finite.len (map_of (updates_of r.needed.until)) + length rs + 20 * (k.places - 1)) u.retired r.needed.fills;
               };
-              wait = (r.wait.0, r.wait.1, (let same = u.waits in let later = r.wait.2 in omega arith));
+              wait = first_later (none_begun s.gone u.waits u.wait) r.wait;
             }))
             (λ (t : Waited k v w marks). absurd (let some = r.needed.retired in let none = ap length t.none in omega arith))
             s.waits;
@@ -192,8 +193,8 @@ module _ {k : Shape} {v w : View} {key : ℕ} {marks : List Mark} (s : Since k v
   pub needs_room : {x : View} → IsPrefix w.seen x.seen → 1 ≤ waits_in marks → NeededRoom k v x
   needs_room {x} more some = ⊎_elim (λ (u : Unwaited v w marks). absurd (let none = u.none in omega arith)) (λ (t : Waited k v w marks). needed_on t.needed more) s.waits
 
-  pub keeps_wait : (x : View) → x.wait ≡ w.wait → KeepsWait v x
-  keeps_wait x same = ⊎_elim (λ (u : Unwaited v w marks). inl (same ∙ u.wait)) (λ (t : Waited k v w marks). inr (t.wait.0, same ∙ t.wait.1, t.wait.2)) s.waits
+  pub keeps_wait : (x : View) → HasBegunNone w x → KeepsWait v x
+  keeps_wait x none = ⊎_elim (λ (u : Unwaited v w marks). inl (none_on (none_begun s.gone u.waits u.wait) none)) (λ (t : Waited k v w marks). inr (first_stays t.wait none.seen none.wait)) s.waits
 
 no_more : (xs : List Mark) → IsPrefix xs xs
 no_more xs = ([], append-nil xs)
@@ -246,7 +247,7 @@ module _ {k : Shape} {key value : ℕ} {v : View} where
             )
 
         pub old_wait : KeepsWait v y
-        old_wait = keeps_wait (since_stays (since_looked t.since f.1) g) y refl
+        old_wait = keeps_wait (since_stays (since_looked t.since f.1) g) y (none_yet y)
 
         module _ (ends : (a b c : ℕ) → IsAt k (Put a b) c (old_stage x.hands.hand) x → IsAt k (Put a b) c at.Finished y) where
           pub old_quiet : IsQuiet y
@@ -287,7 +288,7 @@ module _ {k : Shape} {key value : ℕ} {v : View} where
         )
 
         pub full_wait : KeepsWait v y
-        full_wait = keeps_wait since y refl
+        full_wait = keeps_wait since y (none_yet y)
 
         module _ (ends : (c : ℕ) (s : Spot) → IsAt k (Put key value) c (leaf_stage x.hands.hand s) x → IsAt k (Put key value) c at.Finished y) where
           pub full_quiet : IsQuiet y
@@ -350,7 +351,7 @@ module _ {k : Shape} {key value : ℕ} {v : View} where
             new_retired = linked.1.goes.retired
 
             pub new_wait : KeepsWait v z
-            new_wait = keeps_wait since z linked.1.goes.wait
+            new_wait = keeps_wait since z (none_begun linked.1.goes.gone linked.1.goes.waits linked.1.goes.wait)
 
             module _ (ends : (a b c : ℕ) → IsAt k (Put a b) c (at.LeafLock spot) y → IsAt k (Put a b) c at.Finished z) where
               pub new_quiet : IsQuiet z

@@ -6,6 +6,7 @@ pub mod Leavings
 pub mod Storing
 pub mod Replacing
 pub mod KeepingSlots
+pub mod KeepingWaits
 pub mod Filling
 pub mod Linking
 pub mod Inserting
@@ -17,6 +18,7 @@ pub mod DeleteFinds
 pub mod DeleteUpdates
 pub mod DeleteBypass
 pub mod DeleteShifts
+pub mod DeleteCopies
 pub mod DeleteMoves
 pub mod DeletePieces
 pub mod DeleteRoom

@@ -28,6 +28,7 @@ use Rattle.citrus_tree.specs.Going.{Goes, Sought, Stores}
 use Rattle.citrus_tree.specs.Gone.{AreTries, IsOfTry, KeepsWait, waits_in}
 use Rattle.citrus_tree.specs.Lookups.{Looked}
 use Rattle.citrus_tree.specs.Replies.{Sets, WasAnswered}
+use Rattle.citrus_tree.proofs.KeepingWaits.{none_begun}
 use Rattle.citrus_tree.proofs.Leavings.{goes_looked, goes_on, goes_same, goes_stays, was_answered}
 use Rattle.citrus_tree.proofs.Storing.{at_end, at_lock}
 
@@ -119,7 +120,7 @@ module _ {k : Shape} {key value : ℕ} {v : View} where
       absent_retired = goes.retired
 
       pub absent_wait : KeepsWait v x
-      absent_wait = inl goes.wait
+      absent_wait = inl (none_begun goes.gone goes.waits goes.wait)
 
     -- the key is there
     module _ {x : View} {holder : Holder} (f : Sought k w key (Some holder) x) where
@@ -184,4 +185,4 @@ module _ {k : Shape} {key value : ℕ} {v : View} where
         stored_retired = goes_all.retired
 
         pub stored_wait : KeepsWait v y
-        stored_wait = inl goes_all.wait
+        stored_wait = inl (none_begun goes_all.gone goes_all.waits goes_all.wait)

@@ -1,6 +1,6 @@
 -- What the parts of the calls leave.
 -- Source: docs/TREE.md, "The calls".
-use Rattle.std.specs.Prelude.{◌≡◌, ◌⊎◌, ℕ, ◌+◌, ◌≤◌, false, List, [], ◌∷◌, ◌++◌, length, Option, Some, None}
+use Rattle.std.specs.Prelude.{◌≡◌, ◌⊎◌, ℕ, ◌+◌, false, List, [], ◌∷◌, ◌++◌, length, Option, Some, None}
 use Rattle.std.specs.List.{AllByRecursion}
 use Rattle.std.specs.FinMap as finite
 use mathlib.Core.List.{IsPrefix}
@@ -16,7 +16,6 @@ use Rattle.core_state.specs.declared.shape.Shape.{Shape}
 use Rattle.core_state.specs.declared.view.Held.{Held}
 use Rattle.core_state.specs.declared.view.SearchState.TheVariants.{Found}
 use Rattle.core_state.specs.declared.view.View.{View}
-use Rattle.core_state.specs.declared.view.Waiting.{Waiting}
 use Rattle.core_state.specs.views.Known.{LoadedGeneration}
 use Rattle.core_points.specs.declared.stage.Spot.{Spot}
 use Rattle.core_points.specs.declared.stage.Stage.{Stage}
@@ -26,7 +25,7 @@ use Rattle.seat_table.specs.Gains.{IsSlot}
 use Rattle.tree_points.specs.Progress.{HasGone}
 use Rattle.citrus_tree.specs.declared.replace.Holder.{Holder}
 use Rattle.citrus_tree.specs.declared.replace.Replaced.{Replaced}
-use Rattle.citrus_tree.specs.Gone.{IsOfTry, NeededRoom, waits_in}
+use Rattle.citrus_tree.specs.Gone.{HasBegunFirst, IsOfTry, NeededRoom, waits_in}
 use Rattle.citrus_tree.specs.Hops.{Records}
 use Rattle.citrus_tree.specs.Lookups.{Looked}
 
@@ -75,7 +74,7 @@ pub record Waited (k : Shape) (v w : View) (marks : List Mark) : Type 0 where
   pub one : waits_in marks ≡ 1
   pub none : w.hands.retired ≡ []
   pub needed : NeededRoom k v w
-  pub wait : (wait : Waiting) × (w.wait ≡ Some wait) × (v.counts.waits ≤ wait.count)
+  pub wait : HasBegunFirst v w
 
 pub record Since (k : Shape) (v : View) (key : ℕ) (marks : List Mark) (w : View) : Type 0 where
   pub gone : HasGone v w marks

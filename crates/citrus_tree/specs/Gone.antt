@@ -14,6 +14,7 @@ use Rattle.core_state.specs.declared.view.Retired.{Retired}
 use Rattle.core_state.specs.declared.view.View.{View}
 use Rattle.core_state.specs.declared.view.Waiting.{Waiting}
 use Rattle.seat_table.specs.Seats.{SeatAt}
+use Rattle.seat_table.specs.Sections.{HasBegun}
 
 -- a mark of a section with the key at the place, or of a wait there for everybody
 abbrev pub IsOfTry : ℕ → ℕ → Mark → Type 0
@@ -35,9 +36,30 @@ pub record AreTries (place key : ℕ) (marks : List Mark) : Type 0 where
   pub entered : 1 ≤ entered_for place key marks
   pub once : waits_in marks ≤ 1
 
--- The latest wait is the one that was the latest at the call, or one that was begun in it. So no gate was turned of an earlier wait.
+-- So far the place has begun no wait, and its latest one is as it was: no gate of it was turned.
+pub record HasBegunNone (v w : View) : Type 0 where
+  pub place : w.allowance.place ≡ v.allowance.place
+  pub seen : IsPrefix v.seen w.seen
+  pub count : w.counts.waits ≡ v.counts.waits
+  pub wait : w.wait ≡ v.wait
+
+-- A wait was begun, before which none had been. The latest wait is that one, or one that was begun later.
+pub record HasBegunFirst (v w : View) : Type 0 where
+  pub before : View
+  pub low : ℕ
+  pub high : ℕ
+  pub after : View
+  pub none : HasBegunNone v before
+  pub begun : HasBegun before low high after
+  pub seen : IsPrefix after.seen w.seen
+  pub wait : Waiting
+  pub latest : w.wait ≡ Some wait
+  pub later : v.counts.waits ≤ wait.count
+
+-- The call began no wait, and the latest one is as it was; or it was so until the call began one. So no gate was turned of a wait that was
+-- begun before the call.
 abbrev pub KeepsWait : View → View → Type 0
-KeepsWait v w = (w.wait ≡ v.wait) ⊎ ((wait : Waiting) × (w.wait ≡ Some wait) × (v.counts.waits ≤ wait.count))
+KeepsWait v w = HasBegunNone v w ⊎ HasBegunFirst v w
 
 -- A put begins a wait only where slots were retired at the call, and where with these, and twenty for each other place, the dictionary
 -- filled the slots at some front in the call: after these marks.

@@ -1,5 +1,6 @@
 -- What a search is told, hop by hop.
 -- Source: docs/TREE.md, "The calls".
+use base.Fml.{GName}
 use Rattle.std.specs.Prelude.{◌≡◌, ◌≢◌, ℕ, Some, None}
 use Rattle.prcu_marks.specs.declared.mark.Side.{Side}
 use Rattle.core_state.specs.declared.shape.Shape.{Shape}
@@ -13,14 +14,30 @@ use Rattle.core_state.specs.memory.Words.{side_number, step_side}
 use Rattle.core_points.specs.declared.stage.Spot.{Spot}
 use Rattle.seat_table.specs.declared.case.Case.TheVariants.{K17}
 use Rattle.seat_table.specs.Gains.{IsSlot}
+use Rattle.seat_table.specs.Seats.{SeatAt, TableAt, shape_of}
 use Rattle.seat_table.specs.Told.{Told}
 use Rattle.citrus_tree.specs.declared.descent.Step.{Step}
 use Rattle.citrus_tree.specs.declared.descent.Step.TheVariants as step
 use Rattle.citrus_tree.specs.declared.search.Hop.{Hop}
 use Rattle.citrus_tree.specs.declared.search.Hop.TheVariants.{Moved, Found, Ended}
+use Rattle.citrus_tree.specs.declared.search.Search.{Search}
 use Rattle.citrus_tree.specs.declared.search.End.{End}
 use Rattle.citrus_tree.specs.declared.search.End.TheVariants.{Hit, Missing}
 use Rattle.citrus_tree.specs.Lookups.{IsSearching, Looked}
+
+-- What a clause sees of a search: the table, the seat that takes its steps and the reference by which it was lent, the sought key, the slot and
+-- the side at which it stands, and what its last hop came to.
+pub record SearchAt : Type 0 where
+  pub table : TableAt
+  pub seat : SeatAt
+  pub lender : GName
+  pub key : ℕ
+  pub slot : ℕ
+  pub side : Side
+  pub last : Hop
+
+abbrev pub search_at : {W : Type 0} → Search W → SearchAt
+search_at s = record { table = s.table.now; seat = s.seat.now; lender = s.seat.ghost_name; key = s.key; slot = s.slot; side = s.side; last = s.last }
 
 -- where a search stands that went on from a slot and a side
 abbrev pub state_after : ℕ → Side → Step → SearchState
@@ -40,11 +57,19 @@ Stands k v key Moved s b w = IsSlot k s × IsSearching v key (at.At s b) w
 Stands k v key (Found c) s b w = (c ≡ s) × IsSlot k c × ((p : ℕ) × (d : Side) × IsSearching v key (at.Found c p d None) w)
 Stands k v key (Ended c d) s b w = (c ≡ s) × (d ≡ b) × IsSlot k c × IsSearching v key (at.Missed c d) w
 
+-- the same of a search, by the number of its table's waiter
+abbrev pub IsSearch : ℕ → View → SearchAt → Type 0
+IsSearch way v search = Stands (shape_of way search.table) v search.key search.last search.slot search.side search.seat.view
+
 -- What a hop loads, by where it stood before and stands afterwards.
 abbrev pub Hops : Shape → View → ℕ → ℕ → Side → Hop → ℕ → Side → View → Type 0
 Hops k v key s b Moved c d w = Loads k v key s b (step.Moved c d) w
 Hops k v key s b (Found slot) c d w = (slot ≡ c) × Loads k v key s b (step.Found c) w
 Hops k v key s b (Ended slot side) c d w = (slot ≡ s) × (side ≡ b) × Loads k v key s b step.Ended w
+
+-- the same of a search before the hop and after it
+abbrev pub HasHopped : ℕ → SearchAt → Hop → SearchAt → Type 0
+HasHopped way before hop after = Hops (shape_of way before.table) before.seat.view before.key before.slot before.side hop after.slot after.side after.seat.view
 
 -- The section recorded the empty side.
 pub record Records (r : Reading) (spot : Spot) : Type 0 where

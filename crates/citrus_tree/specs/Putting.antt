@@ -1,13 +1,12 @@
 -- Where the parts of a put stand, and what they leave.
 -- Source: docs/TREE.md, "The calls".
-use Rattle.std.specs.Prelude.{◌≡◌, ◌⊎◌, ℕ, ◌≤◌, Bool, true, false, List, [], ◌∷◌, Option, Some, None}
+use Rattle.std.specs.Prelude.{◌≡◌, ◌⊎◌, ℕ, Bool, true, false, List, [], ◌∷◌, Option, Some, None}
 use Rattle.prcu_marks.specs.declared.mark.Mark.{Mark}
 use Rattle.prcu_marks.specs.declared.mark.Mark.TheVariants.{Began, Ended}
 use Rattle.prcu_model.specs.declared.operation.Op.TheVariants.{Put}
 use Rattle.core_state.specs.declared.shape.Shape.{Shape}
 use Rattle.core_state.specs.declared.view.Held.{Held}
 use Rattle.core_state.specs.declared.view.View.{View}
-use Rattle.core_state.specs.declared.view.Waiting.{Waiting}
 use Rattle.core_points.specs.declared.stage.Spot.{Spot}
 use Rattle.core_points.specs.declared.stage.Stage.{Stage}
 use Rattle.core_points.specs.declared.stage.Stage.TheVariants as at
@@ -15,7 +14,7 @@ use Rattle.core_points.specs.declared.stage.Last.TheVariants as last
 use Rattle.core_points.specs.declared.stage.Update.TheVariants as update
 use Rattle.tree_points.specs.Progress.{HasGone}
 use Rattle.citrus_tree.specs.Going.{Goes, MakesUpdate}
-use Rattle.citrus_tree.specs.Gone.{NeededRoom}
+use Rattle.citrus_tree.specs.Gone.{HasBegunFirst, NeededRoom}
 
 -- where a put stands that found its key: it has a slot in hand to put back, or is done
 abbrev pub old_stage : Option Held → Stage
@@ -47,7 +46,7 @@ pub record Reused (k : Shape) (v w : View) : Type 0 where
   pub gone : HasGone v w (Began v.allowance.place v.counts.waits 0 18446744073709551615 ∷ (Ended v.allowance.place v.counts.waits ∷ []))
   pub needed : NeededRoom k v w
   pub none : w.hands.retired ≡ []
-  pub wait : (wait : Waiting) × (w.wait ≡ Some wait) × (v.counts.waits ≤ wait.count)
+  pub wait : HasBegunFirst v w
 
 -- No wait was begun, and the retired slots are the same; or they were given back.
 abbrev pub MakesRoom : Shape → View → View → Type 0

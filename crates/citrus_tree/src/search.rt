@@ -5,7 +5,7 @@ ghost use Rattle.core_state.specs.declared.view.View.{View};
 ghost use Rattle.seat_table.specs.Gains.{IsSlot};
 ghost use Rattle.seat_table.specs.Seats.{shape_of};
 ghost use Rattle.citrus_tree.specs.declared.search.Hop.TheVariants.{Moved};
-ghost use Rattle.citrus_tree.specs.Hops.{Stands, Hops, Records, Finishes};
+ghost use Rattle.citrus_tree.specs.Hops.{search_at, IsSearch, HasHopped, Records, Finishes};
 ghost use Rattle.citrus_tree.specs.Lookups.{IsSearching, Looked};
 
 use crate::descent::{Step, go_down};
@@ -50,10 +50,10 @@ impl<'a, W: WaitPart> Search<'a, W> {
         requires table { seat.old.table ≡ table.now }
         requires outside { seat.old.view.section ≡ None }
         requires unlocked { seat.old.view.locks ≡ [] }
-        ensures same_reference { result.seat.ghost_name ≡ seat.entry.ghost_name }
-        ensures seat { (result.seat.now.table ≡ seat.old.table) × (result.seat.now.listed ≡ seat.old.listed) }
-        ensures asked { (result.table.now ≡ table.now) × (result.key ≡ key) × (result.last ≡ Moved) }
-        ensures stands { Stands (shape_of W.WAY result.table.now) seat.old.view result.key result.last result.slot result.side result.seat.now.view }
+        ensures same_reference { (search_at result).lender ≡ seat.entry.ghost_name }
+        ensures seat { ((search_at result).seat.table ≡ seat.old.table) × ((search_at result).seat.listed ≡ seat.old.listed) }
+        ensures asked { ((search_at result).table ≡ table.now) × ((search_at result).key ≡ key) × ((search_at result).last ≡ Moved) }
+        ensures stands { IsSearch W.WAY seat.old.view (search_at result) }
     {
         W::enter(table, seat, key);
         Search {
@@ -68,14 +68,14 @@ impl<'a, W: WaitPart> Search<'a, W> {
 
     /// Loads the next link and, where it leads to a slot, that slot's key. The last hop, if there was one, has to have moved.
     pub fn hop(&mut self) -> Hop
-        requires table { self.old.seat.now.table ≡ self.old.table.now }
-        requires moved { self.old.last ≡ Moved }
-        requires stands { (v : View) × Stands (shape_of W.WAY self.old.table.now) v self.old.key self.old.last self.old.slot self.old.side self.old.seat.now.view }
-        ensures same_reference { self.new.seat.ghost_name ≡ self.old.seat.ghost_name }
-        ensures seat { (self.new.seat.now.table ≡ self.old.seat.now.table) × (self.new.seat.now.listed ≡ self.old.seat.now.listed) }
-        ensures asked { (self.new.table.now ≡ self.old.table.now) × (self.new.key ≡ self.old.key) × (self.new.last ≡ result) }
-        ensures hops { Hops (shape_of W.WAY self.old.table.now) self.old.seat.now.view self.old.key self.old.slot self.old.side result self.new.slot self.new.side self.new.seat.now.view }
-        ensures stands { (v : View) → Stands (shape_of W.WAY self.old.table.now) v self.old.key self.old.last self.old.slot self.old.side self.old.seat.now.view → Stands (shape_of W.WAY self.new.table.now) v self.new.key self.new.last self.new.slot self.new.side self.new.seat.now.view }
+        requires table { (search_at self.old).seat.table ≡ (search_at self.old).table }
+        requires moved { (search_at self.old).last ≡ Moved }
+        requires stands { (v : View) × IsSearch W.WAY v (search_at self.old) }
+        ensures same_reference { (search_at self.new).lender ≡ (search_at self.old).lender }
+        ensures seat { ((search_at self.new).seat.table ≡ (search_at self.old).seat.table) × ((search_at self.new).seat.listed ≡ (search_at self.old).seat.listed) }
+        ensures asked { ((search_at self.new).table ≡ (search_at self.old).table) × ((search_at self.new).key ≡ (search_at self.old).key) × ((search_at self.new).last ≡ result) }
+        ensures hops { HasHopped W.WAY (search_at self.old) result (search_at self.new) }
+        ensures stands { (v : View) → IsSearch W.WAY v (search_at self.old) → IsSearch W.WAY v (search_at self.new) }
     {
         match go_down(self.table, self.seat, self.key, self.slot, self.side) {
             Step::Moved { slot, side } => {
@@ -102,12 +102,13 @@ impl<'a, W: WaitPart> Search<'a, W> {
     }
 
     /// Loads the value that was found, or what marks the empty side, and leaves the section. The last hop has to have found or ended.
+    // `self.exit.1.0` is the reference to the seat.
     pub fn finish(self) -> End
-        requires table { self.seat.now.table ≡ self.table.now }
-        requires over { self.last ≢ Moved }
-        requires stands { (v : View) × Stands (shape_of W.WAY self.table.now) v self.key self.last self.slot self.side self.seat.now.view }
-        ensures seat { (self.exit.1.0.now.table ≡ self.entry.seat.now.table) × (self.exit.1.0.now.listed ≡ self.entry.seat.now.listed) }
-        ensures finished { (v : View) → Stands (shape_of W.WAY self.entry.table.now) v self.entry.key self.entry.last self.entry.slot self.entry.side self.entry.seat.now.view → Finishes v self.entry.key result self.exit.1.0.now.view }
+        requires table { (search_at self).seat.table ≡ (search_at self).table }
+        requires over { (search_at self).last ≢ Moved }
+        requires stands { (v : View) × IsSearch W.WAY v (search_at self) }
+        ensures seat { (self.exit.1.0.now.table ≡ (search_at self.entry).seat.table) × (self.exit.1.0.now.listed ≡ (search_at self.entry).seat.listed) }
+        ensures finished { (v : View) → IsSearch W.WAY v (search_at self.entry) → Finishes v (search_at self.entry).key result self.exit.1.0.now.view }
     {
         let Search {
             table,

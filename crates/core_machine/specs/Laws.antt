@@ -63,6 +63,6 @@ abbrev pub EndsAreExplained : Type 0
 EndsAreExplained = (scripts : List (List Op)) (slots : ℕ) (callers : List ℕ) → IsMachine scripts slots → let c : Core = core scripts slots callers in unfinished c ≡ []
     → AreExplainable scripts (tolds_of c) (history_of c) slots × FitsScripts scripts c.marks
 
--- Callers that were drawn have stepped until every script had ended.
+-- Callers that were drawn have stepped until every script had ended: a draw stops nowhere else. That there is one isn't said.
 abbrev pub DrawsEnd : Type 0
 DrawsEnd = (c : Core) (state : ℕ) (callers : List ℕ) → AreDrawn c state callers → unfinished (steps c callers) ≡ []

@@ -148,7 +148,8 @@ impl Machine {
         })
     }
 
-    /// One step of the caller. It takes no memory, and its time doesn't grow with the number of callers or slots.
+    // Its time doesn't grow with the number of callers or slots.
+    /// One step of the caller. It takes no memory.
     pub fn step(&mut self, caller: u32) -> Stepped
         requires { caller < length self.old.owns }
         ensures stored { (scripts : List (List Op)) (slots : ℕ) (callers : List ℕ) → IsMachine scripts slots → HasStored scripts slots (core scripts slots callers) self.old → HasStored scripts slots (core scripts slots (callers ++ caller ∷ [])) self.new }

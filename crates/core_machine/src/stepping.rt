@@ -36,8 +36,9 @@ impl Caller {
     }
 }
 
+// Its time doesn't grow with the number of callers or slots.
 /// One step of the caller on the words: the act of its point, and the point after it. It answers where the step was blocked. It takes
-/// no memory, and its time doesn't grow with the number of callers or slots.
+/// no memory.
 pub fn step_caller(words: &mut [u64], own: &mut Caller) -> Option<Why>
     requires can { CanStep words.old (own_of own.old) }
     requires room { HasRoom own.old }

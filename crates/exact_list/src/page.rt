@@ -53,7 +53,7 @@ impl Page {
         self.pairs.len() as u32
     }
 
-    /// The pair at this index, its key and its value. Keys ascend.
+    /// The pair at this index, its key and its value. Those that `list` left have ascending keys.
     pub fn pair(&self, i: u32) -> (u64, u64)
         requires { i < length self.now.pairs }
         ensures { IsAt self.now.pairs i result }
@@ -61,7 +61,7 @@ impl Page {
         self.pairs[i as usize]
     }
 
-    /// The pairs that it holds. Keys ascend.
+    /// The pairs that it holds. Those that `list` left have ascending keys.
     pub fn pairs(&self) -> &[(u64, u64)]
         ensures { result.now ≡ self.now.pairs }
     {

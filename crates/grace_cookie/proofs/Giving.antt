@@ -38,6 +38,9 @@ module _ (c : CookieAt) (s : SeatAt) (kept : AreKept c s) where
   pub first_is : first_slots c.slots s.listed ≡ kept.slots
   first_is = ap (λ n. first_slots n s.listed) (sym kept.many) ∙ ap (first_slots (length kept.slots)) kept.listed ∙ first_apart kept.slots kept.later kept.apart
 
+  pub some_first : 1 ≤ c.slots → 1 ≤ length (first_slots c.slots s.listed)
+  some_first some = let long = ap length first_is in let many = kept.many in omega arith
+
   pub all_ready : (k : Shape) → TellsNow k s.view → c.over ≡ true → AreUnraised s.view (take c.slots s.listed) → AreReady k s.view (first_slots c.slots s.listed)
   all_ready k told over unraised = subst (AreReady k s.view) (sym first_is) (record { each = all_from_times (IsReady k s.view) kept.slots one })
     where

@@ -4,6 +4,7 @@ pub mod PuttingBack
 pub mod Returning
 pub mod Marking
 pub mod Listing
+pub mod Informing
 pub mod Reclaims
 pub mod Points
 pub mod Listed

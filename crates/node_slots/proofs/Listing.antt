@@ -158,7 +158,7 @@ first_is : (cur : List ℕ) (slot : ℕ) → first_of cur ≡ Some slot → (mor
 first_is [] slot e = let bad : None ≡ Some slot = e in absurd (cc)
 first_is (x ∷ xs) slot e = let same : Some x ≡ Some slot = e in (xs, cc)
 
-none_is : (cur : List ℕ) → first_of cur ≡ None → cur ≡ []
+pub none_is : (cur : List ℕ) → first_of cur ≡ None → cur ≡ []
 none_is [] e = refl
 none_is (x ∷ xs) e = let bad : Some x ≡ None = e in absurd (cc)
 

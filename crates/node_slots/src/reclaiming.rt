@@ -73,7 +73,8 @@ fn first_listed<W: WaitWords>(seat: &Seat<W>) -> Option<u32>
 }
 
 /// Gives the first `count` of the listed slots back, each with the next generation, after a wait for everybody that was begun since they were
-/// unlinked and that is over. Where the place has no spare the first of them becomes its spare, and only the others are free.
+/// unlinked and that is over. Where the place has no spare the first of them becomes its spare, and only the others are free. Where a slot goes
+/// back, the seat is informed of it afterwards: no slot is used again that an open reader may meet.
 pub fn give_back<W: WaitWords>(table: &CitrusTable<W>, seat: &mut Seat<W>, count: usize)
     requires table { seat.old.table ≡ table.now }
     requires ready { AreReady (shape_of W.WAY table.now) seat.old.view (first_slots count seat.old.listed) }
@@ -84,6 +85,7 @@ pub fn give_back<W: WaitWords>(table: &CitrusTable<W>, seat: &mut Seat<W>, count
     ensures listed { seat.new.listed ≡ without_slots (first_slots count seat.old.listed) seat.old.listed }
     ensures view { GivesBack seat.old.view (first_slots count seat.old.listed) seat.new.view }
     ensures informed { IsInformed seat.old.view → IsInformed seat.new.view }
+    ensures reuse { 1 ≤ length (first_slots count seat.old.listed) → IsInformed seat.new.view }
 {
     for i in 0..count {
         let Some(slot) = first_listed(seat) else {

@@ -76,7 +76,7 @@ pub fn put_back<W: WaitWords>(table: &CitrusTable<W>, seat: &mut Seat<W>)
     k16(table, seat);
 }
 
-/// Lists a slot that this place unlinked, as the last one, to be given back by the next `reclaim`.
+/// Lists a slot that this place unlinked, as the last one. A later `reclaim` or `give_back` gives it back.
 pub fn retire<W: WaitWords>(seat: &mut Seat<W>, slot: u32)
     requires unlinked { (i : ℕ) × (r : Retired) × IsRetiredAt seat.old.view i r slot }
     requires unlocked { HasLock seat.old.view slot → ⊥ }

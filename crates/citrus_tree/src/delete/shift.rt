@@ -17,6 +17,7 @@ ghost use Rattle.tree_points.specs.Progress.{HasGone};
 ghost use Rattle.citrus_tree.specs.Deletes.{StandsAt, Comes, KeepsAll, KeepsRest, KeepsWaits, HasDeleted, HasCopied, AreLivesSmall, locked_slots, retired_slots};
 ghost use Rattle.citrus_tree.specs.Gone.{KeepsSlots, KeepsWait};
 
+use crate::answer::rule_tells;
 use crate::commit::{close_front, open_front};
 use crate::delete::bypass::{settle_side, slot_of};
 use crate::delete::locks::unlock_target;
@@ -93,19 +94,19 @@ fn fill_copy<W: WaitPart>(
     ensures spare { IsSlotOf (Some copy) seat.new.view.hands.spare }
     ensures same { KeepsAll seat.old.view seat.new.view }
 {
-    seat.rule_tells();
+    rule_tells(table, seat);
     let next_key = steps::k18(table, seat, successor.slot, 3);
-    seat.rule_tells();
+    rule_tells(table, seat);
     let value = steps::k18(table, seat, successor.slot, 4);
-    seat.rule_tells();
+    rule_tells(table, seat);
     steps::k12(table, seat, copy, 3, next_key);
-    seat.rule_tells();
+    rule_tells(table, seat);
     steps::k12(table, seat, copy, 4, value);
-    seat.rule_tells();
+    rule_tells(table, seat);
     steps::k12(table, seat, copy, 5, node.left);
-    seat.rule_tells();
+    rule_tells(table, seat);
     steps::k12(table, seat, copy, 6, node.right);
-    seat.rule_tells();
+    rule_tells(table, seat);
     steps::k9(table, seat, copy, false);
     next_key
 }

@@ -1,4 +1,4 @@
-use Rattle.citrus_tree.proofs.DeleteTries.{dels, ends_quiet, ends_tickets}
+use Rattle.citrus_tree.proofs.DeleteTries.{dels, ends_quiet, ends_tickets, keeps_wait}
 use Rattle.citrus_tree.proofs.KeepingSlots.{slots_on}
 use Rattle.citrus_tree.proofs.delete.del.Goals as goal
 
@@ -13,3 +13,6 @@ returns-clause-quiet g c = record { view = ends_quiet c.args.seat.now.view c.mak
 
 pub returns-clause-slots : goal.returns-clause-slots
 returns-clause-slots g c = slots_on c.args.seat.now c.make_room.new.seat c.delete-told.new.seat c.make_room.ensures.slots c.delete-told.ensures.slots
+
+pub returns-clause-wait : goal.returns-clause-wait
+returns-clause-wait g c = keeps_wait c.make_room.ensures.room c.args.key c.delete-told.new.seat.view c.delete-told.ensures.wait

@@ -1,5 +1,5 @@
 use Rattle.std.proofs.Common.{refl, ◌∙◌}
-use Rattle.citrus_tree.proofs.DeleteTries.{absent_dels, gone_dels, tries_again, tries_first}
+use Rattle.citrus_tree.proofs.DeleteTries.{absent_dels, gone_dels, gone_wait, tries_again, tries_first}
 use Rattle.citrus_tree.proofs.KeepingSlots.{searched_slots, slots_on, slots_self}
 use Rattle.citrus_tree.proofs.delete.delete.Goals as goal
 
@@ -17,6 +17,9 @@ take_out-requires-clause-at g c = let a = c.requires.at in (a.0, c.in-Some-find_
 
 pub returns-in-Some-take_out-clause-dels : goal.returns-in-Some-take_out-clause-dels
 returns-in-Some-take_out-clause-dels g c = gone_dels c.loop.invariant.2 c.find_target.ensures.searched c.in-Some-take_out.ensures.deleted c.in-Some-take_out.ensures.informed
+
+pub returns-in-Some-take_out-clause-wait : goal.returns-in-Some-take_out-clause-wait
+returns-in-Some-take_out-clause-wait g c = gone_wait c.loop.invariant.2 c.find_target.ensures.searched c.take_out.new.seat.view c.in-Some-take_out.ensures.waits
 
 pub loop-preserved : goal.loop-preserved
 loop-preserved g c = (

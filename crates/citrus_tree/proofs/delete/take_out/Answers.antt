@@ -1,4 +1,4 @@
-use Rattle.std.proofs.Common.{subst}
+use Rattle.std.proofs.Common.{inl, subst, ◌∙◌}
 use Rattle.prcu_model.specs.declared.operation.Op.TheVariants.{Del}
 use Rattle.core_points.specs.Programs.{deleting}
 use Rattle.seat_table.specs.Seats.{shape_of}
@@ -7,6 +7,7 @@ use Rattle.tree_points.proofs.Gone.{gone_on}
 use Rattle.citrus_tree.proofs.DeleteKeeps.{rest_of}
 use Rattle.citrus_tree.proofs.DeletePieces.{deleted_later, bypass_deletes, if_some, if_none}
 use Rattle.citrus_tree.proofs.KeepingSlots.{rest_slots, slots_on, slots_rest}
+use Rattle.citrus_tree.proofs.KeepingWaits.{none_begun, wait_later}
 use Rattle.citrus_tree.proofs.delete.take_out.Goals as goal
 
 pub lock_target-requires-clause-at : goal.lock_target-requires-clause-at
@@ -58,3 +59,18 @@ returns-in-Some-successor-clause-slots g c =
     let locked = slots_rest c.args.seat.now c.lock_target.new.seat c.lock_target.ensures.same c.lock_target.ensures.seat.1 in
     let judged = rest_slots c.args.seat.now c.lock_target.new.seat c.validate.new.seat locked (rest_of _ _ c.validate.ensures.same) c.validate.ensures.seat.1 in
     slots_on c.args.seat.now c.validate.new.seat c.shift.new.seat judged c.shift.ensures.slots
+
+pub returns-in-None-clause-waits : goal.returns-in-None-clause-waits
+returns-in-None-clause-waits g c =
+    let a = c.requires.at in
+    let locked = c.lock_target.ensures.same in
+    let judged = c.validate.ensures.same in
+    let past = c.bypass.ensures.waits in
+    let done = (c.bypass.ensures.done (Del c.args.key) a.0 (subst (λ o. IsAt (shape_of g.W.WaitWords.WAY c.args.table.now) (Del c.args.key) a.0 (deleting c.in-Some.node o) c.validate.new.seat.view) c.in-None.is (c.in-Some.ensures.holds (Del c.args.key) a.0 (c.lock_target.ensures.got c.if-not-lock_target.false (Del c.args.key) a.0 a.1)))).1 in
+    inl (none_begun (gone_on (gone_on locked.gone judged.gone) done.gone) (past.count ∙ judged.waits.count ∙ locked.waits.count) (past.wait ∙ judged.waits.wait ∙ locked.waits.wait))
+
+pub returns-in-Some-successor-clause-waits : goal.returns-in-Some-successor-clause-waits
+returns-in-Some-successor-clause-waits g c =
+    let locked = c.lock_target.ensures.same in
+    let judged = c.validate.ensures.same in
+    if_some c.shift.result (λ n later. wait_later (none_begun (gone_on locked.gone judged.gone) (judged.waits.count ∙ locked.waits.count) (judged.waits.wait ∙ locked.waits.wait)) later) c.shift.ensures.waits

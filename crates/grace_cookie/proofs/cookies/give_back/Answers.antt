@@ -1,11 +1,11 @@
-use Rattle.std.proofs.Common.{◌≡◌, ◌≤◌, sym, ap, subst, inr, arith}
+use Rattle.std.proofs.Common.{◌≡◌, ◌≤◌, length, sym, ap, subst, inr, arith}
 use Rattle.core_state.specs.declared.shape.Shape.{Shape}
 use Rattle.seat_table.specs.Seats.{shape_of}
 use Rattle.node_slots.specs.Reclaiming.{AreReady, GivesBack, first_slots, without_slots}
 use Rattle.node_slots.proofs.PuttingBack.{told_of_table}
 use Rattle.grace_cookie.specs.Cookies.{CookieAt}
 use Rattle.grace_cookie.proofs.Counting.{is_latest}
-use Rattle.grace_cookie.proofs.Giving.{all_ready, gives_some}
+use Rattle.grace_cookie.proofs.Giving.{all_ready, gives_some, some_first}
 use Rattle.grace_cookie.proofs.Quiet.{back_quiet}
 use Rattle.grace_cookie.proofs.cookies.give_back.Goals as goal
 
@@ -27,3 +27,10 @@ returns-clause-back g c =
 
 pub returns-clause-quiet : goal.returns-clause-quiet
 returns-clause-quiet g c = back_quiet c.args.cookie c.args.seat.now _ c.give_back.new.seat (returns-clause-back g c)
+
+pub returns-clause-reuse : goal.returns-clause-reuse
+returns-clause-reuse g c = λ _.
+    (let latest = is_latest _ _ _ _ c.requires.of.begun c.waits.ensures (ap (λ (z : CookieAt). z.count) c.cookie.view_is) c.if-waits-cookie.false in
+    let slots = ap (λ (z : CookieAt). z.slots) c.cookie.view_is in
+    let some : 1 ≤ c.args.cookie.slots = subst (λ n. 1 ≤ n) slots (omega (arith, c.if-cookie-eq0.false)) in
+    c.give_back.ensures.reuse (subst (λ n. 1 ≤ length (first_slots n c.args.seat.now.listed)) (sym slots) (some_first c.args.cookie c.args.seat.now (c.requires.kept.kept latest) some)))

@@ -1,4 +1,4 @@
-use Rattle.std.proofs.Common.{◌≡◌, ◌-◌, ◌+◌, arith, sym, subst, ◌∙◌}
+use Rattle.std.proofs.Common.{◌≡◌, ◌-◌, ◌+◌, arith, inr, sym, subst, ◌∙◌}
 use Rattle.core_state.specs.declared.shape.Shape.{Shape}
 use Rattle.seat_table.specs.Seats.{shape_of}
 use Rattle.node_slots.proofs.Listing.{GoesOn, next_ready, goes_more}
@@ -16,5 +16,5 @@ loop-i-preserved g c =
       c.return_slot.ensures.table ∙ c.loop-i.invariant.0,
       omega (arith, c.loop-i-test.true),
       subst (λ n. GoesOn k c.args.seat.now.view c.args.seat.now.listed c.args.count n c.return_slot.new.seat.view c.return_slot.new.seat.listed) next on,
-      λ was. c.return_slot.ensures.informed,
+      inr c.return_slot.ensures.informed,
     )

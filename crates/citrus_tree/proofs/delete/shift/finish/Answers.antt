@@ -1,6 +1,7 @@
 use Rattle.prcu_marks.specs.declared.mark.Mark.TheVariants.{Began, Ended}
 use Rattle.prcu_model.specs.declared.operation.Op.TheVariants.{Del}
-use Rattle.std.proofs.Common.{◌≤◌, ◌+◌, [], ◌∷◌, ◌++◌, length, sym, ap, subst, ◌∙◌, arith}
+use mathlib.Core.List.{IsPrefix}
+use Rattle.std.proofs.Common.{◌≤◌, ◌+◌, [], ◌∷◌, ◌++◌, inr, length, sym, ap, subst, ◌∙◌, arith}
 use Rattle.list_laws.specs.Counts.{times, IsIn}
 use Rattle.core_state.specs.declared.view.View.{View}
 use Rattle.seat_table.specs.Seats.{shape_of}
@@ -11,8 +12,9 @@ use Rattle.tree_points.proofs.Waiting.{waits_move}
 use Rattle.citrus_tree.specs.Deletes.{retired_slots}
 use Rattle.citrus_tree.proofs.DeleteKeeps.{tells_as, no_lock}
 use Rattle.citrus_tree.proofs.DeleteLists.{in_slots}
-use Rattle.citrus_tree.proofs.DeleteMoves.{move_keys, move_outside, move_paid, waited_for, waited_keeps, node_retired, old_retired, node_unlisted, old_unlisted, two_listed, length_more, waited_latest, keeps_latest}
+use Rattle.citrus_tree.proofs.DeleteMoves.{move_keys, move_outside, move_paid, waited_for, waited_keeps, node_retired, old_retired, node_unlisted, old_unlisted, two_listed, length_more}
 use Rattle.citrus_tree.proofs.KeepingSlots.{waited_later}
+use Rattle.citrus_tree.proofs.KeepingWaits.{first_stays, waited_first}
 use Rattle.citrus_tree.proofs.delete.shift.finish.Goals as goal
 
 pub between-requires : goal.between-requires
@@ -78,7 +80,11 @@ returns-clause-listed g c = record {
 
 pub returns-clause-waits : goal.returns-clause-waits
 returns-clause-waits g c =
-    keeps_latest c.args.seat.now.view c.wait_in_grace.new.seat.view c.list_retired-2.new.self.view (waited_latest (waited_for (c.args.key + 1) c.args.moving.next_key c.between.ensures c.wait_in_grace.ensures.waited)) (ap (λ (x : View). x.wait) ((c.list_retired-2.ensures.seat).1 ∙ (c.list_retired.ensures.seat).1) ∙ c.unlock_all.ensures.same.waits.wait ∙ c.unlink_old.ensures.waits.wait)
+    let same = (c.list_retired-2.ensures.seat).1 ∙ (c.list_retired.ensures.seat).1 in
+    let later = gone_on c.unlink_old.ensures.gone c.unlock_all.ensures.same.gone in
+    inr (first_stays (waited_first (waited_for (c.args.key + 1) c.args.moving.next_key c.between.ensures c.wait_in_grace.ensures.waited))
+    (subst (λ (x : View). IsPrefix c.wait_in_grace.new.seat.view.seen x.seen) (sym same) later.begins)
+    (ap (λ (x : View). x.wait) same ∙ c.unlock_all.ensures.same.waits.wait ∙ c.unlink_old.ensures.waits.wait))
 
 pub unlock_all-requires-clause-at : goal.unlock_all-requires-clause-at
 unlock_all-requires-clause-at g c =

@@ -10,6 +10,7 @@ use Rattle.tree_points.proofs.Gone.{gone_on}
 use Rattle.citrus_tree.proofs.DeleteKeeps.{tells_as, keeps_rest, locks_busy, rest_k13, rest_of, spare_k13}
 use Rattle.citrus_tree.proofs.DeletePieces.{few_moved, one_listed, move_deletes}
 use Rattle.citrus_tree.proofs.KeepingSlots.{slots_later, slots_rest}
+use Rattle.citrus_tree.proofs.KeepingWaits.{none_begun, wait_later}
 use Rattle.citrus_tree.proofs.delete.shift.shift.Goals as goal
 
 pub k13-requires-clause-needs : goal.k13-requires-clause-needs
@@ -73,3 +74,13 @@ returns-clause-slots g c =
     let d = (rest_k13 (shape_of g.W.WaitWords.WAY c.args.table.now) _ _ _ _ c.k13.ensures.told).waits.count in
     let e = c.fill_copy-next_key.ensures.same.waits.count in
     slots_later c.args.seat.now c.finish.new.seat (omega (arith, a, b, d, e))
+
+pub returns-clause-waits : goal.returns-clause-waits
+returns-clause-waits g c =
+    let k = (shape_of g.W.WaitWords.WAY c.args.table.now) in
+    let a = c.requires.at in
+    let filled = c.fill_copy-next_key.ensures.same in
+    let locked = rest_k13 k _ _ _ _ c.k13.ensures.told in
+    let linked = c.link_copy-number.ensures in
+    let copied = linked.done (Del c.args.key) a.0 c.fill_copy-next_key.result (passes_copy_lock_free c.if-k13-ne0.false c.fill_copy-next_key.ensures.spare (c.fill_copy-next_key.ensures.at (Del c.args.key) a.0 a.1) c.k13.ensures.told) in
+    wait_later (none_begun (gone_on (gone_on filled.gone locked.gone) copied.done.gone) (linked.waits.count ∙ locked.waits.count ∙ filled.waits.count) (linked.waits.wait ∙ locked.waits.wait ∙ filled.waits.wait)) c.finish.ensures.waits
