@@ -1,5 +1,5 @@
 -- The numbered lines of scripts are explained, as what the scripts were told is.
-use Rattle.std.proofs.Common.{◌≡◌, ℕ, ◌-◌, Bool, true, false, cond, IsTrue, MatchBool, List, [], ◌∷◌, length, get_or, map, zero, suc, refl, sym, subst, ◌∙◌}
+use Rattle.std.proofs.Common.{◌≡◌, ℕ, ◌-◌, Bool, true, false, cond, IsTrue, MatchBool, List, [], ◌∷◌, length, get_or, map, zero, suc, refl, sym, subst, ◌∙◌, arith}
 use Rattle.std.specs.List.{AllByRecursion}
 use Rattle.std.specs.FinMap as finite
 use Rattle.prcu_model.specs.declared.operation.Op.{Op}
@@ -9,8 +9,8 @@ use Rattle.prcu_model.specs.declared.operation.Update.{Update}
 use Rattle.prcu_model.specs.Dictionary.{map_at, map_of}
 use Rattle.prcu_model.specs.History.{IsLegal}
 use Rattle.prcu_model.specs.Replies.{Room, Confirms, tells_update}
-use Rattle.prcu_model.specs.Fronts.{all_told_lines, told_updates, Placed, IsConfirmed, MayStand, MayStandBeside, CanBeNumbered, AreExplained, AreExplainable, IsLeastFor, AreNumbered, AllAreNumbered}
-use Rattle.account_text.specs.Account.{IsAccount}
+use Rattle.prcu_model.specs.Fronts.{told_lines, all_told_lines, told_updates, Placed, IsConfirmed, MayStand, MayStandBeside, CanBeNumbered, AreExplained, AreExplainable, IsLeastFor, AreNumbered, AllAreNumbered}
+use Rattle.account_text.specs.Account.{IsAccount, HaveReplies}
 use Rattle.prcu_model.specs.Fronts.{ops_of}
 use Rattle.account_text.specs.Printing.{account_of}
 use Rattle.prcu_model.proofs.ToldLists.{ops_of-all_told_lines}
@@ -139,9 +139,32 @@ module _ (room : Room) (history : List Update) where
         fronts = kept.fronts;
       }
 
--- the numbered lines of what scripts were told make an account of the scripts, whose history is this one
-pub IsAccount-with_history : (scripts : List (List Op)) (tolds : List (List Told)) (history : List Update) (slots : ℕ) (lists : List (List Line)) → AreExplainable scripts tolds history slots → AllAreNumbered (record { scripts = length scripts; slots = slots }) history (all_told_lines scripts tolds) lists → IsLegal history → (account : IsAccount scripts slots (account_of lists history (finite.entries (map_of history)))) × (account.history ≡ history)
-IsAccount-with_history scripts tolds history slots lists able numbered legal =
+  -- numbered lines have the replies that were told
+  replies_told : (before : ℕ) (ops : List Op) (tolds : List Told) (lines : List Line) → length tolds ≡ length ops → AreNumbered room history before (told_lines ops tolds) lines → map (λ line. line.reply) lines ≡ map (λ answer. answer.reply) tolds
+  replies_told before [] [] [] same h = refl
+  replies_told before [] [] (line ∷ lines) same h = absurd h
+  replies_told before [] (told ∷ tolds) lines same h = absurd (omega (arith, same))
+  replies_told before (op ∷ ops) [] lines same h = absurd (omega (arith, same))
+  replies_told before (op ∷ ops) (told ∷ tolds) [] same h = absurd h
+  replies_told before (op ∷ ops) (told ∷ tolds) (line ∷ lines) same h =
+      let others = replies_told line.number ops tolds lines (omega (arith, same)) h.3 in
+      λ i. h.1 i ∷ others i
+
+  HaveReplies-numbered : (scripts : List (List Op)) (tolds : List (List Told)) (lists : List (List Line)) → map length tolds ≡ map length scripts → AllAreNumbered room history (all_told_lines scripts tolds) lists → HaveReplies tolds lists
+  HaveReplies-numbered [] [] [] same h = refl
+  HaveReplies-numbered [] [] (lines ∷ lists) same h = absurd h
+  HaveReplies-numbered [] (told ∷ tolds) lists same h = absurd (cc)
+  HaveReplies-numbered (script ∷ scripts) [] lists same h = absurd (cc)
+  HaveReplies-numbered (script ∷ scripts) (told ∷ tolds) [] same h = absurd h
+  HaveReplies-numbered (script ∷ scripts) (told ∷ tolds) (lines ∷ lists) same h =
+      let head : length told ≡ length script = cc in
+      let tail : map length tolds ≡ map length scripts = cc in
+      let others = HaveReplies-numbered scripts tolds lists tail h.1 in
+      λ i. replies_told 0 script told lines head h.0 i ∷ others i
+
+-- the numbered lines of what scripts were told make an account of the scripts, whose history is this one and whose replies are those
+pub IsAccount-as_told : (scripts : List (List Op)) (tolds : List (List Told)) (history : List Update) (slots : ℕ) (lists : List (List Line)) → AreExplainable scripts tolds history slots → AllAreNumbered (record { scripts = length scripts; slots = slots }) history (all_told_lines scripts tolds) lists → IsLegal history → (account : IsAccount scripts slots (account_of lists history (finite.entries (map_of history)))) × (account.history ≡ history) × HaveReplies tolds account.lines
+IsAccount-as_told scripts tolds history slots lists able numbered legal =
     let room : Room = record { scripts = length scripts; slots = slots } in
     let told = all_told_lines scripts tolds in
     let kept = keeps_scripts room history told lists numbered in (
@@ -155,7 +178,14 @@ IsAccount-with_history scripts tolds history slots lists able numbered legal =
         printed = refl;
       },
       refl,
+      HaveReplies-numbered room history scripts tolds lists able.lengths numbered,
     )
+
+-- the same without the replies
+pub IsAccount-with_history : (scripts : List (List Op)) (tolds : List (List Told)) (history : List Update) (slots : ℕ) (lists : List (List Line)) → AreExplainable scripts tolds history slots → AllAreNumbered (record { scripts = length scripts; slots = slots }) history (all_told_lines scripts tolds) lists → IsLegal history → (account : IsAccount scripts slots (account_of lists history (finite.entries (map_of history)))) × (account.history ≡ history)
+IsAccount-with_history scripts tolds history slots lists able numbered legal =
+    let told = IsAccount-as_told scripts tolds history slots lists able numbered legal in
+    (told.0, told.1)
 
 pub IsAccount-numbered : (scripts : List (List Op)) (tolds : List (List Told)) (history : List Update) (slots : ℕ) (lists : List (List Line)) → AreExplainable scripts tolds history slots → AllAreNumbered (record { scripts = length scripts; slots = slots }) history (all_told_lines scripts tolds) lists → IsLegal history → IsAccount scripts slots (account_of lists history (finite.entries (map_of history)))
 IsAccount-numbered scripts tolds history slots lists able numbered legal = (IsAccount-with_history scripts tolds history slots lists able numbered legal).0

@@ -5,6 +5,7 @@ pub mod LineNumbers
 pub mod ScriptNumbers
 pub mod Accounts
 pub mod Checked
+pub mod OneAccounts
 pub mod FitAccounts
 pub mod LegalUpdates
 pub mod Explained

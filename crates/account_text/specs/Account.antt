@@ -4,6 +4,7 @@ use Rattle.std.specs.Prelude.{◌≡◌, ℕ, List, map, length}
 use Rattle.std.specs.FinMap as finite
 use Rattle.prcu_model.specs.declared.operation.Op.{Op}
 use Rattle.prcu_model.specs.declared.operation.Line.{Line}
+use Rattle.prcu_model.specs.declared.operation.Told.{Told}
 use Rattle.prcu_model.specs.declared.operation.Update.{Update}
 use Rattle.prcu_model.specs.Dictionary.{map_of}
 use Rattle.prcu_model.specs.History.{IsLegal}
@@ -21,3 +22,12 @@ pub record IsAccount (scripts : List (List Op)) (slots : ℕ) (text : List ℕ) 
   pub explained : AreExplained (record { scripts = length scripts; slots = slots }) history lines
   pub numbered : AllAreNumbered (record { scripts = length scripts; slots = slots }) history lines lines
   pub printed : text ≡ account_of lines history (finite.entries (map_of history))
+
+-- Each script's lines have the replies that the script was told, in their order.
+abbrev pub HaveReplies : List (List Told) → List (List Line) → Type 0
+HaveReplies told lists = map (λ lines. map (λ line. line.reply) lines) lists ≡ map (λ answers. map (λ answer. answer.reply) answers) told
+
+-- Of the same scripts and slots, two accounts with the same history and the same replies are one text.
+abbrev pub AccountsAreOne : Type 0
+AccountsAreOne = (scripts : List (List Op)) (slots : ℕ) (told : List (List Told)) (text other_text : List ℕ) (account : IsAccount scripts slots text) (other : IsAccount scripts slots other_text) → account.history ≡ other.history → HaveReplies told account.lines
+    → HaveReplies told other.lines → text ≡ other_text

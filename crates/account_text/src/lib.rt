@@ -5,6 +5,7 @@
 mod checking;
 mod judging;
 mod key_index;
+pub mod laws;
 mod numbering;
 mod printing;
 mod reading;

@@ -5,7 +5,7 @@ ghost use Rattle.prcu_model.specs.Dictionary.{map_of};
 ghost use Rattle.prcu_model.specs.History.{IsLegal};
 ghost use Rattle.prcu_model.specs.Lists.{entries_of};
 ghost use Rattle.prcu_model.specs.Fronts.{AreExplainable, CanBeNumbered, AreNumbered, AllAreNumbered, told_lines, all_told_lines};
-ghost use Rattle.account_text.specs.Account.{IsAccount};
+ghost use Rattle.account_text.specs.Account.{IsAccount, HaveReplies};
 ghost use Rattle.account_text.specs.Printing.{account_of};
 
 use crate::printing::print_account;
@@ -84,8 +84,8 @@ pub fn fronts(
     number_scripts(alloc, scripts, told, &timeline)
 }
 
-/// The account of what the scripts were told, with this history. The scripts share so many slots. It is what `fronts` and
-/// `write_account` make of them, with one replay of the history for both.
+/// The account of what the scripts were told, with this history: its lines have the replies that were told. The scripts share so
+/// many slots. It is what `fronts` and `write_account` make of them, with one replay of the history for both.
 pub fn make_account(
     alloc: Global,
     scripts: &Scripts,
@@ -95,7 +95,8 @@ pub fn make_account(
 ) -> Result<Vec<u8>, NoMemory>
     requires explained { AreExplainable scripts.now (entries_of told.now) history.now slots }
     requires legal { IsLegal history.now }
-    ensures { IfOk result (λ text. (account : IsAccount scripts.now slots text.items) × (account.history ≡ history.now)) }
+    ensures { IfOk result (λ text. (account : IsAccount scripts.now slots text.items) × (account.history ≡ history.now)
+        × HaveReplies (entries_of told.now) account.lines) }
 {
     let timeline = Timeline::new(alloc, history, scripts.count(), slots)?;
     let lines = number_scripts(alloc, scripts, told, &timeline)?;

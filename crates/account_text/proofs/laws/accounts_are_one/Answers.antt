@@ -1,0 +1,5 @@
+use Rattle.account_text.proofs.OneAccounts.{accounts_are_one}
+use Rattle.account_text.proofs.laws.accounts_are_one.Goals as goal
+
+pub returns : goal.returns
+returns c = accounts_are_one
