@@ -1,5 +1,5 @@
 -- A call answers as the marks say that it leaves.
-use Rattle.std.proofs.Common.{◌≡◌, ℕ, ◌*◌, ◌/◌, ◌≤◌, ◌⊎◌, List, [], ◌∷◌, ◌++◌, Option, Some, sym, ap, subst, ◌∙◌, ⊎_elim, arith}
+use Rattle.std.proofs.Common.{◌≡◌, ℕ, ◌⊎◌, List, [], ◌∷◌, ◌++◌, Option, Some, sym, ap, subst, ◌∙◌, ⊎_elim}
 use Rattle.prcu_model.specs.declared.operation.Op.{Op}
 use Rattle.prcu_model.specs.declared.operation.Told.{Told}
 use Rattle.prcu_model.specs.declared.operation.Update.{Update}
@@ -11,7 +11,7 @@ use Rattle.prcu_marks.specs.Bounds.{greatest_key}
 use Rattle.prcu_marks.specs.Callers.{HasAnswered}
 use Rattle.prcu_marks.specs.Marks.{updates_of, own_of}
 use Rattle.core_state.specs.declared.view.View.{View}
-use Rattle.citrus_tree.specs.Clients.{ClientAt, caller_of, room_of}
+use Rattle.citrus_tree.specs.Clients.{caller_of, room_of}
 use Rattle.citrus_tree.proofs.Clients.{made_answers, met_its_own}
 use Rattle.grace_cookie.specs.Cookies.{CookieAt}
 use Rattle.cookie_client.proofs.Longer.{IsPlain, ended_plain, began_plain, no_plain, both_plain, answered_longer}

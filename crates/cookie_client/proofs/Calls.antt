@@ -1,5 +1,5 @@
 -- A call of the tree beside a cookie, and calls one after another.
-use Rattle.std.proofs.Common.{◌≡◌, Option, Some, None, refl, ap, arith}
+use Rattle.std.proofs.Common.{Option, Some, None, refl, ap, arith}
 use Rattle.prcu_model.specs.declared.operation.Op.{Op}
 use Rattle.prcu_model.specs.declared.operation.Told.{Told}
 use Rattle.prcu_model.specs.Replies.{Explains}

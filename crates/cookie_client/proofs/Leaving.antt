@@ -1,5 +1,5 @@
 -- What asking about a cookie and starting one leaves.
-use Rattle.std.proofs.Common.{◌≡◌, ℕ, ◌+◌, ◌<◌, ◌≤◌, ◌⊎◌, is_some, true, false, List, [], ◌∷◌, ◌++◌, length, take, Option, Some, None, inl, inr, refl, sym, ap, subst, ◌∙◌, ⊎_elim, arith, append-nil}
+use Rattle.std.proofs.Common.{◌≡◌, ℕ, ◌+◌, ◌<◌, ◌≤◌, ◌⊎◌, is_some, false, List, [], ◌∷◌, length, take, Option, Some, None, inl, inr, refl, sym, ap, subst, ◌∙◌, ⊎_elim, arith, append-nil}
 use Rattle.prcu_marks.specs.declared.mark.Mark.{Mark}
 use Rattle.prcu_marks.specs.declared.mark.Mark.TheVariants.{Began, Ended}
 use Rattle.prcu_marks.specs.Bounds.{greatest_key}
@@ -19,7 +19,7 @@ use Rattle.grace_cookie.specs.declared.answers.Ask.{Ask}
 use Rattle.grace_cookie.specs.declared.answers.Ask.TheVariants.{Over, NotYet, GivenUp}
 use Rattle.grace_cookie.specs.Cookies.{CookieAt, IsLatest, IsOf}
 use Rattle.grace_cookie.specs.Asking.{Asked, IsFoundOver, GivesNone, GivesSome, HasGivenBack}
-use Rattle.cookie_client.specs.Settling.{IsGood, GoesOnBy, WasAsked, Asks, WasStarted, Starts, Settles, LeavesWaits, IsFewOrHeld, AreSound}
+use Rattle.cookie_client.specs.Settling.{IsGood, GoesOnBy, Asks, WasStarted, Starts, Settles, LeavesWaits, IsFewOrHeld, AreSound}
 
 -- what the seat knows after slots went back: as many waits, and no mark of its place more
 pub back_gone : (c : CookieAt) (s : SeatAt) (number : ℕ) (t : SeatAt) → HasGivenBack c s number t → HasGone s.view t.view [] × (t.view.allowance ≡ s.view.allowance) × (t.view.counts.waits ≡ s.view.counts.waits)

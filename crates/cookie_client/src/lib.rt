@@ -1,4 +1,4 @@
-//! A client of the tree that holds a cookie: it gives its retired slots back without ever standing still for readers.
+//! A client of the tree that holds a cookie: it gives its retired slots back by it, where it is over before the place begins another wait.
 #![tactic(auto)]
 
 mod client;

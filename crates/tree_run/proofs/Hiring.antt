@@ -1,9 +1,13 @@
 -- A seat that has done nothing, cut into one for each script.
-use Rattle.std.proofs.Common.{◌≡◌, ℕ, ◌+◌, ◌-◌, [], ap, ◌∙◌, arith}
+use Rattle.std.proofs.Common.{◌≡◌, ℕ, ◌+◌, ◌-◌, Bool, true, false, List, [], length, drop, Some, refl, ap, ◌∙◌, arith}
+use Rattle.std.specs.List.{slice_get}
+use Rattle.prcu_model.specs.declared.operation.Op.{Op}
+use Rattle.prcu_model.specs.Scripts.{op_count}
+use Rattle.client_run.proofs.Crews.{tickets_turn}
 use Rattle.core_state.specs.declared.view.View.{View}
 use Rattle.core_state.specs.steps.Seating.{new_view, first_of, second_of}
 use Rattle.seat_table.specs.Seats.{TableAt, SeatAt}
-use Rattle.tree_run.specs.Runs.{seat_for}
+use Rattle.tree_run.specs.Runs.{seat_for, tickets_for}
 
 seat_is : (table : TableAt) (view : View) (s : SeatAt) → s.table ≡ table → s.view ≡ view → s.listed ≡ [] → s ≡ record { table = table; view = view; listed = [] }
 seat_is table view s of_table sees lists = λ j. record { table = of_table j; view = sees j; listed = lists j }
@@ -22,3 +26,18 @@ idle_second table place places tickets away given was s is of_table sees lists a
     let next : place + places - away ≡ place + 1 = omega arith in
     seat_is table (new_view (place + 1) away given []) s (of_table ∙ ap (λ (x : SeatAt). x.table) is)
     (sees ∙ ap (λ (x : SeatAt). second_of away given x.view) is ∙ ap (λ n. new_view n away given []) next) lists
+
+-- ---- tickets
+
+tickets_add : (cookies : Bool) (a b : ℕ) → tickets_for cookies (a + b) ≡ tickets_for cookies a + tickets_for cookies b
+tickets_add true a b = omega arith
+tickets_add false a b = omega arith
+
+pub tickets_none : (cookies : Bool) → tickets_for cookies 0 ≡ 0
+tickets_none true = refl
+tickets_none false = refl
+
+-- those for the scripts from number i on are those for this script and for the ones after it
+pub tickets_left : (cookies : Bool) (scripts : List (List Op)) (i : ℕ) (script : List Op) → slice_get scripts i ≡ Some script
+    → tickets_for cookies (op_count (drop i scripts)) ≡ tickets_for cookies (length script) + tickets_for cookies (op_count (drop (i + 1) scripts))
+tickets_left cookies scripts i script there = ap (tickets_for cookies) (tickets_turn scripts i script there) ∙ tickets_add cookies (length script) (op_count (drop (i + 1) scripts))

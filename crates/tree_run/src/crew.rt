@@ -1,44 +1,43 @@
 //! Workers for scripts, each with a seat of its own on one tree.
-ghost use Rattle.std.specs.Prelude.{◌≡◌, ℕ, ◌≤◌, ◌*◌, length, IfOk};
+ghost use Rattle.std.specs.Prelude.{◌≡◌, ℕ, ◌≤◌, length, IfOk};
 ghost use Rattle.prcu_model.specs.Scripts.{op_count};
 ghost use Rattle.client_run.specs.Crews.{IsHired, IsCrew};
 ghost use Rattle.seat_table.specs.Seats.{IsQuietSeat};
-ghost use Rattle.tree_run.specs.Runs.{seat_for, client_for};
+ghost use Rattle.tree_run.specs.Runs.{seat_for, client_for, tickets_for};
 
-use citrus_tree::TreeClient;
+use crate::client::{ScriptClient, tickets_for};
 use client_run::Worker;
 use prcu_marks::Gate;
 use prcu_model::{NoMemory, Op, Scripts};
 use seat_table::{CitrusTable, Seat, WaitPart};
 use std::alloc::Global;
 
-/// How many tickets a call may use.
-pub const TICKETS: u64 = 4;
-
-/// A worker for each script, whose client has the place of the script's number and four tickets for each operation.
+/// A worker for each script, whose client has the place of the script's number and the tickets for its operations.
 pub(crate) fn hire<'a, W: WaitPart, G: Gate>(
     alloc: Global,
     table: &'a CitrusTable<W>,
     seat: Seat<W>,
     gate: &'a G,
     scripts: &Scripts,
-) -> Result<Vec<Worker<TreeClient<'a, W, G>>>, NoMemory>
+    cookies: bool,
+) -> Result<Vec<Worker<ScriptClient<'a, W, G>>>, NoMemory>
     requires some { 1 ≤ length scripts.now }
-    requires seat { seat ≡ seat_for table.now 0 (length scripts.now) (4 * op_count scripts.now) }
+    requires seat { seat ≡ seat_for table.now 0 (length scripts.now) (tickets_for cookies (op_count scripts.now)) }
     requires quiet { IsQuietSeat seat }
-    ensures { IfOk result (λ workers. IsCrew (client_for W.WAY table.now) scripts.now workers.items) }
+    ensures { IfOk result (λ workers. IsCrew (client_for W.WAY cookies table.now) scripts.now workers.items) }
 {
     let mut workers = Vec::with_capacity(alloc, scripts.count() as usize)?;
     let mut rest = seat;
     let last = scripts.count() - 1;
     for i in 0..last {
         let script = scripts.script(i);
-        let tickets = rest.tickets() - TICKETS * script.len() as u64;
-        let (mine, others) = rest.split(table, last - i, tickets);
+        let used = tickets_for(cookies, script.len() as u64);
+        let left = rest.tickets() - used;
+        let (mine, others) = rest.split(table, last - i, left);
         rest = others;
-        workers.push(hire_one(alloc, table, mine, gate, script)?)?;
+        workers.push(hire_one(alloc, table, mine, gate, script, cookies)?)?;
     }
-    workers.push(hire_one(alloc, table, rest, gate, scripts.script(last))?)?;
+    workers.push(hire_one(alloc, table, rest, gate, scripts.script(last), cookies)?)?;
     Ok(workers)
 }
 
@@ -49,15 +48,16 @@ fn hire_one<'a, W: WaitPart, G: Gate>(
     seat: Seat<W>,
     gate: &'a G,
     script: &[Op],
-) -> Result<Worker<TreeClient<'a, W, G>>, NoMemory>
+    cookies: bool,
+) -> Result<Worker<ScriptClient<'a, W, G>>, NoMemory>
     requires table { seat.table ≡ table.now }
     requires quiet { IsQuietSeat seat }
     requires script { length script.now ≤ 1048576 }
-    ensures { (place : ℕ) → seat ≡ seat_for table.now place 1 (4 * length script.now) → IfOk result (λ worker. IsHired (client_for W.WAY table.now place (length script.now)) script.now worker) }
+    ensures { (place : ℕ) → seat ≡ seat_for table.now place 1 (tickets_for cookies (length script.now)) → IfOk result (λ worker. IsHired (client_for W.WAY cookies table.now place (length script.now)) script.now worker) }
 {
     Worker::new(
         alloc,
-        TreeClient::new(table, seat, gate),
+        ScriptClient::new(table, seat, gate, cookies),
         script.len() as u32,
     )
 }

@@ -173,11 +173,12 @@ fn values_found<R: Wait + Abort, W: WaitPart>(
     values
 }
 
-// That one history explains a run on so many slots, and gives the values that are there in the end.
-fn assert_run<R: Threads + Wait + Sync + Abort, W: WaitPart + Sync>(
+// That one history explains a run on so many slots, with cookies or without, and gives the values that are there in the end.
+fn assert_run<R: Threads + Wait + Sync + Abort, W: WaitPart + Send + Sync>(
     rt: &R,
     alloc: Global,
     slots: u32,
+    cookies: bool,
 ) -> Result<(), NoMemory>
     requires { (W.WAY ≤ 2) × (1 ≤ slots) × (slots ≤ 2097152) }
 {
@@ -188,7 +189,7 @@ fn assert_run<R: Threads + Wait + Sync + Abort, W: WaitPart + Sync>(
         history,
         table,
         seat,
-    } = run_scripts::<R, W, OpenGate>(rt, alloc, &scripts, slots, &OpenGate)?;
+    } = run_scripts::<R, W, OpenGate>(rt, alloc, &scripts, slots, cookies, &OpenGate)?;
     let fronts = values_at(rt, alloc, &history)?;
     assert_all_explained(rt, &fronts, slots, &scripts, &told);
     let last = values_found(rt, &table, seat);
@@ -198,18 +199,24 @@ fn assert_run<R: Threads + Wait + Sync + Abort, W: WaitPart + Sync>(
 
 #[test]
 fn one_history_explains_the_first_waiters_threads(rt: HostRuntime) -> Result<(), Fail> {
-    assert_run::<HostRuntime, Eer>(&rt, rt.alloc(), 5)?;
+    for cookies in [false, true] {
+        assert_run::<HostRuntime, Eer>(&rt, rt.alloc(), 5, cookies)?;
+    }
     Ok(())
 }
 
 #[test]
 fn one_history_explains_the_second_waiters_threads(rt: HostRuntime) -> Result<(), Fail> {
-    assert_run::<HostRuntime, Domain>(&rt, rt.alloc(), 70)?;
+    for cookies in [false, true] {
+        assert_run::<HostRuntime, Domain>(&rt, rt.alloc(), 70, cookies)?;
+    }
     Ok(())
 }
 
 #[test]
 fn one_history_explains_the_third_waiters_threads(rt: HostRuntime) -> Result<(), Fail> {
-    assert_run::<HostRuntime, Deer>(&rt, rt.alloc(), 65)?;
+    for cookies in [false, true] {
+        assert_run::<HostRuntime, Deer>(&rt, rt.alloc(), 65, cookies)?;
+    }
     Ok(())
 }

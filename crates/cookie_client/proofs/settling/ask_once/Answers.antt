@@ -1,4 +1,4 @@
-use Rattle.std.proofs.Common.{◌≡◌, false, subst}
+use Rattle.std.proofs.Common.{subst}
 use Rattle.seat_table.specs.Seats.{shape_of}
 use Rattle.grace_cookie.proofs.Quiet.{quiet_unraised}
 use Rattle.cookie_client.specs.Settling.{IsGood}

@@ -1,4 +1,4 @@
-use Rattle.std.proofs.Common.{◌≡◌, sym, subst, ◌∙◌}
+use Rattle.std.proofs.Common.{refl, sym, subst, ◌∙◌}
 use Rattle.prcu_model.specs.Lists.{entries_of}
 use Rattle.prcu_model.specs.History.{IsLegal}
 use Rattle.prcu_model.specs.Slots.{StaysWithin}
@@ -11,48 +11,50 @@ use Rattle.tree_run.proofs.running.run_scripts.Goals as goal
 pub merge-requires-clause-lengths : goal.merge-requires-clause-lengths
 merge-requires-clause-lengths g c =
     let made = c.in_ok-table.ensures.table in
-    let all : AreExplainable c.args.scripts.now (entries_of c.in_ok-ran.ran.told.items) (updates_of c.in_ok-ran.ran.seat.view.seen) c.args.slots = alone_explained g.W.WaitWords.WAY c.in_ok-table.table c.args.scripts.now c.in_ok-ran.ran.told.items c.in_ok-ran.ran.seat c.in_ok-ran.ensures.run c.in_ok-ran.ensures.stays (made.1 ∙ c.count.ensures.count) c.args.slots made.0 in
-    (subst (λ ts. AreExplainable c.args.scripts.now (entries_of ts) (updates_of c.in_ok-ran.ran.seat.view.seen) c.args.slots) (sym c.deref.ensures.value) all).lengths
+    let ran = c.in_ok-ran.ensures in
+    let all = alone_explained ran.run ran.stays (made.1 ∙ c.count.ensures.count) made.0 c.deref.ensures.value in
+    all.lengths
 
 pub merge-requires-clause-numbers : goal.merge-requires-clause-numbers
 merge-requires-clause-numbers g c =
     let made = c.in_ok-table.ensures.table in
-    let all : AreExplainable c.args.scripts.now (entries_of c.in_ok-ran.ran.told.items) (updates_of c.in_ok-ran.ran.seat.view.seen) c.args.slots = alone_explained g.W.WaitWords.WAY c.in_ok-table.table c.args.scripts.now c.in_ok-ran.ran.told.items c.in_ok-ran.ran.seat c.in_ok-ran.ensures.run c.in_ok-ran.ensures.stays (made.1 ∙ c.count.ensures.count) c.args.slots made.0 in
-    let given = subst (λ ts. AreExplainable c.args.scripts.now (entries_of ts) (updates_of c.in_ok-ran.ran.seat.view.seen) c.args.slots) (sym c.deref.ensures.value) all in
-    AreOneToCount-own (updates_of c.in_ok-ran.ran.seat.view.seen) (all_told_lines c.args.scripts.now (entries_of c.deref.result.now)) given.explained.updates
+    let ran = c.in_ok-ran.ensures in
+    let all = alone_explained ran.run ran.stays (made.1 ∙ c.count.ensures.count) made.0 c.deref.ensures.value in
+    AreOneToCount-own (updates_of c.in_ok-ran.ran.seat.view.seen) (all_told_lines c.args.scripts.now (entries_of c.deref.result.now)) all.explained.updates
 
 pub returns-clause-explained : goal.returns-clause-explained
 returns-clause-explained g c =
     let made = c.in_ok-table.ensures.table in
-    let all : AreExplainable c.args.scripts.now (entries_of c.in_ok-ran.ran.told.items) (updates_of c.in_ok-ran.ran.seat.view.seen) c.args.slots = alone_explained g.W.WaitWords.WAY c.in_ok-table.table c.args.scripts.now c.in_ok-ran.ran.told.items c.in_ok-ran.ran.seat c.in_ok-ran.ensures.run c.in_ok-ran.ensures.stays (made.1 ∙ c.count.ensures.count) c.args.slots made.0 in
-    let given = subst (λ ts. AreExplainable c.args.scripts.now (entries_of ts) (updates_of c.in_ok-ran.ran.seat.view.seen) c.args.slots) (sym c.deref.ensures.value) all in
-    let history : c.in_ok-history.history.items ≡ updates_of c.in_ok-ran.ran.seat.view.seen = c.in_ok-history.ensures.only (updates_of c.in_ok-ran.ran.seat.view.seen) given.explained.updates in
-    subst (λ h. AreExplainable c.args.scripts.now (entries_of c.in_ok-ran.ran.told.items) h c.args.slots) (sym history) all
+    let ran = c.in_ok-ran.ensures in
+    let all = alone_explained ran.run ran.stays (made.1 ∙ c.count.ensures.count) made.0 c.deref.ensures.value in
+    let history = c.in_ok-history.ensures.only (updates_of c.in_ok-ran.ran.seat.view.seen) all.explained.updates in
+    subst (λ h. AreExplainable c.args.scripts.now (entries_of c.in_ok-ran.ran.told.items) h c.args.slots) (sym history) (alone_explained ran.run ran.stays (made.1 ∙ c.count.ensures.count) made.0 refl)
 
 pub returns-clause-history : goal.returns-clause-history
 returns-clause-history g c =
     let made = c.in_ok-table.ensures.table in
-    let all : AreExplainable c.args.scripts.now (entries_of c.in_ok-ran.ran.told.items) (updates_of c.in_ok-ran.ran.seat.view.seen) c.args.slots = alone_explained g.W.WaitWords.WAY c.in_ok-table.table c.args.scripts.now c.in_ok-ran.ran.told.items c.in_ok-ran.ran.seat c.in_ok-ran.ensures.run c.in_ok-ran.ensures.stays (made.1 ∙ c.count.ensures.count) c.args.slots made.0 in
-    let given = subst (λ ts. AreExplainable c.args.scripts.now (entries_of ts) (updates_of c.in_ok-ran.ran.seat.view.seen) c.args.slots) (sym c.deref.ensures.value) all in
-    c.in_ok-history.ensures.only (updates_of c.in_ok-ran.ran.seat.view.seen) given.explained.updates
+    let ran = c.in_ok-ran.ensures in
+    let all = alone_explained ran.run ran.stays (made.1 ∙ c.count.ensures.count) made.0 c.deref.ensures.value in
+    let history = c.in_ok-history.ensures.only (updates_of c.in_ok-ran.ran.seat.view.seen) all.explained.updates in
+    history
 
 pub returns-clause-legal : goal.returns-clause-legal
 returns-clause-legal g c =
     let made = c.in_ok-table.ensures.table in
-    let all : AreExplainable c.args.scripts.now (entries_of c.in_ok-ran.ran.told.items) (updates_of c.in_ok-ran.ran.seat.view.seen) c.args.slots = alone_explained g.W.WaitWords.WAY c.in_ok-table.table c.args.scripts.now c.in_ok-ran.ran.told.items c.in_ok-ran.ran.seat c.in_ok-ran.ensures.run c.in_ok-ran.ensures.stays (made.1 ∙ c.count.ensures.count) c.args.slots made.0 in
-    let given = subst (λ ts. AreExplainable c.args.scripts.now (entries_of ts) (updates_of c.in_ok-ran.ran.seat.view.seen) c.args.slots) (sym c.deref.ensures.value) all in
-    let history : c.in_ok-history.history.items ≡ updates_of c.in_ok-ran.ran.seat.view.seen = c.in_ok-history.ensures.only (updates_of c.in_ok-ran.ran.seat.view.seen) given.explained.updates in
-    subst IsLegal (sym history) c.in_ok-ran.ensures.run.joined.informed.legal
+    let ran = c.in_ok-ran.ensures in
+    let all = alone_explained ran.run ran.stays (made.1 ∙ c.count.ensures.count) made.0 c.deref.ensures.value in
+    let history = c.in_ok-history.ensures.only (updates_of c.in_ok-ran.ran.seat.view.seen) all.explained.updates in
+    subst IsLegal (sym history) ran.run.informed.legal
 
 pub returns-clause-within : goal.returns-clause-within
 returns-clause-within g c =
     let made = c.in_ok-table.ensures.table in
-    let all : AreExplainable c.args.scripts.now (entries_of c.in_ok-ran.ran.told.items) (updates_of c.in_ok-ran.ran.seat.view.seen) c.args.slots = alone_explained g.W.WaitWords.WAY c.in_ok-table.table c.args.scripts.now c.in_ok-ran.ran.told.items c.in_ok-ran.ran.seat c.in_ok-ran.ensures.run c.in_ok-ran.ensures.stays (made.1 ∙ c.count.ensures.count) c.args.slots made.0 in
-    let given = subst (λ ts. AreExplainable c.args.scripts.now (entries_of ts) (updates_of c.in_ok-ran.ran.seat.view.seen) c.args.slots) (sym c.deref.ensures.value) all in
-    let history : c.in_ok-history.history.items ≡ updates_of c.in_ok-ran.ran.seat.view.seen = c.in_ok-history.ensures.only (updates_of c.in_ok-ran.ran.seat.view.seen) given.explained.updates in
-    subst (λ h. StaysWithin h c.args.slots) (sym history) (subst (StaysWithin (updates_of c.in_ok-ran.ran.seat.view.seen)) made.0 c.in_ok-ran.ensures.stays.within)
+    let ran = c.in_ok-ran.ensures in
+    let all = alone_explained ran.run ran.stays (made.1 ∙ c.count.ensures.count) made.0 c.deref.ensures.value in
+    let history = c.in_ok-history.ensures.only (updates_of c.in_ok-ran.ran.seat.view.seen) all.explained.updates in
+    subst (λ h. StaysWithin h c.args.slots) (sym history) (subst (StaysWithin (updates_of c.in_ok-ran.ran.seat.view.seen)) made.0 ran.stays.within)
 
 pub returns-clause-marks : goal.returns-clause-marks
 returns-clause-marks g c =
     let made = c.in_ok-table.ensures.table in
-    alone_marks g.W.WaitWords.WAY c.in_ok-table.table c.args.scripts.now c.in_ok-ran.ran.told.items c.in_ok-ran.ran.seat c.in_ok-ran.ensures.run c.in_ok-ran.ensures.stays (made.1 ∙ c.count.ensures.count)
+    alone_marks c.in_ok-ran.ensures.run c.in_ok-ran.ensures.stays (made.1 ∙ c.count.ensures.count)
