@@ -1,9 +1,10 @@
 -- Snapshots of a key range, taken one after another beside updates, and what they are snapshots of.
 -- Source: docs/FORMATS.md, "Watch texts".
-use Rattle.std.specs.Prelude.{◌≡◌, ℕ, ◌+◌, ◌≤◌, List, [], ◌∷◌, length, Option, Some, None}
+use Rattle.std.specs.Prelude.{◌≡◌, ℕ, ◌+◌, ◌*◌, ◌≤◌, List, [], ◌∷◌, ◌++◌, length, Option, Some, None}
 use mathlib.Core.List.{IsPrefix}
 use Rattle.prcu_model.specs.declared.operation.Update.{Update}
 use Rattle.prcu_marks.specs.Marks.{updates_of, own_of}
+use Rattle.core_state.specs.declared.view.Look.{Look}
 use Rattle.core_state.specs.declared.view.View.{View}
 use Rattle.exact_list.specs.Pairs.{Pair, had_at, ArePairs}
 
@@ -30,8 +31,27 @@ AreSnapshots history low high since (s ∷ ss) =
 abbrev pub none_yet : SnapshotAt
 none_yet = record { front = 0; pairs = []; next = None }
 
--- From one view to the other the seat has seen no less, and its place made no update. Its places and tickets are the same.
+-- a look at the front, in a section of a place, that found a snapshot's front
+abbrev pub look_at : ℕ → ℕ → ℕ → Look
+look_at place section front = record { place = place; section = section; front = 2 * front }
+
+-- Snapshots were found by looks of a place: the front of each by two looks of one section, one right after the other. Those of a later
+-- snapshot come later.
+abbrev pub WereLookedAt : ℕ → List Look → List SnapshotAt → Type 0
+WereLookedAt place looks [] = Unit {0}
+WereLookedAt place looks (s ∷ ss) =
+    (section : ℕ) × (earlier later : List Look) × (looks ≡ earlier ++ look_at place section s.front ∷ look_at place section s.front ∷ later) × WereLookedAt place later ss
+
+-- From one view to the other the seat made some more looks, and snapshots were found by those.
+pub record HasLookedAt (v w : View) (snapshots : List SnapshotAt) : Type 0 where
+  pub since : List Look
+  pub added : w.looks ≡ v.looks ++ since
+  pub found : WereLookedAt v.allowance.place since snapshots
+
+-- From one view to the other the seat has seen no less, and its place made no update. It may have looked at the front. Its places and
+-- tickets are the same.
 pub record OnlyLists (v w : View) : Type 0 where
   pub allowance : w.allowance ≡ v.allowance
   pub seen : IsPrefix v.seen w.seen
+  pub looks : IsPrefix v.looks w.looks
   pub own : updates_of (own_of v.allowance.place w.seen) ≡ updates_of (own_of v.allowance.place v.seen)

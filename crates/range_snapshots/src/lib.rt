@@ -1,6 +1,7 @@
 //! Snapshots of a key range, taken one after another beside updates, and the text of an account with four of them.
 #![tactic(auto)]
 
+mod pauses;
 mod snapshot;
 mod writing;
 

@@ -2,9 +2,10 @@
 ghost use Rattle.std.specs.Prelude.{◌≡◌, ◌++◌, [], ◌∷◌, IfOk, OnOk, flat_map, length};
 ghost use Rattle.prcu_marks.specs.Marks.{updates_of};
 ghost use Rattle.seat_table.specs.Seats.{IsQuietSeat};
-ghost use Rattle.range_snapshots.specs.Snapshots.{AreSnapshots, OnlyLists, none_yet};
+ghost use Rattle.range_snapshots.specs.Snapshots.{AreSnapshots, OnlyLists, HasLookedAt, none_yet};
 ghost use Rattle.range_snapshots.specs.WatchText.{block_text};
 
+use crate::pauses::pause;
 use crate::writing::push_block;
 use exact_list::{Listed, Page, list};
 use key_interval::Keys;
@@ -74,13 +75,14 @@ impl Snapshot {
         self.next
     }
 
-    // Takes it anew. Beside updates that never pause it may never return.
+    // Takes it anew, after a pause for so many updates. Beside updates that never pause it may never return.
     fn take<R: Wait, W: WaitPart>(
         &mut self,
         rt: &R,
         table: &CitrusTable<W>,
         seat: &mut Seat<W>,
         keys: Keys,
+        updates: u32,
     )
         requires table { seat.old.table ≡ table.now }
         requires quiet { IsQuietSeat seat.old }
@@ -88,7 +90,9 @@ impl Snapshot {
         ensures quiet { IsQuietSeat seat.new }
         ensures only { OnlyLists seat.old.view seat.new.view }
         ensures taken { AreSnapshots (updates_of seat.new.view.seen) keys.low keys.high (length (updates_of seat.old.view.seen)) (self.new ∷ []) }
+        ensures looked { HasLookedAt seat.old.view seat.new.view (self.new ∷ []) }
     {
+        pause(table, seat, keys.low(), updates);
         for _ in rt.forever() {
             match list(rt, table, seat, keys, &mut self.page, TRIES) {
                 Listed::Whole { front } => {
@@ -152,13 +156,16 @@ impl Snapshots {
         push_block(out, &self.fourth)
     }
 
-    /// Takes all anew, one after another, and passes the gate after each. Beside updates that never pause it may never return.
+    /// Takes all anew, one after another, and passes the gate after each. Before each it lets other threads go on until they have made
+    /// so many updates more, or none for a while: so the snapshots stand apart where there is something to see, and no clause rests on
+    /// it. Beside updates that never pause it may never return.
     pub fn take<R: Wait, W: WaitPart, G: Gate>(
         &mut self,
         rt: &R,
         table: &CitrusTable<W>,
         seat: &mut Seat<W>,
         keys: Keys,
+        updates: u32,
         gate: &G,
         caller: u32,
     )
@@ -168,14 +175,15 @@ impl Snapshots {
         ensures quiet { IsQuietSeat seat.new }
         ensures only { OnlyLists seat.old.view seat.new.view }
         ensures taken { AreSnapshots (updates_of seat.new.view.seen) keys.low keys.high (length (updates_of seat.old.view.seen)) self.new }
+        ensures looked { HasLookedAt seat.old.view seat.new.view self.new }
     {
-        self.first.take(rt, table, seat, keys);
+        self.first.take(rt, table, seat, keys, updates);
         gate.pass(Point::Answered, caller);
-        self.second.take(rt, table, seat, keys);
+        self.second.take(rt, table, seat, keys, updates);
         gate.pass(Point::Answered, caller);
-        self.third.take(rt, table, seat, keys);
+        self.third.take(rt, table, seat, keys, updates);
         gate.pass(Point::Answered, caller);
-        self.fourth.take(rt, table, seat, keys);
+        self.fourth.take(rt, table, seat, keys, updates);
         gate.pass(Point::Answered, caller);
     }
 }

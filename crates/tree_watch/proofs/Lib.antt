@@ -1,2 +1,3 @@
 pub mod Rooms
 pub mod Watched
+pub mod Looks

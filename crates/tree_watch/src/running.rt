@@ -1,5 +1,5 @@
 //! Scripts run beside each other, and snapshots taken beside them.
-ghost use Rattle.std.specs.Prelude.{◌≡◌, ℕ, ◌+◌, ◌<◌, ◌≤◌, ◌*◌, IfOk, [], length};
+ghost use Rattle.std.specs.Prelude.{◌≡◌, ℕ, ◌+◌, ◌<◌, ◌≤◌, ◌*◌, false, IfOk, [], length};
 ghost use Rattle.std.specs.Thread.{IsSync};
 ghost use Rattle.prcu_model.specs.Fronts.{AreExplainable};
 ghost use Rattle.prcu_model.specs.History.{IsLegal};
@@ -12,8 +12,8 @@ ghost use Rattle.list_laws.specs.Counts.{times};
 ghost use Rattle.core_state.specs.views.Views.{places_of};
 ghost use Rattle.seat_table.specs.Seats.{IsQuietSeat, shape_of};
 ghost use Rattle.seat_table.specs.Gains.{IsInformed, StaysIn};
-ghost use Rattle.tree_run.specs.Runs.{seat_for, HasRun};
-ghost use Rattle.range_snapshots.specs.Snapshots.{AreSnapshots, OnlyLists, none_yet};
+ghost use Rattle.tree_run.specs.Runs.{seat_for, tickets_for, HasRun};
+ghost use Rattle.range_snapshots.specs.Snapshots.{AreSnapshots, WereLookedAt, HasLookedAt, OnlyLists, none_yet};
 
 use client_run::merge;
 use key_interval::Keys;
@@ -24,7 +24,7 @@ use seat_table::{CitrusTable, Seat, WaitPart};
 use std::alloc::Global;
 use std::sync::Wait;
 use std::thread::{Threads, join};
-use tree_run::{SeatRun, TICKETS, run_on};
+use tree_run::{SeatRun, run_on, tickets_for};
 
 // A put is told that nothing is free where twenty slots for each other place count. Twenty more are there for the place that takes
 // snapshots, so that this is as without it.
@@ -53,7 +53,7 @@ pub struct WatchedRun<W: WaitPart> {
 ///
 /// A snapshot counts where no update is made while it is taken, and is taken again where one is: so beside a tree that others update
 /// for ever this may wait for ever, here as long as the scripts go on.
-pub fn run_watched<R: Threads + Wait + Sync, W: WaitPart + Sync, G: Gate + Sync>(
+pub fn run_watched<R: Threads + Wait + Sync, W: WaitPart + Send + Sync, G: Gate + Sync>(
     rt: &R,
     alloc: Global,
     scripts: &Scripts,
@@ -69,14 +69,15 @@ pub fn run_watched<R: Threads + Wait + Sync, W: WaitPart + Sync, G: Gate + Sync>
     ensures within { IfOk result (λ run. StaysWithin run.history.items (slots + 20)) }
     ensures history { IfOk result (λ run. run.history.items ≡ updates_of run.seat.view.seen) }
     ensures snapshots { IfOk result (λ run. AreSnapshots run.history.items keys.low keys.high 0 run.snapshots) }
+    ensures looked { IfOk result (λ run. WereLookedAt (length scripts.now) run.seat.view.looks run.snapshots) }
     ensures marks { IfOk result (λ run. FitsScripts scripts.now run.seat.view.seen) }
     ensures table { IfOk result (λ run. (run.table.slots ≡ slots + 20) × (run.table.places ≡ length scripts.now + 1) × (run.table.tickets ≡ 4 * op_count scripts.now)) }
     ensures seat { IfOk result (λ run. run.seat.table ≡ run.table) }
     ensures quiet { IfOk result (λ run. IsQuietSeat run.seat) }
     ensures informed { IfOk result (λ run. IsInformed run.seat.view) }
-    ensures answers { IfOk result (λ run. (place : ℕ) → place < length scripts.now → 1 ≤ times place (places_of run.seat.view)) }
+    ensures answers { IfOk result (λ run. (place : ℕ) → place < length scripts.now + 1 → 1 ≤ times place (places_of run.seat.view)) }
 {
-    let tickets = TICKETS * u64::from(scripts.ops());
+    let tickets = tickets_for(false, u64::from(scripts.ops()));
     let places = scripts.count() + 1;
     let (table, seat) = CitrusTable::new(alloc, slots + SLOTS_OF_ONE_PLACE, places, tickets)?;
     let (workers, lister) = seat.split(&table, 1, 0);
@@ -103,7 +104,7 @@ struct Beside<W: WaitPart> {
 }
 
 // Runs the scripts on the table, takes the snapshots beside them, and joins the two seats.
-fn run_beside<R: Threads + Wait + Sync, W: WaitPart + Sync, G: Gate + Sync>(
+fn run_beside<R: Threads + Wait + Sync, W: WaitPart + Send + Sync, G: Gate + Sync>(
     rt: &R,
     alloc: Global,
     table: &CitrusTable<W>,
@@ -115,30 +116,33 @@ fn run_beside<R: Threads + Wait + Sync, W: WaitPart + Sync, G: Gate + Sync>(
     gate: &G,
 ) -> Result<Beside<W>, NoMemory>
     requires some { 1 ≤ length scripts.now }
-    requires workers { workers ≡ seat_for table.now 0 (length scripts.now) (4 * op_count scripts.now) }
+    requires workers { workers ≡ seat_for table.now 0 (length scripts.now) (tickets_for false (op_count scripts.now)) }
     requires lister { lister ≡ seat_for table.now (length scripts.now) 1 0 }
     requires quiet { IsQuietSeat workers × IsQuietSeat lister }
-    ensures run { IfOk result (λ made. HasRun W.WAY table.now scripts.now made.told.items made.seat) }
+    ensures run { IfOk result (λ made. HasRun W.WAY false table.now scripts.now made.told.items made.seat) }
     ensures table { IfOk result (λ made. made.seat.table ≡ table.now) }
     ensures quiet { IfOk result (λ made. IsQuietSeat made.seat) }
     ensures stays { IfOk result (λ made. StaysIn (shape_of W.WAY table.now) made.seat.view) }
     ensures idle { IfOk result (λ made. updates_of (own_of (length scripts.now) made.seat.view.seen) ≡ []) }
+    ensures answers { IfOk result (λ made. (place : ℕ) → place < length scripts.now + 1 → 1 ≤ times place (places_of made.seat.view)) }
     ensures snapshots { IfOk result (λ made. AreSnapshots (updates_of made.seat.view.seen) keys.low keys.high 0 made.snapshots) }
+    ensures looked { IfOk result (λ made. WereLookedAt (length scripts.now) made.seat.view.looks made.snapshots) }
 {
     let (ran, listed) = join(
         rt,
         || -> Result<SeatRun<W>, NoMemory>
-            requires { IsSync R.row × (1 ≤ length scripts.now) × (workers ≡ seat_for table.now 0 (length scripts.now) (4 * op_count scripts.now)) × IsQuietSeat workers }
-            ensures run { IfOk result (λ run. HasRun W.WAY table.entry.now scripts.entry.now run.told.items run.seat) }
+            requires { IsSync R.row × (1 ≤ length scripts.now) × (workers ≡ seat_for table.now 0 (length scripts.now) (tickets_for false (op_count scripts.now))) × IsQuietSeat workers }
+            ensures run { IfOk result (λ run. HasRun W.WAY false table.entry.now scripts.entry.now run.told.items run.seat) }
             ensures table { IfOk result (λ run. run.seat.table ≡ table.entry.now) }
             ensures quiet { IfOk result (λ run. IsQuietSeat run.seat) }
-        { run_on(rt, alloc, table, workers, scripts, gate) },
+        { run_on(rt, alloc, table, workers, scripts, false, gate) },
         || -> (Seat<W>, Snapshots)
             requires { (lister ≡ seat_for table.now (length scripts.now) 1 0) × IsQuietSeat lister }
             ensures seat { (result.0.table ≡ table.entry.now) × IsQuietSeat result.0 }
             ensures only { OnlyLists (seat_for table.entry.now (length scripts.entry.now) 1 0).view result.0.view }
             ensures snapshots { AreSnapshots (updates_of result.0.view.seen) keys.low keys.high 0 result.1 }
-        { take_all(rt, table, lister, keys, snapshots, gate, scripts.count()) },
+            ensures looked { HasLookedAt (seat_for table.entry.now (length scripts.entry.now) 1 0).view result.0.view result.1 }
+        { take_all(rt, table, lister, scripts, keys, snapshots, gate) },
     );
     let run = ran?;
     let (lister, snapshots) = listed;
@@ -149,15 +153,17 @@ fn run_beside<R: Threads + Wait + Sync, W: WaitPart + Sync, G: Gate + Sync>(
     })
 }
 
-// The snapshots, taken by this seat, which has seen nothing before.
+// The snapshots, taken by this seat, which has seen nothing before. How many updates the scripts will make isn't known, but what is there
+// to be seen was put: so an eighth of the puts shares the snapshots out over the first half of a run of puts. Where the keys are few and
+// some puts find them there, dels and sets are mostly as many updates more.
 fn take_all<R: Wait, W: WaitPart, G: Gate>(
     rt: &R,
     table: &CitrusTable<W>,
     mut seat: Seat<W>,
+    scripts: &Scripts,
     keys: Keys,
     mut snapshots: Snapshots,
     gate: &G,
-    caller: u32,
 ) -> (Seat<W>, Snapshots)
     requires table { seat.table ≡ table.now }
     requires quiet { IsQuietSeat seat }
@@ -165,7 +171,10 @@ fn take_all<R: Wait, W: WaitPart, G: Gate>(
     ensures seat { (result.0.table ≡ table.now) × IsQuietSeat result.0 }
     ensures only { OnlyLists seat.view result.0.view }
     ensures snapshots { AreSnapshots (updates_of result.0.view.seen) keys.low keys.high 0 result.1 }
+    ensures looked { HasLookedAt seat.view result.0.view result.1 }
 {
-    snapshots.take(rt, table, &mut seat, keys, gate, caller);
+    let apart = (scripts.puts() / 8).max(1);
+    let caller = scripts.count();
+    snapshots.take(rt, table, &mut seat, keys, apart, gate, caller);
     (seat, snapshots)
 }

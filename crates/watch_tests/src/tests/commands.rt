@@ -14,10 +14,12 @@ use std::thread::Threads;
 
 const MOST_TURNS: u64 = 10_000_000;
 
-// Holds the lists after the first until the script is in its section, and the script there until four lists are made.
+// Holds the lists after the first until the script has come to a point, and the script in its section until so many lists are made.
 #[derive(Drop)]
 struct Meeting {
-    sections: AtomicU64,
+    point: Point,
+    most: u64,
+    passed: AtomicU64,
     lists: AtomicU64,
     misses: AtomicU64,
 }
@@ -37,14 +39,14 @@ impl Meeting {
 
 impl Gate for Meeting {
     fn pass(&self, point: Point, caller: u32) {
+        if caller == 0 && point == self.point {
+            self.passed.fetch_add(1, Ordering::SeqCst);
+        }
         match (caller, point) {
-            (0, Point::InSection) => {
-                self.sections.fetch_add(1, Ordering::SeqCst);
-                self.wait_for(&self.lists, 4);
-            }
+            (0, Point::InSection) => self.wait_for(&self.lists, self.most),
             (1, Point::Answered) => {
                 self.lists.fetch_add(1, Ordering::SeqCst);
-                self.wait_for(&self.sections, 1);
+                self.wait_for(&self.passed, 1);
             }
             _ => {}
         }
@@ -112,20 +114,34 @@ fn a_text_has_sixty_three_scripts_at_most(rt: HostRuntime) -> Result<(), Fail> {
 }
 
 #[test]
-fn lists_are_made_beside_a_script_that_stands_still(rt: HostRuntime) -> Result<(), Fail> {
-    let wanted =
-        b"script 0\nput 1 1 new 1\nhistory 1\n1 0 put 1 1\nfinal 1\n1 1\nend\nwatch 0 100\nwhole 0 0\nwhole 0 0\nwhole 0 0\nwhole 0 0\nend\n";
+fn lists_are_made_beside_a_script(rt: HostRuntime) -> Result<(), Fail> {
+    let cases: [(Point, u64, &[u8]); 2] = [
+        (
+            Point::InSection,
+            4,
+            b"script 0\nput 1 1 new 1\nhistory 1\n1 0 put 1 1\nfinal 1\n1 1\nend\nwatch 0 100\nwhole 0 0\nwhole 0 0\nwhole 0 0\nwhole 0 0\nend\n",
+        ),
+        (
+            Point::Answered,
+            1,
+            b"script 0\nput 1 1 new 1\nhistory 1\n1 0 put 1 1\nfinal 1\n1 1\nend\nwatch 0 100\nwhole 0 0\nwhole 1 1\n1 1\nwhole 1 1\n1 1\nwhole 1 1\n1 1\nend\n",
+        ),
+    ];
     for waiter in ["--waiter=eer", "--waiter=d", "--waiter=deer"] {
-        let gate = Meeting {
-            sections: AtomicU64::new(0),
-            lists: AtomicU64::new(0),
-            misses: AtomicU64::new(0),
-        };
-        let words = ["watch", waiter, "0", "100"];
-        let (status, text) = answer(&rt, rt.alloc(), &words, b"script\nput 1 1\n", &gate)?;
-        assert_eq!(rt; status, Status::Done, "{waiter}");
-        assert!(rt; text.as_slice() == wanted.as_slice(), "{waiter}");
-        assert_eq!(rt; gate.misses.load(Ordering::SeqCst), 0, "{waiter}");
+        for (point, most, wanted) in cases {
+            let gate = Meeting {
+                point,
+                most,
+                passed: AtomicU64::new(0),
+                lists: AtomicU64::new(0),
+                misses: AtomicU64::new(0),
+            };
+            let words = ["watch", waiter, "0", "100"];
+            let (status, text) = answer(&rt, rt.alloc(), &words, b"script\nput 1 1\n", &gate)?;
+            assert_eq!(rt; status, Status::Done, "{waiter}");
+            assert!(rt; text.as_slice() == wanted, "{waiter}");
+            assert_eq!(rt; gate.misses.load(Ordering::SeqCst), 0, "{waiter}");
+        }
     }
     Ok(())
 }

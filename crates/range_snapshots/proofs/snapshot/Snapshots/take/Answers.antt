@@ -1,7 +1,7 @@
 use Rattle.std.proofs.Common.{[], ◌∷◌, length}
 use Rattle.prcu_model.proofs.ListFacts.{prefix_trans}
 use Rattle.prcu_marks.specs.Marks.{updates_of}
-use Rattle.range_snapshots.proofs.Taking.{snapshots_next}
+use Rattle.range_snapshots.proofs.Taking.{snapshots_next, looked_next}
 use Rattle.range_snapshots.proofs.snapshot.Snapshots.take.Goals as goal
 
 -- from the last one to the first: what one saw is a beginning of what the next one saw
@@ -20,3 +20,14 @@ returns-clause-taken g c =
     snapshots_next low high one four (length (updates_of none)) c.take.new.self (c.take-2.new.self ∷ c.take-3.new.self ∷ c.take-4.new.self ∷ []) latest c.take.ensures.taken
     (snapshots_next low high two four (length (updates_of one)) c.take-2.new.self (c.take-3.new.self ∷ c.take-4.new.self ∷ []) later c.take-2.ensures.taken
     (snapshots_next low high three four (length (updates_of two)) c.take-3.new.self (c.take-4.new.self ∷ []) last c.take-3.ensures.taken c.take-4.ensures.taken))
+
+pub returns-clause-looked : goal.returns-clause-looked
+returns-clause-looked g c =
+    let none = c.args.seat.now.view in
+    let one = c.take.new.seat.view in
+    let two = c.take-2.new.seat.view in
+    let three = c.take-3.new.seat.view in
+    let four = c.take-4.new.seat.view in
+    looked_next none one four c.take.new.self (c.take-2.new.self ∷ c.take-3.new.self ∷ c.take-4.new.self ∷ []) c.take.ensures.only c.take.ensures.looked
+    (looked_next one two four c.take-2.new.self (c.take-3.new.self ∷ c.take-4.new.self ∷ []) c.take-2.ensures.only c.take-2.ensures.looked
+    (looked_next two three four c.take-3.new.self (c.take-4.new.self ∷ []) c.take-3.ensures.only c.take-3.ensures.looked c.take-4.ensures.looked))
