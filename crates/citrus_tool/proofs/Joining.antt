@@ -1,14 +1,14 @@
 -- Arguments are read one after another.
-use Rattle.std.proofs.Common.{◌≡◌, ℕ, ◌≤◌, List, [], ◌∷◌, ◌++◌, length, take, drop, Option, Some, None, IfSome, inl, inr, refl, sym, ap, subst, ◌∙◌, append-nil, append_assoc}
+use Rattle.std.proofs.Common.{◌≡◌, ℕ, ◌≤◌, Bool, true, false, List, [], ◌∷◌, ◌++◌, length, take, drop, Option, Some, None, IfSome, inl, inr, refl, sym, ap, subst, ◌∙◌, append-nil, append_assoc}
 use Rattle.std.proofs.lemmas.List.{take-append-drop, length-take-le}
 use Rattle.std.proofs.Math.Seq.{drop-append_seam}
 use Rattle.std.specs.Option.{option_to_list}
 use Rattle.citrus_tool.specs.declared.arguments.Argument.{Argument}
-use Rattle.citrus_tool.specs.declared.arguments.Argument.TheVariants.{Slots, Schedule, Waits, Number}
+use Rattle.citrus_tool.specs.declared.arguments.Argument.TheVariants.{Slots, Schedule, Waits, Cookies, Number}
 use Rattle.citrus_tool.specs.declared.arguments.Arguments.{Arguments}
 use Rattle.citrus_tool.specs.declared.arguments.Numbers.{Numbers}
 use Rattle.citrus_tool.specs.declared.arguments.Numbers.TheVariants.{Zero, One, Two, Three}
-use Rattle.citrus_tool.specs.Arguments.{IsOption, IsSpelled, AreSpelled, numbers_of, among, slots_in, schedules_in, waiters_in, numbers_in, Joins}
+use Rattle.citrus_tool.specs.Arguments.{IsOption, IsSpelled, AreSpelled, numbers_of, among, slots_in, schedules_in, waiters_in, cookies_in, flag_list, numbers_in, Joins}
 use Rattle.citrus_tool.proofs.Spellings.{one_spelled}
 
 no_option : (name value : List ℕ) (first : List (List ℕ)) → IsOption name value first → first ≡ [] → ⊥
@@ -19,6 +19,7 @@ no_words : (argument : Argument) (first : List (List ℕ)) → IsSpelled argumen
 no_words (Slots n) first spelled none = no_option _ _ first spelled.1 none
 no_words (Schedule n) first spelled none = no_option _ _ first spelled.1 none
 no_words (Waits waiter) first spelled none = no_option _ _ first spelled none
+no_words Cookies first spelled none = let e = sym none ∙ spelled in absurd (cc)
 no_words (Number n) first spelled none = let e = sym none ∙ spelled.1 in absurd (cc)
 
 front_is_empty : {X : Type 0} (xs ys : List X) → [] ≡ xs ++ ys → xs ≡ []
@@ -30,7 +31,7 @@ none_spelled [] h = refl
 none_spelled (a ∷ arguments) h = absurd (no_words a h.0 h.3 (front_is_empty h.0 h.1 h.2))
 
 pub Joins-none : (before : Arguments) → Joins before [] before
-Joins-none before = record { slots = sym (append-nil _); schedule = sym (append-nil _); waiter = sym (append-nil _); numbers = sym (append-nil _) }
+Joins-none before = record { slots = sym (append-nil _); schedule = sym (append-nil _); waiter = sym (append-nil _); cookies = sym (append-nil _); numbers = sym (append-nil _) }
 
 -- what was found is known by its lists
 option-same : {X : Type 0} (a b : Option X) → option_to_list a ≡ option_to_list b → a ≡ b
@@ -38,6 +39,12 @@ option-same None None e = refl
 option-same None (Some b) e = absurd (cc)
 option-same (Some a) None e = absurd (cc)
 option-same (Some a) (Some b) e = cc
+
+flag-same : (a b : Bool) → flag_list a ≡ flag_list b → a ≡ b
+flag-same true true e = refl
+flag-same true false e = absurd (cc)
+flag-same false true e = absurd (cc)
+flag-same false false e = refl
 
 numbers-same : (a b : Numbers) → numbers_of a ≡ numbers_of b → a ≡ b
 numbers-same Zero Zero e = refl
@@ -62,8 +69,9 @@ Joins-same before found j =
     let a = option-same before.slots found.slots (sym (j.slots ∙ append-nil _)) in
     let b = option-same before.schedule found.schedule (sym (j.schedule ∙ append-nil _)) in
     let c = option-same before.waiter found.waiter (sym (j.waiter ∙ append-nil _)) in
+    let f = flag-same before.cookies found.cookies (sym (j.cookies ∙ append-nil _)) in
     let d = numbers-same before.numbers found.numbers (sym (j.numbers ∙ append-nil _)) in
-    λ i. record { slots = a i; schedule = b i; waiter = c i; numbers = d i }
+    λ i. record { slots = a i; schedule = b i; waiter = c i; cookies = f i; numbers = d i }
 
 -- an argument and those after it
 module _ (before mid found : Arguments) (a : Argument) (arguments : List Argument) (first : Joins before (a ∷ []) mid) where
@@ -78,6 +86,7 @@ module _ (before mid found : Arguments) (a : Argument) (arguments : List Argumen
     slots = rest.slots ∙ sym (whole slots_in _ _ first.slots);
     schedule = rest.schedule ∙ sym (whole schedules_in _ _ first.schedule);
     waiter = rest.waiter ∙ sym (whole waiters_in _ _ first.waiter);
+    cookies = rest.cookies ∙ sym (whole cookies_in _ _ first.cookies);
     numbers = rest.numbers ∙ sym (whole numbers_in _ _ first.numbers);
   }
 
@@ -86,6 +95,7 @@ module _ (before mid found : Arguments) (a : Argument) (arguments : List Argumen
     slots = all.slots ∙ whole slots_in _ _ first.slots;
     schedule = all.schedule ∙ whole schedules_in _ _ first.schedule;
     waiter = all.waiter ∙ whole waiters_in _ _ first.waiter;
+    cookies = all.cookies ∙ whole cookies_in _ _ first.cookies;
     numbers = all.numbers ∙ whole numbers_in _ _ first.numbers;
   }
 

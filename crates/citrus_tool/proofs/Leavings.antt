@@ -1,21 +1,25 @@
 -- What runs leave.
-use Rattle.std.proofs.Common.{◌≡◌, ℕ, zero, suc, ◌≤◌, List, [], ◌∷◌, length, Option, refl, sym, subst, arith}
+use Rattle.std.proofs.Common.{◌≡◌, ℕ, zero, suc, ◌≤◌, Bool, false, List, [], ◌∷◌, length, Option, refl, sym, subst, ◌∙◌, arith}
 use Rattle.std.specs.FinMap as map
 use Rattle.std.specs.Ordering.{nat_cmp}
 use Rattle.prcu_model.specs.declared.operation.Op.{Op}
+use Rattle.prcu_model.specs.declared.operation.Line.{Line}
 use Rattle.prcu_model.specs.declared.operation.Told.{Told}
 use Rattle.prcu_model.specs.declared.operation.Update.{Update}
 use Rattle.schedule_run.specs.Schedules.{IsOfSchedule}
 use Rattle.prcu_model.specs.Dictionary.{map_at}
+use Rattle.prcu_model.specs.Fronts.{AreExplainable}
+use Rattle.prcu_model.specs.Lists.{Roomy, entries_of}
 use Rattle.prcu_model.specs.Scripts.{default_slots_of}
 use Rattle.prcu_model.specs.Slots.{StaysWithin}
-use Rattle.account_text.specs.Account.{IsAccount}
+use Rattle.account_text.specs.Account.{IsAccount, HaveReplies}
 use Rattle.script_text.specs.Grammar.{IsScriptText}
 use Rattle.class_hash.specs.Seats.{SeatAt, TableAt}
 use Rattle.core_state.specs.declared.shape.Waiter.{Waiter}
 use Rattle.core_state.specs.declared.shape.Waiter.TheVariants.{Eer, Domain, Deer}
 use Rattle.hash_core.specs.Steps.{IsQuiet}
 use Rattle.seat_table.specs.Seats as tree
+use Rattle.range_snapshots.specs.Snapshots.{SnapshotAt}
 use Rattle.citrus_tool.specs.declared.commands.Command.{Command}
 use Rattle.citrus_tool.specs.declared.commands.Command.TheVariants.{Run, Check, Load, Watch, Hash as HashCommand}
 use Rattle.citrus_tool.specs.declared.commands.Mode.{Mode}
@@ -25,13 +29,22 @@ use Rattle.citrus_tool.specs.declared.outcome.Ran.{Ran}
 use Rattle.citrus_tool.specs.declared.outcome.Ran.TheVariants.{Nothing, Hash}
 use Rattle.citrus_tool.specs.Answers.{AccountsFor, Writes, Leaves, Answered}
 use Rattle.citrus_tool.specs.Leavings.{LeavesSome, RunsBy, IsDrawn, LeavesMade, IsLeftOf, LeavesHash, IsTreeLeftOf, LeavesTree, tree_with}
-use Rattle.citrus_tool.specs.Limits.{slots_of}
 use Rattle.citrus_tool.specs.Watching.{LeavesWatched}
+use Rattle.citrus_tool.specs.Limits.{slots_of}
 use Rattle.citrus_tool.proofs.SlotCounts.{never_full}
 
 pub some_left : (scripts : List (List Op)) (ran : Ran) (left : Type 0) → 1 ≤ length scripts → left → LeavesSome scripts ran left
 some_left [] ran left some is = absurd (omega arith)
 some_left (script ∷ scripts) ran left some is = is
+
+tree_left : (waiter chosen : Waiter) (cookies : Bool) (scripts : List (List Op)) (slots places : ℕ) (history : List Update) (table : tree.TableAt) (seat : tree.SeatAt) → waiter ≡ chosen → 1 ≤ length scripts → IsTreeLeftOf cookies scripts slots places history table seat
+    → LeavesTree waiter cookies scripts slots places history (tree_with chosen table seat)
+tree_left waiter chosen cookies scripts slots places history table seat is some left =
+    subst (λ w. LeavesTree w cookies scripts slots places history (tree_with chosen table seat)) (sym is) (some_left scripts (tree_with chosen table seat) _ some (table, seat, refl, left))
+
+pub none_within : (slots front : ℕ) → map.len (map_at [] front) ≤ slots
+none_within slots zero = let none = map.len-empty nat_cmp ℕ in omega (arith, none)
+none_within slots (suc front) = let none = map.len-empty nat_cmp ℕ in omega (arith, none)
 
 -- an account with that history, and the hash dictionary beside it
 pub left_beside : (scripts : List (List Op)) (slots : ℕ) (history : List Update) (table : TableAt) (seat : SeatAt) (text : List ℕ) → 1 ≤ length scripts → slots ≡ default_slots_of scripts → IsLeftOf scripts history table seat
@@ -41,74 +54,73 @@ left_beside scripts slots history table seat text some shared left account =
     let written = subst (λ s. (a : IsAccount scripts s text) × (a.history ≡ history)) shared account in
     (written.0, subst (λ h. LeavesHash scripts h (Hash table seat)) (sym written.1) (some_left scripts (Hash table seat) _ some (table, seat, refl, left)))
 
--- an account with that history, and the tree beside it
-pub tree_beside : (scripts : List (List Op)) (slots : ℕ) (history : List Update) (table : tree.TableAt) (seat : tree.SeatAt) (text : List ℕ) → StaysWithin history slots → IsTreeLeftOf scripts slots history table seat
-    → (account : IsAccount scripts slots text) × (account.history ≡ history)
-    → (account : IsAccount scripts slots text) × StaysWithin account.history slots × IsTreeLeftOf scripts slots account.history table seat
-tree_beside scripts slots history table seat text within left account =
-    (account.0, subst (λ h. StaysWithin h slots) (sym account.1) within, subst (λ h. IsTreeLeftOf scripts slots h table seat) (sym account.1) left)
+-- what a run tells explains the same, read where it was put
+pub explained_as : (scripts : List (List Op)) (told seen : List (Roomy Told)) (history others : List Update) (slots : ℕ) → seen ≡ told → others ≡ history → AreExplainable scripts (entries_of told) history slots → AreExplainable scripts (entries_of seen) others slots
+explained_as scripts told seen history others slots same_told same_history explained =
+    subst (λ t. AreExplainable scripts (entries_of t) others slots) (sym same_told) (subst (λ h. AreExplainable scripts (entries_of told) h slots) (sym same_history) explained)
 
--- an account with that history, which is drawn
+-- Something was written, whatever it is: it has a history.
+module _ {T : Type 0} (history_of : T → List Update) where
+  -- by the history of a run, and the run's tree beside it
+  pub tree_beside : (cookies : Bool) (scripts : List (List Op)) (slots places : ℕ) (history seen : List Update) (table : tree.TableAt) (seat : tree.SeatAt) → seen ≡ history → StaysWithin history slots → IsTreeLeftOf cookies scripts slots places history table seat
+      → (written : T) × (history_of written ≡ seen)
+      → (written : T) × StaysWithin (history_of written) slots × IsTreeLeftOf cookies scripts slots places (history_of written) table seat
+  tree_beside cookies scripts slots places history seen table seat same within left written =
+      let is = sym (written.1 ∙ same) in
+      (written.0, subst (λ h. StaysWithin h slots) is within, subst (λ h. IsTreeLeftOf cookies scripts slots places h table seat) is left)
+
+  -- The tree of the waiter that was chosen is what is left.
+  pub in_tree : (waiter chosen : Waiter) (cookies : Bool) (scripts : List (List Op)) (slots places : ℕ) (table : tree.TableAt) (seat : tree.SeatAt) → waiter ≡ chosen → 1 ≤ length scripts
+      → (written : T) × StaysWithin (history_of written) slots × IsTreeLeftOf cookies scripts slots places (history_of written) table seat
+      → (written : T) × StaysWithin (history_of written) slots × LeavesTree waiter cookies scripts slots places (history_of written) (tree_with chosen table seat)
+  in_tree waiter chosen cookies scripts slots places table seat is some made =
+      (made.0, made.1, tree_left waiter chosen cookies scripts slots places (history_of made.0) table seat is some made.2)
+
+  -- Without scripts nothing is left.
+  pub none_left : (left : T → List Update → Type 0) (slots : ℕ) → ((written : T) → left written []) → (written : T) × (history_of written ≡ []) → (written : T) × StaysWithin (history_of written) slots × left written (history_of written)
+  none_left left slots nothing written =
+      (written.0, subst (λ h. StaysWithin h slots) (sym written.1) (λ front at. none_within slots front), subst (left written.0) (sym written.1) (nothing written.0))
+
+-- an account with that history and those replies, which are drawn
 pub drawn_account : (scripts : List (List Op)) (slots number : ℕ) (told : List (List Told)) (history : List Update) (text : List ℕ) → 1 ≤ length scripts → StaysWithin history slots → IsOfSchedule scripts slots number told history
-    → (account : IsAccount scripts slots text) × (account.history ≡ history)
-    → (account : IsAccount scripts slots text) × StaysWithin account.history slots × IsDrawn scripts slots number account.history
+    → (account : IsAccount scripts slots text) × (account.history ≡ history) × HaveReplies told account.lines
+    → (account : IsAccount scripts slots text) × StaysWithin account.history slots × IsDrawn scripts slots number account.lines account.history
 drawn_account scripts slots number told history text some within drawn account =
-    (account.0, subst (λ h. StaysWithin h slots) (sym account.1) within, subst (IsDrawn scripts slots number) (sym account.1) (by scripts some drawn))
+    (account.0, subst (λ h. StaysWithin h slots) (sym account.1) within, subst (IsDrawn scripts slots number account.0.lines) (sym account.1) (by scripts some drawn))
   where
-    by : (scripts : List (List Op)) → 1 ≤ length scripts → IsOfSchedule scripts slots number told history → IsDrawn scripts slots number history
+    by : (scripts : List (List Op)) → 1 ≤ length scripts → IsOfSchedule scripts slots number told history → IsDrawn scripts slots number account.0.lines history
     by [] some drawn = absurd (omega arith)
-    by (script ∷ scripts) some drawn = (told, drawn)
+    by (script ∷ scripts) some drawn = (told, drawn, account.2)
 
 -- the account of a script text, and what is left beside it
 pub run_written : (limit : Option ℕ) (mode : Mode) (scripts : List (List Op)) (slots : ℕ) (input text : List ℕ) (ran : Ran) → IsScriptText input scripts → slots ≡ slots_of limit scripts
-    → (account : IsAccount scripts slots text) × StaysWithin account.history slots × RunsBy mode scripts slots account.history ran
+    → (account : IsAccount scripts slots text) × StaysWithin account.history slots × RunsBy mode scripts slots account.lines account.history ran
     → (writes : Writes (Run limit mode) Done input text) × Leaves (Run limit mode) Done input text writes ran
 run_written limit mode scripts slots input text ran read shared made =
-    let m = subst (λ s. (account : IsAccount scripts s text) × StaysWithin account.history s × RunsBy mode scripts s account.history ran) shared made in
+    let m = subst (λ s. (account : IsAccount scripts s text) × StaysWithin account.history s × RunsBy mode scripts s account.lines account.history ran) shared made in
     by mode m.0 m.1 m.2
   where
     accounts : (account : IsAccount scripts (slots_of limit scripts) text) → StaysWithin account.history (slots_of limit scripts) → AccountsFor limit input text
     accounts account within = record { scripts = scripts; read = read; account = account; never_full = never_full limit scripts text account; within_slots = within }
 
-    by : (mode : Mode) (account : IsAccount scripts (slots_of limit scripts) text) → StaysWithin account.history (slots_of limit scripts) → RunsBy mode scripts (slots_of limit scripts) account.history ran
+    by : (mode : Mode) (account : IsAccount scripts (slots_of limit scripts) text) → StaysWithin account.history (slots_of limit scripts) → RunsBy mode scripts (slots_of limit scripts) account.lines account.history ran
         → (writes : Writes (Run limit mode) Done input text) × Leaves (Run limit mode) Done input text writes ran
-    by (Threads waiter) account within runs = (accounts account within, runs)
+    by (Threads waiter cookies) account within runs = (accounts account within, runs)
     by (Schedule number) account within runs = (record { accounts = accounts account within; drawn = runs.1 }, runs.0)
-
--- the tree of that waiter is what is left
-pub tree_left : (waiter : Waiter) (scripts : List (List Op)) (slots : ℕ) (history : List Update) (table : tree.TableAt) (seat : tree.SeatAt) → 1 ≤ length scripts → IsTreeLeftOf scripts slots history table seat
-    → LeavesTree waiter scripts slots history (tree_with waiter table seat)
-tree_left waiter scripts slots history table seat some left = some_left scripts (tree_with waiter table seat) _ some (table, seat, refl, left)
-
--- the same where that waiter was chosen, beside an account
-pub in_tree : (waiter chosen : Waiter) (scripts : List (List Op)) (slots : ℕ) (table : tree.TableAt) (seat : tree.SeatAt) (text : List ℕ) → waiter ≡ chosen → 1 ≤ length scripts
-    → (account : IsAccount scripts slots text) × StaysWithin account.history slots × IsTreeLeftOf scripts slots account.history table seat
-    → (account : IsAccount scripts slots text) × StaysWithin account.history slots × LeavesTree waiter scripts slots account.history (tree_with chosen table seat)
-in_tree waiter chosen scripts slots table seat text is some made =
-    (made.0, made.1, subst (λ w. LeavesTree w scripts slots made.0.history (tree_with chosen table seat)) (sym is) (tree_left chosen scripts slots made.0.history table seat some made.2))
 
 -- the same of a made workload
 pub made_left : (waiter chosen : Waiter) (scripts : List (List Op)) (table : tree.TableAt) (seat : tree.SeatAt) → waiter ≡ chosen → 1 ≤ length scripts
-    → (history : List Update) × IsTreeLeftOf scripts (default_slots_of scripts) history table seat → LeavesMade waiter scripts (tree_with chosen table seat)
+    → (history : List Update) × IsTreeLeftOf false scripts (default_slots_of scripts) (length scripts) history table seat → LeavesMade waiter scripts (tree_with chosen table seat)
 made_left waiter chosen scripts table seat is some left = record {
   history = left.0;
-  left = subst (λ w. LeavesTree w scripts (default_slots_of scripts) left.0 (tree_with chosen table seat)) (sym is) (tree_left chosen scripts (default_slots_of scripts) left.0 table seat some left.1);
+  left = tree_left waiter chosen false scripts (default_slots_of scripts) (length scripts) left.0 table seat is some left.1;
 }
 
-pub none_within : (slots front : ℕ) → map.len (map_at [] front) ≤ slots
-none_within slots zero = let none = map.len-empty nat_cmp ℕ in omega (arith, none)
-none_within slots (suc front) = let none = map.len-empty nat_cmp ℕ in omega (arith, none)
-
--- Without scripts nothing is left.
-pub none_left : (mode : Mode) (scripts : List (List Op)) (slots : ℕ) (text : List ℕ) → length scripts ≡ 0 → (account : IsAccount scripts slots text) × (account.history ≡ [])
-    → (account : IsAccount scripts slots text) × StaysWithin account.history slots × RunsBy mode scripts slots account.history Nothing
-none_left mode scripts slots text none account =
-    (account.0, subst (λ h. StaysWithin h slots) (sym account.1) (λ front at. none_within slots front), subst (λ h. RunsBy mode scripts slots h Nothing) (sym account.1) (by mode scripts none))
-  where
-    by : (mode : Mode) (scripts : List (List Op)) → length scripts ≡ 0 → RunsBy mode scripts slots [] Nothing
-    by (Threads waiter) [] none = refl
-    by (Schedule number) [] none = (refl, refl)
-    by mode (script ∷ scripts) none = absurd (omega (arith, none))
+-- a run without scripts
+pub runs_nothing : (mode : Mode) (scripts : List (List Op)) (slots : ℕ) (lines : List (List Line)) → length scripts ≡ 0 → RunsBy mode scripts slots lines [] Nothing
+runs_nothing (Threads waiter cookies) [] slots lines none = refl
+runs_nothing (Schedule number) [] slots lines none = (refl, refl)
+runs_nothing mode (script ∷ scripts) slots lines none = absurd (omega (arith, none))
 
 seat_ready : (scripts : List (List Op)) (history : List Update) (table : TableAt) (seat : SeatAt) → LeavesHash scripts history (Hash table seat) → (seat.table ≡ table.id) × IsQuiet seat.view
 seat_ready [] history table seat left = absurd (cc)
@@ -117,26 +129,24 @@ seat_ready (script ∷ scripts) history table seat left =
     let same_seat : left.1 ≡ seat = (let e = left.2 in cc) in
     subst (λ (z : TableAt × SeatAt). (z.1.table ≡ z.0.id) × IsQuiet z.1.view) (λ i. (same_table i, same_seat i)) (left.3.of_table, left.3.quiet)
 
-no_tree : (waiter : Waiter) (scripts : List (List Op)) (slots : ℕ) (history : List Update) (table : TableAt) (seat : SeatAt) → LeavesTree waiter scripts slots history (Hash table seat) → ⊥
-no_tree waiter [] slots history table seat left = absurd (cc)
-no_tree Eer (script ∷ scripts) slots history table seat left = let e = left.2 in absurd (cc)
-no_tree Domain (script ∷ scripts) slots history table seat left = let e = left.2 in absurd (cc)
-no_tree Deer (script ∷ scripts) slots history table seat left = let e = left.2 in absurd (cc)
+no_tree : (waiter : Waiter) (cookies : Bool) (scripts : List (List Op)) (slots places : ℕ) (history : List Update) (table : TableAt) (seat : SeatAt) → LeavesTree waiter cookies scripts slots places history (Hash table seat) → ⊥
+no_tree waiter cookies [] slots places history table seat left = absurd (cc)
+no_tree Eer cookies (script ∷ scripts) slots places history table seat left = let e = left.2 in absurd (cc)
+no_tree Domain cookies (script ∷ scripts) slots places history table seat left = let e = left.2 in absurd (cc)
+no_tree Deer cookies (script ∷ scripts) slots places history table seat left = let e = left.2 in absurd (cc)
 
-no_watched : (waiter : Waiter) (scripts : List (List Op)) (slots : ℕ) (history : List Update) (table : TableAt) (seat : SeatAt) → LeavesWatched waiter scripts slots history (Hash table seat) → ⊥
-no_watched waiter [] slots history table seat left = absurd (cc)
-no_watched Eer (script ∷ scripts) slots history table seat left = let e = left.2 in absurd (cc)
-no_watched Domain (script ∷ scripts) slots history table seat left = let e = left.2 in absurd (cc)
-no_watched Deer (script ∷ scripts) slots history table seat left = let e = left.2 in absurd (cc)
+no_watched : (waiter : Waiter) (scripts : List (List Op)) (slots : ℕ) (history : List Update) (lists : List SnapshotAt) (table : TableAt) (seat : SeatAt) → LeavesWatched waiter scripts slots history lists (Hash table seat) → ⊥
+no_watched waiter [] slots history lists table seat left = absurd (cc)
+no_watched waiter (script ∷ scripts) slots history lists table seat left = no_tree waiter false (script ∷ scripts) _ _ history table seat (left.0, left.1, left.2, left.3)
 
 -- a seat that a run on the hash dictionary leaves may go on
 pub left_ready : (words : List (List ℕ)) (a b c d : Option (List ℕ)) (ran : Ran) (table : TableAt) (seat : SeatAt) → Answered words Done a b c d ran → ran ≡ Hash table seat → (seat.table ≡ table.id) × IsQuiet seat.view
 left_ready words a b c d ran table seat answered is = by answered.command answered.answered.input answered.answered.text answered.answered.answers (subst (Leaves answered.command Done answered.answered.input answered.answered.text answered.answered.answers) is answered.answered.leaves)
   where
     by : (command : Command) (input text : List ℕ) (writes : Writes command Done input text) → Leaves command Done input text writes (Hash table seat) → (seat.table ≡ table.id) × IsQuiet seat.view
-    by (Run slots (Threads waiter)) input text writes left = absurd (no_tree waiter writes.scripts _ _ table seat left)
+    by (Run slots (Threads waiter cookies)) input text writes left = absurd (no_tree waiter cookies writes.scripts _ _ _ table seat left)
     by (Run slots (Schedule number)) input text writes left = absurd (cc)
     by (Check slots) input text writes left = absurd (cc)
-    by (Load number scripts ops waiter) input text writes left = absurd (no_tree waiter _ _ _ table seat left.left)
-    by (Watch low high slots waiter) input text writes left = absurd (no_watched waiter writes.scripts _ _ table seat left)
+    by (Load number scripts ops waiter) input text writes left = absurd (no_tree waiter false _ _ _ _ table seat left.left)
+    by (Watch low high slots waiter) input text writes left = absurd (no_watched waiter writes.scripts _ _ _ table seat left)
     by HashCommand input text writes left = seat_ready writes.scripts writes.account.history table seat left

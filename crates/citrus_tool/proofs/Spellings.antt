@@ -7,7 +7,7 @@ use Rattle.std.proofs.lemmas.List.{append_cancel_left}
 use Rattle.core_state.specs.declared.shape.Waiter.{Waiter}
 use Rattle.core_state.specs.declared.shape.Waiter.TheVariants.{Eer, Domain, Deer}
 use Rattle.citrus_tool.specs.declared.arguments.Argument.{Argument}
-use Rattle.citrus_tool.specs.declared.arguments.Argument.TheVariants.{Slots, Schedule, Waits, Number}
+use Rattle.citrus_tool.specs.declared.arguments.Argument.TheVariants.{Slots, Schedule, Waits, Cookies, Number}
 use Rattle.citrus_tool.specs.Arguments.{IsOption, IsSpelled, waiter_word}
 
 -- words that are seen as bytes, of which the first is known
@@ -116,24 +116,55 @@ slots-waiter x y e = omega (arith, ap (λ w. get_or w 3 0) e)
 schedule-waiter : (x y : List ℕ) → codes "--schedule" ++ x ≡ codes "--waiter" ++ y → ⊥
 schedule-waiter x y e = omega (arith, ap (λ w. get_or w 3 0) e)
 
+slots-cookies : (x y : List ℕ) → codes "--slots" ++ x ≡ codes "--cookies" ++ y → ⊥
+slots-cookies x y e = omega (arith, ap (λ w. get_or w 3 0) e)
+
+schedule-cookies : (x y : List ℕ) → codes "--schedule" ++ x ≡ codes "--cookies" ++ y → ⊥
+schedule-cookies x y e = omega (arith, ap (λ w. get_or w 3 0) e)
+
+waiter-cookies : (x y : List ℕ) → codes "--waiter" ++ x ≡ codes "--cookies" ++ y → ⊥
+waiter-cookies x y e = omega (arith, ap (λ w. get_or w 3 0) e)
+
+-- the first words of an option and of a flag, and of a flag and a number
+no_flag : (name flag v : List ℕ) (f g r s : List (List ℕ)) → f ++ r ≡ g ++ s → IsOption name v f → g ≡ flag ∷ [] → ((x y : List ℕ) → name ++ x ≡ flag ++ y → ⊥) → ⊥
+no_flag name flag v f g r s cut a is apart =
+    let p = begins name v f r a in
+    let e : (name ++ p.0) ∷ p.1 ≡ flag ∷ s = sym p.2 ∙ cut ∙ ap (λ x. x ++ s) is in
+    let same : name ++ p.0 ≡ flag = cc in
+    apart p.0 [] (same ∙ sym (append-nil flag))
+
+flag_or_number : (flag : List ℕ) (n : ℕ) (f g r s : List (List ℕ)) → f ++ r ≡ g ++ s → n < 2 ^ 64 → f ≡ (45 ∷ flag) ∷ [] → g ≡ decimal n ∷ [] → ⊥
+flag_or_number flag n f g r s cut small is number =
+    let e : (45 ∷ flag) ∷ r ≡ decimal n ∷ s = sym (ap (λ x. x ++ r) is) ∙ cut ∙ ap (λ x. x ++ s) number in
+    no_dash n flag small (cc)
+
 -- words begin with one argument at most
 module _ (f g r s : List (List ℕ)) (cut : f ++ r ≡ g ++ s) where
   pub one_spelled : (a b : Argument) → IsSpelled a f → IsSpelled b g → (a ≡ b) × (length f ≡ length g)
   one_spelled (Slots m) (Slots n) p q = let o = one_value f g r s cut (codes "--slots") _ _ p.1 q.1 in (ap Slots (decimal_injective m n p.0 q.0 o.0), o.1)
   one_spelled (Slots m) (Schedule n) p q = absurd (differ _ _ _ _ f g r s cut p.1 q.1 slots-schedule)
   one_spelled (Slots m) (Waits w) p q = absurd (differ _ _ _ _ f g r s cut p.1 q slots-waiter)
+  one_spelled (Slots m) Cookies p q = absurd (no_flag _ _ _ f g r s cut p.1 q slots-cookies)
   one_spelled (Slots m) (Number n) p q = absurd (no_number (codes "-slots") _ n f g r s cut q.0 p.1 q.1)
   one_spelled (Schedule m) (Slots n) p q = absurd (differ _ _ _ _ g f s r (sym cut) q.1 p.1 slots-schedule)
   one_spelled (Schedule m) (Schedule n) p q = let o = one_value f g r s cut (codes "--schedule") _ _ p.1 q.1 in (ap Schedule (decimal_injective m n p.0 q.0 o.0), o.1)
   one_spelled (Schedule m) (Waits w) p q = absurd (differ _ _ _ _ f g r s cut p.1 q schedule-waiter)
+  one_spelled (Schedule m) Cookies p q = absurd (no_flag _ _ _ f g r s cut p.1 q schedule-cookies)
   one_spelled (Schedule m) (Number n) p q = absurd (no_number (codes "-schedule") _ n f g r s cut q.0 p.1 q.1)
   one_spelled (Waits v) (Slots n) p q = absurd (differ _ _ _ _ g f s r (sym cut) q.1 p slots-waiter)
   one_spelled (Waits v) (Schedule n) p q = absurd (differ _ _ _ _ g f s r (sym cut) q.1 p schedule-waiter)
   one_spelled (Waits v) (Waits w) p q = let o = one_value f g r s cut (codes "--waiter") _ _ p q in (ap Waits (waiter_word-injective v w o.0), o.1)
+  one_spelled (Waits v) Cookies p q = absurd (no_flag _ _ _ f g r s cut p q waiter-cookies)
   one_spelled (Waits v) (Number n) p q = absurd (no_number (codes "-waiter") _ n f g r s cut q.0 p q.1)
+  one_spelled Cookies (Slots n) p q = absurd (no_flag _ _ _ g f s r (sym cut) q.1 p slots-cookies)
+  one_spelled Cookies (Schedule n) p q = absurd (no_flag _ _ _ g f s r (sym cut) q.1 p schedule-cookies)
+  one_spelled Cookies (Waits w) p q = absurd (no_flag _ _ _ g f s r (sym cut) q p waiter-cookies)
+  one_spelled Cookies Cookies p q = (refl, ap length p ∙ sym (ap length q))
+  one_spelled Cookies (Number n) p q = absurd (flag_or_number (codes "-cookies") n f g r s cut q.0 p q.1)
   one_spelled (Number m) (Slots n) p q = absurd (no_number (codes "-slots") _ m g f s r (sym cut) p.0 q.1 p.1)
   one_spelled (Number m) (Schedule n) p q = absurd (no_number (codes "-schedule") _ m g f s r (sym cut) p.0 q.1 p.1)
   one_spelled (Number m) (Waits w) p q = absurd (no_number (codes "-waiter") _ m g f s r (sym cut) p.0 q p.1)
+  one_spelled (Number m) Cookies p q = absurd (flag_or_number (codes "-cookies") m g f s r (sym cut) p.0 q p.1)
   one_spelled (Number m) (Number n) p q =
       let e : decimal m ∷ r ≡ decimal n ∷ s = sym (ap (λ x. x ++ r) p.1) ∙ cut ∙ ap (λ x. x ++ s) q.1 in
       (ap Number (decimal_injective m n p.0 q.0 (cc)), ap length p.1 ∙ sym (ap length q.1))
@@ -143,9 +174,11 @@ module _ (W : List (List ℕ)) (P : Type 0)
     (no_slots : (n : ℕ) (first rest : List (List ℕ)) → n < 2 ^ 64 → W ≡ first ++ rest → IsOption (codes "--slots") (decimal n) first → ⊥)
     (no_schedule : (n : ℕ) (first rest : List (List ℕ)) → n < 2 ^ 64 → W ≡ first ++ rest → IsOption (codes "--schedule") (decimal n) first → ⊥)
     (no_waiter : (w : Waiter) (first rest : List (List ℕ)) → W ≡ first ++ rest → IsSpelled (Waits w) first → ⊥)
+    (no_cookies : (first rest : List (List ℕ)) → W ≡ first ++ rest → IsSpelled Cookies first → ⊥)
     (number : (n : ℕ) (first rest : List (List ℕ)) → W ≡ first ++ rest → IsSpelled (Number n) first → P) where
   pub number_left : (argument : Argument) (first rest : List (List ℕ)) → W ≡ first ++ rest → IsSpelled argument first → P
   number_left (Slots n) first rest cut spelled = absurd (no_slots n first rest spelled.0 cut spelled.1)
   number_left (Schedule n) first rest cut spelled = absurd (no_schedule n first rest spelled.0 cut spelled.1)
   number_left (Waits w) first rest cut spelled = absurd (no_waiter w first rest cut spelled)
+  number_left Cookies first rest cut spelled = absurd (no_cookies first rest cut spelled)
   number_left (Number n) first rest cut spelled = number n first rest cut spelled

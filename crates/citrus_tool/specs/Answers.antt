@@ -34,19 +34,25 @@ pub record AccountsFor (slots : Option ℕ) (input text : List ℕ) : Type 0 whe
   pub never_full : slots ≡ None → LacksFull account.lines
   pub within_slots : StaysWithin account.history (slots_of slots scripts)
 
--- The same where the number of a schedule draws which script makes the next step: the history is the one that it draws.
+-- The same where the number of a schedule draws which script makes the next step: the replies and the history are those of the run that
+-- it draws.
 pub record AccountsByDraws (slots : Option ℕ) (number : ℕ) (input text : List ℕ) : Type 0 where
   pub accounts : AccountsFor slots input text
-  pub drawn : IsDrawn accounts.scripts (slots_of slots accounts.scripts) number accounts.account.history
+  pub drawn : IsDrawn accounts.scripts (slots_of slots accounts.scripts) number accounts.account.lines accounts.account.history
+
+-- The input, the slots and the number determine such a text.
+abbrev pub DrawnTextsAreOne : Type 0
+DrawnTextsAreOne = (slots : Option ℕ) (number : ℕ) (input text other_text : List ℕ) → AccountsByDraws slots number input text → AccountsByDraws slots number input other_text → text ≡ other_text
 
 -- what `run` writes of good scripts
 abbrev pub WritesRun : Mode → Option ℕ → List ℕ → List ℕ → Type 0
-WritesRun (Threads waiter) slots input text = AccountsFor slots input text
+WritesRun (Threads waiter cookies) slots input text = AccountsFor slots input text
 WritesRun (Schedule number) slots input text = AccountsByDraws slots number input text
 
 -- what it leaves beside that: in threads the tree on which they ran, by a schedule nothing
 abbrev pub LeavesRun : (mode : Mode) (slots : Option ℕ) (input text : List ℕ) → WritesRun mode slots input text → Ran → Type 0
-LeavesRun (Threads waiter) slots input text accounts ran = LeavesTree waiter accounts.scripts (slots_of slots accounts.scripts) accounts.account.history ran
+LeavesRun (Threads waiter cookies) slots input text accounts ran =
+    LeavesTree waiter cookies accounts.scripts (slots_of slots accounts.scripts) (length accounts.scripts) accounts.account.history ran
 LeavesRun (Schedule number) slots input text accounts ran = ran ≡ Nothing
 
 -- The input has a line that is bad where a text may hold so many scripts. So it is no text of such scripts, and the text tells the
@@ -117,7 +123,7 @@ MayWrite command input text = (status : Status) × Writes command status input t
 abbrev pub Leaves : (command : Command) (status : Status) (input text : List ℕ) → Writes command status input text → Ran → Type 0
 Leaves (Run slots mode) Done input text accounts ran = LeavesRun mode slots input text accounts ran
 Leaves (Load number scripts ops waiter) Done input text writes ran = LeavesMade waiter (made_scripts number scripts ops) ran
-Leaves (Watch low high slots waiter) Done input text watches ran = LeavesWatched waiter watches.scripts (slots_of slots watches.scripts) watches.watch.account.history ran
+Leaves (Watch low high slots waiter) Done input text watches ran = LeavesWatched waiter watches.scripts (slots_of slots watches.scripts) watches.watch.account.history watches.watch.snapshots ran
 Leaves Hash Done input text accounts ran = LeavesHash accounts.scripts accounts.account.history ran
 Leaves _ _ input text writes ran = ran ≡ Nothing
 

@@ -1,6 +1,6 @@
 -- Which words are which command, and how much each reads.
 -- Source: docs/FORMATS.md, "Commands".
-use Rattle.std.specs.Prelude.{◌≡◌, ℕ, ◌*◌, ◌≤◌, List, [], ◌∷◌, Option, Some, None, IfSome, codes}
+use Rattle.std.specs.Prelude.{◌≡◌, ℕ, ◌*◌, ◌≤◌, Bool, false, List, [], ◌∷◌, Option, Some, None, IfSome, codes}
 use Rattle.core_state.specs.declared.shape.Waiter.{Waiter}
 use Rattle.core_state.specs.declared.shape.Waiter.TheVariants.{Eer}
 use Rattle.citrus_tool.specs.declared.arguments.Argument.{Argument}
@@ -22,27 +22,27 @@ command_word Hash = codes "hash"
 
 -- no argument
 abbrev pub no_arguments : Arguments
-no_arguments = record { slots = None; schedule = None; waiter = None; numbers = Zero }
+no_arguments = record { slots = None; schedule = None; waiter = None; cookies = false; numbers = Zero }
 
 -- the waiter that is named, or the first where none is
 abbrev pub chosen : Option Waiter → Waiter
 chosen None = Eer
 chosen (Some waiter) = waiter
 
--- how `run` is to run scripts, by what is given: a schedule, or a waiter that needn't be named
-abbrev pub IsMode : Mode → Option ℕ → Option Waiter → Type 0
-IsMode (Threads waiter) schedule named = (schedule ≡ None) × (waiter ≡ chosen named)
-IsMode (Schedule number) schedule named = (schedule ≡ Some number) × (named ≡ None)
+-- how `run` is to run scripts, by what is given: a schedule, or a waiter that needn't be named, with cookies where the flag stands
+abbrev pub IsMode : Mode → Option ℕ → Option Waiter → Bool → Type 0
+IsMode (Threads waiter cookies) schedule named flag = (schedule ≡ None) × (waiter ≡ chosen named) × (cookies ≡ flag)
+IsMode (Schedule number) schedule named flag = (schedule ≡ Some number) × (named ≡ None) × (flag ≡ false)
 
 -- The arguments are just the command's.
 abbrev pub Suits : Command → Arguments → Type 0
-Suits (Run slots mode) found = (found.slots ≡ slots) × IsMode mode found.schedule found.waiter × (numbers_of found.numbers ≡ [])
-Suits (Check slots) found = (found.slots ≡ slots) × (found.schedule ≡ None) × (found.waiter ≡ None) × (numbers_of found.numbers ≡ [])
+Suits (Run slots mode) found = (found.slots ≡ slots) × IsMode mode found.schedule found.waiter found.cookies × (numbers_of found.numbers ≡ [])
+Suits (Check slots) found = (found.slots ≡ slots) × (found.schedule ≡ None) × (found.waiter ≡ None) × (found.cookies ≡ false) × (numbers_of found.numbers ≡ [])
 Suits (Load number scripts ops waiter) found =
-    (found.slots ≡ None) × (found.schedule ≡ None) × (waiter ≡ chosen found.waiter) × (numbers_of found.numbers ≡ number ∷ scripts ∷ ops ∷ [])
+    (found.slots ≡ None) × (found.schedule ≡ None) × (waiter ≡ chosen found.waiter) × (found.cookies ≡ false) × (numbers_of found.numbers ≡ number ∷ scripts ∷ ops ∷ [])
 Suits (Watch low high slots waiter) found =
-    (found.slots ≡ slots) × (found.schedule ≡ None) × (waiter ≡ chosen found.waiter) × (numbers_of found.numbers ≡ low ∷ high ∷ [])
-Suits Hash found = (found.slots ≡ None) × (found.schedule ≡ None) × (found.waiter ≡ None) × (numbers_of found.numbers ≡ [])
+    (found.slots ≡ slots) × (found.schedule ≡ None) × (waiter ≡ chosen found.waiter) × (found.cookies ≡ false) × (numbers_of found.numbers ≡ low ∷ high ∷ [])
+Suits Hash found = (found.slots ≡ None) × (found.schedule ≡ None) × (found.waiter ≡ None) × (found.cookies ≡ false) × (numbers_of found.numbers ≡ [])
 
 -- a number of slots from 1 on, which with those of 63 more scripts stays within the largest table
 abbrev pub AreSlots : Option ℕ → Type 0

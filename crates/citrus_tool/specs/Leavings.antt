@@ -1,19 +1,22 @@
 -- What a run leaves beside its account.
 -- Source: docs/ARCHITECTURE.md, "A run", and docs/HASH_DICTIONARY.md, "Scripts beside each other on the hash dictionary".
-use Rattle.std.specs.Prelude.{◌≡◌, ℕ, ◌*◌, ◌<◌, ◌≤◌, List, [], ◌∷◌, length}
+use Rattle.std.specs.Prelude.{◌≡◌, ℕ, ◌<◌, ◌≤◌, Bool, false, List, [], ◌∷◌, length}
 use Rattle.prcu_model.specs.declared.operation.Op.{Op}
+use Rattle.prcu_model.specs.declared.operation.Line.{Line}
 use Rattle.prcu_model.specs.declared.operation.Told.{Told}
 use Rattle.prcu_model.specs.declared.operation.Update.{Update}
 use Rattle.prcu_marks.specs.declared.mark.Mark.{Mark}
 use Rattle.prcu_marks.specs.Marks.{updates_of}
 use Rattle.prcu_marks.specs.Runs.{FitsScripts}
 use Rattle.prcu_model.specs.Scripts.{op_count, default_slots_of}
+use Rattle.account_text.specs.Account.{HaveReplies}
 use Rattle.list_laws.specs.Counts.{times}
 use Rattle.core_state.specs.declared.shape.Waiter.{Waiter}
 use Rattle.core_state.specs.declared.shape.Waiter.TheVariants.{Eer, Domain, Deer}
 use Rattle.core_state.specs.views.Views.{places_of}
 use Rattle.seat_table.specs.Gains as tree_gains
 use Rattle.seat_table.specs.Seats as tree
+use Rattle.tree_run.specs.Runs.{tickets_for}
 use Rattle.schedule_run.specs.Schedules.{IsOfSchedule}
 use Rattle.hash_core.specs.Seats.{AnswersFor}
 use Rattle.hash_core.specs.Steps.{IsQuiet}
@@ -36,16 +39,16 @@ abbrev pub LeavesSome : List (List Op) → Ran → Type 0 → Type 0
 LeavesSome [] ran left = ran ≡ Nothing
 LeavesSome (script ∷ scripts) ran left = left
 
--- The tree on which the scripts ran, which has so many slots, a place for each script and four tickets for each operation, and the
--- one seat into which those of all scripts were joined. The seat is quiet, answers for the place of every script, and is informed,
--- so it may go on.
-pub record IsTreeLeftOf (scripts : List (List Op)) (slots : ℕ) (history : List Update) (table : tree.TableAt) (seat : tree.SeatAt) : Type 0 where
+-- The tree on which the scripts ran, which has so many slots and places, and the tickets for their operations, by clients that hold
+-- cookies or don't; and the one seat into which those of all its places were joined. The seat is quiet, answers for every place, and is
+-- informed, so it may go on.
+pub record IsTreeLeftOf (cookies : Bool) (scripts : List (List Op)) (slots places : ℕ) (history : List Update) (table : tree.TableAt) (seat : tree.SeatAt) : Type 0 where
   pub of_table : seat.table ≡ table
   pub slots_are : table.slots ≡ slots
-  pub places : table.places ≡ length scripts
-  pub tickets : table.tickets ≡ 4 * op_count scripts
+  pub places_are : table.places ≡ places
+  pub tickets : table.tickets ≡ tickets_for cookies (op_count scripts)
   pub quiet : tree.IsQuietSeat seat
-  pub answers : (place : ℕ) → place < length scripts → 1 ≤ times place (places_of seat.view)
+  pub answers : (place : ℕ) → place < places → 1 ≤ times place (places_of seat.view)
   pub informed : tree_gains.IsInformed seat.view
   pub marks : AreMarksOf scripts history seat.view.seen
 
@@ -55,24 +58,26 @@ tree_with Eer table seat = OnEer table seat
 tree_with Domain table seat = OnDomain table seat
 tree_with Deer table seat = OnDeer table seat
 
-abbrev pub LeavesTree : Waiter → List (List Op) → ℕ → List Update → Ran → Type 0
-LeavesTree waiter scripts slots history ran =
-    LeavesSome scripts ran ((table : tree.TableAt) × (seat : tree.SeatAt) × (ran ≡ tree_with waiter table seat) × IsTreeLeftOf scripts slots history table seat)
+abbrev pub LeavesTree : Waiter → Bool → List (List Op) → ℕ → ℕ → List Update → Ran → Type 0
+LeavesTree waiter cookies scripts slots places history ran =
+    LeavesSome scripts ran ((table : tree.TableAt) × (seat : tree.SeatAt) × (ran ≡ tree_with waiter table seat) × IsTreeLeftOf cookies scripts slots places history table seat)
 
--- The history is that of the run whose steps the number draws. Without scripts there is no step.
-abbrev pub IsDrawn : List (List Op) → ℕ → ℕ → List Update → Type 0
-IsDrawn [] slots number history = history ≡ []
-IsDrawn (script ∷ scripts) slots number history = (told : List (List Told)) × IsOfSchedule (script ∷ scripts) slots number told history
+-- The replies of the lines and the history are those of the run whose steps the number draws. Without scripts there is no step.
+abbrev pub IsDrawn : List (List Op) → ℕ → ℕ → List (List Line) → List Update → Type 0
+IsDrawn [] slots number lines history = history ≡ []
+IsDrawn (script ∷ scripts) slots number lines history =
+    (told : List (List Told)) × IsOfSchedule (script ∷ scripts) slots number told history × HaveReplies told lines
 
--- In threads the scripts leave the tree of their waiter. By a schedule they leave nothing, and their history is drawn.
-abbrev pub RunsBy : Mode → List (List Op) → ℕ → List Update → Ran → Type 0
-RunsBy (Threads waiter) scripts slots history ran = LeavesTree waiter scripts slots history ran
-RunsBy (Schedule number) scripts slots history ran = (ran ≡ Nothing) × IsDrawn scripts slots number history
+-- In threads the scripts leave the tree of their waiter, with a place for each. By a schedule they leave nothing, and the replies of
+-- their lines and their history are drawn.
+abbrev pub RunsBy : Mode → List (List Op) → ℕ → List (List Line) → List Update → Ran → Type 0
+RunsBy (Threads waiter cookies) scripts slots lines history ran = LeavesTree waiter cookies scripts slots (length scripts) history ran
+RunsBy (Schedule number) scripts slots lines history ran = (ran ≡ Nothing) × IsDrawn scripts slots number lines history
 
 -- A made workload leaves the tree too, with the default slots and some history.
 pub record LeavesMade (waiter : Waiter) (scripts : List (List Op)) (ran : Ran) : Type 0 where
   pub history : List Update
-  pub left : LeavesTree waiter scripts (default_slots_of scripts) history ran
+  pub left : LeavesTree waiter false scripts (default_slots_of scripts) (length scripts) history ran
 
 -- The hash dictionary on which the scripts ran, which has a place for each and a ticket for each operation, and the one seat into which
 -- those of all scripts were joined; none of its marks is a wait's. The seat is quiet, answers for the place of every script, and is

@@ -1,19 +1,16 @@
 -- What `watch` writes of good scripts, and what it leaves.
 -- Source: docs/FORMATS.md, "Watch texts", and docs/ARCHITECTURE.md, "A run".
-use Rattle.std.specs.Prelude.{◌≡◌, ℕ, ◌+◌, ◌*◌, ◌<◌, ◌≤◌, List, length, Option, None}
+use Rattle.std.specs.Prelude.{◌≡◌, ℕ, ◌+◌, false, List, length, Option, None}
 use Rattle.prcu_model.specs.declared.operation.Op.{Op}
 use Rattle.prcu_model.specs.declared.operation.Update.{Update}
-use Rattle.prcu_model.specs.Scripts.{op_count}
 use Rattle.prcu_model.specs.Slots.{LacksFull, StaysWithin}
 use Rattle.script_text.specs.Grammar.{IsScriptTextUpTo}
-use Rattle.list_laws.specs.Counts.{times}
 use Rattle.core_state.specs.declared.shape.Waiter.{Waiter}
-use Rattle.core_state.specs.views.Views.{places_of}
-use Rattle.seat_table.specs.Gains.{IsInformed}
-use Rattle.seat_table.specs.Seats.{TableAt, SeatAt, IsQuietSeat}
+use Rattle.seat_table.specs.Seats.{TableAt, SeatAt}
+use Rattle.range_snapshots.specs.Snapshots.{SnapshotAt, WereLookedAt}
 use Rattle.range_snapshots.specs.WatchText.{IsWatchText}
 use Rattle.citrus_tool.specs.declared.outcome.Ran.{Ran}
-use Rattle.citrus_tool.specs.Leavings.{AreMarksOf, LeavesSome, tree_with}
+use Rattle.citrus_tool.specs.Leavings.{LeavesSome, IsTreeLeftOf, tree_with}
 use Rattle.citrus_tool.specs.Limits.{slots_of}
 
 -- The text is a watch text of the scripts that the input holds, at most 63, with this range. Where no number of slots was given, no line
@@ -25,18 +22,8 @@ pub record WatchesFor (slots : Option ℕ) (low high : ℕ) (input text : List �
   pub never_full : slots ≡ None → LacksFull watch.account.lines
   pub within_slots : StaysWithin watch.account.history (slots_of slots scripts + 20)
 
--- The tree on which the scripts ran, which has twenty slots and one place more than for a run alone, and the one seat into which those of
--- all scripts and of the lists were joined. The seat is quiet, answers for the place of every script, and is informed, so it may go on.
-pub record IsWatchedTreeOf (scripts : List (List Op)) (slots : ℕ) (history : List Update) (table : TableAt) (seat : SeatAt) : Type 0 where
-  pub of_table : seat.table ≡ table
-  pub slots_are : table.slots ≡ slots + 20
-  pub places : table.places ≡ length scripts + 1
-  pub tickets : table.tickets ≡ 4 * op_count scripts
-  pub quiet : IsQuietSeat seat
-  pub answers : (place : ℕ) → place < length scripts → 1 ≤ times place (places_of seat.view)
-  pub informed : IsInformed seat.view
-  pub marks : AreMarksOf scripts history seat.view.seen
-
-abbrev pub LeavesWatched : Waiter → List (List Op) → ℕ → List Update → Ran → Type 0
-LeavesWatched waiter scripts slots history ran =
-    LeavesSome scripts ran ((table : TableAt) × (seat : SeatAt) × (ran ≡ tree_with waiter table seat) × IsWatchedTreeOf scripts slots history table seat)
+-- A watched run leaves the tree too, which has twenty slots and one place more than that of a run alone: those of the lists. The seat keeps
+-- the looks at the front by which that place found the lists that were written.
+abbrev pub LeavesWatched : Waiter → List (List Op) → ℕ → List Update → List SnapshotAt → Ran → Type 0
+LeavesWatched waiter scripts slots history lists ran =
+    LeavesSome scripts ran ((table : TableAt) × (seat : SeatAt) × (ran ≡ tree_with waiter table seat) × IsTreeLeftOf false scripts (slots + 20) (length scripts + 1) history table seat × WereLookedAt (length scripts) seat.view.looks lists)

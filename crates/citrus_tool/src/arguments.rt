@@ -1,5 +1,5 @@
 //! The words after a command's own: options with their values, and numbers.
-ghost use Rattle.std.specs.Prelude.{◌≡◌, ◌+◌, ◌<◌, ◌^◌, ◌≤◌, ◌++◌, [], ◌∷◌, ℕ, List, IfSome, IsSomeAnd, Some, None, length, map, take, string_bytes, option_to_list, codes, decimal, ⊤};
+ghost use Rattle.std.specs.Prelude.{◌≡◌, ◌↔◌, ◌+◌, ◌<◌, ◌^◌, ◌≤◌, ◌++◌, [], ◌∷◌, ℕ, List, IfSome, IsSomeAnd, Some, None, true, false, length, map, take, string_bytes, option_to_list, codes, decimal, ⊤};
 ghost use Rattle.core_state.specs.declared.shape.Waiter as waiter;
 ghost use Rattle.citrus_tool.specs.declared.arguments.Argument.{Argument};
 ghost use Rattle.citrus_tool.specs.declared.arguments.Arguments as found;
@@ -17,6 +17,8 @@ pub enum Argument {
     Schedule { number: u64 },
     /// The option `--waiter` with its waiter.
     Waits { waiter: Waiter },
+    /// The flag `--cookies`.
+    Cookies,
     /// A number by itself.
     Number { number: u64 },
 }
@@ -51,6 +53,7 @@ pub struct Arguments {
     pub slots: Option<u64>,
     pub schedule: Option<u64>,
     pub waiter: Option<Waiter>,
+    pub cookies: bool,
     pub numbers: Numbers,
 }
 
@@ -64,10 +67,12 @@ impl Arguments {
             Argument::Slots { number } => self.with_slots(number),
             Argument::Schedule { number } => self.with_schedule(number),
             Argument::Waits { waiter } => self.with_waiter(waiter),
+            Argument::Cookies => self.with_cookies(),
             Argument::Number { number } => Some(Arguments {
                 slots: self.slots,
                 schedule: self.schedule,
                 waiter: self.waiter,
+                cookies: self.cookies,
                 numbers: self.numbers.with(number)?,
             }),
         }
@@ -84,6 +89,7 @@ impl Arguments {
             slots: Some(number),
             schedule: self.schedule,
             waiter: self.waiter,
+            cookies: self.cookies,
             numbers: self.numbers,
         })
     }
@@ -99,6 +105,7 @@ impl Arguments {
             slots: self.slots,
             schedule: Some(number),
             waiter: self.waiter,
+            cookies: self.cookies,
             numbers: self.numbers,
         })
     }
@@ -114,6 +121,23 @@ impl Arguments {
             slots: self.slots,
             schedule: self.schedule,
             waiter: Some(waiter),
+            cookies: self.cookies,
+            numbers: self.numbers,
+        })
+    }
+
+    fn with_cookies(self) -> Option<Arguments>
+        ensures some { IfSome result (Joins self (Argument.Cookies ∷ [])) }
+        ensures none { self.cookies ≡ false → IsSomeAnd result (λ _. ⊤) }
+    {
+        if self.cookies {
+            return None;
+        }
+        Some(Arguments {
+            slots: self.slots,
+            schedule: self.schedule,
+            waiter: self.waiter,
+            cookies: true,
             numbers: self.numbers,
         })
     }
@@ -202,6 +226,32 @@ fn waiter_at(words: &[String]) -> Option<Next>
     })
 }
 
+// Whether the word is the flag `--cookies`.
+fn is_cookies(word: &[u8]) -> bool
+    ensures { (result ≡ true) ↔ (word.now ≡ codes "--cookies") }
+{
+    match word {
+        b"--cookies" => true,
+        _ => false,
+    }
+}
+
+// The flag `--cookies`, where the words begin with it.
+fn cookies_at(words: &[String]) -> Option<Next>
+    ensures some { IfSome result (λ next. IsSpelled next.argument (take next.taken (map string_bytes words.now))) }
+    ensures within { IfSome result (λ next. (1 ≤ next.taken) × (next.taken ≤ length words.now)) }
+    ensures only { (first rest : List (List ℕ)) → map string_bytes words.now ≡ first ++ rest → IsSpelled Argument.Cookies first
+        → IsSomeAnd result (λ _. ⊤) }
+{
+    if !is_cookies(words.first()?.as_bytes()) {
+        return None;
+    }
+    Some(Next {
+        argument: Argument::Cookies,
+        taken: 1,
+    })
+}
+
 // The number that the words begin with.
 fn number_at(words: &[String]) -> Option<Next>
     ensures some { IfSome result (λ next. IsSpelled next.argument (take next.taken (map string_bytes words.now))) }
@@ -241,6 +291,9 @@ fn next_argument(words: &[String]) -> Option<Next>
         });
     }
     if let Some(next) = waiter_at(words) {
+        return Some(next);
+    }
+    if let Some(next) = cookies_at(words) {
         return Some(next);
     }
     number_at(words)

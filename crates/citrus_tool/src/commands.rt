@@ -13,8 +13,8 @@ use prcu_model::Scripts;
 /// How `run` runs scripts.
 #[derive(Clone, Copy, Debug, PartialEq, Eq)]
 pub enum Mode {
-    /// Each in a thread of its own, on one tree with this waiter.
-    Threads { waiter: Waiter },
+    /// Each in a thread of its own, on one tree with this waiter, by clients that hold cookies or by clients that hold none.
+    Threads { waiter: Waiter, cookies: bool },
     /// In one thread, step by step. The number draws which script makes the next step.
     Schedule { number: u64 },
 }
@@ -81,6 +81,7 @@ pub fn command_of(words: &[String]) -> Option<Command>
         slots: None,
         schedule: None,
         waiter: None,
+        cookies: false,
         numbers: Numbers::Zero,
     };
     let arguments = read_arguments(others, none)?;
@@ -113,17 +114,18 @@ fn waiter_of(arguments: Arguments) -> Waiter
     arguments.waiter.unwrap_or(Waiter::Eer)
 }
 
-// How `run` is to run its scripts: `None` where both a schedule and a waiter are given.
+// How `run` is to run its scripts: `None` where a schedule is given, and a waiter or cookies beside it.
 fn mode_of(arguments: Arguments) -> Option<Mode>
-    ensures some { IfSome result (λ mode. IsMode mode arguments.schedule arguments.waiter) }
-    ensures only { (mode : mode.Mode) → IsMode mode arguments.schedule arguments.waiter → result ≡ Some mode }
+    ensures some { IfSome result (λ mode. IsMode mode arguments.schedule arguments.waiter arguments.cookies) }
+    ensures only { (mode : mode.Mode) → IsMode mode arguments.schedule arguments.waiter arguments.cookies → result ≡ Some mode }
 {
-    match (arguments.schedule, arguments.waiter) {
-        (None, _) => Some(Mode::Threads {
+    match (arguments.schedule, arguments.waiter, arguments.cookies) {
+        (None, _, cookies) => Some(Mode::Threads {
             waiter: waiter_of(arguments),
+            cookies,
         }),
-        (Some(number), None) => Some(Mode::Schedule { number }),
-        (Some(_), Some(_)) => None,
+        (Some(number), None, false) => Some(Mode::Schedule { number }),
+        _ => None,
     }
 }
 
@@ -146,8 +148,13 @@ fn check_of(arguments: Arguments) -> Option<Command>
     ensures some { IfSome result (λ command. (slots : Option ℕ) × (command ≡ Command.Check slots) × Suits command arguments × IsInRange command) }
     ensures only { (slots : Option ℕ) → Suits (Command.Check slots) arguments → AreSlots slots → result ≡ Some (Command.Check slots) }
 {
-    match (arguments.schedule, arguments.waiter, arguments.numbers) {
-        (None, None, Numbers::Zero) => Some(Command::Check {
+    match (
+        arguments.schedule,
+        arguments.waiter,
+        arguments.cookies,
+        arguments.numbers,
+    ) {
+        (None, None, false, Numbers::Zero) => Some(Command::Check {
             slots: slots_of(arguments)?,
         }),
         _ => None,
@@ -163,9 +170,10 @@ fn hash_of(arguments: Arguments) -> Option<Command>
         arguments.slots,
         arguments.schedule,
         arguments.waiter,
+        arguments.cookies,
         arguments.numbers,
     ) {
-        (None, None, None, Numbers::Zero) => Some(Command::Hash),
+        (None, None, None, false, Numbers::Zero) => Some(Command::Hash),
         _ => None,
     }
 }
@@ -180,7 +188,7 @@ fn load_of(arguments: Arguments) -> Option<Command>
     let Numbers::Three(number, scripts, ops) = arguments.numbers else {
         return None;
     };
-    if arguments.slots.is_some() || arguments.schedule.is_some() {
+    if arguments.slots.is_some() || arguments.schedule.is_some() || arguments.cookies {
         return None;
     }
     if scripts == 0 || scripts > u64::from(Scripts::MOST_SCRIPTS) {
@@ -197,7 +205,7 @@ fn load_of(arguments: Arguments) -> Option<Command>
     })
 }
 
-// The range of `watch`, where no schedule stands beside it and the low key isn't above the high one.
+// The range of `watch`, where neither a schedule nor cookies stand beside it and the low key isn't above the high one.
 fn watch_of(arguments: Arguments) -> Option<Command>
     ensures some { IfSome result (λ command. (low high : ℕ) × (slots : Option ℕ) × (waiter : waiter.Waiter) × (command ≡ Command.Watch low high slots waiter)
         × Suits command arguments × IsInRange command) }
@@ -207,7 +215,7 @@ fn watch_of(arguments: Arguments) -> Option<Command>
     let Numbers::Two(low, high) = arguments.numbers else {
         return None;
     };
-    if arguments.schedule.is_some() || low > high {
+    if arguments.schedule.is_some() || arguments.cookies || low > high {
         return None;
     }
     Some(Command::Watch {

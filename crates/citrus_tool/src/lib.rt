@@ -3,6 +3,7 @@
 
 mod arguments;
 mod commands;
+pub mod laws;
 mod outcome;
 mod parts;
 mod running;
@@ -12,5 +13,7 @@ mod treeing;
 mod watching;
 
 pub use commands::{Command, Mode};
+/// The client that `run --cookies` runs.
+pub use cookie_client::CookieClient;
 pub use outcome::{Outcome, Ran, Status};
 pub use top::tool;

@@ -92,12 +92,7 @@ fn run<R: Threads + Wait + Sync, G: Gate + Sync>(
                 ran,
             })
         }
-        Err(ScriptError::Line { number }) => Ok(Answer {
-            status: Status::BadScript,
-            text: bad_line(alloc, number)?,
-            ran: Ran::Nothing,
-        }),
-        Err(ScriptError::NoMemory) => Err(NoMemory),
+        Err(error) => bad_line(alloc, error),
     }
 }
 
@@ -113,13 +108,15 @@ fn run_by<R: Threads + Wait + Sync, G: Gate + Sync>(
 ) -> Result<(Vec<u8>, Ran), NoMemory>
     requires { (1 ≤ slots) × (slots ≤ 2097152) }
     ensures { IfOk result (λ made. (account : IsAccount scripts.now slots made.0.items) × StaysWithin account.history slots
-        × RunsBy mode scripts.now slots account.history made.1) }
+        × RunsBy mode scripts.now slots account.lines account.history made.1) }
 {
     if scripts.count() == 0 {
         return Ok((account_of_none(alloc, scripts, slots)?, Ran::Nothing));
     }
     match mode {
-        Mode::Threads { waiter } => account_in_threads(rt, alloc, scripts, slots, waiter, gate),
+        Mode::Threads { waiter, cookies } => {
+            account_in_threads(rt, alloc, scripts, slots, waiter, cookies, gate)
+        }
         Mode::Schedule { number } => Ok((
             account_by_schedule(rt, alloc, scripts, slots, number)?,
             Ran::Nothing,
@@ -146,7 +143,7 @@ fn account_by_schedule<R: Wait>(
     requires some { 1 ≤ length scripts.now }
     requires slots { (1 ≤ slots) × (slots ≤ 2097152) }
     ensures { IfOk result (λ text. (account : IsAccount scripts.now slots text.items) × StaysWithin account.history slots
-        × IsDrawn scripts.now slots number account.history) }
+        × IsDrawn scripts.now slots number account.lines account.history) }
 {
     let ran = schedule_run::run_scripts(rt, alloc, scripts, slots, number)?;
     make_account(alloc, scripts, &ran.told, &ran.history, slots)
@@ -162,12 +159,7 @@ fn check_claim(alloc: Global, slots: Option<u32>, input: &[u8]) -> Result<Answer
     let (before, account) = parts_of(input);
     match parse(alloc, before) {
         Ok(scripts) => judge(alloc, slots, &scripts, account),
-        Err(ScriptError::Line { number }) => Ok(Answer {
-            status: Status::BadScript,
-            text: bad_line(alloc, number)?,
-            ran: Ran::Nothing,
-        }),
-        Err(ScriptError::NoMemory) => Err(NoMemory),
+        Err(error) => bad_line(alloc, error),
     }
 }
 
@@ -217,12 +209,7 @@ fn hash<R: Threads + Wait + Sync, G: Gate + Sync>(
                 ran,
             })
         }
-        Err(ScriptError::Line { number }) => Ok(Answer {
-            status: Status::BadScript,
-            text: bad_line(alloc, number)?,
-            ran: Ran::Nothing,
-        }),
-        Err(ScriptError::NoMemory) => Err(NoMemory),
+        Err(error) => bad_line(alloc, error),
     }
 }
 
@@ -288,12 +275,7 @@ fn watch<R: Threads + Wait + Sync, G: Gate + Sync>(
                 ran,
             })
         }
-        Err(ScriptError::Line { number }) => Ok(Answer {
-            status: Status::BadScript,
-            text: bad_line(alloc, number)?,
-            ran: Ran::Nothing,
-        }),
-        Err(ScriptError::NoMemory) => Err(NoMemory),
+        Err(error) => bad_line(alloc, error),
     }
 }
 
@@ -320,12 +302,20 @@ fn load<R: Threads + Wait + Sync, G: Gate + Sync>(
     })
 }
 
-// Which line is the first bad one.
-fn bad_line(alloc: Global, number: u32) -> Result<Vec<u8>, NoMemory>
-    ensures { IfOk result (λ text. text.items ≡ codes "bad line " ++ decimal number ++ codes "\n") }
+// The answer to scripts that couldn't be read: which line is the first bad one.
+fn bad_line(alloc: Global, error: ScriptError) -> Result<Answer, NoMemory>
+    ensures { IfOk result (λ answer. (answer.status ≡ Status.BadScript) × (answer.ran ≡ Ran.Nothing)
+        × (number : ℕ) × (error ≡ ScriptError.Line number) × (answer.text.items ≡ codes "bad line " ++ decimal number ++ codes "\n")) }
 {
+    let ScriptError::Line { number } = error else {
+        return Err(NoMemory);
+    };
     let mut text = Vec::from_slice(alloc, b"bad line ")?;
     push_number(&mut text, u64::from(number))?;
     text.push(b'\n')?;
-    Ok(text)
+    Ok(Answer {
+        status: Status::BadScript,
+        text,
+        ran: Ran::Nothing,
+    })
 }

@@ -1,5 +1,5 @@
 //! Scripts that run beside each other on one search tree: what is written of them, and the tree.
-ghost use Rattle.std.specs.Prelude.{◌≡◌, ◌≤◌, List, IfOk, length};
+ghost use Rattle.std.specs.Prelude.{◌≡◌, ◌≤◌, false, List, IfOk, length};
 ghost use Rattle.prcu_model.specs.Slots.{StaysWithin};
 ghost use Rattle.prcu_model.specs.Scripts.{default_slots_of};
 ghost use Rattle.prcu_model.specs.declared.operation.Update.{Update};
@@ -33,51 +33,60 @@ struct Written<W: WaitPart> {
     seat: Seat<W>,
 }
 
-/// Runs the scripts on a tree of this waiter with so many slots: their account, and the tree.
+/// Runs the scripts on a tree of this waiter with so many slots, by clients that hold cookies or by clients that hold none: their
+/// account, and the tree.
 pub(crate) fn account_in_threads<R: Threads + Wait + Sync, G: Gate + Sync>(
     rt: &R,
     alloc: Global,
     scripts: &Scripts,
     slots: u32,
     waiter: Waiter,
+    cookies: bool,
     gate: &G,
 ) -> Result<(Vec<u8>, Ran), NoMemory>
     requires some { 1 ≤ length scripts.now }
     requires slots { (1 ≤ slots) × (slots ≤ 2097152) }
     ensures { IfOk result (λ made. (account : IsAccount scripts.now slots made.0.items) × StaysWithin account.history slots
-        × LeavesTree waiter scripts.now slots account.history made.1) }
+        × LeavesTree waiter cookies scripts.now slots (length scripts.now) account.history made.1) }
 {
     match waiter {
         Waiter::Eer => {
-            let Written { text, table, seat } = account_on(rt, alloc, scripts, slots, gate)?;
+            let Written { text, table, seat } = account_on(
+                rt, alloc, scripts, slots, cookies, gate,
+            )?;
             Ok((text, Ran::Eer { table, seat }))
         }
         Waiter::Domain => {
-            let Written { text, table, seat } = account_on(rt, alloc, scripts, slots, gate)?;
+            let Written { text, table, seat } = account_on(
+                rt, alloc, scripts, slots, cookies, gate,
+            )?;
             Ok((text, Ran::Domain { table, seat }))
         }
         Waiter::Deer => {
-            let Written { text, table, seat } = account_on(rt, alloc, scripts, slots, gate)?;
+            let Written { text, table, seat } = account_on(
+                rt, alloc, scripts, slots, cookies, gate,
+            )?;
             Ok((text, Ran::Deer { table, seat }))
         }
     }
 }
 
 // The same on a tree of the waiter W.
-fn account_on<R: Threads + Wait + Sync, W: WaitPart + Sync, G: Gate + Sync>(
+fn account_on<R: Threads + Wait + Sync, W: WaitPart + Send + Sync, G: Gate + Sync>(
     rt: &R,
     alloc: Global,
     scripts: &Scripts,
     slots: u32,
+    cookies: bool,
     gate: &G,
 ) -> Result<Written<W>, NoMemory>
     requires way { W.WAY ≤ 2 }
     requires some { 1 ≤ length scripts.now }
     requires slots { (1 ≤ slots) × (slots ≤ 2097152) }
     ensures { IfOk result (λ made. (account : IsAccount scripts.now slots made.text.items) × StaysWithin account.history slots
-        × IsTreeLeftOf scripts.now slots account.history made.table made.seat) }
+        × IsTreeLeftOf cookies scripts.now slots (length scripts.now) account.history made.table made.seat) }
 {
-    let ran = run_scripts(rt, alloc, scripts, slots, gate)?;
+    let ran = run_scripts(rt, alloc, scripts, slots, cookies, gate)?;
     let text = make_account(alloc, scripts, &ran.told, &ran.history, slots)?;
     Ok(Written {
         text,
@@ -116,7 +125,7 @@ pub(crate) fn summary_in_threads<R: Threads + Wait + Sync, G: Gate + Sync>(
 }
 
 // The same on a tree of the waiter W.
-fn summary_on<R: Threads + Wait + Sync, W: WaitPart + Sync, G: Gate + Sync>(
+fn summary_on<R: Threads + Wait + Sync, W: WaitPart + Send + Sync, G: Gate + Sync>(
     rt: &R,
     alloc: Global,
     scripts: &Scripts,
@@ -126,9 +135,10 @@ fn summary_on<R: Threads + Wait + Sync, W: WaitPart + Sync, G: Gate + Sync>(
     requires made { IsMade scripts.now }
     requires some { 1 ≤ length scripts.now }
     ensures text { IfOk result (λ made. made.text.items ≡ summary_text (plain_summary scripts.now)) }
-    ensures left { IfOk result (λ made. (history : List Update) × IsTreeLeftOf scripts.now (default_slots_of scripts.now) history made.table made.seat) }
+    ensures left { IfOk result (λ made. (history : List Update)
+        × IsTreeLeftOf false scripts.now (default_slots_of scripts.now) (length scripts.now) history made.table made.seat) }
 {
-    let ran = run_scripts(rt, alloc, scripts, default_slots(scripts), gate)?;
+    let ran = run_scripts(rt, alloc, scripts, default_slots(scripts), false, gate)?;
     let summary = summary_of(alloc, scripts, &ran.told, &ran.history)?;
     Ok(Written {
         text: write_summary(alloc, &summary)?,

@@ -1,8 +1,10 @@
 //! Scripts that run beside each other on one search tree, and lists of a key range beside them: what is written of both, and the tree.
-ghost use Rattle.std.specs.Prelude.{◌≡◌, ◌+◌, ◌≤◌, IfOk, length};
+ghost use Rattle.std.specs.Prelude.{◌≡◌, ◌+◌, ◌≤◌, false, IfOk, length};
 ghost use Rattle.prcu_model.specs.Slots.{StaysWithin};
+ghost use Rattle.range_snapshots.specs.Snapshots.{WereLookedAt};
 ghost use Rattle.range_snapshots.specs.WatchText.{IsWatchText};
-ghost use Rattle.citrus_tool.specs.Watching.{IsWatchedTreeOf, LeavesWatched};
+ghost use Rattle.citrus_tool.specs.Leavings.{IsTreeLeftOf};
+ghost use Rattle.citrus_tool.specs.Watching.{LeavesWatched};
 
 use crate::outcome::Ran;
 use core_state::shape::Waiter;
@@ -38,7 +40,7 @@ pub(crate) fn watch_in_threads<R: Threads + Wait + Sync, G: Gate + Sync>(
     requires few { length scripts.now ≤ 63 }
     requires slots { (1 ≤ slots) × (slots ≤ 2097132) }
     ensures { IfOk result (λ made. (watch : IsWatchText scripts.now slots keys.low keys.high made.0.items)
-        × StaysWithin watch.account.history (slots + 20) × LeavesWatched waiter scripts.now slots watch.account.history made.1) }
+        × StaysWithin watch.account.history (slots + 20) × LeavesWatched waiter scripts.now slots watch.account.history watch.snapshots made.1) }
 {
     if scripts.count() == 0 {
         let none = Snapshots::empty(alloc)?;
@@ -62,7 +64,7 @@ pub(crate) fn watch_in_threads<R: Threads + Wait + Sync, G: Gate + Sync>(
 }
 
 // The same on a tree of the waiter W.
-fn watch_on<R: Threads + Wait + Sync, W: WaitPart + Sync, G: Gate + Sync>(
+fn watch_on<R: Threads + Wait + Sync, W: WaitPart + Send + Sync, G: Gate + Sync>(
     rt: &R,
     alloc: Global,
     scripts: &Scripts,
@@ -74,7 +76,9 @@ fn watch_on<R: Threads + Wait + Sync, W: WaitPart + Sync, G: Gate + Sync>(
     requires scripts { (1 ≤ length scripts.now) × (length scripts.now ≤ 63) }
     requires slots { (1 ≤ slots) × (slots ≤ 2097132) }
     ensures { IfOk result (λ made. (watch : IsWatchText scripts.now slots keys.low keys.high made.text.items)
-        × StaysWithin watch.account.history (slots + 20) × IsWatchedTreeOf scripts.now slots watch.account.history made.table made.seat) }
+        × StaysWithin watch.account.history (slots + 20)
+        × IsTreeLeftOf false scripts.now (slots + 20) (length scripts.now + 1) watch.account.history made.table made.seat
+        × WereLookedAt (length scripts.now) made.seat.view.looks watch.snapshots) }
 {
     let ran = run_watched(rt, alloc, scripts, slots, keys, gate)?;
     let text = make_watch_text(

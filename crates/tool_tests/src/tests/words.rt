@@ -72,7 +72,18 @@ citrus run --waiter=
 citrus run --waiter=e
 citrus run --waiter Deer
 citrus run --waiter d --waiter=d
-citrus run --cookies
+citrus run --cookies --cookies
+citrus run --cookies=
+citrus run --cookies=1
+citrus run --cookies 1
+citrus run --cookie
+citrus run --cookies --schedule=7
+citrus run --schedule 7 --cookies
+citrus --cookies run
+citrus check --cookies
+citrus hash --cookies
+citrus load 1 2 3 --cookies
+citrus watch 0 1 --cookies
 citrus check --waiter d
 citrus check --schedule=1
 citrus hash --waiter=eer
@@ -104,6 +115,9 @@ fn options_stand_in_either_form(rt: HostRuntime) -> Result<(), Fail> {
 citrus run --slots=2095892|script;|script 0;history 0;final 0;end;
 citrus run --schedule=18446744073709551615 --slots 1|script;|script 0;history 0;final 0;end;
 citrus run --slots=1 --waiter d|script;|script 0;history 0;final 0;end;
+citrus run --cookies|script;|script 0;history 0;final 0;end;
+citrus run --waiter d --cookies --slots 5|script;|script 0;history 0;final 0;end;
+citrus run --slots=5 --cookies|script;|script 0;history 0;final 0;end;
 citrus load 1 --waiter deer 2 0|script;|scripts 2;ops 0;new 0;old 0;val 0;none 0;gone 0;size 0;keys 0;values 0;end;
 citrus load 18446744073709551615 64 0|script;|scripts 64;ops 0;new 0;old 0;val 0;none 0;gone 0;size 0;keys 0;values 0;end;",
     )?;

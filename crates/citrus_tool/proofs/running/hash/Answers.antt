@@ -1,5 +1,6 @@
-use Rattle.std.proofs.Common.{None, Err, refl, ap, arith}
-use Rattle.citrus_tool.proofs.LineCount.{TellsBadLine-made}
+use Rattle.std.proofs.Common.{None, refl, arith}
+use Rattle.citrus_tool.specs.declared.commands.Command.TheVariants.{Hash}
+use Rattle.citrus_tool.proofs.BadLines.{refused}
 use Rattle.citrus_tool.proofs.SlotCounts.{never_full, within_default}
 use Rattle.citrus_tool.proofs.running.hash.Goals as goal
 
@@ -12,10 +13,6 @@ returns-in_ok-text-in-Ok g c =
       c.in_ok-text-in-Ok.ensures.1,
     )
 
-pub returns-in_ok-bad_line-in-Err-Line : goal.returns-in_ok-bad_line-in-Err-Line
-returns-in_ok-bad_line-in-Err-Line g c =
-    let told = ap Err c.in-Err-Line.field-0-is in (
-      TellsBadLine-made c.args.input.now c.in_ok-bad_line-in-Err-Line.field-0.items c.in-Err-Line.number (omega arith)
-          (c.in-Err-Line.ensures.line c.in-Err-Line.number told) (c.in-Err-Line.ensures.none c.in-Err-Line.number told) (rw c.in-Err-Line.number-is at c.in_ok-bad_line-in-Err-Line.ensures),
-      refl,
-    )
+pub returns-in-Err : goal.returns-in-Err
+returns-in-Err g c =
+    refused 64 c.args.input.now c.in-Err.error (omega arith) c.in-Err.ensures.line c.in-Err.ensures.none Hash c.bad_line.result (λ text bad. (bad, refl)) c.bad_line.ensures

@@ -1,16 +1,11 @@
-use Rattle.std.proofs.Common.{sym, subst, ◌∙◌, arith}
-use Rattle.prcu_model.specs.Lists.{entries_of}
-use Rattle.prcu_model.specs.Fronts.{AreExplainable}
-use Rattle.citrus_tool.proofs.Leavings.{left_beside}
+use Rattle.std.proofs.Common.{sym, ◌∙◌, arith}
+use Rattle.citrus_tool.proofs.Leavings.{explained_as, left_beside}
 use Rattle.citrus_tool.proofs.running.hash_scripts.Goals as goal
 
 pub make_account-requires-clause-explained : goal.make_account-requires-clause-explained
 make_account-requires-clause-explained g c =
-    let scripts = c.args.scripts.now in
     let slots = c.default_slots-2.result in
-    subst (λ told. AreExplainable scripts (entries_of told) c.deref-2.result.now slots) (sym c.deref.ensures.value)
-    (subst (λ history. AreExplainable scripts (entries_of c.in_ok-ended.ended.told.items) history slots) (sym c.deref-2.ensures.value)
-    (c.in_ok-ended.ensures.explained slots))
+    explained_as c.args.scripts.now _ _ _ _ slots c.deref.ensures.value c.deref-2.ensures.value (c.in_ok-ended.ensures.explained slots)
 
 pub returns : goal.returns
 returns g c =
@@ -21,4 +16,4 @@ returns g c =
     (omega (arith, c.count.ensures.count, c.if-count-eq0.false))
     c.default_slots-2.ensures
     (record { of_table = e.seat; capacities = e.capacities; places = e.places; tickets = e.tickets; quiet = e.quiet; answers = e.answers; informed = e.informed; marks = record { fits = e.marks; updates = sym (c.deref-2.ensures.value ∙ e.history) }; waits = e.waits })
-    c.in_ok-text.ensures
+    (c.in_ok-text.ensures.0, c.in_ok-text.ensures.1)
