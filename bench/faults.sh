@@ -83,6 +83,7 @@ printf '%s\n' script 'put 5 50' 'put 2 20' 'put 8 80' 'put 6 60' 'put 9 90' 'del
 
 for waiter in eer d deer; do
     words="run --waiter $waiter" input=$out/scripts always=0 && try
+    words="run --cookies --waiter $waiter" input=$out/scripts always=0 && try
     words="load 1 2 100 --waiter=$waiter" input=/dev/null always=0 threads=yes && try
     threads=
 done

@@ -1,7 +1,7 @@
 #!/usr/bin/env bash
 # Runs drawn script texts, and has each account checked: `generated.sh [COMMAND [WORD..]]`. Without words the commands are `run` with each
-# waiter, in half of the texts with few slots, `run` by a schedule, and `hash`; else it is the one that the words are, as
-# `run --slots 3`. A text has 2 to 64 scripts on few keys, so that threads meet.
+# waiter, with cookies and without, in half of the texts with few slots, `run` by a schedule, and `hash`; else it is the one that the words
+# are, as `run --slots 3`. A text has 2 to 64 scripts on few keys, so that threads meet.
 # TEXTS says how many texts there are, TIMES how often each is run. The script fails unless `check` says `yes` each time.
 # It stands outside the gate.
 set -eu
@@ -40,6 +40,7 @@ for ((number = 1; number <= texts; number++)); do
             [ $((number % 2)) = 0 ] || few=("--slots=$((number % 7 + 1))")
             for waiter in eer d deer; do
                 checked "$number" run "--waiter=$waiter" "${few[@]}"
+                checked "$number" run --cookies "--waiter=$waiter" "${few[@]}"
             done
             checked "$number" run "--schedule=$((1000 * number + time))" "${few[@]}"
             checked "$number" hash

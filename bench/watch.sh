@@ -1,7 +1,7 @@
 #!/usr/bin/env bash
 # Watches drawn script texts of 2 to 8 scripts, with each waiter in turn, and has each list judged by a replay of the account's history
-# (watched.cpp), and the account by `check`. TEXTS says how many texts there are. The script fails at the first text that isn't right. It
-# stands outside the gate.
+# (watched.cpp), and the account by `check`. TEXTS says how many texts there are. The script fails at the first text that isn't right, and where
+# no list of all of them stands between nothing and the whole history. It stands outside the gate.
 set -eu
 # shellcheck source=bench/built.sh
 . "$(dirname "$0")/built.sh"
@@ -23,4 +23,5 @@ for ((number = 1; done < texts; number++)); do
     [ "$("$citrus" check <"$out/claim")" = yes ] || fail "the account isn't one; it stands in $out/claim"
     done=$((done + 1))
 done
+[ "$between" -gt 0 ] || { echo "watch.sh: no list of all $texts texts stood between nothing and the whole history" >&2; exit 1; }
 echo "$texts texts, each with four lists that are right; $between of the lists stood between nothing and the whole history"
