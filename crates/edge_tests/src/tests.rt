@@ -1,6 +1,6 @@
 //! The sources and the sinks through their traits: whole texts in pieces, with faults in between.
 
-use crate::{
+use io_edge::{
     Failed, MemorySink, MemorySource, NullSink, ReadError, Sink, Source, StdSink, StdSource,
     SteadySource, WriteFault, read_all, write_all,
 };

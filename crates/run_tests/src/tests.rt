@@ -2,7 +2,7 @@
 ghost use Rattle.std.specs.Prelude.{◌≡◌, ◌^◌, ◌<◌, length, IfOk, vec_len};
 ghost use Rattle.client_run.specs.Workers.{AreReadyFor};
 
-use crate::{Worker, merge, run_all};
+use client_run::{Worker, merge, run_all};
 use prcu_marks::Client;
 use prcu_model::{NoMemory, Op, Reply, Scripts, Told, ToldList, Update};
 use std::alloc::Global;
