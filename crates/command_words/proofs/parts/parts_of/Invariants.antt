@@ -1,6 +1,6 @@
 use Rattle.std.proofs.Common.{◌-◌, length}
-use Rattle.citrus_tool.proofs.InputParts.{CutAt}
-use Rattle.citrus_tool.proofs.parts.parts_of.Given as goal
+use Rattle.command_words.proofs.InputParts.{CutAt}
+use Rattle.command_words.proofs.parts.parts_of.Given as goal
 
 abbrev pub invariant-loop-line : goal.invariant-loop-line
 invariant-loop-line l = CutAt l.input l.at

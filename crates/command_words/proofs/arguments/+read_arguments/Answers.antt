@@ -1,8 +1,8 @@
 use Rattle.std.proofs.Common.{◌≡◌, [], map, length, string_bytes, ap, arith}
 use Rattle.std.proofs.lemmas.Bool.Decides.{nat_tests}
 use Rattle.std.proofs.lemmas.List.{take_rest, drop-map, length-map, nil_from_length}
-use Rattle.citrus_tool.proofs.Joining.{none_found, not_spelled, not_followed, read_others, AreSpelled-more}
-use Rattle.citrus_tool.proofs.arguments.+read_arguments.Goals as goal
+use Rattle.command_words.proofs.Joining.{none_found, not_spelled, not_followed, read_others, AreSpelled-more}
+use Rattle.command_words.proofs.arguments.+read_arguments.Goals as goal
 
 pub returns-then-is_empty-clause-only : goal.returns-then-is_empty-clause-only
 returns-then-is_empty-clause-only t c =

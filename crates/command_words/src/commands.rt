@@ -1,10 +1,10 @@
 //! The words after the program's name.
 ghost use Rattle.std.specs.Prelude.{◌≡◌, ◌↔◌, ℕ, ◌*◌, ◌≤◌, ◌∷◌, [], IsTrue, IfSome, Some, None, Option, map, string_bytes};
 ghost use Rattle.core_state.specs.declared.shape.Waiter as waiter;
-ghost use Rattle.citrus_tool.specs.declared.commands.Command as command;
-ghost use Rattle.citrus_tool.specs.declared.commands.Mode as mode;
-ghost use Rattle.citrus_tool.specs.Arguments.{numbers_of};
-ghost use Rattle.citrus_tool.specs.Commands.{Asks, AreSlots, IsInRange, IsMode, Suits, chosen};
+ghost use Rattle.command_words.specs.declared.commands.Command as command;
+ghost use Rattle.command_words.specs.declared.commands.Mode as mode;
+ghost use Rattle.command_words.specs.Arguments.{numbers_of};
+ghost use Rattle.command_words.specs.Commands.{Asks, AreSlots, IsInRange, IsMode, Suits, chosen};
 
 use crate::arguments::{Arguments, Numbers, read_arguments};
 use core_state::shape::Waiter;
@@ -54,7 +54,7 @@ pub enum Command {
 
 impl Command {
     ghost use Rattle.std.specs.Prelude.{◌≡◌};
-    ghost use Rattle.citrus_tool.specs.Commands.{limit_of};
+    ghost use Rattle.command_words.specs.Commands.{limit_of};
 
     /// The most bytes that the command reads.
     pub fn limit(self) -> u64

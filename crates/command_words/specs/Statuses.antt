@@ -1,8 +1,8 @@
 -- The exit statuses.
 -- Source: docs/FORMATS.md, "Statuses".
 use Rattle.std.specs.Prelude.{ℕ}
-use Rattle.citrus_tool.specs.declared.outcome.Status.{Status}
-use Rattle.citrus_tool.specs.declared.outcome.Status.TheVariants.{Done, Refused, Usage, BadScript, ReadFault, WriteFault, NoMemory, TooLong}
+use Rattle.command_words.specs.declared.statuses.Status.{Status}
+use Rattle.command_words.specs.declared.statuses.Status.TheVariants.{Done, Refused, Usage, BadScript, ReadFault, WriteFault, NoMemory, TooLong}
 
 abbrev pub exit_status : Status → ℕ
 exit_status Done = 0

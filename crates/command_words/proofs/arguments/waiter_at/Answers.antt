@@ -1,5 +1,5 @@
-use Rattle.citrus_tool.specs.Arguments.{waiter_word}
-use Rattle.citrus_tool.proofs.arguments.waiter_at.Goals as goal
+use Rattle.command_words.specs.Arguments.{waiter_word}
+use Rattle.command_words.proofs.arguments.waiter_at.Goals as goal
 
 pub returns-in_err-option-clause-only : goal.returns-in_err-option-clause-only
 returns-in_err-option-clause-only c = λ waiter first rest cut spelled. absurd (c.in_err-option.ensures.only (waiter_word waiter) first rest cut spelled)

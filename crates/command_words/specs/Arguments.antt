@@ -3,11 +3,11 @@
 use Rattle.std.specs.Prelude.{◌≡◌, ◌⊎◌, ℕ, ◌^◌, ◌<◌, Bool, true, false, List, [], ◌∷◌, ◌++◌, codes, decimal, option_to_list}
 use Rattle.core_state.specs.declared.shape.Waiter.{Waiter}
 use Rattle.core_state.specs.declared.shape.Waiter.TheVariants.{Eer, Domain, Deer}
-use Rattle.citrus_tool.specs.declared.arguments.Argument.{Argument}
-use Rattle.citrus_tool.specs.declared.arguments.Argument.TheVariants.{Slots, Schedule, Waits, Cookies, Number}
-use Rattle.citrus_tool.specs.declared.arguments.Numbers.{Numbers}
-use Rattle.citrus_tool.specs.declared.arguments.Numbers.TheVariants.{Zero, One, Two, Three}
-use Rattle.citrus_tool.specs.declared.arguments.Arguments.{Arguments}
+use Rattle.command_words.specs.declared.arguments.Argument.{Argument}
+use Rattle.command_words.specs.declared.arguments.Argument.TheVariants.{Slots, Schedule, Waits, Cookies, Number}
+use Rattle.command_words.specs.declared.arguments.Numbers.{Numbers}
+use Rattle.command_words.specs.declared.arguments.Numbers.TheVariants.{Zero, One, Two, Three}
+use Rattle.command_words.specs.declared.arguments.Arguments.{Arguments}
 
 -- An option is its name and its value, as two words or joined by `=`. A flag is its name alone.
 abbrev pub IsOption : List ℕ → List ℕ → List (List ℕ) → Type 0

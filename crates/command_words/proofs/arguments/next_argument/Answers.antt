@@ -1,6 +1,6 @@
 use Rattle.std.proofs.Common.{map, string_bytes}
-use Rattle.citrus_tool.proofs.Spellings.{number_left}
-use Rattle.citrus_tool.proofs.arguments.next_argument.Goals as goal
+use Rattle.command_words.proofs.Spellings.{number_left}
+use Rattle.command_words.proofs.arguments.next_argument.Goals as goal
 
 pub returns-clause-only : goal.returns-clause-only
 returns-clause-only c =

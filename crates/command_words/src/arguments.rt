@@ -1,9 +1,9 @@
 //! The words after a command's own: options with their values, and numbers.
 ghost use Rattle.std.specs.Prelude.{◌≡◌, ◌↔◌, ◌+◌, ◌<◌, ◌^◌, ◌≤◌, ◌++◌, [], ◌∷◌, ℕ, List, IfSome, IsSomeAnd, Some, None, true, false, length, map, take, string_bytes, option_to_list, codes, decimal, ⊤};
 ghost use Rattle.core_state.specs.declared.shape.Waiter as waiter;
-ghost use Rattle.citrus_tool.specs.declared.arguments.Argument.{Argument};
-ghost use Rattle.citrus_tool.specs.declared.arguments.Arguments as found;
-ghost use Rattle.citrus_tool.specs.Arguments.{IsOption, IsSpelled, AreSpelled, waiter_word, numbers_of, Joins};
+ghost use Rattle.command_words.specs.declared.arguments.Argument.{Argument};
+ghost use Rattle.command_words.specs.declared.arguments.Arguments as found;
+ghost use Rattle.command_words.specs.Arguments.{IsOption, IsSpelled, AreSpelled, waiter_word, numbers_of, Joins};
 
 use core_state::shape::Waiter;
 use script_text::read_number;

@@ -6,7 +6,7 @@ use Rattle.std.proofs.lemmas.Bool.Decides.{eqb_tells}
 use Rattle.script_text.specs.Lines.{lines_of, onto_first}
 use Rattle.script_text.specs.Split.{Lacks, IsParted}
 use Rattle.script_text.proofs.CutLines.{lines_of-parted, lines_of-last, ended}
-use Rattle.citrus_tool.specs.Parts.{LacksAccount, IsEnded, HasParts}
+use Rattle.command_words.specs.Parts.{LacksAccount, IsEnded, HasParts}
 
 lines_of-some : (bytes : List ℕ) → 0 < length bytes → 0 < length (lines_of bytes)
 lines_of-some [] some = absurd (omega arith)

@@ -3,13 +3,13 @@ use Rattle.std.proofs.Common.{◌≡◌, ℕ, ◌≤◌, Bool, true, false, List
 use Rattle.std.proofs.lemmas.List.{take-append-drop, length-take-le}
 use Rattle.std.proofs.Math.Seq.{drop-append_seam}
 use Rattle.std.specs.Option.{option_to_list}
-use Rattle.citrus_tool.specs.declared.arguments.Argument.{Argument}
-use Rattle.citrus_tool.specs.declared.arguments.Argument.TheVariants.{Slots, Schedule, Waits, Cookies, Number}
-use Rattle.citrus_tool.specs.declared.arguments.Arguments.{Arguments}
-use Rattle.citrus_tool.specs.declared.arguments.Numbers.{Numbers}
-use Rattle.citrus_tool.specs.declared.arguments.Numbers.TheVariants.{Zero, One, Two, Three}
-use Rattle.citrus_tool.specs.Arguments.{IsOption, IsSpelled, AreSpelled, numbers_of, among, slots_in, schedules_in, waiters_in, cookies_in, flag_list, numbers_in, Joins}
-use Rattle.citrus_tool.proofs.Spellings.{one_spelled}
+use Rattle.command_words.specs.declared.arguments.Argument.{Argument}
+use Rattle.command_words.specs.declared.arguments.Argument.TheVariants.{Slots, Schedule, Waits, Cookies, Number}
+use Rattle.command_words.specs.declared.arguments.Arguments.{Arguments}
+use Rattle.command_words.specs.declared.arguments.Numbers.{Numbers}
+use Rattle.command_words.specs.declared.arguments.Numbers.TheVariants.{Zero, One, Two, Three}
+use Rattle.command_words.specs.Arguments.{IsOption, IsSpelled, AreSpelled, numbers_of, among, slots_in, schedules_in, waiters_in, cookies_in, flag_list, numbers_in, Joins}
+use Rattle.command_words.proofs.Spellings.{one_spelled}
 
 no_option : (name value : List ℕ) (first : List (List ℕ)) → IsOption name value first → first ≡ [] → ⊥
 no_option name value first (inl two) none = let e = sym none ∙ two in absurd (cc)

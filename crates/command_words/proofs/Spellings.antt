@@ -6,9 +6,9 @@ use Rattle.std.proofs.lemmas.Fmt.{decimal_digit, first_decimal, decimal_injectiv
 use Rattle.std.proofs.lemmas.List.{append_cancel_left}
 use Rattle.core_state.specs.declared.shape.Waiter.{Waiter}
 use Rattle.core_state.specs.declared.shape.Waiter.TheVariants.{Eer, Domain, Deer}
-use Rattle.citrus_tool.specs.declared.arguments.Argument.{Argument}
-use Rattle.citrus_tool.specs.declared.arguments.Argument.TheVariants.{Slots, Schedule, Waits, Cookies, Number}
-use Rattle.citrus_tool.specs.Arguments.{IsOption, IsSpelled, waiter_word}
+use Rattle.command_words.specs.declared.arguments.Argument.{Argument}
+use Rattle.command_words.specs.declared.arguments.Argument.TheVariants.{Slots, Schedule, Waits, Cookies, Number}
+use Rattle.command_words.specs.Arguments.{IsOption, IsSpelled, waiter_word}
 
 -- words that are seen as bytes, of which the first is known
 module _ {S : Type 0} (seen : S → List ℕ) (words : List S) (word : S) (others : List S) (split : words ≡ word ∷ others) (bytes : List ℕ) (is : bytes ≡ seen word) where

@@ -1,14 +1,14 @@
 //! How many slots scripts share.
 ghost use Rattle.std.specs.Prelude.{◌≡◌, ◌≤◌, length};
 ghost use Rattle.prcu_model.specs.Scripts.{default_slots_of};
-ghost use Rattle.citrus_tool.specs.Commands.{AreSlots};
-ghost use Rattle.citrus_tool.specs.Limits.{slots_of};
+ghost use Rattle.command_words.specs.Commands.{AreSlots};
+ghost use Rattle.command_words.specs.Limits.{slots_of};
 
 use prcu_model::Scripts;
 
 /// Those that were given and twenty more for each script but the first, or the default. With a script fewer than there may be, the
 /// largest table has twenty more.
-pub(crate) fn slots_for(slots: Option<u32>, scripts: &Scripts) -> u32
+pub fn slots_for(slots: Option<u32>, scripts: &Scripts) -> u32
     requires { AreSlots slots }
     ensures shared { result ≡ slots_of slots scripts.now }
     ensures range { (1 ≤ result) × (result ≤ 2097152) }
@@ -21,7 +21,7 @@ pub(crate) fn slots_for(slots: Option<u32>, scripts: &Scripts) -> u32
 }
 
 /// The slots of a run that isn't given a number. The largest table has more.
-pub(crate) fn default_slots(scripts: &Scripts) -> u32
+pub fn default_slots(scripts: &Scripts) -> u32
     ensures default { result ≡ default_slots_of scripts.now }
     ensures range { (1 ≤ result) × (result ≤ 1049856) }
 {

@@ -3,14 +3,14 @@
 use Rattle.std.specs.Prelude.{◌≡◌, ℕ, ◌*◌, ◌≤◌, Bool, false, List, [], ◌∷◌, Option, Some, None, IfSome, codes}
 use Rattle.core_state.specs.declared.shape.Waiter.{Waiter}
 use Rattle.core_state.specs.declared.shape.Waiter.TheVariants.{Eer}
-use Rattle.citrus_tool.specs.declared.arguments.Argument.{Argument}
-use Rattle.citrus_tool.specs.declared.arguments.Arguments.{Arguments}
-use Rattle.citrus_tool.specs.declared.arguments.Numbers.TheVariants.{Zero}
-use Rattle.citrus_tool.specs.declared.commands.Command.{Command}
-use Rattle.citrus_tool.specs.declared.commands.Command.TheVariants.{Run, Check, Load, Watch, Hash}
-use Rattle.citrus_tool.specs.declared.commands.Mode.{Mode}
-use Rattle.citrus_tool.specs.declared.commands.Mode.TheVariants.{Threads, Schedule}
-use Rattle.citrus_tool.specs.Arguments.{AreSpelled, Joins, numbers_of}
+use Rattle.command_words.specs.declared.arguments.Argument.{Argument}
+use Rattle.command_words.specs.declared.arguments.Arguments.{Arguments}
+use Rattle.command_words.specs.declared.arguments.Numbers.TheVariants.{Zero}
+use Rattle.command_words.specs.declared.commands.Command.{Command}
+use Rattle.command_words.specs.declared.commands.Command.TheVariants.{Run, Check, Load, Watch, Hash}
+use Rattle.command_words.specs.declared.commands.Mode.{Mode}
+use Rattle.command_words.specs.declared.commands.Mode.TheVariants.{Threads, Schedule}
+use Rattle.command_words.specs.Arguments.{AreSpelled, Joins, numbers_of}
 
 -- the first word of a command
 abbrev pub command_word : Command → List ℕ

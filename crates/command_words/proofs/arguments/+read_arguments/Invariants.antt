@@ -1,5 +1,5 @@
 use Rattle.std.proofs.Common.{length}
-use Rattle.citrus_tool.proofs.arguments.+read_arguments.Given as goal
+use Rattle.command_words.proofs.arguments.+read_arguments.Given as goal
 
 -- each argument takes a word at least
 abbrev pub decreases-read_arguments : goal.decreases-read_arguments
