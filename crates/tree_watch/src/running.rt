@@ -64,6 +64,7 @@ pub fn run_watched<R: Threads + Wait + Sync, W: WaitPart + Send + Sync, G: Gate 
     requires way { W.WAY ≤ 2 }
     requires scripts { (1 ≤ length scripts.now) × (length scripts.now ≤ 63) }
     requires slots { (1 ≤ slots) × (slots ≤ 2097132) }
+    ensures run { IfOk result (λ run. HasRun W.WAY false run.table scripts.now run.told.items run.seat) }
     ensures explained { IfOk result (λ run. AreExplainable scripts.now (entries_of run.told.items) run.history.items slots) }
     ensures legal { IfOk result (λ run. IsLegal run.history.items) }
     ensures within { IfOk result (λ run. StaysWithin run.history.items (slots + 20)) }
