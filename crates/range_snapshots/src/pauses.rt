@@ -3,8 +3,7 @@ ghost use Rattle.std.specs.Prelude.{◌≡◌};
 ghost use Rattle.seat_table.specs.Seats.{IsQuietSeat};
 ghost use Rattle.range_snapshots.specs.Snapshots.{OnlyLists};
 
-use seat_table::steps::look;
-use seat_table::{CitrusTable, Seat, WaitPart};
+use seat_table::{CitrusTable, Seat, WaitPart, steps};
 use std::thread;
 
 // In so many turns, where other threads have work, at least one of them makes an update; else they are taken to be done.
@@ -19,7 +18,7 @@ fn look_once<W: WaitPart>(table: &CitrusTable<W>, seat: &mut Seat<W>, key: u64) 
     ensures only { OnlyLists seat.old.view seat.new.view }
 {
     W::enter(table, seat, key);
-    let front = look(table, seat);
+    let front = steps::look_at_front(table, seat);
     W::leave(table, seat);
     front
 }
