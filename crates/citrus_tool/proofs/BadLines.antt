@@ -7,11 +7,11 @@ use Rattle.script_text.specs.declared.error.ScriptError.{ScriptError}
 use Rattle.script_text.specs.declared.error.ScriptError.TheVariants.{Line}
 use Rattle.script_text.specs.Lines.{lines_of, onto_first}
 use Rattle.script_text.specs.Grammar.{IsFirstBadUpTo, IsScriptTextUpTo}
-use Rattle.citrus_tool.specs.declared.commands.Command.{Command}
+use Rattle.command_words.specs.declared.commands.Command.{Command}
 use Rattle.citrus_tool.specs.declared.outcome.Ran.{Ran}
 use Rattle.citrus_tool.specs.declared.outcome.Ran.TheVariants.{Nothing}
-use Rattle.citrus_tool.specs.declared.outcome.Status.{Status}
-use Rattle.citrus_tool.specs.declared.outcome.Status.TheVariants.{BadScript}
+use Rattle.command_words.specs.declared.statuses.Status.{Status}
+use Rattle.command_words.specs.declared.statuses.Status.TheVariants.{BadScript}
 use Rattle.citrus_tool.specs.declared.running.Answer.{Answer}
 use Rattle.citrus_tool.specs.Answers.{TellsBadLineUpTo, Writes, Leaves}
 

@@ -2,15 +2,15 @@
 use Rattle.std.proofs.Common.{◌≡◌, ℕ, ◌≤◌, ◌<◌, List, [], ◌++◌, length, Option, Some, ◌⊎◌, inl, inr, refl, sym, ap, subst, ◌∙◌, append-nil, length-append, arith}
 use Rattle.io_edge.specs.Edge.{Takes, IsAtEnd, Appends}
 use Rattle.io_edge.specs.Whole.{TakesToLimit}
-use Rattle.citrus_tool.specs.declared.commands.Command.{Command}
-use Rattle.citrus_tool.specs.declared.commands.Command.TheVariants.{Run, Check, Load, Watch, Hash}
+use Rattle.command_words.specs.declared.commands.Command.{Command}
+use Rattle.command_words.specs.declared.commands.Command.TheVariants.{Run, Check, Load, Watch, Hash}
 use Rattle.citrus_tool.specs.declared.outcome.Ran.{Ran}
-use Rattle.citrus_tool.specs.declared.outcome.Status.{Status}
-use Rattle.citrus_tool.specs.declared.outcome.Status.TheVariants.{Done, Refused, Usage, BadScript, ReadFault, WriteFault, NoMemory, TooLong}
+use Rattle.command_words.specs.declared.statuses.Status.{Status}
+use Rattle.command_words.specs.declared.statuses.Status.TheVariants.{Done, Refused, Usage, BadScript, ReadFault, WriteFault, NoMemory, TooLong}
 use Rattle.script_text.specs.Grammar.{IsScriptText}
-use Rattle.citrus_tool.specs.Commands.{Reads, limit_of}
+use Rattle.command_words.specs.Commands.{Reads, limit_of}
 use Rattle.citrus_tool.specs.Answers.{Writes, Leaves, AnsweredBy, IsAnswerable}
-use Rattle.citrus_tool.proofs.InputParts.{one_before}
+use Rattle.command_words.proofs.InputParts.{one_before}
 
 -- what was taken of an input is no longer than that
 pub not_too_long : (limit : ℕ) (input : List ℕ) (after : Option (List ℕ)) (P : Type 0) → TakesToLimit limit (Some input) after P → length input ≤ limit → P → ⊥

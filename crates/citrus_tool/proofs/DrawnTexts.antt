@@ -10,7 +10,7 @@ use Rattle.account_text.proofs.OneAccounts.{accounts_are_one}
 use Rattle.schedule_run.proofs.Drawn.{schedules_are_one}
 use Rattle.citrus_tool.specs.Answers.{DrawnTextsAreOne}
 use Rattle.citrus_tool.specs.Leavings.{IsDrawn}
-use Rattle.citrus_tool.specs.Limits.{slots_of}
+use Rattle.command_words.specs.Limits.{slots_of}
 
 -- no scripts have no lines, and no replies
 none_told : (lists : List (List Line)) → map ops_of lists ≡ [] → HaveReplies [] lists

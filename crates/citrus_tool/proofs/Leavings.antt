@@ -20,17 +20,17 @@ use Rattle.core_state.specs.declared.shape.Waiter.TheVariants.{Eer, Domain, Deer
 use Rattle.hash_core.specs.Steps.{IsQuiet}
 use Rattle.seat_table.specs.Seats as tree
 use Rattle.range_snapshots.specs.Snapshots.{SnapshotAt}
-use Rattle.citrus_tool.specs.declared.commands.Command.{Command}
-use Rattle.citrus_tool.specs.declared.commands.Command.TheVariants.{Run, Check, Load, Watch, Hash as HashCommand}
-use Rattle.citrus_tool.specs.declared.commands.Mode.{Mode}
-use Rattle.citrus_tool.specs.declared.commands.Mode.TheVariants.{Threads, Schedule}
-use Rattle.citrus_tool.specs.declared.outcome.Status.TheVariants.{Done}
+use Rattle.command_words.specs.declared.commands.Command.{Command}
+use Rattle.command_words.specs.declared.commands.Command.TheVariants.{Run, Check, Load, Watch, Hash as HashCommand}
+use Rattle.command_words.specs.declared.commands.Mode.{Mode}
+use Rattle.command_words.specs.declared.commands.Mode.TheVariants.{Threads, Schedule}
+use Rattle.command_words.specs.declared.statuses.Status.TheVariants.{Done}
 use Rattle.citrus_tool.specs.declared.outcome.Ran.{Ran}
 use Rattle.citrus_tool.specs.declared.outcome.Ran.TheVariants.{Nothing, Hash}
 use Rattle.citrus_tool.specs.Answers.{AccountsFor, Writes, Leaves, Answered}
 use Rattle.citrus_tool.specs.Leavings.{LeavesSome, RunsBy, IsDrawn, LeavesMade, IsLeftOf, LeavesHash, IsTreeLeftOf, LeavesTree, tree_with}
 use Rattle.citrus_tool.specs.Watching.{LeavesWatched}
-use Rattle.citrus_tool.specs.Limits.{slots_of}
+use Rattle.command_words.specs.Limits.{slots_of}
 use Rattle.citrus_tool.proofs.SlotCounts.{never_full}
 
 pub some_left : (scripts : List (List Op)) (ran : Ran) (left : Type 0) → 1 ≤ length scripts → left → LeavesSome scripts ran left

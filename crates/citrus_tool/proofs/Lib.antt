@@ -1,9 +1,6 @@
-pub mod Spellings
-pub mod Joining
 pub mod SlotCounts
 pub mod Leavings
 pub mod DrawnTexts
 pub mod WatchedRuns
 pub mod BadLines
-pub mod InputParts
 pub mod Complete

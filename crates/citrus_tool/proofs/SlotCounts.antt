@@ -7,7 +7,7 @@ use Rattle.prcu_model.specs.Scripts.{default_slots_of}
 use Rattle.prcu_model.specs.Slots.{LacksFull, StaysWithin}
 use Rattle.prcu_model.proofs.EnoughSlots.{LacksFull-from_explained, StaysWithin-from_explained}
 use Rattle.account_text.specs.Account.{IsAccount}
-use Rattle.citrus_tool.specs.Limits.{slots_of}
+use Rattle.command_words.specs.Limits.{slots_of}
 
 -- with the default slots no line says `full`
 pub never_full : (limit : Option ℕ) (scripts : List (List Op)) (text : List ℕ) (account : IsAccount scripts (slots_of limit scripts) text) → limit ≡ None → LacksFull account.lines

@@ -10,13 +10,13 @@ use Rattle.core_state.specs.declared.shape.Waiter.{Waiter}
 use Rattle.seat_table.specs.Seats.{TableAt, SeatAt}
 use Rattle.range_snapshots.specs.Snapshots.{SnapshotAt, AreSnapshots, WereLookedAt, none_yet}
 use Rattle.range_snapshots.specs.WatchText.{IsWatchText}
-use Rattle.citrus_tool.specs.declared.commands.Command.TheVariants.{Watch}
-use Rattle.citrus_tool.specs.declared.outcome.Status.TheVariants.{Done}
+use Rattle.command_words.specs.declared.commands.Command.TheVariants.{Watch}
+use Rattle.command_words.specs.declared.statuses.Status.TheVariants.{Done}
 use Rattle.citrus_tool.specs.declared.outcome.Ran.{Ran}
 use Rattle.citrus_tool.specs.declared.outcome.Ran.TheVariants.{Nothing}
 use Rattle.citrus_tool.specs.Answers.{Writes, Leaves}
 use Rattle.citrus_tool.specs.Leavings.{IsTreeLeftOf, tree_with}
-use Rattle.citrus_tool.specs.Limits.{slots_of}
+use Rattle.command_words.specs.Limits.{slots_of}
 use Rattle.citrus_tool.specs.Watching.{LeavesWatched}
 use Rattle.citrus_tool.proofs.Leavings.{none_within, some_left}
 use Rattle.citrus_tool.proofs.SlotCounts.{never_full}

@@ -9,18 +9,18 @@ use Rattle.account_text.specs.Account.{IsAccount}
 use Rattle.workload.specs.Draws.{made_scripts}
 use Rattle.workload.specs.Summaries.{plain_summary}
 use Rattle.workload.specs.SummaryText.{summary_text}
-use Rattle.citrus_tool.specs.declared.commands.Command.{Command}
-use Rattle.citrus_tool.specs.declared.commands.Command.TheVariants.{Run, Check, Load, Watch, Hash}
-use Rattle.citrus_tool.specs.declared.commands.Mode.{Mode}
-use Rattle.citrus_tool.specs.declared.commands.Mode.TheVariants.{Threads, Schedule}
-use Rattle.citrus_tool.specs.declared.outcome.Status.{Status}
-use Rattle.citrus_tool.specs.declared.outcome.Status.TheVariants.{Done, Refused, Usage, BadScript, ReadFault, NoMemory, TooLong}
+use Rattle.command_words.specs.declared.commands.Command.{Command}
+use Rattle.command_words.specs.declared.commands.Command.TheVariants.{Run, Check, Load, Watch, Hash}
+use Rattle.command_words.specs.declared.commands.Mode.{Mode}
+use Rattle.command_words.specs.declared.commands.Mode.TheVariants.{Threads, Schedule}
+use Rattle.command_words.specs.declared.statuses.Status.{Status}
+use Rattle.command_words.specs.declared.statuses.Status.TheVariants.{Done, Refused, Usage, BadScript, ReadFault, NoMemory, TooLong}
 use Rattle.citrus_tool.specs.declared.outcome.Ran.{Ran}
 use Rattle.citrus_tool.specs.declared.outcome.Ran.TheVariants.{Nothing}
-use Rattle.citrus_tool.specs.Commands.{Asks, Reads, limit_of}
+use Rattle.command_words.specs.Commands.{Asks, Reads, limit_of}
 use Rattle.citrus_tool.specs.Leavings.{IsDrawn, LeavesTree, LeavesMade, LeavesHash}
-use Rattle.citrus_tool.specs.Limits.{slots_of}
-use Rattle.citrus_tool.specs.Parts.{HasParts}
+use Rattle.command_words.specs.Limits.{slots_of}
+use Rattle.command_words.specs.Parts.{HasParts}
 use Rattle.citrus_tool.specs.Watching.{WatchesFor, LeavesWatched}
 
 -- The text is an account of the scripts that the input holds: the headline. Each script's successful updates stand in

@@ -24,8 +24,8 @@ use Rattle.class_hash.specs.Answers.{IsInformed}
 use Rattle.class_hash.specs.Seats.{SeatAt, TableAt}
 use Rattle.hash_run.specs.Capacities.{AreCapacities}
 use Rattle.hash_run.specs.Crews.{HaveNoWaits}
-use Rattle.citrus_tool.specs.declared.commands.Mode.{Mode}
-use Rattle.citrus_tool.specs.declared.commands.Mode.TheVariants.{Threads, Schedule}
+use Rattle.command_words.specs.declared.commands.Mode.{Mode}
+use Rattle.command_words.specs.declared.commands.Mode.TheVariants.{Threads, Schedule}
 use Rattle.citrus_tool.specs.declared.outcome.Ran.{Ran}
 use Rattle.citrus_tool.specs.declared.outcome.Ran.TheVariants.{Nothing, Eer as OnEer, Domain as OnDomain, Deer as OnDeer, Hash}
 

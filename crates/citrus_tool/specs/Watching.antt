@@ -11,7 +11,7 @@ use Rattle.range_snapshots.specs.Snapshots.{SnapshotAt, WereLookedAt}
 use Rattle.range_snapshots.specs.WatchText.{IsWatchText}
 use Rattle.citrus_tool.specs.declared.outcome.Ran.{Ran}
 use Rattle.citrus_tool.specs.Leavings.{LeavesSome, IsTreeLeftOf, tree_with}
-use Rattle.citrus_tool.specs.Limits.{slots_of}
+use Rattle.command_words.specs.Limits.{slots_of}
 
 -- The text is a watch text of the scripts that the input holds, at most 63, with this range. Where no number of slots was given, no line
 -- of its account says `full`. At no front are there more pairs than slots and the twenty that the tree has for the lists' place.

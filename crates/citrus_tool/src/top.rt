@@ -2,13 +2,13 @@
 ghost use Rattle.std.specs.Prelude.{◌≡◌, ◌≤◌, ◌⊎◌, ◌↔◌, ℕ, List, Some, Err, IfOk, OnOk, map, length, string_bytes};
 ghost use Rattle.io_edge.specs.Edge.{Rose, Takes, IsAtEnd};
 ghost use Rattle.io_edge.specs.Whole.{TakesToLimit};
-ghost use Rattle.citrus_tool.specs.declared.commands.Command as command;
+ghost use Rattle.command_words.specs.declared.commands.Command as command;
 ghost use Rattle.citrus_tool.specs.Answers.{Answered, AnsweredInPart, AnsweredBy, AnsweredInPartBy, IsAnswerable, WritesNothing};
-ghost use Rattle.citrus_tool.specs.Commands.{Asks, IsCommand, IsInRange, Reads, limit_of};
+ghost use Rattle.command_words.specs.Commands.{Asks, IsCommand, IsInRange, Reads, limit_of};
 
-use crate::commands::{Command, command_of};
-use crate::outcome::{Outcome, Ran, Status};
+use crate::outcome::{Outcome, Ran};
 use crate::running::answer_to;
+use command_words::{Command, Status, command_of};
 use io_edge::{ReadError, Sink, Source, read_all, write_all};
 use prcu_marks::Gate;
 use std::alloc::Global;

@@ -10,8 +10,8 @@ ghost use Rattle.workload.specs.SummaryText.{summary_text};
 ghost use Rattle.citrus_tool.specs.Leavings.{IsTreeLeftOf, LeavesTree, LeavesMade};
 
 use crate::outcome::Ran;
-use crate::slots::default_slots;
 use account_text::make_account;
+use command_words::default_slots;
 use core_state::shape::Waiter;
 use d_wait::Domain;
 use deer_wait::Deer;

@@ -8,6 +8,3 @@ mod worker;
 pub use merging::merge;
 pub use running::run_all;
 pub use worker::Worker;
-
-#[cfg(test)]
-mod tests;

@@ -9,8 +9,6 @@ pub mod null_sink;
 mod pieces;
 pub mod standard;
 pub mod steady_source;
-#[cfg(test)]
-mod tests;
 pub mod whole;
 
 pub use edge::{Failed, Sink, Source};

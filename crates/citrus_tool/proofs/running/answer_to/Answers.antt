@@ -1,6 +1,6 @@
 use Rattle.std.proofs.Common.{sym, subst, IfOk}
 use Rattle.std.proofs.lemmas.Result.{IfOk-weaker}
-use Rattle.citrus_tool.specs.declared.commands.Command.{Command}
+use Rattle.command_words.specs.declared.commands.Command.{Command}
 use Rattle.citrus_tool.specs.Answers.{Writes, Leaves}
 use Rattle.citrus_tool.proofs.running.answer_to.Goals as goal
 

@@ -1,9 +1,9 @@
 use Rattle.std.proofs.Common.{sym, subst, arith}
 use Rattle.std.proofs.lemmas.Result.{IfOk-weaker}
-use Rattle.citrus_tool.specs.declared.commands.Command.TheVariants.{Check}
-use Rattle.citrus_tool.specs.declared.outcome.Status.{Status}
+use Rattle.command_words.specs.declared.commands.Command.TheVariants.{Check}
+use Rattle.command_words.specs.declared.statuses.Status.{Status}
 use Rattle.citrus_tool.specs.Answers.{Writes}
-use Rattle.citrus_tool.proofs.InputParts.{length-before}
+use Rattle.command_words.proofs.InputParts.{length-before}
 use Rattle.citrus_tool.proofs.BadLines.{bad_told}
 use Rattle.citrus_tool.proofs.running.check_claim.Goals as goal
 

@@ -1,5 +1,5 @@
 use Rattle.std.proofs.Common.{None, refl, arith}
-use Rattle.citrus_tool.specs.declared.commands.Command.TheVariants.{Hash}
+use Rattle.command_words.specs.declared.commands.Command.TheVariants.{Hash}
 use Rattle.citrus_tool.proofs.BadLines.{refused}
 use Rattle.citrus_tool.proofs.SlotCounts.{never_full, within_default}
 use Rattle.citrus_tool.proofs.running.hash.Goals as goal

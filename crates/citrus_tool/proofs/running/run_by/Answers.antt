@@ -1,7 +1,7 @@
 use Rattle.std.proofs.Common.{IfOk, refl, sym, subst, arith}
 use Rattle.prcu_model.specs.Slots.{StaysWithin}
 use Rattle.account_text.specs.Account.{IsAccount}
-use Rattle.citrus_tool.specs.declared.commands.Mode.{Mode}
+use Rattle.command_words.specs.declared.commands.Mode.{Mode}
 use Rattle.citrus_tool.specs.declared.outcome.Ran.TheVariants.{Nothing}
 use Rattle.citrus_tool.specs.Leavings.{RunsBy}
 use Rattle.citrus_tool.proofs.Leavings.{none_left, runs_nothing}

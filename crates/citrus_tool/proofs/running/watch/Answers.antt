@@ -3,7 +3,7 @@ use Rattle.prcu_model.specs.Slots.{StaysWithin}
 use Rattle.key_interval.specs.Keys.{Interval}
 use Rattle.range_snapshots.specs.WatchText.{IsWatchText}
 use Rattle.citrus_tool.specs.Watching.{LeavesWatched}
-use Rattle.citrus_tool.specs.declared.commands.Command.TheVariants.{Watch}
+use Rattle.command_words.specs.declared.commands.Command.TheVariants.{Watch}
 use Rattle.citrus_tool.proofs.BadLines.{refused}
 use Rattle.citrus_tool.proofs.WatchedRuns.{watch_written}
 use Rattle.citrus_tool.proofs.running.watch.Goals as goal

@@ -1,5 +1,5 @@
 use Rattle.std.proofs.Common.{subst}
-use Rattle.citrus_tool.specs.declared.outcome.Status.{Status}
+use Rattle.command_words.specs.declared.statuses.Status.{Status}
 use Rattle.citrus_tool.specs.Answers.{AnsweredBy}
 use Rattle.citrus_tool.proofs.Complete.{answered}
 use Rattle.citrus_tool.proofs.top.answer_from.Goals as goal

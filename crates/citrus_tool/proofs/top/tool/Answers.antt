@@ -1,9 +1,9 @@
 use Rattle.std.proofs.Common.{◌≡◌, Some, subst}
 use Rattle.io_edge.specs.Whole.{TakesToLimit}
-use Rattle.citrus_tool.specs.declared.outcome.Status.TheVariants.{BadScript, TooLong}
+use Rattle.command_words.specs.declared.statuses.Status.TheVariants.{BadScript, TooLong}
 use Rattle.citrus_tool.specs.Answers.{AnsweredBy}
-use Rattle.citrus_tool.specs.Commands.{limit_of}
-use Rattle.citrus_tool.specs.declared.commands.Command.{Command}
+use Rattle.command_words.specs.Commands.{limit_of}
+use Rattle.command_words.specs.declared.commands.Command.{Command}
 use Rattle.citrus_tool.proofs.Complete.{not_too_long, not_bad, one_of_three}
 use Rattle.citrus_tool.proofs.top.tool.Goals as goal
 

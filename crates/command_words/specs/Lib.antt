@@ -1,0 +1,5 @@
+pub mod Statuses
+pub mod Arguments
+pub mod Commands
+pub mod Limits
+pub mod Parts
