@@ -1,6 +1,6 @@
 use Rattle.std.proofs.Common.{◌≡◌, length, ◌-◌, ◌≤◌, take}
 use Rattle.io_edge.specs.Edge.{Appends}
-use Rattle.io_edge.proofs.whole.write_all.Given as goal
+use Rattle.io_edge.proofs.whole.write_pieces.Given as goal
 
 abbrev pub invariant-loop-written : goal.invariant-loop-written
 invariant-loop-written g l =

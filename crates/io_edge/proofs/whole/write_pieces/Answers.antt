@@ -1,6 +1,6 @@
 use Rattle.std.proofs.Common.{ℕ, arith, length-take, length-drop}
 use Rattle.io_edge.proofs.Told.{Appends-more, AppendsFront-failed}
-use Rattle.io_edge.proofs.whole.write_all.Goals as goal
+use Rattle.io_edge.proofs.whole.write_pieces.Goals as goal
 
 pub returns-in-Err-clause-front : goal.returns-in-Err-clause-front
 returns-in-Err-clause-front g c = AppendsFront-failed _ _ _ _ _ c.loop-written.invariant.1 c.in-Err.ensures.unwritten
