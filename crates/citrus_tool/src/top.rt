@@ -5,6 +5,7 @@ ghost use Rattle.io_edge.specs.Whole.{TakesToLimit};
 ghost use Rattle.command_words.specs.declared.commands.Command as command;
 ghost use Rattle.citrus_tool.specs.Answers.{Answered, AnsweredInPart, AnsweredBy, AnsweredInPartBy, IsAnswerable, WritesNothing};
 ghost use Rattle.command_words.specs.Commands.{Asks, IsCommand, IsInRange, Reads, limit_of};
+ghost use Rattle.command_words.specs.Statuses.{WritesWhole};
 
 use crate::outcome::{Outcome, Ran};
 use crate::running::answer_to;
@@ -57,6 +58,7 @@ pub fn tool<R: Threads + Wait + Sync, S: Source, K: Sink, G: Gate + Sync>(
     ensures cut_short { result.status ≡ Status.WriteFault → AnsweredInPart (map string_bytes words.now)
         (S.rest source.old) (S.rest source.new) (K.bytes sink.old) (K.bytes sink.new) }
     ensures unwritten { WritesNothing result.status → sink.new ≡ sink.old }
+    ensures passed_on { WritesWhole result.status → K.passed_on sink.new }
 
     // An input with good scripts within the limit is answered, unless a count rose or the memory wasn't there.
     ensures complete { (command : command.Command) (input : List ℕ) → Asks (map string_bytes words.now) command
@@ -98,6 +100,7 @@ fn answer_from<R: Threads + Wait + Sync, S: Source, K: Sink, G: Gate + Sync>(
     ensures cut_short { result.status ≡ Status.WriteFault → AnsweredInPartBy command
         (S.rest source.old) (S.rest source.new) (K.bytes sink.old) (K.bytes sink.new) }
     ensures unwritten { WritesNothing result.status → sink.new ≡ sink.old }
+    ensures passed_on { WritesWhole result.status → K.passed_on sink.new }
     ensures a_command { result.status ≡ Status.Usage → ⊥ }
     ensures reads_nothing { (Reads command → ⊥) → source.new ≡ source.old }
     ensures left { (result.status ≡ Status.Done → ⊥) → result.ran ≡ Ran.Nothing }
