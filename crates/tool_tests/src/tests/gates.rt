@@ -27,7 +27,7 @@ pub const MANY: u64 = 10_000_000;
 
 impl Hold {
     /// The caller stays at its first visit.
-    pub const fn first(caller: u32, at: Point, comes_to: Point, times: u64) -> Hold {
+    pub fn first(caller: u32, at: Point, comes_to: Point, times: u64) -> Hold {
         Hold {
             caller,
             at,

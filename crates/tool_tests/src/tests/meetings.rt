@@ -11,41 +11,74 @@ use std::thread::Threads;
 
 const WAITERS: [&str; 3] = ["--waiter=eer", "--waiter=d", "--waiter=deer"];
 
-// Nobody is held.
-const FREE: Hold = Hold::first(0, Point::Answered, Point::Answered, 0);
-
-// The first caller is in its section from before the other's first until the other has answered so many times.
-const fn reader_stays(answers: u64) -> [Hold; 4] {
-    [
-        Hold::first(1, Point::InSection, Point::InSection, 1),
-        Hold::first(0, Point::InSection, Point::Answered, answers),
-        FREE,
-        FREE,
-    ]
+// Who is held where.
+#[derive(Clone, Copy)]
+enum Meeting {
+    // The first caller is in its section from before the other's first until the other has answered so many times.
+    ReaderStays(u64),
+    // The first caller is in its section when the other's wait begins, and the other waits until the first has come to this point.
+    ReaderMeetsTheMove(Point),
+    // The writer begins once the reader's first section is over. There the reader stays until the writer is at its twentieth answer, and
+    // the writer there until the reader is in its second section. It stays in it until the writer has answered 34 times.
+    ReaderReturns,
+    // Both callers are at their first answers at once.
+    BothAnswer,
+    // The lists after the first wait until the script has come to this point, and the script in its section until so many lists are made.
+    ListsBeside(Point, u64),
 }
 
-// The first caller is in its section when the other's wait begins, and the other waits until the first has come to this point.
-const fn reader_meets_the_move(point: Point) -> [Hold; 4] {
-    [
-        Hold::first(0, Point::InSection, Point::InGrace, 1),
-        Hold::first(1, Point::InGrace, point, 1),
-        FREE,
-        FREE,
-    ]
+// The holds of a meeting. A reader for which a delete waits needn't stay as long as one that sees the other go on.
+fn holds_of(meeting: Meeting, misses: u64) -> [Hold; 4] {
+    let turns = if misses == 0 { MANY } else { MANY / 10 };
+    let free = Hold::first(0, Point::Answered, Point::Answered, 0);
+    match meeting {
+        Meeting::ReaderStays(answers) => [
+            Hold::first(1, Point::InSection, Point::InSection, 1),
+            Hold {
+                turns,
+                ..Hold::first(0, Point::InSection, Point::Answered, answers)
+            },
+            free,
+            free,
+        ],
+        Meeting::ReaderMeetsTheMove(point) => [
+            Hold::first(0, Point::InSection, Point::InGrace, 1),
+            Hold::first(1, Point::InGrace, point, 1),
+            free,
+            free,
+        ],
+        Meeting::ReaderReturns => [
+            Hold::first(1, Point::InSection, Point::Answered, 1),
+            Hold::first(0, Point::Answered, Point::Answered, 20),
+            Hold {
+                visit: 20,
+                ..Hold::first(1, Point::Answered, Point::InSection, 2)
+            },
+            Hold {
+                visit: 2,
+                turns,
+                ..Hold::first(0, Point::InSection, Point::Answered, 34)
+            },
+        ],
+        Meeting::BothAnswer => [
+            Hold::first(0, Point::Answered, Point::Answered, 1),
+            Hold::first(1, Point::Answered, Point::Answered, 1),
+            free,
+            free,
+        ],
+        Meeting::ListsBeside(point, lists) => [
+            Hold::first(0, Point::InSection, Point::Answered, lists),
+            Hold::first(1, Point::Answered, point, 1),
+            free,
+            free,
+        ],
+    }
 }
-
-// Both callers are at their first answers at once.
-const BOTH_ANSWER: [Hold; 4] = [
-    Hold::first(0, Point::Answered, Point::Answered, 1),
-    Hold::first(1, Point::Answered, Point::Answered, 1),
-    FREE,
-    FREE,
-];
 
 // A script's line that `op` is, and what it is told; the other's delete moves a successor beside it, and the updates have this number and
 // this last one. So many holds of each waiter are too long.
 struct BesideMove {
-    holds: [Hold; 4],
+    meeting: Meeting,
     op: &'static str,
     told: &'static str,
     count: u64,
@@ -57,7 +90,7 @@ struct BesideMove {
 const BESIDE_MOVES: [BesideMove; 4] = [
     // A move goes on beside a reader of another key.
     BesideMove {
-        holds: reader_stays(6),
+        meeting: Meeting::ReaderStays(6),
         op: "get 100",
         told: "none 0",
         count: 6,
@@ -67,7 +100,7 @@ const BESIDE_MOVES: [BesideMove; 4] = [
     },
     // A key of the same class holds up the waiters by class.
     BesideMove {
-        holds: reader_stays(6),
+        meeting: Meeting::ReaderStays(6),
         op: "get 70",
         told: "none 0",
         count: 6,
@@ -77,7 +110,7 @@ const BESIDE_MOVES: [BesideMove; 4] = [
     },
     // The successor is found while it moves.
     BesideMove {
-        holds: reader_meets_the_move(Point::Answered),
+        meeting: Meeting::ReaderMeetsTheMove(Point::Answered),
         op: "get 6",
         told: "val 60 4",
         count: 6,
@@ -87,7 +120,7 @@ const BESIDE_MOVES: [BesideMove; 4] = [
     },
     // The successor is set after it moved.
     BesideMove {
-        holds: reader_meets_the_move(Point::BeforeLock),
+        meeting: Meeting::ReaderMeetsTheMove(Point::BeforeLock),
         op: "set 6 61",
         told: "was 60 7",
         count: 7,
@@ -116,7 +149,7 @@ fn a_script_beside_a_move_is_answered(rt: HostRuntime) -> Result<(), Fail> {
                 alloc,
                 &line,
                 input.as_bytes(),
-                case.holds,
+                holds_of(case.meeting, *misses),
                 *misses,
                 text.as_bytes(),
             )?;
@@ -132,39 +165,15 @@ fn two_scripts_are_at_their_answers_at_once(rt: HostRuntime) -> Result<(), Fail>
         rt.alloc(),
         "citrus hash",
         b"script\nget 1\nscript\nget 2\n",
-        BOTH_ANSWER,
+        holds_of(Meeting::BothAnswer, 0),
         0,
         b"script 0\nget 1 none 0\nscript 1\nget 2 none 0\nhistory 0\nfinal 0\nend\n",
     )
 }
 
-// The writer begins once the reader's first section is over. There the reader stays until the writer is at its twentieth answer, and the
-// writer there until the reader is in its second section. It stays in it until the writer has answered 34 times. Where the writer waits for
-// it, that hold lasts for all its turns.
-const READER_RETURNS: [Hold; 4] = [
-    Hold::first(1, Point::InSection, Point::Answered, 1),
-    Hold::first(0, Point::Answered, Point::Answered, 20),
-    Hold {
-        caller: 1,
-        at: Point::Answered,
-        visit: 20,
-        comes_to: Point::InSection,
-        times: 2,
-        turns: MANY,
-    },
-    Hold {
-        caller: 0,
-        at: Point::InSection,
-        visit: 2,
-        comes_to: Point::Answered,
-        times: 34,
-        turns: MANY / 10,
-    },
-];
-
 // What the scripts of a writer and of a reader of a key that nobody puts are, and how often the writer waits for the reader.
 struct BesideDeletes {
-    holds: [Hold; 4],
+    meeting: Meeting,
     reader: &'static str,
     told: &'static str,
     words: &'static str,
@@ -174,7 +183,7 @@ struct BesideDeletes {
 const BESIDE_DELETES: [BesideDeletes; 3] = [
     // The sixteenth delete waits for every reader.
     BesideDeletes {
-        holds: reader_stays(34),
+        meeting: Meeting::ReaderStays(34),
         reader: "script\nget 100\n",
         told: "script 0\nget 100 none 0\n",
         words: "",
@@ -182,14 +191,14 @@ const BESIDE_DELETES: [BesideDeletes; 3] = [
     },
     // With cookies no delete waits for a reader that came back.
     BesideDeletes {
-        holds: READER_RETURNS,
+        meeting: Meeting::ReaderReturns,
         reader: "script\nget 100\nget 100\n",
         told: "script 0\nget 100 none 0\nget 100 none 0\n",
         words: " --cookies",
         misses: 0,
     },
     BesideDeletes {
-        holds: READER_RETURNS,
+        meeting: Meeting::ReaderReturns,
         reader: "script\nget 100\nget 100\n",
         told: "script 0\nget 100 none 0\nget 100 none 0\n",
         words: "",
@@ -210,7 +219,7 @@ fn a_delete_waits_for_the_reader_unless_it_has_a_cookie(rt: HostRuntime) -> Resu
                 alloc,
                 &line,
                 text.as_bytes(),
-                case.holds,
+                holds_of(case.meeting, case.misses),
                 case.misses,
                 account.as_bytes(),
             )?;
@@ -219,33 +228,23 @@ fn a_delete_waits_for_the_reader_unless_it_has_a_cookie(rt: HostRuntime) -> Resu
     Ok(())
 }
 
-// The lists after the first wait until the script has come to this point, and the script in its section until so many lists are made.
-const fn lists_beside(point: Point, lists: u64) -> [Hold; 4] {
-    [
-        Hold::first(0, Point::InSection, Point::Answered, lists),
-        Hold::first(1, Point::Answered, point, 1),
-        FREE,
-        FREE,
-    ]
-}
-
 #[test]
 fn lists_are_made_beside_a_script(rt: HostRuntime) -> Result<(), Fail> {
-    let cases: [([Hold; 4], &[u8]); 2] = [
+    let cases: [(Meeting, &[u8]); 2] = [
         (
-            lists_beside(Point::InSection, 4),
+            Meeting::ListsBeside(Point::InSection, 4),
             b"script 0\nput 1 1 new 1\nhistory 1\n1 0 put 1 1\nfinal 1\n1 1\nend\nwatch 0 100\nwhole 0 0\nwhole 0 0\nwhole 0 0\nwhole 0 0\nend\n",
         ),
         (
-            lists_beside(Point::Answered, 1),
+            Meeting::ListsBeside(Point::Answered, 1),
             b"script 0\nput 1 1 new 1\nhistory 1\n1 0 put 1 1\nfinal 1\n1 1\nend\nwatch 0 100\nwhole 0 0\nwhole 1 1\n1 1\nwhole 1 1\n1 1\nwhole 1 1\n1 1\nend\n",
         ),
     ];
     for waiter in WAITERS.iter() {
-        for (holds, text) in cases {
+        for (meeting, text) in cases {
             let line = format!(in rt.alloc(); "citrus watch {waiter} 0 100")?;
             let input = b"script\nput 1 1\n";
-            assert_held(&rt, rt.alloc(), &line, input, holds, 0, text)?;
+            assert_held(&rt, rt.alloc(), &line, input, holds_of(meeting, 0), 0, text)?;
         }
     }
     Ok(())
