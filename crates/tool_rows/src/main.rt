@@ -88,11 +88,7 @@ fn source_of(alloc: Global, row: &str) -> Result<MemorySource, NoMemory> {
     }
     let piece = number_at(row, 2, 1000).max(1) as usize;
     let fault = number_at(row, 3, u64::MAX);
-    Ok(MemorySource::new(
-        bytes,
-        piece,
-        Vec::from_slice(alloc, &[fault])?,
-    ))
+    Ok(MemorySource::new(bytes, piece, Vec::from_slice(alloc, &[fault])?))
 }
 
 // The part of a row with this number, counted from 0, and nothing where it has fewer.

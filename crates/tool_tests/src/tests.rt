@@ -68,7 +68,9 @@ fn put_and_deleted(
         let (put, del) = (2 * key - 1, 2 * key);
         text.push_str(&format!(in alloc; "put {key} {key}\ndel {key}\n")?)?;
         account.push_str(&format!(in alloc; "put {key} {key} new {put}\ndel {key} gone {del}\n")?)?;
-        updates.push_str(&format!(in alloc; "{put} {caller} put {key} {key}\n{del} {caller} del {key}\n")?)?;
+        updates.push_str(&format!(in alloc;
+            "{put} {caller} put {key} {key}\n{del} {caller} del {key}\n"
+        )?)?;
     }
     let count = 2 * keys.min(1000);
     account.push_str(&format!(in alloc; "history {count}\n{updates}final 0\nend\n")?)?;

@@ -134,8 +134,9 @@ const BESIDE_MOVES: [BesideMove; 4] = [
 fn a_script_beside_a_move_is_answered(rt: HostRuntime) -> Result<(), Fail> {
     let alloc = rt.alloc();
     for case in BESIDE_MOVES.iter() {
-        let (op, told, count, last, value) =
-            (case.op, case.told, case.count, case.last, case.value);
+        let (op, told, count, last, value) = (
+            case.op, case.told, case.count, case.last, case.value,
+        );
         let input = format!(in alloc;
             "script\n{op}\nscript\nput 5 50\nput 2 20\nput 8 80\nput 6 60\nput 9 90\ndel 5\n"
         )?;
@@ -259,8 +260,10 @@ fn assert_found_or_not<R: Threads + Wait + Sync + Abort>(
     let input = b"script\nput 1 1\nscript\nget 1\n";
     let (status, written) = answer(rt, alloc, line, input, &OpenGate)?;
     assert_eq!(rt; status, Status::Done, "{line}");
-    let found = b"script 0\nput 1 1 new 1\nscript 1\nget 1 val 1 1\nhistory 1\n1 0 put 1 1\nfinal 1\n1 1\nend\n";
-    let missed = b"script 0\nput 1 1 new 1\nscript 1\nget 1 none 0\nhistory 1\n1 0 put 1 1\nfinal 1\n1 1\nend\n";
+    let found =
+        b"script 0\nput 1 1 new 1\nscript 1\nget 1 val 1 1\nhistory 1\n1 0 put 1 1\nfinal 1\n1 1\nend\n";
+    let missed =
+        b"script 0\nput 1 1 new 1\nscript 1\nget 1 none 0\nhistory 1\n1 0 put 1 1\nfinal 1\n1 1\nend\n";
     assert!(rt;
         written.as_slice() == found.as_slice() || written.as_slice() == missed.as_slice(),
         "{line}"
