@@ -3,12 +3,14 @@
 
 usage: side_by_side.py build TOP RT
        side_by_side.py record TOP RT SINCE
+       side_by_side.py measured TOP
 
 TOP is the folder of crates.txt, and RT the toolchain's command. With `build` each crate is proved over the statements of those below it, by
 the words with which the gate has rattle build it, so the longest chain of crates bounds the time, and not their number. What was proved
 stands in crates/NAME/out/rlib/statements, beside a sum of all that it was made from: a call after one that was stopped goes on, and
 one after a change proves what changed and what stands above it. With `record` the program that another proved build made since the
-file SINCE was written is recorded, unless a source was changed since.
+file SINCE was written is recorded, unless a source was changed since. `measured` prints what the proofs of `build` took, as the table
+build/seconds.txt by which it shares out the processors and tells the time that is left.
 
 The status is 0 where the program stands and is recorded, 1 where a crate isn't proved or nothing was recorded, 3 where the toolchain
 refuses this way to build, and 128 and the signal's number where a signal ended it.
@@ -34,12 +36,14 @@ VERDICT = re.compile(
     r"logic=proved( (tests|functions|axioms|target|cpu|threads|main|may-abort|partial|may-wait|may-serve|sum)=\S+)+"
     r" native=nat,char,string logic-built=trusted libraries-built=trusted statements=trusted"
 )
-# How much faster a crate is proved by so many processors, and how much memory each one more takes, as measured.
+# By how much a crate is proved faster by so many jobs, how much more processor time more than one take together, and how much memory each
+# further one takes, as measured.
 SPEED = {1: 1.0, 2: 1.4, 3: 1.7, 4: 1.9}
 MOST_JOBS = max(SPEED)
-MEMORY_OF_A_JOB = 0.6
-# A chain that lacks less than this part of the longest one counts as a longest one too.
-NEAR = 0.12
+TIME_OF_JOBS, MEMORY_OF_A_JOB = 1.25, 0.6
+# A chain that lacks less than this part of the longest one counts as a longest one too. More jobs cost processor time, so they are worth it
+# where the longest chain takes so much longer than all that is left does on all processors.
+NEAR, WORTH_JOBS = 0.05, 1.4
 
 
 def say(text):
@@ -244,8 +248,9 @@ class Build:
         if crate in self.killed:
             return 1
         idle = (self.lanes - len(self.running)) // number
-        jobs = self.lanes if crate.behind > (1 - NEAR) * front else max(idle, 1)
-        jobs = min(jobs, MOST_JOBS)
+        rest = sum(it.seconds for it in self.left) + sum(it.left() for it in self.running)
+        is_bound = crate.behind > (1 - NEAR) * front and front > WORTH_JOBS * rest / self.lanes
+        jobs = min(self.lanes if is_bound else max(idle, 1), MOST_JOBS)
         while jobs > 1 and self.room() < megabytes_of(crate, jobs):
             jobs -= 1
         return jobs
@@ -287,7 +292,7 @@ class Build:
             return
         if crate.is_program:
             os.replace(f"{crate.made}.linked", crate.program)
-        crate.keep(run.key, run.seconds, run.megabytes)
+        crate.keep(run.key, run.seconds / (TIME_OF_JOBS if run.jobs > 1 else 1), run.megabytes)
         self.done.add(crate)
         self.progress.tell(run, self.left, self.running)
 
@@ -322,7 +327,7 @@ def announce(crates, left, lanes):
     progress = Progress(left, lanes)
     what = f"{len(left)} of the program's {len(crates)} crates" if len(left) < len(crates) else f"the program's {len(crates)} crates"
     busy = " beside what else runs here" if load_of_others(0) > 0.5 else ""
-    say(f"{what} are proved first, about {progress.minutes(left, [])} min on {lanes} processor{'s' * (lanes > 1)}{busy}")
+    say(f"to be proved first: {what}, in about {progress.minutes(left, [])} min on {lanes} processor{'s' * (lanes > 1)}{busy}")
     say("./citrus --unproved WORDS answers within a minute, by a build without proofs. Ctrl-C ends this, and the next call goes on")
     return progress
 
@@ -351,7 +356,7 @@ def takes_statements(toolchain):
 def build(top, rt):
     top = os.path.abspath(top)
     toolchain, crates = Toolchain(rt), crates_of(top)
-    weigh(crates, f"{top}/build/measured.txt")
+    weigh(crates, f"{top}/build/seconds.txt")
     held = lock(crates)
     while True:
         record = BuiltFrom(crates, toolchain)
@@ -380,6 +385,15 @@ def record_since(top, rt, since):
     record.write(began)
 
 
+def print_measured(top):
+    print("# Of each crate: the processor seconds of its proof by one job, and the most megabytes that one process of it took.")
+    for crate in crates_of(top):
+        words = text_of(crate.record).split()
+        if len(words) != 4:
+            raise Ended(NOT_PROVED, f"nothing was measured of {crate.name}")
+        print(crate.name, *words[2:])
+
+
 def stop(number, _):
     for it in ENDINGS:
         signal.signal(it, signal.SIG_IGN)
@@ -396,6 +410,8 @@ def main(words):
             build(*words[1:])
         elif words[:1] == ["record"] and len(words) == 4:
             record_since(*words[1:])
+        elif words[:1] == ["measured"] and len(words) == 2:
+            print_measured(words[1])
         else:
             print(__doc__.split("\n\n")[1], file=sys.stderr)
             return 2
