@@ -31,6 +31,14 @@ def replace_text(path, text):
     os.replace(f"{path}.new", path)
 
 
+def link_or_copy(one, other):
+    """Gives a file of a library a second name. Whoever makes such a file anew removes it first."""
+    try:
+        os.link(one, other)
+    except OSError:
+        shutil.copyfile(one, other)
+
+
 class Toolchain:
     def __init__(self, rt):
         self.rt = os.path.realpath(rt)
@@ -118,6 +126,17 @@ class Crate:
                 shutil.rmtree(path)
             elif os.path.lexists(path):
                 os.remove(path)
+
+    def adopt(self, began, toolchain):
+        """Takes the statements that the gate has left since then where rt keeps libraries, if it has: none of its own beside them, which has a
+        stamp, and no file that is older."""
+        left = f"{self.folder}/out/rlib/{self.name}.rlib"
+        times = [os.lstat(f"{folder}/{name}").st_ctime_ns for folder, _, names in os.walk(left) for name in names]
+        if self.is_program or not times or min(times) < began or os.path.exists(f"{self.folder}/out/rlib/stamp"):
+            return
+        self.forget()
+        shutil.copytree(left, self.made, copy_function=link_or_copy)
+        self.keep(self.key(toolchain))
 
     def words(self, toolchain, jobs):
         """The words with which rattle proves and builds it. They are the gate's, but for the search for contracts that no call can meet, which

@@ -373,23 +373,28 @@ def build(top, rt):
 
 
 def record_since(top, rt, since):
-    """Records the program that another proved build made since that file was written."""
+    """Records the program that another proved build made since that file was written, and takes what it left of the libraries."""
     top, began = os.path.abspath(top), os.stat(since).st_mtime_ns
-    record = BuiltFrom(crates_of(top), Toolchain(rt))
-    changed = [it for crate in record.crates for it in crate.touched() if it[-1] > began]
-    changed += [f"{top}/crates.txt"] * (os.stat(f"{top}/crates.txt").st_ctime_ns > began)
-    if changed:
+    toolchain, crates = Toolchain(rt), crates_of(top)
+    held = lock(crates)
+    record = BuiltFrom(crates, toolchain)
+    changed = [it for crate in crates for it in crate.touched() if it[-1] > began]
+    if changed or os.stat(f"{top}/crates.txt").st_ctime_ns > began:
         raise Ended(NOT_PROVED, "files changed meanwhile, so the program isn't recorded as built from them")
-    if os.stat(record.program.program).st_ctime_ns < began:
+    if not os.path.exists(record.program.program) or os.stat(record.program.program).st_ctime_ns < began:
         raise Ended(NOT_PROVED, "no program was built, so none is recorded")
+    for crate in crates:
+        crate.adopt(began, toolchain)
     record.write(began)
+    for it in held:
+        os.close(it)
 
 
 def print_measured(top):
     print("# Of each crate: the processor seconds of its proof by one job, and the most megabytes that one process of it took.")
     for crate in crates_of(top):
         words = text_of(crate.record).split()
-        if len(words) != 4:
+        if len(words) != 4 or words[2] == "0":
             raise Ended(NOT_PROVED, f"nothing was measured of {crate.name}")
         print(crate.name, *words[2:])
 
