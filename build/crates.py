@@ -121,7 +121,7 @@ class Crate:
         replace_text(self.record, f"{key} {self.made_sum()} {seconds:.0f} {megabytes:.0f}\n")
 
     def forget(self):
-        for path in (self.record, self.made):
+        for path in (self.record, self.log, self.made):
             if os.path.isdir(path):
                 shutil.rmtree(path)
             elif os.path.lexists(path):

@@ -41,6 +41,8 @@ VERDICT = re.compile(
 SPEED = {1: 1.0, 2: 1.4, 3: 1.7, 4: 1.9}
 MOST_JOBS = max(SPEED)
 TIME_OF_JOBS, MEMORY_OF_A_JOB = 1.25, 0.6
+# By how much a build is longer than the processors and the longest chain alone would have it.
+LOSS = 1.15
 # A chain that lacks less than this part of the longest one counts as a longest one too. More jobs cost processor time, so they are worth it
 # where the longest chain takes so much longer than all that is left does on all processors.
 NEAR, WORTH_JOBS = 0.05, 1.4
@@ -165,7 +167,7 @@ class Progress:
         rest = {it.crate: it.left() for it in running}
         whole = sum(rest.values()) + sum(it.seconds for it in left)
         chains = [it.behind for it in left] + [it.behind - it.seconds + rest[it] for it in rest]
-        return max([whole / self.lanes, *(it / SPEED[min(self.lanes, MOST_JOBS)] for it in chains)])
+        return LOSS * max([whole / self.lanes, *(it / SPEED[min(self.lanes, MOST_JOBS)] for it in chains)])
 
     def minutes(self, left, running):
         """The minutes that are left where it goes on as fast as until now."""
@@ -184,7 +186,8 @@ class Progress:
     def renew(self, left, running):
         if self.is_terminal and running and time.monotonic() - self.told_at > 1:
             self.told_at = time.monotonic()
-            columns = max(os.get_terminal_size(2).columns, 20)
+            # A terminal that doesn't know its width says 0.
+            columns = os.get_terminal_size(2).columns or 80
             text = f"citrus: {self.line(left, running)}"[: columns - 1]
             print(f"\r\033[K{text}", end="", file=sys.stderr, flush=True)
 

@@ -88,7 +88,7 @@ unproved() {
 take_input() {
     : >"$room/input" || return $no_answer
     case $1 in run | check | watch | hash) ;; *) return 0 ;; esac
-    if ! cat >"$room/input"; then
+    if ! cat >"$room/input" 2>/dev/null; then
         say "the input can't be read here"
         return $no_answer
     fi
@@ -161,13 +161,24 @@ crates_below() {
 # Proves and builds one crate after the other by the toolchain's own commands, where it refuses to do so side by side. What rt says of
 # waiting for others is told at once.
 one_by_one() {
-    local crates name i=0
-    mapfile -t crates < <(crates_below)
-    say "so ${#crates[@]} crates are proved one after the other, each over all proofs below it; from nothing this takes long"
+    local teller status
     room=$(mktemp -d) || return $no_answer
     trap 'rm -rf "$room"' EXIT
     touch "$room/since" "$room/log"
-    tail -n +1 -F --pid=$$ "$room/log" 2>/dev/null 9<&- | grep --line-buffered '^rt: .*waiting' >&2 9<&- &
+    tail -n +1 -F --pid=$$ "$room/log" 2>/dev/null 9<&- > >(grep --line-buffered '^rt: .*waiting' >&2 9<&-) &
+    teller=$!
+    build_each && python3 "$top/build/side_by_side.py" record "$top" "${BASH_CMDS[rt]}" "$room/since"
+    status=$?
+    kill "$teller"
+    # The program takes this shell's place, so nothing is left for its end.
+    rm -rf "$room"
+    return "$status"
+}
+
+build_each() {
+    local crates name i=0
+    mapfile -t crates < <(crates_below)
+    say "so ${#crates[@]} crates are proved one after the other, each over all proofs below it; from nothing this takes long"
     for name in "${crates[@]}"; do
         i=$((i + 1))
         say "crate $i of ${#crates[@]}, $name, after $SECONDS s"
@@ -177,7 +188,6 @@ one_by_one() {
             return $no_answer
         fi
     done
-    python3 "$top/build/side_by_side.py" record "$top" "${BASH_CMDS[rt]}" "$room/since"
 }
 
 # The program itself is built by a run without words, which reads and writes nothing.
