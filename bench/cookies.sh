@@ -5,11 +5,11 @@
 set -eu
 top=$(cd "$(dirname "${BASH_SOURCE[0]}")/.." && pwd)
 out=$top/bench/out
-program=$top/crates/cookie_bench/out/cookie_bench
+program=$top/crates/tree_benches/out/tree_benches
 mkdir -p "$out"
-# The program is built, run once, and ends with 2 where it has no words.
-(cd "$top/crates/cookie_bench" && rt run -- 1 </dev/null >"$out/told" 2>&1) || { cat "$out/told" >&2; exit 1; }
-"$program" "${1:-30}" times >"$out/cookies"
+# The program is built, and does nothing where it has no words.
+(cd "$top/crates/tree_benches" && rt run -- </dev/null >"$out/told" 2>&1) || { cat "$out/told" >&2; exit 1; }
+"$program" times cookies "${1:-30}" >"$out/cookies"
 
 # Two lines of the program, without cookies and with them, make a row.
 echo '| waiter | a section | deletes | rest after each | at most, ms | with cookies | in the mean, µs | with cookies | long calls | with cookies |'

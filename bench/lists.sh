@@ -5,8 +5,8 @@
 set -eu
 top=$(cd "$(dirname "${BASH_SOURCE[0]}")/.." && pwd)
 out=$top/bench/out
-program=$top/crates/beside_bench/out/beside_bench
+program=$top/crates/tree_benches/out/tree_benches
 mkdir -p "$out"
-# The program is built, run once, and ends with 2 where it has no words.
-(cd "$top/crates/beside_bench" && rt run -- 1 </dev/null >"$out/told" 2>&1) || { cat "$out/told" >&2; exit 1; }
-"$program" "${1:-1000}" times
+# The program is built, and does nothing where it has no words.
+(cd "$top/crates/tree_benches" && rt run -- </dev/null >"$out/told" 2>&1) || { cat "$out/told" >&2; exit 1; }
+"$program" times lists "${1:-1000}"

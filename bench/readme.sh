@@ -1,15 +1,33 @@
 #!/usr/bin/env bash
-# Runs the commands of README.md and docs/FORMATS.md one after another, and fails where one fails, or waits for more input than it
-# names. The gate, `.ci/run`, is left out, unless the word `gate` asks for it. It stands outside the gate.
+# Runs the commands of README.md and docs/FORMATS.md one after another, and fails where one fails, waits for more input than it names, or
+# takes longer than it should. With the word `gate` it runs the gate where README has it, `.ci/run`, and holds the command after it to the
+# program that the gate left; else that is left out, and the program is built before. It stands outside the gate.
 set -eu
-# shellcheck source=bench/built.sh
-. "$(dirname "$0")/built.sh"
+if [ "${1:-}" = gate ]; then
+    top=$(cd "$(dirname "$0")/.." && pwd)
+    out=$top/bench/out
+    mkdir -p "$out"
+else
+    # shellcheck source=bench/built.sh
+    . "$(dirname "$0")/built.sh"
+fi
 cd "$top"
 
 # The lines between ```sh and ```, without the comments behind them, and what stands as `./citrus ..` in a line or over two.
 commands() {
     awk '/^```sh$/ { inside = 1; next } /^```$/ { inside = 0 } inside { sub(/ +#.*/, ""); print }' "$1"
+    # shellcheck disable=SC2016
     awk '/^```/ { inside = !inside; next } !inside { printf "%s ", $0 }' "$1" | grep -o '`\./citrus [^`]*`' | tr -d '`' || true
+}
+
+# How long a command may take: the gate three hours, a build without proofs a minute and as long as its program may run, and what comes
+# after the gate some seconds, which are too few to build anything.
+seconds_for() {
+    case $1 in
+        .ci/run) echo 10800 ;;
+        *--unproved*) echo 120 ;;
+        *) [ "$before" = .ci/run ] && echo 5 || echo 60 ;;
+    esac
 }
 
 # An input that gives nothing and doesn't end, as a terminal.
@@ -17,23 +35,25 @@ rm -f "$out/terminal"
 mkfifo "$out/terminal"
 exec 8<>"$out/terminal"
 done=0
+before=
 while IFS= read -r command; do
     case $command in
         .ci/run) [ "${1:-}" = gate ] || continue ;;
         # A pattern of words, and no command.
         *'N'* | *'[') continue ;;
     esac
-    limit=60
-    [ "$command" != .ci/run ] || limit=10800
     status=0
-    timeout "$limit" bash -c "set -o pipefail; $command" <&8 >"$out/told" 2>&1 || status=$?
+    began=$(date +%s%N)
+    timeout "$(seconds_for "$command")" bash -c "set -o pipefail; $command" <&8 >"$out/told" 2>&1 || status=$?
+    took=$((($(date +%s%N) - began) / 1000000))
     if [ "$status" != 0 ]; then
         cat "$out/told" >&2
-        echo "readme.sh: '$command' ended with $status" >&2
+        echo "readme.sh: '$command' ended with $status after $took ms" >&2
         exit 1
     fi
-    echo "$command: $(head -1 "$out/told")"
+    echo "$command: $(head -1 "$out/told") ($took ms)"
     done=$((done + 1))
+    before=$command
 done < <(commands README.md && commands docs/FORMATS.md)
 rm -f "$out/terminal" "$out/told"
 [ "$done" -ge 6 ] || { echo "readme.sh: only $done commands were found" >&2; exit 1; }

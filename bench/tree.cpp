@@ -1,6 +1,6 @@
 // The search tree's calls by one, two and four threads, for each waiter: the atomic accesses of crates/citrus_tree and node_slots on the
-// same words, in the same order, and nothing else; and a std::map under one lock. `tree ROUNDS` writes a line for each as tree_bench
-// does with the word `times`.
+// same words, in the same order, and nothing else; and a std::map under one lock. `tree ROUNDS` writes a line for each as
+// `tree_benches times calls ROUNDS` does, but for the sums of answers.
 #include "waiters.hpp"
 #include <algorithm>
 #include <chrono>
@@ -25,7 +25,7 @@ struct Draws {
     }
 };
 
-// What is drawn, as in crates/tree_bench.
+// What is drawn, as in crates/tree_benches.
 enum class Mix { MostlyGets, HalfGets, Load };
 
 struct MixNumbers {

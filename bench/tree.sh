@@ -6,18 +6,18 @@
 set -eu
 top=$(cd "$(dirname "${BASH_SOURCE[0]}")/.." && pwd)
 out=$top/bench/out
-program=$top/crates/tree_bench/out/tree_bench
+program=$top/crates/tree_benches/out/tree_benches
 rounds=${1:-300000}
 times=${2:-5}
 mkdir -p "$out"
-# The program is built, run once, and ends with 2 where it has no words.
-(cd "$top/crates/tree_bench" && rt run -- 1 </dev/null >"$out/told" 2>&1) || { cat "$out/told" >&2; exit 1; }
+# The program is built, and does nothing where it has no words.
+(cd "$top/crates/tree_benches" && rt run -- </dev/null >"$out/told" 2>&1) || { cat "$out/told" >&2; exit 1; }
 g++ -O2 -std=c++17 -pthread -o "$out/tree" "$top/bench/tree.cpp"
 
 : >"$out/ours"
 : >"$out/theirs"
 for _ in $(seq "$times"); do
-    "$program" "$rounds" times >>"$out/ours"
+    "$program" times calls "$rounds" >>"$out/ours"
     "$out/tree" "$rounds" >>"$out/theirs"
 done
 echo '| where | operations | threads | ns | ns of C++ | times | ns of std::map under a lock |'

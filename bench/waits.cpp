@@ -1,5 +1,5 @@
-// Sections and waits of each waiter in one, two and four threads: the atomic accesses of crates/waits_bench on the same words, and
-// nothing else. `waits ROUNDS` writes a line for each as that program does with the word `times`.
+// Sections and waits of each waiter in one, two and four threads: the atomic accesses of the bench `waits` of crates/tree_benches on
+// the same words, and nothing else. `waits ROUNDS` writes a line for each as that program does with the word `times`.
 #include "waiters.hpp"
 #include <chrono>
 #include <cstdio>

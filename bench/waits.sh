@@ -5,18 +5,18 @@
 set -eu
 top=$(cd "$(dirname "${BASH_SOURCE[0]}")/.." && pwd)
 out=$top/bench/out
-program=$top/crates/waits_bench/out/waits_bench
+program=$top/crates/tree_benches/out/tree_benches
 rounds=${1:-2000000}
 mkdir -p "$out"
-# The program is built, run once, and ends with 2 where it has no words.
-(cd "$top/crates/waits_bench" && rt run -- 1 </dev/null >"$out/told" 2>&1) || { cat "$out/told" >&2; exit 1; }
+# The program is built, and does nothing where it has no words.
+(cd "$top/crates/tree_benches" && rt run -- </dev/null >"$out/told" 2>&1) || { cat "$out/told" >&2; exit 1; }
 g++ -O2 -std=c++17 -pthread -o "$out/waits" "$top/bench/waits.cpp"
 
 # The best of five runs of each program, which take turns.
 : >"$out/ours"
 : >"$out/theirs"
 for _ in 1 2 3 4 5; do
-    "$program" "$rounds" times >>"$out/ours"
+    "$program" times waits "$rounds" >>"$out/ours"
     "$out/waits" "$rounds" >>"$out/theirs"
 done
 echo '| waiter | what | threads | ns | ns of C++ | times |'

@@ -1,25 +1,32 @@
-//! `citrus`: the words of the command line and standard input to standard output and the exit status.
+//! `citrus`: the words of the command line and standard input to standard output, standard error and the exit status.
 #![tactic(auto)]
 
-use citrus_tool::{Status, tool};
+use citrus_tool::{Status, run_words, tell};
 use io_edge::{StdSink, StdSource};
 use prcu_marks::OpenGate;
-use std::alloc::Global;
-use std::io::{ErrorKind, Read, Write};
+use std::io::ErrorKind;
 use std::process::ExitCode;
-use std::sync::Wait;
-use std::thread::Threads;
 use std::{env, io};
 
 fn main(rt: HostRuntime) -> ExitCode {
+    let mut source = StdSource::new(rt.stdin());
+    let mut sink = StdSink::new(rt.stdout());
+    let mut errors = StdSink::new(rt.stderr());
     let status = match words(&rt) {
-        Ok(words) => run(&rt, rt.alloc(), &words, rt.stdin(), rt.stdout()),
-        Err(status) => status,
+        Ok(words) => run_words(
+            &rt,
+            rt.alloc(),
+            &words,
+            &mut source,
+            &mut sink,
+            &mut errors,
+            &OpenGate,
+        ),
+        Err(status) => {
+            tell(status, &mut errors);
+            status
+        }
     };
-    // Where standard error takes nothing, the status still tells how it ended.
-    if let Some(line) = line_of(status) {
-        let _ = eprintln!(rt; "{line}");
-    }
     ExitCode::from(status.number())
 }
 
@@ -36,36 +43,5 @@ fn status_of(error: &io::Error) -> Status {
     match error.kind() {
         ErrorKind::OutOfMemory => Status::NoMemory,
         _ => Status::Usage,
-    }
-}
-
-// Does what the words ask for. What standard output holds back is passed on before the status is chosen.
-fn run<R: Threads + Wait + Sync>(
-    rt: &R,
-    alloc: Global,
-    words: &[String],
-    input: impl Read + Drop,
-    output: impl Write + Drop,
-) -> Status {
-    let mut source = StdSource::new(input);
-    let mut sink = StdSink::new(output);
-    let outcome = tool(rt, alloc, words, &mut source, &mut sink, &OpenGate);
-    match sink.flush() {
-        Ok(()) => outcome.status,
-        Err(_) => Status::WriteFault,
-    }
-}
-
-// What is told on standard error.
-fn line_of(status: Status) -> Option<&'static str> {
-    match status {
-        Status::Done => None,
-        Status::Refused => Some("not an account"),
-        Status::Usage => Some("usage: citrus run|check|load"),
-        Status::BadScript => Some("bad script"),
-        Status::ReadFault => Some("cannot read the input"),
-        Status::WriteFault => Some("cannot write the output"),
-        Status::NoMemory => Some("out of memory"),
-        Status::TooLong => Some("the input is too long"),
     }
 }

@@ -18,7 +18,7 @@ use Rattle.command_words.specs.declared.statuses.Status.TheVariants.{Done, Refus
 use Rattle.citrus_tool.specs.declared.outcome.Ran.{Ran}
 use Rattle.citrus_tool.specs.declared.outcome.Ran.TheVariants.{Nothing}
 use Rattle.command_words.specs.Commands.{Asks, Reads, limit_of}
-use Rattle.citrus_tool.specs.Leavings.{IsDrawn, LeavesTree, LeavesMade, LeavesHash}
+use Rattle.citrus_tool.specs.Leavings.{IsDrawn, RunsInThreads, LeavesMade, LeavesHash}
 use Rattle.command_words.specs.Limits.{slots_of}
 use Rattle.command_words.specs.Parts.{HasParts}
 use Rattle.citrus_tool.specs.Watching.{WatchesFor, LeavesWatched}
@@ -49,10 +49,10 @@ abbrev pub WritesRun : Mode → Option ℕ → List ℕ → List ℕ → Type 0
 WritesRun (Threads waiter cookies) slots input text = AccountsFor slots input text
 WritesRun (Schedule number) slots input text = AccountsByDraws slots number input text
 
--- what it leaves beside that: in threads the tree on which they ran, by a schedule nothing
+-- what it leaves beside that: in threads the tree on which they ran and were told what is written, by a schedule nothing
 abbrev pub LeavesRun : (mode : Mode) (slots : Option ℕ) (input text : List ℕ) → WritesRun mode slots input text → Ran → Type 0
 LeavesRun (Threads waiter cookies) slots input text accounts ran =
-    LeavesTree waiter cookies accounts.scripts (slots_of slots accounts.scripts) (length accounts.scripts) accounts.account.history ran
+    RunsInThreads waiter cookies accounts.scripts (slots_of slots accounts.scripts) accounts.account.lines accounts.account.history ran
 LeavesRun (Schedule number) slots input text accounts ran = ran ≡ Nothing
 
 -- The input has a line that is bad where a text may hold so many scripts. So it is no text of such scripts, and the text tells the
@@ -123,8 +123,8 @@ MayWrite command input text = (status : Status) × Writes command status input t
 abbrev pub Leaves : (command : Command) (status : Status) (input text : List ℕ) → Writes command status input text → Ran → Type 0
 Leaves (Run slots mode) Done input text accounts ran = LeavesRun mode slots input text accounts ran
 Leaves (Load number scripts ops waiter) Done input text writes ran = LeavesMade waiter (made_scripts number scripts ops) ran
-Leaves (Watch low high slots waiter) Done input text watches ran = LeavesWatched waiter watches.scripts (slots_of slots watches.scripts) watches.watch.account.history watches.watch.snapshots ran
-Leaves Hash Done input text accounts ran = LeavesHash accounts.scripts accounts.account.history ran
+Leaves (Watch low high slots waiter) Done input text watches ran = LeavesWatched waiter watches.scripts (slots_of slots watches.scripts) watches.watch.account.lines watches.watch.account.history watches.watch.snapshots ran
+Leaves Hash Done input text accounts ran = LeavesHash accounts.scripts accounts.account.lines accounts.account.history ran
 Leaves _ _ input text writes ran = ran ≡ Nothing
 
 -- The input was read to its end, where the command reads, and is within the command's limit; what was written is a text

@@ -5,25 +5,32 @@ use Rattle.prcu_model.specs.declared.operation.Op.{Op}
 use Rattle.prcu_model.specs.declared.operation.Line.{Line}
 use Rattle.prcu_model.specs.declared.operation.Told.{Told}
 use Rattle.prcu_model.specs.declared.operation.Update.{Update}
+use Rattle.prcu_model.specs.Dictionary.{map_of}
+use Rattle.prcu_model.specs.Fronts.{AreExplainable}
+use Rattle.prcu_model.specs.History.{IsLegal}
+use Rattle.prcu_model.specs.Lists.{Roomy, entries_of}
 use Rattle.prcu_marks.specs.declared.mark.Mark.{Mark}
 use Rattle.prcu_marks.specs.Marks.{updates_of}
 use Rattle.prcu_marks.specs.Runs.{FitsScripts}
 use Rattle.prcu_model.specs.Scripts.{op_count, default_slots_of}
 use Rattle.account_text.specs.Account.{HaveReplies}
+use Rattle.workload.specs.Summaries.{plain_summary, summary_with}
+use Rattle.client_run.specs.Crews.{HaveRun}
 use Rattle.list_laws.specs.Counts.{times}
 use Rattle.core_state.specs.declared.shape.Waiter.{Waiter}
 use Rattle.core_state.specs.declared.shape.Waiter.TheVariants.{Eer, Domain, Deer}
 use Rattle.core_state.specs.views.Views.{places_of}
 use Rattle.seat_table.specs.Gains as tree_gains
 use Rattle.seat_table.specs.Seats as tree
-use Rattle.tree_run.specs.Runs.{tickets_for}
+use Rattle.tree_run.specs.Runs.{tickets_for, HasRun}
 use Rattle.schedule_run.specs.Schedules.{IsOfSchedule}
 use Rattle.hash_core.specs.Seats.{AnswersFor}
 use Rattle.hash_core.specs.Steps.{IsQuiet}
 use Rattle.class_hash.specs.Answers.{IsInformed}
+use Rattle.class_hash.specs.Clients.{HasCalled}
 use Rattle.class_hash.specs.Seats.{SeatAt, TableAt}
 use Rattle.hash_run.specs.Capacities.{AreCapacities}
-use Rattle.hash_run.specs.Crews.{HaveNoWaits}
+use Rattle.hash_run.specs.Crews.{HaveNoWaits, StandsFor, client_for}
 use Rattle.command_words.specs.declared.commands.Mode.{Mode}
 use Rattle.command_words.specs.declared.commands.Mode.TheVariants.{Threads, Schedule}
 use Rattle.citrus_tool.specs.declared.outcome.Ran.{Ran}
@@ -39,10 +46,11 @@ abbrev pub LeavesSome : List (List Op) → Ran → Type 0 → Type 0
 LeavesSome [] ran left = ran ≡ Nothing
 LeavesSome (script ∷ scripts) ran left = left
 
--- The tree on which the scripts ran, which has so many slots and places, and the tickets for their operations, by clients that hold
--- cookies or don't; and the one seat into which those of all its places were joined. The seat is quiet, answers for every place, and is
--- informed, so it may go on.
-pub record IsTreeLeftOf (cookies : Bool) (scripts : List (List Op)) (slots places : ℕ) (history : List Update) (table : tree.TableAt) (seat : tree.SeatAt) : Type 0 where
+-- The tree on which the scripts ran, which has so many slots and places, and the tickets for their operations; and the one seat into which
+-- those of all its places were joined. Each script's calls were made there by a client of its own, which holds cookies or doesn't, and
+-- were told this. The seat is quiet, answers for every place, and is informed, so it may go on.
+pub record IsTreeLeftOf (way : ℕ) (cookies : Bool) (scripts : List (List Op)) (slots places : ℕ) (told : List (Roomy Told)) (history : List Update) (table : tree.TableAt) (seat : tree.SeatAt) : Type 0 where
+  pub run : HasRun way cookies table scripts told seat
   pub of_table : seat.table ≡ table
   pub slots_are : table.slots ≡ slots
   pub places_are : table.places ≡ places
@@ -52,15 +60,27 @@ pub record IsTreeLeftOf (cookies : Bool) (scripts : List (List Op)) (slots place
   pub informed : tree_gains.IsInformed seat.view
   pub marks : AreMarksOf scripts history seat.view.seen
 
+-- the number of a waiter
+abbrev pub number_of : Waiter → ℕ
+number_of Eer = 0
+number_of Domain = 1
+number_of Deer = 2
+
 -- a tree of this waiter and a seat on it
 abbrev pub tree_with : Waiter → tree.TableAt → tree.SeatAt → Ran
 tree_with Eer table seat = OnEer table seat
 tree_with Domain table seat = OnDomain table seat
 tree_with Deer table seat = OnDeer table seat
 
-abbrev pub LeavesTree : Waiter → Bool → List (List Op) → ℕ → ℕ → List Update → Ran → Type 0
-LeavesTree waiter cookies scripts slots places history ran =
-    LeavesSome scripts ran ((table : tree.TableAt) × (seat : tree.SeatAt) × (ran ≡ tree_with waiter table seat) × IsTreeLeftOf cookies scripts slots places history table seat)
+abbrev pub LeavesTree : Waiter → Bool → List (List Op) → ℕ → ℕ → List (Roomy Told) → List Update → Ran → Type 0
+LeavesTree waiter cookies scripts slots places told history ran =
+    LeavesSome scripts ran ((table : tree.TableAt) × (seat : tree.SeatAt) × (ran ≡ tree_with waiter table seat) × IsTreeLeftOf (number_of waiter) cookies scripts slots places told history table seat)
+
+-- In threads the scripts leave the tree of their waiter, with a place for each, and the lines have the replies that their calls on it were
+-- told.
+abbrev pub RunsInThreads : Waiter → Bool → List (List Op) → ℕ → List (List Line) → List Update → Ran → Type 0
+RunsInThreads waiter cookies scripts slots lines history ran =
+    (told : List (Roomy Told)) × LeavesTree waiter cookies scripts slots (length scripts) told history ran × HaveReplies (entries_of told) lines
 
 -- The replies of the lines and the history are those of the run whose steps the number draws. Without scripts there is no step.
 abbrev pub IsDrawn : List (List Op) → ℕ → ℕ → List (List Line) → List Update → Type 0
@@ -68,21 +88,29 @@ IsDrawn [] slots number lines history = history ≡ []
 IsDrawn (script ∷ scripts) slots number lines history =
     (told : List (List Told)) × IsOfSchedule (script ∷ scripts) slots number told history × HaveReplies told lines
 
--- In threads the scripts leave the tree of their waiter, with a place for each. By a schedule they leave nothing, and the replies of
--- their lines and their history are drawn.
+-- By a schedule the scripts leave nothing, and the replies of their lines and their history are drawn.
 abbrev pub RunsBy : Mode → List (List Op) → ℕ → List (List Line) → List Update → Ran → Type 0
-RunsBy (Threads waiter cookies) scripts slots lines history ran = LeavesTree waiter cookies scripts slots (length scripts) history ran
+RunsBy (Threads waiter cookies) scripts slots lines history ran = RunsInThreads waiter cookies scripts slots lines history ran
 RunsBy (Schedule number) scripts slots lines history ran = (ran ≡ Nothing) × IsDrawn scripts slots number lines history
 
--- A made workload leaves the tree too, with the default slots and some history.
+-- This history is legal and explains what the scripts were told, and the summary of running them one after another counts just that.
+pub record IsSummedUp (scripts : List (List Op)) (told : List (Roomy Told)) (history : List Update) : Type 0 where
+  pub explained : AreExplainable scripts (entries_of told) history (default_slots_of scripts)
+  pub legal : IsLegal history
+  pub counted : plain_summary scripts ≡ summary_with scripts (entries_of told) (map_of history)
+
+-- A made workload leaves the tree too, with the default slots. What its calls on it were told is summed up.
 pub record LeavesMade (waiter : Waiter) (scripts : List (List Op)) (ran : Ran) : Type 0 where
+  pub told : List (Roomy Told)
   pub history : List Update
-  pub left : LeavesTree waiter false scripts (default_slots_of scripts) (length scripts) history ran
+  pub left : LeavesTree waiter false scripts (default_slots_of scripts) (length scripts) told history ran
+  pub summed : IsSummedUp scripts told history
 
 -- The hash dictionary on which the scripts ran, which has a place for each and a ticket for each operation, and the one seat into which
--- those of all scripts were joined; none of its marks is a wait's. The seat is quiet, answers for the place of every script, and is
--- informed, so it may go on.
-pub record IsLeftOf (scripts : List (List Op)) (history : List Update) (table : TableAt) (seat : SeatAt) : Type 0 where
+-- those of all scripts were joined; none of its marks is a wait's. Each script's calls were made there by a client of its own, and were
+-- told this. The seat is quiet, answers for the place of every script, and is informed, so it may go on.
+pub record IsLeftOf (scripts : List (List Op)) (told : List (Roomy Told)) (history : List Update) (table : TableAt) (seat : SeatAt) : Type 0 where
+  pub run : HaveRun (client_for table) HasCalled (StandsFor table) scripts told seat.view
   pub of_table : seat.table ≡ table.id
   pub capacities : AreCapacities scripts table.capacities
   pub places : table.places ≡ length scripts
@@ -93,5 +121,6 @@ pub record IsLeftOf (scripts : List (List Op)) (history : List Update) (table : 
   pub marks : AreMarksOf scripts history seat.view.seen
   pub waits : HaveNoWaits seat.view.seen
 
-abbrev pub LeavesHash : List (List Op) → List Update → Ran → Type 0
-LeavesHash scripts history ran = LeavesSome scripts ran ((table : TableAt) × (seat : SeatAt) × (ran ≡ Hash table seat) × IsLeftOf scripts history table seat)
+abbrev pub LeavesHash : List (List Op) → List (List Line) → List Update → Ran → Type 0
+LeavesHash scripts lines history ran =
+    (told : List (Roomy Told)) × LeavesSome scripts ran ((table : TableAt) × (seat : SeatAt) × (ran ≡ Hash table seat) × IsLeftOf scripts told history table seat) × HaveReplies (entries_of told) lines

@@ -2,15 +2,19 @@
 -- Source: docs/FORMATS.md, "Watch texts", and docs/ARCHITECTURE.md, "A run".
 use Rattle.std.specs.Prelude.{◌≡◌, ℕ, ◌+◌, false, List, length, Option, None}
 use Rattle.prcu_model.specs.declared.operation.Op.{Op}
+use Rattle.prcu_model.specs.declared.operation.Line.{Line}
+use Rattle.prcu_model.specs.declared.operation.Told.{Told}
 use Rattle.prcu_model.specs.declared.operation.Update.{Update}
+use Rattle.prcu_model.specs.Lists.{Roomy, entries_of}
 use Rattle.prcu_model.specs.Slots.{LacksFull, StaysWithin}
+use Rattle.account_text.specs.Account.{HaveReplies}
 use Rattle.script_text.specs.Grammar.{IsScriptTextUpTo}
 use Rattle.core_state.specs.declared.shape.Waiter.{Waiter}
 use Rattle.seat_table.specs.Seats.{TableAt, SeatAt}
 use Rattle.range_snapshots.specs.Snapshots.{SnapshotAt, WereLookedAt}
 use Rattle.range_snapshots.specs.WatchText.{IsWatchText}
 use Rattle.citrus_tool.specs.declared.outcome.Ran.{Ran}
-use Rattle.citrus_tool.specs.Leavings.{LeavesSome, IsTreeLeftOf, tree_with}
+use Rattle.citrus_tool.specs.Leavings.{LeavesSome, IsTreeLeftOf, number_of, tree_with}
 use Rattle.command_words.specs.Limits.{slots_of}
 
 -- The text is a watch text of the scripts that the input holds, at most 63, with this range. Where no number of slots was given, no line
@@ -22,8 +26,14 @@ pub record WatchesFor (slots : Option ℕ) (low high : ℕ) (input text : List �
   pub never_full : slots ≡ None → LacksFull watch.account.lines
   pub within_slots : StaysWithin watch.account.history (slots_of slots scripts + 20)
 
--- A watched run leaves the tree too, which has twenty slots and one place more than that of a run alone: those of the lists. The seat keeps
--- the looks at the front by which that place found the lists that were written.
-abbrev pub LeavesWatched : Waiter → List (List Op) → ℕ → List Update → List SnapshotAt → Ran → Type 0
-LeavesWatched waiter scripts slots history lists ran =
-    LeavesSome scripts ran ((table : TableAt) × (seat : SeatAt) × (ran ≡ tree_with waiter table seat) × IsTreeLeftOf false scripts (slots + 20) (length scripts + 1) history table seat × WereLookedAt (length scripts) seat.view.looks lists)
+-- The tree of a watched run has twenty slots and one place more than that of a run alone: those of the lists. The seat keeps the looks at the
+-- front by which that place found the lists that were written.
+abbrev pub IsWatchedTree : ℕ → List (List Op) → ℕ → List (Roomy Told) → List Update → List SnapshotAt → TableAt → SeatAt → Type 0
+IsWatchedTree way scripts slots told history lists table seat =
+    IsTreeLeftOf way false scripts (slots + 20) (length scripts + 1) told history table seat × WereLookedAt (length scripts) seat.view.looks lists
+
+-- A watched run leaves it, and the lines have the replies that the scripts' calls on it were told.
+abbrev pub LeavesWatched : Waiter → List (List Op) → ℕ → List (List Line) → List Update → List SnapshotAt → Ran → Type 0
+LeavesWatched waiter scripts slots lines history lists ran =
+    (told : List (Roomy Told)) × LeavesSome scripts ran ((table : TableAt) × (seat : SeatAt) × (ran ≡ tree_with waiter table seat) × IsWatchedTree (number_of waiter) scripts slots told history lists table seat)
+    × HaveReplies (entries_of told) lines

@@ -3,13 +3,15 @@
 
 pub mod laws;
 mod outcome;
+mod program;
 mod running;
 mod top;
 mod treeing;
 mod watching;
 
-pub use command_words::{Command, Mode, Status};
+pub use command_words::{Command, Mode, Status, tell};
 /// The client that `run --cookies` runs.
 pub use cookie_client::CookieClient;
 pub use outcome::{Outcome, Ran};
+pub use program::run_words;
 pub use top::tool;

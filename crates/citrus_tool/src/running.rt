@@ -1,7 +1,7 @@
 //! What each command makes of its input.
 ghost use Rattle.std.specs.Prelude.{◌≡◌, ◌≤◌, ◌++◌, [], ℕ, List, IfOk, length, codes, decimal};
 ghost use Rattle.prcu_model.specs.Slots.{StaysWithin};
-ghost use Rattle.account_text.specs.Account.{IsAccount};
+ghost use Rattle.account_text.specs.Account.{IsAccount, HaveReplies};
 ghost use Rattle.prcu_model.specs.Scripts.{default_slots_of};
 ghost use Rattle.citrus_tool.specs.Answers.{Writes, Leaves, Judges};
 ghost use Rattle.citrus_tool.specs.Leavings.{RunsBy, IsDrawn, LeavesHash};
@@ -125,7 +125,7 @@ fn run_by<R: Threads + Wait + Sync, G: Gate + Sync>(
 // The account of no scripts.
 fn account_of_none(alloc: Global, scripts: &Scripts, slots: u32) -> Result<Vec<u8>, NoMemory>
     requires { length scripts.now ≡ 0 }
-    ensures { IfOk result (λ text. (account : IsAccount scripts.now slots text.items) × (account.history ≡ [])) }
+    ensures { IfOk result (λ text. (account : IsAccount scripts.now slots text.items) × (account.history ≡ []) × HaveReplies [] account.lines) }
 {
     make_account(alloc, scripts, &[], &[], slots)
 }
@@ -220,7 +220,7 @@ fn hash_scripts<R: Threads + Wait + Sync, G: Gate + Sync>(
     gate: &G,
 ) -> Result<(Vec<u8>, Ran), NoMemory>
     ensures { IfOk result (λ made. (account : IsAccount scripts.now (default_slots_of scripts.now) made.0.items)
-        × LeavesHash scripts.now account.history made.1) }
+        × LeavesHash scripts.now account.lines account.history made.1) }
 {
     if scripts.count() == 0 {
         return Ok((

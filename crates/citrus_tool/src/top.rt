@@ -1,10 +1,11 @@
 //! The top call.
 ghost use Rattle.std.specs.Prelude.{◌≡◌, ◌≤◌, ◌⊎◌, ◌↔◌, ℕ, List, Some, Err, IfOk, OnOk, map, length, string_bytes};
 ghost use Rattle.io_edge.specs.Edge.{Rose, Takes, IsAtEnd};
-ghost use Rattle.io_edge.specs.Whole.{TakesToLimit};
+ghost use Rattle.io_edge.specs.Whole.{TakesToLimit, ReadsToEnd};
 ghost use Rattle.command_words.specs.declared.commands.Command as command;
 ghost use Rattle.citrus_tool.specs.Answers.{Answered, AnsweredInPart, AnsweredBy, AnsweredInPartBy, IsAnswerable, WritesNothing};
 ghost use Rattle.command_words.specs.Commands.{Asks, IsCommand, IsInRange, Reads, limit_of};
+ghost use Rattle.command_words.specs.Statuses.{WritesWhole};
 
 use crate::outcome::{Outcome, Ran};
 use crate::running::answer_to;
@@ -47,6 +48,10 @@ pub fn tool<R: Threads + Wait + Sync, S: Source, K: Sink, G: Gate + Sync>(
     ensures too_long { (command : command.Command) → Asks (map string_bytes words.now) command
         → TakesToLimit (limit_of command) (S.rest source.old) (S.rest source.new) (result.status ≡ Status.TooLong) }
 
+    // Where something may have been written the input was read to its end, and nothing was read after the end was told.
+    ensures last { (WritesNothing result.status → ⊥) → (command : command.Command) → Asks (map string_bytes words.now) command → Reads command
+        → ReadsToEnd S.reads source.old source.new }
+
     // What was written answers what was read, and what is left is what the run made.
     ensures done { result.status ≡ Status.Done → Answered (map string_bytes words.now) Status.Done
         (S.rest source.old) (S.rest source.new) (K.bytes sink.old) (K.bytes sink.new) result.ran }
@@ -57,6 +62,7 @@ pub fn tool<R: Threads + Wait + Sync, S: Source, K: Sink, G: Gate + Sync>(
     ensures cut_short { result.status ≡ Status.WriteFault → AnsweredInPart (map string_bytes words.now)
         (S.rest source.old) (S.rest source.new) (K.bytes sink.old) (K.bytes sink.new) }
     ensures unwritten { WritesNothing result.status → sink.new ≡ sink.old }
+    ensures passed_on { WritesWhole result.status → K.passed_on sink.new }
 
     // An input with good scripts within the limit is answered, unless a count rose or the memory wasn't there.
     ensures complete { (command : command.Command) (input : List ℕ) → Asks (map string_bytes words.now) command
@@ -98,6 +104,8 @@ fn answer_from<R: Threads + Wait + Sync, S: Source, K: Sink, G: Gate + Sync>(
     ensures cut_short { result.status ≡ Status.WriteFault → AnsweredInPartBy command
         (S.rest source.old) (S.rest source.new) (K.bytes sink.old) (K.bytes sink.new) }
     ensures unwritten { WritesNothing result.status → sink.new ≡ sink.old }
+    ensures last { (WritesNothing result.status → ⊥) → Reads command → ReadsToEnd S.reads source.old source.new }
+    ensures passed_on { WritesWhole result.status → K.passed_on sink.new }
     ensures a_command { result.status ≡ Status.Usage → ⊥ }
     ensures reads_nothing { (Reads command → ⊥) → source.new ≡ source.old }
     ensures left { (result.status ≡ Status.Done → ⊥) → result.ran ≡ Ran.Nothing }
@@ -129,6 +137,7 @@ fn input_of<S: Source>(
     ensures short { IfOk result (λ text. length text.items ≤ limit_of command) }
     ensures whole { IfOk result (λ text. Takes (S.rest source.old) (S.rest source.new) text.items) }
     ensures end { OnOk result (Reads command → IsAtEnd (S.rest source.new)) }
+    ensures last { OnOk result (Reads command → ReadsToEnd S.reads source.old source.new) }
     ensures unread { (Reads command → ⊥) → source.new ≡ source.old }
     ensures too_long { TakesToLimit (limit_of command) (S.rest source.old) (S.rest source.new) (result ≡ Err ReadError.TooLong) }
     ensures fault { result ≡ Err ReadError.Fault → Rose (S.faults source.old) (S.faults source.new) }

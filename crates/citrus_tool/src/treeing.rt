@@ -2,12 +2,14 @@
 ghost use Rattle.std.specs.Prelude.{◌≡◌, ◌≤◌, false, List, IfOk, length};
 ghost use Rattle.prcu_model.specs.Slots.{StaysWithin};
 ghost use Rattle.prcu_model.specs.Scripts.{default_slots_of};
+ghost use Rattle.prcu_model.specs.declared.operation.Told.{Told};
 ghost use Rattle.prcu_model.specs.declared.operation.Update.{Update};
-ghost use Rattle.account_text.specs.Account.{IsAccount};
+ghost use Rattle.prcu_model.specs.Lists.{Roomy, entries_of};
+ghost use Rattle.account_text.specs.Account.{IsAccount, HaveReplies};
 ghost use Rattle.workload.specs.Draws.{IsMade};
 ghost use Rattle.workload.specs.Summaries.{plain_summary};
 ghost use Rattle.workload.specs.SummaryText.{summary_text};
-ghost use Rattle.citrus_tool.specs.Leavings.{IsTreeLeftOf, LeavesTree, LeavesMade};
+ghost use Rattle.citrus_tool.specs.Leavings.{IsTreeLeftOf, RunsInThreads, IsSummedUp, LeavesMade};
 
 use crate::outcome::Ran;
 use account_text::make_account;
@@ -47,7 +49,7 @@ pub(crate) fn account_in_threads<R: Threads + Wait + Sync, G: Gate + Sync>(
     requires some { 1 ≤ length scripts.now }
     requires slots { (1 ≤ slots) × (slots ≤ 2097152) }
     ensures { IfOk result (λ made. (account : IsAccount scripts.now slots made.0.items) × StaysWithin account.history slots
-        × LeavesTree waiter cookies scripts.now slots (length scripts.now) account.history made.1) }
+        × RunsInThreads waiter cookies scripts.now slots account.lines account.history made.1) }
 {
     match waiter {
         Waiter::Eer => {
@@ -84,7 +86,8 @@ fn account_on<R: Threads + Wait + Sync, W: WaitPart + Send + Sync, G: Gate + Syn
     requires some { 1 ≤ length scripts.now }
     requires slots { (1 ≤ slots) × (slots ≤ 2097152) }
     ensures { IfOk result (λ made. (account : IsAccount scripts.now slots made.text.items) × StaysWithin account.history slots
-        × IsTreeLeftOf cookies scripts.now slots (length scripts.now) account.history made.table made.seat) }
+        × ((told : List (Roomy Told)) × IsTreeLeftOf W.WAY cookies scripts.now slots (length scripts.now) told account.history made.table made.seat
+        × HaveReplies (entries_of told) account.lines)) }
 {
     let ran = run_scripts(rt, alloc, scripts, slots, cookies, gate)?;
     let text = make_account(alloc, scripts, &ran.told, &ran.history, slots)?;
@@ -135,8 +138,9 @@ fn summary_on<R: Threads + Wait + Sync, W: WaitPart + Send + Sync, G: Gate + Syn
     requires made { IsMade scripts.now }
     requires some { 1 ≤ length scripts.now }
     ensures text { IfOk result (λ made. made.text.items ≡ summary_text (plain_summary scripts.now)) }
-    ensures left { IfOk result (λ made. (history : List Update)
-        × IsTreeLeftOf false scripts.now (default_slots_of scripts.now) (length scripts.now) history made.table made.seat) }
+    ensures left { IfOk result (λ made. (told : List (Roomy Told)) × (history : List Update)
+        × IsTreeLeftOf W.WAY false scripts.now (default_slots_of scripts.now) (length scripts.now) told history made.table made.seat
+        × IsSummedUp scripts.now told history) }
 {
     let ran = run_scripts(rt, alloc, scripts, default_slots(scripts), false, gate)?;
     let summary = summary_of(alloc, scripts, &ran.told, &ran.history)?;

@@ -1,10 +1,11 @@
 //! Scripts that run beside each other on one search tree, and lists of a key range beside them: what is written of both, and the tree.
-ghost use Rattle.std.specs.Prelude.{◌≡◌, ◌+◌, ◌≤◌, false, IfOk, length};
+ghost use Rattle.std.specs.Prelude.{◌≡◌, ◌+◌, ◌≤◌, List, IfOk, length};
+ghost use Rattle.prcu_model.specs.declared.operation.Told.{Told};
+ghost use Rattle.prcu_model.specs.Lists.{Roomy, entries_of};
 ghost use Rattle.prcu_model.specs.Slots.{StaysWithin};
-ghost use Rattle.range_snapshots.specs.Snapshots.{WereLookedAt};
+ghost use Rattle.account_text.specs.Account.{HaveReplies};
 ghost use Rattle.range_snapshots.specs.WatchText.{IsWatchText};
-ghost use Rattle.citrus_tool.specs.Leavings.{IsTreeLeftOf};
-ghost use Rattle.citrus_tool.specs.Watching.{LeavesWatched};
+ghost use Rattle.citrus_tool.specs.Watching.{IsWatchedTree, LeavesWatched};
 
 use crate::outcome::Ran;
 use core_state::shape::Waiter;
@@ -40,7 +41,7 @@ pub(crate) fn watch_in_threads<R: Threads + Wait + Sync, G: Gate + Sync>(
     requires few { length scripts.now ≤ 63 }
     requires slots { (1 ≤ slots) × (slots ≤ 2097132) }
     ensures { IfOk result (λ made. (watch : IsWatchText scripts.now slots keys.low keys.high made.0.items)
-        × StaysWithin watch.account.history (slots + 20) × LeavesWatched waiter scripts.now slots watch.account.history watch.snapshots made.1) }
+        × StaysWithin watch.account.history (slots + 20) × LeavesWatched waiter scripts.now slots watch.account.lines watch.account.history watch.snapshots made.1) }
 {
     if scripts.count() == 0 {
         let none = Snapshots::empty(alloc)?;
@@ -77,8 +78,8 @@ fn watch_on<R: Threads + Wait + Sync, W: WaitPart + Send + Sync, G: Gate + Sync>
     requires slots { (1 ≤ slots) × (slots ≤ 2097132) }
     ensures { IfOk result (λ made. (watch : IsWatchText scripts.now slots keys.low keys.high made.text.items)
         × StaysWithin watch.account.history (slots + 20)
-        × IsTreeLeftOf false scripts.now (slots + 20) (length scripts.now + 1) watch.account.history made.table made.seat
-        × WereLookedAt (length scripts.now) made.seat.view.looks watch.snapshots) }
+        × ((told : List (Roomy Told)) × IsWatchedTree W.WAY scripts.now slots told watch.account.history watch.snapshots made.table made.seat
+        × HaveReplies (entries_of told) watch.account.lines)) }
 {
     let ran = run_watched(rt, alloc, scripts, slots, keys, gate)?;
     let text = make_watch_text(

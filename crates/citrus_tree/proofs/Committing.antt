@@ -7,9 +7,9 @@ use Rattle.core_state.specs.steps.Locks.{with_front}
 use Rattle.core_points.specs.declared.stage.Stage.TheVariants as at
 use Rattle.core_points.specs.declared.stage.Update.{Update}
 use Rattle.core_points.specs.Programs.{past_even}
-use Rattle.seat_table.specs.declared.case.Case.TheVariants.{K19, K24}
-use Rattle.seat_table.specs.Cases.{Needs, noted}
-use Rattle.seat_table.specs.Told.{Told}
+use Rattle.core_acts.specs.declared.act.Act.TheVariants as acts
+use Rattle.core_acts.specs.Acts.{noted}
+use Rattle.seat_table.specs.Told.{IsAsked, Told}
 use Rattle.tree_points.specs.At.{IsAt}
 use Rattle.tree_points.proofs.Steps.{commits_any}
 use Rattle.tree_points.proofs.Updating.{passes_commit_made, passes_commit_again, passes_even}
@@ -23,24 +23,24 @@ pub tried_none : (v : View) → Tried v v
 tried_none v = refl
 
 module _ (k : Shape) (v w : View) (t : Tried v w) where
-  pub may_open : (expected : ℕ) → expected % 2 ≡ 0 → v.moving ≡ None → v.commit ≡ None → Needs k w (K19 expected)
-  may_open expected even settled paid = record { even = even; settled = ap (λ (z : View). z.moving) t ∙ settled; paid = ap (λ (z : View). z.commit) t ∙ paid }
+  pub may_open : (expected : ℕ) → expected % 2 ≡ 0 → v.moving ≡ None → v.commit ≡ None → IsAsked k w (acts.OpenCommit expected)
+  may_open expected even settled paid = λ now. (tt, record { even = even; settled = ap (λ (z : View). z.moving) t ∙ settled; paid = ap (λ (z : View). z.commit) t ∙ paid })
 
-  module _ (expected found : ℕ) (x : View) (told : Told k w (K19 expected) found x) where
+  module _ (expected found : ℕ) (x : View) (told : Told k w (acts.OpenCommit expected) found x) where
     pub opens : found ≡ expected → Opened v found x
     opens same =
-        let u : View = noted w (K19 expected) found in
+        let u : View = noted w (acts.OpenCommit expected) found in
         let goes : x ≡ record (with_front u (expected + 1)) { commit = Some (record { found = expected; stored = false }) } =
-        told.2 ∙ ap (λ z. cond z (record (with_front u (expected + 1)) { commit = Some (record { found = expected; stored = false }) }) (with_front u found)) (eq-eqb found expected same) in
+        told.goes ∙ ap (λ z. cond z (record (with_front u (expected + 1)) { commit = Some (record { found = expected; stored = false }) }) (with_front u found)) (eq-eqb found expected same) in
         let latest = ap (λ (z : View). z.latest) goes in
         let trail = ap (λ (z : View). z.trail) goes in
         goes ∙ (λ i. record (t i) { commit = Some (record { found = (sym same) i; stored = false }); latest = (sym latest) i; trail = (sym trail) i })
 
     pub tries : found ≢ expected → Tried v x
     tries other =
-        let u : View = noted w (K19 expected) found in
+        let u : View = noted w (acts.OpenCommit expected) found in
         let goes : x ≡ with_front u found =
-        told.2 ∙ ap (λ z. cond z (record (with_front u (expected + 1)) { commit = Some (record { found = expected; stored = false }) }) (with_front u found)) (ne_eqb found expected other) in
+        told.goes ∙ ap (λ z. cond z (record (with_front u (expected + 1)) { commit = Some (record { found = expected; stored = false }) }) (with_front u found)) (ne_eqb found expected other) in
         let latest = ap (λ (z : View). z.latest) goes in
         let trail = ap (λ (z : View). z.trail) goes in
         goes ∙ (λ i. record (t i) { latest = (sym latest) i; trail = (sym trail) i })
@@ -57,11 +57,11 @@ pub any_begins : (k : Shape) (v : View) (expected : ℕ) → expected % 2 ≡ 0 
 any_begins k v expected even op kept e u a = commits_any a expected even
 
 module _ (k : Shape) (v w : View) (front : ℕ) where
-  pub may_close : v.commit ≡ Some (record { found = front; stored = true }) → Needs k v (K24 (front + 2))
-  may_close odd = (front, odd, refl)
+  pub may_close : v.commit ≡ Some (record { found = front; stored = true }) → IsAsked k v (acts.CloseCommit (front + 2))
+  may_close odd = λ now. (tt, (front, odd, refl))
 
-  pub closes : Told k v (K24 (front + 2)) (front + 2) w → Closed v w
-  closes told = let latest = ap (λ (z : View). z.latest) told.2 in let trail = ap (λ (z : View). z.trail) told.2 in told.2 ∙ (λ i. record v { commit = None; latest = (sym latest) i; trail = (sym trail) i })
+  pub closes : Told k v (acts.CloseCommit (front + 2)) (front + 2) w → Closed v w
+  closes told = let latest = ap (λ (z : View). z.latest) told.goes in let trail = ap (λ (z : View). z.trail) told.goes in told.goes ∙ (λ i. record v { commit = None; latest = (sym latest) i; trail = (sym trail) i })
 
-  pub closes_at : Told k v (K24 (front + 2)) (front + 2) w → (op : Op) (kept : ℕ) (u : Update) → IsAt k op kept (at.Even u front) v → IsAt k op kept (past_even u ((front + 2) / 2)) w
+  pub closes_at : Told k v (acts.CloseCommit (front + 2)) (front + 2) w → (op : Op) (kept : ℕ) (u : Update) → IsAt k op kept (at.Even u front) v → IsAt k op kept (past_even u ((front + 2) / 2)) w
   closes_at told op kept u a = passes_even a told

@@ -16,7 +16,7 @@ use Rattle.core_points.specs.declared.stage.Last.TheVariants as last
 use Rattle.core_points.specs.declared.stage.Stage.TheVariants as at
 use Rattle.core_points.specs.declared.stage.Update.TheVariants as update
 use Rattle.core_points.specs.Programs.{deleting}
-use Rattle.seat_table.specs.declared.case.Case.TheVariants.{K22}
+use Rattle.core_acts.specs.declared.act.Act.TheVariants as acts
 use Rattle.seat_table.specs.Gains.{TellsNow}
 use Rattle.seat_table.specs.Told.{Told}
 use Rattle.tree_points.specs.At.{IsAt}
@@ -56,7 +56,7 @@ module _ {k : Shape} {op : Op} {kept : ℕ} (d : Node) (child : ℕ) (is : child
   pub marking : {v : View} → IsAt k op kept (deleting d None) v → IsAt k op kept (at.Mark d child) v
   marking {v} a = subst (λ x. IsAt k op kept (at.Mark d x) v) (sym is) a
 
-  pub marked : {v w : View} {n : ℕ} → IsAt k op kept (deleting d None) v → Told k v (K22 d.node (2 * d.generation)) n w → IsAt k op kept (at.Commit (update.Bypass d child) 0) w
+  pub marked : {v w : View} {n : ℕ} → IsAt k op kept (deleting d None) v → Told k v (acts.Mark d.node (2 * d.generation)) n w → IsAt k op kept (at.Commit (update.Bypass d child) 0) w
   marked a t = passes_mark (marking a) t 0 refl
 
 -- with the front to be opened, and open

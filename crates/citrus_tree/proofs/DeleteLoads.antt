@@ -5,8 +5,6 @@ use Rattle.prcu_marks.specs.declared.mark.Side.TheVariants.{Left, Right}
 use Rattle.prcu_model.specs.declared.operation.Op.{Op}
 use Rattle.core_state.specs.declared.shape.Shape.{Shape}
 use Rattle.core_state.specs.declared.view.View.{View}
-use Rattle.core_state.specs.declared.words.Field.TheVariants.{Link}
-use Rattle.core_state.specs.memory.Words.{side_number}
 use Rattle.core_points.specs.declared.stage.Node.{Node}
 use Rattle.core_points.specs.declared.stage.Successor.{Successor}
 use Rattle.core_points.specs.declared.stage.Target.{Target}
@@ -16,12 +14,11 @@ use Rattle.core_points.specs.DeleteFacts.{two_children}
 use Rattle.core_points.specs.DeletePlan.{successor_holds, target_holds, with_found}
 use Rattle.core_points.specs.Programs.{past_target_load}
 use Rattle.core_points.proofs.PutLocks.{both_true}
-use Rattle.seat_table.specs.declared.case.Case.TheVariants.{K18}
-use Rattle.seat_table.specs.Cases.{Needs}
-use Rattle.seat_table.specs.Gains.{TellsNow}
-use Rattle.seat_table.specs.Told.{Told}
+use Rattle.core_acts.specs.declared.act.Act.TheVariants as acts
+use Rattle.core_acts.specs.declared.act.Part.{Part}
+use Rattle.core_acts.specs.declared.act.Part.TheVariants as part
+use Rattle.seat_table.specs.Told.{IsAsked, Told}
 use Rattle.tree_points.specs.At.{IsAt}
-use Rattle.tree_points.specs.Asked.{number_of}
 use Rattle.tree_points.proofs.Deleting.{needs_target_load, passes_target_load}
 use Rattle.tree_points.proofs.Steps.{at_false, at_true}
 use Rattle.citrus_tree.specs.Deletes.{AreLivesSmall}
@@ -43,16 +40,16 @@ next_3 : (d : Node) (o : Option Successor) (f : Found) → past_target_load (rec
 next_3 d None f = refl
 next_3 d (Some u) f = refl
 
-pub load_0 : {k : Shape} {op : Op} {kept n : ℕ} {v w : View} (t : Target) (f : Found) → IsAt k op kept (at.TargetLoad t 0 f) v → Told k v (K18 t.node.parent 2) n w → IsAt k op kept (at.TargetLoad t 1 (with_found f 0 n)) w
+pub load_0 : {k : Shape} {op : Op} {kept n : ℕ} {v w : View} (t : Target) (f : Found) → IsAt k op kept (at.TargetLoad t 0 f) v → Told k v (acts.LockedLoad t.node.parent part.Life) n w → IsAt k op kept (at.TargetLoad t 1 (with_found f 0 n)) w
 load_0 {k} {op} {kept} {n} {v} {w} t f a told = subst (λ s. IsAt k op kept s w) (next_0 t.node t.successor (with_found f 0 n)) (passes_target_load a told)
 
-pub load_1 : {k : Shape} {op : Op} {kept n : ℕ} {v w : View} (t : Target) (f : Found) → IsAt k op kept (at.TargetLoad t 1 f) v → Told k v (K18 t.node.parent (side_number t.node.side)) n w → IsAt k op kept (at.TargetLoad t 2 (with_found f 1 n)) w
+pub load_1 : {k : Shape} {op : Op} {kept n : ℕ} {v w : View} (t : Target) (f : Found) → IsAt k op kept (at.TargetLoad t 1 f) v → Told k v (acts.LockedLoad t.node.parent (part.Link t.node.side)) n w → IsAt k op kept (at.TargetLoad t 2 (with_found f 1 n)) w
 load_1 {k} {op} {kept} {n} {v} {w} t f a told = subst (λ s. IsAt k op kept s w) (next_1 t.node t.successor (with_found f 1 n)) (passes_target_load a told)
 
-pub load_2 : {k : Shape} {op : Op} {kept n : ℕ} {v w : View} (t : Target) (f : Found) → IsAt k op kept (at.TargetLoad t 2 f) v → Told k v (K18 t.node.node 2) n w → IsAt k op kept (at.TargetLoad t 3 (with_found f 2 n)) w
+pub load_2 : {k : Shape} {op : Op} {kept n : ℕ} {v w : View} (t : Target) (f : Found) → IsAt k op kept (at.TargetLoad t 2 f) v → Told k v (acts.LockedLoad t.node.node part.Life) n w → IsAt k op kept (at.TargetLoad t 3 (with_found f 2 n)) w
 load_2 {k} {op} {kept} {n} {v} {w} t f a told = subst (λ s. IsAt k op kept s w) (next_2 t.node t.successor (with_found f 2 n)) (passes_target_load a told)
 
-pub load_3 : {k : Shape} {op : Op} {kept n : ℕ} {v w : View} (t : Target) (f : Found) → IsAt k op kept (at.TargetLoad t 3 f) v → Told k v (K18 t.node.node 5) n w → IsAt k op kept (at.TargetLoad t 4 (with_found f 3 n)) w
+pub load_3 : {k : Shape} {op : Op} {kept n : ℕ} {v w : View} (t : Target) (f : Found) → IsAt k op kept (at.TargetLoad t 3 f) v → Told k v (acts.LockedLoad t.node.node (part.Link Left)) n w → IsAt k op kept (at.TargetLoad t 4 (with_found f 3 n)) w
 load_3 {k} {op} {kept} {n} {v} {w} t f a told = subst (λ s. IsAt k op kept s w) (next_3 t.node t.successor (with_found f 3 n)) (passes_target_load a told)
 
 -- Those of the successor: where the node is its parent, the life of that parent is left out.
@@ -62,20 +59,20 @@ to_link d u f same a = at_true (u.parent == d.node) _ _ (eq-eqb u.parent d.node 
 pub to_parent : {k : Shape} {op : Op} {kept : ℕ} {v : View} (d : Node) (u : Successor) (f : Found) → u.parent ≢ d.node → IsAt k op kept (past_target_load (two_children d u) 4 f) v → IsAt k op kept (at.TargetLoad (two_children d u) 5 f) v
 to_parent d u f other a = at_false (u.parent == d.node) _ _ (ne_eqb u.parent d.node other) a
 
-abbrev link_number : (d : Node) (u : Successor) (z : Bool) → ℕ
-link_number d u z = number_of (cond z (Link d.node Right) (Link u.parent Left))
+abbrev link_part : Bool → Part
+link_part z = cond z (part.Link Right) (part.Link Left)
 
-pub needs_link_right : {k : Shape} {op : Op} {kept : ℕ} {v : View} (d : Node) (u : Successor) (f : Found) → u.parent ≡ d.node → IsAt k op kept (at.TargetLoad (two_children d u) 6 f) v → TellsNow k v → Needs k v (K18 u.parent 6)
-needs_link_right {k} {op} {kept} {v} d u f same a now = subst (λ z. Needs k v (K18 u.parent (link_number d u z))) (eq-eqb u.parent d.node same) (needs_target_load a now)
+pub needs_link_right : {k : Shape} {op : Op} {kept : ℕ} {v : View} (d : Node) (u : Successor) (f : Found) → u.parent ≡ d.node → IsAt k op kept (at.TargetLoad (two_children d u) 6 f) v → IsAsked k v (acts.LockedLoad u.parent (part.Link Right))
+needs_link_right {k} {op} {kept} {v} d u f same a = subst (λ z. IsAsked k v (acts.LockedLoad u.parent (link_part z))) (eq-eqb u.parent d.node same) (needs_target_load a)
 
-pub load_link_right : {k : Shape} {op : Op} {kept n : ℕ} {v w : View} (d : Node) (u : Successor) (f : Found) → u.parent ≡ d.node → IsAt k op kept (at.TargetLoad (two_children d u) 6 f) v → Told k v (K18 u.parent 6) n w → IsAt k op kept (at.TargetLoad (two_children d u) 7 (with_found f 6 n)) w
-load_link_right {k} {op} {kept} {n} {v} {w} d u f same a told = passes_target_load a (subst (λ z. Told k v (K18 u.parent (link_number d u z)) n w) (sym (eq-eqb u.parent d.node same)) told)
+pub load_link_right : {k : Shape} {op : Op} {kept n : ℕ} {v w : View} (d : Node) (u : Successor) (f : Found) → u.parent ≡ d.node → IsAt k op kept (at.TargetLoad (two_children d u) 6 f) v → Told k v (acts.LockedLoad u.parent (part.Link Right)) n w → IsAt k op kept (at.TargetLoad (two_children d u) 7 (with_found f 6 n)) w
+load_link_right {k} {op} {kept} {n} {v} {w} d u f same a told = passes_target_load a (subst (λ z. Told k v (acts.LockedLoad u.parent (link_part z)) n w) (sym (eq-eqb u.parent d.node same)) told)
 
-pub needs_link_left : {k : Shape} {op : Op} {kept : ℕ} {v : View} (d : Node) (u : Successor) (f : Found) → u.parent ≢ d.node → IsAt k op kept (at.TargetLoad (two_children d u) 6 f) v → TellsNow k v → Needs k v (K18 u.parent 5)
-needs_link_left {k} {op} {kept} {v} d u f other a now = subst (λ z. Needs k v (K18 u.parent (link_number d u z))) (ne_eqb u.parent d.node other) (needs_target_load a now)
+pub needs_link_left : {k : Shape} {op : Op} {kept : ℕ} {v : View} (d : Node) (u : Successor) (f : Found) → u.parent ≢ d.node → IsAt k op kept (at.TargetLoad (two_children d u) 6 f) v → IsAsked k v (acts.LockedLoad u.parent (part.Link Left))
+needs_link_left {k} {op} {kept} {v} d u f other a = subst (λ z. IsAsked k v (acts.LockedLoad u.parent (link_part z))) (ne_eqb u.parent d.node other) (needs_target_load a)
 
-pub load_link_left : {k : Shape} {op : Op} {kept n : ℕ} {v w : View} (d : Node) (u : Successor) (f : Found) → u.parent ≢ d.node → IsAt k op kept (at.TargetLoad (two_children d u) 6 f) v → Told k v (K18 u.parent 5) n w → IsAt k op kept (at.TargetLoad (two_children d u) 7 (with_found f 6 n)) w
-load_link_left {k} {op} {kept} {n} {v} {w} d u f other a told = passes_target_load a (subst (λ z. Told k v (K18 u.parent (link_number d u z)) n w) (sym (ne_eqb u.parent d.node other)) told)
+pub load_link_left : {k : Shape} {op : Op} {kept n : ℕ} {v w : View} (d : Node) (u : Successor) (f : Found) → u.parent ≢ d.node → IsAt k op kept (at.TargetLoad (two_children d u) 6 f) v → Told k v (acts.LockedLoad u.parent (part.Link Left)) n w → IsAt k op kept (at.TargetLoad (two_children d u) 7 (with_found f 6 n)) w
+load_link_left {k} {op} {kept} {n} {v} {w} d u f other a told = passes_target_load a (subst (λ z. Told k v (acts.LockedLoad u.parent (link_part z)) n w) (sym (ne_eqb u.parent d.node other)) told)
 
 -- A target that holds has lives that were loaded, so they fit a word.
 pub small_lives : (t : Target) (f : Found) → target_holds t f ≡ true → f.life < 2 ^ 64 → f.successor_life < 2 ^ 64 → AreLivesSmall t.node t.successor

@@ -46,7 +46,7 @@ pub one_listed : (listed : List ℕ) (v w : View) (node : ℕ) → ((t : ℕ) �
 one_listed listed v w node each more t = (let a = ap (times t) more ∙ times_append t (retired_slots v) (node ∷ []) in let e = each t in omega (arith, a, e))
 
 -- its update, with the wait after it
-pub move_deletes : (v w x y : View) (key next_key number : ℕ) → HasGone v w [] → HasCopied w (Del key) next_key number x
+pub move_deletes : (v w x y : View) (key next_key number : ℕ) → HasGone v w [] → HasCopied w key next_key number x
     → HasGone x y (Began x.allowance.place x.counts.waits (key + 1) next_key ∷ (Ended x.allowance.place x.counts.waits ∷ [])) → HasDeleted v key number y
 move_deletes v w x y key next_key number first copied later =
     let place : x.allowance.place ≡ v.allowance.place = copied.done.gone.same ∙ first.same in
@@ -61,7 +61,7 @@ move_deletes v w x y key next_key number first copied later =
         stands = subst (λ p. IsPrefix (copied.done.before ++ Done (record { caller = p; op = Del key }) ∷ []) y.seen) first.same (prefix_trans _ x.seen y.seen copied.done.stands later.begins);
         number_is = copied.done.number_is;
       };
-      move = inr (x.counts.waits, next_key, refl, copied.next key refl);
+      move = inr (x.counts.waits, next_key, refl, copied.next);
     }
 
 -- Nothing of the place's own was left before.

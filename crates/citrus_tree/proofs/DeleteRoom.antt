@@ -11,11 +11,10 @@ use Rattle.core_state.specs.declared.view.View.{View}
 use Rattle.core_state.specs.views.Views.{IsQuiet, Works}
 use Rattle.core_points.specs.declared.stage.Aim.TheVariants.{Spare}
 use Rattle.core_points.specs.declared.stage.Stage.TheVariants as at
-use Rattle.seat_table.specs.declared.case.Case.TheVariants.{K9}
-use Rattle.seat_table.specs.Cases.{Needs}
+use Rattle.core_acts.specs.declared.act.Act.TheVariants as acts
 use Rattle.seat_table.specs.Gains.{TellsNow}
 use Rattle.seat_table.specs.Seats.{AreListed, IsSlotOf, SeatAt}
-use Rattle.seat_table.specs.Told.{Told}
+use Rattle.seat_table.specs.Told.{IsAsked, Told}
 use Rattle.node_slots.specs.Reclaiming.{HasReclaimed}
 use Rattle.node_slots.specs.Taking.{FoundNone, HasTaken}
 use Rattle.node_slots.proofs.Points.{MayReclaim, gives_all, may_reclaim, none_begins_spare, none_gone, reclaim_gone, taken_gone, takes_spare}
@@ -86,24 +85,24 @@ module _ {k : Shape} {v : View} (quiet : IsQuiet v) (works : Works v) (now : Tel
       keeping : (key kept : ℕ) → key < 2 ^ 64 → kept + 4 ≤ v.allowance.tickets → IsAt k (Del key) kept (at.Keep slot) w
       keeping key kept fits paid = takes_spare taken (reserving key kept fits paid)
 
-      pub needs_kept : 4 ≤ v.allowance.tickets → TellsNow k w → Needs k w (K9 slot true)
-      needs_kept paid told = needs_keep (keeping 0 0 zero_fits paid) told
+      pub needs_kept : 4 ≤ v.allowance.tickets → IsAsked k w (acts.KeepAsSpare slot)
+      needs_kept paid = needs_keep (keeping 0 0 zero_fits paid)
 
-      module _ {n : ℕ} {x : View} (needs : Needs k w (K9 slot true)) (t : Told k w (K9 slot true) n x) where
+      module _ {n : ℕ} {x : View} (t : Told k w (acts.KeepAsSpare slot) n x) where
         pub ready_kept : IsReadyToDelete k v x
         ready_kept = λ key kept fits paid. passes_keep (keeping key kept fits paid) t
 
         pub room_kept : HasMadeRoom v x
         room_kept = record {
           marks = [];
-          gone = gone_stays (taken_gone taken) (stays (K9 slot true) refl needs t);
+          gone = gone_stays (taken_gone taken) (stays (acts.KeepAsSpare slot) refl t);
           waited = inl refl;
-          waits = (let a : x.counts.waits ≡ w.counts.waits = ap (λ (z : View). z.counts.waits) t.2 in let b : w.counts.waits ≡ v.counts.waits = ap (λ (z : View). z.counts.waits) taken.rest in omega arith);
-          latest = inl (none_begun (gone_stays (taken_gone taken) (stays (K9 slot true) refl needs t)) (ap (λ (z : View). z.counts.waits) t.2 ∙ ap (λ (z : View). z.counts.waits) taken.rest) (ap (λ (z : View). z.wait) t.2 ∙ ap (λ (z : View). z.wait) taken.rest));
+          waits = (let a : x.counts.waits ≡ w.counts.waits = ap (λ (z : View). z.counts.waits) t.goes in let b : w.counts.waits ≡ v.counts.waits = ap (λ (z : View). z.counts.waits) taken.rest in omega arith);
+          latest = inl (none_begun (gone_stays (taken_gone taken) (stays (acts.KeepAsSpare slot) refl t)) (ap (λ (z : View). z.counts.waits) t.goes ∙ ap (λ (z : View). z.counts.waits) taken.rest) (ap (λ (z : View). z.wait) t.goes ∙ ap (λ (z : View). z.wait) taken.rest));
         }
 
         pub kept_retired : x.hands.retired ≡ v.hands.retired
-        kept_retired = ap (λ (z : View). z.hands.retired) t.2 ∙ ap (λ (z : View). z.hands.retired) taken.rest
+        kept_retired = ap (λ (z : View). z.hands.retired) t.goes ∙ ap (λ (z : View). z.hands.retired) taken.rest
 
     -- None was free: the retired slots are given back.
     module _ {w : View} (empty : FoundNone k v w) where

@@ -13,7 +13,7 @@ use Rattle.core_points.specs.declared.stage.Successor.{Successor}
 use Rattle.core_points.specs.declared.stage.Stage.TheVariants as at
 use Rattle.core_points.specs.declared.stage.Update.TheVariants as update
 use Rattle.core_points.specs.DeletePlan.{move_locks}
-use Rattle.seat_table.specs.declared.case.Case.TheVariants.{K26, K27}
+use Rattle.core_acts.specs.declared.act.Act.TheVariants as acts
 use Rattle.seat_table.specs.Gains.{TellsNow}
 use Rattle.seat_table.specs.Told.{Told}
 use Rattle.tree_points.specs.At.{HasLocks, IsAt}
@@ -43,18 +43,18 @@ pub record Unlinks (v : View) (old : ℕ) (w : View) : Type 0 where
   pub retired : retired_slots w ≡ retired_slots v ++ old ∷ []
   pub waits : KeepsWaits v w
 
-pub copy_unlinks : (k : Shape) (v w : View) (copy old child n : ℕ) → Told k v (K27 copy old child) n w → Unlinks v old w
+pub copy_unlinks : (k : Shape) (v w : View) (copy old child n : ℕ) → Told k v (acts.UnlinkRight copy old child) n w → Unlinks v old w
 copy_unlinks k v w copy old child n t = record {
-  gone = unlinked_gone v w t.0 old t.1 (ap (λ (x : View). x.allowance.place) t.2) (ap (λ (x : View). x.seen) t.2);
-  retired = ap retired_slots t.2 ∙ map_append v.hands.retired _;
-  waits = record { wait = ap (λ (x : View). x.wait) t.2; count = ap (λ (x : View). x.counts.waits) t.2 };
+  gone = unlinked_gone v w t.marks old t.sees (ap (λ (x : View). x.allowance.place) t.goes) (ap (λ (x : View). x.seen) t.goes);
+  retired = ap retired_slots t.goes ∙ map_append v.hands.retired _;
+  waits = record { wait = ap (λ (x : View). x.wait) t.goes; count = ap (λ (x : View). x.counts.waits) t.goes };
 }
 
-pub parent_unlinks : (k : Shape) (v w : View) (parent old child n : ℕ) → Told k v (K26 parent old child) n w → Unlinks v old w
+pub parent_unlinks : (k : Shape) (v w : View) (parent old child n : ℕ) → Told k v (acts.UnlinkLeft parent old child) n w → Unlinks v old w
 parent_unlinks k v w parent old child n t = record {
-  gone = unlinked_gone v w t.0 old t.1 (ap (λ (x : View). x.allowance.place) t.2) (ap (λ (x : View). x.seen) t.2);
-  retired = ap retired_slots t.2 ∙ map_append v.hands.retired _;
-  waits = record { wait = ap (λ (x : View). x.wait) t.2; count = ap (λ (x : View). x.counts.waits) t.2 };
+  gone = unlinked_gone v w t.marks old t.sees (ap (λ (x : View). x.allowance.place) t.goes) (ap (λ (x : View). x.seen) t.goes);
+  retired = ap retired_slots t.goes ∙ map_append v.hands.retired _;
+  waits = record { wait = ap (λ (x : View). x.wait) t.goes; count = ap (λ (x : View). x.counts.waits) t.goes };
 }
 
 -- the locks of a move

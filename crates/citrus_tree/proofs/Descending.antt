@@ -5,31 +5,31 @@ use Rattle.core_state.specs.declared.shape.Shape.{Shape}
 use Rattle.core_state.specs.declared.view.SearchState.TheVariants as at
 use Rattle.core_state.specs.declared.view.View.{View}
 use Rattle.core_state.specs.memory.Words.{side_number, step_side}
-use Rattle.seat_table.specs.declared.case.Case.TheVariants.{K17}
-use Rattle.seat_table.specs.Cases.{Needs}
+use Rattle.core_acts.specs.declared.act.Act.TheVariants.{SearchLoad}
+use Rattle.core_acts.specs.declared.act.Part.TheVariants as part
 use Rattle.seat_table.specs.Gains.{IsSlot}
-use Rattle.seat_table.specs.Told.{Told}
+use Rattle.seat_table.specs.Told.{IsAsked, Told}
 use Rattle.citrus_tree.specs.Lookups.{IsSearching}
 use Rattle.citrus_tree.proofs.Searching.{slot_at, needs_link, missed, reached, needs_key, read}
 
-module _ (k : Shape) (key s : ℕ) (b : Side) (f : ℕ) (w : View) (slot : IsSlot k s) (f_is : f ≡ side_number b) where
-  pub may_load : (v : View) × IsSearching v key (at.At s b) w → Needs k w (K17 s f)
-  may_load i = needs_link k i.0 key s b f w f_is i.1 slot
+module _ (k : Shape) (key s : ℕ) (b : Side) (w : View) (slot : IsSlot k s) where
+  pub may_load : (v : View) × IsSearching v key (at.At s b) w → IsAsked k w (SearchLoad s (part.Link b))
+  may_load i = needs_link k i.0 key s b w i.1 slot
 
-  module _ (n : ℕ) (u : View) (t : Told k w (K17 s f) n u) where
+  module _ (n : ℕ) (u : View) (t : Told k w (SearchLoad s (part.Link b)) n u) where
     pub ended_at : n ≡ 0 → (v : View) → IsSearching v key (at.At s b) w → IsSearching v key (at.Missed s b) u
-    ended_at none v i = missed k v key s b f n w u f_is none i t
+    ended_at none v i = missed k v key s b n w u none i t
 
     on : n ≢ 0 → (v : View) → IsSearching v key (at.At s b) w → IsSearching v key (at.Unread n s b) u
-    on some_slot v i = reached k v key s b f n w u f_is some_slot i t
+    on some_slot v i = reached k v key s b n w u some_slot i t
 
     pub slot_on : n ≢ 0 → (v : View) × IsSearching v key (at.At s b) w → IsSlot k n
-    slot_on some_slot i = slot_at k i.0 key (at.Unread n s b) s f n w u (on some_slot i.0 i.1) t
+    slot_on some_slot i = slot_at k i.0 key (at.Unread n s b) s (part.Link b) n w u (on some_slot i.0 i.1) t
 
-    pub may_read : n ≢ 0 → (v : View) × IsSearching v key (at.At s b) w → Needs k u (K17 n 3)
+    pub may_read : n ≢ 0 → (v : View) × IsSearching v key (at.At s b) w → IsAsked k u (SearchLoad n part.Key)
     may_read some_slot i = needs_key k i.0 key n s b u (on some_slot i.0 i.1) (slot_on some_slot i)
 
-    module _ (there : ℕ) (x : View) (second : Told k u (K17 n 3) there x) where
+    module _ (there : ℕ) (x : View) (second : Told k u (SearchLoad n part.Key) there x) where
       pub found_at : n ≢ 0 → step_side key there ≡ None → (v : View) → IsSearching v key (at.At s b) w → IsSearching v key (at.Found n s b None) x
       found_at some_slot is v i = read k v key n s b there u x None is (on some_slot v i) second
 

@@ -17,11 +17,13 @@ use Rattle.core_points.specs.declared.stage.Aim.TheVariants.{Leaf}
 use Rattle.core_points.specs.declared.stage.Spot.{Spot}
 use Rattle.core_points.specs.declared.stage.Stage.TheVariants as at
 use Rattle.list_laws.specs.Counts.{times}
-use Rattle.seat_table.specs.declared.case.Case.TheVariants.{K12}
-use Rattle.seat_table.specs.Cases.{Fills, Needs, RaisesInHand, RaisesRetired}
+use Rattle.prcu_marks.specs.declared.mark.Side.TheVariants.{Left, Right}
+use Rattle.core_acts.specs.declared.act.Act.TheVariants as acts
+use Rattle.core_acts.specs.declared.act.Part.{Part}
+use Rattle.core_acts.specs.declared.act.Part.TheVariants as part
 use Rattle.seat_table.specs.Gains.{TellsNow}
 use Rattle.seat_table.specs.Seats.{AreListed, IsSlotOf, SeatAt}
-use Rattle.seat_table.specs.Told.{Told}
+use Rattle.seat_table.specs.Told.{IsAsked, Told}
 use Rattle.tree_points.specs.At.{IsAt}
 use Rattle.tree_points.specs.Progress.{HasGone}
 use Rattle.tree_points.proofs.Gone.{gone_on, gone_stays}
@@ -40,54 +42,51 @@ use Rattle.citrus_tree.specs.Replies.{IsFullNow}
 use Rattle.citrus_tree.proofs.KeepingWaits.{first_later, first_stays, none_begun, reclaimed_first}
 use Rattle.citrus_tree.proofs.Leavings.{goes_stays}
 
--- A field of the slot in hand was stored.
-module _ {k : Shape} {v w : View} {s f x n : ℕ} (needs : Needs k v (K12 s f x)) (other : f ≢ 2) (t : Told k v (K12 s f x) n w) where
-  fills : Fills v s f
-  fills = ⊎_elim (λ (y : Fills v s f). y) (⊎_elim (λ (y : RaisesInHand v s f x). absurd (other y.0)) (λ (y : RaisesRetired v s f x). absurd (other y.0))) needs.1
-
+-- A part of the slot in hand was stored.
+module _ {k : Shape} {v w : View} {s x n : ℕ} {p : Part} (t : Told k v (acts.Fill s p x) n w) where
   pub goes_fill : Goes v w []
-  goes_fill = let e = (t.2).fills fills in record { gone = stays (K12 s f x) refl needs t; retired = ap (λ (z : View). z.hands.retired) e; wait = ap (λ (z : View). z.wait) e; waits = ap (λ (z : View). z.counts.waits) e }
+  goes_fill = record { gone = stays (acts.Fill s p x) refl t; retired = ap (λ (z : View). z.hands.retired) t.goes; wait = ap (λ (z : View). z.wait) t.goes; waits = ap (λ (z : View). z.counts.waits) t.goes }
 
   pub hand_fill : (leaf : ℕ) → IsSlotOf (Some leaf) v.hands.hand → IsSlotOf (Some leaf) w.hands.hand
-  hand_fill leaf is = keeps_hand (Some leaf) (same_fill fills t) is
+  hand_fill leaf is = keeps_hand (Some leaf) (same_fill t) is
 
-module _ {k : Shape} {key value kept leaf : ℕ} {spot : Spot} {v : View} (is : IsSlotOf (Some leaf) v.hands.hand) (a : IsAt k (Put key value) kept (at.LeafField spot 0) v) (now : TellsNow k v) where
-  pub fills_key : Needs k v (K12 leaf 3 key)
-  fills_key = needs_leaf_key is a now
+module _ {k : Shape} {key value kept leaf : ℕ} {spot : Spot} {v : View} (is : IsSlotOf (Some leaf) v.hands.hand) (a : IsAt k (Put key value) kept (at.LeafField spot 0) v) where
+  pub fills_key : IsAsked k v (acts.Fill leaf part.Key key)
+  fills_key = needs_leaf_key is a
 
-  module _ {n : ℕ} {w : View} (first : Told k v (K12 leaf 3 key) n w) (now1 : TellsNow k w) where
+  module _ {n : ℕ} {w : View} (first : Told k v (acts.Fill leaf part.Key key) n w) where
     is1 : IsSlotOf (Some leaf) w.hands.hand
-    is1 = hand_fill fills_key (omega arith) first leaf is
+    is1 = hand_fill first leaf is
 
-    pub fills_value : Needs k w (K12 leaf 4 value)
-    fills_value = needs_leaf_value is1 (passes_leaf_key is a first) now1
+    pub fills_value : IsAsked k w (acts.Fill leaf part.Value value)
+    fills_value = needs_leaf_value is1 (passes_leaf_key is a first)
 
-    module _ {m : ℕ} {x : View} (second : Told k w (K12 leaf 4 value) m x) (now2 : TellsNow k x) where
+    module _ {m : ℕ} {x : View} (second : Told k w (acts.Fill leaf part.Value value) m x) where
       is2 : IsSlotOf (Some leaf) x.hands.hand
-      is2 = hand_fill fills_value (omega arith) second leaf is1
+      is2 = hand_fill second leaf is1
 
       at2 : IsAt k (Put key value) kept (at.LeafField spot 2) x
       at2 = passes_leaf_value is1 (passes_leaf_key is a first) second
 
-      pub fills_left : Needs k x (K12 leaf 5 0)
-      fills_left = needs_leaf_left is2 at2 now2
+      pub fills_left : IsAsked k x (acts.Fill leaf (part.Link Left) 0)
+      fills_left = needs_leaf_left is2 at2
 
-      module _ {i : ℕ} {y : View} (third : Told k x (K12 leaf 5 0) i y) (now3 : TellsNow k y) where
+      module _ {i : ℕ} {y : View} (third : Told k x (acts.Fill leaf (part.Link Left) 0) i y) where
         is3 : IsSlotOf (Some leaf) y.hands.hand
-        is3 = hand_fill fills_left (omega arith) third leaf is2
+        is3 = hand_fill third leaf is2
 
         at3 : IsAt k (Put key value) kept (at.LeafField spot 3) y
         at3 = passes_leaf_left is2 at2 third
 
-        pub fills_right : Needs k y (K12 leaf 6 0)
-        fills_right = needs_leaf_right is3 at3 now3
+        pub fills_right : IsAsked k y (acts.Fill leaf (part.Link Right) 0)
+        fills_right = needs_leaf_right is3 at3
 
-        module _ {j : ℕ} {z : View} (fourth : Told k y (K12 leaf 6 0) j z) where
+        module _ {j : ℕ} {z : View} (fourth : Told k y (acts.Fill leaf (part.Link Right) 0) j z) where
           pub filled_hand : IsSlotOf (Some leaf) z.hands.hand
-          filled_hand = hand_fill fills_right (omega arith) fourth leaf is3
+          filled_hand = hand_fill fourth leaf is3
 
           pub filled_goes : Goes v z []
-          filled_goes = goes_stays (goes_stays (goes_stays (goes_fill fills_key (omega arith) first) (goes_fill fills_value (omega arith) second)) (goes_fill fills_left (omega arith) third)) (goes_fill fills_right (omega arith) fourth)
+          filled_goes = goes_stays (goes_stays (goes_stays (goes_fill first) (goes_fill second)) (goes_fill third)) (goes_fill fourth)
 
           pub filled_at : IsAt k (Put key value) kept (at.LeafLock spot) z
           filled_at = passes_leaf_right is3 at3 fourth

@@ -5,7 +5,8 @@ use Rattle.core_state.specs.declared.shape.Shape.{Shape}
 use Rattle.core_state.specs.declared.view.Section.{Section}
 use Rattle.core_state.specs.declared.view.SearchState.TheVariants as at
 use Rattle.core_state.specs.declared.view.View.{View}
-use Rattle.seat_table.specs.declared.case.Case.TheVariants.{K17}
+use Rattle.core_acts.specs.declared.act.Act.TheVariants.{SearchLoad}
+use Rattle.core_acts.specs.declared.act.Part.TheVariants as part
 use Rattle.seat_table.specs.Gains.{IsSlot}
 use Rattle.seat_table.specs.Sections.{HasLeft}
 use Rattle.seat_table.specs.Told.{Told}
@@ -36,7 +37,7 @@ module _ (k : Shape) (key : ℕ) (last : Hop) (s : ℕ) (b : Side) (w : View) (i
     ended_at on v stands = (refl, refl, (at_link v stands).0, on v (at_link v stands).1)
 
 -- the end of a search that found its key
-module _ (k : Shape) (key : ℕ) (last : Hop) (s : ℕ) (b : Side) (w : View) (c : ℕ) (is : last ≡ Found c) (value : ℕ) (x : View) (t : Told k w (K17 c 4) value x) (v : View) (stands : Stands k v key last s b w) where
+module _ (k : Shape) (key : ℕ) (last : Hop) (s : ℕ) (b : Side) (w : View) (c : ℕ) (is : last ≡ Found c) (value : ℕ) (x : View) (t : Told k w (SearchLoad c part.Value) value x) (v : View) (stands : Stands k v key last s b w) where
   at_found : Stands k v key (Found c) s b w
   at_found = subst (λ z. Stands k v key z s b w) is stands
 

@@ -302,17 +302,17 @@ module _ {k : Shape} {key value : ℕ} {v : View} where
           locking : (kept : ℕ) → kept + 4 ≤ v.allowance.tickets → IsAt k (Put key value) kept (at.LeafLock spot) y
           locking kept enough = filled kept spot (spot_ready kept enough)
 
-          pub may_link : (a b c : ℕ) × IsAt k (Put a b) c (at.LeafLock spot) y
-          may_link = (key, value, 0, locking 0 few)
+          pub may_link : (c : ℕ) × IsAt k (Put key value) c (at.LeafLock spot) y
+          may_link = (0, locking 0 few)
 
           -- it wasn't linked
-          pub tries_again : {z : View} → Goes y z [] → ((a b c : ℕ) → IsAt k (Put a b) c (at.LeafLock spot) y → IsAt k (Put a b) c at.EnterClock z) → Trying k key value v z
-          tries_again g again = record { marks = tried; since = since_stays since g; ready = λ kept enough. again key value kept (locking kept enough) }
+          pub tries_again : {z : View} → Goes y z [] → ((c : ℕ) → IsAt k (Put key value) c (at.LeafLock spot) y → IsAt k (Put key value) c at.EnterClock z) → Trying k key value v z
+          tries_again g again = record { marks = tried; since = since_stays since g; ready = λ kept enough. again kept (locking kept enough) }
 
           -- it was linked
-          module _ {z : View} (number : ℕ) (made : (a b c n : ℕ) → IsAt k (Put a b) c (at.LeafLock spot) y → ◌≡◌ {A = Option ℕ} (Some number) (Some n) → Links y a b n z) where
+          module _ {z : View} (number : ℕ) (made : (c n : ℕ) → IsAt k (Put key value) c (at.LeafLock spot) y → ◌≡◌ {A = Option ℕ} (Some number) (Some n) → Links y key value n z) where
             linked : Links y key value number z
-            linked = made key value 0 number (locking 0 few) refl
+            linked = made 0 number (locking 0 few) refl
 
             same_place : y.allowance.place ≡ v.allowance.place
             same_place = since.gone.same
@@ -353,9 +353,9 @@ module _ {k : Shape} {key value : ℕ} {v : View} where
             pub new_wait : KeepsWait v z
             new_wait = keeps_wait since z (none_begun linked.1.goes.gone linked.1.goes.waits linked.1.goes.wait)
 
-            module _ (ends : (a b c : ℕ) → IsAt k (Put a b) c (at.LeafLock spot) y → IsAt k (Put a b) c at.Finished z) where
+            module _ (ends : (c : ℕ) → IsAt k (Put key value) c (at.LeafLock spot) y → IsAt k (Put key value) c at.Finished z) where
               pub new_quiet : IsQuiet z
-              new_quiet = is_quiet (ends key value 0 (locking 0 few))
+              new_quiet = is_quiet (ends 0 (locking 0 few))
 
               pub new_tickets : v.allowance.tickets ≤ z.allowance.tickets + 4
-              new_tickets = (let left = has_kept (ends key value (v.allowance.tickets - 4) (locking (v.allowance.tickets - 4) (omega arith))) in omega arith)
+              new_tickets = (let left = has_kept (ends (v.allowance.tickets - 4) (locking (v.allowance.tickets - 4) (omega arith))) in omega arith)

@@ -11,8 +11,8 @@ use Rattle.std.proofs.Common.{eq-eqb}
 use Rattle.core_state.specs.declared.shape.Shape.{Shape}
 use Rattle.core_state.specs.declared.view.View.{View}
 use Rattle.core_frames.proofs.views.SeatFacts.{works_there}
-use Rattle.seat_table.specs.declared.case.Case.TheVariants.{K13, K14, K18}
-use Rattle.seat_table.specs.Cases.{Needs}
+use Rattle.core_acts.specs.declared.act.Act.TheVariants as acts
+use Rattle.core_acts.specs.declared.act.Part.{Part}
 use Rattle.seat_table.specs.Told.{Told}
 use Rattle.tree_points.specs.Progress.{HasGone}
 use Rattle.tree_points.proofs.Gone.{gone_none, gone_on, gone_stays, gone_same}
@@ -43,14 +43,14 @@ goes_on a b = record { gone = gone_on a.gone b.gone; retired = b.retired ∙ a.r
 pub goes_stays : {u v w : View} {first : List Mark} → Goes u v first → Goes v w [] → Goes u w first
 goes_stays a b = record { gone = gone_stays a.gone b.gone; retired = b.retired ∙ a.retired; wait = b.wait ∙ a.wait; waits = b.waits ∙ a.waits }
 
-pub goes_lock : {k : Shape} {v w : View} {n s : ℕ} → Needs k v (K13 s) → Told k v (K13 s) n w → Goes v w []
-goes_lock {k} {v} {w} {n} {s} needs t = with_rest (stays (K13 s) refl needs t) _ t.2 (rest_if (n == 0) v _ _ (record { retired = refl; wait = refl; waits = refl }) (record { retired = refl; wait = refl; waits = refl }))
+pub goes_lock : {k : Shape} {v w : View} {n s : ℕ} → Told k v (acts.Lock s) n w → Goes v w []
+goes_lock {k} {v} {w} {n} {s} t = with_rest (stays (acts.Lock s) refl t) _ t.goes (rest_if (n == 0) v _ _ (record { retired = refl; wait = refl; waits = refl }) (record { retired = refl; wait = refl; waits = refl }))
 
-pub goes_load : {k : Shape} {v w : View} {n s f : ℕ} → Needs k v (K18 s f) → Told k v (K18 s f) n w → Goes v w []
-goes_load {k} {v} {w} {n} {s} {f} needs t = with_rest (stays (K18 s f) refl needs t) _ t.2 (record { retired = refl; wait = refl; waits = refl })
+pub goes_load : {k : Shape} {v w : View} {n s : ℕ} {p : Part} → Told k v (acts.LockedLoad s p) n w → Goes v w []
+goes_load {k} {v} {w} {n} {s} {p} t = with_rest (stays (acts.LockedLoad s p) refl t) _ t.goes (record { retired = refl; wait = refl; waits = refl })
 
-pub goes_unlock : {k : Shape} {v w : View} {n s : ℕ} → Needs k v (K14 s) → Told k v (K14 s) n w → Goes v w []
-goes_unlock {k} {v} {w} {n} {s} needs t = with_rest (stays (K14 s) refl needs t) _ t.2 (record { retired = refl; wait = refl; waits = refl })
+pub goes_unlock : {k : Shape} {v w : View} {n s : ℕ} → Told k v (acts.Unlock s) n w → Goes v w []
+goes_unlock {k} {v} {w} {n} {s} t = with_rest (stays (acts.Unlock s) refl t) _ t.goes (record { retired = refl; wait = refl; waits = refl })
 
 pub goes_opened : {v w : View} {front : ℕ} → Opened v front w → Goes v w []
 goes_opened e = with_rest (gone_none (ap (λ (z : View). z.allowance.place) e) (ap (λ (z : View). z.seen) e)) _ e (record { retired = refl; wait = refl; waits = refl })

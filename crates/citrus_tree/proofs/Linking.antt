@@ -8,26 +8,20 @@ use Rattle.prcu_marks.specs.Marks.{updates_of}
 use Rattle.prcu_marks.proofs.MarkLists.{updates_of-append}
 use Rattle.prcu_model.specs.declared.operation.Op.{Op}
 use Rattle.prcu_model.specs.declared.operation.Op.TheVariants.{Put}
-use Rattle.prcu_model.specs.Dictionary.{key_of}
 use Rattle.prcu_model.proofs.ListFacts.{prefix_trans}
 use Rattle.core_state.specs.declared.shape.Shape.{Shape}
 use Rattle.core_state.specs.declared.view.Held.{Held}
 use Rattle.core_state.specs.declared.view.HeldLock.{HeldLock}
 use Rattle.core_state.specs.declared.view.View.{View}
-use Rattle.core_state.specs.declared.words.Field.TheVariants.{Key, Value}
-use Rattle.core_state.specs.memory.Words.{side_number, tag_number}
-use Rattle.core_state.specs.views.Known.{known_in}
-use Rattle.core_points.specs.Callers.{key_now, value_in}
-use Rattle.core_points.specs.Facts.{HandFits}
 use Rattle.core_points.specs.declared.stage.Spot.{Spot}
 use Rattle.core_points.specs.declared.stage.Stage.TheVariants as at
 use Rattle.core_points.specs.declared.stage.Last.TheVariants as last
 use Rattle.core_points.specs.declared.stage.Update.TheVariants as update
-use Rattle.seat_table.specs.declared.case.Case.TheVariants.{K13, K14, K18, K20}
-use Rattle.seat_table.specs.Cases.{Needs}
-use Rattle.seat_table.specs.Gains.{TellsNow}
+use Rattle.core_acts.specs.declared.act.Act.TheVariants as acts
+use Rattle.core_acts.specs.declared.act.Part.TheVariants as part
+use Rattle.core_acts.proofs.Acting.{commit_is}
 use Rattle.seat_table.specs.Seats.{IsSlotOf}
-use Rattle.seat_table.specs.Told.{Told}
+use Rattle.seat_table.specs.Told.{IsAsked, Told}
 use Rattle.tree_points.specs.At.{IsAt, IsDone, HasLocks}
 use Rattle.tree_points.proofs.Doing.{gone_store_leaf, locks_link}
 use Rattle.tree_points.proofs.Holding.{needs_store_leaf, passes_store_leaf}
@@ -56,27 +50,27 @@ module _ (spot : Spot) (life link tag : ℕ) where
       (λ (other : life ≢ 2 * spot.generation). ap (λ z. z && ((link == 0) && (tag == spot.tag))) (ne_eqb life (2 * spot.generation) other))
       (cases_eq life (2 * spot.generation))
 
-module _ {k : Shape} {key value kept : ℕ} {spot : Spot} {v : View} (a : IsAt k (Put key value) kept (at.LeafLife spot) v) (now : TellsNow k v) where
-  pub checks_life : Needs k v (K18 spot.slot 2)
-  checks_life = needs_leaf_life a now
+module _ {k : Shape} {key value kept : ℕ} {spot : Spot} {v : View} (a : IsAt k (Put key value) kept (at.LeafLife spot) v) where
+  pub checks_life : IsAsked k v (acts.LockedLoad spot.slot part.Life)
+  checks_life = needs_leaf_life a
 
-  module _ {life : ℕ} {x : View} (first : Told k v (K18 spot.slot 2) life x) (now1 : TellsNow k x) {f : ℕ} (f_is : f ≡ side_number spot.side) where
+  module _ {life : ℕ} {x : View} (first : Told k v (acts.LockedLoad spot.slot part.Life) life x) where
     at1 : IsAt k (Put key value) kept (at.LeafSide spot life) x
     at1 = passes_leaf_life a first
 
-    pub checks_side : Needs k x (K18 spot.slot f)
-    checks_side = subst (λ n. Needs k x (K18 spot.slot n)) (sym f_is) (needs_leaf_side at1 now1)
+    pub checks_side : IsAsked k x (acts.LockedLoad spot.slot (part.Link spot.side))
+    checks_side = needs_leaf_side at1
 
-    module _ {link : ℕ} {y : View} (second : Told k x (K18 spot.slot f) link y) (now2 : TellsNow k y) {g : ℕ} (g_is : g ≡ tag_number spot.side) where
+    module _ {link : ℕ} {y : View} (second : Told k x (acts.LockedLoad spot.slot (part.Link spot.side)) link y) where
       at2 : IsAt k (Put key value) kept (at.LeafTag spot life link) y
-      at2 = passes_leaf_side at1 (subst (λ n. Told k x (K18 spot.slot n) link y) f_is second)
+      at2 = passes_leaf_side at1 second
 
-      pub checks_tag : Needs k y (K18 spot.slot g)
-      checks_tag = subst (λ n. Needs k y (K18 spot.slot n)) (sym g_is) (needs_leaf_tag at2 now2)
+      pub checks_tag : IsAsked k y (acts.LockedLoad spot.slot (part.Tag spot.side))
+      checks_tag = needs_leaf_tag at2
 
-      module _ {tag : ℕ} {z : View} (third : Told k y (K18 spot.slot g) tag z) where
+      module _ {tag : ℕ} {z : View} (third : Told k y (acts.LockedLoad spot.slot (part.Tag spot.side)) tag z) where
         pub checked_goes : Goes v z []
-        checked_goes = goes_stays (goes_stays (goes_load checks_life first) (goes_load checks_side second)) (goes_load checks_tag third)
+        checked_goes = goes_stays (goes_stays (goes_load first) (goes_load second)) (goes_load third)
 
         pub checked_locks : HasLocks (spot.slot ∷ []) z
         checked_locks = keeps_locks (same_locked third) (locks_leaf_tag at2)
@@ -85,11 +79,8 @@ module _ {k : Shape} {key value kept : ℕ} {spot : Spot} {v : View} (a : IsAt k
         checked_hand leaf is = keeps_hand (Some leaf) (same_locked third) (keeps_hand (Some leaf) (same_locked second) (keeps_hand (Some leaf) (same_locked first) is))
 
         pub checked_at : (b : Bool) → (b ≡ true → (life ≡ 2 * spot.generation) × (link ≡ 0) × (tag ≡ spot.tag)) → (b ≡ false → life ≡ 2 * spot.generation → link ≡ 0 → tag ≡ spot.tag → ⊥) → IsAt k (Put key value) kept (held_stage b spot) z
-        checked_at true holds fails = passes_leaf_tag at2 (subst (λ n. Told k y (K18 spot.slot n) tag z) g_is third) (all_same spot life link tag (holds refl)) 0 refl
-        checked_at false holds fails = passes_leaf_tag_again at2 (subst (λ n. Told k y (K18 spot.slot n) tag z) g_is third) (not_all spot life link tag (fails refl))
-
-same_number : (a b : ℕ) → Some a ≡ Some b → a ≡ b
-same_number a b e = cc
+        checked_at true holds fails = passes_leaf_tag at2 third (all_same spot life link tag (holds refl)) 0 refl
+        checked_at false holds fails = passes_leaf_tag_again at2 third (not_all spot life link tag (fails refl))
 
 -- what still holds, or doesn't
 pub holds_at : {k : Shape} {op : Op} {kept : ℕ} {y : View} (spot : Spot) (b : Bool) → b ≡ true → IsAt k op kept (held_stage b spot) y → IsAt k op kept (at.Commit (update.Leaf spot) 0) y
@@ -109,17 +100,17 @@ hand_if true x y hand a b = a
 hand_if false x y hand a b = b
 
 -- a lock was tried: the same slot is in hand
-pub hand_locked : {k : Shape} {v w : View} {n s : ℕ} (leaf : ℕ) → Told k v (K13 s) n w → IsSlotOf (Some leaf) v.hands.hand → IsSlotOf (Some leaf) w.hands.hand
-hand_locked {k} {v} {w} {n} {s} leaf t is = subst (IsSlotOf (Some leaf)) (sym (ap (λ (z : View). z.hands.hand) t.2 ∙ hand_if (n == 0) _ _ v.hands.hand refl refl)) is
+pub hand_locked : {k : Shape} {v w : View} {n s : ℕ} (leaf : ℕ) → Told k v (acts.Lock s) n w → IsSlotOf (Some leaf) v.hands.hand → IsSlotOf (Some leaf) w.hands.hand
+hand_locked {k} {v} {w} {n} {s} leaf t is = subst (IsSlotOf (Some leaf)) (sym (ap (λ (z : View). z.hands.hand) t.goes ∙ hand_if (n == 0) _ _ v.hands.hand refl refl)) is
 
 -- The lock is tried, the record holds or not, and the leaf is linked.
-module _ {k : Shape} {key value kept : ℕ} {spot : Spot} {v : View} (a : IsAt k (Put key value) kept (at.LeafLock spot) v) (now : TellsNow k v) where
-  pub locks : Needs k v (K13 spot.slot)
-  locks = needs_leaf_lock a now
+module _ {k : Shape} {key value kept : ℕ} {spot : Spot} {v : View} (a : IsAt k (Put key value) kept (at.LeafLock spot) v) where
+  pub locks : IsAsked k v (acts.Lock spot.slot)
+  locks = needs_leaf_lock a
 
-  module _ {n : ℕ} {x : View} (first : Told k v (K13 spot.slot) n x) where
+  module _ {n : ℕ} {x : View} (first : Told k v (acts.Lock spot.slot) n x) where
     pub busy_goes : Goes v x []
-    busy_goes = goes_lock locks first
+    busy_goes = goes_lock first
 
     pub busy_at : n ≢ 0 → IsAt k (Put key value) kept at.EnterClock x
     busy_at busy = passes_leaf_lock_busy busy a first
@@ -132,13 +123,13 @@ module _ {k : Shape} {key value kept : ℕ} {spot : Spot} {v : View} (a : IsAt k
       goes2 = goes_stays busy_goes checked
 
       -- it doesn't hold
-      module _ (held : HasLocks (spot.slot ∷ []) y) (again : IsAt k (Put key value) kept (at.Unlock last.Again) y) (now2 : TellsNow k y) where
-        pub gives_up_lock : Needs k y (K14 spot.slot)
-        gives_up_lock = needs_unlock held again now2
+      module _ (held : HasLocks (spot.slot ∷ []) y) (again : IsAt k (Put key value) kept (at.Unlock last.Again) y) where
+        pub gives_up_lock : IsAsked k y (acts.Unlock spot.slot)
+        gives_up_lock = needs_unlock held again
 
-        module _ {m : ℕ} {z : View} (third : Told k y (K14 spot.slot) m z) where
+        module _ {m : ℕ} {z : View} (third : Told k y (acts.Unlock spot.slot) m z) where
           pub again_goes : Goes v z []
-          again_goes = goes_stays goes2 (goes_unlock gives_up_lock third)
+          again_goes = goes_stays goes2 (goes_unlock third)
 
           pub again_at : IsAt k (Put key value) kept at.EnterClock z
           again_at = passes_unlock_again held again third
@@ -147,47 +138,25 @@ module _ {k : Shape} {key value kept : ℕ} {spot : Spot} {v : View} (a : IsAt k
       goes3 odd = goes_stays goes2 (goes_opened odd)
 
       -- it holds
-      module _ {front : ℕ} {o : View} (odd : Opened y front o) (storing : IsAt k (Put key value) kept (at.Store (update.Leaf spot) front) o) (now3 : TellsNow k o) (leaf : ℕ) (is : IsSlotOf (Some leaf) y.hands.hand) where
+      module _ {front : ℕ} {o : View} (odd : Opened y front o) (storing : IsAt k (Put key value) kept (at.Store (update.Leaf spot) front) o) (leaf : ℕ) (is : IsSlotOf (Some leaf) y.hands.hand) where
         in_hand : IsSlotOf (Some leaf) o.hands.hand
         in_hand = subst (IsSlotOf (Some leaf)) (sym (ap (λ (x : View). x.hands.hand) odd)) is
 
-        pub stores_leaf : Needs k o (K20 spot.slot spot.side leaf)
-        stores_leaf = needs_store_leaf in_hand storing now3
+        pub stores_leaf : IsAsked k o (acts.LinkLeaf spot.slot spot.side leaf key value)
+        stores_leaf = needs_store_leaf in_hand storing
 
-        module _ {m : ℕ} {q : View} (fourth : Told k o (K20 spot.slot spot.side leaf) m q) where
+        module _ {m : ℕ} {q : View} (fourth : Told k o (acts.LinkLeaf spot.slot spot.side leaf key value) m q) where
           abbrev h : List Mark
-          h = fourth.0
-
-          abbrev commit : Commit
-          commit = fourth.2.0
-
-          commit_is : ◌≡◌ {A = Commit} commit (record { found = front; stored = false })
-          commit_is = let one : Some commit ≡ Some (record { found = front; stored = false }) = sym fourth.2.4 ∙ ap (λ (x : View). x.commit) odd in cc
-
-          -- the leaf has the put's key and value
-          its_leaf : (key_is : fourth.2.2 ≡ key) × (fourth.2.3 ≡ value)
-          its_leaf =
-              let p = storing.fits.point in
-              let s : ℕ = (p.1).0 in
-              let hand = subst (λ x. HandFits x storing.own.hand_life (key_now storing.own) (value_in storing.own.op) o.hands.hand) (p.1).1 p.3 in
-              let held : Held = hand.0 in
-              let one : Some fourth.2.1 ≡ Some held = sym fourth.2.5 ∙ hand.1 in
-              let same : ◌≡◌ {A = Held} fourth.2.1 held = cc in
-              let slot : leaf ≡ s = subst (IsSlotOf (Some leaf)) hand.1 in_hand ∙ (hand.2).slot_is in
-              let key_known : known_in (fourth.2.1).known (Key leaf) ≡ Some (key_now storing.own) = (λ i. known_in (same i).known (Key (slot i))) ∙ (hand.2).key_is in
-              let value_known : known_in (fourth.2.1).known (Value leaf) ≡ Some (value_in storing.own.op) = (λ i. known_in (same i).known (Value (slot i))) ∙ (hand.2).value_is in
-              let key_both : Some fourth.2.2 ≡ Some (key_now storing.own) = sym fourth.2.6 ∙ key_known in
-              let value_both : Some fourth.2.3 ≡ Some (value_in storing.own.op) = sym fourth.2.7 ∙ value_known in
-              (same_number fourth.2.2 (key_now storing.own) key_both ∙ ap key_of storing.op_is, same_number fourth.2.3 (value_in storing.own.op) value_both ∙ ap value_in storing.op_is)
+          h = fourth.marks
 
           place : o.allowance.place ≡ v.allowance.place
           place = (goes3 odd).gone.same
 
           seen : q.seen ≡ h ++ Done (record { caller = v.allowance.place; op = Put key value }) ∷ []
-          seen = ap (λ (x : View). x.seen) fourth.2.8 ∙ (λ i. h ++ Done (record { caller = place i; op = Put (its_leaf.0 i) (its_leaf.1 i) }) ∷ [])
+          seen = ap (λ (x : View). x.seen) fourth.goes ∙ ap (λ (p : ℕ). h ++ Done (record { caller = p; op = Put key value }) ∷ []) place
 
           pub is_odd : q.commit ≡ Some (record { found = front; stored = true })
-          is_odd = ap (λ (x : View). x.commit) fourth.2.8 ∙ ap (λ (c : Commit). Some (record c { stored = true })) commit_is
+          is_odd = ap (λ (x : View). x.commit) fourth.goes ∙ ap (λ (c : Commit). Some (record c { stored = true })) (commit_is o _ (ap (λ (x : View). x.commit) odd))
 
           pub evening : IsAt k (Put key value) kept (at.Even (update.Leaf spot) front) q
           evening = passes_store_leaf in_hand storing fourth
@@ -195,35 +164,35 @@ module _ {k : Shape} {key value kept : ℕ} {spot : Spot} {v : View} (a : IsAt k
           goes4 : Goes v q (Done (record { caller = v.allowance.place; op = Put key value }) ∷ [])
           goes4 = subst (λ (p : ℕ). Goes v q (Done (record { caller = p; op = Put key value }) ∷ [])) place
               (goes_on (goes3 odd) (record {
-                gone = gone_store_leaf in_hand storing fourth;
-                retired = ap (λ (x : View). x.hands.retired) fourth.2.8;
-                wait = ap (λ (x : View). x.wait) fourth.2.8;
-                waits = ap (λ (x : View). x.counts.waits) fourth.2.8;
+                gone = gone_store_leaf storing fourth;
+                retired = ap (λ (x : View). x.hands.retired) fourth.goes;
+                wait = ap (λ (x : View). x.wait) fourth.goes;
+                waits = ap (λ (x : View). x.counts.waits) fourth.goes;
               }))
 
-          module _ {t : View} (even : Closed q t) (unlocking : IsAt k (Put key value) kept (at.Unlock (last.New ((front + 2) / 2))) t) (now4 : TellsNow k t) where
+          module _ {t : View} (even : Closed q t) (unlocking : IsAt k (Put key value) kept (at.Unlock (last.New ((front + 2) / 2))) t) where
             last_lock : HasLocks (spot.slot ∷ []) t
             last_lock = locks_from {v = q} {w = t} (ap (λ (x : View). map (λ (l : HeldLock). l.slot) x.locks) even) (locks_from {v = o} {w = q} (locks_link fourth) (locks_store_leaf storing))
 
-            pub lets_go : Needs k t (K14 spot.slot)
-            lets_go = needs_unlock last_lock unlocking now4
+            pub lets_go : IsAsked k t (acts.Unlock spot.slot)
+            lets_go = needs_unlock last_lock unlocking
 
-            module _ {j : ℕ} {e : View} (fifth : Told k t (K14 spot.slot) j e) where
+            module _ {j : ℕ} {e : View} (fifth : Told k t (acts.Unlock spot.slot) j e) where
               pub done_at : IsDone k (Put key value) kept e
               done_at = passes_unlock_new last_lock unlocking fifth
 
               pub links : (number : ℕ) → number ≡ (front + 2) / 2 → Links v key value number e
               links number number_is =
-                  let seen_e : e.seen ≡ h ++ Done (record { caller = v.allowance.place; op = Put key value }) ∷ [] = ap (λ (x : View). x.seen) fifth.2 ∙ ap (λ (x : View). x.seen) even ∙ seen in
+                  let seen_e : e.seen ≡ h ++ Done (record { caller = v.allowance.place; op = Put key value }) ∷ [] = ap (λ (x : View). x.seen) fifth.goes ∙ ap (λ (x : View). x.seen) even ∙ seen in
                   let us : updates_of q.seen ≡ updates_of h ++ record { caller = v.allowance.place; op = Put key value } ∷ [] = ap updates_of seen ∙ updates_of-append h (Done (record { caller = v.allowance.place; op = Put key value }) ∷ []) in
                   let long : length (updates_of q.seen) ≡ length (updates_of h) + 1 = ap length us ∙ length-append (updates_of h) (record { caller = v.allowance.place; op = Put key value } ∷ []) in
-                  let counted : front + 2 ≡ 2 * length (updates_of q.seen) = fourth.5.found (record { found = front; stored = false }) (ap (λ (x : View). x.commit) odd) in (
+                  let counted : front + 2 ≡ 2 * length (updates_of q.seen) = fourth.gains.found (record { found = front; stored = false }) (ap (λ (x : View). x.commit) odd) in (
                     h,
                     record {
-                      goes = goes_stays goes4 (goes_stays (goes_closed even) (goes_unlock lets_go fifth));
-                      since = prefix_trans v.seen o.seen h (goes3 odd).gone.begins fourth.1.begins;
+                      goes = goes_stays goes4 (goes_stays (goes_closed even) (goes_unlock fifth));
+                      since = prefix_trans v.seen o.seen h (goes3 odd).gone.begins fourth.sees.begins;
                       seen = seen_e;
                       number_is = number_is ∙ omega arith;
-                      legal = fifth.3.legal;
+                      legal = fifth.informed.legal;
                     },
                   )

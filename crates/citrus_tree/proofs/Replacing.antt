@@ -127,25 +127,25 @@ module _ {k : Shape} {key value : ℕ} {v : View} where
       pub locking : (kept : ℕ) → kept + 4 ≤ v.allowance.tickets → IsAt k (Set key value) kept (at.SetLock holder.slot holder.generation) x
       locking kept enough = at_lock (t.ready kept enough) f.1 f.2 f.3 f.4.inside
 
-      pub may_store : (a b : ℕ) × IsAt k (Set a value) b (at.SetLock holder.slot holder.generation) x
-      may_store = (key, 0, locking 0 few)
+      pub may_store : (b : ℕ) × IsAt k (Set key value) b (at.SetLock holder.slot holder.generation) x
+      may_store = (0, locking 0 few)
 
       -- the store wasn't made
-      pub tries_again : {y : View} → Goes x y [] → ((a b : ℕ) → IsAt k (Set a value) b (at.SetLock holder.slot holder.generation) x → IsAt k (Set a value) b at.EnterClock y) → Trying k (Set key value) v y
+      pub tries_again : {y : View} → Goes x y [] → ((b : ℕ) → IsAt k (Set key value) b (at.SetLock holder.slot holder.generation) x → IsAt k (Set key value) b at.EnterClock y) → Trying k (Set key value) v y
       tries_again g again = record {
         marks = t.marks ++ (Entered w.allowance.place w.counts.sections key ∷ (LeftMark w.allowance.place w.counts.sections ∷ []));
         goes = goes_stays (goes f.1) g;
         each = each f.1;
         none = none f.1;
-        ready = λ kept enough. again key kept (locking kept enough);
+        ready = λ kept enough. again kept (locking kept enough);
       }
 
       -- it was made
       module _ {y : View} {done_as : Replaced}
-          (s : (a b : ℕ) (r : Replaced) → IsAt k (Set a value) b (at.SetLock holder.slot holder.generation) x → ◌≡◌ {A = Option Replaced} (Some done_as) (Some r) → Stores x a value r y)
-          (at_done : (a b : ℕ) → IsAt k (Set a value) b (at.SetLock holder.slot holder.generation) x → IsAt k (Set a value) b at.Finished y) where
+          (s : (b : ℕ) (r : Replaced) → IsAt k (Set key value) b (at.SetLock holder.slot holder.generation) x → ◌≡◌ {A = Option Replaced} (Some done_as) (Some r) → Stores x key value r y)
+          (at_done : (b : ℕ) → IsAt k (Set key value) b (at.SetLock holder.slot holder.generation) x → IsAt k (Set key value) b at.Finished y) where
         is_stored : Stores x key value done_as y
-        is_stored = s key 0 done_as (locking 0 few) refl
+        is_stored = s 0 done_as (locking 0 few) refl
 
         same_place : x.allowance.place ≡ v.allowance.place
         same_place = (goes f.1).gone.same
@@ -173,7 +173,7 @@ module _ {k : Shape} {key value : ℕ} {v : View} where
         )
 
         finished : (kept : ℕ) → kept + 4 ≤ v.allowance.tickets → IsDone k (Set key value) kept y
-        finished kept enough = at_done key kept (locking kept enough)
+        finished kept enough = at_done kept (locking kept enough)
 
         pub stored_quiet : IsQuiet y
         stored_quiet = is_quiet (finished 0 few)

@@ -26,10 +26,15 @@ use Rattle.core_state.specs.steps.Loads.{key_stand, linked_on, searched, loaded,
 use Rattle.core_state.specs.parts.ReaderParts.{state_slot}
 use Rattle.core_state.specs.steps.Sections.{fresh_reading}
 use Rattle.core_frames.proofs.views.SeatFacts.{works_there}
-use Rattle.seat_table.specs.declared.case.Case.TheVariants.{K17}
-use Rattle.seat_table.specs.Cases.{slot_field, noted, Needs}
+use Rattle.core_acts.specs.declared.act.Act.TheVariants.{SearchLoad}
+use Rattle.core_acts.specs.declared.act.Part.{Part}
+use Rattle.core_acts.specs.declared.act.Part.TheVariants as part
+use Rattle.core_state.specs.memory.Memory.{slot_count}
+use Rattle.core_acts.specs.Acts.{in_slot, noted, section_of, IsWord}
+use Rattle.core_points.proofs.TargetWords.{part_loadable}
+use Rattle.core_acts.proofs.Acting.{section_is as opened}
 use Rattle.seat_table.specs.Gains.{IsSlot}
-use Rattle.seat_table.specs.Told.{Told}
+use Rattle.seat_table.specs.Told.{IsAsked, Told}
 use Rattle.seat_table.specs.Sections.{is_entry, is_exit, HasEntered, HasLeft}
 use Rattle.seat_table.proofs.Sections.{made_none, made_more, made_both}
 use Rattle.citrus_tree.specs.Going.{Sought}
@@ -82,6 +87,14 @@ exit_is kind e = ap (λ z. cond (is_load kind) true (cond (is_entry kind) true z
 pub root_is : (k : Shape) → IsSlot k 0
 root_is k = record { inside = omega arith; fits = omega arith }
 
+-- a part of a slot of the table is a word of it
+part_within : (k : Shape) (s : ℕ) (p : Part) → s < slot_count k → IsWord k (in_slot s p)
+part_within k s part.Life below = below
+part_within k s part.Key below = below
+part_within k s part.Value below = below
+part_within k s (part.Link b) below = below
+part_within k s (part.Tag b) below = below
+
 module _ (k : Shape) (v : View) (key : ℕ) where
   -- a section was entered
   pub begun : (w : View) → HasEntered v key w → IsSearching v key (At 0 Right) w
@@ -99,15 +112,12 @@ module _ (k : Shape) (v : View) (key : ℕ) where
   }
 
   -- a load, after which what it found out is known
-  pub moved_as : (state state' : SearchState) (s f n : ℕ) (w x : View) (i : IsSearching v key state w) → Told k w (K17 s f) n x → (r : Reading) → loaded i.reading (slot_field s f) n ≡ r → r.key ≡ key → r.state ≡ state' → IsIn r.stood (state_slot state') → IsIn r.stood (state_parent state')
+  pub moved_as : (state state' : SearchState) (s : ℕ) (p : Part) (n : ℕ) (w x : View) (i : IsSearching v key state w) → Told k w (SearchLoad s p) n x → (r : Reading) → loaded i.reading (in_slot s p) n ≡ r → r.key ≡ key → r.state ≡ state' → IsIn r.stood (state_slot state') → IsIn r.stood (state_parent state')
       → (j : IsSearching v key state' x) × (j.reading ≡ r)
-  moved_as state state' s f n w x i t r is sought stands here above =
-      let now : Section = record i.entered.section { reading = i.reading } in
-      let one : Some t.2.0 ≡ Some now = sym t.2.1 ∙ i.inside in
-      let same : ◌≡◌ {A = Section} t.2.0 now = cc in
-      let u : View = noted w (K17 s f) n in
+  moved_as state state' s p n w x i t r is sought stands here above =
+      let u : View = noted w (SearchLoad s p) n in
       let goes : x ≡ record u { section = Some (record i.entered.section { reading = r }) } =
-      t.2.2 ∙ ap (λ z. after_search_load u z (slot_field s f) n) same ∙ ap (λ z. record u { section = Some (record i.entered.section { reading = z }) }) is in
+      t.goes ∙ ap (λ z. after_search_load u z (in_slot s p) n) (opened w _ i.inside) ∙ ap (λ z. record u { section = Some (record i.entered.section { reading = z }) }) is in
       subst (λ z. (j : IsSearching v key state' z) × (j.reading ≡ r)) (sym goes) (
         record {
           entry = i.entry;
@@ -119,65 +129,57 @@ module _ (k : Shape) (v : View) (key : ℕ) where
           here = here;
           above = above;
           others = ap (λ (z : View). record z { section = Some (record i.entered.section { reading = r }); trail = u.trail }) i.others;
-          made = made_more is_load i.entry.trail w kinds.K17 (slot_field s f) n refl i.made;
+          made = made_more is_load i.entry.trail w kinds.K17 (in_slot s p) n refl i.made;
         },
         refl,
       )
 
-  moved : (state state' : SearchState) (s f n : ℕ) (w x : View) (i : IsSearching v key state w) → Told k w (K17 s f) n x → (r : Reading) → loaded i.reading (slot_field s f) n ≡ r → r.key ≡ key → r.state ≡ state' → IsIn r.stood (state_slot state') → IsIn r.stood (state_parent state') → IsSearching v key state' x
-  moved state state' s f n w x i t r is sought stands here above = (moved_as state state' s f n w x i t r is sought stands here above).0
+  moved : (state state' : SearchState) (s : ℕ) (p : Part) (n : ℕ) (w x : View) (i : IsSearching v key state w) → Told k w (SearchLoad s p) n x → (r : Reading) → loaded i.reading (in_slot s p) n ≡ r → r.key ≡ key → r.state ≡ state' → IsIn r.stood (state_slot state') → IsIn r.stood (state_parent state') → IsSearching v key state' x
+  moved state state' s p n w x i t r is sought stands here above = (moved_as state state' s p n w x i t r is sought stands here above).0
 
   -- where it stands is a slot of the table
-  pub slot_at : (state : SearchState) (s f n : ℕ) (w x : View) → IsSearching v key state x → Told k w (K17 s f) n x → IsSlot k (state_slot state)
-  slot_at state s f n w x i t = t.6.stood _ (state_slot state) i.inside i.here
+  pub slot_at : (state : SearchState) (s : ℕ) (p : Part) (n : ℕ) (w x : View) → IsSearching v key state x → Told k w (SearchLoad s p) n x → IsSlot k (state_slot state)
+  slot_at state s p n w x i t = t.stood.stood _ (state_slot state) i.inside i.here
 
-  needs : (state : SearchState) (f : ℕ) (w : View) → IsSearching v key state w → IsSlot k (state_slot state) → 2 ≤ f → f < 9 → IsLoadable (state_slot state) (slot_field (state_slot state) f) → Needs k w (K17 (state_slot state) f)
-  needs state f w i slot low high may = ((slot.inside, low, high), (record i.entered.section { reading = i.reading }, record { section_is = i.inside; searches = i.entered.no_list; stood = i.here; loadable = may }))
+  -- any part of it may be loaded
+  pub asks : (state : SearchState) (p : Part) (w : View) → IsSearching v key state w → IsSlot k (state_slot state) → IsAsked k w (SearchLoad (state_slot state) p)
+  asks state p w i slot = λ now. (part_within k (state_slot state) p slot.inside, (record i.entered.section { reading = i.reading }, record { section_is = i.inside; searches = i.entered.no_list; stood = i.here; loadable = part_loadable (state_slot state) p }))
 
-  side_needs : (s : ℕ) (b : Side) (w : View) → IsSearching v key (At s b) w → IsSlot k s → Needs k w (K17 s (side_number b))
-  side_needs s Left w i slot = needs (At s Left) 5 w i slot (omega arith) (omega arith) refl
-  side_needs s Right w i slot = needs (At s Right) 6 w i slot (omega arith) (omega arith) refl
+  pub needs_link : (s : ℕ) (b : Side) (w : View) → IsSearching v key (At s b) w → IsSlot k s → IsAsked k w (SearchLoad s (part.Link b))
+  needs_link s b w i slot = asks (At s b) (part.Link b) w i slot
 
-  pub needs_link : (s : ℕ) (b : Side) (f : ℕ) (w : View) → f ≡ side_number b → IsSearching v key (At s b) w → IsSlot k s → Needs k w (K17 s f)
-  needs_link s b f w is i slot = subst (λ z. Needs k w (K17 s z)) (sym is) (side_needs s b w i slot)
-
-  side_field : (s : ℕ) (b : Side) → slot_field s (side_number b) ≡ Link s b
-  side_field s Left = refl
-  side_field s Right = refl
-
-  at_link : (s : ℕ) (b : Side) (n : ℕ) (w x : View) (i : IsSearching v key (At s b) w) → Told k w (K17 s (side_number b)) n x → (r : Reading) → linked_on (noting_load i.reading (Link s b) n) s b n ≡ r → (state : SearchState) → r.key ≡ key → r.state ≡ state → IsIn r.stood (state_slot state) → IsIn r.stood (state_parent state) → IsSearching v key state x
-  at_link s b n w x i t r is state sought stands here above =
-      moved (At s b) state s (side_number b) n w x i t r (ap (λ z. loaded i.reading z n) (side_field s b) ∙ link_moves i.reading s b n i.state_is ∙ is) sought stands here above
+  at_link : (s : ℕ) (b : Side) (n : ℕ) (w x : View) (i : IsSearching v key (At s b) w) → Told k w (SearchLoad s (part.Link b)) n x → (r : Reading) → linked_on (noting_load i.reading (Link s b) n) s b n ≡ r → (state : SearchState) → r.key ≡ key → r.state ≡ state → IsIn r.stood (state_slot state) → IsIn r.stood (state_parent state) → IsSearching v key state x
+  at_link s b n w x i t r is state sought stands here above = moved (At s b) state s (part.Link b) n w x i t r (link_moves i.reading s b n i.state_is ∙ is) sought stands here above
 
   -- the link is empty, or leads on
-  pub missed : (s : ℕ) (b : Side) (f n : ℕ) (w x : View) → f ≡ side_number b → n ≡ 0 → IsSearching v key (At s b) w → Told k w (K17 s f) n x → IsSearching v key (Missed s b) x
-  missed s b f n w x is none i t =
+  pub missed : (s : ℕ) (b : Side) (n : ℕ) (w x : View) → n ≡ 0 → IsSearching v key (At s b) w → Told k w (SearchLoad s (part.Link b)) n x → IsSearching v key (Missed s b) x
+  missed s b n w x none i t =
       let r : Reading = record (noting_load i.reading (Link s b) n) { state = Missed s b } in
-      at_link s b n w x i (subst (λ z. Told k w (K17 s z) n x) is t) r (ap (λ z. cond z r (record (noting_load i.reading (Link s b) n) { state = Unread n s b; stood = n ∷ i.reading.stood })) (eq-eqb n 0 none)) (Missed s b) i.key_is refl i.here i.here
+      at_link s b n w x i t r (ap (λ z. cond z r (record (noting_load i.reading (Link s b) n) { state = Unread n s b; stood = n ∷ i.reading.stood })) (eq-eqb n 0 none)) (Missed s b) i.key_is refl i.here i.here
 
-  pub reached : (s : ℕ) (b : Side) (f n : ℕ) (w x : View) → f ≡ side_number b → n ≢ 0 → IsSearching v key (At s b) w → Told k w (K17 s f) n x → IsSearching v key (Unread n s b) x
-  reached s b f n w x is some_slot i t =
+  pub reached : (s : ℕ) (b : Side) (n : ℕ) (w x : View) → n ≢ 0 → IsSearching v key (At s b) w → Told k w (SearchLoad s (part.Link b)) n x → IsSearching v key (Unread n s b) x
+  reached s b n w x some_slot i t =
       let r : Reading = record (noting_load i.reading (Link s b) n) { state = Unread n s b; stood = n ∷ i.reading.stood } in
-      at_link s b n w x i (subst (λ z. Told k w (K17 s z) n x) is t) r (ap (λ z. cond z (record (noting_load i.reading (Link s b) n) { state = Missed s b }) r) (ne_eqb n 0 some_slot)) (Unread n s b) i.key_is refl (first_in i.reading.stood n) (later_in i.reading.stood n s i.here)
+      at_link s b n w x i t r (ap (λ z. cond z (record (noting_load i.reading (Link s b) n) { state = Missed s b }) r) (ne_eqb n 0 some_slot)) (Unread n s b) i.key_is refl (first_in i.reading.stood n) (later_in i.reading.stood n s i.here)
 
-  pub needs_key : (s p : ℕ) (b : Side) (w : View) → IsSearching v key (Unread s p b) w → IsSlot k s → Needs k w (K17 s 3)
-  needs_key s p b w i slot = needs (Unread s p b) 3 w i slot (omega arith) (omega arith) refl
+  pub needs_key : (s p : ℕ) (b : Side) (w : View) → IsSearching v key (Unread s p b) w → IsSlot k s → IsAsked k w (SearchLoad s part.Key)
+  needs_key s p b w i slot = asks (Unread s p b) part.Key w i slot
 
   -- the key of the slot was loaded
-  pub read : (s p : ℕ) (b : Side) (n : ℕ) (w x : View) (o : Option Side) → step_side key n ≡ o → IsSearching v key (Unread s p b) w → Told k w (K17 s 3) n x → IsSearching v key (key_stand s p b o) x
+  pub read : (s p : ℕ) (b : Side) (n : ℕ) (w x : View) (o : Option Side) → step_side key n ≡ o → IsSearching v key (Unread s p b) w → Told k w (SearchLoad s part.Key) n x → IsSearching v key (key_stand s p b o) x
   read s p b n w x None is i t =
-      moved (Unread s p b) (Found s p b None) s 3 n w x i t (record (noting_load i.reading (Key s) n) { state = Found s p b None })
+      moved (Unread s p b) (Found s p b None) s part.Key n w x i t (record (noting_load i.reading (Key s) n) { state = Found s p b None })
       (key_moves i.reading s p b n i.state_is ∙ ap (λ z. record (noting_load i.reading (Key s) n) { state = key_stand s p b z }) (ap (λ z. step_side z n) i.key_is ∙ is)) i.key_is refl i.here i.above
   read s p b n w x (Some c) is i t =
-      moved (Unread s p b) (At s c) s 3 n w x i t (record (noting_load i.reading (Key s) n) { state = At s c })
+      moved (Unread s p b) (At s c) s part.Key n w x i t (record (noting_load i.reading (Key s) n) { state = At s c })
       (key_moves i.reading s p b n i.state_is ∙ ap (λ z. record (noting_load i.reading (Key s) n) { state = key_stand s p b z }) (ap (λ z. step_side z n) i.key_is ∙ is)) i.key_is refl i.here i.here
 
-  pub needs_value : (s p : ℕ) (b : Side) (w : View) → IsSearching v key (Found s p b None) w → IsSlot k s → Needs k w (K17 s 4)
-  needs_value s p b w i slot = needs (Found s p b None) 4 w i slot (omega arith) (omega arith) refl
+  pub needs_value : (s p : ℕ) (b : Side) (w : View) → IsSearching v key (Found s p b None) w → IsSlot k s → IsAsked k w (SearchLoad s part.Value)
+  needs_value s p b w i slot = asks (Found s p b None) part.Value w i slot
 
-  pub valued : (s p : ℕ) (b : Side) (n : ℕ) (w x : View) → IsSearching v key (Found s p b None) w → Told k w (K17 s 4) n x → IsSearching v key (Found s p b (Some n)) x
+  pub valued : (s p : ℕ) (b : Side) (n : ℕ) (w x : View) → IsSearching v key (Found s p b None) w → Told k w (SearchLoad s part.Value) n x → IsSearching v key (Found s p b (Some n)) x
   valued s p b n w x i t =
-      moved (Found s p b None) (Found s p b (Some n)) s 4 n w x i t (record (noting_load i.reading (Value s) n) { state = Found s p b (Some n) }) (value_moves i.reading s p b n i.state_is) i.key_is refl i.here i.above
+      moved (Found s p b None) (Found s p b (Some n)) s part.Value n w x i t (record (noting_load i.reading (Value s) n) { state = Found s p b (Some n) }) (value_moves i.reading s p b n i.state_is) i.key_is refl i.here i.above
 
   -- a section is open
   pub in_section : (state : SearchState) (w : View) → IsSearching v key state w → (section : Section) × (w.section ≡ Some section)
@@ -243,14 +245,14 @@ module _ (k : Shape) (v : View) (key : ℕ) where
       (said.0, looked (Found s p b None) (Some said.0) w x i l said.1)
 
   -- a search that found its key loads the life of the slot
-  found_aged : (s p : ℕ) (b : Side) (life : ℕ) (w x : View) (i : IsSearching v key (Found s p b None) w) → Told k w (K17 s 2) life x → (j : IsSearching v key (Found s p b None) x) × (j.reading ≡ noting_load i.reading (Life s) life)
+  found_aged : (s p : ℕ) (b : Side) (life : ℕ) (w x : View) (i : IsSearching v key (Found s p b None) w) → Told k w (SearchLoad s part.Life) life x → (j : IsSearching v key (Found s p b None) x) × (j.reading ≡ noting_load i.reading (Life s) life)
   found_aged s p b life w x i t =
-      moved_as (Found s p b None) (Found s p b None) s 2 life w x i t (noting_load i.reading (Life s) life) (ap (λ z. searched (noting_load i.reading (Life s) life) z (Life s) life) i.state_is) i.key_is i.state_is i.here i.above
+      moved_as (Found s p b None) (Found s p b None) s part.Life life w x i t (noting_load i.reading (Life s) life) (ap (λ z. searched (noting_load i.reading (Life s) life) z (Life s) life) i.state_is) i.key_is i.state_is i.here i.above
 
-  pub needs_found_life : (s p : ℕ) (b : Side) (w : View) → IsSearching v key (Found s p b None) w → IsSlot k s → Needs k w (K17 s 2)
-  needs_found_life s p b w i slot = needs (Found s p b None) 2 w i slot (omega arith) (omega arith) refl
+  pub needs_found_life : (s p : ℕ) (b : Side) (w : View) → IsSearching v key (Found s p b None) w → IsSlot k s → IsAsked k w (SearchLoad s part.Life)
+  needs_found_life s p b w i slot = asks (Found s p b None) part.Life w i slot
 
-  pub sought : (s p : ℕ) (b : Side) (life generation : ℕ) (w x y : View) → IsSlot k s → IsSearching v key (Found s p b None) w → Told k w (K17 s 2) life x → HasLeft x y → generation ≡ life / 2
+  pub sought : (s p : ℕ) (b : Side) (life generation : ℕ) (w x y : View) → IsSlot k s → IsSearching v key (Found s p b None) w → Told k w (SearchLoad s part.Life) life x → HasLeft x y → generation ≡ life / 2
       → Sought k v key (Some (record { slot = s; generation = generation })) y
   sought s p b life generation w x y slot i t left half =
       let j = found_aged s p b life w x i t in
@@ -263,32 +265,24 @@ module _ (k : Shape) (v : View) (key : ℕ) where
       )
 
   -- at the end of a search that missed, loads only add what they loaded
-  stays : (s : ℕ) (b : Side) (f n : ℕ) (field : Field) (w x : View) (i : IsSearching v key (Missed s b) w) → slot_field s f ≡ field → Told k w (K17 s f) n x → ((r : Reading) → searched r (Missed s b) field n ≡ r) → (j : IsSearching v key (Missed s b) x) × (j.reading ≡ noting_load i.reading field n)
-  stays s b f n field w x i is t nowhere =
-      moved_as (Missed s b) (Missed s b) s f n w x i t (noting_load i.reading field n) (ap (λ z. loaded i.reading z n) is ∙ ap (λ z. searched (noting_load i.reading field n) z field n) i.state_is ∙ nowhere (noting_load i.reading field n)) i.key_is i.state_is i.here i.above
+  stays : (s : ℕ) (b : Side) (p : Part) (n : ℕ) (w x : View) (i : IsSearching v key (Missed s b) w) → Told k w (SearchLoad s p) n x → ((r : Reading) → searched r (Missed s b) (in_slot s p) n ≡ r) → (j : IsSearching v key (Missed s b) x) × (j.reading ≡ noting_load i.reading (in_slot s p) n)
+  stays s b p n w x i t nowhere =
+      moved_as (Missed s b) (Missed s b) s p n w x i t (noting_load i.reading (in_slot s p) n) (ap (λ z. searched (noting_load i.reading (in_slot s p) n) z (in_slot s p) n) i.state_is ∙ nowhere (noting_load i.reading (in_slot s p) n)) i.key_is i.state_is i.here i.above
 
-  tag_field : (s : ℕ) (b : Side) → slot_field s (tag_number b) ≡ Tag s b
-  tag_field s Left = refl
-  tag_field s Right = refl
+  module _ (s : ℕ) (b : Side) (w : View) (i : IsSearching v key (Missed s b) w) (slot : IsSlot k s) where
+    pub needs_tag : IsAsked k w (SearchLoad s (part.Tag b))
+    needs_tag = asks (Missed s b) (part.Tag b) w i slot
 
-  tag_needs : (s : ℕ) (b : Side) (w : View) → IsSearching v key (Missed s b) w → IsSlot k s → Needs k w (K17 s (tag_number b))
-  tag_needs s Left w i slot = needs (Missed s Left) 7 w i slot (omega arith) (omega arith) refl
-  tag_needs s Right w i slot = needs (Missed s Right) 8 w i slot (omega arith) (omega arith) refl
-
-  module _ (s : ℕ) (b : Side) (f : ℕ) (w : View) (i : IsSearching v key (Missed s b) w) (slot : IsSlot k s) (f_is : f ≡ tag_number b) where
-    pub needs_tag : Needs k w (K17 s f)
-    needs_tag = subst (λ z. Needs k w (K17 s z)) (sym f_is) (tag_needs s b w i slot)
-
-    module _ (tag : ℕ) (x : View) (first : Told k w (K17 s f) tag x) where
+    module _ (tag : ℕ) (x : View) (first : Told k w (SearchLoad s (part.Tag b)) tag x) where
       tagged : (j : IsSearching v key (Missed s b) x) × (j.reading ≡ noting_load i.reading (Tag s b) tag)
-      tagged = stays s b f tag (Tag s b) w x i (ap (slot_field s) f_is ∙ tag_field s b) first (λ r. refl)
+      tagged = stays s b (part.Tag b) tag w x i first (λ r. refl)
 
-      pub needs_life : Needs k x (K17 s 2)
-      needs_life = needs (Missed s b) 2 x tagged.0 slot (omega arith) (omega arith) refl
+      pub needs_life : IsAsked k x (SearchLoad s part.Life)
+      needs_life = asks (Missed s b) part.Life x tagged.0 slot
 
-      module _ (life : ℕ) (y : View) (second : Told k x (K17 s 2) life y) where
+      module _ (life : ℕ) (y : View) (second : Told k x (SearchLoad s part.Life) life y) where
         aged : (j : IsSearching v key (Missed s b) y) × (j.reading ≡ noting_load tagged.0.reading (Life s) life)
-        aged = stays s b 2 life (Life s) x y tagged.0 refl second (λ r. refl)
+        aged = stays s b part.Life life x y tagged.0 second (λ r. refl)
 
         pub still_inside : (section : Section) × (y.section ≡ Some section)
         still_inside = in_section (Missed s b) y aged.0

@@ -102,9 +102,9 @@ pub record HasDeleted (v : View) (key number : ℕ) (w : View) : Type 0 where
   pub move : (after ≡ []) ⊎ IsMoveWait v done.before key after
 
 -- The copy was linked, with the next key that the dictionary had.
-pub record HasCopied (v : View) (op : Op) (next_key number : ℕ) (w : View) : Type 0 where
-  pub done : HasDone v op [] number w
-  pub next : (key : ℕ) → op ≡ Del key → IsNextKey (map_of (updates_of done.before)) key next_key
+pub record HasCopied (v : View) (key next_key number : ℕ) (w : View) : Type 0 where
+  pub done : HasDone v (Del key) [] number w
+  pub next : IsNextKey (map_of (updates_of done.before)) key next_key
 
 -- The place has a spare for a copy, and room for two more retired slots: a delete of any key may begin its search.
 abbrev pub IsReadyToDelete : Shape → View → View → Type 0

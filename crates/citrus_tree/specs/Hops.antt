@@ -10,9 +10,10 @@ use Rattle.core_state.specs.declared.view.SearchState.{SearchState}
 use Rattle.core_state.specs.declared.view.SearchState.TheVariants as at
 use Rattle.core_state.specs.declared.view.View.{View}
 use Rattle.core_state.specs.views.Known.{known_in, LoadedGeneration}
-use Rattle.core_state.specs.memory.Words.{side_number, step_side}
+use Rattle.core_state.specs.memory.Words.{step_side}
 use Rattle.core_points.specs.declared.stage.Spot.{Spot}
-use Rattle.seat_table.specs.declared.case.Case.TheVariants.{K17}
+use Rattle.core_acts.specs.declared.act.Act.TheVariants.{SearchLoad}
+use Rattle.core_acts.specs.declared.act.Part.TheVariants as part
 use Rattle.seat_table.specs.Gains.{IsSlot}
 use Rattle.seat_table.specs.Seats.{SeatAt, TableAt, shape_of}
 use Rattle.seat_table.specs.Told.{Told}
@@ -47,9 +48,9 @@ state_after s b step.Ended = at.Missed s b
 
 -- What a step down loads: a link to a slot, and that slot's key, which is another or the sought one; or a link that is 0.
 abbrev pub Loads : Shape → View → ℕ → ℕ → Side → Step → View → Type 0
-Loads k v key s b (step.Moved c d) w = (c ≢ 0) × ((u : View) × (there : ℕ) × Told k v (K17 s (side_number b)) c u × Told k u (K17 c 3) there w × (step_side key there ≡ Some d))
-Loads k v key s b (step.Found c) w = (c ≢ 0) × ((u : View) × Told k v (K17 s (side_number b)) c u × Told k u (K17 c 3) key w)
-Loads k v key s b step.Ended w = Told k v (K17 s (side_number b)) 0 w
+Loads k v key s b (step.Moved c d) w = (c ≢ 0) × ((u : View) × (there : ℕ) × Told k v (SearchLoad s (part.Link b)) c u × Told k u (SearchLoad c part.Key) there w × (step_side key there ≡ Some d))
+Loads k v key s b (step.Found c) w = (c ≢ 0) × ((u : View) × Told k v (SearchLoad s (part.Link b)) c u × Told k u (SearchLoad c part.Key) key w)
+Loads k v key s b step.Ended w = Told k v (SearchLoad s (part.Link b)) 0 w
 
 -- From the view v a section with the key was entered. Where its search stands, by what its last hop came to.
 abbrev pub Stands : Shape → View → ℕ → Hop → ℕ → Side → View → Type 0

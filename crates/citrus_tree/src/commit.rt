@@ -40,7 +40,7 @@ pub(crate) fn open_front<R: Wait, W: WaitPart>(
     let backoff = Backoff::new();
     let mut expected = even_from(seat.front_seen());
     for _ in rt.forever() {
-        let found = steps::k19(table, seat, expected);
+        let found = steps::open_commit(table, seat, expected);
         if found == expected {
             return found;
         }
@@ -65,6 +65,6 @@ pub(crate) fn close_front<W: WaitPart>(
     ensures at { (op : Op) (kept : ℕ) (u : Update) → IsAt (shape_of W.WAY table.now) op kept (at.Even u front) seat.old.view → IsAt (shape_of W.WAY table.now) op kept (past_even u ((front + 2) / 2)) seat.new.view }
 {
     let even = front + 2;
-    steps::k24(table, seat, even);
+    steps::close_commit(table, seat, even);
     even / 2
 }

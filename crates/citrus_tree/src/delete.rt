@@ -97,8 +97,7 @@ fn take_spare<R: Wait, W: WaitPart>(rt: &R, table: &CitrusTable<W>, seat: &mut S
     rule_tells(table, seat);
     match take(rt, table, seat) {
         Taken::Slot { slot, .. } => {
-            rule_tells(table, seat);
-            steps::k9(table, seat, slot, true);
+            steps::keep_as_spare(table, seat, slot);
         }
         Taken::Empty => {
             rule_tells(table, seat);
@@ -177,7 +176,7 @@ fn take_out<R: Wait, W: WaitPart, G: Gate>(
         return None;
     };
     match target.successor {
-        None => Some(bypass(rt, table, seat, node)),
+        None => Some(bypass(rt, table, seat, node, key)),
         Some(successor) => shift(rt, table, seat, gate, key, node, successor),
     }
 }

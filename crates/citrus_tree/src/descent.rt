@@ -10,7 +10,7 @@ ghost use Rattle.citrus_tree.specs.Lookups.{IsSearching, state_of};
 
 use core_state::{side_field, step_side};
 use prcu_marks::{Gate, Point, Side};
-use seat_table::{CitrusTable, Seat, WaitPart, steps};
+use seat_table::{CitrusTable, Part, Seat, WaitPart, steps};
 use std::sync::Wait;
 
 /// Where a search goes on from a slot and a side.
@@ -49,12 +49,12 @@ pub(crate) fn go_down<W: WaitPart>(
     ensures slot { IsSlot (shape_of W.WAY table.now) (state_slot (state_after slot side result)) }
     ensures searching { (v : View) → IsSearching v key (At slot side) seat.old.view → IsSearching v key (state_after slot side result) seat.new.view }
 {
-    let link = steps::k17(table, seat, slot, side_field(side));
+    let link = steps::search_load(table, seat, slot, Part::Link { side });
     if link == 0 {
         return Step::Ended;
     }
     let child = link as u32;
-    match step_side(key, steps::k17(table, seat, child, 3)) {
+    match step_side(key, steps::search_load(table, seat, child, Part::Key)) {
         None => Step::Found { slot: child },
         Some(side) => Step::Moved { slot: child, side },
     }

@@ -21,9 +21,9 @@ use core_points::stage::Spot;
 use core_state::{side_field, tag_field};
 use crossbeam_utils::Backoff;
 use node_slots::{Taken, put_back, reclaim, take};
-use prcu_marks::{Gate, Point};
+use prcu_marks::{Gate, Point, Side};
 use prcu_model::{Reply, Told};
-use seat_table::{CitrusTable, Seat, WaitPart, steps};
+use seat_table::{CitrusTable, Part, Seat, WaitPart, steps};
 use std::sync::Wait;
 
 /// Adds the pair, where the key is absent: `New` with the update's position. `Old` where the key is present, as at `get`, and `Full`
@@ -60,7 +60,7 @@ pub fn put<R: Wait, W: WaitPart, G: Gate>(
             return answered(gate, seat, Reply::Full, 0);
         };
         gate.pass(Point::BeforeLock, seat.place());
-        if let Some(number) = link_leaf(rt, table, seat, spot, leaf) {
+        if let Some(number) = link_leaf(rt, table, seat, spot, leaf, key, value) {
             return answered(gate, seat, Reply::New, number);
         }
         backoff.snooze();
@@ -152,14 +152,10 @@ fn fill_leaf<W: WaitPart>(
     ensures goes { Goes seat.old.view seat.new.view [] }
     ensures at { (kept : ℕ) (spot : Spot) → IsAt (shape_of W.WAY table.now) (Put key value) kept (at.LeafField spot 0) seat.old.view → IsAt (shape_of W.WAY table.now) (Put key value) kept (at.LeafLock spot) seat.new.view }
 {
-    rule_tells(table, seat);
-    steps::k12(table, seat, slot, 3, key);
-    rule_tells(table, seat);
-    steps::k12(table, seat, slot, 4, value);
-    rule_tells(table, seat);
-    steps::k12(table, seat, slot, 5, 0);
-    rule_tells(table, seat);
-    steps::k12(table, seat, slot, 6, 0);
+    steps::fill(table, seat, slot, Part::Key, key);
+    steps::fill(table, seat, slot, Part::Value, value);
+    steps::fill(table, seat, slot, Part::Link { side: Side::Left }, 0);
+    steps::fill(table, seat, slot, Part::Link { side: Side::Right }, 0);
 }
 
 // A slot, for which the retired ones are given back where none is free.
@@ -202,31 +198,29 @@ fn link_leaf<R: Wait, W: WaitPart>(
     seat: &mut Seat<W>,
     spot: Spot,
     leaf: u32,
+    key: u64,
+    value: u64,
 ) -> Option<u64>
     requires table { seat.old.table ≡ table.now }
     requires slot { IsSlotOf (Some leaf) seat.old.view.hands.hand }
-    requires at { (key value kept : ℕ) × IsAt (shape_of W.WAY table.now) (Put key value) kept (at.LeafLock spot) seat.old.view }
+    requires at { (kept : ℕ) × IsAt (shape_of W.WAY table.now) (Put key value) kept (at.LeafLock spot) seat.old.view }
     ensures seat { (seat.new.table ≡ seat.old.table) × (seat.new.listed ≡ seat.old.listed) }
     ensures again { result ≡ None → Goes seat.old.view seat.new.view [] }
-    ensures linked { (key value kept number : ℕ) → IsAt (shape_of W.WAY table.now) (Put key value) kept (at.LeafLock spot) seat.old.view → result ≡ Some number → Links seat.old.view key value number seat.new.view }
-    ensures at { (key value kept : ℕ) → IsAt (shape_of W.WAY table.now) (Put key value) kept (at.LeafLock spot) seat.old.view → IsAt (shape_of W.WAY table.now) (Put key value) kept (linked_stage result) seat.new.view }
+    ensures linked { (kept number : ℕ) → IsAt (shape_of W.WAY table.now) (Put key value) kept (at.LeafLock spot) seat.old.view → result ≡ Some number → Links seat.old.view key value number seat.new.view }
+    ensures at { (kept : ℕ) → IsAt (shape_of W.WAY table.now) (Put key value) kept (at.LeafLock spot) seat.old.view → IsAt (shape_of W.WAY table.now) (Put key value) kept (linked_stage result) seat.new.view }
     ensures informed { IsInformed seat.new.view }
 {
-    rule_tells(table, seat);
-    if steps::k13(table, seat, spot.slot) != 0 {
+    if steps::lock(table, seat, spot.slot) != 0 {
         return None;
     }
     if !still_holds(table, seat, spot) {
-        rule_tells(table, seat);
-        steps::k14(table, seat, spot.slot);
+        steps::unlock(table, seat, spot.slot);
         return None;
     }
     let front = open_front(rt, table, seat);
-    rule_tells(table, seat);
-    steps::k20(table, seat, spot.slot, spot.side, leaf);
+    steps::link_leaf(table, seat, spot.slot, spot.side, leaf, key, value);
     let number = close_front(table, seat, front);
-    rule_tells(table, seat);
-    steps::k14(table, seat, spot.slot);
+    steps::unlock(table, seat, spot.slot);
     Some(number)
 }
 
@@ -240,12 +234,9 @@ fn still_holds<W: WaitPart>(table: &CitrusTable<W>, seat: &mut Seat<W>, spot: Sp
     ensures goes { Goes seat.old.view seat.new.view [] }
     ensures at { (key value kept : ℕ) → IsAt (shape_of W.WAY table.now) (Put key value) kept (at.LeafLife spot) seat.old.view → IsAt (shape_of W.WAY table.now) (Put key value) kept (held_stage result spot) seat.new.view }
 {
-    rule_tells(table, seat);
-    let life = steps::k18(table, seat, spot.slot, 2);
-    rule_tells(table, seat);
-    let link = steps::k18(table, seat, spot.slot, side_field(spot.side));
-    rule_tells(table, seat);
-    let tag = steps::k18(table, seat, spot.slot, tag_field(spot.side));
+    let life = steps::locked_load(table, seat, spot.slot, Part::Life);
+    let link = steps::locked_load(table, seat, spot.slot, Part::Link { side: spot.side });
+    let tag = steps::locked_load(table, seat, spot.slot, Part::Tag { side: spot.side });
     is_as_recorded(spot, life, link, tag)
 }
 

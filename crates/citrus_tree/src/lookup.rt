@@ -6,7 +6,7 @@ ghost use Rattle.citrus_tree.specs.Lookups.{Looked, Gets};
 use crate::descent::{Descent, descend};
 use prcu_marks::{Gate, Point};
 use prcu_model::{Reply, Told};
-use seat_table::{CitrusTable, Seat, WaitPart, steps};
+use seat_table::{CitrusTable, Part, Seat, WaitPart, steps};
 use std::sync::Wait;
 
 // What the dictionary gave the key at some time of a section that is entered and left.
@@ -25,7 +25,7 @@ fn look_up<R: Wait, W: WaitPart, G: Gate>(
 {
     match descend(rt, table, seat, gate, key) {
         Descent::Found { slot, .. } => {
-            let value = steps::k17(table, seat, slot, 4);
+            let value = steps::search_load(table, seat, slot, Part::Value);
             W::leave(table, seat);
             Some(value)
         }

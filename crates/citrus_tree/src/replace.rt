@@ -18,7 +18,7 @@ use core_state::generation_of;
 use crossbeam_utils::Backoff;
 use prcu_marks::{Gate, Point};
 use prcu_model::{Reply, Told};
-use seat_table::{CitrusTable, Seat, WaitPart, steps};
+use seat_table::{CitrusTable, Part, Seat, WaitPart, steps};
 use std::sync::Wait;
 
 /// A slot that had the key, with its generation then.
@@ -64,7 +64,7 @@ pub fn set<R: Wait, W: WaitPart, G: Gate>(
             return answered(gate, seat, Reply::Absent, 0);
         };
         gate.pass(Point::BeforeLock, seat.place());
-        if let Some(done) = store_value(rt, table, seat, holder, value) {
+        if let Some(done) = store_value(rt, table, seat, holder, key, value) {
             return answered(gate, seat, Reply::Was { value: done.old }, done.number);
         }
         backoff.snooze();
@@ -88,7 +88,7 @@ fn find_holder<R: Wait, W: WaitPart, G: Gate>(
 {
     match descend(rt, table, seat, gate, key) {
         Descent::Found { slot, .. } => {
-            let life = steps::k17(table, seat, slot, 2);
+            let life = steps::search_load(table, seat, slot, Part::Life);
             W::leave(table, seat);
             Some(Holder {
                 slot,
@@ -108,35 +108,30 @@ fn store_value<R: Wait, W: WaitPart>(
     table: &CitrusTable<W>,
     seat: &mut Seat<W>,
     holder: Holder,
+    key: u64,
     value: u64,
 ) -> Option<Replaced>
     requires table { seat.old.table ≡ table.now }
-    requires at { (key kept : ℕ) × IsAt (shape_of W.WAY table.now) (Set key value) kept (at.SetLock holder.slot holder.generation) seat.old.view }
+    requires at { (kept : ℕ) × IsAt (shape_of W.WAY table.now) (Set key value) kept (at.SetLock holder.slot holder.generation) seat.old.view }
     ensures seat { (seat.new.table ≡ seat.old.table) × (seat.new.listed ≡ seat.old.listed) }
     ensures again { result ≡ None → Goes seat.old.view seat.new.view [] }
-    ensures stored { (key kept : ℕ) (done : Replaced) → IsAt (shape_of W.WAY table.now) (Set key value) kept (at.SetLock holder.slot holder.generation) seat.old.view → result ≡ Some done → Stores seat.old.view key value done seat.new.view }
-    ensures at { (key kept : ℕ) → IsAt (shape_of W.WAY table.now) (Set key value) kept (at.SetLock holder.slot holder.generation) seat.old.view → IsAt (shape_of W.WAY table.now) (Set key value) kept (set_stage result) seat.new.view }
+    ensures stored { (kept : ℕ) (done : Replaced) → IsAt (shape_of W.WAY table.now) (Set key value) kept (at.SetLock holder.slot holder.generation) seat.old.view → result ≡ Some done → Stores seat.old.view key value done seat.new.view }
+    ensures at { (kept : ℕ) → IsAt (shape_of W.WAY table.now) (Set key value) kept (at.SetLock holder.slot holder.generation) seat.old.view → IsAt (shape_of W.WAY table.now) (Set key value) kept (set_stage result) seat.new.view }
     ensures informed { IsInformed seat.new.view }
 {
-    rule_tells(table, seat);
-    if steps::k13(table, seat, holder.slot) != 0 {
+    if steps::lock(table, seat, holder.slot) != 0 {
         return None;
     }
-    rule_tells(table, seat);
-    let life = steps::k18(table, seat, holder.slot, 2);
+    let life = steps::locked_load(table, seat, holder.slot, Part::Life);
     let holds = is_life(life, holder.generation);
     if !holds {
-        rule_tells(table, seat);
-        steps::k14(table, seat, holder.slot);
+        steps::unlock(table, seat, holder.slot);
         return None;
     }
-    rule_tells(table, seat);
-    let old = steps::k18(table, seat, holder.slot, 4);
+    let old = steps::locked_load(table, seat, holder.slot, Part::Value);
     let front = open_front(rt, table, seat);
-    rule_tells(table, seat);
-    steps::k36(table, seat, holder.slot, value);
+    steps::replace_value(table, seat, holder.slot, key, value);
     let number = close_front(table, seat, front);
-    rule_tells(table, seat);
-    steps::k14(table, seat, holder.slot);
+    steps::unlock(table, seat, holder.slot);
     Some(Replaced { old, number })
 }

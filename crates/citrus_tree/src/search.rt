@@ -12,7 +12,7 @@ use crate::descent::{Step, go_down};
 use core_points::stage::Spot;
 use core_state::{generation_of, tag_field};
 use prcu_marks::Side;
-use seat_table::{CitrusTable, Seat, WaitPart, steps};
+use seat_table::{CitrusTable, Part, Seat, WaitPart, steps};
 
 /// What a hop came to.
 #[derive(Clone, Copy, Debug, PartialEq, Eq)]
@@ -120,7 +120,7 @@ impl<'a, W: WaitPart> Search<'a, W> {
         } = self;
         match last {
             Hop::Found { slot } => {
-                let value = steps::k17(table, seat, slot, 4);
+                let value = steps::search_load(table, seat, slot, Part::Value);
                 W::leave(table, seat);
                 End::Hit { value }
             }
@@ -148,8 +148,8 @@ pub(crate) fn leave_with_spot<W: WaitPart>(
     ensures slot { result.slot ≡ slot }
     ensures looked { (v : View) (key : ℕ) → IsSearching v key (Missed slot side) seat.old.view → (looked : Looked v key None seat.new.view) × Records looked.reading result }
 {
-    let tag = steps::k17(table, seat, slot, tag_field(side));
-    let life = steps::k17(table, seat, slot, 2);
+    let tag = steps::search_load(table, seat, slot, Part::Tag { side });
+    let life = steps::search_load(table, seat, slot, Part::Life);
     W::leave(table, seat);
     Spot {
         slot,

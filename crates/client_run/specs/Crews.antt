@@ -8,7 +8,7 @@ use Rattle.prcu_model.specs.Lists.{Roomy}
 use Rattle.prcu_marks.specs.declared.mark.Mark.{Mark}
 use Rattle.prcu_marks.specs.Marks.{own_of}
 use Rattle.prcu_marks.specs.Callers.{Caller}
-use Rattle.client_run.specs.Workers.{Work}
+use Rattle.client_run.specs.Workers.{Work, HaveMade}
 
 -- The worker has this client, was told nothing, and has room for the answers to its script.
 pub record IsHired {C : Type 0} (client : C) (script : List Op) (worker : Work C) : Type 0 where
@@ -42,6 +42,17 @@ pub record IsGathered {C S : Type 0} (stands_for : List C → S → Type 0) (wor
   pub whole : workers ≡ gone ++ rest
   pub told_is : told_now ≡ told ++ map (λ (worker : Work C). worker.told) gone
   pub joined : stands_for (map (λ (worker : Work C). worker.client) gone) seat
+
+-- Scripts ran: each had a worker that was told nothing yet, whose client was the one for its number and length and made its calls. Here is
+-- what they were told, and a seat that stands for their clients.
+pub record HaveRun {C S : Type 0} (client_for : ℕ → ℕ → C) (called : C → Op → Told → C → Type 0) (stands_for : List C → S → Type 0) (scripts : List (List Op)) (told : List (Roomy Told)) (seat : S) : Type 0 where
+  pub hired : List (Work C)
+  pub workers : List (Work C)
+  pub crew : IsCrew client_for scripts hired
+  pub count : length workers ≡ length hired
+  pub made : HaveMade called hired scripts workers
+  pub told_is : told ≡ map (λ (worker : Work C). worker.told) workers
+  pub joined : stands_for (map (λ (worker : Work C). worker.client) workers) seat
 
 -- Among these marks are all that the callers, at places from 0 on, have seen, and of each of their places just its caller's.
 abbrev pub HaveMet : List Caller → List Mark → Type 0

@@ -1,6 +1,6 @@
--- The exit statuses.
+-- The exit statuses, and the line on standard error for each.
 -- Source: docs/FORMATS.md, "Statuses".
-use Rattle.std.specs.Prelude.{ℕ}
+use Rattle.std.specs.Prelude.{ℕ, List, [], codes}
 use Rattle.command_words.specs.declared.statuses.Status.{Status}
 use Rattle.command_words.specs.declared.statuses.Status.TheVariants.{Done, Refused, Usage, BadScript, ReadFault, WriteFault, NoMemory, TooLong}
 
@@ -13,3 +13,21 @@ exit_status ReadFault = 4
 exit_status WriteFault = 5
 exit_status NoMemory = 6
 exit_status TooLong = 7
+
+-- the line that tells a status, with its end: none for a text that was written whole
+abbrev pub status_line : Status → List ℕ
+status_line Done = []
+status_line Refused = codes "not an account\n"
+status_line Usage = codes "usage: citrus run|check|load\n"
+status_line BadScript = codes "bad script\n"
+status_line ReadFault = codes "cannot read the input\n"
+status_line WriteFault = codes "cannot write the output\n"
+status_line NoMemory = codes "out of memory\n"
+status_line TooLong = codes "the input is too long\n"
+
+-- the statuses with which a whole text was written
+abbrev pub WritesWhole : Status → Type 0
+WritesWhole Done = Unit {0}
+WritesWhole Refused = Unit {0}
+WritesWhole BadScript = Unit {0}
+WritesWhole _ = ⊥

@@ -10,4 +10,4 @@ mod statuses;
 pub use commands::{Command, Mode, command_of};
 pub use parts::parts_of;
 pub use slots::{default_slots, slots_for};
-pub use statuses::Status;
+pub use statuses::{Status, tell};

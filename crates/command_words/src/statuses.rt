@@ -1,4 +1,9 @@
-//! How a call ended.
+//! How a call ended, and what is told of it.
+ghost use Rattle.std.specs.Prelude.{◌≡◌};
+ghost use Rattle.io_edge.specs.Edge.{Rose, Appends, AppendsFront};
+ghost use Rattle.command_words.specs.Statuses.{status_line};
+
+use io_edge::{Sink, write_all};
 
 /// How a call of the tool ended. The numbers are the program's exit statuses.
 #[derive(Clone, Copy, Debug, PartialEq, Eq)]
@@ -23,7 +28,7 @@ pub enum Status {
 
 impl Status {
     ghost use Rattle.std.specs.Prelude.{◌≡◌};
-    ghost use Rattle.command_words.specs.Statuses.{exit_status};
+    ghost use Rattle.command_words.specs.Statuses.{exit_status, status_line};
 
     /// The exit status of the program, from 0 to 7.
     pub fn number(self) -> u8
@@ -31,4 +36,30 @@ impl Status {
     {
         self as u8
     }
+
+    /// The line that tells how the call ended, with its end: none for `Done`.
+    pub fn line(self) -> &'static [u8]
+        ensures { result.now ≡ status_line self }
+    {
+        match self {
+            Status::Done => b"",
+            Status::Refused => b"not an account\n",
+            Status::Usage => b"usage: citrus run|check|load\n",
+            Status::BadScript => b"bad script\n",
+            Status::ReadFault => b"cannot read the input\n",
+            Status::WriteFault => b"cannot write the output\n",
+            Status::NoMemory => b"out of memory\n",
+            Status::TooLong => b"the input is too long\n",
+        }
+    }
+}
+
+/// Writes the line that tells how the call ended, and has it passed on. Where `errors` fails, a front of it was written.
+pub fn tell<E: Sink>(status: Status, errors: &mut E)
+    ensures told { (Rose (E.faults errors.old) (E.faults errors.new) → ⊥) → Appends (E.bytes errors.old) (E.bytes errors.new) (status_line status) }
+    ensures passed_on { (Rose (E.faults errors.old) (E.faults errors.new) → ⊥) → E.passed_on errors.new }
+    ensures front { AppendsFront (E.bytes errors.old) (E.bytes errors.new) (status_line status) }
+{
+    // Where nothing is taken, the status still tells it.
+    let _ = write_all(errors, status.line());
 }

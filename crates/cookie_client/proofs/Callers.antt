@@ -14,7 +14,7 @@ use Rattle.core_state.specs.declared.view.View.{View}
 use Rattle.citrus_tree.specs.Clients.{caller_of, room_of}
 use Rattle.citrus_tree.proofs.Clients.{made_answers, met_its_own}
 use Rattle.grace_cookie.specs.Cookies.{CookieAt}
-use Rattle.cookie_client.proofs.Longer.{IsPlain, ended_plain, began_plain, no_plain, both_plain, answered_longer}
+use Rattle.cookie_client.proofs.Longer.{IsPlain, ended_plain, began_plain, no_plain, both_plain, answered_longer, answered_earlier}
 use Rattle.cookie_client.specs.Clients.{CookieClientAt, HasCalled}
 
 -- the marks of what was done about the cookie
@@ -28,14 +28,22 @@ module _ (p key : ℕ) (us : List Update) where
 pub called_answers : (before : CookieClientAt) (op : Op) (told : Told) (after : CookieClientAt) → HasCalled before op told after → HasAnswered (Explains (room_of before.tree.shape)) (caller_of before.tree) op told (caller_of after.tree)
 called_answers before op told after call =
     let v : View = before.tree.seat.view in
+    let r : View = call.ready.view in
     let m : View = call.answered.view in
     let w : View = after.tree.seat.view in
-    let answered = made_answers before.tree.shape v m op told call.call.answer in
+    let explains = Explains (room_of before.tree.shape) in
+    let key = key_of op in
+    let us = updates_of w.seen in
+    let answered = made_answers before.tree.shape r m op told call.call.answer in
+    let ends = call.ends in
     let settled = call.waits in
     let gone = settled.gone in
-    let place : m.allowance.place ≡ v.allowance.place = answered.place in
-    let plain = both_plain v.allowance.place (key_of op) (updates_of w.seen) settled.ended settled.began
-    (ends_plain v.allowance.place (key_of op) (updates_of w.seen) before.cookie settled.ended (subst (λ p. (settled.ended ≡ []) ⊎ ((c : CookieAt) × (before.cookie ≡ Some c) × (settled.ended ≡ Ended p c.count ∷ []))) place settled.ends))
-    (begins_plain v.allowance.place (key_of op) (updates_of w.seen) m.counts.waits settled.began (subst (λ p. (settled.began ≡ []) ⊎ (settled.began ≡ Began p m.counts.waits 0 greatest_key ∷ [])) place settled.begins)) in
-    answered_longer (Explains (room_of before.tree.shape)) (caller_of before.tree) (caller_of (record before.tree { seat = call.answered })) (caller_of after.tree) op told (settled.ended ++ settled.began) answered plain.none gone.begins
-    gone.same (ap (λ p. own_of p w.seen) gone.same ∙ gone.own) plain.keyed plain.waits (met_its_own w)
+    let place : m.allowance.place ≡ r.allowance.place = answered.place in
+    let first = ends_plain v.allowance.place key us before.cookie ends.ended ends.ends in
+    let last = both_plain r.allowance.place key us settled.ended settled.began
+    (ends_plain r.allowance.place key us call.held settled.ended (subst (λ p. (settled.ended ≡ []) ⊎ ((c : CookieAt) × (call.held ≡ Some c) × (settled.ended ≡ Ended p c.count ∷ []))) place settled.ends))
+    (begins_plain r.allowance.place key us m.counts.waits settled.began (subst (λ p. (settled.began ≡ []) ⊎ (settled.began ≡ Began p m.counts.waits 0 greatest_key ∷ [])) place settled.begins)) in
+    let until = answered_longer explains (caller_of (record before.tree { seat = call.ready })) (caller_of (record before.tree { seat = call.answered })) (caller_of after.tree) op told (settled.ended ++ settled.began) answered last.none gone.begins
+    gone.same (ap (λ p. own_of p w.seen) gone.same ∙ gone.own) last.keyed last.waits (met_its_own w) in
+    answered_earlier explains (caller_of before.tree) (caller_of (record before.tree { seat = call.ready })) (caller_of after.tree) op told ends.ended first.none ends.gone.same ends.gone.begins until
+    (ap (λ p. own_of p r.seen) ends.gone.same ∙ ends.gone.own) first.keyed first.waits

@@ -5,6 +5,7 @@ use Rattle.prcu_model.specs.declared.operation.Told.{Told}
 use Rattle.prcu_model.specs.Replies.{Explains}
 use Rattle.prcu_marks.proofs.Callers.{told_meets}
 use Rattle.core_state.specs.declared.shape.Shape.{Shape}
+use Rattle.core_state.specs.declared.view.Allowance.{Allowance}
 use Rattle.seat_table.specs.Seats.{TableAt, SeatAt, IsQuietSeat}
 use Rattle.citrus_tree.specs.Clients.{ClientAt, caller_of, IsTold, room_of}
 use Rattle.citrus_tree.specs.Clients as tree
@@ -14,7 +15,8 @@ use Rattle.grace_cookie.specs.Cookies.{CookieAt}
 use Rattle.grace_cookie.specs.Keeping.{KeepsCookies}
 use Rattle.grace_cookie.proofs.Keeping.{cookies_stay, stay_retired}
 use Rattle.cookie_client.specs.Settling.{IsGood, Settles, AreSound}
-use Rattle.cookie_client.proofs.Leaving.{settles_leave, settles_pay, starts_few, informed_sound}
+use Rattle.cookie_client.specs.Rooms.{MakesRoom}
+use Rattle.cookie_client.proofs.Leaving.{room_ends, room_allows, settles_leave, settles_pay, starts_few, informed_sound}
 use Rattle.cookie_client.proofs.Callers.{called_answers}
 use Rattle.cookie_client.specs.Clients.{CookieClientAt, HasCalled, ChainsMeetFronts}
 
@@ -34,18 +36,22 @@ pub good_stays : (k : Shape) (cookie : Option CookieAt) (s t : SeatAt) → Keeps
 good_stays k None s t keeps good = tt
 good_stays k (Some c) s t keeps good = let still = cookies_stay k c s t keeps good.1 good.2 in (good.0, still.0, still.1)
 
--- a call, and what is done about the cookie after it
-pub made_call : (shape : Shape) (table : TableAt) (cookie held : Option CookieAt) (s mid t : SeatAt) (op : Op) (told : Told) → tree.HasCalled (record { shape = shape; table = table; seat = s }) op told (record { shape = shape; table = table; seat = mid })
-    → IsGood shape mid cookie → Settles shape cookie mid held t → IsQuietSeat t → (AreSound mid.view.seen → AreSound t.view.seen)
+-- what is done about the cookie before a call, the call, and what is done about the cookie after it
+pub made_call : (shape : Shape) (table : TableAt) (cookie left held : Option CookieAt) (s ready mid t : SeatAt) (op : Op) (told : Told) → IsGood shape s cookie → MakesRoom shape op cookie s left ready
+    → tree.HasCalled (record { shape = shape; table = table; seat = ready }) op told (record { shape = shape; table = table; seat = mid }) → IsGood shape mid left → Settles shape left mid held t → IsQuietSeat t → (AreSound mid.view.seen → AreSound t.view.seen)
     → HasCalled (record { tree = record { shape = shape; table = table; seat = s }; cookie = cookie }) op told (record { tree = record { shape = shape; table = table; seat = t }; cookie = held })
-made_call shape table cookie held s mid t op told call good settles quiet sound = record {
+made_call shape table cookie left held s ready mid t op told first room call good settles quiet sound = record {
+  held = left;
+  ready = ready;
   answered = mid;
+  room = room;
   call = call;
   settles = settles;
   same = refl;
-  waits = settles_leave shape cookie mid held t good settles;
+  ends = room_ends shape op cookie s left ready first room;
+  waits = settles_leave shape left mid held t good settles;
   few = starts_few settles.left settles.between held t settles.starts;
-  tickets = let a = call.tickets in let b = settles_pay shape cookie mid held t good settles in omega arith;
+  tickets = let same = ap (λ (z : Allowance). z.tickets) (room_allows shape op cookie s left ready first room) in let a = call.tickets in let b = settles_pay shape left mid held t good settles in omega arith;
   quiet = quiet;
   sound = sound (informed_sound mid.view call.informed);
 }

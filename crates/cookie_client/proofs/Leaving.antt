@@ -1,5 +1,6 @@
 -- What asking about a cookie and starting one leaves.
-use Rattle.std.proofs.Common.{◌≡◌, ℕ, ◌+◌, ◌<◌, ◌≤◌, ◌⊎◌, is_some, false, List, [], ◌∷◌, length, take, Option, Some, None, inl, inr, refl, sym, ap, subst, ◌∙◌, ⊎_elim, arith, append-nil}
+use Rattle.std.proofs.Common.{◌≡◌, ℕ, ◌+◌, ◌<◌, ◌≤◌, ◌⊎◌, is_some, true, false, List, [], ◌∷◌, length, take, Option, Some, None, inl, inr, refl, sym, ap, subst, ◌∙◌, ⊎_elim, arith, append-nil}
+use Rattle.prcu_model.specs.declared.operation.Op.{Op}
 use Rattle.prcu_marks.specs.declared.mark.Mark.{Mark}
 use Rattle.prcu_marks.specs.declared.mark.Mark.TheVariants.{Began, Ended}
 use Rattle.prcu_marks.specs.Bounds.{greatest_key}
@@ -18,8 +19,9 @@ use Rattle.node_slots.proofs.Marking.{each_begins, each_own, returned_nobodys}
 use Rattle.grace_cookie.specs.declared.answers.Ask.{Ask}
 use Rattle.grace_cookie.specs.declared.answers.Ask.TheVariants.{Over, NotYet, GivenUp}
 use Rattle.grace_cookie.specs.Cookies.{CookieAt, IsLatest, IsOf}
-use Rattle.grace_cookie.specs.Asking.{Asked, IsFoundOver, GivesNone, GivesSome, HasGivenBack}
+use Rattle.grace_cookie.specs.Asking.{IsSameCookie, Asked, IsFoundOver, GivesNone, GivesSome, HasGivenBack}
 use Rattle.cookie_client.specs.Settling.{IsGood, GoesOnBy, Asks, WasStarted, Starts, Settles, LeavesWaits, IsFewOrHeld, AreSound}
+use Rattle.cookie_client.specs.Rooms.{Holding, AsksOn, AsksUntilNone, LacksRoom, MakesRoom, LeavesEnd}
 
 -- what the seat knows after slots went back: as many waits, and no mark of its place more
 pub back_gone : (c : CookieAt) (s : SeatAt) (number : ℕ) (t : SeatAt) → HasGivenBack c s number t → HasGone s.view t.view [] × (t.view.allowance ≡ s.view.allowance) × (t.view.counts.waits ≡ s.view.counts.waits)
@@ -84,6 +86,98 @@ module _ (k : Shape) (c : CookieAt) (s : SeatAt) (going : c.over ≡ false) (of 
 asks_leave : (k : Shape) (cookie : Option CookieAt) (s : SeatAt) (left : Option CookieAt) (t : SeatAt) → IsGood k s cookie → Asks k cookie s left t → AskLeaves cookie s.view t.view
 asks_leave k None s left t good asks = same_view None s.view s t asks.1 (nothing_left None s.view s.view refl refl refl)
 asks_leave k (Some c) s left t good asks = one_leaves k c s good.0 good.1 left t asks.answer asks.now asks.seat asks.asked asks.goes
+
+-- ---- asking on and on
+
+-- The cookie that was held is held still: nothing was left of marks.
+record IsStillHeld (cookie : Option CookieAt) (v : View) (d : CookieAt) (w : View) : Type 0 where
+  pub c : CookieAt
+  pub was : cookie ≡ Some c
+  pub count : d.count ≡ c.count
+  pub gone : HasGone v w []
+  pub allowance : w.allowance ≡ v.allowance
+  pub waits : w.counts.waits ≡ v.counts.waits
+
+still_going : (k : Shape) (c : CookieAt) (s : SeatAt) (d : CookieAt) (t : SeatAt) (answer : Ask) (now : CookieAt) (mid : SeatAt) → IsSameCookie c now → Asked k c s.view answer now mid.view → GoesOnBy answer now mid (Some d) t
+    → IsStillHeld (Some c) s.view d t.view
+still_going k c s d t Over now mid same asked goes = absurd (let none = goes.0 in cc)
+still_going k c s d t (GivenUp latest) now mid same asked goes = absurd (let none = goes.0 in cc)
+still_going k c s d t (NotYet why) now mid same asked goes =
+    let held = goes.0 in
+    let is : d ≡ now = cc in
+    let e = (asked.3).looked.others in
+    let there : t.view ≡ mid.view = ap (λ (z : SeatAt). z.view) goes.1 in record {
+      c = c;
+      was = refl;
+      count = ap (λ (z : CookieAt). z.count) (is ∙ same);
+      gone = gone_none (ap (λ (z : View). z.allowance.place) (there ∙ e)) (ap (λ (z : View). z.seen) (there ∙ e));
+      allowance = ap (λ (z : View). z.allowance) (there ∙ e);
+      waits = ap (λ (z : View). z.counts.waits) (there ∙ e);
+    }
+
+still_once : (k : Shape) (cookie : Option CookieAt) (s : SeatAt) (d : CookieAt) (t : SeatAt) → Asks k cookie s (Some d) t → IsStillHeld cookie s.view d t.view
+still_once k None s d t asks = absurd (let none = asks.0 in cc)
+still_once k (Some c) s d t asks = still_going k c s d t asks.answer asks.now asks.seat asks.same asks.asked asks.goes
+
+still_on : (k : Shape) (cookie : Option CookieAt) (s : SeatAt) (held : List Holding) (d : CookieAt) (t : SeatAt) → AsksOn k cookie s held (Some d) t → IsStillHeld cookie s.view d t.view
+still_on k cookie s [] d t asks = still_once k cookie s d t asks
+still_on k cookie s (h ∷ earlier) d t asks =
+    let first = still_on k cookie s earlier h.cookie h.seat asks.0 in
+    let next = still_once k (Some h.cookie) h.seat d t asks.2 in
+    let was = next.was in
+    let is : h.cookie ≡ next.c = cc in record {
+      c = first.c;
+      was = first.was;
+      count = next.count ∙ sym (ap (λ (z : CookieAt). z.count) is) ∙ first.count;
+      gone = gone_stays first.gone next.gone;
+      allowance = next.allowance ∙ first.allowance;
+      waits = next.waits ∙ first.waits;
+    }
+
+-- At the end at most the wait of that cookie was ended.
+asks_on_leave : (k : Shape) (cookie : Option CookieAt) (s : SeatAt) (held : List Holding) (left : Option CookieAt) (t : SeatAt) → IsGood k s cookie → AsksOn k cookie s held left t → AskLeaves cookie s.view t.view
+asks_on_leave k cookie s [] left t good asks = asks_leave k cookie s left t good asks
+asks_on_leave k cookie s (h ∷ earlier) left t good asks =
+    let first = still_on k cookie s earlier h.cookie h.seat asks.0 in
+    let last = asks_leave k (Some h.cookie) h.seat left t asks.1 asks.2 in record {
+      ended = last.ended;
+      gone = gone_on first.gone last.gone;
+      ends = ⊎_elim (λ (e : last.ended ≡ []). inl e) (λ (e : (c : CookieAt) × (Some h.cookie ≡ Some c) × (last.ended ≡ Ended h.seat.view.allowance.place c.count ∷ [])).
+          let held = e.1 in
+          let is : e.0 ≡ h.cookie = cc in
+          inr (first.c, first.was, e.2 ∙ (λ i. Ended (first.allowance i).place ((ap (λ (z : CookieAt). z.count) is ∙ first.count) i) ∷ []))) last.ends;
+      allowance = last.allowance ∙ first.allowance;
+      waits = last.waits ∙ first.waits;
+    }
+
+room_leaves : (k : Shape) (op : Op) (cookie : Option CookieAt) (s : SeatAt) (left : Option CookieAt) (t : SeatAt) → IsGood k s cookie → MakesRoom k op cookie s left t → AskLeaves cookie s.view t.view
+room_leaves k op cookie s left t good room = ⊎_elim
+    (λ (none : (LacksRoom op s → ⊥) × (left ≡ cookie) × (t ≡ s)). same_view cookie s.view s t none.2 (nothing_left cookie s.view s.view refl refl refl))
+    (λ (some : LacksRoom op s × (left ≡ None) × AsksUntilNone k cookie s t). asks_on_leave k cookie s (some.2).held None t good (some.2).asks)
+    room
+
+module _ (k : Shape) (op : Op) (cookie : Option CookieAt) (s : SeatAt) (left : Option CookieAt) (t : SeatAt) (good : IsGood k s cookie) (room : MakesRoom k op cookie s left t) where
+  abbrev leaves : AskLeaves cookie s.view t.view
+  leaves = room_leaves k op cookie s left t good room
+
+  pub room_ends : LeavesEnd cookie s.view t.view
+  room_ends = record { ended = leaves.ended; gone = leaves.gone; ends = leaves.ends }
+
+  pub room_allows : t.view.allowance ≡ s.view.allowance
+  room_allows = leaves.allowance
+
+-- whatever one finds when one asks next, it was asked for since the start
+abbrev pub AsksSince : Shape → Option CookieAt → SeatAt → Option CookieAt → SeatAt → Type 0
+AsksSince k cookie s now t = (left : Option CookieAt) (u : SeatAt) → Asks k now t left u → (held : List Holding) × AsksOn k cookie s held left u
+
+pub still_asked : (k : Shape) (cookie : Option CookieAt) (s : SeatAt) (now : Option CookieAt) (t : SeatAt) (next : Option CookieAt) (u : SeatAt) → AsksSince k cookie s now t → Asks k now t next u → is_some next ≡ true → IsGood k u next
+    → AsksSince k cookie s next u
+still_asked k cookie s now t None u since asks some good = absurd (cc)
+still_asked k cookie s now t (Some d) u since asks some good = λ left w more. let before = since (Some d) u asks in (record { cookie = d; seat = u } ∷ before.0, (before.1, good, more))
+
+pub asked_out : (k : Shape) (cookie : Option CookieAt) (s : SeatAt) (now : Option CookieAt) (t : SeatAt) (next : Option CookieAt) (u : SeatAt) → AsksSince k cookie s now t → Asks k now t next u → is_some next ≡ false → AsksUntilNone k cookie s u
+asked_out k cookie s now t None u since asks none = let all = since None u asks in record { held = all.0; asks = all.1 }
+asked_out k cookie s now t (Some d) u since asks none = absurd (cc)
 
 -- the marks that starting leaves, at most the beginning of a wait for everybody
 record StartLeaves (v w : View) : Type 0 where

@@ -1,5 +1,5 @@
--- Marks that a client leaves after an answer: the answer stays one.
-use Rattle.std.proofs.Common.{◌≡◌, ℕ, ◌-◌, Bool, true, false, MatchBool, List, [], ◌∷◌, ◌++◌, length, Some, inl, refl, sym, ap, subst, ◌∙◌, arith, append_assoc, append-nil, length-append}
+-- Marks that a client leaves after an answer or before a call: the answer stays one.
+use Rattle.std.proofs.Common.{◌≡◌, ℕ, ◌≤◌, ◌-◌, Bool, true, false, MatchBool, List, [], ◌∷◌, ◌++◌, length, Some, inl, refl, sym, ap, subst, ◌∙◌, arith, append_assoc, append-nil, length-append}
 use Rattle.std.specs.List.{AllByRecursion, slice_get}
 use Rattle.std.proofs.lemmas.List.{get_or_append_left}
 use Rattle.std.proofs.lemmas.Option.{slice_get-get_or, slice_get_within, get_or_from_slice_get}
@@ -14,7 +14,7 @@ use Rattle.prcu_model.proofs.ListFacts.{prefix_trans, all_map, all_append}
 use Rattle.prcu_marks.specs.declared.mark.Mark.{Mark}
 use Rattle.prcu_marks.specs.declared.mark.Mark.TheVariants.{Began, Ended}
 use Rattle.prcu_marks.specs.Bounds.{greatest_key}
-use Rattle.prcu_marks.specs.Callers.{Caller, HasSeenItsOwn, IsLeftBy, WaitsFor, HasMadeUpdate, WasExplained, HasAnswered}
+use Rattle.prcu_marks.specs.Callers.{Caller, HasSeenItsOwn, IsLeftBy, entered_for, WaitsFor, HasMadeUpdate, WasExplained, HasAnswered}
 use Rattle.prcu_marks.specs.Marks.{updates_of}
 use Rattle.prcu_marks.proofs.Callers.{map_at-longer, waits_longer}
 use Rattle.prcu_marks.proofs.MarkLists.{updates_of-append}
@@ -76,7 +76,51 @@ module _ (explains : Dictionary → Op → Reply → Type 0) (before mid after :
     reply = reply_longer (tells_update told.reply) answered.reply;
   }
 
--- ---- marks that may follow an answer
+-- ---- marks before a call: its answer is one of what began with them
+
+module _ (explains : Dictionary → Op → Reply → Type 0) (before mid after : Caller) (op : Op) (told : Told) (first : List Mark) (none : updates_of first ≡ []) (here : mid.place ≡ before.place) (since : IsPrefix before.seen mid.seen)
+    (answered : HasAnswered explains mid op told after) where
+  updates_later : updates_of (first ++ answered.marks) ≡ updates_of answered.marks
+  updates_later = updates_of-append first answered.marks ∙ ap (λ us. us ++ updates_of answered.marks) none
+
+  fewer : length (updates_of before.seen) ≤ length (updates_of mid.seen)
+  fewer = let long = ap (λ h. length (updates_of h)) (sym since.1) ∙ ap length (updates_of-append before.seen since.0) ∙ length-append (updates_of before.seen) (updates_of since.0) in omega arith
+
+  reply_earlier : (b : Bool) → MatchBool b (HasMadeUpdate mid op told answered.marks after.seen) (WasExplained explains mid op told answered.marks after.seen)
+      → MatchBool b (HasMadeUpdate before op told (first ++ answered.marks) after.seen) (WasExplained explains before op told (first ++ answered.marks) after.seen)
+  reply_earlier true made =
+      let few = fewer in
+      let later = made.later in record {
+        left = updates_later ∙ made.left ∙ (λ i. record { caller = here i; op = op } ∷ []);
+        later = omega arith;
+        stands = subst (λ p. slice_get (updates_of after.seen) (told.number - 1) ≡ Some (record { caller = p; op = op })) here made.stands;
+        confirms = made.confirms;
+      }
+  reply_earlier false was =
+      let few = fewer in
+      let from = was.since in record {
+        left = updates_later ∙ was.left;
+        front = was.front;
+        since = omega arith;
+        until = was.until;
+        explained = was.explained;
+      }
+
+  -- earlier marks of the place that are of no section and of no update
+  pub answered_earlier : mid.own ≡ before.own ++ first → AllByRecursion (IsLeftBy before.place (key_of op)) first → AllByRecursion (WaitsFor (updates_of after.seen)) first → HasAnswered explains before op told after
+  answered_earlier own keyed waits = record {
+    place = answered.place ∙ here;
+    marks = first ++ answered.marks;
+    own = answered.own ∙ ap (λ xs. xs ++ answered.marks) own ∙ append_assoc before.own first answered.marks;
+    keyed = all_append (IsLeftBy before.place (key_of op)) first answered.marks keyed (subst (λ p. AllByRecursion (IsLeftBy p (key_of op)) answered.marks) here answered.keyed);
+    entered = let one : 1 ≤ entered_for before.place (key_of op) answered.marks = subst (λ p. 1 ≤ entered_for p (key_of op) answered.marks) here answered.entered in let both = entered_for-append before.place (key_of op) first answered.marks in omega arith;
+    waits = all_append (WaitsFor (updates_of after.seen)) first answered.marks waits answered.waits;
+    since = prefix_trans before.seen mid.seen after.seen since answered.since;
+    met = answered.met;
+    reply = reply_earlier (tells_update told.reply) answered.reply;
+  }
+
+-- ---- marks that may follow an answer, or come before a call
 
 module _ (p key : ℕ) (us : List Update) where
   -- at the place, of no section and of no update

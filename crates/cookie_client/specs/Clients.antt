@@ -13,19 +13,25 @@ use Rattle.citrus_tree.specs.Clients.{ClientAt, room_of}
 use Rattle.citrus_tree.specs.Clients as tree
 use Rattle.grace_cookie.specs.Cookies.{CookieAt}
 use Rattle.cookie_client.specs.Settling.{Settles, LeavesWaits, IsFewOrHeld, AreSound}
+use Rattle.cookie_client.specs.Rooms.{MakesRoom, LeavesEnd}
 
 -- what a clause sees of a client: its table and its seat, as those of a client of the tree, and the cookie that it holds, if any
 pub record CookieClientAt : Type 0 where
   pub tree : ClientAt
   pub cookie : Option CookieAt
 
--- A call: that of a client of the tree, which was answered with this seat, and then what was done about the cookie.
+-- A call: where the operation lacks room, what was done about the cookie first; that of a client of the tree, which began with this seat and
+-- was answered with that one; and then what was done about the cookie.
 pub record HasCalled (before : CookieClientAt) (op : Op) (told : Told) (after : CookieClientAt) : Type 0 where
+  pub held : Option CookieAt
+  pub ready : SeatAt
   pub answered : SeatAt
-  pub call : tree.HasCalled before.tree op told (record before.tree { seat = answered })
-  pub settles : Settles before.tree.shape before.cookie answered after.cookie after.tree.seat
+  pub room : MakesRoom before.tree.shape op before.cookie before.tree.seat held ready
+  pub call : tree.HasCalled (record before.tree { seat = ready }) op told (record before.tree { seat = answered })
+  pub settles : Settles before.tree.shape held answered after.cookie after.tree.seat
   pub same : after.tree ≡ record before.tree { seat = after.tree.seat }
-  pub waits : LeavesWaits before.cookie answered.view after.tree.seat.view
+  pub ends : LeavesEnd before.cookie before.tree.seat.view ready.view
+  pub waits : LeavesWaits held answered.view after.tree.seat.view
   pub few : IsFewOrHeld after.tree.seat after.cookie
   pub tickets : before.tree.seat.view.allowance.tickets ≤ after.tree.seat.view.allowance.tickets + 5
   pub quiet : IsQuietSeat after.tree.seat

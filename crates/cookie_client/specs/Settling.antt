@@ -15,7 +15,7 @@ use Rattle.tree_points.specs.Progress.{HasGone}
 use Rattle.grace_cookie.specs.declared.answers.Ask.{Ask}
 use Rattle.grace_cookie.specs.declared.answers.Ask.TheVariants.{Over, NotYet, GivenUp}
 use Rattle.grace_cookie.specs.Cookies.{CookieAt, IsOf, HasKept}
-use Rattle.grace_cookie.specs.Asking.{Asked, HasGivenBack}
+use Rattle.grace_cookie.specs.Asking.{IsSameCookie, Asked, HasGivenBack}
 
 -- The cookie that is held, if any, wasn't found over yet, and it is of this seat.
 abbrev pub IsGood : Shape → SeatAt → Option CookieAt → Type 0
@@ -33,6 +33,7 @@ pub record WasAsked (k : Shape) (c : CookieAt) (s : SeatAt) (left : Option Cooki
   pub answer : Ask
   pub now : CookieAt
   pub seat : SeatAt
+  pub same : IsSameCookie c now
   pub asked : Asked k c s.view answer now seat.view
   pub listed : seat.listed ≡ s.listed
   pub goes : GoesOnBy answer now seat left t

@@ -2,7 +2,7 @@
 ghost use Rattle.std.specs.Prelude.{◌≡◌, ◌/◌, None};
 ghost use Rattle.seat_table.specs.Seats.{IsQuietSeat, shape_of};
 
-use crate::settling::settle;
+use crate::settling::{make_room, settle};
 use citrus_tree::call;
 use grace_cookie::Cookie;
 use prcu_marks::{Client, Gate};
@@ -16,8 +16,8 @@ pub(crate) const TICKETS: u64 = 5;
 
 /// A seat that makes operations on a tree, one after another, passes a gate, and holds at most one cookie. After the answer of each call it
 /// asks once about the cookie that it holds. When the cookie is over, its slots go back; where the call began a later wait, it is
-/// dropped. Then the client starts one, where it holds none and 8 or more slots are retired. It may be sent to another thread where its gate
-/// may be shared with one.
+/// dropped. Then the client starts one, where it holds none and 8 or more slots are retired. Only before a del that finds 15 or more slots
+/// retired does it ask until the cookie is over, and so wait. It may be sent to another thread where its gate may be shared with one.
 #[derive(Drop)]
 pub struct CookieClient<'a, W: WaitPart, G: Gate> {
     table: &'a CitrusTable<W>,
@@ -71,10 +71,11 @@ impl<'a, W: WaitPart, G: Gate> Client for CookieClient<'a, W, G> {
     /// Five tickets are left for each.
     ghost left = { λ c. c.tree.seat.view.allowance.tickets / 5 };
 
-    /// The call of the tree, what was done about the cookie after it, and what holds then.
+    /// What was done about the cookie before the call of the tree, that call, what was done about the cookie after it, and what holds then.
     ghost made = { HasCalled };
 
     fn call<R: Wait>(&mut self, rt: &R, op: Op) -> Told {
+        self.cookie = make_room(rt, self.table, &mut self.seat, self.cookie.take(), op);
         let told = call(rt, self.table, &mut self.seat, self.gate, op);
         self.cookie = settle(self.table, &mut self.seat, self.cookie.take());
         told

@@ -1,13 +1,74 @@
-//! What a client does about its cookie after each answer.
+//! What a client does about its cookie after each answer, and before a del that has no room for further retired slots.
 ghost use Rattle.std.specs.Prelude.{◌≡◌, ◌+◌, ◌≤◌};
 ghost use Rattle.seat_table.specs.Seats.{IsQuietSeat, shape_of};
 ghost use Rattle.cookie_client.specs.Settling.{IsGood, Asks, Starts, Settles, AreSound};
+ghost use Rattle.cookie_client.specs.Rooms.{AsksUntilNone, MakesRoom};
 
+use crossbeam_utils::Backoff;
 use grace_cookie::{Ask, Cookie, ask, give_back, start};
+use prcu_model::Op;
 use seat_table::{CitrusTable, Seat, WaitPart};
+use std::sync::Wait;
 
 // How many retired slots are many.
 const MANY: usize = 8;
+
+// With so many retired slots a del of the tree first waits for everybody, to give them back.
+const TOO_MANY: usize = 15;
+
+/// Before a del that finds 15 or more slots retired, asks about the cookie until none is held; else it does nothing. It answers the cookie
+/// that is held. The del would begin a wait of its own, which gives up one that may be nearly over.
+pub(crate) fn make_room<R: Wait, W: WaitPart>(
+    rt: &R,
+    table: &CitrusTable<W>,
+    seat: &mut Seat<W>,
+    cookie: Option<Cookie<W>>,
+    op: Op,
+) -> Option<Cookie<W>>
+    requires table { seat.old.table ≡ table.now }
+    requires quiet { IsQuietSeat seat.old }
+    requires good { IsGood (shape_of W.WAY table.now) seat.old cookie }
+    ensures table { seat.new.table ≡ seat.old.table }
+    ensures room { MakesRoom (shape_of W.WAY table.now) op cookie seat.old result seat.new }
+    ensures allowance { seat.new.view.allowance ≡ seat.old.view.allowance }
+    ensures good { IsGood (shape_of W.WAY table.now) seat.new result }
+    ensures quiet { IsQuietSeat seat.new }
+{
+    let Op::Del { .. } = op else {
+        return cookie;
+    };
+    if seat.retired().len() < TOO_MANY {
+        return cookie;
+    }
+    ask_until_none(rt, table, seat, cookie);
+    None
+}
+
+// Asks about the cookie until none is held. It waits for the readers that the cookie's wait is for.
+fn ask_until_none<R: Wait, W: WaitPart>(
+    rt: &R,
+    table: &CitrusTable<W>,
+    seat: &mut Seat<W>,
+    cookie: Option<Cookie<W>>,
+)
+    requires table { seat.old.table ≡ table.now }
+    requires quiet { IsQuietSeat seat.old }
+    requires good { IsGood (shape_of W.WAY table.now) seat.old cookie }
+    ensures table { seat.new.table ≡ seat.old.table }
+    ensures asks { AsksUntilNone (shape_of W.WAY table.now) cookie seat.old seat.new }
+    ensures quiet { IsQuietSeat seat.new }
+{
+    let mut held = cookie;
+    let backoff = Backoff::new();
+    for _ in rt.forever() {
+        held = ask_once(table, seat, held);
+        if held.is_none() {
+            return;
+        }
+        backoff.snooze();
+    }
+    unreachable!()
+}
 
 /// Asks once about the cookie, where one is held, and starts one where none is held then and many slots are retired. It answers the one
 /// that is held.

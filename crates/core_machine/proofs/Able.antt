@@ -21,7 +21,9 @@ use Rattle.core_points.specs.declared.stage.Update.TheVariants as update
 use Rattle.core_points.specs.declared.stage.Waits.TheVariants.{Reuse, Move}
 use Rattle.core_points.specs.declared.stage.Stage.{Stage}
 use Rattle.core_points.specs.declared.stage.Stage.TheVariants as at
-use Rattle.core_points.specs.Acts.{Act, field_of, left_of, load_clock, store_key, store_stamp, store_idle, begin, look_key, look_stamp, load_age, load_kept, load_old_age, reserve, seize, fill, raise_hand, raise_spare, raise_old, free_hand, free_old, count_free, lock, unlock, load, load_locked, commit, end_commit, link_leaf, bypass, mark, raise_tag, link_copy, unlink_left, unlink_right, store_value}
+use Rattle.core_acts.specs.Acts.{access_of, said_by}
+use Rattle.core_acts.specs.declared.act.Act.TheVariants.{LoadClock, AnnounceKey, EnterByStamp, LeaveByStamp, BeginWait, LookKey, LookStamp, LoadOwnLife, KeepAsSpare, LoadRetiredLife, Reserve, Seize, Fill, RaiseInHand, RaiseToSpare, RaiseRetired, FreeInHand, FreeRetired, CountFree, Lock, Unlock, SearchLoad, LockedLoad, OpenCommit, CloseCommit, LinkLeaf, Bypass, Mark as MarkNode, RaiseTag, LinkCopy, UnlinkLeft, UnlinkRight, ReplaceValue, ListLoad, LoadGate, EnterByCount, LeaveByCount, LookCount, TurnGate, EnterByRow, LeaveByRow, LookRow, LookAtFront}
+use Rattle.core_points.specs.Acts.{Act, Needs, field_of, left_of}
 use Rattle.core_points.specs.Callers.{Own, is_none_left}
 use Rattle.core_points.specs.DeletePlan.{target_locks}
 use Rattle.core_points.specs.Programs.{act_at, after, ended}
@@ -118,7 +120,7 @@ module _ (k : Shape) (shape : IsShape k) (o : Own) (v w : View) (h h' : List Mar
   kept_long f = sym (length-map v.hands.retired (λ (r : Retired). r.slot)) ∙ ap length f
 
   pub able : (stage : Stage) (n : ℕ) → Fits o stage v → WordFits k (field_of o.place (act_at o stage)) n → WordFits k (field_of o.place (act_at o stage)) (left_of o.place (act_at o stage) n)
-      → (let o' : Own = after o n stage in Fits o' o'.stage w × IsTold o' w h' m') → IsAble o n stage
+      → let told : ℕ = said_by (access_of o.place (act_at o stage)) n in (let o' : Own = after o told stage in Fits o' o'.stage w × IsTold o' w h' m') → IsAble o told stage
   able at.Finished n f word left next = tt
   able at.EnterClock n f word left next = tt
   able (at.EnterKey clock) n f word left next = tt
@@ -199,37 +201,47 @@ module _ (k : Shape) (shape : IsShape k) (o : Own) (v w : View) (h h' : List Mar
   able (at.Unlink move child) n f word left next = (let is = ((f.point).0).6 in let room = few.room is.0 is.1 in let long = kept_long f.owns.retired_are in omega arith)
 
 -- a number that is stored, and counted up for it, fits
-pub may_store : (k : Shape) (place n : ℕ) (a : Act) → WordFits k (field_of place a) (left_of place a n) → MayStore a
-may_store k place n load_clock fits = tt
-may_store k place n (store_key key) fits = tt
-may_store k place n (store_stamp key stamp) fits = tt
-may_store k place n store_idle fits = tt
-may_store k place n (begin low high) fits = tt
-may_store k place n (look_key p last) fits = tt
-may_store k place n (look_stamp p last) fits = tt
-may_store k place n (load_age slot) fits = tt
-may_store k place n (load_kept slot) fits = tt
-may_store k place n (load_old_age slot) fits = tt
-may_store k place n (reserve expected) fits = tt
-may_store k place n (seize slot) fits = tt
-may_store k place n (fill slot field number) fits = tt
-may_store k place n (raise_hand slot number) fits = omega arith
-may_store k place n (raise_spare slot number) fits = omega arith
-may_store k place n (raise_old slot number) fits = omega arith
-may_store k place n (free_hand slot) fits = tt
-may_store k place n (free_old slot) fits = tt
-may_store k place n count_free fits = tt
-may_store k place n (lock slot) fits = tt
-may_store k place n (unlock slot) fits = tt
-may_store k place n (load slot field) fits = tt
-may_store k place n (load_locked slot field) fits = tt
-may_store k place n (commit expected) fits = tt
-may_store k place n (end_commit front) fits = omega arith
-may_store k place n (link_leaf slot b leaf key value) fits = tt
-may_store k place n (bypass parent b node child key) fits = tt
-may_store k place n (mark slot life) fits = omega arith
-may_store k place n (raise_tag slot b tag) fits = omega arith
-may_store k place n (link_copy parent b node copy old old_parent key next_key) fits = tt
-may_store k place n (unlink_left parent old child) fits = tt
-may_store k place n (unlink_right copy old child) fits = tt
-may_store k place n (store_value slot key value) fits = tt
+pub may_store : (k : Shape) (v : View) (place n : ℕ) (a : Act) → Needs k v n a → WordFits k (field_of place a) (left_of place a n) → MayStore a
+may_store k v place n LoadClock needs fits = tt
+may_store k v place n (AnnounceKey key) needs fits = tt
+may_store k v place n (EnterByStamp key stamp) needs fits = tt
+may_store k v place n LeaveByStamp needs fits = tt
+may_store k v place n (BeginWait low high) needs fits = tt
+may_store k v place n (LookKey p last) needs fits = tt
+may_store k v place n (LookStamp p last) needs fits = tt
+may_store k v place n (LoadOwnLife slot) needs fits = tt
+may_store k v place n (KeepAsSpare slot) needs fits = tt
+may_store k v place n (LoadRetiredLife slot) needs fits = tt
+may_store k v place n (Reserve expected) needs fits = tt
+may_store k v place n (Seize slot) needs fits = tt
+may_store k v place n (Fill slot p number) needs fits = tt
+may_store k v place n (RaiseInHand slot number) needs fits = omega arith
+may_store k v place n (RaiseToSpare slot number) needs fits = omega arith
+may_store k v place n (RaiseRetired slot number) needs fits = omega arith
+may_store k v place n (FreeInHand slot) needs fits = tt
+may_store k v place n (FreeRetired slot) needs fits = tt
+may_store k v place n CountFree needs fits = tt
+may_store k v place n (Lock slot) needs fits = tt
+may_store k v place n (Unlock slot) needs fits = tt
+may_store k v place n (SearchLoad slot p) needs fits = tt
+may_store k v place n (LockedLoad slot p) needs fits = tt
+may_store k v place n (OpenCommit expected) needs fits = needs.even
+may_store k v place n (CloseCommit front) needs fits = omega arith
+may_store k v place n (LinkLeaf slot b leaf key value) needs fits = tt
+may_store k v place n (Bypass parent b node child key) needs fits = tt
+may_store k v place n (MarkNode slot life) needs fits = omega arith
+may_store k v place n (RaiseTag slot b tag) needs fits = omega arith
+may_store k v place n (LinkCopy parent b node copy old old_parent key next_key) needs fits = tt
+may_store k v place n (UnlinkLeft parent old child) needs fits = tt
+may_store k v place n (UnlinkRight copy old child) needs fits = tt
+may_store k v place n (ReplaceValue slot key value) needs fits = tt
+may_store k v place n (ListLoad slot p) needs fits = tt
+may_store k v place n (LoadGate class) needs fits = tt
+may_store k v place n (EnterByCount key side) needs fits = tt
+may_store k v place n (LeaveByCount class side) needs fits = tt
+may_store k v place n (LookCount class side last) needs fits = tt
+may_store k v place n (TurnGate class) needs fits = tt
+may_store k v place n (EnterByRow key stamp) needs fits = tt
+may_store k v place n (LeaveByRow class) needs fits = tt
+may_store k v place n (LookRow p class last) needs fits = tt
+may_store k v place n LookAtFront needs fits = tt

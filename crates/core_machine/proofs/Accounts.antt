@@ -30,19 +30,20 @@ use Rattle.core_points.specs.declared.stage.Update.TheVariants as update
 use Rattle.core_points.specs.declared.stage.Waits.TheVariants.{Reuse, Move}
 use Rattle.core_points.specs.declared.stage.Stage.{Stage}
 use Rattle.core_points.specs.declared.stage.Stage.TheVariants as at
-use Rattle.core_points.specs.Acts.{Act, field_of, marks_of, view_after}
+use Rattle.core_acts.specs.Acts.{noted}
+use Rattle.core_points.specs.Acts.{Act, marks_of, view_after}
 use Rattle.core_points.specs.Callers.{Own}
 use Rattle.core_points.specs.Programs.{act_at, after, begun_with}
-use Rattle.core_points.specs.Laws.{is_finished, noted_act}
+use Rattle.core_points.specs.Laws.{is_finished}
 use Rattle.core_laws.specs.Whole.{place_views}
 use Rattle.core_machine.proofs.ActMarks.{others_none}
-use Rattle.core_machine.specs.Runs.{Core, core, made_owns, new_own, tickets_of, moved, shape_of, step, steps, tolds_of}
+use Rattle.core_machine.specs.Runs.{Core, core, made_owns, new_own, tickets_of, told_in, moved, shape_of, step, steps, tolds_of}
 use Rattle.core_machine.specs.Draws.{unfinished, unfinished_from}
 use Rattle.core_machine.specs.Accounts.{IsToldSoFar, at_position, untold}
 use Rattle.core_machine.specs.Laws.{EndsAreExplained, IsMachine, ToldsAreExplained}
 use Rattle.core_machine.proofs.Running.{IsRun, set_cases, step_by, step_runs}
 use Rattle.core_machine.proofs.Phases.{IsToDo, Known, Phase, Tells, at_answer, first_phase, inside, made, moving, others_tell, outside, phase, present, searching}
-use Rattle.core_machine.proofs.Sound.{core_runs, told_now}
+use Rattle.core_machine.proofs.Sound.{core_runs, is_told}
 use Rattle.core_machine.proofs.Starting.{made_runs}
 use Rattle.core_machine.proofs.Turns.{turn}
 
@@ -98,19 +99,19 @@ pub record AllTell (scripts : List (List Op)) (slots : ℕ) (c : Core) : Type 0 
 
 module _ (scripts : List (List Op)) (slots : ℕ) (c : Core) (i : ℕ) (o : Own) (v : View) (run : IsRun (shape_of slots scripts) c) (all : AllTell scripts slots c) (own : get_elem? c.owns i ≡ some o) (view : get_elem? c.views i ≡ some v) (going : is_finished o.stage ≡ false) where
   turned : (script : List Op) → get_elem? scripts i ≡ some script
-      → let a : Act = act_at o o.stage in let n : ℕ = c.memory (field_of o.place a) in let w : View = noted_act o v a n in Tells (record { scripts = length scripts; slots = slots }) i script (after o n o.stage) (view_after w c.marks n a).section (c.marks ++ marks_of w n a)
+      → let a : Act = act_at o o.stage in let n : ℕ = told_in c o in let w : View = noted v a n in Tells (record { scripts = length scripts; slots = slots }) i script (after o n o.stage) (view_after w c.marks n a).section (c.marks ++ marks_of w n a)
   turned script es =
       let k : Shape = shape_of slots scripts in
       let caller = run.callers i o v own view in
-      turn k c.memory c.views c.marks i o v script run.holds.now view (caller.fits.owns.same ∙ caller.place) run.eer caller.places caller.fits.owns.works (told_now k c i o v run own view) o.stage going caller.fits (all.tells i script o v es own view)
+      turn k c.memory c.views c.marks i o v script run.holds.now view (caller.fits.owns.same ∙ caller.place) run.eer caller.places caller.fits.owns.works (is_told k c i o v run own view) o.stage going caller.fits (all.tells i script o v es own view)
 
   pub moves_tell : AllTell scripts slots (moved c i o v)
   moves_tell =
       let k : Shape = shape_of slots scripts in
       let caller = run.callers i o v own view in
       let a : Act = act_at o o.stage in
-      let n : ℕ = c.memory (field_of o.place a) in
-      let w : View = noted_act o v a n in
+      let n : ℕ = told_in c o in
+      let w : View = noted v a n in
       let o' : Own = after o n o.stage in
       let v' : View = view_after w c.marks n a in
       let place : v.allowance.place ≡ i = caller.fits.owns.same ∙ caller.place in record {

@@ -1,18 +1,19 @@
 -- The marks of the acts that make no update and enter no section.
-use Rattle.std.proofs.Common.{◌≡◌, ◌≢◌, ℕ, ◌==◌, ◌&&◌, cond, Bool, true, false, List, [], ◌∷◌, Option, Some, None, refl, sym, ap, subst, ◌∙◌, eq-eqb, ne_eqb}
+use Rattle.std.proofs.Common.{◌≡◌, ◌≢◌, ℕ, ◌==◌, ◌&&◌, cond, Bool, true, false, List, [], ◌∷◌, refl, ap, ◌∙◌, eq-eqb, ne_eqb}
 use Rattle.prcu_marks.specs.declared.mark.Mark.{Mark}
 use Rattle.prcu_marks.specs.declared.mark.Mark.TheVariants.{Entered, Left as LeftMark, Began, Ended, Done, Given, Unlinked}
 use Rattle.prcu_model.specs.declared.operation.Update.{Update}
 use Rattle.prcu_marks.specs.Marks.{is_of, own_of}
 use Rattle.prcu_marks.specs.Callers.{WaitsFor}
 use Rattle.core_state.specs.declared.words.Field.{Field}
-use Rattle.core_state.specs.declared.words.Field.TheVariants.{Announced, Stamp}
-use Rattle.core_state.specs.declared.view.Section.{Section}
+use Rattle.core_state.specs.declared.words.Field.TheVariants.{Announced, Stamp, Count, Row}
 use Rattle.core_state.specs.declared.view.View.{View}
 use Rattle.core_state.specs.declared.view.Waiting.{Waiting}
 use Rattle.core_state.specs.steps.Waits.{excuses, look_marks}
 use Rattle.prcu_model.specs.declared.operation.Op.TheVariants.{Put, Del, Set}
-use Rattle.core_points.specs.Acts.{Act, marks_of, none_or, load_clock, store_key, store_stamp, store_idle, begin, look_key, look_stamp, load_age, load_kept, load_old_age, reserve, seize, fill, raise_hand, raise_spare, raise_old, free_hand, free_old, count_free, lock, unlock, load, load_locked, commit, end_commit, link_leaf, bypass, mark, raise_tag, link_copy, unlink_left, unlink_right, store_value}
+use Rattle.core_acts.specs.Acts.{section_of, wait_of}
+use Rattle.core_acts.specs.declared.act.Act.TheVariants.{LoadClock, AnnounceKey, EnterByStamp, LeaveByStamp, BeginWait, LookKey, LookStamp, LoadOwnLife, KeepAsSpare, LoadRetiredLife, Reserve, Seize, Fill, RaiseInHand, RaiseToSpare, RaiseRetired, FreeInHand, FreeRetired, CountFree, Lock, Unlock, SearchLoad, LockedLoad, OpenCommit, CloseCommit, LinkLeaf, Bypass, Mark as MarkNode, RaiseTag, LinkCopy, UnlinkLeft, UnlinkRight, ReplaceValue, ListLoad, LoadGate, EnterByCount, LeaveByCount, LookCount, TurnGate, EnterByRow, LeaveByRow, LookRow, LookAtFront}
+use Rattle.core_points.specs.Acts.{Act, marks_of}
 use Rattle.core_machine.proofs.Phases.{Adds, no_marks}
 
 pub own_one : (i : ℕ) (m : Mark) → is_of i m ≡ true → own_of i (m ∷ []) ≡ m ∷ []
@@ -20,11 +21,10 @@ own_one i m is = ap (λ b. cond b (m ∷ []) []) is
 
 module _ (i key : ℕ) (us : List Update) (v : View) (place : v.allowance.place ≡ i) where
   -- a section is left
-  pub left_adds : (section : Section) → v.section ≡ Some section → Adds i key us (none_or v.section (λ (s : Section). LeftMark v.allowance.place s.count ∷ []))
-  left_adds section e =
-      let m : Mark = LeftMark v.allowance.place section.count in
-      subst (λ x. Adds i key us (none_or x (λ (s : Section). LeftMark v.allowance.place s.count ∷ []))) (sym e)
-      (record { mine = m ∷ []; own = own_one i m (eq-eqb v.allowance.place i place); keyed = (place, tt); waits = (tt, tt); updates = refl })
+  pub left_adds : (count : ℕ) → Adds i key us (LeftMark v.allowance.place count ∷ [])
+  left_adds count =
+      let m : Mark = LeftMark v.allowance.place count in
+      record { mine = m ∷ []; own = own_one i m (eq-eqb v.allowance.place i place); keyed = (place, tt); waits = (tt, tt); updates = refl }
 
   -- a wait begins
   pub began_adds : (count low high : ℕ) → WaitsFor us (Began v.allowance.place count low high) → Adds i key us (Began v.allowance.place count low high ∷ [])
@@ -33,16 +33,12 @@ module _ (i key : ℕ) (us : List Update) (v : View) (place : v.allowance.place 
       record { mine = m ∷ []; own = own_one i m (eq-eqb v.allowance.place i place); keyed = (place, tt); waits = (waits, tt); updates = refl }
 
   -- a look, which may end its wait
-  pub look_adds : (field : Field) (last : Bool) (n : ℕ) → Adds i key us (none_or v.wait (λ w. look_marks v w field last n))
-  look_adds field last n = by_wait v.wait
+  pub look_adds : (wait : Waiting) (field : Field) (last : Bool) (n : ℕ) → Adds i key us (look_marks v wait field last n)
+  look_adds wait field last n = by_end (excuses wait field n && last)
     where
-      by_end : (w : Waiting) (b : Bool) → Adds i key us (cond b (Ended v.allowance.place w.count ∷ []) [])
-      by_end w true = let m : Mark = Ended v.allowance.place w.count in record { mine = m ∷ []; own = own_one i m (eq-eqb v.allowance.place i place); keyed = (place, tt); waits = (tt, tt); updates = refl }
-      by_end w false = no_marks i key us [] refl
-
-      by_wait : (x : Option Waiting) → Adds i key us (none_or x (λ w. look_marks v w field last n))
-      by_wait None = no_marks i key us [] refl
-      by_wait (Some w) = by_end w (excuses w field n && last)
+      by_end : (b : Bool) → Adds i key us (cond b (Ended v.allowance.place wait.count ∷ []) [])
+      by_end true = let m : Mark = Ended v.allowance.place wait.count in record { mine = m ∷ []; own = own_one i m (eq-eqb v.allowance.place i place); keyed = (place, tt); waits = (tt, tt); updates = refl }
+      by_end false = no_marks i key us [] refl
 
   -- a state is exchanged
   pub seize_adds : (slot : ℕ) (b : Bool) → Adds i key us (cond b (Given slot ∷ []) [])
@@ -62,53 +58,64 @@ module _ (v : View) (h : List Mark) (n p : ℕ) (other : v.allowance.place ≢ p
   no_one : (m : Mark) (rest : List Mark) → is_of p m ≡ (v.allowance.place == p) → own_of p rest ≡ [] → own_of p (m ∷ rest) ≡ []
   no_one m rest is none = ap (λ b. cond b (m ∷ own_of p rest) (own_of p rest)) (is ∙ not_of) ∙ none
 
-  look_none : (x : Option Waiting) (field : Field) (last : Bool) → own_of p (none_or x (λ w. look_marks v w field last n)) ≡ []
-  look_none None field last = refl
-  look_none (Some w) field last = by (excuses w field n && last)
+  look_none : (wait : Waiting) (field : Field) (last : Bool) → own_of p (look_marks v wait field last n) ≡ []
+  look_none wait field last = by (excuses wait field n && last)
     where
-      by : (b : Bool) → own_of p (cond b (Ended v.allowance.place w.count ∷ []) []) ≡ []
-      by true = no_one (Ended v.allowance.place w.count) [] refl refl
+      by : (b : Bool) → own_of p (cond b (Ended v.allowance.place wait.count ∷ []) []) ≡ []
+      by true = no_one (Ended v.allowance.place wait.count) [] refl refl
       by false = refl
 
-  leave_none : (x : Option Section) → own_of p (none_or x (λ (s : Section). LeftMark v.allowance.place s.count ∷ [])) ≡ []
-  leave_none None = refl
-  leave_none (Some s) = no_one (LeftMark v.allowance.place s.count) [] refl refl
+  leave_none : (count : ℕ) → own_of p (LeftMark v.allowance.place count ∷ []) ≡ []
+  leave_none count = no_one (LeftMark v.allowance.place count) [] refl refl
+
+  enter_none : (key : ℕ) → own_of p (Entered v.allowance.place v.counts.sections key ∷ []) ≡ []
+  enter_none key = no_one (Entered v.allowance.place v.counts.sections key) [] refl refl
 
   seize_none : (slot : ℕ) (b : Bool) → own_of p (cond b (Given slot ∷ []) []) ≡ []
   seize_none slot true = refl
   seize_none slot false = refl
 
   pub others_none : (a : Act) → own_of p (marks_of v n a) ≡ []
-  others_none load_clock = refl
-  others_none (store_key key) = refl
-  others_none (store_stamp key stamp) = no_one (Entered v.allowance.place v.counts.sections key) [] refl refl
-  others_none store_idle = leave_none v.section
-  others_none (begin low high) = no_one (Began v.allowance.place v.counts.waits low high) [] refl refl
-  others_none (look_key q last) = look_none v.wait (Announced q) last
-  others_none (look_stamp q last) = look_none v.wait (Stamp q) last
-  others_none (load_age slot) = refl
-  others_none (load_kept slot) = refl
-  others_none (load_old_age slot) = refl
-  others_none (reserve expected) = refl
-  others_none (seize slot) = seize_none slot (n == 0)
-  others_none (fill slot field number) = refl
-  others_none (raise_hand slot number) = refl
-  others_none (raise_spare slot number) = refl
-  others_none (raise_old slot number) = refl
-  others_none (free_hand slot) = refl
-  others_none (free_old slot) = refl
-  others_none count_free = refl
-  others_none (lock slot) = refl
-  others_none (unlock slot) = refl
-  others_none (load slot field) = refl
-  others_none (load_locked slot field) = refl
-  others_none (commit expected) = refl
-  others_none (end_commit front) = refl
-  others_none (link_leaf slot b leaf key value) = no_one (Done (record { caller = v.allowance.place; op = Put key value })) [] refl refl
-  others_none (bypass parent b node child key) = no_one (Done (record { caller = v.allowance.place; op = Del key })) (Unlinked node ∷ []) refl refl
-  others_none (mark slot life) = refl
-  others_none (raise_tag slot b tag) = refl
-  others_none (link_copy parent b node copy old old_parent key next_key) = no_one (Done (record { caller = v.allowance.place; op = Del key })) (Unlinked node ∷ []) refl refl
-  others_none (unlink_left parent old child) = refl
-  others_none (unlink_right copy old child) = refl
-  others_none (store_value slot key value) = no_one (Done (record { caller = v.allowance.place; op = Set key value })) [] refl refl
+  others_none LoadClock = refl
+  others_none (AnnounceKey key) = refl
+  others_none (EnterByStamp key stamp) = enter_none key
+  others_none LeaveByStamp = leave_none (section_of v).count
+  others_none (BeginWait low high) = no_one (Began v.allowance.place v.counts.waits low high) [] refl refl
+  others_none (LookKey q last) = look_none (wait_of v) (Announced q) last
+  others_none (LookStamp q last) = look_none (wait_of v) (Stamp q) last
+  others_none (LoadOwnLife slot) = refl
+  others_none (KeepAsSpare slot) = refl
+  others_none (LoadRetiredLife slot) = refl
+  others_none (Reserve expected) = refl
+  others_none (Seize slot) = seize_none slot (n == 0)
+  others_none (Fill slot part number) = refl
+  others_none (RaiseInHand slot number) = refl
+  others_none (RaiseToSpare slot number) = refl
+  others_none (RaiseRetired slot number) = refl
+  others_none (FreeInHand slot) = refl
+  others_none (FreeRetired slot) = refl
+  others_none CountFree = refl
+  others_none (Lock slot) = refl
+  others_none (Unlock slot) = refl
+  others_none (SearchLoad slot part) = refl
+  others_none (LockedLoad slot part) = refl
+  others_none (OpenCommit expected) = refl
+  others_none (CloseCommit front) = refl
+  others_none (LinkLeaf slot b leaf key value) = no_one (Done (record { caller = v.allowance.place; op = Put key value })) [] refl refl
+  others_none (Bypass parent b node child key) = no_one (Done (record { caller = v.allowance.place; op = Del key })) (Unlinked node ∷ []) refl refl
+  others_none (MarkNode slot life) = refl
+  others_none (RaiseTag slot b tag) = refl
+  others_none (LinkCopy parent b node copy old old_parent key next_key) = no_one (Done (record { caller = v.allowance.place; op = Del key })) (Unlinked node ∷ []) refl refl
+  others_none (UnlinkLeft parent old child) = refl
+  others_none (UnlinkRight copy old child) = refl
+  others_none (ReplaceValue slot key value) = no_one (Done (record { caller = v.allowance.place; op = Set key value })) [] refl refl
+  others_none (ListLoad slot part) = refl
+  others_none (LoadGate class) = refl
+  others_none (EnterByCount key side) = enter_none key
+  others_none (LeaveByCount class side) = leave_none (section_of v).count
+  others_none (LookCount class side last) = look_none (wait_of v) (Count class side) last
+  others_none (TurnGate class) = refl
+  others_none (EnterByRow key stamp) = enter_none key
+  others_none (LeaveByRow class) = leave_none (section_of v).count
+  others_none (LookRow q class last) = look_none (wait_of v) (Row q class) last
+  others_none LookAtFront = refl

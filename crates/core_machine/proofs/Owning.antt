@@ -14,19 +14,19 @@ use Rattle.prcu_model.specs.declared.operation.Update.{Update}
 use Rattle.prcu_model.specs.Scripts.{op_count}
 use Rattle.core_state.specs.declared.view.View.{View}
 use Rattle.core_points.specs.Callers.{Own}
-use Rattle.core_points.specs.Acts.{field_of, view_after}
+use Rattle.core_points.specs.Acts.{view_after}
 use Rattle.core_points.specs.Programs.{act_at, after}
-use Rattle.core_points.specs.Laws.{is_finished, noted_act}
+use Rattle.core_points.specs.Laws.{is_finished}
 use Rattle.core_machine.specs.declared.caller.Caller.{Caller}
 use Rattle.core_machine.specs.declared.machine.Stepped.{Stepped}
 use Rattle.core_machine.specs.declared.machine.Stepped.TheVariants.{Finished}
-use Rattle.core_machine.specs.Accesses.{left_by}
-use Rattle.core_machine.specs.Runs.{Core, core, moved, moved_by, new_core, shape_of, step}
+use Rattle.core_acts.specs.Acts.{access_of, left_by, noted}
+use Rattle.core_machine.specs.Runs.{Core, core, told_in, moved, moved_by, new_core, shape_of, step}
 use Rattle.core_machine.specs.Laws.{IsMachine}
 use Rattle.core_machine.specs.Stepped.{Answer, answer_of, answers, blocked, has_ended, own_answers}
-use Rattle.core_machine.specs.Stored.{HasRoom, access_of, own_of}
+use Rattle.core_machine.specs.Stored.{HasRoom, own_of}
 use Rattle.core_machine.specs.Standing.{standing_of, stands_after}
-use Rattle.core_machine.specs.Stepping.{CanStep, found_now, index_now, update_now}
+use Rattle.core_machine.specs.Stepping.{CanStep, found_now, told_now, index_now, update_now}
 use Rattle.core_machine.specs.StepLaws.{AreWordsOf, IsStored}
 use Rattle.core_machine.specs.Machines.{HasMoved, HasStored, IsReached, IsSteppable, MachineAt, StepsBy, stepped_as, stepped_of}
 use Rattle.core_machine.proofs.Running.{IsRun}
@@ -34,7 +34,7 @@ use Rattle.core_machine.proofs.Sound.{core_runs, step_is}
 use Rattle.core_machine.proofs.Starting.{tickets_total}
 use Rattle.core_machine.proofs.Accounts.{cores_tell, elem_at, tolds_are_explained}
 use Rattle.core_machine.proofs.Standings.{stands_follow}
-use Rattle.core_machine.proofs.Storing.{callers_can_step, found, steps_are_stored, steps_more, viewed}
+use Rattle.core_machine.proofs.Storing.{callers_can_step, told, steps_are_stored, steps_more, viewed}
 
 -- ---- lists
 
@@ -90,11 +90,11 @@ module _ (words : List ℕ) (callers : List Caller) (updates : List Update) (i :
   pub moved_here : (words' : List ℕ) (now : Caller) (updates' : List Update) (result : Stepped)
       → is_finished (slice_index_or callers i d).stage ≡ false
       → (let o : Own = own_of (slice_index_or callers i d) in words' ≡ set words (index_now o) (left_by (access_of o.place (act_at o o.stage)) (found_now words o)))
-      → (let o : Own = own_of (slice_index_or callers i d) in own_of now ≡ after o (found_now words o) o.stage)
+      → (let o : Own = own_of (slice_index_or callers i d) in own_of now ≡ after o (told_now words o) o.stage)
       → HasRoom now
-      → now.stands ≡ stands_after (slice_index_or callers i d).stands (found_now words (own_of (slice_index_or callers i d))) (slice_index_or callers i d).stage
+      → now.stands ≡ stands_after (slice_index_or callers i d).stands (told_now words (own_of (slice_index_or callers i d))) (slice_index_or callers i d).stage
       → updates' ≡ updates ++ update_now (own_of (slice_index_or callers i d))
-      → (let o : Own = own_of (slice_index_or callers i d) in result ≡ stepped_of (blocked o (found_now words o) o.stage))
+      → (let o : Own = own_of (slice_index_or callers i d) in result ≡ stepped_of (blocked o (told_now words o) o.stage))
       → (c : Caller) → slice_get callers i ≡ Some c
       → StepsBy (is_finished c.stage) words callers updates i c words' (slice_set callers i now) updates' result
   moved_here words' now updates' result going words_are own room stands updates_are answer c there =
@@ -172,9 +172,9 @@ module _ (scripts : List (List Op)) (slots : ℕ) (callers : List ℕ) (machine 
         let v = viewed scripts slots callers i (own_of c) machine own_there in
         let run : IsRun (shape_of slots scripts) now = core_runs scripts slots callers machine in
         let next : core scripts slots (callers ++ i ∷ []) ≡ moved now i (own_of c) v.0 = steps_more (new_core scripts slots) callers i ∙ step_is (shape_of slots scripts) now i (own_of c) v.0 run own_there v.1 going in
-        let n : ℕ = now.memory (field_of c.place (act_at (own_of c) c.stage)) in
-        let at : found_now words (own_of c) ≡ n = found scripts slots callers machine words i (own_of c) v.0 stored.words own_there v.1 going in
-        let w : View = view_after (noted_act (own_of c) v.0 (act_at (own_of c) c.stage) n) now.marks n (act_at (own_of c) c.stage) in
+        let n : ℕ = told_in now (own_of c) in
+        let at : told_now words (own_of c) ≡ n = told scripts slots callers machine words i (own_of c) v.0 stored.words own_there v.1 going in
+        let w : View = view_after (noted v.0 (act_at (own_of c) c.stage) n) now.marks n (act_at (own_of c) c.stage) in
         let here : get_elem? (map (λ (z : Caller). z.stands) kept) i ≡ some c.stands = at_map (λ (z : Caller). z.stands) kept i c (elem kept i c there) in
         let there_now : get_elem? (map standing_of now.views) i ≡ some (standing_of v.0) = at_map standing_of now.views i v.0 v.1 in
         let stood : c.stands ≡ standing_of v.0 = some-injective c.stands (standing_of v.0) (sym here ∙ ap (λ l. get_elem? l i) stored.standing ∙ there_now) in
@@ -205,13 +205,13 @@ module _ (scripts : List (List Op)) (slots : ℕ) (callers : List ℕ) (machine 
     next_answers words' kept' updates' result b is s = by b is s ∙ sym (ap stepped_as (ap (λ (z : Option Own). elim z as (λ _. Answer) [ none ↦ has_ended | some o ↦ own_answers (core scripts slots callers) o ]) own_there))
       where
         by : (b : Bool) → is_finished c.stage ≡ b → StepsBy b words kept updates i c words' kept' updates' result → result ≡ stepped_as (own_answers (core scripts slots callers) (own_of c))
-        by true ended s = s.answer ∙ sym (ap (λ z. stepped_as (cond z has_ended (answer_of (blocked (own_of c) ((core scripts slots callers).memory (field_of c.place (act_at (own_of c) c.stage))) c.stage)))) ended)
+        by true ended s = s.answer ∙ sym (ap (λ z. stepped_as (cond z has_ended (answer_of (blocked (own_of c) (told_in (core scripts slots callers) (own_of c)) c.stage)))) ended)
         by false going s =
             let v = viewed scripts slots callers i (own_of c) machine own_there in
-            let at : found_now words (own_of c) ≡ (core scripts slots callers).memory (field_of c.place (act_at (own_of c) c.stage)) = found scripts slots callers machine words i (own_of c) v.0 stored.words own_there v.1 going in
-            s.answer ∙ stepped_is (blocked (own_of c) (found_now words (own_of c)) c.stage)
+            let at : told_now words (own_of c) ≡ told_in (core scripts slots callers) (own_of c) = told scripts slots callers machine words i (own_of c) v.0 stored.words own_there v.1 going in
+            s.answer ∙ stepped_is (blocked (own_of c) (told_now words (own_of c)) c.stage)
             ∙ ap (λ n. stepped_as (answer_of (blocked (own_of c) n c.stage))) at
-            ∙ sym (ap (λ z. stepped_as (cond z has_ended (answer_of (blocked (own_of c) ((core scripts slots callers).memory (field_of c.place (act_at (own_of c) c.stage))) c.stage)))) going)
+            ∙ sym (ap (λ z. stepped_as (cond z has_ended (answer_of (blocked (own_of c) (told_in (core scripts slots callers) (own_of c)) c.stage)))) going)
 
 -- ---- the machine's step
 

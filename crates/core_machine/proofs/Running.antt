@@ -1,5 +1,5 @@
 -- Every step of the core is a case of the steps of core_state, and keeps the invariant and what each caller knows.
-use Rattle.std.proofs.Common.{◌≡◌, ◌≢◌, ℕ, ◌⊎◌, cond, Bool, true, false, List, [], ◌∷◌, set, refl, sym, ap, subst, ◌∙◌, ⊎_elim, inl, inr}
+use Rattle.std.proofs.Common.{◌≡◌, ◌≢◌, ℕ, ◌⊎◌, cond, Bool, true, false, List, [], ◌∷◌, ◌++◌, set, refl, sym, ap, subst, ◌∙◌, ⊎_elim, inl, inr}
 use mathlib.Core.Logic.{dite}
 use native.Mathlib.Decide.{ℕ_discrete}
 use mathlib.Core.Option.{Option, none, some, some-injective}
@@ -9,18 +9,20 @@ use Rattle.core_state.specs.declared.shape.Shape.{Shape}
 use Rattle.core_state.specs.declared.shape.Waiter.TheVariants.{Eer}
 use Rattle.core_state.specs.declared.view.View.{View}
 use Rattle.core_state.specs.declared.words.Field.{Field}
+use Rattle.core_state.specs.memory.Memory.{stored}
 use Rattle.core_state.specs.Invariant.{Invariant}
 use Rattle.core_frames.specs.Laws.{KeepsPast}
 use Rattle.list_laws.proofs.Lists.{at_below}
-use Rattle.core_points.specs.Acts.{view_after}
+use Rattle.core_acts.specs.Acts.{access_of, left_by, said_by, noted}
+use Rattle.core_points.specs.Acts.{marks_of, view_after}
 use Rattle.core_points.specs.Callers.{Own}
 use Rattle.core_points.specs.Programs.{act_at, after}
 use Rattle.core_points.specs.Fits.{Fits}
-use Rattle.core_points.specs.Laws.{is_finished, noted_act}
+use Rattle.core_points.specs.Laws.{is_finished}
 use Rattle.core_points.specs.Acts.{Act, field_of}
 use Rattle.core_points.proofs.Keeping.{points_keep}
 use Rattle.core_machine.proofs.Tables.{same_table}
-use Rattle.core_machine.specs.Runs.{Core, moved, moved_by, step, steps}
+use Rattle.core_machine.specs.Runs.{Core, told_in, moved, moved_by, step, steps}
 
 pub set_cases : {A : Type 0} (xs : List A) (i j : ℕ) (o x u : A) → get_elem? xs i ≡ some o → get_elem? (set xs i x) j ≡ some u → ((j ≡ i) × (x ≡ u)) ⊎ ((j ≢ i) × (get_elem? xs j ≡ some u))
 set_cases xs i j o x u there e = dite (ℕ_discrete j i)
@@ -45,14 +47,20 @@ module _ (k : Shape) (c : Core) (i : ℕ) (o : Own) (v : View) (run : IsRun k c)
   caller = run.callers i o v own view
 
   kept :
-      let a : Act = act_at o o.stage in let field : Field = field_of o.place a in let n : ℕ = c.memory field in let w : View = view_after (noted_act o v a n) c.marks n a in let o' : Own = after o n o.stage in
+      let a : Act = act_at o o.stage in let n : ℕ = told_in c o in let w : View = view_after (noted v a n) c.marks n a in let o' : Own = after o n o.stage in
       Invariant k (moved c i o v).memory (moved c i o v).views (moved c i o v).marks × KeepsPast c.memory c.marks (moved c i o v).memory × Fits o' o'.stage w
-  kept =
-      points_keep k c.memory c.views c.marks i o v run.holds view run.eer caller.slots caller.places going caller.fits
+  kept = subst keeps caller.fits.owns.same (points_keep k c.memory c.views c.marks i o v run.holds view run.eer caller.slots caller.places going caller.fits)
+    where
+      -- the step at a place, which is the view's and the caller's
+      keeps : ℕ → Type 0
+      keeps p =
+          let a : Act = act_at o o.stage in let field : Field = field_of o.place a in let found : ℕ = c.memory field in let left : ℕ = left_by (access_of p a) found in let n : ℕ = said_by (access_of p a) found in
+          let w : View = view_after (noted v a n) c.marks n a in let o' : Own = after o n o.stage in
+          Invariant k (stored c.memory field left) (set c.views i w) (c.marks ++ marks_of (noted v a n) n a) × KeepsPast c.memory c.marks (stored c.memory field left) × Fits o' o'.stage w
 
-  caller_after : let a : Act = act_at o o.stage in let n : ℕ = c.memory (field_of o.place a) in IsCaller k i (after o n o.stage) (view_after (noted_act o v a n) c.marks n a)
+  caller_after : let a : Act = act_at o o.stage in let n : ℕ = told_in c o in IsCaller k i (after o n o.stage) (view_after (noted v a n) c.marks n a)
   caller_after =
-      let n : ℕ = c.memory (field_of o.place (act_at o o.stage)) in
+      let n : ℕ = told_in c o in
       let same = same_table o n o.stage in record {
         place = ap (λ (t : ℕ × ℕ × ℕ). t.0) same ∙ caller.place;
         slots = caller.slots ∙ sym (ap (λ (t : ℕ × ℕ × ℕ). t.1) same);
@@ -65,9 +73,9 @@ module _ (k : Shape) (c : Core) (i : ℕ) (o : Own) (v : View) (run : IsRun k c)
 
   pub moves : IsRun k (moved c i o v)
   moves =
-      let n : ℕ = c.memory (field_of o.place (act_at o o.stage)) in
+      let n : ℕ = told_in c o in
       let o' : Own = after o n o.stage in
-      let w : View = view_after (noted_act o v (act_at o o.stage) n) c.marks n (act_at o o.stage) in
+      let w : View = view_after (noted v (act_at o o.stage) n) c.marks n (act_at o o.stage) in
       record {
         eer = run.eer;
         holds = kept.0;

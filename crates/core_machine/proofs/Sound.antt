@@ -6,15 +6,16 @@ use Rattle.prcu_model.specs.declared.operation.Op.{Op}
 use Rattle.core_state.specs.declared.shape.Shape.{Shape}
 use Rattle.core_state.specs.declared.view.View.{View}
 use Rattle.core_state.specs.views.Views.{Works}
-use Rattle.core_state.specs.steps.Steps.{IsStep, is_store}
+use Rattle.core_state.specs.steps.Steps.{Steps}
 use Rattle.core_frames.specs.Laws.{KeepsPast}
-use Rattle.core_points.specs.Acts.{Act, field_of, kind_of, left_of, marks_of, view_after}
+use Rattle.core_acts.specs.Acts.{access_of, left_by, said_by, noted, IsWord}
+use Rattle.core_acts.proofs.Acting.{has_word, acts}
+use Rattle.core_points.specs.Acts.{Act, Needs, field_of, kind_of, marks_of, view_after}
 use Rattle.core_points.specs.Callers.{Own}
 use Rattle.core_points.specs.Programs.{act_at}
 use Rattle.core_points.specs.Told.{IsTold}
-use Rattle.core_points.specs.Laws.{is_finished, noted_act}
-use Rattle.core_points.proofs.Acting.{acts}
-use Rattle.core_points.proofs.All.{needs_are_given, rule_tells, trails_are_free}
+use Rattle.core_points.specs.Laws.{is_finished}
+use Rattle.core_points.proofs.All.{needs_are_given, rule_tells}
 use Rattle.core_points.proofs.Within.{acts_are_within}
 use Rattle.core_machine.specs.Runs.{Core, core, moved, moved_by, shape_of, step}
 use Rattle.core_machine.specs.Laws.{CoresAreSound, IsAllowed, IsMachine, StepsAreAllowed}
@@ -28,8 +29,8 @@ pub cores_are_sound : CoresAreSound
 cores_are_sound scripts slots callers m = let run = core_runs scripts slots callers m in record { invariant = run.holds; grace = run.holds.now.grace.grace; reuse = run.holds.now.grace.reuse }
 
 module _ (k : Shape) (c : Core) (i : ℕ) (o : Own) (v : View) (run : IsRun k c) (own : get_elem? c.owns i ≡ some o) (view : get_elem? c.views i ≡ some v) where
-  pub told_now : IsTold o v c.marks c.memory
-  told_now =
+  pub is_told : IsTold o v c.marks c.memory
+  is_told =
       let caller = run.callers i o v own view in
       let works : Works v = caller.fits.owns.works in
       rule_tells k c.memory c.views c.marks i o v run.holds.now view works caller.slots caller.places
@@ -37,17 +38,27 @@ module _ (k : Shape) (c : Core) (i : ℕ) (o : Own) (v : View) (run : IsRun k c)
   pub step_is : is_finished o.stage ≡ false → step c i ≡ moved c i o v
   step_is going = ap (λ (z : Option Own × Option View). moved_by c i z.0 z.1) (λ j. (own j, view j)) ∙ ap (λ b. cond b c (moved c i o v)) going
 
+  -- the word of its act is one of the table's, and its needs are met
+  pub has_its_word : IsWord k (field_of o.place (act_at o o.stage))
+  has_its_word =
+      let caller = run.callers i o v own view in
+      acts_are_within k c.marks o v c.memory o.stage (λ _. run.eer) caller.slots caller.places is_told caller.fits
+
+  pub needs_met : Needs k v (c.memory (field_of o.place (act_at o o.stage))) (act_at o o.stage)
+  needs_met =
+      let caller = run.callers i o v own view in
+      needs_are_given k c.marks o v c.memory (c.memory (field_of o.place (act_at o o.stage))) o.stage (λ _. run.eer) caller.places is_told caller.fits
+
   pub allowed : is_finished o.stage ≡ false → IsAllowed k c i o v
   allowed going =
       let caller = run.callers i o v own view in
       let a : Act = act_at o o.stage in
-      let n : ℕ = c.memory (field_of o.place a) in
-      let w : View = noted_act o v a n in
-      let free = trails_are_free c.marks o v c.memory o.stage (kind_of a) (field_of o.place a) (cond (is_store (kind_of a)) (left_of o.place a n) n) in
-      let step_of : (p : ℕ) → Type 0 = λ p. IsStep k c.marks w (kind_of a) (field_of p a) n (left_of p a n) (view_after w c.marks n a) (marks_of w n a) in
+      let found : ℕ = c.memory (field_of o.place a) in
+      let steps_at : ℕ → Type 0 = λ p. let n : ℕ = said_by (access_of p a) found in let w : View = noted v a n in
+      Steps k c.marks v (kind_of a) (field_of p a) found (left_by (access_of p a) found) (view_after w c.marks n a) (marks_of w n a) in
       record {
-        field = acts_are_within k c.marks o v c.memory o.stage run.eer caller.slots caller.places told_now caller.fits;
-        allowed = subst step_of caller.fits.owns.same (acts k c.marks w n a run.eer (needs_are_given k c.marks o w c.memory n o.stage run.eer caller.places (free.1 told_now) (free.0 caller.fits)));
+        field = has_word k (field_of o.place a) has_its_word;
+        allowed = subst steps_at caller.fits.owns.same (acts k c.marks v found a (subst (λ p. IsWord k (field_of p a)) (sym caller.fits.owns.same) has_its_word, needs_met));
         past = subst (λ (z : Core). KeepsPast c.memory c.marks z.memory) (sym (step_is going)) (past_kept k c i o v run own view going);
         makes = step_is going;
       }

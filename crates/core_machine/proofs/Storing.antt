@@ -1,150 +1,111 @@
 -- A step on the words is the core's.
-use Rattle.std.proofs.Common.{◌≡◌, ℕ, ◌+◌, ◌*◌, ◌==◌, ◌&&◌, cond, Bool, true, false, List, [], ◌∷◌, ◌++◌, set, slice_index, Option as Opt, Some, None, refl, sym, ap, subst, ◌∙◌, arith, length-set}
-use Rattle.std.proofs.lemmas.Bool.{eqb-true}
+use Rattle.std.proofs.Common.{◌≡◌, ℕ, ◌+◌, ◌*◌, ◌==◌, ◌&&◌, cond, Bool, true, false, List, [], ◌∷◌, ◌++◌, set, slice_index, refl, sym, ap, subst, ◌∙◌, arith, length-set}
 use mathlib.Core.Option.{some}
 use lib.ListN.{get_elem?}
 use Rattle.atomic_table.proofs.Lists.{set_here}
 use Rattle.list_laws.proofs.Lists.{at_below}
-use Rattle.prcu_marks.specs.declared.mark.Mark.{Mark}
 use Rattle.prcu_marks.specs.Marks.{updates_of}
 use Rattle.prcu_marks.proofs.MarkLists.{updates_of-append}
 use Rattle.prcu_model.specs.declared.operation.Op.{Op}
 use Rattle.core_state.specs.declared.shape.Shape.{Shape}
-use Rattle.core_state.specs.declared.shape.Waiter.TheVariants.{Eer}
+use Rattle.core_state.specs.declared.shape.Waiter.TheVariants.{Eer, Domain}
 use Rattle.core_state.specs.declared.words.Field.{Field}
 use Rattle.core_state.specs.declared.words.Field.TheVariants as fields
-use Rattle.core_state.specs.declared.view.Section.{Section}
 use Rattle.core_state.specs.declared.view.View.{View}
 use Rattle.core_state.specs.declared.view.Waiting.{Waiting}
 use Rattle.core_state.specs.memory.Memory.{is_field, memory_of, stored, waiter_words, word_of}
 use Rattle.core_state.specs.memory.Words.{side_number, tag_number}
-use Rattle.prcu_marks.specs.declared.mark.Mark.TheVariants.{Left as LeftMark, Ended, Given}
-use Rattle.core_state.specs.steps.Steps.{is_store}
+use Rattle.prcu_marks.specs.declared.mark.Mark.TheVariants.{Ended, Given}
 use Rattle.core_state.specs.steps.Waits.{excuses, look_marks}
 use Rattle.core_points.proofs.All.{trails_are_free}
 use Rattle.core_points.specs.declared.stage.Update.TheVariants as update
 use Rattle.core_points.specs.declared.stage.Stage.{Stage}
 use Rattle.core_points.specs.declared.stage.Stage.TheVariants as at
-use Rattle.core_points.specs.Acts.{Act, field_of, kind_of, left_of, marks_of, none_or, view_after, load_clock, store_key, store_stamp, store_idle, begin, look_key, look_stamp, load_age, load_kept, load_old_age, reserve, seize, fill, raise_hand, raise_spare, raise_old, free_hand, free_old, count_free, lock, unlock, load, load_locked, commit, end_commit, link_leaf, bypass, mark, raise_tag, link_copy, unlink_left, unlink_right, store_value}
+use Rattle.core_acts.specs.Acts.{access_of, left_by, said_by, noted, IsWord, wait_of}
+use Rattle.core_acts.proofs.Acting.{has_word}
+use Rattle.core_acts.specs.declared.act.Act.TheVariants.{LoadClock, AnnounceKey, EnterByStamp, LeaveByStamp, BeginWait, LookKey, LookStamp, LoadOwnLife, KeepAsSpare, LoadRetiredLife, Reserve, Seize, Fill, RaiseInHand, RaiseToSpare, RaiseRetired, FreeInHand, FreeRetired, CountFree, Lock, Unlock, SearchLoad, LockedLoad, OpenCommit, CloseCommit, LinkLeaf, Bypass, Mark as MarkNode, RaiseTag, LinkCopy, UnlinkLeft, UnlinkRight, ReplaceValue, ListLoad, LoadGate, EnterByCount, LeaveByCount, LookCount, TurnGate, EnterByRow, LeaveByRow, LookRow, LookAtFront}
+use Rattle.core_points.specs.Acts.{Act, kind_of, field_of, left_of, marks_of, view_after}
 use Rattle.core_points.specs.Callers.{Own, is_some as has_slot}
 use Rattle.core_points.specs.Programs.{act_at, after}
 use Rattle.core_points.specs.Fits.{Fits}
-use Rattle.core_points.specs.Laws.{is_finished, noted_act}
+use Rattle.core_points.specs.Laws.{is_finished}
 use Rattle.seat_table.specs.Gains.{WordFits}
 use Rattle.seat_table.proofs.Facts.{word_fits}
 use Rattle.seat_table.proofs.Memories.{memory-word, memory-stored, word_inside}
 use Rattle.core_frames.proofs.views.Fields.{same_self}
-use Rattle.core_machine.specs.Accesses.{MayRise, left_by}
-use Rattle.core_machine.specs.Runs.{Core, core, moved, shape_of, step, steps}
+use Rattle.core_machine.specs.Accesses.{MayRise}
+use Rattle.core_machine.specs.Runs.{Core, core, told_in, moved, shape_of, step, steps}
 use Rattle.core_machine.specs.Laws.{IsMachine}
-use Rattle.core_machine.specs.Stored.{IsAble, access_of}
-use Rattle.core_machine.specs.Stepping.{CanStep, found_now, index_now, shape_for, update_at}
+use Rattle.core_machine.specs.Stored.{IsAble}
+use Rattle.core_machine.specs.Stepping.{CanStep, found_now, told_now, index_now, shape_for, update_at}
 use Rattle.core_machine.proofs.Turns.{del_is, put_is, set_is}
 use Rattle.core_machine.specs.StepLaws.{AreWordsOf, CallersCanStep, IsStored, StepsAreStored}
 use Rattle.core_machine.proofs.Running.{IsRun, moves}
-use Rattle.core_machine.proofs.Sound.{core_runs, step_is, told_now, allowed}
+use Rattle.core_machine.proofs.Sound.{core_runs, step_is, is_told, has_its_word, needs_met}
 use Rattle.core_machine.proofs.Able.{able, may_store}
 use Rattle.core_machine.proofs.Accounts.{AllTell, cores_tell, elem_at}
 
 -- ---- accesses
 
-at_expected : (n e x y : ℕ) → (n ≡ e → x ≡ y) → cond (n == e) x n ≡ cond (n == e) y n
-at_expected n e x y same = by (n == e) refl
-  where
-    by : (b : Bool) → (n == e) ≡ b → cond b x n ≡ cond b y n
-    by true is = same (eqb-true n e is)
-    by false is = refl
-
--- what an access leaves is what its act leaves
-leaves : (place n : ℕ) (a : Act) → left_by (access_of place a) n ≡ left_of place a n
-leaves place n load_clock = refl
-leaves place n (store_key key) = refl
-leaves place n (store_stamp key stamp) = refl
-leaves place n store_idle = refl
-leaves place n (begin low high) = refl
-leaves place n (look_key p last) = refl
-leaves place n (look_stamp p last) = refl
-leaves place n (load_age slot) = refl
-leaves place n (load_kept slot) = refl
-leaves place n (load_old_age slot) = refl
-leaves place n (reserve expected) = refl
-leaves place n (seize slot) = refl
-leaves place n (fill slot field number) = refl
-leaves place n (raise_hand slot number) = refl
-leaves place n (raise_spare slot number) = refl
-leaves place n (raise_old slot number) = refl
-leaves place n (free_hand slot) = refl
-leaves place n (free_old slot) = refl
-leaves place n count_free = refl
-leaves place n (lock slot) = refl
-leaves place n (unlock slot) = refl
-leaves place n (load slot field) = refl
-leaves place n (load_locked slot field) = refl
-leaves place n (commit expected) = at_expected n expected (n + 1) (expected + 1) (λ e. ap (λ x. x + 1) e)
-leaves place n (end_commit front) = refl
-leaves place n (link_leaf slot b leaf key value) = refl
-leaves place n (bypass parent b node child key) = refl
-leaves place n (mark slot life) = refl
-leaves place n (raise_tag slot b tag) = refl
-leaves place n (link_copy parent b node copy old old_parent key next_key) = refl
-leaves place n (unlink_left parent old child) = refl
-leaves place n (unlink_right copy old child) = refl
-leaves place n (store_value slot key value) = refl
-
 -- a word that is counted up is a small one
-rises : (k : Shape) (place n : ℕ) (a : Act) → WordFits k (field_of place a) n → MayRise (access_of place a) n
-rises k place n load_clock fits = tt
-rises k place n (store_key key) fits = tt
-rises k place n (store_stamp key stamp) fits = tt
-rises k place n store_idle fits = tt
-rises k place n (begin low high) fits = omega arith
-rises k place n (look_key p last) fits = tt
-rises k place n (look_stamp p last) fits = tt
-rises k place n (load_age slot) fits = tt
-rises k place n (load_kept slot) fits = tt
-rises k place n (load_old_age slot) fits = tt
-rises k place n (reserve expected) fits = tt
-rises k place n (seize slot) fits = tt
-rises k place n (fill slot field number) fits = tt
-rises k place n (raise_hand slot number) fits = tt
-rises k place n (raise_spare slot number) fits = tt
-rises k place n (raise_old slot number) fits = tt
-rises k place n (free_hand slot) fits = tt
-rises k place n (free_old slot) fits = tt
-rises k place n count_free fits = omega arith
-rises k place n (lock slot) fits = tt
-rises k place n (unlock slot) fits = tt
-rises k place n (load slot field) fits = tt
-rises k place n (load_locked slot field) fits = tt
-rises k place n (commit expected) fits = omega arith
-rises k place n (end_commit front) fits = tt
-rises k place n (link_leaf slot b leaf key value) fits = tt
-rises k place n (bypass parent b node child key) fits = tt
-rises k place n (mark slot life) fits = tt
-rises k place n (raise_tag slot b tag) fits = tt
-rises k place n (link_copy parent b node copy old old_parent key next_key) fits = tt
-rises k place n (unlink_left parent old child) fits = tt
-rises k place n (unlink_right copy old child) fits = tt
-rises k place n (store_value slot key value) fits = tt
+rises : (k : Shape) (place n : ℕ) (a : Act) → k.waiter ≡ Eer → IsWord k (field_of place a) → WordFits k (field_of place a) n → MayRise (access_of place a) n
+rises k place n LoadClock eer word fits = tt
+rises k place n (AnnounceKey key) eer word fits = tt
+rises k place n (EnterByStamp key stamp) eer word fits = tt
+rises k place n LeaveByStamp eer word fits = tt
+rises k place n (BeginWait low high) eer word fits = omega arith
+rises k place n (LookKey p last) eer word fits = tt
+rises k place n (LookStamp p last) eer word fits = tt
+rises k place n (LoadOwnLife slot) eer word fits = tt
+rises k place n (KeepAsSpare slot) eer word fits = tt
+rises k place n (LoadRetiredLife slot) eer word fits = tt
+rises k place n (Reserve expected) eer word fits = tt
+rises k place n (Seize slot) eer word fits = tt
+rises k place n (Fill slot p number) eer word fits = tt
+rises k place n (RaiseInHand slot number) eer word fits = tt
+rises k place n (RaiseToSpare slot number) eer word fits = tt
+rises k place n (RaiseRetired slot number) eer word fits = tt
+rises k place n (FreeInHand slot) eer word fits = tt
+rises k place n (FreeRetired slot) eer word fits = tt
+rises k place n CountFree eer word fits = omega arith
+rises k place n (Lock slot) eer word fits = tt
+rises k place n (Unlock slot) eer word fits = tt
+rises k place n (SearchLoad slot p) eer word fits = tt
+rises k place n (LockedLoad slot p) eer word fits = tt
+rises k place n (OpenCommit expected) eer word fits = tt
+rises k place n (CloseCommit front) eer word fits = tt
+rises k place n (LinkLeaf slot b leaf key value) eer word fits = tt
+rises k place n (Bypass parent b node child key) eer word fits = tt
+rises k place n (MarkNode slot life) eer word fits = tt
+rises k place n (RaiseTag slot b tag) eer word fits = tt
+rises k place n (LinkCopy parent b node copy old old_parent key next_key) eer word fits = tt
+rises k place n (UnlinkLeft parent old child) eer word fits = tt
+rises k place n (UnlinkRight copy old child) eer word fits = tt
+rises k place n (ReplaceValue slot key value) eer word fits = tt
+rises k place n (ListLoad slot p) eer word fits = tt
+rises k place n (LoadGate class) eer word fits = tt
+rises k place n (EnterByCount key side) eer word fits = absurd (let e : Eer ≡ Domain = sym eer ∙ word.0 in cc)
+rises k place n (LeaveByCount class side) eer word fits = tt
+rises k place n (LookCount class side last) eer word fits = tt
+rises k place n (TurnGate class) eer word fits = tt
+rises k place n (EnterByRow key stamp) eer word fits = tt
+rises k place n (LeaveByRow class) eer word fits = tt
+rises k place n (LookRow p class last) eer word fits = tt
+rises k place n LookAtFront eer word fits = tt
 
 -- ---- updates
 
 abbrev is_update : Act → Bool
-is_update (link_leaf slot b leaf key value) = true
-is_update (bypass parent b node child key) = true
-is_update (link_copy parent b node copy old old_parent key next_key) = true
-is_update (store_value slot key value) = true
+is_update (LinkLeaf slot b leaf key value) = true
+is_update (Bypass parent b node child key) = true
+is_update (LinkCopy parent b node copy old old_parent key next_key) = true
+is_update (ReplaceValue slot key value) = true
 is_update _ = false
 
-section_updates : (x : Opt Section) (f : Section → Mark) → ((s : Section) → updates_of (f s ∷ []) ≡ []) → updates_of (none_or x (λ s. f s ∷ [])) ≡ []
-section_updates None f none = refl
-section_updates (Some s) f none = none s
-
-look_updates : (v : View) (x : Opt Waiting) (field : Field) (last : Bool) (n : ℕ) → updates_of (none_or x (λ w. look_marks v w field last n)) ≡ []
-look_updates v None field last n = refl
-look_updates v (Some w) field last n = by (excuses w field n && last)
+look_updates : (v : View) (wait : Waiting) (field : Field) (last : Bool) (n : ℕ) → updates_of (look_marks v wait field last n) ≡ []
+look_updates v wait field last n = by (excuses wait field n && last)
   where
-    by : (b : Bool) → updates_of (cond b (Ended v.allowance.place w.count ∷ []) []) ≡ []
+    by : (b : Bool) → updates_of (cond b (Ended v.allowance.place wait.count ∷ []) []) ≡ []
     by true = refl
     by false = refl
 
@@ -153,39 +114,49 @@ seize_updates slot true = refl
 seize_updates slot false = refl
 
 no_updates : (v : View) (n : ℕ) (a : Act) → is_update a ≡ false → updates_of (marks_of v n a) ≡ []
-no_updates v n load_clock e = refl
-no_updates v n (store_key key) e = refl
-no_updates v n (store_stamp key stamp) e = refl
-no_updates v n store_idle e = section_updates v.section (λ (s : Section). LeftMark v.allowance.place s.count) (λ s. refl)
-no_updates v n (begin low high) e = refl
-no_updates v n (look_key p last) e = look_updates v v.wait (fields.Announced p) last n
-no_updates v n (look_stamp p last) e = look_updates v v.wait (fields.Stamp p) last n
-no_updates v n (load_age slot) e = refl
-no_updates v n (load_kept slot) e = refl
-no_updates v n (load_old_age slot) e = refl
-no_updates v n (reserve expected) e = refl
-no_updates v n (seize slot) e = seize_updates slot (n == 0)
-no_updates v n (fill slot field number) e = refl
-no_updates v n (raise_hand slot number) e = refl
-no_updates v n (raise_spare slot number) e = refl
-no_updates v n (raise_old slot number) e = refl
-no_updates v n (free_hand slot) e = refl
-no_updates v n (free_old slot) e = refl
-no_updates v n count_free e = refl
-no_updates v n (lock slot) e = refl
-no_updates v n (unlock slot) e = refl
-no_updates v n (load slot field) e = refl
-no_updates v n (load_locked slot field) e = refl
-no_updates v n (commit expected) e = refl
-no_updates v n (end_commit front) e = refl
-no_updates v n (link_leaf slot b leaf key value) e = absurd (cc)
-no_updates v n (bypass parent b node child key) e = absurd (cc)
-no_updates v n (mark slot life) e = refl
-no_updates v n (raise_tag slot b tag) e = refl
-no_updates v n (link_copy parent b node copy old old_parent key next_key) e = absurd (cc)
-no_updates v n (unlink_left parent old child) e = refl
-no_updates v n (unlink_right copy old child) e = refl
-no_updates v n (store_value slot key value) e = absurd (cc)
+no_updates v n LoadClock e = refl
+no_updates v n (AnnounceKey key) e = refl
+no_updates v n (EnterByStamp key stamp) e = refl
+no_updates v n LeaveByStamp e = refl
+no_updates v n (BeginWait low high) e = refl
+no_updates v n (LookKey p last) e = look_updates v (wait_of v) (fields.Announced p) last n
+no_updates v n (LookStamp p last) e = look_updates v (wait_of v) (fields.Stamp p) last n
+no_updates v n (LoadOwnLife slot) e = refl
+no_updates v n (KeepAsSpare slot) e = refl
+no_updates v n (LoadRetiredLife slot) e = refl
+no_updates v n (Reserve expected) e = refl
+no_updates v n (Seize slot) e = seize_updates slot (n == 0)
+no_updates v n (Fill slot p number) e = refl
+no_updates v n (RaiseInHand slot number) e = refl
+no_updates v n (RaiseToSpare slot number) e = refl
+no_updates v n (RaiseRetired slot number) e = refl
+no_updates v n (FreeInHand slot) e = refl
+no_updates v n (FreeRetired slot) e = refl
+no_updates v n CountFree e = refl
+no_updates v n (Lock slot) e = refl
+no_updates v n (Unlock slot) e = refl
+no_updates v n (SearchLoad slot p) e = refl
+no_updates v n (LockedLoad slot p) e = refl
+no_updates v n (OpenCommit expected) e = refl
+no_updates v n (CloseCommit front) e = refl
+no_updates v n (LinkLeaf slot b leaf key value) e = absurd (cc)
+no_updates v n (Bypass parent b node child key) e = absurd (cc)
+no_updates v n (MarkNode slot life) e = refl
+no_updates v n (RaiseTag slot b tag) e = refl
+no_updates v n (LinkCopy parent b node copy old old_parent key next_key) e = absurd (cc)
+no_updates v n (UnlinkLeft parent old child) e = refl
+no_updates v n (UnlinkRight copy old child) e = refl
+no_updates v n (ReplaceValue slot key value) e = absurd (cc)
+no_updates v n (ListLoad slot p) e = refl
+no_updates v n (LoadGate class) e = refl
+no_updates v n (EnterByCount key side) e = refl
+no_updates v n (LeaveByCount class side) e = refl
+no_updates v n (LookCount class side last) e = look_updates v (wait_of v) (fields.Count class side) last n
+no_updates v n (TurnGate class) e = refl
+no_updates v n (EnterByRow key stamp) e = refl
+no_updates v n (LeaveByRow class) e = refl
+no_updates v n (LookRow p class last) e = look_updates v (wait_of v) (fields.Row p class) last n
+no_updates v n LookAtFront e = refl
 
 either_update : (b : Bool) (x y : Act) → is_update x ≡ false → is_update y ≡ false → is_update (cond b x y) ≡ false
 either_update true x y p q = p
@@ -315,7 +286,7 @@ module _ (scripts : List (List Op)) (slots : ℕ) (callers : List ℕ) (machine 
   run = core_runs scripts slots callers machine
 
   has : is_field (shape_of slots scripts) (field_of o.place (act_at o o.stage)) ≡ true
-  has = (allowed (shape_of slots scripts) (core scripts slots callers) i o v run own view going).field
+  has = has_word (shape_of slots scripts) (field_of o.place (act_at o o.stage)) (has_its_word (shape_of slots scripts) (core scripts slots callers) i o v run own view)
 
   at_index : index_now o ≡ word_of (shape_of slots scripts) (field_of o.place (act_at o o.stage))
   at_index = same_word (shape_for o.slots o.places) (shape_of slots scripts) refl (sym (run.callers i o v own view).places) (field_of o.place (act_at o o.stage))
@@ -323,24 +294,25 @@ module _ (scripts : List (List Op)) (slots : ℕ) (callers : List ℕ) (machine 
   pub found : found_now words o ≡ (core scripts slots callers).memory (field_of o.place (act_at o o.stage))
   found = ap (slice_index words) at_index ∙ sym (memory-word (shape_of slots scripts) words (field_of o.place (act_at o o.stage)) has) ∙ ap (λ m. m (field_of o.place (act_at o o.stage))) is.same
 
+  -- the number that it tells
+  pub told : told_now words o ≡ told_in (core scripts slots callers) o
+  told = ap (said_by (access_of o.place (act_at o o.stage))) found
+
   -- the core after the step
   next_run : IsRun (shape_of slots scripts) (moved (core scripts slots callers) i o v)
   next_run = moves (shape_of slots scripts) (core scripts slots callers) i o v run own view going
 
-  abbrev n : ℕ
-  n = (core scripts slots callers).memory (field_of o.place (act_at o o.stage))
+  abbrev next_own : Own
+  next_own = after o (told_in (core scripts slots callers) o) o.stage
 
-  abbrev o' : Own
-  o' = after o ((core scripts slots callers).memory (field_of o.place (act_at o o.stage))) o.stage
+  abbrev next_view : View
+  next_view = view_after (noted v (act_at o o.stage) (told_in (core scripts slots callers) o)) (core scripts slots callers).marks (told_in (core scripts slots callers) o) (act_at o o.stage)
 
-  abbrev w : View
-  w = view_after (noted_act o v (act_at o o.stage) ((core scripts slots callers).memory (field_of o.place (act_at o o.stage)))) (core scripts slots callers).marks ((core scripts slots callers).memory (field_of o.place (act_at o o.stage))) (act_at o o.stage)
+  own_next : get_elem? (moved (core scripts slots callers) i o v).owns i ≡ some next_own
+  own_next = set_here (core scripts slots callers).owns i next_own (at_below (core scripts slots callers).owns i o own)
 
-  own_next : get_elem? (moved (core scripts slots callers) i o v).owns i ≡ some (after o ((core scripts slots callers).memory (field_of o.place (act_at o o.stage))) o.stage)
-  own_next = set_here (core scripts slots callers).owns i (after o ((core scripts slots callers).memory (field_of o.place (act_at o o.stage))) o.stage) (at_below (core scripts slots callers).owns i o own)
-
-  view_next : get_elem? (moved (core scripts slots callers) i o v).views i ≡ some (view_after (noted_act o v (act_at o o.stage) ((core scripts slots callers).memory (field_of o.place (act_at o o.stage)))) (core scripts slots callers).marks ((core scripts slots callers).memory (field_of o.place (act_at o o.stage))) (act_at o o.stage))
-  view_next = set_here (core scripts slots callers).views i (view_after (noted_act o v (act_at o o.stage) ((core scripts slots callers).memory (field_of o.place (act_at o o.stage)))) (core scripts slots callers).marks ((core scripts slots callers).memory (field_of o.place (act_at o o.stage))) (act_at o o.stage)) (at_below (core scripts slots callers).views i v view)
+  view_next : get_elem? (moved (core scripts slots callers) i o v).views i ≡ some next_view
+  view_next = set_here (core scripts slots callers).views i next_view (at_below (core scripts slots callers).views i v view)
 
   word_found : WordFits (shape_of slots scripts) (field_of o.place (act_at o o.stage)) ((core scripts slots callers).memory (field_of o.place (act_at o o.stage)))
   word_found = word_fits (shape_of slots scripts) (core scripts slots callers).memory (core scripts slots callers).views (core scripts slots callers).marks run.holds.now i v view (field_of o.place (act_at o o.stage)) has
@@ -351,19 +323,17 @@ module _ (scripts : List (List Op)) (slots : ℕ) (callers : List ℕ) (machine 
       let f : Field = field_of o.place (act_at o o.stage) in
       let x : ℕ = (core scripts slots callers).memory f in
       subst (WordFits k' f) (ap (λ t. cond t (left_of o.place (act_at o o.stage) x) x) (same_self f))
-      (word_fits k' (moved (core scripts slots callers) i o v).memory (moved (core scripts slots callers) i o v).views (moved (core scripts slots callers) i o v).marks next_run.holds.now i (view_after (noted_act o v (act_at o o.stage) x) (core scripts slots callers).marks x (act_at o o.stage)) view_next f has)
+      (word_fits k' (moved (core scripts slots callers) i o v).memory (moved (core scripts slots callers) i o v).views (moved (core scripts slots callers) i o v).marks next_run.holds.now i next_view view_next f has)
 
-  able_here : IsAble o (found_now words o) o.stage
+  able_here : IsAble o (told_now words o) o.stage
   able_here =
       let k' : Shape = shape_of slots scripts in
       let x : ℕ = (core scripts slots callers).memory (field_of o.place (act_at o o.stage)) in
-      let z : Own = after o x o.stage in
-      let y : View = view_after (noted_act o v (act_at o o.stage) x) (core scripts slots callers).marks x (act_at o o.stage) in
       let here = run.callers i o v own view in
-      let next = next_run.callers i z y own_next view_next in
-      subst (λ m. IsAble o m o.stage) (sym found)
-      (able k' run.holds.now.table o v y (core scripts slots callers).marks (moved (core scripts slots callers) i o v).marks (core scripts slots callers).memory (moved (core scripts slots callers) i o v).memory here.slots here.places (run.holds.now.slots.few i v view)
-      (told_now k' (core scripts slots callers) i o v run own view) o.stage x here.fits word_found word_left (next.fits, told_now k' (moved (core scripts slots callers) i o v) i z y next_run own_next view_next))
+      let next = next_run.callers i next_own next_view own_next view_next in
+      subst (λ m. IsAble o m o.stage) (sym told)
+      (able k' run.holds.now.table o v next_view (core scripts slots callers).marks (moved (core scripts slots callers) i o v).marks (core scripts slots callers).memory (moved (core scripts slots callers) i o v).memory here.slots here.places (run.holds.now.slots.few i v view)
+      (is_told k' (core scripts slots callers) i o v run own view) o.stage x here.fits word_found word_left (next.fits, is_told k' (moved (core scripts slots callers) i o v) i next_own next_view next_run own_next view_next))
 
   can_step : CanStep words o
   can_step =
@@ -379,8 +349,8 @@ module _ (scripts : List (List Op)) (slots : ℕ) (callers : List ℕ) (machine 
         size = record { slots = omega arith; places = omega arith; scan = here.fits.owns.scans_table };
         field = subst (λ (z : ℕ × ℕ). is_field (record { waiter = Eer; slots = z.0; places = z.1; tickets = 0 }) (field_of o.place (act_at o o.stage)) ≡ true) (λ j. (here.slots j, here.places j)) (sym (same_is_field k' (field_of o.place (act_at o o.stage))) ∙ has);
         within = omega arith;
-        stores = may_store k' o.place ((core scripts slots callers).memory (field_of o.place (act_at o o.stage))) (act_at o o.stage) word_left;
-        rises = subst (MayRise (access_of o.place (act_at o o.stage))) (sym found) (rises k' o.place ((core scripts slots callers).memory (field_of o.place (act_at o o.stage))) (act_at o o.stage) word_found);
+        stores = may_store k' v o.place ((core scripts slots callers).memory (field_of o.place (act_at o o.stage))) (act_at o o.stage) (needs_met k' (core scripts slots callers) i o v run own view) word_left;
+        rises = subst (MayRise (access_of o.place (act_at o o.stage))) (sym found) (rises k' o.place ((core scripts slots callers).memory (field_of o.place (act_at o o.stage))) (act_at o o.stage) run.eer (has_its_word k' (core scripts slots callers) i o v run own view) word_found);
         able = able_here;
       }
 
@@ -390,7 +360,7 @@ module _ (scripts : List (List Op)) (slots : ℕ) (callers : List ℕ) (machine 
       let k' : Shape = shape_of slots scripts in
       let f : Field = field_of o.place (act_at o o.stage) in
       let x : ℕ = (core scripts slots callers).memory f in
-      let left : left_by (access_of o.place (act_at o o.stage)) (found_now words o) ≡ left_of o.place (act_at o o.stage) x = leaves o.place (found_now words o) (act_at o o.stage) ∙ ap (left_of o.place (act_at o o.stage)) found in record {
+      let left : left_by (access_of o.place (act_at o o.stage)) (found_now words o) ≡ left_of o.place (act_at o o.stage) x = ap (left_of o.place (act_at o o.stage)) found in record {
         long = length-set words (index_now o) (left_by (access_of o.place (act_at o o.stage)) (found_now words o)) ∙ is.long;
         same = ap (λ (z : ℕ × ℕ). memory_of k' (set words z.0 z.1)) (λ j. (at_index j, left j)) ∙ memory-stored k' words f (left_of o.place (act_at o o.stage) x) has is.long ∙ ap (λ m. stored m f (left_of o.place (act_at o o.stage) x)) is.same;
       }
@@ -416,11 +386,11 @@ steps_are_stored scripts slots callers words i o machine is own going =
     let run : IsRun k c = core_runs scripts slots callers machine in
     let here = run.callers i o v.0 own v.1 in
     let next : core scripts slots (callers ++ i ∷ []) ≡ moved c i o v.0 = steps_more (core scripts slots []) callers i ∙ step_is k c i o v.0 run own v.1 going in
-    let found_is : found_now words o ≡ c.memory (field_of o.place (act_at o o.stage)) = found scripts slots callers machine words i o v.0 is own v.1 going in
+    let n : ℕ = told_in c o in
+    let a : Act = act_at o o.stage in
     subst (λ z. IsStored k words c z i o) (sym next) (record {
       words_are = words_next scripts slots callers machine words i o v.0 is own v.1 going;
-      owns_are = ap (λ m. set c.owns i (after o m o.stage)) (sym found_is);
-      updates_are = updates_of-append c.marks (marks_of (noted_act o v.0 (act_at o o.stage) (c.memory (field_of o.place (act_at o o.stage)))) (c.memory (field_of o.place (act_at o o.stage))) (act_at o o.stage))
-          ∙ ap (λ us. updates_of c.marks ++ us) (updates_at o (noted_act o v.0 (act_at o o.stage) (c.memory (field_of o.place (act_at o o.stage)))) (c.memory (field_of o.place (act_at o o.stage))) o.stage
-          ((trails_are_free c.marks o v.0 c.memory o.stage (kind_of (act_at o o.stage)) (field_of o.place (act_at o o.stage)) (cond (is_store (kind_of (act_at o o.stage))) (left_of o.place (act_at o o.stage) (c.memory (field_of o.place (act_at o o.stage)))) (c.memory (field_of o.place (act_at o o.stage))))).0 here.fits) here.fits.owns.same);
+      owns_are = ap (λ m. set c.owns i (after o m o.stage)) (sym (told scripts slots callers machine words i o v.0 is own v.1 going));
+      updates_are = updates_of-append c.marks (marks_of (noted v.0 a n) n a) ∙ ap (λ us. updates_of c.marks ++ us) (updates_at o (noted v.0 a n) n o.stage
+          ((trails_are_free c.marks o v.0 c.memory o.stage (kind_of a) (field_of v.0.allowance.place a) n).0 here.fits) here.fits.owns.same);
     })

@@ -31,7 +31,6 @@ use Rattle.core_state.specs.declared.view.Section.{Section}
 use Rattle.core_state.specs.declared.view.View.{View}
 use Rattle.core_state.specs.memory.Memory.{Memory, idle}
 use Rattle.core_state.specs.memory.Words.{step_side}
-use Rattle.core_state.specs.steps.Sections.{after_enter_by_stamp}
 use Rattle.core_state.specs.steps.Loads.{after_search_load}
 use Rattle.core_state.specs.Invariant.{HoldsNow}
 use Rattle.core_points.specs.declared.stage.Aim.{Aim}
@@ -53,14 +52,17 @@ use Rattle.core_points.specs.declared.stage.Stage.{Stage}
 use Rattle.core_points.specs.declared.stage.Stage.TheVariants as at
 use Rattle.prcu_marks.specs.declared.mark.Side.{Side}
 use Rattle.prcu_marks.specs.declared.mark.Side.TheVariants.{Left, Right}
-use Rattle.core_points.specs.Acts.{Act, field_of, given, marks_of, store_idle, view_after}
+use Rattle.core_acts.specs.Acts.{in_slot, access_of, said_by, noted, section_of, wait_of}
+use Rattle.core_acts.specs.declared.act.Act.TheVariants.{LeaveByStamp}
+use Rattle.core_acts.proofs.Acting.{section_is}
+use Rattle.core_points.specs.Acts.{Act, field_of, marks_of, view_after}
 use Rattle.core_points.specs.Callers.{Own, but_first, first_or_root, go, high_key, low_key, or_root, is_none_left, is_some as has_slot, key_now, value_in}
 use Rattle.core_points.specs.Programs.{act_at, after, answer, committing, deleting, ended, past_left, past_right, past_target_load, verdict, excused, found, giving, is_reader, key_read, none_free, past_lock, past_reserve, past_unlock, taking, unlocked, wait_over}
-use Rattle.core_points.specs.DeletePlan.{last_right, move_locks, nothing_found, target_field, target_holds, target_lock, target_locks, with_found}
+use Rattle.core_points.specs.DeletePlan.{last_right, move_locks, nothing_found, target_holds, target_lock, target_locks, target_part, target_slot, with_found}
 use Rattle.core_points.specs.Facts.{is_delete, is_put, is_set}
 use Rattle.core_points.specs.Told.{IsTold}
 use Rattle.core_points.specs.Fits.{Fits}
-use Rattle.core_points.specs.Laws.{is_finished, noted_act}
+use Rattle.core_points.specs.Laws.{is_finished}
 use Rattle.core_machine.proofs.Phases.{Adds, IsLate, Known, Next, Phase, Since, Tells, aiming, answers_so, at_answer, either_next, entered_more, explained_later, goes_on, inside, made, made_later, move_later, moving, no_marks, outside, phase, said, searching, seen_before, since_later, tells_by, waiting}
 use Rattle.core_points.proofs.All.{needs_are_given}
 use Rattle.core_points.proofs.Answering.{answers_are_said}
@@ -140,12 +142,8 @@ late_in : (n : ℕ) (section : Option Section) (s : Section) → section ≡ Som
 late_in n section s e late = subst (IsLate n) e late
 
 -- a load in a section
-load_late : (n : ℕ) (u : View) (field : Field) (found : ℕ) → IsLate n u.section → IsLate n (given u u.section (λ s. after_search_load u s field found)).section
-load_late n u field found late = by u.section refl
-  where
-    by : (x : Option Section) → u.section ≡ x → IsLate n (given u x (λ s. after_search_load u s field found)).section
-    by None e = late
-    by (Some s) e = late_in n u.section s e late
+load_late : (n : ℕ) (u : View) (field : Field) (found : ℕ) (section : Section) → u.section ≡ Some section → IsLate n u.section → IsLate n (after_search_load u (section_of u) field found).section
+load_late n u field found section is late = subst (λ (z : Section). n ≤ z.from) (sym (section_is u section is)) (late_in n u.section section is late)
 
 -- ---- the next points
 
@@ -228,7 +226,7 @@ module _ (k : Shape) (m : Memory) (vs : List View) (h : List Mark) (i : ℕ) (o 
 
   abbrev After : Stage → Type 0
   After stage =
-      let a : Act = act_at o stage in let n : ℕ = m (field_of o.place a) in let w : View = noted_act o v a n in
+      let a : Act = act_at o stage in let n : ℕ = said_by (access_of o.place a) (m (field_of o.place a)) in let w : View = noted v a n in
       Tells (record { scripts = k.places; slots = k.slots }) i script (after o n stage) (view_after w h n a).section (h ++ marks_of w n a)
 
   -- a step without an update, outside sections
@@ -237,55 +235,54 @@ module _ (k : Shape) (m : Memory) (vs : List View) (h : List Mark) (i : ℕ) (o 
   calm stage t going out more adds o' section next = goes_on (record { scripts = k.places; slots = k.slots }) i script (go o stage) v.section h t going more adds o' section next (λ e late. absurd (out e))
 
   -- a load in a section
-  loads : (stage : Stage) (t : Before stage) → is_finished stage ≡ false → (field : Field) (kind : Act) (n : ℕ) (o' : Own) → Next (go o stage) (phase stage) o'
-      → let u : View = noted_act o v kind n in Tells (record { scripts = k.places; slots = k.slots }) i script o' (given u u.section (λ s. after_search_load u s field n)).section (h ++ [])
-  loads stage t going field kind n o' next =
-      let u : View = noted_act o v kind n in
-      goes_on (record { scripts = k.places; slots = k.slots }) i script (go o stage) v.section h t going [] (no_marks i (key_now o) (updates_of (h ++ [])) [] refl) o' (given u u.section (λ s. after_search_load u s field n)).section next
-      (λ e late. load_late (length (updates_of t.seen)) u field n late)
+  loads : (stage : Stage) (t : Before stage) → is_finished stage ≡ false → (section : Section) → v.section ≡ Some section → (field : Field) (kind : Act) (n : ℕ) (o' : Own) → Next (go o stage) (phase stage) o'
+      → let u : View = noted v kind n in Tells (record { scripts = k.places; slots = k.slots }) i script o' (after_search_load u (section_of u) field n).section (h ++ [])
+  loads stage t going section is field kind n o' next =
+      let u : View = noted v kind n in
+      goes_on (record { scripts = k.places; slots = k.slots }) i script (go o stage) v.section h t going [] (no_marks i (key_now o) (updates_of (h ++ [])) [] refl) o' (after_search_load u (section_of u) field n).section next
+      (λ e late. load_late (length (updates_of t.seen)) u field n section is late)
 
   -- the key is announced: a section is entered
   enters : (clock : ℕ) → Before (at.EnterStamp clock) → Fits o (at.EnterStamp clock) v → After (at.EnterStamp clock)
   enters clock t f =
       let a : Act = act_at o (at.EnterStamp clock) in
-      let n : ℕ = m (Stamp o.place) in
-      let u : View = noted_act o v a n in
+      let n : ℕ = clock in
+      let u : View = noted v a n in
       let key : ℕ = key_now o in
       let c : Caller = at_answer i t.own t.seen in
       let mark : Mark = Entered v.allowance.place v.counts.sections key in
       let is : is_of i mark ≡ true = eq-eqb v.allowance.place i place in
       let since : Since c key (h ++ mark ∷ []) (t.marks ++ mark ∷ []) = since_later (record { scripts = k.places; slots = k.slots }) c o.op h (mark ∷ []) t.marks (mark ∷ []) refl (own_one i mark is) ((place, refl), tt) (tt, tt) t.since in
-      let e = (f.point).2 in
       let split = entered_for-append i key t.marks (mark ∷ []) in
       let one : entered_for i key (mark ∷ []) ≡ 1 = ap (λ b. cond b (cond (key == key) 1 0) 0 + 0) is ∙ ap (λ b. cond b 1 0 + 0) (eq-eqb key key refl) in
       let before = seen_before (record { scripts = k.places; slots = k.slots }) i script (go o (at.EnterStamp clock)) v.section h t refl in
-      let late : IsLate (length (updates_of t.seen)) (view_after u h n a).section = subst (λ x. IsLate (length (updates_of t.seen)) (given u x (λ z. after_enter_by_stamp u key z h)).section) (sym e.1) before in
+      let late : IsLate (length (updates_of t.seen)) (view_after u h n a).section = before in
       tells_by (record { scripts = k.places; slots = k.slots }) i script (go o (at.EnterStamp clock)) v.section h t refl (mark ∷ []) (mark ∷ []) (go o (at.AtLink 0 Right)) (view_after u h n a).section refl refl since
       (updates_of-append t.marks (mark ∷ []) ∙ append-nil (updates_of t.marks) ∙ t.known, omega arith, late)
 
   -- a section is left by a search that decides
   said_answers : (stage : Stage) (t : Before stage) → is_finished stage ≡ false → phase stage ≡ inside → (section : Section) → v.section ≡ Some section → (o' : Own) → said o' ≡ said o → (after : Option Section) → (reply : Reply) → tells_update reply ≡ false → (answers : Option ℕ)
       → WasSaid (updates_of h) (key_now o) section.from answers → ((d : Dictionary) → finite.get d (key_now o) ≡ answers → Explains (record { scripts = k.places; slots = k.slots }) d o.op reply)
-      → (n : ℕ) → let u : View = noted_act o v store_idle n in Tells (record { scripts = k.places; slots = k.slots }) i script (answer o' reply 0) after (h ++ marks_of u n store_idle)
+      → (n : ℕ) → let u : View = noted v LeaveByStamp n in Tells (record { scripts = k.places; slots = k.slots }) i script (answer o' reply 0) after (h ++ marks_of u n LeaveByStamp)
   said_answers stage t going is section e o' same after reply plain answers w explains n =
       let c : Caller = at_answer i t.own t.seen in
       let known : Known (record { scripts = k.places; slots = k.slots }) inside c o.op h t.marks v.section = subst (λ p. Known (record { scripts = k.places; slots = k.slots }) p c o.op h t.marks v.section) is t.known in
-      let u : View = noted_act o v store_idle n in
-      let more : List Mark = marks_of u n store_idle in
+      let u : View = noted v LeaveByStamp n in
+      let more : List Mark = marks_of u n LeaveByStamp in
       let told : Told = record { reply = reply; number = 0 } in
       let base : WasExplained (Explains (record { scripts = k.places; slots = k.slots })) c o.op told t.marks h = said_explains (record { scripts = k.places; slots = k.slots }) c o.op h t.marks reply section.from answers known.0 (late_in (length (updates_of t.seen)) v.section section e known.2) w explains in
-      answers_so (record { scripts = k.places; slots = k.slots }) i script (go o stage) v.section h t going more (left_adds i (key_now o) (updates_of (h ++ more)) u place section e) o' after reply 0 same known.1
+      answers_so (record { scripts = k.places; slots = k.slots }) i script (go o stage) v.section h t going more (left_adds i (key_now o) (updates_of (h ++ more)) u place (section_of u).count) o' after reply 0 same known.1
       (λ mine none. subst (λ b. MatchBool b (HasMadeUpdate c o.op told (t.marks ++ mine) (h ++ more)) (WasExplained (Explains (record { scripts = k.places; slots = k.slots })) c o.op told (t.marks ++ mine) (h ++ more))) (sym plain)
       (explained_later (record { scripts = k.places; slots = k.slots }) c o.op h more t.marks mine none told base))
 
   -- a section is left, and the call goes on outside
   leaves : (next : Then) (t : Before (at.Leave next)) (section : Section) → v.section ≡ Some section → (o' : Own) → said o' ≡ said o → is_finished o'.stage ≡ false → phase o'.stage ≡ outside → (after : Option Section)
-      → (n : ℕ) → let u : View = noted_act o v store_idle n in Tells (record { scripts = k.places; slots = k.slots }) i script o' after (h ++ marks_of u n store_idle)
+      → (n : ℕ) → let u : View = noted v LeaveByStamp n in Tells (record { scripts = k.places; slots = k.slots }) i script o' after (h ++ marks_of u n LeaveByStamp)
   leaves next t section e o' same going is after n =
       let c : Caller = at_answer i t.own t.seen in
-      let u : View = noted_act o v store_idle n in
-      let more : List Mark = marks_of u n store_idle in
-      let a : Adds i (key_now o) (updates_of (h ++ more)) more = left_adds i (key_now o) (updates_of (h ++ more)) u place section e in
+      let u : View = noted v LeaveByStamp n in
+      let more : List Mark = marks_of u n LeaveByStamp in
+      let a : Adds i (key_now o) (updates_of (h ++ more)) more = left_adds i (key_now o) (updates_of (h ++ more)) u place (section_of u).count in
       let since = since_later (record { scripts = k.places; slots = k.slots }) c o.op h more t.marks a.mine a.updates a.own a.keyed a.waits t.since in
       tells_by (record { scripts = k.places; slots = k.slots }) i script (go o (at.Leave next)) v.section h t refl more a.mine o' after same going since
       (subst (λ p. Known (record { scripts = k.places; slots = k.slots }) p c o.op (h ++ more) (t.marks ++ a.mine) after) (sym is)
@@ -293,13 +290,13 @@ module _ (k : Shape) (m : Memory) (vs : List View) (h : List Mark) (i : ℕ) (o 
 
   -- what was said of a present key, whose slot in hand is to be given back
   keeps_present : (t : Before (at.Leave then.Old)) (section : Section) → v.section ≡ Some section → (value : ℕ) → WasSaid (updates_of h) (key_now o) section.from (Some value) → is_put o.op ≡ true → (after : Option Section)
-      → (n : ℕ) → let u : View = noted_act o v store_idle n in Tells (record { scripts = k.places; slots = k.slots }) i script (go o at.Raise) after (h ++ marks_of u n store_idle)
+      → (n : ℕ) → let u : View = noted v LeaveByStamp n in Tells (record { scripts = k.places; slots = k.slots }) i script (go o at.Raise) after (h ++ marks_of u n LeaveByStamp)
   keeps_present t section e value w put after n =
       let c : Caller = at_answer i t.own t.seen in
-      let u : View = noted_act o v store_idle n in
-      let more : List Mark = marks_of u n store_idle in
+      let u : View = noted v LeaveByStamp n in
+      let more : List Mark = marks_of u n LeaveByStamp in
       let told : Told = record { reply = Old; number = 0 } in
-      let a : Adds i (key_now o) (updates_of (h ++ more)) more = left_adds i (key_now o) (updates_of (h ++ more)) u place section e in
+      let a : Adds i (key_now o) (updates_of (h ++ more)) more = left_adds i (key_now o) (updates_of (h ++ more)) u place (section_of u).count in
       let since = since_later (record { scripts = k.places; slots = k.slots }) c o.op h more t.marks a.mine a.updates a.own a.keyed a.waits t.since in
       let base : WasExplained (Explains (record { scripts = k.places; slots = k.slots })) c o.op told t.marks h =
       said_explains (record { scripts = k.places; slots = k.slots }) c o.op h t.marks Old section.from (Some value) t.known.0 (late_in (length (updates_of t.seen)) v.section section e t.known.2) w (λ d is. old_explained (record { scripts = k.places; slots = k.slots }) o.op d value put is) in
@@ -478,33 +475,33 @@ module _ (k : Shape) (m : Memory) (vs : List View) (h : List Mark) (i : ℕ) (o 
         let is = answers_are_said k m vs h i o v (at.Store (update.Leaf spot) front) inv there f in
         let put = (f.point).5 in
         let a : Act = act_at o (at.Store (update.Leaf spot) front) in
-        let n : ℕ = m (field_of o.place a) in
-        let section : Option Section = (view_after (noted_act o v a n) h n a).section in
+        let n : ℕ = said_by (access_of o.place a) (m (field_of o.place a)) in
+        let section : Option Section = (view_after (noted v a n) h n a).section in
         subst (λ op. Tells (record { scripts = k.places; slots = k.slots }) i script (after o n (at.Store (update.Leaf spot) front)) section (h ++ Done (record { caller = v.allowance.place; op = op }) ∷ [])) (sym (put_is o.op put))
         (stores (update.Leaf spot) front t is.0 [] refl refl ((front + 2) / 2) New refl (new_confirms o.op (map_of (updates_of h)) put) (after o n (at.Store (update.Leaf spot) front)) refl refl refl section)
     store_turn (update.Value s old) front f t =
         let is = answers_are_said k m vs h i o v (at.Store (update.Value s old) front) inv there f in
         let set = ((f.point).1).3 in
         let a : Act = act_at o (at.Store (update.Value s old) front) in
-        let n : ℕ = m (field_of o.place a) in
-        let section : Option Section = (view_after (noted_act o v a n) h n a).section in
+        let n : ℕ = said_by (access_of o.place a) (m (field_of o.place a)) in
+        let section : Option Section = (view_after (noted v a n) h n a).section in
         subst (λ op. Tells (record { scripts = k.places; slots = k.slots }) i script (after o n (at.Store (update.Value s old) front)) section (h ++ Done (record { caller = v.allowance.place; op = op }) ∷ [])) (sym (set_is o.op set))
         (stores (update.Value s old) front t is.0 [] refl refl ((front + 2) / 2) (Was old) refl (was_confirms o.op (map_of (updates_of h)) old set is.1) (after o n (at.Store (update.Value s old) front)) refl refl refl section)
     store_turn (update.Bypass d child) front f t =
         let is = answers_are_said k m vs h i o v (at.Store (update.Bypass d child) front) inv there f in
         let del = ((f.point).1).0 in
         let a : Act = act_at o (at.Store (update.Bypass d child) front) in
-        let n : ℕ = m (field_of o.place a) in
-        let section : Option Section = (view_after (noted_act o v a n) h n a).section in
+        let n : ℕ = said_by (access_of o.place a) (m (field_of o.place a)) in
+        let section : Option Section = (view_after (noted v a n) h n a).section in
         subst (λ op. Tells (record { scripts = k.places; slots = k.slots }) i script (after o n (at.Store (update.Bypass d child) front)) section (h ++ Done (record { caller = v.allowance.place; op = op }) ∷ (Unlinked d.node ∷ []))) (sym (del_is o.op del))
         (stores (update.Bypass d child) front t is.0 (Unlinked d.node ∷ []) refl refl ((front + 2) / 2) Gone refl (gone_confirms o.op (map_of (updates_of h)) del) (after o n (at.Store (update.Bypass d child) front)) refl refl refl section)
     store_turn (update.Copy d u next_key copy) front f t =
         let is = answers_are_said k m vs h i o v (at.Store (update.Copy d u next_key copy) front) inv there f in
         let del = (((f.point).0).1).0 in
         let a : Act = act_at o (at.Store (update.Copy d u next_key copy) front) in
-        let n : ℕ = m (field_of o.place a) in
-        let section : Option Section = (view_after (noted_act o v a n) h n a).section in
-        let needs = needs_are_given k h o v m n (at.Store (update.Copy d u next_key copy) front) eer places told f in
+        let n : ℕ = said_by (access_of o.place a) (m (field_of o.place a)) in
+        let section : Option Section = (view_after (noted v a n) h n a).section in
+        let needs = needs_are_given k h o v m n (at.Store (update.Copy d u next_key copy) front) (λ _. eer) places told f in
         let next : IsNextKey (map_of (updates_of h)) (key_now o) next_key = subst (λ key. IsNextKey (map_of (updates_of h)) key next_key) needs.7 (copy_next k m vs h i v inv there works needs.0 needs.1 needs.2 d.parent d.side d.node copy u.slot u.parent needs.3 needs.4 next_key needs.5 needs.6) in
         subst (λ op. Tells (record { scripts = k.places; slots = k.slots }) i script (after o n (at.Store (update.Copy d u next_key copy) front)) section (h ++ Done (record { caller = v.allowance.place; op = op }) ∷ (Unlinked d.node ∷ []))) (sym (del_is o.op del))
         (moves_to (update.Copy d u next_key copy) front t is.0 (Unlinked d.node ∷ []) refl refl ((front + 2) / 2) next_key refl (gone_confirms o.op (map_of (updates_of h)) del) (sym (del_is o.op del)) next (after o n (at.Store (update.Copy d u next_key copy) front)) refl refl refl section)
@@ -512,28 +509,28 @@ module _ (k : Shape) (m : Memory) (vs : List View) (h : List Mark) (i : ℕ) (o 
     leave_turn : (next : Then) → Fits o (at.Leave next) v → Before (at.Leave next) → After (at.Leave next)
     leave_turn then.Absent f t =
         let is = answers_are_said k m vs h i o v (at.Leave then.Absent) inv there f in
-        let n : ℕ = m (Stamp o.place) in
+        let n : ℕ = idle in
         said_answers (at.Leave then.Absent) t refl refl is.0 is.1 o refl _ Absent refl None is.2 (λ d none. absent_explained (record { scripts = k.places; slots = k.slots }) o.op d ((f.point).1).0 none) n
     leave_turn (then.Value value) f t =
         let is = answers_are_said k m vs h i o v (at.Leave (then.Value value)) inv there f in
-        let n : ℕ = m (Stamp o.place) in
+        let n : ℕ = idle in
         said_answers (at.Leave (then.Value value)) t refl refl is.0 is.1 o refl _ (Val value) refl (Some value) is.2
         (λ d e. subst (λ op. Explains (record { scripts = k.places; slots = k.slots }) d op (Val value)) (sym ((f.point).1).0) e) n
     leave_turn then.Old f t =
         let is = answers_are_said k m vs h i o v (at.Leave then.Old) inv there f in
         let put = ((f.point).1).0 in
-        let n : ℕ = m (Stamp o.place) in
+        let n : ℕ = idle in
         either_tells (record { scripts = k.places; slots = k.slots }) i script _ _ (has_slot o.hand) _ _ (λ e. keeps_present t is.0 is.1 is.2.0 is.2.1 put _ n)
         (λ e. said_answers (at.Leave then.Old) t refl refl is.0 is.1 o refl _ Old refl (Some is.2.0) is.2.1 (λ d e. old_explained (record { scripts = k.places; slots = k.slots }) o.op d is.2.0 put e) n)
     leave_turn (then.Link spot) f t =
         let i' = ((f.point).1).1 in
-        leaves (then.Link spot) t i'.0 i'.1 (go o (cond (has_slot o.hand) (at.LeafLock spot) (taking o (Leaf spot)))) refl (by (has_slot o.hand)).0 (by (has_slot o.hand)).1 _ (m (Stamp o.place))
+        leaves (then.Link spot) t i'.0 i'.1 (go o (cond (has_slot o.hand) (at.LeafLock spot) (taking o (Leaf spot)))) refl (by (has_slot o.hand)).0 (by (has_slot o.hand)).1 _ idle
       where
         by : (b : Bool) → (is_finished (cond b (at.LeafLock spot) (taking o (Leaf spot))) ≡ false) × (phase (cond b (at.LeafLock spot) (taking o (Leaf spot))) ≡ outside)
         by true = (refl, refl)
         by false = (refl, refl)
-    leave_turn (then.Replace s generation) f t = let i' = (((f.point).1).1).2 in leaves (then.Replace s generation) t i'.0 i'.1 (go o (at.SetLock s generation)) refl refl refl _ (m (Stamp o.place))
-    leave_turn (then.Delete target) f t = let i' = ((f.point).1).1 in leaves (then.Delete target) t i'.0 i'.1 (go o (at.TargetLock target 0)) refl refl refl _ (m (Stamp o.place))
+    leave_turn (then.Replace s generation) f t = let i' = (((f.point).1).1).2 in leaves (then.Replace s generation) t i'.0 i'.1 (go o (at.SetLock s generation)) refl refl refl _ idle
+    leave_turn (then.Delete target) f t = let i' = ((f.point).1).1 in leaves (then.Delete target) t i'.0 i'.1 (go o (at.TargetLock target 0)) refl refl refl _ idle
 
     -- one step at any point
     pub turn : (stage : Stage) → is_finished stage ≡ false → Fits o stage v → Before stage → After stage
@@ -543,16 +540,16 @@ module _ (k : Shape) (m : Memory) (vs : List View) (h : List Mark) (i : ℕ) (o 
     turn (at.EnterStamp clock) going f t = enters clock t f
     turn (at.AtLink s b) going f t =
         let n : ℕ = m (Link s b) in
-        loads (at.AtLink s b) t refl (Link s b) (act_at o (at.AtLink s b)) n (go o (cond (n == 0) (ended o.op s b) (at.AtKey n s b))) (stage_next (go o (at.AtLink s b)) inside o (n == 0) _ _ (ended_next (go o (at.AtLink s b)) o o.op s b refl) (refl, refl, inl refl))
-    turn (at.AtKey s p b) going f t = let n : ℕ = m (Key s) in loads (at.AtKey s p b) t refl (Key s) (act_at o (at.AtKey s p b)) n (go o (key_read o s p b (step_side (key_now o) n))) (by (step_side (key_now o) n))
+        loads (at.AtLink s b) t refl (f.point).1.0 (f.point).1.1 (Link s b) (act_at o (at.AtLink s b)) n (go o (cond (n == 0) (ended o.op s b) (at.AtKey n s b))) (stage_next (go o (at.AtLink s b)) inside o (n == 0) _ _ (ended_next (go o (at.AtLink s b)) o o.op s b refl) (refl, refl, inl refl))
+    turn (at.AtKey s p b) going f t = let n : ℕ = m (Key s) in loads (at.AtKey s p b) t refl (f.point).1.0 (f.point).1.1 (Key s) (act_at o (at.AtKey s p b)) n (go o (key_read o s p b (step_side (key_now o) n))) (by (step_side (key_now o) n))
       where
         by : (x : Option Side) → Next (go o (at.AtKey s p b)) inside (go o (key_read o s p b x))
         by None = found_next (go o (at.AtKey s p b)) o o.op s p b refl
         by (Some c) = (refl, refl, inl refl)
     turn (at.Leave next) going f t = leave_turn next f t
-    turn (at.Value s) going f t = loads (at.Value s) t refl (Value s) (act_at o (at.Value s)) (m (Value s)) _ (refl, refl, inl refl)
-    turn (at.SpotTag s b) going f t = loads (at.SpotTag s b) t refl (Tag s b) (act_at o (at.SpotTag s b)) (m (Tag s b)) _ (refl, refl, inl refl)
-    turn (at.SpotLife s b tag) going f t = loads (at.SpotLife s b tag) t refl (Life s) (act_at o (at.SpotLife s b tag)) (m (Life s)) _ (refl, refl, inl refl)
+    turn (at.Value s) going f t = loads (at.Value s) t refl (f.point.2).2.0 (f.point.2).2.1 (Value s) (act_at o (at.Value s)) (m (Value s)) _ (refl, refl, inl refl)
+    turn (at.SpotTag s b) going f t = loads (at.SpotTag s b) t refl (f.point).2.0 (f.point).2.1 (Tag s b) (act_at o (at.SpotTag s b)) (m (Tag s b)) _ (refl, refl, inl refl)
+    turn (at.SpotLife s b tag) going f t = loads (at.SpotLife s b tag) t refl (f.point).2.0 (f.point).2.1 (Life s) (act_at o (at.SpotLife s b tag)) (m (Life s)) _ (refl, refl, inl refl)
     turn (at.LeafField spot j) going f t = quiet (at.LeafField spot j) t refl (λ e. absurd (cc)) _ _ (stage_next (go o (at.LeafField spot j)) outside o (j == 3) _ _ (refl, refl, inl refl) (refl, refl, inl refl))
     turn (at.LeafLock spot) going f t = quiet (at.LeafLock spot) t refl (λ e. absurd (cc)) _ _ (lock_next (go o (at.LeafLock spot)) o spot.slot (m (Lock spot.slot)) (at.LeafLife spot) refl refl refl)
     turn (at.LeafLife spot) going f t = quiet (at.LeafLife spot) t refl (λ e. absurd (cc)) _ _ (refl, refl, inl refl)
@@ -574,14 +571,16 @@ module _ (k : Shape) (m : Memory) (vs : List View) (h : List Mark) (i : ℕ) (o 
     turn at.Count going f t = present_answers t (record o { free = m Free + 1 }) refl _
     turn (at.Begin waits) going f t = begins waits t (m Clock) v.counts.waits _
     turn (at.LookKey waits clock p) going f t =
-        looks waits (at.LookKey waits clock p) t refl refl _ (look_adds i (key_now o) _ (noted_act o v (act_at o (at.LookKey waits clock p)) (m (Announced p))) place (Announced p) (p + 1 == o.places) (m (Announced p))) _ _
+        looks waits (at.LookKey waits clock p) t refl refl _ (look_adds i (key_now o) _ (noted v (act_at o (at.LookKey waits clock p)) (m (Announced p))) place (wait_of v) (Announced p) (p + 1 == o.places) (m (Announced p))) _ _
         (either_next (go o (at.LookKey waits clock p)) (waiting waits) (is_reader o waits (m (Announced p))) _ _ (refl, refl, inl refl) (place_next (go o (at.LookKey waits clock p)) o waits clock p refl))
     turn (at.LookStamp waits clock p key) going f t =
-        looks waits (at.LookStamp waits clock p key) t refl refl _ (look_adds i (key_now o) _ (noted_act o v (act_at o (at.LookStamp waits clock p key)) (m (Stamp p))) place (Stamp p) (p + 1 == o.places) (m (Stamp p))) _ _
+        looks waits (at.LookStamp waits clock p key) t refl refl _ (look_adds i (key_now o) _ (noted v (act_at o (at.LookStamp waits clock p key)) (m (Stamp p))) place (wait_of v) (Stamp p) (p + 1 == o.places) (m (Stamp p))) _ _
         (either_next (go o (at.LookStamp waits clock p key)) (waiting waits) ((m (Stamp p) == idle) || nat_lt clock (m (Stamp p))) _ _ (place_next (go o (at.LookStamp waits clock p key)) o waits clock p refl) (refl, refl, inl refl))
     turn (at.OldAge aim) going f t = quiet (at.OldAge aim) t refl (aim_outside aim) _ _ (refl, refl, inl refl)
     turn (at.OldRaise aim life) going f t =
-        calm (at.OldRaise aim life) t refl (aim_outside aim) _ (either_adds i (key_now o) _ (noted_act o v (act_at o (at.OldRaise aim life)) (m (field_of o.place (act_at o (at.OldRaise aim life))))) place (m (field_of o.place (act_at o (at.OldRaise aim life)))) (has_slot o.spare) _ _ (no_marks i (key_now o) _ _ refl) (no_marks i (key_now o) _ _ refl)) _ _
+        let a : Act = act_at o (at.OldRaise aim life) in
+        let n : ℕ = said_by (access_of o.place a) (m (field_of o.place a)) in
+        calm (at.OldRaise aim life) t refl (aim_outside aim) _ (either_adds i (key_now o) _ (noted v a n) place n (has_slot o.spare) _ _ (no_marks i (key_now o) _ _ refl) (no_marks i (key_now o) _ _ refl)) _ _
         (either_next (go o (at.OldRaise aim life)) (aiming aim) (has_slot o.spare) _ _ (refl, refl, inl refl) (giving_next (go o (at.OldRaise aim life)) (record o { spare = Some (first_or_root o.retired); retired = but_first o.retired }) aim refl))
     turn (at.OldFree aim) going f t = calm (at.OldFree aim) t refl (aim_outside aim) _ (no_marks i (key_now o) _ _ refl) _ _ (refl, refl, inl refl)
     turn (at.OldCount aim) going f t = quiet (at.OldCount aim) t refl (aim_outside aim) _ _ (giving_next (go o (at.OldCount aim)) (record o { free = m Free + 1 }) aim refl)
@@ -592,24 +591,24 @@ module _ (k : Shape) (m : Memory) (vs : List View) (h : List Mark) (i : ℕ) (o 
     turn (at.Even (update.Bypass d child) front) going f t = quiet (at.Even (update.Bypass d child) front) t refl (λ e. absurd (cc)) _ _ (stage_next (go o (at.Even (update.Bypass d child) front)) (made ((front + 2) / 2) Gone) (record o { front = front + 2 }) (child == 0) _ _ (refl, refl, inl refl) (refl, refl, inl refl))
     turn (at.Even (update.Copy d u next_key copy) front) going f t = quiet (at.Even (update.Copy d u next_key copy) front) t refl (λ e. absurd (cc)) _ _ (refl, refl, inl refl)
     turn (at.Unlock l) going f t = unlocks l t _
-    turn (at.SetLife s) going f t = loads (at.SetLife s) t refl (Life s) (act_at o (at.SetLife s)) (m (Life s)) _ (refl, refl, inl refl)
+    turn (at.SetLife s) going f t = loads (at.SetLife s) t refl (f.point.2).2.0 (f.point.2).2.1 (Life s) (act_at o (at.SetLife s)) (m (Life s)) _ (refl, refl, inl refl)
     turn (at.SetLock s generation) going f t = quiet (at.SetLock s generation) t refl (λ e. absurd (cc)) _ _ (lock_next (go o (at.SetLock s generation)) o s (m (Lock s)) (at.SetCheck s generation) refl refl refl)
     turn (at.SetCheck s generation) going f t = let n : ℕ = m (Life s) in quiet (at.SetCheck s generation) t refl (λ e. absurd (cc)) (go o (cond (n == 2 * generation) (at.SetValue s) (at.Unlock last.Again))) _ (stage_next (go o (at.SetCheck s generation)) outside o (n == 2 * generation) _ _ (refl, refl, inl refl) (refl, refl, inr (refl, refl)))
     turn (at.SetValue s) going f t = quiet (at.SetValue s) t refl (λ e. absurd (cc)) _ _ (refl, refl, inl refl)
-    turn (at.ParentLife p b d) going f t = loads (at.ParentLife p b d) t refl (Life p) (act_at o (at.ParentLife p b d)) (m (Life p)) _ (refl, refl, inl refl)
-    turn (at.NodeLife d) going f t = loads (at.NodeLife d) t refl (Life d.node) (act_at o (at.NodeLife d)) (m (Life d.node)) _ (refl, refl, inl refl)
-    turn (at.NodeLeft d) going f t = loads (at.NodeLeft d) t refl (Link d.node Left) (act_at o (at.NodeLeft d)) (m (Link d.node Left)) _ (refl, refl, inl refl)
-    turn (at.NodeRight d) going f t = let n : ℕ = m (Link d.node Right) in loads (at.NodeRight d) t refl (Link d.node Right) (act_at o (at.NodeRight d)) n (go o (past_right (record d { right = n }))) (right_next (go o (at.NodeRight d)) o (record d { right = n }) refl)
+    turn (at.ParentLife p b d) going f t = loads (at.ParentLife p b d) t refl (f.point).2.0 (f.point).2.1 (Life p) (act_at o (at.ParentLife p b d)) (m (Life p)) _ (refl, refl, inl refl)
+    turn (at.NodeLife d) going f t = loads (at.NodeLife d) t refl (f.point).2.0 (f.point).2.1 (Life d.node) (act_at o (at.NodeLife d)) (m (Life d.node)) _ (refl, refl, inl refl)
+    turn (at.NodeLeft d) going f t = loads (at.NodeLeft d) t refl (f.point).2.0 (f.point).2.1 (Link d.node Left) (act_at o (at.NodeLeft d)) (m (Link d.node Left)) _ (refl, refl, inl refl)
+    turn (at.NodeRight d) going f t = let n : ℕ = m (Link d.node Right) in loads (at.NodeRight d) t refl (f.point).2.0 (f.point).2.1 (Link d.node Right) (act_at o (at.NodeRight d)) n (go o (past_right (record d { right = n }))) (right_next (go o (at.NodeRight d)) o (record d { right = n }) refl)
     turn (at.SuccessorLeft d u) going f t =
-        let n : ℕ = m (Link u.slot Left) in loads (at.SuccessorLeft d u) t refl (Link u.slot Left) (act_at o (at.SuccessorLeft d u)) n (go o (past_left d u n)) (left_next (go o (at.SuccessorLeft d u)) o d u n refl)
-    turn (at.SuccessorParentLife d u) going f t = loads (at.SuccessorParentLife d u) t refl (Life u.parent) (act_at o (at.SuccessorParentLife d u)) (m (Life u.parent)) _ (refl, refl, inl refl)
-    turn (at.SuccessorLife d u) going f t = loads (at.SuccessorLife d u) t refl (Life u.slot) (act_at o (at.SuccessorLife d u)) (m (Life u.slot)) _ (refl, refl, inl refl)
+        let n : ℕ = m (Link u.slot Left) in loads (at.SuccessorLeft d u) t refl (f.point).2.0 (f.point).2.1 (Link u.slot Left) (act_at o (at.SuccessorLeft d u)) n (go o (past_left d u n)) (left_next (go o (at.SuccessorLeft d u)) o d u n refl)
+    turn (at.SuccessorParentLife d u) going f t = loads (at.SuccessorParentLife d u) t refl (f.point).2.0 (f.point).2.1 (Life u.parent) (act_at o (at.SuccessorParentLife d u)) (m (Life u.parent)) _ (refl, refl, inl refl)
+    turn (at.SuccessorLife d u) going f t = loads (at.SuccessorLife d u) t refl (f.point).2.0 (f.point).2.1 (Life u.slot) (act_at o (at.SuccessorLife d u)) (m (Life u.slot)) _ (refl, refl, inl refl)
     turn (at.TargetLock target j) going f t = quiet (at.TargetLock target j) t refl (λ e. absurd (cc)) _ _ (lock_next (go o (at.TargetLock target j)) o (target_lock target j) (m (Lock (target_lock target j))) _ refl (by (j + 1 == target_locks target)).0 (by (j + 1 == target_locks target)).1)
       where
         by : (b : Bool) → let st : Stage = cond b (at.TargetLoad target 0 nothing_found) (at.TargetLock target (j + 1)) in (is_finished st ≡ false) × (phase st ≡ outside)
         by true = (refl, refl)
         by false = (refl, refl)
-    turn (at.TargetLoad target j found) going f t = quiet (at.TargetLoad target j found) t refl (λ e. absurd (cc)) _ _ (target_next (go o (at.TargetLoad target j found)) o target j (with_found found j (m (target_field target j))) refl)
+    turn (at.TargetLoad target j found) going f t = quiet (at.TargetLoad target j found) t refl (λ e. absurd (cc)) _ _ (target_next (go o (at.TargetLoad target j found)) o target j (with_found found j (m (in_slot (target_slot target j) (target_part target j)))) refl)
     turn (at.Mark d child) going f t = quiet (at.Mark d child) t refl (λ e. absurd (cc)) _ _ (refl, refl, inl refl)
     turn (at.EmptyTag number s b) going f t = quiet (at.EmptyTag number s b) t refl (λ e. absurd (cc)) _ _ (refl, refl, inl refl)
     turn (at.EmptyRaise number s b tag) going f t = quiet (at.EmptyRaise number s b tag) t refl (λ e. absurd (cc)) _ _ (refl, refl, inl refl)
@@ -623,7 +622,7 @@ module _ (k : Shape) (m : Memory) (vs : List View) (h : List Mark) (i : ℕ) (o 
     turn (at.OldRight move) going f t = quiet (at.OldRight move) t refl (λ e. absurd (cc)) _ _ (refl, refl, inl refl)
     turn (at.Unlink move child) going f t =
         let a : Act = act_at o (at.Unlink move child) in
-        let n : ℕ = m (field_of o.place a) in
+        let n : ℕ = said_by (access_of o.place a) (m (field_of o.place a)) in
         let o' : Own = record o { retired = o.retired ++ move.successor.slot ∷ []; locks = move_locks move } in
-        calm (at.Unlink move child) t refl (λ e. absurd (cc)) _ (either_adds i (key_now o) _ (noted_act o v a n) place n (move.successor.parent == move.node.node) _ _ (no_marks i (key_now o) _ _ refl) (no_marks i (key_now o) _ _ refl)) _ _
+        calm (at.Unlink move child) t refl (λ e. absurd (cc)) _ (either_adds i (key_now o) _ (noted v a n) place n (move.successor.parent == move.node.node) _ _ (no_marks i (key_now o) _ _ refl) (no_marks i (key_now o) _ _ refl)) _ _
         (stage_next (go o (at.Unlink move child)) (made move.number Gone) o' (child == 0) _ _ (stage_next (go o (at.Unlink move child)) (made move.number Gone) o' (move.successor.parent == move.node.node) _ _ (refl, refl, inl refl) (refl, refl, inl refl)) (refl, refl, inl refl))

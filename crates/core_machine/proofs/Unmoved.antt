@@ -12,10 +12,10 @@ use Rattle.core_points.specs.Programs.{act_at}
 use Rattle.core_machine.specs.declared.caller.Caller.{Caller}
 use Rattle.core_machine.specs.declared.machine.Stepped.{Stepped}
 use Rattle.core_machine.specs.declared.machine.Stepped.TheVariants.{Blocked, Finished}
-use Rattle.core_machine.specs.Accesses.{left_by}
+use Rattle.core_acts.specs.Acts.{access_of, left_by, said_by}
 use Rattle.core_machine.specs.Stepped.{at_lock, blocked}
-use Rattle.core_machine.specs.Stored.{access_of, own_of}
-use Rattle.core_machine.specs.Stepping.{found_now, index_now}
+use Rattle.core_machine.specs.Stored.{own_of}
+use Rattle.core_machine.specs.Stepping.{found_now, told_now, index_now}
 use Rattle.core_machine.specs.Machines.{StepsBy, stepped_of}
 use Rattle.core_machine.proofs.Owning.{at_of}
 
@@ -26,11 +26,11 @@ taken_stays false slot place n why e = refl
 lock_stays : (slot place n : ℕ) (why : Why) → at_lock slot n ≡ Some why → cond (n == 0) place n ≡ n
 lock_stays slot place n why e = taken_stays (n == 0) slot place n why e
 
-commit_stays : (b odd : Bool) (n : ℕ) (why : Why) → cond (not b && odd) (Some (Front n)) None ≡ Some why → cond b (n + 1) n ≡ n
-commit_stays true odd n why e = cc
-commit_stays false odd n why e = refl
+commit_stays : (b odd : Bool) (x n : ℕ) (why : Why) → cond (not b && odd) (Some (Front n)) None ≡ Some why → cond b x n ≡ n
+commit_stays true odd x n why e = cc
+commit_stays false odd x n why e = refl
 
-stays_at : (o : Own) (n : ℕ) (stage : Stage) (why : Why) → blocked o n stage ≡ Some why → left_by (access_of o.place (act_at o stage)) n ≡ n
+stays_at : (o : Own) (n : ℕ) (stage : Stage) (why : Why) → blocked o (said_by (access_of o.place (act_at o stage)) n) stage ≡ Some why → left_by (access_of o.place (act_at o stage)) n ≡ n
 stays_at o n at.Finished why e = cc
 stays_at o n at.EnterClock why e = cc
 stays_at o n (at.EnterKey clock) why e = cc
@@ -60,7 +60,7 @@ stays_at o n (at.OldAge aim) why e = cc
 stays_at o n (at.OldRaise aim life) why e = cc
 stays_at o n (at.OldFree aim) why e = cc
 stays_at o n (at.OldCount aim) why e = cc
-stays_at o n (at.Commit update expected) why e = commit_stays (n == expected) (n % 2 == 1) n why e
+stays_at o n (at.Commit update expected) why e = commit_stays (n == expected) (n % 2 == 1) (expected + 1) n why e
 stays_at o n (at.Store update front) why e = cc
 stays_at o n (at.Even update front) why e = cc
 stays_at o n (at.Unlock last) why e = cc
@@ -101,11 +101,11 @@ is_why (Some w) why e = let same : w ≡ why = cc in ap Some same
 module _ (words : List ℕ) (callers : List Caller) (updates : List Update) (i : ℕ) (c : Caller) (words' : List ℕ) (callers' : List Caller) (updates' : List Update) (result : Stepped) where
   pub unmoved : (b : Bool) → StepsBy b words callers updates i c words' callers' updates' result → result ≡ Finished → at_of words' callers' updates' ≡ at_of words callers updates
   unmoved true s e = λ j. at_of (s.words_are j) (s.callers_are j) (s.updates_are j)
-  unmoved false s e = no_end (blocked (own_of c) (found_now words (own_of c)) c.stage) (sym s.answer ∙ e)
+  unmoved false s e = no_end (blocked (own_of c) (told_now words (own_of c)) c.stage) (sym s.answer ∙ e)
 
   pub words_stay : (b : Bool) → StepsBy b words callers updates i c words' callers' updates' result → (why : Why) → result ≡ Blocked why → words' ≡ words
   words_stay true s why e = s.words_are
   words_stay false s why e =
       let o : Own = own_of c in
       let n : ℕ = found_now words o in
-      s.words_are ∙ ap (set words (index_now o)) (stays_at o n c.stage why (is_why (blocked o n c.stage) why (sym s.answer ∙ e))) ∙ set-get_or words (index_now o) 0
+      s.words_are ∙ ap (set words (index_now o)) (stays_at o n c.stage why (is_why (blocked o (told_now words o) c.stage) why (sym s.answer ∙ e))) ∙ set-get_or words (index_now o) 0

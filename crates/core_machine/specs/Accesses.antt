@@ -1,18 +1,23 @@
--- What an access leaves in its word.
+-- What an access of the machine does to its word.
 -- Source: docs/TREE.md, "The machine".
-use Rattle.std.specs.Prelude.{ℕ, ◌+◌, ◌^◌, ◌<◌, ◌==◌, if◌then◌else◌}
+use Rattle.std.specs.Prelude.{ℕ, ◌+◌, ◌^◌, ◌<◌}
+use Rattle.core_state.specs.declared.words.Field.{Field}
+use Rattle.core_acts.specs.Acts as acts
+use Rattle.core_acts.specs.Acts.{loads, stores, exchanges, adds}
 use Rattle.core_machine.specs.declared.access.Access.{Access}
-use Rattle.core_machine.specs.declared.access.Access.TheVariants.{Load, Store, Exchange, Add, AddAt}
+use Rattle.core_machine.specs.declared.access.Access.TheVariants.{Load, Store, Exchange, Add}
 
-abbrev pub left_by : Access → ℕ → ℕ
-left_by Load n = n
-left_by (Store number) n = number
-left_by (Exchange expected number) n = if n == expected then number else n
-left_by Add n = n + 1
-left_by (AddAt expected) n = if n == expected then n + 1 else n
+abbrev pub does : Access → acts.Access
+does Load = loads
+does (Store number) = stores number
+does (Exchange expected number) = exchanges expected number
+does Add = adds 1
+
+-- with its word
+abbrev pub done_to : Field × Access → Field × acts.Access
+done_to (field, access) = (field, does access)
 
 -- a word that is counted up stays a word
-abbrev pub MayRise : Access → ℕ → Type 0
-MayRise Add n = n + 1 < 2 ^ 64
-MayRise (AddAt expected) n = n + 1 < 2 ^ 64
+abbrev pub MayRise : acts.Access → ℕ → Type 0
+MayRise (adds x) n = n + x < 2 ^ 64
 MayRise _ n = Unit {0}

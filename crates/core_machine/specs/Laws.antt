@@ -14,11 +14,12 @@ use Rattle.core_state.specs.memory.Memory.{is_field}
 use Rattle.core_state.specs.steps.Steps.{Steps}
 use Rattle.core_state.specs.Invariant.{Invariant}
 use Rattle.core_frames.specs.Laws.{KeepsPast}
+use Rattle.core_acts.specs.Acts.{noted}
 use Rattle.core_points.specs.Acts.{Act, field_of, kind_of, left_of, marks_of, view_after}
 use Rattle.core_points.specs.Callers.{Own}
 use Rattle.core_points.specs.Programs.{act_at}
-use Rattle.core_points.specs.Laws.{is_finished, noted_act}
-use Rattle.core_machine.specs.Runs.{Core, core, history_of, moved, shape_of, step, steps, tolds_of}
+use Rattle.core_points.specs.Laws.{is_finished}
+use Rattle.core_machine.specs.Runs.{Core, core, found_in, told_in, history_of, moved, shape_of, step, steps, tolds_of}
 use Rattle.core_machine.specs.Draws.{AreDrawn, unfinished}
 use Rattle.core_machine.specs.Accounts.{AreToldSoFar}
 
@@ -45,8 +46,8 @@ CoresAreSound = (scripts : List (List Op)) (slots : ℕ) (callers : List ℕ) �
 pub record IsAllowed (k : Shape) (c : Core) (i : ℕ) (o : Own) (v : View) : Type 0 where
   pub field : is_field k (field_of o.place (act_at o o.stage)) ≡ true
   pub allowed :
-      let a : Act = act_at o o.stage in let n : ℕ = c.memory (field_of o.place a) in let w : View = noted_act o v a n in
-      Steps k c.marks v (kind_of a) (field_of o.place a) n (left_of o.place a n) (view_after w c.marks n a) (marks_of w n a)
+      let a : Act = act_at o o.stage in let n : ℕ = told_in c o in let w : View = noted v a n in
+      Steps k c.marks v (kind_of a) (field_of o.place a) (found_in c o) (left_of o.place a (found_in c o)) (view_after w c.marks n a) (marks_of w n a)
   pub past : KeepsPast c.memory c.marks (step c i).memory
   pub makes : step c i ≡ moved c i o v
 

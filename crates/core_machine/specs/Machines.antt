@@ -14,14 +14,14 @@ use Rattle.core_points.specs.Laws.{is_finished}
 use Rattle.core_machine.specs.declared.caller.Caller.{Caller}
 use Rattle.core_machine.specs.declared.machine.Stepped.{Stepped}
 use Rattle.core_machine.specs.declared.machine.Stepped.TheVariants.{Moved, Blocked, Finished}
-use Rattle.core_machine.specs.Accesses.{left_by}
+use Rattle.core_acts.specs.Acts.{access_of, left_by}
 use Rattle.core_machine.specs.Runs.{Core, core, history_of, shape_of}
 use Rattle.core_machine.specs.Draws.{AreDrawn}
 use Rattle.core_machine.specs.Laws.{IsMachine}
 use Rattle.core_machine.specs.Stepped.{Answer, goes_on, is_blocked, has_ended, blocked}
-use Rattle.core_machine.specs.Stored.{HasRoom, access_of, own_of}
+use Rattle.core_machine.specs.Stored.{HasRoom, own_of}
 use Rattle.core_machine.specs.Standing.{standing_of, stands_after}
-use Rattle.core_machine.specs.Stepping.{CanStep, found_now, index_now, update_now}
+use Rattle.core_machine.specs.Stepping.{CanStep, found_now, told_now, index_now, update_now}
 use Rattle.core_machine.specs.StepLaws.{AreWordsOf}
 
 -- the words, what each caller keeps, the updates, and where the search of each caller's section stands
@@ -79,11 +79,11 @@ pub record HasMoved (words : List ℕ) (callers : List Caller) (updates : List U
   pub words_are : words' ≡ set words (index_now (own_of c)) (left_by (access_of (own_of c).place (act_at (own_of c) c.stage)) (found_now words (own_of c)))
   pub now : Caller
   pub callers_are : callers' ≡ slice_set callers i now
-  pub own : own_of now ≡ after (own_of c) (found_now words (own_of c)) c.stage
+  pub own : own_of now ≡ after (own_of c) (told_now words (own_of c)) c.stage
   pub room : HasRoom now
-  pub stands : now.stands ≡ stands_after c.stands (found_now words (own_of c)) c.stage
+  pub stands : now.stands ≡ stands_after c.stands (told_now words (own_of c)) c.stage
   pub updates_are : updates' ≡ updates ++ update_now (own_of c)
-  pub answer : result ≡ stepped_of (blocked (own_of c) (found_now words (own_of c)) c.stage)
+  pub answer : result ≡ stepped_of (blocked (own_of c) (told_now words (own_of c)) c.stage)
 
 pub record IsUnmoved (words : List ℕ) (callers : List Caller) (updates : List Update) (words' : List ℕ) (callers' : List Caller) (updates' : List Update) (result : Stepped) : Type 0 where
   pub words_are : words' ≡ words

@@ -18,10 +18,11 @@ use Rattle.core_state.specs.memory.Memory.{Memory, memory_of, stored}
 use Rattle.seat_table.specs.Fresh.{first_words}
 use Rattle.core_laws.specs.Whole.{place_views}
 use Rattle.core_points.specs.declared.stage.Stage.TheVariants as at
+use Rattle.core_acts.specs.Acts.{access_of, said_by, noted}
 use Rattle.core_points.specs.Acts.{Act, field_of, left_of, view_after, marks_of}
 use Rattle.core_points.specs.Callers.{Own}
 use Rattle.core_points.specs.Programs.{act_at, after, begun_with}
-use Rattle.core_points.specs.Laws.{is_finished, noted_act}
+use Rattle.core_points.specs.Laws.{is_finished}
 
 -- the words, what each caller keeps, each caller's view, and the marks
 pub record Core : Type 0 where
@@ -37,15 +38,22 @@ tolds_of c = map (λ (o : Own). o.told) c.owns
 abbrev pub history_of : Core → List Update
 history_of c = updates_of c.marks
 
--- the core after the step of a caller's point: the act is made on its word, and the caller goes on by the number that it found
+-- the number that the step of a caller's point finds, and the one that it tells
+abbrev pub found_in : Core → Own → ℕ
+found_in c o = c.memory (field_of o.place (act_at o o.stage))
+
+abbrev pub told_in : Core → Own → ℕ
+told_in c o = said_by (access_of o.place (act_at o o.stage)) (found_in c o)
+
+-- the core after the step of a caller's point: the act is made on its word, and the caller goes on by the number that it tells
 abbrev pub moved : Core → ℕ → Own → View → Core
 moved c i o v =
     let a : Act = act_at o o.stage in
     let field : Field = field_of o.place a in
-    let n : ℕ = c.memory field in
-    let w : View = noted_act o v a n in
+    let n : ℕ = told_in c o in
+    let w : View = noted v a n in
     record {
-      memory = stored c.memory field (left_of o.place a n);
+      memory = stored c.memory field (left_of o.place a (found_in c o));
       owns = set c.owns i (after o n o.stage);
       views = set c.views i (view_after w c.marks n a);
       marks = c.marks ++ marks_of w n a;

@@ -9,11 +9,10 @@ use Rattle.core_state.specs.memory.Memory.{memory_of, word_count}
 use Rattle.core_points.specs.Callers.{Own}
 use Rattle.core_points.specs.Programs.{act_at, after}
 use Rattle.core_points.specs.Laws.{is_finished}
-use Rattle.core_machine.specs.Accesses.{left_by}
+use Rattle.core_acts.specs.Acts.{access_of, left_by}
 use Rattle.core_machine.specs.Runs.{Core, core, history_of, shape_of}
 use Rattle.core_machine.specs.Laws.{IsMachine}
-use Rattle.core_machine.specs.Stored.{access_of}
-use Rattle.core_machine.specs.Stepping.{CanStep, found_now, index_now, update_now}
+use Rattle.core_machine.specs.Stepping.{CanStep, found_now, told_now, index_now, update_now}
 
 -- the words are the core's memory
 pub record AreWordsOf (k : Shape) (words : List ℕ) (c : Core) : Type 0 where
@@ -28,7 +27,7 @@ CallersCanStep = (scripts : List (List Op)) (slots : ℕ) (callers : List ℕ) (
 -- Such a step leaves the words, what the callers keep and the updates of the core after these callers and then this one.
 pub record IsStored (k : Shape) (words : List ℕ) (c next : Core) (i : ℕ) (o : Own) : Type 0 where
   pub words_are : AreWordsOf k (set words (index_now o) (left_by (access_of o.place (act_at o o.stage)) (found_now words o))) next
-  pub owns_are : next.owns ≡ set c.owns i (after o (found_now words o) o.stage)
+  pub owns_are : next.owns ≡ set c.owns i (after o (told_now words o) o.stage)
   pub updates_are : history_of next ≡ history_of c ++ update_now o
 
 abbrev pub StepsAreStored : Type 0

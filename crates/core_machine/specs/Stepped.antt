@@ -8,12 +8,10 @@ use Rattle.prcu_marks.specs.declared.mark.Why.TheVariants.{Reader, Lock, Front}
 use Rattle.core_state.specs.memory.Memory.{idle}
 use Rattle.core_points.specs.declared.stage.Stage.{Stage}
 use Rattle.core_points.specs.declared.stage.Stage.TheVariants as at
-use Rattle.core_points.specs.Acts.{field_of}
 use Rattle.core_points.specs.Callers.{Own, or_root}
 use Rattle.core_points.specs.DeletePlan.{target_lock}
-use Rattle.core_points.specs.Programs.{act_at}
 use Rattle.core_points.specs.Laws.{is_finished}
-use Rattle.core_machine.specs.Runs.{Core}
+use Rattle.core_machine.specs.Runs.{Core, told_in}
 
 -- a lock that was found taken
 abbrev pub at_lock : ℕ → ℕ → Option Why
@@ -41,7 +39,7 @@ answer_of None = goes_on
 answer_of (Some why) = is_blocked why
 
 abbrev pub own_answers : Core → Own → Answer
-own_answers c o = if is_finished o.stage then has_ended else answer_of (blocked o (c.memory (field_of o.place (act_at o o.stage))) o.stage)
+own_answers c o = if is_finished o.stage then has_ended else answer_of (blocked o (told_in c o) o.stage)
 
 abbrev pub answers : Core → ℕ → Answer
 answers c i = elim (get_elem? c.owns i) as (λ _. Answer) [ none ↦ has_ended | some o ↦ own_answers c o ]

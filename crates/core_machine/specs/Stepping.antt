@@ -8,11 +8,12 @@ use Rattle.core_state.specs.declared.words.Field.{Field}
 use Rattle.core_state.specs.memory.Memory.{is_field, word_of}
 use Rattle.core_points.specs.declared.stage.Stage.{Stage}
 use Rattle.core_points.specs.declared.stage.Stage.TheVariants as at
+use Rattle.core_acts.specs.Acts.{access_of, said_by}
 use Rattle.core_points.specs.Acts.{field_of}
 use Rattle.core_points.specs.Callers.{Own}
 use Rattle.core_points.specs.Programs.{act_at}
 use Rattle.core_machine.specs.Accesses.{MayRise}
-use Rattle.core_machine.specs.Stored.{HasSize, IsAble, MayStore, access_of}
+use Rattle.core_machine.specs.Stored.{HasSize, IsAble, MayStore}
 
 -- the field of the caller's step, and where its word lies among those of the first waiter
 abbrev pub field_now : Own → Field
@@ -27,6 +28,10 @@ index_now o = word_of (shape_for o.slots o.places) (field_now o)
 abbrev pub found_now : List ℕ → Own → ℕ
 found_now words o = slice_index words (index_now o)
 
+-- the number that the step tells: the one found, or stored where it is a store
+abbrev pub told_now : List ℕ → Own → ℕ
+told_now words o = said_by (access_of o.place (act_at o o.stage)) (found_now words o)
+
 -- What a step of the caller on these words needs, so that no index, sum or list passes its end.
 pub record CanStep (words : List ℕ) (o : Own) : Type 0 where
   pub size : HasSize o
@@ -34,7 +39,7 @@ pub record CanStep (words : List ℕ) (o : Own) : Type 0 where
   pub within : index_now o < length words
   pub stores : MayStore (act_at o o.stage)
   pub rises : MayRise (access_of o.place (act_at o o.stage)) (found_now words o)
-  pub able : IsAble o (found_now words o) o.stage
+  pub able : IsAble o (told_now words o) o.stage
 
 -- the update that the caller's step makes, if it makes one
 abbrev pub update_at : Own → Stage → List Update

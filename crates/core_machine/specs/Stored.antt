@@ -1,20 +1,20 @@
--- What the machine's values stand for: what a caller keeps, the access that an act makes, and what the next point asks of the numbers.
+-- What the machine's values stand for: what a caller keeps, and what the next point asks of the numbers.
 -- Source: docs/TREE.md, "The machine".
-use Rattle.std.specs.Prelude.{◌≢◌, ℕ, ◌+◌, ◌-◌, ◌^◌, ◌<◌, ◌≤◌, Bool, true, false, if◌then◌else◌, length, drop}
+use Rattle.std.specs.Prelude.{◌≡◌, ◌≢◌, ℕ, ◌+◌, ◌%◌, ◌^◌, ◌<◌, ◌≤◌, Bool, true, false, if◌then◌else◌, length, drop}
 use Rattle.core_state.specs.declared.words.Field.{Field}
-use Rattle.core_state.specs.memory.Memory.{idle}
 use Rattle.core_points.specs.declared.stage.Update.{Update}
 use Rattle.core_points.specs.declared.stage.Update.TheVariants as update
 use Rattle.core_points.specs.declared.stage.Waits.{Waits}
 use Rattle.core_points.specs.declared.stage.Waits.TheVariants.{Reuse, Move}
 use Rattle.core_points.specs.declared.stage.Stage.{Stage}
 use Rattle.core_points.specs.declared.stage.Stage.TheVariants as at
-use Rattle.core_points.specs.Acts.{Act, store_key, store_stamp, store_idle, begin, reserve, seize, fill, raise_hand, raise_spare, raise_old, free_hand, free_old, count_free, lock, unlock, commit, end_commit, link_leaf, bypass, mark, raise_tag, link_copy, unlink_left, unlink_right, store_value, field_of}
+use Rattle.core_acts.specs.Acts as acts
+use Rattle.core_acts.specs.Acts.{access_of}
+use Rattle.core_acts.specs.declared.act.Act.TheVariants.{RaiseInHand, RaiseToSpare, RaiseRetired, OpenCommit, CloseCommit, Mark as MarkNode, RaiseTag}
+use Rattle.core_points.specs.Acts.{Act, field_of}
 use Rattle.core_points.specs.Callers.{Own, key_now}
 use Rattle.core_points.specs.Programs.{act_at}
 use Rattle.core_points.specs.Laws.{is_finished}
-use Rattle.core_machine.specs.declared.access.Access.{Access}
-use Rattle.core_machine.specs.declared.access.Access.TheVariants.{Load, Store, Exchange, Add, AddAt}
 use Rattle.core_machine.specs.declared.caller.Caller.{Caller}
 
 -- what a caller keeps
@@ -42,47 +42,19 @@ own_of c = record {
 abbrev pub HasRoom : Caller → Type 0
 HasRoom c = (length (drop c.taken c.script.items) + (if is_finished c.stage then 0 else 1) ≤ c.told.spare) × (c.front < 2 ^ 63)
 
--- what an act does to its word
-abbrev pub access_of : ℕ → Act → Access
-access_of place (store_key key) = Store key
-access_of place (store_stamp key stamp) = Store stamp
-access_of place store_idle = Store idle
-access_of place (begin low high) = Add
-access_of place (reserve expected) = Exchange expected (expected - 1)
-access_of place (seize slot) = Exchange 0 1
-access_of place (fill slot field number) = Store number
-access_of place (raise_hand slot number) = Store number
-access_of place (raise_spare slot number) = Store number
-access_of place (raise_old slot number) = Store number
-access_of place (free_hand slot) = Store 0
-access_of place (free_old slot) = Store 0
-access_of place count_free = Add
-access_of place (lock slot) = Exchange 0 (place + 1)
-access_of place (unlock slot) = Store 0
-access_of place (commit expected) = AddAt expected
-access_of place (end_commit front) = Store front
-access_of place (link_leaf slot b leaf key value) = Store leaf
-access_of place (bypass parent b node child key) = Store child
-access_of place (mark slot life) = Store (life + 1)
-access_of place (raise_tag slot b tag) = Store (tag + 1)
-access_of place (link_copy parent b node copy old old_parent key next_key) = Store copy
-access_of place (unlink_left parent old child) = Store child
-access_of place (unlink_right copy old child) = Store child
-access_of place (store_value slot key value) = Store value
-access_of place _ = Load
-
 -- the word of the caller's step, and what the step does to it
-abbrev pub touched : Own → Field × Access
+abbrev pub touched : Own → Field × acts.Access
 touched o = (field_of o.place (act_at o o.stage), access_of o.place (act_at o o.stage))
 
--- a number that an act stores, and that is counted up for it, fits a word
+-- A number that an act stores, and that is counted up for it, fits a word; that of an open commit is odd.
 abbrev pub MayStore : Act → Type 0
-MayStore (mark slot life) = life + 1 < 2 ^ 64
-MayStore (raise_hand slot number) = number < 2 ^ 64
-MayStore (raise_spare slot number) = number < 2 ^ 64
-MayStore (raise_old slot number) = number < 2 ^ 64
-MayStore (raise_tag slot b tag) = tag + 1 < 2 ^ 64
-MayStore (end_commit front) = front < 2 ^ 64
+MayStore (MarkNode slot life) = life + 1 < 2 ^ 64
+MayStore (RaiseInHand slot number) = number < 2 ^ 64
+MayStore (RaiseToSpare slot number) = number < 2 ^ 64
+MayStore (RaiseRetired slot number) = number < 2 ^ 64
+MayStore (RaiseTag slot b tag) = tag + 1 < 2 ^ 64
+MayStore (OpenCommit expected) = expected % 2 ≡ 0
+MayStore (CloseCommit front) = front < 2 ^ 64
 MayStore _ = Unit {0}
 
 -- The points of giving slots back, of locks, and of a move, as the code has them apart.

@@ -1,11 +1,13 @@
 //! The step that a caller makes at its point: its word, and what it does to it.
 ghost use Rattle.std.specs.Prelude.{◌≡◌, ℕ, ◌+◌, ◌*◌, ◌/◌, ◌<◌, ◌^◌, ◌==◌, true, if◌then◌else◌};
 ghost use Rattle.core_state.specs.declared.words.Field.TheVariants as fields;
-ghost use Rattle.core_points.specs.Acts.{field_of, unlink_left, unlink_right, raise_old as raising_old, raise_spare as raising_spare};
+ghost use Rattle.core_acts.specs.declared.act.Act.TheVariants as acts;
+ghost use Rattle.core_acts.specs.Acts.{loads, stores, exchanges, adds, access_of};
+ghost use Rattle.core_points.specs.Acts.{field_of};
 ghost use Rattle.core_points.specs.Callers.{content, contents, is_some as has_slot};
 ghost use Rattle.core_points.specs.Programs.{act_at, store_act};
-ghost use Rattle.core_machine.specs.declared.access.Access.TheVariants as accesses;
-ghost use Rattle.core_machine.specs.Stored.{own_of, access_of, touched, MayStore, is_outside, at_locks, at_move};
+ghost use Rattle.core_machine.specs.Accesses.{done_to};
+ghost use Rattle.core_machine.specs.Stored.{own_of, touched, MayStore, is_outside, at_locks, at_move};
 
 use crate::access::Access;
 use crate::caller::{Caller, first_or_root, or_root, value_in};
@@ -15,31 +17,31 @@ use core_state::Field;
 use prcu_marks::Side;
 
 fn load(field: Field) -> (Field, Access)
-    ensures { result ≡ (field, accesses.Load) }
+    ensures { done_to result ≡ (field, loads) }
 {
     (field, Access::Load)
 }
 
 fn store(field: Field, number: u64) -> (Field, Access)
-    ensures { result ≡ (field, accesses.Store number) }
+    ensures { done_to result ≡ (field, stores number) }
 {
     (field, Access::Store { number })
 }
 
 fn load_life(slot: u32) -> (Field, Access)
-    ensures { result ≡ (fields.Life slot, accesses.Load) }
+    ensures { done_to result ≡ (fields.Life slot, loads) }
 {
     load(Field::Life { slot })
 }
 
 fn load_link(slot: u32, side: Side) -> (Field, Access)
-    ensures { result ≡ (fields.Link slot side, accesses.Load) }
+    ensures { done_to result ≡ (fields.Link slot side, loads) }
 {
     load(Field::Link { slot, side })
 }
 
 fn load_tag(slot: u32, side: Side) -> (Field, Access)
-    ensures { result ≡ (fields.Tag slot side, accesses.Load) }
+    ensures { done_to result ≡ (fields.Tag slot side, loads) }
 {
     load(Field::Tag { slot, side })
 }
@@ -54,26 +56,26 @@ fn raised(life: u64) -> u64
 
 fn mark(slot: u32, generation: u64) -> (Field, Access)
     requires { 2 * generation + 1 < 2 ^ 64 }
-    ensures { result ≡ (fields.Life slot, accesses.Store (2 * generation + 1)) }
+    ensures { done_to result ≡ (fields.Life slot, stores (2 * generation + 1)) }
 {
     store(Field::Life { slot }, 2 * generation + 1)
 }
 
 fn exchange(field: Field, expected: u64, number: u64) -> (Field, Access)
-    ensures { result ≡ (field, accesses.Exchange expected number) }
+    ensures { done_to result ≡ (field, exchanges expected number) }
 {
     (field, Access::Exchange { expected, number })
 }
 
 fn lock(place: u32, slot: u32) -> (Field, Access)
-    ensures { result ≡ (fields.Lock slot, accesses.Exchange 0 (place + 1)) }
+    ensures { done_to result ≡ (fields.Lock slot, exchanges 0 (place + 1)) }
 {
     exchange(Field::Lock { slot }, 0, u64::from(place) + 1)
 }
 
 /// One of the four fields of a new node.
 fn fill(slot: u32, at: u32, key: u64, value: u64, left: u64, right: u64) -> (Field, Access)
-    ensures { result ≡ (content slot at, accesses.Store (contents key value left right at)) }
+    ensures { done_to result ≡ (content slot at, stores (contents key value left right at)) }
 {
     if at == 0 {
         store(Field::Key { slot }, key)
@@ -91,7 +93,7 @@ fn fill(slot: u32, at: u32, key: u64, value: u64, left: u64, right: u64) -> (Fie
 /// The life of a retired slot is raised, which becomes the spare where there is none.
 fn raise_old(spare: Option<u32>, slot: u32, life: u64) -> (Field, Access)
     requires { 2 * (life / 2 + 1) < 2 ^ 64 }
-    ensures { (place : ℕ) → let number = 2 * (life / 2 + 1) in let act = if has_slot spare then raising_old slot number else raising_spare slot number in result ≡ (field_of place act, access_of place act) }
+    ensures { (place : ℕ) → let number = 2 * (life / 2 + 1) in let act = if has_slot spare then acts.RaiseRetired slot number else acts.RaiseToSpare slot number in done_to result ≡ (field_of place act, access_of place act) }
 {
     let number = raised(life);
     match spare {
@@ -101,7 +103,7 @@ fn raise_old(spare: Option<u32>, slot: u32, life: u64) -> (Field, Access)
 }
 
 fn unlink(moving: Moving, child: u64) -> (Field, Access)
-    ensures { (place : ℕ) → let act = if moving.successor.parent == moving.node.node then unlink_right moving.copy moving.successor.slot child else unlink_left moving.successor.parent moving.successor.slot child in result ≡ (field_of place act, access_of place act) }
+    ensures { (place : ℕ) → let act = if moving.successor.parent == moving.node.node then acts.UnlinkRight moving.copy moving.successor.slot child else acts.UnlinkLeft moving.successor.parent moving.successor.slot child in done_to result ≡ (field_of place act, access_of place act) }
 {
     if moving.successor.parent == moving.node.node {
         store(
@@ -124,7 +126,7 @@ fn unlink(moving: Moving, child: u64) -> (Field, Access)
 
 /// What is stored while the front is odd.
 fn update(own: &Caller, update: Update) -> (Field, Access)
-    ensures { let o = own_of own.now in result ≡ (field_of o.place (store_act o update), access_of o.place (store_act o update)) }
+    ensures { let o = own_of own.now in done_to result ≡ (field_of o.place (store_act o update), access_of o.place (store_act o update)) }
 {
     match update {
         Update::Leaf { spot } => store(
@@ -155,7 +157,7 @@ fn update(own: &Caller, update: Update) -> (Field, Access)
 /// The word of the caller's step, and what the step does to it.
 pub(crate) fn access_at(own: &Caller) -> (Field, Access)
     requires { let o = own_of own.now in MayStore (act_at o o.stage) }
-    ensures { result ≡ touched (own_of own.now) }
+    ensures { done_to result ≡ touched (own_of own.now) }
 {
     match own.stage {
         Stage::Finished | Stage::EnterClock => load(Field::Clock),
@@ -183,7 +185,7 @@ pub(crate) fn access_at(own: &Caller) -> (Field, Access)
 fn access_outside(own: &Caller) -> (Field, Access)
     requires at { is_outside own.now.stage ≡ true }
     requires fits { let o = own_of own.now in MayStore (act_at o o.stage) }
-    ensures { result ≡ touched (own_of own.now) }
+    ensures { done_to result ≡ touched (own_of own.now) }
 {
     match own.stage {
         Stage::Reserve { expected, .. } => {
@@ -228,7 +230,7 @@ fn access_outside(own: &Caller) -> (Field, Access)
 fn access_locked(own: &Caller) -> (Field, Access)
     requires at { at_locks own.now.stage ≡ true }
     requires fits { let o = own_of own.now in MayStore (act_at o o.stage) }
-    ensures { result ≡ touched (own_of own.now) }
+    ensures { done_to result ≡ touched (own_of own.now) }
 {
     match own.stage {
         Stage::LeafField { at, .. } => fill(
@@ -243,7 +245,7 @@ fn access_locked(own: &Caller) -> (Field, Access)
         Stage::LeafLife { spot } => load_life(spot.slot),
         Stage::LeafSide { spot, .. } => load_link(spot.slot, spot.side),
         Stage::LeafTag { spot, .. } => load_tag(spot.slot, spot.side),
-        Stage::Commit { expected, .. } => (Field::Front, Access::AddAt { expected }),
+        Stage::Commit { expected, .. } => exchange(Field::Front, expected, expected + 1),
         Stage::Store { update: made, .. } => update(own, made),
         Stage::Even { front, .. } => store(Field::Front, front + 2),
         Stage::Unlock { .. } => store(
@@ -273,7 +275,7 @@ fn access_locked(own: &Caller) -> (Field, Access)
 fn access_moving(own: &Caller) -> (Field, Access)
     requires at { at_move own.now.stage ≡ true }
     requires fits { let o = own_of own.now in MayStore (act_at o o.stage) }
-    ensures { result ≡ touched (own_of own.now) }
+    ensures { done_to result ≡ touched (own_of own.now) }
 {
     match own.stage {
         Stage::SuccessorKey { successor, .. } => load(Field::Key {

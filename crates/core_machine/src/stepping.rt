@@ -2,11 +2,11 @@
 ghost use Rattle.std.specs.Prelude.{◌≡◌, ◌<◌, false, set, length};
 ghost use Rattle.core_points.specs.Programs.{act_at, after};
 ghost use Rattle.core_points.specs.Laws.{is_finished};
-ghost use Rattle.core_machine.specs.Accesses.{left_by};
+ghost use Rattle.core_acts.specs.Acts.{access_of, left_by};
 ghost use Rattle.core_machine.specs.Stepped.{blocked as blocked_at};
-ghost use Rattle.core_machine.specs.Stored.{own_of, access_of, HasRoom, IsAble};
+ghost use Rattle.core_machine.specs.Stored.{own_of, HasRoom, IsAble};
 ghost use Rattle.core_machine.specs.Standing.{stands_after};
-ghost use Rattle.core_machine.specs.Stepping.{CanStep, found_now, index_now};
+ghost use Rattle.core_machine.specs.Stepping.{CanStep, found_now, told_now, index_now};
 
 use crate::access::touch;
 use crate::acting::access_at;
@@ -16,7 +16,7 @@ use core_points::stage::Stage;
 use prcu_marks::Why;
 
 impl Caller {
-    /// Where the search of its section stands after the step of its point found this number.
+    /// Where the search of its section stands after the step of its point told this number.
     fn stands_after(&self, number: u64) -> Option<u32>
         requires { IsAble (own_of self.now) number self.now.stage }
         ensures { result ≡ stands_after self.now.stands number self.now.stage }
@@ -43,17 +43,17 @@ pub fn step_caller(words: &mut [u64], own: &mut Caller) -> Option<Why>
     requires can { CanStep words.old (own_of own.old) }
     requires room { HasRoom own.old }
     ensures words { let o = own_of own.old in words.new ≡ set words.old (index_now o) (left_by (access_of o.place (act_at o o.stage)) (found_now words.old o)) }
-    ensures own { let o = own_of own.old in own_of own.new ≡ after o (found_now words.old o) o.stage }
+    ensures own { let o = own_of own.old in own_of own.new ≡ after o (told_now words.old o) o.stage }
     ensures room { HasRoom own.new }
-    ensures stands { own.new.stands ≡ stands_after own.old.stands (found_now words.old (own_of own.old)) own.old.stage }
-    ensures blocked { let o = own_of own.old in result ≡ blocked_at o (found_now words.old o) o.stage }
+    ensures stands { own.new.stands ≡ stands_after own.old.stands (told_now words.old (own_of own.old)) own.old.stage }
+    ensures blocked { let o = own_of own.old in result ≡ blocked_at o (told_now words.old o) o.stage }
 {
     let (field, access) = access_at(own);
     let index = index_of(own.places, field);
-    let found = touch(words, index, access);
-    let why = own.blocked(found);
-    let stands = own.stands_after(found);
-    own.go_on(found);
+    let told = touch(words, index, access);
+    let why = own.blocked(told);
+    let stands = own.stands_after(told);
+    own.go_on(told);
     own.stands = stands;
     why
 }

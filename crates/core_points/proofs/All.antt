@@ -10,6 +10,7 @@ use Rattle.core_state.specs.declared.view.SearchState.{SearchState}
 use Rattle.core_state.specs.declared.view.Section.{Section}
 use Rattle.core_state.specs.declared.view.View.{View}
 use Rattle.core_state.specs.views.Known.{LoadedGeneration, loaded_in}
+use Rattle.core_acts.specs.Laws.{said}
 use Rattle.core_points.specs.declared.stage.Aim.TheVariants.{Leaf, Spare, Room}
 use Rattle.core_points.specs.declared.stage.Node.{Node}
 use Rattle.core_points.specs.declared.stage.Successor.{Successor}
@@ -18,7 +19,7 @@ use Rattle.core_points.specs.declared.stage.Stage.TheVariants as at
 use Rattle.core_points.specs.declared.stage.Then.TheVariants as then
 use Rattle.core_points.specs.declared.stage.Update.TheVariants as update
 use Rattle.core_points.specs.declared.stage.Waits.TheVariants.{Reuse, Move}
-use Rattle.core_points.specs.Acts.{Needs, field_of, view_after}
+use Rattle.core_points.specs.Acts.{Needs, field_of, view_after, is_step}
 use Rattle.core_points.specs.Callers.{Own, is_none_left, or_root}
 use Rattle.core_points.specs.DeletePlan.{target_lock}
 use Rattle.core_points.specs.Programs.{act_at, after}
@@ -81,89 +82,89 @@ is_aside o v h word d u told owns p =
           s.link;
     }
 
-module _ (k : Shape) (h : List Mark) (o : Own) (w : View) (eer : k.waiter ≡ Eer) (places : k.places ≡ o.places) where
+module _ (k : Shape) (h : List Mark) (o : Own) (w : View) (places : k.places ≡ o.places) where
   leaves : (key : ℕ) (state : SearchState) (more : Section → Type 0) → Inside w key state more → (s : Section) × (w.section ≡ Some s)
   leaves key state more i = (i.0, i.1)
 
-  needs_all : (word : Field → ℕ) → IsTold o w h word → (n : ℕ) (stage : Stage) → Fits o stage w → Needs k w n (act_at o stage)
-  needs_all word told n at.Finished f = tt
-  needs_all word told n at.EnterClock f = tt
-  needs_all word told n (at.EnterKey clock) f = needs_key k h o w n clock f
-  needs_all word told n (at.EnterStamp clock) f = needs_stamp k h o w n clock f
-  needs_all word told n (at.AtLink s b) f = needs_link k h o w n s b f
-  needs_all word told n (at.AtKey s p b) f = needs_read k h o w n s p b f
-  needs_all word told n (at.Leave then.Absent) f = leaves _ _ Nothing (((f.point).1).1).2
-  needs_all word told n (at.Leave (then.Value value)) f = leaves _ _ Nothing (((f.point).1).1).3
-  needs_all word told n (at.Leave then.Old) f = leaves _ _ Nothing (((f.point).1).1).3
-  needs_all word told n (at.Leave (then.Link spot)) f = leaves _ _ _ ((f.point).1).1
-  needs_all word told n (at.Leave (then.Replace s generation)) f = leaves _ _ _ (((f.point).1).1).2
-  needs_all word told n (at.Leave (then.Delete t)) f = leaves _ _ _ ((f.point).1).1
-  needs_all word told n (at.Value s) f = needs_value k h o w n s f
-  needs_all word told n (at.SpotTag s b) f = needs_spot_tag k h o w n s b f
-  needs_all word told n (at.SpotLife s b tag) f = needs_spot_life k h o w n s b tag f
-  needs_all word told n (at.LeafField spot i) f = needs_field k h o w n spot i f
-  needs_all word told n (at.LeafLock spot) f = needs_lock k h o w n spot f
-  needs_all word told n (at.LeafLife spot) f = needs_life k h o w n spot f
-  needs_all word told n (at.LeafSide spot life) f = needs_side k h o w n spot life f
-  needs_all word told n (at.LeafTag spot life link) f = needs_tag k h o w n spot life link f
-  needs_all word told n (at.Reserve (Leaf spot) expected) f = needs_reserve k h o w n spot expected f
-  needs_all word told n (at.Reserve Spare expected) f = needs_reserve_spare k h o w n expected f
-  needs_all word told n (at.Reserve Room expected) f = absurd f.point
-  needs_all word told n (at.Seize (Leaf spot)) f = needs_seize k h o w n spot f
-  needs_all word told n (at.Seize Spare) f = needs_seize_spare k h o w n f
-  needs_all word told n (at.Seize Room) f = absurd f.point
-  needs_all word told n (at.Age (Leaf spot) s) f = needs_age k h o w n spot s f
-  needs_all word told n (at.Age Spare s) f = needs_age_spare k h o w n s f
-  needs_all word told n (at.Age Room s) f = absurd f.point
-  needs_all word told n (at.Keep s) f = needs_keep k h o w n s f
-  needs_all word told n at.Raise f = needs_raise k h o w n f
-  needs_all word told n at.Free f = needs_free k h o w n f
-  needs_all word told n at.Count f = needs_count k h o w n f
-  needs_all word told n (at.Begin (Reuse aim)) f = needs_begin k h o w n aim f
-  needs_all word told n (at.Begin (Move m)) f = needs_move_begin k h o w n m told.moves f
-  needs_all word told n (at.LookKey (Reuse aim) clock p) f = needs_look_key k h o w n aim clock p eer places f
-  needs_all word told n (at.LookKey (Move m) clock p) f = needs_move_key k h o w n m clock p eer places f
-  needs_all word told n (at.LookStamp (Reuse aim) clock p key) f = needs_look_stamp k h o w n aim clock p key eer places f
-  needs_all word told n (at.LookStamp (Move m) clock p key) f = needs_move_stamp k h o w n m clock p key eer places f
-  needs_all word told n (at.OldAge aim) f = needs_old_age k h o w n aim f
-  needs_all word told n (at.OldRaise aim life) f = needs_old_raise k h o w n aim life f
-  needs_all word told n (at.OldFree aim) f = needs_old_free k h o w n aim f
-  needs_all word told n (at.OldCount aim) f = needs_old_count k h o w n aim f
-  needs_all word told n (at.Commit u expected) f = needs_commit k h o w n u expected f
-  needs_all word told n (at.Store (update.Leaf spot) front) f = needs_store k h o w n spot front f
-  needs_all word told n (at.Store (update.Value s old) front) f = needs_set_store k h o w n s old front f
-  needs_all word told n (at.Store (update.Bypass d child) front) f = needs_bypass k h o w n d child front f
-  needs_all word told n (at.Store (update.Copy d u next_key copy) front) f = needs_copy_store k h o w n d u next_key copy front f
-  needs_all word told n (at.Even u front) f = needs_even k h o w n u front f
-  needs_all word told n (at.Unlock l) f = needs_unlock k h o w n l f
-  needs_all word told n (at.SetLife s) f = needs_set_life k h o w n s f
-  needs_all word told n (at.SetLock s generation) f = needs_set_lock k h o w n s generation f
-  needs_all word told n (at.SetCheck s generation) f = needs_set_check k h o w n s generation f
-  needs_all word told n (at.SetValue s) f = needs_set_value k h o w n s f
-  needs_all word told n (at.ParentLife p b d) f = needs_parent_life k h o w n p b d f
-  needs_all word told n (at.NodeLife d) f = needs_node_life k h o w n d f
-  needs_all word told n (at.NodeLeft d) f = needs_node_left k h o w n d f
-  needs_all word told n (at.NodeRight d) f = needs_node_right k h o w n d f
-  needs_all word told n (at.SuccessorLeft d u) f = needs_successor_left k h o w n d u f
-  needs_all word told n (at.SuccessorParentLife d u) f = needs_successor_parent k h o w n d u f
-  needs_all word told n (at.SuccessorLife d u) f = needs_successor_life k h o w n d u f
-  needs_all word told n (at.TargetLock t i) f = needs_target_lock k h o w n t i f
-  needs_all word told n (at.TargetLoad t i found) f = needs_target_load k h o w n t i found f
-  needs_all word told n (at.Mark d child) f = needs_mark k h o w n d child f
-  needs_all word told n (at.EmptyTag number s b) f = needs_empty_tag k h o w n number s b f
-  needs_all word told n (at.EmptyRaise number s b tag) f = needs_empty_raise k h o w n number s b tag f
-  needs_all word told n (at.SuccessorKey d u) f = needs_successor_key k h o w n d u f
-  needs_all word told n (at.SuccessorValue d u next_key) f = needs_successor_value k h o w n d u next_key f
-  needs_all word told n (at.CopyField d u next_key value i) f = needs_copy_field k h o w n d u next_key value i f
-  needs_all word told n (at.CopyAge d u next_key) f = needs_copy_age k h o w n d u next_key f
-  needs_all word told n (at.CopyLock d u next_key) f = needs_copy_lock k h o w n d u next_key f
-  needs_all word told n (at.CopyMark d u next_key) f = needs_copy_mark k h o w n d u next_key f
-  needs_all word told n (at.OldMark m) f = needs_old_mark k h o w n m f
-  needs_all word told n (at.OldRight m) f = needs_old_right k h o w n m f
-  needs_all word told n (at.Unlink m child) f = needs_unlink k h o w n m child f
+  needs_all : (word : Field → ℕ) → IsTold o w h word → (n : ℕ) (stage : Stage) → (is_step (act_at o stage) ≡ false → k.waiter ≡ Eer) → Fits o stage w → Needs k w n (act_at o stage)
+  needs_all word told n at.Finished eer f = tt
+  needs_all word told n at.EnterClock eer f = tt
+  needs_all word told n (at.EnterKey clock) eer f = needs_key k h o w n clock f
+  needs_all word told n (at.EnterStamp clock) eer f = needs_stamp k h o w n clock f
+  needs_all word told n (at.AtLink s b) eer f = needs_link k h o w n s b f
+  needs_all word told n (at.AtKey s p b) eer f = needs_read k h o w n s p b f
+  needs_all word told n (at.Leave then.Absent) eer f = leaves _ _ Nothing (((f.point).1).1).2
+  needs_all word told n (at.Leave (then.Value value)) eer f = leaves _ _ Nothing (((f.point).1).1).3
+  needs_all word told n (at.Leave then.Old) eer f = leaves _ _ Nothing (((f.point).1).1).3
+  needs_all word told n (at.Leave (then.Link spot)) eer f = leaves _ _ _ ((f.point).1).1
+  needs_all word told n (at.Leave (then.Replace s generation)) eer f = leaves _ _ _ (((f.point).1).1).2
+  needs_all word told n (at.Leave (then.Delete t)) eer f = leaves _ _ _ ((f.point).1).1
+  needs_all word told n (at.Value s) eer f = needs_value k h o w n s f
+  needs_all word told n (at.SpotTag s b) eer f = needs_spot_tag k h o w n s b f
+  needs_all word told n (at.SpotLife s b tag) eer f = needs_spot_life k h o w n s b tag f
+  needs_all word told n (at.LeafField spot i) eer f = needs_field k h o w n spot i f
+  needs_all word told n (at.LeafLock spot) eer f = needs_lock k h o w n spot f
+  needs_all word told n (at.LeafLife spot) eer f = needs_life k h o w n spot f
+  needs_all word told n (at.LeafSide spot life) eer f = needs_side k h o w n spot life f
+  needs_all word told n (at.LeafTag spot life link) eer f = needs_tag k h o w n spot life link f
+  needs_all word told n (at.Reserve (Leaf spot) expected) eer f = needs_reserve k h o w n spot expected f
+  needs_all word told n (at.Reserve Spare expected) eer f = needs_reserve_spare k h o w n expected f
+  needs_all word told n (at.Reserve Room expected) eer f = absurd f.point
+  needs_all word told n (at.Seize (Leaf spot)) eer f = needs_seize k h o w n spot f
+  needs_all word told n (at.Seize Spare) eer f = needs_seize_spare k h o w n f
+  needs_all word told n (at.Seize Room) eer f = absurd f.point
+  needs_all word told n (at.Age (Leaf spot) s) eer f = needs_age k h o w n spot s f
+  needs_all word told n (at.Age Spare s) eer f = needs_age_spare k h o w n s f
+  needs_all word told n (at.Age Room s) eer f = absurd f.point
+  needs_all word told n (at.Keep s) eer f = needs_keep k h o w n s f
+  needs_all word told n at.Raise eer f = needs_raise k h o w n f
+  needs_all word told n at.Free eer f = needs_free k h o w n f
+  needs_all word told n at.Count eer f = needs_count k h o w n f
+  needs_all word told n (at.Begin (Reuse aim)) eer f = needs_begin k h o w n aim f
+  needs_all word told n (at.Begin (Move m)) eer f = needs_move_begin k h o w n m told.moves f
+  needs_all word told n (at.LookKey (Reuse aim) clock p) eer f = needs_look_key k h o w n aim clock p (eer refl) places f
+  needs_all word told n (at.LookKey (Move m) clock p) eer f = needs_move_key k h o w n m clock p (eer refl) places f
+  needs_all word told n (at.LookStamp (Reuse aim) clock p key) eer f = needs_look_stamp k h o w n aim clock p key (eer refl) places f
+  needs_all word told n (at.LookStamp (Move m) clock p key) eer f = needs_move_stamp k h o w n m clock p key (eer refl) places f
+  needs_all word told n (at.OldAge aim) eer f = needs_old_age k h o w n aim f
+  needs_all word told n (at.OldRaise aim life) eer f = needs_old_raise k h o w n aim life f
+  needs_all word told n (at.OldFree aim) eer f = needs_old_free k h o w n aim f
+  needs_all word told n (at.OldCount aim) eer f = needs_old_count k h o w n aim f
+  needs_all word told n (at.Commit u expected) eer f = needs_commit k h o w n u expected f
+  needs_all word told n (at.Store (update.Leaf spot) front) eer f = needs_store k h o w n spot front f
+  needs_all word told n (at.Store (update.Value s old) front) eer f = needs_set_store k h o w n s old front f
+  needs_all word told n (at.Store (update.Bypass d child) front) eer f = needs_bypass k h o w n d child front f
+  needs_all word told n (at.Store (update.Copy d u next_key copy) front) eer f = needs_copy_store k h o w n d u next_key copy front f
+  needs_all word told n (at.Even u front) eer f = needs_even k h o w n u front f
+  needs_all word told n (at.Unlock l) eer f = needs_unlock k h o w n l f
+  needs_all word told n (at.SetLife s) eer f = needs_set_life k h o w n s f
+  needs_all word told n (at.SetLock s generation) eer f = needs_set_lock k h o w n s generation f
+  needs_all word told n (at.SetCheck s generation) eer f = needs_set_check k h o w n s generation f
+  needs_all word told n (at.SetValue s) eer f = needs_set_value k h o w n s f
+  needs_all word told n (at.ParentLife p b d) eer f = needs_parent_life k h o w n p b d f
+  needs_all word told n (at.NodeLife d) eer f = needs_node_life k h o w n d f
+  needs_all word told n (at.NodeLeft d) eer f = needs_node_left k h o w n d f
+  needs_all word told n (at.NodeRight d) eer f = needs_node_right k h o w n d f
+  needs_all word told n (at.SuccessorLeft d u) eer f = needs_successor_left k h o w n d u f
+  needs_all word told n (at.SuccessorParentLife d u) eer f = needs_successor_parent k h o w n d u f
+  needs_all word told n (at.SuccessorLife d u) eer f = needs_successor_life k h o w n d u f
+  needs_all word told n (at.TargetLock t i) eer f = needs_target_lock k h o w n t i f
+  needs_all word told n (at.TargetLoad t i found) eer f = needs_target_load k h o w n t i found f
+  needs_all word told n (at.Mark d child) eer f = needs_mark k h o w n d child f
+  needs_all word told n (at.EmptyTag number s b) eer f = needs_empty_tag k h o w n number s b f
+  needs_all word told n (at.EmptyRaise number s b tag) eer f = needs_empty_raise k h o w n number s b tag f
+  needs_all word told n (at.SuccessorKey d u) eer f = needs_successor_key k h o w n d u f
+  needs_all word told n (at.SuccessorValue d u next_key) eer f = needs_successor_value k h o w n d u next_key f
+  needs_all word told n (at.CopyField d u next_key value i) eer f = needs_copy_field k h o w n d u next_key value i f
+  needs_all word told n (at.CopyAge d u next_key) eer f = needs_copy_age k h o w n d u next_key f
+  needs_all word told n (at.CopyLock d u next_key) eer f = needs_copy_lock k h o w n d u next_key f
+  needs_all word told n (at.CopyMark d u next_key) eer f = needs_copy_mark k h o w n d u next_key f
+  needs_all word told n (at.OldMark m) eer f = needs_old_mark k h o w n m f
+  needs_all word told n (at.OldRight m) eer f = needs_old_right k h o w n m f
+  needs_all word told n (at.Unlink m child) eer f = needs_unlink k h o w n m child f
 
 pub needs_are_given : NeedsAreGiven
-needs_are_given k h o v word n stage eer places told f = needs_all k h o v eer places word told n stage f
+needs_are_given k h o v word n stage eer places told f = needs_all k h o v places word told n stage eer f
 
 -- a shape, for what doesn't speak of it
 any : Shape
@@ -171,7 +172,7 @@ any = record { waiter = Eer; slots = 0; places = 0; tickets = 0 }
 
 module _ (h : List Mark) (o : Own) (v : View) where
   next_all : (word : Field → ℕ) → IsTold o v h word → (stage : Stage) → is_finished stage ≡ false → Fits o stage v
-      → let n : ℕ = word (field_of o.place (act_at o stage)) in Fits (after o n stage) (after o n stage).stage (view_after v h n (act_at o stage))
+      → let n : ℕ = said v (act_at o stage) (word (field_of o.place (act_at o stage))) in Fits (after o n stage) (after o n stage).stage (view_after v h n (act_at o stage))
   next_all word told at.Finished going f = cc
   next_all word told at.EnterClock going f = next_clock any h o v (word (field_of o.place (act_at o at.EnterClock))) f
   next_all word told (at.EnterKey clock) going f = next_key any h o v (word (field_of o.place (act_at o (at.EnterKey clock)))) clock f

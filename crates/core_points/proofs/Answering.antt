@@ -1,6 +1,5 @@
 -- The history explains the answers.
-use Rattle.prcu_marks.specs.declared.mark.Side.TheVariants.{Left, Right}
-use Rattle.std.proofs.Common.{◌≡◌, ◌≢◌, ℕ, zero, suc, nat_lt, cond, Bool, eq-eqb, ◌+◌, ◌-◌, ◌*◌, ◌/◌, ◌≤◌, true, false, List, [], ◌∷◌, length, map, Some, None, refl, sym, ap, subst, ◌∙◌, inl, ⊎_elim, arith}
+use Rattle.std.proofs.Common.{◌≡◌, ℕ, ◌+◌, ◌-◌, ◌*◌, ◌/◌, ◌≤◌, true, false, List, [], ◌∷◌, length, map, Some, None, refl, sym, ap, subst, ◌∙◌, inl, ⊎_elim, arith}
 use Rattle.std.specs.FinMap as finite
 use mathlib.Core.Logic.{dite}
 use mathlib.Core.Option.{some, some-injective}
@@ -11,7 +10,7 @@ use Rattle.prcu_marks.specs.Marks.{updates_of}
 use Rattle.prcu_model.specs.Dictionary.{WasSaid, map_of}
 use Rattle.core_state.specs.declared.shape.Shape.{Shape}
 use Rattle.core_state.specs.declared.words.Field.{Field}
-use Rattle.core_state.specs.declared.words.Field.TheVariants.{Free, Life, Key, Link, Value}
+use Rattle.core_state.specs.declared.words.Field.TheVariants.{Free, Life, Key, Value}
 use Rattle.core_state.specs.declared.view.HeldLock.{HeldLock}
 use Rattle.core_state.specs.declared.view.Reading.{Reading}
 use Rattle.core_state.specs.declared.view.Retired.{Retired}

@@ -17,11 +17,12 @@ use Rattle.list_laws.specs.Counts.{Each, times}
 use Rattle.list_laws.proofs.Lists.{at_end}
 use Rattle.core_state.specs.views.Known.{known_in, loaded_in, lock_of, change_lock, is_emptied, note_lock, noting, with_emptied}
 use Rattle.core_state.specs.steps.Links.{FewChildren, IsMarkedNode, NodeRecords, after_bypass, newly_retired, with_mark}
+use Rattle.core_acts.proofs.Acting.{commit_is}
 use Rattle.core_points.specs.declared.stage.Last.TheVariants as last
 use Rattle.core_points.specs.declared.stage.Node.{Node}
 use Rattle.core_points.specs.declared.stage.Stage.TheVariants as at
 use Rattle.core_points.specs.declared.stage.Update.TheVariants as update
-use Rattle.core_points.specs.Acts.{Needs, given, view_after}
+use Rattle.core_points.specs.Acts.{Needs, view_after}
 use Rattle.core_points.specs.Callers.{Own, key_now}
 use Rattle.core_points.specs.Programs.{act_at, after}
 use Rattle.core_points.specs.Facts.{stored_at, read_at}
@@ -199,7 +200,7 @@ module _ (k : Shape) (h : List Mark) (o : Own) (v : View) (n : ℕ) where
       let held = held_by_load v d.parent (Life d.parent) (2 * d.parent_generation) ((few.2).parent_life) in
       let owns = owns_noted o v d.parent (Link d.parent d.side) child true f.owns in
       let q = quiet_noted o v d.parent (Link d.parent d.side) child true (Some (record { found = front; stored = false })) p.0 in
-      subst (λ x. Fits o' o'.stage (given v x (λ t. after_bypass v t d.parent d.side d.node child (key_now o) h))) (sym (p.0).1)
+      subst (λ x. Fits o' o'.stage (after_bypass v x d.parent d.side d.node child (key_now o) h)) (sym (commit_is v _ (p.0).1))
       (record {
         owns = record {
           same = owns.same;

@@ -23,13 +23,15 @@ use Rattle.core_state.specs.steps.Links.{BothChildren, newly_retired, with_mark}
 use Rattle.core_state.specs.steps.Locks.{new_lock}
 use Rattle.core_state.specs.steps.Moves.{after_copy_link, new_move}
 use Rattle.core_state.specs.steps.Slots.{IsContent}
+use Rattle.core_acts.specs.Acts.{spare_of}
+use Rattle.core_acts.proofs.Acting.{commit_is, spare_is}
 use Rattle.core_points.specs.declared.stage.Last.TheVariants as last
 use Rattle.core_points.specs.declared.stage.Node.{Node}
 use Rattle.core_points.specs.declared.stage.Successor.{Successor}
 use Rattle.core_points.specs.declared.stage.Stage.{Stage}
 use Rattle.core_points.specs.declared.stage.Stage.TheVariants as at
 use Rattle.core_points.specs.declared.stage.Update.TheVariants as update
-use Rattle.core_points.specs.Acts.{Needs, given, view_after}
+use Rattle.core_points.specs.Acts.{Needs, view_after}
 use Rattle.core_points.specs.Callers.{Own, content, contents, go, is_none_left, is_some, key_now, or_root}
 use Rattle.core_points.specs.Programs.{act_at, after}
 use Rattle.core_points.specs.Facts.{AreClear, read_at, stored_at}
@@ -448,8 +450,8 @@ module _ (k : Shape) (h : List Mark) (o : Own) (v : View) (n : ℕ) where
       let locked : lock_of now u.slot ≡ Some old.0 = change_other d.node (with_mark false) (λ l. refl) noted u.slot apart.from_node ∙ change_other d.parent (note_lock kn) (λ l. refl) v.locks u.slot apart.from_parent ∙ old.1 in
       let clear : AreClear now = clear_stored kn d.parent d.node v.locks p.3 in
       let still : (t : ℕ) → Holds v.locks t → Holds now t = λ t has. held_still noted d.node (with_mark false) (λ l. refl) t (held_still v.locks d.parent (note_lock kn) (λ l. refl) t has) in
-      subst (λ x. Fits o' o'.stage (given v x (λ t. given v v.hands.spare (λ s. after_copy_link v t s d.parent d.side d.node u.slot u.parent (key_now o) next_key h)))) (sym (c.0).1)
-      (subst (λ y. Fits o' o'.stage (given v y (λ s. after_copy_link v (record { found = front; stored = false }) s d.parent d.side d.node u.slot u.parent (key_now o) next_key h))) (sym has.1)
+      subst (λ x. Fits o' o'.stage (after_copy_link v x (spare_of v) d.parent d.side d.node u.slot u.parent (key_now o) next_key h)) (sym (commit_is v _ (c.0).1))
+      (subst (λ y. Fits o' o'.stage (after_copy_link v (record { found = front; stored = false }) y d.parent d.side d.node u.slot u.parent (key_now o) next_key h)) (sym (spare_is v _ has.1))
       (record {
         owns = record {
           same = owns.same;

@@ -18,13 +18,15 @@ use Rattle.core_state.specs.views.Known.{known_in, LoadedGeneration}
 use Rattle.core_state.specs.steps.Links.{LacksChild}
 use Rattle.core_state.specs.steps.Loads.{loaded, walked, walking, after_search_load}
 use Rattle.core_state.specs.steps.Sections.{leaving}
+use Rattle.core_acts.specs.Acts.{section_of}
+use Rattle.core_acts.proofs.Acting.{section_is}
 use Rattle.core_points.specs.declared.stage.Node.{Node}
 use Rattle.core_points.specs.declared.stage.Successor.{Successor}
 use Rattle.core_points.specs.declared.stage.Target.{Target}
 use Rattle.core_points.specs.declared.stage.Stage.{Stage}
 use Rattle.core_points.specs.declared.stage.Stage.TheVariants as at
 use Rattle.core_points.specs.declared.stage.Then.TheVariants as then
-use Rattle.core_points.specs.Acts.{Needs, given, view_after}
+use Rattle.core_points.specs.Acts.{Needs, view_after}
 use Rattle.core_points.specs.Callers.{Own, go}
 use Rattle.core_points.specs.DeletePlan.{target_locks}
 use Rattle.core_points.specs.Programs.{act_at, after}
@@ -162,7 +164,7 @@ module _ (k : Shape) (h : List Mark) (o : Own) (v : View) (n : ℕ) where
       u = record { parent = d.node; slot = n; parent_generation = 0; generation = 0 }
 
       by : (z : Bool) → ((d.left == 0) || (n == 0)) ≡ z → let st : Stage = cond z (at.Leave (then.Delete (record { node = d'; successor = None }))) (at.SuccessorLeft d' u) in
-          Fits (go o st) st (given v v.section (λ x. after_search_load v x (Link d.node Right) n))
+          Fits (go o st) st (after_search_load v (section_of v) (Link d.node Right) n)
       by true e = found_next h o v n d.node d.parent d.side (Link d.node Right) (λ r. IsIn r.stood d.parent × (ReadsLives r d × (known_in r.loads (Link d.node Left) ≡ Some d.left) × IsIn r.loads (read_at (Link d.node Left) d.left)))
           (λ r. IsIn r.stood d.parent × ReadsChildren r d' None) (at.Leave (then.Delete (record { node = d'; successor = None }))) f.owns (f.unraised refl)
           (let t = f.tickets in let two = delete_owed o.op o.hand o.retired (f.point).1 in omega arith) (f.point).2
@@ -266,7 +268,7 @@ module _ (k : Shape) (h : List Mark) (o : Own) (v : View) (n : ℕ) where
           )
 
       by : (z : Bool) → (n == 0) ≡ z → (y : Bool) → (u.parent == d.node) ≡ y → let st : Stage = cond z (cond y (at.SuccessorLife d u) (at.SuccessorParentLife d u)) (at.SuccessorLeft d on) in
-          Fits (go o st) st (given v v.section (λ x. after_search_load v x (Link u.slot Left) n))
+          Fits (go o st) st (after_search_load v (section_of v) (Link u.slot Left) n)
       by true e true same = found_next h o v n d.node d.parent d.side (Link u.slot Left) more (λ r. IsIn r.stood d.parent × (WalksTo r d u × (AreApart d u → ReadsLives r d × ReadsParent r d u))) (at.SuccessorLife d u) f.owns (f.unraised refl) f.tickets (f.point).2
           (λ r s here m. (let g = ended r s e m in let q = (g.1).1 in (g.0, ((g.1).0, (q.1, λ apart. (q.0, λ ne. absurd (ne (eqb-true u.parent d.node same))))))))
           (λ section i. ((f.point).0, (f.point).1, i))
@@ -343,7 +345,7 @@ module _ (k : Shape) (h : List Mark) (o : Own) (v : View) (n : ℕ) where
       let section : Section = i.0 in
       let calm = (f.point).0 in
       let q = i.3 in
-      subst (λ x. Fits (go o (at.TargetLock t 0)) (at.TargetLock t 0) (given v x (λ s. leaving v s h))) (sym i.1)
+      subst (λ x. Fits (go o (at.TargetLock t 0)) (at.TargetLock t 0) (leaving v x h)) (sym (section_is v _ i.1))
       (record {
         owns = f.owns;
         unraised = λ z. f.unraised refl;

@@ -13,8 +13,9 @@ use Rattle.core_state.specs.declared.view.Walk.{Walk}
 use Rattle.core_state.specs.declared.view.View.{View}
 use Rattle.core_state.specs.steps.Loads.{loaded, searched, walked, walking, after_search_load}
 use Rattle.list_laws.specs.Counts.{IsIn, Each}
+use Rattle.core_acts.specs.Acts.{section_of}
+use Rattle.core_acts.proofs.Acting.{section_is}
 use Rattle.core_points.specs.declared.stage.Stage.{Stage}
-use Rattle.core_points.specs.Acts.{given}
 use Rattle.core_points.specs.Callers.{Own, go, key_now}
 use Rattle.core_points.specs.Facts.{Inside, Owns, read_at}
 use Rattle.core_points.specs.Tickets.{owed}
@@ -65,13 +66,13 @@ module _ (h : List Mark) (o : Own) (v : View) (n : ℕ) where
       → Inside v (key_now o) (Found s p b None) (λ section. more section.reading)
       → ((r : Reading) → r.state ≡ Found s p b None → IsIn r.stood s → more r → StillFound r (loaded r field n) field n × more' (loaded r field n))
       → ((section : Section) → Inside (record v { section = Some section }) (key_now o) (Found s p b None) (λ section. more' section.reading) → Point (go o stage') stage' (plain (record v { section = Some section })))
-      → Fits (go o stage') stage' (given v v.section (λ z. after_search_load v z field n))
+      → Fits (go o stage') stage' (after_search_load v (section_of v) field n)
   found_next s p b field more more' stage' owns unraised paid i goes point =
       let section : Section = i.0 in
       let went = goes section.reading (i.2).state_is (i.2).here i.3 in
       let still = went.0 in
       let now : Section = record section { reading = loaded section.reading field n } in
-      subst (λ x. Fits (go o stage') stage' (given v x (λ z. after_search_load v z field n))) (sym i.1)
+      subst (λ x. Fits (go o stage') stage' (after_search_load v x field n)) (sym (section_is v _ i.1))
       (record {
         owns = owns;
         unraised = λ z. unraised;

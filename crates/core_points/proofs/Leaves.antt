@@ -10,12 +10,14 @@ use Rattle.core_state.specs.declared.view.View.{View}
 use Rattle.list_laws.specs.Counts.{IsIn, Each}
 use Rattle.core_state.specs.declared.view.Retired.{Retired}
 use Rattle.core_state.specs.steps.Sections.{leaving}
+use Rattle.core_acts.specs.Acts.{section_of}
+use Rattle.core_acts.proofs.Acting.{section_is}
 use Rattle.core_points.specs.declared.stage.Spot.{Spot}
 use Rattle.core_points.specs.declared.stage.Aim.TheVariants.{Leaf}
 use Rattle.core_points.specs.declared.stage.Then.TheVariants as then
 use Rattle.core_points.specs.declared.stage.Stage.{Stage}
 use Rattle.core_points.specs.declared.stage.Stage.TheVariants as at
-use Rattle.core_points.specs.Acts.{view_after, given}
+use Rattle.core_points.specs.Acts.{view_after}
 use Rattle.core_points.specs.Callers.{Own, go, is_some, key_now, value_in}
 use Rattle.core_points.specs.Programs.{act_at, after, answer, left_section, taking}
 use Rattle.core_points.specs.Facts.{Calm, HandFits, HasSpot, Owns, is_put, table_of}
@@ -41,8 +43,8 @@ module _ (k : Shape) (h : List Mark) (o : Own) (v : View) (n : ℕ) where
     no_hand = subst (λ x. HandFits x o.hand_life (key_now o) (value_in o.op) v.hands.hand) empty calm.1;
   }
 
-  left_as : (stage : Own) → (section : Section) → v.section ≡ Some section → Fits stage stage.stage (leaving v section h) → Fits stage stage.stage (given v v.section (λ s. leaving v s h))
-  left_as stage section e f = subst (λ x. Fits stage stage.stage (given v x (λ s. leaving v s h))) (sym e) f
+  left_as : (stage : Own) → (section : Section) → v.section ≡ Some section → Fits stage stage.stage (leaving v section h) → Fits stage stage.stage (leaving v (section_of v) h)
+  left_as stage section e f = subst (λ x. Fits stage stage.stage (leaving v x h)) (sym (section_is v _ e)) f
 
   pub next_absent : Fits o (at.Leave then.Absent) v → Fits (after o n (at.Leave then.Absent)) (after o n (at.Leave then.Absent)).stage (view_after v h n (act_at o (at.Leave then.Absent)))
   next_absent f =

@@ -1,4 +1,3 @@
-pub mod Acting
 pub mod Notes
 pub mod Answers
 pub mod Locking

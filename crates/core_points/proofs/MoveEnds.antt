@@ -15,11 +15,13 @@ use Rattle.list_laws.specs.Counts.{times}
 use Rattle.core_state.specs.views.Known.{change_lock, note_held, note_lock, note_moving, note_option, noting, with_emptied}
 use Rattle.core_state.specs.steps.Links.{newly_retired, with_mark}
 use Rattle.core_state.specs.steps.Moves.{NeedsUnlinkOld, after_unlink_old}
+use Rattle.core_acts.specs.Laws.{said}
 use Rattle.core_points.specs.declared.stage.Last.TheVariants as last
 use Rattle.core_points.specs.declared.stage.Moving.{Moving}
 use Rattle.core_points.specs.declared.stage.Stage.{Stage}
 use Rattle.core_points.specs.declared.stage.Stage.TheVariants as at
-use Rattle.core_points.specs.Acts.{Needs, unlink_left, unlink_right, view_after}
+use Rattle.core_acts.specs.declared.act.Act.TheVariants.{UnlinkLeft, UnlinkRight}
+use Rattle.core_points.specs.Acts.{Needs, view_after}
 use Rattle.core_points.specs.Callers.{Own, go, key_now}
 use Rattle.core_points.specs.DeletePlan.{move_locks, target_lock}
 use Rattle.core_points.specs.Programs.{act_at, after}
@@ -154,11 +156,11 @@ module _ (k : Shape) (h : List Mark) (o : Own) (v : View) (n : ℕ) where
             right_now = under_lock v m.successor.slot old.lock (Link m.successor.slot Right) child old.locked p.3;
           }
 
-      by : (z : Bool) → (m.successor.parent == m.node.node) ≡ z → Needs k v n (cond z (unlink_right m.copy m.successor.slot child) (unlink_left m.successor.parent m.successor.slot child))
+      by : (z : Bool) → (m.successor.parent == m.node.node) ≡ z → Needs k v n (cond z (UnlinkRight m.copy m.successor.slot child) (UnlinkLeft m.successor.parent m.successor.slot child))
       by true e = let is = ((f.point).0).6 in (move, ((f.point).1).lock, 2 * m.successor.generation + 1, unlinks m.copy (ap (λ z. cond z m.copy m.successor.parent) e), sym is.4)
       by false e = let is = ((f.point).0).6 in (move, ((f.point).1).lock, 2 * m.successor.generation + 1, unlinks m.successor.parent (ap (λ z. cond z m.copy m.successor.parent) e), (λ same. ((f.point).0).9 (sym (same ∙ is.4))))
 
-  pub next_unlink : (m : Moving) (child : ℕ) → Fits o (at.Unlink m child) v → Fits (after o n (at.Unlink m child)) (after o n (at.Unlink m child)).stage (view_after v h n (act_at o (at.Unlink m child)))
+  pub next_unlink : (m : Moving) (child : ℕ) → Fits o (at.Unlink m child) v → Fits (after o n (at.Unlink m child)) (after o n (at.Unlink m child)).stage (view_after v h (said v (act_at o (at.Unlink m child)) n) (act_at o (at.Unlink m child)))
   next_unlink m child f = by (m.successor.parent == m.node.node) refl
     where
       s : ℕ
@@ -203,6 +205,6 @@ module _ (k : Shape) (h : List Mark) (o : Own) (v : View) (n : ℕ) where
       }
 
       by : (z : Bool) → (m.successor.parent == m.node.node) ≡ z → let st : Stage = cond (child == 0) (cond z (at.EmptyTag m.number m.copy Right) (at.EmptyTag m.number m.successor.parent Left)) (at.Unlock (last.Gone m.number)) in
-          Fits (go base st) st (view_after v h n (cond z (unlink_right m.copy s child) (unlink_left m.successor.parent s child)))
+          Fits (go base st) st (view_after v h (said v (cond z (UnlinkRight m.copy s child) (UnlinkLeft m.successor.parent s child)) n) (cond z (UnlinkRight m.copy s child) (UnlinkLeft m.successor.parent s child)))
       by true e = let held = subst (Holds v.locks) (ap (λ z. cond z m.copy m.successor.parent) e) ((f.point).0).8 in ends m.copy Right held (child == 0) (relinks m.copy Right held (child == 0) refl)
       by false e = let held = subst (Holds v.locks) (ap (λ z. cond z m.copy m.successor.parent) e) ((f.point).0).8 in ends m.successor.parent Left held (child == 0) (relinks m.successor.parent Left held (child == 0) refl)

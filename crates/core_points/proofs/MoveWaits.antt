@@ -16,10 +16,11 @@ use Rattle.core_state.specs.declared.view.View.{View}
 use Rattle.core_state.specs.declared.view.Waiting.{Waiting}
 use Rattle.core_state.specs.memory.Memory.{idle}
 use Rattle.core_state.specs.steps.Waits.{after_look, ending, is_move_grace, new_wait, spot_seen, waited_move, waited_retired, with_excused}
+use Rattle.core_acts.proofs.Acting.{wait_is}
 use Rattle.core_points.specs.declared.stage.Moving.{Moving}
 use Rattle.core_points.specs.declared.stage.Stage.TheVariants as at
 use Rattle.core_points.specs.declared.stage.Waits.TheVariants.{Move}
-use Rattle.core_points.specs.Acts.{Needs, given, view_after}
+use Rattle.core_points.specs.Acts.{Needs, view_after}
 use Rattle.core_points.specs.Callers.{Own, go, key_now}
 use Rattle.core_points.specs.Programs.{act_at, after, excused, is_reader}
 use Rattle.core_points.specs.Facts.{AreClear, Owns}
@@ -78,13 +79,13 @@ module _ (k : Shape) (h : List Mark) (o : Own) (v : View) (n : ℕ) where
   needs_move_key m clock p eer places f =
       let w = (f.point).3 in
       let q = w.1 in
-      (q.0, record { wait_is = q.1; going = (q.2).going; rest = λ is_last ex other spot. seen_all k h o v n q.0 p (Announced p) (p + 1 == o.places) eer places refl refl w.0 (q.2).past is_last other spot })
+      (q.0, record { wait_is = q.1; going = (q.2).going; rest = λ is_last other spot. seen_all k h o v n q.0 p (Announced p) (p + 1 == o.places) eer places refl refl w.0 (q.2).past is_last other spot })
 
   pub needs_move_stamp : (m : Moving) (clock p key : ℕ) → k.waiter ≡ Eer → k.places ≡ o.places → Fits o (at.LookStamp (Move m) clock p key) v → Needs k v n (act_at o (at.LookStamp (Move m) clock p key))
   needs_move_stamp m clock p key eer places f =
       let w = (f.point).3 in
       let q = w.1 in
-      (q.0, record { wait_is = q.1; going = (q.2).going; rest = λ is_last ex other spot. seen_all k h o v n q.0 p (Stamp p) (p + 1 == o.places) eer places refl refl w.0 (q.2).past is_last other spot })
+      (q.0, record { wait_is = q.1; going = (q.2).going; rest = λ is_last other spot. seen_all k h o v n q.0 p (Stamp p) (p + 1 == o.places) eer places refl refl w.0 (q.2).past is_last other spot })
 
   -- a look that excuses a place
   excused_move : (m : Moving) (clock p : ℕ) (field : Field) (wait : Waiting) → spot_seen field ≡ Stamp p → 0 + 4 * length o.rest + o.kept ≤ v.allowance.tickets → Shifting o v m false None → HoldsOld v.locks m false → AreClear v.locks
@@ -163,7 +164,7 @@ module _ (k : Shape) (h : List Mark) (o : Own) (v : View) (n : ℕ) where
       let wait : Waiting = q.0 in
       let out = q.2 in
       let a : Own = after o n (at.LookKey (Move m) clock p) in
-      subst (λ x. Fits a a.stage (given v x (λ w. after_look v w (Announced p) (p + 1 == o.places) n h))) (sym q.1)
+      subst (λ x. Fits a a.stage (after_look v x (Announced p) (p + 1 == o.places) n h)) (sym (wait_is v _ q.1))
       (subst (λ (z : Bool). Fits a a.stage (cond (not z) (cond (p + 1 == o.places) (ending v (with_excused wait (Announced p)) h) (record v { wait = Some (with_excused wait (Announced p)) })) v))
       (sym (ap (λ x. nat_le x n && nat_le n wait.high) out.low_is ∙ ap (λ x. nat_le (key_now o + 1) n && nat_le n x) out.high_is))
       (by_reader (is_reader o (Move m) n)))
@@ -181,7 +182,7 @@ module _ (k : Shape) (h : List Mark) (o : Own) (v : View) (n : ℕ) where
       let wait : Waiting = q.0 in
       let out = q.2 in
       let a : Own = after o n (at.LookStamp (Move m) clock p key) in
-      subst (λ x. Fits a a.stage (given v x (λ w. after_look v w (Stamp p) (p + 1 == o.places) n h))) (sym q.1)
+      subst (λ x. Fits a a.stage (after_look v x (Stamp p) (p + 1 == o.places) n h)) (sym (wait_is v _ q.1))
       (subst (λ (x : ℕ). Fits a a.stage (cond (n == idle || nat_lt x n) (cond (p + 1 == o.places) (ending v (with_excused wait (Stamp p)) h) (record v { wait = Some (with_excused wait (Stamp p)) })) v)) (sym out.clock_is)
       (by_stamp (n == idle || nat_lt clock n)))
     where

@@ -10,10 +10,12 @@ use Rattle.core_state.specs.declared.shape.Shape.{Shape}
 use Rattle.core_state.specs.steps.Seating.{spare_slot}
 use Rattle.core_state.specs.steps.Slots.{change_retired, without_retired, NeedsRaiseRetired, after_retired_life, after_raise_to_spare, after_raise_retired, after_free_retired, after_count_free}
 use lib.ListN.{get_elem?}
+use Rattle.core_acts.specs.Laws.{said}
 use Rattle.core_points.specs.declared.stage.Aim.{Aim}
 use Rattle.core_points.specs.declared.stage.Aim.TheVariants.{Leaf, Spare, Room}
 use Rattle.core_points.specs.declared.stage.Stage.TheVariants as at
-use Rattle.core_points.specs.Acts.{Needs, view_after, raise_old, raise_spare}
+use Rattle.core_acts.specs.declared.act.Act.TheVariants.{RaiseRetired, RaiseToSpare}
+use Rattle.core_points.specs.Acts.{Needs, view_after}
 use Rattle.core_points.specs.Callers.{Own, but_first, first_or_root, go, is_none_left, is_some, key_now}
 use Rattle.core_points.specs.Programs.{act_at, after, giving}
 use Rattle.core_points.specs.Facts.{ForAim, HasSpot, Owns, read_at, table_of}
@@ -127,16 +129,16 @@ module _ (k : Shape) (h : List Mark) (o : Own) (v : View) (n : ℕ) where
     where
       by_spare : (z : Bool) → is_some o.spare ≡ z → first_or_root o.retired ≡ (((f.point).3).0).slot
           → ((slot : ℕ) → slot ≡ (((f.point).3).0).slot → NeedsRaiseRetired v 0 ((f.point).3).0 slot life (2 * (life / 2 + 1)))
-          → Needs k v n (cond z (raise_old (first_or_root o.retired) (2 * (life / 2 + 1))) (raise_spare (first_or_root o.retired) (2 * (life / 2 + 1))))
+          → Needs k v n (cond z (RaiseRetired (first_or_root o.retired) (2 * (life / 2 + 1))) (RaiseToSpare (first_or_root o.retired) (2 * (life / 2 + 1))))
       by_spare true e is make = (0, life, ((f.point).3).0, make _ is, (λ none. absurd (let q : false ≡ true = ap is_some (ap spare_slot (sym none) ∙ f.owns.spare_is) ∙ e in cc)))
       by_spare false e is make = (0, life, ((f.point).3).0, make _ is, no_spare v.hands.spare o.spare f.owns.spare_is e)
 
   pub next_old_raise : (aim : Aim) (life : ℕ) → TellsAlone v → Fits o (at.OldRaise aim life) v
-      → Fits (after o n (at.OldRaise aim life)) (after o n (at.OldRaise aim life)).stage (view_after v h n (act_at o (at.OldRaise aim life)))
+      → Fits (after o n (at.OldRaise aim life)) (after o n (at.OldRaise aim life)).stage (view_after v h (said v (act_at o (at.OldRaise aim life)) n) (act_at o (at.OldRaise aim life)))
   next_old_raise aim life alone f = by_spare (is_some o.spare) refl
     where
       by_spare : (z : Bool) → is_some o.spare ≡ z → let o' : Own = cond z (go o (at.OldFree aim)) (giving (record o { spare = Some (first_or_root o.retired); retired = but_first o.retired }) aim) in
-          Fits o' o'.stage (view_after v h n (cond z (raise_old (first_or_root o.retired) (2 * (life / 2 + 1))) (raise_spare (first_or_root o.retired) (2 * (life / 2 + 1)))))
+          Fits o' o'.stage (view_after v h (said v (cond z (RaiseRetired (first_or_root o.retired) (2 * (life / 2 + 1))) (RaiseToSpare (first_or_root o.retired) (2 * (life / 2 + 1)))) n) (cond z (RaiseRetired (first_or_root o.retired) (2 * (life / 2 + 1))) (RaiseToSpare (first_or_root o.retired) (2 * (life / 2 + 1)))))
       by_spare true some_spare =
           let q = (f.point).3 in
           let r : Retired = q.0 in

@@ -9,7 +9,8 @@ use Rattle.core_state.specs.views.Known.{note_option}
 use Rattle.core_state.specs.steps.Slots.{raise_held, after_raise_in_hand, after_count_free}
 use Rattle.prcu_model.specs.declared.operation.Reply.TheVariants.{Old}
 use Rattle.core_points.specs.declared.stage.Stage.TheVariants as at
-use Rattle.core_points.specs.Acts.{Needs, view_after, raise_hand, free_hand}
+use Rattle.core_acts.specs.declared.act.Act.TheVariants.{RaiseInHand, FreeInHand}
+use Rattle.core_points.specs.Acts.{Needs, view_after}
 use Rattle.core_points.specs.Callers.{Own, go, key_now, or_root, value_in}
 use Rattle.core_points.specs.Programs.{act_at, after}
 use Rattle.core_points.specs.Facts.{HandFits, stored_at}
@@ -23,7 +24,7 @@ module _ (k : Shape) (h : List Mark) (o : Own) (v : View) (n : ℕ) where
       let hand = (f.point).1 in
       let leaf = subst (λ x. HandFits x o.hand_life (key_now o) (value_in o.op) v.hands.hand) hand.1 ((f.point).2).1 in
       let is = leaf.2 in
-      subst (λ s. Needs k v n (raise_hand s (2 * (o.hand_life / 2 + 1)))) (sym (ap or_root hand.1))
+      subst (λ s. Needs k v n (RaiseInHand s (2 * (o.hand_life / 2 + 1)))) (sym (ap or_root hand.1))
       (leaf.0, o.hand_life, record { in_hand = (leaf.1, is.slot_is); unraised = is.unraised; loaded = is.life_is; next = refl })
 
   pub next_raise : Fits o at.Raise v → Fits (after o n at.Raise) at.Free (view_after v h n (act_at o at.Raise))
@@ -47,7 +48,7 @@ module _ (k : Shape) (h : List Mark) (o : Own) (v : View) (n : ℕ) where
   pub needs_free : Fits o at.Free v → Needs k v n (act_at o at.Free)
   needs_free f =
       let q = (f.point).2 in
-      subst (λ s. Needs k v n (free_hand s)) (sym (ap or_root q.2))
+      subst (λ s. Needs k v n (FreeInHand s)) (sym (ap or_root q.2))
       (q.1, record { paid = ((f.point).1).4; in_hand = (q.5, q.3); raised = q.4 })
 
   pub next_free : Fits o at.Free v → Fits (after o n at.Free) at.Count (view_after v h n (act_at o at.Free))

@@ -10,11 +10,13 @@ use Rattle.core_state.specs.declared.view.Reading.{Reading}
 use Rattle.core_state.specs.declared.view.View.{View}
 use Rattle.core_state.specs.views.Known.{lock_of, noting, is_emptied}
 use Rattle.core_state.specs.steps.Links.{after_leaf_link}
+use Rattle.core_acts.proofs.Acting.{commit_is}
 use Rattle.core_points.proofs.Locking.{own_lock, clear_one}
 use Rattle.core_points.specs.declared.stage.Spot.{Spot}
 use Rattle.core_points.specs.declared.stage.Update.TheVariants as update
 use Rattle.core_points.specs.declared.stage.Stage.TheVariants as at
-use Rattle.core_points.specs.Acts.{Needs, view_after, given, link_leaf}
+use Rattle.core_acts.specs.declared.act.Act.TheVariants.{LinkLeaf}
+use Rattle.core_points.specs.Acts.{Needs, view_after}
 use Rattle.core_points.specs.Callers.{Own, is_none_left, key_now, or_root, value_in}
 use Rattle.core_points.specs.Programs.{act_at, after}
 use Rattle.core_points.specs.Facts.{AreClear, HandFits, one_lock, read_at, spot_known, stored_at}
@@ -34,7 +36,7 @@ module _ (k : Shape) (h : List Mark) (o : Own) (v : View) (n : ℕ) where
       let held : Held = leaf.0 in
       let is = leaf.2 in
       let r : Reading = has.0 in
-      subst (λ s. Needs k v n (link_leaf spot.slot spot.side s (key_now o) (value_in o.op))) (sym (ap or_root hand.1)) (
+      subst (λ s. Needs k v n (LinkLeaf spot.slot spot.side s (key_now o) (value_in o.op))) (sym (ap or_root hand.1)) (
         record { found = front; stored = false },
         r,
         record { slot = spot.slot; known = spot_known spot; left_emptied = false; right_emptied = false; marked = false },
@@ -76,7 +78,7 @@ module _ (k : Shape) (h : List Mark) (o : Own) (v : View) (n : ℕ) where
       let owns = owns_noted o v spot.slot (Link spot.slot spot.side) leaf true f.owns in
       let b = bare_noted v spot.slot (Link spot.slot spot.side) leaf true (one_lock spot.slot (spot_known spot)) (one_lock spot.slot (stored_at (Link spot.slot spot.side) leaf ∷ spot_known spot)) (Some (record { found = front; stored = false })) false p.2
       (one_noted spot.slot (spot_known spot) (Link spot.slot spot.side) leaf true) in
-      subst (λ x. Fits o' o'.stage (given v x (λ t. after_leaf_link v t spot.slot spot.side leaf (key_now o) (value_in o.op) h))) (sym (p.2).1)
+      subst (λ x. Fits o' o'.stage (after_leaf_link v x spot.slot spot.side leaf (key_now o) (value_in o.op) h)) (sym (commit_is v _ (p.2).1))
       (record {
         owns = record {
           same = owns.same;

@@ -14,11 +14,12 @@ use Rattle.core_state.specs.declared.view.View.{View}
 use Rattle.core_state.specs.views.Known.{note_option}
 use Rattle.core_state.specs.steps.Loads.{after_search_load}
 use Rattle.core_state.specs.steps.Slots.{seized}
+use Rattle.core_acts.proofs.Acting.{section_is}
 use Rattle.core_points.specs.declared.stage.Spot.{Spot}
 use Rattle.core_points.specs.declared.stage.Aim.TheVariants.{Leaf}
 use Rattle.core_points.specs.declared.stage.Waits.TheVariants.{Reuse}
 use Rattle.core_points.specs.declared.stage.Stage.TheVariants as at
-use Rattle.core_points.specs.Acts.{Needs, view_after, given}
+use Rattle.core_points.specs.Acts.{Needs, view_after}
 use Rattle.core_points.specs.Callers.{Own, go, is_none_left}
 use Rattle.core_points.specs.Programs.{act_at, after, answer, none_free}
 use Rattle.core_points.specs.Facts.{read_at}
@@ -43,7 +44,7 @@ module _ (k : Shape) (h : List Mark) (o : Own) (v : View) (n : ℕ) where
       let i = (f.point).2 in
       let section : Section = i.0 in
       let o' : Own = go o (at.SpotLife s b n) in
-      subst (λ x. Fits o' (at.SpotLife s b n) (given v x (λ z. after_search_load v z (Tag s b) n))) (sym i.1)
+      subst (λ x. Fits o' (at.SpotLife s b n) (after_search_load v x (Tag s b) n)) (sym (section_is v _ i.1))
       (subst (λ (r : Reading). Fits o' (at.SpotLife s b n) (record v { section = Some (record section { reading = r }) })) (sym (missed_stays section.reading s b (Tag s b) n (i.2).state_is))
       (record {
         owns = f.owns;
@@ -60,7 +61,7 @@ module _ (k : Shape) (h : List Mark) (o : Own) (v : View) (n : ℕ) where
       let i = (f.point).2 in
       let section : Section = i.0 in
       let o' : Own = after o n (at.SpotLife s b tag) in
-      subst (λ x. Fits o' o'.stage (given v x (λ z. after_search_load v z (Life s) n))) (sym i.1)
+      subst (λ x. Fits o' o'.stage (after_search_load v x (Life s) n)) (sym (section_is v _ i.1))
       (subst (λ (r : Reading). Fits o' o'.stage (record v { section = Some (record section { reading = r }) })) (sym (missed_stays section.reading s b (Life s) n (i.2).state_is))
       (record {
         owns = f.owns;

@@ -16,13 +16,14 @@ use Rattle.core_state.specs.declared.shape.Shape.{Shape}
 use Rattle.core_state.specs.declared.shape.Waiter.TheVariants.{Eer, Domain, Deer}
 use Rattle.core_state.specs.memory.Memory.{idle}
 use mathlib.Core.Option.{some, some-injective}
+use Rattle.core_acts.proofs.Acting.{wait_is}
 use Rattle.core_points.specs.declared.stage.Spot.{Spot}
 use Rattle.core_points.specs.declared.stage.Aim.{Aim}
 use Rattle.core_points.specs.declared.stage.Aim.TheVariants.{Leaf, Spare, Room}
 use Rattle.core_points.specs.declared.stage.Waits.TheVariants.{Reuse}
 use Rattle.core_points.specs.declared.stage.Stage.{Stage}
 use Rattle.core_points.specs.declared.stage.Stage.TheVariants as at
-use Rattle.core_points.specs.Acts.{Needs, view_after, given}
+use Rattle.core_points.specs.Acts.{Needs, view_after}
 use Rattle.core_points.specs.Callers.{Own, go, is_none_left, is_some, key_now, value_in}
 use Rattle.core_points.specs.Programs.{act_at, after, excused, given_back, giving, is_reader, taking}
 use Rattle.core_points.specs.Facts.{Calm, ForAim, HandFits, HasSpot, Idle, Outlasts, Owns, table_of}
@@ -151,12 +152,12 @@ module _ (k : Shape) (h : List Mark) (o : Own) (v : View) (n : ℕ) where
   pub needs_look_key : (aim : Aim) (clock p : ℕ) → k.waiter ≡ Eer → k.places ≡ o.places → Fits o (at.LookKey (Reuse aim) clock p) v → Needs k v n (act_at o (at.LookKey (Reuse aim) clock p))
   needs_look_key aim clock p eer places f =
       let q = (f.point).3 in
-      (q.0, record { wait_is = q.1; going = (q.2).going; rest = λ is_last ex other spot. seen_all q.0 p (Announced p) (p + 1 == o.places) eer places refl refl (f.point).2 (q.2).past is_last other spot })
+      (q.0, record { wait_is = q.1; going = (q.2).going; rest = λ is_last other spot. seen_all q.0 p (Announced p) (p + 1 == o.places) eer places refl refl (f.point).2 (q.2).past is_last other spot })
 
   pub needs_look_stamp : (aim : Aim) (clock p key : ℕ) → k.waiter ≡ Eer → k.places ≡ o.places → Fits o (at.LookStamp (Reuse aim) clock p key) v → Needs k v n (act_at o (at.LookStamp (Reuse aim) clock p key))
   needs_look_stamp aim clock p key eer places f =
       let q = (f.point).3 in
-      (q.0, record { wait_is = q.1; going = (q.2).going; rest = λ is_last ex other spot. seen_all q.0 p (Stamp p) (p + 1 == o.places) eer places refl refl (f.point).2 (q.2).past is_last other spot })
+      (q.0, record { wait_is = q.1; going = (q.2).going; rest = λ is_last other spot. seen_all q.0 p (Stamp p) (p + 1 == o.places) eer places refl refl (f.point).2 (q.2).past is_last other spot })
 
   pub for_aim_same : (aim : Aim) (w : View) → w.records ≡ v.records → ForAim o v aim → ForAim o w aim
   for_aim_same (Leaf spot) w e (has, put) = (subst (λ rs. HasSpot (table_of o) rs (key_now o) spot) (sym e) has, put)
@@ -223,7 +224,7 @@ module _ (k : Shape) (h : List Mark) (o : Own) (v : View) (n : ℕ) where
       let wait : Waiting = q.0 in
       let out = q.2 in
       let a : Own = after o n (at.LookKey (Reuse aim) clock p) in
-      subst (λ x. Fits a a.stage (given v x (λ w. after_look v w (Announced p) (p + 1 == o.places) n h))) (sym q.1)
+      subst (λ x. Fits a a.stage (after_look v x (Announced p) (p + 1 == o.places) n h)) (sym (wait_is v _ q.1))
       (subst (λ (z : Bool). Fits a a.stage (cond (not z) (cond (p + 1 == o.places) (ending v (with_excused wait (Announced p)) h) (record v { wait = Some (with_excused wait (Announced p)) })) v))
       (sym (ap (λ x. nat_le x n && nat_le n wait.high) out.low_is ∙ ap (λ x. nat_le 0 n && nat_le n x) out.high_is))
       (by_reader (is_reader o (Reuse aim) n)))
@@ -240,7 +241,7 @@ module _ (k : Shape) (h : List Mark) (o : Own) (v : View) (n : ℕ) where
       let wait : Waiting = q.0 in
       let out = q.2 in
       let a : Own = after o n (at.LookStamp (Reuse aim) clock p key) in
-      subst (λ x. Fits a a.stage (given v x (λ w. after_look v w (Stamp p) (p + 1 == o.places) n h))) (sym q.1)
+      subst (λ x. Fits a a.stage (after_look v x (Stamp p) (p + 1 == o.places) n h)) (sym (wait_is v _ q.1))
       (subst (λ (x : ℕ). Fits a a.stage (cond (n == idle || nat_lt x n) (cond (p + 1 == o.places) (ending v (with_excused wait (Stamp p)) h) (record v { wait = Some (with_excused wait (Stamp p)) })) v)) (sym out.clock_is)
       (by_stamp (n == idle || nat_lt clock n)))
     where

@@ -14,12 +14,14 @@ use Rattle.core_state.specs.declared.view.SearchState.TheVariants.{At, Unread, F
 use Rattle.core_state.specs.declared.view.View.{View}
 use Rattle.list_laws.specs.Counts.{IsIn}
 use Rattle.core_state.specs.memory.Words.{step_side}
-use Rattle.core_state.specs.steps.Sections.{after_enter_by_stamp, new_section}
+use Rattle.core_state.specs.steps.Sections.{new_section}
 use Rattle.core_state.specs.steps.Loads.{key_stand, after_search_load}
 use Rattle.core_frames.proofs.views.Readings.{link_moves, key_moves, value_moves}
+use Rattle.core_acts.specs.Acts.{clocked_at}
+use Rattle.core_acts.proofs.Acting.{section_is}
 use Rattle.core_points.specs.declared.stage.Then.TheVariants as then
 use Rattle.core_points.specs.declared.stage.Stage.TheVariants as at
-use Rattle.core_points.specs.Acts.{Needs, view_after, given}
+use Rattle.core_points.specs.Acts.{Needs, view_after}
 use Rattle.core_points.specs.Callers.{Own, go, key_now}
 use Rattle.core_points.specs.Programs.{act_at, after, ended, found, key_read}
 use Rattle.core_points.specs.Facts.{Calm, Inside, Nothing, Stands, is_delete, is_put, is_set}
@@ -52,10 +54,7 @@ module _ (k : Shape) (h : List Mark) (o : Own) (v : View) (n : ℕ) where
   pub next_stamp : (clock : ℕ) → Fits o (at.EnterStamp clock) v → Fits (after o n (at.EnterStamp clock)) (at.AtLink 0 Right) (view_after v h n (act_at o (at.EnterStamp clock)))
   next_stamp clock f =
       let p = f.point in
-      let c = p.2 in
-      let w : View = after_enter_by_stamp v (key_now o) c.0 h in
-      subst (λ x. Fits (go o (at.AtLink 0 Right)) (at.AtLink 0 Right) (given v x (λ z. after_enter_by_stamp v (key_now o) z h))) (sym c.1)
-      (record { owns = f.owns; unraised = λ z. f.unraised refl; tickets = f.tickets; point = (p.1, (new_section v (key_now o) (c.0).number (c.0).at h, refl, record { searches = refl; key_is = refl; sought = refl; state_is = refl; here = first_in [] 0 }, tt)) })
+      record { owns = f.owns; unraised = λ z. f.unraised refl; tickets = f.tickets; point = (p.1, (new_section v (key_now o) clock (clocked_at v) h, refl, record { searches = refl; key_is = refl; sought = refl; state_is = refl; here = first_in [] 0 }, tt)) }
 
   pub needs_link : (s : ℕ) (b : Side) → Fits o (at.AtLink s b) v → Needs k v n (act_at o (at.AtLink s b))
   needs_link s b f = let i = (f.point).1 in (i.0, record { section_is = i.1; searches = (i.2).searches; stood = (i.2).here; loadable = refl })
@@ -77,7 +76,7 @@ module _ (k : Shape) (h : List Mark) (o : Own) (v : View) (n : ℕ) where
       let p = f.point in
       let i = p.1 in
       let section : Section = i.0 in
-      subst (λ x. Fits (after o n (at.AtLink s b)) (after o n (at.AtLink s b)).stage (given v x (λ z. after_search_load v z (Link s b) n))) (sym i.1)
+      subst (λ x. Fits (after o n (at.AtLink s b)) (after o n (at.AtLink s b)).stage (after_search_load v x (Link s b) n)) (sym (section_is v _ i.1))
       (subst (λ (r : Reading). Fits (after o n (at.AtLink s b)) (after o n (at.AtLink s b)).stage (record v { section = Some (record section { reading = r }) })) (sym (link_moves section.reading s b n (i.2).state_is))
       (go_on (n == 0) section p.0 i.2))
     where
@@ -120,7 +119,7 @@ module _ (k : Shape) (h : List Mark) (o : Own) (v : View) (n : ℕ) where
   next_read s p b f =
       let i = (f.point).1 in
       let section : Section = i.0 in
-      subst (λ x. Fits (after o n (at.AtKey s p b)) (after o n (at.AtKey s p b)).stage (given v x (λ z. after_search_load v z (Key s) n))) (sym i.1)
+      subst (λ x. Fits (after o n (at.AtKey s p b)) (after o n (at.AtKey s p b)).stage (after_search_load v x (Key s) n)) (sym (section_is v _ i.1))
       (subst (λ (r : Reading). Fits (after o n (at.AtKey s p b)) (after o n (at.AtKey s p b)).stage (record v { section = Some (record section { reading = r }) }))
       (sym (key_moves section.reading s p b n (i.2).state_is ∙ ap (λ x. record section.reading { loads = record { field = Key s; number = n; stored = false } ∷ section.reading.loads; state = key_stand s p b (step_side x n) }) (i.2).sought))
       (go_on (step_side (key_now o) n) section (f.point).0 i.2 i.3))
@@ -149,7 +148,7 @@ module _ (k : Shape) (h : List Mark) (o : Own) (v : View) (n : ℕ) where
       let p = (f.point).2 in
       let i = p.2 in
       let section : Section = i.0 in
-      subst (λ x. Fits (go o (at.Leave (then.Value n))) (at.Leave (then.Value n)) (given v x (λ z. after_search_load v z (Value s) n))) (sym i.1)
+      subst (λ x. Fits (go o (at.Leave (then.Value n))) (at.Leave (then.Value n)) (after_search_load v x (Value s) n)) (sym (section_is v _ i.1))
       (subst (λ (r : Reading). Fits (go o (at.Leave (then.Value n))) (at.Leave (then.Value n)) (record v { section = Some (record section { reading = r }) })) (sym (value_moves section.reading s p.0 p.1 n (i.2).state_is))
       (record {
         owns = f.owns;

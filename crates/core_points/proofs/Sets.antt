@@ -18,12 +18,13 @@ use Rattle.core_state.specs.views.Known.{known_in, known_of, lock_of, LoadedGene
 use Rattle.core_state.specs.steps.Links.{after_replace}
 use Rattle.core_state.specs.steps.Locks.{new_lock}
 use Rattle.core_state.specs.steps.Sections.{leaving}
+use Rattle.core_acts.proofs.Acting.{commit_is, section_is}
 use Rattle.core_points.specs.declared.stage.Last.TheVariants as last
 use Rattle.core_points.specs.declared.stage.Stage.{Stage}
 use Rattle.core_points.specs.declared.stage.Stage.TheVariants as at
 use Rattle.core_points.specs.declared.stage.Then.TheVariants as then
 use Rattle.core_points.specs.declared.stage.Update.TheVariants as update
-use Rattle.core_points.specs.Acts.{Needs, given, view_after}
+use Rattle.core_points.specs.Acts.{Needs, view_after}
 use Rattle.core_points.specs.Callers.{Own, go, is_none_left, key_now, value_in}
 use Rattle.core_points.specs.Programs.{act_at, after, committing}
 use Rattle.core_points.specs.Facts.{AreClear, Bare, Calm, HandFits, Quiet, Setting, is_put, is_set, one_lock, read_at, set_known, stored_at, table_of}
@@ -90,7 +91,7 @@ module _ (k : Shape) (h : List Mark) (o : Own) (v : View) (n : ℕ) where
       let i = q.2 in
       let section : Section = i.0 in
       let calm = (f.point).0 in
-      subst (λ x. Fits (go o (at.SetLock s generation)) (at.SetLock s generation) (given v x (λ s. leaving v s h))) (sym i.1)
+      subst (λ x. Fits (go o (at.SetLock s generation)) (at.SetLock s generation) (leaving v x h)) (sym (section_is v _ i.1))
       (record {
         owns = f.owns;
         unraised = λ z. f.unraised refl;
@@ -202,7 +203,7 @@ module _ (k : Shape) (h : List Mark) (o : Own) (v : View) (n : ℕ) where
       let owns = owns_noted o v s (Value s) value true f.owns in
       let q = quiet_noted o v s (Value s) value true (Some (record { found = front; stored = false })) p.0 in
       let is : w.locks ≡ one_lock s (stored_at (Value s) value ∷ set_known s g old) = ap (change_lock s (note_lock (stored_at (Value s) value))) p.1 ∙ one_noted s (set_known s g old) (Value s) value true in
-      subst (λ x. Fits (go o (at.Even (update.Value s old) front)) (at.Even (update.Value s old) front) (given v x (λ t. after_replace v t s (key_now o) value h))) (sym (p.0).1)
+      subst (λ x. Fits (go o (at.Even (update.Value s old) front)) (at.Even (update.Value s old) front) (after_replace v x s (key_now o) value h)) (sym (commit_is v _ (p.0).1))
       (record {
         owns = owns;
         unraised = λ z. f.unraised refl;

@@ -15,7 +15,10 @@ use Rattle.core_points.specs.declared.stage.Found.{Found}
 use Rattle.core_points.specs.declared.stage.Node.{Node}
 use Rattle.core_points.specs.declared.stage.Successor.{Successor}
 use Rattle.core_points.specs.declared.stage.Target.{Target}
-use Rattle.core_points.specs.DeletePlan.{successor_field, successor_slot, target_field, target_slot, with_found}
+use Rattle.core_acts.specs.declared.act.Part.{Part}
+use Rattle.core_acts.specs.declared.act.Part.TheVariants as part
+use Rattle.core_acts.specs.Acts.{in_slot}
+use Rattle.core_points.specs.DeletePlan.{successor_field, successor_slot, target_field, target_slot, with_found, successor_part, target_part}
 use Rattle.core_points.specs.Facts.{read_at}
 use Rattle.core_points.specs.DeleteFacts.{AreApart, HasLoaded, Holds, HoldsAll, HoldsSuccessorLocks, IsLoadedNow, IsSkipped, found_number, target_words, two_children, under}
 use Rattle.core_points.proofs.UnderLocks.{loaded_more, loaded_now}
@@ -38,34 +41,41 @@ word_held locks t i all = by (nat_lt i 2) (nat_lt i 5)
     by false true = all.2
     by false false = below t.successor all.4
 
-six_loadable : (d : Node) (u : Successor) (z : Bool) → (u.parent == d.node) ≡ z → IsLoadable u.parent (cond z (Link d.node Right) (Link u.parent Left))
-six_loadable d u true e = sym (eqb-true u.parent d.node e)
-six_loadable d u false e = refl
-
 most_words : (h : Option Successor) → target_words h ≤ 9
 most_words None = omega arith
 most_words (Some u) = omega arith
 
-successor_loadable : (d : Node) (h : Option Successor) (i : ℕ) → 5 + i < target_words h → IsLoadable (successor_slot d h (5 + i)) (successor_field d h (5 + i))
-successor_loadable d None i lt = absurd (omega arith)
-successor_loadable d (Some u) zero lt = refl
-successor_loadable d (Some u) (suc zero) lt = six_loadable d u (u.parent == d.node) refl
-successor_loadable d (Some u) (suc (suc zero)) lt = refl
-successor_loadable d (Some u) (suc (suc (suc zero))) lt = refl
-successor_loadable d (Some u) (suc (suc (suc (suc i)))) lt = absurd (omega arith)
-
 -- each word is one of its slot
-pub word_loadable : (t : Target) (i : ℕ) → i < target_words t.successor → IsLoadable (target_slot t i) (target_field t i)
-word_loadable t zero lt = refl
-word_loadable t (suc zero) lt = refl
-word_loadable t (suc (suc zero)) lt = refl
-word_loadable t (suc (suc (suc zero))) lt = refl
-word_loadable t (suc (suc (suc (suc zero)))) lt = refl
-word_loadable t (suc (suc (suc (suc (suc zero))))) lt = successor_loadable t.node t.successor 0 lt
-word_loadable t (suc (suc (suc (suc (suc (suc zero)))))) lt = successor_loadable t.node t.successor 1 lt
-word_loadable t (suc (suc (suc (suc (suc (suc (suc zero))))))) lt = successor_loadable t.node t.successor 2 lt
-word_loadable t (suc (suc (suc (suc (suc (suc (suc (suc zero)))))))) lt = successor_loadable t.node t.successor 3 lt
-word_loadable t (suc (suc (suc (suc (suc (suc (suc (suc (suc i))))))))) lt = absurd (let most = most_words t.successor in omega arith)
+six_is : (d : Node) (u : Successor) (z : Bool) → (u.parent == d.node) ≡ z → in_slot u.parent (cond z (part.Link Right) (part.Link Left)) ≡ cond z (Link d.node Right) (Link u.parent Left)
+six_is d u true e = ap (λ s. Link s Right) (eqb-true u.parent d.node e)
+six_is d u false e = refl
+
+successor_is : (d : Node) (h : Option Successor) (i : ℕ) → 5 + i < target_words h → in_slot (successor_slot d h (5 + i)) (successor_part d h (5 + i)) ≡ successor_field d h (5 + i)
+successor_is d None i lt = absurd (omega arith)
+successor_is d (Some u) zero lt = refl
+successor_is d (Some u) (suc zero) lt = six_is d u (u.parent == d.node) refl
+successor_is d (Some u) (suc (suc zero)) lt = refl
+successor_is d (Some u) (suc (suc (suc zero))) lt = refl
+successor_is d (Some u) (suc (suc (suc (suc i)))) lt = absurd (omega arith)
+
+pub word_is : (t : Target) (i : ℕ) → i < target_words t.successor → in_slot (target_slot t i) (target_part t i) ≡ target_field t i
+word_is t zero lt = refl
+word_is t (suc zero) lt = refl
+word_is t (suc (suc zero)) lt = refl
+word_is t (suc (suc (suc zero))) lt = refl
+word_is t (suc (suc (suc (suc zero)))) lt = refl
+word_is t (suc (suc (suc (suc (suc zero))))) lt = successor_is t.node t.successor 0 lt
+word_is t (suc (suc (suc (suc (suc (suc zero)))))) lt = successor_is t.node t.successor 1 lt
+word_is t (suc (suc (suc (suc (suc (suc (suc zero))))))) lt = successor_is t.node t.successor 2 lt
+word_is t (suc (suc (suc (suc (suc (suc (suc (suc zero)))))))) lt = successor_is t.node t.successor 3 lt
+word_is t (suc (suc (suc (suc (suc (suc (suc (suc (suc i))))))))) lt = absurd (let most = most_words t.successor in omega arith)
+
+pub part_loadable : (s : ℕ) (p : Part) → IsLoadable s (in_slot s p)
+part_loadable s part.Life = refl
+part_loadable s part.Key = refl
+part_loadable s part.Value = refl
+part_loadable s (part.Link b) = refl
+part_loadable s (part.Tag b) = refl
 
 -- the words of the node and its parent
 node_words : (t : Target) → t.node.parent ≢ t.node.node → (i j : ℕ) → j < i → i < 5 → same_field (target_field t i) (target_field t j) ≡ false

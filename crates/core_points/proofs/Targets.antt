@@ -24,7 +24,7 @@ use Rattle.core_points.specs.declared.stage.Stage.{Stage}
 use Rattle.core_points.specs.declared.stage.Stage.TheVariants as at
 use Rattle.core_points.specs.Acts.{Needs, view_after}
 use Rattle.core_points.specs.Callers.{Own, go, is_none_left, key_now}
-use Rattle.core_points.specs.DeletePlan.{last_right, nothing_found, target_field, target_holds, target_lock, target_locks, target_slot, with_found}
+use Rattle.core_points.specs.DeletePlan.{last_right, nothing_found, target_field, target_holds, target_lock, target_locks, target_part, target_slot, with_found}
 use Rattle.core_points.specs.Programs.{act_at, after, deleting, past_target_load}
 use Rattle.core_points.specs.Facts.{AreClear, Owns, Quiet, read_at, table_of}
 use Rattle.core_points.specs.DeleteFacts.{ReadsParent, AreGot, BothHold, FewHold, HasLoaded, HasTarget, Holds, HoldsAll, HoldsSuccessorLocks, IsLoadedNow, IsSkipped, IsUnmarked, first_locks, found_number, target_words, two_children, under}
@@ -34,7 +34,7 @@ use Rattle.core_points.proofs.Locking.{no_slots, clear_changed, each_more, IsCle
 use Rattle.core_points.proofs.Notes.{owns_more, owns_noted}
 use Rattle.core_points.proofs.PutLocks.{both_true}
 use Rattle.core_points.proofs.Sets.{quiet_noted, quiet_calm, quiet_hand}
-use Rattle.core_points.proofs.TargetWords.{word_held, word_loadable, one_more}
+use Rattle.core_points.proofs.TargetWords.{word_held, word_is, part_loadable, one_more}
 use Rattle.core_points.proofs.UnderLocks.{held_still}
 use Rattle.core_points.proofs.Unlocks.{none_in}
 use Rattle.core_tree.proofs.locks.Relocking.{length_change}
@@ -326,12 +326,15 @@ module _ (k : Shape) (h : List Mark) (o : Own) (v : View) (n : ℕ) where
 
   -- the loads
   pub needs_target_load : (t : Target) (i : ℕ) (found : Found) → Fits o (at.TargetLoad t i found) v → Needs k v n (act_at o (at.TargetLoad t i found))
-  needs_target_load t i found f = let p = f.point in record { held = word_held v.locks t i p.5; loadable = word_loadable t i p.7 }
+  needs_target_load t i found f = let p = f.point in record { held = word_held v.locks t i p.5; loadable = part_loadable (target_slot t i) (target_part t i) }
 
   pub next_target_load : (t : Target) (i : ℕ) (found : Found) → Fits o (at.TargetLoad t i found) v
       → Fits (after o n (at.TargetLoad t i found)) (after o n (at.TargetLoad t i found)).stage (view_after v h n (act_at o (at.TargetLoad t i found)))
-  next_target_load t i found f = by t.successor refl
+  next_target_load t i found f = subst (λ x. Fits o' o'.stage (noting v (target_slot t i) x n false)) (sym (word_is t i (f.point).7)) (by t.successor refl)
     where
+      o' : Own
+      o' = after o n (at.TargetLoad t i found)
+
       s : ℕ
       s = target_slot t i
 

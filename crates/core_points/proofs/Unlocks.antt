@@ -12,7 +12,8 @@ use Rattle.list_laws.proofs.Lists.{times_here}
 use Rattle.core_points.specs.declared.stage.Last.{Last}
 use Rattle.core_points.specs.declared.stage.Last.TheVariants as last
 use Rattle.core_points.specs.declared.stage.Stage.TheVariants as at
-use Rattle.core_points.specs.Acts.{Needs, view_after, unlock}
+use Rattle.core_acts.specs.declared.act.Act.TheVariants.{Unlock}
+use Rattle.core_points.specs.Acts.{Needs, view_after}
 use Rattle.core_points.specs.Callers.{Own, but_first, first_or_root, go, is_none_left}
 use Rattle.core_points.specs.Programs.{act_at, after, answer, unlocked}
 use Rattle.core_points.specs.Facts.{Owns, Unlocking}
@@ -30,13 +31,13 @@ none_in [] e = refl
 none_in (s ∷ xs) e = cc
 
 module _ (k : Shape) (h : List Mark) (o : Own) (v : View) (n : ℕ) where
-  unlock_needs : Owns o v → Unlocking o v → Needs k v n (unlock (first_or_root o.locks))
+  unlock_needs : Owns o v → Unlocking o v → Needs k v n (Unlock (first_or_root o.locks))
   unlock_needs owns u =
       let has = some_lock o.locks u.6 in
       let s : ℕ = has.0 in
       let held = held_in v.locks s (let a = owns.locks_are s in let b : times s o.locks ≡ times s (s ∷ has.1) = ap (times s) has.2 in let c = times_here s has.1 in omega arith) in
       let clear = clear_lock v.locks s held.0 u.5 held.1 in
-      subst (λ x. Needs k v n (unlock x)) (sym (ap first_or_root has.2))
+      subst (λ x. Needs k v n (Unlock x)) (sym (ap first_or_root has.2))
       (held.0, record { held = held.1; no_end = subst (IsNoEnd s) (sym u.2) tt; left = clear.0; right = clear.1; unmarked = clear.2 })
 
   unlocking : (l : Last) → Fits o (at.Unlock l) v → Unlocking o v

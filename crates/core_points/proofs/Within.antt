@@ -1,16 +1,14 @@
 -- The word of each act is one of the table's.
-use Rattle.std.proofs.Common.{◌≡◌, ◌⊎◌, ℕ, ◌+◌, ◌*◌, ◌/◌, ◌==◌, ◌<◌, ◌&&◌, nat_lt, cond, Bool, true, false, List, Option, Some, None, refl, sym, ap, subst, ◌∙◌, ⊎_elim, arith}
-use Rattle.std.proofs.lemmas.Bool.{lt-ltb}
+use Rattle.std.proofs.Common.{◌≡◌, ◌⊎◌, ℕ, ◌+◌, ◌*◌, ◌/◌, ◌==◌, ◌<◌, cond, Bool, true, false, List, Option, Some, None, refl, subst, ⊎_elim, arith}
 use Rattle.prcu_marks.specs.declared.mark.Mark.{Mark}
 use Rattle.core_state.specs.declared.shape.Shape.{Shape}
 use Rattle.core_state.specs.declared.shape.Waiter.TheVariants.{Eer}
 use Rattle.core_state.specs.declared.words.Field.{Field}
-use Rattle.core_state.specs.declared.words.Field.TheVariants.{Life, Key, Value, Link, Tag}
+use Rattle.core_state.specs.declared.words.Field.TheVariants.{Life, Link}
 use Rattle.core_state.specs.declared.view.Held.{Held}
 use Rattle.core_state.specs.declared.view.View.{View}
-use Rattle.core_state.specs.memory.Memory.{is_field, same_waiter, slot_count}
-use Rattle.core_state.specs.views.Known.{IsLoadable, known_under, loaded_in}
-use Rattle.core_state.specs.steps.Slots.{IsContent}
+use Rattle.core_state.specs.memory.Memory.{slot_count}
+use Rattle.core_state.specs.views.Known.{known_under, loaded_in}
 use Rattle.core_points.specs.declared.stage.Aim.TheVariants.{Leaf, Spare, Room}
 use Rattle.core_points.specs.declared.stage.Node.{Node}
 use Rattle.core_points.specs.declared.stage.Successor.{Successor}
@@ -20,7 +18,12 @@ use Rattle.core_points.specs.declared.stage.Stage.TheVariants as at
 use Rattle.core_points.specs.declared.stage.Then.TheVariants as then
 use Rattle.core_points.specs.declared.stage.Update.TheVariants as update
 use Rattle.core_points.specs.declared.stage.Waits.TheVariants.{Reuse, Move}
-use Rattle.core_points.specs.Acts.{Act, load_clock, store_key, store_stamp, store_idle, begin, look_key, look_stamp, load_age, load_kept, load_old_age, reserve, seize, fill, raise_hand, raise_spare, raise_old, free_hand, free_old, count_free, lock, unlock, load, load_locked, commit, end_commit, link_leaf, bypass, mark, raise_tag, link_copy, unlink_left, unlink_right, store_value, field_of, Needs}
+use Rattle.core_acts.specs.declared.act.Part.{Part}
+use Rattle.core_acts.specs.declared.act.Part.TheVariants as part
+use Rattle.core_acts.specs.Acts.{in_slot, IsWord}
+use Rattle.core_acts.specs.declared.act.Act.TheVariants as acts
+use Rattle.core_acts.specs.declared.act.Act.TheVariants.{LoadClock, AnnounceKey, EnterByStamp, LeaveByStamp, BeginWait, LookKey, LookStamp, LoadOwnLife, KeepAsSpare, LoadRetiredLife, Reserve, Seize, Fill, RaiseInHand, RaiseToSpare, RaiseRetired, FreeInHand, FreeRetired, CountFree, Lock, Unlock, SearchLoad, LockedLoad, OpenCommit, CloseCommit, LinkLeaf, Bypass, Mark as MarkNode, RaiseTag, LinkCopy, UnlinkLeft, UnlinkRight, ReplaceValue}
+use Rattle.core_points.specs.Acts.{Act, field_of, is_step, Needs}
 use Rattle.core_points.specs.Callers.{Own, first_or_root, is_some, or_root}
 use Rattle.core_points.specs.DeletePlan.{target_lock, successor_lock}
 use Rattle.core_points.specs.Programs.{act_at}
@@ -34,10 +37,19 @@ use Rattle.core_tree.proofs.locks.Locked.{loaded_known, lock_under}
 
 -- what the needs of an act don't say of its word
 abbrev Extra : Own → Act → Type 0
-Extra o (lock slot) = slot < table_of o
-Extra o (seize slot) = slot < table_of o
-Extra o (look_key p last) = p < o.places
-Extra o (look_stamp p last) = p < o.places
+Extra o (Lock slot) = slot < table_of o
+Extra o (Seize slot) = slot < table_of o
+Extra o (LookKey p last) = p < o.places
+Extra o (LookStamp p last) = p < o.places
+Extra o (acts.ListLoad slot p) = ⊥
+Extra o (acts.LoadGate class) = ⊥
+Extra o (acts.EnterByCount key side) = ⊥
+Extra o (acts.LeaveByCount class side) = ⊥
+Extra o (acts.LookCount class side last) = ⊥
+Extra o (acts.TurnGate class) = ⊥
+Extra o (acts.EnterByRow key stamp) = ⊥
+Extra o (acts.LeaveByRow class) = ⊥
+Extra o (acts.LookRow p class last) = ⊥
 Extra o _ = Unit {0}
 
 by_cases : (o : Own) (a b : Act) (z : Bool) → Extra o a → Extra o b → Extra o (cond z a b)
@@ -109,7 +121,7 @@ extra_all o v h word told (at.LookKey (Move m) clock p) f = ((f.point).3).0
 extra_all o v h word told (at.LookStamp (Reuse aim) clock p key) f = (f.point).2
 extra_all o v h word told (at.LookStamp (Move m) clock p key) f = ((f.point).3).0
 extra_all o v h word told (at.OldAge aim) f = tt
-extra_all o v h word told (at.OldRaise aim life) f = by_cases o (raise_old (first_or_root o.retired) (2 * (life / 2 + 1))) (raise_spare (first_or_root o.retired) (2 * (life / 2 + 1))) (is_some o.spare) tt tt
+extra_all o v h word told (at.OldRaise aim life) f = by_cases o (RaiseRetired (first_or_root o.retired) (2 * (life / 2 + 1))) (RaiseToSpare (first_or_root o.retired) (2 * (life / 2 + 1))) (is_some o.spare) tt tt
 extra_all o v h word told (at.OldFree aim) f = tt
 extra_all o v h word told (at.OldCount aim) f = tt
 extra_all o v h word told (at.Commit u expected) f = tt
@@ -143,28 +155,21 @@ extra_all o v h word told (at.CopyLock d u next_key) f = copy_within o v h word 
 extra_all o v h word told (at.CopyMark d u next_key) f = tt
 extra_all o v h word told (at.OldMark m) f = tt
 extra_all o v h word told (at.OldRight m) f = tt
-extra_all o v h word told (at.Unlink m child) f = by_cases o (unlink_right m.copy m.successor.slot child) (unlink_left m.successor.parent m.successor.slot child) (m.successor.parent == m.node.node) tt tt
+extra_all o v h word told (at.Unlink m child) f = by_cases o (UnlinkRight m.copy m.successor.slot child) (UnlinkLeft m.successor.parent m.successor.slot child) (m.successor.parent == m.node.node) tt tt
 
-module _ (k : Shape) (h : List Mark) (o : Own) (v : View) (word : Field → ℕ) (eer : k.waiter ≡ Eer) (slots : k.slots ≡ o.slots) (places : k.places ≡ o.places) (told : IsTold o v h word) where
-  slot_in : (s : ℕ) → s < table_of o → nat_lt s (slot_count k) ≡ true
-  slot_in s lt = lt-ltb s (slot_count k) (omega arith)
+module _ (k : Shape) (h : List Mark) (o : Own) (v : View) (word : Field → ℕ) (slots : k.slots ≡ o.slots) (places : k.places ≡ o.places) (told : IsTold o v h word) where
+  slot_in : (s : ℕ) → s < table_of o → s < slot_count k
+  slot_in s lt = omega arith
 
-  place_in : (p : ℕ) → p < o.places → (same_waiter k.waiter Eer && nat_lt p k.places) ≡ true
-  place_in p lt = ap (λ w. same_waiter w Eer && nat_lt p k.places) eer ∙ lt-ltb p k.places (omega arith)
+  place_in : (p : ℕ) → k.waiter ≡ Eer → p < o.places → (k.waiter ≡ Eer) × (p < k.places)
+  place_in p eer lt = (eer, omega arith)
 
-  loadable_in : (s : ℕ) (field : Field) → IsLoadable s field → s < table_of o → is_field k field ≡ true
-  loadable_in s (Life t) is lt = slot_in t (subst (λ x. x < table_of o) (sym is) lt)
-  loadable_in s (Key t) is lt = slot_in t (subst (λ x. x < table_of o) (sym is) lt)
-  loadable_in s (Value t) is lt = slot_in t (subst (λ x. x < table_of o) (sym is) lt)
-  loadable_in s (Link t b) is lt = slot_in t (subst (λ x. x < table_of o) (sym is) lt)
-  loadable_in s (Tag t b) is lt = slot_in t (subst (λ x. x < table_of o) (sym is) lt)
-  loadable_in s _ is lt = absurd is
-
-  content_in : (s : ℕ) (field : Field) → IsContent s field → s < table_of o → is_field k field ≡ true
-  content_in s (Key t) is lt = slot_in t (subst (λ x. x < table_of o) (sym is) lt)
-  content_in s (Value t) is lt = slot_in t (subst (λ x. x < table_of o) (sym is) lt)
-  content_in s (Link t b) is lt = slot_in t (subst (λ x. x < table_of o) (sym is) lt)
-  content_in s _ is lt = absurd is
+  in_part : (s : ℕ) (p : Part) → s < table_of o → IsWord k (in_slot s p)
+  in_part s part.Life lt = slot_in s lt
+  in_part s part.Key lt = slot_in s lt
+  in_part s part.Value lt = slot_in s lt
+  in_part s (part.Link b) lt = slot_in s lt
+  in_part s (part.Tag b) lt = slot_in s lt
 
   held_in_table : (held : Held) (s : ℕ) → ((v.hands.hand ≡ Some held) × (held.slot ≡ s)) ⊎ ((v.hands.spare ≡ Some held) × (held.slot ≡ s)) → s < table_of o
   held_in_table held s e = ⊎_elim
@@ -174,42 +179,44 @@ module _ (k : Shape) (h : List Mark) (o : Own) (v : View) (word : Field → ℕ)
   loaded_in_table : (s : ℕ) (field : Field) (x : ℕ) → loaded_in (known_under v s) field ≡ Some x → s < table_of o
   loaded_in_table s field x e = let l = lock_under v s field x (loaded_known (known_under v s) field x e) in told.locks_within s (l.0, l.1)
 
-  within : (n : ℕ) (a : Act) → Needs k v n a → Extra o a → is_field k (field_of v.allowance.place a) ≡ true
-  within n load_clock d x = refl
-  within n (store_key key) d x = place_in v.allowance.place told.place_within
-  within n (store_stamp key stamp) d x = place_in v.allowance.place told.place_within
-  within n store_idle d x = place_in v.allowance.place told.place_within
-  within n (begin low high) d x = refl
-  within n (look_key p last) d x = place_in p x
-  within n (look_stamp p last) d x = place_in p x
-  within n (load_age slot) d x = slot_in slot (held_in_table d.0 slot d.1)
-  within n (load_kept slot) d x = let is = (d.1).in_hand in slot_in slot (subst (λ t. t < table_of o) is.1 (told.hand_within d.0 is.0))
-  within n (load_old_age slot) d x = let is = d.2 in slot_in slot (subst (λ t. t < table_of o) is.1 (told.retired_within d.0 d.1 is.0))
-  within n (reserve expected) d x = refl
-  within n (seize slot) d x = slot_in slot x
-  within n (fill slot field number) d x = content_in slot field (d.1).content (held_in_table d.0 slot (d.1).holder)
-  within n (raise_hand slot number) d x = let is = (d.2).in_hand in slot_in slot (subst (λ t. t < table_of o) is.1 (told.hand_within d.0 is.0))
-  within n (raise_spare slot number) d x = let is = (d.3).retired in slot_in slot (subst (λ t. t < table_of o) is.1 (told.retired_within d.0 d.2 is.0))
-  within n (raise_old slot number) d x = let is = (d.3).retired in slot_in slot (subst (λ t. t < table_of o) is.1 (told.retired_within d.0 d.2 is.0))
-  within n (free_hand slot) d x = let is = (d.1).in_hand in slot_in slot (subst (λ t. t < table_of o) is.1 (told.hand_within d.0 is.0))
-  within n (free_old slot) d x = let is = (d.2).retired in slot_in slot (subst (λ t. t < table_of o) is.1 (told.retired_within d.0 d.1 is.0))
-  within n count_free d x = refl
-  within n (lock slot) d x = slot_in slot x
-  within n (unlock slot) d x = slot_in slot (told.locks_within slot (d.0, (d.1).held))
-  within n (load slot field) d x = loadable_in slot field (d.1).loadable (told.stood d.0 (d.1).section_is slot (d.1).stood)
-  within n (load_locked slot field) d x = loadable_in slot field d.loadable (told.locks_within slot d.held)
-  within n (commit expected) d x = refl
-  within n (end_commit front) d x = refl
-  within n (link_leaf slot b leaf key value) (t, r, l, held, generation, tag, needs, same) x = slot_in slot (told.locks_within slot (l, needs.locked))
-  within n (bypass parent b node child key) (t, r, left, right, needs, same) x = slot_in parent (loaded_in_table parent (Link parent b) node ((needs.records).records).link_now)
-  within n (mark slot life) d x = slot_in slot (told.locks_within slot (d.0, (d.1).locked))
-  within n (raise_tag slot b tag) d x = slot_in slot (told.locks_within slot (d.0, (d.1).held))
-  within n (link_copy parent b node copy old old_parent key next_key) (t, r, held, left, right, value, needs, same) x = slot_in parent (loaded_in_table parent (Link parent b) node ((needs.records).records).link_now)
-  within n (unlink_left parent old child) d x = slot_in parent (subst (λ t. t < table_of o) (d.3).parent_is (told.move_within d.0 (d.3).moving))
-  within n (unlink_right copy old child) d x = slot_in copy (subst (λ t. t < table_of o) (d.3).parent_is (told.move_within d.0 (d.3).moving))
-  within n (store_value slot key value) (t, r, generation, needs, same) x = let l = lock_under v slot (Life slot) (2 * generation) needs.life_now in slot_in slot (told.locks_within slot (l.0, l.1))
+  within : (n : ℕ) (a : Act) → (is_step a ≡ false → k.waiter ≡ Eer) → Needs k v n a → Extra o a → IsWord k (field_of v.allowance.place a)
+  within n LoadClock eer d x = tt
+  within n (AnnounceKey key) eer d x = place_in v.allowance.place (eer refl) told.place_within
+  within n (EnterByStamp key stamp) eer d x = place_in v.allowance.place (eer refl) told.place_within
+  within n LeaveByStamp eer d x = place_in v.allowance.place (eer refl) told.place_within
+  within n (BeginWait low high) eer d x = tt
+  within n (LookKey p last) eer d x = place_in p (eer refl) x
+  within n (LookStamp p last) eer d x = place_in p (eer refl) x
+  within n (LoadOwnLife slot) eer d x = slot_in slot (held_in_table d.0 slot d.1)
+  within n (KeepAsSpare slot) eer d x = let is = (d.1).in_hand in slot_in slot (subst (λ t. t < table_of o) is.1 (told.hand_within d.0 is.0))
+  within n (LoadRetiredLife slot) eer d x = let is = d.2 in slot_in slot (subst (λ t. t < table_of o) is.1 (told.retired_within d.0 d.1 is.0))
+  within n (Reserve expected) eer d x = tt
+  within n (Seize slot) eer d x = slot_in slot x
+  within n (Fill slot p number) eer d x = in_part slot p (held_in_table d.0 slot (d.1).holder)
+  within n (RaiseInHand slot number) eer d x = let is = (d.2).in_hand in slot_in slot (subst (λ t. t < table_of o) is.1 (told.hand_within d.0 is.0))
+  within n (RaiseToSpare slot number) eer d x = let is = (d.3).retired in slot_in slot (subst (λ t. t < table_of o) is.1 (told.retired_within d.0 d.2 is.0))
+  within n (RaiseRetired slot number) eer d x = let is = (d.3).retired in slot_in slot (subst (λ t. t < table_of o) is.1 (told.retired_within d.0 d.2 is.0))
+  within n (FreeInHand slot) eer d x = let is = (d.1).in_hand in slot_in slot (subst (λ t. t < table_of o) is.1 (told.hand_within d.0 is.0))
+  within n (FreeRetired slot) eer d x = let is = (d.2).retired in slot_in slot (subst (λ t. t < table_of o) is.1 (told.retired_within d.0 d.1 is.0))
+  within n CountFree eer d x = tt
+  within n (Lock slot) eer d x = slot_in slot x
+  within n (Unlock slot) eer d x = slot_in slot (told.locks_within slot (d.0, (d.1).held))
+  within n (SearchLoad slot p) eer d x = in_part slot p (told.stood d.0 (d.1).section_is slot (d.1).stood)
+  within n (LockedLoad slot p) eer d x = in_part slot p (told.locks_within slot d.held)
+  within n (OpenCommit expected) eer d x = tt
+  within n (CloseCommit front) eer d x = tt
+  within n (LinkLeaf slot b leaf key value) eer (t, r, l, held, generation, tag, needs, same) x = slot_in slot (told.locks_within slot (l, needs.locked))
+  within n (Bypass parent b node child key) eer (t, r, left, right, needs, same) x = slot_in parent (loaded_in_table parent (Link parent b) node ((needs.records).records).link_now)
+  within n (MarkNode slot life) eer d x = slot_in slot (told.locks_within slot (d.0, (d.1).locked))
+  within n (RaiseTag slot b tag) eer d x = slot_in slot (told.locks_within slot (d.0, (d.1).held))
+  within n (LinkCopy parent b node copy old old_parent key next_key) eer (t, r, held, left, right, value, needs, same) x = slot_in parent (loaded_in_table parent (Link parent b) node ((needs.records).records).link_now)
+  within n (UnlinkLeft parent old child) eer d x = slot_in parent (subst (λ t. t < table_of o) (d.3).parent_is (told.move_within d.0 (d.3).moving))
+  within n (UnlinkRight copy old child) eer d x = slot_in copy (subst (λ t. t < table_of o) (d.3).parent_is (told.move_within d.0 (d.3).moving))
+  within n (ReplaceValue slot key value) eer (t, r, generation, needs, same) x = let l = lock_under v slot (Life slot) (2 * generation) needs.life_now in slot_in slot (told.locks_within slot (l.0, l.1))
+  within n acts.LookAtFront eer d x = tt
+  within n _ eer d x = absurd x
 
 pub acts_are_within : ActsAreWithin
 acts_are_within k h o v word stage eer slots places told f =
-    subst (λ p. is_field k (field_of p (act_at o stage)) ≡ true) f.owns.same
-    (within k h o v word eer slots places told 0 (act_at o stage) (needs_are_given k h o v word 0 stage eer places told f) (extra_all o v h word told stage f))
+    subst (λ p. IsWord k (field_of p (act_at o stage))) f.owns.same
+    (within k h o v word slots places told 0 (act_at o stage) eer (needs_are_given k h o v word 0 stage eer places told f) (extra_all o v h word told stage f))

@@ -7,7 +7,9 @@ use Rattle.prcu_model.specs.declared.operation.Op.TheVariants.{Put, Get, Del, Se
 use Rattle.prcu_model.specs.declared.operation.Told.{Told}
 use Rattle.prcu_model.specs.Dictionary.{key_of}
 use Rattle.core_state.specs.declared.words.Field.{Field}
-use Rattle.core_state.specs.declared.words.Field.TheVariants.{Key, Value, Link}
+use Rattle.core_acts.specs.declared.act.Part.{Part}
+use Rattle.core_acts.specs.declared.act.Part.TheVariants as part
+use Rattle.core_acts.specs.Acts.{in_slot}
 use Rattle.core_points.specs.declared.stage.Waits.{Waits}
 use Rattle.core_points.specs.declared.stage.Waits.TheVariants.{Reuse, Move}
 use Rattle.core_points.specs.declared.stage.Stage.{Stage}
@@ -63,8 +65,11 @@ is_none_left [] = true
 is_none_left (s ∷ ss) = false
 
 -- the node with the four fields of a new node, in the order in which they are stored
+abbrev pub content_part : ℕ → Part
+content_part i = if i == 0 then part.Key else if i == 1 then part.Value else if i == 2 then part.Link Left else part.Link Right
+
 abbrev pub content : ℕ → ℕ → Field
-content slot i = if i == 0 then Key slot else if i == 1 then Value slot else if i == 2 then Link slot Left else Link slot Right
+content slot i = in_slot slot (content_part i)
 
 abbrev pub contents : ℕ → ℕ → ℕ → ℕ → ℕ → ℕ
 contents key value left right i = if i == 0 then key else if i == 1 then value else if i == 2 then left else right

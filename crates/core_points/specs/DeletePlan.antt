@@ -4,6 +4,8 @@ use Rattle.std.specs.Prelude.{ℕ, ◌*◌, ◌==◌, nat_lt, ◌&&◌, ◌||◌
 use Rattle.prcu_marks.specs.declared.mark.Side.TheVariants.{Left, Right}
 use Rattle.core_state.specs.declared.words.Field.{Field}
 use Rattle.core_state.specs.declared.words.Field.TheVariants.{Life, Link}
+use Rattle.core_acts.specs.declared.act.Part.{Part}
+use Rattle.core_acts.specs.declared.act.Part.TheVariants as part
 use Rattle.core_points.specs.declared.stage.Node.{Node}
 use Rattle.core_points.specs.declared.stage.Successor.{Successor}
 use Rattle.core_points.specs.declared.stage.Target.{Target}
@@ -27,12 +29,21 @@ abbrev pub successor_slot : Node → Option Successor → ℕ → ℕ
 successor_slot d None i = d.node
 successor_slot d (Some u) i = if i == 5 then u.parent else if i == 6 then u.parent else u.slot
 
-abbrev pub successor_field : Node → Option Successor → ℕ → Field
-successor_field d None i = Life d.node
-successor_field d (Some u) i = if i == 5 then Life u.parent else if i == 6 then (if u.parent == d.node then Link d.node Right else Link u.parent Left) else if i == 7 then Life u.slot else Link u.slot Left
+abbrev pub successor_part : Node → Option Successor → ℕ → Part
+successor_part d None i = part.Life
+successor_part d (Some u) i = if i == 5 then part.Life else if i == 6 then (if u.parent == d.node then part.Link Right else part.Link Left) else if i == 7 then part.Life else part.Link Left
 
 abbrev pub target_slot : Target → ℕ → ℕ
 target_slot t i = if nat_lt i 2 then t.node.parent else if nat_lt i 5 then t.node.node else successor_slot t.node t.successor i
+
+abbrev pub target_part : Target → ℕ → Part
+target_part t i = if i == 0 then part.Life else if i == 1 then part.Link t.node.side
+    else if i == 2 then part.Life else if i == 3 then part.Link Left else if i == 4 then part.Link Right
+    else successor_part t.node t.successor i
+
+abbrev pub successor_field : Node → Option Successor → ℕ → Field
+successor_field d None i = Life d.node
+successor_field d (Some u) i = if i == 5 then Life u.parent else if i == 6 then (if u.parent == d.node then Link d.node Right else Link u.parent Left) else if i == 7 then Life u.slot else Link u.slot Left
 
 abbrev pub target_field : Target → ℕ → Field
 target_field t i = if i == 0 then Life t.node.parent else if i == 1 then Link t.node.parent t.node.side

@@ -1,6 +1,6 @@
 -- What is promised of the calls' points.
 -- Source: docs/TREE.md, "The calls".
-use Rattle.std.specs.Prelude.{◌++◌, ◌+◌, [], None, Some, if◌then◌else◌, set, ◌≡◌, ℕ, ◌*◌, ◌^◌, ◌<◌, ◌≤◌, Bool, true, false, List, length}
+use Rattle.std.specs.Prelude.{◌++◌, ◌+◌, [], None, Some, set, ◌≡◌, ℕ, ◌*◌, ◌^◌, ◌<◌, ◌≤◌, Bool, true, false, List, length}
 use mathlib.Core.Option.{some}
 use lib.ListN.{get_elem?}
 use Rattle.prcu_marks.specs.declared.mark.Mark.{Mark}
@@ -11,33 +11,29 @@ use Rattle.core_state.specs.declared.shape.Waiter.TheVariants.{Eer}
 use Rattle.core_state.specs.declared.words.Field.{Field}
 use Rattle.core_state.specs.declared.words.Kind.{Kind}
 use Rattle.core_state.specs.declared.view.View.{View}
-use Rattle.core_state.specs.memory.Memory.{Memory, is_field, stored}
+use Rattle.core_state.specs.memory.Memory.{Memory, stored}
 use Rattle.core_state.specs.views.Views.{Works}
 use Rattle.core_state.specs.steps.Seating.{new_view, stepped}
-use Rattle.core_state.specs.steps.Steps.{IsStep, is_store}
 use Rattle.core_state.specs.Invariant.{HoldsNow, Invariant}
 use Rattle.core_frames.specs.Laws.{KeepsPast}
 use Rattle.list_laws.specs.Counts.{Each}
 use Rattle.core_points.specs.declared.stage.Stage.{Stage}
 use Rattle.core_points.specs.declared.stage.Stage.TheVariants as at
-use Rattle.core_points.specs.Acts.{Act, Needs, field_of, kind_of, left_of, marks_of, view_after}
+use Rattle.core_acts.specs.Acts.{IsWord}
+use Rattle.core_acts.specs.Laws.{said, left, done, marks}
+use Rattle.core_points.specs.Acts.{Act, Needs, field_of, is_step, view_after}
 use Rattle.core_points.specs.Callers.{Own, key_now}
 use Rattle.core_points.specs.Programs.{act_at, after, begun_with}
 use Rattle.core_points.specs.Told.{IsFree, IsTold}
 use Rattle.core_points.specs.Fits.{Fits}
 
--- An act whose needs are given is a step of the tree.
-abbrev pub ActsAreSteps : Type 0
-ActsAreSteps = (k : Shape) (h : List Mark) (v : View) (n : ℕ) (a : Act) → k.waiter ≡ Eer → Needs k v n a
-    → IsStep k h v (kind_of a) (field_of v.allowance.place a) n (left_of v.allowance.place a n) (view_after v h n a) (marks_of v n a)
-
 -- What the invariant tells a view that works at a place.
 abbrev pub RuleTells : Type 0
 RuleTells = (k : Shape) (m : Memory) (vs : List View) (h : List Mark) (id : ℕ) (o : Own) (v : View) → HoldsNow k m vs h → get_elem? vs id ≡ some v → Works v → k.slots ≡ o.slots → k.places ≡ o.places → IsTold o v h m
 
--- At each point of each call, what its act needs is given.
+-- At each point of each call, what its act needs is given. Only the waiter's own acts ask which waiter it is.
 abbrev pub NeedsAreGiven : Type 0
-NeedsAreGiven = (k : Shape) (h : List Mark) (o : Own) (v : View) (word : Field → ℕ) (n : ℕ) (stage : Stage) → k.waiter ≡ Eer → k.places ≡ o.places → IsTold o v h word → Fits o stage v → Needs k v n (act_at o stage)
+NeedsAreGiven = (k : Shape) (h : List Mark) (o : Own) (v : View) (word : Field → ℕ) (n : ℕ) (stage : Stage) → (is_step (act_at o stage) ≡ false → k.waiter ≡ Eer) → k.places ≡ o.places → IsTold o v h word → Fits o stage v → Needs k v n (act_at o stage)
 
 abbrev pub is_finished : Stage → Bool
 is_finished at.Finished = true
@@ -46,7 +42,7 @@ is_finished _ = false
 -- After the act the view fits the next point, whatever number the act found.
 abbrev pub NextFits : Type 0
 NextFits = (h : List Mark) (o : Own) (v : View) (word : Field → ℕ) (stage : Stage) → IsTold o v h word → is_finished stage ≡ false → Fits o stage v
-    → let n : ℕ = word (field_of o.place (act_at o stage)) in Fits (after o n stage) (after o n stage).stage (view_after v h n (act_at o stage))
+    → let a : Act = act_at o stage in let n : ℕ = said v a (word (field_of o.place a)) in Fits (after o n stage) (after o n stage).stage (view_after v h n a)
 
 -- A view with one more step in its trail fits the same point, and is told the same.
 abbrev pub TrailsAreFree : Type 0
@@ -54,8 +50,8 @@ TrailsAreFree = (h : List Mark) (o : Own) (v : View) (word : Field → ℕ) (sta
 
 -- The word of the act is one of the table's.
 abbrev pub ActsAreWithin : Type 0
-ActsAreWithin = (k : Shape) (h : List Mark) (o : Own) (v : View) (word : Field → ℕ) (stage : Stage) → k.waiter ≡ Eer → k.slots ≡ o.slots → k.places ≡ o.places → IsTold o v h word → Fits o stage v
-    → is_field k (field_of o.place (act_at o stage)) ≡ true
+ActsAreWithin = (k : Shape) (h : List Mark) (o : Own) (v : View) (word : Field → ℕ) (stage : Stage) → (is_step (act_at o stage) ≡ false → k.waiter ≡ Eer) → k.slots ≡ o.slots → k.places ≡ o.places → IsTold o v h word → Fits o stage v
+    → IsWord k (field_of o.place (act_at o stage))
 
 -- A caller between two calls fits the first point of its next one, with four tickets for each operation and those that it keeps.
 abbrev pub CallsBegin : Type 0
@@ -66,13 +62,9 @@ abbrev pub NewViewsAreFree : Type 0
 NewViewsAreFree = (o : Own) (tickets : ℕ) (seen : List Mark) → o.hand ≡ None → o.spare ≡ Some (o.place + 1) → o.retired ≡ [] → o.locks ≡ [] → 1 ≤ o.scan → o.scan ≤ o.slots + o.places → key_now o < 2 ^ 64
     → Each o.rest (λ op. key_of op < 2 ^ 64) → IsFree o (new_view o.place 1 tickets seen)
 
--- the view with the act noted in its trail
-abbrev pub noted_act : Own → View → Act → ℕ → View
-noted_act o v a n = stepped v (kind_of a) (field_of o.place a) (if is_store (kind_of a) then left_of o.place a n else n)
-
 -- A view that makes the act of its point keeps the invariant, and fits the next point.
 abbrev pub PointsKeep : Type 0
 PointsKeep = (k : Shape) (m : Memory) (vs : List View) (h : List Mark) (id : ℕ) (o : Own) (v : View) → Invariant k m vs h → get_elem? vs id ≡ some v → k.waiter ≡ Eer → k.slots ≡ o.slots → k.places ≡ o.places
     → is_finished o.stage ≡ false → Fits o o.stage v
-    → let a : Act = act_at o o.stage in let field : Field = field_of o.place a in let n : ℕ = m field in let w : View = view_after (noted_act o v a n) h n a in let o' : Own = after o n o.stage in
-    Invariant k (stored m field (left_of o.place a n)) (set vs id w) (h ++ marks_of (noted_act o v a n) n a) × KeepsPast m h (stored m field (left_of o.place a n)) × Fits o' o'.stage w
+    → let a : Act = act_at o o.stage in let field : Field = field_of o.place a in let n : ℕ = m field in let w : View = done v a h n in let o' : Own = after o (said v a n) o.stage in
+    Invariant k (stored m field (left v a n)) (set vs id w) (h ++ marks v a n) × KeepsPast m h (stored m field (left v a n)) × Fits o' o'.stage w

@@ -7,7 +7,6 @@ use Rattle.prcu_model.specs.declared.operation.Op.{Op}
 use Rattle.prcu_model.specs.declared.operation.Op.TheVariants.{Put, Get, Del, Set}
 use Rattle.prcu_model.specs.declared.operation.Reply.{Reply}
 use Rattle.prcu_model.specs.declared.operation.Reply.TheVariants.{New, Old, Full, Val, Absent, Gone, Was}
-use Rattle.core_state.specs.declared.words.Field.TheVariants.{Life, Key, Value, Link, Tag}
 use Rattle.core_state.specs.memory.Memory.{idle}
 use Rattle.core_state.specs.memory.Words.{step_side}
 use Rattle.core_points.specs.declared.stage.Node.{Node}
@@ -27,77 +26,79 @@ use Rattle.core_points.specs.declared.stage.Waits.{Waits}
 use Rattle.core_points.specs.declared.stage.Waits.TheVariants.{Reuse, Move}
 use Rattle.core_points.specs.declared.stage.Stage.{Stage}
 use Rattle.core_points.specs.declared.stage.Stage.TheVariants as at
-use Rattle.core_points.specs.Acts.{Act, load_clock, store_key, store_stamp, store_idle, begin, look_key, look_stamp, load_age, load_kept, load_old_age, reserve, seize, fill, raise_hand, raise_spare, raise_old, free_hand, free_old, count_free, lock, unlock, load, load_locked, commit, end_commit, link_leaf, bypass, mark, raise_tag, link_copy, unlink_left, unlink_right, store_value}
-use Rattle.core_points.specs.Callers.{Own, but_first, content, contents, first_or_root, go, high_key, is_none_left, is_some, key_now, low_key, or_root, value_in}
-use Rattle.core_points.specs.DeletePlan.{last_right, move_locks, nothing_found, target_field, target_holds, target_lock, target_locks, target_slot, with_found}
+use Rattle.core_acts.specs.declared.act.Act.TheVariants.{LoadClock, AnnounceKey, EnterByStamp, LeaveByStamp, BeginWait, LookKey, LookStamp, LoadOwnLife, KeepAsSpare, LoadRetiredLife, Reserve, Seize, Fill, RaiseInHand, RaiseToSpare, RaiseRetired, FreeInHand, FreeRetired, CountFree, Lock, Unlock, SearchLoad, LockedLoad, OpenCommit, CloseCommit, LinkLeaf, Bypass, Mark, RaiseTag, LinkCopy, UnlinkLeft, UnlinkRight, ReplaceValue}
+use Rattle.core_acts.specs.declared.act.Part.TheVariants as part
+use Rattle.core_points.specs.Acts.{Act}
+use Rattle.core_points.specs.Callers.{Own, but_first, content_part, contents, first_or_root, go, high_key, is_none_left, is_some, key_now, low_key, or_root, value_in}
+use Rattle.core_points.specs.DeletePlan.{last_right, move_locks, nothing_found, target_part, target_holds, target_lock, target_locks, target_slot, with_found}
 
 -- the step of a store while the front is odd
 abbrev pub store_act : Own → Update → Act
-store_act o (update.Leaf spot) = link_leaf spot.slot spot.side (or_root o.hand) (key_now o) (value_in o.op)
-store_act o (update.Value slot old) = store_value slot (key_now o) (value_in o.op)
-store_act o (update.Bypass d child) = bypass d.parent d.side d.node child (key_now o)
-store_act o (update.Copy d u next_key copy) = link_copy d.parent d.side d.node copy u.slot u.parent (key_now o) next_key
+store_act o (update.Leaf spot) = LinkLeaf spot.slot spot.side (or_root o.hand) (key_now o) (value_in o.op)
+store_act o (update.Value slot old) = ReplaceValue slot (key_now o) (value_in o.op)
+store_act o (update.Bypass d child) = Bypass d.parent d.side d.node child (key_now o)
+store_act o (update.Copy d u next_key copy) = LinkCopy d.parent d.side d.node copy u.slot u.parent (key_now o) next_key
 
 -- the step that a caller makes at a point
 abbrev pub act_at : Own → Stage → Act
-act_at o at.Finished = load_clock
-act_at o at.EnterClock = load_clock
-act_at o (at.EnterKey clock) = store_key (key_now o)
-act_at o (at.EnterStamp clock) = store_stamp (key_now o) clock
-act_at o (at.AtLink s b) = load s (Link s b)
-act_at o (at.AtKey s parent b) = load s (Key s)
-act_at o (at.Leave next) = store_idle
-act_at o (at.Value s) = load s (Value s)
-act_at o (at.SpotTag s b) = load s (Tag s b)
-act_at o (at.SpotLife s b tag) = load s (Life s)
-act_at o (at.LeafField spot i) = fill (or_root o.hand) (content (or_root o.hand) i) (contents (key_now o) (value_in o.op) 0 0 i)
-act_at o (at.LeafLock spot) = lock spot.slot
-act_at o (at.LeafLife spot) = load_locked spot.slot (Life spot.slot)
-act_at o (at.LeafSide spot life) = load_locked spot.slot (Link spot.slot spot.side)
-act_at o (at.LeafTag spot life link) = load_locked spot.slot (Tag spot.slot spot.side)
-act_at o (at.Reserve aim expected) = reserve expected
-act_at o (at.Seize aim) = seize o.scan
-act_at o (at.Age aim s) = load_age s
-act_at o (at.Keep s) = load_kept s
-act_at o at.Raise = raise_hand (or_root o.hand) (2 * (o.hand_life / 2 + 1))
-act_at o at.Free = free_hand (or_root o.hand)
-act_at o at.Count = count_free
-act_at o (at.Begin waits) = begin (low_key o waits) (high_key waits)
-act_at o (at.LookKey waits clock p) = look_key p (p + 1 == o.places)
-act_at o (at.LookStamp waits clock p key) = look_stamp p (p + 1 == o.places)
-act_at o (at.OldAge aim) = load_old_age (first_or_root o.retired)
-act_at o (at.OldRaise aim life) = if is_some o.spare then raise_old (first_or_root o.retired) (2 * (life / 2 + 1)) else raise_spare (first_or_root o.retired) (2 * (life / 2 + 1))
-act_at o (at.OldFree aim) = free_old (first_or_root o.retired)
-act_at o (at.OldCount aim) = count_free
-act_at o (at.Commit update expected) = commit expected
+act_at o at.Finished = LoadClock
+act_at o at.EnterClock = LoadClock
+act_at o (at.EnterKey clock) = AnnounceKey (key_now o)
+act_at o (at.EnterStamp clock) = EnterByStamp (key_now o) clock
+act_at o (at.AtLink s b) = SearchLoad s (part.Link b)
+act_at o (at.AtKey s parent b) = SearchLoad s part.Key
+act_at o (at.Leave next) = LeaveByStamp
+act_at o (at.Value s) = SearchLoad s part.Value
+act_at o (at.SpotTag s b) = SearchLoad s (part.Tag b)
+act_at o (at.SpotLife s b tag) = SearchLoad s part.Life
+act_at o (at.LeafField spot i) = Fill (or_root o.hand) (content_part i) (contents (key_now o) (value_in o.op) 0 0 i)
+act_at o (at.LeafLock spot) = Lock spot.slot
+act_at o (at.LeafLife spot) = LockedLoad spot.slot part.Life
+act_at o (at.LeafSide spot life) = LockedLoad spot.slot (part.Link spot.side)
+act_at o (at.LeafTag spot life link) = LockedLoad spot.slot (part.Tag spot.side)
+act_at o (at.Reserve aim expected) = Reserve expected
+act_at o (at.Seize aim) = Seize o.scan
+act_at o (at.Age aim s) = LoadOwnLife s
+act_at o (at.Keep s) = KeepAsSpare s
+act_at o at.Raise = RaiseInHand (or_root o.hand) (2 * (o.hand_life / 2 + 1))
+act_at o at.Free = FreeInHand (or_root o.hand)
+act_at o at.Count = CountFree
+act_at o (at.Begin waits) = BeginWait (low_key o waits) (high_key waits)
+act_at o (at.LookKey waits clock p) = LookKey p (p + 1 == o.places)
+act_at o (at.LookStamp waits clock p key) = LookStamp p (p + 1 == o.places)
+act_at o (at.OldAge aim) = LoadRetiredLife (first_or_root o.retired)
+act_at o (at.OldRaise aim life) = if is_some o.spare then RaiseRetired (first_or_root o.retired) (2 * (life / 2 + 1)) else RaiseToSpare (first_or_root o.retired) (2 * (life / 2 + 1))
+act_at o (at.OldFree aim) = FreeRetired (first_or_root o.retired)
+act_at o (at.OldCount aim) = CountFree
+act_at o (at.Commit update expected) = OpenCommit expected
 act_at o (at.Store update front) = store_act o update
-act_at o (at.Even update front) = end_commit (front + 2)
-act_at o (at.Unlock last) = unlock (first_or_root o.locks)
-act_at o (at.SetLife s) = load s (Life s)
-act_at o (at.SetLock s generation) = lock s
-act_at o (at.SetCheck s generation) = load_locked s (Life s)
-act_at o (at.SetValue s) = load_locked s (Value s)
-act_at o (at.ParentLife p b d) = load p (Life p)
-act_at o (at.NodeLife d) = load d.node (Life d.node)
-act_at o (at.NodeLeft d) = load d.node (Link d.node Left)
-act_at o (at.NodeRight d) = load d.node (Link d.node Right)
-act_at o (at.SuccessorLeft d u) = load u.slot (Link u.slot Left)
-act_at o (at.SuccessorParentLife d u) = load u.parent (Life u.parent)
-act_at o (at.SuccessorLife d u) = load u.slot (Life u.slot)
-act_at o (at.TargetLock t i) = lock (target_lock t i)
-act_at o (at.TargetLoad t i found) = load_locked (target_slot t i) (target_field t i)
-act_at o (at.Mark d child) = mark d.node (2 * d.generation)
-act_at o (at.EmptyTag number s b) = load_locked s (Tag s b)
-act_at o (at.EmptyRaise number s b tag) = raise_tag s b tag
-act_at o (at.SuccessorKey d u) = load_locked u.slot (Key u.slot)
-act_at o (at.SuccessorValue d u next_key) = load_locked u.slot (Value u.slot)
-act_at o (at.CopyField d u next_key value i) = fill (or_root o.spare) (content (or_root o.spare) i) (contents next_key value d.left d.right i)
-act_at o (at.CopyAge d u next_key) = load_age (or_root o.spare)
-act_at o (at.CopyLock d u next_key) = lock (or_root o.spare)
-act_at o (at.CopyMark d u next_key) = mark d.node (2 * d.generation)
-act_at o (at.OldMark m) = mark m.successor.slot (2 * m.successor.generation)
-act_at o (at.OldRight m) = load_locked m.successor.slot (Link m.successor.slot Right)
-act_at o (at.Unlink m child) = if m.successor.parent == m.node.node then unlink_right m.copy m.successor.slot child else unlink_left m.successor.parent m.successor.slot child
+act_at o (at.Even update front) = CloseCommit (front + 2)
+act_at o (at.Unlock last) = Unlock (first_or_root o.locks)
+act_at o (at.SetLife s) = SearchLoad s part.Life
+act_at o (at.SetLock s generation) = Lock s
+act_at o (at.SetCheck s generation) = LockedLoad s part.Life
+act_at o (at.SetValue s) = LockedLoad s part.Value
+act_at o (at.ParentLife p b d) = SearchLoad p part.Life
+act_at o (at.NodeLife d) = SearchLoad d.node part.Life
+act_at o (at.NodeLeft d) = SearchLoad d.node (part.Link Left)
+act_at o (at.NodeRight d) = SearchLoad d.node (part.Link Right)
+act_at o (at.SuccessorLeft d u) = SearchLoad u.slot (part.Link Left)
+act_at o (at.SuccessorParentLife d u) = SearchLoad u.parent part.Life
+act_at o (at.SuccessorLife d u) = SearchLoad u.slot part.Life
+act_at o (at.TargetLock t i) = Lock (target_lock t i)
+act_at o (at.TargetLoad t i found) = LockedLoad (target_slot t i) (target_part t i)
+act_at o (at.Mark d child) = Mark d.node (2 * d.generation)
+act_at o (at.EmptyTag number s b) = LockedLoad s (part.Tag b)
+act_at o (at.EmptyRaise number s b tag) = RaiseTag s b tag
+act_at o (at.SuccessorKey d u) = LockedLoad u.slot part.Key
+act_at o (at.SuccessorValue d u next_key) = LockedLoad u.slot part.Value
+act_at o (at.CopyField d u next_key value i) = Fill (or_root o.spare) (content_part i) (contents next_key value d.left d.right i)
+act_at o (at.CopyAge d u next_key) = LoadOwnLife (or_root o.spare)
+act_at o (at.CopyLock d u next_key) = Lock (or_root o.spare)
+act_at o (at.CopyMark d u next_key) = Mark d.node (2 * d.generation)
+act_at o (at.OldMark m) = Mark m.successor.slot (2 * m.successor.generation)
+act_at o (at.OldRight m) = LockedLoad m.successor.slot (part.Link Right)
+act_at o (at.Unlink m child) = if m.successor.parent == m.node.node then UnlinkRight m.copy m.successor.slot child else UnlinkLeft m.successor.parent m.successor.slot child
 
 abbrev pub taking : Own → Aim → Stage
 taking o aim = at.Reserve aim (if o.free == 0 then 1 else o.free)

@@ -1,7 +1,7 @@
 //! What is promised of the points of the calls. Each function here has no body; its promise is the law. Read `needs_are_given` and
 //! `next_fits` first.
 ghost use Rattle.core_points.specs.Said.{AnswersAreSaid};
-ghost use Rattle.core_points.specs.Laws.{ActsAreSteps, RuleTells, NeedsAreGiven, NextFits, ActsAreWithin, TrailsAreFree, CallsBegin, NewViewsAreFree, PointsKeep};
+ghost use Rattle.core_points.specs.Laws.{RuleTells, NeedsAreGiven, NextFits, ActsAreWithin, TrailsAreFree, CallsBegin, NewViewsAreFree, PointsKeep};
 
 /// At each point of each call, a view that fits the point has what its act needs.
 pub fn needs_are_given()
@@ -26,11 +26,6 @@ pub fn rule_tells()
 /// At each point that fixes an answer the history explains it.
 pub fn answers_are_said()
     ensures { AnswersAreSaid }
-{}
-
-/// An act whose needs are given is a step of the tree.
-pub fn acts_are_steps()
-    ensures { ActsAreSteps }
 {}
 
 /// What a step notes in the trail changes nothing of this.

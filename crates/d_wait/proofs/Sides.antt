@@ -1,5 +1,5 @@
 -- Looks at the sides of a class, turns of its gate, and from class to class.
-use Rattle.std.proofs.Common.{◌≡◌, ◌≢◌, ℕ, zero, suc, ◌+◌, ◌-◌, ◌%◌, ◌<◌, ◌≤◌, ◌⊎◌, inl, inr, ⊎_elim, Bool, true, false, List, ◌∷◌, ◌++◌, Option, Some, None, refl, sym, subst, ◌∙◌, arith, eq-eqb, ne_eqb}
+use Rattle.std.proofs.Common.{◌≡◌, ◌≢◌, ℕ, zero, suc, ◌+◌, ◌-◌, ◌%◌, ◌<◌, ◌≤◌, ◌⊎◌, inl, inr, ⊎_elim, Bool, true, false, List, ◌∷◌, ◌++◌, Option, Some, None, refl, sym, ap, subst, ◌∙◌, arith, eq-eqb, ne_eqb}
 use mathlib.Core.Logic.{dite}
 use mathlib.Core.Option.{some}
 use native.Mathlib.Decide.{ℕ_discrete, dec_le}
@@ -16,9 +16,10 @@ use Rattle.core_state.specs.steps.Waits.{IsSpot, keys_of, with_excused, after_lo
 use Rattle.key_interval.specs.Keys.{Interval, MeetsClass}
 use Rattle.list_laws.specs.Counts.{times, IsIn}
 use Rattle.list_laws.proofs.Lists.{times_here, times_other}
-use Rattle.seat_table.specs.declared.case.Case.TheVariants.{K28, K31, K32}
+use Rattle.core_acts.specs.declared.act.Act.TheVariants.{LoadGate, LookCount, TurnGate}
 use Rattle.seat_table.specs.declared.wait.Grace.{Grace}
-use Rattle.seat_table.specs.Cases.{MayLook, noted}
+use Rattle.core_acts.specs.Acts.{MayLook, noted}
+use Rattle.core_acts.proofs.Acting.{wait_is}
 use Rattle.seat_table.specs.Told.{Told}
 use Rattle.seat_table.specs.Waits.{Reached, reached, IsBefore, IsTurnedBefore, HasReached, HasLooked, HasEnded, ended_by, IsLatestOf, IsGoingOn, IsOver}
 use Rattle.seat_table.proofs.Waiting.{step_of, look_passes, look_stays, looks_on, begins_on, have_left}
@@ -38,14 +39,14 @@ module _ (wait : Waiting) (keys : Interval) (low : wait.low ≡ keys.low) (high 
 
 -- a load of a side
 module _ (k : Shape) (v w : View) (wait : Waiting) (class side found : ℕ) (last : Bool) (was : v.wait ≡ Some wait) where
-  side_told : (told : Told k v (K31 class side last) found w) → w ≡ after_look (noted v (K31 class side last) found) wait (Count class side) last found told.0
-  side_told told = subst (λ z. w ≡ after_look (noted v (K31 class side last) found) z (Count class side) last found told.0) (one_wait v told.2.0 wait told.2.1 was) told.2.2
+  side_told : (told : Told k v (LookCount class side last) found w) → w ≡ after_look (noted v (LookCount class side last) found) wait (Count class side) last found told.marks
+  side_told told = told.goes ∙ ap (λ z. after_look (noted v (LookCount class side last) found) z (Count class side) last found told.marks) (wait_is v wait was)
 
-  pub side_passes : Told k v (K31 class side last) found w → found ≡ 0 → HasPassed v last (Count class side) w
-  side_passes told is = (wait, step_of kinds.K31 (Count class side) found, was, look_passes v w kinds.K31 (Count class side) wait found told.0 was told.1 told.3 last (eq-eqb found 0 is) (side_told told))
+  pub side_passes : Told k v (LookCount class side last) found w → found ≡ 0 → HasPassed v last (Count class side) w
+  side_passes told is = (wait, step_of kinds.K31 (Count class side) found, was, look_passes v w kinds.K31 (Count class side) wait found told.marks was told.sees told.informed last (eq-eqb found 0 is) (side_told told))
 
-  pub side_stays : Told k v (K31 class side last) found w → found ≢ 0 → HasLooked v wait (step_of kinds.K31 (Count class side) found) wait w
-  side_stays told is = look_stays v w kinds.K31 (Count class side) wait found told.0 was told.1 told.3 last (ne_eqb found 0 is) (side_told told)
+  pub side_stays : Told k v (LookCount class side last) found w → found ≢ 0 → HasLooked v wait (step_of kinds.K31 (Count class side) found) wait w
+  side_stays told is = look_stays v w kinds.K31 (Count class side) wait found told.marks was told.sees told.informed last (ne_eqb found 0 is) (side_told told)
 
 -- from class to class
 module _ {W : Type 0} (k : Shape) (domain : k.waiter ≡ Domain) (grace : Grace W) where
@@ -91,17 +92,17 @@ module _ {W : Type 0} (k : Shape) (domain : k.waiter ≡ Domain) (grace : Grace 
     once = r.once;
   }
 
-  loaded_by : (v : View) (wait : Waiting) (found : ℕ) (there : Option Section) → v.wait ≡ Some wait → HasLooked v wait (step_of kinds.K28 (Gate grace.class) found) wait (gated (noted v (K28 grace.class) found) grace.class found there)
+  loaded_by : (v : View) (wait : Waiting) (found : ℕ) (there : Option Section) → v.wait ≡ Some wait → HasLooked v wait (step_of kinds.K28 (Gate grace.class) found) wait (gated (noted v (LoadGate grace.class) found) grace.class found there)
   loaded_by v wait found None was = record { wait_is = was; same = refl; turns = refl; makes = refl; others = refl }
   loaded_by v wait found (Some section) was = record { wait_is = was; same = refl; turns = refl; makes = refl; others = refl }
 
-  pub gate_loaded : (v w : View) (found : ℕ) → grace.turned ≡ false → IsLatestOf k grace v → Told k v (K28 grace.class) found w → IsGoingOn k v (with_gate found) w
+  pub gate_loaded : (v w : View) (found : ℕ) → grace.turned ≡ false → IsLatestOf k grace v → Told k v (LoadGate grace.class) found w → IsGoingOn k v (with_gate found) w
   gate_loaded v w found unturned latest told = (
     latest.0,
     step_of kinds.K28 (Gate grace.class) found,
     latest.0,
     latest.1,
-    subst (λ z. HasLooked v latest.0 (step_of kinds.K28 (Gate grace.class) found) latest.0 z) (sym told.2) (loaded_by v latest.0 found v.section latest.1),
+    subst (λ z. HasLooked v latest.0 (step_of kinds.K28 (Gate grace.class) found) latest.0 z) (sym told.goes) (loaded_by v latest.0 found v.section latest.1),
     gate_free latest.0 found unturned latest.2,
   )
 
@@ -122,9 +123,9 @@ module _ {W : Type 0} (k : Shape) (domain : k.waiter ≡ Domain) (grace : Grace 
     abbrev after : Waiting
     after = record between { turned = grace.class ∷ latest.0.turned }
 
-    turning : (w : View) (found : ℕ) → Told k u (K32 grace.class) found w → HasLooked u between (step_of kinds.K32 (Gate grace.class) found) after w
+    turning : (w : View) (found : ℕ) → Told k u (TurnGate grace.class) found w → HasLooked u between (step_of kinds.K32 (Gate grace.class) found) after w
     turning w found told =
-        let is : w ≡ after_gate_turn (noted u (K32 grace.class) found) between grace.class = subst (λ z. w ≡ after_gate_turn (noted u (K32 grace.class) found) z grace.class) (one_wait u told.2.0 between told.2.1 looked.wait_is) told.2.2 in
+        let is : w ≡ after_gate_turn (noted u (TurnGate grace.class) found) between grace.class = told.goes ∙ ap (λ z. after_gate_turn (noted u (TurnGate grace.class) found) z grace.class) (wait_is u between looked.wait_is) in
         subst (λ z. HasLooked u between (step_of kinds.K32 (Gate grace.class) found) after z) (sym is) (record { wait_is = refl; same = refl; turns = omega arith; makes = refl; others = refl })
 
     abbrev turned_grace : Grace W
@@ -169,7 +170,7 @@ module _ {W : Type 0} (k : Shape) (domain : k.waiter ≡ Domain) (grace : Grace 
           once = λ _. one_more;
         }
 
-    pub turned_on : (w : View) (found : ℕ) → MeetsClass grace.keys grace.class → side ≡ 1 - grace.gate % 2 → Told k u (K32 grace.class) found w → IsGoingOn k v turned_grace w
+    pub turned_on : (w : View) (found : ℕ) → MeetsClass grace.keys grace.class → side ≡ 1 - grace.gate % 2 → Told k u (TurnGate grace.class) found w → IsGoingOn k v turned_grace w
     turned_on w found met side_is told = (latest.0, passed.1 ++ step_of kinds.K32 (Gate grace.class) found, after, latest.1, looks_on v u w latest.0 between after passed.1 (step_of kinds.K32 (Gate grace.class) found) looked (turning w found told), turned_reached met side_is)
 
   -- from this class to the next one

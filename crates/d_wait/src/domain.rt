@@ -11,8 +11,7 @@ ghost use Rattle.d_wait.specs.Classes.{StaysAt, at_next, IsBack};
 
 use key_interval::{Keys, class_of};
 use prcu_marks::Why;
-use seat_table::steps::{k7, k28, k29, k30, k31, k32};
-use seat_table::{CitrusTable, Grace, Poll, Seat, WaitPart, WaitWords};
+use seat_table::{CitrusTable, Grace, Poll, Seat, WaitPart, WaitWords, steps};
 
 /// The waiter that counts readers by the class of their key. A reader adds 1 to the side of its key's class that the class's gate
 /// names, and takes it away when it leaves. A wait goes over the classes of its keys: it finds the side that the gate doesn't name
@@ -40,7 +39,7 @@ fn load_gate(table: &CitrusTable<Domain>, seat: &mut Seat<Domain>, grace: &mut G
     if grace.gate != NOT_LOADED {
         return;
     }
-    grace.gate = k28(table, seat, grace.class);
+    grace.gate = steps::load_gate(table, seat, grace.class);
 }
 
 // Looks at a side of the class that the grace has come to, as the last look of the wait or another, and answers what stands in the
@@ -62,7 +61,7 @@ fn look(
     ensures met { IfSome result (λ why. HasMet seat.old.view why seat.new.view) }
 {
     let class = grace.class;
-    let count = k31(table, seat, class, side, last);
+    let count = steps::look_count(table, seat, class, side, last);
     if count == 0 {
         return None;
     }
@@ -91,7 +90,7 @@ fn turn(
     if let Some(why) = look(table, seat, grace, side, false) {
         return Some(why);
     }
-    k32(table, seat, grace.class);
+    steps::turn_gate(table, seat, grace.class);
     grace.turned = true;
     None
 }
@@ -171,19 +170,19 @@ fn go_back(grace: &mut Grace<Domain>, last: u32)
 
 impl WaitPart for Domain {
     fn enter(table: &CitrusTable<Domain>, seat: &mut Seat<Domain>, key: u64) {
-        let gate = k28(table, seat, class_of(key));
-        k29(table, seat, key, (gate % 2) as u32);
+        let gate = steps::load_gate(table, seat, class_of(key));
+        steps::enter_by_count(table, seat, key, (gate % 2) as u32);
     }
 
     fn leave(table: &CitrusTable<Domain>, seat: &mut Seat<Domain>) {
         if let Some(key) = seat.section() {
             let side = seat.side();
-            k30(table, seat, class_of(key), side);
+            steps::leave_by_count(table, seat, class_of(key), side);
         }
     }
 
     fn begin(table: &CitrusTable<Domain>, seat: &mut Seat<Domain>, keys: Keys) -> Grace<Domain> {
-        let clock = k7(table, seat, keys);
+        let clock = steps::begin_wait(table, seat, keys);
         Grace::new(keys, clock)
     }
 

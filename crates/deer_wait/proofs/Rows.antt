@@ -12,7 +12,7 @@ use Rattle.core_state.specs.steps.Waits.{IsSpot, keys_of}
 use Rattle.key_interval.specs.Keys.{Interval, MeetsClass}
 use Rattle.list_laws.specs.Counts.{IsIn}
 use Rattle.seat_table.specs.declared.wait.Grace.{Grace}
-use Rattle.seat_table.specs.Cases.{MayLook}
+use Rattle.core_acts.specs.Acts.{MayLook}
 use Rattle.seat_table.specs.Waits.{reached, IsBefore, HasReached, IsLatestOf, IsGoingOn}
 use Rattle.seat_table.specs.Looks.{HasPassed}
 use Rattle.seat_table.proofs.Polls.{goes_on}

@@ -12,8 +12,7 @@ ghost use Rattle.deer_wait.specs.Images.{IsImage, HasEach, HasSkipped, StaysAt};
 use crate::image::{Image, image_of};
 use key_interval::{Keys, class_of};
 use prcu_marks::Why;
-use seat_table::steps::{k3, k7, k33, k34, k35};
-use seat_table::{CitrusTable, Grace, Poll, Seat, WaitPart, WaitWords};
+use seat_table::{CitrusTable, Grace, Poll, Seat, WaitPart, WaitWords, steps};
 
 /// The waiter that looks at the stamps of each reader by class. A reader stores the clock that it loaded as its stamp of its key's
 /// class. A wait goes over all places, and at each over the classes of its keys.
@@ -44,7 +43,7 @@ fn look(
 {
     let place = grace.place;
     let class = grace.class;
-    let stamp = k35(table, seat, place, class, last);
+    let stamp = steps::look_row(table, seat, place, class, last);
     if !is_early(stamp, grace.clock) {
         return None;
     }
@@ -157,19 +156,19 @@ fn pass_place(
 
 impl WaitPart for Deer {
     fn enter(table: &CitrusTable<Deer>, seat: &mut Seat<Deer>, key: u64) {
-        let stamp = k3(table, seat);
-        k33(table, seat, key, stamp);
+        let stamp = steps::load_clock(table, seat);
+        steps::enter_by_row(table, seat, key, stamp);
     }
 
     fn leave(table: &CitrusTable<Deer>, seat: &mut Seat<Deer>) {
         let Some(key) = seat.section() else {
             unreachable!();
         };
-        k34(table, seat, class_of(key));
+        steps::leave_by_row(table, seat, class_of(key));
     }
 
     fn begin(table: &CitrusTable<Deer>, seat: &mut Seat<Deer>, keys: Keys) -> Grace<Deer> {
-        let clock = k7(table, seat, keys);
+        let clock = steps::begin_wait(table, seat, keys);
         Grace::new(keys, clock)
     }
 

@@ -14,7 +14,7 @@ use Rattle.core_state.specs.steps.Waits.{IsSpot, is_for, spot_seen, excuses}
 use Rattle.key_interval.specs.Keys.{Interval, Holds}
 use Rattle.list_laws.specs.Counts.{IsIn}
 use Rattle.seat_table.specs.declared.wait.Grace.{Grace}
-use Rattle.seat_table.specs.Cases.{MayLook, look_field}
+use Rattle.core_acts.specs.Acts.{MayLook}
 use Rattle.seat_table.specs.Waits.{reached, IsBefore, HasReached, Passed, IsLatestOf, IsGoingOn}
 use Rattle.seat_table.specs.Looks.{HasPassed}
 use Rattle.seat_table.proofs.Polls.{key_in, key_out, goes_on}
@@ -44,15 +44,11 @@ module _ {W : Type 0} (k : Shape) (eer : k.waiter ≡ Eer) (grace : Grace W) whe
   up_to wait r _ spot less = absurd spot
 
   -- the key or the stamp may be looked at
-  pub may_look : (v : View) (stamp last : Bool) → (last ≡ true → grace.place + 1 ≡ k.places) → IsLatestOf k grace v → (wait : Waiting) × MayLook k v wait (look_field grace.place stamp) last
-  may_look v stamp last end latest = (latest.0, record { wait_is = latest.1; going = latest.2.going; rest = λ is other spot. rest stamp other spot (end is) })
+  pub may_look : (v : View) (field : Field) → spot_seen field ≡ Stamp grace.place → (last : Bool) → (last ≡ true → grace.place + 1 ≡ k.places) → IsLatestOf k grace v → (wait : Waiting) × MayLook k v wait field last
+  may_look v field here last end latest = (latest.0, record { wait_is = latest.1; going = latest.2.going; rest = λ is other spot. subst (λ f. IsIn (f ∷ latest.0.excused) other) (sym here) (up_to latest.0 latest.2 other spot (at other spot (end is))) })
     where
-      at : (q : ℕ) (other : Field) → IsSpot k latest.0 other → grace.place + 1 ≡ k.places → other ≡ Stamp q → q ≤ grace.place
-      at q other spot ends is = let s = subst (IsSpot k latest.0) is spot in omega (arith, s.1, ends)
-
-      rest : (stamp : Bool) (other : Field) → IsSpot k latest.0 other → grace.place + 1 ≡ k.places → IsIn (spot_seen (look_field grace.place stamp) ∷ latest.0.excused) other
-      rest true other spot ends = up_to latest.0 latest.2 other spot (λ q is. at q other spot ends is)
-      rest false other spot ends = up_to latest.0 latest.2 other spot (λ q is. at q other spot ends is)
+      at : (other : Field) → IsSpot k latest.0 other → grace.place + 1 ≡ k.places → (q : ℕ) → other ≡ Stamp q → q ≤ grace.place
+      at other spot ends q is = let s = subst (IsSpot k latest.0) is spot in omega (arith, s.1, ends)
 
   next_excused : (wait : Waiting) → HasReached k grace.keys grace.clock (reached grace) wait → (field : Field) → IsSpot k wait field → IsBefore (reached (at_place grace (grace.place + 1))) field → IsIn (Stamp grace.place ∷ wait.excused) field
   next_excused wait r field spot before = up_to wait r field spot (λ q is. let b = subst (IsBefore (reached (at_place grace (grace.place + 1)))) is before in omega (arith, b))

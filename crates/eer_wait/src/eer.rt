@@ -7,8 +7,7 @@ ghost use Rattle.seat_table.specs.Looks.{HasPassed, HasMet};
 
 use key_interval::Keys;
 use prcu_marks::Why;
-use seat_table::steps::{k3, k4, k5, k6, k7, k8};
-use seat_table::{CitrusTable, Grace, Poll, Seat, WaitPart, WaitWords};
+use seat_table::{CitrusTable, Grace, Poll, Seat, WaitPart, WaitWords, steps};
 
 /// The waiter that looks at the key and the stamp of each reader. A reader announces its key and then stores the clock that it
 /// loaded as its stamp. A wait goes over all places.
@@ -36,11 +35,11 @@ fn look(
     ensures met { IfSome result (λ why. HasMet seat.old.view why seat.new.view) }
 {
     let place = grace.place;
-    let key = k8(table, seat, place, false, last);
+    let key = steps::look_key(table, seat, place, last);
     if !grace.keys.holds(key) {
         return None;
     }
-    let stamp = k8(table, seat, place, true, last);
+    let stamp = steps::look_stamp(table, seat, place, last);
     if stamp == u64::MAX || grace.clock < stamp {
         return None;
     }
@@ -49,17 +48,17 @@ fn look(
 
 impl WaitPart for Eer {
     fn enter(table: &CitrusTable<Eer>, seat: &mut Seat<Eer>, key: u64) {
-        let stamp = k3(table, seat);
-        k4(table, seat, key);
-        k5(table, seat, key, stamp);
+        let stamp = steps::load_clock(table, seat);
+        steps::announce_key(table, seat, key);
+        steps::enter_by_stamp(table, seat, key, stamp);
     }
 
     fn leave(table: &CitrusTable<Eer>, seat: &mut Seat<Eer>) {
-        k6(table, seat);
+        steps::leave_by_stamp(table, seat);
     }
 
     fn begin(table: &CitrusTable<Eer>, seat: &mut Seat<Eer>, keys: Keys) -> Grace<Eer> {
-        let clock = k7(table, seat, keys);
+        let clock = steps::begin_wait(table, seat, keys);
         Grace::new(keys, clock)
     }
 

@@ -1,5 +1,5 @@
 -- Loads of a listing, one after another.
-use Rattle.std.proofs.Common.{◌≡◌, ℕ, ◌<◌, ◌≤◌, ◌⊎◌, Some, refl, sym, ap, subst, ◌∙◌}
+use Rattle.std.proofs.Common.{◌≡◌, ℕ, ◌<◌, ◌⊎◌, Some, refl, sym, ap, subst, ◌∙◌}
 use Rattle.core_state.specs.declared.shape.Shape.{Shape}
 use Rattle.core_state.specs.declared.words.Kind.TheVariants as kinds
 use Rattle.core_state.specs.declared.view.Listing.{Listing}
@@ -8,8 +8,11 @@ use Rattle.core_state.specs.declared.view.View.{View}
 use Rattle.core_state.specs.memory.Memory.{slot_count}
 use Rattle.core_state.specs.steps.Loads.{listed, after_list_load}
 use Rattle.core_state.specs.views.Known.{IsLoadable}
-use Rattle.seat_table.specs.declared.case.Case.TheVariants.{ListLoad}
-use Rattle.seat_table.specs.Cases.{slot_field, noted, Needs}
+use Rattle.core_acts.specs.declared.act.Part.{Part}
+use Rattle.core_acts.specs.declared.act.Part.TheVariants as part
+use Rattle.core_acts.specs.declared.act.Act.TheVariants.{ListLoad}
+use Rattle.core_acts.specs.Acts.{in_slot, noted, IsWord, Asks, section_of, listing_of}
+use Rattle.core_acts.proofs.Acting.{section_is}
 use Rattle.seat_table.specs.Gains.{IsSlot}
 use Rattle.seat_table.specs.Told.{Told}
 use Rattle.seat_table.proofs.Sections.{made_none, made_more, made_both}
@@ -61,21 +64,26 @@ loaded_both u v w a b =
     )
 
 module _ (k : Shape) (v : View) where
+  -- The table has each part of its slots.
+  has_part : (s : ℕ) (p : Part) → s < slot_count k → IsWord k (in_slot s p)
+  has_part s part.Life below = below
+  has_part s part.Key below = below
+  has_part s part.Value below = below
+  has_part s (part.Link b) below = below
+  has_part s (part.Tag b) below = below
+
   -- a slot of the table may be loaded, where a walk begins or stands there
-  pub may_load : (u : View) (x : IsListing u) (s f : ℕ) → s < slot_count k → 2 ≤ f → f < 9 → (s ≡ 0) ⊎ (s ≡ x.listing.slot) → IsLoadable s (slot_field s f) → Needs k u (ListLoad s f)
-  may_load u x s f below least less stands loadable = ((below, least, less), (x.section, x.listing, record { section_is = x.inside; lists = x.lists; stands = stands; loadable = loadable }))
+  pub may_load : (u : View) (x : IsListing u) (s : ℕ) (p : Part) → s < slot_count k → (s ≡ 0) ⊎ (s ≡ x.listing.slot) → IsLoadable s (in_slot s p) → Asks k u (ListLoad s p)
+  may_load u x s p below stands loadable = (has_part s p below, (x.section, x.listing, record { section_is = x.inside; lists = x.lists; stands = stands; loadable = loadable }))
 
   -- one load more
-  pub loads : (u w : View) (s f n : ℕ) (l : HasLoaded v u) → Told k u (ListLoad s f) n w → (after : Listing) → listed l.after s (slot_field s f) n ≡ after → HasFoundMore l.after after → (m : HasLoaded v w) × (m.after ≡ after)
-  loads u w s f n l t after is more =
+  pub loads : (u w : View) (s : ℕ) (p : Part) (n : ℕ) (l : HasLoaded v u) → Told k u (ListLoad s p) n w → (after : Listing) → listed l.after s (in_slot s p) n ≡ after → HasFoundMore l.after after → (m : HasLoaded v w) × (m.after ≡ after)
+  loads u w s p n l t after is more =
       let now : Section = record l.section { listing = Some l.after } in
-      let one : Some t.2.0 ≡ Some now = sym t.2.2 ∙ ap (λ (z : View). z.section) l.others in
-      let same : ◌≡◌ {A = Section} t.2.0 now = cc in
-      let two : Some t.2.1 ≡ Some l.after = sym t.2.3 ∙ ap (λ (z : Section). z.listing) same in
-      let listing : ◌≡◌ {A = Listing} t.2.1 l.after = cc in
-      let x : View = noted u (ListLoad s f) n in
+      let same : section_of u ≡ now = section_is u now (ap (λ (z : View). z.section) l.others) in
+      let x : View = noted u (ListLoad s p) n in
       let goes : w ≡ record x { section = Some (record l.section { listing = Some after }) } =
-      t.2.4 ∙ (λ i. after_list_load x (same i) (listing i) s (slot_field s f) n) ∙ (λ i. record x { section = Some (record l.section { listing = Some (is i) }) }) in
+      t.goes ∙ (λ i. after_list_load x (same i) (listing_of (same i)) s (in_slot s p) n) ∙ (λ i. record x { section = Some (record l.section { listing = Some (is i) }) }) in
       subst (λ z. (m : HasLoaded v z) × (m.after ≡ after)) (sym goes) (
         record {
           section = l.section;
@@ -84,12 +92,12 @@ module _ (k : Shape) (v : View) where
           was = l.was;
           lists = l.lists;
           more = found_both l.before l.after after l.more more;
-          made = made_more is_load v.trail u kinds.K17 (slot_field s f) n refl l.made;
+          made = made_more is_load v.trail u kinds.K17 (in_slot s p) n refl l.made;
           others = λ i. record (l.others i) { section = Some (record l.section { listing = Some after }); trail = x.trail };
         },
         refl,
       )
 
   -- where its walk stands is a slot of the table
-  pub slot_at : (u w : View) (s f n : ℕ) (m : HasLoaded v w) → Told k u (ListLoad s f) n w → IsSlot k m.after.slot
-  slot_at u w s f n m t = t.6.listed (record m.section { listing = Some m.after }) m.after (ap (λ (z : View). z.section) m.others) refl
+  pub slot_at : (u w : View) (s : ℕ) (p : Part) (n : ℕ) (m : HasLoaded v w) → Told k u (ListLoad s p) n w → IsSlot k m.after.slot
+  slot_at u w s p n m t = t.stood.listed (record m.section { listing = Some m.after }) m.after (ap (λ (z : View). z.section) m.others) refl

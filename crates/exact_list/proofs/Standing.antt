@@ -20,7 +20,7 @@ use Rattle.core_state.specs.parts.TreeParts.{map_now}
 use Rattle.key_interval.specs.Keys.{Interval}
 use Rattle.list_laws.specs.Counts.{IsIn, Each}
 use Rattle.list_laws.proofs.Lists.{in_append}
-use Rattle.seat_table.specs.declared.case.Case.TheVariants.{K37}
+use Rattle.core_acts.specs.declared.act.Act.TheVariants.{LookAtFront}
 use Rattle.seat_table.specs.Gains.{IsListedNow}
 use Rattle.seat_table.specs.Told.{Told}
 use Rattle.seat_table.specs.Sections.{HasLeft}
@@ -63,7 +63,7 @@ each_append : {A : Type 0} (P : A → Type 0) (xs ys : List A) → Each xs P →
 each_append P xs ys p q i x at = ⊎_elim (λ (a : IsIn xs x). p a.0 x a.1) (λ (a : IsIn ys x). q a.0 x a.1) (in_append xs ys x (i, at))
 
 -- a try that counted
-module _ (k : Shape) (v : View) (key first front : ℕ) (a b : View) (i : InTry v key (first ∷ []) a) (l : HasLoaded a b) (n : ℕ) (c : View) (t : Told k b K37 n c) (d : View) (left : HasLeft c d) (outside : v.section ≡ None) where
+module _ (k : Shape) (v : View) (key first front : ℕ) (a b : View) (i : InTry v key (first ∷ []) a) (l : HasLoaded a b) (n : ℕ) (c : View) (t : Told k b LookAtFront n c) (d : View) (left : HasLeft c d) (outside : v.section ≡ None) where
   before : InTry v key (first ∷ []) b
   before = loaded_try v key (first ∷ []) a i b l
 
@@ -74,31 +74,31 @@ module _ (k : Shape) (v : View) (key first front : ℕ) (a b : View) (i : InTry 
   moved_between even ne = (refl, each_one HasMoved (record { first = first; second = Some n }) (inr (is_even first even, (n, refl, ne))), ([], record { first = first; second = Some n }, refl, refl, refl))
 
   module _ (same : n ≡ first) (even : (first % 2 == 1) ≡ false) (half : front ≡ first / 2) where
-    now : IsListedNow t.0 (record l.section { listing = Some l.after }) l.after
+    now : IsListedNow t.marks (record l.section { listing = Some l.after }) l.after
     now =
         let is = front_is v key first a b i l in
-        t.5.same (record l.section { listing = Some l.after }) l.after (ap (λ (z : View). z.section) l.others) refl (subst IsEven (sym same) (is_even first even)) (same ∙ sym is)
+        t.gains.same (record l.section { listing = Some l.after }) l.after (ap (λ (z : View). z.section) l.others) refl (subst IsEven (sym same) (is_even first even)) (same ∙ sym is)
 
-    first_is : first ≡ 2 * length (updates_of t.0)
+    first_is : first ≡ 2 * length (updates_of t.marks)
     first_is = sym (front_is v key first a b i l) ∙ now.front
 
-    count : front ≡ length (updates_of t.0)
-    count = half ∙ half_of first (length (updates_of t.0)) first_is
+    count : front ≡ length (updates_of t.marks)
+    count = half ∙ half_of first (length (updates_of t.marks)) first_is
 
     twice : first ≡ 2 * front
     twice = first_is ∙ ap (λ z. 2 * z) (sym count)
 
-    in_all : IsPrefix t.0 d.seen
-    in_all = subst (λ z. IsPrefix z d.seen) (ap (λ (z : View). z.seen) t.2.2) (seen_more c d (Left c.allowance.place left.section.count) left.leaves)
+    in_all : IsPrefix t.marks d.seen
+    in_all = subst (λ z. IsPrefix z d.seen) (ap (λ (z : View). z.seen) t.goes) (seen_more c d (Left c.allowance.place left.section.count) left.leaves)
 
     pub recent : IsBetweenFronts front v.seen d.seen
     recent =
-        let old = fewer_updates v.seen t.0 (prefix_trans v.seen b.seen t.0 before.seen t.1.begins) in
-        let new = fewer_updates t.0 d.seen in_all in
+        let old = fewer_updates v.seen t.marks (prefix_trans v.seen b.seen t.marks before.seen t.sees.begins) in
+        let new = fewer_updates t.marks d.seen in_all in
         (omega (arith, old, count), omega (arith, new, count))
 
-    had : (y : ℕ) → had_at (updates_of d.seen) front y ≡ map_now t.0 y
-    had = had_now t.0 d.seen front in_all count
+    had : (y : ℕ) → had_at (updates_of d.seen) front y ≡ map_now t.marks y
+    had = had_now t.marks d.seen front in_all count
 
     exact : (low below : ℕ) (pairs : List Pair) → Cover l.after.facts l.after.gaps low below pairs → ArePairs (had_at (updates_of d.seen) front) low below pairs
     exact low below pairs cover = covers_exact (had_at (updates_of d.seen) front) l.after.facts l.after.gaps low below pairs

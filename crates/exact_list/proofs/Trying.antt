@@ -14,8 +14,9 @@ use Rattle.core_state.specs.declared.view.Section.{Section}
 use Rattle.core_state.specs.declared.view.View.{View}
 use Rattle.core_state.specs.steps.Loads.{new_listing, looked}
 use Rattle.core_frames.proofs.views.SeatFacts.{works_there}
-use Rattle.seat_table.specs.declared.case.Case.TheVariants.{K37}
-use Rattle.seat_table.specs.Cases.{noted, Needs}
+use Rattle.core_acts.specs.declared.act.Act.TheVariants.{LookAtFront}
+use Rattle.core_acts.specs.Acts.{noted, Asks, section_of}
+use Rattle.core_acts.proofs.Acting.{section_is}
 use Rattle.seat_table.specs.Told.{Told}
 use Rattle.seat_table.specs.Sections.{Makes, is_entry, is_exit, HasEntered, HasLeft}
 use Rattle.seat_table.proofs.Sections.{made_none, made_more, made_both, seen_more, own_more}
@@ -77,8 +78,8 @@ module _ (v : View) (key : ℕ) where
   })
 
   module _ (numbers : List ℕ) (u : View) (i : InTry v key numbers u) where
-    pub may_look : (k : Shape) → Needs k u K37
-    may_look k = (i.section, record { section_is = i.inside; first = i.unread })
+    pub may_look : (k : Shape) → Asks k u LookAtFront
+    may_look k = (tt, (i.section, record { section_is = i.inside; first = i.unread }))
 
     place_is : u.allowance.place ≡ v.allowance.place
     place_is = ap (λ (z : View). z.allowance.place) i.others
@@ -88,30 +89,30 @@ module _ (v : View) (key : ℕ) where
     lists_again n (m ∷ ns) o lists = (lists.0, ap (looked n) lists.1, lists.2)
 
     -- the front is looked at
-    pub looked_try : (k : Shape) (n : ℕ) (w : View) → Told k u K37 n w → InTry v key (numbers ++ n ∷ []) w
+    pub looked_try : (k : Shape) (n : ℕ) (w : View) → Told k u LookAtFront n w → InTry v key (numbers ++ n ∷ []) w
     looked_try k n w t =
-        let one : Some t.2.0 ≡ Some i.section = sym t.2.1 ∙ i.inside in
-        let same : ◌≡◌ {A = Section} t.2.0 i.section = cc in
-        let x : View = noted u K37 n in
-        let h = t.0 in
-        let count : t.2.0.count ≡ v.counts.sections = ap (λ (z : Section). z.count) same ∙ i.count in
+        let now : Section = section_of u in
+        let same : now ≡ i.section = section_is u i.section i.inside in
+        let x : View = noted u LookAtFront n in
+        let h = t.marks in
+        let count : now.count ≡ v.counts.sections = ap (λ (z : Section). z.count) same ∙ i.count in
         let look : Look = record { place = v.allowance.place; section = v.counts.sections; front = n } in
-        let own : own_of u.allowance.place u.seen ≡ own_of u.allowance.place h = t.1.own u.allowance.place (works_there u t.1.works) in
-        subst (InTry v key (numbers ++ n ∷ [])) (sym t.2.2) (record {
-          section = record t.2.0 { listing = looked n t.2.0.listing };
+        let own : own_of u.allowance.place u.seen ≡ own_of u.allowance.place h = t.sees.own u.allowance.place (works_there u t.sees.works) in
+        subst (InTry v key (numbers ++ n ∷ [])) (sym t.goes) (record {
+          section = record now { listing = looked n now.listing };
           inside = refl;
           count = count;
           unread = ap (λ (z : Section). z.reading.loads) same ∙ i.unread;
-          lists = lists_again n numbers t.2.0.listing (subst (λ (z : Section). Lists z.listing numbers) (sym same) i.lists);
-          seen = prefix_trans v.seen u.seen h i.seen t.1.begins;
+          lists = lists_again n numbers now.listing (subst (λ (z : Section). Lists z.listing numbers) (sym same) i.lists);
+          seen = prefix_trans v.seen u.seen h i.seen t.sees.begins;
           own = sym (subst (λ p. own_of p u.seen ≡ own_of p h) place_is own) ∙ i.own;
           looks = (λ j. i.looks j ++ record { place = place_is j; section = count j; front = n } ∷ []) ∙ append_assoc v.looks (looks_of v.allowance.place v.counts.sections numbers) (look ∷ [])
               ∙ ap (λ l. v.looks ++ l) (sym (looks_of-append v.allowance.place v.counts.sections numbers (n ∷ [])));
           made = made_more is_of_list v.trail u kinds.K37 Front n refl i.made;
           others = λ j. record (i.others j) {
-            section = Some (record t.2.0 { listing = looked n t.2.0.listing });
+            section = Some (record now { listing = looked n now.listing });
             latest = record ((i.others j).latest) { front = Some n };
-            looks = u.looks ++ record { place = u.allowance.place; section = t.2.0.count; front = n } ∷ [];
+            looks = u.looks ++ record { place = u.allowance.place; section = now.count; front = n } ∷ [];
             trail = x.trail;
             seen = h;
           };
@@ -159,7 +160,7 @@ module _ (v : View) (key : ℕ) where
         })
 
 -- a section that was entered with the key, and its first look
-pub first_try : (k : Shape) (v : View) (key entered : ℕ) (e : View) (first : ℕ) (a : View) → entered ≡ key → HasEntered v entered e → Told k e K37 first a → InTry v key (first ∷ []) a
+pub first_try : (k : Shape) (v : View) (key entered : ℕ) (e : View) (first : ℕ) (a : View) → entered ≡ key → HasEntered v entered e → Told k e LookAtFront first a → InTry v key (first ∷ []) a
 first_try k v key entered e first a same enters t = looked_try v key [] e (entered_try v key e (subst (λ z. HasEntered v z e) same enters)) k first a t
 
 -- A listing was begun with the number of the first look.

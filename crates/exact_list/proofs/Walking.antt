@@ -16,8 +16,10 @@ use Rattle.core_state.specs.parts.ListingParts.{low_bound, high_bound}
 use Rattle.core_state.specs.views.Known.{IsLoadable}
 use Rattle.core_state.specs.steps.Loads.{no_bounds, narrowed, walk_begun, walk_on, listed_root, listed_below, listed}
 use Rattle.list_laws.specs.Counts.{IsIn}
-use Rattle.seat_table.specs.declared.case.Case.TheVariants.{ListLoad}
-use Rattle.seat_table.specs.Cases.{slot_field, Needs}
+use Rattle.core_acts.specs.declared.act.Part.{Part}
+use Rattle.core_acts.specs.declared.act.Part.TheVariants as part
+use Rattle.core_acts.specs.declared.act.Act.TheVariants.{ListLoad}
+use Rattle.core_acts.specs.Acts.{in_slot, Asks}
 use Rattle.seat_table.specs.Gains.{IsSlot}
 use Rattle.seat_table.specs.Told.{Told}
 use Rattle.exact_list.specs.Pairs.{Pair, fact_of}
@@ -85,14 +87,14 @@ bounds_at k l from link s above come is = (come.stands (child_is link s is).0).1
 
 module _ (k : Shape) (v : View) (from : ℕ) where
   -- the walk begins
-  pub may_begin : (u : View) → IsListing u → Needs k u (ListLoad 0 6)
-  may_begin u x = may_load k v u x 0 6 (omega arith) (omega arith) (omega arith) (inl refl) refl
+  pub may_begin : (u : View) → IsListing u → Asks k u (ListLoad 0 (part.Link Right))
+  may_begin u x = may_load k v u x 0 (part.Link Right) (omega arith) (inl refl) refl
 
-  pub begins : (u w : View) (n : ℕ) (l : HasLoaded v u) → Told k u (ListLoad 0 6) n w → (m : HasLoaded v w) × HasCome k m.after from n None
+  pub begins : (u w : View) (n : ℕ) (l : HasLoaded v u) → Told k u (ListLoad 0 (part.Link Right)) n w → (m : HasLoaded v w) × HasCome k m.after from n None
   begins u w n l t =
       let after : Listing = walk_begun l.after n in
-      let m = loads k v u w 0 6 n l t after refl (record { front = refl; facts = λ f has. has; gaps = λ gap has. more_gaps l.after.gaps no_bounds gap n has }) in
-      let slot : IsSlot k after.slot = subst (λ (z : Listing). IsSlot k z.slot) m.1 (slot_at k v u w 0 6 n m.0 t) in (
+      let m = loads k v u w 0 (part.Link Right) n l t after refl (record { front = refl; facts = λ f has. has; gaps = λ gap has. more_gaps l.after.gaps no_bounds gap n has }) in
+      let slot : IsSlot k after.slot = subst (λ (z : Listing). IsSlot k z.slot) m.1 (slot_at k v u w 0 (part.Link Right) n m.0 t) in (
         m.0,
         subst (λ z. HasCome k z from n None) (sym m.1) (record {
           bounds = no_bounds;
@@ -103,22 +105,22 @@ module _ (k : Shape) (v : View) (from : ℕ) where
         }),
       )
 
-  -- At a slot of the table each field of a node may be loaded.
-  may_at : (u : View) (l : HasLoaded v u) (s f : ℕ) → l.after.slot ≡ s → IsSlot k s → 2 ≤ f → f < 9 → IsLoadable s (slot_field s f) → Needs k u (ListLoad s f)
-  may_at u l s f at slot least less loadable = may_load k v u (still_listing v u l) s f slot.inside least less (inr (sym at)) loadable
+  -- At a slot of the table each part of a node may be loaded.
+  may_at : (u : View) (l : HasLoaded v u) (s : ℕ) (p : Part) → l.after.slot ≡ s → IsSlot k s → IsLoadable s (in_slot s p) → Asks k u (ListLoad s p)
+  may_at u l s p at slot loadable = may_load k v u (still_listing v u l) s p slot.inside (inr (sym at)) loadable
 
   -- where the link leads to a slot, its key is loaded
-  pub may_read : (u : View) (link s : ℕ) (above : Option Pair) (l : HasLoaded v u) → HasCome k l.after from link above → child_of link ≡ Some s → Needs k u (ListLoad s 3)
+  pub may_read : (u : View) (link s : ℕ) (above : Option Pair) (l : HasLoaded v u) → HasCome k l.after from link above → child_of link ≡ Some s → Asks k u (ListLoad s part.Key)
   may_read u link s above l come is =
       let here = at_slot k l.after from link s above come is in
-      may_at u l s 3 here.1 here.2 (omega arith) (omega arith) refl
+      may_at u l s part.Key here.1 here.2 refl
 
-  pub reads : (u w : View) (link s n : ℕ) (above : Option Pair) (l : HasLoaded v u) → HasCome k l.after from link above → child_of link ≡ Some s → Told k u (ListLoad s 3) n w → (m : HasLoaded v w) × IsAtKey k m.after from s n above
+  pub reads : (u w : View) (link s n : ℕ) (above : Option Pair) (l : HasLoaded v u) → HasCome k l.after from link above → child_of link ≡ Some s → Told k u (ListLoad s part.Key) n w → (m : HasLoaded v w) × IsAtKey k m.after from s n above
   reads u w link s n above l come is t =
       let here = at_slot k l.after from link s above come is in
       let bounds = bounds_at k l.after from link s above come is in
       let after : Listing = record l.after { key = Some n } in
-      let m = loads k v u w s 3 n l t after (below_root l.after s (Key s) n here.0) (record { front = refl; facts = λ f has. has; gaps = λ gap has. has }) in (
+      let m = loads k v u w s part.Key n l t after (below_root l.after s (Key s) n here.0) (record { front = refl; facts = λ f has. has; gaps = λ gap has. has }) in (
         m.0,
         subst (λ z. IsAtKey k z from s n above) (sym m.1) (record {
           here = here;
@@ -129,22 +131,22 @@ module _ (k : Shape) (v : View) (from : ℕ) where
       )
 
   module _ (u : View) (s key : ℕ) (above : Option Pair) (l : HasLoaded v u) (at : IsAtKey k l.after from s key above) where
-    pub may_value : Needs k u (ListLoad s 4)
-    may_value = may_at u l s 4 at.here.1 at.here.2 (omega arith) (omega arith) refl
+    pub may_value : Asks k u (ListLoad s part.Value)
+    may_value = may_at u l s part.Value at.here.1 at.here.2 refl
 
-    pub may_left : Needs k u (ListLoad s 5)
-    may_left = may_at u l s 5 at.here.1 at.here.2 (omega arith) (omega arith) refl
+    pub may_left : Asks k u (ListLoad s (part.Link Left))
+    may_left = may_at u l s (part.Link Left) at.here.1 at.here.2 refl
 
-    pub may_right : Needs k u (ListLoad s 6)
-    may_right = may_at u l s 6 at.here.1 at.here.2 (omega arith) (omega arith) refl
+    pub may_right : Asks k u (ListLoad s (part.Link Right))
+    may_right = may_at u l s (part.Link Right) at.here.1 at.here.2 refl
 
     -- its value is loaded: a pair was found
-    pub values : (w : View) (n : ℕ) → Told k u (ListLoad s 4) n w → (m : HasLoaded v w) × IsAtKey k m.after from s key above × IsIn m.after.facts (fact_of (key, n))
+    pub values : (w : View) (n : ℕ) → Told k u (ListLoad s part.Value) n w → (m : HasLoaded v w) × IsAtKey k m.after from s key above × IsIn m.after.facts (fact_of (key, n))
     values w n t =
         let fact : Fact = record { key = key; value = n } in
         let after : Listing = record l.after { facts = fact ∷ l.after.facts } in
         let more : (f : Fact) → IsIn l.after.facts f → IsIn (fact ∷ l.after.facts) f = λ f has. (suc has.0, has.1) in
-        let m = loads k v u w s 4 n l t after (below_root l.after s (Value s) n at.here.0 ∙ ap (λ z. listed_below l.after z (Value s) n) at.key_is) (record { front = refl; facts = more; gaps = λ gap has. has }) in
+        let m = loads k v u w s part.Value n l t after (below_root l.after s (Value s) n at.here.0 ∙ ap (λ z. listed_below l.after z (Value s) n) at.key_is) (record { front = refl; facts = more; gaps = λ gap has. has }) in
         let p = subst (λ z. IsAtKey k z from s key above × IsIn z.facts fact) (sym m.1) (
           record { here = at.here; key_is = at.key_is; low = at.low; high = above_more l.after.facts (fact ∷ l.after.facts) from l.after.bounds.high above more at.high },
           (0, refl),
@@ -152,20 +154,20 @@ module _ (k : Shape) (v : View) (from : ℕ) where
         (m.0, p.0, p.1)
 
     -- a link is loaded, past which the bounds are narrower
-    goes : (w : View) (b : Side) (f n : ℕ) (next : Option Pair) → slot_field s f ≡ Link s b → Told k u (ListLoad s f) n w → low_bound (narrowed l.after.bounds key b).low ≤ from → IsAbove l.after.facts from (narrowed l.after.bounds key b).high next
+    goes : (w : View) (b : Side) (n : ℕ) (next : Option Pair) → Told k u (ListLoad s (part.Link b)) n w → low_bound (narrowed l.after.bounds key b).low ≤ from → IsAbove l.after.facts from (narrowed l.after.bounds key b).high next
         → (m : HasLoaded v w) × HasCome k m.after from n next
-    goes w b f n next field t low high = dite (ℕ_discrete n 0) ends on
+    goes w b n next t low high = dite (ℕ_discrete n 0) ends on
       where
         bounds : Gap
         bounds = narrowed l.after.bounds key b
 
-        is_walk : listed l.after s (slot_field s f) n ≡ walk_on l.after bounds n
-        is_walk = ap (λ z. listed l.after s z n) field ∙ below_root l.after s (Link s b) n at.here.0 ∙ ap (λ z. listed_below l.after z (Link s b) n) at.key_is
+        is_walk : listed l.after s (Link s b) n ≡ walk_on l.after bounds n
+        is_walk = below_root l.after s (Link s b) n at.here.0 ∙ ap (λ z. listed_below l.after z (Link s b) n) at.key_is
 
         ends : n ≡ 0 → (m : HasLoaded v w) × HasCome k m.after from n next
         ends none =
             let after : Listing = record l.after { gaps = bounds ∷ l.after.gaps } in
-            let m = loads k v u w s f n l t after (is_walk ∙ ap (λ q. cond q after (record l.after { slot = n; key = None; bounds = bounds })) (eq-eqb n 0 none)) (record { front = refl; facts = λ f has. has; gaps = λ gap has. (suc has.0, has.1) }) in (
+            let m = loads k v u w s (part.Link b) n l t after (is_walk ∙ ap (λ q. cond q after (record l.after { slot = n; key = None; bounds = bounds })) (eq-eqb n 0 none)) (record { front = refl; facts = λ f has. has; gaps = λ gap has. (suc has.0, has.1) }) in (
               m.0,
               subst (λ z. HasCome k z from n next) (sym m.1) (record { bounds = bounds; low = low; high = high; stands = λ ne. absurd (ne none); ended = λ is. (0, refl) }),
             )
@@ -173,47 +175,47 @@ module _ (k : Shape) (v : View) (from : ℕ) where
         on : n ≢ 0 → (m : HasLoaded v w) × HasCome k m.after from n next
         on ne =
             let after : Listing = record l.after { slot = n; key = None; bounds = bounds } in
-            let m = loads k v u w s f n l t after (is_walk ∙ ap (λ q. cond q (record l.after { gaps = bounds ∷ l.after.gaps }) after) (ne_eqb n 0 ne)) (record { front = refl; facts = λ f has. has; gaps = λ gap has. has }) in
-            let slot : IsSlot k n = subst (λ (z : Listing). IsSlot k z.slot) m.1 (slot_at k v u w s f n m.0 t) in (
+            let m = loads k v u w s (part.Link b) n l t after (is_walk ∙ ap (λ q. cond q (record l.after { gaps = bounds ∷ l.after.gaps }) after) (ne_eqb n 0 ne)) (record { front = refl; facts = λ f has. has; gaps = λ gap has. has }) in
+            let slot : IsSlot k n = subst (λ (z : Listing). IsSlot k z.slot) m.1 (slot_at k v u w s (part.Link b) n m.0 t) in (
               m.0,
               subst (λ z. HasCome k z from n next) (sym m.1) (record { bounds = bounds; low = low; high = high; stands = λ other. (refl, refl, slot); ended = λ is. absurd (ne is) }),
             )
 
-    pub goes_right : (w : View) (n : ℕ) → key < from → Told k u (ListLoad s 6) n w → (m : HasLoaded v w) × HasCome k m.after from n above
-    goes_right w n less t = goes w Right 6 n above refl t (omega (arith, less)) at.high
+    pub goes_right : (w : View) (n : ℕ) → key < from → Told k u (ListLoad s (part.Link Right)) n w → (m : HasLoaded v w) × HasCome k m.after from n above
+    goes_right w n less t = goes w Right n above t (omega (arith, less)) at.high
 
-    pub goes_left : (w : View) (n value : ℕ) → from ≤ key → IsIn l.after.facts (fact_of (key, value)) → Told k u (ListLoad s 5) n w → (m : HasLoaded v w) × HasCome k m.after from n (Some (key, value))
-    goes_left w n value more has t = goes w Left 5 n (Some (key, value)) refl t at.low (refl, more, has)
+    pub goes_left : (w : View) (n value : ℕ) → from ≤ key → IsIn l.after.facts (fact_of (key, value)) → Told k u (ListLoad s (part.Link Left)) n w → (m : HasLoaded v w) × HasCome k m.after from n (Some (key, value))
+    goes_left w n value more has t = goes w Left n (Some (key, value)) t at.low (refl, more, has)
 
 -- The key itself was found.
 pub found_least : (l : Listing) (from key value : ℕ) → key ≡ from → IsIn l.facts (fact_of (key, value)) → FindsLeast l from (Some (key, value))
 found_least l from key value is has = (omega (arith, is), has, λ y least below. absurd (omega (arith, is, least, below)))
 
 -- at the slot to which the latest link led, once its key was loaded
-module _ (k : Shape) (v : View) (from : ℕ) (u : View) (link s : ℕ) (above : Option Pair) (come : (l : HasLoaded v u) × HasCome k l.after from link above) (is : child_of link ≡ Some s) (x : View) (key : ℕ) (first : Told k u (ListLoad s 3) key x) where
+module _ (k : Shape) (v : View) (from : ℕ) (u : View) (link s : ℕ) (above : Option Pair) (come : (l : HasLoaded v u) × HasCome k l.after from link above) (is : child_of link ≡ Some s) (x : View) (key : ℕ) (first : Told k u (ListLoad s part.Key) key x) where
   at : (l : HasLoaded v x) × IsAtKey k l.after from s key above
   at = reads k v from u x link s key above come.0 come.1 is first
 
-  pub then_right : Needs k x (ListLoad s 6)
+  pub then_right : Asks k x (ListLoad s (part.Link Right))
   then_right = may_right k v from x s key above at.0 at.1
 
-  pub right_on : (w : View) (n : ℕ) → key < from → Told k x (ListLoad s 6) n w → (m : HasLoaded v w) × HasCome k m.after from n above
+  pub right_on : (w : View) (n : ℕ) → key < from → Told k x (ListLoad s (part.Link Right)) n w → (m : HasLoaded v w) × HasCome k m.after from n above
   right_on w n less t = goes_right k v from x s key above at.0 at.1 w n less t
 
-  pub then_value : Needs k x (ListLoad s 4)
+  pub then_value : Asks k x (ListLoad s part.Value)
   then_value = may_value k v from x s key above at.0 at.1
 
-  module _ (y : View) (value : ℕ) (second : Told k x (ListLoad s 4) value y) where
+  module _ (y : View) (value : ℕ) (second : Told k x (ListLoad s part.Value) value y) where
     with_value : (m : HasLoaded v y) × IsAtKey k m.after from s key above × IsIn m.after.facts (fact_of (key, value))
     with_value = values k v from x s key above at.0 at.1 y value second
 
     pub found_here : key ≡ from → (m : HasLoaded v y) × FindsLeast m.after from (Some (key, value))
     found_here same = (with_value.0, found_least with_value.0.after from key value same with_value.2)
 
-    pub then_left : Needs k y (ListLoad s 5)
+    pub then_left : Asks k y (ListLoad s (part.Link Left))
     then_left = may_left k v from y s key above with_value.0 with_value.1
 
-    pub left_on : (w : View) (n : ℕ) → from ≤ key → Told k y (ListLoad s 5) n w → (m : HasLoaded v w) × HasCome k m.after from n (Some (key, value))
+    pub left_on : (w : View) (n : ℕ) → from ≤ key → Told k y (ListLoad s (part.Link Left)) n w → (m : HasLoaded v w) × HasCome k m.after from n (Some (key, value))
     left_on w n more t = goes_left k v from y s key above with_value.0 with_value.1 w n value more with_value.2 t
 
 -- The walk ended: the least key is the upper bound, if there is one.

@@ -8,8 +8,7 @@ use crate::page::Page;
 use crate::walks::gather;
 use core_state::{front_of, linking};
 use key_interval::Keys;
-use seat_table::steps::look;
-use seat_table::{CitrusTable, Seat, WaitPart};
+use seat_table::{CitrusTable, Seat, WaitPart, steps};
 use std::sync::Wait;
 
 /// What a list came to.
@@ -43,13 +42,13 @@ fn attempt<R: Wait, W: WaitPart>(
 {
     page.clear();
     W::enter(table, seat, keys.low());
-    let first = look(table, seat);
+    let first = steps::look_at_front(table, seat);
     if linking(first) {
         W::leave(table, seat);
         return Listed::Moved { first, last: first };
     }
     let next = gather(rt, table, seat, keys, page);
-    let last = look(table, seat);
+    let last = steps::look_at_front(table, seat);
     W::leave(table, seat);
     if last != first {
         page.clear();

@@ -4,20 +4,17 @@ ghost use Rattle.seat_table.specs.Seats.{shape_of};
 ghost use Rattle.exact_list.specs.Walked.{IsListing, HasLoaded, FindsLeast, Gathers};
 
 use crate::page::Page;
+use core_acts::Part;
 use core_state::child_of;
 use key_interval::Keys;
-use seat_table::steps::list_load;
-use seat_table::{CitrusTable, Seat, WaitWords};
+use prcu_marks::Side;
+use seat_table::{CitrusTable, Seat, WaitWords, steps};
 use std::sync::Wait;
 
-// the fields of a slot that a walk loads
-const KEY: u32 = 3;
+// the links that a walk follows
+const LEFT: Part = Part::Link { side: Side::Left };
 
-const VALUE: u32 = 4;
-
-const LEFT: u32 = 5;
-
-const RIGHT: u32 = 6;
+const RIGHT: Part = Part::Link { side: Side::Right };
 
 // Walks from the root for the least key that is at least `from`. The latest slot with a greater key, past which the walk went to the
 // left, has the pair that is answered where the walk ends. Its value is loaded when the walk comes by: a listing loads only from the
@@ -34,22 +31,22 @@ pub(crate) fn least<R: Wait, W: WaitWords>(
     ensures least { (loaded : HasLoaded seat.old.view seat.new.view) × FindsLeast loaded.after from result }
 {
     let mut above = None;
-    let mut link = list_load(table, seat, 0, RIGHT);
+    let mut link = steps::list_load(table, seat, 0, RIGHT);
     for _ in rt.forever() {
         let Some(slot) = child_of(link) else {
             return above;
         };
-        let key = list_load(table, seat, slot, KEY);
+        let key = steps::list_load(table, seat, slot, Part::Key);
         if key < from {
-            link = list_load(table, seat, slot, RIGHT);
+            link = steps::list_load(table, seat, slot, RIGHT);
             continue;
         }
-        let value = list_load(table, seat, slot, VALUE);
+        let value = steps::list_load(table, seat, slot, Part::Value);
         if key == from {
             return Some((key, value));
         }
         above = Some((key, value));
-        link = list_load(table, seat, slot, LEFT);
+        link = steps::list_load(table, seat, slot, LEFT);
     }
     unreachable!()
 }

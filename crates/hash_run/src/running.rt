@@ -13,8 +13,8 @@ ghost use Rattle.class_hash.specs.Answers.{IsInformed};
 ghost use Rattle.class_hash.specs.Seats.{TableAt};
 ghost use Rattle.class_hash.specs.Clients.{HasCalled};
 ghost use Rattle.hash_run.specs.Capacities.{AreCapacities};
-ghost use Rattle.client_run.specs.Crews.{IsCrew};
-ghost use Rattle.hash_run.specs.Crews.{HaveNoWaits, client_for};
+ghost use Rattle.client_run.specs.Crews.{IsCrew, HaveRun};
+ghost use Rattle.hash_run.specs.Crews.{HaveNoWaits, client_for, StandsFor};
 
 use crate::capacities::capacities_for;
 use crate::crew::hire;
@@ -50,6 +50,7 @@ pub fn run_scripts<R: Threads + Wait + Sync, G: Gate + Sync>(
     gate: &G,
 ) -> Result<HashRun, NoMemory>
     requires some { 1 ≤ length scripts.now }
+    ensures run { IfOk result (λ run. HaveRun (client_for run.table) HasCalled (StandsFor run.table) scripts.now run.told.items run.seat.view) }
     ensures explained { IfOk result (λ run. (slots : ℕ) → AreExplainable scripts.now (entries_of run.told.items) run.history.items slots) }
     ensures legal { IfOk result (λ run. IsLegal run.history.items) }
     ensures history { IfOk result (λ run. run.history.items ≡ updates_of run.seat.view.seen) }

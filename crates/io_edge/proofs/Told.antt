@@ -1,5 +1,5 @@
 -- What several reads take, and what several writes append, one after another.
-use Rattle.std.proofs.Common.{◌≡◌, ℕ, ◌+◌, ◌-◌, List, ◌++◌, length, take, drop, Option, Some, None, refl, sym, ◌∙◌, arith, append_assoc, take-append-drop, length-append}
+use Rattle.std.proofs.Common.{◌≡◌, ℕ, ◌+◌, ◌-◌, List, [], ◌++◌, length, take, drop, Option, Some, None, refl, sym, ◌∙◌, arith, append-nil, append_assoc, take-append-drop, length-append}
 use Rattle.std.proofs.lemmas.List.{drop-drop, take_rest}
 use Rattle.std.proofs.Math.Seq.{take-add}
 use Rattle.io_edge.specs.Edge.{Takes, Appends, AppendsFront}
@@ -39,3 +39,7 @@ pub TakesToLimit-append : (limit left : ℕ) (before between after : Option (Lis
 TakesToLimit-append limit left before between after xs P Q first room to from second =
     let l = length-append xs second.0 in
     (xs ++ second.0, Takes-append before between after xs second.0 first second.1, omega arith, (λ q. omega (arith, second.3.0 (to q)), λ past. from (second.3.1 (omega arith))))
+
+-- a text that was written whole, in a sink that failed only afterwards
+pub AppendsFront-whole : (before between after : Option (List ℕ)) (text : List ℕ) → Appends before between text → after ≡ between → AppendsFront before after text
+AppendsFront-whole before between after text whole same = (text, [], sym (append-nil text), rw same whole)

@@ -56,4 +56,15 @@ pub trait Sink {
         ensures appended { IfOk result (λ n. Appends (bytes self.old) (bytes self.new) (take n piece.now)) }
         ensures progress { IfOk result (λ n. 0 < length piece.now → 1 ≤ n) }
         ensures unwritten { OnErr result (bytes self.new ≡ bytes self.old) };
+
+    /// That nothing of what was written is held back, as far as the sink tells.
+    ghost passed_on: { Self → Type 0 } = { λ _. Unit {0} };
+
+    /// Passes on what the sink holds back. At `Failed` it isn't known how much of it was passed on.
+    fn flush(&mut self) -> Result<(), Failed>
+        ensures failed { OnErr result (Rose (faults self.old) (faults self.new)) }
+        ensures unfailed { OnOk result (faults self.new ≡ faults self.old) }
+        ensures counted { faults self.old ≤ faults self.new }
+        ensures kept { bytes self.new ≡ bytes self.old }
+        ensures passed { OnOk result (passed_on self.new) };
 }

@@ -1,5 +1,5 @@
 //! A sink in memory with a fixed capacity, which fails where it is told to.
-ghost use Rattle.std.specs.Prelude.{◌≡◌, ◌-◌, ◌<◌, ◌≤◌, ◌↔◌, ◌⊎◌, [], ◌++◌, Some, Ok, min, length, take, Contains, IsErr, IfOk, OnOk, OnErr};
+ghost use Rattle.std.specs.Prelude.{◌≡◌, ◌-◌, ◌<◌, ◌≤◌, ◌↔◌, ◌⊎◌, [], ◌++◌, Some, Ok, min, length, take, Contains, IsErr, IsOk, IfOk, OnOk, OnErr};
 ghost use Rattle.io_edge.specs.Edge.{raised};
 
 use crate::edge::{Failed, Sink};
@@ -105,5 +105,13 @@ impl Sink for MemorySink {
         let count = piece.len().min(free).min(self.piece);
         self.held.extend_from_slice(&piece[..count]).unwrap();
         Ok(count)
+    }
+
+    /// Holds nothing back, and never fails.
+    fn flush(&mut self) -> Result<(), Failed>
+        ensures passed { IsOk result }
+        ensures same { self.new ≡ self.old }
+    {
+        Ok(())
     }
 }

@@ -1,5 +1,5 @@
 //! A sink that lets everything go.
-ghost use Rattle.std.specs.Prelude.{◌≡◌, ◌≤◌, ◌<◌, Ok, None, length, IfOk};
+ghost use Rattle.std.specs.Prelude.{◌≡◌, ◌≤◌, ◌<◌, Ok, None, length, IsOk, IfOk};
 ghost use Rattle.io_edge.specs.Edge.{Appends};
 
 use crate::edge::{Failed, Sink};
@@ -27,5 +27,12 @@ impl Sink for NullSink {
         ensures { result ≡ Ok (length piece.now) }
     {
         Ok(piece.len())
+    }
+
+    /// Holds nothing back, and never fails.
+    fn flush(&mut self) -> Result<(), Failed>
+        ensures { IsOk result }
+    {
+        Ok(())
     }
 }

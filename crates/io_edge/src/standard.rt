@@ -75,18 +75,6 @@ impl<W: Write> StdSink<W> {
         StdSink { inner, faults: 0 }
     }
 
-    /// Has the writer pass on what it holds back. At `Failed` it isn't known how much of it was passed on.
-    pub fn flush(&mut self) -> Result<(), Failed>
-        ensures counted { self.old.faults ≤ self.new.faults }
-        ensures unfailed { OnOk result (self.new ≡ self.old) }
-        ensures failed { OnErr result (self.new ≡ record self.old { faults = raised self.old.faults }) }
-    {
-        match self.inner.flush() {
-            Ok(()) => Ok(()),
-            Err(_) => Err(self.fail()),
-        }
-    }
-
     // Counts a fault.
     fn fail(&mut self) -> Failed
         ensures counted { self.old.faults ≤ self.new.faults }
@@ -114,6 +102,18 @@ impl<W: Write> Sink for StdSink<W> {
         match self.inner.write(piece) {
             Ok(0) if !piece.is_empty() => Err(self.fail()),
             Ok(count) => Ok(count),
+            Err(_) => Err(self.fail()),
+        }
+    }
+
+    /// Has the writer pass on what it holds back. At `Failed` it isn't known how much of it was passed on.
+    fn flush(&mut self) -> Result<(), Failed>
+        ensures counted { self.old.faults ≤ self.new.faults }
+        ensures unfailed { OnOk result (self.new ≡ self.old) }
+        ensures failed { OnErr result (self.new ≡ record self.old { faults = raised self.old.faults }) }
+    {
+        match self.inner.flush() {
+            Ok(()) => Ok(()),
             Err(_) => Err(self.fail()),
         }
     }

@@ -107,8 +107,24 @@ fn take_piece<S: Source>(
     Ok(count)
 }
 
-/// Writes the whole text. At `WriteFault` the sink failed, and a front of the text was written.
+/// Writes the whole text, and has the sink pass it on. At `WriteFault` the sink failed, and a front of the text was written.
 pub fn write_all<K: Sink>(sink: &mut K, text: &[u8]) -> Result<(), WriteFault>
+    ensures whole { OnOk result (Appends (K.bytes sink.old) (K.bytes sink.new) text.now) }
+    ensures passed { OnOk result (K.passed_on sink.new) }
+    ensures no_fault { OnOk result (K.faults sink.new ≡ K.faults sink.old) }
+    ensures fault { OnErr result (Rose (K.faults sink.old) (K.faults sink.new)) }
+    ensures front { OnErr result (AppendsFront (K.bytes sink.old) (K.bytes sink.new) text.now) }
+    ensures counted { K.faults sink.old ≤ K.faults sink.new }
+{
+    write_pieces(sink, text)?;
+    match sink.flush() {
+        Ok(()) => Ok(()),
+        Err(Failed) => Err(WriteFault),
+    }
+}
+
+// Writes the whole text, piece by piece.
+fn write_pieces<K: Sink>(sink: &mut K, text: &[u8]) -> Result<(), WriteFault>
     ensures whole { OnOk result (Appends (K.bytes sink.old) (K.bytes sink.new) text.now) }
     ensures no_fault { OnOk result (K.faults sink.new ≡ K.faults sink.old) }
     ensures fault { OnErr result (Rose (K.faults sink.old) (K.faults sink.new)) }

@@ -8,15 +8,15 @@ use Rattle.core_state.specs.declared.view.Known.{Known}
 use Rattle.core_state.specs.declared.view.View.{View}
 use Rattle.core_state.specs.memory.Memory.{slot_count}
 use Rattle.core_state.specs.views.Known.{known_in, note_option}
-use Rattle.core_state.specs.steps.Slots.{IsInHand, after_own_life, after_raise_in_hand, after_free_in_hand, after_count_free}
+use Rattle.core_state.specs.steps.Slots.{IsInHand, NeedsFreeInHand, after_own_life, after_raise_in_hand, after_free_in_hand, after_count_free}
 use Rattle.core_frames.proofs.views.Fields.{same_self}
-use Rattle.seat_table.specs.declared.case.Case.TheVariants.{K9, K12, K15, K16}
-use Rattle.seat_table.specs.Cases.{noted, FreesInHand, Needs}
+use Rattle.core_acts.specs.declared.act.Act.TheVariants.{LoadOwnLife, RaiseInHand, FreeInHand, CountFree}
+use Rattle.core_acts.specs.Acts.{noted}
 use Rattle.seat_table.specs.Gains.{Sees, TellsNow}
-use Rattle.seat_table.specs.Seats.{TableAt, shape_of, IsSlotOf, is_in_hand, is_none, makes_spare}
+use Rattle.seat_table.specs.Seats.{TableAt, shape_of, IsSlotOf}
 use Rattle.seat_table.specs.Told.{Told}
+use Rattle.seat_table.proofs.Going.{goes_from}
 use Rattle.seat_table.proofs.Seized.{HasUnraised, needs_raise, needs_free}
-use Rattle.seat_table.proofs.Slots.{in_hand_there}
 use Rattle.node_slots.specs.Slots.{next_life, renewing, PutsBack}
 
 -- what the rule tells of a seat of this table
@@ -35,18 +35,15 @@ some_slot (Some other) held e is = is
 pub hand_inside : (k : Shape) (v : View) (held : Held) (slot : ℕ) → TellsNow k v → v.hands.hand ≡ Some held → slot ≡ held.slot → slot < slot_count k
 hand_inside k v held slot told there is = subst (λ s. s < slot_count k) (sym is) (told.tells.hand_within held there)
 
-module _ (k : Shape) (v : View) (held : Held) (slot life : ℕ) (hand : IsInHand v held slot) (unraised : held.raised ≡ false) (paid : v.hands.owes ≡ false) (v1 : View) (first : Told k v (K9 slot false) life v1) where
+module _ (k : Shape) (v : View) (held : Held) (slot life : ℕ) (hand : IsInHand v held slot) (unraised : held.raised ≡ false) (paid : v.hands.owes ≡ false) (v1 : View) (first : Told k v (LoadOwnLife slot) life v1) where
   abbrev aging : View
-  aging = after_own_life (noted v (K9 slot false) life) slot life
-
-  pub aged_is : v1 ≡ aging
-  aged_is = first.2.own held (inl hand)
+  aging = after_own_life (noted v (LoadOwnLife slot) life) slot life
 
   abbrev note : Known
   note = record { field = Life slot; number = life; stored = false }
 
   pub unraised_there : HasUnraised v1 slot life
-  unraised_there = subst (λ z. HasUnraised z slot life) (sym aged_is) (record {
+  unraised_there = subst (λ z. HasUnraised z slot life) (sym first.goes) (record {
     held = record held { known = note ∷ held.known };
     in_hand = (ap (note_option slot note) hand.0 ∙ ap (λ b. Some (cond b (record held { known = note ∷ held.known }) held)) (eq-eqb held.slot slot hand.1), hand.1);
     unraised = unraised;
@@ -54,38 +51,23 @@ module _ (k : Shape) (v : View) (held : Held) (slot life : ℕ) (hand : IsInHand
     paid = paid;
   })
 
-  pub makes_none : makes_spare v1 slot 2 ≡ false
-  makes_none = ap (λ b. is_none v1.hands.spare && not b) (in_hand_there v1.hands.hand unraised_there.held slot unraised_there.in_hand.0 unraised_there.in_hand.1) ∙ and_false (is_none v1.hands.spare)
-    where
-      and_false : (b : Bool) → (b && false) ≡ false
-      and_false true = refl
-      and_false false = refl
+  abbrev number : ℕ
+  number = next_life life
 
-  pub needs_next : slot < slot_count k → Needs k v1 (K12 slot 2 (next_life life))
-  needs_next inside = (inside, inr (inl (needs_raise v1 slot life (next_life life) refl unraised_there)))
-
-  module _ (v2 : View) (second : Told k v1 (K12 slot 2 (next_life life)) (next_life life) v2) where
-    abbrev number : ℕ
-    number = next_life life
-
+  module _ (v2 : View) (second : Told k v1 (RaiseInHand slot number) number v2) where
     abbrev raised : View
-    raised = after_raise_in_hand (noted aging (K12 slot 2 number) number) slot number
+    raised = after_raise_in_hand (noted aging (RaiseInHand slot number) number) slot number
 
-    raised_is : v2 ≡ raised
-    raised_is = second.2.raises (needs_raise v1 slot life number refl unraised_there) ∙ ap (λ z. after_raise_in_hand (noted z (K12 slot 2 number) number) slot number) aged_is
-
-    pub frees : FreesInHand v2 slot
+    pub frees : (held : Held) × NeedsFreeInHand v2 held slot
     frees = needs_free v1 slot life number refl unraised_there k v2 second
 
-    pub still_in_hand : is_in_hand v2.hands.hand slot ≡ true
-    still_in_hand = in_hand_there v2.hands.hand frees.0 slot frees.1.in_hand.0 frees.1.in_hand.1
-
-    pub puts_back : (v3 w : View) (found : ℕ) → Told k v2 (K15 slot) 0 v3 → Told k v3 K16 found w → PutsBack v slot w
+    pub puts_back : (v3 w : View) (found : ℕ) → Told k v2 (FreeInHand slot) 0 v3 → Told k v3 CountFree found w → PutsBack v slot w
     puts_back v3 w found third fourth =
-        let h : List Mark = third.0 in
-        let last : View = after_count_free (noted (after_free_in_hand (noted raised (K15 slot) 0) slot h) K16 found) found in
-        let is : w ≡ last = fourth.2 ∙ ap (λ z. after_count_free (noted z K16 found) found) (third.2.in_hand frees ∙ ap (λ z. after_free_in_hand (noted z (K15 slot) 0) slot h) raised_is) in
-        let sees : Sees raised h = subst (λ z. Sees z h) raised_is third.1 in
+        let h : List Mark = third.marks in
+        let last : View = after_count_free (noted (after_free_in_hand (noted raised (FreeInHand slot) 0) slot h) CountFree found) found in
+        let raised_is : v2 ≡ raised = goes_from first.goes second in
+        let is : w ≡ last = goes_from (goes_from raised_is third) fourth in
+        let sees : Sees raised h = subst (λ z. Sees z h) raised_is third.sees in
         let u : View = renewing v slot life in
         subst (PutsBack v slot) (sym is) (record {
           life = life;

@@ -4,13 +4,12 @@ ghost use Rattle.core_state.specs.declared.view.HeldLock.{HeldLock};
 ghost use Rattle.core_state.specs.views.Known.{HasLock};
 ghost use Rattle.core_state.specs.steps.Locks.{NeedsUnlock};
 ghost use Rattle.seat_table.specs.Seats.{shape_of};
-ghost use Rattle.seat_table.specs.declared.case.Case.TheVariants.{K13, K14};
+ghost use Rattle.core_acts.specs.declared.act.Act.TheVariants as acts;
 ghost use Rattle.seat_table.specs.Told.{Told};
 ghost use Rattle.node_slots.specs.Slots.{Tries, Unlocks, found_by};
 
 use crate::answers::Lock;
-use seat_table::steps::{k13, k14};
-use seat_table::{CitrusTable, Seat, WaitWords};
+use seat_table::{CitrusTable, Seat, WaitWords, steps};
 
 /// Tries once to lock a slot, by one exchange. `Busy` comes where another place holds the lock.
 pub fn try_lock<W: WaitWords>(table: &CitrusTable<W>, seat: &mut Seat<W>, slot: u32) -> Lock
@@ -21,9 +20,9 @@ pub fn try_lock<W: WaitWords>(table: &CitrusTable<W>, seat: &mut Seat<W>, slot: 
     requires few { length seat.old.view.locks < 5 }
     ensures seat { (seat.new.table ≡ seat.old.table) × (seat.new.listed ≡ seat.old.listed) }
     ensures view { Tries (shape_of W.WAY table.now) seat.old.view slot result seat.new.view }
-    ensures told { Told (shape_of W.WAY table.now) seat.old.view (K13 slot) (found_by result) seat.new.view }
+    ensures told { Told (shape_of W.WAY table.now) seat.old.view (acts.Lock slot) (found_by result) seat.new.view }
 {
-    let found = k13(table, seat, slot);
+    let found = steps::lock(table, seat, slot);
     if found == 0 {
         return Lock::Held;
     }
@@ -37,8 +36,7 @@ pub fn unlock<W: WaitWords>(table: &CitrusTable<W>, seat: &mut Seat<W>, slot: u3
     requires held { (lock : HeldLock) × NeedsUnlock seat.old.view lock slot }
     ensures seat { (seat.new.table ≡ seat.old.table) × (seat.new.listed ≡ seat.old.listed) }
     ensures view { Unlocks seat.old.view slot seat.new.view }
-    ensures told { Told (shape_of W.WAY table.now) seat.old.view (K14 slot) 0 seat.new.view }
+    ensures told { Told (shape_of W.WAY table.now) seat.old.view (acts.Unlock slot) 0 seat.new.view }
 {
-    seat.rule_tells();
-    k14(table, seat, slot);
+    steps::unlock(table, seat, slot);
 }

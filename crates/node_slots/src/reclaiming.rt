@@ -8,8 +8,7 @@ ghost use Rattle.seat_table.specs.Gains.{IsInformed};
 ghost use Rattle.node_slots.specs.Reclaiming.{IsReady, AreReady, BecomesSpare, BecomesFree, Returns, GivesBack, HasReclaimed, first_of, first_slots, without_slots};
 
 use key_interval::Keys;
-use seat_table::steps::{k9, k12, k15, k16};
-use seat_table::{CitrusTable, Seat, WaitPart, WaitWords, wait_for_readers};
+use seat_table::{CitrusTable, Seat, WaitPart, WaitWords, steps, wait_for_readers};
 use std::sync::Wait;
 
 // Makes a retired slot the spare.
@@ -24,8 +23,8 @@ fn keep_spare<W: WaitWords>(table: &CitrusTable<W>, seat: &mut Seat<W>, slot: u3
     ensures view { BecomesSpare seat.old.view slot seat.new.view }
     ensures informed { IsInformed seat.new.view }
 {
-    let life = k9(table, seat, slot, false);
-    k12(table, seat, slot, 2, 2 * (life / 2 + 1));
+    let life = steps::load_retired_life(table, seat, slot);
+    steps::raise_to_spare(table, seat, slot, 2 * (life / 2 + 1));
 }
 
 // Frees a retired slot.
@@ -41,10 +40,10 @@ fn free_retired<W: WaitWords>(table: &CitrusTable<W>, seat: &mut Seat<W>, slot: 
     ensures view { BecomesFree seat.old.view slot seat.new.view }
     ensures informed { IsInformed seat.new.view }
 {
-    let life = k9(table, seat, slot, false);
-    k12(table, seat, slot, 2, 2 * (life / 2 + 1));
-    k15(table, seat, slot);
-    k16(table, seat);
+    let life = steps::load_retired_life(table, seat, slot);
+    steps::raise_retired(table, seat, slot, 2 * (life / 2 + 1));
+    steps::free_retired(table, seat, slot);
+    steps::count_free(table, seat);
 }
 
 // Gives a retired slot back, which becomes the spare where the place has none.

@@ -10,8 +10,7 @@ ghost use Rattle.seat_table.specs.Gains.{IsInformed, StaysIn};
 ghost use Rattle.node_slots.specs.Slots.{Reserves, Seizes, PutsBack};
 
 use crate::answers::{Reserve, Seize};
-use seat_table::steps::{k9, k10, k11, k12, k15, k16};
-use seat_table::{CitrusTable, Seat, WaitWords};
+use seat_table::{CitrusTable, Seat, WaitWords, steps};
 
 /// Tries once to reserve a free slot, by one exchange of the free count for one less. `Lost` and `Empty` come where it found another
 /// number than the one expected.
@@ -26,7 +25,7 @@ pub fn reserve<W: WaitWords>(table: &CitrusTable<W>, seat: &mut Seat<W>, expecte
     ensures informed { IsInformed seat.new.view }
     ensures stays { StaysIn (shape_of W.WAY table.now) seat.new.view }
 {
-    let found = k10(table, seat, expected);
+    let found = steps::reserve(table, seat, expected);
     if found == expected {
         return Reserve::Held;
     }
@@ -46,11 +45,11 @@ pub fn seize<W: WaitWords>(table: &CitrusTable<W>, seat: &mut Seat<W>, slot: u32
     ensures informed { IsInformed seat.new.view }
     ensures stays { StaysIn (shape_of W.WAY table.now) seat.new.view }
 {
-    let found = k11(table, seat, slot);
+    let found = steps::seize(table, seat, slot);
     if found != 0 {
         return Seize::NotFree { found };
     }
-    let life = k9(table, seat, slot, false);
+    let life = steps::load_own_life(table, seat, slot);
     Seize::Got {
         generation: life / 2,
     }
@@ -69,11 +68,10 @@ pub fn put_back<W: WaitWords>(table: &CitrusTable<W>, seat: &mut Seat<W>)
     let Some(slot) = seat.in_hand() else {
         unreachable!();
     };
-    seat.rule_tells();
-    let life = k9(table, seat, slot, false);
-    k12(table, seat, slot, 2, 2 * (life / 2 + 1));
-    k15(table, seat, slot);
-    k16(table, seat);
+    let life = steps::load_own_life(table, seat, slot);
+    steps::raise_in_hand(table, seat, slot, 2 * (life / 2 + 1));
+    steps::free_in_hand(table, seat, slot);
+    steps::count_free(table, seat);
 }
 
 /// Lists a slot that this place unlinked, as the last one. A later `reclaim` or `give_back` gives it back.

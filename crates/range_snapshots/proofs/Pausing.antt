@@ -2,8 +2,8 @@
 use Rattle.std.proofs.Common.{◌≡◌, ℕ, [], ◌∷◌, None, refl}
 use Rattle.core_state.specs.declared.shape.Shape.{Shape}
 use Rattle.core_state.specs.declared.view.View.{View}
-use Rattle.seat_table.specs.declared.case.Case.TheVariants.{K37}
-use Rattle.seat_table.specs.Cases.{Needs}
+use Rattle.core_acts.specs.declared.act.Act.TheVariants.{LookAtFront}
+use Rattle.core_acts.specs.Acts.{Asks}
 use Rattle.seat_table.specs.Sections.{HasEntered, HasLeft}
 use Rattle.seat_table.specs.Told.{Told}
 use Rattle.exact_list.specs.Tries.{HasTried}
@@ -11,11 +11,11 @@ use Rattle.exact_list.proofs.Trying.{entered_try, may_look, first_try, left_try}
 use Rattle.range_snapshots.specs.Snapshots.{OnlyLists}
 use Rattle.range_snapshots.proofs.Taking.{only_tried}
 
-pub may_look_first : (k : Shape) (v : View) (key : ℕ) (w : View) → HasEntered v key w → Needs k w K37
+pub may_look_first : (k : Shape) (v : View) (key : ℕ) (w : View) → HasEntered v key w → Asks k w LookAtFront
 may_look_first k v key w entered = may_look v key [] w (entered_try v key w entered) k
 
 -- the section is entered and left, and the front looked at once
-module _ (k : Shape) (v : View) (key : ℕ) (entered : View) (found : ℕ) (looked left : View) (outside : v.section ≡ None) (enters : HasEntered v key entered) (tells : Told k entered K37 found looked) (leaves : HasLeft looked left) where
+module _ (k : Shape) (v : View) (key : ℕ) (entered : View) (found : ℕ) (looked left : View) (outside : v.section ≡ None) (enters : HasEntered v key entered) (tells : Told k entered LookAtFront found looked) (leaves : HasLeft looked left) where
   looked_once : HasTried v key (record { first = found; second = None } ∷ []) left
   looked_once = left_try v key (found ∷ []) looked (first_try k v key key entered found looked refl enters tells) left outside leaves (record { first = found; second = None }) refl
 

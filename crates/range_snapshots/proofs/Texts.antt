@@ -1,14 +1,16 @@
 -- A watch text from its account and its snapshots.
 use Rattle.std.proofs.Common.{◌≡◌, ℕ, List, ◌++◌, length, refl, sym, subst}
 use Rattle.prcu_model.specs.declared.operation.Op.{Op}
+use Rattle.prcu_model.specs.declared.operation.Told.{Told}
 use Rattle.prcu_model.specs.declared.operation.Update.{Update}
-use Rattle.account_text.specs.Account.{IsAccount}
+use Rattle.account_text.specs.Account.{IsAccount, HaveReplies}
 use Rattle.range_snapshots.specs.Snapshots.{SnapshotAt, AreSnapshots}
 use Rattle.range_snapshots.specs.WatchText.{watch_part, IsWatchText}
 
-pub watch_made : (scripts : List (List Op)) (slots low high : ℕ) (history : List Update) (account text : List ℕ) (snapshots : List SnapshotAt) → length snapshots ≡ 4 → AreSnapshots history low high 0 snapshots
-    → (a : IsAccount scripts slots account) × (a.history ≡ history) → text ≡ account ++ watch_part low high snapshots → (watch : IsWatchText scripts slots low high text) × (watch.account.history ≡ history) × (watch.snapshots ≡ snapshots)
-watch_made scripts slots low high history account text snapshots four taken a printed = (
+pub watch_made : (scripts : List (List Op)) (slots low high : ℕ) (told : List (List Told)) (history : List Update) (account text : List ℕ) (snapshots : List SnapshotAt) → length snapshots ≡ 4 → AreSnapshots history low high 0 snapshots
+    → (a : IsAccount scripts slots account) × (a.history ≡ history) × HaveReplies told a.lines → text ≡ account ++ watch_part low high snapshots
+    → (watch : IsWatchText scripts slots low high text) × (watch.account.history ≡ history) × (watch.snapshots ≡ snapshots) × HaveReplies told watch.account.lines
+watch_made scripts slots low high told history account text snapshots four taken a printed = (
   record {
     account_text = account;
     account = a.0;
@@ -19,4 +21,5 @@ watch_made scripts slots low high history account text snapshots four taken a pr
   },
   a.1,
   refl,
+  a.2,
 )

@@ -5,5 +5,6 @@ mod pauses;
 mod snapshot;
 mod writing;
 
+pub use pauses::Pace;
 pub use snapshot::{Snapshot, Snapshots};
 pub use writing::make_watch_text;

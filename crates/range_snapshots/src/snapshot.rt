@@ -5,8 +5,9 @@ ghost use Rattle.seat_table.specs.Seats.{IsQuietSeat};
 ghost use Rattle.range_snapshots.specs.Snapshots.{AreSnapshots, OnlyLists, HasLookedAt, none_yet};
 ghost use Rattle.range_snapshots.specs.WatchText.{block_text};
 
-use crate::pauses::pause;
+use crate::pauses::{Pace, pause};
 use crate::writing::push_block;
+use crossbeam_utils::Backoff;
 use exact_list::{Listed, Page, list};
 use key_interval::Keys;
 use prcu_marks::{Gate, Point};
@@ -15,7 +16,6 @@ use seat_table::{CitrusTable, Seat, WaitPart};
 use std::alloc::Global;
 use std::marker::Model;
 use std::sync::Wait;
-use std::thread;
 
 // How many pairs a snapshot has at most.
 const MOST_PAIRS: u32 = 4096;
@@ -75,14 +75,14 @@ impl Snapshot {
         self.next
     }
 
-    // Takes it anew, after a pause for so many updates. Beside updates that never pause it may never return.
+    // Takes it anew, after a pause. Beside updates that never pause it may never return.
     fn take<R: Wait, W: WaitPart>(
         &mut self,
         rt: &R,
         table: &CitrusTable<W>,
         seat: &mut Seat<W>,
         keys: Keys,
-        updates: u32,
+        pace: &Pace<'_>,
     )
         requires table { seat.old.table ≡ table.now }
         requires quiet { IsQuietSeat seat.old }
@@ -92,7 +92,8 @@ impl Snapshot {
         ensures taken { AreSnapshots (updates_of seat.new.view.seen) keys.low keys.high (length (updates_of seat.old.view.seen)) (self.new ∷ []) }
         ensures looked { HasLookedAt seat.old.view seat.new.view (self.new ∷ []) }
     {
-        pause(table, seat, keys.low(), updates);
+        pause(table, seat, keys.low(), pace);
+        let backoff = Backoff::new();
         for _ in rt.forever() {
             match list(rt, table, seat, keys, &mut self.page, TRIES) {
                 Listed::Whole { front } => {
@@ -105,7 +106,7 @@ impl Snapshot {
                     self.next = Some(next);
                     return;
                 }
-                Listed::Moved { .. } => thread::yield_now(),
+                Listed::Moved { .. } => backoff.snooze(),
             }
         }
         unreachable!()
@@ -157,15 +158,15 @@ impl Snapshots {
     }
 
     /// Takes all anew, one after another, and passes the gate after each. Before each it lets other threads go on until they have made
-    /// so many updates more, or none for a while: so the snapshots stand apart where there is something to see, and no clause rests on
-    /// it. Beside updates that never pause it may never return.
+    /// as many updates more as the pace says, have made none for a while, or have ended: so the snapshots stand apart where there is
+    /// something to see, and no clause rests on it. Beside updates that never pause it may never return.
     pub fn take<R: Wait, W: WaitPart, G: Gate>(
         &mut self,
         rt: &R,
         table: &CitrusTable<W>,
         seat: &mut Seat<W>,
         keys: Keys,
-        updates: u32,
+        pace: &Pace<'_>,
         gate: &G,
         caller: u32,
     )
@@ -177,13 +178,13 @@ impl Snapshots {
         ensures taken { AreSnapshots (updates_of seat.new.view.seen) keys.low keys.high (length (updates_of seat.old.view.seen)) self.new }
         ensures looked { HasLookedAt seat.old.view seat.new.view self.new }
     {
-        self.first.take(rt, table, seat, keys, updates);
+        self.first.take(rt, table, seat, keys, pace);
         gate.pass(Point::Answered, caller);
-        self.second.take(rt, table, seat, keys, updates);
+        self.second.take(rt, table, seat, keys, pace);
         gate.pass(Point::Answered, caller);
-        self.third.take(rt, table, seat, keys, updates);
+        self.third.take(rt, table, seat, keys, pace);
         gate.pass(Point::Answered, caller);
-        self.fourth.take(rt, table, seat, keys, updates);
+        self.fourth.take(rt, table, seat, keys, pace);
         gate.pass(Point::Answered, caller);
     }
 }

@@ -3,6 +3,7 @@ ghost use Rattle.std.specs.Prelude.{◌≡◌, ◌++◌, IfOk, OnOk, length};
 ghost use Rattle.prcu_model.specs.Fronts.{AreExplainable};
 ghost use Rattle.prcu_model.specs.History.{IsLegal};
 ghost use Rattle.prcu_model.specs.Lists.{entries_of};
+ghost use Rattle.account_text.specs.Account.{HaveReplies};
 ghost use Rattle.range_snapshots.specs.Snapshots.{AreSnapshots};
 ghost use Rattle.range_snapshots.specs.WatchText.{kind_text, block_text, watch_part, IsWatchText};
 
@@ -13,7 +14,8 @@ use prcu_model::{NoMemory, Scripts, ToldList, Update};
 use script_text::push_number;
 use std::alloc::Global;
 
-/// The watch text of what the scripts were told, with this history and the snapshots of these keys. The scripts share so many slots.
+/// The watch text of what the scripts were told, with this history and the snapshots of these keys: the lines of its account have the replies
+/// that were told. The scripts share so many slots.
 pub fn make_watch_text(
     alloc: Global,
     scripts: &Scripts,
@@ -26,7 +28,8 @@ pub fn make_watch_text(
     requires explained { AreExplainable scripts.now (entries_of told.now) history.now slots }
     requires legal { IsLegal history.now }
     requires snapshots { AreSnapshots history.now keys.low keys.high 0 snapshots.now }
-    ensures { IfOk result (λ text. (watch : IsWatchText scripts.now slots keys.low keys.high text.items) × (watch.account.history ≡ history.now) × (watch.snapshots ≡ snapshots.now)) }
+    ensures { IfOk result (λ text. (watch : IsWatchText scripts.now slots keys.low keys.high text.items) × (watch.account.history ≡ history.now) × (watch.snapshots ≡ snapshots.now)
+        × HaveReplies (entries_of told.now) watch.account.lines) }
 {
     let mut text = make_account(alloc, scripts, told, history, slots)?;
     push_watch(&mut text, keys, snapshots)?;

@@ -4,51 +4,48 @@ ghost use Rattle.client_run.specs.Workers.{AreReadyFor};
 
 use client_run::{Worker, merge, run_all};
 use prcu_marks::Client;
-use prcu_model::{NoMemory, Op, Reply, Scripts, Told, ToldList, Update};
+use prcu_model::{NoMemory, Op, Reply, Scripts, Told, ToldList};
 use std::alloc::Global;
 use std::process::Abort;
 use std::sync::Wait;
 use std::sync::atomic::{AtomicU64, Ordering};
 use std::test::Fail;
 use std::thread;
+use std::thread::Threads;
 
-const KEYS: u64 = 8;
-
-// Has a dictionary of its own, of keys below `KEYS`, and draws the numbers of its updates from a counter that it shares
-// with others. An update waits, for a bounded time, until as many as `together` were drawn, and is told `Full` where they
-// weren't.
+// Holds one value, and draws the numbers of its updates from a counter that it shares with others. A set waits, for a
+// bounded time, until as many as `together` were drawn, and is told `Full` where they weren't.
 #[derive(Drop)]
 struct Clerk<'a> {
-    values: [Option<u64>; 8],
+    value: u64,
     drawn: &'a AtomicU64,
     together: u64,
     left: u64,
 }
 
-impl<'a> Clerk<'a> {
-    fn new(drawn: &'a AtomicU64, together: u64, calls: u64) -> Clerk<'a>
-        ensures { result.left ≡ calls }
-    {
-        Clerk {
-            values: [None; 8],
-            drawn,
-            together,
-            left: calls,
+impl Client for Clerk<'_> {
+    ghost use Rattle.std.specs.Prelude.{◌≡◌, ◌+◌};
+
+    ghost left = { λ clerk. clerk.left };
+
+    ghost made = { λ before op told after. before.left ≡ after.left + 1 };
+
+    fn call<R: Wait>(&mut self, _rt: &R, op: Op) -> Told {
+        self.left -= 1;
+        let was = self.value;
+        let Op::Set { value, .. } = op else {
+            return answer(Reply::Val { value: was }, 0);
+        };
+        self.value = value;
+        let number = self.drawn.fetch_add(1, Ordering::SeqCst).wrapping_add(1);
+        if is_drawn(self.drawn, self.together) {
+            return answer(Reply::Was { value: was }, number);
         }
+        answer(Reply::Full, 0)
     }
 
-    // The reply, where the shelf of the key is given its next value.
-    fn update(&mut self, key: u64, next: Option<u64>, reply: Reply) -> Told
-        ensures { self.new.left ≡ self.old.left }
-    {
-        self.values[(key % KEYS) as usize] = next;
-        let number = self.drawn.fetch_add(1, Ordering::SeqCst).wrapping_add(1);
-        let reply = if is_drawn(self.drawn, self.together) {
-            reply
-        } else {
-            Reply::Full
-        };
-        Told { reply, number }
+    fn remaining(&self) -> u64 {
+        self.left
     }
 }
 
@@ -69,38 +66,48 @@ fn answer(reply: Reply, number: u64) -> Told
     Told { reply, number }
 }
 
-impl Client for Clerk<'_> {
-    ghost use Rattle.std.specs.Prelude.{◌≡◌, ◌+◌};
+// What a caller's clerk holds before its call of this number, if no call was left out or made twice.
+fn value_at(caller: u32, call: u32) -> u64 {
+    u64::from(caller) * 1_000_000 + u64::from(call.div_ceil(2))
+}
 
-    ghost left = { λ clerk. clerk.left };
+// A caller's call of this number: a set of the next value, and then a get of it.
+fn op_at(caller: u32, call: u32) -> Op {
+    if call % 2 == 1 {
+        return Op::Get { key: 0 };
+    }
+    Op::Set {
+        key: 0,
+        value: value_at(caller, call / 2 * 2 + 1),
+    }
+}
 
-    ghost made = { λ before op told after. before.left ≡ after.left + 1 };
+// What it is told.
+fn reply_at(caller: u32, call: u32) -> Reply {
+    let value = value_at(caller, call);
+    if call % 2 == 1 {
+        return Reply::Val { value };
+    }
+    Reply::Was { value }
+}
 
-    fn call<R: Wait>(&mut self, _rt: &R, op: Op) -> Told {
-        self.left -= 1;
-        match op {
-            Op::Put { key, value } => match self.values[(key % KEYS) as usize] {
-                None => self.update(key, Some(value), Reply::New),
-                Some(_) => answer(Reply::Old, 0),
-            },
-            Op::Get { key } => match self.values[(key % KEYS) as usize] {
-                None => answer(Reply::Absent, 0),
-                Some(value) => answer(Reply::Val { value }, 0),
-            },
-            Op::Del { key } => match self.values[(key % KEYS) as usize] {
-                None => answer(Reply::Absent, 0),
-                Some(_) => self.update(key, None, Reply::Gone),
-            },
-            Op::Set { key, value } => match self.values[(key % KEYS) as usize] {
-                None => answer(Reply::Absent, 0),
-                Some(was) => self.update(key, Some(value), Reply::Was { value: was }),
-            },
+// Scripts of so many calls for so many callers.
+fn made_scripts(
+    rt: &impl Abort,
+    alloc: Global,
+    callers: u32,
+    calls: u32,
+) -> Result<Scripts, NoMemory> {
+    let mut scripts = Scripts::new(alloc);
+    for caller in 0..callers {
+        assert!(rt; scripts.count() < Scripts::MOST_SCRIPTS);
+        scripts.add_script()?;
+        for call in 0..calls {
+            assert!(rt; 0 < scripts.count() && scripts.ops() < Scripts::MOST_OPS);
+            scripts.add_op(op_at(caller, call))?;
         }
     }
-
-    fn remaining(&self) -> u64 {
-        self.left
-    }
+    Ok(scripts)
 }
 
 // A worker for each script.
@@ -116,137 +123,70 @@ fn crew<'a>(
     let mut workers = Vec::new(alloc);
     for i in 0..scripts.count() {
         let calls = scripts.script(i).len();
-        let clerk = Clerk::new(drawn, together, calls as u64);
+        let clerk = Clerk {
+            value: value_at(i, 0),
+            drawn,
+            together,
+            left: calls as u64,
+        };
         workers.push(Worker::new(alloc, clerk, calls as u32)?)?;
     }
     Ok(workers)
 }
 
-// Adds an operation to the last script.
-fn add(rt: &impl Abort, scripts: &mut Scripts, op: Op) -> Result<(), NoMemory> {
-    assert!(rt; 0 < scripts.count() && scripts.ops() < Scripts::MOST_OPS);
-    scripts.add_op(op)
-}
-
-// Adds a script.
-fn begin(rt: &impl Abort, scripts: &mut Scripts) -> Result<(), NoMemory> {
-    assert!(rt; scripts.count() < Scripts::MOST_SCRIPTS);
-    scripts.add_script()
-}
-
-// Operations on a key that is absent, and is absent again after them.
-fn round_ops(key: u64, first: u64, second: u64) -> [Op; 8] {
-    [
-        Op::Get { key },
-        Op::Put { key, value: first },
-        Op::Put { key, value: second },
-        Op::Set { key, value: second },
-        Op::Get { key },
-        Op::Del { key },
-        Op::Del { key },
-        Op::Set { key, value: first },
-    ]
-}
-
-// What a dictionary answers to them.
-fn round_replies(first: u64, second: u64) -> [Reply; 8] {
-    [
-        Reply::Absent,
-        Reply::New,
-        Reply::Old,
-        Reply::Was { value: first },
-        Reply::Val { value: second },
-        Reply::Gone,
-        Reply::Absent,
-        Reply::Absent,
-    ]
-}
-
-const CALLERS: u32 = 64;
-
-const ROUNDS: u64 = 500;
-
-const UPDATES: u64 = 64 * ROUNDS * 3;
-
-#[test]
-fn a_run_makes_each_call_once_and_in_order(rt: HostRuntime) -> Result<(), Fail> {
-    let alloc = rt.alloc();
-    let mut scripts = Scripts::new(alloc);
-    for caller in 0..CALLERS {
-        begin(&rt, &mut scripts)?;
-        for round in 0..ROUNDS {
-            for op in round_ops(round % KEYS, u64::from(caller), round + 1000) {
-                add(&rt, &mut scripts, op)?;
-            }
-        }
-    }
-    let drawn = AtomicU64::new(0);
-    let mut workers = crew(alloc, &scripts, &drawn, 0)?;
-    run_all(&rt, &mut workers, &scripts);
-
-    assert_eq!(rt; drawn.load(Ordering::SeqCst), UPDATES);
-    let mut seen = vec![in alloc; false; UPDATES as usize]?;
-    for (caller, worker) in workers.into_iter().enumerate() {
-        let (clerk, told) = worker.into_parts();
-        assert_eq!(rt; clerk.remaining(), 0, "by caller {caller}");
-        assert_answers(&rt, caller as u64, told.entries(), &mut seen);
-    }
-    Ok(())
-}
-
-// That a caller's answers are those to its rounds, that its numbers rise, and that none was seen. Now they are.
-fn assert_answers(rt: &impl Abort, caller: u64, told: &[Told], seen: &mut [bool]) {
-    assert_eq!(rt; told.len() as u64, 8 * ROUNDS, "to caller {caller}");
+// That a caller's answers are those to its script, that its updates' numbers rise, and that none was seen. Now they are.
+fn assert_answers(rt: &impl Abort, caller: u32, calls: u32, told: &[Told], seen: &mut [bool]) {
+    assert_eq!(rt; told.len(), calls as usize, "to caller {caller}");
     let mut last = 0;
-    for (round, answers) in told.chunks(8).enumerate() {
-        let replies = round_replies(caller, round as u64 + 1000);
-        for (answer, reply) in answers.iter().zip(&replies) {
-            assert_eq!(rt; answer.reply, *reply, "to caller {caller} in round {round}");
-            if !reply.tells_update() {
-                assert_eq!(rt; answer.number, 0, "to caller {caller} in round {round}");
-                continue;
-            }
-            assert!(rt; last < answer.number, "to caller {caller} in round {round}");
-            last = answer.number;
+    for (call, answer) in (0..calls).zip(told) {
+        let reply = reply_at(caller, call);
+        assert_eq!(rt; answer.reply, reply, "to caller {caller} at call {call}");
+        if reply.tells_update() {
             assert!(rt;
-                last <= seen.len() as u64,
-                "to caller {caller} in round {round}"
+                last < answer.number && answer.number <= seen.len() as u64,
+                "to caller {caller} at call {call}"
             );
+            last = answer.number;
             let place = (last - 1) as usize;
             assert!(rt; !seen[place], "{last} was told twice");
             seen[place] = true;
+        } else {
+            assert_eq!(rt; answer.number, 0, "to caller {caller} at call {call}");
         }
     }
+}
+
+// That a run of so many callers makes each of their calls once and in order, and that the numbers of their updates are 1 to
+// their count, each once.
+fn assert_run<R: Threads + Wait + Sync + Abort>(
+    rt: &R,
+    alloc: Global,
+    callers: u32,
+    calls: u32,
+    together: u64,
+) -> Result<(), Fail> {
+    let scripts = made_scripts(rt, alloc, callers, calls)?;
+    let drawn = AtomicU64::new(0);
+    let mut workers = crew(alloc, &scripts, &drawn, together)?;
+    run_all(rt, &mut workers, &scripts);
+    let mut seen = vec![in alloc; false; drawn.load(Ordering::SeqCst) as usize]?;
+    for (caller, worker) in (0..callers).zip(workers) {
+        let (clerk, told) = worker.into_parts();
+        assert_eq!(rt; clerk.remaining(), 0, "by caller {caller}");
+        assert_answers(rt, caller, calls, told.entries(), &mut seen);
+    }
+    assert!(rt; seen.iter().all(|is_told| *is_told), "a number wasn't told");
+    Ok(())
+}
+
+#[test]
+fn a_run_makes_each_call_once_and_in_order(rt: HostRuntime) -> Result<(), Fail> {
+    assert_run(&rt, rt.alloc(), 64, 4000, 0)
 }
 
 #[test]
 fn two_workers_run_beside_each_other(rt: HostRuntime) -> Result<(), Fail> {
-    let alloc = rt.alloc();
-    let mut scripts = Scripts::new(alloc);
-    for caller in 0..2 {
-        begin(&rt, &mut scripts)?;
-        add(
-            &rt,
-            &mut scripts,
-            Op::Put {
-                key: caller,
-                value: 0,
-            },
-        )?;
-    }
-    let drawn = AtomicU64::new(0);
-    let mut workers = crew(alloc, &scripts, &drawn, 2)?;
-    run_all(&rt, &mut workers, &scripts);
-    for worker in workers {
-        let (_, told) = worker.into_parts();
-        assert_eq!(rt; told.entries().len(), 1);
-        assert_eq!(rt;
-            told.entries()[0].reply,
-            Reply::New,
-            "the other one came too late"
-        );
-    }
-    Ok(())
+    assert_run(&rt, rt.alloc(), 2, 1, 2)
 }
 
 fn told_list(alloc: Global, answers: &[Told]) -> Result<ToldList, NoMemory>

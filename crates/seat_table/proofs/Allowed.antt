@@ -18,18 +18,18 @@ use Rattle.core_state.specs.declared.view.View.{View}
 use Rattle.core_state.specs.memory.Memory.{Memory, word_of, is_field, memory_of, stored}
 use Rattle.core_state.specs.views.Views.{Works}
 use Rattle.core_state.specs.Invariant.{Invariant, Rule}
-use Rattle.core_laws.proofs.Whole.{steps_keep}
-use Rattle.seat_table.specs.declared.case.Case.{Case}
 use Rattle.seat_table.specs.declared.rule.Nothing.{Nothing}
 use Rattle.seat_table.specs.Seats.{way_of, with_way}
-use Rattle.seat_table.specs.Cases.{Access, loads, stores, exchanges, adds, subtracts, flips, left_by, said_by, what, Needs}
+use Rattle.core_acts.specs.declared.act.Act.{Act}
+use Rattle.core_acts.specs.Acts.{Access, loads, stores, exchanges, adds, subtracts, flips, field_of, access_of, left_by, said_by, Asks}
+use Rattle.core_acts.specs.Laws.{done, marks}
+use Rattle.core_acts.proofs.Acting.{acts_keep}
 use Rattle.seat_table.specs.Told.{tells}
 use Rattle.seat_table.specs.Gains.{WordFits}
 use Rattle.core_frames.proofs.views.Fields.{same_self}
 use Rattle.core_frames.proofs.Telling.{told_of}
 use Rattle.seat_table.proofs.Memories.{memory-word, memory-stored}
-use Rattle.seat_table.proofs.Doing.{Does, does, slot_of}
-use Rattle.seat_table.proofs.Facts.{sees, informed, Fits, fits, word_fits, said_fits, is_apart, stood_inside, has_side, stays_in, still_works, tells_apart}
+use Rattle.seat_table.proofs.Facts.{sees, informed, Fits, fits, word_fits, said_fits, stood_inside, has_side, stays_in, still_works, tells_apart}
 use Rattle.seat_table.proofs.Gained.{gains}
 
 either_is : (b : Bool) (x y : ℕ) → either b x y ≡ cond b x y
@@ -44,81 +44,82 @@ last_turned n = dite (ℕ_discrete (n % 2) 0)
     (λ ne. let one : n % 2 ≡ 1 = omega arith in let half : n / 2 * 2 + 0 ≡ n - 1 = omega arith in
     xor_step n 1 ∙ ap (λ r. bit_xor (n / 2) 0 * 2 + differ r 1) one ∙ ap (λ z. z * 2 + 0) (xor_zero_r (n / 2)) ∙ half ∙ ap (λ b. cond b (n + 1) (n - 1)) (sym (ne_eqb (n % 2) 0 ne)))
 
-module _ (k : Shape) (slots id : ℕ) (me : Me Nothing View) (c : Case) (word : ℕ) (is : is_field k (what me.0 c).field ≡ true) (at_word : word ≡ word_of k (what me.0 c).field) (works : Works me.0) (needs : Needs k me.0 c) where
+module _ (k : Shape) (slots id : ℕ) (me : Me Nothing View) (c : Act) (word : ℕ) (is : is_field k (field_of me.0.allowance.place c) ≡ true) (at_word : word ≡ word_of k (field_of me.0.allowance.place c)) (works : Works me.0) (asks : Asks k me.0 c) where
   abbrev Holds : State Nothing View → Type 0
   Holds s = Rule k s.words s.views
 
   abbrev access : Access
-  access = (what me.0 c).access
+  access = access_of me.0.allowance.place c
 
-  allows_field : (f : ℕ → ℕ) → ((n : ℕ) → n < 18446744073709551616 → Fits (what me.0 c).access n → f n ≡ left_by (what me.0 c).access n)
-      → Allows Holds slots id me (word_of k (what me.0 c).field) f (λ n. tells k c me (said_by (what me.0 c).access n))
+  allows_field : (f : ℕ → ℕ) → ((n : ℕ) → n < 18446744073709551616 → Fits (access_of me.0.allowance.place c) n → f n ≡ left_by (access_of me.0.allowance.place c) n)
+      → Allows Holds slots id me (word_of k (field_of me.0.allowance.place c)) f (λ n. tells k c me (said_by (access_of me.0.allowance.place c) n))
   allows_field f same s r len at below =
-      let field : Field = (what me.0 c).field in
+      let field : Field = (field_of me.0.allowance.place c) in
       let m : Memory = memory_of k s.words in
       let h : List Mark = r.marks in
       let found : m field ≡ slice_index s.words (word_of k field) = memory-word k s.words field is in
       let left : ℕ = left_by access (m field) in
-      let d : Does k me.0 c h (m field) = does k me.0 c needs (is_apart k m s.views h r.holds.now id me.0 at (slot_of c)) h (m field) in
-      let kept : Invariant k (stored m field left) (set s.views id d.view) (h ++ d.marks) = (steps_keep (what me.0 c).kind k m s.views h id me.0 d.view field left d.marks r.holds at works is d.step).0 in
-      let leaves : f (slice_index s.words (word_of k field)) ≡ left = ap f (sym found) ∙ same (m field) (subst (λ z. z < 18446744073709551616) (sym found) below) (fits k m s.views h r.holds.now id me.0 at c needs) in
-      let rule : Rule k (set s.words (word_of k field) left) (set s.views id d.view) = record {
-        marks = h ++ d.marks;
+      let w : View = done me.0 c h (m field) in
+      let made : List Mark = marks me.0 c (m field) in
+      let kept : Invariant k (stored m field left) (set s.views id w) (h ++ made) = (acts_keep k m s.views h id me.0 c r.holds at works asks).0 in
+      let leaves : f (slice_index s.words (word_of k field)) ≡ left = ap f (sym found) ∙ same (m field) (subst (λ z. z < 18446744073709551616) (sym found) below) (fits k m s.views h r.holds.now id me.0 at c asks) in
+      let rule : Rule k (set s.words (word_of k field) left) (set s.views id w) = record {
+        marks = h ++ made;
         long = length-set s.words (word_of k field) left ∙ r.long;
-        holds = subst (λ z. Invariant k z (set s.views id d.view) (h ++ d.marks)) (sym (memory-stored k s.words field left is r.long)) kept;
+        holds = subst (λ z. Invariant k z (set s.views id w) (h ++ made)) (sym (memory-stored k s.words field left is r.long)) kept;
       } in
-      let there : get_elem? (set s.views id d.view) id ≡ some d.view = set_here s.views id d.view (at_below s.views id me.0 at) in
+      let there : get_elem? (set s.views id w) id ≡ some w = set_here s.views id w (at_below s.views id me.0 at) in
       let m' : Memory = stored m field left in
-      let vs' : List View = set s.views id d.view in
-      let h' : List Mark = h ++ d.marks in
-      let still : Works d.view = still_works k.places s.views id me.0 d.view at r.holds.now.seats.placed kept.now.seats.placed (kept.now.seats.spent id d.view there) works in
-      let telling : tells k c me (said_by access (m field)) (d.view, me.1) = (
+      let vs' : List View = set s.views id w in
+      let h' : List Mark = h ++ made in
+      let still : Works w = still_works k.places s.views id me.0 w at r.holds.now.seats.placed kept.now.seats.placed (kept.now.seats.spent id w there) works in
+      let telling : tells k c me (said_by access (m field)) (w, me.1) = (
         refl,
-        record { marks = h'; word = m'; tells = told_of k m' vs' h' id d.view kept.now there still; apart = tells_apart k m' vs' h' kept.now id d.view there },
-        (
-          h,
-          sees k m s.views h r.holds.now id me.0 at works,
-          d.after,
-          informed k m' vs' h' kept.now id d.view there,
-          said_fits k field access (m field) (word_fits k m s.views h r.holds.now id me.0 at field is)
-              (subst (WordFits k field) (ap (λ t. cond t left (m field)) (same_self field)) (word_fits k m' vs' h' kept.now id d.view there field is)),
-          gains k m s.views h r.holds.now id me.0 at c d.view works needs d.after,
-          stood_inside k m' vs' h' kept.now id d.view there,
-          has_side k m' vs' h' kept.now id d.view there,
-          record { word = m; found_is = refl; tells = told_of k m s.views h id me.0 r.holds.now at works },
-          stays_in k m' vs' h' kept.now id d.view there kept.within,
-        ),
+        record { marks = h'; word = m'; tells = told_of k m' vs' h' id w kept.now there still; apart = tells_apart k m' vs' h' kept.now id w there },
+        record {
+          marks = h;
+          sees = sees k m s.views h r.holds.now id me.0 at works;
+          goes = refl;
+          informed = informed k m' vs' h' kept.now id w there;
+          fits = said_fits k field access (m field) (word_fits k m s.views h r.holds.now id me.0 at field is)
+              (subst (WordFits k field) (ap (λ t. cond t left (m field)) (same_self field)) (word_fits k m' vs' h' kept.now id w there field is));
+          gains = gains k m s.views h r.holds.now id me.0 at c works asks;
+          stood = stood_inside k m' vs' h' kept.now id w there;
+          side = has_side k m' vs' h' kept.now id w there;
+          before = record { word = m; found_is = refl; tells = told_of k m s.views h id me.0 r.holds.now at works };
+          stays = stays_in k m' vs' h' kept.now id w there kept.within;
+        },
       ) in (
-        d.view,
+        w,
         keeps,
         tt,
-        subst (λ z. Rule k (set s.words (word_of k field) z) (set s.views id d.view)) (sym leaves) rule,
-        subst (λ z. tells k c me (said_by access z) (d.view, me.1)) found telling,
+        subst (λ z. Rule k (set s.words (word_of k field) z) (set s.views id w)) (sym leaves) rule,
+        subst (λ z. tells k c me (said_by access z) (w, me.1)) found telling,
       )
 
-  allows : (f : ℕ → ℕ) → ((n : ℕ) → n < 18446744073709551616 → Fits (what me.0 c).access n → f n ≡ left_by (what me.0 c).access n)
-      → Allows Holds slots id me word f (λ n. tells k c me (said_by (what me.0 c).access n))
+  allows : (f : ℕ → ℕ) → ((n : ℕ) → n < 18446744073709551616 → Fits (access_of me.0.allowance.place c) n → f n ≡ left_by (access_of me.0.allowance.place c) n)
+      → Allows Holds slots id me word f (λ n. tells k c me (said_by (access_of me.0.allowance.place c) n))
   allows f same = subst (λ i. Allows Holds slots id me i f (λ n. tells k c me (said_by access n))) (sym at_word) (allows_field f same)
 
-  pub allows_load : (what me.0 c).access ≡ loads → Allows Holds slots id me word (λ n. n) (tells k c me)
+  pub allows_load : (access_of me.0.allowance.place c) ≡ loads → Allows Holds slots id me word (λ n. n) (tells k c me)
   allows_load is = subst (λ a. Allows Holds slots id me word (λ n. n) (λ n. tells k c me (said_by a n))) is (allows (λ n. n) (λ n small fits. sym (ap (λ a. left_by a n) is)))
 
-  pub allows_store : (x : ℕ) → (what me.0 c).access ≡ stores x → Allows Holds slots id me word (λ _. x) (λ _. tells k c me x)
+  pub allows_store : (x : ℕ) → (access_of me.0.allowance.place c) ≡ stores x → Allows Holds slots id me word (λ _. x) (λ _. tells k c me x)
   allows_store x is = subst (λ a. Allows Holds slots id me word (λ _. x) (λ n. tells k c me (said_by a n))) is (allows (λ _. x) (λ n small fits. sym (ap (λ a. left_by a n) is)))
 
-  pub allows_exchange : (old new : ℕ) → (what me.0 c).access ≡ exchanges old new → Allows Holds slots id me word (λ n. either (n == old) new n) (tells k c me)
+  pub allows_exchange : (old new : ℕ) → (access_of me.0.allowance.place c) ≡ exchanges old new → Allows Holds slots id me word (λ n. either (n == old) new n) (tells k c me)
   allows_exchange old new is = subst (λ a. Allows Holds slots id me word (λ n. either (n == old) new n) (λ n. tells k c me (said_by a n))) is
       (allows (λ n. either (n == old) new n) (λ n small fits. either_is (n == old) new n ∙ sym (ap (λ a. left_by a n) is)))
 
-  pub allows_add : (x : ℕ) → (what me.0 c).access ≡ adds x → Allows Holds slots id me word (λ n. (n + x) % 2 ^ 64) (tells k c me)
+  pub allows_add : (x : ℕ) → (access_of me.0.allowance.place c) ≡ adds x → Allows Holds slots id me word (λ n. (n + x) % 2 ^ 64) (tells k c me)
   allows_add x is = subst (λ a. Allows Holds slots id me word (λ n. (n + x) % 2 ^ 64) (λ n. tells k c me (said_by a n))) is
       (allows (λ n. (n + x) % 2 ^ 64) (λ n small fits. let sum : n + x < 18446744073709551616 = subst (λ a. Fits a n) is fits in let whole : (n + x) % 2 ^ 64 ≡ n + x = omega arith in whole ∙ sym (ap (λ a. left_by a n) is)))
 
-  pub allows_subtract : (x : ℕ) → x ≤ 1 → (what me.0 c).access ≡ subtracts x → Allows Holds slots id me word (λ n. (n + (2 ^ 64 - x)) % 2 ^ 64) (tells k c me)
+  pub allows_subtract : (x : ℕ) → x ≤ 1 → (access_of me.0.allowance.place c) ≡ subtracts x → Allows Holds slots id me word (λ n. (n + (2 ^ 64 - x)) % 2 ^ 64) (tells k c me)
   allows_subtract x one is = subst (λ a. Allows Holds slots id me word (λ n. (n + (2 ^ 64 - x)) % 2 ^ 64) (λ n. tells k c me (said_by a n))) is
       (allows (λ n. (n + (2 ^ 64 - x)) % 2 ^ 64) (λ n small fits. let there : x ≤ n = subst (λ a. Fits a n) is fits in let less : (n + (2 ^ 64 - x)) % 2 ^ 64 ≡ n - x = omega arith in less ∙ sym (ap (λ a. left_by a n) is)))
 
-  pub allows_flip : (what me.0 c).access ≡ flips → Allows Holds slots id me word (λ n. bit_xor n 1) (tells k c me)
+  pub allows_flip : (access_of me.0.allowance.place c) ≡ flips → Allows Holds slots id me word (λ n. bit_xor n 1) (tells k c me)
   allows_flip is = subst (λ a. Allows Holds slots id me word (λ n. bit_xor n 1) (λ n. tells k c me (said_by a n))) is (allows (λ n. bit_xor n 1) (λ n small fits. last_turned n ∙ sym (ap (λ a. left_by a n) is)))
 
 -- the shape that clauses see is the table's
@@ -126,7 +127,7 @@ pub same_shape : (way : ℕ) (key k : Shape) → key.waiter ≡ way_of way → k
 same_shape way key k is same = let e = sym is in same ∙ (λ i. record { waiter = e i; slots = key.slots; places = key.places; tickets = key.tickets })
 
 -- the same over the rule of a table, for what a call has picked
-pub as_table : (key k picked_shape : Shape) (picked c : Case) (slots id : ℕ) (me : Me Nothing View) (word : ℕ) (f : ℕ → ℕ) (then : Shape → Case → ℕ → Me Nothing View → Type 0) → k ≡ key → picked_shape ≡ k → picked ≡ c
+pub as_table : (key k picked_shape : Shape) (picked c : Act) (slots id : ℕ) (me : Me Nothing View) (word : ℕ) (f : ℕ → ℕ) (then : Shape → Act → ℕ → Me Nothing View → Type 0) → k ≡ key → picked_shape ≡ k → picked ≡ c
     → Allows (λ (s : State Nothing View). Rule k s.words s.views) slots id me word f (then k c) → Allows (λ (s : State Nothing View). Rule key s.words s.views) slots id me word f (then picked_shape picked)
 as_table key k picked_shape picked c slots id me word f then is same is_case allowed =
-    subst (λ (z : Shape × Shape × Case). Allows (λ (s : State Nothing View). Rule z.0 s.words s.views) slots id me word f (then z.1 z.2)) (λ i. (is i, sym same i, sym is_case i)) allowed
+    subst (λ (z : Shape × Shape × Act). Allows (λ (s : State Nothing View). Rule z.0 s.words s.views) slots id me word f (then z.1 z.2)) (λ i. (is i, sym same i, sym is_case i)) allowed

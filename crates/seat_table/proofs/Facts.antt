@@ -45,10 +45,11 @@ use Rattle.std.proofs.lemmas.List.{take-append-le}
 use Rattle.core_frames.proofs.chart.Plain.{gone_within}
 use Rattle.core_frames.proofs.Counting.{total_le, places_length, all_places}
 use Rattle.key_interval.specs.Keys.{class_of}
-use Rattle.seat_table.specs.declared.case.Case.{Case}
-use Rattle.seat_table.specs.declared.case.Case.TheVariants.{K3, K4, K5, K6, K7, K8, K9, K10, K11, K12, K13, K14, K15, K16, K17, K18, K19, K20, K21, K22, K23, K24, K25, K26, K27, K28, K29, K30, K31, K32, K33, K34, K35, K36, K37, ListLoad}
 use Rattle.seat_table.specs.Seats.{TableAt, way_of, shape_of, HasPlace}
-use Rattle.seat_table.specs.Cases.{Access, loads, stores, exchanges, adds, subtracts, flips, left_by, said_by, slot_field, what, Needs}
+use Rattle.core_acts.specs.declared.act.Act.{Act}
+use Rattle.core_acts.specs.declared.act.Act.TheVariants.{BeginWait, CountFree, EnterByCount, LeaveByCount}
+use Rattle.core_acts.specs.Acts.{Access, loads, stores, exchanges, adds, subtracts, flips, field_of, access_of, left_by, said_by, Asks}
+use Rattle.core_acts.proofs.Acting.{has_word}
 use Rattle.seat_table.specs.Gains.{Sees, IsInformed, WordFits, IsApart, IsSlot, StoodInside, HasSide, StaysIn, TellsApart}
 use Rattle.seat_table.proofs.Memories.{both_true, word_inside}
 
@@ -121,29 +122,6 @@ said_fits k field (exchanges old new) n found left = found
 said_fits k field (adds x) n found left = found
 said_fits k field (subtracts x) n found left = found
 said_fits k field flips n found left = found
-
-pub has_slot_field : (k : Shape) (s field : ℕ) → nat_lt s (slot_count k) ≡ true → is_field k (slot_field s field) ≡ true
-has_slot_field k s zero e = e
-has_slot_field k s (suc zero) e = e
-has_slot_field k s (suc (suc zero)) e = e
-has_slot_field k s (suc (suc (suc zero))) e = e
-has_slot_field k s (suc (suc (suc (suc zero)))) e = e
-has_slot_field k s (suc (suc (suc (suc (suc zero))))) e = e
-has_slot_field k s (suc (suc (suc (suc (suc (suc zero)))))) e = e
-has_slot_field k s (suc (suc (suc (suc (suc (suc (suc zero))))))) e = e
-has_slot_field k s (suc (suc (suc (suc (suc (suc (suc (suc n)))))))) e = e
-
--- where it lies
-pub slot_word : (k : Shape) (s field : ℕ) → field < 9 → slot_base k + 9 * s + field ≡ word_of k (slot_field s field)
-slot_word k s zero small = omega arith
-slot_word k s (suc zero) small = refl
-slot_word k s (suc (suc zero)) small = refl
-slot_word k s (suc (suc (suc zero))) small = refl
-slot_word k s (suc (suc (suc (suc zero)))) small = refl
-slot_word k s (suc (suc (suc (suc (suc zero))))) small = refl
-slot_word k s (suc (suc (suc (suc (suc (suc zero)))))) small = refl
-slot_word k s (suc (suc (suc (suc (suc (suc (suc zero))))))) small = refl
-slot_word k s (suc (suc (suc (suc (suc (suc (suc (suc n)))))))) small = omega arith
 
 -- a view that worked at a place still does: nobody else answers for its places
 pub still_works : (places : ℕ) (vs : List View) (id : ℕ) (v w : View) → get_elem? vs id ≡ some v → ArePlaced places vs → ArePlaced places (set vs id w) → (w.allowance.places ≡ 0 → w ≡ spent_view) → Works v → Works w
@@ -233,13 +211,12 @@ module _ (k : Shape) (m : Memory) (vs : List View) (h : List Mark) (i : HoldsNow
       let mine : inside_count c side v.section ≡ 1 = ap (inside_count c side) inside ∙ ap (λ b. cond b 1 0) (both_true _ _ (eq-eqb (class_of section.key) c (sym at_class)) (eq-eqb section.stamp side (sym at_side))) in
       omega arith
 
-  pub fits : (c : Case) → Needs k v c → Fits (what v c).access (m (what v c).field)
-  fits (K7 low high) needs = let small = small_clock in omega arith
-  fits K16 needs = let small = small_free in omega arith
-  fits (K29 key side) needs = let small = small_count (class_of key) side needs.0 (omega arith) needs.1 in omega arith
-  fits (K30 class side) needs = let section = needs.1.0 in let n = needs.1.1 in
-      own_count class side section needs.0 (let e = n.class_is in omega arith) (let e = n.side_is in let small = (i.waiters.domain needs.0).sides id v at section n.section_is in omega arith) n.section_is n.class_is n.side_is
-  fits _ needs = tt
+  pub fits : (a : Act) → Asks k v a → Fits (access_of v.allowance.place a) (m (field_of v.allowance.place a))
+  fits (BeginWait low high) asks = let small = small_clock in omega arith
+  fits CountFree asks = let small = small_free in omega arith
+  fits (EnterByCount key side) (has, needs) = let small = small_count (class_of key) side has.0 (omega arith) has.2 in omega arith
+  fits (LeaveByCount class side) (has, needs) = own_count class side needs.0 has.0 has.1 has.2 needs.1.section_is needs.1.class_is needs.1.side_is
+  fits _ asks = tt
 
   -- the number in a word is small
   lock_small : (s : ℕ) → s < slot_count k → m (Lock s) ≤ k.places
@@ -324,66 +301,5 @@ module _ (k : Shape) (m : Memory) (vs : List View) (h : List Mark) (i : HoldsNow
   pub has_side : HasSide k v
   has_side = record { small = λ section inside domain. (i.waiters.domain domain).sides id v at section inside }
 
--- a word of a place, of the first waiter
-eer_field : (k : Shape) (p : ℕ) → k.waiter ≡ Eer → p < k.places → (same_waiter k.waiter Eer && nat_lt p k.places) ≡ true
-eer_field k p eer small = both_true _ _ (ap (λ w. same_waiter w Eer) eer) (lt-ltb p k.places small)
-
--- a word of a class, of the second waiter
-domain_field : (k : Shape) {b : Bool} → k.waiter ≡ Domain → b ≡ true → (same_waiter k.waiter Domain && b) ≡ true
-domain_field k {b} is e = both_true _ _ (ap (λ w. same_waiter w Domain) is) e
-
-module _ (way : ℕ) (t : TableAt) (v : View) (room : HasPlace t v) where
-  abbrev k : Shape
-  k = shape_of way t
-
-  own : v.allowance.place < t.places
-  own = let a = room.works in let b = room.inside in omega arith
-
-  own_field : way_of way ≡ Eer → (same_waiter (way_of way) Eer && nat_lt v.allowance.place t.places) ≡ true
-  own_field eer = eer_field k v.allowance.place eer own
-
-  -- the table has each case's word
-  pub has_field : (c : Case) → HasSide (shape_of way t) v → Needs (shape_of way t) v c → is_field (shape_of way t) (what v c).field ≡ true
-  has_field K3 sides needs = refl
-  has_field (K4 key) sides needs = own_field needs.0
-  has_field (K5 key stamp) sides needs = own_field needs.0
-  has_field K6 sides needs = own_field needs.0
-  has_field (K7 low high) sides needs = refl
-  has_field (K8 place true last) sides needs = eer_field k place needs.0 needs.1
-  has_field (K8 place false last) sides needs = eer_field k place needs.0 needs.1
-  has_field (K9 slot keep) sides needs = lt-ltb slot (slot_count k) needs.0
-  has_field (K10 expected) sides needs = refl
-  has_field (K11 slot) sides needs = lt-ltb slot (slot_count k) needs.0
-  has_field (K12 slot field value) sides needs = has_slot_field k slot field (lt-ltb slot (slot_count k) needs.0)
-  has_field (K13 slot) sides needs = lt-ltb slot (slot_count k) needs.0
-  has_field (K14 slot) sides needs = lt-ltb slot (slot_count k) needs.0
-  has_field (K15 slot) sides needs = lt-ltb slot (slot_count k) needs.0
-  has_field K16 sides needs = refl
-  has_field (K17 slot field) sides needs = has_slot_field k slot field (lt-ltb slot (slot_count k) needs.0.0)
-  has_field (K18 slot field) sides needs = has_slot_field k slot field (lt-ltb slot (slot_count k) needs.0.0)
-  has_field (K19 expected) sides needs = refl
-  has_field (K20 slot b leaf) sides needs = lt-ltb slot (slot_count k) needs.0
-  has_field (K21 parent b node child) sides needs = lt-ltb parent (slot_count k) needs.0
-  has_field (K22 slot life) sides needs = lt-ltb slot (slot_count k) needs.0
-  has_field (K23 slot b tag) sides needs = lt-ltb slot (slot_count k) needs.0
-  has_field (K24 front) sides needs = refl
-  has_field (K25 parent b node copy old old_parent) sides needs = lt-ltb parent (slot_count k) needs.0
-  has_field (K26 parent old child) sides needs = lt-ltb parent (slot_count k) needs.0
-  has_field (K27 copy old child) sides needs = lt-ltb copy (slot_count k) needs.0
-  has_field (K28 class) sides needs = domain_field k needs.0 (lt-ltb class 64 needs.1)
-  has_field (K29 key side) sides needs = domain_field k needs.0 (both_true _ _ (lt-ltb (class_of key) 64 (omega arith)) (lt-ltb side 2 needs.1))
-  has_field (K30 class side) sides needs =
-      let n = needs.1.1 in
-      let small = sides.small needs.1.0 n.section_is needs.0 in
-      domain_field k needs.0 (both_true _ _ (lt-ltb class 64 (let e = n.class_is in omega arith)) (lt-ltb side 2 (let e = n.side_is in omega arith)))
-  has_field (K31 class side last) sides needs = domain_field k needs.0 (both_true _ _ (lt-ltb class 64 needs.1) (lt-ltb side 2 needs.2))
-  has_field (K32 class) sides needs = domain_field k needs.0 (lt-ltb class 64 needs.1.1.small)
-  has_field (K33 key stamp) sides needs = both_true _ _ (ap (λ w. same_waiter w Deer) needs.0) (both_true _ _ (lt-ltb v.allowance.place t.places own) (lt-ltb (class_of key) 64 (omega arith)))
-  has_field (K34 class) sides needs = both_true _ _ (ap (λ w. same_waiter w Deer) needs.0) (both_true _ _ (lt-ltb v.allowance.place t.places own) (lt-ltb class 64 (let e = needs.1.1.class_is in omega arith)))
-  has_field (K35 place class last) sides needs = both_true _ _ (ap (λ w. same_waiter w Deer) needs.0) (both_true _ _ (lt-ltb place t.places needs.1) (lt-ltb class 64 needs.2))
-  has_field (K36 slot value) sides needs = lt-ltb slot (slot_count k) needs.0
-  has_field K37 sides needs = refl
-  has_field (ListLoad slot field) sides needs = has_slot_field k slot field (lt-ltb slot (slot_count k) needs.0.0)
-
-  pub word_below : (c : Case) (word words : ℕ) → word ≡ word_of (shape_of way t) (what v c).field → words ≡ word_count (shape_of way t) → HasSide (shape_of way t) v → Needs (shape_of way t) v c → word < words
-  word_below c word words at is sides needs = subst (λ (z : ℕ × ℕ). z.0 < z.1) (λ i. (sym at i, sym is i)) (word_inside k (what v c).field (has_field c sides needs))
+pub word_below : (way : ℕ) (t : TableAt) (v : View) (a : Act) (word words : ℕ) → word ≡ word_of (shape_of way t) (field_of v.allowance.place a) → words ≡ word_count (shape_of way t) → Asks (shape_of way t) v a → word < words
+word_below way t v a word words at is asks = subst (λ (z : ℕ × ℕ). z.0 < z.1) (λ i. (sym at i, sym is i)) (word_inside (shape_of way t) (field_of v.allowance.place a) (has_word (shape_of way t) (field_of v.allowance.place a) asks.0))

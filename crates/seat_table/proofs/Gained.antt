@@ -22,6 +22,7 @@ use Rattle.core_state.specs.declared.view.Section.{Section}
 use Rattle.core_state.specs.declared.view.Reading.{Reading}
 use Rattle.core_state.specs.declared.view.SearchState.TheVariants.{Found}
 use Rattle.core_state.specs.parts.ReaderParts.{StandsWell}
+use Rattle.core_state.specs.parts.TreeParts.{map_now}
 use Rattle.prcu_marks.specs.declared.mark.Side.{Side}
 use Rattle.prcu_marks.specs.declared.commit.Commit.{Commit}
 use Rattle.core_state.specs.declared.view.View.{View}
@@ -29,7 +30,7 @@ use Rattle.core_state.specs.memory.Memory.{Memory, slot_count}
 use Rattle.core_state.specs.memory.Lists.{flag, IsEven}
 use Rattle.core_state.specs.views.Known.{known_in, lock_of}
 use Rattle.core_state.specs.views.Views.{Works, places_of, joined_retired, slots_of, open_reading}
-use Rattle.core_state.specs.steps.Slots.{with_free, reserving, after_reserve}
+use Rattle.core_state.specs.steps.Slots.{NeedsReserve, with_free, reserving, after_reserve}
 use Rattle.core_state.specs.parts.FrontParts.{IsOddBy}
 use Rattle.core_state.specs.Invariant.{HoldsNow}
 use Rattle.core_frames.specs.Laws.{answer_of}
@@ -38,12 +39,14 @@ use Rattle.prcu_marks.proofs.MarkPlaces.{gone_at-below}
 use Rattle.core_frames.proofs.chart.Here.{follow_here}
 use Rattle.core_frames.proofs.views.SeatFacts.{works_there, places_apart}
 use Rattle.core_frames.proofs.Counting.{empty_is_full}
-use Rattle.seat_table.specs.declared.case.Case.{Case}
-use Rattle.seat_table.specs.declared.case.Case.TheVariants.{K3, K6, K7, K9, K10, K11, K12, K13, K15, K20, K21, K25, K30, K34, K36, K37}
-use Rattle.seat_table.specs.Cases.{said_by, what, noted, Needs, IsRecordOf, After}
+use Rattle.core_acts.specs.declared.act.Act.{Act}
+use Rattle.core_acts.specs.declared.act.Act.TheVariants.{LoadClock, LeaveByStamp, BeginWait, LoadRetiredLife, Reserve, Seize, Lock as TakeLock, LinkLeaf, Bypass, LinkCopy, LeaveByCount, LeaveByRow, ReplaceValue, LookAtFront}
+use Rattle.core_acts.specs.Acts.{field_of, noted, Asks}
+use Rattle.core_acts.specs.Laws.{said, done}
+use Rattle.core_acts.proofs.Acting.{section_is}
 use Rattle.seat_table.specs.Gains.{GivesAnswer, LeavesAnswer, AreGone, FindsFull, WasNoOwn, IsOthers, IsCounted, LooksAgain, Gains}
 use Rattle.seat_table.proofs.Facts.{is_apart}
-use Rattle.seat_table.proofs.Records.{one_key, value_now}
+use Rattle.seat_table.proofs.Records.{value_now}
 
 module _ (k : Shape) (m : Memory) (vs : List View) (h : List Mark) (i : HoldsNow k m vs h) (id : ℕ) (v : View) (at : get_elem? vs id ≡ some v) where
   -- what the open section found, the dictionary said
@@ -167,52 +170,47 @@ module _ (k : Shape) (m : Memory) (vs : List View) (h : List Mark) (i : HoldsNow
   }
 
   -- where the free count is 0, the dictionary is full
-  finds_full : (expected : ℕ) (w : View) → Works v → Needs k v (K10 expected) → w ≡ after_reserve (noted v (K10 expected) (m Free)) expected (m Free) h → FindsFull k v (m Free) w
-  finds_full expected w works needs after = record {
+  finds_full : (expected : ℕ) → Works v → NeedsReserve v expected → FindsFull k v (m Free) (after_reserve (noted v (Reserve expected) (m Free)) expected (m Free) h)
+  finds_full expected works needs = record {
     full = λ none still paid.
+        let w : View = after_reserve (noted v (Reserve expected) (m Free)) expected (m Free) h in
         let n : ℕ = m Free in
         let first : (n == expected) ≡ false = ne_eqb n expected (λ e. let some = needs.some in omega arith) in
         let second : (n == 0) ≡ true = eq-eqb n 0 none in
-        let u : View = noted v (K10 expected) n in
+        let u : View = noted v (Reserve expected) n in
         let empty : View = record (with_free u 0) { seen = h } in
-        let is : w ≡ empty = after ∙ ap (λ b. cond b (reserving (with_free u (expected - 1))) (cond (n == 0) empty (with_free u n))) first ∙ ap (λ b. cond b empty (with_free u n)) second in
+        let is : w ≡ empty = ap (λ b. cond b (reserving (with_free u (expected - 1))) (cond (n == 0) empty (with_free u n))) first ∙ ap (λ b. cond b empty (with_free u n)) second in
         let seen : w.seen ≡ h = ap (λ (z : View). z.seen) is in
         let retired : w.hands.retired ≡ v.hands.retired = ap (λ (z : View). z.hands.retired) is in
         subst (λ (z : List Mark × List Retired). k.slots ≤ finite.len (map_of (updates_of z.0)) + length z.1 + 20 * (k.places - 1)) (λ i. (sym seen i, sym retired i))
         (empty_is_full k m vs h i id v at (record { works = works; reserved = needs.unreserved; hand = needs.empty; owes = paid; moving = still }) none);
   }
 
-  -- by the kind of step, what is gained
-  pub gains : (c : Case) (w : View) → Works v → Needs k v c → After v (noted v c (said_by (what v c).access (m (what v c).field))) c h (said_by (what v c).access (m (what v c).field)) w → Gains k v c h (said_by (what v c).access (m (what v c).field)) w
-  gains K3 w works needs after = record { each = (i.seats.owned id v at).joined }
-  gains K6 w works needs after = left_gives w after.0 after.1 (ap (λ (z : View). z.seen) after.2)
-  gains (K7 low high) w works needs after = are_gone w low high (ap (λ (z : View). z.seen) after)
-  gains (K9 slot keep) w works needs after = is_apart k m vs h i id v at slot
-  gains (K10 expected) w works needs after = finds_full expected w works needs after
-  gains (K11 slot) w works needs after = was_no_own slot needs.0
-  gains (K13 slot) w works needs after = is_others slot needs.0 works
-  gains (K12 slot field number) w works needs after = is_apart k m vs h i id v at slot
-  gains (K15 slot) w works needs after = is_apart k m vs h i id v at slot
-  gains (K20 slot b leaf) w works needs after = counted w needs.1.0 _ (ap (λ (z : View). z.seen) after.8) refl needs.1.7.has_commit.commit_is needs.1.7.has_commit.unmade
-  gains (K21 parent b node child) w works needs after = record { counted = counted w needs.1.0 _ (ap (λ (z : View). z.seen) after.4) refl needs.1.4.has_commit.commit_is needs.1.4.has_commit.unmade; one_key = one_key k m vs h i id v at node }
-  gains (K25 parent b node copy old old_parent) w works needs after = record {
-    deletes = record { counted = counted w needs.1.0 _ (ap (λ (z : View). z.seen) after.8) refl needs.1.7.has_commit.commit_is needs.1.7.has_commit.unmade; one_key = one_key k m vs h i id v at node };
-    next = λ r held next is spare key.
-        let n = needs.1.7 in
-        let mine : IsRecordOf v node needs.1.1 = record { kept = n.records.records.kept; found = (parent, b, n.records.records.found.0, n.records.records.found.1); now = inr n.marked } in
-        let keys : needs.1.1.key ≡ r.key = (one_key k m vs h i id v at node).same needs.1.1 r mine is in
-        let one : Some needs.1.2 ≡ Some held = sym n.spare_is.0 ∙ spare in
-        let same : needs.1.2 ≡ held = cc in
-        let two : Some needs.1.5 ≡ Some next = sym n.key_is ∙ ap (λ (z : Held). known_in z.known (Key copy)) same ∙ key in
-        let last : needs.1.5 ≡ next = cc in
-        subst (λ (z : ℕ × ℕ). IsNextKey (map_of (updates_of h)) z.0 z.1) (λ i. (keys i, last i)) (copy_next k m vs h id v i at works needs.1.0 needs.1.1 needs.1.2 parent b node copy old old_parent needs.1.3 needs.1.4 needs.1.5 needs.1.6 n);
+  -- leaving a section
+  leaves : (section : Section) → v.section ≡ Some section → (w : View) (count : ℕ) → count ≡ section.count → w.seen ≡ h ++ LeftMark v.allowance.place count ∷ [] → LeavesAnswer v w
+  leaves section inside w count is seen = left_gives w section inside (seen ∙ ap (λ c. h ++ LeftMark v.allowance.place c ∷ []) is)
+
+  -- by the act, what is gained
+  pub gains : (a : Act) → Works v → Asks k v a → Gains k v a h (said v a (m (field_of v.allowance.place a))) (done v a h (m (field_of v.allowance.place a)))
+  gains LoadClock works asks = record { each = (i.seats.owned id v at).joined }
+  gains LeaveByStamp works (has, needs) = leaves needs.0 needs.1 _ _ (ap (λ (s : Section). s.count) (section_is v needs.0 needs.1)) refl
+  gains (BeginWait low high) works asks = are_gone _ low high refl
+  gains (LoadRetiredLife slot) works asks = is_apart k m vs h i id v at slot
+  gains (Reserve expected) works (has, needs) = finds_full expected works needs
+  gains (Seize slot) works (has, needs) = was_no_own slot has
+  gains (TakeLock slot) works (has, needs) = is_others slot has works
+  gains (LinkLeaf slot b leaf key value) works (has, (commit, r, lock, held, generation, tag, needs, key_is)) = counted _ commit _ refl refl needs.has_commit.commit_is needs.has_commit.unmade
+  gains (Bypass parent b node child key) works (has, (commit, r, left, right, needs, key_is)) = counted _ commit _ refl refl needs.has_commit.commit_is needs.has_commit.unmade
+  gains (LinkCopy parent b node copy old old_parent key next_key) works (has, (commit, r, held, left, right, value, needs, key_is)) = record {
+    counted = counted _ commit _ refl refl needs.has_commit.commit_is needs.has_commit.unmade;
+    next = subst (λ x. IsNextKey (map_of (updates_of h)) x next_key) key_is (copy_next k m vs h id v i at works commit r held parent b node copy old old_parent left right next_key value needs);
   }
-  gains (K36 slot value) w works needs after = record {
-    counted = counted w needs.1.0 _ (ap (λ (z : View). z.seen) after.4) refl needs.1.3.has_commit.commit_is needs.1.3.has_commit.unmade;
-    one_key = one_key k m vs h i id v at slot;
-    was = λ r old is known. value_now k m vs h i id v at slot r old (i.front.settled id v at needs.1.0 needs.1.3.has_commit.commit_is needs.1.3.has_commit.unmade) is known;
+  gains (ReplaceValue slot key value) works (has, (commit, r, generation, needs, key_is)) = record {
+    counted = counted _ commit _ refl refl needs.has_commit.commit_is needs.has_commit.unmade;
+    was = λ old known. subst (λ x. map_now h x ≡ Some old) key_is
+        (value_now k m vs h i id v at slot r old (i.front.settled id v at commit needs.has_commit.commit_is needs.has_commit.unmade) (record { kept = needs.kept; found = needs.found; generation = generation; recorded = needs.generation_is; life = needs.life_now }) known);
   }
-  gains (K30 class side) w works needs after = left_gives w after.0 after.1 (ap (λ (z : View). z.seen) after.2)
-  gains (K34 class) w works needs after = left_gives w after.0 after.1 (ap (λ (z : View). z.seen) after.2)
-  gains K37 w works needs after = looks_again
-  gains _ w works needs after = tt
+  gains (LeaveByCount class side) works (has, needs) = leaves needs.0 needs.1.section_is _ _ (ap (λ (s : Section). s.count) (section_is v needs.0 needs.1.section_is)) refl
+  gains (LeaveByRow class) works (has, needs) = leaves needs.0 needs.1.section_is _ _ (ap (λ (s : Section). s.count) (section_is v needs.0 needs.1.section_is)) refl
+  gains LookAtFront works asks = looks_again
+  gains _ works asks = tt

@@ -2,15 +2,13 @@ pub mod Memories
 pub mod Facts
 pub mod Records
 pub mod Gained
-pub mod Doing
 pub mod Allowed
 pub mod Words
-pub mod Slots
 pub mod Seized
 pub mod Noted
-pub mod Updates
 pub mod Sections
 pub mod Waiting
 pub mod Polling
 pub mod Polls
 pub mod Seating
+pub mod Going

@@ -1,5 +1,5 @@
 -- Polls of any waiter: what its tests show, and from look to look.
-use Rattle.std.proofs.Common.{◌≡◌, ◌≢◌, ℕ, ◌<◌, ◌≤◌, ◌⊎◌, inl, inr, ⊎_elim, ◌==◌, ◌||◌, nat_le, nat_lt, Bool, true, false, List, ◌++◌, Some, refl, sym, subst, ◌∙◌, arith, eq-eqb}
+use Rattle.std.proofs.Common.{◌≡◌, ◌≢◌, ℕ, ◌<◌, ◌≤◌, ◌⊎◌, inl, inr, ⊎_elim, ◌==◌, ◌||◌, nat_le, nat_lt, Bool, true, false, List, ◌++◌, Some, refl, sym, ap, subst, ◌∙◌, arith, eq-eqb}
 use Rattle.std.proofs.lemmas.Bool.{eqb-true, ltb-true, leb-true, lt-ltb, and_from, and_parts, or_cases, or_left, or_right, le-leb}
 use Rattle.prcu_marks.specs.declared.mark.Mark.{Mark}
 use Rattle.prcu_marks.specs.declared.mark.Why.{Why}
@@ -16,6 +16,8 @@ use Rattle.key_interval.specs.Keys.{Interval, Holds, MeetsClass}
 use Rattle.list_laws.specs.Counts.{times}
 use Rattle.seat_table.specs.declared.wait.Grace.{Grace}
 use Rattle.seat_table.specs.declared.wait.Poll.TheVariants.{NotYet}
+use Rattle.core_acts.specs.Acts.{wait_of}
+use Rattle.core_acts.proofs.Acting.{wait_is}
 use Rattle.seat_table.specs.Gains.{Sees, IsInformed}
 use Rattle.seat_table.specs.Waits.{reached, HasReached, Shows, HasLooked, HasEnded, ended_by, IsGoingOn, IsOver, Polled, Passed}
 use Rattle.seat_table.specs.Looks.{HasPassed, HasMet}
@@ -58,12 +60,9 @@ module _ (wait : Waiting) (keys : Interval) (key : ℕ) (low : wait.low ≡ keys
   key_in inside = and_from (nat_le wait.low key) (nat_le key wait.high) (le-leb wait.low key (omega (arith, inside.0, low))) (le-leb key wait.high (omega (arith, inside.1, high)))
 
 -- one load, as its call tells it
-module _ (v w : View) (kind : Kind) (field : Field) (wait : Waiting) (found : ℕ) (last : Bool) (h : List Mark) (was : v.wait ≡ Some wait) (sees : Sees v h) (after : (other : Waiting) × (v.wait ≡ Some other) × (w ≡ after_look (stepped v kind field found) other field last found h)) (informed : IsInformed w) where
+module _ (v w : View) (kind : Kind) (field : Field) (wait : Waiting) (found : ℕ) (last : Bool) (h : List Mark) (was : v.wait ≡ Some wait) (sees : Sees v h) (goes : w ≡ after_look (stepped v kind field found) (wait_of v) field last found h) (informed : IsInformed w) where
   look_is : w ≡ after_look (stepped v kind field found) wait field last found h
-  look_is =
-      let one : Some after.0 ≡ Some wait = sym after.1 ∙ was in
-      let same : after.0 ≡ wait = cc in
-      subst (λ z. w ≡ after_look (stepped v kind field found) z field last found h) same after.2
+  look_is = goes ∙ ap (λ z. after_look (stepped v kind field found) z field last found h) (wait_is v wait was)
 
   pub load_passes : excuses wait field found ≡ true → Passed v wait last (step_of kind field found) field w
   load_passes is = look_passes v w kind field wait found h was sees informed last is look_is

@@ -13,7 +13,7 @@ use Rattle.core_state.specs.views.Views.{Works, unraised_among, IsQuiet, places_
 use Rattle.core_state.specs.steps.Seating.{new_view, unknown_slot, NeedsSplit, first_of, second_of, NeedsJoin, both_of, spent_view, meeting_of, spent_places}
 use Rattle.core_state.specs.Invariant.{Rule}
 use Rattle.seat_table.specs.declared.rule.Nothing.{Nothing}
-use Rattle.seat_table.specs.declared.case.Case.TheVariants.{K3}
+use Rattle.core_acts.specs.declared.act.Act.TheVariants.{LoadClock}
 use Rattle.seat_table.specs.Seats.{SeatAt, IsQuietSeat, KeepsOwn}
 use Rattle.seat_table.specs.Gains.{TellsNow}
 use Rattle.seat_table.specs.Told.{Told}
@@ -132,21 +132,21 @@ new_quiet t place places tickets seen is listed = subst (λ (z : List ℕ × Vie
     (record { view = record { section = refl; locks = refl; reserved = refl; hand = refl; moving = refl; owes = refl; commit = refl; raised = refl }; listed = record { each = λ slot. refl } })
 
 -- after a join, and the load of the clock that follows
-pub joined_quiet : (k : Shape) (s o t : SeatAt) (clock : ℕ) → Told k (both_of s.view o.view) K3 clock t.view → t.listed ≡ s.listed → IsQuietSeat s → IsQuietSeat t
+pub joined_quiet : (k : Shape) (s o t : SeatAt) (clock : ℕ) → Told k (both_of s.view o.view) LoadClock clock t.view → t.listed ≡ s.listed → IsQuietSeat s → IsQuietSeat t
 joined_quiet k s o t clock told listed q =
-    let is = told.2 in
+    let is = told.goes in
     still_quiet s t (ap (λ (z : View). z.section) is) (ap (λ (z : View). z.locks) is) (ap (λ (z : View). z.hands) is) (ap (λ (z : View). z.moving) is) (ap (λ (z : View). z.commit) is) listed q
 
-pub joined_own : (k : Shape) (v other w : View) (clock : ℕ) → Works other → Told k (both_of v other) K3 clock w → KeepsOwn v other w
+pub joined_own : (k : Shape) (v other w : View) (clock : ℕ) → Works other → Told k (both_of v other) LoadClock clock w → KeepsOwn v other w
 joined_own k v other w clock works told =
     let both : List Mark = longer v.seen other.seen in
-    let cut : take (length both) told.0 ≡ both = subst (λ z. take (length both) z ≡ both) told.1.begins.1 (take-append_seam both told.1.begins.0) in
-    let seen : w.seen ≡ take (length both) told.0 = ap (λ (z : View). z.seen) told.2 ∙ sym cut in
-    let first = told.5.each 0 (meeting_of v both) refl in
-    let second = told.5.each 1 (meeting_of other both) refl in
+    let cut : take (length both) told.marks ≡ both = subst (λ z. take (length both) z ≡ both) told.sees.begins.1 (take-append_seam both told.sees.begins.0) in
+    let seen : w.seen ≡ take (length both) told.marks = ap (λ (z : View). z.seen) told.goes ∙ sym cut in
+    let first = told.gains.each 0 (meeting_of v both) refl in
+    let second = told.gains.each 1 (meeting_of other both) refl in
     record {
       places = λ p.
-          let all : places_of w ≡ places_of (both_of v other) = ap places_of told.2 in
+          let all : places_of w ≡ places_of (both_of v other) = ap places_of told.goes in
           let count = ap (times p) all in
           let mine = places_count v p in
           let both_are = places_count (both_of v other) p in
@@ -159,5 +159,5 @@ joined_own k v other w clock works told =
       second_own = λ p has. ap (own_of p) seen ∙ second.own p has;
     }
 
-pub joined_own_at : (k : Shape) (v other both w : View) (clock : ℕ) → both ≡ both_of v other → Works other → Told k both K3 clock w → KeepsOwn v other w
-joined_own_at k v other both w clock is works told = joined_own k v other w clock works (subst (λ z. Told k z K3 clock w) is told)
+pub joined_own_at : (k : Shape) (v other both w : View) (clock : ℕ) → both ≡ both_of v other → Works other → Told k both LoadClock clock w → KeepsOwn v other w
+joined_own_at k v other both w clock is works told = joined_own k v other w clock works (subst (λ z. Told k z LoadClock clock w) is told)

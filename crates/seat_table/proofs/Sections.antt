@@ -21,8 +21,9 @@ use Rattle.core_state.specs.steps.Seating.{stepped}
 use Rattle.core_state.specs.steps.Sections.{after_clock_load, after_announce, NeedsEnterByStamp, gated, gate_in, NeedsEnterByCount, NeedsEnterByRow, entering, new_section, leaving}
 use Rattle.core_state.specs.steps.Waits.{after_begin}
 use Rattle.key_interval.specs.Keys.{class_of}
-use Rattle.seat_table.specs.declared.case.Case.TheVariants.{K3, K4, K5, K6, K7, K28, K29, K30, K33, K34}
-use Rattle.seat_table.specs.Cases.{noted}
+use Rattle.core_acts.specs.declared.act.Act.TheVariants.{LoadClock, AnnounceKey, EnterByStamp, LeaveByStamp, BeginWait, LoadGate, EnterByCount, LeaveByCount, EnterByRow, LeaveByRow}
+use Rattle.core_acts.specs.Acts.{noted, clocked_at, section_of}
+use Rattle.core_acts.proofs.Acting.{section_is}
 use Rattle.seat_table.specs.Gains.{Sees, IsInformed, GivesAnswer, LeavesAnswer}
 use Rattle.seat_table.specs.Told.{Told}
 use Rattle.seat_table.specs.Sections.{Leaves, Makes, is_entry, is_exit, HasEntered, HasLeft, HasBegun}
@@ -83,79 +84,82 @@ entered_from v u w key stamp clocked h made same sees is told = subst (HasEntere
     }) sees (subst IsInformed is told))
 
 -- the first waiter: the clock, the key, then the stamp
-module _ (k : Shape) (v : View) (key stamp : ℕ) (v1 v2 : View) (first : Told k v K3 stamp v1) (second : Told k v1 (K4 key) key v2) where
+module _ (k : Shape) (v : View) (key stamp : ℕ) (v1 v2 : View) (first : Told k v LoadClock stamp v1) (second : Told k v1 (AnnounceKey key) key v2) where
   abbrev announced : View
-  announced = after_announce (noted (after_clock_load (noted v K3 stamp) stamp first.0) (K4 key) key) key
+  announced = after_announce (noted (after_clock_load (noted v LoadClock stamp) stamp first.marks) (AnnounceKey key) key) key
 
   second_is : v2 ≡ announced
-  second_is = second.2 ∙ ap (λ z. after_announce (noted z (K4 key) key) key) first.2
+  second_is = second.goes ∙ ap (λ z. after_announce (noted z (AnnounceKey key) key) key) first.goes
 
   -- what the third step of enter needs
   pub needs_entry : v.section ≡ None → v.locks ≡ [] → key < 2 ^ 64 → (clocked : Clocked) × NeedsEnterByStamp v2 key stamp clocked
   needs_entry outside free fits =
-      let clocked : Clocked = record { number = stamp; at = length first.0 } in
+      let clocked : Clocked = record { number = stamp; at = length first.marks } in
       (clocked, subst (λ z. NeedsEnterByStamp z key stamp clocked) (sym second_is) (record { entry = record { outside = outside; free = free; key_fits = fits }; clock = refl; stamp_is = refl; announced = refl }))
 
-  pub entered : (w : View) → Told k v2 (K5 key stamp) stamp w → HasEntered v key w
+  pub entered : (w : View) → Told k v2 (EnterByStamp key stamp) stamp w → HasEntered v key w
   entered w third =
-      let s = third.1 in
-      entered_from v (noted v2 (K5 key stamp) stamp) w key third.2.0.number third.2.0.at third.0
-      (subst (λ z. Makes is_entry v.trail (noted z (K5 key stamp) stamp).trail) (sym second_is) (made_more is_entry v.trail announced kinds.K5 _ _ refl (made_more is_entry v.trail (after_clock_load (noted v K3 stamp) stamp first.0) kinds.K4 _ _ refl (made_more is_entry v.trail v kinds.K3 _ _ refl (made_none is_entry v.trail)))))
-      (subst (λ z. noted z (K5 key stamp) stamp ≡ record v { enter = z.enter; trail = (noted z (K5 key stamp) stamp).trail }) (sym second_is) refl) (record { works = s.works; begins = s.begins; own = s.own }) third.2.3 third.3
+      let s = third.sees in
+      entered_from v (noted v2 (EnterByStamp key stamp) stamp) w key stamp (clocked_at v2) third.marks
+      (subst (λ z. Makes is_entry v.trail (noted z (EnterByStamp key stamp) stamp).trail) (sym second_is) (made_more is_entry v.trail announced kinds.K5 _ _ refl (made_more is_entry v.trail (after_clock_load (noted v LoadClock stamp) stamp first.marks) kinds.K4 _ _ refl (made_more is_entry v.trail v kinds.K3 _ _ refl (made_none is_entry v.trail)))))
+      (subst (λ z. noted z (EnterByStamp key stamp) stamp ≡ record v { enter = z.enter; trail = (noted z (EnterByStamp key stamp) stamp).trail }) (sym second_is) refl) (record { works = s.works; begins = s.begins; own = s.own }) third.goes third.informed
 
 -- the third waiter: the clock, then the stamp
-module _ (k : Shape) (v v1 : View) (key stamp : ℕ) (first : Told k v K3 stamp v1) where
+module _ (k : Shape) (v v1 : View) (key stamp : ℕ) (first : Told k v LoadClock stamp v1) where
   pub needs_row : v.section ≡ None → v.locks ≡ [] → key < 2 ^ 64 → (clocked : Clocked) × NeedsEnterByRow v1 key stamp clocked
   needs_row outside free fits =
-      let clocked : Clocked = record { number = stamp; at = length first.0 } in
-      (clocked, subst (λ z. NeedsEnterByRow z key stamp clocked) (sym first.2) (record { entry = record { outside = outside; free = free; key_fits = fits }; clock = refl; stamp_is = refl }))
+      let clocked : Clocked = record { number = stamp; at = length first.marks } in
+      (clocked, subst (λ z. NeedsEnterByRow z key stamp clocked) (sym first.goes) (record { entry = record { outside = outside; free = free; key_fits = fits }; clock = refl; stamp_is = refl }))
 
-  pub entered_row : (w : View) → Told k v1 (K33 key stamp) stamp w → HasEntered v key w
+  pub entered_row : (w : View) → Told k v1 (EnterByRow key stamp) stamp w → HasEntered v key w
   entered_row w second =
-      let s = second.1 in
-      entered_from v (noted v1 (K33 key stamp) stamp) w key second.2.0.number second.2.0.at second.0
-      (subst (λ z. Makes is_entry v.trail (noted z (K33 key stamp) stamp).trail) (sym first.2) (made_more is_entry v.trail (after_clock_load (noted v K3 stamp) stamp first.0) kinds.K33 _ _ refl (made_more is_entry v.trail v kinds.K3 _ _ refl (made_none is_entry v.trail))))
-      (subst (λ z. noted z (K33 key stamp) stamp ≡ record v { enter = z.enter; trail = (noted z (K33 key stamp) stamp).trail }) (sym first.2) refl) (record { works = s.works; begins = s.begins; own = s.own }) second.2.3 second.3
+      let s = second.sees in
+      entered_from v (noted v1 (EnterByRow key stamp) stamp) w key stamp (clocked_at v1) second.marks
+      (subst (λ z. Makes is_entry v.trail (noted z (EnterByRow key stamp) stamp).trail) (sym first.goes) (made_more is_entry v.trail (after_clock_load (noted v LoadClock stamp) stamp first.marks) kinds.K33 _ _ refl (made_more is_entry v.trail v kinds.K3 _ _ refl (made_none is_entry v.trail))))
+      (subst (λ z. noted z (EnterByRow key stamp) stamp ≡ record v { enter = z.enter; trail = (noted z (EnterByRow key stamp) stamp).trail }) (sym first.goes) refl) (record { works = s.works; begins = s.begins; own = s.own }) second.goes second.informed
 
 -- the second waiter: the gate, then the count
-module _ (k : Shape) (v v1 : View) (key gate : ℕ) (outside : v.section ≡ None) (first : Told k v (K28 (class_of key)) gate v1) where
+module _ (k : Shape) (v v1 : View) (key gate : ℕ) (outside : v.section ≡ None) (first : Told k v (LoadGate (class_of key)) gate v1) where
   abbrev read : View
-  read = noted v (K28 (class_of key)) gate
+  read = noted v (LoadGate (class_of key)) gate
 
   gate_is : v1 ≡ gated read (class_of key) gate None
-  gate_is = first.2 ∙ ap (gated read (class_of key) gate) outside
+  gate_is = first.goes ∙ ap (gated read (class_of key) gate) outside
 
   pub needs_count : (side : ℕ) → v.locks ≡ [] → key < 2 ^ 64 → side ≡ gate % 2 → (g : ℕ) × NeedsEnterByCount v1 key side g
   needs_count side free fits side_is = (gate, subst (λ z. NeedsEnterByCount z key side gate) (sym gate_is) (record { entry = record { outside = outside; free = free; key_fits = fits }; gate_is = ap (λ same. cond same (Some gate) (gate_in v.enter.gates (class_of key))) (eq-eqb (class_of key) (class_of key) refl); side_is = side_is }))
 
-  pub entered_count : (w : View) (side found : ℕ) → Told k v1 (K29 key side) found w → HasEntered v key w
+  pub entered_count : (w : View) (side found : ℕ) → Told k v1 (EnterByCount key side) found w → HasEntered v key w
   entered_count w side found second =
-      let s = second.1 in
-      entered_from v (noted v1 (K29 key side) found) w key side (length second.0) second.0
-      (subst (λ z. Makes is_entry v.trail (noted z (K29 key side) found).trail) (sym gate_is) (made_more is_entry v.trail (gated read (class_of key) gate None) kinds.K29 _ _ refl (made_more is_entry v.trail v kinds.K28 _ _ refl (made_none is_entry v.trail))))
-      (subst (λ z. noted z (K29 key side) found ≡ record v { enter = z.enter; trail = (noted z (K29 key side) found).trail }) (sym gate_is) refl) (record { works = s.works; begins = s.begins; own = s.own }) second.2 second.3
+      let s = second.sees in
+      entered_from v (noted v1 (EnterByCount key side) found) w key side (length second.marks) second.marks
+      (subst (λ z. Makes is_entry v.trail (noted z (EnterByCount key side) found).trail) (sym gate_is) (made_more is_entry v.trail (gated read (class_of key) gate None) kinds.K29 _ _ refl (made_more is_entry v.trail v kinds.K28 _ _ refl (made_none is_entry v.trail))))
+      (subst (λ z. noted z (EnterByCount key side) found ≡ record v { enter = z.enter; trail = (noted z (EnterByCount key side) found).trail }) (sym gate_is) refl) (record { works = s.works; begins = s.begins; own = s.own }) second.goes second.informed
 
 -- A section is left by one step.
-left_by : (v w : View) (kind : Kind) (field : Field) (number : ℕ) (section : Section) (h : List Mark) → is_exit kind ≡ true → v.section ≡ Some section → Sees v h → w ≡ leaving (stepped v kind field number) section h → LeavesAnswer v w → IsInformed w → HasLeft v w
-left_by v w kind field number section h exit was sees is answers informed = subst (HasLeft v) (sym is) (record {
-  section = section;
-  was = was;
-  leaves = record { before = h; seen = sees; marked = refl };
-  outside = refl;
-  made = made_more is_exit v.trail v kind field number exit (made_none is_exit v.trail);
-  others = refl;
-  answer = subst (λ z. GivesAnswer z section) (ap (λ (z : View). z.seen) is) (answers.answer section was);
-  informed = subst IsInformed is informed;
-})
+left_by : (v w : View) (kind : Kind) (field : Field) (number : ℕ) (section : Section) (h : List Mark) → is_exit kind ≡ true → v.section ≡ Some section → Sees v h → w ≡ leaving (stepped v kind field number) (section_of v) h → LeavesAnswer v w → IsInformed w → HasLeft v w
+left_by v w kind field number section h exit was sees goes answers informed =
+    let is : w ≡ leaving (stepped v kind field number) section h = goes ∙ ap (λ s. leaving (stepped v kind field number) s h) (section_is v section was) in
+    subst (HasLeft v) (sym is) (record {
+      section = section;
+      was = was;
+      leaves = record { before = h; seen = sees; marked = refl };
+      outside = refl;
+      made = made_more is_exit v.trail v kind field number exit (made_none is_exit v.trail);
+      others = refl;
+      answer = subst (λ z. GivesAnswer z section) (ap (λ (z : View). z.seen) is) (answers.answer section was);
+      informed = subst IsInformed is informed;
+    })
 
-pub left : (k : Shape) (v w : View) (found : ℕ) → Told k v K6 found w → HasLeft v w
-left k v w found told = left_by v w kinds.K6 _ found told.2.0 told.0 refl told.2.1 told.1 told.2.2 told.5 told.3
+module _ (k : Shape) (v w : View) (section : Section) (was : v.section ≡ Some section) (found : ℕ) where
+  pub left : Told k v LeaveByStamp found w → HasLeft v w
+  left told = left_by v w kinds.K6 _ found section told.marks refl was told.sees told.goes told.gains told.informed
 
-pub left_count : (k : Shape) (v w : View) (class side found : ℕ) → Told k v (K30 class side) found w → HasLeft v w
-left_count k v w class side found told = left_by v w kinds.K30 _ found told.2.0 told.0 refl told.2.1 told.1 told.2.2 told.5 told.3
+  pub left_count : (class side : ℕ) → Told k v (LeaveByCount class side) found w → HasLeft v w
+  left_count class side told = left_by v w kinds.K30 _ found section told.marks refl was told.sees told.goes told.gains told.informed
 
-pub left_row : (k : Shape) (v w : View) (class found : ℕ) → Told k v (K34 class) found w → HasLeft v w
-left_row k v w class found told = left_by v w kinds.K34 _ found told.2.0 told.0 refl told.2.1 told.1 told.2.2 told.5 told.3
+  pub left_row : (class : ℕ) → Told k v (LeaveByRow class) found w → HasLeft v w
+  left_row class told = left_by v w kinds.K34 _ found section told.marks refl was told.sees told.goes told.gains told.informed
 
 -- A section is entered and left.
 module _ (v mid w : View) (key : ℕ) (first : HasEntered v key mid) (second : HasLeft mid w) where
@@ -173,8 +177,8 @@ module _ (v mid w : View) (key : ℕ) (first : HasEntered v key mid) (second : H
       let c : own_of v.allowance.place w.seen ≡ own_of v.allowance.place mid.seen ++ Left v.allowance.place v.counts.sections ∷ [] = subst (λ (z : ℕ × ℕ). own_of z.0 w.seen ≡ own_of z.0 mid.seen ++ Left z.0 z.1 ∷ []) (λ i. (place i, count i)) b in
       c ∙ ap (λ l. l ++ Left v.allowance.place v.counts.sections ∷ []) a ∙ append_assoc (own_of v.allowance.place v.seen) (Entered v.allowance.place v.counts.sections key ∷ []) (Left v.allowance.place v.counts.sections ∷ [])
 
-pub begun : (k : Shape) (v w : View) (low high found : ℕ) → Told k v (K7 low high) found w → HasBegun v low high w
+pub begun : (k : Shape) (v w : View) (low high found : ℕ) → Told k v (BeginWait low high) found w → HasBegun v low high w
 begun k v w low high found told =
-    let h : List Mark = told.0 in
-    let is : w ≡ after_begin (noted v (K7 low high) found) low high found h = told.2 in
-    subst (HasBegun v low high) (sym is) (record { clock = found; leaves = record { before = h; seen = told.1; marked = refl }; wait_is = refl; older = ((told.8).tells).older; moves = λ move is. (((told.8).tells).moves move is).2; made = refl; others = refl; informed = subst IsInformed is told.3 })
+    let h : List Mark = told.marks in
+    let is : w ≡ after_begin (noted v (BeginWait low high) found) low high found h = told.goes in
+    subst (HasBegun v low high) (sym is) (record { clock = found; leaves = record { before = h; seen = told.sees; marked = refl }; wait_is = refl; older = ((told.before).tells).older; moves = λ move is. (((told.before).tells).moves move is).2; made = refl; others = refl; informed = subst IsInformed is told.informed })

@@ -20,8 +20,8 @@ use Rattle.core_state.specs.steps.Waits.{IsSpot, new_wait, excuses, ending, with
 use Rattle.seat_table.specs.declared.wait.Grace.{Grace}
 use Rattle.seat_table.specs.declared.wait.Poll.TheVariants.{Over, NotYet}
 use Rattle.list_laws.specs.Counts.{IsIn}
-use Rattle.seat_table.specs.declared.case.Case.TheVariants.{K7}
-use Rattle.seat_table.specs.Cases.{noted}
+use Rattle.core_acts.specs.declared.act.Act.TheVariants.{BeginWait}
+use Rattle.core_acts.specs.Acts.{noted}
 use Rattle.seat_table.specs.Told.{Told}
 use Rattle.seat_table.specs.Gains.{Sees, IsInformed}
 use Rattle.seat_table.specs.Sections.{Leaves}
@@ -149,10 +149,10 @@ pub shows_by : (wait new : Waiting) → IsSameWait wait new → (steps : List St
 shows_by wait new same steps why is = shows_same wait new steps why (subst (λ z. Shows z steps why) same is)
 
 -- A grace that begins at the first place and class is that of a wait that was just begun, whatever the waiter.
-pub latest : {W : Type 0} (k : Shape) (v w : View) (keys : Interval) (found : ℕ) (grace : Grace W) → grace.keys ≡ keys → grace.clock ≡ found → reached grace ≡ start → Told k v (K7 keys.low keys.high) found w → IsLatestOf k grace w
+pub latest : {W : Type 0} (k : Shape) (v w : View) (keys : Interval) (found : ℕ) (grace : Grace W) → grace.keys ≡ keys → grace.clock ≡ found → reached grace ≡ start → Told k v (BeginWait keys.low keys.high) found w → IsLatestOf k grace w
 latest k v w keys found grace keys_is clock_is begins told = (
-  new_wait (noted v (K7 keys.low keys.high) found) keys.low keys.high found told.0,
-  ap (λ (z : View). z.wait) told.2,
+  new_wait (noted v (BeginWait keys.low keys.high) found) keys.low keys.high found told.marks,
+  ap (λ (z : View). z.wait) told.goes,
   record {
     going = refl;
     low_is = ap (λ (z : Interval). z.low) (sym keys_is);
@@ -179,7 +179,7 @@ latest k v w keys found grace keys_is clock_is begins told = (
     no_class : (c : ℕ) → IsTurnedBefore (reached grace) c → ⊥
     no_class c before = ⊎_elim (λ less. omega (arith, less, class)) (λ (on : (c ≡ grace.class) × (grace.turned ≡ true)). let e : false ≡ true = sym turned ∙ on.1 in cc) before
 
-    none_before : (field : Field) → IsSpot k (new_wait (noted v (K7 keys.low keys.high) found) keys.low keys.high found told.0) field → IsBefore (reached grace) field → IsIn [] field
+    none_before : (field : Field) → IsSpot k (new_wait (noted v (BeginWait keys.low keys.high) found) keys.low keys.high found told.marks) field → IsBefore (reached grace) field → IsIn [] field
     none_before (Stamp q) spot before = absurd (omega (arith, before, place))
     none_before (Count c side) spot before = absurd (⊎_elim (λ less. omega (arith, less, class)) (λ (on : (c ≡ grace.class) × (grace.turned ≡ true) × (side ≢ grace.gate % 2)). let e : false ≡ true = sym turned ∙ on.1 in cc) before)
     none_before (Row p c) spot before = absurd (⊎_elim (λ less. omega (arith, less, place)) (λ (on : (p ≡ grace.place) × (c < grace.class)). omega (arith, on.1, class)) before)

@@ -22,7 +22,8 @@ use Rattle.atomic_table.specs.Seated.{TableId}
 use Rattle.atomic_table.specs.Table.{Me}
 use Rattle.seat_table.specs.declared.rule.Nothing.{Nothing}
 use Rattle.seat_table.specs.Gains.{HasSide, TellsNow}
-use Rattle.seat_table.specs.Seats.{way_of, shape_of, with_way, HasPlace, HasFew, IsInside, IsStamp, IsSlotOf, IsLastFound}
+use Rattle.seat_table.specs.Seats.{TableAt, way_of, shape_of, with_way, HasPlace, HasFew}
+use Rattle.seat_table.specs.Seated.{Numbers, IsSeat}
 use Rattle.seat_table.specs.Fresh.{key_stamps, slot_words, waiter_part, first_words}
 use Rattle.seat_table.proofs.Memories.{lies}
 
@@ -209,19 +210,24 @@ pub rule_starts : (k : Shape) (words : List ℕ) → IsShape k → words ≡ fir
 rule_starts k words shape is = subst (λ z. Rule k z (first_view k ∷ [])) (sym is) (record { marks = []; long = long k; holds = tables_begin k (memory_of k (first_words k)) shape (fresh k) })
 
 module _ (way : ℕ) (k : Shape) (is : k.waiter ≡ way_of way) (shape : IsShape k) where
+  abbrev first_at : TableId → TableAt
+  first_at table = record { id = table; slots = k.slots; places = k.places; tickets = k.tickets }
+
+  abbrev first_numbers : Numbers
+  first_numbers = record { place = 0; places = k.places; tickets = k.tickets; key = None; stamp = 0; hand = None; spare = Some 1; waits = 0; turns = 0; free = k.slots; front = 0 }
+
   -- what the first seat has
-  pub first_room : (table : TableId) (me : Me Nothing View) → me ≡ (first_view k, [])
-      → (me.1 ≡ []) × HasPlace (record { id = table; slots = k.slots; places = k.places; tickets = k.tickets }) me.0 × HasSide (shape_of way (record { id = table; slots = k.slots; places = k.places; tickets = k.tickets })) me.0 × TellsNow (shape_of way (record { id = table; slots = k.slots; places = k.places; tickets = k.tickets })) me.0 × HasFew me.0 × (me.0.allowance.place ≡ 0) × (me.0.allowance.places ≡ k.places) × (me.0.allowance.tickets ≡ k.tickets) × IsInside None me.0.section × IsStamp 0 me.0.section × IsSlotOf None me.0.hands.hand × IsSlotOf (Some 1) me.0.hands.spare × (me.0.counts.waits ≡ 0) × (me.0.counts.turns ≡ 0) × IsLastFound k.slots k.slots me.0.latest.free × IsLastFound 0 0 me.0.latest.front
-  first_room table me e = subst (λ (m : Me Nothing View). (m.1 ≡ []) × HasPlace (record { id = table; slots = k.slots; places = k.places; tickets = k.tickets }) m.0 × HasSide (shape_of way (record { id = table; slots = k.slots; places = k.places; tickets = k.tickets })) m.0 × TellsNow (shape_of way (record { id = table; slots = k.slots; places = k.places; tickets = k.tickets })) m.0 × HasFew m.0 × (m.0.allowance.place ≡ 0) × (m.0.allowance.places ≡ k.places) × (m.0.allowance.tickets ≡ k.tickets) × IsInside None m.0.section × IsStamp 0 m.0.section × IsSlotOf None m.0.hands.hand × IsSlotOf (Some 1) m.0.hands.spare × (m.0.counts.waits ≡ 0) × (m.0.counts.turns ≡ 0) × IsLastFound k.slots k.slots m.0.latest.free × IsLastFound 0 0 m.0.latest.front) (sym e)
-      (refl, room, side, told, few, refl, refl, refl, tt, tt, tt, refl, refl, refl, refl, refl)
+  pub first_room : (table : TableId) (me : Me Nothing View) → me ≡ (first_view k, []) → (me.1 ≡ []) × IsSeat way (first_at table) first_numbers me.0
+  first_room table me e = subst (λ (m : Me Nothing View). (m.1 ≡ []) × IsSeat way (first_at table) first_numbers m.0) (sym e)
+      (refl, record { room = room; side = side; told = told; few = few; place = refl; places = refl; tickets = refl; key = tt; stamp = tt; hand = tt; spare = refl; waits = refl; turns = refl; free = refl; front = refl })
     where
-      room : HasPlace (record { id = table; slots = k.slots; places = k.places; tickets = k.tickets }) (first_view k)
+      room : HasPlace (first_at table) (first_view k)
       room = let some_place = shape.some_place in let few_places = shape.few_places in record { works = some_place; inside = omega arith; few_places = few_places }
 
-      side : HasSide (shape_of way (record { id = table; slots = k.slots; places = k.places; tickets = k.tickets })) (first_view k)
+      side : HasSide (shape_of way (first_at table)) (first_view k)
       side = record { small = λ section inside domain. absurd (cc) }
 
-      told : TellsNow (shape_of way (record { id = table; slots = k.slots; places = k.places; tickets = k.tickets })) (first_view k)
+      told : TellsNow (shape_of way (first_at table)) (first_view k)
       told =
           let m : Memory = memory_of k (first_words k) in
           record { marks = []; word = m; tells = told_of k m (first_view k ∷ []) [] 0 (first_view k) (tables_begin k m shape (fresh k)).now refl shape.some_place; apart = λ s. omega arith }

@@ -12,7 +12,7 @@ use Rattle.prcu_model.specs.Dictionary.{map_of, WasSaid}
 use Rattle.core_state.specs.declared.shape.Shape.{Shape}
 use Rattle.core_state.specs.declared.shape.Waiter.TheVariants.{Domain}
 use Rattle.core_state.specs.declared.words.Field.{Field}
-use Rattle.core_state.specs.declared.words.Field.TheVariants.{Clock, Front, Free, Lock, Life, Key, Value, Tag}
+use Rattle.core_state.specs.declared.words.Field.TheVariants.{Clock, Front, Free, Lock, Life, Value, Tag}
 use Rattle.prcu_marks.specs.declared.commit.Commit.{Commit}
 use Rattle.core_state.specs.declared.view.Fact.{Fact}
 use Rattle.core_state.specs.declared.view.Gap.{Gap}
@@ -32,12 +32,12 @@ use Rattle.core_state.specs.parts.SeatParts.{HasMet}
 use Rattle.core_state.specs.parts.TreeParts.{map_now}
 use Rattle.core_state.specs.steps.Slots.{IsInHand, IsSpare, IsRetiredAt}
 use Rattle.core_state.specs.views.Known.{known_in, known_under, lock_of}
+use Rattle.core_acts.specs.declared.act.Act.{Act}
+use Rattle.core_acts.specs.declared.act.Act.TheVariants.{LoadClock, LeaveByStamp, BeginWait, LoadRetiredLife, Reserve, Seize, Lock as TakeLock, LinkLeaf, Bypass, LinkCopy, LeaveByCount, LeaveByRow, ReplaceValue, LookAtFront}
+use Rattle.core_acts.specs.Acts.{field_of, access_of, said_by}
 use Rattle.core_state.specs.views.Views.{Works, places_of, slots_of}
 use Rattle.core_frames.specs.Telling.{IsToldOf}
 use Rattle.prcu_model.specs.Slots.{StaysWithin}
-use Rattle.seat_table.specs.Cases.{said_by, what, IsRecordOf}
-use Rattle.seat_table.specs.declared.case.Case.{Case}
-use Rattle.seat_table.specs.declared.case.Case.TheVariants.{K3, K6, K7, K9, K10, K11, K12, K13, K15, K20, K21, K25, K30, K34, K36, K37}
 
 -- All marks at a step: the view, which works at a place, has seen a beginning of them, and all marks of each place for which it answers.
 pub record Sees (v : View) (h : List Mark) : Type 0 where
@@ -90,9 +90,9 @@ pub record TellsNow (k : Shape) (v : View) : Type 0 where
   pub apart : TellsApart v
 
 -- What it told of the view before the step, with all marks before it and the words there were: by them the step found its number.
-pub record TellsBefore (k : Shape) (v : View) (c : Case) (h : List Mark) (found : ℕ) : Type 0 where
+pub record TellsBefore (k : Shape) (v : View) (a : Act) (h : List Mark) (found : ℕ) : Type 0 where
   pub word : Field → ℕ
-  pub found_is : said_by (what v c).access (word (what v c).field) ≡ found
+  pub found_is : said_by (access_of v.allowance.place a) (word (field_of v.allowance.place a)) ≡ found
   pub tells : IsToldOf k.slots k.places v h word
 
 -- At no front of what the seat has seen were there more pairs than the table was made with slots, and no mark is of a place that the
@@ -141,24 +141,15 @@ pub record IsOthers (v : View) (slot found : ℕ) : Type 0 where
 pub record IsCounted (v w : View) : Type 0 where
   pub found : (commit : Commit) → v.commit ≡ Some commit → commit.found + 2 ≡ 2 * length (updates_of w.seen)
 
--- All records that the place keeps of the node as it is now are of one key.
-pub record HasOneKey (v : View) (node : ℕ) : Type 0 where
-  pub same : (r other : Reading) → IsRecordOf v node r → IsRecordOf v node other → r.key ≡ other.key
-
-pub record Deletes (v w : View) (node : ℕ) : Type 0 where
-  pub counted : IsCounted v w
-  pub one_key : HasOneKey v node
-
 -- The spare's key, where a copy is linked, is the next key that the dictionary had.
-pub record Moves (v w : View) (h : List Mark) (node copy : ℕ) : Type 0 where
-  pub deletes : Deletes v w node
-  pub next : (r : Reading) (held : Held) (next : ℕ) → IsRecordOf v node r → v.hands.spare ≡ Some held → known_in held.known (Key copy) ≡ Some next → IsNextKey (map_of (updates_of h)) r.key next
+pub record Moves (v w : View) (h : List Mark) (key next_key : ℕ) : Type 0 where
+  pub counted : IsCounted v w
+  pub next : IsNextKey (map_of (updates_of h)) key next_key
 
 -- The value loaded under the lock, where it is replaced, is the one that the dictionary had.
-pub record Replaces (v w : View) (h : List Mark) (slot : ℕ) : Type 0 where
+pub record Replaces (v w : View) (h : List Mark) (slot key : ℕ) : Type 0 where
   pub counted : IsCounted v w
-  pub one_key : HasOneKey v slot
-  pub was : (r : Reading) (value : ℕ) → IsRecordOf v slot r → known_in (known_under v slot) (Value slot) ≡ Some value → map_now h r.key ≡ Some value
+  pub was : (old : ℕ) → known_in (known_under v slot) (Value slot) ≡ Some old → map_now h key ≡ Some old
 
 -- What a listing found is so of the dictionary now, after half as many updates as the front says; the section saw fewer or as many.
 pub record IsListedNow (h : List Mark) (section : Section) (listing : Listing) : Type 0 where
@@ -175,22 +166,20 @@ pub record LooksAgain (v : View) (h : List Mark) (found : ℕ) : Type 0 where
 pub record HaveMet (v : View) (h : List Mark) : Type 0 where
   pub each : Each v.allowance.met (HasMet h)
 
--- by the kind of step, with the view before, all marks before, the number found and the view after
-abbrev pub Gains : Shape → View → Case → List Mark → ℕ → View → Type 0
-Gains k v K3 h found w = HaveMet v h
-Gains k v K6 h found w = LeavesAnswer v w
-Gains k v (K7 low high) h found w = AreGone k v w
-Gains k v (K9 slot keep) h found w = IsApart v slot
-Gains k v (K10 expected) h found w = FindsFull k v found w
-Gains k v (K11 slot) h found w = WasNoOwn v slot found
-Gains k v (K12 slot field number) h found w = IsApart v slot
-Gains k v (K13 slot) h found w = IsOthers v slot found
-Gains k v (K15 slot) h found w = IsApart v slot
-Gains k v (K20 slot b leaf) h found w = IsCounted v w
-Gains k v (K21 parent b node child) h found w = Deletes v w node
-Gains k v (K25 parent b node copy old old_parent) h found w = Moves v w h node copy
-Gains k v (K30 class side) h found w = LeavesAnswer v w
-Gains k v (K34 class) h found w = LeavesAnswer v w
-Gains k v (K36 slot value) h found w = Replaces v w h slot
-Gains k v K37 h found w = LooksAgain v h found
+-- by the act, with the view before, all marks before, the number found and the view after
+abbrev pub Gains : Shape → View → Act → List Mark → ℕ → View → Type 0
+Gains k v LoadClock h found w = HaveMet v h
+Gains k v LeaveByStamp h found w = LeavesAnswer v w
+Gains k v (BeginWait low high) h found w = AreGone k v w
+Gains k v (LoadRetiredLife slot) h found w = IsApart v slot
+Gains k v (Reserve expected) h found w = FindsFull k v found w
+Gains k v (Seize slot) h found w = WasNoOwn v slot found
+Gains k v (TakeLock slot) h found w = IsOthers v slot found
+Gains k v (LinkLeaf slot b leaf key value) h found w = IsCounted v w
+Gains k v (Bypass parent b node child key) h found w = IsCounted v w
+Gains k v (LinkCopy parent b node copy old old_parent key next_key) h found w = Moves v w h key next_key
+Gains k v (LeaveByCount class side) h found w = LeavesAnswer v w
+Gains k v (LeaveByRow class) h found w = LeavesAnswer v w
+Gains k v (ReplaceValue slot key value) h found w = Replaces v w h slot key
+Gains k v LookAtFront h found w = LooksAgain v h found
 Gains k v _ h found w = Unit {0}

@@ -1,7 +1,7 @@
 pub mod Seats
-pub mod Cases
 pub mod Gains
 pub mod Told
+pub mod Seated
 pub mod Fresh
 pub mod Sections
 pub mod Waits

@@ -80,19 +80,6 @@ with_way way k = record { waiter = way_of way; slots = k.slots; places = k.place
 abbrev pub unlisted : ℕ → List ℕ → List ℕ
 unlisted slot xs = filter (λ x. not (x == slot)) xs
 
--- whether a slot is the one in hand
-abbrev pub is_in_hand : Option Held → ℕ → Bool
-is_in_hand None slot = false
-is_in_hand (Some held) slot = held.slot == slot
-
-abbrev pub is_none : Option Held → Bool
-is_none None = true
-is_none (Some held) = false
-
--- whether a store makes a retired slot the spare: its life is raised, where the place has no spare
-abbrev pub makes_spare : View → ℕ → ℕ → Bool
-makes_spare v slot field = field == 2 && (is_none v.hands.spare && not (is_in_hand v.hands.hand slot))
-
 -- The listed slots are the retired ones, each once.
 pub record AreListed (s : SeatAt) : Type 0 where
   pub each : (slot : ℕ) → times slot s.listed ≡ times slot (map (λ (r : Retired). r.slot) s.view.hands.retired)

@@ -6,28 +6,39 @@ use Rattle.prcu_marks.specs.declared.mark.Mark.{Mark}
 use Rattle.core_state.specs.declared.shape.Shape.{Shape}
 use Rattle.core_state.specs.declared.view.View.{View}
 use Rattle.core_state.specs.memory.Memory.{word_of}
+use Rattle.core_acts.specs.declared.act.Act.{Act}
+use Rattle.core_acts.specs.Acts.{Access, field_of, access_of, noted, Asks, after}
 use Rattle.seat_table.specs.Seats.{TableAt, HasPlace, shape_of}
-use Rattle.seat_table.specs.declared.case.Case.{Case}
 use Rattle.seat_table.specs.declared.rule.Nothing.{Nothing}
-use Rattle.seat_table.specs.Cases.{Access, what, noted, Needs, After}
 use Rattle.seat_table.specs.Gains.{Sees, IsInformed, WordFits, Gains, StoodInside, HasSide, TellsBefore, StaysIn, TellsNow}
 
--- The step was made with some list of all marks, of which the seat's marks are a beginning: the view went on as its kind says, and
+-- What a call asks for an act may rest on what the rule tells of the view.
+abbrev pub IsAsked : Shape → View → Act → Type 0
+IsAsked k v a = TellsNow k v → Asks k v a
+
+-- The step was made with some list of all marks, of which the seat's marks are a beginning: the view went on as its act says, and
 -- what it gained from the rule; with these marks, what the rule told of the view before.
-abbrev pub Told : Shape → View → Case → ℕ → View → Type 0
-Told k v c found w = (h : List Mark) × Sees v h × After v (noted v c found) c h found w × IsInformed w × WordFits k (what v c).field found × Gains k v c h found w × StoodInside k w × HasSide k w
-    × TellsBefore k v c h found × StaysIn k w
+pub record Told (k : Shape) (v : View) (a : Act) (found : ℕ) (w : View) : Type 0 where
+  pub marks : List Mark
+  pub sees : Sees v marks
+  pub goes : w ≡ after (noted v a found) a marks found
+  pub informed : IsInformed w
+  pub fits : WordFits k (field_of v.allowance.place a) found
+  pub gains : Gains k v a marks found w
+  pub stood : StoodInside k w
+  pub side : HasSide k w
+  pub before : TellsBefore k v a marks found
+  pub stays : StaysIn k w
 
--- What an access asks: the word and the access are those of the case, whose needs are met.
-pub record Asks (way : ℕ) (t : TableAt) (v : View) (c : Case) (access : Access) (word : ℕ) : Type 0 where
+-- What an access asks: the word and the access are those of the act, which may be made.
+pub record Touches (way : ℕ) (t : TableAt) (v : View) (a : Act) (access : Access) (word : ℕ) : Type 0 where
   pub room : HasPlace t v
-  pub side : HasSide (shape_of way t) v
-  pub at : word ≡ word_of (shape_of way t) (what v c).field
-  pub does : (what v c).access ≡ access
-  pub needs : Needs (shape_of way t) v c
+  pub at : word ≡ word_of (shape_of way t) (field_of v.allowance.place a)
+  pub does : access_of v.allowance.place a ≡ access
+  pub asks : Asks (shape_of way t) v a
 
-abbrev pub tells : Shape → Case → Me Nothing View → ℕ → Me Nothing View → Type 0
-tells k c me found me' = (me'.1 ≡ me.1) × TellsNow k me'.0 × Told k me.0 c found me'.0
+abbrev pub tells : Shape → Act → Me Nothing View → ℕ → Me Nothing View → Type 0
+tells k a me found me' = (me'.1 ≡ me.1) × TellsNow k me'.0 × Told k me.0 a found me'.0
 
-abbrev pub told : Shape → Case → Step Nothing → Me Nothing View → ℕ → Me Nothing View → Type 0
-told k c st = tells k c
+abbrev pub told : Shape → Act → Step Nothing → Me Nothing View → ℕ → Me Nothing View → Type 0
+told k a st = tells k a

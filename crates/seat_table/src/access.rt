@@ -1,16 +1,16 @@
 //! The accesses to a word: each step of a kind is one of them.
 ghost use Rattle.std.specs.Prelude.{◌≡◌, ◌≤◌};
 ghost use Rattle.seat_table.specs.Seats.{shape_of};
-ghost use Rattle.seat_table.specs.Cases.{loads, stores, exchanges, adds, subtracts, flips};
+ghost use Rattle.core_acts.specs.Acts.{loads, stores, exchanges, adds, subtracts, flips};
 ghost use Rattle.seat_table.specs.Gains.{TellsNow};
-ghost use Rattle.seat_table.specs.Told.{Asks, Told};
+ghost use Rattle.seat_table.specs.Told.{Touches, Told};
 
-use crate::case::Case;
 use crate::rule::Nothing;
 use crate::table::CitrusTable;
 use crate::told::{Detail, Told as Tells};
 use crate::waiter::WaitWords;
 use atomic_table::Seat;
+use core_acts::Act;
 use core_state::View;
 use std::marker::Brand;
 
@@ -19,14 +19,14 @@ type Token = Seat<Nothing, View>;
 fn loads_it<W: WaitWords, A: Detail>(
     table: &CitrusTable<W>,
     seat: &mut Token,
-    case: Case,
+    act: Act,
     word: usize,
 ) -> u64
-    requires picked { (A.shape ≡ shape_of W.WAY table.now) × (A.case ≡ case) }
+    requires picked { (A.shape ≡ shape_of W.WAY table.now) × (A.act ≡ act) }
     requires table { seat.old.table_id ≡ table.now.id }
-    requires asks { Asks W.WAY table.now seat.old.me.0 case loads word }
+    requires asks { Touches W.WAY table.now seat.old.me.0 act loads word }
     ensures seat { (seat.new.table_id ≡ seat.old.table_id) × (seat.new.me.1 ≡ seat.old.me.1) }
-    ensures told { Told (shape_of W.WAY table.now) seat.old.me.0 case result seat.new.me.0 }
+    ensures told { Told (shape_of W.WAY table.now) seat.old.me.0 act result seat.new.me.0 }
     ensures now { TellsNow (shape_of W.WAY table.now) seat.new.me.0 }
 {
     table.table.shared.load::<Tells<A>>(seat, word)
@@ -36,30 +36,30 @@ fn loads_it<W: WaitWords, A: Detail>(
 pub(crate) fn load<W: WaitWords>(
     table: &CitrusTable<W>,
     seat: &mut Token,
-    case: Case,
+    act: Act,
     word: usize,
 ) -> u64
     requires table { seat.old.table_id ≡ table.now.id }
-    requires asks { Asks W.WAY table.now seat.old.me.0 case loads word }
+    requires asks { Touches W.WAY table.now seat.old.me.0 act loads word }
     ensures seat { (seat.new.table_id ≡ seat.old.table_id) × (seat.new.me.1 ≡ seat.old.me.1) }
-    ensures told { Told (shape_of W.WAY table.now) seat.old.me.0 case result seat.new.me.0 }
+    ensures told { Told (shape_of W.WAY table.now) seat.old.me.0 act result seat.new.me.0 }
     ensures now { TellsNow (shape_of W.WAY table.now) seat.new.me.0 }
 {
-    loads_it::<W, Brand>(table, seat, case, word)
+    loads_it::<W, Brand>(table, seat, act, word)
 }
 
 fn stores_it<W: WaitWords, A: Detail>(
     table: &CitrusTable<W>,
     seat: &mut Token,
-    case: Case,
+    act: Act,
     word: usize,
     number: u64,
 )
-    requires picked { (A.shape ≡ shape_of W.WAY table.now) × (A.case ≡ case) }
+    requires picked { (A.shape ≡ shape_of W.WAY table.now) × (A.act ≡ act) }
     requires table { seat.old.table_id ≡ table.now.id }
-    requires asks { Asks W.WAY table.now seat.old.me.0 case (stores number) word }
+    requires asks { Touches W.WAY table.now seat.old.me.0 act (stores number) word }
     ensures seat { (seat.new.table_id ≡ seat.old.table_id) × (seat.new.me.1 ≡ seat.old.me.1) }
-    ensures told { Told (shape_of W.WAY table.now) seat.old.me.0 case number seat.new.me.0 }
+    ensures told { Told (shape_of W.WAY table.now) seat.old.me.0 act number seat.new.me.0 }
     ensures now { TellsNow (shape_of W.WAY table.now) seat.new.me.0 }
 {
     table.table.shared.store::<Tells<A>>(seat, word, number);
@@ -69,32 +69,32 @@ fn stores_it<W: WaitWords, A: Detail>(
 pub(crate) fn store<W: WaitWords>(
     table: &CitrusTable<W>,
     seat: &mut Token,
-    case: Case,
+    act: Act,
     word: usize,
     number: u64,
 )
     requires table { seat.old.table_id ≡ table.now.id }
-    requires asks { Asks W.WAY table.now seat.old.me.0 case (stores number) word }
+    requires asks { Touches W.WAY table.now seat.old.me.0 act (stores number) word }
     ensures seat { (seat.new.table_id ≡ seat.old.table_id) × (seat.new.me.1 ≡ seat.old.me.1) }
-    ensures told { Told (shape_of W.WAY table.now) seat.old.me.0 case number seat.new.me.0 }
+    ensures told { Told (shape_of W.WAY table.now) seat.old.me.0 act number seat.new.me.0 }
     ensures now { TellsNow (shape_of W.WAY table.now) seat.new.me.0 }
 {
-    stores_it::<W, Brand>(table, seat, case, word, number);
+    stores_it::<W, Brand>(table, seat, act, word, number);
 }
 
 fn exchanges_it<W: WaitWords, A: Detail>(
     table: &CitrusTable<W>,
     seat: &mut Token,
-    case: Case,
+    act: Act,
     word: usize,
     old: u64,
     new: u64,
 ) -> u64
-    requires picked { (A.shape ≡ shape_of W.WAY table.now) × (A.case ≡ case) }
+    requires picked { (A.shape ≡ shape_of W.WAY table.now) × (A.act ≡ act) }
     requires table { seat.old.table_id ≡ table.now.id }
-    requires asks { Asks W.WAY table.now seat.old.me.0 case (exchanges old new) word }
+    requires asks { Touches W.WAY table.now seat.old.me.0 act (exchanges old new) word }
     ensures seat { (seat.new.table_id ≡ seat.old.table_id) × (seat.new.me.1 ≡ seat.old.me.1) }
-    ensures told { Told (shape_of W.WAY table.now) seat.old.me.0 case result seat.new.me.0 }
+    ensures told { Told (shape_of W.WAY table.now) seat.old.me.0 act result seat.new.me.0 }
     ensures now { TellsNow (shape_of W.WAY table.now) seat.new.me.0 }
 {
     table
@@ -107,32 +107,32 @@ fn exchanges_it<W: WaitWords, A: Detail>(
 pub(crate) fn exchange<W: WaitWords>(
     table: &CitrusTable<W>,
     seat: &mut Token,
-    case: Case,
+    act: Act,
     word: usize,
     old: u64,
     new: u64,
 ) -> u64
     requires table { seat.old.table_id ≡ table.now.id }
-    requires asks { Asks W.WAY table.now seat.old.me.0 case (exchanges old new) word }
+    requires asks { Touches W.WAY table.now seat.old.me.0 act (exchanges old new) word }
     ensures seat { (seat.new.table_id ≡ seat.old.table_id) × (seat.new.me.1 ≡ seat.old.me.1) }
-    ensures told { Told (shape_of W.WAY table.now) seat.old.me.0 case result seat.new.me.0 }
+    ensures told { Told (shape_of W.WAY table.now) seat.old.me.0 act result seat.new.me.0 }
     ensures now { TellsNow (shape_of W.WAY table.now) seat.new.me.0 }
 {
-    exchanges_it::<W, Brand>(table, seat, case, word, old, new)
+    exchanges_it::<W, Brand>(table, seat, act, word, old, new)
 }
 
 fn adds_it<W: WaitWords, A: Detail>(
     table: &CitrusTable<W>,
     seat: &mut Token,
-    case: Case,
+    act: Act,
     word: usize,
     number: u64,
 ) -> u64
-    requires picked { (A.shape ≡ shape_of W.WAY table.now) × (A.case ≡ case) }
+    requires picked { (A.shape ≡ shape_of W.WAY table.now) × (A.act ≡ act) }
     requires table { seat.old.table_id ≡ table.now.id }
-    requires asks { Asks W.WAY table.now seat.old.me.0 case (adds number) word }
+    requires asks { Touches W.WAY table.now seat.old.me.0 act (adds number) word }
     ensures seat { (seat.new.table_id ≡ seat.old.table_id) × (seat.new.me.1 ≡ seat.old.me.1) }
-    ensures told { Told (shape_of W.WAY table.now) seat.old.me.0 case result seat.new.me.0 }
+    ensures told { Told (shape_of W.WAY table.now) seat.old.me.0 act result seat.new.me.0 }
     ensures now { TellsNow (shape_of W.WAY table.now) seat.new.me.0 }
 {
     table.table.shared.fetch_add::<Tells<A>>(seat, word, number)
@@ -142,32 +142,32 @@ fn adds_it<W: WaitWords, A: Detail>(
 pub(crate) fn add<W: WaitWords>(
     table: &CitrusTable<W>,
     seat: &mut Token,
-    case: Case,
+    act: Act,
     word: usize,
     number: u64,
 ) -> u64
     requires table { seat.old.table_id ≡ table.now.id }
-    requires asks { Asks W.WAY table.now seat.old.me.0 case (adds number) word }
+    requires asks { Touches W.WAY table.now seat.old.me.0 act (adds number) word }
     ensures seat { (seat.new.table_id ≡ seat.old.table_id) × (seat.new.me.1 ≡ seat.old.me.1) }
-    ensures told { Told (shape_of W.WAY table.now) seat.old.me.0 case result seat.new.me.0 }
+    ensures told { Told (shape_of W.WAY table.now) seat.old.me.0 act result seat.new.me.0 }
     ensures now { TellsNow (shape_of W.WAY table.now) seat.new.me.0 }
 {
-    adds_it::<W, Brand>(table, seat, case, word, number)
+    adds_it::<W, Brand>(table, seat, act, word, number)
 }
 
 fn subtracts_it<W: WaitWords, A: Detail>(
     table: &CitrusTable<W>,
     seat: &mut Token,
-    case: Case,
+    act: Act,
     word: usize,
     number: u64,
 ) -> u64
-    requires picked { (A.shape ≡ shape_of W.WAY table.now) × (A.case ≡ case) }
+    requires picked { (A.shape ≡ shape_of W.WAY table.now) × (A.act ≡ act) }
     requires table { seat.old.table_id ≡ table.now.id }
     requires one { number ≤ 1 }
-    requires asks { Asks W.WAY table.now seat.old.me.0 case (subtracts number) word }
+    requires asks { Touches W.WAY table.now seat.old.me.0 act (subtracts number) word }
     ensures seat { (seat.new.table_id ≡ seat.old.table_id) × (seat.new.me.1 ≡ seat.old.me.1) }
-    ensures told { Told (shape_of W.WAY table.now) seat.old.me.0 case result seat.new.me.0 }
+    ensures told { Told (shape_of W.WAY table.now) seat.old.me.0 act result seat.new.me.0 }
     ensures now { TellsNow (shape_of W.WAY table.now) seat.new.me.0 }
 {
     table.table.shared.fetch_sub::<Tells<A>>(seat, word, number)
@@ -177,31 +177,31 @@ fn subtracts_it<W: WaitWords, A: Detail>(
 pub(crate) fn subtract<W: WaitWords>(
     table: &CitrusTable<W>,
     seat: &mut Token,
-    case: Case,
+    act: Act,
     word: usize,
     number: u64,
 ) -> u64
     requires table { seat.old.table_id ≡ table.now.id }
     requires one { number ≤ 1 }
-    requires asks { Asks W.WAY table.now seat.old.me.0 case (subtracts number) word }
+    requires asks { Touches W.WAY table.now seat.old.me.0 act (subtracts number) word }
     ensures seat { (seat.new.table_id ≡ seat.old.table_id) × (seat.new.me.1 ≡ seat.old.me.1) }
-    ensures told { Told (shape_of W.WAY table.now) seat.old.me.0 case result seat.new.me.0 }
+    ensures told { Told (shape_of W.WAY table.now) seat.old.me.0 act result seat.new.me.0 }
     ensures now { TellsNow (shape_of W.WAY table.now) seat.new.me.0 }
 {
-    subtracts_it::<W, Brand>(table, seat, case, word, number)
+    subtracts_it::<W, Brand>(table, seat, act, word, number)
 }
 
 fn flips_it<W: WaitWords, A: Detail>(
     table: &CitrusTable<W>,
     seat: &mut Token,
-    case: Case,
+    act: Act,
     word: usize,
 ) -> u64
-    requires picked { (A.shape ≡ shape_of W.WAY table.now) × (A.case ≡ case) }
+    requires picked { (A.shape ≡ shape_of W.WAY table.now) × (A.act ≡ act) }
     requires table { seat.old.table_id ≡ table.now.id }
-    requires asks { Asks W.WAY table.now seat.old.me.0 case flips word }
+    requires asks { Touches W.WAY table.now seat.old.me.0 act flips word }
     ensures seat { (seat.new.table_id ≡ seat.old.table_id) × (seat.new.me.1 ≡ seat.old.me.1) }
-    ensures told { Told (shape_of W.WAY table.now) seat.old.me.0 case result seat.new.me.0 }
+    ensures told { Told (shape_of W.WAY table.now) seat.old.me.0 act result seat.new.me.0 }
     ensures now { TellsNow (shape_of W.WAY table.now) seat.new.me.0 }
 {
     table.table.shared.fetch_xor::<Tells<A>>(seat, word, 1)
@@ -211,14 +211,14 @@ fn flips_it<W: WaitWords, A: Detail>(
 pub(crate) fn flip<W: WaitWords>(
     table: &CitrusTable<W>,
     seat: &mut Token,
-    case: Case,
+    act: Act,
     word: usize,
 ) -> u64
     requires table { seat.old.table_id ≡ table.now.id }
-    requires asks { Asks W.WAY table.now seat.old.me.0 case flips word }
+    requires asks { Touches W.WAY table.now seat.old.me.0 act flips word }
     ensures seat { (seat.new.table_id ≡ seat.old.table_id) × (seat.new.me.1 ≡ seat.old.me.1) }
-    ensures told { Told (shape_of W.WAY table.now) seat.old.me.0 case result seat.new.me.0 }
+    ensures told { Told (shape_of W.WAY table.now) seat.old.me.0 act result seat.new.me.0 }
     ensures now { TellsNow (shape_of W.WAY table.now) seat.new.me.0 }
 {
-    flips_it::<W, Brand>(table, seat, case, word)
+    flips_it::<W, Brand>(table, seat, act, word)
 }

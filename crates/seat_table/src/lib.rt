@@ -3,7 +3,6 @@
 #![tactic(auto)]
 
 mod access;
-mod case;
 mod rule;
 mod seat;
 pub mod steps;
@@ -12,7 +11,7 @@ mod told;
 mod wait;
 mod waiter;
 
-pub use case::Case;
+pub use core_acts::Part;
 pub use seat::Seat;
 pub use table::{CitrusTable, words_of};
 pub use wait::{Grace, Poll, WaitPart, wait_for_readers};

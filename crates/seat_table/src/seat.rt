@@ -6,18 +6,18 @@ ghost use Rattle.core_state.specs.declared.view.Retired.{Retired};
 ghost use Rattle.core_state.specs.steps.Seating.{NeedsSplit, first_of, second_of, both_of};
 ghost use Rattle.core_state.specs.steps.Slots.{IsRetiredAt};
 ghost use Rattle.core_state.specs.views.Known.{HasLock};
-ghost use Rattle.seat_table.specs.declared.case.Case.TheVariants.{K3};
+ghost use Rattle.core_acts.specs.declared.act.Act.TheVariants.{LoadClock};
 ghost use Rattle.seat_table.specs.Seats.{IsQuietSeat, KeepsOwn, IsInside, IsSlotOf, IsLastFound, shape_of};
 ghost use Rattle.seat_table.specs.Gains.{TellsNow};
 ghost use Rattle.seat_table.specs.Told.{Told};
 
 use crate::access::load;
-use crate::case::Case;
 use crate::rule::Nothing;
 use crate::table::CitrusTable;
 use crate::told::{Cut, Glue, Share};
 use crate::waiter::WaitWords;
 use arrayvec::ArrayVec;
+use core_acts::Act;
 use core_state::View;
 use std::marker::{Brand, Model, PhantomData};
 
@@ -46,14 +46,14 @@ pub struct Seat<W: WaitWords> {
 
 impl<W: WaitWords> Model for Seat<W> {
     ghost use Rattle.std.specs.Prelude.{◌≡◌, []};
-    ghost use Rattle.seat_table.specs.Gains.{HasSide, TellsNow};
-    ghost use Rattle.seat_table.specs.Seats.{SeatAt, HasPlace, HasFew, IsInside, IsStamp, IsSlotOf, IsLastFound, shape_of};
+    ghost use Rattle.seat_table.specs.Seats.{SeatAt};
+    ghost use Rattle.seat_table.specs.Seated.{IsSeat};
 
     ghost Value = { SeatAt };
 
     ghost view = { λ s. record { table = record { id = s.seat.table_id; slots = s.slots; places = s.table_places; tickets = s.table_tickets }; view = s.seat.me.0; listed = s.listed.items } };
 
-    ghost invariant = { λ s. (s.seat.me.1 ≡ []) × HasPlace (record { id = s.seat.table_id; slots = s.slots; places = s.table_places; tickets = s.table_tickets }) s.seat.me.0 × HasSide (shape_of W.WAY (record { id = s.seat.table_id; slots = s.slots; places = s.table_places; tickets = s.table_tickets })) s.seat.me.0 × TellsNow (shape_of W.WAY (record { id = s.seat.table_id; slots = s.slots; places = s.table_places; tickets = s.table_tickets })) s.seat.me.0 × HasFew s.seat.me.0 × (s.seat.me.0.allowance.place ≡ s.place) × (s.seat.me.0.allowance.places ≡ s.places) × (s.seat.me.0.allowance.tickets ≡ s.tickets) × IsInside s.key s.seat.me.0.section × IsStamp s.stamp s.seat.me.0.section × IsSlotOf s.hand s.seat.me.0.hands.hand × IsSlotOf s.spare s.seat.me.0.hands.spare × (s.seat.me.0.counts.waits ≡ s.waits) × (s.seat.me.0.counts.turns ≡ s.turns) × IsLastFound s.slots s.free s.seat.me.0.latest.free × IsLastFound 0 s.front s.seat.me.0.latest.front };
+    ghost invariant = { λ s. (s.seat.me.1 ≡ []) × IsSeat W.WAY (record { id = s.seat.table_id; slots = s.slots; places = s.table_places; tickets = s.table_tickets }) (record { place = s.place; places = s.places; tickets = s.tickets; key = s.key; stamp = s.stamp; hand = s.hand; spare = s.spare; waits = s.waits; turns = s.turns; free = s.free; front = s.front }) s.seat.me.0 };
 }
 
 impl<W: WaitWords> Seat<W> {
@@ -270,7 +270,7 @@ impl<W: WaitWords> Seat<W> {
         requires table { (self.table ≡ table.now) × (other.table ≡ table.now) }
         requires quiet { IsQuietSeat self × IsQuietSeat other }
         ensures seat { (result.table ≡ self.table) × (result.listed ≡ self.listed) }
-        ensures told { (clock : ℕ) × Told (shape_of W.WAY table.now) (both_of self.view other.view) K3 clock result.view }
+        ensures told { (clock : ℕ) × Told (shape_of W.WAY table.now) (both_of self.view other.view) LoadClock clock result.view }
         ensures own { KeepsOwn self.view other.view result.view }
         ensures quiet { IsQuietSeat result }
     {
@@ -315,7 +315,7 @@ impl<W: WaitWords> Seat<W> {
             marker: _,
         } = other;
         table.table.shared.join_seat::<Glue>(&mut seat, theirs);
-        load(table, &mut seat, Case::K3, 0);
+        load(table, &mut seat, Act::LoadClock, 0);
         Seat {
             seat,
             slots,

@@ -1,179 +1,35 @@
-//! One call for each kind of step from K3 on, which makes one atomic step. Each tells the view after the step, and what the seat gained from
-//! the rule.
-ghost use Rattle.std.specs.Prelude.{◌≡◌, ℕ, ◌+◌, ◌<◌, if◌then◌else◌};
+//! One call for each step from K3 on, by the step's name in `core_acts`. Each makes one atomic step, and tells the view after it, and what the
+//! seat gained from the rule.
+ghost use Rattle.std.specs.Prelude.{◌≡◌, ℕ, ◌+◌, ◌<◌};
 ghost use Rattle.core_state.specs.declared.shape.Shape.{Shape};
 ghost use Rattle.core_state.specs.memory.Memory.{word_of};
-ghost use Rattle.seat_table.specs.declared.case.Case.TheVariants.{K3, K4, K5, K6, K7, K8, K9, K10, K11, K12, K13, K14, K15, K16, K17, K18, K19, K20, K21, K22, K23, K24, K25, K26, K27, K28, K29, K30, K31, K32, K33, K34, K35, K36, K37, ListLoad};
-ghost use Rattle.seat_table.specs.Cases.{Needs, look_field};
-ghost use Rattle.seat_table.specs.Told.{Told};
-ghost use Rattle.seat_table.specs.Seats.{shape_of, unlisted, is_in_hand, makes_spare};
+ghost use Rattle.core_acts.specs.declared.act.Act.TheVariants as acts;
+ghost use Rattle.core_acts.specs.Acts.{in_slot};
+ghost use Rattle.seat_table.specs.Told.{IsAsked, Told};
+ghost use Rattle.seat_table.specs.Seats.{shape_of, unlisted};
 
 use crate::access::{add, exchange, flip, load, store, subtract};
-use crate::case::Case;
 use crate::seat::Seat;
 use crate::table::CitrusTable;
 use crate::waiter::WaitWords;
 use arrayvec::ArrayVec;
+use core_acts::{Act, Part};
 use core_state::{side_field, tag_field};
 use key_interval::Keys;
 use prcu_marks::Side;
 
-/// K3: loads the clock, for the section that is entered next.
-pub fn k3<W: WaitWords>(table: &CitrusTable<W>, seat: &mut Seat<W>) -> u64
-    requires table { seat.old.table ≡ table.now }
-    requires needs { Needs (shape_of W.WAY table.now) seat.old.view K3 }
-    ensures seat { (seat.new.table ≡ seat.old.table) × (seat.new.listed ≡ seat.old.listed) }
-    ensures told { Told (shape_of W.WAY table.now) seat.old.view K3 result seat.new.view }
+// Where a part of a slot lies.
+fn part_word<W: WaitWords>(table: &CitrusTable<W>, slot: u32, part: Part) -> usize
+    ensures { result ≡ word_of (shape_of W.WAY table.now) (in_slot slot part) }
 {
-    load(table, &mut seat.seat, Case::K3, 0)
-}
-
-/// K4: stores the own key word.
-pub fn k4<W: WaitWords>(table: &CitrusTable<W>, seat: &mut Seat<W>, key: u64)
-    requires table { seat.old.table ≡ table.now }
-    requires needs { Needs (shape_of W.WAY table.now) seat.old.view (K4 key) }
-    ensures seat { (seat.new.table ≡ seat.old.table) × (seat.new.listed ≡ seat.old.listed) }
-    ensures told { Told (shape_of W.WAY table.now) seat.old.view (K4 key) key seat.new.view }
-{
-    let word = 3 + 2 * seat.place as usize;
-    store(table, &mut seat.seat, Case::K4 { key }, word, key);
-}
-
-/// K5: stores the own stamp: a section is entered.
-pub fn k5<W: WaitWords>(table: &CitrusTable<W>, seat: &mut Seat<W>, key: u64, stamp: u64)
-    requires table { seat.old.table ≡ table.now }
-    requires needs { Needs (shape_of W.WAY table.now) seat.old.view (K5 key stamp) }
-    ensures seat { (seat.new.table ≡ seat.old.table) × (seat.new.listed ≡ seat.old.listed) }
-    ensures told { Told (shape_of W.WAY table.now) seat.old.view (K5 key stamp) stamp seat.new.view }
-{
-    let word = 4 + 2 * seat.place as usize;
-    seat.key = Some(key);
-    seat.stamp = stamp;
-    store(table, &mut seat.seat, Case::K5 { key, stamp }, word, stamp);
-}
-
-/// K6: makes the own stamp idle: the section is left.
-pub fn k6<W: WaitWords>(table: &CitrusTable<W>, seat: &mut Seat<W>)
-    requires table { seat.old.table ≡ table.now }
-    requires needs { Needs (shape_of W.WAY table.now) seat.old.view K6 }
-    ensures seat { (seat.new.table ≡ seat.old.table) × (seat.new.listed ≡ seat.old.listed) }
-    ensures told { Told (shape_of W.WAY table.now) seat.old.view K6 18446744073709551615 seat.new.view }
-{
-    let word = 4 + 2 * seat.place as usize;
-    seat.key = None;
-    store(table, &mut seat.seat, Case::K6, word, u64::MAX);
-}
-
-/// K7: adds 1 to the clock: a wait for the readers with one of these keys begins.
-pub fn k7<W: WaitWords>(table: &CitrusTable<W>, seat: &mut Seat<W>, keys: Keys) -> u64
-    requires table { seat.old.table ≡ table.now }
-    requires needs { Needs (shape_of W.WAY table.now) seat.old.view (K7 keys.low keys.high) }
-    ensures seat { (seat.new.table ≡ seat.old.table) × (seat.new.listed ≡ seat.old.listed) }
-    ensures told { Told (shape_of W.WAY table.now) seat.old.view (K7 keys.low keys.high) result seat.new.view }
-{
-    let low = keys.low();
-    let high = keys.high();
-    seat.tickets -= 1;
-    seat.waits += 1;
-    add(table, &mut seat.seat, Case::K7 { low, high }, 0, 1)
-}
-
-// The word of a place that a look of the first waiter loads.
-fn look_word(place: u32, stamp: bool) -> usize
-    ensures { (k : Shape) → result ≡ word_of k (look_field place stamp) }
-{
-    if stamp {
-        4 + 2 * place as usize
-    } else {
-        3 + 2 * place as usize
-    }
-}
-
-/// K8: loads the stamp of a place, or its key, in a wait.
-pub fn k8<W: WaitWords>(
-    table: &CitrusTable<W>,
-    seat: &mut Seat<W>,
-    place: u32,
-    stamp: bool,
-    last: bool,
-) -> u64
-    requires table { seat.old.table ≡ table.now }
-    requires needs { Needs (shape_of W.WAY table.now) seat.old.view (K8 place stamp last) }
-    ensures seat { (seat.new.table ≡ seat.old.table) × (seat.new.listed ≡ seat.old.listed) }
-    ensures told { Told (shape_of W.WAY table.now) seat.old.view (K8 place stamp last) result seat.new.view }
-{
-    let word = look_word(place, stamp);
-    load(table, &mut seat.seat, Case::K8 { place, stamp, last }, word)
-}
-
-/// K9: loads the life of a slot in hand, the spare or a retired slot; with `keep` the slot in hand becomes the spare.
-pub fn k9<W: WaitWords>(table: &CitrusTable<W>, seat: &mut Seat<W>, slot: u32, keep: bool) -> u64
-    requires table { seat.old.table ≡ table.now }
-    requires needs { Needs (shape_of W.WAY table.now) seat.old.view (K9 slot keep) }
-    ensures seat { (seat.new.table ≡ seat.old.table) × (seat.new.listed ≡ seat.old.listed) }
-    ensures told { Told (shape_of W.WAY table.now) seat.old.view (K9 slot keep) result seat.new.view }
-{
-    let word = table.base + 9 * slot as usize + 2;
-    let found = load(table, &mut seat.seat, Case::K9 { slot, keep }, word);
-    if keep {
-        seat.hand = None;
-        seat.spare = Some(slot);
-    }
-    found
-}
-
-/// K10: exchanges the free count for one less.
-pub fn k10<W: WaitWords>(table: &CitrusTable<W>, seat: &mut Seat<W>, expected: u64) -> u64
-    requires table { seat.old.table ≡ table.now }
-    requires needs { Needs (shape_of W.WAY table.now) seat.old.view (K10 expected) }
-    ensures seat { (seat.new.table ≡ seat.old.table) × (seat.new.listed ≡ seat.old.listed) }
-    ensures told { Told (shape_of W.WAY table.now) seat.old.view (K10 expected) result seat.new.view }
-{
-    let found = exchange(
-        table,
-        &mut seat.seat,
-        Case::K10 { expected },
-        2,
-        expected,
-        expected - 1,
-    );
-    if found == expected {
-        seat.tickets -= 1;
-        seat.free = expected - 1;
-    } else {
-        seat.free = found;
-    }
-    found
-}
-
-/// K11: exchanges the state of a slot from 0 to 1: a free slot is seized.
-pub fn k11<W: WaitWords>(table: &CitrusTable<W>, seat: &mut Seat<W>, slot: u32) -> u64
-    requires table { seat.old.table ≡ table.now }
-    requires needs { Needs (shape_of W.WAY table.now) seat.old.view (K11 slot) }
-    ensures seat { (seat.new.table ≡ seat.old.table) × (seat.new.listed ≡ seat.old.listed) }
-    ensures told { Told (shape_of W.WAY table.now) seat.old.view (K11 slot) result seat.new.view }
-{
-    let word = table.base + 9 * slot as usize;
-    let found = exchange(table, &mut seat.seat, Case::K11 { slot }, word, 0, 1);
-    if found == 0 {
-        seat.hand = Some(slot);
-        seat.seized = slot;
-    }
-    found
-}
-
-// Whether the slot is the one in hand.
-fn holds<W: WaitWords>(seat: &Seat<W>, slot: u32) -> bool
-    ensures { result ≡ is_in_hand seat.now.view.hands.hand slot }
-{
-    seat.hand == Some(slot)
-}
-
-// Whether a store makes a retired slot the spare.
-fn makes_spare<W: WaitWords>(seat: &Seat<W>, slot: u32, field: u32) -> bool
-    ensures { result ≡ makes_spare seat.now.view slot field }
-{
-    field == 2 && seat.spare.is_none() && !holds(seat, slot)
+    let field = match part {
+        Part::Life => 2,
+        Part::Key => 3,
+        Part::Value => 4,
+        Part::Link { side } => side_field(side),
+        Part::Tag { side } => tag_field(side),
+    };
+    table.base + 9 * slot as usize + field as usize
 }
 
 // Takes a slot off the list of retired slots.
@@ -183,148 +39,362 @@ fn take_off(listed: &mut ArrayVec<u32, 16>, slot: u32)
     listed.retain(|x| *x != slot);
 }
 
-/// K12: stores into a slot in hand, the spare or a retired slot. A retired slot whose life is raised becomes the spare
-/// exactly where the place has none, and is then taken off the list.
-pub fn k12<W: WaitWords>(
+/// Loads the clock, for the section that is entered next (K3).
+pub fn load_clock<W: WaitWords>(table: &CitrusTable<W>, seat: &mut Seat<W>) -> u64
+    requires table { seat.old.table ≡ table.now }
+    requires asks { IsAsked (shape_of W.WAY table.now) seat.old.view acts.LoadClock }
+    ensures seat { (seat.new.table ≡ seat.old.table) × (seat.new.listed ≡ seat.old.listed) }
+    ensures told { Told (shape_of W.WAY table.now) seat.old.view acts.LoadClock result seat.new.view }
+{
+    load(table, &mut seat.seat, Act::LoadClock, 0)
+}
+
+/// Stores the own key word (K4).
+pub fn announce_key<W: WaitWords>(table: &CitrusTable<W>, seat: &mut Seat<W>, key: u64)
+    requires table { seat.old.table ≡ table.now }
+    requires asks { IsAsked (shape_of W.WAY table.now) seat.old.view (acts.AnnounceKey key) }
+    ensures seat { (seat.new.table ≡ seat.old.table) × (seat.new.listed ≡ seat.old.listed) }
+    ensures told { Told (shape_of W.WAY table.now) seat.old.view (acts.AnnounceKey key) key seat.new.view }
+{
+    let word = 3 + 2 * seat.place as usize;
+    store(table, &mut seat.seat, Act::AnnounceKey { key }, word, key);
+}
+
+/// Stores the own stamp: a section is entered (K5).
+pub fn enter_by_stamp<W: WaitWords>(
+    table: &CitrusTable<W>,
+    seat: &mut Seat<W>,
+    key: u64,
+    stamp: u64,
+)
+    requires table { seat.old.table ≡ table.now }
+    requires asks { IsAsked (shape_of W.WAY table.now) seat.old.view (acts.EnterByStamp key stamp) }
+    ensures seat { (seat.new.table ≡ seat.old.table) × (seat.new.listed ≡ seat.old.listed) }
+    ensures told { Told (shape_of W.WAY table.now) seat.old.view (acts.EnterByStamp key stamp) stamp seat.new.view }
+{
+    let word = 4 + 2 * seat.place as usize;
+    seat.key = Some(key);
+    seat.stamp = stamp;
+    let act = Act::EnterByStamp { key, stamp };
+    store(table, &mut seat.seat, act, word, stamp);
+}
+
+/// Makes the own stamp idle: the section is left (K6).
+pub fn leave_by_stamp<W: WaitWords>(table: &CitrusTable<W>, seat: &mut Seat<W>)
+    requires table { seat.old.table ≡ table.now }
+    requires asks { IsAsked (shape_of W.WAY table.now) seat.old.view acts.LeaveByStamp }
+    ensures seat { (seat.new.table ≡ seat.old.table) × (seat.new.listed ≡ seat.old.listed) }
+    ensures told { Told (shape_of W.WAY table.now) seat.old.view acts.LeaveByStamp 18446744073709551615 seat.new.view }
+{
+    let word = 4 + 2 * seat.place as usize;
+    seat.key = None;
+    store(table, &mut seat.seat, Act::LeaveByStamp, word, u64::MAX);
+}
+
+/// Adds 1 to the clock: a wait for the readers with one of these keys begins (K7).
+pub fn begin_wait<W: WaitWords>(table: &CitrusTable<W>, seat: &mut Seat<W>, keys: Keys) -> u64
+    requires table { seat.old.table ≡ table.now }
+    requires asks { IsAsked (shape_of W.WAY table.now) seat.old.view (acts.BeginWait keys.low keys.high) }
+    ensures seat { (seat.new.table ≡ seat.old.table) × (seat.new.listed ≡ seat.old.listed) }
+    ensures told { Told (shape_of W.WAY table.now) seat.old.view (acts.BeginWait keys.low keys.high) result seat.new.view }
+{
+    let low = keys.low();
+    let high = keys.high();
+    seat.tickets -= 1;
+    seat.waits += 1;
+    add(table, &mut seat.seat, Act::BeginWait { low, high }, 0, 1)
+}
+
+/// Loads the key of a place, in a wait (K8).
+pub fn look_key<W: WaitWords>(
+    table: &CitrusTable<W>,
+    seat: &mut Seat<W>,
+    place: u32,
+    last: bool,
+) -> u64
+    requires table { seat.old.table ≡ table.now }
+    requires asks { IsAsked (shape_of W.WAY table.now) seat.old.view (acts.LookKey place last) }
+    ensures seat { (seat.new.table ≡ seat.old.table) × (seat.new.listed ≡ seat.old.listed) }
+    ensures told { Told (shape_of W.WAY table.now) seat.old.view (acts.LookKey place last) result seat.new.view }
+{
+    let word = 3 + 2 * place as usize;
+    load(table, &mut seat.seat, Act::LookKey { place, last }, word)
+}
+
+/// Loads the stamp of a place, in a wait (K8).
+pub fn look_stamp<W: WaitWords>(
+    table: &CitrusTable<W>,
+    seat: &mut Seat<W>,
+    place: u32,
+    last: bool,
+) -> u64
+    requires table { seat.old.table ≡ table.now }
+    requires asks { IsAsked (shape_of W.WAY table.now) seat.old.view (acts.LookStamp place last) }
+    ensures seat { (seat.new.table ≡ seat.old.table) × (seat.new.listed ≡ seat.old.listed) }
+    ensures told { Told (shape_of W.WAY table.now) seat.old.view (acts.LookStamp place last) result seat.new.view }
+{
+    let word = 4 + 2 * place as usize;
+    load(table, &mut seat.seat, Act::LookStamp { place, last }, word)
+}
+
+/// Loads the life of the slot in hand or the spare (K9).
+pub fn load_own_life<W: WaitWords>(table: &CitrusTable<W>, seat: &mut Seat<W>, slot: u32) -> u64
+    requires table { seat.old.table ≡ table.now }
+    requires asks { IsAsked (shape_of W.WAY table.now) seat.old.view (acts.LoadOwnLife slot) }
+    ensures seat { (seat.new.table ≡ seat.old.table) × (seat.new.listed ≡ seat.old.listed) }
+    ensures told { Told (shape_of W.WAY table.now) seat.old.view (acts.LoadOwnLife slot) result seat.new.view }
+{
+    let word = part_word(table, slot, Part::Life);
+    load(table, &mut seat.seat, Act::LoadOwnLife { slot }, word)
+}
+
+/// Loads the life of the slot in hand, which becomes the spare (K9).
+pub fn keep_as_spare<W: WaitWords>(table: &CitrusTable<W>, seat: &mut Seat<W>, slot: u32) -> u64
+    requires table { seat.old.table ≡ table.now }
+    requires asks { IsAsked (shape_of W.WAY table.now) seat.old.view (acts.KeepAsSpare slot) }
+    ensures seat { (seat.new.table ≡ seat.old.table) × (seat.new.listed ≡ seat.old.listed) }
+    ensures told { Told (shape_of W.WAY table.now) seat.old.view (acts.KeepAsSpare slot) result seat.new.view }
+{
+    let word = part_word(table, slot, Part::Life);
+    let found = load(table, &mut seat.seat, Act::KeepAsSpare { slot }, word);
+    seat.hand = None;
+    seat.spare = Some(slot);
+    found
+}
+
+/// Loads the life of a retired slot (K9).
+pub fn load_retired_life<W: WaitWords>(table: &CitrusTable<W>, seat: &mut Seat<W>, slot: u32) -> u64
+    requires table { seat.old.table ≡ table.now }
+    requires asks { IsAsked (shape_of W.WAY table.now) seat.old.view (acts.LoadRetiredLife slot) }
+    ensures seat { (seat.new.table ≡ seat.old.table) × (seat.new.listed ≡ seat.old.listed) }
+    ensures told { Told (shape_of W.WAY table.now) seat.old.view (acts.LoadRetiredLife slot) result seat.new.view }
+{
+    let word = part_word(table, slot, Part::Life);
+    load(table, &mut seat.seat, Act::LoadRetiredLife { slot }, word)
+}
+
+/// Exchanges the free count for one less (K10).
+pub fn reserve<W: WaitWords>(table: &CitrusTable<W>, seat: &mut Seat<W>, expected: u64) -> u64
+    requires table { seat.old.table ≡ table.now }
+    requires asks { IsAsked (shape_of W.WAY table.now) seat.old.view (acts.Reserve expected) }
+    ensures seat { (seat.new.table ≡ seat.old.table) × (seat.new.listed ≡ seat.old.listed) }
+    ensures told { Told (shape_of W.WAY table.now) seat.old.view (acts.Reserve expected) result seat.new.view }
+{
+    let act = Act::Reserve { expected };
+    let found = exchange(table, &mut seat.seat, act, 2, expected, expected - 1);
+    if found == expected {
+        seat.tickets -= 1;
+        seat.free = expected - 1;
+    } else {
+        seat.free = found;
+    }
+    found
+}
+
+/// Exchanges the state of a slot from 0 to 1: a free slot is seized (K11).
+pub fn seize<W: WaitWords>(table: &CitrusTable<W>, seat: &mut Seat<W>, slot: u32) -> u64
+    requires table { seat.old.table ≡ table.now }
+    requires asks { IsAsked (shape_of W.WAY table.now) seat.old.view (acts.Seize slot) }
+    ensures seat { (seat.new.table ≡ seat.old.table) × (seat.new.listed ≡ seat.old.listed) }
+    ensures told { Told (shape_of W.WAY table.now) seat.old.view (acts.Seize slot) result seat.new.view }
+{
+    let word = table.base + 9 * slot as usize;
+    let found = exchange(table, &mut seat.seat, Act::Seize { slot }, word, 0, 1);
+    if found == 0 {
+        seat.hand = Some(slot);
+        seat.seized = slot;
+    }
+    found
+}
+
+/// Stores the key, the value or a link of the slot in hand or the spare (K12).
+pub fn fill<W: WaitWords>(
     table: &CitrusTable<W>,
     seat: &mut Seat<W>,
     slot: u32,
-    field: u32,
-    value: u64,
+    part: Part,
+    number: u64,
 )
     requires table { seat.old.table ≡ table.now }
-    requires needs { Needs (shape_of W.WAY table.now) seat.old.view (K12 slot field value) }
-    ensures table { seat.new.table ≡ seat.old.table }
-    ensures listed { seat.new.listed ≡ (if makes_spare seat.old.view slot field then unlisted slot seat.old.listed else seat.old.listed) }
-    ensures told { Told (shape_of W.WAY table.now) seat.old.view (K12 slot field value) value seat.new.view }
+    requires asks { IsAsked (shape_of W.WAY table.now) seat.old.view (acts.Fill slot part number) }
+    ensures seat { (seat.new.table ≡ seat.old.table) × (seat.new.listed ≡ seat.old.listed) }
+    ensures told { Told (shape_of W.WAY table.now) seat.old.view (acts.Fill slot part number) number seat.new.view }
 {
-    let word = table.base + 9 * slot as usize + field as usize;
-    if makes_spare(seat, slot, field) {
-        take_off(&mut seat.listed, slot);
-        seat.spare = Some(slot);
-        store(
-            table,
-            &mut seat.seat,
-            Case::K12 { slot, field, value },
-            word,
-            value,
-        );
-        return;
-    }
-    store(
-        table,
-        &mut seat.seat,
-        Case::K12 { slot, field, value },
-        word,
-        value,
-    );
+    let word = part_word(table, slot, part);
+    let act = Act::Fill { slot, part, number };
+    store(table, &mut seat.seat, act, word, number);
 }
 
-/// K13: exchanges a slot's lock from 0 to the place plus 1.
-pub fn k13<W: WaitWords>(table: &CitrusTable<W>, seat: &mut Seat<W>, slot: u32) -> u64
+/// Raises the life of the slot in hand (K12).
+pub fn raise_in_hand<W: WaitWords>(
+    table: &CitrusTable<W>,
+    seat: &mut Seat<W>,
+    slot: u32,
+    number: u64,
+)
     requires table { seat.old.table ≡ table.now }
-    requires needs { Needs (shape_of W.WAY table.now) seat.old.view (K13 slot) }
+    requires asks { IsAsked (shape_of W.WAY table.now) seat.old.view (acts.RaiseInHand slot number) }
     ensures seat { (seat.new.table ≡ seat.old.table) × (seat.new.listed ≡ seat.old.listed) }
-    ensures told { Told (shape_of W.WAY table.now) seat.old.view (K13 slot) result seat.new.view }
+    ensures told { Told (shape_of W.WAY table.now) seat.old.view (acts.RaiseInHand slot number) number seat.new.view }
+{
+    let word = part_word(table, slot, Part::Life);
+    let act = Act::RaiseInHand { slot, number };
+    store(table, &mut seat.seat, act, word, number);
+}
+
+/// Raises the life of a retired slot, which becomes the spare and is taken off the list (K12).
+pub fn raise_to_spare<W: WaitWords>(
+    table: &CitrusTable<W>,
+    seat: &mut Seat<W>,
+    slot: u32,
+    number: u64,
+)
+    requires table { seat.old.table ≡ table.now }
+    requires asks { IsAsked (shape_of W.WAY table.now) seat.old.view (acts.RaiseToSpare slot number) }
+    ensures table { seat.new.table ≡ seat.old.table }
+    ensures listed { seat.new.listed ≡ unlisted slot seat.old.listed }
+    ensures told { Told (shape_of W.WAY table.now) seat.old.view (acts.RaiseToSpare slot number) number seat.new.view }
+{
+    let word = part_word(table, slot, Part::Life);
+    take_off(&mut seat.listed, slot);
+    seat.spare = Some(slot);
+    let act = Act::RaiseToSpare { slot, number };
+    store(table, &mut seat.seat, act, word, number);
+}
+
+/// Raises the life of a retired slot, where the place has a spare (K12).
+pub fn raise_retired<W: WaitWords>(
+    table: &CitrusTable<W>,
+    seat: &mut Seat<W>,
+    slot: u32,
+    number: u64,
+)
+    requires table { seat.old.table ≡ table.now }
+    requires asks { IsAsked (shape_of W.WAY table.now) seat.old.view (acts.RaiseRetired slot number) }
+    ensures seat { (seat.new.table ≡ seat.old.table) × (seat.new.listed ≡ seat.old.listed) }
+    ensures told { Told (shape_of W.WAY table.now) seat.old.view (acts.RaiseRetired slot number) number seat.new.view }
+{
+    let word = part_word(table, slot, Part::Life);
+    let act = Act::RaiseRetired { slot, number };
+    store(table, &mut seat.seat, act, word, number);
+}
+
+/// Exchanges a slot's lock from 0 to the place plus 1 (K13).
+pub fn lock<W: WaitWords>(table: &CitrusTable<W>, seat: &mut Seat<W>, slot: u32) -> u64
+    requires table { seat.old.table ≡ table.now }
+    requires asks { IsAsked (shape_of W.WAY table.now) seat.old.view (acts.Lock slot) }
+    ensures seat { (seat.new.table ≡ seat.old.table) × (seat.new.listed ≡ seat.old.listed) }
+    ensures told { Told (shape_of W.WAY table.now) seat.old.view (acts.Lock slot) result seat.new.view }
 {
     let word = table.base + 9 * slot as usize + 1;
     let mine = seat.place as u64 + 1;
-    exchange(table, &mut seat.seat, Case::K13 { slot }, word, 0, mine)
+    exchange(table, &mut seat.seat, Act::Lock { slot }, word, 0, mine)
 }
 
-/// K14: gives a lock up.
-pub fn k14<W: WaitWords>(table: &CitrusTable<W>, seat: &mut Seat<W>, slot: u32)
+/// Gives a lock up (K14).
+pub fn unlock<W: WaitWords>(table: &CitrusTable<W>, seat: &mut Seat<W>, slot: u32)
     requires table { seat.old.table ≡ table.now }
-    requires needs { Needs (shape_of W.WAY table.now) seat.old.view (K14 slot) }
+    requires asks { IsAsked (shape_of W.WAY table.now) seat.old.view (acts.Unlock slot) }
     ensures seat { (seat.new.table ≡ seat.old.table) × (seat.new.listed ≡ seat.old.listed) }
-    ensures told { Told (shape_of W.WAY table.now) seat.old.view (K14 slot) 0 seat.new.view }
+    ensures told { Told (shape_of W.WAY table.now) seat.old.view (acts.Unlock slot) 0 seat.new.view }
 {
     let word = table.base + 9 * slot as usize + 1;
-    store(table, &mut seat.seat, Case::K14 { slot }, word, 0);
+    store(table, &mut seat.seat, Act::Unlock { slot }, word, 0);
 }
 
-/// K15: frees the slot in hand, or a retired slot, which is then taken off the list.
-pub fn k15<W: WaitWords>(table: &CitrusTable<W>, seat: &mut Seat<W>, slot: u32)
+/// Frees the slot in hand (K15).
+pub fn free_in_hand<W: WaitWords>(table: &CitrusTable<W>, seat: &mut Seat<W>, slot: u32)
     requires table { seat.old.table ≡ table.now }
-    requires needs { Needs (shape_of W.WAY table.now) seat.old.view (K15 slot) }
-    ensures table { seat.new.table ≡ seat.old.table }
-    ensures listed { seat.new.listed ≡ (if is_in_hand seat.old.view.hands.hand slot then seat.old.listed else unlisted slot seat.old.listed) }
-    ensures told { Told (shape_of W.WAY table.now) seat.old.view (K15 slot) 0 seat.new.view }
+    requires asks { IsAsked (shape_of W.WAY table.now) seat.old.view (acts.FreeInHand slot) }
+    ensures seat { (seat.new.table ≡ seat.old.table) × (seat.new.listed ≡ seat.old.listed) }
+    ensures told { Told (shape_of W.WAY table.now) seat.old.view (acts.FreeInHand slot) 0 seat.new.view }
 {
     let word = table.base + 9 * slot as usize;
-    if holds(seat, slot) {
-        seat.hand = None;
-        store(table, &mut seat.seat, Case::K15 { slot }, word, 0);
-        return;
-    }
-    take_off(&mut seat.listed, slot);
-    store(table, &mut seat.seat, Case::K15 { slot }, word, 0);
+    seat.hand = None;
+    store(table, &mut seat.seat, Act::FreeInHand { slot }, word, 0);
 }
 
-/// K16: adds 1 to the free count.
-pub fn k16<W: WaitWords>(table: &CitrusTable<W>, seat: &mut Seat<W>)
+/// Frees a retired slot, which is taken off the list (K15).
+pub fn free_retired<W: WaitWords>(table: &CitrusTable<W>, seat: &mut Seat<W>, slot: u32)
     requires table { seat.old.table ≡ table.now }
-    requires needs { Needs (shape_of W.WAY table.now) seat.old.view K16 }
-    ensures seat { (seat.new.table ≡ seat.old.table) × (seat.new.listed ≡ seat.old.listed) }
-    ensures told { (found : ℕ) × Told (shape_of W.WAY table.now) seat.old.view K16 found seat.new.view }
+    requires asks { IsAsked (shape_of W.WAY table.now) seat.old.view (acts.FreeRetired slot) }
+    ensures table { seat.new.table ≡ seat.old.table }
+    ensures listed { seat.new.listed ≡ unlisted slot seat.old.listed }
+    ensures told { Told (shape_of W.WAY table.now) seat.old.view (acts.FreeRetired slot) 0 seat.new.view }
 {
-    let found = add(table, &mut seat.seat, Case::K16, 2, 1);
+    let word = table.base + 9 * slot as usize;
+    take_off(&mut seat.listed, slot);
+    store(table, &mut seat.seat, Act::FreeRetired { slot }, word, 0);
+}
+
+/// Adds 1 to the free count (K16).
+pub fn count_free<W: WaitWords>(table: &CitrusTable<W>, seat: &mut Seat<W>)
+    requires table { seat.old.table ≡ table.now }
+    requires asks { IsAsked (shape_of W.WAY table.now) seat.old.view acts.CountFree }
+    ensures seat { (seat.new.table ≡ seat.old.table) × (seat.new.listed ≡ seat.old.listed) }
+    ensures told { (found : ℕ) × Told (shape_of W.WAY table.now) seat.old.view acts.CountFree found seat.new.view }
+{
+    let found = add(table, &mut seat.seat, Act::CountFree, 2, 1);
     seat.free = found + 1;
 }
 
-/// K17: loads a field of a slot, in a search.
-pub fn k17<W: WaitWords>(table: &CitrusTable<W>, seat: &mut Seat<W>, slot: u32, field: u32) -> u64
+/// Loads a word of a slot, in a search (K17).
+pub fn search_load<W: WaitWords>(
+    table: &CitrusTable<W>,
+    seat: &mut Seat<W>,
+    slot: u32,
+    part: Part,
+) -> u64
     requires table { seat.old.table ≡ table.now }
-    requires needs { Needs (shape_of W.WAY table.now) seat.old.view (K17 slot field) }
+    requires asks { IsAsked (shape_of W.WAY table.now) seat.old.view (acts.SearchLoad slot part) }
     ensures seat { (seat.new.table ≡ seat.old.table) × (seat.new.listed ≡ seat.old.listed) }
-    ensures told { Told (shape_of W.WAY table.now) seat.old.view (K17 slot field) result seat.new.view }
+    ensures told { Told (shape_of W.WAY table.now) seat.old.view (acts.SearchLoad slot part) result seat.new.view }
 {
-    let word = table.base + 9 * slot as usize + field as usize;
-    load(table, &mut seat.seat, Case::K17 { slot, field }, word)
+    let word = part_word(table, slot, part);
+    load(table, &mut seat.seat, Act::SearchLoad { slot, part }, word)
 }
 
-/// K17: loads a field of a slot, in a listing.
+/// Loads a word of a slot, in a listing (K17).
 pub fn list_load<W: WaitWords>(
     table: &CitrusTable<W>,
     seat: &mut Seat<W>,
     slot: u32,
-    field: u32,
+    part: Part,
 ) -> u64
     requires table { seat.old.table ≡ table.now }
-    requires needs { Needs (shape_of W.WAY table.now) seat.old.view (ListLoad slot field) }
+    requires asks { IsAsked (shape_of W.WAY table.now) seat.old.view (acts.ListLoad slot part) }
     ensures seat { (seat.new.table ≡ seat.old.table) × (seat.new.listed ≡ seat.old.listed) }
-    ensures told { Told (shape_of W.WAY table.now) seat.old.view (ListLoad slot field) result seat.new.view }
+    ensures told { Told (shape_of W.WAY table.now) seat.old.view (acts.ListLoad slot part) result seat.new.view }
 {
-    let word = table.base + 9 * slot as usize + field as usize;
-    load(table, &mut seat.seat, Case::ListLoad { slot, field }, word)
+    let word = part_word(table, slot, part);
+    load(table, &mut seat.seat, Act::ListLoad { slot, part }, word)
 }
 
-/// K18: loads a field of a slot under its lock.
-pub fn k18<W: WaitWords>(table: &CitrusTable<W>, seat: &mut Seat<W>, slot: u32, field: u32) -> u64
+/// Loads a word of a slot under its lock (K18).
+pub fn locked_load<W: WaitWords>(
+    table: &CitrusTable<W>,
+    seat: &mut Seat<W>,
+    slot: u32,
+    part: Part,
+) -> u64
     requires table { seat.old.table ≡ table.now }
-    requires needs { Needs (shape_of W.WAY table.now) seat.old.view (K18 slot field) }
+    requires asks { IsAsked (shape_of W.WAY table.now) seat.old.view (acts.LockedLoad slot part) }
     ensures seat { (seat.new.table ≡ seat.old.table) × (seat.new.listed ≡ seat.old.listed) }
-    ensures told { Told (shape_of W.WAY table.now) seat.old.view (K18 slot field) result seat.new.view }
+    ensures told { Told (shape_of W.WAY table.now) seat.old.view (acts.LockedLoad slot part) result seat.new.view }
 {
-    let word = table.base + 9 * slot as usize + field as usize;
-    load(table, &mut seat.seat, Case::K18 { slot, field }, word)
+    let word = part_word(table, slot, part);
+    load(table, &mut seat.seat, Act::LockedLoad { slot, part }, word)
 }
 
-/// K19: exchanges the front from an even number to the next.
-pub fn k19<W: WaitWords>(table: &CitrusTable<W>, seat: &mut Seat<W>, expected: u64) -> u64
+/// Exchanges the front from an even number to the next (K19).
+pub fn open_commit<W: WaitWords>(table: &CitrusTable<W>, seat: &mut Seat<W>, expected: u64) -> u64
     requires table { seat.old.table ≡ table.now }
-    requires needs { Needs (shape_of W.WAY table.now) seat.old.view (K19 expected) }
+    requires asks { IsAsked (shape_of W.WAY table.now) seat.old.view (acts.OpenCommit expected) }
     ensures seat { (seat.new.table ≡ seat.old.table) × (seat.new.listed ≡ seat.old.listed) }
-    ensures told { Told (shape_of W.WAY table.now) seat.old.view (K19 expected) result seat.new.view }
+    ensures told { Told (shape_of W.WAY table.now) seat.old.view (acts.OpenCommit expected) result seat.new.view }
 {
-    let found = exchange(
-        table,
-        &mut seat.seat,
-        Case::K19 { expected },
-        1,
-        expected,
-        expected + 1,
-    );
+    let act = Act::OpenCommit { expected };
+    let found = exchange(table, &mut seat.seat, act, 1, expected, expected + 1);
     seat.front = if found == expected {
         expected + 1
     } else {
@@ -333,80 +403,80 @@ pub fn k19<W: WaitWords>(table: &CitrusTable<W>, seat: &mut Seat<W>, expected: u
     found
 }
 
-/// K20: links the slot in hand as a leaf.
-pub fn k20<W: WaitWords>(
+/// Links the slot in hand as a leaf (K20).
+pub fn link_leaf<W: WaitWords>(
     table: &CitrusTable<W>,
     seat: &mut Seat<W>,
     slot: u32,
     side: Side,
     leaf: u32,
+    key: u64,
+    value: u64,
 )
     requires table { seat.old.table ≡ table.now }
-    requires needs { Needs (shape_of W.WAY table.now) seat.old.view (K20 slot side leaf) }
+    requires asks { IsAsked (shape_of W.WAY table.now) seat.old.view (acts.LinkLeaf slot side leaf key value) }
     ensures seat { (seat.new.table ≡ seat.old.table) × (seat.new.listed ≡ seat.old.listed) }
-    ensures told { Told (shape_of W.WAY table.now) seat.old.view (K20 slot side leaf) leaf seat.new.view }
+    ensures told { Told (shape_of W.WAY table.now) seat.old.view (acts.LinkLeaf slot side leaf key value) leaf seat.new.view }
 {
-    let word = table.base + 9 * slot as usize + side_field(side) as usize;
+    let word = part_word(table, slot, Part::Link { side });
     seat.tickets -= 1;
     seat.hand = None;
-    store(
-        table,
-        &mut seat.seat,
-        Case::K20 { slot, side, leaf },
-        word,
-        leaf as u64,
-    );
+    let act = Act::LinkLeaf {
+        slot,
+        side,
+        leaf,
+        key,
+        value,
+    };
+    store(table, &mut seat.seat, act, word, leaf as u64);
 }
 
-/// K21: bypasses a marked node, where child 0 is none.
-pub fn k21<W: WaitWords>(
+/// Bypasses a marked node, where child 0 is none (K21).
+pub fn bypass<W: WaitWords>(
     table: &CitrusTable<W>,
     seat: &mut Seat<W>,
     parent: u32,
     side: Side,
     node: u32,
     child: u32,
+    key: u64,
 )
     requires table { seat.old.table ≡ table.now }
-    requires needs { Needs (shape_of W.WAY table.now) seat.old.view (K21 parent side node child) }
+    requires asks { IsAsked (shape_of W.WAY table.now) seat.old.view (acts.Bypass parent side node child key) }
     ensures seat { (seat.new.table ≡ seat.old.table) × (seat.new.listed ≡ seat.old.listed) }
-    ensures told { Told (shape_of W.WAY table.now) seat.old.view (K21 parent side node child) child seat.new.view }
+    ensures told { Told (shape_of W.WAY table.now) seat.old.view (acts.Bypass parent side node child key) child seat.new.view }
 {
-    let word = table.base + 9 * parent as usize + side_field(side) as usize;
+    let word = part_word(table, parent, Part::Link { side });
     seat.tickets -= 1;
-    store(
-        table,
-        &mut seat.seat,
-        Case::K21 {
-            parent,
-            side,
-            node,
-            child,
-        },
-        word,
-        child as u64,
-    );
+    let act = Act::Bypass {
+        parent,
+        side,
+        node,
+        child,
+        key,
+    };
+    store(table, &mut seat.seat, act, word, child as u64);
 }
 
-/// K22: marks a node.
-pub fn k22<W: WaitWords>(table: &CitrusTable<W>, seat: &mut Seat<W>, slot: u32, life: u64)
+/// Marks a node (K22).
+pub fn mark<W: WaitWords>(table: &CitrusTable<W>, seat: &mut Seat<W>, slot: u32, life: u64)
     requires table { seat.old.table ≡ table.now }
-    requires needs { Needs (shape_of W.WAY table.now) seat.old.view (K22 slot life) }
+    requires asks { IsAsked (shape_of W.WAY table.now) seat.old.view (acts.Mark slot life) }
     ensures seat { (seat.new.table ≡ seat.old.table) × (seat.new.listed ≡ seat.old.listed) }
-    ensures told { Told (shape_of W.WAY table.now) seat.old.view (K22 slot life) (life + 1) seat.new.view }
+    ensures told { Told (shape_of W.WAY table.now) seat.old.view (acts.Mark slot life) (life + 1) seat.new.view }
 {
-    let word = table.base + 9 * slot as usize + 2;
+    let word = part_word(table, slot, Part::Life);
     store(
         table,
         &mut seat.seat,
-        Case::K22 { slot, life },
+        Act::Mark { slot, life },
         word,
         life + 1,
     );
 }
 
-/// K23: raises the tag of a side.
-pub fn k23<W: WaitWords>(
+/// Raises the tag of a side (K23).
+pub fn raise_tag<W: WaitWords>(
     table: &CitrusTable<W>,
     seat: &mut Seat<W>,
     slot: u32,
@@ -415,33 +485,28 @@ pub fn k23<W: WaitWords>(
 )
     requires table { seat.old.table ≡ table.now }
     requires fits { tag < 18446744073709551615 }
-    requires needs { Needs (shape_of W.WAY table.now) seat.old.view (K23 slot side tag) }
+    requires asks { IsAsked (shape_of W.WAY table.now) seat.old.view (acts.RaiseTag slot side tag) }
     ensures seat { (seat.new.table ≡ seat.old.table) × (seat.new.listed ≡ seat.old.listed) }
-    ensures told { Told (shape_of W.WAY table.now) seat.old.view (K23 slot side tag) (tag + 1) seat.new.view }
+    ensures told { Told (shape_of W.WAY table.now) seat.old.view (acts.RaiseTag slot side tag) (tag + 1) seat.new.view }
 {
-    let word = table.base + 9 * slot as usize + tag_field(side) as usize;
-    store(
-        table,
-        &mut seat.seat,
-        Case::K23 { slot, side, tag },
-        word,
-        tag + 1,
-    );
+    let word = part_word(table, slot, Part::Tag { side });
+    let act = Act::RaiseTag { slot, side, tag };
+    store(table, &mut seat.seat, act, word, tag + 1);
 }
 
-/// K24: makes the front even again.
-pub fn k24<W: WaitWords>(table: &CitrusTable<W>, seat: &mut Seat<W>, front: u64)
+/// Makes the front even again (K24).
+pub fn close_commit<W: WaitWords>(table: &CitrusTable<W>, seat: &mut Seat<W>, front: u64)
     requires table { seat.old.table ≡ table.now }
-    requires needs { Needs (shape_of W.WAY table.now) seat.old.view (K24 front) }
+    requires asks { IsAsked (shape_of W.WAY table.now) seat.old.view (acts.CloseCommit front) }
     ensures seat { (seat.new.table ≡ seat.old.table) × (seat.new.listed ≡ seat.old.listed) }
-    ensures told { Told (shape_of W.WAY table.now) seat.old.view (K24 front) front seat.new.view }
+    ensures told { Told (shape_of W.WAY table.now) seat.old.view (acts.CloseCommit front) front seat.new.view }
 {
     seat.front = front;
-    store(table, &mut seat.seat, Case::K24 { front }, 1, front);
+    store(table, &mut seat.seat, Act::CloseCommit { front }, 1, front);
 }
 
-/// K25: links a copy of the successor, which is the spare, in a node's place.
-pub fn k25<W: WaitWords>(
+/// Links a copy of the successor, which is the spare, in a node's place (K25).
+pub fn link_copy<W: WaitWords>(
     table: &CitrusTable<W>,
     seat: &mut Seat<W>,
     parent: u32,
@@ -450,33 +515,32 @@ pub fn k25<W: WaitWords>(
     copy: u32,
     old: u32,
     old_parent: u32,
+    key: u64,
+    next_key: u64,
 )
     requires table { seat.old.table ≡ table.now }
-    requires needs { Needs (shape_of W.WAY table.now) seat.old.view (K25 parent side node copy old old_parent) }
+    requires asks { IsAsked (shape_of W.WAY table.now) seat.old.view (acts.LinkCopy parent side node copy old old_parent key next_key) }
     ensures seat { (seat.new.table ≡ seat.old.table) × (seat.new.listed ≡ seat.old.listed) }
-    ensures told { Told (shape_of W.WAY table.now) seat.old.view (K25 parent side node copy old old_parent) copy seat.new.view }
+    ensures told { Told (shape_of W.WAY table.now) seat.old.view (acts.LinkCopy parent side node copy old old_parent key next_key) copy seat.new.view }
 {
-    let word = table.base + 9 * parent as usize + side_field(side) as usize;
+    let word = part_word(table, parent, Part::Link { side });
     seat.tickets -= 1;
     seat.spare = None;
-    store(
-        table,
-        &mut seat.seat,
-        Case::K25 {
-            parent,
-            side,
-            node,
-            copy,
-            old,
-            old_parent,
-        },
-        word,
-        copy as u64,
-    );
+    let act = Act::LinkCopy {
+        parent,
+        side,
+        node,
+        copy,
+        old,
+        old_parent,
+        key,
+        next_key,
+    };
+    store(table, &mut seat.seat, act, word, copy as u64);
 }
 
-/// K26: unlinks the old successor from its parent's left.
-pub fn k26<W: WaitWords>(
+/// Unlinks the old successor from its parent's left (K26).
+pub fn unlink_left<W: WaitWords>(
     table: &CitrusTable<W>,
     seat: &mut Seat<W>,
     parent: u32,
@@ -484,22 +548,17 @@ pub fn k26<W: WaitWords>(
     child: u32,
 )
     requires table { seat.old.table ≡ table.now }
-    requires needs { Needs (shape_of W.WAY table.now) seat.old.view (K26 parent old child) }
+    requires asks { IsAsked (shape_of W.WAY table.now) seat.old.view (acts.UnlinkLeft parent old child) }
     ensures seat { (seat.new.table ≡ seat.old.table) × (seat.new.listed ≡ seat.old.listed) }
-    ensures told { Told (shape_of W.WAY table.now) seat.old.view (K26 parent old child) child seat.new.view }
+    ensures told { Told (shape_of W.WAY table.now) seat.old.view (acts.UnlinkLeft parent old child) child seat.new.view }
 {
-    let word = table.base + 9 * parent as usize + 5;
-    store(
-        table,
-        &mut seat.seat,
-        Case::K26 { parent, old, child },
-        word,
-        child as u64,
-    );
+    let word = part_word(table, parent, Part::Link { side: Side::Left });
+    let act = Act::UnlinkLeft { parent, old, child };
+    store(table, &mut seat.seat, act, word, child as u64);
 }
 
-/// K27: unlinks the old successor from the copy's right.
-pub fn k27<W: WaitWords>(
+/// Unlinks the old successor from the copy's right (K27).
+pub fn unlink_right<W: WaitWords>(
     table: &CitrusTable<W>,
     seat: &mut Seat<W>,
     copy: u32,
@@ -507,58 +566,70 @@ pub fn k27<W: WaitWords>(
     child: u32,
 )
     requires table { seat.old.table ≡ table.now }
-    requires needs { Needs (shape_of W.WAY table.now) seat.old.view (K27 copy old child) }
+    requires asks { IsAsked (shape_of W.WAY table.now) seat.old.view (acts.UnlinkRight copy old child) }
     ensures seat { (seat.new.table ≡ seat.old.table) × (seat.new.listed ≡ seat.old.listed) }
-    ensures told { Told (shape_of W.WAY table.now) seat.old.view (K27 copy old child) child seat.new.view }
+    ensures told { Told (shape_of W.WAY table.now) seat.old.view (acts.UnlinkRight copy old child) child seat.new.view }
 {
-    let word = table.base + 9 * copy as usize + 6;
-    store(
-        table,
-        &mut seat.seat,
-        Case::K27 { copy, old, child },
-        word,
-        child as u64,
-    );
+    let word = part_word(table, copy, Part::Link { side: Side::Right });
+    let act = Act::UnlinkRight { copy, old, child };
+    store(table, &mut seat.seat, act, word, child as u64);
 }
 
-/// K28: loads a gate.
-pub fn k28<W: WaitWords>(table: &CitrusTable<W>, seat: &mut Seat<W>, class: u32) -> u64
+/// Loads a gate (K28).
+pub fn load_gate<W: WaitWords>(table: &CitrusTable<W>, seat: &mut Seat<W>, class: u32) -> u64
     requires table { seat.old.table ≡ table.now }
-    requires needs { Needs (shape_of W.WAY table.now) seat.old.view (K28 class) }
+    requires asks { IsAsked (shape_of W.WAY table.now) seat.old.view (acts.LoadGate class) }
     ensures seat { (seat.new.table ≡ seat.old.table) × (seat.new.listed ≡ seat.old.listed) }
-    ensures told { Told (shape_of W.WAY table.now) seat.old.view (K28 class) result seat.new.view }
+    ensures told { Told (shape_of W.WAY table.now) seat.old.view (acts.LoadGate class) result seat.new.view }
 {
     let word = 3 + 3 * class as usize;
-    load(table, &mut seat.seat, Case::K28 { class }, word)
+    load(table, &mut seat.seat, Act::LoadGate { class }, word)
 }
 
-/// K29: adds 1 to a side of a class: a section is entered.
-pub fn k29<W: WaitWords>(table: &CitrusTable<W>, seat: &mut Seat<W>, key: u64, side: u32)
+/// Adds 1 to a side of a class: a section is entered (K29).
+pub fn enter_by_count<W: WaitWords>(table: &CitrusTable<W>, seat: &mut Seat<W>, key: u64, side: u32)
     requires table { seat.old.table ≡ table.now }
-    requires needs { Needs (shape_of W.WAY table.now) seat.old.view (K29 key side) }
+    requires asks { IsAsked (shape_of W.WAY table.now) seat.old.view (acts.EnterByCount key side) }
     ensures seat { (seat.new.table ≡ seat.old.table) × (seat.new.listed ≡ seat.old.listed) }
-    ensures told { (found : ℕ) × Told (shape_of W.WAY table.now) seat.old.view (K29 key side) found seat.new.view }
+    ensures told { (found : ℕ) × Told (shape_of W.WAY table.now) seat.old.view (acts.EnterByCount key side) found seat.new.view }
 {
     let word = 4 + 3 * (key % 64) as usize + side as usize;
     seat.key = Some(key);
     seat.stamp = side as u64;
-    add(table, &mut seat.seat, Case::K29 { key, side }, word, 1);
+    add(
+        table,
+        &mut seat.seat,
+        Act::EnterByCount { key, side },
+        word,
+        1,
+    );
 }
 
-/// K30: takes 1 from a side of a class: the section is left.
-pub fn k30<W: WaitWords>(table: &CitrusTable<W>, seat: &mut Seat<W>, class: u32, side: u32)
+/// Takes 1 from a side of a class: the section is left (K30).
+pub fn leave_by_count<W: WaitWords>(
+    table: &CitrusTable<W>,
+    seat: &mut Seat<W>,
+    class: u32,
+    side: u32,
+)
     requires table { seat.old.table ≡ table.now }
-    requires needs { Needs (shape_of W.WAY table.now) seat.old.view (K30 class side) }
+    requires asks { IsAsked (shape_of W.WAY table.now) seat.old.view (acts.LeaveByCount class side) }
     ensures seat { (seat.new.table ≡ seat.old.table) × (seat.new.listed ≡ seat.old.listed) }
-    ensures told { (found : ℕ) × Told (shape_of W.WAY table.now) seat.old.view (K30 class side) found seat.new.view }
+    ensures told { (found : ℕ) × Told (shape_of W.WAY table.now) seat.old.view (acts.LeaveByCount class side) found seat.new.view }
 {
     let word = 4 + 3 * class as usize + side as usize;
     seat.key = None;
-    subtract(table, &mut seat.seat, Case::K30 { class, side }, word, 1);
+    subtract(
+        table,
+        &mut seat.seat,
+        Act::LeaveByCount { class, side },
+        word,
+        1,
+    );
 }
 
-/// K31: loads a side of a class, in a wait.
-pub fn k31<W: WaitWords>(
+/// Loads a side of a class, in a wait (K31).
+pub fn look_count<W: WaitWords>(
     table: &CitrusTable<W>,
     seat: &mut Seat<W>,
     class: u32,
@@ -566,53 +637,65 @@ pub fn k31<W: WaitWords>(
     last: bool,
 ) -> u64
     requires table { seat.old.table ≡ table.now }
-    requires needs { Needs (shape_of W.WAY table.now) seat.old.view (K31 class side last) }
+    requires asks { IsAsked (shape_of W.WAY table.now) seat.old.view (acts.LookCount class side last) }
     ensures seat { (seat.new.table ≡ seat.old.table) × (seat.new.listed ≡ seat.old.listed) }
-    ensures told { Told (shape_of W.WAY table.now) seat.old.view (K31 class side last) result seat.new.view }
+    ensures told { Told (shape_of W.WAY table.now) seat.old.view (acts.LookCount class side last) result seat.new.view }
 {
     let word = 4 + 3 * class as usize + side as usize;
-    load(table, &mut seat.seat, Case::K31 { class, side, last }, word)
+    load(
+        table,
+        &mut seat.seat,
+        Act::LookCount { class, side, last },
+        word,
+    )
 }
 
-/// K32: turns a gate.
-pub fn k32<W: WaitWords>(table: &CitrusTable<W>, seat: &mut Seat<W>, class: u32) -> u64
+/// Turns a gate (K32).
+pub fn turn_gate<W: WaitWords>(table: &CitrusTable<W>, seat: &mut Seat<W>, class: u32) -> u64
     requires table { seat.old.table ≡ table.now }
-    requires needs { Needs (shape_of W.WAY table.now) seat.old.view (K32 class) }
+    requires asks { IsAsked (shape_of W.WAY table.now) seat.old.view (acts.TurnGate class) }
     ensures seat { (seat.new.table ≡ seat.old.table) × (seat.new.listed ≡ seat.old.listed) }
-    ensures told { Told (shape_of W.WAY table.now) seat.old.view (K32 class) result seat.new.view }
+    ensures told { Told (shape_of W.WAY table.now) seat.old.view (acts.TurnGate class) result seat.new.view }
 {
     let word = 3 + 3 * class as usize;
     seat.turns += 1;
-    flip(table, &mut seat.seat, Case::K32 { class }, word)
+    flip(table, &mut seat.seat, Act::TurnGate { class }, word)
 }
 
-/// K33: stores the own stamp of a class: a section is entered.
-pub fn k33<W: WaitWords>(table: &CitrusTable<W>, seat: &mut Seat<W>, key: u64, stamp: u64)
+/// Stores the own stamp of a class: a section is entered (K33).
+pub fn enter_by_row<W: WaitWords>(table: &CitrusTable<W>, seat: &mut Seat<W>, key: u64, stamp: u64)
     requires table { seat.old.table ≡ table.now }
-    requires needs { Needs (shape_of W.WAY table.now) seat.old.view (K33 key stamp) }
+    requires asks { IsAsked (shape_of W.WAY table.now) seat.old.view (acts.EnterByRow key stamp) }
     ensures seat { (seat.new.table ≡ seat.old.table) × (seat.new.listed ≡ seat.old.listed) }
-    ensures told { Told (shape_of W.WAY table.now) seat.old.view (K33 key stamp) stamp seat.new.view }
+    ensures told { Told (shape_of W.WAY table.now) seat.old.view (acts.EnterByRow key stamp) stamp seat.new.view }
 {
     let word = 3 + 64 * seat.place as usize + (key % 64) as usize;
     seat.key = Some(key);
     seat.stamp = stamp;
-    store(table, &mut seat.seat, Case::K33 { key, stamp }, word, stamp);
+    let act = Act::EnterByRow { key, stamp };
+    store(table, &mut seat.seat, act, word, stamp);
 }
 
-/// K34: makes the own stamp of a class idle: the section is left.
-pub fn k34<W: WaitWords>(table: &CitrusTable<W>, seat: &mut Seat<W>, class: u32)
+/// Makes the own stamp of a class idle: the section is left (K34).
+pub fn leave_by_row<W: WaitWords>(table: &CitrusTable<W>, seat: &mut Seat<W>, class: u32)
     requires table { seat.old.table ≡ table.now }
-    requires needs { Needs (shape_of W.WAY table.now) seat.old.view (K34 class) }
+    requires asks { IsAsked (shape_of W.WAY table.now) seat.old.view (acts.LeaveByRow class) }
     ensures seat { (seat.new.table ≡ seat.old.table) × (seat.new.listed ≡ seat.old.listed) }
-    ensures told { Told (shape_of W.WAY table.now) seat.old.view (K34 class) 18446744073709551615 seat.new.view }
+    ensures told { Told (shape_of W.WAY table.now) seat.old.view (acts.LeaveByRow class) 18446744073709551615 seat.new.view }
 {
     let word = 3 + 64 * seat.place as usize + class as usize;
     seat.key = None;
-    store(table, &mut seat.seat, Case::K34 { class }, word, u64::MAX);
+    store(
+        table,
+        &mut seat.seat,
+        Act::LeaveByRow { class },
+        word,
+        u64::MAX,
+    );
 }
 
-/// K35: loads a stamp of a class, in a wait.
-pub fn k35<W: WaitWords>(
+/// Loads a stamp of a class, in a wait (K35).
+pub fn look_row<W: WaitWords>(
     table: &CitrusTable<W>,
     seat: &mut Seat<W>,
     place: u32,
@@ -620,45 +703,46 @@ pub fn k35<W: WaitWords>(
     last: bool,
 ) -> u64
     requires table { seat.old.table ≡ table.now }
-    requires needs { Needs (shape_of W.WAY table.now) seat.old.view (K35 place class last) }
+    requires asks { IsAsked (shape_of W.WAY table.now) seat.old.view (acts.LookRow place class last) }
     ensures seat { (seat.new.table ≡ seat.old.table) × (seat.new.listed ≡ seat.old.listed) }
-    ensures told { Told (shape_of W.WAY table.now) seat.old.view (K35 place class last) result seat.new.view }
+    ensures told { Told (shape_of W.WAY table.now) seat.old.view (acts.LookRow place class last) result seat.new.view }
 {
     let word = 3 + 64 * place as usize + class as usize;
     load(
         table,
         &mut seat.seat,
-        Case::K35 { place, class, last },
+        Act::LookRow { place, class, last },
         word,
     )
 }
 
-/// K36: replaces a value.
-pub fn k36<W: WaitWords>(table: &CitrusTable<W>, seat: &mut Seat<W>, slot: u32, value: u64)
+/// Replaces a value (K36).
+pub fn replace_value<W: WaitWords>(
+    table: &CitrusTable<W>,
+    seat: &mut Seat<W>,
+    slot: u32,
+    key: u64,
+    value: u64,
+)
     requires table { seat.old.table ≡ table.now }
-    requires needs { Needs (shape_of W.WAY table.now) seat.old.view (K36 slot value) }
+    requires asks { IsAsked (shape_of W.WAY table.now) seat.old.view (acts.ReplaceValue slot key value) }
     ensures seat { (seat.new.table ≡ seat.old.table) × (seat.new.listed ≡ seat.old.listed) }
-    ensures told { Told (shape_of W.WAY table.now) seat.old.view (K36 slot value) value seat.new.view }
+    ensures told { Told (shape_of W.WAY table.now) seat.old.view (acts.ReplaceValue slot key value) value seat.new.view }
 {
-    let word = table.base + 9 * slot as usize + 4;
+    let word = part_word(table, slot, Part::Value);
     seat.tickets -= 1;
-    store(
-        table,
-        &mut seat.seat,
-        Case::K36 { slot, value },
-        word,
-        value,
-    );
+    let act = Act::ReplaceValue { slot, key, value };
+    store(table, &mut seat.seat, act, word, value);
 }
 
-/// K37: loads the front, in a section that becomes a listing, or is one.
-pub fn look<W: WaitWords>(table: &CitrusTable<W>, seat: &mut Seat<W>) -> u64
+/// Loads the front, in a section that becomes a listing, or is one (K37).
+pub fn look_at_front<W: WaitWords>(table: &CitrusTable<W>, seat: &mut Seat<W>) -> u64
     requires table { seat.old.table ≡ table.now }
-    requires needs { Needs (shape_of W.WAY table.now) seat.old.view K37 }
+    requires asks { IsAsked (shape_of W.WAY table.now) seat.old.view acts.LookAtFront }
     ensures seat { (seat.new.table ≡ seat.old.table) × (seat.new.listed ≡ seat.old.listed) }
-    ensures told { Told (shape_of W.WAY table.now) seat.old.view K37 result seat.new.view }
+    ensures told { Told (shape_of W.WAY table.now) seat.old.view acts.LookAtFront result seat.new.view }
 {
-    let found = load(table, &mut seat.seat, Case::K37, 1);
+    let found = load(table, &mut seat.seat, Act::LookAtFront, 1);
     seat.front = found;
     found
 }

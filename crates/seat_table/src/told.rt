@@ -10,20 +10,20 @@ use std::marker::{Brand, PhantomData};
 /// Which step it is, on a table of which shape. Each access picks it.
 pub(crate) trait Detail {
     ghost use Rattle.core_state.specs.declared.shape.Shape.{Shape};
-    ghost use Rattle.seat_table.specs.declared.case.Case.{Case};
+    ghost use Rattle.core_acts.specs.declared.act.Act.{Act};
 
     ghost shape: { Shape };
 
-    ghost case: { Case };
+    ghost act: { Act };
 }
 
 impl Detail for Brand {
     ghost use Rattle.core_state.specs.declared.shape.Waiter.TheVariants.{Eer};
-    ghost use Rattle.seat_table.specs.declared.case.Case.TheVariants.{K3};
+    ghost use Rattle.core_acts.specs.declared.act.Act.TheVariants.{LoadClock};
 
     ghost shape = { record { waiter = Eer; slots = 0; places = 0; tickets = 0 } };
 
-    ghost case = { K3 };
+    ghost act = { LoadClock };
 }
 
 pub(crate) struct Told<A> {
@@ -31,7 +31,7 @@ pub(crate) struct Told<A> {
 }
 
 impl<A: Detail> Play<Nothing, View> for Told<A> {
-    ghost then = { told A.shape A.case };
+    ghost then = { told A.shape A.act };
 }
 
 /// What a split gives away. Each call picks it.

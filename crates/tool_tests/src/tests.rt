@@ -1,12 +1,11 @@
-//! Whole runs of the top call, from bytes to bytes.
+//! Whole runs of the top call whose text depends on who is where, or that are too long for a row of `tool_rows`.
 //!
-//! A line is what a user types: the program's name and the words, each after one blank. In a table a row is a line of
-//! the literal, `|` stands between its parts, and in what is read or written `;` stands for a line's end and `@` for a
-//! byte that no text has.
+//! A line is what a user types: the program's name and the words, each after one blank. In what is read or written `;` stands for a line's
+//! end.
 ghost use Rattle.std.specs.Prelude.{◌≤◌};
 
 use citrus_tool::{Status, tool};
-use io_edge::{MemorySink, MemorySource};
+use io_edge::{MemorySink, SteadySource};
 use prcu_marks::{Gate, OpenGate};
 use std::alloc::Global;
 use std::process::Abort;
@@ -14,65 +13,28 @@ use std::sync::Wait;
 use std::test::Fail;
 use std::thread::Threads;
 
-mod accounts;
-mod faults;
 mod gates;
 mod generated;
-mod hashes;
-mod limits;
-mod loads;
-mod slots;
-mod trees;
-mod words;
+mod left;
+mod lists;
+mod meetings;
 
-// More than any text that is written here.
-const ROOM: usize = 100_000;
-
-// The status of this line, and what it wrote, with room for so many bytes, where the scripts pass this gate.
+// The status of this line, and what it wrote, where the scripts pass this gate.
 fn answer<R: Threads + Wait + Sync, G: Gate + Sync>(
     rt: &R,
     alloc: Global,
     line: &str,
-    source: &mut MemorySource,
-    room: usize,
+    input: &[u8],
     gate: &G,
 ) -> Result<(Status, Vec<u8>), Fail> {
     let mut words = Vec::new(alloc);
     for word in line.split(' ').skip(1) {
         words.push(String::from_str(alloc, word)?)?;
     }
-    let mut sink = MemorySink::new(alloc, room, 7, Vec::new(alloc))?;
-    let outcome = tool(rt, alloc, &words, source, &mut sink, gate);
-    let written = Vec::from_slice(alloc, sink.bytes())?;
-    Ok((outcome.status, written))
-}
-
-// A source that holds the text, gives pieces of this size, and fails at these calls.
-fn source_of(alloc: Global, text: &[u8], piece: usize, fails: &[u64]) -> Result<MemorySource, Fail>
-    requires { 1 ≤ piece }
-{
-    Ok(MemorySource::new(
-        Vec::from_slice(alloc, text)?,
-        piece,
-        Vec::from_slice(alloc, fails)?,
-    ))
-}
-
-// That the line has this status and writes this text, reading from the source.
-fn assert_from<R: Threads + Wait + Sync + Abort>(
-    rt: &R,
-    alloc: Global,
-    line: &str,
-    mut source: MemorySource,
-    status: Status,
-    text: &[u8],
-) -> Result<(), Fail> {
-    // One byte more would show.
-    let room = text.len().saturating_add(1);
-    let (got, written) = answer(rt, alloc, line, &mut source, room, &OpenGate)?;
-    assert_eq!(rt; got, status, "{line}");
-    assert!(rt; written.as_slice() == text, "{line}");
-    Ok(())
+    let mut source = SteadySource::new(Vec::from_slice(alloc, input)?, 1000);
+    let mut sink = MemorySink::new(alloc, 100_000, 7, Vec::new(alloc))?;
+    let outcome = tool(rt, alloc, &words, &mut source, &mut sink, gate);
+    Ok((outcome.status, Vec::from_slice(alloc, sink.bytes())?))
 }
 
 // That the line has this status on the input and writes this text.
@@ -84,56 +46,59 @@ fn assert_written<R: Threads + Wait + Sync + Abort>(
     status: Status,
     text: &[u8],
 ) -> Result<(), Fail> {
-    let source = source_of(alloc, input, 1000, &[])?;
-    assert_from(rt, alloc, line, source, status, text)
-}
-
-// The bytes that a part of a row stands for.
-fn bytes_of(alloc: Global, part: &str) -> Result<Vec<u8>, Fail> {
-    let mut bytes = Vec::from_slice(alloc, part.as_bytes())?;
-    for byte in bytes.iter_mut() {
-        if *byte == b';' {
-            *byte = b'\n';
-        } else if *byte == b'@' {
-            *byte = 255;
-        }
-    }
-    Ok(bytes)
-}
-
-// The part of a row with this number, counted from 0, and nothing where it has fewer.
-fn part_of(row: &str, number: usize) -> &str {
-    row.split('|').nth(number).unwrap_or("")
-}
-
-// That each row, a line, an input and a text, is so with this status.
-fn assert_rows<R: Threads + Wait + Sync + Abort>(
-    rt: &R,
-    alloc: Global,
-    status: Status,
-    table: &str,
-) -> Result<(), Fail> {
-    for row in table.lines() {
-        let input = bytes_of(alloc, part_of(row, 1))?;
-        let text = bytes_of(alloc, part_of(row, 2))?;
-        assert_written(rt, alloc, part_of(row, 0), &input, status, &text)?;
-    }
+    let (got, written) = answer(rt, alloc, line, input, &OpenGate)?;
+    assert_eq!(rt; got, status, "{line}");
+    assert!(rt; written.as_slice() == text, "{line}");
     Ok(())
 }
 
-// That the account which the first line writes of these scripts is a true one by the second.
-fn assert_checked_as_true<R: Threads + Wait + Sync + Abort>(
-    rt: &R,
+// Keys from 1 on, each put and deleted by the last of some scripts: their text, and their account. These are the lines of the scripts
+// before it, and those of the account.
+fn put_and_deleted(
     alloc: Global,
-    line: &str,
-    check: &str,
-    scripts: &[u8],
-) -> Result<(), Fail> {
-    let mut source = source_of(alloc, scripts, 1000, &[])?;
-    let (status, account) = answer(rt, alloc, line, &mut source, ROOM, &OpenGate)?;
-    assert_eq!(rt; status, Status::Done, "{line}");
-    let mut claim = Vec::from_slice(alloc, scripts)?;
-    claim.extend_from_slice(b"account\n")?;
-    claim.extend_from_slice(&account)?;
-    assert_written(rt, alloc, check, &claim, Status::Done, b"yes\n")
+    keys: u64,
+    caller: u32,
+    text: &str,
+    account: &str,
+) -> Result<(String, String), Fail> {
+    let mut text = format!(in alloc; "{text}script\n")?;
+    let mut account = format!(in alloc; "{account}script {caller}\n")?;
+    let mut updates = String::new(alloc);
+    for key in 1..=keys.min(1000) {
+        let (put, del) = (2 * key - 1, 2 * key);
+        text.push_str(&format!(in alloc; "put {key} {key}\ndel {key}\n")?)?;
+        account.push_str(&format!(in alloc; "put {key} {key} new {put}\ndel {key} gone {del}\n")?)?;
+        updates.push_str(&format!(in alloc;
+            "{put} {caller} put {key} {key}\n{del} {caller} del {key}\n"
+        )?)?;
+    }
+    let count = 2 * keys.min(1000);
+    account.push_str(&format!(in alloc; "history {count}\n{updates}final 0\nend\n")?)?;
+    Ok((text, account))
+}
+
+#[test]
+fn a_slot_is_used_again_and_again(rt: HostRuntime) -> Result<(), Fail> {
+    let (text, account) = put_and_deleted(rt.alloc(), 1000, 0, "", "")?;
+    assert_written(
+        &rt,
+        rt.alloc(),
+        "citrus run --slots 1",
+        text.as_bytes(),
+        Status::Done,
+        account.as_bytes(),
+    )
+}
+
+#[test]
+fn an_input_is_too_long_from_one_byte_over_the_limit(rt: HostRuntime) -> Result<(), Fail> {
+    let cases: [(usize, Status, &[u8]); 2] = [
+        (16_777_216, Status::Done, b"history 0\nfinal 0\nend\n"),
+        (16_777_217, Status::TooLong, b""),
+    ];
+    for (length, status, text) in cases {
+        let comment = vec![in rt.alloc(); b'#'; length]?;
+        assert_written(&rt, rt.alloc(), "citrus run", &comment, status, text)?;
+    }
+    Ok(())
 }

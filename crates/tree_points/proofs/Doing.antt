@@ -8,12 +8,10 @@ use Rattle.core_state.specs.declared.view.HeldLock.{HeldLock}
 use Rattle.core_state.specs.declared.view.Known.{Known}
 use Rattle.core_state.specs.declared.view.Reading.{Reading}
 use Rattle.core_state.specs.parts.TreeParts.{map_now}
-use Rattle.core_points.specs.Callers.{key_now, or_root, value_in}
 use Rattle.core_points.specs.Facts.{is_delete, one_lock, read_at, set_known}
 use Rattle.core_points.proofs.Notes.{one_locked}
-use Rattle.seat_table.specs.Cases.{IsRecordOf, noted}
+use Rattle.core_acts.specs.Acts.{spare_of}
 use Rattle.tree_points.specs.Progress.{HasGone, HasUpdated}
-use Rattle.tree_points.proofs.Passing.{act_needs, view_next}
 use Rattle.prcu_marks.specs.declared.mark.Side.{Side}
 use Rattle.prcu_marks.specs.declared.mark.Side.TheVariants.{Left, Right}
 use Rattle.prcu_model.specs.declared.operation.Op.{Op}
@@ -27,12 +25,11 @@ use Rattle.core_points.specs.declared.stage.Moving.{Moving}
 use Rattle.core_points.specs.declared.stage.Update.TheVariants as update
 use Rattle.core_points.specs.declared.stage.Stage.{Stage}
 use Rattle.core_points.specs.declared.stage.Stage.TheVariants as at
-use Rattle.seat_table.specs.declared.case.Case.TheVariants.{K20, K21, K25, K36}
+use Rattle.core_acts.specs.declared.act.Act.TheVariants as acts
 use Rattle.seat_table.specs.Gains.{Sees, TellsNow}
 use Rattle.seat_table.specs.Told.{Told}
 use Rattle.seat_table.specs.Seats.{IsSlotOf}
 use Rattle.tree_points.specs.At.{IsAt}
-use Rattle.tree_points.specs.Asked.{case_at}
 use Rattle.prcu_marks.specs.declared.mark.Mark.{Mark}
 use Rattle.prcu_marks.specs.declared.mark.Mark.TheVariants.{Done, Unlinked}
 use Rattle.prcu_marks.specs.declared.commit.Commit.{Commit}
@@ -40,16 +37,13 @@ use Rattle.prcu_marks.specs.Marks.{own_of, updates_of}
 use Rattle.core_state.specs.declared.view.Held.{Held}
 use Rattle.core_state.specs.declared.words.Field.TheVariants.{Life, Link, Value}
 use Rattle.core_state.specs.views.Known.{known_in, known_of, known_under, lock_of, noting}
-use Rattle.core_state.specs.steps.Links.{after_leaf_link, after_bypass, after_replace, with_mark}
-use Rattle.core_state.specs.steps.Moves.{after_copy_link}
+use Rattle.core_state.specs.steps.Links.{with_mark}
 use Rattle.core_frames.specs.Telling.{IsChild}
-use Rattle.core_points.specs.Acts.{given}
 use Rattle.core_points.specs.DeleteFacts.{under}
 use Rattle.core_points.proofs.ClearLocks.{relinked_slots}
 use Rattle.core_points.proofs.Locking.{slots_in}
 use Rattle.core_tree.proofs.locks.Locked.{loaded_known}
 use Rattle.tree_points.proofs.Gone.{gone_with, lock_slots, noting_same}
-use Rattle.tree_points.proofs.Holding.{linked_case}
 
 -- a step after all marks, of which the first is the place's
 one_gone : {v w : View} (h more : List Mark) (op : Op) → (own_of v.allowance.place more ≡ []) → Sees v h → w.allowance.place ≡ v.allowance.place → w.seen ≡ h ++ Done (record { caller = v.allowance.place; op = op }) ∷ more
@@ -77,88 +71,49 @@ updated {v} {w} h more op front none no_update sees place seen found = record {
 }
 
 -- the value that a set loaded under its lock
-the_value : (v : View) (s generation old : ℕ) → v.locks ≡ one_lock s (set_known s generation old) → known_in (known_under v s) (Value s) ≡ Some old
+pub the_value : (v : View) (s generation old : ℕ) → v.locks ≡ one_lock s (set_known s generation old) → known_in (known_under v s) (Value s) ≡ Some old
 the_value v s generation old e =
     let known : List Known = set_known s generation old in
     ap (λ (ls : List HeldLock). known_in (known_of (lock_of ls s)) (Value s)) e ∙ ap (λ l. known_in (known_of l) (Value s)) (one_locked s known) ∙ ap (λ z. cond z (Some old) (known_in (read_at (Life s) (2 * generation) ∷ []) (Value s))) (eq-eqb s s refl)
 
 module _ {k : Shape} {kept n : ℕ} {v w : View} where
-  pub updated_leaf : {key value leaf front : ℕ} {spot : Spot} → IsSlotOf (Some leaf) v.hands.hand → IsAt k (Put key value) kept (at.Store (update.Leaf spot) front) v → Told k v (K20 spot.slot spot.side leaf) n w → HasUpdated v (Put key value) front w
-  updated_leaf {key} {value} {leaf} {front} {spot} is a given_told =
-      let stage : Stage = at.Store (update.Leaf spot) front in
-      let t : Told k v (case_at a.own stage) n w = subst (λ x. Told k v x n w) (sym (linked_case a is)) given_told in
-      let u : View = noted v (case_at a.own stage) n in
-      let c : Commit = record { found = front; stored = false } in
-      let committed : v.commit ≡ Some c = (((a.fits).point).2).1 in
-      let e : w ≡ after_leaf_link u c spot.slot spot.side (or_root a.own.hand) (key_now a.own) (value_in a.own.op) t.0 =
-      subst (λ x. w ≡ given u x (λ c. after_leaf_link u c spot.slot spot.side (or_root a.own.hand) (key_now a.own) (value_in a.own.op) t.0)) committed (view_next k (Put key value) kept v w n stage a refl t) in
-      subst (λ (x : Op). HasUpdated v (Put (key_of x) (value_in x)) front w) a.op_is
-      (updated t.0 [] (Put (key_now a.own) (value_in a.own.op)) front refl refl t.1 (ap (λ (z : View). z.allowance.place) e) (ap (λ (z : View). z.seen) e) ((t.5).found c committed))
+  pub updated_leaf : {key value leaf front : ℕ} {spot : Spot} → IsAt k (Put key value) kept (at.Store (update.Leaf spot) front) v → Told k v (acts.LinkLeaf spot.slot spot.side leaf key value) n w → HasUpdated v (Put key value) front w
+  updated_leaf {key} {value} {leaf} {front} a t =
+      updated t.marks [] (Put key value) front refl refl t.sees (ap (λ (z : View). z.allowance.place) t.goes) (ap (λ (z : View). z.seen) t.goes) ((t.gains).found (record { found = front; stored = false }) (((a.fits).point).2).1)
 
   -- a set's value was the key's, as the set loaded it
-  pub updated_value : {key value s old front : ℕ} → IsAt k (Set key value) kept (at.Store (update.Value s old) front) v → Told k v (K36 s value) n w
+  pub updated_value : {key value s old front : ℕ} → IsAt k (Set key value) kept (at.Store (update.Value s old) front) v → Told k v (acts.ReplaceValue s key value) n w
       → (u : HasUpdated v (Set key value) front w) × (map_now u.before key ≡ Some old)
-  updated_value {key} {value} {s} {old} {front} a given_told =
-      let stage : Stage = at.Store (update.Value s old) front in
-      let t : Told k v (case_at a.own stage) n w = subst (λ x. Told k v x n w) (sym (ap (λ (x : Op). K36 s (value_in x)) a.op_is)) given_told in
-      let u : View = noted v (case_at a.own stage) n in
-      let c : Commit = record { found = front; stored = false } in
-      let committed : v.commit ≡ Some c = ((((a.fits).point).1).0).1 in
-      let e : w ≡ after_replace u c s (key_now a.own) (value_in a.own.op) t.0 =
-      subst (λ x. w ≡ given u x (λ c. after_replace u c s (key_now a.own) (value_in a.own.op) t.0)) committed (view_next k (Set key value) kept v w n stage a refl t) in
-      let d = act_needs k (Set key value) kept v w n stage a t in
-      let r : Reading = d.1 in
-      let needs = d.3 in
-      let record_is : IsRecordOf v s r = record { kept = needs.kept; found = needs.found; now = inl (d.2, needs.generation_is, needs.life_now) } in
-      let was : map_now t.0 (key_now a.own) ≡ Some old = ap (map_now t.0) (sym d.4) ∙ (t.5).was r old record_is (the_value v s ((a.fits).point).0 old (((a.fits).point).1).1) in
-      subst (λ (x : Op). (u : HasUpdated v (Set (key_of x) (value_in x)) front w) × (map_now u.before (key_of x) ≡ Some old)) a.op_is
-      (updated t.0 [] (Set (key_now a.own) (value_in a.own.op)) front refl refl t.1 (ap (λ (z : View). z.allowance.place) e) (ap (λ (z : View). z.seen) e) (((t.5).counted).found c committed), was)
+  updated_value {key} {value} {s} {old} {front} a t = (
+    updated t.marks [] (Set key value) front refl refl t.sees (ap (λ (z : View). z.allowance.place) t.goes) (ap (λ (z : View). z.seen) t.goes) (((t.gains).counted).found (record { found = front; stored = false }) ((((a.fits).point).1).0).1),
+    (t.gains).was old (the_value v s ((a.fits).point).0 old (((a.fits).point).1).1),
+  )
 
-  pub updated_bypass : {op : Op} {child front : ℕ} {d : Node} → IsAt k op kept (at.Store (update.Bypass d child) front) v → Told k v (K21 d.parent d.side d.node child) n w → HasUpdated v (Del (key_of op)) front w
+  pub updated_bypass : {op : Op} {child front : ℕ} {d : Node} → IsAt k op kept (at.Store (update.Bypass d child) front) v → Told k v (acts.Bypass d.parent d.side d.node child (key_of op)) n w → HasUpdated v (Del (key_of op)) front w
   updated_bypass {op} {child} {front} {d} a t =
-      let stage : Stage = at.Store (update.Bypass d child) front in
-      let u : View = noted v (case_at a.own stage) n in
-      let c : Commit = record { found = front; stored = false } in
-      let committed : v.commit ≡ Some c = (((a.fits).point).0).1 in
-      let e : w ≡ after_bypass u c d.parent d.side d.node child (key_now a.own) t.0 =
-      subst (λ x. w ≡ given u x (λ c. after_bypass u c d.parent d.side d.node child (key_now a.own) t.0)) committed (view_next k op kept v w n stage a refl t) in
-      subst (λ (x : Op). HasUpdated v (Del (key_of x)) front w) a.op_is
-      (updated t.0 (Unlinked d.node ∷ []) (Del (key_now a.own)) front refl refl t.1 (ap (λ (z : View). z.allowance.place) e) (ap (λ (z : View). z.seen) e) (((t.5).counted).found c committed))
+      updated t.marks (Unlinked d.node ∷ []) (Del (key_of op)) front refl refl t.sees (ap (λ (z : View). z.allowance.place) t.goes) (ap (λ (z : View). z.seen) t.goes) ((t.gains).found (record { found = front; stored = false }) (((a.fits).point).0).1)
 
   -- the copy's key is the next one that the dictionary had
-  pub updated_copy : {op : Op} {next_key copy front : ℕ} {d : Node} {u : Successor} → IsAt k op kept (at.Store (update.Copy d u next_key copy) front) v → Told k v (K25 d.parent d.side d.node copy u.slot u.parent) n w
+  pub updated_copy : {op : Op} {next_key copy front : ℕ} {d : Node} {u : Successor} → IsAt k op kept (at.Store (update.Copy d u next_key copy) front) v → Told k v (acts.LinkCopy d.parent d.side d.node copy u.slot u.parent (key_of op) next_key) n w
       → (x : HasUpdated v (Del (key_of op)) front w) × IsNextKey (map_of (updates_of x.before)) (key_of op) next_key
-  updated_copy {op} {next_key} {copy} {front} {d} {u} a t =
-      let stage : Stage = at.Store (update.Copy d u next_key copy) front in
-      let x : View = noted v (case_at a.own stage) n in
-      let c : Commit = record { found = front; stored = false } in
-      let committed : v.commit ≡ Some c = ((((a.fits).point).0).0).1 in
-      let e : w ≡ after_copy_link x c (t.2).2 d.parent d.side d.node u.slot u.parent (key_now a.own) next_key t.0 =
-      subst (λ s. w ≡ given x s (λ s. after_copy_link x c s d.parent d.side d.node u.slot u.parent (key_now a.own) next_key t.0)) ((t.2).6)
-      (subst (λ z. w ≡ given x z (λ c. given x x.hands.spare (λ s. after_copy_link x c s d.parent d.side d.node u.slot u.parent (key_now a.own) next_key t.0))) committed (view_next k op kept v w n stage a refl t)) in
-      let needs = act_needs k op kept v w n stage a t in
-      let r : Reading = needs.1 in
-      let link = needs.6 in
-      let recorded = (link.records).records in
-      let record_is : IsRecordOf v d.node r = record { kept = recorded.kept; found = (d.parent, d.side, (recorded.found).0, (recorded.found).1); now = inr link.marked } in
-      let next : IsNextKey (map_of (updates_of t.0)) (key_now a.own) next_key =
-      subst (λ y. IsNextKey (map_of (updates_of t.0)) y next_key) needs.7 ((t.5).next r needs.2 next_key record_is (link.spare_is).0 link.key_is) in
-      subst (λ (y : Op). (x : HasUpdated v (Del (key_of y)) front w) × IsNextKey (map_of (updates_of x.before)) (key_of y) next_key) a.op_is
-      (updated t.0 (Unlinked d.node ∷ []) (Del (key_now a.own)) front refl refl t.1 (ap (λ (z : View). z.allowance.place) e) (ap (λ (z : View). z.seen) e) ((((t.5).deletes).counted).found c committed), next)
+  updated_copy {op} {next_key} {copy} {front} {d} {u} a t = (
+    updated t.marks (Unlinked d.node ∷ []) (Del (key_of op)) front refl refl t.sees (ap (λ (z : View). z.allowance.place) t.goes) (ap (λ (z : View). z.seen) t.goes) (((t.gains).counted).found (record { found = front; stored = false }) ((((a.fits).point).0).0).1),
+    (t.gains).next,
+  )
 
-  pub gone_store_leaf : {key value leaf front : ℕ} {spot : Spot} → IsSlotOf (Some leaf) v.hands.hand → IsAt k (Put key value) kept (at.Store (update.Leaf spot) front) v → Told k v (K20 spot.slot spot.side leaf) n w
+  pub gone_store_leaf : {key value leaf front : ℕ} {spot : Spot} → IsAt k (Put key value) kept (at.Store (update.Leaf spot) front) v → Told k v (acts.LinkLeaf spot.slot spot.side leaf key value) n w
       → HasGone v w (Done (record { caller = v.allowance.place; op = Put key value }) ∷ [])
-  gone_store_leaf is a t = (updated_leaf is a t).gone
+  gone_store_leaf a t = (updated_leaf a t).gone
 
-  pub gone_store_value : {key value s old front : ℕ} → IsAt k (Set key value) kept (at.Store (update.Value s old) front) v → Told k v (K36 s value) n w
+  pub gone_store_value : {key value s old front : ℕ} → IsAt k (Set key value) kept (at.Store (update.Value s old) front) v → Told k v (acts.ReplaceValue s key value) n w
       → HasGone v w (Done (record { caller = v.allowance.place; op = Set key value }) ∷ [])
   gone_store_value a t = ((updated_value a t).0).gone
 
-  pub gone_store_bypass : {op : Op} {child front : ℕ} {d : Node} → IsAt k op kept (at.Store (update.Bypass d child) front) v → Told k v (K21 d.parent d.side d.node child) n w
+  pub gone_store_bypass : {op : Op} {child front : ℕ} {d : Node} → IsAt k op kept (at.Store (update.Bypass d child) front) v → Told k v (acts.Bypass d.parent d.side d.node child (key_of op)) n w
       → HasGone v w (Done (record { caller = v.allowance.place; op = Del (key_of op) }) ∷ [])
   gone_store_bypass a t = (updated_bypass a t).gone
 
-  pub gone_store_copy : {op : Op} {next_key copy front : ℕ} {d : Node} {u : Successor} → IsAt k op kept (at.Store (update.Copy d u next_key copy) front) v → Told k v (K25 d.parent d.side d.node copy u.slot u.parent) n w
+  pub gone_store_copy : {op : Op} {next_key copy front : ℕ} {d : Node} {u : Successor} → IsAt k op kept (at.Store (update.Copy d u next_key copy) front) v → Told k v (acts.LinkCopy d.parent d.side d.node copy u.slot u.parent (key_of op) next_key) n w
       → HasGone v w (Done (record { caller = v.allowance.place; op = Del (key_of op) }) ∷ [])
   gone_store_copy a t = ((updated_copy a t).0).gone
 
@@ -171,22 +126,22 @@ op_deletes (Set key value) is = cc
 
 -- The locks stay the same by each of the four.
 module _ {k : Shape} {n : ℕ} {v w : View} where
-  pub locks_link : {s leaf : ℕ} {b : Side} → Told k v (K20 s b leaf) n w → slots_in w.locks ≡ slots_in v.locks
-  locks_link {s} {leaf} {b} t = ap (λ (z : View). slots_in z.locks) (t.2).8 ∙ (noting_same v s (Link s b) leaf true).locks
+  pub locks_link : {s leaf key value : ℕ} {b : Side} → Told k v (acts.LinkLeaf s b leaf key value) n w → slots_in w.locks ≡ slots_in v.locks
+  locks_link {s} {leaf} {b = b} t = ap (λ (z : View). slots_in z.locks) t.goes ∙ (noting_same v s (Link s b) leaf true).locks
 
-  pub locks_replace : {s value : ℕ} → Told k v (K36 s value) n w → slots_in w.locks ≡ slots_in v.locks
-  locks_replace {s} {value} t = ap (λ (z : View). slots_in z.locks) (t.2).4 ∙ (noting_same v s (Value s) value true).locks
+  pub locks_replace : {s key value : ℕ} → Told k v (acts.ReplaceValue s key value) n w → slots_in w.locks ≡ slots_in v.locks
+  locks_replace {s} {key} {value} t = ap (λ (z : View). slots_in z.locks) t.goes ∙ (noting_same v s (Value s) value true).locks
 
-  pub locks_bypass : {parent node child : ℕ} {b : Side} → Told k v (K21 parent b node child) n w → slots_in w.locks ≡ slots_in v.locks
-  locks_bypass {parent} {node} {child} {b} t =
-      ap (λ (z : View). slots_in z.locks) (t.2).4
+  pub locks_bypass : {parent node child key : ℕ} {b : Side} → Told k v (acts.Bypass parent b node child key) n w → slots_in w.locks ≡ slots_in v.locks
+  locks_bypass {parent} {node} {child} {b = b} t =
+      ap (λ (z : View). slots_in z.locks) t.goes
       ∙ relinked_slots parent b child node (noting v parent (Link parent b) child true).locks
       ∙ (noting_same v parent (Link parent b) child true).locks
 
-  pub locks_copy : {parent node copy old old_parent : ℕ} {b : Side} → Told k v (K25 parent b node copy old old_parent) n w → slots_in w.locks ≡ slots_in v.locks
-  locks_copy {parent} {node} {copy} {old} {old_parent} {b} t =
-      let held : Held = (t.2).2 in
-      ap (λ (z : View). slots_in z.locks) (t.2).8
+  pub locks_copy : {parent node copy old old_parent key next_key : ℕ} {b : Side} → Told k v (acts.LinkCopy parent b node copy old old_parent key next_key) n w → slots_in w.locks ≡ slots_in v.locks
+  locks_copy {parent} {node} {b = b} t =
+      let held : Held = spare_of v in
+      ap (λ (z : View). slots_in z.locks) t.goes
       ∙ lock_slots node (with_mark false) (λ l. refl) (noting v parent (Link parent b) held.slot true).locks
       ∙ (noting_same v parent (Link parent b) held.slot true).locks
 

@@ -1,4 +1,5 @@
 -- The points of the slot in hand and of the spare.
+use Rattle.core_acts.specs.declared.act.Part.TheVariants as part
 use Rattle.std.proofs.Common.{◌≡◌, ◌≢◌, ℕ, ◌*◌, ◌%◌, ◌==◌, if◌then◌else◌, cond, Bool, true, false, ◌∷◌, Option, Some, None, refl, sym, ap, subst, ◌∙◌}
 use Rattle.prcu_marks.specs.declared.mark.Side.TheVariants.{Left, Right}
 use Rattle.prcu_model.specs.declared.operation.Op.{Op}
@@ -14,18 +15,17 @@ use Rattle.core_points.specs.declared.stage.Last.TheVariants as last
 use Rattle.core_points.specs.declared.stage.Update.TheVariants as update
 use Rattle.core_points.specs.declared.stage.Stage.{Stage}
 use Rattle.core_points.specs.declared.stage.Stage.TheVariants as at
-use Rattle.core_points.specs.Callers.{Own, content, contents, is_none_left, key_now, or_root, value_in}
+use Rattle.core_points.specs.Callers.{Own, content_part, contents, is_none_left, key_now, or_root, value_in}
 use Rattle.core_points.specs.DeletePlan.{move_locks}
 use Rattle.core_points.specs.Programs.{act_at}
-use Rattle.seat_table.specs.declared.case.Case.{Case}
-use Rattle.seat_table.specs.declared.case.Case.TheVariants.{K9, K12, K13, K20, K22, K26, K27}
-use Rattle.seat_table.specs.Cases.{Needs}
+use Rattle.core_acts.specs.declared.act.Act.{Act}
+use Rattle.core_acts.specs.declared.act.Act.TheVariants as acts
+use Rattle.core_acts.specs.Acts.{Asks}
 use Rattle.seat_table.specs.Gains.{TellsNow}
 use Rattle.seat_table.specs.Told.{Told}
 use Rattle.seat_table.specs.Seats.{IsSlotOf}
 use Rattle.tree_points.specs.At.{HasLocks, IsAt}
-use Rattle.tree_points.specs.Asked.{case_at, case_of, is_step, number_of}
-use Rattle.core_points.specs.Acts.{unlink_left, unlink_right}
+use Rattle.core_points.specs.Acts.{is_step}
 use Rattle.tree_points.proofs.Passing.{fits_next, needs_at, next_own, passes_at}
 use Rattle.tree_points.proofs.Steps.{commits_any, needs_as, passes_as}
 use Rattle.core_state.specs.declared.view.Held.{Held}
@@ -47,100 +47,100 @@ leaf_hand : {k : Shape} {op : Op} {kept i leaf : ℕ} {v : View} {spot : Spot} (
 leaf_hand {leaf = leaf} {v = v} a is = let p = ((a.fits).point).2 in p.1 ∙ sym (ap spare_slot p.2) ∙ slot_of v.hands.hand leaf is
 
 leaf_case : {k : Shape} {kept leaf key value : ℕ} {v : View} {spot : Spot} (i : ℕ) (a : IsAt k (Put key value) kept (at.LeafField spot i) v) → IsSlotOf (Some leaf) v.hands.hand
-    → case_at a.own (at.LeafField spot i) ≡ K12 leaf (number_of (content leaf i)) (contents key value 0 0 i)
+    → act_at a.own (at.LeafField spot i) ≡ acts.Fill leaf (content_part i) (contents key value 0 0 i)
 leaf_case {leaf = leaf} i a is =
-    ap (λ x. K12 (or_root x) (number_of (content (or_root x) i)) (contents (key_now a.own) (value_in a.own.op) 0 0 i)) (leaf_hand a is)
-    ∙ ap (λ (x : Op). K12 leaf (number_of (content leaf i)) (contents (key_of x) (value_in x) 0 0 i)) a.op_is
+    ap (λ x. acts.Fill (or_root x) (content_part i) (contents (key_now a.own) (value_in a.own.op) 0 0 i)) (leaf_hand a is)
+    ∙ ap (λ (x : Op). acts.Fill leaf (content_part i) (contents (key_of x) (value_in x) 0 0 i)) a.op_is
 
-pub needs_leaf_key : {k : Shape} {kept leaf key value : ℕ} {v : View} {spot : Spot} → IsSlotOf (Some leaf) v.hands.hand → IsAt k (Put key value) kept (at.LeafField spot 0) v → TellsNow k v → Needs k v (K12 leaf 3 key)
-needs_leaf_key {leaf = leaf} {key = key} {value = value} {spot = spot} is a now = needs_as (at.LeafField spot 0) (K12 leaf 3 key) a refl (leaf_case 0 a is) now
+pub needs_leaf_key : {k : Shape} {kept leaf key value : ℕ} {v : View} {spot : Spot} → IsSlotOf (Some leaf) v.hands.hand → IsAt k (Put key value) kept (at.LeafField spot 0) v → TellsNow k v → Asks k v (acts.Fill leaf part.Key key)
+needs_leaf_key {leaf = leaf} {key = key} {value = value} {spot = spot} is a now = needs_as (at.LeafField spot 0) (acts.Fill leaf part.Key key) a refl (leaf_case 0 a is) now
 
-pub passes_leaf_key : {k : Shape} {kept n leaf key value : ℕ} {v w : View} {spot : Spot} → IsSlotOf (Some leaf) v.hands.hand → IsAt k (Put key value) kept (at.LeafField spot 0) v → Told k v (K12 leaf 3 key) n w → IsAt k (Put key value) kept (at.LeafField spot 1) w
-passes_leaf_key {leaf = leaf} {key = key} {value = value} {spot = spot} is a t = passes_as (at.LeafField spot 0) (at.LeafField spot 1) (K12 leaf 3 key) a refl (leaf_case 0 a is) refl t
+pub passes_leaf_key : {k : Shape} {kept n leaf key value : ℕ} {v w : View} {spot : Spot} → IsSlotOf (Some leaf) v.hands.hand → IsAt k (Put key value) kept (at.LeafField spot 0) v → Told k v (acts.Fill leaf part.Key key) n w → IsAt k (Put key value) kept (at.LeafField spot 1) w
+passes_leaf_key {leaf = leaf} {key = key} {value = value} {spot = spot} is a t = passes_as (at.LeafField spot 0) (at.LeafField spot 1) (acts.Fill leaf part.Key key) a refl (leaf_case 0 a is) refl t
 
-pub needs_leaf_value : {k : Shape} {kept leaf key value : ℕ} {v : View} {spot : Spot} → IsSlotOf (Some leaf) v.hands.hand → IsAt k (Put key value) kept (at.LeafField spot 1) v → TellsNow k v → Needs k v (K12 leaf 4 value)
-needs_leaf_value {leaf = leaf} {key = key} {value = value} {spot = spot} is a now = needs_as (at.LeafField spot 1) (K12 leaf 4 value) a refl (leaf_case 1 a is) now
+pub needs_leaf_value : {k : Shape} {kept leaf key value : ℕ} {v : View} {spot : Spot} → IsSlotOf (Some leaf) v.hands.hand → IsAt k (Put key value) kept (at.LeafField spot 1) v → TellsNow k v → Asks k v (acts.Fill leaf part.Value value)
+needs_leaf_value {leaf = leaf} {key = key} {value = value} {spot = spot} is a now = needs_as (at.LeafField spot 1) (acts.Fill leaf part.Value value) a refl (leaf_case 1 a is) now
 
-pub passes_leaf_value : {k : Shape} {kept n leaf key value : ℕ} {v w : View} {spot : Spot} → IsSlotOf (Some leaf) v.hands.hand → IsAt k (Put key value) kept (at.LeafField spot 1) v → Told k v (K12 leaf 4 value) n w → IsAt k (Put key value) kept (at.LeafField spot 2) w
-passes_leaf_value {leaf = leaf} {key = key} {value = value} {spot = spot} is a t = passes_as (at.LeafField spot 1) (at.LeafField spot 2) (K12 leaf 4 value) a refl (leaf_case 1 a is) refl t
+pub passes_leaf_value : {k : Shape} {kept n leaf key value : ℕ} {v w : View} {spot : Spot} → IsSlotOf (Some leaf) v.hands.hand → IsAt k (Put key value) kept (at.LeafField spot 1) v → Told k v (acts.Fill leaf part.Value value) n w → IsAt k (Put key value) kept (at.LeafField spot 2) w
+passes_leaf_value {leaf = leaf} {key = key} {value = value} {spot = spot} is a t = passes_as (at.LeafField spot 1) (at.LeafField spot 2) (acts.Fill leaf part.Value value) a refl (leaf_case 1 a is) refl t
 
-pub needs_leaf_left : {k : Shape} {kept leaf key value : ℕ} {v : View} {spot : Spot} → IsSlotOf (Some leaf) v.hands.hand → IsAt k (Put key value) kept (at.LeafField spot 2) v → TellsNow k v → Needs k v (K12 leaf 5 0)
-needs_leaf_left {leaf = leaf} {key = key} {value = value} {spot = spot} is a now = needs_as (at.LeafField spot 2) (K12 leaf 5 0) a refl (leaf_case 2 a is) now
+pub needs_leaf_left : {k : Shape} {kept leaf key value : ℕ} {v : View} {spot : Spot} → IsSlotOf (Some leaf) v.hands.hand → IsAt k (Put key value) kept (at.LeafField spot 2) v → TellsNow k v → Asks k v (acts.Fill leaf (part.Link Left) 0)
+needs_leaf_left {leaf = leaf} {key = key} {value = value} {spot = spot} is a now = needs_as (at.LeafField spot 2) (acts.Fill leaf (part.Link Left) 0) a refl (leaf_case 2 a is) now
 
-pub passes_leaf_left : {k : Shape} {kept n leaf key value : ℕ} {v w : View} {spot : Spot} → IsSlotOf (Some leaf) v.hands.hand → IsAt k (Put key value) kept (at.LeafField spot 2) v → Told k v (K12 leaf 5 0) n w → IsAt k (Put key value) kept (at.LeafField spot 3) w
-passes_leaf_left {leaf = leaf} {key = key} {value = value} {spot = spot} is a t = passes_as (at.LeafField spot 2) (at.LeafField spot 3) (K12 leaf 5 0) a refl (leaf_case 2 a is) refl t
+pub passes_leaf_left : {k : Shape} {kept n leaf key value : ℕ} {v w : View} {spot : Spot} → IsSlotOf (Some leaf) v.hands.hand → IsAt k (Put key value) kept (at.LeafField spot 2) v → Told k v (acts.Fill leaf (part.Link Left) 0) n w → IsAt k (Put key value) kept (at.LeafField spot 3) w
+passes_leaf_left {leaf = leaf} {key = key} {value = value} {spot = spot} is a t = passes_as (at.LeafField spot 2) (at.LeafField spot 3) (acts.Fill leaf (part.Link Left) 0) a refl (leaf_case 2 a is) refl t
 
-pub needs_leaf_right : {k : Shape} {kept leaf key value : ℕ} {v : View} {spot : Spot} → IsSlotOf (Some leaf) v.hands.hand → IsAt k (Put key value) kept (at.LeafField spot 3) v → TellsNow k v → Needs k v (K12 leaf 6 0)
-needs_leaf_right {leaf = leaf} {key = key} {value = value} {spot = spot} is a now = needs_as (at.LeafField spot 3) (K12 leaf 6 0) a refl (leaf_case 3 a is) now
+pub needs_leaf_right : {k : Shape} {kept leaf key value : ℕ} {v : View} {spot : Spot} → IsSlotOf (Some leaf) v.hands.hand → IsAt k (Put key value) kept (at.LeafField spot 3) v → TellsNow k v → Asks k v (acts.Fill leaf (part.Link Right) 0)
+needs_leaf_right {leaf = leaf} {key = key} {value = value} {spot = spot} is a now = needs_as (at.LeafField spot 3) (acts.Fill leaf (part.Link Right) 0) a refl (leaf_case 3 a is) now
 
-pub passes_leaf_right : {k : Shape} {kept n leaf key value : ℕ} {v w : View} {spot : Spot} → IsSlotOf (Some leaf) v.hands.hand → IsAt k (Put key value) kept (at.LeafField spot 3) v → Told k v (K12 leaf 6 0) n w → IsAt k (Put key value) kept (at.LeafLock spot) w
-passes_leaf_right {leaf = leaf} {key = key} {value = value} {spot = spot} is a t = passes_as (at.LeafField spot 3) (at.LeafLock spot) (K12 leaf 6 0) a refl (leaf_case 3 a is) refl t
+pub passes_leaf_right : {k : Shape} {kept n leaf key value : ℕ} {v w : View} {spot : Spot} → IsSlotOf (Some leaf) v.hands.hand → IsAt k (Put key value) kept (at.LeafField spot 3) v → Told k v (acts.Fill leaf (part.Link Right) 0) n w → IsAt k (Put key value) kept (at.LeafLock spot) w
+passes_leaf_right {leaf = leaf} {key = key} {value = value} {spot = spot} is a t = passes_as (at.LeafField spot 3) (at.LeafLock spot) (acts.Fill leaf (part.Link Right) 0) a refl (leaf_case 3 a is) refl t
 
 -- and linked
 pub linked_case : {k : Shape} {op : Op} {kept leaf front : ℕ} {v : View} {spot : Spot} (a : IsAt k op kept (at.Store (update.Leaf spot) front) v) → IsSlotOf (Some leaf) v.hands.hand
-    → case_at a.own (at.Store (update.Leaf spot) front) ≡ K20 spot.slot spot.side leaf
-linked_case {leaf = leaf} {v = v} {spot = spot} a is =
+    → act_at a.own (at.Store (update.Leaf spot) front) ≡ acts.LinkLeaf spot.slot spot.side leaf (key_of op) (value_in op)
+linked_case {op = op} {leaf = leaf} {v = v} {spot = spot} a is =
     let hand : a.own.hand ≡ Some leaf = sym (slot_in_hand a.own.hand _ _ _ v.hands.hand ((a.fits).point).3) ∙ slot_of v.hands.hand leaf is in
-    ap (λ x. K20 spot.slot spot.side (or_root x)) hand
+    ap (λ x. acts.LinkLeaf spot.slot spot.side (or_root x) (key_now a.own) (value_in a.own.op)) hand ∙ ap (λ (x : Op). acts.LinkLeaf spot.slot spot.side leaf (key_of x) (value_in x)) a.op_is
 
-pub needs_store_leaf : {k : Shape} {op : Op} {kept leaf front : ℕ} {v : View} {spot : Spot} → IsSlotOf (Some leaf) v.hands.hand → IsAt k op kept (at.Store (update.Leaf spot) front) v → TellsNow k v → Needs k v (K20 spot.slot spot.side leaf)
-needs_store_leaf {leaf = leaf} {front = front} {spot = spot} is a now = needs_as (at.Store (update.Leaf spot) front) (K20 spot.slot spot.side leaf) a refl (linked_case a is) now
+pub needs_store_leaf : {k : Shape} {op : Op} {kept leaf front : ℕ} {v : View} {spot : Spot} → IsSlotOf (Some leaf) v.hands.hand → IsAt k op kept (at.Store (update.Leaf spot) front) v → TellsNow k v → Asks k v (acts.LinkLeaf spot.slot spot.side leaf (key_of op) (value_in op))
+needs_store_leaf {op = op} {leaf = leaf} {front = front} {spot = spot} is a now = needs_as (at.Store (update.Leaf spot) front) (acts.LinkLeaf spot.slot spot.side leaf (key_of op) (value_in op)) a refl (linked_case a is) now
 
-pub passes_store_leaf : {k : Shape} {op : Op} {kept n leaf front : ℕ} {v w : View} {spot : Spot} → IsSlotOf (Some leaf) v.hands.hand → IsAt k op kept (at.Store (update.Leaf spot) front) v → Told k v (K20 spot.slot spot.side leaf) n w
+pub passes_store_leaf : {k : Shape} {op : Op} {kept n leaf front : ℕ} {v w : View} {spot : Spot} → IsSlotOf (Some leaf) v.hands.hand → IsAt k op kept (at.Store (update.Leaf spot) front) v → Told k v (acts.LinkLeaf spot.slot spot.side leaf (key_of op) (value_in op)) n w
     → IsAt k op kept (at.Even (update.Leaf spot) front) w
-passes_store_leaf {leaf = leaf} {front = front} {spot = spot} is a t = passes_as (at.Store (update.Leaf spot) front) (at.Even (update.Leaf spot) front) (K20 spot.slot spot.side leaf) a refl (linked_case a is) refl t
+passes_store_leaf {op = op} {leaf = leaf} {front = front} {spot = spot} is a t = passes_as (at.Store (update.Leaf spot) front) (at.Even (update.Leaf spot) front) (acts.LinkLeaf spot.slot spot.side leaf (key_of op) (value_in op)) a refl (linked_case a is) refl t
 
 -- The spare gets the fields of a copy.
 pub own_spare : {k : Shape} {op : Op} {kept copy : ℕ} {v : View} {stage : Stage} (a : IsAt k op kept stage v) → IsSlotOf (Some copy) v.hands.spare → a.own.spare ≡ Some copy
 own_spare {copy = copy} {v = v} a is = sym ((a.fits).owns).spare_is ∙ slot_of v.hands.spare copy is
 
 copy_case : {k : Shape} {op : Op} {kept copy next_key value : ℕ} {v : View} {d : Node} {u : Successor} (i : ℕ) (a : IsAt k op kept (at.CopyField d u next_key value i) v) → IsSlotOf (Some copy) v.hands.spare
-    → case_at a.own (at.CopyField d u next_key value i) ≡ K12 copy (number_of (content copy i)) (contents next_key value d.left d.right i)
-copy_case {next_key = next_key} {value = value} {d = d} i a is = ap (λ x. K12 (or_root x) (number_of (content (or_root x) i)) (contents next_key value d.left d.right i)) (own_spare a is)
+    → act_at a.own (at.CopyField d u next_key value i) ≡ acts.Fill copy (content_part i) (contents next_key value d.left d.right i)
+copy_case {next_key = next_key} {value = value} {d = d} i a is = ap (λ x. acts.Fill (or_root x) (content_part i) (contents next_key value d.left d.right i)) (own_spare a is)
 
-pub needs_copy_key : {k : Shape} {op : Op} {kept copy next_key value : ℕ} {v : View} {d : Node} {u : Successor} → IsSlotOf (Some copy) v.hands.spare → IsAt k op kept (at.CopyField d u next_key value 0) v → TellsNow k v → Needs k v (K12 copy 3 next_key)
-needs_copy_key {copy = copy} {next_key = next_key} {value = value} {d = d} {u = u} is a now = needs_as (at.CopyField d u next_key value 0) (K12 copy 3 next_key) a refl (copy_case 0 a is) now
+pub needs_copy_key : {k : Shape} {op : Op} {kept copy next_key value : ℕ} {v : View} {d : Node} {u : Successor} → IsSlotOf (Some copy) v.hands.spare → IsAt k op kept (at.CopyField d u next_key value 0) v → TellsNow k v → Asks k v (acts.Fill copy part.Key next_key)
+needs_copy_key {copy = copy} {next_key = next_key} {value = value} {d = d} {u = u} is a now = needs_as (at.CopyField d u next_key value 0) (acts.Fill copy part.Key next_key) a refl (copy_case 0 a is) now
 
-pub passes_copy_key : {k : Shape} {op : Op} {kept n copy next_key value : ℕ} {v w : View} {d : Node} {u : Successor} → IsSlotOf (Some copy) v.hands.spare → IsAt k op kept (at.CopyField d u next_key value 0) v → Told k v (K12 copy 3 next_key) n w → IsAt k op kept (at.CopyField d u next_key value 1) w
-passes_copy_key {copy = copy} {next_key = next_key} {value = value} {d = d} {u = u} is a t = passes_as (at.CopyField d u next_key value 0) (at.CopyField d u next_key value 1) (K12 copy 3 next_key) a refl (copy_case 0 a is) refl t
+pub passes_copy_key : {k : Shape} {op : Op} {kept n copy next_key value : ℕ} {v w : View} {d : Node} {u : Successor} → IsSlotOf (Some copy) v.hands.spare → IsAt k op kept (at.CopyField d u next_key value 0) v → Told k v (acts.Fill copy part.Key next_key) n w → IsAt k op kept (at.CopyField d u next_key value 1) w
+passes_copy_key {copy = copy} {next_key = next_key} {value = value} {d = d} {u = u} is a t = passes_as (at.CopyField d u next_key value 0) (at.CopyField d u next_key value 1) (acts.Fill copy part.Key next_key) a refl (copy_case 0 a is) refl t
 
-pub needs_copy_value : {k : Shape} {op : Op} {kept copy next_key value : ℕ} {v : View} {d : Node} {u : Successor} → IsSlotOf (Some copy) v.hands.spare → IsAt k op kept (at.CopyField d u next_key value 1) v → TellsNow k v → Needs k v (K12 copy 4 value)
-needs_copy_value {copy = copy} {next_key = next_key} {value = value} {d = d} {u = u} is a now = needs_as (at.CopyField d u next_key value 1) (K12 copy 4 value) a refl (copy_case 1 a is) now
+pub needs_copy_value : {k : Shape} {op : Op} {kept copy next_key value : ℕ} {v : View} {d : Node} {u : Successor} → IsSlotOf (Some copy) v.hands.spare → IsAt k op kept (at.CopyField d u next_key value 1) v → TellsNow k v → Asks k v (acts.Fill copy part.Value value)
+needs_copy_value {copy = copy} {next_key = next_key} {value = value} {d = d} {u = u} is a now = needs_as (at.CopyField d u next_key value 1) (acts.Fill copy part.Value value) a refl (copy_case 1 a is) now
 
-pub passes_copy_value : {k : Shape} {op : Op} {kept n copy next_key value : ℕ} {v w : View} {d : Node} {u : Successor} → IsSlotOf (Some copy) v.hands.spare → IsAt k op kept (at.CopyField d u next_key value 1) v → Told k v (K12 copy 4 value) n w → IsAt k op kept (at.CopyField d u next_key value 2) w
-passes_copy_value {copy = copy} {next_key = next_key} {value = value} {d = d} {u = u} is a t = passes_as (at.CopyField d u next_key value 1) (at.CopyField d u next_key value 2) (K12 copy 4 value) a refl (copy_case 1 a is) refl t
+pub passes_copy_value : {k : Shape} {op : Op} {kept n copy next_key value : ℕ} {v w : View} {d : Node} {u : Successor} → IsSlotOf (Some copy) v.hands.spare → IsAt k op kept (at.CopyField d u next_key value 1) v → Told k v (acts.Fill copy part.Value value) n w → IsAt k op kept (at.CopyField d u next_key value 2) w
+passes_copy_value {copy = copy} {next_key = next_key} {value = value} {d = d} {u = u} is a t = passes_as (at.CopyField d u next_key value 1) (at.CopyField d u next_key value 2) (acts.Fill copy part.Value value) a refl (copy_case 1 a is) refl t
 
-pub needs_copy_left : {k : Shape} {op : Op} {kept copy next_key value : ℕ} {v : View} {d : Node} {u : Successor} → IsSlotOf (Some copy) v.hands.spare → IsAt k op kept (at.CopyField d u next_key value 2) v → TellsNow k v → Needs k v (K12 copy 5 d.left)
-needs_copy_left {copy = copy} {next_key = next_key} {value = value} {d = d} {u = u} is a now = needs_as (at.CopyField d u next_key value 2) (K12 copy 5 d.left) a refl (copy_case 2 a is) now
+pub needs_copy_left : {k : Shape} {op : Op} {kept copy next_key value : ℕ} {v : View} {d : Node} {u : Successor} → IsSlotOf (Some copy) v.hands.spare → IsAt k op kept (at.CopyField d u next_key value 2) v → TellsNow k v → Asks k v (acts.Fill copy (part.Link Left) d.left)
+needs_copy_left {copy = copy} {next_key = next_key} {value = value} {d = d} {u = u} is a now = needs_as (at.CopyField d u next_key value 2) (acts.Fill copy (part.Link Left) d.left) a refl (copy_case 2 a is) now
 
-pub passes_copy_left : {k : Shape} {op : Op} {kept n copy next_key value : ℕ} {v w : View} {d : Node} {u : Successor} → IsSlotOf (Some copy) v.hands.spare → IsAt k op kept (at.CopyField d u next_key value 2) v → Told k v (K12 copy 5 d.left) n w → IsAt k op kept (at.CopyField d u next_key value 3) w
-passes_copy_left {copy = copy} {next_key = next_key} {value = value} {d = d} {u = u} is a t = passes_as (at.CopyField d u next_key value 2) (at.CopyField d u next_key value 3) (K12 copy 5 d.left) a refl (copy_case 2 a is) refl t
+pub passes_copy_left : {k : Shape} {op : Op} {kept n copy next_key value : ℕ} {v w : View} {d : Node} {u : Successor} → IsSlotOf (Some copy) v.hands.spare → IsAt k op kept (at.CopyField d u next_key value 2) v → Told k v (acts.Fill copy (part.Link Left) d.left) n w → IsAt k op kept (at.CopyField d u next_key value 3) w
+passes_copy_left {copy = copy} {next_key = next_key} {value = value} {d = d} {u = u} is a t = passes_as (at.CopyField d u next_key value 2) (at.CopyField d u next_key value 3) (acts.Fill copy (part.Link Left) d.left) a refl (copy_case 2 a is) refl t
 
-pub needs_copy_right : {k : Shape} {op : Op} {kept copy next_key value : ℕ} {v : View} {d : Node} {u : Successor} → IsSlotOf (Some copy) v.hands.spare → IsAt k op kept (at.CopyField d u next_key value 3) v → TellsNow k v → Needs k v (K12 copy 6 d.right)
-needs_copy_right {copy = copy} {next_key = next_key} {value = value} {d = d} {u = u} is a now = needs_as (at.CopyField d u next_key value 3) (K12 copy 6 d.right) a refl (copy_case 3 a is) now
+pub needs_copy_right : {k : Shape} {op : Op} {kept copy next_key value : ℕ} {v : View} {d : Node} {u : Successor} → IsSlotOf (Some copy) v.hands.spare → IsAt k op kept (at.CopyField d u next_key value 3) v → TellsNow k v → Asks k v (acts.Fill copy (part.Link Right) d.right)
+needs_copy_right {copy = copy} {next_key = next_key} {value = value} {d = d} {u = u} is a now = needs_as (at.CopyField d u next_key value 3) (acts.Fill copy (part.Link Right) d.right) a refl (copy_case 3 a is) now
 
-pub passes_copy_right : {k : Shape} {op : Op} {kept n copy next_key value : ℕ} {v w : View} {d : Node} {u : Successor} → IsSlotOf (Some copy) v.hands.spare → IsAt k op kept (at.CopyField d u next_key value 3) v → Told k v (K12 copy 6 d.right) n w → IsAt k op kept (at.CopyAge d u next_key) w
-passes_copy_right {copy = copy} {next_key = next_key} {value = value} {d = d} {u = u} is a t = passes_as (at.CopyField d u next_key value 3) (at.CopyAge d u next_key) (K12 copy 6 d.right) a refl (copy_case 3 a is) refl t
+pub passes_copy_right : {k : Shape} {op : Op} {kept n copy next_key value : ℕ} {v w : View} {d : Node} {u : Successor} → IsSlotOf (Some copy) v.hands.spare → IsAt k op kept (at.CopyField d u next_key value 3) v → Told k v (acts.Fill copy (part.Link Right) d.right) n w → IsAt k op kept (at.CopyAge d u next_key) w
+passes_copy_right {copy = copy} {next_key = next_key} {value = value} {d = d} {u = u} is a t = passes_as (at.CopyField d u next_key value 3) (at.CopyAge d u next_key) (acts.Fill copy (part.Link Right) d.right) a refl (copy_case 3 a is) refl t
 
-pub needs_copy_age : {k : Shape} {op : Op} {kept copy next_key : ℕ} {v : View} {d : Node} {u : Successor} → IsSlotOf (Some copy) v.hands.spare → IsAt k op kept (at.CopyAge d u next_key) v → TellsNow k v → Needs k v (K9 copy false)
-needs_copy_age {copy = copy} {next_key = next_key} {d = d} {u = u} is a now = needs_as (at.CopyAge d u next_key) (K9 copy false) a refl (ap (λ x. K9 (or_root x) false) (own_spare a is)) now
+pub needs_copy_age : {k : Shape} {op : Op} {kept copy next_key : ℕ} {v : View} {d : Node} {u : Successor} → IsSlotOf (Some copy) v.hands.spare → IsAt k op kept (at.CopyAge d u next_key) v → TellsNow k v → Asks k v (acts.LoadOwnLife copy)
+needs_copy_age {copy = copy} {next_key = next_key} {d = d} {u = u} is a now = needs_as (at.CopyAge d u next_key) (acts.LoadOwnLife copy) a refl (ap (λ x. acts.LoadOwnLife (or_root x)) (own_spare a is)) now
 
-pub passes_copy_age : {k : Shape} {op : Op} {kept n copy next_key : ℕ} {v w : View} {d : Node} {u : Successor} → IsSlotOf (Some copy) v.hands.spare → IsAt k op kept (at.CopyAge d u next_key) v → Told k v (K9 copy false) n w → IsAt k op kept (at.CopyLock d u next_key) w
-passes_copy_age {copy = copy} {next_key = next_key} {d = d} {u = u} is a t = passes_as (at.CopyAge d u next_key) (at.CopyLock d u next_key) (K9 copy false) a refl (ap (λ x. K9 (or_root x) false) (own_spare a is)) refl t
+pub passes_copy_age : {k : Shape} {op : Op} {kept n copy next_key : ℕ} {v w : View} {d : Node} {u : Successor} → IsSlotOf (Some copy) v.hands.spare → IsAt k op kept (at.CopyAge d u next_key) v → Told k v (acts.LoadOwnLife copy) n w → IsAt k op kept (at.CopyLock d u next_key) w
+passes_copy_age {copy = copy} {next_key = next_key} {d = d} {u = u} is a t = passes_as (at.CopyAge d u next_key) (at.CopyLock d u next_key) (acts.LoadOwnLife copy) a refl (ap (λ x. acts.LoadOwnLife (or_root x)) (own_spare a is)) refl t
 
-pub needs_copy_lock : {k : Shape} {op : Op} {kept copy next_key : ℕ} {v : View} {d : Node} {u : Successor} → IsSlotOf (Some copy) v.hands.spare → IsAt k op kept (at.CopyLock d u next_key) v → TellsNow k v → Needs k v (K13 copy)
-needs_copy_lock {copy = copy} {next_key = next_key} {d = d} {u = u} is a now = needs_as (at.CopyLock d u next_key) (K13 copy) a refl (ap (λ x. K13 (or_root x)) (own_spare a is)) now
+pub needs_copy_lock : {k : Shape} {op : Op} {kept copy next_key : ℕ} {v : View} {d : Node} {u : Successor} → IsSlotOf (Some copy) v.hands.spare → IsAt k op kept (at.CopyLock d u next_key) v → TellsNow k v → Asks k v (acts.Lock copy)
+needs_copy_lock {copy = copy} {next_key = next_key} {d = d} {u = u} is a now = needs_as (at.CopyLock d u next_key) (acts.Lock copy) a refl (ap (λ x. acts.Lock (or_root x)) (own_spare a is)) now
 
-pub passes_copy_lock_free : {k : Shape} {op : Op} {kept n copy next_key : ℕ} {v w : View} {d : Node} {u : Successor} → n ≡ 0 → IsSlotOf (Some copy) v.hands.spare → IsAt k op kept (at.CopyLock d u next_key) v → Told k v (K13 copy) n w
+pub passes_copy_lock_free : {k : Shape} {op : Op} {kept n copy next_key : ℕ} {v w : View} {d : Node} {u : Successor} → n ≡ 0 → IsSlotOf (Some copy) v.hands.spare → IsAt k op kept (at.CopyLock d u next_key) v → Told k v (acts.Lock copy) n w
     → IsAt k op kept (at.CopyMark d u next_key) w
 passes_copy_lock_free {n = n} {copy = copy} {next_key = next_key} {d = d} {u = u} free is a t =
-    passes_as (at.CopyLock d u next_key) (at.CopyMark d u next_key) (K13 copy) a refl (ap (λ x. K13 (or_root x)) (own_spare a is))
+    passes_as (at.CopyLock d u next_key) (at.CopyMark d u next_key) (acts.Lock copy) a refl (ap (λ x. acts.Lock (or_root x)) (own_spare a is))
     (ap (λ (x : Own). x.stage) (lock_free a.own (or_root a.own.spare) n (at.CopyMark d u next_key) free)) t
 
-pub passes_copy_lock_busy : {k : Shape} {op : Op} {kept n copy next_key : ℕ} {v w : View} {d : Node} {u : Successor} → n ≢ 0 → IsSlotOf (Some copy) v.hands.spare → IsAt k op kept (at.CopyLock d u next_key) v → Told k v (K13 copy) n w
+pub passes_copy_lock_busy : {k : Shape} {op : Op} {kept n copy next_key : ℕ} {v w : View} {d : Node} {u : Successor} → n ≢ 0 → IsSlotOf (Some copy) v.hands.spare → IsAt k op kept (at.CopyLock d u next_key) v → Told k v (acts.Lock copy) n w
     → IsAt k op kept (at.Unlock last.Again) w
 passes_copy_lock_busy {n = n} {copy = copy} {next_key = next_key} {d = d} {u = u} busy is a t =
-    passes_as (at.CopyLock d u next_key) (at.Unlock last.Again) (K13 copy) a refl (ap (λ x. K13 (or_root x)) (own_spare a is))
+    passes_as (at.CopyLock d u next_key) (at.Unlock last.Again) (acts.Lock copy) a refl (ap (λ x. acts.Lock (or_root x)) (own_spare a is))
     (ap (λ (x : Own). x.stage) (lock_busy a.own (or_root a.own.spare) n (at.CopyMark d u next_key) busy)
     ∙ ap (λ b. cond b at.EnterClock (at.Unlock last.Again)) (ap is_none_left ((((a.fits).point).0).4) ∙ some_left (u.parent == d.node))) t
   where
@@ -151,51 +151,51 @@ passes_copy_lock_busy {n = n} {copy = copy} {next_key = next_key} {d = d} {u = u
 pub locks_copy_mark : {k : Shape} {op : Op} {kept copy next_key : ℕ} {v : View} {d : Node} {u : Successor} → IsSlotOf (Some copy) v.hands.spare → IsAt k op kept (at.CopyMark d u next_key) v → HasLocks (copy ∷ all_locks d u) v
 locks_copy_mark {v = v} {d = d} {u = u} is a = record { same = subst (λ xs. SameLocks xs v.locks) (((a.fits).point).4 ∙ ap (λ x. or_root x ∷ all_locks d u) (own_spare a is)) ((a.fits).owns).locks_are }
 
-pub needs_copy_mark : {k : Shape} {op : Op} {kept next_key : ℕ} {v : View} {d : Node} {u : Successor} → IsAt k op kept (at.CopyMark d u next_key) v → TellsNow k v → Needs k v (K22 d.node (2 * d.generation))
+pub needs_copy_mark : {k : Shape} {op : Op} {kept next_key : ℕ} {v : View} {d : Node} {u : Successor} → IsAt k op kept (at.CopyMark d u next_key) v → TellsNow k v → Asks k v (acts.Mark d.node (2 * d.generation))
 needs_copy_mark a now = needs_at _ _ _ _ _ a refl now
 
-pub passes_copy_mark : {k : Shape} {op : Op} {kept n copy next_key : ℕ} {v w : View} {d : Node} {u : Successor} → IsSlotOf (Some copy) v.hands.spare → IsAt k op kept (at.CopyMark d u next_key) v → Told k v (K22 d.node (2 * d.generation)) n w
+pub passes_copy_mark : {k : Shape} {op : Op} {kept n copy next_key : ℕ} {v w : View} {d : Node} {u : Successor} → IsSlotOf (Some copy) v.hands.spare → IsAt k op kept (at.CopyMark d u next_key) v → Told k v (acts.Mark d.node (2 * d.generation)) n w
     → (expected : ℕ) → expected % 2 ≡ 0 → IsAt k op kept (at.Commit (update.Copy d u next_key copy) expected) w
 passes_copy_mark {k} {op} {kept} {n} {copy} {next_key} {v} {w} {d} {u} is a t expected even =
     subst (λ x. IsAt k op kept (at.Commit (update.Copy d u next_key (or_root x)) expected) w) (own_spare a is) (commits_any (passes_at k op kept v w n (at.CopyMark d u next_key) a refl t) expected even)
 
 -- The old successor is unlinked from the copy, or from its parent.
-unlink_copy_case : (o : Own) (m : Moving) (child : ℕ) → (m.successor.parent == m.node.node) ≡ true → case_at o (at.Unlink m child) ≡ K27 m.copy m.successor.slot child
-unlink_copy_case o m child e = ap (λ z. case_of (cond z (unlink_right m.copy m.successor.slot child) (unlink_left m.successor.parent m.successor.slot child))) e
+unlink_copy_case : (o : Own) (m : Moving) (child : ℕ) → (m.successor.parent == m.node.node) ≡ true → act_at o (at.Unlink m child) ≡ acts.UnlinkRight m.copy m.successor.slot child
+unlink_copy_case o m child e = ap (λ z. cond z (acts.UnlinkRight m.copy m.successor.slot child) (acts.UnlinkLeft m.successor.parent m.successor.slot child)) e
 
-unlink_parent_case : (o : Own) (m : Moving) (child : ℕ) → (m.successor.parent == m.node.node) ≡ false → case_at o (at.Unlink m child) ≡ K26 m.successor.parent m.successor.slot child
-unlink_parent_case o m child e = ap (λ z. case_of (cond z (unlink_right m.copy m.successor.slot child) (unlink_left m.successor.parent m.successor.slot child))) e
+unlink_parent_case : (o : Own) (m : Moving) (child : ℕ) → (m.successor.parent == m.node.node) ≡ false → act_at o (at.Unlink m child) ≡ acts.UnlinkLeft m.successor.parent m.successor.slot child
+unlink_parent_case o m child e = ap (λ z. cond z (acts.UnlinkRight m.copy m.successor.slot child) (acts.UnlinkLeft m.successor.parent m.successor.slot child)) e
 
 unlink_step : (o : Own) (m : Moving) (child : ℕ) → is_step (act_at o (at.Unlink m child)) ≡ true
 unlink_step o m child = by (m.successor.parent == m.node.node)
   where
-    by : (z : Bool) → is_step (cond z (unlink_right m.copy m.successor.slot child) (unlink_left m.successor.parent m.successor.slot child)) ≡ true
+    by : (z : Bool) → is_step (cond z (acts.UnlinkRight m.copy m.successor.slot child) (acts.UnlinkLeft m.successor.parent m.successor.slot child)) ≡ true
     by true = refl
     by false = refl
 
-pub needs_unlink_copy : {k : Shape} {op : Op} {kept child : ℕ} {v : View} {m : Moving} → (m.successor.parent == m.node.node) ≡ true → IsAt k op kept (at.Unlink m child) v → TellsNow k v → Needs k v (K27 m.copy m.successor.slot child)
-needs_unlink_copy {child = child} {m = m} e a now = needs_as (at.Unlink m child) (K27 m.copy m.successor.slot child) a (unlink_step a.own m child) (unlink_copy_case a.own m child e) now
+pub needs_unlink_copy : {k : Shape} {op : Op} {kept child : ℕ} {v : View} {m : Moving} → (m.successor.parent == m.node.node) ≡ true → IsAt k op kept (at.Unlink m child) v → TellsNow k v → Asks k v (acts.UnlinkRight m.copy m.successor.slot child)
+needs_unlink_copy {child = child} {m = m} e a now = needs_as (at.Unlink m child) (acts.UnlinkRight m.copy m.successor.slot child) a (unlink_step a.own m child) (unlink_copy_case a.own m child e) now
 
-pub needs_unlink_parent : {k : Shape} {op : Op} {kept child : ℕ} {v : View} {m : Moving} → (m.successor.parent == m.node.node) ≡ false → IsAt k op kept (at.Unlink m child) v → TellsNow k v → Needs k v (K26 m.successor.parent m.successor.slot child)
-needs_unlink_parent {child = child} {m = m} e a now = needs_as (at.Unlink m child) (K26 m.successor.parent m.successor.slot child) a (unlink_step a.own m child) (unlink_parent_case a.own m child e) now
+pub needs_unlink_parent : {k : Shape} {op : Op} {kept child : ℕ} {v : View} {m : Moving} → (m.successor.parent == m.node.node) ≡ false → IsAt k op kept (at.Unlink m child) v → TellsNow k v → Asks k v (acts.UnlinkLeft m.successor.parent m.successor.slot child)
+needs_unlink_parent {child = child} {m = m} e a now = needs_as (at.Unlink m child) (acts.UnlinkLeft m.successor.parent m.successor.slot child) a (unlink_step a.own m child) (unlink_parent_case a.own m child e) now
 
 -- Afterwards it holds the same locks; where the link is empty now, its tag is to be raised.
 abbrev unlink_next : Moving → ℕ → Stage
 unlink_next m child = if child == 0 then (if m.successor.parent == m.node.node then at.EmptyTag m.number m.copy Right else at.EmptyTag m.number m.successor.parent Left) else at.Unlock (last.Gone m.number)
 
-unlinked : {k : Shape} {op : Op} {kept n child : ℕ} {v w : View} {m : Moving} → IsAt k op kept (at.Unlink m child) v → (c : Case) → ((o : Own) → case_at o (at.Unlink m child) ≡ c) → Told k v c n w → IsAt k op kept (unlink_next m child) w × HasLocks (move_locks m) w
+unlinked : {k : Shape} {op : Op} {kept n child : ℕ} {v w : View} {m : Moving} → IsAt k op kept (at.Unlink m child) v → (c : Act) → ((o : Own) → act_at o (at.Unlink m child) ≡ c) → Told k v c n w → IsAt k op kept (unlink_next m child) w × HasLocks (move_locks m) w
 unlinked {k} {op} {kept} {n} {child} {v} {w} {m} a c e t =
     let f = fits_next k op kept v w n (at.Unlink m child) a (unlink_step a.own m child) (subst (λ x. Told k v x n w) (sym (e a.own)) t) in
     (next_own k op kept v w n (at.Unlink m child) a f, record { same = (f.owns).locks_are })
 
-pub passes_unlink_copy : {k : Shape} {op : Op} {kept n child : ℕ} {v w : View} {m : Moving} → (m.successor.parent == m.node.node) ≡ true → IsAt k op kept (at.Unlink m child) v → Told k v (K27 m.copy m.successor.slot child) n w
+pub passes_unlink_copy : {k : Shape} {op : Op} {kept n child : ℕ} {v w : View} {m : Moving} → (m.successor.parent == m.node.node) ≡ true → IsAt k op kept (at.Unlink m child) v → Told k v (acts.UnlinkRight m.copy m.successor.slot child) n w
     → IsAt k op kept (if child == 0 then at.EmptyTag m.number m.copy Right else at.Unlock (last.Gone m.number)) w × HasLocks (move_locks m) w
 passes_unlink_copy {k} {op} {kept} {n} {child} {v} {w} {m} e a t =
-    let r = unlinked a (K27 m.copy m.successor.slot child) (λ o. unlink_copy_case o m child e) t in
+    let r = unlinked a (acts.UnlinkRight m.copy m.successor.slot child) (λ o. unlink_copy_case o m child e) t in
     (subst (λ z. IsAt k op kept (if child == 0 then (if z then at.EmptyTag m.number m.copy Right else at.EmptyTag m.number m.successor.parent Left) else at.Unlock (last.Gone m.number)) w) e r.0, r.1)
 
-pub passes_unlink_parent : {k : Shape} {op : Op} {kept n child : ℕ} {v w : View} {m : Moving} → (m.successor.parent == m.node.node) ≡ false → IsAt k op kept (at.Unlink m child) v → Told k v (K26 m.successor.parent m.successor.slot child) n w
+pub passes_unlink_parent : {k : Shape} {op : Op} {kept n child : ℕ} {v w : View} {m : Moving} → (m.successor.parent == m.node.node) ≡ false → IsAt k op kept (at.Unlink m child) v → Told k v (acts.UnlinkLeft m.successor.parent m.successor.slot child) n w
     → IsAt k op kept (if child == 0 then at.EmptyTag m.number m.successor.parent Left else at.Unlock (last.Gone m.number)) w × HasLocks (move_locks m) w
 passes_unlink_parent {k} {op} {kept} {n} {child} {v} {w} {m} e a t =
-    let r = unlinked a (K26 m.successor.parent m.successor.slot child) (λ o. unlink_parent_case o m child e) t in
+    let r = unlinked a (acts.UnlinkLeft m.successor.parent m.successor.slot child) (λ o. unlink_parent_case o m child e) t in
     (subst (λ z. IsAt k op kept (if child == 0 then (if z then at.EmptyTag m.number m.copy Right else at.EmptyTag m.number m.successor.parent Left) else at.Unlock (last.Gone m.number)) w) e r.0, r.1)

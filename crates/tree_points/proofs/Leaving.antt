@@ -23,7 +23,8 @@ use Rattle.core_state.specs.declared.view.Section.{Section}
 use Rattle.core_state.specs.steps.Seating.{spare_slot}
 use Rattle.core_state.specs.steps.Sections.{leaving}
 use Rattle.list_laws.specs.Counts.{IsIn}
-use Rattle.core_points.specs.Acts.{given}
+use Rattle.core_acts.specs.Acts.{section_of}
+use Rattle.core_acts.proofs.Acting.{section_is}
 use Rattle.core_points.specs.Facts.{Calm, table_of}
 use Rattle.core_points.proofs.DeleteSearch.{next_delete}
 use Rattle.core_points.proofs.Leaves.{next_absent, next_link_leaf, next_old, next_val}
@@ -73,8 +74,8 @@ module _ (k : Shape) (op : Op) (kept : ℕ) (v w : View) (e : HasLeft v w) where
   same_view : w ≡ record left { enter = w.enter; trail = w.trail; seen = w.seen }
   same_view = e.others
 
-  left_fits : (next : Own) → Fits next next.stage (given v v.section (λ s. leaving v s [])) → Fits next next.stage left
-  left_fits next f = subst (λ x. Fits next next.stage (given v x (λ s. leaving v s []))) e.was f
+  left_fits : (next : Own) → Fits next next.stage (leaving v (section_of v) []) → Fits next next.stage left
+  left_fits next f = subst (λ x. Fits next next.stage (leaving v x [])) (section_is v _ e.was) f
 
   own_hand : {next : Stage} (a : IsAt k op kept next v) → Calm a.own v → a.own.hand ≡ spare_slot v.hands.hand
   own_hand a calm = sym (slot_in_hand a.own.hand _ _ _ v.hands.hand calm.1)

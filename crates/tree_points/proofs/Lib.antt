@@ -1,6 +1,3 @@
-pub mod Fields
-pub mod Asking
-pub mod Going
 pub mod Passing
 pub mod Steps
 pub mod Searching

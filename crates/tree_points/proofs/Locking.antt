@@ -18,8 +18,8 @@ use Rattle.core_points.specs.declared.stage.Stage.TheVariants as at
 use Rattle.core_points.specs.Callers.{Own, go, is_none_left}
 use Rattle.core_points.specs.DeletePlan.{nothing_found, target_lock, target_locks}
 use Rattle.core_points.specs.Fits.{Fits}
-use Rattle.seat_table.specs.declared.case.Case.TheVariants.{K13, K14}
-use Rattle.seat_table.specs.Cases.{Needs}
+use Rattle.core_acts.specs.declared.act.Act.TheVariants as acts
+use Rattle.core_acts.specs.Acts.{Asks}
 use Rattle.seat_table.specs.Gains.{TellsNow}
 use Rattle.seat_table.specs.Told.{Told}
 use Rattle.tree_points.specs.At.{HasLocks, IsAt, IsDone}
@@ -93,46 +93,46 @@ lock_busy o s n next ne = ap (λ z. cond z (go (record o { locks = s ∷ o.locks
 busy_stage : (o : Own) (s n : ℕ) (next : Stage) (z : Bool) → n ≢ 0 → is_none_left o.locks ≡ z → (past_lock o s n next).stage ≡ (if z then at.EnterClock else at.Unlock last.Again)
 busy_stage o s n next z ne e = ap (λ (x : Own). x.stage) (lock_busy o s n next ne) ∙ ap (λ b. cond b at.EnterClock (at.Unlock last.Again)) e
 
-pub needs_leaf_lock : {k : Shape} {op : Op} {kept : ℕ} {v : View} {spot : Spot} → IsAt k op kept (at.LeafLock spot) v → TellsNow k v → Needs k v (K13 spot.slot)
+pub needs_leaf_lock : {k : Shape} {op : Op} {kept : ℕ} {v : View} {spot : Spot} → IsAt k op kept (at.LeafLock spot) v → TellsNow k v → Asks k v (acts.Lock spot.slot)
 needs_leaf_lock a now = needs_at _ _ _ _ _ a refl now
 
-pub passes_leaf_lock_free : {k : Shape} {op : Op} {kept n : ℕ} {v w : View} {spot : Spot} → n ≡ 0 → IsAt k op kept (at.LeafLock spot) v → Told k v (K13 spot.slot) n w → IsAt k op kept (at.LeafLife spot) w
-passes_leaf_lock_free {n = n} {spot = spot} free a t = passes_as (at.LeafLock spot) (at.LeafLife spot) (K13 spot.slot) a refl refl (ap (λ (x : Own). x.stage) (lock_free a.own spot.slot n (at.LeafLife spot) free)) t
+pub passes_leaf_lock_free : {k : Shape} {op : Op} {kept n : ℕ} {v w : View} {spot : Spot} → n ≡ 0 → IsAt k op kept (at.LeafLock spot) v → Told k v (acts.Lock spot.slot) n w → IsAt k op kept (at.LeafLife spot) w
+passes_leaf_lock_free {n = n} {spot = spot} free a t = passes_as (at.LeafLock spot) (at.LeafLife spot) (acts.Lock spot.slot) a refl refl (ap (λ (x : Own). x.stage) (lock_free a.own spot.slot n (at.LeafLife spot) free)) t
 
-pub passes_leaf_lock_busy : {k : Shape} {op : Op} {kept n : ℕ} {v w : View} {spot : Spot} → n ≢ 0 → IsAt k op kept (at.LeafLock spot) v → Told k v (K13 spot.slot) n w → IsAt k op kept at.EnterClock w
+pub passes_leaf_lock_busy : {k : Shape} {op : Op} {kept n : ℕ} {v w : View} {spot : Spot} → n ≢ 0 → IsAt k op kept (at.LeafLock spot) v → Told k v (acts.Lock spot.slot) n w → IsAt k op kept at.EnterClock w
 passes_leaf_lock_busy {n = n} {v = v} {spot = spot} busy a t =
-    passes_as (at.LeafLock spot) at.EnterClock (K13 spot.slot) a refl refl (busy_stage a.own spot.slot n (at.LeafLife spot) true busy (ap is_none_left (no_locks a.own v (a.fits).owns (((a.fits).point).2).0))) t
+    passes_as (at.LeafLock spot) at.EnterClock (acts.Lock spot.slot) a refl refl (busy_stage a.own spot.slot n (at.LeafLife spot) true busy (ap is_none_left (no_locks a.own v (a.fits).owns (((a.fits).point).2).0))) t
 
-pub needs_set_lock : {k : Shape} {op : Op} {kept : ℕ} {v : View} {s generation : ℕ} → IsAt k op kept (at.SetLock s generation) v → TellsNow k v → Needs k v (K13 s)
+pub needs_set_lock : {k : Shape} {op : Op} {kept : ℕ} {v : View} {s generation : ℕ} → IsAt k op kept (at.SetLock s generation) v → TellsNow k v → Asks k v (acts.Lock s)
 needs_set_lock a now = needs_at _ _ _ _ _ a refl now
 
-pub passes_set_lock_free : {k : Shape} {op : Op} {kept n : ℕ} {v w : View} {s generation : ℕ} → n ≡ 0 → IsAt k op kept (at.SetLock s generation) v → Told k v (K13 s) n w → IsAt k op kept (at.SetCheck s generation) w
+pub passes_set_lock_free : {k : Shape} {op : Op} {kept n : ℕ} {v w : View} {s generation : ℕ} → n ≡ 0 → IsAt k op kept (at.SetLock s generation) v → Told k v (acts.Lock s) n w → IsAt k op kept (at.SetCheck s generation) w
 passes_set_lock_free {n = n} {s = s} {generation = generation} free a t =
-    passes_as (at.SetLock s generation) (at.SetCheck s generation) (K13 s) a refl refl (ap (λ (x : Own). x.stage) (lock_free a.own s n (at.SetCheck s generation) free)) t
+    passes_as (at.SetLock s generation) (at.SetCheck s generation) (acts.Lock s) a refl refl (ap (λ (x : Own). x.stage) (lock_free a.own s n (at.SetCheck s generation) free)) t
 
-pub passes_set_lock_busy : {k : Shape} {op : Op} {kept n : ℕ} {v w : View} {s generation : ℕ} → n ≢ 0 → IsAt k op kept (at.SetLock s generation) v → Told k v (K13 s) n w → IsAt k op kept at.EnterClock w
+pub passes_set_lock_busy : {k : Shape} {op : Op} {kept n : ℕ} {v w : View} {s generation : ℕ} → n ≢ 0 → IsAt k op kept (at.SetLock s generation) v → Told k v (acts.Lock s) n w → IsAt k op kept at.EnterClock w
 passes_set_lock_busy {n = n} {v = v} {s = s} {generation = generation} busy a t =
-    passes_as (at.SetLock s generation) at.EnterClock (K13 s) a refl refl (busy_stage a.own s n (at.SetCheck s generation) true busy (ap is_none_left (no_locks a.own v (a.fits).owns ((a.fits).point).1))) t
+    passes_as (at.SetLock s generation) at.EnterClock (acts.Lock s) a refl refl (busy_stage a.own s n (at.SetCheck s generation) true busy (ap is_none_left (no_locks a.own v (a.fits).owns ((a.fits).point).1))) t
 
 -- the locks of a delete
-pub needs_target_lock : {k : Shape} {op : Op} {kept i : ℕ} {v : View} {t : Target} → IsAt k op kept (at.TargetLock t i) v → TellsNow k v → Needs k v (K13 (target_lock t i))
+pub needs_target_lock : {k : Shape} {op : Op} {kept i : ℕ} {v : View} {t : Target} → IsAt k op kept (at.TargetLock t i) v → TellsNow k v → Asks k v (acts.Lock (target_lock t i))
 needs_target_lock a now = needs_at _ _ _ _ _ a refl now
 
-pub passes_target_lock_free : {k : Shape} {op : Op} {kept n i : ℕ} {v w : View} {t : Target} → n ≡ 0 → IsAt k op kept (at.TargetLock t i) v → Told k v (K13 (target_lock t i)) n w
+pub passes_target_lock_free : {k : Shape} {op : Op} {kept n i : ℕ} {v w : View} {t : Target} → n ≡ 0 → IsAt k op kept (at.TargetLock t i) v → Told k v (acts.Lock (target_lock t i)) n w
     → IsAt k op kept (if i + 1 == target_locks t then at.TargetLoad t 0 nothing_found else at.TargetLock t (i + 1)) w
 passes_target_lock_free {n = n} {i = i} {t = target} free a t =
     let next : Stage = if i + 1 == target_locks target then at.TargetLoad target 0 nothing_found else at.TargetLock target (i + 1) in
-    passes_as (at.TargetLock target i) next (K13 (target_lock target i)) a refl refl (ap (λ (x : Own). x.stage) (lock_free a.own (target_lock target i) n next free)) t
+    passes_as (at.TargetLock target i) next (acts.Lock (target_lock target i)) a refl refl (ap (λ (x : Own). x.stage) (lock_free a.own (target_lock target i) n next free)) t
 
-pub passes_target_lock_first : {k : Shape} {op : Op} {kept n : ℕ} {v w : View} {t : Target} → n ≢ 0 → IsAt k op kept (at.TargetLock t 0) v → Told k v (K13 (target_lock t 0)) n w → IsAt k op kept at.EnterClock w
+pub passes_target_lock_first : {k : Shape} {op : Op} {kept n : ℕ} {v w : View} {t : Target} → n ≢ 0 → IsAt k op kept (at.TargetLock t 0) v → Told k v (acts.Lock (target_lock t 0)) n w → IsAt k op kept at.EnterClock w
 passes_target_lock_first {n = n} {t = target} busy a t =
     let next : Stage = if 0 + 1 == target_locks target then at.TargetLoad target 0 nothing_found else at.TargetLock target (0 + 1) in
-    passes_as (at.TargetLock target 0) at.EnterClock (K13 (target_lock target 0)) a refl refl (busy_stage a.own (target_lock target 0) n next true busy (ap is_none_left ((a.fits).point).5)) t
+    passes_as (at.TargetLock target 0) at.EnterClock (acts.Lock (target_lock target 0)) a refl refl (busy_stage a.own (target_lock target 0) n next true busy (ap is_none_left ((a.fits).point).5)) t
 
-pub passes_target_lock_busy : {k : Shape} {op : Op} {kept n : ℕ} {v w : View} {t : Target} (i : ℕ) → 1 ≤ i → n ≢ 0 → IsAt k op kept (at.TargetLock t i) v → Told k v (K13 (target_lock t i)) n w → IsAt k op kept (at.Unlock last.Again) w
+pub passes_target_lock_busy : {k : Shape} {op : Op} {kept n : ℕ} {v w : View} {t : Target} (i : ℕ) → 1 ≤ i → n ≢ 0 → IsAt k op kept (at.TargetLock t i) v → Told k v (acts.Lock (target_lock t i)) n w → IsAt k op kept (at.Unlock last.Again) w
 passes_target_lock_busy {n = n} {t = target} i some busy a t =
     let next : Stage = if i + 1 == target_locks target then at.TargetLoad target 0 nothing_found else at.TargetLock target (i + 1) in
-    passes_as (at.TargetLock target i) (at.Unlock last.Again) (K13 (target_lock target i)) a refl refl (busy_stage a.own (target_lock target i) n next false busy (ap is_none_left ((a.fits).point).5 ∙ more i some)) t
+    passes_as (at.TargetLock target i) (at.Unlock last.Again) (acts.Lock (target_lock target i)) a refl refl (busy_stage a.own (target_lock target i) n next false busy (ap is_none_left ((a.fits).point).5 ∙ more i some)) t
   where
     more : (i : ℕ) → 1 ≤ i → is_none_left (first_locks target i) ≡ false
     more zero some = absurd (omega arith)
@@ -180,27 +180,27 @@ relocked {v = v} {l = l} s rest has a = record {
   fits = relocked_fits a.own v l s rest has.same a.fits;
 }
 
-pub needs_unlock : {k : Shape} {op : Op} {kept : ℕ} {v : View} {l : Last} {s : ℕ} {rest : List ℕ} → HasLocks (s ∷ rest) v → IsAt k op kept (at.Unlock l) v → TellsNow k v → Needs k v (K14 s)
+pub needs_unlock : {k : Shape} {op : Op} {kept : ℕ} {v : View} {l : Last} {s : ℕ} {rest : List ℕ} → HasLocks (s ∷ rest) v → IsAt k op kept (at.Unlock l) v → TellsNow k v → Asks k v (acts.Unlock s)
 needs_unlock {s = s} {rest = rest} has a now = needs_at _ _ _ _ _ (relocked s rest has a) refl now
 
-pub passes_unlock : {k : Shape} {op : Op} {kept n : ℕ} {v w : View} {l : Last} {s next : ℕ} {rest : List ℕ} → HasLocks (s ∷ next ∷ rest) v → IsAt k op kept (at.Unlock l) v → Told k v (K14 s) n w
+pub passes_unlock : {k : Shape} {op : Op} {kept n : ℕ} {v w : View} {l : Last} {s next : ℕ} {rest : List ℕ} → HasLocks (s ∷ next ∷ rest) v → IsAt k op kept (at.Unlock l) v → Told k v (acts.Unlock s) n w
     → IsAt k op kept (at.Unlock l) w × HasLocks (next ∷ rest) w
 passes_unlock {k} {op} {kept} {n} {v} {w} {l} {s} {next} {rest} has a t =
     let b = relocked s (next ∷ rest) has a in
     let f = fits_next k op kept v w n (at.Unlock l) b refl t in
     (next_own k op kept v w n (at.Unlock l) b f, record { same = (f.owns).locks_are })
 
-pub passes_unlock_again : {k : Shape} {op : Op} {kept n : ℕ} {v w : View} {s : ℕ} → HasLocks (s ∷ []) v → IsAt k op kept (at.Unlock last.Again) v → Told k v (K14 s) n w → IsAt k op kept at.EnterClock w
+pub passes_unlock_again : {k : Shape} {op : Op} {kept n : ℕ} {v w : View} {s : ℕ} → HasLocks (s ∷ []) v → IsAt k op kept (at.Unlock last.Again) v → Told k v (acts.Unlock s) n w → IsAt k op kept at.EnterClock w
 passes_unlock_again {s = s} has a t = passes_at _ _ _ _ _ _ _ (relocked s [] has a) refl t
 
 pub done_stage : (o : Own) (reply : Reply) (number : ℕ) → o.rest ≡ [] → (answer o reply number).stage ≡ at.Finished
 done_stage o reply number e = ap (λ ops. (begun_with (record o { told = o.told ++ record { reply = reply; number = number } ∷ [] }) ops).stage) e
 
-pub passes_unlock_new : {k : Shape} {op : Op} {kept n number : ℕ} {v w : View} {s : ℕ} → HasLocks (s ∷ []) v → IsAt k op kept (at.Unlock (last.New number)) v → Told k v (K14 s) n w → IsDone k op kept w
-passes_unlock_new {number = number} {s = s} has a t = passes_as (at.Unlock (last.New number)) at.Finished (K14 s) (relocked s [] has a) refl refl (done_stage (record a.own { locks = [] }) New number a.last) t
+pub passes_unlock_new : {k : Shape} {op : Op} {kept n number : ℕ} {v w : View} {s : ℕ} → HasLocks (s ∷ []) v → IsAt k op kept (at.Unlock (last.New number)) v → Told k v (acts.Unlock s) n w → IsDone k op kept w
+passes_unlock_new {number = number} {s = s} has a t = passes_as (at.Unlock (last.New number)) at.Finished (acts.Unlock s) (relocked s [] has a) refl refl (done_stage (record a.own { locks = [] }) New number a.last) t
 
-pub passes_unlock_gone : {k : Shape} {op : Op} {kept n number : ℕ} {v w : View} {s : ℕ} → HasLocks (s ∷ []) v → IsAt k op kept (at.Unlock (last.Gone number)) v → Told k v (K14 s) n w → IsDone k op kept w
-passes_unlock_gone {number = number} {s = s} has a t = passes_as (at.Unlock (last.Gone number)) at.Finished (K14 s) (relocked s [] has a) refl refl (done_stage (record a.own { locks = [] }) Gone number a.last) t
+pub passes_unlock_gone : {k : Shape} {op : Op} {kept n number : ℕ} {v w : View} {s : ℕ} → HasLocks (s ∷ []) v → IsAt k op kept (at.Unlock (last.Gone number)) v → Told k v (acts.Unlock s) n w → IsDone k op kept w
+passes_unlock_gone {number = number} {s = s} has a t = passes_as (at.Unlock (last.Gone number)) at.Finished (acts.Unlock s) (relocked s [] has a) refl refl (done_stage (record a.own { locks = [] }) Gone number a.last) t
 
-pub passes_unlock_was : {k : Shape} {op : Op} {kept n value number : ℕ} {v w : View} {s : ℕ} → HasLocks (s ∷ []) v → IsAt k op kept (at.Unlock (last.Was value number)) v → Told k v (K14 s) n w → IsDone k op kept w
-passes_unlock_was {value = value} {number = number} {s = s} has a t = passes_as (at.Unlock (last.Was value number)) at.Finished (K14 s) (relocked s [] has a) refl refl (done_stage (record a.own { locks = [] }) (Was value) number a.last) t
+pub passes_unlock_was : {k : Shape} {op : Op} {kept n value number : ℕ} {v w : View} {s : ℕ} → HasLocks (s ∷ []) v → IsAt k op kept (at.Unlock (last.Was value number)) v → Told k v (acts.Unlock s) n w → IsDone k op kept w
+passes_unlock_was {value = value} {number = number} {s = s} has a t = passes_as (at.Unlock (last.Was value number)) at.Finished (acts.Unlock s) (relocked s [] has a) refl refl (done_stage (record a.own { locks = [] }) (Was value) number a.last) t

@@ -20,8 +20,9 @@ use Rattle.core_points.specs.declared.stage.Waits.{Waits}
 use Rattle.core_points.specs.declared.stage.Waits.TheVariants.{Reuse, Move}
 use Rattle.core_points.specs.declared.stage.Stage.{Stage}
 use Rattle.core_points.specs.declared.stage.Stage.TheVariants as at
-use Rattle.core_points.specs.Acts.{Act, field_of, view_after}
-use Rattle.core_points.specs.Acts as acts
+use Rattle.core_points.specs.Acts.{Act, field_of, kind_of, is_step, view_after}
+use Rattle.core_acts.specs.Laws.{said}
+use Rattle.core_state.specs.declared.shape.Waiter.TheVariants.{Eer}
 use Rattle.core_points.specs.Callers.{Own, but_first, first_or_root, go, is_none_left, is_some, or_root}
 use Rattle.core_points.specs.DeletePlan.{target_lock}
 use Rattle.core_points.specs.Fits.{Fits}
@@ -31,13 +32,10 @@ use Rattle.core_points.specs.Told.{IsTold}
 use Rattle.core_points.proofs.All.{needs_are_given, next_fits, trails_are_free}
 use Rattle.core_points.proofs.Within.{acts_are_within}
 use Rattle.core_frames.specs.Telling.{IsToldOf}
-use Rattle.seat_table.specs.Cases.{Needs, noted, what}
+use Rattle.core_acts.specs.Acts.{noted, Asks, IsWord}
 use Rattle.seat_table.specs.Gains.{TellsNow}
 use Rattle.seat_table.specs.Told.{Told}
 use Rattle.tree_points.specs.At.{IsAt}
-use Rattle.tree_points.specs.Asked.{case_at, case_of, is_read, is_step}
-use Rattle.tree_points.proofs.Asking.{asks, first}
-use Rattle.tree_points.proofs.Going.{goes, same_view, same_word, says_found}
 
 -- the same call, on the same table, with no further operation
 pub record SameCall (new o : Own) : Type 0 where
@@ -178,67 +176,6 @@ module _ (o : Own) (n : ℕ) (e : o.rest ≡ []) where
   same_call (at.OldRight m) = record { op_is = refl; slots_are = refl; places_are = refl; last = e; keeps = refl }
   same_call (at.Unlink m child) = record { op_is = refl; slots_are = refl; places_are = refl; last = e; keeps = refl }
 
--- where nothing is read the call goes on alike whatever was there
-same_next : (o : Own) (m n : ℕ) (stage : Stage) → is_read (act_at o stage) ≡ false → after o m stage ≡ after o n stage
-same_next o m n at.Finished read = refl
-same_next o m n at.EnterClock read = cc
-same_next o m n (at.EnterKey clock) read = refl
-same_next o m n (at.EnterStamp clock) read = refl
-same_next o m n (at.AtLink s b) read = cc
-same_next o m n (at.AtKey s parent b) read = cc
-same_next o m n (at.Leave next) read = refl
-same_next o m n (at.Value s) read = cc
-same_next o m n (at.SpotTag s b) read = cc
-same_next o m n (at.SpotLife s b tag) read = cc
-same_next o m n (at.LeafField spot i) read = refl
-same_next o m n (at.LeafLock spot) read = cc
-same_next o m n (at.LeafLife spot) read = cc
-same_next o m n (at.LeafSide spot life) read = cc
-same_next o m n (at.LeafTag spot life link) read = cc
-same_next o m n (at.Reserve aim expected) read = cc
-same_next o m n (at.Seize aim) read = cc
-same_next o m n (at.Age aim s) read = cc
-same_next o m n (at.Keep s) read = cc
-same_next o m n at.Raise read = refl
-same_next o m n at.Free read = refl
-same_next o m n at.Count read = cc
-same_next o m n (at.Begin waits) read = cc
-same_next o m n (at.LookKey waits clock p) read = cc
-same_next o m n (at.LookStamp waits clock p key) read = cc
-same_next o m n (at.OldAge aim) read = cc
-same_next o m n (at.OldRaise aim life) read = refl
-same_next o m n (at.OldFree aim) read = refl
-same_next o m n (at.OldCount aim) read = cc
-same_next o m n (at.Commit u expected) read = cc
-same_next o m n (at.Store u front) read = refl
-same_next o m n (at.Even u front) read = refl
-same_next o m n (at.Unlock l) read = refl
-same_next o m n (at.SetLife s) read = cc
-same_next o m n (at.SetLock s generation) read = cc
-same_next o m n (at.SetCheck s generation) read = cc
-same_next o m n (at.SetValue s) read = cc
-same_next o m n (at.ParentLife p b d) read = cc
-same_next o m n (at.NodeLife d) read = cc
-same_next o m n (at.NodeLeft d) read = cc
-same_next o m n (at.NodeRight d) read = cc
-same_next o m n (at.SuccessorLeft d u) read = cc
-same_next o m n (at.SuccessorParentLife d u) read = cc
-same_next o m n (at.SuccessorLife d u) read = cc
-same_next o m n (at.TargetLock t i) read = cc
-same_next o m n (at.TargetLoad t i found) read = cc
-same_next o m n (at.Mark d child) read = refl
-same_next o m n (at.EmptyTag number s b) read = cc
-same_next o m n (at.EmptyRaise number s b tag) read = refl
-same_next o m n (at.SuccessorKey d u) read = cc
-same_next o m n (at.SuccessorValue d u next_key) read = cc
-same_next o m n (at.CopyField d u next_key value i) read = refl
-same_next o m n (at.CopyAge d u next_key) read = cc
-same_next o m n (at.CopyLock d u next_key) read = cc
-same_next o m n (at.CopyMark d u next_key) read = refl
-same_next o m n (at.OldMark m') read = refl
-same_next o m n (at.OldRight m') read = cc
-same_next o m n (at.Unlink m' child) read = refl
-
 goes_on : (o : Own) (stage : Stage) → is_step (act_at o stage) ≡ true → is_finished stage ≡ false
 goes_on o at.Finished is = cc
 goes_on o _ is = refl
@@ -247,13 +184,14 @@ module _ (k : Shape) (op : Op) (kept : ℕ) where
   pub told_own : (o : Own) (v : View) (h : List Mark) (word : Field → ℕ) → o.slots ≡ k.slots → o.places ≡ k.places → IsToldOf k.slots k.places v h word → IsTold o v h word
   told_own o v h word slots places t = subst (λ x. IsToldOf x o.places v h word) (sym slots) (subst (λ x. IsToldOf k.slots x v h word) (sym places) t)
 
-  pub needs_at : (v : View) (stage : Stage) (a : IsAt k op kept stage v) → is_step (act_at a.own stage) ≡ true → TellsNow k v → Needs k v (case_at a.own stage)
+  pub needs_at : (v : View) (stage : Stage) (a : IsAt k op kept stage v) → is_step (act_at a.own stage) ≡ true → TellsNow k v → Asks k v (act_at a.own stage)
   needs_at v stage a is now =
       let o : Own = a.own in
       let told = told_own o v now.marks now.word a.slots_are a.places_are now.tells in
-      asks k o.place v 0 (act_at o stage) is
-      (needs_are_given (first k) now.marks o v now.word 0 stage refl (sym a.places_are) told a.fits)
-      (acts_are_within (first k) now.marks o v now.word stage refl (sym a.slots_are) (sym a.places_are) told a.fits)
+      let any : is_step (act_at o stage) ≡ false → k.waiter ≡ Eer = λ no. absurd (let e : true ≡ false = sym is ∙ no in cc) in (
+        subst (λ p. IsWord k (field_of p (act_at o stage))) (sym ((a.fits).owns).same) (acts_are_within k now.marks o v now.word stage any (sym a.slots_are) (sym a.places_are) told a.fits),
+        needs_are_given k now.marks o v now.word 0 stage any (sym a.places_are) told a.fits,
+      )
 
   pub next_own : (v w : View) (n : ℕ) (stage : Stage) (a : IsAt k op kept stage v) → Fits (after a.own n stage) (after a.own n stage).stage w → IsAt k op kept (after a.own n stage).stage w
   next_own v w n stage a f =
@@ -268,64 +206,19 @@ module _ (k : Shape) (op : Op) (kept : ℕ) where
         fits = f;
       }
 
-  -- what the act needed
-  pub act_needs : (v w : View) (n : ℕ) (stage : Stage) (a : IsAt k op kept stage v) → Told k v (case_at a.own stage) n w → acts.Needs (first k) v n (act_at a.own stage)
-  act_needs v w n stage a t =
-      needs_are_given (first k) t.0 a.own v (t.8).word n stage refl (sym a.places_are) (told_own a.own v t.0 (t.8).word a.slots_are a.places_are (t.8).tells) a.fits
-
-  -- the view afterwards is that of the act
-  pub view_next : (v w : View) (n : ℕ) (stage : Stage) (a : IsAt k op kept stage v) → is_step (act_at a.own stage) ≡ true → (t : Told k v (case_at a.own stage) n w) → w ≡ view_after (noted v (case_at a.own stage) n) t.0 n (act_at a.own stage)
-  view_next v w n stage a is t =
-      let told = told_own a.own v t.0 (t.8).word a.slots_are a.places_are (t.8).tells in
-      goes k v t.0 n w (act_at a.own stage) is (needs_are_given (first k) t.0 a.own v (t.8).word n stage refl (sym a.places_are) told a.fits) t.2 t.5
-
   -- the view fits the next point
-  pub fits_next : (v w : View) (n : ℕ) (stage : Stage) (a : IsAt k op kept stage v) → is_step (act_at a.own stage) ≡ true → Told k v (case_at a.own stage) n w → Fits (after a.own n stage) (after a.own n stage).stage w
-  fits_next v w n stage a is t = by_read (is_read (act_at a.own stage)) refl
-    where
-      o : Own
-      o = a.own
+  pub fits_next : (v w : View) (n : ℕ) (stage : Stage) (a : IsAt k op kept stage v) → is_step (act_at a.own stage) ≡ true → Told k v (act_at a.own stage) n w → Fits (after a.own n stage) (after a.own n stage).stage w
+  fits_next v w n stage a is t =
+      let o : Own = a.own in
+      let act : Act = act_at o stage in
+      let h : List Mark = t.marks in
+      let word : Field → ℕ = (t.before).word in
+      let u : View = noted v act n in
+      let free = trails_are_free h o v word stage (kind_of act) (field_of v.allowance.place act) n in
+      let told = told_own o v h word a.slots_are a.places_are (t.before).tells in
+      let found : said v act (word (field_of o.place act)) ≡ n = ap (λ p. said v act (word (field_of p act))) (sym ((a.fits).owns).same) ∙ (t.before).found_is in
+      subst (λ x. Fits (after o n stage) (after o n stage).stage x) (sym t.goes)
+      (subst (λ s. Fits (after o s stage) (after o s stage).stage (view_after u h s act)) found (next_fits h o u word stage (free.1 told) (goes_on o stage is) (free.0 a.fits)))
 
-      act : Act
-      act = act_at o stage
-
-      h : List Mark
-      h = t.0
-
-      word : Field → ℕ
-      word = (t.8).word
-
-      u : View
-      u = noted v (case_of act) n
-
-      m : ℕ
-      m = word (field_of o.place act)
-
-      told : IsTold o v h word
-      told = told_own o v h word a.slots_are a.places_are (t.8).tells
-
-      needs : acts.Needs (first k) v n act
-      needs = needs_are_given (first k) h o v word n stage refl (sym a.places_are) told a.fits
-
-      free : (Fits o stage v → Fits o stage u) × (IsTold o v h word → IsTold o u h word)
-      free = trails_are_free h o v word stage (what v (case_of act)).kind (what v (case_of act)).field n
-
-      next : Fits (after o m stage) (after o m stage).stage (view_after u h m act)
-      next = next_fits h o u word stage (free.1 told) (goes_on o stage is) (free.0 a.fits)
-
-      view_is : w ≡ view_after u h n act
-      view_is = goes k v h n w act is needs t.2 t.5
-
-      by_read : (z : Bool) → is_read act ≡ z → Fits (after o n stage) (after o n stage).stage w
-      by_read true read =
-          let where_is : word (what v (case_of act)).field ≡ m = ap word (same_word k o.place v n act is needs) in
-          let found : m ≡ n = sym where_is ∙ sym (says_found v (word (what v (case_of act)).field) act is read) ∙ (t.8).found_is in
-          subst (λ x. Fits (after o n stage) (after o n stage).stage x) (sym view_is)
-          (subst (λ x. Fits (after o x stage) (after o x stage).stage (view_after u h x act)) found next)
-      by_read false read =
-          subst (λ x. Fits (after o n stage) (after o n stage).stage x) (sym view_is)
-          (subst (λ x. Fits (after o n stage) (after o n stage).stage x) (same_view u h m n act read)
-          (subst (λ (x : Own). Fits x x.stage (view_after u h m act)) (same_next o m n stage read) next))
-
-  pub passes_at : (v w : View) (n : ℕ) (stage : Stage) (a : IsAt k op kept stage v) → is_step (act_at a.own stage) ≡ true → Told k v (case_at a.own stage) n w → IsAt k op kept (after a.own n stage).stage w
+  pub passes_at : (v w : View) (n : ℕ) (stage : Stage) (a : IsAt k op kept stage v) → is_step (act_at a.own stage) ≡ true → Told k v (act_at a.own stage) n w → IsAt k op kept (after a.own n stage).stage w
   passes_at v w n stage a is t = next_own v w n stage a (fits_next v w n stage a is t)

@@ -9,13 +9,14 @@ use Rattle.core_state.specs.declared.view.View.{View}
 use Rattle.core_state.specs.declared.words.Field.TheVariants.{Life, Tag}
 use Rattle.core_state.specs.views.Known.{noting, with_emptied}
 use Rattle.core_state.specs.steps.Links.{with_mark}
-use Rattle.core_state.specs.steps.Slots.{IsRetiredAt, NeedsOwnLife, reserving, seized, with_free}
+use Rattle.core_state.specs.steps.Slots.{reserving, seized, with_free}
 use Rattle.core_state.specs.steps.Locks.{new_lock, with_front}
 use Rattle.core_points.proofs.Locking.{slots_in}
 use Rattle.core_points.proofs.ClearLocks.{emptied_slot}
-use Rattle.seat_table.specs.declared.case.Case.{Case}
-use Rattle.seat_table.specs.declared.case.Case.TheVariants.{K3, K4, K5, K6, K7, K8, K9, K10, K11, K12, K13, K14, K15, K16, K17, K18, K19, K20, K21, K22, K23, K24, K25, K26, K27, K28, K29, K30, K31, K32, K33, K34, K35, K36, K37, ListLoad}
-use Rattle.seat_table.specs.Cases.{Fills, FreesInHand, FreesRetired, Needs, RaisesInHand, RaisesRetired, noted, slot_field}
+use Rattle.core_acts.specs.declared.act.Act.{Act}
+use Rattle.core_acts.specs.declared.act.Act.TheVariants as acts
+use Rattle.core_acts.specs.declared.act.Part.{Part}
+use Rattle.core_acts.specs.Acts.{in_slot, noted}
 use Rattle.seat_table.specs.Told.{Told}
 use Rattle.seat_table.specs.Seats.{IsSlotOf}
 use Rattle.list_laws.specs.Counts.{times}
@@ -26,152 +27,126 @@ use Rattle.tree_points.specs.At.{HasLocks}
 use Rattle.tree_points.specs.Progress.{HasGone}
 use Rattle.tree_points.proofs.Gone.{IsSame, gone_all, gone_none, gone_with, lock_slots, noting_same}
 
--- the kinds that leave no mark of a place
-abbrev pub leaves_none : Case → Bool
-leaves_none (K9 slot keep) = true
-leaves_none (K10 expected) = true
-leaves_none (K11 slot) = true
-leaves_none (K12 slot field value) = true
-leaves_none (K13 slot) = true
-leaves_none (K14 slot) = true
-leaves_none (K15 slot) = true
-leaves_none K16 = true
-leaves_none (K17 slot field) = true
-leaves_none (K18 slot field) = true
-leaves_none (K19 expected) = true
-leaves_none (K22 slot life) = true
-leaves_none (K23 slot b tag) = true
-leaves_none (K24 front) = true
-leaves_none (K26 parent old child) = true
-leaves_none (K27 copy old child) = true
-leaves_none _ = false
+-- the acts that leave no mark of a place
+abbrev pub leaves_none : Act → Bool
+leaves_none (acts.EnterByStamp key stamp) = false
+leaves_none acts.LeaveByStamp = false
+leaves_none (acts.BeginWait low high) = false
+leaves_none (acts.LookKey p last) = false
+leaves_none (acts.LookStamp p last) = false
+leaves_none (acts.LinkLeaf slot b leaf key value) = false
+leaves_none (acts.Bypass parent b node child key) = false
+leaves_none (acts.LinkCopy parent b node copy old old_parent key next_key) = false
+leaves_none (acts.LoadGate class) = false
+leaves_none (acts.EnterByCount key side) = false
+leaves_none (acts.LeaveByCount class side) = false
+leaves_none (acts.LookCount class side last) = false
+leaves_none (acts.EnterByRow key stamp) = false
+leaves_none (acts.LeaveByRow class) = false
+leaves_none (acts.LookRow p class last) = false
+leaves_none (acts.ReplaceValue slot key value) = false
+leaves_none _ = true
 
 module _ (k : Shape) (v : View) (n : ℕ) (w : View) where
   -- a view that sees what it saw
   as_seen : (x : View) → x.allowance.place ≡ v.allowance.place → x.seen ≡ v.seen → w ≡ x → HasGone v w []
   as_seen x place seen e = gone_none (ap (λ (z : View). z.allowance.place) e ∙ place) (ap (λ (z : View). z.seen) e ∙ seen)
 
-  module _ (c : Case) (t : Told k v c n w) where
+  module _ (a : Act) (t : Told k v a n w) where
     -- one that sees all marks, with one more that is no place's
-    as_marked : (x : View) (mark : Mark) → own_of v.allowance.place (mark ∷ []) ≡ [] → x.allowance.place ≡ v.allowance.place → x.seen ≡ t.0 ++ mark ∷ [] → w ≡ x → HasGone v w []
-    as_marked x mark none place seen e = subst (HasGone v w) none (gone_with t.0 (mark ∷ []) t.1 (ap (λ (z : View). z.allowance.place) e ∙ place) (ap (λ (z : View). z.seen) e ∙ seen))
+    as_marked : (x : View) (mark : Mark) → own_of v.allowance.place (mark ∷ []) ≡ [] → x.allowance.place ≡ v.allowance.place → x.seen ≡ t.marks ++ mark ∷ [] → w ≡ x → HasGone v w []
+    as_marked x mark none place seen e = subst (HasGone v w) none (gone_with t.marks (mark ∷ []) t.sees (ap (λ (z : View). z.allowance.place) e ∙ place) (ap (λ (z : View). z.seen) e ∙ seen))
 
-    as_all : (x : View) → x.allowance.place ≡ v.allowance.place → x.seen ≡ t.0 → w ≡ x → HasGone v w []
-    as_all x place seen e = gone_all t.0 t.1 (ap (λ (z : View). z.allowance.place) e ∙ place) (ap (λ (z : View). z.seen) e ∙ seen)
+    as_all : (x : View) → x.allowance.place ≡ v.allowance.place → x.seen ≡ t.marks → w ≡ x → HasGone v w []
+    as_all x place seen e = gone_all t.marks t.sees (ap (λ (z : View). z.allowance.place) e ∙ place) (ap (λ (z : View). z.seen) e ∙ seen)
 
     either : (z : Bool) (x y : View) → (w ≡ x → HasGone v w []) → (w ≡ y → HasGone v w []) → w ≡ cond z x y → HasGone v w []
     either true x y f g e = f e
     either false x y f g e = g e
 
-  raised : (slot field number : ℕ) → RaisesRetired v slot field number → Told k v (K12 slot field number) n w → HasGone v w []
-  raised slot field number is t = by v.hands.spare refl
-    where
-      by : (spare : Option Held) → v.hands.spare ≡ spare → HasGone v w []
-      by None e = as_marked (K12 slot field number) t _ (Given slot) refl refl refl ((t.2).keeps is e)
-      by (Some held) e = as_seen _ refl refl ((t.2).retired is (λ none. absurd (let q : None ≡ Some held = sym none ∙ e in cc)))
-
-  pub stays_at : (c : Case) → leaves_none c ≡ true → Needs k v c → Told k v c n w → HasGone v w []
-  stays_at (K9 slot false) is d t = ⊎_elim
-      (λ (own : (held : Held) × NeedsOwnLife v held slot). as_seen _ refl refl ((t.2).own own.0 own.1))
-      (λ (old : (i : ℕ) × (r : Retired) × IsRetiredAt v i r slot). as_seen _ refl refl ((t.2).retired old.0 old.1 old.2)) d.1
-  stays_at (K9 slot true) is d t = as_seen _ refl refl t.2
-  stays_at (K10 expected) is d t =
-      let u : View = noted v (K10 expected) n in
-      either (K10 expected) t (n == expected) (reserving (with_free u (expected - 1))) (cond (n == 0) (record (with_free u 0) { seen = t.0 }) (with_free u n))
+  pub stays_at : (a : Act) → leaves_none a ≡ true → Told k v a n w → HasGone v w []
+  stays_at (acts.Reserve expected) is t =
+      let u : View = noted v (acts.Reserve expected) n in
+      either (acts.Reserve expected) t (n == expected) (reserving (with_free u (expected - 1))) (cond (n == 0) (record (with_free u 0) { seen = t.marks }) (with_free u n))
       (as_seen _ refl refl)
-      (either (K10 expected) t (n == 0) (record (with_free u 0) { seen = t.0 }) (with_free u n) (as_all (K10 expected) t _ refl refl) (as_seen _ refl refl)) t.2
-  stays_at (K11 slot) is d t =
-      let u : View = noted v (K11 slot) n in
-      either (K11 slot) t (n == 0) (record u { hands = record u.hands { reserved = false; hand = Some (seized slot) }; seen = t.0 ++ Given slot ∷ [] }) u
-      (as_marked (K11 slot) t _ (Given slot) refl refl refl) (as_seen _ refl refl) t.2
-  stays_at (K12 slot field value) is d t = ⊎_elim
-      (λ (fills : Fills v slot field). as_seen _ refl refl ((t.2).fills fills))
-      (⊎_elim
-      (λ (raises : RaisesInHand v slot field value). as_seen _ refl refl ((t.2).raises raises))
-      (λ (old : RaisesRetired v slot field value). raised slot field value old t)) d.1
-  stays_at (K13 slot) is d t =
-      let u : View = noted v (K13 slot) n in
-      either (K13 slot) t (n == 0) (record u { locks = new_lock slot ∷ u.locks }) u (as_seen _ refl refl) (as_seen _ refl refl) t.2
-  stays_at (K14 slot) is d t = as_seen _ refl refl t.2
-  stays_at (K15 slot) is d t = ⊎_elim
-      (λ (own : FreesInHand v slot). as_marked (K15 slot) t _ (Freed slot) refl refl refl ((t.2).in_hand own))
-      (λ (old : FreesRetired v slot). as_marked (K15 slot) t _ (Freed slot) refl refl refl ((t.2).retired old)) d.1
-  stays_at K16 is d t = as_seen _ refl refl t.2
-  stays_at (K17 slot field) is d t = as_seen _ refl refl (t.2).2
-  stays_at (K18 slot field) is d t = as_seen _ refl refl t.2
-  stays_at (K19 expected) is d t =
-      let u : View = noted v (K19 expected) n in
-      either (K19 expected) t (n == expected) (record (with_front u (expected + 1)) { commit = Some (record { found = expected; stored = false }) }) (with_front u n) (as_seen _ refl refl) (as_seen _ refl refl) t.2
-  stays_at (K22 slot life) is d t = as_seen _ refl refl t.2
-  stays_at (K23 slot b tag) is d t = as_seen _ refl refl t.2
-  stays_at (K24 front) is d t = as_seen _ refl refl t.2
-  stays_at (K26 parent old child) is d t = as_marked (K26 parent old child) t _ (Unlinked old) refl refl refl t.2
-  stays_at (K27 copy old child) is d t = as_marked (K27 copy old child) t _ (Unlinked old) refl refl refl t.2
-  stays_at K3 is d t = cc
-  stays_at (K4 key) is d t = cc
-  stays_at (K5 key stamp) is d t = cc
-  stays_at K6 is d t = cc
-  stays_at (K7 low high) is d t = cc
-  stays_at (K8 place stamp last) is d t = cc
-  stays_at (K20 slot b leaf) is d t = cc
-  stays_at (K21 parent b node child) is d t = cc
-  stays_at (K25 parent b node copy old old_parent) is d t = cc
-  stays_at (K28 class) is d t = cc
-  stays_at (K29 key side) is d t = cc
-  stays_at (K30 class side) is d t = cc
-  stays_at (K31 class side last) is d t = cc
-  stays_at (K32 class) is d t = cc
-  stays_at (K33 key stamp) is d t = cc
-  stays_at (K34 class) is d t = cc
-  stays_at (K35 place class last) is d t = cc
-  stays_at (K36 slot value) is d t = cc
-  stays_at K37 is d t = cc
-  stays_at (ListLoad slot field) is d t = cc
+      (either (acts.Reserve expected) t (n == 0) (record (with_free u 0) { seen = t.marks }) (with_free u n) (as_all (acts.Reserve expected) t _ refl refl) (as_seen _ refl refl)) t.goes
+  stays_at (acts.Seize slot) is t =
+      let u : View = noted v (acts.Seize slot) n in
+      either (acts.Seize slot) t (n == 0) (record u { hands = record u.hands { reserved = false; hand = Some (seized slot) }; seen = t.marks ++ Given slot ∷ [] }) u
+      (as_marked (acts.Seize slot) t _ (Given slot) refl refl refl) (as_seen _ refl refl) t.goes
+  stays_at (acts.Lock slot) is t =
+      let u : View = noted v (acts.Lock slot) n in
+      either (acts.Lock slot) t (n == 0) (record u { locks = new_lock slot ∷ u.locks }) u (as_seen _ refl refl) (as_seen _ refl refl) t.goes
+  stays_at (acts.OpenCommit expected) is t =
+      let u : View = noted v (acts.OpenCommit expected) n in
+      either (acts.OpenCommit expected) t (n == expected) (record (with_front u (expected + 1)) { commit = Some (record { found = expected; stored = false }) }) (with_front u n) (as_seen _ refl refl) (as_seen _ refl refl) t.goes
+  stays_at (acts.RaiseToSpare slot number) is t = as_marked (acts.RaiseToSpare slot number) t _ (Given slot) refl refl refl t.goes
+  stays_at (acts.FreeInHand slot) is t = as_marked (acts.FreeInHand slot) t _ (Freed slot) refl refl refl t.goes
+  stays_at (acts.FreeRetired slot) is t = as_marked (acts.FreeRetired slot) t _ (Freed slot) refl refl refl t.goes
+  stays_at (acts.UnlinkLeft parent old child) is t = as_marked (acts.UnlinkLeft parent old child) t _ (Unlinked old) refl refl refl t.goes
+  stays_at (acts.UnlinkRight copy old child) is t = as_marked (acts.UnlinkRight copy old child) t _ (Unlinked old) refl refl refl t.goes
+  stays_at acts.LookAtFront is t = as_all acts.LookAtFront t _ refl refl t.goes
+  stays_at (acts.EnterByStamp key stamp) is t = cc
+  stays_at acts.LeaveByStamp is t = cc
+  stays_at (acts.BeginWait low high) is t = cc
+  stays_at (acts.LookKey p last) is t = cc
+  stays_at (acts.LookStamp p last) is t = cc
+  stays_at (acts.LinkLeaf slot b leaf key value) is t = cc
+  stays_at (acts.Bypass parent b node child key) is t = cc
+  stays_at (acts.LinkCopy parent b node copy old old_parent key next_key) is t = cc
+  stays_at (acts.LoadGate class) is t = cc
+  stays_at (acts.EnterByCount key side) is t = cc
+  stays_at (acts.LeaveByCount class side) is t = cc
+  stays_at (acts.LookCount class side last) is t = cc
+  stays_at (acts.EnterByRow key stamp) is t = cc
+  stays_at (acts.LeaveByRow class) is t = cc
+  stays_at (acts.LookRow p class last) is t = cc
+  stays_at (acts.ReplaceValue slot key value) is t = cc
+  stays_at _ is t = as_seen _ refl refl t.goes
 
-pub stays : {k : Shape} {v w : View} {n : ℕ} (c : Case) → leaves_none c ≡ true → Needs k v c → Told k v c n w → HasGone v w []
-stays {k} {v} {w} {n} c is d t = stays_at k v n w c is d t
+pub stays : {k : Shape} {v w : View} {n : ℕ} (a : Act) → leaves_none a ≡ true → Told k v a n w → HasGone v w []
+stays {k} {v} {w} {n} a is t = stays_at k v n w a is t
 
 by_same : {v w : View} (x : View) → w ≡ x → IsSame v x → IsSame v w
 by_same {v} {w} x e same = subst (IsSame v) (sym e) same
 
 -- The place's locks and slots stay as they are by a load, a fill, an exchange of the front, a mark, a tag and the end of a commit.
 module _ {k : Shape} {v w : View} {n : ℕ} where
-  pub same_search : {slot field : ℕ} → Told k v (K17 slot field) n w → IsSame v w
-  same_search t = by_same _ (t.2).2 (record { place = refl; tickets = refl; locks = refl; hand = refl; spare = refl; retired = refl; seen = refl })
+  pub same_search : {slot : ℕ} {p : Part} → Told k v (acts.SearchLoad slot p) n w → IsSame v w
+  same_search t = by_same _ t.goes (record { place = refl; tickets = refl; locks = refl; hand = refl; spare = refl; retired = refl; seen = refl })
 
-  pub same_locked : {slot field : ℕ} → Told k v (K18 slot field) n w → IsSame v w
-  same_locked {slot} {field} t = by_same _ t.2 (let same = noting_same v slot (slot_field slot field) n false in record { place = refl; tickets = refl; locks = same.locks; hand = same.hand; spare = same.spare; retired = refl; seen = refl })
+  pub same_locked : {slot : ℕ} {p : Part} → Told k v (acts.LockedLoad slot p) n w → IsSame v w
+  same_locked {slot} {p} t = by_same _ t.goes (let same = noting_same v slot (in_slot slot p) n false in record { place = refl; tickets = refl; locks = same.locks; hand = same.hand; spare = same.spare; retired = refl; seen = refl })
 
-  pub same_age : {held : Held} {slot : ℕ} → NeedsOwnLife v held slot → Told k v (K9 slot false) n w → IsSame v w
-  same_age {held} {slot} own t = by_same _ ((t.2).own held own) (let same = noting_same v slot (Life slot) n false in record { place = refl; tickets = refl; locks = same.locks; hand = same.hand; spare = same.spare; retired = refl; seen = refl })
+  pub same_age : {slot : ℕ} → Told k v (acts.LoadOwnLife slot) n w → IsSame v w
+  same_age {slot} t = by_same _ t.goes (let same = noting_same v slot (Life slot) n false in record { place = refl; tickets = refl; locks = same.locks; hand = same.hand; spare = same.spare; retired = refl; seen = refl })
 
-  pub same_fill : {slot field value : ℕ} → Fills v slot field → Told k v (K12 slot field value) n w → IsSame v w
-  same_fill {slot} {field} {value} fills t =
-      by_same _ ((t.2).fills fills) (let same = noting_same v slot (slot_field slot field) value true in record { place = refl; tickets = refl; locks = same.locks; hand = same.hand; spare = same.spare; retired = refl; seen = refl })
+  pub same_fill : {slot number : ℕ} {p : Part} → Told k v (acts.Fill slot p number) n w → IsSame v w
+  same_fill {slot} {number} {p} t = by_same _ t.goes (let same = noting_same v slot (in_slot slot p) number true in record { place = refl; tickets = refl; locks = same.locks; hand = same.hand; spare = same.spare; retired = refl; seen = refl })
 
-  pub same_busy : {slot : ℕ} → n ≢ 0 → Told k v (K13 slot) n w → IsSame v w
+  pub same_busy : {slot : ℕ} → n ≢ 0 → Told k v (acts.Lock slot) n w → IsSame v w
   same_busy {slot} busy t =
-      let u : View = noted v (K13 slot) n in
-      by_same u (t.2 ∙ ap (λ z. cond z (record u { locks = new_lock slot ∷ u.locks }) u) (ne_eqb n 0 busy))
+      let u : View = noted v (acts.Lock slot) n in
+      by_same u (t.goes ∙ ap (λ z. cond z (record u { locks = new_lock slot ∷ u.locks }) u) (ne_eqb n 0 busy))
       (record { place = refl; tickets = refl; locks = refl; hand = refl; spare = refl; retired = refl; seen = refl })
 
-  pub same_count : Told k v K16 n w → IsSame v w
-  same_count t = by_same _ t.2 (record { place = refl; tickets = refl; locks = refl; hand = refl; spare = refl; retired = refl; seen = refl })
+  pub same_count : Told k v acts.CountFree n w → IsSame v w
+  same_count t = by_same _ t.goes (record { place = refl; tickets = refl; locks = refl; hand = refl; spare = refl; retired = refl; seen = refl })
 
-  pub same_commit : {expected : ℕ} → Told k v (K19 expected) n w → IsSame v w
+  pub same_commit : {expected : ℕ} → Told k v (acts.OpenCommit expected) n w → IsSame v w
   same_commit {expected} t =
-      let u : View = noted v (K19 expected) n in
+      let u : View = noted v (acts.OpenCommit expected) n in
       let odd : View = record (with_front u (expected + 1)) { commit = Some (record { found = expected; stored = false }) } in
       by (n == expected) odd (with_front u n)
       (record { place = refl; tickets = refl; locks = refl; hand = refl; spare = refl; retired = refl; seen = refl })
-      (record { place = refl; tickets = refl; locks = refl; hand = refl; spare = refl; retired = refl; seen = refl }) t.2
+      (record { place = refl; tickets = refl; locks = refl; hand = refl; spare = refl; retired = refl; seen = refl }) t.goes
     where
       by : (z : Bool) (x y : View) → IsSame v x → IsSame v y → w ≡ cond z x y → IsSame v w
       by true x y first second e = subst (IsSame v) (sym e) first
       by false x y first second e = subst (IsSame v) (sym e) second
 
-  pub same_mark : {slot life : ℕ} → Told k v (K22 slot life) n w → IsSame v w
-  same_mark {slot} {life} t = by_same _ t.2 (let same = noting_same v slot (Life slot) (life + 1) true in record {
+  pub same_mark : {slot life : ℕ} → Told k v (acts.Mark slot life) n w → IsSame v w
+  same_mark {slot} {life} t = by_same _ t.goes (let same = noting_same v slot (Life slot) (life + 1) true in record {
     place = refl;
     tickets = refl;
     locks = lock_slots slot (with_mark true) (λ l. refl) (noting v slot (Life slot) (life + 1) true).locks ∙ same.locks;
@@ -181,8 +156,8 @@ module _ {k : Shape} {v w : View} {n : ℕ} where
     seen = refl;
   })
 
-  pub same_tag : {slot tag : ℕ} {b : Side} → Told k v (K23 slot b tag) n w → IsSame v w
-  same_tag {slot} {tag} {b} t = by_same _ t.2 (let same = noting_same v slot (Tag slot b) (tag + 1) true in record {
+  pub same_tag : {slot tag : ℕ} {b : Side} → Told k v (acts.RaiseTag slot b tag) n w → IsSame v w
+  same_tag {slot} {tag} {b} t = by_same _ t.goes (let same = noting_same v slot (Tag slot b) (tag + 1) true in record {
     place = refl;
     tickets = refl;
     locks = lock_slots slot (with_emptied b false) (emptied_slot b false) (noting v slot (Tag slot b) (tag + 1) true).locks ∙ same.locks;
@@ -192,8 +167,8 @@ module _ {k : Shape} {v w : View} {n : ℕ} where
     seen = refl;
   })
 
-  pub same_even : {front : ℕ} → Told k v (K24 front) n w → IsSame v w
-  same_even t = by_same _ t.2 (record { place = refl; tickets = refl; locks = refl; hand = refl; spare = refl; retired = refl; seen = refl })
+  pub same_even : {front : ℕ} → Told k v (acts.CloseCommit front) n w → IsSame v w
+  same_even t = by_same _ t.goes (record { place = refl; tickets = refl; locks = refl; hand = refl; spare = refl; retired = refl; seen = refl })
 
 -- So the same locks are held, the same slot is in hand, and the same is the spare.
 pub keeps_locks : {v w : View} {slots : List ℕ} → IsSame v w → HasLocks slots v → HasLocks slots w

@@ -11,19 +11,19 @@ use Rattle.core_points.specs.declared.stage.Stage.TheVariants as at
 use Rattle.core_points.specs.Callers.{Own}
 use Rattle.core_points.specs.Fits.{Fits}
 use Rattle.core_points.specs.Programs.{act_at, after}
-use Rattle.seat_table.specs.declared.case.Case.{Case}
-use Rattle.seat_table.specs.Cases.{Needs}
+use Rattle.core_acts.specs.declared.act.Act.{Act}
+use Rattle.core_acts.specs.Acts.{Asks}
 use Rattle.seat_table.specs.Gains.{TellsNow}
 use Rattle.seat_table.specs.Told.{Told}
 use Rattle.tree_points.specs.At.{IsAt}
-use Rattle.tree_points.specs.Asked.{case_at, is_step}
+use Rattle.core_points.specs.Acts.{is_step}
 use Rattle.tree_points.proofs.Passing.{needs_at, passes_at}
 
 -- where the step is this one
-pub needs_as : {k : Shape} {op : Op} {kept : ℕ} {v : View} (stage : Stage) (c : Case) (a : IsAt k op kept stage v) → is_step (act_at a.own stage) ≡ true → case_at a.own stage ≡ c → TellsNow k v → Needs k v c
-needs_as {k} {op} {kept} {v} stage c a is e now = subst (λ x. Needs k v x) e (needs_at k op kept v stage a is now)
+pub needs_as : {k : Shape} {op : Op} {kept : ℕ} {v : View} (stage : Stage) (c : Act) (a : IsAt k op kept stage v) → is_step (act_at a.own stage) ≡ true → act_at a.own stage ≡ c → TellsNow k v → Asks k v c
+needs_as {k} {op} {kept} {v} stage c a is e now = subst (λ x. Asks k v x) e (needs_at k op kept v stage a is now)
 
-pub passes_as : {k : Shape} {op : Op} {kept n : ℕ} {v w : View} (stage next : Stage) (c : Case) (a : IsAt k op kept stage v) → is_step (act_at a.own stage) ≡ true → case_at a.own stage ≡ c → (after a.own n stage).stage ≡ next → Told k v c n w → IsAt k op kept next w
+pub passes_as : {k : Shape} {op : Op} {kept n : ℕ} {v w : View} (stage next : Stage) (c : Act) (a : IsAt k op kept stage v) → is_step (act_at a.own stage) ≡ true → act_at a.own stage ≡ c → (after a.own n stage).stage ≡ next → Told k v c n w → IsAt k op kept next w
 passes_as {k} {op} {kept} {n} {v} {w} stage next c a is e to t =
     subst (λ x. IsAt k op kept x w) to (passes_at k op kept v w n stage a is (subst (λ x. Told k v x n w) (sym e) t))
 

@@ -1,4 +1,3 @@
 pub mod At
-pub mod Asked
 pub mod Progress
 pub mod Laws

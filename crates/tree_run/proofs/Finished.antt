@@ -69,13 +69,15 @@ module _ {way : ℕ} {cookies : Bool} {table : TableAt} {scripts : List (List Op
   -- another seat, whose place is no script's, may be joined with it
   pub run_beside : (other both : SeatAt) → KeepsOwn seat.view other.view both.view → IsInformed both.view → HasRun way cookies table scripts told both
   run_beside other both keeps informed = record {
-    hired = run.hired;
-    workers = run.workers;
-    crew = run.crew;
-    count = run.count;
-    made = run.made;
-    told_is = run.told_is;
-    joined = joined_other (map (λ (w : Work ScriptClientAt). w.client) run.workers) seat other both run.joined keeps;
+    ran = record {
+      hired = run.ran.hired;
+      workers = run.ran.workers;
+      crew = run.ran.crew;
+      count = run.ran.count;
+      made = run.ran.made;
+      told_is = run.ran.told_is;
+      joined = joined_other (map (λ (w : Work ScriptClientAt). w.client) run.ran.workers) seat other both run.ran.joined keeps;
+    };
     informed = informed;
   }
 
@@ -88,9 +90,9 @@ module _ {way : ℕ} {cookies : Bool} {table : TableAt} {scripts : List (List Op
   -- What a run hands on, where no other place made an update: its updates explain what was told, as far as the table's slots go.
   module _ (others : (p : ℕ) → length scripts ≤ p → updates_of (own_of p seat.view.seen) ≡ []) where
     have_told : HaveTold (Explains (room_of (shape_of way table))) scripts (entries_of told) seat.view.seen
-    have_told = subst (λ ts. HaveTold (Explains (room_of (shape_of way table))) scripts ts seat.view.seen) (sym (ap entries_of run.told_is ∙ entries_are run.workers))
-        (crew_has_told (client_for way cookies table) scripts HasCalled run.hired run.workers run.crew run.count run.made (Explains (room_of (shape_of way table))) script_caller one_told
-        seat.view.seen (subst (λ cs. HaveMet cs seat.view.seen) (same_callers run.workers) run.joined.met) others run.informed.legal)
+    have_told = subst (λ ts. HaveTold (Explains (room_of (shape_of way table))) scripts ts seat.view.seen) (sym (ap entries_of run.ran.told_is ∙ entries_are run.ran.workers))
+        (crew_has_told (client_for way cookies table) scripts HasCalled run.ran.hired run.ran.workers run.ran.crew run.ran.count run.ran.made (Explains (room_of (shape_of way table))) script_caller one_told
+        seat.view.seen (subst (λ cs. HaveMet cs seat.view.seen) (same_callers run.ran.workers) run.ran.joined.met) others run.informed.legal)
 
     pub run_told : map length (entries_of told) ≡ map length scripts
     run_told = run_lengths (Explains (room_of (shape_of way table))) scripts (entries_of told) seat.view.seen have_told

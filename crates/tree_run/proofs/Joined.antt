@@ -16,8 +16,8 @@ use Rattle.core_state.specs.steps.Sections.{after_clock_load}
 use Rattle.core_state.specs.views.Views.{places_of}
 use Rattle.core_frames.proofs.views.SeatFacts.{works_there}
 use Rattle.seat_table.specs.Seats.{TableAt, SeatAt, KeepsOwn}
-use Rattle.seat_table.specs.Cases.{noted}
-use Rattle.seat_table.specs.declared.case.Case.TheVariants.{K3}
+use Rattle.core_acts.specs.Acts.{noted}
+use Rattle.core_acts.specs.declared.act.Act.TheVariants.{LoadClock}
 use Rattle.tree_run.specs.Callers.{ScriptClientAt}
 use Rattle.tree_run.specs.Runs.{script_caller, IsDone, StandsFor}
 
@@ -97,7 +97,7 @@ joined_other clients seat other both so_far keeps = record {
 }
 
 -- a look at the clock leaves the seat as it was, but for what it knows of the clock
-pub looked_still : (clients : List ScriptClientAt) (seat after : SeatAt) (clock : ℕ) (h : List Mark) → after.view ≡ after_clock_load (noted seat.view K3 clock) clock h → StandsFor clients seat → StandsFor clients after
+pub looked_still : (clients : List ScriptClientAt) (seat after : SeatAt) (clock : ℕ) (h : List Mark) → after.view ≡ after_clock_load (noted seat.view LoadClock clock) clock h → StandsFor clients seat → StandsFor clients after
 looked_still clients seat after clock h is so_far = record {
   answers = λ p below. subst (λ (v : View). 1 ≤ times p (places_of v)) (sym is) (so_far.answers p below);
   met = subst (λ (v : View). HaveMet (map script_caller clients) v.seen) (sym is) so_far.met;

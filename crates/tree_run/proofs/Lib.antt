@@ -1,3 +1,4 @@
 pub mod Hiring
 pub mod Joined
 pub mod Finished
+pub mod ClientCalls

@@ -5,8 +5,7 @@ use Rattle.prcu_model.specs.declared.operation.Op.{Op}
 use Rattle.prcu_model.specs.declared.operation.Told.{Told}
 use Rattle.prcu_model.specs.Lists.{Roomy}
 use Rattle.prcu_marks.specs.Callers.{Caller}
-use Rattle.client_run.specs.Crews.{HaveMet, IsCrew}
-use Rattle.client_run.specs.Workers.{Work, HaveMade}
+use Rattle.client_run.specs.Crews.{HaveMet, HaveRun}
 use Rattle.list_laws.specs.Counts.{times}
 use Rattle.core_state.specs.views.Views.{places_of}
 use Rattle.core_state.specs.steps.Seating.{new_view}
@@ -43,14 +42,7 @@ pub record StandsFor (clients : List ScriptClientAt) (seat : SeatAt) : Type 0 wh
   pub answers : (p : ℕ) → p < length clients → 1 ≤ times p (places_of seat.view)
   pub met : HaveMet (map script_caller clients) seat.view.seen
 
--- Scripts ran on a table: each had a worker whose seat had done nothing, which made the script's calls. Here is what they were told, and
--- the seat into which theirs were joined. It is informed of all that their clients did.
+-- Scripts ran on a table: each client's seat had done nothing before. The seat into which theirs were joined is informed of all that they did.
 pub record HasRun (way : ℕ) (cookies : Bool) (table : TableAt) (scripts : List (List Op)) (told : List (Roomy Told)) (seat : SeatAt) : Type 0 where
-  pub hired : List (Work ScriptClientAt)
-  pub workers : List (Work ScriptClientAt)
-  pub crew : IsCrew (client_for way cookies table) scripts hired
-  pub count : length workers ≡ length hired
-  pub made : HaveMade HasCalled hired scripts workers
-  pub told_is : told ≡ map (λ (worker : Work ScriptClientAt). worker.told) workers
-  pub joined : StandsFor (map (λ (worker : Work ScriptClientAt). worker.client) workers) seat
+  pub ran : HaveRun (client_for way cookies table) HasCalled StandsFor scripts told seat
   pub informed : IsInformed seat.view

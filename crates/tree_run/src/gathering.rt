@@ -11,8 +11,7 @@ use crate::client::ScriptClient;
 use client_run::Worker;
 use prcu_marks::Gate;
 use prcu_model::ToldList;
-use seat_table::steps::k3;
-use seat_table::{CitrusTable, Seat, WaitPart};
+use seat_table::{CitrusTable, Seat, WaitPart, steps};
 
 /// The workers' seats as one. What each worker was told goes to the end of a list that has room for it. It takes no memory. At last the
 /// seat looks at the clock, which also tells it that its marks stay within the table.
@@ -36,7 +35,7 @@ pub(crate) fn gather<W: WaitPart, G: Gate>(
     while !rest.is_empty() {
         seat = seat.join(table, dismiss_first(&mut rest, told));
     }
-    k3(table, &mut seat);
+    steps::load_clock(table, &mut seat);
     seat
 }
 

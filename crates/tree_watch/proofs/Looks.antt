@@ -3,7 +3,7 @@ use Rattle.std.proofs.Common.{◌≡◌, ℕ, List, ◌++◌, sym, ap, subst, �
 use Rattle.core_state.specs.declared.shape.Shape.{Shape}
 use Rattle.core_state.specs.declared.view.View.{View}
 use Rattle.core_state.specs.steps.Seating.{both_of}
-use Rattle.seat_table.specs.declared.case.Case.TheVariants.{K3}
+use Rattle.core_acts.specs.declared.act.Act.TheVariants.{LoadClock}
 use Rattle.seat_table.specs.Seats.{TableAt, SeatAt}
 use Rattle.seat_table.specs.Told.{Told}
 use Rattle.tree_run.specs.Runs.{seat_for}
@@ -11,8 +11,8 @@ use Rattle.range_snapshots.specs.Snapshots.{SnapshotAt, WereLookedAt, HasLookedA
 use Rattle.range_snapshots.proofs.Taking.{looked_later}
 
 -- A join puts them behind those of the scripts' seat.
-pub joined_looked : (k : Shape) (table : TableAt) (place clock : ℕ) (seat lister both : SeatAt) (ss : List SnapshotAt) → Told k (both_of seat.view lister.view) K3 clock both.view
+pub joined_looked : (k : Shape) (table : TableAt) (place clock : ℕ) (seat lister both : SeatAt) (ss : List SnapshotAt) → Told k (both_of seat.view lister.view) LoadClock clock both.view
     → HasLookedAt (seat_for table place 1 0).view lister.view ss → WereLookedAt place both.view.looks ss
 joined_looked k table place clock seat lister both ss told looked =
-    let joined : both.view.looks ≡ seat.view.looks ++ looked.since = ap (λ (v : View). v.looks) told.2 ∙ ap (λ l. seat.view.looks ++ l) looked.added in
+    let joined : both.view.looks ≡ seat.view.looks ++ looked.since = ap (λ (v : View). v.looks) told.goes ∙ ap (λ l. seat.view.looks ++ l) looked.added in
     subst (λ l. WereLookedAt place l ss) (sym joined) (looked_later place seat.view.looks looked.since ss looked.found)

@@ -78,10 +78,10 @@ joined_idle table place seat lister both only keeps = ap updates_of (keeps.secon
 module _ {way : ℕ} {table : TableAt} {scripts : List (List Op)} {told : List (Roomy Told)} {seat : SeatAt} (run : HasRun way false table scripts told seat) where
   script_answers : (p : ℕ) → p < length scripts → 1 ≤ times p (places_of seat.view)
   script_answers p inside =
-      let clients = length-map run.workers (λ (w : Work ScriptClientAt). w.client) in
-      let count = run.count in
-      let hired = run.crew.count in
-      run.joined.answers p (omega (arith, clients, count, hired, inside))
+      let clients = length-map run.ran.workers (λ (w : Work ScriptClientAt). w.client) in
+      let count = run.ran.count in
+      let hired = run.ran.crew.count in
+      run.ran.joined.answers p (omega (arith, clients, count, hired, inside))
 
   pub joined_answers : (lister both : SeatAt) → OnlyLists (seat_for table (length scripts) 1 0).view lister.view → KeepsOwn seat.view lister.view both.view → (p : ℕ) → p < length scripts + 1 → 1 ≤ times p (places_of both.view)
   joined_answers lister both only keeps p inside = elim (cases_lt p (length scripts)) [

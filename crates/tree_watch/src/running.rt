@@ -19,10 +19,11 @@ use client_run::merge;
 use key_interval::Keys;
 use prcu_marks::Gate;
 use prcu_model::{NoMemory, Scripts, ToldList, Update};
-use range_snapshots::Snapshots;
+use range_snapshots::{Pace, Snapshots};
 use seat_table::{CitrusTable, Seat, WaitPart};
 use std::alloc::Global;
 use std::sync::Wait;
+use std::sync::atomic::{AtomicBool, Ordering};
 use std::thread::{Threads, join};
 use tree_run::{SeatRun, run_on, tickets_for};
 
@@ -64,6 +65,7 @@ pub fn run_watched<R: Threads + Wait + Sync, W: WaitPart + Send + Sync, G: Gate 
     requires way { W.WAY ≤ 2 }
     requires scripts { (1 ≤ length scripts.now) × (length scripts.now ≤ 63) }
     requires slots { (1 ≤ slots) × (slots ≤ 2097132) }
+    ensures run { IfOk result (λ run. HasRun W.WAY false run.table scripts.now run.told.items run.seat) }
     ensures explained { IfOk result (λ run. AreExplainable scripts.now (entries_of run.told.items) run.history.items slots) }
     ensures legal { IfOk result (λ run. IsLegal run.history.items) }
     ensures within { IfOk result (λ run. StaysWithin run.history.items (slots + 20)) }
@@ -103,7 +105,8 @@ struct Beside<W: WaitPart> {
     seat: Seat<W>,
 }
 
-// Runs the scripts on the table, takes the snapshots beside them, and joins the two seats.
+// Runs the scripts on the table, takes the snapshots beside them, and joins the two seats. Once the scripts have ended no snapshot waits for
+// updates.
 fn run_beside<R: Threads + Wait + Sync, W: WaitPart + Send + Sync, G: Gate + Sync>(
     rt: &R,
     alloc: Global,
@@ -128,6 +131,7 @@ fn run_beside<R: Threads + Wait + Sync, W: WaitPart + Send + Sync, G: Gate + Syn
     ensures snapshots { IfOk result (λ made. AreSnapshots (updates_of made.seat.view.seen) keys.low keys.high 0 made.snapshots) }
     ensures looked { IfOk result (λ made. WereLookedAt (length scripts.now) made.seat.view.looks made.snapshots) }
 {
+    let ended = AtomicBool::new(false);
     let (ran, listed) = join(
         rt,
         || -> Result<SeatRun<W>, NoMemory>
@@ -135,14 +139,18 @@ fn run_beside<R: Threads + Wait + Sync, W: WaitPart + Send + Sync, G: Gate + Syn
             ensures run { IfOk result (λ run. HasRun W.WAY false table.entry.now scripts.entry.now run.told.items run.seat) }
             ensures table { IfOk result (λ run. run.seat.table ≡ table.entry.now) }
             ensures quiet { IfOk result (λ run. IsQuietSeat run.seat) }
-        { run_on(rt, alloc, table, workers, scripts, false, gate) },
+        {
+            let run = run_on(rt, alloc, table, workers, scripts, false, gate);
+            ended.store(true, Ordering::SeqCst);
+            run
+        },
         || -> (Seat<W>, Snapshots)
             requires { (lister ≡ seat_for table.now (length scripts.now) 1 0) × IsQuietSeat lister }
             ensures seat { (result.0.table ≡ table.entry.now) × IsQuietSeat result.0 }
             ensures only { OnlyLists (seat_for table.entry.now (length scripts.entry.now) 1 0).view result.0.view }
             ensures snapshots { AreSnapshots (updates_of result.0.view.seen) keys.low keys.high 0 result.1 }
             ensures looked { HasLookedAt (seat_for table.entry.now (length scripts.entry.now) 1 0).view result.0.view result.1 }
-        { take_all(rt, table, lister, scripts, keys, snapshots, gate) },
+        { take_all(rt, table, lister, scripts, keys, snapshots, &ended, gate) },
     );
     let run = ran?;
     let (lister, snapshots) = listed;
@@ -163,6 +171,7 @@ fn take_all<R: Wait, W: WaitPart, G: Gate>(
     scripts: &Scripts,
     keys: Keys,
     mut snapshots: Snapshots,
+    ended: &AtomicBool,
     gate: &G,
 ) -> (Seat<W>, Snapshots)
     requires table { seat.table ≡ table.now }
@@ -173,8 +182,11 @@ fn take_all<R: Wait, W: WaitPart, G: Gate>(
     ensures snapshots { AreSnapshots (updates_of result.0.view.seen) keys.low keys.high 0 result.1 }
     ensures looked { HasLookedAt seat.view result.0.view result.1 }
 {
-    let apart = (scripts.puts() / 8).max(1);
+    let pace = Pace {
+        updates: (scripts.puts() / 8).max(1),
+        ended,
+    };
     let caller = scripts.count();
-    snapshots.take(rt, table, &mut seat, keys, apart, gate, caller);
+    snapshots.take(rt, table, &mut seat, keys, &pace, gate, caller);
     (seat, snapshots)
 }

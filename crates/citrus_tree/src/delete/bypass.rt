@@ -1,6 +1,6 @@
 //! A node with at most one child is taken out.
 ghost use Rattle.std.specs.Prelude.{◌≡◌, ◌+◌, ◌*◌, ◌^◌, ◌<◌, ◌==◌, if◌then◌else◌, ℕ, Bool, List, [], ◌∷◌, ◌++◌, length, None};
-ghost use Rattle.prcu_model.specs.declared.operation.Op.{Op};
+ghost use Rattle.prcu_model.specs.declared.operation.Op.TheVariants.{Del};
 ghost use Rattle.core_points.specs.declared.stage.Last.TheVariants as last;
 ghost use Rattle.core_points.specs.declared.stage.Stage.TheVariants as at;
 ghost use Rattle.core_points.specs.declared.stage.Update.TheVariants as update;
@@ -15,7 +15,7 @@ use crate::commit::{close_front, open_front};
 use core_points::stage::Node;
 use core_state::tag_field;
 use prcu_marks::Side;
-use seat_table::{CitrusTable, Seat, WaitPart, steps};
+use seat_table::{CitrusTable, Part, Seat, WaitPart, steps};
 use std::sync::Wait;
 
 /// Marks the node, links its parent past it, gives up the locks of both, and answers the update's number.
@@ -24,24 +24,23 @@ pub(crate) fn bypass<R: Wait, W: WaitPart>(
     table: &CitrusTable<W>,
     seat: &mut Seat<W>,
     node: Node,
+    key: u64,
 ) -> u64
     requires table { seat.old.table ≡ table.now }
-    requires at { StandsAt (shape_of W.WAY table.now) (deleting node None) seat.old.view }
+    requires at { (kept : ℕ) × IsAt (shape_of W.WAY table.now) (Del key) kept (deleting node None) seat.old.view }
     requires small { AreLivesSmall node None }
     requires locked { HasLocks (node.node ∷ node.parent ∷ []) seat.old.view }
     requires listed { AreListed seat.old }
     ensures table { seat.new.table ≡ seat.old.table }
-    ensures done { (op : Op) (kept : ℕ) → IsAt (shape_of W.WAY table.now) op kept (deleting node None) seat.old.view → IsDone (shape_of W.WAY table.now) op kept seat.new.view × HasDone seat.old.view op [] result seat.new.view }
+    ensures done { (kept : ℕ) → IsAt (shape_of W.WAY table.now) (Del key) kept (deleting node None) seat.old.view → IsDone (shape_of W.WAY table.now) (Del key) kept seat.new.view × HasDone seat.old.view (Del key) [] result seat.new.view }
     ensures waits { KeepsWaits seat.old.view seat.new.view }
     ensures slots { KeepsSlots seat.old seat.new }
     ensures listed { AreListed seat.new }
     ensures informed { IsInformed seat.new.view }
 {
-    let number = link_past(rt, table, seat, node);
-    seat.rule_tells();
-    steps::k14(table, seat, node.node);
-    seat.rule_tells();
-    steps::k14(table, seat, node.parent);
+    let number = link_past(rt, table, seat, node, key);
+    steps::unlock(table, seat, node.node);
+    steps::unlock(table, seat, node.parent);
     seat.rule_tells();
     seat.list_retired(node.node);
     number
@@ -63,13 +62,14 @@ fn link_past<R: Wait, W: WaitPart>(
     table: &CitrusTable<W>,
     seat: &mut Seat<W>,
     node: Node,
+    key: u64,
 ) -> u64
     requires table { seat.old.table ≡ table.now }
-    requires at { StandsAt (shape_of W.WAY table.now) (deleting node None) seat.old.view }
+    requires at { (kept : ℕ) × IsAt (shape_of W.WAY table.now) (Del key) kept (deleting node None) seat.old.view }
     requires small { AreLivesSmall node None }
     ensures seat { (seat.new.table ≡ seat.old.table) × (seat.new.listed ≡ seat.old.listed) }
-    ensures at { Comes (shape_of W.WAY table.now) (deleting node None) seat.old.view (at.Unlock (last.Gone result)) seat.new.view }
-    ensures done { (op : Op) (kept : ℕ) → IsAt (shape_of W.WAY table.now) op kept (deleting node None) seat.old.view → HasDone seat.old.view op [] result seat.new.view }
+    ensures at { (kept : ℕ) → IsAt (shape_of W.WAY table.now) (Del key) kept (deleting node None) seat.old.view → IsAt (shape_of W.WAY table.now) (Del key) kept (at.Unlock (last.Gone result)) seat.new.view }
+    ensures done { (kept : ℕ) → IsAt (shape_of W.WAY table.now) (Del key) kept (deleting node None) seat.old.view → HasDone seat.old.view (Del key) [] result seat.new.view }
     ensures locked { locked_slots seat.new.view ≡ locked_slots seat.old.view }
     ensures retired { retired_slots seat.new.view ≡ retired_slots seat.old.view ++ node.node ∷ [] }
     ensures stay { (later : List (ℕ × ℕ × Bool)) × (retired_marks seat.new.view ≡ retired_marks seat.old.view ++ later) }
@@ -77,10 +77,9 @@ fn link_past<R: Wait, W: WaitPart>(
 {
     seat.rule_tells();
     let child = slot_of(table, only_child(node));
-    steps::k22(table, seat, node.node, 2 * node.generation);
+    steps::mark(table, seat, node.node, 2 * node.generation);
     let front = open_front(rt, table, seat);
-    seat.rule_tells();
-    steps::k21(table, seat, node.parent, node.side, node.node, child);
+    steps::bypass(table, seat, node.parent, node.side, node.node, child, key);
     let number = close_front(table, seat, front);
     settle_side(table, seat, node.parent, node.side, child);
     number
@@ -125,8 +124,6 @@ fn raise_tag<W: WaitPart>(table: &CitrusTable<W>, seat: &mut Seat<W>, slot: u32,
     ensures at { (number : ℕ) → Comes (shape_of W.WAY table.now) (at.EmptyTag number slot side) seat.old.view (at.Unlock (last.Gone number)) seat.new.view }
     ensures same { KeepsAll seat.old.view seat.new.view }
 {
-    seat.rule_tells();
-    let tag = steps::k18(table, seat, slot, tag_field(side));
-    seat.rule_tells();
-    steps::k23(table, seat, slot, side, tag);
+    let tag = steps::locked_load(table, seat, slot, Part::Tag { side });
+    steps::raise_tag(table, seat, slot, side, tag);
 }

@@ -12,7 +12,8 @@ ghost use Rattle.citrus_tree.specs.Deletes.{StandsAt, Comes, KeepsAll, KeepsRest
 use crate::lives::is_life;
 use core_points::stage::{Found, Node, Successor, Target};
 use core_state::side_field;
-use seat_table::{CitrusTable, Seat, WaitPart, steps};
+use prcu_marks::Side;
+use seat_table::{CitrusTable, Part, Seat, WaitPart, steps};
 
 // How many locks a target has.
 fn lock_count(target: &Target) -> u32
@@ -67,8 +68,7 @@ pub(crate) fn lock_target<W: WaitPart>(
     ensures same { KeepsRest seat.old.view seat.new.view }
 {
     for at in 0..lock_count(target) {
-        seat.rule_tells();
-        if steps::k13(table, seat, lock_at(target, at)) != 0 {
+        if steps::lock(table, seat, lock_at(target, at)) != 0 {
             unlock_first(table, seat, target, at);
             return false;
         }
@@ -92,8 +92,7 @@ fn unlock_first<W: WaitPart>(
     ensures same { KeepsRest seat.old.view seat.new.view }
 {
     for done in 0..count {
-        seat.rule_tells();
-        steps::k14(table, seat, lock_at(target, count - 1 - done));
+        steps::unlock(table, seat, lock_at(target, count - 1 - done));
     }
 }
 
@@ -166,16 +165,11 @@ fn load_node<W: WaitPart>(table: &CitrusTable<W>, seat: &mut Seat<W>, target: &T
     ensures same { KeepsAll seat.old.view seat.new.view }
 {
     let node = target.node;
-    seat.rule_tells();
-    let parent_life = steps::k18(table, seat, node.parent, 2);
-    seat.rule_tells();
-    let link = steps::k18(table, seat, node.parent, side_field(node.side));
-    seat.rule_tells();
-    let life = steps::k18(table, seat, node.node, 2);
-    seat.rule_tells();
-    let left = steps::k18(table, seat, node.node, 5);
-    seat.rule_tells();
-    let right = steps::k18(table, seat, node.node, 6);
+    let parent_life = steps::locked_load(table, seat, node.parent, Part::Life);
+    let link = steps::locked_load(table, seat, node.parent, Part::Link { side: node.side });
+    let life = steps::locked_load(table, seat, node.node, Part::Life);
+    let left = steps::locked_load(table, seat, node.node, Part::Link { side: Side::Left });
+    let right = steps::locked_load(table, seat, node.node, Part::Link { side: Side::Right });
     Found {
         parent_life,
         link,
@@ -205,10 +199,13 @@ fn load_successor<W: WaitPart>(
     ensures same { KeepsAll seat.old.view seat.new.view }
 {
     let found = load_link(table, seat, node, successor, found);
-    seat.rule_tells();
-    let successor_life = steps::k18(table, seat, successor.slot, 2);
-    seat.rule_tells();
-    let successor_left = steps::k18(table, seat, successor.slot, 5);
+    let successor_life = steps::locked_load(table, seat, successor.slot, Part::Life);
+    let successor_left = steps::locked_load(
+        table,
+        seat,
+        successor.slot,
+        Part::Link { side: Side::Left },
+    );
     Found {
         successor_life,
         successor_left,
@@ -232,17 +229,24 @@ fn load_link<W: WaitPart>(
     ensures same { KeepsAll seat.old.view seat.new.view }
 {
     if successor.parent == node.node {
-        seat.rule_tells();
-        let successor_link = steps::k18(table, seat, successor.parent, 6);
+        let successor_link = steps::locked_load(
+            table,
+            seat,
+            successor.parent,
+            Part::Link { side: Side::Right },
+        );
         return Found {
             successor_link,
             ..found
         };
     }
-    seat.rule_tells();
-    let successor_parent_life = steps::k18(table, seat, successor.parent, 2);
-    seat.rule_tells();
-    let successor_link = steps::k18(table, seat, successor.parent, 5);
+    let successor_parent_life = steps::locked_load(table, seat, successor.parent, Part::Life);
+    let successor_link = steps::locked_load(
+        table,
+        seat,
+        successor.parent,
+        Part::Link { side: Side::Left },
+    );
     Found {
         successor_parent_life,
         successor_link,

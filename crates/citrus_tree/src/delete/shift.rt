@@ -2,7 +2,6 @@
 ghost use Rattle.std.specs.Prelude.{◌≡◌, ◌≢◌, ◌⊎◌, ◌+◌, ◌*◌, ◌^◌, ◌<◌, ◌≤◌, ◌==◌, ℕ, List, [], ◌∷◌, ◌++◌, length, Some, None, IfSome, IfNone};
 ghost use Rattle.list_laws.specs.Counts.{times};
 ghost use Rattle.prcu_marks.specs.declared.mark.Mark.TheVariants.{Began, Ended};
-ghost use Rattle.prcu_model.specs.declared.operation.Op.{Op};
 ghost use Rattle.prcu_model.specs.declared.operation.Op.TheVariants.{Del};
 ghost use Rattle.core_points.specs.declared.stage.Last.TheVariants as last;
 ghost use Rattle.core_points.specs.declared.stage.Stage.TheVariants as at;
@@ -25,7 +24,7 @@ use core_points::stage::{Moving, Node, Successor, Target};
 use crossbeam_utils::Backoff;
 use key_interval::Keys;
 use prcu_marks::{Gate, Point, Side};
-use seat_table::{CitrusTable, Poll, Seat, WaitPart, steps};
+use seat_table::{CitrusTable, Part, Poll, Seat, WaitPart, steps};
 use std::sync::Wait;
 
 /// Links a copy of the successor in the node's place, waits for the readers that may be on their way to the old one, unlinks that, gives
@@ -57,8 +56,7 @@ pub(crate) fn shift<R: Wait, W: WaitPart, G: Gate>(
         unreachable!()
     };
     let next_key = fill_copy(table, seat, node, successor, copy);
-    seat.rule_tells();
-    if steps::k13(table, seat, copy) != 0 {
+    if steps::lock(table, seat, copy) != 0 {
         let target = Target {
             node,
             successor: Some(successor),
@@ -66,7 +64,7 @@ pub(crate) fn shift<R: Wait, W: WaitPart, G: Gate>(
         unlock_target(table, seat, &target);
         return None;
     }
-    let number = link_copy(rt, table, seat, node, successor, copy);
+    let number = link_copy(rt, table, seat, node, successor, copy, key, next_key);
     let moving = Moving {
         node,
         successor,
@@ -94,20 +92,25 @@ fn fill_copy<W: WaitPart>(
     ensures spare { IsSlotOf (Some copy) seat.new.view.hands.spare }
     ensures same { KeepsAll seat.old.view seat.new.view }
 {
-    rule_tells(table, seat);
-    let next_key = steps::k18(table, seat, successor.slot, 3);
-    rule_tells(table, seat);
-    let value = steps::k18(table, seat, successor.slot, 4);
-    rule_tells(table, seat);
-    steps::k12(table, seat, copy, 3, next_key);
-    rule_tells(table, seat);
-    steps::k12(table, seat, copy, 4, value);
-    rule_tells(table, seat);
-    steps::k12(table, seat, copy, 5, node.left);
-    rule_tells(table, seat);
-    steps::k12(table, seat, copy, 6, node.right);
-    rule_tells(table, seat);
-    steps::k9(table, seat, copy, false);
+    let next_key = steps::locked_load(table, seat, successor.slot, Part::Key);
+    let value = steps::locked_load(table, seat, successor.slot, Part::Value);
+    steps::fill(table, seat, copy, Part::Key, next_key);
+    steps::fill(table, seat, copy, Part::Value, value);
+    steps::fill(
+        table,
+        seat,
+        copy,
+        Part::Link { side: Side::Left },
+        node.left,
+    );
+    steps::fill(
+        table,
+        seat,
+        copy,
+        Part::Link { side: Side::Right },
+        node.right,
+    );
+    steps::load_own_life(table, seat, copy);
     next_key
 }
 
@@ -119,23 +122,23 @@ fn link_copy<R: Wait, W: WaitPart>(
     node: Node,
     successor: Successor,
     copy: u32,
+    key: u64,
+    next_key: u64,
 ) -> u64
     requires table { seat.old.table ≡ table.now }
-    requires at { (next_key : ℕ) × StandsAt (shape_of W.WAY table.now) (at.CopyMark node successor next_key) seat.old.view }
+    requires at { (kept : ℕ) × IsAt (shape_of W.WAY table.now) (Del key) kept (at.CopyMark node successor next_key) seat.old.view }
     requires spare { IsSlotOf (Some copy) seat.old.view.hands.spare }
     requires small { AreLivesSmall node (Some successor) }
     ensures seat { (seat.new.table ≡ seat.old.table) × (seat.new.listed ≡ seat.old.listed) }
-    ensures at { (next_key : ℕ) → Comes (shape_of W.WAY table.now) (at.CopyMark node successor next_key) seat.old.view (at.Begin (waits.Move (record { node = node; successor = successor; copy = copy; next_key = next_key; number = result }))) seat.new.view }
-    ensures done { (op : Op) (kept next_key : ℕ) → IsAt (shape_of W.WAY table.now) op kept (at.CopyMark node successor next_key) seat.old.view → HasCopied seat.old.view op next_key result seat.new.view }
+    ensures at { (kept : ℕ) → IsAt (shape_of W.WAY table.now) (Del key) kept (at.CopyMark node successor next_key) seat.old.view → IsAt (shape_of W.WAY table.now) (Del key) kept (at.Begin (waits.Move (record { node = node; successor = successor; copy = copy; next_key = next_key; number = result }))) seat.new.view }
+    ensures done { (kept : ℕ) → IsAt (shape_of W.WAY table.now) (Del key) kept (at.CopyMark node successor next_key) seat.old.view → HasCopied seat.old.view key next_key result seat.new.view }
     ensures locked { locked_slots seat.new.view ≡ locked_slots seat.old.view }
     ensures retired { retired_slots seat.new.view ≡ retired_slots seat.old.view ++ node.node ∷ [] }
     ensures waits { KeepsWaits seat.old.view seat.new.view }
 {
-    seat.rule_tells();
-    steps::k22(table, seat, node.node, 2 * node.generation);
+    steps::mark(table, seat, node.node, 2 * node.generation);
     let front = open_front(rt, table, seat);
-    seat.rule_tells();
-    steps::k25(
+    steps::link_copy(
         table,
         seat,
         node.parent,
@@ -144,6 +147,8 @@ fn link_copy<R: Wait, W: WaitPart>(
         copy,
         successor.slot,
         successor.parent,
+        key,
+        next_key,
     );
     close_front(table, seat, front)
 }
@@ -219,18 +224,21 @@ fn unlink_old<W: WaitPart>(table: &CitrusTable<W>, seat: &mut Seat<W>, moving: M
 {
     let node = moving.node;
     let successor = moving.successor;
-    seat.rule_tells();
-    steps::k22(table, seat, successor.slot, 2 * successor.generation);
-    seat.rule_tells();
-    let right = steps::k18(table, seat, successor.slot, 6);
+    steps::mark(table, seat, successor.slot, 2 * successor.generation);
+    let right = steps::locked_load(
+        table,
+        seat,
+        successor.slot,
+        Part::Link { side: Side::Right },
+    );
     seat.rule_tells();
     let child = slot_of(table, right);
     if successor.parent == node.node {
-        steps::k27(table, seat, moving.copy, successor.slot, child);
+        steps::unlink_right(table, seat, moving.copy, successor.slot, child);
         settle_side(table, seat, moving.copy, Side::Right, child);
         return;
     }
-    steps::k26(table, seat, successor.parent, successor.slot, child);
+    steps::unlink_left(table, seat, successor.parent, successor.slot, child);
     settle_side(table, seat, successor.parent, Side::Left, child);
 }
 
@@ -245,12 +253,9 @@ fn unlock_all<W: WaitPart>(table: &CitrusTable<W>, seat: &mut Seat<W>, moving: M
     ensures informed { IsInformed seat.new.view }
 {
     unlock_below(table, seat, moving);
-    seat.rule_tells();
-    steps::k14(table, seat, moving.copy);
-    seat.rule_tells();
-    steps::k14(table, seat, moving.node.node);
-    seat.rule_tells();
-    steps::k14(table, seat, moving.node.parent);
+    steps::unlock(table, seat, moving.copy);
+    steps::unlock(table, seat, moving.node.node);
+    steps::unlock(table, seat, moving.node.parent);
 }
 
 // Those of the old successor, and of the slot above it where this isn't the node.
@@ -265,11 +270,9 @@ fn unlock_below<W: WaitPart>(table: &CitrusTable<W>, seat: &mut Seat<W>, moving:
 {
     let node = moving.node;
     let successor = moving.successor;
-    seat.rule_tells();
-    steps::k14(table, seat, successor.slot);
+    steps::unlock(table, seat, successor.slot);
     if successor.parent == node.node {
         return;
     }
-    seat.rule_tells();
-    steps::k14(table, seat, successor.parent);
+    steps::unlock(table, seat, successor.parent);
 }

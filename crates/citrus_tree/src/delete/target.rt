@@ -15,7 +15,7 @@ use crate::descent::{Descent, descend};
 use core_points::stage::{Node, Successor, Target};
 use core_state::generation_of;
 use prcu_marks::{Gate, Side};
-use seat_table::{CitrusTable, Seat, WaitPart, steps};
+use seat_table::{CitrusTable, Part, Seat, WaitPart, steps};
 use std::sync::Wait;
 
 /// Finds the node with the key, in a section of its own, and its successor where it has two children; or nothing, where the key is absent.
@@ -94,14 +94,10 @@ fn load_node<W: WaitPart>(
     ensures inside { StoodInside (shape_of W.WAY table.now) seat.new.view }
     ensures same { KeepsAll seat.old.view seat.new.view }
 {
-    seat.rule_tells();
-    let parent_life = steps::k17(table, seat, parent, 2);
-    seat.rule_tells();
-    let life = steps::k17(table, seat, slot, 2);
-    seat.rule_tells();
-    let left = steps::k17(table, seat, slot, 5);
-    seat.rule_tells();
-    let right = steps::k17(table, seat, slot, 6);
+    let parent_life = steps::search_load(table, seat, parent, Part::Life);
+    let life = steps::search_load(table, seat, slot, Part::Life);
+    let left = steps::search_load(table, seat, slot, Part::Link { side: Side::Left });
+    let right = steps::search_load(table, seat, slot, Part::Link { side: Side::Right });
     Node {
         parent,
         side,
@@ -130,8 +126,7 @@ fn walk<R: Wait, W: WaitPart>(
     let mut parent = node.node;
     let mut slot = node.right as u32;
     for _ in rt.forever() {
-        seat.rule_tells();
-        let left = steps::k17(table, seat, slot, 5);
+        let left = steps::search_load(table, seat, slot, Part::Link { side: Side::Left });
         if left == 0 {
             return (parent, slot);
         }
@@ -156,8 +151,7 @@ fn load_successor<W: WaitPart>(
     ensures same { KeepsAll seat.old.view seat.new.view }
 {
     let parent_generation = load_above(table, seat, node, parent, slot);
-    seat.rule_tells();
-    let life = steps::k17(table, seat, slot, 2);
+    let life = steps::search_load(table, seat, slot, Part::Life);
     Successor {
         parent,
         slot,
@@ -183,6 +177,5 @@ fn load_above<W: WaitPart>(
     if parent == node.node {
         return 0;
     }
-    seat.rule_tells();
-    generation_of(steps::k17(table, seat, parent, 2))
+    generation_of(steps::search_load(table, seat, parent, Part::Life))
 }

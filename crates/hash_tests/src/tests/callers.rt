@@ -1,11 +1,11 @@
 //! Callers in threads of their own, on few slots: one history explains what all of them were told.
-ghost use Rattle.std.specs.Prelude.{◌≡◌, ◌<◌, ◌≤◌, length, IfOk, vec_len};
+ghost use Rattle.std.specs.Prelude.{◌≡◌, length, IfOk, vec_len};
 ghost use Rattle.hash_core.specs.Steps.{IsQuiet};
 ghost use Rattle.client_run.specs.Workers.{AreReadyFor};
 
-use class_hash::{HashClient, HashSeat, HashTable, get};
+use class_hash::{HashClient, HashSeat, HashTable};
 use client_run::{Worker, run_all};
-use prcu_marks::OpenGate;
+use prcu_marks::{Client, OpenGate};
 use prcu_model::{NoMemory, Op, PlainMap, Reply, Scripts, Told, ToldList};
 use std::alloc::Global;
 use std::process::Abort;
@@ -19,10 +19,7 @@ const CALLS: u32 = 4000;
 // Three keys of each of two classes, which have two slots each.
 const KEYS: [u64; 6] = [6, 70, 134, 7, 71, 135];
 
-const SLOTS: usize = 2;
-
-// The values of the keys at a front.
-type Values = [Option<u64>; 6];
+const SLOTS: u32 = 2;
 
 // Stands where there is none.
 const NO_UPDATE: Op = Op::Get { key: 0 };
@@ -91,37 +88,59 @@ fn key_of(op: Op) -> u64 {
     }
 }
 
-// Where the value of a key stands.
-fn shelf(key: u64) -> usize
-    ensures { result < 6 }
-{
-    (key % 2 * 3 + key / 64 % 3) as usize
+// The dictionary at a front of a history: a map for each of the two classes.
+#[derive(Drop)]
+struct Front {
+    number: usize,
+    even: PlainMap,
+    odd: PlainMap,
 }
 
-// How many pairs of the key's class there are.
-fn class_count(values: &Values, key: u64) -> usize {
-    let first = (key % 2 * 3) as usize;
-    values[first..first + 3].iter().flatten().count()
-}
+impl Front {
+    fn first(alloc: Global) -> Front {
+        Front {
+            number: 0,
+            even: PlainMap::new(alloc),
+            odd: PlainMap::new(alloc),
+        }
+    }
 
-// Whether an operation is given this reply where the keys have these values.
-fn is_reply(values: &Values, op: Op, reply: Reply) -> bool {
-    let there = values[shelf(key_of(op))];
-    match (op, reply) {
-        (Op::Put { .. }, Reply::New) => there.is_none() && class_count(values, key_of(op)) < SLOTS,
-        (Op::Put { .. }, Reply::Full) => there.is_none()
-            && class_count(values, key_of(op)) == SLOTS,
-        (Op::Put { .. }, Reply::Old) => there.is_some(),
-        (Op::Del { .. }, Reply::Gone) => there.is_some(),
-        (Op::Set { .. }, Reply::Was { value }) | (Op::Get { .. }, Reply::Val { value }) => there
-            == Some(value),
-        (Op::Del { .. } | Op::Set { .. } | Op::Get { .. }, Reply::Absent) => there.is_none(),
-        _ => false,
+    // What the operation is answered here.
+    fn reply_to(&self, op: Op) -> Reply {
+        let pairs = if key_of(op) % 2 == 0 {
+            &self.even
+        } else {
+            &self.odd
+        };
+        pairs.reply_to(Some(SLOTS), op)
+    }
+
+    // Goes on by an update.
+    fn step(&mut self, update: Op) -> Result<(), NoMemory> {
+        self.number = self.number.saturating_add(1);
+        if key_of(update) % 2 == 0 {
+            self.even.update(update)
+        } else {
+            self.odd.update(update)
+        }
+    }
+
+    // Goes on to the least front, from here and from another on, at which the operation is given the reply, or to the last.
+    fn seek(&mut self, history: &[Op], from: u64, op: Op, reply: Reply) -> Result<(), NoMemory> {
+        for place in self.number..history.len() {
+            if place as u64 >= from && self.reply_to(op) == reply {
+                break;
+            }
+            self.step(history[place])?;
+        }
+        Ok(())
     }
 }
 
-// Stores each update that the script was told of at its number, counted from 1. No number is told twice.
-fn store_script(rt: &impl Abort, history: &mut [Option<Op>], script: &[Op], told: &[Told]) {
+// Stores each update that the script was told of at its number, counted from 1, and tells how many there are. No number is told
+// twice.
+fn store_script(rt: &impl Abort, history: &mut [Op], script: &[Op], told: &[Told]) -> usize {
+    let mut count = 0usize;
     for (op, answer) in script.iter().zip(told) {
         if answer.reply.tells_update() {
             assert!(rt;
@@ -129,103 +148,89 @@ fn store_script(rt: &impl Abort, history: &mut [Option<Op>], script: &[Op], told
                 "{op:?} was told {answer:?}"
             );
             let place = (answer.number - 1) as usize;
-            assert!(rt; history[place].is_none(), "{op:?} was told {answer:?} too");
-            history[place] = Some(*op);
+            assert!(rt;
+                history[place] == NO_UPDATE,
+                "{op:?} was told {answer:?} too"
+            );
+            history[place] = *op;
+            count = count.saturating_add(1);
         }
     }
+    count
 }
 
-// The history of all updates that the scripts were told of. Their numbers are 1 to their count, each once.
+// The history of all updates that the scripts were told of. A number that none was told has no update.
 fn merged(
     rt: &impl Abort,
     alloc: Global,
     scripts: &Scripts,
     told: &[ToldList],
 ) -> Result<Vec<Op>, NoMemory> {
-    let mut history = vec![in alloc; None; scripts.ops() as usize]?;
+    let mut history = vec![in alloc; NO_UPDATE; scripts.ops() as usize]?;
+    let mut count = 0usize;
     for (caller, list) in told.iter().enumerate() {
         assert!(rt; caller < scripts.count() as usize);
-        store_script(
-            rt,
-            &mut history,
-            scripts.script(caller as u32),
-            list.entries(),
-        );
+        let script = scripts.script(caller as u32);
+        count = count.saturating_add(store_script(rt, &mut history, script, list.entries()));
     }
-    let count = history.iter().flatten().count();
-    let mut updates = Vec::new(alloc);
-    for update in history.into_iter().take(count) {
-        assert!(rt; update.is_some(), "a number up to {count} is missing");
-        updates.push(update.unwrap_or(NO_UPDATE))?;
-    }
-    Ok(updates)
+    history.truncate(count);
+    Ok(history)
 }
 
-// The values after each front of the history, from none on. Each update does something.
-fn values_at(rt: &impl Abort, alloc: Global, history: &[Op]) -> Result<Vec<Values>, NoMemory> {
-    let mut map = PlainMap::new(alloc);
-    let mut fronts = Vec::new(alloc);
-    fronts.push([None; 6])?;
+// The front behind the history. Each update does something, so none is missing.
+fn last_front(rt: &impl Abort, alloc: Global, history: &[Op]) -> Result<Front, NoMemory> {
+    let mut front = Front::first(alloc);
     for op in history {
-        assert!(rt;
-            map.reply_to(None, *op).tells_update(),
-            "{op:?} does nothing"
-        );
-        map.update(*op)?;
-        let mut values = [None; 6];
-        for key in KEYS {
-            values[shelf(key)] = map.get(key);
-        }
-        fronts.push(values)?;
+        assert!(rt; front.reply_to(*op).tells_update(), "{op:?} does nothing");
+        front.step(*op)?;
     }
-    Ok(fronts)
+    Ok(front)
 }
 
-// The least front from another on at which the operation is given the reply.
-fn least_front(fronts: &[Values], from: usize, op: Op, reply: Reply) -> Option<usize> {
-    for front in from..fronts.len() {
-        if is_reply(&fronts[front], op, reply) {
-            return Some(front);
-        }
-    }
-    None
-}
-
-// That each reply of a script is one at some front, where the fronts never fall. An update's is the one before it.
-fn assert_explained(rt: &impl Abort, fronts: &[Values], script: &[Op], told: &[Told]) {
+// That each reply of a script is one at some front, where the fronts never fall. An update's is the one before it. Tells whether
+// a put was told that its class is full.
+fn assert_explained(
+    rt: &impl Abort,
+    alloc: Global,
+    history: &[Op],
+    script: &[Op],
+    told: &[Told],
+) -> Result<bool, NoMemory> {
     assert_eq!(rt; script.len(), told.len());
-    let mut front = 0;
+    let (mut front, mut least, mut full) = (Front::first(alloc), 0, false);
     for (op, answer) in script.iter().zip(told) {
-        if answer.reply.tells_update() {
-            let number = answer.number as usize;
-            assert!(rt;
-                front < number && number < fronts.len(),
-                "{op:?} was told {answer:?}"
-            );
-            assert!(rt;
-                is_reply(&fronts[number - 1], *op, answer.reply),
-                "{op:?} was told {answer:?}"
-            );
-            front = number;
-        } else {
-            let found = least_front(fronts, front, *op, answer.reply);
-            assert!(rt; found.is_some(), "{op:?} was told {answer:?}");
-            front = found.unwrap_or(front);
-        }
+        let is_update = answer.reply.tells_update();
+        let from = answer.number.saturating_sub(1);
+        front.seek(history, from.max(least), *op, answer.reply)?;
+        assert_eq!(rt;
+            front.reply_to(*op),
+            answer.reply,
+            "{op:?} was told {answer:?}"
+        );
+        least = (front.number as u64).saturating_add(u64::from(is_update));
+        assert!(rt;
+            !is_update || least == answer.number,
+            "{op:?} was told {answer:?}"
+        );
+        full |= answer.reply == Reply::Full;
     }
+    Ok(full)
 }
 
-// The values that the table gives the keys.
-fn values_found<R: Wait>(rt: &R, table: &HashTable, mut seat: HashSeat) -> Values
+// That the last seat finds in the table what is there at this front.
+fn assert_found<R: Wait + Abort>(rt: &R, table: &HashTable, seat: HashSeat, front: &Front)
     requires { (seat.table ≡ table.now.id) × IsQuiet seat.view }
 {
-    let mut values = [None; 6];
+    let mut client = HashClient::new(table, seat, &OpenGate);
     for key in KEYS {
-        if let Reply::Val { value } = get(rt, table, &mut seat, key).reply {
-            values[shelf(key)] = Some(value);
-        }
+        let get = Op::Get { key };
+        assert!(rt; client.remaining() > 0, "no tickets are left");
+        assert_eq!(rt;
+            client.call(rt, get).reply,
+            front.reply_to(get),
+            "to {get:?}"
+        );
     }
-    values
 }
 
 // What the workers were told.
@@ -241,37 +246,38 @@ fn lists_told(
     Ok(told)
 }
 
-// That all that the scripts were told is explained, and that some put was told that its class is full.
-fn assert_all_explained(rt: &impl Abort, fronts: &[Values], scripts: &Scripts, told: &[ToldList]) {
+// That one history explains all that the scripts were told, and that some put was told that its class is full. The front behind it.
+fn assert_all_explained(
+    rt: &impl Abort,
+    alloc: Global,
+    scripts: &Scripts,
+    told: &[ToldList],
+) -> Result<Front, NoMemory> {
+    let history = merged(rt, alloc, scripts, told)?;
     let mut full = false;
     for (caller, list) in told.iter().enumerate() {
         assert!(rt; caller < scripts.count() as usize);
-        assert_explained(rt, fronts, scripts.script(caller as u32), list.entries());
-        full |= list
-            .entries()
-            .iter()
-            .any(|answer| answer.reply == Reply::Full);
+        let script = scripts.script(caller as u32);
+        full |= assert_explained(rt, alloc, &history, script, list.entries())?;
     }
     assert!(rt; full, "no class was ever full");
+    last_front(rt, alloc, &history)
 }
 
 #[test]
 fn one_history_explains_callers_that_run_beside_each_other(rt: HostRuntime) -> Result<(), Fail> {
     let alloc = rt.alloc();
     let mut capacities = [0; 64];
-    capacities[6] = SLOTS as u32;
-    capacities[7] = SLOTS as u32;
-    let tickets = u64::from(CALLERS * CALLS);
+    capacities[6] = SLOTS;
+    capacities[7] = SLOTS;
+    let tickets = u64::from(CALLERS * CALLS) + KEYS.len() as u64;
     let (table, seat) = HashTable::new(alloc, &capacities, CALLERS + 1, tickets)?;
     let scripts = made_scripts(&rt, alloc)?;
     let (mut workers, seat) = crew(&rt, alloc, &scripts, &table, seat)?;
     run_all(&rt, &mut workers, &scripts);
 
-    let last = values_found(&rt, &table, seat);
     let told = lists_told(alloc, workers)?;
-    let history = merged(&rt, alloc, &scripts, &told)?;
-    let fronts = values_at(&rt, alloc, &history)?;
-    assert_all_explained(&rt, &fronts, &scripts, &told);
-    assert!(rt; fronts.last() == Some(&last), "the table has {last:?}");
+    let front = assert_all_explained(&rt, alloc, &scripts, &told)?;
+    assert_found(&rt, &table, seat, &front);
     Ok(())
 }

@@ -1,10 +1,11 @@
 //! What no clause says: that a table is made, that it may cross threads, and what its calls answer together.
-use super::answer;
-use class_hash::{
-    HashClient, HashSeat, HashTable, Lock, Poll, del, enter, get, leave, put, set, try_bucket,
-};
+use super::{Call, answered, run};
+use class_hash::{HashClient, HashSeat, HashTable, Lock, Poll, try_bucket};
 use prcu_marks::{Gate, OpenGate};
-use prcu_model::{Reply, Told};
+use prcu_model::{NoMemory, Op, Reply};
+use std::alloc::Global;
+use std::process::Abort;
+use std::sync::Wait;
 use std::test::Fail;
 
 fn is_send<T: Send>() {}
@@ -41,44 +42,43 @@ fn a_bucket_that_is_held_names_its_holder(rt: HostRuntime) -> Result<(), Fail> {
     Ok(())
 }
 
+// That calls one after another on a fresh table, with one slot of class 6 and none of the other classes, are answered so.
+fn assert_calls<R: Abort + Wait>(rt: &R, alloc: Global, calls: &[Call]) -> Result<(), NoMemory> {
+    let mut capacities = [0; 64];
+    capacities[6] = 1;
+    let (table, seat) = HashTable::new(alloc, &capacities, 1, 8)?;
+    run(rt, &table, seat, calls);
+    Ok(())
+}
+
 #[test]
 fn nothing_is_found_in_a_fresh_table(rt: HostRuntime) -> Result<(), Fail> {
-    let mut capacities = [0; 64];
-    capacities[6] = 2;
-    let (table, mut seat) = HashTable::new(rt.alloc(), &capacities, 1, 8)?;
-    let absent = Told {
-        reply: Reply::Absent,
-        number: 0,
-    };
-    assert_eq!(rt; get(&rt, &table, &mut seat, 6), absent);
-    assert_eq!(rt; set(&rt, &table, &mut seat, 70, 1), absent);
-    enter(&table, &mut seat, 7);
-    leave(&table, &mut seat);
-    Ok(())
+    let calls = [
+        answered(Op::Get { key: 6 }, Reply::Absent, 0),
+        answered(Op::Set { key: 70, value: 1 }, Reply::Absent, 0),
+        answered(Op::Del { key: 134 }, Reply::Absent, 0),
+    ];
+    Ok(assert_calls(&rt, rt.alloc(), &calls)?)
 }
 
 #[test]
 fn a_slot_is_put_into_again_after_its_key_is_taken_out(rt: HostRuntime) -> Result<(), Fail> {
-    let mut capacities = [0; 64];
-    capacities[6] = 1;
-    let (table, mut seat) = HashTable::new(rt.alloc(), &capacities, 1, 8)?;
-    assert_eq!(rt; put(&rt, &table, &mut seat, 6, 10), answer(Reply::New, 1));
-    assert_eq!(rt; put(&rt, &table, &mut seat, 70, 12), answer(Reply::Full, 0));
-    assert_eq!(rt; del(&rt, &table, &mut seat, 6), answer(Reply::Gone, 2));
-    assert_eq!(rt; put(&rt, &table, &mut seat, 70, 13), answer(Reply::New, 3));
-    Ok(())
+    let calls = [
+        answered(Op::Put { key: 6, value: 10 }, Reply::New, 1),
+        answered(Op::Put { key: 70, value: 12 }, Reply::Full, 0),
+        answered(Op::Del { key: 6 }, Reply::Gone, 2),
+        answered(Op::Put { key: 70, value: 13 }, Reply::New, 3),
+    ];
+    Ok(assert_calls(&rt, rt.alloc(), &calls)?)
 }
 
 #[test]
 fn a_pair_stays_until_it_is_set(rt: HostRuntime) -> Result<(), Fail> {
-    let mut capacities = [0; 64];
-    capacities[6] = 1;
-    let (table, mut seat) = HashTable::new(rt.alloc(), &capacities, 1, 8)?;
-    let was = Reply::Was { value: 10 };
-    let val = Reply::Val { value: 11 };
-    assert_eq!(rt; put(&rt, &table, &mut seat, 6, 10), answer(Reply::New, 1));
-    assert_eq!(rt; put(&rt, &table, &mut seat, 6, 12), answer(Reply::Old, 0));
-    assert_eq!(rt; set(&rt, &table, &mut seat, 6, 11), answer(was, 2));
-    assert_eq!(rt; get(&rt, &table, &mut seat, 6), answer(val, 0));
-    Ok(())
+    let calls = [
+        answered(Op::Put { key: 6, value: 10 }, Reply::New, 1),
+        answered(Op::Put { key: 6, value: 12 }, Reply::Old, 0),
+        answered(Op::Set { key: 6, value: 11 }, Reply::Was { value: 10 }, 2),
+        answered(Op::Get { key: 6 }, Reply::Val { value: 11 }, 0),
+    ];
+    Ok(assert_calls(&rt, rt.alloc(), &calls)?)
 }

@@ -1,16 +1,15 @@
 //! A seat that reads and a seat that waits for readers, in threads of their own.
-ghost use Rattle.std.specs.Prelude.{◌≡◌, ◌≢◌, ◌≤◌};
+ghost use Rattle.std.specs.Prelude.{◌≡◌, ◌≢◌};
 ghost use Rattle.hash_core.specs.Steps.{IsQuiet};
 ghost use Rattle.class_hash.specs.declared.bucket.Poll.TheVariants.{Over};
 ghost use Rattle.class_hash.specs.Calls.{HasFinished, MayPoll};
 
-use super::answer;
+use super::{answered, run};
 use class_hash::{
-    HashSeat, HashTable, Lock, Poll, del, enter, free_bucket, leave, lists, poll_class, put,
-    try_bucket,
+    HashSeat, HashTable, Lock, Poll, enter, free_bucket, leave, lists, poll_class, try_bucket,
 };
 use prcu_marks::Why;
-use prcu_model::Reply;
+use prcu_model::{Op, Reply};
 use std::alloc::Global;
 use std::process::Abort;
 use std::sync::{Barrier, Wait};
@@ -34,7 +33,6 @@ fn looks(table: &HashTable, seat: &mut HashSeat) -> Poll
     requires lists { MayPoll seat.old.view }
     ensures table { seat.new.table ≡ seat.old.table }
     ensures section { seat.new.view.section ≡ seat.old.view.section }
-    ensures tickets { seat.new.view.tickets ≡ seat.old.view.tickets }
     ensures finished { HasFinished seat.new.view }
     ensures again { result ≢ Over → MayPoll seat.new.view }
 {
@@ -50,7 +48,7 @@ fn waits<R: Wait + Abort>(
     gate: &Barrier,
 ) -> (Poll, Option<Poll>, HashSeat)
     requires { (seat.table ≡ table.now.id) × IsQuiet seat.view }
-    ensures { (result.2.table ≡ seat.table) × IsQuiet result.2.view × (result.2.view.tickets ≡ seat.view.tickets) }
+    ensures { (result.2.table ≡ seat.table) × IsQuiet result.2.view }
 {
     let Lock::Held = try_bucket(table, &mut seat, 6) else {
         panic!(rt; "the bucket is held");
@@ -79,22 +77,28 @@ fn found_beside<R: Threads + Wait + Abort + Sync>(
     let mut capacities = [0; 64];
     capacities[6] = 1;
     let (table, seat) = HashTable::new(alloc, &capacities, 2, 8)?;
-    let (a, mut b) = seat.split(&table, 1, 4);
-    assert_eq!(rt; put(rt, &table, &mut b, 6, 10), answer(Reply::New, 1));
-    assert_eq!(rt; del(rt, &table, &mut b, 6), answer(Reply::Gone, 2));
+    let (a, b) = seat.split(&table, 1, 4);
+    let before = [
+        answered(Op::Put { key: 6, value: 10 }, Reply::New, 1),
+        answered(Op::Del { key: 6 }, Reply::Gone, 2),
+    ];
+    let b = run(rt, &table, b, &before);
     let gate = Barrier::new(2);
-    let (_, (first, second, mut b)) = join(
+    let (_, (first, second, b)) = join(
         rt,
         || -> ()
             requires { (a.table ≡ table.id) × IsQuiet a.view }
         { reads(rt, &table, a, key, &gate) },
         || -> (Poll, Option<Poll>, HashSeat)
-            requires { (b.table ≡ table.id) × IsQuiet b.view × (2 ≤ b.view.tickets) }
-            ensures { (result.2.table ≡ table.id) × IsQuiet result.2.view × (2 ≤ result.2.view.tickets) }
+            requires { (b.table ≡ table.id) × IsQuiet b.view }
+            ensures { (result.2.table ≡ table.id) × IsQuiet result.2.view }
         { waits(rt, &table, b, &gate) },
     );
-    assert_eq!(rt; put(rt, &table, &mut b, 6, 11), answer(Reply::New, 3));
-    assert_eq!(rt; put(rt, &table, &mut b, 70, 12), answer(Reply::Full, 0));
+    let after = [
+        answered(Op::Put { key: 6, value: 11 }, Reply::New, 3),
+        answered(Op::Put { key: 70, value: 12 }, Reply::Full, 0),
+    ];
+    run(rt, &table, b, &after);
     Ok((first, second))
 }
 

@@ -1,11 +1,12 @@
 //! A table and its seats: they may cross threads, seats are split and joined, and a section goes on from its entry to its exit.
 ghost use Rattle.std.specs.Prelude.{◌≤◌};
 
+use core_acts::Part;
 use d_wait::Domain;
 use deer_wait::Deer;
 use eer_wait::Eer;
-use seat_table::steps::{k17, look};
-use seat_table::{CitrusTable, Seat, WaitPart};
+use prcu_marks::Side;
+use seat_table::{CitrusTable, Seat, WaitPart, steps};
 use std::alloc::Global;
 use std::test::Fail;
 
@@ -48,7 +49,7 @@ fn told_inside<W: WaitPart>(alloc: Global) -> Result<(Option<u64>, u64, Option<u
     let (table, mut seat) = CitrusTable::<W>::new(alloc, 1, 1, 4)?;
     W::enter(&table, &mut seat, 70);
     let inside = seat.section();
-    let front = look(&table, &mut seat);
+    let front = steps::look_at_front(&table, &mut seat);
     W::leave(&table, &mut seat);
     Ok((inside, front, seat.section()))
 }
@@ -67,7 +68,10 @@ fn a_section_of_the_second_waiter_has_a_side(rt: HostRuntime) -> Result<(), Fail
     let (table, mut seat) = CitrusTable::<Domain>::new(rt.alloc(), 1, 1, 4)?;
     Domain::enter(&table, &mut seat, 70);
     assert_eq!(rt; seat.side(), 0);
-    assert_eq!(rt; k17(&table, &mut seat, 0, 6), 0);
+    assert_eq!(rt;
+        steps::search_load(&table, &mut seat, 0, Part::Link { side: Side::Right }),
+        0
+    );
     Domain::leave(&table, &mut seat);
     Ok(())
 }

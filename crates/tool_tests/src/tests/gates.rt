@@ -1,9 +1,9 @@
 //! A gate that holds callers where they meet.
 ghost use Rattle.std.specs.Prelude.{◌≤◌, ◌<◌};
 
-use super::{ROOM, answer, source_of};
+use super::answer;
 use citrus_tool::Status;
-use prcu_marks::{Gate, OpenGate, Point};
+use prcu_marks::{Gate, Point};
 use std::alloc::Global;
 use std::process::Abort;
 use std::sync::Wait;
@@ -12,28 +12,43 @@ use std::test::Fail;
 use std::thread;
 use std::thread::Threads;
 
-// A caller stays where it first comes to a point, until another caller has come to a point so many times.
+/// One of two callers stays at this visit of a point until the other has come to a point so many times, or for so many turns.
 #[derive(Clone, Copy)]
 pub struct Hold {
     pub caller: u32,
     pub at: Point,
-    pub until: u32,
+    pub visit: u64,
     pub comes_to: Point,
     pub times: u64,
+    pub turns: u64,
 }
 
-// Holds two callers, for so many turns at most, and counts the holds that lasted so long.
+pub const MANY: u64 = 10_000_000;
+
+impl Hold {
+    /// The caller stays at its first visit.
+    pub fn first(caller: u32, at: Point, comes_to: Point, times: u64) -> Hold {
+        Hold {
+            caller,
+            at,
+            visit: 1,
+            comes_to,
+            times,
+            turns: MANY,
+        }
+    }
+}
+
+// Holds two callers, and counts the holds that lasted for all their turns.
 #[derive(Drop)]
 struct Holding {
-    holds: [Hold; 2],
+    holds: [Hold; 4],
     // of each caller at each point
-    passes: [AtomicU64; 8],
+    visits: [AtomicU64; 8],
     misses: AtomicU64,
 }
 
-const MOST_TURNS: u64 = 10_000_000;
-
-// Where the passes of a caller at a point are counted.
+// Where the visits of a caller to a point are counted.
 fn number_of(caller: u32, point: Point) -> usize
     requires { caller ≤ 1 }
     ensures { result < 8 }
@@ -52,9 +67,9 @@ impl Gate for Holding {
         if caller > 1 {
             return;
         }
-        let before = self.passes[number_of(caller, point)].fetch_add(1, Ordering::SeqCst);
+        let before = self.visits[number_of(caller, point)].fetch_add(1, Ordering::SeqCst);
         for hold in self.holds.iter() {
-            if before == 0 && hold.caller == caller && hold.at == point && hold.until <= 1 {
+            if hold.caller == caller && hold.at == point && hold.visit.wrapping_sub(1) == before {
                 self.wait_for(hold);
             }
         }
@@ -62,29 +77,12 @@ impl Gate for Holding {
 }
 
 impl Holding {
-    fn new(holds: [Hold; 2]) -> Holding {
-        Holding {
-            holds,
-            passes: [
-                AtomicU64::new(0),
-                AtomicU64::new(0),
-                AtomicU64::new(0),
-                AtomicU64::new(0),
-                AtomicU64::new(0),
-                AtomicU64::new(0),
-                AtomicU64::new(0),
-                AtomicU64::new(0),
-            ],
-            misses: AtomicU64::new(0),
-        }
-    }
-
     fn wait_for(&self, hold: &Hold)
-        requires { hold.now.until ≤ 1 }
+        requires { hold.now.caller ≤ 1 }
     {
-        let other = number_of(hold.until, hold.comes_to);
-        for _ in 0..MOST_TURNS {
-            if self.passes[other].load(Ordering::SeqCst) >= hold.times {
+        let other = number_of(1 - hold.caller, hold.comes_to);
+        for _ in 0..hold.turns {
+            if self.visits[other].load(Ordering::SeqCst) >= hold.times {
                 return;
             }
             thread::yield_now();
@@ -93,46 +91,38 @@ impl Holding {
     }
 }
 
-// That the line writes this text of these scripts through a gate with these holds, so many of which are too long, and
-// that both callers come to an answer.
+/// That the line writes this text of these scripts through a gate with these holds, so many of which are too long, and that both callers
+/// come to an answer.
 pub fn assert_held<R: Threads + Wait + Sync + Abort>(
     rt: &R,
     alloc: Global,
     line: &str,
     input: &[u8],
-    holds: [Hold; 2],
+    holds: [Hold; 4],
     misses: u64,
     text: &[u8],
 ) -> Result<(), Fail> {
-    let gate = Holding::new(holds);
-    let mut source = source_of(alloc, input, 100, &[])?;
-    let (status, written) = answer(rt, alloc, line, &mut source, ROOM, &gate)?;
+    let gate = Holding {
+        holds,
+        visits: [
+            AtomicU64::new(0),
+            AtomicU64::new(0),
+            AtomicU64::new(0),
+            AtomicU64::new(0),
+            AtomicU64::new(0),
+            AtomicU64::new(0),
+            AtomicU64::new(0),
+            AtomicU64::new(0),
+        ],
+        misses: AtomicU64::new(0),
+    };
+    let (status, written) = answer(rt, alloc, line, input, &gate)?;
     assert_eq!(rt; status, Status::Done, "{line}");
     assert!(rt; written.as_slice() == text, "{line}");
     assert_eq!(rt; gate.misses.load(Ordering::SeqCst), misses, "{line}");
     for caller in 0..2 {
-        let answers = gate.passes[number_of(caller, Point::Answered)].load(Ordering::SeqCst);
+        let answers = gate.visits[number_of(caller, Point::Answered)].load(Ordering::SeqCst);
         assert!(rt; answers >= 1, "{line}: caller {caller}");
     }
     Ok(())
 }
-
-// That a get of one script beside a put of another finds its value or doesn't, whichever the line makes of it.
-pub fn assert_found_or_not<R: Threads + Wait + Sync + Abort>(
-    rt: &R,
-    alloc: Global,
-    line: &str,
-) -> Result<(), Fail> {
-    let mut source = source_of(alloc, b"script\nput 1 1\nscript\nget 1\n", 100, &[])?;
-    let (status, written) = answer(rt, alloc, line, &mut source, ROOM, &OpenGate)?;
-    assert_eq!(rt; status, Status::Done, "{line}");
-    let found = written.as_slice() == FOUND;
-    assert!(rt; found || written.as_slice() == MISSED, "{line}");
-    Ok(())
-}
-
-pub const FOUND: &[u8] =
-    b"script 0\nput 1 1 new 1\nscript 1\nget 1 val 1 1\nhistory 1\n1 0 put 1 1\nfinal 1\n1 1\nend\n";
-
-pub const MISSED: &[u8] =
-    b"script 0\nput 1 1 new 1\nscript 1\nget 1 none 0\nhistory 1\n1 0 put 1 1\nfinal 1\n1 1\nend\n";

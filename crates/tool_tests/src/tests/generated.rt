@@ -1,7 +1,28 @@
 //! Scripts that nobody chose, run and checked.
-use super::assert_checked_as_true;
+use super::{answer, assert_written};
+use citrus_tool::Status;
+use prcu_marks::OpenGate;
 use std::alloc::Global;
+use std::process::Abort;
+use std::sync::Wait;
 use std::test::Fail;
+use std::thread::Threads;
+
+// That the account which the first line writes of these scripts is a true one by the second.
+fn assert_checked_as_true<R: Threads + Wait + Sync + Abort>(
+    rt: &R,
+    alloc: Global,
+    line: &str,
+    check: &str,
+    scripts: &[u8],
+) -> Result<(), Fail> {
+    let (status, account) = answer(rt, alloc, line, scripts, &OpenGate)?;
+    assert_eq!(rt; status, Status::Done, "{line}");
+    let mut claim = Vec::from_slice(alloc, scripts)?;
+    claim.extend_from_slice(b"account\n")?;
+    claim.extend_from_slice(&account)?;
+    assert_written(rt, alloc, check, &claim, Status::Done, b"yes\n")
+}
 
 // Numbers that follow from a number.
 fn drawn(state: u64) -> u64 {
@@ -50,29 +71,30 @@ fn long_scripts(alloc: Global, number: u64) -> Result<String, Fail> {
 }
 
 #[test]
-fn what_run_writes_is_checked_as_true(rt: HostRuntime) -> Result<(), Fail> {
+fn what_is_written_is_checked_as_true(rt: HostRuntime) -> Result<(), Fail> {
+    let alloc = rt.alloc();
     let options = "--waiter=eer --waiter=d --waiter=deer --schedule=9";
     for number in 0..15 {
         for (i, option) in options.split(' ').enumerate() {
-            let text = short_scripts(rt.alloc(), 4 * number + i as u64)?;
-            let line = format!(in rt.alloc(); "citrus run {option}")?;
-            assert_checked_as_true(&rt, rt.alloc(), &line, "citrus check", text.as_bytes())?;
+            let text = short_scripts(alloc, 4 * number + i as u64)?;
+            let line = format!(in alloc; "citrus run {option}")?;
+            assert_checked_as_true(&rt, alloc, &line, "citrus check", text.as_bytes())?;
         }
     }
-    Ok(())
-}
-
-#[test]
-fn what_hash_writes_is_checked_as_true(rt: HostRuntime) -> Result<(), Fail> {
     for number in 0..300 {
-        let text = long_scripts(rt.alloc(), number / 3)?;
-        assert_checked_as_true(
-            &rt,
-            rt.alloc(),
-            "citrus hash",
-            "citrus check",
-            text.as_bytes(),
-        )?;
+        let text = long_scripts(alloc, number / 3)?;
+        assert_checked_as_true(&rt, alloc, "citrus hash", "citrus check", text.as_bytes())?;
     }
-    Ok(())
+    // Each script but the first has twenty slots more: 64 scripts with a put each share one slot and those.
+    let mut text = String::new(alloc);
+    for key in 0..64u64 {
+        text.push_str(&format!(in alloc; "script\nput {key} {key}\n")?)?;
+    }
+    assert_checked_as_true(
+        &rt,
+        alloc,
+        "citrus run --slots=1",
+        "citrus check --slots 1",
+        text.as_bytes(),
+    )
 }

@@ -2,8 +2,7 @@
 use eer_wait::Eer;
 use exact_list::{Listed, Page, list};
 use key_interval::Keys;
-use seat_table::CitrusTable;
-use seat_table::steps::k19;
+use seat_table::{CitrusTable, steps};
 use std::test::Fail;
 
 #[test]
@@ -20,7 +19,7 @@ fn an_empty_dictionary_has_no_pair(rt: HostRuntime) -> Result<(), Fail> {
 fn a_list_is_given_up_beside_an_update_that_stays_under_way(rt: HostRuntime) -> Result<(), Fail> {
     let (table, seat) = CitrusTable::<Eer>::new(rt.alloc(), 1, 2, 4)?;
     let (mut updater, mut lister) = seat.split(&table, 1, 0);
-    assert_eq!(rt; k19(&table, &mut updater, 0), 0);
+    assert_eq!(rt; steps::open_commit(&table, &mut updater, 0), 0);
     let mut page = Page::new(rt.alloc(), 2)?;
     let listed = list(&rt, &table, &mut lister, Keys::all(), &mut page, 2);
     assert_eq!(rt; listed, Listed::Moved { first: 1, last: 1 });

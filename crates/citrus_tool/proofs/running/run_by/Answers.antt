@@ -4,14 +4,11 @@ use Rattle.account_text.specs.Account.{IsAccount}
 use Rattle.command_words.specs.declared.commands.Mode.{Mode}
 use Rattle.citrus_tool.specs.declared.outcome.Ran.TheVariants.{Nothing}
 use Rattle.citrus_tool.specs.Leavings.{RunsBy}
-use Rattle.citrus_tool.proofs.Leavings.{none_left, runs_nothing}
+use Rattle.citrus_tool.proofs.Leavings.{none_left}
 use Rattle.citrus_tool.proofs.running.run_by.Goals as goal
 
 pub returns-then-count-eq0 : goal.returns-then-count-eq0
-returns-then-count-eq0 g c =
-    let scripts = c.args.scripts.now in
-    none_left (λ (account : IsAccount scripts c.args.slots c.in_ok-account_of_none.field-0.items). account.history) (λ account h. RunsBy c.args.mode scripts c.args.slots account.lines h Nothing) c.args.slots
-    (λ account. runs_nothing c.args.mode scripts c.args.slots account.lines (omega (arith, c.count.ensures.count, c.if-count-eq0.true))) c.in_ok-account_of_none.ensures
+returns-then-count-eq0 g c = none_left c.args.mode c.args.scripts.now c.args.slots c.in_ok-account_of_none.field-0.items (omega (arith, c.count.ensures.count, c.if-count-eq0.true)) c.in_ok-account_of_none.ensures
 
 pub returns-in-Threads : goal.returns-in-Threads
 returns-in-Threads g c =

@@ -1,8 +1,8 @@
-use Rattle.std.proofs.Common.{◌≡◌, Some, subst}
+use Rattle.std.proofs.Common.{◌≡◌, Some, sym, subst}
 use Rattle.io_edge.specs.Whole.{TakesToLimit}
 use Rattle.command_words.specs.declared.statuses.Status.TheVariants.{BadScript, TooLong}
 use Rattle.citrus_tool.specs.Answers.{AnsweredBy}
-use Rattle.command_words.specs.Commands.{limit_of}
+use Rattle.command_words.specs.Commands.{Reads, limit_of}
 use Rattle.command_words.specs.declared.commands.Command.{Command}
 use Rattle.citrus_tool.proofs.Complete.{not_too_long, not_bad, one_of_three}
 use Rattle.citrus_tool.proofs.top.tool.Goals as goal
@@ -36,3 +36,9 @@ returns-in-None-clause-usage g c = (λ _ some. let found = c.command_of.ensures.
 pub returns-in-None-clause-complete : goal.returns-in-None-clause-complete
 returns-in-None-clause-complete g c = λ command input asked told good short quiet_source quiet_sink.
     let found = c.command_of.ensures.only command asked in absurd (cc (found, c.in-None.is))
+
+pub returns-in-Some-clause-last : goal.returns-in-Some-clause-last
+returns-in-Some-clause-last g c = λ whole command asked reads.
+    let found = c.in-Some.ensures.only command asked in
+    let same : c.in-Some.command ≡ command = cc in
+    c.answer_from.ensures.last whole (subst Reads (sym same) reads)

@@ -1,23 +1,18 @@
-use Rattle.std.proofs.Common.{length}
 use Rattle.core_state.specs.declared.shape.Waiter.TheVariants.{Eer, Domain, Deer}
-use Rattle.account_text.specs.Account.{IsAccount}
 use Rattle.citrus_tool.proofs.Leavings.{in_tree}
 use Rattle.citrus_tool.proofs.treeing.account_in_threads.Goals as goal
 
 pub returns-in_ok-text-in-Eer : goal.returns-in_ok-text-in-Eer
 returns-in_ok-text-in-Eer g c =
     let made = c.in_ok-text-in-Eer.field-0 in
-    let scripts = c.args.scripts.now in
-    in_tree (λ (account : IsAccount scripts c.args.slots made.text.items). account.history) c.args.waiter Eer c.args.cookies scripts c.args.slots (length scripts) made.table made.seat c.in-Eer.is c.requires.some c.in_ok-text-in-Eer.ensures
+    in_tree c.args.waiter Eer c.args.cookies c.args.scripts.now c.args.slots made.text.items made.table made.seat c.in-Eer.is c.requires.some c.in_ok-text-in-Eer.ensures
 
 pub returns-in_ok-text-in-Domain : goal.returns-in_ok-text-in-Domain
 returns-in_ok-text-in-Domain g c =
     let made = c.in_ok-text-in-Domain.field-0 in
-    let scripts = c.args.scripts.now in
-    in_tree (λ (account : IsAccount scripts c.args.slots made.text.items). account.history) c.args.waiter Domain c.args.cookies scripts c.args.slots (length scripts) made.table made.seat c.in-Domain.is c.requires.some c.in_ok-text-in-Domain.ensures
+    in_tree c.args.waiter Domain c.args.cookies c.args.scripts.now c.args.slots made.text.items made.table made.seat c.in-Domain.is c.requires.some c.in_ok-text-in-Domain.ensures
 
 pub returns-in_ok-text-in-Deer : goal.returns-in_ok-text-in-Deer
 returns-in_ok-text-in-Deer g c =
     let made = c.in_ok-text-in-Deer.field-0 in
-    let scripts = c.args.scripts.now in
-    in_tree (λ (account : IsAccount scripts c.args.slots made.text.items). account.history) c.args.waiter Deer c.args.cookies scripts c.args.slots (length scripts) made.table made.seat c.in-Deer.is c.requires.some c.in_ok-text-in-Deer.ensures
+    in_tree c.args.waiter Deer c.args.cookies c.args.scripts.now c.args.slots made.text.items made.table made.seat c.in-Deer.is c.requires.some c.in_ok-text-in-Deer.ensures

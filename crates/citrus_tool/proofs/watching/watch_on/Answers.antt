@@ -10,6 +10,7 @@ pub returns : goal.returns
 returns g c =
     let e = c.in_ok-ran.ensures in
     let ran = c.in_ok-ran.ran in
-    watched_beside c.args.scripts.now c.args.slots c.args.keys.low c.args.keys.high c.in_ok-text.text.items ran.history.items c.deref-2.result.now ran.snapshots ran.table ran.seat c.deref-2.ensures.value e.within
-    (record { of_table = e.seat; slots_are = e.table.0; places_are = e.table.1; tickets = e.table.2; quiet = e.quiet; answers = e.answers; informed = e.informed; marks = record { fits = e.marks; updates = sym e.history } })
-    e.looked c.in_ok-text.ensures
+    watched_beside c.args.scripts.now c.args.slots c.args.keys.low c.args.keys.high c.in_ok-text.text.items g.W.WaitWords.WAY ran.told.items c.deref.result.now ran.history.items c.deref-2.result.now ran.snapshots ran.table ran.seat
+    c.deref.ensures.value c.deref-2.ensures.value e.within
+    (record { run = e.run; of_table = e.seat; slots_are = e.table.0; places_are = e.table.1; tickets = e.table.2; quiet = e.quiet; answers = e.answers; informed = e.informed; marks = record { fits = e.marks; updates = sym e.history } }, e.looked)
+    c.in_ok-text.ensures

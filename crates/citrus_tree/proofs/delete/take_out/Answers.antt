@@ -20,15 +20,15 @@ pub unlock_target-requires-clause-at : goal.unlock_target-requires-clause-at
 unlock_target-requires-clause-at g c = let a = c.requires.at in (Del c.args.key, a.0, c.in_default.ensures.fails (Del c.args.key) a.0 (c.lock_target.ensures.got c.if-not-lock_target.false (Del c.args.key) a.0 a.1))
 
 pub bypass-requires-clause-at : goal.bypass-requires-clause-at
-bypass-requires-clause-at g c = let a = c.requires.at in (Del c.args.key, a.0, (subst (λ o. IsAt (shape_of g.W.WaitWords.WAY c.args.table.now) (Del c.args.key) a.0 (deleting c.in-Some.node o) c.validate.new.seat.view) c.in-None.is (c.in-Some.ensures.holds (Del c.args.key) a.0 (c.lock_target.ensures.got c.if-not-lock_target.false (Del c.args.key) a.0 a.1))))
+bypass-requires-clause-at g c = let a = c.requires.at in (a.0, (subst (λ o. IsAt (shape_of g.W.WaitWords.WAY c.args.table.now) (Del c.args.key) a.0 (deleting c.in-Some.node o) c.validate.new.seat.view) c.in-None.is (c.in-Some.ensures.holds (Del c.args.key) a.0 (c.lock_target.ensures.got c.if-not-lock_target.false (Del c.args.key) a.0 a.1))))
 
 pub returns-in-None-clause-done : goal.returns-in-None-clause-done
-returns-in-None-clause-done g c = λ kept a. (c.bypass.ensures.done (Del c.args.key) kept (subst (λ o. IsAt (shape_of g.W.WaitWords.WAY c.args.table.now) (Del c.args.key) kept (deleting c.in-Some.node o) c.validate.new.seat.view) c.in-None.is (c.in-Some.ensures.holds (Del c.args.key) kept (c.lock_target.ensures.got c.if-not-lock_target.false (Del c.args.key) kept a)))).0
+returns-in-None-clause-done g c = λ kept a. (c.bypass.ensures.done kept (subst (λ o. IsAt (shape_of g.W.WaitWords.WAY c.args.table.now) (Del c.args.key) kept (deleting c.in-Some.node o) c.validate.new.seat.view) c.in-None.is (c.in-Some.ensures.holds (Del c.args.key) kept (c.lock_target.ensures.got c.if-not-lock_target.false (Del c.args.key) kept a)))).0
 
 pub returns-in-None-clause-deleted : goal.returns-in-None-clause-deleted
 returns-in-None-clause-deleted g c =
     let a = c.requires.at in
-    deleted_later _ _ _ c.args.key c.bypass.result (gone_on c.lock_target.ensures.same.gone c.validate.ensures.same.gone) (bypass_deletes _ _ c.args.key c.bypass.result (c.bypass.ensures.done (Del c.args.key) a.0 (subst (λ o. IsAt (shape_of g.W.WaitWords.WAY c.args.table.now) (Del c.args.key) a.0 (deleting c.in-Some.node o) c.validate.new.seat.view) c.in-None.is (c.in-Some.ensures.holds (Del c.args.key) a.0 (c.lock_target.ensures.got c.if-not-lock_target.false (Del c.args.key) a.0 a.1)))).1)
+    deleted_later _ _ _ c.args.key c.bypass.result (gone_on c.lock_target.ensures.same.gone c.validate.ensures.same.gone) (bypass_deletes _ _ c.args.key c.bypass.result (c.bypass.ensures.done a.0 (subst (λ o. IsAt (shape_of g.W.WaitWords.WAY c.args.table.now) (Del c.args.key) a.0 (deleting c.in-Some.node o) c.validate.new.seat.view) c.in-None.is (c.in-Some.ensures.holds (Del c.args.key) a.0 (c.lock_target.ensures.got c.if-not-lock_target.false (Del c.args.key) a.0 a.1)))).1)
 
 pub returns-in-Some-successor-clause-done : goal.returns-in-Some-successor-clause-done
 returns-in-Some-successor-clause-done g c = if_some c.shift.result (λ n f kept a. f kept (subst (λ o. IsAt (shape_of g.W.WaitWords.WAY c.args.table.now) (Del c.args.key) kept (deleting c.in-Some.node o) c.validate.new.seat.view) c.in-Some-successor.is (c.in-Some.ensures.holds (Del c.args.key) kept (c.lock_target.ensures.got c.if-not-lock_target.false (Del c.args.key) kept a)))) c.shift.ensures.done
@@ -66,7 +66,7 @@ returns-in-None-clause-waits g c =
     let locked = c.lock_target.ensures.same in
     let judged = c.validate.ensures.same in
     let past = c.bypass.ensures.waits in
-    let done = (c.bypass.ensures.done (Del c.args.key) a.0 (subst (λ o. IsAt (shape_of g.W.WaitWords.WAY c.args.table.now) (Del c.args.key) a.0 (deleting c.in-Some.node o) c.validate.new.seat.view) c.in-None.is (c.in-Some.ensures.holds (Del c.args.key) a.0 (c.lock_target.ensures.got c.if-not-lock_target.false (Del c.args.key) a.0 a.1)))).1 in
+    let done = (c.bypass.ensures.done a.0 (subst (λ o. IsAt (shape_of g.W.WaitWords.WAY c.args.table.now) (Del c.args.key) a.0 (deleting c.in-Some.node o) c.validate.new.seat.view) c.in-None.is (c.in-Some.ensures.holds (Del c.args.key) a.0 (c.lock_target.ensures.got c.if-not-lock_target.false (Del c.args.key) a.0 a.1)))).1 in
     inl (none_begun (gone_on (gone_on locked.gone judged.gone) done.gone) (past.count ∙ judged.waits.count ∙ locked.waits.count) (past.wait ∙ judged.waits.wait ∙ locked.waits.wait))
 
 pub returns-in-Some-successor-clause-waits : goal.returns-in-Some-successor-clause-waits

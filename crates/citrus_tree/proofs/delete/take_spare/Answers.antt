@@ -13,13 +13,11 @@ reclaim-requires-clause-unraised g c = (may_reclaim_spare c.requires.quiet.view 
 
 pub returns-in-Slot-clause-at : goal.returns-in-Slot-clause-at
 returns-in-Slot-clause-at g c =
-    ready_kept c.requires.quiet.view c.works.ensures c.rule_tells.ensures c.requires.few c.requires.none c.in-Slot.ensures.view
-    (needs_kept c.requires.quiet.view c.works.ensures c.rule_tells.ensures c.requires.few c.requires.none c.in-Slot.ensures.view c.requires.tickets c.rule_tells-in-Slot.ensures) c.k9.ensures.told
+    ready_kept c.requires.quiet.view c.works.ensures c.rule_tells.ensures c.requires.few c.requires.none c.in-Slot.ensures.view c.keep_as_spare.ensures.told
 
 pub returns-in-Slot-clause-room : goal.returns-in-Slot-clause-room
 returns-in-Slot-clause-room g c =
-    room_kept c.requires.quiet.view c.works.ensures c.rule_tells.ensures c.requires.few c.requires.none c.in-Slot.ensures.view
-    (needs_kept c.requires.quiet.view c.works.ensures c.rule_tells.ensures c.requires.few c.requires.none c.in-Slot.ensures.view c.requires.tickets c.rule_tells-in-Slot.ensures) c.k9.ensures.told
+    room_kept c.requires.quiet.view c.works.ensures c.rule_tells.ensures c.requires.few c.requires.none c.in-Slot.ensures.view c.keep_as_spare.ensures.told
 
 pub returns-in-Empty-clause-at : goal.returns-in-Empty-clause-at
 returns-in-Empty-clause-at g c =
@@ -33,10 +31,10 @@ returns-in-Empty-clause-room g c =
 
 pub returns-in-Slot-clause-slots : goal.returns-in-Slot-clause-slots
 returns-in-Slot-clause-slots g c =
-    let t = c.k9.ensures.told.2 in
+    let t = c.keep_as_spare.ensures.told.goes in
     let taken = c.in-Slot.ensures.view.rest in
-    slots_same c.args.seat.now c.k9.new.seat (ap (λ (x : View). x.counts.waits) t ∙ ap (λ (x : View). x.counts.waits) taken) (ap (λ (x : View). x.wait) t ∙ ap (λ (x : View). x.wait) taken) (ap retired_marks t ∙ ap retired_marks taken)
-    (c.k9.ensures.seat.1 ∙ c.take.ensures.seat.1)
+    slots_same c.args.seat.now c.keep_as_spare.new.seat (ap (λ (x : View). x.counts.waits) t ∙ ap (λ (x : View). x.counts.waits) taken) (ap (λ (x : View). x.wait) t ∙ ap (λ (x : View). x.wait) taken) (ap retired_marks t ∙ ap retired_marks taken)
+    (c.keep_as_spare.ensures.seat.1 ∙ c.take.ensures.seat.1)
 
 pub returns-in-Empty-clause-slots : goal.returns-in-Empty-clause-slots
 returns-in-Empty-clause-slots g c = slots_on c.args.seat.now c.take.new.seat c.reclaim.new.seat (slots_goes c.args.seat.now c.take.new.seat [] (goes_none c.in-Empty.ensures.view) c.take.ensures.seat.1) (slots_reclaimed c.take.new.seat c.reclaim.new.seat c.reclaim.ensures.view)

@@ -1,23 +1,23 @@
 use Rattle.citrus_tree.proofs.Filling.{fills_key, fills_value, fills_left, fills_right, filled_hand, filled_goes, filled_at}
 use Rattle.citrus_tree.proofs.insert.fill_leaf.Goals as goal
 
-pub k12-requires-clause-needs : goal.k12-requires-clause-needs
-k12-requires-clause-needs g c = fills_key c.requires.slot c.requires.at.2 c.rule_tells.ensures
+pub fill-requires-clause-asks : goal.fill-requires-clause-asks
+fill-requires-clause-asks g c = fills_key c.requires.slot c.requires.at.2
 
-pub k12-requires-2-clause-needs : goal.k12-requires-2-clause-needs
-k12-requires-2-clause-needs g c = fills_value c.requires.slot c.requires.at.2 c.rule_tells.ensures c.k12.ensures.told c.rule_tells-2.ensures
+pub fill-requires-2-clause-asks : goal.fill-requires-2-clause-asks
+fill-requires-2-clause-asks g c = fills_value c.requires.slot c.requires.at.2 c.fill.ensures.told
 
-pub k12-requires-3-clause-needs : goal.k12-requires-3-clause-needs
-k12-requires-3-clause-needs g c = fills_left c.requires.slot c.requires.at.2 c.rule_tells.ensures c.k12.ensures.told c.rule_tells-2.ensures c.k12-2.ensures.told c.rule_tells-3.ensures
+pub fill-requires-3-clause-asks : goal.fill-requires-3-clause-asks
+fill-requires-3-clause-asks g c = fills_left c.requires.slot c.requires.at.2 c.fill.ensures.told c.fill-2.ensures.told
 
-pub k12-requires-4-clause-needs : goal.k12-requires-4-clause-needs
-k12-requires-4-clause-needs g c = fills_right c.requires.slot c.requires.at.2 c.rule_tells.ensures c.k12.ensures.told c.rule_tells-2.ensures c.k12-2.ensures.told c.rule_tells-3.ensures c.k12-3.ensures.told c.rule_tells-4.ensures
+pub fill-requires-4-clause-asks : goal.fill-requires-4-clause-asks
+fill-requires-4-clause-asks g c = fills_right c.requires.slot c.requires.at.2 c.fill.ensures.told c.fill-2.ensures.told c.fill-3.ensures.told
 
 pub returns-clause-slot : goal.returns-clause-slot
-returns-clause-slot g c = filled_hand c.requires.slot c.requires.at.2 c.rule_tells.ensures c.k12.ensures.told c.rule_tells-2.ensures c.k12-2.ensures.told c.rule_tells-3.ensures c.k12-3.ensures.told c.rule_tells-4.ensures c.k12-4.ensures.told
+returns-clause-slot g c = filled_hand c.requires.slot c.requires.at.2 c.fill.ensures.told c.fill-2.ensures.told c.fill-3.ensures.told c.fill-4.ensures.told
 
 pub returns-clause-goes : goal.returns-clause-goes
-returns-clause-goes g c = filled_goes c.requires.slot c.requires.at.2 c.rule_tells.ensures c.k12.ensures.told c.rule_tells-2.ensures c.k12-2.ensures.told c.rule_tells-3.ensures c.k12-3.ensures.told c.rule_tells-4.ensures c.k12-4.ensures.told
+returns-clause-goes g c = filled_goes c.requires.slot c.requires.at.2 c.fill.ensures.told c.fill-2.ensures.told c.fill-3.ensures.told c.fill-4.ensures.told
 
 pub returns-clause-at : goal.returns-clause-at
-returns-clause-at g c kept spot a = filled_at c.requires.slot a c.rule_tells.ensures c.k12.ensures.told c.rule_tells-2.ensures c.k12-2.ensures.told c.rule_tells-3.ensures c.k12-3.ensures.told c.rule_tells-4.ensures c.k12-4.ensures.told
+returns-clause-at g c kept spot a = filled_at c.requires.slot a c.fill.ensures.told c.fill-2.ensures.told c.fill-3.ensures.told c.fill-4.ensures.told

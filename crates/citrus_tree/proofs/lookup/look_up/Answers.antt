@@ -3,8 +3,8 @@ use Rattle.citrus_tree.proofs.Searching.{valued, looked_found, looked_missed}
 use Rattle.citrus_tree.proofs.lookup.look_up.Goals as goal
 
 pub returns-in-Found-clause-looked : goal.returns-in-Found-clause-looked
-returns-in-Found-clause-looked g c = looked_found (shape_of g.W.WaitWords.WAY c.args.table.now) c.args.seat.now.view c.args.key c.in-Found.slot c.in-Found.parent c.k17-value.result c.in-Found.side c.k17-value.new.seat.view c.leave.new.seat.view
-    (valued (shape_of g.W.WaitWords.WAY c.args.table.now) c.args.seat.now.view c.args.key c.in-Found.slot c.in-Found.parent c.in-Found.side c.k17-value.result c.descend.new.seat.view c.k17-value.new.seat.view c.in-Found.ensures.searching c.k17-value.ensures.told)
+returns-in-Found-clause-looked g c = looked_found (shape_of g.W.WaitWords.WAY c.args.table.now) c.args.seat.now.view c.args.key c.in-Found.slot c.in-Found.parent c.search_load-value.result c.in-Found.side c.search_load-value.new.seat.view c.leave.new.seat.view
+    (valued (shape_of g.W.WaitWords.WAY c.args.table.now) c.args.seat.now.view c.args.key c.in-Found.slot c.in-Found.parent c.in-Found.side c.search_load-value.result c.descend.new.seat.view c.search_load-value.new.seat.view c.in-Found.ensures.searching c.search_load-value.ensures.told)
     c.leave.ensures.left
 
 pub returns-in-Ended-clause-looked : goal.returns-in-Ended-clause-looked

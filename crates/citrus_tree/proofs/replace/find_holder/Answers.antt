@@ -3,8 +3,8 @@ use Rattle.citrus_tree.proofs.Searching.{sought, looked_missed}
 use Rattle.citrus_tree.proofs.replace.find_holder.Goals as goal
 
 pub returns-in-Found-clause-sought : goal.returns-in-Found-clause-sought
-returns-in-Found-clause-sought g c = sought (shape_of g.W.WaitWords.WAY c.args.table.now) c.args.seat.now.view c.args.key c.in-Found.slot c.in-Found.parent c.in-Found.side c.k17-life.result c.generation_of.result c.descend.new.seat.view c.k17-life.new.seat.view c.leave.new.seat.view
-    c.in-Found.ensures.slot c.in-Found.ensures.searching c.k17-life.ensures.told c.leave.ensures.left c.generation_of.ensures
+returns-in-Found-clause-sought g c = sought (shape_of g.W.WaitWords.WAY c.args.table.now) c.args.seat.now.view c.args.key c.in-Found.slot c.in-Found.parent c.in-Found.side c.search_load-life.result c.generation_of.result c.descend.new.seat.view c.search_load-life.new.seat.view c.leave.new.seat.view
+    c.in-Found.ensures.slot c.in-Found.ensures.searching c.search_load-life.ensures.told c.leave.ensures.left c.generation_of.ensures
 
 pub returns-in-Ended-clause-sought : goal.returns-in-Ended-clause-sought
 returns-in-Ended-clause-sought g c = looked_missed (shape_of g.W.WaitWords.WAY c.args.table.now) c.args.seat.now.view c.args.key c.in-Ended.slot c.in-Ended.side c.descend.new.seat.view c.leave-in-Ended.new.seat.view c.in-Ended.ensures.searching c.leave-in-Ended.ensures.left

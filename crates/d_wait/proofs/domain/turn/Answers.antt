@@ -21,12 +21,12 @@ returns-in-Some-clause-met c =
     stops_further (shape_of 1 c.args.table.now) c.args.seat.now.view c.load_gate.new.seat.view c.look.new.seat.view here here come c.in-Some.why
     (stops_here (shape_of 1 c.args.table.now) c.load_gate.new.seat.view c.look.new.seat.view here (comes_to (shape_of 1 c.args.table.now) c.args.seat.now.view c.load_gate.new.seat.view here come) c.in-Some.why c.in-Some.ensures.met)
 
-pub k32-requires-clause-needs : goal.k32-requires-clause-needs
-k32-requires-clause-needs c =
+pub turn_gate-requires-clause-asks : goal.turn_gate-requires-clause-asks
+turn_gate-requires-clause-asks c = λ told.
     let here = c.load_gate.new.grace in
     let latest = comes_to (shape_of 1 c.args.table.now) c.args.seat.now.view c.load_gate.new.seat.view here c.load_gate.ensures.gone_on in
     let unturned : here.turned ≡ false = ap (λ (z : Grace Domain). z.turned) c.load_gate.ensures.grace ∙ c.if-grace.false in
-    (refl, may_turn (shape_of 1 c.args.table.now) refl here c.load_gate.new.seat.view c.look.new.seat.view latest unturned _ c.in_default.ensures.passed (subst (λ (z : Grace Domain). MeetsClass z.keys z.class) (sym c.load_gate.ensures.grace) c.requires.met))
+    ((refl, latest.2.small), may_turn (shape_of 1 c.args.table.now) refl here c.load_gate.new.seat.view c.look.new.seat.view latest unturned _ c.in_default.ensures.passed (subst (λ (z : Grace Domain). MeetsClass z.keys z.class) (sym c.load_gate.ensures.grace) c.requires.met))
 
 pub returns-clause-turned : goal.returns-clause-turned
 returns-clause-turned c =
@@ -36,6 +36,6 @@ returns-clause-turned c =
     let unturned : here.turned ≡ false = ap (λ (z : Grace Domain). z.turned) c.load_gate.ensures.grace ∙ c.if-grace.false in
     let met = subst (λ (z : Grace Domain). MeetsClass z.keys z.class) (sym c.load_gate.ensures.grace) c.requires.met in (
       refl,
-      goes_further (shape_of 1 c.args.table.now) c.args.seat.now.view c.load_gate.new.seat.view c.k32.new.seat.view here (is_turned here) come
-          (turned_on (shape_of 1 c.args.table.now) refl here c.load_gate.new.seat.view c.look.new.seat.view latest unturned (1 - here.gate % 2) c.in_default.ensures.passed c.k32.new.seat.view c.k32.result met refl c.k32.ensures.told),
+      goes_further (shape_of 1 c.args.table.now) c.args.seat.now.view c.load_gate.new.seat.view c.turn_gate.new.seat.view here (is_turned here) come
+          (turned_on (shape_of 1 c.args.table.now) refl here c.load_gate.new.seat.view c.look.new.seat.view latest unturned (1 - here.gate % 2) c.in_default.ensures.passed c.turn_gate.new.seat.view c.turn_gate.result met refl c.turn_gate.ensures.told),
     )

@@ -9,33 +9,33 @@ use Rattle.seat_table.proofs.Polls.{stamp_idle, stamp_late, stamp_stays, load_pa
 use Rattle.deer_wait.proofs.Rows.{may_look, image_of}
 use Rattle.deer_wait.proofs.deer.look.Goals as goal
 
-pub k35-stamp-requires-clause-needs : goal.k35-stamp-requires-clause-needs
-k35-stamp-requires-clause-needs c = (refl, c.requires.inside, c.requires.latest.2.small, may_look (shape_of 2 c.args.table.now) refl c.args.grace.now _ c.args.last c.requires.end c.requires.latest)
+pub look_row-stamp-requires-clause-asks : goal.look_row-stamp-requires-clause-asks
+look_row-stamp-requires-clause-asks c = λ told. ((refl, c.requires.inside, c.requires.latest.2.small), may_look (shape_of 2 c.args.table.now) refl c.args.grace.now _ c.args.last c.requires.end c.requires.latest)
 
 pub returns-then-not-is_early-clause-passed : goal.returns-then-not-is_early-clause-passed
 returns-then-not-is_early-clause-passed c =
     let latest = c.requires.latest in
     let field = Row c.args.grace.now.place c.args.grace.now.class in
-    let found = c.k35-stamp.result in
-    let told = c.k35-stamp.ensures.told in
+    let found = c.look_row-stamp.result in
+    let told = c.look_row-stamp.ensures.told in
     let excused : excuses latest.0 field found ≡ true = ⊎_elim
     (λ (e : found ≡ idle). stamp_idle latest.0.clock found e)
     (λ (l : c.args.grace.now.clock < found). stamp_late latest.0.clock found (omega (arith, l, latest.2.clock_is)))
     (c.is_early.ensures.late c.if-not-is_early.true) in
-    (latest.0, step_of K35 field found, latest.1, load_passes _ _ K35 field latest.0 found c.args.last told.0 latest.1 told.1 told.2 told.3 excused)
+    (latest.0, step_of K35 field found, latest.1, load_passes _ _ K35 field latest.0 found c.args.last told.marks latest.1 told.sees told.goes told.informed excused)
 
 pub returns-clause-met : goal.returns-clause-met
 returns-clause-met c =
     let latest = c.requires.latest in
     let r = latest.2 in
     let field = Row c.args.grace.now.place c.args.grace.now.class in
-    let found = c.k35-stamp.result in
-    let told = c.k35-stamp.ensures.told in
+    let found = c.look_row-stamp.result in
+    let told = c.look_row-stamp.ensures.told in
     let is = c.is_early.ensures.early c.if-not-is_early.false in
     let early : found ≤ latest.0.clock = omega (arith, is.1, r.clock_is) in (
       latest.0,
       step_of K35 field found,
       latest.1,
-      load_stays _ _ K35 field latest.0 found c.args.last told.0 latest.1 told.1 told.2 told.3 (stamp_stays latest.0.clock found is.0 early),
+      load_stays _ _ K35 field latest.0 found c.args.last told.marks latest.1 told.sees told.goes told.informed (stamp_stays latest.0.clock found is.0 early),
       (([], refl), is.0, early, image_of latest.0 c.args.grace.now.keys r.low_is r.high_is c.args.grace.now.class c.requires.met),
     )

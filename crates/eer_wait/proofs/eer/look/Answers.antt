@@ -9,49 +9,49 @@ use Rattle.eer_wait.proofs.Places.{may_look, key_excuses, key_stays, key_passes}
 use Rattle.eer_wait.proofs.eer.look.Goals.{then-stamp-via-then-stamp, then-stamp-via-else-stamp+then-grace-stamp}
 use Rattle.eer_wait.proofs.eer.look.Goals as goal
 
-pub k8-key-requires-clause-needs : goal.k8-key-requires-clause-needs
-k8-key-requires-clause-needs c = (refl, c.requires.inside, may_look (shape_of 0 c.args.table.now) refl c.args.grace.now _ false c.args.last c.requires.end c.requires.latest)
+pub look_key-key-requires-clause-asks : goal.look_key-key-requires-clause-asks
+look_key-key-requires-clause-asks c = λ told. ((refl, c.requires.inside), may_look (shape_of 0 c.args.table.now) refl c.args.grace.now _ (Announced c.args.grace.now.place) refl c.args.last c.requires.end c.requires.latest)
 
 pub returns-then-not-holds-clause-passed : goal.returns-then-not-holds-clause-passed
 returns-then-not-holds-clause-passed c =
     let latest = c.requires.latest in
     let r = latest.2 in
     let place = c.args.grace.now.place in
-    let key = c.k8-key.result in
-    let told = c.k8-key.ensures.told in
+    let key = c.look_key-key.result in
+    let told = c.look_key-key.ensures.told in
     let out = key_excuses latest.0 c.args.grace.now.keys key r.low_is r.high_is place (not_so c.holds.result c.holds.ensures.1 c.if-not-holds.true) in
-    (latest.0, step_of K8 (Announced place) key, latest.1, key_passes _ _ latest.0 place _ c.args.last (load_passes _ _ K8 (Announced place) latest.0 key c.args.last told.0 latest.1 told.1 told.2 told.3 out))
+    (latest.0, step_of K8 (Announced place) key, latest.1, key_passes _ _ latest.0 place _ c.args.last (load_passes _ _ K8 (Announced place) latest.0 key c.args.last told.marks latest.1 told.sees told.goes told.informed out))
 
-pub k8-stamp-requires-clause-needs : goal.k8-stamp-requires-clause-needs
-k8-stamp-requires-clause-needs c =
+pub look_stamp-stamp-requires-clause-asks : goal.look_stamp-stamp-requires-clause-asks
+look_stamp-stamp-requires-clause-asks c =
     let latest = c.requires.latest in
     let r = latest.2 in
     let place = c.args.grace.now.place in
-    let key = c.k8-key.result in
-    let told = c.k8-key.ensures.told in
+    let key = c.look_key-key.result in
+    let told = c.look_key-key.ensures.told in
     let inside = key_stays latest.0 c.args.grace.now.keys key r.low_is r.high_is place (c.holds.ensures.0 c.if-not-holds.false) in
-    let stays = load_stays _ _ K8 (Announced place) latest.0 key c.args.last told.0 latest.1 told.1 told.2 told.3 inside in
-    (refl, c.requires.inside, may_look (shape_of 0 c.args.table.now) refl c.args.grace.now _ true c.args.last c.requires.end (latest.0, stays.wait_is, r))
+    let stays = load_stays _ _ K8 (Announced place) latest.0 key c.args.last told.marks latest.1 told.sees told.goes told.informed inside in
+    λ now. ((refl, c.requires.inside), may_look (shape_of 0 c.args.table.now) refl c.args.grace.now _ (Stamp place) refl c.args.last c.requires.end (latest.0, stays.wait_is, r))
 
 pub returns-then-stamp-clause-passed : goal.returns-then-stamp-clause-passed
 returns-then-stamp-clause-passed c =
     let latest = c.requires.latest in
     let r = latest.2 in
     let place = c.args.grace.now.place in
-    let key = c.k8-key.result in
-    let stamp = c.k8-stamp.result in
-    let first = c.k8-key.ensures.told in
-    let second = c.k8-stamp.ensures.told in
+    let key = c.look_key-key.result in
+    let stamp = c.look_stamp-stamp.result in
+    let first = c.look_key-key.ensures.told in
+    let second = c.look_stamp-stamp.ensures.told in
     let inside = key_stays latest.0 c.args.grace.now.keys key r.low_is r.high_is place (c.holds.ensures.0 c.if-not-holds.false) in
-    let stays = load_stays _ _ K8 (Announced place) latest.0 key c.args.last first.0 latest.1 first.1 first.2 first.3 inside in
-    let excused = elim c.then-stamp.branch as (λ _. excuses latest.0 (Stamp c.args.grace.now.place) c.k8-stamp.result ≡ true) [
+    let stays = load_stays _ _ K8 (Announced place) latest.0 key c.args.last first.marks latest.1 first.sees first.goes first.informed inside in
+    let excused = elim c.then-stamp.branch as (λ _. excuses latest.0 (Stamp c.args.grace.now.place) c.look_stamp-stamp.result ≡ true) [
       | then-stamp-via-then-stamp w ↦ stamp_idle latest.0.clock stamp w.if-stamp.true
       | then-stamp-via-else-stamp+then-grace-stamp w ↦ stamp_late latest.0.clock stamp (omega (arith, w.if-grace-stamp.true, r.clock_is))
     ] in (
       latest.0,
       step_of K8 (Announced place) key ++ step_of K8 (Stamp place) stamp,
       latest.1,
-      passes_on _ _ _ latest.0 _ _ c.args.last (Stamp place) stays (load_passes _ _ K8 (Stamp place) latest.0 stamp c.args.last second.0 stays.wait_is second.1 second.2 second.3 excused),
+      passes_on _ _ _ latest.0 _ _ c.args.last (Stamp place) stays (load_passes _ _ K8 (Stamp place) latest.0 stamp c.args.last second.marks stays.wait_is second.sees second.goes second.informed excused),
     )
 
 pub returns-clause-met : goal.returns-clause-met
@@ -59,14 +59,14 @@ returns-clause-met c =
     let latest = c.requires.latest in
     let r = latest.2 in
     let place = c.args.grace.now.place in
-    let key = c.k8-key.result in
-    let stamp = c.k8-stamp.result in
-    let first = c.k8-key.ensures.told in
-    let second = c.k8-stamp.ensures.told in
+    let key = c.look_key-key.result in
+    let stamp = c.look_stamp-stamp.result in
+    let first = c.look_key-key.ensures.told in
+    let second = c.look_stamp-stamp.ensures.told in
     let inside = c.holds.ensures.0 c.if-not-holds.false in
-    let stays = load_stays _ _ K8 (Announced place) latest.0 key c.args.last first.0 latest.1 first.1 first.2 first.3 (key_stays latest.0 c.args.grace.now.keys key r.low_is r.high_is place inside) in
-    let early : c.k8-stamp.result ≤ latest.0.clock = omega (arith, c.if-grace-stamp.false, r.clock_is) in
-    let again = load_stays _ _ K8 (Stamp place) latest.0 stamp c.args.last second.0 stays.wait_is second.1 second.2 second.3 (stamp_stays latest.0.clock stamp c.if-stamp.false early) in (
+    let stays = load_stays _ _ K8 (Announced place) latest.0 key c.args.last first.marks latest.1 first.sees first.goes first.informed (key_stays latest.0 c.args.grace.now.keys key r.low_is r.high_is place inside) in
+    let early : c.look_stamp-stamp.result ≤ latest.0.clock = omega (arith, c.if-grace-stamp.false, r.clock_is) in
+    let again = load_stays _ _ K8 (Stamp place) latest.0 stamp c.args.last second.marks stays.wait_is second.sees second.goes second.informed (stamp_stays latest.0.clock stamp c.if-stamp.false early) in (
       latest.0,
       step_of K8 (Announced place) key ++ step_of K8 (Stamp place) stamp,
       latest.1,

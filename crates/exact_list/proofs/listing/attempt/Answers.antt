@@ -11,16 +11,16 @@ returns-in-None-clause-holds g c =
     let k = shape_of g.W.WaitWords.WAY c.args.table.now in
     let v = c.args.seat.now.view in
     let key = c.args.keys.now.low in
-    let first = c.look-first.result in
-    let n = c.look-last.result in
-    let a = c.look-first.new.seat.view in
+    let first = c.look_at_front-first.result in
+    let n = c.look_at_front-last.result in
+    let a = c.look_at_front-first.new.seat.view in
     let b = c.gather-next.new.seat.view in
-    let u = c.look-last.new.seat.view in
+    let u = c.look_at_front-last.new.seat.view in
     let d = c.leave-2.new.seat.view in
     let front = c.front_of-front.result in
-    let i = first_try k v key c.low.result c.enter.new.seat.view first a c.low.ensures.low c.enter.ensures.entered c.look-first.ensures.told in
+    let i = first_try k v key c.low.result c.enter.new.seat.view first a c.low.ensures.low c.enter.ensures.entered c.look_at_front-first.ensures.told in
     let l = c.gather-next.ensures.gathered.0 in
-    holds_whole k v key first front a b i l n u c.look-last.ensures.told d c.leave-2.ensures.left c.requires.outside c.if-last-first.false (sym c.linking.ensures ∙ c.if-linking.false) c.front_of-front.ensures c.args.keys.now c.gather-next.new.page c.gather-next.ensures.page.1
+    holds_whole k v key first front a b i l n u c.look_at_front-last.ensures.told d c.leave-2.ensures.left c.requires.outside c.if-last-first.false (sym c.linking.ensures ∙ c.if-linking.false) c.front_of-front.ensures c.args.keys.now c.gather-next.new.page c.gather-next.ensures.page.1
     (subst (Gathers l.after c.args.keys.now c.gather-next.new.page) c.in-None.is c.gather-next.ensures.gathered.1)
 
 pub returns-in-Some-clause-holds : goal.returns-in-Some-clause-holds
@@ -28,16 +28,16 @@ returns-in-Some-clause-holds g c =
     let k = shape_of g.W.WaitWords.WAY c.args.table.now in
     let v = c.args.seat.now.view in
     let key = c.args.keys.now.low in
-    let first = c.look-first.result in
-    let n = c.look-last.result in
-    let a = c.look-first.new.seat.view in
+    let first = c.look_at_front-first.result in
+    let n = c.look_at_front-last.result in
+    let a = c.look_at_front-first.new.seat.view in
     let b = c.gather-next.new.seat.view in
-    let u = c.look-last.new.seat.view in
+    let u = c.look_at_front-last.new.seat.view in
     let d = c.leave-2.new.seat.view in
     let front = c.front_of-front.result in
-    let i = first_try k v key c.low.result c.enter.new.seat.view first a c.low.ensures.low c.enter.ensures.entered c.look-first.ensures.told in
+    let i = first_try k v key c.low.result c.enter.new.seat.view first a c.low.ensures.low c.enter.ensures.entered c.look_at_front-first.ensures.told in
     let l = c.gather-next.ensures.gathered.0 in
-    holds_part k v key first front a b i l n u c.look-last.ensures.told d c.leave-2.ensures.left c.requires.outside c.if-last-first.false (sym c.linking.ensures ∙ c.if-linking.false) c.front_of-front.ensures c.args.keys.now c.in-Some.next c.gather-next.new.page
+    holds_part k v key first front a b i l n u c.look_at_front-last.ensures.told d c.leave-2.ensures.left c.requires.outside c.if-last-first.false (sym c.linking.ensures ∙ c.if-linking.false) c.front_of-front.ensures c.args.keys.now c.in-Some.next c.gather-next.new.page
     (subst (Gathers l.after c.args.keys.now c.gather-next.new.page) c.in-Some.is c.gather-next.ensures.gathered.1)
 
 pub returns-in-None-clause-recent : goal.returns-in-None-clause-recent
@@ -45,41 +45,41 @@ returns-in-None-clause-recent g c =
     let k = shape_of g.W.WaitWords.WAY c.args.table.now in
     let v = c.args.seat.now.view in
     let key = c.args.keys.now.low in
-    let first = c.look-first.result in
-    let n = c.look-last.result in
-    let a = c.look-first.new.seat.view in
+    let first = c.look_at_front-first.result in
+    let n = c.look_at_front-last.result in
+    let a = c.look_at_front-first.new.seat.view in
     let b = c.gather-next.new.seat.view in
-    let u = c.look-last.new.seat.view in
+    let u = c.look_at_front-last.new.seat.view in
     let d = c.leave-2.new.seat.view in
     let front = c.front_of-front.result in
-    let i = first_try k v key c.low.result c.enter.new.seat.view first a c.low.ensures.low c.enter.ensures.entered c.look-first.ensures.told in
+    let i = first_try k v key c.low.result c.enter.new.seat.view first a c.low.ensures.low c.enter.ensures.entered c.look_at_front-first.ensures.told in
     let l = c.gather-next.ensures.gathered.0 in
-    recent k v key first front a b i l n u c.look-last.ensures.told d c.leave-2.ensures.left c.requires.outside c.if-last-first.false (sym c.linking.ensures ∙ c.if-linking.false) c.front_of-front.ensures
+    recent k v key first front a b i l n u c.look_at_front-last.ensures.told d c.leave-2.ensures.left c.requires.outside c.if-last-first.false (sym c.linking.ensures ∙ c.if-linking.false) c.front_of-front.ensures
 
 pub returns-in-Some-clause-recent : goal.returns-in-Some-clause-recent
 returns-in-Some-clause-recent g c =
     let k = shape_of g.W.WaitWords.WAY c.args.table.now in
     let v = c.args.seat.now.view in
     let key = c.args.keys.now.low in
-    let first = c.look-first.result in
-    let n = c.look-last.result in
-    let a = c.look-first.new.seat.view in
+    let first = c.look_at_front-first.result in
+    let n = c.look_at_front-last.result in
+    let a = c.look_at_front-first.new.seat.view in
     let b = c.gather-next.new.seat.view in
-    let u = c.look-last.new.seat.view in
+    let u = c.look_at_front-last.new.seat.view in
     let d = c.leave-2.new.seat.view in
     let front = c.front_of-front.result in
-    let i = first_try k v key c.low.result c.enter.new.seat.view first a c.low.ensures.low c.enter.ensures.entered c.look-first.ensures.told in
+    let i = first_try k v key c.low.result c.enter.new.seat.view first a c.low.ensures.low c.enter.ensures.entered c.look_at_front-first.ensures.told in
     let l = c.gather-next.ensures.gathered.0 in
-    recent k v key first front a b i l n u c.look-last.ensures.told d c.leave-2.ensures.left c.requires.outside c.if-last-first.false (sym c.linking.ensures ∙ c.if-linking.false) c.front_of-front.ensures
+    recent k v key first front a b i l n u c.look_at_front-last.ensures.told d c.leave-2.ensures.left c.requires.outside c.if-last-first.false (sym c.linking.ensures ∙ c.if-linking.false) c.front_of-front.ensures
 
 pub returns-then-linking-clause-tried : goal.returns-then-linking-clause-tried
 returns-then-linking-clause-tried g c =
     let k = shape_of g.W.WaitWords.WAY c.args.table.now in
     let v = c.args.seat.now.view in
     let key = c.args.keys.now.low in
-    let first = c.look-first.result in
-    let a = c.look-first.new.seat.view in
-    let i = first_try k v key c.low.result c.enter.new.seat.view first a c.low.ensures.low c.enter.ensures.entered c.look-first.ensures.told in
+    let first = c.look_at_front-first.result in
+    let a = c.look_at_front-first.new.seat.view in
+    let i = first_try k v key c.low.result c.enter.new.seat.view first a c.low.ensures.low c.enter.ensures.entered c.look_at_front-first.ensures.told in
     (record { first = first; second = None }, tried_once k v key first a i c.leave.new.seat.view c.leave.ensures.left c.requires.outside, moved_at_first k v key first a i c.leave.new.seat.view c.leave.ensures.left c.requires.outside (eqb-true _ 1 (sym c.linking.ensures ∙ c.if-linking.true)))
 
 pub gather-next-requires-clause-listing : goal.gather-next-requires-clause-listing
@@ -87,18 +87,18 @@ gather-next-requires-clause-listing g c =
     let k = shape_of g.W.WaitWords.WAY c.args.table.now in
     let v = c.args.seat.now.view in
     let key = c.args.keys.now.low in
-    let i = first_try k v key c.low.result c.enter.new.seat.view c.look-first.result c.look-first.new.seat.view c.low.ensures.low c.enter.ensures.entered c.look-first.ensures.told in
-    begun_listing v key c.look-first.result c.look-first.new.seat.view i
+    let i = first_try k v key c.low.result c.enter.new.seat.view c.look_at_front-first.result c.look_at_front-first.new.seat.view c.low.ensures.low c.enter.ensures.entered c.look_at_front-first.ensures.told in
+    begun_listing v key c.look_at_front-first.result c.look_at_front-first.new.seat.view i
 
-pub look-last-requires-clause-needs : goal.look-last-requires-clause-needs
-look-last-requires-clause-needs g c =
+pub look_at_front-last-requires-clause-asks : goal.look_at_front-last-requires-clause-asks
+look_at_front-last-requires-clause-asks g c = λ told.
     let k = shape_of g.W.WaitWords.WAY c.args.table.now in
     let v = c.args.seat.now.view in
     let key = c.args.keys.now.low in
-    let first = c.look-first.result in
-    let a = c.look-first.new.seat.view in
+    let first = c.look_at_front-first.result in
+    let a = c.look_at_front-first.new.seat.view in
     let b = c.gather-next.new.seat.view in
-    let i = first_try k v key c.low.result c.enter.new.seat.view first a c.low.ensures.low c.enter.ensures.entered c.look-first.ensures.told in
+    let i = first_try k v key c.low.result c.enter.new.seat.view first a c.low.ensures.low c.enter.ensures.entered c.look_at_front-first.ensures.told in
     may_look v key (first ∷ []) b (loaded_try v key (first ∷ []) a i b c.gather-next.ensures.gathered.0) k
 
 pub returns-then-last-first-clause-tried : goal.returns-then-last-first-clause-tried
@@ -106,18 +106,18 @@ returns-then-last-first-clause-tried g c =
     let k = shape_of g.W.WaitWords.WAY c.args.table.now in
     let v = c.args.seat.now.view in
     let key = c.args.keys.now.low in
-    let first = c.look-first.result in
-    let n = c.look-last.result in
-    let a = c.look-first.new.seat.view in
+    let first = c.look_at_front-first.result in
+    let n = c.look_at_front-last.result in
+    let a = c.look_at_front-first.new.seat.view in
     let b = c.gather-next.new.seat.view in
-    let u = c.look-last.new.seat.view in
+    let u = c.look_at_front-last.new.seat.view in
     let d = c.leave-2.new.seat.view in
-    let front = c.look-first.result in
-    let i = first_try k v key c.low.result c.enter.new.seat.view first a c.low.ensures.low c.enter.ensures.entered c.look-first.ensures.told in
+    let front = c.look_at_front-first.result in
+    let i = first_try k v key c.low.result c.enter.new.seat.view first a c.low.ensures.low c.enter.ensures.entered c.look_at_front-first.ensures.told in
     let l = c.gather-next.ensures.gathered.0 in (
       record { first = first; second = Some n },
-      tried_twice k v key first front a b i l n u c.look-last.ensures.told d c.leave-2.ensures.left c.requires.outside,
-      moved_between k v key first front a b i l n u c.look-last.ensures.told d c.leave-2.ensures.left c.requires.outside (sym c.linking.ensures ∙ c.if-linking.false) (omega (arith, c.if-last-first.true)),
+      tried_twice k v key first front a b i l n u c.look_at_front-last.ensures.told d c.leave-2.ensures.left c.requires.outside,
+      moved_between k v key first front a b i l n u c.look_at_front-last.ensures.told d c.leave-2.ensures.left c.requires.outside (sym c.linking.ensures ∙ c.if-linking.false) (omega (arith, c.if-last-first.true)),
     )
 
 pub returns-in-None-clause-tried : goal.returns-in-None-clause-tried
@@ -125,18 +125,18 @@ returns-in-None-clause-tried g c =
     let k = shape_of g.W.WaitWords.WAY c.args.table.now in
     let v = c.args.seat.now.view in
     let key = c.args.keys.now.low in
-    let first = c.look-first.result in
-    let n = c.look-last.result in
-    let a = c.look-first.new.seat.view in
+    let first = c.look_at_front-first.result in
+    let n = c.look_at_front-last.result in
+    let a = c.look_at_front-first.new.seat.view in
     let b = c.gather-next.new.seat.view in
-    let u = c.look-last.new.seat.view in
+    let u = c.look_at_front-last.new.seat.view in
     let d = c.leave-2.new.seat.view in
     let front = c.front_of-front.result in
-    let i = first_try k v key c.low.result c.enter.new.seat.view first a c.low.ensures.low c.enter.ensures.entered c.look-first.ensures.told in
+    let i = first_try k v key c.low.result c.enter.new.seat.view first a c.low.ensures.low c.enter.ensures.entered c.look_at_front-first.ensures.told in
     let l = c.gather-next.ensures.gathered.0 in (
       record { first = first; second = Some n },
-      tried_twice k v key first front a b i l n u c.look-last.ensures.told d c.leave-2.ensures.left c.requires.outside,
-      stood k v key first front a b i l n u c.look-last.ensures.told d c.leave-2.ensures.left c.requires.outside c.if-last-first.false (sym c.linking.ensures ∙ c.if-linking.false) c.front_of-front.ensures,
+      tried_twice k v key first front a b i l n u c.look_at_front-last.ensures.told d c.leave-2.ensures.left c.requires.outside,
+      stood k v key first front a b i l n u c.look_at_front-last.ensures.told d c.leave-2.ensures.left c.requires.outside c.if-last-first.false (sym c.linking.ensures ∙ c.if-linking.false) c.front_of-front.ensures,
     )
 
 pub returns-in-Some-clause-tried : goal.returns-in-Some-clause-tried
@@ -144,16 +144,16 @@ returns-in-Some-clause-tried g c =
     let k = shape_of g.W.WaitWords.WAY c.args.table.now in
     let v = c.args.seat.now.view in
     let key = c.args.keys.now.low in
-    let first = c.look-first.result in
-    let n = c.look-last.result in
-    let a = c.look-first.new.seat.view in
+    let first = c.look_at_front-first.result in
+    let n = c.look_at_front-last.result in
+    let a = c.look_at_front-first.new.seat.view in
     let b = c.gather-next.new.seat.view in
-    let u = c.look-last.new.seat.view in
+    let u = c.look_at_front-last.new.seat.view in
     let d = c.leave-2.new.seat.view in
     let front = c.front_of-front.result in
-    let i = first_try k v key c.low.result c.enter.new.seat.view first a c.low.ensures.low c.enter.ensures.entered c.look-first.ensures.told in
+    let i = first_try k v key c.low.result c.enter.new.seat.view first a c.low.ensures.low c.enter.ensures.entered c.look_at_front-first.ensures.told in
     let l = c.gather-next.ensures.gathered.0 in (
       record { first = first; second = Some n },
-      tried_twice k v key first front a b i l n u c.look-last.ensures.told d c.leave-2.ensures.left c.requires.outside,
-      stood k v key first front a b i l n u c.look-last.ensures.told d c.leave-2.ensures.left c.requires.outside c.if-last-first.false (sym c.linking.ensures ∙ c.if-linking.false) c.front_of-front.ensures,
+      tried_twice k v key first front a b i l n u c.look_at_front-last.ensures.told d c.leave-2.ensures.left c.requires.outside,
+      stood k v key first front a b i l n u c.look_at_front-last.ensures.told d c.leave-2.ensures.left c.requires.outside c.if-last-first.false (sym c.linking.ensures ∙ c.if-linking.false) c.front_of-front.ensures,
     )

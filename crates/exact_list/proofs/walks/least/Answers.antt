@@ -20,13 +20,13 @@ returns-in_default-clause-least g c =
     let come = c.loop.invariant.2 in
     (come.0, ended_least (shape_of g.W.WaitWords.WAY c.args.table.now) come.0.after c.args.from c.loop.link c.loop.above come.1 (sym c.child_of.ensures ∙ c.in_default.is))
 
-pub list_load-key-requires-clause-needs : goal.list_load-key-requires-clause-needs
-list_load-key-requires-clause-needs g c =
+pub list_load-key-requires-clause-asks : goal.list_load-key-requires-clause-asks
+list_load-key-requires-clause-asks g c = λ told.
     let come = c.loop.invariant.2 in
     may_read (shape_of g.W.WaitWords.WAY c.args.table.now) c.args.seat.now.view c.args.from c.loop.seat.view c.loop.link c.in-Some-child_of.slot c.loop.above come.0 come.1 (sym c.child_of.ensures ∙ c.in-Some-child_of.is)
 
-pub list_load-link-requires-then-key-from-clause-needs : goal.list_load-link-requires-then-key-from-clause-needs
-list_load-link-requires-then-key-from-clause-needs g c =
+pub list_load-link-requires-then-key-from-clause-asks : goal.list_load-link-requires-then-key-from-clause-asks
+list_load-link-requires-then-key-from-clause-asks g c = λ told.
     then_right (shape_of g.W.WaitWords.WAY c.args.table.now) c.args.seat.now.view c.args.from c.loop.seat.view c.loop.link c.in-Some-child_of.slot c.loop.above c.loop.invariant.2 (sym c.child_of.ensures ∙ c.in-Some-child_of.is) c.list_load-key.new.seat.view c.list_load-key.result c.list_load-key.ensures.told
 
 pub loop-preserved-then-key-from : goal.loop-preserved-then-key-from
@@ -37,8 +37,8 @@ loop-preserved-then-key-from g c = (
       c.list_load-link-then-key-from.new.seat.view c.list_load-link-then-key-from.result c.if-key-from.true c.list_load-link-then-key-from.ensures.told,
 )
 
-pub list_load-value-requires-clause-needs : goal.list_load-value-requires-clause-needs
-list_load-value-requires-clause-needs g c =
+pub list_load-value-requires-clause-asks : goal.list_load-value-requires-clause-asks
+list_load-value-requires-clause-asks g c = λ told.
     then_value (shape_of g.W.WaitWords.WAY c.args.table.now) c.args.seat.now.view c.args.from c.loop.seat.view c.loop.link c.in-Some-child_of.slot c.loop.above c.loop.invariant.2 (sym c.child_of.ensures ∙ c.in-Some-child_of.is) c.list_load-key.new.seat.view c.list_load-key.result c.list_load-key.ensures.told
 
 pub returns-then-key-from-2-clause-least : goal.returns-then-key-from-2-clause-least
@@ -46,8 +46,8 @@ returns-then-key-from-2-clause-least g c =
     found_here (shape_of g.W.WaitWords.WAY c.args.table.now) c.args.seat.now.view c.args.from c.loop.seat.view c.loop.link c.in-Some-child_of.slot c.loop.above c.loop.invariant.2 (sym c.child_of.ensures ∙ c.in-Some-child_of.is) c.list_load-key.new.seat.view c.list_load-key.result c.list_load-key.ensures.told
     c.list_load-value.new.seat.view c.list_load-value.result c.list_load-value.ensures.told c.if-key-from-2.true
 
-pub list_load-link-requires-in-loop-clause-needs : goal.list_load-link-requires-in-loop-clause-needs
-list_load-link-requires-in-loop-clause-needs g c =
+pub list_load-link-requires-in-loop-clause-asks : goal.list_load-link-requires-in-loop-clause-asks
+list_load-link-requires-in-loop-clause-asks g c = λ told.
     then_left (shape_of g.W.WaitWords.WAY c.args.table.now) c.args.seat.now.view c.args.from c.loop.seat.view c.loop.link c.in-Some-child_of.slot c.loop.above c.loop.invariant.2 (sym c.child_of.ensures ∙ c.in-Some-child_of.is) c.list_load-key.new.seat.view c.list_load-key.result c.list_load-key.ensures.told
     c.list_load-value.new.seat.view c.list_load-value.result c.list_load-value.ensures.told
 

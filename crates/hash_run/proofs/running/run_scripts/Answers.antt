@@ -33,6 +33,17 @@ merge-requires-clause-numbers g c =
     let all = told_explained c.in_ok-table.table c.args.scripts.now c.in_ok-workers.workers.items c.run_crew.result.items c.in_ok-workers.ensures c.run_crew.ensures.count c.run_crew.ensures.made c.gather-seat.result.view c.gather-seat.ensures.joined (table.1 ∙ c.count-count.ensures.count) capacities c.deref.result.now given in
     AreOneToCount-own (updates_of c.gather-seat.result.view.seen) (all_told_lines c.args.scripts.now (entries_of c.deref.result.now)) ((all 0).explained.updates)
 
+pub returns-clause-run : goal.returns-clause-run
+returns-clause-run g c = record {
+  hired = c.in_ok-workers.workers.items;
+  workers = c.run_crew.result.items;
+  crew = c.in_ok-workers.ensures;
+  count = c.run_crew.ensures.count;
+  made = c.run_crew.ensures.made;
+  told_is = c.gather-seat.ensures.told ∙ ap (λ ts. ts ++ map (λ (w : Work ClientAt). w.told) c.run_crew.result.items) c.in_ok-told.ensures.items;
+  joined = c.gather-seat.ensures.joined;
+}
+
 pub returns-clause-explained : goal.returns-clause-explained
 returns-clause-explained g c slots =
     let table = c.in_ok-table.ensures.made in

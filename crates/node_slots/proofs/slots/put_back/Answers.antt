@@ -1,48 +1,42 @@
-use Rattle.std.proofs.Common.{if◌then◌else◌, inl, sym, ap, subst, ◌∙◌}
+use Rattle.std.proofs.Common.{inl, refl, sym, ap, subst, ◌∙◌}
 use Rattle.core_state.specs.declared.shape.Shape.{Shape}
-use Rattle.seat_table.specs.Seats.{shape_of, unlisted}
-use Rattle.seat_table.proofs.Seized.{owes_count}
+use Rattle.core_state.specs.declared.view.View.{View}
+use Rattle.seat_table.specs.Seats.{shape_of}
+use Rattle.seat_table.proofs.Seized.{needs_raise}
 use Rattle.node_slots.specs.Slots.{PutsBack}
-use Rattle.node_slots.proofs.PuttingBack.{told_of_table, slot_is, hand_inside, makes_none, needs_next, frees, still_in_hand, puts_back}
+use Rattle.node_slots.proofs.PuttingBack.{slot_is, hand_inside, unraised_there, frees, puts_back}
 use Rattle.node_slots.proofs.slots.put_back.Goals as goal
 
-pub k12-requires-clause-needs : goal.k12-requires-clause-needs
-k12-requires-clause-needs g c =
+pub load_own_life-life-requires-clause-asks : goal.load_own_life-life-requires-clause-asks
+load_own_life-life-requires-clause-asks g c = λ told.
     let k : Shape = shape_of g.W.WaitWords.WAY c.args.table.now in
     let h = c.requires.hand in
     let is = slot_is _ h.0 c.in-Some.slot h.1 c.in-Some.ensures in
-    needs_next k _ h.0 c.in-Some.slot _ (h.1, sym is) h.2 c.requires.paid _ c.k9-life.ensures.told (hand_inside k _ h.0 c.in-Some.slot (told_of_table _ _ _ _ c.requires.table c.rule_tells.ensures.tells) h.1 is)
+    (hand_inside k _ h.0 c.in-Some.slot told h.1 is, (h.0, inl (h.1, sym is)))
 
-pub k15-requires-clause-needs : goal.k15-requires-clause-needs
-k15-requires-clause-needs g c =
+pub raise_in_hand-requires-clause-asks : goal.raise_in_hand-requires-clause-asks
+raise_in_hand-requires-clause-asks g c = λ told.
     let k : Shape = shape_of g.W.WaitWords.WAY c.args.table.now in
     let h = c.requires.hand in
     let is = slot_is _ h.0 c.in-Some.slot h.1 c.in-Some.ensures in
-    (hand_inside k _ h.0 c.in-Some.slot (told_of_table _ _ _ _ c.requires.table c.rule_tells.ensures.tells) h.1 is, inl (frees k _ h.0 c.in-Some.slot _ (h.1, sym is) h.2 c.requires.paid _ c.k9-life.ensures.told _ c.k12.ensures.told))
+    let hand = unraised_there k _ h.0 c.in-Some.slot _ (h.1, sym is) h.2 c.requires.paid _ c.load_own_life-life.ensures.told in
+    (hand_inside k _ hand.held c.in-Some.slot told hand.in_hand.0 (sym hand.in_hand.1), needs_raise _ c.in-Some.slot _ _ refl hand)
 
-pub k16-requires-clause-needs : goal.k16-requires-clause-needs
-k16-requires-clause-needs g c =
+pub free_in_hand-requires-clause-asks : goal.free_in_hand-requires-clause-asks
+free_in_hand-requires-clause-asks g c = λ told.
     let k : Shape = shape_of g.W.WaitWords.WAY c.args.table.now in
     let h = c.requires.hand in
     let is = slot_is _ h.0 c.in-Some.slot h.1 c.in-Some.ensures in
-    owes_count k _ c.in-Some.slot (frees k _ h.0 c.in-Some.slot _ (h.1, sym is) h.2 c.requires.paid _ c.k9-life.ensures.told _ c.k12.ensures.told) _ c.k15.ensures.told
+    let free = frees k _ h.0 c.in-Some.slot _ (h.1, sym is) h.2 c.requires.paid _ c.load_own_life-life.ensures.told _ c.raise_in_hand.ensures.told in
+    (hand_inside k _ free.0 c.in-Some.slot told free.1.in_hand.0 (sym free.1.in_hand.1), free)
 
-pub returns-clause-seat : goal.returns-clause-seat
-returns-clause-seat g c =
-    let k : Shape = shape_of g.W.WaitWords.WAY c.args.table.now in
-    let h = c.requires.hand in
-    let is = slot_is _ h.0 c.in-Some.slot h.1 c.in-Some.ensures in
-    let stays = makes_none k _ h.0 c.in-Some.slot _ (h.1, sym is) h.2 c.requires.paid _ c.k9-life.ensures.told in
-    let holds = still_in_hand k _ h.0 c.in-Some.slot _ (h.1, sym is) h.2 c.requires.paid _ c.k9-life.ensures.told _ c.k12.ensures.told in (
-      c.k16.ensures.seat.0 ∙ c.k15.ensures.table ∙ c.k12.ensures.table ∙ c.k9-life.ensures.seat.0,
-      c.k16.ensures.seat.1 ∙ c.k15.ensures.listed ∙ ap (λ b. if b then c.k12.new.seat.listed else unlisted c.in-Some.slot c.k12.new.seat.listed) holds
-          ∙ c.k12.ensures.listed ∙ ap (λ b. if b then unlisted c.in-Some.slot c.k9-life.new.seat.listed else c.k9-life.new.seat.listed) stays ∙ c.k9-life.ensures.seat.1,
-    )
+pub count_free-requires-clause-asks : goal.count_free-requires-clause-asks
+count_free-requires-clause-asks g c = λ told. (tt, ap (λ (z : View). z.hands.owes) c.free_in_hand.ensures.told.goes)
 
 pub returns-clause-view : goal.returns-clause-view
 returns-clause-view g c = λ held e.
     let k : Shape = shape_of g.W.WaitWords.WAY c.args.table.now in
     let h = c.requires.hand in
     let is = slot_is _ h.0 c.in-Some.slot h.1 c.in-Some.ensures in
-    subst (λ s. PutsBack c.args.seat.now.view s c.k16.new.seat.view) (slot_is _ held c.in-Some.slot e c.in-Some.ensures)
-    (puts_back k _ h.0 c.in-Some.slot _ (h.1, sym is) h.2 c.requires.paid _ c.k9-life.ensures.told _ c.k12.ensures.told _ _ c.k16.ensures.told.0 c.k15.ensures.told c.k16.ensures.told.1)
+    subst (λ s. PutsBack c.args.seat.now.view s c.count_free.new.seat.view) (slot_is _ held c.in-Some.slot e c.in-Some.ensures)
+    (puts_back k _ h.0 c.in-Some.slot _ (h.1, sym is) h.2 c.requires.paid _ c.load_own_life-life.ensures.told _ c.raise_in_hand.ensures.told _ _ c.count_free.ensures.told.0 c.free_in_hand.ensures.told c.count_free.ensures.told.1)

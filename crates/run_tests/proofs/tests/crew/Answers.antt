@@ -18,7 +18,7 @@ loop-i-preserved c =
     let ready : IsReadyFor (λ clerk. clerk.left) worker script = record {
       empty = c.in_ok-new.ensures.empty;
       room = c.in_ok-new.ensures.room;
-      means = let left = ap (λ clerk. clerk.left) c.in_ok-new.ensures.client ∙ c.new-clerk.ensures in omega arith;
+      means = let left = ap (λ clerk. clerk.left) c.in_ok-new.ensures.client in omega arith;
     } in
     let next : AreReadyFor (λ clerk. clerk.left) (workers ++ worker ∷ []) c.args.scripts.now =
     AreReadyFor-push (λ clerk. clerk.left) c.args.scripts.now workers worker c.loop-i.invariant.ready (subst (λ (ops : List Op). IsReadyFor (λ clerk. clerk.left) worker ops) read ready) in

@@ -2,7 +2,9 @@ use Rattle.std.proofs.Common.{rules, ◌+◌, ◌%◌, ◌^◌}
 use Rattle.core_state.specs.declared.shape.Shape.{Shape}
 use Rattle.seat_table.specs.Seats.{shape_of}
 use Rattle.seat_table.specs.Told.{tells}
-use Rattle.seat_table.proofs.Facts.{has_field, word_below}
+use Rattle.core_acts.specs.Acts.{field_of}
+use Rattle.core_acts.proofs.Acting.{has_word}
+use Rattle.seat_table.proofs.Facts.{word_below}
 use Rattle.seat_table.proofs.Allowed.{allows_add, same_shape, as_table}
 use Rattle.seat_table.proofs.access.adds_it.Goals as goal
 
@@ -14,7 +16,7 @@ fetch_add-requires g c =
     let asks = c.requires.asks in
     let same = same_shape way key k (search rules) (search rules) in (
       search rules,
-      word_below way c.args.table.now c.args.seat.now.me.0 asks.room c.args.case c.args.word _ asks.at (search rules) asks.side asks.needs,
-      as_table key k g.A.Detail.shape g.A.Detail.case c.args.case _ _ _ _ (λ n. (n + c.args.number) % 2 ^ 64) (λ k z n me. tells k z c.args.seat.now.me n me) same c.requires.picked.0 c.requires.picked.1
-          (allows_add k _ _ c.args.seat.now.me c.args.case c.args.word (has_field way c.args.table.now c.args.seat.now.me.0 asks.room c.args.case asks.side asks.needs) asks.at asks.room.works asks.needs c.args.number asks.does),
+      word_below way c.args.table.now c.args.seat.now.me.0 c.args.act c.args.word _ asks.at (search rules) asks.asks,
+      as_table key k g.A.Detail.shape g.A.Detail.act c.args.act _ _ _ _ (λ n. (n + c.args.number) % 2 ^ 64) (λ k z n me. tells k z c.args.seat.now.me n me) same c.requires.picked.0 c.requires.picked.1
+          (allows_add k _ _ c.args.seat.now.me c.args.act c.args.word (has_word k (field_of c.args.seat.now.me.0.allowance.place c.args.act) asks.asks.0) asks.at asks.room.works asks.asks c.args.number asks.does),
     )

@@ -47,8 +47,8 @@ returns-clause-joined g c =
     let none : c.loop-seat.rest.items ≡ [] = nil_from_length c.loop-seat.rest.items (sym c.loop-seat.rest.ok.0 ∙ eqb-true (vec_len c.loop-seat.rest) 0 (sym c.is_empty.ensures ∙ c.loop-seat-test.false)) in
     let whole : IsGathered StandsFor c.args.workers.items [] c.args.told.now.items c.loop-seat.told.items c.loop-seat.seat = subst (λ ws. IsGathered StandsFor c.args.workers.items ws c.args.told.now.items c.loop-seat.told.items c.loop-seat.seat) none c.loop-seat.invariant.gathered in
     let all = gathered_all (λ (client : ScriptClientAt). client.tree.seat) (IsDone c.args.table.now) StandsFor c.args.workers.items c.args.told.now.items c.requires.done c.loop-seat.told.items c.loop-seat.seat whole in
-    let told = c.k3.ensures.told in
-    looked_still (map (λ (w : Work ScriptClientAt). w.client) c.args.workers.items) c.loop-seat.seat c.k3.new.seat c.k3.result told.0 told.2 all.0
+    let told = c.load_clock.ensures.told in
+    looked_still (map (λ (w : Work ScriptClientAt). w.client) c.args.workers.items) c.loop-seat.seat c.load_clock.new.seat c.load_clock.result told.marks told.goes all.0
 
 pub returns-clause-told : goal.returns-clause-told
 returns-clause-told g c =

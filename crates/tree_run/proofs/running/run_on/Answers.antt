@@ -10,12 +10,14 @@ gather-seat-requires-clause-done g c =
 
 pub returns-clause-run : goal.returns-clause-run
 returns-clause-run g c = record {
-  hired = c.in_ok-workers.workers.items;
-  workers = c.run_crew.result.items;
-  crew = c.in_ok-workers.ensures;
-  count = c.run_crew.ensures.count;
-  made = c.run_crew.ensures.made;
-  told_is = c.gather-seat.ensures.told ∙ ap (λ ts. ts ++ map (λ (w : Work ScriptClientAt). w.told) c.run_crew.result.items) c.in_ok-told.ensures.items;
-  joined = c.gather-seat.ensures.joined;
+  ran = record {
+    hired = c.in_ok-workers.workers.items;
+    workers = c.run_crew.result.items;
+    crew = c.in_ok-workers.ensures;
+    count = c.run_crew.ensures.count;
+    made = c.run_crew.ensures.made;
+    told_is = c.gather-seat.ensures.told ∙ ap (λ ts. ts ++ map (λ (w : Work ScriptClientAt). w.told) c.run_crew.result.items) c.in_ok-told.ensures.items;
+    joined = c.gather-seat.ensures.joined;
+  };
   informed = c.gather-seat.ensures.informed;
 }

@@ -11,10 +11,10 @@ use Rattle.tree_watch.proofs.running.run_beside.Goals as goal
 pub returns-clause-run : goal.returns-clause-run
 returns-clause-run g c =
     let ran = IfOk-at_ok (λ r. HasRun g.W.WaitWords.WAY false c.args.table.now c.args.scripts.now r.told.items r.seat) c.in_ok-run.was c.join-ran.ensures.first.0 in
-    run_beside ran c.join-ran.result.1.0 c.join.result c.join.ensures.own c.join.ensures.told.1.3
+    run_beside ran c.join-ran.result.1.0 c.join.result c.join.ensures.own c.join.ensures.told.1.informed
 
 pub returns-clause-stays : goal.returns-clause-stays
-returns-clause-stays g c = c.join.ensures.told.1.9
+returns-clause-stays g c = c.join.ensures.told.1.stays
 
 pub returns-clause-idle : goal.returns-clause-idle
 returns-clause-idle g c =

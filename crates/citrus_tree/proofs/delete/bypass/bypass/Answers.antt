@@ -1,80 +1,81 @@
 use Rattle.std.proofs.Common.{[], ◌∷◌, ◌++◌, length, sym, ap, subst, ◌∙◌, arith}
 use Rattle.list_laws.specs.Counts.{times}
+use Rattle.prcu_model.specs.declared.operation.Op.TheVariants.{Del}
 use Rattle.core_state.specs.declared.view.View.{View}
 use Rattle.seat_table.specs.Seats.{shape_of}
 use Rattle.tree_points.specs.At.{IsDone}
 use Rattle.tree_points.proofs.Locking.{needs_unlock, passes_unlock, passes_unlock_gone}
 use Rattle.citrus_tree.specs.Deletes.{HasDone, retired_slots}
-use Rattle.citrus_tree.proofs.DeleteKeeps.{tells_as, keeps_rest, rest_k14, same_locks, no_lock}
+use Rattle.citrus_tree.proofs.DeleteKeeps.{tells_as, keeps_rest, rest_unlock, same_locks, no_lock}
 use Rattle.citrus_tree.proofs.DeleteLists.{in_slots, now_retired, yet_unlisted, listed_more, few_listed}
 use Rattle.citrus_tree.proofs.DeleteUpdates.{done_still}
 use Rattle.citrus_tree.proofs.KeepingSlots.{slots_more}
 use Rattle.citrus_tree.specs.Gone.{retired_marks}
 use Rattle.citrus_tree.proofs.delete.bypass.bypass.Goals as goal
 
-pub k14-requires-clause-needs : goal.k14-requires-clause-needs
-k14-requires-clause-needs g c =
+pub unlock-requires-clause-asks : goal.unlock-requires-clause-asks
+unlock-requires-clause-asks g c =
     let a = c.requires.at in
-    needs_unlock (same_locks c.link_past-number.ensures.locked c.requires.locked) (c.link_past-number.ensures.at a.0 a.1 a.2) (tells_as g.W.WaitWords.WAY ((c.link_past-number.ensures.seat).0 ∙ c.requires.table) c.rule_tells.ensures.tells)
+    needs_unlock (same_locks c.link_past-number.ensures.locked c.requires.locked) (c.link_past-number.ensures.at a.0 a.1)
 
-pub k14-requires-2-clause-needs : goal.k14-requires-2-clause-needs
-k14-requires-2-clause-needs g c =
+pub unlock-requires-2-clause-asks : goal.unlock-requires-2-clause-asks
+unlock-requires-2-clause-asks g c =
     let a = c.requires.at in
-    let p = passes_unlock (same_locks c.link_past-number.ensures.locked c.requires.locked) (c.link_past-number.ensures.at a.0 a.1 a.2) c.k14.ensures.told in
-    needs_unlock p.1 p.0 (tells_as g.W.WaitWords.WAY ((c.k14.ensures.seat).0 ∙ (c.link_past-number.ensures.seat).0 ∙ c.requires.table) c.rule_tells-2.ensures.tells)
+    let p = passes_unlock (same_locks c.link_past-number.ensures.locked c.requires.locked) (c.link_past-number.ensures.at a.0 a.1) c.unlock.ensures.told in
+    needs_unlock p.1 p.0
 
 pub list_retired-requires-clause-retired : goal.list_retired-requires-clause-retired
 list_retired-requires-clause-retired g c =
     let k = (shape_of g.W.WaitWords.WAY c.args.table.now) in
-    in_slots c.k14-2.new.seat.view.hands.retired c.args.node.node
-    (now_retired c.args.seat.now.view c.k14-2.new.seat.view c.args.node.node ((rest_k14 k _ _ _ _ c.k14-2.ensures.told).retired ∙ (rest_k14 k _ _ _ _ c.k14.ensures.told).retired ∙ c.link_past-number.ensures.retired))
+    in_slots c.unlock-2.new.seat.view.hands.retired c.args.node.node
+    (now_retired c.args.seat.now.view c.unlock-2.new.seat.view c.args.node.node ((rest_unlock k _ _ _ _ c.unlock-2.ensures.told).retired ∙ (rest_unlock k _ _ _ _ c.unlock.ensures.told).retired ∙ c.link_past-number.ensures.retired))
 
 pub list_retired-requires-clause-unlocked : goal.list_retired-requires-clause-unlocked
 list_retired-requires-clause-unlocked g c =
     let a = c.requires.at in
-    let p = passes_unlock (same_locks c.link_past-number.ensures.locked c.requires.locked) (c.link_past-number.ensures.at a.0 a.1 a.2) c.k14.ensures.told in
-    no_lock c.k14-2.new.seat.view c.args.node.node (((passes_unlock_gone p.1 p.0 c.k14-2.ensures.told).fits.point).1).0
+    let p = passes_unlock (same_locks c.link_past-number.ensures.locked c.requires.locked) (c.link_past-number.ensures.at a.0 a.1) c.unlock.ensures.told in
+    no_lock c.unlock-2.new.seat.view c.args.node.node (((passes_unlock_gone p.1 p.0 c.unlock-2.ensures.told).fits.point).1).0
 
 pub list_retired-requires-clause-unlisted : goal.list_retired-requires-clause-unlisted
 list_retired-requires-clause-unlisted g c =
     let k = (shape_of g.W.WaitWords.WAY c.args.table.now) in
-    let tells = tells_as g.W.WaitWords.WAY ((c.k14-2.ensures.seat).0 ∙ (c.k14.ensures.seat).0 ∙ (c.link_past-number.ensures.seat).0 ∙ c.requires.table) c.rule_tells-3.ensures.tells in
-    let more = (rest_k14 k _ _ _ _ c.k14-2.ensures.told).retired ∙ (rest_k14 k _ _ _ _ c.k14.ensures.told).retired ∙ c.link_past-number.ensures.retired in
-    let listed = (c.k14-2.ensures.seat).1 ∙ (c.k14.ensures.seat).1 ∙ (c.link_past-number.ensures.seat).1 in
-    yet_unlisted c.args.seat.now.view c.k14-2.new.seat.view c.args.node.node more c.k14-2.new.seat.listed (λ t. ap (times t) listed ∙ c.requires.listed.each t) (tells.apart c.args.node.node)
+    let tells = tells_as g.W.WaitWords.WAY ((c.unlock-2.ensures.seat).0 ∙ (c.unlock.ensures.seat).0 ∙ (c.link_past-number.ensures.seat).0 ∙ c.requires.table) c.rule_tells.ensures.tells in
+    let more = (rest_unlock k _ _ _ _ c.unlock-2.ensures.told).retired ∙ (rest_unlock k _ _ _ _ c.unlock.ensures.told).retired ∙ c.link_past-number.ensures.retired in
+    let listed = (c.unlock-2.ensures.seat).1 ∙ (c.unlock.ensures.seat).1 ∙ (c.link_past-number.ensures.seat).1 in
+    yet_unlisted c.args.seat.now.view c.unlock-2.new.seat.view c.args.node.node more c.unlock-2.new.seat.listed (λ t. ap (times t) listed ∙ c.requires.listed.each t) (tells.apart c.args.node.node)
 
 pub list_retired-requires-clause-few : goal.list_retired-requires-clause-few
 list_retired-requires-clause-few g c =
-    let few = few_listed c.args.seat.now c.args.node (c.requires.at).2 c.requires.listed in
-    let listed = ap length ((c.k14-2.ensures.seat).1 ∙ (c.k14.ensures.seat).1 ∙ (c.link_past-number.ensures.seat).1) in
+    let few = few_listed c.args.seat.now c.args.node (c.requires.at).1 c.requires.listed in
+    let listed = ap length ((c.unlock-2.ensures.seat).1 ∙ (c.unlock.ensures.seat).1 ∙ (c.link_past-number.ensures.seat).1) in
     omega (arith, few, listed)
 
 pub returns-clause-done : goal.returns-clause-done
-returns-clause-done g c = λ op kept a.
+returns-clause-done g c = λ kept a.
     (let k = (shape_of g.W.WaitWords.WAY c.args.table.now) in
-    let p = passes_unlock (same_locks c.link_past-number.ensures.locked c.requires.locked) (c.link_past-number.ensures.at op kept a) c.k14.ensures.told in
-    let rest = keeps_rest c.link_past-number.new.seat.view c.k14.new.seat.view c.k14-2.new.seat.view (rest_k14 k _ _ _ _ c.k14.ensures.told) (rest_k14 k _ _ _ _ c.k14-2.ensures.told) in
-    subst (λ (x : View). IsDone k op kept x × HasDone c.args.seat.now.view op [] c.link_past-number.result x) (sym (c.list_retired.ensures.seat).1)
-    (passes_unlock_gone p.1 p.0 c.k14-2.ensures.told, done_still _ _ _ op [] _ (c.link_past-number.ensures.done op kept a) rest.gone))
+    let p = passes_unlock (same_locks c.link_past-number.ensures.locked c.requires.locked) (c.link_past-number.ensures.at kept a) c.unlock.ensures.told in
+    let rest = keeps_rest c.link_past-number.new.seat.view c.unlock.new.seat.view c.unlock-2.new.seat.view (rest_unlock k _ _ _ _ c.unlock.ensures.told) (rest_unlock k _ _ _ _ c.unlock-2.ensures.told) in
+    subst (λ (x : View). IsDone k (Del c.args.key) kept x × HasDone c.args.seat.now.view (Del c.args.key) [] c.link_past-number.result x) (sym (c.list_retired.ensures.seat).1)
+    (passes_unlock_gone p.1 p.0 c.unlock-2.ensures.told, done_still _ _ _ (Del c.args.key) [] _ (c.link_past-number.ensures.done kept a) rest.gone))
 
 pub returns-clause-listed : goal.returns-clause-listed
 returns-clause-listed g c =
     let k = (shape_of g.W.WaitWords.WAY c.args.table.now) in
-    let more = (rest_k14 k _ _ _ _ c.k14-2.ensures.told).retired ∙ (rest_k14 k _ _ _ _ c.k14.ensures.told).retired ∙ c.link_past-number.ensures.retired in
-    let listed = (c.k14-2.ensures.seat).1 ∙ (c.k14.ensures.seat).1 ∙ (c.link_past-number.ensures.seat).1 in
+    let more = (rest_unlock k _ _ _ _ c.unlock-2.ensures.told).retired ∙ (rest_unlock k _ _ _ _ c.unlock.ensures.told).retired ∙ c.link_past-number.ensures.retired in
+    let listed = (c.unlock-2.ensures.seat).1 ∙ (c.unlock.ensures.seat).1 ∙ (c.link_past-number.ensures.seat).1 in
     record {
       each = λ t. ap (times t) (c.list_retired.ensures.listed ∙ ap (λ xs. xs ++ c.args.node.node ∷ []) listed)
-          ∙ listed_more c.args.seat.now.view c.k14-2.new.seat.view c.args.node.node more c.args.seat.now.listed c.requires.listed.each t
+          ∙ listed_more c.args.seat.now.view c.unlock-2.new.seat.view c.args.node.node more c.args.seat.now.listed c.requires.listed.each t
           ∙ ap (λ (x : View). times t (retired_slots x)) (sym (c.list_retired.ensures.seat).1);
     }
 
 pub returns-clause-slots : goal.returns-clause-slots
 returns-clause-slots g c =
     let k = (shape_of g.W.WaitWords.WAY c.args.table.now) in
-    let first = rest_k14 k _ _ _ _ c.k14.ensures.told in
-    let second = rest_k14 k _ _ _ _ c.k14-2.ensures.told in
+    let first = rest_unlock k _ _ _ _ c.unlock.ensures.told in
+    let second = rest_unlock k _ _ _ _ c.unlock-2.ensures.told in
     let same = (c.list_retired.ensures.seat).1 in
     let past = c.link_past-number.ensures in
     slots_more c.args.seat.now c.list_retired.new.self past.stay.0 (c.args.node.node ∷ []) (ap (λ (x : View). x.counts.waits) same ∙ second.waits.count ∙ first.waits.count ∙ past.waits.count)
     (ap (λ (x : View). x.wait) same ∙ second.waits.wait ∙ first.waits.wait ∙ past.waits.wait) (ap retired_marks same ∙ second.stay ∙ first.stay ∙ past.stay.1)
-    (c.list_retired.ensures.listed ∙ ap (λ xs. xs ++ c.args.node.node ∷ []) ((c.k14-2.ensures.seat).1 ∙ (c.k14.ensures.seat).1 ∙ (past.seat).1))
+    (c.list_retired.ensures.listed ∙ ap (λ xs. xs ++ c.args.node.node ∷ []) ((c.unlock-2.ensures.seat).1 ∙ (c.unlock.ensures.seat).1 ∙ (past.seat).1))

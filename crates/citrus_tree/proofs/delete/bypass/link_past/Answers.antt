@@ -1,4 +1,5 @@
 use Rattle.std.proofs.Common.{◌++◌, ap, ◌+◌, ◌<◌, ◌/◌, [], sym, subst, ◌∙◌}
+use Rattle.prcu_model.specs.declared.operation.Op.TheVariants.{Del}
 use Rattle.core_points.specs.declared.stage.Last.TheVariants as last
 use Rattle.core_points.specs.declared.stage.Stage.TheVariants as at
 use Rattle.core_points.specs.declared.stage.Update.TheVariants as update
@@ -7,23 +8,22 @@ use Rattle.tree_points.specs.At.{IsAt}
 use Rattle.tree_points.proofs.Updating.{needs_mark, needs_store_bypass, passes_store_bypass}
 use Rattle.citrus_tree.specs.Deletes.{HasDone}
 use Rattle.citrus_tree.proofs.DeleteBypass.{child_within, marked, opened_keeps, closed_keeps, half_two}
-use Rattle.citrus_tree.proofs.DeleteKeeps.{tells_as, keeps_on, keeps_k22}
+use Rattle.citrus_tree.proofs.DeleteKeeps.{tells_as, keeps_on, keeps_mark}
 use Rattle.citrus_tree.proofs.DeleteUpdates.{bypass_stay, bypass_done, bypass_locked, done_later, done_still}
 use Rattle.citrus_tree.proofs.delete.bypass.link_past.Goals as goal
 
 pub slot_of-child-requires : goal.slot_of-child-requires
 slot_of-child-requires g c =
-    record { inside = subst (λ x. x < c.args.table.now.slots + c.args.table.now.places + 1) (sym c.only_child.ensures) (child_within c.args.node (c.requires.at).2 (tells_as g.W.WaitWords.WAY c.requires.table c.rule_tells.ensures.tells)) }
+    record { inside = subst (λ x. x < c.args.table.now.slots + c.args.table.now.places + 1) (sym c.only_child.ensures) (child_within c.args.node (c.requires.at).1 (tells_as g.W.WaitWords.WAY c.requires.table c.rule_tells.ensures.tells)) }
 
-pub k22-requires-clause-needs : goal.k22-requires-clause-needs
-k22-requires-clause-needs g c = needs_mark (c.requires.at).2 (tells_as g.W.WaitWords.WAY c.requires.table c.rule_tells.ensures.tells)
+pub mark-requires-clause-asks : goal.mark-requires-clause-asks
+mark-requires-clause-asks g c = needs_mark (c.requires.at).1
 
-pub k21-requires-clause-needs : goal.k21-requires-clause-needs
-k21-requires-clause-needs g c =
+pub bypass-requires-clause-asks : goal.bypass-requires-clause-asks
+bypass-requires-clause-asks g c =
     let child_is = c.slot_of-child.ensures ∙ c.only_child.ensures in
     let u = update.Bypass c.args.node c.slot_of-child.result in
-    needs_store_bypass (c.open_front-front.ensures.at _ _ 0 u (marked c.args.node c.slot_of-child.result child_is (c.requires.at).2 c.k22.ensures.told))
-    (tells_as g.W.WaitWords.WAY ((c.open_front-front.ensures.seat).0 ∙ (c.k22.ensures.seat).0 ∙ c.requires.table) c.rule_tells-2.ensures.tells)
+    needs_store_bypass (c.open_front-front.ensures.at _ _ 0 u (marked c.args.node c.slot_of-child.result child_is (c.requires.at).1 c.mark.ensures.told))
 
 pub settle_side-requires-clause-at : goal.settle_side-requires-clause-at
 settle_side-requires-clause-at g c =
@@ -32,43 +32,43 @@ settle_side-requires-clause-at g c =
     let a = c.requires.at in (
       (c.open_front-front.result + 2) / 2,
       (
+        Del c.args.key,
         a.0,
-        a.1,
-        c.close_front-number.ensures.at a.0 a.1 u (passes_store_bypass (c.open_front-front.ensures.at a.0 a.1 0 u (marked c.args.node c.slot_of-child.result child_is a.2 c.k22.ensures.told)) c.k21.ensures.told),
+        c.close_front-number.ensures.at (Del c.args.key) a.0 u (passes_store_bypass (c.open_front-front.ensures.at (Del c.args.key) a.0 0 u (marked c.args.node c.slot_of-child.result child_is a.1 c.mark.ensures.told)) c.bypass.ensures.told),
       ),
     )
 
 pub returns-clause-at : goal.returns-clause-at
-returns-clause-at g c = λ op kept a.
+returns-clause-at g c = λ kept a.
     (let child_is = c.slot_of-child.ensures ∙ c.only_child.ensures in
     let u = update.Bypass c.args.node c.slot_of-child.result in
-    subst (λ n. IsAt (shape_of g.W.WaitWords.WAY c.args.table.now) op kept (at.Unlock (last.Gone n)) c.settle_side.new.seat.view) (sym c.close_front-number.ensures.number)
-    (c.settle_side.ensures.at ((c.open_front-front.result + 2) / 2) op kept
-    (c.close_front-number.ensures.at op kept u (passes_store_bypass (c.open_front-front.ensures.at op kept 0 u (marked c.args.node c.slot_of-child.result child_is a c.k22.ensures.told)) c.k21.ensures.told))))
+    subst (λ n. IsAt (shape_of g.W.WaitWords.WAY c.args.table.now) (Del c.args.key) kept (at.Unlock (last.Gone n)) c.settle_side.new.seat.view) (sym c.close_front-number.ensures.number)
+    (c.settle_side.ensures.at ((c.open_front-front.result + 2) / 2) (Del c.args.key) kept
+    (c.close_front-number.ensures.at (Del c.args.key) kept u (passes_store_bypass (c.open_front-front.ensures.at (Del c.args.key) kept 0 u (marked c.args.node c.slot_of-child.result child_is a c.mark.ensures.told)) c.bypass.ensures.told))))
 
 pub returns-clause-done : goal.returns-clause-done
-returns-clause-done g c = λ op kept a.
+returns-clause-done g c = λ kept a.
     (let k = (shape_of g.W.WaitWords.WAY c.args.table.now) in
     let child_is = c.slot_of-child.ensures ∙ c.only_child.ensures in
     let u = update.Bypass c.args.node c.slot_of-child.result in
-    let stored = c.open_front-front.ensures.at op kept 0 u (marked c.args.node c.slot_of-child.result child_is a c.k22.ensures.told) in
-    let made = bypass_done k op kept c.args.node c.slot_of-child.result c.open_front-front.result _ c.open_front-front.new.seat.view c.k21.new.seat.view stored c.k21.ensures.told in
-    let first = keeps_on _ _ _ (keeps_k22 k _ _ _ _ _ c.k22.ensures.told) (opened_keeps _ _ c.open_front-front.result c.open_front-front.ensures.opened) in
+    let stored = c.open_front-front.ensures.at (Del c.args.key) kept 0 u (marked c.args.node c.slot_of-child.result child_is a c.mark.ensures.told) in
+    let made = bypass_done k c.args.key kept c.args.node c.slot_of-child.result c.open_front-front.result _ c.open_front-front.new.seat.view c.bypass.new.seat.view stored c.bypass.ensures.told in
+    let first = keeps_on _ _ _ (keeps_mark k _ _ _ _ _ c.mark.ensures.told) (opened_keeps _ _ c.open_front-front.result c.open_front-front.ensures.opened) in
     let later = keeps_on _ _ _ (closed_keeps _ _ c.close_front-number.ensures.closed) c.settle_side.ensures.same in
-    subst (λ n. HasDone c.args.seat.now.view op [] n c.settle_side.new.seat.view) (half_two c.open_front-front.result ∙ sym c.close_front-number.ensures.number)
-    (done_still _ _ _ op [] _ (done_later _ _ _ op [] _ first made) later.gone))
+    subst (λ n. HasDone c.args.seat.now.view (Del c.args.key) [] n c.settle_side.new.seat.view) (half_two c.open_front-front.result ∙ sym c.close_front-number.ensures.number)
+    (done_still _ _ _ (Del c.args.key) [] _ (done_later _ _ _ (Del c.args.key) [] _ first made) later.gone))
 
 pub returns-clause-locked : goal.returns-clause-locked
 returns-clause-locked g c =
     let k = (shape_of g.W.WaitWords.WAY c.args.table.now) in
-    (c.settle_side.ensures.same).locked ∙ (closed_keeps c.k21.new.seat.view c.close_front-number.new.seat.view c.close_front-number.ensures.closed).locked ∙ bypass_locked k _ _ _ _ _ _ _ c.k21.ensures.told
-    ∙ (opened_keeps c.k22.new.seat.view c.open_front-front.new.seat.view c.open_front-front.result c.open_front-front.ensures.opened).locked ∙ (keeps_k22 k _ _ _ _ _ c.k22.ensures.told).locked
+    (c.settle_side.ensures.same).locked ∙ (closed_keeps c.bypass.new.seat.view c.close_front-number.new.seat.view c.close_front-number.ensures.closed).locked ∙ bypass_locked k _ _ _ _ _ _ _ _ c.bypass.ensures.told
+    ∙ (opened_keeps c.mark.new.seat.view c.open_front-front.new.seat.view c.open_front-front.result c.open_front-front.ensures.opened).locked ∙ (keeps_mark k _ _ _ _ _ c.mark.ensures.told).locked
 
 pub returns-clause-stay : goal.returns-clause-stay
 returns-clause-stay g c =
     let k = (shape_of g.W.WaitWords.WAY c.args.table.now) in
-    let b = bypass_stay k _ _ _ _ _ _ _ c.k21.ensures.told in (
+    let b = bypass_stay k _ _ _ _ _ _ _ _ c.bypass.ensures.told in (
       b.0,
-      (c.settle_side.ensures.same).stay ∙ (closed_keeps c.k21.new.seat.view c.close_front-number.new.seat.view c.close_front-number.ensures.closed).stay ∙ b.1
-          ∙ ap (λ xs. xs ++ b.0) ((opened_keeps c.k22.new.seat.view c.open_front-front.new.seat.view c.open_front-front.result c.open_front-front.ensures.opened).stay ∙ (keeps_k22 k _ _ _ _ _ c.k22.ensures.told).stay),
+      (c.settle_side.ensures.same).stay ∙ (closed_keeps c.bypass.new.seat.view c.close_front-number.new.seat.view c.close_front-number.ensures.closed).stay ∙ b.1
+          ∙ ap (λ xs. xs ++ b.0) ((opened_keeps c.mark.new.seat.view c.open_front-front.new.seat.view c.open_front-front.result c.open_front-front.ensures.opened).stay ∙ (keeps_mark k _ _ _ _ _ c.mark.ensures.told).stay),
     )

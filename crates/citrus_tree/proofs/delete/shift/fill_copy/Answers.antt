@@ -1,32 +1,32 @@
 use Rattle.citrus_tree.proofs.DeleteCopies.{loads_key, loads_value, copies_key, copies_value, copies_left, copies_right, loads_age, copied_at, copied_spare, copied_same}
 use Rattle.citrus_tree.proofs.delete.shift.fill_copy.Goals as goal
 
-pub k18-next_key-requires-clause-needs : goal.k18-next_key-requires-clause-needs
-k18-next_key-requires-clause-needs g c = loads_key c.args.copy c.requires.spare c.requires.at.2 c.rule_tells.ensures
+pub locked_load-next_key-requires-clause-asks : goal.locked_load-next_key-requires-clause-asks
+locked_load-next_key-requires-clause-asks g c = loads_key c.args.copy c.requires.spare c.requires.at.2
 
-pub k18-value-requires-clause-needs : goal.k18-value-requires-clause-needs
-k18-value-requires-clause-needs g c = loads_value c.args.copy c.requires.spare c.requires.at.2 c.rule_tells.ensures c.k18-next_key.ensures.told c.rule_tells-2.ensures
+pub locked_load-value-requires-clause-asks : goal.locked_load-value-requires-clause-asks
+locked_load-value-requires-clause-asks g c = loads_value c.args.copy c.requires.spare c.requires.at.2 c.locked_load-next_key.ensures.told
 
-pub k12-requires-clause-needs : goal.k12-requires-clause-needs
-k12-requires-clause-needs g c = copies_key c.args.copy c.requires.spare c.requires.at.2 c.rule_tells.ensures c.k18-next_key.ensures.told c.rule_tells-2.ensures c.k18-value.ensures.told c.rule_tells-3.ensures
+pub fill-requires-clause-asks : goal.fill-requires-clause-asks
+fill-requires-clause-asks g c = copies_key c.args.copy c.requires.spare c.requires.at.2 c.locked_load-next_key.ensures.told c.locked_load-value.ensures.told
 
-pub k12-requires-2-clause-needs : goal.k12-requires-2-clause-needs
-k12-requires-2-clause-needs g c = copies_value c.args.copy c.requires.spare c.requires.at.2 c.rule_tells.ensures c.k18-next_key.ensures.told c.rule_tells-2.ensures c.k18-value.ensures.told c.rule_tells-3.ensures c.k12.ensures.told c.rule_tells-4.ensures
+pub fill-requires-2-clause-asks : goal.fill-requires-2-clause-asks
+fill-requires-2-clause-asks g c = copies_value c.args.copy c.requires.spare c.requires.at.2 c.locked_load-next_key.ensures.told c.locked_load-value.ensures.told c.fill.ensures.told
 
-pub k12-requires-3-clause-needs : goal.k12-requires-3-clause-needs
-k12-requires-3-clause-needs g c = copies_left c.args.copy c.requires.spare c.requires.at.2 c.rule_tells.ensures c.k18-next_key.ensures.told c.rule_tells-2.ensures c.k18-value.ensures.told c.rule_tells-3.ensures c.k12.ensures.told c.rule_tells-4.ensures c.k12-2.ensures.told c.rule_tells-5.ensures
+pub fill-requires-3-clause-asks : goal.fill-requires-3-clause-asks
+fill-requires-3-clause-asks g c = copies_left c.args.copy c.requires.spare c.requires.at.2 c.locked_load-next_key.ensures.told c.locked_load-value.ensures.told c.fill.ensures.told c.fill-2.ensures.told
 
-pub k12-requires-4-clause-needs : goal.k12-requires-4-clause-needs
-k12-requires-4-clause-needs g c = copies_right c.args.copy c.requires.spare c.requires.at.2 c.rule_tells.ensures c.k18-next_key.ensures.told c.rule_tells-2.ensures c.k18-value.ensures.told c.rule_tells-3.ensures c.k12.ensures.told c.rule_tells-4.ensures c.k12-2.ensures.told c.rule_tells-5.ensures c.k12-3.ensures.told c.rule_tells-6.ensures
+pub fill-requires-4-clause-asks : goal.fill-requires-4-clause-asks
+fill-requires-4-clause-asks g c = copies_right c.args.copy c.requires.spare c.requires.at.2 c.locked_load-next_key.ensures.told c.locked_load-value.ensures.told c.fill.ensures.told c.fill-2.ensures.told c.fill-3.ensures.told
 
-pub k9-requires-clause-needs : goal.k9-requires-clause-needs
-k9-requires-clause-needs g c = loads_age c.args.copy c.requires.spare c.requires.at.2 c.rule_tells.ensures c.k18-next_key.ensures.told c.rule_tells-2.ensures c.k18-value.ensures.told c.rule_tells-3.ensures c.k12.ensures.told c.rule_tells-4.ensures c.k12-2.ensures.told c.rule_tells-5.ensures c.k12-3.ensures.told c.rule_tells-6.ensures c.k12-4.ensures.told c.rule_tells-7.ensures
+pub load_own_life-requires-clause-asks : goal.load_own_life-requires-clause-asks
+load_own_life-requires-clause-asks g c = loads_age c.args.copy c.requires.spare c.requires.at.2 c.locked_load-next_key.ensures.told c.locked_load-value.ensures.told c.fill.ensures.told c.fill-2.ensures.told c.fill-3.ensures.told c.fill-4.ensures.told
 
 pub returns-clause-at : goal.returns-clause-at
-returns-clause-at g c op kept a = copied_at c.args.copy c.requires.spare a c.rule_tells.ensures c.k18-next_key.ensures.told c.rule_tells-2.ensures c.k18-value.ensures.told c.rule_tells-3.ensures c.k12.ensures.told c.rule_tells-4.ensures c.k12-2.ensures.told c.rule_tells-5.ensures c.k12-3.ensures.told c.rule_tells-6.ensures c.k12-4.ensures.told c.rule_tells-7.ensures c.k9.ensures.told
+returns-clause-at g c op kept a = copied_at c.args.copy c.requires.spare a c.locked_load-next_key.ensures.told c.locked_load-value.ensures.told c.fill.ensures.told c.fill-2.ensures.told c.fill-3.ensures.told c.fill-4.ensures.told c.load_own_life.ensures.told
 
 pub returns-clause-spare : goal.returns-clause-spare
-returns-clause-spare g c = copied_spare c.args.copy c.requires.spare c.requires.at.2 c.rule_tells.ensures c.k18-next_key.ensures.told c.rule_tells-2.ensures c.k18-value.ensures.told c.rule_tells-3.ensures c.k12.ensures.told c.rule_tells-4.ensures c.k12-2.ensures.told c.rule_tells-5.ensures c.k12-3.ensures.told c.rule_tells-6.ensures c.k12-4.ensures.told c.rule_tells-7.ensures c.k9.ensures.told
+returns-clause-spare g c = copied_spare c.args.copy c.requires.spare c.requires.at.2 c.locked_load-next_key.ensures.told c.locked_load-value.ensures.told c.fill.ensures.told c.fill-2.ensures.told c.fill-3.ensures.told c.fill-4.ensures.told c.load_own_life.ensures.told
 
 pub returns-clause-same : goal.returns-clause-same
-returns-clause-same g c = copied_same c.args.copy c.requires.spare c.requires.at.2 c.rule_tells.ensures c.k18-next_key.ensures.told c.rule_tells-2.ensures c.k18-value.ensures.told c.rule_tells-3.ensures c.k12.ensures.told c.rule_tells-4.ensures c.k12-2.ensures.told c.rule_tells-5.ensures c.k12-3.ensures.told c.rule_tells-6.ensures c.k12-4.ensures.told c.rule_tells-7.ensures c.k9.ensures.told
+returns-clause-same g c = copied_same c.args.copy c.requires.spare c.requires.at.2 c.locked_load-next_key.ensures.told c.locked_load-value.ensures.told c.fill.ensures.told c.fill-2.ensures.told c.fill-3.ensures.told c.fill-4.ensures.told c.load_own_life.ensures.told

@@ -2,7 +2,7 @@ use Rattle.std.proofs.Common.{refl}
 use Rattle.seat_table.specs.Seats.{shape_of}
 use Rattle.tree_points.proofs.Deleting.{needs_successor_parent_life}
 use Rattle.citrus_tree.proofs.DeleteFinds.{at_node, at_other, above_loaded}
-use Rattle.citrus_tree.proofs.DeleteKeeps.{tells_as, keeps, keeps_k17}
+use Rattle.citrus_tree.proofs.DeleteKeeps.{keeps, keeps_search_load}
 use Rattle.citrus_tree.proofs.delete.target.load_above.Goals as goal
 
 pub returns-then-parent-node-clause-at : goal.returns-then-parent-node-clause-at
@@ -11,11 +11,11 @@ returns-then-parent-node-clause-at g c = λ op kept a. at_node c.args.node c.arg
 pub returns-then-parent-node-clause-same : goal.returns-then-parent-node-clause-same
 returns-then-parent-node-clause-same g c = keeps c.args.seat.now.view c.args.seat.now.view refl refl refl refl refl refl
 
-pub k17-requires-clause-needs : goal.k17-requires-clause-needs
-k17-requires-clause-needs g c = needs_successor_parent_life (at_other c.args.node c.args.parent c.args.slot c.if-parent-node.false (c.requires.at).2) (tells_as g.W.WaitWords.WAY c.requires.table c.rule_tells.ensures.tells)
+pub search_load-requires-clause-asks : goal.search_load-requires-clause-asks
+search_load-requires-clause-asks g c = needs_successor_parent_life (at_other c.args.node c.args.parent c.args.slot c.if-parent-node.false (c.requires.at).2)
 
 pub returns-clause-at : goal.returns-clause-at
-returns-clause-at g c = λ op kept a. above_loaded c.args.node c.args.parent c.args.slot c.generation_of.result c.generation_of.ensures (at_other c.args.node c.args.parent c.args.slot c.if-parent-node.false a) c.k17.ensures.told
+returns-clause-at g c = λ op kept a. above_loaded c.args.node c.args.parent c.args.slot c.generation_of.result c.generation_of.ensures (at_other c.args.node c.args.parent c.args.slot c.if-parent-node.false a) c.search_load.ensures.told
 
 pub returns-clause-same : goal.returns-clause-same
-returns-clause-same g c = keeps_k17 (shape_of g.W.WaitWords.WAY c.args.table.now) _ _ _ _ _ c.k17.ensures.told
+returns-clause-same g c = keeps_search_load (shape_of g.W.WaitWords.WAY c.args.table.now) _ _ _ _ _ c.search_load.ensures.told

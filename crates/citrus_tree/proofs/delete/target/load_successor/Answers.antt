@@ -1,17 +1,16 @@
-use Rattle.std.proofs.Common.{◌∙◌}
 use Rattle.seat_table.specs.Seats.{shape_of}
 use Rattle.tree_points.proofs.Deleting.{needs_successor_life}
 use Rattle.citrus_tree.proofs.DeleteFinds.{successor_loaded}
-use Rattle.citrus_tree.proofs.DeleteKeeps.{tells_as, keeps_on, keeps_k17}
+use Rattle.citrus_tree.proofs.DeleteKeeps.{keeps_on, keeps_search_load}
 use Rattle.citrus_tree.proofs.delete.target.load_successor.Goals as goal
 
-pub k17-life-requires-clause-needs : goal.k17-life-requires-clause-needs
-k17-life-requires-clause-needs g c =
-    needs_successor_life (c.load_above-parent_generation.ensures.at _ _ (c.requires.at).2) (tells_as g.W.WaitWords.WAY ((c.load_above-parent_generation.ensures.seat).0 ∙ c.requires.table) c.rule_tells.ensures.tells)
+pub search_load-life-requires-clause-asks : goal.search_load-life-requires-clause-asks
+search_load-life-requires-clause-asks g c =
+    needs_successor_life (c.load_above-parent_generation.ensures.at _ _ (c.requires.at).2)
 
 pub returns-clause-at : goal.returns-clause-at
 returns-clause-at g c = λ op kept a.
-    successor_loaded c.args.node c.args.parent c.args.slot c.load_above-parent_generation.result c.generation_of.result c.generation_of.ensures (c.load_above-parent_generation.ensures.at op kept a) c.k17-life.ensures.told
+    successor_loaded c.args.node c.args.parent c.args.slot c.load_above-parent_generation.result c.generation_of.result c.generation_of.ensures (c.load_above-parent_generation.ensures.at op kept a) c.search_load-life.ensures.told
 
 pub returns-clause-same : goal.returns-clause-same
-returns-clause-same g c = keeps_on _ _ _ c.load_above-parent_generation.ensures.same (keeps_k17 (shape_of g.W.WaitWords.WAY c.args.table.now) _ _ _ _ _ c.k17-life.ensures.told)
+returns-clause-same g c = keeps_on _ _ _ c.load_above-parent_generation.ensures.same (keeps_search_load (shape_of g.W.WaitWords.WAY c.args.table.now) _ _ _ _ _ c.search_load-life.ensures.told)

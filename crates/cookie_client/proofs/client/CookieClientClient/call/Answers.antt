@@ -2,6 +2,7 @@ use Rattle.std.proofs.Common.{refl, sym, subst}
 use Rattle.core_state.specs.declared.shape.Shape.{Shape}
 use Rattle.seat_table.specs.Seats.{shape_of}
 use Rattle.cookie_client.specs.Settling.{IsGood, Settles}
+use Rattle.cookie_client.specs.Rooms.{MakesRoom}
 use Rattle.cookie_client.specs.Clients.{CookieClientAt, HasCalled}
 use Rattle.cookie_client.proofs.Calls.{call_keeps, good_stays, made_call}
 use Rattle.cookie_client.proofs.client.CookieClientClient.call.Goals as goal
@@ -10,22 +11,26 @@ pub settle-self-inside-requires-clause-good : goal.settle-self-inside-requires-c
 settle-self-inside-requires-clause-good g c =
     let k : Shape = shape_of g.W.WaitWords.WAY c.self.inside.table.now in
     let e = c.call-told.ensures in
-    let value = c.take.ensures.value in
-    subst (IsGood k c.call-told.new.seat) (sym value) (good_stays k c.self.inside.cookie c.self.inside.seat c.call-told.new.seat (call_keeps k c.args.op c.call-told.result c.self.inside.seat c.call-told.new.seat e.told e.slots) c.self.invariant.2)
+    let room = c.make_room-self-inside in
+    let value = c.take-2.ensures.value in
+    subst (IsGood k c.call-told.new.seat) (sym value) (good_stays k room.result room.new.seat c.call-told.new.seat (call_keeps k c.args.op c.call-told.result room.new.seat c.call-told.new.seat e.told e.slots) room.ensures.good)
 
 pub returns-clause-made : goal.returns-clause-made
 returns-clause-made g c =
     let k : Shape = shape_of g.W.WaitWords.WAY c.self.inside.table.now in
     let cookie = c.self.inside.cookie in
     let s = c.self.inside.seat in
+    let room = c.make_room-self-inside in
+    let ready = room.new.seat in
     let mid = c.call-told.new.seat in
     let t = c.settle-self-inside.new.seat in
     let e = c.call-told.ensures in
     let after = c.settle-self-inside.ensures in
-    let good = good_stays k cookie s mid (call_keeps k c.args.op c.call-told.result s mid e.told e.slots) c.self.invariant.2 in
-    let settles = subst (λ held. Settles k held mid c.settle-self-inside.result t) c.take.ensures.value after.settles in
+    let made = subst (λ held. MakesRoom k c.args.op held s room.result ready) c.take.ensures.value room.ensures.room in
+    let good = good_stays k room.result ready mid (call_keeps k c.args.op c.call-told.result ready mid e.told e.slots) room.ensures.good in
+    let settles = subst (λ held. Settles k held mid c.settle-self-inside.result t) c.take-2.ensures.value after.settles in
     let now : CookieClientAt = record { tree = record { shape = k; table = c.self.inside.table.now; seat = t }; cookie = c.settle-self-inside.result } in
     subst (λ z. HasCalled z c.args.op c.call-told.result now) c.self.view_is
-    (made_call k c.self.inside.table.now cookie c.settle-self-inside.result s mid t c.args.op c.call-told.result
+    (made_call k c.self.inside.table.now cookie room.result c.settle-self-inside.result s ready mid t c.args.op c.call-told.result c.self.invariant.2 made
     (record { shape = refl; table = refl; answer = e.told; wait = e.wait; tickets = e.tickets; quiet = e.quiet; informed = e.informed })
     good settles after.quiet after.sound)

@@ -5,7 +5,7 @@ use Rattle.eer_wait.specs.declared.eer.Eer.{Eer}
 use Rattle.eer_wait.proofs.eer.EerWaitPart.begin.Goals as goal
 
 pub returns-clause-begun : goal.returns-clause-begun
-returns-clause-begun c = begun (shape_of 0 c.args.table.now) _ _ _ _ _ c.k7-clock.ensures.told
+returns-clause-begun c = begun (shape_of 0 c.args.table.now) _ _ _ _ _ c.begin_wait-clock.ensures.told
 
 pub returns-clause-latest : goal.returns-clause-latest
-returns-clause-latest c = latest {W = Eer} (shape_of 0 c.args.table.now) _ _ c.args.keys c.k7-clock.result _ c.new.ensures.keys c.new.ensures.clock c.new.ensures.start c.k7-clock.ensures.told
+returns-clause-latest c = latest {W = Eer} (shape_of 0 c.args.table.now) _ _ c.args.keys c.begin_wait-clock.result _ c.new.ensures.keys c.new.ensures.clock c.new.ensures.start c.begin_wait-clock.ensures.told

@@ -17,10 +17,6 @@ same_section : (v w : View) (poll : Poll) → Polls v poll w → w.section ≡ v
 same_section v w Over p = ap (λ (z : View). z.section) p.rest
 same_section v w (NotYet why) p = ap (λ (z : View). z.section) (waited v w why p).view
 
-same_tickets : (v w : View) (poll : Poll) → Polls v poll w → w.tickets ≡ v.tickets
-same_tickets v w Over p = ap (λ (z : View). z.tickets) p.rest
-same_tickets v w (NotYet why) p = ap (λ (z : View). z.tickets) (waited v w why p).view
-
 finished : (v w : View) (poll : Poll) → MayPoll v → Polls v poll w → HasFinished w
 finished v w Over may p =
     let same : may.hold ≡ p.hold = (let z : Some may.hold ≡ Some p.hold = sym may.finished.0 ∙ p.is in cc) in
@@ -34,9 +30,6 @@ again v w (NotYet why) may p ne = may_poll_still v w may (waited v w why p)
 
 pub returns-clause-section : goal.returns-clause-section
 returns-clause-section c = same_section c.args.seat.now.view c.poll_class.new.seat.view c.poll_class.result c.poll_class.ensures.view
-
-pub returns-clause-tickets : goal.returns-clause-tickets
-returns-clause-tickets c = same_tickets c.args.seat.now.view c.poll_class.new.seat.view c.poll_class.result c.poll_class.ensures.view
 
 pub returns-clause-finished : goal.returns-clause-finished
 returns-clause-finished c = finished c.args.seat.now.view c.poll_class.new.seat.view c.poll_class.result c.requires.lists c.poll_class.ensures.view

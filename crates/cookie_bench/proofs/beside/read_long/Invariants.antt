@@ -1,6 +1,0 @@
-use Rattle.std.proofs.Common.{◌≡◌, [], None}
-use Rattle.cookie_bench.proofs.beside.read_long.Given as goal
-
--- the seat is of this table, in no section, and without locks
-abbrev pub invariant-loop : goal.invariant-loop
-invariant-loop g l = (l.seat.table ≡ l.table) × (l.seat.view.section ≡ None) × (l.seat.view.locks ≡ [])

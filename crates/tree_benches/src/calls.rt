@@ -1,0 +1,8 @@
+//! Operations on the tree, for each waiter in one, two and four threads, and on an ordered map under one lock.
+
+mod locked;
+mod measuring;
+mod mix;
+mod work;
+
+pub use measuring::{MOST_ROUNDS, measure_all};

@@ -1,0 +1,124 @@
+//! Which rows are measured, and what is written of them.
+ghost use Rattle.std.specs.Prelude.{◌≡◌, ◌≤◌};
+
+use crate::cookies::beside::{fill, write_beside};
+use crate::cookies::rows::{Deletes, Holds, Rest, Row, Work};
+use crate::cookies::tally::Tally;
+use crate::words::{Ask, tenths_of};
+use d_wait::Domain;
+use deer_wait::Deer;
+use eer_wait::Eer;
+use seat_table::{CitrusTable, WaitPart};
+use std::alloc::Global;
+use std::io;
+use std::rt::Runtime;
+use std::sync::Wait;
+use std::thread::Threads;
+
+/// So many rounds at most.
+pub const MOST_ROUNDS: u32 = 1_000_000;
+
+// How many keys the tree has before the writer begins.
+const KEYS: u32 = 1000;
+
+// What is deleted, and how long a section lasts.
+const KINDS: [(Deletes, u64); 4] = [
+    (Deletes::Leaves, 1),
+    (Deletes::Leaves, 10),
+    (Deletes::Leaves, 100),
+    (Deletes::Middles, 10),
+];
+
+/// Measures each row for each waiter, and writes a line for each.
+pub fn measure_all<R: Threads + Wait + Sync + Runtime>(
+    rt: &R,
+    alloc: Global,
+    ask: &Ask,
+) -> io::Result<()> {
+    measure_rows::<R, Eer>(rt, alloc, "first", ask)?;
+    measure_rows::<R, Domain>(rt, alloc, "second", ask)?;
+    measure_rows::<R, Deer>(rt, alloc, "third", ask)
+}
+
+// Measures each row for one waiter.
+fn measure_rows<R: Threads + Wait + Sync + Runtime, W: WaitPart + Sync>(
+    rt: &R,
+    alloc: Global,
+    waiter: &str,
+    ask: &Ask,
+) -> io::Result<()>
+    requires way { W.WAY ≤ 2 }
+{
+    for (deletes, section) in KINDS {
+        for rest in Rest::ALL {
+            for holds in Holds::ALL {
+                let row = Row {
+                    deletes,
+                    section,
+                    rest,
+                    holds,
+                };
+                let tally = measure::<R, W>(rt, alloc, row, ask)?;
+                write_line(rt, waiter, row, tally, ask)?;
+            }
+        }
+    }
+    Ok(())
+}
+
+// What the two threads do in a row. Where no times are asked for a section is short.
+fn work_of(row: Row, ask: &Ask) -> Work {
+    let unit = if ask.timed { 1_000_000 } else { 1000 };
+    let section = row.section.saturating_mul(unit);
+    Work {
+        deletes: row.deletes,
+        section,
+        rest: row.rest.nanos_of(section),
+        holds: row.holds,
+        rounds: ask.rounds,
+    }
+}
+
+// Measures one row, on a tree with some more slots than keys.
+fn measure<R: Threads + Wait + Sync + Runtime, W: WaitPart + Sync>(
+    rt: &R,
+    alloc: Global,
+    row: Row,
+    ask: &Ask,
+) -> io::Result<Tally>
+    requires way { W.WAY ≤ 2 }
+{
+    let work = work_of(row, ask);
+    let Ok((table, seat)) = CitrusTable::<W>::new(alloc, KEYS + 64, 2, 1 << 36) else {
+        return Err(io::Error::from(io::ErrorKind::OutOfMemory));
+    };
+    let (writer, reader) = seat.split(&table, 1, 0);
+    let writer = fill(rt, &table, writer, KEYS);
+    write_beside(rt, &table, writer, reader, work)
+}
+
+// A line: the row, and where they are asked for, how many calls the writer made, and what they took.
+fn write_line<R: Runtime>(
+    rt: &R,
+    waiter: &str,
+    row: Row,
+    tally: Tally,
+    ask: &Ask,
+) -> io::Result<()> {
+    let section = row.section;
+    let deletes = row.deletes.name();
+    let rest = row.rest.name();
+    let holds = row.holds.name();
+    if !ask.timed {
+        return println!(rt;
+            "{waiter} waiter, sections of {section}, {deletes}, {rest}, {holds}: {} sections",
+            ask.rounds
+        );
+    }
+    let (longest, _) = tenths_of(tally.longest, 1000);
+    let (mean, tenth) = tenths_of(tally.nanos / 1000, tally.calls);
+    println!(rt;
+        "{waiter} waiter, sections of {section} ms, {deletes}, {rest}, {holds}: {} calls, {longest} us at most, {mean}.{tenth} us in the mean, {} of more than a tenth of a section, numbers {}",
+        tally.calls, tally.long, tally.numbers
+    )
+}

@@ -1,0 +1,49 @@
+//! The words of the program, and what is written of times.
+
+/// What is measured.
+#[derive(Clone, Copy, Debug, PartialEq, Eq)]
+pub enum Bench {
+    Waits,
+    Lists,
+    Calls,
+    Cookies,
+}
+
+impl Bench {
+    /// The bench of this name.
+    pub fn named(name: &str) -> Option<Bench> {
+        match name {
+            "waits" => Some(Bench::Waits),
+            "lists" => Some(Bench::Lists),
+            "calls" => Some(Bench::Calls),
+            "cookies" => Some(Bench::Cookies),
+            _ => None,
+        }
+    }
+}
+
+/// What the words ask of a bench.
+#[derive(Clone, Copy, Debug, PartialEq, Eq)]
+pub struct Ask {
+    /// How often each thread does its work.
+    pub rounds: u32,
+    /// Whether times are written too.
+    pub timed: bool,
+}
+
+/// The number of rounds that a word is, from 1 to the most.
+pub fn rounds_of(word: &str, most: u32) -> Option<u32> {
+    let Ok(rounds) = word.parse::<u32>() else {
+        return None;
+    };
+    if rounds == 0 || rounds > most {
+        return None;
+    }
+    Some(rounds)
+}
+
+/// How long one of so many took, at least one: whole nanoseconds, and tenths beside them.
+pub fn tenths_of(nanos: u128, count: u64) -> (u128, u128) {
+    let tenths = nanos.saturating_mul(10) / u128::from(count.max(1));
+    (tenths / 10, tenths % 10)
+}

@@ -1,6 +1,0 @@
-use Rattle.std.proofs.Common.{◌≡◌, [], None}
-use Rattle.waits_bench.proofs.work.read.Given as goal
-
--- the seat is of this table, in no section, and without locks
-abbrev pub invariant-loop-key : goal.invariant-loop-key
-invariant-loop-key g l = (l.seat.table ≡ l.table) × (l.seat.view.section ≡ None) × (l.seat.view.locks ≡ [])

@@ -1,6 +1,0 @@
-use Rattle.std.proofs.Common.{◌≡◌, None}
-use Rattle.waits_bench.proofs.work.wait.Given as goal
-
--- the seat is of this table, and in no section
-abbrev pub invariant-loop : goal.invariant-loop
-invariant-loop g l = (l.seat.table ≡ l.table) × (l.seat.view.section ≡ None)

@@ -1,4 +1,0 @@
-//! What no clause says: that lists are made beside scripts, and the texts of some inputs.
-
-mod commands;
-mod lists;
