@@ -1,5 +1,5 @@
--- Acts: steps whose needs are tested by computing. An act is a choice with its test, and with why the test is enough. So a stretch of
--- acts that are ready, one after another, is allowed.
+-- Acts whose needs are tested by computing. A step is an act with the tests of its needs, and with why they are enough. So a stretch of steps
+-- that are ready, one after another, is a run.
 use Rattle.std.proofs.lemmas.Bool.{and_parts, eqb-true, ltb-true, leb-true}
 use Rattle.std.proofs.Common.{◌≡◌, ℕ, ◌%◌, ◌^◌, ◌==◌, ◌&&◌, nat_lt, nat_le, not, Bool, true, List, [], ◌∷◌, length, refl, sym, ap, subst, inl, inr, arith}
 use mathlib.Core.Option.{some}
@@ -8,271 +8,303 @@ use Rattle.prcu_marks.specs.declared.mark.Side.TheVariants.{Left, Right}
 use Rattle.core_state.specs.declared.shape.Shape.{Shape}
 use Rattle.core_state.specs.declared.shape.Waiter.TheVariants.{Eer, Domain, Deer}
 use Rattle.core_state.specs.declared.words.Field.{Field}
-use Rattle.core_state.specs.declared.words.Field.TheVariants.{Announced, Stamp, Key, Value, Link, Tag}
+use Rattle.core_state.specs.declared.words.Field.TheVariants.{Announced, Stamp, Tag}
 use Rattle.core_state.specs.views.Known.{known_in, lock_of, is_emptied}
-use Rattle.core_state.specs.steps.Steps.{step3, step4, step5, step6, step7, step9_held, step10, step11, step12_content, step13, step14, step17, step17_list, step37, step8_key, step8_stamp, step18, step19, step23, step24}
 use Rattle.list_laws.specs.Counts.{IsIn}
-use Rattle.core_state.specs.declared.words.Kind.TheVariants.{K8}
 use Rattle.core_state.specs.declared.view.Waiting.{Waiting}
-use Rattle.core_state.specs.steps.Waits.{IsSpot, NeedsLook, spot_seen}
+use Rattle.core_state.specs.steps.Waits.{IsSpot, spot_seen}
+use Rattle.core_state.specs.declared.view.View.{View}
+use Rattle.core_state.specs.memory.Memory.{is_field}
+use Rattle.core_acts.specs.declared.act.Part.{Part}
+use Rattle.core_acts.specs.declared.act.Part.TheVariants as part
+use Rattle.core_acts.specs.declared.act.Act.{Act}
+use Rattle.core_acts.specs.declared.act.Act.TheVariants.{LoadClock, AnnounceKey, EnterByStamp, LeaveByStamp, BeginWait, LookKey, LookStamp, LoadOwnLife, Reserve, Seize, Fill, Lock, Unlock, SearchLoad, ListLoad, LockedLoad, OpenCommit, RaiseTag, CloseCommit, LookAtFront}
+use Rattle.core_acts.specs.Acts.{field_of, Asks, MayLook, Needs, section_of, listing_of, wait_of}
 use Rattle.core_examples.proofs.Spots.{all_spots}
-use Rattle.core_examples.proofs.Chosen.{listing_now, wait_now, clock_now, section_now, lock_now}
-use Rattle.core_examples.proofs.Tests.{all_of, passed, test_at, is_some, some_is, none_is, false_is, not_same, is_empty, empty_is, is_number, number_is, has, has_in, slot_in, slot_of, loadable, is_holder, holder_is, is_no_end, no_end_is, is_closing, closing_is, is_content, content_is}
-use Rattle.core_examples.proofs.Choices.{looks_front, lists, looks_by, State, Choice, Allowed, AllAllowed, after, reached, over, ◌⟫◌, clocks, announces, enters, leaves, loads, reserves, seizes, loads_life, fills, locks, unlocks, loads_locked, opens_commit, closes_commit, raises_tag, begins}
+use Rattle.core_examples.proofs.Chosen.{clock_now, lock_now}
+use Rattle.core_examples.proofs.Tests.{all_of, passed, test_at, is_some, some_is, none_is, false_is, not_same, is_empty, empty_is, is_number, number_is, has, has_in, is_word, loadable, is_holder, holder_is, is_no_end, no_end_is, is_closing, closing_is, is_content, content_is}
+use Rattle.core_examples.proofs.States.{State, AllAsked, after, reached, over, ◌⟫◌}
 
 -- a table with five slots, one place and the first waiter
 abbrev pub small : Shape
 small = record { waiter = Eer; slots = 5; places = 1; tickets = 100 }
 
--- a step: what it does with the state that it finds, the tests of its needs, and that it is allowed where they are all true
-pub record Act : Type 0 where
-  pub choice : Choice
-  pub tests : State → List Bool
-  pub allowed : (s : State) → ((i : ℕ) → test_at (tests s) i ≡ true) → Allowed small s (choice small s)
+-- an act, the tests of its needs, and that they are met where all tests are true
+pub record Step : Type 0 where
+  pub act : Act
+  pub tests : View → List Bool
+  pub met : (v : View) → ((i : ℕ) → test_at (tests v) i ≡ true) → Needs small v act
 
-abbrev pub choices : List Act → List Choice
-choices [] = []
-choices (act ∷ acts) = act.choice ∷ choices acts
+abbrev pub acts_of : List Step → List Act
+acts_of [] = []
+acts_of (step ∷ steps) = step.act ∷ acts_of steps
 
--- each act's tests are true in the state that the acts before it leave
-abbrev pub are_ready : State → List Act → Bool
+-- each act's word is one of the table's, and its tests are true in the state that the acts before it leave
+abbrev pub is_ready : View → Step → Bool
+is_ready v step = is_field small (field_of v.allowance.place step.act) && all_of (step.tests v)
+
+abbrev pub are_ready : State → List Step → Bool
 are_ready s [] = true
-are_ready s (act ∷ acts) = all_of (act.tests s) && are_ready (after small s (act.choice small s)) acts
+are_ready s (step ∷ steps) = is_ready s.view step && are_ready (after small s step.act) steps
 
-pub ready_allowed : (s : State) (acts : List Act) → are_ready s acts ≡ true → AllAllowed small s (choices acts)
-ready_allowed s [] ready = over
-ready_allowed s (act ∷ acts) ready =
-    let parts = and_parts (all_of (act.tests s)) (are_ready (after small s (act.choice small s)) acts) ready in
-    act.allowed s (passed (act.tests s) parts.0) ⟫ ready_allowed (after small s (act.choice small s)) acts parts.1
+asked : (v : View) (step : Step) → is_ready v step ≡ true → Asks small v step.act
+asked v step ready =
+    let parts = and_parts (is_field small (field_of v.allowance.place step.act)) (all_of (step.tests v)) ready in
+    (is_word small (field_of v.allowance.place step.act) parts.0, step.met v (passed (step.tests v) parts.1))
 
--- a run from a state: acts, one after another, of which each is allowed; where it ends, the next may begin
+pub ready_asked : (s : State) (steps : List Step) → are_ready s steps ≡ true → AllAsked small s (acts_of steps)
+ready_asked s [] ready = over
+ready_asked s (step ∷ steps) ready =
+    let parts = and_parts (is_ready s.view step) (are_ready (after small s step.act) steps) ready in
+    asked s.view step parts.0 ⟫ ready_asked (after small s step.act) steps parts.1
+
+-- a run from a state: acts, one after another, of which each is met; where it ends, the next may begin
 pub record Run (s : State) : Type 0 where
   pub acts : List Act
-  pub allowed : AllAllowed small s (choices acts)
+  pub asked : AllAsked small s acts
 
--- acts are a run where they are ready, which is shown by computing
-abbrev pub run : {s : State} (acts : List Act) → are_ready s acts ≡ true → Run s
-run {s} acts ready = record { acts = acts; allowed = ready_allowed s acts ready }
+-- steps are a run where they are ready, which is shown by computing
+abbrev pub run : {s : State} (steps : List Step) → are_ready s steps ≡ true → Run s
+run {s} steps ready = record { acts = acts_of steps; asked = ready_asked s steps ready }
 
 abbrev pub end_of : {s : State} → Run s → State
-end_of {s} r = reached small s (choices r.acts)
+end_of {s} r = reached small s r.acts
 
 -- a section
-abbrev pub read_clock : Act
+abbrev pub read_clock : Step
 read_clock = record {
-  choice = clocks;
-  tests = λ s. [];
-  allowed = λ s t. step3;
+  act = LoadClock;
+  tests = λ v. [];
+  met = λ v t. tt;
 }
 
-abbrev pub announce : ℕ → Act
+abbrev pub announce : ℕ → Step
 announce key = record {
-  choice = announces key;
-  tests = λ s. not (is_some s.view.section) ∷ [];
-  allowed = λ s t. step4 refl (none_is s.view.section (t 0));
+  act = AnnounceKey key;
+  tests = λ v. not (is_some v.section) ∷ [];
+  met = λ v t. none_is v.section (t 0);
 }
 
-abbrev pub enter : ℕ → Act
-enter key = record {
-  choice = enters key;
-  tests = λ s.
-      not (is_some s.view.section) ∷
-      is_empty s.view.locks ∷
+abbrev pub enter : ℕ → ℕ → Step
+enter key stamp = record {
+  act = EnterByStamp key stamp;
+  tests = λ v.
+      not (is_some v.section) ∷
+      is_empty v.locks ∷
       nat_lt key (2 ^ 64) ∷
-      is_some s.view.enter.clock ∷
-      is_number s.view.enter.announced key ∷
+      is_some v.enter.clock ∷
+      is_number v.enter.announced key ∷
+      (stamp == (clock_now v).number) ∷
       [];
-  allowed = λ s t. step5 (clock_now s.view) refl (record {
-    entry = record { outside = none_is s.view.section (t 0); free = empty_is s.view.locks (t 1); key_fits = ltb-true key (2 ^ 64) (t 2) };
-    clock = some_is _ s.view.enter.clock (t 3);
-    stamp_is = refl;
-    announced = number_is s.view.enter.announced key (t 4);
-  });
+  met = λ v t. (
+    clock_now v,
+    record {
+      entry = record { outside = none_is v.section (t 0); free = empty_is v.locks (t 1); key_fits = ltb-true key (2 ^ 64) (t 2) };
+      clock = some_is _ v.enter.clock (t 3);
+      stamp_is = eqb-true stamp (clock_now v).number (t 5);
+      announced = number_is v.enter.announced key (t 4);
+    },
+  );
 }
 
-abbrev pub leave : Act
+abbrev pub leave : Step
 leave = record {
-  choice = leaves;
-  tests = λ s. is_some s.view.section ∷ [];
-  allowed = λ s t. step6 refl (some_is _ s.view.section (t 0));
+  act = LeaveByStamp;
+  tests = λ v. is_some v.section ∷ [];
+  met = λ v t. (section_of v, some_is _ v.section (t 0));
 }
 
-abbrev pub search : Field → Act
-search field = record {
-  choice = loads field;
-  tests = λ s.
-      is_some s.view.section ∷
-      not (is_some (section_now s.view).listing) ∷
-      has (slot_of field) (section_now s.view).reading.stood ∷
-      is_some (slot_in field) ∷
+abbrev pub search : ℕ → Part → Step
+search slot p = record {
+  act = SearchLoad slot p;
+  tests = λ v.
+      is_some v.section ∷
+      not (is_some (section_of v).listing) ∷
+      has slot (section_of v).reading.stood ∷
       [];
-  allowed = λ s t. step17 (record {
-    section_is = some_is _ s.view.section (t 0);
-    searches = none_is (section_now s.view).listing (t 1);
-    stood = has_in (slot_of field) (section_now s.view).reading.stood (t 2);
-    loadable = loadable field (t 3);
-  });
+  met = λ v t. (
+    section_of v,
+    record {
+      section_is = some_is _ v.section (t 0);
+      searches = none_is (section_of v).listing (t 1);
+      stood = has_in slot (section_of v).reading.stood (t 2);
+      loadable = loadable slot p;
+    },
+  );
 }
 
 -- a slot
-abbrev pub reserve : ℕ → Act
+abbrev pub reserve : ℕ → Step
 reserve free = record {
-  choice = reserves free;
-  tests = λ s.
+  act = Reserve free;
+  tests = λ v.
       nat_le 1 free ∷
-      not s.view.hands.reserved ∷
-      not (is_some s.view.hands.hand) ∷
-      nat_le 1 s.view.allowance.tickets ∷
+      not v.hands.reserved ∷
+      not (is_some v.hands.hand) ∷
+      nat_le 1 v.allowance.tickets ∷
       [];
-  allowed = λ s t. step10 free (record {
+  met = λ v t. (record {
     some = leb-true 1 free (t 0);
-    unreserved = false_is s.view.hands.reserved (t 1);
-    empty = none_is s.view.hands.hand (t 2);
-    ticket = leb-true 1 s.view.allowance.tickets (t 3);
+    unreserved = false_is v.hands.reserved (t 1);
+    empty = none_is v.hands.hand (t 2);
+    ticket = leb-true 1 v.allowance.tickets (t 3);
   });
 }
 
-abbrev pub seize : ℕ → Act
+abbrev pub seize : ℕ → Step
 seize slot = record {
-  choice = seizes slot;
-  tests = λ s. s.view.hands.reserved ∷ not (slot == 0) ∷ [];
-  allowed = λ s t. step11 (record { reserved = (t 0); some = not_same slot 0 (t 1) });
+  act = Seize slot;
+  tests = λ v. v.hands.reserved ∷ not (slot == 0) ∷ [];
+  met = λ v t. record { reserved = (t 0); some = not_same slot 0 (t 1) };
 }
 
-abbrev pub own_life : ℕ → Act
+abbrev pub own_life : ℕ → Step
 own_life slot = record {
-  choice = loads_life slot;
-  tests = λ s. is_holder s.view slot ∷ [];
-  allowed = λ s t. let holder = holder_is s.view slot (t 0) in step9_held holder.0 holder.1;
+  act = LoadOwnLife slot;
+  tests = λ v. is_holder v slot ∷ [];
+  met = λ v t. holder_is v slot (t 0);
 }
 
-abbrev pub fill_field : ℕ → Field → ℕ → Act
-fill_field slot field number = record {
-  choice = fills slot field number;
-  tests = λ s. is_holder s.view slot ∷ is_content slot field ∷ [];
-  allowed = λ s t. let holder = holder_is s.view slot (t 0) in step12_content holder.0 (record { holder = holder.1; content = content_is slot field (t 1) });
+abbrev pub fill_part : ℕ → Part → ℕ → Step
+fill_part slot p number = record {
+  act = Fill slot p number;
+  tests = λ v. is_holder v slot ∷ is_content p ∷ [];
+  met = λ v t. let holder = holder_is v slot (t 0) in (holder.0, record { holder = holder.1; content = content_is slot p (t 1) });
 }
 
 -- a lock, and the front
-abbrev pub lock : ℕ → Act
+abbrev pub lock : ℕ → Step
 lock slot = record {
-  choice = locks slot;
-  tests = λ s. not (is_some s.view.section) ∷ nat_lt (length s.view.locks) 5 ∷ [];
-  allowed = λ s t. step13 (record { outside = none_is s.view.section (t 0); few = ltb-true (length s.view.locks) 5 (t 1) });
+  act = Lock slot;
+  tests = λ v. not (is_some v.section) ∷ nat_lt (length v.locks) 5 ∷ [];
+  met = λ v t. record { outside = none_is v.section (t 0); few = ltb-true (length v.locks) 5 (t 1) };
 }
 
-abbrev pub look : Field → Act
-look field = record {
-  choice = loads_locked (slot_of field) field;
-  tests = λ s. is_some (lock_of s.view.locks (slot_of field)) ∷ is_some (slot_in field) ∷ [];
-  allowed = λ s t. step18 (record { held = (lock_now s.view (slot_of field), some_is _ (lock_of s.view.locks (slot_of field)) (t 0)); loadable = loadable field (t 1) });
+abbrev pub look : ℕ → Part → Step
+look slot p = record {
+  act = LockedLoad slot p;
+  tests = λ v. is_some (lock_of v.locks slot) ∷ [];
+  met = λ v t. record { held = (lock_now v slot, some_is _ (lock_of v.locks slot) (t 0)); loadable = loadable slot p };
 }
 
-abbrev pub unlock : ℕ → Act
+abbrev pub unlock : ℕ → Step
 unlock slot = record {
-  choice = unlocks slot;
-  tests = λ s.
-      is_some (lock_of s.view.locks slot) ∷
-      is_no_end slot s.view.moving ∷
-      not (lock_now s.view slot).left_emptied ∷
-      not (lock_now s.view slot).right_emptied ∷
-      not (lock_now s.view slot).marked ∷
+  act = Unlock slot;
+  tests = λ v.
+      is_some (lock_of v.locks slot) ∷
+      is_no_end slot v.moving ∷
+      not (lock_now v slot).left_emptied ∷
+      not (lock_now v slot).right_emptied ∷
+      not (lock_now v slot).marked ∷
       [];
-  allowed = λ s t. step14 (lock_now s.view slot) (record {
-    held = some_is _ (lock_of s.view.locks slot) (t 0);
-    no_end = no_end_is slot s.view.moving (t 1);
-    left = false_is (lock_now s.view slot).left_emptied (t 2);
-    right = false_is (lock_now s.view slot).right_emptied (t 3);
-    unmarked = false_is (lock_now s.view slot).marked (t 4);
-  });
+  met = λ v t. (
+    lock_now v slot,
+    record {
+      held = some_is _ (lock_of v.locks slot) (t 0);
+      no_end = no_end_is slot v.moving (t 1);
+      left = false_is (lock_now v slot).left_emptied (t 2);
+      right = false_is (lock_now v slot).right_emptied (t 3);
+      unmarked = false_is (lock_now v slot).marked (t 4);
+    },
+  );
 }
 
-abbrev pub open_commit : ℕ → Act
+abbrev pub open_commit : ℕ → Step
 open_commit front = record {
-  choice = opens_commit front;
-  tests = λ s. (front % 2 == 0) ∷ not (is_some s.view.moving) ∷ not (is_some s.view.commit) ∷ [];
-  allowed = λ s t. step19 front (record {
+  act = OpenCommit front;
+  tests = λ v. (front % 2 == 0) ∷ not (is_some v.moving) ∷ not (is_some v.commit) ∷ [];
+  met = λ v t. (record {
     even = eqb-true (front % 2) 0 (t 0);
-    settled = none_is s.view.moving (t 1);
-    paid = none_is s.view.commit (t 2);
+    settled = none_is v.moving (t 1);
+    paid = none_is v.commit (t 2);
   });
 }
 
-abbrev pub close_commit : ℕ → Act
+abbrev pub close_commit : ℕ → Step
 close_commit front = record {
-  choice = closes_commit front;
-  tests = λ s. is_closing s.view.commit front ∷ [];
-  allowed = λ s t. step24 (closing_is s.view.commit front (t 0));
+  act = CloseCommit front;
+  tests = λ v. is_closing v.commit front ∷ [];
+  met = λ v t. closing_is v.commit front (t 0);
 }
 
-abbrev pub raise_tag : ℕ → Side → ℕ → Act
+abbrev pub raise_tag : ℕ → Side → ℕ → Step
 raise_tag slot side tag = record {
-  choice = raises_tag slot side tag;
-  tests = λ s. is_some (lock_of s.view.locks slot) ∷ is_emptied (lock_now s.view slot) side ∷ is_number (known_in (lock_now s.view slot).known (Tag slot side)) tag ∷ [];
-  allowed = λ s t. step23 (lock_now s.view slot) (record {
-    held = some_is _ (lock_of s.view.locks slot) (t 0);
-    emptied = (t 1);
-    known = number_is (known_in (lock_now s.view slot).known (Tag slot side)) tag (t 2);
-  });
+  act = RaiseTag slot side tag;
+  tests = λ v. is_some (lock_of v.locks slot) ∷ is_emptied (lock_now v slot) side ∷ is_number (known_in (lock_now v slot).known (Tag slot side)) tag ∷ [];
+  met = λ v t. (
+    lock_now v slot,
+    record {
+      held = some_is _ (lock_of v.locks slot) (t 0);
+      emptied = (t 1);
+      known = number_is (known_in (lock_now v slot).known (Tag slot side)) tag (t 2);
+    },
+  );
 }
 
 -- a wait
-abbrev pub begin : ℕ → ℕ → Act
+abbrev pub begin : ℕ → ℕ → Step
 begin low high = record {
-  choice = begins low high;
-  tests = λ s.
-      not (is_some s.view.section) ∷
-      nat_le 1 s.view.allowance.tickets ∷
+  act = BeginWait low high;
+  tests = λ v.
+      not (is_some v.section) ∷
+      nat_le 1 v.allowance.tickets ∷
       nat_le low high ∷
       nat_lt high (2 ^ 64) ∷
       [];
-  allowed = λ s t. step7 (record {
-    outside = none_is s.view.section (t 0);
-    ticket = leb-true 1 s.view.allowance.tickets (t 1);
+  met = λ v t. (record {
+    outside = none_is v.section (t 0);
+    ticket = leb-true 1 v.allowance.tickets (t 1);
     some = leb-true low high (t 2);
     high_fits = ltb-true high (2 ^ 64) (t 3);
   });
 }
 
 -- a listing
-abbrev pub look_front : Act
+abbrev pub look_front : Step
 look_front = record {
-  choice = looks_front;
-  tests = λ s. is_some s.view.section ∷ is_empty (section_now s.view).reading.loads ∷ [];
-  allowed = λ s t. step37 (record { section_is = some_is _ s.view.section (t 0); first = empty_is (section_now s.view).reading.loads (t 1) });
+  act = LookAtFront;
+  tests = λ v. is_some v.section ∷ is_empty (section_of v).reading.loads ∷ [];
+  met = λ v t. (section_of v, record { section_is = some_is _ v.section (t 0); first = empty_is (section_of v).reading.loads (t 1) });
 }
 
-abbrev pub list_root : Act
+abbrev pub list_root : Step
 list_root = record {
-  choice = lists 0 (Link 0 Right);
-  tests = λ s. is_some s.view.section ∷ is_some (section_now s.view).listing ∷ [];
-  allowed = λ s t. step17_list (record {
-    section_is = some_is _ s.view.section (t 0);
-    lists = some_is _ (section_now s.view).listing (t 1);
-    stands = inl refl;
-    loadable = refl;
-  });
+  act = ListLoad 0 (part.Link Right);
+  tests = λ v. is_some v.section ∷ is_some (section_of v).listing ∷ [];
+  met = λ v t. (
+    section_of v,
+    listing_of (section_of v),
+    record {
+      section_is = some_is _ v.section (t 0);
+      lists = some_is _ (section_of v).listing (t 1);
+      stands = inl refl;
+      loadable = refl;
+    },
+  );
 }
 
-abbrev pub list_field : Field → Act
-list_field field = record {
-  choice = lists (slot_of field) field;
-  tests = λ s.
-      is_some s.view.section ∷
-      is_some (section_now s.view).listing ∷
-      (slot_of field == (listing_now s.view).slot) ∷
-      is_some (slot_in field) ∷
+abbrev pub list_part : ℕ → Part → Step
+list_part slot p = record {
+  act = ListLoad slot p;
+  tests = λ v.
+      is_some v.section ∷
+      is_some (section_of v).listing ∷
+      (slot == (listing_of (section_of v)).slot) ∷
       [];
-  allowed = λ s t. step17_list (record {
-    section_is = some_is _ s.view.section (t 0);
-    lists = some_is _ (section_now s.view).listing (t 1);
-    stands = inr (eqb-true (slot_of field) (listing_now s.view).slot (t 2));
-    loadable = loadable field (t 3);
-  });
+  met = λ v t. (
+    section_of v,
+    listing_of (section_of v),
+    record {
+      section_is = some_is _ v.section (t 0);
+      lists = some_is _ (section_of v).listing (t 1);
+      stands = inr (eqb-true slot (listing_of (section_of v)).slot (t 2));
+      loadable = loadable slot p;
+    },
+  );
 }
 
-abbrev pub wait_tests : State → List Bool
-wait_tests s = is_some s.view.wait ∷ not (wait_now s.view).ended ∷ []
+abbrev pub wait_tests : View → List Bool
+wait_tests v = is_some v.wait ∷ not (wait_of v).ended ∷ []
 
 -- the spots of a wait on a table with one place: its stamp
 only_spot : (wait : Waiting) (seen : List Field) (other : Field) → IsSpot small wait other → IsIn (Stamp 0 ∷ seen) other
@@ -282,60 +314,60 @@ only_spot wait seen = all_spots {k = small} {wait = wait} {spots = Stamp 0 ∷ s
   rows = λ p c spot. absurd (let w : Eer ≡ Deer = spot.0 in cc);
 })
 
-pub may_end : (s : State) (field : Field) (found : ℕ) → spot_seen field ≡ Stamp 0 → all_of (wait_tests s) ≡ true → NeedsLook small s.view (wait_now s.view) field true found
-may_end s field found seen e =
-    let t = passed (wait_tests s) e in
+pub may_end : (v : View) (field : Field) → spot_seen field ≡ Stamp 0 → all_of (wait_tests v) ≡ true → MayLook small v (wait_of v) field true
+may_end v field seen e =
+    let t = passed (wait_tests v) e in
     record {
-      wait_is = some_is _ s.view.wait (t 0);
-      going = false_is (wait_now s.view).ended (t 1);
-      rest = λ l x other spot. subst (λ f. IsIn (f ∷ (wait_now s.view).excused) other) (sym seen) (only_spot (wait_now s.view) (wait_now s.view).excused other spot);
+      wait_is = some_is _ v.wait (t 0);
+      going = false_is (wait_of v).ended (t 1);
+      rest = λ last other spot. subst (λ f. IsIn (f ∷ (wait_of v).excused) other) (sym seen) (only_spot (wait_of v) (wait_of v).excused other spot);
     }
 
 -- the look that ends a wait: at the place's key, or at its stamp
-abbrev pub look_key : Act
+abbrev pub look_key : Step
 look_key = record {
-  choice = looks_by K8 (Announced 0) true;
-  tests = λ s. all_of (wait_tests s) ∷ [];
-  allowed = λ s t. step8_key refl (may_end s (Announced 0) _ refl (t 0));
+  act = LookKey 0 true;
+  tests = λ v. all_of (wait_tests v) ∷ [];
+  met = λ v t. (wait_of v, may_end v (Announced 0) refl (t 0));
 }
 
-abbrev pub look_stamp : Act
+abbrev pub look_stamp : Step
 look_stamp = record {
-  choice = looks_by K8 (Stamp 0) true;
-  tests = λ s. all_of (wait_tests s) ∷ [];
-  allowed = λ s t. step8_stamp refl (may_end s (Stamp 0) _ refl (t 0));
+  act = LookStamp 0 true;
+  tests = λ v. all_of (wait_tests v) ∷ [];
+  met = λ v t. (wait_of v, may_end v (Stamp 0) refl (t 0));
 }
 
 -- what is done at one stretch: a section is entered; fields are loaded in it, as a search goes; a free slot is taken; it is filled;
 -- slots are locked, their fields are loaded, the tag of a side that was emptied is raised, and slots are unlocked
-abbrev pub enter_for : ℕ → List Act
-enter_for key = read_clock ∷ announce key ∷ enter key ∷ []
+abbrev pub enter_for : ℕ → List Step
+enter_for key = read_clock ∷ announce key ∷ enter key 0 ∷ []
 
-abbrev pub search_by : List Field → List Act
+abbrev pub search_by : List (ℕ × Part) → List Step
 search_by [] = []
-search_by (field ∷ fields) = search field ∷ search_by fields
+search_by (at ∷ more) = search at.0 at.1 ∷ search_by more
 
-abbrev pub take_slot : ℕ → ℕ → List Act
+abbrev pub take_slot : ℕ → ℕ → List Step
 take_slot free slot = reserve free ∷ seize slot ∷ own_life slot ∷ []
 
-abbrev pub fill : ℕ → ℕ → ℕ → ℕ → ℕ → List Act
+abbrev pub fill : ℕ → ℕ → ℕ → ℕ → ℕ → List Step
 fill slot key value left right =
-    fill_field slot (Key slot) key ∷
-    fill_field slot (Value slot) value ∷
-    fill_field slot (Link slot Left) left ∷
-    fill_field slot (Link slot Right) right ∷ []
+    fill_part slot part.Key key ∷
+    fill_part slot part.Value value ∷
+    fill_part slot (part.Link Left) left ∷
+    fill_part slot (part.Link Right) right ∷ []
 
-abbrev pub lock_all : List ℕ → List Act
+abbrev pub lock_all : List ℕ → List Step
 lock_all [] = []
 lock_all (slot ∷ slots) = lock slot ∷ lock_all slots
 
-abbrev pub look_at : List Field → List Act
+abbrev pub look_at : List (ℕ × Part) → List Step
 look_at [] = []
-look_at (field ∷ fields) = look field ∷ look_at fields
+look_at (at ∷ more) = look at.0 at.1 ∷ look_at more
 
-abbrev pub raise_emptied : ℕ → Side → List Act
-raise_emptied slot side = look (Tag slot side) ∷ raise_tag slot side 0 ∷ []
+abbrev pub raise_emptied : ℕ → Side → List Step
+raise_emptied slot side = look slot (part.Tag side) ∷ raise_tag slot side 0 ∷ []
 
-abbrev pub unlock_all : List ℕ → List Act
+abbrev pub unlock_all : List ℕ → List Step
 unlock_all [] = []
 unlock_all (slot ∷ slots) = unlock slot ∷ unlock_all slots

@@ -2,7 +2,7 @@
 -- wait.
 use Rattle.std.proofs.Common.{[], ◌∷◌, ◌++◌, refl}
 use Rattle.prcu_marks.specs.declared.mark.Side.TheVariants.{Left, Right}
-use Rattle.core_state.specs.declared.words.Field.TheVariants.{Key, Life, Link}
+use Rattle.core_acts.specs.declared.act.Part.TheVariants.{Key, Life, Link}
 use Rattle.core_examples.proofs.Acts.{Run, run, end_of, enter_for, search_by, leave, lock_all, look_at, open_commit, close_commit, raise_emptied, unlock_all}
 use Rattle.core_examples.proofs.Updates.{Node, bypass, mark_few, unlink_right}
 use Rattle.core_examples.proofs.Puts.{put_seventy}
@@ -16,10 +16,10 @@ abbrev pub delete_twenty : Run (end_of put_seventy)
 delete_twenty =
     run
     (enter_for 20
-    ++ (search_by (Link 0 Right ∷ Key 2 ∷ Link 2 Left ∷ Key 3 ∷ Life 2 ∷ Life 3 ∷ Link 3 Left ∷ Link 3 Right ∷ [])
+    ++ (search_by ((0, Link Right) ∷ (2, Key) ∷ (2, Link Left) ∷ (3, Key) ∷ (2, Life) ∷ (3, Life) ∷ (3, Link Left) ∷ (3, Link Right) ∷ [])
     ++ (leave ∷ lock_all (2 ∷ 3 ∷ [])
-    ++ (look_at (Life 2 ∷ Link 2 Left ∷ Life 3 ∷ Link 3 Left ∷ Link 3 Right ∷ [])
-    ++ (mark_few twenty 0 ∷ open_commit 6 ∷ bypass twenty ∷ close_commit 8 ∷ raise_emptied 2 Left ++ unlock_all (3 ∷ 2 ∷ []))))))
+    ++ (look_at ((2, Life) ∷ (2, Link Left) ∷ (3, Life) ∷ (3, Link Left) ∷ (3, Link Right) ∷ [])
+    ++ (mark_few twenty 0 ∷ open_commit 6 ∷ bypass twenty 20 ∷ close_commit 8 ∷ raise_emptied 2 Left ++ unlock_all (3 ∷ 2 ∷ []))))))
     refl
 
 -- the successor of 50 is 70, its right child
@@ -29,9 +29,9 @@ seventy = record {
   parent = 2;
   key = 70;
   value = 7;
-  searched = Link 4 Left ∷ Life 4 ∷ [];
+  searched = (4, Link Left) ∷ (4, Life) ∷ [];
   locked = 4 ∷ [];
-  looked_at = Life 4 ∷ [];
+  looked_at = (4, Life) ∷ [];
   front = 6;
 }
 

@@ -1,5 +1,5 @@
 pub mod Chosen
-pub mod Choices
+pub mod States
 pub mod Tests
 pub mod Records
 pub mod Spots

@@ -1,7 +1,7 @@
 -- A run on literal words, after four pairs are put: a node is deleted whose successor stands further down, with its wait.
 use Rattle.std.proofs.Common.{[], ◌∷◌, ◌++◌, refl}
 use Rattle.prcu_marks.specs.declared.mark.Side.TheVariants.{Left}
-use Rattle.core_state.specs.declared.words.Field.TheVariants.{Life, Link}
+use Rattle.core_acts.specs.declared.act.Part.TheVariants.{Life, Link}
 use Rattle.core_examples.proofs.Acts.{Run, run, end_of, raise_emptied, unlock_all}
 use Rattle.core_examples.proofs.Updates.{unlink_left}
 use Rattle.core_examples.proofs.Puts.{put_sixty}
@@ -14,9 +14,9 @@ sixty = record {
   parent = 4;
   key = 60;
   value = 6;
-  searched = Link 4 Left ∷ Link 5 Left ∷ Life 4 ∷ Life 5 ∷ [];
+  searched = (4, Link Left) ∷ (5, Link Left) ∷ (4, Life) ∷ (5, Life) ∷ [];
   locked = 4 ∷ 5 ∷ [];
-  looked_at = Life 4 ∷ Link 4 Left ∷ Life 5 ∷ [];
+  looked_at = (4, Life) ∷ (4, Link Left) ∷ (5, Life) ∷ [];
   front = 8;
 }
 

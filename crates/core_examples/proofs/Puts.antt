@@ -3,12 +3,12 @@
 use Rattle.std.proofs.Common.{ℕ, ◌+◌, List, [], ◌∷◌, ◌++◌, refl}
 use Rattle.prcu_marks.specs.declared.mark.Side.{Side}
 use Rattle.prcu_marks.specs.declared.mark.Side.TheVariants.{Left, Right}
-use Rattle.core_state.specs.declared.words.Field.{Field}
-use Rattle.core_state.specs.declared.words.Field.TheVariants.{Key, Value, Life, Link, Tag}
+use Rattle.core_acts.specs.declared.act.Part.{Part}
+use Rattle.core_acts.specs.declared.act.Part.TheVariants.{Key, Value, Life, Link, Tag}
 use Rattle.core_state.specs.Fresh.{first_view}
 use Rattle.core_state.specs.memory.Memory.{idle}
-use Rattle.core_examples.proofs.Choices.{State}
-use Rattle.core_examples.proofs.Acts.{small, Act, Run, run, end_of, enter_for, search_by, leave, take_slot, fill, lock, look_at, look_front, list_root, list_field, open_commit, close_commit, unlock}
+use Rattle.core_examples.proofs.States.{State}
+use Rattle.core_examples.proofs.Acts.{small, Step, Run, run, end_of, enter_for, search_by, leave, take_slot, fill, lock, look_at, look_front, list_root, list_part, open_commit, close_commit, unlock}
 use Rattle.core_examples.proofs.Updates.{link_leaf, replace}
 
 -- the clock, the front, the free count, the place's key and its stamp; and then a line for each slot, of which the root and the first
@@ -32,22 +32,22 @@ fresh = record {
 pub record Pair : Type 0 where
   pub key : ℕ
   pub value : ℕ
-  pub way : List Field
+  pub way : List (ℕ × Part)
   pub parent : ℕ
   pub side : Side
   pub leaf : ℕ
   pub free : ℕ
   pub front : ℕ
 
-abbrev pub put : Pair → List Act
+abbrev pub put : Pair → List Step
 put p =
     enter_for p.key
     ++ (search_by p.way
-    ++ (search_by (Link p.parent p.side ∷ Tag p.parent p.side ∷ Life p.parent ∷ [])
+    ++ (search_by ((p.parent, Link p.side) ∷ (p.parent, Tag p.side) ∷ (p.parent, Life) ∷ [])
     ++ (leave ∷ take_slot p.free p.leaf
     ++ (fill p.leaf p.key p.value 0 0
-    ++ (lock p.parent ∷ look_at (Life p.parent ∷ Link p.parent p.side ∷ Tag p.parent p.side ∷ [])
-    ++ (open_commit p.front ∷ link_leaf p.parent p.side p.leaf p.value ∷ close_commit (p.front + 2) ∷ unlock p.parent ∷ []))))))
+    ++ (lock p.parent ∷ look_at ((p.parent, Life) ∷ (p.parent, Link p.side) ∷ (p.parent, Tag p.side) ∷ [])
+    ++ (open_commit p.front ∷ link_leaf p.parent p.side p.leaf p.key p.value ∷ close_commit (p.front + 2) ∷ unlock p.parent ∷ []))))))
 
 -- 50 is put below the root
 abbrev pub put_fifty : Run fresh
@@ -55,25 +55,25 @@ put_fifty = run (put (record { key = 50; value = 5; way = []; parent = 0; side =
 
 -- 20 is put left of it
 abbrev pub put_twenty : Run (end_of put_fifty)
-put_twenty = run (put (record { key = 20; value = 2; way = Link 0 Right ∷ Key 2 ∷ []; parent = 2; side = Left; leaf = 3; free = 4; front = 2 })) refl
+put_twenty = run (put (record { key = 20; value = 2; way = (0, Link Right) ∷ (2, Key) ∷ []; parent = 2; side = Left; leaf = 3; free = 4; front = 2 })) refl
 
 -- 70 is put right of 50
 abbrev pub put_seventy : Run (end_of put_twenty)
-put_seventy = run (put (record { key = 70; value = 7; way = Link 0 Right ∷ Key 2 ∷ []; parent = 2; side = Right; leaf = 4; free = 3; front = 4 })) refl
+put_seventy = run (put (record { key = 70; value = 7; way = (0, Link Right) ∷ (2, Key) ∷ []; parent = 2; side = Right; leaf = 4; free = 3; front = 4 })) refl
 
 -- 60 is put left of 70
 abbrev pub put_sixty : Run (end_of put_seventy)
 put_sixty =
-    run (put (record { key = 60; value = 6; way = Link 0 Right ∷ Key 2 ∷ Link 2 Right ∷ Key 4 ∷ []; parent = 4; side = Left; leaf = 5; free = 2; front = 6 })) refl
+    run (put (record { key = 60; value = 6; way = (0, Link Right) ∷ (2, Key) ∷ (2, Link Right) ∷ (4, Key) ∷ []; parent = 4; side = Left; leaf = 5; free = 2; front = 6 })) refl
 
 -- the value of 20 is replaced
 abbrev pub set_twenty : Run (end_of put_sixty)
 set_twenty =
     run
     (enter_for 20
-    ++ (search_by (Link 0 Right ∷ Key 2 ∷ Link 2 Left ∷ Key 3 ∷ Value 3 ∷ Life 3 ∷ [])
-    ++ (leave ∷ lock 3 ∷ look_at (Life 3 ∷ Value 3 ∷ [])
-    ++ (open_commit 8 ∷ replace 3 2 Left 22 ∷ close_commit 10 ∷ unlock 3 ∷ []))))
+    ++ (search_by ((0, Link Right) ∷ (2, Key) ∷ (2, Link Left) ∷ (3, Key) ∷ (3, Value) ∷ (3, Life) ∷ [])
+    ++ (leave ∷ lock 3 ∷ look_at ((3, Life) ∷ (3, Value) ∷ [])
+    ++ (open_commit 8 ∷ replace 3 2 Left 20 22 ∷ close_commit 10 ∷ unlock 3 ∷ []))))
     refl
 
 -- a listing finds 50
@@ -81,5 +81,5 @@ abbrev pub list_fifty : Run (end_of set_twenty)
 list_fifty =
     run
     (enter_for 0
-    ++ (look_front ∷ list_root ∷ list_field (Key 2) ∷ list_field (Value 2) ∷ look_front ∷ leave ∷ []))
+    ++ (look_front ∷ list_root ∷ list_part 2 Key ∷ list_part 2 Value ∷ look_front ∷ leave ∷ []))
     refl

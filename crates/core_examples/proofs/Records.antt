@@ -16,12 +16,13 @@ use Rattle.core_state.specs.memory.Memory.{same_side, same_field}
 use Rattle.core_state.specs.views.Known.{known_in, loaded_in, known_under, lock_of, LoadedGeneration}
 use Rattle.core_state.specs.steps.Links.{NodeRecords, FewChildren, BothChildren, IsMarkedNode, LacksChild, SuccessorLink}
 use Rattle.core_frames.proofs.views.Fields.{side_is, same_is}
-use Rattle.core_examples.proofs.Chosen.{from, lock_now, reading_now}
+use Rattle.core_examples.proofs.Chosen.{lock_now, reading_now}
+use Rattle.core_acts.specs.Acts.{or_else}
 use Rattle.core_examples.proofs.Tests.{all_of, passed, is_some, some_is, is_empty, is_number, number_is, false_is, not_same, first_in}
 
 -- the generation of a slot that the search found out
 abbrev pub generation_of : View → ℕ → ℕ
-generation_of v slot = from 0 (known_in (reading_now v).loads (Life slot)) / 2
+generation_of v slot = or_else 0 (known_in (reading_now v).loads (Life slot)) / 2
 
 -- the slot has that generation under its lock and is unmarked
 abbrev pub is_recorded : View → ℕ → Bool
@@ -35,7 +36,7 @@ IsRecorded v slot = (generation : ℕ) × LoadedGeneration (reading_now v) slot 
 pub recorded_is : (v : View) (slot : ℕ) → is_recorded v slot ≡ true → IsRecorded v slot
 recorded_is v slot e =
     let a = and_parts (is_some (known_in (reading_now v).loads (Life slot))) (is_number (loaded_in (known_under v slot) (Life slot)) (2 * generation_of v slot)) e in
-    (generation_of v slot, (from 0 (known_in (reading_now v).loads (Life slot)), some_is 0 _ a.0, refl), number_is _ _ a.1)
+    (generation_of v slot, (or_else 0 (known_in (reading_now v).loads (Life slot)), some_is 0 _ a.0, refl), number_is _ _ a.1)
 
 -- where a search ended that found its key
 abbrev pub is_found : SearchState → ℕ → ℕ → Side → Bool
@@ -84,7 +85,7 @@ lacks_child left right e =
     (or_cases (left == 0) (right == 0) e)
 
 abbrev pub had_link : View → ℕ → Side → ℕ
-had_link v node b = from 0 (known_in (reading_now v).loads (Link node b))
+had_link v node b = or_else 0 (known_in (reading_now v).loads (Link node b))
 
 abbrev pub few_tests : View → ℕ → Side → ℕ → ℕ → ℕ → List Bool
 few_tests v parent b node left right =
@@ -200,7 +201,7 @@ marked_node v node e =
     record {
       generation = generation_of v node;
       lock = lock_now v node;
-      recorded = (from 0 (known_in (reading_now v).loads (Life node)), some_is 0 _ (t 0), refl);
+      recorded = (or_else 0 (known_in (reading_now v).loads (Life node)), some_is 0 _ (t 0), refl);
       locked = some_is _ (lock_of v.locks node) (t 1);
       marked = t 2;
       life = number_is _ _ (t 3);

@@ -1,12 +1,12 @@
 -- Tests by computing of what a step needs of a view, and what each of them says where it is true.
-use Rattle.std.proofs.lemmas.Bool.{and_parts, or_cases, eqb-true}
-use Rattle.std.proofs.Common.{◌≡◌, ◌≢◌, ◌⊎◌, ℕ, zero, suc, ◌+◌, ◌==◌, ◌&&◌, ◌||◌, not, Bool, true, false, List, [], ◌∷◌, Option, Some, None, refl, sym, ap, ◌∙◌, ⊎_elim, inl, inr, eq-eqb}
+use Rattle.std.proofs.lemmas.Bool.{and_parts, or_cases, eqb-true, ltb-true}
+use Rattle.std.proofs.Common.{◌≡◌, ◌≢◌, ◌⊎◌, ℕ, zero, suc, ◌+◌, ◌==◌, ◌&&◌, ◌||◌, nat_lt, not, Bool, true, false, List, [], ◌∷◌, Option, Some, None, refl, sym, ap, ◌∙◌, ⊎_elim, inl, inr, eq-eqb}
 use mathlib.Core.Option.{some}
 use lib.ListN.{get_elem?}
 use Rattle.list_laws.specs.Counts.{IsIn}
 use Rattle.prcu_marks.specs.declared.commit.Commit.{Commit}
 use Rattle.core_state.specs.declared.words.Field.{Field}
-use Rattle.core_state.specs.declared.words.Field.TheVariants.{Clock, Front, Free, Announced, Stamp, Gate, Count, Row, State as StateWord, Lock, Key, Value, Life, Link, Tag}
+use Rattle.core_state.specs.declared.words.Field.TheVariants as word
 use Rattle.core_state.specs.declared.view.Held.{Held}
 use Rattle.core_state.specs.declared.view.Move.{Move}
 use Rattle.core_state.specs.declared.view.View.{View}
@@ -16,9 +16,15 @@ use Rattle.core_state.specs.steps.Slots.{IsInHand, IsSpare, IsContent}
 use Rattle.prcu_marks.specs.declared.mark.Side.{Side}
 use Rattle.core_state.specs.declared.view.SearchState.{SearchState}
 use Rattle.core_state.specs.declared.view.SearchState.TheVariants.{At, Unread, Found, Missed}
-use Rattle.core_state.specs.memory.Memory.{same_side}
+use Rattle.core_state.specs.declared.shape.Shape.{Shape}
+use Rattle.core_state.specs.declared.shape.Waiter.{Waiter}
+use Rattle.core_state.specs.declared.shape.Waiter.TheVariants.{Eer, Domain, Deer}
+use Rattle.core_state.specs.memory.Memory.{same_side, same_waiter, slot_count, is_field}
+use Rattle.core_acts.specs.declared.act.Part.{Part}
+use Rattle.core_acts.specs.declared.act.Part.TheVariants as part
+use Rattle.core_acts.specs.Acts.{in_slot, or_else, IsWord}
 use Rattle.core_frames.proofs.views.Fields.{side_is}
-use Rattle.core_examples.proofs.Chosen.{from, first_of}
+use Rattle.core_examples.proofs.Chosen.{first_of}
 
 -- tests that are all true, and one of them
 abbrev pub all_of : List Bool → Bool
@@ -39,7 +45,7 @@ abbrev pub is_some : {A : Type 0} → Option A → Bool
 is_some None = false
 is_some (Some x) = true
 
-pub some_is : {A : Type 0} (other : A) (o : Option A) → is_some o ≡ true → o ≡ Some (from other o)
+pub some_is : {A : Type 0} (other : A) (o : Option A) → is_some o ≡ true → o ≡ Some (or_else other o)
 some_is other None e = cc
 some_is other (Some x) e = refl
 
@@ -90,58 +96,61 @@ has_in x (y ∷ ys) e =
     (λ (further : has x ys ≡ true). (let i = has_in x ys further in let is_in : IsIn (y ∷ ys) x = (suc i.0, i.1) in is_in))
     (or_cases (y == x) (has x ys) e)
 
--- the slot of a field of a node
-abbrev pub slot_in : Field → Option ℕ
-slot_in (Life s) = Some s
-slot_in (Key s) = Some s
-slot_in (Value s) = Some s
-slot_in (Link s b) = Some s
-slot_in (Tag s b) = Some s
-slot_in _ = None
+-- each part of a slot may be loaded
+pub loadable : (s : ℕ) (p : Part) → IsLoadable s (in_slot s p)
+loadable s part.Life = refl
+loadable s part.Key = refl
+loadable s part.Value = refl
+loadable s (part.Link b) = refl
+loadable s (part.Tag b) = refl
 
-abbrev pub slot_of : Field → ℕ
-slot_of field = from 0 (slot_in field)
+-- a part with which a slot is filled
+abbrev pub is_content : Part → Bool
+is_content part.Life = false
+is_content (part.Tag b) = false
+is_content _ = true
 
-pub loadable : (field : Field) → is_some (slot_in field) ≡ true → IsLoadable (slot_of field) field
-loadable (Life s) e = refl
-loadable (Key s) e = refl
-loadable (Value s) e = refl
-loadable (Link s b) e = refl
-loadable (Tag s b) e = refl
-loadable Clock e = cc
-loadable Front e = cc
-loadable Free e = cc
-loadable (Announced p) e = cc
-loadable (Stamp p) e = cc
-loadable (Gate c) e = cc
-loadable (Count c side) e = cc
-loadable (Row p c) e = cc
-loadable (StateWord s) e = cc
-loadable (Lock s) e = cc
+pub content_is : (s : ℕ) (p : Part) → is_content p ≡ true → IsContent s (in_slot s p)
+content_is s part.Life e = cc
+content_is s part.Key e = refl
+content_is s part.Value e = refl
+content_is s (part.Link b) e = refl
+content_is s (part.Tag b) e = cc
 
--- a field with which a slot is filled
-abbrev pub is_content : ℕ → Field → Bool
-is_content slot (Key s) = s == slot
-is_content slot (Value s) = s == slot
-is_content slot (Link s b) = s == slot
-is_content slot _ = false
+-- the word is one of the table's
+waiter_is : (a b : Waiter) → same_waiter a b ≡ true → a ≡ b
+waiter_is Eer Eer e = refl
+waiter_is Eer Domain e = cc
+waiter_is Eer Deer e = cc
+waiter_is Domain Eer e = cc
+waiter_is Domain Domain e = refl
+waiter_is Domain Deer e = cc
+waiter_is Deer Eer e = cc
+waiter_is Deer Domain e = cc
+waiter_is Deer Deer e = refl
 
-pub content_is : (slot : ℕ) (field : Field) → is_content slot field ≡ true → IsContent slot field
-content_is slot (Key s) e = eqb-true s slot e
-content_is slot (Value s) e = eqb-true s slot e
-content_is slot (Link s b) e = eqb-true s slot e
-content_is slot Clock e = cc
-content_is slot Front e = cc
-content_is slot Free e = cc
-content_is slot (Announced p) e = cc
-content_is slot (Stamp p) e = cc
-content_is slot (Gate c) e = cc
-content_is slot (Count c side) e = cc
-content_is slot (Row p c) e = cc
-content_is slot (StateWord s) e = cc
-content_is slot (Lock s) e = cc
-content_is slot (Life s) e = cc
-content_is slot (Tag s b) e = cc
+pub is_word : (k : Shape) (field : Field) → is_field k field ≡ true → IsWord k field
+is_word k word.Clock e = tt
+is_word k word.Front e = tt
+is_word k word.Free e = tt
+is_word k (word.Announced p) e = let a = and_parts (same_waiter k.waiter Eer) (nat_lt p k.places) e in (waiter_is k.waiter Eer a.0, ltb-true p k.places a.1)
+is_word k (word.Stamp p) e = let a = and_parts (same_waiter k.waiter Eer) (nat_lt p k.places) e in (waiter_is k.waiter Eer a.0, ltb-true p k.places a.1)
+is_word k (word.Gate c) e = let a = and_parts (same_waiter k.waiter Domain) (nat_lt c 64) e in (waiter_is k.waiter Domain a.0, ltb-true c 64 a.1)
+is_word k (word.Count c side) e =
+    let a = and_parts (same_waiter k.waiter Domain) (nat_lt c 64 && nat_lt side 2) e in
+    let b = and_parts (nat_lt c 64) (nat_lt side 2) a.1 in
+    (waiter_is k.waiter Domain a.0, ltb-true c 64 b.0, ltb-true side 2 b.1)
+is_word k (word.Row p c) e =
+    let a = and_parts (same_waiter k.waiter Deer) (nat_lt p k.places && nat_lt c 64) e in
+    let b = and_parts (nat_lt p k.places) (nat_lt c 64) a.1 in
+    (waiter_is k.waiter Deer a.0, ltb-true p k.places b.0, ltb-true c 64 b.1)
+is_word k (word.State s) e = ltb-true s (slot_count k) e
+is_word k (word.Lock s) e = ltb-true s (slot_count k) e
+is_word k (word.Life s) e = ltb-true s (slot_count k) e
+is_word k (word.Key s) e = ltb-true s (slot_count k) e
+is_word k (word.Value s) e = ltb-true s (slot_count k) e
+is_word k (word.Link s b) e = ltb-true s (slot_count k) e
+is_word k (word.Tag s b) e = ltb-true s (slot_count k) e
 
 -- a slot in hand, or the spare
 abbrev pub is_slot : Option Held → ℕ → Bool

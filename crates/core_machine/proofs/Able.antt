@@ -1,5 +1,5 @@
 -- What a caller's next point asks of numbers and lists is given.
-use Rattle.std.proofs.Common.{◌≡◌, ◌≢◌, ℕ, zero, suc, ◌+◌, ◌^◌, ◌<◌, ◌≤◌, ◌==◌, ◌||◌, cond, Bool, true, false, List, [], ◌∷◌, length, map, Option, Some, None, refl, sym, ap, subst, ◌∙◌, arith, ne_eqb, eq-eqb}
+use Rattle.std.proofs.Common.{◌≡◌, ◌≢◌, ℕ, zero, suc, ◌+◌, ◌*◌, ◌/◌, ◌^◌, ◌<◌, ◌≤◌, ◌==◌, ◌||◌, cond, Bool, true, false, List, [], ◌∷◌, length, map, Option, Some, None, refl, sym, ap, subst, ◌∙◌, arith, ne_eqb, eq-eqb}
 use Rattle.std.proofs.lemmas.List.{length-map}
 use Rattle.prcu_marks.specs.declared.mark.Mark.{Mark}
 use Rattle.prcu_marks.specs.declared.mark.Side.{Side}
@@ -22,9 +22,9 @@ use Rattle.core_points.specs.declared.stage.Waits.TheVariants.{Reuse, Move}
 use Rattle.core_points.specs.declared.stage.Stage.{Stage}
 use Rattle.core_points.specs.declared.stage.Stage.TheVariants as at
 use Rattle.core_acts.specs.Acts.{access_of, said_by}
-use Rattle.core_acts.specs.declared.act.Act.TheVariants.{LoadClock, AnnounceKey, EnterByStamp, LeaveByStamp, BeginWait, LookKey, LookStamp, LoadOwnLife, KeepAsSpare, LoadRetiredLife, Reserve, Seize, Fill, RaiseInHand, RaiseToSpare, RaiseRetired, FreeInHand, FreeRetired, CountFree, Lock, Unlock, SearchLoad, LockedLoad, OpenCommit, CloseCommit, LinkLeaf, Bypass, Mark as MarkNode, RaiseTag, LinkCopy, UnlinkLeft, UnlinkRight, ReplaceValue, ListLoad, LoadGate, EnterByCount, LeaveByCount, LookCount, TurnGate, EnterByRow, LeaveByRow, LookRow, LookAtFront}
+use Rattle.core_acts.specs.declared.act.Act.TheVariants.{RaiseToSpare, RaiseRetired}
 use Rattle.core_points.specs.Acts.{Act, Needs, field_of, left_of}
-use Rattle.core_points.specs.Callers.{Own, is_none_left}
+use Rattle.core_points.specs.Callers.{Own, first_or_root, is_none_left, is_some}
 use Rattle.core_points.specs.DeletePlan.{target_locks}
 use Rattle.core_points.specs.Programs.{act_at, after, ended}
 use Rattle.core_points.specs.Facts.{SameLocks, table_of}
@@ -121,29 +121,10 @@ module _ (k : Shape) (shape : IsShape k) (o : Own) (v w : View) (h h' : List Mar
 
   pub able : (stage : Stage) (n : ℕ) → Fits o stage v → WordFits k (field_of o.place (act_at o stage)) n → WordFits k (field_of o.place (act_at o stage)) (left_of o.place (act_at o stage) n)
       → let told : ℕ = said_by (access_of o.place (act_at o stage)) n in (let o' : Own = after o told stage in Fits o' o'.stage w × IsTold o' w h' m') → IsAble o told stage
-  able at.Finished n f word left next = tt
-  able at.EnterClock n f word left next = tt
-  able (at.EnterKey clock) n f word left next = tt
-  able (at.EnterStamp clock) n f word left next = tt
   able (at.AtLink s b) n f word left next = link_able s n b (λ e. next)
-  able (at.AtKey s p b) n f word left next = tt
-  able (at.Leave next_point) n f word left next = tt
-  able (at.Value s) n f word left next = tt
-  able (at.SpotTag s b) n f word left next = tt
-  able (at.SpotLife s b tag) n f word left next = tt
   able (at.LeafField spot i) n f word left next = (f.point).5
   able (at.LeafLock spot) n f word left next = free_locks f.owns.locks_are (((f.point).2).0)
-  able (at.LeafLife spot) n f word left next = tt
-  able (at.LeafSide spot life) n f word left next = tt
-  able (at.LeafTag spot life link) n f word left next = tt
-  able (at.Reserve aim expected) n f word left next = tt
-  able (at.Seize aim) n f word left next = tt
-  able (at.Age aim s) n f word left next = tt
-  able (at.Keep s) n f word left next = tt
-  able at.Raise n f word left next = tt
-  able at.Free n f word left next = tt
   able at.Count n f word left next = omega arith
-  able (at.Begin waits) n f word left next = tt
   able (at.LookKey (Reuse (Leaf spot)) clock p) n f word left next = ((f.point).2, tt)
   able (at.LookKey (Reuse Spare) clock p) n f word left next = ((f.point).2, tt)
   able (at.LookKey (Reuse Room) clock p) n f word left next = ((f.point).2, tt)
@@ -153,13 +134,10 @@ module _ (k : Shape) (shape : IsShape k) (o : Own) (v w : View) (h h' : List Mar
       (((f.point).3).0, (let key = is.2 in let below = t.0 in let fits = t.1 in omega arith))
   able (at.LookStamp (Reuse aim) clock p key) n f word left next = (f.point).2
   able (at.LookStamp (Move move) clock p key) n f word left next = ((f.point).3).0
-  able (at.OldAge aim) n f word left next = tt
   able (at.OldRaise aim life) n f word left next = let has = (f.point).3 in first_kept v.hands.retired has.0 o.retired has.1 has.2 f.owns.retired_are
   able (at.OldFree aim) n f word left next = let has = (f.point).3 in first_kept v.hands.retired has.0 o.retired has.1 has.2 f.owns.retired_are
   able (at.OldCount aim) n f word left next = omega arith
   able (at.Commit u expected) n f word left next = omega arith
-  able (at.Store (update.Leaf spot) front) n f word left next = tt
-  able (at.Store (update.Value s old) front) n f word left next = tt
   able (at.Store (update.Bypass d child) front) n f word left next = (let room = ((f.point).1).1.room ((f.point).1).0 in omega arith)
   able (at.Store (update.Copy d u next_key copy) front) n f word left next = (let room = (((f.point).0).1).1.room (((f.point).0).1).0 in omega arith)
   able (at.Even u front) n f word left next = omega arith
@@ -167,81 +145,35 @@ module _ (k : Shape) (shape : IsShape k) (o : Own) (v w : View) (h h' : List Mar
   able (at.Unlock (last.New number)) n f word left next = some_left o.locks (((f.point).0).6)
   able (at.Unlock (last.Gone number)) n f word left next = some_left o.locks (((f.point).0).6)
   able (at.Unlock (last.Was value number)) n f word left next = some_left o.locks (((f.point).0).6)
-  able (at.SetLife s) n f word left next = tt
   able (at.SetLock s generation) n f word left next = free_locks f.owns.locks_are ((f.point).1)
-  able (at.SetCheck s generation) n f word left next = tt
-  able (at.SetValue s) n f word left next = tt
-  able (at.ParentLife p b d) n f word left next = tt
-  able (at.NodeLife d) n f word left next = tt
-  able (at.NodeLeft d) n f word left next = tt
   able (at.NodeRight d) n f word left next = λ some_child. right_able d n some_child next
   able (at.SuccessorLeft d u) n f word left next = left_able d u n next
-  able (at.SuccessorParentLife d u) n f word left next = tt
-  able (at.SuccessorLife d u) n f word left next = tt
   able (at.TargetLock t i) n f word left next =
       let below = (f.point).7 in
       let most = few_locks t in
       let long : length o.locks ≡ i = ap length ((f.point).5) ∙ first_long t i in
       (omega arith, omega arith)
   able (at.TargetLoad t i found) n f word left next = (let below = (f.point).7 in let most = few_words t.successor in omega arith)
-  able (at.Mark d child) n f word left next = tt
-  able (at.EmptyTag number s b) n f word left next = tt
-  able (at.EmptyRaise number s b tag) n f word left next = tt
-  able (at.SuccessorKey d u) n f word left next = tt
-  able (at.SuccessorValue d u next_key) n f word left next = tt
   able (at.CopyField d u next_key value i) n f word left next = (f.point).4
-  able (at.CopyAge d u next_key) n f word left next = tt
   able (at.CopyLock d u next_key) n f word left next =
       let t : Target = record { node = d; successor = Some u } in
       let long : length o.locks ≡ target_locks t = ap length (((f.point).0).4) ∙ first_long t (target_locks t) in
       let most = few_locks t in omega arith
-  able (at.CopyMark d u next_key) n f word left next = tt
-  able (at.OldMark move) n f word left next = tt
-  able (at.OldRight move) n f word left next = tt
   able (at.Unlink move child) n f word left next = (let is = ((f.point).0).6 in let room = few.room is.0 is.1 in let long = kept_long f.owns.retired_are in omega arith)
+  able _ n f word left next = tt
+
+raised_fits : (k : Shape) (place n s x : ℕ) (b : Bool) → let a : Act = cond b (RaiseRetired s x) (RaiseToSpare s x) in WordFits k (field_of place a) (left_of place a n) → x < 2 ^ 64
+raised_fits k place n s x true fits = omega arith
+raised_fits k place n s x false fits = omega arith
 
 -- a number that is stored, and counted up for it, fits
-pub may_store : (k : Shape) (v : View) (place n : ℕ) (a : Act) → Needs k v n a → WordFits k (field_of place a) (left_of place a n) → MayStore a
-may_store k v place n LoadClock needs fits = tt
-may_store k v place n (AnnounceKey key) needs fits = tt
-may_store k v place n (EnterByStamp key stamp) needs fits = tt
-may_store k v place n LeaveByStamp needs fits = tt
-may_store k v place n (BeginWait low high) needs fits = tt
-may_store k v place n (LookKey p last) needs fits = tt
-may_store k v place n (LookStamp p last) needs fits = tt
-may_store k v place n (LoadOwnLife slot) needs fits = tt
-may_store k v place n (KeepAsSpare slot) needs fits = tt
-may_store k v place n (LoadRetiredLife slot) needs fits = tt
-may_store k v place n (Reserve expected) needs fits = tt
-may_store k v place n (Seize slot) needs fits = tt
-may_store k v place n (Fill slot p number) needs fits = tt
-may_store k v place n (RaiseInHand slot number) needs fits = omega arith
-may_store k v place n (RaiseToSpare slot number) needs fits = omega arith
-may_store k v place n (RaiseRetired slot number) needs fits = omega arith
-may_store k v place n (FreeInHand slot) needs fits = tt
-may_store k v place n (FreeRetired slot) needs fits = tt
-may_store k v place n CountFree needs fits = tt
-may_store k v place n (Lock slot) needs fits = tt
-may_store k v place n (Unlock slot) needs fits = tt
-may_store k v place n (SearchLoad slot p) needs fits = tt
-may_store k v place n (LockedLoad slot p) needs fits = tt
-may_store k v place n (OpenCommit expected) needs fits = needs.even
-may_store k v place n (CloseCommit front) needs fits = omega arith
-may_store k v place n (LinkLeaf slot b leaf key value) needs fits = tt
-may_store k v place n (Bypass parent b node child key) needs fits = tt
-may_store k v place n (MarkNode slot life) needs fits = omega arith
-may_store k v place n (RaiseTag slot b tag) needs fits = omega arith
-may_store k v place n (LinkCopy parent b node copy old old_parent key next_key) needs fits = tt
-may_store k v place n (UnlinkLeft parent old child) needs fits = tt
-may_store k v place n (UnlinkRight copy old child) needs fits = tt
-may_store k v place n (ReplaceValue slot key value) needs fits = tt
-may_store k v place n (ListLoad slot p) needs fits = tt
-may_store k v place n (LoadGate class) needs fits = tt
-may_store k v place n (EnterByCount key side) needs fits = tt
-may_store k v place n (LeaveByCount class side) needs fits = tt
-may_store k v place n (LookCount class side last) needs fits = tt
-may_store k v place n (TurnGate class) needs fits = tt
-may_store k v place n (EnterByRow key stamp) needs fits = tt
-may_store k v place n (LeaveByRow class) needs fits = tt
-may_store k v place n (LookRow p class last) needs fits = tt
-may_store k v place n LookAtFront needs fits = tt
+pub may_store : (k : Shape) (v : View) (o : Own) (n : ℕ) (stage : Stage) → Needs k v n (act_at o stage) → WordFits k (field_of o.place (act_at o stage)) (left_of o.place (act_at o stage) n) → MayStore o stage
+may_store k v o n at.Raise needs fits = omega arith
+may_store k v o n (at.OldRaise aim life) needs fits = raised_fits k o.place n (first_or_root o.retired) (2 * (life / 2 + 1)) (is_some o.spare) fits
+may_store k v o n (at.Commit u expected) needs fits = needs.even
+may_store k v o n (at.Even u front) needs fits = omega arith
+may_store k v o n (at.Mark d child) needs fits = omega arith
+may_store k v o n (at.EmptyRaise number s b tag) needs fits = omega arith
+may_store k v o n (at.CopyMark d u next_key) needs fits = omega arith
+may_store k v o n (at.OldMark m) needs fits = omega arith
+may_store k v o n _ needs fits = tt

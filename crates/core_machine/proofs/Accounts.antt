@@ -36,7 +36,7 @@ use Rattle.core_points.specs.Callers.{Own}
 use Rattle.core_points.specs.Programs.{act_at, after, begun_with}
 use Rattle.core_points.specs.Laws.{is_finished}
 use Rattle.core_laws.specs.Whole.{place_views}
-use Rattle.core_machine.proofs.ActMarks.{others_none}
+use Rattle.core_acts.proofs.Acting.{others_none}
 use Rattle.core_machine.specs.Runs.{Core, core, made_owns, new_own, tickets_of, told_in, moved, shape_of, step, steps, tolds_of}
 use Rattle.core_machine.specs.Draws.{unfinished, unfinished_from}
 use Rattle.core_machine.specs.Accounts.{IsToldSoFar, at_position, untold}
@@ -127,7 +127,7 @@ module _ (scripts : List (List Op)) (slots : ℕ) (c : Core) (i : ℕ) (o : Own)
             (λ (others : (j ≢ i) × (get_elem? c.owns j ≡ some u)). ⊎_elim
             (λ (seen : (j ≡ i) × (v' ≡ x)). absurd (others.0 seen.0))
             (λ (other : (j ≢ i) × (get_elem? c.views j ≡ some x)).
-            others_tell (record { scripts = length scripts; slots = slots }) j script u x.section c.marks (marks_of w n a) (others_none w c.marks n j (λ e. others.0 (sym e ∙ place)) a) (all.tells j script u x es others.1 other.1))
+            others_tell (record { scripts = length scripts; slots = slots }) j script u x.section c.marks (marks_of w n a) (others_none w n j (λ e. others.0 (sym e ∙ place)) a) (all.tells j script u x es others.1 other.1))
             (set_cases c.views i j v v' x view ex))
             (set_cases c.owns i j o o' u own eu);
       }

@@ -47,6 +47,15 @@ goes_drawing scripts slots callers number state i m next d some is stored =
       stored = subst (λ is. HasStored scripts slots (core scripts slots is) next) order stored;
     }
 
+-- Between two turns of a run from this machine on: the callers that are left are those that haven't ended, and whoever was drawn has stepped.
+pub record IsRunning (first : MachineAt) (number state : ℕ) (left : List ℕ) (m : MachineAt) : Type 0 where
+  pub count : length m.owns ≡ length first.owns
+  pub left_are : left ≡ unfinished_from 0 m.owns
+  pub draws : (scripts : List (List Op)) (slots : ℕ) (callers : List ℕ) → IsMachine scripts slots → HasStored scripts slots (core scripts slots callers) first → IsDrawing scripts slots callers number state m
+
+pub begins_running : (m : MachineAt) (number : ℕ) (left : List ℕ) → left ≡ unfinished_from 0 m.owns → IsRunning m number number left m
+begins_running m number left is = record { count = refl; left_are = is; draws = λ scripts slots callers machine stored. begins_drawing scripts slots callers number m stored }
+
 no_more : (xs : List ℕ) → length xs ≡ 0 → xs ≡ []
 no_more [] e = refl
 no_more (x ∷ xs) e = absurd (omega (arith, e))

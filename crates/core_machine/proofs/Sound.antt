@@ -8,7 +8,7 @@ use Rattle.core_state.specs.declared.view.View.{View}
 use Rattle.core_state.specs.views.Views.{Works}
 use Rattle.core_state.specs.steps.Steps.{Steps}
 use Rattle.core_frames.specs.Laws.{KeepsPast}
-use Rattle.core_acts.specs.Acts.{access_of, left_by, said_by, noted, IsWord}
+use Rattle.core_acts.specs.Acts.{Asks, StaysWord, access_of, left_by, said_by, noted, IsWord}
 use Rattle.core_acts.proofs.Acting.{has_word, acts}
 use Rattle.core_points.specs.Acts.{Act, Needs, field_of, kind_of, marks_of, view_after}
 use Rattle.core_points.specs.Callers.{Own}
@@ -17,6 +17,7 @@ use Rattle.core_points.specs.Told.{IsTold}
 use Rattle.core_points.specs.Laws.{is_finished}
 use Rattle.core_points.proofs.All.{needs_are_given, rule_tells}
 use Rattle.core_points.proofs.Within.{acts_are_within}
+use Rattle.seat_table.proofs.Facts.{fits}
 use Rattle.core_machine.specs.Runs.{Core, core, moved, moved_by, shape_of, step}
 use Rattle.core_machine.specs.Laws.{CoresAreSound, IsAllowed, IsMachine, StepsAreAllowed}
 use Rattle.core_machine.proofs.Running.{IsRun, past_kept, runs}
@@ -49,6 +50,17 @@ module _ (k : Shape) (c : Core) (i : ℕ) (o : Own) (v : View) (run : IsRun k c)
       let caller = run.callers i o v own view in
       needs_are_given k c.marks o v c.memory (c.memory (field_of o.place (act_at o o.stage))) o.stage (λ _. run.eer) caller.places is_told caller.fits
 
+  -- what its act asks for is given, and so the word stays one
+  pub asks_met : Asks k v (act_at o o.stage)
+  asks_met =
+      let caller = run.callers i o v own view in
+      (subst (λ p. IsWord k (field_of p (act_at o o.stage))) (sym caller.fits.owns.same) has_its_word, needs_met)
+
+  pub stays_word : StaysWord (access_of o.place (act_at o o.stage)) (c.memory (field_of o.place (act_at o o.stage)))
+  stays_word =
+      let a : Act = act_at o o.stage in
+      subst (λ p. StaysWord (access_of p a) (c.memory (field_of p a))) (run.callers i o v own view).fits.owns.same (fits k c.memory c.views c.marks run.holds.now i v view a asks_met)
+
   pub allowed : is_finished o.stage ≡ false → IsAllowed k c i o v
   allowed going =
       let caller = run.callers i o v own view in
@@ -58,7 +70,7 @@ module _ (k : Shape) (c : Core) (i : ℕ) (o : Own) (v : View) (run : IsRun k c)
       Steps k c.marks v (kind_of a) (field_of p a) found (left_by (access_of p a) found) (view_after w c.marks n a) (marks_of w n a) in
       record {
         field = has_word k (field_of o.place a) has_its_word;
-        allowed = subst steps_at caller.fits.owns.same (acts k c.marks v found a (subst (λ p. IsWord k (field_of p a)) (sym caller.fits.owns.same) has_its_word, needs_met));
+        allowed = subst steps_at caller.fits.owns.same (acts k c.marks v found a asks_met);
         past = subst (λ (z : Core). KeepsPast c.memory c.marks z.memory) (sym (step_is going)) (past_kept k c i o v run own view going);
         makes = step_is going;
       }

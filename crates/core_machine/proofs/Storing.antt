@@ -1,5 +1,5 @@
 -- A step on the words is the core's.
-use Rattle.std.proofs.Common.{◌≡◌, ℕ, ◌+◌, ◌*◌, ◌==◌, ◌&&◌, cond, Bool, true, false, List, [], ◌∷◌, ◌++◌, set, slice_index, refl, sym, ap, subst, ◌∙◌, arith, length-set}
+use Rattle.std.proofs.Common.{◌≡◌, ℕ, ◌+◌, ◌*◌, ◌==◌, cond, Bool, true, false, List, [], ◌∷◌, ◌++◌, set, slice_index, refl, sym, ap, subst, ◌∙◌, arith, length-set}
 use mathlib.Core.Option.{some}
 use lib.ListN.{get_elem?}
 use Rattle.atomic_table.proofs.Lists.{set_here}
@@ -7,23 +7,20 @@ use Rattle.list_laws.proofs.Lists.{at_below}
 use Rattle.prcu_marks.specs.Marks.{updates_of}
 use Rattle.prcu_marks.proofs.MarkLists.{updates_of-append}
 use Rattle.prcu_model.specs.declared.operation.Op.{Op}
+use Rattle.prcu_model.specs.declared.operation.Update.{Update}
 use Rattle.core_state.specs.declared.shape.Shape.{Shape}
-use Rattle.core_state.specs.declared.shape.Waiter.TheVariants.{Eer, Domain}
+use Rattle.core_state.specs.declared.shape.Waiter.TheVariants.{Eer}
 use Rattle.core_state.specs.declared.words.Field.{Field}
 use Rattle.core_state.specs.declared.words.Field.TheVariants as fields
 use Rattle.core_state.specs.declared.view.View.{View}
-use Rattle.core_state.specs.declared.view.Waiting.{Waiting}
 use Rattle.core_state.specs.memory.Memory.{is_field, memory_of, stored, waiter_words, word_of}
 use Rattle.core_state.specs.memory.Words.{side_number, tag_number}
-use Rattle.prcu_marks.specs.declared.mark.Mark.TheVariants.{Ended, Given}
-use Rattle.core_state.specs.steps.Waits.{excuses, look_marks}
 use Rattle.core_points.proofs.All.{trails_are_free}
 use Rattle.core_points.specs.declared.stage.Update.TheVariants as update
 use Rattle.core_points.specs.declared.stage.Stage.{Stage}
 use Rattle.core_points.specs.declared.stage.Stage.TheVariants as at
-use Rattle.core_acts.specs.Acts.{access_of, left_by, said_by, noted, IsWord, wait_of}
-use Rattle.core_acts.proofs.Acting.{has_word}
-use Rattle.core_acts.specs.declared.act.Act.TheVariants.{LoadClock, AnnounceKey, EnterByStamp, LeaveByStamp, BeginWait, LookKey, LookStamp, LoadOwnLife, KeepAsSpare, LoadRetiredLife, Reserve, Seize, Fill, RaiseInHand, RaiseToSpare, RaiseRetired, FreeInHand, FreeRetired, CountFree, Lock, Unlock, SearchLoad, LockedLoad, OpenCommit, CloseCommit, LinkLeaf, Bypass, Mark as MarkNode, RaiseTag, LinkCopy, UnlinkLeft, UnlinkRight, ReplaceValue, ListLoad, LoadGate, EnterByCount, LeaveByCount, LookCount, TurnGate, EnterByRow, LeaveByRow, LookRow, LookAtFront}
+use Rattle.core_acts.specs.Acts.{access_of, left_by, said_by, noted, StaysWord}
+use Rattle.core_acts.proofs.Acting.{has_word, op_of, updates_by, updates_made}
 use Rattle.core_points.specs.Acts.{Act, kind_of, field_of, left_of, marks_of, view_after}
 use Rattle.core_points.specs.Callers.{Own, is_some as has_slot}
 use Rattle.core_points.specs.Programs.{act_at, after}
@@ -33,7 +30,6 @@ use Rattle.seat_table.specs.Gains.{WordFits}
 use Rattle.seat_table.proofs.Facts.{word_fits}
 use Rattle.seat_table.proofs.Memories.{memory-word, memory-stored, word_inside}
 use Rattle.core_frames.proofs.views.Fields.{same_self}
-use Rattle.core_machine.specs.Accesses.{MayRise}
 use Rattle.core_machine.specs.Runs.{Core, core, told_in, moved, shape_of, step, steps}
 use Rattle.core_machine.specs.Laws.{IsMachine}
 use Rattle.core_machine.specs.Stored.{IsAble}
@@ -41,190 +37,28 @@ use Rattle.core_machine.specs.Stepping.{CanStep, found_now, told_now, index_now,
 use Rattle.core_machine.proofs.Turns.{del_is, put_is, set_is}
 use Rattle.core_machine.specs.StepLaws.{AreWordsOf, CallersCanStep, IsStored, StepsAreStored}
 use Rattle.core_machine.proofs.Running.{IsRun, moves}
-use Rattle.core_machine.proofs.Sound.{core_runs, step_is, is_told, has_its_word, needs_met}
+use Rattle.core_machine.proofs.Sound.{core_runs, step_is, is_told, has_its_word, needs_met, stays_word}
 use Rattle.core_machine.proofs.Able.{able, may_store}
 use Rattle.core_machine.proofs.Accounts.{AllTell, cores_tell, elem_at}
 
--- ---- accesses
-
--- a word that is counted up is a small one
-rises : (k : Shape) (place n : ℕ) (a : Act) → k.waiter ≡ Eer → IsWord k (field_of place a) → WordFits k (field_of place a) n → MayRise (access_of place a) n
-rises k place n LoadClock eer word fits = tt
-rises k place n (AnnounceKey key) eer word fits = tt
-rises k place n (EnterByStamp key stamp) eer word fits = tt
-rises k place n LeaveByStamp eer word fits = tt
-rises k place n (BeginWait low high) eer word fits = omega arith
-rises k place n (LookKey p last) eer word fits = tt
-rises k place n (LookStamp p last) eer word fits = tt
-rises k place n (LoadOwnLife slot) eer word fits = tt
-rises k place n (KeepAsSpare slot) eer word fits = tt
-rises k place n (LoadRetiredLife slot) eer word fits = tt
-rises k place n (Reserve expected) eer word fits = tt
-rises k place n (Seize slot) eer word fits = tt
-rises k place n (Fill slot p number) eer word fits = tt
-rises k place n (RaiseInHand slot number) eer word fits = tt
-rises k place n (RaiseToSpare slot number) eer word fits = tt
-rises k place n (RaiseRetired slot number) eer word fits = tt
-rises k place n (FreeInHand slot) eer word fits = tt
-rises k place n (FreeRetired slot) eer word fits = tt
-rises k place n CountFree eer word fits = omega arith
-rises k place n (Lock slot) eer word fits = tt
-rises k place n (Unlock slot) eer word fits = tt
-rises k place n (SearchLoad slot p) eer word fits = tt
-rises k place n (LockedLoad slot p) eer word fits = tt
-rises k place n (OpenCommit expected) eer word fits = tt
-rises k place n (CloseCommit front) eer word fits = tt
-rises k place n (LinkLeaf slot b leaf key value) eer word fits = tt
-rises k place n (Bypass parent b node child key) eer word fits = tt
-rises k place n (MarkNode slot life) eer word fits = tt
-rises k place n (RaiseTag slot b tag) eer word fits = tt
-rises k place n (LinkCopy parent b node copy old old_parent key next_key) eer word fits = tt
-rises k place n (UnlinkLeft parent old child) eer word fits = tt
-rises k place n (UnlinkRight copy old child) eer word fits = tt
-rises k place n (ReplaceValue slot key value) eer word fits = tt
-rises k place n (ListLoad slot p) eer word fits = tt
-rises k place n (LoadGate class) eer word fits = tt
-rises k place n (EnterByCount key side) eer word fits = absurd (let e : Eer ≡ Domain = sym eer ∙ word.0 in cc)
-rises k place n (LeaveByCount class side) eer word fits = tt
-rises k place n (LookCount class side last) eer word fits = tt
-rises k place n (TurnGate class) eer word fits = tt
-rises k place n (EnterByRow key stamp) eer word fits = tt
-rises k place n (LeaveByRow class) eer word fits = tt
-rises k place n (LookRow p class last) eer word fits = tt
-rises k place n LookAtFront eer word fits = tt
-
 -- ---- updates
 
-abbrev is_update : Act → Bool
-is_update (LinkLeaf slot b leaf key value) = true
-is_update (Bypass parent b node child key) = true
-is_update (LinkCopy parent b node copy old old_parent key next_key) = true
-is_update (ReplaceValue slot key value) = true
-is_update _ = false
+none_made : (p : ℕ) (b : Bool) (x y : Act) → updates_by p (op_of x) ≡ [] → updates_by p (op_of y) ≡ [] → updates_by p (op_of (cond b x y)) ≡ []
+none_made p true x y ex ey = ex
+none_made p false x y ex ey = ey
 
-look_updates : (v : View) (wait : Waiting) (field : Field) (last : Bool) (n : ℕ) → updates_of (look_marks v wait field last n) ≡ []
-look_updates v wait field last n = by (excuses wait field n && last)
-  where
-    by : (b : Bool) → updates_of (cond b (Ended v.allowance.place wait.count ∷ []) []) ≡ []
-    by true = refl
-    by false = refl
-
-seize_updates : (slot : ℕ) (b : Bool) → updates_of (cond b (Given slot ∷ []) []) ≡ []
-seize_updates slot true = refl
-seize_updates slot false = refl
-
-no_updates : (v : View) (n : ℕ) (a : Act) → is_update a ≡ false → updates_of (marks_of v n a) ≡ []
-no_updates v n LoadClock e = refl
-no_updates v n (AnnounceKey key) e = refl
-no_updates v n (EnterByStamp key stamp) e = refl
-no_updates v n LeaveByStamp e = refl
-no_updates v n (BeginWait low high) e = refl
-no_updates v n (LookKey p last) e = look_updates v (wait_of v) (fields.Announced p) last n
-no_updates v n (LookStamp p last) e = look_updates v (wait_of v) (fields.Stamp p) last n
-no_updates v n (LoadOwnLife slot) e = refl
-no_updates v n (KeepAsSpare slot) e = refl
-no_updates v n (LoadRetiredLife slot) e = refl
-no_updates v n (Reserve expected) e = refl
-no_updates v n (Seize slot) e = seize_updates slot (n == 0)
-no_updates v n (Fill slot p number) e = refl
-no_updates v n (RaiseInHand slot number) e = refl
-no_updates v n (RaiseToSpare slot number) e = refl
-no_updates v n (RaiseRetired slot number) e = refl
-no_updates v n (FreeInHand slot) e = refl
-no_updates v n (FreeRetired slot) e = refl
-no_updates v n CountFree e = refl
-no_updates v n (Lock slot) e = refl
-no_updates v n (Unlock slot) e = refl
-no_updates v n (SearchLoad slot p) e = refl
-no_updates v n (LockedLoad slot p) e = refl
-no_updates v n (OpenCommit expected) e = refl
-no_updates v n (CloseCommit front) e = refl
-no_updates v n (LinkLeaf slot b leaf key value) e = absurd (cc)
-no_updates v n (Bypass parent b node child key) e = absurd (cc)
-no_updates v n (MarkNode slot life) e = refl
-no_updates v n (RaiseTag slot b tag) e = refl
-no_updates v n (LinkCopy parent b node copy old old_parent key next_key) e = absurd (cc)
-no_updates v n (UnlinkLeft parent old child) e = refl
-no_updates v n (UnlinkRight copy old child) e = refl
-no_updates v n (ReplaceValue slot key value) e = absurd (cc)
-no_updates v n (ListLoad slot p) e = refl
-no_updates v n (LoadGate class) e = refl
-no_updates v n (EnterByCount key side) e = refl
-no_updates v n (LeaveByCount class side) e = refl
-no_updates v n (LookCount class side last) e = look_updates v (wait_of v) (fields.Count class side) last n
-no_updates v n (TurnGate class) e = refl
-no_updates v n (EnterByRow key stamp) e = refl
-no_updates v n (LeaveByRow class) e = refl
-no_updates v n (LookRow p class last) e = look_updates v (wait_of v) (fields.Row p class) last n
-no_updates v n LookAtFront e = refl
-
-either_update : (b : Bool) (x y : Act) → is_update x ≡ false → is_update y ≡ false → is_update (cond b x y) ≡ false
-either_update true x y p q = p
-either_update false x y p q = q
+made_at : (o : Own) (v : View) (stage : Stage) (us ws : List Update) → Fits o stage v → v.allowance.place ≡ o.place → us ≡ updates_by v.allowance.place (op_of (act_at o stage)) → ws ≡ update_at o stage → us ≡ ws
+made_at o v (at.OldRaise aim life) us ws f place is e = is ∙ none_made v.allowance.place (has_slot o.spare) _ _ refl refl ∙ sym e
+made_at o v (at.Store (update.Leaf spot) front) us ws f place is e = is ∙ (λ j. record { caller = place j; op = put_is o.op ((f.point).5) j } ∷ []) ∙ sym e
+made_at o v (at.Store (update.Value s old) front) us ws f place is e = is ∙ (λ j. record { caller = place j; op = set_is o.op (((f.point).1).3) j } ∷ []) ∙ sym e
+made_at o v (at.Store (update.Bypass d child) front) us ws f place is e = is ∙ (λ j. record { caller = place j; op = del_is o.op (((f.point).1).0) j } ∷ []) ∙ sym e
+made_at o v (at.Store (update.Copy d u next_key copy) front) us ws f place is e = is ∙ (λ j. record { caller = place j; op = del_is o.op ((((f.point).0).1).0) j } ∷ []) ∙ sym e
+made_at o v (at.Unlink m child) us ws f place is e = is ∙ none_made v.allowance.place (m.successor.parent == m.node.node) _ _ refl refl ∙ sym e
+made_at o v _ us ws f place is e = is ∙ sym e
 
 -- the step's update is that of its point
 updates_at : (o : Own) (v : View) (n : ℕ) (stage : Stage) → Fits o stage v → v.allowance.place ≡ o.place → updates_of (marks_of v n (act_at o stage)) ≡ update_at o stage
-updates_at o v n at.Finished f place = no_updates v n (act_at o at.Finished) refl
-updates_at o v n at.EnterClock f place = no_updates v n (act_at o at.EnterClock) refl
-updates_at o v n (at.EnterKey clock) f place = no_updates v n (act_at o (at.EnterKey clock)) refl
-updates_at o v n (at.EnterStamp clock) f place = no_updates v n (act_at o (at.EnterStamp clock)) refl
-updates_at o v n (at.AtLink s b) f place = no_updates v n (act_at o (at.AtLink s b)) refl
-updates_at o v n (at.AtKey s p b) f place = no_updates v n (act_at o (at.AtKey s p b)) refl
-updates_at o v n (at.Leave next) f place = no_updates v n (act_at o (at.Leave next)) refl
-updates_at o v n (at.Value s) f place = no_updates v n (act_at o (at.Value s)) refl
-updates_at o v n (at.SpotTag s b) f place = no_updates v n (act_at o (at.SpotTag s b)) refl
-updates_at o v n (at.SpotLife s b tag) f place = no_updates v n (act_at o (at.SpotLife s b tag)) refl
-updates_at o v n (at.LeafField spot i) f place = no_updates v n (act_at o (at.LeafField spot i)) refl
-updates_at o v n (at.LeafLock spot) f place = no_updates v n (act_at o (at.LeafLock spot)) refl
-updates_at o v n (at.LeafLife spot) f place = no_updates v n (act_at o (at.LeafLife spot)) refl
-updates_at o v n (at.LeafSide spot life) f place = no_updates v n (act_at o (at.LeafSide spot life)) refl
-updates_at o v n (at.LeafTag spot life link) f place = no_updates v n (act_at o (at.LeafTag spot life link)) refl
-updates_at o v n (at.Reserve aim expected) f place = no_updates v n (act_at o (at.Reserve aim expected)) refl
-updates_at o v n (at.Seize aim) f place = no_updates v n (act_at o (at.Seize aim)) refl
-updates_at o v n (at.Age aim s) f place = no_updates v n (act_at o (at.Age aim s)) refl
-updates_at o v n (at.Keep s) f place = no_updates v n (act_at o (at.Keep s)) refl
-updates_at o v n at.Raise f place = no_updates v n (act_at o at.Raise) refl
-updates_at o v n at.Free f place = no_updates v n (act_at o at.Free) refl
-updates_at o v n at.Count f place = no_updates v n (act_at o at.Count) refl
-updates_at o v n (at.Begin waits) f place = no_updates v n (act_at o (at.Begin waits)) refl
-updates_at o v n (at.LookKey waits clock p) f place = no_updates v n (act_at o (at.LookKey waits clock p)) refl
-updates_at o v n (at.LookStamp waits clock p key) f place = no_updates v n (act_at o (at.LookStamp waits clock p key)) refl
-updates_at o v n (at.OldAge aim) f place = no_updates v n (act_at o (at.OldAge aim)) refl
-updates_at o v n (at.OldRaise aim life) f place = no_updates v n (act_at o (at.OldRaise aim life)) (either_update (has_slot o.spare) _ _ refl refl)
-updates_at o v n (at.OldFree aim) f place = no_updates v n (act_at o (at.OldFree aim)) refl
-updates_at o v n (at.OldCount aim) f place = no_updates v n (act_at o (at.OldCount aim)) refl
-updates_at o v n (at.Commit u expected) f place = no_updates v n (act_at o (at.Commit u expected)) refl
-updates_at o v n (at.Store (update.Leaf spot) front) f place = λ j. record { caller = place j; op = put_is o.op ((f.point).5) j } ∷ []
-updates_at o v n (at.Store (update.Value s old) front) f place = λ j. record { caller = place j; op = set_is o.op (((f.point).1).3) j } ∷ []
-updates_at o v n (at.Store (update.Bypass d child) front) f place = λ j. record { caller = place j; op = del_is o.op (((f.point).1).0) j } ∷ []
-updates_at o v n (at.Store (update.Copy d u next_key copy) front) f place = λ j. record { caller = place j; op = del_is o.op ((((f.point).0).1).0) j } ∷ []
-updates_at o v n (at.Even u front) f place = no_updates v n (act_at o (at.Even u front)) refl
-updates_at o v n (at.Unlock l) f place = no_updates v n (act_at o (at.Unlock l)) refl
-updates_at o v n (at.SetLife s) f place = no_updates v n (act_at o (at.SetLife s)) refl
-updates_at o v n (at.SetLock s generation) f place = no_updates v n (act_at o (at.SetLock s generation)) refl
-updates_at o v n (at.SetCheck s generation) f place = no_updates v n (act_at o (at.SetCheck s generation)) refl
-updates_at o v n (at.SetValue s) f place = no_updates v n (act_at o (at.SetValue s)) refl
-updates_at o v n (at.ParentLife p b d) f place = no_updates v n (act_at o (at.ParentLife p b d)) refl
-updates_at o v n (at.NodeLife d) f place = no_updates v n (act_at o (at.NodeLife d)) refl
-updates_at o v n (at.NodeLeft d) f place = no_updates v n (act_at o (at.NodeLeft d)) refl
-updates_at o v n (at.NodeRight d) f place = no_updates v n (act_at o (at.NodeRight d)) refl
-updates_at o v n (at.SuccessorLeft d u) f place = no_updates v n (act_at o (at.SuccessorLeft d u)) refl
-updates_at o v n (at.SuccessorParentLife d u) f place = no_updates v n (act_at o (at.SuccessorParentLife d u)) refl
-updates_at o v n (at.SuccessorLife d u) f place = no_updates v n (act_at o (at.SuccessorLife d u)) refl
-updates_at o v n (at.TargetLock t i) f place = no_updates v n (act_at o (at.TargetLock t i)) refl
-updates_at o v n (at.TargetLoad t i found) f place = no_updates v n (act_at o (at.TargetLoad t i found)) refl
-updates_at o v n (at.Mark d child) f place = no_updates v n (act_at o (at.Mark d child)) refl
-updates_at o v n (at.EmptyTag number s b) f place = no_updates v n (act_at o (at.EmptyTag number s b)) refl
-updates_at o v n (at.EmptyRaise number s b tag) f place = no_updates v n (act_at o (at.EmptyRaise number s b tag)) refl
-updates_at o v n (at.SuccessorKey d u) f place = no_updates v n (act_at o (at.SuccessorKey d u)) refl
-updates_at o v n (at.SuccessorValue d u next_key) f place = no_updates v n (act_at o (at.SuccessorValue d u next_key)) refl
-updates_at o v n (at.CopyField d u next_key value i) f place = no_updates v n (act_at o (at.CopyField d u next_key value i)) refl
-updates_at o v n (at.CopyAge d u next_key) f place = no_updates v n (act_at o (at.CopyAge d u next_key)) refl
-updates_at o v n (at.CopyLock d u next_key) f place = no_updates v n (act_at o (at.CopyLock d u next_key)) refl
-updates_at o v n (at.CopyMark d u next_key) f place = no_updates v n (act_at o (at.CopyMark d u next_key)) refl
-updates_at o v n (at.OldMark m) f place = no_updates v n (act_at o (at.OldMark m)) refl
-updates_at o v n (at.OldRight m) f place = no_updates v n (act_at o (at.OldRight m)) refl
-updates_at o v n (at.Unlink m child) f place = no_updates v n (act_at o (at.Unlink m child)) (either_update (m.successor.parent == m.node.node) _ _ refl refl)
+updates_at o v n stage f place = updates_made v n (act_at o stage) ∙ made_at o v stage _ _ f place refl refl
 
 -- ---- shapes that differ in tickets alone
 
@@ -349,8 +183,8 @@ module _ (scripts : List (List Op)) (slots : ℕ) (callers : List ℕ) (machine 
         size = record { slots = omega arith; places = omega arith; scan = here.fits.owns.scans_table };
         field = subst (λ (z : ℕ × ℕ). is_field (record { waiter = Eer; slots = z.0; places = z.1; tickets = 0 }) (field_of o.place (act_at o o.stage)) ≡ true) (λ j. (here.slots j, here.places j)) (sym (same_is_field k' (field_of o.place (act_at o o.stage))) ∙ has);
         within = omega arith;
-        stores = may_store k' v o.place ((core scripts slots callers).memory (field_of o.place (act_at o o.stage))) (act_at o o.stage) (needs_met k' (core scripts slots callers) i o v run own view) word_left;
-        rises = subst (MayRise (access_of o.place (act_at o o.stage))) (sym found) (rises k' o.place ((core scripts slots callers).memory (field_of o.place (act_at o o.stage))) (act_at o o.stage) run.eer (has_its_word k' (core scripts slots callers) i o v run own view) word_found);
+        stores = may_store k' v o ((core scripts slots callers).memory (field_of o.place (act_at o o.stage))) o.stage (needs_met k' (core scripts slots callers) i o v run own view) word_left;
+        rises = subst (StaysWord (access_of o.place (act_at o o.stage))) (sym found) (stays_word k' (core scripts slots callers) i o v run own view);
         able = able_here;
       }
 

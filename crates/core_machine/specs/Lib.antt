@@ -3,7 +3,6 @@ pub mod Stepped
 pub mod Draws
 pub mod Accounts
 pub mod Laws
-pub mod Accesses
 pub mod Stored
 pub mod Stepping
 pub mod StepLaws

@@ -8,11 +8,10 @@ use Rattle.core_state.specs.declared.words.Field.{Field}
 use Rattle.core_state.specs.memory.Memory.{is_field, word_of}
 use Rattle.core_points.specs.declared.stage.Stage.{Stage}
 use Rattle.core_points.specs.declared.stage.Stage.TheVariants as at
-use Rattle.core_acts.specs.Acts.{access_of, said_by}
+use Rattle.core_acts.specs.Acts.{access_of, said_by, StaysWord}
 use Rattle.core_points.specs.Acts.{field_of}
 use Rattle.core_points.specs.Callers.{Own}
 use Rattle.core_points.specs.Programs.{act_at}
-use Rattle.core_machine.specs.Accesses.{MayRise}
 use Rattle.core_machine.specs.Stored.{HasSize, IsAble, MayStore}
 
 -- the field of the caller's step, and where its word lies among those of the first waiter
@@ -37,8 +36,8 @@ pub record CanStep (words : List ℕ) (o : Own) : Type 0 where
   pub size : HasSize o
   pub field : is_field (shape_for o.slots o.places) (field_now o) ≡ true
   pub within : index_now o < length words
-  pub stores : MayStore (act_at o o.stage)
-  pub rises : MayRise (access_of o.place (act_at o o.stage)) (found_now words o)
+  pub stores : MayStore o o.stage
+  pub rises : StaysWord (access_of o.place (act_at o o.stage)) (found_now words o)
   pub able : IsAble o (told_now words o) o.stage
 
 -- the update that the caller's step makes, if it makes one

@@ -1,6 +1,6 @@
 -- What the machine's values stand for: what a caller keeps, and what the next point asks of the numbers.
 -- Source: docs/TREE.md, "The machine".
-use Rattle.std.specs.Prelude.{◌≡◌, ◌≢◌, ℕ, ◌+◌, ◌%◌, ◌^◌, ◌<◌, ◌≤◌, Bool, true, false, if◌then◌else◌, length, drop}
+use Rattle.std.specs.Prelude.{◌≡◌, ◌≢◌, ℕ, ◌+◌, ◌*◌, ◌/◌, ◌%◌, ◌^◌, ◌<◌, ◌≤◌, Bool, true, false, if◌then◌else◌, length, drop}
 use Rattle.core_state.specs.declared.words.Field.{Field}
 use Rattle.core_points.specs.declared.stage.Update.{Update}
 use Rattle.core_points.specs.declared.stage.Update.TheVariants as update
@@ -8,10 +8,9 @@ use Rattle.core_points.specs.declared.stage.Waits.{Waits}
 use Rattle.core_points.specs.declared.stage.Waits.TheVariants.{Reuse, Move}
 use Rattle.core_points.specs.declared.stage.Stage.{Stage}
 use Rattle.core_points.specs.declared.stage.Stage.TheVariants as at
-use Rattle.core_acts.specs.Acts as acts
+use Rattle.core_acts.specs.declared.access.Access.{Access}
 use Rattle.core_acts.specs.Acts.{access_of}
-use Rattle.core_acts.specs.declared.act.Act.TheVariants.{RaiseInHand, RaiseToSpare, RaiseRetired, OpenCommit, CloseCommit, Mark as MarkNode, RaiseTag}
-use Rattle.core_points.specs.Acts.{Act, field_of}
+use Rattle.core_points.specs.Acts.{field_of}
 use Rattle.core_points.specs.Callers.{Own, key_now}
 use Rattle.core_points.specs.Programs.{act_at}
 use Rattle.core_points.specs.Laws.{is_finished}
@@ -43,19 +42,20 @@ abbrev pub HasRoom : Caller → Type 0
 HasRoom c = (length (drop c.taken c.script.items) + (if is_finished c.stage then 0 else 1) ≤ c.told.spare) × (c.front < 2 ^ 63)
 
 -- the word of the caller's step, and what the step does to it
-abbrev pub touched : Own → Field × acts.Access
+abbrev pub touched : Own → Field × Access
 touched o = (field_of o.place (act_at o o.stage), access_of o.place (act_at o o.stage))
 
--- A number that an act stores, and that is counted up for it, fits a word; that of an open commit is odd.
-abbrev pub MayStore : Act → Type 0
-MayStore (MarkNode slot life) = life + 1 < 2 ^ 64
-MayStore (RaiseInHand slot number) = number < 2 ^ 64
-MayStore (RaiseToSpare slot number) = number < 2 ^ 64
-MayStore (RaiseRetired slot number) = number < 2 ^ 64
-MayStore (RaiseTag slot b tag) = tag + 1 < 2 ^ 64
-MayStore (OpenCommit expected) = expected % 2 ≡ 0
-MayStore (CloseCommit front) = front < 2 ^ 64
-MayStore _ = Unit {0}
+-- A number that the step of a point stores, and that is counted up for it, fits a word; that of an open commit is odd.
+abbrev pub MayStore : Own → Stage → Type 0
+MayStore o at.Raise = 2 * (o.hand_life / 2 + 1) < 2 ^ 64
+MayStore o (at.OldRaise aim life) = 2 * (life / 2 + 1) < 2 ^ 64
+MayStore o (at.Commit u expected) = expected % 2 ≡ 0
+MayStore o (at.Even u front) = front + 2 < 2 ^ 64
+MayStore o (at.Mark d child) = 2 * d.generation + 1 < 2 ^ 64
+MayStore o (at.EmptyRaise number s b tag) = tag + 1 < 2 ^ 64
+MayStore o (at.CopyMark d u next_key) = 2 * d.generation + 1 < 2 ^ 64
+MayStore o (at.OldMark m) = 2 * m.successor.generation + 1 < 2 ^ 64
+MayStore o _ = Unit {0}
 
 -- The points of giving slots back, of locks, and of a move, as the code has them apart.
 abbrev pub at_move : Stage → Bool

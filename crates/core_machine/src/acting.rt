@@ -2,46 +2,66 @@
 ghost use Rattle.std.specs.Prelude.{◌≡◌, ℕ, ◌+◌, ◌*◌, ◌/◌, ◌<◌, ◌^◌, ◌==◌, true, if◌then◌else◌};
 ghost use Rattle.core_state.specs.declared.words.Field.TheVariants as fields;
 ghost use Rattle.core_acts.specs.declared.act.Act.TheVariants as acts;
-ghost use Rattle.core_acts.specs.Acts.{loads, stores, exchanges, adds, access_of};
+ghost use Rattle.core_acts.specs.declared.access.Access.TheVariants as does;
+ghost use Rattle.core_acts.specs.Acts.{access_of, in_slot};
 ghost use Rattle.core_points.specs.Acts.{field_of};
 ghost use Rattle.core_points.specs.Callers.{content, contents, is_some as has_slot};
 ghost use Rattle.core_points.specs.Programs.{act_at, store_act};
-ghost use Rattle.core_machine.specs.Accesses.{done_to};
 ghost use Rattle.core_machine.specs.Stored.{own_of, touched, MayStore, is_outside, at_locks, at_move};
 
-use crate::access::Access;
 use crate::caller::{Caller, first_or_root, or_root, value_in};
-use crate::plan::{target_field, target_lock};
+use crate::plan::{target_lock, target_part, target_slot};
+use core_acts::{Access, Part};
 use core_points::stage::{Moving, Stage, Update};
 use core_state::Field;
 use prcu_marks::Side;
 
 fn load(field: Field) -> (Field, Access)
-    ensures { done_to result ≡ (field, loads) }
+    ensures { result ≡ (field, does.Load) }
 {
     (field, Access::Load)
 }
 
 fn store(field: Field, number: u64) -> (Field, Access)
-    ensures { done_to result ≡ (field, stores number) }
+    ensures { result ≡ (field, does.Store number) }
 {
     (field, Access::Store { number })
 }
 
+/// The word is one more.
+fn add(field: Field) -> (Field, Access)
+    ensures { result ≡ (field, does.Add 1) }
+{
+    (field, Access::Add { number: 1 })
+}
+
+/// A slot's word.
+fn word_in(slot: u32, part: Part) -> Field
+    ensures { result ≡ in_slot slot part }
+{
+    match part {
+        Part::Life => Field::Life { slot },
+        Part::Key => Field::Key { slot },
+        Part::Value => Field::Value { slot },
+        Part::Link { side } => Field::Link { slot, side },
+        Part::Tag { side } => Field::Tag { slot, side },
+    }
+}
+
 fn load_life(slot: u32) -> (Field, Access)
-    ensures { done_to result ≡ (fields.Life slot, loads) }
+    ensures { result ≡ (fields.Life slot, does.Load) }
 {
     load(Field::Life { slot })
 }
 
 fn load_link(slot: u32, side: Side) -> (Field, Access)
-    ensures { done_to result ≡ (fields.Link slot side, loads) }
+    ensures { result ≡ (fields.Link slot side, does.Load) }
 {
     load(Field::Link { slot, side })
 }
 
 fn load_tag(slot: u32, side: Side) -> (Field, Access)
-    ensures { done_to result ≡ (fields.Tag slot side, loads) }
+    ensures { result ≡ (fields.Tag slot side, does.Load) }
 {
     load(Field::Tag { slot, side })
 }
@@ -56,26 +76,26 @@ fn raised(life: u64) -> u64
 
 fn mark(slot: u32, generation: u64) -> (Field, Access)
     requires { 2 * generation + 1 < 2 ^ 64 }
-    ensures { done_to result ≡ (fields.Life slot, stores (2 * generation + 1)) }
+    ensures { result ≡ (fields.Life slot, does.Store (2 * generation + 1)) }
 {
     store(Field::Life { slot }, 2 * generation + 1)
 }
 
 fn exchange(field: Field, expected: u64, number: u64) -> (Field, Access)
-    ensures { done_to result ≡ (field, exchanges expected number) }
+    ensures { result ≡ (field, does.Exchange expected number) }
 {
     (field, Access::Exchange { expected, number })
 }
 
 fn lock(place: u32, slot: u32) -> (Field, Access)
-    ensures { done_to result ≡ (fields.Lock slot, exchanges 0 (place + 1)) }
+    ensures { result ≡ (fields.Lock slot, does.Exchange 0 (place + 1)) }
 {
     exchange(Field::Lock { slot }, 0, u64::from(place) + 1)
 }
 
 /// One of the four fields of a new node.
 fn fill(slot: u32, at: u32, key: u64, value: u64, left: u64, right: u64) -> (Field, Access)
-    ensures { done_to result ≡ (content slot at, stores (contents key value left right at)) }
+    ensures { result ≡ (content slot at, does.Store (contents key value left right at)) }
 {
     if at == 0 {
         store(Field::Key { slot }, key)
@@ -93,7 +113,7 @@ fn fill(slot: u32, at: u32, key: u64, value: u64, left: u64, right: u64) -> (Fie
 /// The life of a retired slot is raised, which becomes the spare where there is none.
 fn raise_old(spare: Option<u32>, slot: u32, life: u64) -> (Field, Access)
     requires { 2 * (life / 2 + 1) < 2 ^ 64 }
-    ensures { (place : ℕ) → let number = 2 * (life / 2 + 1) in let act = if has_slot spare then acts.RaiseRetired slot number else acts.RaiseToSpare slot number in done_to result ≡ (field_of place act, access_of place act) }
+    ensures { (place : ℕ) → let number = 2 * (life / 2 + 1) in let act = if has_slot spare then acts.RaiseRetired slot number else acts.RaiseToSpare slot number in result ≡ (field_of place act, access_of place act) }
 {
     let number = raised(life);
     match spare {
@@ -103,7 +123,7 @@ fn raise_old(spare: Option<u32>, slot: u32, life: u64) -> (Field, Access)
 }
 
 fn unlink(moving: Moving, child: u64) -> (Field, Access)
-    ensures { (place : ℕ) → let act = if moving.successor.parent == moving.node.node then acts.UnlinkRight moving.copy moving.successor.slot child else acts.UnlinkLeft moving.successor.parent moving.successor.slot child in done_to result ≡ (field_of place act, access_of place act) }
+    ensures { (place : ℕ) → let act = if moving.successor.parent == moving.node.node then acts.UnlinkRight moving.copy moving.successor.slot child else acts.UnlinkLeft moving.successor.parent moving.successor.slot child in result ≡ (field_of place act, access_of place act) }
 {
     if moving.successor.parent == moving.node.node {
         store(
@@ -126,7 +146,7 @@ fn unlink(moving: Moving, child: u64) -> (Field, Access)
 
 /// What is stored while the front is odd.
 fn update(own: &Caller, update: Update) -> (Field, Access)
-    ensures { let o = own_of own.now in done_to result ≡ (field_of o.place (store_act o update), access_of o.place (store_act o update)) }
+    ensures { let o = own_of own.now in result ≡ (field_of o.place (store_act o update), access_of o.place (store_act o update)) }
 {
     match update {
         Update::Leaf { spot } => store(
@@ -156,8 +176,8 @@ fn update(own: &Caller, update: Update) -> (Field, Access)
 
 /// The word of the caller's step, and what the step does to it.
 pub(crate) fn access_at(own: &Caller) -> (Field, Access)
-    requires { let o = own_of own.now in MayStore (act_at o o.stage) }
-    ensures { done_to result ≡ touched (own_of own.now) }
+    requires { let o = own_of own.now in MayStore o o.stage }
+    ensures { result ≡ touched (own_of own.now) }
 {
     match own.stage {
         Stage::Finished | Stage::EnterClock => load(Field::Clock),
@@ -184,8 +204,8 @@ pub(crate) fn access_at(own: &Caller) -> (Field, Access)
 /// The same at a point that takes a slot, waits, or gives slots back.
 fn access_outside(own: &Caller) -> (Field, Access)
     requires at { is_outside own.now.stage ≡ true }
-    requires fits { let o = own_of own.now in MayStore (act_at o o.stage) }
-    ensures { done_to result ≡ touched (own_of own.now) }
+    requires fits { let o = own_of own.now in MayStore o o.stage }
+    ensures { result ≡ touched (own_of own.now) }
 {
     match own.stage {
         Stage::Reserve { expected, .. } => {
@@ -206,8 +226,8 @@ fn access_outside(own: &Caller) -> (Field, Access)
             },
             0,
         ),
-        Stage::Count | Stage::OldCount { .. } => (Field::Free, Access::Add),
-        Stage::Begin { .. } => (Field::Clock, Access::Add),
+        Stage::Count | Stage::OldCount { .. } => add(Field::Free),
+        Stage::Begin { .. } => add(Field::Clock),
         Stage::LookKey { place, .. } => load(Field::Announced { place }),
         Stage::LookStamp { place, .. } => load(Field::Stamp { place }),
         Stage::OldAge { .. } => load_life(first_or_root(own.retired.as_slice())),
@@ -229,8 +249,8 @@ fn access_outside(own: &Caller) -> (Field, Access)
 /// The same at a point that takes a lock, gives one up, or is under locks.
 fn access_locked(own: &Caller) -> (Field, Access)
     requires at { at_locks own.now.stage ≡ true }
-    requires fits { let o = own_of own.now in MayStore (act_at o o.stage) }
-    ensures { done_to result ≡ touched (own_of own.now) }
+    requires fits { let o = own_of own.now in MayStore o o.stage }
+    ensures { result ≡ touched (own_of own.now) }
 {
     match own.stage {
         Stage::LeafField { at, .. } => fill(
@@ -258,7 +278,10 @@ fn access_locked(own: &Caller) -> (Field, Access)
         Stage::SetCheck { slot, .. } => load_life(slot),
         Stage::SetValue { slot } => load(Field::Value { slot }),
         Stage::TargetLock { target, at } => lock(own.place, target_lock(target, at)),
-        Stage::TargetLoad { target, at, .. } => load(target_field(target, at)),
+        Stage::TargetLoad { target, at, .. } => load(word_in(
+            target_slot(target, at),
+            target_part(target, at),
+        )),
         Stage::Mark { node, .. } => mark(node.node, node.generation),
         Stage::EmptyTag { slot, side, .. } => load_tag(slot, side),
         Stage::EmptyRaise {
@@ -274,8 +297,8 @@ fn access_locked(own: &Caller) -> (Field, Access)
 /// The same at a point of a delete of a node with two children.
 fn access_moving(own: &Caller) -> (Field, Access)
     requires at { at_move own.now.stage ≡ true }
-    requires fits { let o = own_of own.now in MayStore (act_at o o.stage) }
-    ensures { done_to result ≡ touched (own_of own.now) }
+    requires fits { let o = own_of own.now in MayStore o o.stage }
+    ensures { result ≡ touched (own_of own.now) }
 {
     match own.stage {
         Stage::SuccessorKey { successor, .. } => load(Field::Key {

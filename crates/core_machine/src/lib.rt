@@ -2,14 +2,12 @@
 //! first waiter. The laws say that whatever the order is, the tree's invariant holds and what the callers were told is explained.
 #![tactic(auto)]
 
-mod access;
 mod acting;
 mod blocking;
 pub mod caller;
 mod choosing;
 mod going;
 pub mod laws;
-mod layout;
 mod machine;
 mod moving;
 mod plan;

@@ -1,12 +1,10 @@
 //! The locks of a delete, the words that it loads under them, and its verdict.
 ghost use Rattle.std.specs.Prelude.{◌≡◌, ◌+◌, ◌*◌, ◌<◌, ◌≤◌, ◌==◌, if◌then◌else◌};
-ghost use Rattle.core_points.specs.DeletePlan.{last_right, nothing_found, successor_field as field_of_successor, successor_holds as holds_successor, successor_lock as lock_of_successor, target_field, target_holds, target_lock, target_locks, with_found};
-ghost use Rattle.prcu_marks.specs.declared.mark.Side.TheVariants.{Left, Right};
-ghost use Rattle.core_state.specs.declared.words.Field.TheVariants.{Link};
+ghost use Rattle.core_points.specs.DeletePlan.{last_right, nothing_found, successor_holds as holds_successor, successor_lock as lock_of_successor, successor_part as part_of_successor, successor_slot as slot_of_successor, target_holds, target_lock, target_locks, target_part, target_slot, with_found};
 ghost use Rattle.core_points.specs.Programs.{deleting, past_target_load, verdict};
 
+use core_acts::Part;
 use core_points::stage::{Found, Last, Node, Stage, Successor, Target};
-use core_state::Field;
 use prcu_marks::Side;
 
 /// How many slots a delete locks.
@@ -55,73 +53,63 @@ fn successor_lock(node: Node, successor: Option<Successor>, at: u32) -> u32
     }
 }
 
-/// The word that it loads under its locks as number `at`.
-pub(crate) fn target_field(target: Target, at: u32) -> Field
-    ensures { result ≡ target_field target at }
+/// The slot of the word that it loads under its locks as number `at`.
+pub(crate) fn target_slot(target: Target, at: u32) -> u32
+    ensures { result ≡ target_slot target at }
 {
     let node = target.node;
-    if at == 0 {
-        Field::Life { slot: node.parent }
-    } else if at == 1 {
-        Field::Link {
-            slot: node.parent,
-            side: node.side,
-        }
-    } else if at == 2 {
-        Field::Life { slot: node.node }
-    } else if at == 3 {
-        Field::Link {
-            slot: node.node,
-            side: Side::Left,
-        }
-    } else if at == 4 {
-        Field::Link {
-            slot: node.node,
-            side: Side::Right,
-        }
+    if at < 2 {
+        node.parent
+    } else if at < 5 {
+        node.node
     } else {
-        successor_field(node, target.successor, at)
+        successor_slot(node, target.successor, at)
     }
 }
 
-fn successor_field(node: Node, successor: Option<Successor>, at: u32) -> Field
-    ensures { result ≡ field_of_successor node successor at }
+fn successor_slot(node: Node, successor: Option<Successor>, at: u32) -> u32
+    ensures { result ≡ slot_of_successor node successor at }
 {
     let Some(successor) = successor else {
-        return Field::Life { slot: node.node };
+        return node.node;
     };
-    if at == 5 {
-        Field::Life {
-            slot: successor.parent,
-        }
-    } else if at == 6 {
-        successor_link(node, successor)
-    } else if at == 7 {
-        Field::Life {
-            slot: successor.slot,
-        }
+    if at == 5 || at == 6 {
+        successor.parent
     } else {
-        Field::Link {
-            slot: successor.slot,
-            side: Side::Left,
-        }
+        successor.slot
     }
 }
 
-/// The link that leads to the successor.
-fn successor_link(node: Node, successor: Successor) -> Field
-    ensures { result ≡ (if successor.parent == node.node then Link node.node Right else Link successor.parent Left) }
+/// Which word of that slot it is.
+pub(crate) fn target_part(target: Target, at: u32) -> Part
+    ensures { result ≡ target_part target at }
 {
-    if successor.parent == node.node {
-        Field::Link {
-            slot: node.node,
-            side: Side::Right,
-        }
+    let node = target.node;
+    if at == 0 || at == 2 {
+        Part::Life
+    } else if at == 1 {
+        Part::Link { side: node.side }
+    } else if at == 3 {
+        Part::Link { side: Side::Left }
+    } else if at == 4 {
+        Part::Link { side: Side::Right }
     } else {
-        Field::Link {
-            slot: successor.parent,
-            side: Side::Left,
-        }
+        successor_part(node, target.successor, at)
+    }
+}
+
+fn successor_part(node: Node, successor: Option<Successor>, at: u32) -> Part
+    ensures { result ≡ part_of_successor node successor at }
+{
+    let Some(successor) = successor else {
+        return Part::Life;
+    };
+    if at == 5 || at == 7 {
+        Part::Life
+    } else if at == 6 && successor.parent == node.node {
+        Part::Link { side: Side::Right }
+    } else {
+        Part::Link { side: Side::Left }
     }
 }
 

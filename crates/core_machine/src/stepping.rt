@@ -1,19 +1,57 @@
 //! One step of a caller on the words.
-ghost use Rattle.std.specs.Prelude.{◌≡◌, ◌<◌, false, set, length};
+ghost use Rattle.std.specs.Prelude.{◌≡◌, ◌<◌, false, set, length, slice_index};
 ghost use Rattle.core_points.specs.Programs.{act_at, after};
 ghost use Rattle.core_points.specs.Laws.{is_finished};
-ghost use Rattle.core_acts.specs.Acts.{access_of, left_by};
+ghost use Rattle.core_acts.specs.Acts.{access_of, left_by, said_by, StaysWord};
+ghost use Rattle.core_state.specs.steps.Waits.{turned_gate};
 ghost use Rattle.core_machine.specs.Stepped.{blocked as blocked_at};
 ghost use Rattle.core_machine.specs.Stored.{own_of, HasRoom, IsAble};
 ghost use Rattle.core_machine.specs.Standing.{stands_after};
 ghost use Rattle.core_machine.specs.Stepping.{CanStep, found_now, told_now, index_now};
 
-use crate::access::touch;
 use crate::acting::access_at;
 use crate::caller::Caller;
-use crate::layout::index_of;
+use core_acts::{Access, index_of};
 use core_points::stage::Stage;
+use core_state::shape::Waiter;
 use prcu_marks::Why;
+
+/// Makes the access, and answers the number that it tells: the one found, or stored where it is a store.
+fn touch(words: &mut [u64], index: usize, access: Access) -> u64
+    requires in_range { index < length words.old }
+    requires stays { StaysWord access (slice_index words.old index) }
+    ensures tells { result ≡ said_by access (slice_index words.old index) }
+    ensures leaves { words.new ≡ set words.old index (left_by access (slice_index words.old index)) }
+{
+    let found = words[index];
+    let (left, told) = match access {
+        Access::Load => (found, found),
+        Access::Store { number } => (number, number),
+        Access::Exchange { expected, number } => {
+            if found == expected {
+                (number, found)
+            } else {
+                (found, found)
+            }
+        }
+        Access::Add { number } => (found + number, found),
+        Access::Subtract { number } => (found - number, found),
+        Access::Flip => (turned(found), found),
+    };
+    words[index] = left;
+    told
+}
+
+/// The number with its last bit turned.
+fn turned(number: u64) -> u64
+    ensures { result ≡ turned_gate number }
+{
+    if number % 2 == 0 {
+        number + 1
+    } else {
+        number - 1
+    }
+}
 
 impl Caller {
     /// Where the search of its section stands after the step of its point told this number.
@@ -49,7 +87,7 @@ pub fn step_caller(words: &mut [u64], own: &mut Caller) -> Option<Why>
     ensures blocked { let o = own_of own.old in result ≡ blocked_at o (told_now words.old o) o.stage }
 {
     let (field, access) = access_at(own);
-    let index = index_of(own.places, field);
+    let index = index_of(Waiter::Eer, own.places, field);
     let told = touch(words, index, access);
     let why = own.blocked(told);
     let stands = own.stands_after(told);

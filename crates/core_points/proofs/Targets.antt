@@ -24,7 +24,9 @@ use Rattle.core_points.specs.declared.stage.Stage.{Stage}
 use Rattle.core_points.specs.declared.stage.Stage.TheVariants as at
 use Rattle.core_points.specs.Acts.{Needs, view_after}
 use Rattle.core_points.specs.Callers.{Own, go, is_none_left, key_now}
-use Rattle.core_points.specs.DeletePlan.{last_right, nothing_found, target_field, target_holds, target_lock, target_locks, target_part, target_slot, with_found}
+use Rattle.core_acts.specs.declared.act.Part.TheVariants as part
+use Rattle.core_acts.specs.Acts.{in_slot}
+use Rattle.core_points.specs.DeletePlan.{last_right, nothing_found, target_word, target_holds, target_lock, target_locks, target_part, target_slot, with_found}
 use Rattle.core_points.specs.Programs.{act_at, after, deleting, past_target_load}
 use Rattle.core_points.specs.Facts.{AreClear, Owns, Quiet, read_at, table_of}
 use Rattle.core_points.specs.DeleteFacts.{ReadsParent, AreGot, BothHold, FewHold, HasLoaded, HasTarget, Holds, HoldsAll, HoldsSuccessorLocks, IsLoadedNow, IsSkipped, IsUnmarked, first_locks, found_number, target_words, two_children, under}
@@ -34,7 +36,7 @@ use Rattle.core_points.proofs.Locking.{no_slots, clear_changed, each_more, IsCle
 use Rattle.core_points.proofs.Notes.{owns_more, owns_noted}
 use Rattle.core_points.proofs.PutLocks.{both_true}
 use Rattle.core_points.proofs.Sets.{quiet_noted, quiet_calm, quiet_hand}
-use Rattle.core_points.proofs.TargetWords.{word_held, word_is, part_loadable, one_more}
+use Rattle.core_points.proofs.TargetWords.{word_held, part_loadable, one_more}
 use Rattle.core_points.proofs.UnderLocks.{held_still}
 use Rattle.core_points.proofs.Unlocks.{none_in}
 use Rattle.core_tree.proofs.locks.Relocking.{length_change}
@@ -155,7 +157,7 @@ few_verdict n records locks key d f has all loads holds =
       word 2 (omega arith) ∙ ap Some (eqb-true f.life (2 * d.generation) c.0),
     )
   where
-    word : (j : ℕ) → j < 5 → let t : Target = record { node = d; successor = None } in loaded_in (under locks (target_slot t j)) (target_field t j) ≡ Some (found_number f j)
+    word : (j : ℕ) → j < 5 → let t : Target = record { node = d; successor = None } in loaded_in (under locks (target_slot t j)) (target_word t j) ≡ Some (found_number f j)
     word j lt = ⊎_elim (λ (skip : IsSkipped (record { node = d; successor = None }) 5 j). absurd (let q : None ≡ Some skip.successor = skip.has in cc)) (λ e. e) (loads j lt)
 
 -- The verdict of a delete with two children.
@@ -163,7 +165,7 @@ module _ (n : ℕ) (records : List Reading) (locks : List HeldLock) (key : ℕ) 
   both_node : Node
   both_node = record d { left = f.left; right = last_right d (Some u) f }
 
-  word : HasLoaded locks (two_children d u) 9 f → (j : ℕ) → (u.parent ≡ d.node → (j ≢ 5) × (j ≢ 4)) → j < 9 → loaded_in (under locks (target_slot (two_children d u) j)) (target_field (two_children d u) j) ≡ Some (found_number f j)
+  word : HasLoaded locks (two_children d u) 9 f → (j : ℕ) → (u.parent ≡ d.node → (j ≢ 5) × (j ≢ 4)) → j < 9 → loaded_in (under locks (target_slot (two_children d u) j)) (target_word (two_children d u) j) ≡ Some (found_number f j)
   word loads j seen lt = ⊎_elim
       (λ (skip : IsSkipped (two_children d u) 9 j).
       (let same : Some u ≡ Some skip.successor = skip.has in
@@ -182,7 +184,7 @@ module _ (n : ℕ) (records : List Reading) (locks : List HeldLock) (key : ℕ) 
   right_link r loads link true e life reads slot_some right_some =
       let same : u.parent ≡ d.node = eqb-true u.parent d.node e in
       let six = word loads 6 (λ x. ((λ y. absurd (omega arith)), (λ y. absurd (omega arith)))) (omega arith) in (
-        subst (λ s. loaded_in (under locks s) (Link d.node Right) ≡ Some f.successor_link) same (subst (λ b. loaded_in (under locks u.parent) (cond b (Link d.node Right) (Link u.parent Left)) ≡ Some f.successor_link) e six),
+        subst (λ s. loaded_in (under locks s) (Link s Right) ≡ Some f.successor_link) same (subst (λ b. loaded_in (under locks u.parent) (in_slot u.parent (cond b (part.Link Right) (part.Link Left))) ≡ Some f.successor_link) e six),
         (λ z. slot_some (sym (eqb-true f.successor_link u.slot link) ∙ z)),
         inl (same, eqb-true f.successor_link u.slot link),
       )
@@ -195,7 +197,7 @@ module _ (n : ℕ) (records : List Reading) (locks : List HeldLock) (key : ℕ) 
           ne,
           reads ne,
           word loads 5 (λ x. absurd (ne x)) (omega arith) ∙ ap Some (eqb-true f.successor_parent_life (2 * u.parent_generation) life),
-          subst (λ b. loaded_in (under locks u.parent) (cond b (Link d.node Right) (Link u.parent Left)) ≡ Some f.successor_link) e six ∙ ap Some (eqb-true f.successor_link u.slot link),
+          subst (λ b. loaded_in (under locks u.parent) (in_slot u.parent (cond b (part.Link Right) (part.Link Left))) ≡ Some f.successor_link) e six ∙ ap Some (eqb-true f.successor_link u.slot link),
         ),
       )
 
@@ -330,7 +332,7 @@ module _ (k : Shape) (h : List Mark) (o : Own) (v : View) (n : ℕ) where
 
   pub next_target_load : (t : Target) (i : ℕ) (found : Found) → Fits o (at.TargetLoad t i found) v
       → Fits (after o n (at.TargetLoad t i found)) (after o n (at.TargetLoad t i found)).stage (view_after v h n (act_at o (at.TargetLoad t i found)))
-  next_target_load t i found f = subst (λ x. Fits o' o'.stage (noting v (target_slot t i) x n false)) (sym (word_is t i (f.point).7)) (by t.successor refl)
+  next_target_load t i found f = by t.successor refl
     where
       o' : Own
       o' = after o n (at.TargetLoad t i found)
@@ -339,7 +341,7 @@ module _ (k : Shape) (h : List Mark) (o : Own) (v : View) (n : ℕ) where
       s = target_slot t i
 
       field : Field
-      field = target_field t i
+      field = target_word t i
 
       f' : Found
       f' = with_found found i n

@@ -1,31 +1,39 @@
 -- The word of each act is one of the table's.
 use Rattle.std.proofs.Common.{◌≡◌, ◌⊎◌, ℕ, ◌+◌, ◌*◌, ◌/◌, ◌==◌, ◌<◌, cond, Bool, true, false, List, Option, Some, None, refl, subst, ⊎_elim, arith}
 use Rattle.prcu_marks.specs.declared.mark.Mark.{Mark}
+use Rattle.prcu_marks.specs.declared.mark.Side.{Side}
+use Rattle.prcu_marks.specs.declared.mark.Side.TheVariants.{Left, Right}
 use Rattle.core_state.specs.declared.shape.Shape.{Shape}
 use Rattle.core_state.specs.declared.shape.Waiter.TheVariants.{Eer}
 use Rattle.core_state.specs.declared.words.Field.{Field}
 use Rattle.core_state.specs.declared.words.Field.TheVariants.{Life, Link}
 use Rattle.core_state.specs.declared.view.Held.{Held}
+use Rattle.core_state.specs.declared.view.HeldLock.{HeldLock}
+use Rattle.core_state.specs.declared.view.Retired.{Retired}
+use Rattle.core_state.specs.declared.view.Section.{Section}
 use Rattle.core_state.specs.declared.view.View.{View}
 use Rattle.core_state.specs.memory.Memory.{slot_count}
 use Rattle.core_state.specs.views.Known.{known_under, loaded_in}
+use Rattle.core_state.specs.steps.Slots.{IsInHand, IsRetiredAt, NeedsFill}
+use Rattle.core_state.specs.steps.Locks.{NeedsLockedLoad}
+use Rattle.core_state.specs.steps.Loads.{NeedsSearchLoad}
+use Rattle.core_state.specs.steps.Links.{NeedsMark}
 use Rattle.core_points.specs.declared.stage.Aim.TheVariants.{Leaf, Spare, Room}
 use Rattle.core_points.specs.declared.stage.Node.{Node}
 use Rattle.core_points.specs.declared.stage.Successor.{Successor}
 use Rattle.core_points.specs.declared.stage.Target.{Target}
 use Rattle.core_points.specs.declared.stage.Stage.{Stage}
 use Rattle.core_points.specs.declared.stage.Stage.TheVariants as at
-use Rattle.core_points.specs.declared.stage.Then.TheVariants as then
 use Rattle.core_points.specs.declared.stage.Update.TheVariants as update
 use Rattle.core_points.specs.declared.stage.Waits.TheVariants.{Reuse, Move}
 use Rattle.core_acts.specs.declared.act.Part.{Part}
 use Rattle.core_acts.specs.declared.act.Part.TheVariants as part
 use Rattle.core_acts.specs.Acts.{in_slot, IsWord}
-use Rattle.core_acts.specs.declared.act.Act.TheVariants as acts
-use Rattle.core_acts.specs.declared.act.Act.TheVariants.{LoadClock, AnnounceKey, EnterByStamp, LeaveByStamp, BeginWait, LookKey, LookStamp, LoadOwnLife, KeepAsSpare, LoadRetiredLife, Reserve, Seize, Fill, RaiseInHand, RaiseToSpare, RaiseRetired, FreeInHand, FreeRetired, CountFree, Lock, Unlock, SearchLoad, LockedLoad, OpenCommit, CloseCommit, LinkLeaf, Bypass, Mark as MarkNode, RaiseTag, LinkCopy, UnlinkLeft, UnlinkRight, ReplaceValue}
+use Rattle.core_acts.proofs.Acting.{part_word}
+use Rattle.core_acts.specs.declared.act.Act.TheVariants.{RaiseToSpare, RaiseRetired, UnlinkLeft, UnlinkRight}
 use Rattle.core_points.specs.Acts.{Act, field_of, is_step, Needs}
-use Rattle.core_points.specs.Callers.{Own, first_or_root, is_some, or_root}
-use Rattle.core_points.specs.DeletePlan.{target_lock, successor_lock}
+use Rattle.core_points.specs.Callers.{Own, content_part, first_or_root, is_some, or_root}
+use Rattle.core_points.specs.DeletePlan.{target_lock, target_part, target_slot, successor_lock}
 use Rattle.core_points.specs.Programs.{act_at}
 use Rattle.core_points.specs.Facts.{table_of}
 use Rattle.core_points.specs.DeleteFacts.{Holds}
@@ -34,27 +42,6 @@ use Rattle.core_points.specs.Fits.{Fits}
 use Rattle.core_points.specs.Laws.{ActsAreWithin}
 use Rattle.core_points.proofs.All.{needs_are_given}
 use Rattle.core_tree.proofs.locks.Locked.{loaded_known, lock_under}
-
--- what the needs of an act don't say of its word
-abbrev Extra : Own → Act → Type 0
-Extra o (Lock slot) = slot < table_of o
-Extra o (Seize slot) = slot < table_of o
-Extra o (LookKey p last) = p < o.places
-Extra o (LookStamp p last) = p < o.places
-Extra o (acts.ListLoad slot p) = ⊥
-Extra o (acts.LoadGate class) = ⊥
-Extra o (acts.EnterByCount key side) = ⊥
-Extra o (acts.LeaveByCount class side) = ⊥
-Extra o (acts.LookCount class side last) = ⊥
-Extra o (acts.TurnGate class) = ⊥
-Extra o (acts.EnterByRow key stamp) = ⊥
-Extra o (acts.LeaveByRow class) = ⊥
-Extra o (acts.LookRow p class last) = ⊥
-Extra o _ = Unit {0}
-
-by_cases : (o : Own) (a b : Act) (z : Bool) → Extra o a → Extra o b → Extra o (cond z a b)
-by_cases o a b true x y = x
-by_cases o a b false x y = y
 
 -- a slot of a target is one at which the section stood
 target_within : (o : Own) (v : View) (t : Target) (i : ℕ) → Fits o (at.TargetLock t i) v → target_lock t i < table_of o
@@ -80,96 +67,12 @@ target_within o v t i f = by (i == 0) (i == 1)
 copy_within : (o : Own) (v : View) (h : List Mark) (word : Field → ℕ) (d : Node) (u : Successor) (next_key : ℕ) → IsTold o v h word → Fits o (at.CopyLock d u next_key) v → or_root o.spare < table_of o
 copy_within o v h word d u next_key told f = let c = (((f.point).1).1).2 in subst (λ x. x < table_of o) c.2 (told.spare_within c.0 c.1)
 
-extra_all : (o : Own) (v : View) (h : List Mark) (word : Field → ℕ) → IsTold o v h word → (stage : Stage) → Fits o stage v → Extra o (act_at o stage)
-extra_all o v h word told at.Finished f = tt
-extra_all o v h word told at.EnterClock f = tt
-extra_all o v h word told (at.EnterKey clock) f = tt
-extra_all o v h word told (at.EnterStamp clock) f = tt
-extra_all o v h word told (at.AtLink s b) f = tt
-extra_all o v h word told (at.AtKey s p b) f = tt
-extra_all o v h word told (at.Leave then.Absent) f = tt
-extra_all o v h word told (at.Leave (then.Value value)) f = tt
-extra_all o v h word told (at.Leave then.Old) f = tt
-extra_all o v h word told (at.Leave (then.Link spot)) f = tt
-extra_all o v h word told (at.Leave (then.Replace s generation)) f = tt
-extra_all o v h word told (at.Leave (then.Delete t)) f = tt
-extra_all o v h word told (at.Value s) f = tt
-extra_all o v h word told (at.SpotTag s b) f = tt
-extra_all o v h word told (at.SpotLife s b tag) f = tt
-extra_all o v h word told (at.LeafField spot i) f = tt
-extra_all o v h word told (at.LeafLock spot) f = ((f.point).4).6
-extra_all o v h word told (at.LeafLife spot) f = tt
-extra_all o v h word told (at.LeafSide spot life) f = tt
-extra_all o v h word told (at.LeafTag spot life link) f = tt
-extra_all o v h word told (at.Reserve (Leaf spot) expected) f = tt
-extra_all o v h word told (at.Reserve Spare expected) f = tt
-extra_all o v h word told (at.Reserve Room expected) f = absurd f.point
-extra_all o v h word told (at.Seize (Leaf spot)) f = (let le = f.owns.scans_table in omega arith)
-extra_all o v h word told (at.Seize Spare) f = (let le = f.owns.scans_table in omega arith)
-extra_all o v h word told (at.Seize Room) f = absurd f.point
-extra_all o v h word told (at.Age (Leaf spot) s) f = tt
-extra_all o v h word told (at.Age Spare s) f = tt
-extra_all o v h word told (at.Age Room s) f = absurd f.point
-extra_all o v h word told (at.Keep s) f = tt
-extra_all o v h word told at.Raise f = tt
-extra_all o v h word told at.Free f = tt
-extra_all o v h word told at.Count f = tt
-extra_all o v h word told (at.Begin (Reuse aim)) f = tt
-extra_all o v h word told (at.Begin (Move m)) f = tt
-extra_all o v h word told (at.LookKey (Reuse aim) clock p) f = (f.point).2
-extra_all o v h word told (at.LookKey (Move m) clock p) f = ((f.point).3).0
-extra_all o v h word told (at.LookStamp (Reuse aim) clock p key) f = (f.point).2
-extra_all o v h word told (at.LookStamp (Move m) clock p key) f = ((f.point).3).0
-extra_all o v h word told (at.OldAge aim) f = tt
-extra_all o v h word told (at.OldRaise aim life) f = by_cases o (RaiseRetired (first_or_root o.retired) (2 * (life / 2 + 1))) (RaiseToSpare (first_or_root o.retired) (2 * (life / 2 + 1))) (is_some o.spare) tt tt
-extra_all o v h word told (at.OldFree aim) f = tt
-extra_all o v h word told (at.OldCount aim) f = tt
-extra_all o v h word told (at.Commit u expected) f = tt
-extra_all o v h word told (at.Store (update.Leaf spot) front) f = tt
-extra_all o v h word told (at.Store (update.Value s old) front) f = tt
-extra_all o v h word told (at.Store (update.Bypass d child) front) f = tt
-extra_all o v h word told (at.Store (update.Copy d u next_key copy) front) f = tt
-extra_all o v h word told (at.Even u front) f = tt
-extra_all o v h word told (at.Unlock l) f = tt
-extra_all o v h word told (at.SetLife s) f = tt
-extra_all o v h word told (at.SetLock s generation) f = ((f.point).2).5
-extra_all o v h word told (at.SetCheck s generation) f = tt
-extra_all o v h word told (at.SetValue s) f = tt
-extra_all o v h word told (at.ParentLife p b d) f = tt
-extra_all o v h word told (at.NodeLife d) f = tt
-extra_all o v h word told (at.NodeLeft d) f = tt
-extra_all o v h word told (at.NodeRight d) f = tt
-extra_all o v h word told (at.SuccessorLeft d u) f = tt
-extra_all o v h word told (at.SuccessorParentLife d u) f = tt
-extra_all o v h word told (at.SuccessorLife d u) f = tt
-extra_all o v h word told (at.TargetLock t i) f = target_within o v t i f
-extra_all o v h word told (at.TargetLoad t i found) f = tt
-extra_all o v h word told (at.Mark d child) f = tt
-extra_all o v h word told (at.EmptyTag number s b) f = tt
-extra_all o v h word told (at.EmptyRaise number s b tag) f = tt
-extra_all o v h word told (at.SuccessorKey d u) f = tt
-extra_all o v h word told (at.SuccessorValue d u next_key) f = tt
-extra_all o v h word told (at.CopyField d u next_key value i) f = tt
-extra_all o v h word told (at.CopyAge d u next_key) f = tt
-extra_all o v h word told (at.CopyLock d u next_key) f = copy_within o v h word d u next_key told f
-extra_all o v h word told (at.CopyMark d u next_key) f = tt
-extra_all o v h word told (at.OldMark m) f = tt
-extra_all o v h word told (at.OldRight m) f = tt
-extra_all o v h word told (at.Unlink m child) f = by_cases o (UnlinkRight m.copy m.successor.slot child) (UnlinkLeft m.successor.parent m.successor.slot child) (m.successor.parent == m.node.node) tt tt
-
 module _ (k : Shape) (h : List Mark) (o : Own) (v : View) (word : Field → ℕ) (slots : k.slots ≡ o.slots) (places : k.places ≡ o.places) (told : IsTold o v h word) where
   slot_in : (s : ℕ) → s < table_of o → s < slot_count k
   slot_in s lt = omega arith
 
   place_in : (p : ℕ) → k.waiter ≡ Eer → p < o.places → (k.waiter ≡ Eer) × (p < k.places)
   place_in p eer lt = (eer, omega arith)
-
-  in_part : (s : ℕ) (p : Part) → s < table_of o → IsWord k (in_slot s p)
-  in_part s part.Life lt = slot_in s lt
-  in_part s part.Key lt = slot_in s lt
-  in_part s part.Value lt = slot_in s lt
-  in_part s (part.Link b) lt = slot_in s lt
-  in_part s (part.Tag b) lt = slot_in s lt
 
   held_in_table : (held : Held) (s : ℕ) → ((v.hands.hand ≡ Some held) × (held.slot ≡ s)) ⊎ ((v.hands.spare ≡ Some held) × (held.slot ≡ s)) → s < table_of o
   held_in_table held s e = ⊎_elim
@@ -179,44 +82,108 @@ module _ (k : Shape) (h : List Mark) (o : Own) (v : View) (word : Field → ℕ)
   loaded_in_table : (s : ℕ) (field : Field) (x : ℕ) → loaded_in (known_under v s) field ≡ Some x → s < table_of o
   loaded_in_table s field x e = let l = lock_under v s field x (loaded_known (known_under v s) field x e) in told.locks_within s (l.0, l.1)
 
-  within : (n : ℕ) (a : Act) → (is_step a ≡ false → k.waiter ≡ Eer) → Needs k v n a → Extra o a → IsWord k (field_of v.allowance.place a)
-  within n LoadClock eer d x = tt
-  within n (AnnounceKey key) eer d x = place_in v.allowance.place (eer refl) told.place_within
-  within n (EnterByStamp key stamp) eer d x = place_in v.allowance.place (eer refl) told.place_within
-  within n LeaveByStamp eer d x = place_in v.allowance.place (eer refl) told.place_within
-  within n (BeginWait low high) eer d x = tt
-  within n (LookKey p last) eer d x = place_in p (eer refl) x
-  within n (LookStamp p last) eer d x = place_in p (eer refl) x
-  within n (LoadOwnLife slot) eer d x = slot_in slot (held_in_table d.0 slot d.1)
-  within n (KeepAsSpare slot) eer d x = let is = (d.1).in_hand in slot_in slot (subst (λ t. t < table_of o) is.1 (told.hand_within d.0 is.0))
-  within n (LoadRetiredLife slot) eer d x = let is = d.2 in slot_in slot (subst (λ t. t < table_of o) is.1 (told.retired_within d.0 d.1 is.0))
-  within n (Reserve expected) eer d x = tt
-  within n (Seize slot) eer d x = slot_in slot x
-  within n (Fill slot p number) eer d x = in_part slot p (held_in_table d.0 slot (d.1).holder)
-  within n (RaiseInHand slot number) eer d x = let is = (d.2).in_hand in slot_in slot (subst (λ t. t < table_of o) is.1 (told.hand_within d.0 is.0))
-  within n (RaiseToSpare slot number) eer d x = let is = (d.3).retired in slot_in slot (subst (λ t. t < table_of o) is.1 (told.retired_within d.0 d.2 is.0))
-  within n (RaiseRetired slot number) eer d x = let is = (d.3).retired in slot_in slot (subst (λ t. t < table_of o) is.1 (told.retired_within d.0 d.2 is.0))
-  within n (FreeInHand slot) eer d x = let is = (d.1).in_hand in slot_in slot (subst (λ t. t < table_of o) is.1 (told.hand_within d.0 is.0))
-  within n (FreeRetired slot) eer d x = let is = (d.2).retired in slot_in slot (subst (λ t. t < table_of o) is.1 (told.retired_within d.0 d.1 is.0))
-  within n CountFree eer d x = tt
-  within n (Lock slot) eer d x = slot_in slot x
-  within n (Unlock slot) eer d x = slot_in slot (told.locks_within slot (d.0, (d.1).held))
-  within n (SearchLoad slot p) eer d x = in_part slot p (told.stood d.0 (d.1).section_is slot (d.1).stood)
-  within n (LockedLoad slot p) eer d x = in_part slot p (told.locks_within slot d.held)
-  within n (OpenCommit expected) eer d x = tt
-  within n (CloseCommit front) eer d x = tt
-  within n (LinkLeaf slot b leaf key value) eer (t, r, l, held, generation, tag, needs, same) x = slot_in slot (told.locks_within slot (l, needs.locked))
-  within n (Bypass parent b node child key) eer (t, r, left, right, needs, same) x = slot_in parent (loaded_in_table parent (Link parent b) node ((needs.records).records).link_now)
-  within n (MarkNode slot life) eer d x = slot_in slot (told.locks_within slot (d.0, (d.1).locked))
-  within n (RaiseTag slot b tag) eer d x = slot_in slot (told.locks_within slot (d.0, (d.1).held))
-  within n (LinkCopy parent b node copy old old_parent key next_key) eer (t, r, held, left, right, value, needs, same) x = slot_in parent (loaded_in_table parent (Link parent b) node ((needs.records).records).link_now)
-  within n (UnlinkLeft parent old child) eer d x = slot_in parent (subst (λ t. t < table_of o) (d.3).parent_is (told.move_within d.0 (d.3).moving))
-  within n (UnlinkRight copy old child) eer d x = slot_in copy (subst (λ t. t < table_of o) (d.3).parent_is (told.move_within d.0 (d.3).moving))
-  within n (ReplaceValue slot key value) eer (t, r, generation, needs, same) x = let l = lock_under v slot (Life slot) (2 * generation) needs.life_now in slot_in slot (told.locks_within slot (l.0, l.1))
-  within n acts.LookAtFront eer d x = tt
-  within n _ eer d x = absurd x
+  -- a word of a slot that was searched, that is locked, in hand or the spare, or retired
+  searched : (s : ℕ) (p : Part) → (section : Section) × NeedsSearchLoad v section s (in_slot s p) → IsWord k (in_slot s p)
+  searched s p d = part_word k s p (slot_in s (told.stood d.0 (d.1).section_is s (d.1).stood))
+
+  under_lock : (s : ℕ) → Holds v.locks s → s < slot_count k
+  under_lock s holds = slot_in s (told.locks_within s holds)
+
+  locked : (s : ℕ) (p : Part) → NeedsLockedLoad v s (in_slot s p) → IsWord k (in_slot s p)
+  locked s p d = part_word k s p (under_lock s d.held)
+
+  filled : (s : ℕ) (p : Part) → (held : Held) × NeedsFill v held s (in_slot s p) → IsWord k (in_slot s p)
+  filled s p d = part_word k s p (slot_in s (held_in_table d.0 s (d.1).holder))
+
+  in_hand : (held : Held) (s : ℕ) → IsInHand v held s → s < slot_count k
+  in_hand held s is = slot_in s (subst (λ t. t < table_of o) is.1 (told.hand_within held is.0))
+
+  retired : (i : ℕ) (r : Retired) (s : ℕ) → IsRetiredAt v i r s → s < slot_count k
+  retired i r s is = slot_in s (subst (λ t. t < table_of o) is.1 (told.retired_within i r is.0))
+
+  marked : (s life : ℕ) → (lock : HeldLock) × NeedsMark v lock s life → s < slot_count k
+  marked s life d = under_lock s (d.0, (d.1).locked)
+
+  linked : (s child : ℕ) (b : Side) → loaded_in (known_under v s) (Link s b) ≡ Some child → s < slot_count k
+  linked s child b now = slot_in s (loaded_in_table s (Link s b) child now)
+
+  either : (b : Bool) (x y : Act) → (Needs k v 0 x → IsWord k (field_of v.allowance.place x)) → (Needs k v 0 y → IsWord k (field_of v.allowance.place y)) → Needs k v 0 (cond b x y) → IsWord k (field_of v.allowance.place (cond b x y))
+  either true x y first second d = first d
+  either false x y first second d = second d
+
+  within : (stage : Stage) → (is_step (act_at o stage) ≡ false → k.waiter ≡ Eer) → Fits o stage v → Needs k v 0 (act_at o stage) → IsWord k (field_of v.allowance.place (act_at o stage))
+  within at.Finished eer f d = tt
+  within at.EnterClock eer f d = tt
+  within (at.EnterKey clock) eer f d = place_in v.allowance.place (eer refl) told.place_within
+  within (at.EnterStamp clock) eer f d = place_in v.allowance.place (eer refl) told.place_within
+  within (at.AtLink s b) eer f d = searched s (part.Link b) d
+  within (at.AtKey s p b) eer f d = searched s part.Key d
+  within (at.Leave next) eer f d = place_in v.allowance.place (eer refl) told.place_within
+  within (at.Value s) eer f d = searched s part.Value d
+  within (at.SpotTag s b) eer f d = searched s (part.Tag b) d
+  within (at.SpotLife s b tag) eer f d = searched s part.Life d
+  within (at.LeafField spot i) eer f d = filled (or_root o.hand) (content_part i) d
+  within (at.LeafLock spot) eer f d = slot_in spot.slot (((f.point).4).6)
+  within (at.LeafLife spot) eer f d = locked spot.slot part.Life d
+  within (at.LeafSide spot life) eer f d = locked spot.slot (part.Link spot.side) d
+  within (at.LeafTag spot life link) eer f d = locked spot.slot (part.Tag spot.side) d
+  within (at.Reserve aim expected) eer f d = tt
+  within (at.Seize (Leaf spot)) eer f d = slot_in o.scan (let le = f.owns.scans_table in omega arith)
+  within (at.Seize Spare) eer f d = slot_in o.scan (let le = f.owns.scans_table in omega arith)
+  within (at.Seize Room) eer f d = absurd f.point
+  within (at.Age aim s) eer f d = slot_in s (held_in_table d.0 s d.1)
+  within (at.Keep s) eer f d = in_hand d.0 s (d.1).in_hand
+  within at.Raise eer f d = in_hand d.0 (or_root o.hand) (d.2).in_hand
+  within at.Free eer f d = in_hand d.0 (or_root o.hand) (d.1).in_hand
+  within at.Count eer f d = tt
+  within (at.Begin waits) eer f d = tt
+  within (at.LookKey (Reuse aim) clock p) eer f d = place_in p (eer refl) ((f.point).2)
+  within (at.LookKey (Move m) clock p) eer f d = place_in p (eer refl) (((f.point).3).0)
+  within (at.LookStamp (Reuse aim) clock p key) eer f d = place_in p (eer refl) ((f.point).2)
+  within (at.LookStamp (Move m) clock p key) eer f d = place_in p (eer refl) (((f.point).3).0)
+  within (at.OldAge aim) eer f d = retired d.0 d.1 (first_or_root o.retired) d.2
+  within (at.OldRaise aim life) eer f d =
+      let s : ℕ = first_or_root o.retired in
+      let number : ℕ = 2 * (life / 2 + 1) in
+      either (is_some o.spare) (RaiseRetired s number) (RaiseToSpare s number) (λ x. retired x.0 x.2 s (x.3).retired) (λ x. retired x.0 x.2 s (x.3).retired) d
+  within (at.OldFree aim) eer f d = retired d.0 d.1 (first_or_root o.retired) (d.2).retired
+  within (at.OldCount aim) eer f d = tt
+  within (at.Commit u expected) eer f d = tt
+  within (at.Store (update.Leaf spot) front) eer f (t, r, l, held, generation, tag, needs, same) = under_lock spot.slot (l, needs.locked)
+  within (at.Store (update.Value s old) front) eer f (t, r, generation, needs, same) = under_lock s (let l = lock_under v s (Life s) (2 * generation) needs.life_now in (l.0, l.1))
+  within (at.Store (update.Bypass x child) front) eer f (t, r, left, right, needs, same) = linked x.parent x.node x.side ((needs.records).records).link_now
+  within (at.Store (update.Copy x u next_key copy) front) eer f (t, r, held, left, right, value, needs, same) = linked x.parent x.node x.side ((needs.records).records).link_now
+  within (at.Even u front) eer f d = tt
+  within (at.Unlock l) eer f d = under_lock (first_or_root o.locks) (d.0, (d.1).held)
+  within (at.SetLife s) eer f d = searched s part.Life d
+  within (at.SetLock s generation) eer f d = slot_in s (((f.point).2).5)
+  within (at.SetCheck s generation) eer f d = locked s part.Life d
+  within (at.SetValue s) eer f d = locked s part.Value d
+  within (at.ParentLife p b x) eer f d = searched p part.Life d
+  within (at.NodeLife x) eer f d = searched x.node part.Life d
+  within (at.NodeLeft x) eer f d = searched x.node (part.Link Left) d
+  within (at.NodeRight x) eer f d = searched x.node (part.Link Right) d
+  within (at.SuccessorLeft x u) eer f d = searched u.slot (part.Link Left) d
+  within (at.SuccessorParentLife x u) eer f d = searched u.parent part.Life d
+  within (at.SuccessorLife x u) eer f d = searched u.slot part.Life d
+  within (at.TargetLock t i) eer f d = slot_in (target_lock t i) (target_within o v t i f)
+  within (at.TargetLoad t i found) eer f d = locked (target_slot t i) (target_part t i) d
+  within (at.Mark x child) eer f d = marked x.node _ d
+  within (at.EmptyTag number s b) eer f d = locked s (part.Tag b) d
+  within (at.EmptyRaise number s b tag) eer f d = under_lock s (d.0, (d.1).held)
+  within (at.SuccessorKey x u) eer f d = locked u.slot part.Key d
+  within (at.SuccessorValue x u next_key) eer f d = locked u.slot part.Value d
+  within (at.CopyField x u next_key value i) eer f d = filled (or_root o.spare) (content_part i) d
+  within (at.CopyAge x u next_key) eer f d = slot_in (or_root o.spare) (held_in_table d.0 (or_root o.spare) d.1)
+  within (at.CopyLock x u next_key) eer f d = slot_in (or_root o.spare) (copy_within o v h word x u next_key told f)
+  within (at.CopyMark x u next_key) eer f d = marked x.node _ d
+  within (at.OldMark m) eer f d = marked m.successor.slot _ d
+  within (at.OldRight m) eer f d = locked m.successor.slot (part.Link Right) d
+  within (at.Unlink m child) eer f d =
+      either (m.successor.parent == m.node.node) (UnlinkRight m.copy m.successor.slot child) (UnlinkLeft m.successor.parent m.successor.slot child)
+      (λ x. slot_in m.copy (subst (λ t. t < table_of o) (x.3).parent_is (told.move_within x.0 (x.3).moving)))
+      (λ x. slot_in m.successor.parent (subst (λ t. t < table_of o) (x.3).parent_is (told.move_within x.0 (x.3).moving))) d
 
 pub acts_are_within : ActsAreWithin
 acts_are_within k h o v word stage eer slots places told f =
-    subst (λ p. IsWord k (field_of p (act_at o stage))) f.owns.same
-    (within k h o v word slots places told 0 (act_at o stage) eer (needs_are_given k h o v word 0 stage eer places told f) (extra_all o v h word told stage f))
+    subst (λ p. IsWord k (field_of p (act_at o stage))) f.owns.same (within k h o v word slots places told stage eer f (needs_are_given k h o v word 0 stage eer places told f))

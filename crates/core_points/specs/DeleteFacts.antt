@@ -22,7 +22,7 @@ use Rattle.core_points.specs.declared.stage.Target.{Target}
 use Rattle.core_points.specs.declared.stage.Found.{Found}
 use Rattle.core_points.specs.declared.stage.Moving.{Moving}
 use Rattle.core_points.specs.Callers.{Own, key_now, content, contents}
-use Rattle.core_points.specs.DeletePlan.{target_slot, target_field, target_lock, target_locks}
+use Rattle.core_points.specs.DeletePlan.{target_slot, target_word, target_lock, target_locks}
 use Rattle.core_points.specs.Facts.{is_delete, read_at, AreClear, Calm, Inside, Quiet, Ready, HasLocks}
 
 -- In the section.
@@ -121,7 +121,7 @@ pub record IsSkipped (t : Target) (i j : ℕ) : Type 0 where
 
 -- the words of the target below this number were loaded last with these numbers
 abbrev pub HasLoaded : List HeldLock → Target → ℕ → Found → Type 0
-HasLoaded locks t i f = (j : ℕ) → j < i → IsSkipped t i j ⊎ (loaded_in (under locks (target_slot t j)) (target_field t j) ≡ Some (found_number f j))
+HasLoaded locks t i f = (j : ℕ) → j < i → IsSkipped t i j ⊎ (loaded_in (under locks (target_slot t j)) (target_word t j) ≡ Some (found_number f j))
 
 -- where the node is the successor's parent, the life of that parent isn't loaded
 abbrev pub IsLoadedNow : Target → ℕ → Type 0

@@ -3,9 +3,9 @@
 use Rattle.std.specs.Prelude.{ℕ, ◌*◌, ◌==◌, nat_lt, ◌&&◌, ◌||◌, not, if◌then◌else◌, Bool, List, [], ◌∷◌, Option, Some, None}
 use Rattle.prcu_marks.specs.declared.mark.Side.TheVariants.{Left, Right}
 use Rattle.core_state.specs.declared.words.Field.{Field}
-use Rattle.core_state.specs.declared.words.Field.TheVariants.{Life, Link}
 use Rattle.core_acts.specs.declared.act.Part.{Part}
 use Rattle.core_acts.specs.declared.act.Part.TheVariants as part
+use Rattle.core_acts.specs.Acts.{in_slot}
 use Rattle.core_points.specs.declared.stage.Node.{Node}
 use Rattle.core_points.specs.declared.stage.Successor.{Successor}
 use Rattle.core_points.specs.declared.stage.Target.{Target}
@@ -41,14 +41,8 @@ target_part t i = if i == 0 then part.Life else if i == 1 then part.Link t.node.
     else if i == 2 then part.Life else if i == 3 then part.Link Left else if i == 4 then part.Link Right
     else successor_part t.node t.successor i
 
-abbrev pub successor_field : Node → Option Successor → ℕ → Field
-successor_field d None i = Life d.node
-successor_field d (Some u) i = if i == 5 then Life u.parent else if i == 6 then (if u.parent == d.node then Link d.node Right else Link u.parent Left) else if i == 7 then Life u.slot else Link u.slot Left
-
-abbrev pub target_field : Target → ℕ → Field
-target_field t i = if i == 0 then Life t.node.parent else if i == 1 then Link t.node.parent t.node.side
-    else if i == 2 then Life t.node.node else if i == 3 then Link t.node.node Left else if i == 4 then Link t.node.node Right
-    else successor_field t.node t.successor i
+abbrev pub target_word : Target → ℕ → Field
+target_word t i = in_slot (target_slot t i) (target_part t i)
 
 abbrev pub with_found : Found → ℕ → ℕ → Found
 with_found f i n = record {

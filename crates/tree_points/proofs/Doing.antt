@@ -1,12 +1,12 @@
--- The four stores that make an update: the mark that each leaves, the locks that are held after it, and how far a child's number goes.
-use Rattle.std.proofs.Common.{◌≡◌, ℕ, ◌+◌, ◌*◌, ◌==◌, cond, Bool, true, false, List, [], ◌++◌, ◌∷◌, Some, refl, sym, ap, subst, ◌∙◌, eq-eqb, length, length-append, arith, inl, inr}
+-- The four stores that make an update: what each is asked for, the mark that it leaves, the locks that are held after it, and how far a
+-- child's number goes.
+use Rattle.std.proofs.Common.{◌≡◌, ℕ, ◌+◌, ◌*◌, ◌==◌, cond, Bool, true, false, List, [], ◌++◌, ◌∷◌, Some, refl, sym, ap, subst, ◌∙◌, eq-eqb, length, length-append, arith}
 use Rattle.prcu_marks.proofs.MarkLists.{updates_of-append}
 use Rattle.prcu_marks.specs.Callers.{IsNextKey}
 use Rattle.prcu_model.specs.Dictionary.{key_of, map_of}
 use Rattle.prcu_model.specs.declared.operation.Update.{Update}
 use Rattle.core_state.specs.declared.view.HeldLock.{HeldLock}
 use Rattle.core_state.specs.declared.view.Known.{Known}
-use Rattle.core_state.specs.declared.view.Reading.{Reading}
 use Rattle.core_state.specs.parts.TreeParts.{map_now}
 use Rattle.core_points.specs.Facts.{is_delete, one_lock, read_at, set_known}
 use Rattle.core_points.proofs.Notes.{one_locked}
@@ -23,16 +23,16 @@ use Rattle.core_points.specs.declared.stage.Node.{Node}
 use Rattle.core_points.specs.declared.stage.Successor.{Successor}
 use Rattle.core_points.specs.declared.stage.Moving.{Moving}
 use Rattle.core_points.specs.declared.stage.Update.TheVariants as update
-use Rattle.core_points.specs.declared.stage.Stage.{Stage}
 use Rattle.core_points.specs.declared.stage.Stage.TheVariants as at
 use Rattle.core_acts.specs.declared.act.Act.TheVariants as acts
 use Rattle.seat_table.specs.Gains.{Sees, TellsNow}
 use Rattle.seat_table.specs.Told.{Told}
-use Rattle.seat_table.specs.Seats.{IsSlotOf}
 use Rattle.tree_points.specs.At.{IsAt}
+use Rattle.tree_points.proofs.Steps.{needs_as, passes_as}
+use Rattle.core_points.specs.Callers.{value_in}
+use Rattle.core_acts.specs.Acts.{Asks}
 use Rattle.prcu_marks.specs.declared.mark.Mark.{Mark}
 use Rattle.prcu_marks.specs.declared.mark.Mark.TheVariants.{Done, Unlinked}
-use Rattle.prcu_marks.specs.declared.commit.Commit.{Commit}
 use Rattle.prcu_marks.specs.Marks.{own_of, updates_of}
 use Rattle.core_state.specs.declared.view.Held.{Held}
 use Rattle.core_state.specs.declared.words.Field.TheVariants.{Life, Link, Value}
@@ -116,6 +116,26 @@ module _ {k : Shape} {kept n : ℕ} {v w : View} where
   pub gone_store_copy : {op : Op} {next_key copy front : ℕ} {d : Node} {u : Successor} → IsAt k op kept (at.Store (update.Copy d u next_key copy) front) v → Told k v (acts.LinkCopy d.parent d.side d.node copy u.slot u.parent (key_of op) next_key) n w
       → HasGone v w (Done (record { caller = v.allowance.place; op = Del (key_of op) }) ∷ [])
   gone_store_copy a t = ((updated_copy a t).0).gone
+
+-- What the table asks for each of them is given, and the front is made even next.
+pub needs_store_bypass : {k : Shape} {op : Op} {kept : ℕ} {v : View} {d : Node} {child : ℕ} {front : ℕ} → IsAt k op kept (at.Store (update.Bypass d child) front) v → TellsNow k v → Asks k v (acts.Bypass d.parent d.side d.node child (key_of op))
+needs_store_bypass {op = op} {d = d} {child = child} {front = front} a now = needs_as (at.Store (update.Bypass d child) front) (acts.Bypass d.parent d.side d.node child (key_of op)) a refl (ap (λ (x : Op). acts.Bypass d.parent d.side d.node child (key_of x)) a.op_is) now
+
+pub passes_store_bypass : {k : Shape} {op : Op} {kept n : ℕ} {v w : View} {d : Node} {child : ℕ} {front : ℕ} → IsAt k op kept (at.Store (update.Bypass d child) front) v → Told k v (acts.Bypass d.parent d.side d.node child (key_of op)) n w → IsAt k op kept (at.Even (update.Bypass d child) front) w
+passes_store_bypass {op = op} {d = d} {child = child} {front = front} a t = passes_as (at.Store (update.Bypass d child) front) (at.Even (update.Bypass d child) front) (acts.Bypass d.parent d.side d.node child (key_of op)) a refl (ap (λ (x : Op). acts.Bypass d.parent d.side d.node child (key_of x)) a.op_is) refl t
+
+pub needs_store_copy : {k : Shape} {op : Op} {kept : ℕ} {v : View} {d : Node} {u : Successor} {next_key : ℕ} {copy : ℕ} {front : ℕ} → IsAt k op kept (at.Store (update.Copy d u next_key copy) front) v → TellsNow k v → Asks k v (acts.LinkCopy d.parent d.side d.node copy u.slot u.parent (key_of op) next_key)
+needs_store_copy {op = op} {d = d} {u = u} {next_key = next_key} {copy = copy} {front = front} a now = needs_as (at.Store (update.Copy d u next_key copy) front) (acts.LinkCopy d.parent d.side d.node copy u.slot u.parent (key_of op) next_key) a refl (ap (λ (x : Op). acts.LinkCopy d.parent d.side d.node copy u.slot u.parent (key_of x) next_key) a.op_is) now
+
+pub passes_store_copy : {k : Shape} {op : Op} {kept n : ℕ} {v w : View} {d : Node} {u : Successor} {next_key : ℕ} {copy : ℕ} {front : ℕ} → IsAt k op kept (at.Store (update.Copy d u next_key copy) front) v → Told k v (acts.LinkCopy d.parent d.side d.node copy u.slot u.parent (key_of op) next_key) n w → IsAt k op kept (at.Even (update.Copy d u next_key copy) front) w
+passes_store_copy {op = op} {d = d} {u = u} {next_key = next_key} {copy = copy} {front = front} a t = passes_as (at.Store (update.Copy d u next_key copy) front) (at.Even (update.Copy d u next_key copy) front) (acts.LinkCopy d.parent d.side d.node copy u.slot u.parent (key_of op) next_key) a refl (ap (λ (x : Op). acts.LinkCopy d.parent d.side d.node copy u.slot u.parent (key_of x) next_key) a.op_is) refl t
+
+-- a set's store is of its operation's value
+pub needs_store_value : {k : Shape} {kept key value : ℕ} {v : View} {s old front : ℕ} → IsAt k (Set key value) kept (at.Store (update.Value s old) front) v → TellsNow k v → Asks k v (acts.ReplaceValue s key value)
+needs_store_value {key = key} {value = value} {s = s} {old = old} {front = front} a now = needs_as (at.Store (update.Value s old) front) (acts.ReplaceValue s key value) a refl (ap (λ (x : Op). acts.ReplaceValue s (key_of x) (value_in x)) a.op_is) now
+
+pub passes_store_value : {k : Shape} {kept n key value : ℕ} {v w : View} {s old front : ℕ} → IsAt k (Set key value) kept (at.Store (update.Value s old) front) v → Told k v (acts.ReplaceValue s key value) n w → IsAt k (Set key value) kept (at.Even (update.Value s old) front) w
+passes_store_value {key = key} {value = value} {s = s} {old = old} {front = front} a t = passes_as (at.Store (update.Value s old) front) (at.Even (update.Value s old) front) (acts.ReplaceValue s key value) a refl (ap (λ (x : Op). acts.ReplaceValue s (key_of x) (value_in x)) a.op_is) refl t
 
 -- what a delete's operation is
 pub op_deletes : (op : Op) → is_delete op ≡ true → op ≡ Del (key_of op)

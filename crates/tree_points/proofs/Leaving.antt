@@ -1,5 +1,5 @@
 -- Sections over the points: one is entered, and one is left.
-use Rattle.std.proofs.Common.{◌≡◌, ℕ, ◌<◌, ◌≤◌, cond, [], ◌++◌, ◌∷◌, Some, None, refl, sym, ap, subst, ◌∙◌}
+use Rattle.std.proofs.Common.{◌≡◌, ℕ, ◌+◌, ◌<◌, ◌≤◌, cond, [], ◌++◌, ◌∷◌, Some, None, refl, sym, ap, subst, ◌∙◌}
 use Rattle.prcu_marks.specs.declared.mark.Side.TheVariants.{Right}
 use Rattle.prcu_model.specs.declared.operation.Op.{Op}
 use Rattle.prcu_model.specs.Dictionary.{key_of}
@@ -14,8 +14,9 @@ use Rattle.core_points.specs.declared.stage.Stage.TheVariants as at
 use Rattle.core_points.specs.Callers.{Own, go, is_some}
 use Rattle.core_points.specs.Fits.{Fits}
 use Rattle.core_points.specs.Programs.{answer, begun_with, left_section, taking}
-use Rattle.seat_table.specs.Gains.{TellsNow}
+use Rattle.seat_table.specs.Gains.{StoodInside}
 use Rattle.tree_points.specs.At.{IsAt, IsDone}
+use Rattle.tree_points.proofs.SameCall.{moves_on}
 use Rattle.prcu_model.specs.declared.operation.Reply.{Reply}
 use Rattle.prcu_model.specs.declared.operation.Reply.TheVariants.{Old, Val, Absent}
 use Rattle.core_state.specs.declared.view.Held.{Held}
@@ -31,39 +32,30 @@ use Rattle.core_points.proofs.Leaves.{next_absent, next_link_leaf, next_old, nex
 use Rattle.core_points.proofs.Sets.{next_replace}
 use Rattle.seat_table.specs.Sections.{HasEntered, HasLeft}
 use Rattle.tree_points.proofs.Holding.{slot_in_hand}
-use Rattle.tree_points.proofs.Passing.{told_own}
 use Rattle.tree_points.proofs.Steps.{reserves_any}
 
 -- A search begins at the root.
 pub enters : {k : Shape} {op : Op} {kept : ℕ} {v w : View} → IsAt k op kept at.EnterClock v → HasEntered v (key_of op) w → IsAt k op kept (at.AtLink 0 Right) w
-enters {k} {op} {kept} {v} {w} a e = record {
-  own = a.own;
-  op_is = a.op_is;
-  slots_are = a.slots_are;
-  places_are = a.places_are;
-  last = a.last;
-  keeps = a.keeps;
-  fits = subst (Fits a.own (at.AtLink 0 Right)) (sym e.others) (record {
-    owns = (a.fits).owns;
-    tickets = (a.fits).tickets;
-    unraised = (a.fits).unraised;
-    point = (
-      ((a.fits).point).1,
-      (
-        e.section,
-        e.inside,
-        record {
-          searches = e.no_list;
-          key_is = e.key_is ∙ ap key_of (sym a.op_is);
-          sought = ap (λ r. r.key) e.reading_is ∙ ap key_of (sym a.op_is);
-          state_is = ap (λ r. r.state) e.reading_is;
-          here = subst (λ xs. IsIn xs 0) (sym (ap (λ r. r.stood) e.reading_is)) (0, refl);
-        },
-        tt,
-      ),
-    );
-  });
-}
+enters {k} {op} {kept} {v} {w} a e = moves_on a a.own refl (subst (Fits a.own (at.AtLink 0 Right)) (sym e.others) (record {
+  owns = (a.fits).owns;
+  tickets = (a.fits).tickets;
+  unraised = (a.fits).unraised;
+  point = (
+    ((a.fits).point).1,
+    (
+      e.section,
+      e.inside,
+      record {
+        searches = e.no_list;
+        key_is = e.key_is ∙ ap key_of (sym a.op_is);
+        sought = ap (λ r. r.key) e.reading_is ∙ ap key_of (sym a.op_is);
+        state_is = ap (λ r. r.state) e.reading_is;
+        here = subst (λ xs. IsIn xs 0) (sym (ap (λ r. r.stood) e.reading_is)) (0, refl);
+      },
+      tt,
+    ),
+  );
+}))
 
 -- A section is left: what follows by what the search came to.
 module _ (k : Shape) (op : Op) (kept : ℕ) (v w : View) (e : HasLeft v w) where
@@ -112,19 +104,11 @@ module _ (k : Shape) (op : Op) (kept : ℕ) (v w : View) (e : HasLeft v w) where
   leaves_old_held {held} some a =
       let hand : a.own.hand ≡ Some held.slot = own_hand a ((a.fits).point).0 ∙ ap spare_slot some in
       let f : Fits (go a.own at.Raise) at.Raise left = subst (λ z. let x : Own = cond z (go a.own at.Raise) (answer a.own Old 0) in Fits x x.stage left) (ap is_some hand) (left_fits (left_section a.own then.Old) (next_old k [] a.own v 0 a.fits)) in
-      record {
-        own = go a.own at.Raise;
-        op_is = a.op_is;
-        slots_are = a.slots_are;
-        places_are = a.places_are;
-        last = a.last;
-        keeps = a.keeps;
-        fits = subst (Fits (go a.own at.Raise) at.Raise) (sym same_view) (record { owns = f.owns; tickets = f.tickets; unraised = f.unraised; point = f.point });
-      }
+      moves_on a (go a.own at.Raise) refl (subst (Fits (go a.own at.Raise) at.Raise) (sym same_view) (record { owns = f.owns; tickets = f.tickets; unraised = f.unraised; point = f.point }))
 
-  module _ (now : TellsNow k v) where
+  module _ (inside : StoodInside k v) where
     stood : (own : Own) → own.slots ≡ k.slots → own.places ≡ k.places → (section : Section) → v.section ≡ Some section → (s : ℕ) → IsIn section.reading.stood s → s < table_of own
-    stood own slots places = (told_own k op kept own v now.marks now.word slots places now.tells).stood
+    stood own slots places section is s there = subst (λ n. s < n) (λ i. sym slots i + sym places i + 1) (inside.stood section s is there).inside
 
     -- a put that didn't find it locks the recorded slot, or takes a slot first
     pub leaves_link_held : {spot : Spot} {held : Held} → v.hands.hand ≡ Some held → IsAt k op kept (at.Leave (then.Link spot)) v → IsAt k op kept (at.LeafLock spot) w
@@ -134,15 +118,7 @@ module _ (k : Shape) (op : Op) (kept : ℕ) (v w : View) (e : HasLeft v w) where
         let f : Fits to (at.LeafLock spot) left =
         subst (λ z. let st : Stage = cond z (at.LeafLock spot) (taking a.own (Leaf spot)) in Fits (go a.own st) st left) (ap is_some hand)
         (left_fits (left_section a.own (then.Link spot)) (next_link_leaf k [] a.own v 0 spot (stood a.own a.slots_are a.places_are) a.fits)) in
-        record {
-          own = to;
-          op_is = a.op_is;
-          slots_are = a.slots_are;
-          places_are = a.places_are;
-          last = a.last;
-          keeps = a.keeps;
-          fits = subst (Fits to (at.LeafLock spot)) (sym same_view) (record { owns = f.owns; tickets = f.tickets; unraised = f.unraised; point = f.point });
-        }
+        moves_on a to refl (subst (Fits to (at.LeafLock spot)) (sym same_view) (record { owns = f.owns; tickets = f.tickets; unraised = f.unraised; point = f.point }))
 
     pub leaves_link : {spot : Spot} → v.hands.hand ≡ None → IsAt k op kept (at.Leave (then.Link spot)) v → (expected : ℕ) → 1 ≤ expected → IsAt k op kept (at.Reserve (Leaf spot) expected) w
     leaves_link {spot} none a expected some =
@@ -151,40 +127,16 @@ module _ (k : Shape) (op : Op) (kept : ℕ) (v w : View) (e : HasLeft v w) where
         let f : Fits to to.stage left =
         subst (λ z. let st : Stage = cond z (at.LeafLock spot) (taking a.own (Leaf spot)) in Fits (go a.own st) st left) (ap is_some hand)
         (left_fits (left_section a.own (then.Link spot)) (next_link_leaf k [] a.own v 0 spot (stood a.own a.slots_are a.places_are) a.fits)) in
-        reserves_any (record {
-          own = to;
-          op_is = a.op_is;
-          slots_are = a.slots_are;
-          places_are = a.places_are;
-          last = a.last;
-          keeps = a.keeps;
-          fits = subst (Fits to to.stage) (sym same_view) (record { owns = f.owns; tickets = f.tickets; unraised = f.unraised; point = f.point });
-        }) expected some
+        reserves_any (moves_on a to refl (subst (Fits to to.stage) (sym same_view) (record { owns = f.owns; tickets = f.tickets; unraised = f.unraised; point = f.point }))) expected some
 
     pub leaves_replace : {s generation : ℕ} → IsAt k op kept (at.Leave (then.Replace s generation)) v → IsAt k op kept (at.SetLock s generation) w
     leaves_replace {s} {generation} a =
         let to : Own = go a.own (at.SetLock s generation) in
         let f : Fits to (at.SetLock s generation) left = left_fits to (next_replace k [] a.own v 0 s generation (stood a.own a.slots_are a.places_are) a.fits) in
-        record {
-          own = to;
-          op_is = a.op_is;
-          slots_are = a.slots_are;
-          places_are = a.places_are;
-          last = a.last;
-          keeps = a.keeps;
-          fits = subst (Fits to (at.SetLock s generation)) (sym same_view) (record { owns = f.owns; tickets = f.tickets; unraised = f.unraised; point = f.point });
-        }
+        moves_on a to refl (subst (Fits to (at.SetLock s generation)) (sym same_view) (record { owns = f.owns; tickets = f.tickets; unraised = f.unraised; point = f.point }))
 
     pub leaves_delete : {t : Target} → IsAt k op kept (at.Leave (then.Delete t)) v → IsAt k op kept (at.TargetLock t 0) w
     leaves_delete {t} a =
         let to : Own = go a.own (at.TargetLock t 0) in
         let f : Fits to (at.TargetLock t 0) left = left_fits to (next_delete k [] a.own v 0 t (stood a.own a.slots_are a.places_are) a.fits) in
-        record {
-          own = to;
-          op_is = a.op_is;
-          slots_are = a.slots_are;
-          places_are = a.places_are;
-          last = a.last;
-          keeps = a.keeps;
-          fits = subst (Fits to (at.TargetLock t 0)) (sym same_view) (record { owns = f.owns; tickets = f.tickets; unraised = f.unraised; point = f.point });
-        }
+        moves_on a to refl (subst (Fits to (at.TargetLock t 0)) (sym same_view) (record { owns = f.owns; tickets = f.tickets; unraised = f.unraised; point = f.point }))

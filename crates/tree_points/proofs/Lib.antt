@@ -1,4 +1,5 @@
 pub mod Passing
+pub mod SameCall
 pub mod Steps
 pub mod Searching
 pub mod Deleting

@@ -23,6 +23,7 @@ use Rattle.core_acts.specs.Acts.{Asks}
 use Rattle.seat_table.specs.Gains.{TellsNow}
 use Rattle.seat_table.specs.Told.{Told}
 use Rattle.tree_points.specs.At.{HasLocks, IsAt, IsDone}
+use Rattle.tree_points.proofs.SameCall.{moves_on}
 use Rattle.tree_points.proofs.Passing.{fits_next, needs_at, next_own, passes_at}
 use Rattle.tree_points.proofs.Steps.{passes_as}
 use Rattle.core_state.specs.declared.view.HeldLock.{HeldLock}
@@ -170,15 +171,7 @@ relocked_fits o v l s rest has f = record {
     point (last.Was value number) f = let u = (f.point).0 in ((u.0, u.1, u.2, u.3, u.4, u.5, refl), (f.point).1, (f.point).2, (f.point).3)
 
 abbrev relocked : {k : Shape} {op : Op} {kept : ℕ} {v : View} {l : Last} (s : ℕ) (rest : List ℕ) → HasLocks (s ∷ rest) v → IsAt k op kept (at.Unlock l) v → IsAt k op kept (at.Unlock l) v
-relocked {v = v} {l = l} s rest has a = record {
-  own = record a.own { locks = s ∷ rest };
-  op_is = a.op_is;
-  slots_are = a.slots_are;
-  places_are = a.places_are;
-  last = a.last;
-  keeps = a.keeps;
-  fits = relocked_fits a.own v l s rest has.same a.fits;
-}
+relocked {v = v} {l = l} s rest has a = moves_on a (record a.own { locks = s ∷ rest }) refl (relocked_fits a.own v l s rest has.same a.fits)
 
 pub needs_unlock : {k : Shape} {op : Op} {kept : ℕ} {v : View} {l : Last} {s : ℕ} {rest : List ℕ} → HasLocks (s ∷ rest) v → IsAt k op kept (at.Unlock l) v → TellsNow k v → Asks k v (acts.Unlock s)
 needs_unlock {s = s} {rest = rest} has a now = needs_at _ _ _ _ _ (relocked s rest has a) refl now

@@ -13,6 +13,7 @@ use Rattle.core_points.specs.declared.stage.Stage.TheVariants as at
 use Rattle.core_points.specs.Callers.{Own, is_some, key_now, value_in}
 use Rattle.core_points.specs.Fits.{Fits}
 use Rattle.tree_points.specs.At.{IsAt}
+use Rattle.tree_points.proofs.SameCall.{moves_on}
 use Rattle.core_state.specs.declared.view.Held.{Held}
 use Rattle.core_state.specs.declared.view.HeldLock.{HeldLock}
 use Rattle.core_state.specs.declared.view.Reading.{Reading}
@@ -68,50 +69,26 @@ two_owed : {k : Shape} {kept key : ℕ} {stage : Stage} {v : View} (a : IsAt k (
 two_owed a = subst (λ (x : Op). owed_op x a.own.hand [] ≤ 2) (sym a.op_is) (omega arith)
 
 pub reclaims_spare : {k : Shape} {kept key : ℕ} {v w : View} → IsAt k (Del key) kept (at.Begin (Reuse Spare)) v → HasGivenAll v w → IsAt k (Del key) kept at.EnterClock w
-reclaims_spare {v = v} {w = w} a r = record {
-  own = new a.own v w Spare a.fits r;
-  op_is = a.op_is;
-  slots_are = a.slots_are;
-  places_are = a.places_are;
-  last = a.last;
-  keeps = a.keeps;
-  fits = enters_again a.own v w Spare a.fits r 2 (two_owed a) (let paid = (a.fits).tickets in let one = r.paid in omega arith);
-}
+reclaims_spare {v = v} {w = w} a r = moves_on a (new a.own v w Spare a.fits r) refl (enters_again a.own v w Spare a.fits r 2 (two_owed a) (let paid = (a.fits).tickets in let one = r.paid in omega arith))
 
 pub reclaims_room : {k : Shape} {kept key : ℕ} {v w : View} → IsAt k (Del key) kept (at.Begin (Reuse Room)) v → HasGivenAll v w → IsAt k (Del key) kept at.EnterClock w
-reclaims_room {v = v} {w = w} a r = record {
-  own = new a.own v w Room a.fits r;
-  op_is = a.op_is;
-  slots_are = a.slots_are;
-  places_are = a.places_are;
-  last = a.last;
-  keeps = a.keeps;
-  fits = enters_again a.own v w Room a.fits r 2 (two_owed a) (let paid = (a.fits).tickets in let one = r.paid in omega arith);
-}
+reclaims_room {v = v} {w = w} a r = moves_on a (new a.own v w Room a.fits r) refl (enters_again a.own v w Room a.fits r 2 (two_owed a) (let paid = (a.fits).tickets in let one = r.paid in omega arith))
 
 pub reclaims_leaf : {k : Shape} {op : Op} {kept : ℕ} {v w : View} {spot : Spot} → IsAt k op kept (at.Begin (Reuse (Leaf spot))) v → HasGivenAll v w → (expected : ℕ) → 1 ≤ expected → IsAt k op kept (at.Reserve (Leaf spot) expected) w
-reclaims_leaf {v = v} {w = w} {spot = spot} a r expected positive = record {
-  own = new a.own v w (Leaf spot) a.fits r;
-  op_is = a.op_is;
-  slots_are = a.slots_are;
-  places_are = a.places_are;
-  last = a.last;
-  keeps = a.keeps;
-  fits =
-      let i = ((a.fits).point).0 in
-      let for = ((a.fits).point).1 in
-      record {
-        owns = owns a.own v w (Leaf spot) a.fits r;
-        tickets = (let paid = (a.fits).tickets in let one = r.paid in omega arith);
-        unraised = λ z. unraised a.own v w (Leaf spot) a.fits r;
-        point = (
-          r.section ∙ i.0,
-          bare a.own v w (Leaf spot) a.fits r,
-          r.hand ∙ i.2,
-          i.3,
-          positive,
-          subst (λ (rs : List Reading). HasSpot (table_of a.own) rs (key_now a.own) spot) (sym r.records) for.0,
-          for.1,
-        );
-      };
-}
+reclaims_leaf {v = v} {w = w} {spot = spot} a r expected positive =
+    moves_on a (new a.own v w (Leaf spot) a.fits r) refl (let i = ((a.fits).point).0 in
+    let for = ((a.fits).point).1 in
+    record {
+      owns = owns a.own v w (Leaf spot) a.fits r;
+      tickets = (let paid = (a.fits).tickets in let one = r.paid in omega arith);
+      unraised = λ z. unraised a.own v w (Leaf spot) a.fits r;
+      point = (
+        r.section ∙ i.0,
+        bare a.own v w (Leaf spot) a.fits r,
+        r.hand ∙ i.2,
+        i.3,
+        positive,
+        subst (λ (rs : List Reading). HasSpot (table_of a.own) rs (key_now a.own) spot) (sym r.records) for.0,
+        for.1,
+      );
+    })

@@ -6,7 +6,7 @@ use Rattle.prcu_model.specs.declared.operation.Op.{Op}
 use Rattle.prcu_model.specs.Dictionary.{key_of}
 use Rattle.core_state.specs.declared.shape.Shape.{Shape}
 use Rattle.core_state.specs.declared.view.View.{View}
-use Rattle.core_state.specs.memory.Words.{side_number, step_side, tag_number}
+use Rattle.core_state.specs.memory.Words.{step_side}
 use Rattle.core_points.specs.declared.stage.Then.TheVariants as then
 use Rattle.core_points.specs.declared.stage.Stage.{Stage}
 use Rattle.core_points.specs.declared.stage.Stage.TheVariants as at

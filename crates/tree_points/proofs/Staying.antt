@@ -1,22 +1,20 @@
--- Steps that leave no mark of the place, and steps that leave its locks and slots alone, by their kinds.
-use Rattle.std.proofs.Common.{◌≡◌, ◌≢◌, ℕ, ◌+◌, ◌==◌, cond, Bool, true, false, List, [], ◌++◌, ⊎_elim, ◌-◌, ◌∷◌, Option, Some, None, refl, sym, ap, subst, ◌∙◌, ne_eqb}
+-- Which marks of the place a step leaves, and steps that leave its locks and slots alone.
+use Rattle.std.proofs.Common.{◌≡◌, ◌≢◌, ℕ, ◌+◌, ◌==◌, cond, Bool, true, false, List, [], ⊎_elim, ◌∷◌, Option, Some, None, refl, sym, ap, subst, ◌∙◌, ne_eqb}
 use Rattle.prcu_marks.specs.declared.mark.Mark.{Mark}
-use Rattle.prcu_marks.specs.declared.mark.Mark.TheVariants.{Given, Unlinked, Freed}
 use Rattle.core_state.specs.declared.shape.Shape.{Shape}
 use Rattle.core_state.specs.declared.view.Held.{Held}
-use Rattle.core_state.specs.declared.view.Retired.{Retired}
 use Rattle.core_state.specs.declared.view.View.{View}
 use Rattle.core_state.specs.declared.words.Field.TheVariants.{Life, Tag}
 use Rattle.core_state.specs.views.Known.{noting, with_emptied}
 use Rattle.core_state.specs.steps.Links.{with_mark}
-use Rattle.core_state.specs.steps.Slots.{reserving, seized, with_free}
 use Rattle.core_state.specs.steps.Locks.{new_lock, with_front}
 use Rattle.core_points.proofs.Locking.{slots_in}
 use Rattle.core_points.proofs.ClearLocks.{emptied_slot}
 use Rattle.core_acts.specs.declared.act.Act.{Act}
 use Rattle.core_acts.specs.declared.act.Act.TheVariants as acts
 use Rattle.core_acts.specs.declared.act.Part.{Part}
-use Rattle.core_acts.specs.Acts.{in_slot, noted}
+use Rattle.core_acts.specs.Acts.{after, in_slot, marks_of, noted}
+use Rattle.core_acts.proofs.Acting.{has_seen, place_stays}
 use Rattle.seat_table.specs.Told.{Told}
 use Rattle.seat_table.specs.Seats.{IsSlotOf}
 use Rattle.list_laws.specs.Counts.{times}
@@ -25,87 +23,23 @@ use Rattle.prcu_marks.specs.Marks.{own_of}
 use Rattle.prcu_marks.specs.declared.mark.Side.{Side}
 use Rattle.tree_points.specs.At.{HasLocks}
 use Rattle.tree_points.specs.Progress.{HasGone}
-use Rattle.tree_points.proofs.Gone.{IsSame, gone_all, gone_none, gone_with, lock_slots, noting_same}
+use Rattle.tree_points.proofs.Gone.{IsSame, gone_none, gone_with, lock_slots, noting_same}
 
--- the acts that leave no mark of a place
-abbrev pub leaves_none : Act → Bool
-leaves_none (acts.EnterByStamp key stamp) = false
-leaves_none acts.LeaveByStamp = false
-leaves_none (acts.BeginWait low high) = false
-leaves_none (acts.LookKey p last) = false
-leaves_none (acts.LookStamp p last) = false
-leaves_none (acts.LinkLeaf slot b leaf key value) = false
-leaves_none (acts.Bypass parent b node child key) = false
-leaves_none (acts.LinkCopy parent b node copy old old_parent key next_key) = false
-leaves_none (acts.LoadGate class) = false
-leaves_none (acts.EnterByCount key side) = false
-leaves_none (acts.LeaveByCount class side) = false
-leaves_none (acts.LookCount class side last) = false
-leaves_none (acts.EnterByRow key stamp) = false
-leaves_none (acts.LeaveByRow class) = false
-leaves_none (acts.LookRow p class last) = false
-leaves_none (acts.ReplaceValue slot key value) = false
-leaves_none _ = true
+-- A step leaves the marks of its act: of these the place has its own, and it has seen all before them.
+pub gone_by : {k : Shape} {v w : View} {n : ℕ} (a : Act) → Told k v a n w → HasGone v w (own_of v.allowance.place (marks_of (noted v a n) a n))
+gone_by {k} {v} {w} {n} a t =
+    let made : List Mark = marks_of (noted v a n) a n in
+    let place : w.allowance.place ≡ v.allowance.place = ap (λ (z : View). z.allowance.place) t.goes ∙ place_stays (noted v a n) t.marks n a in
+    let seen = ap (λ (z : View). z.seen) t.goes in
+    ⊎_elim
+    (λ (none : (made ≡ []) × ((after (noted v a n) a t.marks n).seen ≡ v.seen)).
+    subst (HasGone v w) (sym (ap (own_of v.allowance.place) none.0)) (gone_none place (seen ∙ none.1)))
+    (λ all. gone_with t.marks made t.sees place (seen ∙ all))
+    (has_seen (noted v a n) t.marks n a)
 
-module _ (k : Shape) (v : View) (n : ℕ) (w : View) where
-  -- a view that sees what it saw
-  as_seen : (x : View) → x.allowance.place ≡ v.allowance.place → x.seen ≡ v.seen → w ≡ x → HasGone v w []
-  as_seen x place seen e = gone_none (ap (λ (z : View). z.allowance.place) e ∙ place) (ap (λ (z : View). z.seen) e ∙ seen)
-
-  module _ (a : Act) (t : Told k v a n w) where
-    -- one that sees all marks, with one more that is no place's
-    as_marked : (x : View) (mark : Mark) → own_of v.allowance.place (mark ∷ []) ≡ [] → x.allowance.place ≡ v.allowance.place → x.seen ≡ t.marks ++ mark ∷ [] → w ≡ x → HasGone v w []
-    as_marked x mark none place seen e = subst (HasGone v w) none (gone_with t.marks (mark ∷ []) t.sees (ap (λ (z : View). z.allowance.place) e ∙ place) (ap (λ (z : View). z.seen) e ∙ seen))
-
-    as_all : (x : View) → x.allowance.place ≡ v.allowance.place → x.seen ≡ t.marks → w ≡ x → HasGone v w []
-    as_all x place seen e = gone_all t.marks t.sees (ap (λ (z : View). z.allowance.place) e ∙ place) (ap (λ (z : View). z.seen) e ∙ seen)
-
-    either : (z : Bool) (x y : View) → (w ≡ x → HasGone v w []) → (w ≡ y → HasGone v w []) → w ≡ cond z x y → HasGone v w []
-    either true x y f g e = f e
-    either false x y f g e = g e
-
-  pub stays_at : (a : Act) → leaves_none a ≡ true → Told k v a n w → HasGone v w []
-  stays_at (acts.Reserve expected) is t =
-      let u : View = noted v (acts.Reserve expected) n in
-      either (acts.Reserve expected) t (n == expected) (reserving (with_free u (expected - 1))) (cond (n == 0) (record (with_free u 0) { seen = t.marks }) (with_free u n))
-      (as_seen _ refl refl)
-      (either (acts.Reserve expected) t (n == 0) (record (with_free u 0) { seen = t.marks }) (with_free u n) (as_all (acts.Reserve expected) t _ refl refl) (as_seen _ refl refl)) t.goes
-  stays_at (acts.Seize slot) is t =
-      let u : View = noted v (acts.Seize slot) n in
-      either (acts.Seize slot) t (n == 0) (record u { hands = record u.hands { reserved = false; hand = Some (seized slot) }; seen = t.marks ++ Given slot ∷ [] }) u
-      (as_marked (acts.Seize slot) t _ (Given slot) refl refl refl) (as_seen _ refl refl) t.goes
-  stays_at (acts.Lock slot) is t =
-      let u : View = noted v (acts.Lock slot) n in
-      either (acts.Lock slot) t (n == 0) (record u { locks = new_lock slot ∷ u.locks }) u (as_seen _ refl refl) (as_seen _ refl refl) t.goes
-  stays_at (acts.OpenCommit expected) is t =
-      let u : View = noted v (acts.OpenCommit expected) n in
-      either (acts.OpenCommit expected) t (n == expected) (record (with_front u (expected + 1)) { commit = Some (record { found = expected; stored = false }) }) (with_front u n) (as_seen _ refl refl) (as_seen _ refl refl) t.goes
-  stays_at (acts.RaiseToSpare slot number) is t = as_marked (acts.RaiseToSpare slot number) t _ (Given slot) refl refl refl t.goes
-  stays_at (acts.FreeInHand slot) is t = as_marked (acts.FreeInHand slot) t _ (Freed slot) refl refl refl t.goes
-  stays_at (acts.FreeRetired slot) is t = as_marked (acts.FreeRetired slot) t _ (Freed slot) refl refl refl t.goes
-  stays_at (acts.UnlinkLeft parent old child) is t = as_marked (acts.UnlinkLeft parent old child) t _ (Unlinked old) refl refl refl t.goes
-  stays_at (acts.UnlinkRight copy old child) is t = as_marked (acts.UnlinkRight copy old child) t _ (Unlinked old) refl refl refl t.goes
-  stays_at acts.LookAtFront is t = as_all acts.LookAtFront t _ refl refl t.goes
-  stays_at (acts.EnterByStamp key stamp) is t = cc
-  stays_at acts.LeaveByStamp is t = cc
-  stays_at (acts.BeginWait low high) is t = cc
-  stays_at (acts.LookKey p last) is t = cc
-  stays_at (acts.LookStamp p last) is t = cc
-  stays_at (acts.LinkLeaf slot b leaf key value) is t = cc
-  stays_at (acts.Bypass parent b node child key) is t = cc
-  stays_at (acts.LinkCopy parent b node copy old old_parent key next_key) is t = cc
-  stays_at (acts.LoadGate class) is t = cc
-  stays_at (acts.EnterByCount key side) is t = cc
-  stays_at (acts.LeaveByCount class side) is t = cc
-  stays_at (acts.LookCount class side last) is t = cc
-  stays_at (acts.EnterByRow key stamp) is t = cc
-  stays_at (acts.LeaveByRow class) is t = cc
-  stays_at (acts.LookRow p class last) is t = cc
-  stays_at (acts.ReplaceValue slot key value) is t = cc
-  stays_at _ is t = as_seen _ refl refl t.goes
-
-pub stays : {k : Shape} {v w : View} {n : ℕ} (a : Act) → leaves_none a ≡ true → Told k v a n w → HasGone v w []
-stays {k} {v} {w} {n} a is t = stays_at k v n w a is t
+-- so none, where the act leaves none of a place
+pub stays : {k : Shape} {v w : View} {n : ℕ} (a : Act) → own_of v.allowance.place (marks_of (noted v a n) a n) ≡ [] → Told k v a n w → HasGone v w []
+stays {k} {v} {w} {n} a none t = subst (HasGone v w) none (gone_by a t)
 
 by_same : {v w : View} (x : View) → w ≡ x → IsSame v x → IsSame v w
 by_same {v} {w} x e same = subst (IsSame v) (sym e) same

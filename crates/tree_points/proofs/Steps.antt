@@ -16,6 +16,7 @@ use Rattle.core_acts.specs.Acts.{Asks}
 use Rattle.seat_table.specs.Gains.{TellsNow}
 use Rattle.seat_table.specs.Told.{Told}
 use Rattle.tree_points.specs.At.{IsAt}
+use Rattle.tree_points.proofs.SameCall.{moves_on}
 use Rattle.core_points.specs.Acts.{is_step}
 use Rattle.tree_points.proofs.Passing.{needs_at, passes_at}
 
@@ -40,27 +41,11 @@ stage_if false x y = refl
 
 -- An update may be begun with any even number that is taken for the front's.
 pub commits_any : {k : Shape} {op : Op} {kept e : ℕ} {u : Update} {v : View} → IsAt k op kept (at.Commit u e) v → (expected : ℕ) → expected % 2 ≡ 0 → IsAt k op kept (at.Commit u expected) v
-commits_any a expected even = record {
-  own = a.own;
-  op_is = a.op_is;
-  slots_are = a.slots_are;
-  places_are = a.places_are;
-  last = a.last;
-  keeps = a.keeps;
-  fits = record { owns = a.fits.owns; tickets = a.fits.tickets; unraised = a.fits.unraised; point = ((a.fits.point).0, even) };
-}
+commits_any a expected even = moves_on a a.own refl (record { owns = a.fits.owns; tickets = a.fits.tickets; unraised = a.fits.unraised; point = ((a.fits.point).0, even) })
 
 -- A slot may be reserved with any number that is taken for the free count's.
 pub reserves_any : {k : Shape} {op : Op} {kept e : ℕ} {aim : Aim} {v : View} → IsAt k op kept (at.Reserve aim e) v → (expected : ℕ) → 1 ≤ expected → IsAt k op kept (at.Reserve aim expected) v
-reserves_any {e = e} {aim = aim} {v = v} a expected some = record {
-  own = a.own;
-  op_is = a.op_is;
-  slots_are = a.slots_are;
-  places_are = a.places_are;
-  last = a.last;
-  keeps = a.keeps;
-  fits = by aim a.fits;
-}
+reserves_any {e = e} {aim = aim} {v = v} a expected some = moves_on a a.own refl (by aim a.fits)
   where
     by : (aim : Aim) → Fits a.own (at.Reserve aim e) v → Fits a.own (at.Reserve aim expected) v
     by (Leaf spot) f = let p = f.point in record { owns = f.owns; tickets = f.tickets; unraised = f.unraised; point = (p.0, p.1, p.2, p.3, some, p.5, p.6) }

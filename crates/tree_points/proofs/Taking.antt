@@ -17,6 +17,7 @@ use Rattle.seat_table.specs.Gains.{TellsNow}
 use Rattle.seat_table.specs.Told.{Told}
 use Rattle.seat_table.specs.Seats.{IsSlotOf}
 use Rattle.tree_points.specs.At.{IsAt, IsDone}
+use Rattle.tree_points.proofs.SameCall.{moves_on}
 use Rattle.tree_points.proofs.Passing.{needs_at}
 use Rattle.tree_points.proofs.Steps.{needs_as, passes_as}
 use Rattle.prcu_model.specs.declared.operation.Reply.TheVariants.{Old, Full}
@@ -116,15 +117,7 @@ scan_fits o v aim s some few f = by aim f
     by Room f = absurd f.point
 
 abbrev scanned : {k : Shape} {op : Op} {kept : ℕ} {v : View} {aim : Aim} (s : ℕ) → 1 ≤ s → s ≤ k.slots + k.places → IsAt k op kept (at.Seize aim) v → IsAt k op kept (at.Seize aim) v
-scanned {k} {op} {kept} {v} {aim} s positive few a = record {
-  own = record a.own { scan = s };
-  op_is = a.op_is;
-  slots_are = a.slots_are;
-  places_are = a.places_are;
-  last = a.last;
-  keeps = a.keeps;
-  fits = scan_fits a.own v aim s positive (let p = a.slots_are in let q = a.places_are in omega arith) a.fits;
-}
+scanned {k} {op} {kept} {v} {aim} s positive few a = moves_on a (record a.own { scan = s }) refl (scan_fits a.own v aim s positive (let p = a.slots_are in let q = a.places_are in omega arith) a.fits)
 
 pub needs_seize : {k : Shape} {op : Op} {kept s : ℕ} {v : View} {aim : Aim} → 1 ≤ s → s ≤ k.slots + k.places → IsAt k op kept (at.Seize aim) v → TellsNow k v → Asks k v (acts.Seize s)
 needs_seize {s = s} positive few a now = needs_at _ _ _ _ _ (scanned s positive few a) refl now

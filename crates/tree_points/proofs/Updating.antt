@@ -1,41 +1,27 @@
 -- The points of an update, and of what puts and sets load under their lock.
 use Rattle.core_acts.specs.declared.act.Part.TheVariants as part
-use Rattle.std.proofs.Common.{◌≡◌, ◌≢◌, ℕ, ◌+◌, ◌*◌, ◌/◌, ◌%◌, ◌==◌, ◌&&◌, if◌then◌else◌, true, false, refl, ap, eq-eqb, ne_eqb}
+use Rattle.std.proofs.Common.{◌≡◌, ◌≢◌, ℕ, ◌+◌, ◌*◌, ◌/◌, ◌%◌, ◌==◌, ◌&&◌, if◌then◌else◌, true, false, refl, eq-eqb, ne_eqb}
 use Rattle.prcu_model.specs.declared.operation.Op.{Op}
-use Rattle.prcu_model.specs.declared.operation.Op.TheVariants.{Set}
 use Rattle.core_state.specs.declared.shape.Shape.{Shape}
 use Rattle.core_state.specs.declared.view.View.{View}
-use Rattle.core_state.specs.memory.Words.{side_number, tag_number}
-use Rattle.prcu_model.specs.Dictionary.{key_of}
 use Rattle.core_points.specs.declared.stage.Spot.{Spot}
 use Rattle.core_points.specs.declared.stage.Node.{Node}
-use Rattle.core_points.specs.declared.stage.Successor.{Successor}
 use Rattle.core_points.specs.declared.stage.Aim.{Aim}
 use Rattle.core_points.specs.declared.stage.Last.TheVariants as last
 use Rattle.core_points.specs.declared.stage.Update.{Update}
 use Rattle.core_points.specs.declared.stage.Update.TheVariants as update
 use Rattle.core_points.specs.declared.stage.Stage.TheVariants as at
-use Rattle.core_points.specs.Callers.{go, value_in}
+use Rattle.core_points.specs.Callers.{go}
 use Rattle.core_points.specs.Programs.{past_age, past_even}
 use Rattle.core_acts.specs.declared.act.Act.TheVariants as acts
 use Rattle.core_acts.specs.Acts.{Asks}
 use Rattle.seat_table.specs.Gains.{TellsNow}
 use Rattle.seat_table.specs.Told.{Told}
 use Rattle.tree_points.specs.At.{IsAt}
+-- the stores themselves
+pub use Rattle.tree_points.proofs.Doing.{needs_store_bypass, passes_store_bypass, needs_store_copy, passes_store_copy, needs_store_value, passes_store_value}
 use Rattle.tree_points.proofs.Passing.{needs_at, passes_at}
-use Rattle.tree_points.proofs.Steps.{at_false, at_true, commits_any, needs_as, passes_as, stage_if}
-
-pub needs_store_bypass : {k : Shape} {op : Op} {kept : ℕ} {v : View} {d : Node} {child : ℕ} {front : ℕ} → IsAt k op kept (at.Store (update.Bypass d child) front) v → TellsNow k v → Asks k v (acts.Bypass d.parent d.side d.node child (key_of op))
-needs_store_bypass {op = op} {d = d} {child = child} {front = front} a now = needs_as (at.Store (update.Bypass d child) front) (acts.Bypass d.parent d.side d.node child (key_of op)) a refl (ap (λ (x : Op). acts.Bypass d.parent d.side d.node child (key_of x)) a.op_is) now
-
-pub passes_store_bypass : {k : Shape} {op : Op} {kept n : ℕ} {v w : View} {d : Node} {child : ℕ} {front : ℕ} → IsAt k op kept (at.Store (update.Bypass d child) front) v → Told k v (acts.Bypass d.parent d.side d.node child (key_of op)) n w → IsAt k op kept (at.Even (update.Bypass d child) front) w
-passes_store_bypass {op = op} {d = d} {child = child} {front = front} a t = passes_as (at.Store (update.Bypass d child) front) (at.Even (update.Bypass d child) front) (acts.Bypass d.parent d.side d.node child (key_of op)) a refl (ap (λ (x : Op). acts.Bypass d.parent d.side d.node child (key_of x)) a.op_is) refl t
-
-pub needs_store_copy : {k : Shape} {op : Op} {kept : ℕ} {v : View} {d : Node} {u : Successor} {next_key : ℕ} {copy : ℕ} {front : ℕ} → IsAt k op kept (at.Store (update.Copy d u next_key copy) front) v → TellsNow k v → Asks k v (acts.LinkCopy d.parent d.side d.node copy u.slot u.parent (key_of op) next_key)
-needs_store_copy {op = op} {d = d} {u = u} {next_key = next_key} {copy = copy} {front = front} a now = needs_as (at.Store (update.Copy d u next_key copy) front) (acts.LinkCopy d.parent d.side d.node copy u.slot u.parent (key_of op) next_key) a refl (ap (λ (x : Op). acts.LinkCopy d.parent d.side d.node copy u.slot u.parent (key_of x) next_key) a.op_is) now
-
-pub passes_store_copy : {k : Shape} {op : Op} {kept n : ℕ} {v w : View} {d : Node} {u : Successor} {next_key : ℕ} {copy : ℕ} {front : ℕ} → IsAt k op kept (at.Store (update.Copy d u next_key copy) front) v → Told k v (acts.LinkCopy d.parent d.side d.node copy u.slot u.parent (key_of op) next_key) n w → IsAt k op kept (at.Even (update.Copy d u next_key copy) front) w
-passes_store_copy {op = op} {d = d} {u = u} {next_key = next_key} {copy = copy} {front = front} a t = passes_as (at.Store (update.Copy d u next_key copy) front) (at.Even (update.Copy d u next_key copy) front) (acts.LinkCopy d.parent d.side d.node copy u.slot u.parent (key_of op) next_key) a refl (ap (λ (x : Op). acts.LinkCopy d.parent d.side d.node copy u.slot u.parent (key_of x) next_key) a.op_is) refl t
+use Rattle.tree_points.proofs.Steps.{at_false, at_true, commits_any, passes_as, stage_if}
 
 pub needs_even : {k : Shape} {op : Op} {kept : ℕ} {v : View} {up : Update} {front : ℕ} → IsAt k op kept (at.Even up front) v → TellsNow k v → Asks k v (acts.CloseCommit (front + 2))
 needs_even a now = needs_at _ _ _ _ _ a refl now
@@ -118,10 +104,3 @@ needs_mark a now = needs_at _ _ _ _ _ a refl now
 
 pub passes_mark : {k : Shape} {op : Op} {kept n : ℕ} {v w : View} {d : Node} {child : ℕ} → IsAt k op kept (at.Mark d child) v → Told k v (acts.Mark d.node (2 * d.generation)) n w → (expected : ℕ) → expected % 2 ≡ 0 → IsAt k op kept (at.Commit (update.Bypass d child) expected) w
 passes_mark {k} {op} {kept} {n} {v} {w} {d} {child} a t expected even = commits_any (passes_at k op kept v w n (at.Mark d child) a refl t) expected even
-
--- a set's store is of its operation's value
-pub needs_store_value : {k : Shape} {kept key value : ℕ} {v : View} {s old front : ℕ} → IsAt k (Set key value) kept (at.Store (update.Value s old) front) v → TellsNow k v → Asks k v (acts.ReplaceValue s key value)
-needs_store_value {key = key} {value = value} {s = s} {old = old} {front = front} a now = needs_as (at.Store (update.Value s old) front) (acts.ReplaceValue s key value) a refl (ap (λ (x : Op). acts.ReplaceValue s (key_of x) (value_in x)) a.op_is) now
-
-pub passes_store_value : {k : Shape} {kept n key value : ℕ} {v w : View} {s old front : ℕ} → IsAt k (Set key value) kept (at.Store (update.Value s old) front) v → Told k v (acts.ReplaceValue s key value) n w → IsAt k (Set key value) kept (at.Even (update.Value s old) front) w
-passes_store_value {key = key} {value = value} {s = s} {old = old} {front = front} a t = passes_as (at.Store (update.Value s old) front) (at.Even (update.Value s old) front) (acts.ReplaceValue s key value) a refl (ap (λ (x : Op). acts.ReplaceValue s (key_of x) (value_in x)) a.op_is) refl t

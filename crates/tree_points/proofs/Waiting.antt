@@ -13,6 +13,7 @@ use Rattle.core_points.specs.Callers.{Own, go, is_none_left, key_now}
 use Rattle.core_points.specs.Fits.{Fits, plain}
 use Rattle.seat_table.specs.Gains.{TellsNow}
 use Rattle.tree_points.specs.At.{IsAt}
+use Rattle.tree_points.proofs.SameCall.{moves_on}
 use Rattle.core_state.specs.declared.view.Retired.{Retired}
 use Rattle.core_state.specs.declared.view.Waiting.{Waiting}
 use Rattle.core_state.specs.steps.Waits.{new_wait, waited_move, waited_retired}
@@ -71,15 +72,7 @@ module _ (k : Shape) (v w : View) (low high : ℕ) (waited : HasWaited k v low h
 
 -- After a wait for everybody the retired slots may be given back.
 pub waits_old : {k : Shape} {op : Op} {kept : ℕ} {v w : View} {aim : Aim} → v.hands.retired ≢ [] → TellsNow k v → IsAt k op kept (at.Begin (Reuse aim)) v → HasWaited k v 0 18446744073709551615 w → IsAt k op kept (at.OldAge aim) w
-waits_old {k} {op} {kept} {v} {w} {aim} some now a waited = record {
-  own = go o (at.OldAge aim);
-  op_is = a.op_is;
-  slots_are = a.slots_are;
-  places_are = a.places_are;
-  last = a.last;
-  keeps = a.keeps;
-  fits = subst (Fits (go o (at.OldAge aim)) (at.OldAge aim)) (sym (outlasts k v w 0 18446744073709551615 waited)) fits;
-}
+waits_old {k} {op} {kept} {v} {w} {aim} some now a waited = moves_on a (go o (at.OldAge aim)) refl (subst (Fits (go o (at.OldAge aim)) (at.OldAge aim)) (sym (outlasts k v w 0 18446744073709551615 waited)) fits)
   where
     o : Own
     o = a.own
@@ -139,15 +132,7 @@ waits_old {k} {op} {kept} {v} {w} {aim} some now a waited = record {
 
 -- After the wait of a move the old successor may be unlinked.
 pub waits_move : {k : Shape} {op : Op} {kept : ℕ} {v w : View} {m : Moving} → IsAt k op kept (at.Begin (Move m)) v → HasWaited k v (key_of op + 1) m.next_key w → IsAt k op kept (at.OldMark m) w
-waits_move {k} {op} {kept} {v} {w} {m} a waited = record {
-  own = go o (at.OldMark m);
-  op_is = a.op_is;
-  slots_are = a.slots_are;
-  places_are = a.places_are;
-  last = a.last;
-  keeps = a.keeps;
-  fits = subst (Fits (go o (at.OldMark m)) (at.OldMark m)) (sym (outlasts k v w (key_of op + 1) m.next_key waited)) fits;
-}
+waits_move {k} {op} {kept} {v} {w} {m} a waited = moves_on a (go o (at.OldMark m)) refl (subst (Fits (go o (at.OldMark m)) (at.OldMark m)) (sym (outlasts k v w (key_of op + 1) m.next_key waited)) fits)
   where
     o : Own
     o = a.own
