@@ -1,2 +1,3 @@
 pub mod Sides
 pub mod Turning
+pub mod Onward

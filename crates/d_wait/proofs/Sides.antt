@@ -43,7 +43,7 @@ module _ (k : Shape) (v w : View) (wait : Waiting) (class side found : ℕ) (las
   side_told told = told.goes ∙ ap (λ z. after_look (noted v (LookCount class side last) found) z (Count class side) last found told.marks) (wait_is v wait was)
 
   pub side_passes : Told k v (LookCount class side last) found w → found ≡ 0 → HasPassed v last (Count class side) w
-  side_passes told is = (wait, step_of kinds.K31 (Count class side) found, was, look_passes v w kinds.K31 (Count class side) wait found told.marks was told.sees told.informed last (eq-eqb found 0 is) (side_told told))
+  side_passes told is = (wait, step_of kinds.K31 (Count class side) found, was, look_passes v w kinds.K31 (Count class side) wait found told.marks was told.sees told.informed refl last (eq-eqb found 0 is) (side_told told))
 
   pub side_stays : Told k v (LookCount class side last) found w → found ≢ 0 → HasLooked v wait (step_of kinds.K31 (Count class side) found) wait w
   side_stays told is = look_stays v w kinds.K31 (Count class side) wait found told.marks was told.sees told.informed last (ne_eqb found 0 is) (side_told told)

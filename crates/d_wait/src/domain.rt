@@ -5,8 +5,9 @@ ghost use Rattle.key_interval.specs.Keys.{MeetsClass};
 ghost use Rattle.key_interval.specs.LastClass.{IsLastClass};
 ghost use Rattle.seat_table.specs.declared.wait.Poll.TheVariants.{NotYet};
 ghost use Rattle.seat_table.specs.Looks.{HasPassed, HasMet};
+ghost use Rattle.seat_table.specs.Onward.{LooksAt, IsOnward, IsLater};
 ghost use Rattle.seat_table.specs.Seats.{shape_of};
-ghost use Rattle.seat_table.specs.Waits.{IsLatestOf, IsGoingOn, IsOver, Polled};
+ghost use Rattle.seat_table.specs.Waits.{IsLatestOf, IsGoingOn, IsOver, Polled, StopsAt, reached};
 ghost use Rattle.d_wait.specs.Classes.{StaysAt, at_next, IsBack};
 
 use key_interval::{Keys, class_of};
@@ -35,6 +36,7 @@ fn load_gate(table: &CitrusTable<Domain>, seat: &mut Seat<Domain>, grace: &mut G
     ensures seat { (seat.new.table ≡ seat.old.table) × (seat.new.listed ≡ seat.old.listed) }
     ensures grace { grace.new ≡ record grace.old { gate = grace.new.gate } }
     ensures gone_on { IsGoingOn (shape_of 1 table.now) seat.old.view grace.new seat.new.view }
+    ensures onward { LooksAt (IsOnward (reached grace.old)) seat.old.view seat.new.view }
 {
     if grace.gate != NOT_LOADED {
         return;
@@ -59,6 +61,8 @@ fn look(
     ensures seat { (seat.new.table ≡ seat.old.table) × (seat.new.listed ≡ seat.old.listed) }
     ensures passed { IfNone result (HasPassed seat.old.view last (Count grace.now.class side) seat.new.view) }
     ensures met { IfSome result (λ why. HasMet seat.old.view why seat.new.view) }
+    ensures there { IfSome result (λ why. StopsAt (reached grace.now) why) }
+    ensures spot { LooksAt (λ field. field ≡ Count grace.now.class side) seat.old.view seat.new.view }
 {
     let class = grace.class;
     let count = steps::look_count(table, seat, class, side, last);
@@ -81,6 +85,8 @@ fn turn(
     ensures grace { StaysAt grace.old grace.new }
     ensures turned { IfNone result ((grace.new.turned ≡ true) × IsGoingOn (shape_of 1 table.now) seat.old.view grace.new seat.new.view) }
     ensures met { IfSome result (λ why. Polled (shape_of 1 table.now) seat.old.view (NotYet why) grace.new seat.new.view) }
+    ensures onward { LooksAt (IsOnward (reached grace.old)) seat.old.view seat.new.view }
+    ensures later { IsLater (reached grace.old) (reached grace.new) }
 {
     if grace.turned {
         return None;
@@ -90,6 +96,7 @@ fn turn(
     if let Some(why) = look(table, seat, grace, side, false) {
         return Some(why);
     }
+    // Later sections are counted on the other side from here on, so the side that is looked at next runs empty.
     steps::turn_gate(table, seat, grace.class);
     grace.turned = true;
     None
@@ -118,6 +125,8 @@ fn pass(
     ensures grace { (grace.new.keys ≡ grace.old.keys) × (grace.new.clock ≡ grace.old.clock) }
     ensures passed { IfNone result ((grace.new.class ≡ grace.old.class + 1) × IsGoingOn (shape_of 1 table.now) seat.old.view grace.new seat.new.view) }
     ensures met { IfSome result (λ why. Polled (shape_of 1 table.now) seat.old.view (NotYet why) grace.new seat.new.view) }
+    ensures onward { LooksAt (IsOnward (reached grace.old)) seat.old.view seat.new.view }
+    ensures later { IfNone result (IsLater (reached grace.old) (reached grace.new)) }
 {
     if !grace.keys.meets_class(grace.class) {
         go_on(grace);
@@ -147,6 +156,7 @@ fn end(
     ensures grace { (grace.new.keys ≡ grace.old.keys) × (grace.new.clock ≡ grace.old.clock) }
     ensures over { IfNone result (IsOver (shape_of 1 table.now) seat.old.view seat.new.view) }
     ensures met { IfSome result (λ why. Polled (shape_of 1 table.now) seat.old.view (NotYet why) grace.new seat.new.view) }
+    ensures onward { LooksAt (IsOnward (reached grace.old)) seat.old.view seat.new.view }
 {
     if let Some(why) = turn(table, seat, grace) {
         return Some(why);
@@ -171,6 +181,7 @@ fn go_back(grace: &mut Grace<Domain>, last: u32)
 impl WaitPart for Domain {
     fn enter(table: &CitrusTable<Domain>, seat: &mut Seat<Domain>, key: u64) {
         let gate = steps::load_gate(table, seat, class_of(key));
+        // The gate may have been turned since it was loaded, so a wait finds both sides at 0. docs/TREE.md#the-tree
         steps::enter_by_count(table, seat, key, (gate % 2) as u32);
     }
 

@@ -1,6 +1,8 @@
 -- The classes of a wait's keys as two runs of classes one after another.
 -- Source: docs/TREE.md, "Keys and classes".
 use Rattle.std.specs.Prelude.{◌≡◌, ℕ, ◌<◌, ◌≤◌, ◌⊎◌}
+use Rattle.core_state.specs.declared.words.Field.{Field}
+use Rattle.core_state.specs.declared.words.Field.TheVariants.{Row}
 use Rattle.key_interval.specs.Keys.{Interval, MeetsClass}
 use Rattle.seat_table.specs.declared.wait.Grace.{Grace}
 use Rattle.deer_wait.specs.declared.image.Image.{Image}
@@ -18,6 +20,10 @@ pub record IsImage (keys : Interval) (image : Image) : Type 0 where
 abbrev pub HasEach : {W : Type 0} → Grace W → ℕ → Type 0
 HasEach grace end = (c : ℕ) → grace.class ≤ c → c < end → MeetsClass grace.keys c
 
+-- The row isn't before that one: it is of a later place, or of a class as late at the same place.
+abbrev pub IsRowFrom : ℕ → ℕ → Field → Type 0
+IsRowFrom place class field = (p c : ℕ) × (field ≡ Row p c) × ((place < p) ⊎ ((place ≡ p) × (class ≤ c)))
+
 -- The grace is still at the same place of the same wait.
 abbrev pub StaysAt : {W : Type 0} → Grace W → Grace W → Type 0
 StaysAt old new = new ≡ record old { class = new.class }
@@ -26,4 +32,5 @@ StaysAt old new = new ≡ record old { class = new.class }
 pub record HasSkipped {W : Type 0} (from : ℕ) (old new : Grace W) : Type 0 where
   pub stays : StaysAt old new
   pub beyond : from ≤ new.class
+  pub later : old.class ≤ new.class
   pub gap : (c : ℕ) → old.class ≤ c → c < new.class → c < from

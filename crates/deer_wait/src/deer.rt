@@ -5,9 +5,10 @@ ghost use Rattle.key_interval.specs.Keys.{MeetsClass};
 ghost use Rattle.key_interval.specs.LastClass.{IsLastClass};
 ghost use Rattle.seat_table.specs.Seats.{shape_of};
 ghost use Rattle.seat_table.specs.declared.wait.Poll.TheVariants.{NotYet};
-ghost use Rattle.seat_table.specs.Waits.{IsLatestOf, IsGoingOn, Polled};
+ghost use Rattle.seat_table.specs.Waits.{IsLatestOf, IsGoingOn, Polled, StopsAt, reached};
 ghost use Rattle.seat_table.specs.Looks.{HasPassed, HasMet};
-ghost use Rattle.deer_wait.specs.Images.{IsImage, HasEach, HasSkipped, StaysAt};
+ghost use Rattle.seat_table.specs.Onward.{LooksAt};
+ghost use Rattle.deer_wait.specs.Images.{IsImage, IsRowFrom, HasEach, HasSkipped, StaysAt};
 
 use crate::image::{Image, image_of};
 use key_interval::{Keys, class_of};
@@ -40,6 +41,8 @@ fn look(
     ensures seat { (seat.new.table ≡ seat.old.table) × (seat.new.listed ≡ seat.old.listed) }
     ensures passed { IfNone result (HasPassed seat.old.view last (Row grace.now.place grace.now.class) seat.new.view) }
     ensures met { IfSome result (λ why. HasMet seat.old.view why seat.new.view) }
+    ensures there { IfSome result (λ why. StopsAt (reached grace.now) why) }
+    ensures spot { LooksAt (λ field. field ≡ Row grace.now.place grace.now.class) seat.old.view seat.new.view }
 {
     let place = grace.place;
     let class = grace.class;
@@ -79,6 +82,8 @@ fn pass(
     ensures grace { StaysAt grace.old grace.new }
     ensures passed { IfNone result ((end ≤ grace.new.class) × IsGoingOn (shape_of 2 table.now) seat.old.view grace.new seat.new.view) }
     ensures met { IfSome result (λ why. Polled (shape_of 2 table.now) seat.old.view (NotYet why) grace.new seat.new.view) }
+    ensures onward { LooksAt (IsRowFrom grace.old.place grace.old.class) seat.old.view seat.new.view }
+    ensures later { grace.old.class ≤ grace.new.class }
 {
     for class in grace.class..end {
         if let Some(why) = look(table, seat, grace, false) {
@@ -113,6 +118,7 @@ fn come_to_last(
     ensures grace { StaysAt grace.old grace.new }
     ensures passed { IfNone result ((grace.new.class ≡ image.now.last) × IsGoingOn (shape_of 2 table.now) seat.old.view grace.new seat.new.view) }
     ensures met { IfSome result (λ why. Polled (shape_of 2 table.now) seat.old.view (NotYet why) grace.new seat.new.view) }
+    ensures onward { LooksAt (IsRowFrom grace.old.place grace.old.class) seat.old.view seat.new.view }
 {
     if let Some(why) = pass(table, seat, grace, image.below) {
         return Some(why);
@@ -140,6 +146,8 @@ fn pass_place(
     ensures grace { (grace.new.keys ≡ grace.old.keys) × (grace.new.clock ≡ grace.old.clock) }
     ensures passed { IfNone result ((grace.new.place ≡ grace.old.place + 1) × IsGoingOn (shape_of 2 table.now) seat.old.view grace.new seat.new.view) }
     ensures met { IfSome result (λ why. Polled (shape_of 2 table.now) seat.old.view (NotYet why) grace.new seat.new.view) }
+    ensures onward { grace.old.class ≤ image.now.last → LooksAt (IsRowFrom grace.old.place grace.old.class) seat.old.view seat.new.view }
+    ensures first { IfNone result (grace.new.class ≡ 0) }
 {
     if let Some(why) = come_to_last(table, seat, grace, image) {
         return Some(why);

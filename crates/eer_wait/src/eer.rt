@@ -2,8 +2,9 @@
 ghost use Rattle.std.specs.Prelude.{◌≡◌, ◌+◌, ◌<◌, true, IfNone, IfSome};
 ghost use Rattle.core_state.specs.declared.words.Field.TheVariants.{Stamp};
 ghost use Rattle.seat_table.specs.Seats.{shape_of};
-ghost use Rattle.seat_table.specs.Waits.{IsLatestOf};
+ghost use Rattle.seat_table.specs.Waits.{IsLatestOf, StopsAt, reached};
 ghost use Rattle.seat_table.specs.Looks.{HasPassed, HasMet};
+ghost use Rattle.seat_table.specs.Onward.{LooksAt};
 
 use key_interval::Keys;
 use prcu_marks::Why;
@@ -33,6 +34,8 @@ fn look(
     ensures seat { (seat.new.table ≡ seat.old.table) × (seat.new.listed ≡ seat.old.listed) }
     ensures passed { IfNone result (HasPassed seat.old.view last (Stamp grace.now.place) seat.new.view) }
     ensures met { IfSome result (λ why. HasMet seat.old.view why seat.new.view) }
+    ensures there { IfSome result (λ why. StopsAt (reached grace.now) why) }
+    ensures spot { LooksAt (λ field. field ≡ Stamp grace.now.place) seat.old.view seat.new.view }
 {
     let place = grace.place;
     let key = steps::look_key(table, seat, place, last);
@@ -40,6 +43,7 @@ fn look(
         return None;
     }
     let stamp = steps::look_stamp(table, seat, place, last);
+    // A stamp above the wait's clock was loaded after the wait began, so its section came later. docs/TREE.md#the-tree
     if stamp == u64::MAX || grace.clock < stamp {
         return None;
     }
@@ -48,7 +52,10 @@ fn look(
 
 impl WaitPart for Eer {
     fn enter(table: &CitrusTable<Eer>, seat: &mut Seat<Eer>, key: u64) {
+        // The clock is loaded before the section is entered: so the stamp isn't above the clock of a wait that begins later, and that wait
+        // waits for it. docs/TREE_INVARIANT.md#the-invariant-of-the-tree
         let stamp = steps::load_clock(table, seat);
+        // The key stands before the stamp: a wait that still loads the old key began before this section is entered, and isn't for it.
         steps::announce_key(table, seat, key);
         steps::enter_by_stamp(table, seat, key, stamp);
     }

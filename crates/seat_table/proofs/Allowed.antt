@@ -21,7 +21,9 @@ use Rattle.core_state.specs.Invariant.{Invariant, Rule}
 use Rattle.seat_table.specs.declared.rule.Nothing.{Nothing}
 use Rattle.seat_table.specs.Seats.{way_of, with_way}
 use Rattle.core_acts.specs.declared.act.Act.{Act}
-use Rattle.core_acts.specs.Acts.{Access, loads, stores, exchanges, adds, subtracts, flips, field_of, access_of, left_by, said_by, Asks}
+use Rattle.core_acts.specs.declared.access.Access.{Access}
+use Rattle.core_acts.specs.declared.access.Access.TheVariants.{Load, Store, Exchange, Add, Subtract, Flip}
+use Rattle.core_acts.specs.Acts.{StaysWord, field_of, access_of, left_by, said_by, Asks}
 use Rattle.core_acts.specs.Laws.{done, marks}
 use Rattle.core_acts.proofs.Acting.{acts_keep}
 use Rattle.seat_table.specs.Told.{tells}
@@ -29,7 +31,7 @@ use Rattle.seat_table.specs.Gains.{WordFits}
 use Rattle.core_frames.proofs.views.Fields.{same_self}
 use Rattle.core_frames.proofs.Telling.{told_of}
 use Rattle.seat_table.proofs.Memories.{memory-word, memory-stored}
-use Rattle.seat_table.proofs.Facts.{sees, informed, Fits, fits, word_fits, said_fits, stood_inside, has_side, stays_in, still_works, tells_apart}
+use Rattle.seat_table.proofs.Facts.{sees, informed, fits, word_fits, said_fits, stood_inside, has_side, stays_in, still_works, tells_apart}
 use Rattle.seat_table.proofs.Gained.{gains}
 
 either_is : (b : Bool) (x y : ℕ) → either b x y ≡ cond b x y
@@ -51,7 +53,7 @@ module _ (k : Shape) (slots id : ℕ) (me : Me Nothing View) (c : Act) (word : �
   abbrev access : Access
   access = access_of me.0.allowance.place c
 
-  allows_field : (f : ℕ → ℕ) → ((n : ℕ) → n < 18446744073709551616 → Fits (access_of me.0.allowance.place c) n → f n ≡ left_by (access_of me.0.allowance.place c) n)
+  allows_field : (f : ℕ → ℕ) → ((n : ℕ) → n < 18446744073709551616 → StaysWord (access_of me.0.allowance.place c) n → f n ≡ left_by (access_of me.0.allowance.place c) n)
       → Allows Holds slots id me (word_of k (field_of me.0.allowance.place c)) f (λ n. tells k c me (said_by (access_of me.0.allowance.place c) n))
   allows_field f same s r len at below =
       let field : Field = (field_of me.0.allowance.place c) in
@@ -75,7 +77,7 @@ module _ (k : Shape) (slots id : ℕ) (me : Me Nothing View) (c : Act) (word : �
       let still : Works w = still_works k.places s.views id me.0 w at r.holds.now.seats.placed kept.now.seats.placed (kept.now.seats.spent id w there) works in
       let telling : tells k c me (said_by access (m field)) (w, me.1) = (
         refl,
-        record { marks = h'; word = m'; tells = told_of k m' vs' h' id w kept.now there still; apart = tells_apart k m' vs' h' kept.now id w there },
+        record { marks = h'; sees = sees k m' vs' h' kept.now id w there still; word = m'; tells = told_of k m' vs' h' id w kept.now there still; apart = tells_apart k m' vs' h' kept.now id w there },
         record {
           marks = h;
           sees = sees k m s.views h r.holds.now id me.0 at works;
@@ -97,29 +99,29 @@ module _ (k : Shape) (slots id : ℕ) (me : Me Nothing View) (c : Act) (word : �
         subst (λ z. tells k c me (said_by access z) (w, me.1)) found telling,
       )
 
-  allows : (f : ℕ → ℕ) → ((n : ℕ) → n < 18446744073709551616 → Fits (access_of me.0.allowance.place c) n → f n ≡ left_by (access_of me.0.allowance.place c) n)
+  allows : (f : ℕ → ℕ) → ((n : ℕ) → n < 18446744073709551616 → StaysWord (access_of me.0.allowance.place c) n → f n ≡ left_by (access_of me.0.allowance.place c) n)
       → Allows Holds slots id me word f (λ n. tells k c me (said_by (access_of me.0.allowance.place c) n))
   allows f same = subst (λ i. Allows Holds slots id me i f (λ n. tells k c me (said_by access n))) (sym at_word) (allows_field f same)
 
-  pub allows_load : (access_of me.0.allowance.place c) ≡ loads → Allows Holds slots id me word (λ n. n) (tells k c me)
+  pub allows_load : (access_of me.0.allowance.place c) ≡ Load → Allows Holds slots id me word (λ n. n) (tells k c me)
   allows_load is = subst (λ a. Allows Holds slots id me word (λ n. n) (λ n. tells k c me (said_by a n))) is (allows (λ n. n) (λ n small fits. sym (ap (λ a. left_by a n) is)))
 
-  pub allows_store : (x : ℕ) → (access_of me.0.allowance.place c) ≡ stores x → Allows Holds slots id me word (λ _. x) (λ _. tells k c me x)
+  pub allows_store : (x : ℕ) → (access_of me.0.allowance.place c) ≡ Store x → Allows Holds slots id me word (λ _. x) (λ _. tells k c me x)
   allows_store x is = subst (λ a. Allows Holds slots id me word (λ _. x) (λ n. tells k c me (said_by a n))) is (allows (λ _. x) (λ n small fits. sym (ap (λ a. left_by a n) is)))
 
-  pub allows_exchange : (old new : ℕ) → (access_of me.0.allowance.place c) ≡ exchanges old new → Allows Holds slots id me word (λ n. either (n == old) new n) (tells k c me)
+  pub allows_exchange : (old new : ℕ) → (access_of me.0.allowance.place c) ≡ Exchange old new → Allows Holds slots id me word (λ n. either (n == old) new n) (tells k c me)
   allows_exchange old new is = subst (λ a. Allows Holds slots id me word (λ n. either (n == old) new n) (λ n. tells k c me (said_by a n))) is
       (allows (λ n. either (n == old) new n) (λ n small fits. either_is (n == old) new n ∙ sym (ap (λ a. left_by a n) is)))
 
-  pub allows_add : (x : ℕ) → (access_of me.0.allowance.place c) ≡ adds x → Allows Holds slots id me word (λ n. (n + x) % 2 ^ 64) (tells k c me)
+  pub allows_add : (x : ℕ) → (access_of me.0.allowance.place c) ≡ Add x → Allows Holds slots id me word (λ n. (n + x) % 2 ^ 64) (tells k c me)
   allows_add x is = subst (λ a. Allows Holds slots id me word (λ n. (n + x) % 2 ^ 64) (λ n. tells k c me (said_by a n))) is
-      (allows (λ n. (n + x) % 2 ^ 64) (λ n small fits. let sum : n + x < 18446744073709551616 = subst (λ a. Fits a n) is fits in let whole : (n + x) % 2 ^ 64 ≡ n + x = omega arith in whole ∙ sym (ap (λ a. left_by a n) is)))
+      (allows (λ n. (n + x) % 2 ^ 64) (λ n small fits. let sum : n + x < 18446744073709551616 = subst (λ a. StaysWord a n) is fits in let whole : (n + x) % 2 ^ 64 ≡ n + x = omega arith in whole ∙ sym (ap (λ a. left_by a n) is)))
 
-  pub allows_subtract : (x : ℕ) → x ≤ 1 → (access_of me.0.allowance.place c) ≡ subtracts x → Allows Holds slots id me word (λ n. (n + (2 ^ 64 - x)) % 2 ^ 64) (tells k c me)
+  pub allows_subtract : (x : ℕ) → x ≤ 1 → (access_of me.0.allowance.place c) ≡ Subtract x → Allows Holds slots id me word (λ n. (n + (2 ^ 64 - x)) % 2 ^ 64) (tells k c me)
   allows_subtract x one is = subst (λ a. Allows Holds slots id me word (λ n. (n + (2 ^ 64 - x)) % 2 ^ 64) (λ n. tells k c me (said_by a n))) is
-      (allows (λ n. (n + (2 ^ 64 - x)) % 2 ^ 64) (λ n small fits. let there : x ≤ n = subst (λ a. Fits a n) is fits in let less : (n + (2 ^ 64 - x)) % 2 ^ 64 ≡ n - x = omega arith in less ∙ sym (ap (λ a. left_by a n) is)))
+      (allows (λ n. (n + (2 ^ 64 - x)) % 2 ^ 64) (λ n small fits. let there : x ≤ n = subst (λ a. StaysWord a n) is fits in let less : (n + (2 ^ 64 - x)) % 2 ^ 64 ≡ n - x = omega arith in less ∙ sym (ap (λ a. left_by a n) is)))
 
-  pub allows_flip : (access_of me.0.allowance.place c) ≡ flips → Allows Holds slots id me word (λ n. bit_xor n 1) (tells k c me)
+  pub allows_flip : (access_of me.0.allowance.place c) ≡ Flip → Allows Holds slots id me word (λ n. bit_xor n 1) (tells k c me)
   allows_flip is = subst (λ a. Allows Holds slots id me word (λ n. bit_xor n 1) (λ n. tells k c me (said_by a n))) is (allows (λ n. bit_xor n 1) (λ n small fits. last_turned n ∙ sym (ap (λ a. left_by a n) is)))
 
 -- the shape that clauses see is the table's

@@ -1,6 +1,6 @@
 -- What the rule tells of a seat and of the words.
-use Rattle.std.proofs.Common.{◌≡◌, ℕ, ◌+◌, ◌*◌, ◌/◌, ◌<◌, ◌≤◌, ◌==◌, zero, suc, nat_lt, ◌&&◌, Bool, true, false, cond, List, [], ◌∷◌, ◌++◌, length, map, take, set, Option, Some, None, refl, length-append, sym, ap, subst, ◌∙◌, ⊎_elim, arith, eq-eqb}
-use Rattle.std.proofs.lemmas.Bool.{lt-ltb, ltb-true}
+use Rattle.std.proofs.Common.{◌≡◌, ℕ, ◌+◌, ◌*◌, ◌/◌, ◌<◌, ◌≤◌, ◌==◌, zero, suc, ◌&&◌, Bool, true, false, cond, List, [], ◌∷◌, ◌++◌, length, map, take, set, Option, Some, None, refl, length-append, sym, ap, subst, ◌∙◌, ⊎_elim, arith, eq-eqb}
+use Rattle.std.proofs.lemmas.Bool.{ltb-true}
 use Rattle.std.specs.FinMap as finite
 use mathlib.Core.Logic.{dite}
 use native.Mathlib.Decide.{ℕ_discrete}
@@ -21,13 +21,13 @@ use Rattle.prcu_model.specs.Slots.{StaysWithin}
 use Rattle.prcu_marks.proofs.MarkLists.{updates_of-append, own_of-append}
 use Rattle.prcu_model.proofs.Fronts.{AreUpdatesFrom-front}
 use Rattle.core_state.specs.declared.shape.Shape.{Shape}
-use Rattle.core_state.specs.declared.shape.Waiter.TheVariants.{Eer, Domain, Deer}
+use Rattle.core_state.specs.declared.shape.Waiter.TheVariants.{Domain}
 use Rattle.core_state.specs.declared.words.Field.{Field}
 use Rattle.core_state.specs.declared.words.Field.TheVariants.{Clock, Front, Free, Count, State as StateWord, Lock, Life, Tag}
 use Rattle.core_state.specs.declared.view.Retired.{Retired}
 use Rattle.core_state.specs.declared.view.Section.{Section}
 use Rattle.core_state.specs.declared.view.View.{View}
-use Rattle.core_state.specs.memory.Memory.{Memory, slot_count, slot_base, word_count, word_of, is_field, same_waiter}
+use Rattle.core_state.specs.memory.Memory.{Memory, slot_count, word_count, word_of, is_field}
 use Rattle.core_state.specs.memory.Lists.{sum_below, flag}
 use Rattle.core_state.specs.views.Known.{lock_of}
 use Rattle.core_state.specs.Marks.{begun, begun_at, Grace, Reuse}
@@ -45,10 +45,12 @@ use Rattle.std.proofs.lemmas.List.{take-append-le}
 use Rattle.core_frames.proofs.chart.Plain.{gone_within}
 use Rattle.core_frames.proofs.Counting.{total_le, places_length, all_places}
 use Rattle.key_interval.specs.Keys.{class_of}
-use Rattle.seat_table.specs.Seats.{TableAt, way_of, shape_of, HasPlace}
+use Rattle.seat_table.specs.Seats.{TableAt, shape_of}
 use Rattle.core_acts.specs.declared.act.Act.{Act}
 use Rattle.core_acts.specs.declared.act.Act.TheVariants.{BeginWait, CountFree, EnterByCount, LeaveByCount}
-use Rattle.core_acts.specs.Acts.{Access, loads, stores, exchanges, adds, subtracts, flips, field_of, access_of, left_by, said_by, Asks}
+use Rattle.core_acts.specs.declared.access.Access.{Access}
+use Rattle.core_acts.specs.declared.access.Access.TheVariants.{Load, Store, Exchange, Add, Subtract, Flip}
+use Rattle.core_acts.specs.Acts.{StaysWord, field_of, access_of, left_by, said_by, Asks}
 use Rattle.core_acts.proofs.Acting.{has_word}
 use Rattle.seat_table.specs.Gains.{Sees, IsInformed, WordFits, IsApart, IsSlot, StoodInside, HasSide, StaysIn, TellsApart}
 use Rattle.seat_table.proofs.Memories.{both_true, word_inside}
@@ -97,12 +99,6 @@ begun_part p (Given s ∷ ms) = begun_part p ms
 begun_part p (Unlinked s ∷ ms) = begun_part p ms
 begun_part p (Freed s ∷ ms) = begun_part p ms
 
--- what is added never wraps, and what is subtracted is there
-abbrev pub Fits : Access → ℕ → Type 0
-Fits (adds x) n = n + x < 18446744073709551616
-Fits (subtracts x) n = x ≤ n
-Fits _ n = Unit {0}
-
 sum_most : (test : ℕ → Bool) (n : ℕ) → sum_below (λ s. flag (test s)) n ≤ n
 sum_most test zero = omega arith
 sum_most test (suc n) = let rest = sum_most test n in let one = flag_most (test n) in omega arith
@@ -116,12 +112,12 @@ sum_part f zero s below = absurd (omega arith)
 sum_part f (suc n) s below = dite (ℕ_discrete s n) (λ e. let same : f s ≡ f n = ap f e in omega arith) (λ ne. let rest = sum_part f n s (omega arith) in omega arith)
 
 pub said_fits : (k : Shape) (field : Field) (a : Access) (n : ℕ) → WordFits k field n → WordFits k field (left_by a n) → WordFits k field (said_by a n)
-said_fits k field loads n found left = found
-said_fits k field (stores x) n found left = left
-said_fits k field (exchanges old new) n found left = found
-said_fits k field (adds x) n found left = found
-said_fits k field (subtracts x) n found left = found
-said_fits k field flips n found left = found
+said_fits k field Load n found left = found
+said_fits k field (Store x) n found left = left
+said_fits k field (Exchange old new) n found left = found
+said_fits k field (Add x) n found left = found
+said_fits k field (Subtract x) n found left = found
+said_fits k field Flip n found left = found
 
 -- a view that worked at a place still does: nobody else answers for its places
 pub still_works : (places : ℕ) (vs : List View) (id : ℕ) (v w : View) → get_elem? vs id ≡ some v → ArePlaced places vs → ArePlaced places (set vs id w) → (w.allowance.places ≡ 0 → w ≡ spent_view) → Works v → Works w
@@ -211,7 +207,7 @@ module _ (k : Shape) (m : Memory) (vs : List View) (h : List Mark) (i : HoldsNow
       let mine : inside_count c side v.section ≡ 1 = ap (inside_count c side) inside ∙ ap (λ b. cond b 1 0) (both_true _ _ (eq-eqb (class_of section.key) c (sym at_class)) (eq-eqb section.stamp side (sym at_side))) in
       omega arith
 
-  pub fits : (a : Act) → Asks k v a → Fits (access_of v.allowance.place a) (m (field_of v.allowance.place a))
+  pub fits : (a : Act) → Asks k v a → StaysWord (access_of v.allowance.place a) (m (field_of v.allowance.place a))
   fits (BeginWait low high) asks = let small = small_clock in omega arith
   fits CountFree asks = let small = small_free in omega arith
   fits (EnterByCount key side) (has, needs) = let small = small_count (class_of key) side has.0 (omega arith) has.2 in omega arith

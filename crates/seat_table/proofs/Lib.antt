@@ -11,4 +11,6 @@ pub mod Waiting
 pub mod Polling
 pub mod Polls
 pub mod Seating
+pub mod Quiet
+pub mod Onward
 pub mod Going

@@ -19,7 +19,7 @@ use Rattle.seat_table.specs.declared.wait.Poll.TheVariants.{NotYet}
 use Rattle.core_acts.specs.Acts.{wait_of}
 use Rattle.core_acts.proofs.Acting.{wait_is}
 use Rattle.seat_table.specs.Gains.{Sees, IsInformed}
-use Rattle.seat_table.specs.Waits.{reached, HasReached, Shows, HasLooked, HasEnded, ended_by, IsGoingOn, IsOver, Polled, Passed}
+use Rattle.seat_table.specs.Waits.{reached, HasReached, Shows, StopsAt, is_look, HasLooked, HasEnded, ended_by, IsGoingOn, IsOver, Polled, Passed}
 use Rattle.seat_table.specs.Looks.{HasPassed, HasMet}
 use Rattle.seat_table.proofs.Waiting.{step_of, look_passes, look_stays, looks_on, looks_end, have_left, shows_later, shows_by}
 
@@ -64,8 +64,8 @@ module _ (v w : View) (kind : Kind) (field : Field) (wait : Waiting) (found : �
   look_is : w ≡ after_look (stepped v kind field found) wait field last found h
   look_is = goes ∙ ap (λ z. after_look (stepped v kind field found) z field last found h) (wait_is v wait was)
 
-  pub load_passes : excuses wait field found ≡ true → Passed v wait last (step_of kind field found) field w
-  load_passes is = look_passes v w kind field wait found h was sees informed last is look_is
+  pub load_passes : is_look kind ≡ true → excuses wait field found ≡ true → Passed v wait last (step_of kind field found) field w
+  load_passes looks is = look_passes v w kind field wait found h was sees informed looks last is look_is
 
   pub load_stays : excuses wait field found ≡ false → HasLooked v wait (step_of kind field found) wait w
   load_stays is = look_stays v w kind field wait found h was sees informed last is look_is
@@ -80,12 +80,12 @@ module _ {W : Type 0} (k : Shape) (v u w : View) (grace : Grace W) (come : IsGoi
       let second = subst (λ z. HasLooked u z p.1 (with_excused z field) w) (same_was p.0 p.2) p.3 in
       (come.0, come.1 ++ p.1, with_excused come.2 field, come.3, looks_on v u w come.0 come.2 (with_excused come.2 field) come.1 p.1 come.4 second, there)
 
-  pub is_not_yet : (why : Why) → HasMet u why w → Polled k v (NotYet why) grace w
-  is_not_yet why p =
+  pub is_not_yet : (why : Why) → StopsAt (reached grace) why → HasMet u why w → Polled k v (NotYet why) grace w
+  is_not_yet why there p =
       let same = same_was p.0 p.2 in
       let second = subst (λ z. HasLooked u z p.1 z w) same p.3 in
       let shows = shows_later come.1 p.1 come.2 why (subst (λ z. Shows z p.1 why) same p.4) in
-      (come.0, come.1 ++ p.1, come.2, come.3, looks_on v u w come.0 come.2 come.2 come.1 p.1 come.4 second, come.5, shows_by come.0 come.2 come.4.same (come.1 ++ p.1) why shows)
+      (come.0, come.1 ++ p.1, come.2, come.3, looks_on v u w come.0 come.2 come.2 come.1 p.1 come.4 second, come.5, shows_by come.0 come.2 come.4.same (come.1 ++ p.1) why shows, there)
 
   pub is_over : (field : Field) → HasPassed u true field w → (k.waiter ≡ Domain → (c : ℕ) → c < 64 → MeetsClass (keys_of come.2) c → times c come.2.turned ≡ 1) → IsOver k v w
   is_over field p each =

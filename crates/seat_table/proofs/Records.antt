@@ -1,5 +1,5 @@
 -- What the rule tells of a record that a place keeps of a node which it has locked: the node's value is what is known under the lock.
-use Rattle.std.proofs.Common.{◌≡◌, ℕ, ◌+◌, ◌*◌, ◌/◌, inl, List, Option, Some, None, refl, sym, ap, subst, ◌∙◌, arith, true}
+use Rattle.std.proofs.Common.{◌≡◌, ℕ, ◌*◌, ◌/◌, inl, List, Option, Some, None, refl, sym, ap, subst, ◌∙◌, arith, true}
 use mathlib.Core.Option.{some}
 use lib.ListN.{get_elem?}
 use Rattle.prcu_marks.specs.declared.mark.Mark.{Mark}

@@ -8,16 +8,16 @@ use Rattle.core_state.specs.declared.view.Held.{Held}
 use Rattle.core_state.specs.declared.view.Retired.{Retired}
 use Rattle.core_state.specs.declared.view.View.{View}
 use Rattle.prcu_marks.specs.declared.mark.Mark.{Mark}
-use Rattle.list_laws.specs.Counts.{times}
+use Rattle.list_laws.specs.Counts.{times, numbers_from}
 use Rattle.core_state.specs.views.Views.{Works, unraised_among, IsQuiet, places_of}
 use Rattle.core_state.specs.steps.Seating.{new_view, unknown_slot, NeedsSplit, first_of, second_of, NeedsJoin, both_of, spent_view, meeting_of, spent_places}
 use Rattle.core_state.specs.Invariant.{Rule}
 use Rattle.seat_table.specs.declared.rule.Nothing.{Nothing}
 use Rattle.core_acts.specs.declared.act.Act.TheVariants.{LoadClock}
 use Rattle.seat_table.specs.Seats.{SeatAt, IsQuietSeat, KeepsOwn}
-use Rattle.seat_table.specs.Gains.{TellsNow}
+use Rattle.seat_table.specs.Gains.{Sees, TellsNow}
 use Rattle.seat_table.specs.Told.{Told}
-use Rattle.core_waits.proofs.seats.Splitting.{split_keeps, places_count}
+use Rattle.core_waits.proofs.seats.Splitting.{split_keeps, places_count, row_split}
 use Rattle.core_waits.proofs.seats.Joining.{join_keeps, spent_places_append, spent_places_are}
 use Rattle.prcu_marks.specs.Marks.{own_of, longer}
 use mathlib.Core.List.{IsPrefix}
@@ -40,12 +40,33 @@ module _ (k : Shape) (id : ℕ) (v : View) where
     };
   }
 
+-- the places of a view that gives some of them away, and of the one that gets them
+module _ (v : View) (places tickets : ℕ) (few : places < v.allowance.places) where
+  split_places : (p : ℕ) → times p (places_of v) ≡ times p (places_of (first_of places tickets v)) + times p (places_of (second_of places tickets v))
+  split_places p =
+      let e : v.allowance.places ≡ (v.allowance.places - places) + places = omega arith in
+      let f : v.allowance.place + (v.allowance.places - places) ≡ v.allowance.place + v.allowance.places - places = omega arith in
+      let g = ap (λ z. times p (numbers_from v.allowance.place z)) e in
+      let c = row_split p v.allowance.place (v.allowance.places - places) places in
+      let d = ap (λ z. times p (numbers_from z places)) f in
+      let a = places_count v p in
+      let b = places_count (first_of places tickets v) p in
+      let x = places_count (second_of places tickets v) p in
+      omega arith
+
+  first_sees : (h : List Mark) → Sees v h → Sees (first_of places tickets v) h
+  first_sees h s = record { works = omega arith; begins = s.begins; own = λ p has. s.own p (let all = split_places p in omega arith) }
+
+  second_sees : 1 ≤ places → (h : List Mark) → Sees v h → Sees (second_of places tickets v) h
+  second_sees some h s = record { works = some; begins = s.begins; own = λ p has. s.own p (let all = split_places p in omega arith) }
+
 -- what is told of the view that gives places away
-pub first_told : (k : Shape) (v w : View) (places tickets : ℕ) → w ≡ first_of places tickets v → TellsNow k v → TellsNow k w
-first_told k v w places tickets is told =
+pub first_told : (k : Shape) (v w : View) (places tickets : ℕ) → w ≡ first_of places tickets v → places < v.allowance.places → TellsNow k v → TellsNow k w
+first_told k v w places tickets is few told =
     let t = told.tells in
     subst (TellsNow k) (sym is) (record {
       marks = told.marks;
+      sees = first_sees v places tickets few told.marks told.sees;
       word = told.word;
       tells = record {
         some_place = t.some_place;
@@ -76,6 +97,7 @@ second_told k v w places tickets is some few inside told =
     let t = told.tells in
     subst (TellsNow k) (sym is) (record {
       marks = told.marks;
+      sees = second_sees v places tickets few some told.marks told.sees;
       word = told.word;
       tells = record {
         some_place = t.some_place;
@@ -117,7 +139,7 @@ quiet_as v w section locks hands moving commit q = record {
 }
 
 -- a seat stays quiet where its view has the same hands and is in no other way less quiet
-still_quiet : (s t : SeatAt) → t.view.section ≡ s.view.section → t.view.locks ≡ s.view.locks → t.view.hands ≡ s.view.hands → t.view.moving ≡ s.view.moving → t.view.commit ≡ s.view.commit → t.listed ≡ s.listed → IsQuietSeat s → IsQuietSeat t
+pub still_quiet : (s t : SeatAt) → t.view.section ≡ s.view.section → t.view.locks ≡ s.view.locks → t.view.hands ≡ s.view.hands → t.view.moving ≡ s.view.moving → t.view.commit ≡ s.view.commit → t.listed ≡ s.listed → IsQuietSeat s → IsQuietSeat t
 still_quiet s t section locks hands moving commit listed q = record {
   view = quiet_as s.view t.view section locks hands moving commit q.view;
   listed = record { each = λ slot. subst (λ (z : List ℕ × Hands). times slot z.0 ≡ times slot (map (λ (r : Retired). r.slot) z.1.retired)) (λ i. (sym listed i, sym hands i)) (q.listed.each slot) };

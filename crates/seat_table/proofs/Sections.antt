@@ -26,13 +26,13 @@ use Rattle.core_acts.specs.Acts.{noted, clocked_at, section_of}
 use Rattle.core_acts.proofs.Acting.{section_is}
 use Rattle.seat_table.specs.Gains.{Sees, IsInformed, GivesAnswer, LeavesAnswer}
 use Rattle.seat_table.specs.Told.{Told}
-use Rattle.seat_table.specs.Sections.{Leaves, Makes, is_entry, is_exit, HasEntered, HasLeft, HasBegun}
+use Rattle.seat_table.specs.Sections.{Leaves, Makes, EndBy, is_entry, shows_reader, is_exit, HasEntered, HasLeft, HasBegun}
 
 -- Steps that are made one after another.
 pub made_none : (which : Kind → Bool) (a : Trail) → Makes which a a
 made_none which a = record { steps = []; each = tt; trail = sym (ap (λ (l : List StepMade). record a { steps = l }) (append-nil a.steps)) }
 
-pub made_more : (which : Kind → Bool) (a : Trail) (w : View) (kind : Kind) (field : Field) (number : ℕ) → which kind ≡ true → Makes which a w.trail → Makes which a (stepped w kind field number).trail
+abbrev pub made_more : (which : Kind → Bool) (a : Trail) (w : View) (kind : Kind) (field : Field) (number : ℕ) → which kind ≡ true → Makes which a w.trail → Makes which a (stepped w kind field number).trail
 made_more which a w kind field number is m =
     let t : StepMade = record { kind = kind; field = field; number = number } in
     record {
@@ -65,9 +65,16 @@ own_more v w mark mine leaves =
     ∙ ap (λ l. l ++ own_of v.allowance.place (mark ∷ [])) (sym (leaves.seen.own v.allowance.place (works_there v leaves.seen.works)))
     ∙ ap (λ b. own_of v.allowance.place v.seen ++ cond b (mark ∷ []) []) mine
 
+-- steps of an entry, of which the last one shows that the seat reads
+abbrev Enters : Trail → Trail → Type 0
+Enters a b = (made : Makes is_entry a b) × EndBy shows_reader made.steps
+
+enters_by : (a : Trail) (w : View) (kind : Kind) (field : Field) (number : ℕ) → is_entry kind ≡ true → shows_reader kind ≡ true → Makes is_entry a w.trail → Enters a (stepped w kind field number).trail
+enters_by a w kind field number is shows m = (made_more is_entry a w kind field number is m, record { earlier = m.steps; last = record { kind = kind; field = field; number = number }; whole = refl; kind_is = shows })
+
 -- A section that is entered from a view in which only what was done for it changed.
-entered_from : (v u w : View) (key stamp clocked : ℕ) (h : List Mark) → Makes is_entry v.trail u.trail → u ≡ record v { enter = u.enter; trail = u.trail } → Sees u h → w ≡ entering u key stamp clocked h → IsInformed w → HasEntered v key w
-entered_from v u w key stamp clocked h made same sees is told = subst (HasEntered v key) (sym is)
+entered_from : (v u w : View) (key stamp clocked : ℕ) (h : List Mark) → Enters v.trail u.trail → u ≡ record v { enter = u.enter; trail = u.trail } → Sees u h → w ≡ entering u key stamp clocked h → IsInformed w → HasEntered v key w
+entered_from v u w key stamp clocked h enters same sees is told = subst (HasEntered v key) (sym is)
     (subst (λ z. Sees z h → IsInformed (entering z key stamp clocked h) → HasEntered v key (entering z key stamp clocked h)) (sym same)
     (λ s i. record {
       leaves = record { before = h; seen = record { works = s.works; begins = s.begins; own = s.own }; marked = refl };
@@ -78,7 +85,8 @@ entered_from v u w key stamp clocked h made same sees is told = subst (HasEntere
       no_list = refl;
       from_is = refl;
       reading_is = refl;
-      made = made;
+      made = enters.0;
+      ends = enters.1;
       others = refl;
       informed = i;
     }) sees (subst IsInformed is told))
@@ -101,7 +109,7 @@ module _ (k : Shape) (v : View) (key stamp : ℕ) (v1 v2 : View) (first : Told k
   entered w third =
       let s = third.sees in
       entered_from v (noted v2 (EnterByStamp key stamp) stamp) w key stamp (clocked_at v2) third.marks
-      (subst (λ z. Makes is_entry v.trail (noted z (EnterByStamp key stamp) stamp).trail) (sym second_is) (made_more is_entry v.trail announced kinds.K5 _ _ refl (made_more is_entry v.trail (after_clock_load (noted v LoadClock stamp) stamp first.marks) kinds.K4 _ _ refl (made_more is_entry v.trail v kinds.K3 _ _ refl (made_none is_entry v.trail)))))
+      (subst (λ z. Enters v.trail (noted z (EnterByStamp key stamp) stamp).trail) (sym second_is) (enters_by v.trail announced kinds.K5 _ _ refl refl (made_more is_entry v.trail (after_clock_load (noted v LoadClock stamp) stamp first.marks) kinds.K4 _ _ refl (made_more is_entry v.trail v kinds.K3 _ _ refl (made_none is_entry v.trail)))))
       (subst (λ z. noted z (EnterByStamp key stamp) stamp ≡ record v { enter = z.enter; trail = (noted z (EnterByStamp key stamp) stamp).trail }) (sym second_is) refl) (record { works = s.works; begins = s.begins; own = s.own }) third.goes third.informed
 
 -- the third waiter: the clock, then the stamp
@@ -115,7 +123,7 @@ module _ (k : Shape) (v v1 : View) (key stamp : ℕ) (first : Told k v LoadClock
   entered_row w second =
       let s = second.sees in
       entered_from v (noted v1 (EnterByRow key stamp) stamp) w key stamp (clocked_at v1) second.marks
-      (subst (λ z. Makes is_entry v.trail (noted z (EnterByRow key stamp) stamp).trail) (sym first.goes) (made_more is_entry v.trail (after_clock_load (noted v LoadClock stamp) stamp first.marks) kinds.K33 _ _ refl (made_more is_entry v.trail v kinds.K3 _ _ refl (made_none is_entry v.trail))))
+      (subst (λ z. Enters v.trail (noted z (EnterByRow key stamp) stamp).trail) (sym first.goes) (enters_by v.trail (after_clock_load (noted v LoadClock stamp) stamp first.marks) kinds.K33 _ _ refl refl (made_more is_entry v.trail v kinds.K3 _ _ refl (made_none is_entry v.trail))))
       (subst (λ z. noted z (EnterByRow key stamp) stamp ≡ record v { enter = z.enter; trail = (noted z (EnterByRow key stamp) stamp).trail }) (sym first.goes) refl) (record { works = s.works; begins = s.begins; own = s.own }) second.goes second.informed
 
 -- the second waiter: the gate, then the count
@@ -133,7 +141,7 @@ module _ (k : Shape) (v v1 : View) (key gate : ℕ) (outside : v.section ≡ Non
   entered_count w side found second =
       let s = second.sees in
       entered_from v (noted v1 (EnterByCount key side) found) w key side (length second.marks) second.marks
-      (subst (λ z. Makes is_entry v.trail (noted z (EnterByCount key side) found).trail) (sym gate_is) (made_more is_entry v.trail (gated read (class_of key) gate None) kinds.K29 _ _ refl (made_more is_entry v.trail v kinds.K28 _ _ refl (made_none is_entry v.trail))))
+      (subst (λ z. Enters v.trail (noted z (EnterByCount key side) found).trail) (sym gate_is) (enters_by v.trail (gated read (class_of key) gate None) kinds.K29 _ _ refl refl (made_more is_entry v.trail v kinds.K28 _ _ refl (made_none is_entry v.trail))))
       (subst (λ z. noted z (EnterByCount key side) found ≡ record v { enter = z.enter; trail = (noted z (EnterByCount key side) found).trail }) (sym gate_is) refl) (record { works = s.works; begins = s.begins; own = s.own }) second.goes second.informed
 
 -- A section is left by one step.

@@ -1,16 +1,15 @@
 -- A slot that is seized, raised and freed: what one step told is what the next one needs.
-use Rattle.std.proofs.Common.{◌≡◌, ℕ, ◌+◌, ◌*◌, ◌/◌, true, false, cond, ◌∷◌, Some, None, refl, sym, ap, subst, ◌∙◌, eq-eqb, inl}
+use Rattle.std.proofs.Common.{◌≡◌, ℕ, ◌+◌, ◌*◌, ◌/◌, true, false, cond, ◌∷◌, Some, refl, sym, ap, subst, ◌∙◌, eq-eqb, inl}
 use Rattle.core_state.specs.declared.shape.Shape.{Shape}
 use Rattle.core_state.specs.declared.words.Field.TheVariants.{Life}
 use Rattle.core_state.specs.declared.view.Held.{Held}
 use Rattle.core_state.specs.declared.view.Known.{Known}
 use Rattle.core_state.specs.declared.view.View.{View}
 use Rattle.core_state.specs.views.Known.{known_in, note_option}
-use Rattle.core_state.specs.steps.Slots.{IsInHand, NeedsFreeInHand, NeedsOwnLife, NeedsRaiseInHand, seized, after_seize, after_own_life, raise_held, after_raise_in_hand}
-use Rattle.core_acts.specs.declared.act.Act.TheVariants.{LoadOwnLife, Seize, RaiseInHand}
+use Rattle.core_state.specs.steps.Slots.{IsInHand, NeedsFreeInHand, NeedsOwnLife, NeedsRaiseInHand, seized, after_seize, raise_held}
+use Rattle.core_acts.specs.declared.act.Act.TheVariants.{Seize, RaiseInHand}
 use Rattle.core_acts.specs.Acts.{noted}
 use Rattle.seat_table.specs.Told.{Told}
-use Rattle.core_frames.proofs.views.Fields.{same_self}
 
 -- the slot is in hand, its life was loaded, and it wasn't raised
 pub record HasUnraised (v : View) (slot life : ℕ) : Type 0 where

@@ -9,7 +9,7 @@ use Rattle.prcu_marks.specs.declared.mark.Why.{Why}
 use Rattle.prcu_marks.specs.declared.mark.Why.TheVariants.{Reader, Counter, Row as RowOf, Lock as LockOf, Front as FrontOf}
 use Rattle.core_state.specs.declared.shape.Shape.{Shape}
 use Rattle.core_state.specs.declared.words.Field.{Field}
-use Rattle.core_state.specs.declared.words.Field.TheVariants.{Stamp, Count, Row}
+use Rattle.core_state.specs.declared.words.Field.TheVariants.{Announced, Stamp, Count, Row}
 use Rattle.core_state.specs.declared.words.Kind.{Kind}
 use Rattle.core_state.specs.declared.view.StepMade.{StepMade}
 use Rattle.core_state.specs.declared.view.Trail.{Trail}
@@ -24,8 +24,8 @@ use Rattle.core_acts.specs.declared.act.Act.TheVariants.{BeginWait}
 use Rattle.core_acts.specs.Acts.{noted}
 use Rattle.seat_table.specs.Told.{Told}
 use Rattle.seat_table.specs.Gains.{Sees, IsInformed}
-use Rattle.seat_table.specs.Sections.{Leaves}
-use Rattle.seat_table.specs.Waits.{Reached, reached, start, IsBefore, IsTurnedBefore, IsSameWait, Made, EndWith, Shows, HasLooked, HasEnded, HaveLeft, ended_by, Passed, IsLatestOf, IsOver, Polled, IsGoingOn}
+use Rattle.seat_table.specs.Sections.{Leaves, EndBy}
+use Rattle.seat_table.specs.Waits.{Reached, reached, start, IsBefore, IsTurnedBefore, IsSameWait, Made, EndWith, Shows, is_look, HasLooked, HasEnded, HaveLeft, ended_by, Passed, IsLatestOf, IsOver, Polled, IsGoingOn}
 use Rattle.key_interval.specs.Keys.{Interval}
 
 abbrev pub step_of : Kind → Field → ℕ → List StepMade
@@ -33,18 +33,26 @@ step_of kind field found = record { kind = kind; field = field; number = found }
 
 -- one look
 module _ (v w : View) (kind : Kind) (field : Field) (wait : Waiting) (found : ℕ) (h : List Mark) (was : v.wait ≡ Some wait) (sees : Sees v h) (informed : IsInformed w) where
-  passes : (last : Bool) → (b : Bool) → b ≡ true → w ≡ (if b then (if last then ending (stepped v kind field found) (with_excused wait field) h else record (stepped v kind field found) { wait = Some (with_excused wait field) }) else stepped v kind field found) → Passed v wait last (step_of kind field found) field w
-  passes false true is told = subst (λ z. HasLooked v wait (step_of kind field found) (with_excused wait field) z) (sym told) (record { wait_is = refl; same = refl; turns = refl; makes = refl; others = refl })
-  passes true true is told = subst (λ z. HasEnded v wait (step_of kind field found) (ended_by wait field) z) (sym told) (record { wait_is = refl; same = refl; ended = refl; turns = refl; makes = refl; leaves = record { before = h; seen = sees; marked = refl }; others = refl; informed = subst IsInformed told informed })
-  passes last false is told = absurd (search (rules, is))
+  passes : is_look kind ≡ true → excuses wait field found ≡ true → (last : Bool) → (b : Bool) → b ≡ true → w ≡ (if b then (if last then ending (stepped v kind field found) (with_excused wait field) h else record (stepped v kind field found) { wait = Some (with_excused wait field) }) else stepped v kind field found) → Passed v wait last (step_of kind field found) field w
+  passes looks so false true is told = subst (λ z. HasLooked v wait (step_of kind field found) (with_excused wait field) z) (sym told) (record { wait_is = refl; same = refl; turns = refl; makes = refl; others = refl })
+  passes looks so true true is told = subst (λ z. HasEnded v wait (step_of kind field found) (ended_by wait field) z) (sym told) (record { wait_is = refl; same = refl; ended = refl; turns = refl; makes = refl; ends = record { earlier = []; last = record { kind = kind; field = field; number = found }; whole = refl; kind_is = looks }; excused = so; leaves = record { before = h; seen = sees; marked = refl }; others = refl; informed = subst IsInformed told informed })
+  passes looks so last false is told = absurd (search (rules, is))
 
-  pub look_passes : (last : Bool) → excuses wait field found ≡ true → w ≡ after_look (stepped v kind field found) wait field last found h → Passed v wait last (step_of kind field found) field w
-  look_passes last is told = passes last (excuses wait field found) is told
+  pub look_passes : is_look kind ≡ true → (last : Bool) → excuses wait field found ≡ true → w ≡ after_look (stepped v kind field found) wait field last found h → Passed v wait last (step_of kind field found) field w
+  look_passes looks last is told = passes looks is last (excuses wait field found) is told
 
   pub look_stays : (last : Bool) → excuses wait field found ≡ false → w ≡ after_look (stepped v kind field found) wait field last found h → HasLooked v wait (step_of kind field found) wait w
   look_stays last is told =
       let same : w ≡ stepped v kind field found = rw is at told in
       subst (λ z. HasLooked v wait (step_of kind field found) wait z) (sym same) (record { wait_is = was; same = refl; turns = refl; makes = refl; others = refl })
+
+-- what a number shows of a word's readers, by the keys and the clock of the wait
+excused_same : (wait : Waiting) (es : List Field) (ts : List ℕ) (over : Bool) (field : Field) (n : ℕ) → excuses (record wait { excused = es; turned = ts; ended = over }) field n ≡ excuses wait field n
+excused_same wait es ts over (Announced p) n = refl
+excused_same wait es ts over (Stamp p) n = refl
+excused_same wait es ts over (Count c side) n = refl
+excused_same wait es ts over (Row p c) n = refl
+excused_same wait es ts over _ n = refl
 
 -- one after another
 module _ (v mid w : View) (a b c : Waiting) (s t : List StepMade) (first : HasLooked v a s b mid) where
@@ -75,6 +83,12 @@ module _ (v mid w : View) (a b c : Waiting) (s t : List StepMade) (first : HasLo
   left_mark : Leaves between (Ended v.allowance.place a.count) w → Leaves v (Ended v.allowance.place a.count) w
   left_mark l = record { before = l.before; seen = record { works = l.seen.works; begins = l.seen.begins; own = l.seen.own }; marked = l.marked }
 
+  abbrev ends_on : EndBy is_look t → EndBy is_look (s ++ t)
+  ends_on e = record { earlier = s ++ e.earlier; last = e.last; whole = ap (λ l. s ++ l) e.whole ∙ sym (append_assoc s e.earlier (e.last ∷ [])); kind_is = e.kind_is }
+
+  excused_by : (field : Field) (n : ℕ) → excuses b field n ≡ true → excuses a field n ≡ true
+  excused_by field n so = sym (excused_same a b.excused b.turned b.ended field n) ∙ sym (ap (λ z. excuses z field n) first.same) ∙ so
+
   pub looks_end : HasEnded mid b t c w → HasEnded v a (s ++ t) c w
   looks_end second = record {
     wait_is = second.wait_is;
@@ -82,6 +96,8 @@ module _ (v mid w : View) (a b c : Waiting) (s t : List StepMade) (first : HasLo
     ended = second.ended;
     turns = turns_on second.turns;
     makes = makes second.makes;
+    ends = ends_on second.ends;
+    excused = excused_by second.ends.last.field second.ends.last.number second.excused;
     leaves = left_mark (subst (λ (z : View × ℕ). Leaves z.0 (Ended z.0.allowance.place z.1) w) (λ i. (first.others i, ap (λ (x : Waiting). x.count) first.same i)) second.leaves);
     others = second.others ∙ ap (λ (z : View × Waiting). finished z.1 z.0) (λ i. (first.others i, first.same i));
     informed = second.informed;

@@ -16,6 +16,7 @@ use Rattle.core_state.specs.memory.Memory.{Memory, slot_count, same_waiter, wait
 use Rattle.core_state.specs.Fresh.{first_view, IsFresh}
 use Rattle.core_state.specs.Invariant.{IsShape, Rule}
 use Rattle.core_frames.proofs.Telling.{told_of}
+use Rattle.seat_table.proofs.Facts.{sees}
 use Rattle.core_laws.proofs.Whole.{tables_begin}
 use Rattle.core_state.specs.declared.view.View.{View}
 use Rattle.atomic_table.specs.Seated.{TableId}
@@ -230,7 +231,9 @@ module _ (way : ℕ) (k : Shape) (is : k.waiter ≡ way_of way) (shape : IsShape
       told : TellsNow (shape_of way (first_at table)) (first_view k)
       told =
           let m : Memory = memory_of k (first_words k) in
-          record { marks = []; word = m; tells = told_of k m (first_view k ∷ []) [] 0 (first_view k) (tables_begin k m shape (fresh k)).now refl shape.some_place; apart = λ s. omega arith }
+          let now = (tables_begin k m shape (fresh k)).now in
+          let vs : List View = first_view k ∷ [] in
+          record { marks = []; sees = sees k m vs [] now 0 (first_view k) refl shape.some_place; word = m; tells = told_of k m vs [] 0 (first_view k) now refl shape.some_place; apart = λ s. omega arith }
 
       few : HasFew (first_view k)
       few = let few_tickets = shape.few_tickets in record { waits = omega arith; turns = omega arith }

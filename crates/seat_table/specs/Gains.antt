@@ -18,7 +18,6 @@ use Rattle.core_state.specs.declared.view.Fact.{Fact}
 use Rattle.core_state.specs.declared.view.Gap.{Gap}
 use Rattle.core_state.specs.declared.view.Held.{Held}
 use Rattle.core_state.specs.declared.view.Listing.{Listing}
-use Rattle.core_state.specs.declared.view.Reading.{Reading}
 use Rattle.core_state.specs.declared.view.Retired.{Retired}
 use Rattle.core_state.specs.declared.view.SearchState.TheVariants.{Found, Missed}
 use Rattle.core_state.specs.declared.view.Section.{Section}
@@ -82,9 +81,10 @@ pub record HasSide (k : Shape) (w : View) : Type 0 where
 abbrev pub TellsApart : View → Type 0
 TellsApart v = (s : ℕ) → times s (map (λ (r : Retired). r.slot) v.hands.retired) ≤ 1
 
--- What the rule tells of the seat's view, with some list of all marks and some words.
+-- What the rule tells of the seat's view, with all marks, of which the seat has seen a beginning and all of its places, and some words.
 pub record TellsNow (k : Shape) (v : View) : Type 0 where
   pub marks : List Mark
+  pub sees : Sees v marks
   pub word : Field → ℕ
   pub tells : IsToldOf k.slots k.places v marks word
   pub apart : TellsApart v

@@ -6,3 +6,4 @@ pub mod Fresh
 pub mod Sections
 pub mod Waits
 pub mod Looks
+pub mod Onward

@@ -1,6 +1,6 @@
 -- What a clause sees of a seat and of a table.
 -- Source: docs/TREE.md, "The tree's table".
-use Rattle.std.specs.Prelude.{◌≡◌, ℕ, zero, suc, ◌+◌, ◌≤◌, ◌==◌, ◌&&◌, Bool, true, false, not, filter, List, map, Option, Some, None}
+use Rattle.std.specs.Prelude.{◌≡◌, ℕ, zero, suc, ◌+◌, ◌≤◌, ◌==◌, not, filter, List, map, Option, Some, None}
 use mathlib.Core.List.{IsPrefix}
 use Rattle.atomic_table.specs.Seated.{TableId}
 use Rattle.prcu_marks.specs.Marks.{own_of}

@@ -19,6 +19,7 @@ use Rattle.list_laws.specs.Counts.{Each}
 use Rattle.core_state.specs.steps.Sections.{fresh_reading}
 use Rattle.core_state.specs.steps.Waits.{new_wait}
 use Rattle.seat_table.specs.Gains.{Sees, IsInformed, GivesAnswer}
+use Rattle.seat_table.specs.Seats.{SeatAt, IsQuietSeat}
 
 -- One mark was left, after all marks that there were then; of these the seat has seen a beginning, and all of its places.
 pub record Leaves (v : View) (mark : Mark) (w : View) : Type 0 where
@@ -32,6 +33,13 @@ pub record Makes (which : Kind → Bool) (before after : Trail) : Type 0 where
   pub each : AllByRecursion (λ (t : StepMade). which t.kind ≡ true) steps
   pub trail : after ≡ record before { steps = before.steps ++ steps }
 
+-- The latest of the steps is of one of these kinds.
+pub record EndBy (which : Kind → Bool) (steps : List StepMade) : Type 0 where
+  pub earlier : List StepMade
+  pub last : StepMade
+  pub whole : steps ≡ earlier ++ last ∷ []
+  pub kind_is : which last.kind ≡ true
+
 -- the kinds of step by which a section is entered, and left
 abbrev pub is_entry : Kind → Bool
 is_entry K3 = true
@@ -42,14 +50,25 @@ is_entry K29 = true
 is_entry K33 = true
 is_entry _ = false
 
+-- and those of them that show that the seat reads
+abbrev pub shows_reader : Kind → Bool
+shows_reader K5 = true
+shows_reader K29 = true
+shows_reader K33 = true
+shows_reader _ = false
+
 abbrev pub is_exit : Kind → Bool
 is_exit K6 = true
 is_exit K30 = true
 is_exit K34 = true
 is_exit _ = false
 
--- A section with this key was entered at the seat's place, and its search stands at the root. Nothing else of what the seat knows
--- changed.
+-- The seat is quiet but for a section that may be open.
+pub record IsQuietReader (s : SeatAt) : Type 0 where
+  pub quiet : IsQuietSeat (record s { view = record s.view { section = None } })
+
+-- A section with this key was entered at the seat's place, and its search stands at the root. The last step shows that the seat reads.
+-- Nothing else of what the seat knows changed.
 pub record HasEntered (v : View) (key : ℕ) (w : View) : Type 0 where
   pub leaves : Leaves v (Entered v.allowance.place v.counts.sections key) w
   pub section : Section
@@ -60,6 +79,7 @@ pub record HasEntered (v : View) (key : ℕ) (w : View) : Type 0 where
   pub from_is : section.from ≡ length (updates_of leaves.before)
   pub reading_is : section.reading ≡ fresh_reading key
   pub made : Makes is_entry v.trail w.trail
+  pub ends : EndBy shows_reader made.steps
   pub others : w ≡ record v { enter = w.enter; section = w.section; counts = record v.counts { sections = v.counts.sections + 1 }; trail = w.trail; seen = w.seen }
   pub informed : IsInformed w
 

@@ -7,7 +7,8 @@ use Rattle.core_state.specs.declared.shape.Shape.{Shape}
 use Rattle.core_state.specs.declared.view.View.{View}
 use Rattle.core_state.specs.memory.Memory.{word_of}
 use Rattle.core_acts.specs.declared.act.Act.{Act}
-use Rattle.core_acts.specs.Acts.{Access, field_of, access_of, noted, Asks, after}
+use Rattle.core_acts.specs.declared.access.Access.{Access}
+use Rattle.core_acts.specs.Acts.{field_of, access_of, noted, Asks, after}
 use Rattle.seat_table.specs.Seats.{TableAt, HasPlace, shape_of}
 use Rattle.seat_table.specs.declared.rule.Nothing.{Nothing}
 use Rattle.seat_table.specs.Gains.{Sees, IsInformed, WordFits, Gains, StoodInside, HasSide, TellsBefore, StaysIn, TellsNow}

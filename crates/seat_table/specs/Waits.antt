@@ -11,19 +11,20 @@ use Rattle.core_state.specs.declared.shape.Shape.{Shape}
 use Rattle.core_state.specs.declared.shape.Waiter.TheVariants.{Domain}
 use Rattle.core_state.specs.declared.words.Field.{Field}
 use Rattle.core_state.specs.declared.words.Field.TheVariants.{Announced, Stamp, Count, Row}
+use Rattle.core_state.specs.declared.words.Kind.{Kind}
 use Rattle.core_state.specs.declared.words.Kind.TheVariants.{K8, K31, K35}
 use Rattle.core_state.specs.declared.view.StepMade.{StepMade}
 use Rattle.core_state.specs.declared.view.Waiting.{Waiting}
 use Rattle.core_state.specs.declared.view.View.{View}
 use Rattle.core_state.specs.memory.Memory.{idle}
-use Rattle.core_state.specs.steps.Waits.{IsSpot, keys_of, with_excused, waited_retired, waited_move}
+use Rattle.core_state.specs.steps.Waits.{IsSpot, keys_of, excuses, with_excused, waited_retired, waited_move}
 use Rattle.key_interval.specs.Keys.{Interval, Holds, MeetsClass}
 use Rattle.list_laws.specs.Counts.{times, IsIn}
 use Rattle.seat_table.specs.declared.wait.Grace.{Grace}
 use Rattle.seat_table.specs.declared.wait.Poll.{Poll}
 use Rattle.seat_table.specs.declared.wait.Poll.TheVariants.{Over, NotYet}
 use Rattle.seat_table.specs.Gains.{IsInformed}
-use Rattle.seat_table.specs.Sections.{Leaves, HasBegun}
+use Rattle.seat_table.specs.Sections.{Leaves, EndBy, HasBegun}
 
 -- Where a wait has come to: the place and the class that are looked at next, and for the second waiter the gate of that class, with
 -- whether it was turned.
@@ -89,6 +90,13 @@ Shows wait steps (Counter class side count) = EndWith steps (record { kind = K31
 Shows wait steps (RowOf place class stamp) = EndWith steps (record { kind = K35; field = Row place class; number = stamp } ∷ []) × (stamp ≢ idle) × (stamp ≤ wait.clock) × MeetsClass (keys_of wait) class
 Shows wait steps _ = ⊥
 
+-- The grace has come to the place or the class of what was found, so that the next poll looks there first.
+abbrev pub StopsAt : Reached → Why → Type 0
+StopsAt r (Reader place key stamp) = place ≡ r.place
+StopsAt r (Counter class side count) = class ≡ r.class
+StopsAt r (RowOf place class stamp) = (place ≡ r.place) × (class ≡ r.class)
+StopsAt r _ = ⊥
+
 -- The seat counts the gates that its wait turned.
 abbrev pub CountsTurns : View → Waiting → Waiting → View → Type 0
 CountsTurns v wait new w = w.counts.turns + length wait.turned ≡ v.counts.turns + length new.turned
@@ -101,13 +109,22 @@ pub record HasLooked (v : View) (wait : Waiting) (steps : List StepMade) (new : 
   pub makes : Made v steps w
   pub others : w ≡ record v { enter = w.enter; wait = w.wait; counts = record v.counts { turns = w.counts.turns }; trail = w.trail }
 
--- It ended: it leaves its mark as the last step, and notes what was waited for.
+-- the kinds of step by which a wait looks for readers
+abbrev pub is_look : Kind → Bool
+is_look K8 = true
+is_look K31 = true
+is_look K35 = true
+is_look _ = false
+
+-- It ended by its last step, a look that found no reader there that the wait is for: it leaves its mark, and notes what was waited for.
 pub record HasEnded (v : View) (wait : Waiting) (steps : List StepMade) (new : Waiting) (w : View) : Type 0 where
   pub wait_is : w.wait ≡ Some new
   pub same : IsSameWait wait new
   pub ended : new.ended ≡ true
   pub turns : CountsTurns v wait new w
   pub makes : Made v steps w
+  pub ends : EndBy is_look steps
+  pub excused : excuses wait ends.last.field ends.last.number ≡ true
   pub leaves : Leaves v (Ended v.allowance.place wait.count) w
   pub others : w ≡ record v { enter = w.enter; hands = record v.hands { retired = map (waited_retired wait) v.hands.retired }; moving = waited_move wait v.moving; wait = w.wait; counts = record v.counts { turns = w.counts.turns }; trail = w.trail; seen = w.seen }
   pub informed : IsInformed w
@@ -146,7 +163,7 @@ IsGoingOn k v grace w = (wait : Waiting) × (steps : List StepMade) × (new : Wa
 
 abbrev pub Polled : {W : Type 0} → Shape → View → Poll → Grace W → View → Type 0
 Polled k v Over grace w = IsOver k v w
-Polled k v (NotYet why) grace w = (wait : Waiting) × (steps : List StepMade) × (new : Waiting) × (v.wait ≡ Some wait) × HasLooked v wait steps new w × HasReached k grace.keys grace.clock (reached grace) new × Shows wait steps why
+Polled k v (NotYet why) grace w = (wait : Waiting) × (steps : List StepMade) × (new : Waiting) × (v.wait ≡ Some wait) × HasLooked v wait steps new w × HasReached k grace.keys grace.clock (reached grace) new × Shows wait steps why × StopsAt (reached grace) why
 
 -- A wait for these keys was begun, and is over.
 abbrev pub HasWaited : Shape → View → ℕ → ℕ → View → Type 0

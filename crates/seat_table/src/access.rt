@@ -1,7 +1,7 @@
 //! The accesses to a word: each step of a kind is one of them.
 ghost use Rattle.std.specs.Prelude.{◌≡◌, ◌≤◌};
 ghost use Rattle.seat_table.specs.Seats.{shape_of};
-ghost use Rattle.core_acts.specs.Acts.{loads, stores, exchanges, adds, subtracts, flips};
+ghost use Rattle.core_acts.specs.declared.access.Access.TheVariants.{Load, Store, Exchange, Add, Subtract, Flip};
 ghost use Rattle.seat_table.specs.Gains.{TellsNow};
 ghost use Rattle.seat_table.specs.Told.{Touches, Told};
 
@@ -24,7 +24,7 @@ fn loads_it<W: WaitWords, A: Detail>(
 ) -> u64
     requires picked { (A.shape ≡ shape_of W.WAY table.now) × (A.act ≡ act) }
     requires table { seat.old.table_id ≡ table.now.id }
-    requires asks { Touches W.WAY table.now seat.old.me.0 act loads word }
+    requires asks { Touches W.WAY table.now seat.old.me.0 act Load word }
     ensures seat { (seat.new.table_id ≡ seat.old.table_id) × (seat.new.me.1 ≡ seat.old.me.1) }
     ensures told { Told (shape_of W.WAY table.now) seat.old.me.0 act result seat.new.me.0 }
     ensures now { TellsNow (shape_of W.WAY table.now) seat.new.me.0 }
@@ -40,7 +40,7 @@ pub(crate) fn load<W: WaitWords>(
     word: usize,
 ) -> u64
     requires table { seat.old.table_id ≡ table.now.id }
-    requires asks { Touches W.WAY table.now seat.old.me.0 act loads word }
+    requires asks { Touches W.WAY table.now seat.old.me.0 act Load word }
     ensures seat { (seat.new.table_id ≡ seat.old.table_id) × (seat.new.me.1 ≡ seat.old.me.1) }
     ensures told { Told (shape_of W.WAY table.now) seat.old.me.0 act result seat.new.me.0 }
     ensures now { TellsNow (shape_of W.WAY table.now) seat.new.me.0 }
@@ -57,7 +57,7 @@ fn stores_it<W: WaitWords, A: Detail>(
 )
     requires picked { (A.shape ≡ shape_of W.WAY table.now) × (A.act ≡ act) }
     requires table { seat.old.table_id ≡ table.now.id }
-    requires asks { Touches W.WAY table.now seat.old.me.0 act (stores number) word }
+    requires asks { Touches W.WAY table.now seat.old.me.0 act (Store number) word }
     ensures seat { (seat.new.table_id ≡ seat.old.table_id) × (seat.new.me.1 ≡ seat.old.me.1) }
     ensures told { Told (shape_of W.WAY table.now) seat.old.me.0 act number seat.new.me.0 }
     ensures now { TellsNow (shape_of W.WAY table.now) seat.new.me.0 }
@@ -74,7 +74,7 @@ pub(crate) fn store<W: WaitWords>(
     number: u64,
 )
     requires table { seat.old.table_id ≡ table.now.id }
-    requires asks { Touches W.WAY table.now seat.old.me.0 act (stores number) word }
+    requires asks { Touches W.WAY table.now seat.old.me.0 act (Store number) word }
     ensures seat { (seat.new.table_id ≡ seat.old.table_id) × (seat.new.me.1 ≡ seat.old.me.1) }
     ensures told { Told (shape_of W.WAY table.now) seat.old.me.0 act number seat.new.me.0 }
     ensures now { TellsNow (shape_of W.WAY table.now) seat.new.me.0 }
@@ -92,7 +92,7 @@ fn exchanges_it<W: WaitWords, A: Detail>(
 ) -> u64
     requires picked { (A.shape ≡ shape_of W.WAY table.now) × (A.act ≡ act) }
     requires table { seat.old.table_id ≡ table.now.id }
-    requires asks { Touches W.WAY table.now seat.old.me.0 act (exchanges old new) word }
+    requires asks { Touches W.WAY table.now seat.old.me.0 act (Exchange old new) word }
     ensures seat { (seat.new.table_id ≡ seat.old.table_id) × (seat.new.me.1 ≡ seat.old.me.1) }
     ensures told { Told (shape_of W.WAY table.now) seat.old.me.0 act result seat.new.me.0 }
     ensures now { TellsNow (shape_of W.WAY table.now) seat.new.me.0 }
@@ -113,7 +113,7 @@ pub(crate) fn exchange<W: WaitWords>(
     new: u64,
 ) -> u64
     requires table { seat.old.table_id ≡ table.now.id }
-    requires asks { Touches W.WAY table.now seat.old.me.0 act (exchanges old new) word }
+    requires asks { Touches W.WAY table.now seat.old.me.0 act (Exchange old new) word }
     ensures seat { (seat.new.table_id ≡ seat.old.table_id) × (seat.new.me.1 ≡ seat.old.me.1) }
     ensures told { Told (shape_of W.WAY table.now) seat.old.me.0 act result seat.new.me.0 }
     ensures now { TellsNow (shape_of W.WAY table.now) seat.new.me.0 }
@@ -130,7 +130,7 @@ fn adds_it<W: WaitWords, A: Detail>(
 ) -> u64
     requires picked { (A.shape ≡ shape_of W.WAY table.now) × (A.act ≡ act) }
     requires table { seat.old.table_id ≡ table.now.id }
-    requires asks { Touches W.WAY table.now seat.old.me.0 act (adds number) word }
+    requires asks { Touches W.WAY table.now seat.old.me.0 act (Add number) word }
     ensures seat { (seat.new.table_id ≡ seat.old.table_id) × (seat.new.me.1 ≡ seat.old.me.1) }
     ensures told { Told (shape_of W.WAY table.now) seat.old.me.0 act result seat.new.me.0 }
     ensures now { TellsNow (shape_of W.WAY table.now) seat.new.me.0 }
@@ -147,7 +147,7 @@ pub(crate) fn add<W: WaitWords>(
     number: u64,
 ) -> u64
     requires table { seat.old.table_id ≡ table.now.id }
-    requires asks { Touches W.WAY table.now seat.old.me.0 act (adds number) word }
+    requires asks { Touches W.WAY table.now seat.old.me.0 act (Add number) word }
     ensures seat { (seat.new.table_id ≡ seat.old.table_id) × (seat.new.me.1 ≡ seat.old.me.1) }
     ensures told { Told (shape_of W.WAY table.now) seat.old.me.0 act result seat.new.me.0 }
     ensures now { TellsNow (shape_of W.WAY table.now) seat.new.me.0 }
@@ -165,7 +165,7 @@ fn subtracts_it<W: WaitWords, A: Detail>(
     requires picked { (A.shape ≡ shape_of W.WAY table.now) × (A.act ≡ act) }
     requires table { seat.old.table_id ≡ table.now.id }
     requires one { number ≤ 1 }
-    requires asks { Touches W.WAY table.now seat.old.me.0 act (subtracts number) word }
+    requires asks { Touches W.WAY table.now seat.old.me.0 act (Subtract number) word }
     ensures seat { (seat.new.table_id ≡ seat.old.table_id) × (seat.new.me.1 ≡ seat.old.me.1) }
     ensures told { Told (shape_of W.WAY table.now) seat.old.me.0 act result seat.new.me.0 }
     ensures now { TellsNow (shape_of W.WAY table.now) seat.new.me.0 }
@@ -183,7 +183,7 @@ pub(crate) fn subtract<W: WaitWords>(
 ) -> u64
     requires table { seat.old.table_id ≡ table.now.id }
     requires one { number ≤ 1 }
-    requires asks { Touches W.WAY table.now seat.old.me.0 act (subtracts number) word }
+    requires asks { Touches W.WAY table.now seat.old.me.0 act (Subtract number) word }
     ensures seat { (seat.new.table_id ≡ seat.old.table_id) × (seat.new.me.1 ≡ seat.old.me.1) }
     ensures told { Told (shape_of W.WAY table.now) seat.old.me.0 act result seat.new.me.0 }
     ensures now { TellsNow (shape_of W.WAY table.now) seat.new.me.0 }
@@ -199,7 +199,7 @@ fn flips_it<W: WaitWords, A: Detail>(
 ) -> u64
     requires picked { (A.shape ≡ shape_of W.WAY table.now) × (A.act ≡ act) }
     requires table { seat.old.table_id ≡ table.now.id }
-    requires asks { Touches W.WAY table.now seat.old.me.0 act flips word }
+    requires asks { Touches W.WAY table.now seat.old.me.0 act Flip word }
     ensures seat { (seat.new.table_id ≡ seat.old.table_id) × (seat.new.me.1 ≡ seat.old.me.1) }
     ensures told { Told (shape_of W.WAY table.now) seat.old.me.0 act result seat.new.me.0 }
     ensures now { TellsNow (shape_of W.WAY table.now) seat.new.me.0 }
@@ -215,7 +215,7 @@ pub(crate) fn flip<W: WaitWords>(
     word: usize,
 ) -> u64
     requires table { seat.old.table_id ≡ table.now.id }
-    requires asks { Touches W.WAY table.now seat.old.me.0 act flips word }
+    requires asks { Touches W.WAY table.now seat.old.me.0 act Flip word }
     ensures seat { (seat.new.table_id ≡ seat.old.table_id) × (seat.new.me.1 ≡ seat.old.me.1) }
     ensures told { Told (shape_of W.WAY table.now) seat.old.me.0 act result seat.new.me.0 }
     ensures now { TellsNow (shape_of W.WAY table.now) seat.new.me.0 }

@@ -129,7 +129,7 @@ impl<W: WaitWords> Seat<W> {
     pub fn list_retired(&mut self, slot: u32)
         requires retired { (i : ℕ) × (r : Retired) × IsRetiredAt self.old.view i r slot }
         requires unlocked { HasLock self.old.view slot → ⊥ }
-        requires unlisted { IsIn self.old.listed slot → ⊥ }
+        requires unlisted { TellsNow (shape_of W.WAY self.old.table) self.old.view → IsIn self.old.listed slot → ⊥ }
         requires few { length self.old.listed < 16 }
         ensures seat { (self.new.table ≡ self.old.table) × (self.new.view ≡ self.old.view) }
         ensures listed { self.new.listed ≡ self.old.listed ++ slot ∷ [] }

@@ -1,8 +1,9 @@
 //! Waits, whatever the waiter.
 ghost use Rattle.std.specs.Prelude.{◌≡◌, ◌≤◌, [], Some, None};
 ghost use Rattle.core_state.specs.declared.view.Section.{Section};
-ghost use Rattle.seat_table.specs.Seats.{shape_of};
-ghost use Rattle.seat_table.specs.Sections.{HasEntered, HasLeft, HasBegun};
+ghost use Rattle.seat_table.specs.Seats.{IsQuietSeat, shape_of};
+ghost use Rattle.seat_table.specs.Sections.{HasEntered, HasLeft, HasBegun, IsQuietReader};
+ghost use Rattle.seat_table.specs.Onward.{LooksAt, IsOnward, IsWithin};
 ghost use Rattle.seat_table.specs.Waits.{IsLatestOf, Polled, HasWaited, reached, start};
 
 use crate::seat::Seat;
@@ -56,20 +57,22 @@ pub enum Poll {
 
 /// How readers show that they read, and how a wait looks for them.
 pub trait WaitPart: WaitWords {
-    /// Enters a section with this key.
+    /// Enters a section with this key. The last step shows that the seat reads. A seat that was quiet is so again when the section is left.
     fn enter(table: &CitrusTable<Self>, seat: &mut Seat<Self>, key: u64)
         requires table { seat.old.table ≡ table.now }
         requires outside { seat.old.view.section ≡ None }
         requires unlocked { seat.old.view.locks ≡ [] }
         ensures seat { (seat.new.table ≡ seat.old.table) × (seat.new.listed ≡ seat.old.listed) }
-        ensures entered { HasEntered seat.old.view key seat.new.view };
+        ensures entered { HasEntered seat.old.view key seat.new.view }
+        ensures quiet { IsQuietSeat seat.old → IsQuietReader seat.new };
 
     /// Leaves the open section.
     fn leave(table: &CitrusTable<Self>, seat: &mut Seat<Self>)
         requires table { seat.old.table ≡ table.now }
         requires inside { (section : Section) × (seat.old.view.section ≡ Some section) }
         ensures seat { (seat.new.table ≡ seat.old.table) × (seat.new.listed ≡ seat.old.listed) }
-        ensures left { HasLeft seat.old.view seat.new.view };
+        ensures left { HasLeft seat.old.view seat.new.view }
+        ensures quiet { IsQuietReader seat.old → IsQuietSeat seat.new };
 
     /// Begins a wait for the readers with one of these keys. An earlier grace of the seat isn't its latest any more.
     fn begin(table: &CitrusTable<Self>, seat: &mut Seat<Self>, keys: Keys) -> Grace<Self>
@@ -79,16 +82,20 @@ pub trait WaitPart: WaitWords {
         ensures seat { (seat.new.table ≡ seat.old.table) × (seat.new.listed ≡ seat.old.listed) }
         ensures begun { HasBegun seat.old.view keys.low keys.high seat.new.view }
         ensures keys { result.keys ≡ keys }
-        ensures latest { IsLatestOf (shape_of Self.WAY table.now) result seat.new.view };
+        ensures latest { IsLatestOf (shape_of Self.WAY table.now) result seat.new.view }
+        ensures quiet { IsQuietSeat seat.old → IsQuietSeat seat.new };
 
-    /// Looks for readers that the wait is for, from where the last poll stopped. `Over` comes where there is none any more; `NotYet`
-    /// comes where this poll loaded what it names.
+    /// Looks for readers that the wait is for, from where the last poll stopped: at no place or class before. `Over` comes where there is
+    /// none any more; `NotYet` comes where this poll loaded what it names. A grace beyond the last class of its keys, which no poll leaves,
+    /// goes back to it.
     fn poll(table: &CitrusTable<Self>, seat: &mut Seat<Self>, grace: &mut Grace<Self>) -> Poll
         requires table { seat.old.table ≡ table.now }
         requires latest { IsLatestOf (shape_of Self.WAY table.now) grace.old seat.old.view }
         ensures seat { (seat.new.table ≡ seat.old.table) × (seat.new.listed ≡ seat.old.listed) }
         ensures grace { (grace.new.keys ≡ grace.old.keys) × (grace.new.clock ≡ grace.old.clock) }
-        ensures polled { Polled (shape_of Self.WAY table.now) seat.old.view result grace.new seat.new.view };
+        ensures polled { Polled (shape_of Self.WAY table.now) seat.old.view result grace.new seat.new.view }
+        ensures onward { IsWithin grace.old.keys grace.old.class → LooksAt (IsOnward (reached grace.old)) seat.old.view seat.new.view }
+        ensures quiet { IsQuietSeat seat.old → IsQuietSeat seat.new };
 }
 
 /// Waits until each reader with one of these keys has left that is reading now.
@@ -103,6 +110,7 @@ pub fn wait_for_readers<R: Wait, W: WaitPart>(
     requires ticket { 1 ≤ seat.old.view.allowance.tickets }
     ensures seat { (seat.new.table ≡ seat.old.table) × (seat.new.listed ≡ seat.old.listed) }
     ensures waited { HasWaited (shape_of W.WAY table.now) seat.old.view keys.low keys.high seat.new.view }
+    ensures quiet { IsQuietSeat seat.old → IsQuietSeat seat.new }
 {
     let mut grace = W::begin(table, seat, keys);
     let backoff = Backoff::new();

@@ -1,7 +1,7 @@
 //! A value that is replaced beside its readers, whatever the waiter.
 ghost use Rattle.std.specs.Prelude.{◌≡◌, ◌+◌, ◌≤◌, [], None};
 ghost use Rattle.core_state.specs.declared.view.View.{View};
-ghost use Rattle.seat_table.specs.Seats.{shape_of};
+ghost use Rattle.seat_table.specs.Seats.{IsQuietSeat, shape_of};
 ghost use Rattle.seat_table.specs.Sections.{HasEntered, HasLeft};
 ghost use Rattle.seat_table.specs.Waits.{HasWaited};
 
@@ -50,6 +50,7 @@ pub fn read<W: WaitPart>(
     ensures section { (inside : View) × HasEntered seat.old.view key inside × HasLeft inside seat.new.view }
     ensures outside { seat.new.view.section ≡ None }
     ensures unlocked { seat.new.view.locks ≡ [] }
+    ensures quiet { IsQuietSeat seat.old → IsQuietSeat seat.new }
 {
     W::enter(table, seat, key);
     let found = value.load();
@@ -74,6 +75,7 @@ pub fn replace<R: Wait, W: WaitPart>(
     ensures waited { HasWaited (shape_of W.WAY table.now) seat.old.view keys.low keys.high seat.new.view }
     ensures outside { seat.new.view.section ≡ None }
     ensures ticket { seat.new.view.allowance.tickets + 1 ≡ seat.old.view.allowance.tickets }
+    ensures quiet { IsQuietSeat seat.old → IsQuietSeat seat.new }
 {
     let old = value.place.load(Ordering::SeqCst) % 2;
     let spare = 1 - old;

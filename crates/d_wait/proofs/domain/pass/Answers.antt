@@ -4,6 +4,10 @@ use Rattle.seat_table.specs.Seats.{shape_of}
 use Rattle.seat_table.specs.Waits.{IsGoingOn}
 use Rattle.d_wait.specs.declared.domain.Domain.{Domain}
 use Rattle.seat_table.proofs.Polling.{comes_to, goes_further, stops_further, stops_here}
+use Rattle.core_state.specs.declared.words.Field.TheVariants.{Count}
+use Rattle.seat_table.specs.Onward.{IsLater}
+use Rattle.seat_table.specs.Waits.{reached}
+use Rattle.d_wait.proofs.Onward.{later_then, later_next, onward_named, looked_count}
 use Rattle.d_wait.proofs.Sides.{skips, passes_class}
 use Rattle.d_wait.proofs.domain.pass.Goals as goal
 
@@ -18,7 +22,7 @@ returns-in-Some-look-clause-met c =
     let come = c.in_default.ensures.turned.1 in
     let here = c.turn.new.grace in
     stops_further (shape_of 1 c.args.table.now) c.args.seat.now.view c.turn.new.seat.view c.look.new.seat.view here here come c.in-Some-look.why
-    (stops_here (shape_of 1 c.args.table.now) c.turn.new.seat.view c.look.new.seat.view here (comes_to (shape_of 1 c.args.table.now) c.args.seat.now.view c.turn.new.seat.view here come) c.in-Some-look.why c.in-Some-look.ensures.met)
+    (stops_here (shape_of 1 c.args.table.now) c.turn.new.seat.view c.look.new.seat.view here (comes_to (shape_of 1 c.args.table.now) c.args.seat.now.view c.turn.new.seat.view here come) c.in-Some-look.why c.in-Some-look.ensures.there c.in-Some-look.ensures.met)
 
 pub returns-clause-passed : goal.returns-clause-passed
 returns-clause-passed c =
@@ -32,3 +36,23 @@ returns-clause-passed c =
           (subst (λ (z : Grace Domain). IsGoingOn (shape_of 1 c.args.table.now) c.turn.new.seat.view z c.look.new.seat.view) (sym c.go_on-2.ensures)
           (passes_class (shape_of 1 c.args.table.now) refl here c.turn.new.seat.view c.look.new.seat.view (here.gate % 2) (omega (arith, same, c.requires.small)) c.in_default.ensures.turned.0 refl latest c.in_default-look.ensures.passed)),
     )
+
+pub returns-then-not-meets_class-clause-later : goal.returns-then-not-meets_class-clause-later
+returns-then-not-meets_class-clause-later c = subst (λ (z : Grace Domain). IsLater (reached c.args.grace.now) (reached z)) (sym c.go_on.ensures) (later_next c.args.grace.now)
+
+pub returns-in-Some-look-clause-onward : goal.returns-in-Some-look-clause-onward
+returns-in-Some-look-clause-onward c =
+    let r = reached c.args.grace.now in
+    let here = c.turn.new.grace in
+    looked_count r here.class (here.gate % 2) (λ before. onward_named here (c.turn.ensures.later (Count here.class (here.gate % 2)) before)) c.turn.ensures.onward c.look.ensures.spot
+
+pub returns-clause-onward : goal.returns-clause-onward
+returns-clause-onward c =
+    let r = reached c.args.grace.now in
+    let here = c.turn.new.grace in
+    looked_count r here.class (here.gate % 2) (λ before. onward_named here (c.turn.ensures.later (Count here.class (here.gate % 2)) before)) c.turn.ensures.onward c.look.ensures.spot
+
+pub returns-clause-later : goal.returns-clause-later
+returns-clause-later c =
+    let here = c.turn.new.grace in
+    later_then (reached c.args.grace.now) (reached here) _ c.turn.ensures.later (subst (λ (z : Grace Domain). IsLater (reached here) (reached z)) (sym c.go_on-2.ensures) (later_next here))

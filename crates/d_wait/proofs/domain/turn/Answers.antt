@@ -5,6 +5,11 @@ use Rattle.seat_table.specs.Seats.{shape_of}
 use Rattle.seat_table.proofs.Waiting.{begins_on}
 use Rattle.d_wait.specs.declared.domain.Domain.{Domain}
 use Rattle.seat_table.proofs.Polling.{comes_to, goes_further, stops_further, stops_here}
+use Rattle.core_state.specs.declared.words.Field.TheVariants.{Count}
+use Rattle.seat_table.specs.Onward.{IsOnward, IsLater}
+use Rattle.seat_table.specs.Waits.{reached}
+use Rattle.seat_table.proofs.Onward.{looks_then}
+use Rattle.d_wait.proofs.Onward.{gate_turned, later_unturned, onward_unturned, looked_count}
 use Rattle.d_wait.proofs.Sides.{may_turn, turned_on}
 use Rattle.d_wait.proofs.domain.turn.Goals as goal
 
@@ -19,7 +24,7 @@ returns-in-Some-clause-met c =
     let come = c.load_gate.ensures.gone_on in
     let here = c.load_gate.new.grace in
     stops_further (shape_of 1 c.args.table.now) c.args.seat.now.view c.load_gate.new.seat.view c.look.new.seat.view here here come c.in-Some.why
-    (stops_here (shape_of 1 c.args.table.now) c.load_gate.new.seat.view c.look.new.seat.view here (comes_to (shape_of 1 c.args.table.now) c.args.seat.now.view c.load_gate.new.seat.view here come) c.in-Some.why c.in-Some.ensures.met)
+    (stops_here (shape_of 1 c.args.table.now) c.load_gate.new.seat.view c.look.new.seat.view here (comes_to (shape_of 1 c.args.table.now) c.args.seat.now.view c.load_gate.new.seat.view here come) c.in-Some.why c.in-Some.ensures.there c.in-Some.ensures.met)
 
 pub turn_gate-requires-clause-asks : goal.turn_gate-requires-clause-asks
 turn_gate-requires-clause-asks c = λ told.
@@ -39,3 +44,25 @@ returns-clause-turned c =
       goes_further (shape_of 1 c.args.table.now) c.args.seat.now.view c.load_gate.new.seat.view c.turn_gate.new.seat.view here (is_turned here) come
           (turned_on (shape_of 1 c.args.table.now) refl here c.load_gate.new.seat.view c.look.new.seat.view latest unturned (1 - here.gate % 2) c.in_default.ensures.passed c.turn_gate.new.seat.view c.turn_gate.result met refl c.turn_gate.ensures.told),
     )
+
+pub returns-in-Some-clause-onward : goal.returns-in-Some-clause-onward
+returns-in-Some-clause-onward c =
+    let r = reached c.args.grace.now in
+    let here = c.load_gate.new.grace in
+    let side = 1 - here.gate % 2 in
+    let there = subst (λ (z : Grace Domain). IsOnward r (Count z.class side)) (sym c.load_gate.ensures.grace) (onward_unturned c.args.grace.now side c.if-grace.false) in
+    looked_count r here.class side there c.load_gate.ensures.onward c.look.ensures.spot
+
+pub returns-in-Some-clause-later : goal.returns-in-Some-clause-later
+returns-in-Some-clause-later c = subst (λ (z : Grace Domain). IsLater (reached c.args.grace.now) (reached z)) (sym c.load_gate.ensures.grace) (later_unturned c.args.grace.now c.load_gate.new.grace.gate c.args.grace.now.turned c.if-grace.false)
+
+pub returns-clause-onward : goal.returns-clause-onward
+returns-clause-onward c =
+    let r = reached c.args.grace.now in
+    let here = c.load_gate.new.grace in
+    let side = 1 - here.gate % 2 in
+    let there = subst (λ (z : Grace Domain). IsOnward r (Count z.class side)) (sym c.load_gate.ensures.grace) (onward_unturned c.args.grace.now side c.if-grace.false) in
+    looks_then (IsOnward r) _ _ _ (looked_count r here.class side there c.load_gate.ensures.onward c.look.ensures.spot) (gate_turned r c.turn_gate.ensures.told)
+
+pub returns-clause-later : goal.returns-clause-later
+returns-clause-later c = subst (λ (z : Grace Domain). IsLater (reached c.args.grace.now) (reached (is_turned z))) (sym c.load_gate.ensures.grace) (later_unturned c.args.grace.now c.load_gate.new.grace.gate true c.if-grace.false)

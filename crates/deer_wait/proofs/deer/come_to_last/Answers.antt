@@ -1,10 +1,11 @@
-use Rattle.std.proofs.Common.{refl, sym, ap, subst, ◌∙◌, arith}
+use Rattle.std.proofs.Common.{◌≡◌, inr, refl, sym, ap, subst, ◌∙◌, arith}
 use Rattle.key_interval.specs.Keys.{MeetsClass}
 use Rattle.seat_table.specs.declared.wait.Grace.{Grace}
 use Rattle.seat_table.specs.Seats.{shape_of}
 use Rattle.deer_wait.specs.declared.deer.Deer.{Deer}
 use Rattle.deer_wait.specs.Images.{IsImage}
 use Rattle.seat_table.proofs.Polling.{comes_to, stops_further}
+use Rattle.deer_wait.proofs.Onward.{looked_rows}
 use Rattle.deer_wait.proofs.Rows.{skips_gap}
 use Rattle.deer_wait.proofs.deer.come_to_last.Goals as goal
 
@@ -25,3 +26,17 @@ returns-in-Some-pass-clause-met c =
     let same = ap (λ (z : Grace Deer). z.keys) (sym c.pass.ensures.grace) in
     let come = skips_gap (shape_of 2 c.args.table.now) refl c.pass.new.grace c.args.seat.now.view c.pass.new.seat.view c.in_default.ensures.passed.1 c.skip_gap.new.grace c.args.image.now (subst (λ z. IsImage z c.args.image.now) same c.requires.image) c.skip_gap.ensures c.in_default.ensures.passed.0 in
     stops_further (shape_of 2 c.args.table.now) c.args.seat.now.view c.pass.new.seat.view c.pass-2.new.seat.view c.skip_gap.new.grace c.pass-2.new.grace come c.in-Some-pass.why c.in-Some-pass.ensures.met
+
+pub returns-in-Some-pass-clause-onward : goal.returns-in-Some-pass-clause-onward
+returns-in-Some-pass-clause-onward c =
+    let p = c.args.grace.now.place in
+    let after : Grace Deer = c.skip_gap.new.grace in
+    let here : p ≡ after.place = ap (λ (z : Grace Deer). z.place) (sym c.pass.ensures.grace) ∙ ap (λ (z : Grace Deer). z.place) (sym c.skip_gap.ensures.stays) in
+    looked_rows p c.args.grace.now.class after.place after.class (inr (here, omega (arith, c.pass.ensures.later, c.skip_gap.ensures.later))) c.pass.ensures.onward c.pass-2.ensures.onward
+
+pub returns-clause-onward : goal.returns-clause-onward
+returns-clause-onward c =
+    let p = c.args.grace.now.place in
+    let after : Grace Deer = c.skip_gap.new.grace in
+    let here : p ≡ after.place = ap (λ (z : Grace Deer). z.place) (sym c.pass.ensures.grace) ∙ ap (λ (z : Grace Deer). z.place) (sym c.skip_gap.ensures.stays) in
+    looked_rows p c.args.grace.now.class after.place after.class (inr (here, omega (arith, c.pass.ensures.later, c.skip_gap.ensures.later))) c.pass.ensures.onward c.pass-2.ensures.onward

@@ -22,7 +22,7 @@ returns-then-not-is_early-clause-passed c =
     (λ (e : found ≡ idle). stamp_idle latest.0.clock found e)
     (λ (l : c.args.grace.now.clock < found). stamp_late latest.0.clock found (omega (arith, l, latest.2.clock_is)))
     (c.is_early.ensures.late c.if-not-is_early.true) in
-    (latest.0, step_of K35 field found, latest.1, load_passes _ _ K35 field latest.0 found c.args.last told.marks latest.1 told.sees told.goes told.informed excused)
+    (latest.0, step_of K35 field found, latest.1, load_passes _ _ K35 field latest.0 found c.args.last told.marks latest.1 told.sees told.goes told.informed refl excused)
 
 pub returns-clause-met : goal.returns-clause-met
 returns-clause-met c =

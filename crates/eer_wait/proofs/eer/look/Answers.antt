@@ -1,11 +1,12 @@
-use Rattle.std.proofs.Common.{arith, true, false, refl, ◌≡◌, ◌≤◌, [], ◌++◌}
+use Rattle.std.proofs.Common.{arith, true, refl, ◌≡◌, ◌≤◌, [], ◌++◌}
 use Rattle.core_state.specs.steps.Waits.{excuses}
 use Rattle.core_state.specs.declared.words.Kind.TheVariants.{K8}
 use Rattle.core_state.specs.declared.words.Field.TheVariants.{Announced, Stamp}
 use Rattle.seat_table.specs.Seats.{shape_of}
 use Rattle.seat_table.proofs.Waiting.{step_of, looks_on, passes_on}
 use Rattle.seat_table.proofs.Polls.{not_so, stamp_idle, stamp_late, stamp_stays, load_passes, load_stays}
-use Rattle.eer_wait.proofs.Places.{may_look, key_excuses, key_stays, key_passes}
+use Rattle.seat_table.proofs.Onward.{looks_then}
+use Rattle.eer_wait.proofs.Places.{may_look, key_excuses, key_stays, key_passes, key_looked, stamp_looked}
 use Rattle.eer_wait.proofs.eer.look.Goals.{then-stamp-via-then-stamp, then-stamp-via-else-stamp+then-grace-stamp}
 use Rattle.eer_wait.proofs.eer.look.Goals as goal
 
@@ -20,7 +21,7 @@ returns-then-not-holds-clause-passed c =
     let key = c.look_key-key.result in
     let told = c.look_key-key.ensures.told in
     let out = key_excuses latest.0 c.args.grace.now.keys key r.low_is r.high_is place (not_so c.holds.result c.holds.ensures.1 c.if-not-holds.true) in
-    (latest.0, step_of K8 (Announced place) key, latest.1, key_passes _ _ latest.0 place _ c.args.last (load_passes _ _ K8 (Announced place) latest.0 key c.args.last told.marks latest.1 told.sees told.goes told.informed out))
+    (latest.0, step_of K8 (Announced place) key, latest.1, key_passes _ _ latest.0 place _ c.args.last (load_passes _ _ K8 (Announced place) latest.0 key c.args.last told.marks latest.1 told.sees told.goes told.informed refl out))
 
 pub look_stamp-stamp-requires-clause-asks : goal.look_stamp-stamp-requires-clause-asks
 look_stamp-stamp-requires-clause-asks c =
@@ -51,7 +52,7 @@ returns-then-stamp-clause-passed c =
       latest.0,
       step_of K8 (Announced place) key ++ step_of K8 (Stamp place) stamp,
       latest.1,
-      passes_on _ _ _ latest.0 _ _ c.args.last (Stamp place) stays (load_passes _ _ K8 (Stamp place) latest.0 stamp c.args.last second.marks stays.wait_is second.sees second.goes second.informed excused),
+      passes_on _ _ _ latest.0 _ _ c.args.last (Stamp place) stays (load_passes _ _ K8 (Stamp place) latest.0 stamp c.args.last second.marks stays.wait_is second.sees second.goes second.informed refl excused),
     )
 
 pub returns-clause-met : goal.returns-clause-met
@@ -73,3 +74,12 @@ returns-clause-met c =
       looks_on _ _ _ latest.0 latest.0 latest.0 _ _ stays again,
       (([], refl), (omega (arith, inside.0, r.low_is), omega (arith, inside.1, r.high_is)), c.if-stamp.false, early),
     )
+
+pub returns-then-stamp-clause-spot : goal.returns-then-stamp-clause-spot
+returns-then-stamp-clause-spot c = looks_then (λ field. field ≡ Stamp c.args.grace.now.place) _ _ _ (key_looked c.look_key-key.ensures.told) (stamp_looked c.look_stamp-stamp.ensures.told)
+
+pub returns-clause-spot : goal.returns-clause-spot
+returns-clause-spot c = looks_then (λ field. field ≡ Stamp c.args.grace.now.place) _ _ _ (key_looked c.look_key-key.ensures.told) (stamp_looked c.look_stamp-stamp.ensures.told)
+
+pub returns-then-not-holds-clause-spot : goal.returns-then-not-holds-clause-spot
+returns-then-not-holds-clause-spot c = key_looked c.look_key-key.ensures.told

@@ -1,4 +1,5 @@
 use Rattle.seat_table.specs.Seats.{shape_of}
+use Rattle.seat_table.proofs.Quiet.{begun_quiet}
 use Rattle.seat_table.proofs.Sections.{begun}
 use Rattle.seat_table.proofs.Waiting.{latest}
 use Rattle.d_wait.specs.declared.domain.Domain.{Domain}
@@ -9,3 +10,6 @@ returns-clause-begun c = begun (shape_of 1 c.args.table.now) _ _ _ _ c.begin_wai
 
 pub returns-clause-latest : goal.returns-clause-latest
 returns-clause-latest c = latest {W = Domain} (shape_of 1 c.args.table.now) _ _ c.args.keys c.begin_wait-clock.result _ c.new.ensures.keys c.new.ensures.clock c.new.ensures.start c.begin_wait-clock.ensures.told
+
+pub returns-clause-quiet : goal.returns-clause-quiet
+returns-clause-quiet c = begun_quiet (returns-clause-begun c) c.begin_wait-clock.ensures.seat.1

@@ -1,7 +1,8 @@
 use Rattle.std.proofs.Common.{◌≡◌}
 use Rattle.seat_table.specs.Seats.{shape_of}
-use Rattle.seat_table.specs.Waits.{IsGoingOn}
+use Rattle.seat_table.specs.Onward.{LooksAt, IsOnward, IsLater}
+use Rattle.seat_table.specs.Waits.{IsGoingOn, reached}
 use Rattle.d_wait.proofs.domain.DomainWaitPart.poll.Given as goal
 
 abbrev pub invariant-loop : goal.invariant-loop
-invariant-loop l = (l.seat.table ≡ l.fn.seat.table) × (l.seat.listed ≡ l.fn.seat.listed) × (l.grace.keys ≡ l.fn.grace.keys) × (l.grace.clock ≡ l.fn.grace.clock) × (l.grace.class ≡ l.counter) × IsGoingOn (shape_of 1 l.table) l.fn.seat.view l.grace l.seat.view
+invariant-loop l = (l.seat.table ≡ l.fn.seat.table) × (l.seat.listed ≡ l.fn.seat.listed) × (l.grace.keys ≡ l.fn.grace.keys) × (l.grace.clock ≡ l.fn.grace.clock) × (l.grace.class ≡ l.counter) × IsGoingOn (shape_of 1 l.table) l.fn.seat.view l.grace l.seat.view × LooksAt (IsOnward (reached l.fn.grace)) l.fn.seat.view l.seat.view × IsLater (reached l.fn.grace) (reached l.grace)

@@ -1,5 +1,6 @@
 use Rattle.std.proofs.Common.{rules, refl, arith}
 use Rattle.seat_table.specs.Seats.{shape_of}
+use Rattle.seat_table.proofs.Quiet.{entered_quiet}
 use Rattle.seat_table.proofs.Sections.{needs_row, entered_row}
 use Rattle.deer_wait.proofs.deer.DeerWaitPart.enter.Goals as goal
 
@@ -8,3 +9,6 @@ enter_by_row-requires-clause-asks c = λ told. ((refl, told.tells.place_within, 
 
 pub returns-clause-entered : goal.returns-clause-entered
 returns-clause-entered c = entered_row (shape_of 2 c.args.table.now) _ _ _ _ c.load_clock-stamp.ensures.told _ c.enter_by_row.ensures.told
+
+pub returns-clause-quiet : goal.returns-clause-quiet
+returns-clause-quiet c = entered_quiet (returns-clause-entered c) (search rules)
