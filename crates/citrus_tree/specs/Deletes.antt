@@ -22,6 +22,7 @@ use Rattle.core_points.specs.declared.stage.Last.TheVariants as last
 use Rattle.core_points.specs.declared.stage.Stage.{Stage}
 use Rattle.core_points.specs.declared.stage.Stage.TheVariants as at
 use Rattle.tree_points.specs.At.{IsAt}
+use Rattle.citrus_tree.specs.Going.{MayBegin}
 use Rattle.citrus_tree.specs.Gone.{KeepsWait, retired_marks, waits_in}
 use Rattle.citrus_tree.specs.Replies.{DelsBy, IsMoveWait}
 use Rattle.tree_points.specs.Progress.{HasGone}
@@ -108,7 +109,7 @@ pub record HasCopied (v : View) (key next_key number : ℕ) (w : View) : Type 0 
 
 -- The place has a spare for a copy, and room for two more retired slots: a delete of any key may begin its search.
 abbrev pub IsReadyToDelete : Shape → View → View → Type 0
-IsReadyToDelete k v w = (key kept : ℕ) → key < 2 ^ 64 → kept + 4 ≤ v.allowance.tickets → IsAt k (Del key) kept at.EnterClock w
+IsReadyToDelete k v w = (key kept : ℕ) → key < 2 ^ 64 → kept + 4 ≤ v.allowance.tickets → MayBegin k (Del key) kept w
 
 -- A wait for everybody was begun and has ended; that comes only where 15 slots were retired or the place had no spare.
 pub record HasWaitedForRoom (v : View) (marks : List Mark) : Type 0 where

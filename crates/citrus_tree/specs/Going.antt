@@ -1,6 +1,6 @@
 -- What the parts of the calls leave.
 -- Source: docs/TREE.md, "The calls".
-use Rattle.std.specs.Prelude.{◌≡◌, ◌⊎◌, ℕ, ◌+◌, false, List, [], ◌∷◌, ◌++◌, length, Option, Some, None}
+use Rattle.std.specs.Prelude.{◌≡◌, ◌⊎◌, ℕ, ◌+◌, ◌≤◌, false, List, [], ◌∷◌, ◌++◌, length, Option, Some, None}
 use Rattle.std.specs.List.{AllByRecursion}
 use Rattle.std.specs.FinMap as finite
 use mathlib.Core.List.{IsPrefix}
@@ -17,17 +17,30 @@ use Rattle.core_state.specs.declared.view.Held.{Held}
 use Rattle.core_state.specs.declared.view.SearchState.TheVariants.{Found}
 use Rattle.core_state.specs.declared.view.View.{View}
 use Rattle.core_state.specs.views.Known.{LoadedGeneration}
+use Rattle.core_state.specs.views.Views.{Works}
 use Rattle.core_points.specs.declared.stage.Spot.{Spot}
 use Rattle.core_points.specs.declared.stage.Stage.{Stage}
 use Rattle.core_points.specs.declared.stage.Stage.TheVariants as at
 use Rattle.core_points.specs.declared.stage.Aim.TheVariants.{Leaf}
 use Rattle.seat_table.specs.Gains.{IsSlot}
+use Rattle.tree_points.specs.At.{IsAt}
 use Rattle.tree_points.specs.Progress.{HasGone}
 use Rattle.citrus_tree.specs.declared.replace.Holder.{Holder}
 use Rattle.citrus_tree.specs.declared.replace.Replaced.{Replaced}
 use Rattle.citrus_tree.specs.Gone.{HasBegunFirst, IsOfTry, NeededRoom, waits_in}
 use Rattle.citrus_tree.specs.Hops.{Records}
 use Rattle.citrus_tree.specs.Lookups.{Looked}
+
+-- What the first step of a call tells of its seat: it works at a place, and the table has one.
+pub record IsSeated (k : Shape) (v : View) : Type 0 where
+  pub works : Works v
+  pub some_place : 1 ≤ k.places
+
+-- A call may begin, or try again: it is outside a section and holds no lock, and by what its first step tells it stands at its first point.
+pub record MayBegin (k : Shape) (op : Op) (kept : ℕ) (v : View) : Type 0 where
+  pub outside : v.section ≡ None
+  pub unlocked : v.locks ≡ []
+  pub at : IsSeated k v → IsAt k op kept at.EnterClock v
 
 -- These marks were left, and neither the retired slots changed nor the waits.
 pub record Goes (v w : View) (marks : List Mark) : Type 0 where
@@ -57,10 +70,20 @@ abbrev pub Searched : Shape → View → ℕ → Option Spot → View → Type 0
 Searched k v key None w = (old : ℕ) × Looked v key (Some old) w
 Searched k v key (Some spot) w = (looked : Looked v key None w) × Records looked.reading spot × IsSlot k spot.slot
 
+-- A set's search found the slot that has the key, and recorded its generation.
+pub record FoundHolder (k : Shape) (v : View) (key : ℕ) (holder : Holder) (w : View) : Type 0 where
+  pub old : ℕ
+  pub looked : Looked v key (Some old) w
+  pub parent : ℕ
+  pub side : Side
+  pub state_is : looked.reading.state ≡ Found holder.slot parent side None
+  pub generation_is : LoadedGeneration looked.reading holder.slot holder.generation
+  pub slot_is : IsSlot k holder.slot
+
 -- what a set's search came to: the slot that has the key, with its generation, or that the key is absent
 abbrev pub Sought : Shape → View → ℕ → Option Holder → View → Type 0
 Sought k v key None w = Looked v key None w
-Sought k v key (Some holder) w = (old : ℕ) × (looked : Looked v key (Some old) w) × ((p : ℕ) × (b : Side) × (looked.reading.state ≡ Found holder.slot p b None)) × LoadedGeneration looked.reading holder.slot holder.generation × IsSlot k holder.slot
+Sought k v key (Some holder) w = FoundHolder k v key holder w
 
 -- So far in a call for the key these marks were left. No wait was begun, and the retired slots are the same; or one was, which was needed,
 -- and nothing is retired now.

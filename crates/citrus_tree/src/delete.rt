@@ -7,6 +7,7 @@ ghost use Rattle.seat_table.specs.Gains.{IsInformed};
 ghost use Rattle.seat_table.specs.Seats.{AreListed, IsQuietSeat, shape_of};
 ghost use Rattle.tree_points.specs.At.{IsAt, IsDone};
 ghost use Rattle.citrus_tree.specs.Deletes.{KeepsRest, HasDeleted, HasMadeRoom, IsReadyToDelete, DelsAtOnce};
+ghost use Rattle.citrus_tree.specs.Going.{MayBegin};
 ghost use Rattle.citrus_tree.specs.Gone.{KeepsSlots, KeepsWait};
 ghost use Rattle.citrus_tree.specs.Replies.{Dels};
 
@@ -15,7 +16,6 @@ mod locks;
 mod shift;
 mod target;
 
-use crate::answer::{rule_tells, works};
 use bypass::bypass;
 use core_points::stage::Target;
 use crossbeam_utils::Backoff;
@@ -50,6 +50,7 @@ pub fn del<R: Wait, W: WaitPart, G: Gate>(
     ensures quiet { IsQuietSeat seat.new }
     ensures informed { IsInformed seat.new.view }
 {
+    // Before the first search: inside a section of its own a wait for everybody would wait for itself.
     make_room(rt, table, seat);
     let told = delete(rt, table, seat, gate, key);
     gate.pass(Point::Answered, seat.place());
@@ -68,8 +69,7 @@ fn make_room<R: Wait, W: WaitPart>(rt: &R, table: &CitrusTable<W>, seat: &mut Se
     ensures slots { KeepsSlots seat.old seat.new }
     ensures listed { AreListed seat.new }
 {
-    works(seat);
-    rule_tells(table, seat);
+    // A move retires two slots, and a place holds 16 back at most. docs/TREE_INVARIANT.md#the-invariant-of-the-tree
     if seat.retired().len() >= 15 {
         reclaim(rt, table, seat);
         return;
@@ -93,14 +93,11 @@ fn take_spare<R: Wait, W: WaitPart>(rt: &R, table: &CitrusTable<W>, seat: &mut S
     ensures slots { KeepsSlots seat.old seat.new }
     ensures listed { AreListed seat.new }
 {
-    works(seat);
-    rule_tells(table, seat);
     match take(rt, table, seat) {
         Taken::Slot { slot, .. } => {
             steps::keep_as_spare(table, seat, slot);
         }
         Taken::Empty => {
-            rule_tells(table, seat);
             reclaim(rt, table, seat);
         }
     }
@@ -115,10 +112,10 @@ fn delete<R: Wait, W: WaitPart, G: Gate>(
     key: u64,
 ) -> Told
     requires table { seat.old.table ≡ table.now }
-    requires at { (kept : ℕ) × IsAt (shape_of W.WAY table.now) (Del key) kept at.EnterClock seat.old.view }
+    requires at { (kept : ℕ) × MayBegin (shape_of W.WAY table.now) (Del key) kept seat.old.view }
     requires listed { AreListed seat.old }
     ensures table { seat.new.table ≡ seat.old.table }
-    ensures done { (kept : ℕ) → IsAt (shape_of W.WAY table.now) (Del key) kept at.EnterClock seat.old.view → IsDone (shape_of W.WAY table.now) (Del key) kept seat.new.view }
+    ensures done { (kept : ℕ) → MayBegin (shape_of W.WAY table.now) (Del key) kept seat.old.view → IsDone (shape_of W.WAY table.now) (Del key) kept seat.new.view }
     ensures dels { DelsAtOnce seat.old.view key result seat.new.view }
     ensures wait { KeepsWait seat.old.view seat.new.view }
     ensures slots { KeepsSlots seat.old seat.new }

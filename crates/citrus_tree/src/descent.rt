@@ -1,5 +1,5 @@
 //! The way down from the root, in a section and without a lock.
-ghost use Rattle.std.specs.Prelude.{◌≡◌, [], None};
+ghost use Rattle.std.specs.Prelude.{◌≡◌, ◌≤◌, [], None};
 ghost use Rattle.core_state.specs.declared.view.SearchState.TheVariants.{At};
 ghost use Rattle.core_state.specs.declared.view.View.{View};
 ghost use Rattle.core_state.specs.parts.ReaderParts.{state_slot};
@@ -45,11 +45,14 @@ pub(crate) fn go_down<W: WaitPart>(
     requires slot { IsSlot (shape_of W.WAY table.now) slot }
     requires searching { (v : View) × IsSearching v key (At slot side) seat.old.view }
     ensures seat { (seat.new.table ≡ seat.old.table) × (seat.new.listed ≡ seat.old.listed) }
+    ensures place { 1 ≤ table.now.places }
     ensures loads { Loads (shape_of W.WAY table.now) seat.old.view key slot side result seat.new.view }
     ensures slot { IsSlot (shape_of W.WAY table.now) (state_slot (state_after slot side result)) }
     ensures searching { (v : View) → IsSearching v key (At slot side) seat.old.view → IsSearching v key (state_after slot side result) seat.new.view }
 {
     let link = steps::search_load(table, seat, slot, Part::Link { side });
+    // The slot may have been unlinked meanwhile. Its links still lead to the tree, or to slots unlinked later.
+    // docs/TREE.md#why-a-get-beside-a-delete-is-right
     if link == 0 {
         return Step::Ended;
     }
@@ -72,6 +75,7 @@ pub(crate) fn descend<R: Wait, W: WaitPart, G: Gate>(
     requires outside { seat.old.view.section ≡ None }
     requires unlocked { seat.old.view.locks ≡ [] }
     ensures seat { (seat.new.table ≡ seat.old.table) × (seat.new.listed ≡ seat.old.listed) }
+    ensures place { 1 ≤ table.now.places }
     ensures slot { IsSlot (shape_of W.WAY table.now) (state_slot (state_of result)) }
     ensures searching { IsSearching seat.old.view key (state_of result) seat.new.view }
 {

@@ -7,12 +7,13 @@ ghost use Rattle.prcu_model.specs.declared.operation.Op.TheVariants.{Put};
 ghost use Rattle.seat_table.specs.Gains.{IsInformed};
 ghost use Rattle.seat_table.specs.Seats.{AreListed, IsQuietSeat, IsSlotOf, shape_of};
 ghost use Rattle.tree_points.specs.At.{HasLocks, IsAt};
+ghost use Rattle.citrus_tree.specs.Deletes.{StandsAt, Comes};
 ghost use Rattle.citrus_tree.specs.Going.{Goes, Searched, leaf_stage};
 ghost use Rattle.citrus_tree.specs.Gone.{KeepsSlots, KeepsWait};
 ghost use Rattle.citrus_tree.specs.Putting.{old_stage, taken_stage, filled_stage, held_stage, linked_stage, MakesRoom, Links};
 ghost use Rattle.citrus_tree.specs.Replies.{IsFullNow, Puts};
 
-use crate::answer::{answered, rule_tells, works};
+use crate::answer::answered;
 use crate::commit::{close_front, open_front};
 use crate::descent::{Descent, descend};
 use crate::lives::is_life;
@@ -48,8 +49,6 @@ pub fn put<R: Wait, W: WaitPart, G: Gate>(
     ensures tickets { seat.old.view.allowance.tickets ≤ seat.new.view.allowance.tickets + 4 }
     ensures informed { IsInformed seat.new.view }
 {
-    works(seat);
-    rule_tells(table, seat);
     let backoff = Backoff::new();
     for _ in rt.forever() {
         let Some(spot) = find_spot(rt, table, seat, gate, key) else {
@@ -80,6 +79,7 @@ fn find_spot<R: Wait, W: WaitPart, G: Gate>(
     requires outside { seat.old.view.section ≡ None }
     requires unlocked { seat.old.view.locks ≡ [] }
     ensures seat { (seat.new.table ≡ seat.old.table) × (seat.new.listed ≡ seat.old.listed) }
+    ensures place { 1 ≤ table.now.places }
     ensures searched { Searched (shape_of W.WAY table.now) seat.old.view key result seat.new.view }
 {
     match descend(rt, table, seat, gate, key) {
@@ -94,11 +94,11 @@ fn find_spot<R: Wait, W: WaitPart, G: Gate>(
 // Puts the slot in hand back, where there is one.
 fn give_up_leaf<W: WaitPart>(table: &CitrusTable<W>, seat: &mut Seat<W>)
     requires table { seat.old.table ≡ table.now }
-    requires at { (key value kept : ℕ) × IsAt (shape_of W.WAY table.now) (Put key value) kept (old_stage seat.old.view.hands.hand) seat.old.view }
+    requires at { StandsAt (shape_of W.WAY table.now) (old_stage seat.old.view.hands.hand) seat.old.view }
     requires informed { IsInformed seat.old.view }
     ensures seat { (seat.new.table ≡ seat.old.table) × (seat.new.listed ≡ seat.old.listed) }
     ensures goes { Goes seat.old.view seat.new.view [] }
-    ensures at { (key value kept : ℕ) → IsAt (shape_of W.WAY table.now) (Put key value) kept (old_stage seat.old.view.hands.hand) seat.old.view → IsAt (shape_of W.WAY table.now) (Put key value) kept at.Finished seat.new.view }
+    ensures at { Comes (shape_of W.WAY table.now) (old_stage seat.old.view.hands.hand) seat.old.view at.Finished seat.new.view }
     ensures informed { IsInformed seat.new.view }
 {
     let Some(_slot) = seat.in_hand() else {
@@ -166,14 +166,14 @@ fn take_slot<R: Wait, W: WaitPart>(
 ) -> Option<u32>
     requires table { seat.old.table ≡ table.now }
     requires listed { AreListed seat.old }
-    requires at { (key value kept expected : ℕ) × (spot : Spot) × IsAt (shape_of W.WAY table.now) (Put key value) kept (at.Reserve (Leaf spot) expected) seat.old.view }
+    requires at { (spot : Spot) × (expected : ℕ) × StandsAt (shape_of W.WAY table.now) (at.Reserve (Leaf spot) expected) seat.old.view }
     ensures table { seat.new.table ≡ seat.old.table }
     ensures listed { AreListed seat.new }
     ensures slot { (slot : ℕ) → result ≡ Some slot → IsSlotOf (Some slot) seat.new.view.hands.hand }
     ensures room { MakesRoom (shape_of W.WAY table.now) seat.old.view seat.new.view }
     ensures slots { KeepsSlots seat.old seat.new }
     ensures full { result ≡ None → IsFullNow (shape_of W.WAY table.now) seat.new.view }
-    ensures at { (key value kept expected : ℕ) (spot : Spot) → IsAt (shape_of W.WAY table.now) (Put key value) kept (at.Reserve (Leaf spot) expected) seat.old.view → IsAt (shape_of W.WAY table.now) (Put key value) kept (taken_stage result spot) seat.new.view }
+    ensures at { (spot : Spot) (expected : ℕ) → Comes (shape_of W.WAY table.now) (at.Reserve (Leaf spot) expected) seat.old.view (taken_stage result spot) seat.new.view }
     ensures informed { IsInformed seat.new.view }
 {
     if let Taken::Slot { slot, .. } = take(rt, table, seat) {
@@ -182,7 +182,6 @@ fn take_slot<R: Wait, W: WaitPart>(
     if seat.retired().is_empty() {
         return None;
     }
-    rule_tells(table, seat);
     reclaim(rt, table, seat);
     match take(rt, table, seat) {
         Taken::Slot { slot, .. } => Some(slot),
@@ -213,10 +212,12 @@ fn link_leaf<R: Wait, W: WaitPart>(
     if steps::lock(table, seat, spot.slot) != 0 {
         return None;
     }
+    // Since the search others may have used the slot again, filled the side, or filled and emptied it. docs/TREE.md#the-tree
     if !still_holds(table, seat, spot) {
         steps::unlock(table, seat, spot.slot);
         return None;
     }
+    // Odd for the one store alone: updates take turns for these three steps, and get their numbers by them. docs/TREE.md#the-tree
     let front = open_front(rt, table, seat);
     steps::link_leaf(table, seat, spot.slot, spot.side, leaf, key, value);
     let number = close_front(table, seat, front);
@@ -227,15 +228,16 @@ fn link_leaf<R: Wait, W: WaitPart>(
 // Whether the side under the lock is as recorded. All three words are loaded before they are judged.
 fn still_holds<W: WaitPart>(table: &CitrusTable<W>, seat: &mut Seat<W>, spot: Spot) -> bool
     requires table { seat.old.table ≡ table.now }
-    requires at { (key value kept : ℕ) × IsAt (shape_of W.WAY table.now) (Put key value) kept (at.LeafLife spot) seat.old.view }
+    requires at { StandsAt (shape_of W.WAY table.now) (at.LeafLife spot) seat.old.view }
     ensures seat { (seat.new.table ≡ seat.old.table) × (seat.new.listed ≡ seat.old.listed) }
     ensures slot { (leaf : ℕ) → IsSlotOf (Some leaf) seat.old.view.hands.hand → IsSlotOf (Some leaf) seat.new.view.hands.hand }
     ensures locked { HasLocks (spot.slot ∷ []) seat.new.view }
     ensures goes { Goes seat.old.view seat.new.view [] }
-    ensures at { (key value kept : ℕ) → IsAt (shape_of W.WAY table.now) (Put key value) kept (at.LeafLife spot) seat.old.view → IsAt (shape_of W.WAY table.now) (Put key value) kept (held_stage result spot) seat.new.view }
+    ensures at { Comes (shape_of W.WAY table.now) (at.LeafLife spot) seat.old.view (held_stage result spot) seat.new.view }
 {
     let life = steps::locked_load(table, seat, spot.slot, Part::Life);
     let link = steps::locked_load(table, seat, spot.slot, Part::Link { side: spot.side });
+    // An empty side isn't enough: after a move above other keys belong there. docs/TREE.md#the-tree
     let tag = steps::locked_load(table, seat, spot.slot, Part::Tag { side: spot.side });
     is_as_recorded(spot, life, link, tag)
 }

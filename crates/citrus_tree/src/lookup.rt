@@ -25,6 +25,8 @@ fn look_up<R: Wait, W: WaitPart, G: Gate>(
 {
     match descend(rt, table, seat, gate, key) {
         Descent::Found { slot, .. } => {
+            // Without a lock: a node that is unlinked by now keeps its value, and that was the key's at a front of this section.
+            // docs/TREE.md#why-a-get-beside-a-delete-is-right
             let value = steps::search_load(table, seat, slot, Part::Value);
             W::leave(table, seat);
             Some(value)

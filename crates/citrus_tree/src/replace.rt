@@ -10,7 +10,7 @@ ghost use Rattle.citrus_tree.specs.Going.{Goes, Sought, Stores, set_stage};
 ghost use Rattle.citrus_tree.specs.Gone.{KeepsSlots, KeepsWait};
 ghost use Rattle.citrus_tree.specs.Replies.{Sets};
 
-use crate::answer::{answered, rule_tells, works};
+use crate::answer::answered;
 use crate::commit::{close_front, open_front};
 use crate::descent::{Descent, descend};
 use crate::lives::is_life;
@@ -56,8 +56,6 @@ pub fn set<R: Wait, W: WaitPart, G: Gate>(
     ensures tickets { seat.old.view.allowance.tickets ≤ seat.new.view.allowance.tickets + 4 }
     ensures informed { IsInformed seat.new.view }
 {
-    works(seat);
-    rule_tells(table, seat);
     let backoff = Backoff::new();
     for _ in rt.forever() {
         let Some(holder) = find_holder(rt, table, seat, gate, key) else {
@@ -84,6 +82,7 @@ fn find_holder<R: Wait, W: WaitPart, G: Gate>(
     requires outside { seat.old.view.section ≡ None }
     requires unlocked { seat.old.view.locks ≡ [] }
     ensures seat { (seat.new.table ≡ seat.old.table) × (seat.new.listed ≡ seat.old.listed) }
+    ensures place { 1 ≤ table.now.places }
     ensures sought { Sought (shape_of W.WAY table.now) seat.old.view key result seat.new.view }
 {
     match descend(rt, table, seat, gate, key) {
@@ -122,12 +121,14 @@ fn store_value<R: Wait, W: WaitPart>(
     if steps::lock(table, seat, holder.slot) != 0 {
         return None;
     }
+    // A delete may have marked the node since, and the slot may have another key by now. docs/TREE.md#what-could-go-wrong
     let life = steps::locked_load(table, seat, holder.slot, Part::Life);
     let holds = is_life(life, holder.generation);
     if !holds {
         steps::unlock(table, seat, holder.slot);
         return None;
     }
+    // Only the lock's holder stores here, so this is the value that the update replaces.
     let old = steps::locked_load(table, seat, holder.slot, Part::Value);
     let front = open_front(rt, table, seat);
     steps::replace_value(table, seat, holder.slot, key, value);

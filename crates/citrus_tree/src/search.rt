@@ -148,6 +148,7 @@ pub(crate) fn leave_with_spot<W: WaitPart>(
     ensures slot { result.slot ≡ slot }
     ensures looked { (v : View) (key : ℕ) → IsSearching v key (Missed slot side) seat.old.view → (looked : Looked v key None seat.new.view) × Records looked.reading result }
 {
+    // Inside the section: no slot at which it stood is used again before it is left. docs/TREE.md#what-could-go-wrong
     let tag = steps::search_load(table, seat, slot, Part::Tag { side });
     let life = steps::search_load(table, seat, slot, Part::Life);
     W::leave(table, seat);

@@ -11,8 +11,8 @@ use Rattle.core_state.specs.views.Known.{IsLoadable}
 use Rattle.core_acts.specs.declared.act.Part.{Part}
 use Rattle.core_acts.specs.declared.act.Part.TheVariants as part
 use Rattle.core_acts.specs.declared.act.Act.TheVariants.{ListLoad}
-use Rattle.core_acts.specs.Acts.{in_slot, noted, IsWord, Asks, section_of, listing_of}
-use Rattle.core_acts.proofs.Acting.{section_is}
+use Rattle.core_acts.specs.Acts.{in_slot, noted, Asks, section_of, listing_of}
+use Rattle.core_acts.proofs.Acting.{part_word, section_is}
 use Rattle.seat_table.specs.Gains.{IsSlot}
 use Rattle.seat_table.specs.Told.{Told}
 use Rattle.seat_table.proofs.Sections.{made_none, made_more, made_both}
@@ -64,17 +64,9 @@ loaded_both u v w a b =
     )
 
 module _ (k : Shape) (v : View) where
-  -- The table has each part of its slots.
-  has_part : (s : ℕ) (p : Part) → s < slot_count k → IsWord k (in_slot s p)
-  has_part s part.Life below = below
-  has_part s part.Key below = below
-  has_part s part.Value below = below
-  has_part s (part.Link b) below = below
-  has_part s (part.Tag b) below = below
-
   -- a slot of the table may be loaded, where a walk begins or stands there
   pub may_load : (u : View) (x : IsListing u) (s : ℕ) (p : Part) → s < slot_count k → (s ≡ 0) ⊎ (s ≡ x.listing.slot) → IsLoadable s (in_slot s p) → Asks k u (ListLoad s p)
-  may_load u x s p below stands loadable = (has_part s p below, (x.section, x.listing, record { section_is = x.inside; lists = x.lists; stands = stands; loadable = loadable }))
+  may_load u x s p below stands loadable = (part_word k s p below, (x.section, x.listing, record { section_is = x.inside; lists = x.lists; stands = stands; loadable = loadable }))
 
   -- one load more
   pub loads : (u w : View) (s : ℕ) (p : Part) (n : ℕ) (l : HasLoaded v u) → Told k u (ListLoad s p) n w → (after : Listing) → listed l.after s (in_slot s p) n ≡ after → HasFoundMore l.after after → (m : HasLoaded v w) × (m.after ≡ after)

@@ -23,7 +23,7 @@ use Rattle.list_laws.proofs.Lists.{in_append}
 use Rattle.core_acts.specs.declared.act.Act.TheVariants.{LookAtFront}
 use Rattle.seat_table.specs.Gains.{IsListedNow}
 use Rattle.seat_table.specs.Told.{Told}
-use Rattle.seat_table.specs.Sections.{HasLeft}
+use Rattle.seat_table.specs.Sections.{HasEntered, HasLeft}
 use Rattle.seat_table.proofs.Sections.{seen_more}
 use Rattle.exact_list.specs.declared.listing.Listed.{Listed}
 use Rattle.exact_list.specs.declared.listing.Listed.TheVariants.{Whole, Part, Moved}
@@ -32,7 +32,7 @@ use Rattle.exact_list.specs.Tries.{Try, HasMoved, HasTried}
 use Rattle.exact_list.specs.Answers.{Paged, IsWhole, IsPart, IsBetweenFronts, IsRecent, HasStood, EndAs}
 use Rattle.exact_list.specs.Walked.{HasLoaded, Gathers}
 use Rattle.exact_list.proofs.Covering.{covers_exact}
-use Rattle.exact_list.proofs.Trying.{InTry, looked_try, loaded_try, left_try, front_is}
+use Rattle.exact_list.proofs.Trying.{InTry, first_try, looked_try, loaded_try, left_try, front_is}
 
 updates_on : (h seen : List Mark) (p : IsPrefix h seen) → updates_of seen ≡ updates_of h ++ updates_of p.0
 updates_on h seen p = ap updates_of (sym p.1) ∙ updates_of-append h p.0
@@ -62,52 +62,76 @@ each_none P (suc i) x at = absurd (cc)
 each_append : {A : Type 0} (P : A → Type 0) (xs ys : List A) → Each xs P → Each ys P → Each (xs ++ ys) P
 each_append P xs ys p q i x at = ⊎_elim (λ (a : IsIn xs x). p a.0 x a.1) (λ (a : IsIn ys x). q a.0 x a.1) (in_append xs ys x (i, at))
 
--- a try that counted
-module _ (k : Shape) (v : View) (key first front : ℕ) (a b : View) (i : InTry v key (first ∷ []) a) (l : HasLoaded a b) (n : ℕ) (c : View) (t : Told k b LookAtFront n c) (d : View) (left : HasLeft c d) (outside : v.section ≡ None) where
-  before : InTry v key (first ∷ []) b
-  before = loaded_try v key (first ∷ []) a i b l
+-- A try with two looks: from the view v a section with the key was entered, the front was looked at, pairs were loaded, the front was looked at
+-- again, and the section was left.
+pub record LooksTwice (k : Shape) (v : View) (key first n : ℕ) (d : View) : Type 0 where
+  pub first_seen : View
+  pub loaded : View
+  pub looked : View
+  pub begins : InTry v key (first ∷ []) first_seen
+  pub loads : HasLoaded first_seen loaded
+  pub told : Told k loaded LookAtFront n looked
+  pub left : HasLeft looked d
+  pub outside : v.section ≡ None
+
+abbrev pub looks_twice : {k : Shape} {v e a b u d : View} {key entered first n : ℕ} → entered ≡ key → HasEntered v entered e → Told k e LookAtFront first a → HasLoaded a b → Told k b LookAtFront n u → HasLeft u d → v.section ≡ None → LooksTwice k v key first n d
+looks_twice {k} {v} {e} {a} {b} {u} {d} {key} {entered} {first} {n} same enters look loads told left outside = record {
+  first_seen = a;
+  loaded = b;
+  looked = u;
+  begins = first_try k v key entered e first a same enters look;
+  loads = loads;
+  told = told;
+  left = left;
+  outside = outside;
+}
+
+module _ {k : Shape} {v : View} {key first n : ℕ} {d : View} (z : LooksTwice k v key first n d) where
+  before : InTry v key (first ∷ []) z.loaded
+  before = loaded_try v key (first ∷ []) z.first_seen z.begins z.loaded z.loads
 
   pub tried_twice : HasTried v key (record { first = first; second = Some n } ∷ []) d
-  tried_twice = left_try v key (first ∷ n ∷ []) c (looked_try v key (first ∷ []) b before k n c t) d outside left (record { first = first; second = Some n }) refl
+  tried_twice = left_try v key (first ∷ n ∷ []) z.looked (looked_try v key (first ∷ []) z.loaded before k n z.looked z.told) d z.outside z.left (record { first = first; second = Some n }) refl
 
   pub moved_between : (first % 2 == 1) ≡ false → n ≢ first → EndAs (Moved first n) 1 (record { first = first; second = Some n } ∷ [])
   moved_between even ne = (refl, each_one HasMoved (record { first = first; second = Some n }) (inr (is_even first even, (n, refl, ne))), ([], record { first = first; second = Some n }, refl, refl, refl))
 
-  module _ (same : n ≡ first) (even : (first % 2 == 1) ≡ false) (half : front ≡ first / 2) where
-    now : IsListedNow t.marks (record l.section { listing = Some l.after }) l.after
+  -- the second found the number of the first
+  module _ {front : ℕ} (same : n ≡ first) (even : (first % 2 == 1) ≡ false) (half : front ≡ first / 2) where
+    now : IsListedNow z.told.marks (record z.loads.section { listing = Some z.loads.after }) z.loads.after
     now =
-        let is = front_is v key first a b i l in
-        t.gains.same (record l.section { listing = Some l.after }) l.after (ap (λ (z : View). z.section) l.others) refl (subst IsEven (sym same) (is_even first even)) (same ∙ sym is)
+        let is = front_is v key first z.first_seen z.loaded z.begins z.loads in
+        z.told.gains.same (record z.loads.section { listing = Some z.loads.after }) z.loads.after (ap (λ (x : View). x.section) z.loads.others) refl (subst IsEven (sym same) (is_even first even)) (same ∙ sym is)
 
-    first_is : first ≡ 2 * length (updates_of t.marks)
-    first_is = sym (front_is v key first a b i l) ∙ now.front
+    first_is : first ≡ 2 * length (updates_of z.told.marks)
+    first_is = sym (front_is v key first z.first_seen z.loaded z.begins z.loads) ∙ now.front
 
-    count : front ≡ length (updates_of t.marks)
-    count = half ∙ half_of first (length (updates_of t.marks)) first_is
+    count : front ≡ length (updates_of z.told.marks)
+    count = half ∙ half_of first (length (updates_of z.told.marks)) first_is
 
     twice : first ≡ 2 * front
-    twice = first_is ∙ ap (λ z. 2 * z) (sym count)
+    twice = first_is ∙ ap (λ x. 2 * x) (sym count)
 
-    in_all : IsPrefix t.marks d.seen
-    in_all = subst (λ z. IsPrefix z d.seen) (ap (λ (z : View). z.seen) t.goes) (seen_more c d (Left c.allowance.place left.section.count) left.leaves)
+    in_all : IsPrefix z.told.marks d.seen
+    in_all = subst (λ x. IsPrefix x d.seen) (ap (λ (x : View). x.seen) z.told.goes) (seen_more z.looked d (Left z.looked.allowance.place z.left.section.count) z.left.leaves)
 
     pub recent : IsBetweenFronts front v.seen d.seen
     recent =
-        let old = fewer_updates v.seen t.marks (prefix_trans v.seen b.seen t.marks before.seen t.sees.begins) in
-        let new = fewer_updates t.marks d.seen in_all in
+        let old = fewer_updates v.seen z.told.marks (prefix_trans v.seen z.loaded.seen z.told.marks before.seen z.told.sees.begins) in
+        let new = fewer_updates z.told.marks d.seen in_all in
         (omega (arith, old, count), omega (arith, new, count))
 
-    had : (y : ℕ) → had_at (updates_of d.seen) front y ≡ map_now t.marks y
-    had = had_now t.marks d.seen front in_all count
+    had : (y : ℕ) → had_at (updates_of d.seen) front y ≡ map_now z.told.marks y
+    had = had_now z.told.marks d.seen front in_all count
 
-    exact : (low below : ℕ) (pairs : List Pair) → Cover l.after.facts l.after.gaps low below pairs → ArePairs (had_at (updates_of d.seen) front) low below pairs
-    exact low below pairs cover = covers_exact (had_at (updates_of d.seen) front) l.after.facts l.after.gaps low below pairs
+    exact : (low below : ℕ) (pairs : List Pair) → Cover z.loads.after.facts z.loads.after.gaps low below pairs → ArePairs (had_at (updates_of d.seen) front) low below pairs
+    exact low below pairs cover = covers_exact (had_at (updates_of d.seen) front) z.loads.after.facts z.loads.after.gaps low below pairs
         (λ j (f : Fact) at. had f.key ∙ now.facts j f at) (λ j (gap : Gap) at y between. had y ∙ now.gaps j gap at y between) cover
 
-    pub holds_whole : (keys : Interval) (page : Paged) → length page.pairs ≤ page.capacity → Cover l.after.facts l.after.gaps keys.low (keys.high + 1) page.pairs → IsWhole keys d.seen front page
+    pub holds_whole : (keys : Interval) (page : Paged) → length page.pairs ≤ page.capacity → Cover z.loads.after.facts z.loads.after.gaps keys.low (keys.high + 1) page.pairs → IsWhole keys d.seen front page
     holds_whole keys page fit cover = record { pairs = exact keys.low (keys.high + 1) page.pairs cover; fit = fit }
 
-    pub holds_part : (keys : Interval) (next : ℕ) (page : Paged) → Gathers l.after keys page (Some next) → IsPart keys d.seen front next page
+    pub holds_part : (keys : Interval) (next : ℕ) (page : Paged) → Gathers z.loads.after keys page (Some next) → IsPart keys d.seen front next page
     holds_part keys next page g = record {
       pairs = exact keys.low next page.pairs g.0;
       full = g.2;

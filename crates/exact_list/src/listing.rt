@@ -48,6 +48,7 @@ fn attempt<R: Wait, W: WaitPart>(
         return Listed::Moved { first, last: first };
     }
     let next = gather(rt, table, seat, keys, page);
+    // The same number again: no update came between, so what was found is so at that front. docs/TREE_CALLS.md#lists-of-a-key-range
     let last = steps::look_at_front(table, seat);
     W::leave(table, seat);
     if last != first {

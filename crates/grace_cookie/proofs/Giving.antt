@@ -1,14 +1,11 @@
 -- The slots that go back by a cookie.
-use Rattle.std.proofs.Common.{◌≡◌, ◌≢◌, ℕ, ◌≤◌, ◌<◌, not, cond, true, false, List, [], ◌∷◌, ◌++◌, length, take, refl, sym, ap, subst, ◌∙◌, ⊎_elim, arith, ne_eqb}
+use Rattle.std.proofs.Common.{◌≡◌, ◌≢◌, ℕ, ◌≤◌, not, cond, true, false, List, [], ◌∷◌, ◌++◌, length, take, refl, sym, ap, subst, ◌∙◌, ⊎_elim, arith, ne_eqb}
 use Rattle.std.proofs.lemmas.Bool.{cases_eq}
 use Rattle.std.proofs.lemmas.List.{take_at}
-use Rattle.core_state.specs.declared.shape.Shape.{Shape}
 use Rattle.core_state.specs.declared.view.Retired.{Retired}
 use Rattle.core_state.specs.steps.Slots.{IsRetiredAt}
-use Rattle.core_state.specs.memory.Memory.{slot_count}
 use Rattle.list_laws.specs.Counts.{times}
 use Rattle.list_laws.proofs.Lists.{times_here, times_other, all_times, all_from_times}
-use Rattle.seat_table.specs.Gains.{TellsNow}
 use Rattle.seat_table.specs.Seats.{SeatAt, unlisted}
 use Rattle.node_slots.specs.Reclaiming.{IsReady, AreReady, GivesBack, first_slots, without_slots}
 use Rattle.grace_cookie.specs.Cookies.{CookieAt, IsLatest, IsKept, AreKept, AreUnraised}
@@ -41,10 +38,10 @@ module _ (c : CookieAt) (s : SeatAt) (kept : AreKept c s) where
   pub some_first : 1 ≤ c.slots → 1 ≤ length (first_slots c.slots s.listed)
   some_first some = let long = ap length first_is in let many = kept.many in omega arith
 
-  pub all_ready : (k : Shape) → TellsNow k s.view → c.over ≡ true → AreUnraised s.view (take c.slots s.listed) → AreReady k s.view (first_slots c.slots s.listed)
-  all_ready k told over unraised = subst (AreReady k s.view) (sym first_is) (record { each = all_from_times (IsReady k s.view) kept.slots one })
+  pub all_ready : c.over ≡ true → AreUnraised s.view (take c.slots s.listed) → AreReady s.view (first_slots c.slots s.listed)
+  all_ready over unraised = subst (AreReady s.view) (sym first_is) (record { each = all_from_times (IsReady s.view) kept.slots one })
     where
-      one : (slot : ℕ) → 1 ≤ times slot kept.slots → IsReady k s.view slot
+      one : (slot : ℕ) → 1 ≤ times slot kept.slots → IsReady s.view slot
       one slot there =
           let here = all_times (IsKept c s.view) kept.slots slot kept.each there in
           let still = subst (AreUnraised s.view) head_is unraised in
@@ -54,7 +51,6 @@ module _ (c : CookieAt) (s : SeatAt) (kept : AreKept c s) where
             at = here.at;
             unraised = low here.i here.r here.at;
             waited = here.waited over;
-            inside = subst (λ x. x < slot_count k) here.at.1 (told.tells.retired_within here.i here.r here.at.0);
           }
 
   pub gives_some : (answer : ℕ) (t : SeatAt) → 1 ≤ c.slots → IsLatest c s.view → answer ≡ c.slots → GivesBack s.view (first_slots c.slots s.listed) t.view → t.listed ≡ without_slots (first_slots c.slots s.listed) s.listed → GivesSome c s answer t

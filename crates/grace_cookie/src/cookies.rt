@@ -63,6 +63,7 @@ pub fn start<W: WaitPart>(table: &CitrusTable<W>, seat: &mut Seat<W>) -> Cookie<
     ensures quiet { IsQuietSeat seat.old → IsQuietSeat seat.new }
 {
     let count = seat.waits();
+    // Before the wait begins: a slot that is retired later may have readers that it isn't for. docs/TREE_CALLS.md#cookies
     let slots = count_retired(table, seat);
     let keys = Keys::all();
     let grace = W::begin(table, seat, keys);
@@ -127,7 +128,6 @@ pub fn give_back<W: WaitPart>(table: &CitrusTable<W>, seat: &mut Seat<W>, cookie
     if seat.waits() - 1 != cookie.count {
         return 0;
     }
-    seat.rule_tells();
     node_slots::give_back(table, seat, cookie.slots as usize);
     cookie.slots
 }

@@ -3,7 +3,6 @@ use Rattle.std.specs.List.{AllByRecursion}
 use Rattle.std.proofs.Common.{◌≡◌, ◌≢◌, ℕ, zero, suc, ◌-◌, ◌≤◌, not, cond, List, [], ◌∷◌, ◌++◌, length, Some, None, refl, sym, ap, subst, ◌∙◌, ⊎_elim, inl, inr, arith, eq-eqb, ne_eqb, append_assoc, append-nil}
 use Rattle.std.proofs.lemmas.Bool.{cases_eq}
 use Rattle.core_frames.proofs.views.RetiredLists.{without_in}
-use Rattle.core_state.specs.declared.shape.Shape.{Shape}
 use Rattle.core_state.specs.declared.view.Held.{Held}
 use Rattle.core_state.specs.declared.view.Retired.{Retired}
 use Rattle.core_state.specs.declared.view.View.{View}
@@ -77,15 +76,15 @@ all_more [] s rs = refl
 all_more (x ∷ slots) s rs = all_more slots s (without_retired x rs)
 
 -- Slots that are ready stay so while another goes back.
-still_ready : (k : Shape) (v w : View) (s t : ℕ) → w.hands.retired ≡ without_retired s v.hands.retired → t ≢ s → IsReady k v t → IsReady k w t
-still_ready k v w s t gone ne ready =
+still_ready : (v w : View) (s t : ℕ) → w.hands.retired ≡ without_retired s v.hands.retired → t ≢ s → IsReady v t → IsReady w t
+still_ready v w s t gone ne ready =
     let there = without_in s v.hands.retired ready.r (ready.i, ready.at.0) (λ e. ne (sym ready.at.1 ∙ e)) in
     let here : IsIn w.hands.retired ready.r = subst (λ rs. IsIn rs ready.r) (sym gone) there in
-    record { i = here.0; r = ready.r; at = (here.1, ready.at.1); unraised = ready.unraised; waited = ready.waited; inside = ready.inside }
+    record { i = here.0; r = ready.r; at = (here.1, ready.at.1); unraised = ready.unraised; waited = ready.waited }
 
-all_still_ready : (k : Shape) (v w : View) (s : ℕ) → w.hands.retired ≡ without_retired s v.hands.retired → (ts : List ℕ) → AllByRecursion (λ t. t ≢ s) ts → AllByRecursion (IsReady k v) ts → AllByRecursion (IsReady k w) ts
-all_still_ready k v w s gone [] apart ready = tt
-all_still_ready k v w s gone (t ∷ ts) apart ready = (still_ready k v w s t gone apart.0 ready.0, all_still_ready k v w s gone ts apart.1 ready.1)
+all_still_ready : (v w : View) (s : ℕ) → w.hands.retired ≡ without_retired s v.hands.retired → (ts : List ℕ) → AllByRecursion (λ t. t ≢ s) ts → AllByRecursion (IsReady v) ts → AllByRecursion (IsReady w) ts
+all_still_ready v w s gone [] apart ready = tt
+all_still_ready v w s gone (t ∷ ts) apart ready = (still_ready v w s t gone apart.0 ready.0, all_still_ready v w s gone ts apart.1 ready.1)
 
 -- one slot more goes back
 abbrev returning : View → View → View
@@ -144,15 +143,15 @@ gives_more v slots u s w gives returns =
     }
 
 -- Some of the first slots went back, and so many are left.
-pub record GoesOn (k : Shape) (v : View) (old : List ℕ) (count left : ℕ) (u : View) (cur : List ℕ) : Type 0 where
+pub record GoesOn (v : View) (old : List ℕ) (count left : ℕ) (u : View) (cur : List ℕ) : Type 0 where
   pub done : List ℕ
   pub split : first_slots count old ≡ done ++ first_slots left cur
   pub gave : GivesBack v done u
   pub listed : cur ≡ without_slots done old
-  pub ready : AreReady k u (first_slots left cur)
+  pub ready : AreReady u (first_slots left cur)
 
-pub goes_none : (k : Shape) (v : View) (old : List ℕ) (count : ℕ) → AreReady k v (first_slots count old) → GoesOn k v old count count v old
-goes_none k v old count ready = record { done = []; split = refl; gave = gives_none v; listed = refl; ready = ready }
+pub goes_none : (v : View) (old : List ℕ) (count : ℕ) → AreReady v (first_slots count old) → GoesOn v old count count v old
+goes_none v old count ready = record { done = []; split = refl; gave = gives_none v; listed = refl; ready = ready }
 
 first_is : (cur : List ℕ) (slot : ℕ) → first_of cur ≡ Some slot → (more : List ℕ) × (cur ≡ slot ∷ more)
 first_is [] slot e = let bad : None ≡ Some slot = e in absurd (cc)
@@ -162,7 +161,7 @@ pub none_is : (cur : List ℕ) → first_of cur ≡ None → cur ≡ []
 none_is [] e = refl
 none_is (x ∷ xs) e = let bad : Some x ≡ None = e in absurd (cc)
 
-module _ (k : Shape) (v : View) (old : List ℕ) (count left : ℕ) (u : View) (cur : List ℕ) (on : GoesOn k v old count left u cur) (some : 1 ≤ left) where
+module _ (v : View) (old : List ℕ) (count left : ℕ) (u : View) (cur : List ℕ) (on : GoesOn v old count left u cur) (some : 1 ≤ left) where
   module _ (slot : ℕ) (first : first_of cur ≡ Some slot) where
     abbrev rest : List ℕ
     rest = first_slots (left - 1) (unlisted slot cur)
@@ -172,28 +171,28 @@ module _ (k : Shape) (v : View) (old : List ℕ) (count left : ℕ) (u : View) (
         let is = first_is cur slot first in
         ap (first_slots left) is.1 ∙ first_some left slot is.0 some ∙ ap (λ l. slot ∷ first_slots (left - 1) l) (sym (unlisted_here slot is.0) ∙ ap (unlisted slot) (sym is.1))
 
-    all_ready : AllByRecursion (IsReady k u) (slot ∷ rest)
-    all_ready = (subst (AreReady k u) cut on.ready).each
+    all_ready : AllByRecursion (IsReady u) (slot ∷ rest)
+    all_ready = (subst (AreReady u) cut on.ready).each
 
-    pub next_ready : IsReady k u slot
+    pub next_ready : IsReady u slot
     next_ready = all_ready.0
 
-    pub goes_more : (w : View) (now : List ℕ) → Returns u slot w → now ≡ unlisted slot cur → GoesOn k v old count (left - 1) w now
-    goes_more w now returns is = subst (GoesOn k v old count (left - 1) w) (sym is) (record {
+    pub goes_more : (w : View) (now : List ℕ) → Returns u slot w → now ≡ unlisted slot cur → GoesOn v old count (left - 1) w now
+    goes_more w now returns is = subst (GoesOn v old count (left - 1) w) (sym is) (record {
       done = on.done ++ slot ∷ [];
       split = on.split ∙ ap (λ l. on.done ++ l) cut ∙ sym (append_assoc on.done (slot ∷ []) rest);
       gave = gives_more v on.done u slot w on.gave returns;
       listed = ap (unlisted slot) on.listed ∙ sym (without_more on.done slot old);
-      ready = record { each = all_still_ready k u w slot (returned_is u slot w returns).1 rest (first_apart slot (left - 1) (unlisted slot cur) (unlisted_none slot cur)) all_ready.1 };
+      ready = record { each = all_still_ready u w slot (returned_is u slot w returns).1 rest (first_apart slot (left - 1) (unlisted slot cur) (unlisted_none slot cur)) all_ready.1 };
     })
 
 -- all of them went back
-pub goes_end : (k : Shape) (v : View) (old : List ℕ) (count left : ℕ) (u : View) (cur : List ℕ) → left ≡ 0 → GoesOn k v old count left u cur → GivesBack v (first_slots count old) u × (cur ≡ without_slots (first_slots count old) old)
-goes_end k v old count left u cur none on =
+pub goes_end : (v : View) (old : List ℕ) (count left : ℕ) (u : View) (cur : List ℕ) → left ≡ 0 → GoesOn v old count left u cur → GivesBack v (first_slots count old) u × (cur ≡ without_slots (first_slots count old) old)
+goes_end v old count left u cur none on =
     let all : first_slots count old ≡ on.done = on.split ∙ ap (λ n. on.done ++ first_slots n cur) none ∙ append-nil on.done in
     (subst (λ l. GivesBack v l u) (sym all) on.gave, on.listed ∙ ap (λ l. without_slots l old) (sym all))
 
-pub goes_out : (k : Shape) (v : View) (old : List ℕ) (count left : ℕ) (u : View) (cur : List ℕ) → first_of cur ≡ None → GoesOn k v old count left u cur → GivesBack v (first_slots count old) u × (cur ≡ without_slots (first_slots count old) old)
-goes_out k v old count left u cur none on =
+pub goes_out : (v : View) (old : List ℕ) (count left : ℕ) (u : View) (cur : List ℕ) → first_of cur ≡ None → GoesOn v old count left u cur → GivesBack v (first_slots count old) u × (cur ≡ without_slots (first_slots count old) old)
+goes_out v old count left u cur none on =
     let all : first_slots count old ≡ on.done = on.split ∙ ap (λ l. on.done ++ first_slots left l) (none_is cur none) ∙ ap (λ l. on.done ++ l) (first_none left) ∙ append-nil on.done in
     (subst (λ l. GivesBack v l u) (sym all) on.gave, on.listed ∙ ap (λ l. without_slots l old) (sym all))

@@ -16,33 +16,21 @@ use Rattle.core_points.specs.declared.stage.Spot.{Spot}
 use Rattle.core_points.specs.declared.stage.Aim.{Aim}
 use Rattle.core_points.specs.declared.stage.Aim.TheVariants.{Leaf, Spare, Room}
 use Rattle.core_points.specs.declared.stage.Waits.TheVariants.{Reuse}
-use Rattle.core_points.specs.declared.stage.Stage.{Stage}
 use Rattle.core_points.specs.declared.stage.Stage.TheVariants as at
 use Rattle.core_points.specs.Callers.{Own, go, is_none_left, is_some, key_now, value_in}
 use Rattle.core_points.specs.Facts.{HandFits}
 use Rattle.core_points.specs.Fits.{Fits}
 use Rattle.core_points.specs.Tickets.{owed_reserve}
 use Rattle.core_points.proofs.Notes.{owns_noted, bare_noted}
-use Rattle.seat_table.specs.Gains.{IsFull, TellsNow}
+use Rattle.seat_table.specs.Gains.{IsFull}
 use Rattle.seat_table.specs.Seats.{IsSlotOf}
 use Rattle.tree_points.specs.At.{IsAt, IsDone}
 use Rattle.tree_points.specs.Progress.{HasGone, HasGivenAll}
+use Rattle.tree_points.proofs.SameCall.{moves_on}
 use Rattle.tree_points.proofs.Gone.{gone_with, gone_all}
 use Rattle.node_slots.specs.Slots.{aged, next_life, renewing, PutsBack}
 use Rattle.node_slots.specs.Taking.{HasTaken, FoundNone}
 use Rattle.node_slots.specs.Reclaiming.{first_spare, HasReclaimed}
-
--- The same call at another point, with what it keeps then.
-moves_to : {k : Shape} {op : Op} {kept : ℕ} {from : Stage} {v : View} (a : IsAt k op kept from v) (o : Own) (to : Stage) (w : View) → o.op ≡ a.own.op → o.slots ≡ a.own.slots → o.places ≡ a.own.places → o.rest ≡ a.own.rest → o.kept ≡ a.own.kept → Fits o to w → IsAt k op kept to w
-moves_to a o to w op_is slots_are places_are rest_is kept_is fits = record {
-  own = o;
-  op_is = op_is ∙ a.op_is;
-  slots_are = slots_are ∙ a.slots_are;
-  places_are = places_are ∙ a.places_are;
-  last = rest_is ∙ a.last;
-  keeps = kept_is ∙ a.keeps;
-  fits = fits;
-}
 
 least_two : (retired : List ℕ) (spot : Spot) → 2 ≤ owed_reserve (Leaf spot) retired
 least_two [] spot = omega arith
@@ -109,7 +97,7 @@ module _ {slot generation : ℕ} {v w : View} (taken : HasTaken v slot generatio
         unraised = λ z. f.unraised refl;
         point = (p.0, b, (slot, refl, refl), p.5, p.6, omega arith);
       } in
-      moves_to a o' (at.LeafField spot 0) w refl refl refl refl refl (subst (Fits o' (at.LeafField spot 0)) (sym taken.rest) fits)
+      moves_on a o' refl (subst (Fits o' (at.LeafField spot 0)) (sym taken.rest) fits)
 
   pub takes_spare : {k : Shape} {op : Op} {kept e : ℕ} → IsAt k op kept (at.Reserve Spare e) v → IsAt k op kept (at.Keep slot) w
   takes_spare a =
@@ -126,7 +114,7 @@ module _ {slot generation : ℕ} {v w : View} (taken : HasTaken v slot generatio
         unraised = λ z. f.unraised refl;
         point = (i.0, b, (aged slot life, refl, refl), p.2, p.3, p.4);
       } in
-      moves_to a o' (at.Keep slot) w refl refl refl refl refl (subst (Fits o' (at.Keep slot)) (sym taken.rest) fits)
+      moves_on a o' refl (subst (Fits o' (at.Keep slot)) (sym taken.rest) fits)
 
 -- No slot was free.
 none_retired : (rs : List Retired) (os : List ℕ) → map (λ (r : Retired). r.slot) rs ≡ os → rs ≢ [] → is_none_left os ≡ false
@@ -159,7 +147,7 @@ module _ {k : Shape} {v w : View} (none : FoundNone k v w) where
         unraised = λ z. f.unraised refl;
         point = (p.0, p.1, p.2);
       } in
-      moves_to a o' at.Finished w refl refl refl refl refl (subst (Fits o' at.Finished) (sym none.rest) fits)
+      moves_on a o' refl (subst (Fits o' at.Finished) (sym none.rest) fits)
 
   -- Where something is retired it is given back first.
   pub none_begins : {op : Op} {kept e : ℕ} {spot : Spot} → v.hands.retired ≢ [] → IsAt k op kept (at.Reserve (Leaf spot) e) v → IsAt k op kept (at.Begin (Reuse (Leaf spot))) w
@@ -174,7 +162,7 @@ module _ {k : Shape} {v w : View} (none : FoundNone k v w) where
         unraised = λ z. f.unraised refl;
         point = ((p.0, p.1, p.2, p.3), (p.5, p.6));
       } in
-      moves_to a o' (at.Begin (Reuse (Leaf spot))) w refl refl refl refl refl (subst (Fits o' (at.Begin (Reuse (Leaf spot)))) (sym none.rest) fits)
+      moves_on a o' refl (subst (Fits o' (at.Begin (Reuse (Leaf spot)))) (sym none.rest) fits)
 
   pub none_begins_spare : {op : Op} {kept e : ℕ} → IsAt k op kept (at.Reserve Spare e) v → IsAt k op kept (at.Begin (Reuse Spare)) w
   none_begins_spare a =
@@ -188,7 +176,7 @@ module _ {k : Shape} {v w : View} (none : FoundNone k v w) where
         unraised = λ z. f.unraised refl;
         point = (p.0, p.2);
       } in
-      moves_to a o' (at.Begin (Reuse Spare)) w refl refl refl refl refl (subst (Fits o' (at.Begin (Reuse Spare))) (sym none.rest) fits)
+      moves_on a o' refl (subst (Fits o' (at.Begin (Reuse Spare))) (sym none.rest) fits)
 
 -- What put_back asks.
 pub record MayPutBack (v : View) : Type 0 where
@@ -232,7 +220,7 @@ module _ {slot : ℕ} {v w : View} (back : PutsBack v slot w) where
         unraised = λ z. f.unraised refl;
         point = (p.0, b2, refl);
       } in
-      moves_to a o' at.Finished w refl refl refl refl refl (subst (Fits o' at.Finished) (sym is) fits)
+      moves_on a o' refl (subst (Fits o' at.Finished) (sym is) fits)
 
 -- What reclaim asks.
 pub record MayReclaim (v : View) : Type 0 where
@@ -265,11 +253,11 @@ one_held : (o : Option Held) (x : ℕ) → held_list o ≡ x ∷ [] → is_some 
 one_held None x e = let bad : [] ≡ x ∷ [] = e in absurd (cc)
 one_held (Some held) x e = refl
 
-module _ {k : Shape} {v w : View} {listed : List ℕ} (now : TellsNow k v) (same : (t : ℕ) → times t listed ≡ times t (map (λ (r : Retired). r.slot) v.hands.retired)) (back : HasReclaimed k v listed w) where
+module _ {k : Shape} {v w : View} {listed : List ℕ} (comes : v.hands.spare ≡ None → v.hands.retired ≢ []) (same : (t : ℕ) → times t listed ≡ times t (map (λ (r : Retired). r.slot) v.hands.retired)) (back : HasReclaimed k v listed w) where
   -- the place has a spare then
   spare_there : (o : Option Held) → v.hands.spare ≡ o → is_some (spare_slot w.hands.spare) ≡ true
   spare_there None e =
-      let l = some_listed v.hands.retired listed (now.tells.spare_comes e) same in
+      let l = some_listed v.hands.retired listed (comes e) same in
       one_held w.hands.spare l.0 (back.spare ∙ ap (λ o. first_spare (held_list o) listed) e ∙ ap (first_spare []) l.2)
   spare_there (Some held) e = one_held w.hands.spare held.slot (back.spare ∙ ap (λ o. first_spare (held_list o) listed) e)
 

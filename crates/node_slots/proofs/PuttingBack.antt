@@ -1,5 +1,5 @@
 -- What the steps of a slot that is put back told, one after another.
-use Rattle.std.proofs.Common.{◌≡◌, ℕ, ◌+◌, ◌<◌, ◌&&◌, not, Bool, true, false, cond, List, ◌∷◌, Option, Some, None, refl, sym, ap, subst, ◌∙◌, eq-eqb, inl, inr}
+use Rattle.std.proofs.Common.{◌≡◌, ℕ, ◌+◌, ◌<◌, false, cond, List, ◌∷◌, Option, Some, None, refl, sym, ap, subst, ◌∙◌, eq-eqb}
 use Rattle.prcu_marks.specs.declared.mark.Mark.{Mark}
 use Rattle.core_state.specs.declared.shape.Shape.{Shape}
 use Rattle.core_state.specs.declared.words.Field.TheVariants.{Life}
@@ -16,7 +16,7 @@ use Rattle.seat_table.specs.Gains.{Sees, TellsNow}
 use Rattle.seat_table.specs.Seats.{TableAt, shape_of, IsSlotOf}
 use Rattle.seat_table.specs.Told.{Told}
 use Rattle.seat_table.proofs.Going.{goes_from}
-use Rattle.seat_table.proofs.Seized.{HasUnraised, needs_raise, needs_free}
+use Rattle.seat_table.proofs.Seized.{HasUnraised, needs_free}
 use Rattle.node_slots.specs.Slots.{next_life, renewing, PutsBack}
 
 -- what the rule tells of a seat of this table

@@ -1,6 +1,6 @@
 -- A wait for everybody, after which all that is listed goes back.
 use Rattle.std.specs.List.{AllByRecursion}
-use Rattle.std.proofs.Common.{◌≡◌, ◌≢◌, ℕ, zero, suc, ◌+◌, ◌-◌, ◌<◌, ◌≤◌, ◌&&◌, ◌||◌, not, true, false, Bool, cond, List, [], ◌∷◌, ◌++◌, length, map, Some, None, refl, sym, ap, subst, ◌∙◌, ⊎_elim, arith, eq-eqb, append_assoc}
+use Rattle.std.proofs.Common.{◌≡◌, ◌≢◌, ℕ, zero, suc, ◌+◌, ◌-◌, ◌≤◌, ◌&&◌, ◌||◌, not, true, false, Bool, cond, List, [], ◌∷◌, ◌++◌, length, map, Some, None, refl, sym, ap, subst, ◌∙◌, ⊎_elim, arith, eq-eqb, append_assoc}
 use Rattle.std.proofs.lemmas.Bool.{cases_eq, lt-ltb}
 use mathlib.Core.Option.{some}
 use lib.ListN.{get_elem?}
@@ -15,13 +15,11 @@ use Rattle.core_state.specs.declared.shape.Shape.{Shape}
 use Rattle.core_state.specs.declared.view.Retired.{Retired}
 use Rattle.core_state.specs.declared.view.Waiting.{Waiting}
 use Rattle.core_state.specs.declared.view.View.{View}
-use Rattle.core_state.specs.memory.Memory.{slot_count}
 use Rattle.core_state.specs.steps.Slots.{without_retired}
 use Rattle.core_state.specs.steps.Waits.{new_wait, waited_retired, waited_move, is_grace_for}
 use Rattle.core_state.specs.views.Views.{held_list}
 use Rattle.list_laws.specs.Counts.{times, IsIn, Each}
 use Rattle.list_laws.proofs.Lists.{times_here, times_other}
-use Rattle.seat_table.specs.Gains.{TellsNow}
 use Rattle.seat_table.specs.Seats.{unlisted}
 use Rattle.seat_table.specs.Sections.{HasBegun}
 use Rattle.seat_table.specs.Waits.{HasWaited, HasEnded}
@@ -84,7 +82,7 @@ spare_first [] (suc n) (x ∷ xs) few = refl
 spare_first (s ∷ ss) n xs few = refl
 
 -- The wait.
-module _ (k : Shape) (v w : View) (told : TellsNow k v) (waits : HasWaited k v 0 18446744073709551615 w) (settled : v.moving ≡ None) where
+module _ (k : Shape) (v w : View) (waits : HasWaited k v 0 18446744073709551615 w) (settled : v.moving ≡ None) where
   abbrev mid : View
   mid = waits.0
 
@@ -142,11 +140,11 @@ module _ (k : Shape) (v w : View) (told : TellsNow k v) (waits : HasWaited k v 0
       c ∙ ap (λ l. l ++ Ended p v.counts.waits ∷ []) a ∙ append_assoc (own_of p v.seen) (Began p v.counts.waits 0 18446744073709551615 ∷ []) (Ended p v.counts.waits ∷ [])
 
   -- each retired slot was waited for
-  outlasted : (i : ℕ) (r : Retired) → get_elem? v.hands.retired i ≡ some r → (r.slot < slot_count k) × ((waited_retired wait r).waited ≡ true)
+  outlasted : (i : ℕ) (r : Retired) → get_elem? v.hands.retired i ≡ some r → (waited_retired wait r).waited ≡ true
   outlasted i r there =
       let h : List Mark = begun.leaves.before in
       let grace : is_grace_for wait r.unlinked ≡ true = ap (λ (z : Waiting). is_grace_for z r.unlinked) wait_is ∙ ap (λ b. b && true) (lt-ltb r.unlinked (length h) (begun.older i r there)) in
-      (told.tells.retired_within i r there, ap (λ b. r.waited || b) grace ∙ or_true r.waited)
+      ap (λ b. r.waited || b) grace ∙ or_true r.waited
     where
       or_true : (b : Bool) → (b || true) ≡ true
       or_true true = refl
@@ -159,17 +157,16 @@ module _ (k : Shape) (v w : View) (told : TellsNow k v) (waits : HasWaited k v 0
     retired_is : w.hands.retired ≡ retired_then
     retired_is = ap (λ (z : View). z.hands.retired) waited_is
 
-    ready_one : (s : ℕ) → 1 ≤ times s listed → IsReady k w s
+    ready_one : (s : ℕ) → 1 ≤ times s listed → IsReady w s
     ready_one s some_there =
         let there = retired_at s v.hands.retired (let e = same s in omega arith) in
         let r : Retired = there.0 in
         let i : ℕ = (there.1).0 in
-        let old = outlasted i r (there.1).1 in
         let here : get_elem? w.hands.retired i ≡ some (waited_retired wait r) = ap (λ rs. get_elem? rs i) retired_is ∙ at_map (waited_retired wait) v.hands.retired i r (there.1).1 in
-        record { i = i; r = waited_retired wait r; at = (here, there.2); unraised = unraised i r (there.1).1; waited = old.1; inside = subst (λ x. x < slot_count k) there.2 old.0 }
+        record { i = i; r = waited_retired wait r; at = (here, there.2); unraised = unraised i r (there.1).1; waited = outlasted i r (there.1).1 }
 
-    pub ready_all : (n : ℕ) → AreReady k w (first_slots n listed)
-    ready_all n = record { each = first_among n listed (IsReady k w) ready_one }
+    pub ready_all : (n : ℕ) → AreReady w (first_slots n listed)
+    ready_all n = record { each = first_among n listed (IsReady w) ready_one }
 
     slots_then : (rs : List Retired) → slots_in (map (waited_retired wait) rs) ≡ slots_in rs
     slots_then [] = refl

@@ -1,5 +1,5 @@
 -- What the steps of a retired slot that goes back told, one after another.
-use Rattle.std.proofs.Common.{◌≡◌, ◌≢◌, ℕ, ◌+◌, ◌==◌, true, false, cond, List, [], ◌∷◌, Option, Some, None, refl, sym, ap, subst, ◌∙◌, eq-eqb, ne_eqb, inl, inr}
+use Rattle.std.proofs.Common.{◌≡◌, ℕ, ◌+◌, ◌<◌, ◌==◌, true, false, cond, List, [], ◌∷◌, Option, Some, None, refl, sym, ap, subst, ◌∙◌, eq-eqb, ne_eqb, inl, inr}
 use mathlib.Core.Option.{some}
 use lib.ListN.{get_elem?}
 use Rattle.atomic_table.proofs.Lists.{at_map}
@@ -12,12 +12,13 @@ use Rattle.core_state.specs.declared.view.Known.{Known}
 use Rattle.core_state.specs.declared.view.Retired.{Retired}
 use Rattle.core_state.specs.declared.view.View.{View}
 use Rattle.core_state.specs.views.Known.{lock_of, HasLock, note_lock, note_option, note_moving, change_lock}
-use Rattle.core_state.specs.steps.Slots.{change_retired, without_retired, NeedsRaiseRetired, NeedsFreeRetired, after_raise_to_spare, after_raise_retired, after_free_retired, after_count_free}
+use Rattle.core_state.specs.memory.Memory.{slot_count}
+use Rattle.core_state.specs.steps.Slots.{IsRetiredAt, change_retired, without_retired, NeedsRaiseRetired, NeedsFreeRetired, after_raise_to_spare, after_raise_retired, after_free_retired, after_count_free}
 use Rattle.core_acts.specs.declared.act.Act.TheVariants.{LoadRetiredLife, RaiseToSpare, RaiseRetired, FreeRetired, CountFree}
 use Rattle.core_acts.specs.Acts.{noted}
-use Rattle.seat_table.specs.Gains.{Sees}
+use Rattle.seat_table.specs.Gains.{Sees, TellsNow}
 use Rattle.seat_table.specs.Seats.{IsSlotOf}
-use Rattle.seat_table.specs.Told.{Told}
+use Rattle.seat_table.specs.Told.{IsAsked, Told}
 use Rattle.seat_table.proofs.Going.{goes_from}
 use Rattle.seat_table.proofs.Noted.{without_changed}
 use Rattle.node_slots.specs.Slots.{next_life}
@@ -41,7 +42,14 @@ pub some_there : (o : Option Held) (slot : ℕ) → IsSlotOf (Some slot) o → (
 some_there None slot is = absurd is
 some_there (Some held) slot is = (held, refl)
 
-module _ (k : Shape) (v : View) (slot : ℕ) (ready : IsReady k v slot) (unlocked : v.locks ≡ []) (settled : v.moving ≡ None) (life : ℕ) (v1 : View) (first : Told k v (LoadRetiredLife slot) life v1) where
+-- a retired slot is one of the table's
+retired_inside : (k : Shape) (v : View) (i slot : ℕ) (r : Retired) → IsRetiredAt v i r slot → TellsNow k v → slot < slot_count k
+retired_inside k v i slot r at told = subst (λ x. x < slot_count k) at.1 (told.tells.retired_within i r at.0)
+
+pub needs_life : (k : Shape) (v : View) (slot : ℕ) → IsReady v slot → IsAsked k v (LoadRetiredLife slot)
+needs_life k v slot ready = λ told. (retired_inside k v ready.i slot ready.r ready.at told, (ready.i, ready.r, ready.at))
+
+module _ (k : Shape) (v : View) (slot : ℕ) (ready : IsReady v slot) (unlocked : v.locks ≡ []) (settled : v.moving ≡ None) (life : ℕ) (v1 : View) (first : Told k v (LoadRetiredLife slot) life v1) where
   abbrev note : Known
   note = record { field = Life slot; number = life; stored = false }
 
@@ -81,11 +89,13 @@ module _ (k : Shape) (v : View) (slot : ℕ) (ready : IsReady k v slot) (unlocke
       no_lock : ((lock : HeldLock) × (lock_of [] slot ≡ Some lock)) → ⊥
       no_lock has = let e : None ≡ Some has.0 = has.1 in absurd (cc)
 
-  pub needs_spare : v.hands.spare ≡ None → (i life : ℕ) × (r : Retired) × NeedsRaiseRetired v1 i r slot life number × (v1.hands.spare ≡ None)
-  needs_spare none = subst (λ z. (i life : ℕ) × (r : Retired) × NeedsRaiseRetired z i r slot life number × (z.hands.spare ≡ None)) (sym loaded_is) (ready.i, life, to ready.r, raises, none)
+  pub needs_spare : v.hands.spare ≡ None → IsAsked k v1 (RaiseToSpare slot number)
+  needs_spare none = subst (λ z. IsAsked k z (RaiseToSpare slot number)) (sym loaded_is)
+      (λ told. (retired_inside k loaded ready.i slot (to ready.r) raises.retired told, (ready.i, life, to ready.r, raises, none)))
 
-  pub needs_raised : (spare : Held) → v.hands.spare ≡ Some spare → (i life : ℕ) × (r : Retired) × NeedsRaiseRetired v1 i r slot life number × (v1.hands.spare ≢ None)
-  needs_raised spare has = subst (λ z. (i life : ℕ) × (r : Retired) × NeedsRaiseRetired z i r slot life number × (z.hands.spare ≢ None)) (sym loaded_is) (ready.i, life, to ready.r, raises, (λ none. let e : Some spare ≡ None = sym has ∙ none in cc))
+  pub needs_raised : (spare : Held) → v.hands.spare ≡ Some spare → IsAsked k v1 (RaiseRetired slot number)
+  needs_raised spare has = subst (λ z. IsAsked k z (RaiseRetired slot number)) (sym loaded_is)
+      (λ told. (retired_inside k loaded ready.i slot (to ready.r) raises.retired told, (ready.i, life, to ready.r, raises, (λ none. let e : Some spare ≡ None = sym has ∙ none in cc))))
 
   pub becomes_spare : v.hands.spare ≡ None → (w : View) → Told k v1 (RaiseToSpare slot number) number w → BecomesSpare v slot w
   becomes_spare none w second =
@@ -111,16 +121,16 @@ module _ (k : Shape) (v : View) (slot : ℕ) (ready : IsReady k v slot) (unlocke
     raised_is : v2 ≡ raised
     raised_is = goes_from loaded_is second
 
-    pub frees : v.hands.owes ≡ false → (i : ℕ) × (r : Retired) × NeedsFreeRetired v2 i r slot
-    frees paid = subst (λ z. (i : ℕ) × (r : Retired) × NeedsFreeRetired z i r slot) (sym raised_is) (
-      ready.i,
-      raise (to ready.r),
-      record {
-        paid = paid;
-        retired = (at_changed loaded.hands.retired ready.i (to ready.r) slot raise (at_changed v.hands.retired ready.i ready.r slot to ready.at.0 ready.at.1) ready.at.1, ready.at.1);
-        raised = refl;
-      },
-    )
+    frees : v.hands.owes ≡ false → NeedsFreeRetired raised ready.i (raise (to ready.r)) slot
+    frees paid = record {
+      paid = paid;
+      retired = (at_changed loaded.hands.retired ready.i (to ready.r) slot raise (at_changed v.hands.retired ready.i ready.r slot to ready.at.0 ready.at.1) ready.at.1, ready.at.1);
+      raised = refl;
+    }
+
+    pub needs_freed : v.hands.owes ≡ false → IsAsked k v2 (FreeRetired slot)
+    needs_freed paid = subst (λ z. IsAsked k z (FreeRetired slot)) (sym raised_is)
+        (λ told. (retired_inside k raised ready.i slot (raise (to ready.r)) (frees paid).retired told, (ready.i, raise (to ready.r), frees paid)))
 
     pub becomes_free : (spare : Held) → v.hands.spare ≡ Some spare → v.hands.owes ≡ false → (v3 w : View) (found : ℕ) → Told k v2 (FreeRetired slot) 0 v3 → Told k v3 CountFree found w → BecomesFree v slot w
     becomes_free spare has paid v3 w found third fourth =

@@ -64,6 +64,7 @@ module _ (v u w : View) (tried : HasTried v u) where
         trail = record { steps = tried.trail.steps; some = tried.trail.some; trail = e ∙ ap ended_empty tried.trail.trail };
         sees = record { works = sees.works; begins = sees.begins; own = sees.own };
         full = λ settled paid. empty.full (ap (λ (z : View). z.moving) tried.rest ∙ settled) (ap (λ (z : View). z.hands.owes) tried.rest ∙ paid);
+        spare_comes = λ none nothing. empty.spare_comes (ap (λ (z : View). z.hands.spare) (sym empty.rest) ∙ none) (ap (λ (z : View). z.hands.retired) (sym empty.rest) ∙ nothing);
         rest = same ∙ ap change tried.rest;
       }
 

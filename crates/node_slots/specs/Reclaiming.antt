@@ -1,6 +1,6 @@
 -- What giving retired slots back leaves.
 -- Source: docs/TREE.md, "The tree's slots and locks".
-use Rattle.std.specs.Prelude.{◌≡◌, ℕ, zero, suc, ◌+◌, ◌-◌, ◌<◌, ◌⊎◌, true, false, List, [], ◌∷◌, ◌++◌, length, map, Option, Some, None}
+use Rattle.std.specs.Prelude.{◌≡◌, ℕ, zero, suc, ◌+◌, ◌-◌, ◌⊎◌, true, false, List, [], ◌∷◌, ◌++◌, length, map, Option, Some, None}
 use Rattle.std.specs.List.{AllByRecursion}
 use mathlib.Core.List.{IsPrefix}
 use Rattle.prcu_marks.specs.declared.mark.Mark.{Mark}
@@ -10,7 +10,6 @@ use Rattle.core_state.specs.declared.shape.Shape.{Shape}
 use Rattle.core_state.specs.declared.view.Held.{Held}
 use Rattle.core_state.specs.declared.view.Retired.{Retired}
 use Rattle.core_state.specs.declared.view.View.{View}
-use Rattle.core_state.specs.memory.Memory.{slot_count}
 use Rattle.core_state.specs.views.Views.{held_list}
 use Rattle.core_state.specs.steps.Slots.{IsRetiredAt, without_retired, new_spare}
 use Rattle.seat_table.specs.Seats.{unlisted}
@@ -19,16 +18,15 @@ use Rattle.seat_table.specs.Waits.{HasWaited}
 use Rattle.node_slots.specs.Slots.{next_life}
 
 -- The slot is retired, a wait for everybody has ended that was begun since, and its generation wasn't raised.
-pub record IsReady (k : Shape) (v : View) (slot : ℕ) : Type 0 where
+pub record IsReady (v : View) (slot : ℕ) : Type 0 where
   pub i : ℕ
   pub r : Retired
   pub at : IsRetiredAt v i r slot
   pub unraised : r.raised ≡ false
   pub waited : r.waited ≡ true
-  pub inside : slot < slot_count k
 
-pub record AreReady (k : Shape) (v : View) (slots : List ℕ) : Type 0 where
-  pub each : AllByRecursion (IsReady k v) slots
+pub record AreReady (v : View) (slots : List ℕ) : Type 0 where
+  pub each : AllByRecursion (IsReady v) slots
 
 abbrev pub first_of : List ℕ → Option ℕ
 first_of [] = None

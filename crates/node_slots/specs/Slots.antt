@@ -1,6 +1,6 @@
 -- What the calls on one slot leave, and what they found.
 -- Source: docs/TREE.md, "The tree's slots and locks".
-use Rattle.std.specs.Prelude.{◌≡◌, ◌≢◌, ℕ, ◌+◌, ◌-◌, ◌*◌, ◌/◌, ◌≤◌, true, false, ◌∷◌, Some, None}
+use Rattle.std.specs.Prelude.{◌≡◌, ◌≢◌, ℕ, ◌+◌, ◌-◌, ◌*◌, ◌/◌, ◌≤◌, true, false, [], ◌∷◌, Some, None}
 use Rattle.prcu_marks.specs.declared.mark.Mark.TheVariants.{Given, Freed}
 use Rattle.core_state.specs.declared.shape.Shape.{Shape}
 use Rattle.core_state.specs.declared.words.Field.TheVariants.{Free, State, Lock as LockOf, Life}
@@ -29,10 +29,12 @@ Reserved v expected w = w ≡ record v {
   trail = (stepped v K10 Free expected).trail;
 }
 
--- The free count was found as 0. The seat has seen all marks that there were then, and the dictionary is as large as Full asks for.
+-- The free count was found as 0. The seat has seen all marks that there were then, and the dictionary is as large as Full asks for. A place
+-- without a spare has retired some slot, which becomes it.
 pub record FoundEmpty (k : Shape) (v w : View) : Type 0 where
   pub sees : Sees v w.seen
   pub full : v.moving ≡ None → v.hands.owes ≡ false → IsFull k w
+  pub spare_comes : v.hands.spare ≡ None → v.hands.retired ≢ []
   pub rest : w ≡ record v { latest = record v.latest { free = Some 0 }; trail = (stepped v K10 Free 0).trail; seen = w.seen }
 
 -- The free count was found as another number.

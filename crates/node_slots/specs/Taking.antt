@@ -47,11 +47,13 @@ pub record HasReserved (v w : View) : Type 0 where
   pub trail : AddsSome v.trail w.trail
   pub rest : w ≡ record v { allowance = record v.allowance { tickets = v.allowance.tickets - 1 }; hands = record v.hands { reserved = true }; latest = record v.latest { free = w.latest.free }; trail = w.trail }
 
--- The last exchange found 0. The seat has seen all marks that there were then, and the dictionary is as large as Full asks for.
+-- The last exchange found 0. The seat has seen all marks that there were then, and the dictionary is as large as Full asks for. A place
+-- without a spare has retired some slot, which becomes it.
 pub record FoundNone (k : Shape) (v w : View) : Type 0 where
   pub trail : EndsEmpty v.trail w.trail
   pub sees : Sees v w.seen
   pub full : v.moving ≡ None → v.hands.owes ≡ false → IsFull k w
+  pub spare_comes : w.hands.spare ≡ None → w.hands.retired ≢ []
   pub rest : w ≡ record v { latest = record v.latest { free = Some 0 }; trail = w.trail; seen = w.seen }
 
 -- Slots that aren't free were met.

@@ -14,7 +14,7 @@ use std::sync::Wait;
 // Makes a retired slot the spare.
 fn keep_spare<W: WaitWords>(table: &CitrusTable<W>, seat: &mut Seat<W>, slot: u32)
     requires table { seat.old.table ≡ table.now }
-    requires ready { IsReady (shape_of W.WAY table.now) seat.old.view slot }
+    requires ready { IsReady seat.old.view slot }
     requires unlocked { seat.old.view.locks ≡ [] }
     requires settled { seat.old.view.moving ≡ None }
     requires none { seat.old.view.hands.spare ≡ None }
@@ -30,7 +30,7 @@ fn keep_spare<W: WaitWords>(table: &CitrusTable<W>, seat: &mut Seat<W>, slot: u3
 // Frees a retired slot.
 fn free_retired<W: WaitWords>(table: &CitrusTable<W>, seat: &mut Seat<W>, slot: u32)
     requires table { seat.old.table ≡ table.now }
-    requires ready { IsReady (shape_of W.WAY table.now) seat.old.view slot }
+    requires ready { IsReady seat.old.view slot }
     requires unlocked { seat.old.view.locks ≡ [] }
     requires settled { seat.old.view.moving ≡ None }
     requires some { (held : Held) × (seat.old.view.hands.spare ≡ Some held) }
@@ -41,6 +41,7 @@ fn free_retired<W: WaitWords>(table: &CitrusTable<W>, seat: &mut Seat<W>, slot: 
     ensures informed { IsInformed seat.new.view }
 {
     let life = steps::load_retired_life(table, seat, slot);
+    // Before the slot is free, so that every record of it is out of date. docs/TREE.md#what-could-go-wrong
     steps::raise_retired(table, seat, slot, 2 * (life / 2 + 1));
     steps::free_retired(table, seat, slot);
     steps::count_free(table, seat);
@@ -49,7 +50,7 @@ fn free_retired<W: WaitWords>(table: &CitrusTable<W>, seat: &mut Seat<W>, slot: 
 // Gives a retired slot back, which becomes the spare where the place has none.
 fn return_slot<W: WaitWords>(table: &CitrusTable<W>, seat: &mut Seat<W>, slot: u32)
     requires table { seat.old.table ≡ table.now }
-    requires ready { IsReady (shape_of W.WAY table.now) seat.old.view slot }
+    requires ready { IsReady seat.old.view slot }
     requires unlocked { seat.old.view.locks ≡ [] }
     requires settled { seat.old.view.moving ≡ None }
     requires paid { seat.old.view.hands.owes ≡ false }
@@ -76,7 +77,7 @@ fn first_listed<W: WaitWords>(seat: &Seat<W>) -> Option<u32>
 /// back, the seat is informed of it afterwards: no slot is used again that an open reader may meet.
 pub fn give_back<W: WaitWords>(table: &CitrusTable<W>, seat: &mut Seat<W>, count: usize)
     requires table { seat.old.table ≡ table.now }
-    requires ready { AreReady (shape_of W.WAY table.now) seat.old.view (first_slots count seat.old.listed) }
+    requires ready { AreReady seat.old.view (first_slots count seat.old.listed) }
     requires unlocked { seat.old.view.locks ≡ [] }
     requires settled { seat.old.view.moving ≡ None }
     requires paid { seat.old.view.hands.owes ≡ false }
@@ -110,7 +111,7 @@ pub fn reclaim<R: Wait, W: WaitPart>(rt: &R, table: &CitrusTable<W>, seat: &mut 
     ensures view { HasReclaimed (shape_of W.WAY table.now) seat.old.view seat.old.listed seat.new.view }
     ensures informed { IsInformed seat.new.view }
 {
-    seat.rule_tells();
+    // For all keys: a reader may stand at a retired slot whatever its key. docs/TREE.md#the-tree
     wait_for_readers(rt, table, seat, Keys::all());
     let count = seat.retired().len();
     give_back(table, seat, count);

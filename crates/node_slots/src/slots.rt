@@ -24,6 +24,7 @@ pub fn reserve<W: WaitWords>(table: &CitrusTable<W>, seat: &mut Seat<W>, expecte
     ensures view { Reserves (shape_of W.WAY table.now) seat.old.view expected result seat.new.view }
     ensures informed { IsInformed seat.new.view }
     ensures stays { StaysIn (shape_of W.WAY table.now) seat.new.view }
+    ensures within { seat.new.view.allowance.place < table.now.places }
 {
     let found = steps::reserve(table, seat, expected);
     if found == expected {
@@ -69,8 +70,10 @@ pub fn put_back<W: WaitWords>(table: &CitrusTable<W>, seat: &mut Seat<W>)
         unreachable!();
     };
     let life = steps::load_own_life(table, seat, slot);
+    // The generation rises before the slot is free: no record of it may hold once it is another caller's. docs/TREE.md#what-could-go-wrong
     steps::raise_in_hand(table, seat, slot, 2 * (life / 2 + 1));
     steps::free_in_hand(table, seat, slot);
+    // Counted last: a reservation stands for a slot that is free already. docs/TREE_CALLS.md#the-trees-slots-and-locks
     steps::count_free(table, seat);
 }
 

@@ -22,6 +22,7 @@ fn reserve_some<R: Wait, W: WaitWords>(rt: &R, table: &CitrusTable<W>, seat: &mu
     ensures none { result ≡ false → FoundNone (shape_of W.WAY table.now) seat.old.view seat.new.view }
     ensures informed { IsInformed seat.new.view }
     ensures stays { StaysIn (shape_of W.WAY table.now) seat.new.view }
+    ensures within { seat.new.view.allowance.place < table.now.places }
 {
     let backoff = Backoff::new();
     let mut expected = seat.free_seen().max(1);
@@ -56,12 +57,11 @@ fn region(slots: u32, places: u32, place: u32) -> u32
 
 // Where the scan for a free slot begins: after the slot that was seized last, at first in the place's region.
 fn first_slot<W: WaitWords>(table: &CitrusTable<W>, seat: &Seat<W>) -> u32
-    requires table { seat.now.table ≡ table.now }
+    requires within { seat.now.view.allowance.place < table.now.places }
     ensures inside { (1 ≤ result) × (result ≤ table.now.slots + table.now.places) }
 {
     let seized = seat.last_seized();
     if seized == 0 {
-        seat.rule_tells();
         return region(table.slots(), table.places(), seat.place());
     }
     next_slot(seized, table.slots() + table.places())
@@ -75,6 +75,7 @@ fn seize_some<R: Wait, W: WaitWords>(
 ) -> (u32, u64)
     requires table { seat.old.table ≡ table.now }
     requires reserved { seat.old.view.hands.reserved ≡ true }
+    requires within { seat.old.view.allowance.place < table.now.places }
     ensures seat { (seat.new.table ≡ seat.old.table) × (seat.new.listed ≡ seat.old.listed) }
     ensures got { HasGot seat.old.view result.0 result.1 seat.new.view }
     ensures inside { (1 ≤ result.0) × (result.0 ≤ table.now.slots + table.now.places) }

@@ -41,19 +41,16 @@ pub(crate) fn bypass<R: Wait, W: WaitPart>(
     let number = link_past(rt, table, seat, node, key);
     steps::unlock(table, seat, node.node);
     steps::unlock(table, seat, node.parent);
-    seat.rule_tells();
+    // It keeps its links: readers may stand there until a wait for everybody is over. docs/TREE.md#the-tree
     seat.list_retired(node.node);
     number
 }
 
-// The slot to which a link leads, or 0.
-pub(crate) fn slot_of<W: WaitPart>(table: &CitrusTable<W>, link: u64) -> u32
-    requires inside { link < table.now.slots + table.now.places + 1 }
-    ensures { result ≡ link }
+// The slot to which a link leads, or 0. All slots fit 32 bits.
+pub(crate) fn slot_of(link: u64) -> u32
+    ensures { link < 4294967296 → result ≡ link }
 {
-    let last = table.slots() + table.places();
-    prove!(link <= last as u64);
-    link as u32
+    (link % 4294967296) as u32
 }
 
 // The same, under the locks.
@@ -75,12 +72,14 @@ fn link_past<R: Wait, W: WaitPart>(
     ensures stay { (later : List (ℕ × ℕ × Bool)) × (retired_marks seat.new.view ≡ retired_marks seat.old.view ++ later) }
     ensures waits { KeepsWaits seat.old.view seat.new.view }
 {
-    seat.rule_tells();
-    let child = slot_of(table, only_child(node));
+    let child = slot_of(only_child(node));
+    // Marked before it is unlinked: a caller with a record of the node, which gets the lock afterwards, finds it changed.
+    // docs/TREE.md#what-could-go-wrong
     steps::mark(table, seat, node.node, 2 * node.generation);
     let front = open_front(rt, table, seat);
     steps::bypass(table, seat, node.parent, node.side, node.node, child, key);
     let number = close_front(table, seat, front);
+    // Before the lock is given up, so that nobody finds the side empty with its old tag. docs/TREE.md#the-tree
     settle_side(table, seat, node.parent, node.side, child);
     number
 }

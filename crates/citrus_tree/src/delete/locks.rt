@@ -68,6 +68,7 @@ pub(crate) fn lock_target<W: WaitPart>(
     ensures same { KeepsRest seat.old.view seat.new.view }
 {
     for at in 0..lock_count(target) {
+        // Tried, and not waited for: deletes lock in any order, and a walk that was overtaken may name a slot twice. docs/DECISIONS.md, 72
         if steps::lock(table, seat, lock_at(target, at)) != 0 {
             unlock_first(table, seat, target, at);
             return false;
@@ -128,6 +129,7 @@ pub(crate) fn validate<W: WaitPart>(
     ensures locked { HasLocks (first_locks target.now (target_locks target.now)) seat.new.view }
     ensures same { KeepsAll seat.old.view seat.new.view }
 {
+    // What the section saw may have changed until the last lock was taken. docs/TREE.md#the-tree
     let found = load_found(table, seat, target);
     if !holds(target, &found) {
         return None;

@@ -16,7 +16,6 @@ ghost use Rattle.tree_points.specs.Progress.{HasGone};
 ghost use Rattle.citrus_tree.specs.Deletes.{StandsAt, Comes, KeepsAll, KeepsRest, KeepsWaits, HasDeleted, HasCopied, AreLivesSmall, locked_slots, retired_slots};
 ghost use Rattle.citrus_tree.specs.Gone.{KeepsSlots, KeepsWait};
 
-use crate::answer::rule_tells;
 use crate::commit::{close_front, open_front};
 use crate::delete::bypass::{settle_side, slot_of};
 use crate::delete::locks::unlock_target;
@@ -56,6 +55,8 @@ pub(crate) fn shift<R: Wait, W: WaitPart, G: Gate>(
         unreachable!()
     };
     let next_key = fill_copy(table, seat, node, successor, copy);
+    // Locked, so that nobody parts the copy from the old successor. A caller with an old record of the slot may hold it.
+    // docs/TREE.md#what-could-go-wrong
     if steps::lock(table, seat, copy) != 0 {
         let target = Target {
             node,
@@ -167,6 +168,7 @@ fn finish<R: Wait, W: WaitPart, G: Gate>(
     requires small { 2 * moving.successor.generation < 2 ^ 64 }
     requires listed { (slot : ℕ) → times slot seat.old.listed + times slot (moving.node.node ∷ []) ≡ times slot (retired_slots seat.old.view) }
     requires few { length seat.old.listed < 15 }
+    requires above { key < moving.next_key }
     ensures table { seat.new.table ≡ seat.old.table }
     ensures done { (kept : ℕ) → IsAt (shape_of W.WAY table.now) (Del key) kept (at.Begin (waits.Move moving)) seat.old.view → IsDone (shape_of W.WAY table.now) (Del key) kept seat.new.view }
     ensures waited { HasGone seat.old.view seat.new.view (Began seat.old.view.allowance.place seat.old.view.counts.waits (key + 1) moving.next_key ∷ (Ended seat.old.view.allowance.place seat.old.view.counts.waits ∷ [])) }
@@ -175,11 +177,10 @@ fn finish<R: Wait, W: WaitPart, G: Gate>(
     ensures listed { AreListed seat.new }
     ensures informed { IsInformed seat.new.view }
 {
-    seat.rule_tells();
+    // Between the copy's link and the unlinking: earlier readers may be on their way to the old successor. docs/TREE.md#the-tree
     wait_in_grace(rt, table, seat, gate, Keys::between(key, moving.next_key));
     unlink_old(table, seat, moving);
     unlock_all(table, seat, moving);
-    seat.rule_tells();
     seat.list_retired(moving.node.node);
     seat.list_retired(moving.successor.slot);
 }
@@ -231,8 +232,7 @@ fn unlink_old<W: WaitPart>(table: &CitrusTable<W>, seat: &mut Seat<W>, moving: M
         successor.slot,
         Part::Link { side: Side::Right },
     );
-    seat.rule_tells();
-    let child = slot_of(table, right);
+    let child = slot_of(right);
     if successor.parent == node.node {
         steps::unlink_right(table, seat, moving.copy, successor.slot, child);
         settle_side(table, seat, moving.copy, Side::Right, child);

@@ -8,9 +8,9 @@ ghost use Rattle.seat_table.specs.Gains.{IsInformed, StoodInside};
 ghost use Rattle.seat_table.specs.Seats.{shape_of};
 ghost use Rattle.tree_points.specs.At.{IsAt, IsDone};
 ghost use Rattle.citrus_tree.specs.Deletes.{StandsAt, Comes, KeepsAll, HasSearched, walked_to};
+ghost use Rattle.citrus_tree.specs.Going.{MayBegin};
 ghost use Rattle.citrus_tree.specs.Replies.{WasAnswered};
 
-use crate::answer::rule_tells;
 use crate::descent::{Descent, descend};
 use core_points::stage::{Node, Successor, Target};
 use core_state::generation_of;
@@ -27,10 +27,10 @@ pub(crate) fn find_target<R: Wait, W: WaitPart, G: Gate>(
     key: u64,
 ) -> Option<Target>
     requires table { seat.old.table ≡ table.now }
-    requires at { (kept : ℕ) × IsAt (shape_of W.WAY table.now) (Del key) kept at.EnterClock seat.old.view }
+    requires at { (kept : ℕ) × MayBegin (shape_of W.WAY table.now) (Del key) kept seat.old.view }
     ensures seat { (seat.new.table ≡ seat.old.table) × (seat.new.listed ≡ seat.old.listed) }
-    ensures found { IfSome result (λ target. (kept : ℕ) → IsAt (shape_of W.WAY table.now) (Del key) kept at.EnterClock seat.old.view → IsAt (shape_of W.WAY table.now) (Del key) kept (at.TargetLock target 0) seat.new.view) }
-    ensures done { IfNone result ((kept : ℕ) → IsAt (shape_of W.WAY table.now) (Del key) kept at.EnterClock seat.old.view → IsDone (shape_of W.WAY table.now) (Del key) kept seat.new.view) }
+    ensures found { IfSome result (λ target. (kept : ℕ) → MayBegin (shape_of W.WAY table.now) (Del key) kept seat.old.view → IsAt (shape_of W.WAY table.now) (Del key) kept (at.TargetLock target 0) seat.new.view) }
+    ensures done { IfNone result ((kept : ℕ) → MayBegin (shape_of W.WAY table.now) (Del key) kept seat.old.view → IsDone (shape_of W.WAY table.now) (Del key) kept seat.new.view) }
     ensures absent { IfNone result (WasAnswered seat.old.view key None seat.new.view) }
     ensures searched { HasSearched seat.old.view key seat.new.view }
     ensures informed { IsInformed seat.new.view }
@@ -38,7 +38,6 @@ pub(crate) fn find_target<R: Wait, W: WaitPart, G: Gate>(
     match descend(rt, table, seat, gate, key) {
         Descent::Found { slot, parent, side } => {
             let target = load_target(rt, table, seat, parent, side, slot);
-            rule_tells(table, seat);
             W::leave(table, seat);
             Some(target)
         }
@@ -62,6 +61,7 @@ fn load_target<R: Wait, W: WaitPart>(
     requires at { StandsAt (shape_of W.WAY table.now) (at.ParentLife parent side slot) seat.old.view }
     ensures seat { (seat.new.table ≡ seat.old.table) × (seat.new.listed ≡ seat.old.listed) }
     ensures at { Comes (shape_of W.WAY table.now) (at.ParentLife parent side slot) seat.old.view (at.Leave (next.Delete result)) seat.new.view }
+    ensures inside { StoodInside (shape_of W.WAY table.now) seat.new.view }
     ensures same { KeepsAll seat.old.view seat.new.view }
 {
     let node = load_node(table, seat, parent, side, slot);
@@ -148,6 +148,7 @@ fn load_successor<W: WaitPart>(
     requires at { StandsAt (shape_of W.WAY table.now) (past_left node (walked_to parent slot) 0) seat.old.view }
     ensures seat { (seat.new.table ≡ seat.old.table) × (seat.new.listed ≡ seat.old.listed) }
     ensures at { Comes (shape_of W.WAY table.now) (past_left node (walked_to parent slot) 0) seat.old.view (at.Leave (next.Delete (record { node = node; successor = Some result }))) seat.new.view }
+    ensures inside { StoodInside (shape_of W.WAY table.now) seat.new.view }
     ensures same { KeepsAll seat.old.view seat.new.view }
 {
     let parent_generation = load_above(table, seat, node, parent, slot);

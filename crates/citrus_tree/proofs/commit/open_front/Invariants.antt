@@ -8,5 +8,10 @@ use Rattle.citrus_tree.proofs.Committing.{Tried}
 use Rattle.citrus_tree.proofs.commit.open_front.Given as goal
 
 abbrev pub invariant-loop : goal.invariant-loop
-invariant-loop g l = (l.seat.table ≡ l.fn.seat.table) × (l.seat.listed ≡ l.fn.seat.listed) × (l.expected % 2 ≡ 0) × Tried l.fn.seat.view l.seat.view
-    × ((op : Op) (kept e : ℕ) (u : Update) → IsAt (shape_of g.W.WaitWords.WAY l.table) op kept (at.Commit u e) l.fn.seat.view → IsAt (shape_of g.W.WaitWords.WAY l.table) op kept (at.Commit u l.expected) l.seat.view)
+invariant-loop g l = record {
+  table : l.seat.table ≡ l.fn.seat.table;
+  listed : l.seat.listed ≡ l.fn.seat.listed;
+  even : l.expected % 2 ≡ 0;
+  tried : Tried l.fn.seat.view l.seat.view;
+  at : (op : Op) (kept e : ℕ) (u : Update) → IsAt (shape_of g.W.WaitWords.WAY l.table) op kept (at.Commit u e) l.fn.seat.view → IsAt (shape_of g.W.WaitWords.WAY l.table) op kept (at.Commit u l.expected) l.seat.view;
+}

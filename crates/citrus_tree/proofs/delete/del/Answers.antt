@@ -1,4 +1,4 @@
-use Rattle.citrus_tree.proofs.DeleteTries.{dels, ends_quiet, ends_tickets, keeps_wait}
+use Rattle.citrus_tree.proofs.deletes.Tries.{dels, ends_quiet, ends_tickets, keeps_wait}
 use Rattle.citrus_tree.proofs.KeepingSlots.{slots_on}
 use Rattle.citrus_tree.proofs.delete.del.Goals as goal
 
@@ -16,3 +16,6 @@ returns-clause-slots g c = slots_on c.args.seat.now c.make_room.new.seat c.delet
 
 pub returns-clause-wait : goal.returns-clause-wait
 returns-clause-wait g c = keeps_wait c.make_room.ensures.room c.args.key c.delete-told.new.seat.view c.delete-told.ensures.wait
+
+pub delete-told-requires-clause-at : goal.delete-told-requires-clause-at
+delete-told-requires-clause-at g c = (0, c.make_room.ensures.at c.args.key 0 c.ranges.key.fits c.requires.tickets)

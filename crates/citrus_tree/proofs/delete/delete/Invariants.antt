@@ -1,8 +1,13 @@
 use Rattle.std.proofs.Common.{◌≡◌}
 use Rattle.seat_table.specs.Seats.{AreListed, shape_of}
 use Rattle.citrus_tree.specs.Gone.{KeepsSlots}
-use Rattle.citrus_tree.proofs.DeleteTries.{TriesToDelete}
+use Rattle.citrus_tree.proofs.deletes.Tries.{TriesToDelete}
 use Rattle.citrus_tree.proofs.delete.delete.Given as goal
 
 abbrev pub invariant-loop : goal.invariant-loop
-invariant-loop g l = (l.seat.table ≡ l.fn.seat.table) × AreListed l.seat × TriesToDelete (shape_of g.W.WaitWords.WAY l.table) l.key l.fn.seat.view l.seat.view × KeepsSlots l.fn.seat l.seat
+invariant-loop g l = record {
+  table : l.seat.table ≡ l.fn.seat.table;
+  listed : AreListed l.seat;
+  tries : TriesToDelete (shape_of g.W.WaitWords.WAY l.table) l.key l.fn.seat.view l.seat.view;
+  slots : KeepsSlots l.fn.seat l.seat;
+}

@@ -1,7 +1,7 @@
 use Rattle.std.proofs.Common.{◌<◌, ◌≤◌, length, sym, ap, ◌∙◌, inl, arith}
 use Rattle.node_slots.proofs.Listed.{listed_length}
 use Rattle.tree_points.proofs.Ends.{none_raised}
-use Rattle.citrus_tree.proofs.DeleteRoom.{given_spare, ready_at_once, ready_reclaimed, room_reclaimed}
+use Rattle.citrus_tree.proofs.deletes.Room.{given_spare, ready_at_once, ready_reclaimed, room_reclaimed}
 use Rattle.citrus_tree.proofs.KeepingSlots.{slots_reclaimed, slots_self}
 use Rattle.citrus_tree.proofs.delete.make_room.Goals as goal
 
@@ -11,7 +11,7 @@ reclaim-requires-clause-unraised g c = none_raised c.args.seat.now.view.hands.re
 pub returns-then-retired-ge15-clause-at : goal.returns-then-retired-ge15-clause-at
 returns-then-retired-ge15-clause-at g c =
     let many : 15 ≤ length c.args.seat.now.view.hands.retired = (let a = c.if-retired-ge15.true in let b = ap length c.retired.ensures in let e = listed_length c.args.seat.now c.requires.quiet.listed in omega arith) in
-    ready_reclaimed c.requires.quiet.view c.works.ensures c.rule_tells.ensures many c.requires.quiet.listed.each c.reclaim.ensures.view
+    ready_reclaimed c.requires.quiet.view many c.requires.quiet.listed.each c.reclaim.ensures.view
 
 pub returns-then-retired-ge15-clause-room : goal.returns-then-retired-ge15-clause-room
 returns-then-retired-ge15-clause-room g c =
@@ -21,7 +21,7 @@ returns-then-retired-ge15-clause-room g c =
 pub returns-then-is_some-clause-at : goal.returns-then-is_some-clause-at
 returns-then-is_some-clause-at g c =
     let few : length c.args.seat.now.view.hands.retired < 15 = (let a = c.if-retired-ge15.false in let b = ap length c.retired.ensures in let e = listed_length c.args.seat.now c.requires.quiet.listed in omega arith) in
-    ready_at_once c.requires.quiet.view c.works.ensures c.rule_tells.ensures few (given_spare c.spare.result c.args.seat.now.view.hands.spare c.spare.ensures (sym c.is_some.ensures ∙ c.if-is_some.true))
+    ready_at_once c.requires.quiet.view few (given_spare c.spare.result c.args.seat.now.view.hands.spare c.spare.ensures (sym c.is_some.ensures ∙ c.if-is_some.true))
 
 pub take_spare-requires-clause-few : goal.take_spare-requires-clause-few
 take_spare-requires-clause-few g c =

@@ -4,8 +4,8 @@ use Rattle.core_points.specs.Programs.{deleting}
 use Rattle.seat_table.specs.Seats.{shape_of}
 use Rattle.tree_points.specs.At.{IsAt}
 use Rattle.tree_points.proofs.Gone.{gone_on}
-use Rattle.citrus_tree.proofs.DeleteKeeps.{rest_of}
-use Rattle.citrus_tree.proofs.DeletePieces.{deleted_later, bypass_deletes, if_some, if_none}
+use Rattle.citrus_tree.proofs.deletes.Keeping.{rest_of}
+use Rattle.citrus_tree.proofs.deletes.Pieces.{deleted_later, bypass_deletes, if_some, if_none}
 use Rattle.citrus_tree.proofs.KeepingSlots.{rest_slots, slots_on, slots_rest}
 use Rattle.citrus_tree.proofs.KeepingWaits.{none_begun, wait_later}
 use Rattle.citrus_tree.proofs.delete.take_out.Goals as goal

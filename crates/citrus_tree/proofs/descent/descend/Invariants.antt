@@ -6,4 +6,9 @@ use Rattle.citrus_tree.specs.Lookups.{IsSearching}
 use Rattle.citrus_tree.proofs.descent.descend.Given as goal
 
 abbrev pub invariant-loop : goal.invariant-loop
-invariant-loop g l = (l.seat.table ≡ l.fn.seat.table) × (l.seat.listed ≡ l.fn.seat.listed) × IsSlot (shape_of g.W.WaitWords.WAY l.table) l.at × IsSearching l.fn.seat.view l.key (At l.at l.side) l.seat.view
+invariant-loop g l = record {
+  table : l.seat.table ≡ l.fn.seat.table;
+  listed : l.seat.listed ≡ l.fn.seat.listed;
+  slot : IsSlot (shape_of g.W.WaitWords.WAY l.table) l.at;
+  searching : IsSearching l.fn.seat.view l.key (At l.at l.side) l.seat.view;
+}

@@ -1,7 +1,7 @@
 use Rattle.std.proofs.Common.{sym, subst}
 use Rattle.seat_table.specs.Gains.{IsSlot}
 use Rattle.seat_table.specs.Seats.{shape_of}
-use Rattle.citrus_tree.proofs.Searching.{looked_there_as}
+use Rattle.citrus_tree.proofs.searches.Searching.{looked_there_as}
 use Rattle.citrus_tree.proofs.insert.find_spot.Goals as goal
 
 pub returns-in-Found-clause-searched : goal.returns-in-Found-clause-searched

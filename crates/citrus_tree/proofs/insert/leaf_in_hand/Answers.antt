@@ -1,4 +1,4 @@
-use Rattle.citrus_tree.proofs.Filling.{room_goes}
+use Rattle.citrus_tree.proofs.puts.Filling.{room_goes}
 use Rattle.std.proofs.Common.{[]}
 use Rattle.citrus_tree.proofs.KeepingSlots.{goes_slots}
 use Rattle.citrus_tree.proofs.insert.leaf_in_hand.Goals as goal

@@ -2,98 +2,103 @@ use Rattle.std.proofs.Common.{[], refl, sym, subst, ◌∙◌}
 use Rattle.prcu_model.specs.declared.operation.Told.{Told}
 use Rattle.seat_table.specs.Seats.{shape_of}
 use Rattle.citrus_tree.specs.Replies.{Puts}
-use Rattle.citrus_tree.proofs.Inserting.{begins, outside, unlocked, may_give_up, old_retired, old_puts, old_wait, old_quiet, old_tickets, may_take_leaf, spot_retired, full_puts, full_wait, full_quiet, full_tickets, may_link, tries_again, new_goes, new_puts, new_retired, new_wait, new_quiet, new_tickets}
-use Rattle.citrus_tree.proofs.Replacing.{listed_on}
+use Rattle.citrus_tree.proofs.puts.Inserting.{begins, outside, unlocked, may_give_up, old_retired, old_puts, old_wait, old_quiet, old_tickets, may_take_leaf, spot_retired, full_puts, full_wait, full_quiet, full_tickets, may_link, tries_again, new_goes, new_puts, new_retired, new_wait, new_quiet, new_tickets}
+use Rattle.citrus_tree.proofs.sets.Replacing.{listed_on}
 use Rattle.citrus_tree.proofs.KeepingSlots.{goes_slots, slots_on, slots_self}
 use Rattle.citrus_tree.proofs.Leavings.{goes_looked}
 use Rattle.citrus_tree.proofs.insert.put.Goals as goal
 
 pub loop-init : goal.loop-init
-loop-init g c = (refl, c.requires.quiet.listed, begins c.requires.quiet.view c.works.ensures c.rule_tells.ensures c.ranges.key.fits, slots_self c.args.seat.now)
+loop-init g c = record {
+  table = refl;
+  listed = c.requires.quiet.listed;
+  tries = begins c.requires.quiet.view c.ranges.key.fits;
+  slots = slots_self c.args.seat.now;
+}
 
 pub find_spot-requires-clause-outside : goal.find_spot-requires-clause-outside
-find_spot-requires-clause-outside g c = outside c.loop.invariant.2 c.requires.tickets
+find_spot-requires-clause-outside g c = outside c.loop.invariant.tries c.requires.tickets
 
 pub find_spot-requires-clause-unlocked : goal.find_spot-requires-clause-unlocked
-find_spot-requires-clause-unlocked g c = unlocked c.loop.invariant.2 c.requires.tickets
+find_spot-requires-clause-unlocked g c = unlocked c.loop.invariant.tries c.requires.tickets
 
 pub give_up_leaf-requires-clause-at : goal.give_up_leaf-requires-clause-at
-give_up_leaf-requires-clause-at g c = may_give_up c.loop.invariant.2 c.requires.tickets c.in_default.ensures.searched
+give_up_leaf-requires-clause-at g c = may_give_up c.loop.invariant.tries c.requires.tickets c.find_spot.ensures.place c.in_default.ensures.searched
 
 pub give_up_leaf-requires-clause-informed : goal.give_up_leaf-requires-clause-informed
 give_up_leaf-requires-clause-informed g c = c.in_default.ensures.searched.1.informed
 
 pub returns-in_default-clause-puts : goal.returns-in_default-clause-puts
 returns-in_default-clause-puts g c = subst (λ (r : Told). Puts (shape_of g.W.WaitWords.WAY c.args.table.now) c.args.seat.now.view c.args.key c.args.value r c.give_up_leaf.new.seat.view) (sym c.answered.ensures)
-    (old_puts c.loop.invariant.2 c.requires.tickets c.in_default.ensures.searched c.give_up_leaf.ensures.goes)
+    (old_puts c.loop.invariant.tries c.requires.tickets c.find_spot.ensures.place c.in_default.ensures.searched c.give_up_leaf.ensures.goes)
 
 pub returns-in_default-clause-quiet : goal.returns-in_default-clause-quiet
 returns-in_default-clause-quiet g c = record {
-  view = old_quiet c.loop.invariant.2 c.requires.tickets c.in_default.ensures.searched c.give_up_leaf.ensures.goes c.give_up_leaf.ensures.at;
-  listed = listed_on c.loop.seat c.give_up_leaf.new.seat (c.give_up_leaf.ensures.seat.1 ∙ c.find_spot.ensures.seat.1) (c.give_up_leaf.ensures.goes.retired ∙ old_retired c.loop.invariant.2 c.requires.tickets c.in_default.ensures.searched) c.loop.invariant.1;
+  view = old_quiet c.loop.invariant.tries c.requires.tickets c.find_spot.ensures.place c.in_default.ensures.searched c.give_up_leaf.ensures.goes c.give_up_leaf.ensures.at;
+  listed = listed_on c.loop.seat c.give_up_leaf.new.seat (c.give_up_leaf.ensures.seat.1 ∙ c.find_spot.ensures.seat.1) (c.give_up_leaf.ensures.goes.retired ∙ old_retired c.loop.invariant.tries c.requires.tickets c.find_spot.ensures.place c.in_default.ensures.searched) c.loop.invariant.listed;
 }
 
 pub returns-in_default-clause-wait : goal.returns-in_default-clause-wait
-returns-in_default-clause-wait g c = old_wait c.loop.invariant.2 c.requires.tickets c.in_default.ensures.searched c.give_up_leaf.ensures.goes
+returns-in_default-clause-wait g c = old_wait c.loop.invariant.tries c.requires.tickets c.find_spot.ensures.place c.in_default.ensures.searched c.give_up_leaf.ensures.goes
 
 pub returns-in_default-clause-tickets : goal.returns-in_default-clause-tickets
-returns-in_default-clause-tickets g c = old_tickets c.loop.invariant.2 c.requires.tickets c.in_default.ensures.searched c.give_up_leaf.ensures.goes c.give_up_leaf.ensures.at
+returns-in_default-clause-tickets g c = old_tickets c.loop.invariant.tries c.requires.tickets c.find_spot.ensures.place c.in_default.ensures.searched c.give_up_leaf.ensures.goes c.give_up_leaf.ensures.at
 
 pub leaf_in_hand-requires-clause-listed : goal.leaf_in_hand-requires-clause-listed
-leaf_in_hand-requires-clause-listed g c = listed_on c.loop.seat c.find_spot.new.seat c.find_spot.ensures.seat.1 (spot_retired c.loop.invariant.2 c.requires.tickets c.in-Some-find_spot.spot c.in-Some-find_spot.ensures.searched) c.loop.invariant.1
+leaf_in_hand-requires-clause-listed g c = listed_on c.loop.seat c.find_spot.new.seat c.find_spot.ensures.seat.1 (spot_retired c.loop.invariant.tries c.requires.tickets c.find_spot.ensures.place c.in-Some-find_spot.spot c.in-Some-find_spot.ensures.searched) c.loop.invariant.listed
 
 pub leaf_in_hand-requires-clause-at : goal.leaf_in_hand-requires-clause-at
-leaf_in_hand-requires-clause-at g c = may_take_leaf c.loop.invariant.2 c.requires.tickets c.in-Some-find_spot.spot c.in-Some-find_spot.ensures.searched
+leaf_in_hand-requires-clause-at g c = may_take_leaf c.loop.invariant.tries c.requires.tickets c.find_spot.ensures.place c.in-Some-find_spot.spot c.in-Some-find_spot.ensures.searched
 
 pub returns-in_default-leaf_in_hand-clause-puts : goal.returns-in_default-leaf_in_hand-clause-puts
 returns-in_default-leaf_in_hand-clause-puts g c = subst (λ (r : Told). Puts (shape_of g.W.WaitWords.WAY c.args.table.now) c.args.seat.now.view c.args.key c.args.value r c.leaf_in_hand.new.seat.view) (sym c.answered-in_default-leaf_in_hand.ensures)
-    (full_puts c.loop.invariant.2 c.requires.tickets c.in-Some-find_spot.spot c.in-Some-find_spot.ensures.searched c.in_default-leaf_in_hand.ensures.room (c.in_default-leaf_in_hand.ensures.full refl))
+    (full_puts c.loop.invariant.tries c.requires.tickets c.find_spot.ensures.place c.in-Some-find_spot.spot c.in-Some-find_spot.ensures.searched c.in_default-leaf_in_hand.ensures.room (c.in_default-leaf_in_hand.ensures.full refl))
 
 pub returns-in_default-leaf_in_hand-clause-quiet : goal.returns-in_default-leaf_in_hand-clause-quiet
-returns-in_default-leaf_in_hand-clause-quiet g c = record { view = full_quiet c.loop.invariant.2 c.requires.tickets c.in-Some-find_spot.spot c.in-Some-find_spot.ensures.searched c.in_default-leaf_in_hand.ensures.room c.in_default-leaf_in_hand.ensures.at; listed = c.in_default-leaf_in_hand.ensures.listed }
+returns-in_default-leaf_in_hand-clause-quiet g c = record { view = full_quiet c.loop.invariant.tries c.requires.tickets c.find_spot.ensures.place c.in-Some-find_spot.spot c.in-Some-find_spot.ensures.searched c.in_default-leaf_in_hand.ensures.room c.in_default-leaf_in_hand.ensures.at; listed = c.in_default-leaf_in_hand.ensures.listed }
 
 pub returns-in_default-leaf_in_hand-clause-wait : goal.returns-in_default-leaf_in_hand-clause-wait
-returns-in_default-leaf_in_hand-clause-wait g c = full_wait c.loop.invariant.2 c.requires.tickets c.in-Some-find_spot.spot c.in-Some-find_spot.ensures.searched c.in_default-leaf_in_hand.ensures.room
+returns-in_default-leaf_in_hand-clause-wait g c = full_wait c.loop.invariant.tries c.requires.tickets c.find_spot.ensures.place c.in-Some-find_spot.spot c.in-Some-find_spot.ensures.searched c.in_default-leaf_in_hand.ensures.room
 
 pub returns-in_default-leaf_in_hand-clause-tickets : goal.returns-in_default-leaf_in_hand-clause-tickets
-returns-in_default-leaf_in_hand-clause-tickets g c = full_tickets c.loop.invariant.2 c.requires.tickets c.in-Some-find_spot.spot c.in-Some-find_spot.ensures.searched c.in_default-leaf_in_hand.ensures.room c.in_default-leaf_in_hand.ensures.at
+returns-in_default-leaf_in_hand-clause-tickets g c = full_tickets c.loop.invariant.tries c.requires.tickets c.find_spot.ensures.place c.in-Some-find_spot.spot c.in-Some-find_spot.ensures.searched c.in_default-leaf_in_hand.ensures.room c.in_default-leaf_in_hand.ensures.at
 
 pub link_leaf-requires-clause-at : goal.link_leaf-requires-clause-at
-link_leaf-requires-clause-at g c = may_link c.loop.invariant.2 c.requires.tickets c.in-Some-find_spot.spot c.in-Some-find_spot.ensures.searched c.in-Some-leaf_in_hand.ensures.room c.in-Some-leaf_in_hand.ensures.at
+link_leaf-requires-clause-at g c = may_link c.loop.invariant.tries c.requires.tickets c.find_spot.ensures.place c.in-Some-find_spot.spot c.in-Some-find_spot.ensures.searched c.in-Some-leaf_in_hand.ensures.room c.in-Some-leaf_in_hand.ensures.at
 
 pub returns-in-Some-link_leaf-clause-puts : goal.returns-in-Some-link_leaf-clause-puts
 returns-in-Some-link_leaf-clause-puts g c = subst (λ (r : Told). Puts (shape_of g.W.WaitWords.WAY c.args.table.now) c.args.seat.now.view c.args.key c.args.value r c.link_leaf.new.seat.view) (sym c.answered-in-Some-link_leaf.ensures)
-    (new_puts c.loop.invariant.2 c.requires.tickets c.in-Some-find_spot.spot c.in-Some-find_spot.ensures.searched c.in-Some-leaf_in_hand.ensures.room c.in-Some-leaf_in_hand.ensures.at c.in-Some-link_leaf.number c.in-Some-link_leaf.ensures.linked)
+    (new_puts c.loop.invariant.tries c.requires.tickets c.find_spot.ensures.place c.in-Some-find_spot.spot c.in-Some-find_spot.ensures.searched c.in-Some-leaf_in_hand.ensures.room c.in-Some-leaf_in_hand.ensures.at c.in-Some-link_leaf.number c.in-Some-link_leaf.ensures.linked)
 
 pub returns-in-Some-link_leaf-clause-quiet : goal.returns-in-Some-link_leaf-clause-quiet
 returns-in-Some-link_leaf-clause-quiet g c = record {
-  view = new_quiet c.loop.invariant.2 c.requires.tickets c.in-Some-find_spot.spot c.in-Some-find_spot.ensures.searched c.in-Some-leaf_in_hand.ensures.room c.in-Some-leaf_in_hand.ensures.at c.in-Some-link_leaf.number c.in-Some-link_leaf.ensures.linked c.in-Some-link_leaf.ensures.at;
-  listed = listed_on c.leaf_in_hand.new.seat c.link_leaf.new.seat c.link_leaf.ensures.seat.1 (new_retired c.loop.invariant.2 c.requires.tickets c.in-Some-find_spot.spot c.in-Some-find_spot.ensures.searched c.in-Some-leaf_in_hand.ensures.room c.in-Some-leaf_in_hand.ensures.at c.in-Some-link_leaf.number c.in-Some-link_leaf.ensures.linked) c.leaf_in_hand.ensures.listed;
+  view = new_quiet c.loop.invariant.tries c.requires.tickets c.find_spot.ensures.place c.in-Some-find_spot.spot c.in-Some-find_spot.ensures.searched c.in-Some-leaf_in_hand.ensures.room c.in-Some-leaf_in_hand.ensures.at c.in-Some-link_leaf.number c.in-Some-link_leaf.ensures.linked c.in-Some-link_leaf.ensures.at;
+  listed = listed_on c.leaf_in_hand.new.seat c.link_leaf.new.seat c.link_leaf.ensures.seat.1 (new_retired c.loop.invariant.tries c.requires.tickets c.find_spot.ensures.place c.in-Some-find_spot.spot c.in-Some-find_spot.ensures.searched c.in-Some-leaf_in_hand.ensures.room c.in-Some-leaf_in_hand.ensures.at c.in-Some-link_leaf.number c.in-Some-link_leaf.ensures.linked) c.leaf_in_hand.ensures.listed;
 }
 
 pub returns-in-Some-link_leaf-clause-wait : goal.returns-in-Some-link_leaf-clause-wait
-returns-in-Some-link_leaf-clause-wait g c = new_wait c.loop.invariant.2 c.requires.tickets c.in-Some-find_spot.spot c.in-Some-find_spot.ensures.searched c.in-Some-leaf_in_hand.ensures.room c.in-Some-leaf_in_hand.ensures.at c.in-Some-link_leaf.number c.in-Some-link_leaf.ensures.linked
+returns-in-Some-link_leaf-clause-wait g c = new_wait c.loop.invariant.tries c.requires.tickets c.find_spot.ensures.place c.in-Some-find_spot.spot c.in-Some-find_spot.ensures.searched c.in-Some-leaf_in_hand.ensures.room c.in-Some-leaf_in_hand.ensures.at c.in-Some-link_leaf.number c.in-Some-link_leaf.ensures.linked
 
 pub returns-in-Some-link_leaf-clause-tickets : goal.returns-in-Some-link_leaf-clause-tickets
-returns-in-Some-link_leaf-clause-tickets g c = new_tickets c.loop.invariant.2 c.requires.tickets c.in-Some-find_spot.spot c.in-Some-find_spot.ensures.searched c.in-Some-leaf_in_hand.ensures.room c.in-Some-leaf_in_hand.ensures.at c.in-Some-link_leaf.number c.in-Some-link_leaf.ensures.linked c.in-Some-link_leaf.ensures.at
+returns-in-Some-link_leaf-clause-tickets g c = new_tickets c.loop.invariant.tries c.requires.tickets c.find_spot.ensures.place c.in-Some-find_spot.spot c.in-Some-find_spot.ensures.searched c.in-Some-leaf_in_hand.ensures.room c.in-Some-leaf_in_hand.ensures.at c.in-Some-link_leaf.number c.in-Some-link_leaf.ensures.linked c.in-Some-link_leaf.ensures.at
 
 pub loop-preserved : goal.loop-preserved
-loop-preserved g c = (
-  c.link_leaf.ensures.seat.0 ∙ c.leaf_in_hand.ensures.table ∙ c.find_spot.ensures.seat.0 ∙ c.loop.invariant.0,
-  listed_on c.leaf_in_hand.new.seat c.link_leaf.new.seat c.link_leaf.ensures.seat.1 (c.in_default-link_leaf.ensures.again refl).retired c.leaf_in_hand.ensures.listed,
-  tries_again c.loop.invariant.2 c.requires.tickets c.in-Some-find_spot.spot c.in-Some-find_spot.ensures.searched c.in-Some-leaf_in_hand.ensures.room c.in-Some-leaf_in_hand.ensures.at (c.in_default-link_leaf.ensures.again refl) c.in_default-link_leaf.ensures.at,
-  goes_slots c.args.seat.now c.leaf_in_hand.new.seat c.link_leaf.new.seat [] (slots_on c.args.seat.now c.find_spot.new.seat c.leaf_in_hand.new.seat (goes_slots c.args.seat.now c.loop.seat c.find_spot.new.seat _ c.loop.invariant.3 (goes_looked c.in-Some-find_spot.ensures.searched.0) c.find_spot.ensures.seat.1) c.leaf_in_hand.ensures.slots) (c.in_default-link_leaf.ensures.again refl) c.link_leaf.ensures.seat.1,
-)
+loop-preserved g c = record {
+  table = c.link_leaf.ensures.seat.0 ∙ c.leaf_in_hand.ensures.table ∙ c.find_spot.ensures.seat.0 ∙ c.loop.invariant.table;
+  listed = listed_on c.leaf_in_hand.new.seat c.link_leaf.new.seat c.link_leaf.ensures.seat.1 (c.in_default-link_leaf.ensures.again refl).retired c.leaf_in_hand.ensures.listed;
+  tries = tries_again c.loop.invariant.tries c.requires.tickets c.find_spot.ensures.place c.in-Some-find_spot.spot c.in-Some-find_spot.ensures.searched c.in-Some-leaf_in_hand.ensures.room c.in-Some-leaf_in_hand.ensures.at (c.in_default-link_leaf.ensures.again refl) c.in_default-link_leaf.ensures.at;
+  slots = goes_slots c.args.seat.now c.leaf_in_hand.new.seat c.link_leaf.new.seat [] (slots_on c.args.seat.now c.find_spot.new.seat c.leaf_in_hand.new.seat (goes_slots c.args.seat.now c.loop.seat c.find_spot.new.seat _ c.loop.invariant.slots (goes_looked c.in-Some-find_spot.ensures.searched.0) c.find_spot.ensures.seat.1) c.leaf_in_hand.ensures.slots) (c.in_default-link_leaf.ensures.again refl) c.link_leaf.ensures.seat.1;
+}
 
 pub returns-in_default-clause-slots : goal.returns-in_default-clause-slots
 returns-in_default-clause-slots g c =
-    let found = goes_slots c.args.seat.now c.loop.seat c.find_spot.new.seat _ c.loop.invariant.3 (goes_looked c.in_default.ensures.searched.1) c.find_spot.ensures.seat.1 in
+    let found = goes_slots c.args.seat.now c.loop.seat c.find_spot.new.seat _ c.loop.invariant.slots (goes_looked c.in_default.ensures.searched.1) c.find_spot.ensures.seat.1 in
     goes_slots c.args.seat.now c.find_spot.new.seat c.give_up_leaf.new.seat [] found c.give_up_leaf.ensures.goes c.give_up_leaf.ensures.seat.1
 
 pub returns-in_default-leaf_in_hand-clause-slots : goal.returns-in_default-leaf_in_hand-clause-slots
-returns-in_default-leaf_in_hand-clause-slots g c = slots_on c.args.seat.now c.find_spot.new.seat c.leaf_in_hand.new.seat (goes_slots c.args.seat.now c.loop.seat c.find_spot.new.seat _ c.loop.invariant.3 (goes_looked c.in-Some-find_spot.ensures.searched.0) c.find_spot.ensures.seat.1) c.leaf_in_hand.ensures.slots
+returns-in_default-leaf_in_hand-clause-slots g c = slots_on c.args.seat.now c.find_spot.new.seat c.leaf_in_hand.new.seat (goes_slots c.args.seat.now c.loop.seat c.find_spot.new.seat _ c.loop.invariant.slots (goes_looked c.in-Some-find_spot.ensures.searched.0) c.find_spot.ensures.seat.1) c.leaf_in_hand.ensures.slots
 
 pub returns-in-Some-link_leaf-clause-slots : goal.returns-in-Some-link_leaf-clause-slots
 returns-in-Some-link_leaf-clause-slots g c =
-    let leaf = slots_on c.args.seat.now c.find_spot.new.seat c.leaf_in_hand.new.seat (goes_slots c.args.seat.now c.loop.seat c.find_spot.new.seat _ c.loop.invariant.3 (goes_looked c.in-Some-find_spot.ensures.searched.0) c.find_spot.ensures.seat.1) c.leaf_in_hand.ensures.slots in
-    goes_slots c.args.seat.now c.leaf_in_hand.new.seat c.link_leaf.new.seat _ leaf (new_goes c.loop.invariant.2 c.requires.tickets c.in-Some-find_spot.spot c.in-Some-find_spot.ensures.searched c.in-Some-leaf_in_hand.ensures.room c.in-Some-leaf_in_hand.ensures.at c.in-Some-link_leaf.number c.in-Some-link_leaf.ensures.linked) c.link_leaf.ensures.seat.1
+    let leaf = slots_on c.args.seat.now c.find_spot.new.seat c.leaf_in_hand.new.seat (goes_slots c.args.seat.now c.loop.seat c.find_spot.new.seat _ c.loop.invariant.slots (goes_looked c.in-Some-find_spot.ensures.searched.0) c.find_spot.ensures.seat.1) c.leaf_in_hand.ensures.slots in
+    goes_slots c.args.seat.now c.leaf_in_hand.new.seat c.link_leaf.new.seat _ leaf (new_goes c.loop.invariant.tries c.requires.tickets c.find_spot.ensures.place c.in-Some-find_spot.spot c.in-Some-find_spot.ensures.searched c.in-Some-leaf_in_hand.ensures.room c.in-Some-leaf_in_hand.ensures.at c.in-Some-link_leaf.number c.in-Some-link_leaf.ensures.linked) c.link_leaf.ensures.seat.1

@@ -1,5 +1,5 @@
 use Rattle.seat_table.specs.Seats.{shape_of}
-use Rattle.citrus_tree.proofs.Searching.{valued, looked_found, looked_missed}
+use Rattle.citrus_tree.proofs.searches.Searching.{valued, looked_found, looked_missed}
 use Rattle.citrus_tree.proofs.lookup.look_up.Goals as goal
 
 pub returns-in-Found-clause-looked : goal.returns-in-Found-clause-looked

@@ -1,5 +1,5 @@
 use Rattle.seat_table.specs.Seats.{shape_of}
-use Rattle.citrus_tree.proofs.Searching.{sought, looked_missed}
+use Rattle.citrus_tree.proofs.searches.Searching.{sought, looked_missed}
 use Rattle.citrus_tree.proofs.replace.find_holder.Goals as goal
 
 pub returns-in-Found-clause-sought : goal.returns-in-Found-clause-sought

@@ -1,6 +1,6 @@
 use Rattle.std.proofs.Common.{◌≡◌, ap, ◌∙◌}
 use Rattle.citrus_tree.specs.declared.replace.Replaced.{Replaced}
-use Rattle.citrus_tree.proofs.Storing.{is_alive, not_alive, loads_life, gives_up, again_at, loads_value, committing, stores, evening, lets_go, done_at, stored}
+use Rattle.citrus_tree.proofs.sets.Storing.{is_alive, not_alive, loads_life, gives_up, again_at, loads_value, committing, stores, evening, lets_go, done_at, stored}
 use Rattle.citrus_tree.proofs.replace.store_value.Goals as goal
 
 pub locked_load-life-requires-clause-asks : goal.locked_load-life-requires-clause-asks

@@ -1,5 +1,5 @@
 use Rattle.seat_table.specs.Seats.{shape_of}
-use Rattle.citrus_tree.proofs.Searching.{finished}
+use Rattle.citrus_tree.proofs.searches.Searching.{finished}
 use Rattle.citrus_tree.proofs.search.leave_with_spot.Goals as goal
 
 pub returns-clause-looked : goal.returns-clause-looked

@@ -3,74 +3,30 @@ use Rattle.std.proofs.lemmas.Bool.{eqb-true}
 use Rattle.seat_table.specs.Seats.{shape_of}
 use Rattle.exact_list.specs.Walked.{Gathers}
 use Rattle.exact_list.proofs.Trying.{first_try, loaded_try, may_look, begun_listing}
-use Rattle.exact_list.proofs.Standing.{tried_once, moved_at_first, tried_twice, moved_between, recent, holds_whole, holds_part, stood}
+use Rattle.exact_list.proofs.Standing.{looks_twice, tried_once, moved_at_first, tried_twice, moved_between, recent, holds_whole, holds_part, stood}
 use Rattle.exact_list.proofs.listing.attempt.Goals as goal
 
 pub returns-in-None-clause-holds : goal.returns-in-None-clause-holds
 returns-in-None-clause-holds g c =
-    let k = shape_of g.W.WaitWords.WAY c.args.table.now in
-    let v = c.args.seat.now.view in
-    let key = c.args.keys.now.low in
-    let first = c.look_at_front-first.result in
-    let n = c.look_at_front-last.result in
-    let a = c.look_at_front-first.new.seat.view in
-    let b = c.gather-next.new.seat.view in
-    let u = c.look_at_front-last.new.seat.view in
-    let d = c.leave-2.new.seat.view in
-    let front = c.front_of-front.result in
-    let i = first_try k v key c.low.result c.enter.new.seat.view first a c.low.ensures.low c.enter.ensures.entered c.look_at_front-first.ensures.told in
-    let l = c.gather-next.ensures.gathered.0 in
-    holds_whole k v key first front a b i l n u c.look_at_front-last.ensures.told d c.leave-2.ensures.left c.requires.outside c.if-last-first.false (sym c.linking.ensures ∙ c.if-linking.false) c.front_of-front.ensures c.args.keys.now c.gather-next.new.page c.gather-next.ensures.page.1
-    (subst (Gathers l.after c.args.keys.now c.gather-next.new.page) c.in-None.is c.gather-next.ensures.gathered.1)
+    let z = looks_twice c.low.ensures.low c.enter.ensures.entered c.look_at_front-first.ensures.told c.gather-next.ensures.gathered.0 c.look_at_front-last.ensures.told c.leave-2.ensures.left c.requires.outside in
+    holds_whole z c.if-last-first.false (sym c.linking.ensures ∙ c.if-linking.false) c.front_of-front.ensures c.args.keys.now c.gather-next.new.page c.gather-next.ensures.page.1
+    (subst (Gathers z.loads.after c.args.keys.now c.gather-next.new.page) c.in-None.is c.gather-next.ensures.gathered.1)
 
 pub returns-in-Some-clause-holds : goal.returns-in-Some-clause-holds
 returns-in-Some-clause-holds g c =
-    let k = shape_of g.W.WaitWords.WAY c.args.table.now in
-    let v = c.args.seat.now.view in
-    let key = c.args.keys.now.low in
-    let first = c.look_at_front-first.result in
-    let n = c.look_at_front-last.result in
-    let a = c.look_at_front-first.new.seat.view in
-    let b = c.gather-next.new.seat.view in
-    let u = c.look_at_front-last.new.seat.view in
-    let d = c.leave-2.new.seat.view in
-    let front = c.front_of-front.result in
-    let i = first_try k v key c.low.result c.enter.new.seat.view first a c.low.ensures.low c.enter.ensures.entered c.look_at_front-first.ensures.told in
-    let l = c.gather-next.ensures.gathered.0 in
-    holds_part k v key first front a b i l n u c.look_at_front-last.ensures.told d c.leave-2.ensures.left c.requires.outside c.if-last-first.false (sym c.linking.ensures ∙ c.if-linking.false) c.front_of-front.ensures c.args.keys.now c.in-Some.next c.gather-next.new.page
-    (subst (Gathers l.after c.args.keys.now c.gather-next.new.page) c.in-Some.is c.gather-next.ensures.gathered.1)
+    let z = looks_twice c.low.ensures.low c.enter.ensures.entered c.look_at_front-first.ensures.told c.gather-next.ensures.gathered.0 c.look_at_front-last.ensures.told c.leave-2.ensures.left c.requires.outside in
+    holds_part z c.if-last-first.false (sym c.linking.ensures ∙ c.if-linking.false) c.front_of-front.ensures c.args.keys.now c.in-Some.next c.gather-next.new.page
+    (subst (Gathers z.loads.after c.args.keys.now c.gather-next.new.page) c.in-Some.is c.gather-next.ensures.gathered.1)
 
 pub returns-in-None-clause-recent : goal.returns-in-None-clause-recent
 returns-in-None-clause-recent g c =
-    let k = shape_of g.W.WaitWords.WAY c.args.table.now in
-    let v = c.args.seat.now.view in
-    let key = c.args.keys.now.low in
-    let first = c.look_at_front-first.result in
-    let n = c.look_at_front-last.result in
-    let a = c.look_at_front-first.new.seat.view in
-    let b = c.gather-next.new.seat.view in
-    let u = c.look_at_front-last.new.seat.view in
-    let d = c.leave-2.new.seat.view in
-    let front = c.front_of-front.result in
-    let i = first_try k v key c.low.result c.enter.new.seat.view first a c.low.ensures.low c.enter.ensures.entered c.look_at_front-first.ensures.told in
-    let l = c.gather-next.ensures.gathered.0 in
-    recent k v key first front a b i l n u c.look_at_front-last.ensures.told d c.leave-2.ensures.left c.requires.outside c.if-last-first.false (sym c.linking.ensures ∙ c.if-linking.false) c.front_of-front.ensures
+    let z = looks_twice c.low.ensures.low c.enter.ensures.entered c.look_at_front-first.ensures.told c.gather-next.ensures.gathered.0 c.look_at_front-last.ensures.told c.leave-2.ensures.left c.requires.outside in
+    recent z c.if-last-first.false (sym c.linking.ensures ∙ c.if-linking.false) c.front_of-front.ensures
 
 pub returns-in-Some-clause-recent : goal.returns-in-Some-clause-recent
 returns-in-Some-clause-recent g c =
-    let k = shape_of g.W.WaitWords.WAY c.args.table.now in
-    let v = c.args.seat.now.view in
-    let key = c.args.keys.now.low in
-    let first = c.look_at_front-first.result in
-    let n = c.look_at_front-last.result in
-    let a = c.look_at_front-first.new.seat.view in
-    let b = c.gather-next.new.seat.view in
-    let u = c.look_at_front-last.new.seat.view in
-    let d = c.leave-2.new.seat.view in
-    let front = c.front_of-front.result in
-    let i = first_try k v key c.low.result c.enter.new.seat.view first a c.low.ensures.low c.enter.ensures.entered c.look_at_front-first.ensures.told in
-    let l = c.gather-next.ensures.gathered.0 in
-    recent k v key first front a b i l n u c.look_at_front-last.ensures.told d c.leave-2.ensures.left c.requires.outside c.if-last-first.false (sym c.linking.ensures ∙ c.if-linking.false) c.front_of-front.ensures
+    let z = looks_twice c.low.ensures.low c.enter.ensures.entered c.look_at_front-first.ensures.told c.gather-next.ensures.gathered.0 c.look_at_front-last.ensures.told c.leave-2.ensures.left c.requires.outside in
+    recent z c.if-last-first.false (sym c.linking.ensures ∙ c.if-linking.false) c.front_of-front.ensures
 
 pub returns-then-linking-clause-tried : goal.returns-then-linking-clause-tried
 returns-then-linking-clause-tried g c =
@@ -103,57 +59,15 @@ look_at_front-last-requires-clause-asks g c = λ told.
 
 pub returns-then-last-first-clause-tried : goal.returns-then-last-first-clause-tried
 returns-then-last-first-clause-tried g c =
-    let k = shape_of g.W.WaitWords.WAY c.args.table.now in
-    let v = c.args.seat.now.view in
-    let key = c.args.keys.now.low in
-    let first = c.look_at_front-first.result in
-    let n = c.look_at_front-last.result in
-    let a = c.look_at_front-first.new.seat.view in
-    let b = c.gather-next.new.seat.view in
-    let u = c.look_at_front-last.new.seat.view in
-    let d = c.leave-2.new.seat.view in
-    let front = c.look_at_front-first.result in
-    let i = first_try k v key c.low.result c.enter.new.seat.view first a c.low.ensures.low c.enter.ensures.entered c.look_at_front-first.ensures.told in
-    let l = c.gather-next.ensures.gathered.0 in (
-      record { first = first; second = Some n },
-      tried_twice k v key first front a b i l n u c.look_at_front-last.ensures.told d c.leave-2.ensures.left c.requires.outside,
-      moved_between k v key first front a b i l n u c.look_at_front-last.ensures.told d c.leave-2.ensures.left c.requires.outside (sym c.linking.ensures ∙ c.if-linking.false) (omega (arith, c.if-last-first.true)),
-    )
+    let z = looks_twice c.low.ensures.low c.enter.ensures.entered c.look_at_front-first.ensures.told c.gather-next.ensures.gathered.0 c.look_at_front-last.ensures.told c.leave-2.ensures.left c.requires.outside in
+    (record { first = c.look_at_front-first.result; second = Some c.look_at_front-last.result }, tried_twice z, moved_between z (sym c.linking.ensures ∙ c.if-linking.false) (omega (arith, c.if-last-first.true)))
 
 pub returns-in-None-clause-tried : goal.returns-in-None-clause-tried
 returns-in-None-clause-tried g c =
-    let k = shape_of g.W.WaitWords.WAY c.args.table.now in
-    let v = c.args.seat.now.view in
-    let key = c.args.keys.now.low in
-    let first = c.look_at_front-first.result in
-    let n = c.look_at_front-last.result in
-    let a = c.look_at_front-first.new.seat.view in
-    let b = c.gather-next.new.seat.view in
-    let u = c.look_at_front-last.new.seat.view in
-    let d = c.leave-2.new.seat.view in
-    let front = c.front_of-front.result in
-    let i = first_try k v key c.low.result c.enter.new.seat.view first a c.low.ensures.low c.enter.ensures.entered c.look_at_front-first.ensures.told in
-    let l = c.gather-next.ensures.gathered.0 in (
-      record { first = first; second = Some n },
-      tried_twice k v key first front a b i l n u c.look_at_front-last.ensures.told d c.leave-2.ensures.left c.requires.outside,
-      stood k v key first front a b i l n u c.look_at_front-last.ensures.told d c.leave-2.ensures.left c.requires.outside c.if-last-first.false (sym c.linking.ensures ∙ c.if-linking.false) c.front_of-front.ensures,
-    )
+    let z = looks_twice c.low.ensures.low c.enter.ensures.entered c.look_at_front-first.ensures.told c.gather-next.ensures.gathered.0 c.look_at_front-last.ensures.told c.leave-2.ensures.left c.requires.outside in
+    (record { first = c.look_at_front-first.result; second = Some c.look_at_front-last.result }, tried_twice z, stood z c.if-last-first.false (sym c.linking.ensures ∙ c.if-linking.false) c.front_of-front.ensures)
 
 pub returns-in-Some-clause-tried : goal.returns-in-Some-clause-tried
 returns-in-Some-clause-tried g c =
-    let k = shape_of g.W.WaitWords.WAY c.args.table.now in
-    let v = c.args.seat.now.view in
-    let key = c.args.keys.now.low in
-    let first = c.look_at_front-first.result in
-    let n = c.look_at_front-last.result in
-    let a = c.look_at_front-first.new.seat.view in
-    let b = c.gather-next.new.seat.view in
-    let u = c.look_at_front-last.new.seat.view in
-    let d = c.leave-2.new.seat.view in
-    let front = c.front_of-front.result in
-    let i = first_try k v key c.low.result c.enter.new.seat.view first a c.low.ensures.low c.enter.ensures.entered c.look_at_front-first.ensures.told in
-    let l = c.gather-next.ensures.gathered.0 in (
-      record { first = first; second = Some n },
-      tried_twice k v key first front a b i l n u c.look_at_front-last.ensures.told d c.leave-2.ensures.left c.requires.outside,
-      stood k v key first front a b i l n u c.look_at_front-last.ensures.told d c.leave-2.ensures.left c.requires.outside c.if-last-first.false (sym c.linking.ensures ∙ c.if-linking.false) c.front_of-front.ensures,
-    )
+    let z = looks_twice c.low.ensures.low c.enter.ensures.entered c.look_at_front-first.ensures.told c.gather-next.ensures.gathered.0 c.look_at_front-last.ensures.told c.leave-2.ensures.left c.requires.outside in
+    (record { first = c.look_at_front-first.result; second = Some c.look_at_front-last.result }, tried_twice z, stood z c.if-last-first.false (sym c.linking.ensures ∙ c.if-linking.false) c.front_of-front.ensures)

@@ -4,6 +4,12 @@ use Rattle.exact_list.specs.Tries.{Try, HasTried}
 use Rattle.exact_list.proofs.listing.list.Given as goal
 
 abbrev pub invariant-loop-tried : goal.invariant-loop-tried
-invariant-loop-tried g l = (l.seat.table ≡ l.fn.seat.table) × (l.seat.listed ≡ l.fn.seat.listed) × (l.page.capacity ≡ l.fn.page.capacity) × (l.tried ≤ l.tries)
-    × ((made : List Try) × HasTried l.fn.seat.view l.keys.low made l.seat.view × EndAs l.listed l.tried made)
-    × Holds l.listed l.keys l.seat.view.seen l.page × IsRecent l.listed l.fn.seat.view.seen l.seat.view.seen
+invariant-loop-tried g l = record {
+  table : l.seat.table ≡ l.fn.seat.table;
+  listed : l.seat.listed ≡ l.fn.seat.listed;
+  capacity : l.page.capacity ≡ l.fn.page.capacity;
+  few : l.tried ≤ l.tries;
+  tried : (made : List Try) × HasTried l.fn.seat.view l.keys.low made l.seat.view × EndAs l.listed l.tried made;
+  holds : Holds l.listed l.keys l.seat.view.seen l.page;
+  recent : IsRecent l.listed l.fn.seat.view.seen l.seat.view.seen;
+}

@@ -5,4 +5,8 @@ use Rattle.exact_list.proofs.Walking.{HasCome}
 use Rattle.exact_list.proofs.walks.least.Given as goal
 
 abbrev pub invariant-loop : goal.invariant-loop
-invariant-loop g l = (l.seat.table ≡ l.fn.seat.table) × (l.seat.listed ≡ l.fn.seat.listed) × ((loaded : HasLoaded l.fn.seat.view l.seat.view) × HasCome (shape_of g.W.WaitWords.WAY l.table) loaded.after l.from l.link l.above)
+invariant-loop g l = record {
+  table : l.seat.table ≡ l.fn.seat.table;
+  listed : l.seat.listed ≡ l.fn.seat.listed;
+  come : (loaded : HasLoaded l.fn.seat.view l.seat.view) × HasCome (shape_of g.W.WaitWords.WAY l.table) loaded.after l.from l.link l.above;
+}

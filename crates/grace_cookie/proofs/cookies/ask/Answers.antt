@@ -4,7 +4,6 @@ use Rattle.seat_table.specs.Seats.{shape_of}
 use Rattle.grace_cookie.specs.Cookies.{CookieAt}
 use Rattle.grace_cookie.proofs.Counting.{is_latest}
 use Rattle.grace_cookie.proofs.Asking.{found_over, over_of, over_kept, going_kept}
-use Rattle.grace_cookie.proofs.Quiet.{over_quiet, looked_quiet}
 use Rattle.grace_cookie.proofs.cookies.ask.Goals as goal
 
 pub returns-in-Over-clause-asked : goal.returns-in-Over-clause-asked
@@ -35,9 +34,3 @@ returns-in-NotYet-clause-kept g c =
     let p = c.in-NotYet.ensures.polled in
     let is = c.cookie.view_is in
     going_kept c.args.cookie.now _ c.args.seat.now.view c.poll.new.seat.view p.0 p.1 p.2 c.args.seat.now c.poll.new.seat p.4 p.3 (ap (λ (z : CookieAt). z.over) is) (ap (λ (z : CookieAt). z.count) is) (ap (λ (z : CookieAt). z.slots) is) refl refl c.in-NotYet.ensures.seat.1
-
-pub returns-in-Over-clause-quiet : goal.returns-in-Over-clause-quiet
-returns-in-Over-clause-quiet g c = over_quiet (shape_of g.W.WaitWords.WAY c.args.table.now) c.args.seat.now c.poll.new.seat c.in-Over.ensures.polled c.in-Over.ensures.seat.1
-
-pub returns-in-NotYet-clause-quiet : goal.returns-in-NotYet-clause-quiet
-returns-in-NotYet-clause-quiet g c = let p = c.in-NotYet.ensures.polled in looked_quiet c.args.seat.now c.poll.new.seat p.0 p.1 p.2 p.4 c.in-NotYet.ensures.seat.1

@@ -1,8 +1,5 @@
 use Rattle.std.proofs.Common.{◌≡◌, ◌≤◌, length, sym, ap, subst, inr, arith}
-use Rattle.core_state.specs.declared.shape.Shape.{Shape}
-use Rattle.seat_table.specs.Seats.{shape_of}
 use Rattle.node_slots.specs.Reclaiming.{AreReady, GivesBack, first_slots, without_slots}
-use Rattle.node_slots.proofs.PuttingBack.{told_of_table}
 use Rattle.grace_cookie.specs.Cookies.{CookieAt}
 use Rattle.grace_cookie.proofs.Counting.{is_latest}
 use Rattle.grace_cookie.proofs.Giving.{all_ready, gives_some, some_first}
@@ -11,10 +8,8 @@ use Rattle.grace_cookie.proofs.cookies.give_back.Goals as goal
 
 pub give_back-requires-clause-ready : goal.give_back-requires-clause-ready
 give_back-requires-clause-ready g c =
-    let k : Shape = shape_of g.W.WaitWords.WAY c.args.table.now in
-    let told = told_of_table g.W.WaitWords.WAY _ _ _ c.requires.table c.rule_tells.ensures.tells in
     let latest = is_latest _ _ _ _ c.requires.of.begun c.waits.ensures (ap (λ (z : CookieAt). z.count) c.cookie.view_is) c.if-waits-cookie.false in
-    subst (λ n. AreReady k c.args.seat.now.view (first_slots n c.args.seat.now.listed)) (sym (ap (λ (z : CookieAt). z.slots) c.cookie.view_is)) (all_ready c.args.cookie c.args.seat.now (c.requires.kept.kept latest) k told c.requires.over (c.requires.unraised latest))
+    subst (λ n. AreReady c.args.seat.now.view (first_slots n c.args.seat.now.listed)) (sym (ap (λ (z : CookieAt). z.slots) c.cookie.view_is)) (all_ready c.args.cookie c.args.seat.now (c.requires.kept.kept latest) c.requires.over (c.requires.unraised latest))
 
 pub returns-clause-back : goal.returns-clause-back
 returns-clause-back g c =

@@ -6,7 +6,6 @@ use Rattle.seat_table.specs.Sections.{HasBegun}
 use Rattle.seat_table.specs.Seats.{shape_of}
 use Rattle.node_slots.proofs.Listed.{listed_length}
 use Rattle.grace_cookie.proofs.Starting.{started_of, started_kept}
-use Rattle.grace_cookie.proofs.Quiet.{begun_quiet}
 use Rattle.grace_cookie.proofs.cookies.start.Goals as goal
 
 pub returns-clause-slots : goal.returns-clause-slots
@@ -24,6 +23,3 @@ returns-clause-kept g c =
     let same = subst (λ (l : List ℕ). (t : ℕ) → times t l ≡ times t (slots_in c.args.seat.now.view.hands.retired)) listed c.requires.listed.each in
     let once = subst (λ (l : List ℕ). (t : ℕ) → times t l ≤ 1) listed c.count_retired-slots.ensures.apart in
     started_kept c.args.seat.now.view c.begin-grace.new.seat.view begun _ c.begin-grace.new.seat refl same once (c.count_retired-slots.ensures.many ∙ ap length listed) refl
-
-pub returns-clause-quiet : goal.returns-clause-quiet
-returns-clause-quiet g c = begun_quiet c.args.seat.now c.begin-grace.new.seat _ _ c.begin-grace.ensures.begun c.begin-grace.ensures.seat.1

@@ -1,4 +1,4 @@
-use Rattle.std.proofs.Common.{inl, refl, sym, ap, subst, ◌∙◌}
+use Rattle.std.proofs.Common.{inl, refl, sym, ap, subst}
 use Rattle.core_state.specs.declared.shape.Shape.{Shape}
 use Rattle.core_state.specs.declared.view.View.{View}
 use Rattle.seat_table.specs.Seats.{shape_of}

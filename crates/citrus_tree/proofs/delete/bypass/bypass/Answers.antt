@@ -6,9 +6,9 @@ use Rattle.seat_table.specs.Seats.{shape_of}
 use Rattle.tree_points.specs.At.{IsDone}
 use Rattle.tree_points.proofs.Locking.{needs_unlock, passes_unlock, passes_unlock_gone}
 use Rattle.citrus_tree.specs.Deletes.{HasDone, retired_slots}
-use Rattle.citrus_tree.proofs.DeleteKeeps.{tells_as, keeps_rest, rest_unlock, same_locks, no_lock}
-use Rattle.citrus_tree.proofs.DeleteLists.{in_slots, now_retired, yet_unlisted, listed_more, few_listed}
-use Rattle.citrus_tree.proofs.DeleteUpdates.{done_still}
+use Rattle.citrus_tree.proofs.deletes.Keeping.{keeps_rest, rest_unlock, same_locks, no_lock}
+use Rattle.citrus_tree.proofs.deletes.Lists.{in_slots, now_retired, yet_unlisted, listed_more, few_listed}
+use Rattle.citrus_tree.proofs.deletes.Updates.{done_still}
 use Rattle.citrus_tree.proofs.KeepingSlots.{slots_more}
 use Rattle.citrus_tree.specs.Gone.{retired_marks}
 use Rattle.citrus_tree.proofs.delete.bypass.bypass.Goals as goal
@@ -37,12 +37,11 @@ list_retired-requires-clause-unlocked g c =
     no_lock c.unlock-2.new.seat.view c.args.node.node (((passes_unlock_gone p.1 p.0 c.unlock-2.ensures.told).fits.point).1).0
 
 pub list_retired-requires-clause-unlisted : goal.list_retired-requires-clause-unlisted
-list_retired-requires-clause-unlisted g c =
+list_retired-requires-clause-unlisted g c = λ told.
     let k = (shape_of g.W.WaitWords.WAY c.args.table.now) in
-    let tells = tells_as g.W.WaitWords.WAY ((c.unlock-2.ensures.seat).0 ∙ (c.unlock.ensures.seat).0 ∙ (c.link_past-number.ensures.seat).0 ∙ c.requires.table) c.rule_tells.ensures.tells in
     let more = (rest_unlock k _ _ _ _ c.unlock-2.ensures.told).retired ∙ (rest_unlock k _ _ _ _ c.unlock.ensures.told).retired ∙ c.link_past-number.ensures.retired in
     let listed = (c.unlock-2.ensures.seat).1 ∙ (c.unlock.ensures.seat).1 ∙ (c.link_past-number.ensures.seat).1 in
-    yet_unlisted c.args.seat.now.view c.unlock-2.new.seat.view c.args.node.node more c.unlock-2.new.seat.listed (λ t. ap (times t) listed ∙ c.requires.listed.each t) (tells.apart c.args.node.node)
+    yet_unlisted c.args.seat.now.view c.unlock-2.new.seat.view c.args.node.node more c.unlock-2.new.seat.listed (λ t. ap (times t) listed ∙ c.requires.listed.each t) (told.apart c.args.node.node)
 
 pub list_retired-requires-clause-few : goal.list_retired-requires-clause-few
 list_retired-requires-clause-few g c =

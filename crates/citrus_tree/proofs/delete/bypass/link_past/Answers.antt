@@ -1,4 +1,4 @@
-use Rattle.std.proofs.Common.{◌++◌, ap, ◌+◌, ◌<◌, ◌/◌, [], sym, subst, ◌∙◌}
+use Rattle.std.proofs.Common.{◌++◌, ap, ◌+◌, ◌/◌, [], sym, subst, ◌∙◌}
 use Rattle.prcu_model.specs.declared.operation.Op.TheVariants.{Del}
 use Rattle.core_points.specs.declared.stage.Last.TheVariants as last
 use Rattle.core_points.specs.declared.stage.Stage.TheVariants as at
@@ -7,51 +7,47 @@ use Rattle.seat_table.specs.Seats.{shape_of}
 use Rattle.tree_points.specs.At.{IsAt}
 use Rattle.tree_points.proofs.Updating.{needs_mark, needs_store_bypass, passes_store_bypass}
 use Rattle.citrus_tree.specs.Deletes.{HasDone}
-use Rattle.citrus_tree.proofs.DeleteBypass.{child_within, marked, opened_keeps, closed_keeps, half_two}
-use Rattle.citrus_tree.proofs.DeleteKeeps.{tells_as, keeps_on, keeps_mark}
-use Rattle.citrus_tree.proofs.DeleteUpdates.{bypass_stay, bypass_done, bypass_locked, done_later, done_still}
+use Rattle.citrus_tree.proofs.deletes.Bypasses.{child_is, marked, opened_keeps, closed_keeps, half_two}
+use Rattle.citrus_tree.proofs.deletes.Keeping.{keeps_on, keeps_mark}
+use Rattle.citrus_tree.proofs.deletes.Updates.{bypass_stay, bypass_done, bypass_locked, done_later, done_still}
 use Rattle.citrus_tree.proofs.delete.bypass.link_past.Goals as goal
-
-pub slot_of-child-requires : goal.slot_of-child-requires
-slot_of-child-requires g c =
-    record { inside = subst (λ x. x < c.args.table.now.slots + c.args.table.now.places + 1) (sym c.only_child.ensures) (child_within c.args.node (c.requires.at).1 (tells_as g.W.WaitWords.WAY c.requires.table c.rule_tells.ensures.tells)) }
 
 pub mark-requires-clause-asks : goal.mark-requires-clause-asks
 mark-requires-clause-asks g c = needs_mark (c.requires.at).1
 
 pub bypass-requires-clause-asks : goal.bypass-requires-clause-asks
 bypass-requires-clause-asks g c =
-    let child_is = c.slot_of-child.ensures ∙ c.only_child.ensures in
+    let child = child_is c.args.node c.slot_of-child.ensures c.only_child.ensures (c.requires.at).1 c.mark.ensures.told in
     let u = update.Bypass c.args.node c.slot_of-child.result in
-    needs_store_bypass (c.open_front-front.ensures.at _ _ 0 u (marked c.args.node c.slot_of-child.result child_is (c.requires.at).1 c.mark.ensures.told))
+    needs_store_bypass (c.open_front-front.ensures.at _ _ 0 u (marked c.args.node c.slot_of-child.result child (c.requires.at).1 c.mark.ensures.told))
 
 pub settle_side-requires-clause-at : goal.settle_side-requires-clause-at
 settle_side-requires-clause-at g c =
-    let child_is = c.slot_of-child.ensures ∙ c.only_child.ensures in
+    let child = child_is c.args.node c.slot_of-child.ensures c.only_child.ensures (c.requires.at).1 c.mark.ensures.told in
     let u = update.Bypass c.args.node c.slot_of-child.result in
     let a = c.requires.at in (
       (c.open_front-front.result + 2) / 2,
       (
         Del c.args.key,
         a.0,
-        c.close_front-number.ensures.at (Del c.args.key) a.0 u (passes_store_bypass (c.open_front-front.ensures.at (Del c.args.key) a.0 0 u (marked c.args.node c.slot_of-child.result child_is a.1 c.mark.ensures.told)) c.bypass.ensures.told),
+        c.close_front-number.ensures.at (Del c.args.key) a.0 u (passes_store_bypass (c.open_front-front.ensures.at (Del c.args.key) a.0 0 u (marked c.args.node c.slot_of-child.result child a.1 c.mark.ensures.told)) c.bypass.ensures.told),
       ),
     )
 
 pub returns-clause-at : goal.returns-clause-at
 returns-clause-at g c = λ kept a.
-    (let child_is = c.slot_of-child.ensures ∙ c.only_child.ensures in
+    (let child = child_is c.args.node c.slot_of-child.ensures c.only_child.ensures (c.requires.at).1 c.mark.ensures.told in
     let u = update.Bypass c.args.node c.slot_of-child.result in
     subst (λ n. IsAt (shape_of g.W.WaitWords.WAY c.args.table.now) (Del c.args.key) kept (at.Unlock (last.Gone n)) c.settle_side.new.seat.view) (sym c.close_front-number.ensures.number)
     (c.settle_side.ensures.at ((c.open_front-front.result + 2) / 2) (Del c.args.key) kept
-    (c.close_front-number.ensures.at (Del c.args.key) kept u (passes_store_bypass (c.open_front-front.ensures.at (Del c.args.key) kept 0 u (marked c.args.node c.slot_of-child.result child_is a c.mark.ensures.told)) c.bypass.ensures.told))))
+    (c.close_front-number.ensures.at (Del c.args.key) kept u (passes_store_bypass (c.open_front-front.ensures.at (Del c.args.key) kept 0 u (marked c.args.node c.slot_of-child.result child a c.mark.ensures.told)) c.bypass.ensures.told))))
 
 pub returns-clause-done : goal.returns-clause-done
 returns-clause-done g c = λ kept a.
     (let k = (shape_of g.W.WaitWords.WAY c.args.table.now) in
-    let child_is = c.slot_of-child.ensures ∙ c.only_child.ensures in
+    let child = child_is c.args.node c.slot_of-child.ensures c.only_child.ensures (c.requires.at).1 c.mark.ensures.told in
     let u = update.Bypass c.args.node c.slot_of-child.result in
-    let stored = c.open_front-front.ensures.at (Del c.args.key) kept 0 u (marked c.args.node c.slot_of-child.result child_is a c.mark.ensures.told) in
+    let stored = c.open_front-front.ensures.at (Del c.args.key) kept 0 u (marked c.args.node c.slot_of-child.result child a c.mark.ensures.told) in
     let made = bypass_done k c.args.key kept c.args.node c.slot_of-child.result c.open_front-front.result _ c.open_front-front.new.seat.view c.bypass.new.seat.view stored c.bypass.ensures.told in
     let first = keeps_on _ _ _ (keeps_mark k _ _ _ _ _ c.mark.ensures.told) (opened_keeps _ _ c.open_front-front.result c.open_front-front.ensures.opened) in
     let later = keeps_on _ _ _ (closed_keeps _ _ c.close_front-number.ensures.closed) c.settle_side.ensures.same in

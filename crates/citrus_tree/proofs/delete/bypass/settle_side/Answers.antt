@@ -1,6 +1,6 @@
 use Rattle.std.proofs.Common.{refl}
-use Rattle.citrus_tree.proofs.DeleteBypass.{settled, emptied}
-use Rattle.citrus_tree.proofs.DeleteKeeps.{keeps}
+use Rattle.citrus_tree.proofs.deletes.Bypasses.{settled, emptied}
+use Rattle.citrus_tree.proofs.deletes.Keeping.{keeps}
 use Rattle.citrus_tree.proofs.delete.bypass.settle_side.Goals as goal
 
 pub returns-then-child-ne0-clause-at : goal.returns-then-child-ne0-clause-at

@@ -2,7 +2,7 @@ use Rattle.std.proofs.Common.{sym, subst}
 use Rattle.core_points.specs.Programs.{past_target_load, verdict}
 use Rattle.seat_table.specs.Seats.{shape_of}
 use Rattle.tree_points.specs.At.{IsAt}
-use Rattle.citrus_tree.proofs.DeleteLoads.{as_two}
+use Rattle.citrus_tree.proofs.deletes.Loads.{as_two}
 use Rattle.citrus_tree.proofs.delete.locks.load_found.Goals as goal
 
 pub returns-in-Some-clause-at : goal.returns-in-Some-clause-at

@@ -4,21 +4,22 @@ use mathlib.Core.List.{IsPrefix}
 use Rattle.std.proofs.Common.{◌≤◌, ◌+◌, [], ◌∷◌, ◌++◌, inr, length, sym, ap, subst, ◌∙◌, arith}
 use Rattle.list_laws.specs.Counts.{times, IsIn}
 use Rattle.core_state.specs.declared.view.View.{View}
+use Rattle.seat_table.specs.Gains.{TellsApart}
 use Rattle.seat_table.specs.Seats.{shape_of}
 use Rattle.tree_points.specs.At.{IsDone}
 use Rattle.tree_points.specs.Progress.{HasGone}
 use Rattle.tree_points.proofs.Gone.{gone_on, gone_waited}
 use Rattle.tree_points.proofs.Waiting.{waits_move}
 use Rattle.citrus_tree.specs.Deletes.{retired_slots}
-use Rattle.citrus_tree.proofs.DeleteKeeps.{tells_as, no_lock}
-use Rattle.citrus_tree.proofs.DeleteLists.{in_slots}
-use Rattle.citrus_tree.proofs.DeleteMoves.{move_keys, move_outside, move_paid, waited_for, waited_keeps, node_retired, old_retired, node_unlisted, old_unlisted, two_listed, length_more}
+use Rattle.citrus_tree.proofs.deletes.Keeping.{no_lock}
+use Rattle.citrus_tree.proofs.deletes.Lists.{in_slots}
+use Rattle.citrus_tree.proofs.deletes.Moves.{move_outside, move_paid, waited_for, waited_keeps, node_retired, old_retired, node_unlisted, old_unlisted, two_listed, length_more}
 use Rattle.citrus_tree.proofs.KeepingSlots.{waited_later}
 use Rattle.citrus_tree.proofs.KeepingWaits.{first_stays, waited_first}
 use Rattle.citrus_tree.proofs.delete.shift.finish.Goals as goal
 
 pub between-requires : goal.between-requires
-between-requires g c = move_keys c.args.moving (c.requires.at).1 (tells_as g.W.WaitWords.WAY c.requires.table c.rule_tells.ensures.tells)
+between-requires g c = c.requires.above
 
 pub wait_in_grace-requires-clause-outside : goal.wait_in_grace-requires-clause-outside
 wait_in_grace-requires-clause-outside g c = move_outside c.args.moving (c.requires.at).1
@@ -36,8 +37,8 @@ pub list_retired-requires-clause-unlocked : goal.list_retired-requires-clause-un
 list_retired-requires-clause-unlocked g c = no_lock c.unlock_all.new.seat.view c.args.moving.node.node ((((c.unlock_all.ensures.at _ _ (c.unlink_old.ensures.at _ _ (waits_move (c.requires.at).1 (waited_for (c.args.key + 1) c.args.moving.next_key c.between.ensures c.wait_in_grace.ensures.waited))))).fits.point).1).0
 
 pub list_retired-requires-clause-unlisted : goal.list_retired-requires-clause-unlisted
-list_retired-requires-clause-unlisted g c = λ there.
-    node_unlisted c.args.seat.now.listed c.args.seat.now.view c.unlock_all.new.seat.view c.args.moving.node.node c.args.moving.successor.slot c.requires.listed (c.unlock_all.ensures.same.retired ∙ c.unlink_old.ensures.retired ∙ ap (λ xs. xs ++ c.args.moving.successor.slot ∷ []) (waited_keeps (waited_for (c.args.key + 1) c.args.moving.next_key c.between.ensures c.wait_in_grace.ensures.waited))) ((tells_as g.W.WaitWords.WAY ((c.unlock_all.ensures.seat).0 ∙ (c.unlink_old.ensures.seat).0 ∙ (c.wait_in_grace.ensures.seat).0 ∙ c.requires.table) c.rule_tells-2.ensures.tells).apart c.args.moving.node.node) (subst (λ xs. IsIn xs c.args.moving.node.node) ((c.unlock_all.ensures.seat).1 ∙ (c.unlink_old.ensures.seat).1 ∙ (c.wait_in_grace.ensures.seat).1) there)
+list_retired-requires-clause-unlisted g c = λ told there.
+    node_unlisted c.args.seat.now.listed c.args.seat.now.view c.unlock_all.new.seat.view c.args.moving.node.node c.args.moving.successor.slot c.requires.listed (c.unlock_all.ensures.same.retired ∙ c.unlink_old.ensures.retired ∙ ap (λ xs. xs ++ c.args.moving.successor.slot ∷ []) (waited_keeps (waited_for (c.args.key + 1) c.args.moving.next_key c.between.ensures c.wait_in_grace.ensures.waited))) (told.apart c.args.moving.node.node) (subst (λ xs. IsIn xs c.args.moving.node.node) ((c.unlock_all.ensures.seat).1 ∙ (c.unlink_old.ensures.seat).1 ∙ (c.wait_in_grace.ensures.seat).1) there)
 
 pub list_retired-requires-clause-few : goal.list_retired-requires-clause-few
 list_retired-requires-clause-few g c = let few = c.requires.few in let same = ap length ((c.unlock_all.ensures.seat).1 ∙ (c.unlink_old.ensures.seat).1 ∙ (c.wait_in_grace.ensures.seat).1) in omega (arith, few, same)
@@ -51,8 +52,8 @@ list_retired-requires-2-clause-unlocked g c =
     no_lock c.list_retired.new.self.view c.args.moving.successor.slot (ap (λ (x : View). x.locks) (c.list_retired.ensures.seat).1 ∙ ((((c.unlock_all.ensures.at _ _ (c.unlink_old.ensures.at _ _ (waits_move (c.requires.at).1 (waited_for (c.args.key + 1) c.args.moving.next_key c.between.ensures c.wait_in_grace.ensures.waited))))).fits.point).1).0)
 
 pub list_retired-requires-2-clause-unlisted : goal.list_retired-requires-2-clause-unlisted
-list_retired-requires-2-clause-unlisted g c = λ there.
-    old_unlisted c.args.seat.now.listed c.args.seat.now.view c.unlock_all.new.seat.view c.args.moving.node.node c.args.moving.successor.slot c.requires.listed (c.unlock_all.ensures.same.retired ∙ c.unlink_old.ensures.retired ∙ ap (λ xs. xs ++ c.args.moving.successor.slot ∷ []) (waited_keeps (waited_for (c.args.key + 1) c.args.moving.next_key c.between.ensures c.wait_in_grace.ensures.waited))) ((tells_as g.W.WaitWords.WAY ((c.unlock_all.ensures.seat).0 ∙ (c.unlink_old.ensures.seat).0 ∙ (c.wait_in_grace.ensures.seat).0 ∙ c.requires.table) c.rule_tells-2.ensures.tells).apart c.args.moving.successor.slot)
+list_retired-requires-2-clause-unlisted g c = λ told there.
+    old_unlisted c.args.seat.now.listed c.args.seat.now.view c.unlock_all.new.seat.view c.args.moving.node.node c.args.moving.successor.slot c.requires.listed (c.unlock_all.ensures.same.retired ∙ c.unlink_old.ensures.retired ∙ ap (λ xs. xs ++ c.args.moving.successor.slot ∷ []) (waited_keeps (waited_for (c.args.key + 1) c.args.moving.next_key c.between.ensures c.wait_in_grace.ensures.waited))) (subst TellsApart (c.list_retired.ensures.seat).1 told.apart c.args.moving.successor.slot)
     (subst (λ xs. IsIn xs c.args.moving.successor.slot) (c.list_retired.ensures.listed ∙ ap (λ xs. xs ++ c.args.moving.node.node ∷ []) ((c.unlock_all.ensures.seat).1 ∙ (c.unlink_old.ensures.seat).1 ∙ (c.wait_in_grace.ensures.seat).1)) there)
 
 pub list_retired-requires-2-clause-few : goal.list_retired-requires-2-clause-few

@@ -8,10 +8,10 @@ use Rattle.tree_points.specs.At.{IsAt}
 use Rattle.tree_points.proofs.Holding.{needs_copy_mark, passes_copy_mark}
 use Rattle.tree_points.proofs.Updating.{needs_store_copy, passes_store_copy}
 use Rattle.citrus_tree.specs.Deletes.{HasCopied}
-use Rattle.citrus_tree.proofs.DeleteBypass.{opened_keeps, closed_keeps, half_two}
-use Rattle.citrus_tree.proofs.DeleteKeeps.{keeps_on, keeps_mark}
-use Rattle.citrus_tree.proofs.DeleteShifts.{copy_paid, copy_odd}
-use Rattle.citrus_tree.proofs.DeleteUpdates.{copy_made, copy_locked, copied_later, copied_still}
+use Rattle.citrus_tree.proofs.deletes.Bypasses.{opened_keeps, closed_keeps, half_two}
+use Rattle.citrus_tree.proofs.deletes.Keeping.{keeps_on, keeps_mark}
+use Rattle.citrus_tree.proofs.deletes.Shifts.{copy_paid, copy_odd}
+use Rattle.citrus_tree.proofs.deletes.Updates.{copy_made, copy_locked, copied_later, copied_still}
 use Rattle.citrus_tree.proofs.delete.shift.link_copy.Goals as goal
 
 pub mark-requires-clause-asks : goal.mark-requires-clause-asks

@@ -7,8 +7,8 @@ use Rattle.seat_table.specs.Seats.{shape_of}
 use Rattle.tree_points.proofs.Holding.{needs_copy_lock, passes_copy_lock_free, passes_copy_lock_busy}
 use Rattle.tree_points.proofs.Locking.{locks_copy_lock}
 use Rattle.tree_points.proofs.Gone.{gone_on}
-use Rattle.citrus_tree.proofs.DeleteKeeps.{keeps_rest, locks_busy, rest_lock, rest_of, spare_lock}
-use Rattle.citrus_tree.proofs.DeletePieces.{few_moved, one_listed, move_deletes}
+use Rattle.citrus_tree.proofs.deletes.Keeping.{keeps_rest, locks_busy, rest_lock, rest_of, spare_lock}
+use Rattle.citrus_tree.proofs.deletes.Pieces.{few_moved, one_listed, move_deletes}
 use Rattle.citrus_tree.proofs.KeepingSlots.{slots_later, slots_rest}
 use Rattle.citrus_tree.proofs.KeepingWaits.{none_begun, wait_later}
 use Rattle.citrus_tree.proofs.delete.shift.shift.Goals as goal
@@ -47,6 +47,11 @@ finish-requires-clause-few g c =
     let few = few_moved c.args.seat.now c.args.node c.args.successor (c.requires.at).1 c.requires.listed in
     let same = ap length ((c.link_copy-number.ensures.seat).1 ∙ (c.lock.ensures.seat).1 ∙ (c.fill_copy-next_key.ensures.seat).1) in
     omega (arith, few, same)
+
+pub finish-requires-clause-above : goal.finish-requires-clause-above
+finish-requires-clause-above g c =
+    let a = c.requires.at in
+    (c.link_copy-number.ensures.done a.0 (passes_copy_lock_free c.if-lock-ne0.false c.fill_copy-next_key.ensures.spare (c.fill_copy-next_key.ensures.at (Del c.args.key) a.0 a.1) c.lock.ensures.told)).next.above
 
 pub returns-clause-done : goal.returns-clause-done
 returns-clause-done g c = λ kept a. c.finish.ensures.done kept (c.link_copy-number.ensures.at kept (passes_copy_lock_free c.if-lock-ne0.false c.fill_copy-next_key.ensures.spare (c.fill_copy-next_key.ensures.at (Del c.args.key) kept a) c.lock.ensures.told))

@@ -3,8 +3,8 @@ use Rattle.seat_table.specs.Seats.{shape_of}
 use Rattle.tree_points.proofs.Deleting.{needs_old_mark, needs_old_right, passes_old_mark, passes_old_right}
 use Rattle.tree_points.proofs.Holding.{needs_unlink_copy, needs_unlink_parent, passes_unlink_copy, passes_unlink_parent}
 use Rattle.tree_points.proofs.Gone.{gone_on}
-use Rattle.citrus_tree.proofs.DeleteKeeps.{tells_as, keeps_on, keeps_locked_load, keeps_mark, same_locks}
-use Rattle.citrus_tree.proofs.DeleteShifts.{right_fits, unlinking, copy_unlinks, parent_unlinks}
+use Rattle.citrus_tree.proofs.deletes.Keeping.{keeps_on, keeps_locked_load, keeps_mark, same_locks}
+use Rattle.citrus_tree.proofs.deletes.Shifts.{unlinking, copy_unlinks, parent_unlinks}
 use Rattle.citrus_tree.proofs.delete.shift.unlink_old.Goals as goal
 
 pub mark-requires-clause-asks : goal.mark-requires-clause-asks
@@ -13,32 +13,29 @@ mark-requires-clause-asks g c = needs_old_mark (c.requires.at).2
 pub locked_load-right-requires-clause-asks : goal.locked_load-right-requires-clause-asks
 locked_load-right-requires-clause-asks g c = needs_old_right (passes_old_mark (c.requires.at).2 c.mark.ensures.told)
 
-pub slot_of-child-requires : goal.slot_of-child-requires
-slot_of-child-requires g c = record { inside = right_fits c.args.moving (passes_old_right (passes_old_mark (c.requires.at).2 c.mark.ensures.told) c.locked_load-right.ensures.told) (tells_as g.W.WaitWords.WAY ((c.locked_load-right.ensures.seat).0 ∙ (c.mark.ensures.seat).0 ∙ c.requires.table) c.rule_tells.ensures.tells) }
-
 pub unlink_right-requires-clause-asks : goal.unlink_right-requires-clause-asks
-unlink_right-requires-clause-asks g c = needs_unlink_copy (eq-eqb c.args.moving.successor.parent c.args.moving.node.node c.if-successor-node.true) (unlinking c.args.moving c.slot_of-child.ensures (passes_old_right (passes_old_mark (c.requires.at).2 c.mark.ensures.told) c.locked_load-right.ensures.told))
+unlink_right-requires-clause-asks g c = λ told. needs_unlink_copy (eq-eqb c.args.moving.successor.parent c.args.moving.node.node c.if-successor-node.true) (unlinking c.args.moving c.slot_of-child.ensures told.tells (passes_old_right (passes_old_mark (c.requires.at).2 c.mark.ensures.told) c.locked_load-right.ensures.told)) told
 
 pub unlink_left-requires-clause-asks : goal.unlink_left-requires-clause-asks
-unlink_left-requires-clause-asks g c = needs_unlink_parent (ne_eqb c.args.moving.successor.parent c.args.moving.node.node c.if-successor-node.false) (unlinking c.args.moving c.slot_of-child.ensures (passes_old_right (passes_old_mark (c.requires.at).2 c.mark.ensures.told) c.locked_load-right.ensures.told))
+unlink_left-requires-clause-asks g c = λ told. needs_unlink_parent (ne_eqb c.args.moving.successor.parent c.args.moving.node.node c.if-successor-node.false) (unlinking c.args.moving c.slot_of-child.ensures told.tells (passes_old_right (passes_old_mark (c.requires.at).2 c.mark.ensures.told) c.locked_load-right.ensures.told)) told
 
 pub settle_side-requires-clause-at : goal.settle_side-requires-clause-at
-settle_side-requires-clause-at g c = let a = c.requires.at in (c.args.moving.number, (a.0, a.1, (passes_unlink_copy (eq-eqb c.args.moving.successor.parent c.args.moving.node.node c.if-successor-node.true) (unlinking c.args.moving c.slot_of-child.ensures (passes_old_right (passes_old_mark a.2 c.mark.ensures.told) c.locked_load-right.ensures.told)) c.unlink_right.ensures.told).0))
+settle_side-requires-clause-at g c = let a = c.requires.at in (c.args.moving.number, (a.0, a.1, (passes_unlink_copy (eq-eqb c.args.moving.successor.parent c.args.moving.node.node c.if-successor-node.true) (unlinking c.args.moving c.slot_of-child.ensures c.unlink_right.ensures.told.before.tells (passes_old_right (passes_old_mark a.2 c.mark.ensures.told) c.locked_load-right.ensures.told)) c.unlink_right.ensures.told).0))
 
 pub settle_side-requires-2-clause-at : goal.settle_side-requires-2-clause-at
-settle_side-requires-2-clause-at g c = let a = c.requires.at in (c.args.moving.number, (a.0, a.1, (passes_unlink_parent (ne_eqb c.args.moving.successor.parent c.args.moving.node.node c.if-successor-node.false) (unlinking c.args.moving c.slot_of-child.ensures (passes_old_right (passes_old_mark a.2 c.mark.ensures.told) c.locked_load-right.ensures.told)) c.unlink_left.ensures.told).0))
+settle_side-requires-2-clause-at g c = let a = c.requires.at in (c.args.moving.number, (a.0, a.1, (passes_unlink_parent (ne_eqb c.args.moving.successor.parent c.args.moving.node.node c.if-successor-node.false) (unlinking c.args.moving c.slot_of-child.ensures c.unlink_left.ensures.told.before.tells (passes_old_right (passes_old_mark a.2 c.mark.ensures.told) c.locked_load-right.ensures.told)) c.unlink_left.ensures.told).0))
 
 pub returns-then-successor-node-clause-at : goal.returns-then-successor-node-clause-at
-returns-then-successor-node-clause-at g c = λ op kept a. c.settle_side.ensures.at c.args.moving.number op kept (passes_unlink_copy (eq-eqb c.args.moving.successor.parent c.args.moving.node.node c.if-successor-node.true) (unlinking c.args.moving c.slot_of-child.ensures (passes_old_right (passes_old_mark a c.mark.ensures.told) c.locked_load-right.ensures.told)) c.unlink_right.ensures.told).0
+returns-then-successor-node-clause-at g c = λ op kept a. c.settle_side.ensures.at c.args.moving.number op kept (passes_unlink_copy (eq-eqb c.args.moving.successor.parent c.args.moving.node.node c.if-successor-node.true) (unlinking c.args.moving c.slot_of-child.ensures c.unlink_right.ensures.told.before.tells (passes_old_right (passes_old_mark a c.mark.ensures.told) c.locked_load-right.ensures.told)) c.unlink_right.ensures.told).0
 
 pub returns-clause-at : goal.returns-clause-at
-returns-clause-at g c = λ op kept a. c.settle_side-2.ensures.at c.args.moving.number op kept (passes_unlink_parent (ne_eqb c.args.moving.successor.parent c.args.moving.node.node c.if-successor-node.false) (unlinking c.args.moving c.slot_of-child.ensures (passes_old_right (passes_old_mark a c.mark.ensures.told) c.locked_load-right.ensures.told)) c.unlink_left.ensures.told).0
+returns-clause-at g c = λ op kept a. c.settle_side-2.ensures.at c.args.moving.number op kept (passes_unlink_parent (ne_eqb c.args.moving.successor.parent c.args.moving.node.node c.if-successor-node.false) (unlinking c.args.moving c.slot_of-child.ensures c.unlink_left.ensures.told.before.tells (passes_old_right (passes_old_mark a c.mark.ensures.told) c.locked_load-right.ensures.told)) c.unlink_left.ensures.told).0
 
 pub returns-then-successor-node-clause-locked : goal.returns-then-successor-node-clause-locked
-returns-then-successor-node-clause-locked g c = same_locks (c.settle_side.ensures.same).locked (passes_unlink_copy (eq-eqb c.args.moving.successor.parent c.args.moving.node.node c.if-successor-node.true) (unlinking c.args.moving c.slot_of-child.ensures (passes_old_right (passes_old_mark (c.requires.at).2 c.mark.ensures.told) c.locked_load-right.ensures.told)) c.unlink_right.ensures.told).1
+returns-then-successor-node-clause-locked g c = same_locks (c.settle_side.ensures.same).locked (passes_unlink_copy (eq-eqb c.args.moving.successor.parent c.args.moving.node.node c.if-successor-node.true) (unlinking c.args.moving c.slot_of-child.ensures c.unlink_right.ensures.told.before.tells (passes_old_right (passes_old_mark (c.requires.at).2 c.mark.ensures.told) c.locked_load-right.ensures.told)) c.unlink_right.ensures.told).1
 
 pub returns-clause-locked : goal.returns-clause-locked
-returns-clause-locked g c = same_locks (c.settle_side-2.ensures.same).locked (passes_unlink_parent (ne_eqb c.args.moving.successor.parent c.args.moving.node.node c.if-successor-node.false) (unlinking c.args.moving c.slot_of-child.ensures (passes_old_right (passes_old_mark (c.requires.at).2 c.mark.ensures.told) c.locked_load-right.ensures.told)) c.unlink_left.ensures.told).1
+returns-clause-locked g c = same_locks (c.settle_side-2.ensures.same).locked (passes_unlink_parent (ne_eqb c.args.moving.successor.parent c.args.moving.node.node c.if-successor-node.false) (unlinking c.args.moving c.slot_of-child.ensures c.unlink_left.ensures.told.before.tells (passes_old_right (passes_old_mark (c.requires.at).2 c.mark.ensures.told) c.locked_load-right.ensures.told)) c.unlink_left.ensures.told).1
 
 pub returns-then-successor-node-clause-gone : goal.returns-then-successor-node-clause-gone
 returns-then-successor-node-clause-gone g c =

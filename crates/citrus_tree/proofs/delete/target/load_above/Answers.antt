@@ -1,8 +1,8 @@
 use Rattle.std.proofs.Common.{refl}
 use Rattle.seat_table.specs.Seats.{shape_of}
 use Rattle.tree_points.proofs.Deleting.{needs_successor_parent_life}
-use Rattle.citrus_tree.proofs.DeleteFinds.{at_node, at_other, above_loaded}
-use Rattle.citrus_tree.proofs.DeleteKeeps.{keeps, keeps_search_load}
+use Rattle.citrus_tree.proofs.deletes.Finds.{at_node, at_other, above_loaded}
+use Rattle.citrus_tree.proofs.deletes.Keeping.{keeps, keeps_search_load}
 use Rattle.citrus_tree.proofs.delete.target.load_above.Goals as goal
 
 pub returns-then-parent-node-clause-at : goal.returns-then-parent-node-clause-at

@@ -1,4 +1,4 @@
-use Rattle.citrus_tree.proofs.DeleteFinds.{first_walk}
+use Rattle.citrus_tree.proofs.deletes.Finds.{first_walk}
 use Rattle.citrus_tree.proofs.delete.target.load_target.Goals as goal
 
 pub load_successor-successor-requires-clause-at : goal.load_successor-successor-requires-clause-at

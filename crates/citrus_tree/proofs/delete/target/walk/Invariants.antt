@@ -1,7 +1,11 @@
 use Rattle.std.proofs.Common.{◌≡◌}
 use Rattle.seat_table.specs.Seats.{shape_of}
-use Rattle.citrus_tree.proofs.DeleteFinds.{Walks}
+use Rattle.citrus_tree.proofs.deletes.Finds.{Walks}
 use Rattle.citrus_tree.proofs.delete.target.walk.Given as goal
 
 abbrev pub invariant-loop : goal.invariant-loop
-invariant-loop g l = (l.seat.table ≡ l.fn.seat.table) × (l.seat.listed ≡ l.fn.seat.listed) × Walks (shape_of g.W.WaitWords.WAY l.table) l.fn.node l.parent l.slot l.fn.seat.view l.seat.view
+invariant-loop g l = record {
+  table : l.seat.table ≡ l.fn.seat.table;
+  listed : l.seat.listed ≡ l.fn.seat.listed;
+  walks : Walks (shape_of g.W.WaitWords.WAY l.table) l.fn.node l.parent l.slot l.fn.seat.view l.seat.view;
+}

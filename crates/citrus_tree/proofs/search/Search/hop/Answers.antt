@@ -1,5 +1,5 @@
 use Rattle.seat_table.specs.Seats.{shape_of}
-use Rattle.citrus_tree.proofs.Hopping.{moved_on, found_at, ended_at}
+use Rattle.citrus_tree.proofs.searches.Hopping.{moved_on, found_at, ended_at}
 use Rattle.citrus_tree.proofs.search.Search.hop.Goals as goal
 
 pub returns-in-Moved-clause-stands : goal.returns-in-Moved-clause-stands

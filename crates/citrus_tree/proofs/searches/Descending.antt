@@ -4,13 +4,13 @@ use Rattle.prcu_marks.specs.declared.mark.Side.{Side}
 use Rattle.core_state.specs.declared.shape.Shape.{Shape}
 use Rattle.core_state.specs.declared.view.SearchState.TheVariants as at
 use Rattle.core_state.specs.declared.view.View.{View}
-use Rattle.core_state.specs.memory.Words.{side_number, step_side}
+use Rattle.core_state.specs.memory.Words.{step_side}
 use Rattle.core_acts.specs.declared.act.Act.TheVariants.{SearchLoad}
 use Rattle.core_acts.specs.declared.act.Part.TheVariants as part
 use Rattle.seat_table.specs.Gains.{IsSlot}
 use Rattle.seat_table.specs.Told.{IsAsked, Told}
 use Rattle.citrus_tree.specs.Lookups.{IsSearching}
-use Rattle.citrus_tree.proofs.Searching.{slot_at, needs_link, missed, reached, needs_key, read}
+use Rattle.citrus_tree.proofs.searches.Searching.{slot_at, needs_link, missed, reached, needs_key, read}
 
 module _ (k : Shape) (key s : ℕ) (b : Side) (w : View) (slot : IsSlot k s) where
   pub may_load : (v : View) × IsSearching v key (at.At s b) w → IsAsked k w (SearchLoad s (part.Link b))

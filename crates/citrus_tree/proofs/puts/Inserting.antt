@@ -19,29 +19,29 @@ use Rattle.core_state.specs.declared.view.Retired.{Retired}
 use Rattle.core_state.specs.declared.view.View.{View}
 use Rattle.core_state.specs.memory.Memory.{slot_count}
 use Rattle.core_state.specs.steps.Seating.{spare_slot}
-use Rattle.core_state.specs.views.Views.{IsQuiet, Works}
+use Rattle.core_state.specs.views.Views.{IsQuiet}
 use Rattle.core_points.specs.Callers.{key_now}
 use Rattle.core_points.specs.Facts.{HasSpot, is_put, table_of}
 use Rattle.core_points.specs.Tickets.{owed_op}
 use Rattle.core_points.specs.declared.stage.Spot.{Spot}
 use Rattle.core_points.specs.declared.stage.Stage.TheVariants as at
-use Rattle.seat_table.specs.Gains.{TellsNow}
 use Rattle.tree_points.specs.At.{IsAt}
 use Rattle.tree_points.specs.Progress.{HasGone}
 use Rattle.tree_points.proofs.Ends.{begins_put, has_kept, is_quiet}
 use Rattle.tree_points.proofs.Gone.{gone_on, gone_same}
 use Rattle.tree_points.proofs.Holding.{slot_in_hand}
-use Rattle.tree_points.proofs.Standing.{outside_enter, unlocked_enter}
-use Rattle.citrus_tree.specs.Going.{Goes, Searched, Since, Unwaited, Waited, leaf_stage}
+use Rattle.tree_points.proofs.SameCall.{moves_on}
+use Rattle.citrus_tree.specs.Deletes.{Comes, StandsAt}
+use Rattle.citrus_tree.specs.Going.{Goes, MayBegin, Searched, Since, Unwaited, Waited, leaf_stage}
 use Rattle.citrus_tree.specs.Gone.{AreTries, HasBegunNone, IsOfTry, KeepsWait, NeededRoom, waits_in}
 use Rattle.citrus_tree.specs.Hops.{Records}
 use Rattle.citrus_tree.specs.Lookups.{Looked}
 use Rattle.citrus_tree.specs.Putting.{Links, MakesRoom, Reused, old_stage}
 use Rattle.citrus_tree.specs.Replies.{IsFullNow, Puts}
-use Rattle.citrus_tree.proofs.Filling.{needed_on}
+use Rattle.citrus_tree.proofs.puts.Filling.{needed_on}
 use Rattle.citrus_tree.proofs.KeepingWaits.{first_later, first_stays, none_begun, none_on, none_yet}
 use Rattle.citrus_tree.proofs.Leavings.{goes_looked, was_answered}
-use Rattle.citrus_tree.proofs.Replacing.{waits_in-append}
+use Rattle.citrus_tree.proofs.sets.Replacing.{may_begin, waits_in-append}
 
 -- the view after a lookup
 abbrev left_view : {v w : View} {key : ℕ} {answer : Option ℕ} → Looked v key answer w → View
@@ -57,29 +57,13 @@ module _ {k : Shape} {kept key value : ℕ} {v : View} (a : IsAt k (Put key valu
   old_at {w} l = subst (λ (z : View). IsAt k (Put key value) kept (old_stage z.hands.hand) z) (sym l.others) (by v.hands.hand refl)
     where
       by : (h : Option Held) → v.hands.hand ≡ h → IsAt k (Put key value) kept (old_stage h) (left_view l)
-      by None e = record {
-        own = a.own;
-        op_is = a.op_is;
-        slots_are = a.slots_are;
-        places_are = a.places_are;
-        last = a.last;
-        keeps = a.keeps;
-        fits = record { owns = a.fits.owns; tickets = (let t = a.fits.tickets in omega arith); unraised = a.fits.unraised; point = (refl, ((a.fits.point).1).0, e) };
-      }
-      by (Some held) e = record {
-        own = a.own;
-        op_is = a.op_is;
-        slots_are = a.slots_are;
-        places_are = a.places_are;
-        last = a.last;
-        keeps = a.keeps;
-        fits = record {
-          owns = a.fits.owns;
-          tickets = (let t = a.fits.tickets in omega arith);
-          unraised = a.fits.unraised;
-          point = (refl, (held.slot, own_hand (Some held) e), (a.fits.point).1, ap is_put a.op_is);
-        };
-      }
+      by None e = moves_on a a.own refl (record { owns = a.fits.owns; tickets = (let t = a.fits.tickets in omega arith); unraised = a.fits.unraised; point = (refl, ((a.fits.point).1).0, e) })
+      by (Some held) e = moves_on a a.own refl (record {
+        owns = a.fits.owns;
+        tickets = (let t = a.fits.tickets in omega arith);
+        unraised = a.fits.unraised;
+        point = (refl, (held.slot, own_hand (Some held) e), (a.fits.point).1, ap is_put a.op_is);
+      })
 
   -- it isn't, and the empty side is recorded
   pub spot_at : {w : View} {spot : Spot} (l : Looked v key None w) → Records l.reading spot → spot.slot < slot_count k → IsAt k (Put key value) kept (leaf_stage w.hands.hand spot) w
@@ -89,34 +73,18 @@ module _ {k : Shape} {kept key value : ℕ} {v : View} (a : IsAt k (Put key valu
       has = (l.reading, (0, refl), l.sought ∙ sym (ap key_of a.op_is), r.state_is, r.generation_is, r.tag_is, (let s = a.slots_are in let p = a.places_are in omega arith))
 
       by : (h : Option Held) → v.hands.hand ≡ h → IsAt k (Put key value) kept (leaf_stage h spot) (left_view l)
-      by None e = record {
-        own = a.own;
-        op_is = a.op_is;
-        slots_are = a.slots_are;
-        places_are = a.places_are;
-        last = a.last;
-        keeps = a.keeps;
-        fits = record {
-          owns = a.fits.owns;
-          tickets = subst (λ (z : Op × Option ℕ). owed_op z.0 z.1 a.own.retired + 4 * length a.own.rest + a.own.kept ≤ v.allowance.tickets) (λ i. (a.op_is i, own_hand None e i)) a.fits.tickets;
-          unraised = a.fits.unraised;
-          point = (refl, ((a.fits.point).1).0, e, own_hand None e, omega arith, has, ap is_put a.op_is);
-        };
-      }
-      by (Some held) e = record {
-        own = a.own;
-        op_is = a.op_is;
-        slots_are = a.slots_are;
-        places_are = a.places_are;
-        last = a.last;
-        keeps = a.keeps;
-        fits = record {
-          owns = a.fits.owns;
-          tickets = a.fits.tickets;
-          unraised = a.fits.unraised;
-          point = (refl, (held.slot, own_hand (Some held) e), ((a.fits.point).1).0, ((a.fits.point).1).1, has, ap is_put a.op_is);
-        };
-      }
+      by None e = moves_on a a.own refl (record {
+        owns = a.fits.owns;
+        tickets = subst (λ (z : Op × Option ℕ). owed_op z.0 z.1 a.own.retired + 4 * length a.own.rest + a.own.kept ≤ v.allowance.tickets) (λ i. (a.op_is i, own_hand None e i)) a.fits.tickets;
+        unraised = a.fits.unraised;
+        point = (refl, ((a.fits.point).1).0, e, own_hand None e, omega arith, has, ap is_put a.op_is);
+      })
+      by (Some held) e = moves_on a a.own refl (record {
+        owns = a.fits.owns;
+        tickets = a.fits.tickets;
+        unraised = a.fits.unraised;
+        point = (refl, (held.slot, own_hand (Some held) e), ((a.fits.point).1).0, ((a.fits.point).1).1, has, ap is_put a.op_is);
+      })
 
 -- the marks of one more section
 abbrev section_of : View → ℕ → List Mark
@@ -203,30 +171,30 @@ no_more xs = ([], append-nil xs)
 pub record Trying (k : Shape) (key value : ℕ) (v w : View) : Type 0 where
   pub marks : List Mark
   pub since : Since k v key marks w
-  pub ready : (kept : ℕ) → kept + 4 ≤ v.allowance.tickets → IsAt k (Put key value) kept at.EnterClock w
+  pub ready : (kept : ℕ) → kept + 4 ≤ v.allowance.tickets → MayBegin k (Put key value) kept w
 
 module _ {k : Shape} {key value : ℕ} {v : View} where
-  pub begins : IsQuiet v → Works v → TellsNow k v → key < 2 ^ 64 → Trying k key value v v
-  begins quiet works now fits = record {
+  pub begins : IsQuiet v → key < 2 ^ 64 → Trying k key value v v
+  begins quiet fits = record {
     marks = [];
     since = record { gone = gone_same; each = tt; waits = inl (record { none = refl; retired = refl; wait = refl; waits = refl }) };
-    ready = λ kept few. begins_put quiet works now fits few;
+    ready = λ kept few. record { outside = quiet.section; unlocked = quiet.locks; at = λ seated. begins_put quiet seated.works seated.some_place fits few };
   }
 
   module _ {w : View} (t : Trying k key value v w) (few : 4 ≤ v.allowance.tickets) where
     pub outside : w.section ≡ None
-    outside = outside_enter (t.ready 0 few)
+    outside = (t.ready 0 few).outside
 
     pub unlocked : w.locks ≡ []
-    unlocked = unlocked_enter (t.ready 0 few)
+    unlocked = (t.ready 0 few).unlocked
 
     -- the key is there
-    module _ {x : View} (f : Searched k w key None x) where
+    module _ {x : View} (some_place : 1 ≤ k.places) (f : Searched k w key None x) where
       old_ready : (kept : ℕ) → kept + 4 ≤ v.allowance.tickets → IsAt k (Put key value) kept (old_stage x.hands.hand) x
-      old_ready kept enough = old_at (t.ready kept enough) f.1
+      old_ready kept enough = old_at ((t.ready kept enough).at (record { works = f.1.sees.works; some_place = some_place })) f.1
 
-      pub may_give_up : (a b c : ℕ) × IsAt k (Put a b) c (old_stage x.hands.hand) x
-      may_give_up = (key, value, 0, old_ready 0 few)
+      pub may_give_up : StandsAt k (old_stage x.hands.hand) x
+      may_give_up = (Put key value, 0, old_ready 0 few)
 
       pub old_retired : x.hands.retired ≡ w.hands.retired
       old_retired = (goes_looked f.1).retired
@@ -249,17 +217,17 @@ module _ {k : Shape} {key value : ℕ} {v : View} where
         pub old_wait : KeepsWait v y
         old_wait = keeps_wait (since_stays (since_looked t.since f.1) g) y (none_yet y)
 
-        module _ (ends : (a b c : ℕ) → IsAt k (Put a b) c (old_stage x.hands.hand) x → IsAt k (Put a b) c at.Finished y) where
+        module _ (ends : Comes k (old_stage x.hands.hand) x at.Finished y) where
           pub old_quiet : IsQuiet y
-          old_quiet = is_quiet (ends key value 0 (old_ready 0 few))
+          old_quiet = is_quiet (ends (Put key value) 0 (old_ready 0 few))
 
           pub old_tickets : v.allowance.tickets ≤ y.allowance.tickets + 4
-          old_tickets = (let left = has_kept (ends key value (v.allowance.tickets - 4) (old_ready (v.allowance.tickets - 4) (omega arith))) in omega arith)
+          old_tickets = (let left = has_kept (ends (Put key value) (v.allowance.tickets - 4) (old_ready (v.allowance.tickets - 4) (omega arith))) in omega arith)
 
     -- it isn't
-    module _ {x : View} (spot : Spot) (f : Searched k w key (Some spot) x) where
+    module _ {x : View} (some_place : 1 ≤ k.places) (spot : Spot) (f : Searched k w key (Some spot) x) where
       spot_ready : (kept : ℕ) → kept + 4 ≤ v.allowance.tickets → IsAt k (Put key value) kept (leaf_stage x.hands.hand spot) x
-      spot_ready kept enough = spot_at (t.ready kept enough) f.0 f.1 f.2.inside
+      spot_ready kept enough = spot_at ((t.ready kept enough).at (record { works = f.0.sees.works; some_place = some_place })) f.0 f.1 f.2.inside
 
       pub may_take_leaf : (c : ℕ) × (s : Spot) × IsAt k (Put key value) c (leaf_stage x.hands.hand s) x
       may_take_leaf = (0, spot, spot_ready 0 few)
@@ -307,7 +275,7 @@ module _ {k : Shape} {key value : ℕ} {v : View} where
 
           -- it wasn't linked
           pub tries_again : {z : View} → Goes y z [] → ((c : ℕ) → IsAt k (Put key value) c (at.LeafLock spot) y → IsAt k (Put key value) c at.EnterClock z) → Trying k key value v z
-          tries_again g again = record { marks = tried; since = since_stays since g; ready = λ kept enough. again kept (locking kept enough) }
+          tries_again g again = record { marks = tried; since = since_stays since g; ready = λ kept enough. may_begin (again kept (locking kept enough)) }
 
           -- it was linked
           module _ {z : View} (number : ℕ) (made : (c n : ℕ) → IsAt k (Put key value) c (at.LeafLock spot) y → ◌≡◌ {A = Option ℕ} (Some number) (Some n) → Links y key value n z) where

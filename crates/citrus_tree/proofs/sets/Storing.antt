@@ -1,5 +1,5 @@
 -- A set's search, its record, and its store.
-use Rattle.std.proofs.Common.{◌≡◌, ◌≢◌, ℕ, ◌+◌, ◌*◌, ◌/◌, ◌%◌, ◌<◌, ◌==◌, cond, Bool, true, false, List, [], ◌∷◌, ◌++◌, length, map, Option, Some, None, refl, sym, ap, subst, ◌∙◌, inl, arith, eq-eqb, eqb-true, length-append}
+use Rattle.std.proofs.Common.{◌≡◌, ◌≢◌, ℕ, ◌+◌, ◌*◌, ◌/◌, ◌%◌, ◌<◌, ◌==◌, Bool, true, false, List, [], ◌∷◌, ◌++◌, length, map, Option, Some, None, refl, sym, ap, subst, ◌∙◌, arith, eq-eqb, eqb-true, length-append}
 use Rattle.prcu_marks.specs.declared.commit.Commit.{Commit}
 use Rattle.prcu_marks.specs.declared.mark.Mark.{Mark}
 use Rattle.prcu_marks.specs.declared.mark.Mark.TheVariants.{Done}
@@ -25,6 +25,7 @@ use Rattle.core_acts.specs.declared.act.Part.TheVariants as part
 use Rattle.core_acts.proofs.Acting.{commit_is}
 use Rattle.seat_table.specs.Told.{IsAsked, Told}
 use Rattle.tree_points.specs.At.{IsAt, IsDone, HasLocks}
+use Rattle.tree_points.proofs.SameCall.{moves_on}
 use Rattle.tree_points.proofs.Doing.{gone_store_value, locks_replace, the_value}
 use Rattle.tree_points.proofs.Locking.{needs_set_lock, passes_set_lock_free, passes_set_lock_busy, locks_set_check, needs_unlock, passes_unlock_again, passes_unlock_was, locks_store_value}
 use Rattle.tree_points.proofs.Staying.{keeps_locks, locks_from, same_locked}
@@ -63,45 +64,29 @@ module _ {k : Shape} {kept key value : ℕ} where
   at_lock {v} {w} {old} {holder} a l found generation below =
       let none = no_hand a in
       let bare = ((a.fits.point).1).0 in
-      subst (λ (z : View). IsAt k (Set key value) kept (at.SetLock holder.slot holder.generation) z) (sym l.others) (record {
-        own = a.own;
-        op_is = a.op_is;
-        slots_are = a.slots_are;
-        places_are = a.places_are;
-        last = a.last;
-        keeps = a.keeps;
-        fits = record {
-          owns = a.fits.owns;
-          tickets = a.fits.tickets;
-          unraised = a.fits.unraised;
-          point = (
-            (refl, bare.1, bare.2, bare.3, bare.4, none.1, none.0),
-            bare.0,
-            (l.reading, (0, refl), l.sought ∙ sym (ap key_of a.op_is), (found.0, found.1, None, found.2), generation, (let s = a.slots_are in let p = a.places_are in omega arith)),
-            ap is_set a.op_is,
-          );
-        };
-      })
+      subst (λ (z : View). IsAt k (Set key value) kept (at.SetLock holder.slot holder.generation) z) (sym l.others) (moves_on a a.own refl (record {
+        owns = a.fits.owns;
+        tickets = a.fits.tickets;
+        unraised = a.fits.unraised;
+        point = (
+          (refl, bare.1, bare.2, bare.3, bare.4, none.1, none.0),
+          bare.0,
+          (l.reading, (0, refl), l.sought ∙ sym (ap key_of a.op_is), (found.0, found.1, None, found.2), generation, (let s = a.slots_are in let p = a.places_are in omega arith)),
+          ap is_set a.op_is,
+        );
+      }))
 
   -- or found nothing: the call is over
   pub at_end : {v w : View} {answer : Option ℕ} → IsAt k (Set key value) kept at.EnterClock v → Looked v key answer w → IsDone k (Set key value) kept w
   at_end {v} {w} {answer} a l =
       let none = no_hand a in
       let bare = ((a.fits.point).1).0 in
-      subst (λ (z : View). IsDone k (Set key value) kept z) (sym l.others) (record {
-        own = a.own;
-        op_is = a.op_is;
-        slots_are = a.slots_are;
-        places_are = a.places_are;
-        last = a.last;
-        keeps = a.keeps;
-        fits = record {
-          owns = a.fits.owns;
-          tickets = (let t = a.fits.tickets in omega arith);
-          unraised = a.fits.unraised;
-          point = (refl, bare, none.1);
-        };
-      })
+      subst (λ (z : View). IsDone k (Set key value) kept z) (sym l.others) (moves_on a a.own refl (record {
+        owns = a.fits.owns;
+        tickets = (let t = a.fits.tickets in omega arith);
+        unraised = a.fits.unraised;
+        point = (refl, bare, none.1);
+      }))
 
 -- the steps of the store, one after another
 module _ {k : Shape} {key kept value s g : ℕ} {v : View} (a : IsAt k (Set key value) kept (at.SetLock s g) v) where

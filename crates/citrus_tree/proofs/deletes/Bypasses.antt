@@ -1,5 +1,6 @@
 -- A bypass, point by point.
-use Rattle.std.proofs.Common.{◌≡◌, ◌≢◌, ℕ, ◌+◌, ◌*◌, ◌/◌, ◌<◌, ◌==◌, if◌then◌else◌, cond, Bool, true, false, List, [], ◌∷◌, map, Some, None, refl, sym, ap, subst, arith, eq-eqb, ne_eqb}
+use Rattle.std.proofs.Common.{◌≡◌, ◌≢◌, ℕ, ◌+◌, ◌*◌, ◌/◌, ◌<◌, ◌==◌, if◌then◌else◌, cond, Bool, true, false, List, [], ◌∷◌, map, Some, None, refl, sym, ap, subst, ◌∙◌, arith, eq-eqb, ne_eqb}
+use Rattle.prcu_marks.specs.declared.mark.Mark.{Mark}
 use Rattle.prcu_marks.specs.declared.mark.Side.{Side}
 use Rattle.prcu_marks.specs.declared.mark.Side.TheVariants.{Left, Right}
 use Rattle.prcu_model.specs.declared.operation.Op.{Op}
@@ -17,14 +18,14 @@ use Rattle.core_points.specs.declared.stage.Stage.TheVariants as at
 use Rattle.core_points.specs.declared.stage.Update.TheVariants as update
 use Rattle.core_points.specs.Programs.{deleting}
 use Rattle.core_acts.specs.declared.act.Act.TheVariants as acts
-use Rattle.seat_table.specs.Gains.{TellsNow}
+use Rattle.core_frames.specs.Telling.{IsToldOf}
 use Rattle.seat_table.specs.Told.{Told}
 use Rattle.tree_points.specs.At.{IsAt}
 use Rattle.tree_points.proofs.Updating.{passes_mark}
 use Rattle.citrus_tree.specs.Going.{Opened, Closed}
 use Rattle.citrus_tree.specs.Deletes.{KeepsAll, relinked_at}
 use Rattle.citrus_tree.specs.Gone.{retired_marks}
-use Rattle.citrus_tree.proofs.DeleteKeeps.{keeps}
+use Rattle.citrus_tree.proofs.deletes.Keeping.{keeps}
 
 -- what was loaded is known
 pub loaded_known : (ls : List Known) (field : Field) (number : ℕ) → loaded_in ls field ≡ Some number → known_in ls field ≡ Some number
@@ -44,13 +45,20 @@ closed_keeps v w e = keeps v w (ap (λ (x : View). x.allowance.place) e) (ap (λ
 abbrev pub only : Node → ℕ
 only d = if d.left == 0 then d.right else d.left
 
--- the child is a slot, or there is none
-pub child_within : {k : Shape} {op : Op} {kept : ℕ} {v : View} (d : Node) → IsAt k op kept (deleting d None) v → TellsNow k v → only d < k.slots + k.places + 1
-child_within {k} {op} {kept} {v} d a now = by (d.left == 0)
+-- the child is a slot, or there is none: its number fits 32 bits
+child_fits : {k : Shape} {op : Op} {kept : ℕ} {v : View} {h : List Mark} {word : Field → ℕ} (d : Node) → IsAt k op kept (deleting d None) v → IsToldOf k.slots k.places v h word → only d < 4294967296
+child_fits {k} {op} {kept} {v} d a told = by (d.left == 0)
   where
-    by : (z : Bool) → cond z d.right d.left < k.slots + k.places + 1
-    by true = let f = (a.fits.point).4 in (now.tells.links_within f.0 d.node d.generation f.2.kept f.2.recorded (loaded_known (known_under v d.node) (Life d.node) (2 * d.generation) (a.fits.point).5) Right d.right (loaded_known (known_under v d.node) (Link d.node Right) d.right f.2.right)).0
-    by false = let f = (a.fits.point).4 in (now.tells.links_within f.0 d.node d.generation f.2.kept f.2.recorded (loaded_known (known_under v d.node) (Life d.node) (2 * d.generation) (a.fits.point).5) Left d.left (loaded_known (known_under v d.node) (Link d.node Left) d.left f.2.left)).0
+    life : known_in (known_under v d.node) (Life d.node) ≡ Some (2 * d.generation)
+    life = loaded_known (known_under v d.node) (Life d.node) (2 * d.generation) (a.fits.point).5
+
+    by : (z : Bool) → cond z d.right d.left < 4294967296
+    by true = let f = (a.fits.point).4 in (told.links_within f.0 d.node d.generation f.2.kept f.2.recorded life Right d.right (loaded_known (known_under v d.node) (Link d.node Right) d.right f.2.right)).1
+    by false = let f = (a.fits.point).4 in (told.links_within f.0 d.node d.generation f.2.kept f.2.recorded life Left d.left (loaded_known (known_under v d.node) (Link d.node Left) d.left f.2.left)).1
+
+-- so the number that is taken for it is it
+pub child_is : {k : Shape} {op : Op} {kept n link child : ℕ} {v w : View} (d : Node) → (link < 4294967296 → child ≡ link) → link ≡ only d → IsAt k op kept (deleting d None) v → Told k v (acts.Mark d.node (2 * d.generation)) n w → child ≡ only d
+child_is d is link_is a t = is (subst (λ x. x < 4294967296) (sym link_is) (child_fits d a t.before.tells)) ∙ link_is
 
 module _ {k : Shape} {op : Op} {kept : ℕ} (d : Node) (child : ℕ) (is : child ≡ only d) where
   pub marking : {v : View} → IsAt k op kept (deleting d None) v → IsAt k op kept (at.Mark d child) v

@@ -50,19 +50,19 @@ module _ (spot : Spot) (life link tag : ℕ) where
       (λ (other : life ≢ 2 * spot.generation). ap (λ z. z && ((link == 0) && (tag == spot.tag))) (ne_eqb life (2 * spot.generation) other))
       (cases_eq life (2 * spot.generation))
 
-module _ {k : Shape} {key value kept : ℕ} {spot : Spot} {v : View} (a : IsAt k (Put key value) kept (at.LeafLife spot) v) where
+module _ {k : Shape} {op : Op} {kept : ℕ} {spot : Spot} {v : View} (a : IsAt k op kept (at.LeafLife spot) v) where
   pub checks_life : IsAsked k v (acts.LockedLoad spot.slot part.Life)
   checks_life = needs_leaf_life a
 
   module _ {life : ℕ} {x : View} (first : Told k v (acts.LockedLoad spot.slot part.Life) life x) where
-    at1 : IsAt k (Put key value) kept (at.LeafSide spot life) x
+    at1 : IsAt k op kept (at.LeafSide spot life) x
     at1 = passes_leaf_life a first
 
     pub checks_side : IsAsked k x (acts.LockedLoad spot.slot (part.Link spot.side))
     checks_side = needs_leaf_side at1
 
     module _ {link : ℕ} {y : View} (second : Told k x (acts.LockedLoad spot.slot (part.Link spot.side)) link y) where
-      at2 : IsAt k (Put key value) kept (at.LeafTag spot life link) y
+      at2 : IsAt k op kept (at.LeafTag spot life link) y
       at2 = passes_leaf_side at1 second
 
       pub checks_tag : IsAsked k y (acts.LockedLoad spot.slot (part.Tag spot.side))
@@ -78,7 +78,7 @@ module _ {k : Shape} {key value kept : ℕ} {spot : Spot} {v : View} (a : IsAt k
         pub checked_hand : (leaf : ℕ) → IsSlotOf (Some leaf) v.hands.hand → IsSlotOf (Some leaf) z.hands.hand
         checked_hand leaf is = keeps_hand (Some leaf) (same_locked third) (keeps_hand (Some leaf) (same_locked second) (keeps_hand (Some leaf) (same_locked first) is))
 
-        pub checked_at : (b : Bool) → (b ≡ true → (life ≡ 2 * spot.generation) × (link ≡ 0) × (tag ≡ spot.tag)) → (b ≡ false → life ≡ 2 * spot.generation → link ≡ 0 → tag ≡ spot.tag → ⊥) → IsAt k (Put key value) kept (held_stage b spot) z
+        pub checked_at : (b : Bool) → (b ≡ true → (life ≡ 2 * spot.generation) × (link ≡ 0) × (tag ≡ spot.tag)) → (b ≡ false → life ≡ 2 * spot.generation → link ≡ 0 → tag ≡ spot.tag → ⊥) → IsAt k op kept (held_stage b spot) z
         checked_at true holds fails = passes_leaf_tag at2 third (all_same spot life link tag (holds refl)) 0 refl
         checked_at false holds fails = passes_leaf_tag_again at2 third (not_all spot life link tag (fails refl))
 

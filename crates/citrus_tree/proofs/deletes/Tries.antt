@@ -23,10 +23,11 @@ use Rattle.tree_points.specs.Progress.{HasGone}
 use Rattle.tree_points.proofs.Ends.{has_kept, is_quiet}
 use Rattle.tree_points.proofs.Gone.{gone_on, gone_same, gone_stays}
 use Rattle.citrus_tree.specs.Deletes.{DelsAtOnce, HasDeleted, HasMadeRoom, HasSearched, HasWaitedForRoom, IsReadyToDelete, KeepsRest, KeepsWaits, retired_slots}
+use Rattle.citrus_tree.specs.Going.{MayBegin}
 use Rattle.citrus_tree.specs.Gone.{AreTries, IsOfTry, KeepsWait, waits_in}
 use Rattle.citrus_tree.specs.Replies.{Dels, DelsBy, IsMoveWait, WasAnswered}
-use Rattle.citrus_tree.proofs.Replacing.{waits_in-append}
-use Rattle.citrus_tree.proofs.DeleteSearch.{answered_before}
+use Rattle.citrus_tree.proofs.sets.Replacing.{may_begin, waits_in-append}
+use Rattle.citrus_tree.proofs.deletes.Sections.{answered_before}
 use Rattle.citrus_tree.proofs.KeepingWaits.{none_begun, wait_later, wait_on}
 
 -- as many of each slot are retired as before
@@ -43,7 +44,7 @@ pub record TriesToDelete (k : Shape) (key : ℕ) (v w : View) : Type 0 where
   pub each : AllByRecursion (IsOfTry v.allowance.place key) marks
   pub none : waits_in marks ≡ 0
   pub waits : KeepsWaits v w
-  pub ready : (kept : ℕ) → IsAt k (Del key) kept at.EnterClock v → IsAt k (Del key) kept at.EnterClock w
+  pub ready : (kept : ℕ) → MayBegin k (Del key) kept v → MayBegin k (Del key) kept w
 
 pub tries_first : (k : Shape) (key : ℕ) (v : View) → TriesToDelete k key v v
 tries_first k key v = record { marks = []; gone = gone_same; each = tt; none = refl; waits = record { wait = refl; count = refl }; ready = λ kept a. a }
@@ -84,14 +85,14 @@ module _ {k : Shape} {key : ℕ} {v w x : View} (t : TriesToDelete k key v w) (s
   absent_wait = inl (none_begun gone searched_waits.count searched_waits.wait)
 
   -- the target wasn't taken out
-  pub tries_again : {y : View} → KeepsRest x y → ((kept : ℕ) → IsAt k (Del key) kept at.EnterClock w → IsAt k (Del key) kept at.EnterClock y) → TriesToDelete k key v y
+  pub tries_again : {y : View} → KeepsRest x y → ((kept : ℕ) → MayBegin k (Del key) kept w → IsAt k (Del key) kept at.EnterClock y) → TriesToDelete k key v y
   tries_again {y} rest again = record {
     marks = t.marks ++ (Entered w.allowance.place s.count key ∷ (LeftMark w.allowance.place s.left ∷ []));
     gone = gone_stays gone rest.gone;
     each = each;
     none = none;
     waits = waits_on searched_waits rest.waits;
-    ready = λ kept a. again kept (t.ready kept a);
+    ready = λ kept a. may_begin (again kept (t.ready kept a));
   }
 
   -- or it was
@@ -179,7 +180,7 @@ module _ {v u : View} (room : HasMadeRoom v u) (key : ℕ) where
 
 -- What a call that is ready and comes to its end leaves: the seat is quiet, and it used four tickets at most.
 module _ {k : Shape} (v : View) {u w : View} {key : ℕ} (ready : IsReadyToDelete k v u) (fits : key < 2 ^ 64) (paid : 4 ≤ v.allowance.tickets) where
-  module _ (done : (kept : ℕ) → IsAt k (Del key) kept at.EnterClock u → IsDone k (Del key) kept w) where
+  module _ (done : (kept : ℕ) → MayBegin k (Del key) kept u → IsDone k (Del key) kept w) where
     pub ends_quiet : IsQuiet w
     ends_quiet = is_quiet (done 0 (ready key 0 fits paid))
 

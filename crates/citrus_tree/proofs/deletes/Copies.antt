@@ -15,7 +15,7 @@ use Rattle.tree_points.specs.At.{IsAt}
 use Rattle.tree_points.proofs.Deleting.{needs_successor_key, needs_successor_value, passes_successor_key, passes_successor_value}
 use Rattle.tree_points.proofs.Holding.{needs_copy_key, needs_copy_value, needs_copy_left, needs_copy_right, needs_copy_age, passes_copy_key, passes_copy_value, passes_copy_left, passes_copy_right, passes_copy_age}
 use Rattle.citrus_tree.specs.Deletes.{KeepsAll}
-use Rattle.citrus_tree.proofs.DeleteKeeps.{keeps_on, keeps_fill, keeps_locked_load, keeps_own_life, spare_fill, spare_locked_load, spare_own_life}
+use Rattle.citrus_tree.proofs.deletes.Keeping.{keeps_on, keeps_fill, keeps_locked_load, keeps_own_life, spare_fill, spare_locked_load, spare_own_life}
 
 module _ {k : Shape} {op : Op} {kept : ℕ} {d : Node} {u : Successor} {v : View} (copy : ℕ) (spare : IsSlotOf (Some copy) v.hands.spare) (a : IsAt k op kept (at.SuccessorKey d u) v) where
   pub loads_key : IsAsked k v (acts.LockedLoad u.slot part.Key)

@@ -18,7 +18,7 @@ use Rattle.tree_points.specs.At.{IsAt}
 use Rattle.tree_points.proofs.Deleting.{needs_successor_left, passes_node_left, passes_node_life, passes_node_right, passes_parent_life, passes_successor_left, passes_successor_life, passes_successor_parent_life}
 use Rattle.tree_points.proofs.Steps.{at_false, at_true}
 use Rattle.citrus_tree.specs.Deletes.{Comes, KeepsAll, StandsAt, walked_to}
-use Rattle.citrus_tree.proofs.DeleteKeeps.{keeps, keeps_search_load, keeps_on}
+use Rattle.citrus_tree.proofs.deletes.Keeping.{keeps, keeps_search_load, keeps_on}
 
 pub node_loaded : {k : Shape} {op : Op} {kept n0 n1 n2 n3 : ℕ} {v v1 v2 v3 v4 : View} (p s g0 g1 : ℕ) (b : Side) → g0 ≡ n0 / 2 → g1 ≡ n1 / 2 → IsAt k op kept (at.ParentLife p b s) v
     → Told k v (acts.SearchLoad p part.Life) n0 v1 → Told k v1 (acts.SearchLoad s part.Life) n1 v2 → Told k v2 (acts.SearchLoad s (part.Link Left)) n2 v3 → Told k v3 (acts.SearchLoad s (part.Link Right)) n3 v4

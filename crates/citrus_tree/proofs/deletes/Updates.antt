@@ -31,7 +31,7 @@ use Rattle.tree_points.specs.Progress.{HasGone}
 use Rattle.citrus_tree.specs.Gone.{retired_marks}
 use Rattle.citrus_tree.specs.Deletes.{HasCopied, HasDone, KeepsAll, KeepsWaits, locked_slots, retired_slots}
 use Rattle.tree_points.proofs.Gone.{gone_on}
-use Rattle.citrus_tree.proofs.DeleteKeeps.{noted_kept, slots_kept}
+use Rattle.citrus_tree.proofs.deletes.Keeping.{noted_kept, slots_kept}
 
 -- A mark of the update, and one of the node's unlinking.
 abbrev done_mark : View → Op → Mark

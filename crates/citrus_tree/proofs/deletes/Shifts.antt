@@ -1,9 +1,11 @@
 -- A move, point by point.
-use Rattle.std.proofs.Common.{◌≡◌, ◌≢◌, ℕ, ◌+◌, ◌<◌, cond, true, [], ◌∷◌, ◌++◌, Some, None, sym, ap, subst, ◌∙◌, eq-eqb, ne_eqb}
+use Rattle.std.proofs.Common.{◌≡◌, ◌≢◌, ℕ, ◌<◌, cond, true, List, [], ◌∷◌, ◌++◌, Some, None, sym, ap, subst, ◌∙◌, eq-eqb, ne_eqb}
+use Rattle.prcu_marks.specs.declared.mark.Mark.{Mark}
 use Rattle.prcu_marks.specs.declared.mark.Side.TheVariants.{Right}
 use Rattle.prcu_model.specs.declared.operation.Op.{Op}
 use Rattle.core_state.specs.declared.shape.Shape.{Shape}
 use Rattle.core_state.specs.declared.view.View.{View}
+use Rattle.core_state.specs.declared.words.Field.{Field}
 use Rattle.core_state.specs.declared.words.Field.TheVariants.{Link}
 use Rattle.core_state.specs.views.Known.{known_in, known_under}
 use Rattle.core_frames.proofs.views.Roles.{map_append}
@@ -14,12 +16,12 @@ use Rattle.core_points.specs.declared.stage.Stage.TheVariants as at
 use Rattle.core_points.specs.declared.stage.Update.TheVariants as update
 use Rattle.core_points.specs.DeletePlan.{move_locks}
 use Rattle.core_acts.specs.declared.act.Act.TheVariants as acts
-use Rattle.seat_table.specs.Gains.{TellsNow}
+use Rattle.core_frames.specs.Telling.{IsToldOf}
 use Rattle.seat_table.specs.Told.{Told}
 use Rattle.tree_points.specs.At.{HasLocks, IsAt}
 use Rattle.tree_points.specs.Progress.{HasGone}
 use Rattle.citrus_tree.specs.Deletes.{KeepsWaits, retired_slots}
-use Rattle.citrus_tree.proofs.DeleteUpdates.{unlinked_gone}
+use Rattle.citrus_tree.proofs.deletes.Updates.{unlinked_gone}
 
 pub copy_paid : {k : Shape} {op : Op} {kept next_key copy e : ℕ} {v : View} (d : Node) (u : Successor) → IsAt k op kept (at.Commit (update.Copy d u next_key copy) e) v → (v.moving ≡ None) × (v.commit ≡ None)
 copy_paid d u a = let q = (((a.fits.point).0).0).0 in (q.2, q.1)
@@ -27,15 +29,16 @@ copy_paid d u a = let q = (((a.fits.point).0).0).0 in (q.2, q.1)
 pub copy_odd : {k : Shape} {op : Op} {kept next_key copy front : ℕ} {v : View} (d : Node) (u : Successor) → IsAt k op kept (at.Even (update.Copy d u next_key copy) front) v → v.commit ≡ Some (record { found = front; stored = true })
 copy_odd d u a = ((a.fits.point).0).1
 
--- the right of the old successor is a slot, or there is none
-pub right_fits : {k : Shape} {op : Op} {kept child : ℕ} {v : View} (m : Moving) → IsAt k op kept (at.Unlink m child) v → TellsNow k v → child < k.slots + k.places + 1
-right_fits {child = child} {v = v} m a now =
+-- the right of the old successor is a slot, or there is none: its number fits 32 bits
+right_fits : {k : Shape} {op : Op} {kept child : ℕ} {v : View} {h : List Mark} {word : Field → ℕ} (m : Moving) → IsAt k op kept (at.Unlink m child) v → IsToldOf k.slots k.places v h word → child < 4294967296
+right_fits {child = child} {v = v} m a told =
     let p = a.fits.point in
     let i = (p.0).6 in
-    (now.tells.old_links_within i.0 i.1 Right child (subst (λ s. known_in (known_under v s) (Link s Right) ≡ Some child) (sym i.5) p.3)).0
+    (told.old_links_within i.0 i.1 Right child (subst (λ s. known_in (known_under v s) (Link s Right) ≡ Some child) (sym i.5) p.3)).1
 
-pub unlinking : {k : Shape} {op : Op} {kept right child : ℕ} {v : View} (m : Moving) → child ≡ right → IsAt k op kept (at.Unlink m right) v → IsAt k op kept (at.Unlink m child) v
-unlinking {k} {op} {kept} {right} {child} {v} m e a = subst (λ x. IsAt k op kept (at.Unlink m x) v) (sym e) a
+-- so the number that is taken for it is it
+pub unlinking : {k : Shape} {op : Op} {kept right child : ℕ} {v : View} {h : List Mark} {word : Field → ℕ} (m : Moving) → (right < 4294967296 → child ≡ right) → IsToldOf k.slots k.places v h word → IsAt k op kept (at.Unlink m right) v → IsAt k op kept (at.Unlink m child) v
+unlinking {k} {op} {kept} {right} {child} {v} m is told a = subst (λ x. IsAt k op kept (at.Unlink m x) v) (sym (is (right_fits m a told))) a
 
 -- what the unlinking leaves
 pub record Unlinks (v : View) (old : ℕ) (w : View) : Type 0 where

@@ -14,7 +14,7 @@ use Rattle.citrus_tree.specs.declared.search.Hop.{Hop}
 use Rattle.citrus_tree.specs.declared.search.Hop.TheVariants.{Moved, Found, Ended}
 use Rattle.citrus_tree.specs.Lookups.{IsSearching, Looked}
 use Rattle.citrus_tree.specs.Hops.{Stands}
-use Rattle.citrus_tree.proofs.Searching.{valued, in_section, looked_found}
+use Rattle.citrus_tree.proofs.searches.Searching.{valued, in_section, looked_found}
 
 module _ (k : Shape) (key : ℕ) (last : Hop) (s : ℕ) (b : Side) (w : View) (is_moved : last ≡ Moved) where
   pub at_link : (v : View) → Stands k v key last s b w → Stands k v key Moved s b w

@@ -21,7 +21,6 @@ use Rattle.prcu_marks.specs.declared.mark.Side.TheVariants.{Left, Right}
 use Rattle.core_acts.specs.declared.act.Act.TheVariants as acts
 use Rattle.core_acts.specs.declared.act.Part.{Part}
 use Rattle.core_acts.specs.declared.act.Part.TheVariants as part
-use Rattle.seat_table.specs.Gains.{TellsNow}
 use Rattle.seat_table.specs.Seats.{AreListed, IsSlotOf, SeatAt}
 use Rattle.seat_table.specs.Told.{IsAsked, Told}
 use Rattle.tree_points.specs.At.{IsAt}
@@ -102,11 +101,11 @@ goes_back back = record { gone = back_gone back; retired = back_retired back; wa
 pub gives_up : (slot : ℕ) {v w : View} → IsSlotOf (Some slot) v.hands.hand → ((held : Held) → v.hands.hand ≡ Some held → PutsBack v held.slot w) → Goes v w []
 gives_up slot {v} {w} is back = let h = hand_held v.hands.hand slot is in goes_back (back h.0 h.1)
 
-pub gives_up_at : {k : Shape} {key value kept : ℕ} (slot : ℕ) {v w : View} → IsSlotOf (Some slot) v.hands.hand → ((held : Held) → v.hands.hand ≡ Some held → PutsBack v held.slot w)
-    → IsAt k (Put key value) kept (old_stage v.hands.hand) v → IsAt k (Put key value) kept at.Finished w
-gives_up_at {k} {key} {value} {kept} slot {v} {w} is back a =
+pub gives_up_at : {k : Shape} {op : Op} {kept : ℕ} (slot : ℕ) {v w : View} → IsSlotOf (Some slot) v.hands.hand → ((held : Held) → v.hands.hand ≡ Some held → PutsBack v held.slot w)
+    → IsAt k op kept (old_stage v.hands.hand) v → IsAt k op kept at.Finished w
+gives_up_at {k} {op} {kept} slot {v} {w} is back a =
     let h = hand_held v.hands.hand slot is in
-    back_ends (back h.0 h.1) (subst (λ hand. IsAt k (Put key value) kept (old_stage hand) v) h.1 a)
+    back_ends (back h.0 h.1) (subst (λ hand. IsAt k op kept (old_stage hand) v) h.1 a)
 
 -- A slot was taken, or none was free.
 pub goes_taken : {slot generation : ℕ} {v w : View} → HasTaken v slot generation w → Goes v w []
@@ -181,5 +180,5 @@ module _ {k : Shape} {v x y : View} {listed : List ℕ} (none : FoundNone k v x)
         wait = first_later (none_begun g.gone g.waits g.wait) (reclaimed_first back);
       }
 
-  pub reserves_again : {op : Op} {kept e : ℕ} {spot : Spot} → TellsNow k x → ((t : ℕ) → times t listed ≡ times t (map (λ (r : Retired). r.slot) x.hands.retired)) → IsAt k op kept (at.Reserve (Leaf spot) e) v → IsAt k op kept (at.Reserve (Leaf spot) 1) y
-  reserves_again now same a = reclaims_leaf (none_begins none (λ nothing. some (none_retired_now none ∙ nothing)) a) (gives_all now same back) 1 (omega arith)
+  pub reserves_again : {op : Op} {kept e : ℕ} {spot : Spot} → ((t : ℕ) → times t listed ≡ times t (map (λ (r : Retired). r.slot) x.hands.retired)) → IsAt k op kept (at.Reserve (Leaf spot) e) v → IsAt k op kept (at.Reserve (Leaf spot) 1) y
+  reserves_again same a = reclaims_leaf (none_begins none (λ nothing. some (none_retired_now none ∙ nothing)) a) (gives_all (λ _. some) same back) 1 (omega arith)

@@ -1,5 +1,5 @@
 -- What single steps leave as it was: a delete's other locks and retired slots, its waits, and the marks of its place.
-use Rattle.std.proofs.Common.{◌≡◌, ◌≢◌, ℕ, ◌+◌, ◌==◌, cond, Bool, true, false, Option, Some, None, ne_eqb, List, [], ◌∷◌, map, refl, sym, ap, subst, ◌∙◌, ◌++◌}
+use Rattle.std.proofs.Common.{◌≡◌, ◌≢◌, ℕ, ◌==◌, cond, Bool, true, false, Option, Some, None, ne_eqb, List, [], ◌∷◌, map, refl, sym, ap, subst, ◌∙◌}
 use Rattle.prcu_marks.specs.declared.mark.Side.{Side}
 use Rattle.prcu_marks.specs.declared.mark.Side.TheVariants.{Left, Right}
 use Rattle.core_state.specs.declared.shape.Shape.{Shape}
@@ -14,8 +14,7 @@ use Rattle.core_state.specs.steps.Links.{with_mark}
 use Rattle.core_acts.specs.declared.act.Act.TheVariants as acts
 use Rattle.core_acts.specs.declared.act.Part.{Part}
 use Rattle.core_acts.specs.Acts.{noted}
-use Rattle.seat_table.specs.Gains.{TellsNow}
-use Rattle.seat_table.specs.Seats.{IsSlotOf, TableAt, shape_of}
+use Rattle.seat_table.specs.Seats.{IsSlotOf}
 use Rattle.seat_table.specs.Told.{Told}
 use Rattle.list_laws.specs.Counts.{times}
 use Rattle.tree_points.specs.At.{HasLocks}
@@ -130,10 +129,6 @@ locks_busy k v w s n busy t =
 
 pub rest_unlock : (k : Shape) (v w : View) (s n : ℕ) → Told k v (acts.Unlock s) n w → KeepsRest v w
 rest_unlock k v w s n t = subst (KeepsRest v) (sym t.goes) (keeps_rest_of v _ refl refl refl refl refl)
-
--- What the rule tells, by the table that a call is for.
-pub tells_as : (way : ℕ) {s t : TableAt} {v : View} → s ≡ t → TellsNow (shape_of way s) v → TellsNow (shape_of way t) v
-tells_as way {s} {t} {v} e now = subst (λ x. TellsNow (shape_of way x) v) e now
 
 -- the same slots are locked
 pub same_locks : {v w : View} {slots : List ℕ} → locked_slots w ≡ locked_slots v → HasLocks slots v → HasLocks slots w

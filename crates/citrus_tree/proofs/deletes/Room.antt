@@ -1,31 +1,32 @@
 -- What a delete does before its first search: it sees to a spare, and to room among the retired slots.
 use Rattle.std.proofs.Common.{◌≡◌, ◌≢◌, ℕ, ◌+◌, ◌^◌, ◌<◌, ◌≤◌, true, false, List, [], ◌∷◌, map, length, Option, Some, None, refl, sym, ap, subst, ◌∙◌, ◌⊎◌, inl, inr, ⊎_elim, arith}
 use Rattle.std.specs.Option.{is_some}
-use Rattle.list_laws.specs.Counts.{times}
+use Rattle.list_laws.specs.Counts.{Each, times}
 use Rattle.prcu_marks.specs.declared.mark.Mark.TheVariants.{Began, Ended}
 use Rattle.prcu_model.specs.declared.operation.Op.TheVariants.{Del}
 use Rattle.core_state.specs.declared.shape.Shape.{Shape}
 use Rattle.core_state.specs.declared.view.Held.{Held}
 use Rattle.core_state.specs.declared.view.Retired.{Retired}
 use Rattle.core_state.specs.declared.view.View.{View}
-use Rattle.core_state.specs.views.Views.{IsQuiet, Works}
+use Rattle.core_state.specs.views.Views.{IsQuiet}
 use Rattle.core_points.specs.declared.stage.Aim.TheVariants.{Spare}
 use Rattle.core_points.specs.declared.stage.Stage.TheVariants as at
 use Rattle.core_acts.specs.declared.act.Act.TheVariants as acts
-use Rattle.seat_table.specs.Gains.{TellsNow}
 use Rattle.seat_table.specs.Seats.{AreListed, IsSlotOf, SeatAt}
 use Rattle.seat_table.specs.Told.{IsAsked, Told}
 use Rattle.node_slots.specs.Reclaiming.{HasReclaimed}
 use Rattle.node_slots.specs.Taking.{FoundNone, HasTaken}
-use Rattle.node_slots.proofs.Points.{MayReclaim, gives_all, may_reclaim, none_begins_spare, none_gone, reclaim_gone, taken_gone, takes_spare}
+use Rattle.node_slots.proofs.Points.{MayReclaim, gives_all, none_begins_spare, none_gone, reclaim_gone, taken_gone, takes_spare}
 use Rattle.tree_points.specs.At.{IsAt}
 use Rattle.tree_points.specs.Progress.{HasGone}
-use Rattle.tree_points.proofs.Ends.{begins_delete, begins_room, begins_spare}
+use Rattle.tree_points.proofs.Ends.{begins_delete, begins_room, begins_spare, none_raised}
 use Rattle.tree_points.proofs.Gone.{gone_on, gone_same, gone_stays}
 use Rattle.tree_points.proofs.Reclaiming.{reclaims_room, reclaims_spare}
 use Rattle.tree_points.proofs.Staying.{stays}
 use Rattle.tree_points.proofs.Updating.{needs_keep, passes_keep}
+use Rattle.citrus_tree.specs.Going.{IsSeated}
 use Rattle.citrus_tree.specs.Deletes.{HasMadeRoom, HasWaitedForRoom, IsReadyToDelete, KeepsWaits}
+use Rattle.citrus_tree.proofs.sets.Replacing.{may_begin}
 use Rattle.citrus_tree.proofs.KeepingWaits.{none_begun, none_yet, reclaimed_first, wait_later}
 
 zero_fits : 0 < 2 ^ 64
@@ -69,28 +70,36 @@ room_later {v} {w} {x} g same retired spare r = record {
   latest = wait_later (none_begun g same.count same.wait) r.latest;
 }
 
-module _ {k : Shape} {v : View} (quiet : IsQuiet v) (works : Works v) (now : TellsNow k v) where
+module _ {k : Shape} {v : View} (quiet : IsQuiet v) where
   pub ready_at_once : length v.hands.retired < 15 → v.hands.spare ≢ None → IsReadyToDelete k v v
-  ready_at_once few given = λ key kept fits paid. begins_delete quiet works now fits paid few given
+  ready_at_once few given = λ key kept fits paid.
+      record { outside = quiet.section; unlocked = quiet.locks; at = λ seated. begins_delete quiet seated.works seated.some_place fits paid few given }
 
   pub ready_reclaimed : {w : View} {listed : List ℕ} → 15 ≤ length v.hands.retired → ((t : ℕ) → times t listed ≡ times t (map (λ (r : Retired). r.slot) v.hands.retired)) → HasReclaimed k v listed w → IsReadyToDelete k v w
-  ready_reclaimed many same back = λ key kept fits paid. reclaims_room (begins_room quiet works now fits paid many) (gives_all now same back)
+  ready_reclaimed many same back = λ key kept fits paid. record {
+    outside = ap (λ (z : View). z.section) back.rest ∙ quiet.section;
+    unlocked = ap (λ (z : View). z.locks) back.rest ∙ quiet.locks;
+    at = λ seated.
+        (let works = subst (λ n. 1 ≤ n) (ap (λ (z : View). z.allowance.places) back.rest) seated.works in
+        let some : v.hands.retired ≢ [] = λ none. (let long = ap length none in absurd (omega (arith, many, long))) in
+        reclaims_room (begins_room quiet works seated.some_place fits paid many) (gives_all (λ _. some) same back));
+  }
 
   -- A spare is taken.
   module _ (few : length v.hands.retired < 15) (none : v.hands.spare ≡ None) where
-    reserving : (key kept : ℕ) → key < 2 ^ 64 → kept + 4 ≤ v.allowance.tickets → IsAt k (Del key) kept (at.Reserve Spare 1) v
-    reserving key kept fits paid = begins_spare quiet works now fits paid few none 1 (omega arith)
+    reserving : IsSeated k v → (key kept : ℕ) → key < 2 ^ 64 → kept + 4 ≤ v.allowance.tickets → IsAt k (Del key) kept (at.Reserve Spare 1) v
+    reserving seated key kept fits paid = begins_spare quiet seated.works seated.some_place fits paid few none 1 (omega arith)
 
     module _ {slot generation : ℕ} {w : View} (taken : HasTaken v slot generation w) where
-      keeping : (key kept : ℕ) → key < 2 ^ 64 → kept + 4 ≤ v.allowance.tickets → IsAt k (Del key) kept (at.Keep slot) w
-      keeping key kept fits paid = takes_spare taken (reserving key kept fits paid)
+      keeping : 1 ≤ k.places → (key kept : ℕ) → key < 2 ^ 64 → kept + 4 ≤ v.allowance.tickets → IsAt k (Del key) kept (at.Keep slot) w
+      keeping some_place key kept fits paid = takes_spare taken (reserving (record { works = taken.given.seen.works; some_place = some_place }) key kept fits paid)
 
       pub needs_kept : 4 ≤ v.allowance.tickets → IsAsked k w (acts.KeepAsSpare slot)
-      needs_kept paid = needs_keep (keeping 0 0 zero_fits paid)
+      needs_kept paid = λ told. needs_keep (keeping told.tells.some_place 0 0 zero_fits paid) told
 
       module _ {n : ℕ} {x : View} (t : Told k w (acts.KeepAsSpare slot) n x) where
         pub ready_kept : IsReadyToDelete k v x
-        ready_kept = λ key kept fits paid. passes_keep (keeping key kept fits paid) t
+        ready_kept = λ key kept fits paid. may_begin (passes_keep (keeping t.before.tells.some_place key kept fits paid) t)
 
         pub room_kept : HasMadeRoom v x
         room_kept = record {
@@ -107,11 +116,22 @@ module _ {k : Shape} {v : View} (quiet : IsQuiet v) (works : Works v) (now : Tel
     -- None was free: the retired slots are given back.
     module _ {w : View} (empty : FoundNone k v w) where
       pub may_reclaim_spare : 4 ≤ v.allowance.tickets → MayReclaim w
-      may_reclaim_spare paid = may_reclaim (none_begins_spare empty (reserving 0 0 zero_fits paid))
+      may_reclaim_spare paid = record {
+        outside = ap (λ (z : View). z.section) empty.rest ∙ quiet.section;
+        unlocked = ap (λ (z : View). z.locks) empty.rest ∙ quiet.locks;
+        settled = ap (λ (z : View). z.moving) empty.rest ∙ quiet.moving;
+        paid = ap (λ (z : View). z.hands.owes) empty.rest ∙ quiet.owes;
+        ticket = (let same = ap (λ (z : View). z.allowance.tickets) empty.rest in omega arith);
+        unraised = subst (λ (rs : List Retired). Each rs (λ (r : Retired). r.raised ≡ false)) (sym (ap (λ (z : View). z.hands.retired) empty.rest)) (none_raised v.hands.retired quiet.raised);
+      }
 
-      module _ {x : View} {listed : List ℕ} (told : TellsNow k w) (same : (t : ℕ) → times t listed ≡ times t (map (λ (r : Retired). r.slot) w.hands.retired)) (back : HasReclaimed k w listed x) where
+      module _ {x : View} {listed : List ℕ} (same : (t : ℕ) → times t listed ≡ times t (map (λ (r : Retired). r.slot) w.hands.retired)) (back : HasReclaimed k w listed x) where
         pub ready_spare : IsReadyToDelete k v x
-        ready_spare = λ key kept fits paid. reclaims_spare (none_begins_spare empty (reserving key kept fits paid)) (gives_all told same back)
+        ready_spare = λ key kept fits paid. record {
+          outside = ap (λ (z : View). z.section) back.rest ∙ (may_reclaim_spare (omega arith)).outside;
+          unlocked = ap (λ (z : View). z.locks) back.rest ∙ (may_reclaim_spare (omega arith)).unlocked;
+          at = λ seated. reclaims_spare (none_begins_spare empty (reserving (record { works = empty.sees.works; some_place = seated.some_place }) key kept fits paid)) (gives_all empty.spare_comes same back);
+        }
 
         pub room_spare : HasMadeRoom v x
         room_spare = room_later (none_gone empty) (record { wait = ap (λ (z : View). z.wait) empty.rest; count = ap (λ (z : View). z.counts.waits) empty.rest })

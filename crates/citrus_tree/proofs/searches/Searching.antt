@@ -1,5 +1,5 @@
 -- Searches in a section, hop by hop.
-use Rattle.std.proofs.Common.{◌≡◌, ◌/◌, ◌≢◌, ℕ, suc, ◌<◌, ◌≤◌, ◌&&◌, cond, Bool, true, false, List, [], ◌∷◌, ◌++◌, Option, Some, None, refl, sym, ap, subst, ◌∙◌, arith, eq-eqb, ne_eqb}
+use Rattle.std.proofs.Common.{◌≡◌, ◌/◌, ◌≢◌, ℕ, suc, ◌<◌, ◌&&◌, cond, Bool, true, false, List, [], ◌∷◌, ◌++◌, Option, Some, None, refl, sym, ap, subst, ◌∙◌, arith, eq-eqb, ne_eqb}
 use mathlib.Core.List.{IsPrefix}
 use Rattle.prcu_marks.specs.declared.mark.Mark.{Mark}
 use Rattle.prcu_marks.specs.declared.mark.Mark.TheVariants.{Entered, Left as LeftMark}
@@ -19,9 +19,9 @@ use Rattle.core_state.specs.declared.view.SearchState.{SearchState}
 use Rattle.core_state.specs.declared.view.SearchState.TheVariants.{At, Unread, Found, Missed}
 use Rattle.core_state.specs.declared.view.View.{View}
 use Rattle.list_laws.specs.Counts.{IsIn}
-use Rattle.core_state.specs.memory.Words.{side_number, tag_number, step_side}
+use Rattle.core_state.specs.memory.Words.{step_side}
 use Rattle.core_state.specs.memory.Memory.{same_side}
-use Rattle.core_state.specs.views.Known.{known_in, IsLoadable}
+use Rattle.core_state.specs.views.Known.{known_in}
 use Rattle.core_state.specs.steps.Loads.{key_stand, linked_on, searched, loaded, after_search_load}
 use Rattle.core_state.specs.parts.ReaderParts.{state_slot}
 use Rattle.core_state.specs.steps.Sections.{fresh_reading}
@@ -29,10 +29,9 @@ use Rattle.core_frames.proofs.views.SeatFacts.{works_there}
 use Rattle.core_acts.specs.declared.act.Act.TheVariants.{SearchLoad}
 use Rattle.core_acts.specs.declared.act.Part.{Part}
 use Rattle.core_acts.specs.declared.act.Part.TheVariants as part
-use Rattle.core_state.specs.memory.Memory.{slot_count}
-use Rattle.core_acts.specs.Acts.{in_slot, noted, section_of, IsWord}
+use Rattle.core_acts.specs.Acts.{in_slot, noted}
 use Rattle.core_points.proofs.TargetWords.{part_loadable}
-use Rattle.core_acts.proofs.Acting.{section_is as opened}
+use Rattle.core_acts.proofs.Acting.{part_word, section_is as opened}
 use Rattle.seat_table.specs.Gains.{IsSlot}
 use Rattle.seat_table.specs.Told.{IsAsked, Told}
 use Rattle.seat_table.specs.Sections.{is_entry, is_exit, HasEntered, HasLeft}
@@ -87,14 +86,6 @@ exit_is kind e = ap (λ z. cond (is_load kind) true (cond (is_entry kind) true z
 pub root_is : (k : Shape) → IsSlot k 0
 root_is k = record { inside = omega arith; fits = omega arith }
 
--- a part of a slot of the table is a word of it
-part_within : (k : Shape) (s : ℕ) (p : Part) → s < slot_count k → IsWord k (in_slot s p)
-part_within k s part.Life below = below
-part_within k s part.Key below = below
-part_within k s part.Value below = below
-part_within k s (part.Link b) below = below
-part_within k s (part.Tag b) below = below
-
 module _ (k : Shape) (v : View) (key : ℕ) where
   -- a section was entered
   pub begun : (w : View) → HasEntered v key w → IsSearching v key (At 0 Right) w
@@ -143,7 +134,7 @@ module _ (k : Shape) (v : View) (key : ℕ) where
 
   -- any part of it may be loaded
   pub asks : (state : SearchState) (p : Part) (w : View) → IsSearching v key state w → IsSlot k (state_slot state) → IsAsked k w (SearchLoad (state_slot state) p)
-  asks state p w i slot = λ now. (part_within k (state_slot state) p slot.inside, (record i.entered.section { reading = i.reading }, record { section_is = i.inside; searches = i.entered.no_list; stood = i.here; loadable = part_loadable (state_slot state) p }))
+  asks state p w i slot = λ now. (part_word k (state_slot state) p slot.inside, (record i.entered.section { reading = i.reading }, record { section_is = i.inside; searches = i.entered.no_list; stood = i.here; loadable = part_loadable (state_slot state) p }))
 
   pub needs_link : (s : ℕ) (b : Side) (w : View) → IsSearching v key (At s b) w → IsSlot k s → IsAsked k w (SearchLoad s (part.Link b))
   needs_link s b w i slot = asks (At s b) (part.Link b) w i slot
@@ -256,13 +247,16 @@ module _ (k : Shape) (v : View) (key : ℕ) where
       → Sought k v key (Some (record { slot = s; generation = generation })) y
   sought s p b life generation w x y slot i t left half =
       let j = found_aged s p b life w x i t in
-      let l = looked_there_as s p b x y j.0 left in (
-        l.0,
-        l.1.0,
-        (p, b, ap (λ (r : Reading). r.state) l.1.1 ∙ j.0.state_is),
-        (life, ap (λ (r : Reading). known_in r.loads (Life s)) (l.1.1 ∙ j.1) ∙ ap (λ q. cond q (Some life) (known_in i.reading.loads (Life s))) (eq-eqb s s refl), half),
-        slot,
-      )
+      let l = looked_there_as s p b x y j.0 left in
+      record {
+        old = l.0;
+        looked = l.1.0;
+        parent = p;
+        side = b;
+        state_is = ap (λ (r : Reading). r.state) l.1.1 ∙ j.0.state_is;
+        generation_is = (life, ap (λ (r : Reading). known_in r.loads (Life s)) (l.1.1 ∙ j.1) ∙ ap (λ q. cond q (Some life) (known_in i.reading.loads (Life s))) (eq-eqb s s refl), half);
+        slot_is = slot;
+      }
 
   -- at the end of a search that missed, loads only add what they loaded
   stays : (s : ℕ) (b : Side) (p : Part) (n : ℕ) (w x : View) (i : IsSearching v key (Missed s b) w) → Told k w (SearchLoad s p) n x → ((r : Reading) → searched r (Missed s b) (in_slot s p) n ≡ r) → (j : IsSearching v key (Missed s b) x) × (j.reading ≡ noting_load i.reading (in_slot s p) n)

@@ -1,5 +1,5 @@
 -- The section of a delete: what it found, and where the call goes on.
-use Rattle.std.proofs.Common.{◌≡◌, ℕ, ◌+◌, List, [], ◌∷◌, ◌++◌, map, Option, None, refl, sym, ap, subst, ◌∙◌, arith}
+use Rattle.std.proofs.Common.{◌≡◌, ℕ, ◌+◌, ◌≤◌, List, [], ◌∷◌, ◌++◌, map, Option, None, refl, sym, ap, subst, ◌∙◌, arith}
 use mathlib.Core.List.{IsPrefix}
 use Rattle.prcu_marks.specs.declared.mark.Mark.{Mark}
 use Rattle.prcu_marks.specs.declared.mark.Mark.TheVariants.{Entered, Left as LeftMark}
@@ -16,18 +16,24 @@ use Rattle.core_points.specs.declared.stage.Target.{Target}
 use Rattle.core_points.specs.declared.stage.Then.TheVariants as next
 use Rattle.core_points.specs.declared.stage.Stage.TheVariants as at
 use Rattle.core_points.specs.Facts.{is_delete}
-use Rattle.seat_table.specs.Gains.{TellsNow}
+use Rattle.seat_table.specs.Gains.{StoodInside}
 use Rattle.seat_table.specs.Sections.{HasLeft}
 use Rattle.tree_points.specs.At.{IsAt, IsDone}
 use Rattle.tree_points.specs.Progress.{HasGone}
+use Rattle.tree_points.proofs.SameCall.{moves_on}
 use Rattle.tree_points.proofs.Gone.{gone_entered, gone_left, gone_none, gone_on, gone_same, gone_stays}
 use Rattle.tree_points.proofs.Leaving.{leaves_delete}
 use Rattle.tree_points.proofs.Standing.{no_hand_enter}
+use Rattle.citrus_tree.specs.Going.{IsSeated}
 use Rattle.citrus_tree.specs.Gone.{retired_marks}
 use Rattle.citrus_tree.specs.Deletes.{HasSearched, KeepsAll, retired_slots}
 use Rattle.citrus_tree.specs.Lookups.{IsSearching, Looked}
 use Rattle.citrus_tree.specs.Replies.{WasAnswered}
 use Rattle.citrus_tree.proofs.Leavings.{goes_looked, was_answered}
+
+-- what the section's first steps told
+pub seated_by : {k : Shape} {v w : View} {key : ℕ} {state : SearchState} → 1 ≤ k.places → IsSearching v key state w → IsSeated k v
+seated_by some_place i = record { works = i.entered.leaves.seen.works; some_place = some_place }
 
 module _ {k : Shape} {kept key : ℕ} where
   -- the search found the node
@@ -36,53 +42,37 @@ module _ {k : Shape} {kept key : ℕ} where
       let e = i.entered in
       let same : w ≡ record v { enter = i.entry.enter; section = w.section; counts = record v.counts { sections = v.counts.sections + 1 }; trail = w.trail; seen = i.entry.seen } =
       i.others ∙ ap (λ (z : View). record z { section = w.section; trail = w.trail }) e.others in
-      subst (λ (z : View). IsAt k (Del key) kept (at.ParentLife p b s) z) (sym same) (record {
-        own = a.own;
-        op_is = a.op_is;
-        slots_are = a.slots_are;
-        places_are = a.places_are;
-        last = a.last;
-        keeps = a.keeps;
-        fits = record {
-          owns = a.fits.owns;
-          tickets = a.fits.tickets;
-          unraised = a.fits.unraised;
-          point = (
-            (a.fits.point).1,
-            ap is_delete a.op_is,
-            (
-              record e.section { reading = i.reading },
-              i.inside,
-              record { searches = e.no_list; key_is = e.key_is ∙ ap key_of (sym a.op_is); sought = i.key_is ∙ ap key_of (sym a.op_is); state_is = i.state_is; here = i.here },
-              (i.above, tt),
-            ),
-          );
-        };
-      })
+      subst (λ (z : View). IsAt k (Del key) kept (at.ParentLife p b s) z) (sym same) (moves_on a a.own refl (record {
+        owns = a.fits.owns;
+        tickets = a.fits.tickets;
+        unraised = a.fits.unraised;
+        point = (
+          (a.fits.point).1,
+          ap is_delete a.op_is,
+          (
+            record e.section { reading = i.reading },
+            i.inside,
+            record { searches = e.no_list; key_is = e.key_is ∙ ap key_of (sym a.op_is); sought = i.key_is ∙ ap key_of (sym a.op_is); state_is = i.state_is; here = i.here },
+            (i.above, tt),
+          ),
+        );
+      }))
 
   -- or nothing: the call is over
   pub at_end : {v w : View} → IsAt k (Del key) kept at.EnterClock v → Looked v key None w → IsDone k (Del key) kept w
   at_end {v} {w} a l =
       let bare = ((a.fits.point).1).0 in
       let hand = no_hand_enter refl a in
-      subst (λ (z : View). IsDone k (Del key) kept z) (sym l.others) (record {
-        own = a.own;
-        op_is = a.op_is;
-        slots_are = a.slots_are;
-        places_are = a.places_are;
-        last = a.last;
-        keeps = a.keeps;
-        fits = record {
-          owns = a.fits.owns;
-          tickets = (let t = a.fits.tickets in omega arith);
-          unraised = a.fits.unraised;
-          point = (refl, bare, hand);
-        };
-      })
+      subst (λ (z : View). IsDone k (Del key) kept z) (sym l.others) (moves_on a a.own refl (record {
+        owns = a.fits.owns;
+        tickets = (let t = a.fits.tickets in omega arith);
+        unraised = a.fits.unraised;
+        point = (refl, bare, hand);
+      }))
 
   -- the section was left with a target
-  pub at_target : {v w : View} {t : Target} → IsAt k (Del key) kept (at.Leave (next.Delete t)) v → TellsNow k v → HasLeft v w → IsAt k (Del key) kept (at.TargetLock t 0) w
-  at_target {v} {w} a now left = leaves_delete k (Del key) kept v w left now a
+  pub at_target : {v w : View} {t : Target} → IsAt k (Del key) kept (at.Leave (next.Delete t)) v → StoodInside k v → HasLeft v w → IsAt k (Del key) kept (at.TargetLock t 0) w
+  at_target {v} {w} a inside left = leaves_delete k (Del key) kept v w left inside a
 
 -- What the section leaves.
 pub searched_found : {v w x y : View} {key : ℕ} {state : SearchState} → IsSearching v key state w → KeepsAll w x → HasLeft x y → HasSearched v key y

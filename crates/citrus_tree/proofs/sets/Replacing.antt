@@ -13,24 +13,23 @@ use Rattle.prcu_model.proofs.ListFacts.{all_append, prefix_trans}
 use Rattle.core_state.specs.declared.shape.Shape.{Shape}
 use Rattle.core_state.specs.declared.view.Retired.{Retired}
 use Rattle.core_state.specs.declared.view.View.{View}
-use Rattle.core_state.specs.views.Views.{IsQuiet, Works}
+use Rattle.core_state.specs.views.Views.{IsQuiet}
 use Rattle.core_points.specs.declared.stage.Stage.TheVariants as at
 use Rattle.list_laws.specs.Counts.{times}
 use Rattle.seat_table.specs.Seats.{AreListed, SeatAt}
-use Rattle.seat_table.specs.Gains.{TellsNow}
 use Rattle.tree_points.specs.At.{IsAt, IsDone}
 use Rattle.tree_points.specs.Progress.{HasGone}
 use Rattle.tree_points.proofs.Ends.{begins_set, has_kept, is_quiet}
 use Rattle.tree_points.proofs.Standing.{outside_enter, unlocked_enter}
 use Rattle.citrus_tree.specs.declared.replace.Holder.{Holder}
 use Rattle.citrus_tree.specs.declared.replace.Replaced.{Replaced}
-use Rattle.citrus_tree.specs.Going.{Goes, Sought, Stores}
+use Rattle.citrus_tree.specs.Going.{Goes, MayBegin, Sought, Stores}
 use Rattle.citrus_tree.specs.Gone.{AreTries, IsOfTry, KeepsWait, waits_in}
 use Rattle.citrus_tree.specs.Lookups.{Looked}
 use Rattle.citrus_tree.specs.Replies.{Sets, WasAnswered}
 use Rattle.citrus_tree.proofs.KeepingWaits.{none_begun}
 use Rattle.citrus_tree.proofs.Leavings.{goes_looked, goes_on, goes_same, goes_stays, was_answered}
-use Rattle.citrus_tree.proofs.Storing.{at_end, at_lock}
+use Rattle.citrus_tree.proofs.sets.Storing.{at_end, at_lock}
 
 pub waits_in-append : (a b : List Mark) → waits_in (a ++ b) ≡ waits_in a + waits_in b
 waits_in-append [] b = omega arith
@@ -46,24 +45,34 @@ waits_in-append (Freed s ∷ a) b = waits_in-append a b
 pub listed_on : (s t : SeatAt) → t.listed ≡ s.listed → t.view.hands.retired ≡ s.view.hands.retired → AreListed s → AreListed t
 listed_on s t listed retired are = record { each = λ slot. ap (times slot) listed ∙ are.each slot ∙ ap (λ (rs : List Retired). times slot (map (λ (r : Retired). r.slot) rs)) (sym retired) }
 
+-- A call that stands at its first point may begin.
+pub may_begin : {k : Shape} {op : Op} {kept : ℕ} {v : View} → IsAt k op kept at.EnterClock v → MayBegin k op kept v
+may_begin a = record { outside = outside_enter a; unlocked = unlocked_enter a; at = λ seated. a }
+
 -- So far there were only sections with the key, and the call may begin its next try.
 pub record Trying (k : Shape) (op : Op) (v w : View) : Type 0 where
   pub marks : List Mark
   pub goes : Goes v w marks
   pub each : AllByRecursion (IsOfTry v.allowance.place (key_of op)) marks
   pub none : waits_in marks ≡ 0
-  pub ready : (kept : ℕ) → kept + 4 ≤ v.allowance.tickets → IsAt k op kept at.EnterClock w
+  pub ready : (kept : ℕ) → kept + 4 ≤ v.allowance.tickets → MayBegin k op kept w
 
 module _ {k : Shape} {key value : ℕ} {v : View} where
-  pub begins : IsQuiet v → Works v → TellsNow k v → key < 2 ^ 64 → Trying k (Set key value) v v
-  begins quiet works now fits = record { marks = []; goes = goes_same v; each = tt; none = refl; ready = λ kept few. begins_set quiet works now fits few }
+  pub begins : IsQuiet v → key < 2 ^ 64 → Trying k (Set key value) v v
+  begins quiet fits = record {
+    marks = [];
+    goes = goes_same v;
+    each = tt;
+    none = refl;
+    ready = λ kept few. record { outside = quiet.section; unlocked = quiet.locks; at = λ seated. begins_set quiet seated.works seated.some_place fits few };
+  }
 
   module _ {w : View} (t : Trying k (Set key value) v w) (few : 4 ≤ v.allowance.tickets) where
     pub outside : w.section ≡ None
-    outside = outside_enter (t.ready 0 few)
+    outside = (t.ready 0 few).outside
 
     pub unlocked : w.locks ≡ []
-    unlocked = unlocked_enter (t.ready 0 few)
+    unlocked = (t.ready 0 few).unlocked
 
     -- one more section
     module _ {answer : Option ℕ} {x : View} (l : Looked w key answer x) where
@@ -104,14 +113,15 @@ module _ {k : Shape} {key value : ℕ} {v : View} where
         none,
       )
 
-      done : (kept : ℕ) → kept + 4 ≤ v.allowance.tickets → IsDone k (Set key value) kept x
-      done kept enough = at_end (t.ready kept enough) l
+      module _ (some_place : 1 ≤ k.places) where
+        done : (kept : ℕ) → kept + 4 ≤ v.allowance.tickets → IsDone k (Set key value) kept x
+        done kept enough = at_end ((t.ready kept enough).at (record { works = l.sees.works; some_place = some_place })) l
 
-      pub absent_quiet : IsQuiet x
-      absent_quiet = is_quiet (done 0 few)
+        pub absent_quiet : IsQuiet x
+        absent_quiet = is_quiet (done 0 few)
 
-      pub absent_tickets : v.allowance.tickets ≤ x.allowance.tickets + 4
-      absent_tickets = (let left = has_kept (done (v.allowance.tickets - 4) (omega arith)) in omega arith)
+        pub absent_tickets : v.allowance.tickets ≤ x.allowance.tickets + 4
+        absent_tickets = (let left = has_kept (done (v.allowance.tickets - 4) (omega arith)) in omega arith)
 
       pub absent_goes : Goes v x (t.marks ++ (Entered w.allowance.place w.counts.sections key ∷ (LeftMark w.allowance.place w.counts.sections ∷ [])))
       absent_goes = goes
@@ -123,9 +133,9 @@ module _ {k : Shape} {key value : ℕ} {v : View} where
       absent_wait = inl (none_begun goes.gone goes.waits goes.wait)
 
     -- the key is there
-    module _ {x : View} {holder : Holder} (f : Sought k w key (Some holder) x) where
+    module _ {x : View} {holder : Holder} (some_place : 1 ≤ k.places) (f : Sought k w key (Some holder) x) where
       pub locking : (kept : ℕ) → kept + 4 ≤ v.allowance.tickets → IsAt k (Set key value) kept (at.SetLock holder.slot holder.generation) x
-      locking kept enough = at_lock (t.ready kept enough) f.1 f.2 f.3 f.4.inside
+      locking kept enough = at_lock ((t.ready kept enough).at (record { works = f.looked.sees.works; some_place = some_place })) f.looked (f.parent, f.side, f.state_is) f.generation_is f.slot_is.inside
 
       pub may_store : (b : ℕ) × IsAt k (Set key value) b (at.SetLock holder.slot holder.generation) x
       may_store = (0, locking 0 few)
@@ -134,10 +144,10 @@ module _ {k : Shape} {key value : ℕ} {v : View} where
       pub tries_again : {y : View} → Goes x y [] → ((b : ℕ) → IsAt k (Set key value) b (at.SetLock holder.slot holder.generation) x → IsAt k (Set key value) b at.EnterClock y) → Trying k (Set key value) v y
       tries_again g again = record {
         marks = t.marks ++ (Entered w.allowance.place w.counts.sections key ∷ (LeftMark w.allowance.place w.counts.sections ∷ []));
-        goes = goes_stays (goes f.1) g;
-        each = each f.1;
-        none = none f.1;
-        ready = λ kept enough. again kept (locking kept enough);
+        goes = goes_stays (goes f.looked) g;
+        each = each f.looked;
+        none = none f.looked;
+        ready = λ kept enough. may_begin (again kept (locking kept enough));
       }
 
       -- it was made
@@ -148,11 +158,11 @@ module _ {k : Shape} {key value : ℕ} {v : View} where
         is_stored = s 0 done_as (locking 0 few) refl
 
         same_place : x.allowance.place ≡ v.allowance.place
-        same_place = (goes f.1).gone.same
+        same_place = (goes f.looked).gone.same
 
         pub goes_all : Goes v y ((t.marks ++ (Entered w.allowance.place w.counts.sections key ∷ (LeftMark w.allowance.place w.counts.sections ∷ []))) ++ Done (record { caller = v.allowance.place; op = Set key value }) ∷ [])
         goes_all = subst (λ (p : ℕ). Goes v y ((t.marks ++ (Entered w.allowance.place w.counts.sections key ∷ (LeftMark w.allowance.place w.counts.sections ∷ []))) ++ Done (record { caller = p; op = Set key value }) ∷ [])) same_place
-            (goes_on (goes f.1) is_stored.1.goes)
+            (goes_on (goes f.looked) is_stored.1.goes)
 
         pub stored_sets : Sets v key value (record { reply = Was done_as.old; number = done_as.number }) y
         stored_sets = (
@@ -160,16 +170,16 @@ module _ {k : Shape} {key value : ℕ} {v : View} where
           (
             is_stored.0,
             record {
-              tried = tries f.1;
+              tried = tries f.looked;
               own = subst (HasGone v y) (sym (append-nil ((t.marks ++ (Entered w.allowance.place w.counts.sections key ∷ (LeftMark w.allowance.place w.counts.sections ∷ []))) ++ Done (record { caller = v.allowance.place; op = Set key value }) ∷ []))) goes_all.gone;
-              since = prefix_trans v.seen x.seen is_stored.0 (goes f.1).gone.begins is_stored.1.since;
+              since = prefix_trans v.seen x.seen is_stored.0 (goes f.looked).gone.begins is_stored.1.since;
               stands = ([], append-nil (is_stored.0 ++ Done (record { caller = v.allowance.place; op = Set key value }) ∷ []) ∙ sym (is_stored.1.seen ∙ (λ i. is_stored.0 ++ Done (record { caller = same_place i; op = Set key value }) ∷ [])));
               number_is = is_stored.1.number_is;
               legal = is_stored.1.legal;
             },
             is_stored.2,
           ),
-          none f.1,
+          none f.looked,
         )
 
         finished : (kept : ℕ) → kept + 4 ≤ v.allowance.tickets → IsDone k (Set key value) kept y

@@ -1,9 +1,8 @@
 -- The wait of a move, and what is retired after it.
-use Rattle.std.proofs.Common.{◌≡◌, ℕ, ◌+◌, ◌<◌, ◌≤◌, None, List, [], ◌∷◌, ◌++◌, map, length, refl, ap, subst, ◌∙◌, arith}
+use Rattle.std.proofs.Common.{◌≡◌, ℕ, ◌+◌, ◌≤◌, None, List, [], ◌∷◌, ◌++◌, map, length, refl, ap, subst, ◌∙◌, arith}
 use Rattle.list_laws.specs.Counts.{times, IsIn}
 use Rattle.list_laws.proofs.Lists.{times_append, times_here}
 use Rattle.prcu_model.specs.declared.operation.Op.TheVariants.{Del}
-use Rattle.prcu_model.specs.Dictionary.{key_of}
 use Rattle.core_state.specs.declared.shape.Shape.{Shape}
 use Rattle.core_state.specs.declared.view.Retired.{Retired}
 use Rattle.core_state.specs.declared.view.View.{View}
@@ -13,20 +12,10 @@ use Rattle.key_interval.specs.Keys.{Interval}
 use Rattle.core_points.specs.declared.stage.Moving.{Moving}
 use Rattle.core_points.specs.declared.stage.Waits.TheVariants as waits
 use Rattle.core_points.specs.declared.stage.Stage.TheVariants as at
-use Rattle.seat_table.specs.Gains.{TellsNow}
 use Rattle.seat_table.specs.Waits.{HasWaited}
 use Rattle.tree_points.specs.At.{IsAt}
 use Rattle.citrus_tree.specs.Deletes.{retired_slots}
 use Rattle.node_slots.proofs.Listed.{not_in}
-
-pub move_keys : {k : Shape} {kept key : ℕ} {v : View} (m : Moving) → IsAt k (Del key) kept (at.Begin (waits.Move m)) v → TellsNow k v → key < m.next_key
-move_keys {k} {kept} {key} {v} m a now =
-    let i = ((a.fits.point).0).6 in
-    let t = now.tells.moves i.0 i.1 in
-    let mine : i.0.key ≡ key = i.2 ∙ ap key_of a.op_is in
-    let next = i.3 in
-    let lt = t.0 in
-    omega (arith, mine, next, lt)
 
 pub move_outside : {k : Shape} {kept key : ℕ} {v : View} (m : Moving) → IsAt k (Del key) kept (at.Begin (waits.Move m)) v → v.section ≡ None
 move_outside m a = ((a.fits.point).0).0

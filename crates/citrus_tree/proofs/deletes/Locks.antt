@@ -21,7 +21,7 @@ use Rattle.tree_points.proofs.Locking.{locks_target_lock}
 use Rattle.tree_points.proofs.Steps.{at_false}
 use Rattle.citrus_tree.specs.Deletes.{Comes, KeepsRest, StandsAt, giving_up}
 use Rattle.tree_points.proofs.Gone.{gone_none}
-use Rattle.citrus_tree.proofs.DeleteKeeps.{keeps_rest, locks_busy, rest_lock, rest_unlock}
+use Rattle.citrus_tree.proofs.deletes.Keeping.{keeps_rest, locks_busy, rest_lock, rest_unlock}
 
 -- Before any step nothing changed.
 pub rest_none : (v : View) → KeepsRest v v

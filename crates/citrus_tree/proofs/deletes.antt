@@ -1,0 +1,14 @@
+pub mod Keeping
+pub mod Lists
+pub mod Loads
+pub mod Locks
+pub mod Finds
+pub mod Updates
+pub mod Bypasses
+pub mod Shifts
+pub mod Copies
+pub mod Moves
+pub mod Pieces
+pub mod Room
+pub mod Sections
+pub mod Tries
