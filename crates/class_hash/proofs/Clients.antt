@@ -74,8 +74,10 @@ module _ (explains : Dictionary → Op → Reply → Type 0) (v w : View) (op : 
   after = record { place = w.place; own = w.own; seen = w.seen }
 
   -- a call that made no update
-  unchanged : (marks : List Mark) → w.place ≡ v.place → w.own ≡ v.own ++ marks → AllByRecursion (IsOfSection v.place (key_of op)) marks → 1 ≤ entered_for v.place (key_of op) marks → IsPrefix v.seen w.seen
-      → tells_update told.reply ≡ false → (front : ℕ) → length (updates_of v.seen) ≤ front → front ≤ length (updates_of w.seen) → explains (map_at (updates_of w.seen) front) op told.reply
+  unchanged : (marks : List Mark) → w.place ≡ v.place → w.own ≡ v.own ++ marks → AllByRecursion (IsOfSection v.place (key_of op)) marks
+      → 1 ≤ entered_for v.place (key_of op) marks → IsPrefix v.seen w.seen
+      → tells_update told.reply ≡ false → (front : ℕ) → length (updates_of v.seen) ≤ front → front ≤ length (updates_of w.seen)
+      → explains (map_at (updates_of w.seen) front) op told.reply
       → HasAnswered explains (record { place = v.place; own = v.own; seen = v.seen }) op told (record { place = w.place; own = w.own; seen = w.seen })
   unchanged marks place own plain entered since tells front low high explained = record {
     place = place;
@@ -114,7 +116,8 @@ module _ (explains : Dictionary → Op → Reply → Type 0) (v w : View) (op : 
       l.said.front (omega arith) l.said.made (explained (map_at (updates_of w.seen) l.said.front) l.said.answers)
 
   -- a call that made its update
-  updated : (h more : List Mark) → updates_of more ≡ [] → HasUpdated v op h more told.number w → tells_update told.reply ≡ true → Confirms (map_of (updates_of h)) op told.reply
+  updated : (h more : List Mark) → updates_of more ≡ [] → HasUpdated v op h more told.number w → tells_update told.reply ≡ true
+      → Confirms (map_of (updates_of h)) op told.reply
       → HasAnswered explains (record { place = v.place; own = v.own; seen = v.seen }) op told (record { place = w.place; own = w.own; seen = w.seen })
   updated h more none u tells confirms =
       let mark : Mark = Done (record { caller = v.place; op = op }) in
@@ -157,60 +160,69 @@ module _ (capacities : List ℕ) (v w : View) (places : ℕ) (informed : IsInfor
   met_here : HasSeenItsOwn (record { place = w.place; own = w.own; seen = w.seen })
   met_here = informed.met w.place (inl (omega arith, (let works = informed.works in omega arith)))
 
-  got : (key : ℕ) (told : Told) → Gets v key told w → HasAnswered (ExplainsInClasses capacities) (record { place = v.place; own = v.own; seen = v.seen }) (Get key) told (record { place = w.place; own = w.own; seen = w.seen })
+  got : (key : ℕ) (told : Told) → Gets v key told w
+      → HasAnswered (ExplainsInClasses capacities) (record { place = v.place; own = v.own; seen = v.seen }) (Get key) told (record { place = w.place; own = w.own; seen = w.seen })
   got key told g = subst (λ t. HasAnswered (ExplainsInClasses capacities) (record { place = v.place; own = v.own; seen = v.seen }) (Get key) t (record { place = w.place; own = w.own; seen = w.seen })) (sym g.1) (by g.0 g.2)
     where
-      by : (answer : Option ℕ) → Looked v key answer w → HasAnswered (ExplainsInClasses capacities) (record { place = v.place; own = v.own; seen = v.seen }) (Get key) (told_of answer) (record { place = w.place; own = w.own; seen = w.seen })
+      by : (answer : Option ℕ) → Looked v key answer w
+          → HasAnswered (ExplainsInClasses capacities) (record { place = v.place; own = v.own; seen = v.seen }) (Get key) (told_of answer) (record { place = w.place; own = w.own; seen = w.seen })
       by None l = looked (ExplainsInClasses capacities) v w (Get key) (record { reply = Absent; number = 0 }) met_here v None (nothing_before v key) l refl (λ m none. absent capacities m key none)
       by (Some value) l = looked (ExplainsInClasses capacities) v w (Get key) (record { reply = Val value; number = 0 }) met_here v (Some value) (nothing_before v key) l refl (λ m is. is)
 
-  was_put : (key value : ℕ) (reply : Reply) (number : ℕ) → PutsBy capacities v key value reply number w → HasAnswered (ExplainsInClasses capacities) (record { place = v.place; own = v.own; seen = v.seen }) (Put key value) (record { reply = reply; number = number }) (record { place = w.place; own = w.own; seen = w.seen })
-  was_put key value Old number p = looked (ExplainsInClasses capacities) v w (Put key value) (record { reply = Old; number = number }) met_here p.0 (Some p.2.0) p.1 p.2.1 refl (λ m is. ap is_some is)
-  was_put key value New number p = updated (ExplainsInClasses capacities) v w (Put key value) (record { reply = New; number = number }) met_here p.0 [] refl p.2 refl tt
+  was_put : (key value : ℕ) (reply : Reply) (number : ℕ) → PutsBy capacities v key value reply number w
+      → HasAnswered (ExplainsInClasses capacities) (record { place = v.place; own = v.own; seen = v.seen }) (Put key value) (record { reply = reply; number = number }) (record { place = w.place; own = w.own; seen = w.seen })
+  was_put key value Old number p = looked (ExplainsInClasses capacities) v w (Put key value) (record { reply = Old; number = number }) met_here p.before (Some p.old) p.tried p.looked refl (λ m is. ap is_some is)
+  was_put key value New number p = updated (ExplainsInClasses capacities) v w (Put key value) (record { reply = New; number = number }) met_here p.before [] refl p.updated refl tt
   was_put key value Full number p =
-      let t = p.0.0 in
+      let t = p.tried in
       let us : List Update = updates_of w.seen in
       let now : map_at (updates_of w.seen) (length (updates_of w.seen)) ≡ map_of (updates_of w.seen) = ap map_of (take_all (length (updates_of w.seen)) (updates_of w.seen) (omega arith)) in
-      unchanged (ExplainsInClasses capacities) v w (Put key value) (record { reply = Full; number = number }) met_here t.marks (ap (λ (z : View). z.place) t.view) t.own t.plain p.0.1 t.seen refl (length (updates_of w.seen)) (updates_below v.seen w.seen t.seen) (omega arith)
-      (subst (λ d. ExplainsInClasses capacities d (Put key value) Full) (sym now) (p.2.absent, p.2.pairs))
+      unchanged (ExplainsInClasses capacities) v w (Put key value) (record { reply = Full; number = number }) met_here t.marks (ap (λ (z : View). z.place) t.view) t.own t.plain p.searched t.seen refl (length (updates_of w.seen)) (updates_below v.seen w.seen t.seen) (omega arith)
+      (subst (λ d. ExplainsInClasses capacities d (Put key value) Full) (sym now) (p.room.absent, p.room.pairs))
   was_put key value (Val x) number p = absurd p
   was_put key value Absent number p = absurd p
   was_put key value Gone number p = absurd p
   was_put key value (Was x) number p = absurd p
 
-  was_set : (key value : ℕ) (reply : Reply) (number : ℕ) → SetsBy v key value reply number w → HasAnswered (ExplainsInClasses capacities) (record { place = v.place; own = v.own; seen = v.seen }) (Set key value) (record { reply = reply; number = number }) (record { place = w.place; own = w.own; seen = w.seen })
-  was_set key value Absent number p = looked (ExplainsInClasses capacities) v w (Set key value) (record { reply = Absent; number = number }) met_here p.0 None p.1 p.2 refl (λ m none. absent capacities m key none)
-  was_set key value (Was old) number p = updated (ExplainsInClasses capacities) v w (Set key value) (record { reply = Was old; number = number }) met_here p.0 [] refl p.1 refl p.2
+  was_set : (key value : ℕ) (reply : Reply) (number : ℕ) → SetsBy v key value reply number w
+      → HasAnswered (ExplainsInClasses capacities) (record { place = v.place; own = v.own; seen = v.seen }) (Set key value) (record { reply = reply; number = number }) (record { place = w.place; own = w.own; seen = w.seen })
+  was_set key value Absent number p = looked (ExplainsInClasses capacities) v w (Set key value) (record { reply = Absent; number = number }) met_here p.before None p.tried p.looked refl (λ m none. absent capacities m key none)
+  was_set key value (Was old) number p = updated (ExplainsInClasses capacities) v w (Set key value) (record { reply = Was old; number = number }) met_here p.before [] refl p.updated refl p.was
   was_set key value New number p = absurd p
   was_set key value Old number p = absurd p
   was_set key value Full number p = absurd p
   was_set key value (Val x) number p = absurd p
   was_set key value Gone number p = absurd p
 
-  was_deleted : (key : ℕ) (reply : Reply) (number : ℕ) → DelsBy v key reply number w → HasAnswered (ExplainsInClasses capacities) (record { place = v.place; own = v.own; seen = v.seen }) (Del key) (record { reply = reply; number = number }) (record { place = w.place; own = w.own; seen = w.seen })
-  was_deleted key Absent number p = looked (ExplainsInClasses capacities) v w (Del key) (record { reply = Absent; number = number }) met_here p.0 None p.1 p.2 refl (λ m none. absent capacities m key none)
-  was_deleted key Gone number p = updated (ExplainsInClasses capacities) v w (Del key) (record { reply = Gone; number = number }) met_here p.0 (Unlinked p.1 ∷ []) refl p.2 refl tt
+  was_deleted : (key : ℕ) (reply : Reply) (number : ℕ) → DelsBy v key reply number w
+      → HasAnswered (ExplainsInClasses capacities) (record { place = v.place; own = v.own; seen = v.seen }) (Del key) (record { reply = reply; number = number }) (record { place = w.place; own = w.own; seen = w.seen })
+  was_deleted key Absent number p = looked (ExplainsInClasses capacities) v w (Del key) (record { reply = Absent; number = number }) met_here p.before None p.tried p.looked refl (λ m none. absent capacities m key none)
+  was_deleted key Gone number p = updated (ExplainsInClasses capacities) v w (Del key) (record { reply = Gone; number = number }) met_here p.before (Unlinked p.slot ∷ []) refl p.updated refl tt
   was_deleted key New number p = absurd p
   was_deleted key Old number p = absurd p
   was_deleted key Full number p = absurd p
   was_deleted key (Val x) number p = absurd p
   was_deleted key (Was x) number p = absurd p
 
-  pub made_answers : (op : Op) (told : Told) → Makes capacities v op told w → HasAnswered (ExplainsInClasses capacities) (record { place = v.place; own = v.own; seen = v.seen }) op told (record { place = w.place; own = w.own; seen = w.seen })
+  pub made_answers : (op : Op) (told : Told) → Makes capacities v op told w
+      → HasAnswered (ExplainsInClasses capacities) (record { place = v.place; own = v.own; seen = v.seen }) op told (record { place = w.place; own = w.own; seen = w.seen })
   made_answers (Put key value) told p = was_put key value told.reply told.number p
   made_answers (Get key) told p = got key told p
   made_answers (Del key) told p = was_deleted key told.reply told.number p
   made_answers (Set key value) told p = was_set key value told.reply told.number p
 
 -- a chain of calls, from a client whose place had made no update
-pub chain_has_told : (capacities : List ℕ) (ops : List Op) (tolds : List Told) (before after : ClientAt) → before.table.capacities ≡ capacities → HasSeenItsOwn (caller_of before) → own_updates before.view.place (updates_of before.view.seen) ≡ []
+pub chain_has_told : (capacities : List ℕ) (ops : List Op) (tolds : List Told) (before after : ClientAt)
+    → before.table.capacities ≡ capacities → HasSeenItsOwn (caller_of before)
+    → own_updates before.view.place (updates_of before.view.seen) ≡ []
     → IsChain HasCalled before ops tolds after → HasTold (ExplainsInClasses capacities) (caller_of before) ops tolds (caller_of after)
 chain_has_told capacities ops tolds before after same met none chain =
     let made : ClientAt → Op → Told → ClientAt → Type 0 = λ c op told d. HasCalled c op told d × (c.table.capacities ≡ capacities) in
     chain_tells made caller_of (ExplainsInClasses capacities) (λ c op told d call. subst (λ cs. HasAnswered (ExplainsInClasses cs) (caller_of c) op told (caller_of d)) call.1 (made_answers c.table.capacities c.view d.view c.table.places call.0.informed op told call.0.makes))
     ops tolds before after met none (with_capacities ops tolds before same chain)
   where
-    with_capacities : (os : List Op) (ts : List Told) (c : ClientAt) → c.table.capacities ≡ capacities → IsChain HasCalled c os ts after → IsChain (λ (x : ClientAt) (op : Op) (told : Told) (y : ClientAt). HasCalled x op told y × (x.table.capacities ≡ capacities)) c os ts after
+    with_capacities : (os : List Op) (ts : List Told) (c : ClientAt) → c.table.capacities ≡ capacities → IsChain HasCalled c os ts after
+        → IsChain (λ (x : ClientAt) (op : Op) (told : Told) (y : ClientAt). HasCalled x op told y × (x.table.capacities ≡ capacities)) c os ts after
     with_capacities [] [] c is done = done
     with_capacities [] (t ∷ ts) c is done = absurd done
     with_capacities (o ∷ os) [] c is done = absurd done
@@ -222,14 +234,15 @@ chains_meet ops tolds before after informed none chain =
     (chain_has_told before.table.capacities ops tolds before after refl (informed.met before.view.place (inl (omega arith, (let works = informed.works in omega arith)))) none chain)
 
 -- a call leaves the seat at its places
-pub calls_stay : (capacities : List ℕ) (v w : View) (op : Op) (told : Told) → Makes capacities v op told w → (w.place ≡ v.place) × (w.places ≡ v.places)
+pub calls_stay : (capacities : List ℕ) (v w : View) (op : Op) (told : Told) → Makes capacities v op told w
+    → (w.place ≡ v.place) × (w.places ≡ v.places)
 calls_stay capacities v w (Get key) told g = (ap (λ (z : View). z.place) g.2.view, ap (λ (z : View). z.places) g.2.view)
 calls_stay capacities v w (Put key value) told p = by told.reply told.number p
   where
     by : (reply : Reply) (number : ℕ) → PutsBy capacities v key value reply number w → (w.place ≡ v.place) × (w.places ≡ v.places)
-    by Old number q = (ap (λ (z : View). z.place) q.2.1.view ∙ ap (λ (z : View). z.place) q.1.view, ap (λ (z : View). z.places) q.2.1.view ∙ ap (λ (z : View). z.places) q.1.view)
-    by New number q = (ap (λ (z : View). z.place) q.2.view, ap (λ (z : View). z.places) q.2.view)
-    by Full number q = (ap (λ (z : View). z.place) q.0.0.view, ap (λ (z : View). z.places) q.0.0.view)
+    by Old number q = (ap (λ (z : View). z.place) q.looked.view ∙ ap (λ (z : View). z.place) q.tried.view, ap (λ (z : View). z.places) q.looked.view ∙ ap (λ (z : View). z.places) q.tried.view)
+    by New number q = (ap (λ (z : View). z.place) q.updated.view, ap (λ (z : View). z.places) q.updated.view)
+    by Full number q = (ap (λ (z : View). z.place) q.tried.view, ap (λ (z : View). z.places) q.tried.view)
     by (Val x) number q = absurd q
     by Absent number q = absurd q
     by Gone number q = absurd q
@@ -237,8 +250,8 @@ calls_stay capacities v w (Put key value) told p = by told.reply told.number p
 calls_stay capacities v w (Set key value) told p = by told.reply told.number p
   where
     by : (reply : Reply) (number : ℕ) → SetsBy v key value reply number w → (w.place ≡ v.place) × (w.places ≡ v.places)
-    by Absent number q = (ap (λ (z : View). z.place) q.2.view ∙ ap (λ (z : View). z.place) q.1.view, ap (λ (z : View). z.places) q.2.view ∙ ap (λ (z : View). z.places) q.1.view)
-    by (Was old) number q = (ap (λ (z : View). z.place) q.1.view, ap (λ (z : View). z.places) q.1.view)
+    by Absent number q = (ap (λ (z : View). z.place) q.looked.view ∙ ap (λ (z : View). z.place) q.tried.view, ap (λ (z : View). z.places) q.looked.view ∙ ap (λ (z : View). z.places) q.tried.view)
+    by (Was old) number q = (ap (λ (z : View). z.place) q.updated.view, ap (λ (z : View). z.places) q.updated.view)
     by New number q = absurd q
     by Old number q = absurd q
     by Full number q = absurd q
@@ -247,8 +260,8 @@ calls_stay capacities v w (Set key value) told p = by told.reply told.number p
 calls_stay capacities v w (Del key) told p = by told.reply told.number p
   where
     by : (reply : Reply) (number : ℕ) → DelsBy v key reply number w → (w.place ≡ v.place) × (w.places ≡ v.places)
-    by Absent number q = (ap (λ (z : View). z.place) q.2.view ∙ ap (λ (z : View). z.place) q.1.view, ap (λ (z : View). z.places) q.2.view ∙ ap (λ (z : View). z.places) q.1.view)
-    by Gone number q = (ap (λ (z : View). z.place) q.2.view, ap (λ (z : View). z.places) q.2.view)
+    by Absent number q = (ap (λ (z : View). z.place) q.looked.view ∙ ap (λ (z : View). z.place) q.tried.view, ap (λ (z : View). z.places) q.looked.view ∙ ap (λ (z : View). z.places) q.tried.view)
+    by Gone number q = (ap (λ (z : View). z.place) q.updated.view, ap (λ (z : View). z.places) q.updated.view)
     by New number q = absurd q
     by Old number q = absurd q
     by Full number q = absurd q

@@ -1,5 +1,5 @@
 -- What the rule tells of a seat and of the words.
-use Rattle.std.proofs.Common.{◌≡◌, ◌≢◌, ℕ, ◌+◌, ◌*◌, ◌%◌, ◌<◌, ◌≤◌, nat_le, ◌&&◌, Bool, true, false, cond, List, [], ◌∷◌, ◌++◌, length, sum, Option, Some, None, refl, sym, ap, subst, ◌∙◌, inl, inr, arith}
+use Rattle.std.proofs.Common.{◌≡◌, ◌≢◌, ℕ, ◌+◌, ◌*◌, ◌%◌, ◌<◌, ◌≤◌, nat_le, ◌&&◌, Bool, true, false, cond, List, [], ◌∷◌, ◌++◌, length, sum, Option, Some, None, refl, sym, ap, subst, ◌∙◌, inl, inr, arith, ◌-◌, ◌==◌, nat_lt}
 use Rattle.std.proofs.lemmas.Bool.{lt-ltb, le-leb}
 use mathlib.Core.Logic.{dite}
 use native.Mathlib.Decide.{ℕ_discrete}
@@ -7,9 +7,9 @@ use mathlib.Core.Option.{some}
 use lib.ListN.{get_elem?}
 use Rattle.prcu_marks.specs.declared.mark.Mark.{Mark}
 use Rattle.hash_core.specs.declared.words.Field.{Field}
-use Rattle.hash_core.specs.declared.words.Field.TheVariants.{Front, Lock, Head, Free, Retired, Key, Value, Next, Chain}
+use Rattle.hash_core.specs.declared.words.Field.TheVariants.{Front, Lock, Head, Free, Retired, Key, Value, Next, Chain, Readers}
 use Rattle.hash_core.specs.declared.view.SearchState.{SearchState}
-use Rattle.hash_core.specs.declared.view.SearchState.TheVariants.{Start, Unread, Passed, Found}
+use Rattle.hash_core.specs.declared.view.SearchState.TheVariants.{Unread, Passed, Found}
 use Rattle.hash_core.specs.declared.view.Section.{Section}
 use Rattle.hash_core.specs.declared.view.Hold.{Hold}
 use Rattle.prcu_marks.specs.declared.commit.Commit.{Commit}
@@ -30,7 +30,7 @@ use Rattle.hash_core.specs.Buckets.{seek, HaveDistinctKeys, IsLocked}
 use Rattle.hash_core.specs.Readers.{HasWay, WillAnswer}
 use Rattle.prcu_marks.specs.Commits.{updates_by}
 use Rattle.hash_core.specs.Seats.{AnswersFor, IsTurned}
-use Rattle.hash_core.specs.Steps.{StandsAt, searched}
+use Rattle.hash_core.specs.Steps.{fresh_hold, StandsAt}
 use Rattle.hash_core.specs.Rule.{BucketRule, MemoryRule}
 use Rattle.list_laws.proofs.Lists.{at_one, all_times, total_part, times_here, times_append}
 use Rattle.hash_core.proofs.Paths.{path_cons, IsPath-from}
@@ -45,8 +45,17 @@ use Rattle.hash_core.proofs.Full.{full_class}
 use Rattle.hash_core.specs.Pairs.{HasPairs}
 use Rattle.hash_core.proofs.Stocks.{rule as held_rule, is_known, roles_by}
 use Rattle.prcu_model.specs.History.{IsLegal}
-use Rattle.class_hash.specs.Stepped.{IsUpdated}
+use Rattle.hash_core.specs.declared.act.Act.{Act}
+use Rattle.hash_core.specs.declared.act.Act.TheVariants as act
+use Rattle.hash_core.specs.Acts.{Access, adds, subtracts, section_of, hold_of, field_of, access_of, noted, Needs, done}
+use Rattle.hash_core.proofs.Acting.{section_is, hold_is}
+use Rattle.hash_core.proofs.Sections.{some_reader}
+use Rattle.class_hash.specs.Seats.{HasPlace, HasRoom}
+use Rattle.class_hash.proofs.Readers.{few_readers}
 use Rattle.class_hash.specs.Answers.{IsInformed, IsHeldByOther, GivesAnswer, StandsInClass, IsLink, IsLinkOf, IsFull, FindsFull}
+
+pub key_small : (key : ℕ) → key % 64 < 64
+key_small key = omega arith
 
 -- what is of a class lies in the table
 slot_inside : (capacities : List ℕ) (c s : ℕ) → is_slot_of capacities c s ≡ true → (nat_le 1 s && nat_le s (sum capacities)) ≡ true
@@ -54,7 +63,8 @@ slot_inside capacities c s of =
     let w = slot_within capacities c s of in
     ap (λ b. b && nat_le s (sum capacities)) (le-leb 1 s w.0) ∙ le-leb s (sum capacities) w.1
 
-pub field_inside : (capacities : List ℕ) (c : ℕ) → c < 64 → (field : Field) → IsOfClass capacities c field → is_field capacities field ≡ true
+pub field_inside : (capacities : List ℕ) (c : ℕ) → c < 64 → (field : Field) → IsOfClass capacities c field
+    → is_field capacities field ≡ true
 field_inside capacities c small (Head d) of = lt-ltb d 64 (omega arith)
 field_inside capacities c small (Free d) of = lt-ltb d 64 (omega arith)
 field_inside capacities c small (Retired d) of = lt-ltb d 64 (omega arith)
@@ -64,16 +74,9 @@ field_inside capacities c small (Next s) of = slot_inside capacities c s of
 field_inside capacities c small (Chain s) of = slot_inside capacities c s of
 field_inside capacities c small _ of = absurd of
 
--- the key of a section stays
-pub searched_key : (section : Section) (state : SearchState) (field : Field) (n : ℕ) → (searched section state field n).key ≡ section.key
-searched_key section Start (Head d) n = refl
-searched_key section (Unread s) (Key t) n = refl
-searched_key section (Passed s) (Next t) n = refl
-searched_key section (Found s) (Value t) n = refl
-searched_key section _ _ n = refl
-
 -- the first slot of a list is a slot of the class
-first_slot : (capacities : List ℕ) (c : ℕ) (next : ℕ → ℕ) (first : ℕ) (xs : List ℕ) → ((x : ℕ) → 1 ≤ times x xs → is_slot_of capacities c x ≡ true) → IsPath next first xs → IsLink capacities c first
+first_slot : (capacities : List ℕ) (c : ℕ) (next : ℕ → ℕ) (first : ℕ) (xs : List ℕ)
+    → ((x : ℕ) → 1 ≤ times x xs → is_slot_of capacities c x ≡ true) → IsPath next first xs → IsLink capacities c first
 first_slot capacities c next first xs of path there =
     let p = path_cons next first xs there path in
     of first (let e = ap (times first) p.1 in let t = times_here first p.0 in omega arith)
@@ -123,12 +126,9 @@ module _ (capacities : List ℕ) (places tickets : ℕ) (m : Memory) (vs : List 
                 absurd (cc),
           )
 
-  mod_small : (key : ℕ) → key % 64 < 64
-  mod_small key = omega arith
-
   pub gives_answer : (section : Section) → v.section ≡ Some section → GivesAnswer h section
   gives_answer section inside =
-      let b = (r.buckets (section.key % 64) (mod_small section.key)).answered in
+      let b = (r.buckets (section.key % 64) (key_small section.key)).answered in
       record {
         absent = λ ended. subst (WillAnswer capacities (section.key % 64) m h (updates_of h) (r.bucket (section.key % 64)).chain section) ended (b.readers id v section at inside refl);
         present = λ value is. b.loaded id v section value at inside refl is;
@@ -137,15 +137,18 @@ module _ (capacities : List ℕ) (places tickets : ℕ) (m : Memory) (vs : List 
   pub stands_in_class : (section : Section) → v.section ≡ Some section → StandsInClass capacities section
   stands_in_class section inside =
       let c : ℕ = section.key % 64 in
-      let rule = r.buckets c (mod_small section.key) in
+      let rule = r.buckets c (key_small section.key) in
       stand_case section.state (rule.answered.readers id v section at inside refl)
     where
-      at_slot : (s slot : ℕ) → HasWay capacities (section.key % 64) m h (updates_of h) (r.bucket (section.key % 64)).chain section s → s ≡ slot → is_slot_of capacities (section.key % 64) slot ≡ true
+      at_slot : (s slot : ℕ) → HasWay capacities (section.key % 64) m h (updates_of h) (r.bucket (section.key % 64)).chain section s
+          → s ≡ slot → is_slot_of capacities (section.key % 64) slot ≡ true
       at_slot s slot way e =
           let c : ℕ = section.key % 64 in
-          subst (λ z. is_slot_of capacities c z ≡ true) e (way_slot capacities c m m h h (updates_of h) (updates_of h) (r.bucket c) (λ t _. (refl, refl, refl, refl)) (same_marks capacities c h) (r.buckets c (mod_small section.key)).roles section s way)
+          subst (λ z. is_slot_of capacities c z ≡ true) e (way_slot capacities c m m h h (updates_of h) (updates_of h) (r.bucket c) (λ t _. (refl, refl, refl, refl)) (same_marks capacities c h) (r.buckets c (key_small section.key)).roles section s way)
 
-      stand_case : (state : SearchState) → WillAnswer capacities (section.key % 64) m h (updates_of h) (r.bucket (section.key % 64)).chain section state → (slot : ℕ) → StandsAt state slot → is_slot_of capacities (section.key % 64) slot ≡ true
+      stand_case : (state : SearchState)
+          → WillAnswer capacities (section.key % 64) m h (updates_of h) (r.bucket (section.key % 64)).chain section state → (slot : ℕ)
+          → StandsAt state slot → is_slot_of capacities (section.key % 64) slot ≡ true
       stand_case (Unread s) will slot stands = at_slot s slot will stands
       stand_case (Passed s) will slot stands = at_slot s slot will.0 stands
       stand_case (Found s) will slot stands = at_slot s slot will.0 stands
@@ -158,11 +161,14 @@ module _ (capacities : List ℕ) (places tickets : ℕ) (m : Memory) (vs : List 
     rule : BucketRule capacities hold.class m h (updates_of h) vs (r.bucket hold.class)
     rule = held_rule capacities places tickets m vs h r id v at hold mine
 
-    known : (field : Field) (number : ℕ) → known_in hold.known field ≡ Some number → IsOfClass capacities hold.class field × (m field ≡ number)
+    known : (field : Field) (number : ℕ) → known_in hold.known field ≡ Some number
+        → IsOfClass capacities hold.class field × (m field ≡ number)
     known = is_known capacities places tickets m vs h r id v at hold mine
 
     -- the slot on the known walk is linked
-    comes : (first : ℕ) (before : List ℕ) (slot : ℕ) (xs : List ℕ) → ComesTo hold.known first before slot → IsPath (λ s. m (Next s)) first xs → (front rest : List ℕ) × (xs ≡ front ++ slot ∷ rest) × IsPath (λ s. m (Next s)) (m (Next slot)) rest
+    comes : (first : ℕ) (before : List ℕ) (slot : ℕ) (xs : List ℕ) → ComesTo hold.known first before slot
+        → IsPath (λ s. m (Next s)) first xs
+        → (front rest : List ℕ) × (xs ≡ front ++ slot ∷ rest) × IsPath (λ s. m (Next s)) (m (Next slot)) rest
     comes first [] slot xs to path =
         let p = path_cons (λ s. m (Next s)) first xs (λ e. to.1 (sym to.0 ∙ e)) path in
         ([], p.0, p.1 ∙ ap (λ z. z ∷ p.0) to.0, subst (λ z. IsPath (λ s. m (Next s)) (m (Next z)) p.0) to.0 p.2)
@@ -188,7 +194,8 @@ module _ (capacities : List ℕ) (places tickets : ℕ) (m : Memory) (vs : List 
     link_of _ of = absurd of
 
     -- what the dictionary gives the key of a slot on the known walk
-    pub value_now : (slot key : ℕ) → IsOnWalk hold slot → known_in hold.known (Key slot) ≡ Some key → finite.get (map_of (updates_of h)) key ≡ Some (m (Value slot))
+    pub value_now : (slot key : ℕ) → IsOnWalk hold slot → known_in hold.known (Key slot) ≡ Some key
+        → finite.get (map_of (updates_of h)) key ≡ Some (m (Value slot))
     value_now slot key on key_is =
         let chain : List ℕ = (r.bucket hold.class).chain in
         let head : IsPath (λ s. m (Next s)) on.first (r.bucket hold.class).chain = IsPath-from (λ s. m (Next s)) (m (Head hold.class)) on.first (r.bucket hold.class).chain (known (Head hold.class) on.first on.head).1 rule.chained.path in
@@ -211,7 +218,8 @@ module _ (capacities : List ℕ) (places tickets : ℕ) (m : Memory) (vs : List 
         in_both a b c d e f t all one first second = absurd (omega arith)
 
     -- with both lists empty and nothing in hand the class is full
-    pub full_now : (field : Field) (n : ℕ) (seen : List Mark) → m field ≡ n → seen ≡ h → FindsFull hold field n → IsFull capacities hold seen
+    pub full_now : (field : Field) (n : ℕ) (seen : List Mark) → m field ≡ n → seen ≡ h → FindsFull hold field n
+        → IsFull capacities hold seen
     full_now field n seen found same f =
         let none : m (Retired hold.class) ≡ 0 = ap m (sym f.field_is) ∙ found ∙ f.none in
         record {
@@ -219,7 +227,8 @@ module _ (capacities : List ℕ) (places tickets : ℕ) (m : Memory) (vs : List 
           absent = λ key class shows. subst (λ z. finite.get (map_of (updates_of z)) key ≡ None) (sym same) (rule.mapped.answers key class ∙ absent_now capacities places tickets m vs h r id v at hold mine key shows);
         }
 
-    pub old_value : (slot key old : ℕ) → IsOnWalk hold slot → known_in hold.known (Key slot) ≡ Some key → known_in hold.known (Value slot) ≡ Some old → finite.get (map_of (updates_of h)) key ≡ Some old
+    pub old_value : (slot key old : ℕ) → IsOnWalk hold slot → known_in hold.known (Key slot) ≡ Some key
+        → known_in hold.known (Value slot) ≡ Some old → finite.get (map_of (updates_of h)) key ≡ Some old
     old_value slot key old on key_is value_is = value_now slot key on key_is ∙ ap Some (known (Value slot) old value_is).1
 
   -- the front is never large
@@ -247,19 +256,101 @@ module _ (capacities : List ℕ) (places tickets : ℕ) (m : Memory) (vs : List 
           let t : commit ≡ odd.2 = cc in
           ap updates_by t ∙ odd.8
 
-  -- after an update the updates are a history, and the front shows how many there are
-  pub updated : (even : ℕ) → v.commit ≡ Some (record { found = even; stored = true }) → v.seen ≡ h → IsUpdated even v
-  updated even is seen = record {
-    legal = subst (λ z. IsLegal (updates_of z)) (sym seen) r.legal;
-    position = subst (λ z. even + 2 ≡ 2 * length (updates_of z)) (sym seen) (position (record { found = even; stored = true }) is);
+  -- the seat's place is one of few, and so are its tickets
+  pub has_room : 1 ≤ v.places → HasRoom v
+  has_room works = record {
+    place = record {
+      works = works;
+      few = (let last : ℕ = v.place + v.places - 1 in let below = r.apart.within id v last at (inl (omega arith, omega arith)) in let few = r.shape.few_places in omega arith);
+      held = λ hold mine. small hold mine;
+    };
+    few_tickets = few_tickets;
   }
 
--- a word of a class, and one of its slots, is one of the table's
-pub class_below : (capacities : List ℕ) (j c words word : ℕ) → words ≡ word_count capacities → word ≡ j + 5 * c → j ≤ 5 → c < 64 → word < words
-class_below capacities j c words word all is within small = omega arith
+-- what is added never wraps, and what is subtracted is there
+abbrev pub Fits : Access → ℕ → Type 0
+Fits (adds x) n = n + x < 18446744073709551616
+Fits (subtracts x) n = x ≤ n
+Fits _ n = Unit {0}
 
-pub field_below : (capacities : List ℕ) (c : ℕ) (field : Field) (words word : ℕ) → words ≡ word_count capacities → word ≡ word_of field → c < 64 → IsOfClass capacities c field → word < words
-field_below capacities c field words word all is small of = let below = word_inside capacities field (field_inside capacities c small field of) in omega arith
+module _ (capacities : List ℕ) (places tickets : ℕ) (m : Memory) (vs : List View) (h : List Mark) (r : MemoryRule capacities places tickets m vs h) (id : ℕ) (v : View) (at : get_elem? vs id ≡ some v) where
+  -- a section's class has its reader
+  one_reader : (section : Section) → v.section ≡ Some section → 1 ≤ m (Readers (section.key % 64))
+  one_reader section inside = some_reader capacities places tickets m vs h r id v at section inside (key_small section.key)
 
-pub key_class : (key : ℕ) → key % 64 < 64
-key_class key = omega arith
+  pub fits : (a : Act) → Needs capacities v a → Fits (access_of v a) (m (field_of v a))
+  fits (act.Enter key) d =
+      let few = few_readers capacities places tickets m vs h r (key % 64) in
+      let counted = (r.buckets (key % 64) (key_small key)).counted.readers in
+      let most = r.shape.few_places in
+      omega arith
+  fits act.Leave d = subst (λ (z : Section). 1 ≤ m (Readers (z.key % 64))) (sym (section_is v d.0 d.1)) (one_reader d.0 d.1)
+  fits act.LoadFront d = tt
+  fits (act.SearchLoad field) d = tt
+  fits (act.Lock class) d = tt
+  fits act.Unlock d = tt
+  fits act.LoadReaders d = tt
+  fits (act.LockedLoad field) d = tt
+  fits (act.TakeSlot slot next) d = tt
+  fits (act.TakeRetired slot) d = tt
+  fits (act.FreeRetired slot) d = tt
+  fits (act.StoreChain slot number) d = tt
+  fits (act.Retire slot) d = tt
+  fits (act.Fill field number) d = tt
+  fits (act.OpenCommit even) d = tt
+  fits (act.LinkSlot slot key value) d = tt
+  fits (act.UnlinkSlot link slot key next) d = tt
+  fits (act.ReplaceValue slot key value) d = tt
+  fits (act.CloseCommit front) d = tt
+
+-- No step takes a place away.
+pub still_places : (v : View) (a : Act) (h : List Mark) (n : ℕ) → (done v a h n).places ≡ v.places
+still_places v (act.Lock class) h n = elim (n == 0) as (λ b. (cond b (record (noted v (act.Lock class) n) { hold = Some (fresh_hold class) }) (noted v (act.Lock class) n)).places ≡ v.places) [ true ↦ refl | false ↦ refl ]
+still_places v act.LoadReaders h n = elim (n == 0) as (λ b. (cond b (record (noted v act.LoadReaders n) { hold = Some (record (hold_of v) { clear = true }) }) (noted v act.LoadReaders n)).places ≡ v.places) [ true ↦ refl | false ↦ refl ]
+still_places v (act.OpenCommit even) h n = elim (n == even) as (λ b. (cond b (record (noted v (act.OpenCommit even) n) { commit = Some (record { found = even; stored = false }) }) (noted v (act.OpenCommit even) n)).places ≡ v.places) [ true ↦ refl | false ↦ refl ]
+still_places v act.LoadFront h n = refl
+still_places v (act.Enter key) h n = refl
+still_places v act.Leave h n = refl
+still_places v (act.SearchLoad field) h n = refl
+still_places v act.Unlock h n = refl
+still_places v (act.LockedLoad field) h n = refl
+still_places v (act.TakeSlot slot next) h n = refl
+still_places v (act.TakeRetired slot) h n = refl
+still_places v (act.FreeRetired slot) h n = refl
+still_places v (act.StoreChain slot number) h n = refl
+still_places v (act.Retire slot) h n = refl
+still_places v (act.Fill field number) h n = refl
+still_places v (act.LinkSlot slot key value) h n = refl
+still_places v (act.UnlinkSlot link slot key next) h n = refl
+still_places v (act.ReplaceValue slot key value) h n = refl
+still_places v (act.CloseCommit front) h n = refl
+
+-- The word of an act whose needs are met is one of the table's.
+module _ (capacities : List ℕ) (v : View) (place : HasPlace v) where
+  held_class : (hold : Hold) → v.hold ≡ Some hold → nat_lt (hold_of v).class 64 ≡ true
+  held_class hold is = lt-ltb (hold_of v).class 64 (subst (λ (z : Hold). z.class < 64) (sym (hold_is v hold is)) (place.held hold is))
+
+  pub field_there : (a : Act) → Needs capacities v a → is_field capacities (field_of v a) ≡ true
+  field_there act.LoadFront d = refl
+  field_there (act.Enter key) d = lt-ltb (key % 64) 64 (key_small key)
+  field_there act.Leave d = lt-ltb ((section_of v).key % 64) 64 (key_small (section_of v).key)
+  field_there (act.SearchLoad field) d = field_inside capacities (d.0.key % 64) (key_small d.0.key) field d.3
+  field_there (act.Lock class) d = lt-ltb class 64 d.0
+  field_there act.Unlock d = held_class d.0 d.1.hold_is
+  field_there act.LoadReaders d = held_class d.0 d.1
+  field_there (act.LockedLoad field) d = field_inside capacities d.0.class (place.held d.0 d.1) field d.2
+  field_there (act.TakeSlot slot next) d = held_class d.0 d.1.hold_is
+  field_there (act.TakeRetired slot) d = held_class d.0 d.1.hold_is
+  field_there (act.FreeRetired slot) d = held_class d.0 d.1.hold_is
+  field_there (act.StoreChain slot number) d = field_inside capacities d.0.class (place.held d.0 d.1.0) (Chain slot) d.2
+  field_there (act.Retire slot) d = held_class d.0 d.2.hold_is
+  field_there (act.Fill field number) d = field_inside capacities d.0.class (place.held d.0 d.2.hold_is) field d.3
+  field_there (act.OpenCommit even) d = refl
+  field_there (act.LinkSlot slot key value) d = held_class d.0 d.3.commit.hold_is
+  field_there (act.UnlinkSlot link slot key next) d = field_inside capacities d.0.class (place.held d.0 d.2.commit.hold_is) link d.3
+  field_there (act.ReplaceValue slot key value) d = field_inside capacities d.0.class (place.held d.0 d.2.commit.hold_is) (Value slot) d.3
+  field_there (act.CloseCommit front) d = refl
+
+  pub word_below : (a : Act) (words word : ℕ) → words ≡ word_count capacities → word ≡ word_of (field_of v a) → Needs capacities v a
+      → word < words
+  word_below a words word all is needs = let below = word_inside capacities (field_of v a) (field_there a needs) in omega arith

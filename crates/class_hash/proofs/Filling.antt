@@ -12,10 +12,14 @@ use Rattle.hash_core.specs.declared.view.Known.{Known}
 use Rattle.hash_core.specs.declared.view.View.{View}
 use Rattle.hash_core.specs.Slots.{is_slot_of}
 use Rattle.hash_core.specs.Known.{known_in, knowing, IsWholeWalk, ShowsAbsent, ComesTo, IsOnWalk}
-use Rattle.hash_core.specs.Steps.{stepped, NeedsUnlock, NeedsTake, NeedsWrite, after_take, after_write}
+use Rattle.hash_core.specs.Steps.{stepped, NeedsUnlock, NeedsTake, NeedsWrite}
 use Rattle.hash_core.proofs.Classes.{slot_within}
 use Rattle.class_hash.specs.declared.bucket.Poll.TheVariants.{NotYet}
-use Rattle.class_hash.specs.Stepped.{Loads, Takes, Writes}
+use Rattle.hash_core.specs.declared.act.Act.TheVariants as act
+use Rattle.hash_core.specs.Acts.{hold_of}
+use Rattle.class_hash.specs.Seats.{TableAt}
+use Rattle.class_hash.specs.Told.{Told}
+use Rattle.class_hash.proofs.Calls.{goes_by, goes_on}
 use Rattle.class_hash.specs.Calls.{HasFinished, Lists, MayPoll, Refilled, Polls, polled}
 use Rattle.class_hash.specs.Trails.{AddsNoLists}
 use Rattle.class_hash.specs.Walks.{HasLoaded, KnowsMore}
@@ -26,16 +30,19 @@ use Rattle.prcu_model.proofs.ListFacts.{prefix_trans}
 use Rattle.class_hash.proofs.Trails.{adds_none, adds_step}
 
 -- a walk that never comes to a slot
-pub avoids : (known : List Known) (slot first : ℕ) (ss : List ℕ) → IsWholeWalk known first ss → ((before : List ℕ) → ComesTo known first before slot → ⊥) → AllByRecursion (λ s. s ≢ slot) ss
+pub avoids : (known : List Known) (slot first : ℕ) (ss : List ℕ) → IsWholeWalk known first ss
+    → ((before : List ℕ) → ComesTo known first before slot → ⊥) → AllByRecursion (λ s. s ≢ slot) ss
 avoids known slot first [] w never = tt
 avoids known slot first (s ∷ ss) w never = ((λ e. never [] (w.0 ∙ e, λ z. w.1 (e ∙ z))), avoids known slot w.2.0 ss w.2.2 (λ before c. never (s ∷ before) (w.0, w.1, (w.2.0, w.2.1, c))))
 
-pub whole_still : (before after : List Known) → KnowsMore before after → (first : ℕ) (ss : List ℕ) → IsWholeWalk before first ss → IsWholeWalk after first ss
+pub whole_still : (before after : List Known) → KnowsMore before after → (first : ℕ) (ss : List ℕ) → IsWholeWalk before first ss
+    → IsWholeWalk after first ss
 whole_still before after more first [] w = w
 whole_still before after more first (s ∷ ss) w = (w.0, w.1, (w.2.0, more (Next s) w.2.0 w.2.1, whole_still before after more w.2.0 ss w.2.2))
 
 -- a key that is known to be absent is so after loads
-pub absent_still : (old : Hold) (known : List Known) (key : ℕ) → KnowsMore old.known known → ShowsAbsent old key → ShowsAbsent (record old { known = known }) key
+pub absent_still : (old : Hold) (known : List Known) (key : ℕ) → KnowsMore old.known known → ShowsAbsent old key
+    → ShowsAbsent (record old { known = known }) key
 absent_still old known key more shows = record {
   first = shows.first;
   walk = shows.walk;
@@ -45,7 +52,8 @@ absent_still old known key more shows = record {
 }
 
 -- and after stores in the lists
-listed_absent : (hold : Hold) (free retired key : ℕ) → ShowsAbsent hold key → ShowsAbsent (knowing (knowing hold (Free hold.class) free) (Retired hold.class) retired) key
+listed_absent : (hold : Hold) (free retired key : ℕ) → ShowsAbsent hold key
+    → ShowsAbsent (knowing (knowing hold (Free hold.class) free) (Retired hold.class) retired) key
 listed_absent hold free retired key shows = record {
   first = shows.first;
   walk = shows.walk;
@@ -71,7 +79,8 @@ abbrev pub filled_hold : Hold → ℕ → ℕ → ℕ → ℕ → ℕ → Hold
 filled_hold hold slot next key value first = knowing (knowing (knowing (taken_hold hold slot next) (Key slot) key) (Value slot) value) (Next slot) first
 
 -- and after stores in a slot that isn't on the walk
-filled_absent : (hold : Hold) (slot next key value first other : ℕ) → (IsOnWalk hold slot → ⊥) → ShowsAbsent hold other → ShowsAbsent (filled_hold hold slot next key value first) other
+filled_absent : (hold : Hold) (slot next key value first other : ℕ) → (IsOnWalk hold slot → ⊥) → ShowsAbsent hold other
+    → ShowsAbsent (filled_hold hold slot next key value first) other
 filled_absent hold slot next key value first other off shows =
     let away : AllByRecursion (λ s. s ≢ slot) shows.walk = avoids hold.known slot shows.first shows.walk shows.whole (λ before c. off (record { first = shows.first; before = before; head = shows.head; comes = c })) in
     record {
@@ -92,7 +101,7 @@ filled_absent hold slot next key value first other off shows =
 pub may_poll_still : (v w : View) → MayPoll v → HasStepped v w → MayPoll w
 may_poll_still v w may idle = record {
   hold = may.hold;
-  finished = (ap (λ (z : View). z.hold) idle.view ∙ may.finished.0, may.finished.1, may.finished.2, may.finished.3, ap (λ (z : View). z.commit) idle.view ∙ may.finished.4);
+  finished = record { hold_is = ap (λ (z : View). z.hold) idle.view ∙ may.finished.hold_is; taken = may.finished.taken; unlinked = may.finished.unlinked; moved = may.finished.moved; even = ap (λ (z : View). z.commit) idle.view ∙ may.finished.even };
   free = may.free;
   first = may.first;
   some = may.some;
@@ -128,10 +137,10 @@ module _ (capacities : List ℕ) (v : View) (f : HasFinished v) (free retired : 
   listed_hold = knowing (knowing l.hold (Free l.hold.class) free) (Retired l.hold.class) retired
 
   needs : NeedsUnlock v l.hold
-  needs = let z : Some f.0 ≡ Some l.hold = sym f.1.0 ∙ l.is in let e : f.0 ≡ l.hold = cc in subst (NeedsUnlock v) e f.1
+  needs = let z : Some f.0 ≡ Some l.hold = sym f.1.hold_is ∙ l.is in let e : f.0 ≡ l.hold = cc in subst (NeedsUnlock v) e f.1
 
   needs_listed : NeedsUnlock x listed_hold
-  needs_listed = (ap (λ (z : View). z.hold) l.rest, needs.1, needs.2, needs.3, ap (λ (z : View). z.commit) l.rest ∙ needs.4)
+  needs_listed = record { hold_is = ap (λ (z : View). z.hold) l.rest; taken = needs.taken; unlinked = needs.unlinked; moved = needs.moved; even = ap (λ (z : View). z.commit) l.rest ∙ needs.even }
 
   free_is : known_in listed_hold.known (Free l.hold.class) ≡ Some free
   free_is = known_here l.hold (Free l.hold.class) free
@@ -171,7 +180,7 @@ module _ (capacities : List ℕ) (v : View) (f : HasFinished v) (free retired : 
         hold = l.hold;
         new = polled listed_hold retired;
         was = l.is;
-        finished = (ap (λ (u : View). u.hold) whole, needs.1, needs.2, refl, ap (λ (u : View). u.commit) whole ∙ needs.4);
+        finished = record { hold_is = ap (λ (u : View). u.hold) whole; taken = needs.taken; unlinked = needs.unlinked; moved = refl; even = ap (λ (u : View). u.commit) whole ∙ needs.even };
         class = refl;
         first = known_here (knowing listed_hold (Retired l.hold.class) 0) (Free l.hold.class) retired;
         slot_is = l.retired_link ne;
@@ -182,34 +191,34 @@ module _ (capacities : List ℕ) (v : View) (f : HasFinished v) (free retired : 
       }
 
 -- the chain of the slot and the head were loaded
-module _ (capacities : List ℕ) (v : View) (slot key value : ℕ) (may : MayFill capacities v slot key) (next : ℕ) (x1 : View) (a : Loads capacities v (Chain slot) next x1) where
+module _ {table : TableAt} {v : View} {slot key : ℕ} (value : ℕ) (may : MayFill table.capacities v slot key) {next : ℕ} {x1 : View} (a : Told table v (act.LockedLoad (Chain slot)) next x1) where
   none_loaded : HasLoaded v may.hold v may.hold
-  none_loaded = not_loaded v may.hold may.finished.0
+  none_loaded = not_loaded v may.hold may.finished.hold_is
 
   loaded1 : HasLoaded v may.hold x1 (knowing may.hold (Chain slot) next)
-  loaded1 = loaded_more capacities v may.hold v may.hold none_loaded (Chain slot) next x1 a refl
+  loaded1 = loaded_more table v may.hold v may.hold none_loaded (Chain slot) next x1 a refl
 
   more1 : KnowsMore may.hold.known (knowing may.hold (Chain slot) next).known
-  more1 = knows_more capacities v may.hold v may.hold none_loaded (Chain slot) next x1 a
+  more1 = knows_more table v may.hold v may.hold none_loaded (Chain slot) next x1 a
 
-  pub may_load_head : (class : ℕ) → class ≡ may.hold.class → (hold : Hold) × (x1.hold ≡ Some hold) × (class ≡ hold.class)
-  may_load_head class is = (knowing may.hold (Chain slot) next, ap (λ (z : View). z.hold) loaded1.view, is)
+  pub may_load_head : {class : ℕ} → class ≡ may.hold.class → (hold : Hold) × (x1.hold ≡ Some hold) × (class ≡ hold.class)
+  may_load_head is = (knowing may.hold (Chain slot) next, ap (λ (z : View). z.hold) loaded1.view, is)
 
-  module _ (class first : ℕ) (is : class ≡ may.hold.class) (x2 : View) (b : Loads capacities x1 (Head class) first x2) where
+  module _ {class first : ℕ} (is : class ≡ may.hold.class) {x2 : View} (b : Told table x1 (act.LockedLoad (Head class)) first x2) where
     abbrev k2 : Hold
     k2 = knowing (knowing may.hold (Chain slot) next) (Head class) first
 
     loaded2 : HasLoaded v may.hold x2 (knowing (knowing may.hold (Chain slot) next) (Head class) first)
-    loaded2 = loaded_more capacities v may.hold x1 (knowing may.hold (Chain slot) next) loaded1 (Head class) first x2 b refl
+    loaded2 = loaded_more table v may.hold x1 (knowing may.hold (Chain slot) next) loaded1 (Head class) first x2 b refl
 
     step2 : KnowsMore (knowing may.hold (Chain slot) next).known (knowing (knowing may.hold (Chain slot) next) (Head class) first).known
-    step2 = knows_more capacities v may.hold x1 (knowing may.hold (Chain slot) next) loaded1 (Head class) first x2 b
+    step2 = knows_more table v may.hold x1 (knowing may.hold (Chain slot) next) loaded1 (Head class) first x2 b
 
     more2 : KnowsMore may.hold.known (knowing (knowing may.hold (Chain slot) next) (Head class) first).known
     more2 f n e = step2 f n (more1 f n e)
 
     some_slot : slot ≢ 0
-    some_slot e = let w = slot_within capacities may.hold.class slot may.slot_is in let p : 1 ≤ slot = w.0 in absurd (omega arith)
+    some_slot e = let w = slot_within table.capacities may.hold.class slot may.slot_is in let p : 1 ≤ slot = w.0 in absurd (omega arith)
 
     pub may_take : (hold : Hold) × NeedsTake x2 hold slot next
     may_take = (
@@ -219,74 +228,67 @@ module _ (capacities : List ℕ) (v : View) (slot key value : ℕ) (may : MayFil
         some = some_slot;
         first = more2 (Free may.hold.class) slot may.first;
         next_is = step2 (Chain slot) next (known_here may.hold (Chain slot) next);
-        empty = may.finished.1;
+        empty = may.finished.taken;
       },
     )
 
-    module _ (x3 : View) (t : Takes x2 slot next x3) where
+    abbrev v2 : View
+    v2 = record v { hold = Some k2; trail = x2.trail; seen = x2.seen }
+
+    module _ {x3 : View} (t : Told table x2 (act.TakeSlot slot next) next x3) where
       abbrev k3 : Hold
       k3 = taken_hold k2 slot next
 
       abbrev v3 : View
-      v3 = after_take (stepped (record v { hold = Some k2; trail = x2.trail; seen = x2.seen }) H10 (Free may.hold.class) next) k2 slot next t.2.0
-
-      same2 : t.0 ≡ k2
-      same2 = let z : Some t.0 ≡ Some k2 = sym t.1 ∙ ap (λ (z : View). z.hold) loaded2.view in cc
+      v3 = goes_by (act.TakeSlot slot next) t.marks next v2
 
       view3 : x3 ≡ v3
-      view3 = t.2.2 ∙ ap (λ (k : Hold). after_take (stepped x2 H10 (Free k.class) next) k slot next t.2.0) same2 ∙ ap (λ (z : View). after_take (stepped z H10 (Free may.hold.class) next) k2 slot next t.2.0) loaded2.view
+      view3 = goes_on loaded2.view t
 
-      pub may_write_key : (hold : Hold) × (other : ℕ) × NeedsWrite x3 hold other (Key slot) × (is_slot_of capacities hold.class slot ≡ true)
+      pub may_write_key : (hold : Hold) × (other : ℕ) × NeedsWrite x3 hold other (Key slot) × (is_slot_of table.capacities hold.class slot ≡ true)
       may_write_key = (k3, slot, record { hold_is = ap (λ (z : View). z.hold) view3; taken = refl; field_is = refl }, may.slot_is)
 
-      module _ (x4 : View) (d : Writes x3 (Key slot) key x4) where
+      module _ {x4 : View} (d : Told table x3 (act.Fill (Key slot) key) key x4) where
         abbrev k4 : Hold
         k4 = knowing k3 (Key slot) key
 
         abbrev v4 : View
-        v4 = after_write (stepped v3 H11 (Key slot) key) k3 (Key slot) key
-
-        same3 : d.0 ≡ k3
-        same3 = let z : Some d.0 ≡ Some k3 = sym d.1 ∙ ap (λ (z : View). z.hold) view3 in cc
+        v4 = goes_by (act.Fill (Key slot) key) d.marks key v3
 
         view4 : x4 ≡ v4
-        view4 = d.2 ∙ ap (λ (k : Hold). after_write (stepped x3 H11 (Key slot) key) k (Key slot) key) same3 ∙ ap (λ (z : View). after_write (stepped z H11 (Key slot) key) k3 (Key slot) key) view3
+        view4 = goes_on view3 d
 
-        pub may_write_value : (hold : Hold) × (other : ℕ) × NeedsWrite x4 hold other (Value slot) × (is_slot_of capacities hold.class slot ≡ true)
+        pub may_write_value : (hold : Hold) × (other : ℕ) × NeedsWrite x4 hold other (Value slot) × (is_slot_of table.capacities hold.class slot ≡ true)
         may_write_value = (k4, slot, record { hold_is = ap (λ (z : View). z.hold) view4; taken = refl; field_is = refl }, may.slot_is)
 
-        module _ (x5 : View) (e : Writes x4 (Value slot) value x5) where
+        module _ {x5 : View} (e : Told table x4 (act.Fill (Value slot) value) value x5) where
           abbrev k5 : Hold
           k5 = knowing k4 (Value slot) value
 
           abbrev v5 : View
-          v5 = after_write (stepped v4 H11 (Value slot) value) k4 (Value slot) value
-
-          same4 : e.0 ≡ k4
-          same4 = let z : Some e.0 ≡ Some k4 = sym e.1 ∙ ap (λ (z : View). z.hold) view4 in cc
+          v5 = goes_by (act.Fill (Value slot) value) e.marks value v4
 
           view5 : x5 ≡ v5
-          view5 = e.2 ∙ ap (λ (k : Hold). after_write (stepped x4 H11 (Value slot) value) k (Value slot) value) same4 ∙ ap (λ (z : View). after_write (stepped z H11 (Value slot) value) k4 (Value slot) value) view4
+          view5 = goes_on view4 e
 
-          pub may_write_next : (hold : Hold) × (other : ℕ) × NeedsWrite x5 hold other (Next slot) × (is_slot_of capacities hold.class slot ≡ true)
+          pub may_write_next : (hold : Hold) × (other : ℕ) × NeedsWrite x5 hold other (Next slot) × (is_slot_of table.capacities hold.class slot ≡ true)
           may_write_next = (k5, slot, record { hold_is = ap (λ (z : View). z.hold) view5; taken = refl; field_is = refl }, may.slot_is)
 
-          pub filled : (x6 : View) → Writes x5 (Next slot) first x6 → Filled v slot key value x6
-          filled x6 g =
-              let same5 : g.0 ≡ k5 = (let z : Some g.0 ≡ Some k5 = sym g.1 ∙ ap (λ (z : View). z.hold) view5 in cc) in
-              let view6 : x6 ≡ after_write (stepped v5 H11 (Next slot) first) k5 (Next slot) first = g.2 ∙ ap (λ (k : Hold). after_write (stepped x5 H11 (Next slot) first) k (Next slot) first) same5 ∙ ap (λ (z : View). after_write (stepped z H11 (Next slot) first) k5 (Next slot) first) view5 in
-              let off : IsOnWalk k2 slot → ⊥ = subst (λ (k : Hold). IsOnWalk k slot → ⊥) same2 t.3 in
+          pub filled : {x6 : View} → Told table x5 (act.Fill (Next slot) first) first x6 → Filled v slot key value x6
+          filled {x6} g =
+              let view6 : x6 ≡ goes_by (act.Fill (Next slot) first) g.marks first v5 = goes_on view5 g in
+              let off : IsOnWalk k2 slot → ⊥ = subst (λ (k : Hold). IsOnWalk k slot → ⊥) (ap hold_of loaded2.view) t.gains in
               record {
-                before = t.2.0;
-                since = prefix_trans v.seen x2.seen t.2.0 loaded2.seen t.2.1;
+                before = t.marks;
+                since = prefix_trans v.seen x2.seen t.marks loaded2.seen t.begins;
                 may = record {
                   hold = knowing k5 (Next slot) first;
                   first = first;
                   is = ap (λ (z : View). z.hold) view6;
                   taken = refl;
-                  unlinked = may.finished.2;
-                  moved = may.finished.3;
-                  commit = ap (λ (z : View). z.commit) view6 ∙ may.finished.4;
+                  unlinked = may.finished.unlinked;
+                  moved = may.finished.moved;
+                  commit = ap (λ (z : View). z.commit) view6 ∙ may.finished.even;
                   key_is = known_here k3 (Key slot) key;
                   value_is = known_here k4 (Value slot) value;
                   next_is = known_here k5 (Next slot) first;
@@ -296,5 +298,5 @@ module _ (capacities : List ℕ) (v : View) (slot key value : ℕ) (may : MayFil
                   ticket = subst (λ n. 1 ≤ n) (sym (ap (λ (z : View). z.tickets) view6)) may.ticket;
                 };
                 trail = subst (λ (z : View). AddsNoLists v.trail z.trail) (sym view6) (adds_step v.trail _ H11 (Next slot) first refl (adds_step v.trail _ H11 (Value slot) value refl (adds_step v.trail _ H11 (Key slot) key refl (adds_step v.trail x2.trail H10 (Free may.hold.class) next refl loaded2.trail))));
-                view = view6 ∙ sym (ap (λ (z : View). record v { hold = z.hold; trail = z.trail; seen = t.2.0 ++ Given slot ∷ [] }) view6);
+                view = view6 ∙ sym (ap (λ (z : View). record v { hold = z.hold; trail = z.trail; seen = t.marks ++ Given slot ∷ [] }) view6);
               }

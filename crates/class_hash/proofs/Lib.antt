@@ -1,7 +1,7 @@
-pub mod Plumbing
 pub mod Trails
 pub mod Readers
 pub mod Facts
+pub mod Gained
 pub mod Allowed
 pub mod Seats
 pub mod Informed

@@ -34,7 +34,8 @@ module _ {V : Type 0} (place : V → ℕ) where
   without_less p f v = dite (ℕ_discrete (place v) p) (λ e. let a = without_here p f v e in omega arith) (λ ne. let a = without_else p f v ne in omega arith)
 
   -- where no element of the place counts, nothing is left out
-  none_there : (p : ℕ) (f : V → ℕ) (vs : List V) → ((i : ℕ) (v : V) → get_elem? vs i ≡ some v → place v ≡ p → f v ≡ 0) → total (without p f) vs ≡ total f vs
+  none_there : (p : ℕ) (f : V → ℕ) (vs : List V) → ((i : ℕ) (v : V) → get_elem? vs i ≡ some v → place v ≡ p → f v ≡ 0)
+      → total (without p f) vs ≡ total f vs
   none_there p f [] none = refl
   none_there p f (x ∷ xs) none =
       let rest = none_there p f xs (λ i v e. none (suc i) v e) in
@@ -88,7 +89,8 @@ inside_some c None counts = absurd (omega arith)
 inside_some c (Some s) counts = (s, refl)
 
 -- the readers word is at most the number of places
-pub few_readers : (capacities : List ℕ) (places tickets : ℕ) (m : Memory) (vs : List View) (h : List Mark) → MemoryRule capacities places tickets m vs h → (c : ℕ) → total (λ (v : View). inside_count c v.section) vs ≤ places
+pub few_readers : (capacities : List ℕ) (places tickets : ℕ) (m : Memory) (vs : List View) (h : List Mark)
+    → MemoryRule capacities places tickets m vs h → (c : ℕ) → total (λ (v : View). inside_count c v.section) vs ≤ places
 few_readers capacities places tickets m vs h r c = few_count (λ (v : View). v.place) places (λ (v : View). inside_count c v.section) vs
     (λ i j v w a b x y same.
     let s = inside_some c v.section x in let t = inside_some c w.section y in

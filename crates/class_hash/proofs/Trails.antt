@@ -12,7 +12,8 @@ use Rattle.class_hash.specs.Trails.{IsLookup, loads_free, LoadNoLists, AddsNoLis
 pub adds_none : (trail : List StepMade) → AddsNoLists trail trail
 adds_none trail = record { steps = []; plain = tt; trail = sym (append-nil trail) }
 
-pub adds_step : (a b : List StepMade) (kind : Kind) (field : Field) (number : ℕ) → loads_free kind field ≡ false → AddsNoLists a b → AddsNoLists a (b ++ record { kind = kind; field = field; number = number } ∷ [])
+pub adds_step : (a b : List StepMade) (kind : Kind) (field : Field) (number : ℕ) → loads_free kind field ≡ false → AddsNoLists a b
+    → AddsNoLists a (b ++ record { kind = kind; field = field; number = number } ∷ [])
 adds_step a b kind field number plain before = record {
   steps = before.steps ++ record { kind = kind; field = field; number = number } ∷ [];
   plain = all_append (λ (step : StepMade). loads_free step.kind step.field ≡ false) before.steps (record { kind = kind; field = field; number = number } ∷ []) before.plain (plain, tt);

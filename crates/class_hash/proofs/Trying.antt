@@ -17,17 +17,19 @@ use Rattle.hash_core.specs.Pairs.{HasPairs}
 use Rattle.hash_core.specs.Slots.{capacity, is_slot_of, IsOfClass}
 use Rattle.class_hash.specs.Answers.{IsFull}
 use Rattle.hash_core.specs.Known.{ShowsAbsent}
-use Rattle.hash_core.specs.Steps.{stepped, IsQuiet, NeedsUnlock, after_unlock, fresh_hold}
+use Rattle.hash_core.specs.Steps.{IsQuiet, NeedsUnlock, fresh_hold}
 use Rattle.prcu_model.proofs.ListFacts.{all_append, prefix_self, prefix_trans}
 use Rattle.class_hash.proofs.Trails.{adds_step, adds_both, lookup_plain}
 use Rattle.prcu_marks.specs.Callers.{entered_for}
 use Rattle.prcu_marks.proofs.OwnMarks.{entered_for-append}
-use Rattle.class_hash.specs.Stepped.{Unlocks}
+use Rattle.hash_core.specs.declared.act.Act.TheVariants as act
+use Rattle.hash_core.specs.Acts.{hold_of}
+use Rattle.class_hash.proofs.Calls.{goes_by}
 use Rattle.class_hash.specs.Trails.{AddsNoLists}
 use Rattle.class_hash.specs.Lookups.{Looked}
 use Rattle.class_hash.specs.Walks.{HasLoaded, IsFoundAt}
 use Rattle.class_hash.specs.Updates.{HasLocked, MayReplace, Replaced, link_after, MayUnlink, Removed}
-use Rattle.class_hash.specs.Calls.{HasFinished, Lists}
+use Rattle.class_hash.specs.Calls.{HasFinished, Unlocks, Lists}
 use Rattle.class_hash.specs.Puts.{MayAdd, Linked, Added, LeavesFull}
 use Rattle.class_hash.specs.Replies.{IsOfSection, HasTried, HasWalked, told_added, PutsBy, Puts, SetsBy, DelsBy}
 
@@ -41,7 +43,8 @@ pub looked_quiet : (w x : View) (key : ℕ) (answer : Option ℕ) → IsQuiet w 
 looked_quiet w x key answer quiet l = (ap (λ (z : View). z.section) l.view, ap (λ (z : View). z.hold) l.view ∙ quiet.1)
 
 -- from the search to the walk
-module _ (v w x y z : View) (key class : ℕ) (answer : Option ℕ) (new : Hold) (quiet : IsQuiet v) (t : HasTried v key w) (l : Looked w key answer x) (k : HasLocked x class y) (n : HasLoaded y (fresh_hold class) z new) (no_turn : x.commit ≡ None) where
+module _ {v w x y z : View} {key class : ℕ} {answer : Option ℕ} {new : Hold} (quiet : IsQuiet v) (t : HasTried v key w) (l : Looked w key answer x) (k : HasLocked x class y)
+    (n : HasLoaded y (fresh_hold class) z new) (no_turn : x.commit ≡ None) where
   marks : List Mark
   marks = Entered w.place w.sections key ∷ Left w.place w.sections ∷ []
 
@@ -89,12 +92,13 @@ module _ (v w x y z : View) (key class : ℕ) (answer : Option ℕ) (new : Hold)
   turn_z = ap (λ (u : View). u.commit) n.view ∙ ap (λ (u : View). u.commit) k.view ∙ no_turn
 
   needs_z : NeedsUnlock z new
-  needs_z = (ap (λ (u : View). u.hold) n.view, ap (λ (h : Hold). h.taken) n.only, ap (λ (h : Hold). h.unlinked) n.only, ap (λ (h : Hold). h.moved) n.only, turn_z)
+  needs_z = record { hold_is = ap (λ (u : View). u.hold) n.view; taken = ap (λ (h : Hold). h.taken) n.only; unlinked = ap (λ (h : Hold). h.unlinked) n.only; moved = ap (λ (h : Hold). h.moved) n.only; even = turn_z }
 
   pub has_finished : HasFinished z
   has_finished = (new, needs_z)
 
-  pub may_replace : (capacities : List ℕ) (previous : Option ℕ) (slot : ℕ) → IsFoundAt key new previous slot → is_slot_of capacities class slot ≡ true → 1 ≤ v.tickets → MayReplace capacities z slot key
+  pub may_replace : (capacities : List ℕ) (previous : Option ℕ) (slot : ℕ) → IsFoundAt key new previous slot
+      → is_slot_of capacities class slot ≡ true → 1 ≤ v.tickets → MayReplace capacities z slot key
   may_replace capacities previous slot found of ticket = record {
     hold = new;
     finished = needs_z;
@@ -109,28 +113,35 @@ module _ (v w x y z : View) (key class : ℕ) (answer : Option ℕ) (new : Hold)
 
   pub tried_again : (u : View) → Unlocks z u → HasTried v key u
   tried_again u e =
-      let F : View → View = λ y. after_unlock (stepped y H7 (Lock e.0.class) 0) in
-      let u_is : u ≡ F walked = e.2 ∙ ap F z_is in
+      let F : View → View = goes_by act.Unlock [] 0 in
+      let u_is : u ≡ F walked = e ∙ ap F z_is in
       let whole : u ≡ record (F walked) { section = v.section; hold = v.hold } = u_is ∙ ap (λ (q : Option Section × Option Hold). record (F walked) { section = q.0; hold = q.1 }) (λ i. (sym quiet.0 i, sym quiet.1 i)) in
       record {
         marks = t.marks ++ Entered w.place w.sections key ∷ Left w.place w.sections ∷ [];
         plain = plain_z;
-        own = ap (λ (y : View). y.own) e.2 ∙ own_z;
-        seen = subst (IsPrefix v.seen) (sym (ap (λ (y : View). y.seen) e.2)) seen_z;
+        own = ap (λ (y : View). y.own) e ∙ own_z;
+        seen = subst (IsPrefix v.seen) (sym (ap (λ (y : View). y.seen) e)) seen_z;
         view = whole ∙ sym (ap (λ (y : View). record v { sections = y.sections; own = y.own; trail = y.trail; seen = y.seen }) whole);
       }
 
   pub tried_on : AddsNoLists v.trail w.trail → (u : View) → Unlocks z u → AddsNoLists v.trail u.trail
-  tried_on before u e = subst (λ (y : View). AddsNoLists v.trail y.trail) (sym e.2) (adds_step v.trail z.trail H7 (Lock e.0.class) 0 refl (trail_z before))
+  tried_on before u e = subst (λ (y : View). AddsNoLists v.trail y.trail) (sym e) (adds_step v.trail z.trail H7 (Lock (hold_of z).class) 0 refl (trail_z before))
+
+  -- the update left the seat quiet
+  pub replaced_quiet : {u : View} {value old number : ℕ} → Replaced z key value old number u → IsQuiet u
+  replaced_quiet r = (ap (λ (y : View). y.section) r.view ∙ ap (λ (y : View). y.section) z_is, ap (λ (y : View). y.hold) r.view)
+
+  pub removed_quiet : {u : View} {number : ℕ} → Removed z key number u → IsQuiet u
+  removed_quiet r = (ap (λ (y : View). y.section) r.view ∙ ap (λ (y : View). y.section) z_is, ap (λ (y : View). y.hold) r.view)
 
   pub updated_once : (u : View) (value old number : ℕ) → Replaced z key value old number u → SetsBy v key value (Was old) number u
   updated_once u value old number r =
       let place : z.place ≡ v.place = ap (λ (y : View). y.place) z_is in
       let F : View → View = λ y. record y { tickets = y.tickets - 1; hold = None; own = z.own ++ Done (record { caller = z.place; op = Set key value }) ∷ []; trail = u.trail; seen = r.before ++ Done (record { caller = z.place; op = Set key value }) ∷ [] } in
       let u_is : u ≡ F walked = r.view ∙ ap F z_is in
-      let whole : u ≡ record (F walked) { section = v.section; hold = v.hold } = u_is ∙ ap (λ (q : Option Section × Option Hold). record (F walked) { section = q.0; hold = q.1 }) (λ i. (sym quiet.0 i, sym quiet.1 i)) in (
-        r.before,
-        record {
+      let whole : u ≡ record (F walked) { section = v.section; hold = v.hold } = u_is ∙ ap (λ (q : Option Section × Option Hold). record (F walked) { section = q.0; hold = q.1 }) (λ i. (sym quiet.0 i, sym quiet.1 i)) in record {
+        before = r.before;
+        updated = record {
           marks = t.marks ++ Entered w.place w.sections key ∷ Left w.place w.sections ∷ [];
           plain = plain_z;
           searched = searched_z;
@@ -141,11 +152,13 @@ module _ (v w x y z : View) (key class : ℕ) (answer : Option ℕ) (new : Hold)
           legal = r.legal;
           number_is = r.number_is;
           view = whole ∙ sym (ap (λ (y : View). record v { tickets = v.tickets - 1; sections = y.sections; own = y.own; trail = y.trail; seen = y.seen }) whole);
-        },
-        r.was,
-      )
+        };
+        was = r.was;
+      }
 
-  pub may_unlink : (capacities : List ℕ) (previous : Option ℕ) (slot : ℕ) → IsFoundAt key new previous slot → is_slot_of capacities class slot ≡ true → IfSome previous (λ p. is_slot_of capacities class p ≡ true) → 1 ≤ v.tickets → MayUnlink capacities z previous slot key
+  pub may_unlink : (capacities : List ℕ) (previous : Option ℕ) (slot : ℕ) → IsFoundAt key new previous slot
+      → is_slot_of capacities class slot ≡ true → IfSome previous (λ p. is_slot_of capacities class p ≡ true) → 1 ≤ v.tickets
+      → MayUnlink capacities z previous slot key
   may_unlink capacities previous slot found of from ticket = record {
     hold = new;
     finished = needs_z;
@@ -164,10 +177,10 @@ module _ (v w x y z : View) (key class : ℕ) (answer : Option ℕ) (new : Hold)
       let place : z.place ≡ v.place = ap (λ (y : View). y.place) z_is in
       let F : View → View = λ y. record y { tickets = y.tickets - 1; hold = None; own = z.own ++ Done (record { caller = z.place; op = Del key }) ∷ []; trail = u.trail; seen = r.before ++ Done (record { caller = z.place; op = Del key }) ∷ Unlinked r.slot ∷ [] } in
       let u_is : u ≡ F walked = r.view ∙ ap F z_is in
-      let whole : u ≡ record (F walked) { section = v.section; hold = v.hold } = u_is ∙ ap (λ (q : Option Section × Option Hold). record (F walked) { section = q.0; hold = q.1 }) (λ i. (sym quiet.0 i, sym quiet.1 i)) in (
-        r.before,
-        r.slot,
-        record {
+      let whole : u ≡ record (F walked) { section = v.section; hold = v.hold } = u_is ∙ ap (λ (q : Option Section × Option Hold). record (F walked) { section = q.0; hold = q.1 }) (λ i. (sym quiet.0 i, sym quiet.1 i)) in record {
+        before = r.before;
+        slot = r.slot;
+        updated = record {
           marks = t.marks ++ Entered w.place w.sections key ∷ Left w.place w.sections ∷ [];
           plain = plain_z;
           searched = searched_z;
@@ -178,8 +191,8 @@ module _ (v w x y z : View) (key class : ℕ) (answer : Option ℕ) (new : Hold)
           legal = r.legal;
           number_is = r.number_is;
           view = whole ∙ sym (ap (λ (y : View). record v { tickets = v.tickets - 1; sections = y.sections; own = y.own; trail = y.trail; seen = y.seen }) whole);
-        },
-      )
+        };
+      }
 
   pub may_add : key % 64 ≡ class → ShowsAbsent new key → 1 ≤ v.tickets → MayAdd z key
   may_add of absent ticket = record {
@@ -199,16 +212,17 @@ module _ (v w x y z : View) (key class : ℕ) (answer : Option ℕ) (new : Hold)
   has_walked : AddsNoLists v.trail w.trail → key % 64 ≡ class → ShowsAbsent new key → HasWalked v key z
   has_walked before of absent = record { hold = new; class = ap (λ (h : Hold). h.class) n.only ∙ sym of; absent = absent; trail = trail_z before; seen = seen_z; view = walked_is }
 
-  pub added_once : (capacities : List ℕ) (u : View) (value number : ℕ) → AddsNoLists v.trail w.trail → key % 64 ≡ class → ShowsAbsent new key → Added capacities z key value number u → PutsBy capacities v key value New number u
+  pub added_once : (capacities : List ℕ) (u : View) (value number : ℕ) → AddsNoLists v.trail w.trail → key % 64 ≡ class
+      → ShowsAbsent new key → Added capacities z key value number u → PutsBy capacities v key value New number u
   added_once capacities u value number before of absent a =
       let r : Linked z key value number u = a.linked in
       let place : z.place ≡ v.place = ap (λ (y : View). y.place) z_is in
       let F : View → View = λ y. record y { tickets = y.tickets - 1; hold = None; own = z.own ++ Done (record { caller = z.place; op = Put key value }) ∷ []; trail = u.trail; seen = r.before ++ Done (record { caller = z.place; op = Put key value }) ∷ [] } in
       let u_is : u ≡ F walked = r.view ∙ ap F z_is in
-      let whole : u ≡ record (F walked) { section = v.section; hold = v.hold } = u_is ∙ ap (λ (q : Option Section × Option Hold). record (F walked) { section = q.0; hold = q.1 }) (λ i. (sym quiet.0 i, sym quiet.1 i)) in (
-        r.before,
-        a.slot,
-        record {
+      let whole : u ≡ record (F walked) { section = v.section; hold = v.hold } = u_is ∙ ap (λ (q : Option Section × Option Hold). record (F walked) { section = q.0; hold = q.1 }) (λ i. (sym quiet.0 i, sym quiet.1 i)) in record {
+        before = r.before;
+        slot = a.slot;
+        updated = record {
           marks = t.marks ++ Entered w.place w.sections key ∷ Left w.place w.sections ∷ [];
           plain = plain_z;
           searched = searched_z;
@@ -219,46 +233,56 @@ module _ (v w x y z : View) (key class : ℕ) (answer : Option ℕ) (new : Hold)
           legal = r.legal;
           number_is = r.number_is;
           view = whole ∙ sym (ap (λ (y : View). record v { tickets = v.tickets - 1; sections = y.sections; own = y.own; trail = y.trail; seen = y.seen }) whole);
-        },
-        record { before = a.given.before; since = prefix_trans v.seen z.seen a.given.before seen_z a.given.since; until = a.given.until },
-        (z, has_walked before of absent, a.room),
-      )
+        };
+        given = record { before = a.given.before; since = prefix_trans v.seen z.seen a.given.before seen_z a.given.since; until = a.given.until };
+        locked = z;
+        walked = has_walked before of absent;
+        room = a.room;
+      }
 
-  pub full_once : (capacities : List ℕ) (u : View) (value : ℕ) → AddsNoLists v.trail w.trail → key % 64 ≡ class → ShowsAbsent new key → LeavesFull capacities z u → PutsBy capacities v key value Full 0 u
+  pub full_once : (capacities : List ℕ) (u : View) (value : ℕ) → AddsNoLists v.trail w.trail → key % 64 ≡ class → ShowsAbsent new key
+      → LeavesFull capacities z u → PutsBy capacities v key value Full 0 u
   full_once capacities u value before of absent left =
-      let y : View = left.0 in
-      let l : Lists capacities z 0 0 left.0 = left.1 in
-      let e : Unlocks left.0 u = left.2 in
-      let F : View → View = λ q. record q { hold = None; trail = u.trail; seen = left.0.seen } in
-      let G : View → View = λ q. after_unlock (stepped q H7 (Lock e.0.class) 0) in
-      let first : u ≡ record left.0 { hold = None; trail = u.trail } = e.2 ∙ sym (ap (λ (q : View). record left.0 { hold = None; trail = q.trail }) e.2) in
+      let l : Lists capacities z 0 0 left.listed = left.lists in
+      let e : Unlocks left.listed u = left.unlocks in
+      let F : View → View = λ q. record q { hold = None; trail = u.trail; seen = left.listed.seen } in
+      let first : u ≡ record left.listed { hold = None; trail = u.trail } = e ∙ sym (ap (λ (q : View). record left.listed { hold = None; trail = q.trail }) e) in
       let u_is : u ≡ F walked = first ∙ ap F l.rest ∙ ap F z_is in
       let whole : u ≡ record (F walked) { section = v.section; hold = v.hold } = u_is ∙ ap (λ (q : Option Section × Option Hold). record (F walked) { section = q.0; hold = q.1 }) (λ i. (sym quiet.0 i, sym quiet.1 i)) in
       let same : l.hold ≡ new = (let q : Some l.hold ≡ Some new = sym l.is ∙ ap (λ (q : View). q.hold) n.view in cc) in
       let class_new : new.class ≡ key % 64 = ap (λ (h : Hold). h.class) n.only ∙ sym of in
-      let full : IsFull capacities new u.seen = subst (λ s. IsFull capacities new s) (sym (ap (λ (q : View). q.seen) first)) (subst (λ (k : Hold). IsFull capacities k left.0.seen) same (l.full refl refl)) in
-      let own_u : u.own ≡ z.own = ap (λ (q : View). q.own) first ∙ ap (λ (q : View). q.own) l.rest in (
-        (
-          record {
-            marks = t.marks ++ Entered w.place w.sections key ∷ Left w.place w.sections ∷ [];
-            plain = plain_z;
-            own = own_u ∙ own_z;
-            seen = subst (IsPrefix v.seen) (sym (ap (λ (q : View). q.seen) first)) (prefix_trans v.seen z.seen left.0.seen seen_z l.seen);
-            view = whole ∙ sym (ap (λ (q : View). record v { sections = q.sections; own = q.own; trail = q.trail; seen = q.seen }) whole);
-          },
-          searched_z,
-        ),
-        (z, has_walked before of absent, left),
-        record { absent = full.absent key (sym class_new) absent; pairs = subst (λ d. HasPairs d (map_of (updates_of u.seen)) (capacity capacities d)) class_new full.pairs },
-        refl,
-      )
+      let full : IsFull capacities new u.seen = subst (λ s. IsFull capacities new s) (sym (ap (λ (q : View). q.seen) first)) (subst (λ (k : Hold). IsFull capacities k left.listed.seen) same (l.full refl refl)) in
+      let own_u : u.own ≡ z.own = ap (λ (q : View). q.own) first ∙ ap (λ (q : View). q.own) l.rest in record {
+        tried = record {
+          marks = t.marks ++ Entered w.place w.sections key ∷ Left w.place w.sections ∷ [];
+          plain = plain_z;
+          own = own_u ∙ own_z;
+          seen = subst (IsPrefix v.seen) (sym (ap (λ (q : View). q.seen) first)) (prefix_trans v.seen z.seen left.listed.seen seen_z l.seen);
+          view = whole ∙ sym (ap (λ (q : View). record v { sections = q.sections; own = q.own; trail = q.trail; seen = q.seen }) whole);
+        };
+        searched = searched_z;
+        locked = z;
+        walked = has_walked before of absent;
+        leaves = left;
+        room = record { absent = full.absent key (sym class_new) absent; pairs = subst (λ d. HasPairs d (map_of (updates_of u.seen)) (capacity capacities d)) class_new full.pairs };
+        none = refl;
+      }
 
-  pub put_once : (capacities : List ℕ) (u : View) (value : ℕ) (answer : Option ℕ) → AddsNoLists v.trail w.trail → key % 64 ≡ class → ShowsAbsent new key → IfNone answer (LeavesFull capacities z u) → IfSome answer (λ number. Added capacities z key value number u) → Puts capacities v key value (told_added answer) u
+  pub put_once : (capacities : List ℕ) (u : View) (value : ℕ) (answer : Option ℕ) → AddsNoLists v.trail w.trail → key % 64 ≡ class
+      → ShowsAbsent new key → IfNone answer (LeavesFull capacities z u)
+      → IfSome answer (λ number. Added capacities z key value number u) → Puts capacities v key value (told_added answer) u
   put_once capacities u value None before of absent left added = full_once capacities u value before of absent left
   put_once capacities u value (Some number) before of absent left added = added_once capacities u value number before of absent added
 
 -- a search that found the key
-pub found_once : (capacities : List ℕ) (v w x : View) (key value : ℕ) (answer : Option ℕ) → is_some answer ≡ true → HasTried v key w → AddsNoLists v.trail w.trail → Looked w key answer x → PutsBy capacities v key value Old 0 x
+pub found_once : (capacities : List ℕ) (v w x : View) (key value : ℕ) (answer : Option ℕ) → is_some answer ≡ true → HasTried v key w
+    → AddsNoLists v.trail w.trail → Looked w key answer x → PutsBy capacities v key value Old 0 x
 found_once capacities v w x key value None is t before l = absurd (cc)
-found_once capacities v w x key value (Some old) is t before l =
-    (w, t, (old, l), refl, adds_both v.trail w.trail x.trail before (record { steps = l.steps; plain = lookup_plain key l.steps l.made; trail = ap (λ (u : View). u.trail) l.view }))
+found_once capacities v w x key value (Some old) is t before l = record {
+  before = w;
+  tried = t;
+  old = old;
+  looked = l;
+  none = refl;
+  trail = adds_both v.trail w.trail x.trail before (record { steps = l.steps; plain = lookup_plain key l.steps l.made; trail = ap (λ (u : View). u.trail) l.view });
+}

@@ -16,7 +16,8 @@ use Rattle.prcu_marks.specs.Bounds.{most_tickets}
 pub base_le : (capacities : List ℕ) (c : ℕ) → base capacities c ≤ sum capacities
 base_le capacities c = sum_by-take-le (λ (n : ℕ). n) capacities c
 
-pub base_more : (capacities : List ℕ) (c : ℕ) → c < length capacities → base capacities (c + 1) ≡ base capacities c + capacity capacities c
+pub base_more : (capacities : List ℕ) (c : ℕ) → c < length capacities
+    → base capacities (c + 1) ≡ base capacities c + capacity capacities c
 base_more capacities c small = sum_by_more (λ (n : ℕ). n) capacities c 0 small
 
 pub base_room : (capacities : List ℕ) (c : ℕ) → c < length capacities → base capacities c + capacity capacities c ≤ sum capacities
@@ -32,7 +33,8 @@ old_word : (ws xs : List ℕ) (i : ℕ) → i < length ws → slice_index (ws ++
 old_word ws xs i below = get_or_append_left ws xs 0 i below
 
 -- a class's words stay
-class_kept : (ws ws' : List ℕ) (c first : ℕ) → ((i : ℕ) → i < length ws → slice_index ws' i ≡ slice_index ws i) → 5 * c + 5 < length ws → IsFreshClass ws c first → IsFreshClass ws' c first
+class_kept : (ws ws' : List ℕ) (c first : ℕ) → ((i : ℕ) → i < length ws → slice_index ws' i ≡ slice_index ws i) → 5 * c + 5 < length ws
+    → IsFreshClass ws c first → IsFreshClass ws' c first
 class_kept ws ws' c first kept below was = record {
   lock = kept (1 + 5 * c) (omega arith) ∙ was.lock;
   readers = kept (2 + 5 * c) (omega arith) ∙ was.readers;
@@ -41,7 +43,8 @@ class_kept ws ws' c first kept below was = record {
   retired = kept (5 + 5 * c) (omega arith) ∙ was.retired;
 }
 
-slot_kept : (ws ws' : List ℕ) (s chain : ℕ) → ((i : ℕ) → i < length ws → slice_index ws' i ≡ slice_index ws i) → 320 + 4 * s < length ws → IsFreshSlot ws s chain → IsFreshSlot ws' s chain
+slot_kept : (ws ws' : List ℕ) (s chain : ℕ) → ((i : ℕ) → i < length ws → slice_index ws' i ≡ slice_index ws i) → 320 + 4 * s < length ws
+    → IsFreshSlot ws s chain → IsFreshSlot ws' s chain
 slot_kept ws ws' s chain kept below was = record {
   key = kept (317 + 4 * s) (omega arith) ∙ was.key;
   value = kept (318 + 4 * s) (omega arith) ∙ was.value;
@@ -56,7 +59,8 @@ front_first capacities ws is = record {
   classes = λ c small. absurd (omega arith);
 }
 
-pub class_added : (capacities : List ℕ) (n free : ℕ) (ws ws' : List ℕ) → free ≡ first_link (base capacities n) (capacity capacities n) → ws' ≡ ws ++ 0 ∷ 0 ∷ 0 ∷ free ∷ 0 ∷ [] → HasClasses capacities n ws → HasClasses capacities (n + 1) ws'
+pub class_added : (capacities : List ℕ) (n free : ℕ) (ws ws' : List ℕ) → free ≡ first_link (base capacities n) (capacity capacities n)
+    → ws' ≡ ws ++ 0 ∷ 0 ∷ 0 ∷ free ∷ 0 ∷ [] → HasClasses capacities n ws → HasClasses capacities (n + 1) ws'
 class_added capacities n free ws ws' is_free is was = subst (HasClasses capacities (n + 1)) (sym is) (record {
   long = (let a = length-append ws (0 ∷ 0 ∷ 0 ∷ free ∷ 0 ∷ []) in let b = was.long in omega arith);
   front = (let b = was.long in old_word ws more 0 (omega arith)) ∙ was.front;
@@ -80,7 +84,8 @@ class_added capacities n free ws ws' is_free is was = subst (HasClasses capaciti
 pub no_slots : (before room : ℕ) (ws : List ℕ) → HasSlots before room 0 ws ws
 no_slots before room ws = record { grown = record { long = omega arith; kept = λ i below. refl }; slots = λ i small. absurd (omega arith) }
 
-pub slot_added : (before room n chain : ℕ) (old ws ws' : List ℕ) → length old ≡ 321 + 4 * before → chain ≡ next_link before room n → ws' ≡ ws ++ 0 ∷ 0 ∷ 0 ∷ chain ∷ [] → HasSlots before room n old ws → HasSlots before room (n + 1) old ws'
+pub slot_added : (before room n chain : ℕ) (old ws ws' : List ℕ) → length old ≡ 321 + 4 * before → chain ≡ next_link before room n
+    → ws' ≡ ws ++ 0 ∷ 0 ∷ 0 ∷ chain ∷ [] → HasSlots before room n old ws → HasSlots before room (n + 1) old ws'
 slot_added before room n chain old ws ws' long is_chain is was = subst (HasSlots before room (n + 1) old) (sym is) (record {
   grown = record {
     long = (let a = length-append ws (0 ∷ 0 ∷ 0 ∷ chain ∷ []) in let b = was.grown.long in omega arith);
@@ -105,7 +110,9 @@ slot_added before room n chain old ws ws' long is_chain is was = subst (HasSlots
 pub no_class_slots : (capacities ws : List ℕ) → HasClassSlots capacities 0 ws ws
 no_class_slots capacities ws = record { grown = record { long = omega arith; kept = λ i below. refl }; slots = λ c i small. absurd (omega arith) }
 
-pub class_slots_added : (capacities : List ℕ) (n : ℕ) (old ws ws' : List ℕ) → length old ≡ 321 → n < length capacities → HasSlots (base capacities n) (capacity capacities n) (capacity capacities n) ws ws' → HasClassSlots capacities n old ws → HasClassSlots capacities (n + 1) old ws'
+pub class_slots_added : (capacities : List ℕ) (n : ℕ) (old ws ws' : List ℕ) → length old ≡ 321 → n < length capacities
+    → HasSlots (base capacities n) (capacity capacities n) (capacity capacities n) ws ws' → HasClassSlots capacities n old ws
+    → HasClassSlots capacities (n + 1) old ws'
 class_slots_added capacities n old ws ws' long small added was =
     let more = base_more capacities n small in
     let a = added.grown.long in
@@ -128,7 +135,8 @@ class_slots_added capacities n old ws ws' long small added was =
         (λ same. let p : base capacities c + capacity capacities c ≡ base capacities n + capacity capacities n = ap (λ z. base capacities z + capacity capacities z) same in omega arith)
         (λ ne. let up = upto c n (omega arith) (omega arith) in omega arith)
 
-pub all_fresh : (capacities ws ws' : List ℕ) → length capacities ≡ 64 → HasClasses capacities (length capacities) ws → HasClassSlots capacities (length capacities) ws ws' → IsFresh capacities ws'
+pub all_fresh : (capacities ws ws' : List ℕ) → length capacities ≡ 64 → HasClasses capacities (length capacities) ws
+    → HasClassSlots capacities (length capacities) ws ws' → IsFresh capacities ws'
 all_fresh capacities ws ws' all classes slots =
     let whole = base_all capacities (length capacities) (omega arith) in
     let a = classes.long in
@@ -141,7 +149,8 @@ all_fresh capacities ws ws' all classes slots =
     }
 
 -- The rule holds of the first words.
-pub rule_starts : (k : Shape) (cs ws : List ℕ) → k.capacities.items ≡ cs → length cs ≡ 64 → sum cs ≤ 2097152 → (1 ≤ k.places) × (k.places ≤ 64) → k.tickets ≤ most_tickets → IsFresh cs ws → Rule k ws (first_seated k ∷ [])
+pub rule_starts : (k : Shape) (cs ws : List ℕ) → k.capacities.items ≡ cs → length cs ≡ 64 → sum cs ≤ 2097152
+    → (1 ≤ k.places) × (k.places ≤ 64) → k.tickets ≤ most_tickets → IsFresh cs ws → Rule k ws (first_seated k ∷ [])
 rule_starts k cs ws same classes slots places tickets fresh =
     let shape : IsShape k.capacities.items k.places k.tickets = subst (λ z. IsShape z k.places k.tickets) (sym same) (record { classes = classes; slots = slots; some_place = places.0; few_places = places.1; few_tickets = tickets }) in
     let all : IsFresh k.capacities.items ws = subst (λ z. IsFresh z ws) (sym same) fresh in

@@ -1,9 +1,9 @@
 -- What a step tells from the rule.
 -- Source: docs/HASH_DICTIONARY.md, "The steps of the hash dictionary".
-use Rattle.std.specs.Prelude.{◌≡◌, ◌≢◌, ℕ, ◌+◌, ◌%◌, ◌<◌, ◌≤◌, true, List, [], Some, None}
+use Rattle.std.specs.Prelude.{◌≡◌, ◌≢◌, ℕ, ◌+◌, ◌*◌, ◌%◌, ◌<◌, ◌≤◌, true, List, [], length, Some, None}
 use Rattle.prcu_marks.specs.declared.mark.Mark.{Mark}
 use Rattle.hash_core.specs.declared.words.Field.{Field}
-use Rattle.hash_core.specs.declared.words.Field.TheVariants.{Head, Free, Retired, Next}
+use Rattle.hash_core.specs.declared.words.Field.TheVariants.{Head, Free, Retired, Value, Next}
 use Rattle.hash_core.specs.declared.view.SearchState.TheVariants.{Ended}
 use Rattle.hash_core.specs.declared.view.Section.{Section}
 use Rattle.hash_core.specs.declared.view.Hold.{Hold}
@@ -19,6 +19,10 @@ use Rattle.std.specs.FinMap as finite
 use Rattle.hash_core.specs.Known.{known_in, ShowsAbsent, IsOnWalk}
 use Rattle.prcu_model.specs.Dictionary.{WasSaid}
 use Rattle.hash_core.specs.Steps.{StandsAt}
+use Rattle.hash_core.specs.declared.act.Act.{Act}
+use Rattle.hash_core.specs.declared.act.Act.TheVariants.{Leave, SearchLoad, Lock, LockedLoad, TakeSlot, OpenCommit, LinkSlot, UnlinkSlot, ReplaceValue}
+use Rattle.hash_core.specs.Acts.{section_of, hold_of, commit_of}
+use Rattle.class_hash.specs.Seats.{TableAt}
 
 -- What the section's search found, the dictionary said at some front since it was entered: nothing where the search came
 -- to an end, and the value where it loaded one.
@@ -76,3 +80,36 @@ pub record FindsFull (hold : Hold) (field : Field) (found : ℕ) : Type 0 where
   pub taken : hold.taken ≡ None
   pub unlinked : hold.unlinked ≡ None
   pub moved : hold.moved ≡ None
+
+-- what the exchange of a lock tells: outside a lock no front is odd by the view, and who holds it is another
+pub record TellsHolder (places : ℕ) (v : View) (found : ℕ) : Type 0 where
+  pub even : v.commit ≡ None
+  pub other : IsHeldByOther places v found
+
+-- What a load under the lock tells: links are slots of the class, a word that is known is found again, and whether the class is full.
+pub record TellsWord (capacities : List ℕ) (hold : Hold) (field : Field) (found : ℕ) (w : View) : Type 0 where
+  pub link : IsLinkOf capacities hold field found
+  pub same : (number : ℕ) → known_in hold.known field ≡ Some number → found ≡ number
+  pub full : FindsFull hold field found → IsFull capacities hold w.seen
+
+-- After an update: the front that was found shows how many there are.
+pub record IsCounted (v w : View) : Type 0 where
+  pub position : (commit_of v).found + 2 ≡ 2 * length (updates_of w.seen)
+
+-- What was replaced, where that is known, the dictionary gave the key before.
+pub record TellsOld (v : View) (h : List Mark) (slot key : ℕ) (w : View) : Type 0 where
+  pub counted : IsCounted v w
+  pub was : (old : ℕ) → known_in (hold_of v).known (Value slot) ≡ Some old → finite.get (map_of (updates_of h)) key ≡ Some old
+
+-- by the act, with the view before, all marks before, the number found and the view after
+abbrev pub Gains : TableAt → View → Act → List Mark → ℕ → View → Type 0
+Gains t v Leave h found w = GivesAnswer w.seen (section_of v)
+Gains t v (SearchLoad field) h found w = StandsInClass t.capacities (section_of w)
+Gains t v (Lock class) h found w = TellsHolder t.places v found
+Gains t v (LockedLoad field) h found w = TellsWord t.capacities (hold_of v) field found w
+Gains t v (TakeSlot slot next) h found w = IsOnWalk (hold_of v) slot → ⊥
+Gains t v (OpenCommit even) h found w = found ≤ 2199023255553
+Gains t v (LinkSlot slot key value) h found w = IsCounted v w
+Gains t v (UnlinkSlot link slot key next) h found w = IsCounted v w
+Gains t v (ReplaceValue slot key value) h found w = TellsOld v h slot key w
+Gains t v _ h found w = Unit {0}

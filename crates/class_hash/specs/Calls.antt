@@ -14,12 +14,19 @@ use Rattle.class_hash.specs.declared.bucket.Lock.TheVariants.{Held, Busy}
 use Rattle.class_hash.specs.declared.bucket.Poll.{Poll}
 use Rattle.class_hash.specs.declared.bucket.Poll.TheVariants.{Over, NotYet}
 use Rattle.class_hash.specs.Answers.{IsPlaceOfOther, IsLink, IsFull}
-use Rattle.class_hash.specs.Stepped.{Locks}
+use Rattle.hash_core.specs.declared.act.Act.TheVariants as act
+use Rattle.hash_core.specs.Acts.{noted, after}
+use Rattle.class_hash.specs.Seats.{TableAt}
+use Rattle.class_hash.specs.Told.{Told}
 
 -- The one exchange of the lock found 0, or it found the place plus 1 of who holds it.
-abbrev pub Tries : ℕ → View → ℕ → Lock → View → Type 0
-Tries places v class Held w = Locks v class 0 w
-Tries places v class (Busy found) w = IsPlaceOfOther places v found × Locks v class found w
+abbrev pub Tries : TableAt → View → ℕ → Lock → View → Type 0
+Tries t v class Held w = Told t v (act.Lock class) 0 w
+Tries t v class (Busy found) w = IsPlaceOfOther t.places v found × Told t v (act.Lock class) found w
+
+-- the lock was given up
+abbrev pub Unlocks : View → View → Type 0
+Unlocks v w = w ≡ after (noted v act.Unlock 0) act.Unlock [] 0
 
 -- a bucket's lock is held, and what was begun there is finished
 abbrev pub HasFinished : View → Type 0

@@ -3,7 +3,6 @@ pub mod Seats
 pub mod Room
 pub mod Added
 pub mod Answers
-pub mod Stepped
 pub mod Told
 pub mod Trails
 pub mod Lookups

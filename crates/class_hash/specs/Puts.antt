@@ -13,9 +13,8 @@ use Rattle.prcu_marks.specs.Marks.{updates_of}
 use Rattle.hash_core.specs.Slots.{is_slot_of}
 use Rattle.hash_core.specs.Known.{known_in, ShowsAbsent}
 use Rattle.hash_core.specs.Steps.{NeedsUnlock}
-use Rattle.class_hash.specs.Stepped.{Unlocks}
 use Rattle.class_hash.specs.Trails.{AddsNoLists}
-use Rattle.class_hash.specs.Calls.{Lists, polled}
+use Rattle.class_hash.specs.Calls.{Unlocks, Lists, polled}
 
 -- After some looks for readers, the retired list became the free list.
 pub record HasPolled (v w : View) : Type 0 where
@@ -122,5 +121,7 @@ pub record Added (capacities : List ℕ) (v : View) (key value number : ℕ) (w 
   pub room : HasSeenRoom capacities v w
 
 -- The free and the retired word of the class were loaded as 0, and then the lock was given up.
-abbrev pub LeavesFull : List ℕ → View → View → Type 0
-LeavesFull capacities v w = (u : View) × Lists capacities v 0 0 u × Unlocks u w
+pub record LeavesFull (capacities : List ℕ) (v w : View) : Type 0 where
+  pub listed : View
+  pub lists : Lists capacities v 0 0 listed
+  pub unlocks : Unlocks listed w

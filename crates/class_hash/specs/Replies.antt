@@ -60,20 +60,39 @@ pub record HasUpdated (v : View) (op : Op) (before more : List Mark) (number : �
   pub number_is : number ≡ length (updates_of w.seen)
   pub view : w ≡ record v { tickets = v.tickets - 1; sections = w.sections; own = w.own; trail = w.trail; seen = w.seen }
 
+-- After some tries the last search found nothing, and no update was made.
+pub record FoundNothing (v : View) (key number : ℕ) (w : View) : Type 0 where
+  pub before : View
+  pub tried : HasTried v key before
+  pub looked : Looked before key None w
+  pub none : number ≡ 0
+
+-- The update was made that gives the key another value: the dictionary gave it the old value just before.
+pub record HasSet (v : View) (key value old number : ℕ) (w : View) : Type 0 where
+  pub before : List Mark
+  pub updated : HasUpdated v (Set key value) before [] number w
+  pub was : finite.get (map_of (updates_of before)) key ≡ Some old
+
 -- A set is told Absent where its last search found nothing, and made no update. It is told the old value where it made its
 -- update: the dictionary gave the key that value just before.
 abbrev pub SetsBy : View → ℕ → ℕ → Reply → ℕ → View → Type 0
-SetsBy v key value Absent number w = (u : View) × HasTried v key u × Looked u key None w × (number ≡ 0)
-SetsBy v key value (Was old) number w = (before : List Mark) × HasUpdated v (Set key value) before [] number w × (finite.get (map_of (updates_of before)) key ≡ Some old)
+SetsBy v key value Absent number w = FoundNothing v key number w
+SetsBy v key value (Was old) number w = HasSet v key value old number w
 SetsBy v key value _ number w = ⊥
 
 abbrev pub Sets : View → ℕ → ℕ → Told → View → Type 0
 Sets v key value told w = SetsBy v key value told.reply told.number w
 
+-- The update was made that takes the key out, and the key's slot was unlinked.
+pub record HasDeleted (v : View) (key number : ℕ) (w : View) : Type 0 where
+  pub before : List Mark
+  pub slot : ℕ
+  pub updated : HasUpdated v (Del key) before (Unlinked slot ∷ []) number w
+
 -- A del is told Absent as a set is. It is told Gone where it made its update and unlinked the key's slot.
 abbrev pub DelsBy : View → ℕ → Reply → ℕ → View → Type 0
-DelsBy v key Absent number w = (u : View) × HasTried v key u × Looked u key None w × (number ≡ 0)
-DelsBy v key Gone number w = (before : List Mark) × (slot : ℕ) × HasUpdated v (Del key) before (Unlinked slot ∷ []) number w
+DelsBy v key Absent number w = FoundNothing v key number w
+DelsBy v key Gone number w = HasDeleted v key number w
 DelsBy v key _ number w = ⊥
 
 abbrev pub Dels : View → ℕ → Told → View → Type 0
@@ -98,13 +117,43 @@ abbrev pub told_added : Option ℕ → Told
 told_added None = record { reply = Full; number = 0 }
 told_added (Some number) = record { reply = New; number = number }
 
+-- After some tries the last search found the key. No update was made, and no lists were loaded.
+pub record FoundOld (v : View) (key number : ℕ) (w : View) : Type 0 where
+  pub before : View
+  pub tried : HasTried v key before
+  pub old : ℕ
+  pub looked : Looked before key (Some old) w
+  pub none : number ≡ 0
+  pub trail : AddsNoLists v.trail w.trail
+
+-- A slot was given and then the update made that adds the pair. Under the lock, where the key was absent, a free slot or a retired
+-- one had been found.
+pub record HasAdded (capacities : List ℕ) (v : View) (key value number : ℕ) (w : View) : Type 0 where
+  pub before : List Mark
+  pub slot : ℕ
+  pub updated : HasUpdated v (Put key value) before [] number w
+  pub given : HasGiven v.seen slot before
+  pub locked : View
+  pub walked : HasWalked v key locked
+  pub room : HasSeenRoom capacities locked w
+
+-- No update was made. Under the lock, where the key was absent, no free slot and no retired one was found: so the class had no room.
+pub record FoundFull (capacities : List ℕ) (v : View) (key number : ℕ) (w : View) : Type 0 where
+  pub tried : HasTried v key w
+  pub searched : 1 ≤ entered_for v.place key tried.marks
+  pub locked : View
+  pub walked : HasWalked v key locked
+  pub leaves : LeavesFull capacities locked w
+  pub room : HasNoRoom capacities key w.seen
+  pub none : number ≡ 0
+
 -- A put is told Old where its last search found the key, and made no update. It is told New where it was given a slot and made
 -- its update; under the lock, where the key was absent, it had found a free slot or a retired one. It is told Full where it made
 -- no update, and under the lock, where the key was absent, found no free slot and no retired one: so the class had no room.
 abbrev pub PutsBy : List ℕ → View → ℕ → ℕ → Reply → ℕ → View → Type 0
-PutsBy capacities v key value Old number w = (u : View) × HasTried v key u × ((old : ℕ) × Looked u key (Some old) w) × (number ≡ 0) × AddsNoLists v.trail w.trail
-PutsBy capacities v key value New number w = (before : List Mark) × (slot : ℕ) × HasUpdated v (Put key value) before [] number w × HasGiven v.seen slot before × ((u : View) × HasWalked v key u × HasSeenRoom capacities u w)
-PutsBy capacities v key value Full number w = ((tried : HasTried v key w) × (1 ≤ entered_for v.place key tried.marks)) × ((u : View) × HasWalked v key u × LeavesFull capacities u w) × HasNoRoom capacities key w.seen × (number ≡ 0)
+PutsBy capacities v key value Old number w = FoundOld v key number w
+PutsBy capacities v key value New number w = HasAdded capacities v key value number w
+PutsBy capacities v key value Full number w = FoundFull capacities v key number w
 PutsBy capacities v key value _ number w = ⊥
 
 abbrev pub Puts : List ℕ → View → ℕ → ℕ → Told → View → Type 0

@@ -1,6 +1,6 @@
 -- What a clause sees of a seat and of a table.
 -- Source: docs/HASH_DICTIONARY.md, "The hash dictionary".
-use Rattle.std.specs.Prelude.{◌≡◌, ℕ, ◌+◌, ◌<◌, ◌≤◌, List, Option, Some, None}
+use Rattle.std.specs.Prelude.{◌≡◌, ℕ, ◌+◌, ◌<◌, ◌≤◌, List, [], Option, Some, None}
 use Rattle.atomic_table.specs.Seated.{TableId}
 use Rattle.hash_core.specs.declared.words.Field.TheVariants.{Free, Retired}
 use Rattle.hash_core.specs.declared.view.Section.{Section}
@@ -21,10 +21,19 @@ pub record TableAt : Type 0 where
   pub places : ℕ
   pub tickets : ℕ
 
--- the seat works at a place of the table, which has at most 64
-pub record HasRoom (v : View) : Type 0 where
-  pub live : 1 ≤ v.places
+-- a table that is none
+abbrev pub no_table : TableAt
+no_table = record { id = record { words = 0; slots = 0; views_name = 0; atom = 0; block = 0; offset = 0; slot_names = [] }; capacities = []; places = 0; tickets = 0 }
+
+-- The seat works at a place of the table, which has at most 64, and a lock that it holds is that of a class.
+pub record HasPlace (v : View) : Type 0 where
+  pub works : 1 ≤ v.places
   pub few : v.place + v.places ≤ 64
+  pub held : (hold : Hold) → v.hold ≡ Some hold → hold.class < 64
+
+-- and its tickets are few
+pub record HasRoom (v : View) : Type 0 where
+  pub place : HasPlace v
   pub few_tickets : v.tickets ≤ most_tickets
 
 -- the key of the open section, if there is one
@@ -37,6 +46,5 @@ IsInside (Some key) (Some section) = key ≡ section.key
 -- what a seat remembers of the bucket whose lock it holds: its class, and its free and retired words where they are known
 pub record IsBucket (class : ℕ) (free retired : Option ℕ) (hold : Hold) : Type 0 where
   pub same : class ≡ hold.class
-  pub small : hold.class < 64
   pub free_is : known_in hold.known (Free hold.class) ≡ free
   pub retired_is : known_in hold.known (Retired hold.class) ≡ retired

@@ -8,7 +8,7 @@ use Rattle.hash_core.specs.declared.view.Hold.{Hold}
 use Rattle.hash_core.specs.declared.view.Known.{Known}
 use Rattle.hash_core.specs.declared.view.View.{View}
 use Rattle.hash_core.specs.Slots.{is_slot_of}
-use Rattle.hash_core.specs.Known.{known_in, LacksKey, IsOnWalk}
+use Rattle.hash_core.specs.Known.{known_in, LacksKey, ShowsAbsent, IsOnWalk}
 use Rattle.class_hash.specs.Trails.{AddsNoLists}
 
 -- what is known in the first is known in the second
@@ -51,3 +51,17 @@ pub record IsFoundAt (key : ℕ) (hold : Hold) (previous : Option ℕ) (slot : �
   pub on : IsOnWalk hold slot
   pub from : IsLinkedFrom hold previous slot
   pub key_is : known_in hold.known (Key slot) ≡ Some key
+
+-- The walk under the lock went over the whole chain, and the key isn't on it.
+pub record WalksPast (key : ℕ) (v : View) (hold : Hold) (w : View) : Type 0 where
+  pub new : Hold
+  pub loaded : HasLoaded v hold w new
+  pub absent : ShowsAbsent new key
+
+-- The walk under the lock came to the slot that has the key, after another slot, if it isn't the first.
+pub record WalksTo (capacities : List ℕ) (key : ℕ) (v : View) (hold : Hold) (previous : Option ℕ) (slot : ℕ) (w : View) : Type 0 where
+  pub new : Hold
+  pub loaded : HasLoaded v hold w new
+  pub found : IsFoundAt key new previous slot
+  pub slot_is : is_slot_of capacities hold.class slot ≡ true
+  pub before : IfSome previous (λ p. is_slot_of capacities hold.class p ≡ true)

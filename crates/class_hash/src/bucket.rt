@@ -2,11 +2,10 @@
 ghost use Rattle.std.specs.Prelude.{◌≡◌, ◌<◌, None};
 ghost use Rattle.hash_core.specs.Steps.{IsQuiet};
 ghost use Rattle.class_hash.specs.Answers.{IsInformed};
-ghost use Rattle.class_hash.specs.Stepped.{Unlocks};
-ghost use Rattle.class_hash.specs.Calls.{Tries, HasFinished, Lists, MayPoll, Polls};
+ghost use Rattle.class_hash.specs.Calls.{Tries, Unlocks, HasFinished, Lists, MayPoll, Polls};
 
 use crate::seat::HashSeat;
-use crate::steps::{h6, h7, h8, h9, h10_move, h10_refill};
+use crate::steps;
 use crate::table::HashTable;
 use hash_core::Field;
 use prcu_marks::Why;
@@ -35,11 +34,11 @@ pub fn try_bucket(table: &HashTable, seat: &mut HashSeat, class: u32) -> Lock
     requires quiet { IsQuiet seat.old.view }
     requires class { class < 64 }
     ensures table { seat.new.table ≡ seat.old.table }
-    ensures view { Tries table.now.places seat.old.view class result seat.new.view }
+    ensures view { Tries table.now seat.old.view class result seat.new.view }
     ensures commit { seat.old.view.commit ≡ None }
     ensures held { result ≡ Lock.Held → HasFinished seat.new.view }
 {
-    match h6(table, seat, class) {
+    match steps::lock(table, seat, class) {
         0 => Lock::Held,
         found => Lock::Busy { found },
     }
@@ -53,7 +52,7 @@ pub fn free_bucket(table: &HashTable, seat: &mut HashSeat)
     ensures view { Unlocks seat.old.view seat.new.view }
     ensures informed { IsInformed table.now.capacities table.now.places seat.new.view }
 {
-    h7(table, seat);
+    steps::unlock(table, seat);
 }
 
 /// Loads the first free and the first retired slot of the bucket's class, 0 where there is none.
@@ -64,8 +63,8 @@ pub fn lists(table: &HashTable, seat: &mut HashSeat) -> (u64, u64)
     ensures view { Lists table.now.capacities seat.old.view result.0 result.1 seat.new.view }
 {
     let class = seat.class_held();
-    let free = h9(table, seat, Field::Free { class });
-    let retired = h9(table, seat, Field::Retired { class });
+    let free = steps::locked_load(table, seat, Field::Free { class });
+    let retired = steps::locked_load(table, seat, Field::Retired { class });
     (free, retired)
 }
 
@@ -82,7 +81,7 @@ pub fn poll_class(table: &HashTable, seat: &mut HashSeat) -> Poll
 {
     let class = seat.class_held();
     let first = seat.first_retired();
-    let count = h8(table, seat);
+    let count = steps::load_readers(table, seat);
     if count != 0 {
         return Poll::NotYet {
             why: Why::Counter {
@@ -92,7 +91,7 @@ pub fn poll_class(table: &HashTable, seat: &mut HashSeat) -> Poll
             },
         };
     }
-    h10_move(table, seat, first);
-    h10_refill(table, seat, first);
+    steps::take_retired(table, seat, first);
+    steps::free_retired(table, seat, first);
     Poll::Over
 }

@@ -2,9 +2,11 @@
 //! after a wait for the readers of its class alone.
 #![tactic(auto)]
 
+mod access;
 mod bucket;
 mod client;
 mod dictionary;
+mod layout;
 mod puts;
 mod rule;
 mod search;

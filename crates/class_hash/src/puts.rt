@@ -8,7 +8,7 @@ ghost use Rattle.class_hash.specs.Puts.{HasPolled, HasFree, MayAdd, MayFill, May
 use crate::bucket::{Poll, free_bucket, lists, poll_class};
 use crate::search::slot_at;
 use crate::seat::HashSeat;
-use crate::steps::{h7, h9, h10_take, h11, h13, h16};
+use crate::steps;
 use crate::table::HashTable;
 use crate::updates::open_commit;
 use crossbeam_utils::Backoff;
@@ -53,19 +53,19 @@ fn find_free<R: Wait>(rt: &R, table: &HashTable, seat: &mut HashSeat) -> u64
 }
 
 /// Takes the first free slot, and writes the pair and the link to the head into it.
-fn fill(table: &HashTable, seat: &mut HashSeat, slot: u32, key: u64, value: u64)
+fn fill_pair(table: &HashTable, seat: &mut HashSeat, slot: u32, key: u64, value: u64)
     requires table { seat.old.table ≡ table.now.id }
     requires case { MayFill table.now.capacities seat.old.view slot key }
     ensures table { seat.new.table ≡ seat.old.table }
     ensures view { Filled seat.old.view slot key value seat.new.view }
 {
     let class = seat.class_held();
-    let next = h9(table, seat, Field::Chain { slot });
-    let first = h9(table, seat, Field::Head { class });
-    h10_take(table, seat, slot, next);
-    h11(table, seat, Field::Key { slot }, key);
-    h11(table, seat, Field::Value { slot }, value);
-    h11(table, seat, Field::Next { slot }, first);
+    let next = steps::locked_load(table, seat, Field::Chain { slot });
+    let first = steps::locked_load(table, seat, Field::Head { class });
+    steps::take_slot(table, seat, slot, next);
+    steps::fill(table, seat, Field::Key { slot }, key);
+    steps::fill(table, seat, Field::Value { slot }, value);
+    steps::fill(table, seat, Field::Next { slot }, first);
 }
 
 /// Links the slot taken, gives up the lock, and answers the update's position.
@@ -85,9 +85,9 @@ fn link<R: Wait>(
     ensures informed { IsInformed table.now.capacities table.now.places seat.new.view }
 {
     let even = open_commit(rt, table, seat);
-    h13(table, seat, even, slot, key, value);
-    h16(table, seat, even);
-    h7(table, seat);
+    steps::link_slot(table, seat, slot, key, value);
+    steps::close_commit(table, seat, even + 2);
+    steps::unlock(table, seat);
     even / 2 + 1
 }
 
@@ -113,6 +113,6 @@ pub(crate) fn add<R: Wait>(
         return None;
     }
     let slot = slot_at(table, free);
-    fill(table, seat, slot, key, value);
+    fill_pair(table, seat, slot, key, value);
     Some(link(rt, table, seat, slot, key, value))
 }

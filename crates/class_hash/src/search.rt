@@ -8,7 +8,7 @@ ghost use Rattle.class_hash.specs.Answers.{IsInformed};
 ghost use Rattle.class_hash.specs.Lookups.{IsSearching, IsAtLink, Looked};
 
 use crate::seat::HashSeat;
-use crate::steps::{h3, h4, h5};
+use crate::steps;
 use crate::table::HashTable;
 use hash_core::Field;
 use std::sync::Wait;
@@ -26,9 +26,9 @@ pub(crate) fn search<R: Wait>(
     ensures view { Looked seat.old.view key result seat.new.view }
     ensures informed { IsInformed table.now.capacities table.now.places seat.new.view }
 {
-    h3(table, seat, key);
+    steps::enter(table, seat, key);
     let answer = walk_unlocked(rt, table, seat, key);
-    h4(table, seat);
+    steps::leave(table, seat);
     answer
 }
 
@@ -40,22 +40,17 @@ fn walk_unlocked<R: Wait>(rt: &R, table: &HashTable, seat: &mut HashSeat, key: u
     ensures ended { (before : View) → IsSearching before key Start None seat.old.view → result ≡ None → IsSearching before key Ended None seat.new.view }
     ensures found { (before : View) (value : ℕ) → IsSearching before key Start None seat.old.view → result ≡ Some value → (slot : ℕ) × IsSearching before key (Found slot) (Some value) seat.new.view }
 {
-    let mut link = h5(
-        table,
-        seat,
-        Field::Head {
-            class: (key % 64) as u32,
-        },
-    );
+    let class = (key % 64) as u32;
+    let mut link = steps::search_load(table, seat, Field::Head { class });
     for _ in rt.forever() {
         if link == 0 {
             return None;
         }
         let slot = slot_at(table, link);
-        if h5(table, seat, Field::Key { slot }) == key {
-            return Some(h5(table, seat, Field::Value { slot }));
+        if steps::search_load(table, seat, Field::Key { slot }) == key {
+            return Some(steps::search_load(table, seat, Field::Value { slot }));
         }
-        link = h5(table, seat, Field::Next { slot });
+        link = steps::search_load(table, seat, Field::Next { slot });
     }
     unreachable!()
 }

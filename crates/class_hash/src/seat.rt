@@ -7,13 +7,15 @@ ghost use Rattle.hash_core.specs.declared.words.Field.TheVariants.{Front, Retire
 ghost use Rattle.hash_core.specs.declared.words.Kind.TheVariants.{H2};
 ghost use Rattle.hash_core.specs.Known.{known_in};
 ghost use Rattle.hash_core.specs.Steps.{IsQuiet, first_of, second_of, both_of, stepped};
+ghost use Rattle.hash_core.specs.Acts.{section_of, hold_of};
 ghost use Rattle.class_hash.specs.Answers.{IsInformed};
 
+use crate::access::load;
 use crate::rule::Nothing;
 use crate::table::HashTable;
-use crate::told::{Cut, Detail, Glue, Share, Told2};
+use crate::told::{Cut, Glue, Share};
 use atomic_table::Seat;
-use hash_core::View;
+use hash_core::{Act, View};
 use std::marker::{Brand, Model};
 
 /// What a seat remembers of the bucket whose lock it holds.
@@ -44,14 +46,14 @@ pub struct HashSeat {
 
 impl Model for HashSeat {
     ghost use Rattle.std.specs.Prelude.{◌≡◌, []};
-    ghost use Rattle.class_hash.specs.Seats.{SeatAt, HasRoom, IsInside};
-    ghost use Rattle.class_hash.specs.Room.{IsHolding};
+    ghost use Rattle.class_hash.specs.Seats.{SeatAt};
+    ghost use Rattle.class_hash.specs.Room.{IsSeat};
 
     ghost Value = { SeatAt };
 
     ghost view = { λ s. record { table = s.seat.table_id; view = s.seat.me.0 } };
 
-    ghost invariant = { λ s. (s.seat.me.1 ≡ []) × HasRoom s.seat.me.0 × (s.seat.me.0.place ≡ s.place) × (s.seat.me.0.places ≡ s.places) × (s.seat.me.0.tickets ≡ s.tickets) × IsInside s.key s.seat.me.0.section × IsHolding s.bucket s.seat.me.0.hold };
+    ghost invariant = { λ s. (s.seat.me.1 ≡ []) × IsSeat (record { place = s.place; places = s.places; tickets = s.tickets; key = s.key; bucket = s.bucket }) s.seat.me.0 };
 }
 
 impl HashSeat {
@@ -79,7 +81,7 @@ impl HashSeat {
     /// The class whose section is open.
     pub(crate) fn class_read(&self) -> u32
         requires { (section : Section) × (self.now.view.section ≡ Some section) }
-        ensures { (section : Section) → self.now.view.section ≡ Some section → result ≡ section.key % 64 }
+        ensures { result ≡ (section_of self.now.view).key % 64 }
     {
         match self.key {
             Some(key) => (key % 64) as u32,
@@ -90,7 +92,8 @@ impl HashSeat {
     /// The class whose lock is held.
     pub(crate) fn class_held(&self) -> u32
         requires { (hold : Hold) × (self.now.view.hold ≡ Some hold) }
-        ensures { (hold : Hold) → self.now.view.hold ≡ Some hold → (result ≡ hold.class) × (hold.class < 64) }
+        ensures class { result ≡ (hold_of self.now.view).class }
+        ensures small { result < 64 }
     {
         match &self.bucket {
             Some(bucket) => bucket.class,
@@ -138,43 +141,32 @@ impl HashSeat {
         ensures seen { IsPrefix self.view.seen result.view.seen × IsPrefix other.view.seen result.view.seen }
         ensures informed { IsInformed table.now.capacities table.now.places result.view }
     {
-        glued::<Brand>(self, table, other)
-    }
-}
-
-fn glued<A: Detail>(mine: HashSeat, table: &HashTable, other: HashSeat) -> HashSeat
-    requires picked { (A.capacities ≡ table.now.capacities) × (A.places ≡ table.now.places) }
-    requires table { (mine.table ≡ table.now.id) × (other.table ≡ table.now.id) }
-    requires quiet { IsQuiet mine.view × IsQuiet other.view }
-    ensures table { result.table ≡ mine.table }
-    ensures view { (front : ℕ) × (result.view ≡ stepped (both_of mine.view other.view) H2 Front front) }
-    ensures informed { IsInformed table.now.capacities table.now.places result.view }
-{
-    let HashSeat {
-        mut seat,
-        place,
-        places,
-        tickets,
-        key,
-        bucket,
-    } = mine;
-    let HashSeat {
-        seat: theirs,
-        place: _,
-        places: _,
-        tickets: more,
-        key: _,
-        bucket: _,
-    } = other;
-    table.table.shared.join_seat::<Glue>(&mut seat, theirs);
-    table.table.shared.load::<Told2<A>>(&mut seat, 0);
-    HashSeat {
-        seat,
-        place,
-        places,
-        tickets: tickets + more,
-        key,
-        bucket,
+        let HashSeat {
+            mut seat,
+            place,
+            places,
+            tickets,
+            key,
+            bucket,
+        } = self;
+        let HashSeat {
+            seat: theirs,
+            place: _,
+            places: _,
+            tickets: more,
+            key: _,
+            bucket: _,
+        } = other;
+        table.table.shared.join_seat::<Glue>(&mut seat, theirs);
+        load(table, &mut seat, Act::LoadFront, 0);
+        HashSeat {
+            seat,
+            place,
+            places,
+            tickets: tickets + more,
+            key,
+            bucket,
+        }
     }
 }
 

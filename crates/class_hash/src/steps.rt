@@ -1,13 +1,264 @@
-//! One call for each kind of step, which makes one atomic step.
-mod commits;
-mod lists;
-mod locks;
-mod sections;
-mod updates;
-mod words;
+//! One call for each step, by its name among the acts of `hash_core`. Each makes one atomic step, and tells the view after it, and what
+//! the seat gained from the rule. The load that a join makes stands with the join.
+ghost use Rattle.std.specs.Prelude.{◌≡◌, ◌≤◌};
+ghost use Rattle.hash_core.specs.declared.act.Act.TheVariants as acts;
+ghost use Rattle.hash_core.specs.Acts.{Needs};
+ghost use Rattle.class_hash.specs.Told.{Told};
 
-pub(crate) use commits::{h12, h16};
-pub(crate) use lists::{h10_chain, h10_move, h10_push, h10_refill, h10_take, h11};
-pub(crate) use locks::{h6, h7, h8, h9};
-pub(crate) use sections::{h3, h4, h5};
-pub(crate) use updates::{h13, h14, h15};
+use crate::access::{add, exchange, load, store, subtract};
+use crate::layout::{remember, stock_of, word_at};
+use crate::seat::{Bucket, HashSeat, Stock};
+use crate::table::HashTable;
+use hash_core::{Act, Field};
+
+/// Adds 1 to the readers of the key's class: a section is entered (H3).
+pub(crate) fn enter(table: &HashTable, seat: &mut HashSeat, key: u64) -> u64
+    requires table { seat.old.table ≡ table.now.id }
+    requires asks { Needs table.now.capacities seat.old.view (acts.Enter key) }
+    ensures table { seat.new.table ≡ seat.old.table }
+    ensures told { Told table.now seat.old.view (acts.Enter key) result seat.new.view }
+{
+    let class = (key % 64) as u32;
+    seat.key = Some(key);
+    let word = word_at(Field::Readers { class });
+    add(table, &mut seat.seat, Act::Enter { key }, word, 1)
+}
+
+/// Takes 1 from the readers of the section's class: it is left (H4).
+pub(crate) fn leave(table: &HashTable, seat: &mut HashSeat) -> u64
+    requires table { seat.old.table ≡ table.now.id }
+    requires asks { Needs table.now.capacities seat.old.view acts.Leave }
+    ensures table { seat.new.table ≡ seat.old.table }
+    ensures told { Told table.now seat.old.view acts.Leave result seat.new.view }
+{
+    let class = seat.class_read();
+    seat.key = None;
+    let word = word_at(Field::Readers { class });
+    subtract(table, &mut seat.seat, Act::Leave, word, 1)
+}
+
+/// Loads the head of the section's class, or a field of the slot at which its search stands (H5).
+pub(crate) fn search_load(table: &HashTable, seat: &mut HashSeat, field: Field) -> u64
+    requires table { seat.old.table ≡ table.now.id }
+    requires asks { Needs table.now.capacities seat.old.view (acts.SearchLoad field) }
+    ensures table { seat.new.table ≡ seat.old.table }
+    ensures told { Told table.now seat.old.view (acts.SearchLoad field) result seat.new.view }
+{
+    let word = word_at(field);
+    load(table, &mut seat.seat, Act::SearchLoad { field }, word)
+}
+
+/// Exchanges the lock of a class from 0 to the place plus 1 (H6).
+pub(crate) fn lock(table: &HashTable, seat: &mut HashSeat, class: u32) -> u64
+    requires table { seat.old.table ≡ table.now.id }
+    requires asks { Needs table.now.capacities seat.old.view (acts.Lock class) }
+    ensures table { seat.new.table ≡ seat.old.table }
+    ensures told { Told table.now seat.old.view (acts.Lock class) result seat.new.view }
+{
+    let word = word_at(Field::Lock { class });
+    let mine = seat.place as u64 + 1;
+    let found = exchange(table, &mut seat.seat, Act::Lock { class }, word, 0, mine);
+    if found == 0 {
+        seat.bucket = Some(Bucket {
+            class,
+            free: None,
+            retired: None,
+        });
+    }
+    found
+}
+
+/// Gives the lock up (H7).
+pub(crate) fn unlock(table: &HashTable, seat: &mut HashSeat)
+    requires table { seat.old.table ≡ table.now.id }
+    requires asks { Needs table.now.capacities seat.old.view acts.Unlock }
+    ensures table { seat.new.table ≡ seat.old.table }
+    ensures told { Told table.now seat.old.view acts.Unlock 0 seat.new.view }
+{
+    let class = seat.class_held();
+    seat.bucket = None;
+    let word = word_at(Field::Lock { class });
+    store(table, &mut seat.seat, Act::Unlock, word, 0);
+}
+
+/// Loads the readers of the class under its lock (H8).
+pub(crate) fn load_readers(table: &HashTable, seat: &mut HashSeat) -> u64
+    requires table { seat.old.table ≡ table.now.id }
+    requires asks { Needs table.now.capacities seat.old.view acts.LoadReaders }
+    ensures table { seat.new.table ≡ seat.old.table }
+    ensures told { Told table.now seat.old.view acts.LoadReaders result seat.new.view }
+{
+    let class = seat.class_held();
+    let word = word_at(Field::Readers { class });
+    load(table, &mut seat.seat, Act::LoadReaders, word)
+}
+
+/// Loads another word of the class under its lock, or one of a slot of it (H9).
+pub(crate) fn locked_load(table: &HashTable, seat: &mut HashSeat, field: Field) -> u64
+    requires table { seat.old.table ≡ table.now.id }
+    requires asks { Needs table.now.capacities seat.old.view (acts.LockedLoad field) }
+    ensures table { seat.new.table ≡ seat.old.table }
+    ensures told { Told table.now seat.old.view (acts.LockedLoad field) result seat.new.view }
+{
+    let word = word_at(field);
+    let found = load(table, &mut seat.seat, Act::LockedLoad { field }, word);
+    remember(&mut seat.bucket, stock_of(&field), found);
+    found
+}
+
+/// Stores the next free slot in the free word: the first comes into the hand (H10).
+pub(crate) fn take_slot(table: &HashTable, seat: &mut HashSeat, slot: u32, next: u64)
+    requires table { seat.old.table ≡ table.now.id }
+    requires asks { Needs table.now.capacities seat.old.view (acts.TakeSlot slot next) }
+    ensures table { seat.new.table ≡ seat.old.table }
+    ensures told { Told table.now seat.old.view (acts.TakeSlot slot next) next seat.new.view }
+{
+    let class = seat.class_held();
+    remember(&mut seat.bucket, Some(Stock::Free), next);
+    let word = word_at(Field::Free { class });
+    store(
+        table,
+        &mut seat.seat,
+        Act::TakeSlot { slot, next },
+        word,
+        next,
+    );
+}
+
+/// Stores 0 in the retired word: the retired list comes into the hand (H10).
+pub(crate) fn take_retired(table: &HashTable, seat: &mut HashSeat, slot: u64)
+    requires table { seat.old.table ≡ table.now.id }
+    requires asks { Needs table.now.capacities seat.old.view (acts.TakeRetired slot) }
+    ensures table { seat.new.table ≡ seat.old.table }
+    ensures told { Told table.now seat.old.view (acts.TakeRetired slot) 0 seat.new.view }
+{
+    let class = seat.class_held();
+    remember(&mut seat.bucket, Some(Stock::Retired), 0);
+    let word = word_at(Field::Retired { class });
+    store(table, &mut seat.seat, Act::TakeRetired { slot }, word, 0);
+}
+
+/// Makes the list in hand the free list (H10).
+pub(crate) fn free_retired(table: &HashTable, seat: &mut HashSeat, slot: u64)
+    requires table { seat.old.table ≡ table.now.id }
+    requires asks { Needs table.now.capacities seat.old.view (acts.FreeRetired slot) }
+    ensures table { seat.new.table ≡ seat.old.table }
+    ensures told { Told table.now seat.old.view (acts.FreeRetired slot) slot seat.new.view }
+{
+    let class = seat.class_held();
+    remember(&mut seat.bucket, Some(Stock::Free), slot);
+    let word = word_at(Field::Free { class });
+    store(table, &mut seat.seat, Act::FreeRetired { slot }, word, slot);
+}
+
+/// Stores the chain of the slot unlinked (H10).
+pub(crate) fn store_chain(table: &HashTable, seat: &mut HashSeat, slot: u32, number: u64)
+    requires table { seat.old.table ≡ table.now.id }
+    requires asks { Needs table.now.capacities seat.old.view (acts.StoreChain slot number) }
+    ensures table { seat.new.table ≡ seat.old.table }
+    ensures told { Told table.now seat.old.view (acts.StoreChain slot number) number seat.new.view }
+{
+    let word = word_at(Field::Chain { slot });
+    let act = Act::StoreChain { slot, number };
+    store(table, &mut seat.seat, act, word, number);
+}
+
+/// Makes the slot unlinked the first of the retired list (H10).
+pub(crate) fn retire(table: &HashTable, seat: &mut HashSeat, slot: u32)
+    requires table { seat.old.table ≡ table.now.id }
+    requires asks { Needs table.now.capacities seat.old.view (acts.Retire slot) }
+    ensures table { seat.new.table ≡ seat.old.table }
+    ensures told { Told table.now seat.old.view (acts.Retire slot) slot seat.new.view }
+{
+    let class = seat.class_held();
+    let first = slot as u64;
+    remember(&mut seat.bucket, Some(Stock::Retired), first);
+    let word = word_at(Field::Retired { class });
+    store(table, &mut seat.seat, Act::Retire { slot }, word, first);
+}
+
+/// Stores a field of the slot taken (H11).
+pub(crate) fn fill(table: &HashTable, seat: &mut HashSeat, field: Field, number: u64)
+    requires table { seat.old.table ≡ table.now.id }
+    requires asks { Needs table.now.capacities seat.old.view (acts.Fill field number) }
+    ensures table { seat.new.table ≡ seat.old.table }
+    ensures told { Told table.now seat.old.view (acts.Fill field number) number seat.new.view }
+{
+    let word = word_at(field);
+    let act = Act::Fill { field, number };
+    store(table, &mut seat.seat, act, word, number);
+}
+
+/// Exchanges the front from an even number to the next (H12).
+pub(crate) fn open_commit(table: &HashTable, seat: &mut HashSeat, even: u64) -> u64
+    requires table { seat.old.table ≡ table.now.id }
+    requires asks { Needs table.now.capacities seat.old.view (acts.OpenCommit even) }
+    requires small { even ≤ 2199023255554 }
+    ensures table { seat.new.table ≡ seat.old.table }
+    ensures told { Told table.now seat.old.view (acts.OpenCommit even) result seat.new.view }
+{
+    let act = Act::OpenCommit { even };
+    exchange(table, &mut seat.seat, act, 0, even, even + 1)
+}
+
+/// Links the slot taken, with this key and value, at the head (H13).
+pub(crate) fn link_slot(table: &HashTable, seat: &mut HashSeat, slot: u32, key: u64, value: u64)
+    requires table { seat.old.table ≡ table.now.id }
+    requires asks { Needs table.now.capacities seat.old.view (acts.LinkSlot slot key value) }
+    ensures table { seat.new.table ≡ seat.old.table }
+    ensures told { Told table.now seat.old.view (acts.LinkSlot slot key value) slot seat.new.view }
+{
+    let class = seat.class_held();
+    seat.tickets -= 1;
+    let word = word_at(Field::Head { class });
+    let act = Act::LinkSlot { slot, key, value };
+    store(table, &mut seat.seat, act, word, slot as u64);
+}
+
+/// Stores the next of a slot in the link to it, which unlinks it (H14).
+pub(crate) fn unlink_slot(
+    table: &HashTable,
+    seat: &mut HashSeat,
+    link: Field,
+    slot: u32,
+    key: u64,
+    next: u64,
+)
+    requires table { seat.old.table ≡ table.now.id }
+    requires asks { Needs table.now.capacities seat.old.view (acts.UnlinkSlot link slot key next) }
+    ensures table { seat.new.table ≡ seat.old.table }
+    ensures told { Told table.now seat.old.view (acts.UnlinkSlot link slot key next) next seat.new.view }
+{
+    seat.tickets -= 1;
+    let word = word_at(link);
+    let act = Act::UnlinkSlot {
+        link,
+        slot,
+        key,
+        next,
+    };
+    store(table, &mut seat.seat, act, word, next);
+}
+
+/// Stores another value of a key that is present (H15).
+pub(crate) fn replace_value(table: &HashTable, seat: &mut HashSeat, slot: u32, key: u64, value: u64)
+    requires table { seat.old.table ≡ table.now.id }
+    requires asks { Needs table.now.capacities seat.old.view (acts.ReplaceValue slot key value) }
+    ensures table { seat.new.table ≡ seat.old.table }
+    ensures told { Told table.now seat.old.view (acts.ReplaceValue slot key value) value seat.new.view }
+{
+    seat.tickets -= 1;
+    let word = word_at(Field::Value { slot });
+    let act = Act::ReplaceValue { slot, key, value };
+    store(table, &mut seat.seat, act, word, value);
+}
+
+/// Stores the next even number in the front (H16).
+pub(crate) fn close_commit(table: &HashTable, seat: &mut HashSeat, front: u64)
+    requires table { seat.old.table ≡ table.now.id }
+    requires asks { Needs table.now.capacities seat.old.view (acts.CloseCommit front) }
+    ensures table { seat.new.table ≡ seat.old.table }
+    ensures told { Told table.now seat.old.view (acts.CloseCommit front) front seat.new.view }
+{
+    store(table, &mut seat.seat, Act::CloseCommit { front }, 0, front);
+}

@@ -8,7 +8,7 @@ ghost use Rattle.class_hash.specs.Updates.{HasLocked, HasTurned, MayReplace, Rep
 
 use crate::bucket::{Lock, try_bucket};
 use crate::seat::HashSeat;
-use crate::steps::{h7, h9, h10_chain, h10_push, h12, h14, h15, h16};
+use crate::steps;
 use crate::table::HashTable;
 use crossbeam_utils::Backoff;
 use hash_core::Field;
@@ -44,7 +44,7 @@ pub(crate) fn open_commit<R: Wait>(rt: &R, table: &HashTable, seat: &mut HashSea
     let backoff = Backoff::new();
     let mut even = 0;
     for _ in rt.forever() {
-        let found = h12(table, seat, even);
+        let found = steps::open_commit(table, seat, even);
         if found == even {
             return even;
         }
@@ -69,11 +69,11 @@ pub(crate) fn replace<R: Wait>(
     ensures view { Replaced seat.old.view key value result.0 result.1 seat.new.view }
     ensures informed { IsInformed table.now.capacities table.now.places seat.new.view }
 {
-    let old = h9(table, seat, Field::Value { slot });
+    let old = steps::locked_load(table, seat, Field::Value { slot });
     let even = open_commit(rt, table, seat);
-    h15(table, seat, even, slot, key, value);
-    h16(table, seat, even);
-    h7(table, seat);
+    steps::replace_value(table, seat, slot, key, value);
+    steps::close_commit(table, seat, even + 2);
+    steps::unlock(table, seat);
     (old, even / 2 + 1)
 }
 
@@ -103,21 +103,14 @@ pub(crate) fn unlink<R: Wait>(
     ensures informed { IsInformed table.now.capacities table.now.places seat.new.view }
 {
     let class = seat.class_held();
-    let next = h9(table, seat, Field::Next { slot });
-    let first = h9(table, seat, Field::Retired { class });
+    let next = steps::locked_load(table, seat, Field::Next { slot });
+    let first = steps::locked_load(table, seat, Field::Retired { class });
     let even = open_commit(rt, table, seat);
-    h14(
-        table,
-        seat,
-        even,
-        link_from(class, previous),
-        slot,
-        key,
-        next,
-    );
-    h10_chain(table, seat, slot, first);
-    h10_push(table, seat, slot);
-    h16(table, seat, even);
-    h7(table, seat);
+    let link = link_from(class, previous);
+    steps::unlink_slot(table, seat, link, slot, key, next);
+    steps::store_chain(table, seat, slot, first);
+    steps::retire(table, seat, slot);
+    steps::close_commit(table, seat, even + 2);
+    steps::unlock(table, seat);
     even / 2 + 1
 }

@@ -2,12 +2,11 @@
 ghost use Rattle.std.specs.Prelude.{◌≡◌, ◌%◌, true, Option, Some, None, IfNone, IfSome};
 ghost use Rattle.hash_core.specs.declared.view.Hold.{Hold};
 ghost use Rattle.hash_core.specs.Known.{ShowsAbsent};
-ghost use Rattle.hash_core.specs.Slots.{is_slot_of};
-ghost use Rattle.class_hash.specs.Walks.{HasLoaded, IsWalking, IsFoundAt};
+ghost use Rattle.class_hash.specs.Walks.{HasLoaded, WalksPast, WalksTo};
 
 use crate::search::slot_at;
 use crate::seat::HashSeat;
-use crate::steps::h9;
+use crate::steps;
 use crate::table::HashTable;
 use hash_core::Field;
 use std::sync::Wait;
@@ -29,21 +28,21 @@ pub(crate) fn walk_locked<R: Wait>(
     requires table { seat.old.table ≡ table.now.id }
     requires held { (hold : Hold) × (seat.old.view.hold ≡ Some hold) }
     ensures table { seat.new.table ≡ seat.old.table }
-    ensures absent { IfNone result ((hold : Hold) → seat.old.view.hold ≡ Some hold → (new : Hold) × HasLoaded seat.old.view hold seat.new.view new × ShowsAbsent new key) }
-    ensures found { IfSome result (λ place. (hold : Hold) → seat.old.view.hold ≡ Some hold → (new : Hold) × HasLoaded seat.old.view hold seat.new.view new × IsFoundAt key new place.previous place.slot × (is_slot_of table.now.capacities hold.class place.slot ≡ true) × IfSome place.previous (λ p. is_slot_of table.now.capacities hold.class p ≡ true)) }
+    ensures absent { IfNone result ((hold : Hold) → seat.old.view.hold ≡ Some hold → WalksPast key seat.old.view hold seat.new.view) }
+    ensures found { IfSome result (λ place. (hold : Hold) → seat.old.view.hold ≡ Some hold → WalksTo table.now.capacities key seat.old.view hold place.previous place.slot seat.new.view) }
 {
     let class = seat.class_held();
     let mut previous = None;
-    let mut link = h9(table, seat, Field::Head { class });
+    let mut link = steps::locked_load(table, seat, Field::Head { class });
     for _ in rt.forever() {
         if link == 0 {
             return None;
         }
         let slot = slot_at(table, link);
-        if h9(table, seat, Field::Key { slot }) == key {
+        if steps::locked_load(table, seat, Field::Key { slot }) == key {
             return Some(Place { previous, slot });
         }
-        link = h9(table, seat, Field::Next { slot });
+        link = steps::locked_load(table, seat, Field::Next { slot });
         previous = Some(slot);
     }
     unreachable!()

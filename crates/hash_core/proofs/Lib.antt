@@ -21,4 +21,5 @@ pub mod First
 pub mod Unlinks
 pub mod Full
 pub mod Keeping
+pub mod Acting
 pub mod Giving

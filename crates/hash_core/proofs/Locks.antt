@@ -165,7 +165,7 @@ module _ (capacities : List ℕ) (places tickets : ℕ) (m : Memory) (vs : List 
           back = section_back v w7 refl;
           forth = section_forth v w7 refl;
           commit = refl;
-          kept = λ commit held is mine. absurd (let z : Some commit ≡ None = sym is ∙ needs.4 in cc);
+          kept = λ commit held is mine. absurd (let z : Some commit ≡ None = sym is ∙ needs.even in cc);
           held = λ other is. absurd (cc);
           own = refl;
           heard = refl;
@@ -175,10 +175,10 @@ module _ (capacities : List ℕ) (places tickets : ℕ) (m : Memory) (vs : List 
     bucket7 small =
         let c : ℕ = hold.class in
         let b = r.buckets c small in
-        let mine : (r.bucket c).hold ≡ Some hold = holder_of c small hold needs.0 refl in
-        let no_taken : taken_of (r.bucket c).hold ≡ None = ap taken_of mine ∙ needs.1 in
-        let no_unlinked : unlinked_of (r.bucket c).hold ≡ None = ap unlinked_of mine ∙ needs.2 in
-        let no_moved : moved_of (r.bucket c).hold ≡ None = ap moved_of mine ∙ needs.3 in
+        let mine : (r.bucket c).hold ≡ Some hold = holder_of c small hold needs.hold_is refl in
+        let no_taken : taken_of (r.bucket c).hold ≡ None = ap taken_of mine ∙ needs.taken in
+        let no_unlinked : unlinked_of (r.bucket c).hold ≡ None = ap unlinked_of mine ∙ needs.unlinked in
+        let no_moved : moved_of (r.bucket c).hold ≡ None = ap moved_of mine ∙ needs.moved in
         let locked = subst (IsLocked c m vs) mine b.locked in
         record {
           chained = record { path = b.chained.path; classes = b.chained.classes; distinct = b.chained.distinct };
@@ -189,7 +189,7 @@ module _ (capacities : List ℕ) (places tickets : ℕ) (m : Memory) (vs : List 
             stored_here m (Lock c) 0 (same_self (Lock c)),
             λ j u there. each_set (λ k z. HoldsOther c z) vs id w7 (λ other is. absurd (cc))
                 (λ k z far e. dite (ℕ_discrete k locked.0)
-                (λ f. let me : id ≡ locked.0 = dite (ℕ_discrete id locked.0) (λ q. q) (λ q. absurd (locked.6 id v q at hold needs.0 refl)) in absurd (far (f ∙ sym me)))
+                (λ f. let me : id ≡ locked.0 = dite (ℕ_discrete id locked.0) (λ q. q) (λ q. absurd (locked.6 id v q at hold needs.hold_is refl)) in absurd (far (f ∙ sym me)))
                 (λ f. locked.6 k z f e)) j u there,
           );
           known = record { known = λ other field number is found. absurd (cc) };
@@ -208,7 +208,7 @@ module _ (capacities : List ℕ) (places tickets : ℕ) (m : Memory) (vs : List 
         (λ d _ ne. record {
           words = lock_words capacities hold.class d m 0 ne;
           marks = same_marks capacities d h;
-          view = record { place = refl; section = same_section d v.section; hold = subst (λ z. SameHold d z None) (sym needs.0) (λ e. ne (sym e)) };
+          view = record { place = refl; section = same_section d v.section; hold = subst (λ z. SameHold d z None) (sym needs.hold_is) (λ e. ne (sym e)) };
         })
 
   -- the bucket of the holder, with what it knows and does now

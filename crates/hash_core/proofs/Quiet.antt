@@ -16,8 +16,7 @@ use Rattle.prcu_marks.specs.Marks.{updates_of, own_of}
 use Rattle.hash_core.specs.Seats.{open_of, AreOwned}
 use Rattle.hash_core.specs.Steps.{stepped}
 use Rattle.hash_core.specs.Rule.{MemoryRule}
-use Rattle.list_laws.proofs.Lists.{at_below, total_set, set_twice}
-use Rattle.atomic_table.proofs.Lists.{set_here}
+use Rattle.list_laws.proofs.Lists.{total_set}
 use Rattle.hash_core.proofs.Frames.{SameMarks, SameSection, SameHold}
 use Rattle.hash_core.proofs.Stores.{same_words}
 use Rattle.hash_core.proofs.SeatFrames.{SamePlaces, seen_same, apart_same, owned_same, open_same, held_still, turned_same}
@@ -96,13 +95,3 @@ law_stepped capacities places tickets m vs h r id v at kind field number =
       heard = refl;
     }) refl refl)
     (λ d small. record { words = same_words capacities d m; marks = same_marks capacities d h; view = record { place = refl; section = same_section d v.section; hold = same_hold d v.hold } })
-
--- A step of a kind is made of the view with one more step in its trail.
-pub after_stepped : (capacities : List ℕ) (places tickets : ℕ) (m : Memory) (vs : List View) (h : List Mark) → MemoryRule capacities places tickets m vs h → (id : ℕ) (v : View) → get_elem? vs id ≡ some v → (kind : Kind) (field : Field) (number : ℕ)
-    → (m' : Memory) (w : View) (h' : List Mark)
-    → ((vs1 : List View) → MemoryRule capacities places tickets m vs1 h → get_elem? vs1 id ≡ some (stepped v kind field number) → MemoryRule capacities places tickets m' (set vs1 id w) h')
-    → MemoryRule capacities places tickets m' (set vs id w) h'
-after_stepped capacities places tickets m vs h r id v at kind field number m' w h' law =
-    let v1 : View = stepped v kind field number in
-    subst (λ z. MemoryRule capacities places tickets m' z h') (set_twice vs id v1 w)
-    (law (set vs id v1) (law_stepped capacities places tickets m vs h r id v at kind field number) (set_here vs id v1 (at_below vs id v at)))

@@ -22,6 +22,8 @@ use Rattle.hash_core.specs.Slots.{is_slot_of}
 use Rattle.hash_core.specs.Marks.{AreMarks, ReuseByClass}
 use Rattle.hash_core.specs.Steps.{IsQuiet, NeedsSplit, first_of, second_of, both_of, spent, StandsAt, IsFieldOf}
 use Rattle.hash_core.specs.Kinds.{Steps}
+use Rattle.hash_core.specs.declared.act.Act.{Act}
+use Rattle.hash_core.specs.Acts.{kind_of, field_of, Needs, marks_of, left, done}
 use Rattle.hash_core.specs.Fresh.{first_view, IsFresh}
 use Rattle.hash_core.specs.Buckets.{Bucket, seek, IsChained, AreListed, HaveOneRole, IsMapped, IsLocked, inside_count}
 use Rattle.hash_core.specs.Readers.{IsHeldBack}
@@ -126,6 +128,14 @@ Keeps kind = (capacities : List ℕ) (places tickets : ℕ) (m : Memory) (vs : L
 
 abbrev pub StepsKeep : Type 0
 StepsKeep = (kind : Kind) → Keeps kind
+
+-- An act whose needs are met is a step of its kind, whatever it finds; so it keeps the rule.
+abbrev pub ActsAreSteps : Type 0
+ActsAreSteps = (capacities : List ℕ) (h : List Mark) (v : View) (n : ℕ) (a : Act) → Needs capacities v a → Steps capacities h v (kind_of a) (field_of v a) n (left v a n) (done v a h n) (marks_of v a)
+
+abbrev pub ActsKeep : Type 0
+ActsKeep = (capacities : List ℕ) (places tickets : ℕ) (m : Memory) (vs : List View) (h : List Mark) (id : ℕ) (v : View) (a : Act) → MemoryRule capacities places tickets m vs h → get_elem? vs id ≡ some v → 1 ≤ v.places → Needs capacities v a
+    → let field = field_of v a in let n = m field in IsKept capacities places tickets m h (stored m field (left v a n)) (set vs id (done v a h n)) (h ++ marks_of v a)
 
 -- A split keeps the rule.
 abbrev pub SplitsKeep : Type 0

@@ -11,4 +11,5 @@ pub mod Readers
 pub mod Seats
 pub mod Rule
 pub mod Pairs
+pub mod Acts
 pub mod Laws

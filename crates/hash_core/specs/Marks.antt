@@ -1,10 +1,10 @@
 -- What a list of marks says of slots that are used again, and what is true of each such list.
 -- Source: docs/ACCOUNTS.md, "Marks".
-use Rattle.std.specs.Prelude.{◌≡◌, ℕ, ◌+◌, ◌%◌, ◌^◌, ◌<◌, ◌==◌, if◌then◌else◌, IsTrue, List, [], ◌∷◌, take, Option, Some, None}
+use Rattle.std.specs.Prelude.{◌≡◌, ℕ, ◌%◌, ◌^◌, ◌<◌, IsTrue, List, take, Some, None}
 use mathlib.Core.Option.{some}
 use lib.ListN.{get_elem?}
 use Rattle.prcu_marks.specs.declared.mark.Mark.{Mark}
-use Rattle.prcu_marks.specs.declared.mark.Mark.TheVariants.{Entered, Left, Began, Ended, Given, Unlinked, Freed}
+use Rattle.prcu_marks.specs.declared.mark.Mark.TheVariants.{Entered, Left, Began, Ended, Given, Freed}
 use Rattle.prcu_marks.specs.Marks.{Open, open_at, entered_at, last_unlinked}
 use Rattle.hash_core.specs.Slots.{is_slot_of}
 

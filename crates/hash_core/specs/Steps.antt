@@ -1,7 +1,6 @@
 -- The kinds of step: what each needs of the stepping view, and the view after it.
 -- Source: docs/HASH_DICTIONARY.md, "The steps of the hash dictionary".
-use Rattle.std.specs.Prelude.{◌≡◌, ◌≢◌, ℕ, ◌+◌, ◌-◌, ◌%◌, ◌<◌, ◌≤◌, ◌==◌, nat_lt, if◌then◌else◌, true, false, List, [], ◌∷◌, ◌++◌, length, Some, None}
-use mathlib.Core.List.{IsPrefix}
+use Rattle.std.specs.Prelude.{◌≡◌, ◌≢◌, ℕ, ◌+◌, ◌-◌, ◌%◌, ◌<◌, ◌≤◌, ◌==◌, if◌then◌else◌, true, false, List, [], ◌∷◌, ◌++◌, length, Some, None}
 use Rattle.prcu_marks.specs.declared.mark.Mark.{Mark}
 use Rattle.prcu_marks.specs.declared.mark.Mark.TheVariants.{Entered, Left, Done, Given, Unlinked}
 use Rattle.prcu_model.specs.declared.operation.Op.{Op}
@@ -17,10 +16,6 @@ use Rattle.hash_core.specs.declared.view.View.{View}
 use Rattle.prcu_marks.specs.Marks.{updates_of, longer}
 use Rattle.list_laws.specs.Counts.{numbers_from}
 use Rattle.hash_core.specs.Known.{known_in, knowing, ShowsAbsent, IsOnWalk}
-
--- the view after a step is `after` of the whole list of marks before it, of which the view had seen a beginning
-abbrev pub Goes : View → (List Mark → View) → View → Type 0
-Goes v after w = (h : List Mark) × IsPrefix v.seen h × (w ≡ after h)
 
 -- the view with one more step in its trail: the kinds of step below are made of this view
 abbrev pub stepped : View → Kind → Field → ℕ → View
@@ -124,8 +119,12 @@ abbrev pub after_lock : View → ℕ → ℕ → View
 after_lock v c found = if found == 0 then record v { hold = Some (fresh_hold c) } else v
 
 -- H7: the lock is given up, with nothing in hand and no odd front.
-abbrev pub NeedsUnlock : View → Hold → Type 0
-NeedsUnlock v hold = (v.hold ≡ Some hold) × (hold.taken ≡ None) × (hold.unlinked ≡ None) × (hold.moved ≡ None) × (v.commit ≡ None)
+pub record NeedsUnlock (v : View) (hold : Hold) : Type 0 where
+  pub hold_is : v.hold ≡ Some hold
+  pub taken : hold.taken ≡ None
+  pub unlinked : hold.unlinked ≡ None
+  pub moved : hold.moved ≡ None
+  pub even : v.commit ≡ None
 
 abbrev pub after_unlock : View → View
 after_unlock v = record v { hold = None }

@@ -1,5 +1,5 @@
 //! What the rule gives, and that each kind of step keeps it. Each is a function without a body whose promise is the law.
-ghost use Rattle.hash_core.specs.Laws.{ChainsAreMap, SlotsHaveOneRole, ReadersAreCounted, FrontCounts, SearchesAreAnswered, SearchesStand, MarksAreInOrder, SlotsAreReused, StepsKeep, SplitsKeep, JoinsKeep, FreshHolds, RunsHold};
+ghost use Rattle.hash_core.specs.Laws.{ChainsAreMap, SlotsHaveOneRole, ReadersAreCounted, FrontCounts, SearchesAreAnswered, SearchesStand, MarksAreInOrder, SlotsAreReused, StepsKeep, ActsAreSteps, ActsKeep, SplitsKeep, JoinsKeep, FreshHolds, RunsHold};
 
 /// The chains hold just the pairs of the dictionary now, in distinct slots with distinct keys.
 pub fn chains_are_map()
@@ -49,6 +49,16 @@ pub fn fresh_holds()
 /// Each step of each kind keeps the rule, and leaves an unlinked slot its key, value and next until it is given.
 pub fn steps_keep()
     ensures { StepsKeep }
+{}
+
+/// An act whose needs are met is a step of its kind, whatever it finds.
+pub fn acts_are_steps()
+    ensures { ActsAreSteps }
+{}
+
+/// So it keeps the rule.
+pub fn acts_keep()
+    ensures { ActsKeep }
 {}
 
 /// A split of a seat keeps the rule.

@@ -1,6 +1,7 @@
 //! The words of the table, and the kinds of step on them.
 
 /// A word of the table. Classes are counted from 0, slots from 1.
+#[derive(Clone, Copy)]
 pub enum Field {
     /// Twice the number of updates, and one more while an update is being made.
     Front,

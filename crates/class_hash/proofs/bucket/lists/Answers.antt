@@ -1,12 +1,13 @@
+use Rattle.class_hash.proofs.Seats.{class_is}
 use Rattle.class_hash.proofs.Calls.{listed, still_holds}
 use Rattle.class_hash.proofs.bucket.lists.Goals as goal
 
-pub h9-retired-requires-clause-held : goal.h9-retired-requires-clause-held
-h9-retired-requires-clause-held c =
+pub locked_load-retired-requires-clause-asks : goal.locked_load-retired-requires-clause-asks
+locked_load-retired-requires-clause-asks c =
     let f = c.requires.finished in
-    still_holds c.args.table.now.capacities c.args.seat.now.view c.h9-free.new.seat.view _ _ c.class_held-class.result f.0 f.1.0 (c.class_held-class.ensures f.0 f.1.0).0 c.h9-free.ensures.view
+    still_holds c.args.table.now c.args.seat.now.view c.locked_load-free.new.seat.view _ _ c.class_held-class.result f.0 f.1.hold_is (class_is c.args.seat.now.view f.0 c.class_held-class.result f.1.hold_is c.class_held-class.ensures.class) c.locked_load-free.ensures.told
 
 pub returns-clause-view : goal.returns-clause-view
 returns-clause-view c =
     let f = c.requires.finished in
-    listed c.args.table.now.capacities c.args.seat.now.view c.h9-free.new.seat.view c.h9-retired.new.seat.view _ _ c.class_held-class.result f.0 f.1 (c.class_held-class.ensures f.0 f.1.0).0 c.h9-free.ensures.view c.h9-retired.ensures.view
+    listed c.args.table.now c.args.seat.now.view c.locked_load-free.new.seat.view c.locked_load-retired.new.seat.view _ _ c.class_held-class.result f.0 f.1 (class_is c.args.seat.now.view f.0 c.class_held-class.result f.1.hold_is c.class_held-class.ensures.class) c.locked_load-free.ensures.told c.locked_load-retired.ensures.told

@@ -1,8 +1,8 @@
 use Rattle.class_hash.proofs.Calls.{may_move, may_refill}
 use Rattle.class_hash.proofs.bucket.poll_class.Goals as goal
 
-pub h10_move-requires-clause-case : goal.h10_move-requires-clause-case
-h10_move-requires-clause-case c = may_move c.args.seat.now.view c.h8-count.new.seat.view c.h8-count.result _ c.if-count-ne0.false c.requires.lists c.first_retired-first.ensures c.h8-count.ensures.view
+pub take_retired-requires-clause-asks : goal.take_retired-requires-clause-asks
+take_retired-requires-clause-asks c = may_move c.args.table.now c.args.seat.now.view c.load_readers-count.new.seat.view c.load_readers-count.result _ c.if-count-ne0.false c.requires.lists c.first_retired-first.ensures c.load_readers-count.ensures.told
 
-pub h10_refill-requires-clause-case : goal.h10_refill-requires-clause-case
-h10_refill-requires-clause-case c = may_refill c.args.seat.now.view c.h8-count.new.seat.view c.h10_move.new.seat.view c.h8-count.result _ c.if-count-ne0.false c.requires.lists c.h8-count.ensures.view c.h10_move.ensures.view
+pub free_retired-requires-clause-asks : goal.free_retired-requires-clause-asks
+free_retired-requires-clause-asks c = may_refill c.args.table.now c.args.seat.now.view c.load_readers-count.new.seat.view c.take_retired.new.seat.view c.load_readers-count.result _ c.if-count-ne0.false c.requires.lists c.load_readers-count.ensures.told c.take_retired.ensures.told

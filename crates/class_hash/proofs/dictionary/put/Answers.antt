@@ -12,10 +12,9 @@ lacks-requires-clause-held g c = (fresh_hold (c.args.key % 64), ap (λ (z : View
 
 pub returns-then-lacks-clause-view : goal.returns-then-lacks-clause-view
 returns-then-lacks-clause-view g c =
-    let v = c.args.seat.now.view in
     let f = c.lacks.ensures.walked (fresh_hold (c.args.key % 64)) (ap (λ (z : View). z.hold) c.lock_bucket.ensures.view.view) in
     subst (λ (t : Told). Puts c.args.table.now.capacities c.args.seat.now.view c.args.key c.args.value t c.add.new.seat.view) (sym c.told_added.ensures)
-    (put_once v c.loop.seat.view c.search.new.seat.view c.lock_bucket.new.seat.view c.lacks.new.seat.view c.args.key (c.args.key % 64) c.search.result f.0 c.requires.quiet c.loop.invariant.1 c.search.ensures.view c.lock_bucket.ensures.view f.1 c.lock_bucket.ensures.commit
+    (put_once c.requires.quiet c.loop.invariant.1 c.search.ensures.view c.lock_bucket.ensures.view f.1 c.lock_bucket.ensures.commit
     c.args.table.now.capacities c.add.new.seat.view c.args.value c.add.result c.loop.invariant.2 refl (f.2 c.if-lacks.true) c.add.ensures.full c.add.ensures.added)
 
 pub returns-then-lacks-clause-full : goal.returns-then-lacks-clause-full
@@ -32,9 +31,8 @@ returns-then-is_some-clause-full g c = full_exactly c.args.table.now.capacities 
 
 pub loop-preserved : goal.loop-preserved
 loop-preserved g c =
-    let v = c.args.seat.now.view in
     let f = c.lacks.ensures.walked (fresh_hold (c.args.key % 64)) (ap (λ (z : View). z.hold) c.lock_bucket.ensures.view.view) in (
       search rules,
-      tried_again v c.loop.seat.view c.search.new.seat.view c.lock_bucket.new.seat.view c.lacks.new.seat.view c.args.key (c.args.key % 64) c.search.result f.0 c.requires.quiet c.loop.invariant.1 c.search.ensures.view c.lock_bucket.ensures.view f.1 c.lock_bucket.ensures.commit c.free_bucket.new.seat.view c.free_bucket.ensures.view,
-      tried_on v c.loop.seat.view c.search.new.seat.view c.lock_bucket.new.seat.view c.lacks.new.seat.view c.args.key (c.args.key % 64) c.search.result f.0 c.requires.quiet c.loop.invariant.1 c.search.ensures.view c.lock_bucket.ensures.view f.1 c.lock_bucket.ensures.commit c.loop.invariant.2 c.free_bucket.new.seat.view c.free_bucket.ensures.view,
+      tried_again c.requires.quiet c.loop.invariant.1 c.search.ensures.view c.lock_bucket.ensures.view f.1 c.lock_bucket.ensures.commit c.free_bucket.new.seat.view c.free_bucket.ensures.view,
+      tried_on c.requires.quiet c.loop.invariant.1 c.search.ensures.view c.lock_bucket.ensures.view f.1 c.lock_bucket.ensures.commit c.loop.invariant.2 c.free_bucket.new.seat.view c.free_bucket.ensures.view,
     )

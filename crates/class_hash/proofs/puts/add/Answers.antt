@@ -8,4 +8,4 @@ free_bucket-requires-clause-finished g c = let may = c.requires.case in
 
 pub returns-clause-added : goal.returns-clause-added
 returns-clause-added g c =
-    added c.args.table.now.capacities c.args.seat.now.view c.find_free-free.new.seat.view c.fill.new.seat.view c.link.new.seat.view c.args.key c.args.value c.find_free-free.result c.slot_at-slot.result c.link.result (c.find_free-free.ensures.free c.if-free-eq0.false) c.fill.ensures.view c.link.ensures.view c.link.ensures.trail
+    added c.args.table.now.capacities c.args.seat.now.view c.find_free-free.new.seat.view c.fill_pair.new.seat.view c.link.new.seat.view c.args.key c.args.value c.find_free-free.result c.slot_at-slot.result c.link.result (c.find_free-free.ensures.free c.if-free-eq0.false) c.fill_pair.ensures.view c.link.ensures.view c.link.ensures.trail

@@ -1,11 +1,17 @@
-use Rattle.class_hash.proofs.Updating.{holds_loaded, may_store, may_unlock}
+use Rattle.class_hash.proofs.Updating.{holds_loaded, may_store, may_even, may_unlock, replaced}
 use Rattle.class_hash.proofs.updates.replace.Goals as goal
 
 pub open_commit-even-requires-clause-held : goal.open_commit-even-requires-clause-held
-open_commit-even-requires-clause-held g c = holds_loaded c.args.table.now.capacities c.args.seat.now.view c.h9-old.new.seat.view c.args.slot c.args.key c.h9-old.result c.requires.case c.h9-old.ensures.view
+open_commit-even-requires-clause-held g c = holds_loaded c.requires.case c.locked_load-old.ensures.told
 
-pub h15-requires-clause-case : goal.h15-requires-clause-case
-h15-requires-clause-case g c = may_store c.args.table.now.capacities c.args.seat.now.view c.h9-old.new.seat.view c.open_commit-even.new.seat.view c.args.slot c.args.key c.args.value c.h9-old.result c.open_commit-even.result c.requires.case c.h9-old.ensures.view c.open_commit-even.ensures.view
+pub replace_value-requires-clause-asks : goal.replace_value-requires-clause-asks
+replace_value-requires-clause-asks g c = may_store c.args.value c.requires.case c.locked_load-old.ensures.told c.open_commit-even.ensures.view
 
-pub h7-requires-clause-case : goal.h7-requires-clause-case
-h7-requires-clause-case g c = may_unlock c.args.table.now.capacities c.args.seat.now.view c.h9-old.new.seat.view c.open_commit-even.new.seat.view c.args.slot c.args.key c.args.value c.h9-old.result c.open_commit-even.result c.requires.case c.h9-old.ensures.view c.open_commit-even.ensures.view c.h15.new.seat.view c.h15.ensures.view c.h16.new.seat.view c.h16.ensures.view
+pub close_commit-requires-clause-asks : goal.close_commit-requires-clause-asks
+close_commit-requires-clause-asks g c = may_even c.args.value c.requires.case c.locked_load-old.ensures.told c.open_commit-even.ensures.view c.replace_value.ensures.told
+
+pub unlock-requires-clause-asks : goal.unlock-requires-clause-asks
+unlock-requires-clause-asks g c = may_unlock c.args.value c.requires.case c.locked_load-old.ensures.told c.open_commit-even.ensures.view c.replace_value.ensures.told c.close_commit.ensures.told
+
+pub returns-clause-view : goal.returns-clause-view
+returns-clause-view g c = replaced c.args.value c.requires.case c.locked_load-old.ensures.told c.open_commit-even.ensures.view c.replace_value.ensures.told c.close_commit.ensures.told c.unlock.ensures.told.goes

@@ -1,36 +1,51 @@
-use Rattle.class_hash.proofs.Unlinking.{may_load_retired, holds2, may_cut, may_chain, may_push, may_unlock, removed}
+use Rattle.class_hash.proofs.Seats.{class_is}
+use Rattle.class_hash.proofs.Unlinking.{may_load_retired, holds2, may_cut, may_chain, may_push, may_even, may_unlock, removed}
 use Rattle.class_hash.proofs.updates.unlink.Goals as goal
 
--- src/updates.rt:102:9
-pub h9-first-requires-clause-held : goal.h9-first-requires-clause-held
-h9-first-requires-clause-held g c = let may = c.requires.case in
-    may_load_retired c.args.table.now.capacities c.args.seat.now.view c.args.previous c.args.slot c.args.key may c.h9-next.result c.h9-next.new.seat.view c.h9-next.ensures.view c.class_held-class.result (c.class_held-class.ensures may.hold may.finished.0).0
+pub locked_load-first-requires-clause-asks : goal.locked_load-first-requires-clause-asks
+locked_load-first-requires-clause-asks g c =
+    let may = c.requires.case in
+    let of_class = class_is c.args.seat.now.view may.hold c.class_held-class.result may.finished.hold_is c.class_held-class.ensures.class in
+    may_load_retired may c.locked_load-next.ensures.told of_class
 
 pub open_commit-even-requires-clause-held : goal.open_commit-even-requires-clause-held
-open_commit-even-requires-clause-held g c = let may = c.requires.case in
-    holds2 c.args.table.now.capacities c.args.seat.now.view c.args.previous c.args.slot c.args.key may c.h9-next.result c.h9-next.new.seat.view c.h9-next.ensures.view c.class_held-class.result c.h9-first.result (c.class_held-class.ensures may.hold may.finished.0).0 c.h9-first.new.seat.view c.h9-first.ensures.view
+open_commit-even-requires-clause-held g c =
+    let may = c.requires.case in
+    let of_class = class_is c.args.seat.now.view may.hold c.class_held-class.result may.finished.hold_is c.class_held-class.ensures.class in
+    holds2 may c.locked_load-next.ensures.told of_class c.locked_load-first.ensures.told
 
-pub h14-requires-clause-case : goal.h14-requires-clause-case
-h14-requires-clause-case g c = let may = c.requires.case in
-    may_cut c.args.table.now.capacities c.args.seat.now.view c.args.previous c.args.slot c.args.key may c.h9-next.result c.h9-next.new.seat.view c.h9-next.ensures.view c.class_held-class.result c.h9-first.result (c.class_held-class.ensures may.hold may.finished.0).0 c.h9-first.new.seat.view c.h9-first.ensures.view
-    c.open_commit-even.result c.open_commit-even.new.seat.view c.open_commit-even.ensures.view c.link_from.result c.link_from.ensures
+pub unlink_slot-requires-clause-asks : goal.unlink_slot-requires-clause-asks
+unlink_slot-requires-clause-asks g c =
+    let may = c.requires.case in
+    let of_class = class_is c.args.seat.now.view may.hold c.class_held-class.result may.finished.hold_is c.class_held-class.ensures.class in
+    may_cut may c.locked_load-next.ensures.told of_class c.locked_load-first.ensures.told c.open_commit-even.ensures.view c.link_from-link.ensures
 
-pub h10_chain-requires-clause-case : goal.h10_chain-requires-clause-case
-h10_chain-requires-clause-case g c = let may = c.requires.case in
-    may_chain c.args.table.now.capacities c.args.seat.now.view c.args.previous c.args.slot c.args.key may c.h9-next.result c.h9-next.new.seat.view c.h9-next.ensures.view c.class_held-class.result c.h9-first.result (c.class_held-class.ensures may.hold may.finished.0).0 c.h9-first.new.seat.view c.h9-first.ensures.view
-    c.open_commit-even.result c.open_commit-even.new.seat.view c.open_commit-even.ensures.view c.link_from.result c.link_from.ensures c.h14.new.seat.view c.h14.ensures.view
+pub store_chain-requires-clause-asks : goal.store_chain-requires-clause-asks
+store_chain-requires-clause-asks g c =
+    let may = c.requires.case in
+    let of_class = class_is c.args.seat.now.view may.hold c.class_held-class.result may.finished.hold_is c.class_held-class.ensures.class in
+    may_chain may c.locked_load-next.ensures.told of_class c.locked_load-first.ensures.told c.open_commit-even.ensures.view c.link_from-link.ensures c.unlink_slot.ensures.told
 
-pub h10_push-requires-clause-case : goal.h10_push-requires-clause-case
-h10_push-requires-clause-case g c = let may = c.requires.case in
-    may_push c.args.table.now.capacities c.args.seat.now.view c.args.previous c.args.slot c.args.key may c.h9-next.result c.h9-next.new.seat.view c.h9-next.ensures.view c.class_held-class.result c.h9-first.result (c.class_held-class.ensures may.hold may.finished.0).0 c.h9-first.new.seat.view c.h9-first.ensures.view
-    c.open_commit-even.result c.open_commit-even.new.seat.view c.open_commit-even.ensures.view c.link_from.result c.link_from.ensures c.h14.new.seat.view c.h14.ensures.view c.h10_chain.new.seat.view c.h10_chain.ensures.view
+pub retire-requires-clause-asks : goal.retire-requires-clause-asks
+retire-requires-clause-asks g c =
+    let may = c.requires.case in
+    let of_class = class_is c.args.seat.now.view may.hold c.class_held-class.result may.finished.hold_is c.class_held-class.ensures.class in
+    may_push may c.locked_load-next.ensures.told of_class c.locked_load-first.ensures.told c.open_commit-even.ensures.view c.link_from-link.ensures c.unlink_slot.ensures.told c.store_chain.ensures.told
 
-pub h7-requires-clause-case : goal.h7-requires-clause-case
-h7-requires-clause-case g c = let may = c.requires.case in
-    may_unlock c.args.table.now.capacities c.args.seat.now.view c.args.previous c.args.slot c.args.key may c.h9-next.result c.h9-next.new.seat.view c.h9-next.ensures.view c.class_held-class.result c.h9-first.result (c.class_held-class.ensures may.hold may.finished.0).0 c.h9-first.new.seat.view c.h9-first.ensures.view
-    c.open_commit-even.result c.open_commit-even.new.seat.view c.open_commit-even.ensures.view c.link_from.result c.link_from.ensures c.h14.new.seat.view c.h14.ensures.view c.h10_chain.new.seat.view c.h10_chain.ensures.view c.h10_push.new.seat.view c.h10_push.ensures.view c.h16.new.seat.view c.h16.ensures.view
+pub close_commit-requires-clause-asks : goal.close_commit-requires-clause-asks
+close_commit-requires-clause-asks g c =
+    let may = c.requires.case in
+    let of_class = class_is c.args.seat.now.view may.hold c.class_held-class.result may.finished.hold_is c.class_held-class.ensures.class in
+    may_even may c.locked_load-next.ensures.told of_class c.locked_load-first.ensures.told c.open_commit-even.ensures.view c.link_from-link.ensures c.unlink_slot.ensures.told c.store_chain.ensures.told c.retire.ensures.told
+
+pub unlock-requires-clause-asks : goal.unlock-requires-clause-asks
+unlock-requires-clause-asks g c =
+    let may = c.requires.case in
+    let of_class = class_is c.args.seat.now.view may.hold c.class_held-class.result may.finished.hold_is c.class_held-class.ensures.class in
+    may_unlock may c.locked_load-next.ensures.told of_class c.locked_load-first.ensures.told c.open_commit-even.ensures.view c.link_from-link.ensures c.unlink_slot.ensures.told c.store_chain.ensures.told c.retire.ensures.told c.close_commit.ensures.told
 
 pub returns-clause-view : goal.returns-clause-view
-returns-clause-view g c = let may = c.requires.case in
-    removed c.args.table.now.capacities c.args.seat.now.view c.args.previous c.args.slot c.args.key may c.h9-next.result c.h9-next.new.seat.view c.h9-next.ensures.view c.class_held-class.result c.h9-first.result (c.class_held-class.ensures may.hold may.finished.0).0 c.h9-first.new.seat.view c.h9-first.ensures.view
-    c.open_commit-even.result c.open_commit-even.new.seat.view c.open_commit-even.ensures.view c.link_from.result c.link_from.ensures c.h14.new.seat.view c.h14.ensures.view c.h10_chain.new.seat.view c.h10_chain.ensures.view c.h10_push.new.seat.view c.h10_push.ensures.view c.h16.new.seat.view c.h16.ensures.view c.h7.new.seat.view c.h7.ensures.view
+returns-clause-view g c =
+    let may = c.requires.case in
+    let of_class = class_is c.args.seat.now.view may.hold c.class_held-class.result may.finished.hold_is c.class_held-class.ensures.class in
+    removed may c.locked_load-next.ensures.told of_class c.locked_load-first.ensures.told c.open_commit-even.ensures.view c.link_from-link.ensures c.unlink_slot.ensures.told c.store_chain.ensures.told c.retire.ensures.told c.close_commit.ensures.told c.unlock.ensures.told.goes

@@ -19,9 +19,9 @@ same_section v w (NotYet why) p = ap (λ (z : View). z.section) (waited v w why 
 
 finished : (v w : View) (poll : Poll) → MayPoll v → Polls v poll w → HasFinished w
 finished v w Over may p =
-    let same : may.hold ≡ p.hold = (let z : Some may.hold ≡ Some p.hold = sym may.finished.0 ∙ p.is in cc) in
+    let same : may.hold ≡ p.hold = (let z : Some may.hold ≡ Some p.hold = sym may.finished.hold_is ∙ p.is in cc) in
     let done : NeedsUnlock v p.hold = subst (NeedsUnlock v) same may.finished in
-    (polled p.hold p.first, (ap (λ (z : View). z.hold) p.rest, done.1, done.2, refl, ap (λ (z : View). z.commit) p.rest ∙ done.4))
+    (polled p.hold p.first, record { hold_is = ap (λ (z : View). z.hold) p.rest; taken = done.taken; unlinked = done.unlinked; moved = refl; even = ap (λ (z : View). z.commit) p.rest ∙ done.even })
 finished v w (NotYet why) may p = let still = may_poll_still v w may (waited v w why p) in (still.hold, still.finished)
 
 again : (v w : View) (poll : Poll) → MayPoll v → Polls v poll w → poll ≢ Over → MayPoll w

@@ -1,6 +1,0 @@
-use Rattle.std.specs.Prelude.{[], ◌+◌}
-use Rattle.hash_core.specs.declared.words.Field.TheVariants.{Front}
-use Rattle.class_hash.proofs.steps.commits.h16.Given as goal
-
-abbrev pub ghosts-evens : goal.ghosts-evens
-ghosts-evens a = record { number = a.even + 2; field = Front; slot = 0; key = 0; value = 0; even = 0; capacities = []; places = 0 }

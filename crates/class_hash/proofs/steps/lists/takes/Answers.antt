@@ -1,7 +1,0 @@
-use Rattle.std.proofs.Common.{rules, arith}
-use Rattle.class_hash.proofs.Allowed.{takes_as}
-use Rattle.class_hash.proofs.Facts.{class_below}
-use Rattle.class_hash.proofs.steps.lists.takes.Goals as goal
-
-pub store-requires : goal.store-requires
-store-requires g c = let hold = c.requires.case.0 in (search rules, class_below c.table.inside.table.shared.key.capacities.items 4 hold.class _ _ (search rules) (search rules) (omega arith) (search rules), takes_as _ _ _ _ hold (search rules) c.args.slot c.args.next g.A.Detail.slot g.A.Detail.number _ (search rules) (search rules) (search rules) (search rules))

@@ -1,6 +1,0 @@
-use Rattle.std.specs.Prelude.{[]}
-use Rattle.hash_core.specs.declared.words.Field.TheVariants.{Front}
-use Rattle.class_hash.proofs.steps.updates.h15.Given as goal
-
-abbrev pub ghosts-replaces : goal.ghosts-replaces
-ghosts-replaces a = record { number = 0; field = Front; slot = a.slot; key = a.key; value = a.value; even = a.even; capacities = []; places = 0 }
