@@ -9,8 +9,38 @@ use seat_table::{CitrusTable, Seat, WaitPart};
 use std::process::Abort;
 use std::sync::Wait;
 
+// A call as a line of an account tells it, with the number of its update where it is one.
+macro_rules! call {
+    (put $key:tt $value:tt new $number:tt) => {
+        call!([Put { key: $key, value: $value }] [New] $number)
+    };
+    (put $key:tt $value:tt $told:ident) => {
+        call!([Put { key: $key, value: $value }] [$told] 0)
+    };
+    (set $key:tt $value:tt was $old:tt $number:tt) => {
+        call!([Set { key: $key, value: $value }] [Was { value: $old }] $number)
+    };
+    (set $key:tt $value:tt none) => {
+        call!([Set { key: $key, value: $value }] [Absent] 0)
+    };
+    (get $key:tt val $value:tt) => {
+        call!([Get { key: $key }] [Val { value: $value }] 0)
+    };
+    (get $key:tt none) => {
+        call!([Get { key: $key }] [Absent] 0)
+    };
+    (del $key:tt gone $number:tt) => {
+        call!([Del { key: $key }] [Gone] $number)
+    };
+    (del $key:tt none) => {
+        call!([Del { key: $key }] [Absent] 0)
+    };
+    ([$($op:tt)*] [$($reply:tt)*] $number:tt) => {
+        (Op::$($op)*, Told { reply: Reply::$($reply)*, number: $number })
+    };
+}
+
 mod cookies;
-mod deletes;
 mod histories;
 mod lists;
 mod scripts;
@@ -25,59 +55,16 @@ fn told(reply: Reply, number: u64) -> Told {
     Told { reply, number }
 }
 
-// A put that adds the pair by this update.
-fn new(key: u64, value: u64, number: u64) -> Call {
-    (Op::Put { key, value }, told(Reply::New, number))
-}
-
-// A put that finds the key.
-fn old(key: u64, value: u64) -> Call {
-    (Op::Put { key, value }, told(Reply::Old, 0))
-}
-
-// A put that finds no free slot.
-fn full(key: u64, value: u64) -> Call {
-    (Op::Put { key, value }, told(Reply::Full, 0))
-}
-
-// A get that finds the value.
-fn val(key: u64, value: u64) -> Call {
-    (Op::Get { key }, told(Reply::Val { value }, 0))
-}
-
-// A get that doesn't find the key.
-fn no_val(key: u64) -> Call {
-    (Op::Get { key }, told(Reply::Absent, 0))
-}
-
-// A del that takes the key out by this update.
-fn gone(key: u64, number: u64) -> Call {
-    (Op::Del { key }, told(Reply::Gone, number))
-}
-
-// A del that doesn't find the key.
-fn not_gone(key: u64) -> Call {
-    (Op::Del { key }, told(Reply::Absent, 0))
-}
-
-// A set that replaces a value by this update.
-fn was(key: u64, value: u64, old: u64, number: u64) -> Call {
-    (
-        Op::Set { key, value },
-        told(Reply::Was { value: old }, number),
-    )
-}
-
-// A set that doesn't find the key.
-fn not_set(key: u64, value: u64) -> Call {
-    (Op::Set { key, value }, told(Reply::Absent, 0))
-}
-
 // Makes the calls one after another. Each has to be answered as it says.
-fn run<R: Abort + Wait, W: WaitPart>(rt: &R, client: &mut TreeClient<W, OpenGate>, calls: &[Call]) {
+fn run<R: Abort + Wait, W: WaitPart>(
+    rt: &R,
+    client: &mut TreeClient<W, OpenGate>,
+    name: &str,
+    calls: &[Call],
+) {
     for (op, answer) in calls {
         assert!(rt; client.remaining() > 0, "no tickets are left");
-        assert_eq!(rt; client.call(rt, *op), *answer, "{op:?}");
+        assert_eq!(rt; client.call(rt, *op), *answer, "{op:?} where {name}");
     }
 }
 

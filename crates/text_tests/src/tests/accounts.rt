@@ -1,212 +1,165 @@
 //! Accounts of small runs, byte for byte.
-ghost use Rattle.std.specs.Prelude.{◌^◌, ◌<◌, length};
 
 use account_text::{fronts, is_explained, is_legal, read_account, write_account};
-use prcu_model::{Line, LineList, NoMemory, Op, Reply, Scripts, Told, ToldList, Update};
+use prcu_model::{NoMemory, Op, Reply, Told, ToldList, Update};
+use script_text::parse;
 use std::alloc::Global;
+use std::process::Abort;
 use std::test::Fail;
 
-fn told_list(alloc: Global, answers: &[Told]) -> Result<ToldList, NoMemory>
-    requires { length answers.now < 2 ^ 32 }
-{
-    let mut list = ToldList::new(alloc, answers.len() as u32)?;
-    for told in answers {
-        list.push(*told);
-    }
-    Ok(list)
+// A run: the scripts, the slots, claims of what was told with any fronts, what these are in the scripts' order, the history, and the
+// account of the run.
+#[derive(Clone, Copy)]
+struct Run<'a> {
+    scripts: &'a [u8],
+    slots: u32,
+    claims: &'a [u8],
+    told: &'a [Told],
+    history: &'a [Update],
+    account: &'a [u8],
 }
 
-fn line_list(alloc: Global, lines: &[Line]) -> Result<LineList, NoMemory>
-    requires { length lines.now < 2 ^ 32 }
-{
-    let mut list = LineList::new(alloc, lines.len() as u32)?;
-    for line in lines {
-        list.push(*line);
-    }
-    Ok(list)
+// An answer, with the number of its update where it is one.
+macro_rules! told {
+    ($reply:ident $number:tt) => {
+        Told {
+            reply: Reply::$reply,
+            number: $number,
+        }
+    };
+    ($reply:ident of $value:tt $number:tt) => {
+        Told {
+            reply: Reply::$reply { value: $value },
+            number: $number,
+        }
+    };
 }
 
-#[test]
-fn a_read_has_the_least_front(rt: HostRuntime) -> Result<(), Fail> {
-    let alloc = rt.alloc();
-    let put = Op::Put { key: 1, value: 7 };
-    let get = Op::Get { key: 1 };
-    let mut scripts = Scripts::new(alloc);
-    scripts.add_script()?;
-    scripts.add_op(put)?;
-    scripts.add_script()?;
-    scripts.add_op(get)?;
-    scripts.add_op(get)?;
-    let put_told = Told {
-        reply: Reply::New,
-        number: 1,
-    };
-    let absent = Told {
-        reply: Reply::Absent,
-        number: 0,
-    };
-    let present = Told {
-        reply: Reply::Val { value: 7 },
-        number: 0,
-    };
-    let told = [
-        told_list(alloc, &[put_told])?,
-        told_list(alloc, &[absent, present])?,
-    ];
-    let history = [Update { caller: 0, op: put }];
-    assert!(rt; is_explained(alloc, &scripts, &told, &history, 42)?);
-    let lines = fronts(alloc, &scripts, &told, &history, 42)?;
-    let account = write_account(alloc, &lines, &history)?;
-    let expected =
-        b"script 0\nput 1 7 new 1\nscript 1\nget 1 none 0\nget 1 val 7 1\nhistory 1\n1 0 put 1 7\nfinal 1\n1 7\nend\n";
-    assert_eq!(rt; account.as_slice(), expected.as_slice());
-    Ok(())
-}
-
-#[test]
-fn accounts_print_each_reply(rt: HostRuntime) -> Result<(), Fail> {
-    let alloc = rt.alloc();
-    let nothing = write_account(alloc, &[], &[])?;
-    assert_eq!(rt; nothing.as_slice(), b"history 0\nfinal 0\nend\n".as_slice());
-
-    let put = Op::Put { key: 5, value: 50 };
-    let get = Op::Get { key: 5 };
-    let del = Op::Del { key: 5 };
-    let set = Op::Set { key: 5, value: 60 };
-    let lines = [
-        line_list(
-            alloc,
-            &[
-                Line {
-                    op: put,
-                    reply: Reply::New,
-                    number: 1,
-                },
-                Line {
-                    op: get,
-                    reply: Reply::Val { value: 50 },
-                    number: 1,
-                },
-                Line {
-                    op: del,
-                    reply: Reply::Gone,
-                    number: 2,
-                },
-                Line {
-                    op: get,
-                    reply: Reply::Absent,
-                    number: 2,
-                },
-            ],
-        )?,
-        line_list(
-            alloc,
-            &[
-                Line {
-                    op: put,
-                    reply: Reply::New,
-                    number: 3,
-                },
-                Line {
-                    op: set,
-                    reply: Reply::Was { value: 50 },
-                    number: 4,
-                },
-                Line {
-                    op: put,
-                    reply: Reply::Old,
-                    number: 4,
-                },
-                Line {
-                    op: Op::Put { key: 6, value: 0 },
-                    reply: Reply::Full,
-                    number: 4,
-                },
-            ],
-        )?,
-    ];
-    let history = [
-        Update { caller: 0, op: put },
-        Update { caller: 0, op: del },
-        Update { caller: 1, op: put },
-        Update { caller: 1, op: set },
-    ];
-    let account = write_account(alloc, &lines, &history)?;
-    let expected = b"script 0\nput 5 50 new 1\nget 5 val 50 1\ndel 5 gone 2\nget 5 none 2\n\
-script 1\nput 5 50 new 3\nset 5 60 was 50 4\nput 5 50 old 4\nput 6 0 full 4\n\
-history 4\n1 0 put 5 50\n2 0 del 5\n3 1 put 5 50\n4 1 set 5 60\n\
-final 1\n5 60\nend\n";
-    assert_eq!(rt; account.as_slice(), expected.as_slice());
-    Ok(())
-}
-
-#[test]
-fn what_an_account_claims_is_read(rt: HostRuntime) -> Result<(), Fail> {
-    let alloc = rt.alloc();
-    let put = Op::Put { key: 1, value: 7 };
-    let set = Op::Set { key: 1, value: 8 };
-    let mut scripts = Scripts::new(alloc);
-    scripts.add_script()?;
-    scripts.add_op(put)?;
-    scripts.add_script()?;
-    scripts.add_op(Op::Get { key: 1 })?;
-    scripts.add_op(set)?;
-    let account = b"script 0\nput 1 7 new 1\nscript 1\nget 1 none 0\nset 1 8 was 7 2\n\
-history 2\n1 0 put 1 7\n2 1 set 1 8\nfinal 1\n1 8\nend\n";
-    let Some(claimed) = read_account(alloc, &scripts, account)? else {
-        return Err(Fail::new("no claims"));
-    };
+// All that the scripts were told, one after another.
+fn joined(alloc: Global, lists: &[ToldList]) -> Result<Vec<Told>, NoMemory> {
     let mut told = Vec::new(alloc);
-    for list in &claimed.told {
+    for list in lists {
         told.extend_from_slice(list.entries())?;
     }
-    let expected = [
-        Told {
-            reply: Reply::New,
-            number: 1,
-        },
-        Told {
-            reply: Reply::Absent,
-            number: 0,
-        },
-        Told {
-            reply: Reply::Was { value: 7 },
-            number: 2,
-        },
-    ];
-    assert_eq!(rt; told.as_slice(), expected.as_slice());
-    let history = [Update { caller: 0, op: put }, Update { caller: 1, op: set }];
-    assert_eq!(rt; claimed.history.as_slice(), history.as_slice());
+    Ok(told)
+}
+
+// That the claims are read as what was told, that they are explained, and that the account with the least fronts is printed of them.
+fn assert_account(rt: &impl Abort, alloc: Global, run: Run) -> Result<(), Fail> {
+    let scripts = parse(alloc, run.scripts)?;
+    let Some(claimed) = read_account(alloc, &scripts, run.claims)? else {
+        return Err(Fail::new("no claims"));
+    };
+    assert_eq!(rt; joined(alloc, &claimed.told)?.as_slice(), run.told);
+    assert_eq!(rt; claimed.history.as_slice(), run.history);
+    assert!(rt; is_explained(alloc, &scripts, &claimed.told, run.history, run.slots)?);
+    let lines = fronts(alloc, &scripts, &claimed.told, run.history, run.slots)?;
+    let printed = write_account(alloc, &lines, run.history)?;
+    assert_eq!(rt; printed.as_slice(), run.account);
     Ok(())
 }
 
-fn answer(reply: Reply, number: u64) -> Told {
-    Told { reply, number }
-}
-
-// Whether the history explains the answers to a put of a first script, and to a set and a get of a second one.
-fn explains(
-    alloc: Global,
-    first: &[Told],
-    second: &[Told],
-    history: &[Update],
-) -> Result<bool, NoMemory>
-    requires first { length first.now < 2 ^ 32 }
-    requires second { length second.now < 2 ^ 32 }
-{
-    let mut scripts = Scripts::new(alloc);
-    scripts.add_script()?;
-    scripts.add_op(Op::Put { key: 1, value: 7 })?;
-    scripts.add_script()?;
-    scripts.add_op(Op::Set { key: 1, value: 8 })?;
-    scripts.add_op(Op::Get { key: 1 })?;
-    let told = [told_list(alloc, first)?, told_list(alloc, second)?];
-    is_explained(alloc, &scripts, &told, history, 42)
+#[test]
+fn an_account_tells_a_run_byte_for_byte(rt: HostRuntime) -> Result<(), Fail> {
+    let put = Op::Put { key: 1, value: 7 };
+    let set = Op::Set { key: 1, value: 8 };
+    let runs = [
+        // nothing
+        Run {
+            scripts: b"",
+            slots: 1,
+            claims: b"history 0\nfinal 0\nend\n",
+            told: &[],
+            history: &[],
+            account: b"history 0\nfinal 0\nend\n",
+        },
+        // reads have the least fronts
+        Run {
+            scripts: b"script\nput 1 7\nscript\nget 1\nget 1\n",
+            slots: 42,
+            claims: b"script 0\nput 1 7 new 1\nscript 1\nget 1 none 0\nget 1 val 7 0\n\
+history 1\n1 0 put 1 7\nfinal 1\n1 7\nend\n",
+            told: &[told!(New 1), told!(Absent 0), told!(Val of 7 0)],
+            history: &[Update { caller: 0, op: put }],
+            account: b"script 0\nput 1 7 new 1\nscript 1\nget 1 none 0\nget 1 val 7 1\n\
+history 1\n1 0 put 1 7\nfinal 1\n1 7\nend\n",
+        },
+        // updates of two callers
+        Run {
+            scripts: b"script\nput 1 7\nscript\nget 1\nset 1 8\n",
+            slots: 42,
+            claims: b"script 0\nput 1 7 new 1\nscript 1\nget 1 none 0\nset 1 8 was 7 2\n\
+history 2\n1 0 put 1 7\n2 1 set 1 8\nfinal 1\n1 8\nend\n",
+            told: &[told!(New 1), told!(Absent 0), told!(Was of 7 2)],
+            history: &[Update { caller: 0, op: put }, Update { caller: 1, op: set }],
+            account: b"script 0\nput 1 7 new 1\nscript 1\nget 1 none 0\nset 1 8 was 7 2\n\
+history 2\n1 0 put 1 7\n2 1 set 1 8\nfinal 1\n1 8\nend\n",
+        },
+    ];
+    for run in runs {
+        assert_account(&rt, rt.alloc(), run)?;
+    }
+    Ok(())
 }
 
 #[test]
-fn only_claims_that_a_run_can_make_are_accepted(rt: HostRuntime) -> Result<(), Fail> {
-    let alloc = rt.alloc();
+fn an_account_prints_each_reply(rt: HostRuntime) -> Result<(), Fail> {
+    let put = Op::Put { key: 5, value: 50 };
+    let del = Op::Del { key: 5 };
+    let set = Op::Set { key: 5, value: 60 };
+    let run = Run {
+        scripts: b"script\nput 5 50\nget 5\ndel 5\nget 5\nscript\nput 5 50\nset 5 60\nput 5 50\nput 6 0\n",
+        slots: 21,
+        claims: b"script 0\nput 5 50 new 1\nget 5 val 50 0\ndel 5 gone 2\nget 5 none 0\n\
+script 1\nput 5 50 new 3\nset 5 60 was 50 4\nput 5 50 old 0\nput 6 0 full 0\n\
+history 4\n1 0 put 5 50\n2 0 del 5\n3 1 put 5 50\n4 1 set 5 60\n\
+final 1\n5 60\nend\n",
+        told: &[
+            told!(New 1),
+            told!(Val of 50 0),
+            told!(Gone 2),
+            told!(Absent 0),
+            told!(New 3),
+            told!(Was of 50 4),
+            told!(Old 0),
+            told!(Full 0),
+        ],
+        history: &[
+            Update { caller: 0, op: put },
+            Update { caller: 0, op: del },
+            Update { caller: 1, op: put },
+            Update { caller: 1, op: set },
+        ],
+        account: b"script 0\nput 5 50 new 1\nget 5 val 50 1\ndel 5 gone 2\nget 5 none 2\n\
+script 1\nput 5 50 new 3\nset 5 60 was 50 4\nput 5 50 old 4\nput 6 0 full 4\n\
+history 4\n1 0 put 5 50\n2 0 del 5\n3 1 put 5 50\n4 1 set 5 60\n\
+final 1\n5 60\nend\n",
+    };
+    assert_account(&rt, rt.alloc(), run)
+}
+
+// Whether the history explains the answers to a put of a first script, and to a set and a get of a second one. The last answer may lack.
+fn explains(
+    alloc: Global,
+    put: Told,
+    set: Told,
+    get: Option<Told>,
+    history: &[Update],
+) -> Result<bool, Fail> {
+    let scripts = parse(alloc, b"script\nput 1 7\nscript\nset 1 8\nget 1\n")?;
+    let mut first = ToldList::new(alloc, 1)?;
+    first.push(put);
+    let mut second = ToldList::new(alloc, 2)?;
+    second.push(set);
+    if let Some(get) = get {
+        second.push(get);
+    }
+    let told = [first, second];
+    Ok(is_explained(alloc, &scripts, &told, history, 42)?)
+}
+
+#[test]
+fn only_histories_of_updates_are_legal(rt: HostRuntime) -> Result<(), Fail> {
     let put = Update {
         caller: 0,
         op: Op::Put { key: 1, value: 7 },
@@ -215,39 +168,48 @@ fn only_claims_that_a_run_can_make_are_accepted(rt: HostRuntime) -> Result<(), F
         caller: 1,
         op: Op::Set { key: 1, value: 8 },
     };
-    let histories = [([put, set], true), ([set, put], false), ([put, put], false)];
-    for (history, legal) in histories {
-        assert_eq!(rt; is_legal(alloc, &history)?, legal);
+    for (history, legal) in [([put, set], true), ([set, put], false), ([put, put], false)] {
+        assert_eq!(rt; is_legal(rt.alloc(), &history)?, legal);
     }
+    Ok(())
+}
 
-    let added = answer(Reply::New, 1);
-    let was = answer(Reply::Was { value: 7 }, 2);
-    let new_value = answer(Reply::Val { value: 8 }, 0);
-    let old_value = answer(Reply::Val { value: 7 }, 0);
-    let claims = [
-        ([added], [was, new_value], true),
-        ([answer(Reply::Old, 0)], [was, new_value], false),
-        (
-            [added],
-            [answer(Reply::Was { value: 6 }, 2), new_value],
-            false,
-        ),
-        (
-            [added],
-            [answer(Reply::Was { value: 7 }, 1), new_value],
-            false,
-        ),
-        ([added], [answer(Reply::Absent, 0), old_value], false),
-        ([added], [was, old_value], false),
+#[test]
+fn only_claims_that_a_run_can_make_are_accepted(rt: HostRuntime) -> Result<(), Fail> {
+    let put = Op::Put { key: 1, value: 7 };
+    let set = Op::Set { key: 1, value: 8 };
+    let updates = [
+        Update { caller: 0, op: put },
+        Update { caller: 1, op: set },
+        Update { caller: 2, op: set },
     ];
-    for (first, second, explained) in claims {
-        assert_eq!(rt; explains(alloc, &first, &second, &[put, set])?, explained);
+    let get = Some(told!(Val of 8 0));
+    let claims = [
+        (told!(New 1), told!(Was of 7 2), get, 2usize, true),
+        (told!(Old 0), told!(Was of 7 2), get, 2, false),
+        (told!(New 1), told!(Was of 6 2), get, 2, false),
+        (told!(New 1), told!(Was of 7 1), get, 2, false),
+        (
+            told!(New 1),
+            told!(Absent 0),
+            Some(told!(Val of 7 0)),
+            2,
+            false,
+        ),
+        (
+            told!(New 1),
+            told!(Was of 7 2),
+            Some(told!(Val of 7 0)),
+            2,
+            false,
+        ),
+        (told!(New 1), told!(Was of 7 2), None, 2, false),
+        // an update of a caller without a script
+        (told!(New 1), told!(Was of 7 2), get, 3, false),
+    ];
+    for (put, set, get, count, explained) in claims {
+        let history = updates.get(..count).unwrap_or(&[]);
+        assert_eq!(rt; explains(rt.alloc(), put, set, get, history)?, explained);
     }
-    assert_eq!(rt; explains(alloc, &[added], &[was], &[put, set])?, false);
-    let stranger = Update { caller: 2, ..set };
-    assert_eq!(rt;
-        explains(alloc, &[added], &[was, new_value], &[put, set, stranger])?,
-        false
-    );
     Ok(())
 }

@@ -1,113 +1,252 @@
-//! Scripts by one caller.
+//! Scripts by one caller on trees of few slots: what they are told, for each form of node that is deleted, and what the seat has left.
+ghost use Rattle.std.specs.Prelude.{◌≤◌};
+
 use super::*;
 use d_wait::Domain;
 use deer_wait::Deer;
 use eer_wait::Eer;
+use std::alloc::Global;
 use std::test::Fail;
 
-#[test]
-fn a_key_is_added_once_and_found(rt: HostRuntime) -> Result<(), Fail> {
-    let (table, seat) = CitrusTable::<Eer>::new(rt.alloc(), 4, 1, 64)?;
-    let mut client = TreeClient::new(&table, seat, &OpenGate);
-    run(
-        &rt,
-        &mut client,
-        &[new(5, 50, 1), old(5, 60), val(5, 50), no_val(6)],
-    );
+// The spare, how many slots are retired, and how many waits the place has begun.
+type Left = (Option<u32>, usize, u64);
+
+// A script on a tree of so many slots, and what its seat has left then.
+#[derive(Clone, Copy)]
+struct Script<'a> {
+    name: &'a str,
+    slots: u32,
+    calls: &'a [Call],
+    left: Left,
+}
+
+fn left<W: WaitPart>(seat: &Seat<W>) -> Left {
+    (seat.spare(), seat.retired().len(), seat.waits())
+}
+
+// Runs each script on a tree of its own.
+fn run_each<R: Abort + Wait, W: WaitPart>(
+    rt: &R,
+    alloc: Global,
+    scripts: &[Script],
+) -> Result<(), Fail>
+    requires way { W.WAY ≤ 2 }
+{
+    for script in scripts {
+        let Script {
+            name,
+            slots,
+            calls,
+            ..
+        } = *script;
+        assert!(rt; 1 <= slots && slots <= 8);
+        let (table, seat) = CitrusTable::<W>::new(alloc, slots, 1, 64)?;
+        let mut client = TreeClient::new(&table, seat, &OpenGate);
+        run(rt, &mut client, name, calls);
+        assert_eq!(rt; left(&client.into_seat()), script.left, "{name}");
+    }
     Ok(())
 }
 
 #[test]
-fn an_empty_tree_has_nothing_to_find_delete_or_replace(rt: HostRuntime) -> Result<(), Fail> {
-    let (table, seat) = CitrusTable::<Deer>::new(rt.alloc(), 4, 1, 64)?;
-    let mut client = TreeClient::new(&table, seat, &OpenGate);
-    run(
-        &rt,
-        &mut client,
-        &[not_gone(9), no_val(u64::MAX), not_set(0, 1)],
-    );
-    Ok(())
+fn the_first_waiters_scripts_are_told_what_they_did(rt: HostRuntime) -> Result<(), Fail> {
+    let scripts = [
+        Script {
+            name: "a key is added once and found",
+            slots: 4,
+            calls: &[
+                call!(put 5 50 new 1),
+                call!(put 5 60 Old),
+                call!(get 5 val 50),
+                call!(get 6 none),
+            ],
+            left: (Some(1), 0, 0),
+        },
+        Script {
+            name: "one slot holds one pair at a time",
+            slots: 1,
+            calls: &[
+                call!(put 1 10 new 1),
+                call!(put 2 20 Full),
+                call!(del 1 gone 2),
+                call!(put 2 20 new 3),
+                call!(get 2 val 20),
+                call!(get 1 none),
+            ],
+            left: (Some(1), 0, 1),
+        },
+        Script {
+            name: "a node with at most one child is bypassed",
+            slots: 8,
+            calls: &[
+                call!(put 5 50 new 1),
+                call!(put 3 30 new 2),
+                call!(put 2 20 new 3),
+                call!(put 8 80 new 4),
+                call!(put 9 90 new 5),
+                call!(del 3 gone 6),
+                call!(del 8 gone 7),
+                call!(get 2 val 20),
+                call!(get 5 val 50),
+                call!(get 9 val 90),
+                call!(del 2 gone 8),
+                call!(del 9 gone 9),
+                call!(del 5 gone 10),
+                call!(get 5 none),
+            ],
+            left: (Some(1), 5, 0),
+        },
+        Script {
+            name: "a place without a free slot has a spare again",
+            slots: 3,
+            calls: &[
+                call!(put 5 50 new 1),
+                call!(put 2 20 new 2),
+                call!(put 8 80 new 3),
+                call!(del 5 gone 4),
+                call!(del 8 gone 5),
+                call!(get 2 val 20),
+            ],
+            left: (Some(2), 1, 2),
+        },
+    ];
+    run_each::<HostRuntime, Eer>(&rt, rt.alloc(), &scripts)
 }
 
 #[test]
-fn a_value_is_replaced_until_its_key_is_deleted(rt: HostRuntime) -> Result<(), Fail> {
-    let (table, seat) = CitrusTable::<Domain>::new(rt.alloc(), 4, 1, 64)?;
-    let mut client = TreeClient::new(&table, seat, &OpenGate);
-    run(
-        &rt,
-        &mut client,
-        &[
-            new(5, 50, 1),
-            was(5, 51, 50, 2),
-            val(5, 51),
-            not_set(6, 1),
-            gone(5, 3),
-            not_set(5, 9),
-            no_val(5),
-        ],
-    );
-    Ok(())
+fn the_second_waiters_scripts_are_told_what_they_did(rt: HostRuntime) -> Result<(), Fail> {
+    let scripts = [
+        Script {
+            name: "a value is replaced until its key is deleted",
+            slots: 4,
+            calls: &[
+                call!(put 5 50 new 1),
+                call!(set 5 51 was 50 2),
+                call!(get 5 val 51),
+                call!(set 6 1 none),
+                call!(del 5 gone 3),
+                call!(set 5 9 none),
+                call!(get 5 none),
+            ],
+            left: (Some(1), 1, 0),
+        },
+        Script {
+            name: "a full tree takes a pair again after a delete",
+            slots: 3,
+            calls: &[
+                call!(put 2 20 new 1),
+                call!(put 1 10 new 2),
+                call!(put 3 30 new 3),
+                call!(del 2 gone 4),
+                call!(put 4 40 new 5),
+                call!(put 5 50 Full),
+                call!(get 1 val 10),
+                call!(get 2 none),
+                call!(get 3 val 30),
+                call!(get 4 val 40),
+            ],
+            left: (Some(2), 0, 2),
+        },
+        Script {
+            name: "a successor further down takes the place",
+            slots: 8,
+            calls: &[
+                call!(put 5 50 new 1),
+                call!(put 2 20 new 2),
+                call!(put 8 80 new 3),
+                call!(put 6 60 new 4),
+                call!(put 9 90 new 5),
+                call!(del 5 gone 6),
+                call!(get 2 val 20),
+                call!(get 5 none),
+                call!(get 6 val 60),
+                call!(get 7 none),
+                call!(get 8 val 80),
+                call!(get 9 val 90),
+            ],
+            left: (None, 2, 1),
+        },
+    ];
+    run_each::<HostRuntime, Domain>(&rt, rt.alloc(), &scripts)
 }
 
 #[test]
-fn a_side_that_was_emptied_is_filled_again(rt: HostRuntime) -> Result<(), Fail> {
-    let (table, seat) = CitrusTable::<Deer>::new(rt.alloc(), 8, 1, 64)?;
+fn the_third_waiters_scripts_are_told_what_they_did(rt: HostRuntime) -> Result<(), Fail> {
+    let scripts = [
+        Script {
+            name: "an empty tree has nothing to find, delete or replace",
+            slots: 4,
+            calls: &[
+                call!(del 9 none),
+                call!(get 18446744073709551615 none),
+                call!(set 0 1 none),
+            ],
+            left: (Some(1), 0, 0),
+        },
+        Script {
+            name: "a side that was emptied is filled again",
+            slots: 8,
+            calls: &[
+                call!(put 0 1 new 1),
+                call!(put 18446744073709551615 2 new 2),
+                call!(del 0 gone 3),
+                call!(del 18446744073709551615 gone 4),
+                call!(put 0 3 new 5),
+                call!(put 18446744073709551615 4 new 6),
+                call!(get 0 val 3),
+                call!(get 18446744073709551615 val 4),
+            ],
+            left: (Some(1), 2, 0),
+        },
+        Script {
+            name: "a right child takes the place",
+            slots: 8,
+            calls: &[
+                call!(put 5 50 new 1),
+                call!(put 2 20 new 2),
+                call!(put 8 80 new 3),
+                call!(put 9 90 new 4),
+                call!(del 5 gone 5),
+                call!(get 2 val 20),
+                call!(get 5 none),
+                call!(get 8 val 80),
+                call!(get 9 val 90),
+            ],
+            left: (None, 2, 1),
+        },
+    ];
+    run_each::<HostRuntime, Deer>(&rt, rt.alloc(), &scripts)
+}
+
+// What the seat has left, after a key was put and deleted so many times.
+fn put_and_delete<R: Abort + Wait>(rt: &R, alloc: Global, times: u32) -> Result<Left, Fail> {
+    let (table, seat) = CitrusTable::<Eer>::new(alloc, 37, 1, 256)?;
     let mut client = TreeClient::new(&table, seat, &OpenGate);
-    run(
-        &rt,
-        &mut client,
-        &[
-            new(0, 1, 1),
-            new(u64::MAX, 2, 2),
-            gone(0, 3),
-            gone(u64::MAX, 4),
-            new(0, 3, 5),
-            new(u64::MAX, 4, 6),
-            val(0, 3),
-            val(u64::MAX, 4),
-        ],
-    );
-    Ok(())
+    for time in 0..times {
+        let put = 2 * u64::from(time) + 1;
+        let del = put + 1;
+        run(
+            rt,
+            &mut client,
+            "a key again and again",
+            &[call!(put 7 70 new put), call!(del 7 gone del)],
+        );
+    }
+    Ok(left(&client.into_seat()))
 }
 
 #[test]
-fn one_slot_holds_one_pair_at_a_time(rt: HostRuntime) -> Result<(), Fail> {
-    let (table, seat) = CitrusTable::<Eer>::new(rt.alloc(), 1, 1, 64)?;
-    let mut client = TreeClient::new(&table, seat, &OpenGate);
-    run(
-        &rt,
-        &mut client,
-        &[
-            new(1, 10, 1),
-            full(2, 20),
-            gone(1, 2),
-            new(2, 20, 3),
-            val(2, 20),
-            no_val(1),
-        ],
-    );
-    Ok(())
-}
-
-#[test]
-fn a_full_tree_takes_a_pair_again_after_a_delete(rt: HostRuntime) -> Result<(), Fail> {
-    let (table, seat) = CitrusTable::<Domain>::new(rt.alloc(), 3, 1, 64)?;
-    let mut client = TreeClient::new(&table, seat, &OpenGate);
-    run(
-        &rt,
-        &mut client,
-        &[
-            new(2, 20, 1),
-            new(1, 10, 2),
-            new(3, 30, 3),
-            gone(2, 4),
-            new(4, 40, 5),
-            full(5, 50),
-            val(1, 10),
-            no_val(2),
-            val(3, 30),
-            val(4, 40),
-        ],
-    );
+fn many_retired_slots_are_given_back(rt: HostRuntime) -> Result<(), Fail> {
+    for (times, left) in [
+        (15, (Some(1), 15, 0)),
+        (16, (Some(1), 1, 1)),
+        (17, (Some(1), 2, 1)),
+    ] {
+        assert_eq!(rt;
+            put_and_delete(&rt, rt.alloc(), times)?,
+            left,
+            "{times} times"
+        );
+    }
     Ok(())
 }
