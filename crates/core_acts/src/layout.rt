@@ -1,46 +1,93 @@
-//! Where a field lies among the words of a table.
-ghost use Rattle.std.specs.Prelude.{◌≡◌, ◌+◌, ◌*◌, ◌≤◌, true};
+//! Where a word stands in the row of a table's words.
+//!
+//! Callers on different processors wait for each other where they write words of one line of memory, which is 64 bytes, and lines are
+//! fetched two at a time. So the clock, the front and the free count have 128 bytes each to themselves, and so has each place's key and
+//! stamp, each class's gate and counts, and each place's row of stamps. What a search loads of a slot stands in one line: its lock, life,
+//! key, value, links and tags. The states, at which only those look who take a slot, stand in a row of their own behind.
+//!
+//! A line begins at a multiple of 64 bytes. glibc puts a row that it maps by itself 16 bytes behind such a multiple, and any other row
+//! behind some multiple of 16. It maps rows of 128 KiB and more; once a mapped block was given back, only rows that are larger than that
+//! block, up to 32 MiB. So 14 words of room stand before the first: with them a mapped row is laid out as told here. In any other a slot
+//! may stand in two lines, and words that two places write still have 128 bytes between them.
+//!
+//! Two lines at a time: Intel's optimization manual on adjacent lines, and `CachePadded` of crossbeam.
+ghost use Rattle.std.specs.Prelude.{◌≡◌, ◌+◌, ◌*◌, ◌≤◌};
 ghost use Rattle.core_state.specs.declared.shape.Shape.{Shape};
-ghost use Rattle.core_state.specs.memory.Memory.{word_of, is_field, waiter_words};
+ghost use Rattle.core_state.specs.memory.Memory.{line, waiter_room, waiter_base, word_of};
+ghost use Rattle.core_acts.specs.Acts.{in_slot};
 
+use crate::act::Part;
 use core_state::shape::Waiter;
 use core_state::{Field, side_field, tag_field};
 
-/// The index of a field's word, in a table of this waiter with so many places.
-pub fn index_of(waiter: Waiter, places: u32, field: Field) -> usize
-    requires places { places ≤ 64 }
-    requires field { (k : Shape) × (k.waiter ≡ waiter) × (k.places ≡ places) × (k.slots ≤ 2097152) × (is_field k field ≡ true) }
-    ensures { (k : Shape) → k.waiter ≡ waiter → k.places ≡ places → result ≡ word_of k field }
+/// The words of a line of memory.
+pub const LINE: usize = 8;
+
+/// How far from each other words stand that different callers write often.
+pub const APART: usize = 2 * LINE;
+
+/// The room before the first word.
+pub const LEAD: usize = 14;
+
+/// Gates of the second waiter, and stamps of each place for the third.
+pub const CLASSES: usize = 64;
+
+/// Where the waiter's words begin.
+const WAITER: usize = LEAD + 3 * APART;
+
+/// The index of a field's word, in a table of this waiter with so many slots and places.
+#[inline(always)]
+pub fn index_of(waiter: Waiter, slots: u32, places: u32, field: Field) -> usize
+    ensures index { (k : Shape) → k.waiter ≡ waiter → k.slots ≡ slots → k.places ≡ places → result ≡ word_of k field }
 {
     match field {
-        Field::Clock => 0,
-        Field::Front => 1,
-        Field::Free => 2,
-        Field::Announced { place } => 3 + 2 * place as usize,
-        Field::Stamp { place } => 4 + 2 * place as usize,
-        Field::Gate { class } => 3 + 3 * class as usize,
-        Field::Count { class, side } => 4 + 3 * class as usize + side as usize,
-        Field::Row { place, class } => 3 + 64 * place as usize + class as usize,
-        Field::State { slot } => first_of(waiter, places, slot),
-        Field::Lock { slot } => first_of(waiter, places, slot) + 1,
-        Field::Life { slot } => first_of(waiter, places, slot) + 2,
-        Field::Key { slot } => first_of(waiter, places, slot) + 3,
-        Field::Value { slot } => first_of(waiter, places, slot) + 4,
-        Field::Link { slot, side } => first_of(waiter, places, slot) + side_field(side) as usize,
-        Field::Tag { slot, side } => first_of(waiter, places, slot) + tag_field(side) as usize,
+        Field::Clock => LEAD,
+        Field::Front => LEAD + APART,
+        Field::Free => LEAD + 2 * APART,
+        Field::Announced { place } => WAITER + APART * place as usize,
+        Field::Stamp { place } => WAITER + APART * place as usize + 1,
+        Field::Gate { class } => WAITER + APART * class as usize,
+        Field::Count { class, side } => WAITER + APART * class as usize + 1 + side as usize,
+        Field::Row { place, class } => WAITER + CLASSES * place as usize + class as usize,
+        Field::State { slot } => {
+            let count = slots as usize + places as usize + 1;
+            line_of(waiter, places, count) + slot as usize
+        }
+        Field::Lock { slot } => line_of(waiter, places, slot as usize),
+        Field::Life { slot } => line_of(waiter, places, slot as usize) + 1,
+        Field::Key { slot } => line_of(waiter, places, slot as usize) + 2,
+        Field::Value { slot } => line_of(waiter, places, slot as usize) + 3,
+        Field::Link { slot, side } => line_of(waiter, places, slot as usize)
+            + side_field(side) as usize,
+        Field::Tag { slot, side } => line_of(waiter, places, slot as usize)
+            + tag_field(side) as usize,
     }
 }
 
-// Where the words of a slot begin.
-fn first_of(waiter: Waiter, places: u32, slot: u32) -> usize
-    requires places { places ≤ 64 }
-    requires slot { slot ≤ 2097217 }
-    ensures first { result ≡ 3 + waiter_words waiter places + 9 * slot }
+/// The field of a part of a slot.
+#[inline(always)]
+pub fn in_slot(slot: u32, part: Part) -> Field
+    ensures field { result ≡ in_slot slot part }
 {
-    let words = match waiter {
-        Waiter::Eer => 2 * places as usize,
-        Waiter::Domain => 192,
-        Waiter::Deer => 64 * places as usize,
+    match part {
+        Part::Life => Field::Life { slot },
+        Part::Key => Field::Key { slot },
+        Part::Value => Field::Value { slot },
+        Part::Link { side } => Field::Link { slot, side },
+        Part::Tag { side } => Field::Tag { slot, side },
+    }
+}
+
+// Where the line of a slot begins; behind the last slot's the states begin.
+#[inline(always)]
+fn line_of(waiter: Waiter, places: u32, slot: usize) -> usize
+    requires slot { slot ≤ 8589934592 }
+    ensures { result ≡ waiter_base + waiter_room waiter places + line * slot }
+{
+    let room = match waiter {
+        Waiter::Eer => APART * places as usize,
+        Waiter::Domain => APART * CLASSES,
+        Waiter::Deer => CLASSES * places as usize,
     };
-    3 + words + 9 * slot as usize
+    WAITER + room + LINE * slot
 }

@@ -1,4 +1,5 @@
--- Acts whose needs are tested by computing. A step is an act with the tests of its needs, and with why they are enough. So a stretch of steps
+-- Acts whose needs are tested by computing. A step is an act with the tests of its needs, and with why they are enough. So a stretch of
+-- steps
 -- that are ready, one after another, is a run.
 use Rattle.std.proofs.lemmas.Bool.{and_parts, eqb-true, ltb-true, leb-true}
 use Rattle.std.proofs.Common.{◌≡◌, ℕ, ◌%◌, ◌^◌, ◌==◌, ◌&&◌, nat_lt, nat_le, not, Bool, true, List, [], ◌∷◌, length, refl, sym, ap, subst, inl, inr, arith}
@@ -22,7 +23,7 @@ use Rattle.core_acts.specs.declared.act.Act.TheVariants.{LoadClock, AnnounceKey,
 use Rattle.core_acts.specs.Acts.{field_of, Asks, MayLook, Needs, section_of, listing_of, wait_of}
 use Rattle.core_examples.proofs.Spots.{all_spots}
 use Rattle.core_examples.proofs.Chosen.{clock_now, lock_now}
-use Rattle.core_examples.proofs.Tests.{all_of, passed, test_at, is_some, some_is, none_is, false_is, not_same, is_empty, empty_is, is_number, number_is, has, has_in, is_word, loadable, is_holder, holder_is, is_no_end, no_end_is, is_closing, closing_is, is_content, content_is}
+use Rattle.core_examples.proofs.Tests.{all_of, passed, test_at, is_some, some_is, none_is, false_is, not_same, is_empty, empty_is, is_number, number_is, has, has_in, has_been, been_at, is_word, loadable, is_holder, holder_is, is_no_end, no_end_is, is_closing, closing_is, is_content, content_is}
 use Rattle.core_examples.proofs.States.{State, AllAsked, after, reached, over, ◌⟫◌}
 
 -- a table with five slots, one place and the first waiter
@@ -230,7 +231,8 @@ close_commit front = record {
 abbrev pub raise_tag : ℕ → Side → ℕ → Step
 raise_tag slot side tag = record {
   act = RaiseTag slot side tag;
-  tests = λ v. is_some (lock_of v.locks slot) ∷ is_emptied (lock_now v slot) side ∷ is_number (known_in (lock_now v slot).known (Tag slot side)) tag ∷ [];
+  tests = λ v. is_some (lock_of v.locks slot) ∷ is_emptied (lock_now v slot) side
+      ∷ is_number (known_in (lock_now v slot).known (Tag slot side)) tag ∷ [];
   met = λ v t. (
     lock_now v slot,
     record {
@@ -277,7 +279,7 @@ list_root = record {
     record {
       section_is = some_is _ v.section (t 0);
       lists = some_is _ (section_of v).listing (t 1);
-      stands = inl refl;
+      been = inl refl;
       loadable = refl;
     },
   );
@@ -289,7 +291,7 @@ list_part slot p = record {
   tests = λ v.
       is_some v.section ∷
       is_some (section_of v).listing ∷
-      (slot == (listing_of (section_of v)).slot) ∷
+      has_been slot (listing_of (section_of v)).visits ∷
       [];
   met = λ v t. (
     section_of v,
@@ -297,7 +299,7 @@ list_part slot p = record {
     record {
       section_is = some_is _ v.section (t 0);
       lists = some_is _ (section_of v).listing (t 1);
-      stands = inr (eqb-true slot (listing_of (section_of v)).slot (t 2));
+      been = inr (been_at slot (listing_of (section_of v)).visits (t 2));
       loadable = loadable slot p;
     },
   );
@@ -320,7 +322,8 @@ may_end v field seen e =
     record {
       wait_is = some_is _ v.wait (t 0);
       going = false_is (wait_of v).ended (t 1);
-      rest = λ last other spot. subst (λ f. IsIn (f ∷ (wait_of v).excused) other) (sym seen) (only_spot (wait_of v) (wait_of v).excused other spot);
+      rest = λ last other spot. subst (λ f. IsIn (f ∷ (wait_of v).excused) other) (sym seen)
+          (only_spot (wait_of v) (wait_of v).excused other spot);
     }
 
 -- the look that ends a wait: at the place's key, or at its stamp

@@ -1,28 +1,20 @@
 -- A run on literal words: from a fresh table with five slots, one place and the first waiter, four pairs are put, a value is replaced,
 -- and the pairs are listed.
-use Rattle.std.proofs.Common.{ℕ, ◌+◌, List, [], ◌∷◌, ◌++◌, refl}
+use Rattle.std.proofs.Common.{ℕ, ◌+◌, ◌-◌, List, [], ◌∷◌, ◌++◌, refl}
 use Rattle.prcu_marks.specs.declared.mark.Side.{Side}
 use Rattle.prcu_marks.specs.declared.mark.Side.TheVariants.{Left, Right}
 use Rattle.core_acts.specs.declared.act.Part.{Part}
 use Rattle.core_acts.specs.declared.act.Part.TheVariants.{Key, Value, Life, Link, Tag}
 use Rattle.core_state.specs.Fresh.{first_view}
-use Rattle.core_state.specs.memory.Memory.{idle}
-use Rattle.core_examples.proofs.States.{State}
+use Rattle.core_state.specs.memory.Memory.{apart, idle}
+use Rattle.core_examples.proofs.States.{State, many, words_with}
 use Rattle.core_examples.proofs.Acts.{small, Step, Run, run, end_of, enter_for, search_by, leave, take_slot, fill, lock, look_at, look_front, list_root, list_part, open_commit, close_commit, unlock}
 use Rattle.core_examples.proofs.Updates.{link_leaf, replace}
 
--- the clock, the front, the free count, the place's key and its stamp; and then a line for each slot, of which the root and the first
--- spare are taken
+-- five slots are free, the place's key and stamp stand with their room, and of seven slots the root and the first spare are taken
 abbrev pub fresh : State
 fresh = record {
-  words = 0 ∷ 0 ∷ 5 ∷ 0 ∷ idle ∷
-      1 ∷ 0 ∷ 0 ∷ 0 ∷ 0 ∷ 0 ∷ 0 ∷ 0 ∷ 0 ∷
-      1 ∷ 0 ∷ 0 ∷ 0 ∷ 0 ∷ 0 ∷ 0 ∷ 0 ∷ 0 ∷
-      0 ∷ 0 ∷ 0 ∷ 0 ∷ 0 ∷ 0 ∷ 0 ∷ 0 ∷ 0 ∷
-      0 ∷ 0 ∷ 0 ∷ 0 ∷ 0 ∷ 0 ∷ 0 ∷ 0 ∷ 0 ∷
-      0 ∷ 0 ∷ 0 ∷ 0 ∷ 0 ∷ 0 ∷ 0 ∷ 0 ∷ 0 ∷
-      0 ∷ 0 ∷ 0 ∷ 0 ∷ 0 ∷ 0 ∷ 0 ∷ 0 ∷ 0 ∷
-      0 ∷ 0 ∷ 0 ∷ 0 ∷ 0 ∷ 0 ∷ 0 ∷ 0 ∷ 0 ∷ [];
+  words = words_with 5 (λ more. 0 ∷ idle ∷ many 0 (apart - 2) more) 7 (1 ∷ 1 ∷ 0 ∷ 0 ∷ 0 ∷ 0 ∷ 0 ∷ []);
   view = first_view small;
   marks = [];
 }
@@ -55,16 +47,43 @@ put_fifty = run (put (record { key = 50; value = 5; way = []; parent = 0; side =
 
 -- 20 is put left of it
 abbrev pub put_twenty : Run (end_of put_fifty)
-put_twenty = run (put (record { key = 20; value = 2; way = (0, Link Right) ∷ (2, Key) ∷ []; parent = 2; side = Left; leaf = 3; free = 4; front = 2 })) refl
+put_twenty = run (put (record {
+  key = 20;
+  value = 2;
+  way = (0, Link Right) ∷ (2, Key) ∷ [];
+  parent = 2;
+  side = Left;
+  leaf = 3;
+  free = 4;
+  front = 2;
+})) refl
 
 -- 70 is put right of 50
 abbrev pub put_seventy : Run (end_of put_twenty)
-put_seventy = run (put (record { key = 70; value = 7; way = (0, Link Right) ∷ (2, Key) ∷ []; parent = 2; side = Right; leaf = 4; free = 3; front = 4 })) refl
+put_seventy = run (put (record {
+  key = 70;
+  value = 7;
+  way = (0, Link Right) ∷ (2, Key) ∷ [];
+  parent = 2;
+  side = Right;
+  leaf = 4;
+  free = 3;
+  front = 4;
+})) refl
 
 -- 60 is put left of 70
 abbrev pub put_sixty : Run (end_of put_seventy)
 put_sixty =
-    run (put (record { key = 60; value = 6; way = (0, Link Right) ∷ (2, Key) ∷ (2, Link Right) ∷ (4, Key) ∷ []; parent = 4; side = Left; leaf = 5; free = 2; front = 6 })) refl
+    run (put (record {
+      key = 60;
+      value = 6;
+      way = (0, Link Right) ∷ (2, Key) ∷ (2, Link Right) ∷ (4, Key) ∷ [];
+      parent = 4;
+      side = Left;
+      leaf = 5;
+      free = 2;
+      front = 6;
+    })) refl
 
 -- the value of 20 is replaced
 abbrev pub set_twenty : Run (end_of put_sixty)
@@ -76,10 +95,12 @@ set_twenty =
     ++ (open_commit 8 ∷ replace 3 2 Left 20 22 ∷ close_commit 10 ∷ unlock 3 ∷ []))))
     refl
 
--- a listing finds 50
-abbrev pub list_fifty : Run (end_of set_twenty)
-list_fifty =
+-- a listing finds 20, goes back to 50, and on from there
+abbrev pub list_two : Run (end_of set_twenty)
+list_two =
     run
     (enter_for 0
-    ++ (look_front ∷ list_root ∷ list_part 2 Key ∷ list_part 2 Value ∷ look_front ∷ leave ∷ []))
+    ++ (look_front ∷ list_root ∷ list_part 2 Key ∷ list_part 2 (Link Left) ∷ list_part 3 Key ∷ list_part 3 (Link Left) ∷ list_part 3 Value
+    ∷ list_part 3 (Link Right)
+    ∷ list_part 2 Value ∷ list_part 2 (Link Right) ∷ list_part 4 Key ∷ look_front ∷ leave ∷ []))
     refl

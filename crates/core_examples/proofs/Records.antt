@@ -31,11 +31,13 @@ is_recorded v slot =
     && is_number (loaded_in (known_under v slot) (Life slot)) (2 * generation_of v slot)
 
 abbrev pub IsRecorded : View → ℕ → Type 0
-IsRecorded v slot = (generation : ℕ) × LoadedGeneration (reading_now v) slot generation × (loaded_in (known_under v slot) (Life slot) ≡ Some (2 * generation))
+IsRecorded v slot = (generation : ℕ) × LoadedGeneration (reading_now v) slot generation
+    × (loaded_in (known_under v slot) (Life slot) ≡ Some (2 * generation))
 
 pub recorded_is : (v : View) (slot : ℕ) → is_recorded v slot ≡ true → IsRecorded v slot
 recorded_is v slot e =
-    let a = and_parts (is_some (known_in (reading_now v).loads (Life slot))) (is_number (loaded_in (known_under v slot) (Life slot)) (2 * generation_of v slot)) e in
+    let a = and_parts (is_some (known_in (reading_now v).loads (Life slot)))
+    (is_number (loaded_in (known_under v slot) (Life slot)) (2 * generation_of v slot)) e in
     (generation_of v slot, (or_else 0 (known_in (reading_now v).loads (Life slot)), some_is 0 _ a.0, refl), number_is _ _ a.1)
 
 -- where a search ended that found its key
@@ -64,7 +66,8 @@ node_tests v parent b node left right =
     is_number (loaded_in (known_under v node) (Link node Left)) left ∷
     is_number (loaded_in (known_under v node) (Link node Right)) right ∷ []
 
-pub node_records : (v : View) (parent : ℕ) (b : Side) (node left right : ℕ) → all_of (node_tests v parent b node left right) ≡ true → NodeRecords v (reading_now v) parent b node left right
+pub node_records : (v : View) (parent : ℕ) (b : Side) (node left right : ℕ) → all_of (node_tests v parent b node left right) ≡ true
+    → NodeRecords v (reading_now v) parent b node left right
 node_records v parent b node left right e =
     let t = passed (node_tests v parent b node left right) e in
     record {
@@ -95,13 +98,19 @@ few_tests v parent b node left right =
     is_some (known_in (reading_now v).loads (Link node Right)) ∷
     ((had_link v node Left == 0) || (had_link v node Right == 0)) ∷ []
 
-pub few_children : (v : View) (parent : ℕ) (b : Side) (node left right : ℕ) → all_of (few_tests v parent b node left right) ≡ true → FewChildren v (reading_now v) parent b node left right
+pub few_children : (v : View) (parent : ℕ) (b : Side) (node left right : ℕ) → all_of (few_tests v parent b node left right) ≡ true
+    → FewChildren v (reading_now v) parent b node left right
 few_children v parent b node left right e =
     let t = passed (few_tests v parent b node left right) e in
     record {
       records = node_records v parent b node left right (t 0);
       few = lacks_child left right (t 1);
-      had = (had_link v node Left, had_link v node Right, (some_is 0 _ (t 2), some_is 0 _ (t 3)), lacks_child (had_link v node Left) (had_link v node Right) (t 4));
+      had = (
+        had_link v node Left,
+        had_link v node Right,
+        (some_is 0 _ (t 2), some_is 0 _ (t 3)),
+        lacks_child (had_link v node Left) (had_link v node Right) (t 4),
+      );
     }
 
 -- a load that the search made
@@ -119,9 +128,14 @@ load_in (k ∷ ks) field number e =
     (λ (here : (same_field k.field field && (k.number == number && not k.stored)) ≡ true).
     (let a = and_parts (same_field k.field field) (k.number == number && not k.stored) here in
     let b = and_parts (k.number == number) (not k.stored) a.1 in
-    let is : IsLoad (k ∷ ks) field number = (0, (λ i. some (record { field = same_is k.field field a.0 i; number = eqb-true k.number number b.0 i; stored = false_is k.stored b.1 i }))) in
+    let is : IsLoad (k ∷ ks) field number = (
+      0,
+      (λ i. some
+          (record { field = same_is k.field field a.0 i; number = eqb-true k.number number b.0 i; stored = false_is k.stored b.1 i })),
+    ) in
     is))
-    (λ (further : has_load ks field number ≡ true). (let j = load_in ks field number further in let is : IsLoad (k ∷ ks) field number = (suc j.0, j.1) in is))
+    (λ (further : has_load ks field number ≡ true). (let j = load_in ks field number further in
+    let is : IsLoad (k ∷ ks) field number = (suc j.0, j.1) in is))
     (or_cases (same_field k.field field && (k.number == number && not k.stored)) (has_load ks field number) e)
 
 -- where a walk to the successor stands
@@ -143,9 +157,11 @@ abbrev pub is_right_child : ℕ → ℕ → ℕ → ℕ → Bool
 is_right_child node right parent old = parent == node && right == old
 
 abbrev pub is_further_down : View → ℕ → ℕ → ℕ → Bool
-is_further_down v node parent old = not (parent == node) && (is_recorded v parent && is_number (loaded_in (known_under v parent) (Link parent Left)) old)
+is_further_down v node parent old = not (parent == node)
+    && (is_recorded v parent && is_number (loaded_in (known_under v parent) (Link parent Left)) old)
 
-successor_link : (v : View) (node right parent old : ℕ) → (is_right_child node right parent old || is_further_down v node parent old) ≡ true → SuccessorLink v (reading_now v) node right parent old
+successor_link : (v : View) (node right parent old : ℕ) → (is_right_child node right parent old || is_further_down v node parent old) ≡ true
+    → SuccessorLink v (reading_now v) node right parent old
 successor_link v node right parent old e =
     ⊎_elim
     (λ (x : is_right_child node right parent old ≡ true).
@@ -153,9 +169,11 @@ successor_link v node right parent old e =
     let is : SuccessorLink v (reading_now v) node right parent old = inl (eqb-true parent node a.0, eqb-true right old a.1) in
     is))
     (λ (x : is_further_down v node parent old ≡ true).
-    (let a = and_parts (not (parent == node)) (is_recorded v parent && is_number (loaded_in (known_under v parent) (Link parent Left)) old) x in
+    (let a = and_parts (not (parent == node)) (is_recorded v parent
+    && is_number (loaded_in (known_under v parent) (Link parent Left)) old) x in
     let b = and_parts (is_recorded v parent) (is_number (loaded_in (known_under v parent) (Link parent Left)) old) a.1 in
-    let is : SuccessorLink v (reading_now v) node right parent old = inr (not_same parent node a.0, recorded_is v parent b.0, number_is _ _ b.1) in
+    let is : SuccessorLink v (reading_now v) node right parent old =
+    inr (not_same parent node a.0, recorded_is v parent b.0, number_is _ _ b.1) in
     is))
     (or_cases (is_right_child node right parent old) (is_further_down v node parent old) e)
 
@@ -171,7 +189,9 @@ both_tests v parent b node left right old_parent old =
     is_recorded v old ∷
     is_number (loaded_in (known_under v old) (Link old Left)) 0 ∷ []
 
-pub both_children : (v : View) (parent : ℕ) (b : Side) (node left right old_parent old : ℕ) → all_of (both_tests v parent b node left right old_parent old) ≡ true → BothChildren v (reading_now v) parent b node left right old_parent old
+pub both_children : (v : View) (parent : ℕ) (b : Side) (node left right old_parent old : ℕ)
+    → all_of (both_tests v parent b node left right old_parent old) ≡ true
+    → BothChildren v (reading_now v) parent b node left right old_parent old
 both_children v parent b node left right old_parent old e =
     let t = passed (both_tests v parent b node left right old_parent old) e in
     let left_some = not_same left 0 (t 1) in

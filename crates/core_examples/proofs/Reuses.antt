@@ -30,7 +30,8 @@ raise_tests v slot number =
     is_some (oldest_retired v).life ∷
     (number == 2 * (or_else 0 (oldest_retired v).life / 2 + 1)) ∷ []
 
-pub may_raise : (v : View) (slot number : ℕ) → all_of (raise_tests v slot number) ≡ true → NeedsRaiseRetired v 0 (oldest_retired v) slot (or_else 0 (oldest_retired v).life) number
+pub may_raise : (v : View) (slot number : ℕ) → all_of (raise_tests v slot number) ≡ true
+    → NeedsRaiseRetired v 0 (oldest_retired v) slot (or_else 0 (oldest_retired v).life) number
 may_raise v slot number e =
     let t = passed (raise_tests v slot number) e in
     record {
@@ -81,7 +82,14 @@ free_hand slot = record {
       not v.hands.owes ∷
       (hand_now v).raised ∷
       [];
-  met = λ v t. (hand_now v, record { paid = false_is _ (t 2); in_hand = (some_is _ v.hands.hand (t 0), eqb-true _ _ (t 1)); raised = (t 3) });
+  met = λ v t. (
+    hand_now v,
+    record {
+      paid = false_is _ (t 2);
+      in_hand = (some_is _ v.hands.hand (t 0), eqb-true _ _ (t 1));
+      raised = (t 3);
+    },
+  );
 }
 
 abbrev pub count_free : Step

@@ -31,7 +31,21 @@ two_places = new_view 0 2 20 []
 
 splits : NeedsSplit two_places 1 10
 unfolding two_places
-splits = record { quiet = record { section = refl; locks = refl; reserved = refl; hand = refl; moving = refl; owes = refl; commit = refl; raised = refl }; some = leb-true 1 1 refl; few = ltb-true 1 2 refl; paid = leb-true 10 20 refl }
+splits = record {
+  quiet = record {
+    section = refl;
+    locks = refl;
+    reserved = refl;
+    hand = refl;
+    moving = refl;
+    owes = refl;
+    commit = refl;
+    raised = refl;
+  };
+  some = leb-true 1 1 refl;
+  few = ltb-true 1 2 refl;
+  paid = leb-true 10 20 refl;
+}
 
 joins : NeedsJoin (first_of 1 10 two_places) (second_of 1 10 two_places)
 unfolding two_places

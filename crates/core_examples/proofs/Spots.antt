@@ -13,7 +13,8 @@ pub record SpotsIn (k : Shape) (wait : Waiting) (spots : List Field) : Type 0 wh
   pub rows : (p c : ℕ) → IsSpot k wait (Row p c) → IsIn spots (Row p c)
 
 -- so many spots are all of them
-pub all_spots : {k : Shape} {wait : Waiting} {spots : List Field} → SpotsIn k wait spots → (other : Field) → IsSpot k wait other → IsIn spots other
+pub all_spots : {k : Shape} {wait : Waiting} {spots : List Field} → SpotsIn k wait spots → (other : Field) → IsSpot k wait other
+    → IsIn spots other
 all_spots known (Stamp p) spot = known.stamps p spot
 all_spots known (Count c side) spot = known.counts c side spot
 all_spots known (Row p c) spot = known.rows p c spot

@@ -28,7 +28,8 @@ find_fifty next =
     ++ (search_by ((0, Link Right) ∷ (2, Key) ∷ (0, Life) ∷ (2, Life) ∷ (2, Link Left) ∷ (2, Link Right) ∷ next.searched)
     ++ (leave ∷ lock_all (0 ∷ 2 ∷ next.locked)
     ++ look_at
-    ((0, Life) ∷ (0, Link Right) ∷ (2, Life) ∷ (2, Link Left) ∷ (2, Link Right) ∷ next.looked_at ++ ((next.slot, Link Left) ∷ (next.slot, Key) ∷ (next.slot, Value) ∷ []))))
+    ((0, Life) ∷ (0, Link Right) ∷ (2, Life) ∷ (2, Link Left) ∷ (2, Link Right) ∷ next.looked_at
+    ++ ((next.slot, Link Left) ∷ (next.slot, Key) ∷ (next.slot, Value) ∷ []))))
 
 -- the spare becomes a copy of the successor and is linked in the place of 50; after a wait for the readers between the two, the old
 -- successor is marked

@@ -10,6 +10,7 @@ use Rattle.core_state.specs.declared.words.Field.TheVariants as word
 use Rattle.core_state.specs.declared.view.Held.{Held}
 use Rattle.core_state.specs.declared.view.Move.{Move}
 use Rattle.core_state.specs.declared.view.View.{View}
+use Rattle.core_state.specs.declared.view.Visit.{Visit}
 use Rattle.core_state.specs.views.Known.{IsLoadable}
 use Rattle.core_state.specs.steps.Locks.{IsNoEnd}
 use Rattle.core_state.specs.steps.Slots.{IsInHand, IsSpare, IsContent}
@@ -96,6 +97,19 @@ has_in x (y ∷ ys) e =
     (λ (further : has x ys ≡ true). (let i = has_in x ys further in let is_in : IsIn (y ∷ ys) x = (suc i.0, i.1) in is_in))
     (or_cases (y == x) (has x ys) e)
 
+-- a listing has been at a slot
+abbrev pub has_been : ℕ → List Visit → Bool
+has_been slot [] = false
+has_been slot (t ∷ ts) = (t.slot == slot) || has_been slot ts
+
+pub been_at : (slot : ℕ) (ts : List Visit) → has_been slot ts ≡ true → (t : Visit) × IsIn ts t × (t.slot ≡ slot)
+been_at slot [] e = cc
+been_at slot (t ∷ ts) e =
+    ⊎_elim
+    (λ (here : (t.slot == slot) ≡ true). (t, (zero, refl), eqb-true t.slot slot here))
+    (λ (further : has_been slot ts ≡ true). (let b = been_at slot ts further in (b.0, (suc b.1.0, b.1.1), b.2)))
+    (or_cases (t.slot == slot) (has_been slot ts) e)
+
 -- each part of a slot may be loaded
 pub loadable : (s : ℕ) (p : Part) → IsLoadable s (in_slot s p)
 loadable s part.Life = refl
@@ -133,9 +147,12 @@ pub is_word : (k : Shape) (field : Field) → is_field k field ≡ true → IsWo
 is_word k word.Clock e = tt
 is_word k word.Front e = tt
 is_word k word.Free e = tt
-is_word k (word.Announced p) e = let a = and_parts (same_waiter k.waiter Eer) (nat_lt p k.places) e in (waiter_is k.waiter Eer a.0, ltb-true p k.places a.1)
-is_word k (word.Stamp p) e = let a = and_parts (same_waiter k.waiter Eer) (nat_lt p k.places) e in (waiter_is k.waiter Eer a.0, ltb-true p k.places a.1)
-is_word k (word.Gate c) e = let a = and_parts (same_waiter k.waiter Domain) (nat_lt c 64) e in (waiter_is k.waiter Domain a.0, ltb-true c 64 a.1)
+is_word k (word.Announced p) e = let a = and_parts (same_waiter k.waiter Eer) (nat_lt p k.places) e in
+    (waiter_is k.waiter Eer a.0, ltb-true p k.places a.1)
+is_word k (word.Stamp p) e = let a = and_parts (same_waiter k.waiter Eer) (nat_lt p k.places) e in
+    (waiter_is k.waiter Eer a.0, ltb-true p k.places a.1)
+is_word k (word.Gate c) e = let a = and_parts (same_waiter k.waiter Domain) (nat_lt c 64) e in
+    (waiter_is k.waiter Domain a.0, ltb-true c 64 a.1)
 is_word k (word.Count c side) e =
     let a = and_parts (same_waiter k.waiter Domain) (nat_lt c 64 && nat_lt side 2) e in
     let b = and_parts (nat_lt c 64) (nat_lt side 2) a.1 in
@@ -170,8 +187,10 @@ IsHolder v slot = (held : Held) × (IsInHand v held slot ⊎ IsSpare v held slot
 pub holder_is : (v : View) (slot : ℕ) → is_holder v slot ≡ true → IsHolder v slot
 holder_is v slot e =
     ⊎_elim
-    (λ (hand : is_slot v.hands.hand slot ≡ true). (let h = slot_is v.hands.hand slot hand in let is : IsHolder v slot = (h.0, inl (h.1, h.2)) in is))
-    (λ (spare : is_slot v.hands.spare slot ≡ true). (let h = slot_is v.hands.spare slot spare in let is : IsHolder v slot = (h.0, inr (h.1, h.2)) in is))
+    (λ (hand : is_slot v.hands.hand slot ≡ true). (let h = slot_is v.hands.hand slot hand in
+    let is : IsHolder v slot = (h.0, inl (h.1, h.2)) in is))
+    (λ (spare : is_slot v.hands.spare slot ≡ true). (let h = slot_is v.hands.spare slot spare in
+    let is : IsHolder v slot = (h.0, inr (h.1, h.2)) in is))
     (or_cases (is_slot v.hands.hand slot) (is_slot v.hands.spare slot) e)
 
 -- a lock may be given up, as far as a move goes

@@ -140,9 +140,11 @@ bypass node key = record {
 
 -- marks: of the node of a delete, with few children or with both, and of the old successor of a move
 abbrev pub mark_tests : View → ℕ → ℕ → List Bool
-mark_tests v slot life = is_some (lock_of v.locks slot) ∷ is_number (known_in (lock_now v slot).known (Life slot)) life ∷ (life % 2 == 0) ∷ []
+mark_tests v slot life = is_some (lock_of v.locks slot) ∷ is_number (known_in (lock_now v slot).known (Life slot)) life ∷ (life % 2 == 0)
+    ∷ []
 
-abbrev pub why_mark : (v : View) (slot life : ℕ) → all_of (mark_tests v slot life) ≡ true → IsNodeOfDelete v slot ⊎ IsOldOfMove v slot → NeedsMark v (lock_now v slot) slot life
+abbrev pub why_mark : (v : View) (slot life : ℕ) → all_of (mark_tests v slot life) ≡ true → IsNodeOfDelete v slot ⊎ IsOldOfMove v slot
+    → NeedsMark v (lock_now v slot) slot life
 why_mark v slot life e why =
     let t = passed (mark_tests v slot life) e in
     record { locked = some_is _ (lock_of v.locks slot) (t 0); life_now = number_is _ _ (t 1); unmarked = eqb-true _ _ (t 2); why = why }
@@ -150,15 +152,41 @@ why_mark v slot life e why =
 abbrev pub mark_few : Node → ℕ → Step
 mark_few node life = record {
   act = Mark node.slot life;
-  tests = λ v. all_of (mark_tests v node.slot life) ∷ is_recorded v node.slot ∷ all_of (few_tests v node.parent node.side node.slot node.left node.right) ∷ [];
-  met = λ v t. (lock_now v node.slot, why_mark v node.slot life (t 0) (inl (reading_now v, node.parent, node.left, node.right, node.side, recorded_is v node.slot (t 1), inl (few_children v node.parent node.side node.slot node.left node.right (t 2)))));
+  tests = λ v. all_of (mark_tests v node.slot life) ∷ is_recorded v node.slot
+      ∷ all_of (few_tests v node.parent node.side node.slot node.left node.right) ∷ [];
+  met = λ v t. (
+    lock_now v node.slot,
+    why_mark v node.slot life (t 0)
+        (inl (
+          reading_now v,
+          node.parent,
+          node.left,
+          node.right,
+          node.side,
+          recorded_is v node.slot (t 1),
+          inl (few_children v node.parent node.side node.slot node.left node.right (t 2)),
+        )),
+  );
 }
 
 abbrev pub mark_both : Node → ℕ → ℕ → ℕ → Step
 mark_both node life old_parent old = record {
   act = Mark node.slot life;
-  tests = λ v. all_of (mark_tests v node.slot life) ∷ is_recorded v node.slot ∷ all_of (both_tests v node.parent node.side node.slot node.left node.right old_parent old) ∷ [];
-  met = λ v t. (lock_now v node.slot, why_mark v node.slot life (t 0) (inl (reading_now v, node.parent, node.left, node.right, node.side, recorded_is v node.slot (t 1), inr (old_parent, old, both_children v node.parent node.side node.slot node.left node.right old_parent old (t 2)))));
+  tests = λ v. all_of (mark_tests v node.slot life) ∷ is_recorded v node.slot
+      ∷ all_of (both_tests v node.parent node.side node.slot node.left node.right old_parent old) ∷ [];
+  met = λ v t. (
+    lock_now v node.slot,
+    why_mark v node.slot life (t 0)
+        (inl (
+          reading_now v,
+          node.parent,
+          node.left,
+          node.right,
+          node.side,
+          recorded_is v node.slot (t 1),
+          inr (old_parent, old, both_children v node.parent node.side node.slot node.left node.right old_parent old (t 2)),
+        )),
+  );
 }
 
 abbrev pub mark_old : ℕ → ℕ → Step
@@ -228,7 +256,8 @@ unlink_tests v parent old child =
 abbrev life_under : View → ℕ → ℕ
 life_under v slot = or_else 0 (known_in (lock_now v slot).known (Life slot))
 
-pub may_unlink : (v : View) (parent old child : ℕ) → all_of (unlink_tests v parent old child) ≡ true → NeedsUnlinkOld v (moving_now v) (lock_now v old) parent old child (life_under v old)
+pub may_unlink : (v : View) (parent old child : ℕ) → all_of (unlink_tests v parent old child) ≡ true
+    → NeedsUnlinkOld v (moving_now v) (lock_now v old) parent old child (life_under v old)
 may_unlink v parent old child e =
     let t = passed (unlink_tests v parent old child) e in
     record {
@@ -247,12 +276,24 @@ abbrev pub unlink_left : ℕ → ℕ → ℕ → Step
 unlink_left parent old child = record {
   act = UnlinkLeft parent old child;
   tests = λ v. all_of (unlink_tests v parent old child) ∷ not (parent == (moving_now v).copy.slot) ∷ [];
-  met = λ v t. (moving_now v, lock_now v old, life_under v old, may_unlink v parent old child (t 0), not_same parent (moving_now v).copy.slot (t 1));
+  met = λ v t. (
+    moving_now v,
+    lock_now v old,
+    life_under v old,
+    may_unlink v parent old child (t 0),
+    not_same parent (moving_now v).copy.slot (t 1),
+  );
 }
 
 abbrev pub unlink_right : ℕ → ℕ → ℕ → Step
 unlink_right parent old child = record {
   act = UnlinkRight parent old child;
   tests = λ v. all_of (unlink_tests v parent old child) ∷ (parent == (moving_now v).copy.slot) ∷ [];
-  met = λ v t. (moving_now v, lock_now v old, life_under v old, may_unlink v parent old child (t 0), eqb-true parent (moving_now v).copy.slot (t 1));
+  met = λ v t. (
+    moving_now v,
+    lock_now v old,
+    life_under v old,
+    may_unlink v parent old child (t 0),
+    eqb-true parent (moving_now v).copy.slot (t 1),
+  );
 }

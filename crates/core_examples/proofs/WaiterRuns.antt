@@ -1,6 +1,6 @@
 -- Runs on literal words with the second and the third waiter: a section, and a wait for its key. Each step is allowed by the view that
 -- the steps before it left. So no need of these kinds of step is one that cannot be met.
-use Rattle.std.proofs.Common.{◌≡◌, ℕ, zero, suc, true, false, List, [], ◌∷◌, take, refl, sym, inl, arith}
+use Rattle.std.proofs.Common.{◌≡◌, ℕ, ◌*◌, true, false, List, [], ◌∷◌, take, refl, sym, inl, arith}
 use mathlib.Core.Logic.{dite}
 use mathlib.Core.Option.{some, some-ne-none}
 use native.Mathlib.Decide.{ℕ_discrete}
@@ -12,27 +12,22 @@ use Rattle.core_state.specs.declared.words.Field.TheVariants.{Gate, Count, Row}
 use Rattle.core_state.specs.declared.view.View.{View}
 use Rattle.core_state.specs.declared.view.Waiting.{Waiting}
 use Rattle.list_laws.specs.Counts.{IsIn}
-use Rattle.core_state.specs.memory.Memory.{idle}
+use Rattle.core_state.specs.memory.Memory.{apart, classes, idle}
 use Rattle.core_state.specs.Fresh.{first_view}
 use Rattle.core_state.specs.steps.Waits.{IsSpot, keys_of}
 use Rattle.core_acts.specs.declared.act.Act.{Act}
 use Rattle.core_acts.specs.declared.act.Act.TheVariants.{LoadClock, BeginWait, LoadGate, EnterByCount, LeaveByCount, LookCount, TurnGate, EnterByRow, LeaveByRow, LookRow}
 use Rattle.core_acts.specs.Acts.{IsWord, section_of, wait_of}
-use Rattle.core_examples.proofs.States.{State, reached, AllAsked, over, ◌⟫◌}
+use Rattle.core_examples.proofs.States.{State, many, words_with, reached, AllAsked, over, ◌⟫◌}
 use Rattle.core_examples.proofs.Spots.{all_spots}
 use Rattle.std.proofs.lemmas.Bool.{leb-true, ltb-true}
-
--- so many words with one number, before others
-abbrev many : ℕ → ℕ → List ℕ → List ℕ
-many x zero more = more
-many x (suc n) more = x ∷ many x n more
 
 -- the second waiter
 abbrev counted : Shape
 counted = record { waiter = Domain; slots = 1; places = 1; tickets = 10 }
 
 abbrev counted_start : State
-counted_start = record { words = 0 ∷ 0 ∷ 1 ∷ many 0 192 (1 ∷ many 0 8 (1 ∷ many 0 8 (many 0 9 []))); view = first_view counted; marks = [] }
+counted_start = record { words = words_with 1 (many 0 (apart * classes)) 3 (1 ∷ 1 ∷ 0 ∷ []); view = first_view counted; marks = [] }
 
 -- a class that a wait for key 5 alone meets is 5
 class_five : (wait : Waiting) (c : ℕ) → wait.low ≡ 5 → wait.high ≡ 5 → MeetsClass (keys_of wait) c → 5 ≡ c
@@ -43,7 +38,8 @@ class_five wait c low high met =
     omega arith
 
 -- the spots of a wait for key 5 are the two sides of its class
-two_spots : (wait : Waiting) → wait.low ≡ 5 → wait.high ≡ 5 → (other : Field) → IsSpot counted wait other → IsIn (Count 5 1 ∷ (Count 5 0 ∷ [])) other
+two_spots : (wait : Waiting) → wait.low ≡ 5 → wait.high ≡ 5 → (other : Field) → IsSpot counted wait other
+    → IsIn (Count 5 1 ∷ (Count 5 0 ∷ [])) other
 two_spots wait low high = all_spots {k = counted} {wait = wait} {spots = Count 5 1 ∷ (Count 5 0 ∷ [])} (record {
   stamps = λ p spot. absurd (let w : Domain ≡ Eer = spot.0 in cc);
   counts = λ c side spot.
@@ -86,16 +82,54 @@ side_one = (refl, ltb-true _ _ refl, ltb-true _ _ refl)
 
 counted_asked : AllAsked counted counted_start counted_run
 counted_asked =
-    (gate_five, record { why = inl refl }) ⟫
-    (side_zero, (0, record { entry = record { outside = refl; free = refl; key_fits = ltb-true _ _ refl }; gate_is = refl; side_is = refl })) ⟫
+    (gate_five, record { why = inl refl }) ⟫ (
+      side_zero,
+      (
+        0,
+        record {
+          entry = record { outside = refl; free = refl; key_fits = ltb-true _ _ refl };
+          gate_is = refl;
+          side_is = refl;
+        },
+      ),
+    ) ⟫
     (side_zero, (section_of (counted_at 2), record { section_is = refl; class_is = refl; side_is = refl })) ⟫
     (tt, record { outside = refl; ticket = leb-true _ _ refl; some = leb-true _ _ refl; high_fits = ltb-true _ _ refl }) ⟫
-    (side_zero, (wait_of (counted_at 4), record { wait_is = refl; going = refl; rest = λ l. absurd (cc) })) ⟫
-    (gate_five, (wait_of (counted_at 5), record { wait_is = refl; going = refl; small = ltb-true _ _ refl; met = (5, (leb-true _ _ refl, leb-true _ _ refl), refl); once = λ has. absurd (some-ne-none _ (sym has.1)) })) ⟫
-    (gate_five, record { why = inl refl }) ⟫
-    (side_one, (wait_of (counted_at 7), record { wait_is = refl; going = refl; rest = λ l other spot. two_spots (wait_of (counted_at 7)) refl refl other spot })) ⟫
-    (gate_five, record { why = inl refl }) ⟫
-    (side_one, (1, record { entry = record { outside = refl; free = refl; key_fits = ltb-true _ _ refl }; gate_is = refl; side_is = refl })) ⟫
+    (side_zero, (wait_of (counted_at 4), record { wait_is = refl; going = refl; rest = λ l. absurd (cc) })) ⟫ (
+      gate_five,
+      (
+        wait_of (counted_at 5),
+        record {
+          wait_is = refl;
+          going = refl;
+          small = ltb-true _ _ refl;
+          met = (5, (leb-true _ _ refl, leb-true _ _ refl), refl);
+          once = λ has. absurd (some-ne-none _ (sym has.1));
+        },
+      ),
+    ) ⟫
+    (gate_five, record { why = inl refl }) ⟫ (
+      side_one,
+      (
+        wait_of (counted_at 7),
+        record {
+          wait_is = refl;
+          going = refl;
+          rest = λ l other spot. two_spots (wait_of (counted_at 7)) refl refl other spot;
+        },
+      ),
+    ) ⟫
+    (gate_five, record { why = inl refl }) ⟫ (
+      side_one,
+      (
+        1,
+        record {
+          entry = record { outside = refl; free = refl; key_fits = ltb-true _ _ refl };
+          gate_is = refl;
+          side_is = refl;
+        },
+      ),
+    ) ⟫
     (side_one, (section_of (counted_at 10), record { section_is = refl; class_is = refl; side_is = refl })) ⟫ over
 
 -- it ended its wait, and its second section was counted on the other side
@@ -107,7 +141,7 @@ abbrev rowed : Shape
 rowed = record { waiter = Deer; slots = 1; places = 1; tickets = 10 }
 
 abbrev rowed_start : State
-rowed_start = record { words = 0 ∷ 0 ∷ 1 ∷ many idle 64 (1 ∷ many 0 8 (1 ∷ many 0 8 (many 0 9 []))); view = first_view rowed; marks = [] }
+rowed_start = record { words = words_with 1 (many idle classes) 3 (1 ∷ 1 ∷ 0 ∷ []); view = first_view rowed; marks = [] }
 
 -- the spot of a wait for key 5 is the place's word of its class
 one_spot : (wait : Waiting) → wait.low ≡ 5 → wait.high ≡ 5 → (other : Field) → IsSpot rowed wait other → IsIn (Row 0 5 ∷ []) other
@@ -132,11 +166,29 @@ row_five = (refl, ltb-true _ _ refl, ltb-true _ _ refl)
 
 rowed_asked : AllAsked rowed rowed_start rowed_run
 rowed_asked =
-    (tt, tt) ⟫
-    (row_five, (record { number = 0; at = 0 }, record { entry = record { outside = refl; free = refl; key_fits = ltb-true _ _ refl }; clock = refl; stamp_is = refl })) ⟫
+    (tt, tt) ⟫ (
+      row_five,
+      (
+        record { number = 0; at = 0 },
+        record {
+          entry = record { outside = refl; free = refl; key_fits = ltb-true _ _ refl };
+          clock = refl;
+          stamp_is = refl;
+        },
+      ),
+    ) ⟫
     (row_five, (section_of (rowed_at 2), record { section_is = refl; class_is = refl })) ⟫
-    (tt, record { outside = refl; ticket = leb-true _ _ refl; some = leb-true _ _ refl; high_fits = ltb-true _ _ refl }) ⟫
-    (row_five, (wait_of (rowed_at 4), record { wait_is = refl; going = refl; rest = λ l other spot. one_spot (wait_of (rowed_at 4)) refl refl other spot })) ⟫ over
+    (tt, record { outside = refl; ticket = leb-true _ _ refl; some = leb-true _ _ refl; high_fits = ltb-true _ _ refl }) ⟫ (
+      row_five,
+      (
+        wait_of (rowed_at 4),
+        record {
+          wait_is = refl;
+          going = refl;
+          rest = λ l other spot. one_spot (wait_of (rowed_at 4)) refl refl other spot;
+        },
+      ),
+    ) ⟫ over
 
 rowed_ended : (wait_of (reached rowed rowed_start rowed_run).view).ended ≡ true
 rowed_ended = refl

@@ -36,7 +36,8 @@ sum_le f g zero le = omega arith
 sum_le f g (suc n) le = let a = le n (omega arith) in let b = sum_le f g n (λ s lt. le s (omega arith)) in omega arith
 
 -- sums over views
-sum_total : {A : Type 0} (f : ℕ → A → ℕ) (vs : List A) (n : ℕ) → sum_below (λ s. total (f s) vs) n ≡ total (λ v. sum_below (λ s. f s v) n) vs
+sum_total : {A : Type 0} (f : ℕ → A → ℕ) (vs : List A) (n : ℕ)
+    → sum_below (λ s. total (f s) vs) n ≡ total (λ v. sum_below (λ s. f s v) n) vs
 sum_total f [] zero = refl
 sum_total f [] (suc n) = let a = sum_total f [] n in omega arith
 sum_total f (v ∷ vs) n = sum_add (λ s. f s v) (λ s. total (f s) vs) n ∙ ap (λ x. sum_below (λ s. f s v) n + x) (sum_total f vs n)
@@ -49,16 +50,19 @@ pub total_le : {A : Type 0} (f g : A → ℕ) (vs : List A) → Each vs (λ v. f
 total_le f g [] le = omega arith
 total_le f g (v ∷ vs) le = let a = le 0 v refl in let b = total_le f g vs (λ i u e. le (suc i) u e) in omega arith
 
-total_le_but : {A : Type 0} (f g : A → ℕ) (vs : List A) (id more less : ℕ) (v : A) → get_elem? vs id ≡ some v → f v + more ≤ g v + less → Each vs (λ v. f v ≤ g v) → total f vs + more ≤ total g vs + less
+total_le_but : {A : Type 0} (f g : A → ℕ) (vs : List A) (id more less : ℕ) (v : A) → get_elem? vs id ≡ some v → f v + more ≤ g v + less
+    → Each vs (λ v. f v ≤ g v) → total f vs + more ≤ total g vs + less
 total_le_but f g [] id more less v at own le = absurd (some-ne-none v (sym at))
 total_le_but f g (x ∷ xs) zero more less v at own le =
     let a : f x + more ≤ g x + less = subst (λ z. f z + more ≤ g z + less) (sym (some-injective x v at)) own in
     let b = total_le f g xs (λ i u e. le (suc i) u e) in omega arith
-total_le_but f g (x ∷ xs) (suc id) more less v at own le = let a = le 0 x refl in let b = total_le_but f g xs id more less v at own (λ i u e. le (suc i) u e) in omega arith
+total_le_but f g (x ∷ xs) (suc id) more less v at own le = let a = le 0 x refl in
+    let b = total_le_but f g xs id more less v at own (λ i u e. le (suc i) u e) in omega arith
 
 total_times : {A : Type 0} (c : ℕ) (f : A → ℕ) (vs : List A) → total (λ v. c * f v) vs ≡ c * total f vs
 total_times c f [] = omega arith
-total_times c f (v ∷ vs) = let a = total_times c f vs in let b : c * (f v + total f vs) ≡ c * f v + c * total f vs = omega arith in omega arith
+total_times c f (v ∷ vs) = let a = total_times c f vs in let b : c * (f v + total f vs) ≡ c * f v + c * total f vs = omega arith in
+    omega arith
 
 length_row : (first n : ℕ) → length (numbers_from first n) ≡ n
 length_row first zero = refl
@@ -85,7 +89,8 @@ has_most None = omega arith
 has_most (Some move) = omega arith
 
 -- the slots that stay at spent places: at most 17 each
-joined_few : (ss : List Spent) → Each ss (λ (s : Spent). length s.retired ≤ 16) → length (joined_spares ss) + length (joined_retired ss) ≤ 17 * length ss
+joined_few : (ss : List Spent) → Each ss (λ (s : Spent). length s.retired ≤ 16)
+    → length (joined_spares ss) + length (joined_retired ss) ≤ 17 * length ss
 joined_few [] few = omega arith
 joined_few (s ∷ ss) few =
     let a = length-append (slot_list s.spare) (joined_spares ss) in
@@ -99,11 +104,14 @@ joined_few (s ∷ ss) few =
 abbrev share : View → ℕ
 share v = flag v.hands.reserved + (flag v.hands.owes + (has v.moving + length (slots_of v)))
 
-slots_length : (v : View) → length (slots_of v) ≡ length (held_list v.hands.hand) + length (held_list v.hands.spare) + (v.allowance.places - 1) + length (joined_spares v.allowance.joined) + length v.hands.retired + length (joined_retired v.allowance.joined)
+slots_length : (v : View) → length (slots_of v)
+    ≡ length (held_list v.hands.hand) + length (held_list v.hands.spare) + (v.allowance.places - 1)
+    + length (joined_spares v.allowance.joined) + length v.hands.retired + length (joined_retired v.allowance.joined)
 slots_length v =
     let a = length-append (held_list v.hands.hand) (spares_of v ++ map (λ (r : Retired). r.slot) (retired_of v)) in
     let b = length-append (spares_of v) (map (λ (r : Retired). r.slot) (retired_of v)) in
-    let c = length-append (held_list v.hands.spare) (numbers_from (v.allowance.place + 2) (v.allowance.places - 1) ++ joined_spares v.allowance.joined) in
+    let c = length-append (held_list v.hands.spare)
+    (numbers_from (v.allowance.place + 2) (v.allowance.places - 1) ++ joined_spares v.allowance.joined) in
     let d = length-append (numbers_from (v.allowance.place + 2) (v.allowance.places - 1)) (joined_spares v.allowance.joined) in
     let e = length_row (v.allowance.place + 2) (v.allowance.places - 1) in
     let f = length_map (λ (r : Retired). r.slot) (retired_of v) in
@@ -156,9 +164,13 @@ module _ (k : Shape) (m : Memory) (vs : List View) (h : List Mark) (i : HoldsNow
   -- linked slots are the root, those that hold pairs, and old successors
   linked_most : count_below i.chart.linked (slot_count k) ≤ 1 + young_count i.chart (slot_count k) + old_count i.chart (slot_count k)
   linked_most =
-      let a = sum_le (λ s. flag (i.chart.linked s)) (λ s. flag (0 == s) + (flag (i.chart.linked s && (not (s == 0) && not (i.chart.old s))) + flag (i.chart.linked s && i.chart.old s))) (slot_count k) (λ s lt. each s) in
-      let b = sum_add (λ s. flag (0 == s)) (λ s. flag (i.chart.linked s && (not (s == 0) && not (i.chart.old s))) + flag (i.chart.linked s && i.chart.old s)) (slot_count k) in
-      let c = sum_add (λ s. flag (i.chart.linked s && (not (s == 0) && not (i.chart.old s)))) (λ s. flag (i.chart.linked s && i.chart.old s)) (slot_count k) in
+      let a = sum_le (λ s. flag (i.chart.linked s))
+      (λ s. flag (0 == s) + (flag (i.chart.linked s && (not (s == 0) && not (i.chart.old s)))
+      + flag (i.chart.linked s && i.chart.old s))) (slot_count k) (λ s lt. each s) in
+      let b = sum_add (λ s. flag (0 == s)) (λ s. flag (i.chart.linked s && (not (s == 0) && not (i.chart.old s)))
+      + flag (i.chart.linked s && i.chart.old s)) (slot_count k) in
+      let c = sum_add (λ s. flag (i.chart.linked s && (not (s == 0) && not (i.chart.old s))))
+      (λ s. flag (i.chart.linked s && i.chart.old s)) (slot_count k) in
       let d = sum_same 0 (slot_count k) in
       omega arith
     where
@@ -168,13 +180,15 @@ module _ (k : Shape) (m : Memory) (vs : List View) (h : List Mark) (i : HoldsNow
       split true false false e = omega arith
       split false z o e = omega arith
 
-      each : (s : ℕ) → flag (i.chart.linked s) ≤ flag (0 == s) + (flag (i.chart.linked s && (not (s == 0) && not (i.chart.old s))) + flag (i.chart.linked s && i.chart.old s))
+      each : (s : ℕ) → flag (i.chart.linked s) ≤ flag (0 == s)
+          + (flag (i.chart.linked s && (not (s == 0) && not (i.chart.old s))) + flag (i.chart.linked s && i.chart.old s))
       each s = dite (ℕ_discrete 0 s)
           (λ e. (let a = ap flag (eq-eqb 0 s e) in let b = flag_most (i.chart.linked s) in omega arith))
           (λ ne. (let a = split (i.chart.linked s) (s == 0) (i.chart.old s) (ne_eqb s 0 (λ e. ne (sym e))) in omega arith))
 
   -- each slot is counted in one role
-  pub all_roles : slot_count k ≡ count_below (λ s. m (State s) == 0) (slot_count k) + count_below i.chart.linked (slot_count k) + total (λ (v : View). sum_below (λ s. times s (slots_of v)) (slot_count k)) vs
+  pub all_roles : slot_count k ≡ count_below (λ s. m (State s) == 0) (slot_count k) + count_below i.chart.linked (slot_count k)
+      + total (λ (v : View). sum_below (λ s. times s (slots_of v)) (slot_count k)) vs
   all_roles =
       let n : ℕ = slot_count k in
       let one = sum_one (roles_of m i.chart vs) n (λ s lt. i.slots.roles.once s lt) in
@@ -187,13 +201,16 @@ module _ (k : Shape) (m : Memory) (vs : List View) (h : List Mark) (i : HoldsNow
   pub all_placed : k.places ≡ total (λ (v : View). sum_below (λ p. times p (places_of v)) k.places) vs
   all_placed =
       let a = sum_total (λ p (v : View). times p (places_of v)) vs k.places in
-      let b = sum_one (λ p. total (λ (v : View). times p (places_of v)) vs) k.places (λ p lt. i.seats.placed p ∙ ap flag (lt-ltb p k.places lt)) in
+      let b = sum_one (λ p. total (λ (v : View). times p (places_of v)) vs) k.places
+      (λ p lt. i.seats.placed p ∙ ap flag (lt-ltb p k.places lt)) in
       omega arith
 
-  all_slots : slot_count k ≤ count_below (λ s. m (State s) == 0) (slot_count k) + count_below i.chart.linked (slot_count k) + total (λ (v : View). length (slots_of v)) vs
+  all_slots : slot_count k ≤ count_below (λ s. m (State s) == 0) (slot_count k) + count_below i.chart.linked (slot_count k)
+      + total (λ (v : View). length (slots_of v)) vs
   all_slots =
       let a = all_roles in
-      let b = total_le (λ (v : View). sum_below (λ s. times s (slots_of v)) (slot_count k)) (λ (v : View). length (slots_of v)) vs (λ j v at. sum_times (slots_of v) (slot_count k)) in
+      let b = total_le (λ (v : View). sum_below (λ s. times s (slots_of v)) (slot_count k)) (λ (v : View). length (slots_of v)) vs
+      (λ j v at. sum_times (slots_of v) (slot_count k)) in
       omega arith
 
   pub all_places : total (λ (v : View). length (places_of v)) vs ≤ k.places
@@ -212,7 +229,8 @@ empty_is_full k m vs h i id v there nothing empty =
     let c = i.counts.free in
     let d = i.counts.pairs in
     let e = i.counts.olds in
-    let f = total_le_but share (λ (u : View). 20 * length (places_of u)) vs id 20 (1 + length v.hands.retired) v there (share_own v (few id v there) nothing) (λ j u at. share_most u (few j u at) (spent j u at)) in
+    let f = total_le_but share (λ (u : View). 20 * length (places_of u)) vs id 20 (1 + length v.hands.retired) v there
+    (share_own v (few id v there) nothing) (λ j u at. share_most u (few j u at) (spent j u at)) in
     let g = total_times 20 (λ (u : View). length (places_of u)) vs in
     let p = all_places k m vs h i in
     let q = total_add (λ (u : View). flag u.hands.reserved) (λ (u : View). flag u.hands.owes + (has u.moving + length (slots_of u))) vs in
@@ -258,13 +276,15 @@ module _ (k : Shape) (m : Memory) (vs : List View) (h : List Mark) (i : HoldsNow
   each_place : k.places ≤ total (λ (v : View). length (places_of v)) vs
   each_place =
       let a = all_placed k m vs h i in
-      let b = total_le (λ (v : View). sum_below (λ p. times p (places_of v)) k.places) (λ (v : View). length (places_of v)) vs (λ j v at. sum_times (places_of v) k.places) in
+      let b = total_le (λ (v : View). sum_below (λ p. times p (places_of v)) k.places) (λ (v : View). length (places_of v)) vs
+      (λ j v at. sum_times (places_of v) k.places) in
       omega arith
 
   -- linked slots are the root and those that hold pairs, and others
   linked_least : 1 + young_count i.chart (slot_count k) ≤ count_below i.chart.linked (slot_count k)
   linked_least =
-      let a = sum_le (λ s. flag (0 == s) + flag (i.chart.linked s && (not (s == 0) && not (i.chart.old s)))) (λ s. flag (i.chart.linked s)) (slot_count k) (λ s lt. each s) in
+      let a = sum_le (λ s. flag (0 == s) + flag (i.chart.linked s && (not (s == 0) && not (i.chart.old s)))) (λ s. flag (i.chart.linked s))
+      (slot_count k) (λ s lt. each s) in
       let b = sum_add (λ s. flag (0 == s)) (λ s. flag (i.chart.linked s && (not (s == 0) && not (i.chart.old s)))) (slot_count k) in
       let c = sum_here 0 (slot_count k) (omega arith) in
       omega arith
@@ -280,13 +300,16 @@ module _ (k : Shape) (m : Memory) (vs : List View) (h : List Mark) (i : HoldsNow
 
       each : (s : ℕ) → flag (0 == s) + flag (i.chart.linked s && (not (s == 0) && not (i.chart.old s))) ≤ flag (i.chart.linked s)
       each s = dite (ℕ_discrete 0 s)
-          (λ e. (let a = ap flag (eq-eqb 0 s e) in let b = root (i.chart.linked s) (s == 0) (i.chart.old s) (ap i.chart.linked (sym e) ∙ i.tree.shape.root) (eq-eqb s 0 (sym e)) in omega arith))
+          (λ e. (let a = ap flag (eq-eqb 0 s e) in let b =
+          root (i.chart.linked s) (s == 0) (i.chart.old s) (ap i.chart.linked (sym e) ∙ i.tree.shape.root) (eq-eqb s 0 (sym e)) in
+          omega arith))
           (λ ne. (let a = ap flag (ne_eqb 0 s ne) in let b = other (i.chart.linked s) (s == 0) (i.chart.old s) in omega arith))
 
   slot_within : (j s : ℕ) (v : View) → get_elem? vs j ≡ some v → 1 ≤ times s (slots_of v) → s < slot_count k
   slot_within j s v at there =
       dite (dec_le (suc s) (slot_count k)) (λ lt. lt)
-      (λ far. absurd (let a = total_part (λ (u : View). times s (slots_of u)) vs j v at in let b = i.slots.roles.beyond s (omega arith) in omega arith))
+      (λ far. absurd (let a = total_part (λ (u : View). times s (slots_of u)) vs j v at in let b = i.slots.roles.beyond s (omega arith) in
+      omega arith))
 
   no_more_slots : count_below i.chart.linked (slot_count k) + total (λ (v : View). length (slots_of v)) vs ≤ slot_count k
   no_more_slots =
@@ -300,6 +323,7 @@ pairs_fit k m vs h i =
     let a = linked_least k m vs h i in
     let b = no_more_slots k m vs h i in
     let c = each_place k m vs h i in
-    let d = total_le (λ (v : View). length (places_of v)) (λ (v : View). length (slots_of v)) vs (λ j v at. share_least v (i.slots.few j v at) (i.seats.spent j v at)) in
+    let d = total_le (λ (v : View). length (places_of v)) (λ (v : View). length (slots_of v)) vs
+    (λ j v at. share_least v (i.slots.few j v at) (i.seats.spent j v at)) in
     let e = i.counts.pairs in
     omega arith

@@ -38,14 +38,16 @@ in_front [] ys i a e = cc
 in_front (x ∷ xs) ys zero a e = e
 in_front (x ∷ xs) ys (suc i) a e = in_front xs ys i a e
 
-module _ (k : Shape) (m : Memory) (vs : List View) (h : List Mark) (inv : HoldsNow k m vs h) (id : ℕ) (v : View) (there : get_elem? vs id ≡ some v) where
+module _ (k : Shape) (m : Memory) (vs : List View) (h : List Mark) (inv : HoldsNow k m vs h) (id : ℕ) (v : View)
+    (there : get_elem? vs id ≡ some v) where
   -- a load of a field of the slot in hand finds what is known of it
   tells_loads : (s : ℕ) (field : Field) → Tells v s field (m field)
   tells_loads s field held is same number known = ((((inv.slots.hands id v there).hand held is).0) field number known).1
 
   -- each unlinking of its retired slots is an old mark
   tells_older : Each v.hands.retired (λ (r : Retired). r.unlinked < length h)
-  tells_older i r e = gone_at-below r.slot h r.unlinked (inv.slots.retired id v there i r (in_front v.hands.retired (joined_retired v.allowance.joined) i r e)).unlinked
+  tells_older i r e = gone_at-below r.slot h r.unlinked
+      (inv.slots.retired id v there i r (in_front v.hands.retired (joined_retired v.allowance.joined) i r e)).unlinked
 
   -- its retired slots are distinct
   tells_alone : TellsAlone v
@@ -54,8 +56,10 @@ module _ (k : Shape) (m : Memory) (vs : List View) (h : List Mark) (inv : HoldsN
       let rest : List Retired = rs ++ joined_retired v.allowance.joined in
       let once = own_once m (slot_count k) inv.chart vs h inv.slots id v there r.slot in
       let all : slots (retired_of v) ≡ r.slot ∷ slots rest = ap (λ xs. slots (xs ++ joined_retired v.allowance.joined)) e in
-      let two : 1 ≤ times x.slot (slots rest) = times_in (λ (r : Retired). r.slot) rest x (i, in_front rs (joined_retired v.allowance.joined) i x at) in
-      let here : times r.slot (slots (retired_of v)) ≡ 1 + times r.slot (slots rest) = ap (times r.slot) all ∙ times_here r.slot (slots rest) in
+      let two : 1 ≤ times x.slot (slots rest) = times_in (λ (r : Retired). r.slot) rest x
+      (i, in_front rs (joined_retired v.allowance.joined) i x at) in
+      let here : times r.slot (slots (retired_of v)) ≡ 1 + times r.slot (slots rest) =
+      ap (times r.slot) all ∙ times_here r.slot (slots rest) in
       let a = times_append r.slot (held_list v.hands.hand) (spares_of v ++ slots (retired_of v)) in
       let b = times_append r.slot (spares_of v) (slots (retired_of v)) in
       let c : times x.slot (slots rest) ≡ times r.slot (slots rest) = ap (λ s. times s (slots rest)) same in
@@ -74,7 +78,8 @@ module _ (k : Shape) (m : Memory) (vs : List View) (h : List Mark) (inv : HoldsN
 
   -- a place without a spare has a retired slot
   tells_spare : Works v → v.hands.spare ≡ None → v.hands.retired ≢ []
-  tells_spare works none e = let x = (inv.slots.few id v there).next_spare works none in absurd (let i = x.1 in let q : IsIn [] x.0 = subst (λ (rs : List Retired). IsIn rs x.0) e i in some-ne-none x.0 (sym q.1))
+  tells_spare works none e = let x = (inv.slots.few id v there).next_spare works none in
+      absurd (let i = x.1 in let q : IsIn [] x.0 = subst (λ (rs : List Retired). IsIn rs x.0) e i in some-ne-none x.0 (sym q.1))
 
   -- each lock once, and none of them is free
   tells_once : TellsOnce v
@@ -84,7 +89,8 @@ module _ (k : Shape) (m : Memory) (vs : List View) (h : List Mark) (inv : HoldsN
   tells_busy s (l, e) z = let q = (inv.locks.locked.held id v there s l e).0 in absurd (omega arith)
 
   -- a slot whose recorded generation was found under its lock is linked, and no spare is
-  on_there : (r : Reading) (s generation : ℕ) → IsIn v.records r → LoadedGeneration r s generation → known_in (known_under v s) (Life s) ≡ Some (2 * generation) → inv.chart.linked s ≡ true
+  on_there : (r : Reading) (s generation : ℕ) → IsIn v.records r → LoadedGeneration r s generation
+      → known_in (known_under v s) (Life s) ≡ Some (2 * generation) → inv.chart.linked s ≡ true
   on_there r s generation kept loaded known = by_lock (lock_of v.locks s) refl
     where
       has : IsIn (readings_of v) r
@@ -93,7 +99,8 @@ module _ (k : Shape) (m : Memory) (vs : List View) (h : List Mark) (inv : HoldsN
       by_lock : (o : Option HeldLock) → lock_of v.locks s ≡ o → inv.chart.linked s ≡ true
       by_lock None free = absurd (let q : None ≡ Some (2 * generation) = ap (λ o. known_in (known_of o) (Life s)) (sym free) ∙ known in cc)
       by_lock (Some lock) locked =
-          let life : m (Life s) ≡ 2 * generation = (inv.locks.known id v there s lock locked).lives r generation has loaded (ap (λ o. known_in (known_of o) (Life s)) (sym locked) ∙ known) in
+          let life : m (Life s) ≡ 2 * generation = (inv.locks.known id v there s lock locked).lives r generation has loaded
+          (ap (λ o. known_in (known_of o) (Life s)) (sym locked) ∙ known) in
           (inv.locks.readings id v there has.0 r has.1).linked s loaded.0 loaded.1 (life ∙ ap (λ x. 2 * x) loaded.2)
 
   tells_aside : TellsAside v
@@ -107,7 +114,8 @@ module _ (k : Shape) (m : Memory) (vs : List View) (h : List Mark) (inv : HoldsN
   tells_move move is =
       let w = inv.tree.moves.each id v there move is in (
         w.order,
-        subst (λ x. x < 2 ^ 64) w.copy_key (key_bound m (slot_count k) inv.chart move.copy.slot inv.tree.shape w.copy_linked w.copy_some w.copy_young),
+        subst (λ x. x < 2 ^ 64) w.copy_key (key_bound m
+            (slot_count k) inv.chart move.copy.slot inv.tree.shape w.copy_linked w.copy_some w.copy_young),
         at_below h move.made (Done (record { caller = v.allowance.place; op = Del move.key })) w.made,
       )
 
@@ -125,7 +133,8 @@ module _ (k : Shape) (m : Memory) (vs : List View) (h : List Mark) (inv : HoldsN
   tells_spare_within held is = own_below m (slot_count k) inv.chart vs h inv.slots id v there held.slot (spare_own v held is)
 
   tells_retired : Each v.hands.retired (λ (r : Retired). r.slot < slot_count k)
-  tells_retired i r e = own_below m (slot_count k) inv.chart vs h inv.slots id v there r.slot (retired_own v r (i, in_front v.hands.retired (joined_retired v.allowance.joined) i r e))
+  tells_retired i r e = own_below m (slot_count k) inv.chart vs h inv.slots id v there r.slot
+      (retired_own v r (i, in_front v.hands.retired (joined_retired v.allowance.joined) i r e))
 
   tells_parent : (move : Move) → v.moving ≡ Some move → move.parent < slot_count k
   tells_parent move is = tells_held move.parent (inv.tree.moves.each id v there move is).parent_lock
@@ -139,10 +148,13 @@ module _ (k : Shape) (m : Memory) (vs : List View) (h : List Mark) (inv : HoldsN
       (λ e. (omega arith, omega arith))
       (λ ne. (let lt = inv.tree.shape.within child (inv.tree.shape.below s child b on is ne).linked in (lt, omega arith)))
 
-  link_there : (s : ℕ) (b : Side) (child : ℕ) (r : Reading) (generation : ℕ) (lock : HeldLock) → IsIn v.records r → LoadedGeneration r s generation → lock_of v.locks s ≡ Some lock → HasGeneration m s generation lock
+  link_there : (s : ℕ) (b : Side) (child : ℕ) (r : Reading) (generation : ℕ) (lock : HeldLock) → IsIn v.records r
+      → LoadedGeneration r s generation → lock_of v.locks s ≡ Some lock → HasGeneration m s generation lock
       → known_in (known_under v s) (Link s b) ≡ Some child → m (Link s b) ≡ child
   link_there s b child r generation lock kept loaded locked same known =
-      (inv.locks.known id v there s lock locked).fields r generation child (Link s b) (in_second (open_reading v.section) v.records r kept) loaded same (ap (λ o. known_in (known_of o) (Link s b)) (sym locked) ∙ known)
+      (inv.locks.known id v there s lock locked).fields r generation child (Link s b)
+      (in_second (open_reading v.section) v.records r kept) loaded same
+      (ap (λ o. known_in (known_of o) (Link s b)) (sym locked) ∙ known)
 
   tells_links : TellsLinks (slot_count k) v
   tells_links r s generation kept loaded life b child known = by_lock (lock_of v.locks s) refl
@@ -150,14 +162,17 @@ module _ (k : Shape) (m : Memory) (vs : List View) (h : List Mark) (inv : HoldsN
       by_lock : (o : Option HeldLock) → lock_of v.locks s ≡ o → IsChild (slot_count k) child
       by_lock None free = absurd (let q : None ≡ Some child = ap (λ o. known_in (known_of o) (Link s b)) (sym free) ∙ known in cc)
       by_lock (Some lock) locked =
-          let now : m (Life s) ≡ 2 * generation = (inv.locks.known id v there s lock locked).lives r generation (in_second (open_reading v.section) v.records r kept) loaded (ap (λ o. known_in (known_of o) (Life s)) (sym locked) ∙ life) in
-          child_within s (on_there r s generation kept loaded life) b child (link_there s b child r generation lock kept loaded locked (inl now) known)
+          let now : m (Life s) ≡ 2 * generation = (inv.locks.known id v there s lock locked).lives r generation
+          (in_second (open_reading v.section) v.records r kept) loaded (ap (λ o. known_in (known_of o) (Life s)) (sym locked) ∙ life) in
+          child_within s (on_there r s generation kept loaded life) b child
+          (link_there s b child r generation lock kept loaded locked (inl now) known)
 
   tells_old_links : TellsOldLinks (slot_count k) v
   tells_old_links move is b child known =
       let w = inv.tree.moves.each id v there move is in
       let old = w.recorded in
-      child_within move.old w.old_linked b child (link_there move.old b child old.reading old.generation old.lock old.kept old.loaded old.locked old.same known)
+      child_within move.old w.old_linked b child
+      (link_there move.old b child old.reading old.generation old.lock old.kept old.loaded old.locked old.same known)
 
 pub told_of : ViewsAreTold
 told_of k m vs h id v inv there works = record {

@@ -18,6 +18,7 @@ use Rattle.core_state.specs.parts.ListingParts.{IsBetween}
 use Rattle.core_state.specs.declared.view.Move.{Move}
 use Rattle.core_state.specs.declared.view.Reading.{Reading}
 use Rattle.core_state.specs.declared.view.Section.{Section}
+use Rattle.core_state.specs.declared.view.Visit.{Visit}
 use Rattle.core_state.specs.declared.view.SearchState.{SearchState}
 use Rattle.core_state.specs.declared.view.SearchState.TheVariants.{At, Unread, Found, Missed}
 use Rattle.core_state.specs.declared.view.Waiting.{Waiting}
@@ -44,7 +45,8 @@ LinksAreTree = (k : Shape) (m : Memory) (vs : List View) (h : List Mark) (i : Ho
 
 -- A search from the root answers as the dictionary now.
 abbrev pub FollowIsMap : Type 0
-FollowIsMap = (k : Shape) (m : Memory) (vs : List View) (h : List Mark) → HoldsNow k m vs h → (x : ℕ) → x < 2 ^ 64 → follow m (slot_count k) 0 x ≡ map_now h x
+FollowIsMap = (k : Shape) (m : Memory) (vs : List View) (h : List Mark) → HoldsNow k m vs h → (x : ℕ) → x < 2 ^ 64
+    → follow m (slot_count k) 0 x ≡ map_now h x
 
 -- A section that is open and is no listing.
 pub record Searches (vs : List View) (section : Section) : Type 0 where
@@ -65,7 +67,8 @@ answer_of m slots x (Missed s b) = None
 
 -- What each open search will answer the dictionary said at some front since it was entered.
 abbrev pub SearchesAreAnswered : Type 0
-SearchesAreAnswered = (k : Shape) (m : Memory) (vs : List View) (h : List Mark) → HoldsNow k m vs h → (section : Section) → Searches vs section
+SearchesAreAnswered = (k : Shape) (m : Memory) (vs : List View) (h : List Mark) → HoldsNow k m vs h → (section : Section)
+    → Searches vs section
     → WasSaid (updates_of h) section.key section.from (answer_of m (slot_count k) section.key section.reading.state)
 
 -- Where an open search stands: it passes an old successor that it may pass, or meets the path from the root, or ends at a slot that
@@ -76,32 +79,39 @@ SearchesStand = (k : Shape) (m : Memory) (vs : List View) (h : List Mark) (i : H
 
 -- Only sections entered before a move's update pass its old successor with a key of its interval; after the move's wait none does.
 abbrev pub FewPass : Type 0
-FewPass = (k : Shape) (m : Memory) (vs : List View) (h : List Mark) → HoldsNow k m vs h → (section : Section) → Searches vs section → (move : Move) → IsPending vs move
-    → move.key < section.key → section.key ≤ move.next_key → (hops : ℕ) → Hops m section.key hops (state_slot section.reading.state) move.old
+FewPass = (k : Shape) (m : Memory) (vs : List View) (h : List Mark) → HoldsNow k m vs h → (section : Section) → Searches vs section
+    → (move : Move) → IsPending vs move
+    → move.key < section.key → section.key ≤ move.next_key → (hops : ℕ)
+    → Hops m section.key hops (state_slot section.reading.state) move.old
     → (section.entered < move.made) × (move.waited ≡ false)
 
 -- A record of an empty side, kept or of a section that is open: where the slot is as recorded and its side isn't one that was just
 -- emptied, the search for the key from the root ends there, or the slot is the old successor of a move whose interval holds the key.
 abbrev pub RecordsSay : Type 0
-RecordsSay = (k : Shape) (m : Memory) (vs : List View) (h : List Mark) → HoldsNow k m vs h → (id : ℕ) (v : View) (r : Reading) (s tag : ℕ) (b : Side) → get_elem? vs id ≡ some v → IsIn (readings_of v) r
-    → r.state ≡ Missed s b → IsAsRecorded m r s → known_in r.loads (Tag s b) ≡ Some tag → m (Link s b) ≡ 0 → m (Tag s b) ≡ tag → (IsEmptied vs s b → ⊥)
+RecordsSay = (k : Shape) (m : Memory) (vs : List View) (h : List Mark) → HoldsNow k m vs h
+    → (id : ℕ) (v : View) (r : Reading) (s tag : ℕ) (b : Side) → get_elem? vs id ≡ some v → IsIn (readings_of v) r
+    → r.state ≡ Missed s b → IsAsRecorded m r s → known_in r.loads (Tag s b) ≡ Some tag → m (Link s b) ≡ 0 → m (Tag s b) ≡ tag
+    → (IsEmptied vs s b → ⊥)
     → IsOldFor vs r.key s ⊎ (last_of m r.key (slot_count k) 0 ≡ s)
 
 -- A stamp whose clock was loaded before a wait began isn't above the wait's clock; no stamp is above the clock word, and each wait's
 -- clock is below it.
 abbrev pub StampsAreOld : Type 0
-StampsAreOld = (k : Shape) (m : Memory) (vs : List View) (h : List Mark) → HoldsNow k m vs h → k.waiter ≢ Domain → (i j : ℕ) (v u : View) (wait : Waiting) (section : Section)
+StampsAreOld = (k : Shape) (m : Memory) (vs : List View) (h : List Mark) → HoldsNow k m vs h → k.waiter ≢ Domain
+    → (i j : ℕ) (v u : View) (wait : Waiting) (section : Section)
     → get_elem? vs i ≡ some v → v.wait ≡ Some wait → get_elem? vs j ≡ some u → u.section ≡ Some section
     → (section.clocked ≤ wait.began → section.stamp ≤ wait.clock) × (section.stamp ≤ m Clock) × (wait.clock < m Clock)
 
--- While the front is the even number that a listing loaded first, its walk goes on to what the dictionary has now: for each key strictly
--- between its bounds, the follow from where it stands answers as the dictionary; and it passes an old successor only for keys above
--- that one's.
+-- While the front is the even number that a listing loaded first, it goes on to what the dictionary has now from wherever it has been: for
+-- each key strictly between the bounds, the follow from there answers as the dictionary; and it passes an old successor only for keys
+-- above that one's.
 abbrev pub ListingsGoOn : Type 0
-ListingsGoOn = (k : Shape) (m : Memory) (vs : List View) (h : List Mark) → HoldsNow k m vs h → (id : ℕ) (v : View) (section : Section) (listing : Listing) → get_elem? vs id ≡ some v
-    → v.section ≡ Some section → section.listing ≡ Some listing → IsEven listing.front → m Front ≡ listing.front → listing.slot ≢ 0 → (y : ℕ) → y < 2 ^ 64 → IsBetween listing.bounds y
-    → (follow m (slot_count k) listing.slot y ≡ map_now h y)
-    × ((move : Move) (hops : ℕ) → IsPending vs move → Hops m y hops listing.slot move.old → move.next_key < y)
+ListingsGoOn = (k : Shape) (m : Memory) (vs : List View) (h : List Mark) → HoldsNow k m vs h
+    → (id : ℕ) (v : View) (section : Section) (listing : Listing) (t : Visit) → get_elem? vs id ≡ some v
+    → v.section ≡ Some section → section.listing ≡ Some listing → IsEven listing.front → m Front ≡ listing.front → IsIn listing.visits t
+    → (y : ℕ) → y < 2 ^ 64 → IsBetween t.bounds y
+    → (follow m (slot_count k) t.slot y ≡ map_now h y)
+    × ((move : Move) (hops : ℕ) → IsPending vs move → Hops m y hops t.slot move.old → move.next_key < y)
 
 -- A slot at which an open section stood is linked, or was unlinked after the section was entered.
 abbrev pub StoodIsYoung : Type 0
@@ -119,7 +129,8 @@ pub record HoldsNothing (v : View) : Type 0 where
   pub moving : v.moving ≡ None
 
 abbrev pub EmptyIsFull : Type 0
-EmptyIsFull = (k : Shape) (m : Memory) (vs : List View) (h : List Mark) → HoldsNow k m vs h → (id : ℕ) (v : View) → get_elem? vs id ≡ some v → HoldsNothing v → m Free ≡ 0
+EmptyIsFull = (k : Shape) (m : Memory) (vs : List View) (h : List Mark) → HoldsNow k m vs h → (id : ℕ) (v : View) → get_elem? vs id ≡ some v
+    → HoldsNothing v → m Free ≡ 0
     → k.slots ≤ finite.len (map_of (updates_of h)) + length v.hands.retired + 20 * (k.places - 1)
 
 -- The dictionary has no more pairs than there are slots for them: each place keeps a slot.
@@ -144,7 +155,8 @@ Keeps kind = (k : Shape) (m : Memory) (vs : List View) (h : List Mark) (id : ℕ
 
 -- The same of steps as seats make them, which are noted in their trails.
 abbrev pub KeepsNoted : Kind → Type 0
-KeepsNoted kind = (k : Shape) (m : Memory) (vs : List View) (h : List Mark) (id : ℕ) (v w : View) (field : Field) (left : ℕ) (marks : List Mark)
+KeepsNoted kind = (k : Shape) (m : Memory) (vs : List View) (h : List Mark) (id : ℕ) (v w : View) (field : Field) (left : ℕ)
+    (marks : List Mark)
     → HoldsNow k m vs h → get_elem? vs id ≡ some v → Works v → is_field k field ≡ true → Steps k h v kind field (m field) left w marks
     → IsKept k m h (stored m field left) (set vs id w) (h ++ marks)
 

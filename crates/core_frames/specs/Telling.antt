@@ -1,4 +1,5 @@
--- What the rule tells of one view, which works at a place, between any two steps: by its own words and marks, and by how large the table is.
+-- What the rule tells of one view, which works at a place, between any two steps: by its own words and marks, and by how large the table
+-- is.
 -- Source: docs/TREE.md, "What a step sees".
 use Rattle.std.specs.Prelude.{◌≡◌, ◌≢◌, ℕ, ◌+◌, ◌*◌, ◌^◌, ◌<◌, ◌≤◌, List, [], ◌∷◌, length, map, Some, None}
 use mathlib.Core.Option.{some}
@@ -23,7 +24,8 @@ use Rattle.core_state.specs.Invariant.{HoldsNow}
 
 -- a load of a field of the slot in hand finds what the view knows there
 abbrev pub Tells : View → ℕ → Field → ℕ → Type 0
-Tells v s field n = (held : Held) → v.hands.hand ≡ Some held → held.slot ≡ s → (number : ℕ) → known_in held.known field ≡ Some number → n ≡ number
+Tells v s field n = (held : Held) → v.hands.hand ≡ Some held → held.slot ≡ s → (number : ℕ) → known_in held.known field ≡ Some number
+    → n ≡ number
 
 -- the place's retired slots are distinct
 abbrev pub IsAlone : ℕ → List Retired → Type 0
@@ -42,7 +44,8 @@ TellsMove v h = (move : Move) → v.moving ≡ Some move → (move.key < move.ne
 
 -- a slot whose recorded generation was found under its lock isn't the spare
 abbrev pub TellsAside : View → Type 0
-TellsAside v = (r : Reading) (s generation : ℕ) → IsIn v.records r → LoadedGeneration r s generation → known_in (known_under v s) (Life s) ≡ Some (2 * generation)
+TellsAside v = (r : Reading) (s generation : ℕ) → IsIn v.records r → LoadedGeneration r s generation
+    → known_in (known_under v s) (Life s) ≡ Some (2 * generation)
     → (held : Held) → v.hands.spare ≡ Some held → held.slot ≢ s
 
 -- A link loaded under a lock leads to one of so many slots, whose numbers fit 32 bits: that of a slot whose recorded generation was found
@@ -51,11 +54,13 @@ abbrev pub IsChild : ℕ → ℕ → Type 0
 IsChild n child = (child < n) × (child < 4294967296)
 
 abbrev pub TellsLinks : ℕ → View → Type 0
-TellsLinks n v = (r : Reading) (s generation : ℕ) → IsIn v.records r → LoadedGeneration r s generation → known_in (known_under v s) (Life s) ≡ Some (2 * generation)
+TellsLinks n v = (r : Reading) (s generation : ℕ) → IsIn v.records r → LoadedGeneration r s generation
+    → known_in (known_under v s) (Life s) ≡ Some (2 * generation)
     → (b : Side) (child : ℕ) → known_in (known_under v s) (Link s b) ≡ Some child → IsChild n child
 
 abbrev pub TellsOldLinks : ℕ → View → Type 0
-TellsOldLinks n v = (move : Move) → v.moving ≡ Some move → (b : Side) (child : ℕ) → known_in (known_under v move.old) (Link move.old b) ≡ Some child → IsChild n child
+TellsOldLinks n v = (move : Move) → v.moving ≡ Some move → (b : Side) (child : ℕ)
+    → known_in (known_under v move.old) (Link move.old b) ≡ Some child → IsChild n child
 
 -- What the rule tells of the view, where the table has so many slots and places, and these are its words and all marks.
 pub record IsToldOf (slots places : ℕ) (v : View) (h : List Mark) (word : Field → ℕ) : Type 0 where
@@ -80,4 +85,5 @@ pub record IsToldOf (slots places : ℕ) (v : View) (h : List Mark) (word : Fiel
 
 -- The rule tells so much of each view that works at a place.
 abbrev pub ViewsAreTold : Type 0
-ViewsAreTold = (k : Shape) (m : Memory) (vs : List View) (h : List Mark) (id : ℕ) (v : View) → HoldsNow k m vs h → get_elem? vs id ≡ some v → Works v → IsToldOf k.slots k.places v h m
+ViewsAreTold = (k : Shape) (m : Memory) (vs : List View) (h : List Mark) (id : ℕ) (v : View) → HoldsNow k m vs h → get_elem? vs id ≡ some v
+    → Works v → IsToldOf k.slots k.places v h m

@@ -1,10 +1,21 @@
 //! What the invariant gives, and that a step noted in a trail keeps it too. Each is a function without a body whose promise is the law.
 ghost use Rattle.core_frames.specs.Laws.{LinksAreTree, FollowIsMap, SearchesAreAnswered, SearchesStand, FewPass, RecordsSay, StampsAreOld, StoodIsYoung, EmptyIsFull, PairsFit, ListingsGoOn, FreshHolds, NotesKeep};
 ghost use Rattle.core_frames.specs.Telling.{ViewsAreTold};
+ghost use Rattle.core_frames.specs.Owners.{LocksAreOnes, SlotsAreOnes};
 
 /// The links from the root are a tree of distinct slots in search order.
 pub fn links_are_tree()
     ensures { LinksAreTree }
+{}
+
+/// A lock is held by at most one seat, and so at at most one place: its word names that place, and no other seat holds it.
+pub fn locks_are_ones()
+    ensures { LocksAreOnes }
+{}
+
+/// A slot that a seat has in hand, as its spare or retired is that alone. It is nobody else's, not linked and not free.
+pub fn slots_are_ones()
+    ensures { SlotsAreOnes }
 {}
 
 /// A search from the root answers as the dictionary now.

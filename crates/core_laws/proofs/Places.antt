@@ -21,26 +21,42 @@ set_last (u ∷ vs) v w = ap (λ xs. u ∷ xs) (set_last vs v w)
 
 module _ (split : SplitKeeps) (k : Shape) (m : Memory) where
   -- the last view has the places that are left, and is split
-  pub each_place : (tickets : List ℕ) (vs : List View) (p paid : ℕ) → 1 ≤ length tickets → paid ≡ total (λ t. t) tickets → HoldsNow k m (vs ++ new_view p (length tickets) paid [] ∷ []) [] → HoldsNow k m (vs ++ place_views p tickets) []
+  pub each_place : (tickets : List ℕ) (vs : List View) (p paid : ℕ) → 1 ≤ length tickets → paid ≡ total (λ t. t) tickets
+      → HoldsNow k m (vs ++ new_view p (length tickets) paid [] ∷ []) [] → HoldsNow k m (vs ++ place_views p tickets) []
   each_place [] vs p paid some_place enough now = absurd (omega arith)
-  each_place (t ∷ []) vs p paid some_place enough now = subst (λ x. HoldsNow k m (vs ++ new_view p 1 x [] ∷ []) []) (let e : paid ≡ t = omega arith in e) now
+  each_place (t ∷ []) vs p paid some_place enough now =
+      subst (λ x. HoldsNow k m (vs ++ new_view p 1 x [] ∷ []) []) (let e : paid ≡ t = omega arith in e) now
   each_place (t ∷ (t2 ∷ ts)) vs p paid some_place enough now =
       let n : ℕ = length (t2 ∷ ts) in
       let more : ℕ = total (λ t. t) (t2 ∷ ts) in
       let v : View = new_view p (suc n) paid [] in
       let w : View = new_view p 1 t [] in
       let needs : NeedsSplit v n more = record {
-        quiet = record { section = refl; locks = refl; reserved = refl; hand = refl; moving = refl; owes = refl; commit = refl; raised = refl };
+        quiet = record {
+          section = refl;
+          locks = refl;
+          reserved = refl;
+          hand = refl;
+          moving = refl;
+          owes = refl;
+          commit = refl;
+          raised = refl;
+        };
         some = omega arith;
         few = omega arith;
         paid = omega arith;
       } in
-      let one : HoldsNow k m (set (vs ++ v ∷ []) (length vs) (first_of n more v) ++ second_of n more v ∷ []) [] = split k m (vs ++ v ∷ []) [] (length vs) n more v now (at_last vs v) needs in
-      let two : HoldsNow k m ((vs ++ first_of n more v ∷ []) ++ second_of n more v ∷ []) [] = subst (λ xs. HoldsNow k m (xs ++ second_of n more v ∷ []) []) (set_last vs v (first_of n more v)) one in
+      let one : HoldsNow k m (set (vs ++ v ∷ []) (length vs) (first_of n more v) ++ second_of n more v ∷ []) [] =
+      split k m (vs ++ v ∷ []) [] (length vs) n more v now (at_last vs v) needs in
+      let two : HoldsNow k m ((vs ++ first_of n more v ∷ []) ++ second_of n more v ∷ []) [] =
+      subst (λ xs. HoldsNow k m (xs ++ second_of n more v ∷ []) []) (set_last vs v (first_of n more v)) one in
       let places : suc n - n ≡ 1 = omega arith in
       let left : paid - more ≡ t = omega arith in
       let next : p + suc n - n ≡ p + 1 = omega arith in
       let three : HoldsNow k m ((vs ++ w ∷ []) ++ second_of n more v ∷ []) [] =
-      subst (λ y. HoldsNow k m ((vs ++ new_view p 1 y [] ∷ []) ++ second_of n more v ∷ []) []) left (subst (λ x. HoldsNow k m ((vs ++ new_view p x (paid - more) [] ∷ []) ++ second_of n more v ∷ []) []) places two) in
-      let four : HoldsNow k m ((vs ++ w ∷ []) ++ new_view (p + 1) n more [] ∷ []) [] = subst (λ x. HoldsNow k m ((vs ++ w ∷ []) ++ new_view x n more [] ∷ []) []) next three in
-      subst (λ xs. HoldsNow k m xs []) (append_assoc vs (w ∷ []) (place_views (p + 1) (t2 ∷ ts))) (each_place (t2 ∷ ts) (vs ++ w ∷ []) (p + 1) more (omega arith) refl four)
+      subst (λ y. HoldsNow k m ((vs ++ new_view p 1 y [] ∷ []) ++ second_of n more v ∷ []) []) left
+      (subst (λ x. HoldsNow k m ((vs ++ new_view p x (paid - more) [] ∷ []) ++ second_of n more v ∷ []) []) places two) in
+      let four : HoldsNow k m ((vs ++ w ∷ []) ++ new_view (p + 1) n more [] ∷ []) [] =
+      subst (λ x. HoldsNow k m ((vs ++ w ∷ []) ++ new_view x n more [] ∷ []) []) next three in
+      subst (λ xs. HoldsNow k m xs []) (append_assoc vs (w ∷ []) (place_views (p + 1) (t2 ∷ ts)))
+      (each_place (t2 ∷ ts) (vs ++ w ∷ []) (p + 1) more (omega arith) refl four)

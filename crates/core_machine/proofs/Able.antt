@@ -39,7 +39,8 @@ use Rattle.core_machine.proofs.Tables.{same_table}
 
 none_held : (xs : List ℕ) → ((s : ℕ) → 0 ≡ times s xs) → length xs < 5
 none_held [] e = omega arith
-none_held (x ∷ xs) e = (let q = e x in let here : times x (x ∷ xs) ≡ 1 + times x xs = ap (λ b. cond b 1 0 + times x xs) (eq-eqb x x refl) in absurd (omega arith))
+none_held (x ∷ xs) e = (let q = e x in let here : times x (x ∷ xs) ≡ 1 + times x xs = ap (λ b. cond b 1 0 + times x xs) (eq-eqb x x refl) in
+    absurd (omega arith))
 
 first_long : (t : Target) (i : ℕ) → length (first_locks t i) ≡ i
 first_long t zero = refl
@@ -64,12 +65,15 @@ some_left : (xs : List ℕ) → is_none_left xs ≡ false → 1 ≤ length xs
 some_left [] e = cc
 some_left (x ∷ xs) e = omega arith
 
-first_kept : (rs : List Retired) (r : Retired) (xs : List ℕ) (rest : List Retired) → rs ≡ r ∷ rest → map (λ (r : Retired). r.slot) rs ≡ xs → 1 ≤ length xs
-first_kept rs r xs rest e same = let a = ap length same in let b = length-map rs (λ (r : Retired). r.slot) in let d = ap length e in omega arith
+first_kept : (rs : List Retired) (r : Retired) (xs : List ℕ) (rest : List Retired) → rs ≡ r ∷ rest → map (λ (r : Retired). r.slot) rs ≡ xs
+    → 1 ≤ length xs
+first_kept rs r xs rest e same = let a = ap length same in let b = length-map rs (λ (r : Retired). r.slot) in let d = ap length e in
+    omega arith
 
 -- ---- the next point
 
-module _ (k : Shape) (shape : IsShape k) (o : Own) (v w : View) (h h' : List Mark) (m m' : Memory) (slots : k.slots ≡ o.slots) (places : k.places ≡ o.places) (few : HasFewSlots v) (told : IsTold o v h m) where
+module _ (k : Shape) (shape : IsShape k) (o : Own) (v w : View) (h h' : List Mark) (m m' : Memory) (slots : k.slots ≡ o.slots)
+    (places : k.places ≡ o.places) (few : HasFewSlots v) (told : IsTold o v h m) where
   -- a slot of the next caller's table is a number of 32 bits
   small : (n : ℕ) (stage : Stage) (s : ℕ) → s < table_of (after o n stage) → s < 2 ^ 32
   small n stage s below =
@@ -80,34 +84,42 @@ module _ (k : Shape) (shape : IsShape k) (o : Own) (v w : View) (h h' : List Mar
       let few_places = shape.few_places in
       omega arith
 
-  link_able : (s n : ℕ) (b : Side) → (n ≢ 0 → (let o' : Own = after o n (at.AtLink s b) in Fits o' o'.stage w × IsTold o' w h' m')) → n < 2 ^ 32
+  link_able : (s n : ℕ) (b : Side) → (n ≢ 0 → (let o' : Own = after o n (at.AtLink s b) in Fits o' o'.stage w × IsTold o' w h' m'))
+      → n < 2 ^ 32
   link_able s zero b next = omega arith
   link_able s (suc n) b next =
       let got = next (λ e. absurd (omega arith)) in
       let o' : Own = after o (suc n) (at.AtLink s b) in
-      let is : o'.stage ≡ at.AtKey (suc n) s b = ap (λ z. cond z (ended o.op s b) (at.AtKey (suc n) s b)) (ne_eqb (suc n) 0 (λ e. absurd (omega arith))) in
+      let is : o'.stage ≡ at.AtKey (suc n) s b = ap (λ z. cond z (ended o.op s b) (at.AtKey (suc n) s b))
+      (ne_eqb (suc n) 0 (λ e. absurd (omega arith))) in
       let f : Fits o' (at.AtKey (suc n) s b) w = subst (λ st. Fits o' st w) is got.0 in
       let section = (f.point).1 in
       small (suc n) (at.AtLink s b) (suc n) (got.1.stood section.0 section.1 (suc n) (section.2).here)
 
-  right_able : (d : Node) (n : ℕ) → d.left ≢ 0 → (let o' : Own = after o n (at.NodeRight d) in Fits o' o'.stage w × IsTold o' w h' m') → n < 2 ^ 32
+  right_able : (d : Node) (n : ℕ) → d.left ≢ 0 → (let o' : Own = after o n (at.NodeRight d) in Fits o' o'.stage w × IsTold o' w h' m')
+      → n < 2 ^ 32
   right_able d zero some_child got = omega arith
   right_able d (suc n) some_child got =
       let o' : Own = after o (suc n) (at.NodeRight d) in
       let d' : Node = record d { right = suc n } in
       let u : Successor = record { parent = d.node; slot = suc n; parent_generation = 0; generation = 0 } in
-      let none : ((d.left == 0) || (suc n == 0)) ≡ false = ap (λ z. z || (suc n == 0)) (ne_eqb d.left 0 some_child) ∙ ne_eqb (suc n) 0 (λ e. absurd (omega arith)) in
-      let is : o'.stage ≡ at.SuccessorLeft d' u = ap (λ z. cond z (at.Leave (then.Delete (record { node = d'; successor = None }))) (at.SuccessorLeft d' u)) none in
+      let none : ((d.left == 0) || (suc n == 0)) ≡ false =
+      ap (λ z. z || (suc n == 0)) (ne_eqb d.left 0 some_child) ∙ ne_eqb (suc n) 0 (λ e. absurd (omega arith)) in
+      let is : o'.stage ≡ at.SuccessorLeft d' u = ap (λ z. cond z (at.Leave (then.Delete (record { node = d'; successor = None })))
+      (at.SuccessorLeft d' u)) none in
       let f : Fits o' (at.SuccessorLeft d' u) w = subst (λ st. Fits o' st w) is got.0 in
       let section = (f.point).2 in
       small (suc n) (at.NodeRight d) (suc n) (got.1.stood section.0 section.1 (suc n) ((section.3).1.1).slot_stood)
 
-  left_able : (d : Node) (u : Successor) (n : ℕ) → (let o' : Own = after o n (at.SuccessorLeft d u) in Fits o' o'.stage w × IsTold o' w h' m') → n < 2 ^ 32
+  left_able : (d : Node) (u : Successor) (n : ℕ)
+      → (let o' : Own = after o n (at.SuccessorLeft d u) in Fits o' o'.stage w × IsTold o' w h' m') → n < 2 ^ 32
   left_able d u zero got = omega arith
   left_able d u (suc n) got =
       let o' : Own = after o (suc n) (at.SuccessorLeft d u) in
       let u' : Successor = record u { parent = u.slot; slot = suc n } in
-      let is : o'.stage ≡ at.SuccessorLeft d u' = ap (λ z. cond z (cond (u.parent == d.node) (at.SuccessorLife d u) (at.SuccessorParentLife d u)) (at.SuccessorLeft d u')) (ne_eqb (suc n) 0 (λ e. absurd (omega arith))) in
+      let is : o'.stage ≡ at.SuccessorLeft d u' = ap (λ z. cond z
+      (cond (u.parent == d.node) (at.SuccessorLife d u) (at.SuccessorParentLife d u)) (at.SuccessorLeft d u'))
+      (ne_eqb (suc n) 0 (λ e. absurd (omega arith))) in
       let f : Fits o' (at.SuccessorLeft d u') w = subst (λ st. Fits o' st w) is got.0 in
       let section = (f.point).2 in
       small (suc n) (at.SuccessorLeft d u) (suc n) (got.1.stood section.0 section.1 (suc n) ((section.3).1.1).slot_stood)
@@ -119,8 +131,10 @@ module _ (k : Shape) (shape : IsShape k) (o : Own) (v w : View) (h h' : List Mar
   kept_long : (f : map (λ (r : Retired). r.slot) v.hands.retired ≡ o.retired) → length v.hands.retired ≡ length o.retired
   kept_long f = sym (length-map v.hands.retired (λ (r : Retired). r.slot)) ∙ ap length f
 
-  pub able : (stage : Stage) (n : ℕ) → Fits o stage v → WordFits k (field_of o.place (act_at o stage)) n → WordFits k (field_of o.place (act_at o stage)) (left_of o.place (act_at o stage) n)
-      → let told : ℕ = said_by (access_of o.place (act_at o stage)) n in (let o' : Own = after o told stage in Fits o' o'.stage w × IsTold o' w h' m') → IsAble o told stage
+  pub able : (stage : Stage) (n : ℕ) → Fits o stage v → WordFits k (field_of o.place (act_at o stage)) n
+      → WordFits k (field_of o.place (act_at o stage)) (left_of o.place (act_at o stage) n)
+      → let told : ℕ = said_by (access_of o.place (act_at o stage)) n in
+      (let o' : Own = after o told stage in Fits o' o'.stage w × IsTold o' w h' m') → IsAble o told stage
   able (at.AtLink s b) n f word left next = link_able s n b (λ e. next)
   able (at.LeafField spot i) n f word left next = (f.point).5
   able (at.LeafLock spot) n f word left next = free_locks f.owns.locks_are (((f.point).2).0)
@@ -134,12 +148,15 @@ module _ (k : Shape) (shape : IsShape k) (o : Own) (v w : View) (h h' : List Mar
       (((f.point).3).0, (let key = is.2 in let below = t.0 in let fits = t.1 in omega arith))
   able (at.LookStamp (Reuse aim) clock p key) n f word left next = (f.point).2
   able (at.LookStamp (Move move) clock p key) n f word left next = ((f.point).3).0
-  able (at.OldRaise aim life) n f word left next = let has = (f.point).3 in first_kept v.hands.retired has.0 o.retired has.1 has.2 f.owns.retired_are
-  able (at.OldFree aim) n f word left next = let has = (f.point).3 in first_kept v.hands.retired has.0 o.retired has.1 has.2 f.owns.retired_are
+  able (at.OldRaise aim life) n f word left next = let has = (f.point).3 in
+      first_kept v.hands.retired has.0 o.retired has.1 has.2 f.owns.retired_are
+  able (at.OldFree aim) n f word left next = let has = (f.point).3 in
+      first_kept v.hands.retired has.0 o.retired has.1 has.2 f.owns.retired_are
   able (at.OldCount aim) n f word left next = omega arith
   able (at.Commit u expected) n f word left next = omega arith
   able (at.Store (update.Bypass d child) front) n f word left next = (let room = ((f.point).1).1.room ((f.point).1).0 in omega arith)
-  able (at.Store (update.Copy d u next_key copy) front) n f word left next = (let room = (((f.point).0).1).1.room (((f.point).0).1).0 in omega arith)
+  able (at.Store (update.Copy d u next_key copy) front) n f word left next =
+      (let room = (((f.point).0).1).1.room (((f.point).0).1).0 in omega arith)
   able (at.Even u front) n f word left next = omega arith
   able (at.Unlock last.Again) n f word left next = some_left o.locks (((f.point).0).6)
   able (at.Unlock (last.New number)) n f word left next = some_left o.locks (((f.point).0).6)
@@ -159,17 +176,21 @@ module _ (k : Shape) (shape : IsShape k) (o : Own) (v w : View) (h h' : List Mar
       let t : Target = record { node = d; successor = Some u } in
       let long : length o.locks ≡ target_locks t = ap length (((f.point).0).4) ∙ first_long t (target_locks t) in
       let most = few_locks t in omega arith
-  able (at.Unlink move child) n f word left next = (let is = ((f.point).0).6 in let room = few.room is.0 is.1 in let long = kept_long f.owns.retired_are in omega arith)
+  able (at.Unlink move child) n f word left next =
+      (let is = ((f.point).0).6 in let room = few.room is.0 is.1 in let long = kept_long f.owns.retired_are in omega arith)
   able _ n f word left next = tt
 
-raised_fits : (k : Shape) (place n s x : ℕ) (b : Bool) → let a : Act = cond b (RaiseRetired s x) (RaiseToSpare s x) in WordFits k (field_of place a) (left_of place a n) → x < 2 ^ 64
+raised_fits : (k : Shape) (place n s x : ℕ) (b : Bool) → let a : Act = cond b (RaiseRetired s x) (RaiseToSpare s x) in
+    WordFits k (field_of place a) (left_of place a n) → x < 2 ^ 64
 raised_fits k place n s x true fits = omega arith
 raised_fits k place n s x false fits = omega arith
 
 -- a number that is stored, and counted up for it, fits
-pub may_store : (k : Shape) (v : View) (o : Own) (n : ℕ) (stage : Stage) → Needs k v n (act_at o stage) → WordFits k (field_of o.place (act_at o stage)) (left_of o.place (act_at o stage) n) → MayStore o stage
+pub may_store : (k : Shape) (v : View) (o : Own) (n : ℕ) (stage : Stage) → Needs k v n (act_at o stage)
+    → WordFits k (field_of o.place (act_at o stage)) (left_of o.place (act_at o stage) n) → MayStore o stage
 may_store k v o n at.Raise needs fits = omega arith
-may_store k v o n (at.OldRaise aim life) needs fits = raised_fits k o.place n (first_or_root o.retired) (2 * (life / 2 + 1)) (is_some o.spare) fits
+may_store k v o n (at.OldRaise aim life) needs fits =
+    raised_fits k o.place n (first_or_root o.retired) (2 * (life / 2 + 1)) (is_some o.spare) fits
 may_store k v o n (at.Commit u expected) needs fits = needs.even
 may_store k v o n (at.Even u front) needs fits = omega arith
 may_store k v o n (at.Mark d child) needs fits = omega arith

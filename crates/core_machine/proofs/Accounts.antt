@@ -73,18 +73,22 @@ length_set [] i x = refl
 length_set (y ∷ xs) zero x = refl
 length_set (y ∷ xs) (suc i) x = let rest = length_set xs i x in omega arith
 
-slice_past : (us more : List Update) (i : ℕ) (u : Update) → slice_get (us ++ more) i ≡ Some u → length us ≤ i → slice_get more (i - length us) ≡ Some u
+slice_past : (us more : List Update) (i : ℕ) (u : Update) → slice_get (us ++ more) i ≡ Some u → length us ≤ i
+    → slice_get more (i - length us) ≡ Some u
 slice_past [] more i u there past = (let e : i - 0 ≡ i = omega arith in rw e there)
 slice_past (v ∷ us) more zero u there past = absurd (omega arith)
-slice_past (v ∷ us) more (suc i) u there past = (let e : suc i - suc (length us) ≡ i - length us = omega arith in rw e (slice_past us more i u there (omega arith)))
+slice_past (v ∷ us) more (suc i) u there past =
+    (let e : suc i - suc (length us) ≡ i - length us = omega arith in rw e (slice_past us more i u there (omega arith)))
 
 -- the lines of a list that is shorter than its script
-lines_shorter : (done todo : List Op) (tolds : List Told) → length tolds ≡ length done → told_lines (done ++ todo) tolds ≡ told_lines done tolds
+lines_shorter : (done todo : List Op) (tolds : List Told) → length tolds ≡ length done
+    → told_lines (done ++ todo) tolds ≡ told_lines done tolds
 lines_shorter [] [] [] same = refl
 lines_shorter [] (op ∷ ops) [] same = refl
 lines_shorter [] todo (t ∷ ts) same = absurd (omega (arith, same))
 lines_shorter (op ∷ ops) todo [] same = absurd (omega (arith, same))
-lines_shorter (op ∷ ops) todo (t ∷ ts) same = ap (λ xs. record { op = op; reply = t.reply; number = t.number } ∷ xs) (lines_shorter ops todo ts (omega (arith, same)))
+lines_shorter (op ∷ ops) todo (t ∷ ts) same = ap (λ xs. record { op = op; reply = t.reply; number = t.number } ∷ xs)
+    (lines_shorter ops todo ts (omega (arith, same)))
 
 -- ---- the run
 
@@ -95,15 +99,22 @@ room_of scripts slots = record { scripts = length scripts; slots = slots }
 pub record AllTell (scripts : List (List Op)) (slots : ℕ) (c : Core) : Type 0 where
   pub count : length c.owns ≡ length scripts
   pub viewed : length c.views ≡ length scripts
-  pub tells : (i : ℕ) (script : List Op) (o : Own) (v : View) → get_elem? scripts i ≡ some script → get_elem? c.owns i ≡ some o → get_elem? c.views i ≡ some v → Tells (record { scripts = length scripts; slots = slots }) i script o v.section c.marks
+  pub tells : (i : ℕ) (script : List Op) (o : Own) (v : View) → get_elem? scripts i ≡ some script → get_elem? c.owns i ≡ some o
+      → get_elem? c.views i ≡ some v → Tells (record { scripts = length scripts; slots = slots }) i script o v.section c.marks
 
-module _ (scripts : List (List Op)) (slots : ℕ) (c : Core) (i : ℕ) (o : Own) (v : View) (run : IsRun (shape_of slots scripts) c) (all : AllTell scripts slots c) (own : get_elem? c.owns i ≡ some o) (view : get_elem? c.views i ≡ some v) (going : is_finished o.stage ≡ false) where
+module _ (scripts : List (List Op)) (slots : ℕ) (c : Core) (i : ℕ) (o : Own) (v : View) (run : IsRun (shape_of slots scripts) c)
+    (all : AllTell scripts slots c) (own : get_elem? c.owns i ≡ some o) (view : get_elem? c.views i ≡ some v)
+    (going : is_finished o.stage ≡ false) where
   turned : (script : List Op) → get_elem? scripts i ≡ some script
-      → let a : Act = act_at o o.stage in let n : ℕ = told_in c o in let w : View = noted v a n in Tells (record { scripts = length scripts; slots = slots }) i script (after o n o.stage) (view_after w c.marks n a).section (c.marks ++ marks_of w n a)
+      → let a : Act = act_at o o.stage in let n : ℕ = told_in c o in let w : View = noted v a n in
+      Tells (record { scripts = length scripts; slots = slots }) i script (after o n o.stage) (view_after w c.marks n a).section
+      (c.marks ++ marks_of w n a)
   turned script es =
       let k : Shape = shape_of slots scripts in
       let caller = run.callers i o v own view in
-      turn k c.memory c.views c.marks i o v script run.holds.now view (caller.fits.owns.same ∙ caller.place) run.eer caller.places caller.fits.owns.works (is_told k c i o v run own view) o.stage going caller.fits (all.tells i script o v es own view)
+      turn k c.memory c.views c.marks i o v script run.holds.now view
+      (caller.fits.owns.same ∙ caller.place) run.eer caller.places caller.fits.owns.works
+      (is_told k c i o v run own view) o.stage going caller.fits (all.tells i script o v es own view)
 
   pub moves_tell : AllTell scripts slots (moved c i o v)
   moves_tell =
@@ -120,25 +131,31 @@ module _ (scripts : List (List Op)) (slots : ℕ) (c : Core) (i : ℕ) (o : Own)
         tells = λ j script u x es eu ex. ⊎_elim
             (λ (mine : (j ≡ i) × (o' ≡ u)). ⊎_elim
             (λ (seen : (j ≡ i) × (v' ≡ x)).
-            subst (λ z. Tells (record { scripts = length scripts; slots = slots }) z script u x.section (c.marks ++ marks_of w n a)) (sym mine.0)
-            (subst (λ (z : Own × View). Tells (record { scripts = length scripts; slots = slots }) i script z.0 z.1.section (c.marks ++ marks_of w n a)) (λ t. (mine.1 t, seen.1 t)) (turned script (subst (λ z. get_elem? scripts z ≡ some script) mine.0 es))))
+            subst (λ z. Tells (record { scripts = length scripts; slots = slots }) z script u x.section (c.marks ++ marks_of w n a))
+            (sym mine.0)
+            (subst (λ (z : Own × View). Tells (record { scripts = length scripts; slots = slots }) i script z.0 z.1.section
+            (c.marks ++ marks_of w n a)) (λ t. (mine.1 t, seen.1 t))
+            (turned script (subst (λ z. get_elem? scripts z ≡ some script) mine.0 es))))
             (λ (other : (j ≢ i) × (get_elem? c.views j ≡ some x)). absurd (other.0 mine.0))
             (set_cases c.views i j v v' x view ex))
             (λ (others : (j ≢ i) × (get_elem? c.owns j ≡ some u)). ⊎_elim
             (λ (seen : (j ≡ i) × (v' ≡ x)). absurd (others.0 seen.0))
             (λ (other : (j ≢ i) × (get_elem? c.views j ≡ some x)).
-            others_tell (record { scripts = length scripts; slots = slots }) j script u x.section c.marks (marks_of w n a) (others_none w n j (λ e. others.0 (sym e ∙ place)) a) (all.tells j script u x es others.1 other.1))
+            others_tell (record { scripts = length scripts; slots = slots }) j script u x.section c.marks (marks_of w n a)
+            (others_none w n j (λ e. others.0 (sym e ∙ place)) a) (all.tells j script u x es others.1 other.1))
             (set_cases c.views i j v v' x view ex))
             (set_cases c.owns i j o o' u own eu);
       }
 
 -- a caller at its first point
-first_tells : (room : Room) (p : ℕ) (x : Own) (script : List Op) (section : Opt Section) → x.told ≡ [] → Tells room p script (begun_with x script) section []
+first_tells : (room : Room) (p : ℕ) (x : Own) (script : List Op) (section : Opt Section) → x.told ≡ []
+    → Tells room p script (begun_with x script) section []
 first_tells room p x [] section none_told = record {
   done = [];
   own = [];
   seen = [];
-  told = subst (λ ts. HasTold (Explains room) (newcomer p) [] ts (at_answer p [] [])) (sym none_told) (told_nothing (Explains room) (newcomer p) refl refl);
+  told = subst (λ ts. HasTold (Explains room) (newcomer p) [] ts (at_answer p [] [])) (sym none_told)
+      (told_nothing (Explains room) (newcomer p) refl refl);
   todo = [];
   whole = refl;
   marks = [];
@@ -151,7 +168,8 @@ first_tells room p x (op ∷ ops) section none_told =
       done = [];
       own = [];
       seen = [];
-      told = subst (λ ts. HasTold (Explains room) (newcomer p) [] ts (at_answer p [] [])) (sym none_told) (told_nothing (Explains room) (newcomer p) refl refl);
+      told = subst (λ ts. HasTold (Explains room) (newcomer p) [] ts (at_answer p [] [])) (sym none_told)
+          (told_nothing (Explains room) (newcomer p) refl refl);
       todo = op ∷ ops;
       whole = refl;
       marks = [];
@@ -160,12 +178,15 @@ first_tells room p x (op ∷ ops) section none_told =
       known = subst (λ q. Known room q (at_answer p [] []) op [] [] section) (sym first.1) refl;
     }
 
-firsts_tell : (room : Room) (k : Shape) (p : ℕ) (scripts : List (List Op)) (i : ℕ) (script : List Op) (o : Own) (section : Opt Section) → get_elem? scripts i ≡ some script → get_elem? (made_owns k p scripts) i ≡ some o → Tells room (p + i) script o section []
+firsts_tell : (room : Room) (k : Shape) (p : ℕ) (scripts : List (List Op)) (i : ℕ) (script : List Op) (o : Own) (section : Opt Section)
+    → get_elem? scripts i ≡ some script → get_elem? (made_owns k p scripts) i ≡ some o → Tells room (p + i) script o section []
 firsts_tell room k p [] i script o section es eo = absurd (cc)
 firsts_tell room k p (s ∷ ss) zero script o section es eo =
     let here : p ≡ p + 0 = omega arith in
     subst (λ z. Tells room z script o section []) here
-    (subst (λ z. Tells room p z o section []) (some-injective s script es) (subst (λ z. Tells room p s z section []) (some-injective (begun_with (new_own k p) s) o eo) (first_tells room p (new_own k p) s section refl)))
+    (subst (λ z. Tells room p z o section []) (some-injective s script es)
+    (subst (λ z. Tells room p s z section []) (some-injective (begun_with (new_own k p) s) o eo)
+    (first_tells room p (new_own k p) s section refl)))
 firsts_tell room k p (s ∷ ss) (suc i) script o section es eo =
     let next : p + 1 + i ≡ p + suc i = omega arith in
     subst (λ z. Tells room z script o section []) next (firsts_tell room k (p + 1) ss i script o section es eo)
@@ -182,16 +203,22 @@ made_tell : (scripts : List (List Op)) (slots : ℕ) → AllTell scripts slots (
 made_tell scripts slots = record {
   count = owns_count (shape_of slots scripts) 0 scripts;
   viewed = views_count 0 scripts;
-  tells = λ i script o v es eo ev. subst (λ z. Tells (record { scripts = length scripts; slots = slots }) z script o v.section []) (omega arith) (firsts_tell (record { scripts = length scripts; slots = slots }) (shape_of slots scripts) 0 scripts i script o v.section es eo);
+  tells = λ i script o v es eo ev. subst (λ z. Tells (record { scripts = length scripts; slots = slots }) z script o v.section [])
+      (omega arith) (firsts_tell (record { scripts = length scripts; slots = slots })
+      (shape_of slots scripts) 0 scripts i script o v.section es eo);
 }
 
-all_tell : (scripts : List (List Op)) (slots : ℕ) (c : Core) (callers : List ℕ) → IsRun (shape_of slots scripts) c → AllTell scripts slots c → AllTell scripts slots (steps c callers)
+all_tell : (scripts : List (List Op)) (slots : ℕ) (c : Core) (callers : List ℕ) → IsRun (shape_of slots scripts) c → AllTell scripts slots c
+    → AllTell scripts slots (steps c callers)
 all_tell scripts slots c [] run all = all
 all_tell scripts slots c (i ∷ is) run all =
-    all_tell scripts slots (step c i) is (step_runs (shape_of slots scripts) c i run) (step_by (AllTell scripts slots) c i all (λ o v eo ev e. moves_tell scripts slots c i o v run all eo ev e))
+    all_tell scripts slots (step c i) is (step_runs (shape_of slots scripts) c i run)
+    (step_by (AllTell scripts slots) c i all (λ o v eo ev e. moves_tell scripts slots c i o v run all eo ev e))
 
-pub cores_tell : (scripts : List (List Op)) (slots : ℕ) (callers : List ℕ) → IsMachine scripts slots → AllTell scripts slots (core scripts slots callers)
-cores_tell scripts slots callers m = all_tell scripts slots (core scripts slots []) callers (made_runs scripts slots m) (made_tell scripts slots)
+pub cores_tell : (scripts : List (List Op)) (slots : ℕ) (callers : List ℕ) → IsMachine scripts slots
+    → AllTell scripts slots (core scripts slots callers)
+cores_tell scripts slots callers m = all_tell scripts slots (core scripts slots []) callers (made_runs scripts slots m)
+    (made_tell scripts slots)
 
 -- ---- what is explained
 
@@ -289,7 +316,8 @@ untold_is (at.OldMark m) = refl
 untold_is (at.OldRight m) = refl
 untold_is (at.Unlink m child) = refl
 
-module _ (room : Room) (i : ℕ) (script : List Op) (o : Own) (section : Opt Section) (h : List Mark) (t : Tells room i script o section h) where
+module _ (room : Room) (i : ℕ) (script : List Op) (o : Own) (section : Opt Section) (h : List Mark)
+    (t : Tells room i script o section h) where
   us : List Update
   us = updates_of t.seen
 
@@ -307,7 +335,9 @@ module _ (room : Room) (i : ℕ) (script : List Op) (o : Own) (section : Opt Sec
   seen_own = t.told.met ∙ own_is
 
   rest_own : own_of i t.since.seen.0 ≡ t.marks
-  rest_own = append_cancel_left t.own (own_of i t.since.seen.0) t.marks (ap (λ xs. xs ++ own_of i t.since.seen.0) (sym seen_own) ∙ sym (own_of-append i t.seen t.since.seen.0) ∙ ap (own_of i) t.since.seen.1 ∙ t.since.own)
+  rest_own = append_cancel_left t.own (own_of i t.since.seen.0) t.marks
+      (ap (λ xs. xs ++ own_of i t.since.seen.0) (sym seen_own) ∙ sym (own_of-append i t.seen t.since.seen.0) ∙ ap (own_of i) t.since.seen.1
+      ∙ t.since.own)
 
   long : length o.told ≡ length t.done
   long = t.told.lengths
@@ -319,21 +349,27 @@ module _ (room : Room) (i : ℕ) (script : List Op) (o : Own) (section : Opt Sec
   lines_are = ap (λ ops. told_lines ops o.told) (sym t.whole) ∙ lines_shorter t.done t.todo o.told t.told.lengths
 
   -- none, or one
-  later_updates : (p : Phase) → Known room p (at_answer i t.own t.seen) o.op h t.marks section → own_updates_from (1 + length (updates_of t.seen)) i (updates_of t.since.seen.0) ≡ at_position (position_of p) o.op
+  later_updates : (p : Phase) → Known room p (at_answer i t.own t.seen) o.op h t.marks section
+      → own_updates_from (1 + length (updates_of t.seen)) i (updates_of t.since.seen.0) ≡ at_position (position_of p) o.op
   later_updates p known = by p known
     where
       nothing : updates_of t.marks ≡ [] → own_updates_from (1 + length (updates_of t.seen)) i (updates_of t.since.seen.0) ≡ []
       nothing e = no_own_update i (1 + length (updates_of t.seen)) t.since.seen.0 (ap updates_of rest_own ∙ e)
 
-      one : (number : ℕ) (reply : Reply) → HasMadeUpdate (at_answer i t.own t.seen) o.op (record { reply = reply; number = number }) t.marks h → own_updates_from (1 + length (updates_of t.seen)) i (updates_of t.since.seen.0) ≡ record { position = number; op = o.op } ∷ []
+      one : (number : ℕ) (reply : Reply) → HasMadeUpdate (at_answer i t.own t.seen) o.op
+          (record { reply = reply; number = number }) t.marks h
+          → own_updates_from (1 + length (updates_of t.seen)) i (updates_of t.since.seen.0) ≡ record { position = number; op = o.op } ∷ []
       one number reply m =
           let later = m.later in
-          let there = slice_past (updates_of t.seen) (updates_of t.since.seen.0) (number - 1) (record { caller = i; op = o.op }) (subst (λ z. slice_get z (number - 1) ≡ Some (record { caller = i; op = o.op })) whole_is m.stands) (omega arith) in
+          let there = slice_past (updates_of t.seen) (updates_of t.since.seen.0) (number - 1) (record { caller = i; op = o.op })
+          (subst (λ z. slice_get z (number - 1) ≡ Some (record { caller = i; op = o.op })) whole_is m.stands) (omega arith) in
           let at : 1 + length (updates_of t.seen) + (number - 1 - length (updates_of t.seen)) ≡ number = omega arith in
-          one_own_update i (1 + length (updates_of t.seen)) (number - 1 - length (updates_of t.seen)) t.since.seen.0 (record { caller = i; op = o.op }) (record { caller = i; op = o.op }) (ap updates_of rest_own ∙ m.left) there refl
+          one_own_update i (1 + length (updates_of t.seen)) (number - 1 - length (updates_of t.seen)) t.since.seen.0
+          (record { caller = i; op = o.op }) (record { caller = i; op = o.op }) (ap updates_of rest_own ∙ m.left) there refl
           ∙ (λ j. record { position = at j; op = o.op } ∷ [])
 
-      by : (p : Phase) → Known room p (at_answer i t.own t.seen) o.op h t.marks section → own_updates_from (1 + length (updates_of t.seen)) i (updates_of t.since.seen.0) ≡ at_position (position_of p) o.op
+      by : (p : Phase) → Known room p (at_answer i t.own t.seen) o.op h t.marks section
+          → own_updates_from (1 + length (updates_of t.seen)) i (updates_of t.since.seen.0) ≡ at_position (position_of p) o.op
       by searching known = nothing known
       by inside known = nothing known.0
       by outside known = nothing known.0
@@ -347,14 +383,22 @@ module _ (room : Room) (i : ℕ) (script : List Op) (o : Own) (section : Opt Sec
       let a : List Update = updates_of t.seen in
       let b : List Update = updates_of t.since.seen.0 in record {
         shorter = (let x = long in let y = whole_long in omega arith);
-        whole = λ e. (let left = subst (λ z. IsToDo z o t.todo t.marks) e t.left in let x = long in let y = whole_long in let z = ap length left.0 in omega arith);
+        whole = λ e. (let left = subst (λ z. IsToDo z o t.todo t.marks) e t.left in let x = long in let y = whole_long in
+            let z = ap length left.0 in omega arith);
         next = λ e. (let left = subst (λ z. IsToDo z o t.todo t.marks) e t.left in
-            subst (λ (z : List Op × ℕ). get_elem? z.0 z.1 ≡ some o.op) (λ j. ((ap (λ ops. t.done ++ ops) (sym left) ∙ t.whole) j, sym long j)) (elem_append t.done o.op o.rest));
-        updates = ap (own_updates i) whole_is ∙ own_updates_from-append 1 i a b ∙ ap (λ xs. xs ++ own_updates_from (1 + length a) i b) t.told.updates ∙ ap (λ xs. told_updates lines ++ xs) (later_updates (phase o.stage) t.known)
+            subst (λ (z : List Op × ℕ). get_elem? z.0 z.1 ≡ some o.op)
+            (λ j. ((ap (λ ops. t.done ++ ops) (sym left) ∙ t.whole) j, sym long j)) (elem_append t.done o.op o.rest));
+        updates = ap (own_updates i) whole_is ∙ own_updates_from-append 1 i a b
+            ∙ ap (λ xs. xs ++ own_updates_from (1 + length a) i b) t.told.updates
+            ∙ ap (λ xs. told_updates lines ++ xs) (later_updates (phase o.stage) t.known)
             ∙ (λ j. told_updates (sym lines_are j) ++ at_position (sym (untold_is o.stage) j) o.op);
-        confirmed = subst (λ us. AllByRecursion (IsConfirmed us) (told_lines script o.told)) (sym whole_is) (subst (λ ls. AllByRecursion (IsConfirmed (a ++ b)) ls) (sym lines_are)
-            (all_map (IsSettled (a ++ b)) (IsConfirmed (a ++ b)) lines (λ line s. s.confirmed) (all_map (IsSettled a) (IsSettled (a ++ b)) lines (settled_longer a b) t.told.settled)));
-        fronts = subst (λ us. CanBeNumbered room us (told_lines script o.told)) (sym whole_is) (subst (λ ls. CanBeNumbered room (a ++ b) ls) (sym lines_are) (t.told.numbers, MayStandBesideBy-longer (Explains room) a b 0 lines t.told.numbers t.told.beside));
+        confirmed = subst (λ us. AllByRecursion (IsConfirmed us) (told_lines script o.told)) (sym whole_is)
+            (subst (λ ls. AllByRecursion (IsConfirmed (a ++ b)) ls) (sym lines_are)
+            (all_map (IsSettled (a ++ b)) (IsConfirmed (a ++ b)) lines (λ line s. s.confirmed)
+            (all_map (IsSettled a) (IsSettled (a ++ b)) lines (settled_longer a b) t.told.settled)));
+        fronts = subst (λ us. CanBeNumbered room us (told_lines script o.told)) (sym whole_is)
+            (subst (λ ls. CanBeNumbered room (a ++ b) ls) (sym lines_are)
+            (t.told.numbers, MayStandBesideBy-longer (Explains room) a b 0 lines t.told.numbers t.told.beside));
       }
 
 -- ---- the laws
@@ -369,21 +413,25 @@ tolds_are_explained scripts slots callers machine =
       each = λ i script o es eo.
           let below = at_below scripts i script es in
           let v = elem_at c.views i (let n = all.viewed in omega arith) in
-          told_so_far (record { scripts = length scripts; slots = slots }) i script o (v.0).section c.marks (all.tells i script o v.0 es eo v.1);
+          told_so_far (record { scripts = length scripts; slots = slots }) i script o (v.0).section c.marks
+          (all.tells i script o v.0 es eo v.1);
       others = λ p past. no_own_update p 1 c.marks (ap updates_of (run.holds.now.seats.within p past));
     }
 
-none_left : (os : List Own) (from : ℕ) → unfinished_from from os ≡ [] → (i : ℕ) (o : Own) → get_elem? os i ≡ some o → is_finished o.stage ≡ true
+none_left : (os : List Own) (from : ℕ) → unfinished_from from os ≡ [] → (i : ℕ) (o : Own) → get_elem? os i ≡ some o
+    → is_finished o.stage ≡ true
 none_left [] from e i o there = absurd (cc)
 none_left (x ∷ os) from e i o there = by (is_finished x.stage) refl e i there (λ z k at. none_left os (from + 1) z k o at)
   where
-    by : (b : Bool) → is_finished x.stage ≡ b → cond b (unfinished_from (from + 1) os) (from ∷ unfinished_from (from + 1) os) ≡ [] → (i : ℕ) → get_elem? (x ∷ os) i ≡ some o
+    by : (b : Bool) → is_finished x.stage ≡ b → cond b (unfinished_from (from + 1) os) (from ∷ unfinished_from (from + 1) os) ≡ [] → (i : ℕ)
+        → get_elem? (x ∷ os) i ≡ some o
         → (unfinished_from (from + 1) os ≡ [] → (k : ℕ) → get_elem? os k ≡ some o → is_finished o.stage ≡ true) → is_finished o.stage ≡ true
     by true is e zero there later = subst (λ (z : Own). is_finished z.stage ≡ true) (some-injective x o there) is
     by true is e (suc i) there later = later e i there
     by false is e i there later = absurd (cc)
 
-have_told : (scripts : List (List Op)) (slots : ℕ) (c : Core) → IsRun (shape_of slots scripts) c → AllTell scripts slots c → unfinished c ≡ [] → HaveTold (Explains (record { scripts = length scripts; slots = slots })) scripts (tolds_of c) c.marks
+have_told : (scripts : List (List Op)) (slots : ℕ) (c : Core) → IsRun (shape_of slots scripts) c → AllTell scripts slots c
+    → unfinished c ≡ [] → HaveTold (Explains (record { scripts = length scripts; slots = slots })) scripts (tolds_of c) c.marks
 have_told scripts slots c run all over = record {
   count = length-map c.owns (λ (o : Own). o.told) ∙ all.count;
   each = λ i below.
@@ -396,7 +444,10 @@ have_told scripts slots c run all over = record {
       let done : t.done ≡ s.0 = sym (append-nil t.done) ∙ ap (λ ops. t.done ++ ops) (sym left.0) ∙ t.whole in (
         at_answer i t.own t.seen,
         subst (λ (z : List Op × List Told). HasTold (Explains room) (newcomer i) z.0 z.1 (at_answer i t.own t.seen))
-            (λ j. ((done ∙ sym (get_or_elem scripts i [] s.0 s.1)) j, sym (get_or_elem (map (λ (x : Own). x.told) c.owns) i [] (o.0).told (elem_map c.owns i o.0 o.1)) j)) t.told,
+            (λ j. (
+              (done ∙ sym (get_or_elem scripts i [] s.0 s.1)) j,
+              sym (get_or_elem (map (λ (x : Own). x.told) c.owns) i [] (o.0).told (elem_map c.owns i o.0 o.1)) j,
+            )) t.told,
         t.since.seen,
         t.since.own ∙ ap (λ ms. t.own ++ ms) left.1 ∙ append-nil t.own ∙ sym (own_is room i s.0 o.0 (v.0).section c.marks t),
       );
@@ -408,7 +459,8 @@ pub ends_are_explained : EndsAreExplained
 ends_are_explained scripts slots callers machine over =
     let c : Core = core scripts slots callers in
     let room : Room = record { scripts = length scripts; slots = slots } in
-    let told : HaveTold (Explains room) scripts (tolds_of c) c.marks = have_told scripts slots c (core_runs scripts slots callers machine) (cores_tell scripts slots callers machine) over in (
+    let told : HaveTold (Explains room) scripts (tolds_of c) c.marks =
+    have_told scripts slots c (core_runs scripts slots callers machine) (cores_tell scripts slots callers machine) over in (
       record {
         lengths = run_lengths (Explains room) scripts (tolds_of c) c.marks told;
         explained = record {

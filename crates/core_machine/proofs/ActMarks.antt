@@ -23,17 +23,31 @@ module _ (i key : ℕ) (us : List Update) (v : View) (place : v.allowance.place 
       record { mine = m ∷ []; own = own_one i m (eq-eqb v.allowance.place i place); keyed = (place, tt); waits = (tt, tt); updates = refl }
 
   -- a wait begins
-  pub began_adds : (count low high : ℕ) → WaitsFor us (Began v.allowance.place count low high) → Adds i key us (Began v.allowance.place count low high ∷ [])
+  pub began_adds : (count low high : ℕ) → WaitsFor us (Began v.allowance.place count low high)
+      → Adds i key us (Began v.allowance.place count low high ∷ [])
   began_adds count low high waits =
       let m : Mark = Began v.allowance.place count low high in
-      record { mine = m ∷ []; own = own_one i m (eq-eqb v.allowance.place i place); keyed = (place, tt); waits = (waits, tt); updates = refl }
+      record {
+        mine = m ∷ [];
+        own = own_one i m (eq-eqb v.allowance.place i place);
+        keyed = (place, tt);
+        waits = (waits, tt);
+        updates = refl;
+      }
 
   -- a look, which may end its wait
   pub look_adds : (wait : Waiting) (field : Field) (last : Bool) (n : ℕ) → Adds i key us (look_marks v wait field last n)
   look_adds wait field last n = by_end (excuses wait field n && last)
     where
       by_end : (b : Bool) → Adds i key us (cond b (Ended v.allowance.place wait.count ∷ []) [])
-      by_end true = let m : Mark = Ended v.allowance.place wait.count in record { mine = m ∷ []; own = own_one i m (eq-eqb v.allowance.place i place); keyed = (place, tt); waits = (tt, tt); updates = refl }
+      by_end true = let m : Mark = Ended v.allowance.place wait.count in
+          record {
+            mine = m ∷ [];
+            own = own_one i m (eq-eqb v.allowance.place i place);
+            keyed = (place, tt);
+            waits = (tt, tt);
+            updates = refl;
+          }
       by_end false = no_marks i key us [] refl
 
   -- a state is exchanged
@@ -42,6 +56,7 @@ module _ (i key : ℕ) (us : List Update) (v : View) (place : v.allowance.place 
   seize_adds slot false = no_marks i key us [] refl
 
   -- one of two acts
-  pub either_adds : (n : ℕ) (b : Bool) (x y : Act) → Adds i key us (marks_of v n x) → Adds i key us (marks_of v n y) → Adds i key us (marks_of v n (cond b x y))
+  pub either_adds : (n : ℕ) (b : Bool) (x y : Act) → Adds i key us (marks_of v n x) → Adds i key us (marks_of v n y)
+      → Adds i key us (marks_of v n (cond b x y))
   either_adds n true x y p q = p
   either_adds n false x y p q = q

@@ -131,11 +131,16 @@ IsLate n (Some s) = n ≤ s.from
 -- what the marks of the call say, of which all marks are the later list
 abbrev pub Known : Room → Phase → Caller → Op → List Mark → List Mark → Option Section → Type 0
 Known room searching c op h marks section = updates_of marks ≡ []
-Known room inside c op h marks section = (updates_of marks ≡ []) × (1 ≤ entered_for c.place (key_of op) marks) × IsLate (length (updates_of c.seen)) section
+Known room inside c op h marks section = (updates_of marks ≡ []) × (1 ≤ entered_for c.place (key_of op) marks)
+    × IsLate (length (updates_of c.seen)) section
 Known room outside c op h marks section = (updates_of marks ≡ []) × (1 ≤ entered_for c.place (key_of op) marks)
-Known room present c op h marks section = (1 ≤ entered_for c.place (key_of op) marks) × WasExplained (Explains room) c op (record { reply = Old; number = 0 }) marks h
-Known room (made number reply) c op h marks section = (1 ≤ entered_for c.place (key_of op) marks) × HasMadeUpdate c op (record { reply = reply; number = number }) marks h
-Known room (moving number next) c op h marks section = (1 ≤ entered_for c.place (key_of op) marks) × HasMadeUpdate c op (record { reply = Gone; number = number }) marks h × IsMoveWait (updates_of h) c.place (key_of op + 1) next
+Known room present c op h marks section = (1 ≤ entered_for c.place (key_of op) marks)
+    × WasExplained (Explains room) c op (record { reply = Old; number = 0 }) marks h
+Known room (made number reply) c op h marks section =
+    (1 ≤ entered_for c.place (key_of op) marks) × HasMadeUpdate c op (record { reply = reply; number = number }) marks h
+Known room (moving number next) c op h marks section =
+    (1 ≤ entered_for c.place (key_of op) marks) × HasMadeUpdate c op (record { reply = Gone; number = number }) marks h
+    × IsMoveWait (updates_of h) c.place (key_of op + 1) next
 
 -- the marks of the place since its last answer
 pub record Since (c : Caller) (key : ℕ) (h marks : List Mark) : Type 0 where
@@ -184,11 +189,15 @@ module _ (room : Room) (c : Caller) (op : Op) (h more marks mine : List Mark) (n
       let inside_list = slice_get_within (updates_of h) (told.number - 1) (record { caller = c.place; op = op }) m.stands in record {
         left = updates_same ∙ m.left;
         later = m.later;
-        stands = subst (λ us. slice_get us (told.number - 1) ≡ Some (record { caller = c.place; op = op })) (sym updates_now) (slice_later (updates_of h) (updates_of more) (told.number - 1) (record { caller = c.place; op = op }) m.stands);
-        confirms = subst (λ us. Confirms (map_at us (told.number - 1)) op told.reply) (sym updates_now) (subst (λ d. Confirms d op told.reply) (sym (map_at-longer (updates_of h) (updates_of more) (told.number - 1) (omega arith))) m.confirms);
+        stands = subst (λ us. slice_get us (told.number - 1) ≡ Some (record { caller = c.place; op = op })) (sym updates_now)
+            (slice_later (updates_of h) (updates_of more) (told.number - 1) (record { caller = c.place; op = op }) m.stands);
+        confirms = subst (λ us. Confirms (map_at us (told.number - 1)) op told.reply) (sym updates_now)
+            (subst (λ d. Confirms d op told.reply) (sym
+            (map_at-longer (updates_of h) (updates_of more) (told.number - 1) (omega arith))) m.confirms);
       }
 
-  pub explained_later : (told : Told) → WasExplained (Explains room) c op told marks h → WasExplained (Explains room) c op told (marks ++ mine) (h ++ more)
+  pub explained_later : (told : Told) → WasExplained (Explains room) c op told marks h
+      → WasExplained (Explains room) c op told (marks ++ mine) (h ++ more)
   explained_later told w =
       let until = w.until in
       let long = length-append (updates_of h) (updates_of more) in
@@ -197,36 +206,46 @@ module _ (room : Room) (c : Caller) (op : Op) (h more marks mine : List Mark) (n
         front = w.front;
         since = w.since;
         until = omega arith;
-        explained = subst (λ us. Explains room (map_at us w.front) op told.reply) (sym updates_now) (subst (λ d. Explains room d op told.reply) (sym (map_at-longer (updates_of h) (updates_of more) w.front until)) w.explained);
+        explained = subst (λ us. Explains room (map_at us w.front) op told.reply) (sym updates_now)
+            (subst (λ d. Explains room d op told.reply) (sym (map_at-longer (updates_of h) (updates_of more) w.front until)) w.explained);
       }
 
   pub move_later : (low high : ℕ) → IsMoveWait (updates_of h) c.place low high → IsMoveWait (updates_of (h ++ more)) c.place low high
   move_later low high move = ⊎_elim
       (λ (all : (low ≡ 0) × (high + 1 ≡ 2 ^ 64)). absurd (let e = all.0 in let l = move.low_is in omega arith))
-      (λ (m : IsMoveWait (updates_of h ++ updates_of more) c.place low high). subst (λ us. IsMoveWait us c.place low high) (sym updates_now) m)
+      (λ (m : IsMoveWait (updates_of h ++ updates_of more) c.place low high). subst (λ us. IsMoveWait us c.place low high)
+      (sym updates_now) m)
       (waits_longer (updates_of h) (updates_of more) (Began c.place 0 low high) (inr move))
 
   -- what is known stays so, where a section that is open stays open
-  pub known_later : (p : Phase) (before after : Option Section) → (p ≡ inside → IsLate (length (updates_of c.seen)) before → IsLate (length (updates_of c.seen)) after)
+  pub known_later : (p : Phase) (before after : Option Section)
+      → (p ≡ inside → IsLate (length (updates_of c.seen)) before → IsLate (length (updates_of c.seen)) after)
       → Known room p c op h marks before → Known room p c op (h ++ more) (marks ++ mine) after
   known_later searching before after stays k = updates_same ∙ k
   known_later inside before after stays k = (updates_same ∙ k.0, entered_more k.1, stays refl k.2)
   known_later outside before after stays k = (updates_same ∙ k.0, entered_more k.1)
   known_later present before after stays k = (entered_more k.0, explained_later (record { reply = Old; number = 0 }) k.1)
   known_later (made number reply) before after stays k = (entered_more k.0, made_later (record { reply = reply; number = number }) k.1)
-  known_later (moving number next) before after stays k = (entered_more k.0, made_later (record { reply = Gone; number = number }) k.1, move_later (key_of op + 1) next k.2)
+  known_later (moving number next) before after stays k =
+      (entered_more k.0, made_later (record { reply = Gone; number = number }) k.1, move_later (key_of op + 1) next k.2)
 
-  pub since_later : own_of c.place more ≡ mine → AllByRecursion (IsLeftBy c.place (key_of op)) mine → AllByRecursion (WaitsFor (updates_of (h ++ more))) mine → Since c (key_of op) h marks → Since c (key_of op) (h ++ more) (marks ++ mine)
+  pub since_later : own_of c.place more ≡ mine → AllByRecursion (IsLeftBy c.place (key_of op)) mine
+      → AllByRecursion (WaitsFor (updates_of (h ++ more))) mine → Since c (key_of op) h marks
+      → Since c (key_of op) (h ++ more) (marks ++ mine)
   since_later own keyed waits s = record {
-    own = own_of-append c.place h more ∙ ap (λ xs. xs ++ own_of c.place more) s.own ∙ ap (λ xs. (c.own ++ marks) ++ xs) own ∙ append_assoc c.own marks mine;
+    own = own_of-append c.place h more ∙ ap (λ xs. xs ++ own_of c.place more) s.own ∙ ap (λ xs. (c.own ++ marks) ++ xs) own
+        ∙ append_assoc c.own marks mine;
     keyed = all_append (IsLeftBy c.place (key_of op)) marks mine s.keyed keyed;
     waits = all_append (WaitsFor (updates_of (h ++ more))) marks mine
-        (subst (λ us. AllByRecursion (WaitsFor us) marks) (sym updates_now) (all_map (WaitsFor (updates_of h)) (WaitsFor (updates_of h ++ updates_of more)) marks (waits_longer (updates_of h) (updates_of more)) s.waits)) waits;
+        (subst (λ us. AllByRecursion (WaitsFor us) marks) (sym updates_now)
+        (all_map (WaitsFor (updates_of h)) (WaitsFor (updates_of h ++ updates_of more)) marks
+        (waits_longer (updates_of h) (updates_of more)) s.waits)) waits;
     seen = prefix_more c.seen h more s.seen;
   }
 
 -- what another caller's marks leave
-pub others_tell : (room : Room) (i : ℕ) (script : List Op) (o : Own) (section : Option Section) (h more : List Mark) → own_of i more ≡ [] → Tells room i script o section h → Tells room i script o section (h ++ more)
+pub others_tell : (room : Room) (i : ℕ) (script : List Op) (o : Own) (section : Option Section) (h more : List Mark) → own_of i more ≡ []
+    → Tells room i script o section h → Tells room i script o section (h ++ more)
 others_tell room i script o section h more none t =
     let c : Caller = at_answer i t.own t.seen in
     let same : t.marks ++ [] ≡ t.marks = append-nil t.marks in record {
@@ -274,7 +293,8 @@ own_twice : (p : ℕ) (h : List Mark) → own_of p (own_of p h) ≡ own_of p h
 own_twice p [] = refl
 own_twice p (m ∷ h) = by (is_of p m) refl (own_twice p h)
   where
-    by : (b : Bool) → is_of p m ≡ b → own_of p (own_of p h) ≡ own_of p h → own_of p (cond b (m ∷ own_of p h) (own_of p h)) ≡ cond b (m ∷ own_of p h) (own_of p h)
+    by : (b : Bool) → is_of p m ≡ b → own_of p (own_of p h) ≡ own_of p h
+        → own_of p (cond b (m ∷ own_of p h) (own_of p h)) ≡ cond b (m ∷ own_of p h) (own_of p h)
     by true e rest = ap (λ b. cond b (m ∷ own_of p (own_of p h)) (own_of p (own_of p h))) e ∙ ap (λ xs. m ∷ xs) rest
     by false e rest = rest
 
@@ -291,11 +311,13 @@ first_phase o' (Get key) = (refl, refl)
 first_phase o' (Set key value) = (refl, refl)
 first_phase o' (Del key) = either (nat_le 15 (length o'.retired)) _ _ (refl, refl) (either (is_some o'.spare) _ _ (refl, refl) (refl, refl))
   where
-    either : (b : Bool) (x y : Stage) → (is_finished x ≡ false) × (phase x ≡ searching) → (is_finished y ≡ false) × (phase y ≡ searching) → (is_finished (cond b x y) ≡ false) × (phase (cond b x y) ≡ searching)
+    either : (b : Bool) (x y : Stage) → (is_finished x ≡ false) × (phase x ≡ searching) → (is_finished y ≡ false) × (phase y ≡ searching)
+        → (is_finished (cond b x y) ≡ false) × (phase (cond b x y) ≡ searching)
     either true x y p q = p
     either false x y p q = q
 
-module _ (room : Room) (i : ℕ) (script : List Op) (o : Own) (section : Option Section) (h : List Mark) (t : Tells room i script o section h) (going : is_finished o.stage ≡ false) where
+module _ (room : Room) (i : ℕ) (script : List Op) (o : Own) (section : Option Section) (h : List Mark) (t : Tells room i script o section h)
+    (going : is_finished o.stage ≡ false) where
   abbrev caller : Caller
   caller = at_answer i t.own t.seen
 
@@ -306,8 +328,10 @@ module _ (room : Room) (i : ℕ) (script : List Op) (o : Own) (section : Option 
   seen_before = prefix_length t.seen h t.since.seen
 
   -- the step leaves these marks, and what is known then is known
-  pub tells_by : (more mine : List Mark) (o' : Own) (after : Option Section) → said o' ≡ said o → is_finished o'.stage ≡ false → Since (at_answer i t.own t.seen) (key_of o.op) (h ++ more) (t.marks ++ mine)
-      → Known room (phase o'.stage) (at_answer i t.own t.seen) o.op (h ++ more) (t.marks ++ mine) after → Tells room i script o' after (h ++ more)
+  pub tells_by : (more mine : List Mark) (o' : Own) (after : Option Section) → said o' ≡ said o → is_finished o'.stage ≡ false
+      → Since (at_answer i t.own t.seen) (key_of o.op) (h ++ more) (t.marks ++ mine)
+      → Known room (phase o'.stage) (at_answer i t.own t.seen) o.op (h ++ more) (t.marks ++ mine) after
+      → Tells room i script o' after (h ++ more)
   tells_by more mine o' after same goes since known =
       let op_is : o'.op ≡ o.op = ap (λ (s : Op × List Op × List Told). s.0) same in
       let rest_is : o'.rest ≡ o.rest = ap (λ (s : Op × List Op × List Told). s.1) same in
@@ -321,33 +345,41 @@ module _ (room : Room) (i : ℕ) (script : List Op) (o : Own) (section : Option 
         marks = t.marks ++ mine;
         since = subst (λ op. Since (at_answer i t.own t.seen) (key_of op) (h ++ more) (t.marks ++ mine)) (sym op_is) since;
         left = subst (λ b. IsToDo b o' t.todo (t.marks ++ mine)) (sym goes) (todo_is ∙ (λ j. sym op_is j ∷ sym rest_is j));
-        known = subst (λ op. Known room (phase o'.stage) (at_answer i t.own t.seen) op (h ++ more) (t.marks ++ mine) after) (sym op_is) known;
+        known = subst (λ op. Known room (phase o'.stage) (at_answer i t.own t.seen) op (h ++ more) (t.marks ++ mine) after)
+            (sym op_is) known;
       }
 
   -- a step that makes no update and ends no call
-  pub goes_on : (more : List Mark) → Adds i (key_of o.op) (updates_of (h ++ more)) more → (o' : Own) (after : Option Section) → Next o (phase o.stage) o'
-      → (phase o.stage ≡ inside → IsLate (length (updates_of t.seen)) section → IsLate (length (updates_of t.seen)) after) → Tells room i script o' after (h ++ more)
+  pub goes_on : (more : List Mark) → Adds i (key_of o.op) (updates_of (h ++ more)) more → (o' : Own) (after : Option Section)
+      → Next o (phase o.stage) o'
+      → (phase o.stage ≡ inside → IsLate (length (updates_of t.seen)) section → IsLate (length (updates_of t.seen)) after)
+      → Tells room i script o' after (h ++ more)
   goes_on more a o' after next stays =
       let c : Caller = at_answer i t.own t.seen in
       let since = since_later room c o.op h more t.marks a.mine a.updates a.own a.keyed a.waits t.since in
-      let known : Known room (phase o.stage) c o.op (h ++ more) (t.marks ++ a.mine) after = known_later room c o.op h more t.marks a.mine a.updates (phase o.stage) section after stays t.known in
+      let known : Known room (phase o.stage) c o.op (h ++ more) (t.marks ++ a.mine) after =
+      known_later room c o.op h more t.marks a.mine a.updates (phase o.stage) section after stays t.known in
       tells_by more a.mine o' after next.0 next.1 since
       (⊎_elim
       (λ (e : phase o.stage ≡ phase o'.stage). subst (λ q. Known room q c o.op (h ++ more) (t.marks ++ a.mine) after) e known)
-      (λ (e : (phase o.stage ≡ outside) × (phase o'.stage ≡ searching)). subst (λ q. Known room q c o.op (h ++ more) (t.marks ++ a.mine) after) (sym e.1) (subst (λ q. Known room q c o.op (h ++ more) (t.marks ++ a.mine) after) e.0 known).0)
+      (λ (e : (phase o.stage ≡ outside) × (phase o'.stage ≡ searching)). subst (λ q. Known room q c o.op (h ++ more)
+      (t.marks ++ a.mine) after) (sym e.1) (subst (λ q. Known room q c o.op (h ++ more) (t.marks ++ a.mine) after) e.0 known).0)
       next.2)
 
   -- a step that ends the call with this answer
-  pub answers_so : (more : List Mark) → Adds i (key_of o.op) (updates_of (h ++ more)) more → (o' : Own) (after : Option Section) (reply : Reply) (number : ℕ) → said o' ≡ said o
+  pub answers_so : (more : List Mark) → Adds i (key_of o.op) (updates_of (h ++ more)) more
+      → (o' : Own) (after : Option Section) (reply : Reply) (number : ℕ) → said o' ≡ said o
       → 1 ≤ entered_for i (key_of o.op) t.marks
       → ((mine : List Mark) → updates_of mine ≡ [] → let told : Told = record { reply = reply; number = number } in
-      MatchBool (tells_update reply) (HasMadeUpdate (at_answer i t.own t.seen) o.op told (t.marks ++ mine) (h ++ more)) (WasExplained (Explains room) (at_answer i t.own t.seen) o.op told (t.marks ++ mine) (h ++ more)))
+      MatchBool (tells_update reply) (HasMadeUpdate (at_answer i t.own t.seen) o.op told (t.marks ++ mine) (h ++ more))
+      (WasExplained (Explains room) (at_answer i t.own t.seen) o.op told (t.marks ++ mine) (h ++ more)))
       → Tells room i script (answer o' reply number) after (h ++ more)
   answers_so more a o' after reply number same entered replies =
       let c : Caller = at_answer i t.own t.seen in
       let told : Told = record { reply = reply; number = number } in
       let marks : List Mark = t.marks ++ a.mine in
-      let since : Since c (key_of o.op) (h ++ more) marks = since_later room c o.op h more t.marks a.mine a.updates a.own a.keyed a.waits t.since in
+      let since : Since c (key_of o.op) (h ++ more) marks =
+      since_later room c o.op h more t.marks a.mine a.updates a.own a.keyed a.waits t.since in
       let d : Caller = at_answer i (t.own ++ marks) (h ++ more) in
       let answered : HasAnswered (Explains room) c o.op told d = record {
         place = refl;
@@ -360,15 +392,19 @@ module _ (room : Room) (i : ℕ) (script : List Op) (o : Own) (section : Option 
         met = sym (ap (own_of i) (sym since.own) ∙ own_twice i (h ++ more));
         reply = replies a.mine a.updates;
       } in
-      let all : HasTold (Explains room) (newcomer i) (t.done ++ o.op ∷ []) (o.told ++ told ∷ []) d = told_more (Explains room) (newcomer i) t.done o.told c t.told o.op told d answered in
+      let all : HasTold (Explains room) (newcomer i) (t.done ++ o.op ∷ []) (o.told ++ told ∷ []) d =
+      told_more (Explains room) (newcomer i) t.done o.told c t.told o.op told d answered in
       let told_is : o'.told ≡ o.told = ap (λ (s : Op × List Op × List Told). s.2) same in
       let rest_is : o'.rest ≡ o.rest = ap (λ (s : Op × List Op × List Told). s.1) same in
-      begins (record o' { told = o'.told ++ told ∷ [] }) (t.own ++ marks) (subst (λ ts. HasTold (Explains room) (newcomer i) (t.done ++ o.op ∷ []) (ts ++ told ∷ []) d) (sym told_is) all)
+      begins (record o' { told = o'.told ++ told ∷ [] }) (t.own ++ marks)
+      (subst (λ ts. HasTold (Explains room) (newcomer i) (t.done ++ o.op ∷ []) (ts ++ told ∷ []) d) (sym told_is) all)
       (record { own = since.own ∙ sym (append-nil (t.own ++ marks)); keyed = tt; waits = tt; seen = prefix_self (h ++ more) })
-      o'.rest (append_assoc t.done (o.op ∷ []) o'.rest ∙ ap (λ os. t.done ++ o.op ∷ os) rest_is ∙ ap (λ os. t.done ++ os) (sym todo_is) ∙ t.whole)
+      o'.rest (append_assoc t.done (o.op ∷ []) o'.rest ∙ ap (λ os. t.done ++ o.op ∷ os) rest_is ∙ ap (λ os. t.done ++ os) (sym todo_is)
+      ∙ t.whole)
     where
       begins : (x : Own) (own : List Mark) → HasTold (Explains room) (newcomer i) (t.done ++ o.op ∷ []) x.told (at_answer i own (h ++ more))
-          → Since (at_answer i own (h ++ more)) 0 (h ++ more) [] → (ops : List Op) → (t.done ++ o.op ∷ []) ++ ops ≡ script → Tells room i script (begun_with x ops) after (h ++ more)
+          → Since (at_answer i own (h ++ more)) 0 (h ++ more) [] → (ops : List Op) → (t.done ++ o.op ∷ []) ++ ops ≡ script
+          → Tells room i script (begun_with x ops) after (h ++ more)
       begins x own told since [] whole = record {
         done = t.done ++ o.op ∷ [];
         own = own;

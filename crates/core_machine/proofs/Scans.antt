@@ -4,7 +4,8 @@ use Rattle.std.proofs.Math.Nat.{mul-le-mul_right, mul-lt-mul_of_pos_right, mul_c
 
 pub scan_within : (slots places p : ℕ) → 1 ≤ slots → p < places → places + 1 + p * slots / places ≤ slots + places
 scan_within slots places p some_slot below =
-    let less : p * slots < slots * places = subst (λ x. p * slots < x) (mul_comm places slots) (mul-lt-mul_of_pos_right below (omega arith)) in
+    let less : p * slots < slots * places = subst (λ x. p * slots < x) (mul_comm places slots)
+    (mul-lt-mul_of_pos_right below (omega arith)) in
     let some : 0 < places = omega arith in
     let part : p * slots / places < slots = (div-lt_iff_lt-mul some).1 less in
     omega arith

@@ -23,13 +23,16 @@ use Rattle.core_machine.specs.Laws.{CoresAreSound, IsAllowed, IsMachine, StepsAr
 use Rattle.core_machine.proofs.Running.{IsRun, past_kept, runs}
 use Rattle.core_machine.proofs.Starting.{made_runs}
 
-pub core_runs : (scripts : List (List Op)) (slots : ℕ) (callers : List ℕ) → IsMachine scripts slots → IsRun (shape_of slots scripts) (core scripts slots callers)
+pub core_runs : (scripts : List (List Op)) (slots : ℕ) (callers : List ℕ) → IsMachine scripts slots
+    → IsRun (shape_of slots scripts) (core scripts slots callers)
 core_runs scripts slots callers m = runs (shape_of slots scripts) (core scripts slots []) callers (made_runs scripts slots m)
 
 pub cores_are_sound : CoresAreSound
-cores_are_sound scripts slots callers m = let run = core_runs scripts slots callers m in record { invariant = run.holds; grace = run.holds.now.grace.grace; reuse = run.holds.now.grace.reuse }
+cores_are_sound scripts slots callers m = let run = core_runs scripts slots callers m in
+    record { invariant = run.holds; grace = run.holds.now.grace.grace; reuse = run.holds.now.grace.reuse }
 
-module _ (k : Shape) (c : Core) (i : ℕ) (o : Own) (v : View) (run : IsRun k c) (own : get_elem? c.owns i ≡ some o) (view : get_elem? c.views i ≡ some v) where
+module _ (k : Shape) (c : Core) (i : ℕ) (o : Own) (v : View) (run : IsRun k c) (own : get_elem? c.owns i ≡ some o)
+    (view : get_elem? c.views i ≡ some v) where
   pub is_told : IsTold o v c.marks c.memory
   is_told =
       let caller = run.callers i o v own view in
@@ -37,7 +40,8 @@ module _ (k : Shape) (c : Core) (i : ℕ) (o : Own) (v : View) (run : IsRun k c)
       rule_tells k c.memory c.views c.marks i o v run.holds.now view works caller.slots caller.places
 
   pub step_is : is_finished o.stage ≡ false → step c i ≡ moved c i o v
-  step_is going = ap (λ (z : Option Own × Option View). moved_by c i z.0 z.1) (λ j. (own j, view j)) ∙ ap (λ b. cond b c (moved c i o v)) going
+  step_is going = ap (λ (z : Option Own × Option View). moved_by c i z.0 z.1) (λ j. (own j, view j))
+      ∙ ap (λ b. cond b c (moved c i o v)) going
 
   -- the word of its act is one of the table's, and its needs are met
   pub has_its_word : IsWord k (field_of o.place (act_at o o.stage))
@@ -48,7 +52,8 @@ module _ (k : Shape) (c : Core) (i : ℕ) (o : Own) (v : View) (run : IsRun k c)
   pub needs_met : Needs k v (c.memory (field_of o.place (act_at o o.stage))) (act_at o o.stage)
   needs_met =
       let caller = run.callers i o v own view in
-      needs_are_given k c.marks o v c.memory (c.memory (field_of o.place (act_at o o.stage))) o.stage (λ _. run.eer) caller.places is_told caller.fits
+      needs_are_given k c.marks o v c.memory (c.memory (field_of o.place (act_at o o.stage))) o.stage
+      (λ _. run.eer) caller.places is_told caller.fits
 
   -- what its act asks for is given, and so the word stays one
   pub asks_met : Asks k v (act_at o o.stage)
@@ -59,7 +64,8 @@ module _ (k : Shape) (c : Core) (i : ℕ) (o : Own) (v : View) (run : IsRun k c)
   pub stays_word : StaysWord (access_of o.place (act_at o o.stage)) (c.memory (field_of o.place (act_at o o.stage)))
   stays_word =
       let a : Act = act_at o o.stage in
-      subst (λ p. StaysWord (access_of p a) (c.memory (field_of p a))) (run.callers i o v own view).fits.owns.same (fits k c.memory c.views c.marks run.holds.now i v view a asks_met)
+      subst (λ p. StaysWord (access_of p a) (c.memory (field_of p a))) (run.callers i o v own view).fits.owns.same
+      (fits k c.memory c.views c.marks run.holds.now i v view a asks_met)
 
   pub allowed : is_finished o.stage ≡ false → IsAllowed k c i o v
   allowed going =
@@ -76,4 +82,5 @@ module _ (k : Shape) (c : Core) (i : ℕ) (o : Own) (v : View) (run : IsRun k c)
       }
 
 pub steps_are_allowed : StepsAreAllowed
-steps_are_allowed scripts slots callers i o v m own view going = allowed (shape_of slots scripts) (core scripts slots callers) i o v (core_runs scripts slots callers m) own view going
+steps_are_allowed scripts slots callers i o v m own view going =
+    allowed (shape_of slots scripts) (core scripts slots callers) i o v (core_runs scripts slots callers m) own view going

@@ -41,23 +41,36 @@ keys_fit (o ∷ ops) all zero op e = subst (λ x. key_of x < 2 ^ 64) (some-injec
 keys_fit (o ∷ ops) all (suc i) op e = keys_fit ops all.1 i op e
 
 -- the first point of a caller
-first_fits : (k : Shape) (p : ℕ) (script : List Op) → 1 ≤ k.slots → p < k.places → AllByRecursion FitsWords script → let o : Own = begun_with (new_own k p) script in Fits o o.stage (new_view p 1 (4 * length script) [])
+first_fits : (k : Shape) (p : ℕ) (script : List Op) → 1 ≤ k.slots → p < k.places → AllByRecursion FitsWords script → let o : Own =
+    begun_with (new_own k p) script in Fits o o.stage (new_view p 1 (4 * length script) [])
 first_fits k p script some_slot below fit =
     let o : Own = new_own k p in
     let v : View = new_view p 1 (4 * length script) [] in
-    let free : IsFree o v = new_views_are_free o (4 * length script) [] refl refl refl refl (omega arith) (scan_within k.slots k.places p some_slot below) (omega arith) (λ i op e. cc) in
+    let free : IsFree o v = new_views_are_free o (4 * length script) [] refl refl refl refl (omega arith)
+    (scan_within k.slots k.places p some_slot below) (omega arith) (λ i op e. cc) in
     begins o v free script (keys_fit script fit) (omega arith)
 
-caller_begins : (k : Shape) (p : ℕ) (script : List Op) → 1 ≤ k.slots → p < k.places → AllByRecursion FitsWords script → IsCaller k p (begun_with (new_own k p) script) (new_view p 1 (4 * length script) [])
-caller_begins k p [] some_slot below fit = record { place = refl; slots = refl; places = refl; fits = first_fits k p [] some_slot below fit }
-caller_begins k p (op ∷ ops) some_slot below fit = record { place = refl; slots = refl; places = refl; fits = first_fits k p (op ∷ ops) some_slot below fit }
+caller_begins : (k : Shape) (p : ℕ) (script : List Op) → 1 ≤ k.slots → p < k.places → AllByRecursion FitsWords script
+    → IsCaller k p (begun_with (new_own k p) script) (new_view p 1 (4 * length script) [])
+caller_begins k p [] some_slot below fit = record {
+  place = refl;
+  slots = refl;
+  places = refl;
+  fits = first_fits k p [] some_slot below fit;
+}
+caller_begins k p (op ∷ ops) some_slot below fit =
+    record { place = refl; slots = refl; places = refl; fits = first_fits k p (op ∷ ops) some_slot below fit }
 
-callers_begin : (k : Shape) (p : ℕ) (scripts : List (List Op)) → 1 ≤ k.slots → p + length scripts ≤ k.places → AllFit scripts → (i : ℕ) (o : Own) (v : View) → get_elem? (made_owns k p scripts) i ≡ some o → get_elem? (place_views p (tickets_of scripts)) i ≡ some v → IsCaller k (p + i) o v
+callers_begin : (k : Shape) (p : ℕ) (scripts : List (List Op)) → 1 ≤ k.slots → p + length scripts ≤ k.places → AllFit scripts
+    → (i : ℕ) (o : Own) (v : View) → get_elem? (made_owns k p scripts) i ≡ some o
+    → get_elem? (place_views p (tickets_of scripts)) i ≡ some v → IsCaller k (p + i) o v
 callers_begin k p [] some_slot below fit i o v eo ev = cc
 callers_begin k p (s ∷ ss) some_slot below fit zero o v eo ev =
     let here : p + 0 ≡ p = omega arith in
     subst (λ z. IsCaller k z o v) (sym here)
-    (subst (λ x. IsCaller k p x v) (some-injective (begun_with (new_own k p) s) o eo) (subst (λ x. IsCaller k p (begun_with (new_own k p) s) x) (some-injective (new_view p 1 (4 * length s) []) v ev) (caller_begins k p s some_slot (omega arith) fit.0)))
+    (subst (λ x. IsCaller k p x v) (some-injective (begun_with (new_own k p) s) o eo)
+    (subst (λ x. IsCaller k p (begun_with (new_own k p) s) x) (some-injective (new_view p 1 (4 * length s) []) v ev)
+    (caller_begins k p s some_slot (omega arith) fit.0)))
 callers_begin k p (s ∷ ss) some_slot below fit (suc i) o v eo ev =
     let next : p + 1 + i ≡ p + suc i = omega arith in
     subst (λ z. IsCaller k z o v) next (callers_begin k (p + 1) ss some_slot (omega arith) fit.1 i o v eo ev)
@@ -76,13 +89,16 @@ made_shape scripts slots m = record {
   few_slots = m.few_slots;
   some_place = m.some_script;
   few_places = m.few_scripts;
-  few_tickets = (let few = m.few_ops in let same = tickets_total scripts in let most : most_tickets ≡ 1099511627776 = refl in omega (arith, few, same, most));
+  few_tickets = (let few = m.few_ops in let same = tickets_total scripts in let most : most_tickets ≡ 1099511627776 = refl in
+      omega (arith, few, same, most));
 }
 
 -- core(scripts, slots, [])
 pub made_runs : (scripts : List (List Op)) (slots : ℕ) → IsMachine scripts slots → IsRun (shape_of slots scripts) (core scripts slots [])
 made_runs scripts slots m = record {
   eer = refl;
-  holds = places_begin (shape_of slots scripts) (memory_of (shape_of slots scripts) (first_words (shape_of slots scripts))) (tickets_of scripts) (made_shape scripts slots m) (fresh (shape_of slots scripts)) (tickets_count scripts) refl;
-  callers = λ i o v eo ev. subst (λ z. IsCaller (shape_of slots scripts) z o v) (omega arith) (callers_begin (shape_of slots scripts) 0 scripts m.some_slot (omega arith) m.fit i o v eo ev);
+  holds = places_begin (shape_of slots scripts) (memory_of (shape_of slots scripts) (first_words (shape_of slots scripts)))
+      (tickets_of scripts) (made_shape scripts slots m) (fresh (shape_of slots scripts)) (tickets_count scripts) refl;
+  callers = λ i o v eo ev. subst (λ z. IsCaller (shape_of slots scripts) z o v) (omega arith)
+      (callers_begin (shape_of slots scripts) 0 scripts m.some_slot (omega arith) m.fit i o v eo ev);
 }

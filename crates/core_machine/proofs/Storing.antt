@@ -13,7 +13,7 @@ use Rattle.core_state.specs.declared.shape.Waiter.TheVariants.{Eer}
 use Rattle.core_state.specs.declared.words.Field.{Field}
 use Rattle.core_state.specs.declared.words.Field.TheVariants as fields
 use Rattle.core_state.specs.declared.view.View.{View}
-use Rattle.core_state.specs.memory.Memory.{is_field, memory_of, stored, waiter_words, word_of}
+use Rattle.core_state.specs.memory.Memory.{is_field, line, memory_of, stored, waiter_base, waiter_room, word_of}
 use Rattle.core_state.specs.memory.Words.{side_number, tag_number}
 use Rattle.core_points.proofs.All.{trails_are_free}
 use Rattle.core_points.specs.declared.stage.Update.TheVariants as update
@@ -43,47 +43,58 @@ use Rattle.core_machine.proofs.Accounts.{AllTell, cores_tell, elem_at}
 
 -- ---- updates
 
-none_made : (p : ℕ) (b : Bool) (x y : Act) → updates_by p (op_of x) ≡ [] → updates_by p (op_of y) ≡ [] → updates_by p (op_of (cond b x y)) ≡ []
+none_made : (p : ℕ) (b : Bool) (x y : Act) → updates_by p (op_of x) ≡ [] → updates_by p (op_of y) ≡ []
+    → updates_by p (op_of (cond b x y)) ≡ []
 none_made p true x y ex ey = ex
 none_made p false x y ex ey = ey
 
-made_at : (o : Own) (v : View) (stage : Stage) (us ws : List Update) → Fits o stage v → v.allowance.place ≡ o.place → us ≡ updates_by v.allowance.place (op_of (act_at o stage)) → ws ≡ update_at o stage → us ≡ ws
+made_at : (o : Own) (v : View) (stage : Stage) (us ws : List Update) → Fits o stage v → v.allowance.place ≡ o.place
+    → us ≡ updates_by v.allowance.place (op_of (act_at o stage)) → ws ≡ update_at o stage → us ≡ ws
 made_at o v (at.OldRaise aim life) us ws f place is e = is ∙ none_made v.allowance.place (has_slot o.spare) _ _ refl refl ∙ sym e
-made_at o v (at.Store (update.Leaf spot) front) us ws f place is e = is ∙ (λ j. record { caller = place j; op = put_is o.op ((f.point).5) j } ∷ []) ∙ sym e
-made_at o v (at.Store (update.Value s old) front) us ws f place is e = is ∙ (λ j. record { caller = place j; op = set_is o.op (((f.point).1).3) j } ∷ []) ∙ sym e
-made_at o v (at.Store (update.Bypass d child) front) us ws f place is e = is ∙ (λ j. record { caller = place j; op = del_is o.op (((f.point).1).0) j } ∷ []) ∙ sym e
-made_at o v (at.Store (update.Copy d u next_key copy) front) us ws f place is e = is ∙ (λ j. record { caller = place j; op = del_is o.op ((((f.point).0).1).0) j } ∷ []) ∙ sym e
-made_at o v (at.Unlink m child) us ws f place is e = is ∙ none_made v.allowance.place (m.successor.parent == m.node.node) _ _ refl refl ∙ sym e
+made_at o v (at.Store (update.Leaf spot) front) us ws f place is e =
+    is ∙ (λ j. record { caller = place j; op = put_is o.op ((f.point).5) j } ∷ []) ∙ sym e
+made_at o v (at.Store (update.Value s old) front) us ws f place is e =
+    is ∙ (λ j. record { caller = place j; op = set_is o.op (((f.point).1).3) j } ∷ []) ∙ sym e
+made_at o v (at.Store (update.Bypass d child) front) us ws f place is e =
+    is ∙ (λ j. record { caller = place j; op = del_is o.op (((f.point).1).0) j } ∷ []) ∙ sym e
+made_at o v (at.Store (update.Copy d u next_key copy) front) us ws f place is e =
+    is ∙ (λ j. record { caller = place j; op = del_is o.op ((((f.point).0).1).0) j } ∷ []) ∙ sym e
+made_at o v (at.Unlink m child) us ws f place is e =
+    is ∙ none_made v.allowance.place (m.successor.parent == m.node.node) _ _ refl refl ∙ sym e
 made_at o v _ us ws f place is e = is ∙ sym e
 
 -- the step's update is that of its point
-updates_at : (o : Own) (v : View) (n : ℕ) (stage : Stage) → Fits o stage v → v.allowance.place ≡ o.place → updates_of (marks_of v n (act_at o stage)) ≡ update_at o stage
+updates_at : (o : Own) (v : View) (n : ℕ) (stage : Stage) → Fits o stage v → v.allowance.place ≡ o.place
+    → updates_of (marks_of v n (act_at o stage)) ≡ update_at o stage
 updates_at o v n stage f place = updates_made v n (act_at o stage) ∙ made_at o v stage _ _ f place refl refl
 
 -- ---- shapes that differ in tickets alone
 
-same_word : (k l : Shape) → k.waiter ≡ l.waiter → k.places ≡ l.places → (field : Field) → word_of k field ≡ word_of l field
-same_word k l waiter places fields.Clock = refl
-same_word k l waiter places fields.Front = refl
-same_word k l waiter places fields.Free = refl
-same_word k l waiter places (fields.Announced p) = refl
-same_word k l waiter places (fields.Stamp p) = refl
-same_word k l waiter places (fields.Gate c) = refl
-same_word k l waiter places (fields.Count c side) = refl
-same_word k l waiter places (fields.Row p c) = refl
-same_word k l waiter places (fields.State s) = λ i. 3 + waiter_words (waiter i) (places i) + 9 * s
-same_word k l waiter places (fields.Lock s) = λ i. 3 + waiter_words (waiter i) (places i) + 9 * s + 1
-same_word k l waiter places (fields.Life s) = λ i. 3 + waiter_words (waiter i) (places i) + 9 * s + 2
-same_word k l waiter places (fields.Key s) = λ i. 3 + waiter_words (waiter i) (places i) + 9 * s + 3
-same_word k l waiter places (fields.Value s) = λ i. 3 + waiter_words (waiter i) (places i) + 9 * s + 4
-same_word k l waiter places (fields.Link s b) = λ i. 3 + waiter_words (waiter i) (places i) + 9 * s + side_number b
-same_word k l waiter places (fields.Tag s b) = λ i. 3 + waiter_words (waiter i) (places i) + 9 * s + tag_number b
+same_word : (k l : Shape) → k.waiter ≡ l.waiter → k.slots ≡ l.slots → k.places ≡ l.places → (field : Field)
+    → word_of k field ≡ word_of l field
+same_word k l waiter slots places fields.Clock = refl
+same_word k l waiter slots places fields.Front = refl
+same_word k l waiter slots places fields.Free = refl
+same_word k l waiter slots places (fields.Announced p) = refl
+same_word k l waiter slots places (fields.Stamp p) = refl
+same_word k l waiter slots places (fields.Gate c) = refl
+same_word k l waiter slots places (fields.Count c side) = refl
+same_word k l waiter slots places (fields.Row p c) = refl
+same_word k l waiter slots places (fields.State s) =
+    λ i. waiter_base + waiter_room (waiter i) (places i) + line * (slots i + places i + 1) + s
+same_word k l waiter slots places (fields.Lock s) = λ i. waiter_base + waiter_room (waiter i) (places i) + line * s
+same_word k l waiter slots places (fields.Life s) = λ i. waiter_base + waiter_room (waiter i) (places i) + line * s + 1
+same_word k l waiter slots places (fields.Key s) = λ i. waiter_base + waiter_room (waiter i) (places i) + line * s + 2
+same_word k l waiter slots places (fields.Value s) = λ i. waiter_base + waiter_room (waiter i) (places i) + line * s + 3
+same_word k l waiter slots places (fields.Link s b) = λ i. waiter_base + waiter_room (waiter i) (places i) + line * s + side_number b
+same_word k l waiter slots places (fields.Tag s b) = λ i. waiter_base + waiter_room (waiter i) (places i) + line * s + tag_number b
 
 -- the shape of a caller's table, but for the tickets
 untold_tickets : Shape → Shape
 untold_tickets k = record { waiter = k.waiter; slots = k.slots; places = k.places; tickets = 0 }
 
-same_is_field : (k : Shape) (field : Field) → is_field k field ≡ is_field (record { waiter = k.waiter; slots = k.slots; places = k.places; tickets = 0 }) field
+same_is_field : (k : Shape) (field : Field) → is_field k field
+    ≡ is_field (record { waiter = k.waiter; slots = k.slots; places = k.places; tickets = 0 }) field
 same_is_field k fields.Clock = refl
 same_is_field k fields.Front = refl
 same_is_field k fields.Free = refl
@@ -102,8 +113,11 @@ same_is_field k (fields.Tag s b) = refl
 
 -- ---- one step
 
-module _ (scripts : List (List Op)) (slots : ℕ) (callers : List ℕ) (machine : IsMachine scripts slots) (words : List ℕ) (i : ℕ) (o : Own) (v : View)
-    (is : AreWordsOf (shape_of slots scripts) words (core scripts slots callers)) (own : get_elem? (core scripts slots callers).owns i ≡ some o) (view : get_elem? (core scripts slots callers).views i ≡ some v) (going : is_finished o.stage ≡ false) where
+module _ (scripts : List (List Op)) (slots : ℕ) (callers : List ℕ) (machine : IsMachine scripts slots) (words : List ℕ) (i : ℕ) (o : Own)
+    (v : View)
+    (is : AreWordsOf (shape_of slots scripts) words (core scripts slots callers))
+    (own : get_elem? (core scripts slots callers).owns i ≡ some o) (view : get_elem? (core scripts slots callers).views i ≡ some v)
+    (going : is_finished o.stage ≡ false) where
   abbrev k : Shape
   k = shape_of slots scripts
 
@@ -120,13 +134,16 @@ module _ (scripts : List (List Op)) (slots : ℕ) (callers : List ℕ) (machine 
   run = core_runs scripts slots callers machine
 
   has : is_field (shape_of slots scripts) (field_of o.place (act_at o o.stage)) ≡ true
-  has = has_word (shape_of slots scripts) (field_of o.place (act_at o o.stage)) (has_its_word (shape_of slots scripts) (core scripts slots callers) i o v run own view)
+  has = has_word (shape_of slots scripts) (field_of o.place (act_at o o.stage))
+      (has_its_word (shape_of slots scripts) (core scripts slots callers) i o v run own view)
 
   at_index : index_now o ≡ word_of (shape_of slots scripts) (field_of o.place (act_at o o.stage))
-  at_index = same_word (shape_for o.slots o.places) (shape_of slots scripts) refl (sym (run.callers i o v own view).places) (field_of o.place (act_at o o.stage))
+  at_index = same_word (shape_for o.slots o.places) (shape_of slots scripts) refl (sym (run.callers i o v own view).slots)
+      (sym (run.callers i o v own view).places) (field_of o.place (act_at o o.stage))
 
   pub found : found_now words o ≡ (core scripts slots callers).memory (field_of o.place (act_at o o.stage))
-  found = ap (slice_index words) at_index ∙ sym (memory-word (shape_of slots scripts) words (field_of o.place (act_at o o.stage)) has) ∙ ap (λ m. m (field_of o.place (act_at o o.stage))) is.same
+  found = ap (slice_index words) at_index ∙ sym (memory-word (shape_of slots scripts) words (field_of o.place (act_at o o.stage)) has)
+      ∙ ap (λ m. m (field_of o.place (act_at o o.stage))) is.same
 
   -- the number that it tells
   pub told : told_now words o ≡ told_in (core scripts slots callers) o
@@ -140,7 +157,8 @@ module _ (scripts : List (List Op)) (slots : ℕ) (callers : List ℕ) (machine 
   next_own = after o (told_in (core scripts slots callers) o) o.stage
 
   abbrev next_view : View
-  next_view = view_after (noted v (act_at o o.stage) (told_in (core scripts slots callers) o)) (core scripts slots callers).marks (told_in (core scripts slots callers) o) (act_at o o.stage)
+  next_view = view_after (noted v (act_at o o.stage) (told_in (core scripts slots callers) o)) (core scripts slots callers).marks
+      (told_in (core scripts slots callers) o) (act_at o o.stage)
 
   own_next : get_elem? (moved (core scripts slots callers) i o v).owns i ≡ some next_own
   own_next = set_here (core scripts slots callers).owns i next_own (at_below (core scripts slots callers).owns i o own)
@@ -148,16 +166,20 @@ module _ (scripts : List (List Op)) (slots : ℕ) (callers : List ℕ) (machine 
   view_next : get_elem? (moved (core scripts slots callers) i o v).views i ≡ some next_view
   view_next = set_here (core scripts slots callers).views i next_view (at_below (core scripts slots callers).views i v view)
 
-  word_found : WordFits (shape_of slots scripts) (field_of o.place (act_at o o.stage)) ((core scripts slots callers).memory (field_of o.place (act_at o o.stage)))
-  word_found = word_fits (shape_of slots scripts) (core scripts slots callers).memory (core scripts slots callers).views (core scripts slots callers).marks run.holds.now i v view (field_of o.place (act_at o o.stage)) has
+  word_found : WordFits (shape_of slots scripts) (field_of o.place (act_at o o.stage))
+      ((core scripts slots callers).memory (field_of o.place (act_at o o.stage)))
+  word_found = word_fits (shape_of slots scripts) (core scripts slots callers).memory (core scripts slots callers).views
+      (core scripts slots callers).marks run.holds.now i v view (field_of o.place (act_at o o.stage)) has
 
-  word_left : WordFits (shape_of slots scripts) (field_of o.place (act_at o o.stage)) (left_of o.place (act_at o o.stage) ((core scripts slots callers).memory (field_of o.place (act_at o o.stage))))
+  word_left : WordFits (shape_of slots scripts) (field_of o.place (act_at o o.stage))
+      (left_of o.place (act_at o o.stage) ((core scripts slots callers).memory (field_of o.place (act_at o o.stage))))
   word_left =
       let k' : Shape = shape_of slots scripts in
       let f : Field = field_of o.place (act_at o o.stage) in
       let x : ℕ = (core scripts slots callers).memory f in
       subst (WordFits k' f) (ap (λ t. cond t (left_of o.place (act_at o o.stage) x) x) (same_self f))
-      (word_fits k' (moved (core scripts slots callers) i o v).memory (moved (core scripts slots callers) i o v).views (moved (core scripts slots callers) i o v).marks next_run.holds.now i next_view view_next f has)
+      (word_fits k' (moved (core scripts slots callers) i o v).memory (moved (core scripts slots callers) i o v).views
+      (moved (core scripts slots callers) i o v).marks next_run.holds.now i next_view view_next f has)
 
   able_here : IsAble o (told_now words o) o.stage
   able_here =
@@ -166,8 +188,11 @@ module _ (scripts : List (List Op)) (slots : ℕ) (callers : List ℕ) (machine 
       let here = run.callers i o v own view in
       let next = next_run.callers i next_own next_view own_next view_next in
       subst (λ m. IsAble o m o.stage) (sym told)
-      (able k' run.holds.now.table o v next_view (core scripts slots callers).marks (moved (core scripts slots callers) i o v).marks (core scripts slots callers).memory (moved (core scripts slots callers) i o v).memory here.slots here.places (run.holds.now.slots.few i v view)
-      (is_told k' (core scripts slots callers) i o v run own view) o.stage x here.fits word_found word_left (next.fits, is_told k' (moved (core scripts slots callers) i o v) i next_own next_view next_run own_next view_next))
+      (able k' run.holds.now.table o v next_view (core scripts slots callers).marks (moved (core scripts slots callers) i o v).marks
+      (core scripts slots callers).memory (moved (core scripts slots callers) i o v).memory here.slots here.places
+      (run.holds.now.slots.few i v view)
+      (is_told k' (core scripts slots callers) i o v run own view) o.stage x here.fits word_found word_left
+      (next.fits, is_told k' (moved (core scripts slots callers) i o v) i next_own next_view next_run own_next view_next))
 
   can_step : CanStep words o
   can_step =
@@ -181,32 +206,43 @@ module _ (scripts : List (List Op)) (slots : ℕ) (callers : List ℕ) (machine 
       let long = is.long in
       let spot = at_index in record {
         size = record { slots = omega arith; places = omega arith; scan = here.fits.owns.scans_table };
-        field = subst (λ (z : ℕ × ℕ). is_field (record { waiter = Eer; slots = z.0; places = z.1; tickets = 0 }) (field_of o.place (act_at o o.stage)) ≡ true) (λ j. (here.slots j, here.places j)) (sym (same_is_field k' (field_of o.place (act_at o o.stage))) ∙ has);
+        field = subst (λ (z : ℕ × ℕ). is_field (record { waiter = Eer; slots = z.0; places = z.1; tickets = 0 })
+            (field_of o.place (act_at o o.stage)) ≡ true) (λ j. (here.slots j, here.places j))
+            (sym (same_is_field k' (field_of o.place (act_at o o.stage))) ∙ has);
         within = omega arith;
-        stores = may_store k' v o ((core scripts slots callers).memory (field_of o.place (act_at o o.stage))) o.stage (needs_met k' (core scripts slots callers) i o v run own view) word_left;
-        rises = subst (StaysWord (access_of o.place (act_at o o.stage))) (sym found) (stays_word k' (core scripts slots callers) i o v run own view);
+        stores = may_store k' v o ((core scripts slots callers).memory (field_of o.place (act_at o o.stage))) o.stage
+            (needs_met k' (core scripts slots callers) i o v run own view) word_left;
+        rises = subst (StaysWord (access_of o.place (act_at o o.stage))) (sym found)
+            (stays_word k' (core scripts slots callers) i o v run own view);
         able = able_here;
       }
 
   -- the core's words after the step
-  words_next : AreWordsOf (shape_of slots scripts) (set words (index_now o) (left_by (access_of o.place (act_at o o.stage)) (found_now words o))) (moved (core scripts slots callers) i o v)
+  words_next : AreWordsOf (shape_of slots scripts)
+      (set words (index_now o) (left_by (access_of o.place (act_at o o.stage)) (found_now words o)))
+      (moved (core scripts slots callers) i o v)
   words_next =
       let k' : Shape = shape_of slots scripts in
       let f : Field = field_of o.place (act_at o o.stage) in
       let x : ℕ = (core scripts slots callers).memory f in
-      let left : left_by (access_of o.place (act_at o o.stage)) (found_now words o) ≡ left_of o.place (act_at o o.stage) x = ap (left_of o.place (act_at o o.stage)) found in record {
+      let left : left_by (access_of o.place (act_at o o.stage)) (found_now words o) ≡ left_of o.place (act_at o o.stage) x =
+      ap (left_of o.place (act_at o o.stage)) found in record {
         long = length-set words (index_now o) (left_by (access_of o.place (act_at o o.stage)) (found_now words o)) ∙ is.long;
-        same = ap (λ (z : ℕ × ℕ). memory_of k' (set words z.0 z.1)) (λ j. (at_index j, left j)) ∙ memory-stored k' words f (left_of o.place (act_at o o.stage) x) has is.long ∙ ap (λ m. stored m f (left_of o.place (act_at o o.stage) x)) is.same;
+        same = ap (λ (z : ℕ × ℕ). memory_of k' (set words z.0 z.1)) (λ j. (at_index j, left j))
+            ∙ memory-stored k' words f (left_of o.place (act_at o o.stage) x) has is.long
+            ∙ ap (λ m. stored m f (left_of o.place (act_at o o.stage) x)) is.same;
       }
 
-pub viewed : (scripts : List (List Op)) (slots : ℕ) (callers : List ℕ) (i : ℕ) (o : Own) → IsMachine scripts slots → get_elem? (core scripts slots callers).owns i ≡ some o → (v : View) × (get_elem? (core scripts slots callers).views i ≡ some v)
+pub viewed : (scripts : List (List Op)) (slots : ℕ) (callers : List ℕ) (i : ℕ) (o : Own) → IsMachine scripts slots
+    → get_elem? (core scripts slots callers).owns i ≡ some o → (v : View) × (get_elem? (core scripts slots callers).views i ≡ some v)
 viewed scripts slots callers i o machine own =
     let all : AllTell scripts slots (core scripts slots callers) = cores_tell scripts slots callers machine in
     let below = at_below (core scripts slots callers).owns i o own in
     elem_at (core scripts slots callers).views i (let a = all.count in let b = all.viewed in omega arith)
 
 pub callers_can_step : CallersCanStep
-callers_can_step scripts slots callers words i o machine is own going = let v = viewed scripts slots callers i o machine own in can_step scripts slots callers machine words i o v.0 is own v.1 going
+callers_can_step scripts slots callers words i o machine is own going = let v = viewed scripts slots callers i o machine own in
+    can_step scripts slots callers machine words i o v.0 is own v.1 going
 
 pub steps_more : (c : Core) (callers : List ℕ) (i : ℕ) → steps c (callers ++ i ∷ []) ≡ step (steps c callers) i
 steps_more c [] i = refl
@@ -219,12 +255,15 @@ steps_are_stored scripts slots callers words i o machine is own going =
     let v = viewed scripts slots callers i o machine own in
     let run : IsRun k c = core_runs scripts slots callers machine in
     let here = run.callers i o v.0 own v.1 in
-    let next : core scripts slots (callers ++ i ∷ []) ≡ moved c i o v.0 = steps_more (core scripts slots []) callers i ∙ step_is k c i o v.0 run own v.1 going in
+    let next : core scripts slots (callers ++ i ∷ []) ≡ moved c i o v.0 =
+    steps_more (core scripts slots []) callers i ∙ step_is k c i o v.0 run own v.1 going in
     let n : ℕ = told_in c o in
     let a : Act = act_at o o.stage in
     subst (λ z. IsStored k words c z i o) (sym next) (record {
       words_are = words_next scripts slots callers machine words i o v.0 is own v.1 going;
       owns_are = ap (λ m. set c.owns i (after o m o.stage)) (sym (told scripts slots callers machine words i o v.0 is own v.1 going));
-      updates_are = updates_of-append c.marks (marks_of (noted v.0 a n) n a) ∙ ap (λ us. updates_of c.marks ++ us) (updates_at o (noted v.0 a n) n o.stage
-          ((trails_are_free c.marks o v.0 c.memory o.stage (kind_of a) (field_of v.0.allowance.place a) n).0 here.fits) here.fits.owns.same);
+      updates_are = updates_of-append c.marks (marks_of (noted v.0 a n) n a)
+          ∙ ap (λ us. updates_of c.marks ++ us) (updates_at o (noted v.0 a n) n o.stage
+          ((trails_are_free c.marks o v.0 c.memory o.stage (kind_of a)
+          (field_of v.0.allowance.place a) n).0 here.fits) here.fits.owns.same);
     })

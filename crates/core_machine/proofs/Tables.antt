@@ -80,7 +80,8 @@ same_table o n (at.LeafLock spot) = after_lock o _ n _
 same_table o n (at.LeafLife spot) = refl
 same_table o n (at.LeafSide spot life) = refl
 same_table o n (at.LeafTag spot life link) = refl
-same_table o n (at.Reserve aim expected) = either o (n == expected) _ _ refl (either o (n == 0) _ _ (after_none (record o { free = 0 }) aim) refl)
+same_table o n (at.Reserve aim expected) = either o (n == expected) _ _ refl
+    (either o (n == 0) _ _ (after_none (record o { free = 0 }) aim) refl)
 same_table o n (at.Seize aim) = either o (n == 0) _ _ refl refl
 same_table o n (at.Age aim s) = refl
 same_table o n (at.Keep s) = refl
@@ -100,7 +101,8 @@ same_table o n (at.Store (update.Value s old) front) = refl
 same_table o n (at.Store (update.Bypass d child) front) = refl
 same_table o n (at.Store (update.Copy d u next_key copy) front) = refl
 same_table o n (at.Even u front) = refl
-same_table o n (at.Unlock l) = either o (is_none_left (but_first o.locks)) _ _ (after_unlock (record o { locks = but_first o.locks }) l) refl
+same_table o n (at.Unlock l) = either o (is_none_left (but_first o.locks)) _ _ (after_unlock
+    (record o { locks = but_first o.locks }) l) refl
 same_table o n (at.SetLife s) = refl
 same_table o n (at.SetLock s generation) = after_lock o _ n _
 same_table o n (at.SetCheck s generation) = refl

@@ -30,7 +30,8 @@ commit_stays : (b odd : Bool) (x n : ℕ) (why : Why) → cond (not b && odd) (S
 commit_stays true odd x n why e = cc
 commit_stays false odd x n why e = refl
 
-stays_at : (o : Own) (n : ℕ) (stage : Stage) (why : Why) → blocked o (said_by (access_of o.place (act_at o stage)) n) stage ≡ Some why → left_by (access_of o.place (act_at o stage)) n ≡ n
+stays_at : (o : Own) (n : ℕ) (stage : Stage) (why : Why) → blocked o (said_by (access_of o.place (act_at o stage)) n) stage ≡ Some why
+    → left_by (access_of o.place (act_at o stage)) n ≡ n
 stays_at o n at.Finished why e = cc
 stays_at o n at.EnterClock why e = cc
 stays_at o n (at.EnterKey clock) why e = cc
@@ -98,14 +99,18 @@ is_why : (found : Opt Why) (why : Why) → stepped_of found ≡ Blocked why → 
 is_why None why e = cc
 is_why (Some w) why e = let same : w ≡ why = cc in ap Some same
 
-module _ (words : List ℕ) (callers : List Caller) (updates : List Update) (i : ℕ) (c : Caller) (words' : List ℕ) (callers' : List Caller) (updates' : List Update) (result : Stepped) where
-  pub unmoved : (b : Bool) → StepsBy b words callers updates i c words' callers' updates' result → result ≡ Finished → at_of words' callers' updates' ≡ at_of words callers updates
+module _ (words : List ℕ) (callers : List Caller) (updates : List Update) (i : ℕ) (c : Caller) (words' : List ℕ) (callers' : List Caller)
+    (updates' : List Update) (result : Stepped) where
+  pub unmoved : (b : Bool) → StepsBy b words callers updates i c words' callers' updates' result → result ≡ Finished
+      → at_of words' callers' updates' ≡ at_of words callers updates
   unmoved true s e = λ j. at_of (s.words_are j) (s.callers_are j) (s.updates_are j)
   unmoved false s e = no_end (blocked (own_of c) (told_now words (own_of c)) c.stage) (sym s.answer ∙ e)
 
-  pub words_stay : (b : Bool) → StepsBy b words callers updates i c words' callers' updates' result → (why : Why) → result ≡ Blocked why → words' ≡ words
+  pub words_stay : (b : Bool) → StepsBy b words callers updates i c words' callers' updates' result → (why : Why) → result ≡ Blocked why
+      → words' ≡ words
   words_stay true s why e = s.words_are
   words_stay false s why e =
       let o : Own = own_of c in
       let n : ℕ = found_now words o in
-      s.words_are ∙ ap (set words (index_now o)) (stays_at o n c.stage why (is_why (blocked o (told_now words o) c.stage) why (sym s.answer ∙ e))) ∙ set-get_or words (index_now o) 0
+      s.words_are ∙ ap (set words (index_now o)) (stays_at o n c.stage why
+      (is_why (blocked o (told_now words o) c.stage) why (sym s.answer ∙ e))) ∙ set-get_or words (index_now o) 0

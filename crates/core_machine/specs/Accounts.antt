@@ -51,5 +51,6 @@ pub record IsToldSoFar (room : Room) (history : List Update) (caller : ℕ) (scr
 pub record AreToldSoFar (scripts : List (List Op)) (owns : List Own) (history : List Update) (slots : ℕ) : Type 0 where
   pub count : length owns ≡ length scripts
   pub legal : IsLegal history
-  pub each : (i : ℕ) (script : List Op) (o : Own) → get_elem? scripts i ≡ some script → get_elem? owns i ≡ some o → IsToldSoFar (record { scripts = length scripts; slots = slots }) history i script o
+  pub each : (i : ℕ) (script : List Op) (o : Own) → get_elem? scripts i ≡ some script → get_elem? owns i ≡ some o
+      → IsToldSoFar (record { scripts = length scripts; slots = slots }) history i script o
   pub others : (c : ℕ) → length scripts ≤ c → own_updates c history ≡ []

@@ -40,28 +40,33 @@ pub record IsSound (scripts : List (List Op)) (slots : ℕ) (c : Core) : Type 0 
 
 -- After these callers have stepped in this order, whatever the order, the core is sound.
 abbrev pub CoresAreSound : Type 0
-CoresAreSound = (scripts : List (List Op)) (slots : ℕ) (callers : List ℕ) → IsMachine scripts slots → IsSound scripts slots (core scripts slots callers)
+CoresAreSound = (scripts : List (List Op)) (slots : ℕ) (callers : List ℕ) → IsMachine scripts slots
+    → IsSound scripts slots (core scripts slots callers)
 
 -- A step of a caller whose script hasn't ended is the act of its point, as an allowed step of the tree on one of its words.
 pub record IsAllowed (k : Shape) (c : Core) (i : ℕ) (o : Own) (v : View) : Type 0 where
   pub field : is_field k (field_of o.place (act_at o o.stage)) ≡ true
   pub allowed :
       let a : Act = act_at o o.stage in let n : ℕ = told_in c o in let w : View = noted v a n in
-      Steps k c.marks v (kind_of a) (field_of o.place a) (found_in c o) (left_of o.place a (found_in c o)) (view_after w c.marks n a) (marks_of w n a)
+      Steps k c.marks v (kind_of a) (field_of o.place a) (found_in c o) (left_of o.place a (found_in c o)) (view_after w c.marks n a)
+      (marks_of w n a)
   pub past : KeepsPast c.memory c.marks (step c i).memory
   pub makes : step c i ≡ moved c i o v
 
 abbrev pub StepsAreAllowed : Type 0
-StepsAreAllowed = (scripts : List (List Op)) (slots : ℕ) (callers : List ℕ) (i : ℕ) (o : Own) (v : View) → IsMachine scripts slots → let c : Core = core scripts slots callers in
+StepsAreAllowed = (scripts : List (List Op)) (slots : ℕ) (callers : List ℕ) (i : ℕ) (o : Own) (v : View) → IsMachine scripts slots
+    → let c : Core = core scripts slots callers in
     get_elem? c.owns i ≡ some o → get_elem? c.views i ≡ some v → is_finished o.stage ≡ false → IsAllowed (shape_of slots scripts) c i o v
 
 -- At each moment what was told is explained by the updates.
 abbrev pub ToldsAreExplained : Type 0
-ToldsAreExplained = (scripts : List (List Op)) (slots : ℕ) (callers : List ℕ) → IsMachine scripts slots → let c : Core = core scripts slots callers in AreToldSoFar scripts c.owns (history_of c) slots
+ToldsAreExplained = (scripts : List (List Op)) (slots : ℕ) (callers : List ℕ) → IsMachine scripts slots → let c : Core =
+    core scripts slots callers in AreToldSoFar scripts c.owns (history_of c) slots
 
 -- Once all scripts have ended, it is so as an account asks, and the marks fit the scripts.
 abbrev pub EndsAreExplained : Type 0
-EndsAreExplained = (scripts : List (List Op)) (slots : ℕ) (callers : List ℕ) → IsMachine scripts slots → let c : Core = core scripts slots callers in unfinished c ≡ []
+EndsAreExplained = (scripts : List (List Op)) (slots : ℕ) (callers : List ℕ) → IsMachine scripts slots → let c : Core =
+    core scripts slots callers in unfinished c ≡ []
     → AreExplainable scripts (tolds_of c) (history_of c) slots × FitsScripts scripts c.marks
 
 -- Callers that were drawn have stepped until every script had ended: a draw stops nowhere else. That there is one isn't said.

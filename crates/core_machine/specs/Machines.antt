@@ -72,11 +72,14 @@ stepped_as has_ended = Finished
 
 -- the caller can step, where its script hasn't ended
 abbrev pub IsSteppable : List ℕ → List Caller → ℕ → Type 0
-IsSteppable words callers i = (c : Caller) × (slice_get callers i ≡ Some c) × HasRoom c × (is_finished c.stage ≡ false → CanStep words (own_of c))
+IsSteppable words callers i = (c : Caller) × (slice_get callers i ≡ Some c) × HasRoom c
+    × (is_finished c.stage ≡ false → CanStep words (own_of c))
 
 -- what a step of this caller leaves
-pub record HasMoved (words : List ℕ) (callers : List Caller) (updates : List Update) (i : ℕ) (c : Caller) (words' : List ℕ) (callers' : List Caller) (updates' : List Update) (result : Stepped) : Type 0 where
-  pub words_are : words' ≡ set words (index_now (own_of c)) (left_by (access_of (own_of c).place (act_at (own_of c) c.stage)) (found_now words (own_of c)))
+pub record HasMoved (words : List ℕ) (callers : List Caller) (updates : List Update) (i : ℕ) (c : Caller) (words' : List ℕ)
+    (callers' : List Caller) (updates' : List Update) (result : Stepped) : Type 0 where
+  pub words_are : words' ≡ set words (index_now (own_of c))
+      (left_by (access_of (own_of c).place (act_at (own_of c) c.stage)) (found_now words (own_of c)))
   pub now : Caller
   pub callers_are : callers' ≡ slice_set callers i now
   pub own : own_of now ≡ after (own_of c) (told_now words (own_of c)) c.stage
@@ -85,7 +88,8 @@ pub record HasMoved (words : List ℕ) (callers : List Caller) (updates : List U
   pub updates_are : updates' ≡ updates ++ update_now (own_of c)
   pub answer : result ≡ stepped_of (blocked (own_of c) (told_now words (own_of c)) c.stage)
 
-pub record IsUnmoved (words : List ℕ) (callers : List Caller) (updates : List Update) (words' : List ℕ) (callers' : List Caller) (updates' : List Update) (result : Stepped) : Type 0 where
+pub record IsUnmoved (words : List ℕ) (callers : List Caller) (updates : List Update) (words' : List ℕ) (callers' : List Caller)
+    (updates' : List Update) (result : Stepped) : Type 0 where
   pub words_are : words' ≡ words
   pub callers_are : callers' ≡ callers
   pub updates_are : updates' ≡ updates

@@ -21,7 +21,8 @@ pub record AreWordsOf (k : Shape) (words : List ℕ) (c : Core) : Type 0 where
 
 -- A caller whose script hasn't ended can step on the core's words.
 abbrev pub CallersCanStep : Type 0
-CallersCanStep = (scripts : List (List Op)) (slots : ℕ) (callers : List ℕ) (words : List ℕ) (i : ℕ) (o : Own) → IsMachine scripts slots → let c : Core = core scripts slots callers in
+CallersCanStep = (scripts : List (List Op)) (slots : ℕ) (callers : List ℕ) (words : List ℕ) (i : ℕ) (o : Own) → IsMachine scripts slots
+    → let c : Core = core scripts slots callers in
     AreWordsOf (shape_of slots scripts) words c → get_elem? c.owns i ≡ some o → is_finished o.stage ≡ false → CanStep words o
 
 -- Such a step leaves the words, what the callers keep and the updates of the core after these callers and then this one.
@@ -31,5 +32,7 @@ pub record IsStored (k : Shape) (words : List ℕ) (c next : Core) (i : ℕ) (o 
   pub updates_are : history_of next ≡ history_of c ++ update_now o
 
 abbrev pub StepsAreStored : Type 0
-StepsAreStored = (scripts : List (List Op)) (slots : ℕ) (callers : List ℕ) (words : List ℕ) (i : ℕ) (o : Own) → IsMachine scripts slots → let c : Core = core scripts slots callers in
-    AreWordsOf (shape_of slots scripts) words c → get_elem? c.owns i ≡ some o → is_finished o.stage ≡ false → IsStored (shape_of slots scripts) words c (core scripts slots (callers ++ i ∷ [])) i o
+StepsAreStored = (scripts : List (List Op)) (slots : ℕ) (callers : List ℕ) (words : List ℕ) (i : ℕ) (o : Own) → IsMachine scripts slots
+    → let c : Core = core scripts slots callers in
+    AreWordsOf (shape_of slots scripts) words c → get_elem? c.owns i ≡ some o → is_finished o.stage ≡ false
+    → IsStored (shape_of slots scripts) words c (core scripts slots (callers ++ i ∷ [])) i o

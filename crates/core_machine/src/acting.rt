@@ -3,7 +3,7 @@ ghost use Rattle.std.specs.Prelude.{◌≡◌, ℕ, ◌+◌, ◌*◌, ◌/◌, �
 ghost use Rattle.core_state.specs.declared.words.Field.TheVariants as fields;
 ghost use Rattle.core_acts.specs.declared.act.Act.TheVariants as acts;
 ghost use Rattle.core_acts.specs.declared.access.Access.TheVariants as does;
-ghost use Rattle.core_acts.specs.Acts.{access_of, in_slot};
+ghost use Rattle.core_acts.specs.Acts.{access_of};
 ghost use Rattle.core_points.specs.Acts.{field_of};
 ghost use Rattle.core_points.specs.Callers.{content, contents, is_some as has_slot};
 ghost use Rattle.core_points.specs.Programs.{act_at, store_act};
@@ -11,7 +11,7 @@ ghost use Rattle.core_machine.specs.Stored.{own_of, touched, MayStore, is_outsid
 
 use crate::caller::{Caller, first_or_root, or_root, value_in};
 use crate::plan::{target_lock, target_part, target_slot};
-use core_acts::{Access, Part};
+use core_acts::{Access, in_slot};
 use core_points::stage::{Moving, Stage, Update};
 use core_state::Field;
 use prcu_marks::Side;
@@ -33,19 +33,6 @@ fn add(field: Field) -> (Field, Access)
     ensures { result ≡ (field, does.Add 1) }
 {
     (field, Access::Add { number: 1 })
-}
-
-/// A slot's word.
-fn word_in(slot: u32, part: Part) -> Field
-    ensures { result ≡ in_slot slot part }
-{
-    match part {
-        Part::Life => Field::Life { slot },
-        Part::Key => Field::Key { slot },
-        Part::Value => Field::Value { slot },
-        Part::Link { side } => Field::Link { slot, side },
-        Part::Tag { side } => Field::Tag { slot, side },
-    }
 }
 
 fn load_life(slot: u32) -> (Field, Access)
@@ -113,7 +100,9 @@ fn fill(slot: u32, at: u32, key: u64, value: u64, left: u64, right: u64) -> (Fie
 /// The life of a retired slot is raised, which becomes the spare where there is none.
 fn raise_old(spare: Option<u32>, slot: u32, life: u64) -> (Field, Access)
     requires { 2 * (life / 2 + 1) < 2 ^ 64 }
-    ensures { (place : ℕ) → let number = 2 * (life / 2 + 1) in let act = if has_slot spare then acts.RaiseRetired slot number else acts.RaiseToSpare slot number in result ≡ (field_of place act, access_of place act) }
+    ensures { (place : ℕ) → let number = 2 * (life / 2 + 1) in
+        let act = if has_slot spare then acts.RaiseRetired slot number else acts.RaiseToSpare slot number in
+        result ≡ (field_of place act, access_of place act) }
 {
     let number = raised(life);
     match spare {
@@ -123,7 +112,9 @@ fn raise_old(spare: Option<u32>, slot: u32, life: u64) -> (Field, Access)
 }
 
 fn unlink(moving: Moving, child: u64) -> (Field, Access)
-    ensures { (place : ℕ) → let act = if moving.successor.parent == moving.node.node then acts.UnlinkRight moving.copy moving.successor.slot child else acts.UnlinkLeft moving.successor.parent moving.successor.slot child in result ≡ (field_of place act, access_of place act) }
+    ensures { (place : ℕ) → let act =
+        if moving.successor.parent == moving.node.node then acts.UnlinkRight moving.copy moving.successor.slot child
+        else acts.UnlinkLeft moving.successor.parent moving.successor.slot child in result ≡ (field_of place act, access_of place act) }
 {
     if moving.successor.parent == moving.node.node {
         store(
@@ -278,7 +269,7 @@ fn access_locked(own: &Caller) -> (Field, Access)
         Stage::SetCheck { slot, .. } => load_life(slot),
         Stage::SetValue { slot } => load(Field::Value { slot }),
         Stage::TargetLock { target, at } => lock(own.place, target_lock(target, at)),
-        Stage::TargetLoad { target, at, .. } => load(word_in(
+        Stage::TargetLoad { target, at, .. } => load(in_slot(
             target_slot(target, at),
             target_part(target, at),
         )),

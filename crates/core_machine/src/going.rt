@@ -202,7 +202,8 @@ impl Caller {
         requires fits { number < 2 ^ 32 }
         requires going { is_finished self.old.stage ≡ false }
         requires room { HasRoom self.old }
-        ensures own { own_of self.new ≡ go (own_of self.old) (if number == 0 then ended self.old.op slot side else stages.AtKey number slot side) }
+        ensures own { own_of self.new ≡ go (own_of self.old)
+            (if number == 0 then ended self.old.op slot side else stages.AtKey number slot side) }
         ensures room { HasRoom self.new }
     {
         self.stage = if number == 0 {
@@ -486,7 +487,8 @@ impl Caller {
         requires adds { MayAdd (own_of self.old) waits }
         requires going { is_finished self.old.stage ≡ false }
         requires room { HasRoom self.old }
-        ensures own { own_of self.new ≡ (if is_reader (own_of self.old) waits key then go (own_of self.old) (stages.LookStamp waits clock place key) else excused (own_of self.old) waits clock place) }
+        ensures own { own_of self.new ≡ (if is_reader (own_of self.old) waits key then go (own_of self.old)
+            (stages.LookStamp waits clock place key) else excused (own_of self.old) waits clock place) }
         ensures room { HasRoom self.new }
     {
         if self.low_key(waits) <= key && key <= high_key(waits) {
@@ -647,7 +649,9 @@ impl Caller {
         requires fits { number + 2 < 2 ^ 63 }
         requires going { is_finished self.old.stage ≡ false }
         requires room { HasRoom self.old }
-        ensures own { own_of self.new ≡ (if number == expected then go (record (own_of self.old) { front = expected + 1 }) (stages.Store update expected) else go (record (own_of self.old) { front = number }) (stages.Commit update (number + number % 2))) }
+        ensures own { own_of self.new ≡ (if number == expected then go (record (own_of self.old) { front = expected + 1 })
+            (stages.Store update expected) else go (record (own_of self.old) { front = number })
+            (stages.Commit update (number + number % 2))) }
         ensures room { HasRoom self.new }
     {
         if number == expected {

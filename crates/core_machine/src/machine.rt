@@ -57,9 +57,19 @@ impl Model for Machine {
 
     ghost Value = { MachineAt };
 
-    ghost view = { λ m. record { words = m.words.items; owns = map own_of m.callers.items; updates = m.updates.items; standing = map (λ c. c.stands) m.callers.items } };
+    ghost view = { λ m. record {
+      words = m.words.items;
+      owns = map own_of m.callers.items;
+      updates = m.updates.items;
+      standing = map (λ c. c.stands) m.callers.items;
+    } };
 
-    ghost invariant = { λ m. IsReached (record { words = m.words.items; owns = map own_of m.callers.items; updates = m.updates.items; standing = map (λ c. c.stands) m.callers.items }) m.callers.items (vec_capacity m.updates) };
+    ghost invariant = { λ m. IsReached (record {
+      words = m.words.items;
+      owns = map own_of m.callers.items;
+      updates = m.updates.items;
+      standing = map (λ c. c.stands) m.callers.items;
+    }) m.callers.items (vec_capacity m.updates) };
 }
 
 fn answer_for(blocked: Option<Why>) -> Stepped
@@ -96,7 +106,8 @@ fn step_at(
 ) -> Stepped
     requires caller { IsSteppable words.old callers.old index }
     requires room { vec_len updates.old < vec_capacity updates.old }
-    ensures stepped { (c : Caller) → slice_get callers.old index ≡ Some c → StepsBy (is_finished c.stage) words.old callers.old updates.old.items index c words.new callers.new updates.new.items result }
+    ensures stepped { (c : Caller) → slice_get callers.old index ≡ Some c
+        → StepsBy (is_finished c.stage) words.old callers.old updates.old.items index c words.new callers.new updates.new.items result }
     ensures capacity { vec_capacity updates.old ≤ vec_capacity updates.new }
 {
     let own = &mut callers[index];
@@ -152,8 +163,12 @@ impl Machine {
     /// One step of the caller. It takes no memory.
     pub fn step(&mut self, caller: u32) -> Stepped
         requires { caller < length self.old.owns }
-        ensures stored { (scripts : List (List Op)) (slots : ℕ) (callers : List ℕ) → IsMachine scripts slots → HasStored scripts slots (core scripts slots callers) self.old → HasStored scripts slots (core scripts slots (callers ++ caller ∷ [])) self.new }
-        ensures answers { (scripts : List (List Op)) (slots : ℕ) (callers : List ℕ) → IsMachine scripts slots → HasStored scripts slots (core scripts slots callers) self.old → result ≡ stepped_as (answers (core scripts slots callers) caller) }
+        ensures stored { (scripts : List (List Op)) (slots : ℕ) (callers : List ℕ) → IsMachine scripts slots
+            → HasStored scripts slots (core scripts slots callers) self.old
+            → HasStored scripts slots (core scripts slots (callers ++ caller ∷ [])) self.new }
+        ensures answers { (scripts : List (List Op)) (slots : ℕ) (callers : List ℕ) → IsMachine scripts slots
+            → HasStored scripts slots (core scripts slots callers) self.old
+            → result ≡ stepped_as (answers (core scripts slots callers) caller) }
         ensures finished { result ≡ did.Finished → self.new ≡ self.old }
         ensures blocked { (why : Why) → result ≡ did.Blocked why → self.new.words ≡ self.old.words }
         ensures count { length self.new.owns ≡ length self.old.owns }
@@ -177,7 +192,8 @@ impl Machine {
     /// Where the caller's script has ended, lists the others anew. Else it leaves the list of those that haven't ended.
     fn drop_ended(&self, caller: u32, left: &mut ArrayVec<u32, 64>)
         requires caller { caller < length self.now.owns }
-        requires kept { (own : Own) → slice_get self.now.owns caller ≡ Some own → is_finished own.stage ≡ false → left.old.items ≡ unfinished_from 0 self.now.owns }
+        requires kept { (own : Own) → slice_get self.now.owns caller ≡ Some own → is_finished own.stage ≡ false
+            → left.old.items ≡ unfinished_from 0 self.now.owns }
         ensures left { left.new.items ≡ unfinished_from 0 self.now.owns }
     {
         if self.callers[caller as usize].is_finished() {
@@ -188,8 +204,10 @@ impl Machine {
     /// Steps until all scripts have ended. Before each step the generator's state, at first the number, moves on; and the caller at the
     /// drawn position among those that haven't ended makes the step. Where all scripts have ended nothing is drawn.
     pub fn run<R: Wait>(&mut self, rt: &R, number: u64)
-        ensures ran { (scripts : List (List Op)) (slots : ℕ) (callers : List ℕ) → IsMachine scripts slots → HasStored scripts slots (core scripts slots callers) self.old → HasRun scripts slots callers number self.new }
-        ensures ended { (scripts : List (List Op)) (slots : ℕ) (callers : List ℕ) → IsMachine scripts slots → HasStored scripts slots (core scripts slots callers) self.old → HasEnded scripts slots self.new }
+        ensures ran { (scripts : List (List Op)) (slots : ℕ) (callers : List ℕ) → IsMachine scripts slots
+            → HasStored scripts slots (core scripts slots callers) self.old → HasRun scripts slots callers number self.new }
+        ensures ended { (scripts : List (List Op)) (slots : ℕ) (callers : List ℕ) → IsMachine scripts slots
+            → HasStored scripts slots (core scripts slots callers) self.old → HasEnded scripts slots self.new }
         ensures count { length self.new.owns ≡ length self.old.owns }
     {
         let mut left = self.unfinished();

@@ -14,7 +14,9 @@ use prcu_marks::Side;
 
 /// The old successor was unlinked: the tag of a side that it left empty is raised, and then all locks are given up.
 fn past_unlink(moving: Moving, child: u64) -> Stage
-    ensures point { result ≡ (if child == 0 then (if moving.successor.parent == moving.node.node then stages.EmptyTag moving.number moving.copy sides.Right else stages.EmptyTag moving.number moving.successor.parent sides.Left) else stages.Unlock (lasts.Gone moving.number)) }
+    ensures point { result ≡ (if child == 0 then
+        (if moving.successor.parent == moving.node.node then stages.EmptyTag moving.number moving.copy sides.Right
+        else stages.EmptyTag moving.number moving.successor.parent sides.Left) else stages.Unlock (lasts.Gone moving.number)) }
     ensures going { is_finished result ≡ false }
 {
     let number = moving.number;

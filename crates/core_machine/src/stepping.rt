@@ -80,14 +80,15 @@ impl Caller {
 pub fn step_caller(words: &mut [u64], own: &mut Caller) -> Option<Why>
     requires can { CanStep words.old (own_of own.old) }
     requires room { HasRoom own.old }
-    ensures words { let o = own_of own.old in words.new ≡ set words.old (index_now o) (left_by (access_of o.place (act_at o o.stage)) (found_now words.old o)) }
+    ensures words { let o = own_of own.old in words.new
+        ≡ set words.old (index_now o) (left_by (access_of o.place (act_at o o.stage)) (found_now words.old o)) }
     ensures own { let o = own_of own.old in own_of own.new ≡ after o (told_now words.old o) o.stage }
     ensures room { HasRoom own.new }
     ensures stands { own.new.stands ≡ stands_after own.old.stands (told_now words.old (own_of own.old)) own.old.stage }
     ensures blocked { let o = own_of own.old in result ≡ blocked_at o (told_now words.old o) o.stage }
 {
     let (field, access) = access_at(own);
-    let index = index_of(Waiter::Eer, own.places, field);
+    let index = index_of(Waiter::Eer, own.slots, own.places, field);
     let told = touch(words, index, access);
     let why = own.blocked(told);
     let stands = own.stands_after(told);

@@ -20,6 +20,8 @@ use Rattle.core_state.specs.Invariant.{HoldsNow}
 
 -- Where the copy of a successor may be linked, its key is the next one in the dictionary above the key that is deleted.
 abbrev pub CopiesHaveNextKeys : Type 0
-CopiesHaveNextKeys = (k : Shape) (m : Memory) (vs : List View) (h : List Mark) (id : ℕ) (v : View) → HoldsNow k m vs h → get_elem? vs id ≡ some v → Works v
-    → (commit : Commit) (r : Reading) (held : Held) (parent : ℕ) (b : Side) (node copy old old_parent left right next value : ℕ) → NeedsCopyLink v commit r held parent b node copy old old_parent left right next value
+CopiesHaveNextKeys = (k : Shape) (m : Memory) (vs : List View) (h : List Mark) (id : ℕ) (v : View) → HoldsNow k m vs h
+    → get_elem? vs id ≡ some v → Works v
+    → (commit : Commit) (r : Reading) (held : Held) (parent : ℕ) (b : Side) (node copy old old_parent left right next value : ℕ)
+    → NeedsCopyLink v commit r held parent b node copy old old_parent left right next value
     → IsNextKey (map_of (updates_of h)) r.key next

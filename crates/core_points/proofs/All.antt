@@ -51,17 +51,20 @@ use Rattle.core_points.proofs.Unlocks.{needs_unlock, next_unlock}
 use Rattle.core_tree.proofs.locks.Locked.{loaded_known}
 
 pub rule_tells : RuleTells
-rule_tells k m vs h id o v inv there works slots places = subst (λ (z : ℕ × ℕ). IsToldOf z.0 z.1 v h m) (λ i. (slots i, places i)) (told_of k m vs h id v inv there works)
+rule_tells k m vs h id o v inv there works slots places =
+    subst (λ (z : ℕ × ℕ). IsToldOf z.0 z.1 v h m) (λ i. (slots i, places i)) (told_of k m vs h id v inv there works)
 
 none_are : (rs : List Retired) (os : List ℕ) → map (λ (r : Retired). r.slot) rs ≡ os → rs ≢ [] → is_none_left os ≡ false
 none_are [] os e ne = absurd (ne refl)
 none_are (r ∷ rs) os e ne = ap is_none_left (sym e)
 
 pub comes : (o : Own) (v : View) (h : List Mark) (word : Field → ℕ) → IsTold o v h word → Owns o v → SpareComes o
-comes o v h word told owns none = none_are v.hands.retired o.retired owns.retired_are (told.spare_comes (no_spare v.hands.spare o.spare owns.spare_is none))
+comes o v h word told owns none = none_are v.hands.retired o.retired owns.retired_are
+    (told.spare_comes (no_spare v.hands.spare o.spare owns.spare_is none))
 
 -- the spare is none of the slots of a delete whose records hold
-is_aside : (o : Own) (v : View) (h : List Mark) (word : Field → ℕ) (d : Node) (u : Successor) → IsTold o v h word → Owns o v → BeforeCopy o v d u → IsAside (or_root o.spare) d u
+is_aside : (o : Own) (v : View) (h : List Mark) (word : Field → ℕ) (d : Node) (u : Successor) → IsTold o v h word → Owns o v
+    → BeforeCopy o v d u → IsAside (or_root o.spare) d u
 is_aside o v h word d u told owns p =
     let c = p.0 in
     let both = c.2 in
@@ -70,7 +73,9 @@ is_aside o v h word d u told owns p =
     let s = both.3 in
     let spare = some_spare v.hands.spare o.spare owns.spare_is (((c.1).1).has_spare (c.1).0) in
     let known = λ (t g : ℕ) (e : loaded_in (under v.locks t) (Life t) ≡ Some (2 * g)). loaded_known (under v.locks t) (Life t) (2 * g) e in
-    let apart = λ (t g : ℕ) (recorded : LoadedGeneration r t g) (e : loaded_in (under v.locks t) (Life t) ≡ Some (2 * g)). λ (same : or_root o.spare ≡ t). told.aside r t g node.kept recorded (known t g e) spare.0 spare.1 (spare.2 ∙ same) in
+    let apart = λ (t g : ℕ) (recorded : LoadedGeneration r t g) (e : loaded_in (under v.locks t) (Life t)
+    ≡ Some (2 * g)). λ (same : or_root o.spare ≡ t). told.aside r t g node.kept recorded (known t g e) spare.0 spare.1
+    (spare.2 ∙ same) in
     let from_node : or_root o.spare ≢ d.node = apart d.node d.generation node.recorded p.1 in
     record {
       parent = apart d.parent d.parent_generation node.parent_recorded node.parent_life;
@@ -86,7 +91,8 @@ module _ (k : Shape) (h : List Mark) (o : Own) (w : View) (places : k.places ≡
   leaves : (key : ℕ) (state : SearchState) (more : Section → Type 0) → Inside w key state more → (s : Section) × (w.section ≡ Some s)
   leaves key state more i = (i.0, i.1)
 
-  needs_all : (word : Field → ℕ) → IsTold o w h word → (n : ℕ) (stage : Stage) → (is_step (act_at o stage) ≡ false → k.waiter ≡ Eer) → Fits o stage w → Needs k w n (act_at o stage)
+  needs_all : (word : Field → ℕ) → IsTold o w h word → (n : ℕ) (stage : Stage) → (is_step (act_at o stage) ≡ false → k.waiter ≡ Eer)
+      → Fits o stage w → Needs k w n (act_at o stage)
   needs_all word told n at.Finished eer f = tt
   needs_all word told n at.EnterClock eer f = tt
   needs_all word told n (at.EnterKey clock) eer f = needs_key k h o w n clock f
@@ -172,7 +178,8 @@ any = record { waiter = Eer; slots = 0; places = 0; tickets = 0 }
 
 module _ (h : List Mark) (o : Own) (v : View) where
   next_all : (word : Field → ℕ) → IsTold o v h word → (stage : Stage) → is_finished stage ≡ false → Fits o stage v
-      → let n : ℕ = said v (act_at o stage) (word (field_of o.place (act_at o stage))) in Fits (after o n stage) (after o n stage).stage (view_after v h n (act_at o stage))
+      → let n : ℕ = said v (act_at o stage) (word (field_of o.place (act_at o stage))) in
+      Fits (after o n stage) (after o n stage).stage (view_after v h n (act_at o stage))
   next_all word told at.Finished going f = cc
   next_all word told at.EnterClock going f = next_clock any h o v (word (field_of o.place (act_at o at.EnterClock))) f
   next_all word told (at.EnterKey clock) going f = next_key any h o v (word (field_of o.place (act_at o (at.EnterKey clock)))) clock f
@@ -180,71 +187,121 @@ module _ (h : List Mark) (o : Own) (v : View) where
   next_all word told (at.AtLink s b) going f = next_link any h o v (word (field_of o.place (act_at o (at.AtLink s b)))) s b f
   next_all word told (at.AtKey s p b) going f = next_read any h o v (word (field_of o.place (act_at o (at.AtKey s p b)))) s p b f
   next_all word told (at.Leave then.Absent) going f = next_absent any h o v (word (field_of o.place (act_at o (at.Leave then.Absent)))) f
-  next_all word told (at.Leave (then.Value value)) going f = next_val any h o v (word (field_of o.place (act_at o (at.Leave (then.Value value))))) value f
+  next_all word told (at.Leave (then.Value value)) going f =
+      next_val any h o v (word (field_of o.place (act_at o (at.Leave (then.Value value))))) value f
   next_all word told (at.Leave then.Old) going f = next_old any h o v (word (field_of o.place (act_at o (at.Leave then.Old)))) f
-  next_all word told (at.Leave (then.Link spot)) going f = next_link_leaf any h o v (word (field_of o.place (act_at o (at.Leave (then.Link spot))))) spot told.stood f
-  next_all word told (at.Leave (then.Replace s generation)) going f = next_replace any h o v (word (field_of o.place (act_at o (at.Leave (then.Replace s generation))))) s generation told.stood f
-  next_all word told (at.Leave (then.Delete t)) going f = next_delete any h o v (word (field_of o.place (act_at o (at.Leave (then.Delete t))))) t told.stood f
+  next_all word told (at.Leave (then.Link spot)) going f =
+      next_link_leaf any h o v (word (field_of o.place (act_at o (at.Leave (then.Link spot))))) spot told.stood f
+  next_all word told (at.Leave (then.Replace s generation)) going f =
+      next_replace any h o v (word (field_of o.place (act_at o (at.Leave (then.Replace s generation))))) s generation told.stood f
+  next_all word told (at.Leave (then.Delete t)) going f =
+      next_delete any h o v (word (field_of o.place (act_at o (at.Leave (then.Delete t))))) t told.stood f
   next_all word told (at.Value s) going f = next_value any h o v (word (field_of o.place (act_at o (at.Value s)))) s f
   next_all word told (at.SpotTag s b) going f = next_spot_tag any h o v (word (field_of o.place (act_at o (at.SpotTag s b)))) s b f
-  next_all word told (at.SpotLife s b tag) going f = next_spot_life any h o v (word (field_of o.place (act_at o (at.SpotLife s b tag)))) s b tag f
-  next_all word told (at.LeafField spot i) going f = next_field any h o v (word (field_of o.place (act_at o (at.LeafField spot i)))) spot i f
+  next_all word told (at.SpotLife s b tag) going f =
+      next_spot_life any h o v (word (field_of o.place (act_at o (at.SpotLife s b tag)))) s b tag f
+  next_all word told (at.LeafField spot i) going f =
+      next_field any h o v (word (field_of o.place (act_at o (at.LeafField spot i)))) spot i f
   next_all word told (at.LeafLock spot) going f = next_lock any h o v (word (field_of o.place (act_at o (at.LeafLock spot)))) spot f
-  next_all word told (at.LeafLife spot) going f = next_life any h o v (word (field_of o.place (act_at o (at.LeafLife spot)))) spot (told.loads spot.slot (Life spot.slot)) f
-  next_all word told (at.LeafSide spot life) going f = next_side any h o v (word (field_of o.place (act_at o (at.LeafSide spot life)))) spot life (told.loads spot.slot (Link spot.slot spot.side)) f
-  next_all word told (at.LeafTag spot life link) going f = next_tag any h o v (word (field_of o.place (act_at o (at.LeafTag spot life link)))) spot life link (told.loads spot.slot (Tag spot.slot spot.side)) f
-  next_all word told (at.Reserve (Leaf spot) expected) going f = next_reserve any h o v (word (field_of o.place (act_at o (at.Reserve (Leaf spot) expected)))) spot expected f
-  next_all word told (at.Reserve Spare expected) going f = next_reserve_spare any h o v (word (field_of o.place (act_at o (at.Reserve Spare expected)))) expected f
+  next_all word told (at.LeafLife spot) going f =
+      next_life any h o v (word (field_of o.place (act_at o (at.LeafLife spot)))) spot (told.loads spot.slot (Life spot.slot)) f
+  next_all word told (at.LeafSide spot life) going f =
+      next_side any h o v (word (field_of o.place (act_at o (at.LeafSide spot life)))) spot life
+      (told.loads spot.slot (Link spot.slot spot.side)) f
+  next_all word told (at.LeafTag spot life link) going f =
+      next_tag any h o v (word (field_of o.place (act_at o (at.LeafTag spot life link)))) spot life link
+      (told.loads spot.slot (Tag spot.slot spot.side)) f
+  next_all word told (at.Reserve (Leaf spot) expected) going f =
+      next_reserve any h o v (word (field_of o.place (act_at o (at.Reserve (Leaf spot) expected)))) spot expected f
+  next_all word told (at.Reserve Spare expected) going f =
+      next_reserve_spare any h o v (word (field_of o.place (act_at o (at.Reserve Spare expected)))) expected f
   next_all word told (at.Reserve Room expected) going f = absurd f.point
-  next_all word told (at.Seize (Leaf spot)) going f = next_seize any h o v (word (field_of o.place (act_at o (at.Seize (Leaf spot))))) spot f
+  next_all word told (at.Seize (Leaf spot)) going f =
+      next_seize any h o v (word (field_of o.place (act_at o (at.Seize (Leaf spot))))) spot f
   next_all word told (at.Seize Spare) going f = next_seize_spare any h o v (word (field_of o.place (act_at o (at.Seize Spare)))) f
   next_all word told (at.Seize Room) going f = absurd f.point
-  next_all word told (at.Age (Leaf spot) s) going f = next_age any h o v (word (field_of o.place (act_at o (at.Age (Leaf spot) s)))) spot s f
+  next_all word told (at.Age (Leaf spot) s) going f =
+      next_age any h o v (word (field_of o.place (act_at o (at.Age (Leaf spot) s)))) spot s f
   next_all word told (at.Age Spare s) going f = next_age_spare any h o v (word (field_of o.place (act_at o (at.Age Spare s)))) s f
   next_all word told (at.Age Room s) going f = absurd f.point
   next_all word told (at.Keep s) going f = next_keep any h o v (word (field_of o.place (act_at o (at.Keep s)))) s f
   next_all word told at.Raise going f = next_raise any h o v (word (field_of o.place (act_at o at.Raise))) f
   next_all word told at.Free going f = next_free any h o v (word (field_of o.place (act_at o at.Free))) f
   next_all word told at.Count going f = next_count any h o v (word (field_of o.place (act_at o at.Count))) f
-  next_all word told (at.Begin (Reuse aim)) going f = next_begin any h o v (word (field_of o.place (act_at o (at.Begin (Reuse aim))))) aim told.some_place told.older f
-  next_all word told (at.Begin (Move m)) going f = next_move_begin any h o v (word (field_of o.place (act_at o (at.Begin (Move m))))) m told.some_place told.moves f
-  next_all word told (at.LookKey (Reuse aim) clock p) going f = next_look_key any h o v (word (field_of o.place (act_at o (at.LookKey (Reuse aim) clock p)))) aim clock p (comes o v h word told f.owns) f
-  next_all word told (at.LookKey (Move m) clock p) going f = next_move_key any h o v (word (field_of o.place (act_at o (at.LookKey (Move m) clock p)))) m clock p f
-  next_all word told (at.LookStamp (Reuse aim) clock p key) going f = next_look_stamp any h o v (word (field_of o.place (act_at o (at.LookStamp (Reuse aim) clock p key)))) aim clock p key (comes o v h word told f.owns) f
-  next_all word told (at.LookStamp (Move m) clock p key) going f = next_move_stamp any h o v (word (field_of o.place (act_at o (at.LookStamp (Move m) clock p key)))) m clock p key f
+  next_all word told (at.Begin (Reuse aim)) going f =
+      next_begin any h o v (word (field_of o.place (act_at o (at.Begin (Reuse aim))))) aim told.some_place told.older f
+  next_all word told (at.Begin (Move m)) going f =
+      next_move_begin any h o v (word (field_of o.place (act_at o (at.Begin (Move m))))) m told.some_place told.moves f
+  next_all word told (at.LookKey (Reuse aim) clock p) going f =
+      next_look_key any h o v (word (field_of o.place (act_at o (at.LookKey (Reuse aim) clock p)))) aim clock p
+      (comes o v h word told f.owns) f
+  next_all word told (at.LookKey (Move m) clock p) going f =
+      next_move_key any h o v (word (field_of o.place (act_at o (at.LookKey (Move m) clock p)))) m clock p f
+  next_all word told (at.LookStamp (Reuse aim) clock p key) going f =
+      next_look_stamp any h o v (word (field_of o.place (act_at o (at.LookStamp (Reuse aim) clock p key)))) aim clock p key
+      (comes o v h word told f.owns) f
+  next_all word told (at.LookStamp (Move m) clock p key) going f =
+      next_move_stamp any h o v (word (field_of o.place (act_at o (at.LookStamp (Move m) clock p key)))) m clock p key f
   next_all word told (at.OldAge aim) going f = next_old_age any h o v (word (field_of o.place (act_at o (at.OldAge aim)))) aim f
-  next_all word told (at.OldRaise aim life) going f = next_old_raise any h o v (word (field_of o.place (act_at o (at.OldRaise aim life)))) aim life told.alone f
-  next_all word told (at.OldFree aim) going f = next_old_free any h o v (word (field_of o.place (act_at o (at.OldFree aim)))) aim told.alone f
-  next_all word told (at.OldCount aim) going f = next_old_count any h o v (word (field_of o.place (act_at o (at.OldCount aim)))) aim (comes o v h word told f.owns) f
-  next_all word told (at.Commit u expected) going f = next_commit any h o v (word (field_of o.place (act_at o (at.Commit u expected)))) u expected f
-  next_all word told (at.Store (update.Leaf spot) front) going f = next_store any h o v (word (field_of o.place (act_at o (at.Store (update.Leaf spot) front)))) spot front f
-  next_all word told (at.Store (update.Value s old) front) going f = next_set_store any h o v (word (field_of o.place (act_at o (at.Store (update.Value s old) front)))) s old front f
-  next_all word told (at.Store (update.Bypass d child) front) going f = next_bypass any h o v (word (field_of o.place (act_at o (at.Store (update.Bypass d child) front)))) d child front f
-  next_all word told (at.Store (update.Copy d u next_key copy) front) going f = next_copy_store any h o v (word (field_of o.place (act_at o (at.Store (update.Copy d u next_key copy) front)))) d u next_key copy front f
+  next_all word told (at.OldRaise aim life) going f =
+      next_old_raise any h o v (word (field_of o.place (act_at o (at.OldRaise aim life)))) aim life told.alone f
+  next_all word told (at.OldFree aim) going f = next_old_free any h o v
+      (word (field_of o.place (act_at o (at.OldFree aim)))) aim told.alone f
+  next_all word told (at.OldCount aim) going f =
+      next_old_count any h o v (word (field_of o.place (act_at o (at.OldCount aim)))) aim (comes o v h word told f.owns) f
+  next_all word told (at.Commit u expected) going f =
+      next_commit any h o v (word (field_of o.place (act_at o (at.Commit u expected)))) u expected f
+  next_all word told (at.Store (update.Leaf spot) front) going f =
+      next_store any h o v (word (field_of o.place (act_at o (at.Store (update.Leaf spot) front)))) spot front f
+  next_all word told (at.Store (update.Value s old) front) going f =
+      next_set_store any h o v (word (field_of o.place (act_at o (at.Store (update.Value s old) front)))) s old front f
+  next_all word told (at.Store (update.Bypass d child) front) going f =
+      next_bypass any h o v (word (field_of o.place (act_at o (at.Store (update.Bypass d child) front)))) d child front f
+  next_all word told (at.Store (update.Copy d u next_key copy) front) going f =
+      next_copy_store any h o v (word (field_of o.place
+      (act_at o (at.Store (update.Copy d u next_key copy) front)))) d u next_key copy front f
   next_all word told (at.Even u front) going f = next_even any h o v (word (field_of o.place (act_at o (at.Even u front)))) u front f
   next_all word told (at.Unlock l) going f = next_unlock any h o v (word (field_of o.place (act_at o (at.Unlock l)))) l told.once f
   next_all word told (at.SetLife s) going f = next_set_life any h o v (word (field_of o.place (act_at o (at.SetLife s)))) s f
-  next_all word told (at.SetLock s generation) going f = next_set_lock any h o v (word (field_of o.place (act_at o (at.SetLock s generation)))) s generation f
-  next_all word told (at.SetCheck s generation) going f = next_set_check any h o v (word (field_of o.place (act_at o (at.SetCheck s generation)))) s generation f
+  next_all word told (at.SetLock s generation) going f =
+      next_set_lock any h o v (word (field_of o.place (act_at o (at.SetLock s generation)))) s generation f
+  next_all word told (at.SetCheck s generation) going f =
+      next_set_check any h o v (word (field_of o.place (act_at o (at.SetCheck s generation)))) s generation f
   next_all word told (at.SetValue s) going f = next_set_value any h o v (word (field_of o.place (act_at o (at.SetValue s)))) s f
-  next_all word told (at.ParentLife p b d) going f = next_parent_life any h o v (word (field_of o.place (act_at o (at.ParentLife p b d)))) p b d f
+  next_all word told (at.ParentLife p b d) going f =
+      next_parent_life any h o v (word (field_of o.place (act_at o (at.ParentLife p b d)))) p b d f
   next_all word told (at.NodeLife d) going f = next_node_life any h o v (word (field_of o.place (act_at o (at.NodeLife d)))) d f
   next_all word told (at.NodeLeft d) going f = next_node_left any h o v (word (field_of o.place (act_at o (at.NodeLeft d)))) d f
   next_all word told (at.NodeRight d) going f = next_node_right any h o v (word (field_of o.place (act_at o (at.NodeRight d)))) d f
-  next_all word told (at.SuccessorLeft d u) going f = next_successor_left any h o v (word (field_of o.place (act_at o (at.SuccessorLeft d u)))) d u f
-  next_all word told (at.SuccessorParentLife d u) going f = next_successor_parent any h o v (word (field_of o.place (act_at o (at.SuccessorParentLife d u)))) d u f
-  next_all word told (at.SuccessorLife d u) going f = next_successor_life any h o v (word (field_of o.place (act_at o (at.SuccessorLife d u)))) d u f
-  next_all word told (at.TargetLock t i) going f = next_target_lock any h o v (word (field_of o.place (act_at o (at.TargetLock t i)))) t i (λ free held. told.busy (target_lock t i) held free) f
-  next_all word told (at.TargetLoad t i found) going f = next_target_load any h o v (word (field_of o.place (act_at o (at.TargetLoad t i found)))) t i found f
+  next_all word told (at.SuccessorLeft d u) going f =
+      next_successor_left any h o v (word (field_of o.place (act_at o (at.SuccessorLeft d u)))) d u f
+  next_all word told (at.SuccessorParentLife d u) going f =
+      next_successor_parent any h o v (word (field_of o.place (act_at o (at.SuccessorParentLife d u)))) d u f
+  next_all word told (at.SuccessorLife d u) going f =
+      next_successor_life any h o v (word (field_of o.place (act_at o (at.SuccessorLife d u)))) d u f
+  next_all word told (at.TargetLock t i) going f =
+      next_target_lock any h o v (word (field_of o.place (act_at o (at.TargetLock t i)))) t i
+      (λ free held. told.busy (target_lock t i) held free) f
+  next_all word told (at.TargetLoad t i found) going f =
+      next_target_load any h o v (word (field_of o.place (act_at o (at.TargetLoad t i found)))) t i found f
   next_all word told (at.Mark d child) going f = next_mark any h o v (word (field_of o.place (act_at o (at.Mark d child)))) d child f
-  next_all word told (at.EmptyTag number s b) going f = next_empty_tag any h o v (word (field_of o.place (act_at o (at.EmptyTag number s b)))) number s b f
-  next_all word told (at.EmptyRaise number s b tag) going f = next_empty_raise any h o v (word (field_of o.place (act_at o (at.EmptyRaise number s b tag)))) number s b tag f
-  next_all word told (at.SuccessorKey d u) going f = next_successor_key any h o v (word (field_of o.place (act_at o (at.SuccessorKey d u)))) d u (is_aside o v h word d u told f.owns f.point) f
-  next_all word told (at.SuccessorValue d u next_key) going f = next_successor_value any h o v (word (field_of o.place (act_at o (at.SuccessorValue d u next_key)))) d u next_key f
-  next_all word told (at.CopyField d u next_key value i) going f = next_copy_field any h o v (word (field_of o.place (act_at o (at.CopyField d u next_key value i)))) d u next_key value i f
-  next_all word told (at.CopyAge d u next_key) going f = next_copy_age any h o v (word (field_of o.place (act_at o (at.CopyAge d u next_key)))) d u next_key f
-  next_all word told (at.CopyLock d u next_key) going f = next_copy_lock any h o v (word (field_of o.place (act_at o (at.CopyLock d u next_key)))) d u next_key f
-  next_all word told (at.CopyMark d u next_key) going f = next_copy_mark any h o v (word (field_of o.place (act_at o (at.CopyMark d u next_key)))) d u next_key f
+  next_all word told (at.EmptyTag number s b) going f =
+      next_empty_tag any h o v (word (field_of o.place (act_at o (at.EmptyTag number s b)))) number s b f
+  next_all word told (at.EmptyRaise number s b tag) going f =
+      next_empty_raise any h o v (word (field_of o.place (act_at o (at.EmptyRaise number s b tag)))) number s b tag f
+  next_all word told (at.SuccessorKey d u) going f =
+      next_successor_key any h o v (word (field_of o.place (act_at o (at.SuccessorKey d u)))) d u
+      (is_aside o v h word d u told f.owns f.point) f
+  next_all word told (at.SuccessorValue d u next_key) going f =
+      next_successor_value any h o v (word (field_of o.place (act_at o (at.SuccessorValue d u next_key)))) d u next_key f
+  next_all word told (at.CopyField d u next_key value i) going f =
+      next_copy_field any h o v (word (field_of o.place (act_at o (at.CopyField d u next_key value i)))) d u next_key value i f
+  next_all word told (at.CopyAge d u next_key) going f =
+      next_copy_age any h o v (word (field_of o.place (act_at o (at.CopyAge d u next_key)))) d u next_key f
+  next_all word told (at.CopyLock d u next_key) going f =
+      next_copy_lock any h o v (word (field_of o.place (act_at o (at.CopyLock d u next_key)))) d u next_key f
+  next_all word told (at.CopyMark d u next_key) going f =
+      next_copy_mark any h o v (word (field_of o.place (act_at o (at.CopyMark d u next_key)))) d u next_key f
   next_all word told (at.OldMark m) going f = next_old_mark any h o v (word (field_of o.place (act_at o (at.OldMark m)))) m f
   next_all word told (at.OldRight m) going f = next_old_right any h o v (word (field_of o.place (act_at o (at.OldRight m)))) m f
   next_all word told (at.Unlink m child) going f = next_unlink any h o v (word (field_of o.place (act_at o (at.Unlink m child)))) m child f

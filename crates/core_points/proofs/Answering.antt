@@ -45,25 +45,31 @@ use Rattle.core_tree.proofs.notes.Knowing.{known_here}
 use Rattle.core_tree.proofs.locks.Locked.{alive, young_locked}
 
 -- A search that ended at an empty side, or loaded the value that it found: the dictionary said so since the section was entered.
-search_said : (k : Shape) (m : Memory) (vs : List View) (h : List Mark) (id : ℕ) (v : View) (key : ℕ) (state : SearchState) (more : Section → Type 0) → HoldsNow k m vs h → get_elem? vs id ≡ some v
+search_said : (k : Shape) (m : Memory) (vs : List View) (h : List Mark) (id : ℕ) (v : View) (key : ℕ) (state : SearchState)
+    (more : Section → Type 0) → HoldsNow k m vs h → get_elem? vs id ≡ some v
     → (i : Inside v key state more) → WasSaid (updates_of h) key (i.0).from (answer_of m (slot_count k) key state)
 search_said k m vs h id v key state more inv there i =
     let section : Section = i.0 in
-    let said = searches_are_answered k m vs h inv section (record { id = id; view = v; there = there; inside = i.1; no_list = (i.2).searches }) in
+    let said = searches_are_answered k m vs h inv section
+    (record { id = id; view = v; there = there; inside = i.1; no_list = (i.2).searches }) in
     subst (λ s. WasSaid (updates_of h) key section.from (answer_of m (slot_count k) key s)) (i.2).state_is
     (subst (λ x. WasSaid (updates_of h) x section.from (answer_of m (slot_count k) x section.reading.state)) (i.2).key_is said)
 
 -- A get's answer, as it leaves its section.
-value_said : (k : Shape) (m : Memory) (vs : List View) (h : List Mark) (id : ℕ) (v : View) (o : Own) (value : ℕ) → HoldsNow k m vs h → get_elem? vs id ≡ some v
-    → Fits o (at.Leave (then.Value value)) v → (section : Section) × (v.section ≡ Some section) × WasSaid (updates_of h) (key_now o) section.from (Some value)
+value_said : (k : Shape) (m : Memory) (vs : List View) (h : List Mark) (id : ℕ) (v : View) (o : Own) (value : ℕ) → HoldsNow k m vs h
+    → get_elem? vs id ≡ some v
+    → Fits o (at.Leave (then.Value value)) v → (section : Section) × (v.section ≡ Some section)
+    × WasSaid (updates_of h) (key_now o) section.from (Some value)
 value_said k m vs h id v o value inv there f =
     let p = (f.point).1 in
     let q = p.1 in
     let i = q.3 in
     (i.0, i.1, search_said k m vs h id v (key_now o) (Found q.0 q.1 q.2 (Some value)) Nothing inv there i)
 
-absent_said : (k : Shape) (m : Memory) (vs : List View) (h : List Mark) (id : ℕ) (v : View) (o : Own) → HoldsNow k m vs h → get_elem? vs id ≡ some v
-    → Fits o (at.Leave then.Absent) v → (section : Section) × (v.section ≡ Some section) × WasSaid (updates_of h) (key_now o) section.from None
+absent_said : (k : Shape) (m : Memory) (vs : List View) (h : List Mark) (id : ℕ) (v : View) (o : Own) → HoldsNow k m vs h
+    → get_elem? vs id ≡ some v
+    → Fits o (at.Leave then.Absent) v → (section : Section) × (v.section ≡ Some section)
+    × WasSaid (updates_of h) (key_now o) section.from None
 absent_said k m vs h id v o inv there f =
     let p = (f.point).1 in
     let q = p.1 in
@@ -71,7 +77,8 @@ absent_said k m vs h id v o inv there f =
     (i.0, i.1, search_said k m vs h id v (key_now o) (Missed q.0 q.1) Nothing inv there i)
 
 -- A put that found its key: it had a value.
-old_said : (k : Shape) (m : Memory) (vs : List View) (h : List Mark) (id : ℕ) (v : View) (o : Own) → HoldsNow k m vs h → get_elem? vs id ≡ some v → Fits o (at.Leave then.Old) v
+old_said : (k : Shape) (m : Memory) (vs : List View) (h : List Mark) (id : ℕ) (v : View) (o : Own) → HoldsNow k m vs h
+    → get_elem? vs id ≡ some v → Fits o (at.Leave then.Old) v
     → (section : Section) × (v.section ≡ Some section) × ((value : ℕ) × WasSaid (updates_of h) (key_now o) section.from (Some value))
 old_said k m vs h id v o inv there f =
     let p = (f.point).1 in
@@ -84,25 +91,38 @@ old_said k m vs h id v o inv there f =
     let reading = inv.readers.readings id v there kept.0 r kept.1 in
     let well = subst (StandsWell r) (i.2).state_is reading.well in
     let stood = (inv.readers.served id v there section i.1).stood s (i.2).here in
-    let key : m (Key s) ≡ key_now o = stood.key r.key well.1 ∙ (i.2).sought in
-    (section, i.1, (m (Value s), subst (WasSaid (updates_of h) (key_now o) section.from) (follow_here m (slot_count k) s (key_now o) (well.0).some_slot key) (search_said k m vs h id v (key_now o) (Found s q.1 q.2 None) Nothing inv there i)))
+    let key : m (Key s) ≡ key_now o = stood.key r.key well.1 ∙ (i.2).sought in (
+      section,
+      i.1,
+      (
+        m (Value s),
+        subst (WasSaid (updates_of h) (key_now o) section.from)
+            (follow_here m (slot_count k) s (key_now o) (well.0).some_slot key)
+            (search_said k m vs h id v (key_now o) (Found s q.1 q.2 None) Nothing inv there i),
+      ),
+    )
 
 none_retired : (rs : List Retired) (os : List ℕ) → map (λ (r : Retired). r.slot) rs ≡ os → is_none_left os ≡ true → length rs ≡ 0
 none_retired [] os e none = refl
 none_retired (r ∷ rs) os e none = absurd (let q : false ≡ true = ap is_none_left e ∙ none in cc)
 
-full_said : (k : Shape) (m : Memory) (vs : List View) (h : List Mark) (id : ℕ) (v : View) (o : Own) (spot : Spot) (expected : ℕ) → HoldsNow k m vs h → get_elem? vs id ≡ some v
-    → Fits o (at.Reserve (Leaf spot) expected) v → is_none_left o.retired ≡ true → m Free ≡ 0 → k.slots ≤ finite.len (map_of (updates_of h)) + 20 * (k.places - 1)
+full_said : (k : Shape) (m : Memory) (vs : List View) (h : List Mark) (id : ℕ) (v : View) (o : Own) (spot : Spot) (expected : ℕ)
+    → HoldsNow k m vs h → get_elem? vs id ≡ some v
+    → Fits o (at.Reserve (Leaf spot) expected) v → is_none_left o.retired ≡ true → m Free ≡ 0
+    → k.slots ≤ finite.len (map_of (updates_of h)) + 20 * (k.places - 1)
 full_said k m vs h id v o spot expected inv there f none empty =
     let b = (f.point).1 in
-    let full = empty_is_full k m vs h inv id v there (record { works = f.owns.works; reserved = b.3; hand = (f.point).2; owes = b.4; moving = b.2 }) empty in
+    let full = empty_is_full k m vs h inv id v there
+    (record { works = f.owns.works; reserved = b.3; hand = (f.point).2; owes = b.4; moving = b.2 }) empty in
     let no = none_retired v.hands.retired o.retired f.owns.retired_are none in omega arith
 
 -- The number of an update is its place in the history.
-is_numbered : (k : Shape) (m : Memory) (vs : List View) (h : List Mark) (id : ℕ) (v : View) (front : ℕ) → HoldsNow k m vs h → get_elem? vs id ≡ some v → v.commit ≡ Some (record { found = front; stored = false })
+is_numbered : (k : Shape) (m : Memory) (vs : List View) (h : List Mark) (id : ℕ) (v : View) (front : ℕ) → HoldsNow k m vs h
+    → get_elem? vs id ≡ some v → v.commit ≡ Some (record { found = front; stored = false })
     → (front + 2) / 2 ≡ length (updates_of h) + 1
 is_numbered k m vs h id v front inv there made_odd = ⊎_elim
-    (λ even. absurd (let none = even.1 id v there in let q : None ≡ Some (record { found = front; stored = false }) = sym none ∙ made_odd in cc))
+    (λ even. absurd (let none = even.1 id v there in let q : None ≡ Some (record { found = front; stored = false }) = sym none ∙ made_odd in
+    cc))
     (λ odd. dite (ℕ_discrete id odd.id)
     (λ same. (let here : odd.view ≡ v = some-injective odd.view v (sym odd.there ∙ subst (λ i. get_elem? vs i ≡ some v) same there) in
     let t : Some odd.commit ≡ Some (record { found = front; stored = false }) = sym odd.has ∙ ap (λ (u : View). u.commit) here ∙ made_odd in
@@ -112,7 +132,8 @@ is_numbered k m vs h id v front inv there made_odd = ⊎_elim
     inv.front.turned
 
 -- the value that a set loaded under its lock is the key's now
-old_is : (k : Shape) (m : Memory) (vs : List View) (h : List Mark) (id : ℕ) (v : View) (o : Own) (s old front : ℕ) → HoldsNow k m vs h → get_elem? vs id ≡ some v → Fits o (at.Store (update.Value s old) front) v
+old_is : (k : Shape) (m : Memory) (vs : List View) (h : List Mark) (id : ℕ) (v : View) (o : Own) (s old front : ℕ) → HoldsNow k m vs h
+    → get_elem? vs id ≡ some v → Fits o (at.Store (update.Value s old) front) v
     → finite.get (map_of (updates_of h)) (key_now o) ≡ Some old
 old_is k m vs h id v o s old front inv there f =
     let g : ℕ = (f.point).0 in
@@ -127,18 +148,28 @@ old_is k m vs h id v o s old front inv there f =
     let well = subst (StandsWell r) found.3 reading.well in
     let young = young_locked k m vs h inv id v there (p.0).2 s (a.lock, a.locked) a.on in
     let l = a.recorded in
-    let key : m (Key s) ≡ r.key = (inv.locks.readings id v there kept.0 r kept.1).keys s l.0 r.key l.1 (let x = a.life in let e = l.2 in omega arith) well.1 in
-    let value : m (Value s) ≡ old = (inv.locks.known id v there s a.lock a.locked).fields r a.generation old (Value s) kept a.recorded (inl a.life) (under_own a.lock a.locked) in
+    let key : m (Key s) ≡ r.key = (inv.locks.readings id v there kept.0 r kept.1).keys s l.0 r.key l.1
+    (let x = a.life in let e = l.2 in omega arith) well.1 in
+    let value : m (Value s) ≡ old = (inv.locks.known id v there s a.lock a.locked).fields r a.generation old (Value s) kept a.recorded
+    (inl a.life) (under_own a.lock a.locked) in
     ap (finite.get (map_of (updates_of h))) (sym has.2 ∙ sym key) ∙ inv.tree.map.sound s a.on (well.0).some_slot young ∙ ap Some value
   where
-    is : lock_of v.locks s ≡ Some (record { slot = s; known = set_known s (f.point).0 old; left_emptied = false; right_emptied = false; marked = false })
+    is : lock_of v.locks s ≡ Some (record {
+      slot = s;
+      known = set_known s (f.point).0 old;
+      left_emptied = false;
+      right_emptied = false;
+      marked = false;
+    })
     is = ap (λ ls. lock_of ls s) ((f.point).1).1 ∙ one_locked s (set_known s (f.point).0 old)
 
-    known_of-one : (field : Field) (x : ℕ) → known_in (set_known s (f.point).0 old) field ≡ Some x → known_in (known_of (lock_of v.locks s)) field ≡ Some x
+    known_of-one : (field : Field) (x : ℕ) → known_in (set_known s (f.point).0 old) field ≡ Some x
+        → known_in (known_of (lock_of v.locks s)) field ≡ Some x
     known_of-one field x e = ap (λ l. known_in (known_of l) field) is ∙ e
 
     under_own : (lock : HeldLock) → lock_of v.locks s ≡ Some lock → known_in lock.known (Value s) ≡ Some old
-    under_own lock e = ap (λ l. known_in (known_of l) (Value s)) (sym e) ∙ known_of-one (Value s) old (known_here (read_at (Life s) (2 * (f.point).0) ∷ []) (Value s) old false)
+    under_own lock e = ap (λ l. known_in (known_of l) (Value s)) (sym e)
+        ∙ known_of-one (Value s) old (known_here (read_at (Life s) (2 * (f.point).0) ∷ []) (Value s) old false)
 
 pub answers_are_said : AnswersAreSaid
 answers_are_said k m vs h id o v at.Finished inv there f = tt
@@ -185,10 +216,14 @@ answers_are_said k m vs h id o v (at.OldRaise aim life) inv there f = tt
 answers_are_said k m vs h id o v (at.OldFree aim) inv there f = tt
 answers_are_said k m vs h id o v (at.OldCount aim) inv there f = tt
 answers_are_said k m vs h id o v (at.Commit u expected) inv there f = tt
-answers_are_said k m vs h id o v (at.Store (update.Leaf spot) front) inv there f = (is_numbered k m vs h id v front inv there (((f.point).2).1), tt)
-answers_are_said k m vs h id o v (at.Store (update.Value s old) front) inv there f = (is_numbered k m vs h id v front inv there ((((f.point).1).0).1), old_is k m vs h id v o s old front inv there f)
-answers_are_said k m vs h id o v (at.Store (update.Bypass d child) front) inv there f = (is_numbered k m vs h id v front inv there (((f.point).0).1), tt)
-answers_are_said k m vs h id o v (at.Store (update.Copy d u next_key copy) front) inv there f = (is_numbered k m vs h id v front inv there ((((f.point).0).0).1), tt)
+answers_are_said k m vs h id o v (at.Store (update.Leaf spot) front) inv there f =
+    (is_numbered k m vs h id v front inv there (((f.point).2).1), tt)
+answers_are_said k m vs h id o v (at.Store (update.Value s old) front) inv there f =
+    (is_numbered k m vs h id v front inv there ((((f.point).1).0).1), old_is k m vs h id v o s old front inv there f)
+answers_are_said k m vs h id o v (at.Store (update.Bypass d child) front) inv there f =
+    (is_numbered k m vs h id v front inv there (((f.point).0).1), tt)
+answers_are_said k m vs h id o v (at.Store (update.Copy d u next_key copy) front) inv there f =
+    (is_numbered k m vs h id v front inv there ((((f.point).0).0).1), tt)
 answers_are_said k m vs h id o v (at.Even u front) inv there f = tt
 answers_are_said k m vs h id o v (at.Unlock l) inv there f = tt
 answers_are_said k m vs h id o v (at.SetLife s) inv there f = tt

@@ -51,7 +51,8 @@ ready_set (Del key) hand spare retired e none = cc
 
 module _ (o : Own) (v : View) (free : IsFree o v) where
   owns_op : (op : Op) (ops : List Op) → Each (op ∷ ops) (λ later. key_of later < 2 ^ 64)
-      → OwnsParts o.place (key_of op) ops o.scan (o.slots + o.places) o.spare o.retired o.locks v.allowance.place v.allowance.places v.hands.spare v.hands.retired v.locks
+      → OwnsParts o.place (key_of op) ops o.scan (o.slots
+      + o.places) o.spare o.retired o.locks v.allowance.place v.allowance.places v.hands.spare v.hands.retired v.locks
   owns_op op ops fit = record {
     same = free.owns.same;
     works = free.owns.works;
@@ -64,20 +65,34 @@ module _ (o : Own) (v : View) (free : IsFree o v) where
     scans_table = free.owns.scans_table;
   }
 
-  starts : (op : Op) (ops : List Op) → IsReady op o.hand o.spare o.retired → Each (op ∷ ops) (λ later. key_of later < 2 ^ 64) → 4 * length (op ∷ ops) + o.kept ≤ v.allowance.tickets
+  starts : (op : Op) (ops : List Op) → IsReady op o.hand o.spare o.retired → Each (op ∷ ops) (λ later. key_of later < 2 ^ 64)
+      → 4 * length (op ∷ ops) + o.kept ≤ v.allowance.tickets
       → Fits (record o { op = op; rest = ops; stage = at.EnterClock }) at.EnterClock v
   starts op ops ready fit paid = record {
     owns = owns_op op ops fit;
     unraised = λ z. free.unraised;
     tickets = (let few = owed_start op o.hand o.retired free.empty in omega arith);
-    point = (free.outside, (free.bare, subst (λ x. HandFits x o.hand_life (key_of op) (value_in op) v.hands.hand) (sym free.empty) free.no_hand, ready));
+    point = (
+      free.outside,
+      (
+        free.bare,
+        subst (λ x. HandFits x o.hand_life (key_of op) (value_in op) v.hands.hand)
+            (sym free.empty) free.no_hand,
+        ready,
+      ),
+    );
   }
 
   -- an operation that isn't a delete
   ready_other : (op : Op) → is_delete op ≡ false → IsReady op o.hand o.spare o.retired
-  ready_other op other = record { empty = λ z. free.empty; room = λ is. absurd (let q : true ≡ false = sym is ∙ other in cc); has_spare = λ is. absurd (let q : true ≡ false = sym is ∙ other in cc) }
+  ready_other op other = record {
+    empty = λ z. free.empty;
+    room = λ is. absurd (let q : true ≡ false = sym is ∙ other in cc);
+    has_spare = λ is. absurd (let q : true ≡ false = sym is ∙ other in cc);
+  }
 
-  first : (op : Op) (ops : List Op) → Each (op ∷ ops) (λ later. key_of later < 2 ^ 64) → 4 * length (op ∷ ops) + o.kept ≤ v.allowance.tickets
+  first : (op : Op) (ops : List Op) → Each (op ∷ ops) (λ later. key_of later < 2 ^ 64)
+      → 4 * length (op ∷ ops) + o.kept ≤ v.allowance.tickets
       → Fits (record o { op = op; rest = ops; stage = first_point o op }) (first_point o op) v
   first (Put key value) ops fit paid = starts (Put key value) ops (ready_other (Put key value) refl) fit paid
   first (Get key) ops fit paid = starts (Get key) ops (ready_other (Get key) refl) fit paid
@@ -88,17 +103,27 @@ module _ (o : Own) (v : View) (free : IsFree o v) where
       idle = (free.outside, free.bare, free.no_hand, free.empty)
 
       few : nat_le 15 (length o.retired) ≡ false → length o.retired < 15
-      few e = dite (dec_le 15 (length o.retired)) (λ le. absurd (let q : true ≡ false = sym (le-leb 15 (length o.retired) le) ∙ e in cc)) (λ lt. omega arith)
+      few e = dite (dec_le 15 (length o.retired)) (λ le. absurd (let q : true ≡ false = sym (le-leb 15 (length o.retired) le) ∙ e in cc))
+          (λ lt. omega arith)
 
-      has_spare : length o.retired < 15 → (z : Bool) → is_some o.spare ≡ z → let st : Stage = cond z at.EnterClock (at.Reserve Spare (cond (o.free == 0) 1 o.free)) in Fits (record o { op = Del key; rest = ops; stage = st }) st v
+      has_spare : length o.retired < 15 → (z : Bool) → is_some o.spare ≡ z → let st : Stage =
+          cond z at.EnterClock (at.Reserve Spare (cond (o.free == 0) 1 o.free)) in
+          Fits (record o { op = Del key; rest = ops; stage = st }) st v
       has_spare room true e = starts (Del key) ops (record { empty = λ z. free.empty; room = λ z. room; has_spare = λ z. e }) fit paid
-      has_spare room false e = record { owns = owns_op (Del key) ops fit; unraised = λ z. free.unraised; tickets = omega arith; point = (idle, positive o.free, refl, room, none_is o.spare e) }
+      has_spare room false e = record {
+        owns = owns_op (Del key) ops fit;
+        unraised = λ z. free.unraised;
+        tickets = omega arith;
+        point = (idle, positive o.free, refl, room, none_is o.spare e);
+      }
 
-      many : (z : Bool) → nat_le 15 (length o.retired) ≡ z → let st : Stage = cond z (at.Begin (Reuse Room)) (spare_first o) in Fits (record o { op = Del key; rest = ops; stage = st }) st v
+      many : (z : Bool) → nat_le 15 (length o.retired) ≡ z → let st : Stage = cond z (at.Begin (Reuse Room)) (spare_first o) in
+          Fits (record o { op = Del key; rest = ops; stage = st }) st v
       many true e = record { owns = owns_op (Del key) ops fit; unraised = λ z. free.unraised; tickets = omega arith; point = (idle, refl) }
       many false e = has_spare (few e) (is_some o.spare) refl
 
-  pub begins : (ops : List Op) → Each ops (λ later. key_of later < 2 ^ 64) → 4 * length ops + o.kept ≤ v.allowance.tickets → Fits (begun_with o ops) (begun_with o ops).stage v
+  pub begins : (ops : List Op) → Each ops (λ later. key_of later < 2 ^ 64) → 4 * length ops + o.kept ≤ v.allowance.tickets
+      → Fits (begun_with o ops) (begun_with o ops).stage v
   begins [] fit paid = record {
     owns = record {
       same = free.owns.same;
@@ -118,8 +143,17 @@ module _ (o : Own) (v : View) (free : IsFree o v) where
   begins (op ∷ ops) fit paid = first op ops fit paid
 
 -- a caller that answers goes on with its next operation
-pub answers : (o : Own) (v : View) (reply : Reply) (number : ℕ) → IsFree o v → 4 * length o.rest + o.kept ≤ v.allowance.tickets → Fits (answer o reply number) (answer o reply number).stage v
-answers o v reply number free paid = begins (record o { told = o.told ++ record { reply = reply; number = number } ∷ [] }) v (record { owns = free.owns; outside = free.outside; empty = free.empty; bare = free.bare; no_hand = free.no_hand; unraised = free.unraised }) o.rest free.owns.keys_fit paid
+pub answers : (o : Own) (v : View) (reply : Reply) (number : ℕ) → IsFree o v → 4 * length o.rest + o.kept ≤ v.allowance.tickets
+    → Fits (answer o reply number) (answer o reply number).stage v
+answers o v reply number free paid = begins (record o { told = o.told ++ record { reply = reply; number = number } ∷ [] }) v
+    (record {
+      owns = free.owns;
+      outside = free.outside;
+      empty = free.empty;
+      bare = free.bare;
+      no_hand = free.no_hand;
+      unraised = free.unraised;
+    }) o.rest free.owns.keys_fit paid
 
 -- a new view
 pub new_views_are_free : NewViewsAreFree

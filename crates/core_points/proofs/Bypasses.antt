@@ -39,11 +39,13 @@ use Rattle.core_tree.proofs.locks.Relocking.{change_here, slots_change}
 use Rattle.core_tree.proofs.notes.Knowing.{known_here}
 
 -- a slot under whose lock something was loaded is locked
-pub held_by_load : (v : View) (s : ℕ) (field : Field) (x : ℕ) → loaded_in (under v.locks s) field ≡ Some x → (lock : HeldLock) × (lock_of v.locks s ≡ Some lock) × (known_in lock.known field ≡ Some x)
+pub held_by_load : (v : View) (s : ℕ) (field : Field) (x : ℕ) → loaded_in (under v.locks s) field ≡ Some x
+    → (lock : HeldLock) × (lock_of v.locks s ≡ Some lock) × (known_in lock.known field ≡ Some x)
 held_by_load v s field x e = lock_under v s field x (loaded_known (under v.locks s) field x e)
 
 -- The facts of this crate in the words of the steps.
-pub node_records : (v : View) (r : Reading) (d : Node) → HoldsNode v.records v.locks r d → NodeRecords v r d.parent d.side d.node d.left d.right
+pub node_records : (v : View) (r : Reading) (d : Node) → HoldsNode v.records v.locks r d
+    → NodeRecords v r d.parent d.side d.node d.left d.right
 node_records v r d holds = record {
   kept = holds.kept;
   found = holds.found;
@@ -53,11 +55,19 @@ node_records v r d holds = record {
   right_now = holds.right;
 }
 
-pub few_children : (v : View) (r : Reading) (d : Node) → HoldsNode v.records v.locks r d → HoldsFew r d → FewChildren v r d.parent d.side d.node d.left d.right
+pub few_children : (v : View) (r : Reading) (d : Node) → HoldsNode v.records v.locks r d → HoldsFew r d
+    → FewChildren v r d.parent d.side d.node d.left d.right
 few_children v r d holds few = record { records = node_records v r d holds; few = few.few; had = few.had }
 
 pub marked_node : (v : View) (r : Reading) (d : Node) → HoldsNode v.records v.locks r d → IsMarked v.locks d → IsMarkedNode v r d.node
-marked_node v r d holds m = record { generation = d.generation; lock = m.lock; recorded = holds.recorded; locked = m.locked; marked = m.marked; life = m.life }
+marked_node v r d holds m = record {
+  generation = d.generation;
+  lock = m.lock;
+  recorded = holds.recorded;
+  locked = m.locked;
+  marked = m.marked;
+  life = m.life;
+}
 
 -- what was loaded under a lock is still known
 abbrev pub KeepsLife : List HeldLock → List HeldLock → ℕ → Type 0
@@ -72,7 +82,8 @@ life_same ls ls' t same x e = ap (λ ks. loaded_in ks (Life t)) same ∙ e
 pub links_same : (ls ls' : List HeldLock) (t : ℕ) → under ls' t ≡ under ls t → KeepsLinks ls ls' t
 links_same ls ls' t same b x e = ap (λ ks. loaded_in ks (Link t b)) same ∙ e
 
-pub node_to : (records : List Reading) (ls ls' : List HeldLock) (r : Reading) (d : Node) → KeepsLife ls ls' d.parent → KeepsLinks ls ls' d.parent → KeepsLinks ls ls' d.node
+pub node_to : (records : List Reading) (ls ls' : List HeldLock) (r : Reading) (d : Node) → KeepsLife ls ls' d.parent
+    → KeepsLinks ls ls' d.parent → KeepsLinks ls ls' d.node
     → HoldsNode records ls r d → HoldsNode records ls' r d
 node_to records ls ls' r d life parent links holds = record {
   kept = holds.kept;
@@ -87,35 +98,45 @@ node_to records ls ls' r d life parent links holds = record {
 }
 
 -- The locks after a node was marked.
-pub under_marked : (ls : List HeldLock) (d : Node) (t : ℕ) → t ≢ d.node → under (change_lock d.node (with_mark true) (change_lock d.node (note_lock (stored_at (Life d.node) (2 * d.generation + 1))) ls)) t ≡ under ls t
+pub under_marked : (ls : List HeldLock) (d : Node) (t : ℕ) → t ≢ d.node
+    → under (change_lock d.node (with_mark true) (change_lock d.node (note_lock (stored_at (Life d.node) (2 * d.generation + 1))) ls)) t
+    ≡ under ls t
 under_marked ls d t ne =
-    under_flag (change_lock d.node (note_lock (stored_at (Life d.node) (2 * d.generation + 1))) ls) d.node (with_mark true) (λ l. refl) (λ l. refl) t
+    under_flag (change_lock d.node (note_lock (stored_at (Life d.node) (2 * d.generation + 1))) ls) d.node (with_mark true) (λ l. refl)
+    (λ l. refl) t
     ∙ under_other ls d.node (note_lock (stored_at (Life d.node) (2 * d.generation + 1))) (λ l. refl) t ne
 
 pub node_marked : (records : List Reading) (ls : List HeldLock) (r : Reading) (d : Node) → HoldsNode records ls r d
-    → HoldsNode records (change_lock d.node (with_mark true) (change_lock d.node (note_lock (stored_at (Life d.node) (2 * d.generation + 1))) ls)) r d
+    → HoldsNode records (change_lock d.node (with_mark true)
+    (change_lock d.node (note_lock (stored_at (Life d.node) (2 * d.generation + 1))) ls)) r d
 node_marked records ls r d holds =
     let kn : Known = stored_at (Life d.node) (2 * d.generation + 1) in
     let now : List HeldLock = change_lock d.node (with_mark true) (change_lock d.node (note_lock kn) ls) in
     node_to records ls now r d
     (life_same ls now d.parent (under_marked ls d d.parent holds.apart))
     (links_same ls now d.parent (under_marked ls d d.parent holds.apart))
-    (λ b x e. ap (λ ks. loaded_in ks (Link d.node b)) (under_flag (change_lock d.node (note_lock kn) ls) d.node (with_mark true) (λ l. refl) (λ l. refl) d.node) ∙ loaded_more ls d.node kn d.node (Link d.node b) x refl e)
+    (λ b x e. ap (λ ks. loaded_in ks (Link d.node b))
+    (under_flag (change_lock d.node (note_lock kn) ls) d.node (with_mark true) (λ l. refl) (λ l. refl) d.node)
+    ∙ loaded_more ls d.node kn d.node (Link d.node b) x refl e)
     holds
 
-pub is_marked : (v : View) (d : Node) → IsUnmarked v.locks d → IsMarked (change_lock d.node (with_mark true) (change_lock d.node (note_lock (stored_at (Life d.node) (2 * d.generation + 1))) v.locks)) d
+pub is_marked : (v : View) (d : Node) → IsUnmarked v.locks d
+    → IsMarked (change_lock d.node (with_mark true)
+    (change_lock d.node (note_lock (stored_at (Life d.node) (2 * d.generation + 1))) v.locks)) d
 is_marked v d unmarked =
     let kn : Known = stored_at (Life d.node) (2 * d.generation + 1) in
     let held = held_by_load v d.node (Life d.node) (2 * d.generation) unmarked in
     record {
       lock = with_mark true (note_lock kn held.0);
-      locked = change_here d.node (with_mark true) (λ l. refl) (change_lock d.node (note_lock kn) v.locks) (note_lock kn held.0) (change_here d.node (note_lock kn) (λ l. refl) v.locks held.0 held.1);
+      locked = change_here d.node (with_mark true) (λ l. refl) (change_lock d.node (note_lock kn) v.locks) (note_lock kn held.0)
+          (change_here d.node (note_lock kn) (λ l. refl) v.locks held.0 held.1);
       marked = refl;
       life = known_here (held.0).known (Life d.node) (2 * d.generation + 1) true;
     }
 
 -- One retired slot more.
-pub slots_push : (rs : List Retired) (r : Retired) → map (λ (r : Retired). r.slot) (rs ++ r ∷ []) ≡ map (λ (r : Retired). r.slot) rs ++ r.slot ∷ []
+pub slots_push : (rs : List Retired) (r : Retired)
+    → map (λ (r : Retired). r.slot) (rs ++ r ∷ []) ≡ map (λ (r : Retired). r.slot) rs ++ r.slot ∷ []
 slots_push [] r = refl
 slots_push (x ∷ rs) r = ap (λ xs. x.slot ∷ xs) (slots_push rs r)
 
@@ -126,8 +147,10 @@ same_length rs slots e = count rs ∙ ap (λ (xs : List ℕ). length xs) e
     count [] = refl
     count (r ∷ rs) = ap suc (count rs)
 
-pub unraised_push : (rs : List Retired) (r : Retired) → r.raised ≡ false → Each rs (λ (r : Retired). r.raised ≡ false) → Each (rs ++ r ∷ []) (λ (r : Retired). r.raised ≡ false)
-unraised_push rs r new each i x e = ⊎_elim (λ (old : get_elem? rs i ≡ some x). each i x old) (λ here. ap (λ (y : Retired). y.raised) (sym here.1) ∙ new) (at_end rs r x i e)
+pub unraised_push : (rs : List Retired) (r : Retired) → r.raised ≡ false → Each rs (λ (r : Retired). r.raised ≡ false)
+    → Each (rs ++ r ∷ []) (λ (r : Retired). r.raised ≡ false)
+unraised_push rs r new each i x e = ⊎_elim (λ (old : get_elem? rs i ≡ some x). each i x old)
+    (λ here. ap (λ (y : Retired). y.raised) (sym here.1) ∙ new) (at_end rs r x i e)
 
 module _ (k : Shape) (h : List Mark) (o : Own) (v : View) (n : ℕ) where
   -- the mark
@@ -146,14 +169,16 @@ module _ (k : Shape) (h : List Mark) (o : Own) (v : View) (n : ℕ) where
         },
       )
 
-  pub next_mark : (d : Node) (child : ℕ) → Fits o (at.Mark d child) v → Fits (after o n (at.Mark d child)) (after o n (at.Mark d child)).stage (view_after v h n (act_at o (at.Mark d child)))
+  pub next_mark : (d : Node) (child : ℕ) → Fits o (at.Mark d child) v
+      → Fits (after o n (at.Mark d child)) (after o n (at.Mark d child)).stage (view_after v h n (act_at o (at.Mark d child)))
   next_mark d child f =
       let p = f.point in
       let few = p.4 in
       let kn : Known = stored_at (Life d.node) (2 * d.generation + 1) in
       let owns = owns_noted o v d.node (Life d.node) (2 * d.generation + 1) true f.owns in
       record {
-        owns = owns_relocked o (noting v d.node (Life d.node) (2 * d.generation + 1) true) _ (slots_change d.node (with_mark true) (λ l. refl) (change_lock d.node (note_lock kn) v.locks)) owns;
+        owns = owns_relocked o (noting v d.node (Life d.node) (2 * d.generation + 1) true) _ (slots_change d.node (with_mark true)
+            (λ l. refl) (change_lock d.node (note_lock kn) v.locks)) owns;
         unraised = λ z. f.unraised refl;
         tickets = (let t = f.tickets in let two = delete_owed o.op o.hand o.retired (p.1).0 in omega arith);
         point = (
@@ -171,7 +196,8 @@ module _ (k : Shape) (h : List Mark) (o : Own) (v : View) (n : ℕ) where
       }
 
   -- the store
-  pub needs_bypass : (d : Node) (child front : ℕ) → Fits o (at.Store (update.Bypass d child) front) v → Needs k v n (act_at o (at.Store (update.Bypass d child) front))
+  pub needs_bypass : (d : Node) (child front : ℕ) → Fits o (at.Store (update.Bypass d child) front) v
+      → Needs k v n (act_at o (at.Store (update.Bypass d child) front))
   needs_bypass d child front f =
       let p = f.point in
       let few = p.3 in
@@ -191,7 +217,8 @@ module _ (k : Shape) (h : List Mark) (o : Own) (v : View) (n : ℕ) where
       )
 
   pub next_bypass : (d : Node) (child front : ℕ) → Fits o (at.Store (update.Bypass d child) front) v
-      → Fits (after o n (at.Store (update.Bypass d child) front)) (after o n (at.Store (update.Bypass d child) front)).stage (view_after v h n (act_at o (at.Store (update.Bypass d child) front)))
+      → Fits (after o n (at.Store (update.Bypass d child) front)) (after o n (at.Store (update.Bypass d child) front)).stage
+      (view_after v h n (act_at o (at.Store (update.Bypass d child) front)))
   next_bypass d child front f =
       let p = f.point in
       let few = p.3 in
@@ -206,8 +233,10 @@ module _ (k : Shape) (h : List Mark) (o : Own) (v : View) (n : ℕ) where
           same = owns.same;
           works = owns.works;
           spare_is = owns.spare_is;
-          retired_are = slots_push v.hands.retired (newly_retired v d.node (length h + 1)) ∙ ap (λ xs. xs ++ d.node ∷ []) f.owns.retired_are;
-          locks_are = λ x. ap (times x) (relinked_slots d.parent d.side child d.node (change_lock d.parent (note_lock kn) v.locks)) ∙ owns.locks_are x;
+          retired_are = slots_push v.hands.retired (newly_retired v d.node (length h + 1))
+              ∙ ap (λ xs. xs ++ d.node ∷ []) f.owns.retired_are;
+          locks_are = λ x. ap (times x) (relinked_slots d.parent d.side child d.node (change_lock d.parent (note_lock kn) v.locks))
+              ∙ owns.locks_are x;
           key_fits = owns.key_fits;
           keys_fit = owns.keys_fit;
           scans = owns.scans;
@@ -222,8 +251,11 @@ module _ (k : Shape) (h : List Mark) (o : Own) (v : View) (n : ℕ) where
       kn = stored_at (Link d.parent d.side) child
 
       by : (z : Bool) → (child == 0) ≡ z → Holds v.locks d.parent → ClearButMark v.locks d.node
-          → Relinked z (change_lock d.node (with_mark false) (cond z (change_lock d.parent (with_emptied d.side true) (change_lock d.parent (note_lock kn) v.locks)) (change_lock d.parent (note_lock kn) v.locks))) d.parent d.side
-      by true e held clear = let l = emptied_lock kn d.parent d.node d.side v.locks held in (l.0, l.1, l.2, clear_emptied kn d.parent d.node d.side v.locks clear, tt)
+          → Relinked z (change_lock d.node (with_mark false)
+          (cond z (change_lock d.parent (with_emptied d.side true) (change_lock d.parent (note_lock kn) v.locks))
+          (change_lock d.parent (note_lock kn) v.locks))) d.parent d.side
+      by true e held clear = let l = emptied_lock kn d.parent d.node d.side v.locks held in
+          (l.0, l.1, l.2, clear_emptied kn d.parent d.node d.side v.locks clear, tt)
       by false e held clear = clear_stored kn d.parent d.node v.locks clear
 
   -- the tag of a side that was emptied
@@ -234,7 +266,8 @@ module _ (k : Shape) (h : List Mark) (o : Own) (v : View) (n : ℕ) where
   still_emptied kn Left l = refl
   still_emptied kn Right l = refl
 
-  pub next_empty_tag : (number s : ℕ) (b : Side) → Fits o (at.EmptyTag number s b) v → Fits (after o n (at.EmptyTag number s b)) (at.EmptyRaise number s b n) (view_after v h n (act_at o (at.EmptyTag number s b)))
+  pub next_empty_tag : (number s : ℕ) (b : Side) → Fits o (at.EmptyTag number s b) v
+      → Fits (after o n (at.EmptyTag number s b)) (at.EmptyRaise number s b n) (view_after v h n (act_at o (at.EmptyTag number s b)))
   next_empty_tag number s b f =
       let p = f.point in
       let e = p.2 in
@@ -245,23 +278,32 @@ module _ (k : Shape) (h : List Mark) (o : Own) (v : View) (n : ℕ) where
         point = (
           quiet_noted o v s (Tag s b) n false None p.0,
           p.1,
-          (note_lock kn e.0, change_here s (note_lock kn) (λ l. refl) v.locks e.0 e.1, still_emptied kn b e.0 ∙ e.2, clear_noted kn s b v.locks e.3, known_here (e.0).known (Tag s b) n false),
+          (
+            note_lock kn e.0,
+            change_here s (note_lock kn) (λ l. refl) v.locks e.0 e.1,
+            still_emptied kn b e.0 ∙ e.2,
+            clear_noted kn s b v.locks e.3,
+            known_here (e.0).known (Tag s b) n false,
+          ),
           p.3,
         );
       }
 
-  pub needs_empty_raise : (number s : ℕ) (b : Side) (tag : ℕ) → Fits o (at.EmptyRaise number s b tag) v → Needs k v n (act_at o (at.EmptyRaise number s b tag))
+  pub needs_empty_raise : (number s : ℕ) (b : Side) (tag : ℕ) → Fits o (at.EmptyRaise number s b tag) v
+      → Needs k v n (act_at o (at.EmptyRaise number s b tag))
   needs_empty_raise number s b tag f = let e = (f.point).2 in (e.0, record { held = e.1; emptied = e.2; known = e.4 })
 
   pub next_empty_raise : (number s : ℕ) (b : Side) (tag : ℕ) → Fits o (at.EmptyRaise number s b tag) v
-      → Fits (after o n (at.EmptyRaise number s b tag)) (at.Unlock (last.Gone number)) (view_after v h n (act_at o (at.EmptyRaise number s b tag)))
+      → Fits (after o n (at.EmptyRaise number s b tag)) (at.Unlock (last.Gone number))
+      (view_after v h n (act_at o (at.EmptyRaise number s b tag)))
   next_empty_raise number s b tag f =
       let p = f.point in
       let e = p.2 in
       let kn : Known = stored_at (Tag s b) (tag + 1) in
       let owns = owns_noted o v s (Tag s b) (tag + 1) true f.owns in
       let q = quiet_noted o v s (Tag s b) (tag + 1) true None p.0 in record {
-        owns = owns_relocked o (noting v s (Tag s b) (tag + 1) true) _ (slots_change s (with_emptied b false) (emptied_slot b false) (change_lock s (note_lock kn) v.locks)) owns;
+        owns = owns_relocked o (noting v s (Tag s b) (tag + 1) true) _ (slots_change s (with_emptied b false) (emptied_slot b false)
+            (change_lock s (note_lock kn) v.locks)) owns;
         unraised = λ z. f.unraised refl;
         tickets = f.tickets;
         point = ((q.0, q.1, q.2, q.3, q.4, clear_noted kn s b v.locks e.3, p.1), q.5, q.6, p.3);

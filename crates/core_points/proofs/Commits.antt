@@ -29,7 +29,8 @@ module _ (k : Shape) (h : List Mark) (o : Own) (v : View) (n : ℕ) where
 
   -- the front is odd now
   odd : (u : Update) (o' : Own) (w : View) (commit : Commit) → Making o u (plain v) None
-      → Making (record o { front = o'.front; stage = o'.stage }) u (plain (record v { latest = w.latest; commit = Some commit })) (Some commit)
+      → Making (record o { front = o'.front; stage = o'.stage }) u (plain (record v { latest = w.latest; commit = Some commit }))
+      (Some commit)
   odd (update.Leaf spot) o' w commit p = (p.0, p.1, ((p.2).0, refl, (p.2).2, (p.2).3, (p.2).4), p.3, p.4, p.5)
   odd (update.Value s old) o' w commit p = let q = (p.1).0 in (p.0, ((q.0, refl, q.2, q.3, q.4, q.5, q.6), (p.1).1, (p.1).2, (p.1).3))
   odd (update.Bypass d child) o' w commit p = let q = p.0 in ((q.0, refl, q.2, q.3, q.4, q.5, q.6), p.1, p.2, p.3, p.4, p.5, p.6)
@@ -39,23 +40,41 @@ module _ (k : Shape) (h : List Mark) (o : Own) (v : View) (n : ℕ) where
       (((q.0, refl, q.2, q.3, q.4, q.5, q.6), c.1, c.2), p.1, p.2, p.3, p.4, p.5)
 
   -- nothing but the front was found
-  same : (u : Update) (o' : Own) (w : View) → Making o u (plain v) None → Making (record o { front = o'.front; stage = o'.stage }) u (plain (record v { latest = w.latest })) None
+  same : (u : Update) (o' : Own) (w : View) → Making o u (plain v) None
+      → Making (record o { front = o'.front; stage = o'.stage }) u (plain (record v { latest = w.latest })) None
   same (update.Leaf spot) o' w p = p
   same (update.Value s old) o' w p = p
   same (update.Bypass d child) o' w p = p
   same (update.Copy d u next_key copy) o' w p = p
 
-  pub next_commit : (u : Update) (expected : ℕ) → Fits o (at.Commit u expected) v → Fits (after o n (at.Commit u expected)) (after o n (at.Commit u expected)).stage (view_after v h n (act_at o (at.Commit u expected)))
+  pub next_commit : (u : Update) (expected : ℕ) → Fits o (at.Commit u expected) v
+      → Fits (after o n (at.Commit u expected)) (after o n (at.Commit u expected)).stage
+      (view_after v h n (act_at o (at.Commit u expected)))
   next_commit u expected f = got (n == expected)
     where
-      got : (z : Bool) → let o' : Own = cond z (go (record o { front = expected + 1 }) (at.Store u expected)) (go (record o { front = n }) (at.Commit u (n + n % 2))) in
-          Fits o' o'.stage (cond z (record v { latest = record v.latest { front = Some (expected + 1) }; commit = Some (record { found = expected; stored = false }) }) (record v { latest = record v.latest { front = Some n } }))
+      got : (z : Bool) → let o' : Own = cond z (go (record o { front = expected + 1 }) (at.Store u expected))
+          (go (record o { front = n }) (at.Commit u (n + n % 2))) in
+          Fits o' o'.stage (cond z (record v {
+            latest = record v.latest { front = Some (expected + 1) };
+            commit = Some (record { found = expected; stored = false });
+          }) (record v { latest = record v.latest { front = Some n } }))
       got true =
           let w : View = record v { latest = record v.latest { front = Some (expected + 1) } } in
-          record { owns = f.owns; unraised = λ z. f.unraised refl; tickets = f.tickets; point = odd u (record o { front = expected + 1; stage = at.Store u expected }) w (record { found = expected; stored = false }) (f.point).0 }
+          record {
+            owns = f.owns;
+            unraised = λ z. f.unraised refl;
+            tickets = f.tickets;
+            point = odd u (record o { front = expected + 1; stage = at.Store u expected }) w (record { found = expected; stored = false })
+                (f.point).0;
+          }
       got false =
           let w : View = record v { latest = record v.latest { front = Some n } } in
-          record { owns = f.owns; unraised = λ z. f.unraised refl; tickets = f.tickets; point = (same u (record o { front = n; stage = at.Commit u (n + n % 2) }) w (f.point).0, made_even n) }
+          record {
+            owns = f.owns;
+            unraised = λ z. f.unraised refl;
+            tickets = f.tickets;
+            point = (same u (record o { front = n; stage = at.Commit u (n + n % 2) }) w (f.point).0, made_even n);
+          }
 
   made_front : (u : Update) (commit : Option Commit) → Made o u (plain v) commit → v.commit ≡ commit
   made_front (update.Leaf spot) commit p = (p.0).1
@@ -66,20 +85,42 @@ module _ (k : Shape) (h : List Mark) (o : Own) (v : View) (n : ℕ) where
   pub needs_even : (u : Update) (front : ℕ) → Fits o (at.Even u front) v → Needs k v n (act_at o (at.Even u front))
   needs_even u front f = (front, made_front u (Some (record { found = front; stored = true })) f.point, refl)
 
-  pub next_even : (u : Update) (front : ℕ) → Fits o (at.Even u front) v → Fits (after o n (at.Even u front)) (after o n (at.Even u front)).stage (view_after v h n (act_at o (at.Even u front)))
+  pub next_even : (u : Update) (front : ℕ) → Fits o (at.Even u front) v
+      → Fits (after o n (at.Even u front)) (after o n (at.Even u front)).stage (view_after v h n (act_at o (at.Even u front)))
   next_even (update.Leaf spot) front f =
       let q = (f.point).0 in
-      record { owns = f.owns; unraised = λ z. f.unraised refl; tickets = f.tickets; point = ((q.0, refl, q.2, q.3, q.4, (f.point).2, (f.point).1), q.5, q.6, (f.point).3) }
+      record {
+        owns = f.owns;
+        unraised = λ z. f.unraised refl;
+        tickets = f.tickets;
+        point = ((q.0, refl, q.2, q.3, q.4, (f.point).2, (f.point).1), q.5, q.6, (f.point).3);
+      }
   next_even (update.Value s old) front f =
       let q = (f.point).0 in
-      record { owns = f.owns; unraised = λ z. f.unraised refl; tickets = f.tickets; point = ((q.0, refl, q.2, q.3, q.4, (f.point).2, (f.point).1), q.5, q.6, (f.point).3) }
+      record {
+        owns = f.owns;
+        unraised = λ z. f.unraised refl;
+        tickets = f.tickets;
+        point = ((q.0, refl, q.2, q.3, q.4, (f.point).2, (f.point).1), q.5, q.6, (f.point).3);
+      }
   next_even (update.Bypass d child) front f = by (child == 0) (f.point).2
     where
       by : (z : Bool) → Relinked z v.locks d.parent d.side
           → let st : Stage = cond z (at.EmptyTag ((front + 2) / 2) d.parent d.side) (at.Unlock (last.Gone ((front + 2) / 2))) in
-          Fits (go (record o { front = front + 2 }) st) st (record v { latest = record v.latest { front = Some (front + 2) }; commit = None })
-      by true r = let q = (f.point).0 in record { owns = f.owns; unraised = λ z. f.unraised refl; tickets = f.tickets; point = ((q.0, refl, q.2, q.3, q.4, q.5, q.6), (f.point).1, r, (f.point).3) }
-      by false r = let q = (f.point).0 in record { owns = f.owns; unraised = λ z. f.unraised refl; tickets = f.tickets; point = ((q.0, refl, q.2, q.3, q.4, r, (f.point).1), q.5, q.6, (f.point).3) }
+          Fits (go (record o { front = front + 2 }) st) st
+          (record v { latest = record v.latest { front = Some (front + 2) }; commit = None })
+      by true r = let q = (f.point).0 in record {
+        owns = f.owns;
+        unraised = λ z. f.unraised refl;
+        tickets = f.tickets;
+        point = ((q.0, refl, q.2, q.3, q.4, q.5, q.6), (f.point).1, r, (f.point).3);
+      }
+      by false r = let q = (f.point).0 in record {
+        owns = f.owns;
+        unraised = λ z. f.unraised refl;
+        tickets = f.tickets;
+        point = ((q.0, refl, q.2, q.3, q.4, r, (f.point).1), q.5, q.6, (f.point).3);
+      }
   next_even (update.Copy d u next_key copy) front f =
       let p = f.point in
       let q = p.0 in
@@ -88,5 +129,9 @@ module _ (k : Shape) (h : List Mark) (o : Own) (v : View) (n : ℕ) where
         owns = f.owns;
         unraised = λ z. f.unraised refl;
         tickets = f.tickets;
-        point = ((q.0, refl, q.2, q.3, q.4, q.5, q.6, q.7, q.8, q.9, q.10), record { lock = old.lock; locked = old.locked; marked_is = old.marked_is; life = old.life }, p.2);
+        point = (
+          (q.0, refl, q.2, q.3, q.4, q.5, q.6, q.7, q.8, q.9, q.10),
+          record { lock = old.lock; locked = old.locked; marked_is = old.marked_is; life = old.life },
+          p.2,
+        );
       }

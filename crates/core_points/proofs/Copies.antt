@@ -50,7 +50,8 @@ use Rattle.core_points.proofs.UnderLocks.{held_still, known_more_under, known_no
 use Rattle.core_tree.proofs.locks.Relocking.{change_other, length_change, slots_change}
 
 -- The facts of this crate in the words of the steps.
-both_children : (v : View) (r : Reading) (d : Node) (u : Successor) → HoldsNode v.records v.locks r d → HoldsSuccessor v.locks r d u → BothChildren v r d.parent d.side d.node d.left d.right u.parent u.slot
+both_children : (v : View) (r : Reading) (d : Node) (u : Successor) → HoldsNode v.records v.locks r d → HoldsSuccessor v.locks r d u
+    → BothChildren v r d.parent d.side d.node d.left d.right u.parent u.slot
 both_children v r d u node s = record {
   records = node_records v r d node;
   left_some = s.left_some;
@@ -63,7 +64,8 @@ both_children v r d u node s = record {
 }
 
 -- what was loaded under the successor's locks is still known
-successor_to : (ls ls' : List HeldLock) (r : Reading) (d : Node) (u : Successor) → (u.parent ≢ d.node → KeepsLife ls ls' u.parent × KeepsLinks ls ls' u.parent) → KeepsLife ls ls' u.slot → KeepsLinks ls ls' u.slot
+successor_to : (ls ls' : List HeldLock) (r : Reading) (d : Node) (u : Successor)
+    → (u.parent ≢ d.node → KeepsLife ls ls' u.parent × KeepsLinks ls ls' u.parent) → KeepsLife ls ls' u.slot → KeepsLinks ls ls' u.slot
     → HoldsSuccessor ls r d u → HoldsSuccessor ls' r d u
 successor_to ls ls' r d u parent life links s = record {
   left_some = s.left_some;
@@ -71,14 +73,16 @@ successor_to ls ls' r d u parent life links s = record {
   had = s.had;
   walk = s.walk;
   apart = s.apart;
-  link = ⊎_elim (λ (x : (u.parent ≡ d.node) × (d.right ≡ u.slot)). inl x) (λ x. inr (x.0, x.1, (parent x.0).0 (2 * u.parent_generation) x.2, (parent x.0).1 Left u.slot x.3)) s.link;
+  link = ⊎_elim (λ (x : (u.parent ≡ d.node) × (d.right ≡ u.slot)). inl x)
+      (λ x. inr (x.0, x.1, (parent x.0).0 (2 * u.parent_generation) x.2, (parent x.0).1 Left u.slot x.3)) s.link;
   recorded = s.recorded;
   life = life (2 * u.generation) s.life;
   left = links Left 0 s.left;
 }
 
 -- all slots of the delete have what was known under their locks
-same_to : (records : List Reading) (ls ls' : List HeldLock) (key : ℕ) (d : Node) (u : Successor) → ((t : ℕ) → KeepsLife ls ls' t × KeepsLinks ls ls' t) → BothHold records ls key d u → BothHold records ls' key d u
+same_to : (records : List Reading) (ls ls' : List HeldLock) (key : ℕ) (d : Node) (u : Successor)
+    → ((t : ℕ) → KeepsLife ls ls' t × KeepsLinks ls ls' t) → BothHold records ls key d u → BothHold records ls' key d u
 same_to records ls ls' key d u keeps both =
     let r : Reading = both.0 in (
       r,
@@ -87,7 +91,8 @@ same_to records ls ls' key d u keeps both =
       successor_to ls ls' r d u (λ ne. keeps u.parent) (keeps u.slot).0 (keeps u.slot).1 both.3,
     )
 
-aside_to : (records : List Reading) (ls ls' : List HeldLock) (key copy : ℕ) (d : Node) (u : Successor) → IsAside copy d u → ((t : ℕ) → copy ≢ t → under ls' t ≡ under ls t) → BothHold records ls key d u → BothHold records ls' key d u
+aside_to : (records : List Reading) (ls ls' : List HeldLock) (key copy : ℕ) (d : Node) (u : Successor) → IsAside copy d u
+    → ((t : ℕ) → copy ≢ t → under ls' t ≡ under ls t) → BothHold records ls key d u → BothHold records ls' key d u
 aside_to records ls ls' key copy d u aside same both =
     let r : Reading = both.0 in
     let p = same d.parent aside.parent in
@@ -95,12 +100,18 @@ aside_to records ls ls' key copy d u aside same both =
     let s = same u.slot aside.successor in (
       r,
       both.1,
-      node_to records ls ls' r d (life_same ls ls' d.parent p) (links_same ls ls' d.parent p) (links_same ls ls' d.node (same d.node aside.node)) both.2,
-      successor_to ls ls' r d u (λ ne. (life_same ls ls' u.parent q, links_same ls ls' u.parent q)) (life_same ls ls' u.slot s) (links_same ls ls' u.slot s) both.3,
+      node_to records ls ls' r d (life_same ls ls' d.parent p) (links_same ls ls' d.parent p)
+          (links_same ls ls' d.node (same d.node aside.node)) both.2,
+      successor_to ls ls' r d u (λ ne. (life_same ls ls' u.parent q, links_same ls ls' u.parent q)) (life_same ls ls' u.slot s)
+          (links_same ls ls' u.slot s) both.3,
     )
 
-knows_to : (ls ls' : List HeldLock) (u : Successor) (next_key value : ℕ) → under ls' u.slot ≡ under ls u.slot → KnowsSuccessor ls u next_key value → KnowsSuccessor ls' u next_key value
-knows_to ls ls' u next_key value same k = record { key = ap (λ ks. known_in ks (Key u.slot)) same ∙ k.key; value_is = ap (λ ks. known_in ks (Value u.slot)) same ∙ k.value_is }
+knows_to : (ls ls' : List HeldLock) (u : Successor) (next_key value : ℕ) → under ls' u.slot ≡ under ls u.slot
+    → KnowsSuccessor ls u next_key value → KnowsSuccessor ls' u next_key value
+knows_to ls ls' u next_key value same k = record {
+  key = ap (λ ks. known_in ks (Key u.slot)) same ∙ k.key;
+  value_is = ap (λ ks. known_in ks (Value u.slot)) same ∙ k.value_is;
+}
 
 some_locks : (d : Node) (u : Successor) → is_none_left (all_locks d u) ≡ false
 some_locks d u = by (u.parent == d.node)
@@ -110,7 +121,8 @@ some_locks d u = by (u.parent == d.node)
     by false = refl
 
 -- The copy's fields.
-pub some_spare : (spare : Option Held) (own : Option ℕ) → spare_slot spare ≡ own → is_some own ≡ true → (held : Held) × (spare ≡ Some held) × (held.slot ≡ or_root own)
+pub some_spare : (spare : Option Held) (own : Option ℕ) → spare_slot spare ≡ own → is_some own ≡ true
+    → (held : Held) × (spare ≡ Some held) × (held.slot ≡ or_root own)
 some_spare None own e some = absurd (let q : false ≡ true = ap is_some e ∙ some in cc)
 some_spare (Some held) own e some = (held, refl, ap or_root e)
 
@@ -149,22 +161,37 @@ filled_more spare copy d next_key value i le (held, e, is, has) =
       ap (note_option copy kn) e ∙ ap Some (held_here copy kn held is),
       is,
       λ j lt. dite (ℕ_discrete j i)
-          (λ same. subst (λ x. known_in (kn ∷ held.known) (content copy x) ≡ Some (contents next_key value d.left d.right x)) (sym same) (ap (λ z. cond z (Some (contents next_key value d.left d.right i)) (known_in held.known (content copy i))) (same_self (content copy i))))
-          (λ ne. ap (λ z. cond z (Some (contents next_key value d.left d.right i)) (known_in held.known (content copy j))) (contents_apart copy i j (omega arith) le) ∙ has j (omega arith)),
+          (λ same. subst (λ x. known_in (kn ∷ held.known) (content copy x) ≡ Some (contents next_key value d.left d.right x)) (sym same)
+          (ap (λ z. cond z (Some (contents next_key value d.left d.right i)) (known_in held.known (content copy i)))
+          (same_self (content copy i))))
+          (λ ne. ap (λ z. cond z (Some (contents next_key value d.left d.right i)) (known_in held.known (content copy j)))
+          (contents_apart copy i j (omega arith) le) ∙ has j (omega arith)),
     )
 
-aged : (spare : Option Held) (copy : ℕ) (d : Node) (next_key value n : ℕ) → HasCopy spare copy d next_key value 4 → HasCopy (note_option copy (read_at (Life copy) n) spare) copy d next_key value 4
+aged : (spare : Option Held) (copy : ℕ) (d : Node) (next_key value n : ℕ) → HasCopy spare copy d next_key value 4
+    → HasCopy (note_option copy (read_at (Life copy) n) spare) copy d next_key value 4
 aged spare copy d next_key value n (held, e, is, has) =
-    let kn : Known = read_at (Life copy) n in
-    (record held { known = kn ∷ held.known }, ap (note_option copy kn) e ∙ ap Some (held_here copy kn held is), is, λ j lt. ap (λ z. cond z (Some n) (known_in held.known (content copy j))) (life_no_content copy j lt) ∙ has j lt)
+    let kn : Known = read_at (Life copy) n in (
+      record held { known = kn ∷ held.known },
+      ap (note_option copy kn) e ∙ ap Some (held_here copy kn held is),
+      is,
+      λ j lt. ap (λ z. cond z (Some n) (known_in held.known (content copy j))) (life_no_content copy j lt) ∙ has j lt,
+    )
 
-copy_elsewhere : (spare : Option Held) (copy s : ℕ) (kn : Known) (d : Node) (next_key value i : ℕ) → copy ≢ s → HasCopy spare copy d next_key value i → HasCopy (note_option s kn spare) copy d next_key value i
-copy_elsewhere spare copy s kn d next_key value i ne (held, e, is, has) =
-    (held, ap (note_option s kn) e ∙ ap (λ z. Some (cond z (record held { known = kn ∷ held.known }) held)) (ne_eqb held.slot s (λ same. ne (sym is ∙ same))), is, has)
+copy_elsewhere : (spare : Option Held) (copy s : ℕ) (kn : Known) (d : Node) (next_key value i : ℕ) → copy ≢ s
+    → HasCopy spare copy d next_key value i → HasCopy (note_option s kn spare) copy d next_key value i
+copy_elsewhere spare copy s kn d next_key value i ne (held, e, is, has) = (
+  held,
+  ap (note_option s kn) e ∙ ap (λ z. Some (cond z (record held { known = kn ∷ held.known }) held))
+      (ne_eqb held.slot s (λ same. ne (sym is ∙ same))),
+  is,
+  has,
+)
 
 module _ (k : Shape) (h : List Mark) (o : Own) (v : View) (n : ℕ) where
   -- a load of the successor's key or value
-  before_loaded : (d : Node) (u : Successor) (field : Field) → ((t : ℕ) → same_field field (Life t) ≡ false) → ((t : ℕ) (b : Side) → same_field field (Link t b) ≡ false) → BeforeCopy o v d u → BeforeCopy o (noting v u.slot field n false) d u
+  before_loaded : (d : Node) (u : Successor) (field : Field) → ((t : ℕ) → same_field field (Life t) ≡ false)
+      → ((t : ℕ) (b : Side) → same_field field (Link t b) ≡ false) → BeforeCopy o v d u → BeforeCopy o (noting v u.slot field n false) d u
   before_loaded d u field no_life no_link p =
       let c = p.0 in
       let kn : Known = read_at field n in
@@ -172,7 +199,11 @@ module _ (k : Shape) (h : List Mark) (o : Own) (v : View) (n : ℕ) where
         (
           quiet_noted o v u.slot field n false None c.0,
           c.1,
-          same_to v.records v.locks now (key_now o) d u (λ t. ((λ x e. loaded_more v.locks u.slot kn t (Life t) x (no_life t) e), (λ b x e. loaded_more v.locks u.slot kn t (Link t b) x (no_link t b) e))) c.2,
+          same_to v.records v.locks now (key_now o) d u
+              (λ t. (
+                (λ x e. loaded_more v.locks u.slot kn t (Life t) x (no_life t) e),
+                (λ b x e. loaded_more v.locks u.slot kn t (Link t b) x (no_link t b) e),
+              )) c.2,
         ),
         loaded_more v.locks u.slot kn d.node (Life d.node) (2 * d.generation) (no_life d.node) p.1,
         clear_changed u.slot (note_lock kn) (λ l c. c) v.locks p.2,
@@ -184,7 +215,8 @@ module _ (k : Shape) (h : List Mark) (o : Own) (v : View) (n : ℕ) where
   pub needs_successor_key : (d : Node) (u : Successor) → Fits o (at.SuccessorKey d u) v → Needs k v n (act_at o (at.SuccessorKey d u))
   needs_successor_key d u f = record { held = (f.point).5; loadable = refl }
 
-  pub next_successor_key : (d : Node) (u : Successor) → IsAside (or_root o.spare) d u → Fits o (at.SuccessorKey d u) v → Fits (after o n (at.SuccessorKey d u)) (at.SuccessorValue d u n) (view_after v h n (act_at o (at.SuccessorKey d u)))
+  pub next_successor_key : (d : Node) (u : Successor) → IsAside (or_root o.spare) d u → Fits o (at.SuccessorKey d u) v
+      → Fits (after o n (at.SuccessorKey d u)) (at.SuccessorValue d u n) (view_after v h n (act_at o (at.SuccessorKey d u)))
   next_successor_key d u aside f = record {
     owns = owns_noted o v u.slot (Key u.slot) n false f.owns;
     unraised = λ z. f.unraised refl;
@@ -192,11 +224,13 @@ module _ (k : Shape) (h : List Mark) (o : Own) (v : View) (n : ℕ) where
     point = (before_loaded d u (Key u.slot) (λ t. refl) (λ t b. refl) f.point, aside, known_now v.locks u.slot (Key u.slot) n (f.point).5);
   }
 
-  pub needs_successor_value : (d : Node) (u : Successor) (next_key : ℕ) → Fits o (at.SuccessorValue d u next_key) v → Needs k v n (act_at o (at.SuccessorValue d u next_key))
+  pub needs_successor_value : (d : Node) (u : Successor) (next_key : ℕ) → Fits o (at.SuccessorValue d u next_key) v
+      → Needs k v n (act_at o (at.SuccessorValue d u next_key))
   needs_successor_value d u next_key f = record { held = ((f.point).0).5; loadable = refl }
 
   pub next_successor_value : (d : Node) (u : Successor) (next_key : ℕ) → Fits o (at.SuccessorValue d u next_key) v
-      → Fits (after o n (at.SuccessorValue d u next_key)) (at.CopyField d u next_key n 0) (view_after v h n (act_at o (at.SuccessorValue d u next_key)))
+      → Fits (after o n (at.SuccessorValue d u next_key)) (at.CopyField d u next_key n 0)
+      (view_after v h n (act_at o (at.SuccessorValue d u next_key)))
   next_successor_value d u next_key f =
       let p = f.point in
       let b = p.0 in
@@ -210,19 +244,24 @@ module _ (k : Shape) (h : List Mark) (o : Own) (v : View) (n : ℕ) where
         point = (
           before_loaded d u (Value u.slot) (λ t. refl) (λ t b. refl) b,
           p.1,
-          record { key = known_more_under v.locks u.slot (read_at (Value u.slot) n) u.slot (Key u.slot) next_key refl p.2; value_is = known_now v.locks u.slot (Value u.slot) n b.5 },
+          record {
+            key = known_more_under v.locks u.slot (read_at (Value u.slot) n) u.slot (Key u.slot) next_key refl p.2;
+            value_is = known_now v.locks u.slot (Value u.slot) n b.5;
+          },
           (s.0, s.1, s.2, λ j lt. absurd (omega arith)),
           omega arith,
         );
       }
 
   -- a note of the copy, which is none of the slots
-  before_noted : (d : Node) (u : Successor) (copy : ℕ) (field : Field) (number : ℕ) (by_store : Bool) → IsAside copy d u → BeforeCopy o v d u → BeforeCopy o (noting v copy field number by_store) d u
+  before_noted : (d : Node) (u : Successor) (copy : ℕ) (field : Field) (number : ℕ) (by_store : Bool) → IsAside copy d u
+      → BeforeCopy o v d u → BeforeCopy o (noting v copy field number by_store) d u
   before_noted d u copy field number by_store aside p =
       let c = p.0 in
       let kn : Known = record { field = field; number = number; stored = by_store } in
       let now : List HeldLock = change_lock copy (note_lock kn) v.locks in
-      let same : (t : ℕ) → copy ≢ t → under now t ≡ under v.locks t = λ t ne. under_other v.locks copy (note_lock kn) (λ l. refl) t (λ e. ne (sym e)) in (
+      let same : (t : ℕ) → copy ≢ t → under now t ≡ under v.locks t =
+      λ t ne. under_other v.locks copy (note_lock kn) (λ l. refl) t (λ e. ne (sym e)) in (
         (quiet_noted o v copy field number by_store None c.0, c.1, aside_to v.records v.locks now (key_now o) copy d u aside same c.2),
         ap (λ ks. loaded_in ks (Life d.node)) (same d.node aside.node) ∙ p.1,
         clear_changed copy (note_lock kn) (λ l c. c) v.locks p.2,
@@ -231,15 +270,20 @@ module _ (k : Shape) (h : List Mark) (o : Own) (v : View) (n : ℕ) where
         held_still v.locks copy (note_lock kn) (λ l. refl) u.slot p.5,
       )
 
-  knows_noted : (d : Node) (u : Successor) (copy : ℕ) (kn : Known) (next_key value : ℕ) → IsAside copy d u → KnowsSuccessor v.locks u next_key value → KnowsSuccessor (change_lock copy (note_lock kn) v.locks) u next_key value
+  knows_noted : (d : Node) (u : Successor) (copy : ℕ) (kn : Known) (next_key value : ℕ) → IsAside copy d u
+      → KnowsSuccessor v.locks u next_key value → KnowsSuccessor (change_lock copy (note_lock kn) v.locks) u next_key value
   knows_noted d u copy kn next_key value aside knows =
-      knows_to v.locks (change_lock copy (note_lock kn) v.locks) u next_key value (under_other v.locks copy (note_lock kn) (λ l. refl) u.slot (λ e. aside.successor (sym e))) knows
+      knows_to v.locks (change_lock copy (note_lock kn) v.locks) u next_key value
+      (under_other v.locks copy (note_lock kn) (λ l. refl) u.slot (λ e. aside.successor (sym e))) knows
 
-  pub needs_copy_field : (d : Node) (u : Successor) (next_key value i : ℕ) → Fits o (at.CopyField d u next_key value i) v → Needs k v n (act_at o (at.CopyField d u next_key value i))
-  needs_copy_field d u next_key value i f = let c = (f.point).3 in (c.0, record { holder = inr (c.1, c.2); content = content_is i (f.point).4 (or_root o.spare) })
+  pub needs_copy_field : (d : Node) (u : Successor) (next_key value i : ℕ) → Fits o (at.CopyField d u next_key value i) v
+      → Needs k v n (act_at o (at.CopyField d u next_key value i))
+  needs_copy_field d u next_key value i f = let c = (f.point).3 in
+      (c.0, record { holder = inr (c.1, c.2); content = content_is i (f.point).4 (or_root o.spare) })
 
   pub next_copy_field : (d : Node) (u : Successor) (next_key value i : ℕ) → Fits o (at.CopyField d u next_key value i) v
-      → Fits (after o n (at.CopyField d u next_key value i)) (after o n (at.CopyField d u next_key value i)).stage (view_after v h n (act_at o (at.CopyField d u next_key value i)))
+      → Fits (after o n (at.CopyField d u next_key value i)) (after o n (at.CopyField d u next_key value i)).stage
+      (view_after v h n (act_at o (at.CopyField d u next_key value i)))
   next_copy_field d u next_key value i f = by (i == 3) refl
     where
       copy : ℕ
@@ -251,7 +295,8 @@ module _ (k : Shape) (h : List Mark) (o : Own) (v : View) (n : ℕ) where
       number : ℕ
       number = contents next_key value d.left d.right i
 
-      by : (z : Bool) → (i == 3) ≡ z → let st : Stage = cond z (at.CopyAge d u next_key) (at.CopyField d u next_key value (i + 1)) in Fits (go o st) st (noting v copy field number true)
+      by : (z : Bool) → (i == 3) ≡ z → let st : Stage = cond z (at.CopyAge d u next_key) (at.CopyField d u next_key value (i + 1)) in
+          Fits (go o st) st (noting v copy field number true)
       by true e =
           let p = f.point in
           let three : i ≡ 3 = eqb-true i 3 e in
@@ -261,7 +306,15 @@ module _ (k : Shape) (h : List Mark) (o : Own) (v : View) (n : ℕ) where
             tickets = f.tickets;
             point = (
               before_noted d u copy field number true p.1 p.0,
-              (p.1, (value, knows_noted d u copy (stored_at field number) next_key value p.1 p.2, subst (HasCopy (note_option copy (stored_at field number) v.hands.spare) copy d next_key value) four (filled_more v.hands.spare copy d next_key value i p.4 p.3))),
+              (
+                p.1,
+                (
+                  value,
+                  knows_noted d u copy (stored_at field number) next_key value p.1 p.2,
+                  subst (HasCopy (note_option copy (stored_at field number) v.hands.spare) copy d next_key value) four
+                      (filled_more v.hands.spare copy d next_key value i p.4 p.3),
+                ),
+              ),
             );
           }
       by false e =
@@ -275,15 +328,18 @@ module _ (k : Shape) (h : List Mark) (o : Own) (v : View) (n : ℕ) where
               before_noted d u copy field number true p.1 p.0,
               p.1,
               knows_noted d u copy (stored_at field number) next_key value p.1 p.2,
-              subst (HasCopy (note_option copy (stored_at field number) v.hands.spare) copy d next_key value) one (filled_more v.hands.spare copy d next_key value i p.4 p.3),
+              subst (HasCopy (note_option copy (stored_at field number) v.hands.spare) copy d next_key value) one
+                  (filled_more v.hands.spare copy d next_key value i p.4 p.3),
               (let le = p.4 in omega arith),
             );
           }
 
-  pub needs_copy_age : (d : Node) (u : Successor) (next_key : ℕ) → Fits o (at.CopyAge d u next_key) v → Needs k v n (act_at o (at.CopyAge d u next_key))
+  pub needs_copy_age : (d : Node) (u : Successor) (next_key : ℕ) → Fits o (at.CopyAge d u next_key) v
+      → Needs k v n (act_at o (at.CopyAge d u next_key))
   needs_copy_age d u next_key f = let c = (((f.point).1).1).2 in (c.0, inr (c.1, c.2))
 
-  pub next_copy_age : (d : Node) (u : Successor) (next_key : ℕ) → Fits o (at.CopyAge d u next_key) v → Fits (after o n (at.CopyAge d u next_key)) (at.CopyLock d u next_key) (view_after v h n (act_at o (at.CopyAge d u next_key)))
+  pub next_copy_age : (d : Node) (u : Successor) (next_key : ℕ) → Fits o (at.CopyAge d u next_key) v
+      → Fits (after o n (at.CopyAge d u next_key)) (at.CopyLock d u next_key) (view_after v h n (act_at o (at.CopyAge d u next_key)))
   next_copy_age d u next_key f =
       let p = f.point in
       let copy : ℕ = or_root o.spare in
@@ -299,20 +355,23 @@ module _ (k : Shape) (h : List Mark) (o : Own) (v : View) (n : ℕ) where
       }
 
   -- the lock of the copy
-  pub needs_copy_lock : (d : Node) (u : Successor) (next_key : ℕ) → Fits o (at.CopyLock d u next_key) v → Needs k v n (act_at o (at.CopyLock d u next_key))
+  pub needs_copy_lock : (d : Node) (u : Successor) (next_key : ℕ) → Fits o (at.CopyLock d u next_key) v
+      → Needs k v n (act_at o (at.CopyLock d u next_key))
   needs_copy_lock d u next_key f = let p = (f.point).0 in let few = p.3 in record { outside = ((p.0).0).0; few = omega arith }
 
   under_new : (copy t : ℕ) (ls : List HeldLock) → copy ≢ t → under (new_lock copy ∷ ls) t ≡ under ls t
   under_new copy t ls ne = ap (λ b. known_of (cond b (Some (new_lock copy)) (lock_of ls t))) (ne_eqb copy t ne)
 
   pub next_copy_lock : (d : Node) (u : Successor) (next_key : ℕ) → Fits o (at.CopyLock d u next_key) v
-      → Fits (after o n (at.CopyLock d u next_key)) (after o n (at.CopyLock d u next_key)).stage (view_after v h n (act_at o (at.CopyLock d u next_key)))
+      → Fits (after o n (at.CopyLock d u next_key)) (after o n (at.CopyLock d u next_key)).stage
+      (view_after v h n (act_at o (at.CopyLock d u next_key)))
   next_copy_lock d u next_key f = got (n == 0)
     where
       copy : ℕ
       copy = or_root o.spare
 
-      got : (z : Bool) → let o' : Own = cond z (go (record o { locks = copy ∷ o.locks }) (at.CopyMark d u next_key)) (go o (cond (is_none_left o.locks) at.EnterClock (at.Unlock last.Again))) in
+      got : (z : Bool) → let o' : Own = cond z (go (record o { locks = copy ∷ o.locks }) (at.CopyMark d u next_key))
+          (go o (cond (is_none_left o.locks) at.EnterClock (at.Unlock last.Again))) in
           Fits o' o'.stage (cond z (record v { locks = new_lock copy ∷ v.locks }) v)
       got true =
           let p = (f.point).0 in
@@ -339,10 +398,16 @@ module _ (k : Shape) (h : List Mark) (o : Own) (v : View) (n : ℕ) where
           let q = c.0 in
           let some : is_none_left o.locks ≡ false = ap is_none_left p.4 ∙ some_locks d u in
           subst (λ z. let st : Stage = cond z at.EnterClock (at.Unlock last.Again) in Fits (go o st) st v) (sym some)
-          (record { owns = f.owns; unraised = λ z. f.unraised refl; tickets = f.tickets; point = ((q.0, q.1, q.2, q.3, q.4, p.2, some), quiet_hand o v q, (c.1).1) })
+          (record {
+            owns = f.owns;
+            unraised = λ z. f.unraised refl;
+            tickets = f.tickets;
+            point = ((q.0, q.1, q.2, q.3, q.4, p.2, some), quiet_hand o v q, (c.1).1);
+          })
 
   -- the mark of the node
-  pub needs_copy_mark : (d : Node) (u : Successor) (next_key : ℕ) → Fits o (at.CopyMark d u next_key) v → Needs k v n (act_at o (at.CopyMark d u next_key))
+  pub needs_copy_mark : (d : Node) (u : Successor) (next_key : ℕ) → Fits o (at.CopyMark d u next_key) v
+      → Needs k v n (act_at o (at.CopyMark d u next_key))
   needs_copy_mark d u next_key f =
       let p = f.point in
       let both = (p.0).2 in
@@ -353,12 +418,21 @@ module _ (k : Shape) (h : List Mark) (o : Own) (v : View) (n : ℕ) where
           locked = held.1;
           life_now = held.2;
           unmarked = omega arith;
-          why = inl (r, d.parent, d.left, d.right, d.side, (d.generation, (both.2).recorded, p.2), inr (u.parent, u.slot, both_children v r d u both.2 both.3));
+          why = inl (
+            r,
+            d.parent,
+            d.left,
+            d.right,
+            d.side,
+            (d.generation, (both.2).recorded, p.2),
+            inr (u.parent, u.slot, both_children v r d u both.2 both.3),
+          );
         },
       )
 
   pub next_copy_mark : (d : Node) (u : Successor) (next_key : ℕ) → Fits o (at.CopyMark d u next_key) v
-      → Fits (after o n (at.CopyMark d u next_key)) (after o n (at.CopyMark d u next_key)).stage (view_after v h n (act_at o (at.CopyMark d u next_key)))
+      → Fits (after o n (at.CopyMark d u next_key)) (after o n (at.CopyMark d u next_key)).stage
+      (view_after v h n (act_at o (at.CopyMark d u next_key)))
   next_copy_mark d u next_key f =
       let p = f.point in
       let copy : ℕ = or_root o.spare in
@@ -373,7 +447,8 @@ module _ (k : Shape) (h : List Mark) (o : Own) (v : View) (n : ℕ) where
       let apart = (both.3).apart in
       let s = under_marked v.locks d u.slot apart.from_node in
       let owns = owns_noted o v d.node (Life d.node) (2 * d.generation + 1) true f.owns in record {
-        owns = owns_relocked o (noting v d.node (Life d.node) (2 * d.generation + 1) true) _ (slots_change d.node (with_mark true) (λ l. refl) noted) owns;
+        owns = owns_relocked o (noting v d.node (Life d.node) (2 * d.generation + 1) true) _ (slots_change d.node (with_mark true)
+            (λ l. refl) noted) owns;
         unraised = λ z. f.unraised refl;
         tickets = (let t = f.tickets in let two = delete_owed o.op o.hand o.retired (c.1).0 in omega arith);
         point = (
@@ -385,10 +460,19 @@ module _ (k : Shape) (h : List Mark) (o : Own) (v : View) (n : ℕ) where
                 r,
                 both.1,
                 node_marked v.records v.locks r d both.2,
-                successor_to v.locks now r d u (λ ne. (let e = under_marked v.locks d u.parent ne in (life_same v.locks now u.parent e, links_same v.locks now u.parent e))) (life_same v.locks now u.slot s) (links_same v.locks now u.slot s) both.3,
+                successor_to v.locks now r d u (λ ne. (let e = under_marked v.locks d u.parent ne in
+                    (life_same v.locks now u.parent e, links_same v.locks now u.parent e))) (life_same v.locks now u.slot s)
+                    (links_same v.locks now u.slot s) both.3,
               ),
             ),
-            (q.0, (x.0, knows_to v.locks now u next_key x.0 s x.1, copy_elsewhere v.hands.spare copy d.node kn d next_key x.0 4 (q.0).node x.2)),
+            (
+              q.0,
+              (
+                x.0,
+                knows_to v.locks now u next_key x.0 s x.1,
+                copy_elsewhere v.hands.spare copy d.node kn d next_key x.0 4 (q.0).node x.2,
+              ),
+            ),
             is_marked v d p.2,
             clear_marked kn d.node v.locks p.3,
             p.4,
@@ -399,7 +483,8 @@ module _ (k : Shape) (h : List Mark) (o : Own) (v : View) (n : ℕ) where
       }
 
   -- the link of the copy
-  pub needs_copy_store : (d : Node) (u : Successor) (next_key copy front : ℕ) → Fits o (at.Store (update.Copy d u next_key copy) front) v → Needs k v n (act_at o (at.Store (update.Copy d u next_key copy) front))
+  pub needs_copy_store : (d : Node) (u : Successor) (next_key copy front : ℕ) → Fits o (at.Store (update.Copy d u next_key copy) front) v
+      → Needs k v n (act_at o (at.Store (update.Copy d u next_key copy) front))
   needs_copy_store d u next_key copy front f =
       let p = f.point in
       let c = p.0 in
@@ -431,7 +516,8 @@ module _ (k : Shape) (h : List Mark) (o : Own) (v : View) (n : ℕ) where
       )
 
   pub next_copy_store : (d : Node) (u : Successor) (next_key copy front : ℕ) → Fits o (at.Store (update.Copy d u next_key copy) front) v
-      → Fits (after o n (at.Store (update.Copy d u next_key copy) front)) (after o n (at.Store (update.Copy d u next_key copy) front)).stage (view_after v h n (act_at o (at.Store (update.Copy d u next_key copy) front)))
+      → Fits (after o n (at.Store (update.Copy d u next_key copy) front)) (after o n (at.Store (update.Copy d u next_key copy) front)).stage
+      (view_after v h n (act_at o (at.Store (update.Copy d u next_key copy) front)))
   next_copy_store d u next_key copy front f =
       let p = f.point in
       let c = p.0 in
@@ -447,17 +533,23 @@ module _ (k : Shape) (h : List Mark) (o : Own) (v : View) (n : ℕ) where
       let owns = owns_noted o v d.parent (Link d.parent d.side) held.slot true f.owns in
       let q = quiet_noted o v d.parent (Link d.parent d.side) held.slot true (Some (record { found = front; stored = false })) c.0 in
       let old = held_by_load v u.slot (Life u.slot) (2 * u.generation) (both.3).life in
-      let locked : lock_of now u.slot ≡ Some old.0 = change_other d.node (with_mark false) (λ l. refl) noted u.slot apart.from_node ∙ change_other d.parent (note_lock kn) (λ l. refl) v.locks u.slot apart.from_parent ∙ old.1 in
+      let locked : lock_of now u.slot ≡ Some old.0 =
+      change_other d.node (with_mark false) (λ l. refl) noted u.slot apart.from_node
+      ∙ change_other d.parent (note_lock kn) (λ l. refl) v.locks u.slot apart.from_parent ∙ old.1 in
       let clear : AreClear now = clear_stored kn d.parent d.node v.locks p.3 in
-      let still : (t : ℕ) → Holds v.locks t → Holds now t = λ t has. held_still noted d.node (with_mark false) (λ l. refl) t (held_still v.locks d.parent (note_lock kn) (λ l. refl) t has) in
-      subst (λ x. Fits o' o'.stage (after_copy_link v x (spare_of v) d.parent d.side d.node u.slot u.parent (key_now o) next_key h)) (sym (commit_is v _ (c.0).1))
-      (subst (λ y. Fits o' o'.stage (after_copy_link v (record { found = front; stored = false }) y d.parent d.side d.node u.slot u.parent (key_now o) next_key h)) (sym (spare_is v _ has.1))
+      let still : (t : ℕ) → Holds v.locks t → Holds now t =
+      λ t has. held_still noted d.node (with_mark false) (λ l. refl) t (held_still v.locks d.parent (note_lock kn) (λ l. refl) t has) in
+      subst (λ x. Fits o' o'.stage (after_copy_link v x (spare_of v) d.parent d.side d.node u.slot u.parent (key_now o) next_key h))
+      (sym (commit_is v _ (c.0).1))
+      (subst (λ y. Fits o' o'.stage (after_copy_link v (record { found = front; stored = false }) y d.parent d.side d.node u.slot u.parent
+      (key_now o) next_key h)) (sym (spare_is v _ has.1))
       (record {
         owns = record {
           same = owns.same;
           works = owns.works;
           spare_is = refl;
-          retired_are = slots_push v.hands.retired (newly_retired v d.node (length h + 1)) ∙ ap (λ xs. xs ++ d.node ∷ []) f.owns.retired_are;
+          retired_are = slots_push v.hands.retired (newly_retired v d.node (length h + 1))
+              ∙ ap (λ xs. xs ++ d.node ∷ []) f.owns.retired_are;
           locks_are = λ x. ap (times x) (slots_change d.node (with_mark false) (λ l. refl) noted) ∙ owns.locks_are x;
           key_fits = owns.key_fits;
           keys_fit = owns.keys_fit;
@@ -474,7 +566,16 @@ module _ (k : Shape) (h : List Mark) (o : Own) (v : View) (n : ℕ) where
             q.4,
             q.5,
             q.6,
-            (new_move held (key_now o) next_key d.node u.slot u.parent (length h), refl, refl, refl, has.2, refl, ap (λ y. cond (u.parent == d.node) y u.parent) has.2, refl),
+            (
+              new_move held (key_now o) next_key d.node u.slot u.parent (length h),
+              refl,
+              refl,
+              refl,
+              has.2,
+              refl,
+              ap (λ y. cond (u.parent == d.node) y u.parent) has.2,
+              refl,
+            ),
             p.4,
             parent_held now still (u.parent == d.node) refl p.5 (both.3).link,
             ((p.1).0).walk_parent,
@@ -485,7 +586,8 @@ module _ (k : Shape) (h : List Mark) (o : Own) (v : View) (n : ℕ) where
         );
       }))
     where
-      parent_held : (now : List HeldLock) → ((t : ℕ) → Holds v.locks t → Holds now t) → (z : Bool) → (u.parent == d.node) ≡ z → Holds v.locks copy → HoldsLink v.locks (((f.point).0).2).0 d u → Holds now (cond z copy u.parent)
+      parent_held : (now : List HeldLock) → ((t : ℕ) → Holds v.locks t → Holds now t) → (z : Bool) → (u.parent == d.node) ≡ z
+          → Holds v.locks copy → HoldsLink v.locks (((f.point).0).2).0 d u → Holds now (cond z copy u.parent)
       parent_held now still true e has link = still copy has
       parent_held now still false e has link = ⊎_elim
           (λ (x : (u.parent ≡ d.node) × (d.right ≡ u.slot)). absurd (let q : true ≡ false = sym (eq-eqb u.parent d.node x.0) ∙ e in cc))

@@ -46,10 +46,16 @@ here_loaded r r' field n still = ap (λ ls. known_in ls field) still.loads ∙ k
 life_here : (r r' : Reading) (t n : ℕ) → StillFound r r' (Life t) n → LoadedGeneration r' t (n / 2)
 life_here r r' t n still = (n, here_loaded r r' (Life t) n still, refl)
 
-life_kept : (r r' : Reading) (field : Field) (n t g : ℕ) → StillFound r r' field n → field ≢ Life t → LoadedGeneration r t g → LoadedGeneration r' t g
-life_kept r r' field n t g still ne (life, known, e) = (life, ap (λ ls. known_in ls (Life t)) still.loads ∙ known_still r.loads field (Life t) n life false (λ same. absurd (ne same)) known, e)
+life_kept : (r r' : Reading) (field : Field) (n t g : ℕ) → StillFound r r' field n → field ≢ Life t → LoadedGeneration r t g
+    → LoadedGeneration r' t g
+life_kept r r' field n t g still ne (life, known, e) = (
+  life,
+  ap (λ ls. known_in ls (Life t)) still.loads ∙ known_still r.loads field (Life t) n life false (λ same. absurd (ne same)) known,
+  e,
+)
 
-lives_kept : (r r' : Reading) (field : Field) (n : ℕ) (d : Node) → StillFound r r' field n → (d.parent ≢ d.node → field ≢ Life d.parent) → field ≢ Life d.node → ReadsLives r d → ReadsLives r' d
+lives_kept : (r r' : Reading) (field : Field) (n : ℕ) (d : Node) → StillFound r r' field n → (d.parent ≢ d.node → field ≢ Life d.parent)
+    → field ≢ Life d.node → ReadsLives r d → ReadsLives r' d
 lives_kept r r' field n d still parent node lives = record {
   parent_life = λ ne. life_kept r r' field n d.parent d.parent_generation still (parent ne) (lives.parent_life ne);
   node_life = life_kept r r' field n d.node d.generation still node lives.node_life;
@@ -75,7 +81,8 @@ life_apart s t ne e = ne (life_is e)
     life_is e = ap life_of e
 
 -- the walk stays
-walk_kept : (r r' : Reading) (field : Field) (n : ℕ) (d : Node) (u : Successor) → StillFound r r' field n → r'.walk ≡ r.walk → WalksTo r d u → WalksTo r' d u
+walk_kept : (r r' : Reading) (field : Field) (n : ℕ) (d : Node) (u : Successor) → StillFound r r' field n → r'.walk ≡ r.walk → WalksTo r d u
+    → WalksTo r' d u
 walk_kept r r' field n d u still same w = record {
   left_some = w.left_some;
   right_some = w.right_some;
@@ -105,56 +112,98 @@ has_children left right e = (
     by false t e = absurd (let q : true ≡ false = sym t ∙ e in cc)
 
 -- a load of the node's right begins the walk, and a load of the left of the slot at which it stands goes on
-right_walks : (r : Reading) (d p : ℕ) (b : Side) (n : ℕ) → r.state ≡ FoundAt d p b None → n ≢ 0 → loaded r (Link d Right) n ≡ walking (record r { loads = read_at (Link d Right) n ∷ r.loads }) d n
+right_walks : (r : Reading) (d p : ℕ) (b : Side) (n : ℕ) → r.state ≡ FoundAt d p b None → n ≢ 0
+    → loaded r (Link d Right) n ≡ walking (record r { loads = read_at (Link d Right) n ∷ r.loads }) d n
 right_walks r d p b n e ne =
     let r' : Reading = record r { loads = read_at (Link d Right) n ∷ r.loads } in
-    link_loaded r d p b d Right n e ∙ ap (λ z. cond (z && not (n == 0)) (walking r' d n) r') (eq-eqb d d refl) ∙ ap (λ z. cond (not z) (walking r' d n) r') (ne_eqb n 0 ne)
+    link_loaded r d p b d Right n e ∙ ap (λ z. cond (z && not (n == 0)) (walking r' d n) r') (eq-eqb d d refl)
+    ∙ ap (λ z. cond (not z) (walking r' d n) r') (ne_eqb n 0 ne)
 
-left_walks : (r : Reading) (d p : ℕ) (b : Side) (parent slot n : ℕ) → r.state ≡ FoundAt d p b None → r.walk ≡ Some (record { parent = parent; slot = slot })
-    → let r' : Reading = record r { loads = read_at (Link slot Left) n ∷ r.loads } in loaded r (Link slot Left) n ≡ cond (not (n == 0)) (walking r' slot n) r'
+left_walks : (r : Reading) (d p : ℕ) (b : Side) (parent slot n : ℕ) → r.state ≡ FoundAt d p b None
+    → r.walk ≡ Some (record { parent = parent; slot = slot })
+    → let r' : Reading = record r { loads = read_at (Link slot Left) n ∷ r.loads } in
+    loaded r (Link slot Left) n ≡ cond (not (n == 0)) (walking r' slot n) r'
 left_walks r d p b parent slot n e w =
     let r' : Reading = record r { loads = read_at (Link slot Left) n ∷ r.loads } in
-    link_loaded r d p b slot Left n e ∙ ap (λ x. walked r' d x slot Left n) w ∙ ap (λ z. cond (z && not (n == 0)) (walking r' slot n) r') (eq-eqb slot slot refl)
+    link_loaded r d p b slot Left n e ∙ ap (λ x. walked r' d x slot Left n) w
+    ∙ ap (λ z. cond (z && not (n == 0)) (walking r' slot n) r') (eq-eqb slot slot refl)
 
 module _ (k : Shape) (h : List Mark) (o : Own) (v : View) (n : ℕ) where
   pub needs_parent_life : (p : ℕ) (b : Side) (d : ℕ) → Fits o (at.ParentLife p b d) v → Needs k v n (act_at o (at.ParentLife p b d))
-  needs_parent_life p b d f = let i = (f.point).2 in (i.0, record { section_is = i.1; searches = (i.2).searches; stood = (i.3).0; loadable = refl })
+  needs_parent_life p b d f = let i = (f.point).2 in
+      (i.0, record { section_is = i.1; searches = (i.2).searches; stood = (i.3).0; loadable = refl })
 
-  pub next_parent_life : (p : ℕ) (b : Side) (d : ℕ) → Fits o (at.ParentLife p b d) v → Fits (after o n (at.ParentLife p b d)) (after o n (at.ParentLife p b d)).stage (view_after v h n (act_at o (at.ParentLife p b d)))
+  pub next_parent_life : (p : ℕ) (b : Side) (d : ℕ) → Fits o (at.ParentLife p b d) v
+      → Fits (after o n (at.ParentLife p b d)) (after o n (at.ParentLife p b d)).stage (view_after v h n (act_at o (at.ParentLife p b d)))
   next_parent_life p b d f =
       let d' : Node = record { parent = p; side = b; node = d; parent_generation = n / 2; generation = 0; left = 0; right = 0 } in
-      found_next h o v n d p b (Life p) (λ r. IsIn r.stood p × Unit {0}) (λ r. IsIn r.stood p × LoadedGeneration r p (n / 2)) (at.NodeLife d') f.owns (f.unraised refl) f.tickets (f.point).2
+      found_next h o v n d p b (Life p) (λ r. IsIn r.stood p × Unit {0}) (λ r. IsIn r.stood p × LoadedGeneration r p (n / 2))
+      (at.NodeLife d') f.owns (f.unraised refl) f.tickets (f.point).2
       (λ r e here m. (let still = life_still r d p b p n e in (still, (still.stood p m.0, life_here r (loaded r (Life p) n) p n still))))
       (λ section i. ((f.point).0, (f.point).1, i))
 
   pub needs_node_life : (d : Node) → Fits o (at.NodeLife d) v → Needs k v n (act_at o (at.NodeLife d))
-  needs_node_life d f = let i = (f.point).2 in (i.0, record { section_is = i.1; searches = (i.2).searches; stood = (i.2).here; loadable = refl })
+  needs_node_life d f = let i = (f.point).2 in (
+    i.0,
+    record { section_is = i.1; searches = (i.2).searches; stood = (i.2).here; loadable = refl },
+  )
 
-  pub next_node_life : (d : Node) → Fits o (at.NodeLife d) v → Fits (after o n (at.NodeLife d)) (after o n (at.NodeLife d)).stage (view_after v h n (act_at o (at.NodeLife d)))
+  pub next_node_life : (d : Node) → Fits o (at.NodeLife d) v
+      → Fits (after o n (at.NodeLife d)) (after o n (at.NodeLife d)).stage (view_after v h n (act_at o (at.NodeLife d)))
   next_node_life d f =
       let d' : Node = record d { generation = n / 2 } in
-      found_next h o v n d.node d.parent d.side (Life d.node) (λ r. IsIn r.stood d.parent × LoadedGeneration r d.parent d.parent_generation) (λ r. IsIn r.stood d.parent × ReadsLives r d') (at.NodeLeft d') f.owns (f.unraised refl) f.tickets (f.point).2
-      (λ r e here m. (let still = life_still r d.node d.parent d.side d.node n e in
-      (still, (still.stood d.parent m.0, record { parent_life = (λ ne. life_kept r (loaded r (Life d.node) n) (Life d.node) n d.parent d.parent_generation still (life_apart d.node d.parent (λ s. ne (sym s))) m.1); node_life = life_here r (loaded r (Life d.node) n) d.node n still }))))
+      found_next h o v n d.node d.parent d.side (Life d.node) (λ r. IsIn r.stood d.parent × LoadedGeneration r d.parent d.parent_generation)
+      (λ r. IsIn r.stood d.parent × ReadsLives r d') (at.NodeLeft d') f.owns (f.unraised refl) f.tickets (f.point).2
+      (λ r e here m. (let still = life_still r d.node d.parent d.side d.node n e in (
+        still,
+        (
+          still.stood d.parent m.0,
+          record {
+            parent_life =
+                (λ ne. life_kept r (loaded r (Life d.node) n) (Life d.node) n d.parent d.parent_generation still
+                (life_apart d.node d.parent (λ s. ne (sym s))) m.1);
+            node_life = life_here r (loaded r (Life d.node) n) d.node n still;
+          },
+        ),
+      )))
       (λ section i. ((f.point).0, (f.point).1, i))
 
   pub needs_node_left : (d : Node) → Fits o (at.NodeLeft d) v → Needs k v n (act_at o (at.NodeLeft d))
-  needs_node_left d f = let i = (f.point).2 in (i.0, record { section_is = i.1; searches = (i.2).searches; stood = (i.2).here; loadable = refl })
+  needs_node_left d f = let i = (f.point).2 in (
+    i.0,
+    record { section_is = i.1; searches = (i.2).searches; stood = (i.2).here; loadable = refl },
+  )
 
-  pub next_node_left : (d : Node) → Fits o (at.NodeLeft d) v → Fits (after o n (at.NodeLeft d)) (after o n (at.NodeLeft d)).stage (view_after v h n (act_at o (at.NodeLeft d)))
+  pub next_node_left : (d : Node) → Fits o (at.NodeLeft d) v
+      → Fits (after o n (at.NodeLeft d)) (after o n (at.NodeLeft d)).stage (view_after v h n (act_at o (at.NodeLeft d)))
   next_node_left d f =
       let d' : Node = record d { left = n } in
       found_next h o v n d.node d.parent d.side (Link d.node Left) (λ r. IsIn r.stood d.parent × ReadsLives r d)
-      (λ r. IsIn r.stood d.parent × (ReadsLives r d' × (known_in r.loads (Link d.node Left) ≡ Some n) × IsIn r.loads (read_at (Link d.node Left) n))) (at.NodeRight d') f.owns (f.unraised refl) f.tickets (f.point).2
+      (λ r. IsIn r.stood d.parent × (ReadsLives r d' × (known_in r.loads (Link d.node Left) ≡ Some n)
+      × IsIn r.loads (read_at (Link d.node Left) n))) (at.NodeRight d') f.owns (f.unraised refl) f.tickets (f.point).2
       (λ r e here m. (let still = link_still r d.node d.parent d.side d.node Left n e in
-      let r' : Reading = loaded r (Link d.node Left) n in
-      (still, (still.stood d.parent m.0, (lives_kept r r' (Link d.node Left) n d still (λ ne. link_no_life d.node d.parent Left) (link_no_life d.node d.node Left) m.1, here_loaded r r' (Link d.node Left) n still, first_load r r' (Link d.node Left) n still)))))
+      let r' : Reading = loaded r (Link d.node Left) n in (
+        still,
+        (
+          still.stood d.parent m.0,
+          (
+            lives_kept r r' (Link d.node Left) n d still (λ ne. link_no_life d.node d.parent Left)
+                (link_no_life d.node d.node Left) m.1,
+            here_loaded r r' (Link d.node Left) n still,
+            first_load r r' (Link d.node Left) n still,
+          ),
+        ),
+      )))
       (λ section i. ((f.point).0, (f.point).1, i))
 
   pub needs_node_right : (d : Node) → Fits o (at.NodeRight d) v → Needs k v n (act_at o (at.NodeRight d))
-  needs_node_right d f = let i = (f.point).2 in (i.0, record { section_is = i.1; searches = (i.2).searches; stood = (i.2).here; loadable = refl })
+  needs_node_right d f = let i = (f.point).2 in (
+    i.0,
+    record { section_is = i.1; searches = (i.2).searches; stood = (i.2).here; loadable = refl },
+  )
 
-  pub next_node_right : (d : Node) → Fits o (at.NodeRight d) v → Fits (after o n (at.NodeRight d)) (after o n (at.NodeRight d)).stage (view_after v h n (act_at o (at.NodeRight d)))
+  pub next_node_right : (d : Node) → Fits o (at.NodeRight d) v
+      → Fits (after o n (at.NodeRight d)) (after o n (at.NodeRight d)).stage (view_after v h n (act_at o (at.NodeRight d)))
   next_node_right d f = by ((d.left == 0) || (n == 0)) refl
     where
       d' : Node
@@ -163,10 +212,14 @@ module _ (k : Shape) (h : List Mark) (o : Own) (v : View) (n : ℕ) where
       u : Successor
       u = record { parent = d.node; slot = n; parent_generation = 0; generation = 0 }
 
-      by : (z : Bool) → ((d.left == 0) || (n == 0)) ≡ z → let st : Stage = cond z (at.Leave (then.Delete (record { node = d'; successor = None }))) (at.SuccessorLeft d' u) in
+      by : (z : Bool) → ((d.left == 0) || (n == 0)) ≡ z → let st : Stage =
+          cond z (at.Leave (then.Delete (record { node = d'; successor = None }))) (at.SuccessorLeft d' u) in
           Fits (go o st) st (after_search_load v (section_of v) (Link d.node Right) n)
-      by true e = found_next h o v n d.node d.parent d.side (Link d.node Right) (λ r. IsIn r.stood d.parent × (ReadsLives r d × (known_in r.loads (Link d.node Left) ≡ Some d.left) × IsIn r.loads (read_at (Link d.node Left) d.left)))
-          (λ r. IsIn r.stood d.parent × ReadsChildren r d' None) (at.Leave (then.Delete (record { node = d'; successor = None }))) f.owns (f.unraised refl)
+      by true e = found_next h o v n d.node d.parent d.side (Link d.node Right)
+          (λ r. IsIn r.stood d.parent × (ReadsLives r d × (known_in r.loads (Link d.node Left) ≡ Some d.left)
+          × IsIn r.loads (read_at (Link d.node Left) d.left)))
+          (λ r. IsIn r.stood d.parent × ReadsChildren r d' None) (at.Leave (then.Delete (record { node = d'; successor = None }))) f.owns
+          (f.unraised refl)
           (let t = f.tickets in let two = delete_owed o.op o.hand o.retired (f.point).1 in omega arith) (f.point).2
           (λ r s here m. (let still = link_still r d.node d.parent d.side d.node Right n s in
           let r' : Reading = loaded r (Link d.node Right) n in
@@ -175,16 +228,24 @@ module _ (k : Shape) (h : List Mark) (o : Own) (v : View) (n : ℕ) where
             (
               still.stood d.parent m.0,
               (
-                lives_kept r r' (Link d.node Right) n d still (λ ne. link_no_life d.node d.parent Right) (link_no_life d.node d.node Right) q.0,
+                lives_kept r r' (Link d.node Right) n d still (λ ne. link_no_life d.node d.parent Right)
+                    (link_no_life d.node d.node Right) q.0,
                 lacks_child d.left n e,
-                (ap (λ ls. known_in ls (Link d.node Left)) still.loads ∙ known_still r.loads (Link d.node Right) (Link d.node Left) n d.left false (λ same. absurd (cc)) q.1, here_loaded r r' (Link d.node Right) n still),
+                (
+                  ap (λ ls. known_in ls (Link d.node Left)) still.loads
+                      ∙ known_still r.loads (Link d.node Right) (Link d.node Left) n d.left false (λ same. absurd (cc)) q.1,
+                  here_loaded r r' (Link d.node Right) n still,
+                ),
               ),
             ),
           )))
           (λ section i. ((f.point).0, ((f.point).1, i)))
       by false e = let some = has_children d.left n e in
-          found_next h o v n d.node d.parent d.side (Link d.node Right) (λ r. IsIn r.stood d.parent × (ReadsLives r d × (known_in r.loads (Link d.node Left) ≡ Some d.left) × IsIn r.loads (read_at (Link d.node Left) d.left)))
-          (λ r. IsIn r.stood d.parent × (ReadsLives r d' × WalksTo r d' u)) (at.SuccessorLeft d' u) f.owns (f.unraised refl) f.tickets (f.point).2
+          found_next h o v n d.node d.parent d.side (Link d.node Right)
+          (λ r. IsIn r.stood d.parent × (ReadsLives r d × (known_in r.loads (Link d.node Left) ≡ Some d.left)
+          × IsIn r.loads (read_at (Link d.node Left) d.left)))
+          (λ r. IsIn r.stood d.parent × (ReadsLives r d' × WalksTo r d' u)) (at.SuccessorLeft d' u) f.owns (f.unraised refl) f.tickets
+          (f.point).2
           (λ r s here m. (let still = link_still r d.node d.parent d.side d.node Right n s in
           let r' : Reading = loaded r (Link d.node Right) n in
           let is = right_walks r d.node d.parent d.side n s some.1 in
@@ -193,7 +254,8 @@ module _ (k : Shape) (h : List Mark) (o : Own) (v : View) (n : ℕ) where
             (
               still.stood d.parent m.0,
               (
-                lives_kept r r' (Link d.node Right) n d still (λ ne. link_no_life d.node d.parent Right) (link_no_life d.node d.node Right) q.0,
+                lives_kept r r' (Link d.node Right) n d still (λ ne. link_no_life d.node d.parent Right)
+                    (link_no_life d.node d.node Right) q.0,
                 record {
                   left_some = some.0;
                   right_some = some.1;
@@ -210,9 +272,12 @@ module _ (k : Shape) (h : List Mark) (o : Own) (v : View) (n : ℕ) where
           (λ section i. ((f.point).0, (f.point).1, i))
 
   pub needs_successor_left : (d : Node) (u : Successor) → Fits o (at.SuccessorLeft d u) v → Needs k v n (act_at o (at.SuccessorLeft d u))
-  needs_successor_left d u f = let i = (f.point).2 in (i.0, record { section_is = i.1; searches = (i.2).searches; stood = (((i.3).1).1).slot_stood; loadable = refl })
+  needs_successor_left d u f = let i = (f.point).2 in
+      (i.0, record { section_is = i.1; searches = (i.2).searches; stood = (((i.3).1).1).slot_stood; loadable = refl })
 
-  pub next_successor_left : (d : Node) (u : Successor) → Fits o (at.SuccessorLeft d u) v → Fits (after o n (at.SuccessorLeft d u)) (after o n (at.SuccessorLeft d u)).stage (view_after v h n (act_at o (at.SuccessorLeft d u)))
+  pub next_successor_left : (d : Node) (u : Successor) → Fits o (at.SuccessorLeft d u) v
+      → Fits (after o n (at.SuccessorLeft d u)) (after o n (at.SuccessorLeft d u)).stage
+      (view_after v h n (act_at o (at.SuccessorLeft d u)))
   next_successor_left d u f = by (n == 0) refl (u.parent == d.node) refl
     where
       more : Reading → Type 0
@@ -222,37 +287,43 @@ module _ (k : Shape) (h : List Mark) (o : Own) (v : View) (n : ℕ) where
       on = record u { parent = u.slot; slot = n }
 
       -- the walk ended
-      ended : (r : Reading) → r.state ≡ FoundAt d.node d.parent d.side None → (n == 0) ≡ true → more r → let r' : Reading = loaded r (Link u.slot Left) n in StillFound r r' (Link u.slot Left) n × more r'
+      ended : (r : Reading) → r.state ≡ FoundAt d.node d.parent d.side None → (n == 0) ≡ true → more r → let r' : Reading =
+          loaded r (Link u.slot Left) n in StillFound r r' (Link u.slot Left) n × more r'
       ended r s e m =
           let q = m.1 in
           let r0 : Reading = record r { loads = read_at (Link u.slot Left) n ∷ r.loads } in
           let r' : Reading = loaded r (Link u.slot Left) n in
           let still = link_still r d.node d.parent d.side u.slot Left n s in
-          let is : r' ≡ r0 = left_walks r d.node d.parent d.side u.parent u.slot n s q.1.walk ∙ ap (λ z. cond (not z) (walking r0 u.slot n) r0) e in (
+          let is : r' ≡ r0 = left_walks r d.node d.parent d.side u.parent u.slot n s q.1.walk
+          ∙ ap (λ z. cond (not z) (walking r0 u.slot n) r0) e in (
             still,
             (
               still.stood d.parent m.0,
               (
-                lives_kept r r' (Link u.slot Left) n d still (λ ne. link_no_life u.slot d.parent Left) (link_no_life u.slot d.node Left) q.0,
+                lives_kept r r' (Link u.slot Left) n d still (λ ne. link_no_life u.slot d.parent Left)
+                    (link_no_life u.slot d.node Left) q.0,
                 walk_kept r r' (Link u.slot Left) n d u still (ap (λ (x : Reading). x.walk) is) q.1,
               ),
             ),
           )
 
       goes_on : (r : Reading) → r.state ≡ FoundAt d.node d.parent d.side None → (n == 0) ≡ false → more r
-          → let r' : Reading = loaded r (Link u.slot Left) n in StillFound r r' (Link u.slot Left) n × (IsIn r'.stood d.parent × (ReadsLives r' d × WalksTo r' d on))
+          → let r' : Reading = loaded r (Link u.slot Left) n in
+          StillFound r r' (Link u.slot Left) n × (IsIn r'.stood d.parent × (ReadsLives r' d × WalksTo r' d on))
       goes_on r s e m =
           let q = m.1 in
           let w = q.1 in
           let r0 : Reading = record r { loads = read_at (Link u.slot Left) n ∷ r.loads } in
           let r' : Reading = loaded r (Link u.slot Left) n in
           let still = link_still r d.node d.parent d.side u.slot Left n s in
-          let is : r' ≡ walking r0 u.slot n = left_walks r d.node d.parent d.side u.parent u.slot n s w.walk ∙ ap (λ z. cond (not z) (walking r0 u.slot n) r0) e in (
+          let is : r' ≡ walking r0 u.slot n = left_walks r d.node d.parent d.side u.parent u.slot n s w.walk
+          ∙ ap (λ z. cond (not z) (walking r0 u.slot n) r0) e in (
             still,
             (
               still.stood d.parent m.0,
               (
-                lives_kept r r' (Link u.slot Left) n d still (λ ne. link_no_life u.slot d.parent Left) (link_no_life u.slot d.node Left) q.0,
+                lives_kept r r' (Link u.slot Left) n d still (λ ne. link_no_life u.slot d.parent Left)
+                    (link_no_life u.slot d.node Left) q.0,
                 record {
                   left_some = w.left_some;
                   right_some = w.right_some;
@@ -267,26 +338,41 @@ module _ (k : Shape) (h : List Mark) (o : Own) (v : View) (n : ℕ) where
             ),
           )
 
-      by : (z : Bool) → (n == 0) ≡ z → (y : Bool) → (u.parent == d.node) ≡ y → let st : Stage = cond z (cond y (at.SuccessorLife d u) (at.SuccessorParentLife d u)) (at.SuccessorLeft d on) in
+      by : (z : Bool) → (n == 0) ≡ z → (y : Bool) → (u.parent == d.node) ≡ y → let st : Stage =
+          cond z (cond y (at.SuccessorLife d u) (at.SuccessorParentLife d u)) (at.SuccessorLeft d on) in
           Fits (go o st) st (after_search_load v (section_of v) (Link u.slot Left) n)
-      by true e true same = found_next h o v n d.node d.parent d.side (Link u.slot Left) more (λ r. IsIn r.stood d.parent × (WalksTo r d u × (AreApart d u → ReadsLives r d × ReadsParent r d u))) (at.SuccessorLife d u) f.owns (f.unraised refl) f.tickets (f.point).2
-          (λ r s here m. (let g = ended r s e m in let q = (g.1).1 in (g.0, ((g.1).0, (q.1, λ apart. (q.0, λ ne. absurd (ne (eqb-true u.parent d.node same))))))))
+      by true e true same = found_next h o v n d.node d.parent d.side (Link u.slot Left) more
+          (λ r. IsIn r.stood d.parent × (WalksTo r d u × (AreApart d u → ReadsLives r d × ReadsParent r d u))) (at.SuccessorLife d u) f.owns
+          (f.unraised refl) f.tickets (f.point).2
+          (λ r s here m. (let g = ended r s e m in let q = (g.1).1 in
+          (g.0, ((g.1).0, (q.1, λ apart. (q.0, λ ne. absurd (ne (eqb-true u.parent d.node same))))))))
           (λ section i. ((f.point).0, (f.point).1, i))
-      by true e false other = found_next h o v n d.node d.parent d.side (Link u.slot Left) more (λ r. IsIn r.stood d.parent × (ReadsLives r d × WalksTo r d u × (u.parent ≢ d.node))) (at.SuccessorParentLife d u) f.owns (f.unraised refl) f.tickets (f.point).2
-          (λ r s here m. (let g = ended r s e m in let q = (g.1).1 in (g.0, ((g.1).0, (q.0, q.1, λ same. absurd (let z : true ≡ false = sym (eq-eqb u.parent d.node same) ∙ other in cc))))))
+      by true e false other = found_next h o v n d.node d.parent d.side (Link u.slot Left) more
+          (λ r. IsIn r.stood d.parent × (ReadsLives r d × WalksTo r d u × (u.parent ≢ d.node))) (at.SuccessorParentLife d u) f.owns
+          (f.unraised refl) f.tickets (f.point).2
+          (λ r s here m. (let g = ended r s e m in let q = (g.1).1 in
+          (g.0, ((g.1).0, (q.0, q.1, λ same. absurd (let z : true ≡ false = sym (eq-eqb u.parent d.node same) ∙ other in cc))))))
           (λ section i. ((f.point).0, (f.point).1, i))
-      by false e y is = found_next h o v n d.node d.parent d.side (Link u.slot Left) more (λ r. IsIn r.stood d.parent × (ReadsLives r d × WalksTo r d on)) (at.SuccessorLeft d on) f.owns (f.unraised refl) f.tickets (f.point).2
+      by false e y is = found_next h o v n d.node d.parent d.side (Link u.slot Left) more
+          (λ r. IsIn r.stood d.parent × (ReadsLives r d × WalksTo r d on)) (at.SuccessorLeft d on) f.owns (f.unraised refl) f.tickets
+          (f.point).2
           (λ r s here m. goes_on r s e m)
           (λ section i. ((f.point).0, (f.point).1, i))
 
-  pub needs_successor_parent : (d : Node) (u : Successor) → Fits o (at.SuccessorParentLife d u) v → Needs k v n (act_at o (at.SuccessorParentLife d u))
-  needs_successor_parent d u f = let i = (f.point).2 in (i.0, record { section_is = i.1; searches = (i.2).searches; stood = (((i.3).1).1).parent_stood; loadable = refl })
+  pub needs_successor_parent : (d : Node) (u : Successor) → Fits o (at.SuccessorParentLife d u) v
+      → Needs k v n (act_at o (at.SuccessorParentLife d u))
+  needs_successor_parent d u f = let i = (f.point).2 in
+      (i.0, record { section_is = i.1; searches = (i.2).searches; stood = (((i.3).1).1).parent_stood; loadable = refl })
 
-  pub next_successor_parent : (d : Node) (u : Successor) → Fits o (at.SuccessorParentLife d u) v → Fits (after o n (at.SuccessorParentLife d u)) (after o n (at.SuccessorParentLife d u)).stage (view_after v h n (act_at o (at.SuccessorParentLife d u)))
+  pub next_successor_parent : (d : Node) (u : Successor) → Fits o (at.SuccessorParentLife d u) v
+      → Fits (after o n (at.SuccessorParentLife d u)) (after o n (at.SuccessorParentLife d u)).stage
+      (view_after v h n (act_at o (at.SuccessorParentLife d u)))
   next_successor_parent d u f =
       let u' : Successor = record u { parent_generation = n / 2 } in
-      found_next h o v n d.node d.parent d.side (Life u.parent) (λ r. IsIn r.stood d.parent × (ReadsLives r d × WalksTo r d u × (u.parent ≢ d.node)))
-      (λ r. IsIn r.stood d.parent × (WalksTo r d u' × (AreApart d u' → ReadsLives r d × ReadsParent r d u'))) (at.SuccessorLife d u') f.owns (f.unraised refl) f.tickets (f.point).2
+      found_next h o v n d.node d.parent d.side (Life u.parent)
+      (λ r. IsIn r.stood d.parent × (ReadsLives r d × WalksTo r d u × (u.parent ≢ d.node)))
+      (λ r. IsIn r.stood d.parent × (WalksTo r d u' × (AreApart d u' → ReadsLives r d × ReadsParent r d u'))) (at.SuccessorLife d u') f.owns
+      (f.unraised refl) f.tickets (f.point).2
       (λ r s here m. (let q = m.1 in
       let r' : Reading = loaded r (Life u.parent) n in
       let still = life_still r d.node d.parent d.side u.parent n s in (
@@ -294,21 +380,31 @@ module _ (k : Shape) (h : List Mark) (o : Own) (v : View) (n : ℕ) where
         (
           still.stood d.parent m.0,
           (
-            walk_kept r r' (Life u.parent) n d u still (ap (λ (x : Reading). x.walk) (life_loaded r d.node d.parent d.side u.parent n s)) q.1,
-            λ apart. (lives_kept r r' (Life u.parent) n d still (λ ne. life_apart u.parent d.parent ((apart.walk q.2).0)) (life_apart u.parent d.node q.2) q.0, λ ne. life_here r r' u.parent n still),
+            walk_kept r r' (Life u.parent) n d u still
+                (ap (λ (x : Reading). x.walk) (life_loaded r d.node d.parent d.side u.parent n s)) q.1,
+            λ apart. (
+              lives_kept r r' (Life u.parent) n d still (λ ne. life_apart u.parent d.parent ((apart.walk q.2).0))
+                  (life_apart u.parent d.node q.2) q.0,
+              λ ne. life_here r r' u.parent n still,
+            ),
           ),
         ),
       )))
       (λ section i. ((f.point).0, (f.point).1, i))
 
   pub needs_successor_life : (d : Node) (u : Successor) → Fits o (at.SuccessorLife d u) v → Needs k v n (act_at o (at.SuccessorLife d u))
-  needs_successor_life d u f = let i = (f.point).2 in (i.0, record { section_is = i.1; searches = (i.2).searches; stood = (((i.3).1).0).slot_stood; loadable = refl })
+  needs_successor_life d u f = let i = (f.point).2 in
+      (i.0, record { section_is = i.1; searches = (i.2).searches; stood = (((i.3).1).0).slot_stood; loadable = refl })
 
-  pub next_successor_life : (d : Node) (u : Successor) → Fits o (at.SuccessorLife d u) v → Fits (after o n (at.SuccessorLife d u)) (after o n (at.SuccessorLife d u)).stage (view_after v h n (act_at o (at.SuccessorLife d u)))
+  pub next_successor_life : (d : Node) (u : Successor) → Fits o (at.SuccessorLife d u) v
+      → Fits (after o n (at.SuccessorLife d u)) (after o n (at.SuccessorLife d u)).stage
+      (view_after v h n (act_at o (at.SuccessorLife d u)))
   next_successor_life d u f =
       let u' : Successor = record u { generation = n / 2 } in
-      found_next h o v n d.node d.parent d.side (Life u.slot) (λ r. IsIn r.stood d.parent × (WalksTo r d u × (AreApart d u → ReadsLives r d × ReadsParent r d u)))
-      (λ r. IsIn r.stood d.parent × ReadsChildren r d (Some u')) (at.Leave (then.Delete (record { node = d; successor = Some u' }))) f.owns (f.unraised refl)
+      found_next h o v n d.node d.parent d.side (Life u.slot)
+      (λ r. IsIn r.stood d.parent × (WalksTo r d u × (AreApart d u → ReadsLives r d × ReadsParent r d u)))
+      (λ r. IsIn r.stood d.parent × ReadsChildren r d (Some u')) (at.Leave (then.Delete (record { node = d; successor = Some u' }))) f.owns
+      (f.unraised refl)
       (let t = f.tickets in let two = delete_owed o.op o.hand o.retired (f.point).1 in omega arith) (f.point).2
       (λ r s here m. (let q = m.1 in
       let r' : Reading = loaded r (Life u.slot) n in
@@ -319,8 +415,10 @@ module _ (k : Shape) (h : List Mark) (o : Own) (v : View) (n : ℕ) where
           (
             walk_kept r r' (Life u.slot) n d u still (ap (λ (x : Reading). x.walk) (life_loaded r d.node d.parent d.side u.slot n s)) q.0,
             λ apart. (let l = q.1 apart in (
-              lives_kept r r' (Life u.slot) n d still (λ ne. life_apart u.slot d.parent apart.from_parent) (life_apart u.slot d.node apart.from_node) l.0,
-              (λ ne. life_kept r r' (Life u.slot) n u.parent u.parent_generation still (life_apart u.slot u.parent (λ z. ((apart.walk ne).1) (sym z))) (l.1 ne)),
+              lives_kept r r' (Life u.slot) n d still (λ ne. life_apart u.slot d.parent apart.from_parent)
+                  (life_apart u.slot d.node apart.from_node) l.0,
+              (λ ne. life_kept r r' (Life u.slot) n u.parent u.parent_generation still
+                  (life_apart u.slot u.parent (λ z. ((apart.walk ne).1) (sym z))) (l.1 ne)),
               life_here r r' u.slot n still,
             )),
           ),
@@ -337,7 +435,8 @@ module _ (k : Shape) (h : List Mark) (o : Own) (v : View) (n : ℕ) where
       by false = omega arith
 
   -- it leaves the section with its target
-  pub next_delete : (t : Target) → ((section : Section) → v.section ≡ Some section → (s : ℕ) → IsIn section.reading.stood s → s < table_of o) → Fits o (at.Leave (then.Delete t)) v
+  pub next_delete : (t : Target) → ((section : Section) → v.section ≡ Some section → (s : ℕ) → IsIn section.reading.stood s
+      → s < table_of o) → Fits o (at.Leave (then.Delete t)) v
       → Fits (after o n (at.Leave (then.Delete t))) (at.TargetLock t 0) (view_after v h n (act_at o (at.Leave (then.Delete t))))
   next_delete t stood f =
       let p = (f.point).1 in

@@ -47,25 +47,32 @@ loaded_only r field n = record { state = refl; key = refl; loads = refl; stood =
 pub life_still : (r : Reading) (s p : ℕ) (b : Side) (t n : ℕ) → r.state ≡ Found s p b None → StillFound r (loaded r (Life t) n) (Life t) n
 life_still r s p b t n e = subst (λ (x : Reading). StillFound r x (Life t) n) (sym (life_loaded r s p b t n e)) (loaded_only r (Life t) n)
 
-walk_on : (r : Reading) (d : ℕ) (t : ℕ) (c : Side) (n : ℕ) (parent : ℕ) (z : Bool) → StillFound r (cond z (walking (with_load r (Link t c) n) parent n) (with_load r (Link t c) n)) (Link t c) n
+walk_on : (r : Reading) (d : ℕ) (t : ℕ) (c : Side) (n : ℕ) (parent : ℕ) (z : Bool)
+    → StillFound r (cond z (walking (with_load r (Link t c) n) parent n) (with_load r (Link t c) n)) (Link t c) n
 walk_on r d t c n parent true = record { state = refl; key = refl; loads = refl; stood = λ s i. deeper r.stood n s i }
 walk_on r d t c n parent false = loaded_only r (Link t c) n
 
-walked_still : (r : Reading) (d : ℕ) (walk : Option Walk) (t : ℕ) (c : Side) (n : ℕ) → StillFound r (walked (with_load r (Link t c) n) d walk t c n) (Link t c) n
+walked_still : (r : Reading) (d : ℕ) (walk : Option Walk) (t : ℕ) (c : Side) (n : ℕ)
+    → StillFound r (walked (with_load r (Link t c) n) d walk t c n) (Link t c) n
 walked_still r d walk t Right n = walk_on r d t Right n d (t == d && not (n == 0))
 walked_still r d None t Left n = loaded_only r (Link t Left) n
 walked_still r d (Some walk) t Left n = walk_on r d t Left n walk.slot (t == walk.slot && not (n == 0))
 
-pub link_still : (r : Reading) (s p : ℕ) (b : Side) (t : ℕ) (c : Side) (n : ℕ) → r.state ≡ Found s p b None → StillFound r (loaded r (Link t c) n) (Link t c) n
-link_still r s p b t c n e = subst (λ (x : Reading). StillFound r x (Link t c) n) (sym (link_loaded r s p b t c n e)) (walked_still r s r.walk t c n)
+pub link_still : (r : Reading) (s p : ℕ) (b : Side) (t : ℕ) (c : Side) (n : ℕ) → r.state ≡ Found s p b None
+    → StillFound r (loaded r (Link t c) n) (Link t c) n
+link_still r s p b t c n e = subst (λ (x : Reading). StillFound r x (Link t c) n) (sym (link_loaded r s p b t c n e))
+    (walked_still r s r.walk t c n)
 
 -- the next point in the section
 module _ (h : List Mark) (o : Own) (v : View) (n : ℕ) where
   pub found_next : (s p : ℕ) (b : Side) (field : Field) (more more' : Reading → Type 0) (stage' : Stage)
-      → Owns o v → Each v.hands.retired (λ (r : Retired). r.raised ≡ false) → owed (go o stage') stage' + 4 * length o.rest + o.kept ≤ v.allowance.tickets
+      → Owns o v → Each v.hands.retired (λ (r : Retired). r.raised ≡ false)
+      → owed (go o stage') stage' + 4 * length o.rest + o.kept ≤ v.allowance.tickets
       → Inside v (key_now o) (Found s p b None) (λ section. more section.reading)
-      → ((r : Reading) → r.state ≡ Found s p b None → IsIn r.stood s → more r → StillFound r (loaded r field n) field n × more' (loaded r field n))
-      → ((section : Section) → Inside (record v { section = Some section }) (key_now o) (Found s p b None) (λ section. more' section.reading) → Point (go o stage') stage' (plain (record v { section = Some section })))
+      → ((r : Reading) → r.state ≡ Found s p b None → IsIn r.stood s → more r
+      → StillFound r (loaded r field n) field n × more' (loaded r field n))
+      → ((section : Section) → Inside (record v { section = Some section }) (key_now o) (Found s p b None)
+      (λ section. more' section.reading) → Point (go o stage') stage' (plain (record v { section = Some section })))
       → Fits (go o stage') stage' (after_search_load v (section_of v) field n)
   found_next s p b field more more' stage' owns unraised paid i goes point =
       let section : Section = i.0 in
@@ -77,5 +84,16 @@ module _ (h : List Mark) (o : Own) (v : View) (n : ℕ) where
         owns = owns;
         unraised = λ z. unraised;
         tickets = paid;
-        point = point now (now, refl, record { searches = (i.2).searches; key_is = (i.2).key_is; sought = still.key ∙ (i.2).sought; state_is = still.state ∙ (i.2).state_is; here = still.stood s (i.2).here }, went.1);
+        point = point now (
+          now,
+          refl,
+          record {
+            searches = (i.2).searches;
+            key_is = (i.2).key_is;
+            sought = still.key ∙ (i.2).sought;
+            state_is = still.state ∙ (i.2).state_is;
+            here = still.stood s (i.2).here;
+          },
+          went.1,
+        );
       })

@@ -22,8 +22,11 @@ points_keep k m vs h id o v inv there eer slots places going f =
     let told : IsTold o v h m = rule_tells k m vs h id o v inv.now there works slots places in
     let has = acts_are_within k h o v m o.stage (λ is. eer) slots places told f in
     let needs = needs_are_given k h o v m 0 o.stage (λ is. eer) places told f in
-    let keeps : (p : ℕ) → v.allowance.place ≡ p → Invariant k (stored m (field_of p a) (left v a (m (field_of p a)))) (set vs id (done v a h (m (field_of p a)))) (h ++ marks v a (m (field_of p a))) × KeepsPast m h (stored m (field_of p a) (left v a (m (field_of p a))))
-    = λ p same. subst (λ p. Invariant k (stored m (field_of p a) (left v a (m (field_of p a)))) (set vs id (done v a h (m (field_of p a)))) (h ++ marks v a (m (field_of p a))) × KeepsPast m h (stored m (field_of p a) (left v a (m (field_of p a))))) same
+    let keeps : (p : ℕ) → v.allowance.place ≡ p → Invariant k (stored m (field_of p a) (left v a (m (field_of p a))))
+    (set vs id (done v a h (m (field_of p a)))) (h ++ marks v a (m (field_of p a)))
+    × KeepsPast m h (stored m (field_of p a) (left v a (m (field_of p a))))
+    = λ p same. subst (λ p. Invariant k (stored m (field_of p a) (left v a (m (field_of p a)))) (set vs id (done v a h (m (field_of p a))))
+    (h ++ marks v a (m (field_of p a))) × KeepsPast m h (stored m (field_of p a) (left v a (m (field_of p a))))) same
     (acts_keep k m vs h id v a inv there works (subst (λ p. IsWord k (field_of p a)) (sym f.owns.same) has, needs)) in
     let kept = keeps o.place f.owns.same in
     let n : ℕ = m (field_of o.place a) in

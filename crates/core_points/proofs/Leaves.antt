@@ -33,7 +33,8 @@ owed_put (Del key) retired spot e = cc
 owed_put (Set key value) retired spot e = cc
 
 module _ (k : Shape) (h : List Mark) (o : Own) (v : View) (n : ℕ) where
-  free_after : (section : Section) (hand : Option ℕ) → Each v.hands.retired (λ (r : Retired). r.raised ≡ false) → Owns o v → Calm o v → o.hand ≡ None → IsFree o (leaving v section h)
+  free_after : (section : Section) (hand : Option ℕ) → Each v.hands.retired (λ (r : Retired). r.raised ≡ false) → Owns o v → Calm o v
+      → o.hand ≡ None → IsFree o (leaving v section h)
   free_after section hand unraised owns calm empty = record {
     unraised = unraised;
     owns = owns;
@@ -43,52 +44,99 @@ module _ (k : Shape) (h : List Mark) (o : Own) (v : View) (n : ℕ) where
     no_hand = subst (λ x. HandFits x o.hand_life (key_now o) (value_in o.op) v.hands.hand) empty calm.1;
   }
 
-  left_as : (stage : Own) → (section : Section) → v.section ≡ Some section → Fits stage stage.stage (leaving v section h) → Fits stage stage.stage (leaving v (section_of v) h)
+  left_as : (stage : Own) → (section : Section) → v.section ≡ Some section → Fits stage stage.stage (leaving v section h)
+      → Fits stage stage.stage (leaving v (section_of v) h)
   left_as stage section e f = subst (λ x. Fits stage stage.stage (leaving v x h)) (sym (section_is v _ e)) f
 
-  pub next_absent : Fits o (at.Leave then.Absent) v → Fits (after o n (at.Leave then.Absent)) (after o n (at.Leave then.Absent)).stage (view_after v h n (act_at o (at.Leave then.Absent)))
+  pub next_absent : Fits o (at.Leave then.Absent) v
+      → Fits (after o n (at.Leave then.Absent)) (after o n (at.Leave then.Absent)).stage
+      (view_after v h n (act_at o (at.Leave then.Absent)))
   next_absent f =
       let p = (f.point).1 in
       let i = (p.1).2 in
-      left_as (answer o Absent 0) i.0 i.1 (answers o (leaving v i.0 h) Absent 0 (free_after i.0 o.hand (f.unraised refl) f.owns (f.point).0 (((f.point).0).2.empty p.0)) (let t = f.tickets in omega arith))
+      left_as (answer o Absent 0) i.0 i.1 (answers o (leaving v i.0 h) Absent 0
+      (free_after i.0 o.hand (f.unraised refl) f.owns (f.point).0 (((f.point).0).2.empty p.0)) (let t = f.tickets in omega arith))
 
-  pub next_val : (value : ℕ) → Fits o (at.Leave (then.Value value)) v → Fits (after o n (at.Leave (then.Value value))) (after o n (at.Leave (then.Value value))).stage (view_after v h n (act_at o (at.Leave (then.Value value))))
+  pub next_val : (value : ℕ) → Fits o (at.Leave (then.Value value)) v
+      → Fits (after o n (at.Leave (then.Value value))) (after o n (at.Leave (then.Value value))).stage
+      (view_after v h n (act_at o (at.Leave (then.Value value))))
   next_val value f =
       let p = (f.point).1 in
       let i = (p.1).3 in
-      left_as (answer o (Val value) 0) i.0 i.1 (answers o (leaving v i.0 h) (Val value) 0 (free_after i.0 o.hand (f.unraised refl) f.owns (f.point).0 (((f.point).0).2.empty (ap is_put p.0))) (let t = f.tickets in omega arith))
+      left_as (answer o (Val value) 0) i.0 i.1 (answers o (leaving v i.0 h) (Val value) 0
+      (free_after i.0 o.hand (f.unraised refl) f.owns (f.point).0 (((f.point).0).2.empty (ap is_put p.0)))
+      (let t = f.tickets in omega arith))
 
   -- a put that found its key answers, or gives its slot back
-  pub next_old : Fits o (at.Leave then.Old) v → Fits (after o n (at.Leave then.Old)) (after o n (at.Leave then.Old)).stage (view_after v h n (act_at o (at.Leave then.Old)))
+  pub next_old : Fits o (at.Leave then.Old) v → Fits (after o n (at.Leave then.Old)) (after o n (at.Leave then.Old)).stage
+      (view_after v h n (act_at o (at.Leave then.Old)))
   next_old f =
       let p = (f.point).1 in
       let i = (p.1).3 in
       let section : Section = i.0 in
       left_as (left_section o then.Old) section i.1 (by_hand o.hand refl section)
     where
-      by_hand : (hand : Option ℕ) → o.hand ≡ hand → (section : Section) → let o' : Own = cond (is_some o.hand) (go o at.Raise) (answer o Old 0) in Fits o' o'.stage (leaving v section h)
-      by_hand None e section = subst (λ b. let o' : Own = cond b (go o at.Raise) (answer o Old 0) in Fits o' o'.stage (leaving v section h)) (sym (ap is_some e))
-          (answers o (leaving v section h) Old 0 (free_after section o.hand (f.unraised refl) f.owns (f.point).0 e) (let t = f.tickets in omega arith))
-      by_hand (Some s) e section = subst (λ b. let o' : Own = cond b (go o at.Raise) (answer o Old 0) in Fits o' o'.stage (leaving v section h)) (sym (ap is_some e))
-          (record { owns = f.owns; unraised = λ z. f.unraised refl; tickets = f.tickets; point = (refl, (s, e), (f.point).0, ((f.point).1).0) })
+      by_hand : (hand : Option ℕ) → o.hand ≡ hand → (section : Section) → let o' : Own =
+          cond (is_some o.hand) (go o at.Raise) (answer o Old 0) in Fits o' o'.stage (leaving v section h)
+      by_hand None e section = subst (λ b. let o' : Own = cond b (go o at.Raise) (answer o Old 0) in Fits o' o'.stage (leaving v section h))
+          (sym (ap is_some e))
+          (answers o (leaving v section h) Old 0 (free_after section o.hand (f.unraised refl) f.owns (f.point).0 e)
+          (let t = f.tickets in omega arith))
+      by_hand (Some s) e section = subst (λ b. let o' : Own = cond b (go o at.Raise) (answer o Old 0) in
+          Fits o' o'.stage (leaving v section h)) (sym (ap is_some e))
+          (record {
+            owns = f.owns;
+            unraised = λ z. f.unraised refl;
+            tickets = f.tickets;
+            point = (refl, (s, e), (f.point).0, ((f.point).1).0);
+          })
 
   -- a put that didn't has a record, and locks its slot or takes one for its leaf
-  pub next_link_leaf : (spot : Spot) → ((section : Section) → v.section ≡ Some section → (s : ℕ) → IsIn section.reading.stood s → s < table_of o) → Fits o (at.Leave (then.Link spot)) v → Fits (after o n (at.Leave (then.Link spot))) (after o n (at.Leave (then.Link spot))).stage (view_after v h n (act_at o (at.Leave (then.Link spot))))
+  pub next_link_leaf : (spot : Spot) → ((section : Section) → v.section ≡ Some section → (s : ℕ) → IsIn section.reading.stood s
+      → s < table_of o) → Fits o (at.Leave (then.Link spot)) v
+      → Fits (after o n (at.Leave (then.Link spot))) (after o n (at.Leave (then.Link spot))).stage
+      (view_after v h n (act_at o (at.Leave (then.Link spot))))
   next_link_leaf spot stood f =
       let p = (f.point).1 in
       let i = p.1 in
       let section : Section = i.0 in
       let m = i.3 in
-      left_as (left_section o (then.Link spot)) section i.1 (by_hand o.hand refl section (section.reading, (0, refl), (i.2).sought, (i.2).state_is, m.0, m.1, stood section i.1 spot.slot (i.2).here))
+      left_as (left_section o (then.Link spot)) section i.1
+      (by_hand o.hand refl section (
+        section.reading,
+        (0, refl),
+        (i.2).sought,
+        (i.2).state_is,
+        m.0,
+        m.1,
+        stood section i.1 spot.slot (i.2).here,
+      ))
     where
-      by_hand : (hand : Option ℕ) → o.hand ≡ hand → (section : Section) → HasSpot (table_of o) (leaving v section h).records (key_now o) spot
+      by_hand : (hand : Option ℕ) → o.hand ≡ hand → (section : Section)
+          → HasSpot (table_of o) (leaving v section h).records (key_now o) spot
           → let st : Stage = cond (is_some o.hand) (at.LeafLock spot) (taking o (Leaf spot)) in Fits (go o st) st (leaving v section h)
-      by_hand None e section has = subst (λ b. let st : Stage = cond b (at.LeafLock spot) (taking o (Leaf spot)) in Fits (go o st) st (leaving v section h)) (sym (ap is_some e))
+      by_hand None e section has = subst (λ b. let st : Stage = cond b (at.LeafLock spot) (taking o (Leaf spot)) in
+          Fits (go o st) st (leaving v section h)) (sym (ap is_some e))
           (record {
             owns = f.owns;
             unraised = λ z. f.unraised refl;
-            tickets = subst (λ x. x + 4 * length o.rest + o.kept ≤ v.allowance.tickets) (ap (λ x. owed_op o.op x o.retired) e ∙ owed_put o.op o.retired spot ((f.point).1).0) f.tickets;
-            point = (refl, ((f.point).0).0, subst (λ x. HandFits x o.hand_life (key_now o) (value_in o.op) v.hands.hand) e ((f.point).0).1, e, positive o.free, has, ((f.point).1).0);
+            tickets = subst (λ x. x + 4 * length o.rest + o.kept ≤ v.allowance.tickets)
+                (ap (λ x. owed_op o.op x o.retired) e ∙ owed_put o.op o.retired spot ((f.point).1).0) f.tickets;
+            point = (
+              refl,
+              ((f.point).0).0,
+              subst (λ x. HandFits x o.hand_life (key_now o) (value_in o.op) v.hands.hand) e ((f.point).0).1,
+              e,
+              positive o.free,
+              has,
+              ((f.point).1).0,
+            );
           })
-      by_hand (Some s) e section has = subst (λ b. let st : Stage = cond b (at.LeafLock spot) (taking o (Leaf spot)) in Fits (go o st) st (leaving v section h)) (sym (ap is_some e))
-          (record { owns = f.owns; unraised = λ z. f.unraised refl; tickets = f.tickets; point = (refl, (s, e), ((f.point).0).0, ((f.point).0).1, has, ((f.point).1).0) })
+      by_hand (Some s) e section has = subst (λ b. let st : Stage = cond b (at.LeafLock spot) (taking o (Leaf spot)) in
+          Fits (go o st) st (leaving v section h)) (sym (ap is_some e))
+          (record {
+            owns = f.owns;
+            unraised = λ z. f.unraised refl;
+            tickets = f.tickets;
+            point = (refl, (s, e), ((f.point).0).0, ((f.point).0).1, has, ((f.point).1).0);
+          })

@@ -44,35 +44,65 @@ held_slot s kn held = by (held.slot == s)
     by false = refl
 
 -- a note leaves the move
-move_noted : (s : ℕ) (kn : Known) (moving : Option moves.Move) (key : ℕ) (m : Moving) (waited : Bool) → IsMove moving key m waited → IsMove (note_moving s kn moving) key m waited
+move_noted : (s : ℕ) (kn : Known) (moving : Option moves.Move) (key : ℕ) (m : Moving) (waited : Bool) → IsMove moving key m waited
+    → IsMove (note_moving s kn moving) key m waited
 move_noted s kn moving key m waited is =
-    let move : moves.Move = is.0 in
-    (record move { copy = note_held s kn move.copy }, ap (note_moving s kn) is.1, is.2, is.3, held_slot s kn move.copy ∙ is.4, is.5, is.6, is.7)
+    let move : moves.Move = is.0 in (
+      record move { copy = note_held s kn move.copy },
+      ap (note_moving s kn) is.1,
+      is.2,
+      is.3,
+      held_slot s kn move.copy ∙ is.4,
+      is.5,
+      is.6,
+      is.7,
+    )
 
-shifting_noted : (o : Own) (v : View) (m : Moving) (waited : Bool) (s : ℕ) (field : Field) (n : ℕ) (by_store : Bool) (locks : List HeldLock) → ((t : ℕ) → Holds v.locks t → Holds locks t) → Shifting o v m waited None
+shifting_noted : (o : Own) (v : View) (m : Moving) (waited : Bool) (s : ℕ) (field : Field) (n : ℕ) (by_store : Bool) (locks : List HeldLock)
+    → ((t : ℕ) → Holds v.locks t → Holds locks t) → Shifting o v m waited None
     → Shifting o (record (noting v s field n by_store) { locks = locks }) m waited None
 shifting_noted o v m waited s field n by_store locks still p =
-    let kn : Known = record { field = field; number = n; stored = by_store } in
-    (p.0, p.1, p.2, p.3, ap (note_option s kn) p.4, p.5, move_noted s kn v.moving (key_now o) m waited p.6, p.7, still (move_parent m) p.8, p.9, p.10)
+    let kn : Known = record { field = field; number = n; stored = by_store } in (
+      p.0,
+      p.1,
+      p.2,
+      p.3,
+      ap (note_option s kn) p.4,
+      p.5,
+      move_noted s kn v.moving (key_now o) m waited p.6,
+      p.7,
+      still (move_parent m) p.8,
+      p.9,
+      p.10,
+    )
 
 -- the locks in the order in which they are given up are those that were got
 module _ (m : Moving) (x : ℕ) where
   in_order : (z : Bool) → (m.successor.parent == m.node.node) ≡ z
-      → times x (m.successor.slot ∷ cond z (m.copy ∷ (m.node.node ∷ (m.node.parent ∷ []))) (m.successor.parent ∷ (m.copy ∷ (m.node.node ∷ (m.node.parent ∷ [])))))
+      → times x (m.successor.slot ∷ cond z (m.copy ∷ (m.node.node ∷ (m.node.parent ∷ [])))
+      (m.successor.parent ∷ (m.copy ∷ (m.node.node ∷ (m.node.parent ∷ [])))))
       ≡ times x (m.copy ∷ first_locks (two_children m.node m.successor) (cond z 3 4))
   in_order true e =
-      let two : target_lock (two_children m.node m.successor) 2 ≡ m.successor.slot = ap (λ z. cond z m.successor.slot m.successor.parent) e in
-      let same : times x (m.copy ∷ (m.successor.slot ∷ (m.node.node ∷ (m.node.parent ∷ [])))) ≡ times x (m.copy ∷ (target_lock (two_children m.node m.successor) 2 ∷ (m.node.node ∷ (m.node.parent ∷ [])))) = ap (λ s. times x (m.copy ∷ (s ∷ (m.node.node ∷ (m.node.parent ∷ []))))) (sym two) in
+      let two : target_lock (two_children m.node m.successor) 2 ≡ m.successor.slot =
+      ap (λ z. cond z m.successor.slot m.successor.parent) e in
+      let same : times x (m.copy ∷ (m.successor.slot ∷ (m.node.node ∷ (m.node.parent ∷ []))))
+      ≡ times x (m.copy ∷ (target_lock (two_children m.node m.successor) 2 ∷ (m.node.node ∷ (m.node.parent ∷ [])))) =
+      ap (λ s. times x (m.copy ∷ (s ∷ (m.node.node ∷ (m.node.parent ∷ []))))) (sym two) in
       swap (cond (m.successor.slot == x) 1 0) (cond (m.copy == x) 1 0) (times x (m.node.node ∷ (m.node.parent ∷ []))) ∙ same
     where
       swap : (a b c : ℕ) → a + (b + c) ≡ b + (a + c)
       swap a b c = omega arith
   in_order false e =
-      let two : target_lock (two_children m.node m.successor) 2 ≡ m.successor.parent = ap (λ z. cond z m.successor.slot m.successor.parent) e in
-      let three : target_lock (two_children m.node m.successor) 3 ≡ m.successor.slot = ap (λ z. cond z m.successor.slot m.successor.slot) e in
-      let same : times x (m.copy ∷ (m.successor.slot ∷ (m.successor.parent ∷ (m.node.node ∷ (m.node.parent ∷ []))))) ≡ times x (m.copy ∷ (target_lock (two_children m.node m.successor) 3 ∷ (target_lock (two_children m.node m.successor) 2 ∷ (m.node.node ∷ (m.node.parent ∷ []))))) =
+      let two : target_lock (two_children m.node m.successor) 2 ≡ m.successor.parent =
+      ap (λ z. cond z m.successor.slot m.successor.parent) e in
+      let three : target_lock (two_children m.node m.successor) 3 ≡ m.successor.slot =
+      ap (λ z. cond z m.successor.slot m.successor.slot) e in
+      let same : times x (m.copy ∷ (m.successor.slot ∷ (m.successor.parent ∷ (m.node.node ∷ (m.node.parent ∷ [])))))
+      ≡ times x (m.copy ∷ (target_lock (two_children m.node m.successor) 3
+      ∷ (target_lock (two_children m.node m.successor) 2 ∷ (m.node.node ∷ (m.node.parent ∷ []))))) =
       λ i. times x (m.copy ∷ (sym three i ∷ (sym two i ∷ (m.node.node ∷ (m.node.parent ∷ []))))) in
-      turn (cond (m.successor.slot == x) 1 0) (cond (m.successor.parent == x) 1 0) (cond (m.copy == x) 1 0) (times x (m.node.node ∷ (m.node.parent ∷ []))) ∙ same
+      turn (cond (m.successor.slot == x) 1 0) (cond (m.successor.parent == x) 1 0) (cond (m.copy == x) 1 0)
+      (times x (m.node.node ∷ (m.node.parent ∷ []))) ∙ same
     where
       turn : (a b c d : ℕ) → a + (b + (c + d)) ≡ c + (a + (b + d))
       turn a b c d = omega arith
@@ -86,7 +116,8 @@ module _ (k : Shape) (h : List Mark) (o : Own) (v : View) (n : ℕ) where
       let old = p.1 in
       (old.lock, record { locked = old.locked; life_now = old.life; unmarked = omega arith; why = inr (is.0, is.1, is.5) })
 
-  pub next_old_mark : (m : Moving) → Fits o (at.OldMark m) v → Fits (after o n (at.OldMark m)) (at.OldRight m) (view_after v h n (act_at o (at.OldMark m)))
+  pub next_old_mark : (m : Moving) → Fits o (at.OldMark m) v
+      → Fits (after o n (at.OldMark m)) (at.OldRight m) (view_after v h n (act_at o (at.OldMark m)))
   next_old_mark m f =
       let p = f.point in
       let old = p.1 in
@@ -100,10 +131,12 @@ module _ (k : Shape) (h : List Mark) (o : Own) (v : View) (n : ℕ) where
         unraised = λ z. f.unraised refl;
         tickets = f.tickets;
         point = (
-          shifting_noted o v m true s (Life s) number true now (λ t has. held_still noted s (with_mark true) (λ l. refl) t (held_still v.locks s (note_lock kn) (λ l. refl) t has)) p.0,
+          shifting_noted o v m true s (Life s) number true now
+              (λ t has. held_still noted s (with_mark true) (λ l. refl) t (held_still v.locks s (note_lock kn) (λ l. refl) t has)) p.0,
           record {
             lock = with_mark true (note_lock kn old.lock);
-            locked = change_here s (with_mark true) (λ l. refl) noted (note_lock kn old.lock) (change_here s (note_lock kn) (λ l. refl) v.locks old.lock old.locked);
+            locked = change_here s (with_mark true) (λ l. refl) noted (note_lock kn old.lock)
+                (change_here s (note_lock kn) (λ l. refl) v.locks old.lock old.locked);
             marked_is = refl;
             life = known_here (old.lock).known (Life s) number true;
           },
@@ -115,7 +148,8 @@ module _ (k : Shape) (h : List Mark) (o : Own) (v : View) (n : ℕ) where
   pub needs_old_right : (m : Moving) → Fits o (at.OldRight m) v → Needs k v n (act_at o (at.OldRight m))
   needs_old_right m f = let old = (f.point).1 in record { held = (old.lock, old.locked); loadable = refl }
 
-  pub next_old_right : (m : Moving) → Fits o (at.OldRight m) v → Fits (after o n (at.OldRight m)) (at.Unlink m n) (view_after v h n (act_at o (at.OldRight m)))
+  pub next_old_right : (m : Moving) → Fits o (at.OldRight m) v
+      → Fits (after o n (at.OldRight m)) (at.Unlink m n) (view_after v h n (act_at o (at.OldRight m)))
   next_old_right m f =
       let p = f.point in
       let old = p.1 in
@@ -127,7 +161,12 @@ module _ (k : Shape) (h : List Mark) (o : Own) (v : View) (n : ℕ) where
         tickets = f.tickets;
         point = (
           shifting_noted o v m true s (Link s Right) n false noted (λ t has. held_still v.locks s (note_lock kn) (λ l. refl) t has) p.0,
-          record { lock = note_lock kn old.lock; locked = change_here s (note_lock kn) (λ l. refl) v.locks old.lock old.locked; marked_is = old.marked_is; life = old.life },
+          record {
+            lock = note_lock kn old.lock;
+            locked = change_here s (note_lock kn) (λ l. refl) v.locks old.lock old.locked;
+            marked_is = old.marked_is;
+            life = old.life;
+          },
           clear_stored kn s s v.locks p.2,
           known_now v.locks s (Link s Right) n (old.lock, old.locked),
         );
@@ -140,7 +179,8 @@ module _ (k : Shape) (h : List Mark) (o : Own) (v : View) (n : ℕ) where
       move : moves.Move
       move = (((f.point).0).6).0
 
-      unlinks : (parent : ℕ) → move_parent m ≡ parent → NeedsUnlinkOld v move ((f.point).1).lock parent m.successor.slot child (2 * m.successor.generation + 1)
+      unlinks : (parent : ℕ) → move_parent m ≡ parent
+          → NeedsUnlinkOld v move ((f.point).1).lock parent m.successor.slot child (2 * m.successor.generation + 1)
       unlinks parent e =
           let p = f.point in
           let is = (p.0).6 in
@@ -156,11 +196,26 @@ module _ (k : Shape) (h : List Mark) (o : Own) (v : View) (n : ℕ) where
             right_now = under_lock v m.successor.slot old.lock (Link m.successor.slot Right) child old.locked p.3;
           }
 
-      by : (z : Bool) → (m.successor.parent == m.node.node) ≡ z → Needs k v n (cond z (UnlinkRight m.copy m.successor.slot child) (UnlinkLeft m.successor.parent m.successor.slot child))
-      by true e = let is = ((f.point).0).6 in (move, ((f.point).1).lock, 2 * m.successor.generation + 1, unlinks m.copy (ap (λ z. cond z m.copy m.successor.parent) e), sym is.4)
-      by false e = let is = ((f.point).0).6 in (move, ((f.point).1).lock, 2 * m.successor.generation + 1, unlinks m.successor.parent (ap (λ z. cond z m.copy m.successor.parent) e), (λ same. ((f.point).0).9 (sym (same ∙ is.4))))
+      by : (z : Bool) → (m.successor.parent == m.node.node) ≡ z
+          → Needs k v n (cond z (UnlinkRight m.copy m.successor.slot child) (UnlinkLeft m.successor.parent m.successor.slot child))
+      by true e = let is = ((f.point).0).6 in (
+        move,
+        ((f.point).1).lock,
+        2 * m.successor.generation + 1,
+        unlinks m.copy (ap (λ z. cond z m.copy m.successor.parent) e),
+        sym is.4,
+      )
+      by false e = let is = ((f.point).0).6 in (
+        move,
+        ((f.point).1).lock,
+        2 * m.successor.generation + 1,
+        unlinks m.successor.parent (ap (λ z. cond z m.copy m.successor.parent) e),
+        (λ same. ((f.point).0).9 (sym (same ∙ is.4))),
+      )
 
-  pub next_unlink : (m : Moving) (child : ℕ) → Fits o (at.Unlink m child) v → Fits (after o n (at.Unlink m child)) (after o n (at.Unlink m child)).stage (view_after v h (said v (act_at o (at.Unlink m child)) n) (act_at o (at.Unlink m child)))
+  pub next_unlink : (m : Moving) (child : ℕ) → Fits o (at.Unlink m child) v
+      → Fits (after o n (at.Unlink m child)) (after o n (at.Unlink m child)).stage
+      (view_after v h (said v (act_at o (at.Unlink m child)) n) (act_at o (at.Unlink m child)))
   next_unlink m child f = by (m.successor.parent == m.node.node) refl
     where
       s : ℕ
@@ -169,9 +224,13 @@ module _ (k : Shape) (h : List Mark) (o : Own) (v : View) (n : ℕ) where
       base : Own
       base = record o { retired = o.retired ++ s ∷ []; locks = move_locks m }
 
-      relinks : (parent : ℕ) (b : Side) → Holds v.locks parent → (z : Bool) → (child == 0) ≡ z → let kn : Known = stored_at (Link parent b) child in
-          Relinked z (change_lock s (with_mark false) (cond z (change_lock parent (with_emptied b true) (change_lock parent (note_lock kn) v.locks)) (change_lock parent (note_lock kn) v.locks))) parent b
-      relinks parent b held true e = let kn : Known = stored_at (Link parent b) child in let l = emptied_lock kn parent s b v.locks held in (l.0, l.1, l.2, clear_emptied kn parent s b v.locks (f.point).2, tt)
+      relinks : (parent : ℕ) (b : Side) → Holds v.locks parent → (z : Bool) → (child == 0) ≡ z → let kn : Known =
+          stored_at (Link parent b) child in
+          Relinked z (change_lock s (with_mark false)
+          (cond z (change_lock parent (with_emptied b true) (change_lock parent (note_lock kn) v.locks))
+          (change_lock parent (note_lock kn) v.locks))) parent b
+      relinks parent b held true e = let kn : Known = stored_at (Link parent b) child in let l = emptied_lock kn parent s b v.locks held in
+          (l.0, l.1, l.2, clear_emptied kn parent s b v.locks (f.point).2, tt)
       relinks parent b held false e = clear_stored (stored_at (Link parent b) child) parent s v.locks (f.point).2
 
       owns : (parent : ℕ) (b : Side) → Owns base (after_unlink_old v parent b s child h)
@@ -182,14 +241,17 @@ module _ (k : Shape) (h : List Mark) (o : Own) (v : View) (n : ℕ) where
             works = w.works;
             spare_is = w.spare_is;
             retired_are = slots_push v.hands.retired (newly_retired v s (length h)) ∙ ap (λ xs. xs ++ s ∷ []) f.owns.retired_are;
-            locks_are = λ x. ap (times x) (relinked_slots parent b child s (change_lock parent (note_lock (stored_at (Link parent b) child)) v.locks)) ∙ w.locks_are x ∙ ap (times x) p.7 ∙ sym (in_order m x (m.successor.parent == m.node.node) refl);
+            locks_are = λ x. ap (times x) (relinked_slots parent b child s
+                (change_lock parent (note_lock (stored_at (Link parent b) child)) v.locks)) ∙ w.locks_are x ∙ ap (times x) p.7
+                ∙ sym (in_order m x (m.successor.parent == m.node.node) refl);
             key_fits = w.key_fits;
             keys_fit = w.keys_fit;
             scans = w.scans;
             scans_table = w.scans_table;
           }
 
-      ends : (parent : ℕ) (b : Side) → Holds v.locks parent → (z : Bool) → Relinked z (after_unlink_old v parent b s child h).locks parent b → let st : Stage = cond z (at.EmptyTag m.number parent b) (at.Unlock (last.Gone m.number)) in
+      ends : (parent : ℕ) (b : Side) → Holds v.locks parent → (z : Bool) → Relinked z (after_unlink_old v parent b s child h).locks parent b
+          → let st : Stage = cond z (at.EmptyTag m.number parent b) (at.Unlock (last.Gone m.number)) in
           Fits (go base st) st (after_unlink_old v parent b s child h)
       ends parent b held true r = let p = (f.point).0 in record {
         owns = owns parent b;
@@ -204,7 +266,12 @@ module _ (k : Shape) (h : List Mark) (o : Own) (v : View) (n : ℕ) where
         point = ((p.0, p.1, refl, p.2, p.3, r, refl), ap (note_option parent (stored_at (Link parent b) child)) p.4, p.5, p.10);
       }
 
-      by : (z : Bool) → (m.successor.parent == m.node.node) ≡ z → let st : Stage = cond (child == 0) (cond z (at.EmptyTag m.number m.copy Right) (at.EmptyTag m.number m.successor.parent Left)) (at.Unlock (last.Gone m.number)) in
-          Fits (go base st) st (view_after v h (said v (cond z (UnlinkRight m.copy s child) (UnlinkLeft m.successor.parent s child)) n) (cond z (UnlinkRight m.copy s child) (UnlinkLeft m.successor.parent s child)))
-      by true e = let held = subst (Holds v.locks) (ap (λ z. cond z m.copy m.successor.parent) e) ((f.point).0).8 in ends m.copy Right held (child == 0) (relinks m.copy Right held (child == 0) refl)
-      by false e = let held = subst (Holds v.locks) (ap (λ z. cond z m.copy m.successor.parent) e) ((f.point).0).8 in ends m.successor.parent Left held (child == 0) (relinks m.successor.parent Left held (child == 0) refl)
+      by : (z : Bool) → (m.successor.parent == m.node.node) ≡ z → let st : Stage =
+          cond (child == 0) (cond z (at.EmptyTag m.number m.copy Right) (at.EmptyTag m.number m.successor.parent Left))
+          (at.Unlock (last.Gone m.number)) in
+          Fits (go base st) st (view_after v h (said v (cond z (UnlinkRight m.copy s child) (UnlinkLeft m.successor.parent s child)) n)
+          (cond z (UnlinkRight m.copy s child) (UnlinkLeft m.successor.parent s child)))
+      by true e = let held = subst (Holds v.locks) (ap (λ z. cond z m.copy m.successor.parent) e) ((f.point).0).8 in
+          ends m.copy Right held (child == 0) (relinks m.copy Right held (child == 0) refl)
+      by false e = let held = subst (Holds v.locks) (ap (λ z. cond z m.copy m.successor.parent) e) ((f.point).0).8 in
+          ends m.successor.parent Left held (child == 0) (relinks m.successor.parent Left held (child == 0) refl)

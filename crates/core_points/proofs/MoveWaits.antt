@@ -28,21 +28,32 @@ use Rattle.core_points.specs.DeleteFacts.{HoldsOld, IsMove, OutlastsMove, Shifti
 use Rattle.core_points.specs.Fits.{Fits}
 use Rattle.core_points.specs.Told.{TellsMove}
 use Rattle.core_points.proofs.Reclaim.{each_map, same_slots, seen_all}
+use Rattle.core_points.proofs.Notes.{owns_retired}
 
 or_true : (b : Bool) → (b || true) ≡ true
 or_true true = refl
 or_true false = refl
 
 -- after such a wait the move is waited for
-pub graced_move : (wait : Waiting) (moving : Option moves.Move) (key : ℕ) (m : Moving) (clock p : ℕ) → IsMove moving key m false → OutlastsMove wait moving (key + 1) m.next_key clock p → IsMove (waited_move wait moving) key m true
+pub graced_move : (wait : Waiting) (moving : Option moves.Move) (key : ℕ) (m : Moving) (clock p : ℕ) → IsMove moving key m false
+    → OutlastsMove wait moving (key + 1) m.next_key clock p → IsMove (waited_move wait moving) key m true
 graced_move wait moving key m clock p is out =
     let move : moves.Move = is.0 in
     let made = out.later move is.1 in
     let a : nat_lt move.made wait.began ≡ true = lt-ltb move.made wait.began made in
     let b : nat_le wait.low (move.key + 1) ≡ true = le-leb wait.low (move.key + 1) (let e = out.low_is in let f = is.2 in omega arith) in
     let c : nat_le move.next_key wait.high ≡ true = le-leb move.next_key wait.high (let e = out.high_is in let f = is.3 in omega arith) in
-    let grace : is_move_grace wait move ≡ true = ap (λ z. z && (nat_le wait.low (move.key + 1) && nat_le move.next_key wait.high)) a ∙ ap (λ z. z && nat_le move.next_key wait.high) b ∙ c in
-    (record move { waited = move.waited || is_move_grace wait move }, ap (waited_move wait) is.1, is.2, is.3, is.4, is.5, is.6, ap (λ z. move.waited || z) grace ∙ or_true move.waited)
+    let grace : is_move_grace wait move ≡ true = ap (λ z. z && (nat_le wait.low (move.key + 1) && nat_le move.next_key wait.high)) a
+    ∙ ap (λ z. z && nat_le move.next_key wait.high) b ∙ c in (
+      record move { waited = move.waited || is_move_grace wait move },
+      ap (waited_move wait) is.1,
+      is.2,
+      is.3,
+      is.4,
+      is.5,
+      is.6,
+      ap (λ z. move.waited || z) grace ∙ or_true move.waited,
+    )
 
 module _ (k : Shape) (h : List Mark) (o : Own) (v : View) (n : ℕ) where
   pub needs_move_begin : (m : Moving) → TellsMove v h → Fits o (at.Begin (Move m)) v → Needs k v n (act_at o (at.Begin (Move m)))
@@ -52,9 +63,15 @@ module _ (k : Shape) (h : List Mark) (o : Own) (v : View) (n : ℕ) where
       let t = told is.0 is.1 in
       let key = is.2 in
       let next = is.3 in
-      record { outside = s.0; ticket = (let t = f.tickets in omega arith); some = omega (arith, t.0, key, next); high_fits = subst (λ x. x < 2 ^ 64) next t.1 }
+      record {
+        outside = s.0;
+        ticket = (let t = f.tickets in omega arith);
+        some = omega (arith, t.0, key, next);
+        high_fits = subst (λ x. x < 2 ^ 64) next t.1;
+      }
 
-  pub next_move_begin : (m : Moving) → 1 ≤ o.places → TellsMove v h → Fits o (at.Begin (Move m)) v → Fits (after o n (at.Begin (Move m))) (at.LookKey (Move m) n 0) (view_after v h n (act_at o (at.Begin (Move m))))
+  pub next_move_begin : (m : Moving) → 1 ≤ o.places → TellsMove v h → Fits o (at.Begin (Move m)) v
+      → Fits (after o n (at.Begin (Move m))) (at.LookKey (Move m) n 0) (view_after v h n (act_at o (at.Begin (Move m))))
   next_move_begin m places told f =
       let p = f.point in record {
         owns = f.owns;
@@ -69,48 +86,67 @@ module _ (k : Shape) (h : List Mark) (o : Own) (v : View) (n : ℕ) where
             (
               new_wait v (key_now o + 1) m.next_key n h,
               refl,
-              record { going = refl; low_is = refl; high_is = refl; clock_is = refl; past = (λ q lt. absurd (omega arith)); later = (λ move is. (told move is).2) },
+              record {
+                going = refl;
+                low_is = refl;
+                high_is = refl;
+                clock_is = refl;
+                past = (λ q lt. absurd (omega arith));
+                later = (λ move is. (told move is).2);
+              },
             ),
           ),
         );
       }
 
-  pub needs_move_key : (m : Moving) (clock p : ℕ) → k.waiter ≡ Eer → k.places ≡ o.places → Fits o (at.LookKey (Move m) clock p) v → Needs k v n (act_at o (at.LookKey (Move m) clock p))
+  pub needs_move_key : (m : Moving) (clock p : ℕ) → k.waiter ≡ Eer → k.places ≡ o.places → Fits o (at.LookKey (Move m) clock p) v
+      → Needs k v n (act_at o (at.LookKey (Move m) clock p))
   needs_move_key m clock p eer places f =
       let w = (f.point).3 in
-      let q = w.1 in
-      (q.0, record { wait_is = q.1; going = (q.2).going; rest = λ is_last other spot. seen_all k h o v n q.0 p (Announced p) (p + 1 == o.places) eer places refl refl w.0 (q.2).past is_last other spot })
+      let q = w.1 in (
+        q.0,
+        record {
+          wait_is = q.1;
+          going = (q.2).going;
+          rest = λ is_last other spot. seen_all k h o v n q.0 p (Announced p) (p + 1 == o.places) eer places refl refl w.0
+              (q.2).past is_last other spot;
+        },
+      )
 
-  pub needs_move_stamp : (m : Moving) (clock p key : ℕ) → k.waiter ≡ Eer → k.places ≡ o.places → Fits o (at.LookStamp (Move m) clock p key) v → Needs k v n (act_at o (at.LookStamp (Move m) clock p key))
+  pub needs_move_stamp : (m : Moving) (clock p key : ℕ) → k.waiter ≡ Eer → k.places ≡ o.places
+      → Fits o (at.LookStamp (Move m) clock p key) v → Needs k v n (act_at o (at.LookStamp (Move m) clock p key))
   needs_move_stamp m clock p key eer places f =
       let w = (f.point).3 in
-      let q = w.1 in
-      (q.0, record { wait_is = q.1; going = (q.2).going; rest = λ is_last other spot. seen_all k h o v n q.0 p (Stamp p) (p + 1 == o.places) eer places refl refl w.0 (q.2).past is_last other spot })
+      let q = w.1 in (
+        q.0,
+        record {
+          wait_is = q.1;
+          going = (q.2).going;
+          rest = λ is_last other spot. seen_all k h o v n q.0 p (Stamp p) (p + 1 == o.places) eer places refl refl w.0
+              (q.2).past is_last other spot;
+        },
+      )
 
   -- a look that excuses a place
-  excused_move : (m : Moving) (clock p : ℕ) (field : Field) (wait : Waiting) → spot_seen field ≡ Stamp p → 0 + 4 * length o.rest + o.kept ≤ v.allowance.tickets → Shifting o v m false None → HoldsOld v.locks m false → AreClear v.locks
-      → p < o.places → OutlastsMove wait v.moving (key_now o + 1) m.next_key clock p → Owns o v → ((i : ℕ) (r : Retired) → get_elem? v.hands.retired i ≡ some r → r.raised ≡ false)
-      → Fits (excused o (Move m) clock p) (excused o (Move m) clock p).stage (cond (p + 1 == o.places) (ending v (with_excused wait field) h) (record v { wait = Some (with_excused wait field) }))
+  excused_move : (m : Moving) (clock p : ℕ) (field : Field) (wait : Waiting) → spot_seen field ≡ Stamp p
+      → 0 + 4 * length o.rest + o.kept ≤ v.allowance.tickets → Shifting o v m false None → HoldsOld v.locks m false → AreClear v.locks
+      → p < o.places → OutlastsMove wait v.moving (key_now o + 1) m.next_key clock p → Owns o v
+      → ((i : ℕ) (r : Retired) → get_elem? v.hands.retired i ≡ some r → r.raised ≡ false)
+      → Fits (excused o (Move m) clock p) (excused o (Move m) clock p).stage
+      (cond (p + 1 == o.places) (ending v (with_excused wait field) h) (record v { wait = Some (with_excused wait field) }))
   excused_move m clock p field wait spot paid shifting old clear small out owns unraised = by_last (p + 1 == o.places) refl
     where
       now : Waiting
       now = with_excused wait field
 
-      by_last : (z : Bool) → (p + 1 == o.places) ≡ z → let o' : Own = cond z (go o (at.OldMark m)) (go o (at.LookKey (Move m) clock (p + 1))) in Fits o' o'.stage (cond z (ending v now h) (record v { wait = Some now }))
+      by_last : (z : Bool) → (p + 1 == o.places) ≡ z → let o' : Own =
+          cond z (go o (at.OldMark m)) (go o (at.LookKey (Move m) clock (p + 1))) in
+          Fits o' o'.stage (cond z (ending v now h) (record v { wait = Some now }))
       by_last true e =
           let s = shifting in record {
-            owns = record {
-              same = owns.same;
-              works = owns.works;
-              spare_is = owns.spare_is;
-              retired_are = same_slots (waited_retired now) (λ r. refl) v.hands.retired ∙ owns.retired_are;
-              locks_are = owns.locks_are;
-              key_fits = owns.key_fits;
-              keys_fit = owns.keys_fit;
-              scans = owns.scans;
-              scans_table = owns.scans_table;
-            };
-            unraised = λ z. each_map (waited_retired now) (λ (r : Retired). r.raised ≡ false) (λ (r : Retired). r.raised ≡ false) v.hands.retired (λ r q. q) unraised;
+            owns = owns_retired o v owns _ _ (same_slots (waited_retired now) (λ r. refl) v.hands.retired ∙ owns.retired_are);
+            unraised = λ z. each_map (waited_retired now) (λ (r : Retired). r.raised ≡ false)
+                (λ (r : Retired). r.raised ≡ false) v.hands.retired (λ r q. q) unraised;
             tickets = paid;
             point = (
               (
@@ -120,7 +156,15 @@ module _ (k : Shape) (h : List Mark) (o : Own) (v : View) (n : ℕ) where
                 s.3,
                 s.4,
                 s.5,
-                graced_move now v.moving (key_now o) m clock p s.6 (record { going = out.going; low_is = out.low_is; high_is = out.high_is; clock_is = out.clock_is; past = (λ q lt. (let i = out.past q lt in (suc i.0, i.1))); later = out.later }),
+                graced_move now v.moving (key_now o) m clock p s.6
+                    (record {
+                      going = out.going;
+                      low_is = out.low_is;
+                      high_is = out.high_is;
+                      clock_is = out.clock_is;
+                      past = (λ q lt. (let i = out.past q lt in (suc i.0, i.1)));
+                      later = out.later;
+                    }),
                 s.7,
                 s.8,
                 s.9,
@@ -139,7 +183,8 @@ module _ (k : Shape) (h : List Mark) (o : Own) (v : View) (n : ℕ) where
           old,
           clear,
           (
-            dite (ℕ_discrete (p + 1) o.places) (λ same. absurd (let q : false ≡ true = sym e ∙ eq-eqb (p + 1) o.places same in cc)) (λ ne. omega arith),
+            dite (ℕ_discrete (p + 1) o.places) (λ same. absurd (let q : false ≡ true = sym e ∙ eq-eqb (p + 1) o.places same in cc))
+                (λ ne. omega arith),
             (
               now,
               refl,
@@ -149,7 +194,8 @@ module _ (k : Shape) (h : List Mark) (o : Own) (v : View) (n : ℕ) where
                 high_is = out.high_is;
                 clock_is = out.clock_is;
                 later = out.later;
-                past = λ q lt. dite (ℕ_discrete q p) (λ same. (0, ap some (spot ∙ ap Stamp (sym same)))) (λ ne. (let i = out.past q (omega arith) in (suc i.0, i.1)));
+                past = λ q lt. dite (ℕ_discrete q p) (λ same. (0, ap some (spot ∙ ap Stamp (sym same))))
+                    (λ ne. (let i = out.past q (omega arith) in (suc i.0, i.1)));
               },
             ),
           ),
@@ -157,7 +203,8 @@ module _ (k : Shape) (h : List Mark) (o : Own) (v : View) (n : ℕ) where
       }
 
   pub next_move_key : (m : Moving) (clock p : ℕ) → Fits o (at.LookKey (Move m) clock p) v
-      → Fits (after o n (at.LookKey (Move m) clock p)) (after o n (at.LookKey (Move m) clock p)).stage (view_after v h n (act_at o (at.LookKey (Move m) clock p)))
+      → Fits (after o n (at.LookKey (Move m) clock p)) (after o n (at.LookKey (Move m) clock p)).stage
+      (view_after v h n (act_at o (at.LookKey (Move m) clock p)))
   next_move_key m clock p f =
       let x = (f.point).3 in
       let q = x.1 in
@@ -165,17 +212,22 @@ module _ (k : Shape) (h : List Mark) (o : Own) (v : View) (n : ℕ) where
       let out = q.2 in
       let a : Own = after o n (at.LookKey (Move m) clock p) in
       subst (λ x. Fits a a.stage (after_look v x (Announced p) (p + 1 == o.places) n h)) (sym (wait_is v _ q.1))
-      (subst (λ (z : Bool). Fits a a.stage (cond (not z) (cond (p + 1 == o.places) (ending v (with_excused wait (Announced p)) h) (record v { wait = Some (with_excused wait (Announced p)) })) v))
+      (subst (λ (z : Bool). Fits a a.stage (cond (not z)
+      (cond (p + 1 == o.places) (ending v (with_excused wait (Announced p)) h)
+      (record v { wait = Some (with_excused wait (Announced p)) })) v))
       (sym (ap (λ x. nat_le x n && nat_le n wait.high) out.low_is ∙ ap (λ x. nat_le (key_now o + 1) n && nat_le n x) out.high_is))
       (by_reader (is_reader o (Move m) n)))
     where
       by_reader : (z : Bool) → let o' : Own = cond z (go o (at.LookStamp (Move m) clock p n)) (excused o (Move m) clock p) in
-          Fits o' o'.stage (cond (not z) (cond (p + 1 == o.places) (ending v (with_excused (((f.point).3).1).0 (Announced p)) h) (record v { wait = Some (with_excused (((f.point).3).1).0 (Announced p)) })) v)
+          Fits o' o'.stage (cond (not z) (cond (p + 1 == o.places) (ending v (with_excused (((f.point).3).1).0 (Announced p)) h)
+          (record v { wait = Some (with_excused (((f.point).3).1).0 (Announced p)) })) v)
       by_reader true = record { owns = f.owns; tickets = f.tickets; unraised = λ z. f.unraised refl; point = f.point }
-      by_reader false = let x = f.point in let y = x.3 in excused_move m clock p (Announced p) (y.1).0 refl f.tickets x.0 x.1 x.2 y.0 (y.1).2 f.owns (f.unraised refl)
+      by_reader false = let x = f.point in let y = x.3 in
+          excused_move m clock p (Announced p) (y.1).0 refl f.tickets x.0 x.1 x.2 y.0 (y.1).2 f.owns (f.unraised refl)
 
   pub next_move_stamp : (m : Moving) (clock p key : ℕ) → Fits o (at.LookStamp (Move m) clock p key) v
-      → Fits (after o n (at.LookStamp (Move m) clock p key)) (after o n (at.LookStamp (Move m) clock p key)).stage (view_after v h n (act_at o (at.LookStamp (Move m) clock p key)))
+      → Fits (after o n (at.LookStamp (Move m) clock p key)) (after o n (at.LookStamp (Move m) clock p key)).stage
+      (view_after v h n (act_at o (at.LookStamp (Move m) clock p key)))
   next_move_stamp m clock p key f =
       let x = (f.point).3 in
       let q = x.1 in
@@ -183,10 +235,14 @@ module _ (k : Shape) (h : List Mark) (o : Own) (v : View) (n : ℕ) where
       let out = q.2 in
       let a : Own = after o n (at.LookStamp (Move m) clock p key) in
       subst (λ x. Fits a a.stage (after_look v x (Stamp p) (p + 1 == o.places) n h)) (sym (wait_is v _ q.1))
-      (subst (λ (x : ℕ). Fits a a.stage (cond (n == idle || nat_lt x n) (cond (p + 1 == o.places) (ending v (with_excused wait (Stamp p)) h) (record v { wait = Some (with_excused wait (Stamp p)) })) v)) (sym out.clock_is)
+      (subst (λ (x : ℕ). Fits a a.stage (cond (n == idle || nat_lt x n)
+      (cond (p + 1 == o.places) (ending v (with_excused wait (Stamp p)) h) (record v { wait = Some (with_excused wait (Stamp p)) })) v))
+      (sym out.clock_is)
       (by_stamp (n == idle || nat_lt clock n)))
     where
       by_stamp : (z : Bool) → let o' : Own = cond z (excused o (Move m) clock p) (go o (at.LookKey (Move m) clock p)) in
-          Fits o' o'.stage (cond z (cond (p + 1 == o.places) (ending v (with_excused (((f.point).3).1).0 (Stamp p)) h) (record v { wait = Some (with_excused (((f.point).3).1).0 (Stamp p)) })) v)
-      by_stamp true = let x = f.point in let y = x.3 in excused_move m clock p (Stamp p) (y.1).0 refl f.tickets x.0 x.1 x.2 y.0 (y.1).2 f.owns (f.unraised refl)
+          Fits o' o'.stage (cond z (cond (p + 1 == o.places) (ending v (with_excused (((f.point).3).1).0 (Stamp p)) h)
+          (record v { wait = Some (with_excused (((f.point).3).1).0 (Stamp p)) })) v)
+      by_stamp true = let x = f.point in let y = x.3 in
+          excused_move m clock p (Stamp p) (y.1).0 refl f.tickets x.0 x.1 x.2 y.0 (y.1).2 f.owns (f.unraised refl)
       by_stamp false = record { owns = f.owns; tickets = f.tickets; unraised = λ z. f.unraised refl; point = f.point }

@@ -9,6 +9,7 @@ use Rattle.core_state.specs.declared.view.Held.{Held}
 use Rattle.core_state.specs.declared.view.HeldLock.{HeldLock}
 use Rattle.core_state.specs.declared.view.Known.{Known}
 use Rattle.prcu_marks.specs.declared.commit.Commit.{Commit}
+use Rattle.core_state.specs.declared.view.Retired.{Retired}
 use Rattle.core_state.specs.declared.view.View.{View}
 use Rattle.core_state.specs.views.Known.{known_in, lock_of, change_lock, note_lock, note_held, note_option, note_moving, noting, without_lock}
 use Rattle.core_state.specs.steps.Locks.{new_lock}
@@ -23,9 +24,11 @@ slot_noted : (kn : Known) (l : HeldLock) (b : Bool) → (cond b (note_lock kn l)
 slot_noted kn l true = refl
 slot_noted kn l false = refl
 
-slots_noted : (s : ℕ) (kn : Known) (ls : List HeldLock) → map (λ (l : HeldLock). l.slot) (change_lock s (note_lock kn) ls) ≡ map (λ (l : HeldLock). l.slot) ls
+slots_noted : (s : ℕ) (kn : Known) (ls : List HeldLock)
+    → map (λ (l : HeldLock). l.slot) (change_lock s (note_lock kn) ls) ≡ map (λ (l : HeldLock). l.slot) ls
 slots_noted s kn [] = refl
-slots_noted s kn (l ∷ ls) = ap (λ x. x ∷ map (λ (l : HeldLock). l.slot) (change_lock s (note_lock kn) ls)) (slot_noted kn l (l.slot == s)) ∙ ap (λ xs. l.slot ∷ xs) (slots_noted s kn ls)
+slots_noted s kn (l ∷ ls) = ap (λ x. x ∷ map (λ (l : HeldLock). l.slot) (change_lock s (note_lock kn) ls)) (slot_noted kn l (l.slot == s))
+    ∙ ap (λ xs. l.slot ∷ xs) (slots_noted s kn ls)
 
 held_noted : (kn : Known) (h : Held) (b : Bool) → (cond b (record h { known = kn ∷ h.known }) h).slot ≡ h.slot
 held_noted kn h true = refl
@@ -51,7 +54,8 @@ owns_noted o v s field n by_store w =
     }
 
 -- other locks of the same slots
-pub owns_relocked : (o : Own) (v : View) (locks : List HeldLock) → map (λ (l : HeldLock). l.slot) locks ≡ map (λ (l : HeldLock). l.slot) v.locks → Owns o v → Owns o (record v { locks = locks })
+pub owns_relocked : (o : Own) (v : View) (locks : List HeldLock)
+    → map (λ (l : HeldLock). l.slot) locks ≡ map (λ (l : HeldLock). l.slot) v.locks → Owns o v → Owns o (record v { locks = locks })
 owns_relocked o v locks slots w = record {
   same = w.same;
   works = w.works;
@@ -65,7 +69,8 @@ owns_relocked o v locks slots w = record {
 }
 
 -- one lock more
-pub owns_more : (o : Own) (v : View) (s : ℕ) → Owns o v → Owns (record o { locks = s ∷ o.locks }) (record v { locks = new_lock s ∷ v.locks })
+pub owns_more : (o : Own) (v : View) (s : ℕ) → Owns o v
+    → Owns (record o { locks = s ∷ o.locks }) (record v { locks = new_lock s ∷ v.locks })
 owns_more o v s w = record {
   same = w.same;
   works = w.works;
@@ -89,8 +94,9 @@ next_within s most some le =
     (λ e. subst (λ z. cond z 1 (s + 1) ≤ most) (sym (eq-eqb s most e)) (omega arith))
     (λ ne. subst (λ z. cond z 1 (s + 1) ≤ most) (sym (ne_eqb s most ne)) (omega arith))
 
-pub owns_scanned : (o : Own) (v : View) → Owns o v → Owns (record o { scan = cond (o.scan == o.slots + o.places) 1 (o.scan + 1) }) v
-owns_scanned o v w = record {
+-- at another number for the next slot to try
+pub owns_scanning : (o : Own) (v : View) → Owns o v → (s : ℕ) → 1 ≤ s → s ≤ o.slots + o.places → Owns (record o { scan = s }) v
+owns_scanning o v w s some few = record {
   same = w.same;
   works = w.works;
   spare_is = w.spare_is;
@@ -98,25 +104,50 @@ owns_scanned o v w = record {
   locks_are = w.locks_are;
   key_fits = w.key_fits;
   keys_fit = w.keys_fit;
-  scans = next_scan (o.scan == o.slots + o.places) o.scan;
-  scans_table = next_within o.scan (o.slots + o.places) w.scans w.scans_table;
+  scans = some;
+  scans_table = few;
 }
 
-pub bare_noted : (v : View) (s : ℕ) (field : Field) (n : ℕ) (by_store : Bool) (locks more : List HeldLock) (commit : Option Commit) (reserved : Bool) → Bare v locks commit reserved
-    → change_lock s (note_lock (record { field = field; number = n; stored = by_store })) locks ≡ more → Bare (noting v s field n by_store) more commit reserved
+pub owns_scanned : (o : Own) (v : View) → Owns o v → Owns (record o { scan = cond (o.scan == o.slots + o.places) 1 (o.scan + 1) }) v
+owns_scanned o v w =
+    owns_scanning o v w _ (next_scan (o.scan == o.slots + o.places) o.scan) (next_within o.scan (o.slots + o.places) w.scans w.scans_table)
+
+-- with other retired slots, of which the caller has the numbers
+pub owns_retired : (o : Own) (v : View) → Owns o v → (slots : List ℕ) (retired : List Retired)
+    → map (λ (r : Retired). r.slot) retired ≡ slots
+    → Owns (record o { retired = slots }) (record v { hands = record v.hands { retired = retired } })
+owns_retired o v w slots retired are = record {
+  same = w.same;
+  works = w.works;
+  spare_is = w.spare_is;
+  retired_are = are;
+  locks_are = w.locks_are;
+  key_fits = w.key_fits;
+  keys_fit = w.keys_fit;
+  scans = w.scans;
+  scans_table = w.scans_table;
+}
+
+pub bare_noted : (v : View) (s : ℕ) (field : Field) (n : ℕ) (by_store : Bool) (locks more : List HeldLock) (commit : Option Commit)
+    (reserved : Bool) → Bare v locks commit reserved
+    → change_lock s (note_lock (record { field = field; number = n; stored = by_store })) locks ≡ more
+    → Bare (noting v s field n by_store) more commit reserved
 bare_noted v s field n by_store locks more commit reserved b e =
     let kn : Known = record { field = field; number = n; stored = by_store } in
     (ap (change_lock s (note_lock kn)) b.0 ∙ e, b.1, ap (note_moving s kn) b.2, b.3, b.4)
 
 -- the one lock with one more entry
 pub one_noted : (s : ℕ) (known : List Known) (field : Field) (n : ℕ) (by_store : Bool)
-    → change_lock s (note_lock (record { field = field; number = n; stored = by_store })) (one_lock s known) ≡ one_lock s (record { field = field; number = n; stored = by_store } ∷ known)
+    → change_lock s (note_lock (record { field = field; number = n; stored = by_store })) (one_lock s known)
+    ≡ one_lock s (record { field = field; number = n; stored = by_store } ∷ known)
 one_noted s known field n by_store =
     let l : HeldLock = record { slot = s; known = known; left_emptied = false; right_emptied = false; marked = false } in
     ap (λ b. cond b (note_lock (record { field = field; number = n; stored = by_store }) l) l ∷ []) (eq-eqb s s refl)
 
-pub one_locked : (s : ℕ) (known : List Known) → lock_of (one_lock s known) s ≡ Some (record { slot = s; known = known; left_emptied = false; right_emptied = false; marked = false })
-one_locked s known = ap (λ b. cond b (Some (record { slot = s; known = known; left_emptied = false; right_emptied = false; marked = false })) None) (eq-eqb s s refl)
+pub one_locked : (s : ℕ) (known : List Known) → lock_of (one_lock s known) s
+    ≡ Some (record { slot = s; known = known; left_emptied = false; right_emptied = false; marked = false })
+one_locked s known = ap (λ b. cond b (Some (record
+    { slot = s; known = known; left_emptied = false; right_emptied = false; marked = false })) None) (eq-eqb s s refl)
 
 pub one_given_up : (s : ℕ) (known : List Known) → without_lock s (one_lock s known) ≡ []
 one_given_up s known = ap (λ b. cond b [] (one_lock s known)) (eq-eqb s s refl)
@@ -126,8 +157,10 @@ pub held_here : (s : ℕ) (kn : Known) (held : Held) → held.slot ≡ s → not
 held_here s kn held e = ap (λ b. cond b (record held { known = kn ∷ held.known }) held) (eq-eqb held.slot s e)
 
 -- A leaf in hand stays one, where a load finds what was known.
-leaf_more : (held : Held) (t life key value : ℕ) (field : Field) (n : ℕ) → ((number : ℕ) → known_in held.known field ≡ Some number → n ≡ number)
-    → IsLeaf held t life key value → IsLeaf (record held { known = record { field = field; number = n; stored = false } ∷ held.known }) t life key value
+leaf_more : (held : Held) (t life key value : ℕ) (field : Field) (n : ℕ)
+    → ((number : ℕ) → known_in held.known field ≡ Some number → n ≡ number)
+    → IsLeaf held t life key value → IsLeaf (record held
+    { known = record { field = field; number = n; stored = false } ∷ held.known }) t life key value
 leaf_more held t life key value field n told l = record {
   slot_is = l.slot_is;
   unraised = l.unraised;
@@ -138,14 +171,24 @@ leaf_more held t life key value field n told l = record {
   right_is = known_still held.known field (Link t Right) n 0 false (λ e. told 0 (ap (known_in held.known) e ∙ l.right_is)) l.right_is;
 }
 
-pub hand_noted : (hand : Option ℕ) (life key value : ℕ) (v : View) (s : ℕ) (field : Field) (n : ℕ) → Tells v s field n → HandFits hand life key value v.hands.hand
+pub hand_noted : (hand : Option ℕ) (life key value : ℕ) (v : View) (s : ℕ) (field : Field) (n : ℕ) → Tells v s field n
+    → HandFits hand life key value v.hands.hand
     → HandFits hand life key value (note_option s (record { field = field; number = n; stored = false }) v.hands.hand)
 hand_noted None life key value v s field n told e = ap (note_option s (record { field = field; number = n; stored = false })) e
 hand_noted (Some t) life key value v s field n told (held, e, leaf) =
     let kn : Known = record { field = field; number = n; stored = false } in
     dite (ℕ_discrete held.slot s)
-    (λ same. (record held { known = kn ∷ held.known }, ap (note_option s kn) e ∙ ap Some (held_here s kn held same), leaf_more held t life key value field n (told held e same) leaf))
-    (λ other. (held, ap (note_option s kn) e ∙ ap (λ b. Some (cond b (record held { known = kn ∷ held.known }) held)) (ne_eqb held.slot s other), leaf))
+    (λ same. (
+      record held { known = kn ∷ held.known },
+      ap (note_option s kn) e ∙ ap Some (held_here s kn held same),
+      leaf_more held t life key value field n (told held e same) leaf,
+    ))
+    (λ other. (
+      held,
+      ap (note_option s kn) e ∙ ap (λ b. Some (cond b (record held { known = kn ∷ held.known }) held))
+          (ne_eqb held.slot s other),
+      leaf,
+    ))
 
 -- the four fields of a leaf, once stored
 pub leaf_is : (s life key value : ℕ) → IsLeaf (leaf_held s life key value 4) s life key value
@@ -155,6 +198,7 @@ leaf_is s life key value = record {
   life_is = known_here (stored_at (State s) 1 ∷ []) (Life s) life false;
   key_is = known_here (read_at (Life s) life ∷ (stored_at (State s) 1 ∷ [])) (Key s) key true;
   value_is = known_here (stored_at (Key s) key ∷ (read_at (Life s) life ∷ (stored_at (State s) 1 ∷ []))) (Value s) value true;
-  left_is = known_still (leaf_held s life key value 3).known (Link s Right) (Link s Left) 0 0 true (λ e. refl) (known_here (leaf_held s life key value 2).known (Link s Left) 0 true);
+  left_is = known_still (leaf_held s life key value 3).known (Link s Right) (Link s Left) 0 0 true (λ e. refl)
+      (known_here (leaf_held s life key value 2).known (Link s Left) 0 true);
   right_is = known_here (leaf_held s life key value 3).known (Link s Right) 0 true;
 }

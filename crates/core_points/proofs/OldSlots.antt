@@ -1,10 +1,11 @@
--- The points of giving back the retired slots after the wait: what each step needs is known, and what the next point needs is known after it.
+-- The points of giving back the retired slots after the wait: what each step needs is known, and what the next point needs is known after
+-- it.
 use Rattle.std.proofs.Common.{◌≡◌, ℕ, suc, ◌+◌, ◌*◌, ◌/◌, ◌==◌, cond, Bool, true, false, List, [], ◌∷◌, map, Option, Some, None, refl, sym, ap, subst, ◌∙◌, eq-eqb, ne_eqb}
 use Rattle.prcu_marks.specs.declared.mark.Mark.{Mark}
 use Rattle.core_state.specs.declared.words.Field.TheVariants.{Life}
 use Rattle.core_state.specs.declared.view.Held.{Held}
 use Rattle.core_state.specs.declared.view.View.{View}
-use Rattle.core_state.specs.views.Known.{lock_of, note_option}
+use Rattle.core_state.specs.views.Known.{lock_of, note_option, noting}
 use Rattle.core_state.specs.declared.view.Retired.{Retired}
 use Rattle.core_state.specs.declared.shape.Shape.{Shape}
 use Rattle.core_state.specs.steps.Seating.{spare_slot}
@@ -23,9 +24,10 @@ use Rattle.core_points.specs.Fits.{Fits, plain}
 use Rattle.list_laws.specs.Counts.{Each}
 use Rattle.core_points.specs.Told.{TellsAlone, IsAlone, SpareComes}
 use Rattle.core_points.proofs.Reclaim.{each_map, same_slots, giving_fits}
-use Rattle.core_points.proofs.Notes.{owns_noted, bare_noted}
+use Rattle.core_points.proofs.Notes.{owns_noted, bare_noted, owns_retired}
 
-head_of : (rs : List Retired) (os : List ℕ) → map (λ (r : Retired). r.slot) rs ≡ os → is_none_left os ≡ false → (r : Retired) × (rest : List Retired) × (rs ≡ r ∷ rest) × (first_or_root os ≡ r.slot)
+head_of : (rs : List Retired) (os : List ℕ) → map (λ (r : Retired). r.slot) rs ≡ os → is_none_left os ≡ false
+    → (r : Retired) × (rest : List Retired) × (rs ≡ r ∷ rest) × (first_or_root os ≡ r.slot)
 head_of [] os e some_left = absurd (let q : true ≡ false = ap is_none_left e ∙ some_left in cc)
 head_of (r ∷ rs) os e some_left = (r, rs, refl, ap first_or_root (sym e))
 
@@ -37,23 +39,29 @@ slot_kept : (f : Retired → Retired) → ((r : Retired) → (f r).slot ≡ r.sl
 slot_kept f same r true = same r
 slot_kept f same r false = refl
 
-fact_kept : (P : Retired → Type 0) (f : Retired → Retired) → ((r : Retired) → P r → P (f r)) → (r : Retired) (b : Bool) → P r → P (cond b (f r) r)
+fact_kept : (P : Retired → Type 0) (f : Retired → Retired) → ((r : Retired) → P r → P (f r)) → (r : Retired) (b : Bool) → P r
+    → P (cond b (f r) r)
 fact_kept P f go r true p = go r p
 fact_kept P f go r false p = p
 
 change_none : (slot : ℕ) (f : Retired → Retired) (rs : List Retired) → IsAlone slot rs → change_retired slot f rs ≡ rs
 change_none slot f [] alone = refl
-change_none slot f (r ∷ rs) alone = ap (λ b. cond b (f r) r ∷ change_retired slot f rs) (ne_eqb r.slot slot (alone 0 r refl)) ∙ ap (λ xs. r ∷ xs) (change_none slot f rs (λ i a e. alone (suc i) a e))
+change_none slot f (r ∷ rs) alone = ap (λ b. cond b (f r) r ∷ change_retired slot f rs) (ne_eqb r.slot slot (alone 0 r refl))
+    ∙ ap (λ xs. r ∷ xs) (change_none slot f rs (λ i a e. alone (suc i) a e))
 
 without_none : (slot : ℕ) (rs : List Retired) → IsAlone slot rs → without_retired slot rs ≡ rs
 without_none slot [] alone = refl
-without_none slot (r ∷ rs) alone = ap (λ b. cond b (without_retired slot rs) (r ∷ without_retired slot rs)) (ne_eqb r.slot slot (alone 0 r refl)) ∙ ap (λ xs. r ∷ xs) (without_none slot rs (λ i a e. alone (suc i) a e))
+without_none slot (r ∷ rs) alone = ap (λ b. cond b (without_retired slot rs) (r ∷ without_retired slot rs))
+    (ne_eqb r.slot slot (alone 0 r refl)) ∙ ap (λ xs. r ∷ xs) (without_none slot rs (λ i a e. alone (suc i) a e))
 
-change_first : (slot : ℕ) (f : Retired → Retired) (r : Retired) (rs : List Retired) → r.slot ≡ slot → IsAlone slot rs → change_retired slot f (r ∷ rs) ≡ f r ∷ rs
-change_first slot f r rs e alone = ap (λ b. cond b (f r) r ∷ change_retired slot f rs) (eq-eqb r.slot slot e) ∙ ap (λ xs. f r ∷ xs) (change_none slot f rs alone)
+change_first : (slot : ℕ) (f : Retired → Retired) (r : Retired) (rs : List Retired) → r.slot ≡ slot → IsAlone slot rs
+    → change_retired slot f (r ∷ rs) ≡ f r ∷ rs
+change_first slot f r rs e alone = ap (λ b. cond b (f r) r ∷ change_retired slot f rs) (eq-eqb r.slot slot e)
+    ∙ ap (λ xs. f r ∷ xs) (change_none slot f rs alone)
 
 without_first : (slot : ℕ) (r : Retired) (rs : List Retired) → r.slot ≡ slot → IsAlone slot rs → without_retired slot (r ∷ rs) ≡ rs
-without_first slot r rs e alone = ap (λ b. cond b (without_retired slot rs) (r ∷ without_retired slot rs)) (eq-eqb r.slot slot e) ∙ without_none slot rs alone
+without_first slot r rs e alone = ap (λ b. cond b (without_retired slot rs) (r ∷ without_retired slot rs)) (eq-eqb r.slot slot e)
+    ∙ without_none slot rs alone
 
 tail_each : (P : Retired → Type 0) (r : Retired) (rs all : List Retired) → all ≡ r ∷ rs → Each all P → Each rs P
 tail_each P r rs all e each i a at = each (suc i) a (ap (λ xs. get_elem? xs (suc i)) e ∙ at)
@@ -76,7 +84,8 @@ module _ (k : Shape) (h : List Mark) (o : Own) (v : View) (n : ℕ) where
       let x = head_of v.hands.retired o.retired f.owns.retired_are (f.point).2 in
       (0, x.0, (ap (λ xs. get_elem? xs 0) x.2, sym x.3))
 
-  pub next_old_age : (aim : Aim) → Fits o (at.OldAge aim) v → Fits (after o n (at.OldAge aim)) (at.OldRaise aim n) (view_after v h n (act_at o (at.OldAge aim)))
+  pub next_old_age : (aim : Aim) → Fits o (at.OldAge aim) v
+      → Fits (after o n (at.OldAge aim)) (at.OldRaise aim n) (view_after v h n (act_at o (at.OldAge aim)))
   next_old_age aim f =
       let x = head_of v.hands.retired o.retired f.owns.retired_are (f.point).2 in
       let r : Retired = x.0 in
@@ -85,28 +94,29 @@ module _ (k : Shape) (h : List Mark) (o : Own) (v : View) (n : ℕ) where
       let w : View = after_retired_life v slot n in
       let i = (f.point).0 in
       let owns = owns_noted o v slot (Life slot) n false f.owns in record {
-        owns = record {
-          same = owns.same;
-          works = owns.works;
-          spare_is = owns.spare_is;
-          retired_are = same_slots (changed_at slot to) (λ r. slot_kept to (λ r. refl) r (r.slot == slot)) v.hands.retired ∙ f.owns.retired_are;
-          locks_are = owns.locks_are;
-          key_fits = owns.key_fits;
-          keys_fit = owns.keys_fit;
-          scans = owns.scans;
-          scans_table = owns.scans_table;
-        };
+        owns = owns_retired o (noting v slot (Life slot) n false) owns _ _ (same_slots (changed_at slot to)
+            (λ r. slot_kept to (λ r. refl) r (r.slot == slot)) v.hands.retired ∙ f.owns.retired_are);
         tickets = f.tickets;
-        unraised = λ z. each_map (changed_at slot to) (λ (r : Retired). r.raised ≡ false) (λ (r : Retired). r.raised ≡ false) v.hands.retired (λ r p. fact_kept (λ (r : Retired). r.raised ≡ false) to (λ r q. q) r (r.slot == slot) p) (f.unraised refl);
+        unraised = λ z. each_map (changed_at slot to) (λ (r : Retired). r.raised ≡ false)
+            (λ (r : Retired). r.raised ≡ false) v.hands.retired
+            (λ r p. fact_kept (λ (r : Retired). r.raised ≡ false) to (λ r q. q) r (r.slot == slot) p) (f.unraised refl);
         point = (
           (i.0, bare_noted v slot (Life slot) n false [] [] None false i.1 refl, ap (note_option slot (read_at (Life slot) n)) i.2, i.3),
           for_same aim (plain v) (plain w) refl (f.point).1,
-          each_map (changed_at slot to) (λ (r : Retired). r.waited ≡ true) (λ (r : Retired). r.waited ≡ true) v.hands.retired (λ r p. fact_kept (λ (r : Retired). r.waited ≡ true) to (λ r q. q) r (r.slot == slot) p) (f.point).3,
-          (to r, change_retired slot to x.1, ap (change_retired slot to) x.2 ∙ ap (λ b. cond b (to r) r ∷ change_retired slot to x.1) (eq-eqb r.slot slot (sym x.3)), refl),
+          each_map (changed_at slot to) (λ (r : Retired). r.waited ≡ true) (λ (r : Retired). r.waited ≡ true) v.hands.retired
+              (λ r p. fact_kept (λ (r : Retired). r.waited ≡ true) to (λ r q. q) r (r.slot == slot) p) (f.point).3,
+          (
+            to r,
+            change_retired slot to x.1,
+            ap (change_retired slot to) x.2
+                ∙ ap (λ b. cond b (to r) r ∷ change_retired slot to x.1) (eq-eqb r.slot slot (sym x.3)),
+            refl,
+          ),
         );
       }
 
-  first_slot : (r : Retired) (rs : List Retired) → Owns o v → v.hands.retired ≡ r ∷ rs → o.retired ≡ r.slot ∷ map (λ (r : Retired). r.slot) rs
+  first_slot : (r : Retired) (rs : List Retired) → Owns o v → v.hands.retired ≡ r ∷ rs
+      → o.retired ≡ r.slot ∷ map (λ (r : Retired). r.slot) rs
   first_slot r rs owns e = sym owns.retired_are ∙ ap (map (λ (r : Retired). r.slot)) e
 
   -- the life is raised: the slot becomes the spare, or is to be freed
@@ -129,40 +139,52 @@ module _ (k : Shape) (h : List Mark) (o : Own) (v : View) (n : ℕ) where
     where
       by_spare : (z : Bool) → is_some o.spare ≡ z → first_or_root o.retired ≡ (((f.point).3).0).slot
           → ((slot : ℕ) → slot ≡ (((f.point).3).0).slot → NeedsRaiseRetired v 0 ((f.point).3).0 slot life (2 * (life / 2 + 1)))
-          → Needs k v n (cond z (RaiseRetired (first_or_root o.retired) (2 * (life / 2 + 1))) (RaiseToSpare (first_or_root o.retired) (2 * (life / 2 + 1))))
-      by_spare true e is make = (0, life, ((f.point).3).0, make _ is, (λ none. absurd (let q : false ≡ true = ap is_some (ap spare_slot (sym none) ∙ f.owns.spare_is) ∙ e in cc)))
+          → Needs k v n (cond z (RaiseRetired (first_or_root o.retired) (2 * (life / 2 + 1)))
+          (RaiseToSpare (first_or_root o.retired) (2 * (life / 2 + 1))))
+      by_spare true e is make = (
+        0,
+        life,
+        ((f.point).3).0,
+        make _ is,
+        (λ none. absurd (let q : false ≡ true = ap is_some (ap spare_slot (sym none) ∙ f.owns.spare_is) ∙ e in cc)),
+      )
       by_spare false e is make = (0, life, ((f.point).3).0, make _ is, no_spare v.hands.spare o.spare f.owns.spare_is e)
 
   pub next_old_raise : (aim : Aim) (life : ℕ) → TellsAlone v → Fits o (at.OldRaise aim life) v
-      → Fits (after o n (at.OldRaise aim life)) (after o n (at.OldRaise aim life)).stage (view_after v h (said v (act_at o (at.OldRaise aim life)) n) (act_at o (at.OldRaise aim life)))
+      → Fits (after o n (at.OldRaise aim life)) (after o n (at.OldRaise aim life)).stage
+      (view_after v h (said v (act_at o (at.OldRaise aim life)) n) (act_at o (at.OldRaise aim life)))
   next_old_raise aim life alone f = by_spare (is_some o.spare) refl
     where
-      by_spare : (z : Bool) → is_some o.spare ≡ z → let o' : Own = cond z (go o (at.OldFree aim)) (giving (record o { spare = Some (first_or_root o.retired); retired = but_first o.retired }) aim) in
-          Fits o' o'.stage (view_after v h (said v (cond z (RaiseRetired (first_or_root o.retired) (2 * (life / 2 + 1))) (RaiseToSpare (first_or_root o.retired) (2 * (life / 2 + 1)))) n) (cond z (RaiseRetired (first_or_root o.retired) (2 * (life / 2 + 1))) (RaiseToSpare (first_or_root o.retired) (2 * (life / 2 + 1)))))
+      by_spare : (z : Bool) → is_some o.spare ≡ z → let o' : Own =
+          cond z (go o (at.OldFree aim)) (giving (record o
+          { spare = Some (first_or_root o.retired); retired = but_first o.retired }) aim) in
+          Fits o' o'.stage (view_after v h (said v (cond z (RaiseRetired (first_or_root o.retired) (2 * (life / 2 + 1)))
+          (RaiseToSpare (first_or_root o.retired) (2 * (life / 2 + 1)))) n)
+          (cond z (RaiseRetired (first_or_root o.retired) (2 * (life / 2 + 1)))
+          (RaiseToSpare (first_or_root o.retired) (2 * (life / 2 + 1)))))
       by_spare true some_spare =
           let q = (f.point).3 in
           let r : Retired = q.0 in
           let slot : ℕ = first_or_root o.retired in
           let is : slot ≡ r.slot = ap first_or_root (first_slot r q.1 f.owns q.2) in
           let to : Retired → Retired = λ r. record r { raised = true } in record {
-            owns = record {
-              same = f.owns.same;
-              works = f.owns.works;
-              spare_is = f.owns.spare_is;
-              retired_are = same_slots (changed_at slot to) (λ r. slot_kept to (λ r. refl) r (r.slot == slot)) v.hands.retired ∙ f.owns.retired_are;
-              locks_are = f.owns.locks_are;
-              key_fits = f.owns.key_fits;
-              keys_fit = f.owns.keys_fit;
-              scans = f.owns.scans;
-              scans_table = f.owns.scans_table;
-            };
+            owns = owns_retired o v f.owns _ _ (same_slots (changed_at slot to)
+                (λ r. slot_kept to (λ r. refl) r (r.slot == slot)) v.hands.retired ∙ f.owns.retired_are);
             tickets = f.tickets;
             unraised = λ z. cc;
             point = (
               (f.point).0,
               for_same aim (plain v) (plain (after_raise_retired v slot)) refl (f.point).1,
-              each_map (changed_at slot to) (λ (r : Retired). r.waited ≡ true) (λ (r : Retired). r.waited ≡ true) v.hands.retired (λ r p. fact_kept (λ (r : Retired). r.waited ≡ true) to (λ r q. q) r (r.slot == slot) p) (f.point).2,
-              (to r, q.1, ap (change_retired slot to) q.2 ∙ change_first slot to r q.1 (sym is) (subst (λ s. IsAlone s q.1) (sym is) (alone r q.1 q.2)), refl, tail_each (λ (r : Retired). r.raised ≡ false) r q.1 v.hands.retired q.2 (f.unraised refl)),
+              each_map (changed_at slot to) (λ (r : Retired). r.waited ≡ true) (λ (r : Retired). r.waited ≡ true) v.hands.retired
+                  (λ r p. fact_kept (λ (r : Retired). r.waited ≡ true) to (λ r q. q) r (r.slot == slot) p) (f.point).2,
+              (
+                to r,
+                q.1,
+                ap (change_retired slot to) q.2
+                    ∙ change_first slot to r q.1 (sym is) (subst (λ s. IsAlone s q.1) (sym is) (alone r q.1 q.2)),
+                refl,
+                tail_each (λ (r : Retired). r.raised ≡ false) r q.1 v.hands.retired q.2 (f.unraised refl),
+              ),
               some_spare,
             );
           }
@@ -173,8 +195,10 @@ module _ (k : Shape) (h : List Mark) (o : Own) (v : View) (n : ℕ) where
           let slot : ℕ = first_or_root o.retired in
           let is : slot ≡ r.slot = ap first_or_root e in
           let number : ℕ = 2 * (life / 2 + 1) in
-          let left : without_retired slot v.hands.retired ≡ q.1 = ap (without_retired slot) q.2 ∙ without_first slot r q.1 (sym is) (subst (λ s. IsAlone s q.1) (sym is) (alone r q.1 q.2)) in
-          giving_fits (record o { spare = Some slot; retired = but_first o.retired }) aim (after_raise_to_spare v slot number h) (λ none. cc)
+          let left : without_retired slot v.hands.retired ≡ q.1 =
+          ap (without_retired slot) q.2 ∙ without_first slot r q.1 (sym is) (subst (λ s. IsAlone s q.1) (sym is) (alone r q.1 q.2)) in
+          giving_fits (record o { spare = Some slot; retired = but_first o.retired }) aim (after_raise_to_spare v slot number h)
+          (λ none. cc)
           (record {
             same = f.owns.same;
             works = f.owns.works;
@@ -187,46 +211,63 @@ module _ (k : Shape) (h : List Mark) (o : Own) (v : View) (n : ℕ) where
             scans_table = f.owns.scans_table;
           })
           (f.point).0 (for_spare aim (f.point).1) f.tickets
-          (subst (λ xs. Each xs (λ (r : Retired). r.raised ≡ false)) (sym left) (tail_each (λ (r : Retired). r.raised ≡ false) r q.1 v.hands.retired q.2 (f.unraised refl)))
-          (subst (λ xs. Each xs (λ (r : Retired). r.waited ≡ true)) (sym left) (tail_each (λ (r : Retired). r.waited ≡ true) r q.1 v.hands.retired q.2 (f.point).2))
+          (subst (λ xs. Each xs (λ (r : Retired). r.raised ≡ false)) (sym left)
+          (tail_each (λ (r : Retired). r.raised ≡ false) r q.1 v.hands.retired q.2 (f.unraised refl)))
+          (subst (λ xs. Each xs (λ (r : Retired). r.waited ≡ true)) (sym left)
+          (tail_each (λ (r : Retired). r.waited ≡ true) r q.1 v.hands.retired q.2 (f.point).2))
         where
-          for_spare : (aim : Aim) → ForAim o (plain v) aim → ForAim (record o { spare = Some (first_or_root o.retired); retired = but_first o.retired }) (after_raise_to_spare v (first_or_root o.retired) (2 * (life / 2 + 1)) h) aim
+          for_spare : (aim : Aim) → ForAim o (plain v) aim
+              → ForAim (record o { spare = Some (first_or_root o.retired); retired = but_first o.retired })
+              (after_raise_to_spare v (first_or_root o.retired) (2 * (life / 2 + 1)) h) aim
           for_spare (Leaf spot) a = a
           for_spare Spare a = a
           for_spare Room a = a
 
   pub needs_old_free : (aim : Aim) → Fits o (at.OldFree aim) v → Needs k v n (act_at o (at.OldFree aim))
   needs_old_free aim f =
-      let q = (f.point).3 in
-      (0, q.0, record { paid = (((f.point).0).1).4; retired = (ap (λ xs. get_elem? xs 0) q.2, sym (ap first_or_root (first_slot q.0 q.1 f.owns q.2))); raised = q.3 })
+      let q = (f.point).3 in (
+        0,
+        q.0,
+        record {
+          paid = (((f.point).0).1).4;
+          retired = (ap (λ xs. get_elem? xs 0) q.2, sym (ap first_or_root (first_slot q.0 q.1 f.owns q.2)));
+          raised = q.3;
+        },
+      )
 
-  pub next_old_free : (aim : Aim) → TellsAlone v → Fits o (at.OldFree aim) v → Fits (after o n (at.OldFree aim)) (at.OldCount aim) (view_after v h n (act_at o (at.OldFree aim)))
+  pub next_old_free : (aim : Aim) → TellsAlone v → Fits o (at.OldFree aim) v
+      → Fits (after o n (at.OldFree aim)) (at.OldCount aim) (view_after v h n (act_at o (at.OldFree aim)))
   next_old_free aim alone f =
       let q = (f.point).3 in
       let r : Retired = q.0 in
       let e = first_slot r q.1 f.owns q.2 in
       let slot : ℕ = first_or_root o.retired in
       let is : slot ≡ r.slot = ap first_or_root e in
-      let left : without_retired slot v.hands.retired ≡ q.1 = ap (without_retired slot) q.2 ∙ without_first slot r q.1 (sym is) (subst (λ s. IsAlone s q.1) (sym is) (alone r q.1 q.2)) in
+      let left : without_retired slot v.hands.retired ≡ q.1 =
+      ap (without_retired slot) q.2 ∙ without_first slot r q.1 (sym is) (subst (λ s. IsAlone s q.1) (sym is) (alone r q.1 q.2)) in
       let i = (f.point).0 in
       let b = i.1 in record {
-        owns = record {
-          same = f.owns.same;
-          works = f.owns.works;
-          spare_is = f.owns.spare_is;
-          retired_are = ap (map (λ (r : Retired). r.slot)) left ∙ sym (ap but_first e);
-          locks_are = f.owns.locks_are;
-          key_fits = f.owns.key_fits;
-          keys_fit = f.owns.keys_fit;
-          scans = f.owns.scans;
-          scans_table = f.owns.scans_table;
-        };
+        owns = owns_retired o v f.owns _ _ (ap (map (λ (r : Retired). r.slot)) left ∙ sym (ap but_first e));
         tickets = f.tickets;
         unraised = λ z. subst (λ xs. Each xs (λ (r : Retired). r.raised ≡ false)) (sym left) q.4;
-        point = (i.0, i.3, i.2, b.0, b.1, b.2, b.3, refl, for_free aim (f.point).1, subst (λ xs. Each xs (λ (r : Retired). r.waited ≡ true)) (sym left) (tail_each (λ (r : Retired). r.waited ≡ true) r q.1 v.hands.retired q.2 (f.point).2));
+        point = (
+          i.0,
+          i.3,
+          i.2,
+          b.0,
+          b.1,
+          b.2,
+          b.3,
+          refl,
+          for_free aim (f.point).1,
+          subst (λ xs. Each xs (λ (r : Retired). r.waited ≡ true)) (sym left)
+              (tail_each (λ (r : Retired). r.waited ≡ true) r q.1 v.hands.retired q.2 (f.point).2),
+        );
       }
     where
-      for_free : (aim : Aim) → ForAim o (plain v) aim → ForAim (record o { retired = but_first o.retired; stage = at.OldCount aim }) (plain (after_free_retired v (first_or_root o.retired) h)) aim
+      for_free : (aim : Aim) → ForAim o (plain v) aim
+          → ForAim (record o { retired = but_first o.retired; stage = at.OldCount aim })
+          (plain (after_free_retired v (first_or_root o.retired) h)) aim
       for_free (Leaf spot) a = a
       for_free Spare a = a
       for_free Room a = a
@@ -234,10 +275,12 @@ module _ (k : Shape) (h : List Mark) (o : Own) (v : View) (n : ℕ) where
   pub needs_old_count : (aim : Aim) → Fits o (at.OldCount aim) v → Needs k v n (act_at o (at.OldCount aim))
   needs_old_count aim f = (f.point).7
 
-  pub next_old_count : (aim : Aim) → SpareComes o → Fits o (at.OldCount aim) v → Fits (after o n (at.OldCount aim)) (after o n (at.OldCount aim)).stage (view_after v h n (act_at o (at.OldCount aim)))
+  pub next_old_count : (aim : Aim) → SpareComes o → Fits o (at.OldCount aim) v
+      → Fits (after o n (at.OldCount aim)) (after o n (at.OldCount aim)).stage (view_after v h n (act_at o (at.OldCount aim)))
   next_old_count aim comes f =
       let p = f.point in
-      giving_fits (record o { free = n + 1 }) aim (after_count_free v n) comes f.owns (p.0, (p.3, p.4, p.5, p.6, refl), p.2, p.1) (for_count aim p.8) f.tickets (f.unraised refl) p.9
+      giving_fits (record o { free = n + 1 }) aim (after_count_free v n) comes f.owns (p.0, (p.3, p.4, p.5, p.6, refl), p.2, p.1)
+      (for_count aim p.8) f.tickets (f.unraised refl) p.9
     where
       for_count : (aim : Aim) → ForAim o (plain v) aim → ForAim (record o { free = n + 1 }) (after_count_free v n) aim
       for_count (Leaf spot) a = a

@@ -36,13 +36,19 @@ module _ (k : Shape) (h : List Mark) (o : Own) (v : View) (n : ℕ) where
       let held : Held = leaf.0 in
       let raised : Held = record held { known = stored_at (Life s) number ∷ held.known; raised = true } in
       let e : raise_held (note_option s (stored_at (Life s) number) v.hands.hand) ≡ Some raised =
-      ap (λ x. raise_held (note_option s (stored_at (Life s) number) x)) leaf.1 ∙ ap (λ x. raise_held (Some x)) (held_here s (stored_at (Life s) number) held (leaf.2).slot_is) in
+      ap (λ x. raise_held (note_option s (stored_at (Life s) number) x)) leaf.1
+      ∙ ap (λ x. raise_held (Some x)) (held_here s (stored_at (Life s) number) held (leaf.2).slot_is) in
       subst (λ x. Fits (go o at.Free) at.Free (after_raise_in_hand v x number)) (sym (ap or_root hand.1))
       (record {
         owns = owns_noted o v s (Life s) number true f.owns;
         unraised = λ z. f.unraised refl;
         tickets = f.tickets;
-        point = ((f.point).0, bare_noted v s (Life s) number true [] [] None false ((f.point).2).0 refl, (s, raised, hand.1, (leaf.2).slot_is, refl, e), (f.point).3);
+        point = (
+          (f.point).0,
+          bare_noted v s (Life s) number true [] [] None false ((f.point).2).0 refl,
+          (s, raised, hand.1, (leaf.2).slot_is, refl, e),
+          (f.point).3,
+        );
       })
 
   pub needs_free : Fits o at.Free v → Needs k v n (act_at o at.Free)
@@ -53,17 +59,7 @@ module _ (k : Shape) (h : List Mark) (o : Own) (v : View) (n : ℕ) where
 
   pub next_free : Fits o at.Free v → Fits (after o n at.Free) at.Count (view_after v h n (act_at o at.Free))
   next_free f = let b = (f.point).1 in record {
-    owns = record {
-      same = f.owns.same;
-      works = f.owns.works;
-      spare_is = f.owns.spare_is;
-      retired_are = f.owns.retired_are;
-      locks_are = f.owns.locks_are;
-      key_fits = f.owns.key_fits;
-      keys_fit = f.owns.keys_fit;
-      scans = f.owns.scans;
-      scans_table = f.owns.scans_table;
-    };
+    owns = f.owns;
     unraised = λ z. f.unraised refl;
     tickets = f.tickets;
     point = ((f.point).0, refl, refl, b.0, b.1, b.2, b.3, refl, (f.point).3);
@@ -75,4 +71,5 @@ module _ (k : Shape) (h : List Mark) (o : Own) (v : View) (n : ℕ) where
   pub next_count : Fits o at.Count v → Fits (after o n at.Count) (after o n at.Count).stage (view_after v h n (act_at o at.Count))
   next_count f = let p = f.point in
       answers (record o { free = n + 1 }) (after_count_free v n) Old 0
-      (record { owns = f.owns; outside = p.0; empty = p.1; bare = (p.3, p.4, p.5, p.6, refl); no_hand = p.2; unraised = f.unraised refl }) (let t = f.tickets in omega arith)
+      (record { owns = f.owns; outside = p.0; empty = p.1; bare = (p.3, p.4, p.5, p.6, refl); no_hand = p.2; unraised = f.unraised refl })
+      (let t = f.tickets in omega arith)

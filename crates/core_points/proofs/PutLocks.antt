@@ -46,8 +46,10 @@ module _ (k : Shape) (h : List Mark) (o : Own) (v : View) (n : ℕ) where
   needs_field spot i f =
       let p = f.point in
       let q = p.2 in
-      let root : or_root o.hand ≡ q.0 = ap or_root q.1 in
-      (leaf_held q.0 o.hand_life (key_now o) (value_in o.op) i, record { holder = inl (q.2, sym root); content = is_content i p.5 (or_root o.hand) })
+      let root : or_root o.hand ≡ q.0 = ap or_root q.1 in (
+        leaf_held q.0 o.hand_life (key_now o) (value_in o.op) i,
+        record { holder = inl (q.2, sym root); content = is_content i p.5 (or_root o.hand) },
+      )
     where
       is_content : (i : ℕ) → i ≤ 3 → (s : ℕ) → IsContent s (content s i)
       is_content zero le s = refl
@@ -56,50 +58,70 @@ module _ (k : Shape) (h : List Mark) (o : Own) (v : View) (n : ℕ) where
       is_content (suc (suc (suc zero))) le s = refl
       is_content (suc (suc (suc (suc m)))) le s = absurd (lt_three m le)
 
-  pub next_field : (spot : Spot) (i : ℕ) → Fits o (at.LeafField spot i) v → Fits (after o n (at.LeafField spot i)) (after o n (at.LeafField spot i)).stage (view_after v h n (act_at o (at.LeafField spot i)))
+  pub next_field : (spot : Spot) (i : ℕ) → Fits o (at.LeafField spot i) v
+      → Fits (after o n (at.LeafField spot i)) (after o n (at.LeafField spot i)).stage (view_after v h n (act_at o (at.LeafField spot i)))
   next_field spot i f =
       let p = f.point in
       let q = p.2 in
-      subst (λ x. Fits (after o n (at.LeafField spot i)) (after o n (at.LeafField spot i)).stage (noting v x (content x i) (contents (key_now o) (value_in o.op) 0 0 i) true)) (sym (ap or_root q.1))
+      subst (λ x. Fits (after o n (at.LeafField spot i)) (after o n (at.LeafField spot i)).stage
+      (noting v x (content x i) (contents (key_now o) (value_in o.op) 0 0 i) true)) (sym (ap or_root q.1))
       (filled i p.5 q.0 q.1 q.2)
     where
-      put_hand : (s : ℕ) (i j : ℕ) (field : Field) (number : ℕ) → v.hands.hand ≡ Some (leaf_held s o.hand_life (key_now o) (value_in o.op) i)
-          → (leaf_held s o.hand_life (key_now o) (value_in o.op) j).known ≡ stored_at field number ∷ (leaf_held s o.hand_life (key_now o) (value_in o.op) i).known
+      put_hand : (s : ℕ) (i j : ℕ) (field : Field) (number : ℕ)
+          → v.hands.hand ≡ Some (leaf_held s o.hand_life (key_now o) (value_in o.op) i)
+          → (leaf_held s o.hand_life (key_now o) (value_in o.op) j).known ≡ stored_at field number
+          ∷ (leaf_held s o.hand_life (key_now o) (value_in o.op) i).known
           → note_option s (stored_at field number) v.hands.hand ≡ Some (leaf_held s o.hand_life (key_now o) (value_in o.op) j)
-      put_hand s i j field number e same = ap (note_option s (stored_at field number)) e ∙ ap Some (held_here s (stored_at field number) (leaf_held s o.hand_life (key_now o) (value_in o.op) i) refl)
+      put_hand s i j field number e same = ap (note_option s (stored_at field number)) e
+          ∙ ap Some (held_here s (stored_at field number) (leaf_held s o.hand_life (key_now o) (value_in o.op) i) refl)
           ∙ ap (λ (ks : List Known). Some (record { slot = s; known = ks; raised = false })) (sym same)
 
-      more : (s i j : ℕ) (field : Field) (number : ℕ) → j ≤ 3 → o.hand ≡ Some s → v.hands.hand ≡ Some (leaf_held s o.hand_life (key_now o) (value_in o.op) i)
-          → (leaf_held s o.hand_life (key_now o) (value_in o.op) j).known ≡ stored_at field number ∷ (leaf_held s o.hand_life (key_now o) (value_in o.op) i).known
+      more : (s i j : ℕ) (field : Field) (number : ℕ) → j ≤ 3 → o.hand ≡ Some s
+          → v.hands.hand ≡ Some (leaf_held s o.hand_life (key_now o) (value_in o.op) i)
+          → (leaf_held s o.hand_life (key_now o) (value_in o.op) j).known ≡ stored_at field number
+          ∷ (leaf_held s o.hand_life (key_now o) (value_in o.op) i).known
           → Fits (go o (at.LeafField spot j)) (at.LeafField spot j) (noting v s field number true)
       more s i j field number le is e same = record {
         owns = owns_noted o v s field number true f.owns;
         unraised = λ z. f.unraised refl;
         tickets = f.tickets;
-        point = ((f.point).0, bare_noted v s field number true [] [] None false (f.point).1 refl, (s, is, put_hand s i j field number e same), (f.point).3, (f.point).4, le);
+        point = (
+          (f.point).0,
+          bare_noted v s field number true [] [] None false (f.point).1 refl,
+          (s, is, put_hand s i j field number e same),
+          (f.point).3,
+          (f.point).4,
+          le,
+        );
       }
 
       filled : (i : ℕ) → i ≤ 3 → (s : ℕ) → o.hand ≡ Some s → v.hands.hand ≡ Some (leaf_held s o.hand_life (key_now o) (value_in o.op) i)
-          → let st : Stage = cond (i == 3) (at.LeafLock spot) (at.LeafField spot (i + 1)) in Fits (go o st) st (noting v s (content s i) (contents (key_now o) (value_in o.op) 0 0 i) true)
+          → let st : Stage = cond (i == 3) (at.LeafLock spot) (at.LeafField spot (i + 1)) in
+          Fits (go o st) st (noting v s (content s i) (contents (key_now o) (value_in o.op) 0 0 i) true)
       filled zero le s is e = more s 0 1 (Key s) (key_now o) (omega arith) is e refl
       filled (suc zero) le s is e = more s 1 2 (Value s) (value_in o.op) (omega arith) is e refl
       filled (suc (suc zero)) le s is e = more s 2 3 (Link s Left) 0 (omega arith) is e refl
       filled (suc (suc (suc zero))) le s is e = record {
         owns = owns_noted o v s (Link s Right) 0 true f.owns;
         unraised = λ z. f.unraised refl;
-        tickets = subst (λ x. owed_op o.op x o.retired + 4 * length o.rest + o.kept ≤ v.allowance.tickets) (sym is) (one_owed o.op (f.point).4 s f.tickets);
+        tickets = subst (λ x. owed_op o.op x o.retired + 4 * length o.rest + o.kept ≤ v.allowance.tickets) (sym is)
+            (one_owed o.op (f.point).4 s f.tickets);
         point = (
           (f.point).0,
           (s, is),
           bare_noted v s (Link s Right) 0 true [] [] None false (f.point).1 refl,
-          subst (λ x. HandFits x o.hand_life (key_now o) (value_in o.op) (note_option s (stored_at (Link s Right) 0) v.hands.hand)) (sym is)
-              (leaf_held s o.hand_life (key_now o) (value_in o.op) 4, put_hand s 3 4 (Link s Right) 0 e refl, leaf_is s o.hand_life (key_now o) (value_in o.op)),
+          subst (λ x. HandFits x o.hand_life (key_now o) (value_in o.op) (note_option s (stored_at (Link s Right) 0) v.hands.hand)) (sym is) (
+            leaf_held s o.hand_life (key_now o) (value_in o.op) 4,
+            put_hand s 3 4 (Link s Right) 0 e refl,
+            leaf_is s o.hand_life (key_now o) (value_in o.op),
+          ),
           (f.point).3,
           (f.point).4,
         );
       }
         where
-          one_owed : (op : Op) → is_put op ≡ true → (s : ℕ) → 1 + 4 * length o.rest + o.kept ≤ v.allowance.tickets → owed_op op (Some s) o.retired + 4 * length o.rest + o.kept ≤ v.allowance.tickets
+          one_owed : (op : Op) → is_put op ≡ true → (s : ℕ) → 1 + 4 * length o.rest + o.kept ≤ v.allowance.tickets
+              → owed_op op (Some s) o.retired + 4 * length o.rest + o.kept ≤ v.allowance.tickets
           one_owed (Put key value) e s le = le
           one_owed (Get key) e s le = cc
           one_owed (Del key) e s le = cc
@@ -108,22 +130,40 @@ module _ (k : Shape) (h : List Mark) (o : Own) (v : View) (n : ℕ) where
 
   -- the lock
   pub needs_lock : (spot : Spot) → Fits o (at.LeafLock spot) v → Needs k v n (act_at o (at.LeafLock spot))
-  needs_lock spot f = record { outside = (f.point).0; few = subst (λ (ls : List HeldLock). length ls < 5) (sym ((f.point).2).0) (omega arith) }
+  needs_lock spot f = record {
+    outside = (f.point).0;
+    few = subst (λ (ls : List HeldLock). length ls < 5) (sym ((f.point).2).0) (omega arith);
+  }
 
-  pub next_lock : (spot : Spot) → Fits o (at.LeafLock spot) v → Fits (after o n (at.LeafLock spot)) (after o n (at.LeafLock spot)).stage (view_after v h n (act_at o (at.LeafLock spot)))
+  pub next_lock : (spot : Spot) → Fits o (at.LeafLock spot) v
+      → Fits (after o n (at.LeafLock spot)) (after o n (at.LeafLock spot)).stage (view_after v h n (act_at o (at.LeafLock spot)))
   next_lock spot f = got (n == 0)
     where
-      got : (z : Bool) → let o' : Own = cond z (go (record o { locks = spot.slot ∷ o.locks }) (at.LeafLife spot)) (go o (cond (is_none_left o.locks) at.EnterClock (at.Unlock last.Again))) in
+      got : (z : Bool) → let o' : Own = cond z (go (record o { locks = spot.slot ∷ o.locks }) (at.LeafLife spot))
+          (go o (cond (is_none_left o.locks) at.EnterClock (at.Unlock last.Again))) in
           Fits o' o'.stage (cond z (record v { locks = new_lock spot.slot ∷ v.locks }) v)
       got true =
           let b = (f.point).2 in record {
             owns = owns_more o v spot.slot f.owns;
             unraised = λ z. f.unraised refl;
             tickets = f.tickets;
-            point = ((f.point).0, (f.point).1, (ap (λ ls. new_lock spot.slot ∷ ls) b.0, b.1, b.2, b.3, b.4), (f.point).3, (f.point).4, (f.point).5);
+            point = (
+              (f.point).0,
+              (f.point).1,
+              (ap (λ ls. new_lock spot.slot ∷ ls) b.0, b.1, b.2, b.3, b.4),
+              (f.point).3,
+              (f.point).4,
+              (f.point).5,
+            );
           }
-      got false = subst (λ ls. let st : Stage = cond (is_none_left ls) at.EnterClock (at.Unlock last.Again) in Fits (go o st) st v) (sym (no_locks o v f.owns ((f.point).2).0))
-          (record { owns = f.owns; unraised = λ z. f.unraised refl; tickets = f.tickets; point = ((f.point).0, ((f.point).2, (f.point).3, ready_put o.op o.hand o.spare o.retired (f.point).5)) })
+      got false = subst (λ ls. let st : Stage = cond (is_none_left ls) at.EnterClock (at.Unlock last.Again) in Fits (go o st) st v)
+          (sym (no_locks o v f.owns ((f.point).2).0))
+          (record {
+            owns = f.owns;
+            unraised = λ z. f.unraised refl;
+            tickets = f.tickets;
+            point = ((f.point).0, ((f.point).2, (f.point).3, ready_put o.op o.hand o.spare o.retired (f.point).5));
+          })
 
   -- a load under the lock
   needs_under : (s : ℕ) (known : List Known) → v.locks ≡ one_lock s known → HasLock v s
@@ -132,44 +172,68 @@ module _ (k : Shape) (h : List Mark) (o : Own) (v : View) (n : ℕ) where
   pub needs_life : (spot : Spot) → Fits o (at.LeafLife spot) v → Needs k v n (act_at o (at.LeafLife spot))
   needs_life spot f = record { held = needs_under spot.slot _ ((f.point).2).0; loadable = refl }
 
-  putting_more : (spot : Spot) (known : List Known) (field : Field) → Tells v spot.slot field n → Putting o v spot (one_lock spot.slot known) None
+  putting_more : (spot : Spot) (known : List Known) (field : Field) → Tells v spot.slot field n
+      → Putting o v spot (one_lock spot.slot known) None
       → Putting o (noting v spot.slot field n false) spot (one_lock spot.slot (read_at field n ∷ known)) None
   putting_more spot known field told p = (
     p.0,
     p.1,
-    bare_noted v spot.slot field n false (one_lock spot.slot known) (one_lock spot.slot (read_at field n ∷ known)) None false p.2 (one_noted spot.slot known field n false),
+    bare_noted v spot.slot field n false (one_lock spot.slot known) (one_lock spot.slot (read_at field n ∷ known)) None false p.2
+        (one_noted spot.slot known field n false),
     hand_noted o.hand o.hand_life (key_now o) (value_in o.op) v spot.slot field n told p.3,
     p.4,
     p.5,
   )
 
-  pub next_life : (spot : Spot) → Tells v spot.slot (Life spot.slot) n → Fits o (at.LeafLife spot) v → Fits (after o n (at.LeafLife spot)) (at.LeafSide spot n) (view_after v h n (act_at o (at.LeafLife spot)))
-  next_life spot told f = record { owns = owns_noted o v spot.slot (Life spot.slot) n false f.owns; unraised = λ z. f.unraised refl; tickets = f.tickets; point = putting_more spot [] (Life spot.slot) told f.point }
+  pub next_life : (spot : Spot) → Tells v spot.slot (Life spot.slot) n → Fits o (at.LeafLife spot) v
+      → Fits (after o n (at.LeafLife spot)) (at.LeafSide spot n) (view_after v h n (act_at o (at.LeafLife spot)))
+  next_life spot told f = record {
+    owns = owns_noted o v spot.slot (Life spot.slot) n false f.owns;
+    unraised = λ z. f.unraised refl;
+    tickets = f.tickets;
+    point = putting_more spot [] (Life spot.slot) told f.point;
+  }
 
   pub needs_side : (spot : Spot) (life : ℕ) → Fits o (at.LeafSide spot life) v → Needs k v n (act_at o (at.LeafSide spot life))
   needs_side spot life f = record { held = needs_under spot.slot _ ((f.point).2).0; loadable = refl }
 
-  pub next_side : (spot : Spot) (life : ℕ) → Tells v spot.slot (Link spot.slot spot.side) n → Fits o (at.LeafSide spot life) v → Fits (after o n (at.LeafSide spot life)) (at.LeafTag spot life n) (view_after v h n (act_at o (at.LeafSide spot life)))
-  next_side spot life told f = record { owns = owns_noted o v spot.slot (Link spot.slot spot.side) n false f.owns; unraised = λ z. f.unraised refl; tickets = f.tickets; point = putting_more spot (read_at (Life spot.slot) life ∷ []) (Link spot.slot spot.side) told f.point }
+  pub next_side : (spot : Spot) (life : ℕ) → Tells v spot.slot (Link spot.slot spot.side) n → Fits o (at.LeafSide spot life) v
+      → Fits (after o n (at.LeafSide spot life)) (at.LeafTag spot life n) (view_after v h n (act_at o (at.LeafSide spot life)))
+  next_side spot life told f = record {
+    owns = owns_noted o v spot.slot (Link spot.slot spot.side) n false f.owns;
+    unraised = λ z. f.unraised refl;
+    tickets = f.tickets;
+    point = putting_more spot (read_at (Life spot.slot) life ∷ []) (Link spot.slot spot.side) told f.point;
+  }
 
   pub needs_tag : (spot : Spot) (life link : ℕ) → Fits o (at.LeafTag spot life link) v → Needs k v n (act_at o (at.LeafTag spot life link))
   needs_tag spot life link f = record { held = needs_under spot.slot _ ((f.point).2).0; loadable = refl }
 
   pub next_tag : (spot : Spot) (life link : ℕ) → Tells v spot.slot (Tag spot.slot spot.side) n → Fits o (at.LeafTag spot life link) v
-      → Fits (after o n (at.LeafTag spot life link)) (after o n (at.LeafTag spot life link)).stage (view_after v h n (act_at o (at.LeafTag spot life link)))
+      → Fits (after o n (at.LeafTag spot life link)) (after o n (at.LeafTag spot life link)).stage
+      (view_after v h n (act_at o (at.LeafTag spot life link)))
   next_tag spot life link told f =
-      judged ((life == 2 * spot.generation) && ((link == 0) && (n == spot.tag))) refl (putting_more spot (read_at (Link spot.slot spot.side) link ∷ (read_at (Life spot.slot) life ∷ [])) (Tag spot.slot spot.side) told f.point)
+      judged ((life == 2 * spot.generation) && ((link == 0) && (n == spot.tag))) refl
+      (putting_more spot (read_at (Link spot.slot spot.side) link ∷ (read_at (Life spot.slot) life ∷ []))
+      (Tag spot.slot spot.side) told f.point)
     where
       judged : (z : Bool) → ((life == 2 * spot.generation) && ((link == 0) && (n == spot.tag))) ≡ z
-          → Putting o (noting v spot.slot (Tag spot.slot spot.side) n false) spot (one_lock spot.slot (read_at (Tag spot.slot spot.side) n ∷ (read_at (Link spot.slot spot.side) link ∷ (read_at (Life spot.slot) life ∷ [])))) None
-          → let st : Stage = cond z (committing o (update.Leaf spot)) (at.Unlock last.Again) in Fits (go o st) st (noting v spot.slot (Tag spot.slot spot.side) n false)
+          → Putting o (noting v spot.slot (Tag spot.slot spot.side) n false) spot
+          (one_lock spot.slot (read_at (Tag spot.slot spot.side) n
+          ∷ (read_at (Link spot.slot spot.side) link ∷ (read_at (Life spot.slot) life ∷ [])))) None
+          → let st : Stage = cond z (committing o (update.Leaf spot)) (at.Unlock last.Again) in
+          Fits (go o st) st (noting v spot.slot (Tag spot.slot spot.side) n false)
       judged true e p =
           let a = both_true (life == 2 * spot.generation) ((link == 0) && (n == spot.tag)) e in
           let b = both_true (link == 0) (n == spot.tag) a.1 in
-          let same : one_lock spot.slot (read_at (Tag spot.slot spot.side) n ∷ (read_at (Link spot.slot spot.side) link ∷ (read_at (Life spot.slot) life ∷ []))) ≡ one_lock spot.slot (spot_known spot) =
-          ap (λ x. one_lock spot.slot (read_at (Tag spot.slot spot.side) x ∷ (read_at (Link spot.slot spot.side) link ∷ (read_at (Life spot.slot) life ∷ [])))) (eqb-true n spot.tag b.1)
-          ∙ ap (λ x. one_lock spot.slot (read_at (Tag spot.slot spot.side) spot.tag ∷ (read_at (Link spot.slot spot.side) x ∷ (read_at (Life spot.slot) life ∷ [])))) (eqb-true link 0 b.0)
-          ∙ ap (λ x. one_lock spot.slot (read_at (Tag spot.slot spot.side) spot.tag ∷ (read_at (Link spot.slot spot.side) 0 ∷ (read_at (Life spot.slot) x ∷ [])))) (eqb-true life (2 * spot.generation) a.0) in
+          let same : one_lock spot.slot (read_at (Tag spot.slot spot.side) n
+          ∷ (read_at (Link spot.slot spot.side) link ∷ (read_at (Life spot.slot) life ∷ []))) ≡ one_lock spot.slot (spot_known spot) =
+          ap (λ x. one_lock spot.slot (read_at (Tag spot.slot spot.side) x
+          ∷ (read_at (Link spot.slot spot.side) link ∷ (read_at (Life spot.slot) life ∷ [])))) (eqb-true n spot.tag b.1)
+          ∙ ap (λ x. one_lock spot.slot (read_at (Tag spot.slot spot.side) spot.tag
+          ∷ (read_at (Link spot.slot spot.side) x ∷ (read_at (Life spot.slot) life ∷ [])))) (eqb-true link 0 b.0)
+          ∙ ap (λ x. one_lock spot.slot (read_at (Tag spot.slot spot.side) spot.tag
+          ∷ (read_at (Link spot.slot spot.side) 0 ∷ (read_at (Life spot.slot) x ∷ [])))) (eqb-true life (2 * spot.generation) a.0) in
           record {
             owns = owns_noted o v spot.slot (Tag spot.slot spot.side) n false f.owns;
             unraised = λ z. f.unraised refl;
@@ -177,11 +241,14 @@ module _ (k : Shape) (h : List Mark) (o : Own) (v : View) (n : ℕ) where
             point = ((p.0, p.1, ((p.2).0 ∙ same, (p.2).1, (p.2).2, (p.2).3, (p.2).4), p.3, p.4, p.5), made_even o.front);
           }
         where
-          put_owed : (op : Op) → is_put op ≡ true → (hand : Option ℕ) → owed_op op hand o.retired + 4 * length o.rest + o.kept ≤ v.allowance.tickets → 1 + 4 * length o.rest + o.kept ≤ v.allowance.tickets
+          put_owed : (op : Op) → is_put op ≡ true → (hand : Option ℕ)
+              → owed_op op hand o.retired + 4 * length o.rest + o.kept ≤ v.allowance.tickets
+              → 1 + 4 * length o.rest + o.kept ≤ v.allowance.tickets
           put_owed (Put key value) e (Some s) le = le
           put_owed (Put key value) e None le = less o.retired le
             where
-              less : (rs : List ℕ) → owed_op (Put key value) None rs + 4 * length o.rest + o.kept ≤ v.allowance.tickets → 1 + 4 * length o.rest + o.kept ≤ v.allowance.tickets
+              less : (rs : List ℕ) → owed_op (Put key value) None rs + 4 * length o.rest + o.kept ≤ v.allowance.tickets
+                  → 1 + 4 * length o.rest + o.kept ≤ v.allowance.tickets
               less [] le = omega arith
               less (r ∷ rs) le = omega arith
           put_owed (Get key) e hand le = cc
@@ -198,8 +265,10 @@ module _ (k : Shape) (h : List Mark) (o : Own) (v : View) (n : ℕ) where
             (p.2).2,
             (p.2).3,
             (p.2).4,
-            subst AreClear (sym (p.2).0) (clear_one spot.slot (read_at (Tag spot.slot spot.side) n ∷ (read_at (Link spot.slot spot.side) link ∷ (read_at (Life spot.slot) life ∷ [])))),
-            ap is_none_left (own_lock o (noting v spot.slot (Tag spot.slot spot.side) n false) spot.slot _ (owns_noted o v spot.slot (Tag spot.slot spot.side) n false f.owns) (p.2).0 refl),
+            subst AreClear (sym (p.2).0) (clear_one spot.slot
+                (read_at (Tag spot.slot spot.side) n ∷ (read_at (Link spot.slot spot.side) link ∷ (read_at (Life spot.slot) life ∷ [])))),
+            ap is_none_left (own_lock o (noting v spot.slot (Tag spot.slot spot.side) n false) spot.slot _ (owns_noted o v spot.slot
+                (Tag spot.slot spot.side) n false f.owns) (p.2).0 refl),
           ),
           p.3,
           ready_put o.op o.hand o.spare o.retired p.5,

@@ -26,7 +26,8 @@ use Rattle.core_tree.proofs.notes.Knowing.{known_here}
 
 module _ (k : Shape) (h : List Mark) (o : Own) (v : View) (n : ℕ) where
   -- the link of the leaf
-  pub needs_store : (spot : Spot) (front : ℕ) → Fits o (at.Store (update.Leaf spot) front) v → Needs k v n (act_at o (at.Store (update.Leaf spot) front))
+  pub needs_store : (spot : Spot) (front : ℕ) → Fits o (at.Store (update.Leaf spot) front) v
+      → Needs k v n (act_at o (at.Store (update.Leaf spot) front))
   needs_store spot front f =
       let p = f.point in
       let hand = p.1 in
@@ -52,7 +53,8 @@ module _ (k : Shape) (h : List Mark) (o : Own) (v : View) (n : ℕ) where
           locked = ap (λ ls. lock_of ls spot.slot) b.0 ∙ one_locked spot.slot (spot_known spot);
           life_now = known_here [] (Life spot.slot) (2 * spot.generation) false;
           empty_now = known_here (read_at (Life spot.slot) (2 * spot.generation) ∷ []) (Link spot.slot spot.side) 0 false;
-          tag_now = known_here (read_at (Link spot.slot spot.side) 0 ∷ (read_at (Life spot.slot) (2 * spot.generation) ∷ [])) (Tag spot.slot spot.side) spot.tag false;
+          tag_now = known_here (read_at (Link spot.slot spot.side) 0 ∷ (read_at (Life spot.slot) (2 * spot.generation) ∷ []))
+              (Tag spot.slot spot.side) spot.tag false;
           settled = settled spot.side;
           in_hand = (leaf.1, is.slot_is);
           unraised = is.unraised;
@@ -64,33 +66,33 @@ module _ (k : Shape) (h : List Mark) (o : Own) (v : View) (n : ℕ) where
         has.2,
       )
     where
-      settled : (b : Side) → is_emptied (record { slot = spot.slot; known = spot_known spot; left_emptied = false; right_emptied = false; marked = false }) b ≡ false
+      settled : (b : Side) → is_emptied (record {
+        slot = spot.slot;
+        known = spot_known spot;
+        left_emptied = false;
+        right_emptied = false;
+        marked = false;
+      }) b ≡ false
       settled Left = refl
       settled Right = refl
 
   pub next_store : (spot : Spot) (front : ℕ) → Fits o (at.Store (update.Leaf spot) front) v
-      → Fits (after o n (at.Store (update.Leaf spot) front)) (after o n (at.Store (update.Leaf spot) front)).stage (view_after v h n (act_at o (at.Store (update.Leaf spot) front)))
+      → Fits (after o n (at.Store (update.Leaf spot) front)) (after o n (at.Store (update.Leaf spot) front)).stage
+      (view_after v h n (act_at o (at.Store (update.Leaf spot) front)))
   next_store spot front f =
       let p = f.point in
       let leaf : ℕ = or_root o.hand in
       let o' : Own = after o n (at.Store (update.Leaf spot) front) in
       let w : View = noting v spot.slot (Link spot.slot spot.side) leaf true in
       let owns = owns_noted o v spot.slot (Link spot.slot spot.side) leaf true f.owns in
-      let b = bare_noted v spot.slot (Link spot.slot spot.side) leaf true (one_lock spot.slot (spot_known spot)) (one_lock spot.slot (stored_at (Link spot.slot spot.side) leaf ∷ spot_known spot)) (Some (record { found = front; stored = false })) false p.2
+      let b = bare_noted v spot.slot (Link spot.slot spot.side) leaf true (one_lock spot.slot (spot_known spot))
+      (one_lock spot.slot (stored_at (Link spot.slot spot.side) leaf ∷ spot_known spot))
+      (Some (record { found = front; stored = false })) false p.2
       (one_noted spot.slot (spot_known spot) (Link spot.slot spot.side) leaf true) in
-      subst (λ x. Fits o' o'.stage (after_leaf_link v x spot.slot spot.side leaf (key_now o) (value_in o.op) h)) (sym (commit_is v _ (p.2).1))
+      subst (λ x. Fits o' o'.stage (after_leaf_link v x spot.slot spot.side leaf (key_now o) (value_in o.op) h))
+      (sym (commit_is v _ (p.2).1))
       (record {
-        owns = record {
-          same = owns.same;
-          works = owns.works;
-          spare_is = owns.spare_is;
-          retired_are = owns.retired_are;
-          locks_are = owns.locks_are;
-          key_fits = owns.key_fits;
-          keys_fit = owns.keys_fit;
-          scans = owns.scans;
-          scans_table = owns.scans_table;
-        };
+        owns = owns;
         unraised = λ z. f.unraised refl;
         tickets = (let t = f.tickets in omega arith);
         point = (

@@ -37,32 +37,55 @@ two_owed spot (s ∷ ss) = omega arith
 module _ (k : Shape) (h : List Mark) (o : Own) (v : View) (n : ℕ) where
   -- the record: the tag and the life, in the section
   pub needs_spot_tag : (s : ℕ) (b : Side) → Fits o (at.SpotTag s b) v → Needs k v n (act_at o (at.SpotTag s b))
-  needs_spot_tag s b f = let i = (f.point).2 in (i.0, record { section_is = i.1; searches = (i.2).searches; stood = (i.2).here; loadable = refl })
+  needs_spot_tag s b f = let i = (f.point).2 in (
+    i.0,
+    record { section_is = i.1; searches = (i.2).searches; stood = (i.2).here; loadable = refl },
+  )
 
-  pub next_spot_tag : (s : ℕ) (b : Side) → Fits o (at.SpotTag s b) v → Fits (after o n (at.SpotTag s b)) (at.SpotLife s b n) (view_after v h n (act_at o (at.SpotTag s b)))
+  pub next_spot_tag : (s : ℕ) (b : Side) → Fits o (at.SpotTag s b) v
+      → Fits (after o n (at.SpotTag s b)) (at.SpotLife s b n) (view_after v h n (act_at o (at.SpotTag s b)))
   next_spot_tag s b f =
       let i = (f.point).2 in
       let section : Section = i.0 in
       let o' : Own = go o (at.SpotLife s b n) in
       subst (λ x. Fits o' (at.SpotLife s b n) (after_search_load v x (Tag s b) n)) (sym (section_is v _ i.1))
-      (subst (λ (r : Reading). Fits o' (at.SpotLife s b n) (record v { section = Some (record section { reading = r }) })) (sym (missed_stays section.reading s b (Tag s b) n (i.2).state_is))
+      (subst (λ (r : Reading). Fits o' (at.SpotLife s b n) (record v { section = Some (record section { reading = r }) }))
+      (sym (missed_stays section.reading s b (Tag s b) n (i.2).state_is))
       (record {
         owns = f.owns;
         unraised = λ z. f.unraised refl;
         tickets = f.tickets;
-        point = ((f.point).0, (f.point).1, (_, refl, record { searches = (i.2).searches; key_is = (i.2).key_is; sought = (i.2).sought; state_is = (i.2).state_is; here = (i.2).here }, known_here section.reading.loads (Tag s b) n false));
+        point = (
+          (f.point).0,
+          (f.point).1,
+          (
+            _,
+            refl,
+            record {
+              searches = (i.2).searches;
+              key_is = (i.2).key_is;
+              sought = (i.2).sought;
+              state_is = (i.2).state_is;
+              here = (i.2).here;
+            },
+            known_here section.reading.loads (Tag s b) n false,
+          ),
+        );
       }))
 
   pub needs_spot_life : (s : ℕ) (b : Side) (tag : ℕ) → Fits o (at.SpotLife s b tag) v → Needs k v n (act_at o (at.SpotLife s b tag))
-  needs_spot_life s b tag f = let i = (f.point).2 in (i.0, record { section_is = i.1; searches = (i.2).searches; stood = (i.2).here; loadable = refl })
+  needs_spot_life s b tag f = let i = (f.point).2 in
+      (i.0, record { section_is = i.1; searches = (i.2).searches; stood = (i.2).here; loadable = refl })
 
-  pub next_spot_life : (s : ℕ) (b : Side) (tag : ℕ) → Fits o (at.SpotLife s b tag) v → Fits (after o n (at.SpotLife s b tag)) (after o n (at.SpotLife s b tag)).stage (view_after v h n (act_at o (at.SpotLife s b tag)))
+  pub next_spot_life : (s : ℕ) (b : Side) (tag : ℕ) → Fits o (at.SpotLife s b tag) v
+      → Fits (after o n (at.SpotLife s b tag)) (after o n (at.SpotLife s b tag)).stage (view_after v h n (act_at o (at.SpotLife s b tag)))
   next_spot_life s b tag f =
       let i = (f.point).2 in
       let section : Section = i.0 in
       let o' : Own = after o n (at.SpotLife s b tag) in
       subst (λ x. Fits o' o'.stage (after_search_load v x (Life s) n)) (sym (section_is v _ i.1))
-      (subst (λ (r : Reading). Fits o' o'.stage (record v { section = Some (record section { reading = r }) })) (sym (missed_stays section.reading s b (Life s) n (i.2).state_is))
+      (subst (λ (r : Reading). Fits o' o'.stage (record v { section = Some (record section { reading = r }) }))
+      (sym (missed_stays section.reading s b (Life s) n (i.2).state_is))
       (record {
         owns = f.owns;
         unraised = λ z. f.unraised refl;
@@ -74,7 +97,13 @@ module _ (k : Shape) (h : List Mark) (o : Own) (v : View) (n : ℕ) where
             (
               _,
               refl,
-              record { searches = (i.2).searches; key_is = (i.2).key_is; sought = (i.2).sought; state_is = (i.2).state_is; here = (i.2).here },
+              record {
+                searches = (i.2).searches;
+                key_is = (i.2).key_is;
+                sought = (i.2).sought;
+                state_is = (i.2).state_is;
+                here = (i.2).here;
+              },
               ((n, known_here section.reading.loads (Life s) n false, refl), i.3),
             ),
           ),
@@ -82,20 +111,35 @@ module _ (k : Shape) (h : List Mark) (o : Own) (v : View) (n : ℕ) where
       }))
 
   -- taking a slot
-  pub needs_reserve : (spot : Spot) (expected : ℕ) → Fits o (at.Reserve (Leaf spot) expected) v → Needs k v n (act_at o (at.Reserve (Leaf spot) expected))
+  pub needs_reserve : (spot : Spot) (expected : ℕ) → Fits o (at.Reserve (Leaf spot) expected) v
+      → Needs k v n (act_at o (at.Reserve (Leaf spot) expected))
   needs_reserve spot expected f =
       let p = f.point in
-      record { some = p.4; unreserved = (p.1).3; empty = p.2; ticket = (let t = f.tickets in let two = two_owed spot o.retired in omega arith) }
+      record {
+        some = p.4;
+        unreserved = (p.1).3;
+        empty = p.2;
+        ticket = (let t = f.tickets in let two = two_owed spot o.retired in omega arith);
+      }
 
   pub next_reserve : (spot : Spot) (expected : ℕ) → Fits o (at.Reserve (Leaf spot) expected) v
-      → Fits (after o n (at.Reserve (Leaf spot) expected)) (after o n (at.Reserve (Leaf spot) expected)).stage (view_after v h n (act_at o (at.Reserve (Leaf spot) expected)))
+      → Fits (after o n (at.Reserve (Leaf spot) expected)) (after o n (at.Reserve (Leaf spot) expected)).stage
+      (view_after v h n (act_at o (at.Reserve (Leaf spot) expected)))
   next_reserve spot expected f = held (n == expected)
     where
       -- where none is free
-      empties : (rs : List ℕ) → o.retired ≡ rs → let o' : Own = cond (is_none_left rs) (answer (record o { free = 0 }) Full 0) (go (record o { free = 0 }) (at.Begin (Reuse (Leaf spot)))) in
+      empties : (rs : List ℕ) → o.retired ≡ rs → let o' : Own =
+          cond (is_none_left rs) (answer (record o { free = 0 }) Full 0) (go (record o { free = 0 }) (at.Begin (Reuse (Leaf spot)))) in
           Fits o' o'.stage (record v { latest = record v.latest { free = Some 0 }; seen = h })
       empties [] e = answers (record o { free = 0 }) _ Full 0
-          (record { owns = f.owns; outside = (f.point).0; empty = (f.point).3; bare = (f.point).1; no_hand = (f.point).2; unraised = f.unraised refl })
+          (record {
+            owns = f.owns;
+            outside = (f.point).0;
+            empty = (f.point).3;
+            bare = (f.point).1;
+            no_hand = (f.point).2;
+            unraised = f.unraised refl;
+          })
           (let t = f.tickets in omega arith)
       empties (s ∷ ss) e = record {
         owns = f.owns;
@@ -104,20 +148,37 @@ module _ (k : Shape) (h : List Mark) (o : Own) (v : View) (n : ℕ) where
         point = (((f.point).0, (f.point).1, (f.point).2, (f.point).3), ((f.point).5, (f.point).6));
       }
 
-      held : (z : Bool) → let o' : Own = cond z (go (record o { free = n - 1 }) (at.Seize (Leaf spot))) (cond (n == 0) (none_free (record o { free = 0 }) (Leaf spot)) (go (record o { free = n }) (at.Reserve (Leaf spot) n))) in
-          Fits o' o'.stage (cond z (record v { allowance = record v.allowance { tickets = v.allowance.tickets - 1 }; hands = record v.hands { reserved = true }; latest = record v.latest { free = Some (expected - 1) } })
-          (cond (n == 0) (record v { latest = record v.latest { free = Some 0 }; seen = h }) (record v { latest = record v.latest { free = Some n } })))
+      held : (z : Bool) → let o' : Own = cond z (go (record o { free = n - 1 }) (at.Seize (Leaf spot)))
+          (cond (n == 0) (none_free (record o { free = 0 }) (Leaf spot)) (go (record o { free = n }) (at.Reserve (Leaf spot) n))) in
+          Fits o' o'.stage (cond z (record v {
+            allowance = record v.allowance { tickets = v.allowance.tickets - 1 };
+            hands = record v.hands { reserved = true };
+            latest = record v.latest { free = Some (expected - 1) };
+          })
+          (cond (n == 0) (record v { latest = record v.latest { free = Some 0 }; seen = h })
+          (record v { latest = record v.latest { free = Some n } })))
       held true = record {
         owns = f.owns;
         unraised = λ z. f.unraised refl;
         tickets = (let t = f.tickets in let two = two_owed spot o.retired in omega arith);
-        point = ((f.point).0, (((f.point).1).0, ((f.point).1).1, ((f.point).1).2, refl, ((f.point).1).4), (f.point).2, (f.point).3, (f.point).5, (f.point).6);
+        point = (
+          (f.point).0,
+          (((f.point).1).0, ((f.point).1).1, ((f.point).1).2, refl, ((f.point).1).4),
+          (f.point).2,
+          (f.point).3,
+          (f.point).5,
+          (f.point).6,
+        );
       }
       held false = dite (ℕ_discrete n 0)
-          (λ e. subst (λ z. let o' : Own = cond z (none_free (record o { free = 0 }) (Leaf spot)) (go (record o { free = n }) (at.Reserve (Leaf spot) n)) in
-          Fits o' o'.stage (cond z (record v { latest = record v.latest { free = Some 0 }; seen = h }) (record v { latest = record v.latest { free = Some n } }))) (sym (eq-eqb n 0 e)) (empties o.retired refl))
-          (λ ne. subst (λ z. let o' : Own = cond z (none_free (record o { free = 0 }) (Leaf spot)) (go (record o { free = n }) (at.Reserve (Leaf spot) n)) in
-          Fits o' o'.stage (cond z (record v { latest = record v.latest { free = Some 0 }; seen = h }) (record v { latest = record v.latest { free = Some n } }))) (sym (ne_eqb n 0 ne))
+          (λ e. subst (λ z. let o' : Own = cond z (none_free (record o { free = 0 }) (Leaf spot))
+          (go (record o { free = n }) (at.Reserve (Leaf spot) n)) in
+          Fits o' o'.stage (cond z (record v { latest = record v.latest { free = Some 0 }; seen = h })
+          (record v { latest = record v.latest { free = Some n } }))) (sym (eq-eqb n 0 e)) (empties o.retired refl))
+          (λ ne. subst (λ z. let o' : Own = cond z (none_free (record o { free = 0 }) (Leaf spot))
+          (go (record o { free = n }) (at.Reserve (Leaf spot) n)) in
+          Fits o' o'.stage (cond z (record v { latest = record v.latest { free = Some 0 }; seen = h })
+          (record v { latest = record v.latest { free = Some n } }))) (sym (ne_eqb n 0 ne))
           (record {
             owns = f.owns;
             unraised = λ z. f.unraised refl;
@@ -128,16 +189,29 @@ module _ (k : Shape) (h : List Mark) (o : Own) (v : View) (n : ℕ) where
   pub needs_seize : (spot : Spot) → Fits o (at.Seize (Leaf spot)) v → Needs k v n (act_at o (at.Seize (Leaf spot)))
   needs_seize spot f = record { reserved = ((f.point).1).3; some = (λ e. let one = f.owns.scans in absurd (omega arith)) }
 
-  pub next_seize : (spot : Spot) → Fits o (at.Seize (Leaf spot)) v → Fits (after o n (at.Seize (Leaf spot))) (after o n (at.Seize (Leaf spot))).stage (view_after v h n (act_at o (at.Seize (Leaf spot))))
+  pub next_seize : (spot : Spot) → Fits o (at.Seize (Leaf spot)) v
+      → Fits (after o n (at.Seize (Leaf spot))) (after o n (at.Seize (Leaf spot))).stage
+      (view_after v h n (act_at o (at.Seize (Leaf spot))))
   next_seize spot f = got (n == 0)
     where
-      got : (z : Bool) → let m : Own = record o { scan = cond (o.scan == o.slots + o.places) 1 (o.scan + 1) } in let o' : Own = cond z (go (record m { hand = Some o.scan }) (at.Age (Leaf spot) o.scan)) (go m (at.Seize (Leaf spot))) in
-          Fits o' o'.stage (cond z (record v { hands = record v.hands { reserved = false; hand = Some (seized o.scan) }; seen = h ++ Given o.scan ∷ [] }) v)
+      got : (z : Bool) → let m : Own = record o { scan = cond (o.scan == o.slots + o.places) 1 (o.scan + 1) } in
+          let o' : Own = cond z (go (record m { hand = Some o.scan }) (at.Age (Leaf spot) o.scan)) (go m (at.Seize (Leaf spot))) in
+          Fits o' o'.stage (cond z (record v {
+            hands = record v.hands { reserved = false; hand = Some (seized o.scan) };
+            seen = h ++ Given o.scan ∷ [];
+          }) v)
       got true = record {
         owns = owns_scanned o v f.owns;
         unraised = λ z. f.unraised refl;
         tickets = f.tickets;
-        point = ((f.point).0, (((f.point).1).0, ((f.point).1).1, ((f.point).1).2, refl, ((f.point).1).4), refl, refl, (f.point).4, (f.point).5);
+        point = (
+          (f.point).0,
+          (((f.point).1).0, ((f.point).1).1, ((f.point).1).2, refl, ((f.point).1).4),
+          refl,
+          refl,
+          (f.point).4,
+          (f.point).5,
+        );
       }
       got false = record {
         owns = owns_scanned o v f.owns;
@@ -149,10 +223,18 @@ module _ (k : Shape) (h : List Mark) (o : Own) (v : View) (n : ℕ) where
   pub needs_age : (spot : Spot) (s : ℕ) → Fits o (at.Age (Leaf spot) s) v → Needs k v n (act_at o (at.Age (Leaf spot) s))
   needs_age spot s f = (seized s, inl ((f.point).2, refl))
 
-  pub next_age : (spot : Spot) (s : ℕ) → Fits o (at.Age (Leaf spot) s) v → Fits (after o n (at.Age (Leaf spot) s)) (at.LeafField spot 0) (view_after v h n (act_at o (at.Age (Leaf spot) s)))
+  pub next_age : (spot : Spot) (s : ℕ) → Fits o (at.Age (Leaf spot) s) v
+      → Fits (after o n (at.Age (Leaf spot) s)) (at.LeafField spot 0) (view_after v h n (act_at o (at.Age (Leaf spot) s)))
   next_age spot s f = let p = f.point in record {
     owns = owns_noted o v s (Life s) n false f.owns;
     unraised = λ z. f.unraised refl;
     tickets = f.tickets;
-    point = (p.0, bare_noted v s (Life s) n false [] [] None false p.1 refl, (s, p.3, ap (note_option s (read_at (Life s) n)) p.2 ∙ ap Some (held_here s (read_at (Life s) n) (seized s) refl)), p.4, p.5, omega arith);
+    point = (
+      p.0,
+      bare_noted v s (Life s) n false [] [] None false p.1 refl,
+      (s, p.3, ap (note_option s (read_at (Life s) n)) p.2 ∙ ap Some (held_here s (read_at (Life s) n) (seized s) refl)),
+      p.4,
+      p.5,
+      omega arith,
+    );
   }

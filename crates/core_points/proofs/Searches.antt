@@ -37,122 +37,256 @@ first_in xs a = (0, refl)
 -- The points of a caller.
 module _ (k : Shape) (h : List Mark) (o : Own) (v : View) (n : ℕ) where
   pub next_clock : Fits o at.EnterClock v → Fits (after o n at.EnterClock) (at.EnterKey n) (view_after v h n (act_at o at.EnterClock))
-  next_clock f = let p = f.point in record { owns = f.owns; unraised = λ z. f.unraised refl; tickets = f.tickets; point = (p.0, p.1, (record { number = n; at = length h }, refl, refl)) }
+  next_clock f = let p = f.point in record {
+    owns = f.owns;
+    unraised = λ z. f.unraised refl;
+    tickets = f.tickets;
+    point = (p.0, p.1, (record { number = n; at = length h }, refl, refl));
+  }
 
   pub needs_key : (clock : ℕ) → Fits o (at.EnterKey clock) v → Needs k v n (act_at o (at.EnterKey clock))
   needs_key clock f = (f.point).0
 
-  pub next_key : (clock : ℕ) → Fits o (at.EnterKey clock) v → Fits (after o n (at.EnterKey clock)) (at.EnterStamp clock) (view_after v h n (act_at o (at.EnterKey clock)))
-  next_key clock f = let p = f.point in record { owns = f.owns; unraised = λ z. f.unraised refl; tickets = f.tickets; point = (p.0, p.1, p.2, refl) }
+  pub next_key : (clock : ℕ) → Fits o (at.EnterKey clock) v
+      → Fits (after o n (at.EnterKey clock)) (at.EnterStamp clock) (view_after v h n (act_at o (at.EnterKey clock)))
+  next_key clock f = let p = f.point in record {
+    owns = f.owns;
+    unraised = λ z. f.unraised refl;
+    tickets = f.tickets;
+    point = (p.0, p.1, p.2, refl);
+  }
 
   pub needs_stamp : (clock : ℕ) → Fits o (at.EnterStamp clock) v → Needs k v n (act_at o (at.EnterStamp clock))
   needs_stamp clock f =
       let p = f.point in
-      let c = p.2 in
-      (c.0, record { entry = record { outside = p.0; free = ((p.1).0).0; key_fits = f.owns.key_fits }; clock = c.1; stamp_is = sym c.2; announced = p.3 })
+      let c = p.2 in (
+        c.0,
+        record {
+          entry = record { outside = p.0; free = ((p.1).0).0; key_fits = f.owns.key_fits };
+          clock = c.1;
+          stamp_is = sym c.2;
+          announced = p.3;
+        },
+      )
 
-  pub next_stamp : (clock : ℕ) → Fits o (at.EnterStamp clock) v → Fits (after o n (at.EnterStamp clock)) (at.AtLink 0 Right) (view_after v h n (act_at o (at.EnterStamp clock)))
+  pub next_stamp : (clock : ℕ) → Fits o (at.EnterStamp clock) v
+      → Fits (after o n (at.EnterStamp clock)) (at.AtLink 0 Right) (view_after v h n (act_at o (at.EnterStamp clock)))
   next_stamp clock f =
       let p = f.point in
-      record { owns = f.owns; unraised = λ z. f.unraised refl; tickets = f.tickets; point = (p.1, (new_section v (key_now o) clock (clocked_at v) h, refl, record { searches = refl; key_is = refl; sought = refl; state_is = refl; here = first_in [] 0 }, tt)) }
+      record {
+        owns = f.owns;
+        unraised = λ z. f.unraised refl;
+        tickets = f.tickets;
+        point = (
+          p.1,
+          (
+            new_section v (key_now o) clock (clocked_at v) h,
+            refl,
+            record { searches = refl; key_is = refl; sought = refl; state_is = refl; here = first_in [] 0 },
+            tt,
+          ),
+        );
+      }
 
   pub needs_link : (s : ℕ) (b : Side) → Fits o (at.AtLink s b) v → Needs k v n (act_at o (at.AtLink s b))
-  needs_link s b f = let i = (f.point).1 in (i.0, record { section_is = i.1; searches = (i.2).searches; stood = (i.2).here; loadable = refl })
+  needs_link s b f = let i = (f.point).1 in (
+    i.0,
+    record { section_is = i.1; searches = (i.2).searches; stood = (i.2).here; loadable = refl },
+  )
 
-  ended_point : (op : Op) → o.op ≡ op → (s : ℕ) (b : Side) (w : View) → Calm o w → Inside w (key_now o) (Missed s b) Nothing → Point (go o (ended op s b)) (ended op s b) w
+  ended_point : (op : Op) → o.op ≡ op → (s : ℕ) (b : Side) (w : View) → Calm o w → Inside w (key_now o) (Missed s b) Nothing
+      → Point (go o (ended op s b)) (ended op s b) w
   ended_point (Put key value) e s b w calm inside = (calm, ap is_put e, inside)
   ended_point (Get key) e s b w calm inside = (calm, (ap is_put e, (s, b, inside)))
   ended_point (Del key) e s b w calm inside = (calm, (ap is_put e, (s, b, inside)))
   ended_point (Set key value) e s b w calm inside = (calm, (ap is_put e, (s, b, inside)))
 
-  ended_owed : (w : Own) (op : Op) (s : ℕ) (b : Side) (more kept m : ℕ) → owed_op w.op w.hand w.retired + more + kept ≤ m → owed w (ended op s b) + more + kept ≤ m
+  ended_owed : (w : Own) (op : Op) (s : ℕ) (b : Side) (more kept m : ℕ) → owed_op w.op w.hand w.retired + more + kept ≤ m
+      → owed w (ended op s b) + more + kept ≤ m
   ended_owed w (Put key value) s b more kept m le = le
   ended_owed w (Get key) s b more kept m le = omega arith
   ended_owed w (Del key) s b more kept m le = omega arith
   ended_owed w (Set key value) s b more kept m le = omega arith
 
-  pub next_link : (s : ℕ) (b : Side) → Fits o (at.AtLink s b) v → Fits (after o n (at.AtLink s b)) (after o n (at.AtLink s b)).stage (view_after v h n (act_at o (at.AtLink s b)))
+  pub next_link : (s : ℕ) (b : Side) → Fits o (at.AtLink s b) v
+      → Fits (after o n (at.AtLink s b)) (after o n (at.AtLink s b)).stage (view_after v h n (act_at o (at.AtLink s b)))
   next_link s b f =
       let p = f.point in
       let i = p.1 in
       let section : Section = i.0 in
-      subst (λ x. Fits (after o n (at.AtLink s b)) (after o n (at.AtLink s b)).stage (after_search_load v x (Link s b) n)) (sym (section_is v _ i.1))
-      (subst (λ (r : Reading). Fits (after o n (at.AtLink s b)) (after o n (at.AtLink s b)).stage (record v { section = Some (record section { reading = r }) })) (sym (link_moves section.reading s b n (i.2).state_is))
+      subst (λ x. Fits (after o n (at.AtLink s b)) (after o n (at.AtLink s b)).stage (after_search_load v x (Link s b) n))
+      (sym (section_is v _ i.1))
+      (subst (λ (r : Reading). Fits (after o n (at.AtLink s b)) (after o n (at.AtLink s b)).stage
+      (record v { section = Some (record section { reading = r }) })) (sym (link_moves section.reading s b n (i.2).state_is))
       (go_on (n == 0) section p.0 i.2))
     where
       go_on : (z : Bool) (section : Section) → Calm o v → Stands section (key_now o) (At s b) →
-          let r' : Reading = record section.reading { loads = record { field = Link s b; number = n; stored = false } ∷ section.reading.loads } in
+          let r' : Reading = record section.reading {
+            loads =
+                record { field = Link s b; number = n; stored = false } ∷ section.reading.loads;
+          } in
           Fits (go o (cond z (ended o.op s b) (at.AtKey n s b))) (cond z (ended o.op s b) (at.AtKey n s b))
-          (record v { section = Some (record section { reading = cond z (record r' { state = Missed s b }) (record r' { state = Unread n s b; stood = n ∷ r'.stood }) }) })
+          (record v {
+            section = Some (record section {
+              reading =
+                  cond z (record r' { state = Missed s b }) (record r' { state = Unread n s b; stood = n ∷ r'.stood });
+            });
+          })
       go_on true section calm stands = record {
         owns = f.owns;
         unraised = λ z. f.unraised refl;
         tickets = ended_owed (go o (ended o.op s b)) o.op s b (4 * length o.rest) o.kept v.allowance.tickets f.tickets;
-        point = ended_point o.op refl s b _ calm (_, refl, record { searches = stands.searches; key_is = stands.key_is; sought = stands.sought; state_is = refl; here = stands.here }, tt);
+        point = ended_point o.op refl s b _ calm (
+          _,
+          refl,
+          record { searches = stands.searches; key_is = stands.key_is; sought = stands.sought; state_is = refl; here = stands.here },
+          tt,
+        );
       }
       go_on false section calm stands = record {
         owns = f.owns;
         unraised = λ z. f.unraised refl;
         tickets = f.tickets;
-        point = (calm, (_, refl, record { searches = stands.searches; key_is = stands.key_is; sought = stands.sought; state_is = refl; here = first_in section.reading.stood n }, deeper section.reading.stood n s stands.here));
+        point = (
+          calm,
+          (
+            _,
+            refl,
+            record {
+              searches = stands.searches;
+              key_is = stands.key_is;
+              sought = stands.sought;
+              state_is = refl;
+              here = first_in section.reading.stood n;
+            },
+            deeper section.reading.stood n s stands.here,
+          ),
+        );
       }
 
   pub needs_read : (s p : ℕ) (b : Side) → Fits o (at.AtKey s p b) v → Needs k v n (act_at o (at.AtKey s p b))
-  needs_read s p b f = let i = (f.point).1 in (i.0, record { section_is = i.1; searches = (i.2).searches; stood = (i.2).here; loadable = refl })
+  needs_read s p b f = let i = (f.point).1 in (
+    i.0,
+    record { section_is = i.1; searches = (i.2).searches; stood = (i.2).here; loadable = refl },
+  )
 
   is_get : (key : ℕ) → o.op ≡ Get key → o.op ≡ Get (key_now o)
   is_get key e = e ∙ ap (λ x. Get x) (sym (ap key_of e))
 
-  found_point : (op : Op) → o.op ≡ op → (s p : ℕ) (b : Side) (w : View) → Calm o w → Inside w (key_now o) (Found s p b None) (λ section. IsIn section.reading.stood p) → Point (go o (found op s p b)) (found op s p b) w
+  found_point : (op : Op) → o.op ≡ op → (s p : ℕ) (b : Side) (w : View) → Calm o w
+      → Inside w (key_now o) (Found s p b None) (λ section. IsIn section.reading.stood p) → Point (go o (found op s p b)) (found op s p b) w
   found_point (Put key value) e s p b w calm i = (calm, (ap is_put e, (s, p, b, (i.0, i.1, i.2, tt))))
   found_point (Get key) e s p b w calm i = (calm, is_get key e, (p, b, (i.0, i.1, i.2, tt)))
   found_point (Del key) e s p b w calm i = (calm, ap is_delete e, (i.0, i.1, i.2, (i.3, tt)))
   found_point (Set key value) e s p b w calm i = (calm, ap is_set e, (p, b, (i.0, i.1, i.2, tt)))
 
-  found_owed : (w : Own) (op : Op) (s p : ℕ) (b : Side) (more kept m : ℕ) → owed_op w.op w.hand w.retired + more + kept ≤ m → owed w (found op s p b) + more + kept ≤ m
+  found_owed : (w : Own) (op : Op) (s p : ℕ) (b : Side) (more kept m : ℕ) → owed_op w.op w.hand w.retired + more + kept ≤ m
+      → owed w (found op s p b) + more + kept ≤ m
   found_owed w (Put key value) s p b more kept m le = omega arith
   found_owed w (Get key) s p b more kept m le = le
   found_owed w (Del key) s p b more kept m le = le
   found_owed w (Set key value) s p b more kept m le = le
 
-  pub next_read : (s p : ℕ) (b : Side) → Fits o (at.AtKey s p b) v → Fits (after o n (at.AtKey s p b)) (after o n (at.AtKey s p b)).stage (view_after v h n (act_at o (at.AtKey s p b)))
+  pub next_read : (s p : ℕ) (b : Side) → Fits o (at.AtKey s p b) v
+      → Fits (after o n (at.AtKey s p b)) (after o n (at.AtKey s p b)).stage (view_after v h n (act_at o (at.AtKey s p b)))
   next_read s p b f =
       let i = (f.point).1 in
       let section : Section = i.0 in
-      subst (λ x. Fits (after o n (at.AtKey s p b)) (after o n (at.AtKey s p b)).stage (after_search_load v x (Key s) n)) (sym (section_is v _ i.1))
-      (subst (λ (r : Reading). Fits (after o n (at.AtKey s p b)) (after o n (at.AtKey s p b)).stage (record v { section = Some (record section { reading = r }) }))
-      (sym (key_moves section.reading s p b n (i.2).state_is ∙ ap (λ x. record section.reading { loads = record { field = Key s; number = n; stored = false } ∷ section.reading.loads; state = key_stand s p b (step_side x n) }) (i.2).sought))
+      subst (λ x. Fits (after o n (at.AtKey s p b)) (after o n (at.AtKey s p b)).stage (after_search_load v x (Key s) n))
+      (sym (section_is v _ i.1))
+      (subst (λ (r : Reading). Fits (after o n (at.AtKey s p b)) (after o n (at.AtKey s p b)).stage
+      (record v { section = Some (record section { reading = r }) }))
+      (sym (key_moves section.reading s p b n (i.2).state_is
+      ∙ ap (λ x. record section.reading {
+        loads = record { field = Key s; number = n; stored = false } ∷ section.reading.loads;
+        state = key_stand s p b (step_side x n);
+      }) (i.2).sought))
       (go_on (step_side (key_now o) n) section (f.point).0 i.2 i.3))
     where
       go_on : (z : Option Side) (section : Section) → Calm o v → Stands section (key_now o) (Unread s p b) → IsIn section.reading.stood p →
           Fits (go o (key_read o s p b z)) (key_read o s p b z)
-          (record v { section = Some (record section { reading = record section.reading { loads = record { field = Key s; number = n; stored = false } ∷ section.reading.loads; state = key_stand s p b z } }) })
+          (record v {
+            section = Some (record section {
+              reading =
+                  record section.reading {
+                    loads = record { field = Key s; number = n; stored = false } ∷ section.reading.loads;
+                    state = key_stand s p b z;
+                  };
+            });
+          })
       go_on None section calm stands stood = record {
         owns = f.owns;
         unraised = λ z. f.unraised refl;
         tickets = found_owed (go o (found o.op s p b)) o.op s p b (4 * length o.rest) o.kept v.allowance.tickets f.tickets;
-        point = found_point o.op refl s p b _ calm (_, refl, record { searches = stands.searches; key_is = stands.key_is; sought = stands.sought; state_is = refl; here = stands.here }, stood);
+        point = found_point o.op refl s p b _ calm (
+          _,
+          refl,
+          record { searches = stands.searches; key_is = stands.key_is; sought = stands.sought; state_is = refl; here = stands.here },
+          stood,
+        );
       }
       go_on (Some c) section calm stands stood = record {
         owns = f.owns;
         unraised = λ z. f.unraised refl;
         tickets = f.tickets;
-        point = (calm, (_, refl, record { searches = stands.searches; key_is = stands.key_is; sought = stands.sought; state_is = refl; here = stands.here }, tt));
+        point = (
+          calm,
+          (
+            _,
+            refl,
+            record {
+              searches = stands.searches;
+              key_is = stands.key_is;
+              sought = stands.sought;
+              state_is = refl;
+              here = stands.here;
+            },
+            tt,
+          ),
+        );
       }
 
   pub needs_value : (s : ℕ) → Fits o (at.Value s) v → Needs k v n (act_at o (at.Value s))
-  needs_value s f = let i = ((f.point).2).2 in (i.0, record { section_is = i.1; searches = (i.2).searches; stood = (i.2).here; loadable = refl })
+  needs_value s f = let i = ((f.point).2).2 in (
+    i.0,
+    record { section_is = i.1; searches = (i.2).searches; stood = (i.2).here; loadable = refl },
+  )
 
-  pub next_value : (s : ℕ) → Fits o (at.Value s) v → Fits (after o n (at.Value s)) (at.Leave (then.Value n)) (view_after v h n (act_at o (at.Value s)))
+  pub next_value : (s : ℕ) → Fits o (at.Value s) v
+      → Fits (after o n (at.Value s)) (at.Leave (then.Value n)) (view_after v h n (act_at o (at.Value s)))
   next_value s f =
       let p = (f.point).2 in
       let i = p.2 in
       let section : Section = i.0 in
-      subst (λ x. Fits (go o (at.Leave (then.Value n))) (at.Leave (then.Value n)) (after_search_load v x (Value s) n)) (sym (section_is v _ i.1))
-      (subst (λ (r : Reading). Fits (go o (at.Leave (then.Value n))) (at.Leave (then.Value n)) (record v { section = Some (record section { reading = r }) })) (sym (value_moves section.reading s p.0 p.1 n (i.2).state_is))
+      subst (λ x. Fits (go o (at.Leave (then.Value n))) (at.Leave (then.Value n)) (after_search_load v x (Value s) n))
+      (sym (section_is v _ i.1))
+      (subst (λ (r : Reading). Fits (go o (at.Leave (then.Value n))) (at.Leave (then.Value n))
+      (record v { section = Some (record section { reading = r }) })) (sym (value_moves section.reading s p.0 p.1 n (i.2).state_is))
       (record {
         owns = f.owns;
         unraised = λ z. f.unraised refl;
         tickets = (let t = f.tickets in omega arith);
-        point = ((f.point).0, ((f.point).1, (s, p.0, p.1, (_, refl, record { searches = (i.2).searches; key_is = (i.2).key_is; sought = (i.2).sought; state_is = refl; here = (i.2).here }, tt))));
+        point = (
+          (f.point).0,
+          (
+            (f.point).1,
+            (
+              s,
+              p.0,
+              p.1,
+              (
+                _,
+                refl,
+                record {
+                  searches = (i.2).searches;
+                  key_is = (i.2).key_is;
+                  sought = (i.2).sought;
+                  state_is = refl;
+                  here = (i.2).here;
+                },
+                tt,
+              ),
+            ),
+          ),
+        );
       }))

@@ -50,41 +50,63 @@ set_no_put (Get key) e = cc
 set_no_put (Del key) e = cc
 
 -- a note changes nothing of what is quiet
-pub quiet_noted : (o : Own) (v : View) (s : ℕ) (field : Field) (n : ℕ) (by_store : Bool) (commit : Option Commit) → Quiet o v commit → Quiet o (noting v s field n by_store) commit
+pub quiet_noted : (o : Own) (v : View) (s : ℕ) (field : Field) (n : ℕ) (by_store : Bool) (commit : Option Commit) → Quiet o v commit
+    → Quiet o (noting v s field n by_store) commit
 quiet_noted o v s field n by_store commit q =
     let kn : Known = record { field = field; number = n; stored = by_store } in
     (q.0, q.1, ap (note_moving s kn) q.2, q.3, q.4, ap (note_option s kn) q.5, q.6)
 
 -- the caller's call starts again with nothing held
-pub quiet_calm : (o : Own) (v : View) → Quiet o v None → v.locks ≡ [] → Bare v [] None false × HandFits o.hand o.hand_life (key_now o) (value_in o.op) v.hands.hand
-quiet_calm o v q none = ((none, q.1, q.2, q.3, q.4), subst (λ x. HandFits x o.hand_life (key_now o) (value_in o.op) v.hands.hand) (sym q.6) q.5)
+pub quiet_calm : (o : Own) (v : View) → Quiet o v None → v.locks ≡ []
+    → Bare v [] None false × HandFits o.hand o.hand_life (key_now o) (value_in o.op) v.hands.hand
+quiet_calm o v q none = (
+  (none, q.1, q.2, q.3, q.4),
+  subst (λ x. HandFits x o.hand_life (key_now o) (value_in o.op) v.hands.hand) (sym q.6) q.5,
+)
 
 pub quiet_hand : (o : Own) (v : View) → Quiet o v None → HandFits o.hand o.hand_life (key_now o) (value_in o.op) v.hands.hand
 quiet_hand o v q = subst (λ x. HandFits x o.hand_life (key_now o) (value_in o.op) v.hands.hand) (sym q.6) q.5
 
 -- outside the section, with no slot in hand
-pub calm_quiet : (o : Own) (v : View) (section : Section) (h : List Mark) → Calm o v → is_put o.op ≡ false → Quiet o (leaving v section h) None
+pub calm_quiet : (o : Own) (v : View) (section : Section) (h : List Mark) → Calm o v → is_put o.op ≡ false
+    → Quiet o (leaving v section h) None
 calm_quiet o v section h c no_put =
-    let empty = (c.2).empty no_put in
-    (refl, (c.0).1, (c.0).2, (c.0).3, (c.0).4, subst (λ x. HandFits x o.hand_life (key_now o) (value_in o.op) v.hands.hand) empty c.1, empty)
+    let empty = (c.2).empty no_put in (
+      refl,
+      (c.0).1,
+      (c.0).2,
+      (c.0).3,
+      (c.0).4,
+      subst (λ x. HandFits x o.hand_life (key_now o) (value_in o.op) v.hands.hand) empty c.1,
+      empty,
+    )
 
 module _ (k : Shape) (h : List Mark) (o : Own) (v : View) (n : ℕ) where
   pub needs_set_life : (s : ℕ) → Fits o (at.SetLife s) v → Needs k v n (act_at o (at.SetLife s))
-  needs_set_life s f = let i = ((f.point).2).2 in (i.0, record { section_is = i.1; searches = (i.2).searches; stood = (i.2).here; loadable = refl })
+  needs_set_life s f = let i = ((f.point).2).2 in
+      (i.0, record { section_is = i.1; searches = (i.2).searches; stood = (i.2).here; loadable = refl })
 
-  pub next_set_life : (s : ℕ) → Fits o (at.SetLife s) v → Fits (after o n (at.SetLife s)) (after o n (at.SetLife s)).stage (view_after v h n (act_at o (at.SetLife s)))
+  pub next_set_life : (s : ℕ) → Fits o (at.SetLife s) v
+      → Fits (after o n (at.SetLife s)) (after o n (at.SetLife s)).stage (view_after v h n (act_at o (at.SetLife s)))
   next_set_life s f =
       let q = (f.point).2 in
       let p : ℕ = q.0 in
       let calm = (f.point).0 in
       let is = (f.point).1 in
-      found_next h o v n s p q.1 (Life s) (λ r. Unit {0}) (λ r. LoadedGeneration r s (n / 2)) (at.Leave (then.Replace s (n / 2))) f.owns (f.unraised refl)
+      found_next h o v n s p q.1 (Life s) (λ r. Unit {0}) (λ r. LoadedGeneration r s (n / 2)) (at.Leave (then.Replace s (n / 2))) f.owns
+      (f.unraised refl)
       (let t = f.tickets in let one = set_owed o.op o.hand o.retired is in omega arith) q.2
-      (λ r e here u. (life_still r s p q.1 s n e, subst (λ (x : Reading). LoadedGeneration x s (n / 2)) (sym (life_loaded r s p q.1 s n e)) (n, known_here r.loads (Life s) n false, refl)))
+      (λ r e here u. (
+        life_still r s p q.1 s n e,
+        subst (λ (x : Reading). LoadedGeneration x s (n / 2)) (sym (life_loaded r s p q.1 s n e))
+            (n, known_here r.loads (Life s) n false, refl),
+      ))
       (λ section i. (calm, (is, (p, q.1, i))))
 
-  pub next_replace : (s generation : ℕ) → ((section : Section) → v.section ≡ Some section → (t : ℕ) → IsIn section.reading.stood t → t < table_of o) → Fits o (at.Leave (then.Replace s generation)) v
-      → Fits (after o n (at.Leave (then.Replace s generation))) (at.SetLock s generation) (view_after v h n (act_at o (at.Leave (then.Replace s generation))))
+  pub next_replace : (s generation : ℕ) → ((section : Section) → v.section ≡ Some section → (t : ℕ) → IsIn section.reading.stood t
+      → t < table_of o) → Fits o (at.Leave (then.Replace s generation)) v
+      → Fits (after o n (at.Leave (then.Replace s generation))) (at.SetLock s generation)
+      (view_after v h n (act_at o (at.Leave (then.Replace s generation))))
   next_replace s generation stood f =
       let p = (f.point).1 in
       let q = p.1 in
@@ -106,12 +128,18 @@ module _ (k : Shape) (h : List Mark) (o : Own) (v : View) (n : ℕ) where
 
   -- the lock
   pub needs_set_lock : (s generation : ℕ) → Fits o (at.SetLock s generation) v → Needs k v n (act_at o (at.SetLock s generation))
-  needs_set_lock s generation f = record { outside = ((f.point).0).0; few = subst (λ (ls : List HeldLock). length ls < 5) (sym (f.point).1) (omega arith) }
+  needs_set_lock s generation f = record {
+    outside = ((f.point).0).0;
+    few = subst (λ (ls : List HeldLock). length ls < 5) (sym (f.point).1) (omega arith);
+  }
 
-  pub next_set_lock : (s generation : ℕ) → Fits o (at.SetLock s generation) v → Fits (after o n (at.SetLock s generation)) (after o n (at.SetLock s generation)).stage (view_after v h n (act_at o (at.SetLock s generation)))
+  pub next_set_lock : (s generation : ℕ) → Fits o (at.SetLock s generation) v
+      → Fits (after o n (at.SetLock s generation)) (after o n (at.SetLock s generation)).stage
+      (view_after v h n (act_at o (at.SetLock s generation)))
   next_set_lock s generation f = got (n == 0)
     where
-      got : (z : Bool) → let o' : Own = cond z (go (record o { locks = s ∷ o.locks }) (at.SetCheck s generation)) (go o (cond (is_none_left o.locks) at.EnterClock (at.Unlock last.Again))) in
+      got : (z : Bool) → let o' : Own = cond z (go (record o { locks = s ∷ o.locks }) (at.SetCheck s generation))
+          (go o (cond (is_none_left o.locks) at.EnterClock (at.Unlock last.Again))) in
           Fits o' o'.stage (cond z (record v { locks = new_lock s ∷ v.locks }) v)
       got true = record {
         owns = owns_more o v s f.owns;
@@ -122,8 +150,14 @@ module _ (k : Shape) (h : List Mark) (o : Own) (v : View) (n : ℕ) where
       got false =
           let q = (f.point).0 in
           let c = quiet_calm o v q (f.point).1 in
-          subst (λ ls. let st : Stage = cond (is_none_left ls) at.EnterClock (at.Unlock last.Again) in Fits (go o st) st v) (sym (no_locks o v f.owns (f.point).1))
-          (record { owns = f.owns; unraised = λ z. f.unraised refl; tickets = f.tickets; point = (q.0, (c.0, c.1, ready_set o.op o.hand o.spare o.retired (f.point).3 q.6)) })
+          subst (λ ls. let st : Stage = cond (is_none_left ls) at.EnterClock (at.Unlock last.Again) in Fits (go o st) st v)
+          (sym (no_locks o v f.owns (f.point).1))
+          (record {
+            owns = f.owns;
+            unraised = λ z. f.unraised refl;
+            tickets = f.tickets;
+            point = (q.0, (c.0, c.1, ready_set o.op o.hand o.spare o.retired (f.point).3 q.6));
+          })
 
   -- a load under the lock
   setting_more : (s generation : ℕ) (known : List Known) (field : Field) → Setting o v s generation (one_lock s known) None
@@ -135,10 +169,13 @@ module _ (k : Shape) (h : List Mark) (o : Own) (v : View) (n : ℕ) where
   pub needs_set_check : (s generation : ℕ) → Fits o (at.SetCheck s generation) v → Needs k v n (act_at o (at.SetCheck s generation))
   needs_set_check s generation f = record { held = (_, ap (λ ls. lock_of ls s) (f.point).1 ∙ one_locked s []); loadable = refl }
 
-  pub next_set_check : (s generation : ℕ) → Fits o (at.SetCheck s generation) v → Fits (after o n (at.SetCheck s generation)) (after o n (at.SetCheck s generation)).stage (view_after v h n (act_at o (at.SetCheck s generation)))
+  pub next_set_check : (s generation : ℕ) → Fits o (at.SetCheck s generation) v
+      → Fits (after o n (at.SetCheck s generation)) (after o n (at.SetCheck s generation)).stage
+      (view_after v h n (act_at o (at.SetCheck s generation)))
   next_set_check s generation f = judged (n == 2 * generation) refl (setting_more s generation [] (Life s) f.point)
     where
-      judged : (z : Bool) → (n == 2 * generation) ≡ z → Setting o (noting v s (Life s) n false) s generation (one_lock s (read_at (Life s) n ∷ [])) None
+      judged : (z : Bool) → (n == 2 * generation) ≡ z
+          → Setting o (noting v s (Life s) n false) s generation (one_lock s (read_at (Life s) n ∷ [])) None
           → let st : Stage = cond z (at.SetValue s) (at.Unlock last.Again) in Fits (go o st) st (noting v s (Life s) n false)
       judged true e p = record {
         owns = owns_noted o v s (Life s) n false f.owns;
@@ -154,7 +191,15 @@ module _ (k : Shape) (h : List Mark) (o : Own) (v : View) (n : ℕ) where
             unraised = λ z. f.unraised refl;
             tickets = f.tickets;
             point = (
-              (q.0, q.1, q.2, q.3, q.4, subst AreClear (sym p.1) (clear_one s (read_at (Life s) n ∷ [])), ap is_none_left (own_lock o w s _ owns p.1 refl)),
+              (
+                q.0,
+                q.1,
+                q.2,
+                q.3,
+                q.4,
+                subst AreClear (sym p.1) (clear_one s (read_at (Life s) n ∷ [])),
+                ap is_none_left (own_lock o w s _ owns p.1 refl),
+              ),
               subst (λ x. HandFits x o.hand_life (key_now o) (value_in o.op) w.hands.hand) (sym q.6) q.5,
               ready_set o.op o.hand o.spare o.retired p.3 q.6,
             );
@@ -163,7 +208,8 @@ module _ (k : Shape) (h : List Mark) (o : Own) (v : View) (n : ℕ) where
   pub needs_set_value : (s : ℕ) → Fits o (at.SetValue s) v → Needs k v n (act_at o (at.SetValue s))
   needs_set_value s f = record { held = (_, ap (λ ls. lock_of ls s) ((f.point).1).1 ∙ one_locked s _); loadable = refl }
 
-  pub next_set_value : (s : ℕ) → Fits o (at.SetValue s) v → Fits (after o n (at.SetValue s)) (committing o (update.Value s n)) (view_after v h n (act_at o (at.SetValue s)))
+  pub next_set_value : (s : ℕ) → Fits o (at.SetValue s) v
+      → Fits (after o n (at.SetValue s)) (committing o (update.Value s n)) (view_after v h n (act_at o (at.SetValue s)))
   next_set_value s f =
       let g : ℕ = (f.point).0 in
       let p = setting_more s g (read_at (Life s) (2 * g) ∷ []) (Value s) (f.point).1 in record {
@@ -174,7 +220,8 @@ module _ (k : Shape) (h : List Mark) (o : Own) (v : View) (n : ℕ) where
       }
 
   -- the store
-  pub needs_set_store : (s old front : ℕ) → Fits o (at.Store (update.Value s old) front) v → Needs k v n (act_at o (at.Store (update.Value s old) front))
+  pub needs_set_store : (s old front : ℕ) → Fits o (at.Store (update.Value s old) front) v
+      → Needs k v n (act_at o (at.Store (update.Value s old) front))
   needs_set_store s old front f =
       let g : ℕ = (f.point).0 in
       let p = (f.point).1 in
@@ -188,13 +235,15 @@ module _ (k : Shape) (h : List Mark) (o : Own) (v : View) (n : ℕ) where
           kept = has.1;
           found = has.3;
           generation_is = has.4;
-          life_now = ap (λ ls. known_in (known_of (lock_of ls s)) (Life s)) p.1 ∙ ap (λ x. known_in (known_of x) (Life s)) (one_locked s (set_known s g old)) ∙ known_here [] (Life s) (2 * g) false;
+          life_now = ap (λ ls. known_in (known_of (lock_of ls s)) (Life s)) p.1
+              ∙ ap (λ x. known_in (known_of x) (Life s)) (one_locked s (set_known s g old)) ∙ known_here [] (Life s) (2 * g) false;
         },
         has.2,
       )
 
   pub next_set_store : (s old front : ℕ) → Fits o (at.Store (update.Value s old) front) v
-      → Fits (after o n (at.Store (update.Value s old) front)) (at.Even (update.Value s old) front) (view_after v h n (act_at o (at.Store (update.Value s old) front)))
+      → Fits (after o n (at.Store (update.Value s old) front)) (at.Even (update.Value s old) front)
+      (view_after v h n (act_at o (at.Store (update.Value s old) front)))
   next_set_store s old front f =
       let g : ℕ = (f.point).0 in
       let p = (f.point).1 in
@@ -202,11 +251,18 @@ module _ (k : Shape) (h : List Mark) (o : Own) (v : View) (n : ℕ) where
       let w : View = noting v s (Value s) value true in
       let owns = owns_noted o v s (Value s) value true f.owns in
       let q = quiet_noted o v s (Value s) value true (Some (record { found = front; stored = false })) p.0 in
-      let is : w.locks ≡ one_lock s (stored_at (Value s) value ∷ set_known s g old) = ap (change_lock s (note_lock (stored_at (Value s) value))) p.1 ∙ one_noted s (set_known s g old) (Value s) value true in
-      subst (λ x. Fits (go o (at.Even (update.Value s old) front)) (at.Even (update.Value s old) front) (after_replace v x s (key_now o) value h)) (sym (commit_is v _ (p.0).1))
+      let is : w.locks ≡ one_lock s (stored_at (Value s) value ∷ set_known s g old) =
+      ap (change_lock s (note_lock (stored_at (Value s) value))) p.1 ∙ one_noted s (set_known s g old) (Value s) value true in
+      subst (λ x. Fits (go o (at.Even (update.Value s old) front)) (at.Even (update.Value s old) front)
+      (after_replace v x s (key_now o) value h)) (sym (commit_is v _ (p.0).1))
       (record {
         owns = owns;
         unraised = λ z. f.unraised refl;
         tickets = (let t = f.tickets in omega arith);
-        point = ((q.0, refl, q.2, q.3, q.4, q.5, q.6), ap is_none_left (own_lock o w s _ owns is refl), subst AreClear (sym is) (clear_one s (stored_at (Value s) value ∷ set_known s g old)), p.3);
+        point = (
+          (q.0, refl, q.2, q.3, q.4, q.5, q.6),
+          ap is_none_left (own_lock o w s _ owns is refl),
+          subst AreClear (sym is) (clear_one s (stored_at (Value s) value ∷ set_known s g old)),
+          p.3,
+        );
       })

@@ -43,12 +43,19 @@ module _ (k : Shape) (h : List Mark) (o : Own) (v : View) (n : ℕ) where
       record { some = p.1; unreserved = (i.1).3; empty = i.2; ticket = (let t = f.tickets in omega arith) }
 
   pub next_reserve_spare : (expected : ℕ) → Fits o (at.Reserve Spare expected) v
-      → Fits (after o n (at.Reserve Spare expected)) (after o n (at.Reserve Spare expected)).stage (view_after v h n (act_at o (at.Reserve Spare expected)))
+      → Fits (after o n (at.Reserve Spare expected)) (after o n (at.Reserve Spare expected)).stage
+      (view_after v h n (act_at o (at.Reserve Spare expected)))
   next_reserve_spare expected f = held (n == expected)
     where
-      held : (z : Bool) → let o' : Own = cond z (go (record o { free = n - 1 }) (at.Seize Spare)) (cond (n == 0) (none_free (record o { free = 0 }) Spare) (go (record o { free = n }) (at.Reserve Spare n))) in
-          Fits o' o'.stage (cond z (record v { allowance = record v.allowance { tickets = v.allowance.tickets - 1 }; hands = record v.hands { reserved = true }; latest = record v.latest { free = Some (expected - 1) } })
-          (cond (n == 0) (record v { latest = record v.latest { free = Some 0 }; seen = h }) (record v { latest = record v.latest { free = Some n } })))
+      held : (z : Bool) → let o' : Own = cond z (go (record o { free = n - 1 }) (at.Seize Spare))
+          (cond (n == 0) (none_free (record o { free = 0 }) Spare) (go (record o { free = n }) (at.Reserve Spare n))) in
+          Fits o' o'.stage (cond z (record v {
+            allowance = record v.allowance { tickets = v.allowance.tickets - 1 };
+            hands = record v.hands { reserved = true };
+            latest = record v.latest { free = Some (expected - 1) };
+          })
+          (cond (n == 0) (record v { latest = record v.latest { free = Some 0 }; seen = h })
+          (record v { latest = record v.latest { free = Some n } })))
       held true =
           let p = f.point in
           let i = p.0 in
@@ -59,21 +66,35 @@ module _ (k : Shape) (h : List Mark) (o : Own) (v : View) (n : ℕ) where
             point = (i.0, (b.0, b.1, b.2, refl, b.4), i.2, i.3, p.2, p.3, p.4);
           }
       held false = dite (ℕ_discrete n 0)
-          (λ e. subst (λ z. let o' : Own = cond z (none_free (record o { free = 0 }) Spare) (go (record o { free = n }) (at.Reserve Spare n)) in
-          Fits o' o'.stage (cond z (record v { latest = record v.latest { free = Some 0 }; seen = h }) (record v { latest = record v.latest { free = Some n } }))) (sym (eq-eqb n 0 e))
+          (λ e. subst (λ z. let o' : Own = cond z (none_free (record o { free = 0 }) Spare)
+          (go (record o { free = n }) (at.Reserve Spare n)) in
+          Fits o' o'.stage (cond z (record v { latest = record v.latest { free = Some 0 }; seen = h })
+          (record v { latest = record v.latest { free = Some n } }))) (sym (eq-eqb n 0 e))
           (record { owns = f.owns; unraised = λ z. f.unraised refl; tickets = f.tickets; point = ((f.point).0, (f.point).2) }))
-          (λ ne. subst (λ z. let o' : Own = cond z (none_free (record o { free = 0 }) Spare) (go (record o { free = n }) (at.Reserve Spare n)) in
-          Fits o' o'.stage (cond z (record v { latest = record v.latest { free = Some 0 }; seen = h }) (record v { latest = record v.latest { free = Some n } }))) (sym (ne_eqb n 0 ne))
-          (record { owns = f.owns; unraised = λ z. f.unraised refl; tickets = f.tickets; point = ((f.point).0, omega arith, (f.point).2, (f.point).3, (f.point).4) }))
+          (λ ne. subst (λ z. let o' : Own = cond z (none_free (record o { free = 0 }) Spare)
+          (go (record o { free = n }) (at.Reserve Spare n)) in
+          Fits o' o'.stage (cond z (record v { latest = record v.latest { free = Some 0 }; seen = h })
+          (record v { latest = record v.latest { free = Some n } }))) (sym (ne_eqb n 0 ne))
+          (record {
+            owns = f.owns;
+            unraised = λ z. f.unraised refl;
+            tickets = f.tickets;
+            point = ((f.point).0, omega arith, (f.point).2, (f.point).3, (f.point).4);
+          }))
 
   pub needs_seize_spare : Fits o (at.Seize Spare) v → Needs k v n (act_at o (at.Seize Spare))
   needs_seize_spare f = record { reserved = ((f.point).1).3; some = (λ e. let one = f.owns.scans in absurd (omega arith)) }
 
-  pub next_seize_spare : Fits o (at.Seize Spare) v → Fits (after o n (at.Seize Spare)) (after o n (at.Seize Spare)).stage (view_after v h n (act_at o (at.Seize Spare)))
+  pub next_seize_spare : Fits o (at.Seize Spare) v
+      → Fits (after o n (at.Seize Spare)) (after o n (at.Seize Spare)).stage (view_after v h n (act_at o (at.Seize Spare)))
   next_seize_spare f = got (n == 0)
     where
-      got : (z : Bool) → let m : Own = record o { scan = cond (o.scan == o.slots + o.places) 1 (o.scan + 1) } in let o' : Own = cond z (go (record m { hand = Some o.scan }) (at.Age Spare o.scan)) (go m (at.Seize Spare)) in
-          Fits o' o'.stage (cond z (record v { hands = record v.hands { reserved = false; hand = Some (seized o.scan) }; seen = h ++ Given o.scan ∷ [] }) v)
+      got : (z : Bool) → let m : Own = record o { scan = cond (o.scan == o.slots + o.places) 1 (o.scan + 1) } in
+          let o' : Own = cond z (go (record m { hand = Some o.scan }) (at.Age Spare o.scan)) (go m (at.Seize Spare)) in
+          Fits o' o'.stage (cond z (record v {
+            hands = record v.hands { reserved = false; hand = Some (seized o.scan) };
+            seen = h ++ Given o.scan ∷ [];
+          }) v)
       got true =
           let p = f.point in
           let b = p.1 in record {
@@ -92,7 +113,8 @@ module _ (k : Shape) (h : List Mark) (o : Own) (v : View) (n : ℕ) where
   pub needs_age_spare : (s : ℕ) → Fits o (at.Age Spare s) v → Needs k v n (act_at o (at.Age Spare s))
   needs_age_spare s f = (seized s, inl ((f.point).2, refl))
 
-  pub next_age_spare : (s : ℕ) → Fits o (at.Age Spare s) v → Fits (after o n (at.Age Spare s)) (at.Keep s) (view_after v h n (act_at o (at.Age Spare s)))
+  pub next_age_spare : (s : ℕ) → Fits o (at.Age Spare s) v
+      → Fits (after o n (at.Age Spare s)) (at.Keep s) (view_after v h n (act_at o (at.Age Spare s)))
   next_age_spare s f = let p = f.point in record {
     owns = owns_noted o v s (Life s) n false f.owns;
     unraised = λ z. f.unraised refl;
@@ -100,7 +122,11 @@ module _ (k : Shape) (h : List Mark) (o : Own) (v : View) (n : ℕ) where
     point = (
       p.0,
       bare_noted v s (Life s) n false [] [] None false p.1 refl,
-      (record { slot = s; known = read_at (Life s) n ∷ (seized s).known; raised = false }, ap (note_option s (read_at (Life s) n)) p.2 ∙ ap Some (held_here s (read_at (Life s) n) (seized s) refl), refl),
+      (
+        record { slot = s; known = read_at (Life s) n ∷ (seized s).known; raised = false },
+        ap (note_option s (read_at (Life s) n)) p.2 ∙ ap Some (held_here s (read_at (Life s) n) (seized s) refl),
+        refl,
+      ),
       p.4,
       p.5,
       p.6,
@@ -108,7 +134,13 @@ module _ (k : Shape) (h : List Mark) (o : Own) (v : View) (n : ℕ) where
   }
 
   pub needs_keep : (s : ℕ) → Fits o (at.Keep s) v → Needs k v n (act_at o (at.Keep s))
-  needs_keep s f = let q = (f.point).2 in (q.0, record { in_hand = (q.1, q.2); none = no_spare v.hands.spare o.spare f.owns.spare_is (ap is_some (f.point).5) })
+  needs_keep s f = let q = (f.point).2 in (
+    q.0,
+    record {
+      in_hand = (q.1, q.2);
+      none = no_spare v.hands.spare o.spare f.owns.spare_is (ap is_some (f.point).5);
+    },
+  )
 
   pub next_keep : (s : ℕ) → Fits o (at.Keep s) v → Fits (after o n (at.Keep s)) at.EnterClock (view_after v h n (act_at o (at.Keep s)))
   next_keep s f =

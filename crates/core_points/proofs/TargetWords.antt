@@ -61,13 +61,16 @@ node_words t ne (suc (suc zero)) zero lt small = ne_eqb t.node.node t.node.paren
 node_words t ne (suc (suc zero)) (suc zero) lt small = refl
 node_words t ne (suc (suc zero)) (suc (suc j)) lt small = absurd (omega arith)
 node_words t ne (suc (suc (suc zero))) zero lt small = refl
-node_words t ne (suc (suc (suc zero))) (suc zero) lt small = ap (λ z. z && same_side Left t.node.side) (ne_eqb t.node.node t.node.parent (λ e. ne (sym e)))
+node_words t ne (suc (suc (suc zero))) (suc zero) lt small =
+    ap (λ z. z && same_side Left t.node.side) (ne_eqb t.node.node t.node.parent (λ e. ne (sym e)))
 node_words t ne (suc (suc (suc zero))) (suc (suc zero)) lt small = refl
 node_words t ne (suc (suc (suc zero))) (suc (suc (suc j))) lt small = absurd (omega arith)
 node_words t ne (suc (suc (suc (suc zero)))) zero lt small = refl
-node_words t ne (suc (suc (suc (suc zero)))) (suc zero) lt small = ap (λ z. z && same_side Right t.node.side) (ne_eqb t.node.node t.node.parent (λ e. ne (sym e)))
+node_words t ne (suc (suc (suc (suc zero)))) (suc zero) lt small =
+    ap (λ z. z && same_side Right t.node.side) (ne_eqb t.node.node t.node.parent (λ e. ne (sym e)))
 node_words t ne (suc (suc (suc (suc zero)))) (suc (suc zero)) lt small = refl
-node_words t ne (suc (suc (suc (suc zero)))) (suc (suc (suc zero))) lt small = ap (λ z. z && same_side Right Left) (eq-eqb t.node.node t.node.node refl)
+node_words t ne (suc (suc (suc (suc zero)))) (suc (suc (suc zero))) lt small =
+    ap (λ z. z && same_side Right Left) (eq-eqb t.node.node t.node.node refl)
 node_words t ne (suc (suc (suc (suc zero)))) (suc (suc (suc (suc j)))) lt small = absurd (omega arith)
 node_words t ne (suc (suc (suc (suc (suc i))))) j lt small = absurd (omega arith)
 
@@ -87,12 +90,14 @@ module _ (d : Node) (u : Successor) (apart : AreApart d u) where
   fifth_words below (suc (suc (suc (suc zero)))) lt = refl
   fifth_words below (suc (suc (suc (suc (suc j))))) lt = absurd (omega arith)
 
-  sixth_words : d.parent ≢ d.node → (z : Bool) → (u.parent == d.node) ≡ z → (j : ℕ) → j < 6 → (same_field (sixth z) (target_word (two_children d u) j) ≡ false) ⊎ IsSkipped (two_children d u) 7 j
+  sixth_words : d.parent ≢ d.node → (z : Bool) → (u.parent == d.node) ≡ z → (j : ℕ) → j < 6
+      → (same_field (sixth z) (target_word (two_children d u) j) ≡ false) ⊎ IsSkipped (two_children d u) 7 j
   sixth_words ne true e zero lt = inl refl
   sixth_words ne true e (suc zero) lt = inl (other_slot u.parent d.parent Right d.side (λ s. ne (sym s ∙ eqb-true u.parent d.node e)))
   sixth_words ne true e (suc (suc zero)) lt = inl refl
   sixth_words ne true e (suc (suc (suc zero))) lt = inl (ap (λ z. z && same_side Right Left) e)
-  sixth_words ne true e (suc (suc (suc (suc zero)))) lt = inr (record { successor = u; has = refl; below_node = eqb-true u.parent d.node e; which = inr (refl, omega arith) })
+  sixth_words ne true e (suc (suc (suc (suc zero)))) lt =
+      inr (record { successor = u; has = refl; below_node = eqb-true u.parent d.node e; which = inr (refl, omega arith) })
   sixth_words ne true e (suc (suc (suc (suc (suc zero))))) lt = inl refl
   sixth_words ne true e (suc (suc (suc (suc (suc (suc j)))))) lt = absurd (omega arith)
   sixth_words ne false e zero lt = inl refl
@@ -124,7 +129,8 @@ module _ (d : Node) (u : Successor) (apart : AreApart d u) where
 
   eighth_sixth : (z : Bool) → (u.parent == d.node) ≡ z → same_field (Link u.slot Left) (sixth z) ≡ false
   eighth_sixth true e = other_slot u.slot u.parent Left Right (λ s. apart.from_node (s ∙ eqb-true u.parent d.node e))
-  eighth_sixth false e = other_slot u.slot u.parent Left Left (λ s. (apart.walk (λ same. absurd (let q : true ≡ false = sym (eq-eqb u.parent d.node same) ∙ e in cc))).1 (sym s))
+  eighth_sixth false e = other_slot u.slot u.parent Left Left
+      (λ s. (apart.walk (λ same. absurd (let q : true ≡ false = sym (eq-eqb u.parent d.node same) ∙ e in cc))).1 (sym s))
 
   eighth_words : (j : ℕ) → j < 8 → same_field (Link u.slot Left) (target_word (two_children d u) j) ≡ false
   eighth_words zero lt = refl
@@ -151,13 +157,17 @@ module _ (d : Node) (u : Successor) (apart : AreApart d u) where
   both_words ne (suc (suc (suc (suc (suc (suc (suc (suc (suc i))))))))) j lt le small now = absurd (omega arith)
 
 -- an earlier word isn't the one that is loaded, or is to be loaded twice
-pub words_apart : (locks : List HeldLock) (t : Target) (i j : ℕ) → HoldsAll locks t → IsLoadedNow t i → j < i → i < target_words t.successor → (same_field (target_word t i) (target_word t j) ≡ false) ⊎ IsSkipped t (suc i) j
-words_apart locks t i j all now lt small = dite (dec_le 5 i) (λ le. more t.successor refl le small all.4) (λ few. inl (node_words t all.3 i j lt (omega arith)))
+pub words_apart : (locks : List HeldLock) (t : Target) (i j : ℕ) → HoldsAll locks t → IsLoadedNow t i → j < i → i < target_words t.successor
+    → (same_field (target_word t i) (target_word t j) ≡ false) ⊎ IsSkipped t (suc i) j
+words_apart locks t i j all now lt small = dite (dec_le 5 i) (λ le. more t.successor refl le small all.4)
+    (λ few. inl (node_words t all.3 i j lt (omega arith)))
   where
-    more : (h : Option Successor) → t.successor ≡ h → 5 ≤ i → i < target_words h → HoldsSuccessorLocks locks t.node h → (same_field (target_word t i) (target_word t j) ≡ false) ⊎ IsSkipped t (suc i) j
+    more : (h : Option Successor) → t.successor ≡ h → 5 ≤ i → i < target_words h → HoldsSuccessorLocks locks t.node h
+        → (same_field (target_word t i) (target_word t j) ≡ false) ⊎ IsSkipped t (suc i) j
     more None e le small held = absurd (omega arith)
     more (Some u) e le small held =
-        subst (λ h. let x : Target = record { node = t.node; successor = h } in (same_field (target_word x i) (target_word x j) ≡ false) ⊎ IsSkipped x (suc i) j) (sym e)
+        subst (λ h. let x : Target = record { node = t.node; successor = h } in
+        (same_field (target_word x i) (target_word x j) ≡ false) ⊎ IsSkipped x (suc i) j) (sym e)
         (both_words t.node u held.0 all.3 i j lt le small (λ below. now u e below))
 
 -- the number that was loaded last, and those before it
@@ -186,7 +196,8 @@ number_then f i n (suc (suc (suc (suc (suc (suc (suc (suc zero)))))))) ne lt = a
 number_then f i n (suc (suc (suc (suc (suc (suc (suc (suc (suc j))))))))) ne lt = absurd (omega arith)
 
 -- one more word was loaded
-pub one_more : (locks : List HeldLock) (t : Target) (i : ℕ) (f : Found) (n : ℕ) → HoldsAll locks t → IsLoadedNow t i → i < target_words t.successor → HasLoaded locks t i f
+pub one_more : (locks : List HeldLock) (t : Target) (i : ℕ) (f : Found) (n : ℕ) → HoldsAll locks t → IsLoadedNow t i
+    → i < target_words t.successor → HasLoaded locks t i f
     → HasLoaded (change_lock (target_slot t i) (note_lock (read_at (target_word t i) n)) locks) t (suc i) (with_found f i n)
 one_more locks t i f n all now small has j lt =
     let most = most_words t.successor in
@@ -197,7 +208,8 @@ one_more locks t i f n all now small has j lt =
     ⊎_elim
     (λ (skip : IsSkipped t i j). inl (later skip))
     (λ known. ⊎_elim
-    (λ other. inr (loaded_more locks (target_slot t i) (read_at (target_word t i) n) (target_slot t j) (target_word t j) (found_number f j) other known ∙ ap Some (sym (number_then f i n j (λ e. ne (sym e)) (omega arith)))))
+    (λ other. inr (loaded_more locks (target_slot t i) (read_at (target_word t i) n) (target_slot t j) (target_word t j)
+    (found_number f j) other known ∙ ap Some (sym (number_then f i n j (λ e. ne (sym e)) (omega arith)))))
     (λ skip. inl skip)
     (words_apart locks t i j all now before small))
     (has j before)))
@@ -206,4 +218,9 @@ one_more locks t i f n all now small has j lt =
     after = change_lock (target_slot t i) (note_lock (read_at (target_word t i) n)) locks
 
     later : IsSkipped t i j → IsSkipped t (suc i) j
-    later skip = record { successor = skip.successor; has = skip.has; below_node = skip.below_node; which = ⊎_elim (λ (e : j ≡ 5). inl e) (λ e. inr (e.0, omega (arith, e.1))) skip.which }
+    later skip = record {
+      successor = skip.successor;
+      has = skip.has;
+      below_node = skip.below_node;
+      which = ⊎_elim (λ (e : j ≡ 5). inl e) (λ e. inr (e.0, omega (arith, e.1))) skip.which;
+    }

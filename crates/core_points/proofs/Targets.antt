@@ -1,4 +1,5 @@
--- The points of a delete under its locks, up to its verdict: what each step needs is known, and what the next point needs is known after it.
+-- The points of a delete under its locks, up to its verdict: what each step needs is known, and what the next point needs is known after
+-- it.
 use Rattle.std.proofs.Common.{◌≡◌, ◌≢◌, ◌⊎◌, ℕ, suc, ◌+◌, ◌*◌, ◌==◌, ◌<◌, ◌≤◌, ◌&&◌, ◌||◌, not, cond, Bool, true, false, List, ◌∷◌, length, Option, Some, None, refl, sym, ap, subst, ◌∙◌, inl, inr, ⊎_elim, arith, eq-eqb}
 use Rattle.std.proofs.lemmas.Bool.{eqb-true}
 use mathlib.Core.Logic.{dite}
@@ -64,14 +65,19 @@ holds_more l ls s held = by (l.slot == s) held
 pub holds_new : (s : ℕ) (ls : List HeldLock) → Holds (new_lock s ∷ ls) s
 holds_new s ls = (new_lock s, ap (λ b. cond b (Some (new_lock s)) (lock_of ls s)) (eq-eqb s s refl))
 
-got_more : (t : Target) (i : ℕ) (ls : List HeldLock) → AreGot t i ls → (Holds ls (target_lock t i) → ⊥) → AreGot t (suc i) (new_lock (target_lock t i) ∷ ls)
+got_more : (t : Target) (i : ℕ) (ls : List HeldLock) → AreGot t i ls → (Holds ls (target_lock t i) → ⊥)
+    → AreGot t (suc i) (new_lock (target_lock t i) ∷ ls)
 got_more t i ls got none j lt =
     dite (ℕ_discrete j i)
-    (λ e. (subst (Holds (new_lock (target_lock t i) ∷ ls)) (sym (ap (target_lock t) e)) (holds_new (target_lock t i) ls), λ l less same. none (subst (Holds ls) (same ∙ ap (target_lock t) e) (got l (omega arith)).0)))
+    (λ e. (
+      subst (Holds (new_lock (target_lock t i) ∷ ls)) (sym (ap (target_lock t) e)) (holds_new (target_lock t i) ls),
+      λ l less same. none (subst (Holds ls) (same ∙ ap (target_lock t) e) (got l (omega arith)).0),
+    ))
     (λ ne. (let g = got j (omega arith) in (holds_more (new_lock (target_lock t i)) ls (target_lock t j) g.0, g.1)))
 
 -- all of them
-got_all : (d : Node) (h : Option Successor) (ls : List HeldLock) → let t : Target = record { node = d; successor = h } in length ls ≡ target_locks t → AreGot t (target_locks t) ls → HoldsAll ls t
+got_all : (d : Node) (h : Option Successor) (ls : List HeldLock) → let t : Target = record { node = d; successor = h } in
+    length ls ≡ target_locks t → AreGot t (target_locks t) ls → HoldsAll ls t
 got_all d None ls long got = (omega arith, (got 0 (omega arith)).0, (got 1 (omega arith)).0, (got 1 (omega arith)).1 0 (omega arith), tt)
 got_all d (Some u) ls long got = by (u.parent == d.node) refl long got
   where
@@ -89,7 +95,11 @@ got_all d (Some u) ls long got = by (u.parent == d.node) refl long got
           node,
           (got 1 (omega arith)).1 0 (omega arith),
           (
-            record { from_parent = λ x. g.1 0 (omega arith) (sym x ∙ sym two); from_node = λ x. g.1 1 (omega arith) (sym x ∙ sym two); walk = λ ne. absurd (ne same) },
+            record {
+              from_parent = λ x. g.1 0 (omega arith) (sym x ∙ sym two);
+              from_node = λ x. g.1 1 (omega arith) (sym x ∙ sym two);
+              walk = λ ne. absurd (ne same);
+            },
             subst (Holds ls) two g.0,
             subst (Holds ls) (sym same) node,
           ),
@@ -126,11 +136,17 @@ all_noted ls t s kn all = (
   where
     by : (h : Option Successor) → HoldsSuccessorLocks ls t.node h → HoldsSuccessorLocks (change_lock s (note_lock kn) ls) t.node h
     by None u = tt
-    by (Some u) held = (held.0, held_still ls s (note_lock kn) (λ l. refl) u.slot held.1, held_still ls s (note_lock kn) (λ l. refl) u.parent held.2)
+    by (Some u) held = (
+      held.0,
+      held_still ls s (note_lock kn) (λ l. refl) u.slot held.1,
+      held_still ls s (note_lock kn) (λ l. refl) u.parent held.2,
+    )
 
 -- The verdict of a delete with at most one child.
-few_verdict : (n : ℕ) (records : List Reading) (locks : List HeldLock) (key : ℕ) (d : Node) (f : Found) → let t : Target = record { node = d; successor = None } in
-    HasTarget n records key t → HoldsAll locks t → HasLoaded locks t 5 f → target_holds t f ≡ true → let d' : Node = record d { left = f.left; right = f.right } in FewHold records locks key d' × IsUnmarked locks d'
+few_verdict : (n : ℕ) (records : List Reading) (locks : List HeldLock) (key : ℕ) (d : Node) (f : Found) → let t : Target =
+    record { node = d; successor = None } in
+    HasTarget n records key t → HoldsAll locks t → HasLoaded locks t 5 f → target_holds t f ≡ true → let d' : Node =
+    record d { left = f.left; right = f.right } in FewHold records locks key d' × IsUnmarked locks d'
 few_verdict n records locks key d f has all loads holds =
     let r : Reading = has.0 in
     let reads = has.7 in
@@ -157,15 +173,18 @@ few_verdict n records locks key d f has all loads holds =
       word 2 (omega arith) ∙ ap Some (eqb-true f.life (2 * d.generation) c.0),
     )
   where
-    word : (j : ℕ) → j < 5 → let t : Target = record { node = d; successor = None } in loaded_in (under locks (target_slot t j)) (target_word t j) ≡ Some (found_number f j)
-    word j lt = ⊎_elim (λ (skip : IsSkipped (record { node = d; successor = None }) 5 j). absurd (let q : None ≡ Some skip.successor = skip.has in cc)) (λ e. e) (loads j lt)
+    word : (j : ℕ) → j < 5 → let t : Target = record { node = d; successor = None } in
+        loaded_in (under locks (target_slot t j)) (target_word t j) ≡ Some (found_number f j)
+    word j lt = ⊎_elim (λ (skip : IsSkipped (record { node = d; successor = None }) 5 j). absurd
+        (let q : None ≡ Some skip.successor = skip.has in cc)) (λ e. e) (loads j lt)
 
 -- The verdict of a delete with two children.
 module _ (n : ℕ) (records : List Reading) (locks : List HeldLock) (key : ℕ) (d : Node) (u : Successor) (f : Found) where
   both_node : Node
   both_node = record d { left = f.left; right = last_right d (Some u) f }
 
-  word : HasLoaded locks (two_children d u) 9 f → (j : ℕ) → (u.parent ≡ d.node → (j ≢ 5) × (j ≢ 4)) → j < 9 → loaded_in (under locks (target_slot (two_children d u) j)) (target_word (two_children d u) j) ≡ Some (found_number f j)
+  word : HasLoaded locks (two_children d u) 9 f → (j : ℕ) → (u.parent ≡ d.node → (j ≢ 5) × (j ≢ 4)) → j < 9
+      → loaded_in (under locks (target_slot (two_children d u) j)) (target_word (two_children d u) j) ≡ Some (found_number f j)
   word loads j seen lt = ⊎_elim
       (λ (skip : IsSkipped (two_children d u) 9 j).
       (let same : Some u ≡ Some skip.successor = skip.has in
@@ -176,15 +195,21 @@ module _ (n : ℕ) (records : List Reading) (locks : List HeldLock) (key : ℕ) 
       (loads j lt)
 
   -- the node's right as it was loaded last, and the link to the successor
-  right_link : (r : Reading) → HasLoaded locks (two_children d u) 9 f → (f.successor_link == u.slot) ≡ true → (z : Bool) → (u.parent == d.node) ≡ z → (z || (f.successor_parent_life == 2 * u.parent_generation)) ≡ true → ReadsParent r d u → u.slot ≢ 0 → f.right ≢ 0
+  right_link : (r : Reading) → HasLoaded locks (two_children d u) 9 f → (f.successor_link == u.slot) ≡ true → (z : Bool)
+      → (u.parent == d.node) ≡ z → (z || (f.successor_parent_life == 2 * u.parent_generation)) ≡ true → ReadsParent r d u → u.slot ≢ 0
+      → f.right ≢ 0
       → let right : ℕ = cond z f.successor_link f.right in (loaded_in (under locks d.node) (Link d.node Right) ≡ Some right)
       × (right ≢ 0)
       × (((u.parent ≡ d.node) × (right ≡ u.slot))
-      ⊎ ((u.parent ≢ d.node) × LoadedGeneration r u.parent u.parent_generation × (loaded_in (under locks u.parent) (Life u.parent) ≡ Some (2 * u.parent_generation)) × (loaded_in (under locks u.parent) (Link u.parent Left) ≡ Some u.slot)))
+      ⊎ ((u.parent ≢ d.node) × LoadedGeneration r u.parent u.parent_generation
+      × (loaded_in (under locks u.parent) (Life u.parent) ≡ Some (2 * u.parent_generation))
+      × (loaded_in (under locks u.parent) (Link u.parent Left) ≡ Some u.slot)))
   right_link r loads link true e life reads slot_some right_some =
       let same : u.parent ≡ d.node = eqb-true u.parent d.node e in
       let six = word loads 6 (λ x. ((λ y. absurd (omega arith)), (λ y. absurd (omega arith)))) (omega arith) in (
-        subst (λ s. loaded_in (under locks s) (Link s Right) ≡ Some f.successor_link) same (subst (λ b. loaded_in (under locks u.parent) (in_slot u.parent (cond b (part.Link Right) (part.Link Left))) ≡ Some f.successor_link) e six),
+        subst (λ s. loaded_in (under locks s) (Link s Right) ≡ Some f.successor_link) same
+            (subst (λ b. loaded_in (under locks u.parent) (in_slot u.parent (cond b (part.Link Right) (part.Link Left)))
+            ≡ Some f.successor_link) e six),
         (λ z. slot_some (sym (eqb-true f.successor_link u.slot link) ∙ z)),
         inl (same, eqb-true f.successor_link u.slot link),
       )
@@ -197,12 +222,15 @@ module _ (n : ℕ) (records : List Reading) (locks : List HeldLock) (key : ℕ) 
           ne,
           reads ne,
           word loads 5 (λ x. absurd (ne x)) (omega arith) ∙ ap Some (eqb-true f.successor_parent_life (2 * u.parent_generation) life),
-          subst (λ b. loaded_in (under locks u.parent) (in_slot u.parent (cond b (part.Link Right) (part.Link Left))) ≡ Some f.successor_link) e six ∙ ap Some (eqb-true f.successor_link u.slot link),
+          subst (λ b. loaded_in (under locks u.parent) (in_slot u.parent (cond b (part.Link Right) (part.Link Left)))
+              ≡ Some f.successor_link) e six ∙ ap Some (eqb-true f.successor_link u.slot link),
         ),
       )
 
-  both_verdict : HasTarget n records key (two_children d u) → HoldsAll locks (two_children d u) → HasLoaded locks (two_children d u) 9 f → target_holds (two_children d u) f ≡ true
-      → BothHold records locks key (record d { left = f.left; right = last_right d (Some u) f }) u × IsUnmarked locks (record d { left = f.left; right = last_right d (Some u) f })
+  both_verdict : HasTarget n records key (two_children d u) → HoldsAll locks (two_children d u) → HasLoaded locks (two_children d u) 9 f
+      → target_holds (two_children d u) f ≡ true
+      → BothHold records locks key (record d { left = f.left; right = last_right d (Some u) f }) u
+      × IsUnmarked locks (record d { left = f.left; right = last_right d (Some u) f })
   both_verdict has all loads holds =
       let r : Reading = has.0 in
       let apart = (all.4).0 in
@@ -229,8 +257,10 @@ module _ (n : ℕ) (records : List Reading) (locks : List HeldLock) (key : ℕ) 
             apart = all.3;
             parent_recorded = lives.parent_life all.3;
             recorded = lives.node_life;
-            parent_life = plain_word 0 ((λ e. absurd (omega arith)), (λ e. absurd (omega arith))) (omega arith) ∙ ap Some (eqb-true f.parent_life (2 * d.parent_generation) a.0);
-            link = plain_word 1 ((λ e. absurd (omega arith)), (λ e. absurd (omega arith))) (omega arith) ∙ ap Some (eqb-true f.link d.node b.0);
+            parent_life = plain_word 0 ((λ e. absurd (omega arith)), (λ e. absurd (omega arith))) (omega arith)
+                ∙ ap Some (eqb-true f.parent_life (2 * d.parent_generation) a.0);
+            link = plain_word 1 ((λ e. absurd (omega arith)), (λ e. absurd (omega arith))) (omega arith)
+                ∙ ap Some (eqb-true f.link d.node b.0);
             left = plain_word 3 ((λ e. absurd (omega arith)), (λ e. absurd (omega arith))) (omega arith);
             right = link.0;
           },
@@ -242,11 +272,14 @@ module _ (n : ℕ) (records : List Reading) (locks : List HeldLock) (key : ℕ) 
             apart = apart;
             link = link.2;
             recorded = recorded.2;
-            life = plain_word 7 ((λ e. absurd (omega arith)), (λ e. absurd (omega arith))) (omega arith) ∙ ap Some (eqb-true f.successor_life (2 * u.generation) y.0);
-            left = plain_word 8 ((λ e. absurd (omega arith)), (λ e. absurd (omega arith))) (omega arith) ∙ ap Some (eqb-true f.successor_left 0 y.1);
+            life = plain_word 7 ((λ e. absurd (omega arith)), (λ e. absurd (omega arith))) (omega arith)
+                ∙ ap Some (eqb-true f.successor_life (2 * u.generation) y.0);
+            left = plain_word 8 ((λ e. absurd (omega arith)), (λ e. absurd (omega arith))) (omega arith)
+                ∙ ap Some (eqb-true f.successor_left 0 y.1);
           },
         ),
-        plain_word 2 ((λ e. absurd (omega arith)), (λ e. absurd (omega arith))) (omega arith) ∙ ap Some (eqb-true f.life (2 * d.generation) c.0),
+        plain_word 2 ((λ e. absurd (omega arith)), (λ e. absurd (omega arith))) (omega arith)
+            ∙ ap Some (eqb-true f.life (2 * d.generation) c.0),
       )
     where
       not_true : (b : Bool) → not b ≡ true → b ≡ false
@@ -255,7 +288,8 @@ module _ (n : ℕ) (records : List Reading) (locks : List HeldLock) (key : ℕ) 
 
 module _ (k : Shape) (h : List Mark) (o : Own) (v : View) (n : ℕ) where
   pub needs_target_lock : (t : Target) (i : ℕ) → Fits o (at.TargetLock t i) v → Needs k v n (act_at o (at.TargetLock t i))
-  needs_target_lock t i f = let p = f.point in let few = few_locks t.node t.successor in let long = p.4 in let lt = p.7 in record { outside = (p.0).0; few = omega arith }
+  needs_target_lock t i f = let p = f.point in let few = few_locks t.node t.successor in let long = p.4 in let lt = p.7 in
+      record { outside = (p.0).0; few = omega arith }
 
   pub next_target_lock : (t : Target) (i : ℕ) → (n ≡ 0 → Holds v.locks (target_lock t i) → ⊥) → Fits o (at.TargetLock t i) v
       → Fits (after o n (at.TargetLock t i)) (after o n (at.TargetLock t i)).stage (view_after v h n (act_at o (at.TargetLock t i)))
@@ -279,7 +313,8 @@ module _ (k : Shape) (h : List Mark) (o : Own) (v : View) (n : ℕ) where
       long : length (new_lock s ∷ v.locks) ≡ i + 1
       long = (let e = (f.point).4 in omega arith)
 
-      rest : (z : Bool) → (i + 1 == target_locks t) ≡ z → n ≡ 0 → let st : Stage = cond z (at.TargetLoad t 0 nothing_found) (at.TargetLock t (i + 1)) in
+      rest : (z : Bool) → (i + 1 == target_locks t) ≡ z → n ≡ 0 → let st : Stage =
+          cond z (at.TargetLoad t 0 nothing_found) (at.TargetLock t (i + 1)) in
           Fits (go (record o { locks = s ∷ o.locks }) st) st (record v { locks = new_lock s ∷ v.locks })
       rest true e zero_is =
           let p = f.point in
@@ -293,7 +328,8 @@ module _ (k : Shape) (h : List Mark) (o : Own) (v : View) (n : ℕ) where
               p.2,
               clear_more,
               kept ∙ ap (first_locks t) all,
-              got_all t.node t.successor (new_lock s ∷ v.locks) (long ∙ all) (subst (λ x. AreGot t x (new_lock s ∷ v.locks)) all (locked p.6 zero_is)),
+              got_all t.node t.successor (new_lock s ∷ v.locks) (long ∙ all)
+                  (subst (λ x. AreGot t x (new_lock s ∷ v.locks)) all (locked p.6 zero_is)),
               (λ j lt. absurd (omega arith)),
               some_words t.successor,
               (λ u has below z. absurd (omega arith)),
@@ -301,7 +337,8 @@ module _ (k : Shape) (h : List Mark) (o : Own) (v : View) (n : ℕ) where
           }
       rest false e zero_is =
           let p = f.point in
-          let ne : i + 1 ≢ target_locks t = (λ all. absurd (let q : true ≡ false = sym (eq-eqb (i + 1) (target_locks t) all) ∙ e in cc)) in record {
+          let ne : i + 1 ≢ target_locks t = (λ all. absurd (let q : true ≡ false = sym (eq-eqb (i + 1) (target_locks t) all) ∙ e in cc)) in
+          record {
             owns = owns_more o v s f.owns;
             unraised = λ z. f.unraised refl;
             tickets = f.tickets;
@@ -319,19 +356,30 @@ module _ (k : Shape) (h : List Mark) (o : Own) (v : View) (n : ℕ) where
           let p = f.point in
           let q = p.0 in
           let c = quiet_hand o v q in
-          record { owns = f.owns; unraised = λ z. f.unraised refl; tickets = f.tickets; point = ((q.0, q.1, q.2, q.3, q.4, p.3, e), c, (p.1).1) }
+          record {
+            owns = f.owns;
+            unraised = λ z. f.unraised refl;
+            tickets = f.tickets;
+            point = ((q.0, q.1, q.2, q.3, q.4, p.3, e), c, (p.1).1);
+          }
 
-      got : (z : Bool) → (n == 0) ≡ z → let o' : Own = cond z (go (record o { locks = s ∷ o.locks }) (cond (i + 1 == target_locks t) (at.TargetLoad t 0 nothing_found) (at.TargetLock t (i + 1)))) (go o (cond (is_none_left o.locks) at.EnterClock (at.Unlock last.Again))) in
+      got : (z : Bool) → (n == 0) ≡ z → let o' : Own =
+          cond z (go (record o { locks = s ∷ o.locks })
+          (cond (i + 1 == target_locks t) (at.TargetLoad t 0 nothing_found) (at.TargetLock t (i + 1))))
+          (go o (cond (is_none_left o.locks) at.EnterClock (at.Unlock last.Again))) in
           Fits o' o'.stage (cond z (record v { locks = new_lock s ∷ v.locks }) v)
       got true e = rest (i + 1 == target_locks t) refl (eqb-true n 0 e)
       got false e = taken (is_none_left o.locks) refl
 
   -- the loads
-  pub needs_target_load : (t : Target) (i : ℕ) (found : Found) → Fits o (at.TargetLoad t i found) v → Needs k v n (act_at o (at.TargetLoad t i found))
-  needs_target_load t i found f = let p = f.point in record { held = word_held v.locks t i p.5; loadable = part_loadable (target_slot t i) (target_part t i) }
+  pub needs_target_load : (t : Target) (i : ℕ) (found : Found) → Fits o (at.TargetLoad t i found) v
+      → Needs k v n (act_at o (at.TargetLoad t i found))
+  needs_target_load t i found f = let p = f.point in
+      record { held = word_held v.locks t i p.5; loadable = part_loadable (target_slot t i) (target_part t i) }
 
   pub next_target_load : (t : Target) (i : ℕ) (found : Found) → Fits o (at.TargetLoad t i found) v
-      → Fits (after o n (at.TargetLoad t i found)) (after o n (at.TargetLoad t i found)).stage (view_after v h n (act_at o (at.TargetLoad t i found)))
+      → Fits (after o n (at.TargetLoad t i found)) (after o n (at.TargetLoad t i found)).stage
+      (view_after v h n (act_at o (at.TargetLoad t i found)))
   next_target_load t i found f = by t.successor refl
     where
       o' : Own
@@ -370,7 +418,8 @@ module _ (k : Shape) (h : List Mark) (o : Own) (v : View) (n : ℕ) where
       some_left : (xs : List ℕ) → xs ≡ first_locks t (target_locks t) → is_none_left xs ≡ false
       some_left xs e = ap is_none_left e ∙ not_none t.node t.successor
         where
-          not_none : (d : Node) (h : Option Successor) → let t : Target = record { node = d; successor = h } in is_none_left (first_locks t (target_locks t)) ≡ false
+          not_none : (d : Node) (h : Option Successor) → let t : Target = record { node = d; successor = h } in
+              is_none_left (first_locks t (target_locks t)) ≡ false
           not_none d None = refl
           not_none d (Some u) = by (u.parent == d.node)
             where
@@ -379,10 +428,16 @@ module _ (k : Shape) (h : List Mark) (o : Own) (v : View) (n : ℕ) where
               by false = refl
 
       -- another word is loaded
-      goes_on : (j : ℕ) → j < target_words t.successor → IsLoadedNow t j → HasLoaded w.locks t j f' → Fits (go o (at.TargetLoad t j f')) (at.TargetLoad t j f') w
+      goes_on : (j : ℕ) → j < target_words t.successor → IsLoadedNow t j → HasLoaded w.locks t j f'
+          → Fits (go o (at.TargetLoad t j f')) (at.TargetLoad t j f') w
       goes_on j small now has =
           let p = f.point in
-          record { owns = owns; unraised = λ z. f.unraised refl; tickets = f.tickets; point = (quiet, p.1, p.2, clear, p.4, all, has, small, now) }
+          record {
+            owns = owns;
+            unraised = λ z. f.unraised refl;
+            tickets = f.tickets;
+            point = (quiet, p.1, p.2, clear, p.4, all, has, small, now);
+          }
 
       again : Fits (go o (at.Unlock last.Again)) (at.Unlock last.Again) w
       again =
@@ -394,7 +449,8 @@ module _ (k : Shape) (h : List Mark) (o : Own) (v : View) (n : ℕ) where
             point = ((quiet.0, quiet.1, quiet.2, quiet.3, quiet.4, clear, some_left o.locks p.4), quiet_hand o w quiet, (p.1).1);
           }
 
-      few : t.successor ≡ None → i ≡ 4 → (z : Bool) → target_holds t f' ≡ z → let st : Stage = cond z (deleting (record t.node { left = f'.left; right = f'.right }) None) (at.Unlock last.Again) in Fits (go o st) st w
+      few : t.successor ≡ None → i ≡ 4 → (z : Bool) → target_holds t f' ≡ z → let st : Stage =
+          cond z (deleting (record t.node { left = f'.left; right = f'.right }) None) (at.Unlock last.Again) in Fits (go o st) st w
       few none is false e = again
       few none is true e =
           let p = f.point in
@@ -402,8 +458,10 @@ module _ (k : Shape) (h : List Mark) (o : Own) (v : View) (n : ℕ) where
           let x : Target = record { node = d; successor = None } in
           let same : t ≡ x = (λ j. record { node = d; successor = none j }) in
           let five : suc i ≡ 5 = omega arith in
-          let q = few_verdict (table_of o) v.records w.locks (key_now o) d f' (subst (HasTarget (table_of o) v.records (key_now o)) same p.2) (subst (HoldsAll w.locks) same all)
-          (subst (λ x. HasLoaded w.locks x 5 f') same (subst (λ j. HasLoaded w.locks t j f') five loads)) (subst (λ x. target_holds x f' ≡ true) same e) in
+          let q = few_verdict (table_of o) v.records w.locks (key_now o) d f'
+          (subst (HasTarget (table_of o) v.records (key_now o)) same p.2) (subst (HoldsAll w.locks) same all)
+          (subst (λ x. HasLoaded w.locks x 5 f') same (subst (λ j. HasLoaded w.locks t j f') five loads))
+          (subst (λ x. target_holds x f' ≡ true) same e) in
           record {
             owns = owns;
             unraised = λ z. f.unraised refl;
@@ -411,7 +469,8 @@ module _ (k : Shape) (h : List Mark) (o : Own) (v : View) (n : ℕ) where
             point = (quiet, p.1, some_left o.locks p.4, clear, q.0, q.1, refl);
           }
 
-      both : (u : Successor) → t.successor ≡ Some u → i ≡ 8 → (z : Bool) → target_holds t f' ≡ z → let d' : Node = record t.node { left = f'.left; right = last_right t.node (Some u) f' } in
+      both : (u : Successor) → t.successor ≡ Some u → i ≡ 8 → (z : Bool) → target_holds t f' ≡ z → let d' : Node =
+          record t.node { left = f'.left; right = last_right t.node (Some u) f' } in
           let st : Stage = cond z (deleting d' (Some u)) (at.Unlock last.Again) in Fits (go o st) st w
       both u some is false e = again
       both u some is true e =
@@ -421,8 +480,10 @@ module _ (k : Shape) (h : List Mark) (o : Own) (v : View) (n : ℕ) where
           let same : t ≡ x = (λ j. record { node = d; successor = some j }) in
           let nine : suc i ≡ 9 = omega arith in
           let held = subst (HoldsAll w.locks) same all in
-          let q = both_verdict (table_of o) v.records w.locks (key_now o) d u f' (subst (HasTarget (table_of o) v.records (key_now o)) same p.2) held
-          (subst (λ x. HasLoaded w.locks x 9 f') same (subst (λ j. HasLoaded w.locks t j f') nine loads)) (subst (λ x. target_holds x f' ≡ true) same e) in
+          let q = both_verdict (table_of o) v.records w.locks (key_now o) d u f'
+          (subst (HasTarget (table_of o) v.records (key_now o)) same p.2) held
+          (subst (λ x. HasLoaded w.locks x 9 f') same (subst (λ j. HasLoaded w.locks t j f') nine loads))
+          (subst (λ x. target_holds x f' ≡ true) same e) in
           record {
             owns = owns;
             unraised = λ z. f.unraised refl;
@@ -432,21 +493,30 @@ module _ (k : Shape) (h : List Mark) (o : Own) (v : View) (n : ℕ) where
 
       by : (h : Option Successor) → t.successor ≡ h → let st : Stage = past_target_load t i f' in Fits (go o st) st w
       by None e = subst (λ h. let st : Stage = elim h as (λ _. Stage) [
-        | None ↦ cond (i == 4) (cond (target_holds t f') (deleting (record t.node { left = f'.left; right = last_right t.node h f' }) h) (at.Unlock last.Again)) (at.TargetLoad t (i + 1) f')
-        | Some u ↦ cond (i == 8) (cond (target_holds t f') (deleting (record t.node { left = f'.left; right = last_right t.node h f' }) h) (at.Unlock last.Again)) (cond ((i == 4) && (u.parent == t.node.node)) (at.TargetLoad t 6 f') (at.TargetLoad t (i + 1) f'))
+        | None ↦ cond (i == 4) (cond (target_holds t f') (deleting (record t.node { left = f'.left; right = last_right t.node h f' }) h)
+            (at.Unlock last.Again)) (at.TargetLoad t (i + 1) f')
+        | Some u ↦ cond (i == 8) (cond (target_holds t f') (deleting (record t.node { left = f'.left; right = last_right t.node h f' }) h)
+            (at.Unlock last.Again)) (cond ((i == 4) && (u.parent == t.node.node)) (at.TargetLoad t 6 f') (at.TargetLoad t (i + 1) f'))
       ] in Fits (go o st) st w) (sym e) (ends (i == 4) refl)
         where
-          ends : (z : Bool) → (i == 4) ≡ z → let st : Stage = cond z (cond (target_holds t f') (deleting (record t.node { left = f'.left; right = f'.right }) None) (at.Unlock last.Again)) (at.TargetLoad t (i + 1) f') in Fits (go o st) st w
+          ends : (z : Bool) → (i == 4) ≡ z → let st : Stage =
+              cond z (cond (target_holds t f') (deleting (record t.node { left = f'.left; right = f'.right }) None) (at.Unlock last.Again))
+              (at.TargetLoad t (i + 1) f') in Fits (go o st) st w
           ends true is = few e (eqb-true i 4 is) (target_holds t f') refl
           ends false is =
               let small = subst (λ h. i < target_words h) e (f.point).7 in
-              goes_on (i + 1) (subst (λ h. i + 1 < target_words h) (sym e) (not_last is small)) (λ u has below. absurd (let q : None ≡ Some u = sym e ∙ has in cc)) (subst (λ j. HasLoaded w.locks t j f') (sym one) loads)
+              goes_on (i + 1) (subst (λ h. i + 1 < target_words h) (sym e) (not_last is small))
+              (λ u has below. absurd (let q : None ≡ Some u = sym e ∙ has in cc))
+              (subst (λ j. HasLoaded w.locks t j f') (sym one) loads)
             where
               not_last : (i == 4) ≡ false → i < 5 → i + 1 < 5
-              not_last is lt = dite (ℕ_discrete i 4) (λ same. absurd (let q : true ≡ false = sym (eq-eqb i 4 same) ∙ is in cc)) (λ ne. omega arith)
+              not_last is lt = dite (ℕ_discrete i 4) (λ same. absurd (let q : true ≡ false = sym (eq-eqb i 4 same) ∙ is in cc))
+                  (λ ne. omega arith)
       by (Some u) e = subst (λ h. let st : Stage = elim h as (λ _. Stage) [
-        | None ↦ cond (i == 4) (cond (target_holds t f') (deleting (record t.node { left = f'.left; right = last_right t.node h f' }) h) (at.Unlock last.Again)) (at.TargetLoad t (i + 1) f')
-        | Some u ↦ cond (i == 8) (cond (target_holds t f') (deleting (record t.node { left = f'.left; right = last_right t.node h f' }) h) (at.Unlock last.Again)) (cond ((i == 4) && (u.parent == t.node.node)) (at.TargetLoad t 6 f') (at.TargetLoad t (i + 1) f'))
+        | None ↦ cond (i == 4) (cond (target_holds t f') (deleting (record t.node { left = f'.left; right = last_right t.node h f' }) h)
+            (at.Unlock last.Again)) (at.TargetLoad t (i + 1) f')
+        | Some u ↦ cond (i == 8) (cond (target_holds t f') (deleting (record t.node { left = f'.left; right = last_right t.node h f' }) h)
+            (at.Unlock last.Again)) (cond ((i == 4) && (u.parent == t.node.node)) (at.TargetLoad t 6 f') (at.TargetLoad t (i + 1) f'))
       ] in Fits (go o st) st w) (sym e) (ends (i == 8) refl)
         where
           small : i < 9
@@ -458,7 +528,8 @@ module _ (k : Shape) (h : List Mark) (o : Own) (v : View) (n : ℕ) where
           same_as : (x : Successor) → t.successor ≡ Some x → x ≡ u
           same_as x has = (let q : Some x ≡ Some u = sym has ∙ e in cc)
 
-          next : (z : Bool) → (i == 4) ≡ z → (y : Bool) → (u.parent == t.node.node) ≡ y → i ≢ 8 → let st : Stage = cond (z && y) (at.TargetLoad t 6 f') (at.TargetLoad t (i + 1) f') in Fits (go o st) st w
+          next : (z : Bool) → (i == 4) ≡ z → (y : Bool) → (u.parent == t.node.node) ≡ y → i ≢ 8 → let st : Stage =
+              cond (z && y) (at.TargetLoad t 6 f') (at.TargetLoad t (i + 1) f') in Fits (go o st) st w
           next true four true below ne =
               let five : suc i ≡ 5 = (let q = eqb-true i 4 four in omega arith) in
               let has = subst (λ j. HasLoaded w.locks t j f') five loads in
@@ -466,14 +537,28 @@ module _ (k : Shape) (h : List Mark) (o : Own) (v : View) (n : ℕ) where
               (λ j lt. dite (ℕ_discrete j 5)
               (λ is. inl (record { successor = u; has = e; below_node = eqb-true u.parent t.node.node below; which = inl is }))
               (λ other. ⊎_elim
-              (λ (skip : IsSkipped t 5 j). inl (record { successor = skip.successor; has = skip.has; below_node = skip.below_node; which = ⊎_elim (λ (q : j ≡ 5). inl q) (λ q. inr (q.0, absurd (let z = q.1 in omega arith))) skip.which }))
+              (λ (skip : IsSkipped t 5 j). inl (record {
+                successor = skip.successor;
+                has = skip.has;
+                below_node = skip.below_node;
+                which = ⊎_elim (λ (q : j ≡ 5). inl q) (λ q. inr (q.0, absurd (let z = q.1 in omega arith))) skip.which;
+              }))
               (λ known. inr known)
               (has j (omega arith))))
           next true four false other ne =
-              goes_on (i + 1) (there (i + 1) (let lt = small in omega arith)) (λ x is b z. absurd (let q : true ≡ false = sym (eq-eqb u.parent t.node.node (sym (ap (λ (y : Successor). y.parent) (same_as x is)) ∙ b)) ∙ other in cc)) (subst (λ j. HasLoaded w.locks t j f') (sym one) loads)
+              goes_on (i + 1) (there (i + 1) (let lt = small in omega arith))
+              (λ x is b z. absurd (let q : true ≡ false =
+              sym (eq-eqb u.parent t.node.node (sym (ap (λ (y : Successor). y.parent) (same_as x is)) ∙ b)) ∙ other in cc))
+              (subst (λ j. HasLoaded w.locks t j f') (sym one) loads)
           next false four y below ne =
-              goes_on (i + 1) (there (i + 1) (let lt = small in omega arith)) (λ x is b z. absurd (let q : true ≡ false = sym (eq-eqb i 4 (omega arith)) ∙ four in cc)) (subst (λ j. HasLoaded w.locks t j f') (sym one) loads)
+              goes_on (i + 1) (there (i + 1) (let lt = small in omega arith))
+              (λ x is b z. absurd (let q : true ≡ false = sym (eq-eqb i 4 (omega arith)) ∙ four in cc))
+              (subst (λ j. HasLoaded w.locks t j f') (sym one) loads)
 
-          ends : (z : Bool) → (i == 8) ≡ z → let st : Stage = cond z (cond (target_holds t f') (deleting (record t.node { left = f'.left; right = last_right t.node (Some u) f' }) (Some u)) (at.Unlock last.Again)) (cond ((i == 4) && (u.parent == t.node.node)) (at.TargetLoad t 6 f') (at.TargetLoad t (i + 1) f')) in Fits (go o st) st w
+          ends : (z : Bool) → (i == 8) ≡ z → let st : Stage =
+              cond z (cond (target_holds t f') (deleting (record t.node { left = f'.left; right = last_right t.node (Some u) f' }) (Some u))
+              (at.Unlock last.Again)) (cond ((i == 4) && (u.parent == t.node.node)) (at.TargetLoad t 6 f') (at.TargetLoad t (i + 1) f')) in
+              Fits (go o st) st w
           ends true is = both u e (eqb-true i 8 is) (target_holds t f') refl
-          ends false is = next (i == 4) refl (u.parent == t.node.node) refl (λ same. absurd (let q : true ≡ false = sym (eq-eqb i 8 same) ∙ is in cc))
+          ends false is = next (i == 4) refl (u.parent == t.node.node) refl
+              (λ same. absurd (let q : true ≡ false = sym (eq-eqb i 8 same) ∙ is in cc))

@@ -35,7 +35,8 @@ module _ (k : Shape) (h : List Mark) (o : Own) (v : View) (n : ℕ) where
   unlock_needs owns u =
       let has = some_lock o.locks u.6 in
       let s : ℕ = has.0 in
-      let held = held_in v.locks s (let a = owns.locks_are s in let b : times s o.locks ≡ times s (s ∷ has.1) = ap (times s) has.2 in let c = times_here s has.1 in omega arith) in
+      let held = held_in v.locks s (let a = owns.locks_are s in let b : times s o.locks ≡ times s (s ∷ has.1) = ap (times s) has.2 in
+      let c = times_here s has.1 in omega arith) in
       let clear = clear_lock v.locks s held.0 u.5 held.1 in
       subst (λ x. Needs k v n (Unlock x)) (sym (ap first_or_root has.2))
       (held.0, record { held = held.1; no_end = subst (IsNoEnd s) (sym u.2) tt; left = clear.0; right = clear.1; unmarked = clear.2 })
@@ -63,16 +64,25 @@ module _ (k : Shape) (h : List Mark) (o : Own) (v : View) (n : ℕ) where
     scans_table = owns.scans_table;
   }
 
-  pub next_unlock : (l : Last) → TellsOnce v → Fits o (at.Unlock l) v → Fits (after o n (at.Unlock l)) (after o n (at.Unlock l)).stage (view_after v h n (act_at o (at.Unlock l)))
+  pub next_unlock : (l : Last) → TellsOnce v → Fits o (at.Unlock l) v
+      → Fits (after o n (at.Unlock l)) (after o n (at.Unlock l)).stage (view_after v h n (act_at o (at.Unlock l)))
   next_unlock l once f =
       let u = unlocking l f in
       let has = some_lock o.locks u.6 in
-      subst (λ ls. let less : Own = record o { locks = but_first ls } in let o' : Own = cond (is_none_left (but_first ls)) (unlocked less l) (go less (at.Unlock l)) in Fits o' o'.stage (after_unlock v (first_or_root ls)))
+      subst (λ ls. let less : Own = record o { locks = but_first ls } in
+      let o' : Own = cond (is_none_left (but_first ls)) (unlocked less l) (go less (at.Unlock l)) in
+      Fits o' o'.stage (after_unlock v (first_or_root ls)))
       (sym has.2) (given_up has.0 has.1 has.2 u (is_none_left has.1) refl)
     where
       given_up : (s : ℕ) (rest : List ℕ) → o.locks ≡ s ∷ rest → Unlocking o v → (z : Bool) → is_none_left rest ≡ z
-          → let less : Own = record o { locks = rest } in let o' : Own = cond z (unlocked less l) (go less (at.Unlock l)) in Fits o' o'.stage (after_unlock v s)
-      given_up s rest e u false more = record { owns = less s rest e once f.owns; unraised = λ z. f.unraised refl; tickets = f.tickets; point = still l f }
+          → let less : Own = record o { locks = rest } in let o' : Own = cond z (unlocked less l) (go less (at.Unlock l)) in
+          Fits o' o'.stage (after_unlock v s)
+      given_up s rest e u false more = record {
+        owns = less s rest e once f.owns;
+        unraised = λ z. f.unraised refl;
+        tickets = f.tickets;
+        point = still l f;
+      }
         where
           w : View
           w = after_unlock v s
@@ -96,12 +106,26 @@ module _ (k : Shape) (h : List Mark) (o : Own) (v : View) (n : ℕ) where
           bare : without_lock s v.locks ≡ []
           bare = no_slots (without_lock s v.locks) (λ x. owns.locks_are x ∙ ap (times x) (none_in rest none))
 
-          answered : (reply : Reply) (number : ℕ) → (v.hands.hand ≡ None) × (o.hand ≡ None) → 4 * length o.rest + o.kept ≤ v.allowance.tickets → let a : Own = answer (record o { locks = rest }) reply number in Fits a a.stage w
+          answered : (reply : Reply) (number : ℕ) → (v.hands.hand ≡ None) × (o.hand ≡ None)
+              → 4 * length o.rest + o.kept ≤ v.allowance.tickets → let a : Own = answer (record o { locks = rest }) reply number in
+              Fits a a.stage w
           answered reply number hands paid = answers (record o { locks = rest }) w reply number
-              (record { owns = owns; outside = u.0; empty = hands.1; bare = (bare, u.1, u.2, u.3, u.4); no_hand = hands.0; unraised = f.unraised refl }) paid
+              (record {
+                owns = owns;
+                outside = u.0;
+                empty = hands.1;
+                bare = (bare, u.1, u.2, u.3, u.4);
+                no_hand = hands.0;
+                unraised = f.unraised refl;
+              }) paid
 
           ends : (l : Last) → Fits o (at.Unlock l) v → let o' : Own = unlocked (record o { locks = rest }) l in Fits o' o'.stage w
-          ends last.Again f = record { owns = owns; unraised = λ z. f.unraised refl; tickets = f.tickets; point = (u.0, ((bare, u.1, u.2, u.3, u.4), (f.point).1, (f.point).2)) }
+          ends last.Again f = record {
+            owns = owns;
+            unraised = λ z. f.unraised refl;
+            tickets = f.tickets;
+            point = (u.0, ((bare, u.1, u.2, u.3, u.4), (f.point).1, (f.point).2));
+          }
           ends (last.New number) f = answered New number ((f.point).1, (f.point).2) (let t = f.tickets in omega arith)
           ends (last.Gone number) f = answered Gone number ((f.point).1, (f.point).2) (let t = f.tickets in omega arith)
           ends (last.Was value number) f = answered (Was value) number ((f.point).1, (f.point).2) (let t = f.tickets in omega arith)

@@ -64,17 +64,20 @@ target_within o v t i f = by (i == 0) (i == 1)
     by false true = let has = (f.point).2 in has.4 t.node.node has.6
     by false false = below t.successor refl
 
-copy_within : (o : Own) (v : View) (h : List Mark) (word : Field → ℕ) (d : Node) (u : Successor) (next_key : ℕ) → IsTold o v h word → Fits o (at.CopyLock d u next_key) v → or_root o.spare < table_of o
+copy_within : (o : Own) (v : View) (h : List Mark) (word : Field → ℕ) (d : Node) (u : Successor) (next_key : ℕ) → IsTold o v h word
+    → Fits o (at.CopyLock d u next_key) v → or_root o.spare < table_of o
 copy_within o v h word d u next_key told f = let c = (((f.point).1).1).2 in subst (λ x. x < table_of o) c.2 (told.spare_within c.0 c.1)
 
-module _ (k : Shape) (h : List Mark) (o : Own) (v : View) (word : Field → ℕ) (slots : k.slots ≡ o.slots) (places : k.places ≡ o.places) (told : IsTold o v h word) where
+module _ (k : Shape) (h : List Mark) (o : Own) (v : View) (word : Field → ℕ) (slots : k.slots ≡ o.slots) (places : k.places ≡ o.places)
+    (told : IsTold o v h word) where
   slot_in : (s : ℕ) → s < table_of o → s < slot_count k
   slot_in s lt = omega arith
 
   place_in : (p : ℕ) → k.waiter ≡ Eer → p < o.places → (k.waiter ≡ Eer) × (p < k.places)
   place_in p eer lt = (eer, omega arith)
 
-  held_in_table : (held : Held) (s : ℕ) → ((v.hands.hand ≡ Some held) × (held.slot ≡ s)) ⊎ ((v.hands.spare ≡ Some held) × (held.slot ≡ s)) → s < table_of o
+  held_in_table : (held : Held) (s : ℕ) → ((v.hands.hand ≡ Some held) × (held.slot ≡ s)) ⊎ ((v.hands.spare ≡ Some held) × (held.slot ≡ s))
+      → s < table_of o
   held_in_table held s e = ⊎_elim
       (λ (x : (v.hands.hand ≡ Some held) × (held.slot ≡ s)). subst (λ t. t < table_of o) x.1 (told.hand_within held x.0))
       (λ x. subst (λ t. t < table_of o) x.1 (told.spare_within held x.0)) e
@@ -107,11 +110,14 @@ module _ (k : Shape) (h : List Mark) (o : Own) (v : View) (word : Field → ℕ)
   linked : (s child : ℕ) (b : Side) → loaded_in (known_under v s) (Link s b) ≡ Some child → s < slot_count k
   linked s child b now = slot_in s (loaded_in_table s (Link s b) child now)
 
-  either : (b : Bool) (x y : Act) → (Needs k v 0 x → IsWord k (field_of v.allowance.place x)) → (Needs k v 0 y → IsWord k (field_of v.allowance.place y)) → Needs k v 0 (cond b x y) → IsWord k (field_of v.allowance.place (cond b x y))
+  either : (b : Bool) (x y : Act) → (Needs k v 0 x → IsWord k (field_of v.allowance.place x))
+      → (Needs k v 0 y → IsWord k (field_of v.allowance.place y)) → Needs k v 0 (cond b x y)
+      → IsWord k (field_of v.allowance.place (cond b x y))
   either true x y first second d = first d
   either false x y first second d = second d
 
-  within : (stage : Stage) → (is_step (act_at o stage) ≡ false → k.waiter ≡ Eer) → Fits o stage v → Needs k v 0 (act_at o stage) → IsWord k (field_of v.allowance.place (act_at o stage))
+  within : (stage : Stage) → (is_step (act_at o stage) ≡ false → k.waiter ≡ Eer) → Fits o stage v → Needs k v 0 (act_at o stage)
+      → IsWord k (field_of v.allowance.place (act_at o stage))
   within at.Finished eer f d = tt
   within at.EnterClock eer f d = tt
   within (at.EnterKey clock) eer f d = place_in v.allowance.place (eer refl) told.place_within
@@ -145,14 +151,18 @@ module _ (k : Shape) (h : List Mark) (o : Own) (v : View) (word : Field → ℕ)
   within (at.OldRaise aim life) eer f d =
       let s : ℕ = first_or_root o.retired in
       let number : ℕ = 2 * (life / 2 + 1) in
-      either (is_some o.spare) (RaiseRetired s number) (RaiseToSpare s number) (λ x. retired x.0 x.2 s (x.3).retired) (λ x. retired x.0 x.2 s (x.3).retired) d
+      either (is_some o.spare) (RaiseRetired s number) (RaiseToSpare s number) (λ x. retired x.0 x.2 s (x.3).retired)
+      (λ x. retired x.0 x.2 s (x.3).retired) d
   within (at.OldFree aim) eer f d = retired d.0 d.1 (first_or_root o.retired) (d.2).retired
   within (at.OldCount aim) eer f d = tt
   within (at.Commit u expected) eer f d = tt
   within (at.Store (update.Leaf spot) front) eer f (t, r, l, held, generation, tag, needs, same) = under_lock spot.slot (l, needs.locked)
-  within (at.Store (update.Value s old) front) eer f (t, r, generation, needs, same) = under_lock s (let l = lock_under v s (Life s) (2 * generation) needs.life_now in (l.0, l.1))
-  within (at.Store (update.Bypass x child) front) eer f (t, r, left, right, needs, same) = linked x.parent x.node x.side ((needs.records).records).link_now
-  within (at.Store (update.Copy x u next_key copy) front) eer f (t, r, held, left, right, value, needs, same) = linked x.parent x.node x.side ((needs.records).records).link_now
+  within (at.Store (update.Value s old) front) eer f (t, r, generation, needs, same) =
+      under_lock s (let l = lock_under v s (Life s) (2 * generation) needs.life_now in (l.0, l.1))
+  within (at.Store (update.Bypass x child) front) eer f (t, r, left, right, needs, same) =
+      linked x.parent x.node x.side ((needs.records).records).link_now
+  within (at.Store (update.Copy x u next_key copy) front) eer f (t, r, held, left, right, value, needs, same) =
+      linked x.parent x.node x.side ((needs.records).records).link_now
   within (at.Even u front) eer f d = tt
   within (at.Unlock l) eer f d = under_lock (first_or_root o.locks) (d.0, (d.1).held)
   within (at.SetLife s) eer f d = searched s part.Life d
@@ -180,10 +190,12 @@ module _ (k : Shape) (h : List Mark) (o : Own) (v : View) (word : Field → ℕ)
   within (at.OldMark m) eer f d = marked m.successor.slot _ d
   within (at.OldRight m) eer f d = locked m.successor.slot (part.Link Right) d
   within (at.Unlink m child) eer f d =
-      either (m.successor.parent == m.node.node) (UnlinkRight m.copy m.successor.slot child) (UnlinkLeft m.successor.parent m.successor.slot child)
+      either (m.successor.parent == m.node.node) (UnlinkRight m.copy m.successor.slot child)
+      (UnlinkLeft m.successor.parent m.successor.slot child)
       (λ x. slot_in m.copy (subst (λ t. t < table_of o) (x.3).parent_is (told.move_within x.0 (x.3).moving)))
       (λ x. slot_in m.successor.parent (subst (λ t. t < table_of o) (x.3).parent_is (told.move_within x.0 (x.3).moving))) d
 
 pub acts_are_within : ActsAreWithin
 acts_are_within k h o v word stage eer slots places told f =
-    subst (λ p. IsWord k (field_of p (act_at o stage))) f.owns.same (within k h o v word slots places told stage eer f (needs_are_given k h o v word 0 stage eer places told f))
+    subst (λ p. IsWord k (field_of p (act_at o stage))) f.owns.same
+    (within k h o v word slots places told stage eer f (needs_are_given k h o v word 0 stage eer places told f))

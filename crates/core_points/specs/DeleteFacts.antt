@@ -71,7 +71,8 @@ abbrev pub IsWithin : ℕ → Reading → Type 0
 IsWithin n r = (s : ℕ) → IsIn r.stood s → s < n
 
 abbrev pub HasTarget : ℕ → List Reading → ℕ → Target → Type 0
-HasTarget n records key t = (r : Reading) × IsIn records r × (r.key ≡ key) × ((value : Option ℕ) × (r.state ≡ FoundAt t.node.node t.node.parent t.node.side value))
+HasTarget n records key t = (r : Reading) × IsIn records r × (r.key ≡ key)
+    × ((value : Option ℕ) × (r.state ≡ FoundAt t.node.node t.node.parent t.node.side value))
     × IsWithin n r × IsIn r.stood t.node.parent × IsIn r.stood t.node.node × ReadsChildren r t.node t.successor
 
 abbrev pub Deleting : Own → Type 0
@@ -79,7 +80,8 @@ Deleting o = (is_delete o.op ≡ true) × Ready o
 
 -- in the section, with the node found
 abbrev pub OnNode : Own → View → ℕ → ℕ → Side → (Reading → Type 0) → Type 0
-OnNode o v node parent b more = Calm o v × (is_delete o.op ≡ true) × Inside v (key_now o) (FoundAt node parent b None) (λ section. IsIn section.reading.stood parent × more section.reading)
+OnNode o v node parent b more = Calm o v × (is_delete o.op ≡ true)
+    × Inside v (key_now o) (FoundAt node parent b None) (λ section. IsIn section.reading.stood parent × more section.reading)
 
 -- Under its locks.
 
@@ -94,7 +96,8 @@ first_locks t (suc i) = target_lock t i ∷ first_locks t i
 
 -- so many locks of the target were got, and they are apart
 abbrev pub AreGot : Target → ℕ → List HeldLock → Type 0
-AreGot t i locks = (j : ℕ) → j < i → ((lock : HeldLock) × (lock_of locks (target_lock t j) ≡ Some lock)) × ((l : ℕ) → l < j → target_lock t l ≢ target_lock t j)
+AreGot t i locks = (j : ℕ) → j < i → ((lock : HeldLock) × (lock_of locks (target_lock t j) ≡ Some lock))
+    × ((l : ℕ) → l < j → target_lock t l ≢ target_lock t j)
 
 -- all locks of a node and its successor are held, at most four, and these slots are apart
 abbrev pub Holds : List HeldLock → ℕ → Type 0
@@ -105,11 +108,15 @@ HoldsSuccessorLocks locks d None = Unit {0}
 HoldsSuccessorLocks locks d (Some u) = AreApart d u × Holds locks u.slot × Holds locks u.parent
 
 abbrev pub HoldsAll : List HeldLock → Target → Type 0
-HoldsAll locks t = (length locks ≤ 4) × Holds locks t.node.parent × Holds locks t.node.node × (t.node.parent ≢ t.node.node) × HoldsSuccessorLocks locks t.node t.successor
+HoldsAll locks t = (length locks ≤ 4) × Holds locks t.node.parent × Holds locks t.node.node × (t.node.parent ≢ t.node.node)
+    × HoldsSuccessorLocks locks t.node t.successor
 
 abbrev pub found_number : Found → ℕ → ℕ
-found_number f i = if i == 0 then f.parent_life else if i == 1 then f.link else if i == 2 then f.life else if i == 3 then f.left else if i == 4 then f.right
-    else if i == 5 then f.successor_parent_life else if i == 6 then f.successor_link else if i == 7 then f.successor_life else f.successor_left
+found_number f i =
+    if i == 0 then f.parent_life else if i == 1 then f.link else if i == 2 then f.life else if i == 3 then f.left
+    else if i == 4 then f.right
+    else if i == 5 then f.successor_parent_life else if i == 6 then f.successor_link else if i == 7 then f.successor_life
+    else f.successor_left
 
 -- Where the node is the successor's parent, the life of that parent is left out, and the node's right is loaded again, as the link to the
 -- successor.
@@ -121,7 +128,8 @@ pub record IsSkipped (t : Target) (i j : ℕ) : Type 0 where
 
 -- the words of the target below this number were loaded last with these numbers
 abbrev pub HasLoaded : List HeldLock → Target → ℕ → Found → Type 0
-HasLoaded locks t i f = (j : ℕ) → j < i → IsSkipped t i j ⊎ (loaded_in (under locks (target_slot t j)) (target_word t j) ≡ Some (found_number f j))
+HasLoaded locks t i f = (j : ℕ) → j < i → IsSkipped t i j
+    ⊎ (loaded_in (under locks (target_slot t j)) (target_word t j) ≡ Some (found_number f j))
 
 -- where the node is the successor's parent, the life of that parent isn't loaded
 abbrev pub IsLoadedNow : Target → ℕ → Type 0
@@ -152,7 +160,9 @@ pub record HoldsFew (r : Reading) (d : Node) : Type 0 where
 -- the link to the successor leads to it
 abbrev pub HoldsLink : List HeldLock → Reading → Node → Successor → Type 0
 HoldsLink locks r d u = ((u.parent ≡ d.node) × (d.right ≡ u.slot))
-    ⊎ ((u.parent ≢ d.node) × LoadedGeneration r u.parent u.parent_generation × (loaded_in (under locks u.parent) (Life u.parent) ≡ Some (2 * u.parent_generation)) × (loaded_in (under locks u.parent) (Link u.parent Left) ≡ Some u.slot))
+    ⊎ ((u.parent ≢ d.node) × LoadedGeneration r u.parent u.parent_generation
+    × (loaded_in (under locks u.parent) (Life u.parent) ≡ Some (2 * u.parent_generation))
+    × (loaded_in (under locks u.parent) (Link u.parent Left) ≡ Some u.slot))
 
 -- the node has two children, and its successor is as the section found it, without a left
 pub record HoldsSuccessor (locks : List HeldLock) (r : Reading) (d : Node) (u : Successor) : Type 0 where
@@ -187,7 +197,8 @@ abbrev pub ClearButMark : List HeldLock → ℕ → Type 0
 ClearButMark locks s = AreClear (change_lock s (with_mark false) locks)
 
 abbrev pub Bypassing : Own → View → Node → ℕ → Option Commit → Type 0
-Bypassing o v d child commit = Quiet o v commit × Deleting o × HasLocks o × FewHold v.records v.locks (key_now o) d × IsMarked v.locks d × ClearButMark v.locks d.node × (child ≡ (if d.left == 0 then d.right else d.left))
+Bypassing o v d child commit = Quiet o v commit × Deleting o × HasLocks o × FewHold v.records v.locks (key_now o) d × IsMarked v.locks d
+    × ClearButMark v.locks d.node × (child ≡ (if d.left == 0 then d.right else d.left))
 
 -- The copy.
 
@@ -219,31 +230,38 @@ abbrev pub Copying : Own → View → Node → Successor → Option Commit → T
 Copying o v d u commit = Quiet o v commit × Deleting o × BothHold v.records v.locks (key_now o) d u
 
 abbrev pub BeforeCopy : Own → View → Node → Successor → Type 0
-BeforeCopy o v d u = Copying o v d u None × IsUnmarked v.locks d × AreClear v.locks × (length v.locks ≤ 4) × (o.locks ≡ all_locks d u) × Holds v.locks u.slot
+BeforeCopy o v d u = Copying o v d u None × IsUnmarked v.locks d × AreClear v.locks × (length v.locks ≤ 4) × (o.locks ≡ all_locks d u)
+    × Holds v.locks u.slot
 
 abbrev pub IsFilled : View → Node → Successor → ℕ → ℕ → Type 0
-IsFilled v d u next_key copy = IsAside copy d u × ((value : ℕ) × KnowsSuccessor v.locks u next_key value × HasCopy v.hands.spare copy d next_key value 4)
+IsFilled v d u next_key copy = IsAside copy d u
+    × ((value : ℕ) × KnowsSuccessor v.locks u next_key value × HasCopy v.hands.spare copy d next_key value 4)
 
 abbrev pub CopyMaking : Own → View → Node → Successor → ℕ → ℕ → Option Commit → Type 0
-CopyMaking o v d u next_key copy commit = Copying o v d u commit × IsFilled v d u next_key copy × IsMarked v.locks d × ClearButMark v.locks d.node × (o.locks ≡ copy ∷ all_locks d u) × Holds v.locks copy
+CopyMaking o v d u next_key copy commit = Copying o v d u commit × IsFilled v d u next_key copy × IsMarked v.locks d
+    × ClearButMark v.locks d.node × (o.locks ≡ copy ∷ all_locks d u) × Holds v.locks copy
 
 -- The move.
 abbrev pub move_parent : Moving → ℕ
 move_parent m = if m.successor.parent == m.node.node then m.copy else m.successor.parent
 
 abbrev pub IsMove : Option moves.Move → ℕ → Moving → Bool → Type 0
-IsMove moving key m waited = (move : moves.Move) × (moving ≡ Some move) × (move.key ≡ key) × (move.next_key ≡ m.next_key) × (move.copy.slot ≡ m.copy) × (move.old ≡ m.successor.slot) × (move.parent ≡ move_parent m) × (move.waited ≡ waited)
+IsMove moving key m waited = (move : moves.Move) × (moving ≡ Some move) × (move.key ≡ key) × (move.next_key ≡ m.next_key)
+    × (move.copy.slot ≡ m.copy) × (move.old ≡ m.successor.slot) × (move.parent ≡ move_parent m) × (move.waited ≡ waited)
 
 -- the old successor's lock: its life as it was recorded, marked or not
 pub record HoldsOld (locks : List HeldLock) (m : Moving) (marked : Bool) : Type 0 where
   pub lock : HeldLock
   pub locked : lock_of locks m.successor.slot ≡ Some lock
   pub marked_is : lock.marked ≡ marked
-  pub life : known_in lock.known (Life m.successor.slot) ≡ Some (if marked then 2 * m.successor.generation + 1 else 2 * m.successor.generation)
+  pub life : known_in lock.known (Life m.successor.slot)
+      ≡ Some (if marked then 2 * m.successor.generation + 1 else 2 * m.successor.generation)
 
 abbrev pub Shifting : Own → View → Moving → Bool → Option Commit → Type 0
-Shifting o v m waited commit = (v.section ≡ None) × (v.commit ≡ commit) × (v.hands.reserved ≡ false) × (v.hands.owes ≡ false) × (v.hands.hand ≡ None) × (o.hand ≡ None)
-    × IsMove v.moving (key_now o) m waited × (o.locks ≡ m.copy ∷ all_locks m.node m.successor) × Holds v.locks (move_parent m) × (m.copy ≢ m.successor.parent) × (is_delete o.op ≡ true)
+Shifting o v m waited commit = (v.section ≡ None) × (v.commit ≡ commit) × (v.hands.reserved ≡ false) × (v.hands.owes ≡ false)
+    × (v.hands.hand ≡ None) × (o.hand ≡ None)
+    × IsMove v.moving (key_now o) m waited × (o.locks ≡ m.copy ∷ all_locks m.node m.successor) × Holds v.locks (move_parent m)
+    × (m.copy ≢ m.successor.parent) × (is_delete o.op ≡ true)
 
 -- the place's wait is for the readers that may pass the old successor, and has excused the places below this one
 pub record OutlastsMove (wait : Waiting) (moving : Option moves.Move) (low high clock p : ℕ) : Type 0 where
@@ -255,11 +273,13 @@ pub record OutlastsMove (wait : Waiting) (moving : Option moves.Move) (low high 
   pub later : (move : moves.Move) → moving ≡ Some move → move.made < wait.began
 
 abbrev pub OutlastingMove : Own → View → Moving → ℕ → ℕ → Type 0
-OutlastingMove o v m clock p = (p < o.places) × ((wait : Waiting) × (v.wait ≡ Some wait) × OutlastsMove wait v.moving (key_now o + 1) m.next_key clock p)
+OutlastingMove o v m clock p = (p < o.places) × ((wait : Waiting) × (v.wait ≡ Some wait)
+    × OutlastsMove wait v.moving (key_now o + 1) m.next_key clock p)
 
 -- A side of a locked slot was emptied, and its tag isn't raised yet; but for this, all locks are clear.
 abbrev pub Emptied : List HeldLock → ℕ → Side → (HeldLock → Type 0) → Type 0
-Emptied locks s b more = (lock : HeldLock) × (lock_of locks s ≡ Some lock) × (is_emptied lock b ≡ true) × AreClear (change_lock s (with_emptied b false) locks) × more lock
+Emptied locks s b more = (lock : HeldLock) × (lock_of locks s ≡ Some lock) × (is_emptied lock b ≡ true)
+    × AreClear (change_lock s (with_emptied b false) locks) × more lock
 
 abbrev pub Anything : HeldLock → Type 0
 Anything lock = Unit {0}

@@ -31,7 +31,8 @@ successor_slot d (Some u) i = if i == 5 then u.parent else if i == 6 then u.pare
 
 abbrev pub successor_part : Node → Option Successor → ℕ → Part
 successor_part d None i = part.Life
-successor_part d (Some u) i = if i == 5 then part.Life else if i == 6 then (if u.parent == d.node then part.Link Right else part.Link Left) else if i == 7 then part.Life else part.Link Left
+successor_part d (Some u) i = if i == 5 then part.Life else if i == 6 then
+    (if u.parent == d.node then part.Link Right else part.Link Left) else if i == 7 then part.Life else part.Link Left
 
 abbrev pub target_slot : Target → ℕ → ℕ
 target_slot t i = if nat_lt i 2 then t.node.parent else if nat_lt i 5 then t.node.node else successor_slot t.node t.successor i
@@ -58,15 +59,27 @@ with_found f i n = record {
 }
 
 abbrev pub nothing_found : Found
-nothing_found = record { parent_life = 0; link = 0; life = 0; left = 0; right = 0; successor_parent_life = 0; successor_link = 0; successor_life = 0; successor_left = 0 }
+nothing_found = record {
+  parent_life = 0;
+  link = 0;
+  life = 0;
+  left = 0;
+  right = 0;
+  successor_parent_life = 0;
+  successor_link = 0;
+  successor_life = 0;
+  successor_left = 0;
+}
 
 abbrev pub successor_holds : Node → Option Successor → Found → Bool
 successor_holds d None f = (f.left == 0) || (f.right == 0)
 successor_holds d (Some u) f = not ((f.left == 0) || (f.right == 0))
-    && (((u.parent == d.node) || (f.successor_parent_life == 2 * u.parent_generation)) && ((f.successor_link == u.slot) && ((f.successor_life == 2 * u.generation) && (f.successor_left == 0))))
+    && (((u.parent == d.node) || (f.successor_parent_life == 2 * u.parent_generation))
+    && ((f.successor_link == u.slot) && ((f.successor_life == 2 * u.generation) && (f.successor_left == 0))))
 
 abbrev pub target_holds : Target → Found → Bool
-target_holds t f = (f.parent_life == 2 * t.node.parent_generation) && ((f.link == t.node.node) && ((f.life == 2 * t.node.generation) && successor_holds t.node t.successor f))
+target_holds t f = (f.parent_life == 2 * t.node.parent_generation)
+    && ((f.link == t.node.node) && ((f.life == 2 * t.node.generation) && successor_holds t.node t.successor f))
 
 -- the node's right as it was loaded last: where the node is the successor's parent, that was the link to the successor
 abbrev pub last_right : Node → Option Successor → Found → ℕ
@@ -75,4 +88,5 @@ last_right d (Some u) f = if u.parent == d.node then f.successor_link else f.rig
 
 -- the locks of a move in the order in which they are given up
 abbrev pub move_locks : Moving → List ℕ
-move_locks m = m.successor.slot ∷ (if m.successor.parent == m.node.node then m.copy ∷ (m.node.node ∷ (m.node.parent ∷ [])) else m.successor.parent ∷ (m.copy ∷ (m.node.node ∷ (m.node.parent ∷ []))))
+move_locks m = m.successor.slot ∷ (if m.successor.parent == m.node.node then m.copy
+    ∷ (m.node.node ∷ (m.node.parent ∷ [])) else m.successor.parent ∷ (m.copy ∷ (m.node.node ∷ (m.node.parent ∷ []))))

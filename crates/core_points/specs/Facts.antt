@@ -63,7 +63,8 @@ leaf_known s life key value i =
     else if i == 1 then stored_at (Key s) key ∷ taken_known s life
     else if i == 2 then stored_at (Value s) value ∷ (stored_at (Key s) key ∷ taken_known s life)
     else if i == 3 then stored_at (Link s Left) 0 ∷ (stored_at (Value s) value ∷ (stored_at (Key s) key ∷ taken_known s life))
-    else stored_at (Link s Right) 0 ∷ (stored_at (Link s Left) 0 ∷ (stored_at (Value s) value ∷ (stored_at (Key s) key ∷ taken_known s life)))
+    else stored_at (Link s Right) 0 ∷ (stored_at (Link s Left) 0
+    ∷ (stored_at (Value s) value ∷ (stored_at (Key s) key ∷ taken_known s life)))
 
 abbrev pub leaf_held : ℕ → ℕ → ℕ → ℕ → ℕ → Held
 leaf_held s life key value i = record { slot = s; known = leaf_known s life key value i; raised = false }
@@ -84,7 +85,8 @@ HandFits (Some s) life key value hand = (held : Held) × (hand ≡ Some held) ×
 
 -- nothing is under way but this much: locks, the front odd, a reservation
 abbrev pub Bare : View → List HeldLock → Option Commit → Bool → Type 0
-Bare v locks commit reserved = (v.locks ≡ locks) × (v.commit ≡ commit) × (v.moving ≡ None) × (v.hands.reserved ≡ reserved) × (v.hands.owes ≡ false)
+Bare v locks commit reserved = (v.locks ≡ locks) × (v.commit ≡ commit) × (v.moving ≡ None) × (v.hands.reserved ≡ reserved)
+    × (v.hands.owes ≡ false)
 
 -- an open section that searches for a key, and where its search stands
 pub record Stands (section : Section) (key : ℕ) (state : SearchState) : Type 0 where
@@ -102,7 +104,8 @@ Nothing section = Unit {0}
 
 -- a section that was left recorded an empty side of one of so many slots
 abbrev pub HasSpot : ℕ → List Reading → ℕ → Spot → Type 0
-HasSpot n records key spot = (r : Reading) × IsIn records r × (r.key ≡ key) × (r.state ≡ Missed spot.slot spot.side) × LoadedGeneration r spot.slot spot.generation
+HasSpot n records key spot = (r : Reading) × IsIn records r × (r.key ≡ key) × (r.state ≡ Missed spot.slot spot.side)
+    × LoadedGeneration r spot.slot spot.generation
     × (known_in r.loads (Tag spot.slot spot.side) ≡ Some spot.tag) × (spot.slot < n)
 
 -- the one lock of a put or a set, with what was loaded and stored under it
@@ -111,7 +114,8 @@ one_lock s known = record { slot = s; known = known; left_emptied = false; right
 
 -- what a put loaded under its lock, where it holds its record
 abbrev pub spot_known : Spot → List Known
-spot_known spot = read_at (Tag spot.slot spot.side) spot.tag ∷ (read_at (Link spot.slot spot.side) 0 ∷ (read_at (Life spot.slot) (2 * spot.generation) ∷ []))
+spot_known spot = read_at (Tag spot.slot spot.side) spot.tag
+    ∷ (read_at (Link spot.slot spot.side) 0 ∷ (read_at (Life spot.slot) (2 * spot.generation) ∷ []))
 
 -- locks of which none has an emptied side or a mark
 abbrev pub AreClear : List HeldLock → Type 0
@@ -122,7 +126,8 @@ abbrev pub SameLocks : List ℕ → List HeldLock → Type 0
 SameLocks slots locks = (s : ℕ) → times s (map (λ (l : HeldLock). l.slot) locks) ≡ times s slots
 
 -- What a caller keeps is what its view says: of its place, the spare and the retired slots.
-pub record OwnsParts (o_place key : ℕ) (rest : List Op) (scan most : ℕ) (o_spare : Option ℕ) (o_retired o_locks : List ℕ) (place places : ℕ) (spare : Option Held) (retired : List Retired) (locks : List HeldLock) : Type 0 where
+pub record OwnsParts (o_place key : ℕ) (rest : List Op) (scan most : ℕ) (o_spare : Option ℕ) (o_retired o_locks : List ℕ) (place places : ℕ)
+    (spare : Option Held) (retired : List Retired) (locks : List HeldLock) : Type 0 where
   pub same : place ≡ o_place
   pub works : 1 ≤ places
   pub spare_is : spare_slot spare ≡ o_spare
@@ -134,7 +139,8 @@ pub record OwnsParts (o_place key : ℕ) (rest : List Op) (scan most : ℕ) (o_s
   pub scans_table : scan ≤ most
 
 abbrev pub Owns : Own → View → Type 0
-Owns o v = OwnsParts o.place (key_now o) o.rest o.scan (o.slots + o.places) o.spare o.retired o.locks v.allowance.place v.allowance.places v.hands.spare v.hands.retired v.locks
+Owns o v = OwnsParts o.place (key_now o) o.rest o.scan
+    (o.slots + o.places) o.spare o.retired o.locks v.allowance.place v.allowance.places v.hands.spare v.hands.retired v.locks
 
 -- What a call has before it searches: only a put has a slot in hand, and a delete has a spare and room among its retired slots.
 pub record IsReady (op : Op) (hand spare : Option ℕ) (retired : List ℕ) : Type 0 where
@@ -155,7 +161,8 @@ Calm o v = Bare v [] None false × Hand o v × Ready o
 
 -- a put that has a slot in hand, a record, and this much under way
 abbrev pub Putting : Own → View → Spot → List HeldLock → Option Commit → Type 0
-Putting o v spot locks commit = (v.section ≡ None) × ((s : ℕ) × (o.hand ≡ Some s)) × Bare v locks commit false × Hand o v × HasSpot (table_of o) v.records (key_now o) spot × (is_put o.op ≡ true)
+Putting o v spot locks commit = (v.section ≡ None) × ((s : ℕ) × (o.hand ≡ Some s)) × Bare v locks commit false × Hand o v
+    × HasSpot (table_of o) v.records (key_now o) spot × (is_put o.op ≡ true)
 
 -- outside a section, with nothing in hand or under way
 abbrev pub Idle : Own → View → Type 0
@@ -179,22 +186,26 @@ Outlasting o v clock p = (wait : Waiting) × (v.wait ≡ Some wait) × Outlasts 
 
 -- Outside a section, with no slot in hand and no move: what holds before and after an update under locks.
 abbrev pub Quiet : Own → View → Option Commit → Type 0
-Quiet o v commit = (v.section ≡ None) × (v.commit ≡ commit) × (v.moving ≡ None) × (v.hands.reserved ≡ false) × (v.hands.owes ≡ false) × (v.hands.hand ≡ None) × (o.hand ≡ None)
+Quiet o v commit = (v.section ≡ None) × (v.commit ≡ commit) × (v.moving ≡ None) × (v.hands.reserved ≡ false) × (v.hands.owes ≡ false)
+    × (v.hands.hand ≡ None) × (o.hand ≡ None)
 
 abbrev pub HasLocks : Own → Type 0
 HasLocks o = is_none_left o.locks ≡ false
 
 -- before a lock is given up
 abbrev pub Unlocking : Own → View → Type 0
-Unlocking o v = (v.section ≡ None) × (v.commit ≡ None) × (v.moving ≡ None) × (v.hands.reserved ≡ false) × (v.hands.owes ≡ false) × AreClear v.locks × HasLocks o
+Unlocking o v = (v.section ≡ None) × (v.commit ≡ None) × (v.moving ≡ None) × (v.hands.reserved ≡ false) × (v.hands.owes ≡ false)
+    × AreClear v.locks × HasLocks o
 
 -- a section that was left found one of so many slots, and loaded its generation
 abbrev pub HasFound : ℕ → List Reading → ℕ → ℕ → ℕ → Type 0
-HasFound n records key s generation = (r : Reading) × IsIn records r × (r.key ≡ key) × ((p : ℕ) × (b : Side) × (value : Option ℕ) × (r.state ≡ Found s p b value)) × LoadedGeneration r s generation × (s < n)
+HasFound n records key s generation = (r : Reading) × IsIn records r × (r.key ≡ key)
+    × ((p : ℕ) × (b : Side) × (value : Option ℕ) × (r.state ≡ Found s p b value)) × LoadedGeneration r s generation × (s < n)
 
 -- a set that has a record, and this much under way
 abbrev pub Setting : Own → View → ℕ → ℕ → List HeldLock → Option Commit → Type 0
-Setting o v s generation locks commit = Quiet o v commit × (v.locks ≡ locks) × HasFound (table_of o) v.records (key_now o) s generation × (is_set o.op ≡ true)
+Setting o v s generation locks commit = Quiet o v commit × (v.locks ≡ locks) × HasFound (table_of o) v.records (key_now o) s generation
+    × (is_set o.op ≡ true)
 
 -- what a set loaded under its lock, where it holds its record
 abbrev pub set_known : ℕ → ℕ → ℕ → List Known

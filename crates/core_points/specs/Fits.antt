@@ -33,12 +33,16 @@ use Rattle.core_points.specs.DeleteFacts.{ReadsLives, WalksTo, ReadsParent, Read
 
 abbrev pub PointLeave : Own → View → Then → Type 0
 PointLeave o v then.Absent = (is_put o.op ≡ false) × ((s : ℕ) × (b : Side) × Inside v (key_now o) (Missed s b) Nothing)
-PointLeave o v (then.Value value) = (o.op ≡ Get (key_now o)) × ((s p : ℕ) × (b : Side) × Inside v (key_now o) (Found s p b (Some value)) Nothing)
+PointLeave o v (then.Value value) = (o.op ≡ Get (key_now o))
+    × ((s p : ℕ) × (b : Side) × Inside v (key_now o) (Found s p b (Some value)) Nothing)
 PointLeave o v then.Old = (is_put o.op ≡ true) × ((s p : ℕ) × (b : Side) × Inside v (key_now o) (Found s p b None) Nothing)
 PointLeave o v (then.Link spot) = (is_put o.op ≡ true) × Inside v (key_now o) (Missed spot.slot spot.side) (λ section.
     LoadedGeneration section.reading spot.slot spot.generation × (known_in section.reading.loads (Tag spot.slot spot.side) ≡ Some spot.tag))
-PointLeave o v (then.Replace s generation) = (is_set o.op ≡ true) × ((p : ℕ) × (b : Side) × Inside v (key_now o) (Found s p b None) (λ section. LoadedGeneration section.reading s generation))
-PointLeave o v (then.Delete t) = (is_delete o.op ≡ true) × Inside v (key_now o) (Found t.node.node t.node.parent t.node.side None) (λ section. IsIn section.reading.stood t.node.parent × ReadsChildren section.reading t.node t.successor)
+PointLeave o v (then.Replace s generation) = (is_set o.op ≡ true)
+    × ((p : ℕ) × (b : Side) × Inside v (key_now o) (Found s p b None) (λ section. LoadedGeneration section.reading s generation))
+PointLeave o v (then.Delete t) = (is_delete o.op ≡ true)
+    × Inside v (key_now o) (Found t.node.node t.node.parent t.node.side None)
+    (λ section. IsIn section.reading.stood t.node.parent × ReadsChildren section.reading t.node t.successor)
 
 abbrev pub PointUnlock : Own → View → Last → Type 0
 PointUnlock o v last.Again = Unlocking o v × Hand o v × Ready o
@@ -57,7 +61,8 @@ Making o (update.Copy d u next_key copy) v commit = CopyMaking o v d u next_key 
 abbrev pub Made : Own → Update → View → Option Commit → Type 0
 Made o (update.Leaf spot) v commit = Quiet o v commit × HasLocks o × AreClear v.locks × (is_put o.op ≡ true)
 Made o (update.Value s old) v commit = Quiet o v commit × HasLocks o × AreClear v.locks × (is_set o.op ≡ true)
-Made o (update.Bypass d child) v commit = Quiet o v commit × HasLocks o × Relinked (child == 0) v.locks d.parent d.side × (is_delete o.op ≡ true)
+Made o (update.Bypass d child) v commit = Quiet o v commit × HasLocks o × Relinked (child == 0) v.locks d.parent d.side
+    × (is_delete o.op ≡ true)
 Made o (update.Copy d u next_key copy) v commit =
     let m : Moving = record { node = d; successor = u; copy = copy; next_key = next_key; number = 0 } in
     Shifting o v m false commit × HoldsOld v.locks m false × AreClear v.locks
@@ -67,40 +72,60 @@ abbrev pub Point : Own → Stage → View → Type 0
 Point o at.Finished v = (v.section ≡ None) × Bare v [] None false × (v.hands.hand ≡ None)
 Point o at.EnterClock v = (v.section ≡ None) × Calm o v
 Point o (at.EnterKey clock) v = (v.section ≡ None) × Calm o v × ((c : Clocked) × (v.enter.clock ≡ Some c) × (c.number ≡ clock))
-Point o (at.EnterStamp clock) v = (v.section ≡ None) × Calm o v × ((c : Clocked) × (v.enter.clock ≡ Some c) × (c.number ≡ clock)) × (v.enter.announced ≡ Some (key_now o))
+Point o (at.EnterStamp clock) v = (v.section ≡ None) × Calm o v × ((c : Clocked) × (v.enter.clock ≡ Some c) × (c.number ≡ clock))
+    × (v.enter.announced ≡ Some (key_now o))
 Point o (at.AtLink s b) v = Calm o v × Inside v (key_now o) (At s b) Nothing
 Point o (at.AtKey s p b) v = Calm o v × Inside v (key_now o) (Unread s p b) (λ section. IsIn section.reading.stood p)
 Point o (at.Value s) v = Calm o v × (o.op ≡ Get (key_now o)) × ((p : ℕ) × (b : Side) × Inside v (key_now o) (Found s p b None) Nothing)
 Point o (at.Leave next) v = Calm o v × PointLeave o v next
 Point o (at.SpotTag s b) v = Calm o v × (is_put o.op ≡ true) × Inside v (key_now o) (Missed s b) Nothing
-Point o (at.SpotLife s b tag) v = Calm o v × (is_put o.op ≡ true) × Inside v (key_now o) (Missed s b) (λ section. known_in section.reading.loads (Tag s b) ≡ Some tag)
-Point o (at.Reserve (Leaf spot) expected) v = (v.section ≡ None) × Bare v [] None false × (v.hands.hand ≡ None) × (o.hand ≡ None) × (1 ≤ expected) × HasSpot (table_of o) v.records (key_now o) spot × (is_put o.op ≡ true)
-Point o (at.Seize (Leaf spot)) v = (v.section ≡ None) × Bare v [] None true × (v.hands.hand ≡ None) × (o.hand ≡ None) × HasSpot (table_of o) v.records (key_now o) spot × (is_put o.op ≡ true)
-Point o (at.Age (Leaf spot) s) v = (v.section ≡ None) × Bare v [] None false × (v.hands.hand ≡ Some (seized s)) × (o.hand ≡ Some s) × HasSpot (table_of o) v.records (key_now o) spot × (is_put o.op ≡ true)
-Point o (at.LeafField spot i) v = (v.section ≡ None) × Bare v [] None false × ((s : ℕ) × (o.hand ≡ Some s) × (v.hands.hand ≡ Some (leaf_held s o.hand_life (key_now o) (value_in o.op) i))) × HasSpot (table_of o) v.records (key_now o) spot × (is_put o.op ≡ true) × (i ≤ 3)
+Point o (at.SpotLife s b tag) v = Calm o v × (is_put o.op ≡ true)
+    × Inside v (key_now o) (Missed s b) (λ section. known_in section.reading.loads (Tag s b) ≡ Some tag)
+Point o (at.Reserve (Leaf spot) expected) v = (v.section ≡ None) × Bare v [] None false × (v.hands.hand ≡ None) × (o.hand ≡ None)
+    × (1 ≤ expected) × HasSpot (table_of o) v.records (key_now o) spot × (is_put o.op ≡ true)
+Point o (at.Seize (Leaf spot)) v = (v.section ≡ None) × Bare v [] None true × (v.hands.hand ≡ None) × (o.hand ≡ None)
+    × HasSpot (table_of o) v.records (key_now o) spot × (is_put o.op ≡ true)
+Point o (at.Age (Leaf spot) s) v = (v.section ≡ None) × Bare v [] None false × (v.hands.hand ≡ Some (seized s)) × (o.hand ≡ Some s)
+    × HasSpot (table_of o) v.records (key_now o) spot × (is_put o.op ≡ true)
+Point o (at.LeafField spot i) v = (v.section ≡ None) × Bare v [] None false
+    × ((s : ℕ) × (o.hand ≡ Some s) × (v.hands.hand ≡ Some (leaf_held s o.hand_life (key_now o) (value_in o.op) i)))
+    × HasSpot (table_of o) v.records (key_now o) spot × (is_put o.op ≡ true) × (i ≤ 3)
 Point o (at.LeafLock spot) v = Putting o v spot [] None
 Point o (at.LeafLife spot) v = Putting o v spot (one_lock spot.slot []) None
 Point o (at.LeafSide spot life) v = Putting o v spot (one_lock spot.slot (read_at (Life spot.slot) life ∷ [])) None
-Point o (at.LeafTag spot life link) v = Putting o v spot (one_lock spot.slot (read_at (Link spot.slot spot.side) link ∷ (read_at (Life spot.slot) life ∷ []))) None
+Point o (at.LeafTag spot life link) v = Putting o v spot
+    (one_lock spot.slot (read_at (Link spot.slot spot.side) link ∷ (read_at (Life spot.slot) life ∷ []))) None
 Point o (at.Commit u expected) v = Making o u v None × (expected % 2 ≡ 0)
 Point o (at.Store u front) v = Making o u v (Some (record { found = front; stored = false }))
 Point o (at.Even u front) v = Made o u v (Some (record { found = front; stored = true }))
 Point o (at.Unlock last) v = PointUnlock o v last
 Point o at.Raise v = (v.section ≡ None) × ((s : ℕ) × (o.hand ≡ Some s)) × Calm o v × (is_put o.op ≡ true)
-Point o at.Free v = (v.section ≡ None) × Bare v [] None false × ((s : ℕ) × (held : Held) × (o.hand ≡ Some s) × (held.slot ≡ s) × (held.raised ≡ true) × (v.hands.hand ≡ Some held)) × (is_put o.op ≡ true)
-Point o at.Count v = (v.section ≡ None) × (o.hand ≡ None) × (v.hands.hand ≡ None) × (v.locks ≡ []) × (v.commit ≡ None) × (v.moving ≡ None) × (v.hands.reserved ≡ false) × (v.hands.owes ≡ true) × (is_put o.op ≡ true)
+Point o at.Free v = (v.section ≡ None) × Bare v [] None false
+    × ((s : ℕ) × (held : Held) × (o.hand ≡ Some s) × (held.slot ≡ s) × (held.raised ≡ true) × (v.hands.hand ≡ Some held))
+    × (is_put o.op ≡ true)
+Point o at.Count v = (v.section ≡ None) × (o.hand ≡ None) × (v.hands.hand ≡ None) × (v.locks ≡ []) × (v.commit ≡ None) × (v.moving ≡ None)
+    × (v.hands.reserved ≡ false) × (v.hands.owes ≡ true) × (is_put o.op ≡ true)
 Point o (at.Begin (Reuse aim)) v = Idle o v × ForAim o v aim
 Point o (at.LookKey (Reuse aim) clock p) v = Idle o v × ForAim o v aim × (p < o.places) × Outlasting o v clock p
 Point o (at.LookStamp (Reuse aim) clock p key) v = Idle o v × ForAim o v aim × (p < o.places) × Outlasting o v clock p
-Point o (at.OldAge aim) v = Idle o v × ForAim o v aim × (is_none_left o.retired ≡ false) × Each v.hands.retired (λ (r : Retired). r.waited ≡ true)
-Point o (at.OldRaise aim life) v = Idle o v × ForAim o v aim × Each v.hands.retired (λ (r : Retired). r.waited ≡ true) × ((r : Retired) × (rs : List Retired) × (v.hands.retired ≡ r ∷ rs) × (r.life ≡ Some life))
-Point o (at.OldFree aim) v = Idle o v × ForAim o v aim × Each v.hands.retired (λ (r : Retired). r.waited ≡ true) × ((r : Retired) × (rs : List Retired) × (v.hands.retired ≡ r ∷ rs) × (r.raised ≡ true) × Each rs (λ (x : Retired). x.raised ≡ false)) × (is_some o.spare ≡ true)
-Point o (at.OldCount aim) v = (v.section ≡ None) × (o.hand ≡ None) × (v.hands.hand ≡ None) × (v.locks ≡ []) × (v.commit ≡ None) × (v.moving ≡ None) × (v.hands.reserved ≡ false) × (v.hands.owes ≡ true) × ForAim o v aim × Each v.hands.retired (λ (r : Retired). r.waited ≡ true)
+Point o (at.OldAge aim) v = Idle o v × ForAim o v aim × (is_none_left o.retired ≡ false)
+    × Each v.hands.retired (λ (r : Retired). r.waited ≡ true)
+Point o (at.OldRaise aim life) v = Idle o v × ForAim o v aim × Each v.hands.retired (λ (r : Retired). r.waited ≡ true)
+    × ((r : Retired) × (rs : List Retired) × (v.hands.retired ≡ r ∷ rs) × (r.life ≡ Some life))
+Point o (at.OldFree aim) v = Idle o v × ForAim o v aim × Each v.hands.retired (λ (r : Retired). r.waited ≡ true)
+    × ((r : Retired) × (rs : List Retired) × (v.hands.retired ≡ r ∷ rs) × (r.raised ≡ true) × Each rs (λ (x : Retired). x.raised ≡ false))
+    × (is_some o.spare ≡ true)
+Point o (at.OldCount aim) v = (v.section ≡ None) × (o.hand ≡ None) × (v.hands.hand ≡ None) × (v.locks ≡ []) × (v.commit ≡ None)
+    × (v.moving ≡ None) × (v.hands.reserved ≡ false) × (v.hands.owes ≡ true) × ForAim o v aim
+    × Each v.hands.retired (λ (r : Retired). r.waited ≡ true)
 -- a spare is taken
 Point o (at.Reserve Spare expected) v = Idle o v × (1 ≤ expected) × (is_delete o.op ≡ true) × (length o.retired < 15) × (o.spare ≡ None)
-Point o (at.Seize Spare) v = (v.section ≡ None) × Bare v [] None true × (v.hands.hand ≡ None) × (o.hand ≡ None) × (is_delete o.op ≡ true) × (length o.retired < 15) × (o.spare ≡ None)
-Point o (at.Age Spare s) v = (v.section ≡ None) × Bare v [] None false × (v.hands.hand ≡ Some (seized s)) × (o.hand ≡ Some s) × (is_delete o.op ≡ true) × (length o.retired < 15) × (o.spare ≡ None)
-Point o (at.Keep s) v = (v.section ≡ None) × Bare v [] None false × ((held : Held) × (v.hands.hand ≡ Some held) × (held.slot ≡ s)) × (is_delete o.op ≡ true) × (length o.retired < 15) × (o.spare ≡ None)
+Point o (at.Seize Spare) v = (v.section ≡ None) × Bare v [] None true × (v.hands.hand ≡ None) × (o.hand ≡ None) × (is_delete o.op ≡ true)
+    × (length o.retired < 15) × (o.spare ≡ None)
+Point o (at.Age Spare s) v = (v.section ≡ None) × Bare v [] None false × (v.hands.hand ≡ Some (seized s)) × (o.hand ≡ Some s)
+    × (is_delete o.op ≡ true) × (length o.retired < 15) × (o.spare ≡ None)
+Point o (at.Keep s) v = (v.section ≡ None) × Bare v [] None false × ((held : Held) × (v.hands.hand ≡ Some held) × (held.slot ≡ s))
+    × (is_delete o.op ≡ true) × (length o.retired < 15) × (o.spare ≡ None)
 Point o (at.Reserve Room expected) v = ⊥
 Point o (at.Seize Room) v = ⊥
 Point o (at.Age Room s) v = ⊥
@@ -113,31 +138,45 @@ Point o (at.SetValue s) v = (generation : ℕ) × Setting o v s generation (one_
 Point o (at.ParentLife p b d) v = OnNode o v d p b (λ r. Unit {0})
 Point o (at.NodeLife d) v = OnNode o v d.node d.parent d.side (λ r. LoadedGeneration r d.parent d.parent_generation)
 Point o (at.NodeLeft d) v = OnNode o v d.node d.parent d.side (λ r. ReadsLives r d)
-Point o (at.NodeRight d) v = OnNode o v d.node d.parent d.side (λ r. ReadsLives r d × (known_in r.loads (Link d.node Left) ≡ Some d.left) × IsIn r.loads (read_at (Link d.node Left) d.left))
+Point o (at.NodeRight d) v = OnNode o v d.node d.parent d.side
+    (λ r. ReadsLives r d × (known_in r.loads (Link d.node Left) ≡ Some d.left) × IsIn r.loads (read_at (Link d.node Left) d.left))
 Point o (at.SuccessorLeft d u) v = OnNode o v d.node d.parent d.side (λ r. ReadsLives r d × WalksTo r d u)
 Point o (at.SuccessorParentLife d u) v = OnNode o v d.node d.parent d.side (λ r. ReadsLives r d × WalksTo r d u × (u.parent ≢ d.node))
-Point o (at.SuccessorLife d u) v = OnNode o v d.node d.parent d.side (λ r. WalksTo r d u × (AreApart d u → ReadsLives r d × ReadsParent r d u))
+Point o (at.SuccessorLife d u) v = OnNode o v d.node d.parent d.side
+    (λ r. WalksTo r d u × (AreApart d u → ReadsLives r d × ReadsParent r d u))
 -- its locks, and the loads under them
-Point o (at.TargetLock t i) v = Quiet o v None × Deleting o × HasTarget (table_of o) v.records (key_now o) t × AreClear v.locks × (length v.locks ≡ i) × (o.locks ≡ first_locks t i) × AreGot t i v.locks × (i < target_locks t)
-Point o (at.TargetLoad t i found) v = Quiet o v None × Deleting o × HasTarget (table_of o) v.records (key_now o) t × AreClear v.locks × (o.locks ≡ first_locks t (target_locks t)) × HoldsAll v.locks t × HasLoaded v.locks t i found × (i < target_words t.successor) × IsLoadedNow t i
+Point o (at.TargetLock t i) v = Quiet o v None × Deleting o × HasTarget (table_of o) v.records (key_now o) t × AreClear v.locks
+    × (length v.locks ≡ i) × (o.locks ≡ first_locks t i) × AreGot t i v.locks × (i < target_locks t)
+Point o (at.TargetLoad t i found) v = Quiet o v None × Deleting o × HasTarget (table_of o) v.records (key_now o) t × AreClear v.locks
+    × (o.locks ≡ first_locks t (target_locks t)) × HoldsAll v.locks t × HasLoaded v.locks t i found × (i < target_words t.successor)
+    × IsLoadedNow t i
 -- few children
-Point o (at.Mark d child) v = Quiet o v None × Deleting o × HasLocks o × AreClear v.locks × FewHold v.records v.locks (key_now o) d × IsUnmarked v.locks d × (child ≡ (if d.left == 0 then d.right else d.left))
+Point o (at.Mark d child) v = Quiet o v None × Deleting o × HasLocks o × AreClear v.locks × FewHold v.records v.locks (key_now o) d
+    × IsUnmarked v.locks d × (child ≡ (if d.left == 0 then d.right else d.left))
 Point o (at.EmptyTag number s b) v = Quiet o v None × HasLocks o × Emptied v.locks s b Anything × (is_delete o.op ≡ true)
-Point o (at.EmptyRaise number s b tag) v = Quiet o v None × HasLocks o × Emptied v.locks s b (λ lock. known_in lock.known (Tag s b) ≡ Some tag) × (is_delete o.op ≡ true)
+Point o (at.EmptyRaise number s b tag) v = Quiet o v None × HasLocks o
+    × Emptied v.locks s b (λ lock. known_in lock.known (Tag s b) ≡ Some tag) × (is_delete o.op ≡ true)
 -- two children
 Point o (at.SuccessorKey d u) v = BeforeCopy o v d u
-Point o (at.SuccessorValue d u next_key) v = BeforeCopy o v d u × IsAside (or_root o.spare) d u × (known_in (under v.locks u.slot) (Key u.slot) ≡ Some next_key)
-Point o (at.CopyField d u next_key value i) v = BeforeCopy o v d u × IsAside (or_root o.spare) d u × KnowsSuccessor v.locks u next_key value × HasCopy v.hands.spare (or_root o.spare) d next_key value i × (i ≤ 3)
+Point o (at.SuccessorValue d u next_key) v = BeforeCopy o v d u × IsAside (or_root o.spare) d u
+    × (known_in (under v.locks u.slot) (Key u.slot) ≡ Some next_key)
+Point o (at.CopyField d u next_key value i) v =
+    BeforeCopy o v d u × IsAside (or_root o.spare) d u × KnowsSuccessor v.locks u next_key value
+    × HasCopy v.hands.spare (or_root o.spare) d next_key value i × (i ≤ 3)
 Point o (at.CopyAge d u next_key) v = BeforeCopy o v d u × IsFilled v d u next_key (or_root o.spare)
 Point o (at.CopyLock d u next_key) v = BeforeCopy o v d u × IsFilled v d u next_key (or_root o.spare)
-Point o (at.CopyMark d u next_key) v = Copying o v d u None × IsFilled v d u next_key (or_root o.spare) × IsUnmarked v.locks d × AreClear v.locks × (o.locks ≡ or_root o.spare ∷ all_locks d u) × Holds v.locks (or_root o.spare)
+Point o (at.CopyMark d u next_key) v = Copying o v d u None × IsFilled v d u next_key (or_root o.spare) × IsUnmarked v.locks d
+    × AreClear v.locks × (o.locks ≡ or_root o.spare ∷ all_locks d u) × Holds v.locks (or_root o.spare)
 -- the move
 Point o (at.Begin (Move m)) v = Shifting o v m false None × HoldsOld v.locks m false × AreClear v.locks
-Point o (at.LookKey (Move m) clock p) v = Shifting o v m false None × HoldsOld v.locks m false × AreClear v.locks × OutlastingMove o v m clock p
-Point o (at.LookStamp (Move m) clock p key) v = Shifting o v m false None × HoldsOld v.locks m false × AreClear v.locks × OutlastingMove o v m clock p
+Point o (at.LookKey (Move m) clock p) v = Shifting o v m false None × HoldsOld v.locks m false × AreClear v.locks
+    × OutlastingMove o v m clock p
+Point o (at.LookStamp (Move m) clock p key) v =
+    Shifting o v m false None × HoldsOld v.locks m false × AreClear v.locks × OutlastingMove o v m clock p
 Point o (at.OldMark m) v = Shifting o v m true None × HoldsOld v.locks m false × AreClear v.locks
 Point o (at.OldRight m) v = Shifting o v m true None × HoldsOld v.locks m true × ClearButMark v.locks m.successor.slot
-Point o (at.Unlink m child) v = Shifting o v m true None × HoldsOld v.locks m true × ClearButMark v.locks m.successor.slot × (known_in (under v.locks m.successor.slot) (Link m.successor.slot Right) ≡ Some child)
+Point o (at.Unlink m child) v = Shifting o v m true None × HoldsOld v.locks m true × ClearButMark v.locks m.successor.slot
+    × (known_in (under v.locks m.successor.slot) (Link m.successor.slot Right) ≡ Some child)
 
 abbrev pub is_raising : Stage → Bool
 is_raising (at.OldFree aim) = true

@@ -29,11 +29,14 @@ use Rattle.core_points.specs.Fits.{Fits}
 
 -- What the invariant tells a view that works at a place.
 abbrev pub RuleTells : Type 0
-RuleTells = (k : Shape) (m : Memory) (vs : List View) (h : List Mark) (id : ℕ) (o : Own) (v : View) → HoldsNow k m vs h → get_elem? vs id ≡ some v → Works v → k.slots ≡ o.slots → k.places ≡ o.places → IsTold o v h m
+RuleTells = (k : Shape) (m : Memory) (vs : List View) (h : List Mark) (id : ℕ) (o : Own) (v : View) → HoldsNow k m vs h
+    → get_elem? vs id ≡ some v → Works v → k.slots ≡ o.slots → k.places ≡ o.places → IsTold o v h m
 
 -- At each point of each call, what its act needs is given. Only the waiter's own acts ask which waiter it is.
 abbrev pub NeedsAreGiven : Type 0
-NeedsAreGiven = (k : Shape) (h : List Mark) (o : Own) (v : View) (word : Field → ℕ) (n : ℕ) (stage : Stage) → (is_step (act_at o stage) ≡ false → k.waiter ≡ Eer) → k.places ≡ o.places → IsTold o v h word → Fits o stage v → Needs k v n (act_at o stage)
+NeedsAreGiven = (k : Shape) (h : List Mark) (o : Own) (v : View) (word : Field → ℕ) (n : ℕ) (stage : Stage)
+    → (is_step (act_at o stage) ≡ false → k.waiter ≡ Eer) → k.places ≡ o.places → IsTold o v h word → Fits o stage v
+    → Needs k v n (act_at o stage)
 
 abbrev pub is_finished : Stage → Bool
 is_finished at.Finished = true
@@ -41,30 +44,39 @@ is_finished _ = false
 
 -- After the act the view fits the next point, whatever number the act found.
 abbrev pub NextFits : Type 0
-NextFits = (h : List Mark) (o : Own) (v : View) (word : Field → ℕ) (stage : Stage) → IsTold o v h word → is_finished stage ≡ false → Fits o stage v
-    → let a : Act = act_at o stage in let n : ℕ = said v a (word (field_of o.place a)) in Fits (after o n stage) (after o n stage).stage (view_after v h n a)
+NextFits = (h : List Mark) (o : Own) (v : View) (word : Field → ℕ) (stage : Stage) → IsTold o v h word → is_finished stage ≡ false
+    → Fits o stage v
+    → let a : Act = act_at o stage in let n : ℕ = said v a (word (field_of o.place a)) in
+    Fits (after o n stage) (after o n stage).stage (view_after v h n a)
 
 -- A view with one more step in its trail fits the same point, and is told the same.
 abbrev pub TrailsAreFree : Type 0
-TrailsAreFree = (h : List Mark) (o : Own) (v : View) (word : Field → ℕ) (stage : Stage) (kind : Kind) (field : Field) (number : ℕ) → (Fits o stage v → Fits o stage (stepped v kind field number)) × (IsTold o v h word → IsTold o (stepped v kind field number) h word)
+TrailsAreFree = (h : List Mark) (o : Own) (v : View) (word : Field → ℕ) (stage : Stage) (kind : Kind) (field : Field) (number : ℕ)
+    → (Fits o stage v → Fits o stage (stepped v kind field number)) × (IsTold o v h word → IsTold o (stepped v kind field number) h word)
 
 -- The word of the act is one of the table's.
 abbrev pub ActsAreWithin : Type 0
-ActsAreWithin = (k : Shape) (h : List Mark) (o : Own) (v : View) (word : Field → ℕ) (stage : Stage) → (is_step (act_at o stage) ≡ false → k.waiter ≡ Eer) → k.slots ≡ o.slots → k.places ≡ o.places → IsTold o v h word → Fits o stage v
+ActsAreWithin = (k : Shape) (h : List Mark) (o : Own) (v : View) (word : Field → ℕ) (stage : Stage)
+    → (is_step (act_at o stage) ≡ false → k.waiter ≡ Eer) → k.slots ≡ o.slots → k.places ≡ o.places → IsTold o v h word → Fits o stage v
     → IsWord k (field_of o.place (act_at o stage))
 
 -- A caller between two calls fits the first point of its next one, with four tickets for each operation and those that it keeps.
 abbrev pub CallsBegin : Type 0
-CallsBegin = (o : Own) (v : View) (ops : List Op) → IsFree o v → Each ops (λ op. key_of op < 2 ^ 64) → 4 * length ops + o.kept ≤ v.allowance.tickets → Fits (begun_with o ops) (begun_with o ops).stage v
+CallsBegin = (o : Own) (v : View) (ops : List Op) → IsFree o v → Each ops (λ op. key_of op < 2 ^ 64)
+    → 4 * length ops + o.kept ≤ v.allowance.tickets → Fits (begun_with o ops) (begun_with o ops).stage v
 
 -- A view that works at a place for the first time is so for a caller that keeps nothing but the place's spare.
 abbrev pub NewViewsAreFree : Type 0
-NewViewsAreFree = (o : Own) (tickets : ℕ) (seen : List Mark) → o.hand ≡ None → o.spare ≡ Some (o.place + 1) → o.retired ≡ [] → o.locks ≡ [] → 1 ≤ o.scan → o.scan ≤ o.slots + o.places → key_now o < 2 ^ 64
+NewViewsAreFree = (o : Own) (tickets : ℕ) (seen : List Mark) → o.hand ≡ None → o.spare ≡ Some (o.place + 1) → o.retired ≡ [] → o.locks ≡ []
+    → 1 ≤ o.scan → o.scan ≤ o.slots + o.places → key_now o < 2 ^ 64
     → Each o.rest (λ op. key_of op < 2 ^ 64) → IsFree o (new_view o.place 1 tickets seen)
 
 -- A view that makes the act of its point keeps the invariant, and fits the next point.
 abbrev pub PointsKeep : Type 0
-PointsKeep = (k : Shape) (m : Memory) (vs : List View) (h : List Mark) (id : ℕ) (o : Own) (v : View) → Invariant k m vs h → get_elem? vs id ≡ some v → k.waiter ≡ Eer → k.slots ≡ o.slots → k.places ≡ o.places
+PointsKeep = (k : Shape) (m : Memory) (vs : List View) (h : List Mark) (id : ℕ) (o : Own) (v : View) → Invariant k m vs h
+    → get_elem? vs id ≡ some v → k.waiter ≡ Eer → k.slots ≡ o.slots → k.places ≡ o.places
     → is_finished o.stage ≡ false → Fits o o.stage v
-    → let a : Act = act_at o o.stage in let field : Field = field_of o.place a in let n : ℕ = m field in let w : View = done v a h n in let o' : Own = after o (said v a n) o.stage in
-    Invariant k (stored m field (left v a n)) (set vs id w) (h ++ marks v a n) × KeepsPast m h (stored m field (left v a n)) × Fits o' o'.stage w
+    → let a : Act = act_at o o.stage in let field : Field = field_of o.place a in let n : ℕ = m field in let w : View = done v a h n in
+    let o' : Own = after o (said v a n) o.stage in
+    Invariant k (stored m field (left v a n)) (set vs id w) (h ++ marks v a n) × KeepsPast m h (stored m field (left v a n))
+    × Fits o' o'.stage w

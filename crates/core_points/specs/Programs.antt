@@ -67,7 +67,8 @@ act_at o (at.Begin waits) = BeginWait (low_key o waits) (high_key waits)
 act_at o (at.LookKey waits clock p) = LookKey p (p + 1 == o.places)
 act_at o (at.LookStamp waits clock p key) = LookStamp p (p + 1 == o.places)
 act_at o (at.OldAge aim) = LoadRetiredLife (first_or_root o.retired)
-act_at o (at.OldRaise aim life) = if is_some o.spare then RaiseRetired (first_or_root o.retired) (2 * (life / 2 + 1)) else RaiseToSpare (first_or_root o.retired) (2 * (life / 2 + 1))
+act_at o (at.OldRaise aim life) = if is_some o.spare then RaiseRetired (first_or_root o.retired) (2 * (life / 2 + 1)) else RaiseToSpare
+    (first_or_root o.retired) (2 * (life / 2 + 1))
 act_at o (at.OldFree aim) = FreeRetired (first_or_root o.retired)
 act_at o (at.OldCount aim) = CountFree
 act_at o (at.Commit update expected) = OpenCommit expected
@@ -98,7 +99,9 @@ act_at o (at.CopyLock d u next_key) = Lock (or_root o.spare)
 act_at o (at.CopyMark d u next_key) = Mark d.node (2 * d.generation)
 act_at o (at.OldMark m) = Mark m.successor.slot (2 * m.successor.generation)
 act_at o (at.OldRight m) = LockedLoad m.successor.slot (part.Link Right)
-act_at o (at.Unlink m child) = if m.successor.parent == m.node.node then UnlinkRight m.copy m.successor.slot child else UnlinkLeft m.successor.parent m.successor.slot child
+act_at o (at.Unlink m child) =
+    if m.successor.parent == m.node.node then UnlinkRight m.copy m.successor.slot child else UnlinkLeft m.successor.parent m.successor.slot
+    child
 
 abbrev pub taking : Own → Aim → Stage
 taking o aim = at.Reserve aim (if o.free == 0 then 1 else o.free)
@@ -175,7 +178,8 @@ abbrev pub giving : Own → Aim → Own
 giving o aim = go o (if is_none_left o.retired then given_back o aim else at.OldAge aim)
 
 abbrev pub past_raise : Own → Aim → Own
-past_raise o aim = if is_some o.spare then go o (at.OldFree aim) else giving (record o { spare = Some (first_or_root o.retired); retired = but_first o.retired }) aim
+past_raise o aim = if is_some o.spare then go o (at.OldFree aim) else giving
+    (record o { spare = Some (first_or_root o.retired); retired = but_first o.retired }) aim
 
 -- a wait
 abbrev pub wait_over : Own → Waits → Own
@@ -199,7 +203,8 @@ abbrev pub past_even : Update → ℕ → Stage
 past_even (update.Leaf spot) number = at.Unlock (last.New number)
 past_even (update.Value s old) number = at.Unlock (last.Was old number)
 past_even (update.Bypass d child) number = if child == 0 then at.EmptyTag number d.parent d.side else at.Unlock (last.Gone number)
-past_even (update.Copy d u next_key copy) number = at.Begin (Move (record { node = d; successor = u; copy = copy; next_key = next_key; number = number }))
+past_even (update.Copy d u next_key copy) number =
+    at.Begin (Move (record { node = d; successor = u; copy = copy; next_key = next_key; number = number }))
 
 abbrev pub unlocked : Own → Last → Own
 unlocked o last.Again = go o at.EnterClock
@@ -208,11 +213,13 @@ unlocked o (last.Gone number) = answer o Gone number
 unlocked o (last.Was value number) = answer o (Was value) number
 
 abbrev pub past_unlock : Own → Last → Own
-past_unlock o last = let less = record o { locks = but_first o.locks } in if is_none_left less.locks then unlocked less last else go less (at.Unlock last)
+past_unlock o last = let less = record o { locks = but_first o.locks } in
+    if is_none_left less.locks then unlocked less last else go less (at.Unlock last)
 
 -- a lock that was found free, or not
 abbrev pub past_lock : Own → ℕ → ℕ → Stage → Own
-past_lock o s n next = if n == 0 then go (record o { locks = s ∷ o.locks }) next else go o (if is_none_left o.locks then at.EnterClock else at.Unlock last.Again)
+past_lock o s n next = if n == 0 then go (record o { locks = s ∷ o.locks }) next else go o
+    (if is_none_left o.locks then at.EnterClock else at.Unlock last.Again)
 
 -- a delete
 abbrev pub past_right : Node → Stage
@@ -228,17 +235,21 @@ deleting d None = at.Mark d (if d.left == 0 then d.right else d.left)
 deleting d (Some u) = at.SuccessorKey d u
 
 abbrev pub verdict : Target → Found → Stage
-verdict t f = if target_holds t f then deleting (record t.node { left = f.left; right = last_right t.node t.successor f }) t.successor else at.Unlock last.Again
+verdict t f = if target_holds t f then deleting
+    (record t.node { left = f.left; right = last_right t.node t.successor f }) t.successor else at.Unlock last.Again
 
 abbrev pub past_target_load : Target → ℕ → Found → Stage
 past_target_load t i f = elim t.successor as (λ _. Stage) [
   | None ↦ if i == 4 then verdict t f else at.TargetLoad t (i + 1) f
-  | Some u ↦ if i == 8 then verdict t f else if (i == 4) && (u.parent == t.node.node) then at.TargetLoad t 6 f else at.TargetLoad t (i + 1) f
+  | Some u ↦ if i == 8 then verdict t f else if (i == 4)
+      && (u.parent == t.node.node) then at.TargetLoad t 6 f else at.TargetLoad t (i + 1) f
 ]
 
 abbrev pub past_unlink : Own → Moving → ℕ → Own
 past_unlink o m child = go (record o { retired = o.retired ++ m.successor.slot ∷ []; locks = move_locks m })
-    (if child == 0 then (if m.successor.parent == m.node.node then at.EmptyTag m.number m.copy Right else at.EmptyTag m.number m.successor.parent Left) else at.Unlock (last.Gone m.number))
+    (if child == 0 then
+    (if m.successor.parent == m.node.node then at.EmptyTag m.number m.copy Right else at.EmptyTag m.number m.successor.parent
+    Left) else at.Unlock (last.Gone m.number))
 
 -- the caller after the step of a point that found this number
 abbrev pub after : Own → ℕ → Stage → Own
@@ -256,7 +267,8 @@ after o n (at.LeafField spot i) = go o (if i == 3 then at.LeafLock spot else at.
 after o n (at.LeafLock spot) = past_lock o spot.slot n (at.LeafLife spot)
 after o n (at.LeafLife spot) = go o (at.LeafSide spot n)
 after o n (at.LeafSide spot life) = go o (at.LeafTag spot life n)
-after o n (at.LeafTag spot life link) = go o (if (life == 2 * spot.generation) && ((link == 0) && (n == spot.tag)) then committing o (update.Leaf spot) else at.Unlock last.Again)
+after o n (at.LeafTag spot life link) = go o (if (life == 2 * spot.generation)
+    && ((link == 0) && (n == spot.tag)) then committing o (update.Leaf spot) else at.Unlock last.Again)
 after o n (at.Reserve aim expected) = past_reserve o aim expected n
 after o n (at.Seize aim) = past_seize o aim n
 after o n (at.Age aim s) = go (record o { hand_life = n }) (past_age aim s)
@@ -266,12 +278,14 @@ after o n at.Free = go (record o { hand = None }) at.Count
 after o n at.Count = answer (record o { free = n + 1 }) Old 0
 after o n (at.Begin waits) = go o (at.LookKey waits n 0)
 after o n (at.LookKey waits clock p) = if is_reader o waits n then go o (at.LookStamp waits clock p n) else excused o waits clock p
-after o n (at.LookStamp waits clock p key) = if (n == idle) || nat_lt clock n then excused o waits clock p else go o (at.LookKey waits clock p)
+after o n (at.LookStamp waits clock p key) = if (n == idle) || nat_lt clock n then excused o waits clock p else go o
+    (at.LookKey waits clock p)
 after o n (at.OldAge aim) = go o (at.OldRaise aim n)
 after o n (at.OldRaise aim life) = past_raise o aim
 after o n (at.OldFree aim) = go (record o { retired = but_first o.retired }) (at.OldCount aim)
 after o n (at.OldCount aim) = giving (record o { free = n + 1 }) aim
-after o n (at.Commit update expected) = if n == expected then go (record o { front = expected + 1 }) (at.Store update expected) else go (record o { front = n }) (at.Commit update (n + n % 2))
+after o n (at.Commit update expected) = if n == expected then go (record o { front = expected + 1 }) (at.Store update expected) else go
+    (record o { front = n }) (at.Commit update (n + n % 2))
 after o n (at.Store update front) = go (past_store o update) (at.Even update front)
 after o n (at.Even update front) = go (record o { front = front + 2 }) (past_even update ((front + 2) / 2))
 after o n (at.Unlock last) = past_unlock o last
@@ -279,14 +293,16 @@ after o n (at.SetLife s) = go o (at.Leave (then.Replace s (n / 2)))
 after o n (at.SetLock s generation) = past_lock o s n (at.SetCheck s generation)
 after o n (at.SetCheck s generation) = go o (if n == 2 * generation then at.SetValue s else at.Unlock last.Again)
 after o n (at.SetValue s) = go o (committing o (update.Value s n))
-after o n (at.ParentLife p b d) = go o (at.NodeLife (record { parent = p; side = b; node = d; parent_generation = n / 2; generation = 0; left = 0; right = 0 }))
+after o n (at.ParentLife p b d) = go o (at.NodeLife
+    (record { parent = p; side = b; node = d; parent_generation = n / 2; generation = 0; left = 0; right = 0 }))
 after o n (at.NodeLife d) = go o (at.NodeLeft (record d { generation = n / 2 }))
 after o n (at.NodeLeft d) = go o (at.NodeRight (record d { left = n }))
 after o n (at.NodeRight d) = go o (past_right (record d { right = n }))
 after o n (at.SuccessorLeft d u) = go o (past_left d u n)
 after o n (at.SuccessorParentLife d u) = go o (at.SuccessorLife d (record u { parent_generation = n / 2 }))
 after o n (at.SuccessorLife d u) = go o (at.Leave (then.Delete (record { node = d; successor = Some (record u { generation = n / 2 }) })))
-after o n (at.TargetLock t i) = past_lock o (target_lock t i) n (if i + 1 == target_locks t then at.TargetLoad t 0 nothing_found else at.TargetLock t (i + 1))
+after o n (at.TargetLock t i) = past_lock o (target_lock t i) n
+    (if i + 1 == target_locks t then at.TargetLoad t 0 nothing_found else at.TargetLock t (i + 1))
 after o n (at.TargetLoad t i found) = go o (past_target_load t i (with_found found i n))
 after o n (at.Mark d child) = go o (committing o (update.Bypass d child))
 after o n (at.EmptyTag number s b) = go o (at.EmptyRaise number s b n)

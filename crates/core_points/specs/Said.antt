@@ -30,13 +30,18 @@ ReplacesOld h o _ = Unit {0}
 -- A search's answer was the dictionary's at a front since its section was entered. Who finds nothing free, with no slot to give back,
 -- has a large dictionary. The number of an update is its place in the history.
 abbrev pub IsSaid : Shape → Memory → List Mark → Own → View → Stage → Type 0
-IsSaid k m h o v (at.Leave then.Absent) = (section : Section) × (v.section ≡ Some section) × WasSaid (updates_of h) (key_now o) section.from None
-IsSaid k m h o v (at.Leave (then.Value value)) = (section : Section) × (v.section ≡ Some section) × WasSaid (updates_of h) (key_now o) section.from (Some value)
-IsSaid k m h o v (at.Leave then.Old) = (section : Section) × (v.section ≡ Some section) × ((value : ℕ) × WasSaid (updates_of h) (key_now o) section.from (Some value))
-IsSaid k m h o v (at.Reserve (Leaf spot) expected) = is_none_left o.retired ≡ true → m Free ≡ 0 → k.slots ≤ finite.len (map_of (updates_of h)) + 20 * (k.places - 1)
+IsSaid k m h o v (at.Leave then.Absent) = (section : Section) × (v.section ≡ Some section)
+    × WasSaid (updates_of h) (key_now o) section.from None
+IsSaid k m h o v (at.Leave (then.Value value)) =
+    (section : Section) × (v.section ≡ Some section) × WasSaid (updates_of h) (key_now o) section.from (Some value)
+IsSaid k m h o v (at.Leave then.Old) = (section : Section) × (v.section ≡ Some section)
+    × ((value : ℕ) × WasSaid (updates_of h) (key_now o) section.from (Some value))
+IsSaid k m h o v (at.Reserve (Leaf spot) expected) =
+    is_none_left o.retired ≡ true → m Free ≡ 0 → k.slots ≤ finite.len (map_of (updates_of h)) + 20 * (k.places - 1)
 IsSaid k m h o v (at.Store u front) = ((front + 2) / 2 ≡ length (updates_of h) + 1) × ReplacesOld h o u
 IsSaid k m h o v _ = Unit {0}
 
 -- The answers are explained, at each point that fixes one.
 abbrev pub AnswersAreSaid : Type 0
-AnswersAreSaid = (k : Shape) (m : Memory) (vs : List View) (h : List Mark) (id : ℕ) (o : Own) (v : View) (stage : Stage) → HoldsNow k m vs h → get_elem? vs id ≡ some v → Fits o stage v → IsSaid k m h o v stage
+AnswersAreSaid = (k : Shape) (m : Memory) (vs : List View) (h : List Mark) (id : ℕ) (o : Own) (v : View) (stage : Stage) → HoldsNow k m vs h
+    → get_elem? vs id ≡ some v → Fits o stage v → IsSaid k m h o v stage

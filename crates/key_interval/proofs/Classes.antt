@@ -14,7 +14,8 @@ pub steps_to-least : (low class x : ℕ) → low ≤ x → x % 64 ≡ class → 
 steps_to-least low class x le is = omega arith
 
 -- The image is met where the first key of the class isn't above the interval.
-pub MeetsClass-by_steps : (keys : Interval) (class : ℕ) → class < 64 → keys.low ≤ keys.high → IsTrue (leb (steps_to keys.low class) (keys.high - keys.low)) ↔ MeetsClass keys class
+pub MeetsClass-by_steps : (keys : Interval) (class : ℕ) → class < 64 → keys.low ≤ keys.high
+    → IsTrue (leb (steps_to keys.low class) (keys.high - keys.low)) ↔ MeetsClass keys class
 MeetsClass-by_steps keys class fits ordered = (
   λ below.
       let near = leb-true (steps_to keys.low class) (keys.high - keys.low) below in
@@ -36,5 +37,6 @@ last_across keys across = record {
 pub last_within : (keys : Interval) → keys.low ≤ keys.high → keys.high / 64 ≤ keys.low / 64 → IsLastClass keys (keys.high % 64)
 last_within keys ordered within = record {
   met = (keys.high, (ordered, omega arith), refl);
-  greatest = λ other more small met. let low = met.1.0 in let high = met.1.1 in let is = met.2 in omega (arith, more, low, high, is, within);
+  greatest = λ other more small met. let low = met.1.0 in let high = met.1.1 in let is = met.2 in
+      omega (arith, more, low, high, is, within);
 }

@@ -33,11 +33,13 @@ module _ {A : Type 0} where
   -- a fact of each element, after one has changed
   pub each_set : (P : ℕ → A → Type 0) (vs : List A) (id : ℕ) (w : A) → P id w → ((j : ℕ) (u : A) → j ≢ id → get_elem? vs j ≡ some u → P j u)
       → (j : ℕ) (u : A) → get_elem? (set vs id w) j ≡ some u → P j u
-  each_set P vs id w mine others j u e = ⊎_elim (λ (t : (j ≡ id) × (w ≡ u)). subst (λ (x : ℕ × A). P x.0 x.1) (λ i. (sym t.0 i, t.1 i)) mine)
+  each_set P vs id w mine others j u e = ⊎_elim (λ (t : (j ≡ id) × (w ≡ u)). subst (λ (x : ℕ × A). P x.0 x.1)
+      (λ i. (sym t.0 i, t.1 i)) mine)
       (λ (t : (j ≢ id) × (get_elem? vs j ≡ some u)). others j u t.0 t.1) (at_set vs id j w u e)
 
   -- the same, where what holds of the old elements follows from what held
-  pub each_change : (P Q : A → Type 0) (vs : List A) (id : ℕ) (v w : A) → get_elem? vs id ≡ some v → (P v → Q w) → ((u : A) → P u → Q u) → Each vs P → Each (set vs id w) Q
+  pub each_change : (P Q : A → Type 0) (vs : List A) (id : ℕ) (v w : A) → get_elem? vs id ≡ some v → (P v → Q w) → ((u : A) → P u → Q u)
+      → Each vs P → Each (set vs id w) Q
   each_change P Q vs id v w at mine others all = each_set (λ j u. Q u) vs id w (mine (all id v at)) (λ j u other e. others u (all j u e))
 
   pub total_set : (f : A → ℕ) (vs : List A) (id : ℕ) (v w : A) → get_elem? vs id ≡ some v → total f (set vs id w) + f v ≡ total f vs + f w
@@ -58,7 +60,8 @@ module _ {A : Type 0} where
   total_append f (u ∷ us) vs = let s = total_append f us vs in omega arith
 
   -- two elements count for two
-  pub total_two : (f : A → ℕ) (vs : List A) (i j : ℕ) (v w : A) → get_elem? vs i ≡ some v → get_elem? vs j ≡ some w → i ≢ j → f v + f w ≤ total f vs
+  pub total_two : (f : A → ℕ) (vs : List A) (i j : ℕ) (v w : A) → get_elem? vs i ≡ some v → get_elem? vs j ≡ some w → i ≢ j
+      → f v + f w ≤ total f vs
   total_two f [] i j v w ei ej ne = absurd (some-ne-none v (sym ei))
   total_two f (x ∷ xs) zero zero v w ei ej ne = absurd (ne refl)
   total_two f (x ∷ xs) zero (suc j) v w ei ej ne = let s = ap f (some-injective x v ei) in let t = total_part f xs j w ej in omega arith
@@ -92,7 +95,9 @@ times_other x y ys ne = let e : times x (y ∷ ys) ≡ 0 + times x ys = ap (λ b
 -- a number that stands in a mapped list
 pub times_in : {A : Type 0} (f : A → ℕ) (xs : List A) (a : A) → IsIn xs a → 1 ≤ times (f a) (map f xs)
 times_in f [] a i = absurd (some-ne-none a (sym i.1))
-times_in f (x ∷ xs) a (zero, e) = let t : times (f a) (f x ∷ map f xs) ≡ 1 + times (f a) (map f xs) = subst (λ z. times (f a) (z ∷ map f xs) ≡ 1 + times (f a) (map f xs)) (ap f (sym (some-injective x a e))) (times_here (f a) (map f xs)) in omega arith
+times_in f (x ∷ xs) a (zero, e) = let t : times (f a) (f x ∷ map f xs) ≡ 1 + times (f a) (map f xs) =
+    subst (λ z. times (f a) (z ∷ map f xs) ≡ 1 + times (f a) (map f xs)) (ap f (sym (some-injective x a e)))
+    (times_here (f a) (map f xs)) in omega arith
 times_in f (x ∷ xs) a (suc j, e) = let t = times_in f xs a (j, e) in omega arith
 
 -- the numbers of a row, each once
@@ -100,18 +105,25 @@ pub times_from : (x first n : ℕ) → 1 ≤ times x (numbers_from first n) → 
 times_from x first zero there = absurd (omega arith)
 times_from x first (suc n) there =
     dite (ℕ_discrete first x) (λ e. (omega arith, omega arith))
-    (λ ne. let t = times_other x first (numbers_from (first + 1) n) ne in let r = times_from x (first + 1) n (omega arith) in let low = r.0 in let high = r.1 in (omega arith, omega arith))
+    (λ ne. let t = times_other x first (numbers_from (first + 1) n) ne in let r = times_from x (first + 1) n (omega arith) in
+    let low = r.0 in let high = r.1 in (omega arith, omega arith))
 
 pub from_times : (x first n : ℕ) → first ≤ x → x < first + n → times x (numbers_from first n) ≡ 1
 from_times x first zero low high = absurd (omega arith)
 from_times x first (suc n) low high =
     dite (ℕ_discrete first x)
-    (λ e. let t : times x (first ∷ numbers_from (first + 1) n) ≡ 1 + times x (numbers_from (first + 1) n) = subst (λ z. times z (first ∷ numbers_from (first + 1) n) ≡ 1 + times z (numbers_from (first + 1) n)) e (times_here first (numbers_from (first + 1) n)) in
-    dite (dec_le 1 (times x (numbers_from (first + 1) n))) (λ again. absurd (let r = (times_from x (first + 1) n again).0 in omega arith)) (λ once. omega arith))
-    (λ ne. let t = times_other x first (numbers_from (first + 1) n) ne in let r = from_times x (first + 1) n (omega arith) (omega arith) in omega arith)
+    (λ e. let t : times x (first ∷ numbers_from (first + 1) n) ≡ 1 + times x (numbers_from (first + 1) n) =
+    subst (λ z. times z (first ∷ numbers_from (first + 1) n) ≡ 1 + times z (numbers_from (first + 1) n)) e
+    (times_here first (numbers_from (first + 1) n)) in
+    dite (dec_le 1 (times x (numbers_from (first + 1) n))) (λ again. absurd (let r = (times_from x (first + 1) n again).0 in omega arith))
+    (λ once. omega arith))
+    (λ ne. let t = times_other x first (numbers_from (first + 1) n) ne in let r = from_times x (first + 1) n (omega arith) (omega arith) in
+    omega arith)
 
 pub not_from : (x first n : ℕ) → (x < first) ⊎ (first + n ≤ x) → times x (numbers_from first n) ≡ 0
-not_from x first n out = dite (dec_le 1 (times x (numbers_from first n))) (λ there. absurd (let r = times_from x first n there in let low = r.0 in let high = r.1 in ⊎_elim (λ (a : x < first). omega arith) (λ (b : first + n ≤ x). omega arith) out)) (λ none. omega arith)
+not_from x first n out = dite (dec_le 1 (times x (numbers_from first n)))
+    (λ there. absurd (let r = times_from x first n there in let low = r.0 in let high = r.1 in
+    ⊎_elim (λ (a : x < first). omega arith) (λ (b : first + n ≤ x). omega arith) out)) (λ none. omega arith)
 
 -- what holds of all numbers of a list holds of one that stands there
 pub all_times : (P : ℕ → Type 0) (xs : List ℕ) (x : ℕ) → AllByRecursion P xs → 1 ≤ times x xs → P x
@@ -124,7 +136,9 @@ pub all_from_times : (P : ℕ → Type 0) (xs : List ℕ) → ((x : ℕ) → 1 �
 all_from_times P [] f = tt
 all_from_times P (y ∷ ys) f = (
   f y (let t = times_here y ys in omega arith),
-  all_from_times P ys (λ x there. f x (dite (ℕ_discrete y x) (λ e. let t : times x (y ∷ ys) ≡ 1 + times x ys = subst (λ z. times z (y ∷ ys) ≡ 1 + times z ys) e (times_here y ys) in omega arith) (λ ne. let t = times_other x y ys ne in omega arith))),
+  all_from_times P ys (λ x there. f x (dite (ℕ_discrete y x)
+      (λ e. let t : times x (y ∷ ys) ≡ 1 + times x ys = subst (λ z. times z (y ∷ ys) ≡ 1 + times z ys) e (times_here y ys) in omega arith)
+      (λ ne. let t = times_other x y ys ne in omega arith))),
 )
 
 -- one fact from another for the numbers that stand there

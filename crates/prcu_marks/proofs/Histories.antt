@@ -6,7 +6,8 @@ use Rattle.prcu_model.specs.Dictionary.{Dictionary, WasSaid, map_of, updated, up
 use Rattle.prcu_model.specs.History.{IsUpdateAt, AreUpdatesFrom, IsLegal}
 use Rattle.prcu_marks.proofs.Callers.{map_at-longer}
 
-legal_from : (m : Dictionary) (us : List Update) (u : Update) → AreUpdatesFrom m us → ((n : Dictionary) → n ≡ updated_all m us → IsUpdateAt n u.op) → AreUpdatesFrom m (us ++ u ∷ [])
+legal_from : (m : Dictionary) (us : List Update) (u : Update) → AreUpdatesFrom m us
+    → ((n : Dictionary) → n ≡ updated_all m us → IsUpdateAt n u.op) → AreUpdatesFrom m (us ++ u ∷ [])
 legal_from m [] u a last = (last m refl, tt)
 legal_from m (x ∷ us) u a last = (a.0, legal_from (updated m x.op) us u a.1 last)
 
@@ -15,7 +16,8 @@ pub legal_more : (us : List Update) (u : Update) → IsLegal us → IsUpdateAt (
 legal_more us u legal last = legal_from finite.empty us u legal (λ n e. subst (λ z. IsUpdateAt z u.op) (sym e) last)
 
 -- what was said stays said
-pub said_longer : (us more : List Update) (key from : ℕ) (answer : Option ℕ) → WasSaid us key from answer → WasSaid (us ++ more) key from answer
+pub said_longer : (us more : List Update) (key from : ℕ) (answer : Option ℕ) → WasSaid us key from answer
+    → WasSaid (us ++ more) key from answer
 said_longer us more key from answer said = record {
   front = said.front;
   since = said.since;

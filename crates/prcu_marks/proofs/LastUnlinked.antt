@@ -9,7 +9,8 @@ abbrev pub UnlinksNone : Mark → Type 0
 UnlinksNone (Unlinked s) = ⊥
 UnlinksNone _ = Unit {0}
 
-last_below : (s i : ℕ) (g : Option ℕ) (h : List Mark) (p : ℕ) → ((q : ℕ) → g ≡ Some q → q < i) → unlinked_from s i g h ≡ Some p → p < i + length h
+last_below : (s i : ℕ) (g : Option ℕ) (h : List Mark) (p : ℕ) → ((q : ℕ) → g ≡ Some q → q < i) → unlinked_from s i g h ≡ Some p
+    → p < i + length h
 last_below s i g [] p old e = let l = old p e in omega arith
 last_below s i g (Entered q c x ∷ h) p old e = let l = last_below s (i + 1) g h p (λ q f. let z = old q f in omega arith) e in omega arith
 last_below s i g (Left q c ∷ h) p old e = let l = last_below s (i + 1) g h p (λ q f. let z = old q f in omega arith) e in omega arith
@@ -41,7 +42,8 @@ last_one s i g (Given t) = refl
 last_one s i g (Unlinked t) = refl
 last_one s i g (Freed t) = refl
 
-last_later : (s i : ℕ) (g : Option ℕ) (h : List Mark) (m : Mark) (n : ℕ) → n ≡ i + length h → unlinked_from s i g (h ++ m ∷ []) ≡ next_last s n (unlinked_from s i g h) m
+last_later : (s i : ℕ) (g : Option ℕ) (h : List Mark) (m : Mark) (n : ℕ) → n ≡ i + length h
+    → unlinked_from s i g (h ++ m ∷ []) ≡ next_last s n (unlinked_from s i g h) m
 last_later s i g [] m n e = last_one s i g m ∙ ap (λ k. next_last s k g m) (let z : i ≡ n = omega arith in z)
 last_later s i g (Entered q c x ∷ h) m n e = last_later s (i + 1) g h m n (omega arith)
 last_later s i g (Left q c ∷ h) m n e = last_later s (i + 1) g h m n (omega arith)
@@ -76,7 +78,8 @@ kept : (b : Bool) (g : Option ℕ) (p : ℕ) → cond b None g ≡ Some p → g 
 kept true g p o = absurd (cc)
 kept false g p o = o
 
-gone_last : (s i : ℕ) (g l : Option ℕ) (h : List Mark) (p : ℕ) → (g ≡ Some p → l ≡ Some p) → gone_from s i g h ≡ Some p → unlinked_from s i l h ≡ Some p
+gone_last : (s i : ℕ) (g l : Option ℕ) (h : List Mark) (p : ℕ) → (g ≡ Some p → l ≡ Some p) → gone_from s i g h ≡ Some p
+    → unlinked_from s i l h ≡ Some p
 gone_last s i g l [] p f e = f e
 gone_last s i g l (Entered q c x ∷ h) p f e = gone_last s (i + 1) g l h p f e
 gone_last s i g l (Left q c ∷ h) p f e = gone_last s (i + 1) g l h p f e

@@ -5,7 +5,8 @@ use Rattle.prcu_marks.specs.declared.mark.Mark.TheVariants.{Entered, Left, Began
 use Rattle.prcu_marks.specs.Marks.{Open, open_from, open_at, gone_from, gone_at}
 
 -- an unlinking stands in the list
-gone_below : (s i : ℕ) (g : Option ℕ) (h : List Mark) (p : ℕ) → ((q : ℕ) → g ≡ Some q → q < i) → gone_from s i g h ≡ Some p → p < i + length h
+gone_below : (s i : ℕ) (g : Option ℕ) (h : List Mark) (p : ℕ) → ((q : ℕ) → g ≡ Some q → q < i) → gone_from s i g h ≡ Some p
+    → p < i + length h
 gone_below s i g [] p old e = let l = old p e in omega arith
 gone_below s i g (Entered q c x ∷ h) p old e = let l = gone_below s (i + 1) g h p (λ q f. let z = old q f in omega arith) e in omega arith
 gone_below s i g (Left q c ∷ h) p old e = let l = gone_below s (i + 1) g h p (λ q f. let z = old q f in omega arith) e in omega arith
@@ -25,7 +26,8 @@ gone_below s i g (Unlinked t ∷ h) p old e =
 pub gone_at-below : (s : ℕ) (h : List Mark) (p : ℕ) → gone_at s h ≡ Some p → p < length h
 gone_at-below s h p e = let l = gone_below s 0 None h p (λ q f. absurd (cc)) e in omega arith
 
-open_below : (p i : ℕ) (s : Option Open) (h : List Mark) (o : Open) → ((q : Open) → s ≡ Some q → q.at < i) → open_from p i s h ≡ Some o → o.at < i + length h
+open_below : (p i : ℕ) (s : Option Open) (h : List Mark) (o : Open) → ((q : Open) → s ≡ Some q → q.at < i) → open_from p i s h ≡ Some o
+    → o.at < i + length h
 open_below p i s [] o old e = let l = old o e in omega arith
 open_below p i s (Began q c a b ∷ h) o old e = let l = open_below p (i + 1) s h o (λ q f. let z = old q f in omega arith) e in omega arith
 open_below p i s (Ended q c ∷ h) o old e = let l = open_below p (i + 1) s h o (λ q f. let z = old q f in omega arith) e in omega arith

@@ -21,7 +21,8 @@ prefix_below : (a h : List Mark) → IsPrefix a h → length a ≤ length h
 prefix_below a h p = let e = ap length p.1 in let n = length-append a p.0 in omega arith
 
 prefix_whole : (a h : List Mark) → IsPrefix a h → length h ≤ length a → a ≡ h
-prefix_whole a h p long = sym (append-nil a) ∙ ap (λ z. a ++ z) (sym (nil_from_length p.0 (let e = ap length p.1 in let n = length-append a p.0 in omega arith))) ∙ p.1
+prefix_whole a h p long = sym (append-nil a) ∙ ap (λ z. a ++ z)
+    (sym (nil_from_length p.0 (let e = ap length p.1 in let n = length-append a p.0 in omega arith))) ∙ p.1
 
 module _ (a b h : List Mark) (first : IsPrefix a h) (second : IsPrefix b h) where
   pub longer_begins : IsPrefix (longer a b) h

@@ -71,7 +71,8 @@ pub record HasMadeUpdate (before : Caller) (op : Op) (told : Told) (marks seen :
 
 -- The call made no update. The dictionary at some front, from what was seen before the call to what is seen after it,
 -- explains the reply.
-pub record WasExplained (explains : Dictionary → Op → Reply → Type 0) (before : Caller) (op : Op) (told : Told) (marks seen : List Mark) : Type 0 where
+pub record WasExplained (explains : Dictionary → Op → Reply → Type 0) (before : Caller) (op : Op) (told : Told)
+    (marks seen : List Mark) : Type 0 where
   pub left : updates_of marks ≡ []
   pub front : ℕ
   pub since : length (updates_of before.seen) ≤ front
@@ -80,7 +81,8 @@ pub record WasExplained (explains : Dictionary → Op → Reply → Type 0) (bef
 
 -- One call: the marks that it left, at least one section with its key among them, and what they say of the reply. Which
 -- dictionary explains a reply that tells of no update is for the client to say.
-pub record HasAnswered (explains : Dictionary → Op → Reply → Type 0) (before : Caller) (op : Op) (told : Told) (after : Caller) : Type 0 where
+pub record HasAnswered (explains : Dictionary → Op → Reply → Type 0) (before : Caller) (op : Op) (told : Told)
+    (after : Caller) : Type 0 where
   pub place : after.place ≡ before.place
   pub marks : List Mark
   pub own : after.own ≡ before.own ++ marks
@@ -89,7 +91,8 @@ pub record HasAnswered (explains : Dictionary → Op → Reply → Type 0) (befo
   pub waits : AllByRecursion (WaitsFor (updates_of after.seen)) marks
   pub since : IsPrefix before.seen after.seen
   pub met : HasSeenItsOwn after
-  pub reply : MatchBool (tells_update told.reply) (HasMadeUpdate before op told marks after.seen) (WasExplained explains before op told marks after.seen)
+  pub reply : MatchBool (tells_update told.reply) (HasMadeUpdate before op told marks after.seen)
+      (WasExplained explains before op told marks after.seen)
 
 -- What is asked of the lines of one caller, as far as they go, where it has seen this history: the updates that they tell of are
 -- just its own, with their positions; each reply that tells of one is confirmed; and the other lines have fronts, so that the

@@ -29,7 +29,7 @@ pub trait Client {
 }
 
 /// Where a client passes its gate.
-#[derive(Clone, Copy, Debug, PartialEq, Eq)]
+#[derive(Clone, Copy)]
 pub enum Point {
     /// In a reader section, before the first load of a search.
     InSection,
@@ -48,7 +48,7 @@ pub trait Gate {
 }
 
 /// The gate that holds nobody back.
-#[derive(Clone, Copy, Debug)]
+#[derive(Clone, Copy)]
 pub struct OpenGate;
 
 impl Gate for OpenGate {

@@ -7,7 +7,8 @@ use Rattle.std.specs.Global.{Vec}
 use Rattle.prcu_model.specs.declared.operation.Op.{Op}
 use Rattle.prcu_model.specs.Scripts.{with_op, op_count, put_count, is_put, items_of, FitsWords, AllFit}
 
-pub with_op-set : (scripts : List (List Op)) (last : ℕ) (op : Op) → length scripts ≡ last + 1 → with_op scripts op ≡ set scripts last (get_or scripts last [] ++ op ∷ [])
+pub with_op-set : (scripts : List (List Op)) (last : ℕ) (op : Op) → length scripts ≡ last + 1
+    → with_op scripts op ≡ set scripts last (get_or scripts last [] ++ op ∷ [])
 with_op-set [] last op e = absurd (omega (arith, e))
 with_op-set (s ∷ []) zero op e = refl
 with_op-set (s ∷ []) (suc last) op e = absurd (omega (arith, e))
@@ -30,19 +31,26 @@ module _ (scripts : List (List Op)) (last : ℕ) (op : Op) (is_last : length scr
   put_count-with_op =
       let below : last < length scripts = omega (arith, is_last) in
       let counted = sum_by-set (count_by is_put) scripts last (get_or scripts last [] ++ op ∷ []) [] below in
-      ap put_count (with_op-set scripts last op is_last) ∙ omega (arith, counted, sum_by_push (λ o. cond (is_put o) 1 0) (get_or scripts last []) op)
+      ap put_count (with_op-set scripts last op is_last)
+      ∙ omega (arith, counted, sum_by_push (λ o. cond (is_put o) 1 0) (get_or scripts last []) op)
 
 -- the last list with the operation at its end
-pub items_of-set : (lists : List (Vec Op)) (last : ℕ) (list : Vec Op) (before : Vec Op) (op : Op) → length lists ≡ last + 1 → before ≡ get_or lists last before → list.items ≡ before.items ++ op ∷ [] → items_of (set lists last list) ≡ with_op (items_of lists) op
+pub items_of-set : (lists : List (Vec Op)) (last : ℕ) (list : Vec Op) (before : Vec Op) (op : Op) → length lists ≡ last + 1
+    → before ≡ get_or lists last before → list.items ≡ before.items ++ op ∷ []
+    → items_of (set lists last list) ≡ with_op (items_of lists) op
 items_of-set lists last list before op is_last was added =
     let below : last < length lists = omega (arith, is_last) in
-    let e : get_or (items_of lists) last [] ≡ before.items = get_or-map (λ l. l.items) lists last before [] below ∙ ap (λ l. l.items) (sym was) in
-    map-set (λ l. l.items) lists last list ∙ ap (set (items_of lists) last) (added ∙ ap (λ x. x ++ op ∷ []) (sym e)) ∙ sym (with_op-set (items_of lists) last op (length-map lists (λ l. l.items) ∙ is_last))
+    let e : get_or (items_of lists) last [] ≡ before.items =
+    get_or-map (λ l. l.items) lists last before [] below ∙ ap (λ l. l.items) (sym was) in
+    map-set (λ l. l.items) lists last list ∙ ap (set (items_of lists) last) (added ∙ ap (λ x. x ++ op ∷ []) (sym e))
+    ∙ sym (with_op-set (items_of lists) last op (length-map lists (λ l. l.items) ∙ is_last))
 
 -- the last list with the same items
-pub items_of-set_same : (lists : List (Vec Op)) (last : ℕ) (list : Vec Op) (before : Vec Op) → last < length lists → before ≡ get_or lists last before → list.items ≡ before.items → items_of (set lists last list) ≡ items_of lists
+pub items_of-set_same : (lists : List (Vec Op)) (last : ℕ) (list : Vec Op) (before : Vec Op) → last < length lists
+    → before ≡ get_or lists last before → list.items ≡ before.items → items_of (set lists last list) ≡ items_of lists
 items_of-set_same lists last list before below was same =
-    let e : get_or (items_of lists) last [] ≡ before.items = get_or-map (λ l. l.items) lists last before [] below ∙ ap (λ l. l.items) (sym was) in
+    let e : get_or (items_of lists) last [] ≡ before.items =
+    get_or-map (λ l. l.items) lists last before [] below ∙ ap (λ l. l.items) (sym was) in
     map-set (λ l. l.items) lists last list ∙ ap (set (items_of lists) last) (same ∙ sym e) ∙ set-get_or (items_of lists) last []
 
 pub put_count-le-op_count : (scripts : List (List Op)) → put_count scripts ≤ op_count scripts
@@ -65,17 +73,27 @@ AllFit-with_op (s ∷ []) op all fits = (fits-push s op all.0 fits, tt)
     fits-push (o ∷ ops) op all fits = (all.0, fits-push ops op all.1 fits)
 AllFit-with_op (s ∷ t ∷ scripts) op all fits = (all.0, AllFit-with_op (t ∷ scripts) op all.1 fits)
 
-pub counts-with_op : (before now : List (List Op)) (op : Op) (ops puts : ℕ) → now ≡ with_op before op → 0 < length before → length before ≤ 64 → op_count before < 1048576 → ops ≡ op_count before → puts ≡ put_count before → AllFit before → FitsWords op → CountsWith now (ops + 1) (puts + cond (is_put op) 1 0)
+pub counts-with_op : (before now : List (List Op)) (op : Op) (ops puts : ℕ) → now ≡ with_op before op → 0 < length before
+    → length before ≤ 64 → op_count before < 1048576 → ops ≡ op_count before → puts ≡ put_count before → AllFit before → FitsWords op
+    → CountsWith now (ops + 1) (puts + cond (is_put op) 1 0)
 counts-with_op before now op ops puts e some few room is_ops is_puts all fits =
     let is_last : length before ≡ (length before - 1) + 1 = omega arith in
     let l = length-with_op before op in
     let o = op_count-with_op before _ op is_last in
     let p = put_count-with_op before _ op is_last in
-    rw e (record { few_scripts = omega arith; few_ops = omega arith; ops = omega arith; puts = omega arith; fits = AllFit-with_op before op all fits })
+    rw e (record {
+      few_scripts = omega arith;
+      few_ops = omega arith;
+      ops = omega arith;
+      puts = omega arith;
+      fits = AllFit-with_op before op all fits;
+    })
 
 -- a script is no longer than all of them
-pub length-le-op_count : (lists : List (Vec Op)) (i : ℕ) (list : Vec Op) → i < length lists → list ≡ get_or lists i list → length list.items ≤ op_count (items_of lists)
+pub length-le-op_count : (lists : List (Vec Op)) (i : ℕ) (list : Vec Op) → i < length lists → list ≡ get_or lists i list
+    → length list.items ≤ op_count (items_of lists)
 length-le-op_count lists i list below there =
     let one = get_or-le-sum_by length (items_of lists) i [] (omega (arith, length-map lists (λ l. l.items))) in
-    let same : get_or (items_of lists) i [] ≡ list.items = get_or-map (λ l. l.items) lists i list [] below ∙ ap (λ l. l.items) (sym there) in
+    let same : get_or (items_of lists) i [] ≡ list.items =
+    get_or-map (λ l. l.items) lists i list [] below ∙ ap (λ l. l.items) (sym there) in
     omega (arith, one, ap length same)

@@ -21,7 +21,8 @@ pub map_of-push : (history : List Update) (u : Update) → map_of (history ++ u 
 map_of-push history u = updated_all-append map.empty history (u ∷ [])
 
 -- one front on
-pub map_at-next : (history : List Update) (front : ℕ) (u : Update) → front < length history → map_at history (front + 1) ≡ updated (map_at history front) (get_or history front u).op
+pub map_at-next : (history : List Update) (front : ℕ) (u : Update) → front < length history
+    → map_at history (front + 1) ≡ updated (map_at history front) (get_or history front u).op
 map_at-next history front u below = ap map_of (take_more history front u below) ∙ map_of-push (take front history) (get_or history front u)
 
 -- a dictionary is what its pairs make

@@ -27,7 +27,8 @@ second : (a b : Bool) → T (a && b) → T b
 second true b p = p
 second false b p = absurd p
 
-is_sorted-cons : (x v : ℕ) (es : Pairs) → AllByRecursion (λ y. nat_cmp x y ≡ Less) (keys_of es) → T (finite.is_sorted nat_cmp es) → T (finite.is_sorted nat_cmp ((x, v) ∷ es))
+is_sorted-cons : (x v : ℕ) (es : Pairs) → AllByRecursion (λ y. nat_cmp x y ≡ Less) (keys_of es) → T (finite.is_sorted nat_cmp es)
+    → T (finite.is_sorted nat_cmp ((x, v) ∷ es))
 is_sorted-cons x v [] below sorted = tt
 is_sorted-cons x v (e ∷ es) below sorted =
     both _ _ (both _ _ (subst (λ r. T (is_lt r)) (sym below.0) tt) (first _ _ (is_sorted-cons x v es below.1 (second _ _ sorted)))) sorted
@@ -53,7 +54,8 @@ find-is-lookup q (e ∷ es) = ap (cond (is_eq (nat_cmp q e.0)) (Some e.1)) (find
 abbrev pub dictionary : Pairs → Dictionary
 dictionary es = finite.from_sorted es
 
-pub get-dictionary : (es : Pairs) → IsTrue (finite.is_sorted nat_cmp es) → (q : ℕ) → finite.get (dictionary es) q ≡ lookup (is_at (nat_cmp q)) es
+pub get-dictionary : (es : Pairs) → IsTrue (finite.is_sorted nat_cmp es) → (q : ℕ)
+    → finite.get (dictionary es) q ≡ lookup (is_at (nat_cmp q)) es
 get-dictionary es sorted q = finite.get-from_sorted nat_cmp es q (holds sorted) ∙ find-is-lookup q es
 
 pub entries-dictionary : (es : Pairs) → IsTrue (finite.is_sorted nat_cmp es) → finite.entries (dictionary es) ≡ es
@@ -66,8 +68,11 @@ pub empty-dictionary : dictionary [] ≡ finite.empty
 empty-dictionary = finite.empty_of_len (dictionary []) (len-dictionary [] refl)
 
 -- what a map's entries are after the value at a key was changed to another, or taken out
-module _ (es fs : Pairs) (sorted : IsTrue (finite.is_sorted nat_cmp es)) (also_sorted : IsTrue (finite.is_sorted nat_cmp fs)) (key : ℕ) where
-  pub dictionary-inserted : (value : ℕ) → ((q : ℕ) → lookup (is_at (nat_cmp q)) fs ≡ cond (is_at (nat_cmp key) q) (Some value) (lookup (is_at (nat_cmp q)) es)) → dictionary fs ≡ finite.insert (dictionary es) key value
+module _ (es fs : Pairs) (sorted : IsTrue (finite.is_sorted nat_cmp es)) (also_sorted : IsTrue (finite.is_sorted nat_cmp fs))
+    (key : ℕ) where
+  pub dictionary-inserted : (value : ℕ) → ((q : ℕ)
+      → lookup (is_at (nat_cmp q)) fs ≡ cond (is_at (nat_cmp key) q) (Some value) (lookup (is_at (nat_cmp q)) es))
+      → dictionary fs ≡ finite.insert (dictionary es) key value
   dictionary-inserted value changed =
       finite.same_map nat_cmp_total finite.nat_cmp-IsAntisymmetric _ _ (λ q.
       get-dictionary fs also_sorted q ∙ changed q
@@ -75,7 +80,8 @@ module _ (es fs : Pairs) (sorted : IsTrue (finite.is_sorted nat_cmp es)) (also_s
       ∙ ap (λ b. cond b (Some value) (finite.get (dictionary es) q)) ((eq_by_cmp_equiv nat_cmp_total).symm key q)
       ∙ sym (finite.get-insert nat_cmp_total (dictionary es) key value q))
 
-  pub dictionary-removed : ((q : ℕ) → lookup (is_at (nat_cmp q)) fs ≡ cond (is_at (nat_cmp key) q) None (lookup (is_at (nat_cmp q)) es)) → dictionary fs ≡ finite.remove (dictionary es) key
+  pub dictionary-removed : ((q : ℕ) → lookup (is_at (nat_cmp q)) fs ≡ cond (is_at (nat_cmp key) q) None (lookup (is_at (nat_cmp q)) es))
+      → dictionary fs ≡ finite.remove (dictionary es) key
   dictionary-removed changed =
       finite.same_map nat_cmp_total finite.nat_cmp-IsAntisymmetric _ _ (λ q.
       get-dictionary fs also_sorted q ∙ changed q
@@ -84,5 +90,7 @@ module _ (es fs : Pairs) (sorted : IsTrue (finite.is_sorted nat_cmp es)) (also_s
       ∙ sym (finite.get-remove nat_cmp_total (dictionary es) key q))
 
 -- whether a key is there, by the entries of a map that is seen as this dictionary
-pub contains_key-seen : (es : Pairs) (seen : Dictionary) (key : ℕ) → IsTrue (finite.is_sorted nat_cmp es) → dictionary es ≡ seen → (there : Bool) → there ≡ is_some (lookup (is_at (nat_cmp key)) es) → finite.contains_key seen key ≡ there
-contains_key-seen es seen key sorted is there found = ap (λ m. finite.contains_key m key) (sym is) ∙ ap is_some (get-dictionary es sorted key) ∙ sym found
+pub contains_key-seen : (es : Pairs) (seen : Dictionary) (key : ℕ) → IsTrue (finite.is_sorted nat_cmp es) → dictionary es ≡ seen
+    → (there : Bool) → there ≡ is_some (lookup (is_at (nat_cmp key)) es) → finite.contains_key seen key ≡ there
+contains_key-seen es seen key sorted is there found =
+    ap (λ m. finite.contains_key m key) (sym is) ∙ ap is_some (get-dictionary es sorted key) ∙ sym found

@@ -25,7 +25,8 @@ module _ (es : List (ℕ × ℕ)) (ordered : IsStrictlySortedBy nat_cmp (keys_of
   keys_rise i j le in_range =
       let at_i = get_or-map (λ e. e.0) es i (0, 0) 0 (omega arith) in
       let at_j = get_or-map (λ e. e.0) es j (0, 0) 0 in_range in
-      let below : i < j → get_or (keys_of es) i 0 < get_or (keys_of es) j 0 = λ lt. below_from_sorted (keys_of es) i j 0 ordered lt (omega (arith, length-map es (λ e. e.0))) in
+      let below : i < j → get_or (keys_of es) i 0 < get_or (keys_of es) j 0 =
+      λ lt. below_from_sorted (keys_of es) i j 0 ordered lt (omega (arith, length-map es (λ e. e.0))) in
       grind (arith, λ (same : i ≡ j). ap (λ k. (get_or es k (0, 0)).0) same)
 
   pub comparisons_rise : IsNonDecreasingBy (λ e. ordering_index (nat_cmp e.0 key)) es
@@ -33,16 +34,23 @@ module _ (es : List (ℕ × ℕ)) (ordered : IsStrictlySortedBy nat_cmp (keys_of
       let rise = keys_rise i j le in_range in grind (arith, nat_tests))
 
   -- the value that stands where the key was found is the key's
-  pub lookup_found : (i : ℕ) (found : ℕ × ℕ) → i < length es → nat_cmp (get_or es i (0, 0)).0 key ≡ Equal → found ≡ get_or es i found → lookup (is_at (nat_cmp key)) es ≡ Some found.1
+  pub lookup_found : (i : ℕ) (found : ℕ × ℕ) → i < length es → nat_cmp (get_or es i (0, 0)).0 key ≡ Equal → found ≡ get_or es i found
+      → lookup (is_at (nat_cmp key)) es ≡ Some found.1
   lookup_found i found in_range equal read =
       let there : slice_get es i ≡ Some found = slice_get-get_or es i found in_range ∙ ap Some (sym read) in
-      let same : found.0 ≡ key = ap (λ e. e.0) read ∙ ap (λ e. e.0) (get_or_default es i found (0, 0) in_range) ∙ ranked _ key Equal (sym equal) in
+      let same : found.0 ≡ key = ap (λ e. e.0) read ∙ ap (λ e. e.0) (get_or_default es i found (0, 0) in_range)
+      ∙ ranked _ key Equal (sym equal) in
       subst (λ k. lookup (is_at (nat_cmp k)) es ≡ Some found.1) same
       (lookup_from_place (eq_by_cmp_equiv nat_cmp_total) es i found.0 found.1 (IsDistinct-from_sorted nat_cmp (keys_of es) ordered) there)
 
   -- no key is the one that has a gap
-  pub lookup_missing : (i : ℕ) → IsPartitionPoint (λ e. nat_cmp e.0 key ≡ Less) (λ e. nat_cmp e.0 key ≡ Greater) es i → i ≤ length es → lookup (is_at (nat_cmp key)) es ≡ None
+  pub lookup_missing : (i : ℕ) → IsPartitionPoint (λ e. nat_cmp e.0 key ≡ Less) (λ e. nat_cmp e.0 key ≡ Greater) es i → i ≤ length es
+      → lookup (is_at (nat_cmp key)) es ≡ None
   lookup_missing i parted in_range =
       lookup_at_gap nat_cmp_total key es i ordered
-      (λ j e lt there. nat_cmp_total.antisymm key e.0 ∙ ap ordering_reverse (ap (λ d. nat_cmp d.0 key) (sym (get_or_from_slice_get es j e (0, 0) there)) ∙ parted.0 j (0, 0) (omega arith) lt))
-      (λ e there. nat_cmp_total.antisymm key e.0 ∙ ap ordering_reverse (ap (λ d. nat_cmp d.0 key) (sym (get_or_from_slice_get es i e (0, 0) there)) ∙ parted.1 i (0, 0) (omega arith) (below_from_slice_get es i e there)))
+      (λ j e lt there. nat_cmp_total.antisymm key e.0
+      ∙ ap ordering_reverse (ap (λ d. nat_cmp d.0 key) (sym (get_or_from_slice_get es j e (0, 0) there))
+      ∙ parted.0 j (0, 0) (omega arith) lt))
+      (λ e there. nat_cmp_total.antisymm key e.0 ∙ ap ordering_reverse
+      (ap (λ d. nat_cmp d.0 key) (sym (get_or_from_slice_get es i e (0, 0) there))
+      ∙ parted.1 i (0, 0) (omega arith) (below_from_slice_get es i e there)))

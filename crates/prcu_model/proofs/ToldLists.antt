@@ -19,8 +19,10 @@ drop-there xs i x there = drop-read xs i x (slice_get_within xs i x there) (sym 
 abbrev pub SameLengths : List (List Op) → List (Roomy Told) → ℕ → Type 0
 SameLengths scripts told i = map length (entries_of (drop i told)) ≡ map length (drop i scripts)
 
-module _ (scripts : List (List Op)) (told : List (Roomy Told)) (i : ℕ) (script : List Op) (list : Roomy Told) (there : slice_get scripts i ≡ Some script) (below : i < length told) (is : list ≡ get_or told i list) where
-  lengths-turn : SameLengths scripts told i → length list.entries ∷ map length (entries_of (drop (i + 1) told)) ≡ length script ∷ map length (drop (i + 1) scripts)
+module _ (scripts : List (List Op)) (told : List (Roomy Told)) (i : ℕ) (script : List Op) (list : Roomy Told)
+    (there : slice_get scripts i ≡ Some script) (below : i < length told) (is : list ≡ get_or told i list) where
+  lengths-turn : SameLengths scripts told i → length list.entries ∷ map length (entries_of (drop (i + 1) told)) ≡ length script
+      ∷ map length (drop (i + 1) scripts)
   lengths-turn same = rw (drop-there scripts i script there, drop-read told i list below is) at same
 
   pub same_length : SameLengths scripts told i → length list.entries ≡ length script
@@ -29,7 +31,8 @@ module _ (scripts : List (List Op)) (told : List (Roomy Told)) (i : ℕ) (script
   pub SameLengths-next : SameLengths scripts told i → SameLengths scripts told (i + 1)
   SameLengths-next same = let both = lengths-turn same in cc
 
-pub same_count : (scripts : List (List Op)) (told : List (Roomy Told)) → map length (entries_of told) ≡ map length scripts → length told ≡ length scripts
+pub same_count : (scripts : List (List Op)) (told : List (Roomy Told)) → map length (entries_of told) ≡ map length scripts
+    → length told ≡ length scripts
 same_count scripts told same =
     sym (length-map told (λ list. list.entries)) ∙ sym (length-map (entries_of told) length) ∙ ap length same ∙ length-map scripts length
 
@@ -39,7 +42,8 @@ ops_of-told_lines [] tolds same = refl
 ops_of-told_lines (op ∷ ops) [] same = absurd (omega (arith, same))
 ops_of-told_lines (op ∷ ops) (told ∷ tolds) same = ap (λ xs. op ∷ xs) (ops_of-told_lines ops tolds (omega (arith, same)))
 
-pub ops_of-all_told_lines : (scripts : List (List Op)) (tolds : List (List Told)) → map length tolds ≡ map length scripts → map ops_of (all_told_lines scripts tolds) ≡ scripts
+pub ops_of-all_told_lines : (scripts : List (List Op)) (tolds : List (List Told)) → map length tolds ≡ map length scripts
+    → map ops_of (all_told_lines scripts tolds) ≡ scripts
 ops_of-all_told_lines [] tolds same = refl
 ops_of-all_told_lines (script ∷ scripts) [] same = absurd (cc)
 ops_of-all_told_lines (script ∷ scripts) (told ∷ tolds) same =

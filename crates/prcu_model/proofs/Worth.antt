@@ -18,11 +18,14 @@ get_case : (b : Bool) (m n : Dictionary) (q : ℕ) → map.get (cond b m n) q �
 get_case true m n q = refl
 get_case false m n q = refl
 
-pub get-updated : (m : Dictionary) (op : Op) (q : ℕ) → map.get (updated m op) q ≡ value_after (eq_by_cmp nat_cmp q (key_of op)) op (map.get m (key_of op)) (map.get m q)
-get-updated m (Put key value) q = get_case (map.contains_key m key) m (map.insert m key value) q ∙ ap (λ v. cond (map.contains_key m key) (map.get m q) v) (map.get-insert nat_cmp_total m key value q)
+pub get-updated : (m : Dictionary) (op : Op) (q : ℕ)
+    → map.get (updated m op) q ≡ value_after (eq_by_cmp nat_cmp q (key_of op)) op (map.get m (key_of op)) (map.get m q)
+get-updated m (Put key value) q = get_case (map.contains_key m key) m (map.insert m key value) q
+    ∙ ap (λ v. cond (map.contains_key m key) (map.get m q) v) (map.get-insert nat_cmp_total m key value q)
 get-updated m (Get key) q = refl
 get-updated m (Del key) q = map.get-remove nat_cmp_total m key q
-get-updated m (Set key value) q = get_case (map.contains_key m key) (map.insert m key value) m q ∙ ap (λ v. cond (map.contains_key m key) v (map.get m q)) (map.get-insert nat_cmp_total m key value q)
+get-updated m (Set key value) q = get_case (map.contains_key m key) (map.insert m key value) m q
+    ∙ ap (λ v. cond (map.contains_key m key) v (map.get m q)) (map.get-insert nat_cmp_total m key value q)
 
 stays : (op : Op) (its was : Option ℕ) → value_after false op its was ≡ was
 stays (Put key value) None was = refl
@@ -41,15 +44,18 @@ apart q key ne = unsigned_tied q key ∙ ne_eqb q key ne
 -- another key's value stays
 pub get-updated_other : (m : Dictionary) (op : Op) (q : ℕ) → q ≢ key_of op → map.get (updated m op) q ≡ map.get m q
 get-updated_other m op q ne =
-    get-updated m op q ∙ ap (λ b. value_after b op (map.get m (key_of op)) (map.get m q)) (apart q (key_of op) ne) ∙ stays op (map.get m (key_of op)) (map.get m q)
+    get-updated m op q ∙ ap (λ b. value_after b op (map.get m (key_of op)) (map.get m q)) (apart q (key_of op) ne)
+    ∙ stays op (map.get m (key_of op)) (map.get m q)
 
 -- what a key is worth after an update of its own
 module _ (m : Dictionary) (key : ℕ) where
   pub get-put : (value : ℕ) → map.contains_key m key ≡ false → map.get (updated m (Put key value)) key ≡ Some value
-  get-put value absent = get-updated m (Put key value) key ∙ (λ i. cond (absent i) (map.get m key) (cond (equal key i) (Some value) (map.get m key)))
+  get-put value absent = get-updated m (Put key value) key
+      ∙ (λ i. cond (absent i) (map.get m key) (cond (equal key i) (Some value) (map.get m key)))
 
   pub get-del : map.get (updated m (Del key)) key ≡ None
   get-del = get-updated m (Del key) key ∙ ap (λ b. cond b None (map.get m key)) (equal key)
 
   pub get-set : (value : ℕ) → map.contains_key m key ≡ true → map.get (updated m (Set key value)) key ≡ Some value
-  get-set value present = get-updated m (Set key value) key ∙ (λ i. cond (present i) (cond (equal key i) (Some value) (map.get m key)) (map.get m key))
+  get-set value present = get-updated m (Set key value) key
+      ∙ (λ i. cond (present i) (cond (equal key i) (Some value) (map.get m key)) (map.get m key))

@@ -59,7 +59,8 @@ MayStandBy explains history before line number =
 -- numbers that may stand beside lines
 abbrev pub MayStandBesideBy : (Dictionary → Op → Reply → Type 0) → List Update → ℕ → List Line → List ℕ → Type 0
 MayStandBesideBy explains history before [] [] = Unit {0}
-MayStandBesideBy explains history before (line ∷ lines) (number ∷ numbers) = MayStandBy explains history before line number × MayStandBesideBy explains history number lines numbers
+MayStandBesideBy explains history before (line ∷ lines) (number ∷ numbers) =
+    MayStandBy explains history before line number × MayStandBesideBy explains history number lines numbers
 MayStandBesideBy explains history before _ _ = ⊥
 
 -- the same where so many scripts share so many slots
@@ -95,11 +96,13 @@ IsLeastFor room history before line number =
 abbrev pub AreNumbered : Room → List Update → ℕ → List Line → List Line → Type 0
 AreNumbered room history before [] [] = Unit {0}
 AreNumbered room history before (told ∷ tolds) (line ∷ lines) =
-    (line.op ≡ told.op) × (line.reply ≡ told.reply) × IsLeastFor room history before told line.number × AreNumbered room history line.number tolds lines
+    (line.op ≡ told.op) × (line.reply ≡ told.reply) × IsLeastFor room history before told line.number
+    × AreNumbered room history line.number tolds lines
 AreNumbered room history before _ _ = ⊥
 
 -- the same for all scripts
 abbrev pub AllAreNumbered : Room → List Update → List (List Line) → List (List Line) → Type 0
 AllAreNumbered room history [] [] = Unit {0}
-AllAreNumbered room history (told ∷ tolds) (lines ∷ scripts) = AreNumbered room history 0 told lines × AllAreNumbered room history tolds scripts
+AllAreNumbered room history (told ∷ tolds) (lines ∷ scripts) =
+    AreNumbered room history 0 told lines × AllAreNumbered room history tolds scripts
 AllAreNumbered room history _ _ = ⊥

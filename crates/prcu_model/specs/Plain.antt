@@ -46,16 +46,19 @@ history_after limit history caller (op ∷ ops) = history_after limit (history_w
 
 abbrev pub told_after : Option ℕ → List Update → ℕ → List Op → List Told
 told_after limit history caller [] = []
-told_after limit history caller (op ∷ ops) = plain_told limit history op ∷ told_after limit (history_with limit history caller op) caller ops
+told_after limit history caller (op ∷ ops) = plain_told limit history op
+    ∷ told_after limit (history_with limit history caller op) caller ops
 
 -- the same of several scripts, where the first of these has this caller
 abbrev pub history_after_all : Option ℕ → List Update → ℕ → List (List Op) → List Update
 history_after_all limit history caller [] = history
-history_after_all limit history caller (script ∷ scripts) = history_after_all limit (history_after limit history caller script) (caller + 1) scripts
+history_after_all limit history caller (script ∷ scripts) =
+    history_after_all limit (history_after limit history caller script) (caller + 1) scripts
 
 abbrev pub told_after_all : Option ℕ → List Update → ℕ → List (List Op) → List (List Told)
 told_after_all limit history caller [] = []
-told_after_all limit history caller (script ∷ scripts) = told_after limit history caller script ∷ told_after_all limit (history_after limit history caller script) (caller + 1) scripts
+told_after_all limit history caller (script ∷ scripts) =
+    told_after limit history caller script ∷ told_after_all limit (history_after limit history caller script) (caller + 1) scripts
 
 -- the history of scripts run one after another, and what they were told
 abbrev pub plain_history : Option ℕ → List (List Op) → List Update

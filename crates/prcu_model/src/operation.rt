@@ -52,7 +52,7 @@ pub struct Told {
 }
 
 /// An operation with its reply and its number: a position as in `Told`, or a front at which the reply was true.
-#[derive(Clone, Copy, Debug, PartialEq, Eq)]
+#[derive(Clone, Copy)]
 pub struct Line {
     pub op: Op,
     pub reply: Reply,

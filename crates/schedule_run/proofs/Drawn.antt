@@ -14,7 +14,8 @@ drawn_once c state [] (j ∷ js) d e = absurd (let no = nothing_left c d e.0 in 
 drawn_once c state (i ∷ is) [] d e = absurd (let no = nothing_left c e d.0 in omega (arith, no))
 drawn_once c state (i ∷ is) (j ∷ js) d e =
     let same : i ≡ j = d.1 ∙ sym e.1 in
-    let rest : is ≡ js = drawn_once (step c i) (next_state state) is js d.2 (subst (λ z. AreDrawn (step c z) (next_state state) js) (sym same) e.2) in
+    let rest : is ≡ js = drawn_once (step c i) (next_state state) is js d.2
+    (subst (λ z. AreDrawn (step c z) (next_state state) js) (sym same) e.2) in
     λ k. same k ∷ rest k
 
 pub schedules_are_one : SchedulesAreOne

@@ -16,5 +16,6 @@ pub record IsOfSchedule (scripts : List (List Op)) (slots number : ℕ) (told : 
 
 -- The number decides what is told and which updates are made.
 abbrev pub SchedulesAreOne : Type 0
-SchedulesAreOne = (scripts : List (List Op)) (slots number : ℕ) (told other_told : List (List Told)) (history other_history : List Update) → IsOfSchedule scripts slots number told history
+SchedulesAreOne = (scripts : List (List Op)) (slots number : ℕ) (told other_told : List (List Told)) (history other_history : List Update)
+    → IsOfSchedule scripts slots number told history
     → IsOfSchedule scripts slots number other_told other_history → (told ≡ other_told) × (history ≡ other_history)

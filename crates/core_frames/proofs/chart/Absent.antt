@@ -10,11 +10,13 @@ use Rattle.core_state.specs.tree.Chart.{Chart, low_of, high_of, Belongs, IsShape
 use Rattle.core_frames.proofs.chart.Ranges.{range_of_side, after-node, next-left, next-right}
 use Rattle.core_frames.proofs.chart.Endings.{ended_is, answer-none}
 
-module _ (m : Memory) (n : ℕ) (g : Chart) (x s : ℕ) (b : Side) (shape : IsShaped m n g) (linked : g.linked s ≡ true) (root : s ≡ 0 → b ≡ Right) where
+module _ (m : Memory) (n : ℕ) (g : Chart) (x s : ℕ) (b : Side) (shape : IsShaped m n g) (linked : g.linked s ≡ true)
+    (root : s ≡ 0 → b ≡ Right) where
   pub stops : m (Link s b) ≡ 0 → Belongs m g x s b → next m x s ≡ 0
   stops empty k = go b root empty k.0 k.1 (cases_eq s 0)
     where
-      go : (b : Side) → (s ≡ 0 → b ≡ Right) → m (Link s b) ≡ 0 → low_of m g s b ≤ x → x < high_of m g s b → (s ≡ 0) ⊎ (s ≢ 0) → next m x s ≡ 0
+      go : (b : Side) → (s ≡ 0 → b ≡ Right) → m (Link s b) ≡ 0 → low_of m g s b ≤ x → x < high_of m g s b → (s ≡ 0) ⊎ (s ≢ 0)
+          → next m x s ≡ 0
       go Left r e lo hi (inl z) = absurd (let f = r z in cc)
       go Right r e lo hi (inl z) = ap (next m x) z ∙ ap (λ y. m (Link y Right)) (sym z) ∙ e
       go Left r e lo hi (inr z) = next-left m x s z hi ∙ e
@@ -25,4 +27,5 @@ module _ (m : Memory) (n : ℕ) (g : Chart) (x s : ℕ) (b : Side) (shape : IsSh
   not_its_key Right k ne e = omega (arith, k.0, e, after-node m s ne)
 
   pub absent : (map : ℕ → Option ℕ) → HoldsMap m g map → x < 2 ^ 64 → m (Link s b) ≡ 0 → Belongs m g x s b → map x ≡ None
-  absent map holds fits empty k = sym (ended_is m n g map x s shape holds fits (range_of_side m n g x s b shape linked root k) (stops empty k) (map x) refl) ∙ answer-none m x s (not_its_key b k)
+  absent map holds fits empty k = sym (ended_is m n g map x s shape holds fits (range_of_side m n g x s b shape linked root k)
+      (stops empty k) (map x) refl) ∙ answer-none m x s (not_its_key b k)

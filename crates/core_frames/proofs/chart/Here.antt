@@ -9,7 +9,8 @@ use Rattle.core_state.specs.tree.Nodes.{answer_at, follow, last_of, next}
 -- A search that stands at a slot with its key ends there.
 pub follow_here : (m : Memory) (hops s x : ℕ) → s ≢ 0 → m (Key s) ≡ x → follow m hops s x ≡ Some (m (Value s))
 follow_here m hops zero x some_slot e = absurd (some_slot refl)
-follow_here m hops (suc s) x some_slot e = ap (answer_at m x) (stays hops) ∙ ap (λ z. cond z (Some (m (Value (suc s)))) None) (eq-eqb (m (Key (suc s))) x e)
+follow_here m hops (suc s) x some_slot e = ap (answer_at m x) (stays hops)
+    ∙ ap (λ z. cond z (Some (m (Value (suc s)))) None) (eq-eqb (m (Key (suc s))) x e)
   where
     not_below : (q : ℕ) → nat_lt q q ≡ false
     not_below q = by (nat_lt q q) refl
@@ -21,7 +22,8 @@ follow_here m hops (suc s) x some_slot e = ap (answer_at m x) (stays hops) ∙ a
     ends : next m x (suc s) ≡ 0
     ends = subst (λ y. next m y (suc s) ≡ 0) e
         (let q : ℕ = m (Key (suc s)) in
-        ap (λ z. cond z (m (Link (suc s) Left)) (cond (nat_lt q q) (m (Link (suc s) Right)) 0)) (not_below q) ∙ ap (λ z. cond z (m (Link (suc s) Right)) 0) (not_below q))
+        ap (λ z. cond z (m (Link (suc s) Left)) (cond (nat_lt q q) (m (Link (suc s) Right)) 0)) (not_below q)
+        ∙ ap (λ z. cond z (m (Link (suc s) Right)) 0) (not_below q))
 
     stays : (hops : ℕ) → last_of m x hops (suc s) ≡ suc s
     stays zero = refl

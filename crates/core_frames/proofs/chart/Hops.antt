@@ -24,7 +24,9 @@ above-le rank (suc n) a b le = omega (arith, one_le a b (rank n) le, above-le ra
 -- fewer are above what is itself above
 pub above-lt : (rank : ℕ → ℕ) (n a c : ℕ) → c < n → a < rank c → above rank (rank c) n < above rank a n
 above-lt rank zero a c lt le = absurd (omega arith)
-above-lt rank (suc n) a c lt le = ⊎_elim (λ (e : c ≡ n). omega (arith, one_lt a (rank c) (rank n) le (ap rank (sym e)), above-le rank n a (rank c) (omega arith))) (λ ne. omega (arith, one_le a (rank c) (rank n) (omega arith), above-lt rank n a c (omega arith) le)) (cases_eq c n)
+above-lt rank (suc n) a c lt le = ⊎_elim (λ (e : c ≡ n). omega
+    (arith, one_lt a (rank c) (rank n) le (ap rank (sym e)), above-le rank n a (rank c) (omega arith)))
+    (λ ne. omega (arith, one_le a (rank c) (rank n) (omega arith), above-lt rank n a c (omega arith) le)) (cases_eq c n)
 
 above-most : (rank : ℕ → ℕ) (n r : ℕ) → above rank r n ≤ n
 above-most rank zero r = omega arith
@@ -36,7 +38,8 @@ above-most rank (suc n) r = omega (arith, at_most_one (nat_lt r (rank n)), above
 
 pub above_less : (rank : ℕ → ℕ) (n a : ℕ) → a < n → above rank (rank a) n < n
 above_less rank zero a lt = absurd (omega arith)
-above_less rank (suc n) a lt = ⊎_elim (λ (e : a ≡ n). omega (arith, above-most rank n (rank a), none (rank a) (rank n) (ap rank e))) (λ ne. omega (arith, at_most_one (nat_lt (rank a) (rank n)), above_less rank n a (omega arith))) (cases_eq a n)
+above_less rank (suc n) a lt = ⊎_elim (λ (e : a ≡ n). omega (arith, above-most rank n (rank a), none (rank a) (rank n) (ap rank e)))
+    (λ ne. omega (arith, at_most_one (nat_lt (rank a) (rank n)), above_less rank n a (omega arith))) (cases_eq a n)
   where
     at_most_one : (b : Bool) → (if b then 1 else 0) ≤ 1
     at_most_one true = omega arith
@@ -61,11 +64,14 @@ pub ends : (m : Memory) (x n : ℕ) (rank : ℕ → ℕ) (V : ℕ → Type 0)
     → (fuel a : ℕ) → above rank (rank a) n < fuel → V a
     → Ends m x V a (above rank (rank a) n)
 ends m x n rank V small step zero a lt v = absurd (omega arith)
-ends m x n rank V small step (suc fuel) a lt v = ⊎_elim (λ (e : next m x a ≡ 0). record { hops = 0; slot = a; way = refl; last = e; bound = omega arith; met = v }) (λ ne.
+ends m x n rank V small step (suc fuel) a lt v =
+    ⊎_elim (λ (e : next m x a ≡ 0). record { hops = 0; slot = a; way = refl; last = e; bound = omega arith; met = v }) (λ ne.
     let w = step a v ne in
-    let less : above rank (rank (next m x a)) n < above rank (rank a) n = above-lt rank n (rank a) (next m x a) (small (next m x a) w.0) w.1 in
+    let less : above rank (rank (next m x a)) n < above rank (rank a) n =
+    above-lt rank n (rank a) (next m x a) (small (next m x a) w.0) w.1 in
     let r = ends m x n rank V small step fuel (next m x a) (omega arith) w.0 in
-    record { hops = suc r.hops; slot = r.slot; way = (ne, r.way); last = r.last; bound = omega (arith, r.bound); met = r.met }) (cases_eq (next m x a) 0)
+    record { hops = suc r.hops; slot = r.slot; way = (ne, r.way); last = r.last; bound = omega (arith, r.bound); met = r.met })
+    (cases_eq (next m x a) 0)
 
 pub last_of-stop : (m : Memory) (x fuel a : ℕ) → next m x a ≡ 0 → last_of m x (suc fuel) a ≡ a
 last_of-stop m x fuel a e = grind (arith, nat_tests)
@@ -82,7 +88,8 @@ last_of-ends m x zero (suc fuel) a e w z le = stay m x fuel a e w z (cases_eq (n
     stay m x fuel a e w z (inl y) = rw y w
     stay m x fuel a e w z (inr y) = absurd (y (ap (next m x) w ∙ z))
 last_of-ends m x (suc k) zero a e w z le = absurd (omega arith)
-last_of-ends m x (suc k) (suc fuel) a e w z le = rw (last_of-hop m x fuel a w.0) (last_of-ends m x k fuel (next m x a) e w.1 z (omega arith))
+last_of-ends m x (suc k) (suc fuel) a e w z le =
+    rw (last_of-hop m x fuel a w.0) (last_of-ends m x k fuel (next m x a) e w.1 z (omega arith))
 
 -- one hop more at the end
 pub hops_more : (m : Memory) (x k a b c : ℕ) → Hops m x k a b → next m x b ≡ c → c ≢ 0 → Hops m x (suc k) a c

@@ -10,7 +10,8 @@ use Rattle.prcu_marks.specs.declared.mark.Side.TheVariants.{Left}
 use Rattle.core_state.specs.declared.words.Field.TheVariants.{Key, Link}
 use Rattle.core_state.specs.memory.Memory.{Memory}
 
-module _ (m : Memory) (n : ℕ) (g : Chart) (x u : ℕ) (h : IsShaped m n g) (l : g.linked u ≡ true) (o : g.old u ≡ true) (le : x ≤ m (Key u)) where
+module _ (m : Memory) (n : ℕ) (g : Chart) (x u : ℕ) (h : IsShaped m n g) (l : g.linked u ≡ true) (o : g.old u ≡ true)
+    (le : x ≤ m (Key u)) where
   -- not who is in range
   pub range_past : (k s : ℕ) → IsInRange g x s → Hops m x k s u → ⊥
   range_past zero s i w = omega (arith, (h.displaced u l o).low, i.low, ap g.low w)
@@ -25,7 +26,8 @@ module _ (m : Memory) (n : ℕ) (g : Chart) (x u : ℕ) (h : IsShaped m n g) (l 
       spine_past v lv ov lev c sp k (subst (λ y. Hops m x k y u) (next-left m x s (not_root m n g s c h e nz) lt ∙ e) w.1)
 
   -- so who passes it is one that may: its section entered before the copy link
-  pub passes_pends : (live pend : ℕ → Type 0) (told : Option ℕ → Type 0) → ((s : ℕ) → live s → g.linked s ≡ false) → (s : ℕ) → Place m g x live pend told s → (k : ℕ) → Hops m x k s u → pend u
+  pub passes_pends : (live pend : ℕ → Type 0) (told : Option ℕ → Type 0) → ((s : ℕ) → live s → g.linked s ≡ false) → (s : ℕ)
+      → Place m g x live pend told s → (k : ℕ) → Hops m x k s u → pend u
   passes_pends live pend told out s (in_range i) k w = absurd (range_past k s i w)
   passes_pends live pend told out s (at_old {u = v} p ov lev t sp) k w = subst pend (spine_past v (end v s sp) ov lev s sp k w) p
     where
@@ -35,4 +37,5 @@ module _ (m : Memory) (n : ℕ) (g : Chart) (x u : ℕ) (h : IsShaped m n g) (l 
   passes_pends live pend told out s (at_end y z t) zero w = let e = out s y in cc (ap g.linked w)
   passes_pends live pend told out s (at_end y z t) (suc k) w = absurd (w.0 z)
   passes_pends live pend told out s (on y e nz r p) zero w = let f = out s y in cc (ap g.linked w)
-  passes_pends live pend told out s (on {c = c} y e nz r p) (suc k) w = passes_pends live pend told out c p k (subst (λ q. Hops m x k q u) e w.1)
+  passes_pends live pend told out s (on {c = c} y e nz r p) (suc k) w =
+      passes_pends live pend told out c p k (subst (λ q. Hops m x k q u) e w.1)

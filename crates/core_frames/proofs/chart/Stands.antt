@@ -15,8 +15,10 @@ hops_of_spine m n g x u s h (more {c = c} l lt e nz sp) =
     let f : next m x s ≡ c = next-left m x s (not_root m n g s c h e nz) lt ∙ e in
     (suc w.0, (λ z. nz (sym f ∙ z), subst (λ y. Hops m x w.0 y u) (sym f) w.1))
 
-pub stands : (m : Memory) (n : ℕ) (g : Chart) (x : ℕ) (live pend : ℕ → Type 0) (told : Option ℕ → Type 0) → IsShaped m n g → ((s : ℕ) → live s → g.linked s ≡ false) → (s : ℕ) → Place m g x live pend told s → Stands m g.linked x pend s
+pub stands : (m : Memory) (n : ℕ) (g : Chart) (x : ℕ) (live pend : ℕ → Type 0) (told : Option ℕ → Type 0) → IsShaped m n g
+    → ((s : ℕ) → live s → g.linked s ≡ false) → (s : ℕ) → Place m g x live pend told s → Stands m g.linked x pend s
 stands m n g x live pend told h out s (in_range i) = merges i.linked (path_of_range m n g x h (suc (g.rank s)) s (omega arith) i)
 stands m n g x live pend told h out s (at_old {u = u} p o le t sp) = let w = hops_of_spine m n g x u s h sp in passes w.0 p w.1
 stands m n g x live pend told h out s (at_end l z t) = stops (out s l) z
-stands m n g x live pend told h out s (on {c = c} l e nz r p) = goes (out s l) (λ z. nz (sym e ∙ z)) (subst (Stands m g.linked x pend) (sym e) (stands m n g x live pend told h out c p))
+stands m n g x live pend told h out s (on {c = c} l e nz r p) =
+    goes (out s l) (λ z. nz (sym e ∙ z)) (subst (Stands m g.linked x pend) (sym e) (stands m n g x live pend told h out c p))

@@ -45,11 +45,16 @@ module _ (m : Memory) (n : ℕ) (g : Chart) (h : IsShaped m n g) where
   realised zero s k = ⊎_elim (λ (e : s ≡ 0). e) (λ ne. absurd (omega (arith, (k ne).1))) (cases_eq s 0)
   realised (suc fuel) zero k = refl
   realised (suc fuel) (suc s) k =
-      let w = k (omega arith) in
-      (refl, omega arith, realised fuel (m (Link (suc s) Left)) (child fuel (suc s) Left w.0 w.1), realised fuel (m (Link (suc s) Right)) (child fuel (suc s) Right w.0 w.1))
+      let w = k (omega arith) in (
+        refl,
+        omega arith,
+        realised fuel (m (Link (suc s) Left)) (child fuel (suc s) Left w.0 w.1),
+        realised fuel (m (Link (suc s) Right)) (child fuel (suc s) Right w.0 w.1),
+      )
 
   below_up : (s : ℕ) (b : Side) (x : ℕ) → g.linked s ≡ true → m (Link s b) ≢ 0 → Under g (m (Link s b)) x → Under g s x
-  below_up s b x l nz (same e) = let k = h.below s (m (Link s b)) b l refl nz in lower (ap g.linked e ∙ k.linked) (λ z. nz (sym e ∙ z)) (same (ap g.up e ∙ k.up))
+  below_up s b x l nz (same e) = let k = h.below s (m (Link s b)) b l refl nz in
+      lower (ap g.linked e ∙ k.linked) (λ z. nz (sym e ∙ z)) (same (ap g.up e ∙ k.up))
   below_up s b x l nz (lower lx ne u) = lower lx ne (below_up s b (g.up x) l nz u)
 
   in_under : (fuel s x : ℕ) → Enough fuel s → In x (tree_of m fuel s) → (g.linked x ≡ true) × (x ≢ 0) × Under g s x × (s ≢ 0)
@@ -76,12 +81,16 @@ module _ (m : Memory) (n : ℕ) (g : Chart) (h : IsShaped m n g) where
   not_self : (s : ℕ) (b : Side) → g.linked s ≡ true → m (Link s b) ≢ 0 → Under g (m (Link s b)) s → ⊥
   not_self s b l nz u = omega (arith, (h.below s (m (Link s b)) b l refl nz).rank, under_rank (m (Link s b)) s u)
 
-  not_over : (s : ℕ) (a b : Side) → a ≢ b → g.linked s ≡ true → m (Link s a) ≢ 0 → m (Link s b) ≢ 0 → Under g (m (Link s a)) (m (Link s b)) → ⊥
-  not_over s a b ne l na nb (same e) = ne (sym (h.below s (m (Link s a)) a l refl na).side ∙ ap g.side (sym e) ∙ (h.below s (m (Link s b)) b l refl nb).side)
+  not_over : (s : ℕ) (a b : Side) → a ≢ b → g.linked s ≡ true → m (Link s a) ≢ 0 → m (Link s b) ≢ 0 → Under g (m (Link s a)) (m (Link s b))
+      → ⊥
+  not_over s a b ne l na nb (same e) = ne (sym (h.below s (m (Link s a)) a l refl na).side ∙ ap g.side (sym e)
+      ∙ (h.below s (m (Link s b)) b l refl nb).side)
   not_over s a b ne l na nb (lower lx nz u) = not_self s a l na (subst (Under g (m (Link s a))) (h.below s (m (Link s b)) b l refl nb).up u)
 
-  apart : (s x : ℕ) → g.linked s ≡ true → m (Link s Left) ≢ 0 → m (Link s Right) ≢ 0 → Under g (m (Link s Left)) x → Under g (m (Link s Right)) x → ⊥
-  apart s x l nl nr u v = ⊎_elim (λ w. not_over s Left Right (λ e. cc) l nl nr w) (λ w. not_over s Right Left (λ e. cc) l nr nl w) (chain (m (Link s Left)) (m (Link s Right)) x u v)
+  apart : (s x : ℕ) → g.linked s ≡ true → m (Link s Left) ≢ 0 → m (Link s Right) ≢ 0 → Under g (m (Link s Left)) x
+      → Under g (m (Link s Right)) x → ⊥
+  apart s x l nl nr u v = ⊎_elim (λ w. not_over s Left Right (λ e. cc) l nl nr w) (λ w. not_over s Right Left (λ e. cc) l nr nl w)
+      (chain (m (Link s Left)) (m (Link s Right)) x u v)
 
   distinct : (fuel s : ℕ) → Enough fuel s → Distinct (tree_of m fuel s)
   unfolding Enough
@@ -93,7 +102,8 @@ module _ (m : Memory) (n : ℕ) (g : Chart) (h : IsShaped m n g) where
       let r = child fuel (suc s) Right w.0 w.1 in (
         λ i. let v = in_under fuel (m (Link (suc s) Left)) (suc s) l i in not_self (suc s) Left w.0 v.3 v.2,
         λ i. let v = in_under fuel (m (Link (suc s) Right)) (suc s) r i in not_self (suc s) Right w.0 v.3 v.2,
-        λ x i j. let v = in_under fuel (m (Link (suc s) Left)) x l i in let y = in_under fuel (m (Link (suc s) Right)) x r j in apart (suc s) x w.0 v.3 y.3 v.2 y.2,
+        λ x i j. let v = in_under fuel (m (Link (suc s) Left)) x l i in let y = in_under fuel (m (Link (suc s) Right)) x r j in
+            apart (suc s) x w.0 v.3 y.3 v.2 y.2,
         distinct fuel (m (Link (suc s) Left)) l,
         distinct fuel (m (Link (suc s) Right)) r,
       )
@@ -112,7 +122,8 @@ module _ (m : Memory) (n : ℕ) (g : Chart) (h : IsShaped m n g) where
   key_below x key l ne le = ⊎_elim (λ o. omega (arith, h.displaced x l o)) (λ o. omega (arith, h.keyed x l ne o)) (bool_cases (g.old x))
 
   key_above : (x key : ℕ) → g.linked x ≡ true → x ≢ 0 → key + 1 ≤ g.low x → (key < m (Key x)) ⊎ ((g.old x ≡ true) × (m (Key x) ≡ key))
-  key_above x key l ne le = ⊎_elim (λ o. dite (ℕ_discrete (m (Key x)) key) (λ e. inr (o, e)) (λ other. inl (omega (arith, h.displaced x l o)))) (λ o. inl (omega (arith, h.keyed x l ne o))) (bool_cases (g.old x))
+  key_above x key l ne le = ⊎_elim (λ o. dite (ℕ_discrete (m (Key x)) key) (λ e. inr (o, e))
+      (λ other. inl (omega (arith, h.displaced x l o)))) (λ o. inl (omega (arith, h.keyed x l ne o))) (bool_cases (g.old x))
 
   ordered : (fuel s : ℕ) → Enough fuel s → Ordered m g.old (tree_of m fuel s)
   unfolding Enough
@@ -123,9 +134,11 @@ module _ (m : Memory) (n : ℕ) (g : Chart) (h : IsShaped m n g) where
       let l = child fuel (suc s) Left w.0 w.1 in
       let r = child fuel (suc s) Right w.0 w.1 in (
         λ x i. let v = in_under fuel (m (Link (suc s) Left)) x l i in
-            key_below x (m (Key (suc s))) v.0 v.1 (omega (arith, (nested (m (Link (suc s) Left)) x v.2).1, (h.below (suc s) (m (Link (suc s) Left)) Left w.0 refl v.3).high)),
+            key_below x (m (Key (suc s))) v.0 v.1 (omega
+            (arith, (nested (m (Link (suc s) Left)) x v.2).1, (h.below (suc s) (m (Link (suc s) Left)) Left w.0 refl v.3).high)),
         λ x i. let v = in_under fuel (m (Link (suc s) Right)) x r i in
-            key_above x (m (Key (suc s))) v.0 v.1 (omega (arith, (nested (m (Link (suc s) Right)) x v.2).0, (h.below (suc s) (m (Link (suc s) Right)) Right w.0 refl v.3).low)),
+            key_above x (m (Key (suc s))) v.0 v.1 (omega
+            (arith, (nested (m (Link (suc s) Right)) x v.2).0, (h.below (suc s) (m (Link (suc s) Right)) Right w.0 refl v.3).low)),
         ordered fuel (m (Link (suc s) Left)) l,
         ordered fuel (m (Link (suc s) Right)) r,
       )
@@ -140,7 +153,8 @@ module _ (m : Memory) (n : ℕ) (g : Chart) (h : IsShaped m n g) where
       top : (t : Tree) (link c : ℕ) → Realises m link t → link ≡ c → c ≢ 0 → In c t
       top Leaf link c k e nz = absurd (nz (sym e ∙ k))
       top (Node l d r) link c k e nz = inr (inl (sym e ∙ k.0))
-  child_in (Node l d r) link p c Right k (inr (inl i)) e nz = inr (inr (top r (m (Link d Right)) c k.3 (ap (λ y. m (Link y Right)) (sym i) ∙ e) nz))
+  child_in (Node l d r) link p c Right k (inr (inl i)) e nz =
+      inr (inr (top r (m (Link d Right)) c k.3 (ap (λ y. m (Link y Right)) (sym i) ∙ e) nz))
     where
       top : (t : Tree) (link c : ℕ) → Realises m link t → link ≡ c → c ≢ 0 → In c t
       top Leaf link c k e nz = absurd (nz (sym e ∙ k))
@@ -156,7 +170,8 @@ module _ (m : Memory) (n : ℕ) (g : Chart) (h : IsShaped m n g) where
       let k = h.hangs s l nz in
       ⊎_elim
       (λ (z : g.up s ≡ 0). from_root (g.side s) (ap (λ y. m (Link y (g.side s))) (sym z) ∙ k.link))
-      (λ z. child_in t (m (Link 0 Right)) (g.up s) s (g.side s) r (all_in t r fuel (g.up s) (omega (arith, up_rank s l nz)) k.above z) k.link nz)
+      (λ z. child_in t (m (Link 0 Right)) (g.up s) s (g.side s) r
+      (all_in t r fuel (g.up s) (omega (arith, up_rank s l nz)) k.above z) k.link nz)
       (cases_eq (g.up s) 0)
     where
       from_root : (b : Side) → m (Link 0 b) ≡ s → In s t

@@ -54,13 +54,15 @@ tags_raised m n = sum_below (λ s. m (Tag s Left) + m (Tag s Right)) n
 pub record CountsStep (m m' : Memory) (n : ℕ) (g to : Chart) (h h' : List Mark) (a b : Numbers) : Type 0 where
   pub free : m' Free + b.reserved + b.owes + free_slots m n ≡ m Free + a.reserved + a.owes + free_slots m' n
   pub clock : m' Clock + length (updates_of h') + b.tickets ≤ m Clock + length (updates_of h) + a.tickets
-  pub generations : generations_in m' n + b.reserved + linked_count to n + b.unraised + b.tickets ≤ generations_in m n + a.reserved + linked_count g n + a.unraised + a.tickets
+  pub generations : generations_in m' n + b.reserved + linked_count to n + b.unraised + b.tickets
+      ≤ generations_in m n + a.reserved + linked_count g n + a.unraised + a.tickets
   pub tags : tags_raised m' n + b.emptied + b.pending + b.tickets ≤ tags_raised m n + a.emptied + a.pending + a.tickets
   pub turns : b.turns + 64 * m Clock ≤ a.turns + 64 * m' Clock
   pub pairs : young_count to n + finite.len (map_of (updates_of h)) ≡ young_count g n + finite.len (map_of (updates_of h'))
   pub olds : old_count to n + a.pending ≡ old_count g n + b.pending
 
-pub counts_by : (tickets : ℕ) (m m' : Memory) (n : ℕ) (g to : Chart) (vs : List View) (id : ℕ) (v w : View) (h h' : List Mark) → get_elem? vs id ≡ some v → CountsStep m m' n g to h h' (numbers_of v) (numbers_of w)
+pub counts_by : (tickets : ℕ) (m m' : Memory) (n : ℕ) (g to : Chart) (vs : List View) (id : ℕ) (v w : View) (h h' : List Mark)
+    → get_elem? vs id ≡ some v → CountsStep m m' n g to h h' (numbers_of v) (numbers_of w)
     → CountParts tickets m n g vs h → CountParts tickets m' n to (set vs id w) h'
 counts_by tickets m m' n g to vs id v w h h' there step t =
     let reserved = total_set (λ (u : View). flag u.hands.reserved) vs id v w there in
@@ -104,9 +106,11 @@ pub record NumbersStep (m m' : Memory) (a b : Numbers) : Type 0 where
 
 -- where the view adds the same
 pub numbers_stay : (m m' : Memory) (a b : Numbers) → m' Clock ≡ m Clock → m' Free ≡ m Free → b ≡ a → NumbersStep m m' a b
-numbers_stay m m' a b clock free same = subst (NumbersStep m m' a) (sym same) (record { free = omega arith; clock = omega arith; generations = omega arith; tags = omega arith; turns = omega arith; pending = refl })
+numbers_stay m m' a b clock free same = subst (NumbersStep m m' a) (sym same)
+    (record { free = omega arith; clock = omega arith; generations = omega arith; tags = omega arith; turns = omega arith; pending = refl })
 
-pub counts_still : (tickets : ℕ) (m m' : Memory) (n : ℕ) (g : Chart) (vs : List View) (id : ℕ) (v w : View) (h h' : List Mark) → get_elem? vs id ≡ some v → SameSums m m' n → updates_of h' ≡ updates_of h → NumbersStep m m' (numbers_of v) (numbers_of w)
+pub counts_still : (tickets : ℕ) (m m' : Memory) (n : ℕ) (g : Chart) (vs : List View) (id : ℕ) (v w : View) (h h' : List Mark)
+    → get_elem? vs id ≡ some v → SameSums m m' n → updates_of h' ≡ updates_of h → NumbersStep m m' (numbers_of v) (numbers_of w)
     → CountParts tickets m n g vs h → CountParts tickets m' n g (set vs id w) h'
 counts_still tickets m m' n g vs id v w h h' there sums updates step t =
     let states = sums.states in
@@ -134,7 +138,8 @@ pub record SameNumbers (v w : View) : Type 0 where
   pub locks : w.locks ≡ v.locks
   pub moving : has w.moving ≡ has v.moving
 
-pub counts_kept : (tickets : ℕ) (m m' : Memory) (n : ℕ) (g : Chart) (vs : List View) (id : ℕ) (v w : View) (h h' : List Mark) → get_elem? vs id ≡ some v → SameSlots m m' → m' Clock ≡ m Clock → m' Free ≡ m Free → SameNumbers v w → QuietMarks h h'
+pub counts_kept : (tickets : ℕ) (m m' : Memory) (n : ℕ) (g : Chart) (vs : List View) (id : ℕ) (v w : View) (h h' : List Mark)
+    → get_elem? vs id ≡ some v → SameSlots m m' → m' Clock ≡ m Clock → m' Free ≡ m Free → SameNumbers v w → QuietMarks h h'
     → w.counts.turns ≡ v.counts.turns → w.wait ≡ v.wait → CountParts tickets m n g vs h → CountParts tickets m' n g (set vs id w) h'
 counts_kept tickets m m' n g vs id v w h h' there slots clock free same quiet turns wait t =
     let left = same.tickets in
@@ -144,10 +149,19 @@ counts_kept tickets m m' n g vs id v w h h' there slots clock free same quiet tu
     let emptied = ap emptied_among same.locks in
     let turned : w.counts.turns + turns_to_come w.wait ≡ v.counts.turns + turns_to_come v.wait = λ i. turns i + turns_to_come (wait i) in
     counts_still tickets m m' n g vs id v w h h' there (sums_same m m' n slots.nodes slots.state) quiet.updates
-    (record { free = omega arith; clock = omega arith; generations = omega arith; tags = omega arith; turns = omega arith; pending = same.moving }) t
+    (record {
+      free = omega arith;
+      clock = omega arith;
+      generations = omega arith;
+      tags = omega arith;
+      turns = omega arith;
+      pending = same.moving;
+    }) t
 
 -- a step that leaves all that is counted
 pub count_frame : (tickets : ℕ) (m m' : Memory) (n : ℕ) (g : Chart) (vs : List View) (id : ℕ) (v w : View) (h h' : List Mark)
-    → get_elem? vs id ≡ some v → SameSlots m m' → m' Clock ≡ m Clock → m' Free ≡ m Free → numbers_of w ≡ numbers_of v → QuietMarks h h' → CountParts tickets m n g vs h → CountParts tickets m' n g (set vs id w) h'
+    → get_elem? vs id ≡ some v → SameSlots m m' → m' Clock ≡ m Clock → m' Free ≡ m Free → numbers_of w ≡ numbers_of v → QuietMarks h h'
+    → CountParts tickets m n g vs h → CountParts tickets m' n g (set vs id w) h'
 count_frame tickets m m' n g vs id v w h h' there slots clock free same quiet t =
-    counts_still tickets m m' n g vs id v w h h' there (sums_same m m' n slots.nodes slots.state) quiet.updates (numbers_stay m m' (numbers_of v) (numbers_of w) clock free same) t
+    counts_still tickets m m' n g vs id v w h h' there (sums_same m m' n slots.nodes slots.state) quiet.updates
+    (numbers_stay m m' (numbers_of v) (numbers_of w) clock free same) t

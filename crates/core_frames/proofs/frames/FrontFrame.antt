@@ -17,7 +17,8 @@ use Rattle.core_frames.proofs.marks.MarkFacts.{QuietMarks}
 use Rattle.core_frames.proofs.views.Same.{was, still}
 
 pub front_by : (m m' : Memory) (vs : List View) (id : ℕ) (v w : View) (h h' : List Mark)
-    → get_elem? vs id ≡ some v → m' Front ≡ m Front → w.commit ≡ v.commit → (v.moving ≡ None → w.moving ≡ None) → updates_of h' ≡ updates_of h → FrontParts m vs h → FrontParts m' (set vs id w) h'
+    → get_elem? vs id ≡ some v → m' Front ≡ m Front → w.commit ≡ v.commit → (v.moving ≡ None → w.moving ≡ None)
+    → updates_of h' ≡ updates_of h → FrontParts m vs h → FrontParts m' (set vs id w) h'
 front_by m m' vs id v w h h' there front commit settled updates t =
     let odd : IsOddBy m vs (length (updates_of h)) → IsTurned m' (set vs id w) (length (updates_of h)) = λ i.
     (let z = still (λ (u : View). u.commit) vs id v w there commit i.id i.view i.there in
@@ -33,12 +34,18 @@ front_by m m' vs id v w h h' there front commit settled updates t =
     })) in
     record {
       turned = subst (λ us. IsTurned m' (set vs id w) (length us)) (sym updates) (⊎_elim
-          (λ (i : (m Front ≡ 2 * length (updates_of h)) × Each vs (λ (u : View). u.commit ≡ None)). inl (front ∙ i.0, each_change (λ (u : View). u.commit ≡ None) (λ (u : View). u.commit ≡ None) vs id v w there (λ e. commit ∙ e) (λ u e. e) i.1)) odd t.turned);
-      settled = each_change (λ (u : View). (x : Commit) → u.commit ≡ Some x → x.stored ≡ false → u.moving ≡ None) (λ (u : View). (x : Commit) → u.commit ≡ Some x → x.stored ≡ false → u.moving ≡ None) vs id v w there
+          (λ (i : (m Front ≡ 2 * length (updates_of h)) × Each vs (λ (u : View). u.commit ≡ None)). inl (
+            front ∙ i.0,
+            each_change (λ (u : View). u.commit ≡ None) (λ (u : View). u.commit ≡ None) vs id v w there (λ e. commit ∙ e)
+                (λ u e. e) i.1,
+          )) odd t.turned);
+      settled = each_change (λ (u : View). (x : Commit) → u.commit ≡ Some x → x.stored ≡ false → u.moving ≡ None)
+          (λ (u : View). (x : Commit) → u.commit ≡ Some x → x.stored ≡ false → u.moving ≡ None) vs id v w there
           (λ i x is unmade. settled (i x (sym commit ∙ is) unmade)) (λ u i. i) t.settled;
       legal = subst IsLegal (sym updates) t.legal;
     }
 
 pub front_frame : (m m' : Memory) (vs : List View) (id : ℕ) (v w : View) (h h' : List Mark)
-    → get_elem? vs id ≡ some v → m' Front ≡ m Front → w.commit ≡ v.commit → (v.moving ≡ None → w.moving ≡ None) → QuietMarks h h' → FrontParts m vs h → FrontParts m' (set vs id w) h'
+    → get_elem? vs id ≡ some v → m' Front ≡ m Front → w.commit ≡ v.commit → (v.moving ≡ None → w.moving ≡ None) → QuietMarks h h'
+    → FrontParts m vs h → FrontParts m' (set vs id w) h'
 front_frame m m' vs id v w h h' there front commit settled quiet t = front_by m m' vs id v w h h' there front commit settled quiet.updates t

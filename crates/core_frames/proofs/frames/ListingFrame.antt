@@ -11,19 +11,21 @@ use Rattle.core_state.specs.declared.view.Fact.{Fact}
 use Rattle.core_state.specs.declared.view.Gap.{Gap}
 use Rattle.core_state.specs.declared.view.Listing.{Listing}
 use Rattle.core_state.specs.declared.view.Section.{Section}
+use Rattle.core_state.specs.declared.view.Visit.{Visit}
 use Rattle.core_state.specs.declared.view.View.{View}
 use Rattle.list_laws.specs.Counts.{Each}
 use Rattle.core_state.specs.memory.Memory.{Memory}
 use Rattle.prcu_marks.specs.declared.mark.Side.TheVariants.{Left as LeftSide, Right as RightSide}
 use Rattle.core_state.specs.tree.Chart.{Chart}
 use Rattle.core_state.specs.parts.TreeParts.{map_now}
-use Rattle.core_state.specs.parts.ListingParts.{IsBetween, HasBounds, GoesRight, WasOld, IsListing, ListingParts}
+use Rattle.core_state.specs.parts.ListingParts.{IsBetween, HasBounds, GoesRight, WasOld, IsVisit, IsListing, ListingParts}
 use Rattle.list_laws.proofs.Lists.{each_set}
 use Rattle.core_frames.proofs.marks.MarkFacts.{QuietMarks}
 use Rattle.core_frames.proofs.views.Same.{SameNodes}
 use Rattle.core_frames.proofs.frames.ReaderFrame.{held_back_same}
 
-module _ (m m' : Memory) (nodes : SameNodes m m') (front : m' Front ≡ m Front) (g : Chart) (h h' : List Mark) (quiet : QuietMarks h h') where
+module _ (m m' : Memory) (nodes : SameNodes m m') (front : m' Front ≡ m Front) (g : Chart) (h h' : List Mark)
+    (quiet : QuietMarks h h') where
   map_kept : map_now h' ≡ map_now h
   map_kept = ap (λ us x. finite.get (map_of us) x) quiet.updates
 
@@ -31,7 +33,11 @@ module _ (m m' : Memory) (nodes : SameNodes m m') (front : m' Front ≡ m Front)
   right_same bounds s i = subst (λ map. GoesRight m' g map bounds s) (sym map_kept) (⊎_elim
       (λ (x : (m (Link s RightSide) ≡ 0) × ((y : ℕ) → IsBetween bounds y → map_now h y ≡ None)). inl (nodes.link s RightSide ∙ x.0, x.1))
       (λ (x : (m (Link s RightSide) ≢ 0) × HasBounds g bounds (m (Link s RightSide)) × (g.old (m (Link s RightSide)) ≡ false)).
-      inr ((λ e. x.0 (sym (nodes.link s RightSide) ∙ e)), subst (HasBounds g bounds) (sym (nodes.link s RightSide)) x.1, ap g.old (nodes.link s RightSide) ∙ x.2)) i)
+      inr (
+        (λ e. x.0 (sym (nodes.link s RightSide) ∙ e)),
+        subst (HasBounds g bounds) (sym (nodes.link s RightSide)) x.1,
+        ap g.old (nodes.link s RightSide) ∙ x.2,
+      )) i)
 
   old_same : (bounds : Gap) (s : ℕ) → WasOld m g h bounds s → WasOld m' g h' bounds s
   old_same bounds s i = record {
@@ -45,25 +51,36 @@ module _ (m m' : Memory) (nodes : SameNodes m m') (front : m' Front ≡ m Front)
     right = right_same bounds s i.right;
   }
 
+  visit_same : (entered : ℕ) (t : Visit) → IsVisit m g h entered t → IsVisit m' g h' entered t
+  visit_same entered t i = record {
+    node = i.node;
+    key = λ key e. nodes.key t.slot ∙ i.key key e;
+    here = ⊎_elim (λ l. inl l) (λ x. inr (held_back_same g h h' entered t.slot quiet x)) i.here;
+  }
+
   pub listing_same : (section : Section) (listing : Listing) → IsListing m g h section listing → IsListing m' g h' section listing
   listing_same section listing i = record {
     since = i.since;
     most = subst (λ x. listing.front ≤ x) (sym front) i.most;
-    key = λ key e. (let r = i.key key e in (r.0, nodes.key listing.slot ∙ r.1));
-    here = λ ne. ⊎_elim (λ l. inl l) (λ x. inr (held_back_same g h h' section.entered listing.slot quiet x)) (i.here ne);
+    visits = λ j t at. visit_same section.entered t (i.visits j t at);
     now = λ even e. (let r = i.now even (sym front ∙ e) in record {
       facts = subst (λ map. Each listing.facts (λ (f : Fact). map f.key ≡ Some f.value)) (sym map_kept) r.facts;
       gaps = subst (λ map. Each listing.gaps (λ (gap : Gap). (y : ℕ) → IsBetween gap y → map y ≡ None)) (sym map_kept) r.gaps;
-      stands = λ ne. ⊎_elim (λ b. inl b) (λ o. inr (old_same listing.bounds listing.slot o)) (r.stands ne);
+      visits = λ j t at. ⊎_elim (λ b. inl b) (λ o. inr (old_same t.bounds t.slot o)) (r.visits j t at);
     });
   }
 
-  pub listing_frame : (vs : List View) (id : ℕ) (w : View) → ((section : Section) (listing : Listing) → w.section ≡ Some section → section.listing ≡ Some listing → IsListing m' g h' section listing) → ListingParts m g vs h → ListingParts m' g (set vs id w) h'
+  pub listing_frame : (vs : List View) (id : ℕ) (w : View)
+      → ((section : Section) (listing : Listing) → w.section ≡ Some section → section.listing ≡ Some listing
+      → IsListing m' g h' section listing) → ListingParts m g vs h → ListingParts m' g (set vs id w) h'
   listing_frame vs id w own t = record {
-    listings = each_set (λ j u. (section : Section) (listing : Listing) → u.section ≡ Some section → section.listing ≡ Some listing → IsListing m' g h' section listing) vs id w own
+    listings = each_set (λ j u. (section : Section) (listing : Listing) → u.section ≡ Some section → section.listing ≡ Some listing
+        → IsListing m' g h' section listing) vs id w own
         (λ j u other e section listing is lists. listing_same section listing (t.listings j u e section listing is lists));
   }
 
   -- and its own is as it was
-  pub listing_frame_still : (vs : List View) (id : ℕ) (v w : View) → get_elem? vs id ≡ some v → w.section ≡ v.section → ListingParts m g vs h → ListingParts m' g (set vs id w) h'
-  listing_frame_still vs id v w there section t = listing_frame vs id w (λ s listing is lists. listing_same s listing (t.listings id v there s listing (sym section ∙ is) lists)) t
+  pub listing_frame_still : (vs : List View) (id : ℕ) (v w : View) → get_elem? vs id ≡ some v → w.section ≡ v.section
+      → ListingParts m g vs h → ListingParts m' g (set vs id w) h'
+  listing_frame_still vs id v w there section t =
+      listing_frame vs id w (λ s listing is lists. listing_same s listing (t.listings id v there s listing (sym section ∙ is) lists)) t

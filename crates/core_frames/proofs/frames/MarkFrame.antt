@@ -41,23 +41,29 @@ module _ (h : List Mark) (m : Mark) where
 pub marks_snoc : (places : ℕ) (h : List Mark) (m : Mark) → NewMark places h m → AreMarks places h → AreMarks places (h ++ m ∷ [])
 marks_snoc places h m new t = record {
   entered = λ j p c x e. ⊎_elim
-      (λ (o : get_elem? h j ≡ some (Entered p c x)). (let r = t.entered j p c x o in let b = sym (before_old h m j (Entered p c x) o) in (r.0, r.1, r.2 ∙ ap (entered_at p) b, ap (open_at p) (sym b) ∙ r.3)))
-      (λ n. (let r = subst (NewMark places h) n.1 new in let b = sym (before_new h m j n.0) in (r.0, r.1, r.2 ∙ ap (entered_at p) b, ap (open_at p) (sym b) ∙ r.3)))
+      (λ (o : get_elem? h j ≡ some (Entered p c x)). (let r = t.entered j p c x o in let b = sym (before_old h m j (Entered p c x) o) in
+      (r.0, r.1, r.2 ∙ ap (entered_at p) b, ap (open_at p) (sym b) ∙ r.3)))
+      (λ n. (let r = subst (NewMark places h) n.1 new in let b = sym (before_new h m j n.0) in
+      (r.0, r.1, r.2 ∙ ap (entered_at p) b, ap (open_at p) (sym b) ∙ r.3)))
       (at_end h m (Entered p c x) j e);
   left = λ j p c e. ⊎_elim
-      (λ (o : get_elem? h j ≡ some (Left p c)). (let r = t.left j p c o in (r.0, ap (open_at p) (before_old h m j (Left p c) o) ∙ r.1, r.2)))
+      (λ (o : get_elem? h j ≡ some (Left p c)). (let r = t.left j p c o in
+      (r.0, ap (open_at p) (before_old h m j (Left p c) o) ∙ r.1, r.2)))
       (λ n. (let r = subst (NewMark places h) n.1 new in (r.0, ap (open_at p) (before_new h m j n.0) ∙ r.1, r.2)))
       (at_end h m (Left p c) j e);
   began = λ j p c low high e. ⊎_elim
-      (λ (o : get_elem? h j ≡ some (Began p c low high)). (let r = t.began j p c low high o in (r.0, r.1 ∙ ap (begun_at p) (sym (before_old h m j (Began p c low high) o)), r.2, r.3)))
+      (λ (o : get_elem? h j ≡ some (Began p c low high)). (let r = t.began j p c low high o in
+      (r.0, r.1 ∙ ap (begun_at p) (sym (before_old h m j (Began p c low high) o)), r.2, r.3)))
       (λ n. (let r = subst (NewMark places h) n.1 new in (r.0, r.1 ∙ ap (begun_at p) (sym (before_new h m j n.0)), r.2, r.3)))
       (at_end h m (Began p c low high) j e);
   ended = λ j p c e. ⊎_elim
       (λ (o : get_elem? h j ≡ some (Ended p c)). (let r = t.ended j p c o in (r.0, r.1, r.2, r.3, at_longer h (m ∷ []) r.0 _ r.4)))
-      (λ n. (let r = subst (NewMark places h) n.1 new in let lt = r.3 in let at = n.0 in (r.0, r.1, r.2, (omega arith), at_longer h (m ∷ []) r.0 _ r.4)))
+      (λ n. (let r = subst (NewMark places h) n.1 new in let lt = r.3 in let at = n.0 in
+      (r.0, r.1, r.2, (omega arith), at_longer h (m ∷ []) r.0 _ r.4)))
       (at_end h m (Ended p c) j e);
   deleted = λ j p x e. ⊎_elim
-      (λ (o : get_elem? h j ≡ some (Done (record { caller = p; op = Del x }))). (let r = t.deleted j p x o in (r.0, at_longer h (m ∷ []) (j + 1) _ r.1)))
+      (λ (o : get_elem? h j ≡ some (Done (record { caller = p; op = Del x }))). (let r = t.deleted j p x o in
+      (r.0, at_longer h (m ∷ []) (j + 1) _ r.1)))
       (λ n. absurd (subst (NewMark places h) n.1 new))
       (at_end h m (Done (record { caller = p; op = Del x })) j e);
 }
@@ -69,7 +75,8 @@ pub record SameForMarks (v w : View) : Type 0 where
   pub wait : w.wait ≡ v.wait
   pub waits : w.counts.waits ≡ v.counts.waits
 
-pub wait_same : (h : List Mark) (u z : View) (wait : Waiting) → z.allowance.place ≡ u.allowance.place → Works z → z.counts.waits ≡ u.counts.waits → WaitStands h u wait → WaitStands h z wait
+pub wait_same : (h : List Mark) (u z : View) (wait : Waiting) → z.allowance.place ≡ u.allowance.place → Works z
+    → z.counts.waits ≡ u.counts.waits → WaitStands h u wait → WaitStands h z wait
 wait_same h u z wait place works waits i = record {
   works = works;
   begins = i.begins ∙ ap (λ p. some (Began p wait.count wait.low wait.high)) (sym place);
@@ -80,7 +87,8 @@ wait_same h u z wait place works waits i = record {
 }
 
 -- a wait after more marks, which don't end it
-pub wait_longer : (h h' : List Mark) (u : View) (wait : Waiting) → IsPrefix h h' → (HasEnded h' u.allowance.place wait.count → HasEnded h u.allowance.place wait.count) → WaitStands h u wait → WaitStands h' u wait
+pub wait_longer : (h h' : List Mark) (u : View) (wait : Waiting) → IsPrefix h h'
+    → (HasEnded h' u.allowance.place wait.count → HasEnded h u.allowance.place wait.count) → WaitStands h u wait → WaitStands h' u wait
 wait_longer h h' u wait grows back i = record {
   works = i.works;
   begins = longer_at h h' grows wait.began _ i.begins;
@@ -94,21 +102,25 @@ wait_longer h h' u wait grows back i = record {
 abbrev pub Sees : List Mark → List Mark → View → View → Type 0
 Sees h h' v w = (w.seen ≡ h') ⊎ ((h' ≡ h) × (w.seen ≡ v.seen))
 
-module _ (places : ℕ) (vs : List View) (id : ℕ) (v w : View) (h h' : List Mark) (there : get_elem? vs id ≡ some v) (grows : IsPrefix h h') (sees : Sees h h' v w) (marks : AreMarks places h') (t : MarkParts places vs h) where
+module _ (places : ℕ) (vs : List View) (id : ℕ) (v w : View) (h h' : List Mark) (there : get_elem? vs id ≡ some v) (grows : IsPrefix h h')
+    (sees : Sees h h' v w) (marks : AreMarks places h') (t : MarkParts places vs h) where
   seen_by : IsPrefix v.seen h → Sees h h' v w → IsPrefix w.seen h'
   seen_by i (inl all) = subst (λ s. IsPrefix s h') (sym all) (prefix_self h')
   seen_by i (inr none) = subst (λ s. IsPrefix s h') (sym none.1) (prefix_trans v.seen h h' i grows)
 
   longest_by : Sees h h' v w → (j : ℕ) × (u : View) × (get_elem? (set vs id w) j ≡ some u) × (u.seen ≡ h')
   longest_by (inl all) = (id, w, set_here vs id w (at_below vs id v there), all)
-  longest_by (inr none) = let l = t.seen.longest in let z = still (λ (u : View). u.seen) vs id v w there none.1 l.0 l.1 l.2 in (l.0, z.0, z.1, z.2 ∙ l.3 ∙ sym none.0)
+  longest_by (inr none) = let l = t.seen.longest in let z = still (λ (u : View). u.seen) vs id v w there none.1 l.0 l.1 l.2 in
+      (l.0, z.0, z.1, z.2 ∙ l.3 ∙ sym none.0)
 
   -- the step says how its own wait stands, and that the others do
   pub mark_frame_by : ((wait : Waiting) → w.wait ≡ Some wait → WaitStands h' w wait)
-      → ((j : ℕ) (u : View) (wait : Waiting) → j ≢ id → get_elem? vs j ≡ some u → WaitStands h u wait → HasEnded h' u.allowance.place wait.count → HasEnded h u.allowance.place wait.count) → MarkParts places (set vs id w) h'
+      → ((j : ℕ) (u : View) (wait : Waiting) → j ≢ id → get_elem? vs j ≡ some u → WaitStands h u wait
+      → HasEnded h' u.allowance.place wait.count → HasEnded h u.allowance.place wait.count) → MarkParts places (set vs id w) h'
   mark_frame_by own back = record {
     seen = record {
-      begins = each_change (λ (u : View). IsPrefix u.seen h) (λ (u : View). IsPrefix u.seen h') vs id v w there (λ i. seen_by i sees) (λ u i. prefix_trans u.seen h h' i grows) t.seen.begins;
+      begins = each_change (λ (u : View). IsPrefix u.seen h) (λ (u : View). IsPrefix u.seen h') vs id v w there (λ i. seen_by i sees)
+          (λ u i. prefix_trans u.seen h h' i grows) t.seen.begins;
       longest = longest_by sees;
     };
     marks = marks;
@@ -122,9 +134,12 @@ module _ (places : ℕ) (vs : List View) (id : ℕ) (v w : View) (h h' : List Ma
       let back : (p c : ℕ) → HasEnded h' p c → HasEnded h p c = λ p c has. (has.0, quiet.ended has.0 p c has.1) in
       mark_frame_by
       (λ wait is. (let i = t.waits id v there wait (sym same.wait ∙ is) in
-      wait_same h' v w wait same.place (subst (λ x. 1 ≤ x) (sym same.places) i.works) same.waits (wait_longer h h' v wait grows (back v.allowance.place wait.count) i)))
+      wait_same h' v w wait same.place (subst (λ x. 1 ≤ x) (sym same.places) i.works) same.waits
+      (wait_longer h h' v wait grows (back v.allowance.place wait.count) i)))
       (λ j u wait ne e i. back u.allowance.place wait.count)
 
 -- a step without a mark
-pub mark_frame : (places : ℕ) (vs : List View) (id : ℕ) (v w : View) (h : List Mark) → get_elem? vs id ≡ some v → SameForMarks v w → w.seen ≡ v.seen → MarkParts places vs h → MarkParts places (set vs id w) h
-mark_frame places vs id v w h there same seen t = mark_frame_still places vs id v w h h there (prefix_self h) (inr (refl, seen)) t.marks t (waits_same h) same
+pub mark_frame : (places : ℕ) (vs : List View) (id : ℕ) (v w : View) (h : List Mark) → get_elem? vs id ≡ some v → SameForMarks v w
+    → w.seen ≡ v.seen → MarkParts places vs h → MarkParts places (set vs id w) h
+mark_frame places vs id v w h there same seen t =
+    mark_frame_still places vs id v w h h there (prefix_self h) (inr (refl, seen)) t.marks t (waits_same h) same

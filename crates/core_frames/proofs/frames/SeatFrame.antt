@@ -29,12 +29,14 @@ use Rattle.prcu_marks.proofs.MarkPlaces.{open_at-below}
 use Rattle.core_frames.proofs.marks.MoreMarks.{OtherMarks, cut_at, others_same, others_snoc}
 
 -- a section of a place is open by the marks only where a view has it open
-module _ (places : ℕ) (vs : List View) (id : ℕ) (v : View) (h : List Mark) (there : get_elem? vs id ≡ some v) (works : Works v) (t : SeatParts places vs h) where
+module _ (places : ℕ) (vs : List View) (id : ℕ) (v : View) (h : List Mark) (there : get_elem? vs id ≡ some v) (works : Works v)
+    (t : SeatParts places vs h) where
   open_is : (o : Open) → open_at v.allowance.place h ≡ Some o → (section : Section) × (v.section ≡ Some section) × (o ≡ open_of section)
   open_is o e =
       let i = t.opened v.allowance.place o e in
       let s = t.sections i.id i.view i.there i.section i.inside in
-      let same = places_apart places vs t.placed i.id id v.allowance.place i.view v i.there there (subst (λ p. 1 ≤ times p (places_of i.view)) i.place (works_there i.view s.works)) (works_there v works) in
+      let same = places_apart places vs t.placed i.id id v.allowance.place i.view v i.there there
+      (subst (λ p. 1 ≤ times p (places_of i.view)) i.place (works_there i.view s.works)) (works_there v works) in
       let view : i.view ≡ v = some-injective i.view v (sym i.there ∙ subst (λ n. get_elem? vs n ≡ some v) (sym same) there) in
       (i.section, ap (λ (u : View). u.section) (sym view) ∙ i.inside, i.same)
 
@@ -46,19 +48,24 @@ module _ (places : ℕ) (vs : List View) (id : ℕ) (v : View) (h : List Mark) (
       cases (Some o) e = let i = open_is o e in absurd (let q : None ≡ Some i.0 = sym outside ∙ i.1 in cc)
 
 -- a section stands after more marks, in a view that is at the same place
-section_stands : (h h' : List Mark) (u z : View) (section : Section) → IsPrefix h h' → z.allowance.place ≡ u.allowance.place → Works z → open_at u.allowance.place h' ≡ open_at u.allowance.place h → SectionStands h u section → SectionStands h' z section
+section_stands : (h h' : List Mark) (u z : View) (section : Section) → IsPrefix h h' → z.allowance.place ≡ u.allowance.place → Works z
+    → open_at u.allowance.place h' ≡ open_at u.allowance.place h → SectionStands h u section → SectionStands h' z section
 section_stands h h' u z section grows place works opens s = record {
   works = works;
   is_open = ap (λ p. open_at p h') place ∙ opens ∙ s.is_open;
-  from = s.from ∙ ap (λ x. length (updates_of x)) (sym (cut_at h h' grows section.entered (let o = open_at-below u.allowance.place h (open_of section) s.is_open in omega arith)));
+  from = s.from ∙ ap (λ x. length (updates_of x))
+      (sym (cut_at h h' grows section.entered (let o = open_at-below u.allowance.place h (open_of section) s.is_open in omega arith)));
   key_fits = s.key_fits;
   sought = s.sought;
 }
 
-module _ (places : ℕ) (vs : List View) (id : ℕ) (v w : View) (h h' : List Mark) (there : get_elem? vs id ≡ some v) (works : Works v) (same : SamePlaces v w) (others : OtherMarks v.allowance.place h h') (sees : Sees h h' v w) (counted : IsCounted h' w) (t : SeatParts places vs h) where
+module _ (places : ℕ) (vs : List View) (id : ℕ) (v w : View) (h h' : List Mark) (there : get_elem? vs id ≡ some v) (works : Works v)
+    (same : SamePlaces v w) (others : OtherMarks v.allowance.place h h') (sees : Sees h h' v w) (counted : IsCounted h' w)
+    (t : SeatParts places vs h) where
   -- the places of another view
   far : (j p : ℕ) (u : View) → j ≢ id → get_elem? vs j ≡ some u → 1 ≤ times p (places_of u) → p ≢ v.allowance.place
-  far j p u ne e has at = ne (places_apart places vs t.placed j id p u v e there has (subst (λ q. 1 ≤ times q (places_of v)) (sym at) (works_there v works)))
+  far j p u ne e has at = ne (places_apart places vs t.placed j id p u v e there has
+      (subst (λ q. 1 ≤ times q (places_of v)) (sym at) (works_there v works)))
 
   works_still : Works w
   works_still = subst (λ x. 1 ≤ x) (sym same.places) works
@@ -72,43 +79,78 @@ module _ (places : ℕ) (vs : List View) (id : ℕ) (v w : View) (h h' : List Ma
   }
 
   joined_stand : Each w.allowance.met (HasMet h')
-  joined_stand i meeting at = met_stands meeting ((t.owned id v there).joined i meeting (subst (λ (xs : List Meeting). get_elem? xs i ≡ some meeting) same.met at))
+  joined_stand i meeting at = met_stands meeting
+      ((t.owned id v there).joined i meeting (subst (λ (xs : List Meeting). get_elem? xs i ≡ some meeting) same.met at))
 
   owned_by : Sees h h' v w → IsOwned h' w
   owned_by (inl all) = record { met = λ p has. ap (own_of p) all; unused = own_unused; joined = joined_stand }
     where
       own_unused : (p : ℕ) → IsUnused w p → own_of p h' ≡ []
-      own_unused p u = let a = same.place in let b = same.places in let low = u.0 in let high = u.1 in others.own p (λ e. omega arith) ∙ (t.owned id v there).unused p (omega arith, omega arith)
+      own_unused p u = let a = same.place in let b = same.places in let low = u.0 in let high = u.1 in
+          others.own p (λ e. omega arith) ∙ (t.owned id v there).unused p (omega arith, omega arith)
   owned_by (inr none) = record {
-    met = λ p has. ap (own_of p) none.1 ∙ (t.owned id v there).met p (subst (λ l. 1 ≤ times p l) (places_same v w same) has) ∙ ap (own_of p) (sym none.0);
-    unused = λ p u. (let a = same.place in let b = same.places in let low = u.0 in let high = u.1 in ap (own_of p) none.0 ∙ (t.owned id v there).unused p (omega arith, omega arith));
+    met = λ p has. ap (own_of p) none.1 ∙ (t.owned id v there).met p (subst (λ l. 1 ≤ times p l) (places_same v w same) has)
+        ∙ ap (own_of p) (sym none.0);
+    unused = λ p u. (let a = same.place in let b = same.places in let low = u.0 in let high = u.1 in
+        ap (own_of p) none.0 ∙ (t.owned id v there).unused p (omega arith, omega arith));
     joined = joined_stand;
   }
 
   -- the step says how its own section stands, and that it is the one that is open
-  pub seat_frame_by : ((section : Section) → w.section ≡ Some section → SectionStands h' w section) → ((o : Open) → open_at v.allowance.place h' ≡ Some o → (section : Section) × (w.section ≡ Some section) × (o ≡ open_of section)) → SeatParts places (set vs id w) h'
+  pub seat_frame_by : ((section : Section) → w.section ≡ Some section → SectionStands h' w section)
+      → ((o : Open) → open_at v.allowance.place h' ≡ Some o → (section : Section) × (w.section ≡ Some section) × (o ≡ open_of section))
+      → SeatParts places (set vs id w) h'
   seat_frame_by own opened = record {
     placed = λ p. total_same (λ (u : View). times p (places_of u)) vs id v w there (ap (times p) (places_same v w same)) ∙ t.placed p;
-    spent = each_change (λ (u : View). u.allowance.places ≡ 0 → u ≡ spent_view) (λ (u : View). u.allowance.places ≡ 0 → u ≡ spent_view) vs id v w there (λ i none. absurd (let e = same.places in omega arith)) (λ u i. i) t.spent;
+    spent = each_change (λ (u : View). u.allowance.places ≡ 0 → u ≡ spent_view)
+        (λ (u : View). u.allowance.places ≡ 0 → u ≡ spent_view) vs id v w there (λ i none. absurd (let e = same.places in omega arith))
+        (λ u i. i) t.spent;
     owned = each_set (λ j u. IsOwned h' u) vs id w (owned_by sees)
         (λ j u ne e. (let i = t.owned j u e in record {
           met = λ p has. i.met p has ∙ sym (others.own p (far j p u ne e has));
           unused = λ p x. others.own p (far j p u ne e (unused_there u p x)) ∙ i.unused p x;
           joined = λ n meeting at. met_stands meeting (i.joined n meeting at);
         }));
-    within = λ p le. others.own p (λ e. let lt = place_within places vs t.placed id v.allowance.place v there (works_there v works) in absurd (omega arith)) ∙ t.within p le;
+    within = λ p le. others.own p (λ e. let lt = place_within places vs t.placed id v.allowance.place v there (works_there v works) in
+        absurd (omega arith)) ∙ t.within p le;
     sections = each_set (λ j u. (section : Section) → u.section ≡ Some section → SectionStands h' u section) vs id w own
-        (λ j u ne e section is. (let s = t.sections j u e section is in section_stands h h' u u section others.begins refl s.works (others.opens u.allowance.place (far j u.allowance.place u ne e (works_there u s.works))) s));
+        (λ j u ne e section is. (let s = t.sections j u e section is in
+        section_stands h h' u u section others.begins refl s.works
+        (others.opens u.allowance.place (far j u.allowance.place u ne e (works_there u s.works))) s));
     opened = λ p o e. dite (ℕ_discrete p v.allowance.place)
-        (λ here. (let i = opened o (ap (λ q. open_at q h') (sym here) ∙ e) in record { id = id; view = w; section = i.0; there = set_here vs id w (at_below vs id v there); place = same.place ∙ sym here; inside = i.1; same = i.2 }))
+        (λ here. (let i = opened o (ap (λ q. open_at q h') (sym here) ∙ e) in
+        record {
+          id = id;
+          view = w;
+          section = i.0;
+          there = set_here vs id w (at_below vs id v there);
+          place = same.place ∙ sym here;
+          inside = i.1;
+          same = i.2;
+        }))
         (λ ne. (let i = t.opened p o (sym (others.opens p ne) ∙ e) in
-        record { id = i.id; view = i.view; section = i.section; there = set_else vs id i.id w (λ f. ne (sym i.place ∙ ap (λ (u : View). u.allowance.place) (some-injective i.view v (sym i.there ∙ subst (λ n. get_elem? vs n ≡ some v) (sym f) there)))) ∙ i.there; place = i.place; inside = i.inside; same = i.same }));
+        record {
+          id = i.id;
+          view = i.view;
+          section = i.section;
+          there = set_else vs id i.id w (λ f. ne (sym i.place
+              ∙ ap (λ (u : View). u.allowance.place) (some-injective i.view v
+              (sym i.there ∙ subst (λ n. get_elem? vs n ≡ some v) (sym f) there)))) ∙ i.there;
+          place = i.place;
+          inside = i.inside;
+          same = i.same;
+        }));
     counted = each_set (λ j u. Works u → IsCounted h' u) vs id w (λ _. counted)
-        (λ j u ne e here. (let c = t.counted j u e here in let f = far j u.allowance.place u ne e (works_there u here) in record { sections = c.sections ∙ sym (others.entries u.allowance.place f); waits = c.waits ∙ sym (others.waits u.allowance.place f) }));
+        (λ j u ne e here. (let c = t.counted j u e here in let f = far j u.allowance.place u ne e (works_there u here) in
+        record {
+          sections = c.sections ∙ sym (others.entries u.allowance.place f);
+          waits = c.waits ∙ sym (others.waits u.allowance.place f);
+        }));
   }
 
   -- the view's section is as it was
-  pub seat_frame_still : w.section ≡ v.section → open_at v.allowance.place h' ≡ open_at v.allowance.place h → SeatParts places (set vs id w) h'
+  pub seat_frame_still : w.section ≡ v.section → open_at v.allowance.place h' ≡ open_at v.allowance.place h
+      → SeatParts places (set vs id w) h'
   seat_frame_still section opens =
       seat_frame_by
       (λ s is. section_stands h h' v w s others.begins same.place works_still opens (t.sections id v there s (sym section ∙ is)))
@@ -123,21 +165,29 @@ pub record SameForSeats (v w : View) : Type 0 where
   pub waits : w.counts.waits ≡ v.counts.waits
 
 -- how many sections and waits there were, at a place that got no mark of them
-pub counted_still : (h h' : List Mark) (v w : View) → w.allowance.place ≡ v.allowance.place → entered_at v.allowance.place h' ≡ entered_at v.allowance.place h → begun_at v.allowance.place h' ≡ begun_at v.allowance.place h
+pub counted_still : (h h' : List Mark) (v w : View) → w.allowance.place ≡ v.allowance.place
+    → entered_at v.allowance.place h' ≡ entered_at v.allowance.place h → begun_at v.allowance.place h' ≡ begun_at v.allowance.place h
     → w.counts.sections ≡ v.counts.sections → w.counts.waits ≡ v.counts.waits → IsCounted h v → IsCounted h' w
-counted_still h h' v w place entries begins sections waits c = record { sections = sections ∙ c.sections ∙ sym entries ∙ ap (λ p. entered_at p h') (sym place); waits = waits ∙ c.waits ∙ sym begins ∙ ap (λ p. begun_at p h') (sym place) }
+counted_still h h' v w place entries begins sections waits c =
+    record {
+      sections = sections ∙ c.sections ∙ sym entries ∙ ap (λ p. entered_at p h') (sym place);
+      waits = waits ∙ c.waits ∙ sym begins ∙ ap (λ p. begun_at p h') (sym place);
+    }
 
-pub seat_frame : (places : ℕ) (vs : List View) (id : ℕ) (v w : View) (h : List Mark) → get_elem? vs id ≡ some v → Works v → SameForSeats v w → SeatParts places vs h → SeatParts places (set vs id w) h
+pub seat_frame : (places : ℕ) (vs : List View) (id : ℕ) (v w : View) (h : List Mark) → get_elem? vs id ≡ some v → Works v → SameForSeats v w
+    → SeatParts places vs h → SeatParts places (set vs id w) h
 seat_frame places vs id v w h there works same t =
     seat_frame_still places vs id v w h h there works same.places (others_same v.allowance.place h) (inr (refl, same.seen))
     (counted_still h h v w same.places.place refl refl same.sections same.waits (t.counted id v there works)) t same.section refl
 
-module _ (places : ℕ) (vs : List View) (id : ℕ) (v : View) (h : List Mark) (there : get_elem? vs id ≡ some v) (works : Works v) (t : SeatParts places vs h) where
+module _ (places : ℕ) (vs : List View) (id : ℕ) (v : View) (h : List Mark) (there : get_elem? vs id ≡ some v) (works : Works v)
+    (t : SeatParts places vs h) where
   own_only : (p : ℕ) → p ≢ v.allowance.place → (v.allowance.place == p) ≡ false
   own_only p ne = ne_eqb v.allowance.place p (λ e. ne (sym e))
 
   -- a section is entered
-  pub seats_enter : (key stamp clocked : ℕ) → key < 2 ^ 64 → SeatParts places (set vs id (entering v key stamp clocked h)) (h ++ Entered v.allowance.place v.counts.sections key ∷ [])
+  pub seats_enter : (key stamp clocked : ℕ) → key < 2 ^ 64
+      → SeatParts places (set vs id (entering v key stamp clocked h)) (h ++ Entered v.allowance.place v.counts.sections key ∷ [])
   seats_enter key stamp clocked key_fits =
       let w : View = entering v key stamp clocked h in
       let mark : Mark = Entered v.allowance.place v.counts.sections key in
@@ -152,17 +202,21 @@ module _ (places : ℕ) (vs : List View) (id : ℕ) (v : View) (h : List Mark) (
         key_fits = key_fits;
         sought = refl;
       } in
-      seat_frame_by places vs id v w h (h ++ mark ∷ []) there works (record { place = refl; places = refl; joined = refl; met = refl }) (others_snoc v.allowance.place h mark own_only) (inl refl)
+      seat_frame_by places vs id v w h (h ++ mark ∷ []) there works (record { place = refl; places = refl; joined = refl; met = refl })
+      (others_snoc v.allowance.place h mark own_only) (inl refl)
       (record { sections = omega arith; waits = c.waits ∙ sym (begun_at-same v.allowance.place h mark tt) }) t
       (λ s is. (let e : section ≡ s = cc in subst (SectionStands (h ++ mark ∷ []) w) e stands))
-      (λ o e. (let now : Some (open_of section) ≡ Some o = sym (open_entered v.allowance.place h v.counts.sections key) ∙ e in let same : open_of section ≡ o = cc in (section, refl, sym same)))
+      (λ o e. (let now : Some (open_of section) ≡ Some o = sym (open_entered v.allowance.place h v.counts.sections key) ∙ e in
+      let same : open_of section ≡ o = cc in (section, refl, sym same)))
 
   -- a section is left
   pub seats_left : (section : Section) → SeatParts places (set vs id (leaving v section h)) (h ++ Left v.allowance.place section.count ∷ [])
   seats_left section =
       let w : View = leaving v section h in
       let mark : Mark = Left v.allowance.place section.count in
-      seat_frame_by places vs id v w h (h ++ mark ∷ []) there works (record { place = refl; places = refl; joined = refl; met = refl }) (others_snoc v.allowance.place h mark own_only) (inl refl)
-      (counted_still h (h ++ mark ∷ []) v w refl (entered_left v.allowance.place h v.allowance.place section.count) (begun_at-same v.allowance.place h mark tt) refl refl (t.counted id v there works)) t
+      seat_frame_by places vs id v w h (h ++ mark ∷ []) there works (record { place = refl; places = refl; joined = refl; met = refl })
+      (others_snoc v.allowance.place h mark own_only) (inl refl)
+      (counted_still h (h ++ mark ∷ []) v w refl (entered_left v.allowance.place h v.allowance.place section.count)
+      (begun_at-same v.allowance.place h mark tt) refl refl (t.counted id v there works)) t
       (λ s none. absurd (let e : None ≡ Some s = none in cc))
       (λ o e. absurd (let q : None ≡ Some o = sym (open_left v.allowance.place h section.count) ∙ e in cc))

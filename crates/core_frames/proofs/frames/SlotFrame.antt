@@ -49,10 +49,12 @@ module _ (m m' : Memory) (nodes : SameNodes m m') (states : (s : ℕ) → m' (St
     after_wait = i.after_wait;
   }
 
-  pub slots_elsewhere : (n : ℕ) (g : Chart) (vs : List View) (h h' : List Mark) → QuietMarks h h' → SlotParts m n g vs h → SlotParts m' n g vs h'
+  pub slots_elsewhere : (n : ℕ) (g : Chart) (vs : List View) (h h' : List Mark) → QuietMarks h h' → SlotParts m n g vs h
+      → SlotParts m' n g vs h'
   slots_elsewhere n g vs h h' quiet t = record {
     roles = record {
-      once = λ s lt. ap (λ x. flag (x == 0) + flag (g.linked s) + total (λ (u : View). times s (slots_of u)) vs) (states s) ∙ t.roles.once s lt;
+      once = λ s lt. ap (λ x. flag (x == 0) + flag (g.linked s) + total (λ (u : View). times s (slots_of u)) vs) (states s)
+          ∙ t.roles.once s lt;
       beyond = t.roles.beyond;
       states = λ s lt. subst (λ x. x ≤ 1) (sym (states s)) (t.roles.states s lt);
     };
@@ -69,12 +71,21 @@ module _ (m : Memory) (n : ℕ) (g : Chart) (vs : List View) (id : ℕ) (v w : V
   pub retired_of_still : retired_of w ≡ retired_of v → (s : ℕ) → IsRetiredOf vs s → IsRetiredOf (set vs id w) s
   retired_of_still same s r =
       let z = still retired_of vs id v w there same r.id r.view r.there in
-      record { id = r.id; view = z.0; retired = r.retired; there = z.1; has = subst (λ rs. IsIn rs r.retired) (sym z.2) r.has; slot = r.slot }
+      record {
+        id = r.id;
+        view = z.0;
+        retired = r.retired;
+        there = z.1;
+        has = subst (λ rs. IsIn rs r.retired) (sym z.2) r.has;
+        slot = r.slot;
+      }
 
-  pub slots_by : ((s : ℕ) → times s (slots_of w) ≡ times s (slots_of v)) → (HasFewSlots v → HasFewSlots w) → (AreHandsKnown m v → AreHandsKnown m w) → (Each (retired_of v) (IsRetired m h) → Each (retired_of w) (IsRetired m h))
+  pub slots_by : ((s : ℕ) → times s (slots_of w) ≡ times s (slots_of v)) → (HasFewSlots v → HasFewSlots w)
+      → (AreHandsKnown m v → AreHandsKnown m w) → (Each (retired_of v) (IsRetired m h) → Each (retired_of w) (IsRetired m h))
       → ((s : ℕ) → IsRetiredOf vs s → IsRetiredOf (set vs id w) s) → SlotParts m n g vs h → SlotParts m n g (set vs id w) h
   slots_by slots few hands retired forth t =
-      let whole : (s : ℕ) → total (λ (u : View). times s (slots_of u)) (set vs id w) ≡ total (λ (u : View). times s (slots_of u)) vs = λ s. total_same (λ (u : View). times s (slots_of u)) vs id v w there (slots s) in
+      let whole : (s : ℕ) → total (λ (u : View). times s (slots_of u)) (set vs id w) ≡ total (λ (u : View). times s (slots_of u)) vs =
+      λ s. total_same (λ (u : View). times s (slots_of u)) vs id v w there (slots s) in
       record {
         roles = record {
           once = λ s lt. ap (λ x. flag (m (State s) == 0) + flag (g.linked s) + x) (whole s) ∙ t.roles.once s lt;
@@ -85,7 +96,8 @@ module _ (m : Memory) (n : ℕ) (g : Chart) (vs : List View) (id : ℕ) (v w : V
         free = t.free;
         root = t.root;
         hands = each_change (AreHandsKnown m) (AreHandsKnown m) vs id v w there hands (λ u i. i) t.hands;
-        retired = each_change (λ (u : View). Each (retired_of u) (IsRetired m h)) (λ (u : View). Each (retired_of u) (IsRetired m h)) vs id v w there retired (λ u i. i) t.retired;
+        retired = each_change (λ (u : View). Each (retired_of u) (IsRetired m h))
+            (λ (u : View). Each (retired_of u) (IsRetired m h)) vs id v w there retired (λ u i. i) t.retired;
         unlinked = λ s p gone. forth s (t.unlinked s p gone);
       }
 
@@ -102,7 +114,8 @@ few_same v w e i = record {
   room = λ move is. subst (λ (x : OwnSlots). length x.retired ≤ 15) (sym e.own) (i.room move (sym e.moving ∙ is));
   joined = subst (λ (x : OwnSlots). Each x.joined (λ (s : Spent). length s.retired ≤ 16)) (sym e.own) i.joined;
   joined_spare = subst (λ (x : OwnSlots). Each x.joined HasSpareToCome) (sym e.own) i.joined_spare;
-  next_spare = λ works none. (let r = i.next_spare (subst (λ (x : OwnSlots). 1 ≤ x.places) e.own works) ((λ n. (sym e.own n).spare) ∙ none) in (r.0, subst (λ (x : OwnSlots). IsIn x.retired r.0) (sym e.own) r.1, r.2));
+  next_spare = λ works none. (let r = i.next_spare (subst (λ (x : OwnSlots). 1 ≤ x.places) e.own works)
+      ((λ n. (sym e.own n).spare) ∙ none) in (r.0, subst (λ (x : OwnSlots). IsIn x.retired r.0) (sym e.own) r.1, r.2));
 }
 
 hands_view : (m : Memory) (v w : View) → SameForSlots v w → AreHandsKnown m v → AreHandsKnown m w
@@ -114,8 +127,10 @@ hands_view m v w e i = record {
 }
 
 pub slot_frame : (m m' : Memory) (n : ℕ) (g : Chart) (vs : List View) (id : ℕ) (v w : View) (h h' : List Mark)
-    → get_elem? vs id ≡ some v → SameSlots m m' → SameForSlots v w → QuietMarks h h' → SlotParts m n g vs h → SlotParts m' n g (set vs id w) h'
+    → get_elem? vs id ≡ some v → SameSlots m m' → SameForSlots v w → QuietMarks h h' → SlotParts m n g vs h
+    → SlotParts m' n g (set vs id w) h'
 slot_frame m m' n g vs id v w h h' there slots same quiet t =
     slots_by m' n g vs id v w h' there (λ s. ap (times s) (slots_same v w same.own)) (few_same v w same) (hands_view m' v w same)
-    (λ rs. subst (λ x. Each x (IsRetired m' h')) (sym (retired_same v w same.own)) rs) (retired_of_still m' n g vs id v w h' there (retired_same v w same.own))
+    (λ rs. subst (λ x. Each x (IsRetired m' h')) (sym (retired_same v w same.own)) rs)
+    (retired_of_still m' n g vs id v w h' there (retired_same v w same.own))
     (slots_elsewhere m m' slots.nodes slots.state n g vs h h' quiet t)

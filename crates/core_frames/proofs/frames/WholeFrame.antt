@@ -75,7 +75,17 @@ pub record SeatSide : Type 0 where
   pub moving : Option Move
 
 abbrev pub seat_side : View → SeatSide
-seat_side u = record { place = u.allowance.place; places = u.allowance.places; joined = u.allowance.joined; met = u.allowance.met; section = u.section; sections = u.counts.sections; waits = u.counts.waits; retired = u.hands.retired; moving = u.moving }
+seat_side u = record {
+  place = u.allowance.place;
+  places = u.allowance.places;
+  joined = u.allowance.joined;
+  met = u.allowance.met;
+  section = u.section;
+  sections = u.counts.sections;
+  waits = u.counts.waits;
+  retired = u.hands.retired;
+  moving = u.moving;
+}
 
 -- The groups that read what views have of slots.
 pub record SlotHalf (k : Shape) (m : Memory) (g : Chart) (vs : List View) (h : List Mark) : Type 0 where
@@ -91,7 +101,8 @@ pub record SeatHalf (k : Shape) (vs : List View) (h : List Mark) : Type 0 where
   pub grace : GraceParts vs h
 
 -- both halves, and the parts on the waiter's words, the counts, the front and the listings
-pub whole : (k : Shape) (m : Memory) (g : Chart) (vs : List View) (h : List Mark) → IsShape k → SlotHalf k m g vs h → SeatHalf k vs h → WaiterParts k m vs h → CountParts k.tickets m (slot_count k) g vs h → FrontParts m vs h → ListingParts m g vs h → HoldsNow k m vs h
+pub whole : (k : Shape) (m : Memory) (g : Chart) (vs : List View) (h : List Mark) → IsShape k → SlotHalf k m g vs h → SeatHalf k vs h
+    → WaiterParts k m vs h → CountParts k.tickets m (slot_count k) g vs h → FrontParts m vs h → ListingParts m g vs h → HoldsNow k m vs h
 whole k m g vs h table of_slots of_seats waiters counts front listings = record {
   table = table;
   chart = g;
@@ -108,9 +119,12 @@ whole k m g vs h table of_slots of_seats waiters counts front listings = record 
   grace = of_seats.grace;
 }
 
-module _ (k : Shape) (m : Memory) (vs : List View) (h : List Mark) (id : ℕ) (v w : View) (i : HoldsNow k m vs h) (there : get_elem? vs id ≡ some v) where
+module _ (k : Shape) (m : Memory) (vs : List View) (h : List Mark) (id : ℕ) (v w : View) (i : HoldsNow k m vs h)
+    (there : get_elem? vs id ≡ some v) where
   -- A step that leaves what its view has of slots, and their words.
-  pub slot_half : (m' : Memory) (h' : List Mark) → SameSlots m m' → QuietMarks h h' → slot_side w ≡ slot_side v → ((v.hands.reserved ≡ true → v.hands.hand ≡ None) → w.hands.reserved ≡ true → w.hands.hand ≡ None) → SlotHalf k m' i.chart (set vs id w) h'
+  pub slot_half : (m' : Memory) (h' : List Mark) → SameSlots m m' → QuietMarks h h' → slot_side w ≡ slot_side v
+      → ((v.hands.reserved ≡ true → v.hands.hand ≡ None) → w.hands.reserved ≡ true → w.hands.hand ≡ None)
+      → SlotHalf k m' i.chart (set vs id w) h'
   slot_half m' h' slots quiet same one =
       let moving : w.moving ≡ v.moving = (λ n. (same n).moving) in
       let locks : w.locks ≡ v.locks = (λ n. (same n).locks) in
@@ -118,7 +132,8 @@ module _ (k : Shape) (m : Memory) (vs : List View) (h : List Mark) (id : ℕ) (v
       let records : w.records ≡ v.records = (λ n. (same n).records) in
       let place : w.allowance.place ≡ v.allowance.place = (λ n. (same n).own.place) in
       record {
-        slots = slot_frame m m' (slot_count k) i.chart vs id v w h h' there slots (record { own = λ n. (same n).own; moving = moving; one = one }) quiet i.slots;
+        slots = slot_frame m m' (slot_count k) i.chart vs id v w h h' there slots
+            (record { own = λ n. (same n).own; moving = moving; one = one }) quiet i.slots;
         locks = lock_frame m m' (slot_count k) i.chart vs id v w there slots (record {
           place = place;
           locks = locks;
@@ -128,20 +143,32 @@ module _ (k : Shape) (m : Memory) (vs : List View) (h : List Mark) (id : ℕ) (v
           readings = λ r has. inl (subst (λ rs. IsIn rs r) (λ n. open_reading (section n) ++ records n) has);
         }) i.locks;
         tree = tree_frame m m' (slot_count k) i.chart vs id v w h h' there slots.nodes
-            (record { place = place; locks = locks; moving = moving; more = λ r has. subst (λ rs. IsIn rs r) (sym records) has; fewer = λ move is r has. subst (λ rs. IsIn rs r) records has }) quiet i.tree;
-        readers = readers_stay m m' slots.nodes i.chart vs id v w h h' there quiet (see_same vs id v w there moving locks) section records i.readers;
+            (record {
+              place = place;
+              locks = locks;
+              moving = moving;
+              more = λ r has. subst (λ rs. IsIn rs r) (sym records) has;
+              fewer = λ move is r has. subst (λ rs. IsIn rs r) records has;
+            }) quiet i.tree;
+        readers = readers_stay m m' slots.nodes i.chart vs id v w h h' there quiet
+            (see_same vs id v w there moving locks) section records i.readers;
       }
 
   -- A step that leaves what its view has at its place, and no mark. What it says of its wait has to be so.
-  pub seat_half : Works v → seat_side w ≡ seat_side v → Sees h h v w → ((wait : Waiting) → w.wait ≡ Some wait → WaitStands h w wait) → SeatHalf k (set vs id w) h
+  pub seat_half : Works v → seat_side w ≡ seat_side v → Sees h h v w → ((wait : Waiting) → w.wait ≡ Some wait → WaitStands h w wait)
+      → SeatHalf k (set vs id w) h
   seat_half works same sees stands =
       let place : w.allowance.place ≡ v.allowance.place = (λ n. (same n).place) in
       let section : w.section ≡ v.section = (λ n. (same n).section) in
       record {
         marks = mark_frame_by k.places vs id v w h h there (prefix_self h) sees i.marks.marks i.marks stands (λ j u wait ne e s has. has);
-        seats = seat_frame_still k.places vs id v w h h there works (record { place = place; places = λ n. (same n).places; joined = λ n. (same n).joined; met = λ n. (same n).met }) (others_same v.allowance.place h) sees
-            (counted_still h h v w place refl refl (λ n. (same n).sections) (λ n. (same n).waits) (i.seats.counted id v there works)) i.seats section refl;
-        grace = grace_frame vs id v w h h there (λ s is. inr (s, sym section ∙ is, refl, refl)) (quiet_same h) (waits_same h) place (λ n. (same n).joined) (λ n. (same n).retired) (λ n. (same n).moving) i.grace.grace i.grace.reuse i.grace;
+        seats = seat_frame_still k.places vs id v w h h there works
+            (record { place = place; places = λ n. (same n).places; joined = λ n. (same n).joined; met = λ n. (same n).met })
+            (others_same v.allowance.place h) sees
+            (counted_still h h v w place refl refl (λ n. (same n).sections) (λ n. (same n).waits)
+            (i.seats.counted id v there works)) i.seats section refl;
+        grace = grace_frame vs id v w h h there (λ s is. inr (s, sym section ∙ is, refl, refl)) (quiet_same h) (waits_same h) place
+            (λ n. (same n).joined) (λ n. (same n).retired) (λ n. (same n).moving) i.grace.grace i.grace.reuse i.grace;
       }
 
   -- the wait is as it was
@@ -156,18 +183,24 @@ lasting u = record u { enter = spent_view.enter; latest = spent_view.latest; loo
 
 -- A step that leaves all the rest of its view, all words but those in which readers show, and no mark: the parts on the waiter's words it
 -- has to say.
-pub quiet_law : (k : Shape) (m m' : Memory) (vs : List View) (h : List Mark) (id : ℕ) (v w : View) (i : HoldsNow k m vs h) → get_elem? vs id ≡ some v → Works v → quiet_words m' ≡ quiet_words m → lasting w ≡ lasting v → WaiterParts k m' (set vs id w) h → HoldsNow k m' (set vs id w) h
+pub quiet_law : (k : Shape) (m m' : Memory) (vs : List View) (h : List Mark) (id : ℕ) (v w : View) (i : HoldsNow k m vs h)
+    → get_elem? vs id ≡ some v → Works v → quiet_words m' ≡ quiet_words m → lasting w ≡ lasting v → WaiterParts k m' (set vs id w) h
+    → HoldsNow k m' (set vs id w) h
 quiet_law k m m' vs h id v w i there works words same waiters =
     let slots = slots_stay m m' (λ n. (words n).slots) in
     let front : m' Front ≡ m Front = (λ n. (words n).front) in
     whole k m' i.chart (set vs id w) h i.table
-    (slot_half k m vs h id v w i there m' h slots (quiet_same h) (λ n. slot_side (same n)) (λ one reserved. (λ n. (same n).hands.hand) ∙ one ((λ n. (sym same n).hands.reserved) ∙ reserved)))
-    (seat_half k m vs h id v w i there works (λ n. seat_side (same n)) (inr (refl, λ n. (same n).seen)) (wait_still k m vs h id v w i there (λ n. seat_side (same n)) (λ n. (same n).wait))) waiters
-    (count_frame k.tickets m m' (slot_count k) i.chart vs id v w h h there slots (λ n. (words n).clock) (λ n. (words n).free) (λ n. numbers_of (same n)) (quiet_same h) i.counts)
+    (slot_half k m vs h id v w i there m' h slots (quiet_same h) (λ n. slot_side (same n))
+    (λ one reserved. (λ n. (same n).hands.hand) ∙ one ((λ n. (sym same n).hands.reserved) ∙ reserved)))
+    (seat_half k m vs h id v w i there works (λ n. seat_side (same n)) (inr (refl, λ n. (same n).seen))
+    (wait_still k m vs h id v w i there (λ n. seat_side (same n)) (λ n. (same n).wait))) waiters
+    (count_frame k.tickets m m' (slot_count k) i.chart vs id v w h h there slots (λ n. (words n).clock) (λ n. (words n).free)
+    (λ n. numbers_of (same n)) (quiet_same h) i.counts)
     (front_frame m m' vs id v w h h there front (λ n. (same n).commit) (λ e. (λ n. (same n).moving) ∙ e) (quiet_same h) i.front)
     (listing_frame_still m m' slots.nodes front i.chart h h (quiet_same h) vs id v w there (λ n. (same n).section) i.listings)
 
--- what a view has to do with the words of its waiter: its place, its section, its wait, and what it loaded and announced for its next section
+-- what a view has to do with the words of its waiter: its place, its section, its wait, and what it loaded and announced for its next
+-- section
 pub record WaiterSide : Type 0 where
   pub place : ℕ
   pub section : Option Section
@@ -176,16 +209,27 @@ pub record WaiterSide : Type 0 where
   pub clock : Option Clocked
 
 abbrev pub waiter_side : View → WaiterSide
-waiter_side u = record { place = u.allowance.place; section = u.section; wait = u.wait; announced = u.enter.announced; clock = u.enter.clock }
+waiter_side u = record {
+  place = u.allowance.place;
+  section = u.section;
+  wait = u.wait;
+  announced = u.enter.announced;
+  clock = u.enter.clock;
+}
 
 -- A step that leaves these, the clock and the words in which readers show.
-pub waiters_stay : (k : Shape) (m m' : Memory) (vs : List View) (h : List Mark) (id : ℕ) (v w : View) (i : HoldsNow k m vs h) → get_elem? vs id ≡ some v → m' Clock ≡ m Clock → reader_words m' ≡ reader_words m → waiter_side w ≡ waiter_side v → WaiterParts k m' (set vs id w) h
+pub waiters_stay : (k : Shape) (m m' : Memory) (vs : List View) (h : List Mark) (id : ℕ) (v w : View) (i : HoldsNow k m vs h)
+    → get_elem? vs id ≡ some v → m' Clock ≡ m Clock → reader_words m' ≡ reader_words m → waiter_side w ≡ waiter_side v
+    → WaiterParts k m' (set vs id w) h
 waiters_stay k m m' vs h id v w i there clock words same =
-    waiter_frame k m m' vs id v w h there (record { place = λ n. (same n).place; section = λ n. (same n).section; wait = λ n. (same n).wait }) clock words (λ n. (same n).announced)
+    waiter_frame k m m' vs id v w h there (record
+    { place = λ n. (same n).place; section = λ n. (same n).section; wait = λ n. (same n).wait }) clock words (λ n. (same n).announced)
     (λ clocked is. (i.waiters.clocked id v there).loaded clocked ((λ n. (sym same n).clock) ∙ is)) i.waiters
 
 -- A view that has seen all marks, with other latest numbers and looks.
-pub all_seen : (k : Shape) (m : Memory) (vs : List View) (h : List Mark) (id : ℕ) (v : View) (i : HoldsNow k m vs h) → get_elem? vs id ≡ some v → Works v → (latest : Latest) (looks : List Look) → HoldsNow k m (set vs id (record v { latest = latest; looks = looks; seen = h })) h
+pub all_seen : (k : Shape) (m : Memory) (vs : List View) (h : List Mark) (id : ℕ) (v : View) (i : HoldsNow k m vs h)
+    → get_elem? vs id ≡ some v → Works v → (latest : Latest) (looks : List Look)
+    → HoldsNow k m (set vs id (record v { latest = latest; looks = looks; seen = h })) h
 all_seen k m vs h id v i there works latest looks =
     let w : View = record v { latest = latest; looks = looks; seen = h } in
     let slots = same_slots m in

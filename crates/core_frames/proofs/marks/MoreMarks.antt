@@ -49,8 +49,10 @@ waits_same h = record { began = λ j p c low high has e. e; ended = λ j p c e. 
 
 pub waits_snoc : (h : List Mark) (m : Mark) → TurnsNoWait m → QuietWaits h (h ++ m ∷ [])
 waits_snoc h m none = record {
-  began = λ j p c low high has e. ⊎_elim (λ (o : get_elem? h j ≡ some (Began p c low high)). o) (λ n. absurd (subst TurnsNoWait n.1 none)) (at_end h m (Began p c low high) j e);
-  ended = λ j p c e. ⊎_elim (λ (o : get_elem? h j ≡ some (Ended p c)). o) (λ n. absurd (subst TurnsNoWait n.1 none)) (at_end h m (Ended p c) j e);
+  began = λ j p c low high has e. ⊎_elim (λ (o : get_elem? h j ≡ some (Began p c low high)). o) (λ n. absurd (subst TurnsNoWait n.1 none))
+      (at_end h m (Began p c low high) j e);
+  ended = λ j p c e. ⊎_elim (λ (o : get_elem? h j ≡ some (Ended p c)). o) (λ n. absurd (subst TurnsNoWait n.1 none))
+      (at_end h m (Ended p c) j e);
 }
 
 -- What the marks that came leave of other places than one.
@@ -62,7 +64,13 @@ pub record OtherMarks (place : ℕ) (h h' : List Mark) : Type 0 where
   pub waits : (p : ℕ) → p ≢ place → begun_at p h' ≡ begun_at p h
 
 pub others_same : (place : ℕ) (h : List Mark) → OtherMarks place h h
-others_same place h = record { begins = prefix_self h; own = λ p ne. refl; opens = λ p ne. refl; entries = λ p ne. refl; waits = λ p ne. refl }
+others_same place h = record {
+  begins = prefix_self h;
+  own = λ p ne. refl;
+  opens = λ p ne. refl;
+  entries = λ p ne. refl;
+  waits = λ p ne. refl;
+}
 
 open_other : (p n : ℕ) (o : Option Open) (m : Mark) → is_of p m ≡ false → next_open p n o m ≡ o
 open_other p n o (Entered q c x) e = ap (λ b. cond b (Some (record { count = c; key = x; at = n })) o) e

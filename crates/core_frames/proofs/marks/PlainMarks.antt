@@ -99,19 +99,28 @@ module _ (place : ℕ) (h : List Mark) where
     waits = (let a = begun-append h (m ∷ []) in let b = (entries_none m is 0).1 in omega arith);
     waits_at = λ p. (let a = begun_at-append p h (m ∷ []) in let b = (entries_none m is p).2 in omega arith);
     own = λ p ne. own_of-append p h (m ∷ []) ∙ ap (λ z. own_of p h ++ z) (own_none m is p ne) ∙ append-nil (own_of p h);
-    began = λ j p c low high e. ⊎_elim (λ (o : get_elem? h j ≡ some (Began p c low high)). o) (λ n. absurd (subst (IsPlain place) n.1 is)) (at_end h m (Began p c low high) j e);
-    ended = λ j p c e. ⊎_elim (λ (o : get_elem? h j ≡ some (Ended p c)). o) (λ n. absurd (subst (IsPlain place) n.1 is)) (at_end h m (Ended p c) j e);
-    entered = λ j p c x e. ⊎_elim (λ (o : get_elem? h j ≡ some (Entered p c x)). o) (λ n. absurd (subst (IsPlain place) n.1 is)) (at_end h m (Entered p c x) j e);
-    left = λ j p c e. ⊎_elim (λ (o : get_elem? h j ≡ some (Left p c)). o) (λ n. absurd (subst (IsPlain place) n.1 is)) (at_end h m (Left p c) j e);
+    began = λ j p c low high e. ⊎_elim (λ (o : get_elem? h j ≡ some (Began p c low high)). o) (λ n. absurd (subst (IsPlain place) n.1 is))
+        (at_end h m (Began p c low high) j e);
+    ended = λ j p c e. ⊎_elim (λ (o : get_elem? h j ≡ some (Ended p c)). o) (λ n. absurd (subst (IsPlain place) n.1 is))
+        (at_end h m (Ended p c) j e);
+    entered = λ j p c x e. ⊎_elim (λ (o : get_elem? h j ≡ some (Entered p c x)). o) (λ n. absurd (subst (IsPlain place) n.1 is))
+        (at_end h m (Entered p c x) j e);
+    left = λ j p c e. ⊎_elim (λ (o : get_elem? h j ≡ some (Left p c)). o) (λ n. absurd (subst (IsPlain place) n.1 is))
+        (at_end h m (Left p c) j e);
   }
 
 -- marks in order stay so, where each delete among those that come is followed by its unlinking
 module _ (place : ℕ) (h h' : List Mark) (more : PlainMarks place h h') where
-  pub marks_plain : (places : ℕ) → ((j p x : ℕ) → get_elem? h' j ≡ some (Done (record { caller = p; op = Del x })) → (s : ℕ) × (get_elem? h' (j + 1) ≡ some (Unlinked s))) → AreMarks places h → AreMarks places h'
+  pub marks_plain : (places : ℕ) → ((j p x : ℕ) → get_elem? h' j ≡ some (Done (record { caller = p; op = Del x }))
+      → (s : ℕ) × (get_elem? h' (j + 1) ≡ some (Unlinked s))) → AreMarks places h → AreMarks places h'
   marks_plain places deleted t = record {
-    entered = λ j p c x e. (let o = more.entered j p c x e in let r = t.entered j p c x o in let b = sym (more.cut j (let l = at_below h j _ o in omega arith)) in (r.0, r.1, r.2 ∙ ap (entered_at p) b, ap (open_at p) (sym b) ∙ r.3));
-    left = λ j p c e. (let o = more.left j p c e in let r = t.left j p c o in (r.0, ap (open_at p) (more.cut j (let l = at_below h j _ o in omega arith)) ∙ r.1, r.2));
-    began = λ j p c low high e. (let o = more.began j p c low high e in let r = t.began j p c low high o in (r.0, r.1 ∙ ap (begun_at p) (sym (more.cut j (let l = at_below h j _ o in omega arith))), r.2, r.3));
+    entered = λ j p c x e. (let o = more.entered j p c x e in let r = t.entered j p c x o in
+        let b = sym (more.cut j (let l = at_below h j _ o in omega arith)) in
+        (r.0, r.1, r.2 ∙ ap (entered_at p) b, ap (open_at p) (sym b) ∙ r.3));
+    left = λ j p c e. (let o = more.left j p c e in let r = t.left j p c o in
+        (r.0, ap (open_at p) (more.cut j (let l = at_below h j _ o in omega arith)) ∙ r.1, r.2));
+    began = λ j p c low high e. (let o = more.began j p c low high e in let r = t.began j p c low high o in
+        (r.0, r.1 ∙ ap (begun_at p) (sym (more.cut j (let l = at_below h j _ o in omega arith))), r.2, r.3));
     ended = λ j p c e. (let r = t.ended j p c (more.ended j p c e) in (r.0, r.1, r.2, r.3, more.longer r.0 _ r.4));
     deleted = deleted;
   }
@@ -120,7 +129,13 @@ module _ (place : ℕ) (h h' : List Mark) (more : PlainMarks place h h') where
   waits_plain = record { began = λ j p c low high has e. more.began j p c low high e; ended = more.ended }
 
   pub others_plain : OtherMarks place h h'
-  others_plain = record { begins = more.begins; own = more.own; opens = λ p ne. more.opens p; entries = λ p ne. more.entries p; waits = λ p ne. more.waits_at p }
+  others_plain = record {
+    begins = more.begins;
+    own = more.own;
+    opens = λ p ne. more.opens p;
+    entries = λ p ne. more.entries p;
+    waits = λ p ne. more.waits_at p;
+  }
 
 -- after these marks a slot was just unlinked, and no other slot
 pub record IsUnlinkedNow (h h' : List Mark) (d at : ℕ) : Type 0 where

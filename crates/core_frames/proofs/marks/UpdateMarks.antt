@@ -27,10 +27,12 @@ pub updates_done : (h : List Mark) (u : Update) → updates_of (h ++ Done u ∷ 
 updates_done h u = updates_of-append h (Done u ∷ [])
 
 pub reuse_done : (h : List Mark) (u : Update) → Reuse h → Reuse (h ++ Done u ∷ [])
-reuse_done h u reuse = reuse_more h (Done u) (λ s r. ⊎_elim (λ (e : Done u ≡ Given s). absurd (cc)) (λ (e : Done u ≡ Freed s). absurd (cc)) r) reuse
+reuse_done h u reuse = reuse_more h (Done u) (λ s r. ⊎_elim (λ (e : Done u ≡ Given s). absurd (cc))
+    (λ (e : Done u ≡ Freed s). absurd (cc)) r) reuse
 
 pub reuse_unlinked : (h : List Mark) (d : ℕ) → Reuse h → Reuse (h ++ Unlinked d ∷ [])
-reuse_unlinked h d reuse = reuse_more h (Unlinked d) (λ s r. ⊎_elim (λ (e : Unlinked d ≡ Given s). absurd (cc)) (λ (e : Unlinked d ≡ Freed s). absurd (cc)) r) reuse
+reuse_unlinked h d reuse = reuse_more h (Unlinked d)
+    (λ s r. ⊎_elim (λ (e : Unlinked d ≡ Given s). absurd (cc)) (λ (e : Unlinked d ≡ Freed s). absurd (cc)) r) reuse
 
 pub gone_other : (s t : ℕ) (h : List Mark) → t ≢ s → gone_at s (h ++ Unlinked t ∷ []) ≡ gone_at s h
 gone_other s t h ne = gone_at-snoc s h (Unlinked t) ∙ ap (λ b. cond b (Some (length h)) (gone_at s h)) (ne_eqb t s ne)
@@ -44,24 +46,33 @@ op_of _ = Get 0
 
 -- a del is followed by the unlinking of its node
 abbrev pub AreDeleted : List Mark → Type 0
-AreDeleted h = (j p x : ℕ) → get_elem? h j ≡ some (Done (record { caller = p; op = Del x })) → (s : ℕ) × (get_elem? h (j + 1) ≡ some (Unlinked s))
+AreDeleted h = (j p x : ℕ) → get_elem? h j ≡ some (Done (record { caller = p; op = Del x }))
+    → (s : ℕ) × (get_elem? h (j + 1) ≡ some (Unlinked s))
 
 -- an update that is no delete
-pub marks_done : (h : List Mark) (u : Update) → ((x : ℕ) → u.op ≢ Del x) → (places : ℕ) → AreMarks places h → AreMarks places (h ++ Done u ∷ [])
+pub marks_done : (h : List Mark) (u : Update) → ((x : ℕ) → u.op ≢ Del x) → (places : ℕ) → AreMarks places h
+    → AreMarks places (h ++ Done u ∷ [])
 marks_done h u none places t = marks_plain u.caller h (h ++ Done u ∷ []) (plain_one u.caller h (Done u) refl) places
     (λ j p x e. ⊎_elim
-    (λ (o : get_elem? h j ≡ some (Done (record { caller = p; op = Del x }))). (let r = t.deleted j p x o in (r.0, at_longer h (Done u ∷ []) (j + 1) _ r.1)))
+    (λ (o : get_elem? h j ≡ some (Done (record { caller = p; op = Del x }))). (let r = t.deleted j p x o in
+    (r.0, at_longer h (Done u ∷ []) (j + 1) _ r.1)))
     (λ n. absurd (none x (ap op_of n.1))) (at_end h (Done u) (Done (record { caller = p; op = Del x })) j e)) t
 
 -- a slot was unlinked
 pub marks_unlinked : (place : ℕ) (h : List Mark) (d places : ℕ) → AreMarks places h → AreMarks places (h ++ Unlinked d ∷ [])
 marks_unlinked place h d places t = marks_plain place h (h ++ Unlinked d ∷ []) (plain_one place h (Unlinked d) tt) places
     (λ j p x e. ⊎_elim
-    (λ (o : get_elem? h j ≡ some (Done (record { caller = p; op = Del x }))). (let r = t.deleted j p x o in (r.0, at_longer h (Unlinked d ∷ []) (j + 1) _ r.1)))
+    (λ (o : get_elem? h j ≡ some (Done (record { caller = p; op = Del x }))). (let r = t.deleted j p x o in
+    (r.0, at_longer h (Unlinked d ∷ []) (j + 1) _ r.1)))
     (λ n. absurd (let q = n.1 in cc)) (at_end h (Unlinked d) (Done (record { caller = p; op = Del x })) j e)) t
 
 pub unlinked_snoc : (h : List Mark) (d : ℕ) → IsUnlinkedNow h (h ++ Unlinked d ∷ []) d (length h)
-unlinked_snoc h d = record { here = gone_here d h; gone = λ s ne. gone_other s d h (λ e. ne (sym e)); last = λ s ne. last_unlinked-other h s d (λ e. ne (sym e)); after = omega arith }
+unlinked_snoc h d = record {
+  here = gone_here d h;
+  gone = λ s ne. gone_other s d h (λ e. ne (sym e));
+  last = λ s ne. last_unlinked-other h s d (λ e. ne (sym e));
+  after = omega arith;
+}
 
 module _ (h : List Mark) (u : Update) (d : ℕ) where
   abbrev one : List Mark
@@ -80,7 +91,8 @@ module _ (h : List Mark) (u : Update) (d : ℕ) where
   delete_updates = updates_of-append h (Done u ∷ Unlinked d ∷ [])
 
   pub delete_plain : PlainMarks u.caller h both
-  delete_plain = subst (PlainMarks u.caller h) both_is (plain_trans u.caller h one (one ++ Unlinked d ∷ []) (plain_one u.caller h (Done u) refl) (plain_one u.caller one (Unlinked d) tt))
+  delete_plain = subst (PlainMarks u.caller h) both_is
+      (plain_trans u.caller h one (one ++ Unlinked d ∷ []) (plain_one u.caller h (Done u) refl) (plain_one u.caller one (Unlinked d) tt))
 
   pub delete_gone_here : gone_at d both ≡ Some (length h + 1)
   delete_gone_here = ap (gone_at d) (sym both_is) ∙ gone_here d one ∙ ap Some one_longer
@@ -92,7 +104,8 @@ module _ (h : List Mark) (u : Update) (d : ℕ) where
   delete_last_other s ne = ap (last_unlinked s) (sym both_is) ∙ last_unlinked-other one s d (λ e. ne (sym e)) ∙ last_done h u s
 
   pub delete_done : get_elem? both (length h) ≡ some (Done u)
-  delete_done = subst (λ z. get_elem? z (length h) ≡ some (Done u)) both_is (at_longer one (Unlinked d ∷ []) (length h) (Done u) (at_last h (Done u) (length h) refl))
+  delete_done = subst (λ z. get_elem? z (length h) ≡ some (Done u)) both_is
+      (at_longer one (Unlinked d ∷ []) (length h) (Done u) (at_last h (Done u) (length h) refl))
 
   pub delete_unlinked : get_elem? both (length h + 1) ≡ some (Unlinked d)
   delete_unlinked = subst (λ z. get_elem? z (length h + 1) ≡ some (Unlinked d)) both_is (at_last one (Unlinked d) (length h + 1) one_longer)
@@ -100,14 +113,16 @@ module _ (h : List Mark) (u : Update) (d : ℕ) where
   -- an update afterwards is one from before, or the new one
   pub delete_back : (j : ℕ) (x : Update) → get_elem? both j ≡ some (Done x) → (get_elem? h j ≡ some (Done x)) ⊎ (j ≡ length h)
   delete_back j x e = ⊎_elim
-      (λ (o : get_elem? one j ≡ some (Done x)). ⊎_elim (λ (p : get_elem? h j ≡ some (Done x)). inl p) (λ n. inr n.0) (at_end h (Done u) (Done x) j o))
+      (λ (o : get_elem? one j ≡ some (Done x)). ⊎_elim (λ (p : get_elem? h j ≡ some (Done x)). inl p) (λ n. inr n.0)
+      (at_end h (Done u) (Done x) j o))
       (λ n. absurd (let q : Unlinked d ≡ Done x = n.1 in cc))
       (at_end one (Unlinked d) (Done x) j (subst (λ z. get_elem? z j ≡ some (Done x)) (sym both_is) e))
 
   pub delete_marks : (places : ℕ) → AreMarks places h → AreMarks places both
   delete_marks places t = marks_plain u.caller h both delete_plain places
       (λ j p x e. ⊎_elim
-      (λ (o : get_elem? h j ≡ some (Done (record { caller = p; op = Del x }))). (let r = t.deleted j p x o in (r.0, delete_plain.longer (j + 1) (Unlinked r.0) r.1)))
+      (λ (o : get_elem? h j ≡ some (Done (record { caller = p; op = Del x }))). (let r = t.deleted j p x o in
+      (r.0, delete_plain.longer (j + 1) (Unlinked r.0) r.1)))
       (λ (n : j ≡ length h). (d, ap (λ z. get_elem? both (z + 1)) n ∙ delete_unlinked))
       (delete_back j (record { caller = p; op = Del x }) e)) t
 

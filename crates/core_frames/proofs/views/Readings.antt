@@ -14,16 +14,23 @@ pub link_moves : (r : Reading) (s : ℕ) (b : Side) (n : ℕ) → r.state ≡ At
     → loaded r (Link s b) n ≡ linked_on (record r { loads = record { field = Link s b; number = n; stored = false } ∷ r.loads }) s b n
 link_moves r s b n e =
     let r' : Reading = record r { loads = record { field = Link s b; number = n; stored = false } ∷ r.loads } in
-    ap (λ z. searched r' z (Link s b) n) e ∙ ap (λ z. cond z (linked_on r' s b n) r') (ap (λ z. z && same_side b b) (eq-eqb s s refl) ∙ side_self b)
+    ap (λ z. searched r' z (Link s b) n) e ∙ ap (λ z. cond z (linked_on r' s b n) r')
+    (ap (λ z. z && same_side b b) (eq-eqb s s refl) ∙ side_self b)
 
 pub key_moves : (r : Reading) (s p : ℕ) (b : Side) (n : ℕ) → r.state ≡ Unread s p b
-    → loaded r (Key s) n ≡ record r { loads = record { field = Key s; number = n; stored = false } ∷ r.loads; state = key_stand s p b (step_side r.key n) }
+    → loaded r (Key s) n ≡ record r {
+      loads = record { field = Key s; number = n; stored = false } ∷ r.loads;
+      state = key_stand s p b (step_side r.key n);
+    }
 key_moves r s p b n e =
     let r' : Reading = record r { loads = record { field = Key s; number = n; stored = false } ∷ r.loads } in
     ap (λ z. searched r' z (Key s) n) e ∙ ap (λ z. cond z (record r' { state = key_stand s p b (step_side r'.key n) }) r') (eq-eqb s s refl)
 
 pub value_moves : (r : Reading) (s p : ℕ) (b : Side) (n : ℕ) → r.state ≡ Found s p b None
-    → loaded r (Value s) n ≡ record r { loads = record { field = Value s; number = n; stored = false } ∷ r.loads; state = Found s p b (Some n) }
+    → loaded r (Value s) n ≡ record r {
+      loads = record { field = Value s; number = n; stored = false } ∷ r.loads;
+      state = Found s p b (Some n);
+    }
 value_moves r s p b n e =
     let r' : Reading = record r { loads = record { field = Value s; number = n; stored = false } ∷ r.loads } in
     ap (λ z. searched r' z (Value s) n) e ∙ ap (λ z. cond z (record r' { state = Found s p b (Some n) }) r') (eq-eqb s s refl)
@@ -31,4 +38,5 @@ value_moves r s p b n e =
 -- a load at the end of a search that missed only adds what it loaded
 pub missed_stays : (r : Reading) (s : ℕ) (b : Side) (field : Field) (n : ℕ) → r.state ≡ Missed s b
     → loaded r field n ≡ record r { loads = record { field = field; number = n; stored = false } ∷ r.loads }
-missed_stays r s b field n e = ap (λ z. searched (record r { loads = record { field = field; number = n; stored = false } ∷ r.loads }) z field n) e
+missed_stays r s b field n e = ap (λ z. searched
+    (record r { loads = record { field = field; number = n; stored = false } ∷ r.loads }) z field n) e

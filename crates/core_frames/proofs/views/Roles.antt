@@ -24,21 +24,28 @@ use Rattle.list_laws.proofs.Lists.{total_part, total_two, times_append, times_he
 use Rattle.core_frames.proofs.chart.Ranges.{bool_cases}
 
 -- how often a slot is the view's
-pub slots_count : (v : View) (s : ℕ) → times s (slots_of v) ≡ times s (held_list v.hands.hand) + times s (spares_of v) + times s (map (λ (r : Retired). r.slot) (retired_of v))
+pub slots_count : (v : View) (s : ℕ) → times s (slots_of v)
+    ≡ times s (held_list v.hands.hand) + times s (spares_of v) + times s (map (λ (r : Retired). r.slot) (retired_of v))
 slots_count v s =
     let a = times_append s (held_list v.hands.hand) (spares_of v ++ map (λ (r : Retired). r.slot) (retired_of v)) in
     let b = times_append s (spares_of v) (map (λ (r : Retired). r.slot) (retired_of v)) in
     omega arith
 
-pub spares_count : (v : View) (s : ℕ) → times s (spares_of v) ≡ times s (held_list v.hands.spare) + times s (numbers_from (v.allowance.place + 2) (v.allowance.places - 1) ++ joined_spares v.allowance.joined)
-spares_count v s = times_append s (held_list v.hands.spare) (numbers_from (v.allowance.place + 2) (v.allowance.places - 1) ++ joined_spares v.allowance.joined)
+pub spares_count : (v : View) (s : ℕ) → times s (spares_of v)
+    ≡ times s (held_list v.hands.spare) + times s
+    (numbers_from (v.allowance.place + 2) (v.allowance.places - 1) ++ joined_spares v.allowance.joined)
+spares_count v s = times_append s (held_list v.hands.spare)
+    (numbers_from (v.allowance.place + 2) (v.allowance.places - 1) ++ joined_spares v.allowance.joined)
 
-pub map_append : (xs ys : List Retired) → map (λ (r : Retired). r.slot) (xs ++ ys) ≡ map (λ (r : Retired). r.slot) xs ++ map (λ (r : Retired). r.slot) ys
+pub map_append : (xs ys : List Retired) → map (λ (r : Retired). r.slot) (xs ++ ys) ≡ map (λ (r : Retired). r.slot) xs
+    ++ map (λ (r : Retired). r.slot) ys
 map_append [] ys = refl
 map_append (x ∷ xs) ys = ap (λ zs. x.slot ∷ zs) (map_append xs ys)
 
-pub retired_count : (v : View) (s : ℕ) → times s (map (λ (r : Retired). r.slot) (retired_of v)) ≡ times s (map (λ (r : Retired). r.slot) v.hands.retired) + times s (map (λ (r : Retired). r.slot) (joined_retired v.allowance.joined))
-retired_count v s = ap (times s) (map_append v.hands.retired (joined_retired v.allowance.joined)) ∙ times_append s (map (λ (r : Retired). r.slot) v.hands.retired) (map (λ (r : Retired). r.slot) (joined_retired v.allowance.joined))
+pub retired_count : (v : View) (s : ℕ) → times s (map (λ (r : Retired). r.slot) (retired_of v))
+    ≡ times s (map (λ (r : Retired). r.slot) v.hands.retired) + times s (map (λ (r : Retired). r.slot) (joined_retired v.allowance.joined))
+retired_count v s = ap (times s) (map_append v.hands.retired (joined_retired v.allowance.joined))
+    ∙ times_append s (map (λ (r : Retired). r.slot) v.hands.retired) (map (λ (r : Retired). r.slot) (joined_retired v.allowance.joined))
 
 pub held_there : (o : Option Held) (held : Held) → o ≡ Some held → 1 ≤ times held.slot (held_list o)
 held_there o held e = subst (λ z. 1 ≤ times held.slot (held_list z)) (sym e) (let t = times_here held.slot [] in omega arith)
@@ -65,7 +72,8 @@ module _ (m : Memory) (n : ℕ) (g : Chart) (vs : List View) (h : List Mark) (t 
   below s some_role = dite (dec_le n s) (λ far. absurd (let e = t.roles.beyond s far in omega arith)) (λ near. omega arith)
 
   off : (s : ℕ) → 1 ≤ total (λ (u : View). times s (slots_of u)) vs → g.linked s ≡ false
-  off s some_role = ⊎_elim (λ (on : g.linked s ≡ true). absurd (let e = t.roles.once s (below s some_role) in let f = ap flag on in omega arith)) (λ e. e) (bool_cases (g.linked s))
+  off s some_role = ⊎_elim (λ (on : g.linked s ≡ true). absurd
+      (let e = t.roles.once s (below s some_role) in let f = ap flag on in omega arith)) (λ e. e) (bool_cases (g.linked s))
 
   module _ (id : ℕ) (v : View) (there : get_elem? vs id ≡ some v) where
     -- a slot of a view is one of the table's, isn't linked, and stands once among its slots
@@ -77,11 +85,13 @@ module _ (m : Memory) (n : ℕ) (g : Chart) (vs : List View) (h : List Mark) (t 
 
     pub own_once : (s : ℕ) → times s (slots_of v) ≤ 1
     own_once s = dite (dec_le 1 (times s (slots_of v)))
-        (λ has. (let p = total_part (λ (u : View). times s (slots_of u)) vs id v there in let e = t.roles.once s (own_below s has) in omega arith))
+        (λ has. (let p = total_part (λ (u : View). times s (slots_of u)) vs id v there in let e = t.roles.once s (own_below s has) in
+        omega arith))
         (λ none. omega arith)
 
     pub linked_none : (s : ℕ) → g.linked s ≡ true → times s (slots_of v) ≡ 0
-    linked_none s on = dite (dec_le 1 (times s (slots_of v))) (λ has. (let o = own_off s has in let q : true ≡ false = sym on ∙ o in absurd (cc))) (λ none. omega arith)
+    linked_none s on = dite (dec_le 1 (times s (slots_of v)))
+        (λ has. (let o = own_off s has in let q : true ≡ false = sym on ∙ o in absurd (cc))) (λ none. omega arith)
 
     -- two views have no slot in common
     pub own_apart : (s j : ℕ) (u : View) → get_elem? vs j ≡ some u → 1 ≤ times s (slots_of v) → 1 ≤ times s (slots_of u) → j ≡ id
@@ -92,7 +102,8 @@ module _ (m : Memory) (n : ℕ) (g : Chart) (vs : List View) (h : List Mark) (t 
 
   -- an unlinked slot is retired
   pub gone_off : (s p : ℕ) → gone_at s h ≡ Some p → g.linked s ≡ false
-  gone_off s p gone = let r = t.unlinked s p gone in subst (λ z. g.linked z ≡ false) r.slot (own_off r.id r.view r.there r.retired.slot (retired_own r.view r.retired r.has))
+  gone_off s p gone = let r = t.unlinked s p gone in
+      subst (λ z. g.linked z ≡ false) r.slot (own_off r.id r.view r.there r.retired.slot (retired_own r.view r.retired r.has))
 
   module _ (id : ℕ) (v : View) (there : get_elem? vs id ≡ some v) where
     -- so a slot in hand or a spare isn't unlinked, by the marks
@@ -105,10 +116,14 @@ module _ (m : Memory) (n : ℕ) (g : Chart) (vs : List View) (h : List Mark) (t 
             let r = t.unlinked s p e in
             let c = slots_count v s in
             let mine : 1 ≤ times s (slots_of v) = omega arith in
-            let theirs : 1 ≤ times s (slots_of r.view) = subst (λ z. 1 ≤ times z (slots_of r.view)) r.slot (retired_own r.view r.retired r.has) in
+            let theirs : 1 ≤ times s (slots_of r.view) =
+            subst (λ z. 1 ≤ times z (slots_of r.view)) r.slot (retired_own r.view r.retired r.has) in
             let same = own_apart id v there s r.id r.view r.there mine theirs in
             let is : r.view ≡ v = some-injective r.view v (sym r.there ∙ subst (λ z. get_elem? vs z ≡ some v) (sym same) there) in
-            let again : 1 ≤ times s (map (λ (x : Retired). x.slot) (retired_of v)) = subst (λ (u : View). 1 ≤ times s (map (λ (x : Retired). x.slot) (retired_of u))) is (subst (λ z. 1 ≤ times z (map (λ (x : Retired). x.slot) (retired_of r.view))) r.slot (retired_there r.view r.retired r.has)) in
+            let again : 1 ≤ times s (map (λ (x : Retired). x.slot) (retired_of v)) =
+            subst (λ (u : View). 1 ≤ times s (map (λ (x : Retired). x.slot) (retired_of u))) is
+            (subst (λ z. 1 ≤ times z (map (λ (x : Retired). x.slot) (retired_of r.view))) r.slot
+            (retired_there r.view r.retired r.has)) in
             let once = own_once id v there s in
             absurd (omega arith)
 
@@ -117,8 +132,10 @@ module _ (m : Memory) (n : ℕ) (g : Chart) (vs : List View) (h : List Mark) (t 
     held_unmet s entered has back = absurd (let e : None ≡ Some back.at = sym (not_gone s has) ∙ back.gone in cc)
 
 -- nor can one meet a retired slot that was waited for
-pub waited_unmet : (k : Shape) (m : Memory) (vs : List View) (h : List Mark) (i : HoldsNow k m vs h) (id : ℕ) (v : View) → get_elem? vs id ≡ some v → (r : Retired) → IsIn v.hands.retired r → r.waited ≡ true
-    → (j : ℕ) (u : View) (section : Section) → get_elem? vs j ≡ some u → u.section ≡ Some section → IsHeldBack i.chart h section.entered r.slot → ⊥
+pub waited_unmet : (k : Shape) (m : Memory) (vs : List View) (h : List Mark) (i : HoldsNow k m vs h) (id : ℕ) (v : View)
+    → get_elem? vs id ≡ some v → (r : Retired) → IsIn v.hands.retired r → r.waited ≡ true
+    → (j : ℕ) (u : View) (section : Section) → get_elem? vs j ≡ some u → u.section ≡ Some section
+    → IsHeldBack i.chart h section.entered r.slot → ⊥
 waited_unmet k m vs h i id v there r has waited j u section e is back =
     let told = i.grace.retired id v there has.0 r has.1 in
     let whole = in_first v.hands.retired (joined_retired v.allowance.joined) r has in

@@ -33,7 +33,8 @@ pub record SameSlots (m m' : Memory) : Type 0 where
   pub state : (s : ℕ) → m' (State s) ≡ m (State s)
   pub lock : (s : ℕ) → m' (Lock s) ≡ m (Lock s)
 
-pub own_same : (m m' : Memory) → SameNodes m m' → ((s : ℕ) → m' (State s) ≡ m (State s)) → (s : ℕ) (field : Field) → IsOwnField s field → m' field ≡ m field
+pub own_same : (m m' : Memory) → SameNodes m m' → ((s : ℕ) → m' (State s) ≡ m (State s)) → (s : ℕ) (field : Field) → IsOwnField s field
+    → m' field ≡ m field
 own_same m m' e state s Clock o = absurd o
 own_same m m' e state s Front o = absurd o
 own_same m m' e state s Free o = absurd o
@@ -79,7 +80,15 @@ pub record SlotWords : Type 0 where
   pub lock : ℕ → ℕ
 
 abbrev pub slot_words : Memory → SlotWords
-slot_words m = record { life = λ s. m (Life s); key = λ s. m (Key s); value = λ s. m (Value s); link = λ s b. m (Link s b); tag = λ s b. m (Tag s b); state = λ s. m (State s); lock = λ s. m (Lock s) }
+slot_words m = record {
+  life = λ s. m (Life s);
+  key = λ s. m (Key s);
+  value = λ s. m (Value s);
+  link = λ s b. m (Link s b);
+  tag = λ s b. m (Tag s b);
+  state = λ s. m (State s);
+  lock = λ s. m (Lock s);
+}
 
 pub record ReaderWords : Type 0 where
   pub announced : ℕ → ℕ
@@ -88,7 +97,12 @@ pub record ReaderWords : Type 0 where
   pub row : ℕ → ℕ → ℕ
 
 abbrev pub reader_words : Memory → ReaderWords
-reader_words m = record { announced = λ p. m (Announced p); stamp = λ p. m (Stamp p); count = λ c side. m (Count c side); row = λ p c. m (Row p c) }
+reader_words m = record {
+  announced = λ p. m (Announced p);
+  stamp = λ p. m (Stamp p);
+  count = λ c side. m (Count c side);
+  row = λ p c. m (Row p c);
+}
 
 -- all words but those in which readers show, and the gates
 pub record QuietWords : Type 0 where
@@ -102,7 +116,13 @@ quiet_words m = record { slots = slot_words m; clock = m Clock; front = m Front;
 
 pub slots_stay : (m m' : Memory) → slot_words m' ≡ slot_words m → SameSlots m m'
 slots_stay m m' e = record {
-  nodes = record { life = λ s i. (e i).life s; key = λ s i. (e i).key s; value = λ s i. (e i).value s; link = λ s b i. (e i).link s b; tag = λ s b i. (e i).tag s b };
+  nodes = record {
+    life = λ s i. (e i).life s;
+    key = λ s i. (e i).key s;
+    value = λ s i. (e i).value s;
+    link = λ s b i. (e i).link s b;
+    tag = λ s b i. (e i).tag s b;
+  };
   state = λ s i. (e i).state s;
   lock = λ s i. (e i).lock s;
 }
@@ -130,7 +150,14 @@ pub record OwnSlots : Type 0 where
   pub retired : List Retired
 
 abbrev pub own_slots : View → OwnSlots
-own_slots u = record { place = u.allowance.place; places = u.allowance.places; joined = u.allowance.joined; hand = u.hands.hand; spare = u.hands.spare; retired = u.hands.retired }
+own_slots u = record {
+  place = u.allowance.place;
+  places = u.allowance.places;
+  joined = u.allowance.joined;
+  hand = u.hands.hand;
+  spare = u.hands.spare;
+  retired = u.hands.retired;
+}
 
 pub retired_same : (v w : View) → own_slots w ≡ own_slots v → retired_of w ≡ retired_of v
 retired_same v w e = λ i. (e i).retired ++ joined_retired (e i).joined
@@ -144,9 +171,14 @@ slots_same v w e = λ i. held_list (e i).hand ++ (spares_same v w e i ++ map (λ
 -- A field of a view that the step leaves alone: each view afterwards has one before with the same, and the other way about.
 module _ {X : Type 0} (f : View → X) (vs : List View) (id : ℕ) (v w : View) (there : get_elem? vs id ≡ some v) (same : f w ≡ f v) where
   pub was : (j : ℕ) (u : View) → get_elem? (set vs id w) j ≡ some u → (z : View) × (get_elem? vs j ≡ some z) × (f u ≡ f z)
-  was j u e = ⊎_elim (λ (t : (j ≡ id) × (w ≡ u)). (v, subst (λ i. get_elem? vs i ≡ some v) (sym t.0) there, ap f (sym t.1) ∙ same)) (λ (t : (j ≢ id) × (get_elem? vs j ≡ some u)). (u, t.1, refl)) (at_set vs id j w u e)
+  was j u e = ⊎_elim (λ (t : (j ≡ id) × (w ≡ u)). (v, subst (λ i. get_elem? vs i ≡ some v) (sym t.0) there, ap f (sym t.1) ∙ same))
+      (λ (t : (j ≢ id) × (get_elem? vs j ≡ some u)). (u, t.1, refl)) (at_set vs id j w u e)
 
   pub still : (j : ℕ) (z : View) → get_elem? vs j ≡ some z → (u : View) × (get_elem? (set vs id w) j ≡ some u) × (f u ≡ f z)
   still j z e = dite (ℕ_discrete j id)
-      (λ i. (w, subst (λ n. get_elem? (set vs id w) n ≡ some w) (sym i) (set_here vs id w (at_below vs id v there)), same ∙ ap f (some-injective v z (sym there ∙ subst (λ n. get_elem? vs n ≡ some z) i e))))
+      (λ i. (
+        w,
+        subst (λ n. get_elem? (set vs id w) n ≡ some w) (sym i) (set_here vs id w (at_below vs id v there)),
+        same ∙ ap f (some-injective v z (sym there ∙ subst (λ n. get_elem? vs n ≡ some z) i e)),
+      ))
       (λ ne. (z, set_else vs id j w ne ∙ e, refl))

@@ -39,7 +39,8 @@ some_is false n e has = absurd (omega arith)
 
 module _ (places : ℕ) (vs : List View) (placed : ArePlaced places vs) where
   -- no two views answer for one place
-  pub places_apart : (i j p : ℕ) (v w : View) → get_elem? vs i ≡ some v → get_elem? vs j ≡ some w → 1 ≤ times p (places_of v) → 1 ≤ times p (places_of w) → i ≡ j
+  pub places_apart : (i j p : ℕ) (v w : View) → get_elem? vs i ≡ some v → get_elem? vs j ≡ some w → 1 ≤ times p (places_of v)
+      → 1 ≤ times p (places_of w) → i ≡ j
   places_apart i j p v w ei ej a b = dite (ℕ_discrete i j) (λ e. e) (λ ne.
       let two = total_two (λ (u : View). times p (places_of u)) vs i j v w ei ej ne in
       let one = one_at_most (nat_lt p places) (total (λ (u : View). times p (places_of u)) vs) (placed p) in
@@ -53,19 +54,22 @@ module _ (places : ℕ) (vs : List View) (placed : ArePlaced places vs) where
 
 module _ (p : ℕ) (h : List Mark) where
   pub open_entered : (c x : ℕ) → open_at p (h ++ Entered p c x ∷ []) ≡ Some (record { count = c; key = x; at = length h })
-  open_entered c x = open_at-snoc p h (Entered p c x) ∙ ap (λ b. cond b (Some (record { count = c; key = x; at = length h })) (open_at p h)) (eq-eqb p p refl)
+  open_entered c x = open_at-snoc p h (Entered p c x)
+      ∙ ap (λ b. cond b (Some (record { count = c; key = x; at = length h })) (open_at p h)) (eq-eqb p p refl)
 
   pub open_left : (c : ℕ) → open_at p (h ++ Left p c ∷ []) ≡ None
   open_left c = open_at-snoc p h (Left p c) ∙ ap (λ b. cond b None (open_at p h)) (eq-eqb p p refl)
 
   pub open_entered_other : (q c x : ℕ) → q ≢ p → open_at q (h ++ Entered p c x ∷ []) ≡ open_at q h
-  open_entered_other q c x ne = open_at-snoc q h (Entered p c x) ∙ ap (λ b. cond b (Some (record { count = c; key = x; at = length h })) (open_at q h)) (ne_eqb p q (λ e. ne (sym e)))
+  open_entered_other q c x ne = open_at-snoc q h (Entered p c x)
+      ∙ ap (λ b. cond b (Some (record { count = c; key = x; at = length h })) (open_at q h)) (ne_eqb p q (λ e. ne (sym e)))
 
   pub open_left_other : (q c : ℕ) → q ≢ p → open_at q (h ++ Left p c ∷ []) ≡ open_at q h
   open_left_other q c ne = open_at-snoc q h (Left p c) ∙ ap (λ b. cond b None (open_at q h)) (ne_eqb p q (λ e. ne (sym e)))
 
   pub entered_here : (c x : ℕ) → entered_at p (h ++ Entered p c x ∷ []) ≡ entered_at p h + 1
-  entered_here c x = let a = entered_at-append p h (Entered p c x ∷ []) in let b : entered_at p (Entered p c x ∷ []) ≡ 1 + 0 = ap (λ t. cond t 1 0 + 0) (eq-eqb p p refl) in omega arith
+  entered_here c x = let a = entered_at-append p h (Entered p c x ∷ []) in
+      let b : entered_at p (Entered p c x ∷ []) ≡ 1 + 0 = ap (λ t. cond t 1 0 + 0) (eq-eqb p p refl) in omega arith
 
   pub entered_left : (q c : ℕ) → entered_at q (h ++ Left p c ∷ []) ≡ entered_at q h
   entered_left q c = let a = entered_at-append q h (Left p c ∷ []) in let b : entered_at q (Left p c ∷ []) ≡ 0 = refl in omega arith

@@ -32,7 +32,8 @@ sum_here y (suc n) lt = dite (ℕ_discrete y n)
 pub sum_times : (xs : List ℕ) (n : ℕ) → sum_below (λ s. times s xs) n ≤ length xs
 sum_times [] zero = omega arith
 sum_times [] (suc n) = let a = sum_times [] n in omega arith
-sum_times (y ∷ ys) n = let a = sum_add (λ s. flag (y == s)) (λ s. times s ys) n in let b = sum_same y n in let c = sum_times ys n in omega arith
+sum_times (y ∷ ys) n = let a = sum_add (λ s. flag (y == s)) (λ s. times s ys) n in let b = sum_same y n in let c = sum_times ys n in
+    omega arith
 
 pub times_sum : (xs : List ℕ) (n : ℕ) → ((x : ℕ) → 1 ≤ times x xs → x < n) → length xs ≤ sum_below (λ s. times s xs) n
 times_sum [] n all = omega arith
@@ -65,7 +66,8 @@ one_sum x (suc n) lt = ⊎_elim
     (cases_eq n x)
 
 -- a sum of which one number more is counted, and one fewer
-pub sum_swapped : (f g : ℕ → ℕ) (d c n : ℕ) → d < n → c < n → ((s : ℕ) → g s + times s (d ∷ []) ≡ f s + times s (c ∷ [])) → sum_below g n ≡ sum_below f n
+pub sum_swapped : (f g : ℕ → ℕ) (d c n : ℕ) → d < n → c < n → ((s : ℕ) → g s + times s (d ∷ []) ≡ f s + times s (c ∷ []))
+    → sum_below g n ≡ sum_below f n
 sum_swapped f g d c n dn cn e =
     let a = sum_equal (λ s. g s + times s (d ∷ [])) (λ s. f s + times s (c ∷ [])) n (λ s _. e s) in
     let p = sum_add g (λ s. times s (d ∷ [])) n in

@@ -41,7 +41,8 @@ module _ (z : CopyStep) where
   old_not_copy = not_c (copy_link z) z.u (old_alive z).on
 
   linked_same : linked_count to n ≡ linked_count g n
-  linked_same = sum_swapped (λ s. flag (g.linked s && not (s == 0))) (λ s. flag (to.linked s && not (s == 0))) z.d c n d_below (copy_below z) (λ s. ⊎_elim
+  linked_same = sum_swapped (λ s. flag (g.linked s && not (s == 0))) (λ s. flag (to.linked s && not (s == 0))) z.d c n d_below
+      (copy_below z) (λ s. ⊎_elim
       (λ (e : s ≡ 0).
       (let a = flag_root (to.linked s) s e in
       let b = flag_root (g.linked s) s e in
@@ -75,10 +76,12 @@ module _ (z : CopyStep) where
   none_false false = refl
 
   -- a slot that holds a pair, with those that no longer do
-  young_at : (s : ℕ) → s ≢ 0 → flag (to.linked s && not (to.old s)) + times s (z.d ∷ []) + times s (z.u ∷ []) ≡ flag (g.linked s && not (g.old s)) + times s (c ∷ [])
+  young_at : (s : ℕ) → s ≢ 0 → flag (to.linked s && not (to.old s)) + times s (z.d ∷ []) + times s (z.u ∷ [])
+      ≡ flag (g.linked s && not (g.old s)) + times s (c ∷ [])
   young_at s nz = ⊎_elim
       (λ (e : s ≡ c).
-      (let a = both_flags (to.linked s) (to.old s) true false (ap to.linked e ∙ c_linked (copy_link z)) (ap to.old e ∙ c_young (copy_link z)) in
+      (let a = both_flags (to.linked s) (to.old s) true false (ap to.linked e ∙ c_linked (copy_link z))
+      (ap to.old e ∙ c_young (copy_link z)) in
       let b = both_flags (g.linked s) (g.old s) false (g.old s) (ap g.linked e ∙ copy_off z) refl in
       let x = in_one s c e in
       let y = not_one s z.d (λ f. node_not_copy z (sym f ∙ e)) in
@@ -87,7 +90,8 @@ module _ (z : CopyStep) where
       (λ nc. ⊎_elim
       (λ (e : s ≡ z.d).
       (let a = both_flags (to.linked s) (to.old s) false (to.old s) (off s nc e) refl in
-      let b = both_flags (g.linked s) (g.old s) true false (ap g.linked e ∙ (node_marked (deletion z)).0) (ap g.old e ∙ node_young (deletion z)) in
+      let b = both_flags (g.linked s) (g.old s) true false (ap g.linked e ∙ (node_marked (deletion z)).0)
+      (ap g.old e ∙ node_young (deletion z)) in
       let x = not_one s c nc in
       let y = in_one s z.d e in
       let t = not_one s z.u (λ f. old_not_node (sym f ∙ e)) in
@@ -114,7 +118,8 @@ module _ (z : CopyStep) where
   young_less =
       let f : ℕ → ℕ = λ s. flag (g.linked s && (not (s == 0) && not (g.old s))) in
       let e : ℕ → ℕ = λ s. flag (to.linked s && (not (s == 0) && not (to.old s))) in
-      let whole = sum_equal (λ s. e s + times s (z.d ∷ []) + times s (z.u ∷ [])) (λ s. f s + times s (c ∷ [])) n (λ s _. at s (cases_eq s 0)) in
+      let whole = sum_equal (λ s. e s + times s (z.d ∷ []) + times s (z.u ∷ [])) (λ s. f s + times s (c ∷ [])) n
+      (λ s _. at s (cases_eq s 0)) in
       let a = sum_add (λ s. e s + times s (z.d ∷ [])) (λ s. times s (z.u ∷ [])) n in
       let b = sum_add e (λ s. times s (z.d ∷ [])) n in
       let x = sum_add f (λ s. times s (c ∷ [])) n in
@@ -123,7 +128,8 @@ module _ (z : CopyStep) where
       let l = one_sum c n (copy_below z) in
       let goal : sum_below e n + 1 ≡ sum_below f n = omega arith in goal
     where
-      at : (s : ℕ) → (s ≡ 0) ⊎ (s ≢ 0) → flag (to.linked s && (not (s == 0) && not (to.old s))) + times s (z.d ∷ []) + times s (z.u ∷ []) ≡ flag (g.linked s && (not (s == 0) && not (g.old s))) + times s (c ∷ [])
+      at : (s : ℕ) → (s ≡ 0) ⊎ (s ≢ 0) → flag (to.linked s && (not (s == 0) && not (to.old s))) + times s (z.d ∷ []) + times s (z.u ∷ [])
+          ≡ flag (g.linked s && (not (s == 0) && not (g.old s))) + times s (c ∷ [])
       at s (inl e) =
           let a = young_root (to.linked s) (to.old s) s e in
           let b = young_root (g.linked s) (g.old s) s e in
@@ -140,7 +146,8 @@ module _ (z : CopyStep) where
   old_more : old_count to n ≡ old_count g n + 1
   old_more = sum_one_more (λ s. flag (g.linked s && g.old s)) (λ s. flag (to.linked s && to.old s)) z.u n u_below (λ s. ⊎_elim
       (λ (e : s ≡ c).
-      (let a = old_flags (to.linked s) (to.old s) (to.linked s) false refl (ap to.old e ∙ c_young (copy_link z)) ∙ none_false (to.linked s) in
+      (let a = old_flags (to.linked s) (to.old s) (to.linked s) false refl (ap to.old e ∙ c_young (copy_link z))
+      ∙ none_false (to.linked s) in
       let b = old_flags (g.linked s) (g.old s) false (g.old s) (ap g.linked e ∙ copy_off z) refl in
       let t = not_one s z.u (λ f. old_not_copy (sym f ∙ e)) in
       omega arith))
@@ -179,7 +186,8 @@ module _ (z : CopyStep) where
       omega arith
 
   emptied_same : emptied_among w.locks ≡ emptied_among v.locks
-  emptied_same = emptied_change_same z.d (with_mark false) (λ x. refl) (λ l. refl) (change_lock z.p (note_lock known) v.locks) ∙ emptied_change_same z.p (note_lock known) (λ x. refl) (λ l. refl) v.locks
+  emptied_same = emptied_change_same z.d (with_mark false) (λ x. refl) (λ l. refl) (change_lock z.p (note_lock known) v.locks)
+      ∙ emptied_change_same z.p (note_lock known) (λ x. refl) (λ l. refl) v.locks
 
   pub copy_counts : CountParts k.tickets new n to us hs
   copy_counts =
@@ -200,4 +208,5 @@ module _ (z : CopyStep) where
       }) inv.counts
 
   pub copy_front : FrontParts new us hs
-  copy_front = front_made m new vs id v w there h hs refl inv.front z.commit z.needs.has_commit refl updates_longer (delete_legal h v.allowance.place z.r.key z.d (has_key (deletion z)) inv.front.legal)
+  copy_front = front_made m new vs id v w there h hs refl inv.front z.commit z.needs.has_commit refl updates_longer
+      (delete_legal h v.allowance.place z.r.key z.d (has_key (deletion z)) inv.front.legal)

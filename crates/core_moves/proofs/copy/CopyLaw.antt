@@ -56,15 +56,24 @@ module _ (z : CopyStep) where
   young_apart s o = ((λ e. (let f = (copy_link z).young in cc (ap g.old e))), (λ e. (let f = old_young z in cc (ap g.old e))))
 
   may_still : (key entered s : ℕ) → MayPass vs key entered s → MayPass us key entered s
-  may_still key entered s y = record { move = y.move; pending = pending_still z y.move y.pending; old = y.old; low = y.low; high = y.high; before = y.before }
+  may_still key entered s y = record {
+    move = y.move;
+    pending = pending_still z y.move y.pending;
+    old = y.old;
+    low = y.low;
+    high = y.high;
+    before = y.before;
+  }
 
   old_still : (key s : ℕ) → IsOldFor vs key s → IsOldFor us key s
   old_still key s y = record { move = y.move; pending = pending_still z y.move y.pending; old = y.old; low = y.low; high = y.high }
 
   -- a record of an empty side: the keys left of the successor are those of the move
-  recorded_side : (x s : ℕ) (a : Side) → (s ≡ z.u) ⊎ (s ≢ z.u) → (s ≢ z.u → Belongs new to x s a) → Belongs m g x s a → IsOldFor us x s ⊎ Belongs new to x s a
+  recorded_side : (x s : ℕ) (a : Side) → (s ≡ z.u) ⊎ (s ≢ z.u) → (s ≢ z.u → Belongs new to x s a) → Belongs m g x s a
+      → IsOldFor us x s ⊎ Belongs new to x s a
   recorded_side x s a (inr ne) stays below = inr (stays ne)
-  recorded_side x s Right (inl e) stays below = inr (subst (λ y. Belongs new to x y Right) (sym e) (right_of_next (copy_link z) x (subst (λ y. Belongs m g x y Right) e below)))
+  recorded_side x s Right (inl e) stays below = inr
+      (subst (λ y. Belongs new to x y Right) (sym e) (right_of_next (copy_link z) x (subst (λ y. Belongs m g x y Right) e below)))
   recorded_side x s Left (inl e) stays below =
       inl (record {
         move = move_now z;
@@ -76,13 +85,25 @@ module _ (z : CopyStep) where
 
   reads : LinkReads step
   reads = record {
-    spare = λ j u section e inside s may l o. (let a = young_apart s o in (a.0, may_still section.key section.entered s may, was_old (copy_link z) s l a.1 ∙ o));
+    spare = λ j u section e inside s may l o. (let a = young_apart s o in
+        (a.0, may_still section.key section.entered s may, was_old (copy_link z) s l a.1 ∙ o));
     other = λ j u section e inside s range some_slot.
-        other_place (copy_link z) (map_now h) inv.tree.map section.key (inv.seats.sections j u e section inside).key_fits _ (MayPass us section.key section.entered) _ _
-        (λ lo hi. record { move = move_now z; pending = pending_now z; old = refl; low = (let f = node_key (deletion z) in omega arith); high = (let f = old_key z in omega arith); before = entered_before k m vs h inv j u section e inside })
-        (step.said section.key section.from) (told_now k m vs h inv j u section e inside) s range (λ f. some_node (deletion z) (sym f ∙ some_slot f));
+        other_place (copy_link z) (map_now h) inv.tree.map section.key
+        (inv.seats.sections j u e section inside).key_fits _ (MayPass us section.key section.entered) _ _
+        (λ lo hi. record {
+          move = move_now z;
+          pending = pending_now z;
+          old = refl;
+          low = (let f = node_key (deletion z) in omega arith);
+          high = (let f = old_key z in omega arith);
+          before = entered_before k m vs h inv j u section e inside;
+        })
+        (step.said section.key section.from) (told_now k m vs h inv j u section e inside) s range
+        (λ f. some_node (deletion z) (sym f ∙ some_slot f));
     old_for = λ x s _. old_still x s;
-    side = λ x s a fits l even root empty below. recorded_side x s a (cases_eq s z.u) (λ ne. empty_side (copy_link z) x s a l (λ e. some_node (deletion z) (sym e ∙ not_gone step s (inr even) e)) ne root fits empty below) below;
+    side = λ x s a fits l even root empty below. recorded_side x s a (cases_eq s z.u)
+        (λ ne. empty_side (copy_link z) x s a l (λ e. some_node (deletion z)
+        (sym e ∙ not_gone step s (inr even) e)) ne root fits empty below) below;
     link_back = link_back step (copy_relinks z);
     emptied = emptied_still step (copy_relinks z);
   }
@@ -90,27 +111,33 @@ module _ (z : CopyStep) where
   -- what was waited for
   clean_after : (s at : ℕ) → gone_at s hs ≡ None → last_unlinked s hs ≡ Some at → IsClear vs at 0 greatest_key
   clean_after s at none last =
-      let nd : s ≢ d = (λ e. (let q : None ≡ Some (length h + 1) = sym none ∙ ap (λ t. gone_at t hs) e ∙ delete_gone_here h (update_of z) d in absurd (cc))) in
+      let nd : s ≢ d = (λ e. (let q : None ≡ Some (length h + 1) =
+      sym none ∙ ap (λ t. gone_at t hs) e ∙ delete_gone_here h (update_of z) d in absurd (cc))) in
       inv.grace.clean s at (sym (delete_gone_other h (update_of z) d s nd) ∙ none) (sym (delete_last_other h (update_of z) d s nd) ∙ last)
 
   gone_waited : IsWaitedRetired us hs v.allowance.place gone
   gone_waited = record {
     shown = λ e. absurd (cc);
-    noted = λ has. absurd (waited_early v.allowance.place h hs step.plain v.allowance.place (length h + 1) 0 greatest_key (omega arith) has);
+    noted = λ has. absurd (waited_early v.allowance.place h hs step.plain v.allowance.place (length h + 1) 0 greatest_key
+        (omega arith) has);
     clear = λ e. absurd (cc);
   }
 
   move_waited : IsWaitedMove us hs v.allowance.place (move_now z)
   move_waited = record {
     shown = λ e. absurd (cc);
-    noted = λ has. absurd (waited_early v.allowance.place h hs step.plain v.allowance.place (length h) (z.r.key + 1) z.next_key (omega arith) has);
+    noted = λ has. absurd (waited_early v.allowance.place h hs step.plain v.allowance.place (length h) (z.r.key + 1) z.next_key
+        (omega arith) has);
     clear = λ e. absurd (cc);
   }
 
   grace : GraceParts us hs
-  grace = grace_frame_by h hs (waited_more v.allowance.place h hs step.plain) (waited_back v.allowance.place h hs step.plain) vs id v w there refl refl (grace_plain v.allowance.place h hs step.plain inv.grace.grace) (delete_reuse h (update_of z) d inv.grace.reuse) clean_after
+  grace = grace_frame_by h hs (waited_more v.allowance.place h hs step.plain)
+      (waited_back v.allowance.place h hs step.plain) vs id v w there refl refl
+      (grace_plain v.allowance.place h hs step.plain inv.grace.grace) (delete_reuse h (update_of z) d inv.grace.reuse) clean_after
       (λ j r e. ⊎_elim
-      (λ (o : get_elem? v.hands.retired j ≡ some r). retired_still h hs (waited_more v.allowance.place h hs step.plain) (waited_back v.allowance.place h hs step.plain) vs id v w there refl v.allowance.place r (inv.grace.retired id v there j r o))
+      (λ (o : get_elem? v.hands.retired j ≡ some r). retired_still h hs (waited_more v.allowance.place h hs step.plain)
+      (waited_back v.allowance.place h hs step.plain) vs id v w there refl v.allowance.place r (inv.grace.retired id v there j r o))
       (λ o. subst (IsWaitedRetired us hs v.allowance.place) o.1 gone_waited) (at_end v.hands.retired gone r j e))
       (λ move is. subst (IsWaitedMove us hs v.allowance.place) (let q : move_now z ≡ move = cc in q) move_waited) inv.grace
 
@@ -127,11 +154,15 @@ module _ (z : CopyStep) where
     grace = grace;
   })
 
-module _ (k : Shape) (m : Memory) (vs : List View) (h : List Mark) (id : ℕ) (v : View) (i : HoldsNow k m vs h) (there : get_elem? vs id ≡ some v) (works : Works v) where
-  case25 : (w : View) (field : Field) (found left : ℕ) (marks : List Mark) → IsStep k h v K25 field found left w marks → IsKept k m h (stored m field left) (set vs id w) (h ++ marks)
-  case25 w field found left marks (step25 {parent = p} {node = d} {copy = c} {old = u} {old_parent = q} {left = l} {right = r} {next_key = next_key} {value = value} {commit = commit} {held = held} {b = b} reading needs) =
+module _ (k : Shape) (m : Memory) (vs : List View) (h : List Mark) (id : ℕ) (v : View) (i : HoldsNow k m vs h)
+    (there : get_elem? vs id ≡ some v) (works : Works v) where
+  case25 : (w : View) (field : Field) (found left : ℕ) (marks : List Mark) → IsStep k h v K25 field found left w marks
+      → IsKept k m h (stored m field left) (set vs id w) (h ++ marks)
+  case25 w field found left marks (step25 {parent = p} {node = d} {copy = c} {old = u} {old_parent = q} {left = l} {right = r}
+      {next_key = next_key} {value = value} {commit = commit} {held = held} {b = b} reading needs) =
       subst (λ x. NeedsCopyLink v commit reading held p b d x u q l r next_key value
-      → IsKept k m h (stored m (Link p b) x) (set vs id (after_copy_link v commit held p b d u q reading.key next_key h)) (h ++ Done (record { caller = v.allowance.place; op = Del reading.key }) ∷ Unlinked d ∷ []))
+      → IsKept k m h (stored m (Link p b) x) (set vs id (after_copy_link v commit held p b d u q reading.key next_key h))
+      (h ++ Done (record { caller = v.allowance.place; op = Del reading.key }) ∷ Unlinked d ∷ []))
       needs.spare_is.1
       (λ same. copy_kept (record {
         who = record { k = k; m = m; vs = vs; h = h; id = id; v = v; inv = i; there = there; works = works };

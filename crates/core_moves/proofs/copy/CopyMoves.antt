@@ -36,12 +36,20 @@ module _ (z : CopyStep) where
   up_is : (g.up z.u ≡ z.q) × (g.side z.u ≡ cond (z.q == z.d) Right Left) × (z.q ≢ c) × HasLock v z.q
   up_is = ⊎_elim
       (λ (e : (z.q ≡ z.d) × (z.right ≡ z.u)).
-      (let i = inv.tree.shape.below z.d z.u Right (node_marked (deletion z)).0 (right_is (deletion z) ∙ e.1) (old_some z) in
-      (i.up ∙ sym e.0, i.side ∙ ap (λ t. cond t Right Left) (sym (eq-eqb z.q z.d e.0)), (λ f. node_not_copy z (sym e.0 ∙ f)), subst (HasLock v) (sym e.0) (node_lock (deletion z)))))
-      (λ (e : (z.q ≢ z.d) × ((generation : ℕ) × LoadedGeneration z.r z.q generation × (loaded_in (known_under v z.q) (Life z.q) ≡ Some (2 * generation))) × (loaded_in (known_under v z.q) (Link z.q Left) ≡ Some z.u)).
+      (let i = inv.tree.shape.below z.d z.u Right (node_marked (deletion z)).0 (right_is (deletion z) ∙ e.1) (old_some z) in (
+        i.up ∙ sym e.0,
+        i.side ∙ ap (λ t. cond t Right Left) (sym (eq-eqb z.q z.d e.0)),
+        (λ f. node_not_copy z (sym e.0 ∙ f)),
+        subst (HasLock v) (sym e.0) (node_lock (deletion z)),
+      )))
+      (λ (e : (z.q ≢ z.d) × ((generation : ℕ) × LoadedGeneration z.r z.q generation
+      × (loaded_in (known_under v z.q) (Life z.q) ≡ Some (2 * generation)))
+      × (loaded_in (known_under v z.q) (Link z.q Left) ≡ Some z.u)).
       (let l = e.1 in
-      let a = alive k m vs h inv id v there z.r z.q l.0 (kept (deletion z)) l.1 (loaded_known (known_under v z.q) (Life z.q) (2 * l.0) l.2) in
-      let link = alive_field k m vs h inv id v there z.r z.q (kept (deletion z)) a (Link z.q Left) z.u (loaded_known (known_under v z.q) (Link z.q Left) z.u e.2) in
+      let a = alive k m vs h inv id v there z.r z.q l.0 (kept (deletion z)) l.1
+      (loaded_known (known_under v z.q) (Life z.q) (2 * l.0) l.2) in
+      let link = alive_field k m vs h inv id v there z.r z.q (kept (deletion z)) a (Link z.q Left) z.u
+      (loaded_known (known_under v z.q) (Link z.q Left) z.u e.2) in
       let i = inv.tree.shape.below z.q z.u Left a.on link (old_some z) in
       (i.up, i.side ∙ ap (λ t. cond t Right Left) (sym (ne_eqb z.q z.d e.0)), (λ f. not_c (copy_link z) z.q a.on f), (a.lock, a.locked))))
       z.needs.records.link
@@ -75,11 +83,20 @@ module _ (z : CopyStep) where
   recorded_now =
       let a = old_alive z in
       let l = still_locked z z.u (old_lock z) in
-      record { reading = z.r; generation = a.generation; lock = l.0; kept = z.needs.records.records.kept; loaded = a.recorded; locked = l.1; same = inl a.life }
+      record {
+        reading = z.r;
+        generation = a.generation;
+        lock = l.0;
+        kept = z.needs.records.records.kept;
+        loaded = a.recorded;
+        locked = l.1;
+        same = inl a.life;
+      }
 
   moving_now : IsMoving new to hs w move_now
   moving_now = record {
-    order = (let a = next_keyed (copy_link z) in let low = a.low in let b = old_low z in let e = node_key (deletion z) in let f = old_key z in omega arith);
+    order = (let a = next_keyed (copy_link z) in let low = a.low in let b = old_low z in let e = node_key (deletion z) in
+        let f = old_key z in omega arith);
     copy_some = copy_some z;
     copy_linked = c_linked (copy_link z);
     copy_young = c_young (copy_link z);
@@ -95,7 +112,8 @@ module _ (z : CopyStep) where
     parent_lock = parent_is.2;
     made = delete_done h (update_of z) z.d;
     recorded = recorded_now;
-    unmet = λ r generation has loaded e. copy_unread z id v r generation there (in_second (open_reading v.section) v.records r has) loaded (let f : m (Life c) ≡ 2 * generation = e in omega arith);
+    unmet = λ r generation has loaded e. copy_unread z id v r generation there (in_second (open_reading v.section) v.records r has) loaded
+        (let f : m (Life c) ≡ 2 * generation = e in omega arith);
   }
 
   -- the moves of other views
@@ -115,7 +133,8 @@ module _ (z : CopyStep) where
         old_old = was_old (copy_link z) move.old i.old_linked far_u.1;
         old_key = refl;
         old_value = refl;
-        parent = put-other (λ y. moved z.d c (g.up y)) c z.p move.old old_c ∙ moved-other z.d c (g.up move.old) (λ f. far_d.2 (sym i.parent ∙ f));
+        parent = put-other (λ y. moved z.d c (g.up y)) c z.p move.old old_c
+            ∙ moved-other z.d c (g.up move.old) (λ f. far_d.2 (sym i.parent ∙ f));
         side = put-other g.side c z.b move.old old_c;
         held = λ s has. has;
         generation = λ l generation locked has. (l, locked, has);
@@ -139,14 +158,16 @@ module _ (z : CopyStep) where
   pending_now = record { id = id; view = w; there = set_here vs id w (at_below vs id v there); moving = refl }
 
   -- who has which move afterwards
-  whose : (j : ℕ) (u : View) (move : Move) → get_elem? us j ≡ some u → u.moving ≡ Some move → ((j ≡ id) × (move_now ≡ move)) ⊎ ((j ≢ id) × (get_elem? vs j ≡ some u))
+  whose : (j : ℕ) (u : View) (move : Move) → get_elem? us j ≡ some u → u.moving ≡ Some move
+      → ((j ≡ id) × (move_now ≡ move)) ⊎ ((j ≢ id) × (get_elem? vs j ≡ some u))
   whose j u move e is =
       each_set (λ i x. x.moving ≡ Some move → ((i ≡ id) × (move_now ≡ move)) ⊎ ((i ≢ id) × (get_elem? vs i ≡ some x))) vs id w
       (λ f. inl (refl, (let q : move_now ≡ move = cc in q)))
       (λ i x ne f g. inr (ne, f)) j u e is
 
   pub copy_map_after : HoldsMap new to (map_now hs)
-  copy_map_after = subst (HoldsMap new to) (sym (delete_map h v.allowance.place z.r.key z.d (m (Key z.d)) (node_key (deletion z)))) (copy_map (copy_link z) (map_now h) inv.tree.map)
+  copy_map_after = subst (HoldsMap new to) (sym (delete_map h v.allowance.place z.r.key z.d (m (Key z.d)) (node_key (deletion z))))
+      (copy_map (copy_link z) (map_now h) inv.tree.map)
 
   pub copy_moves : AreMoving new to hs us
   copy_moves = record {
@@ -165,16 +186,24 @@ module _ (z : CopyStep) where
     one_copy = λ i j a b x y ea eb ia ib e. two i j a b x y ea eb ia ib e (whose i a x ea ia) (whose j b y eb ib);
   }
     where
-      one : (i j : ℕ) (a b : View) (x y : Move) → get_elem? us i ≡ some a → get_elem? us j ≡ some b → a.moving ≡ Some x → b.moving ≡ Some y → x.old ≡ y.old
-          → ((i ≡ id) × (move_now ≡ x)) ⊎ ((i ≢ id) × (get_elem? vs i ≡ some a)) → ((j ≡ id) × (move_now ≡ y)) ⊎ ((j ≢ id) × (get_elem? vs j ≡ some b)) → i ≡ j
+      one : (i j : ℕ) (a b : View) (x y : Move) → get_elem? us i ≡ some a → get_elem? us j ≡ some b → a.moving ≡ Some x → b.moving ≡ Some y
+          → x.old ≡ y.old
+          → ((i ≡ id) × (move_now ≡ x)) ⊎ ((i ≢ id) × (get_elem? vs i ≡ some a))
+          → ((j ≡ id) × (move_now ≡ y)) ⊎ ((j ≢ id) × (get_elem? vs j ≡ some b)) → i ≡ j
       one i j a b x y ea eb ia ib e (inl p) (inl q) = p.0 ∙ sym q.0
-      one i j a b x y ea eb ia ib e (inl p) (inr q) = absurd ((no_end z z.u (old_lock z) j b y q.1 ib).1 (sym e ∙ ap (λ (t : Move). t.old) (sym p.1)))
-      one i j a b x y ea eb ia ib e (inr p) (inl q) = absurd ((no_end z z.u (old_lock z) i a x p.1 ia).1 (e ∙ ap (λ (t : Move). t.old) (sym q.1)))
+      one i j a b x y ea eb ia ib e (inl p) (inr q) =
+          absurd ((no_end z z.u (old_lock z) j b y q.1 ib).1 (sym e ∙ ap (λ (t : Move). t.old) (sym p.1)))
+      one i j a b x y ea eb ia ib e (inr p) (inl q) =
+          absurd ((no_end z z.u (old_lock z) i a x p.1 ia).1 (e ∙ ap (λ (t : Move). t.old) (sym q.1)))
       one i j a b x y ea eb ia ib e (inr p) (inr q) = inv.tree.moves.one_old i j a b x y p.1 q.1 ia ib e
 
-      two : (i j : ℕ) (a b : View) (x y : Move) → get_elem? us i ≡ some a → get_elem? us j ≡ some b → a.moving ≡ Some x → b.moving ≡ Some y → x.copy.slot ≡ y.copy.slot
-          → ((i ≡ id) × (move_now ≡ x)) ⊎ ((i ≢ id) × (get_elem? vs i ≡ some a)) → ((j ≡ id) × (move_now ≡ y)) ⊎ ((j ≢ id) × (get_elem? vs j ≡ some b)) → i ≡ j
+      two : (i j : ℕ) (a b : View) (x y : Move) → get_elem? us i ≡ some a → get_elem? us j ≡ some b → a.moving ≡ Some x → b.moving ≡ Some y
+          → x.copy.slot ≡ y.copy.slot
+          → ((i ≡ id) × (move_now ≡ x)) ⊎ ((i ≢ id) × (get_elem? vs i ≡ some a))
+          → ((j ≡ id) × (move_now ≡ y)) ⊎ ((j ≢ id) × (get_elem? vs j ≡ some b)) → i ≡ j
       two i j a b x y ea eb ia ib e (inl p) (inl q) = p.0 ∙ sym q.0
-      two i j a b x y ea eb ia ib e (inl p) (inr q) = absurd ((no_end z c z.needs.locked j b y q.1 ib).0 (sym e ∙ ap (λ (t : Move). t.copy.slot) (sym p.1)))
-      two i j a b x y ea eb ia ib e (inr p) (inl q) = absurd ((no_end z c z.needs.locked i a x p.1 ia).0 (e ∙ ap (λ (t : Move). t.copy.slot) (sym q.1)))
+      two i j a b x y ea eb ia ib e (inl p) (inr q) =
+          absurd ((no_end z c z.needs.locked j b y q.1 ib).0 (sym e ∙ ap (λ (t : Move). t.copy.slot) (sym p.1)))
+      two i j a b x y ea eb ia ib e (inr p) (inl q) =
+          absurd ((no_end z c z.needs.locked i a x p.1 ia).0 (e ∙ ap (λ (t : Move). t.copy.slot) (sym q.1)))
       two i j a b x y ea eb ia ib e (inr p) (inr q) = inv.tree.moves.one_copy i j a b x y p.1 q.1 ia ib e

@@ -67,17 +67,35 @@ module _ (z : CopyStep) where
   n = slot_count k
 
   abbrev pub deletion : Deletion
-  deletion = record { who = z.who; commit = z.commit; r = z.r; p = z.p; b = z.b; d = z.d; left = z.left; right = z.right; has_commit = z.needs.has_commit; records = z.needs.records.records; marked = z.needs.marked }
+  deletion = record {
+    who = z.who;
+    commit = z.commit;
+    r = z.r;
+    p = z.p;
+    b = z.b;
+    d = z.d;
+    left = z.left;
+    right = z.right;
+    has_commit = z.needs.has_commit;
+    records = z.needs.records.records;
+    marked = z.needs.marked;
+  }
 
   is_record : IsRecord m g vs z.r
   is_record = let has = z.needs.records.records.kept in inv.readers.records id v there has.0 z.r has.1
 
   node_still : IsStillLinked m g z.r z.d
-  node_still = record { linked = (node_marked deletion).0; generation = z.needs.marked.generation; recorded = z.needs.marked.recorded; same = (let e = node_life deletion in omega arith) }
+  node_still = record {
+    linked = (node_marked deletion).0;
+    generation = z.needs.marked.generation;
+    recorded = z.needs.marked.recorded;
+    same = (let e = node_life deletion in omega arith);
+  }
 
   -- the old successor
   pub old_alive : IsAlive k m vs h inv id v there z.r z.u
-  old_alive = let e = z.needs.records.old_life in alive k m vs h inv id v there z.r z.u e.0 (kept deletion) e.1 (loaded_known (known_under v z.u) (Life z.u) (2 * e.0) e.2)
+  old_alive = let e = z.needs.records.old_life in
+      alive k m vs h inv id v there z.r z.u e.0 (kept deletion) e.1 (loaded_known (known_under v z.u) (Life z.u) (2 * e.0) e.2)
 
   old_field : (field : Field) (number : ℕ) → known_in (known_under v z.u) field ≡ Some number → m field ≡ number
   old_field field number known = alive_field k m vs h inv id v there z.r z.u (kept deletion) old_alive field number known
@@ -98,7 +116,9 @@ module _ (z : CopyStep) where
   old_young = young_locked k m vs h inv id v there (settled deletion) z.u old_lock old_alive.on
 
   on_path : OnRightLeft m z.d z.u
-  on_path = (is_record.walk z.d z.p z.b z.needs.records.records.found.0 (record { parent = z.q; slot = z.u }) z.needs.records.records.found.1 z.needs.records.walk).slot node_still (old_alive.generation, old_alive.recorded, old_alive.life)
+  on_path = (is_record.walk z.d z.p z.b z.needs.records.records.found.0
+      (record { parent = z.q; slot = z.u }) z.needs.records.records.found.1 z.needs.records.walk).slot node_still
+      (old_alive.generation, old_alive.recorded, old_alive.life)
 
   pub old_some : z.u ≢ 0
   old_some = ((reading deletion).walk (record { parent = z.q; slot = z.u }) z.needs.records.walk).0
@@ -132,7 +152,8 @@ module _ (z : CopyStep) where
   copy_some e = let q : true ≡ false = sym inv.tree.shape.root ∙ ap g.linked (sym e) ∙ copy_off in absurd (cc)
 
   -- no section has loaded the generation that the copy has
-  pub copy_unread : (j : ℕ) (w : View) (r : Reading) (generation : ℕ) → get_elem? vs j ≡ some w → IsIn (readings_of w) r → LoadedGeneration r c generation → m (Life c) / 2 ≡ generation → ⊥
+  pub copy_unread : (j : ℕ) (w : View) (r : Reading) (generation : ℕ) → get_elem? vs j ≡ some w → IsIn (readings_of w) r
+      → LoadedGeneration r c generation → m (Life c) / 2 ≡ generation → ⊥
   copy_unread j w r generation e has loaded is =
       let even = copy_even in
       let l = loaded.2 in
@@ -140,7 +161,8 @@ module _ (z : CopyStep) where
       let q : true ≡ false = sym on ∙ copy_off in absurd (cc)
 
   -- no other view has to do with the slots that are locked here
-  pub no_end : (s : ℕ) → HasLock v s → (j : ℕ) (w : View) (move : Move) → get_elem? vs j ≡ some w → w.moving ≡ Some move → (move.copy.slot ≢ s) × (move.old ≢ s) × (move.parent ≢ s)
+  pub no_end : (s : ℕ) → HasLock v s → (j : ℕ) (w : View) (move : Move) → get_elem? vs j ≡ some w → w.moving ≡ Some move
+      → (move.copy.slot ≢ s) × (move.old ≢ s) × (move.parent ≢ s)
   no_end s mine j w move e is = no_end_of k m vs h inv id v there (settled deletion) s mine j w move e is
 
   abbrev pub copy_link : CopyLink
@@ -176,7 +198,16 @@ module _ (z : CopyStep) where
   outside = lock_outside k m vs h inv id v there z.u old_alive.lock old_alive.locked
 
 -- what the step leaves, by short names
-abbrev pub copied : (z : CopyStep) → record { n : ℕ; new : Memory; to : Chart; w : View; us : List View; hs : List Mark; gone : Retired; known : Known }
+abbrev pub copied : (z : CopyStep) → record {
+  n : ℕ;
+  new : Memory;
+  to : Chart;
+  w : View;
+  us : List View;
+  hs : List Mark;
+  gone : Retired;
+  known : Known;
+}
 copied z = record {
   n = slot_count z.who.k;
   new = stored z.who.m (Link z.p z.b) z.held.slot;
@@ -205,7 +236,15 @@ module _ (z : CopyStep) where
     w = w;
     hs = hs;
     changes = changes (copy_link z);
-    same = record { places = record { place = refl; places = refl; joined = refl; met = refl }; section = refl; enter = refl; wait = refl; sections = refl; waits = refl; seen = refl };
+    same = record {
+      places = record { place = refl; places = refl; joined = refl; met = refl };
+      section = refl;
+      enter = refl;
+      wait = refl;
+      sections = refl;
+      waits = refl;
+      seen = refl;
+    };
     outside = outside z;
     records = refl;
     plain = delete_plain h (update_of z) z.d;
@@ -218,7 +257,13 @@ module _ (z : CopyStep) where
   }
 
   abbrev pub copy_retires : Retires copy_step
-  copy_retires = record { node = some_node (deletion z); at = length h + 1; here = delete_gone_here h (update_of z) z.d; retired = refl; knows = node_field (deletion z) }
+  copy_retires = record {
+    node = some_node (deletion z);
+    at = length h + 1;
+    here = delete_gone_here h (update_of z) z.d;
+    retired = refl;
+    knows = node_field (deletion z);
+  }
 
   -- the link empties no side
   pub copy_relinks : Relinks copy_step

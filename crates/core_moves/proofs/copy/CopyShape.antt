@@ -31,7 +31,8 @@ module _ (k : CopyLink) where
   pub was_linked : (s : ℕ) → to.linked s ≡ true → s ≢ c → (g.linked s ≡ true) × (s ≢ d)
   was_linked s l nc =
       let e = sym (put-other (put g.linked d false) c true s nc) ∙ l in
-      ⊎_elim (λ (w : s ≡ d). absurd (let f = put-same g.linked d false s w in cc)) (λ not. (sym (put-other g.linked d false s not) ∙ e, not)) (cases_eq s d)
+      ⊎_elim (λ (w : s ≡ d). absurd (let f = put-same g.linked d false s w in cc))
+      (λ not. (sym (put-other g.linked d false s not) ∙ e, not)) (cases_eq s d)
 
   pub still_linked : (s : ℕ) → g.linked s ≡ true → s ≢ d → to.linked s ≡ true
   still_linked s l not = put-other (put g.linked d false) c true s (not_c s l) ∙ put-other g.linked d false s not ∙ l
@@ -68,10 +69,12 @@ module _ (k : CopyLink) where
   upper = moved (m (Key d)) (m (Key u))
 
   after_stays : (s : ℕ) → g.linked s ≡ true → s ≢ d → lower (after m s) ≡ after m s
-  after_stays s l not = moved-other (m (Key d) + 1) (m (Key u) + 1) (after m s) (after_differs m n g d h at.linked k.node k.young k.single s l not)
+  after_stays s l not = moved-other (m (Key d) + 1) (m (Key u) + 1) (after m s)
+      (after_differs m n g d h at.linked k.node k.young k.single s l not)
 
   pub key_stays : (s : ℕ) → g.linked s ≡ true → s ≢ d → s ≢ 0 → upper (m (Key s)) ≡ m (Key s)
-  key_stays s l not ne = moved-other (m (Key d)) (m (Key u)) (m (Key s)) (key_differs m n g d h at.linked k.node k.young k.single s l not ne)
+  key_stays s l not ne = moved-other (m (Key d)) (m (Key u)) (m (Key s))
+      (key_differs m n g d h at.linked k.node k.young k.single s l not ne)
 
   low_stays : moved (m (Key d) + 1) (m (Key u) + 1) (g.low d) ≡ g.low d
   low_stays = moved-other (m (Key d) + 1) (m (Key u) + 1) (g.low d) (λ e. omega (arith, e, keyed.low))
@@ -113,7 +116,14 @@ module _ (k : CopyLink) where
 
   below_low : (x : ℕ) (a : Side) → g.low x ≡ low_of m g d a → moved (m (Key d) + 1) (m (Key u) + 1) (g.low x) ≡ low_of new to c a
   below_low x Left e = ap (moved (m (Key d) + 1) (m (Key u) + 1)) e ∙ low_stays ∙ sym c_low
-  below_low x Right e = omega (arith, e, after-node m d k.node, after-node new c k.some, c_key, moved_tells (m (Key d) + 1) (m (Key u) + 1) (g.low x))
+  below_low x Right e = omega (
+    arith,
+    e,
+    after-node m d k.node,
+    after-node new c k.some,
+    c_key,
+    moved_tells (m (Key d) + 1) (m (Key u) + 1) (g.low x),
+  )
 
   below_high : (x : ℕ) (a : Side) → g.high x ≡ high_of m g d a → moved (m (Key d)) (m (Key u)) (g.high x) ≡ high_of new to c a
   below_high x Left e = omega (arith, e, c_key, moved_tells (m (Key d)) (m (Key u)) (g.high x))
@@ -133,7 +143,8 @@ module _ (k : CopyLink) where
       }
 
   below_hangs : (x : ℕ) → x ≢ c → Hangs m g x → g.up x ≡ d → Hangs new to x
-  below_hangs x nc was e = hangs_at new to x c (g.side x) (up_is x nc ∙ moved-same d c (g.up x) e) (side_is x nc) c_linked (copy_links (g.side x) ∙ ap (λ y. m (Link y (g.side x))) (sym e) ∙ was.link)
+  below_hangs x nc was e = hangs_at new to x c (g.side x) (up_is x nc ∙ moved-same d c (g.up x) e) (side_is x nc) c_linked
+      (copy_links (g.side x) ∙ ap (λ y. m (Link y (g.side x))) (sym e) ∙ was.link)
 
   -- the successor
   next_not_root : u ≢ 0
@@ -147,7 +158,10 @@ module _ (k : CopyLink) where
 
   -- a search for what lies between the keys ends at the successor
   pub ends_at_next : (x : ℕ) → m (Key d) < x → x ≤ m (Key u) → IsInRange g x u × (next m x u ≡ 0)
-  ends_at_next x lo hi = (record { linked = k.next_on; low = omega (arith, k.next_low); high = omega (arith, next_keyed.high) }, stops (cases_eq x (m (Key u))))
+  ends_at_next x lo hi = (
+    record { linked = k.next_on; low = omega (arith, k.next_low); high = omega (arith, next_keyed.high) },
+    stops (cases_eq x (m (Key u))),
+  )
     where
       stops : (x ≡ m (Key u)) ⊎ (x ≢ m (Key u)) → next m x u ≡ 0
       stops (inl e) = next-here m x u next_not_root (sym e)
@@ -158,7 +172,8 @@ module _ (k : CopyLink) where
   none_between s l ne o lo hi =
       let i = h.keyed s l ne o in
       let w = ends_at_next (m (Key s)) lo hi in
-      one_end m n g (m (Key s)) s u h (key_bound m n g s h l ne o) (record { linked = l; low = i.low; high = i.high }) (next-here m (m (Key s)) s ne refl) w.0 w.1
+      one_end m n g (m (Key s)) s u h (key_bound m n g s h l ne o) (record { linked = l; low = i.low; high = i.high })
+      (next-here m (m (Key s)) s ne refl) w.0 w.1
 
   -- what begins above d's key lies below d's right
   ends_below : (fuel s : ℕ) → g.rank s < fuel → g.linked s ≡ true → g.low s ≡ m (Key d) + 1 → g.high s ≤ g.high d
@@ -169,9 +184,11 @@ module _ (k : CopyLink) where
       let w = h.below (g.up s) s (g.side s) a.above a.link nz in
       up_one (g.up s) s (g.side s) a.above (λ z. nz (sym a.link ∙ z)) w e (λ v. ends_below fuel (g.up s) (omega (arith, w.rank)) a.above v)
     where
-      up_one : (q s : ℕ) (a : Side) → g.linked q ≡ true → m (Link q a) ≢ 0 → IsBelow m g q a s → g.low s ≡ m (Key d) + 1 → (g.low q ≡ m (Key d) + 1 → g.high q ≤ g.high d) → g.high s ≤ g.high d
+      up_one : (q s : ℕ) (a : Side) → g.linked q ≡ true → m (Link q a) ≢ 0 → IsBelow m g q a s → g.low s ≡ m (Key d) + 1
+          → (g.low q ≡ m (Key d) + 1 → g.high q ≤ g.high d) → g.high s ≤ g.high d
       up_one q s Left l ne w e ih = omega (arith, w.high, high_within m n g q Left h l ne, ih (sym w.low ∙ e))
-      up_one q s Right l ne w e ih = ⊎_elim (λ (z : q ≡ d). omega (arith, w.high, ap g.high z)) (λ z. absurd (after_differs m n g d h at.linked k.node k.young k.single q l z (sym w.low ∙ e))) (cases_eq q d)
+      up_one q s Right l ne w e ih = ⊎_elim (λ (z : q ≡ d). omega (arith, w.high, ap g.high z))
+          (λ z. absurd (after_differs m n g d h at.linked k.node k.young k.single q l z (sym w.low ∙ e))) (cases_eq q d)
 
   pub was_old : (s : ℕ) → g.linked s ≡ true → s ≢ u → to.old s ≡ g.old s
   was_old s l ne = put-other (put g.old c false) u true s ne ∙ put-other g.old c false s (not_c s l)
@@ -180,7 +197,10 @@ module _ (k : CopyLink) where
   c_young = put-other (put g.old c false) u true c (λ e. not_c u k.next_on (sym e)) ∙ put-same g.old c false c refl
 
   copy_keyed : IsKeyed new to c
-  copy_keyed = record { low = omega (arith, c_low, c_key, keyed.low, k.next_low, next_keyed.low); high = omega (arith, c_high, c_key, next_keyed.high, ends_below (suc (g.rank u)) u (omega arith) k.next_on k.next_low) }
+  copy_keyed = record {
+    low = omega (arith, c_low, c_key, keyed.low, k.next_low, next_keyed.low);
+    high = omega (arith, c_high, c_key, next_keyed.high, ends_below (suc (g.rank u)) u (omega arith) k.next_on k.next_low);
+  }
 
   next_is_old : (s : ℕ) → to.old s ≡ false → s ≢ u
   next_is_old s o e = let f = put-same (put g.old c false) u true s e in cc
@@ -208,12 +228,23 @@ module _ (k : CopyLink) where
       let nc = not_c u k.next_on in
       record {
         low = omega (arith, low_is u nc, k.next_low, moved_tells (m (Key d) + 1) (m (Key u) + 1) (g.low u));
-        high = omega (arith, low_is u nc, high_is u nc, k.next_low, next_keyed.low, next_keyed.high, moved_tells (m (Key d) + 1) (m (Key u) + 1) (g.low u), moved_tells (m (Key d)) (m (Key u)) (g.high u));
-        left = stores.link u Left (λ i j. k.node (sym k.link ∙ ap (λ (y : Side). m (Link p y)) (sym j) ∙ ap (λ y. m (Link y Left)) (sym i) ∙ k.next_left)) ∙ k.next_left;
+        high = omega (
+          arith,
+          low_is u nc,
+          high_is u nc,
+          k.next_low,
+          next_keyed.low,
+          next_keyed.high,
+          moved_tells (m (Key d) + 1) (m (Key u) + 1) (g.low u),
+          moved_tells (m (Key d)) (m (Key u)) (g.high u),
+        );
+        left = stores.link u Left (λ i j. k.node (sym k.link ∙ ap (λ (y : Side). m (Link p y)) (sym j) ∙ ap (λ y. m (Link y Left)) (sym i)
+            ∙ k.next_left)) ∙ k.next_left;
       }
 
   newly_old : (s : ℕ) → g.linked s ≡ true → g.old s ≡ false → to.old s ≡ true → IsDisplaced new to s
-  newly_old s l young o = ⊎_elim (λ (e : s ≡ u). subst (IsDisplaced new to) (sym e) next_displaced) (λ ne. absurd (let f = was_old s l ne in cc)) (cases_eq s u)
+  newly_old s l young o = ⊎_elim (λ (e : s ≡ u). subst (IsDisplaced new to) (sym e) next_displaced)
+      (λ ne. absurd (let f = was_old s l ne in cc)) (cases_eq s u)
 
   pub changes : ChangesChart m new n g to p b d c lower upper
   changes = record {
@@ -225,7 +256,10 @@ module _ (k : CopyLink) where
     stays = λ s l some_slot. still_linked s l (λ e. k.node (sym e ∙ some_slot e));
     comes = λ s t off. ⊎_elim (λ (e : s ≡ c). e) (λ nc. absurd (let l = (was_linked s t nc).0 in cc)) (cases_eq s c);
     rank = λ s on. rank_is s (λ e. (let l = on e in let f = k.fresh in cc));
-    place = λ s l up nz. (let nc = not_c s l in (up_is s nc ∙ moved-other d c (g.up s) (λ e. up_not (g.up s) l up e (h.hangs s l nz).above), side_is s nc));
+    place = λ s l up nz. (let nc = not_c s l in (
+      up_is s nc ∙ moved-other d c (g.up s) (λ e. up_not (g.up s) l up e (h.hangs s l nz).above),
+      side_is s nc,
+    ));
     low = λ s l. low_is s (not_c s l);
     high = λ s l. high_is s (not_c s l);
     after_stays = λ s l t. after_stays s l (was_linked s t (not_c s l)).1;
@@ -249,21 +283,32 @@ module _ (k : CopyLink) where
   pub copy_map : (map : ℕ → Option ℕ) → HoldsMap m g map → HoldsMap new to (put map (m (Key d)) None)
   copy_map map q =
       map_after m new n g to p b d c lower upper h changes map (put map (m (Key d)) None) q
-      (λ s l t ne o. put-other map (m (Key d)) None (m (Key s)) (key_differs m n g d h at.linked k.node k.young k.single s l (was_linked s t (not_c s l)).1 ne))
-      (λ _. ap (put map (m (Key d)) None) k.key ∙ put-other map (m (Key d)) None (m (Key u)) (λ e. omega (arith, e, k.next_low, next_keyed.low)) ∙ q.sound u k.next_on next_not_root k.next_young ∙ ap Some (sym k.value))
+      (λ s l t ne o. put-other map (m (Key d)) None (m (Key s))
+      (key_differs m n g d h at.linked k.node k.young k.single s l (was_linked s t (not_c s l)).1 ne))
+      (λ _. ap (put map (m (Key d)) None) k.key ∙ put-other map (m (Key d)) None (m (Key u))
+      (λ e. omega (arith, e, k.next_low, next_keyed.low)) ∙ q.sound u k.next_on next_not_root k.next_young ∙ ap Some (sym k.value))
       complete
     where
-      complete : (x v : ℕ) → put map (m (Key d)) None x ≡ Some v → (s : ℕ) × (to.linked s ≡ true) × (s ≢ 0) × (to.old s ≡ false) × (m (Key s) ≡ x) × (m (Value s) ≡ v)
+      complete : (x v : ℕ) → put map (m (Key d)) None x ≡ Some v
+          → (s : ℕ) × (to.linked s ≡ true) × (s ≢ 0) × (to.old s ≡ false) × (m (Key s) ≡ x) × (m (Value s) ≡ v)
       complete x v e =
           let w = pair_else m n g d h at.linked k.node k.young k.single map q x v e in
           ⊎_elim
-          (λ (i : w.0 ≡ u). (c, c_linked, k.some, c_young, k.key ∙ ap (λ y. m (Key y)) (sym i) ∙ w.5, k.value ∙ ap (λ y. m (Value y)) (sym i) ∙ w.6))
+          (λ (i : w.0 ≡ u). (
+            c,
+            c_linked,
+            k.some,
+            c_young,
+            k.key ∙ ap (λ y. m (Key y)) (sym i) ∙ w.5,
+            k.value ∙ ap (λ y. m (Value y)) (sym i) ∙ w.6,
+          ))
           (λ i. (w.0, still_linked w.0 w.1 w.2, w.3, was_old w.0 w.1 i ∙ w.4, w.5, w.6))
           (cases_eq w.0 u)
 
   -- a bound passes nothing, but for what lies between the two keys
   pub low_in : (x low : ℕ) → (m (Key d) < x → x ≤ m (Key u) → low ≢ m (Key d) + 1) → low ≤ x → lower low ≤ x
   low_in x low out le = ⊎_elim
-      (λ (e : low ≡ m (Key d) + 1). ⊎_elim (λ (lt : m (Key u) < x). omega (arith, moved_tells (m (Key d) + 1) (m (Key u) + 1) low)) (λ le'. absurd (out (omega (arith, e, le)) le' e)) (cases_lt (m (Key u)) x))
+      (λ (e : low ≡ m (Key d) + 1). ⊎_elim (λ (lt : m (Key u) < x). omega (arith, moved_tells (m (Key d) + 1) (m (Key u) + 1) low))
+      (λ le'. absurd (out (omega (arith, e, le)) le' e)) (cases_lt (m (Key u)) x))
       (λ ne. omega (arith, le, moved_tells (m (Key d) + 1) (m (Key u) + 1) low))
       (cases_eq low (m (Key d) + 1))

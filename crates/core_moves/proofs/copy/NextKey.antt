@@ -28,12 +28,14 @@ module _ (z : CopyStep) where
   open z use {who.{m, h, inv, inv.{chart as g}}, r, u, next_key}
 
   above : r.key < next_key
-  above = let low = (next_keyed (copy_link z)).low in let base = old_low z in let key = node_key (deletion z) in let last = old_key z in omega arith
+  above = let low = (next_keyed (copy_link z)).low in let base = old_low z in let key = node_key (deletion z) in let last = old_key z in
+      omega arith
 
   there : map_now h next_key ≡ Some (m (Value u))
   there =
       let c = copy_link z in
-      let some : u ≢ 0 = (λ e. let none = ap g.low e in let root = inv.tree.shape.root_low in let base = old_low z in absurd (omega arith)) in
+      let some : u ≢ 0 = (λ e. let none = ap g.low e in let root = inv.tree.shape.root_low in let base = old_low z in
+      absurd (omega arith)) in
       ap (map_now h) (sym (old_key z)) ∙ inv.tree.map.sound u c.next_on some c.next_young
 
   -- no key stands between: it would be the copied slot's

@@ -32,7 +32,8 @@ LastStands s i h p = (j : ℕ) × (p ≡ i + j) × (get_elem? h j ≡ some (Unli
 last_step : (s i : ℕ) (m : Mark) (h : List Mark) (p : ℕ) → LastStands s (i + 1) h p → LastStands s i (m ∷ h) p
 last_step s i m h p l = (suc l.0, (let e = l.1 in omega arith), l.2)
 
-last_more : (s i : ℕ) (g : Option ℕ) (m : Mark) (h : List Mark) (p : ℕ) → (g ≡ Some p) ⊎ LastStands s (i + 1) h p → (g ≡ Some p) ⊎ LastStands s i (m ∷ h) p
+last_more : (s i : ℕ) (g : Option ℕ) (m : Mark) (h : List Mark) (p : ℕ) → (g ≡ Some p) ⊎ LastStands s (i + 1) h p
+    → (g ≡ Some p) ⊎ LastStands s i (m ∷ h) p
 last_more s i g m h p (inl e) = inl e
 last_more s i g m h p (inr l) = inr (last_step s i m h p l)
 
@@ -95,7 +96,8 @@ module _ (given : Bool) (s : ℕ) (h : List Mark) where
   used_longer j a e = at_longer h (used_mark given s ∷ []) j a e
 
   pub used_done : (j : ℕ) (u : Update) → get_elem? hs j ≡ some (Done u) → get_elem? h j ≡ some (Done u)
-  used_done j u e = ⊎_elim (λ (o : get_elem? h j ≡ some (Done u)). o) (λ (x : (j ≡ length h) × (used_mark given s ≡ Done u)). absurd (no_update x.1)) (at_end h (used_mark given s) (Done u) j e)
+  used_done j u e = ⊎_elim (λ (o : get_elem? h j ≡ some (Done u)). o)
+      (λ (x : (j ≡ length h) × (used_mark given s ≡ Done u)). absurd (no_update x.1)) (at_end h (used_mark given s) (Done u) j e)
     where
       no_update : used_mark given s ≡ Done u → ⊥
       no_update = elim given as (λ b. used_mark b s ≡ Done u → ⊥) [ true ↦ λ e. absurd (cc) | false ↦ λ e. absurd (cc) ]
@@ -143,11 +145,13 @@ module _ (given : Bool) (s : ℕ) (h : List Mark) where
       (at_end h (used_mark given s) a j at)
 
 -- Where no section is open that was entered before a slot was unlinked last, each open one was entered after it.
-pub entered_later : (k : Shape) (m : Memory) (vs : List View) (h : List Mark) → HoldsNow k m vs h → (s a p : ℕ) (o : Open) → IsClear vs a 0 greatest_key → last_unlinked s h ≡ Some a → open_at p h ≡ Some o → a < o.at
+pub entered_later : (k : Shape) (m : Memory) (vs : List View) (h : List Mark) → HoldsNow k m vs h → (s a p : ℕ) (o : Open)
+    → IsClear vs a 0 greatest_key → last_unlinked s h ≡ Some a → open_at p h ≡ Some o → a < o.at
 entered_later k m vs h i s a p o clear last now =
     let x = i.seats.opened p o now in
     let at = ap (λ (z : Open). z.at) x.same in
     let fits = (i.seats.sections x.id x.view x.there x.section x.inside).key_fits in
     let ne = entered_apart p s a h o now last in
     dite (dec_le (suc a) o.at) (λ late. late)
-    (λ early. dite (ℕ_discrete o.at a) (λ e. absurd (ne e)) (λ n. absurd (clear x.id x.view x.section x.there x.inside (omega arith) (omega arith) (omega arith))))
+    (λ early. dite (ℕ_discrete o.at a) (λ e. absurd (ne e))
+    (λ n. absurd (clear x.id x.view x.section x.there x.inside (omega arith) (omega arith) (omega arith))))

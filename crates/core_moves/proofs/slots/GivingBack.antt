@@ -28,7 +28,8 @@ use Rattle.core_moves.proofs.slots.OffStep.{no_others}
 use Rattle.core_frames.proofs.views.Roles.{own_off}
 use Rattle.core_tree.proofs.stores.Stores.{stores_in, held_beside}
 
-module _ (k : Shape) (m : Memory) (vs : List View) (h : List Mark) (id : ℕ) (v : View) (inv : HoldsNow k m vs h) (there : get_elem? vs id ≡ some v) (works : Works v) (slot : ℕ) (small : slot < slot_count k)
+module _ (k : Shape) (m : Memory) (vs : List View) (h : List Mark) (id : ℕ) (v : View) (inv : HoldsNow k m vs h)
+    (there : get_elem? vs id ≡ some v) (works : Works v) (slot : ℕ) (small : slot < slot_count k)
     (place : ℕ) (r : Retired) (needs : NeedsFreeRetired v place r slot) where
   abbrev n : ℕ
   n = slot_count k
@@ -49,13 +50,15 @@ module _ (k : Shape) (m : Memory) (vs : List View) (h : List Mark) (id : ℕ) (v
   gone_then = ap (λ s. gone_at s h) (sym needs.retired.1) ∙ is.unlinked
 
   -- the slot's one role is that of this retired one
-  stands_once : (flag (m (State slot) == 0) ≡ 0) × (flag (inv.chart.linked slot) ≡ 0) × (times slot (held_list v.hands.hand) ≡ 0) × (times slot (spares_of v) ≡ 0) × (times slot (slots_in v.hands.retired) ≡ 1) × (times slot (slots_in joined) ≡ 0)
+  stands_once : (flag (m (State slot) == 0) ≡ 0) × (flag (inv.chart.linked slot) ≡ 0) × (times slot (held_list v.hands.hand) ≡ 0)
+      × (times slot (spares_of v) ≡ 0) × (times slot (slots_in v.hands.retired) ≡ 1) × (times slot (slots_in joined) ≡ 0)
   stands_once =
       let a = inv.slots.roles.once slot small in
       let p = total_part (λ (u : View). times slot (slots_of u)) vs id v there in
       let b = slots_count v slot in
       let c = retired_count v slot in
-      let d = subst (λ s. 1 ≤ times s (slots_in v.hands.retired)) needs.retired.1 (times_in (λ (x : Retired). x.slot) v.hands.retired r mine) in
+      let d = subst (λ s. 1 ≤ times s (slots_in v.hands.retired)) needs.retired.1
+      (times_in (λ (x : Retired). x.slot) v.hands.retired r mine) in
       (omega arith, omega arith, omega arith, omega arith, omega arith, omega arith)
 
   among : 1 ≤ times slot (slots_of v)
@@ -65,7 +68,8 @@ module _ (k : Shape) (m : Memory) (vs : List View) (h : List Mark) (id : ℕ) (v
   clear a last =
       let q : Some r.unlinked ≡ Some a = sym (last_gone slot h r.unlinked gone_then) ∙ last in
       let same : r.unlinked ≡ a = cc in
-      subst (λ x. IsClear vs x 0 greatest_key) same ((inv.grace.retired id v there place r needs.retired.0).clear (is.after_wait needs.raised))
+      subst (λ x. IsClear vs x 0 greatest_key) same
+      ((inv.grace.retired id v there place r needs.retired.0).clear (is.after_wait needs.raised))
 
   -- a retired slot whose generation wasn't raised is another
   unraised_else : (x : Retired) → IsIn v.hands.retired x → x.raised ≡ false → x.slot ≢ slot
@@ -75,7 +79,8 @@ module _ (k : Shape) (m : Memory) (vs : List View) (h : List Mark) (id : ℕ) (v
       absurd (let f : false ≡ true = sym unraised ∙ ap (λ (y : Retired). y.raised) q ∙ needs.raised in cc)
 
   joined_else : (x : Retired) → IsIn joined x → x.slot ≢ slot
-  joined_else x has same = let a = times_in (λ (y : Retired). y.slot) joined x has in let b = ap (λ s. times s (slots_in joined)) same in let c = stands_once.5 in absurd (omega arith)
+  joined_else x has same = let a = times_in (λ (y : Retired). y.slot) joined x has in let b = ap (λ s. times s (slots_in joined)) same in
+      let c = stands_once.5 in absurd (omega arith)
 
   abbrev step : StateStep k m vs h id v inv there works
   step = record {
@@ -93,25 +98,41 @@ module _ (k : Shape) (m : Memory) (vs : List View) (h : List Mark) (id : ℕ) (v
 
   pub frees_retired : IsKept k m h (stored m (State slot) 0) (set vs id w) (h ++ Freed slot ∷ [])
   frees_retired = restated k m vs h id v inv there works step (record {
-    unraised = λ t y. ((λ e. unraised_else y.0 y.1 y.3 (y.2 ∙ e)), (y.0, without_in slot v.hands.retired y.0 y.1 (unraised_else y.0 y.1 y.3), y.2, y.3));
-    role = (let a = slots_count w slot in let b = slots_count v slot in let c = retired_count w slot in let d = retired_count v slot in let e = without_none slot v.hands.retired in
-        let f0 = stands_once.0 in let f2 = stands_once.2 in let f3 = stands_once.3 in let f4 = stands_once.4 in let f5 = stands_once.5 in omega arith);
-    roles = λ t ne. (let a = slots_count w t in let b = slots_count v t in let c = retired_count w t in let d = retired_count v t in let e = without_else slot t ne v.hands.retired in omega arith);
+    unraised = λ t y. (
+      (λ e. unraised_else y.0 y.1 y.3 (y.2 ∙ e)),
+      (y.0, without_in slot v.hands.retired y.0 y.1 (unraised_else y.0 y.1 y.3), y.2, y.3),
+    );
+    role = (let a = slots_count w slot in let b = slots_count v slot in let c = retired_count w slot in let d = retired_count v slot in
+        let e = without_none slot v.hands.retired in
+        let f0 = stands_once.0 in let f2 = stands_once.2 in let f3 = stands_once.3 in let f4 = stands_once.4 in let f5 = stands_once.5 in
+        omega arith);
+    roles = λ t ne. (let a = slots_count w t in let b = slots_count v t in let c = retired_count w t in let d = retired_count v t in
+        let e = without_else slot t ne v.hands.retired in omega arith);
     few = (let f = inv.slots.few id v there in let l = without_length slot v.hands.retired in record {
       one = f.one;
       few = (let a = f.few in omega arith);
       room = λ move has. (let a = f.room move has in omega arith);
       joined = f.joined;
       joined_spare = f.joined_spare;
-      next_spare = λ has none. (let x = f.next_spare has none in (x.0, without_in slot v.hands.retired x.0 x.1 (unraised_else x.0 x.1 x.2), x.2));
+      next_spare = λ has none. (let x = f.next_spare has none in
+          (x.0, without_in slot v.hands.retired x.0 x.1 (unraised_else x.0 x.1 x.2), x.2));
     });
     known = state_hands k m vs h id v inv there works step w refl refl refl stands_once.3
-        (λ held is_held. (let i = (inv.slots.hands id v there).hand held is_held in
-        (held_beside m (stored m (State slot) 0) slot (stores_in m slot (State slot) 0 refl) held (λ same. (let a = held_there v.hands.hand held is_held in let b = ap (λ s. times s (held_list v.hands.hand)) same in let c = stands_once.2 in omega arith)) i.0, i.1)));
-    retired = λ x has. ⊎_elim (λ (o : IsIn (without_retired slot v.hands.retired) x). (let q = in_without slot v.hands.retired x o in (q.1, in_first v.hands.retired joined x q.0)))
-        (λ (o : IsIn joined x). (joined_else x o, in_second v.hands.retired joined x o)) (in_append (without_retired slot v.hands.retired) joined x has);
-    kept = λ x has ne. ⊎_elim (λ (o : IsIn v.hands.retired x). in_first (without_retired slot v.hands.retired) joined x (without_in slot v.hands.retired x o ne)) (λ (o : IsIn joined x). in_second (without_retired slot v.hands.retired) joined x o) (in_append v.hands.retired joined x has);
+        (λ held is_held. (let i = (inv.slots.hands id v there).hand held is_held in (
+          held_beside m (stored m (State slot) 0) slot (stores_in m slot (State slot) 0 refl) held
+              (λ same. (let a = held_there v.hands.hand held is_held in let b = ap (λ s. times s (held_list v.hands.hand)) same in
+              let c = stands_once.2 in omega arith)) i.0,
+          i.1,
+        )));
+    retired = λ x has. ⊎_elim (λ (o : IsIn (without_retired slot v.hands.retired) x). (let q = in_without slot v.hands.retired x o in
+        (q.1, in_first v.hands.retired joined x q.0)))
+        (λ (o : IsIn joined x). (joined_else x o, in_second v.hands.retired joined x o))
+        (in_append (without_retired slot v.hands.retired) joined x has);
+    kept = λ x has ne. ⊎_elim (λ (o : IsIn v.hands.retired x). in_first (without_retired slot v.hands.retired) joined x
+        (without_in slot v.hands.retired x o ne)) (λ (o : IsIn joined x). in_second (without_retired slot v.hands.retired) joined x o)
+        (in_append v.hands.retired joined x has);
     came = λ x has. (in_without slot v.hands.retired x has).0;
     counted = (let a = ap flag needs.paid in let b = stands_once.0 in omega arith);
-    raised = (let a = unraised_append (without_retired slot v.hands.retired) joined in let b = unraised_append v.hands.retired joined in let c = without_raised slot v.hands.retired in omega arith);
+    raised = (let a = unraised_append (without_retired slot v.hands.retired) joined in let b = unraised_append v.hands.retired joined in
+        let c = without_raised slot v.hands.retired in omega arith);
   })

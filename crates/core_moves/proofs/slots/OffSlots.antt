@@ -54,17 +54,22 @@ module _ (z : OffStep) where
     after_wait = i.after_wait;
   }
 
-  pub copy_away : (j : ℕ) (u : View) → get_elem? vs j ≡ some u → (move : Move) → u.moving ≡ Some move → IsHeldKnown m' move.copy × IsEven (m' (Life move.copy.slot))
+  pub copy_away : (j : ℕ) (u : View) → get_elem? vs j ≡ some u → (move : Move) → u.moving ≡ Some move
+      → IsHeldKnown m' move.copy × IsEven (m' (Life move.copy.slot))
   copy_away j u e move q =
       let a = (z.who.inv.slots.hands j u e).copy move q in
       let ne = on_apart z move.copy.slot (z.who.inv.tree.moves.each j u e move q).copy_linked in
       (held_away move.copy ne a.0, even_away move.copy.slot ne a.1)
 
   -- of a view that has the slot neither in hand nor as a spare
-  pub hands_away : (j : ℕ) (u : View) → get_elem? vs j ≡ some u → times s (held_list u.hands.hand) + times s (spares_of u) ≡ 0 → AreHandsKnown m' u
+  pub hands_away : (j : ℕ) (u : View) → get_elem? vs j ≡ some u → times s (held_list u.hands.hand) + times s (spares_of u) ≡ 0
+      → AreHandsKnown m' u
   hands_away j u e none = let i = z.who.inv.slots.hands j u e in record {
-    hand = λ held q. (let far : held.slot ≢ s = (λ same. (let a = held_there u.hands.hand held q in let b = ap (λ x. times x (held_list u.hands.hand)) same in absurd (omega arith))) in let a = i.hand held q in (held_away held far a.0, even_away held.slot far a.1));
-    spare = λ held q. held_away held (λ same. (let a = spare_among u held q in let b = ap (λ x. times x (spares_of u)) same in absurd (omega arith))) (i.spare held q);
+    hand = λ held q. (let far : held.slot ≢ s = (λ same. (let a = held_there u.hands.hand held q in
+        let b = ap (λ x. times x (held_list u.hands.hand)) same in absurd (omega arith))) in let a = i.hand held q in
+        (held_away held far a.0, even_away held.slot far a.1));
+    spare = λ held q. held_away held (λ same. (let a = spare_among u held q in let b = ap (λ x. times x (spares_of u)) same in
+        absurd (omega arith))) (i.spare held q);
     copy = λ move q. copy_away j u e move q;
     spares = λ t has. even_away t (λ same. (let b = ap (λ x. times x (spares_of u)) same in absurd (omega arith))) (i.spares t has);
   }
@@ -78,7 +83,8 @@ module _ (z : OffStep) where
     pub few : HasFewSlots w
     pub hands : AreHandsKnown m' w
     pub retired : Each (retired_of w) (IsRetired m' hs)
-    pub unlinked : (t p : ℕ) → gone_at t hs ≡ Some p → (r : Retired) → IsIn (retired_of v) r → r.slot ≡ t → (x : Retired) × IsIn (retired_of w) x × (x.slot ≡ t)
+    pub unlinked : (t p : ℕ) → gone_at t hs ≡ Some p → (r : Retired) → IsIn (retired_of v) r → r.slot ≡ t
+        → (x : Retired) × IsIn (retired_of w) x × (x.slot ≡ t)
 
   module _ (c : OwnSlots) where
     pub once_now : (t : ℕ) → t < n → roles_of m' g us t ≡ 1
@@ -100,15 +106,20 @@ module _ (z : OffStep) where
     slots_now = let t = z.who.inv.slots in record {
       roles = record {
         once = once_now;
-        beyond = λ x far. (let sum = total_set (λ (u : View). times x (slots_of u)) vs id v w z.who.there in let before = t.roles.beyond x far in let lt = z.below in let r = c.roles x (λ e. omega arith) in omega arith);
-        states = λ x lt. ⊎_elim (λ (on : x ≡ s). subst (λ y. m' (State y) ≤ 1) (sym on) c.low) (λ ne. subst (λ y. y ≤ 1) (sym (z.stores.away x (State x) ne refl)) (t.roles.states x lt)) (cases_eq x s);
+        beyond = λ x far. (let sum = total_set (λ (u : View). times x (slots_of u)) vs id v w z.who.there in
+            let before = t.roles.beyond x far in let lt = z.below in let r = c.roles x (λ e. omega arith) in omega arith);
+        states = λ x lt. ⊎_elim (λ (on : x ≡ s). subst (λ y. m' (State y) ≤ 1) (sym on) c.low)
+            (λ ne. subst (λ y. y ≤ 1) (sym (z.stores.away x (State x) ne refl)) (t.roles.states x lt)) (cases_eq x s);
       };
       few = each_set (λ j u. HasFewSlots u) vs id w c.few (λ j u ne e. t.few j u e);
-      free = λ x lt e. ⊎_elim (λ (on : x ≡ s). subst (λ y. IsEven (m' (Life y))) (sym on) (c.even (ap (λ y. m' (State y)) (sym on) ∙ e))) (λ ne. even_away x ne (t.free x lt (sym (z.stores.away x (State x) ne refl) ∙ e))) (cases_eq x s);
+      free = λ x lt e. ⊎_elim (λ (on : x ≡ s). subst (λ y. IsEven (m' (Life y))) (sym on) (c.even (ap (λ y. m' (State y)) (sym on) ∙ e)))
+          (λ ne. even_away x ne (t.free x lt (sym (z.stores.away x (State x) ne refl) ∙ e))) (cases_eq x s);
       root = life_away z 0 (on_apart z 0 z.who.inv.tree.shape.root) ∙ t.root;
-      hands = each_set (λ j u. AreHandsKnown m' u) vs id w c.hands (λ j u ne e. hands_away j u e (let none = z.others j u ne e in let a = slots_count u s in omega arith));
+      hands = each_set (λ j u. AreHandsKnown m' u) vs id w c.hands
+          (λ j u ne e. hands_away j u e (let none = z.others j u ne e in let a = slots_count u s in omega arith));
       retired = each_set (λ j u. Each (retired_of u) (IsRetired m' hs)) vs id w c.retired
-          (λ j u ne e i r f. retired_away r (λ same. (let none = z.others j u ne e in let one = retired_own u r (i, f) in let a = ap (λ x. times x (slots_of u)) same in absurd (omega arith))) (t.retired j u e i r f));
+          (λ j u ne e i r f. retired_away r (λ same. (let none = z.others j u ne e in let one = retired_own u r (i, f) in
+          let a = ap (λ x. times x (slots_of u)) same in absurd (omega arith))) (t.retired j u e i r f));
       unlinked = λ x p gone. unlinked_now x p gone (t.unlinked x p (z.marks.back x p gone));
     }
       where
@@ -118,7 +129,14 @@ module _ (z : OffStep) where
             (let it : r.view ≡ v = some-injective r.view v (sym r.there ∙ subst (λ j. get_elem? vs j ≡ some v) (sym same) z.who.there) in
             let x = c.unlinked t p gone r.retired (subst (λ (u : View). IsIn (retired_of u) r.retired) it r.has) r.slot in
             record { id = id; view = w; retired = x.0; there = set_here vs id w (at_below vs id v z.who.there); has = x.1; slot = x.2 }))
-            (λ other. record { id = r.id; view = r.view; retired = r.retired; there = set_else vs id r.id w other ∙ r.there; has = r.has; slot = r.slot })
+            (λ other. record {
+              id = r.id;
+              view = r.view;
+              retired = r.retired;
+              there = set_else vs id r.id w other ∙ r.there;
+              has = r.has;
+              slot = r.slot;
+            })
 
     -- the invariant, with the parts on counts and grace, and those that speak of no slot
     pub off_law : OuterParts z.who.k m' us hs → CountParts z.who.k.tickets m' n g us hs → GraceParts us hs → HoldsNow z.who.k m' us hs

@@ -78,7 +78,8 @@ module _ (z : RaiseStep) where
   odd = is.marked z.needs.unraised
 
   here : m' (Life s) ≡ m (Life s) + 1
-  here = stored_here m (Life s) number ∙ (let a = is.life z.life z.needs.unraised z.needs.loaded in let b = odd in let c = z.needs.next in omega arith)
+  here = stored_here m (Life s) number ∙ (let a = is.life z.life z.needs.unraised z.needs.loaded in let b = odd in let c = z.needs.next in
+      omega arith)
 
   among : 1 ≤ times s (slots_of v)
   among = retired_own v z.r whole
@@ -90,7 +91,8 @@ module _ (z : RaiseStep) where
   stores = stores_in m s (Life s) number refl
 
   -- the slot stands once among the view's, as a retired one
-  one_role : (times s (held_list v.hands.hand) ≡ 0) × (times s (spares_of v) ≡ 0) × (times s (slots_in v.hands.retired) ≡ 1) × (times s (slots_in (joined_retired v.allowance.joined)) ≡ 0)
+  one_role : (times s (held_list v.hands.hand) ≡ 0) × (times s (spares_of v) ≡ 0) × (times s (slots_in v.hands.retired) ≡ 1)
+      × (times s (slots_in (joined_retired v.allowance.joined)) ≡ 0)
   one_role =
       let a = own_once m n inv.chart vs h inv.slots id v there s in
       let b = slots_count v s in
@@ -99,17 +101,20 @@ module _ (z : RaiseStep) where
       (omega arith, omega arith, omega arith, omega arith)
 
   joined_apart : (y : Retired) → IsIn (joined_retired v.allowance.joined) y → y.slot ≢ s
-  joined_apart y has same = let a = times_in (λ (x : Retired). x.slot) (joined_retired v.allowance.joined) y has in let b = one_role.3 in let c = ap (λ x. times x (slots_in (joined_retired v.allowance.joined))) same in omega arith
+  joined_apart y has same = let a = times_in (λ (x : Retired). x.slot) (joined_retired v.allowance.joined) y has in let b = one_role.3 in
+      let c = ap (λ x. times x (slots_in (joined_retired v.allowance.joined))) same in omega arith
 
   lives_more : generations_in m' n ≡ generations_in m n + 1
   lives_more = sum_one_more (λ t. m (Life t) / 2) (λ t. m' (Life t) / 2) s n below (λ t. ⊎_elim
-      (λ (e : t ≡ s). (let a = ap (λ x. m' (Life x)) e in let b = ap (λ x. m (Life x)) e in let c = in_one t s e in let d = here in let o = odd in omega arith))
+      (λ (e : t ≡ s). (let a = ap (λ x. m' (Life x)) e in let b = ap (λ x. m (Life x)) e in let c = in_one t s e in let d = here in
+      let o = odd in omega arith))
       (λ ne. (let a = stores.away t (Life t) ne refl in let c = not_one t s ne in omega arith))
       (cases_eq t s))
 
   pub raised_past : KeepsPast m h m'
   raised_past = record {
-    lives = λ t. ⊎_elim (λ (e : t ≡ s). (let a = ap (λ x. m' (Life x)) e in let b = ap (λ x. m (Life x)) e in let d = here in omega arith)) (λ ne. (let a = stores.away t (Life t) ne refl in omega arith)) (cases_eq t s);
+    lives = λ t. ⊎_elim (λ (e : t ≡ s). (let a = ap (λ x. m' (Life x)) e in let b = ap (λ x. m (Life x)) e in let d = here in omega arith))
+        (λ ne. (let a = stores.away t (Life t) ne refl in omega arith)) (cases_eq t s);
     tags = λ t b. omega arith;
     content = λ t field gone o c. (life_or_tag_stores m s (Life s) number refl tt).content t field c;
   }
@@ -161,7 +166,8 @@ module _ (z : RaiseStep) where
       pub spare : (held : Held) → c.spare ≡ Some held → IsHeldKnown m' held
       pub spares : (t : ℕ) → t ≢ s → 1 ≤ times t (spares_of w) → 1 ≤ times t (spares_of v)
       pub retired : Each c.retired (IsRetired m' c.hs)
-      pub kept : (t p : ℕ) (y : Retired) → gone_at t c.hs ≡ Some p → IsIn v.hands.retired y → y.slot ≡ t → (x : Retired) × IsIn c.retired x × (x.slot ≡ t)
+      pub kept : (t p : ℕ) (y : Retired) → gone_at t c.hs ≡ Some p → IsIn v.hands.retired y → y.slot ≡ t
+          → (x : Retired) × IsIn c.retired x × (x.slot ≡ t)
       pub fewer : unraised_among v.hands.retired ≡ unraised_among c.retired + 1
 
     raised_law : RaisedSlots → OuterParts k m' (set vs id w) c.hs → GraceParts (set vs id w) c.hs → HoldsNow k m' (set vs id w) c.hs
@@ -173,23 +179,28 @@ module _ (z : RaiseStep) where
       few = d.few;
       hands = record {
         hand = λ held q. (let a = (inv.slots.hands id v there).hand held q in
-            let ne : held.slot ≢ s = (λ e. (let b = one_role.0 in let x = held_there v.hands.hand held q in let y = ap (λ o. times o (held_list v.hands.hand)) e in omega arith)) in
+            let ne : held.slot ≢ s = (λ e. (let b = one_role.0 in let x = held_there v.hands.hand held q in
+            let y = ap (λ o. times o (held_list v.hands.hand)) e in omega arith)) in
             (held_away step held ne a.0, even_away step held.slot ne a.1));
         spare = d.spare;
         copy = λ move q. copy_away step id v there move q;
-        spares = λ t has. ⊎_elim (λ (e : t ≡ s). subst (λ x. IsEven (m' (Life x))) (sym e) even_now) (λ ne. even_away step t ne ((inv.slots.hands id v there).spares t (d.spares t ne has))) (cases_eq t s);
+        spares = λ t has. ⊎_elim (λ (e : t ≡ s). subst (λ x. IsEven (m' (Life x))) (sym e) even_now)
+            (λ ne. even_away step t ne ((inv.slots.hands id v there).spares t (d.spares t ne has))) (cases_eq t s);
       };
       retired = λ j y e. ⊎_elim (λ (a : IsIn c.retired y). d.retired a.0 y a.1)
-          (λ (a : IsIn (joined_retired v.allowance.joined) y). (let b = in_second v.hands.retired (joined_retired v.allowance.joined) y a in retired_away step y (joined_apart y a) (inv.slots.retired id v there b.0 y b.1)))
+          (λ (a : IsIn (joined_retired v.allowance.joined) y). (let b = in_second v.hands.retired (joined_retired v.allowance.joined) y a in
+          retired_away step y (joined_apart y a) (inv.slots.retired id v there b.0 y b.1)))
           (in_append c.retired (joined_retired v.allowance.joined) y (j, e));
       unlinked = λ t p gone y has at. ⊎_elim
-          (λ (a : IsIn v.hands.retired y). (let x = d.kept t p y gone a at in (x.0, in_first c.retired (joined_retired v.allowance.joined) x.0 x.1, x.2)))
+          (λ (a : IsIn v.hands.retired y). (let x = d.kept t p y gone a at in
+          (x.0, in_first c.retired (joined_retired v.allowance.joined) x.0 x.1, x.2)))
           (λ a. (y, in_second c.retired (joined_retired v.allowance.joined) y a, at))
           (in_append v.hands.retired (joined_retired v.allowance.joined) y has);
     }) outer (counts_by k.tickets m m' n inv.chart inv.chart vs id v w h c.hs there (record {
       free = refl;
       clock = (let a = ap length c.marks.updates in omega arith);
-      generations = (let a = lives_more in let b = d.fewer in let x = unraised_append c.retired (joined_retired v.allowance.joined) in let y = unraised_append v.hands.retired (joined_retired v.allowance.joined) in omega arith);
+      generations = (let a = lives_more in let b = d.fewer in let x = unraised_append c.retired (joined_retired v.allowance.joined) in
+          let y = unraised_append v.hands.retired (joined_retired v.allowance.joined) in omega arith);
       tags = omega arith;
       turns = omega arith;
       pairs = (let a = ap (λ us. finite.len (map_of us)) c.marks.updates in omega arith);
@@ -199,7 +210,8 @@ module _ (z : RaiseStep) where
         even_now : IsEven (m' (Life s))
         even_now = let a = here in let o = odd in omega arith
 
-        same_role : (t : ℕ) → times t (slots_of w) ≡ times t (slots_of v) → flag (m' (State t) == 0) + times t (slots_of w) ≡ flag (m (State t) == 0) + times t (slots_of v)
+        same_role : (t : ℕ) → times t (slots_of w) ≡ times t (slots_of v)
+            → flag (m' (State t) == 0) + times t (slots_of w) ≡ flag (m (State t) == 0) + times t (slots_of v)
         same_role t e = omega arith
 
   abbrev to_spare : Raised
@@ -218,16 +230,30 @@ module _ (z : RaiseStep) where
     invariant = raised_law to_spare (record {
       same = same_slots_of;
       few = (let i = inv.slots.few id v there in let l = without_length s v.hands.retired in let a = i.few in
-          record { one = i.one; few = omega arith; room = λ move q. (let b = i.room move q in omega arith); joined = i.joined; joined_spare = i.joined_spare; next_spare = λ _ none. absurd (let q : Some held ≡ None = none in cc) });
+          record {
+            one = i.one;
+            few = omega arith;
+            room = λ move q. (let b = i.room move q in omega arith);
+            joined = i.joined;
+            joined_spare = i.joined_spare;
+            next_spare = λ _ none. absurd (let q : Some held ≡ None = none in cc);
+          });
       spare = λ x e. subst (IsHeldKnown m') (let q : held ≡ x = cc in q) (λ field f known. ⊎_elim
-          (λ (t : (Life s ≡ field) × (number ≡ f)). (subst (IsOwnField s) t.0 refl, subst (λ y. m' y ≡ f) t.0 (stored_here m (Life s) number ∙ t.1)))
+          (λ (t : (Life s ≡ field) × (number ≡ f)). (
+            subst (IsOwnField s) t.0 refl,
+            subst (λ y. m' y ≡ f) t.0 (stored_here m (Life s) number ∙ t.1),
+          ))
           (λ (t : None ≡ Some f). absurd (cc)) (known_more [] (Life s) field number f true known));
-      spares = λ t ne has. (let a = spares_count (after_raise_to_spare v s number h) t in let b = spares_count v t in let x = not_one t s ne in omega arith);
-      retired = λ j y e. (let x = in_without s v.hands.retired y (j, e) in let all = in_first v.hands.retired (joined_retired v.allowance.joined) y x.0 in retired_away (step to_spare) y x.1 (inv.slots.retired id v there all.0 y all.1));
+      spares = λ t ne has. (let a = spares_count (after_raise_to_spare v s number h) t in let b = spares_count v t in
+          let x = not_one t s ne in omega arith);
+      retired = λ j y e. (let x = in_without s v.hands.retired y (j, e) in
+          let all = in_first v.hands.retired (joined_retired v.allowance.joined) y x.0 in
+          retired_away (step to_spare) y x.1 (inv.slots.retired id v there all.0 y all.1));
       kept = λ t p y gone has at. (y, without_in s v.hands.retired y has (λ e. (used_back true s h t p gone).0 (sym at ∙ e)), at);
       fewer = without_unraised s v.hands.retired z.r mine refl z.needs.unraised (let a = one_role.2 in omega arith);
     }) (outer_marked k m m' vs h id v (w to_spare) inv there works stores.beside (same_outside to_spare) (Given s) tt tt refl)
-        (grace_used k m vs h id v (w to_spare) inv there (same_outside to_spare) (λ y has. (y, (in_without s v.hands.retired y has).0, refl, refl)) true s clear);
+        (grace_used k m vs h id v (w to_spare) inv there (same_outside to_spare)
+        (λ y has. (y, (in_without s v.hands.retired y has).0, refl, refl)) true s clear);
     past = raised_past;
   }
     where
@@ -276,21 +302,37 @@ module _ (z : RaiseStep) where
   pub stays_retired : (v.hands.spare ≡ None → ⊥) → IsKept k m h m' (set vs id (after_raise_retired v s)) (h ++ [])
   stays_retired some_spare = no_mark k m m' h (set vs id (w to_raised)) (record {
     invariant = raised_law to_raised (record {
-      same = λ t. (let a = slots_count (w to_raised) t in let b = slots_count v t in let c = retired_count (w to_raised) t in let d = retired_count v t in let e = ap (times t) (change_slots s v.hands.retired) in let f = spares_count (w to_raised) t in let q = spares_count v t in omega arith);
+      same = λ t. (let a = slots_count (w to_raised) t in let b = slots_count v t in let c = retired_count (w to_raised) t in
+          let d = retired_count v t in let e = ap (times t) (change_slots s v.hands.retired) in let f = spares_count (w to_raised) t in
+          let q = spares_count v t in omega arith);
       few = (let i = inv.slots.few id v there in let l = change_length s v.hands.retired in let a = i.few in
-          record { one = i.one; few = omega arith; room = λ move q. (let b = i.room move q in omega arith); joined = i.joined; joined_spare = i.joined_spare; next_spare = λ _ none. absurd (some_spare none) });
-      spare = λ held q. held_away (step to_raised) held (λ e. (let b = one_role.1 in let c = spare_among v held q in let d = ap (λ x. times x (spares_of v)) e in omega arith)) ((inv.slots.hands id v there).spare held q);
+          record {
+            one = i.one;
+            few = omega arith;
+            room = λ move q. (let b = i.room move q in omega arith);
+            joined = i.joined;
+            joined_spare = i.joined_spare;
+            next_spare = λ _ none. absurd (some_spare none);
+          });
+      spare = λ held q. held_away (step to_raised) held
+          (λ e. (let b = one_role.1 in let c = spare_among v held q in let d = ap (λ x. times x (spares_of v)) e in omega arith))
+          ((inv.slots.hands id v there).spare held q);
       spares = λ t ne has. has;
       retired = changed_is;
       kept = λ t p y gone has at. (let c = change_in s v.hands.retired y has in (c.0, c.1, c.2 ∙ at));
       fewer = change_unraised s v.hands.retired z.r mine refl z.needs.unraised (let a = one_role.2 in omega arith);
     }) (outer_same k m m' vs h id v (w to_raised) inv there works stores.beside (same_outside to_raised) refl)
-        (grace_same k m vs h id v (w to_raised) inv there (same_outside to_raised) (λ y has. (let x = in_change s v.hands.retired y has in let q = was_same x.0 y x.2 in (x.0, x.1, q.0, q.1))));
+        (grace_same k m vs h id v (w to_raised) inv there (same_outside to_raised)
+        (λ y has. (let x = in_change s v.hands.retired y has in let q = was_same x.0 y x.2 in (x.0, x.1, q.0, q.1))));
     past = raised_past;
   })
     where
-      was_same : (x y : Retired) → ((x.slot ≡ s) × (raise x ≡ y)) ⊎ ((x.slot ≢ s) × (x ≡ y)) → (y.unlinked ≡ x.unlinked) × (y.waited ≡ x.waited)
-      was_same x y which = ⊎_elim (λ (t : (x.slot ≡ s) × (raise x ≡ y)). (ap (λ (o : Retired). o.unlinked) (sym t.1), ap (λ (o : Retired). o.waited) (sym t.1)))
+      was_same : (x y : Retired) → ((x.slot ≡ s) × (raise x ≡ y)) ⊎ ((x.slot ≢ s) × (x ≡ y))
+          → (y.unlinked ≡ x.unlinked) × (y.waited ≡ x.waited)
+      was_same x y which = ⊎_elim (λ (t : (x.slot ≡ s) × (raise x ≡ y)). (
+        ap (λ (o : Retired). o.unlinked) (sym t.1),
+        ap (λ (o : Retired). o.waited) (sym t.1),
+      ))
           (λ (t : (x.slot ≢ s) × (x ≡ y)). (ap (λ (o : Retired). o.unlinked) (sym t.1), ap (λ (o : Retired). o.waited) (sym t.1))) which
 
       changed_is : Each (change_retired s raise v.hands.retired) (IsRetired m' h)
@@ -306,7 +348,8 @@ module _ (z : RaiseStep) where
             life = λ number f q. absurd (cc);
             stays = λ field number f c q. absurd (cc);
             unmarked = λ f. subst (λ o. IsEven (m' (Life o))) (sym t.0) (let a = here in let o = odd in omega arith);
-            after_wait = λ f. (let one : x.0 ≡ z.r = one_in s v.hands.retired x.0 z.r (let a = one_role.2 in omega arith) x.1 mine t.0 refl in ap (λ (o : Retired). o.waited) one ∙ z.needs.waited);
+            after_wait = λ f. (let one : x.0 ≡ z.r = one_in s v.hands.retired x.0 z.r
+                (let a = one_role.2 in omega arith) x.1 mine t.0 refl in ap (λ (o : Retired). o.waited) one ∙ z.needs.waited);
           }))
           (λ (t : (x.0.slot ≢ s) × (x.0 ≡ y)). subst (IsRetired m' h) t.1 (retired_away (step to_raised) x.0 t.0 i))
           x.2

@@ -39,7 +39,8 @@ use Rattle.prcu_marks.proofs.LastUnlinked.{last_gone}
 use Rattle.std.specs.FinMap as finite
 use Rattle.prcu_model.specs.Dictionary.{map_of}
 
-module _ (k : Shape) (m : Memory) (vs : List View) (h : List Mark) (id : ℕ) (v : View) (inv : HoldsNow k m vs h) (there : get_elem? vs id ≡ some v) (works : Works v) where
+module _ (k : Shape) (m : Memory) (vs : List View) (h : List Mark) (id : ℕ) (v : View) (inv : HoldsNow k m vs h)
+    (there : get_elem? vs id ≡ some v) (works : Works v) where
   abbrev n : ℕ
   n = slot_count k
 
@@ -71,7 +72,8 @@ module _ (k : Shape) (m : Memory) (vs : List View) (h : List Mark) (id : ℕ) (v
     abbrev w : View
     w = view_restated z
 
-    pub unmet : (j : ℕ) (u : View) (section : Section) → get_elem? vs j ≡ some u → u.section ≡ Some section → IsHeldBack inv.chart h section.entered slot → ⊥
+    pub unmet : (j : ℕ) (u : View) (section : Section) → get_elem? vs j ≡ some u → u.section ≡ Some section
+        → IsHeldBack inv.chart h section.entered slot → ⊥
     unmet j u section e inside back =
         let fits = (inv.seats.sections j u e section inside).key_fits in
         z.clear back.at (last_gone slot h back.at back.gone) j u section e inside back.later (omega arith) (omega arith)
@@ -80,14 +82,21 @@ module _ (k : Shape) (m : Memory) (vs : List View) (h : List Mark) (id : ℕ) (v
     same = same_but v v.locks z.hands hs
 
     -- what is known of the slots in the view's hands, where this one is no spare
-    pub state_hands : (to : View) → to.hands.spare ≡ v.hands.spare → to.moving ≡ v.moving → spares_of to ≡ spares_of v → times slot (spares_of v) ≡ 0 → ((held : Held) → to.hands.hand ≡ Some held → IsHeldKnown m' held × IsEven (m (Life held.slot))) → AreHandsKnown m' to
+    pub state_hands : (to : View) → to.hands.spare ≡ v.hands.spare → to.moving ≡ v.moving → spares_of to ≡ spares_of v
+        → times slot (spares_of v) ≡ 0 → ((held : Held) → to.hands.hand ≡ Some held → IsHeldKnown m' held × IsEven (m (Life held.slot)))
+        → AreHandsKnown m' to
     state_hands to spare moving spares none hand = let i = inv.slots.hands id v there in record {
       hand = hand;
-      spare = λ held is. held_beside m m' slot (stores_in m slot (State slot) x refl) held (λ e. (let a = spare_among v held (sym spare ∙ is) in let b = ap (λ y. times y (spares_of v)) e in omega arith)) (i.spare held (sym spare ∙ is));
+      spare = λ held is. held_beside m m' slot (stores_in m slot (State slot) x refl) held
+          (λ e. (let a = spare_among v held (sym spare ∙ is) in let b = ap (λ y. times y (spares_of v)) e in omega arith))
+          (i.spare held (sym spare ∙ is));
       copy = λ move is.
           (let on = (inv.tree.moves.each id v there move (sym moving ∙ is)).copy_linked in
-          let r = i.copy move (sym moving ∙ is) in
-          (held_beside m m' slot (stores_in m slot (State slot) x refl) move.copy (λ e. (let q : true ≡ false = sym on ∙ ap inv.chart.linked e ∙ z.off in absurd (cc))) r.0, r.1));
+          let r = i.copy move (sym moving ∙ is) in (
+            held_beside m m' slot (stores_in m slot (State slot) x refl) move.copy
+                (λ e. (let q : true ≡ false = sym on ∙ ap inv.chart.linked e ∙ z.off in absurd (cc))) r.0,
+            r.1,
+          ));
       spares = λ t has. i.spares t (subst (λ l. 1 ≤ times t l) spares has);
     }
 
@@ -101,7 +110,8 @@ module _ (k : Shape) (m : Memory) (vs : List View) (h : List Mark) (id : ℕ) (v
       pub retired : (y : Retired) → IsIn (retired_of w) y → (y.slot ≢ slot) × IsIn (retired_of v) y
       pub kept : (y : Retired) → IsIn (retired_of v) y → y.slot ≢ slot → IsIn (retired_of w) y
       pub came : (y : Retired) → IsIn w.hands.retired y → IsIn v.hands.retired y
-      pub counted : flag w.hands.reserved + flag w.hands.owes + flag (m (State slot) == 0) ≡ flag v.hands.reserved + flag v.hands.owes + flag (x == 0)
+      pub counted : flag w.hands.reserved + flag w.hands.owes + flag (m (State slot) == 0)
+          ≡ flag v.hands.reserved + flag v.hands.owes + flag (x == 0)
       pub raised : flag w.hands.reserved + unraised_of w ≤ flag v.hands.reserved + unraised_of v
 
     module _ (c : RestatedHands) where
@@ -141,11 +151,15 @@ module _ (k : Shape) (m : Memory) (vs : List View) (h : List Mark) (id : ℕ) (v
           even = λ _. z.even;
           few = c.few;
           hands = c.known;
-          retired = λ j y e. (let q = c.retired y (j, e) in let o = q.1 in retired_away step y q.0 (inv.slots.retired id v there o.0 y o.1));
+          retired = λ j y e. (let q = c.retired y (j, e) in let o = q.1 in
+              retired_away step y q.0 (inv.slots.retired id v there o.0 y o.1));
           unlinked = λ t p gone y has at. (y, c.kept y has (λ e. (used_back given slot h t p gone).0 (sym at ∙ e)), at);
-        }) (outer_marked k m m' vs h id v w inv there works (stores_in m slot (State slot) x refl).beside same (used_mark given slot) (used_plain given slot h v.allowance.place) (used_new given slot h k.places) refl)
+        }) (outer_marked k m m' vs h id v w inv there works (stores_in m slot (State slot) x refl).beside same (used_mark given slot)
+            (used_plain given slot h v.allowance.place) (used_new given slot h k.places) refl)
             (counts_by k.tickets m m' n inv.chart inv.chart vs id v w h hs there (record {
-              free = (let a = sum_one_other (λ t. flag (m (State t) == 0)) (λ t. flag (m' (State t) == 0)) slot n z.small (λ t ne. ap (λ y. flag (y == 0)) ((stores_in m slot (State slot) x refl).away t (State t) ne refl)) in let b = ap (λ y. flag (y == 0)) now in let d = c.counted in omega arith);
+              free = (let a = sum_one_other (λ t. flag (m (State t) == 0)) (λ t. flag (m' (State t) == 0)) slot n z.small
+                  (λ t ne. ap (λ y. flag (y == 0)) ((stores_in m slot (State slot) x refl).away t (State t) ne refl)) in
+                  let b = ap (λ y. flag (y == 0)) now in let d = c.counted in omega arith);
               clock = (let a = ap length (used_updates given slot h) in omega arith);
               generations = (let a = c.raised in omega arith);
               tags = omega arith;
@@ -154,7 +168,11 @@ module _ (k : Shape) (m : Memory) (vs : List View) (h : List Mark) (id : ℕ) (v
               olds = refl;
             }) inv.counts)
             (grace_used k m vs h id v w inv there same (λ y has. (y, c.came y has, refl, refl)) given slot z.clear);
-        past = record { lives = λ t. omega arith; tags = λ t b. omega arith; content = λ t f gone odd content. (let a = content_kept t f content in a) };
+        past = record {
+          lives = λ t. omega arith;
+          tags = λ t b. omega arith;
+          content = λ t f gone odd content. (let a = content_kept t f content in a);
+        };
       }
         where
           content_kept : (t : ℕ) (f : Field) → IsContent t f → m' f ≡ m f

@@ -29,12 +29,14 @@ use Rattle.prcu_marks.specs.Bounds.{greatest_key}
 use Rattle.core_state.specs.parts.GraceParts.{IsClear}
 use Rattle.core_moves.proofs.slots.OffStep.{no_others}
 
-module _ (k : Shape) (m : Memory) (vs : List View) (h : List Mark) (id : ℕ) (v : View) (inv : HoldsNow k m vs h) (there : get_elem? vs id ≡ some v) (works : Works v) (slot : ℕ) (small : slot < slot_count k) where
+module _ (k : Shape) (m : Memory) (vs : List View) (h : List Mark) (id : ℕ) (v : View) (inv : HoldsNow k m vs h)
+    (there : get_elem? vs id ≡ some v) (works : Works v) (slot : ℕ) (small : slot < slot_count k) where
   abbrev n : ℕ
   n = slot_count k
 
   off_by : flag (inv.chart.linked slot) ≡ 0 → inv.chart.linked slot ≡ false
-  off_by none = ⊎_elim (λ (on : inv.chart.linked slot ≡ true). absurd (let f = ap flag on in omega arith)) (λ off. off) (bool_cases (inv.chart.linked slot))
+  off_by none = ⊎_elim (λ (on : inv.chart.linked slot ≡ true). absurd (let f = ap flag on in omega arith)) (λ off. off)
+      (bool_cases (inv.chart.linked slot))
 
   -- of a slot that isn't unlinked by the marks
   clear_by : gone_at slot h ≡ None → (a : ℕ) → last_unlinked slot h ≡ Some a → IsClear vs a 0 greatest_key
@@ -43,7 +45,8 @@ module _ (k : Shape) (m : Memory) (vs : List View) (h : List Mark) (id : ℕ) (v
   -- K11: a free slot is seized
   module _ (needs : NeedsSeize v slot) (free : m (State slot) ≡ 0) where
     once : (flag (inv.chart.linked slot) ≡ 0) × (total (λ (u : View). times slot (slots_of u)) vs ≡ 0)
-    once = let a = inv.slots.roles.once slot small in let f : flag (m (State slot) == 0) ≡ 1 = ap flag (eq-eqb (m (State slot)) 0 free) in (omega arith, omega arith)
+    once = let a = inv.slots.roles.once slot small in let f : flag (m (State slot) == 0) ≡ 1 = ap flag (eq-eqb (m (State slot)) 0 free) in
+        (omega arith, omega arith)
 
     nobody : (j : ℕ) (u : View) → get_elem? vs j ≡ some u → times slot (slots_of u) ≡ 0
     nobody j u e = let a = once.1 in let p = total_part (λ (z : View). times slot (slots_of z)) vs j u e in omega arith
@@ -60,7 +63,8 @@ module _ (k : Shape) (m : Memory) (vs : List View) (h : List Mark) (id : ℕ) (v
             absurd (omega arith)
 
     no_retired : (y : Retired) → IsIn (retired_of v) y → y.slot ≢ slot
-    no_retired y has same = let none = nobody id v there in let one = retired_own v y has in let a = ap (λ z. times z (slots_of v)) same in omega arith
+    no_retired y has same = let none = nobody id v there in let one = retired_own v y has in let a = ap (λ z. times z (slots_of v)) same in
+        omega arith
 
     abbrev step : StateStep k m vs h id v inv there works
     step = record {
@@ -78,10 +82,15 @@ module _ (k : Shape) (m : Memory) (vs : List View) (h : List Mark) (id : ℕ) (v
 
     seized_known : IsHeldKnown (stored m (State slot) 1) (seized slot)
     seized_known f number known = ⊎_elim
-        (λ (q : (State slot ≡ f) × (1 ≡ number)). (subst (IsOwnField slot) q.0 refl, ap (stored m (State slot) 1) (sym q.0) ∙ stored_here m (State slot) 1 ∙ q.1))
+        (λ (q : (State slot ≡ f) × (1 ≡ number)). (
+          subst (IsOwnField slot) q.0 refl,
+          ap (stored m (State slot) 1) (sym q.0) ∙ stored_here m (State slot) 1 ∙ q.1,
+        ))
         (λ (q : None ≡ Some number). absurd (cc)) (known_more [] (State slot) f 1 number true known)
 
-    pub seizes : IsKept k m h (stored m (State slot) 1) (set vs id (record v { hands = record v.hands { reserved = false; hand = Some (seized slot) }; seen = h ++ Given slot ∷ [] })) (h ++ Given slot ∷ [])
+    pub seizes : IsKept k m h (stored m (State slot) 1)
+        (set vs id (record v { hands = record v.hands { reserved = false; hand = Some (seized slot) }; seen = h ++ Given slot ∷ [] }))
+        (h ++ Given slot ∷ [])
     seizes =
         let few = inv.slots.few id v there in
         let empty_hand = few.one needs.reserved in
@@ -89,15 +98,28 @@ module _ (k : Shape) (m : Memory) (vs : List View) (h : List Mark) (id : ℕ) (v
         let none = nobody id v there in
         restated k m vs h id v inv there works step (record {
           unraised = λ t y. ((λ e. no_retired y.0 (in_first v.hands.retired (joined_retired v.allowance.joined) y.0 y.1) (y.2 ∙ e)), y);
-          role = (let f : flag (m (State slot) == 0) ≡ 1 = ap flag (eq-eqb (m (State slot)) 0 free) in let a = slots_count w slot in let b = slots_count v slot in let c = times_here slot [] in let d = ap (λ o. times slot (held_list o)) empty_hand in omega arith);
-          roles = λ t ne. (let a = slots_count w t in let b = slots_count v t in let c = times_other t slot [] (λ e. ne (sym e)) in let d = ap (λ o. times t (held_list o)) empty_hand in omega arith);
-          few = record { one = λ e. absurd (let q : false ≡ true = e in cc); few = few.few; room = few.room; joined = few.joined; joined_spare = few.joined_spare; next_spare = few.next_spare };
+          role = (let f : flag (m (State slot) == 0) ≡ 1 = ap flag (eq-eqb (m (State slot)) 0 free) in let a = slots_count w slot in
+              let b = slots_count v slot in let c = times_here slot [] in let d = ap (λ o. times slot (held_list o)) empty_hand in
+              omega arith);
+          roles = λ t ne. (let a = slots_count w t in let b = slots_count v t in let c = times_other t slot [] (λ e. ne (sym e)) in
+              let d = ap (λ o. times t (held_list o)) empty_hand in omega arith);
+          few = record {
+            one = λ e. absurd (let q : false ≡ true = e in cc);
+            few = few.few;
+            room = few.room;
+            joined = few.joined;
+            joined_spare = few.joined_spare;
+            next_spare = few.next_spare;
+          };
           known = state_hands k m vs h id v inv there works step w refl refl refl (let a = slots_count v slot in omega arith)
-              (λ held is. (let e : seized slot ≡ held = cc in subst (λ (z : Held). IsHeldKnown (stored m (State slot) 1) z × IsEven (m (Life z.slot))) e (seized_known, inv.slots.free slot small free)));
+              (λ held is. (let e : seized slot ≡ held = cc in
+              subst (λ (z : Held). IsHeldKnown (stored m (State slot) 1) z × IsEven (m (Life z.slot))) e
+              (seized_known, inv.slots.free slot small free)));
           retired = λ y has. (no_retired y has, has);
           kept = λ y has _. has;
           came = λ y has. has;
-          counted = (let f : flag (m (State slot) == 0) ≡ 1 = ap flag (eq-eqb (m (State slot)) 0 free) in let a = ap flag needs.reserved in omega arith);
+          counted = (let f : flag (m (State slot) == 0) ≡ 1 = ap flag (eq-eqb (m (State slot)) 0 free) in let a = ap flag needs.reserved in
+              omega arith);
           raised = (let a = ap flag needs.reserved in omega arith);
         })
 
@@ -119,7 +141,9 @@ module _ (k : Shape) (m : Memory) (vs : List View) (h : List Mark) (id : ℕ) (v
         (omega arith, omega arith, omega arith)
 
     not_retired : (y : Retired) → IsIn (retired_of v) y → y.slot ≢ slot
-    not_retired y has same = let one = retired_there v y has in let a = ap (λ z. times z (map (λ (r : Retired). r.slot) (retired_of v))) same in let b = slots_count v slot in let c = mine_once.2 in let d = in_hand in omega arith
+    not_retired y has same = let one = retired_there v y has in
+        let a = ap (λ z. times z (map (λ (r : Retired). r.slot) (retired_of v))) same in let b = slots_count v slot in
+        let c = mine_once.2 in let d = in_hand in omega arith
 
     abbrev freeing : StateStep k m vs h id v inv there works
     freeing = record {
@@ -142,9 +166,19 @@ module _ (k : Shape) (m : Memory) (vs : List View) (h : List Mark) (id : ℕ) (v
         restated k m vs h id v inv there works freeing (record {
           unraised = λ t y. ((λ e. not_retired y.0 (in_first v.hands.retired (joined_retired v.allowance.joined) y.0 y.1) (y.2 ∙ e)), y);
           role = (let a = slots_count w slot in let b = slots_count v slot in let c = mine_once.0 in let d = in_hand in omega arith);
-          roles = λ t ne. (let a = slots_count w t in let b = slots_count v t in let c = ap (λ o. times t (held_list o)) needs.in_hand.0 in let d = times_other t held.slot [] (λ e. ne (sym e ∙ needs.in_hand.1)) in omega arith);
-          few = record { one = λ e. refl; few = few.few; room = few.room; joined = few.joined; joined_spare = few.joined_spare; next_spare = few.next_spare };
-          known = state_hands k m vs h id v inv there works freeing w refl refl refl (let a = slots_count v slot in let b = mine_once.2 in let c = in_hand in omega arith) (λ other none. absurd (let q : None ≡ Some other = none in cc));
+          roles = λ t ne. (let a = slots_count w t in let b = slots_count v t in let c = ap (λ o. times t (held_list o)) needs.in_hand.0 in
+              let d = times_other t held.slot [] (λ e. ne (sym e ∙ needs.in_hand.1)) in omega arith);
+          few = record {
+            one = λ e. refl;
+            few = few.few;
+            room = few.room;
+            joined = few.joined;
+            joined_spare = few.joined_spare;
+            next_spare = few.next_spare;
+          };
+          known = state_hands k m vs h id v inv there works freeing w refl refl refl
+              (let a = slots_count v slot in let b = mine_once.2 in let c = in_hand in omega arith)
+              (λ other none. absurd (let q : None ≡ Some other = none in cc));
           retired = λ y has. (not_retired y has, has);
           kept = λ y has _. has;
           came = λ y has. has;

@@ -21,15 +21,27 @@ use Rattle.core_tree.proofs.frames.GraceSteps.{grace_by}
 use Rattle.core_frames.proofs.frames.PlainFrames.{waited_more, waited_back, grace_plain}
 
 pub used_marks : (given : Bool) (s : ℕ) (h : List Mark) → SameElse s h (h ++ used_mark given s ∷ [])
-used_marks given s h = record { updates = used_updates given s h; longer = used_longer given s h; done = used_done given s h; else = used_else given s h; back = λ t p e. (used_back given s h t p e).1 }
+used_marks given s h = record {
+  updates = used_updates given s h;
+  longer = used_longer given s h;
+  done = used_done given s h;
+  else = used_else given s h;
+  back = λ t p e. (used_back given s h t p e).1;
+}
 
-module _ (k : Shape) (m : Memory) (vs : List View) (h : List Mark) (id : ℕ) (v w : View) (i : HoldsNow k m vs h) (there : get_elem? vs id ≡ some v) (view : SameOutside v w)
-    (came : (y : Retired) → IsIn w.hands.retired y → (x : Retired) × IsIn v.hands.retired x × (y.unlinked ≡ x.unlinked) × (y.waited ≡ x.waited)) where
+module _ (k : Shape) (m : Memory) (vs : List View) (h : List Mark) (id : ℕ) (v w : View) (i : HoldsNow k m vs h)
+    (there : get_elem? vs id ≡ some v) (view : SameOutside v w)
+    (came : (y : Retired) → IsIn w.hands.retired y
+    → (x : Retired) × IsIn v.hands.retired x × (y.unlinked ≡ x.unlinked) × (y.waited ≡ x.waited)) where
   -- nobody is inside who entered before the slot was unlinked
-  pub grace_used : (given : Bool) (s : ℕ) → ((a : ℕ) → last_unlinked s h ≡ Some a → IsClear vs a 0 greatest_key) → GraceParts (set vs id w) (h ++ used_mark given s ∷ [])
+  pub grace_used : (given : Bool) (s : ℕ) → ((a : ℕ) → last_unlinked s h ≡ Some a → IsClear vs a 0 greatest_key)
+      → GraceParts (set vs id w) (h ++ used_mark given s ∷ [])
   grace_used given s clear =
       let hs = h ++ used_mark given s ∷ [] in
       let more = plain_one v.allowance.place h (used_mark given s) (used_plain given s h v.allowance.place) in
-      grace_by k m vs h id v w i there view came hs (waited_more v.allowance.place h hs more) (waited_back v.allowance.place h hs more) (grace_plain v.allowance.place h hs more i.grace.grace)
+      grace_by k m vs h id v w i there view came hs (waited_more v.allowance.place h hs more) (waited_back v.allowance.place h hs more)
+      (grace_plain v.allowance.place h hs more i.grace.grace)
       (used_reuse given s h (λ a p o last now. entered_later k m vs h i s a p o (clear a last) last now) i.grace.reuse)
-      (λ t at none last. (let was = sym (used_last given s h t) ∙ last in ⊎_elim (λ (e : t ≡ s). clear at (ap (λ x. last_unlinked x h) (sym e) ∙ was)) (λ ne. i.grace.clean t at (sym (used_else given s h t ne) ∙ none) was) (cases_eq t s)))
+      (λ t at none last. (let was = sym (used_last given s h t) ∙ last in
+      ⊎_elim (λ (e : t ≡ s). clear at (ap (λ x. last_unlinked x h) (sym e) ∙ was))
+      (λ ne. i.grace.clean t at (sym (used_else given s h t ne) ∙ none) was) (cases_eq t s)))

@@ -39,7 +39,8 @@ use Rattle.core_moves.proofs.unlink.UnlinkListings.{lists_unlinked}
 use Rattle.core_frames.proofs.marks.PlainMarks.{plain_one}
 use Rattle.core_frames.proofs.marks.UpdateMarks.{reuse_unlinked, marks_unlinked, unlinked_snoc}
 
-module _ (who : Stepper) (move : Move) (lock : HeldLock) (child : ℕ) (b : Side) (moving : who.v.moving ≡ Some move) (waited : move.waited ≡ true) (locked : lock_of who.v.locks move.old ≡ Some lock) (marked : lock.marked ≡ true)
+module _ (who : Stepper) (move : Move) (lock : HeldLock) (child : ℕ) (b : Side) (moving : who.v.moving ≡ Some move)
+    (waited : move.waited ≡ true) (locked : lock_of who.v.locks move.old ≡ Some lock) (marked : lock.marked ≡ true)
     (right_now : known_in lock.known (Link move.old Right) ≡ Some child) (side : cond (move.parent == move.copy.slot) Right Left ≡ b) where
   open who use {k, m, vs, h, id, v, there, inv as i, inv.{chart as g}}
   open move use {old as u, parent as q}
@@ -81,7 +82,9 @@ module _ (who : Stepper) (move : Move) (lock : HeldLock) (child : ℕ) (b : Side
       let r = is_moving.recorded in
       let f : Some lock ≡ Some r.lock = sym locked ∙ r.locked in
       let same : lock ≡ r.lock = cc in
-      (i.locks.known id v there u r.lock r.locked).fields r.reading r.generation number field (in_second (open_reading v.section) v.records r.reading r.kept) r.loaded r.same (ap (λ (l : HeldLock). known_in l.known field) (sym same) ∙ e)
+      (i.locks.known id v there u r.lock r.locked).fields r.reading r.generation number field
+      (in_second (open_reading v.section) v.records r.reading r.kept) r.loaded r.same
+      (ap (λ (l : HeldLock). known_in l.known field) (sym same) ∙ e)
 
   odd : IsOdd (m (Life u))
   odd = ((i.locks.kept id v there u lock locked).marked marked).1
@@ -93,7 +96,11 @@ module _ (who : Stepper) (move : Move) (lock : HeldLock) (child : ℕ) (b : Side
   room = let r = (i.slots.few id v there).room move moving in omega arith
 
   unlinks : Unlinks m new g q b u child
-  unlinks = record { replaces = record { stores = stores_link m q b child; parent = parent_linked; link = is_link; node = node }; old = is_moving.old_old; right = old_field (Link u Right) child right_now }
+  unlinks = record {
+    replaces = record { stores = stores_link m q b child; parent = parent_linked; link = is_link; node = node };
+    old = is_moving.old_old;
+    right = old_field (Link u Right) child right_now;
+  }
 
   same_updates : updates_of hs ≡ updates_of h
   same_updates = updates_of-append h (Unlinked u ∷ []) ∙ append-nil (updates_of h)
@@ -102,12 +109,16 @@ module _ (who : Stepper) (move : Move) (lock : HeldLock) (child : ℕ) (b : Side
   own_move other is = let e : Some other ≡ Some move = sym is ∙ moving in let same : other ≡ move = cc in ap (λ (o : Move). o.old) same
 
   -- no reader is open that may pass the old successor
-  none_pass : (j : ℕ) (y : View) (section : Section) → get_elem? vs j ≡ some y → y.section ≡ Some section → MayPass vs section.key section.entered u → ⊥
+  none_pass : (j : ℕ) (y : View) (section : Section) → get_elem? vs j ≡ some y → y.section ≡ Some section
+      → MayPass vs section.key section.entered u → ⊥
   none_pass j y section e is may =
-      let mine : Some may.move ≡ Some move = sym (move_holder k m vs h i may.move may.pending id v u there has_old (inr (inl may.old))) ∙ moving in
+      let mine : Some may.move ≡ Some move = sym (move_holder k m vs h i may.move may.pending id v u there has_old (inr (inl may.old)))
+      ∙ moving in
       let same : may.move ≡ move = cc in
       (i.grace.moves id v there move moving).clear waited j y section e is
-      (subst (λ (o : Move). section.entered < o.made) same may.before) (let a = subst (λ (o : Move). o.key < section.key) same may.low in omega arith) (subst (λ (o : Move). section.key ≤ o.next_key) same may.high)
+      (subst (λ (o : Move). section.entered < o.made) same may.before)
+      (let a = subst (λ (o : Move). o.key < section.key) same may.low in omega arith)
+      (subst (λ (o : Move). section.key ≤ o.next_key) same may.high)
 
   abbrev cut : Cut
   cut = record {
@@ -132,7 +143,15 @@ module _ (who : Stepper) (move : Move) (lock : HeldLock) (child : ℕ) (b : Side
     said = λ key from o y. subst (λ us. WasSaid us key from o) (sym same_updates) y;
     now = unlinked_snoc h u;
     reuse = reuse_unlinked h u i.grace.reuse;
-    same = record { places = record { place = refl; places = refl; joined = refl; met = refl }; section = refl; enter = refl; wait = refl; sections = refl; waits = refl; seen = refl };
+    same = record {
+      places = record { place = refl; places = refl; joined = refl; met = refl };
+      section = refl;
+      enter = refl;
+      wait = refl;
+      sections = refl;
+      waits = refl;
+      seen = refl;
+    };
     locks = refl;
     hand = refl;
     spare = refl;
@@ -148,7 +167,8 @@ module _ (who : Stepper) (move : Move) (lock : HeldLock) (child : ℕ) (b : Side
   copied : map_now h (m (Key u)) ≡ Some (m (Value u))
   copied =
       let t = is_moving in
-      ap (map_now h) (t.old_key ∙ sym t.copy_key) ∙ i.tree.map.sound move.copy.slot t.copy_linked t.copy_some t.copy_young ∙ ap Some t.same_value
+      ap (map_now h) (t.old_key ∙ sym t.copy_key) ∙ i.tree.map.sound move.copy.slot t.copy_linked t.copy_some t.copy_young
+      ∙ ap Some t.same_value
 
   -- the right of the old successor is no old successor: its view would have the lock of this one
   young_right : child ≢ 0 → g.old child ≡ false
@@ -161,7 +181,8 @@ module _ (who : Stepper) (move : Move) (lock : HeldLock) (child : ℕ) (b : Side
           let o = i.tree.moves.every child below.linked e in
           let t = i.tree.moves.each o.pending.id o.pending.view o.pending.there o.move o.pending.moving in
           let parent : o.move.parent ≡ u = sym t.parent ∙ ap g.up o.old ∙ below.up in
-          let mine : Some o.move ≡ Some move = sym (move_holder k m vs h i o.move o.pending id v u there has_old (inr (inr parent))) ∙ moving in
+          let mine : Some o.move ≡ Some move = sym (move_holder k m vs h i o.move o.pending id v u there has_old (inr (inr parent)))
+          ∙ moving in
           let same : o.move ≡ move = cc in
           let old : child ≡ u = sym o.old ∙ ap (λ (z : Move). z.old) same in
           absurd (let r = below.rank in let f = ap g.rank old in omega arith)
@@ -169,7 +190,16 @@ module _ (who : Stepper) (move : Move) (lock : HeldLock) (child : ℕ) (b : Side
   pub unlinked_kept : IsKept k m h new (set vs id w) hs
   unlinked_kept =
       cut_kept cut
-      (counts_without_old cut (record { reserved = refl; owes = refl; wait = refl; turns = refl; moving = refl }) is_moving.old_old move moving refl same_updates)
-      (subst (λ us. HoldsMap new (unlinked g q b u child) (λ y. finite.get (map_of us) y)) (sym same_updates) (unlinked_map m new n g q b u child i.tree.shape unlinks (map_now h) i.tree.map))
+      (counts_without_old cut (record {
+        reserved = refl;
+        owes = refl;
+        wait = refl;
+        turns = refl;
+        moving = refl;
+      }) is_moving.old_old move moving refl same_updates)
+      (subst (λ us. HoldsMap new (unlinked g q b u child) (λ y. finite.get (map_of us) y)) (sym same_updates)
+      (unlinked_map m new n g q b u child i.tree.shape unlinks (map_now h) i.tree.map))
       (front_by m new vs id v w h hs there refl refl (λ e. refl) same_updates i.front)
-      (listings_by (cut_step cut) (λ listing even same lists. lists_unlinked m new n g q b u child i.tree.shape unlinks h i.tree.map i.marks.marks.deleted (λ s at l gone. linked_stays k m vs h i s at l gone) young_right copied listing lists))
+      (listings_by (cut_step cut)
+      (λ listing even same lists. lists_unlinked m new n g q b u child i.tree.shape unlinks h i.tree.map i.marks.marks.deleted
+      (λ s at l gone. linked_stays k m vs h i s at l gone) young_right copied listing lists))

@@ -48,7 +48,15 @@ module _ (m new : Memory) (n : ℕ) (g : Chart) (q : ℕ) (b : Side) (u r : ℕ)
   -- its pair stays the copy's
   pub unlinked_map : (map : ℕ → Option ℕ) → HoldsMap m g map → HoldsMap new (unlinked g q b u r) map
   unlinked_map map holds =
-      map_after m new n g (unlinked g q b u r) q b u r (λ x. x) (λ x. x) h (changes m new n g q b u r (λ x. x) (λ x. x) h splice) map map holds
+      map_after m new n g (unlinked g q b u r) q b u r (λ x. x) (λ x. x) h
+      (changes m new n g q b u r (λ x. x) (λ x. x) h splice) map map holds
       (λ s l t ne o. refl)
       (λ off. absurd (let l = child_linked m new n g q b u r (λ x. x) (λ x. x) h splice in cc))
-      (λ x v e. (let a = holds.complete x v e in (a.0, still_linked m new n g q b u r (λ x. x) (λ x. x) h splice a.0 a.1 (λ i. (let f = k.old in let j = a.3 in cc (ap g.old i))), a.2, a.3, a.4, a.5)))
+      (λ x v e. (let a = holds.complete x v e in (
+        a.0,
+        still_linked m new n g q b u r (λ x. x) (λ x. x) h splice a.0 a.1 (λ i. (let f = k.old in let j = a.3 in cc (ap g.old i))),
+        a.2,
+        a.3,
+        a.4,
+        a.5,
+      )))

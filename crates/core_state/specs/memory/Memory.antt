@@ -1,4 +1,4 @@
--- The table's words as a memory with named fields, and where each lies.
+-- The table's words as a memory with named fields, and where each stands in the table's row.
 -- Source: docs/TREE.md, "The words of the tree's table".
 use Rattle.std.specs.Prelude.{ℕ, ◌+◌, ◌*◌, ◌==◌, nat_lt, ◌&&◌, Bool, true, false, if◌then◌else◌, List, slice_index}
 use Rattle.prcu_marks.specs.declared.mark.Side.{Side}
@@ -20,36 +20,60 @@ same_waiter Domain Domain = true
 same_waiter Deer Deer = true
 same_waiter _ _ = false
 
--- how many words the waiter has, for so many places
-abbrev pub waiter_words : Waiter → ℕ → ℕ
-waiter_words Eer places = 2 * places
-waiter_words Domain places = 192
-waiter_words Deer places = 64 * places
+-- A line of a processor's cache has eight words. Two lines are fetched together, so words that different callers write often stand
+-- sixteen apart.
+abbrev pub line : ℕ
+line = 8
 
--- where the slots' words begin, and how many words there are
+abbrev pub apart : ℕ
+apart = 2 * line
+
+-- The room before the first word: a large row begins two words after a line does, and so the word at 14 begins a line, and a pair of lines.
+abbrev pub lead : ℕ
+lead = 14
+
+-- a gate and two sides for each class of the second waiter, a stamp for each of the third
+abbrev pub classes : ℕ
+classes = 64
+
+-- where the waiter's words begin
+abbrev pub waiter_base : ℕ
+waiter_base = lead + 3 * apart
+
+-- how much room the waiter has, for so many places
+abbrev pub waiter_room : Waiter → ℕ → ℕ
+waiter_room Eer places = apart * places
+waiter_room Domain places = apart * classes
+waiter_room Deer places = classes * places
+
+-- where the slots' lines begin
 abbrev pub slot_base : Shape → ℕ
-slot_base k = 3 + waiter_words k.waiter k.places
+slot_base k = waiter_base + waiter_room k.waiter k.places
+
+-- where the slots' states begin, which stand in a row of their own, and how long the table's row is
+abbrev pub state_base : Shape → ℕ
+state_base k = slot_base k + line * slot_count k
 
 abbrev pub word_count : Shape → ℕ
-word_count k = slot_base k + 9 * slot_count k
+word_count k = state_base k + slot_count k
 
--- where a field lies among the words
+-- where a field stands in the row
 abbrev pub word_of : Shape → Field → ℕ
-word_of k Clock = 0
-word_of k Front = 1
-word_of k Free = 2
-word_of k (Announced p) = 3 + 2 * p
-word_of k (Stamp p) = 4 + 2 * p
-word_of k (Gate c) = 3 + 3 * c
-word_of k (Count c side) = 4 + 3 * c + side
-word_of k (Row p c) = 3 + 64 * p + c
-word_of k (State s) = slot_base k + 9 * s
-word_of k (Lock s) = slot_base k + 9 * s + 1
-word_of k (Life s) = slot_base k + 9 * s + 2
-word_of k (Key s) = slot_base k + 9 * s + 3
-word_of k (Value s) = slot_base k + 9 * s + 4
-word_of k (Link s b) = slot_base k + 9 * s + side_number b
-word_of k (Tag s b) = slot_base k + 9 * s + tag_number b
+word_of k Clock = lead
+word_of k Front = lead + apart
+word_of k Free = lead + 2 * apart
+word_of k (Announced p) = waiter_base + apart * p
+word_of k (Stamp p) = waiter_base + apart * p + 1
+word_of k (Gate c) = waiter_base + apart * c
+word_of k (Count c side) = waiter_base + apart * c + 1 + side
+word_of k (Row p c) = waiter_base + classes * p + c
+word_of k (State s) = state_base k + s
+word_of k (Lock s) = slot_base k + line * s
+word_of k (Life s) = slot_base k + line * s + 1
+word_of k (Key s) = slot_base k + line * s + 2
+word_of k (Value s) = slot_base k + line * s + 3
+word_of k (Link s b) = slot_base k + line * s + side_number b
+word_of k (Tag s b) = slot_base k + line * s + tag_number b
 
 -- The table has the field: it is one of its waiter, and its place, class, side or slot is one of the table's.
 abbrev pub is_field : Shape → Field → Bool
@@ -58,9 +82,9 @@ is_field k Front = true
 is_field k Free = true
 is_field k (Announced p) = same_waiter k.waiter Eer && nat_lt p k.places
 is_field k (Stamp p) = same_waiter k.waiter Eer && nat_lt p k.places
-is_field k (Gate c) = same_waiter k.waiter Domain && nat_lt c 64
-is_field k (Count c side) = same_waiter k.waiter Domain && (nat_lt c 64 && nat_lt side 2)
-is_field k (Row p c) = same_waiter k.waiter Deer && (nat_lt p k.places && nat_lt c 64)
+is_field k (Gate c) = same_waiter k.waiter Domain && nat_lt c classes
+is_field k (Count c side) = same_waiter k.waiter Domain && (nat_lt c classes && nat_lt side 2)
+is_field k (Row p c) = same_waiter k.waiter Deer && (nat_lt p k.places && nat_lt c classes)
 is_field k (State s) = nat_lt s (slot_count k)
 is_field k (Lock s) = nat_lt s (slot_count k)
 is_field k (Life s) = nat_lt s (slot_count k)

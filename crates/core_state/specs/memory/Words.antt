@@ -12,14 +12,14 @@ holder_of lock = if lock == 0 then None else Some (lock - 1)
 abbrev pub child_of : ℕ → Option ℕ
 child_of link = if link == 0 then None else Some link
 
--- the numbers of a side's link and tag among the fields of a slot
+-- the numbers of a side's link and tag among the words of a slot's line
 abbrev pub side_number : Side → ℕ
-side_number Left = 5
-side_number Right = 6
+side_number Left = 4
+side_number Right = 5
 
 abbrev pub tag_number : Side → ℕ
-tag_number Left = 7
-tag_number Right = 8
+tag_number Left = 6
+tag_number Right = 7
 
 -- the side to which a search goes on at a node with another key
 abbrev pub step_side : ℕ → ℕ → Option Side

@@ -46,8 +46,10 @@ turns_to_come (Some wait) = if wait.ended then 0 else 64 - length wait.turned
 pub record CountParts (tickets : ℕ) (m : Memory) (n : ℕ) (g : Chart) (vs : List View) (h : List Mark) : Type 0 where
   pub free : m Free + reserved_count vs + total (λ v. flag v.hands.owes) vs ≡ count_below (λ s. m (State s) == 0) n
   pub clock : m Clock + length (updates_of h) + tickets_left vs ≤ tickets
-  pub generations : sum_below (λ s. m (Life s) / 2) n + reserved_count vs + (linked_count g n + total unraised_of vs) + tickets_left vs ≤ tickets
-  pub tags : sum_below (λ s. m (Tag s Left) + m (Tag s Right)) n + total (λ v. emptied_among v.locks) vs + pending_count vs + tickets_left vs ≤ tickets
+  pub generations : sum_below (λ s. m (Life s) / 2) n + reserved_count vs + (linked_count g n + total unraised_of vs) + tickets_left vs
+      ≤ tickets
+  pub tags : sum_below (λ s. m (Tag s Left) + m (Tag s Right)) n + total (λ v. emptied_among v.locks) vs + pending_count vs
+      + tickets_left vs ≤ tickets
   pub turns : total (λ v. v.counts.turns + turns_to_come v.wait) vs ≤ 64 * m Clock
   pub pairs : young_count g n ≡ finite.len (map_of (updates_of h))
   pub olds : old_count g n ≡ pending_count vs

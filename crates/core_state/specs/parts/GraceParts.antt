@@ -16,7 +16,8 @@ use Rattle.core_state.specs.Marks.{Grace, Reuse, HasWaited}
 
 -- no section is open that was entered before this mark with a key in the interval
 abbrev pub IsClear : List View → ℕ → ℕ → ℕ → Type 0
-IsClear vs at low high = (id : ℕ) (v : View) (section : Section) → get_elem? vs id ≡ some v → v.section ≡ Some section → section.entered < at → low ≤ section.key → section.key ≤ high → ⊥
+IsClear vs at low high = (id : ℕ) (v : View) (section : Section) → get_elem? vs id ≡ some v → v.section ≡ Some section
+    → section.entered < at → low ≤ section.key → section.key ≤ high → ⊥
 
 -- That a retired slot of a place was waited for is what the marks show; and then no section is open that may meet it.
 pub record IsWaitedRetired (vs : List View) (h : List Mark) (p : ℕ) (r : Retired) : Type 0 where

@@ -14,6 +14,7 @@ use Rattle.core_state.specs.declared.view.Fact.{Fact}
 use Rattle.core_state.specs.declared.view.Gap.{Gap}
 use Rattle.core_state.specs.declared.view.Listing.{Listing}
 use Rattle.core_state.specs.declared.view.Section.{Section}
+use Rattle.core_state.specs.declared.view.Visit.{Visit}
 use Rattle.core_state.specs.declared.view.View.{View}
 use Rattle.list_laws.specs.Counts.{Each}
 use Rattle.core_state.specs.memory.Lists.{IsEven}
@@ -60,20 +61,29 @@ pub record WasOld (m : Memory) (g : Chart) (h : List Mark) (bounds : Gap) (s : �
   pub pair : map_now h (m (Key s)) ≡ Some (m (Value s))
   pub right : GoesRight m g (map_now h) bounds s
 
--- Where nothing was updated since a listing began: what it found is so now, and its walk stands where the rest of its bounds is.
+-- where a listing has been, as long as nothing was updated: the rest of the bounds is there
+abbrev pub StandsNow : Memory → Chart → List Mark → Visit → Type 0
+StandsNow m g h t = HasBounds g t.bounds t.slot ⊎ WasOld m g h t.bounds t.slot
+
+-- Where nothing was updated since a listing began: what it found is so now, and wherever it has been it may go on.
 pub record ListsNow (m : Memory) (g : Chart) (h : List Mark) (listing : Listing) : Type 0 where
   pub facts : Each listing.facts (λ (f : Fact). map_now h f.key ≡ Some f.value)
   pub gaps : Each listing.gaps (λ (gap : Gap). (y : ℕ) → IsBetween gap y → map_now h y ≡ None)
-  pub stands : listing.slot ≢ 0 → HasBounds g listing.bounds listing.slot ⊎ WasOld m g h listing.bounds listing.slot
+  pub visits : Each listing.visits (StandsNow m g h)
 
--- A listing's front isn't above the front word, and where it is even not before what was seen at its entry; the key that its walk
--- loaded is its slot's, and the slot is linked or was unlinked since.
+-- Where a section's listing has been is a slot that is linked or was unlinked since the entry, with the key that was loaded.
+pub record IsVisit (m : Memory) (g : Chart) (h : List Mark) (entered : ℕ) (t : Visit) : Type 0 where
+  pub node : t.slot ≢ 0
+  pub key : (key : ℕ) → t.key ≡ Some key → m (Key t.slot) ≡ key
+  pub here : (g.linked t.slot ≡ true) ⊎ IsHeldBack g h entered t.slot
+
+-- A listing's front isn't above the front word, and where it is even not before what was seen at its entry.
 pub record IsListing (m : Memory) (g : Chart) (h : List Mark) (section : Section) (listing : Listing) : Type 0 where
   pub since : IsEven listing.front → 2 * section.from ≤ listing.front
   pub most : listing.front ≤ m Front
-  pub key : (key : ℕ) → listing.key ≡ Some key → (listing.slot ≢ 0) × (m (Key listing.slot) ≡ key)
-  pub here : listing.slot ≢ 0 → (g.linked listing.slot ≡ true) ⊎ IsHeldBack g h section.entered listing.slot
+  pub visits : Each listing.visits (IsVisit m g h section.entered)
   pub now : IsEven listing.front → m Front ≡ listing.front → ListsNow m g h listing
 
 pub record ListingParts (m : Memory) (g : Chart) (vs : List View) (h : List Mark) : Type 0 where
-  pub listings : Each vs (λ v. (section : Section) (listing : Listing) → v.section ≡ Some section → section.listing ≡ Some listing → IsListing m g h section listing)
+  pub listings : Each vs (λ v. (section : Section) (listing : Listing) → v.section ≡ Some section → section.listing ≡ Some listing
+      → IsListing m g h section listing)

@@ -56,9 +56,11 @@ HasGeneration m s generation lock = (m (Life s) ≡ 2 * generation) ⊎ ((m (Lif
 pub record IsLockKnown (m : Memory) (v : View) (s : ℕ) (lock : HeldLock) : Type 0 where
   pub own : (field : Field) (number : ℕ) → known_in lock.known field ≡ Some number → IsOwnField s field
   pub tags : (b : Side) (number : ℕ) → known_in lock.known (Tag s b) ≡ Some number → m (Tag s b) ≡ number
-  pub fields : (r : Reading) (generation number : ℕ) (field : Field) → IsIn (readings_of v) r → LoadedGeneration r s generation → HasGeneration m s generation lock
+  pub fields : (r : Reading) (generation number : ℕ) (field : Field) → IsIn (readings_of v) r → LoadedGeneration r s generation
+      → HasGeneration m s generation lock
       → known_in lock.known field ≡ Some number → m field ≡ number
-  pub lives : (r : Reading) (generation : ℕ) → IsIn (readings_of v) r → LoadedGeneration r s generation → known_in lock.known (Life s) ≡ Some (2 * generation) → m (Life s) ≡ 2 * generation
+  pub lives : (r : Reading) (generation : ℕ) → IsIn (readings_of v) r → LoadedGeneration r s generation
+      → known_in lock.known (Life s) ≡ Some (2 * generation) → m (Life s) ≡ 2 * generation
   pub marked_life : lock.marked ≡ true → known_in lock.known (Life s) ≡ Some (m (Life s))
 
 -- No generation and no tag that a section loaded is above the one now. Where it is the generation now, the slot has the key that was
@@ -67,7 +69,8 @@ pub record IsReadingKept (m : Memory) (g : Chart) (r : Reading) : Type 0 where
   pub generations : (s life : ℕ) → known_in r.loads (Life s) ≡ Some life → life / 2 ≤ m (Life s) / 2
   pub tags : (s number : ℕ) (b : Side) → known_in r.loads (Tag s b) ≡ Some number → number ≤ m (Tag s b)
   pub linked : (s life : ℕ) → known_in r.loads (Life s) ≡ Some life → m (Life s) ≡ 2 * (life / 2) → g.linked s ≡ true
-  pub keys : (s life key : ℕ) → known_in r.loads (Life s) ≡ Some life → m (Life s) / 2 ≡ life / 2 → known_in r.loads (Key s) ≡ Some key → m (Key s) ≡ key
+  pub keys : (s life key : ℕ) → known_in r.loads (Life s) ≡ Some life → m (Life s) / 2 ≡ life / 2 → known_in r.loads (Key s) ≡ Some key
+      → m (Key s) ≡ key
 
 -- Locks are held by whom their words name; a linked slot that is marked is locked by who marked it; and what views know under their
 -- locks and from their sections is so, as far as the generation says.

@@ -73,7 +73,8 @@ Answered us section _ = Unit {0}
 -- A search of an open section that is no listing stands where its answer will be one that the dictionary gave since it was entered;
 -- what it has answered is one.
 pub record IsPlaced (m : Memory) (g : Chart) (h : List Mark) (vs : List View) (section : Section) : Type 0 where
-  pub place : Place m g section.key (IsHeldBack g h section.entered) (MayPass vs section.key section.entered) (WasSaid (updates_of h) section.key section.from) (state_slot section.reading.state)
+  pub place : Place m g section.key (IsHeldBack g h section.entered) (MayPass vs section.key section.entered)
+      (WasSaid (updates_of h) section.key section.from) (state_slot section.reading.state)
   pub answered : Answered (updates_of h) section section.reading.state
 
 -- Where the search found a node that is linked, its walk stands right of it and then left; and so does the slot before.
@@ -92,7 +93,8 @@ pub record HasStood (m : Memory) (g : Chart) (h : List Mark) (section : Section)
 pub record IsServed (m : Memory) (g : Chart) (h : List Mark) (vs : List View) (section : Section) : Type 0 where
   pub placed : section.listing ≡ None → IsPlaced m g h vs section
   pub lists : (listing : Listing) → section.listing ≡ Some listing → section.reading.loads ≡ []
-  pub walking : (node parent : ℕ) (b : Side) (value : Option ℕ) (walk : Walk) → section.reading.state ≡ Found node parent b value → section.reading.walk ≡ Some walk → IsWalking m g h section node walk
+  pub walking : (node parent : ℕ) (b : Side) (value : Option ℕ) (walk : Walk) → section.reading.state ≡ Found node parent b value
+      → section.reading.walk ≡ Some walk → IsWalking m g h section node walk
   pub stood : (s : ℕ) → IsIn section.reading.stood s → HasStood m g h section s
 
 -- the slot has the generation that the section loaded, and is unmarked
@@ -103,7 +105,8 @@ IsAsRecorded m r s = (generation : ℕ) × LoadedGeneration r s generation × (m
 -- belongs there. It says nothing of the old successor of a move whose interval holds the key, nor of a side that its lock's holder
 -- has emptied and not yet raised the tag of.
 abbrev pub SaysOfSide : Memory → Chart → List View → Reading → Type 0
-SaysOfSide m g vs r = (s tag : ℕ) (b : Side) → r.state ≡ Missed s b → IsAsRecorded m r s → known_in r.loads (Tag s b) ≡ Some tag → m (Link s b) ≡ 0 → m (Tag s b) ≡ tag
+SaysOfSide m g vs r = (s tag : ℕ) (b : Side) → r.state ≡ Missed s b → IsAsRecorded m r s → known_in r.loads (Tag s b) ≡ Some tag
+    → m (Link s b) ≡ 0 → m (Tag s b) ≡ tag
     → (IsEmptied vs s b → ⊥) → IsOldFor vs r.key s ⊎ Belongs m g r.key s b
 
 -- the slot is linked with the generation that the section loaded, marked or not
@@ -123,11 +126,13 @@ pub record SaysOfWalk (m : Memory) (g : Chart) (r : Reading) (node : ℕ) (walk 
 pub record IsRecord (m : Memory) (g : Chart) (vs : List View) (r : Reading) : Type 0 where
   pub key_fits : r.key < 2 ^ 64
   pub side : SaysOfSide m g vs r
-  pub walk : (node parent : ℕ) (b : Side) (value : Option ℕ) (walk : Walk) → r.state ≡ Found node parent b value → r.walk ≡ Some walk → SaysOfWalk m g r node walk
+  pub walk : (node parent : ℕ) (b : Side) (value : Option ℕ) (walk : Walk) → r.state ≡ Found node parent b value → r.walk ≡ Some walk
+      → SaysOfWalk m g r node walk
 
 -- some section is open that was entered before this mark
 abbrev pub IsMetBefore : List View → ℕ → Type 0
-IsMetBefore vs at = (id : ℕ) × (v : View) × (section : Section) × (get_elem? vs id ≡ some v) × (v.section ≡ Some section) × (section.entered < at)
+IsMetBefore vs at = (id : ℕ) × (v : View) × (section : Section) × (get_elem? vs id ≡ some v) × (v.section ≡ Some section)
+    × (section.entered < at)
 
 -- A link of an unlinked slot that a section may still meet is 0, or leads to a linked slot, or to one that was unlinked later.
 abbrev pub AreAged : Memory → Chart → List View → List Mark → Type 0

@@ -45,13 +45,15 @@ pub record HasFewSlots (v : View) : Type 0 where
   pub next_spare : Works v → v.hands.spare ≡ None → (r : Retired) × IsIn v.hands.retired r × (r.raised ≡ false)
 
 -- A retired slot was unlinked where the view says, and neither given nor freed since. Until its generation is raised its node is
--- marked, and its life, its key, its value and its links are as they were known; once it is raised, the node is unmarked, and it was waited for.
+-- marked, and its life, its key, its value and its links are as they were known; once it is raised, the node is unmarked, and it was waited
+-- for.
 pub record IsRetired (m : Memory) (h : List Mark) (r : Retired) : Type 0 where
   pub unlinked : gone_at r.slot h ≡ Some r.unlinked
   pub some_slot : r.slot ≢ 0
   pub marked : r.raised ≡ false → IsOdd (m (Life r.slot))
   pub life : (number : ℕ) → r.raised ≡ false → r.life ≡ Some number → m (Life r.slot) ≡ number
-  pub stays : (field : Field) (number : ℕ) → r.raised ≡ false → IsContent r.slot field → known_in r.known field ≡ Some number → m field ≡ number
+  pub stays : (field : Field) (number : ℕ) → r.raised ≡ false → IsContent r.slot field → known_in r.known field ≡ Some number
+      → m field ≡ number
   pub unmarked : r.raised ≡ true → IsEven (m (Life r.slot))
   pub after_wait : r.raised ≡ true → r.waited ≡ true
 
@@ -66,7 +68,8 @@ pub record IsRetiredOf (vs : List View) (s : ℕ) : Type 0 where
 
 -- What the view loaded or stored in a slot since it got it is so.
 abbrev pub IsHeldKnown : Memory → Held → Type 0
-IsHeldKnown m held = (field : Field) (number : ℕ) → known_in held.known field ≡ Some number → IsOwnField held.slot field × (m field ≡ number)
+IsHeldKnown m held = (field : Field) (number : ℕ) → known_in held.known field ≡ Some number
+    → IsOwnField held.slot field × (m field ≡ number)
 
 -- What the view knows of the slot in hand, the spare, and the copy of its move is so; and none of them is marked.
 pub record AreHandsKnown (m : Memory) (v : View) : Type 0 where

@@ -56,7 +56,8 @@ pub record IsMoving (m : Memory) (g : Chart) (h : List Mark) (v : View) (move : 
   pub parent_lock : HasLock v move.parent
   pub made : get_elem? h move.made ≡ some (Done (record { caller = v.allowance.place; op = Del move.key }))
   pub recorded : IsOldRecorded m v move.old
-  pub unmet : (r : Reading) (generation : ℕ) → IsIn v.records r → LoadedGeneration r move.copy.slot generation → m (Life move.copy.slot) ≢ 2 * generation
+  pub unmet : (r : Reading) (generation : ℕ) → IsIn v.records r → LoadedGeneration r move.copy.slot generation
+      → m (Life move.copy.slot) ≢ 2 * generation
 
 -- the linked slot is the old successor of a pending move
 pub record IsOldOf (vs : List View) (s : ℕ) : Type 0 where
@@ -68,8 +69,10 @@ pub record IsOldOf (vs : List View) (s : ℕ) : Type 0 where
 pub record AreMoving (m : Memory) (g : Chart) (h : List Mark) (vs : List View) : Type 0 where
   pub each : Each vs (λ v. (move : Move) → v.moving ≡ Some move → IsMoving m g h v move)
   pub every : (s : ℕ) → g.linked s ≡ true → g.old s ≡ true → IsOldOf vs s
-  pub one_old : (i j : ℕ) (v w : View) (a b : Move) → get_elem? vs i ≡ some v → get_elem? vs j ≡ some w → v.moving ≡ Some a → w.moving ≡ Some b → a.old ≡ b.old → i ≡ j
-  pub one_copy : (i j : ℕ) (v w : View) (a b : Move) → get_elem? vs i ≡ some v → get_elem? vs j ≡ some w → v.moving ≡ Some a → w.moving ≡ Some b → a.copy.slot ≡ b.copy.slot → i ≡ j
+  pub one_old : (i j : ℕ) (v w : View) (a b : Move) → get_elem? vs i ≡ some v → get_elem? vs j ≡ some w → v.moving ≡ Some a
+      → w.moving ≡ Some b → a.old ≡ b.old → i ≡ j
+  pub one_copy : (i j : ℕ) (v w : View) (a b : Move) → get_elem? vs i ≡ some v → get_elem? vs j ≡ some w → v.moving ≡ Some a
+      → w.moving ≡ Some b → a.copy.slot ≡ b.copy.slot → i ≡ j
 
 -- The linked slots are in search order and hold the pairs of the dictionary now; and pending moves are as they should be.
 pub record TreeParts (m : Memory) (n : ℕ) (g : Chart) (vs : List View) (h : List Mark) : Type 0 where

@@ -23,11 +23,13 @@ use Rattle.core_state.specs.steps.Waits.{keys_of, spot_of}
 -- entered.
 pub record IsClocked (waiter : Waiter) (h : List Mark) (v : View) : Type 0 where
   pub loaded : (clocked : Clocked) → v.enter.clock ≡ Some clocked → (clocked.at ≤ length h) × (clocked.number ≡ begun (take clocked.at h))
-  pub stamped : (section : Section) → v.section ≡ Some section → (section.clocked ≤ section.entered) × (waiter ≢ Domain → section.stamp ≡ begun (take section.clocked h))
+  pub stamped : (section : Section) → v.section ≡ Some section
+      → (section.clocked ≤ section.entered) × (waiter ≢ Domain → section.stamp ≡ begun (take section.clocked h))
 
 -- A wait that hasn't ended excused no spot in which an older reader stands that it is for.
 abbrev pub AreExcused : Shape → List View → Type 0
-AreExcused k vs = (i j : ℕ) (v u : View) (wait : Waiting) (section : Section) → get_elem? vs i ≡ some v → v.wait ≡ Some wait → wait.ended ≡ false
+AreExcused k vs = (i j : ℕ) (v u : View) (wait : Waiting) (section : Section) → get_elem? vs i ≡ some v → v.wait ≡ Some wait
+    → wait.ended ≡ false
     → get_elem? vs j ≡ some u → u.section ≡ Some section → section.entered < wait.began → Holds (keys_of wait) section.key
     → IsIn wait.excused (spot_of k.waiter u.allowance.place section) → ⊥
 
@@ -39,7 +41,8 @@ pub record IsTurnedOnce (wait : Waiting) : Type 0 where
 -- The first waiter: the key and stamp of a place are those of its open section; without one the stamp is idle. The key word is the
 -- key that was announced last, inside a section or not.
 pub record EerWords (places : ℕ) (m : Memory) (vs : List View) (h : List Mark) : Type 0 where
-  pub inside : Each vs (λ v. (section : Section) → v.section ≡ Some section → (m (Announced v.allowance.place) ≡ section.key) × (m (Stamp v.allowance.place) ≡ section.stamp))
+  pub inside : Each vs (λ v. (section : Section) → v.section ≡ Some section
+      → (m (Announced v.allowance.place) ≡ section.key) × (m (Stamp v.allowance.place) ≡ section.stamp))
   pub outside : (p : ℕ) → p < places → open_at p h ≡ None → m (Stamp p) ≡ idle
   pub announced : Each vs (λ v. (key : ℕ) → v.enter.announced ≡ Some key → m (Announced v.allowance.place) ≡ key)
 
@@ -55,7 +58,8 @@ pub record DomainWords (m : Memory) (vs : List View) : Type 0 where
 
 -- The third waiter: the word of an open section's place and class is its stamp; the other words of the place are idle.
 pub record DeerWords (places : ℕ) (m : Memory) (vs : List View) (h : List Mark) : Type 0 where
-  pub inside : Each vs (λ v. (section : Section) → v.section ≡ Some section → m (Row v.allowance.place (class_of section.key)) ≡ section.stamp)
+  pub inside : Each vs (λ v. (section : Section) → v.section ≡ Some section
+      → m (Row v.allowance.place (class_of section.key)) ≡ section.stamp)
   pub outside : (p c : ℕ) → p < places → c < 64 → ((o : Open) → open_at p h ≡ Some o → class_of o.key ≢ c) → m (Row p c) ≡ idle
 
 -- The clock counts the waits, stamps are clocks of before the section, and the waiter's words show the open sections.

@@ -36,7 +36,8 @@ updating v commit op h more = record v {
 
 -- K20: the slot in hand is linked as a leaf, on a side that a record names: the slot's life, the empty side and its tag, as they
 -- were last loaded or stored under the lock, are those of the record, and the slot in hand has the record's key.
-pub record NeedsLeafLink (v : View) (commit : Commit) (r : Reading) (lock : HeldLock) (held : Held) (slot : ℕ) (b : Side) (leaf value generation tag : ℕ) : Type 0 where
+pub record NeedsLeafLink (v : View) (commit : Commit) (r : Reading) (lock : HeldLock) (held : Held) (slot : ℕ) (b : Side)
+    (leaf value generation tag : ℕ) : Type 0 where
   pub has_commit : HasCommit v commit
   pub kept : IsIn v.records r
   pub missed : r.state ≡ Missed slot b
@@ -64,14 +65,16 @@ after_leaf_link v commit slot b leaf key value h =
 pub record NodeRecords (v : View) (r : Reading) (parent : ℕ) (b : Side) (node left right : ℕ) : Type 0 where
   pub kept : IsIn v.records r
   pub found : (value : Option ℕ) × (r.state ≡ Found node parent b value)
-  pub parent_now : (generation : ℕ) × LoadedGeneration r parent generation × (loaded_in (known_under v parent) (Life parent) ≡ Some (2 * generation))
+  pub parent_now : (generation : ℕ) × LoadedGeneration r parent generation
+      × (loaded_in (known_under v parent) (Life parent) ≡ Some (2 * generation))
   pub link_now : loaded_in (known_under v parent) (Link parent b) ≡ Some node
   pub left_now : loaded_in (known_under v node) (Link node Left) ≡ Some left
   pub right_now : loaded_in (known_under v node) (Link node Right) ≡ Some right
 
 -- the node has the recorded generation and is unmarked, or is marked by this view
 abbrev pub IsUnmarkedNode : View → Reading → ℕ → Type 0
-IsUnmarkedNode v r node = (generation : ℕ) × LoadedGeneration r node generation × (loaded_in (known_under v node) (Life node) ≡ Some (2 * generation))
+IsUnmarkedNode v r node = (generation : ℕ) × LoadedGeneration r node generation
+    × (loaded_in (known_under v node) (Life node) ≡ Some (2 * generation))
 
 pub record IsMarkedNode (v : View) (r : Reading) (node : ℕ) : Type 0 where
   pub generation : ℕ
@@ -100,7 +103,9 @@ pub record FewChildren (v : View) (r : Reading) (parent : ℕ) (b : Side) (node 
 abbrev pub SuccessorLink : View → Reading → ℕ → ℕ → ℕ → ℕ → Type 0
 SuccessorLink v r node right parent old =
     ((parent ≡ node) × (right ≡ old))
-    ⊎ ((parent ≢ node) × ((generation : ℕ) × LoadedGeneration r parent generation × (loaded_in (known_under v parent) (Life parent) ≡ Some (2 * generation))) × (loaded_in (known_under v parent) (Link parent Left) ≡ Some old))
+    ⊎ ((parent ≢ node) × ((generation : ℕ) × LoadedGeneration r parent generation
+    × (loaded_in (known_under v parent) (Life parent) ≡ Some (2 * generation)))
+    × (loaded_in (known_under v parent) (Link parent Left) ≡ Some old))
 
 -- the section once loaded a link of the node that wasn't empty
 abbrev pub HadChild : Reading → ℕ → Side → Type 0
@@ -142,7 +147,14 @@ after_mark v slot life =
 
 -- a slot that is unlinked by a mark at this place, with what was known of it
 abbrev pub newly_retired : View → ℕ → ℕ → Retired
-newly_retired v slot unlinked = record { slot = slot; unlinked = unlinked; raised = false; waited = false; life = None; known = known_under v slot }
+newly_retired v slot unlinked = record {
+  slot = slot;
+  unlinked = unlinked;
+  raised = false;
+  waited = false;
+  life = None;
+  known = known_under v slot;
+}
 
 -- the locks after a link of one slot was stored, where that emptied a side, and another slot was unlinked
 abbrev pub relinked : ℕ → Side → ℕ → ℕ → List HeldLock → List HeldLock
@@ -160,7 +172,10 @@ pub record NeedsBypass (v : View) (commit : Commit) (r : Reading) (parent : ℕ)
 abbrev pub after_bypass : View → Commit → ℕ → Side → ℕ → ℕ → ℕ → List Mark → View
 after_bypass v commit parent b node child key h =
     let w = noting v parent (Link parent b) child true in
-    updating (record w { locks = relinked parent b child node w.locks; hands = record w.hands { retired = w.hands.retired ++ newly_retired v node (length h + 1) ∷ [] } })
+    updating (record w {
+      locks = relinked parent b child node w.locks;
+      hands = record w.hands { retired = w.hands.retired ++ newly_retired v node (length h + 1) ∷ [] };
+    })
     commit (Del key) h (Unlinked node ∷ [])
 
 -- K36: the value of a slot is replaced whose life, as it was last loaded or stored under its lock, is that of the record.

@@ -6,12 +6,14 @@ use Rattle.prcu_marks.specs.declared.mark.Side.{Side}
 use Rattle.prcu_marks.specs.declared.mark.Side.TheVariants.{Left, Right}
 use Rattle.core_state.specs.declared.words.Field.{Field}
 use Rattle.core_state.specs.declared.words.Field.TheVariants.{Key, Value, Link}
+use Rattle.core_state.specs.declared.view.Fact.{Fact}
 use Rattle.core_state.specs.declared.view.Gap.{Gap}
 use Rattle.core_state.specs.declared.view.Listing.{Listing}
 use Rattle.core_state.specs.declared.view.Reading.{Reading}
 use Rattle.core_state.specs.declared.view.Section.{Section}
 use Rattle.core_state.specs.declared.view.SearchState.{SearchState}
 use Rattle.core_state.specs.declared.view.SearchState.TheVariants.{At, Unread, Found, Missed}
+use Rattle.core_state.specs.declared.view.Visit.{Visit}
 use Rattle.core_state.specs.declared.view.Walk.{Walk}
 use Rattle.core_state.specs.declared.view.View.{View}
 use Rattle.core_state.specs.memory.Words.{step_side}
@@ -36,7 +38,8 @@ walked r d (Some walk) t Left number = if t == walk.slot && not (number == 0) th
 
 -- with a search that loaded the link at which it stood
 abbrev pub linked_on : Reading → ℕ → Side → ℕ → Reading
-linked_on r s b number = if number == 0 then record r { state = Missed s b } else record r { state = Unread number s b; stood = number ∷ r.stood }
+linked_on r s b number = if number == 0 then record r { state = Missed s b }
+    else record r { state = Unread number s b; stood = number ∷ r.stood }
 
 -- A load moves the search or the walk only where it loads the very link or key at which it stands.
 abbrev pub searched : Reading → SearchState → Field → ℕ → Reading
@@ -48,7 +51,10 @@ searched r _ _ number = r
 
 -- what is found out with one more load
 abbrev pub loaded : Reading → Field → ℕ → Reading
-loaded r field number = searched (record r { loads = record { field = field; number = number; stored = false } ∷ r.loads }) r.state field number
+loaded r field number = searched (record r {
+  loads =
+      record { field = field; number = number; stored = false } ∷ r.loads;
+}) r.state field number
 
 -- K17: a field of a slot at which the search or the walk stands or has stood is loaded. The section is no listing.
 pub record NeedsSearchLoad (v : View) (section : Section) (slot : ℕ) (field : Field) : Type 0 where
@@ -60,7 +66,8 @@ pub record NeedsSearchLoad (v : View) (section : Section) (slot : ℕ) (field : 
 abbrev pub after_search_load : View → Section → Field → ℕ → View
 after_search_load v section field found = record v { section = Some (record section { reading = loaded section.reading field found }) }
 
--- K37: the front is loaded in a section in which nothing was loaded by K17. From then on the section is a listing. Who looks at the front has
+-- K37: the front is loaded in a section in which nothing was loaded by K17. From then on the section is a listing. Who looks at the front
+-- has
 -- seen all marks: what a listing found is so after just these updates.
 pub record NeedsFrontLook (v : View) (section : Section) : Type 0 where
   pub section_is : v.section ≡ Some section
@@ -70,7 +77,7 @@ abbrev pub no_bounds : Gap
 no_bounds = record { low = None; high = None }
 
 abbrev pub new_listing : ℕ → Listing
-new_listing front = record { front = front; slot = 0; key = None; bounds = no_bounds; facts = []; gaps = [] }
+new_listing front = record { front = front; visits = []; facts = []; gaps = [] }
 
 abbrev pub looked : ℕ → Option Listing → Option Listing
 looked found None = Some (new_listing found)
@@ -89,34 +96,56 @@ abbrev pub narrowed : Gap → ℕ → Side → Gap
 narrowed bounds key Left = record bounds { high = Some key }
 narrowed bounds key Right = record bounds { low = Some key }
 
--- a listing's walk from the root: a link that is 0 shows that there is no key
-abbrev pub walk_begun : Listing → ℕ → Listing
-walk_begun l number = record l { slot = number; key = None; bounds = no_bounds; gaps = if number == 0 then no_bounds ∷ l.gaps else l.gaps }
+-- What is found by a link, with the bounds past it: a slot between them, or where it is 0 that there is no key between them.
+abbrev pub visits_by_link : Gap → ℕ → List Visit
+visits_by_link bounds number = if number == 0 then [] else record { slot = number; key = None; bounds = bounds } ∷ []
 
-abbrev pub walk_on : Listing → Gap → ℕ → Listing
-walk_on l bounds number = if number == 0 then record l { gaps = bounds ∷ l.gaps } else record l { slot = number; key = None; bounds = bounds }
+abbrev pub gaps_by_link : Gap → ℕ → List Gap
+gaps_by_link bounds number = if number == 0 then bounds ∷ [] else []
 
--- A load of the root's right begins a walk. At a slot whose key it loaded, a walk goes on by a link, with narrower bounds, and
--- a value that it loads is a pair that it has found.
-abbrev pub listed_below : Listing → Option ℕ → Field → ℕ → Listing
-listed_below l key (Key t) number = record l { key = Some number }
-listed_below l (Some key) (Value t) number = record l { facts = record { key = key; value = number } ∷ l.facts }
-listed_below l (Some key) (Link t b) number = walk_on l (narrowed l.bounds key b) number
-listed_below l _ _ number = l
+-- What is found by a load at a slot where the listing has been: its key; where that is known its value, which makes a pair, and what is
+-- past it.
+abbrev pub visits_by : Visit → Option ℕ → Field → ℕ → List Visit
+visits_by t key (Key s) number = record t { key = Some number } ∷ []
+visits_by t (Some key) (Link s b) number = visits_by_link (narrowed t.bounds key b) number
+visits_by t _ _ number = []
 
+abbrev pub facts_by : Option ℕ → Field → ℕ → List Fact
+facts_by (Some key) (Value s) number = record { key = key; value = number } ∷ []
+facts_by _ _ number = []
+
+abbrev pub gaps_by : Visit → Option ℕ → Field → ℕ → List Gap
+gaps_by t (Some key) (Link s b) number = gaps_by_link (narrowed t.bounds key b) number
+gaps_by t _ _ number = []
+
+-- what is found by all visits of a slot
+abbrev pub by_visits : {A : Type 0} → (Visit → List A) → ℕ → List Visit → List A
+by_visits found slot [] = []
+by_visits found slot (t ∷ ts) = if t.slot == slot then found t ++ by_visits found slot ts else by_visits found slot ts
+
+abbrev pub listed_below : Listing → ℕ → Field → ℕ → Listing
+listed_below l slot field number = record l {
+  visits = by_visits (λ (t : Visit). visits_by t t.key field number) slot l.visits ++ l.visits;
+  facts = by_visits (λ (t : Visit). facts_by t.key field number) slot l.visits ++ l.facts;
+  gaps = by_visits (λ (t : Visit). gaps_by t t.key field number) slot l.visits ++ l.gaps;
+}
+
+-- the root's right link leads to all keys
 abbrev pub listed_root : Listing → Field → ℕ → Listing
-listed_root l (Link t Right) number = walk_begun l number
+listed_root l (Link t Right) number = record l
+    { visits = visits_by_link no_bounds number ++ l.visits; gaps = gaps_by_link no_bounds number ++ l.gaps }
 listed_root l _ number = l
 
 abbrev pub listed : Listing → ℕ → Field → ℕ → Listing
-listed l slot field number = if slot == 0 then listed_root l field number else listed_below l l.key field number
+listed l slot field number = if slot == 0 then listed_root l field number else listed_below l slot field number
 
--- The load of a listing: of slot 0, or of the slot at which its walk stands.
+-- The load of a listing: of slot 0, or of a slot where it has been.
 pub record NeedsListLoad (v : View) (section : Section) (listing : Listing) (slot : ℕ) (field : Field) : Type 0 where
   pub section_is : v.section ≡ Some section
   pub lists : section.listing ≡ Some listing
-  pub stands : (slot ≡ 0) ⊎ (slot ≡ listing.slot)
+  pub been : (slot ≡ 0) ⊎ ((t : Visit) × IsIn listing.visits t × (t.slot ≡ slot))
   pub loadable : IsLoadable slot field
 
 abbrev pub after_list_load : View → Section → Listing → ℕ → Field → ℕ → View
-after_list_load v section listing slot field found = record v { section = Some (record section { listing = Some (listed listing slot field found) }) }
+after_list_load v section listing slot field found =
+    record v { section = Some (record section { listing = Some (listed listing slot field found) }) }

@@ -19,7 +19,8 @@ use Rattle.core_state.specs.steps.Links.{HasCommit, updating, BothChildren, IsMa
 
 -- K25: the spare, which has the successor's key and value and the node's links, is linked in the place of the marked node. A
 -- move is pending from then on.
-pub record NeedsCopyLink (v : View) (commit : Commit) (r : Reading) (held : Held) (parent : ℕ) (b : Side) (node copy old old_parent left right next_key value : ℕ) : Type 0 where
+pub record NeedsCopyLink (v : View) (commit : Commit) (r : Reading) (held : Held) (parent : ℕ) (b : Side)
+    (node copy old old_parent left right next_key value : ℕ) : Type 0 where
   pub has_commit : HasCommit v commit
   pub room : length v.hands.retired < 15
   pub records : BothChildren v r parent b node left right old_parent old

@@ -19,7 +19,10 @@ Goes v after w = (h : List Mark) × IsPrefix v.seen h × (w ≡ after h)
 
 -- the view with one more step in its trail: the kinds of step below are made of this view
 abbrev pub stepped : View → Kind → Field → ℕ → View
-stepped v kind field number = record v { trail = record v.trail { steps = v.trail.steps ++ record { kind = kind; field = field; number = number } ∷ [] } }
+stepped v kind field number = record v {
+  trail =
+      record v.trail { steps = v.trail.steps ++ record { kind = kind; field = field; number = number } ∷ [] };
+}
 
 -- a slot of which nothing is known
 abbrev pub unknown_slot : ℕ → Held
@@ -52,7 +55,10 @@ pub record NeedsSplit (v : View) (places tickets : ℕ) : Type 0 where
   pub paid : tickets ≤ v.allowance.tickets
 
 abbrev pub first_of : ℕ → ℕ → View → View
-first_of places tickets v = record v { allowance = record v.allowance { places = v.allowance.places - places; tickets = v.allowance.tickets - tickets } }
+first_of places tickets v = record v {
+  allowance =
+      record v.allowance { places = v.allowance.places - places; tickets = v.allowance.tickets - tickets };
+}
 
 abbrev pub second_of : ℕ → ℕ → View → View
 second_of places tickets v = new_view (v.allowance.place + v.allowance.places - places) places tickets v.seen
@@ -70,7 +76,8 @@ abbrev pub unused_spent : ℕ → Spent
 unused_spent p = record { place = p; spare = Some (p + 1); retired = [] }
 
 abbrev pub spent_places : View → List Spent
-spent_places v = record { place = v.allowance.place; spare = spare_slot v.hands.spare; retired = v.hands.retired } ∷ (map unused_spent (numbers_from (v.allowance.place + 1) (v.allowance.places - 1)) ++ v.allowance.joined)
+spent_places v = record { place = v.allowance.place; spare = spare_slot v.hands.spare; retired = v.hands.retired }
+    ∷ (map unused_spent (numbers_from (v.allowance.place + 1) (v.allowance.places - 1)) ++ v.allowance.joined)
 
 -- what a view had seen when it was joined with another, after which both have seen these marks
 abbrev pub meeting_of : View → List Mark → Meeting
@@ -78,7 +85,11 @@ meeting_of v seen = record { places = places_of v; seen = v.seen; until = length
 
 abbrev pub both_of : View → View → View
 both_of v other = record v {
-  allowance = record v.allowance { tickets = v.allowance.tickets + other.allowance.tickets; joined = v.allowance.joined ++ spent_places other; met = meeting_of v (longer v.seen other.seen) ∷ (meeting_of other (longer v.seen other.seen) ∷ []) };
+  allowance = record v.allowance {
+    tickets = v.allowance.tickets + other.allowance.tickets;
+    joined = v.allowance.joined ++ spent_places other;
+    met = meeting_of v (longer v.seen other.seen) ∷ (meeting_of other (longer v.seen other.seen) ∷ []);
+  };
   counts = record v.counts { turns = v.counts.turns + other.counts.turns };
   looks = v.looks ++ other.looks;
   trail = record v.trail { joined = v.trail.joined ++ (other.trail.joined ++ other.trail.steps) };

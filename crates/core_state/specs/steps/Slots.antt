@@ -81,7 +81,8 @@ seized slot = record { slot = slot; known = record { field = State slot; number 
 
 abbrev pub after_seize : View → ℕ → ℕ → List Mark → View
 after_seize v slot found h =
-    if found == 0 then record v { hands = record v.hands { reserved = false; hand = Some (seized slot) }; seen = h ++ Given slot ∷ [] } else v
+    if found == 0 then record v { hands = record v.hands { reserved = false; hand = Some (seized slot) }; seen = h ++ Given slot ∷ [] }
+    else v
 
 -- K12 into a slot in hand or the spare: the key, the value and the links.
 abbrev pub IsContent : ℕ → Field → Type 0
@@ -128,10 +129,16 @@ new_spare slot number = record { slot = slot; known = record { field = Life slot
 
 abbrev pub after_raise_to_spare : View → ℕ → ℕ → List Mark → View
 after_raise_to_spare v slot number h =
-    record v { hands = record v.hands { spare = Some (new_spare slot number); retired = without_retired slot v.hands.retired }; seen = h ++ Given slot ∷ [] }
+    record v {
+      hands = record v.hands { spare = Some (new_spare slot number); retired = without_retired slot v.hands.retired };
+      seen = h ++ Given slot ∷ [];
+    }
 
 abbrev pub after_raise_retired : View → ℕ → View
-after_raise_retired v slot = record v { hands = record v.hands { retired = change_retired slot (λ (r : Retired). record r { raised = true }) v.hands.retired } }
+after_raise_retired v slot = record v {
+  hands =
+      record v.hands { retired = change_retired slot (λ (r : Retired). record r { raised = true }) v.hands.retired };
+}
 
 -- K15: the state of a slot whose generation was raised is stored as 0.
 pub record NeedsFreeInHand (v : View) (held : Held) (slot : ℕ) : Type 0 where
@@ -148,7 +155,10 @@ abbrev pub after_free_in_hand : View → ℕ → List Mark → View
 after_free_in_hand v slot h = record v { hands = record v.hands { owes = true; hand = None }; seen = h ++ Freed slot ∷ [] }
 
 abbrev pub after_free_retired : View → ℕ → List Mark → View
-after_free_retired v slot h = record v { hands = record v.hands { owes = true; retired = without_retired slot v.hands.retired }; seen = h ++ Freed slot ∷ [] }
+after_free_retired v slot h = record v {
+  hands = record v.hands { owes = true; retired = without_retired slot v.hands.retired };
+  seen = h ++ Freed slot ∷ [];
+}
 
 -- K16: the free count is one more, after a K15.
 abbrev pub NeedsCountFree : View → Type 0

@@ -47,53 +47,70 @@ pub data IsStep (k : Shape) (h : List Mark) (v : View) : Kind → Field → ℕ 
   step3 : {n : ℕ} → IsStep k h v K3 Clock n n (after_clock_load v n h) []
   step4 : {n key : ℕ} → k.waiter ≡ Eer → NeedsAnnounce v → IsStep k h v K4 (Announced v.allowance.place) n key (after_announce v key) []
   step5 : {n key stamp : ℕ} (clocked : Clocked) → k.waiter ≡ Eer → NeedsEnterByStamp v key stamp clocked
-      → IsStep k h v K5 (Stamp v.allowance.place) n stamp (after_enter_by_stamp v key clocked h) (Entered v.allowance.place v.counts.sections key ∷ [])
+      → IsStep k h v K5 (Stamp v.allowance.place) n stamp (after_enter_by_stamp v key clocked h)
+      (Entered v.allowance.place v.counts.sections key ∷ [])
   step6 : {n : ℕ} {section : Section} → k.waiter ≡ Eer → NeedsLeaveByStamp v section
       → IsStep k h v K6 (Stamp v.allowance.place) n idle (leaving v section h) (LeftMark v.allowance.place section.count ∷ [])
   step28 : {n class : ℕ} → k.waiter ≡ Domain → NeedsGateLoad v → IsStep k h v K28 (Gate class) n n (after_gate_load v class n) []
   step29 : {n key side : ℕ} (gate : ℕ) → k.waiter ≡ Domain → NeedsEnterByCount v key side gate
-      → IsStep k h v K29 (Count (class_of key) side) n (n + 1) (after_enter_by_count v key side h) (Entered v.allowance.place v.counts.sections key ∷ [])
+      → IsStep k h v K29 (Count (class_of key) side) n (n + 1) (after_enter_by_count v key side h)
+      (Entered v.allowance.place v.counts.sections key ∷ [])
   step30 : {n class side : ℕ} {section : Section} → k.waiter ≡ Domain → NeedsLeaveByCount v section class side
       → IsStep k h v K30 (Count class side) n (n - 1) (leaving v section h) (LeftMark v.allowance.place section.count ∷ [])
   step33 : {n key stamp : ℕ} (clocked : Clocked) → k.waiter ≡ Deer → NeedsEnterByRow v key stamp clocked
-      → IsStep k h v K33 (Row v.allowance.place (class_of key)) n stamp (after_enter_by_stamp v key clocked h) (Entered v.allowance.place v.counts.sections key ∷ [])
+      → IsStep k h v K33 (Row v.allowance.place (class_of key)) n stamp (after_enter_by_stamp v key clocked h)
+      (Entered v.allowance.place v.counts.sections key ∷ [])
   step34 : {n class : ℕ} {section : Section} → k.waiter ≡ Deer → NeedsLeaveByRow v section class
       → IsStep k h v K34 (Row v.allowance.place class) n idle (leaving v section h) (LeftMark v.allowance.place section.count ∷ [])
   -- a wait
-  step7 : {n low high : ℕ} → NeedsBegin v low high → IsStep k h v K7 Clock n (n + 1) (after_begin v low high n h) (Began v.allowance.place v.counts.waits low high ∷ [])
+  step7 : {n low high : ℕ} → NeedsBegin v low high
+      → IsStep k h v K7 Clock n (n + 1) (after_begin v low high n h) (Began v.allowance.place v.counts.waits low high ∷ [])
   step8_key : {n p : ℕ} {wait : Waiting} {last : Bool} → k.waiter ≡ Eer → NeedsLook k v wait (Announced p) last n
       → IsStep k h v K8 (Announced p) n n (after_look v wait (Announced p) last n h) (look_marks v wait (Announced p) last n)
   step8_stamp : {n p : ℕ} {wait : Waiting} {last : Bool} → k.waiter ≡ Eer → NeedsLook k v wait (Stamp p) last n
       → IsStep k h v K8 (Stamp p) n n (after_look v wait (Stamp p) last n h) (look_marks v wait (Stamp p) last n)
   step31 : {n class side : ℕ} {wait : Waiting} {last : Bool} → k.waiter ≡ Domain → NeedsLook k v wait (Count class side) last n
-      → IsStep k h v K31 (Count class side) n n (after_look v wait (Count class side) last n h) (look_marks v wait (Count class side) last n)
-  step32 : {n class : ℕ} {wait : Waiting} → k.waiter ≡ Domain → NeedsGateTurn v wait class → IsStep k h v K32 (Gate class) n (turned_gate n) (after_gate_turn v wait class) []
+      → IsStep k h v K31 (Count class side) n n (after_look v wait (Count class side) last n h)
+      (look_marks v wait (Count class side) last n)
+  step32 : {n class : ℕ} {wait : Waiting} → k.waiter ≡ Domain → NeedsGateTurn v wait class
+      → IsStep k h v K32 (Gate class) n (turned_gate n) (after_gate_turn v wait class) []
   step35 : {n p class : ℕ} {wait : Waiting} {last : Bool} → k.waiter ≡ Deer → NeedsLook k v wait (Row p class) last n
       → IsStep k h v K35 (Row p class) n n (after_look v wait (Row p class) last n h) (look_marks v wait (Row p class) last n)
   -- a slot that isn't linked
   step9_held : {n slot : ℕ} (held : Held) → NeedsOwnLife v held slot → IsStep k h v K9 (Life slot) n n (after_own_life v slot n) []
   step9_keep : {n slot : ℕ} (held : Held) → NeedsKeptAsSpare v held slot → IsStep k h v K9 (Life slot) n n (after_kept_as_spare v slot n) []
-  step9_retired : {n slot : ℕ} (i : ℕ) (r : Retired) → IsRetiredAt v i r slot → IsStep k h v K9 (Life slot) n n (after_retired_life v slot n) []
-  step10 : {n : ℕ} (expected : ℕ) → NeedsReserve v expected → IsStep k h v K10 Free n (if n == expected then expected - 1 else n) (after_reserve v expected n h) []
-  step11 : {n slot : ℕ} → NeedsSeize v slot → IsStep k h v K11 (State slot) n (if n == 0 then 1 else n) (after_seize v slot n h) (if n == 0 then Given slot ∷ [] else [])
-  step12_content : {n number slot : ℕ} {field : Field} (held : Held) → NeedsFill v held slot field → IsStep k h v K12 field n number (after_fill v slot field number) []
-  step12_hand : {n number slot : ℕ} (held : Held) (life : ℕ) → NeedsRaiseInHand v held slot life number → IsStep k h v K12 (Life slot) n number (after_raise_in_hand v slot number) []
+  step9_retired : {n slot : ℕ} (i : ℕ) (r : Retired) → IsRetiredAt v i r slot
+      → IsStep k h v K9 (Life slot) n n (after_retired_life v slot n) []
+  step10 : {n : ℕ} (expected : ℕ) → NeedsReserve v expected
+      → IsStep k h v K10 Free n (if n == expected then expected - 1 else n) (after_reserve v expected n h) []
+  step11 : {n slot : ℕ} → NeedsSeize v slot → IsStep k h v K11 (State slot) n (if n == 0 then 1 else n) (after_seize v slot n h)
+      (if n == 0 then Given slot ∷ [] else [])
+  step12_content : {n number slot : ℕ} {field : Field} (held : Held) → NeedsFill v held slot field
+      → IsStep k h v K12 field n number (after_fill v slot field number) []
+  step12_hand : {n number slot : ℕ} (held : Held) (life : ℕ) → NeedsRaiseInHand v held slot life number
+      → IsStep k h v K12 (Life slot) n number (after_raise_in_hand v slot number) []
   step12_spare : {n number slot : ℕ} (i life : ℕ) (r : Retired) → NeedsRaiseRetired v i r slot life number → v.hands.spare ≡ None
       → IsStep k h v K12 (Life slot) n number (after_raise_to_spare v slot number h) (Given slot ∷ [])
   step12_raised : {n number slot : ℕ} (i life : ℕ) (r : Retired) → NeedsRaiseRetired v i r slot life number → (v.hands.spare ≡ None → ⊥)
       → IsStep k h v K12 (Life slot) n number (after_raise_retired v slot) []
-  step15_hand : {n slot : ℕ} (held : Held) → NeedsFreeInHand v held slot → IsStep k h v K15 (State slot) n 0 (after_free_in_hand v slot h) (Freed slot ∷ [])
-  step15_retired : {n slot : ℕ} (i : ℕ) (r : Retired) → NeedsFreeRetired v i r slot → IsStep k h v K15 (State slot) n 0 (after_free_retired v slot h) (Freed slot ∷ [])
+  step15_hand : {n slot : ℕ} (held : Held) → NeedsFreeInHand v held slot
+      → IsStep k h v K15 (State slot) n 0 (after_free_in_hand v slot h) (Freed slot ∷ [])
+  step15_retired : {n slot : ℕ} (i : ℕ) (r : Retired) → NeedsFreeRetired v i r slot
+      → IsStep k h v K15 (State slot) n 0 (after_free_retired v slot h) (Freed slot ∷ [])
   step16 : {n : ℕ} → NeedsCountFree v → IsStep k h v K16 Free n (n + 1) (after_count_free v n) []
   -- a lock, and the front
-  step13 : {n slot : ℕ} → NeedsLock v → IsStep k h v K13 (Lock slot) n (if n == 0 then v.allowance.place + 1 else n) (after_lock v slot n) []
+  step13 : {n slot : ℕ} → NeedsLock v → IsStep k h v K13 (Lock slot) n (if n == 0 then v.allowance.place + 1 else n)
+      (after_lock v slot n) []
   step14 : {n slot : ℕ} (lock : HeldLock) → NeedsUnlock v lock slot → IsStep k h v K14 (Lock slot) n 0 (after_unlock v slot) []
   step18 : {n slot : ℕ} {field : Field} → NeedsLockedLoad v slot field → IsStep k h v K18 field n n (after_locked_load v slot field n) []
-  step19 : {n : ℕ} (expected : ℕ) → NeedsOpenCommit v expected → IsStep k h v K19 Front n (if n == expected then expected + 1 else n) (after_open_commit v expected n) []
-  step23 : {n slot tag : ℕ} {b : Side} (lock : HeldLock) → NeedsRaiseTag v lock slot b tag → IsStep k h v K23 (Tag slot b) n (tag + 1) (after_raise_tag v slot b tag) []
+  step19 : {n : ℕ} (expected : ℕ) → NeedsOpenCommit v expected
+      → IsStep k h v K19 Front n (if n == expected then expected + 1 else n) (after_open_commit v expected n) []
+  step23 : {n slot tag : ℕ} {b : Side} (lock : HeldLock) → NeedsRaiseTag v lock slot b tag
+      → IsStep k h v K23 (Tag slot b) n (tag + 1) (after_raise_tag v slot b tag) []
   step24 : {n front : ℕ} → NeedsCloseCommit v front → IsStep k h v K24 Front n front (after_close_commit v front) []
   -- a load in a section
-  step17 : {n slot : ℕ} {field : Field} {section : Section} → NeedsSearchLoad v section slot field → IsStep k h v K17 field n n (after_search_load v section field n) []
+  step17 : {n slot : ℕ} {field : Field} {section : Section} → NeedsSearchLoad v section slot field
+      → IsStep k h v K17 field n n (after_search_load v section field n) []
   step17_list : {n slot : ℕ} {field : Field} {section : Section} {listing : Listing} → NeedsListLoad v section listing slot field
       → IsStep k h v K17 field n n (after_list_load v section listing slot field n) []
   step37 : {n : ℕ} {section : Section} → NeedsFrontLook v section → IsStep k h v K37 Front n n (after_front_look v section n h) []
@@ -101,18 +118,24 @@ pub data IsStep (k : Shape) (h : List Mark) (v : View) : Kind → Field → ℕ 
   step20 : {n slot leaf value generation tag : ℕ} {commit : Commit} {b : Side} (r : Reading) (lock : HeldLock) (held : Held)
       → NeedsLeafLink v commit r lock held slot b leaf value generation tag
       → IsStep k h v K20 (Link slot b) n leaf (after_leaf_link v commit slot b leaf r.key value h) (done_by v (Put r.key value) ∷ [])
-  step21 : {n parent node child left right : ℕ} {commit : Commit} {b : Side} (r : Reading) → NeedsBypass v commit r parent b node child left right
-      → IsStep k h v K21 (Link parent b) n child (after_bypass v commit parent b node child r.key h) (done_by v (Del r.key) ∷ (Unlinked node ∷ []))
-  step22 : {n slot life : ℕ} (lock : HeldLock) → NeedsMark v lock slot life → IsStep k h v K22 (Life slot) n (life + 1) (after_mark v slot life) []
+  step21 : {n parent node child left right : ℕ} {commit : Commit} {b : Side} (r : Reading)
+      → NeedsBypass v commit r parent b node child left right
+      → IsStep k h v K21 (Link parent b) n child (after_bypass v commit parent b node child r.key h)
+      (done_by v (Del r.key) ∷ (Unlinked node ∷ []))
+  step22 : {n slot life : ℕ} (lock : HeldLock) → NeedsMark v lock slot life
+      → IsStep k h v K22 (Life slot) n (life + 1) (after_mark v slot life) []
   step36 : {n slot value generation : ℕ} {commit : Commit} (r : Reading) → NeedsReplace v commit r slot generation
       → IsStep k h v K36 (Value slot) n value (after_replace v commit slot r.key value h) (done_by v (Set r.key value) ∷ [])
   -- a move
   step25 : {n parent node copy old old_parent left right next_key value : ℕ} {commit : Commit} {held : Held} {b : Side} (r : Reading)
       → NeedsCopyLink v commit r held parent b node copy old old_parent left right next_key value
-      → IsStep k h v K25 (Link parent b) n copy (after_copy_link v commit held parent b node old old_parent r.key next_key h) (done_by v (Del r.key) ∷ (Unlinked node ∷ []))
-  step26 : {n parent old child life : ℕ} (move : Move) (lock : HeldLock) → NeedsUnlinkOld v move lock parent old child life → parent ≢ move.copy.slot
+      → IsStep k h v K25 (Link parent b) n copy (after_copy_link v commit held parent b node old old_parent r.key next_key h)
+      (done_by v (Del r.key) ∷ (Unlinked node ∷ []))
+  step26 : {n parent old child life : ℕ} (move : Move) (lock : HeldLock) → NeedsUnlinkOld v move lock parent old child life
+      → parent ≢ move.copy.slot
       → IsStep k h v K26 (Link parent Left) n child (after_unlink_old v parent Left old child h) (Unlinked old ∷ [])
-  step27 : {n copy old child life : ℕ} (move : Move) (lock : HeldLock) → NeedsUnlinkOld v move lock copy old child life → copy ≡ move.copy.slot
+  step27 : {n copy old child life : ℕ} (move : Move) (lock : HeldLock) → NeedsUnlinkOld v move lock copy old child life
+      → copy ≡ move.copy.slot
       → IsStep k h v K27 (Link copy Right) n child (after_unlink_old v copy Right old child h) (Unlinked old ∷ [])
 
 -- the kinds that store, and so find nothing
@@ -138,4 +161,5 @@ is_store _ = false
 
 -- A step as a seat makes it: it is laid on in the trail, with the number found, or stored where the kind stores.
 abbrev pub Steps : Shape → List Mark → View → Kind → Field → ℕ → ℕ → View → List Mark → Type 0
-Steps k h v kind field found left w marks = IsStep k h (stepped v kind field (if is_store kind then left else found)) kind field found left w marks
+Steps k h v kind field found left w marks = IsStep k h
+    (stepped v kind field (if is_store kind then left else found)) kind field found left w marks

@@ -26,7 +26,16 @@ pub record NeedsBegin (v : View) (low high : ℕ) : Type 0 where
   pub high_fits : high < 2 ^ 64
 
 abbrev pub new_wait : View → ℕ → ℕ → ℕ → List Mark → Waiting
-new_wait v low high found h = record { count = v.counts.waits; low = low; high = high; clock = found; began = length h; excused = []; turned = []; ended = false }
+new_wait v low high found h = record {
+  count = v.counts.waits;
+  low = low;
+  high = high;
+  clock = found;
+  began = length h;
+  excused = [];
+  turned = [];
+  ended = false;
+}
 
 abbrev pub after_begin : View → ℕ → ℕ → ℕ → List Mark → View
 after_begin v low high found h = record v {
@@ -76,7 +85,8 @@ excuses wait _ number = false
 pub record NeedsLook (k : Shape) (v : View) (wait : Waiting) (field : Field) (last : Bool) (found : ℕ) : Type 0 where
   pub wait_is : v.wait ≡ Some wait
   pub going : wait.ended ≡ false
-  pub rest : last ≡ true → excuses wait field found ≡ true → (other : Field) → IsSpot k wait other → IsIn (spot_seen field ∷ wait.excused) other
+  pub rest : last ≡ true → excuses wait field found ≡ true → (other : Field) → IsSpot k wait other
+      → IsIn (spot_seen field ∷ wait.excused) other
 
 -- the wait was for everybody and began after this mark
 abbrev pub is_grace_for : Waiting → ℕ → Bool
@@ -107,7 +117,8 @@ with_excused wait field = record wait { excused = spot_seen field ∷ wait.excus
 
 abbrev pub after_look : View → Waiting → Field → Bool → ℕ → List Mark → View
 after_look v wait field last found h =
-    if excuses wait field found then (if last then ending v (with_excused wait field) h else record v { wait = Some (with_excused wait field) }) else v
+    if excuses wait field found then (if last then ending v (with_excused wait field) h
+    else record v { wait = Some (with_excused wait field) }) else v
 
 -- the mark that a look leaves
 abbrev pub look_marks : View → Waiting → Field → Bool → ℕ → List Mark
@@ -126,4 +137,7 @@ abbrev pub turned_gate : ℕ → ℕ
 turned_gate gate = if gate % 2 == 0 then gate + 1 else gate - 1
 
 abbrev pub after_gate_turn : View → Waiting → ℕ → View
-after_gate_turn v wait class = record v { wait = Some (record wait { turned = class ∷ wait.turned }); counts = record v.counts { turns = v.counts.turns + 1 } }
+after_gate_turn v wait class = record v {
+  wait = Some (record wait { turned = class ∷ wait.turned });
+  counts = record v.counts { turns = v.counts.turns + 1 };
+}

@@ -81,4 +81,5 @@ pub record IsShaped (m : Memory) (n : ℕ) (g : Chart) : Type 0 where
 -- The linked slots but the root and the old successors hold just the pairs of the map.
 pub record HoldsMap (m : Memory) (g : Chart) (map : ℕ → Option ℕ) : Type 0 where
   pub sound : (s : ℕ) → g.linked s ≡ true → s ≢ 0 → g.old s ≡ false → map (m (Key s)) ≡ Some (m (Value s))
-  pub complete : (x v : ℕ) → map x ≡ Some v → (s : ℕ) × (g.linked s ≡ true) × (s ≢ 0) × (g.old s ≡ false) × (m (Key s) ≡ x) × (m (Value s) ≡ v)
+  pub complete : (x v : ℕ) → map x ≡ Some v → (s : ℕ) × (g.linked s ≡ true) × (s ≢ 0) × (g.old s ≡ false) × (m (Key s) ≡ x)
+      × (m (Value s) ≡ v)

@@ -14,7 +14,8 @@ after m (suc s) = m (Key (suc s)) + 1
 -- where the slot has the key. From the root it goes right.
 abbrev pub next : Memory → ℕ → ℕ → ℕ
 next m x zero = m (Link 0 Right)
-next m x (suc s) = if nat_lt x (m (Key (suc s))) then m (Link (suc s) Left) else if nat_lt (m (Key (suc s))) x then m (Link (suc s) Right) else 0
+next m x (suc s) = if nat_lt x (m (Key (suc s))) then m (Link (suc s) Left) else if nat_lt (m (Key (suc s))) x then m (Link (suc s) Right)
+    else 0
 
 -- the slot at which a search for x from a slot ends, within so many hops
 abbrev pub last_of : Memory → ℕ → ℕ → ℕ → ℕ

@@ -24,7 +24,8 @@ use Rattle.core_tree.proofs.chart.Splices.{spliced, at as at_node}
 use Rattle.core_tree.proofs.stores.StoreCounts.{StoresCounted, linked_less, young_less, young_same, old_less, old_same, counts_node_gone, counts_old_gone}
 use Rattle.core_tree.proofs.stores.Stores.{link_stores}
 
-module _ (z : Cut) (kept : StoresCounted z.who.k z.who.m z.who.vs z.who.h z.who.inv z.who.id z.who.v z.w z.who.there (Link z.p z.b) z.c z.p (link_stores z.who.m z.p z.b z.c) z.hs) where
+module _ (z : Cut) (kept : StoresCounted z.who.k z.who.m z.who.vs z.who.h z.who.inv z.who.id z.who.v z.w z.who.there (Link z.p z.b) z.c z.p
+    (link_stores z.who.m z.p z.b z.c) z.hs) where
   open z use {who.{k, m, vs, h, id, v, there, inv as i, inv.{chart as g}}, p, b, d, c, lower, upper, w, hs, at, splice}
 
   abbrev n : ℕ
@@ -53,7 +54,8 @@ module _ (z : Cut) (kept : StoresCounted z.who.k z.who.m z.who.vs z.who.h z.who.
 
   unraised_more : unraised_of w ≡ unraised_of v + 1
   unraised_more =
-      let whole : unraised_of w ≡ unraised_hand (note_option p known v.hands.hand) + unraised_among ((v.hands.retired ++ gone ∷ []) ++ joined_retired v.allowance.joined) =
+      let whole : unraised_of w ≡ unraised_hand (note_option p known v.hands.hand)
+      + unraised_among ((v.hands.retired ++ gone ∷ []) ++ joined_retired v.allowance.joined) =
       (λ y. unraised_hand (z.hand y) + unraised_among (z.retired y ++ joined_retired (z.same.places.joined y))) in
       let a = note_option-unraised p known v.hands.hand in
       let e = unraised_append (v.hands.retired ++ gone ∷ []) (joined_retired v.allowance.joined) in
@@ -62,19 +64,26 @@ module _ (z : Cut) (kept : StoresCounted z.who.k z.who.m z.who.vs z.who.h z.who.
       omega arith
 
   emptied_more : emptied_among w.locks ≤ emptied_among v.locks + 1
-  emptied_more = let e = ap emptied_among z.locks in let r = relocked_emptied p b d known (c == 0) v.locks ((i.locks.few id v there).once p) in omega arith
+  emptied_more = let e = ap emptied_among z.locks in
+      let r = relocked_emptied p b d known (c == 0) v.locks ((i.locks.few id v there).once p) in omega arith
 
   -- the slot held a pair, which an update took away
   pub counts_without_node : g.old d ≡ false → v.moving ≡ None → 1 ≤ v.allowance.tickets → w.allowance.tickets ≡ v.allowance.tickets - 1
-      → length (updates_of hs) ≡ length (updates_of h) + 1 → finite.len (map_of (updates_of hs)) ≡ finite.len (map_of (updates_of h)) - 1 → CountParts k.tickets (words_after (cut_step z)) n to (views_after (cut_step z)) hs
+      → length (updates_of hs) ≡ length (updates_of h) + 1 → finite.len (map_of (updates_of hs)) ≡ finite.len (map_of (updates_of h)) - 1
+      → CountParts k.tickets (words_after (cut_step z)) n to (views_after (cut_step z)) hs
   counts_without_node young settled ticket less longer fewer =
       counts_node_gone k m vs h i id v w there (Link p b) c p (link_stores m p b c) hs kept to
-      (linked_less g to d n small splice.replaces.node on off others (λ s. refl)) (young_less g to d n small splice.replaces.node on off others (λ s. refl) young) (old_same g to d n small splice.replaces.node on off others (λ s. refl) young)
+      (linked_less g to d n small splice.replaces.node on off others (λ s. refl))
+      (young_less g to d n small splice.replaces.node on off others (λ s. refl) young)
+      (old_same g to d n small splice.replaces.node on off others (λ s. refl) young)
       (ap has settled) ticket less unraised_more emptied_more longer fewer
 
   -- it was the old successor of the view's move
-  pub counts_without_old : g.old d ≡ true → (move : Move) → v.moving ≡ Some move → w.allowance.tickets ≡ v.allowance.tickets → updates_of hs ≡ updates_of h → CountParts k.tickets (words_after (cut_step z)) n to (views_after (cut_step z)) hs
+  pub counts_without_old : g.old d ≡ true → (move : Move) → v.moving ≡ Some move → w.allowance.tickets ≡ v.allowance.tickets
+      → updates_of hs ≡ updates_of h → CountParts k.tickets (words_after (cut_step z)) n to (views_after (cut_step z)) hs
   counts_without_old old move moving tickets updates =
       counts_old_gone k m vs h i id v w there (Link p b) c p (link_stores m p b c) hs kept to
-      (linked_less g to d n small splice.replaces.node on off others (λ s. refl)) (young_same g to d n small splice.replaces.node on off others (λ s. refl) old) (old_less g to d n small splice.replaces.node on off others (λ s. refl) old)
+      (linked_less g to d n small splice.replaces.node on off others (λ s. refl))
+      (young_same g to d n small splice.replaces.node on off others (λ s. refl) old)
+      (old_less g to d n small splice.replaces.node on off others (λ s. refl) old)
       (ap has moving) tickets unraised_more emptied_more updates

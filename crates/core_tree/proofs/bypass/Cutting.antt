@@ -83,7 +83,8 @@ pub record Cut : Type 0 where
   pub moving : w.moving ≡ None
   -- the view's own move, if it has one, has d as its old successor, which no open search passes
   pub own_move : (move : Move) → who.v.moving ≡ Some move → move.old ≡ d
-  pub unpassed : (j : ℕ) (u : View) (section : Section) → get_elem? who.vs j ≡ some u → u.section ≡ Some section → MayPass who.vs section.key section.entered d → who.inv.chart.old d ≡ true → ⊥
+  pub unpassed : (j : ℕ) (u : View) (section : Section) → get_elem? who.vs j ≡ some u → u.section ≡ Some section
+      → MayPass who.vs section.key section.entered d → who.inv.chart.old d ≡ true → ⊥
 
 module _ (z : Cut) where
   open z use {who.{k, m, vs, h, id, v, there, inv as i, inv.{chart as g}}, p, b, d, c, lower, upper, w, hs, at, splice}
@@ -156,7 +157,15 @@ module _ (z : Cut) where
   retires = record { node = splice.replaces.node; at = at; here = z.now.here; retired = z.retired; knows = z.knows }
 
   relinks : Relinks cut_step
-  relinks = record { retires = retires; empties = c == 0; empty = eqb-true c 0; emptied = eq-eqb c 0; has_parent = z.has_parent; has_node = z.has_node; locks = z.locks }
+  relinks = record {
+    retires = retires;
+    empties = c == 0;
+    empty = eqb-true c 0;
+    emptied = eq-eqb c 0;
+    has_parent = z.has_parent;
+    has_node = z.has_node;
+    locks = z.locks;
+  }
 
   -- the slot is retired
   swaps : (s : ℕ) → times s (slots_of w) + flag (to.linked s) ≡ times s (slots_of v) + flag (g.linked s)
@@ -167,9 +176,11 @@ module _ (z : Cut) where
       let spare = ap (λ o. times s (held_list o)) (z.spare ∙ spare_noted cut_step known) in
       linked_goes s (omega arith)
     where
-      linked_goes : (s : ℕ) → times s (slots_of w) ≡ times s (slots_of v) + times s (d ∷ []) → times s (slots_of w) + flag (to.linked s) ≡ times s (slots_of v) + flag (g.linked s)
+      linked_goes : (s : ℕ) → times s (slots_of w) ≡ times s (slots_of v) + times s (d ∷ [])
+          → times s (slots_of w) + flag (to.linked s) ≡ times s (slots_of v) + flag (g.linked s)
       linked_goes s e = ⊎_elim
-          (λ (is : s ≡ d). (let off = ap flag (put-same g.linked d false s is) in let on = ap flag (ap g.linked is ∙ d_linked) in let x : times s (d ∷ []) ≡ 1 + 0 = subst (λ y. times y (d ∷ []) ≡ 1 + 0) (sym is) (times_here d []) in omega arith))
+          (λ (is : s ≡ d). (let off = ap flag (put-same g.linked d false s is) in let on = ap flag (ap g.linked is ∙ d_linked) in
+          let x : times s (d ∷ []) ≡ 1 + 0 = subst (λ y. times y (d ∷ []) ≡ 1 + 0) (sym is) (times_here d []) in omega arith))
           (λ ne. (let q = ap flag (put-other g.linked d false s ne) in let x = times_other s d [] (λ f. ne (sym f)) in omega arith))
           (cases_eq s d)
 
@@ -198,10 +209,13 @@ module _ (z : Cut) where
   }
     where
       same_spares : spares_of w ≡ spares_of v
-      same_spares = λ y. held_list ((z.spare ∙ spare_noted cut_step known) y) ++ (numbers_from (z.same.places.place y + 2) (z.same.places.places y - 1) ++ joined_spares (z.same.places.joined y))
+      same_spares = λ y. held_list ((z.spare ∙ spare_noted cut_step known) y)
+          ++ (numbers_from (z.same.places.place y + 2) (z.same.places.places y - 1) ++ joined_spares (z.same.places.joined y))
 
   grace_after : GraceParts us hs
-  grace_after = grace_unlinked v.allowance.place h hs z.plain vs id v w there z.same.section z.same.places z.moving z.reuse d at gone z.now z.retired refl refl i.grace
+  grace_after =
+      grace_unlinked v.allowance.place h hs z.plain vs id v w there z.same.section z.same.places z.moving z.reuse d at gone z.now z.retired
+      refl refl i.grace
 
   moves_after : AreMoving new to hs us
   moves_after = moves_stored k m vs h i id v w there (Link p b) c p (link_stores m p b c) z.has_parent z.moving to hs z.plain (record {
@@ -218,7 +232,8 @@ module _ (z : Cut) where
           let t = i.tree.moves.each j u e other is in
           let some_old : other.old ≢ 0 = λ f. let o = t.old_old in let root = i.tree.shape.root_new in cc (ap g.old f) in
           let child = child_below m new n g p b d c lower upper i.tree.shape splice (λ f. some_old (same ∙ f)) in
-          ne (one_holder k m vs h i j id u v d e there (subst (HasLock u) (sym t.parent ∙ ap g.up same ∙ child.up) t.parent_lock) z.has_node)
+          ne (one_holder k m vs h i j id u v d e there
+          (subst (HasLock u) (sym t.parent ∙ ap g.up same ∙ child.up) t.parent_lock) z.has_node)
 
   -- another view's move is pending still
   still_pending : (move : Move) → IsPending vs move → move.old ≢ d → IsPending us move
@@ -229,22 +244,41 @@ module _ (z : Cut) where
   reads : LinkReads cut_step
   reads = record {
     spare = λ j u section e inside s y l o.
-        (let ne : s ≢ d = λ same. z.unpassed j u section e inside (subst (MayPass vs section.key section.entered) same y) (ap g.old (sym same) ∙ o) in
-        (ne, record { move = y.move; pending = still_pending y.move y.pending (λ f. ne (sym y.old ∙ f)); old = y.old; low = y.low; high = y.high; before = y.before }, o));
+        (let ne : s ≢ d = λ same. z.unpassed j u section e inside (subst (MayPass vs section.key section.entered) same y)
+        (ap g.old (sym same) ∙ o) in (
+          ne,
+          record {
+            move = y.move;
+            pending = still_pending y.move y.pending (λ f. ne (sym y.old ∙ f));
+            old = y.old;
+            low = y.low;
+            high = y.high;
+            before = y.before;
+          },
+          o,
+        ));
     other = λ j u section e inside s range some_slot.
         (let le : lower (g.low s) ≤ section.key = (let a = splice.falls (g.low s) in let q = range.low in omega arith) in
         in_range (range_stays cut_step section.key s (still s range.linked (λ f. splice.replaces.node (sym f ∙ some_slot f))) le range));
-    old_for = λ x s even o. record { move = o.move; pending = still_pending o.move o.pending (λ f. not_even s even (sym o.old ∙ f)); old = o.old; low = o.low; high = o.high };
+    old_for = λ x s even o. record {
+      move = o.move;
+      pending = still_pending o.move o.pending (λ f. not_even s even (sym o.old ∙ f));
+      old = o.old;
+      low = o.low;
+      high = o.high;
+    };
     side = λ x s a fits l even root empty below.
         (let ne = not_even s even in
         let le : lower (low_of m g s a) ≤ x = (let e = splice.falls (low_of m g s a) in let q = below.0 in omega arith) in
-        inr (side_stays cut_step x s a l (still s l ne) (λ left. splice.key_stays s l ne (λ f. absurd (let q : Left ≡ Right = sym left ∙ root f in cc))) le below));
+        inr (side_stays cut_step x s a l (still s l ne)
+        (λ left. splice.key_stays s l ne (λ f. absurd (let q : Left ≡ Right = sym left ∙ root f in cc))) le below));
     link_back = link_back cut_step relinks;
     emptied = emptied_still cut_step relinks;
   }
 
   -- what each of the two steps says yet
-  pub cut_kept : CountParts k.tickets new n to us hs → HoldsMap new to (map_now hs) → FrontParts new us hs → ListingParts new to us hs → IsKept k m h new us hs
+  pub cut_kept : CountParts k.tickets new n to us hs → HoldsMap new to (map_now hs) → FrontParts new us hs → ListingParts new to us hs
+      → IsKept k m h new us hs
   cut_kept counts map front listings =
       link_kept cut_step (record {
         slots = slots_after cut_step slots;

@@ -27,7 +27,8 @@ use Rattle.core_tree.proofs.chart.Bypass.{Bypasses, lower_past, upper_past, bypa
 use Rattle.core_tree.proofs.updates.DeleteMarks.{delete_update, both_marks, delete_longer, delete_said, delete_legal, delete_count, delete_map}
 use Rattle.core_state.specs.declared.view.Move.{Move}
 
-module _ (who : Stepper) (commit : Commit) (r : Reading) (p : ℕ) (b : Side) (d c left right : ℕ) (needs : NeedsBypass who.v commit r p b d c left right) where
+module _ (who : Stepper) (commit : Commit) (r : Reading) (p : ℕ) (b : Side) (d c left right : ℕ)
+    (needs : NeedsBypass who.v commit r p b d c left right) where
   open who use {k, m, vs, h, id, v, there, inv as i, inv.{chart as g}}
 
   abbrev n : ℕ
@@ -46,19 +47,53 @@ module _ (who : Stepper) (commit : Commit) (r : Reading) (p : ℕ) (b : Side) (d
   w = after_bypass v commit p b d c r.key h
 
   abbrev deletion : Deletion
-  deletion = record { who = who; commit = commit; r = r; p = p; b = b; d = d; left = left; right = right; has_commit = needs.has_commit; records = needs.records.records; marked = needs.marked }
+  deletion = record {
+    who = who;
+    commit = commit;
+    r = r;
+    p = p;
+    b = b;
+    d = d;
+    left = left;
+    right = right;
+    has_commit = needs.has_commit;
+    records = needs.records.records;
+    marked = needs.marked;
+  }
 
   only : (e f : Side) × (e ≢ f) × (m (Link d e) ≡ c) × (m (Link d f) ≡ 0)
   only = ⊎_elim
-      (λ (z : left ≡ 0). (Right, Left, (λ e. cc), right_is deletion ∙ sym (needs.child_is ∙ ap (λ y. cond y right left) (eq-eqb left 0 z)), left_is deletion ∙ z))
-      (λ ne. (Left, Right, (λ e. cc), left_is deletion ∙ sym (needs.child_is ∙ ap (λ y. cond y right left) (ne_eqb left 0 ne)), right_is deletion ∙ ⊎_elim (λ (z : left ≡ 0). absurd (ne z)) (λ (z : right ≡ 0). z) needs.records.few))
+      (λ (z : left ≡ 0). (
+        Right,
+        Left,
+        (λ e. cc),
+        right_is deletion ∙ sym (needs.child_is ∙ ap (λ y. cond y right left) (eq-eqb left 0 z)),
+        left_is deletion ∙ z,
+      ))
+      (λ ne. (
+        Left,
+        Right,
+        (λ e. cc),
+        left_is deletion ∙ sym (needs.child_is ∙ ap (λ y. cond y right left) (ne_eqb left 0 ne)),
+        right_is deletion ∙ ⊎_elim (λ (z : left ≡ 0). absurd (ne z)) (λ (z : right ≡ 0). z) needs.records.few,
+      ))
       (cases_eq left 0)
 
   moving_none : w.moving ≡ None
   moving_none = ap (note_moving p (record { field = Link p b; number = c; stored = true })) (settled deletion)
 
   bypass : Bypasses m new g p b d c
-  bypass = record { replaces = record { stores = stores_link m p b c; parent = (parent_alive deletion).on; link = link_is deletion; node = some_node deletion }; young = node_young deletion; only = only; single = single deletion }
+  bypass = record {
+    replaces = record {
+      stores = stores_link m p b c;
+      parent = (parent_alive deletion).on;
+      link = link_is deletion;
+      node = some_node deletion;
+    };
+    young = node_young deletion;
+    only = only;
+    single = single deletion;
+  }
 
   no_move : (move : Move) → v.moving ≡ Some move → ⊥
   no_move move is = let none = settled deletion in cc
@@ -89,7 +124,15 @@ module _ (who : Stepper) (commit : Commit) (r : Reading) (p : ℕ) (b : Side) (d
     said = delete_said h v.allowance.place r.key d;
     now = delete_now h update d;
     reuse = delete_reuse h update d i.grace.reuse;
-    same = record { places = record { place = refl; places = refl; joined = refl; met = refl }; section = refl; enter = refl; wait = refl; sections = refl; waits = refl; seen = refl };
+    same = record {
+      places = record { place = refl; places = refl; joined = refl; met = refl };
+      section = refl;
+      enter = refl;
+      wait = refl;
+      sections = refl;
+      waits = refl;
+      seen = refl;
+    };
     locks = refl;
     hand = refl;
     spare = refl;
@@ -104,7 +147,11 @@ module _ (who : Stepper) (commit : Commit) (r : Reading) (p : ℕ) (b : Side) (d
   pub bypassed_kept : IsKept k m h new (set vs id w) hs
   bypassed_kept =
       cut_kept cut
-      (counts_without_node cut (record { reserved = refl; owes = refl; wait = refl; turns = refl; moving = moving_none }) (node_young deletion) (settled deletion) needs.has_commit.ticket refl (delete_longer h v.allowance.place r.key d) (delete_count h v.allowance.place r.key d (has_key deletion)))
-      (subst (HoldsMap new (bypassed m g p b d c)) (sym (delete_map h v.allowance.place r.key d (m (Key d)) (node_key deletion))) (bypass_map m new n g p b d c i.tree.shape bypass (map_now h) i.tree.map))
-      (front_made m new vs id v w there h hs refl i.front commit needs.has_commit refl (delete_longer h v.allowance.place r.key d) (delete_legal h v.allowance.place r.key d (has_key deletion) i.front.legal))
+      (counts_without_node cut (record { reserved = refl; owes = refl; wait = refl; turns = refl; moving = moving_none })
+      (node_young deletion) (settled deletion) needs.has_commit.ticket refl (delete_longer h v.allowance.place r.key d)
+      (delete_count h v.allowance.place r.key d (has_key deletion)))
+      (subst (HoldsMap new (bypassed m g p b d c)) (sym (delete_map h v.allowance.place r.key d (m (Key d)) (node_key deletion)))
+      (bypass_map m new n g p b d c i.tree.shape bypass (map_now h) i.tree.map))
+      (front_made m new vs id v w there h hs refl i.front commit needs.has_commit refl (delete_longer h v.allowance.place r.key d)
+      (delete_legal h v.allowance.place r.key d (has_key deletion) i.front.legal))
       (listings_of_commit (cut_step cut) commit needs.has_commit)

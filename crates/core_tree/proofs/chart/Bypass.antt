@@ -32,18 +32,22 @@ abbrev pub bypassed : Memory → Chart → ℕ → Side → ℕ → ℕ → Char
 bypassed m g p b d c = spliced g p b d c (lower_past m g d) (upper_past m g d)
 
 -- the key of a slot that is no old successor, where no old successor has it, is the slot's alone
-module _ (m : Memory) (n : ℕ) (g : Chart) (d : ℕ) (h : IsShaped m n g) (linked : g.linked d ≡ true) (node : d ≢ 0) (young : g.old d ≡ false) (single : (s : ℕ) → g.linked s ≡ true → g.old s ≡ true → m (Key s) ≢ m (Key d)) where
+module _ (m : Memory) (n : ℕ) (g : Chart) (d : ℕ) (h : IsShaped m n g) (linked : g.linked d ≡ true) (node : d ≢ 0) (young : g.old d ≡ false)
+    (single : (s : ℕ) → g.linked s ≡ true → g.old s ≡ true → m (Key s) ≢ m (Key d)) where
   pub key_differs : (s : ℕ) → g.linked s ≡ true → s ≢ d → s ≢ 0 → m (Key s) ≢ m (Key d)
   key_differs s l not ne e = ⊎_elim (λ o. single s l o e) (λ o. not (one_key m n g s d h l ne o linked node young e)) (bool_cases (g.old s))
 
   pub after_differs : (s : ℕ) → g.linked s ≡ true → s ≢ d → after m s ≢ m (Key d) + 1
-  after_differs s l not e = ⊎_elim (λ (z : s ≡ 0). omega (arith, e, ap (after m) z)) (λ ne. key_differs s l not ne (omega (arith, e, after-node m s ne))) (cases_eq s 0)
+  after_differs s l not e = ⊎_elim (λ (z : s ≡ 0). omega (arith, e, ap (after m) z))
+      (λ ne. key_differs s l not ne (omega (arith, e, after-node m s ne))) (cases_eq s 0)
 
   -- the map without its key
-  pub pair_else : (map : ℕ → Option ℕ) → HoldsMap m g map → (x v : ℕ) → put map (m (Key d)) None x ≡ Some v → (s : ℕ) × (g.linked s ≡ true) × (s ≢ d) × (s ≢ 0) × (g.old s ≡ false) × (m (Key s) ≡ x) × (m (Value s) ≡ v)
+  pub pair_else : (map : ℕ → Option ℕ) → HoldsMap m g map → (x v : ℕ) → put map (m (Key d)) None x ≡ Some v
+      → (s : ℕ) × (g.linked s ≡ true) × (s ≢ d) × (s ≢ 0) × (g.old s ≡ false) × (m (Key s) ≡ x) × (m (Value s) ≡ v)
   pair_else map q x v e = ⊎_elim
       (λ (w : x ≡ m (Key d)). absurd (let f = put-same map (m (Key d)) None x w in cc))
-      (λ w. (let a = q.complete x v (sym (put-other map (m (Key d)) None x w) ∙ e) in (a.0, a.1, (λ i. w (sym a.4 ∙ ap (λ y. m (Key y)) i)), a.2, a.3, a.4, a.5)))
+      (λ w. (let a = q.complete x v (sym (put-other map (m (Key d)) None x w) ∙ e) in
+      (a.0, a.1, (λ i. w (sym a.4 ∙ ap (λ y. m (Key y)) i)), a.2, a.3, a.4, a.5)))
       (cases_eq x (m (Key d)))
 
 module _ (m new : Memory) (n : ℕ) (g : Chart) (p : ℕ) (b : Side) (d c : ℕ) (h : IsShaped m n g) (k : Bypasses m new g p b d c) where
@@ -65,11 +69,14 @@ module _ (m new : Memory) (n : ℕ) (g : Chart) (p : ℕ) (b : Side) (d c : ℕ)
   splice = record {
     replaces = k.replaces;
     only = k.only;
-    after_stays = λ s l not. moved-other (m (Key d) + 1) (g.low d) (after m s) (after_differs m n g d h at.linked k.replaces.node k.young k.single s l not);
-    key_stays = λ s l not ne. moved-other (m (Key d)) (g.high d) (m (Key s)) (key_differs m n g d h at.linked k.replaces.node k.young k.single s l not ne);
+    after_stays = λ s l not. moved-other (m (Key d) + 1) (g.low d) (after m s)
+        (after_differs m n g d h at.linked k.replaces.node k.young k.single s l not);
+    key_stays = λ s l not ne. moved-other (m (Key d)) (g.high d) (m (Key s))
+        (key_differs m n g d h at.linked k.replaces.node k.young k.single s l not ne);
     falls = λ x. omega (arith, keyed.low, moved_tells (m (Key d) + 1) (g.low d) x);
     grows = λ x. omega (arith, keyed.high, moved_tells (m (Key d)) (g.high d) x);
-    last = moved-other (m (Key d)) (g.high d) 18446744073709551616 (λ e. omega (arith, e, key_bound m n g d h at.linked k.replaces.node k.young));
+    last = moved-other (m (Key d)) (g.high d) 18446744073709551616
+        (λ e. omega (arith, e, key_bound m n g d h at.linked k.replaces.node k.young));
     own_low = child_low Left;
     own_high = child_high Right;
     child_low = λ _. child_low k.only.0;
@@ -78,7 +85,11 @@ module _ (m new : Memory) (n : ℕ) (g : Chart) (p : ℕ) (b : Side) (d c : ℕ)
 
   pub bypass_map : (map : ℕ → Option ℕ) → HoldsMap m g map → HoldsMap new (bypassed m g p b d c) (put map (m (Key d)) None)
   bypass_map map q =
-      map_after m new n g (bypassed m g p b d c) p b d c (lower_past m g d) (upper_past m g d) h (changes m new n g p b d c (lower_past m g d) (upper_past m g d) h splice) map (put map (m (Key d)) None) q
-      (λ s l t ne o. put-other map (m (Key d)) None (m (Key s)) (key_differs m n g d h at.linked k.replaces.node k.young k.single s l (was_linked m new n g p b d c (lower_past m g d) (upper_past m g d) h splice s t).1 ne))
+      map_after m new n g (bypassed m g p b d c) p b d c (lower_past m g d) (upper_past m g d) h
+      (changes m new n g p b d c (lower_past m g d) (upper_past m g d) h splice) map (put map (m (Key d)) None) q
+      (λ s l t ne o. put-other map (m (Key d)) None (m (Key s))
+      (key_differs m n g d h at.linked k.replaces.node k.young k.single s l
+      (was_linked m new n g p b d c (lower_past m g d) (upper_past m g d) h splice s t).1 ne))
       (λ off. absurd (let l = child_linked m new n g p b d c (lower_past m g d) (upper_past m g d) h splice in cc))
-      (λ x v e. (let a = pair_else m n g d h at.linked k.replaces.node k.young k.single map q x v e in (a.0, still_linked m new n g p b d c (lower_past m g d) (upper_past m g d) h splice a.0 a.1 a.2, a.3, a.4, a.5, a.6)))
+      (λ x v e. (let a = pair_else m n g d h at.linked k.replaces.node k.young k.single map q x v e in
+      (a.0, still_linked m new n g p b d c (lower_past m g d) (upper_past m g d) h splice a.0 a.1 a.2, a.3, a.4, a.5, a.6)))

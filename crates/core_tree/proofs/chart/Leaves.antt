@@ -60,7 +60,8 @@ put_away m g p b c s ne =
     }
 
 -- nothing belongs below the left of an old successor
-right_of_old : (m : Memory) (g : Chart) (p : ℕ) (b : Side) (v : ℕ) → low_of m g p b ≤ v → v < high_of m g p b → g.low p ≡ m (Key p) + 1 → b ≡ Right
+right_of_old : (m : Memory) (g : Chart) (p : ℕ) (b : Side) (v : ℕ) → low_of m g p b ≤ v → v < high_of m g p b → g.low p ≡ m (Key p) + 1
+    → b ≡ Right
 right_of_old m g p Left v lo hi e = absurd (omega arith)
 right_of_old m g p Right v lo hi e = refl
 
@@ -130,23 +131,37 @@ module _ (m new : Memory) (n : ℕ) (g : Chart) (p : ℕ) (b : Side) (c : ℕ) (
     fresh = λ _. record {
       young = put-same g.old c false c refl;
       within = k.within;
-      keyed = (let e = k.stores.key c in record { low = omega (arith, put-same g.low c (low_of m g p b) c refl, k.low); high = omega (arith, put-same g.high c (high_of m g p b) c refl, k.high) });
+      keyed = (let e = k.stores.key c in record {
+        low = omega (arith, put-same g.low c (low_of m g p b) c refl, k.low);
+        high = omega (arith, put-same g.high c (high_of m g p b) c refl, k.high);
+      });
       below = λ x a e ne. absurd (ne (sym e ∙ no_links a));
     };
   }
 
-  key_unused : (map : ℕ → Option ℕ) → HoldsMap m g map → map (m (Key c)) ≡ None → (s : ℕ) → g.linked s ≡ true → s ≢ 0 → g.old s ≡ false → m (Key s) ≢ m (Key c)
+  key_unused : (map : ℕ → Option ℕ) → HoldsMap m g map → map (m (Key c)) ≡ None → (s : ℕ) → g.linked s ≡ true → s ≢ 0 → g.old s ≡ false
+      → m (Key s) ≢ m (Key c)
   key_unused map q none s l ne o e = let w = q.sound s l ne o in cc (ap map e)
 
   -- the map with the leaf's pair
-  pub leaf_map : (map later : ℕ → Option ℕ) → c ≢ 0 → HoldsMap m g map → map (m (Key c)) ≡ None → later (m (Key c)) ≡ Some (m (Value c)) → ((x : ℕ) → x ≢ m (Key c) → later x ≡ map x) → HoldsMap new to later
+  pub leaf_map : (map later : ℕ → Option ℕ) → c ≢ 0 → HoldsMap m g map → map (m (Key c)) ≡ None → later (m (Key c)) ≡ Some (m (Value c))
+      → ((x : ℕ) → x ≢ m (Key c) → later x ≡ map x) → HoldsMap new to later
   leaf_map map later nz q none here else =
-      map_after m new n g to p b 0 c (λ x. x) (λ x. x) h changes map later q (λ s l _ ne o. else (m (Key s)) (key_unused map q none s l ne o)) (λ _. here) (λ x v e. ⊎_elim
-      (λ (w : x ≡ m (Key c)). (c, put-same g.linked c true c refl, nz, put-same g.old c false c refl, sym w, some_of (sym (ap later w ∙ here) ∙ e)))
+      map_after m new n g to p b 0 c (λ x. x) (λ x. x) h changes map later q
+      (λ s l _ ne o. else (m (Key s)) (key_unused map q none s l ne o)) (λ _. here) (λ x v e. ⊎_elim
+      (λ (w : x ≡ m (Key c)). (
+        c,
+        put-same g.linked c true c refl,
+        nz,
+        put-same g.old c false c refl,
+        sym w,
+        some_of (sym (ap later w ∙ here) ∙ e),
+      ))
       (λ not. other_pair x v (sym (else x not) ∙ e))
       (cases_eq x (m (Key c))))
     where
-      other_pair : (x v : ℕ) → map x ≡ Some v → (s : ℕ) × (to.linked s ≡ true) × (s ≢ 0) × (to.old s ≡ false) × (m (Key s) ≡ x) × (m (Value s) ≡ v)
+      other_pair : (x v : ℕ) → map x ≡ Some v → (s : ℕ) × (to.linked s ≡ true) × (s ≢ 0) × (to.old s ≡ false) × (m (Key s) ≡ x)
+          × (m (Value s) ≡ v)
       other_pair x v e = let w = q.complete x v e in let i = same_at w.0 w.1 in (w.0, i.linked ∙ w.1, w.2, i.old ∙ w.3, w.4, w.5)
 
       some_of : {a b : ℕ} → Some a ≡ Some b → a ≡ b

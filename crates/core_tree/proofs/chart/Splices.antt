@@ -54,7 +54,8 @@ side_cases Left Right Right ne = inr refl
 side_cases Right Left Left ne = inr refl
 side_cases Right Right Left ne = absurd (ne refl)
 
-module _ (m new : Memory) (n : ℕ) (g : Chart) (p : ℕ) (b : Side) (d c : ℕ) (lower upper : ℕ → ℕ) (h : IsShaped m n g) (k : Splices m new n g p b d c lower upper) where
+module _ (m new : Memory) (n : ℕ) (g : Chart) (p : ℕ) (b : Side) (d c : ℕ) (lower upper : ℕ → ℕ) (h : IsShaped m n g)
+    (k : Splices m new n g p b d c lower upper) where
   abbrev pub to : Chart
   to = spliced g p b d c lower upper
 
@@ -65,7 +66,8 @@ module _ (m new : Memory) (n : ℕ) (g : Chart) (p : ℕ) (b : Side) (d c : ℕ)
   parent_not e = omega (arith, at.rank, ap g.rank e)
 
   pub was_linked : (s : ℕ) → to.linked s ≡ true → (g.linked s ≡ true) × (s ≢ d)
-  was_linked s l = ⊎_elim (λ (w : s ≡ d). absurd (let e = put-same g.linked d false s w in cc)) (λ not. (sym (put-other g.linked d false s not) ∙ l, not)) (cases_eq s d)
+  was_linked s l = ⊎_elim (λ (w : s ≡ d). absurd (let e = put-same g.linked d false s w in cc))
+      (λ not. (sym (put-other g.linked d false s not) ∙ l, not)) (cases_eq s d)
 
   pub still_linked : (s : ℕ) → g.linked s ≡ true → s ≢ d → to.linked s ≡ true
   still_linked s l not = put-other g.linked d false s not ∙ l
@@ -79,7 +81,8 @@ module _ (m new : Memory) (n : ℕ) (g : Chart) (p : ℕ) (b : Side) (d c : ℕ)
 
   -- below d is its child alone
   only_child : (x : ℕ) (a : Side) → m (Link d a) ≡ x → x ≢ 0 → x ≡ c
-  only_child x a e nz = ⊎_elim (λ w. sym e ∙ ap (λ (y : Side). m (Link d y)) w ∙ k.only.3) (λ w. absurd (nz (sym e ∙ ap (λ (y : Side). m (Link d y)) w ∙ k.only.4))) (side_cases k.only.0 k.only.1 a k.only.2)
+  only_child x a e nz = ⊎_elim (λ w. sym e ∙ ap (λ (y : Side). m (Link d y)) w ∙ k.only.3)
+      (λ w. absurd (nz (sym e ∙ ap (λ (y : Side). m (Link d y)) w ∙ k.only.4))) (side_cases k.only.0 k.only.1 a k.only.2)
 
   side_low : (a : Side) → low_of new to p a ≡ lower (low_of m g p a)
   side_low Left = refl
@@ -98,11 +101,13 @@ module _ (m new : Memory) (n : ℕ) (g : Chart) (p : ℕ) (b : Side) (d c : ℕ)
         side = put-same g.side c b c refl;
         rank = omega (arith, at.rank, q.rank);
         low = ap lower q.low ∙ k.child_low ne ∙ sym k.own_low ∙ ap lower at.low ∙ sym (side_low b);
-        high = ap upper q.high ∙ k.child_high ne ∙ sym k.own_high ∙ ap upper at.high ∙ sym (side_high b (not_root_left m n g p b h (λ z. k.replaces.node (sym k.replaces.link ∙ z))));
+        high = ap upper q.high ∙ k.child_high ne ∙ sym k.own_high ∙ ap upper at.high
+            ∙ sym (side_high b (not_root_left m n g p b h (λ z. k.replaces.node (sym k.replaces.link ∙ z))));
       }
 
   child_hangs : (x : ℕ) → x ≡ c → Hangs new to x
-  child_hangs x w = hangs_at new to x p b (put-same g.up c p x w) (put-same g.side c b x w) (still_linked p k.replaces.parent parent_not) (k.replaces.stores.here ∙ sym w)
+  child_hangs x w = hangs_at new to x p b (put-same g.up c p x w) (put-same g.side c b x w) (still_linked p k.replaces.parent parent_not)
+      (k.replaces.stores.here ∙ sym w)
 
   pub place_stays : (s : ℕ) → s ≢ c → (to.up s ≡ g.up s) × (to.side s ≡ g.side s)
   place_stays s ne = (put-other g.up c p s ne, put-other g.side c b s ne)
@@ -131,6 +136,7 @@ module _ (m new : Memory) (n : ℕ) (g : Chart) (p : ℕ) (b : Side) (d c : ℕ)
     newly_old = λ s _ young o. absurd (cc);
     child = child_after;
     over = λ y e nz. inl (only_child y Left e nz);
-    adopted = λ x l nz _ up. (let was = h.hangs x l nz in child_hangs x (only_child x (g.side x) (ap (λ y. m (Link y (g.side x))) (sym up) ∙ was.link) nz));
+    adopted = λ x l nz _ up. (let was = h.hangs x l nz in
+        child_hangs x (only_child x (g.side x) (ap (λ y. m (Link y (g.side x))) (sym up) ∙ was.link) nz));
     fresh = λ off. absurd (let l = child_linked in cc);
   }

@@ -31,7 +31,8 @@ module _ (m m' : Memory) (g to : Chart) (h hs : List Mark) (u z : View) (move : 
     pub parent : to.up move.old ≡ g.up move.old
     pub side : to.side move.old ≡ g.side move.old
     pub held : (s : ℕ) → HasLock u s → HasLock z s
-    pub generation : (l : HeldLock) (generation : ℕ) → lock_of u.locks move.old ≡ Some l → HasGeneration m move.old generation l → (l' : HeldLock) × (lock_of z.locks move.old ≡ Some l') × HasGeneration m' move.old generation l'
+    pub generation : (l : HeldLock) (generation : ℕ) → lock_of u.locks move.old ≡ Some l → HasGeneration m move.old generation l
+        → (l' : HeldLock) × (lock_of z.locks move.old ≡ Some l') × HasGeneration m' move.old generation l'
     pub place : z.allowance.place ≡ u.allowance.place
     pub records : z.records ≡ u.records
     pub longer : (j : ℕ) (a : Mark) → get_elem? h j ≡ some a → get_elem? hs j ≡ some a
@@ -54,6 +55,14 @@ module _ (m m' : Memory) (g to : Chart) (h hs : List Mark) (u z : View) (move : 
     parent_lock = c.held move.parent i.parent_lock;
     made = c.longer move.made _ (i.made ∙ ap (λ p. some (Done (record { caller = p; op = Del move.key }))) (sym c.place));
     recorded = (let x = i.recorded in let l = c.generation x.lock x.generation x.locked x.same in
-        record { reading = x.reading; generation = x.generation; lock = l.0; kept = subst (λ rs. IsIn rs x.reading) (sym c.records) x.kept; loaded = x.loaded; locked = l.1; same = l.2 });
+        record {
+          reading = x.reading;
+          generation = x.generation;
+          lock = l.0;
+          kept = subst (λ rs. IsIn rs x.reading) (sym c.records) x.kept;
+          loaded = x.loaded;
+          locked = l.1;
+          same = l.2;
+        });
     unmet = λ r generation has loaded e. i.unmet r generation (subst (λ rs. IsIn rs r) c.records has) loaded (sym c.copy_life ∙ e);
   }

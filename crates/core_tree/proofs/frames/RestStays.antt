@@ -39,29 +39,51 @@ pub record OuterParts (k : Shape) (m : Memory) (vs : List View) (h : List Mark) 
   pub seats : SeatParts k.places vs h
   pub waiters : WaiterParts k m vs h
 
-module _ (k : Shape) (m m' : Memory) (vs : List View) (h : List Mark) (id : ℕ) (v w : View) (i : HoldsNow k m vs h) (there : get_elem? vs id ≡ some v) (works : Works v) (beside : (field : Field) → IsBesideSlots field → m' field ≡ m field) (view : SameOutside v w) where
+module _ (k : Shape) (m m' : Memory) (vs : List View) (h : List Mark) (id : ℕ) (v w : View) (i : HoldsNow k m vs h)
+    (there : get_elem? vs id ≡ some v) (works : Works v) (beside : (field : Field) → IsBesideSlots field → m' field ≡ m field)
+    (view : SameOutside v w) where
   words : reader_words m' ≡ reader_words m
-  words = λ n. record { announced = λ p. beside (Announced p) tt n; stamp = λ p. beside (Stamp p) tt n; count = λ c d. beside (Count c d) tt n; row = λ p c. beside (Row p c) tt n }
+  words = λ n. record {
+    announced = λ p. beside (Announced p) tt n;
+    stamp = λ p. beside (Stamp p) tt n;
+    count = λ c d. beside (Count c d) tt n;
+    row = λ p c. beside (Row p c) tt n;
+  }
 
   -- where the step leaves no mark
   pub outer_same : w.seen ≡ v.seen → OuterParts k m' (set vs id w) h
   outer_same seen = record {
-    marks = mark_frame k.places vs id v w h there (record { place = view.places.place; places = view.places.places; wait = view.wait; waits = view.waits }) seen i.marks;
-    seats = seat_frame k.places vs id v w h there works (record { places = view.places; seen = seen; section = view.section; sections = view.sections; waits = view.waits }) i.seats;
-    waiters = waiter_frame k m m' vs id v w h there (record { place = view.places.place; section = view.section; wait = view.wait }) (beside Clock tt) words
-        (ap (λ e. e.announced) view.enter) (λ clocked q. (i.waiters.clocked id v there).loaded clocked (ap (λ e. e.clock) (sym view.enter) ∙ q)) i.waiters;
+    marks = mark_frame k.places vs id v w h there
+        (record { place = view.places.place; places = view.places.places; wait = view.wait; waits = view.waits }) seen i.marks;
+    seats = seat_frame k.places vs id v w h there works
+        (record { places = view.places; seen = seen; section = view.section; sections = view.sections; waits = view.waits }) i.seats;
+    waiters = waiter_frame k m m' vs id v w h there (record { place = view.places.place; section = view.section; wait = view.wait })
+        (beside Clock tt) words
+        (ap (λ e. e.announced) view.enter) (λ clocked q. (i.waiters.clocked id v there).loaded clocked
+        (ap (λ e. e.clock) (sym view.enter) ∙ q)) i.waiters;
   }
 
   -- where it leaves the mark of a slot
-  pub outer_marked : (mark : Mark) → IsPlain v.allowance.place mark → NewMark k.places h mark → w.seen ≡ h ++ mark ∷ [] → OuterParts k m' (set vs id w) (h ++ mark ∷ [])
+  pub outer_marked : (mark : Mark) → IsPlain v.allowance.place mark → NewMark k.places h mark → w.seen ≡ h ++ mark ∷ []
+      → OuterParts k m' (set vs id w) (h ++ mark ∷ [])
   outer_marked mark is new seen =
       let hs = h ++ mark ∷ [] in
       let more = plain_one v.allowance.place h mark is in
-      let same : SameForMore v w hs = record { places = view.places; section = view.section; enter = view.enter; wait = view.wait; sections = view.sections; waits = view.waits; seen = seen } in
+      let same : SameForMore v w hs = record {
+        places = view.places;
+        section = view.section;
+        enter = view.enter;
+        wait = view.wait;
+        sections = view.sections;
+        waits = view.waits;
+        seen = seen;
+      } in
       record {
-        marks = mark_frame_plain h hs v.allowance.place more k.places vs id v w there same (marks_snoc k.places h mark new i.marks.marks) i.marks;
+        marks = mark_frame_plain h hs v.allowance.place more k.places vs id v w there same
+            (marks_snoc k.places h mark new i.marks.marks) i.marks;
         seats = seat_frame_plain h hs v.allowance.place more k.places vs id v w there works refl same i.seats;
-        waiters = waiter_frame_plain h hs v.allowance.place more k m m' vs id v w there same (beside Clock tt) words (clocked_before k m vs h i) i.waiters;
+        waiters = waiter_frame_plain h hs v.allowance.place more k m m' vs id v w there same (beside Clock tt) words
+            (clocked_before k m vs h i) i.waiters;
       }
 
 module _ (P : ℕ → Type 0) (z : ChartStep P) where
@@ -71,7 +93,8 @@ module _ (P : ℕ → Type 0) (z : ChartStep P) where
   us = set vs id w
 
   -- the invariant, with the parts on slots, locks, counts and grace
-  pub chart_stays : OuterParts k m' us hs → SlotParts m' (slot_count k) inv.chart us hs → LockParts m' (slot_count k) inv.chart us → CountParts k.tickets m' (slot_count k) inv.chart us hs → GraceParts us hs → HoldsNow k m' us hs
+  pub chart_stays : OuterParts k m' us hs → SlotParts m' (slot_count k) inv.chart us hs → LockParts m' (slot_count k) inv.chart us
+      → CountParts k.tickets m' (slot_count k) inv.chart us hs → GraceParts us hs → HoldsNow k m' us hs
   chart_stays outer slots locks counts grace = record {
     table = inv.table;
     chart = inv.chart;
@@ -89,7 +112,8 @@ module _ (P : ℕ → Type 0) (z : ChartStep P) where
   }
 
 -- Where no word and no lock changes, but what the view has in its hands: it has to say what that leaves of slots, counts and waits.
-module _ (k : Shape) (m : Memory) (vs : List View) (h : List Mark) (id : ℕ) (v w : View) (i : HoldsNow k m vs h) (there : get_elem? vs id ≡ some v) (works : Works v) (view : SameOutside v w) (locks : w.locks ≡ v.locks) (seen : w.seen ≡ v.seen) where
+module _ (k : Shape) (m : Memory) (vs : List View) (h : List Mark) (id : ℕ) (v w : View) (i : HoldsNow k m vs h)
+    (there : get_elem? vs id ≡ some v) (works : Works v) (view : SameOutside v w) (locks : w.locks ≡ v.locks) (seen : w.seen ≡ v.seen) where
   abbrev any : ℕ → Type 0
   any s = Unit {0}
 
@@ -117,7 +141,8 @@ module _ (k : Shape) (m : Memory) (vs : List View) (h : List Mark) (id : ℕ) (v
     done = λ j u e. e;
   }
 
-  pub hands_stay : SlotParts m (slot_count k) i.chart (set vs id w) h → CountParts k.tickets m (slot_count k) i.chart (set vs id w) h → GraceParts (set vs id w) h → ((s : ℕ) → IsUnraised v s → IsUnraised w s) → HoldsNow k m (set vs id w) h
+  pub hands_stay : SlotParts m (slot_count k) i.chart (set vs id w) h → CountParts k.tickets m (slot_count k) i.chart (set vs id w) h
+      → GraceParts (set vs id w) h → ((s : ℕ) → IsUnraised v s → IsUnraised w s) → HoldsNow k m (set vs id w) h
   hands_stay slots counts grace unraised = chart_stays any step (outer_same k m m vs h id v w i there works (λ f _. refl) view seen) slots
       (lock_frame m m (slot_count k) i.chart vs id v w there (same_slots m) (record {
         place = view.places.place;

@@ -45,7 +45,11 @@ module _ (z : LeafLink) where
 
   reads : LinkReads step
   reads = record {
-    spare = λ j u section e inside s may l o. ((λ q. (let root = i.tree.shape.root_new in cc)), may_still vs id v w there refl section.key section.entered s may, (same_at m new n g slot b leaf i.tree.shape (links z) s l).old ∙ o);
+    spare = λ j u section e inside s may l o. (
+      (λ q. (let root = i.tree.shape.root_new in cc)),
+      may_still vs id v w there refl section.key section.entered s may,
+      (same_at m new n g slot b leaf i.tree.shape (links z) s l).old ∙ o,
+    );
     other = λ j u section e inside s range _. in_range (range_stays step section.key s (still_linked z s range.linked) range.low range);
     old_for = λ x s _. old_still vs id v w there refl x s;
     side = λ x s a fits l even root empty below. inr (side_stays step x s a l (still_linked z s l) (λ _. refl) below.0 below);
@@ -61,9 +65,11 @@ module _ (z : LeafLink) where
     map = leaf_map_after z;
     moves = leaf_moves z;
     reads = reads;
-    front = front_made m new vs id v w there h hs refl i.front commit z.needs.has_commit refl (put_count h v.allowance.place r.key value (key_absent z)) (put_legal h v.allowance.place r.key value (key_absent z) i.front.legal);
+    front = front_made m new vs id v w there h hs refl i.front commit z.needs.has_commit refl
+        (put_count h v.allowance.place r.key value (key_absent z)) (put_legal h v.allowance.place r.key value (key_absent z) i.front.legal);
     listings = listings_of_commit step commit z.needs.has_commit;
-    grace = grace_same v.allowance.place h hs step.plain vs id v w there refl step.same.places (settled z) (reuse_done h (put_update h v.allowance.place r.key value) i.grace.reuse)
+    grace = grace_same v.allowance.place h hs step.plain vs id v w there refl step.same.places (settled z)
+        (reuse_done h (put_update h v.allowance.place r.key value) i.grace.reuse)
         (gone_done h (put_update h v.allowance.place r.key value)) (last_done h (put_update h v.allowance.place r.key value)) refl i.grace;
   })
 
@@ -73,8 +79,10 @@ module _ (z : LeafLink) where
 pub keeps20 : Keeps K20
 keeps20 k m vs h id v w field left marks i there works is_field step = cases field (m field) left marks w step
   where
-    cases : (field : Field) (found left : ℕ) (marks : List Mark) (w : View) → IsStep k h v K20 field found left w marks → IsKept k m h (stored m field left) (set vs id w) (h ++ marks)
-    cases field found left marks w (step20 {slot = slot} {leaf = leaf} {value = value} {generation = generation} {tag = tag} {commit = commit} {b = b} r lock held needs) =
+    cases : (field : Field) (found left : ℕ) (marks : List Mark) (w : View) → IsStep k h v K20 field found left w marks
+        → IsKept k m h (stored m field left) (set vs id w) (h ++ marks)
+    cases field found left marks w (step20 {slot = slot} {leaf = leaf} {value = value} {generation = generation} {tag = tag}
+        {commit = commit} {b = b} r lock held needs) =
         leaf_kept (record {
           who = record { k = k; m = m; vs = vs; h = h; id = id; v = v; inv = i; there = there; works = works };
           commit = commit;

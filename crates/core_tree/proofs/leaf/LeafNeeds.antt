@@ -56,7 +56,15 @@ pub record LeafLink : Type 0 where
   pub needs : NeedsLeafLink who.v commit r lock held slot b leaf value generation tag
 
 -- What it leaves, by short names. The view is as if neither the spare nor a copy were the slot.
-abbrev pub leafed : (z : LeafLink) → record { n : ℕ; new : Memory; to : Chart; hs : List Mark; entry : Known; new_lock : HeldLock; w : View }
+abbrev pub leafed : (z : LeafLink) → record {
+  n : ℕ;
+  new : Memory;
+  to : Chart;
+  hs : List Mark;
+  entry : Known;
+  new_lock : HeldLock;
+  w : View;
+}
 leafed z = record {
   n = slot_count z.who.k;
   new = stored z.who.m (Link z.slot z.b) z.leaf;
@@ -74,7 +82,20 @@ leafed z = record {
 }
 
 module _ (z : LeafLink) where
-  open z use {who.{k, m, vs, h, id, v, inv as i, there, inv.{chart as g}}, commit, r, lock, held, slot, b, leaf, value, generation, tag, needs}
+  open z use {
+    who.{k, m, vs, h, id, v, inv as i, there, inv.{chart as g}},
+    commit,
+    r,
+    lock,
+    held,
+    slot,
+    b,
+    leaf,
+    value,
+    generation,
+    tag,
+    needs,
+  }
   open leafed z use {n, new, to, w}
 
   -- what the view knows
@@ -91,7 +112,8 @@ module _ (z : LeafLink) where
   field_now field number known = known_here.fields r generation number field in_readings needs.generation_is (inl life_now) known
 
   pub linked_slot : g.linked slot ≡ true
-  linked_slot = let l = needs.generation_is in (i.locks.readings id v there in_readings.0 r in_readings.1).linked slot l.0 l.1 (life_now ∙ ap (λ z. 2 * z) l.2)
+  linked_slot = let l = needs.generation_is in (i.locks.readings id v there in_readings.0 r in_readings.1).linked slot l.0 l.1
+      (life_now ∙ ap (λ z. 2 * z) l.2)
 
   pub settled : v.moving ≡ None
   settled = let t = needs.has_commit in i.front.settled id v there commit t.commit_is t.unmade
@@ -133,13 +155,16 @@ module _ (z : LeafLink) where
 
   belongs : Belongs m g r.key slot b
   belongs = ⊎_elim (λ o. absurd (not_old o)) (λ x. x)
-      (told.side slot tag b needs.missed (generation, needs.generation_is, life_now) needs.tag_is empty_now (known_here.tags b tag needs.tag_now) not_emptied)
+      (told.side slot tag b needs.missed (generation, needs.generation_is, life_now) needs.tag_is empty_now
+      (known_here.tags b tag needs.tag_now) not_emptied)
 
   root_side : slot ≡ 0 → b ≡ Right
-  root_side z = ⊎_elim (λ (e : (slot ≡ 0) × (b ≡ Right)). e.1) (λ (e : (slot ≢ 0) × ((key : ℕ) × (known_in r.loads (Key slot) ≡ Some key) × (step_side r.key key ≡ Some b))). absurd (e.0 z)) goes
+  root_side z = ⊎_elim (λ (e : (slot ≡ 0) × (b ≡ Right)). e.1)
+      (λ (e : (slot ≢ 0) × ((key : ℕ) × (known_in r.loads (Key slot) ≡ Some key) × (step_side r.key key ≡ Some b))). absurd (e.0 z)) goes
     where
       goes : GoesTo r slot b
-      goes = let w : GoesTo r slot b × (r.walk ≡ None) = subst (StandsWell r) needs.missed (i.readers.readings id v there in_readings.0 r in_readings.1).well in w.0
+      goes = let w : GoesTo r slot b × (r.walk ≡ None) =
+          subst (StandsWell r) needs.missed (i.readers.readings id v there in_readings.0 r in_readings.1).well in w.0
 
   -- the leaf is in hand
   pub hand_is : v.hands.hand ≡ Some held
@@ -170,7 +195,8 @@ module _ (z : LeafLink) where
   leaf_value = hand_known (Value leaf) value needs.value_is
 
   pub leaf_unmarked : gone_at leaf h ≡ None
-  leaf_unmarked = not_gone m n g vs h i.slots id v there leaf (let a = held_there v.hands.hand held hand_is in let c = ap (λ z. times z (held_list v.hands.hand)) leaf_is in omega arith)
+  leaf_unmarked = not_gone m n g vs h i.slots id v there leaf
+      (let a = held_there v.hands.hand held hand_is in let c = ap (λ z. times z (held_list v.hands.hand)) leaf_is in omega arith)
 
   pub links : LinksLeaf m new n g slot b leaf
   links = record {
@@ -218,7 +244,15 @@ module _ (z : LeafLink) where
     w = w;
     hs = hs;
     changes = changes m new n g slot b leaf i.tree.shape (links z);
-    same = record { places = record { place = refl; places = refl; joined = refl; met = refl }; section = refl; enter = refl; wait = refl; sections = refl; waits = refl; seen = refl };
+    same = record {
+      places = record { place = refl; places = refl; joined = refl; met = refl };
+      section = refl;
+      enter = refl;
+      wait = refl;
+      sections = refl;
+      waits = refl;
+      seen = refl;
+    };
     outside = outside z;
     records = refl;
     plain = put_plain h v.allowance.place r.key value;

@@ -30,7 +30,9 @@ module _ (z : LeafLink) where
 
   -- counts
   unraised_now : unraised_of v ≡ 1 + unraised_of w
-  unraised_now = let e : unraised_of v ≡ 1 + unraised_among (retired_of v) = ap (λ o. unraised_hand o + unraised_among (retired_of v)) (hand_is z) ∙ ap (λ z. cond z 0 1 + unraised_among (retired_of v)) z.needs.unraised in omega arith
+  unraised_now = let e : unraised_of v ≡ 1 + unraised_among (retired_of v) =
+      ap (λ o. unraised_hand o + unraised_among (retired_of v)) (hand_is z)
+      ∙ ap (λ z. cond z 0 1 + unraised_among (retired_of v)) z.needs.unraised in omega arith
 
   more_linked : linked_count to n ≡ linked_count g n + 1
   more_linked = count_more (λ s. g.linked s && not (s == 0)) (λ s. to.linked s && not (s == 0)) leaf n (links z).within
@@ -39,7 +41,8 @@ module _ (z : LeafLink) where
       (λ s ne. ap (λ z. z && not (s == 0)) (put-other g.linked leaf true s ne))
 
   more_young : young_count to n ≡ young_count g n + 1
-  more_young = count_more (λ s. g.linked s && (not (s == 0) && not (g.old s))) (λ s. to.linked s && (not (s == 0) && not (to.old s))) leaf n (links z).within
+  more_young = count_more (λ s. g.linked s && (not (s == 0) && not (g.old s))) (λ s. to.linked s && (not (s == 0) && not (to.old s))) leaf n
+      (links z).within
       (ap (λ z. z && (not (leaf == 0) && not (g.old leaf))) (leaf_off z))
       (λ j. put-same g.linked leaf true leaf refl j && (not (ne_eqb leaf 0 (some_leaf z) j) && not (put-same g.old leaf false leaf refl j)))
       (λ s ne j. put-other g.linked leaf true s ne j && (not (s == 0) && not (put-other g.old leaf false s ne j)))
@@ -48,7 +51,8 @@ module _ (z : LeafLink) where
   same_old = count_same (λ s. g.linked s && g.old s) (λ s. to.linked s && to.old s) n (λ s lt. each s (cases_eq s leaf))
     where
       each : (s : ℕ) → (s ≡ leaf) ⊎ (s ≢ leaf) → (to.linked s && to.old s) ≡ (g.linked s && g.old s)
-      each s (inl e) = (λ j. put-same g.linked leaf true s e j && put-same g.old leaf false s e j) ∙ sym (ap (λ z. z && g.old s) (ap g.linked e ∙ (leaf_off z)))
+      each s (inl e) = (λ j. put-same g.linked leaf true s e j && put-same g.old leaf false s e j)
+          ∙ sym (ap (λ z. z && g.old s) (ap g.linked e ∙ (leaf_off z)))
       each s (inr ne) = λ j. put-other g.linked leaf true s ne j && put-other g.old leaf false s ne j
 
   pub leaf_counts : CountParts k.tickets new n to (set vs id w) hs
@@ -69,7 +73,8 @@ module _ (z : LeafLink) where
       }) i.counts
 
   -- the tree
-  moving_after : (j : ℕ) (u : View) (move : Move) → get_elem? vs j ≡ some u → u.moving ≡ Some move → IsMoving m g h u move → IsMoving new to hs u move
+  moving_after : (j : ℕ) (u : View) (move : Move) → get_elem? vs j ≡ some u → u.moving ≡ Some move → IsMoving m g h u move
+      → IsMoving new to hs u move
   moving_after j u move e is t =
       let c = same_at m new n g slot b leaf i.tree.shape (links z) move.copy.slot t.copy_linked in
       let o = same_at m new n g slot b leaf i.tree.shape (links z) move.old t.old_linked in
@@ -97,16 +102,22 @@ module _ (z : LeafLink) where
 
   pub leaf_map_after : HoldsMap new to (map_now hs)
   leaf_map_after = let t = i.tree in
-      leaf_map m new n g slot b leaf t.shape (links z) (map_now h) (map_now hs) (some_leaf z) t.map (ap (map_now h) (leaf_key z) ∙ (key_absent z))
-      (ap (map_now hs) (leaf_key z) ∙ put_here h v.allowance.place r.key value (key_absent z) ∙ ap Some (sym (leaf_value z))) (λ x ne. put_else h v.allowance.place r.key value (key_absent z) x (λ e. ne (e ∙ sym (leaf_key z))))
+      leaf_map m new n g slot b leaf t.shape (links z) (map_now h) (map_now hs) (some_leaf z) t.map
+      (ap (map_now h) (leaf_key z) ∙ (key_absent z))
+      (ap (map_now hs) (leaf_key z) ∙ put_here h v.allowance.place r.key value (key_absent z) ∙ ap Some (sym (leaf_value z)))
+      (λ x ne. put_else h v.allowance.place r.key value (key_absent z) x (λ e. ne (e ∙ sym (leaf_key z))))
 
   pub leaf_moves : AreMoving new to hs (set vs id w)
   leaf_moves = let t = i.tree in record {
-    each = each_set (λ j u. (move : Move) → u.moving ≡ Some move → IsMoving new to hs u move) vs id w (λ move is. absurd (no_move move is)) (λ j u ne e move is. moving_after j u move e is (t.moves.each j u e move is));
-    every = λ s l o. (let was = old_was s l o (cases_eq s leaf) in let a = t.moves.every s was.0 was.1 in record { move = a.move; pending = pending_still vs id v w there refl a.move a.pending; old = a.old });
-    one_old = λ x y a c p q ea ec ia ic e. (let u = was (λ (z : View). z.moving) vs id v w there refl x a ea in let z = was (λ (z : View). z.moving) vs id v w there refl y c ec in
+    each = each_set (λ j u. (move : Move) → u.moving ≡ Some move → IsMoving new to hs u move) vs id w (λ move is. absurd (no_move move is))
+        (λ j u ne e move is. moving_after j u move e is (t.moves.each j u e move is));
+    every = λ s l o. (let was = old_was s l o (cases_eq s leaf) in let a = t.moves.every s was.0 was.1 in
+        record { move = a.move; pending = pending_still vs id v w there refl a.move a.pending; old = a.old });
+    one_old = λ x y a c p q ea ec ia ic e. (let u = was (λ (z : View). z.moving) vs id v w there refl x a ea in
+        let z = was (λ (z : View). z.moving) vs id v w there refl y c ec in
         t.moves.one_old x y u.0 z.0 p q u.1 z.1 (sym u.2 ∙ ia) (sym z.2 ∙ ic) e);
-    one_copy = λ x y a c p q ea ec ia ic e. (let u = was (λ (z : View). z.moving) vs id v w there refl x a ea in let z = was (λ (z : View). z.moving) vs id v w there refl y c ec in
+    one_copy = λ x y a c p q ea ec ia ic e. (let u = was (λ (z : View). z.moving) vs id v w there refl x a ea in
+        let z = was (λ (z : View). z.moving) vs id v w there refl y c ec in
         t.moves.one_copy x y u.0 z.0 p q u.1 z.1 (sym u.2 ∙ ia) (sym z.2 ∙ ic) e);
   }
     where

@@ -40,7 +40,11 @@ module _ (z : LinkStep) where
       slots = t.slots;
       locks = t.locks;
       counts = t.counts;
-      tree = record { shape = shape_after m (words_after z) (slot_count k) g to p b d c lower upper inv.tree.shape z.changes; map = t.map; moves = t.moves };
+      tree = record {
+        shape = shape_after m (words_after z) (slot_count k) g to p b d c lower upper inv.tree.shape z.changes;
+        map = t.map;
+        moves = t.moves;
+      };
       readers = readers_after z t.reads;
       front = t.front;
       listings = t.listings;

@@ -30,7 +30,8 @@ use Rattle.core_tree.proofs.stores.StoreLocks.{LockChange, locks_stored}
 use Rattle.core_tree.proofs.stores.Stores.{link_at, link_stores}
 
 -- What is said of locks holds of a chart with more slots linked, where none of these is marked.
-pub locks_more : (m : Memory) (n : ℕ) (g to : Chart) (vs : List View) → ((s : ℕ) → g.linked s ≡ true → to.linked s ≡ true) → ((s : ℕ) → to.linked s ≡ true → IsOdd (m (Life s)) → g.linked s ≡ true) → LockParts m n g vs → LockParts m n to vs
+pub locks_more : (m : Memory) (n : ℕ) (g to : Chart) (vs : List View) → ((s : ℕ) → g.linked s ≡ true → to.linked s ≡ true)
+    → ((s : ℕ) → to.linked s ≡ true → IsOdd (m (Life s)) → g.linked s ≡ true) → LockParts m n g vs → LockParts m n to vs
 locks_more m n g to vs still back t = record {
   locked = t.locked;
   few = t.few;
@@ -41,7 +42,13 @@ locks_more m n g to vs still back t = record {
   });
   marked = λ s on odd. t.marked s (back s on odd) odd;
   known = t.known;
-  readings = λ j u e l r is. (let q = t.readings j u e l r is in record { generations = q.generations; tags = q.tags; linked = λ s life known same. still s (q.linked s life known same); keys = q.keys });
+  readings = λ j u e l r is. (let q = t.readings j u e l r is in
+      record {
+        generations = q.generations;
+        tags = q.tags;
+        linked = λ s life known same. still s (q.linked s life known same);
+        keys = q.keys;
+      });
 }
 
 module _ (z : LinkStep) where
@@ -78,7 +85,8 @@ module _ (z : LinkStep) where
     still s l ne = put-other g.linked d false s ne ∙ l
 
     was : (s : ℕ) → without.linked s ≡ true → (g.linked s ≡ true) × (s ≢ d)
-    was s l = ⊎_elim (λ (e : s ≡ d). absurd (let f = put-same g.linked d false s e in cc)) (λ ne. (sym (put-other g.linked d false s ne) ∙ l, ne)) (cases_eq s d)
+    was s l = ⊎_elim (λ (e : s ≡ d). absurd (let f = put-same g.linked d false s e in cc))
+        (λ ne. (sym (put-other g.linked d false s ne) ∙ l, ne)) (cases_eq s d)
 
     not_even : (s : ℕ) → IsEven (m (Life s)) → s ≢ d
     not_even s even e = r.retires.node (sym e ∙ not_gone z s (inr even) e)
@@ -87,10 +95,12 @@ module _ (z : LinkStep) where
     apart e = omega (arith, (below z r.retires.node).rank, ap g.rank e)
 
     -- a lock of the view, before and afterwards
-    back : (s : ℕ) (l' : HeldLock) → lock_of w.locks s ≡ Some l' → (l : HeldLock) × (lock_of v.locks s ≡ Some l) × IsRelocked p b r.empties d known s l l'
+    back : (s : ℕ) (l' : HeldLock) → lock_of w.locks s ≡ Some l'
+        → (l : HeldLock) × (lock_of v.locks s ≡ Some l) × IsRelocked p b r.empties d known s l l'
     back s l' is = relocked_back p b d known r.empties v.locks s l' (sym (ap (λ ls. lock_of ls s) r.locks) ∙ is)
 
-    pub forth : (s : ℕ) (l : HeldLock) → lock_of v.locks s ≡ Some l → (l' : HeldLock) × (lock_of w.locks s ≡ Some l') × IsRelocked p b r.empties d known s l l'
+    pub forth : (s : ℕ) (l : HeldLock) → lock_of v.locks s ≡ Some l
+        → (l' : HeldLock) × (lock_of w.locks s ≡ Some l') × IsRelocked p b r.empties d known s l l'
     forth s l is = let q = relocked_forth p b d known r.empties v.locks s l is in (q.0, ap (λ ls. lock_of ls s) r.locks ∙ q.1, q.2)
 
     others_stay : (j : ℕ) (u : View) (s : ℕ) → j ≢ id → get_elem? vs j ≡ some u → HasLock u s → g.linked s ≡ true → without.linked s ≡ true
@@ -100,9 +110,15 @@ module _ (z : LinkStep) where
     unraised_still s q = (q.0, subst (λ rs. IsIn rs q.0) (sym r.retires.retired) (in_first v.hands.retired (gone ∷ []) q.0 q.1), q.2, q.3)
 
     unraised_new : IsUnraised w d
-    unraised_new = (gone, subst (λ rs. IsIn rs gone) (sym r.retires.retired) (in_second v.hands.retired (gone ∷ []) gone (0, refl)), refl, refl)
+    unraised_new = (
+      gone,
+      subst (λ rs. IsIn rs gone) (sym r.retires.retired) (in_second v.hands.retired (gone ∷ []) gone (0, refl)),
+      refl,
+      refl,
+    )
 
-    change : (t : ℕ) (l l' : HeldLock) → lock_of v.locks t ≡ Some l → IsRelocked p b r.empties d known t l l' → LockChange k m vs h i id v w there (Link p b) c p (link_stores m p b c) true without t l l'
+    change : (t : ℕ) (l l' : HeldLock) → lock_of v.locks t ≡ Some l → IsRelocked p b r.empties d known t l l'
+        → LockChange k m vs h i id v w there (Link p b) c p (link_stores m p b c) true without t l l'
     change t l l' is q = record {
       here = q.here;
       beside = q.there;
@@ -112,14 +128,19 @@ module _ (z : LinkStep) where
           (sym (q.kept ne) ∙ e, λ linked. still t linked ne));
       emptied = λ a e. ⊎_elim
           (λ (old : is_emptied l a ≡ true). was_emptied a ((i.locks.kept id v there t l is).emptied a old))
-          (λ (y : (t ≡ p) × (a ≡ b) × (r.empties ≡ true)). (link_at new t p a b y.0 y.1 ∙ changes.stores.here ∙ r.empty y.2, inl (ap without.linked y.0 ∙ still p changes.parent apart)))
+          (λ (y : (t ≡ p) × (a ≡ b) × (r.empties ≡ true)). (
+            link_at new t p a b y.0 y.1 ∙ changes.stores.here ∙ r.empty y.2,
+            inl (ap without.linked y.0 ∙ still p changes.parent apart),
+          ))
           (q.back a e);
     }
       where
-        was_emptied : (a : Side) → (m (Link t a) ≡ 0) × ((g.linked t ≡ true) ⊎ IsUnraised v t) → (new (Link t a) ≡ 0) × ((without.linked t ≡ true) ⊎ IsUnraised w t)
+        was_emptied : (a : Side) → (m (Link t a) ≡ 0) × ((g.linked t ≡ true) ⊎ IsUnraised v t)
+            → (new (Link t a) ≡ 0) × ((without.linked t ≡ true) ⊎ IsUnraised w t)
         was_emptied a y = (
           changes.stores.link t a (λ e f. r.retires.node (sym changes.link ∙ link_at m p t b a (sym e) (sym f) ∙ y.0)) ∙ y.0,
-          ⊎_elim (λ (o : g.linked t ≡ true). ⊎_elim (λ (e : t ≡ d). inr (subst (IsUnraised w) (sym e) unraised_new)) (λ ne. inl (still t o ne)) (cases_eq t d)) (λ q. inr (unraised_still t q)) y.1,
+          ⊎_elim (λ (o : g.linked t ≡ true). ⊎_elim (λ (e : t ≡ d). inr (subst (IsUnraised w) (sym e) unraised_new))
+              (λ ne. inl (still t o ne)) (cases_eq t d)) (λ q. inr (unraised_still t q)) y.1,
         )
 
     locks_without : LockParts new (slot_count k) without us
@@ -138,12 +159,14 @@ module _ (z : LinkStep) where
     })
 
     pub locks_after : LockParts new (slot_count k) to us
-    locks_after = locks_more new (slot_count k) without to us (λ s l. (let q = was s l in still_linked z s q.0 q.1)) back_linked locks_without
+    locks_after = locks_more new (slot_count k) without to us
+        (λ s l. (let q = was s l in still_linked z s q.0 q.1)) back_linked locks_without
       where
         back_linked : (s : ℕ) → to.linked s ≡ true → IsOdd (m (Life s)) → without.linked s ≡ true
         back_linked s t odd = ⊎_elim
             (λ (l : g.linked s ≡ true). still s l (λ e. r.retires.node (sym e ∙ not_gone z s (inl t) e)))
-            (λ off. absurd (let e = changes.comes s t off in let even = (z.fresh (ap g.linked (sym e) ∙ off)).1 in let f = ap (λ y. m (Life y)) e in omega arith))
+            (λ off. absurd (let e = changes.comes s t off in let even = (z.fresh (ap g.linked (sym e) ∙ off)).1 in
+            let f = ap (λ y. m (Life y)) e in omega arith))
             (bool_cases (g.linked s))
 
     pub emptied_still : (s : ℕ) (a : Side) → IsEmptied vs s a → IsEmptied us s a
@@ -152,9 +175,18 @@ module _ (z : LinkStep) where
     emptied_now : c ≡ 0 → IsEmptied us p b
     emptied_now e =
         let f = forth p r.has_parent.0 r.has_parent.1 in
-        record { id = id; view = w; lock = f.0; there = set_here vs id w (at_below vs id v there); holds = f.1; emptied = f.2.now refl (r.emptied e) }
+        record {
+          id = id;
+          view = w;
+          lock = f.0;
+          there = set_here vs id w (at_below vs id v there);
+          holds = f.1;
+          emptied = f.2.now refl (r.emptied e);
+        }
 
     -- a side that is empty now, and wasn't emptied just now, was empty
     pub link_back : (s : ℕ) (a : Side) → (IsEmptied us s a → ⊥) → new (Link s a) ≡ 0 → m (Link s a) ≡ 0
     link_back s a settled none =
-        sym (changes.stores.link s a (λ e f. settled (subst (λ (y : ℕ × Side). IsEmptied us y.0 y.1) (λ q. (sym e q, sym f q)) (emptied_now (sym changes.stores.here ∙ link_at new p s b a (sym e) (sym f) ∙ none))))) ∙ none
+        sym (changes.stores.link s a (λ e f. settled
+        (subst (λ (y : ℕ × Side). IsEmptied us y.0 y.1) (λ q. (sym e q, sym f q))
+        (emptied_now (sym changes.stores.here ∙ link_at new p s b a (sym e) (sym f) ∙ none))))) ∙ none

@@ -39,12 +39,16 @@ module _ (z : LinkStep) where
   -- what each step says of readers: of the old successors that they may pass, of the ranges in which they stand, of the sides that they
   -- recorded, and of the sides that are emptied
   pub record LinkReads : Type 0 where
-    pub spare : (j : ℕ) (u : View) (section : Section) → get_elem? vs j ≡ some u → u.section ≡ Some section → (s : ℕ) → MayPass vs section.key section.entered s → g.linked s ≡ true → g.old s ≡ true
+    pub spare : (j : ℕ) (u : View) (section : Section) → get_elem? vs j ≡ some u → u.section ≡ Some section → (s : ℕ)
+        → MayPass vs section.key section.entered s → g.linked s ≡ true → g.old s ≡ true
         → (s ≢ d) × MayPass (views_after z) section.key section.entered s × (to.old s ≡ true)
-    pub other : (j : ℕ) (u : View) (section : Section) → get_elem? vs j ≡ some u → u.section ≡ Some section → (s : ℕ) → IsInRange g section.key s → (s ≡ d → s ≡ 0)
-        → Place (words_after z) to section.key (IsHeldBack to hs section.entered) (MayPass (views_after z) section.key section.entered) (WasSaid (updates_of hs) section.key section.from) s
+    pub other : (j : ℕ) (u : View) (section : Section) → get_elem? vs j ≡ some u → u.section ≡ Some section → (s : ℕ)
+        → IsInRange g section.key s → (s ≡ d → s ≡ 0)
+        → Place (words_after z) to section.key (IsHeldBack to hs section.entered) (MayPass (views_after z) section.key section.entered)
+        (WasSaid (updates_of hs) section.key section.from) s
     pub old_for : (x s : ℕ) → IsEven (m (Life s)) → IsOldFor vs x s → IsOldFor (views_after z) x s
-    pub side : (x s : ℕ) (a : Side) → x < 2 ^ 64 → g.linked s ≡ true → IsEven (m (Life s)) → (s ≡ 0 → a ≡ Right) → m (Link s a) ≡ 0 → Belongs m g x s a → IsOldFor (views_after z) x s ⊎ Belongs (words_after z) to x s a
+    pub side : (x s : ℕ) (a : Side) → x < 2 ^ 64 → g.linked s ≡ true → IsEven (m (Life s)) → (s ≡ 0 → a ≡ Right) → m (Link s a) ≡ 0
+        → Belongs m g x s a → IsOldFor (views_after z) x s ⊎ Belongs (words_after z) to x s a
     pub link_back : (s : ℕ) (a : Side) → (IsEmptied (views_after z) s a → ⊥) → words_after z (Link s a) ≡ 0 → m (Link s a) ≡ 0
     pub emptied : (s : ℕ) (a : Side) → IsEmptied vs s a → IsEmptied (views_after z) s a
 
@@ -67,29 +71,42 @@ module _ (z : LinkStep) where
       reading = i.readers.readings j u e 0 section.reading (ap (λ o. get_elem? (open_reading o ++ u.records) 0) inside)
 
       stood_linked : (s : ℕ) → IsIn section.reading.stood s → to.linked s ≡ true → g.linked s ≡ true
-      stood_linked s has = met_linked z section.entered s (⊎_elim (λ l. inl l) (λ (x : live s × IsOdd (m (Life s))). inr x.0) (was.stood s has).here)
+      stood_linked s has = met_linked z section.entered s
+          (⊎_elim (λ l. inl l) (λ (x : live s × IsOdd (m (Life s))). inr x.0) (was.stood s has).here)
 
       fresh_unmet : (s : ℕ) → live s → s ≡ c → g.linked c ≡ true
-      fresh_unmet s y e = ⊎_elim (λ l. l) (λ off. absurd (let none = (z.fresh off).0 in let q : None ≡ Some y.at = sym none ∙ ap (λ x. gone_at x h) (sym e) ∙ y.gone in cc)) (bool_cases (g.linked c))
+      fresh_unmet s y e = ⊎_elim (λ l. l) (λ off. absurd
+          (let none = (z.fresh off).0 in let q : None ≡ Some y.at = sym none ∙ ap (λ x. gone_at x h) (sym e) ∙ y.gone in cc))
+          (bool_cases (g.linked c))
 
-      placed_after : (s : ℕ) → Place m g section.key live (MayPass vs section.key section.entered) (WasSaid (updates_of h) section.key section.from) s
-          → Place (words_after z) to section.key later (MayPass (views_after z) section.key section.entered) (WasSaid (updates_of hs) section.key section.from) s
+      placed_after : (s : ℕ) → Place m g section.key live (MayPass vs section.key section.entered)
+          (WasSaid (updates_of h) section.key section.from) s
+          → Place (words_after z) to section.key later (MayPass (views_after z) section.key section.entered)
+          (WasSaid (updates_of hs) section.key section.from) s
       placed_after =
-          readers m (words_after z) n g to p b d c lower upper i.tree.shape changes section.key live later (MayPass vs section.key section.entered) (MayPass (views_after z) section.key section.entered)
+          readers m (words_after z) n g to p b d c lower upper i.tree.shape changes section.key live later
+          (MayPass vs section.key section.entered) (MayPass (views_after z) section.key section.entered)
           (WasSaid (updates_of h) section.key section.from) (WasSaid (updates_of hs) section.key section.from) (record {
             out = λ s y. y.out;
             unmet = fresh_unmet;
             grow = held z section.entered;
             gone = held_gone z section.entered early;
             keep = z.said section.key section.from;
-            now = λ _. told_here m (words_after z) n g to p b d c lower upper i.tree.shape changes (map_now h) section.key d (WasSaid (updates_of h) section.key section.from) i.tree.map (i.seats.sections j u e section inside).key_fits (told_now k m vs h i j u section e inside);
+            now = λ _. told_here m (words_after z) n g to p b d c lower upper i.tree.shape changes (map_now h) section.key d
+                (WasSaid (updates_of h) section.key section.from) i.tree.map (i.seats.sections j u e section inside).key_fits
+                (told_now k m vs h i j u section e inside);
             spare = r.spare j u section e inside;
             other = r.other j u section e inside;
           })
 
       served_after : IsServed (words_after z) to hs (views_after z) section
       served_after = record {
-        placed = λ none. (let q = was.placed none in record { place = placed_after (state_slot section.reading.state) q.place; answered = answered_by (updates_of h) (updates_of hs) section (z.said section.key section.from) section.reading.state q.answered });
+        placed = λ none. (let q = was.placed none in
+            record {
+              place = placed_after (state_slot section.reading.state) q.place;
+              answered = answered_by (updates_of h) (updates_of hs) section
+                  (z.said section.key section.from) section.reading.state q.answered;
+            });
         lists = was.lists;
         walking = λ node parent a value walk found on.
             (let q = was.walking node parent a value walk found on in
@@ -97,9 +114,12 @@ module _ (z : LinkStep) where
             let names = reading.walk walk on in
             record {
               walks = λ t. (let l = stood_linked node here t in
-                  walks_after m (words_after z) n g to p b d c lower upper i.tree.shape changes node live later (λ s y. y.out) (held z section.entered) (held_gone z section.entered early) l walk.slot (q.walks l));
+                  walks_after m (words_after z) n g to p b d c lower upper i.tree.shape changes node live later (λ s y. y.out)
+                  (held z section.entered) (held_gone z section.entered early) l walk.slot (q.walks l));
               parent = λ t t'. (let l = stood_linked node here t in
-                  ⊎_elim (λ o. inl o) (λ way. inr (path_after m (words_after z) n g to p b d c lower upper i.tree.shape changes node walk.parent l way (not_gone z walk.parent (inl t')))) (q.parent l (stood_linked walk.parent names.3 t')));
+                  ⊎_elim (λ o. inl o) (λ way. inr (path_after m
+                  (words_after z) n g to p b d c lower upper i.tree.shape changes node walk.parent l way
+                  (not_gone z walk.parent (inl t')))) (q.parent l (stood_linked walk.parent names.3 t')));
             });
         stood = λ s has. (let q = was.stood s has in record {
           here = ⊎_elim
@@ -113,7 +133,11 @@ module _ (z : LinkStep) where
           stood_here : (s : ℕ) → (to.linked s ≡ true) ⊎ later s → g.linked s ≡ true → (to.linked s ≡ true) ⊎ (later s × IsOdd (m (Life s)))
           stood_here s (inl t) l = inl t
           stood_here s (inr y) l = ⊎_elim
-              (λ (e : s ≡ d). inr (y, subst (λ x. IsOdd (m (Life x))) (sym e) (z.odd (λ q. absurd (let out = y.out in let on = changes.stays s l (λ _. e ∙ q) in cc)))))
+              (λ (e : s ≡ d). inr (
+                y,
+                subst (λ x. IsOdd (m (Life x))) (sym e)
+                    (z.odd (λ q. absurd (let out = y.out in let on = changes.stays s l (λ _. e ∙ q) in cc))),
+              ))
               (λ ne. inl (still_linked z s l ne)) (cases_eq s d)
 
     -- a kept record of a view
@@ -147,28 +171,36 @@ module _ (z : LinkStep) where
             (let none = r.link_back s a settled empty in
             let goes : GoesTo x s a = (subst (StandsWell x) missed reading.well).0 in
             let root : s ≡ 0 → a ≡ Right = λ y. ⊎_elim (λ (q : (s ≡ 0) × (a ≡ Right)). q.1) (λ q. absurd (q.0 y)) goes in
-            ⊎_elim (λ o. inl (r.old_for x.key s (recorded_even s life) o)) (λ q. r.side x.key s a t.key_fits (recorded_linked s life) (recorded_even s life) root none q)
+            ⊎_elim (λ o. inl (r.old_for x.key s (recorded_even s life) o))
+            (λ q. r.side x.key s a t.key_fits (recorded_linked s life) (recorded_even s life) root none q)
             (t.side s tag a missed life known none same (λ q. settled (r.emptied s a q))));
         walk = λ node parent a value walk found on. (let q = t.walk node parent a value walk found on in record {
-          parent = λ y even. ⊎_elim (λ o. inl o) (λ way. inr (path node (still_back node y).linked walk.parent even way)) (q.parent (still_back node y) even);
+          parent = λ y even. ⊎_elim (λ o. inl o) (λ way. inr (path node (still_back node y).linked walk.parent even way))
+              (q.parent (still_back node y) even);
           slot = λ y even. path node (still_back node y).linked walk.slot even (q.slot (still_back node y) even);
         });
       }
         where
-          path : (node : ℕ) → g.linked node ≡ true → (s : ℕ) → IsAsRecorded m x s → OnRightLeft m node s → OnRightLeft (words_after z) node s
-          path node l s even way = path_after m (words_after z) n g to p b d c lower upper i.tree.shape changes node s l way (not_gone z s (inr (recorded_even s even)))
+          path : (node : ℕ) → g.linked node ≡ true → (s : ℕ) → IsAsRecorded m x s → OnRightLeft m node s
+              → OnRightLeft (words_after z) node s
+          path node l s even way = path_after m (words_after z) n g to p b d c lower upper i.tree.shape changes node s l way
+              (not_gone z s (inr (recorded_even s even)))
 
     met_back : (at : ℕ) → IsMetBefore (views_after z) at → IsMetBefore vs at
     met_back at y =
         each_set (λ j u. (section : Section) → u.section ≡ Some section → section.entered < at → IsMetBefore vs at) vs id w
-        (λ section is lt. (id, v, section, there, sym z.same.section ∙ is, lt)) (λ j u ne e section is lt. (j, u, section, e, is, lt)) y.0 y.1 y.3 y.2 y.4 y.5
+        (λ section is lt. (id, v, section, there, sym z.same.section ∙ is, lt))
+        (λ j u ne e section is lt. (j, u, section, e, is, lt)) y.0 y.1 y.3 y.2 y.4 y.5
 
     aged_after : AreAged (words_after z) to (views_after z) hs
-    aged_after s at y a gone met link nz = ⊎_elim (λ (e : s ≡ d). at_gone e (cases_eq d 0)) (λ ne. other (λ e. absurd (ne e))) (cases_eq s d)
+    aged_after s at y a gone met link nz = ⊎_elim (λ (e : s ≡ d). at_gone e (cases_eq d 0)) (λ ne. other (λ e. absurd (ne e)))
+        (cases_eq s d)
       where
-        led : at < length h → (g.linked y ≡ true) ⊎ ((after : ℕ) × (gone_at y h ≡ Some after) × (at < after)) → (to.linked y ≡ true) ⊎ ((after : ℕ) × (gone_at y hs ≡ Some after) × (at < after))
+        led : at < length h → (g.linked y ≡ true) ⊎ ((after : ℕ) × (gone_at y h ≡ Some after) × (at < after))
+            → (to.linked y ≡ true) ⊎ ((after : ℕ) × (gone_at y hs ≡ Some after) × (at < after))
         led small (inl l) = ⊎_elim
-            (λ (e : y ≡ d). (let now = z.gone_now (λ q. nz (e ∙ q)) in inr (now.0, ap (λ q. gone_at q hs) e ∙ now.1, (let q = now.2 in omega arith))))
+            (λ (e : y ≡ d). (let now = z.gone_now (λ q. nz (e ∙ q)) in
+            inr (now.0, ap (λ q. gone_at q hs) e ∙ now.1, (let q = now.2 in omega arith))))
             (λ ne. inl (still_linked z y l ne)) (cases_eq y d)
         led small (inr q) = inr (q.0, z.gone_same y (off_not_gone z y (unlinked_off z y q.0 q.1)) ∙ q.1, q.2)
 
@@ -176,13 +208,15 @@ module _ (z : LinkStep) where
         other not =
             let was : gone_at s h ≡ Some at = sym (z.gone_same s not) ∙ gone in
             let off = unlinked_off z s at was in
-            led (gone_at-below s h at was) (i.readers.ages s at y a was (met_back at met) (sym (changes.stores.link s a (λ e. absurd (let on = changes.parent in cc (ap g.linked e)))) ∙ link) nz)
+            led (gone_at-below s h at was) (i.readers.ages s at y a was (met_back at met)
+            (sym (changes.stores.link s a (λ e. absurd (let on = changes.parent in cc (ap g.linked e)))) ∙ link) nz)
 
         at_gone : s ≡ d → (d ≡ 0) ⊎ (d ≢ 0) → (to.linked y ≡ true) ⊎ ((after : ℕ) × (gone_at y hs ≡ Some after) × (at < after))
         at_gone e (inl q) = other (λ _. e ∙ q)
         at_gone e (inr some_d) =
             let apart : s ≢ p = λ f. omega (arith, (below z some_d).rank, ap g.rank (sym f ∙ e)) in
-            let child = i.tree.shape.below d y a (below z some_d).linked (ap (λ q. m (Link q a)) (sym e) ∙ sym (changes.stores.link s a (λ f. absurd (apart f))) ∙ link) nz in
+            let child = i.tree.shape.below d y a (below z some_d).linked
+            (ap (λ q. m (Link q a)) (sym e) ∙ sym (changes.stores.link s a (λ f. absurd (apart f))) ∙ link) nz in
             inl (still_linked z y child.linked (λ f. omega (arith, child.rank, ap g.rank f)))
 
     readings : readings_of w ≡ readings_of v
@@ -190,8 +224,10 @@ module _ (z : LinkStep) where
 
     pub readers_after : ReaderParts (words_after z) to (views_after z) hs
     readers_after = record {
-      readings = each_set (λ j u. Each (readings_of u) IsReading) vs id w (subst (λ rs. Each rs IsReading) (sym readings) (i.readers.readings id v there)) (λ j u ne e. i.readers.readings j u e);
-      served = each_set (λ j u. (section : Section) → u.section ≡ Some section → IsServed (words_after z) to hs (views_after z) section) vs id w
+      readings = each_set (λ j u. Each (readings_of u) IsReading) vs id w
+          (subst (λ rs. Each rs IsReading) (sym readings) (i.readers.readings id v there)) (λ j u ne e. i.readers.readings j u e);
+      served = each_set (λ j u. (section : Section) → u.section ≡ Some section
+          → IsServed (words_after z) to hs (views_after z) section) vs id w
           (λ section is. absurd (let q : None ≡ Some section = sym z.outside ∙ sym z.same.section ∙ is in cc))
           (λ j u ne e section is. served_after j u section e is);
       records = each_set (λ j u. Each u.records (IsRecord (words_after z) to (views_after z))) vs id w
@@ -200,7 +236,8 @@ module _ (z : LinkStep) where
       ages = aged_after;
     }
       where
-        one : (j : ℕ) (u : View) → get_elem? vs j ≡ some u → (l : ℕ) (x : Reading) → get_elem? u.records l ≡ some x → IsRecord (words_after z) to (views_after z) x
+        one : (j : ℕ) (u : View) → get_elem? vs j ≡ some u → (l : ℕ) (x : Reading) → get_elem? u.records l ≡ some x
+            → IsRecord (words_after z) to (views_after z) x
         one j u e l x is =
             let a = in_second (open_reading u.section) u.records x (l, is) in
             record_after x (i.readers.readings j u e a.0 x a.1) (i.locks.readings j u e a.0 x a.1) (i.readers.records j u e l x is)

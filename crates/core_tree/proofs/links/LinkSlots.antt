@@ -43,12 +43,14 @@ module _ (z : LinkStep) where
 
   -- what a view has isn't linked, so the link isn't stored in it
   own_apart : (j : ℕ) (u : View) (s : ℕ) → get_elem? vs j ≡ some u → 1 ≤ times s (slots_of u) → s ≢ p
-  own_apart j u s e has same = let none = linked_none m n g vs h i.slots j u e p changes.parent in let f = ap (λ x. times x (slots_of u)) same in absurd (omega arith)
+  own_apart j u s e has same = let none = linked_none m n g vs h i.slots j u e p changes.parent in
+      let f = ap (λ x. times x (slots_of u)) same in absurd (omega arith)
 
   held_stays : (x : Held) → x.slot ≢ p → IsHeldKnown m x → IsHeldKnown new x
   held_stays x ne t field number known = let y = t field number known in (y.0, (link_stores m p b c).away x.slot field ne y.0 ∙ y.1)
 
-  pub hand_stays : (j : ℕ) (u : View) (x : Held) → get_elem? vs j ≡ some u → u.hands.hand ≡ Some x → IsHeldKnown new x × IsEven (m (Life x.slot))
+  pub hand_stays : (j : ℕ) (u : View) (x : Held) → get_elem? vs j ≡ some u → u.hands.hand ≡ Some x
+      → IsHeldKnown new x × IsEven (m (Life x.slot))
   hand_stays j u x e is = let t = (i.slots.hands j u e).hand x is in (held_stays x (own_apart j u x.slot e (hand_own u x is)) t.0, t.1)
 
   pub spare_stays : (j : ℕ) (u : View) (x : Held) → get_elem? vs j ≡ some u → u.hands.spare ≡ Some x → IsHeldKnown new x
@@ -69,14 +71,17 @@ module _ (z : LinkStep) where
         some_slot = t.some_slot;
         marked = t.marked;
         life = t.life;
-        stays = λ field number raised content known. (link_stores m p b c).content x.slot field (own_apart j u x.slot e (retired_own u x has)) content ∙ t.stays field number raised content known;
+        stays = λ field number raised content known. (link_stores m p b c).content x.slot field
+            (own_apart j u x.slot e (retired_own u x has)) content ∙ t.stays field number raised content known;
         unmarked = t.unmarked;
         after_wait = t.after_wait;
       }
 
   -- how often a slot is the view's, by what is in hand, the spare and the retired ones: all else stays
-  pub slots_become : (s : ℕ) → times s (slots_of w) + times s (held_list v.hands.hand) + times s (held_list v.hands.spare) + times s (map (λ (x : Retired). x.slot) v.hands.retired)
-      ≡ times s (slots_of v) + times s (held_list w.hands.hand) + times s (held_list w.hands.spare) + times s (map (λ (x : Retired). x.slot) w.hands.retired)
+  pub slots_become : (s : ℕ) → times s (slots_of w) + times s (held_list v.hands.hand) + times s (held_list v.hands.spare)
+      + times s (map (λ (x : Retired). x.slot) v.hands.retired)
+      ≡ times s (slots_of v) + times s (held_list w.hands.hand) + times s (held_list w.hands.spare)
+      + times s (map (λ (x : Retired). x.slot) w.hands.retired)
   slots_become s =
       let a = slots_count w s in
       let e = slots_count v s in
@@ -88,7 +93,9 @@ module _ (z : LinkStep) where
       let joined = ap (λ js. times s (map (λ (r : Retired). r.slot) (joined_retired js))) z.same.places.joined in
       omega arith
     where
-      places : numbers_from (w.allowance.place + 2) (w.allowance.places - 1) ++ joined_spares w.allowance.joined ≡ numbers_from (v.allowance.place + 2) (v.allowance.places - 1) ++ joined_spares v.allowance.joined
+      places : numbers_from (w.allowance.place + 2) (w.allowance.places - 1)
+          ++ joined_spares w.allowance.joined ≡ numbers_from (v.allowance.place + 2) (v.allowance.places - 1)
+          ++ joined_spares v.allowance.joined
       places = λ t. numbers_from (z.same.places.place t + 2) (z.same.places.places t - 1) ++ joined_spares (z.same.places.joined t)
 
   -- what the step says of slots: which the view has afterwards, and what it knows of them
@@ -126,17 +133,21 @@ module _ (z : LinkStep) where
 
     in_range : (s : ℕ) → n ≤ s → flag (to.linked s) ≡ 0
     in_range s far = ⊎_elim
-        (λ (t : to.linked s ≡ true). absurd (let lt = (shape_after m new n g to p b d c z.lower z.upper i.tree.shape changes).within s t in omega arith))
+        (λ (t : to.linked s ≡ true). absurd (let lt = (shape_after m new n g to p b d c z.lower z.upper i.tree.shape changes).within s t in
+        omega arith))
         (λ off. ap flag off) (bool_cases (to.linked s))
 
     was_in_range : (s : ℕ) → n ≤ s → flag (g.linked s) ≡ 0
-    was_in_range s far = ⊎_elim (λ (l : g.linked s ≡ true). absurd (let lt = i.tree.shape.within s l in omega arith)) (λ off. ap flag off) (bool_cases (g.linked s))
+    was_in_range s far = ⊎_elim (λ (l : g.linked s ≡ true). absurd (let lt = i.tree.shape.within s l in omega arith)) (λ off. ap flag off)
+        (bool_cases (g.linked s))
 
     pub slots_after : SlotParts new n to us hs
     slots_after = record {
       roles = record {
-        once = λ s lt. (let a = total_set (λ (u : View). times s (slots_of u)) vs id v w there in let q = i.slots.roles.once s lt in let e = r.swaps s in omega arith);
-        beyond = λ s far. (let a = total_set (λ (u : View). times s (slots_of u)) vs id v w there in let q = i.slots.roles.beyond s far in let e = r.swaps s in let x = in_range s far in let y = was_in_range s far in omega arith);
+        once = λ s lt. (let a = total_set (λ (u : View). times s (slots_of u)) vs id v w there in let q = i.slots.roles.once s lt in
+            let e = r.swaps s in omega arith);
+        beyond = λ s far. (let a = total_set (λ (u : View). times s (slots_of u)) vs id v w there in let q = i.slots.roles.beyond s far in
+            let e = r.swaps s in let x = in_range s far in let y = was_in_range s far in omega arith);
         states = i.slots.roles.states;
       };
       few = each_set (λ j u. HasFewSlots u) vs id w (r.few (i.slots.few id v there)) (λ j u ne e. i.slots.few j u e);
@@ -152,15 +163,36 @@ module _ (z : LinkStep) where
     }
       where
         now : (s : ℕ) → s ≡ d → d ≢ 0 → IsRetiredOf us s
-        now s e nz = let x = r.gone_retired nz in record { id = id; view = w; retired = x.0; there = set_here vs id w (at_below vs id v there); has = x.1; slot = x.2 ∙ sym e }
+        now s e nz = let x = r.gone_retired nz in record {
+          id = id;
+          view = w;
+          retired = x.0;
+          there = set_here vs id w (at_below vs id v there);
+          has = x.1;
+          slot = x.2 ∙ sym e;
+        }
 
         before : (s at : ℕ) → gone_at s h ≡ Some at → IsRetiredOf us s
         before s at is =
             let x = i.slots.unlinked s at is in
             dite (ℕ_discrete x.id id)
             (λ same. (let it : x.view ≡ v = some-injective x.view v (sym x.there ∙ subst (λ j. get_elem? vs j ≡ some v) (sym same) there) in
-            record { id = id; view = w; retired = x.retired; there = set_here vs id w (at_below vs id v there); has = r.still_retired x.retired (subst (λ (u : View). IsIn (retired_of u) x.retired) it x.has); slot = x.slot }))
-            (λ other. record { id = x.id; view = x.view; retired = x.retired; there = set_else vs id x.id w other ∙ x.there; has = x.has; slot = x.slot })
+            record {
+              id = id;
+              view = w;
+              retired = x.retired;
+              there = set_here vs id w (at_below vs id v there);
+              has = r.still_retired x.retired (subst (λ (u : View). IsIn (retired_of u) x.retired) it x.has);
+              slot = x.slot;
+            }))
+            (λ other. record {
+              id = x.id;
+              view = x.view;
+              retired = x.retired;
+              there = set_else vs id x.id w other ∙ x.there;
+              has = x.has;
+              slot = x.slot;
+            })
 
   -- d is retired
   module _ (r : Retires z) where
@@ -176,13 +208,16 @@ module _ (z : LinkStep) where
       some_slot = r.node;
       marked = λ e. z.odd r.node;
       life = λ number e is. absurd (cc);
-      stays = λ field number e content is. (link_stores m p b c).content d field (λ same. omega (arith, (below z r.node).rank, ap g.rank same)) content ∙ r.knows field number is;
+      stays = λ field number e content is. (link_stores m p b c).content d field
+          (λ same. omega (arith, (below z r.node).rank, ap g.rank same)) content ∙ r.knows field number is;
       unmarked = λ e. absurd (cc);
       after_wait = λ e. absurd (cc);
     }
 
-    pub retired_times : (s : ℕ) → times s (map (λ (x : Retired). x.slot) w.hands.retired) ≡ times s (map (λ (x : Retired). x.slot) v.hands.retired) + times s (d ∷ [])
-    retired_times s = ap (λ rs. times s (map (λ (x : Retired). x.slot) rs)) r.retired ∙ ap (times s) (map_append v.hands.retired (gone ∷ [])) ∙ times_append s (map (λ (x : Retired). x.slot) v.hands.retired) (d ∷ [])
+    pub retired_times : (s : ℕ) → times s (map (λ (x : Retired). x.slot) w.hands.retired)
+        ≡ times s (map (λ (x : Retired). x.slot) v.hands.retired) + times s (d ∷ [])
+    retired_times s = ap (λ rs. times s (map (λ (x : Retired). x.slot) rs)) r.retired
+        ∙ ap (times s) (map_append v.hands.retired (gone ∷ [])) ∙ times_append s (map (λ (x : Retired). x.slot) v.hands.retired) (d ∷ [])
 
     pub retired_or_gone : (x : Retired) → IsIn (retired_of w) x → IsIn (retired_of v) x ⊎ IsRetired new hs x
     retired_or_gone x has = ⊎_elim
@@ -194,7 +229,8 @@ module _ (z : LinkStep) where
 
     pub retired_grows : (x : Retired) → IsIn (retired_of v) x → IsIn (retired_of w) x
     retired_grows x has = subst (λ rs. IsIn rs x) (sym retired_is) (⊎_elim
-        (λ (a : IsIn v.hands.retired x). in_first (v.hands.retired ++ gone ∷ []) (joined_retired v.allowance.joined) x (in_first v.hands.retired (gone ∷ []) x a))
+        (λ (a : IsIn v.hands.retired x). in_first (v.hands.retired ++ gone ∷ []) (joined_retired v.allowance.joined) x
+        (in_first v.hands.retired (gone ∷ []) x a))
         (λ a. in_second (v.hands.retired ++ gone ∷ []) (joined_retired v.allowance.joined) x a)
         (in_append v.hands.retired (joined_retired v.allowance.joined) x has))
 

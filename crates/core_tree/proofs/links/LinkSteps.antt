@@ -91,7 +91,8 @@ module _ (z : LinkStep) where
   pub range_stays : (x s : ℕ) → to.linked s ≡ true → z.lower (g.low s) ≤ x → IsInRange g x s → IsInRange to x s
   range_stays = in_after m (words_after z) (slot_count k) g to p b d c z.lower z.upper i.tree.shape z.changes
 
-  pub side_stays : (x s : ℕ) (a : Side) → g.linked s ≡ true → to.linked s ≡ true → (a ≡ Left → z.upper (m (Key s)) ≡ m (Key s)) → z.lower (low_of m g s a) ≤ x → Belongs m g x s a → Belongs (words_after z) to x s a
+  pub side_stays : (x s : ℕ) (a : Side) → g.linked s ≡ true → to.linked s ≡ true → (a ≡ Left → z.upper (m (Key s)) ≡ m (Key s))
+      → z.lower (low_of m g s a) ≤ x → Belongs m g x s a → Belongs (words_after z) to x s a
   side_stays = belongs_after m (words_after z) (slot_count k) g to p b d c z.lower z.upper i.tree.shape z.changes
 
   pub empty_stays : c ≢ 0 → (s : ℕ) (a : Side) → words_after z (Link s a) ≡ 0 → m (Link s a) ≡ 0
@@ -117,12 +118,15 @@ module _ (z : LinkStep) where
   }
     where
       unmet : s ≡ c → ⊥
-      unmet e = let none = (z.fresh (ap g.linked (sym e) ∙ y.out)).0 in absurd (let q : None ≡ Some y.at = sym none ∙ ap (λ x. gone_at x h) (sym e) ∙ y.gone in cc)
+      unmet e = let none = (z.fresh (ap g.linked (sym e) ∙ y.out)).0 in
+          absurd (let q : None ≡ Some y.at = sym none ∙ ap (λ x. gone_at x h) (sym e) ∙ y.gone in cc)
 
   pub held_gone : (entered : ℕ) → entered < length h → d ≢ 0 → IsHeldBack to hs entered d
-  held_gone entered lt nz = let now = z.gone_now nz in record { out = z.changes.goes nz; at = now.0; gone = now.1; later = (let a = now.2 in omega arith) }
+  held_gone entered lt nz = let now = z.gone_now nz in
+      record { out = z.changes.goes nz; at = now.0; gone = now.1; later = (let a = now.2 in omega arith) }
 
-  pub here_after : (entered : ℕ) → entered < length h → (s : ℕ) → (g.linked s ≡ true) ⊎ IsHeldBack g h entered s → (to.linked s ≡ true) ⊎ IsHeldBack to hs entered s
+  pub here_after : (entered : ℕ) → entered < length h → (s : ℕ) → (g.linked s ≡ true) ⊎ IsHeldBack g h entered s
+      → (to.linked s ≡ true) ⊎ IsHeldBack to hs entered s
   here_after entered lt s which = ⊎_elim
       (λ (l : g.linked s ≡ true). ⊎_elim
       (λ (e : s ≡ d). ⊎_elim
@@ -143,22 +147,27 @@ module _ (z : LinkStep) where
   seats_after = seat_frame_plain h hs v.allowance.place z.plain k.places vs id v w there z.who.works refl z.same i.seats
 
   pub waiters_after : WaiterParts k (words_after z) (views_after z) hs
-  waiters_after = waiter_frame_plain h hs v.allowance.place z.plain k m (words_after z) vs id v w there z.same refl refl (clocked_before k m vs h i) i.waiters
+  waiters_after = waiter_frame_plain h hs v.allowance.place z.plain k m (words_after z) vs id v w there z.same refl refl
+      (clocked_before k m vs h i) i.waiters
 
   -- no life and no tag falls, and unlinked slots stay as they are
   pub past_kept : KeepsPast m h (words_after z)
   past_kept = record {
     lives = λ s. omega arith;
     tags = λ s a. omega arith;
-    content = λ s field gone marked content. (link_stores m p b c).content s field (λ e. absurd (let off = unlinked_off s gone.0 gone.1 in let on = z.changes.parent in cc (ap g.linked e))) content;
+    content = λ s field gone marked content. (link_stores m p b c).content s field
+        (λ e. absurd (let off = unlinked_off s gone.0 gone.1 in let on = z.changes.parent in cc (ap g.linked e))) content;
   }
 
   -- the parts on listings, by what becomes of those that nothing was made since
-  pub listings_by : ((listing : Listing) → IsEven listing.front → m Front ≡ listing.front → ListsNow m g h listing → ListsNow (words_after z) to hs listing) → ListingParts (words_after z) to (views_after z) hs
+  pub listings_by : ((listing : Listing) → IsEven listing.front → m Front ≡ listing.front → ListsNow m g h listing
+      → ListsNow (words_after z) to hs listing) → ListingParts (words_after z) to (views_after z) hs
   listings_by now =
-      listings_after m (words_after z) g to vs id w h hs (z.same.section ∙ z.outside) refl (λ s. refl) (λ j u section s e is. here_after section.entered (entered_before k m vs h i j u section e is) s)
+      listings_after m (words_after z) g to vs id w h hs (z.same.section ∙ z.outside) refl (λ s. refl)
+      (λ j u section s e is. here_after section.entered (entered_before k m vs h i j u section e is) s)
       (λ j u section listing e is even same lists. now listing even same lists) i.listings
 
   -- while the view's commit is under way the front is odd, and nothing holds of listings
   pub listings_of_commit : (commit : Commit) → HasCommit v commit → ListingParts (words_after z) to (views_after z) hs
-  listings_of_commit commit has = listings_by (λ listing even same _. absurd (odd_front m m vs id v v there h h refl i.front commit has (subst IsEven (sym same) even)))
+  listings_of_commit commit has = listings_by (λ listing even same _. absurd
+      (odd_front m m vs id v v there h h refl i.front commit has (subst IsEven (sym same) even)))

@@ -18,13 +18,15 @@ use Rattle.core_tree.proofs.locks.Locked.{holds_alone}
 use Rattle.core_frames.proofs.views.Roles.{linked_none, hand_own, spare_own}
 
 module _ (k : Shape) (m : Memory) (vs : List View) (h : List Mark) (i : HoldsNow k m vs h) where
-  module _ (id : ℕ) (v : View) (there : get_elem? vs id ≡ some v) (slot : ℕ) (lock : HeldLock) (locked : lock_of v.locks slot ≡ Some lock) where
+  module _ (id : ℕ) (v : View) (there : get_elem? vs id ≡ some v) (slot : ℕ) (lock : HeldLock)
+      (locked : lock_of v.locks slot ≡ Some lock) where
     pub lock_outside : v.section ≡ None
     lock_outside = cases v.section refl
       where
         cases : (o : Option Section) → v.section ≡ o → o ≡ None
         cases None e = refl
-        cases (Some s) e = absurd (let none = ((i.locks.few id v there).outside s e).0 in let q : None ≡ Some lock = ap (λ ls. lock_of ls slot) (sym none) ∙ locked in cc)
+        cases (Some s) e = absurd (let none = ((i.locks.few id v there).outside s e).0 in
+            let q : None ≡ Some lock = ap (λ ls. lock_of ls slot) (sym none) ∙ locked in cc)
 
     pub lock_alone : (j : ℕ) (u : View) → j ≢ id → get_elem? vs j ≡ some u → HasLock u slot → ⊥
     lock_alone j u ne e has = ne (holds_alone k m vs h i id v there slot j u has.0 (lock, locked) e has.1)
@@ -34,7 +36,9 @@ module _ (k : Shape) (m : Memory) (vs : List View) (h : List Mark) (i : HoldsNow
     linked_nobody = linked_none m (slot_count k) i.chart vs h i.slots j u at slot linked
 
     pub linked_hand : (x : Held) → u.hands.hand ≡ Some x → x.slot ≢ slot
-    linked_hand x is same = absurd (let a = hand_own u x is in let c = linked_nobody in let d = ap (λ z. times z (slots_of u)) same in omega arith)
+    linked_hand x is same = absurd (let a = hand_own u x is in let c = linked_nobody in let d = ap (λ z. times z (slots_of u)) same in
+        omega arith)
 
     pub linked_spare : (x : Held) → u.hands.spare ≡ Some x → x.slot ≢ slot
-    linked_spare x is same = absurd (let a = spare_own u x is in let c = linked_nobody in let d = ap (λ z. times z (slots_of u)) same in omega arith)
+    linked_spare x is same = absurd (let a = spare_own u x is in let c = linked_nobody in let d = ap (λ z. times z (slots_of u)) same in
+        omega arith)

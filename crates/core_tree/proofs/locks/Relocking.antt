@@ -35,8 +35,11 @@ module _ (s : ℕ) (f : HeldLock → HeldLock) (keep : (l : HeldLock) → (f l).
       let y : HeldLock = cond (x.slot == s) (f x) x in
       let same : y.slot ≡ x.slot = one_slot x (x.slot == s) in
       ⊎_elim
-      (λ (e : x.slot ≡ t). ap (λ b. cond b (Some y) (lock_of (change_lock s f ls) t)) (eq-eqb y.slot t (same ∙ e)) ∙ ap (λ z. Some (cond (z == s) (f x) x)) e ∙ sym (ap (λ b. changed f (t == s) (cond b (Some x) (lock_of ls t))) (eq-eqb x.slot t e)))
-      (λ ne. ap (λ b. cond b (Some y) (lock_of (change_lock s f ls) t)) (ne_eqb y.slot t (λ z. ne (sym same ∙ z))) ∙ lock_of-change ls t ∙ sym (ap (λ b. changed f (t == s) (cond b (Some x) (lock_of ls t))) (ne_eqb x.slot t ne)))
+      (λ (e : x.slot ≡ t). ap (λ b. cond b (Some y) (lock_of (change_lock s f ls) t)) (eq-eqb y.slot t (same ∙ e))
+      ∙ ap (λ z. Some (cond (z == s) (f x) x)) e ∙ sym
+      (ap (λ b. changed f (t == s) (cond b (Some x) (lock_of ls t))) (eq-eqb x.slot t e)))
+      (λ ne. ap (λ b. cond b (Some y) (lock_of (change_lock s f ls) t)) (ne_eqb y.slot t (λ z. ne (sym same ∙ z))) ∙ lock_of-change ls t
+      ∙ sym (ap (λ b. changed f (t == s) (cond b (Some x) (lock_of ls t))) (ne_eqb x.slot t ne)))
       (cases_eq x.slot t)
 
   pub slots_change : (ls : List HeldLock) → map (λ (l : HeldLock). l.slot) (change_lock s f ls) ≡ map (λ (l : HeldLock). l.slot) ls
@@ -50,26 +53,33 @@ module _ (s : ℕ) (f : HeldLock → HeldLock) (keep : (l : HeldLock) → (f l).
   abbrev flags : HeldLock → ℕ
   flags l = flag l.left_emptied + flag l.right_emptied
 
-  pub emptied_change_same : ((l : HeldLock) → flag (f l).left_emptied + flag (f l).right_emptied ≡ flag l.left_emptied + flag l.right_emptied) → (ls : List HeldLock) → emptied_among (change_lock s f ls) ≡ emptied_among ls
+  pub emptied_change_same : ((l : HeldLock) → flag (f l).left_emptied + flag (f l).right_emptied
+      ≡ flag l.left_emptied + flag l.right_emptied) → (ls : List HeldLock) → emptied_among (change_lock s f ls) ≡ emptied_among ls
   emptied_change_same same [] = refl
   emptied_change_same same (x ∷ ls) = let r = emptied_change_same same ls in let h = here (x.slot == s) in omega arith
     where
-      here : (b : Bool) → flag (cond b (f x) x).left_emptied + flag (cond b (f x) x).right_emptied ≡ flag x.left_emptied + flag x.right_emptied
+      here : (b : Bool) → flag (cond b (f x) x).left_emptied + flag (cond b (f x) x).right_emptied
+          ≡ flag x.left_emptied + flag x.right_emptied
       here true = same x
       here false = refl
 
-  pub emptied_change_more : ((l : HeldLock) → flag (f l).left_emptied + flag (f l).right_emptied ≤ flag l.left_emptied + flag l.right_emptied + 1) → (ls : List HeldLock) → emptied_among (change_lock s f ls) ≤ emptied_among ls + times s (map (λ (l : HeldLock). l.slot) ls)
+  pub emptied_change_more : ((l : HeldLock) → flag (f l).left_emptied + flag (f l).right_emptied
+      ≤ flag l.left_emptied + flag l.right_emptied + 1) → (ls : List HeldLock)
+      → emptied_among (change_lock s f ls) ≤ emptied_among ls + times s (map (λ (l : HeldLock). l.slot) ls)
   emptied_change_more more [] = omega arith
   emptied_change_more more (x ∷ ls) = let r = emptied_change_more more ls in let h = here (x.slot == s) in omega arith
     where
-      here : (b : Bool) → flag (cond b (f x) x).left_emptied + flag (cond b (f x) x).right_emptied ≤ flag x.left_emptied + flag x.right_emptied + cond b 1 0
+      here : (b : Bool) → flag (cond b (f x) x).left_emptied + flag (cond b (f x) x).right_emptied
+          ≤ flag x.left_emptied + flag x.right_emptied + cond b 1 0
       here true = more x
       here false = omega arith
 
-pub change_here : (s : ℕ) (f : HeldLock → HeldLock) → ((l : HeldLock) → (f l).slot ≡ l.slot) → (ls : List HeldLock) (l : HeldLock) → lock_of ls s ≡ Some l → lock_of (change_lock s f ls) s ≡ Some (f l)
+pub change_here : (s : ℕ) (f : HeldLock → HeldLock) → ((l : HeldLock) → (f l).slot ≡ l.slot) → (ls : List HeldLock) (l : HeldLock)
+    → lock_of ls s ≡ Some l → lock_of (change_lock s f ls) s ≡ Some (f l)
 change_here s f keep ls l e = lock_of-change s f keep ls s ∙ ap (changed f (s == s)) e ∙ ap (λ b. Some (cond b (f l) l)) (eq-eqb s s refl)
 
-pub change_other : (s : ℕ) (f : HeldLock → HeldLock) → ((l : HeldLock) → (f l).slot ≡ l.slot) → (ls : List HeldLock) (t : ℕ) → t ≢ s → lock_of (change_lock s f ls) t ≡ lock_of ls t
+pub change_other : (s : ℕ) (f : HeldLock → HeldLock) → ((l : HeldLock) → (f l).slot ≡ l.slot) → (ls : List HeldLock) (t : ℕ) → t ≢ s
+    → lock_of (change_lock s f ls) t ≡ lock_of ls t
 change_other s f keep ls t ne = lock_of-change s f keep ls t ∙ ap (λ b. changed f b (lock_of ls t)) (ne_eqb t s ne) ∙ same (lock_of ls t)
   where
     same : (o : Option HeldLock) → changed f false o ≡ o
@@ -113,7 +123,8 @@ note_emptied : (known : Known) (a : Side) (l : HeldLock) → is_emptied (note_lo
 note_emptied known Left l = refl
 note_emptied known Right l = refl
 
-emptied_flags : (b : Side) (l : HeldLock) → flag (with_emptied b true l).left_emptied + flag (with_emptied b true l).right_emptied ≤ flag l.left_emptied + flag l.right_emptied + 1
+emptied_flags : (b : Side) (l : HeldLock) → flag (with_emptied b true l).left_emptied + flag (with_emptied b true l).right_emptied
+    ≤ flag l.left_emptied + flag l.right_emptied + 1
 emptied_flags Left l = omega arith
 emptied_flags Right l = omega arith
 
@@ -160,7 +171,8 @@ module _ (p : ℕ) (b : Side) (d : ℕ) (known : Known) where
     known_is = emptied_known b true (note_lock known l);
     marked = emptied_marked b true (note_lock known l);
     still = λ a e. emptied_still b a (note_lock known l) (note_emptied known a l ∙ e);
-    back = λ a e. ⊎_elim (λ (o : is_emptied (note_lock known l) a ≡ true). inl (sym (note_emptied known a l) ∙ o)) (λ (o : a ≡ b). inr (refl, o, refl)) (emptied_back b a (note_lock known l) e);
+    back = λ a e. ⊎_elim (λ (o : is_emptied (note_lock known l) a ≡ true). inl (sym (note_emptied known a l) ∙ o))
+        (λ (o : a ≡ b). inr (refl, o, refl)) (emptied_back b a (note_lock known l) e);
     now = λ x y. emptied_now b (note_lock known l);
   }
   middle true false l = record { known_is = refl; marked = refl; still = λ a e. e; back = λ a e. inl e; now = λ x y. absurd (cc) }
@@ -186,7 +198,9 @@ module _ (p : ℕ) (b : Side) (d : ℕ) (known : Known) where
         kept = λ ne. ap (λ z. (cond z (with_mark false x) x).marked) (ne_eqb t d ne) ∙ q.marked;
         unmarked = λ e. ap (λ z. (cond z (with_mark false x) x).marked) (eq-eqb t d e);
         still = λ a e. same_emptied a ∙ q.still a e;
-        back = λ a e. ⊎_elim (λ (o : is_emptied l a ≡ true). inl o) (λ (o : ((t == p) ≡ true) × (a ≡ b) × (empties ≡ true)). inr (eqb-true t p o.0, o.1, o.2)) (q.back a (sym (same_emptied a) ∙ e));
+        back = λ a e. ⊎_elim (λ (o : is_emptied l a ≡ true). inl o)
+            (λ (o : ((t == p) ≡ true) × (a ≡ b) × (empties ≡ true)). inr (eqb-true t p o.0, o.1, o.2))
+            (q.back a (sym (same_emptied a) ∙ e));
         now = λ e z. same_emptied b ∙ q.now (eq-eqb t p e) z;
       }
     where
@@ -198,44 +212,60 @@ module _ (p : ℕ) (b : Side) (d : ℕ) (known : Known) where
       emptied_same x true a = mark_emptied false a x
       emptied_same x false a = refl
 
-  lock_of-emptied : (empties : Bool) (ls : List HeldLock) (t : ℕ) (l : HeldLock) → lock_of ls t ≡ Some l → lock_of (emptied_locks empties ls) t ≡ Some (one_emptied empties (t == p) l)
-  lock_of-emptied true ls t l e = lock_of-change p (with_emptied b true) (emptied_slot b true) (noted_locks ls) t ∙ ap (changed (with_emptied b true) (t == p)) (lock_of-change p (note_lock known) (λ x. refl) ls t ∙ ap (changed (note_lock known) (t == p)) e)
+  lock_of-emptied : (empties : Bool) (ls : List HeldLock) (t : ℕ) (l : HeldLock) → lock_of ls t ≡ Some l
+      → lock_of (emptied_locks empties ls) t ≡ Some (one_emptied empties (t == p) l)
+  lock_of-emptied true ls t l e = lock_of-change p (with_emptied b true) (emptied_slot b true) (noted_locks ls) t
+      ∙ ap (changed (with_emptied b true) (t == p))
+      (lock_of-change p (note_lock known) (λ x. refl) ls t ∙ ap (changed (note_lock known) (t == p)) e)
   lock_of-emptied false ls t l e = lock_of-change p (note_lock known) (λ x. refl) ls t ∙ ap (changed (note_lock known) (t == p)) e
 
   -- the lock of a slot afterwards
-  pub relocked_forth : (empties : Bool) (ls : List HeldLock) (t : ℕ) (l : HeldLock) → lock_of ls t ≡ Some l → (l' : HeldLock) × (lock_of (relocked empties ls) t ≡ Some l') × IsRelocked p b empties d known t l l'
+  pub relocked_forth : (empties : Bool) (ls : List HeldLock) (t : ℕ) (l : HeldLock) → lock_of ls t ≡ Some l
+      → (l' : HeldLock) × (lock_of (relocked empties ls) t ≡ Some l') × IsRelocked p b empties d known t l l'
   relocked_forth empties ls t l e = (
     one_relocked empties (t == p) (t == d) l,
-    lock_of-change d (with_mark false) (λ x. refl) (emptied_locks empties ls) t ∙ ap (changed (with_mark false) (t == d)) (lock_of-emptied empties ls t l e),
+    lock_of-change d (with_mark false) (λ x. refl) (emptied_locks empties ls) t
+        ∙ ap (changed (with_mark false) (t == d)) (lock_of-emptied empties ls t l e),
     relocked_is empties t l,
   )
 
   emptied_none : (empties : Bool) (ls : List HeldLock) (t : ℕ) → lock_of ls t ≡ None → lock_of (emptied_locks empties ls) t ≡ None
-  emptied_none true ls t e = lock_of-change p (with_emptied b true) (emptied_slot b true) (noted_locks ls) t ∙ ap (changed (with_emptied b true) (t == p)) (lock_of-change p (note_lock known) (λ x. refl) ls t ∙ ap (changed (note_lock known) (t == p)) e)
+  emptied_none true ls t e = lock_of-change p (with_emptied b true) (emptied_slot b true) (noted_locks ls) t
+      ∙ ap (changed (with_emptied b true) (t == p))
+      (lock_of-change p (note_lock known) (λ x. refl) ls t ∙ ap (changed (note_lock known) (t == p)) e)
   emptied_none false ls t e = lock_of-change p (note_lock known) (λ x. refl) ls t ∙ ap (changed (note_lock known) (t == p)) e
 
   -- and what it was before
-  pub relocked_back : (empties : Bool) (ls : List HeldLock) (t : ℕ) (l' : HeldLock) → lock_of (relocked empties ls) t ≡ Some l' → (l : HeldLock) × (lock_of ls t ≡ Some l) × IsRelocked p b empties d known t l l'
+  pub relocked_back : (empties : Bool) (ls : List HeldLock) (t : ℕ) (l' : HeldLock) → lock_of (relocked empties ls) t ≡ Some l'
+      → (l : HeldLock) × (lock_of ls t ≡ Some l) × IsRelocked p b empties d known t l l'
   relocked_back empties ls t l' e = cases (lock_of ls t) refl
     where
       cases : (o : Option HeldLock) → lock_of ls t ≡ o → (l : HeldLock) × (lock_of ls t ≡ Some l) × IsRelocked p b empties d known t l l'
-      cases None q = absurd (let r : None ≡ Some l' = sym (lock_of-change d (with_mark false) (λ x. refl) (emptied_locks empties ls) t ∙ ap (changed (with_mark false) (t == d)) (emptied_none empties ls t q)) ∙ e in cc)
+      cases None q = absurd (let r : None ≡ Some l' =
+          sym (lock_of-change d (with_mark false) (λ x. refl) (emptied_locks empties ls) t
+          ∙ ap (changed (with_mark false) (t == d)) (emptied_none empties ls t q)) ∙ e in cc)
       cases (Some l) q =
           let f = relocked_forth empties ls t l q in
           let r : Some f.0 ≡ Some l' = sym f.1 ∙ e in
           let same : f.0 ≡ l' = cc in
           (l, q, subst (IsRelocked p b empties d known t l) same f.2)
 
-  pub relocked_slots : (empties : Bool) (ls : List HeldLock) → map (λ (l : HeldLock). l.slot) (relocked empties ls) ≡ map (λ (l : HeldLock). l.slot) ls
-  relocked_slots true ls = slots_change d (with_mark false) (λ x. refl) (emptied_locks true ls) ∙ slots_change p (with_emptied b true) (emptied_slot b true) (noted_locks ls) ∙ slots_change p (note_lock known) (λ x. refl) ls
-  relocked_slots false ls = slots_change d (with_mark false) (λ x. refl) (emptied_locks false ls) ∙ slots_change p (note_lock known) (λ x. refl) ls
+  pub relocked_slots : (empties : Bool) (ls : List HeldLock)
+      → map (λ (l : HeldLock). l.slot) (relocked empties ls) ≡ map (λ (l : HeldLock). l.slot) ls
+  relocked_slots true ls = slots_change d (with_mark false) (λ x. refl) (emptied_locks true ls)
+      ∙ slots_change p (with_emptied b true) (emptied_slot b true) (noted_locks ls) ∙ slots_change p (note_lock known) (λ x. refl) ls
+  relocked_slots false ls = slots_change d (with_mark false) (λ x. refl) (emptied_locks false ls)
+      ∙ slots_change p (note_lock known) (λ x. refl) ls
 
   pub relocked_length : (empties : Bool) (ls : List HeldLock) → length (relocked empties ls) ≡ length ls
-  relocked_length true ls = length_change d (with_mark false) (λ x. refl) (emptied_locks true ls) ∙ length_change p (with_emptied b true) (emptied_slot b true) (noted_locks ls) ∙ length_change p (note_lock known) (λ x. refl) ls
-  relocked_length false ls = length_change d (with_mark false) (λ x. refl) (emptied_locks false ls) ∙ length_change p (note_lock known) (λ x. refl) ls
+  relocked_length true ls = length_change d (with_mark false) (λ x. refl) (emptied_locks true ls)
+      ∙ length_change p (with_emptied b true) (emptied_slot b true) (noted_locks ls) ∙ length_change p (note_lock known) (λ x. refl) ls
+  relocked_length false ls = length_change d (with_mark false) (λ x. refl) (emptied_locks false ls)
+      ∙ length_change p (note_lock known) (λ x. refl) ls
 
   -- at most one side more is emptied
-  pub relocked_emptied : (empties : Bool) (ls : List HeldLock) → times p (map (λ (l : HeldLock). l.slot) ls) ≤ 1 → emptied_among (relocked empties ls) ≤ emptied_among ls + 1
+  pub relocked_emptied : (empties : Bool) (ls : List HeldLock) → times p (map (λ (l : HeldLock). l.slot) ls) ≤ 1
+      → emptied_among (relocked empties ls) ≤ emptied_among ls + 1
   relocked_emptied true ls once =
       let a = emptied_change_same d (with_mark false) (λ x. refl) (λ l. refl) (emptied_locks true ls) in
       let c = emptied_change_more p (with_emptied b true) (emptied_slot b true) (emptied_flags b) (noted_locks ls) in
@@ -271,14 +301,21 @@ module _ (p : ℕ) (known : Known) where
       same_emptied a true = note_emptied known a l
       same_emptied a false = refl
 
-  pub noted_forth : (ls : List HeldLock) (t : ℕ) (l : HeldLock) → lock_of ls t ≡ Some l → (l' : HeldLock) × (lock_of (change_lock p (note_lock known) ls) t ≡ Some l') × IsNoted p known t l l'
-  noted_forth ls t l e = (cond (t == p) (note_lock known l) l, lock_of-change p (note_lock known) (λ x. refl) ls t ∙ ap (changed (note_lock known) (t == p)) e, noted_is t l)
+  pub noted_forth : (ls : List HeldLock) (t : ℕ) (l : HeldLock) → lock_of ls t ≡ Some l
+      → (l' : HeldLock) × (lock_of (change_lock p (note_lock known) ls) t ≡ Some l') × IsNoted p known t l l'
+  noted_forth ls t l e = (
+    cond (t == p) (note_lock known l) l,
+    lock_of-change p (note_lock known) (λ x. refl) ls t ∙ ap (changed (note_lock known) (t == p)) e,
+    noted_is t l,
+  )
 
-  pub noted_back : (ls : List HeldLock) (t : ℕ) (l' : HeldLock) → lock_of (change_lock p (note_lock known) ls) t ≡ Some l' → (l : HeldLock) × (lock_of ls t ≡ Some l) × IsNoted p known t l l'
+  pub noted_back : (ls : List HeldLock) (t : ℕ) (l' : HeldLock) → lock_of (change_lock p (note_lock known) ls) t ≡ Some l'
+      → (l : HeldLock) × (lock_of ls t ≡ Some l) × IsNoted p known t l l'
   noted_back ls t l' e = cases (lock_of ls t) refl
     where
       cases : (o : Option HeldLock) → lock_of ls t ≡ o → (l : HeldLock) × (lock_of ls t ≡ Some l) × IsNoted p known t l l'
-      cases None q = absurd (let r : None ≡ Some l' = sym (lock_of-change p (note_lock known) (λ x. refl) ls t ∙ ap (changed (note_lock known) (t == p)) q) ∙ e in cc)
+      cases None q = absurd (let r : None ≡ Some l' =
+          sym (lock_of-change p (note_lock known) (λ x. refl) ls t ∙ ap (changed (note_lock known) (t == p)) q) ∙ e in cc)
       cases (Some l) q =
           let f = noted_forth ls t l q in
           let r : Some f.0 ≡ Some l' = sym f.1 ∙ e in

@@ -65,8 +65,10 @@ life_or_tag_stores m p f n own kind = record {
   beside = (stores_in m p f n own).beside;
 }
 
-module _ (k : Shape) (m m' : Memory) (vs : List View) (h : List Mark) (id : ℕ) (v : View) (i : HoldsNow k m vs h) (there : get_elem? vs id ≡ some v) (works : Works v)
-    (locks : List HeldLock) (slot : ℕ) (lock new : HeldLock) (one : OneLock v (record v { locks = locks }) slot lock new) (stores : StoresLifeOrTag m m') where
+module _ (k : Shape) (m m' : Memory) (vs : List View) (h : List Mark) (id : ℕ) (v : View) (i : HoldsNow k m vs h)
+    (there : get_elem? vs id ≡ some v) (works : Works v)
+    (locks : List HeldLock) (slot : ℕ) (lock new : HeldLock) (one : OneLock v (record v { locks = locks }) slot lock new)
+    (stores : StoresLifeOrTag m m') where
   abbrev w : View
   w = record v { locks = locks }
 
@@ -76,12 +78,15 @@ module _ (k : Shape) (m m' : Memory) (vs : List View) (h : List Mark) (id : ℕ)
     pub off : (s : ℕ) → i.chart.linked s ≡ false → m' (Life s) ≡ m (Life s)
     pub root : m' (Life 0) ≡ 0
     pub recorded : (r : Reading) (s : ℕ) → IsAsRecorded m' r s → IsAsRecorded m r s
-    pub tags : (j : ℕ) (u : View) (r : Reading) (s tag : ℕ) (b : Side) → get_elem? vs j ≡ some u → IsIn u.records r → known_in r.loads (Tag s b) ≡ Some tag → m' (Tag s b) ≡ tag → (IsEmptied (set vs id w) s b → ⊥) → (m (Tag s b) ≡ tag) × (IsEmptied vs s b → ⊥)
+    pub tags : (j : ℕ) (u : View) (r : Reading) (s tag : ℕ) (b : Side) → get_elem? vs j ≡ some u → IsIn u.records r
+        → known_in r.loads (Tag s b) ≡ Some tag → m' (Tag s b) ≡ tag → (IsEmptied (set vs id w) s b → ⊥)
+        → (m (Tag s b) ≡ tag) × (IsEmptied vs s b → ⊥)
     pub hands : (j : ℕ) (u : View) → get_elem? vs j ≡ some u → AreHandsKnown m u → AreHandsKnown m' u
     pub away : (s : ℕ) → s ≢ slot → m' (Life s) ≡ m (Life s)
     pub alone : (j : ℕ) (u : View) → j ≢ id → get_elem? vs j ≡ some u → HasLock u slot → ⊥
     pub here : (generation : ℕ) → HasGeneration m slot generation lock → HasGeneration m' slot generation new
-    pub copies : (j : ℕ) (u : View) (move : Move) → get_elem? vs j ≡ some u → u.moving ≡ Some move → m' (Life move.copy.slot) ≡ m (Life move.copy.slot)
+    pub copies : (j : ℕ) (u : View) (move : Move) → get_elem? vs j ≡ some u → u.moving ≡ Some move
+        → m' (Life move.copy.slot) ≡ m (Life move.copy.slot)
 
   module _ (c : LeavesRest) where
     abbrev g : Chart
@@ -90,21 +95,43 @@ module _ (k : Shape) (m m' : Memory) (vs : List View) (h : List Mark) (id : ℕ)
     slots : SlotParts m' (slot_count k) g (set vs id w) h
     slots = let t = i.slots in let same = λ (s : ℕ). total_same (λ (u : View). times s (slots_of u)) vs id v w there refl in record {
       roles = record {
-        once = λ s lt. ap (λ x. flag (x == 0) + flag (g.linked s) + total (λ (u : View). times s (slots_of u)) (set vs id w)) (stores.state s) ∙ ap (λ x. flag (m (State s) == 0) + flag (g.linked s) + x) (same s) ∙ t.roles.once s lt;
+        once = λ s lt. ap (λ x. flag (x == 0) + flag (g.linked s) + total (λ (u : View). times s (slots_of u)) (set vs id w))
+            (stores.state s) ∙ ap (λ x. flag (m (State s) == 0) + flag (g.linked s) + x) (same s) ∙ t.roles.once s lt;
         beyond = λ s far. same s ∙ t.roles.beyond s far;
         states = λ s lt. subst (λ x. x ≤ 1) (sym (stores.state s)) (t.roles.states s lt);
       };
-      few = each_change HasFewSlots HasFewSlots vs id v w there (λ x. record { one = x.one; few = x.few; room = x.room; joined = x.joined; joined_spare = x.joined_spare; next_spare = x.next_spare }) (λ u x. x) t.few;
-      free = λ s lt e. (let zero_state = sym (stores.state s) ∙ e in subst IsEven (sym (c.off s (free_off s lt zero_state))) (t.free s lt zero_state));
+      few = each_change HasFewSlots HasFewSlots vs id v w there
+          (λ x. record {
+            one = x.one;
+            few = x.few;
+            room = x.room;
+            joined = x.joined;
+            joined_spare = x.joined_spare;
+            next_spare = x.next_spare;
+          }) (λ u x. x) t.few;
+      free = λ s lt e. (let zero_state = sym (stores.state s) ∙ e in
+          subst IsEven (sym (c.off s (free_off s lt zero_state))) (t.free s lt zero_state));
       root = c.root;
-      hands = each_set (λ j u. AreHandsKnown m' u) vs id w (let x = c.hands id v there (t.hands id v there) in record { hand = x.hand; spare = x.spare; copy = x.copy; spares = x.spares }) (λ j u ne e. c.hands j u e (t.hands j u e));
-      retired = each_set (λ j u. Each (retired_of u) (IsRetired m' h)) vs id w (λ j x e. retired_is id v x there (j, e) (t.retired id v there j x e)) (λ j u ne e l x is. retired_is j u x e (l, is) (t.retired j u e l x is));
+      hands = each_set (λ j u. AreHandsKnown m' u) vs id w
+          (let x = c.hands id v there (t.hands id v there) in record { hand = x.hand; spare = x.spare; copy = x.copy; spares = x.spares })
+          (λ j u ne e. c.hands j u e (t.hands j u e));
+      retired = each_set (λ j u. Each (retired_of u) (IsRetired m' h)) vs id w
+          (λ j x e. retired_is id v x there (j, e) (t.retired id v there j x e))
+          (λ j u ne e l x is. retired_is j u x e (l, is) (t.retired j u e l x is));
       unlinked = λ s p gone. (let x = t.unlinked s p gone in let z = still retired_of vs id v w there refl x.id x.view x.there in
-          record { id = x.id; view = z.0; retired = x.retired; there = z.1; has = subst (λ rs. IsIn rs x.retired) (sym z.2) x.has; slot = x.slot });
+          record {
+            id = x.id;
+            view = z.0;
+            retired = x.retired;
+            there = z.1;
+            has = subst (λ rs. IsIn rs x.retired) (sym z.2) x.has;
+            slot = x.slot;
+          });
     }
       where
         free_off : (s : ℕ) → s < slot_count k → m (State s) ≡ 0 → g.linked s ≡ false
-        free_off s lt e = let role = i.slots.roles.once s lt in let f = ap (λ x. flag (x == 0)) e in ⊎_elim (λ l. absurd (let q = ap flag l in omega arith)) (λ l. l) (bool_cases (g.linked s))
+        free_off s lt e = let role = i.slots.roles.once s lt in let f = ap (λ x. flag (x == 0)) e in
+            ⊎_elim (λ l. absurd (let q = ap flag l in omega arith)) (λ l. l) (bool_cases (g.linked s))
 
         retired_is : (j : ℕ) (u : View) (x : Retired) → get_elem? vs j ≡ some u → IsIn (retired_of u) x → IsRetired m h x → IsRetired m' h x
         retired_is j u x e is t =
@@ -128,13 +155,19 @@ module _ (k : Shape) (m m' : Memory) (vs : List View) (h : List Mark) (id : ℕ)
     held_now s has (no ne) = (has.0, one.other s ne ∙ has.1)
 
     generation_away : (s : ℕ) (l : HeldLock) (generation : ℕ) → s ≢ slot → HasGeneration m s generation l → HasGeneration m' s generation l
-    generation_away s l generation ne has = ⊎_elim (λ e. inl (c.away s ne ∙ e)) (λ (e : (m (Life s) ≡ 2 * generation + 1) × (l.marked ≡ true)). inr (c.away s ne ∙ e.0, e.1)) has
+    generation_away s l generation ne has = ⊎_elim (λ e. inl (c.away s ne ∙ e))
+        (λ (e : (m (Life s) ≡ 2 * generation + 1) × (l.marked ≡ true)). inr (c.away s ne ∙ e.0, e.1)) has
 
-    own_now : (s : ℕ) (l : HeldLock) (generation : ℕ) → lock_of v.locks s ≡ Some l → HasGeneration m s generation l → Dec (s ≡ slot) → (l' : HeldLock) × (lock_of locks s ≡ Some l') × HasGeneration m' s generation l'
+    own_now : (s : ℕ) (l : HeldLock) (generation : ℕ) → lock_of v.locks s ≡ Some l → HasGeneration m s generation l → Dec (s ≡ slot)
+        → (l' : HeldLock) × (lock_of locks s ≡ Some l') × HasGeneration m' s generation l'
     own_now s l generation is has (yes same) =
         let q : Some l ≡ Some lock = sym is ∙ ap (lock_of v.locks) same ∙ one.held in
-        let it : l ≡ lock = cc in
-        (new, ap (lock_of locks) same ∙ one.now, subst (λ z. HasGeneration m' z generation new) (sym same) (c.here generation (subst (λ (z : ℕ × HeldLock). HasGeneration m z.0 generation z.1) (λ j. (same j, it j)) has)))
+        let it : l ≡ lock = cc in (
+          new,
+          ap (lock_of locks) same ∙ one.now,
+          subst (λ z. HasGeneration m' z generation new) (sym same)
+              (c.here generation (subst (λ (z : ℕ × HeldLock). HasGeneration m z.0 generation z.1) (λ j. (same j, it j)) has)),
+        )
     own_now s l generation is has (no ne) = (l, one.other s ne ∙ is, generation_away s l generation ne has)
 
     abbrev step : ChartStep any
@@ -143,7 +176,11 @@ module _ (k : Shape) (m m' : Memory) (vs : List View) (h : List Mark) (id : ℕ)
       m' = m';
       hs = h;
       w = w;
-      contents = record { key = λ s _. stores.content s (Key s) refl; link = λ s b _. stores.content s (Link s b) refl; value = λ s _. stores.content s (Value s) refl };
+      contents = record {
+        key = λ s _. stores.content s (Key s) refl;
+        link = λ s b _. stores.content s (Link s b) refl;
+        value = λ s _. stores.content s (Value s) refl;
+      };
       beside = stores.beside;
       on = λ s l. tt;
       half = λ s _. c.half s;
@@ -152,7 +189,8 @@ module _ (k : Shape) (m m' : Memory) (vs : List View) (h : List Mark) (id : ℕ)
       recorded = λ j u r e has s x. (tt, c.recorded r s x);
       side = c.tags;
       held = λ s has. held_now s has (ℕ_discrete s slot);
-      generation = λ j u s l generation ne e is on x. generation_away s l generation (λ same. c.alone j u ne e (l, ap (lock_of u.locks) (sym same) ∙ is)) x;
+      generation = λ j u s l generation ne e is on x. generation_away s l generation
+          (λ same. c.alone j u ne e (l, ap (lock_of u.locks) (sym same) ∙ is)) x;
       own_generation = λ s l generation is on x. own_now s l generation is x (ℕ_discrete s slot);
       copies = c.copies;
       view = same_but v locks v.hands v.seen;
@@ -162,11 +200,14 @@ module _ (k : Shape) (m m' : Memory) (vs : List View) (h : List Mark) (id : ℕ)
     }
 
     -- tags with those still to be raised are no more than before
-    counts_under : tags_raised m' (slot_count k) + emptied_among locks ≤ tags_raised m (slot_count k) + emptied_among v.locks → CountParts k.tickets m' (slot_count k) g (set vs id w) h
+    counts_under : tags_raised m' (slot_count k) + emptied_among locks ≤ tags_raised m (slot_count k) + emptied_among v.locks
+        → CountParts k.tickets m' (slot_count k) g (set vs id w) h
     counts_under tags = counts_by k.tickets m m' (slot_count k) g g vs id v w h h there (record {
-      free = (let a = stores.beside Free tt in let b : free_slots m' (slot_count k) ≡ free_slots m (slot_count k) = (λ j. count_below (λ s. stores.state s j == 0) (slot_count k)) in omega arith);
+      free = (let a = stores.beside Free tt in let b : free_slots m' (slot_count k) ≡ free_slots m (slot_count k) =
+          (λ j. count_below (λ s. stores.state s j == 0) (slot_count k)) in omega arith);
       clock = (let a = stores.beside Clock tt in omega arith);
-      generations = (let a : generations_in m' (slot_count k) ≡ generations_in m (slot_count k) = (λ j. sum_below (λ s. c.half s j) (slot_count k)) in omega arith);
+      generations = (let a : generations_in m' (slot_count k) ≡ generations_in m (slot_count k) =
+          (λ j. sum_below (λ s. c.half s j) (slot_count k)) in omega arith);
       tags = omega arith;
       turns = (let a = stores.beside Clock tt in omega arith);
       pairs = refl;
@@ -174,6 +215,9 @@ module _ (k : Shape) (m m' : Memory) (vs : List View) (h : List Mark) (id : ℕ)
     }) i.counts
 
     -- the invariant, with the parts on locks
-    pub under_lock : LockParts m' (slot_count k) g (set vs id w) → tags_raised m' (slot_count k) + emptied_among locks ≤ tags_raised m (slot_count k) + emptied_among v.locks → HoldsNow k m' (set vs id w) h
-    under_lock lock_parts tags = chart_stays any step (outer_same k m m' vs h id v w i there works stores.beside step.view refl) slots lock_parts (counts_under tags)
+    pub under_lock : LockParts m' (slot_count k) g (set vs id w)
+        → tags_raised m' (slot_count k) + emptied_among locks ≤ tags_raised m (slot_count k) + emptied_among v.locks
+        → HoldsNow k m' (set vs id w) h
+    under_lock lock_parts tags = chart_stays any step
+        (outer_same k m m' vs h id v w i there works stores.beside step.view refl) slots lock_parts (counts_under tags)
         (grace_same k m vs h id v w i there step.view (λ y has. (y, has, refl, refl)))

@@ -22,7 +22,8 @@ use Rattle.core_tree.proofs.frames.ChartStays.{SameOutside, same_but}
 use Rattle.core_tree.proofs.frames.RestStays.{hands_stay}
 use Rattle.core_tree.proofs.frames.GraceSteps.{grace_same}
 
-module _ (k : Shape) (m : Memory) (vs : List View) (h : List Mark) (id : ℕ) (v : View) (i : HoldsNow k m vs h) (there : get_elem? vs id ≡ some v) (works : Works v) (hand spare : Option Held) where
+module _ (k : Shape) (m : Memory) (vs : List View) (h : List Mark) (id : ℕ) (v : View) (i : HoldsNow k m vs h)
+    (there : get_elem? vs id ≡ some v) (works : Works v) (hand spare : Option Held) where
   abbrev pub hands_view : View
   hands_view = record v { hands = record v.hands { hand = hand; spare = spare } }
 
@@ -33,10 +34,12 @@ module _ (k : Shape) (m : Memory) (vs : List View) (h : List Mark) (id : ℕ) (v
   g = i.chart
 
   -- the invariant, with the parts on slots and on counts
-  pub hands_rest : SlotParts m (slot_count k) g (set vs id w) h → CountParts k.tickets m (slot_count k) g (set vs id w) h → HoldsNow k m (set vs id w) h
+  pub hands_rest : SlotParts m (slot_count k) g (set vs id w) h → CountParts k.tickets m (slot_count k) g (set vs id w) h
+      → HoldsNow k m (set vs id w) h
   hands_rest slots counts =
       let same : SameOutside v w = same_but v v.locks w.hands v.seen in
-      hands_stay k m vs h id v w i there works same refl refl slots counts (grace_same k m vs h id v w i there same (λ y has. (y, has, refl, refl))) (λ s x. x)
+      hands_stay k m vs h id v w i there works same refl refl slots counts
+      (grace_same k m vs h id v w i there same (λ y has. (y, has, refl, refl))) (λ s x. x)
 
   -- the same slots, raised or not
   pub record SameHands : Type 0 where
@@ -49,15 +52,32 @@ module _ (k : Shape) (m : Memory) (vs : List View) (h : List Mark) (id : ℕ) (v
 
   module _ (same : SameHands) where
     slots_are : slots_of w ≡ slots_of v
-    slots_are = λ j. same.hand_list j ++ ((same.spare_list j ++ (numbers_from (v.allowance.place + 2) (v.allowance.places - 1) ++ joined_spares v.allowance.joined)) ++ map (λ (r : Retired). r.slot) (retired_of v))
+    slots_are = λ j. same.hand_list j ++ ((same.spare_list j
+        ++ (numbers_from (v.allowance.place + 2) (v.allowance.places - 1) ++ joined_spares v.allowance.joined))
+        ++ map (λ (r : Retired). r.slot) (retired_of v))
 
     slots : SlotParts m (slot_count k) g (set vs id w) h
     slots = slots_by m (slot_count k) g vs id v w h there (λ s. ap (times s) slots_are)
-        (λ x. record { one = λ e. same.no_hand (x.one e); few = x.few; room = x.room; joined = x.joined; joined_spare = x.joined_spare; next_spare = λ here none. x.next_spare here (same.no_spare none) })
+        (λ x. record {
+          one = λ e. same.no_hand (x.one e);
+          few = x.few;
+          room = x.room;
+          joined = x.joined;
+          joined_spare = x.joined_spare;
+          next_spare = λ here none. x.next_spare here (same.no_spare none);
+        })
         (λ x. same.known) (λ x. x) (retired_of_still m (slot_count k) g vs id v w h there refl) i.slots
 
     counts : CountParts k.tickets m (slot_count k) g (set vs id w) h
-    counts = counts_kept k.tickets m m (slot_count k) g vs id v w h h there (same_slots m) refl refl (record { tickets = refl; reserved = refl; owes = refl; unraised = (let e = same.unraised in omega arith); locks = refl; moving = refl }) (quiet_same h) refl refl i.counts
+    counts = counts_kept k.tickets m m (slot_count k) g vs id v w h h there (same_slots m) refl refl
+        (record {
+          tickets = refl;
+          reserved = refl;
+          owes = refl;
+          unraised = (let e = same.unraised in omega arith);
+          locks = refl;
+          moving = refl;
+        }) (quiet_same h) refl refl i.counts
 
     pub law_hands : HoldsNow k m (set vs id w) h
     law_hands = hands_rest slots counts

@@ -37,7 +37,8 @@ use Rattle.core_frames.proofs.frames.CountFrame.{counts_kept}
 use Rattle.core_frames.proofs.Keeping.{past_kept}
 
 -- A slot in hand becomes the spare of a place without one.
-module _ (k : Shape) (m : Memory) (vs : List View) (h : List Mark) (id : ℕ) (v : View) (i : HoldsNow k m vs h) (there : get_elem? vs id ≡ some v) (works : Works v) (none : v.hands.spare ≡ None) where
+module _ (k : Shape) (m : Memory) (vs : List View) (h : List Mark) (id : ℕ) (v : View) (i : HoldsNow k m vs h)
+    (there : get_elem? vs id ≡ some v) (works : Works v) (none : v.hands.spare ≡ None) where
   abbrev w : View
   w = hand_to_spare v
 
@@ -75,7 +76,14 @@ module _ (k : Shape) (m : Memory) (vs : List View) (h : List Mark) (id : ℕ) (v
 
   slots : SlotParts m (slot_count k) g (set vs id w) h
   slots = slots_by m (slot_count k) g vs id v w h there same_times
-      (λ x. record { one = λ e. refl; few = x.few; room = x.room; joined = x.joined; joined_spare = x.joined_spare; next_spare = λ here q. x.next_spare here none })
+      (λ x. record {
+        one = λ e. refl;
+        few = x.few;
+        room = x.room;
+        joined = x.joined;
+        joined_spare = x.joined_spare;
+        next_spare = λ here q. x.next_spare here none;
+      })
       (λ x. record {
         hand = λ held is. absurd (let q : None ≡ Some held = is in cc);
         spare = λ held is. (x.hand held is).0;
@@ -84,7 +92,9 @@ module _ (k : Shape) (m : Memory) (vs : List View) (h : List Mark) (id : ℕ) (v
       }) (λ x. x) (retired_of_still m (slot_count k) g vs id v w h there refl) i.slots
 
   counts : CountParts k.tickets m (slot_count k) g (set vs id w) h
-  counts = counts_kept k.tickets m m (slot_count k) g vs id v w h h there (same_slots m) refl refl (record { tickets = refl; reserved = refl; owes = refl; unraised = omega arith; locks = refl; moving = refl }) (quiet_same h) refl refl i.counts
+  counts = counts_kept k.tickets m m (slot_count k) g vs id v w h h there (same_slots m) refl refl
+      (record { tickets = refl; reserved = refl; owes = refl; unraised = omega arith; locks = refl; moving = refl })
+      (quiet_same h) refl refl i.counts
 
   pub law_keep : HoldsNow k m (set vs id w) h
   law_keep = hands_rest k m vs h id v i there works None v.hands.hand slots counts
@@ -95,10 +105,12 @@ keeps9 k m vs h id v w field left marks i there works is_field step = cases fiel
     noted : (slot : ℕ) → HoldsNow k m (set vs id (noting v slot (Life slot) (m (Life slot)) false)) h
     noted slot = law_noting k m vs h id v i there works slot (Life slot) (m (Life slot)) false refl refl
 
-    here : (slot : ℕ) → get_elem? (set vs id (noting v slot (Life slot) (m (Life slot)) false)) id ≡ some (noting v slot (Life slot) (m (Life slot)) false)
+    here : (slot : ℕ) → get_elem? (set vs id (noting v slot (Life slot) (m (Life slot)) false)) id
+        ≡ some (noting v slot (Life slot) (m (Life slot)) false)
     here slot = set_here vs id (noting v slot (Life slot) (m (Life slot)) false) (at_below vs id v there)
 
-    loaded : (slot n : ℕ) (after : ℕ → View) → m (Life slot) ≡ n → HoldsNow k m (set vs id (after (m (Life slot)))) h → IsKept k m h (stored m (Life slot) n) (set vs id (after n)) (h ++ [])
+    loaded : (slot n : ℕ) (after : ℕ → View) → m (Life slot) ≡ n → HoldsNow k m (set vs id (after (m (Life slot)))) h
+        → IsKept k m h (stored m (Life slot) n) (set vs id (after n)) (h ++ [])
     loaded slot n after e done =
         subst (λ z. IsKept k m h (stored m (Life slot) z) (set vs id (after z)) (h ++ [])) e
         (subst (IsKept k m h (stored m (Life slot) (m (Life slot))) (set vs id (after (m (Life slot))))) (sym (append-nil h)) (record {
@@ -106,11 +118,17 @@ keeps9 k m vs h id v w field left marks i there works is_field step = cases fiel
           past = subst (KeepsPast m h) (sym (stored_same m (Life slot))) (past_kept m m h (same_slots m));
         }))
 
-    cases : (field : Field) (n left : ℕ) (marks : List Mark) (w : View) → IsStep k h v K9 field n left w marks → m field ≡ n → IsKept k m h (stored m field left) (set vs id w) (h ++ marks)
+    cases : (field : Field) (n left : ℕ) (marks : List Mark) (w : View) → IsStep k h v K9 field n left w marks → m field ≡ n
+        → IsKept k m h (stored m field left) (set vs id w) (h ++ marks)
     cases field n left marks w (step9_held {slot = slot} held needs) e = loaded slot n (after_own_life v slot) e (noted slot)
     cases field n left marks w (step9_keep {slot = slot} held needs) e = loaded slot n (after_kept_as_spare v slot) e
-        (subst (λ us. HoldsNow k m us h) (set_twice vs id (noting v slot (Life slot) (m (Life slot)) false) (after_kept_as_spare v slot (m (Life slot))))
-        (law_keep k m (set vs id (noting v slot (Life slot) (m (Life slot)) false)) h id (noting v slot (Life slot) (m (Life slot)) false) (noted slot) (here slot) works (ap (note_option slot (record { field = Life slot; number = m (Life slot); stored = false })) needs.none)))
+        (subst (λ us. HoldsNow k m us h) (set_twice vs id (noting v slot (Life slot) (m (Life slot)) false)
+        (after_kept_as_spare v slot (m (Life slot))))
+        (law_keep k m (set vs id (noting v slot (Life slot) (m (Life slot)) false)) h id (noting v slot (Life slot) (m (Life slot)) false)
+        (noted slot) (here slot) works (ap (note_option slot
+        (record { field = Life slot; number = m (Life slot); stored = false })) needs.none)))
     cases field n left marks w (step9_retired {slot = slot} j r at) e = loaded slot n (after_retired_life v slot) e
-        (subst (λ us. HoldsNow k m us h) (set_twice vs id (noting v slot (Life slot) (m (Life slot)) false) (after_retired_life v slot (m (Life slot))))
-        (law_told k m (set vs id (noting v slot (Life slot) (m (Life slot)) false)) h id (noting v slot (Life slot) (m (Life slot)) false) (noted slot) (here slot) works slot))
+        (subst (λ us. HoldsNow k m us h) (set_twice vs id (noting v slot (Life slot) (m (Life slot)) false)
+        (after_retired_life v slot (m (Life slot))))
+        (law_told k m (set vs id (noting v slot (Life slot) (m (Life slot)) false)) h id (noting v slot (Life slot) (m (Life slot)) false)
+        (noted slot) (here slot) works slot))

@@ -34,12 +34,14 @@ use Rattle.core_tree.proofs.frames.GraceSteps.{grace_same}
 use Rattle.core_frames.proofs.views.Roles.{map_append}
 
 -- an element of a mapped list
-pub map_back : {A B : Type 0} (f : A → B) (xs : List A) (j : ℕ) (b : B) → get_elem? (map f xs) j ≡ some b → (a : A) × (get_elem? xs j ≡ some a) × (f a ≡ b)
+pub map_back : {A B : Type 0} (f : A → B) (xs : List A) (j : ℕ) (b : B) → get_elem? (map f xs) j ≡ some b
+    → (a : A) × (get_elem? xs j ≡ some a) × (f a ≡ b)
 map_back f [] j b e = absurd (some-ne-none b (sym e))
 map_back f (x ∷ xs) zero b e = (x, refl, some-injective (f x) b e)
 map_back f (x ∷ xs) (suc j) b e = map_back f xs j b e
 
-module _ (k : Shape) (m : Memory) (vs : List View) (h : List Mark) (id : ℕ) (v : View) (i : HoldsNow k m vs h) (there : get_elem? vs id ≡ some v) (works : Works v) (slot : ℕ) where
+module _ (k : Shape) (m : Memory) (vs : List View) (h : List Mark) (id : ℕ) (v : View) (i : HoldsNow k m vs h)
+    (there : get_elem? vs id ≡ some v) (works : Works v) (slot : ℕ) where
   abbrev told : Retired → Retired
   told r = record r { life = Some (m (Life slot)) }
 
@@ -65,7 +67,14 @@ module _ (k : Shape) (m : Memory) (vs : List View) (h : List Mark) (id : ℕ) (v
   is_told r = cases (r.slot == slot) refl
     where
       cases : (b : Bool) → (r.slot == slot) ≡ b → IsTold r (cond b (told r) r)
-      cases true e = record { slot_is = refl; unlinked = refl; raised = refl; waited = refl; known = refl; life = inr (ap (λ z. Some (m (Life z))) (sym (eqb-true r.slot slot e))) }
+      cases true e = record {
+        slot_is = refl;
+        unlinked = refl;
+        raised = refl;
+        waited = refl;
+        known = refl;
+        life = inr (ap (λ z. Some (m (Life z))) (sym (eqb-true r.slot slot e)));
+      }
       cases false e = record { slot_is = refl; unlinked = refl; raised = refl; waited = refl; known = refl; life = inl refl }
 
   slots_map : (rs : List Retired) → map (λ (r : Retired). r.slot) (change_retired slot told rs) ≡ map (λ (r : Retired). r.slot) rs
@@ -83,7 +92,9 @@ module _ (k : Shape) (m : Memory) (vs : List View) (h : List Mark) (id : ℕ) (v
   slots_are : slots_of w ≡ slots_of v
   slots_are =
       let joined = joined_retired v.allowance.joined in
-      let e : map (λ (r : Retired). r.slot) (retired_of w) ≡ map (λ (r : Retired). r.slot) (retired_of v) = map_append (change_retired slot told v.hands.retired) joined ∙ ap (λ z. z ++ map (λ (r : Retired). r.slot) joined) (slots_map v.hands.retired) ∙ sym (map_append v.hands.retired joined) in
+      let e : map (λ (r : Retired). r.slot) (retired_of w) ≡ map (λ (r : Retired). r.slot) (retired_of v) =
+      map_append (change_retired slot told v.hands.retired) joined
+      ∙ ap (λ z. z ++ map (λ (r : Retired). r.slot) joined) (slots_map v.hands.retired) ∙ sym (map_append v.hands.retired joined) in
       λ j. held_list v.hands.hand ++ (spares_of v ++ e j)
 
   unraised_are : unraised_of w ≡ unraised_of v
@@ -106,16 +117,22 @@ module _ (k : Shape) (m : Memory) (vs : List View) (h : List Mark) (id : ℕ) (v
     unlinked = ap (λ s. gone_at s h) x.slot_is ∙ t.unlinked ∙ ap Some (sym x.unlinked);
     some_slot = λ e. t.some_slot (sym x.slot_is ∙ e);
     marked = λ e. subst (λ s. IsOdd (m (Life s))) (sym x.slot_is) (t.marked (sym x.raised ∙ e));
-    life = λ number e l. ap (λ s. m (Life s)) x.slot_is ∙ ⊎_elim (λ (q : r.life ≡ z.life). t.life number (sym x.raised ∙ e) (sym q ∙ l)) (λ (q : r.life ≡ Some (m (Life z.slot))). (let y : Some (m (Life z.slot)) ≡ Some number = sym q ∙ l in let n : m (Life z.slot) ≡ number = cc in n)) x.life;
-    stays = λ field number e content l. t.stays field number (sym x.raised ∙ e) (subst (λ s. IsContent s field) x.slot_is content) (ap (λ ks. known_in ks field) (sym x.known) ∙ l);
+    life = λ number e l. ap (λ s. m (Life s)) x.slot_is
+        ∙ ⊎_elim (λ (q : r.life ≡ z.life). t.life number (sym x.raised ∙ e) (sym q ∙ l))
+        (λ (q : r.life ≡ Some (m (Life z.slot))). (let y : Some (m (Life z.slot)) ≡ Some number = sym q ∙ l in
+        let n : m (Life z.slot) ≡ number = cc in n)) x.life;
+    stays = λ field number e content l. t.stays field number (sym x.raised ∙ e) (subst (λ s. IsContent s field) x.slot_is content)
+        (ap (λ ks. known_in ks field) (sym x.known) ∙ l);
     unmarked = λ e. subst (λ s. IsEven (m (Life s))) (sym x.slot_is) (t.unmarked (sym x.raised ∙ e));
     after_wait = λ e. x.waited ∙ t.after_wait (sym x.raised ∙ e);
   }
 
   each_retired : Each (retired_of v) (IsRetired m h) → Each (retired_of w) (IsRetired m h)
   each_retired all j r e = ⊎_elim
-      (λ (own : IsIn w.hands.retired r). (let x = own_back r own in let y = in_first v.hands.retired (joined_retired v.allowance.joined) x.0 x.1 in retired_is x.0 r x.2 (all y.0 x.0 y.1)))
-      (λ (joined : IsIn (joined_retired v.allowance.joined) r). (let y = in_second v.hands.retired (joined_retired v.allowance.joined) r joined in all y.0 r y.1))
+      (λ (own : IsIn w.hands.retired r). (let x = own_back r own in
+      let y = in_first v.hands.retired (joined_retired v.allowance.joined) x.0 x.1 in retired_is x.0 r x.2 (all y.0 x.0 y.1)))
+      (λ (joined : IsIn (joined_retired v.allowance.joined) r). (let y =
+      in_second v.hands.retired (joined_retired v.allowance.joined) r joined in all y.0 r y.1))
       (in_append w.hands.retired (joined_retired v.allowance.joined) r (j, e))
 
   -- a retired slot of any view is one of the same view afterwards
@@ -125,11 +142,33 @@ module _ (k : Shape) (m : Memory) (vs : List View) (h : List Mark) (id : ℕ) (v
       let now = set_here vs id w (at_below vs id v there) in
       ⊎_elim
       (λ (own : IsIn v.hands.retired x.retired). (let y = own_forth x.retired own in let z = y.1 in
-      record { id = id; view = w; retired = one x.retired; there = now; has = in_first w.hands.retired (joined_retired v.allowance.joined) (one x.retired) y.0; slot = z.slot_is ∙ x.slot }))
+      record {
+        id = id;
+        view = w;
+        retired = one x.retired;
+        there = now;
+        has = in_first w.hands.retired (joined_retired v.allowance.joined) (one x.retired) y.0;
+        slot = z.slot_is ∙ x.slot;
+      }))
       (λ (joined : IsIn (joined_retired v.allowance.joined) x.retired).
-      record { id = id; view = w; retired = x.retired; there = now; has = in_second w.hands.retired (joined_retired v.allowance.joined) x.retired joined; slot = x.slot })
-      (in_append v.hands.retired (joined_retired v.allowance.joined) x.retired (subst (λ (u : View). IsIn (retired_of u) x.retired) is x.has))))
-      (λ ne. record { id = x.id; view = x.view; retired = x.retired; there = set_else vs id x.id w ne ∙ x.there; has = x.has; slot = x.slot })
+      record {
+        id = id;
+        view = w;
+        retired = x.retired;
+        there = now;
+        has = in_second w.hands.retired (joined_retired v.allowance.joined) x.retired joined;
+        slot = x.slot;
+      })
+      (in_append v.hands.retired (joined_retired v.allowance.joined) x.retired
+      (subst (λ (u : View). IsIn (retired_of u) x.retired) is x.has))))
+      (λ ne. record {
+        id = x.id;
+        view = x.view;
+        retired = x.retired;
+        there = set_else vs id x.id w ne ∙ x.there;
+        has = x.has;
+        slot = x.slot;
+      })
 
   slots : SlotParts m (slot_count k) g (set vs id w) h
   slots = slots_by m (slot_count k) g vs id v w h there (λ s. ap (times s) slots_are)
@@ -139,17 +178,27 @@ module _ (k : Shape) (m : Memory) (vs : List View) (h : List Mark) (id : ℕ) (v
         room = λ move is. subst (λ n. n ≤ 15) (sym (length_map v.hands.retired)) (x.room move is);
         joined = x.joined;
         joined_spare = x.joined_spare;
-        next_spare = λ here none. (let y = x.next_spare here none in let z = own_forth y.0 y.1 in let q = z.1 in (one y.0, z.0, q.raised ∙ y.2));
+        next_spare = λ here none. (let y = x.next_spare here none in let z = own_forth y.0 y.1 in let q = z.1 in
+            (one y.0, z.0, q.raised ∙ y.2));
       })
       (λ x. record { hand = x.hand; spare = x.spare; copy = x.copy; spares = x.spares }) each_retired retired_forth i.slots
 
   counts : CountParts k.tickets m (slot_count k) g (set vs id w) h
-  counts = counts_kept k.tickets m m (slot_count k) g vs id v w h h there (same_slots m) refl refl (record { tickets = refl; reserved = refl; owes = refl; unraised = (let e = unraised_are in omega arith); locks = refl; moving = refl }) (quiet_same h) refl refl i.counts
+  counts = counts_kept k.tickets m m (slot_count k) g vs id v w h h there (same_slots m) refl refl
+      (record {
+        tickets = refl;
+        reserved = refl;
+        owes = refl;
+        unraised = (let e = unraised_are in omega arith);
+        locks = refl;
+        moving = refl;
+      }) (quiet_same h) refl refl i.counts
 
   same : SameOutside v w
   same = same_but v v.locks w.hands v.seen
 
   pub law_told : HoldsNow k m (set vs id w) h
   law_told = hands_stay k m vs h id v w i there works same refl refl slots counts
-      (grace_same k m vs h id v w i there same (λ y has. (let x = own_back y has in let told = x.2 in (x.0, x.1, told.unlinked, told.waited))))
+      (grace_same k m vs h id v w i there same (λ y has. (let x = own_back y has in let told = x.2 in
+      (x.0, x.1, told.unlinked, told.waited))))
       (λ s z. (let a = own_forth z.0 z.1 in let c = a.1 in (one z.0, a.0, c.slot_is ∙ z.2, c.raised ∙ z.3)))

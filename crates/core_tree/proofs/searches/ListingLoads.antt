@@ -20,7 +20,7 @@ use Rattle.core_state.specs.memory.Memory.{Memory, stored}
 use Rattle.core_state.specs.views.Views.{Works, open_reading, readings_of}
 use Rattle.core_state.specs.steps.Loads.{new_listing, looked, NeedsFrontLook, after_front_look}
 use Rattle.core_state.specs.parts.ReaderParts.{IsServed}
-use Rattle.core_state.specs.parts.ListingParts.{IsBetween, IsListing}
+use Rattle.core_state.specs.parts.ListingParts.{IsBetween, StandsNow, IsVisit, IsListing}
 use Rattle.core_state.specs.parts.FrontParts.{IsOddBy}
 use Rattle.core_state.specs.parts.TreeParts.{map_now}
 use Rattle.core_state.specs.steps.Steps.{IsStep, step37}
@@ -35,7 +35,8 @@ use Rattle.core_frames.proofs.First.{each_none}
 use Rattle.core_frames.proofs.Keeping.{past_kept}
 use Rattle.core_frames.proofs.frames.WholeFrame.{all_seen}
 
-module _ (k : Shape) (m : Memory) (vs : List View) (h : List Mark) (id : ℕ) (v : View) (i : HoldsNow k m vs h) (there : get_elem? vs id ≡ some v) (works : Works v) (section : Section) (needs : NeedsFrontLook v section) where
+module _ (k : Shape) (m : Memory) (vs : List View) (h : List Mark) (id : ℕ) (v : View) (i : HoldsNow k m vs h)
+    (there : get_elem? vs id ≡ some v) (works : Works v) (section : Section) (needs : NeedsFrontLook v section) where
   abbrev new : Section
   new = record section { listing = looked (m Front) section.listing }
 
@@ -44,7 +45,8 @@ module _ (k : Shape) (m : Memory) (vs : List View) (h : List Mark) (id : ℕ) (v
 
   -- an even front counts the updates
   even_front : IsEven (m Front) → m Front ≡ 2 * length (updates_of h)
-  even_front even = ⊎_elim (λ (x : (m Front ≡ 2 * length (updates_of h)) × Each vs (λ (u : View). u.commit ≡ None)). x.0) (λ (x : IsOddBy m vs (length (updates_of h))). absurd (odd x x.commit.stored refl)) i.front.turned
+  even_front even = ⊎_elim (λ (x : (m Front ≡ 2 * length (updates_of h)) × Each vs (λ (u : View). u.commit ≡ None)). x.0)
+      (λ (x : IsOddBy m vs (length (updates_of h))). absurd (odd x x.commit.stored refl)) i.front.turned
     where
       odd : (x : IsOddBy m vs (length (updates_of h))) (b : Bool) → x.commit.stored ≡ b → ⊥
       odd x true e = let word = x.word in let count = x.updates in let f = ap (λ z. x.commit.found + cond z 2 0) e in absurd (omega arith)
@@ -52,16 +54,20 @@ module _ (k : Shape) (m : Memory) (vs : List View) (h : List Mark) (id : ℕ) (v
 
   listing_is : (o : Option Listing) → section.listing ≡ o → (l : Listing) → looked (m Front) o ≡ Some l → IsListing m i.chart h new l
   listing_is None none l is = let same : new_listing (m Front) ≡ l = cc in subst (IsListing m i.chart h new) same (record {
-    since = λ even. (let e = even_front even in let from = (i.seats.sections id v there section inside).from in let before = updates_before h section.entered in omega arith);
+    since = λ even. (let e = even_front even in let from = (i.seats.sections id v there section inside).from in
+        let before = updates_before h section.entered in omega arith);
     most = omega arith;
-    key = λ key e. absurd (let q : None ≡ Some key = e in cc);
-    here = λ nz. absurd (nz refl);
-    now = λ even e. record { facts = each_none (λ (f : Fact). map_now h f.key ≡ Some f.value); gaps = each_none (λ (gap : Gap). (y : ℕ) → IsBetween gap y → map_now h y ≡ None); stands = λ nz. absurd (nz refl) };
+    visits = each_none (IsVisit m i.chart h section.entered);
+    now = λ even e. record {
+      facts = each_none (λ (f : Fact). map_now h f.key ≡ Some f.value);
+      gaps = each_none (λ (gap : Gap). (y : ℕ) → IsBetween gap y → map_now h y ≡ None);
+      visits = each_none (StandsNow m i.chart h);
+    };
   })
   listing_is (Some listing) lists l is =
       let same : listing ≡ l = cc in
       let x = i.listings.listings id v there section listing inside lists in
-      subst (IsListing m i.chart h new) same (record { since = x.since; most = x.most; key = x.key; here = x.here; now = x.now })
+      subst (IsListing m i.chart h new) same (record { since = x.since; most = x.most; visits = x.visits; now = x.now })
 
   some_listing : (o : Option Listing) → looked (m Front) o ≡ None → ⊥
   some_listing None e = absurd (cc)
@@ -71,7 +77,8 @@ module _ (k : Shape) (m : Memory) (vs : List View) (h : List Mark) (id : ℕ) (v
   served = let x = i.readers.served id v there section inside in record {
     placed = λ none. absurd (some_listing section.listing none);
     lists = λ listing is. needs.first;
-    walking = λ node parent b value walk found on. (let w = x.walking node parent b value walk found on in record { walks = w.walks; parent = w.parent });
+    walking = λ node parent b value walk found on. (let w = x.walking node parent b value walk found on in
+        record { walks = w.walks; parent = w.parent });
     stood = λ s has. (let w = x.stood s has in record { here = w.here; key = w.key; life = w.life });
   }
 
@@ -82,22 +89,29 @@ module _ (k : Shape) (m : Memory) (vs : List View) (h : List Mark) (id : ℕ) (v
   listing_view = record v { section = Some new }
 
   listed : HoldsNow k m (set vs id listing_view) h
-  listed = in_section k m vs h id v i there works section new inside (record { key = refl; count = refl; entered = refl; from = refl; stamp = refl; clocked = refl }) (i.seats.sections id v there section inside).sought
-      (i.locks.readings id v there 0 section.reading first_reading) (i.readers.readings id v there 0 section.reading first_reading) served (listing_is section.listing refl)
+  listed = in_section k m vs h id v i there works section new inside
+      (record { key = refl; count = refl; entered = refl; from = refl; stamp = refl; clocked = refl })
+      (i.seats.sections id v there section inside).sought
+      (i.locks.readings id v there 0 section.reading first_reading) (i.readers.readings id v there 0 section.reading first_reading) served
+      (listing_is section.listing refl)
 
   abbrev looked_view : View
   looked_view = after_front_look v section (m Front) h
 
   pub front_looked : HoldsNow k m (set vs id looked_view) h
-  front_looked = subst (λ us. HoldsNow k m us h) (set_twice vs id listing_view looked_view) (all_seen k m (set vs id listing_view) h id listing_view listed (set_here vs id listing_view (at_below vs id v there)) works looked_view.latest looked_view.looks)
+  front_looked = subst (λ us. HoldsNow k m us h) (set_twice vs id listing_view looked_view)
+      (all_seen k m (set vs id listing_view) h id listing_view listed
+      (set_here vs id listing_view (at_below vs id v there)) works looked_view.latest looked_view.looks)
 
 pub keeps37 : Keeps K37
 keeps37 k m vs h id v w field left marks i there works is_field step = cases field (m field) left marks w step refl
   where
-    cases : (field : Field) (n left : ℕ) (marks : List Mark) (w : View) → IsStep k h v K37 field n left w marks → m field ≡ n → IsKept k m h (stored m field left) (set vs id w) (h ++ marks)
+    cases : (field : Field) (n left : ℕ) (marks : List Mark) (w : View) → IsStep k h v K37 field n left w marks → m field ≡ n
+        → IsKept k m h (stored m field left) (set vs id w) (h ++ marks)
     cases field n left marks w (step37 {section = section} needs) e =
         subst (λ z. IsKept k m h (stored m Front z) (set vs id (after_front_look v section z h)) (h ++ [])) e
         (subst (IsKept k m h (stored m Front (m Front)) (set vs id (after_front_look v section (m Front) h))) (sym (append-nil h)) (record {
-          invariant = subst (λ z. HoldsNow k z (set vs id (after_front_look v section (m Front) h)) h) (sym (stored_same m Front)) (front_looked k m vs h id v i there works section needs);
+          invariant = subst (λ z. HoldsNow k z (set vs id (after_front_look v section (m Front) h)) h) (sym (stored_same m Front))
+              (front_looked k m vs h id v i there works section needs);
           past = subst (KeepsPast m h) (sym (stored_same m Front)) (past_kept m m h (same_slots m));
         }))

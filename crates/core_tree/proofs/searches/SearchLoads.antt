@@ -42,7 +42,8 @@ use Rattle.core_frames.proofs.views.Fields.{stored_same}
 use Rattle.core_frames.proofs.Keeping.{past_kept}
 
 -- what a load leaves of a reading beside where it stands
-outcome_loads : (m : Memory) (r : Reading) (field : Field) (to : Reading) → Outcome m r field to → (to.loads ≡ (noted m r field).loads) × (to.key ≡ r.key)
+outcome_loads : (m : Memory) (r : Reading) (field : Field) (to : Reading) → Outcome m r field to
+    → (to.loads ≡ (noted m r field).loads) × (to.key ≡ r.key)
 outcome_loads m r field to stays = (refl, refl)
 outcome_loads m r field to (ended e empty) = (refl, refl)
 outcome_loads m r field to (hopped e link nz) = (refl, refl)
@@ -52,7 +53,8 @@ outcome_loads m r field to (valued e is) = (refl, refl)
 outcome_loads m r field to (began e link nz) = (refl, refl)
 outcome_loads m r field to (went_on e on link nz) = (refl, refl)
 
-module _ (k : Shape) (m : Memory) (vs : List View) (h : List Mark) (id : ℕ) (v : View) (i : HoldsNow k m vs h) (there : get_elem? vs id ≡ some v) (works : Works v)
+module _ (k : Shape) (m : Memory) (vs : List View) (h : List Mark) (id : ℕ) (v : View) (i : HoldsNow k m vs h)
+    (there : get_elem? vs id ≡ some v) (works : Works v)
     (section : Section) (inside : v.section ≡ Some section) where
   first_reading : get_elem? (readings_of v) 0 ≡ some section.reading
   first_reading = ap (λ o. get_elem? (open_reading o ++ v.records) 0) inside
@@ -70,7 +72,8 @@ module _ (k : Shape) (m : Memory) (vs : List View) (h : List Mark) (id : ℕ) (v
       → (i.chart.linked c ≡ true) ⊎ (IsHeldBack i.chart h section.entered c × IsOdd (m (Life c)))
   child_stood s c b has link nz =
       child_met k m vs h i id s c b v section there inside
-      (⊎_elim (λ l. inl l) (λ (x : IsHeldBack i.chart h section.entered s × IsOdd (m (Life s))). inr x.0) ((i.readers.served id v there section inside).stood s has).here) link nz
+      (⊎_elim (λ l. inl l) (λ (x : IsHeldBack i.chart h section.entered s × IsOdd (m (Life s))). inr x.0)
+      ((i.readers.served id v there section inside).stood s has).here) link nz
 
   -- what is known of a slot at which the section stood is so, as far as its generation says
   module _ (slot : ℕ) (field : Field) (needs : NeedsSearchLoad v section slot field) where
@@ -90,7 +93,8 @@ module _ (k : Shape) (m : Memory) (vs : List View) (h : List Mark) (id : ℕ) (v
     stood_life s life known =
         ⊎_elim (λ (e : (field ≡ Life s) × (m field ≡ life)). one_slot e.0)
         (λ q. (let w = was_reading.loads (Life s) life q in subst (IsIn section.reading.stood) (sym w.2) w.1))
-        (known_more section.reading.loads field (Life s) (m field) life false (ap (λ ls. known_in ls (Life s)) (sym (outcome_loads m section.reading field to goes_on).0) ∙ known))
+        (known_more section.reading.loads field (Life s) (m field) life false
+        (ap (λ ls. known_in ls (Life s)) (sym (outcome_loads m section.reading field to goes_on).0) ∙ known))
       where
         one_slot : field ≡ Life s → IsIn section.reading.stood s
         one_slot e = let l : s ≡ slot = subst (IsLoadable slot) e needs.loadable in subst (IsIn section.reading.stood) (sym l) needs.stood
@@ -99,25 +103,37 @@ module _ (k : Shape) (m : Memory) (vs : List View) (h : List Mark) (id : ℕ) (v
     kept =
         let served = i.readers.served id v there section inside in
         let loads = (outcome_loads m section.reading field to goes_on).0 in
-        let more : (f : Field) (n : ℕ) → known_in to.loads f ≡ Some n → ((field ≡ f) × (m field ≡ n)) ⊎ (known_in section.reading.loads f ≡ Some n) = λ f n known. known_more section.reading.loads field f (m field) n false (ap (λ ls. known_in ls f) (sym loads) ∙ known) in
+        let more : (f : Field) (n : ℕ) → known_in to.loads f ≡ Some n
+        → ((field ≡ f) × (m field ≡ n)) ⊎ (known_in section.reading.loads f ≡ Some n) =
+        λ f n known. known_more section.reading.loads field f (m field) n false (ap (λ ls. known_in ls f) (sym loads) ∙ known) in
         record {
-          generations = λ s life known. ⊎_elim (λ (e : (field ≡ Life s) × (m field ≡ life)). (let q = ap m (sym e.0) ∙ e.1 in subst (λ z. z / 2 ≤ m (Life s) / 2) q (omega arith))) (λ q. was_kept.generations s life q) (more (Life s) life known);
-          tags = λ s number b known. ⊎_elim (λ (e : (field ≡ Tag s b) × (m field ≡ number)). (let q = ap m (sym e.0) ∙ e.1 in omega arith)) (λ q. was_kept.tags s number b q) (more (Tag s b) number known);
-          linked = λ s life known same. ⊎_elim (λ l. l) (λ (x : IsHeldBack i.chart h section.entered s × IsOdd (m (Life s))). absurd (let odd = x.1 in omega arith)) (served.stood s (stood_life s life known)).here;
-          keys = λ s life key known same known_key. ⊎_elim (λ (e : (field ≡ Key s) × (m field ≡ key)). ap m (sym e.0) ∙ e.1) (λ q. (served.stood s (stood_life s life known)).key key q) (more (Key s) key known_key);
+          generations = λ s life known. ⊎_elim (λ (e : (field ≡ Life s) × (m field ≡ life)). (let q = ap m (sym e.0) ∙ e.1 in
+              subst (λ z. z / 2 ≤ m (Life s) / 2) q (omega arith))) (λ q. was_kept.generations s life q) (more (Life s) life known);
+          tags = λ s number b known. ⊎_elim (λ (e : (field ≡ Tag s b) × (m field ≡ number)). (let q = ap m (sym e.0) ∙ e.1 in omega arith))
+              (λ q. was_kept.tags s number b q) (more (Tag s b) number known);
+          linked = λ s life known same. ⊎_elim (λ l. l)
+              (λ (x : IsHeldBack i.chart h section.entered s × IsOdd (m (Life s))). absurd (let odd = x.1 in omega arith))
+              (served.stood s (stood_life s life known)).here;
+          keys = λ s life key known same known_key. ⊎_elim (λ (e : (field ≡ Key s) × (m field ≡ key)). ap m (sym e.0) ∙ e.1)
+              (λ q. (served.stood s (stood_life s life known)).key key q) (more (Key s) key known_key);
         }
 
     pub search_loaded : HoldsNow k m (set vs id (after_search_load v section field (m field))) h
     search_loaded =
-        in_section k m vs h id v i there works section new inside (record { key = refl; count = refl; entered = refl; from = refl; stamp = refl; clocked = refl })
+        in_section k m vs h id v i there works section new inside
+        (record { key = refl; count = refl; entered = refl; from = refl; stamp = refl; clocked = refl })
         ((outcome_loads m section.reading field to goes_on).1 ∙ stands.sought)
         kept
         (reading_more m section.reading field slot was_reading
-        (keys_now m (slot_count k) i.chart h vs section field slot i.tree.shape i.tree.map stands.key_fits said_now stands.sought needs.searches was_reading (i.readers.served id v there section inside) child_stood needs.stood needs.loadable)
+        (keys_now m (slot_count k) i.chart h vs section field slot i.tree.shape i.tree.map stands.key_fits said_now stands.sought
+        needs.searches was_reading (i.readers.served id v there section inside) child_stood needs.stood needs.loadable)
         needs.stood needs.loadable
-        (apart m (slot_count k) i.chart h vs section field slot i.tree.shape i.tree.map stands.key_fits said_now stands.sought needs.searches was_reading (i.readers.served id v there section inside) child_stood needs.stood needs.loadable)
+        (apart m (slot_count k) i.chart h vs section field slot i.tree.shape i.tree.map stands.key_fits said_now stands.sought
+        needs.searches was_reading (i.readers.served id v there section inside) child_stood needs.stood needs.loadable)
         to goes_on)
-        (served_more m (slot_count k) i.chart h vs section field slot i.tree.shape i.tree.map stands.key_fits said_now stands.sought needs.searches was_reading (i.readers.served id v there section inside) child_stood needs.stood needs.loadable to goes_on)
+        (served_more m
+        (slot_count k) i.chart h vs section field slot i.tree.shape i.tree.map stands.key_fits said_now stands.sought needs.searches
+        was_reading (i.readers.served id v there section inside) child_stood needs.stood needs.loadable to goes_on)
         (λ l lists. absurd (let q : None ≡ Some l = sym needs.searches ∙ lists in cc))
 
   -- a listing's load
@@ -128,17 +144,19 @@ module _ (k : Shape) (m : Memory) (vs : List View) (h : List Mark) (id : ℕ) (v
     pub list_loaded : HoldsNow k m (set vs id (after_list_load v section listing slot field (m field))) h
     list_loaded =
         let served = i.readers.served id v there section inside in
-        in_section k m vs h id v i there works section listed_section inside (record { key = refl; count = refl; entered = refl; from = refl; stamp = refl; clocked = refl })
+        in_section k m vs h id v i there works section listed_section inside
+        (record { key = refl; count = refl; entered = refl; from = refl; stamp = refl; clocked = refl })
         (i.seats.sections id v there section inside).sought
         was_kept was_reading
         (record {
           placed = λ none. absurd (let q : Some (listed listing slot field (m field)) ≡ None = none in cc);
           lists = λ l is. served.lists listing needs.lists;
-          walking = λ node parent b value walk is on. (let w = served.walking node parent b value walk is on in record { walks = w.walks; parent = w.parent });
+          walking = λ node parent b value walk is on. (let w = served.walking node parent b value walk is on in
+              record { walks = w.walks; parent = w.parent });
           stood = λ s has. (let w = served.stood s has in record { here = w.here; key = w.key; life = w.life });
         })
         (λ l is. (let same : listed listing slot field (m field) ≡ l = cc in subst (λ z. IsListing m i.chart h listed_section z) same
-        (listed_more k m vs h i id v section there inside listing needs.lists slot field needs.stands needs.loadable)))
+        (listed_more k m vs h i id v section there inside listing needs.lists slot field needs.loadable)))
 
 pub keeps17 : Keeps K17
 keeps17 k m vs h id v w field left marks i there works is_field step = cases field (m field) left marks w step refl
@@ -152,10 +170,13 @@ keeps17 k m vs h id v w field left marks i there works is_field step = cases fie
       past = past_of field;
     })
 
-    cases : (field : Field) (n left : ℕ) (marks : List Mark) (w : View) → IsStep k h v K17 field n left w marks → m field ≡ n → IsKept k m h (stored m field left) (set vs id w) (h ++ marks)
+    cases : (field : Field) (n left : ℕ) (marks : List Mark) (w : View) → IsStep k h v K17 field n left w marks → m field ≡ n
+        → IsKept k m h (stored m field left) (set vs id w) (h ++ marks)
     cases field n left marks w (step17 {slot = slot} {section = section} needs) e =
         subst (λ z. IsKept k m h (stored m field z) (set vs id (after_search_load v section field z)) (h ++ [])) e
-        (kept (after_search_load v section field (m field)) field (search_loaded k m vs h id v i there works section needs.section_is slot field needs))
+        (kept (after_search_load v section field (m field)) field
+        (search_loaded k m vs h id v i there works section needs.section_is slot field needs))
     cases field n left marks w (step17_list {slot = slot} {section = section} {listing = listing} needs) e =
         subst (λ z. IsKept k m h (stored m field z) (set vs id (after_list_load v section listing slot field z)) (h ++ [])) e
-        (kept (after_list_load v section listing slot field (m field)) field (list_loaded k m vs h id v i there works section needs.section_is listing slot field needs))
+        (kept (after_list_load v section listing slot field (m field)) field
+        (list_loaded k m vs h id v i there works section needs.section_is listing slot field needs))

@@ -46,9 +46,12 @@ off_key m x s Right (inl z) nz e = nz z
 off_key m x s Right (inr gt) nz e = absurd (omega arith)
 
 module _ (m : Memory) (n : ℕ) (g : Chart) (h : List Mark) (vs : List View) (section : Section) (field : Field) (slot : ℕ)
-    (shape : IsShaped m n g) (holds : HoldsMap m g (map_now h)) (fits : section.key < 2 ^ 64) (said : WasSaid (updates_of h) section.key section.from (map_now h section.key))
-    (sought : section.reading.key ≡ section.key) (searches : section.listing ≡ None) (was : IsReading section.reading) (served : IsServed m g h vs section)
-    (child : (s c : ℕ) (b : Side) → IsIn section.reading.stood s → m (Link s b) ≡ c → c ≢ 0 → (g.linked c ≡ true) ⊎ (IsHeldBack g h section.entered c × IsOdd (m (Life c))))
+    (shape : IsShaped m n g) (holds : HoldsMap m g (map_now h)) (fits : section.key < 2 ^ 64)
+    (said : WasSaid (updates_of h) section.key section.from (map_now h section.key))
+    (sought : section.reading.key ≡ section.key) (searches : section.listing ≡ None) (was : IsReading section.reading)
+    (served : IsServed m g h vs section)
+    (child : (s c : ℕ) (b : Side) → IsIn section.reading.stood s → m (Link s b) ≡ c → c ≢ 0
+    → (g.linked c ≡ true) ⊎ (IsHeldBack g h section.entered c × IsOdd (m (Life c))))
     (stood : IsIn section.reading.stood slot) (loadable : IsLoadable slot field) where
   abbrev r : Reading
   r = section.reading
@@ -65,7 +68,8 @@ module _ (m : Memory) (n : ℕ) (g : Chart) (h : List Mark) (vs : List View) (se
   abbrev placed_at : ℕ → Type 0
   placed_at = Place m g section.key live pend told
 
-  loaded_at : (f : Field) (number t : ℕ) → IsLoadable t f → known_in r.loads f ≡ Some number → ((s : ℕ) → IsLoadable s f → s ≡ t) → IsIn r.stood t
+  loaded_at : (f : Field) (number t : ℕ) → IsLoadable t f → known_in r.loads f ≡ Some number → ((s : ℕ) → IsLoadable s f → s ≡ t)
+      → IsIn r.stood t
   loaded_at f number t is known one = let w = was.loads f number known in subst (IsIn r.stood) (one w.0 w.2) w.1
 
   pub keys_now : (s key : ℕ) → known_in r.loads (Key s) ≡ Some key → m (Key s) ≡ key
@@ -103,38 +107,49 @@ module _ (m : Memory) (n : ℕ) (g : Chart) (h : List Mark) (vs : List View) (se
       (ended_told m n g section.key live pend told shape (map_now h) holds fits said s (place_at s (At s b) e refl) (next_at s 0 b e empty))
 
   key_found : (s parent : ℕ) (b : Side) (value : Option ℕ) → r.state ≡ Found s parent b value → (s ≢ 0) × (m (Key s) ≡ section.key)
-  key_found s parent b value e = let w = subst (StandsWell r) e was.well in let reached = w.0 in (reached.some_slot, keys_now s r.key w.1 ∙ sought)
+  key_found s parent b value e = let w = subst (StandsWell r) e was.well in let reached = w.0 in
+      (reached.some_slot, keys_now s r.key w.1 ∙ sought)
 
-  told_value : (s parent : ℕ) (b : Side) (before : Option ℕ) (value : ℕ) → r.state ≡ Found s parent b before → m (Value s) ≡ value → told (Some value)
+  told_value : (s parent : ℕ) (b : Side) (before : Option ℕ) (value : ℕ) → r.state ≡ Found s parent b before → m (Value s) ≡ value
+      → told (Some value)
   told_value s parent b before value e is =
       let w = key_found s parent b before e in
       subst told (answer-here m section.key s value w.0 w.1 is)
-      (ended_told m n g section.key live pend told shape (map_now h) holds fits said s (place_at s (Found s parent b before) e refl) (next-here m section.key s w.0 w.1))
+      (ended_told m n g section.key live pend told shape (map_now h) holds fits said s (place_at s (Found s parent b before) e refl)
+      (next-here m section.key s w.0 w.1))
 
   -- what a section has answered, in the words of the section afterwards
-  answered_more : (to : Reading) (state : SearchState) → Answered (updates_of h) section state → Answered (updates_of h) (record section { reading = to }) state
+  answered_more : (to : Reading) (state : SearchState) → Answered (updates_of h) section state
+      → Answered (updates_of h) (record section { reading = to }) state
   answered_more to (At s b) a = tt
   answered_more to (Unread s parent b) a = tt
   answered_more to (Found s parent b None) a = tt
   answered_more to (Found s parent b (Some value)) a = a
   answered_more to (Missed s b) a = a
 
-  stood_more : (to : Reading) → to.loads ≡ (noted m r field).loads → (s : ℕ) → (g.linked s ≡ true) ⊎ (live s × IsOdd (m (Life s))) → HasStood m g h (record section { reading = to }) s
+  stood_more : (to : Reading) → to.loads ≡ (noted m r field).loads → (s : ℕ) → (g.linked s ≡ true) ⊎ (live s × IsOdd (m (Life s)))
+      → HasStood m g h (record section { reading = to }) s
   stood_more to same s here = record {
     here = here;
-    key = λ key e. ⊎_elim (λ (q : (field ≡ Key s) × (m field ≡ key)). ap m (sym q.0) ∙ q.1) (λ q. keys_now s key q) (known_more r.loads field (Key s) (m field) key false (ap (λ ls. known_in ls (Key s)) (sym same) ∙ e));
-    life = λ life e. ⊎_elim (λ (q : (field ≡ Life s) × (m field ≡ life)). ap (λ z. z / 2) (ap m (sym q.0) ∙ q.1)) (λ q. lives_now s life q) (known_more r.loads field (Life s) (m field) life false (ap (λ ls. known_in ls (Life s)) (sym same) ∙ e));
+    key = λ key e. ⊎_elim (λ (q : (field ≡ Key s) × (m field ≡ key)). ap m (sym q.0) ∙ q.1) (λ q. keys_now s key q)
+        (known_more r.loads field (Key s) (m field) key false (ap (λ ls. known_in ls (Key s)) (sym same) ∙ e));
+    life = λ life e. ⊎_elim (λ (q : (field ≡ Life s) × (m field ≡ life)). ap (λ z. z / 2) (ap m (sym q.0) ∙ q.1)) (λ q. lives_now s life q)
+        (known_more r.loads field (Life s) (m field) life false (ap (λ ls. known_in ls (Life s)) (sym same) ∙ e));
   }
 
-  stood_old : (to : Reading) → to.loads ≡ (noted m r field).loads → (s : ℕ) → IsIn r.stood s → HasStood m g h (record section { reading = to }) s
+  stood_old : (to : Reading) → to.loads ≡ (noted m r field).loads → (s : ℕ) → IsIn r.stood s
+      → HasStood m g h (record section { reading = to }) s
   stood_old to same s has = stood_more to same s (served.stood s has).here
 
   -- with a slot to which a link leads from one at which it stood
-  stood_new : (to : Reading) → to.loads ≡ (noted m r field).loads → (q c : ℕ) (b : Side) → IsIn r.stood q → m (Link q b) ≡ c → c ≢ 0 → (s : ℕ) → IsIn (c ∷ r.stood) s → HasStood m g h (record section { reading = to }) s
-  stood_new to same q c b has link nz s (zero, e) = subst (HasStood m g h (record section { reading = to })) (some-injective c s e) (stood_more to same c (child q c b has link nz))
+  stood_new : (to : Reading) → to.loads ≡ (noted m r field).loads → (q c : ℕ) (b : Side) → IsIn r.stood q → m (Link q b) ≡ c → c ≢ 0
+      → (s : ℕ) → IsIn (c ∷ r.stood) s → HasStood m g h (record section { reading = to }) s
+  stood_new to same q c b has link nz s (zero, e) =
+      subst (HasStood m g h (record section { reading = to })) (some-injective c s e) (stood_more to same c (child q c b has link nz))
   stood_new to same q c b has link nz s (suc j, e) = stood_old to same s (j, e)
 
-  walking_old : (to : Reading) (node : ℕ) (walk : Walk) → IsWalking m g h section node walk → IsWalking m g h (record section { reading = to }) node walk
+  walking_old : (to : Reading) (node : ℕ) (walk : Walk) → IsWalking m g h section node walk
+      → IsWalking m g h (record section { reading = to }) node walk
   walking_old to node walk i = record { walks = i.walks; parent = i.parent }
 
   no_walk : (walk : Walk) → r.walk ≡ None → r.walk ≡ Some walk → ⊥
@@ -159,7 +174,8 @@ module _ (m : Memory) (n : ℕ) (g : Chart) (h : List Mark) (vs : List View) (se
   walk_hop node w c (at_live {c = y} l e ny q) link nz = subst (Walks m g node live) (sym e ∙ link) q
 
   -- the section with a walk that goes on from q to c
-  walks_served : (s parent : ℕ) (b : Side) (value : Option ℕ) → r.state ≡ Found s parent b value → (q c : ℕ) (a : Side) → IsIn r.stood q → m (Link q a) ≡ c → c ≢ 0
+  walks_served : (s parent : ℕ) (b : Side) (value : Option ℕ) → r.state ≡ Found s parent b value → (q c : ℕ) (a : Side) → IsIn r.stood q
+      → m (Link q a) ≡ c → c ≢ 0
       → (g.linked s ≡ true → Walks m g s live c) → (g.linked s ≡ true → g.linked q ≡ true → (q ≡ s) ⊎ OnRightLeft m s q)
       → IsServed m g h vs (record section { reading = walking (noted m r field) q c })
   walks_served s parent b value e q c a has link nz walks above =
@@ -170,7 +186,8 @@ module _ (m : Memory) (n : ℕ) (g : Chart) (h : List Mark) (vs : List View) (se
         walking = λ node up side v walk is on.
             (let same : s ≡ node = cc_node e is in
             let step : ◌≡◌ {A = Walk} (record { parent = q; slot = c }) walk = cc in
-            subst (λ (z : ℕ × Walk). IsWalking m g h (record section { reading = to }) z.0 z.1) (λ i. (same i, step i)) (record { walks = walks; parent = above }));
+            subst (λ (z : ℕ × Walk). IsWalking m g h (record section { reading = to }) z.0 z.1) (λ i. (same i, step i))
+            (record { walks = walks; parent = above }));
         stood = stood_new to refl q c a has link nz;
       }
     where
@@ -190,35 +207,41 @@ module _ (m : Memory) (n : ℕ) (g : Chart) (h : List Mark) (vs : List View) (se
     walking = λ node up side v walk is on. absurd (no_walk walk (walk_none_at s b e) on);
     stood = stood_old last refl;
   }
-  served_more to (hopped {s = s} {c = c} {b = b} e link nz) = let last : Reading = record (noted m r field) { state = Unread c s b; stood = c ∷ r.stood } in record {
-    placed = λ none. record { place = (let w = hop_at s c b e link nz in w.0); answered = tt };
-    lists = λ listing lists. absurd (no_list listing lists);
-    walking = λ node up side v walk is on. absurd (no_walk walk (walk_none_at s b e) on);
-    stood = stood_new last refl s c b (subst (λ z. IsIn r.stood (state_slot z)) e was.stands) link nz;
-  }
-  served_more to (turned {s = s} {parent = parent} {b = b} {side = side} e is_key goes) = let last : Reading = record (noted m r field) { state = At s side } in record {
-    placed = λ none. record { place = place_at s (Unread s parent b) e refl; answered = tt };
-    lists = λ listing lists. absurd (no_list listing lists);
-    walking = λ node up a v walk is on. absurd (no_walk walk (walk_none_unread s parent b e) on);
-    stood = stood_old last refl;
-  }
-  served_more to (found {s = s} {parent = parent} {b = b} e is_key here) = let last : Reading = record (noted m r field) { state = Found s parent b None } in record {
-    placed = λ none. record { place = place_at s (Unread s parent b) e refl; answered = tt };
-    lists = λ listing lists. absurd (no_list listing lists);
-    walking = λ node up a v walk is on. absurd (no_walk walk (walk_none_unread s parent b e) on);
-    stood = stood_old last refl;
-  }
-  served_more to (valued {s = s} {parent = parent} {value = value} {b = b} {before = before} e is) = let last : Reading = record (noted m r field) { state = Found s parent b (Some value) } in record {
-    placed = λ none. record { place = place_at s (Found s parent b before) e refl; answered = told_value s parent b before value e is };
-    lists = λ listing lists. absurd (no_list listing lists);
-    walking = λ node up a v walk at on.
-        (let same : s ≡ node = ap state_slot at in
-        walking_old last node walk (subst (λ z. IsWalking m g h section z walk) same (served.walking s parent b before walk e on)));
-    stood = stood_old last refl;
-  }
+  served_more to (hopped {s = s} {c = c} {b = b} e link nz) = let last : Reading =
+      record (noted m r field) { state = Unread c s b; stood = c ∷ r.stood } in record {
+        placed = λ none. record { place = (let w = hop_at s c b e link nz in w.0); answered = tt };
+        lists = λ listing lists. absurd (no_list listing lists);
+        walking = λ node up side v walk is on. absurd (no_walk walk (walk_none_at s b e) on);
+        stood = stood_new last refl s c b (subst (λ z. IsIn r.stood (state_slot z)) e was.stands) link nz;
+      }
+  served_more to (turned {s = s} {parent = parent} {b = b} {side = side} e is_key goes) = let last : Reading =
+      record (noted m r field) { state = At s side } in record {
+        placed = λ none. record { place = place_at s (Unread s parent b) e refl; answered = tt };
+        lists = λ listing lists. absurd (no_list listing lists);
+        walking = λ node up a v walk is on. absurd (no_walk walk (walk_none_unread s parent b e) on);
+        stood = stood_old last refl;
+      }
+  served_more to (found {s = s} {parent = parent} {b = b} e is_key here) = let last : Reading =
+      record (noted m r field) { state = Found s parent b None } in record {
+        placed = λ none. record { place = place_at s (Unread s parent b) e refl; answered = tt };
+        lists = λ listing lists. absurd (no_list listing lists);
+        walking = λ node up a v walk is on. absurd (no_walk walk (walk_none_unread s parent b e) on);
+        stood = stood_old last refl;
+      }
+  served_more to (valued {s = s} {parent = parent} {value = value} {b = b} {before = before} e is) = let last : Reading =
+      record (noted m r field) { state = Found s parent b (Some value) } in record {
+        placed = λ none. record { place = place_at s (Found s parent b before) e refl; answered = told_value s parent b before value e is };
+        lists = λ listing lists. absurd (no_list listing lists);
+        walking = λ node up a v walk at on.
+            (let same : s ≡ node = ap state_slot at in
+            walking_old last node walk (subst (λ z. IsWalking m g h section z walk) same (served.walking s parent b before walk e on)));
+        stood = stood_old last refl;
+      }
   served_more to (began {s = s} {parent = parent} {c = c} {b = b} {value = value} e link nz) =
-      walks_served s parent b value e s c Right (subst (λ z. IsIn r.stood (state_slot z)) e was.stands) link nz (λ l. walk_first s c link nz l) (λ l k. inl refl)
+      walks_served s parent b value e s c Right (subst (λ z. IsIn r.stood (state_slot z)) e was.stands) link nz
+      (λ l. walk_first s c link nz l) (λ l k. inl refl)
   served_more to (went_on {s = s} {parent = parent} {c = c} {b = b} {value = value} {walk = walk} e on link nz) =
       let w = was.walk walk on in
       let at = served.walking s parent b value walk e on in
-      walks_served s parent b value e walk.slot c Left w.2 link nz (λ l. walk_hop s walk.slot c (at.walks l) link nz) (λ l k. inr (walk_path m g s live walk.slot (λ t held. held.out) k (at.walks l)))
+      walks_served s parent b value e walk.slot c Left w.2 link nz (λ l. walk_hop s walk.slot c (at.walks l) link nz)
+      (λ l k. inr (walk_path m g s live walk.slot (λ t held. held.out) k (at.walks l)))

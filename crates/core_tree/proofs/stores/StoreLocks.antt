@@ -27,7 +27,8 @@ use Rattle.core_tree.proofs.notes.Notes.{lock_noted}
 use Rattle.core_tree.proofs.locks.LockSteps.{locks_by, few_outside, lock_beside}
 use Rattle.core_tree.proofs.locks.Holders.{one_holder}
 
-module _ (k : Shape) (m : Memory) (vs : List View) (h : List Mark) (i : HoldsNow k m vs h) (id : ℕ) (v w : View) (there : get_elem? vs id ≡ some v)
+module _ (k : Shape) (m : Memory) (vs : List View) (h : List Mark) (i : HoldsNow k m vs h) (id : ℕ) (v w : View)
+    (there : get_elem? vs id ≡ some v)
     (f : Field) (n p : ℕ) (stores : StoresAt m (stored m f n) p f) (by_store : Bool) (to : Chart) where
   abbrev m' : Memory
   m' = stored m f n
@@ -48,7 +49,8 @@ module _ (k : Shape) (m : Memory) (vs : List View) (h : List Mark) (i : HoldsNow
     pub mine : HasLock v p
     pub linked_back : (s : ℕ) → to.linked s ≡ true → i.chart.linked s ≡ true
     pub even_stays : (s : ℕ) → i.chart.linked s ≡ true → IsEven (m (Life s)) → to.linked s ≡ true
-    pub others_stay : (j : ℕ) (u : View) (s : ℕ) → j ≢ id → get_elem? vs j ≡ some u → HasLock u s → i.chart.linked s ≡ true → to.linked s ≡ true
+    pub others_stay : (j : ℕ) (u : View) (s : ℕ) → j ≢ id → get_elem? vs j ≡ some u → HasLock u s → i.chart.linked s ≡ true
+        → to.linked s ≡ true
     pub place : w.allowance.place ≡ v.allowance.place
     pub slots : map (λ (l : HeldLock). l.slot) w.locks ≡ map (λ (l : HeldLock). l.slot) v.locks
     pub few : length w.locks ≡ length v.locks
@@ -64,15 +66,19 @@ module _ (k : Shape) (m : Memory) (vs : List View) (h : List Mark) (i : HoldsNow
 
     known_mine : (s : ℕ) (l l' : HeldLock) → LockChange s l l' → IsLockKnown m v s l → IsLockKnown m' w s l'
     known_mine s l l' q t = ⊎_elim
-        (λ (e : s ≡ p). lock_noted m m' v w s l l' f n by_store (q.here e) (subst (λ z. IsOwnField z f) (sym e) stores.own) (stored_here m f n) (λ field own ne. stored_else m f field n ne) c.readings back
-        (λ z. ap (λ ks. known_in ks (Life s)) (q.here e) ∙ known_still l.known f (Life s) n (m' (Life s)) by_store (λ same. absurd (stores.no_life s same)) (was_marked z)) t)
-        (λ ne. lock_beside m m' v w s l l' (λ field own. stores.away s field ne own) (q.beside ne) (λ z. (q.still_marked z).0) c.readings t) (cases_eq s p)
+        (λ (e : s ≡ p). lock_noted m m' v w s l l' f n by_store (q.here e) (subst (λ z. IsOwnField z f) (sym e) stores.own)
+        (stored_here m f n) (λ field own ne. stored_else m f field n ne) c.readings back
+        (λ z. ap (λ ks. known_in ks (Life s)) (q.here e)
+        ∙ known_still l.known f (Life s) n (m' (Life s)) by_store (λ same. absurd (stores.no_life s same)) (was_marked z)) t)
+        (λ ne. lock_beside m m' v w s l l' (λ field own. stores.away s field ne own) (q.beside ne) (λ z. (q.still_marked z).0) c.readings t)
+        (cases_eq s p)
       where
         was_marked : l'.marked ≡ true → known_in l.known (Life s) ≡ Some (m' (Life s))
         was_marked z = t.marked_life (q.still_marked z).0 ∙ ap Some (sym (stores.life s))
 
         back : (generation : ℕ) → HasGeneration m' s generation l' → HasGeneration m s generation l
-        back generation has = ⊎_elim (λ e. inl (sym (stores.life s) ∙ e)) (λ (e : (m' (Life s) ≡ 2 * generation + 1) × (l'.marked ≡ true)). inr (sym (stores.life s) ∙ e.0, (q.still_marked e.1).0)) has
+        back generation has = ⊎_elim (λ e. inl (sym (stores.life s) ∙ e))
+            (λ (e : (m' (Life s) ≡ 2 * generation + 1) × (l'.marked ≡ true)). inr (sym (stores.life s) ∙ e.0, (q.still_marked e.1).0)) has
 
     odd_back : (s : ℕ) → IsOdd (m' (Life s)) → IsOdd (m (Life s))
     odd_back s e = subst IsOdd (stores.life s) e
@@ -84,18 +90,23 @@ module _ (k : Shape) (m : Memory) (vs : List View) (h : List Mark) (i : HoldsNow
       emptied = λ b z. q.emptied b z;
     }
 
-    kept_others : (j : ℕ) (u : View) (s : ℕ) (l : HeldLock) → j ≢ id → get_elem? vs j ≡ some u → lock_of u.locks s ≡ Some l → IsLockKept m i.chart u s l → IsLockKept m' to u s l
+    kept_others : (j : ℕ) (u : View) (s : ℕ) (l : HeldLock) → j ≢ id → get_elem? vs j ≡ some u → lock_of u.locks s ≡ Some l
+        → IsLockKept m i.chart u s l → IsLockKept m' to u s l
     kept_others j u s l ne e is t = record {
       marked = λ z. (let r = t.marked z in (c.others_stay j u s ne e (l, is) r.0, subst IsOdd (sym (stores.life s)) r.1));
       own_mark = λ linked odd. t.own_mark (c.linked_back s linked) (odd_back s odd);
-      emptied = λ b z. (let r = t.emptied b z in (stores.away s (Link s b) (other_slot j u s ne e (l, is)) refl ∙ r.0, ⊎_elim (λ g. inl (c.others_stay j u s ne e (l, is) g)) (λ x. inr x) r.1));
+      emptied = λ b z. (let r = t.emptied b z in (
+        stores.away s (Link s b) (other_slot j u s ne e (l, is)) refl ∙ r.0,
+        ⊎_elim (λ g. inl (c.others_stay j u s ne e (l, is) g)) (λ x. inr x) r.1,
+      ));
     }
 
     reading_kept : (r : Reading) → IsReadingKept m i.chart r → IsReadingKept m' to r
     reading_kept r t = record {
       generations = λ s life e. subst (λ x. life / 2 ≤ x / 2) (sym (stores.life s)) (t.generations s life e);
       tags = λ s number b e. subst (λ x. number ≤ x) (sym (stores.tag s b)) (t.tags s number b e);
-      linked = λ s life e same. (let now : m (Life s) ≡ 2 * (life / 2) = sym (stores.life s) ∙ same in c.even_stays s (t.linked s life e now) (omega arith));
+      linked = λ s life e same. (let now : m (Life s) ≡ 2 * (life / 2) = sym (stores.life s) ∙ same in
+          c.even_stays s (t.linked s life e now) (omega arith));
       keys = λ s life key e same known. stores.key s ∙ t.keys s life key e (ap (λ x. x / 2) (sym (stores.life s)) ∙ same) known;
     }
 
@@ -110,7 +121,8 @@ module _ (k : Shape) (m : Memory) (vs : List View) (h : List Mark) (i : HoldsNow
       kept = λ s l l' is q. kept_mine s l l' q (t.kept id v there s l is);
       kept_else = λ j u s l ne e is. kept_others j u s l ne e is (t.kept j u e s l is);
       known = λ s l l' is q. known_mine s l l' q (t.known id v there s l is);
-      known_else = λ j u s l ne e is. lock_beside m m' u u s l l (λ field own. stores.away s field (other_slot j u s ne e (l, is)) own) refl (λ z. z) refl (t.known j u e s l is);
+      known_else = λ j u s l ne e is. lock_beside m m' u u s l l (λ field own. stores.away s field (other_slot j u s ne e (l, is)) own) refl
+          (λ z. z) refl (t.known j u e s l is);
       readings = subst (λ rs. Each rs (IsReadingKept m' to)) (sym c.readings) (λ j r e. reading_kept r (t.readings id v there j r e));
       readings_else = λ j u ne e l r is. reading_kept r (t.readings j u e l r is);
     }) t

@@ -131,7 +131,8 @@ pub stores_link : (m : Memory) (p : ℕ) (b : Side) (v : ℕ) → StoresLink m (
 stores_link m p b v = record {
   here = stored_here m (Link p b) v;
   link = λ s a ne. ⊎_elim
-      (λ (e : s ≡ p). ap (λ x. cond (p == s && x) v (m (Link s a))) (same_side-other b a (λ f. ne e (sym f))) ∙ ap (λ x. cond x v (m (Link s a))) (and_false (p == s)))
+      (λ (e : s ≡ p). ap (λ x. cond (p == s && x) v (m (Link s a))) (same_side-other b a (λ f. ne e (sym f)))
+      ∙ ap (λ x. cond x v (m (Link s a))) (and_false (p == s)))
       (λ not. ap (λ x. cond (x && same_side b a) v (m (Link s a))) (ne_eqb p s (λ e. not (sym e)))) (cases_eq s p);
   key = λ s. refl;
   value = λ s. refl;
@@ -154,7 +155,8 @@ same_answer m new x zero e f = refl
 same_answer m new x (suc s) e f = λ i. if e i == x then Some (f i) else None
 
 -- how a slot is shown to hang below another
-pub hangs_at : (m : Memory) (g : Chart) (c u : ℕ) (b : Side) → g.up c ≡ u → g.side c ≡ b → g.linked u ≡ true → m (Link u b) ≡ c → Hangs m g c
+pub hangs_at : (m : Memory) (g : Chart) (c u : ℕ) (b : Side) → g.up c ≡ u → g.side c ≡ b → g.linked u ≡ true → m (Link u b) ≡ c
+    → Hangs m g c
 hangs_at m g c u b i j l e = record { above = ap g.linked i ∙ l; link = ap (λ y. m (Link y (g.side c))) i ∙ ap (λ y. m (Link u y)) j ∙ e }
 
 -- what the store of a link leaves

@@ -61,7 +61,8 @@ use Rattle.core_tree.proofs.notes.Notes.{note_option-unraised}
 use Rattle.core_frames.proofs.frames.ReaderFrame.{emptied_by}
 use Rattle.core_frames.proofs.frames.Contents.{any, SameContents, shape_same, place_same, walks_by, right_left_by, belongs_same}
 
-module _ (k : Shape) (m : Memory) (vs : List View) (h : List Mark) (i : HoldsNow k m vs h) (id : ℕ) (v : View) (there : get_elem? vs id ≡ some v) (works : Works v)
+module _ (k : Shape) (m : Memory) (vs : List View) (h : List Mark) (i : HoldsNow k m vs h) (id : ℕ) (v : View)
+    (there : get_elem? vs id ≡ some v) (works : Works v)
     (commit : Commit) (r : Reading) (d generation value : ℕ) (needs : NeedsReplace v commit r d generation) where
   abbrev g : Chart
   g = i.chart
@@ -115,7 +116,8 @@ module _ (k : Shape) (m : Memory) (vs : List View) (h : List Mark) (i : HoldsNow
   is_key : m (Key d) ≡ r.key
   is_key =
       let l = node_alive.recorded in
-      (i.locks.readings id v there has_reading.0 r has_reading.1).keys d l.0 r.key l.1 (let a = node_alive.life in let e = l.2 in omega arith) well.1
+      (i.locks.readings id v there has_reading.0 r has_reading.1).keys d l.0 r.key l.1
+      (let a = node_alive.life in let e = l.2 in omega arith) well.1
 
   outside : v.section ≡ None
   outside = cases v.section refl
@@ -149,7 +151,15 @@ module _ (k : Shape) (m : Memory) (vs : List View) (h : List Mark) (i : HoldsNow
   one_longer = ap length more_updates ∙ length-append (updates_of h) (update ∷ [])
 
   same : SameForMore v w h'
-  same = record { places = record { place = refl; places = refl; joined = refl; met = refl }; section = refl; enter = refl; wait = refl; sections = refl; waits = refl; seen = refl }
+  same = record {
+    places = record { place = refl; places = refl; joined = refl; met = refl };
+    section = refl;
+    enter = refl;
+    wait = refl;
+    sections = refl;
+    waits = refl;
+    seen = refl;
+  }
 
   -- the dictionary
   present : map_now h (m (Key d)) ≡ Some (m (Value d))
@@ -162,7 +172,8 @@ module _ (k : Shape) (m : Memory) (vs : List View) (h : List Mark) (i : HoldsNow
   pushed y = ap (λ us. finite.get (map_of us) y) more_updates ∙ ap (λ z. finite.get z y) (map_of-push (updates_of h) update)
 
   map_here : map_now h' (m (Key d)) ≡ Some value
-  map_here = pushed (m (Key d)) ∙ ap (finite.get (updated (map_of (updates_of h)) (Set r.key value))) is_key ∙ get-set (map_of (updates_of h)) r.key value there_now
+  map_here = pushed (m (Key d)) ∙ ap (finite.get (updated (map_of (updates_of h)) (Set r.key value))) is_key
+      ∙ get-set (map_of (updates_of h)) r.key value there_now
 
   map_else : (y : ℕ) → y ≢ m (Key d) → map_now h' y ≡ map_now h y
   map_else y ne = pushed y ∙ get-updated_other (map_of (updates_of h)) (Set r.key value) y (λ e. ne (e ∙ sym is_key))
@@ -171,23 +182,28 @@ module _ (k : Shape) (m : Memory) (vs : List View) (h : List Mark) (i : HoldsNow
   holds = record {
     sound = λ s l ne o. ⊎_elim
         (λ (e : s ≡ d). ap (λ t. map_now h' (m (Key t))) e ∙ map_here ∙ ap Some (sym (ap (λ t. m' (Value t)) e ∙ new_value)))
-        (λ other. map_else (m (Key s)) (λ same. other (one_key m n g s d i.tree.shape l ne o d_linked node young same)) ∙ i.tree.map.sound s l ne o ∙ ap Some (sym (other_value s other))) (cases_eq s d);
-    complete = λ y z e. ⊎_elim (λ (same : y ≡ m (Key d)). here y z same e) (λ other. apart y z other (sym (map_else y other) ∙ e)) (cases_eq y (m (Key d)));
+        (λ other. map_else (m (Key s)) (λ same. other (one_key m n g s d i.tree.shape l ne o d_linked node young same))
+        ∙ i.tree.map.sound s l ne o ∙ ap Some (sym (other_value s other))) (cases_eq s d);
+    complete = λ y z e. ⊎_elim (λ (same : y ≡ m (Key d)). here y z same e) (λ other. apart y z other (sym (map_else y other) ∙ e))
+        (cases_eq y (m (Key d)));
   }
     where
-      here : (y z : ℕ) → y ≡ m (Key d) → map_now h' y ≡ Some z → (s : ℕ) × (g.linked s ≡ true) × (s ≢ 0) × (g.old s ≡ false) × (m' (Key s) ≡ y) × (m' (Value s) ≡ z)
+      here : (y z : ℕ) → y ≡ m (Key d) → map_now h' y ≡ Some z
+          → (s : ℕ) × (g.linked s ≡ true) × (s ≢ 0) × (g.old s ≡ false) × (m' (Key s) ≡ y) × (m' (Value s) ≡ z)
       here y z same e =
           let q : Some value ≡ Some z = sym map_here ∙ ap (map_now h') (sym same) ∙ e in
           let is : value ≡ z = cc in
           (d, d_linked, node, young, sym same, new_value ∙ is)
 
-      apart : (y z : ℕ) → y ≢ m (Key d) → map_now h y ≡ Some z → (s : ℕ) × (g.linked s ≡ true) × (s ≢ 0) × (g.old s ≡ false) × (m' (Key s) ≡ y) × (m' (Value s) ≡ z)
+      apart : (y z : ℕ) → y ≢ m (Key d) → map_now h y ≡ Some z
+          → (s : ℕ) × (g.linked s ≡ true) × (s ≢ 0) × (g.old s ≡ false) × (m' (Key s) ≡ y) × (m' (Value s) ≡ z)
       apart y z other e =
           let q = i.tree.map.complete y z e in
           (q.0, q.1, q.2, q.3, q.4, other_value q.0 (λ same. other (sym q.4 ∙ ap (λ t. m (Key t)) same)) ∙ q.5)
 
   -- locks
-  change : (t : ℕ) (l l' : HeldLock) → lock_of v.locks t ≡ Some l → IsNoted d known t l l' → LockChange k m vs h i id v w there (Value d) value d stores true g t l l'
+  change : (t : ℕ) (l l' : HeldLock) → lock_of v.locks t ≡ Some l → IsNoted d known t l l'
+      → LockChange k m vs h i id v w there (Value d) value d stores true g t l l'
   change t l l' is q = record {
     here = q.here;
     beside = q.there;
@@ -209,10 +225,18 @@ module _ (k : Shape) (m : Memory) (vs : List View) (h : List Mark) (i : HoldsNow
   said key from o y = subst (λ us. WasSaid us key from o) (sym more_updates) (said_longer (updates_of h) (update ∷ []) key from o y)
 
   emptied_still : (s : ℕ) (a : Side) → IsEmptied vs s a → IsEmptied (set vs id w) s a
-  emptied_still = emptied_by vs id v w there (λ s lock holds a emptied. (let f = noted_forth d known v.locks s lock holds in (f.0, f.1, f.2.emptied a ∙ emptied)))
+  emptied_still = emptied_by vs id v w there (λ s lock holds a emptied. (let f = noted_forth d known v.locks s lock holds in
+      (f.0, f.1, f.2.emptied a ∙ emptied)))
 
   may_still : (key entered s : ℕ) → MayPass vs key entered s → MayPass (set vs id w) key entered s
-  may_still key entered s y = record { move = y.move; pending = pending_still vs id w y.move y.pending (another y.move y.pending); old = y.old; low = y.low; high = y.high; before = y.before }
+  may_still key entered s y = record {
+    move = y.move;
+    pending = pending_still vs id w y.move y.pending (another y.move y.pending);
+    old = y.old;
+    low = y.low;
+    high = y.high;
+    before = y.before;
+  }
 
   -- all keys and links are the same, and all values but one
   abbrev others : ℕ → Type 0
@@ -238,15 +262,26 @@ module _ (k : Shape) (m : Memory) (vs : List View) (h : List Mark) (i : HoldsNow
     linked_back = λ s l. l;
     said = said;
     place = λ j z section e is.
-        place_same m m' any others contents g on (λ u l o same. (let f : true ≡ false = sym o ∙ ap g.old same ∙ young in absurd (cc))) section.key (IsHeldBack g h section.entered) (IsHeldBack g h' section.entered) (MayPass vs section.key section.entered) (MayPass (set vs id w) section.key section.entered)
-        (WasSaid (updates_of h) section.key section.from) (WasSaid (updates_of h') section.key section.from) (λ s l. tt) (λ s l. not_d s l.out) (held section.entered) (may_still section.key section.entered) (said section.key section.from);
-    walks = λ j z section e is node_slot s l. walks_by m m' any others contents g on node_slot (IsHeldBack g h section.entered) (IsHeldBack g h' section.entered) tt (λ p way. tt) (λ p held_there. tt) (held section.entered) s;
+        place_same m m' any others contents g on (λ u l o same. (let f : true ≡ false = sym o ∙ ap g.old same ∙ young in
+        absurd (cc))) section.key (IsHeldBack g h section.entered) (IsHeldBack g h' section.entered)
+        (MayPass vs section.key section.entered) (MayPass (set vs id w) section.key section.entered)
+        (WasSaid (updates_of h) section.key section.from) (WasSaid (updates_of h') section.key section.from) (λ s l. tt)
+        (λ s l. not_d s l.out) (held section.entered) (may_still section.key section.entered) (said section.key section.from);
+    walks = λ j z section e is node_slot s l. walks_by m m' any others contents g on node_slot (IsHeldBack g h section.entered)
+        (IsHeldBack g h' section.entered) tt (λ p way. tt) (λ p held_there. tt) (held section.entered) s;
     path = λ node_slot s l which. right_left_by m m' any others contents g on node_slot s tt (λ p way. tt);
-    stood = λ j z section e is s y. ⊎_elim (λ (l : g.linked s ≡ true). inl l) (λ (q : IsHeldBack g h section.entered s × IsOdd (m (Life s))). inr (held section.entered s q.0, q.1)) y;
+    stood = λ j z section e is s y. ⊎_elim (λ (l : g.linked s ≡ true). inl l)
+        (λ (q : IsHeldBack g h section.entered s × IsOdd (m (Life s))). inr (held section.entered s q.0, q.1)) y;
     side = λ y s a l even root none. belongs_same m m' any others contents g on y s a tt;
     link_back = λ s a free none. none;
     emptied = emptied_still;
-    old_for = λ y s even o. record { move = o.move; pending = pending_still vs id w o.move o.pending (another o.move o.pending); old = o.old; low = o.low; high = o.high };
+    old_for = λ y s even o. record {
+      move = o.move;
+      pending = pending_still vs id w o.move o.pending (another o.move o.pending);
+      old = o.old;
+      low = o.low;
+      high = o.high;
+    };
   }
 
   unraised_kept : unraised_of w ≡ unraised_of v
@@ -256,7 +291,8 @@ module _ (k : Shape) (m : Memory) (vs : List View) (h : List Mark) (i : HoldsNow
   stored_law = record {
     table = i.table;
     chart = g;
-    marks = mark_frame_plain h h' v.allowance.place plain k.places vs id v w there same (marks_done h update (λ x e. absurd (let q : Set r.key value ≡ Del x = e in cc)) k.places i.marks.marks) i.marks;
+    marks = mark_frame_plain h h' v.allowance.place plain k.places vs id v w there same
+        (marks_done h update (λ x e. absurd (let q : Set r.key value ≡ Del x = e in cc)) k.places i.marks.marks) i.marks;
     seats = seat_frame_plain h h' v.allowance.place plain k.places vs id v w there works refl same i.seats;
     waiters = waiter_frame_plain h h' v.allowance.place plain k m m' vs id v w there same refl refl (clocked_before k m vs h i) i.waiters;
     slots = slots_stored k m vs h i id v w there (Value d) value d stores true d_linked h'
@@ -282,8 +318,10 @@ module _ (k : Shape) (m : Memory) (vs : List View) (h : List Mark) (i : HoldsNow
       back = λ s l' is. (let q = noted_back d known v.locks s l' is in (q.0, q.1, change s q.0 l' q.1 q.2));
       forth = λ s l is. (let q = noted_forth d known v.locks s l is in (q.0, q.1, change s l q.0 is q.2));
     });
-    counts = counts_made k m vs h i id v w there (Value d) value d stores h' (record { reserved = refl; owes = refl; wait = refl; turns = refl; moving = moving_none })
-        (ap has settled) needs.has_commit.ticket refl unraised_kept (emptied_change_same d (note_lock known) (λ l. refl) (λ l. refl) v.locks) one_longer
+    counts = counts_made k m vs h i id v w there (Value d) value d stores h'
+        (record { reserved = refl; owes = refl; wait = refl; turns = refl; moving = moving_none })
+        (ap has settled) needs.has_commit.ticket refl unraised_kept
+        (emptied_change_same d (note_lock known) (λ l. refl) (λ l. refl) v.locks) one_longer
         (ap (λ us. finite.len (map_of us)) more_updates ∙ len_set (updates_of h) v.allowance.place r.key value there_now);
     tree = record {
       shape = shape_same m m' any others contents g on n i.tree.shape;
@@ -296,13 +334,18 @@ module _ (k : Shape) (m : Memory) (vs : List View) (h : List Mark) (i : HoldsNow
         own_gone = λ other is l. (let y : None ≡ Some other = sym settled ∙ is in absurd (cc));
       });
     };
-    readers = readers_after m m' g g vs id v w there h h' read (aged_same m m' g g vs id v w there h h' outside (gone_done h update) (λ s a. refl) (λ s l. l) i.readers.ages) i.locks.readings i.readers;
+    readers = readers_after m m' g g vs id v w there h h' read
+        (aged_same m m' g g vs id v w there h h' outside (gone_done h update) (λ s a. refl)
+        (λ s l. l) i.readers.ages) i.locks.readings i.readers;
     front = front_made m m' vs id v w there h h' (stores.within.beside Front tt) i.front commit needs.has_commit refl one_longer
         (subst IsLegal (sym more_updates) (legal_more (updates_of h) update i.front.legal there_now));
     listings = listings_after m m' g g vs id w h h' outside (stores.within.beside Front tt) stores.key
         (λ j z section s e is y. ⊎_elim (λ (l : g.linked s ≡ true). inl l) (λ q. inr (held section.entered s q)) y)
-        (λ j z section listing e is even same lists. absurd (odd_front m m vs id v w there h h' refl i.front commit needs.has_commit (subst IsEven (sym same) even))) i.listings;
-    grace = grace_same v.allowance.place h h' plain vs id v w there refl (record { place = refl; places = refl; joined = refl; met = refl }) moving_none (reuse_done h update i.grace.reuse) (gone_done h update) (last_done h update) refl i.grace;
+        (λ j z section listing e is even same lists. absurd
+        (odd_front m m vs id v w there h h' refl i.front commit needs.has_commit (subst IsEven (sym same) even))) i.listings;
+    grace = grace_same v.allowance.place h h' plain vs id v w there refl
+        (record { place = refl; places = refl; joined = refl; met = refl }) moving_none (reuse_done h update i.grace.reuse)
+        (gone_done h update) (last_done h update) refl i.grace;
   }
 
   pub stored_kept : IsKept k m h m' (set vs id w) h'
@@ -311,6 +354,7 @@ module _ (k : Shape) (m : Memory) (vs : List View) (h : List Mark) (i : HoldsNow
     past = record {
       lives = λ s. (let e = stores.life s in omega arith);
       tags = λ s a. (let e = stores.tag s a in omega arith);
-      content = λ s field gone marked_now content. stores.content s field (λ z. linked_stays k m vs h i s gone.0 (ap g.linked z ∙ d_linked) gone.1) content;
+      content = λ s field gone marked_now content. stores.content s field
+          (λ z. linked_stays k m vs h i s gone.0 (ap g.linked z ∙ d_linked) gone.1) content;
     };
   }

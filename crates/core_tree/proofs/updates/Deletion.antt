@@ -57,10 +57,12 @@ module _ (z : Deletion) where
 
   -- the parent
   pub parent_alive : IsAlive k m vs h inv id v there r p
-  parent_alive = let e = records.parent_now in alive k m vs h inv id v there r p e.0 kept e.1 (loaded_known (known_under v p) (Life p) (2 * e.0) e.2)
+  parent_alive = let e = records.parent_now in alive k m vs h inv id v there r p e.0 kept e.1
+      (loaded_known (known_under v p) (Life p) (2 * e.0) e.2)
 
   pub link_is : m (Link p b) ≡ d
-  link_is = alive_field k m vs h inv id v there r p kept parent_alive (Link p b) d (loaded_known (known_under v p) (Link p b) d records.link_now)
+  link_is = alive_field k m vs h inv id v there r p kept parent_alive (Link p b) d
+      (loaded_known (known_under v p) (Link p b) d records.link_now)
 
   -- the node
   pub node_marked : (g.linked d ≡ true) × IsOdd (m (Life d))
@@ -74,7 +76,8 @@ module _ (z : Deletion) where
 
   pub node_field : (field : Field) (number : ℕ) → known_in (known_under v d) field ≡ Some number → m field ≡ number
   node_field field number known =
-      (inv.locks.known id v there d marked.lock marked.locked).fields r marked.generation number field kept marked.recorded (inr (node_life, marked.marked)) (under_lock v d marked.lock field number marked.locked known)
+      (inv.locks.known id v there d marked.lock marked.locked).fields r marked.generation number field kept marked.recorded
+      (inr (node_life, marked.marked)) (under_lock v d marked.lock field number marked.locked known)
 
   pub left_is : m (Link d Left) ≡ z.left
   left_is = node_field (Link d Left) z.left (loaded_known (known_under v d) (Link d Left) z.left records.left_now)
@@ -103,8 +106,10 @@ module _ (z : Deletion) where
       let a = inv.tree.moves.every s on old in
       let w = inv.tree.moves.each a.pending.id a.pending.view a.pending.there a.move a.pending.moving in
       (no_end_of k m vs h inv id v there settled d node_lock a.pending.id a.pending.view a.move a.pending.there a.pending.moving).0
-      (one_key m (slot_count k) g a.move.copy.slot d inv.tree.shape w.copy_linked w.copy_some w.copy_young node_marked.0 some_node node_young (w.copy_key ∙ sym w.old_key ∙ ap (λ y. m (Key y)) a.old ∙ e))
+      (one_key m (slot_count k) g a.move.copy.slot d inv.tree.shape w.copy_linked w.copy_some w.copy_young node_marked.0 some_node
+      node_young (w.copy_key ∙ sym w.old_key ∙ ap (λ y. m (Key y)) a.old ∙ e))
 
   -- its key is in the dictionary
   pub has_key : finite.contains_key (map_of (updates_of h)) r.key ≡ true
-  has_key = there_of (map_of (updates_of h)) r.key (m (Value d)) (ap (map_now h) (sym node_key) ∙ inv.tree.map.sound d node_marked.0 some_node node_young)
+  has_key = there_of (map_of (updates_of h)) r.key (m (Value d))
+      (ap (map_now h) (sym node_key) ∙ inv.tree.map.sound d node_marked.0 some_node node_young)

@@ -15,12 +15,26 @@ use Rattle.core_frames.specs.Laws.{IsKept, Keeps}
 use Rattle.core_tree.proofs.bypass.NodeBypassed.{bypassed_kept}
 use Rattle.core_tree.proofs.stores.ValueStored.{stored_kept}
 
-module _ (k : Shape) (m : Memory) (vs : List View) (h : List Mark) (id : ℕ) (v : View) (i : HoldsNow k m vs h) (there : get_elem? vs id ≡ some v) (works : Works v) where
-  case21 : (left : ℕ) (w : View) (field : Field) (found : ℕ) (marks : List Mark) → IsStep k h v K21 field found left w marks → IsKept k m h (stored m field left) (set vs id w) (h ++ marks)
-  case21 left w field found marks (step21 {parent = parent} {node = node} {child = child} {left = l} {right = r} {commit = commit} {b = b} record_of_it needs) =
-      bypassed_kept (record { k = k; m = m; vs = vs; h = h; id = id; v = v; inv = i; there = there; works = works }) commit record_of_it parent b node child l r needs
+module _ (k : Shape) (m : Memory) (vs : List View) (h : List Mark) (id : ℕ) (v : View) (i : HoldsNow k m vs h)
+    (there : get_elem? vs id ≡ some v) (works : Works v) where
+  case21 : (left : ℕ) (w : View) (field : Field) (found : ℕ) (marks : List Mark) → IsStep k h v K21 field found left w marks
+      → IsKept k m h (stored m field left) (set vs id w) (h ++ marks)
+  case21 left w field found marks (step21 {parent = parent} {node = node} {child = child} {left = l} {right = r} {commit = commit}
+      {b = b} record_of_it needs) =
+      bypassed_kept (record {
+        k = k;
+        m = m;
+        vs = vs;
+        h = h;
+        id = id;
+        v = v;
+        inv = i;
+        there = there;
+        works = works;
+      }) commit record_of_it parent b node child l r needs
 
-  case36 : (left : ℕ) (w : View) (field : Field) (found : ℕ) (marks : List Mark) → IsStep k h v K36 field found left w marks → IsKept k m h (stored m field left) (set vs id w) (h ++ marks)
+  case36 : (left : ℕ) (w : View) (field : Field) (found : ℕ) (marks : List Mark) → IsStep k h v K36 field found left w marks
+      → IsKept k m h (stored m field left) (set vs id w) (h ++ marks)
   case36 left w field found marks (step36 {slot = slot} {value = value} {generation = generation} {commit = commit} record_of_it needs) =
       stored_kept k m vs h i id v there works commit record_of_it slot generation value needs
 

@@ -46,7 +46,9 @@ module _ (h : List Mark) (caller key value : ℕ) where
     put_else x ne = ap (λ z. finite.get z x) map_put ∙ get-updated_other (map_of (updates_of h)) (Put key value) x ne
 
     pub put_length : finite.len (map_of (updates_of put_marks)) ≡ finite.len (map_of (updates_of h)) + 1
-    put_length = ap finite.len map_put ∙ ap finite.len (updated-put_absent (map_of (updates_of h)) key value lacks) ∙ finite.len-insert nat_cmp_total (map_of (updates_of h)) key value ∙ ap (λ b. cond b (finite.len (map_of (updates_of h))) (finite.len (map_of (updates_of h)) + 1)) lacks
+    put_length = ap finite.len map_put ∙ ap finite.len (updated-put_absent (map_of (updates_of h)) key value lacks)
+        ∙ finite.len-insert nat_cmp_total (map_of (updates_of h)) key value
+        ∙ ap (λ b. cond b (finite.len (map_of (updates_of h))) (finite.len (map_of (updates_of h)) + 1)) lacks
 
     pub put_legal : IsLegal (updates_of h) → IsLegal (updates_of put_marks)
     put_legal legal = subst IsLegal (sym (updates_done h put_update)) (legal_more (updates_of h) put_update legal lacks)
@@ -55,4 +57,5 @@ module _ (h : List Mark) (caller key value : ℕ) where
     put_count = ap length (updates_done h put_update) ∙ length-append (updates_of h) (put_update ∷ [])
 
   pub put_said : (x from : ℕ) (o : Option ℕ) → WasSaid (updates_of h) x from o → WasSaid (updates_of put_marks) x from o
-  put_said x from o said = subst (λ us. WasSaid us x from o) (sym (updates_done h put_update)) (said_longer (updates_of h) (put_update ∷ []) x from o said)
+  put_said x from o said = subst (λ us. WasSaid us x from o) (sym (updates_done h put_update))
+      (said_longer (updates_of h) (put_update ∷ []) x from o said)

@@ -14,10 +14,15 @@ pub there_of : (d : Dictionary) (key value : ℕ) → finite.get d key ≡ Some 
 there_of d key value e = ap is_some e
 
 -- a del takes one pair away, a set none
-pub len_del : (us : List Update) (caller key : ℕ) → finite.contains_key (map_of us) key ≡ true → finite.len (map_of (us ++ record { caller = caller; op = Del key } ∷ [])) ≡ finite.len (map_of us) - 1
+pub len_del : (us : List Update) (caller key : ℕ) → finite.contains_key (map_of us) key ≡ true
+    → finite.len (map_of (us ++ record { caller = caller; op = Del key } ∷ [])) ≡ finite.len (map_of us) - 1
 len_del us caller key there =
-    ap finite.len (map_of-push us (record { caller = caller; op = Del key })) ∙ finite.len-remove nat_cmp_total (map_of us) key ∙ ap (λ b. cond b (finite.len (map_of us) - 1) (finite.len (map_of us))) there
+    ap finite.len (map_of-push us (record { caller = caller; op = Del key })) ∙ finite.len-remove nat_cmp_total (map_of us) key
+    ∙ ap (λ b. cond b (finite.len (map_of us) - 1) (finite.len (map_of us))) there
 
-pub len_set : (us : List Update) (caller key value : ℕ) → finite.contains_key (map_of us) key ≡ true → finite.len (map_of (us ++ record { caller = caller; op = Set key value } ∷ [])) ≡ finite.len (map_of us)
+pub len_set : (us : List Update) (caller key value : ℕ) → finite.contains_key (map_of us) key ≡ true
+    → finite.len (map_of (us ++ record { caller = caller; op = Set key value } ∷ [])) ≡ finite.len (map_of us)
 len_set us caller key value there =
-    ap finite.len (map_of-push us (record { caller = caller; op = Set key value }) ∙ updated-set_present (map_of us) key value there) ∙ finite.len-insert nat_cmp_total (map_of us) key value ∙ ap (λ b. cond b (finite.len (map_of us)) (finite.len (map_of us) + 1)) there
+    ap finite.len (map_of-push us (record { caller = caller; op = Set key value }) ∙ updated-set_present (map_of us) key value there)
+    ∙ finite.len-insert nat_cmp_total (map_of us) key value
+    ∙ ap (λ b. cond b (finite.len (map_of us)) (finite.len (map_of us) + 1)) there

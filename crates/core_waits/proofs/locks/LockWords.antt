@@ -19,7 +19,11 @@ lock_nodes m slot x = record { life = λ s. refl; key = λ s. refl; value = λ s
 
 -- no life and no tag falls, and no content changes
 pub lock_past : (m : Memory) (slot x : ℕ) (h : List Mark) → KeepsPast m h (stored m (Lock slot) x)
-lock_past m slot x h = record { lives = λ s. omega arith; tags = λ s b. omega arith; content = λ s field gone odd content. content_same m (stored m (Lock slot) x) (lock_nodes m slot x) s field content }
+lock_past m slot x h = record {
+  lives = λ s. omega arith;
+  tags = λ s b. omega arith;
+  content = λ s field gone odd content. content_same m (stored m (Lock slot) x) (lock_nodes m slot x) s field content;
+}
 
 -- the lock word of the slot, and of another
 pub word_here : (m : Memory) (slot x : ℕ) → stored m (Lock slot) x (Lock slot) ≡ x
@@ -34,7 +38,8 @@ no_lock_times [] s none = refl
 no_lock_times (l ∷ ls) s none =
     dite (ℕ_discrete l.slot s)
     (λ e. absurd (let q : Some l ≡ None = sym (ap (λ b. cond b (Some l) (lock_of ls s)) (eq-eqb l.slot s e)) ∙ none in cc))
-    (λ ne. let t = times_other s l.slot (map (λ (l : HeldLock). l.slot) ls) ne in let r = no_lock_times ls s (sym (ap (λ b. cond b (Some l) (lock_of ls s)) (ne_eqb l.slot s ne)) ∙ none) in omega arith)
+    (λ ne. let t = times_other s l.slot (map (λ (l : HeldLock). l.slot) ls) ne in
+    let r = no_lock_times ls s (sym (ap (λ b. cond b (Some l) (lock_of ls s)) (ne_eqb l.slot s ne)) ∙ none) in omega arith)
 
 -- the locks without one
 pub without_here : (slot : ℕ) (ls : List HeldLock) → lock_of (without_lock slot ls) slot ≡ None
@@ -42,24 +47,31 @@ without_here slot [] = refl
 without_here slot (l ∷ ls) =
     dite (ℕ_discrete l.slot slot)
     (λ e. ap (λ b. lock_of (cond b (without_lock slot ls) (l ∷ without_lock slot ls)) slot) (eq-eqb l.slot slot e) ∙ without_here slot ls)
-    (λ ne. ap (λ b. lock_of (cond b (without_lock slot ls) (l ∷ without_lock slot ls)) slot) (ne_eqb l.slot slot ne) ∙ ap (λ b. cond b (Some l) (lock_of (without_lock slot ls) slot)) (ne_eqb l.slot slot ne) ∙ without_here slot ls)
+    (λ ne. ap (λ b. lock_of (cond b (without_lock slot ls) (l ∷ without_lock slot ls)) slot) (ne_eqb l.slot slot ne)
+    ∙ ap (λ b. cond b (Some l) (lock_of (without_lock slot ls) slot)) (ne_eqb l.slot slot ne) ∙ without_here slot ls)
 
 pub without_other : (slot s : ℕ) (ls : List HeldLock) → s ≢ slot → lock_of (without_lock slot ls) s ≡ lock_of ls s
 without_other slot s [] ne = refl
 without_other slot s (l ∷ ls) ne =
     dite (ℕ_discrete l.slot slot)
-    (λ e. ap (λ b. lock_of (cond b (without_lock slot ls) (l ∷ without_lock slot ls)) s) (eq-eqb l.slot slot e) ∙ without_other slot s ls ne ∙ ap (λ b. cond b (Some l) (lock_of ls s)) (sym (ne_eqb l.slot s (λ f. ne (sym f ∙ e)))))
-    (λ other. ap (λ b. lock_of (cond b (without_lock slot ls) (l ∷ without_lock slot ls)) s) (ne_eqb l.slot slot other) ∙ ap (λ z. cond (l.slot == s) (Some l) z) (without_other slot s ls ne))
+    (λ e. ap (λ b. lock_of (cond b (without_lock slot ls) (l ∷ without_lock slot ls)) s) (eq-eqb l.slot slot e) ∙ without_other slot s ls ne
+    ∙ ap (λ b. cond b (Some l) (lock_of ls s)) (sym (ne_eqb l.slot s (λ f. ne (sym f ∙ e)))))
+    (λ other. ap (λ b. lock_of (cond b (without_lock slot ls) (l ∷ without_lock slot ls)) s) (ne_eqb l.slot slot other)
+    ∙ ap (λ z. cond (l.slot == s) (Some l) z) (without_other slot s ls ne))
 
 pub without_fewer : (slot s : ℕ) (ls : List HeldLock)
-    → (times s (map (λ (l : HeldLock). l.slot) (without_lock slot ls)) ≤ times s (map (λ (l : HeldLock). l.slot) ls)) × (length (without_lock slot ls) ≤ length ls) × (emptied_among (without_lock slot ls) ≤ emptied_among ls)
+    → (times s (map (λ (l : HeldLock). l.slot) (without_lock slot ls)) ≤ times s (map (λ (l : HeldLock). l.slot) ls))
+    × (length (without_lock slot ls) ≤ length ls) × (emptied_among (without_lock slot ls) ≤ emptied_among ls)
 without_fewer slot s [] = (omega arith, omega arith, omega arith)
 without_fewer slot s (l ∷ ls) =
     let r = without_fewer slot s ls in
     let a = r.0 in
     let b = r.1 in
     let c = r.2 in
-    elim (l.slot == slot) as (λ z. (times s (map (λ (l : HeldLock). l.slot) (cond z (without_lock slot ls) (l ∷ without_lock slot ls))) ≤ times s (map (λ (l : HeldLock). l.slot) (l ∷ ls))) × (length (cond z (without_lock slot ls) (l ∷ without_lock slot ls)) ≤ length (l ∷ ls)) × (emptied_among (cond z (without_lock slot ls) (l ∷ without_lock slot ls)) ≤ emptied_among (l ∷ ls))) [
+    elim (l.slot == slot) as (λ z. (times s (map (λ (l : HeldLock). l.slot) (cond z (without_lock slot ls) (l ∷ without_lock slot ls)))
+    ≤ times s (map (λ (l : HeldLock). l.slot) (l ∷ ls)))
+    × (length (cond z (without_lock slot ls) (l ∷ without_lock slot ls)) ≤ length (l ∷ ls))
+    × (emptied_among (cond z (without_lock slot ls) (l ∷ without_lock slot ls)) ≤ emptied_among (l ∷ ls))) [
       | true ↦ (omega arith, omega arith, omega arith)
       | false ↦ (omega arith, omega arith, omega arith)
     ]

@@ -30,8 +30,10 @@ use Rattle.core_frames.proofs.marks.MarkFacts.{quiet_same}
 use Rattle.core_state.specs.declared.view.Reading.{Reading}
 use Rattle.core_frames.proofs.frames.LockFrame.{kept_same, known_same, reading_same}
 
-module _ (vs : List View) (id : ℕ) (v : View) (there : get_elem? vs id ≡ some v) (slot : ℕ) (locks : List HeldLock) (other : (s : ℕ) → s ≢ slot → lock_of locks s ≡ lock_of v.locks s)
-    (settled : (lock : HeldLock) (b : Side) → lock_of v.locks slot ≡ Some lock → is_emptied lock b ≡ true → ⊥) (no_end : (move : Move) → v.moving ≡ Some move → (move.copy.slot ≢ slot) × (move.old ≢ slot) × (move.parent ≢ slot)) where
+module _ (vs : List View) (id : ℕ) (v : View) (there : get_elem? vs id ≡ some v) (slot : ℕ) (locks : List HeldLock)
+    (other : (s : ℕ) → s ≢ slot → lock_of locks s ≡ lock_of v.locks s)
+    (settled : (lock : HeldLock) (b : Side) → lock_of v.locks slot ≡ Some lock → is_emptied lock b ≡ true → ⊥)
+    (no_end : (move : Move) → v.moving ≡ Some move → (move.copy.slot ≢ slot) × (move.old ≢ slot) × (move.parent ≢ slot)) where
   abbrev w : View
   w = record v { locks = locks }
 
@@ -42,24 +44,38 @@ module _ (vs : List View) (id : ℕ) (v : View) (there : get_elem? vs id ≡ som
   holder_on : (s : ℕ) (lock : HeldLock) → s ≢ slot → IsHolderOf vs s lock → IsHolderOf (set vs id w) s lock
   holder_on s lock ne i =
       dite (ℕ_discrete i.id id)
-      (λ here. record { id = id; view = w; there = set_here vs id w (at_below vs id v there); holds = other s ne ∙ ap (λ (u : View). lock_of u.locks s) (view_here i.id i.view here i.there) ∙ i.holds })
+      (λ here. record {
+        id = id;
+        view = w;
+        there = set_here vs id w (at_below vs id v there);
+        holds = other s ne ∙ ap (λ (u : View). lock_of u.locks s) (view_here i.id i.view here i.there) ∙ i.holds;
+      })
       (λ not_here. record { id = i.id; view = i.view; there = set_else vs id i.id w not_here ∙ i.there; holds = i.holds })
 
   emptied_on : (s : ℕ) (b : Side) → IsEmptied vs s b → IsEmptied (set vs id w) s b
-  emptied_on = emptied_by vs id v w there (λ s lock holds b emptied. (lock, other s (λ on. settled lock b (ap (lock_of v.locks) (sym on) ∙ holds) emptied) ∙ holds, emptied))
+  emptied_on = emptied_by vs id v w there (λ s lock holds b emptied. (
+    lock,
+    other s (λ on. settled lock b (ap (lock_of v.locks) (sym on) ∙ holds) emptied) ∙ holds,
+    emptied,
+  ))
 
   module _ (m m' : Memory) (nodes : SameNodes m m') (g : Chart) (h : List Mark) where
     moving_on : (move : Move) → v.moving ≡ Some move → IsMoving m g h v move → IsMoving m' g h w move
     moving_on move is = moving_by m m' nodes g h h v w move move.waited move.copy.known (λ n x e. e) refl
-        (λ s which. other s (λ e. ⊎_elim (λ (c : s ≡ move.copy.slot). (no_end move is).0 (sym c ∙ e)) (λ r. ⊎_elim (λ (o : s ≡ move.old). (no_end move is).1 (sym o ∙ e)) (λ (p : s ≡ move.parent). (no_end move is).2 (sym p ∙ e)) r) which)) (λ r x. x) (λ r x. x)
+        (λ s which. other s (λ e. ⊎_elim (λ (c : s ≡ move.copy.slot). (no_end move is).0 (sym c ∙ e))
+        (λ r. ⊎_elim (λ (o : s ≡ move.old). (no_end move is).1 (sym o ∙ e))
+        (λ (p : s ≡ move.parent). (no_end move is).2 (sym p ∙ e)) r) which)) (λ r x. x) (λ r x. x)
 
     pub tree_locks : (n : ℕ) → TreeParts m n g vs h → TreeParts m' n g (set vs id w) h
     tree_locks n t = tree_by m m' n g vs (set vs id w) h h nodes (quiet_same h) (moves_same vs id v w there refl)
-        (each_set (λ j u. (move : Move) → u.moving ≡ Some move → IsMoving m' g h u move) vs id w (λ move is. moving_on move is (t.moves.each id v there move is))
-        (λ j u ne e move is. moving_same m m' nodes g h h u u move (quiet_same h) refl refl (λ r x. x) (λ r x. x) (t.moves.each j u e move is))) t
+        (each_set (λ j u. (move : Move) → u.moving ≡ Some move → IsMoving m' g h u move) vs id w
+        (λ move is. moving_on move is (t.moves.each id v there move is))
+        (λ j u ne e move is. moving_same m m' nodes g h h u u move (quiet_same h) refl refl (λ r x. x) (λ r x. x)
+        (t.moves.each j u e move is))) t
 
     pub readers_locks : ReaderParts m g vs h → ReaderParts m' g (set vs id w) h
-    readers_locks = readers_stay m m' nodes g vs id v w h h there (quiet_same h) (record { may = may_still vs id v w there refl; old_for = old_still vs id v w there refl; emptied = emptied_on }) refl refl
+    readers_locks = readers_stay m m' nodes g vs id v w h h there (quiet_same h)
+        (record { may = may_still vs id v w there refl; old_for = old_still vs id v w there refl; emptied = emptied_on }) refl refl
 
   -- What a step has to say of the slot whose lock it is.
   pub record Relocks (m : Memory) (n : ℕ) (g : Chart) (x : ℕ) : Type 0 where
@@ -76,10 +92,12 @@ module _ (vs : List View) (id : ℕ) (v : View) (there : get_elem? vs id ≡ som
     abbrev m' : Memory
     m' = stored m (Lock slot) x
 
-    kept_on : (u z : View) (s : ℕ) (lock : HeldLock) → (IsUnraised u s → IsUnraised z s) → IsLockKept m g u s lock → IsLockKept m' g z s lock
+    kept_on : (u z : View) (s : ℕ) (lock : HeldLock) → (IsUnraised u s → IsUnraised z s) → IsLockKept m g u s lock
+        → IsLockKept m' g z s lock
     kept_on = kept_same m m' (lock_nodes m slot x) (λ s. refl) g
 
-    known_on : (u z : View) (s : ℕ) (lock : HeldLock) → ((r : Reading) → IsIn (readings_of z) r → IsIn (readings_of u) r ⊎ (r.loads ≡ [])) → IsLockKnown m u s lock → IsLockKnown m' z s lock
+    known_on : (u z : View) (s : ℕ) (lock : HeldLock) → ((r : Reading) → IsIn (readings_of z) r → IsIn (readings_of u) r ⊎ (r.loads ≡ []))
+        → IsLockKnown m u s lock → IsLockKnown m' z s lock
     known_on = known_same m m' (lock_nodes m slot x) (λ s. refl) g
 
     was_lock : (s : ℕ) (lock : HeldLock) → s ≢ slot → lock_of locks s ≡ Some lock → lock_of v.locks s ≡ Some lock
@@ -88,11 +106,14 @@ module _ (vs : List View) (id : ℕ) (v : View) (there : get_elem? vs id ≡ som
     pub locks_locks : LockParts m n g vs → LockParts m' n g (set vs id w)
     locks_locks t = record {
       locked = record {
-        held = each_set (λ j u. (s : ℕ) (lock : HeldLock) → lock_of u.locks s ≡ Some lock → (m' (Lock s) ≡ u.allowance.place + 1) × (s < n)) vs id w
+        held = each_set (λ j u. (s : ℕ) (lock : HeldLock) → lock_of u.locks s ≡ Some lock
+            → (m' (Lock s) ≡ u.allowance.place + 1) × (s < n)) vs id w
             (λ s lock e. dite (ℕ_discrete s slot)
-            (λ on. subst (λ z. (m' (Lock z) ≡ v.allowance.place + 1) × (z < n)) (sym on) (word_here m slot x ∙ c.word lock (ap (lock_of locks) (sym on) ∙ e), c.small))
+            (λ on. subst (λ z. (m' (Lock z) ≡ v.allowance.place + 1) × (z < n)) (sym on)
+            (word_here m slot x ∙ c.word lock (ap (lock_of locks) (sym on) ∙ e), c.small))
             (λ ne. let r = t.locked.held id v there s lock (was_lock s lock ne e) in (word_else m slot x s ne ∙ r.0, r.1)))
-            (λ j u ne e s lock is. (let r = t.locked.held j u e s lock is in (word_else m slot x s (c.alone j u s lock ne e is) ∙ r.0, r.1)));
+            (λ j u ne e s lock is. (let r = t.locked.held j u e s lock is in
+            (word_else m slot x s (c.alone j u s lock ne e is) ∙ r.0, r.1)));
         named = λ s lt nz. dite (ℕ_discrete s slot)
             (λ on. let r = c.named (λ z. nz (ap (λ y. m' (Lock y)) on ∙ word_here m slot x ∙ z)) in
             (r.0, record { id = id; view = w; there = set_here vs id w (at_below vs id v there); holds = ap (lock_of locks) on ∙ r.1 }))
@@ -112,6 +133,8 @@ module _ (vs : List View) (id : ℕ) (v : View) (there : get_elem? vs id ≡ som
           (λ on. subst (λ z. IsLockKnown m' w z lock) (sym on) (c.known lock (ap (lock_of locks) (sym on) ∙ e)))
           (λ ne. known_on v w s lock (λ r has. inl has) (t.known id v there s lock (was_lock s lock ne e))))
           (λ j u ne e s lock is. known_on u u s lock (λ r has. inl has) (t.known j u e s lock is));
-      readings = each_change (λ (u : View). Each (readings_of u) (IsReadingKept m g)) (λ (u : View). Each (readings_of u) (IsReadingKept m' g)) vs id v w there
-          (λ a j r e. reading_same m m' (lock_nodes m slot x) (λ s. refl) g r (a j r e)) (λ u a j r e. reading_same m m' (lock_nodes m slot x) (λ s. refl) g r (a j r e)) t.readings;
+      readings = each_change (λ (u : View). Each (readings_of u) (IsReadingKept m g))
+          (λ (u : View). Each (readings_of u) (IsReadingKept m' g)) vs id v w there
+          (λ a j r e. reading_same m m' (lock_nodes m slot x) (λ s. refl) g r (a j r e))
+          (λ u a j r e. reading_same m m' (lock_nodes m slot x) (λ s. refl) g r (a j r e)) t.readings;
     }

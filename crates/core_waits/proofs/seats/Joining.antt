@@ -28,18 +28,18 @@ use Rattle.core_state.specs.parts.SlotParts.{HasSpareToCome, HasFewSlots, IsReti
 use Rattle.core_state.specs.parts.CountParts.{turns_to_come}
 use Rattle.core_state.specs.parts.GraceParts.{IsWaitedRetired}
 use Rattle.core_state.specs.Invariant.{HoldsNow}
-use Rattle.list_laws.proofs.Lists.{at_below, at_one, total_set, times_append, in_append, in_first, in_second}
+use Rattle.list_laws.proofs.Lists.{at_below, at_one, total_set, times_append, in_first, in_second}
 use Rattle.core_waits.proofs.seats.Regroup.{IsIdle, SameSums, Regroups, regroup_law, idle_quiet}
 use Rattle.core_waits.proofs.seats.Splitting.{spares_count, places_count}
 use Rattle.core_waits.specs.SeatLaws.{JoinKeeps}
+use Rattle.core_frames.proofs.First.{each_append}
 use Rattle.core_frames.proofs.views.RetiredLists.{unraised_append, retired_times}
 use Rattle.core_frames.proofs.views.Roles.{slots_count}
 
-each_append : {A : Type 0} (P : A → Type 0) (xs ys : List A) → Each xs P → Each ys P → Each (xs ++ ys) P
-each_append P xs ys first second j a e = ⊎_elim (λ (x : IsIn xs a). first x.0 a x.1) (λ (y : IsIn ys a). second y.0 a y.1) (in_append xs ys a (j, e))
-
 -- places that stay behind
-pub spent_places_append : (p : ℕ) (xs ys : List Spent) → times p (map (λ (s : Spent). s.place) (xs ++ ys)) ≡ times p (map (λ (s : Spent). s.place) xs) + times p (map (λ (s : Spent). s.place) ys)
+pub spent_places_append : (p : ℕ) (xs ys : List Spent)
+    → times p (map (λ (s : Spent). s.place) (xs ++ ys))
+    ≡ times p (map (λ (s : Spent). s.place) xs) + times p (map (λ (s : Spent). s.place) ys)
 spent_places_append p [] ys = omega arith
 spent_places_append p (x ∷ xs) ys = let r = spent_places_append p xs ys in omega arith
 
@@ -53,10 +53,12 @@ spares_append s (x ∷ xs) ys =
 
 retired_append : (xs ys : List Spent) → joined_retired (xs ++ ys) ≡ joined_retired xs ++ joined_retired ys
 retired_append [] ys = refl
-retired_append (x ∷ xs) ys = ap (λ z. x.retired ++ z) (retired_append xs ys) ∙ sym (append_assoc x.retired (joined_retired xs) (joined_retired ys))
+retired_append (x ∷ xs) ys = ap (λ z. x.retired ++ z) (retired_append xs ys)
+    ∙ sym (append_assoc x.retired (joined_retired xs) (joined_retired ys))
 
 -- those that were never used
-unused_places : (p first n : ℕ) → times p (map (λ (s : Spent). s.place) (map unused_spent (numbers_from first n))) ≡ times p (numbers_from first n)
+unused_places : (p first n : ℕ) → times p (map (λ (s : Spent). s.place) (map unused_spent (numbers_from first n)))
+    ≡ times p (numbers_from first n)
 unused_places p first zero = refl
 unused_places p first (suc n) = let r = unused_places p (first + 1) n in omega arith
 
@@ -91,7 +93,8 @@ spent_spares_are : (u : View) (s : ℕ) → times s (joined_spares (spent_places
 spent_spares_are u s =
     let a = spares_append s (map unused_spent (numbers_from (u.allowance.place + 1) (u.allowance.places - 1))) u.allowance.joined in
     let b = unused_spares s (u.allowance.place + 1) (u.allowance.places - 1) in
-    let c = times_append s (slot_list (spare_slot u.hands.spare)) (joined_spares (map unused_spent (numbers_from (u.allowance.place + 1) (u.allowance.places - 1)) ++ u.allowance.joined)) in
+    let c = times_append s (slot_list (spare_slot u.hands.spare))
+    (joined_spares (map unused_spent (numbers_from (u.allowance.place + 1) (u.allowance.places - 1)) ++ u.allowance.joined)) in
     let next : u.allowance.place + 1 + 1 ≡ u.allowance.place + 2 = omega arith in
     let d = ap (λ z. times s (numbers_from z (u.allowance.places - 1))) next in
     let e = ap (times s) (spare_list u.hands.spare) in
@@ -100,18 +103,25 @@ spent_spares_are u s =
 
 spent_retired_are : (u : View) → joined_retired (spent_places u) ≡ retired_of u
 spent_retired_are u = ap (λ z. u.hands.retired ++ z)
-    (retired_append (map unused_spent (numbers_from (u.allowance.place + 1) (u.allowance.places - 1))) u.allowance.joined ∙ ap (λ z. z ++ joined_retired u.allowance.joined) (unused_retired (u.allowance.place + 1) (u.allowance.places - 1)))
+    (retired_append (map unused_spent (numbers_from (u.allowance.place + 1) (u.allowance.places - 1))) u.allowance.joined
+    ∙ ap (λ z. z ++ joined_retired u.allowance.joined) (unused_retired (u.allowance.place + 1) (u.allowance.places - 1)))
 
 -- what holds of each place that a view leaves behind
-each_spent : (P : Spent → Type 0) (u : View) → P (record { place = u.allowance.place; spare = spare_slot u.hands.spare; retired = u.hands.retired }) → ((p : ℕ) → P (unused_spent p)) → Each u.allowance.joined P → Each (spent_places u) P
-each_spent P u own unused joined zero a e = subst P (some-injective (record { place = u.allowance.place; spare = spare_slot u.hands.spare; retired = u.hands.retired }) a e) own
-each_spent P u own unused joined (suc n) a e = each_append P (map unused_spent (numbers_from (u.allowance.place + 1) (u.allowance.places - 1))) u.allowance.joined (unused_each P (u.allowance.place + 1) (u.allowance.places - 1) unused) joined n a e
+each_spent : (P : Spent → Type 0) (u : View) → P
+    (record { place = u.allowance.place; spare = spare_slot u.hands.spare; retired = u.hands.retired }) → ((p : ℕ) → P (unused_spent p))
+    → Each u.allowance.joined P → Each (spent_places u) P
+each_spent P u own unused joined zero a e = subst P
+    (some-injective (record { place = u.allowance.place; spare = spare_slot u.hands.spare; retired = u.hands.retired }) a e) own
+each_spent P u own unused joined (suc n) a e =
+    each_append P (map unused_spent (numbers_from (u.allowance.place + 1) (u.allowance.places - 1))) u.allowance.joined
+    (unused_each P (u.allowance.place + 1) (u.allowance.places - 1) unused) joined n a e
 
 no_spare : (o : Option Held) → spare_slot o ≡ None → o ≡ None
 no_spare None none = refl
 no_spare (Some held) none = absurd (let q : Some held.slot ≡ None = none in cc)
 
-module _ (k : Shape) (m : Memory) (vs : List View) (h : List Mark) (i : HoldsNow k m vs h) (id : ℕ) (v : View) (there : get_elem? vs id ≡ some v) (j : ℕ) (other : View) (there_other : get_elem? vs j ≡ some other) (two : id ≢ j)
+module _ (k : Shape) (m : Memory) (vs : List View) (h : List Mark) (i : HoldsNow k m vs h) (id : ℕ) (v : View)
+    (there : get_elem? vs id ≡ some v) (j : ℕ) (other : View) (there_other : get_elem? vs j ≡ some other) (two : id ≢ j)
     (works : Works v) (works_other : Works other) (needs : NeedsJoin v other) where
   abbrev both : View
   both = both_of v other
@@ -137,13 +147,15 @@ module _ (k : Shape) (m : Memory) (vs : List View) (h : List Mark) (i : HoldsNow
   back : (n : ℕ) (u : View) → get_elem? us n ≡ some u → (get_elem? vs n ≡ some u) ⊎ ((u ≡ both) ⊎ (u ≡ spent_view))
   back n u e =
       ⊎_elim (λ (x : (n ≡ j) × (spent_view ≡ u)). inr (inr (sym x.1)))
-      (λ (x : (n ≢ j) × (get_elem? (set vs id both) n ≡ some u)). ⊎_elim (λ (y : (n ≡ id) × (both ≡ u)). inr (inl (sym y.1))) (λ (y : (n ≢ id) × (get_elem? vs n ≡ some u)). inl y.1) (at_set vs id n both u x.1))
+      (λ (x : (n ≢ j) × (get_elem? (set vs id both) n ≡ some u)). ⊎_elim (λ (y : (n ≡ id) × (both ≡ u)). inr (inl (sym y.1)))
+      (λ (y : (n ≢ id) × (get_elem? vs n ≡ some u)). inl y.1) (at_set vs id n both u x.1))
       (at_set (set vs id both) j n spent_view u e)
 
   forth : (n : ℕ) (u : View) → get_elem? vs n ≡ some u → (get_elem? us n ≡ some u) ⊎ IsIdle u
   forth n u e =
       dite (ℕ_discrete n id) (λ here. inr (subst IsIdle (view_here n u here e) (idle_quiet v needs.first)))
-      (λ not_id. dite (ℕ_discrete n j) (λ here. inr (subst IsIdle (other_here n u here e) (idle_quiet other needs.second))) (λ not_j. inl (else_there n u not_id not_j e)))
+      (λ not_id. dite (ℕ_discrete n j) (λ here. inr (subst IsIdle (other_here n u here e) (idle_quiet other needs.second)))
+      (λ not_j. inl (else_there n u not_id not_j e)))
 
   sum : (f : View → ℕ) → total f us + (f v + f other) ≡ total f vs + (f both + f spent_view)
   sum f =
@@ -169,7 +181,9 @@ module _ (k : Shape) (m : Memory) (vs : List View) (h : List Mark) (i : HoldsNow
       omega arith
 
   retired_two : retired_of both ≡ retired_of v ++ retired_of other
-  retired_two = ap (λ z. v.hands.retired ++ z) (retired_append v.allowance.joined (spent_places other) ∙ ap (λ z. joined_retired v.allowance.joined ++ z) (spent_retired_are other)) ∙ sym (append_assoc v.hands.retired (joined_retired v.allowance.joined) (retired_of other))
+  retired_two = ap (λ z. v.hands.retired ++ z) (retired_append v.allowance.joined (spent_places other)
+      ∙ ap (λ z. joined_retired v.allowance.joined ++ z) (spent_retired_are other))
+      ∙ sym (append_assoc v.hands.retired (joined_retired v.allowance.joined) (retired_of other))
 
   slots_two : (s : ℕ) → times s (slots_of both) ≡ times s (slots_of v) + times s (slots_of other)
   slots_two s =
@@ -193,14 +207,18 @@ module _ (k : Shape) (m : Memory) (vs : List View) (h : List Mark) (i : HoldsNow
   sums =
       let q = needs.second in
       record {
-        places = λ p. (let a = sum (λ (u : View). times p (places_of u)) in let b = places_two p in let c : times p (places_of spent_view) ≡ 0 = refl in omega arith);
-        slots = λ s. (let a = sum (λ (u : View). times s (slots_of u)) in let b = slots_two s in let c : times s (slots_of spent_view) ≡ 0 = refl in omega arith);
-        inside = λ c side. (let a = sum (λ (u : View). inside_count c side u.section) in let b : inside_count c side other.section ≡ 0 = ap (inside_count c side) q.section in omega arith);
+        places = λ p. (let a = sum (λ (u : View). times p (places_of u)) in let b = places_two p in
+            let c : times p (places_of spent_view) ≡ 0 = refl in omega arith);
+        slots = λ s. (let a = sum (λ (u : View). times s (slots_of u)) in let b = slots_two s in
+            let c : times s (slots_of spent_view) ≡ 0 = refl in omega arith);
+        inside = λ c side. (let a = sum (λ (u : View). inside_count c side u.section) in
+            let b : inside_count c side other.section ≡ 0 = ap (inside_count c side) q.section in omega arith);
         tickets = (let a = sum (λ (u : View). u.allowance.tickets) in omega arith);
         reserved = (let a = sum (λ (u : View). flag u.hands.reserved) in let b = ap flag q.reserved in omega arith);
         owes = (let a = sum (λ (u : View). flag u.hands.owes) in let b = ap flag q.owes in omega arith);
         unraised = (let a = sum unraised_of in let b = unraised_two in let c : unraised_of spent_view ≡ 0 = refl in omega arith);
-        emptied = (let a = sum (λ (u : View). emptied_among u.locks) in let b : emptied_among other.locks ≡ 0 = ap emptied_among q.locks in omega arith);
+        emptied = (let a = sum (λ (u : View). emptied_among u.locks) in let b : emptied_among other.locks ≡ 0 = ap emptied_among q.locks in
+            omega arith);
         pending = (let a = sum (λ (u : View). has u.moving) in let b : has other.moving ≡ 0 = ap has q.moving in omega arith);
         turns = (let a = sum (λ (u : View). u.counts.turns + turns_to_come u.wait) in omega arith);
       }
@@ -213,9 +231,11 @@ module _ (k : Shape) (m : Memory) (vs : List View) (h : List Mark) (i : HoldsNow
         one = f.one;
         few = f.few;
         room = f.room;
-        joined = each_append (λ (s : Spent). length s.retired ≤ 16) v.allowance.joined (spent_places other) f.joined (each_spent (λ (s : Spent). length s.retired ≤ 16) other g.few (λ p. omega arith) g.joined);
+        joined = each_append (λ (s : Spent). length s.retired ≤ 16) v.allowance.joined (spent_places other) f.joined
+            (each_spent (λ (s : Spent). length s.retired ≤ 16) other g.few (λ p. omega arith) g.joined);
         joined_spare = each_append HasSpareToCome v.allowance.joined (spent_places other) f.joined_spare
-            (each_spent HasSpareToCome other (λ none. g.next_spare works_other (no_spare other.hands.spare none)) (λ p none. absurd (let q : Some (p + 1) ≡ None = none in cc)) g.joined_spare);
+            (each_spent HasSpareToCome other (λ none. g.next_spare works_other (no_spare other.hands.spare none))
+            (λ p none. absurd (let q : Some (p + 1) ≡ None = none in cc)) g.joined_spare);
         next_spare = f.next_spare;
       }
 
@@ -227,7 +247,8 @@ module _ (k : Shape) (m : Memory) (vs : List View) (h : List Mark) (i : HoldsNow
         hand = g.hand;
         spare = g.spare;
         copy = g.copy;
-        spares = λ s some_time. dite (dec_le 1 (times s (spares_of v))) (λ mine. g.spares s mine) (λ not_mine. o.spares s (let a = spares_two s in omega arith));
+        spares = λ s some_time. dite (dec_le 1 (times s (spares_of v))) (λ mine. g.spares s mine)
+            (λ not_mine. o.spares s (let a = spares_two s in omega arith));
       }
 
   hands_spent : AreHandsKnown m spent_view
@@ -239,20 +260,51 @@ module _ (k : Shape) (m : Memory) (vs : List View) (h : List Mark) (i : HoldsNow
   }
 
   few_spent : HasFewSlots spent_view
-  few_spent = record { one = λ e. refl; few = omega arith; room = λ move none. absurd (let q : None ≡ Some move = none in cc); joined = λ n a e. absurd (some-ne-none a (sym e)); joined_spare = λ n a e. absurd (some-ne-none a (sym e)); next_spare = λ has_place none. absurd (omega arith) }
+  few_spent = record {
+    one = λ e. refl;
+    few = omega arith;
+    room = λ move none. absurd (let q : None ≡ Some move = none in cc);
+    joined = λ n a e. absurd (some-ne-none a (sym e));
+    joined_spare = λ n a e. absurd (some-ne-none a (sym e));
+    next_spare = λ has_place none. absurd (omega arith);
+  }
 
   retired_both : Each (retired_of both) (IsRetired m h)
-  retired_both = subst (λ rs. Each rs (IsRetired m h)) (sym retired_two) (each_append (IsRetired m h) (retired_of v) (retired_of other) (i.slots.retired id v there) (i.slots.retired j other there_other))
+  retired_both = subst (λ rs. Each rs (IsRetired m h)) (sym retired_two)
+      (each_append (IsRetired m h) (retired_of v) (retired_of other) (i.slots.retired id v there) (i.slots.retired j other there_other))
 
   unlinked : (s : ℕ) → IsRetiredOf vs s → IsRetiredOf us s
   unlinked s r =
       dite (ℕ_discrete r.id id)
-      (λ here. let mine : IsIn (retired_of v) r.retired = subst (λ (u : View). IsIn (retired_of u) r.retired) (sym (view_here r.id r.view here r.there)) r.has in
-      record { id = id; view = both; retired = r.retired; there = both_there; has = subst (λ rs. IsIn rs r.retired) (sym retired_two) (in_first (retired_of v) (retired_of other) r.retired mine); slot = r.slot })
+      (λ here. let mine : IsIn (retired_of v) r.retired =
+      subst (λ (u : View). IsIn (retired_of u) r.retired) (sym (view_here r.id r.view here r.there)) r.has in
+      record {
+        id = id;
+        view = both;
+        retired = r.retired;
+        there = both_there;
+        has = subst (λ rs. IsIn rs r.retired) (sym retired_two) (in_first (retired_of v) (retired_of other) r.retired mine);
+        slot = r.slot;
+      })
       (λ not_id. dite (ℕ_discrete r.id j)
-      (λ here. let theirs : IsIn (retired_of other) r.retired = subst (λ (u : View). IsIn (retired_of u) r.retired) (sym (other_here r.id r.view here r.there)) r.has in
-      record { id = id; view = both; retired = r.retired; there = both_there; has = subst (λ rs. IsIn rs r.retired) (sym retired_two) (in_second (retired_of v) (retired_of other) r.retired theirs); slot = r.slot })
-      (λ not_j. record { id = r.id; view = r.view; retired = r.retired; there = else_there r.id r.view not_id not_j r.there; has = r.has; slot = r.slot }))
+      (λ here. let theirs : IsIn (retired_of other) r.retired =
+      subst (λ (u : View). IsIn (retired_of u) r.retired) (sym (other_here r.id r.view here r.there)) r.has in
+      record {
+        id = id;
+        view = both;
+        retired = r.retired;
+        there = both_there;
+        has = subst (λ rs. IsIn rs r.retired) (sym retired_two) (in_second (retired_of v) (retired_of other) r.retired theirs);
+        slot = r.slot;
+      })
+      (λ not_j. record {
+        id = r.id;
+        view = r.view;
+        retired = r.retired;
+        there = else_there r.id r.view not_id not_j r.there;
+        has = r.has;
+        slot = r.slot;
+      }))
 
   -- the one has seen what each of the two has
   mine_seen : IsPrefix v.seen h
@@ -288,14 +340,16 @@ module _ (k : Shape) (m : Memory) (vs : List View) (h : List Mark) (i : HoldsNow
       record {
         met = λ p some_time. dite (dec_le 1 (times p (places_of v)))
             (λ has_mine. let met = mine.met p has_mine in own_of-between p v.seen both.seen h longer_mine both_seen met ∙ met)
-            (λ not_mine. let met = theirs.met p (let a = places_two p in omega arith) in own_of-between p other.seen both.seen h longer_theirs both_seen met ∙ met);
+            (λ not_mine. let met = theirs.met p (let a = places_two p in omega arith) in
+            own_of-between p other.seen both.seen h longer_theirs both_seen met ∙ met);
         unused = mine.unused;
         joined = met_both;
       }
     where
       met_of : (u : View) → IsOwned h u → IsPrefix u.seen h → IsPrefix u.seen both.seen → HasMet h (meeting_of u both.seen)
       met_of u owned begins grows =
-          let cut : take (length both.seen) h ≡ both.seen = subst (λ z. take (length both.seen) z ≡ both.seen) both_seen.1 (take-append_seam both.seen both_seen.0) in
+          let cut : take (length both.seen) h ≡ both.seen =
+          subst (λ z. take (length both.seen) z ≡ both.seen) both_seen.1 (take-append_seam both.seen both_seen.0) in
           record {
             past = (let e = ap length both_seen.1 in let n = length-append both.seen both_seen.0 in omega arith);
             begins = subst (IsPrefix u.seen) (sym cut) grows;
@@ -303,8 +357,10 @@ module _ (k : Shape) (m : Memory) (vs : List View) (h : List Mark) (i : HoldsNow
           }
 
       met_both : Each both.allowance.met (HasMet h)
-      met_both zero meeting at = subst (HasMet h) (some-injective (meeting_of v both.seen) meeting at) (met_of v (i.seats.owned id v there) mine_seen longer_mine)
-      met_both (suc zero) meeting at = subst (HasMet h) (some-injective (meeting_of other both.seen) meeting at) (met_of other (i.seats.owned j other there_other) theirs_seen longer_theirs)
+      met_both zero meeting at = subst (HasMet h) (some-injective (meeting_of v both.seen) meeting at)
+          (met_of v (i.seats.owned id v there) mine_seen longer_mine)
+      met_both (suc zero) meeting at = subst (HasMet h) (some-injective (meeting_of other both.seen) meeting at)
+          (met_of other (i.seats.owned j other there_other) theirs_seen longer_theirs)
       met_both (suc (suc n)) meeting at = absurd (some-ne-none meeting (sym at))
 
   owned_spent : IsOwned h spent_view
@@ -319,11 +375,21 @@ module _ (k : Shape) (m : Memory) (vs : List View) (h : List Mark) (i : HoldsNow
 
   joined_both : Each both.allowance.joined (λ (s : Spent). Each s.retired (IsWaitedRetired vs h s.place))
   joined_both =
-      each_append (λ (s : Spent). Each s.retired (IsWaitedRetired vs h s.place)) v.allowance.joined (spent_places other) (i.grace.joined id v there)
-      (each_spent (λ (s : Spent). Each s.retired (IsWaitedRetired vs h s.place)) other (i.grace.retired j other there_other) (λ p n a e. absurd (some-ne-none a (sym e))) (i.grace.joined j other there_other))
+      each_append (λ (s : Spent). Each s.retired (IsWaitedRetired vs h s.place)) v.allowance.joined (spent_places other)
+      (i.grace.joined id v there)
+      (each_spent (λ (s : Spent). Each s.retired (IsWaitedRetired vs h s.place)) other (i.grace.retired j other there_other)
+      (λ p n a e. absurd (some-ne-none a (sym e))) (i.grace.joined j other there_other))
 
   regroups : Regroups vs us id v both spent_view
-  regroups = record { there = there; rest = refl; bare = refl; idle_v = idle_quiet v needs.first; idle_a = idle_quiet v needs.first; back = back; forth = forth }
+  regroups = record {
+    there = there;
+    rest = refl;
+    bare = refl;
+    idle_v = idle_quiet v needs.first;
+    idle_a = idle_quiet v needs.first;
+    back = back;
+    forth = forth;
+  }
 
   join_law : HoldsNow k m us h
   join_law = regroup_law vs us id v both spent_view regroups k m h (record {
@@ -348,4 +414,5 @@ module _ (k : Shape) (m : Memory) (vs : List View) (h : List Mark) (i : HoldsNow
   }) i
 
 pub join_keeps : JoinKeeps
-join_keeps k m vs h id other_id v other i there there_other two works works_other needs = join_law k m vs h i id v there other_id other there_other two works works_other needs
+join_keeps k m vs h id other_id v other i there there_other two works works_other needs =
+    join_law k m vs h i id v there other_id other there_other two works works_other needs

@@ -89,14 +89,16 @@ has_done u = record { is_doing = doing u; left = record (remains u) { place = 0 
 pub record SameSums (vs us : List View) : Type 0 where
   pub places : (p : ℕ) → total (λ (u : View). times p (places_of u)) us ≡ total (λ (u : View). times p (places_of u)) vs
   pub slots : (s : ℕ) → total (λ (u : View). times s (slots_of u)) us ≡ total (λ (u : View). times s (slots_of u)) vs
-  pub inside : (c side : ℕ) → total (λ (u : View). inside_count c side u.section) us ≡ total (λ (u : View). inside_count c side u.section) vs
+  pub inside : (c side : ℕ) → total (λ (u : View). inside_count c side u.section) us
+      ≡ total (λ (u : View). inside_count c side u.section) vs
   pub tickets : total (λ (u : View). u.allowance.tickets) us ≡ total (λ (u : View). u.allowance.tickets) vs
   pub reserved : total (λ (u : View). flag u.hands.reserved) us ≡ total (λ (u : View). flag u.hands.reserved) vs
   pub owes : total (λ (u : View). flag u.hands.owes) us ≡ total (λ (u : View). flag u.hands.owes) vs
   pub unraised : total unraised_of us ≡ total unraised_of vs
   pub emptied : total (λ (u : View). emptied_among u.locks) us ≡ total (λ (u : View). emptied_among u.locks) vs
   pub pending : total (λ (u : View). has u.moving) us ≡ total (λ (u : View). has u.moving) vs
-  pub turns : total (λ (u : View). u.counts.turns + turns_to_come u.wait) us ≤ total (λ (u : View). u.counts.turns + turns_to_come u.wait) vs
+  pub turns : total (λ (u : View). u.counts.turns + turns_to_come u.wait) us
+      ≤ total (λ (u : View). u.counts.turns + turns_to_come u.wait) vs
 
 idle_section : (u : View) (section : Section) → u.section ≡ Some section → IsIdle u → ⊥
 idle_section u section is idle = absurd (let q : None ≡ Some section = (λ n. (sym idle n).section) ∙ is in cc)
@@ -150,7 +152,8 @@ module _ (vs us : List View) (id : ℕ) (v a b : View) (r : Regroups vs us id v 
 
   -- a view that does something is an old one, and stays
   busy_back : (j : ℕ) (u : View) → get_elem? us j ≡ some u → (IsIdle u → ⊥) → get_elem? vs j ≡ some u
-  busy_back j u e busy = ⊎_elim (λ (at : get_elem? vs j ≡ some u). at) (λ (n : (u ≡ a) ⊎ (u ≡ b)). absurd (busy (idle_new u n))) (r.back j u e)
+  busy_back j u e busy = ⊎_elim (λ (at : get_elem? vs j ≡ some u). at) (λ (n : (u ≡ a) ⊎ (u ≡ b)). absurd (busy (idle_new u n)))
+      (r.back j u e)
 
   busy_forth : (j : ℕ) (u : View) → get_elem? vs j ≡ some u → (IsIdle u → ⊥) → get_elem? us j ≡ some u
   busy_forth j u e busy = ⊎_elim (λ (at : get_elem? us j ≡ some u). at) (λ (idle : IsIdle u). absurd (busy idle)) (r.forth j u e)
@@ -159,13 +162,30 @@ module _ (vs us : List View) (id : ℕ) (v a b : View) (r : Regroups vs us id v 
   inside_back j u section e is = busy_back j u e (idle_section u section is)
 
   pending_forth : (move : Move) → IsPending vs move → IsPending us move
-  pending_forth move p = record { id = p.id; view = p.view; there = busy_forth p.id p.view p.there (idle_move p.view move p.moving); moving = p.moving }
+  pending_forth move p = record {
+    id = p.id;
+    view = p.view;
+    there = busy_forth p.id p.view p.there (idle_move p.view move p.moving);
+    moving = p.moving;
+  }
 
   holder_forth : (s : ℕ) (lock : HeldLock) → IsHolderOf vs s lock → IsHolderOf us s lock
-  holder_forth s lock i = record { id = i.id; view = i.view; there = busy_forth i.id i.view i.there (idle_lock i.view s lock i.holds); holds = i.holds }
+  holder_forth s lock i = record {
+    id = i.id;
+    view = i.view;
+    there = busy_forth i.id i.view i.there (idle_lock i.view s lock i.holds);
+    holds = i.holds;
+  }
 
   emptied_forth : (s : ℕ) (b : Side) → IsEmptied vs s b → IsEmptied us s b
-  emptied_forth s b i = record { id = i.id; view = i.view; lock = i.lock; there = busy_forth i.id i.view i.there (idle_lock i.view s i.lock i.holds); holds = i.holds; emptied = i.emptied }
+  emptied_forth s b i = record {
+    id = i.id;
+    view = i.view;
+    lock = i.lock;
+    there = busy_forth i.id i.view i.there (idle_lock i.view s i.lock i.holds);
+    holds = i.holds;
+    emptied = i.emptied;
+  }
 
   sections : a.section ≡ v.section
   sections = (λ n. (r.idle_a n).section) ∙ (λ n. (sym r.idle_v n).section)
@@ -182,18 +202,25 @@ module _ (vs us : List View) (id : ℕ) (v a b : View) (r : Regroups vs us id v 
   locks_regroup : (m : Memory) (n : ℕ) (g : Chart) → LockParts m n g vs → LockParts m n g us
   locks_regroup m n g t = record {
     locked = record {
-      held = each_regroup (λ (u : View). (s : ℕ) (lock : HeldLock) → lock_of u.locks s ≡ Some lock → (m (Lock s) ≡ u.allowance.place + 1) × (s < n)) (λ (u : View). (s : ℕ) (lock : HeldLock) → lock_of u.locks s ≡ Some lock → (m (Lock s) ≡ u.allowance.place + 1) × (s < n))
-          (λ u i. i) (λ i s lock e. absurd (idle_lock a s lock e r.idle_a)) (λ s lock e. absurd (idle_lock b s lock e idle_b)) t.locked.held;
+      held = each_regroup (λ (u : View). (s : ℕ) (lock : HeldLock) → lock_of u.locks s ≡ Some lock
+          → (m (Lock s) ≡ u.allowance.place + 1) × (s < n))
+          (λ (u : View). (s : ℕ) (lock : HeldLock) → lock_of u.locks s ≡ Some lock → (m (Lock s) ≡ u.allowance.place + 1) × (s < n))
+          (λ u i. i) (λ i s lock e. absurd (idle_lock a s lock e r.idle_a))
+          (λ s lock e. absurd (idle_lock b s lock e idle_b)) t.locked.held;
       named = λ s lt ne. (let x = t.locked.named s lt ne in (x.0, holder_forth s x.0 x.1));
     };
     few = each_regroup HasFewLocks HasFewLocks (λ u i. i) (λ i. idle_few a r.idle_a) (idle_few b idle_b) t.few;
-    kept = each_regroup (λ (u : View). (s : ℕ) (lock : HeldLock) → lock_of u.locks s ≡ Some lock → IsLockKept m g u s lock) (λ (u : View). (s : ℕ) (lock : HeldLock) → lock_of u.locks s ≡ Some lock → IsLockKept m g u s lock)
+    kept = each_regroup (λ (u : View). (s : ℕ) (lock : HeldLock) → lock_of u.locks s ≡ Some lock → IsLockKept m g u s lock)
+        (λ (u : View). (s : ℕ) (lock : HeldLock) → lock_of u.locks s ≡ Some lock → IsLockKept m g u s lock)
         (λ u i. i) (λ i s lock e. absurd (idle_lock a s lock e r.idle_a)) (λ s lock e. absurd (idle_lock b s lock e idle_b)) t.kept;
     marked = λ s l o. (let x = t.marked s l o in (x.0, holder_forth s x.0 x.1, x.2));
-    known = each_regroup (λ (u : View). (s : ℕ) (lock : HeldLock) → lock_of u.locks s ≡ Some lock → IsLockKnown m u s lock) (λ (u : View). (s : ℕ) (lock : HeldLock) → lock_of u.locks s ≡ Some lock → IsLockKnown m u s lock)
+    known = each_regroup (λ (u : View). (s : ℕ) (lock : HeldLock) → lock_of u.locks s ≡ Some lock → IsLockKnown m u s lock)
+        (λ (u : View). (s : ℕ) (lock : HeldLock) → lock_of u.locks s ≡ Some lock → IsLockKnown m u s lock)
         (λ u i. i) (λ i s lock e. absurd (idle_lock a s lock e r.idle_a)) (λ s lock e. absurd (idle_lock b s lock e idle_b)) t.known;
-    readings = each_regroup (λ (u : View). Each (readings_of u) (IsReadingKept m g)) (λ (u : View). Each (readings_of u) (IsReadingKept m g))
-        (λ u i. i) (λ i. subst (λ rs. Each rs (IsReadingKept m g)) (sym readings_a) i) (each_empty (IsReadingKept m g) (readings_of b) readings_b) t.readings;
+    readings = each_regroup (λ (u : View). Each (readings_of u) (IsReadingKept m g))
+        (λ (u : View). Each (readings_of u) (IsReadingKept m g))
+        (λ u i. i) (λ i. subst (λ rs. Each rs (IsReadingKept m g)) (sym readings_a) i)
+        (each_empty (IsReadingKept m g) (readings_of b) readings_b) t.readings;
   }
 
   moves_regroup : SameMoves vs us
@@ -204,7 +231,8 @@ module _ (vs us : List View) (id : ℕ) (v a b : View) (r : Regroups vs us id v 
 
   tree_regroup : (m : Memory) (n : ℕ) (g : Chart) (h : List Mark) → TreeParts m n g vs h → TreeParts m n g us h
   tree_regroup m n g h t = tree_by m m n g vs us h h (same_slots m).nodes (quiet_same h) moves_regroup
-      (each_regroup (λ (u : View). (move : Move) → u.moving ≡ Some move → IsMoving m g h u move) (λ (u : View). (move : Move) → u.moving ≡ Some move → IsMoving m g h u move)
+      (each_regroup (λ (u : View). (move : Move) → u.moving ≡ Some move → IsMoving m g h u move)
+      (λ (u : View). (move : Move) → u.moving ≡ Some move → IsMoving m g h u move)
       (λ u i. i) (λ i move is. absurd (idle_move a move is r.idle_a)) (λ move is. absurd (idle_move b move is idle_b)) t.moves.each) t
 
   module _ (m : Memory) (g : Chart) (h : List Mark) where
@@ -213,14 +241,20 @@ module _ (vs us : List View) (id : ℕ) (v a b : View) (r : Regroups vs us id v 
 
     readers_regroup : ReaderParts m g vs h → ReaderParts m g us h
     readers_regroup t = record {
-      readings = each_regroup (λ (u : View). Each (readings_of u) IsReading) (λ (u : View). Each (readings_of u) IsReading) (λ u i. i) (λ i. subst (λ rs. Each rs IsReading) (sym readings_a) i) (each_empty IsReading (readings_of b) readings_b) t.readings;
-      served = each_regroup (λ (u : View). (section : Section) → u.section ≡ Some section → IsServed m g h vs section) (λ (u : View). (section : Section) → u.section ≡ Some section → IsServed m g h us section)
-          (λ u i section is. served_by m m (same_slots m).nodes g vs us h h (quiet_same h) see section (i section is)) (λ i section is. absurd (idle_section a section is r.idle_a)) (λ section is. absurd (idle_section b section is idle_b)) t.served;
+      readings = each_regroup (λ (u : View). Each (readings_of u) IsReading) (λ (u : View). Each (readings_of u) IsReading) (λ u i. i)
+          (λ i. subst (λ rs. Each rs IsReading) (sym readings_a) i) (each_empty IsReading (readings_of b) readings_b) t.readings;
+      served = each_regroup (λ (u : View). (section : Section) → u.section ≡ Some section → IsServed m g h vs section)
+          (λ (u : View). (section : Section) → u.section ≡ Some section → IsServed m g h us section)
+          (λ u i section is. served_by m m (same_slots m).nodes g vs us h h (quiet_same h) see section (i section is))
+          (λ i section is. absurd (idle_section a section is r.idle_a))
+          (λ section is. absurd (idle_section b section is idle_b)) t.served;
       records = each_regroup (λ (u : View). Each u.records (IsRecord m g vs)) (λ (u : View). Each u.records (IsRecord m g us))
           (λ u i j x e. record_by m m (same_slots m).nodes g vs us h h (quiet_same h) see x (i j x e))
-          (λ i. subst (λ (z : Remains). Each z.records (IsRecord m g us)) (sym r.rest) (λ j x e. record_by m m (same_slots m).nodes g vs us h h (quiet_same h) see x (i j x e)))
+          (λ i. subst (λ (z : Remains). Each z.records (IsRecord m g us)) (sym r.rest)
+          (λ j x e. record_by m m (same_slots m).nodes g vs us h h (quiet_same h) see x (i j x e)))
           (each_empty (IsRecord m g us) b.records (λ n. (r.bare n).left.records)) t.records;
-      ages = λ s at c side gone met link ne. t.ages s at c side gone (met.0, met.1, met.2, inside_back met.0 met.1 met.2 met.3 met.4, met.4, met.5) link ne;
+      ages = λ s at c side gone met link ne. t.ages s at c side gone
+          (met.0, met.1, met.2, inside_back met.0 met.1 met.2 met.3 met.4, met.4, met.5) link ne;
     }
 
     odd_regroup : (n : ℕ) → IsOddBy m vs n → IsTurned m us n
@@ -232,47 +266,71 @@ module _ (vs us : List View) (id : ℕ) (v a b : View) (r : Regroups vs us id v 
       has = i.has;
       word = i.word;
       updates = i.updates;
-      alone = λ j u other e. ⊎_elim (λ (at : get_elem? vs j ≡ some u). i.alone j u other at) (λ (x : (u ≡ a) ⊎ (u ≡ b)). (λ n. (idle_new u x n).commit)) (r.back j u e);
+      alone = λ j u other e. ⊎_elim (λ (at : get_elem? vs j ≡ some u). i.alone j u other at)
+          (λ (x : (u ≡ a) ⊎ (u ≡ b)). (λ n. (idle_new u x n).commit)) (r.back j u e);
     })
 
     front_regroup : FrontParts m vs h → FrontParts m us h
     front_regroup t = record {
       turned = ⊎_elim
-          (λ (i : (m Front ≡ 2 * length (updates_of h)) × Each vs (λ (u : View). u.commit ≡ None)). inl (i.0, each_regroup (λ (u : View). u.commit ≡ None) (λ (u : View). u.commit ≡ None) (λ u e. e) (λ e. (λ n. (r.idle_a n).commit)) (λ n. (idle_b n).commit) i.1))
+          (λ (i : (m Front ≡ 2 * length (updates_of h)) × Each vs (λ (u : View). u.commit ≡ None)). inl (
+            i.0,
+            each_regroup (λ (u : View). u.commit ≡ None) (λ (u : View). u.commit ≡ None) (λ u e. e)
+                (λ e. (λ n. (r.idle_a n).commit)) (λ n. (idle_b n).commit) i.1,
+          ))
           (odd_regroup (length (updates_of h))) t.turned;
-      settled = each_regroup (λ (u : View). (x : Commit) → u.commit ≡ Some x → x.stored ≡ false → u.moving ≡ None) (λ (u : View). (x : Commit) → u.commit ≡ Some x → x.stored ≡ false → u.moving ≡ None)
+      settled = each_regroup (λ (u : View). (x : Commit) → u.commit ≡ Some x → x.stored ≡ false → u.moving ≡ None)
+          (λ (u : View). (x : Commit) → u.commit ≡ Some x → x.stored ≡ false → u.moving ≡ None)
           (λ u i. i) (λ i x is unmade. (λ n. (r.idle_a n).moving)) (λ x is unmade. (λ n. (idle_b n).moving)) t.settled;
       legal = t.legal;
     }
 
     listings_regroup : ListingParts m g vs h → ListingParts m g us h
     listings_regroup t = record {
-      listings = each_regroup (λ (u : View). (section : Section) (listing : Listing) → u.section ≡ Some section → section.listing ≡ Some listing → IsListing m g h section listing) (λ (u : View). (section : Section) (listing : Listing) → u.section ≡ Some section → section.listing ≡ Some listing → IsListing m g h section listing)
-          (λ u i. i) (λ i section listing is. absurd (idle_section a section is r.idle_a)) (λ section listing is. absurd (idle_section b section is idle_b)) t.listings;
+      listings = each_regroup (λ (u : View). (section : Section) (listing : Listing) → u.section ≡ Some section
+          → section.listing ≡ Some listing → IsListing m g h section listing)
+          (λ (u : View). (section : Section) (listing : Listing) → u.section ≡ Some section → section.listing ≡ Some listing
+          → IsListing m g h section listing)
+          (λ u i. i) (λ i section listing is. absurd (idle_section a section is r.idle_a))
+          (λ section listing is. absurd (idle_section b section is idle_b)) t.listings;
     }
 
     stays : (p : ℕ) → StaysNoted vs us h h p
-    stays p = record { grow = λ after low high x. x; shrink = λ after low high x. x; clear = λ after low high small. clear_forth after low high }
+    stays p = record {
+      grow = λ after low high x. x;
+      shrink = λ after low high x. x;
+      clear = λ after low high small. clear_forth after low high;
+    }
 
-    spent_regroup : (ss : List Spent) → Each ss (λ (s : Spent). Each s.retired (IsWaitedRetired vs h s.place)) → Each ss (λ (s : Spent). Each s.retired (IsWaitedRetired us h s.place))
+    spent_regroup : (ss : List Spent) → Each ss (λ (s : Spent). Each s.retired (IsWaitedRetired vs h s.place))
+        → Each ss (λ (s : Spent). Each s.retired (IsWaitedRetired us h s.place))
     spent_regroup ss all n s e j x f = retired_stays vs us h h s.place (stays s.place) x (all n s e j x f)
 
-    grace_regroup : Each a.allowance.joined (λ (s : Spent). Each s.retired (IsWaitedRetired vs h s.place)) → GraceParts vs h → GraceParts us h
+    grace_regroup : Each a.allowance.joined (λ (s : Spent). Each s.retired (IsWaitedRetired vs h s.place)) → GraceParts vs h
+        → GraceParts us h
     grace_regroup joined t = record {
       grace = t.grace;
       reuse = t.reuse;
       clean = λ s at gone last. clear_forth at 0 greatest_key (t.clean s at gone last);
-      retired = each_regroup (λ (u : View). Each u.hands.retired (IsWaitedRetired vs h u.allowance.place)) (λ (u : View). Each u.hands.retired (IsWaitedRetired us h u.allowance.place))
+      retired = each_regroup (λ (u : View). Each u.hands.retired (IsWaitedRetired vs h u.allowance.place))
+          (λ (u : View). Each u.hands.retired (IsWaitedRetired us h u.allowance.place))
           (λ u i j x e. retired_stays vs us h h u.allowance.place (stays u.allowance.place) x (i j x e))
-          (λ i. subst (λ (z : Remains). Each z.retired (IsWaitedRetired us h z.place)) (sym r.rest) (λ j x e. retired_stays vs us h h v.allowance.place (stays v.allowance.place) x (i j x e)))
+          (λ i. subst (λ (z : Remains). Each z.retired (IsWaitedRetired us h z.place)) (sym r.rest)
+          (λ j x e. retired_stays vs us h h v.allowance.place (stays v.allowance.place) x (i j x e)))
           (each_empty (IsWaitedRetired us h b.allowance.place) b.hands.retired (λ n. (r.bare n).left.retired)) t.retired;
-      joined = each_regroup (λ (u : View). Each u.allowance.joined (λ (s : Spent). Each s.retired (IsWaitedRetired vs h s.place))) (λ (u : View). Each u.allowance.joined (λ (s : Spent). Each s.retired (IsWaitedRetired us h s.place)))
-          (λ u i. spent_regroup u.allowance.joined i) (λ i. spent_regroup a.allowance.joined joined) (each_empty (λ (s : Spent). Each s.retired (IsWaitedRetired us h s.place)) b.allowance.joined (λ n. (r.bare n).joined)) t.joined;
-      moves = each_regroup (λ (u : View). (move : Move) → u.moving ≡ Some move → IsWaitedMove vs h u.allowance.place move) (λ (u : View). (move : Move) → u.moving ≡ Some move → IsWaitedMove us h u.allowance.place move)
-          (λ u i move is. move_stays vs us h h u.allowance.place (stays u.allowance.place) move (i move is)) (λ i move is. absurd (idle_move a move is r.idle_a)) (λ move is. absurd (idle_move b move is idle_b)) t.moves;
+      joined = each_regroup (λ (u : View). Each u.allowance.joined (λ (s : Spent). Each s.retired (IsWaitedRetired vs h s.place)))
+          (λ (u : View). Each u.allowance.joined (λ (s : Spent). Each s.retired (IsWaitedRetired us h s.place)))
+          (λ u i. spent_regroup u.allowance.joined i) (λ i. spent_regroup a.allowance.joined joined)
+          (each_empty (λ (s : Spent). Each s.retired (IsWaitedRetired us h s.place)) b.allowance.joined
+          (λ n. (r.bare n).joined)) t.joined;
+      moves = each_regroup (λ (u : View). (move : Move) → u.moving ≡ Some move → IsWaitedMove vs h u.allowance.place move)
+          (λ (u : View). (move : Move) → u.moving ≡ Some move → IsWaitedMove us h u.allowance.place move)
+          (λ u i move is. move_stays vs us h h u.allowance.place (stays u.allowance.place) move (i move is))
+          (λ i move is. absurd (idle_move a move is r.idle_a)) (λ move is. absurd (idle_move b move is idle_b)) t.moves;
     }
 
-  wait_was : (j : ℕ) (u : View) (wait : Waiting) → get_elem? us j ≡ some u → u.wait ≡ Some wait → (i : ℕ) × (z : View) × (get_elem? vs i ≡ some z) × (z.wait ≡ Some wait)
+  wait_was : (j : ℕ) (u : View) (wait : Waiting) → get_elem? us j ≡ some u → u.wait ≡ Some wait
+      → (i : ℕ) × (z : View) × (get_elem? vs i ≡ some z) × (z.wait ≡ Some wait)
   wait_was j u wait e is =
       ⊎_elim (λ (at : get_elem? vs j ≡ some u). (j, u, at, is))
       (λ (n : (u ≡ a) ⊎ (u ≡ b)). ⊎_elim
@@ -284,15 +342,24 @@ module _ (vs us : List View) (id : ℕ) (v a b : View) (r : Regroups vs us id v 
   waiters_regroup k m h sums t = record {
     clock = t.clock;
     clocked = each_regroup (IsClocked k.waiter h) (IsClocked k.waiter h) (λ u i. i)
-        (λ i. record { loaded = λ clocked is. i.loaded clocked ((λ n. (sym r.rest n).enter.clock) ∙ is); stamped = λ section is. absurd (idle_section a section is r.idle_a) })
-        (record { loaded = λ clocked is. absurd (let q : None ≡ Some clocked = (λ n. (sym r.bare n).left.enter.clock) ∙ is in cc); stamped = λ section is. absurd (idle_section b section is idle_b) }) t.clocked;
-    excused = λ i j x y wait section ei waits going ej inside older holds spot. (let z = wait_was i x wait ei waits in t.excused z.0 j z.1 y wait section z.2 z.3 going (inside_back j y section ej inside) inside older holds spot);
+        (λ i. record {
+          loaded = λ clocked is. i.loaded clocked ((λ n. (sym r.rest n).enter.clock) ∙ is);
+          stamped = λ section is. absurd (idle_section a section is r.idle_a);
+        })
+        (record {
+          loaded = λ clocked is. absurd (let q : None ≡ Some clocked = (λ n. (sym r.bare n).left.enter.clock) ∙ is in cc);
+          stamped = λ section is. absurd (idle_section b section is idle_b);
+        }) t.clocked;
+    excused = λ i j x y wait section ei waits going ej inside older holds spot. (let z = wait_was i x wait ei waits in
+        t.excused z.0 j z.1 y wait section z.2 z.3 going (inside_back j y section ej inside) inside older holds spot);
     turned = λ j u e wait is. (let z = wait_was j u wait e is in t.turned z.0 z.1 z.2 wait z.3);
     eer = λ way. (let e = t.eer way in record {
       inside = λ j u at section is. e.inside j u (inside_back j u section at is) section is;
       outside = e.outside;
-      announced = each_regroup (λ (u : View). (key : ℕ) → u.enter.announced ≡ Some key → m (Announced u.allowance.place) ≡ key) (λ (u : View). (key : ℕ) → u.enter.announced ≡ Some key → m (Announced u.allowance.place) ≡ key) (λ u i. i)
-          (λ i key is. (λ n. m (Announced (r.rest n).place)) ∙ i key ((λ n. (sym r.rest n).enter.announced) ∙ is)) (λ key is. absurd (let q : None ≡ Some key = (λ n. (sym r.bare n).left.enter.announced) ∙ is in cc)) e.announced;
+      announced = each_regroup (λ (u : View). (key : ℕ) → u.enter.announced ≡ Some key → m (Announced u.allowance.place) ≡ key)
+          (λ (u : View). (key : ℕ) → u.enter.announced ≡ Some key → m (Announced u.allowance.place) ≡ key) (λ u i. i)
+          (λ i key is. (λ n. m (Announced (r.rest n).place)) ∙ i key ((λ n. (sym r.rest n).enter.announced) ∙ is))
+          (λ key is. absurd (let q : None ≡ Some key = (λ n. (sym r.bare n).left.enter.announced) ∙ is in cc)) e.announced;
     });
     domain = λ way. (let e = t.domain way in record {
       counts = λ c side small low. e.counts c side small low ∙ sym (sums.inside c side);
@@ -304,7 +371,8 @@ module _ (vs us : List View) (id : ℕ) (v a b : View) (r : Regroups vs us id v 
     });
   }
 
-  counts_regroup : (tickets : ℕ) (m : Memory) (n : ℕ) (g : Chart) (h : List Mark) → SameSums vs us → CountParts tickets m n g vs h → CountParts tickets m n g us h
+  counts_regroup : (tickets : ℕ) (m : Memory) (n : ℕ) (g : Chart) (h : List Mark) → SameSums vs us → CountParts tickets m n g vs h
+      → CountParts tickets m n g us h
   counts_regroup tickets m n g h sums t =
       let a = t.free in
       let b = t.clock in
@@ -318,9 +386,18 @@ module _ (vs us : List View) (id : ℕ) (v a b : View) (r : Regroups vs us id v 
       let emptied = sums.emptied in
       let pending = sums.pending in
       let turns = sums.turns in
-      record { free = omega arith; clock = omega arith; generations = omega arith; tags = omega arith; turns = omega arith; pairs = t.pairs; olds = t.olds ∙ sym pending }
+      record {
+        free = omega arith;
+        clock = omega arith;
+        generations = omega arith;
+        tags = omega arith;
+        turns = omega arith;
+        pairs = t.pairs;
+        olds = t.olds ∙ sym pending;
+      }
 
-  slots_regroup : (m : Memory) (n : ℕ) (g : Chart) (h : List Mark) → SameSums vs us → HasFewSlots a → HasFewSlots b → AreHandsKnown m a → AreHandsKnown m b → Each (retired_of a) (IsRetired m h)
+  slots_regroup : (m : Memory) (n : ℕ) (g : Chart) (h : List Mark) → SameSums vs us → HasFewSlots a → HasFewSlots b → AreHandsKnown m a
+      → AreHandsKnown m b → Each (retired_of a) (IsRetired m h)
       → ((s : ℕ) → IsRetiredOf vs s → IsRetiredOf us s) → SlotParts m n g vs h → SlotParts m n g us h
   slots_regroup m n g h sums few_a few_b hands_a hands_b retired_a unlinked t = record {
     roles = record {
@@ -332,29 +409,45 @@ module _ (vs us : List View) (id : ℕ) (v a b : View) (r : Regroups vs us id v 
     free = t.free;
     root = t.root;
     hands = each_regroup (AreHandsKnown m) (AreHandsKnown m) (λ u i. i) (λ i. hands_a) hands_b t.hands;
-    retired = each_regroup (λ (u : View). Each (retired_of u) (IsRetired m h)) (λ (u : View). Each (retired_of u) (IsRetired m h)) (λ u i. i) (λ i. retired_a) (each_empty (IsRetired m h) (retired_of b) retired_b) t.retired;
+    retired = each_regroup (λ (u : View). Each (retired_of u) (IsRetired m h)) (λ (u : View). Each (retired_of u) (IsRetired m h))
+        (λ u i. i) (λ i. retired_a) (each_empty (IsRetired m h) (retired_of b) retired_b) t.retired;
     unlinked = λ s p gone. unlinked s (t.unlinked s p gone);
   }
 
-  seats_regroup : (places : ℕ) (h : List Mark) → SameSums vs us → (a.allowance.places ≡ 0 → a ≡ spent_view) → (b.allowance.places ≡ 0 → b ≡ spent_view) → IsOwned h a → IsOwned h b → (Works a → IsCounted h a) → (Works b → IsCounted h b) → SeatParts places vs h → SeatParts places us h
+  seats_regroup : (places : ℕ) (h : List Mark) → SameSums vs us → (a.allowance.places ≡ 0 → a ≡ spent_view)
+      → (b.allowance.places ≡ 0 → b ≡ spent_view) → IsOwned h a → IsOwned h b → (Works a → IsCounted h a) → (Works b → IsCounted h b)
+      → SeatParts places vs h → SeatParts places us h
   seats_regroup places h sums spent_a spent_b owned_a owned_b counted_a counted_b t = record {
     placed = λ p. sums.places p ∙ t.placed p;
-    spent = each_regroup (λ (u : View). u.allowance.places ≡ 0 → u ≡ spent_view) (λ (u : View). u.allowance.places ≡ 0 → u ≡ spent_view) (λ u i. i) (λ i. spent_a) spent_b t.spent;
+    spent = each_regroup (λ (u : View). u.allowance.places ≡ 0 → u ≡ spent_view) (λ (u : View). u.allowance.places ≡ 0 → u ≡ spent_view)
+        (λ u i. i) (λ i. spent_a) spent_b t.spent;
     owned = each_regroup (IsOwned h) (IsOwned h) (λ u i. i) (λ i. owned_a) owned_b t.owned;
     within = t.within;
     sections = λ j u at section is. t.sections j u (inside_back j u section at is) section is;
-    opened = λ p o e. (let i = t.opened p o e in record { id = i.id; view = i.view; section = i.section; there = busy_forth i.id i.view i.there (idle_section i.view i.section i.inside); place = i.place; inside = i.inside; same = i.same });
-    counted = each_regroup (λ (u : View). Works u → IsCounted h u) (λ (u : View). Works u → IsCounted h u) (λ u i. i) (λ i. counted_a) counted_b t.counted;
+    opened = λ p o e. (let i = t.opened p o e in record {
+      id = i.id;
+      view = i.view;
+      section = i.section;
+      there = busy_forth i.id i.view i.there (idle_section i.view i.section i.inside);
+      place = i.place;
+      inside = i.inside;
+      same = i.same;
+    });
+    counted = each_regroup (λ (u : View). Works u → IsCounted h u) (λ (u : View). Works u → IsCounted h u) (λ u i. i)
+        (λ i. counted_a) counted_b t.counted;
   }
 
-  marks_regroup : (places : ℕ) (h : List Mark) → Works a → a.counts.waits ≡ v.counts.waits → IsPrefix a.seen h → IsPrefix b.seen h → ((j : ℕ) × (u : View) × (get_elem? us j ≡ some u) × (u.seen ≡ h)) → MarkParts places vs h → MarkParts places us h
+  marks_regroup : (places : ℕ) (h : List Mark) → Works a → a.counts.waits ≡ v.counts.waits → IsPrefix a.seen h → IsPrefix b.seen h
+      → ((j : ℕ) × (u : View) × (get_elem? us j ≡ some u) × (u.seen ≡ h)) → MarkParts places vs h → MarkParts places us h
   marks_regroup places h works_a waits seen_a seen_b longest t = record {
     seen = record {
-      begins = each_regroup (λ (u : View). IsPrefix u.seen h) (λ (u : View). IsPrefix u.seen h) (λ u i. i) (λ i. seen_a) seen_b t.seen.begins;
+      begins = each_regroup (λ (u : View). IsPrefix u.seen h) (λ (u : View). IsPrefix u.seen h) (λ u i. i)
+          (λ i. seen_a) seen_b t.seen.begins;
       longest = longest;
     };
     marks = t.marks;
-    waits = each_regroup (λ (u : View). (wait : Waiting) → u.wait ≡ Some wait → WaitStands h u wait) (λ (u : View). (wait : Waiting) → u.wait ≡ Some wait → WaitStands h u wait) (λ u i. i)
+    waits = each_regroup (λ (u : View). (wait : Waiting) → u.wait ≡ Some wait → WaitStands h u wait)
+        (λ (u : View). (wait : Waiting) → u.wait ≡ Some wait → WaitStands h u wait) (λ u i. i)
         (λ i wait is. wait_same h v a wait (λ n. (r.rest n).place) works_a waits (i wait ((λ n. (sym r.rest n).wait) ∙ is)))
         (λ wait is. absurd (let q : None ≡ Some wait = (λ n. (sym r.bare n).left.wait) ∙ is in cc)) t.waits;
   }
@@ -384,14 +477,17 @@ module _ (vs us : List View) (id : ℕ) (v a b : View) (r : Regroups vs us id v 
   regroup_law k m h two i =
       whole k m i.chart us h i.table
       (record {
-        slots = slots_regroup m (slot_count k) i.chart h two.sums two.few_a two.few_b two.hands_a two.hands_b two.retired_a two.unlinked i.slots;
+        slots = slots_regroup m
+            (slot_count k) i.chart h two.sums two.few_a two.few_b two.hands_a two.hands_b two.retired_a two.unlinked i.slots;
         locks = locks_regroup m (slot_count k) i.chart i.locks;
         tree = tree_regroup m (slot_count k) i.chart h i.tree;
         readers = readers_regroup m i.chart h i.readers;
       })
       (record {
         marks = marks_regroup k.places h two.works two.waits two.seen_a two.seen_b two.longest i.marks;
-        seats = seats_regroup k.places h two.sums (λ none. absurd (let some_place = two.works in omega arith)) two.spent_b two.owned_a two.owned_b two.counted_a two.counted_b i.seats;
+        seats = seats_regroup k.places h two.sums (λ none. absurd
+            (let some_place = two.works in omega arith)) two.spent_b two.owned_a two.owned_b two.counted_a two.counted_b i.seats;
         grace = grace_regroup m i.chart h two.joined i.grace;
       })
-      (waiters_regroup k m h two.sums i.waiters) (counts_regroup k.tickets m (slot_count k) i.chart h two.sums i.counts) (front_regroup m i.chart h i.front) (listings_regroup m i.chart h i.listings)
+      (waiters_regroup k m h two.sums i.waiters) (counts_regroup k.tickets m (slot_count k) i.chart h two.sums i.counts)
+      (front_regroup m i.chart h i.front) (listings_regroup m i.chart h i.listings)

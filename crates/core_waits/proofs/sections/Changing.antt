@@ -40,8 +40,10 @@ no_other A k a b apart is e = absurd (let q : false ≡ true = sym apart ∙ ap 
 abbrev pub beside_section : View → View
 beside_section u = record u { enter = spent_view.enter; section = None; records = []; counts = record u.counts { sections = 0 }; seen = [] }
 
-module _ (k : Shape) (m m' : Memory) (vs : List View) (h : List Mark) (id : ℕ) (v w : View) (mark : Mark) (i : HoldsNow k m vs h) (there : get_elem? vs id ≡ some v) (words : quiet_words m' ≡ quiet_words m)
-    (outside : IsOutside mark) (turns : TurnsNoWait mark) (same : beside_section w ≡ beside_section v) (seen : w.seen ≡ h ++ mark ∷ []) where
+module _ (k : Shape) (m m' : Memory) (vs : List View) (h : List Mark) (id : ℕ) (v w : View) (mark : Mark) (i : HoldsNow k m vs h)
+    (there : get_elem? vs id ≡ some v) (words : quiet_words m' ≡ quiet_words m)
+    (outside : IsOutside mark) (turns : TurnsNoWait mark) (same : beside_section w ≡ beside_section v)
+    (seen : w.seen ≡ h ++ mark ∷ []) where
   slots : SameSlots m m'
   slots = slots_stay m m' (λ n. (words n).slots)
 
@@ -49,22 +51,38 @@ module _ (k : Shape) (m m' : Memory) (vs : List View) (h : List Mark) (id : ℕ)
   quiet = quiet_snoc h mark outside
 
   -- What the step does to seats, words, locks, the tree, readers and listings it has to say.
-  pub section_law : NewMark k.places h mark → OnlyOlder h v w → SeatParts k.places (set vs id w) (h ++ mark ∷ []) → WaiterParts k m' (set vs id w) (h ++ mark ∷ []) → LockParts m' (slot_count k) i.chart (set vs id w)
-      → TreeParts m' (slot_count k) i.chart (set vs id w) (h ++ mark ∷ []) → ReaderParts m' i.chart (set vs id w) (h ++ mark ∷ []) → ListingParts m' i.chart (set vs id w) (h ++ mark ∷ []) → HoldsNow k m' (set vs id w) (h ++ mark ∷ [])
+  pub section_law : NewMark k.places h mark → OnlyOlder h v w → SeatParts k.places (set vs id w) (h ++ mark ∷ [])
+      → WaiterParts k m' (set vs id w) (h ++ mark ∷ []) → LockParts m' (slot_count k) i.chart (set vs id w)
+      → TreeParts m' (slot_count k) i.chart (set vs id w) (h ++ mark ∷ []) → ReaderParts m' i.chart (set vs id w) (h ++ mark ∷ [])
+      → ListingParts m' i.chart (set vs id w) (h ++ mark ∷ []) → HoldsNow k m' (set vs id w) (h ++ mark ∷ [])
   section_law new older seats waiters locks tree readers listings =
       whole k m' i.chart (set vs id w) (h ++ mark ∷ []) i.table
       (record {
-        slots = slot_frame m m' (slot_count k) i.chart vs id v w h (h ++ mark ∷ []) there slots (record { own = λ n. own_slots (same n); moving = λ n. (same n).moving; one = λ one reserved. (λ n. (same n).hands.hand) ∙ one ((λ n. (sym same n).hands.reserved) ∙ reserved) }) quiet i.slots;
+        slots = slot_frame m m' (slot_count k) i.chart vs id v w h (h ++ mark ∷ []) there slots
+            (record {
+              own = λ n. own_slots (same n);
+              moving = λ n. (same n).moving;
+              one = λ one reserved. (λ n. (same n).hands.hand) ∙ one ((λ n. (sym same n).hands.reserved) ∙ reserved);
+            }) quiet i.slots;
         locks = locks;
         tree = tree;
         readers = readers;
       })
       (record {
-        marks = mark_frame_still k.places vs id v w h (h ++ mark ∷ []) there (prefix_snoc h mark) (inl seen) (marks_snoc k.places h mark new i.marks.marks) i.marks (waits_snoc h mark turns)
-            (record { place = λ n. (same n).allowance.place; places = λ n. (same n).allowance.places; wait = λ n. (same n).wait; waits = λ n. (same n).counts.waits });
+        marks = mark_frame_still k.places vs id v w h (h ++ mark ∷ []) there (prefix_snoc h mark) (inl seen)
+            (marks_snoc k.places h mark new i.marks.marks) i.marks (waits_snoc h mark turns)
+            (record {
+              place = λ n. (same n).allowance.place;
+              places = λ n. (same n).allowance.places;
+              wait = λ n. (same n).wait;
+              waits = λ n. (same n).counts.waits;
+            });
         seats = seats;
-        grace = grace_frame vs id v w h (h ++ mark ∷ []) there older quiet (waits_snoc h mark turns) (λ n. (same n).allowance.place) (λ n. (same n).allowance.joined) (λ n. (same n).hands.retired) (λ n. (same n).moving)
+        grace = grace_frame vs id v w h (h ++ mark ∷ []) there older quiet (waits_snoc h mark turns) (λ n. (same n).allowance.place)
+            (λ n. (same n).allowance.joined) (λ n. (same n).hands.retired) (λ n. (same n).moving)
             (grace_snoc h mark turns i.grace.grace) (reuse_snoc h mark outside i.grace.reuse) i.grace;
       })
-      waiters (count_frame k.tickets m m' (slot_count k) i.chart vs id v w h (h ++ mark ∷ []) there slots (λ n. (words n).clock) (λ n. (words n).free) (λ n. numbers_of (same n)) quiet i.counts)
-      (front_frame m m' vs id v w h (h ++ mark ∷ []) there (λ n. (words n).front) (λ n. (same n).commit) (λ e. (λ n. (same n).moving) ∙ e) quiet i.front) listings
+      waiters (count_frame k.tickets m m' (slot_count k) i.chart vs id v w h (h ++ mark ∷ []) there slots (λ n. (words n).clock)
+      (λ n. (words n).free) (λ n. numbers_of (same n)) quiet i.counts)
+      (front_frame m m' vs id v w h (h ++ mark ∷ []) there (λ n. (words n).front) (λ n. (same n).commit)
+      (λ e. (λ n. (same n).moving) ∙ e) quiet i.front) listings

@@ -34,10 +34,12 @@ use Rattle.core_state.specs.steps.Steps.{step28, step29, step30}
 pub pair_cases : (a b x y : ℕ) → ((a ≡ x) × (b ≡ y) × ((a == x && b == y) ≡ true)) ⊎ ((a == x && b == y) ≡ false)
 pair_cases a b x y =
     dite (ℕ_discrete a x)
-    (λ e. dite (ℕ_discrete b y) (λ f. inl (e, f, and_from (a == x) (b == y) (eq-eqb a x e) (eq-eqb b y f))) (λ ne. inr (and_right (a == x) (b == y) (ne_eqb b y ne))))
+    (λ e. dite (ℕ_discrete b y) (λ f. inl (e, f, and_from (a == x) (b == y) (eq-eqb a x e) (eq-eqb b y f)))
+    (λ ne. inr (and_right (a == x) (b == y) (ne_eqb b y ne))))
     (λ ne. inr (and_left (a == x) (b == y) (ne_eqb a x ne)))
 
-module _ (k : Shape) (m : Memory) (vs : List View) (h : List Mark) (id : ℕ) (v : View) (i : HoldsNow k m vs h) (there : get_elem? vs id ≡ some v) (works : Works v) where
+module _ (k : Shape) (m : Memory) (vs : List View) (h : List Mark) (id : ℕ) (v : View) (i : HoldsNow k m vs h)
+    (there : get_elem? vs id ≡ some v) (works : Works v) where
   -- K28: a gate is loaded
   law28 : (class found : ℕ) (o : Option Section) → HoldsNow k m (set vs id (gated v class found o)) h
   law28 class found None =
@@ -61,7 +63,8 @@ module _ (k : Shape) (m : Memory) (vs : List View) (h : List Mark) (id : ℕ) (v
           let none : inside_count c s v.section ≡ 0 = ap (inside_count c s) needs.entry.outside in
           ⊎_elim
           (λ (e : (class_of key ≡ c) × (side ≡ s) × ((class_of key == c && side == s) ≡ true)).
-          let word : m29 (Count c s) ≡ m (Count (class_of key) side) + 1 = ap (λ b. cond b (m (Count (class_of key) side) + 1) (m (Count c s))) e.2 in
+          let word : m29 (Count c s) ≡ m (Count (class_of key) side) + 1 =
+          ap (λ b. cond b (m (Count (class_of key) side) + 1) (m (Count c s))) e.2 in
           let same : m (Count (class_of key) side) ≡ m (Count c s) = (λ n. m (Count (e.0 n) (e.1 n))) in
           let one : inside_count c s w29.section ≡ 1 = ap (λ b. cond b 1 0) e.2 in
           omega arith)
@@ -71,7 +74,8 @@ module _ (k : Shape) (m : Memory) (vs : List View) (h : List Mark) (id : ℕ) (v
           omega arith)
           (pair_cases (class_of key) side c s));
       sides = each_set (λ j u. (z : Section) → u.section ≡ Some z → z.stamp < 2) vs id w29
-          (λ z is. let e : new_section v key side (length h) h ≡ z = cc in subst (λ (q : Section). q.stamp < 2) e (let f = needs.side_is in omega arith))
+          (λ z is. let e : new_section v key side (length h) h ≡ z = cc in
+          subst (λ (q : Section). q.stamp < 2) e (let f = needs.side_is in omega arith))
           (λ j u ne e. (i.waiters.domain way).sides j u e);
     }
 
@@ -93,7 +97,8 @@ module _ (k : Shape) (m : Memory) (vs : List View) (h : List Mark) (id : ℕ) (v
       counts = λ c s small low.
           (let t = (i.waiters.domain way).counts c s small low in
           let sum = total_set (λ (u : View). inside_count c s u.section) vs id v w30 there in
-          let mine : inside_count c s v.section ≡ cond (class == c && side == s) 1 0 = ap (inside_count c s) needs.section_is ∙ (λ n. cond (sym needs.class_is n == c && sym needs.side_is n == s) 1 0) in
+          let mine : inside_count c s v.section ≡ cond (class == c && side == s) 1 0 =
+          ap (inside_count c s) needs.section_is ∙ (λ n. cond (sym needs.class_is n == c && sym needs.side_is n == s) 1 0) in
           let none : inside_count c s w30.section ≡ 0 = refl in
           ⊎_elim
           (λ (e : (class ≡ c) × (side ≡ s) × ((class == c && side == s) ≡ true)).
@@ -122,7 +127,8 @@ keeps28 = keeps_found K28 kept_found
     kept_found : KeepsFound K28
     kept_found k m vs h id v field found left w marks i there works fits e (step28 {n = n} {class = class} way needs) =
         let us : ℕ → List View = λ z. set vs id (gated v class z v.section) in
-        no_mark k m (stored m (Gate class) n) h (us n) (loaded_quiet k m h (Gate class) n e us (law28 k m vs h id v i there works class (m (Gate class)) v.section))
+        no_mark k m (stored m (Gate class) n) h (us n)
+        (loaded_quiet k m h (Gate class) n e us (law28 k m vs h id v i there works class (m (Gate class)) v.section))
 
 pub keeps29 : Keeps K29
 keeps29 = keeps_found K29 kept_found
@@ -132,14 +138,17 @@ keeps29 = keeps_found K29 kept_found
         let m' : Memory = stored m (Count (class_of key) side) (n + 1) in
         let us : List View = set vs id (entering v key side (length h) h) in
         let h' : List Mark = h ++ Entered v.allowance.place v.counts.sections key ∷ [] in
-        kept k m m' h us h' (slots_stay m m' refl) (subst (λ z. HoldsNow k (stored m (Count (class_of key) side) (z + 1)) us h') e (law29 k m vs h id v i there works key side gate way needs))
+        kept k m m' h us h' (slots_stay m m' refl) (subst (λ z. HoldsNow k (stored m (Count (class_of key) side) (z + 1)) us h') e
+        (law29 k m vs h id v i there works key side gate way needs))
 
 pub keeps30 : Keeps K30
 keeps30 = keeps_found K30 kept_found
   where
     kept_found : KeepsFound K30
-    kept_found k m vs h id v field found left w marks i there works fits e (step30 {n = n} {class = class} {side = side} {section = section} way needs) =
+    kept_found k m vs h id v field found left w marks i there works fits e
+        (step30 {n = n} {class = class} {side = side} {section = section} way needs) =
         let m' : Memory = stored m (Count class side) (n - 1) in
         let us : List View = set vs id (leaving v section h) in
         let h' : List Mark = h ++ Left v.allowance.place section.count ∷ [] in
-        kept k m m' h us h' (slots_stay m m' refl) (subst (λ z. HoldsNow k (stored m (Count class side) (z - 1)) us h') e (law30 k m vs h id v i there works section class side way needs))
+        kept k m m' h us h' (slots_stay m m' refl) (subst (λ z. HoldsNow k (stored m (Count class side) (z - 1)) us h') e
+        (law30 k m vs h id v i there works section class side way needs))

@@ -28,7 +28,8 @@ use Rattle.core_frames.proofs.chart.Plain.{clocked_before}
 use Rattle.core_frames.proofs.frames.ListingFrame.{listing_frame}
 use Rattle.core_waits.proofs.sections.Changing.{section_law}
 
-module _ (k : Shape) (m m' : Memory) (vs : List View) (h : List Mark) (id : ℕ) (v : View) (i : HoldsNow k m vs h) (there : get_elem? vs id ≡ some v) (works : Works v) (section : Section) (is_inside : v.section ≡ Some section)
+module _ (k : Shape) (m m' : Memory) (vs : List View) (h : List Mark) (id : ℕ) (v : View) (i : HoldsNow k m vs h)
+    (there : get_elem? vs id ≡ some v) (works : Works v) (section : Section) (is_inside : v.section ≡ Some section)
     (words : quiet_words m' ≡ quiet_words m) where
   abbrev w : View
   w = leaving v section h
@@ -45,7 +46,9 @@ module _ (k : Shape) (m m' : Memory) (vs : List View) (h : List Mark) (id : ℕ)
   none_now : (A : Type 0) (s : Section) → w.section ≡ Some s → A
   none_now A s none = absurd (let e : None ≡ Some s = none in cc)
 
-  waiters_leave : (k.waiter ≡ Eer → EerWords k.places m' (set vs id w) (h ++ mark ∷ [])) → (k.waiter ≡ Domain → DomainWords m' (set vs id w)) → (k.waiter ≡ Deer → DeerWords k.places m' (set vs id w) (h ++ mark ∷ [])) → WaiterParts k m' (set vs id w) (h ++ mark ∷ [])
+  waiters_leave : (k.waiter ≡ Eer → EerWords k.places m' (set vs id w) (h ++ mark ∷ []))
+      → (k.waiter ≡ Domain → DomainWords m' (set vs id w)) → (k.waiter ≡ Deer → DeerWords k.places m' (set vs id w) (h ++ mark ∷ []))
+      → WaiterParts k m' (set vs id w) (h ++ mark ∷ [])
   waiters_leave eer domain deer =
       waiters_section k m m' vs id v w h mark there refl (λ n. (words n).clock) tt (clocked_before k m vs h i)
       (record { loaded = λ c none. absurd (let e : None ≡ Some c = none in cc); stamped = λ s none. none_now _ s none })
@@ -57,13 +60,19 @@ module _ (k : Shape) (m m' : Memory) (vs : List View) (h : List Mark) (id : ℕ)
   told : IsRecord m i.chart vs section.reading
   told =
       let stands = i.seats.sections id v there section is_inside in
-      record_of m (slot_count k) i.chart vs h section i.tree.shape (i.readers.readings id v there 0 section.reading (ap (λ rs. get_elem? rs 0) same_readings)) stands.sought stands.key_fits (i.readers.served id v there section is_inside)
+      record_of m (slot_count k) i.chart vs h section i.tree.shape
+      (i.readers.readings id v there 0 section.reading (ap (λ rs. get_elem? rs 0) same_readings)) stands.sought stands.key_fits
+      (i.readers.served id v there section is_inside)
 
   left_records : (j : ℕ) (r : Reading) → get_elem? (section.reading ∷ v.records) j ≡ some r → IsRecord m' i.chart (set vs id w) r
-  left_records zero r e = subst (IsRecord m' i.chart (set vs id w)) (some-injective section.reading r e) (record_same m m' slots.nodes i.chart vs id v w h (h ++ mark ∷ []) there refl refl quiet section.reading told)
-  left_records (suc j) r e = record_same m m' slots.nodes i.chart vs id v w h (h ++ mark ∷ []) there refl refl quiet r (i.readers.records id v there j r e)
+  left_records zero r e = subst (IsRecord m' i.chart (set vs id w)) (some-injective section.reading r e)
+      (record_same m m' slots.nodes i.chart vs id v w h (h ++ mark ∷ []) there refl refl quiet section.reading told)
+  left_records (suc j) r e = record_same m m' slots.nodes i.chart vs id v w h (h ++ mark ∷ []) there refl refl quiet r
+      (i.readers.records id v there j r e)
 
-  pub leave_law : (k.waiter ≡ Eer → EerWords k.places m' (set vs id w) (h ++ mark ∷ [])) → (k.waiter ≡ Domain → DomainWords m' (set vs id w)) → (k.waiter ≡ Deer → DeerWords k.places m' (set vs id w) (h ++ mark ∷ [])) → HoldsNow k m' (set vs id w) (h ++ mark ∷ [])
+  pub leave_law : (k.waiter ≡ Eer → EerWords k.places m' (set vs id w) (h ++ mark ∷ []))
+      → (k.waiter ≡ Domain → DomainWords m' (set vs id w)) → (k.waiter ≡ Deer → DeerWords k.places m' (set vs id w) (h ++ mark ∷ []))
+      → HoldsNow k m' (set vs id w) (h ++ mark ∷ [])
   leave_law eer domain deer =
       section_law k m m' vs h id v w mark i there words tt tt refl refl
       (open_of section, (i.seats.sections id v there section is_inside).is_open, refl)
@@ -90,4 +99,5 @@ module _ (k : Shape) (m m' : Memory) (vs : List View) (h : List Mark) (id : ℕ)
         records = λ j r e. left_records j r e;
         older = λ s none. none_now _ s none;
       }) i.readers)
-      (listing_frame m m' slots.nodes (λ n. (words n).front) i.chart h (h ++ mark ∷ []) quiet vs id w (λ s listing none lists. none_now _ s none) i.listings)
+      (listing_frame m m' slots.nodes (λ n. (words n).front) i.chart h (h ++ mark ∷ []) quiet vs id w
+      (λ s listing none lists. none_now _ s none) i.listings)

@@ -35,7 +35,8 @@ use Rattle.core_state.specs.steps.Steps.{step33, step34}
 
 -- the word of the place and class that was stored, one of another place, and one of another class
 own_row : (p c q d n x : ℕ) → p ≡ q → c ≡ d → cond (p == q && c == d) n x ≡ n
-own_row p c q d n x same_place same_class = ap (λ b. cond b n x) (and_from (p == q) (c == d) (eq-eqb p q same_place) (eq-eqb c d same_class))
+own_row p c q d n x same_place same_class = ap (λ b. cond b n x)
+    (and_from (p == q) (c == d) (eq-eqb p q same_place) (eq-eqb c d same_class))
 
 other_place : (p c q d n x : ℕ) → q ≢ p → cond (p == q && c == d) n x ≡ x
 other_place p c q d n x ne = ap (λ b. cond b n x) (and_left (p == q) (c == d) (ne_eqb p q (λ e. ne (sym e))))
@@ -43,8 +44,10 @@ other_place p c q d n x ne = ap (λ b. cond b n x) (and_left (p == q) (c == d) (
 other_class : (p c q d n x : ℕ) → c ≢ d → cond (p == q && c == d) n x ≡ x
 other_class p c q d n x ne = ap (λ b. cond b n x) (and_right (p == q) (c == d) (ne_eqb c d ne))
 
-module _ (k : Shape) (m : Memory) (vs : List View) (h : List Mark) (id : ℕ) (v : View) (i : HoldsNow k m vs h) (there : get_elem? vs id ≡ some v) (works : Works v) (way : k.waiter ≡ Deer) where
-  elsewhere : (j : ℕ) (u : View) (section : Section) → j ≢ id → get_elem? vs j ≡ some u → u.section ≡ Some section → u.allowance.place ≢ v.allowance.place
+module _ (k : Shape) (m : Memory) (vs : List View) (h : List Mark) (id : ℕ) (v : View) (i : HoldsNow k m vs h)
+    (there : get_elem? vs id ≡ some v) (works : Works v) (way : k.waiter ≡ Deer) where
+  elsewhere : (j : ℕ) (u : View) (section : Section) → j ≢ id → get_elem? vs j ≡ some u → u.section ≡ Some section
+      → u.allowance.place ≢ v.allowance.place
   elsewhere j u section ne e is = apart k m vs h i id v there works j u ne e (inside_works k m vs h i j u section e is)
 
   -- K33: a section is entered, with its stamp in the word of its class
@@ -61,12 +64,16 @@ module _ (k : Shape) (m : Memory) (vs : List View) (h : List Mark) (id : ℕ) (v
     none_open : open_at v.allowance.place h ≡ None
     none_open = open_none k.places vs id v h there works i.seats needs.entry.outside
 
-    outside33 : (p c : ℕ) → p < k.places → c < 64 → ((o : Open) → open_at p (h ++ mark33 ∷ []) ≡ Some o → class_of o.key ≢ c) → m33 (Row p c) ≡ idle
+    outside33 : (p c : ℕ) → p < k.places → c < 64 → ((o : Open) → open_at p (h ++ mark33 ∷ []) ≡ Some o → class_of o.key ≢ c)
+        → m33 (Row p c) ≡ idle
     outside33 p c lt small none =
         dite (ℕ_discrete p v.allowance.place)
-        (λ here. let open_now : open_at p (h ++ mark33 ∷ []) ≡ Some (record { count = v.counts.sections; key = key; at = length h }) = ap (λ q. open_at q (h ++ mark33 ∷ [])) here ∙ open_entered v.allowance.place h v.counts.sections key in
-        other_class v.allowance.place (class_of key) p c clocked.number (m (Row p c)) (none (record { count = v.counts.sections; key = key; at = length h }) open_now)
-        ∙ (i.waiters.deer way).outside p c lt small (λ o e. absurd (let q : None ≡ Some o = sym none_open ∙ ap (λ q. open_at q h) (sym here) ∙ e in cc)))
+        (λ here. let open_now : open_at p (h ++ mark33 ∷ []) ≡ Some (record { count = v.counts.sections; key = key; at = length h }) =
+        ap (λ q. open_at q (h ++ mark33 ∷ [])) here ∙ open_entered v.allowance.place h v.counts.sections key in
+        other_class v.allowance.place (class_of key) p c clocked.number (m (Row p c))
+        (none (record { count = v.counts.sections; key = key; at = length h }) open_now)
+        ∙ (i.waiters.deer way).outside p c lt small (λ o e. absurd
+        (let q : None ≡ Some o = sym none_open ∙ ap (λ q. open_at q h) (sym here) ∙ e in cc)))
         (λ ne. other_place v.allowance.place (class_of key) p c clocked.number (m (Row p c)) ne
         ∙ (i.waiters.deer way).outside p c lt small (λ o e. none o (open_entered_other v.allowance.place h p v.counts.sections key ne ∙ e)))
 
@@ -74,8 +81,11 @@ module _ (k : Shape) (m : Memory) (vs : List View) (h : List Mark) (id : ℕ) (v
     words33 = record {
       inside = each_set (λ j u. (z : Section) → u.section ≡ Some z → m33 (Row u.allowance.place (class_of z.key)) ≡ z.stamp) vs id w33
           (λ z is. let e : new_section v key clocked.number clocked.at h ≡ z = cc in
-          subst (λ (q : Section). m33 (Row v.allowance.place (class_of q.key)) ≡ q.stamp) e (own_row v.allowance.place (class_of key) v.allowance.place (class_of key) clocked.number (m (Row v.allowance.place (class_of key))) refl refl))
-          (λ j u ne e z is. other_place v.allowance.place (class_of key) u.allowance.place (class_of z.key) clocked.number (m (Row u.allowance.place (class_of z.key))) (elsewhere j u z ne e is) ∙ (i.waiters.deer way).inside j u e z is);
+          subst (λ (q : Section). m33 (Row v.allowance.place (class_of q.key)) ≡ q.stamp) e
+          (own_row v.allowance.place (class_of key) v.allowance.place (class_of key) clocked.number
+          (m (Row v.allowance.place (class_of key))) refl refl))
+          (λ j u ne e z is. other_place v.allowance.place (class_of key) u.allowance.place (class_of z.key) clocked.number
+          (m (Row u.allowance.place (class_of z.key))) (elsewhere j u z ne e is) ∙ (i.waiters.deer way).inside j u e z is);
       outside = outside33;
     }
 
@@ -96,13 +106,16 @@ module _ (k : Shape) (m : Memory) (vs : List View) (h : List Mark) (id : ℕ) (v
     abbrev mark34 : Mark
     mark34 = Left v.allowance.place section.count
 
-    outside34 : (p c : ℕ) → p < k.places → c < 64 → ((o : Open) → open_at p (h ++ mark34 ∷ []) ≡ Some o → class_of o.key ≢ c) → m34 (Row p c) ≡ idle
+    outside34 : (p c : ℕ) → p < k.places → c < 64 → ((o : Open) → open_at p (h ++ mark34 ∷ []) ≡ Some o → class_of o.key ≢ c)
+        → m34 (Row p c) ≡ idle
     outside34 p c lt small none =
         dite (ℕ_discrete p v.allowance.place)
         (λ here. dite (ℕ_discrete class c)
         (λ same. own_row v.allowance.place class p c idle (m (Row p c)) (sym here) same)
         (λ ne. other_class v.allowance.place class p c idle (m (Row p c)) ne
-        ∙ (i.waiters.deer way).outside p c lt small (λ o e same. ne (let now : Some (open_of section) ≡ Some o = sym (i.seats.sections id v there section needs.section_is).is_open ∙ ap (λ q. open_at q h) (sym here) ∙ e in
+        ∙ (i.waiters.deer way).outside p c lt small (λ o e same. ne
+        (let now : Some (open_of section) ≡ Some o =
+        sym (i.seats.sections id v there section needs.section_is).is_open ∙ ap (λ q. open_at q h) (sym here) ∙ e in
         let f : open_of section ≡ o = cc in needs.class_is ∙ ap (λ (z : Open). class_of z.key) f ∙ same))))
         (λ ne. other_place v.allowance.place class p c idle (m (Row p c)) ne
         ∙ (i.waiters.deer way).outside p c lt small (λ o e. none o (open_left_other v.allowance.place h p section.count ne ∙ e)))
@@ -111,7 +124,8 @@ module _ (k : Shape) (m : Memory) (vs : List View) (h : List Mark) (id : ℕ) (v
     words34 = record {
       inside = each_set (λ j u. (z : Section) → u.section ≡ Some z → m34 (Row u.allowance.place (class_of z.key)) ≡ z.stamp) vs id w34
           (λ z none. absurd (let e : None ≡ Some z = none in cc))
-          (λ j u ne e z is. other_place v.allowance.place class u.allowance.place (class_of z.key) idle (m (Row u.allowance.place (class_of z.key))) (elsewhere j u z ne e is) ∙ (i.waiters.deer way).inside j u e z is);
+          (λ j u ne e z is. other_place v.allowance.place class u.allowance.place (class_of z.key) idle
+          (m (Row u.allowance.place (class_of z.key))) (elsewhere j u z ne e is) ∙ (i.waiters.deer way).inside j u e z is);
       outside = outside34;
     }
 
@@ -128,7 +142,8 @@ keeps33 = keeps_found K33 kept_found
         let m' : Memory = stored m (Row v.allowance.place (class_of key)) stamp in
         let us : List View = set vs id (after_enter_by_stamp v key clocked h) in
         let h' : List Mark = h ++ Entered v.allowance.place v.counts.sections key ∷ [] in
-        kept k m m' h us h' (slots_stay m m' refl) (subst (λ z. HoldsNow k (stored m (Row v.allowance.place (class_of key)) z) us h') (sym needs.stamp_is) (law33 k m vs h id v i there works way key stamp clocked needs))
+        kept k m m' h us h' (slots_stay m m' refl) (subst (λ z. HoldsNow k (stored m (Row v.allowance.place (class_of key)) z) us h')
+        (sym needs.stamp_is) (law33 k m vs h id v i there works way key stamp clocked needs))
 
 pub keeps34 : Keeps K34
 keeps34 = keeps_found K34 kept_found
@@ -136,4 +151,5 @@ keeps34 = keeps_found K34 kept_found
     kept_found : KeepsFound K34
     kept_found k m vs h id v field found left w marks i there works fits e (step34 {n = n} {class = class} {section = section} way needs) =
         let m' : Memory = stored m (Row v.allowance.place class) idle in
-        kept k m m' h (set vs id (leaving v section h)) (h ++ Left v.allowance.place section.count ∷ []) (slots_stay m m' refl) (law34 k m vs h id v i there works way section class needs)
+        kept k m m' h (set vs id (leaving v section h)) (h ++ Left v.allowance.place section.count ∷ []) (slots_stay m m' refl)
+        (law34 k m vs h id v i there works way section class needs)

@@ -42,8 +42,10 @@ other_word p q n x ne = ap (λ b. cond b n x) (ne_eqb p q (λ e. ne (sym e)))
 own_word : (p n x : ℕ) → cond (p == p) n x ≡ n
 own_word p n x = ap (λ b. cond b n x) (eq-eqb p p refl)
 
-module _ (k : Shape) (m : Memory) (vs : List View) (h : List Mark) (id : ℕ) (v : View) (i : HoldsNow k m vs h) (there : get_elem? vs id ≡ some v) (works : Works v) where
-  elsewhere : (j : ℕ) (u : View) (section : Section) → j ≢ id → get_elem? vs j ≡ some u → u.section ≡ Some section → u.allowance.place ≢ v.allowance.place
+module _ (k : Shape) (m : Memory) (vs : List View) (h : List Mark) (id : ℕ) (v : View) (i : HoldsNow k m vs h)
+    (there : get_elem? vs id ≡ some v) (works : Works v) where
+  elsewhere : (j : ℕ) (u : View) (section : Section) → j ≢ id → get_elem? vs j ≡ some u → u.section ≡ Some section
+      → u.allowance.place ≢ v.allowance.place
   elsewhere j u section ne e is = apart k m vs h i id v there works j u ne e (inside_works k m vs h i j u section e is)
 
   -- K3: the clock is loaded
@@ -53,16 +55,20 @@ module _ (k : Shape) (m : Memory) (vs : List View) (h : List Mark) (id : ℕ) (v
       let now : Clocked = record { number = m Clock; at = length h } in
       quiet_law k m m vs h id v w i there works refl refl
       (waiter_frame k m m vs id v w h there (record { place = refl; section = refl; wait = refl }) refl refl refl
-      (λ clocked is. (let e : now ≡ clocked = cc in subst (λ (c : Clocked). (c.at ≤ length h) × (c.number ≡ begun (take c.at h))) e (omega arith, i.waiters.clock ∙ ap begun (sym (take_all (length h) h (omega arith)))))) i.waiters)
+      (λ clocked is. (let e : now ≡ clocked = cc in
+      subst (λ (c : Clocked). (c.at ≤ length h) × (c.number ≡ begun (take c.at h))) e
+      (omega arith, i.waiters.clock ∙ ap begun (sym (take_all (length h) h (omega arith)))))) i.waiters)
 
   module _ (way : k.waiter ≡ Eer) where
     words : EerWords k.places m vs h
     words = i.waiters.eer way
 
     -- K4: the own key word is stored
-    announced_apart : (j : ℕ) (u : View) (other : ℕ) → j ≢ id → get_elem? vs j ≡ some u → u.enter.announced ≡ Some other → u.allowance.place ≢ v.allowance.place
+    announced_apart : (j : ℕ) (u : View) (other : ℕ) → j ≢ id → get_elem? vs j ≡ some u → u.enter.announced ≡ Some other
+        → u.allowance.place ≢ v.allowance.place
     announced_apart j u other ne e is = dite (dec_le 1 u.allowance.places) (λ has. apart k m vs h i id v there works j u ne e has)
-        (λ none. (let spent = i.seats.spent j u e (omega arith) in absurd (let q : None ≡ Some other = sym (ap (λ (z : View). z.enter.announced) spent) ∙ is in cc)))
+        (λ none. (let spent = i.seats.spent j u e (omega arith) in
+        absurd (let q : None ≡ Some other = sym (ap (λ (z : View). z.enter.announced) spent) ∙ is in cc)))
 
     module _ (key : ℕ) (outside : NeedsAnnounce v) where
       abbrev m4 : Memory
@@ -73,13 +79,18 @@ module _ (k : Shape) (m : Memory) (vs : List View) (h : List Mark) (id : ℕ) (v
 
       words4 : EerWords k.places m4 (set vs id w4) h
       words4 = record {
-        inside = each_set (λ j u. (section : Section) → u.section ≡ Some section → (m4 (Announced u.allowance.place) ≡ section.key) × (m4 (Stamp u.allowance.place) ≡ section.stamp)) vs id w4
+        inside = each_set (λ j u. (section : Section) → u.section ≡ Some section
+            → (m4 (Announced u.allowance.place) ≡ section.key) × (m4 (Stamp u.allowance.place) ≡ section.stamp)) vs id w4
             (λ section is. absurd (let e : None ≡ Some section = sym outside ∙ is in cc))
-            (λ j u ne e section is. (let r = words.inside j u e section is in (other_word v.allowance.place u.allowance.place key (m (Announced u.allowance.place)) (elsewhere j u section ne e is) ∙ r.0, r.1)));
+            (λ j u ne e section is. (let r = words.inside j u e section is in (
+              other_word v.allowance.place u.allowance.place key (m (Announced u.allowance.place)) (elsewhere j u section ne e is) ∙ r.0,
+              r.1,
+            )));
         outside = words.outside;
         announced = each_set (λ j u. (other : ℕ) → u.enter.announced ≡ Some other → m4 (Announced u.allowance.place) ≡ other) vs id w4
             (λ other is. (let e : key ≡ other = cc in own_word v.allowance.place key (m (Announced v.allowance.place)) ∙ e))
-            (λ j u ne e other is. other_word v.allowance.place u.allowance.place key (m (Announced u.allowance.place)) (announced_apart j u other ne e is) ∙ words.announced j u e other is);
+            (λ j u ne e other is. other_word v.allowance.place u.allowance.place key (m (Announced u.allowance.place))
+            (announced_apart j u other ne e is) ∙ words.announced j u e other is);
       }
 
       law4 : HoldsNow k m4 (set vs id w4) h
@@ -106,20 +117,31 @@ module _ (k : Shape) (m : Memory) (vs : List View) (h : List Mark) (id : ℕ) (v
 
       words5 : EerWords k.places m5 (set vs id w5) (h ++ mark5 ∷ [])
       words5 = record {
-        inside = each_set (λ j u. (section : Section) → u.section ≡ Some section → (m5 (Announced u.allowance.place) ≡ section.key) × (m5 (Stamp u.allowance.place) ≡ section.stamp)) vs id w5
+        inside = each_set (λ j u. (section : Section) → u.section ≡ Some section
+            → (m5 (Announced u.allowance.place) ≡ section.key) × (m5 (Stamp u.allowance.place) ≡ section.stamp)) vs id w5
             (λ section is. (let e : new_section v key clocked.number clocked.at h ≡ section = cc in
-            subst (λ (s : Section). (m5 (Announced v.allowance.place) ≡ s.key) × (m5 (Stamp v.allowance.place) ≡ s.stamp)) e (words.announced id v there key needs.announced, own_word v.allowance.place clocked.number (m (Stamp v.allowance.place)))))
-            (λ j u ne e section is. (let r = words.inside j u e section is in (r.0, other_word v.allowance.place u.allowance.place clocked.number (m (Stamp u.allowance.place)) (elsewhere j u section ne e is) ∙ r.1)));
+            subst (λ (s : Section). (m5 (Announced v.allowance.place) ≡ s.key) × (m5 (Stamp v.allowance.place) ≡ s.stamp)) e
+            (words.announced id v there key needs.announced, own_word v.allowance.place clocked.number (m (Stamp v.allowance.place)))))
+            (λ j u ne e section is. (let r = words.inside j u e section is in (
+              r.0,
+              other_word v.allowance.place u.allowance.place clocked.number (m (Stamp u.allowance.place))
+                  (elsewhere j u section ne e is) ∙ r.1,
+            )));
         outside = λ p lt none. dite (ℕ_discrete p v.allowance.place)
-            (λ here. absurd (let q = sym (open_entered v.allowance.place h v.counts.sections key) ∙ ap (λ n. open_at n (h ++ mark5 ∷ [])) (sym here) ∙ none in cc))
-            (λ ne. other_word v.allowance.place p clocked.number (m (Stamp p)) ne ∙ words.outside p lt (sym (open_entered_other v.allowance.place h p v.counts.sections key ne) ∙ none));
-        announced = each_change (λ (u : View). (other : ℕ) → u.enter.announced ≡ Some other → m (Announced u.allowance.place) ≡ other) (λ (u : View). (other : ℕ) → u.enter.announced ≡ Some other → m5 (Announced u.allowance.place) ≡ other) vs id v w5 there (λ t. t) (λ u t. t) words.announced;
+            (λ here. absurd (let q = sym (open_entered v.allowance.place h v.counts.sections key)
+            ∙ ap (λ n. open_at n (h ++ mark5 ∷ [])) (sym here) ∙ none in cc))
+            (λ ne. other_word v.allowance.place p clocked.number (m (Stamp p)) ne
+            ∙ words.outside p lt (sym (open_entered_other v.allowance.place h p v.counts.sections key ne) ∙ none));
+        announced = each_change (λ (u : View). (other : ℕ) → u.enter.announced ≡ Some other → m (Announced u.allowance.place) ≡ other)
+            (λ (u : View). (other : ℕ) → u.enter.announced ≡ Some other → m5 (Announced u.allowance.place) ≡ other) vs id v w5 there
+            (λ t. t) (λ u t. t) words.announced;
       }
 
       law5 : HoldsNow k m5 (set vs id w5) (h ++ mark5 ∷ [])
       law5 =
           let loaded = (i.waiters.clocked id v there).loaded clocked needs.clock in
-          enter_law k m m5 vs h id v i there works key clocked.number clocked.at needs.entry refl (loaded.0, λ ne. loaded.1) (λ _. words5) (no_other _ k Eer Domain refl way) (no_other _ k Eer Deer refl way)
+          enter_law k m m5 vs h id v i there works key clocked.number clocked.at needs.entry refl (loaded.0, λ ne. loaded.1) (λ _. words5)
+          (no_other _ k Eer Domain refl way) (no_other _ k Eer Deer refl way)
 
     -- K6: the section is left
     module _ (section : Section) (is_inside : NeedsLeaveByStamp v section) where
@@ -134,24 +156,31 @@ module _ (k : Shape) (m : Memory) (vs : List View) (h : List Mark) (id : ℕ) (v
 
       words6 : EerWords k.places m6 (set vs id w6) (h ++ mark6 ∷ [])
       words6 = record {
-        inside = each_set (λ j u. (s : Section) → u.section ≡ Some s → (m6 (Announced u.allowance.place) ≡ s.key) × (m6 (Stamp u.allowance.place) ≡ s.stamp)) vs id w6
+        inside = each_set (λ j u. (s : Section) → u.section ≡ Some s
+            → (m6 (Announced u.allowance.place) ≡ s.key) × (m6 (Stamp u.allowance.place) ≡ s.stamp)) vs id w6
             (λ s none. absurd (let e : None ≡ Some s = none in cc))
-            (λ j u ne e s is. (let r = words.inside j u e s is in (r.0, other_word v.allowance.place u.allowance.place idle (m (Stamp u.allowance.place)) (elsewhere j u s ne e is) ∙ r.1)));
+            (λ j u ne e s is. (let r = words.inside j u e s is in
+            (r.0, other_word v.allowance.place u.allowance.place idle (m (Stamp u.allowance.place)) (elsewhere j u s ne e is) ∙ r.1)));
         outside = λ p lt none. dite (ℕ_discrete p v.allowance.place)
             (λ here. subst (λ q. m6 (Stamp q) ≡ idle) (sym here) (own_word v.allowance.place idle (m (Stamp v.allowance.place))))
-            (λ ne. other_word v.allowance.place p idle (m (Stamp p)) ne ∙ words.outside p lt (sym (open_left_other v.allowance.place h p section.count ne) ∙ none));
-        announced = each_change (λ (u : View). (other : ℕ) → u.enter.announced ≡ Some other → m (Announced u.allowance.place) ≡ other) (λ (u : View). (other : ℕ) → u.enter.announced ≡ Some other → m6 (Announced u.allowance.place) ≡ other) vs id v w6 there (λ t. t) (λ u t. t) words.announced;
+            (λ ne. other_word v.allowance.place p idle (m (Stamp p)) ne
+            ∙ words.outside p lt (sym (open_left_other v.allowance.place h p section.count ne) ∙ none));
+        announced = each_change (λ (u : View). (other : ℕ) → u.enter.announced ≡ Some other → m (Announced u.allowance.place) ≡ other)
+            (λ (u : View). (other : ℕ) → u.enter.announced ≡ Some other → m6 (Announced u.allowance.place) ≡ other) vs id v w6 there
+            (λ t. t) (λ u t. t) words.announced;
       }
 
       law6 : HoldsNow k m6 (set vs id w6) (h ++ mark6 ∷ [])
-      law6 = leave_law k m m6 vs h id v i there works section is_inside refl (λ _. words6) (no_other _ k Eer Domain refl way) (no_other _ k Eer Deer refl way)
+      law6 = leave_law k m m6 vs h id v i there works section is_inside refl (λ _. words6) (no_other _ k Eer Domain refl way)
+          (no_other _ k Eer Deer refl way)
 
 pub keeps3 : Keeps K3
 keeps3 = keeps_found K3 kept_found
   where
     kept_found : KeepsFound K3
     kept_found k m vs h id v field found left w marks i there works fits e (step3 {n = n}) =
-        loaded k m h Clock n e (λ z. set vs id (after_clock_load v z h)) (λ _. []) (subst (HoldsNow k m (set vs id (after_clock_load v (m Clock) h))) (sym (append-nil h)) (law3 k m vs h id v i there works))
+        loaded k m h Clock n e (λ z. set vs id (after_clock_load v z h)) (λ _. [])
+        (subst (HoldsNow k m (set vs id (after_clock_load v (m Clock) h))) (sym (append-nil h)) (law3 k m vs h id v i there works))
 
 pub keeps4 : Keeps K4
 keeps4 = keeps_found K4 kept_found
@@ -159,7 +188,8 @@ keeps4 = keeps_found K4 kept_found
     kept_found : KeepsFound K4
     kept_found k m vs h id v field found left w marks i there works fits e (step4 {key = key} way needs) =
         let m' : Memory = stored m (Announced v.allowance.place) key in
-        no_mark k m m' h (set vs id (after_announce v key)) (kept k m m' h (set vs id (after_announce v key)) h (slots_stay m m' refl) (law4 k m vs h id v i there works way key needs))
+        no_mark k m m' h (set vs id (after_announce v key))
+        (kept k m m' h (set vs id (after_announce v key)) h (slots_stay m m' refl) (law4 k m vs h id v i there works way key needs))
 
 pub keeps5 : Keeps K5
 keeps5 = keeps_found K5 kept_found
@@ -169,7 +199,8 @@ keeps5 = keeps_found K5 kept_found
         let m' : Memory = stored m (Stamp v.allowance.place) stamp in
         let us : List View = set vs id (after_enter_by_stamp v key clocked h) in
         let h' : List Mark = h ++ Entered v.allowance.place v.counts.sections key ∷ [] in
-        kept k m m' h us h' (slots_stay m m' refl) (subst (λ z. HoldsNow k (stored m (Stamp v.allowance.place) z) us h') (sym needs.stamp_is) (law5 k m vs h id v i there works way key stamp clocked needs))
+        kept k m m' h us h' (slots_stay m m' refl) (subst (λ z. HoldsNow k (stored m (Stamp v.allowance.place) z) us h')
+        (sym needs.stamp_is) (law5 k m vs h id v i there works way key stamp clocked needs))
 
 pub keeps6 : Keeps K6
 keeps6 = keeps_found K6 kept_found
@@ -177,4 +208,5 @@ keeps6 = keeps_found K6 kept_found
     kept_found : KeepsFound K6
     kept_found k m vs h id v field found left w marks i there works fits e (step6 {section = section} way needs) =
         let m' : Memory = stored m (Stamp v.allowance.place) idle in
-        kept k m m' h (set vs id (leaving v section h)) (h ++ Left v.allowance.place section.count ∷ []) (slots_stay m m' refl) (law6 k m vs h id v i there works way section needs)
+        kept k m m' h (set vs id (leaving v section h)) (h ++ Left v.allowance.place section.count ∷ []) (slots_stay m m' refl)
+        (law6 k m vs h id v i there works way section needs)

@@ -39,7 +39,8 @@ bare move = record move { waited = false }
 
 module _ (wait : Waiting) where
   -- the retired slots are the same but for what is noted
-  slots_noted_in : (rs rest : List Retired) → map (λ (r : Retired). r.slot) (map (waited_retired wait) rs ++ rest) ≡ map (λ (r : Retired). r.slot) (rs ++ rest)
+  slots_noted_in : (rs rest : List Retired) → map (λ (r : Retired). r.slot) (map (waited_retired wait) rs ++ rest)
+      ≡ map (λ (r : Retired). r.slot) (rs ++ rest)
   slots_noted_in [] rest = refl
   slots_noted_in (r ∷ rs) rest = ap (λ xs. r.slot ∷ xs) (slots_noted_in rs rest)
 
@@ -47,18 +48,21 @@ module _ (wait : Waiting) where
   unraised_noted_in [] rest = refl
   unraised_noted_in (r ∷ rs) rest = ap (λ n. cond r.raised 0 1 + n) (unraised_noted_in rs rest)
 
-  each_noted : (P : Retired → Type 0) (rs rest : List Retired) → ((r : Retired) → P r → P (waited_retired wait r)) → Each (rs ++ rest) P → Each (map (waited_retired wait) rs ++ rest) P
+  each_noted : (P : Retired → Type 0) (rs rest : List Retired) → ((r : Retired) → P r → P (waited_retired wait r)) → Each (rs ++ rest) P
+      → Each (map (waited_retired wait) rs ++ rest) P
   each_noted P [] rest own all j a e = all j a e
   each_noted P (r ∷ rs) rest own all zero a e = subst P (some-injective (waited_retired wait r) a e) (own r (all 0 r refl))
   each_noted P (r ∷ rs) rest own all (suc j) a e = each_noted P rs rest own (λ n b g. all (suc n) b g) j a e
 
-  in_noted : (rs rest : List Retired) (r : Retired) → IsIn (rs ++ rest) r → (z : Retired) × IsIn (map (waited_retired wait) rs ++ rest) z × (z.slot ≡ r.slot)
+  in_noted : (rs rest : List Retired) (r : Retired) → IsIn (rs ++ rest) r
+      → (z : Retired) × IsIn (map (waited_retired wait) rs ++ rest) z × (z.slot ≡ r.slot)
   in_noted [] rest r there = (r, there, refl)
   in_noted (x ∷ rs) rest r (zero, e) = (waited_retired wait x, (0, refl), ap (λ (z : Retired). z.slot) (some-injective x r e))
   in_noted (x ∷ rs) rest r (suc j, e) = let q = in_noted rs rest r (j, e) in (q.0, (suc q.1.0, q.1.1), q.2)
 
   -- the move is the same but for what is noted
-  move_back : (o : Option Move) (move : Move) → waited_move wait o ≡ Some move → (z : Move) × (b : Bool) × (o ≡ Some z) × (record z { waited = b } ≡ move)
+  move_back : (o : Option Move) (move : Move) → waited_move wait o ≡ Some move
+      → (z : Move) × (b : Bool) × (o ≡ Some z) × (record z { waited = b } ≡ move)
   move_back None move e = absurd (cc)
   move_back (Some z) move e = (z, (z.waited || is_move_grace wait z), refl, (cc))
 
@@ -74,7 +78,8 @@ module _ (vs : List View) (id : ℕ) (v : View) (there : get_elem? vs id ≡ som
   w = record v { hands = record v.hands { retired = map (waited_retired wait) v.hands.retired }; moving = waited_move wait v.moving }
 
   pub slots_noted : slots_of w ≡ slots_of v
-  slots_noted = ap (λ xs. held_list v.hands.hand ++ (spares_of v ++ xs)) (slots_noted_in wait v.hands.retired (joined_retired v.allowance.joined))
+  slots_noted = ap (λ xs. held_list v.hands.hand ++ (spares_of v ++ xs))
+      (slots_noted_in wait v.hands.retired (joined_retired v.allowance.joined))
 
   pub unraised_noted : unraised_of w ≡ unraised_of v
   unraised_noted = ap (λ n. unraised_hand v.hands.hand + n) (unraised_noted_in wait v.hands.retired (joined_retired v.allowance.joined))
@@ -108,7 +113,8 @@ module _ (vs : List View) (id : ℕ) (v : View) (there : get_elem? vs id ≡ som
     hands_noted i = record {
       hand = i.hand;
       spare = i.spare;
-      copy = λ move is. (let x = move_back wait v.moving move is in subst (λ (z : Move). IsHeldKnown m z.copy × IsEven (m (Life z.copy.slot))) x.3 (i.copy x.0 x.2));
+      copy = λ move is. (let x = move_back wait v.moving move is in
+          subst (λ (z : Move). IsHeldKnown m z.copy × IsEven (m (Life z.copy.slot))) x.3 (i.copy x.0 x.2));
       spares = i.spares;
     }
 
@@ -116,43 +122,64 @@ module _ (vs : List View) (id : ℕ) (v : View) (there : get_elem? vs id ≡ som
     few_noted i = record {
       one = i.one;
       few = (let e = length-map v.hands.retired (waited_retired wait) in let f = i.few in omega arith);
-      room = λ move is. (let x = move_back wait v.moving move is in let e = length-map v.hands.retired (waited_retired wait) in let f = i.room x.0 x.2 in omega arith);
+      room = λ move is. (let x = move_back wait v.moving move is in let e = length-map v.hands.retired (waited_retired wait) in
+          let f = i.room x.0 x.2 in omega arith);
       joined = i.joined;
       joined_spare = i.joined_spare;
-      next_spare = λ works none. (let r = i.next_spare works none in (waited_retired wait r.0, (r.1.0, at_map (waited_retired wait) v.hands.retired r.1.0 r.0 r.1.1), r.2));
+      next_spare = λ works none. (let r = i.next_spare works none in
+          (waited_retired wait r.0, (r.1.0, at_map (waited_retired wait) v.hands.retired r.1.0 r.0 r.1.1), r.2));
     }
 
     unlinked_noted : (s : ℕ) → IsRetiredOf vs s → IsRetiredOf (set vs id w) s
     unlinked_noted s r =
         dite (ℕ_discrete r.id id)
-        (λ here. let x = in_noted wait v.hands.retired (joined_retired v.allowance.joined) r.retired (subst (λ (u : View). IsIn (retired_of u) r.retired) (view_here r.id r.view here r.there) r.has) in
+        (λ here. let x = in_noted wait v.hands.retired (joined_retired v.allowance.joined) r.retired
+        (subst (λ (u : View). IsIn (retired_of u) r.retired) (view_here r.id r.view here r.there) r.has) in
         record { id = id; view = w; retired = x.0; there = set_here vs id w (at_below vs id v there); has = x.1; slot = x.2 ∙ r.slot })
-        (λ ne. record { id = r.id; view = r.view; retired = r.retired; there = set_else vs id r.id w ne ∙ r.there; has = r.has; slot = r.slot })
+        (λ ne. record {
+          id = r.id;
+          view = r.view;
+          retired = r.retired;
+          there = set_else vs id r.id w ne ∙ r.there;
+          has = r.has;
+          slot = r.slot;
+        })
 
     moving_noted : (z : Move) (b : Bool) → IsMoving m g h v z → IsMoving m g h w (record z { waited = b })
-    moving_noted z b = moving_by m m (same_slots m).nodes g h h v w z b z.copy.known (λ n x e. e) refl (λ s which. refl) (λ r x. x) (λ r x. x)
+    moving_noted z b = moving_by m m (same_slots m).nodes g h h v w z b z.copy.known (λ n x e. e) refl (λ s which. refl) (λ r x. x)
+        (λ r x. x)
 
     -- a view that has a move now had one, of the same old successor and copy
-    had_move : (j : ℕ) (u : View) (move : Move) → get_elem? (set vs id w) j ≡ some u → u.moving ≡ Some move → (x : View) × (z : Move) × (get_elem? vs j ≡ some x) × (x.moving ≡ Some z) × (bare move ≡ bare z)
+    had_move : (j : ℕ) (u : View) (move : Move) → get_elem? (set vs id w) j ≡ some u → u.moving ≡ Some move
+        → (x : View) × (z : Move) × (get_elem? vs j ≡ some x) × (x.moving ≡ Some z) × (bare move ≡ bare z)
     had_move j u move e is =
         ⊎_elim
-        (λ (t : (j ≡ id) × (w ≡ u)). let x = move_back wait v.moving move (ap (λ (y : View). y.moving) t.1 ∙ is) in (v, x.0, subst (λ n. get_elem? vs n ≡ some v) (sym t.0) there, x.2, ap bare (sym x.3)))
+        (λ (t : (j ≡ id) × (w ≡ u)). let x = move_back wait v.moving move (ap (λ (y : View). y.moving) t.1 ∙ is) in
+        (v, x.0, subst (λ n. get_elem? vs n ≡ some v) (sym t.0) there, x.2, ap bare (sym x.3)))
         (λ (t : (j ≢ id) × (get_elem? vs j ≡ some u)). (u, move, t.1, is, refl))
         (at_set vs id j w u e)
 
     forms_noted : SameMoves vs (set vs id w)
     forms_noted = record {
       forth = λ a p. (let x = pending_on a p in (x.0, x.1, form a x.0 x.2));
-      back = λ j u a e is. (let x = had_move j u a e is in record { view = x.0; before = x.1; stands = x.2; has_it = x.3; form = form x.1 a x.4 });
+      back = λ j u a e is. (let x = had_move j u a e is in
+          record { view = x.0; before = x.1; stands = x.2; has_it = x.3; form = form x.1 a x.4 });
     }
       where
         form : (a b : Move) → bare b ≡ bare a → IsForm a b
-        form a b e = record { key = ap (λ (z : Move). z.key) e; next_key = ap (λ (z : Move). z.next_key) e; copy = ap (λ (z : Move). z.copy.slot) e; old = ap (λ (z : Move). z.old) e; made = ap (λ (z : Move). z.made) e }
+        form a b e = record {
+          key = ap (λ (z : Move). z.key) e;
+          next_key = ap (λ (z : Move). z.next_key) e;
+          copy = ap (λ (z : Move). z.copy.slot) e;
+          old = ap (λ (z : Move). z.old) e;
+          made = ap (λ (z : Move). z.made) e;
+        }
 
     -- so a step that notes it keeps all of them
     pub noted_half : (k : Shape) → SlotHalf k m g vs h → SlotHalf k m g (set vs id w) h
     noted_half k t = record {
-      slots = slots_by m (slot_count k) g vs id v w h there (λ s. ap (times s) slots_noted) few_noted hands_noted (λ i. each_noted wait (IsRetired m h) v.hands.retired (joined_retired v.allowance.joined) retired_noted i) unlinked_noted t.slots;
+      slots = slots_by m (slot_count k) g vs id v w h there (λ s. ap (times s) slots_noted) few_noted hands_noted
+          (λ i. each_noted wait (IsRetired m h) v.hands.retired (joined_retired v.allowance.joined) retired_noted i) unlinked_noted t.slots;
       locks = lock_frame m m (slot_count k) g vs id v w there (same_slots m) (record {
         place = refl;
         locks = refl;
@@ -163,7 +190,9 @@ module _ (vs : List View) (id : ℕ) (v : View) (there : get_elem? vs id ≡ som
       }) t.locks;
       tree = tree_by m m (slot_count k) g vs (set vs id w) h h (same_slots m).nodes (quiet_same h) forms_noted
           (each_set (λ j u. (move : Move) → u.moving ≡ Some move → IsMoving m g h u move) vs id w
-          (λ move is. (let x = move_back wait v.moving move is in subst (IsMoving m g h w) x.3 (moving_noted x.0 x.1 (t.tree.moves.each id v there x.0 x.2))))
+          (λ move is. (let x = move_back wait v.moving move is in
+          subst (IsMoving m g h w) x.3 (moving_noted x.0 x.1 (t.tree.moves.each id v there x.0 x.2))))
           (λ j u ne e. t.tree.moves.each j u e)) t.tree;
-      readers = readers_stay m m (same_slots m).nodes g vs id v w h h there (quiet_same h) (see_by vs (set vs id w) forms_noted (emptied_still vs id v w there refl)) refl refl t.readers;
+      readers = readers_stay m m (same_slots m).nodes g vs id v w h h there (quiet_same h)
+          (see_by vs (set vs id w) forms_noted (emptied_still vs id v w there refl)) refl refl t.readers;
     }

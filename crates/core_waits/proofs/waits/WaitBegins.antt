@@ -40,12 +40,14 @@ use Rattle.core_frames.proofs.views.Same.{slots_stay}
 use Rattle.core_frames.proofs.marks.MoreMarks.{QuietWaits, others_snoc, prefix_snoc}
 
 -- a wait that stands in the list is counted after it
-begun_there : (p n low high : ℕ) (h : List Mark) (i : ℕ) → get_elem? h i ≡ some (Began p n low high) → begun_at p (take i h) + 1 ≤ begun_at p h
+begun_there : (p n low high : ℕ) (h : List Mark) (i : ℕ) → get_elem? h i ≡ some (Began p n low high)
+    → begun_at p (take i h) + 1 ≤ begun_at p h
 begun_there p n low high h i e =
     let a = begun_at-append p (take i h) (drop i h) in
     let b = ap (begun_at p) (take-append-drop i h) in
     let c = ap (begun_at p) (drop_at h i (Began p n low high) e) in
-    let d : begun_at p (Began p n low high ∷ drop (suc i) h) ≡ 1 + begun_at p (drop (suc i) h) = ap (λ t. cond t 1 0 + begun_at p (drop (suc i) h)) (eq-eqb p p refl) in
+    let d : begun_at p (Began p n low high ∷ drop (suc i) h) ≡ 1 + begun_at p (drop (suc i) h) =
+    ap (λ t. cond t 1 0 + begun_at p (drop (suc i) h)) (eq-eqb p p refl) in
     omega arith
 
 -- the next wait of a place hasn't ended
@@ -57,7 +59,8 @@ not_ended places p h t has =
     let d = b.1 in
     absurd (omega arith)
 
-module _ (k : Shape) (m : Memory) (vs : List View) (h : List Mark) (id : ℕ) (v : View) (i : HoldsNow k m vs h) (there : get_elem? vs id ≡ some v) (works : Works v) (low high : ℕ) (needs : NeedsBegin v low high) where
+module _ (k : Shape) (m : Memory) (vs : List View) (h : List Mark) (id : ℕ) (v : View) (i : HoldsNow k m vs h)
+    (there : get_elem? vs id ≡ some v) (works : Works v) (low high : ℕ) (needs : NeedsBegin v low high) where
   abbrev w : View
   w = after_begin v low high (m Clock) h
 
@@ -86,9 +89,12 @@ module _ (k : Shape) (m : Memory) (vs : List View) (h : List Mark) (id : ℕ) (v
   waits : QuietWaits h hs
   waits = record {
     began = λ j p n from to over e. ⊎_elim (λ (o : get_elem? h j ≡ some (Began p n from to)). o)
-        (λ x. absurd (let q : mark ≡ Began p n from to = x.1 in let place : v.allowance.place ≡ p = cc in let count : v.counts.waits ≡ n = cc in not_over (subst (λ (y : ℕ × ℕ). HasEnded h y.0 y.1) (λ l. (sym place l, sym count l)) over)))
+        (λ x. absurd (let q : mark ≡ Began p n from to = x.1 in let place : v.allowance.place ≡ p = cc in
+        let count : v.counts.waits ≡ n = cc in not_over
+        (subst (λ (y : ℕ × ℕ). HasEnded h y.0 y.1) (λ l. (sym place l, sym count l)) over)))
         (at_end h mark (Began p n from to) j e);
-    ended = λ j p n e. ⊎_elim (λ (o : get_elem? h j ≡ some (Ended p n)). o) (λ x. absurd (let q : mark ≡ Ended p n = x.1 in cc)) (at_end h mark (Ended p n) j e);
+    ended = λ j p n e. ⊎_elim (λ (o : get_elem? h j ≡ some (Ended p n)). o) (λ x. absurd (let q : mark ≡ Ended p n = x.1 in cc))
+        (at_end h mark (Ended p n) j e);
   }
 
   stands : WaitStands hs w wait
@@ -104,16 +110,27 @@ module _ (k : Shape) (m : Memory) (vs : List View) (h : List Mark) (id : ℕ) (v
   places : SeatHalf k (set vs id w) hs
   places =
       let begun_here : begun_at v.allowance.place hs ≡ begun_at v.allowance.place h + 1 =
-      (let a = begun_at-append v.allowance.place h (mark ∷ []) in let b : begun_at v.allowance.place (mark ∷ []) ≡ 1 + 0 = ap (λ t. cond t 1 0 + 0) (eq-eqb v.allowance.place v.allowance.place refl) in omega arith) in
+      (let a = begun_at-append v.allowance.place h (mark ∷ []) in
+      let b : begun_at v.allowance.place (mark ∷ []) ≡ 1 + 0 =
+      ap (λ t. cond t 1 0 + 0) (eq-eqb v.allowance.place v.allowance.place refl) in omega arith) in
       let c = i.seats.counted id v there works in
       let before = c.waits in
       record {
         marks = mark_frame_by k.places vs id v w h hs there (prefix_snoc h mark) (inl refl)
-            (marks_snoc k.places h mark (place_within k.places vs i.seats.placed id v.allowance.place v there (works_there v works), counted, needs.some, needs.high_fits) i.marks.marks) i.marks
-            (λ x is. of_wait (WaitStands hs w) w.wait wait x refl stands is) (λ j u x ne e s has. (has.0, waits.ended has.0 u.allowance.place x.count has.1));
-        seats = seat_frame_still k.places vs id v w h hs there works (record { place = refl; places = refl; joined = refl; met = refl }) (others_snoc v.allowance.place h mark (λ p ne. ne_eqb v.allowance.place p (λ e. ne (sym e)))) (inl refl)
-            (record { sections = c.sections ∙ sym (entered_more v.allowance.place); waits = omega arith }) i.seats refl (open_at-snoc v.allowance.place h mark);
-        grace = grace_frame vs id v w h hs there (λ s is. inr (s, is, refl, refl)) quiet waits refl refl refl refl (grace_longer h hs (prefix_snoc h mark) waits i.grace.grace) (reuse_snoc h mark tt i.grace.reuse) i.grace;
+            (marks_snoc k.places h mark (
+              place_within k.places vs i.seats.placed id v.allowance.place v there (works_there v works),
+              counted,
+              needs.some,
+              needs.high_fits,
+            ) i.marks.marks) i.marks
+            (λ x is. of_wait (WaitStands hs w) w.wait wait x refl stands is)
+            (λ j u x ne e s has. (has.0, waits.ended has.0 u.allowance.place x.count has.1));
+        seats = seat_frame_still k.places vs id v w h hs there works (record { place = refl; places = refl; joined = refl; met = refl })
+            (others_snoc v.allowance.place h mark (λ p ne. ne_eqb v.allowance.place p (λ e. ne (sym e)))) (inl refl)
+            (record { sections = c.sections ∙ sym (entered_more v.allowance.place); waits = omega arith }) i.seats refl
+            (open_at-snoc v.allowance.place h mark);
+        grace = grace_frame vs id v w h hs there (λ s is. inr (s, is, refl, refl)) quiet waits refl refl refl refl
+            (grace_longer h hs (prefix_snoc h mark) waits i.grace.grace) (reuse_snoc h mark tt i.grace.reuse) i.grace;
       }
     where
       entered_more : (p : ℕ) → entered_at p hs ≡ entered_at p h
@@ -125,11 +142,21 @@ module _ (k : Shape) (m : Memory) (vs : List View) (h : List Mark) (id : ℕ) (v
       let clock = i.waiters.clock in
       let ticket = needs.ticket in
       whole k new i.chart (set vs id w) hs i.table (slot_half k m vs h id v w i there new hs slots quiet refl (λ one. one)) places
-      (waiters_own k m new vs id v w h hs wait there refl refl refl refl refl (let a = begun-append h (mark ∷ []) in let b : begun (mark ∷ []) ≡ 1 = refl in omega arith) (prefix_snoc h mark) (λ p. open_at-snoc p h mark) (clocked_before k m vs h i)
+      (waiters_own k m new vs id v w h hs wait there refl refl refl refl refl
+      (let a = begun-append h (mark ∷ []) in let b : begun (mark ∷ []) ≡ 1 = refl in omega arith) (prefix_snoc h mark)
+      (λ p. open_at-snoc p h mark) (clocked_before k m vs h i)
       (λ j u section going e inside x. absurd (some-ne-none (spot_of k.waiter u.allowance.place section) (sym x.2.1)))
       (record { met = λ c some_class. absurd (omega arith); once = λ c. omega arith }) i.waiters)
-      (counts_still k.tickets m new (slot_count k) i.chart vs id v w h hs there (sums_same m new (slot_count k) slots.nodes slots.state) quiet.updates
-      (record { free = omega arith; clock = omega arith; generations = omega arith; tags = omega arith; turns = omega arith; pending = refl }) i.counts)
+      (counts_still k.tickets m new (slot_count k) i.chart vs id v w h hs there
+      (sums_same m new (slot_count k) slots.nodes slots.state) quiet.updates
+      (record {
+        free = omega arith;
+        clock = omega arith;
+        generations = omega arith;
+        tags = omega arith;
+        turns = omega arith;
+        pending = refl;
+      }) i.counts)
       (front_frame m new vs id v w h hs there refl refl (λ e. e) quiet i.front)
       (listing_frame_still m new slots.nodes refl i.chart h hs quiet vs id v w there refl i.listings)
 
@@ -141,4 +168,5 @@ keeps7 = keeps_found K7 kept_found
         let m' : Memory = stored m Clock (n + 1) in
         let us : ℕ → List View = λ z. set vs id (after_begin v low high z h) in
         let h' : List Mark = h ++ Began v.allowance.place v.counts.waits low high ∷ [] in
-        kept k m m' h (us n) h' (slots_stay m m' refl) (subst (λ z. HoldsNow k (stored m Clock (z + 1)) (us z) h') e (law7 k m vs h id v i there works low high needs))
+        kept k m m' h (us n) h' (slots_stay m m' refl)
+        (subst (λ z. HoldsNow k (stored m Clock (z + 1)) (us z) h') e (law7 k m vs h id v i there works low high needs))

@@ -35,9 +35,11 @@ entered_open c x e = record { count = c; key = x; at = e }
 
 module _ (places : ℕ) (h : List Mark) (t : AreMarks places h) (e q c x : ℕ) (entered : get_elem? h e ≡ some (Entered q c x)) where
   -- one mark more, where the section is still open before it
-  step : (j : ℕ) (a : Mark) → e < j → get_elem? h j ≡ some a → open_at q (take j h) ≡ Some (entered_open c x e) → (n : ℕ) → WasLeft h q c e (suc j) ⊎ (next_open q n (Some (entered_open c x e)) a ≡ Some (entered_open c x e))
+  step : (j : ℕ) (a : Mark) → e < j → get_elem? h j ≡ some a → open_at q (take j h) ≡ Some (entered_open c x e) → (n : ℕ)
+      → WasLeft h q c e (suc j) ⊎ (next_open q n (Some (entered_open c x e)) a ≡ Some (entered_open c x e))
   step j (Entered p d y) lt at now n = dite (ℕ_discrete p q)
-      (λ same. absurd (let none = (t.entered j p d y at).3 in let f : None ≡ Some (entered_open c x e) = sym none ∙ ap (λ z. open_at z (take j h)) same ∙ now in cc))
+      (λ same. absurd (let none = (t.entered j p d y at).3 in
+      let f : None ≡ Some (entered_open c x e) = sym none ∙ ap (λ z. open_at z (take j h)) same ∙ now in cc))
       (λ ne. inr (ap (λ b. cond b (Some (entered_open d y n)) (Some (entered_open c x e))) (ne_eqb p q ne)))
   step j (Left p d) lt at now n = dite (ℕ_discrete p q)
       (λ same. inl (let r = t.left j p d at in
@@ -57,7 +59,8 @@ module _ (places : ℕ) (h : List Mark) (t : AreMarks places h) (e q c x : ℕ) 
   upto zero le =
       let n : e + 1 + 0 ≡ suc e = omega arith in
       let long = take_length h e (omega arith) in
-      inr (ap (λ z. open_at q (take z h)) n ∙ ap (open_at q) (take_next h e (Entered q c x) entered) ∙ open_entered q (take e h) c x ∙ ap (λ z. Some (entered_open c x z)) long)
+      inr (ap (λ z. open_at q (take z h)) n ∙ ap (open_at q) (take_next h e (Entered q c x) entered) ∙ open_entered q (take e h) c x
+      ∙ ap (λ z. Some (entered_open c x z)) long)
   upto (suc d) le =
       let n : e + 1 + suc d ≡ suc (e + 1 + d) = omega arith in
       let next = at_some h (e + 1 + d) (omega arith) in
@@ -65,7 +68,8 @@ module _ (places : ℕ) (h : List Mark) (t : AreMarks places h) (e q c x : ℕ) 
       (λ (w : WasLeft h q c e (e + 1 + d)). inl (w.0, w.1, (let a = w.2 in omega arith), w.3))
       (λ (now : open_at q (take (e + 1 + d) h) ≡ Some (entered_open c x e)). ⊎_elim (λ w. inl w)
       (λ (f : next_open q (length (take (e + 1 + d) h)) (Some (entered_open c x e)) next.0 ≡ Some (entered_open c x e)).
-      inr (ap (open_at q) (take_next h (e + 1 + d) next.0 next.1) ∙ open_at-snoc q (take (e + 1 + d) h) next.0 ∙ ap (λ o. next_open q (length (take (e + 1 + d) h)) o next.0) now ∙ f))
+      inr (ap (open_at q) (take_next h (e + 1 + d) next.0 next.1) ∙ open_at-snoc q (take (e + 1 + d) h) next.0
+      ∙ ap (λ o. next_open q (length (take (e + 1 + d) h)) o next.0) now ∙ f))
       (step (e + 1 + d) next.0 (omega arith) next.1 now (length (take (e + 1 + d) h))))
       (upto d (omega arith)))
 
@@ -79,12 +83,14 @@ module _ (places : ℕ) (h : List Mark) (t : AreMarks places h) (e q c x : ℕ) 
       (subst (λ z. WasLeft h q c e z ⊎ (open_at q (take z h) ≡ Some (entered_open c x e))) n all)
 
 -- fewer waits were begun at a place before one of them than before a later mark
-begun_at_less : (h : List Mark) (i j p n low high : ℕ) → get_elem? h i ≡ some (Began p n low high) → i < j → begun_at p (take i h) < begun_at p (take j h)
+begun_at_less : (h : List Mark) (i j p n low high : ℕ) → get_elem? h i ≡ some (Began p n low high) → i < j
+    → begun_at p (take i h) < begun_at p (take j h)
 begun_at_less [] i j p n low high e lt = absurd (some-ne-none (Began p n low high) (sym e))
 begun_at_less (x ∷ h) i zero p n low high e lt = absurd (omega arith)
 begun_at_less (x ∷ h) zero (suc j) p n low high e lt =
     let a = begun_at-append p (x ∷ []) (take j h) in
-    let b : begun_at p (x ∷ []) ≡ 1 + 0 = ap (λ z. begun_at p (z ∷ [])) (some-injective x (Began p n low high) e) ∙ ap (λ t. cond t 1 0 + 0) (eq-eqb p p refl) in
+    let b : begun_at p (x ∷ []) ≡ 1 + 0 = ap (λ z. begun_at p (z ∷ [])) (some-injective x (Began p n low high) e)
+    ∙ ap (λ t. cond t 1 0 + 0) (eq-eqb p p refl) in
     omega arith
 begun_at_less (x ∷ h) (suc i) (suc j) p n low high e lt =
     let a = begun_at-append p (x ∷ []) (take i h) in
@@ -93,17 +99,21 @@ begun_at_less (x ∷ h) (suc i) (suc j) p n low high e lt =
     omega arith
 
 -- a wait with its number began at one place of the list
-pub began_once : (places : ℕ) (h : List Mark) → AreMarks places h → (i j p n a b low high : ℕ) → get_elem? h i ≡ some (Began p n a b) → get_elem? h j ≡ some (Began p n low high) → i ≡ j
+pub began_once : (places : ℕ) (h : List Mark) → AreMarks places h → (i j p n a b low high : ℕ) → get_elem? h i ≡ some (Began p n a b)
+    → get_elem? h j ≡ some (Began p n low high) → i ≡ j
 began_once places h t i j p n a b low high ei ej =
     let first = (t.began i p n a b ei).1 in
     let second = (t.began j p n low high ej).1 in
     dite (dec_le (suc i) j) (λ before. absurd (let r = begun_at_less h i j p n a b ei (omega arith) in omega arith))
-    (λ not_before. dite (dec_le (suc j) i) (λ after. absurd (let r = begun_at_less h j i p n low high ej (omega arith) in omega arith)) (λ not_after. omega arith))
+    (λ not_before. dite (dec_le (suc j) i) (λ after. absurd (let r = begun_at_less h j i p n low high ej (omega arith) in omega arith))
+    (λ not_after. omega arith))
 
 -- and it is one wait
-pub began_same : (places : ℕ) (h : List Mark) → AreMarks places h → (i j p n a b low high : ℕ) → get_elem? h i ≡ some (Began p n a b) → get_elem? h j ≡ some (Began p n low high)
+pub began_same : (places : ℕ) (h : List Mark) → AreMarks places h → (i j p n a b low high : ℕ) → get_elem? h i ≡ some (Began p n a b)
+    → get_elem? h j ≡ some (Began p n low high)
     → (i ≡ j) × (a ≡ low) × (b ≡ high)
 began_same places h t i j p n a b low high ei ej =
     let one = began_once places h t i j p n a b low high ei ej in
-    let same : Began p n a b ≡ Began p n low high = some-injective (Began p n a b) (Began p n low high) (sym ei ∙ ap (get_elem? h) one ∙ ej) in
+    let same : Began p n a b ≡ Began p n low high =
+    some-injective (Began p n a b) (Began p n low high) (sym ei ∙ ap (get_elem? h) one ∙ ej) in
     (one, (cc), (cc))

@@ -10,4 +10,5 @@ loop-caller-preserved c =
     ap entries_of c.in_ok-push.ensures.items
     ∙ map_push (λ (list : Roomy Told). list.entries) c.loop-caller.told.items c.in_ok-list_of.field-0
     ∙ (λ j. c.loop-caller.invariant j ++ c.in_ok-list_of.ensures.entries j ∷ [])
-    ∙ copied_more c.args.machine.now.owns c.loop-caller.caller c.told.result.now (let test = c.loop-caller-test.true in let count = c.requires.count in omega (arith, test, count)) c.told.ensures.told
+    ∙ copied_more c.args.machine.now.owns c.loop-caller.caller c.told.result.now
+    (let test = c.loop-caller-test.true in let count = c.requires.count in omega (arith, test, count)) c.told.ensures.told

@@ -11,8 +11,13 @@ invariant_of-result c =
     let room = c.in_ok-updates.ensures.capacity in
     let ops = c.ops.ensures.count in
     let few : 4 * op_count c.args.scripts.now < vec_capacity c.in_ok-updates.updates = omega (arith, room, ops) in
-    made_reached c.args.scripts.now c.args.slots c.requires.slots.0 c.requires.slots.1 c.requires.scripts (subst (λ n. n ≤ 64) c.count.ensures.count c.count.ensures.limit) (subst (λ n. n ≤ 1048576) ops c.ops.ensures.limit) c.count.ensures.fits
-    c.in_ok-words.words.items c.in_ok-callers.callers.items c.in_ok-updates.updates.items (c.in_ok-words.ensures ∙ ap (λ (n : ℕ). first_words (shape_for c.args.slots n)) c.count.ensures.count) c.in_ok-callers.ensures.owns c.in_ok-updates.ensures.items c.in_ok-callers.ensures.nowhere
+    made_reached c.args.scripts.now c.args.slots c.requires.slots.0 c.requires.slots.1 c.requires.scripts
+    (subst (λ n. n ≤ 64) c.count.ensures.count c.count.ensures.limit)
+    (subst (λ n. n ≤ 1048576) ops c.ops.ensures.limit) c.count.ensures.fits
+    c.in_ok-words.words.items c.in_ok-callers.callers.items c.in_ok-updates.updates.items
+    (c.in_ok-words.ensures ∙ ap (λ (n : ℕ). first_words
+    (shape_for c.args.slots n)) c.count.ensures.count) c.in_ok-callers.ensures.owns c.in_ok-updates.ensures.items
+    c.in_ok-callers.ensures.nowhere
     (vec_capacity c.in_ok-updates.updates) few c.in_ok-callers.ensures.rooms
 
 pub returns-clause-made : goal.returns-clause-made
@@ -27,8 +32,14 @@ returns-clause-made c = record {
 
 pub returns-clause-stored : goal.returns-clause-stored
 returns-clause-stored c =
-    made_stored c.args.scripts.now c.args.slots c.requires.slots.0 c.requires.slots.1 c.requires.scripts (subst (λ n. n ≤ 64) c.count.ensures.count c.count.ensures.limit) (subst (λ n. n ≤ 1048576) c.ops.ensures.count c.ops.ensures.limit) c.count.ensures.fits
-    c.in_ok-words.words.items c.in_ok-callers.callers.items c.in_ok-updates.updates.items (c.in_ok-words.ensures ∙ ap (λ (n : ℕ). first_words (shape_for c.args.slots n)) c.count.ensures.count) c.in_ok-callers.ensures.owns c.in_ok-updates.ensures.items c.in_ok-callers.ensures.nowhere
+    made_stored c.args.scripts.now c.args.slots c.requires.slots.0 c.requires.slots.1 c.requires.scripts
+    (subst (λ n. n ≤ 64) c.count.ensures.count c.count.ensures.limit)
+    (subst (λ n. n ≤ 1048576) c.ops.ensures.count c.ops.ensures.limit) c.count.ensures.fits
+    c.in_ok-words.words.items c.in_ok-callers.callers.items c.in_ok-updates.updates.items
+    (c.in_ok-words.ensures ∙ ap (λ (n : ℕ). first_words
+    (shape_for c.args.slots n)) c.count.ensures.count) c.in_ok-callers.ensures.owns c.in_ok-updates.ensures.items
+    c.in_ok-callers.ensures.nowhere
 
 pub returns-clause-count : goal.returns-clause-count
-returns-clause-count c = ap length c.in_ok-callers.ensures.owns ∙ owns_count (shape_for c.args.slots (length c.args.scripts.now)) 0 c.args.scripts.now
+returns-clause-count c = ap length c.in_ok-callers.ensures.owns
+    ∙ owns_count (shape_for c.args.slots (length c.args.scripts.now)) 0 c.args.scripts.now

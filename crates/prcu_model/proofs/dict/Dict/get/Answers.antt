@@ -11,7 +11,8 @@ returns-in-Ok c =
     let by_key = c.in-Ok.ensures.position (λ pair. pair.0) (answers_always _ _ _ (λ f a r g called. search rules)) in
     let found = rw c.deref.ensures.value at by_key in
     sym (get-dictionary es (is_sorted-from_ordered es c.self.invariant) c.args.key
-    ∙ lookup_found es c.self.invariant c.args.key c.in-Ok.i c.index.result.now (rw c.deref.ensures.value at c.in-Ok.ensures.bound) (found (0, 0)) c.index.ensures)
+    ∙ lookup_found es c.self.invariant c.args.key c.in-Ok.i c.index.result.now (rw c.deref.ensures.value at c.in-Ok.ensures.bound)
+    (found (0, 0)) c.index.ensures)
     ∙ ap (λ m. map.get m c.args.key) c.self.view_is
 
 pub returns-in-Err : goal.returns-in-Err
@@ -20,5 +21,6 @@ returns-in-Err c =
     let by_key = c.in-Err.ensures.position (λ pair. pair.0) (answers_always _ _ _ (λ f a r g called. search rules)) in
     let parted = rw c.deref.ensures.value at by_key in
     sym (get-dictionary es (is_sorted-from_ordered es c.self.invariant) c.args.key
-    ∙ lookup_missing es c.self.invariant c.args.key c.in-Err.field-0 (parted (comparisons_rise es c.self.invariant c.args.key)) (rw c.deref.ensures.value at c.in-Err.ensures.bound))
+    ∙ lookup_missing es c.self.invariant c.args.key c.in-Err.field-0 (parted (comparisons_rise es c.self.invariant c.args.key))
+    (rw c.deref.ensures.value at c.in-Err.ensures.bound))
     ∙ ap (λ m. map.get m c.args.key) c.self.view_is

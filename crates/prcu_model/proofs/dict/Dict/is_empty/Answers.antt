@@ -6,5 +6,7 @@ use Rattle.prcu_model.proofs.dict.Dict.is_empty.Goals as goal
 
 pub returns : goal.returns
 returns c =
-    let same : vec_len c.self.inside.pairs ≡ map.len c.args.self.now = c.self.inside.pairs.ok.0 ∙ sym (len-dictionary c.self.inside.pairs.items (is_sorted-from_ordered _ c.self.invariant)) ∙ ap map.len c.self.view_is in
+    let same : vec_len c.self.inside.pairs ≡ map.len c.args.self.now =
+    c.self.inside.pairs.ok.0 ∙ sym (len-dictionary c.self.inside.pairs.items (is_sorted-from_ordered _ c.self.invariant))
+    ∙ ap map.len c.self.view_is in
     grind (arith, nat_tests)

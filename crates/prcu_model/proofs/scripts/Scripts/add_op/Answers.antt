@@ -13,7 +13,9 @@ invariant_of-self-then-is_put c =
     let seen : c.args.self.now ≡ op_lists c.self.inside = sym c.self.view_is in
     let some = rw seen at c.requires.script in
     let room = rw seen at c.requires.room in
-    let n = counts-with_op (op_lists c.self.inside) _ c.args.op _ _ c.in_ok-push_to_last.ensures.ok some held.few_scripts room held.ops held.puts held.fits c.is_put.ensures.fits in
+    let n = counts-with_op
+    (op_lists c.self.inside) _ c.args.op _ _ c.in_ok-push_to_last.ensures.ok some held.few_scripts room held.ops held.puts held.fits
+    c.is_put.ensures.fits in
     let put : is_put c.args.op ≡ true = sym c.is_put.ensures.put ∙ c.if-is_put.true in
     let n = rw put at n in
     record { few_scripts = n.few_scripts; few_ops = n.few_ops; ops = n.ops; puts = n.puts; fits = n.fits }
@@ -24,7 +26,9 @@ invariant_of-self-else-is_put c =
     let seen : c.args.self.now ≡ op_lists c.self.inside = sym c.self.view_is in
     let some = rw seen at c.requires.script in
     let room = rw seen at c.requires.room in
-    let n = counts-with_op (op_lists c.self.inside) _ c.args.op _ _ c.in_ok-push_to_last.ensures.ok some held.few_scripts room held.ops held.puts held.fits c.is_put.ensures.fits in
+    let n = counts-with_op
+    (op_lists c.self.inside) _ c.args.op _ _ c.in_ok-push_to_last.ensures.ok some held.few_scripts room held.ops held.puts held.fits
+    c.is_put.ensures.fits in
     let put : is_put c.args.op ≡ false = sym c.is_put.ensures.put ∙ c.if-is_put.false in
     let n = rw put at n in
     record { few_scripts = n.few_scripts; few_ops = n.few_ops; ops = n.ops; puts = omega (arith, n.puts); fits = n.fits }
