@@ -10,7 +10,7 @@ use Rattle.prcu_model.specs.declared.operation.Reply.{Reply}
 use Rattle.prcu_model.specs.declared.operation.Reply.TheVariants.{New, Old, Full, Val, Absent, Gone, Was}
 use Rattle.prcu_model.specs.declared.operation.Told.{Told}
 use Rattle.prcu_model.specs.declared.operation.Update.{Update}
-use Rattle.prcu_model.specs.Dictionary.{Dictionary, WasSaid, key_of, map_of, map_at}
+use Rattle.prcu_model.specs.Dictionary.{Dictionary, key_of, map_of, map_at}
 use Rattle.prcu_model.specs.Fronts.{own_updates}
 use Rattle.prcu_model.specs.Replies.{Explains, Confirms, tells_update}
 use Rattle.prcu_model.proofs.ListFacts.{prefix_trans, all_map, all_append}
@@ -18,21 +18,23 @@ use Rattle.prcu_marks.specs.declared.mark.Mark.{Mark}
 use Rattle.prcu_marks.specs.declared.mark.Mark.TheVariants.{Entered, Left, Began, Ended, Done, Given, Unlinked, Freed}
 use Rattle.prcu_marks.specs.Chains.{IsChain}
 use Rattle.prcu_marks.specs.Callers as callers
-use Rattle.core_frames.proofs.views.SeatFacts.{works_there}
 use Rattle.prcu_marks.specs.Callers.{Caller, HasSeenItsOwn, IsLeftBy, entered_for, IsMoveWait, WaitsFor, HasMadeUpdate, WasExplained, HasAnswered}
 use Rattle.prcu_marks.specs.Marks.{updates_of, is_of, own_of}
 use Rattle.prcu_marks.proofs.Callers.{HasTold, chain_tells, told_meets}
-use Rattle.prcu_marks.proofs.MarkLists.{updates_of-append, own_of-append}
+use Rattle.prcu_marks.proofs.MarkLists.{updates_of-append}
 use Rattle.prcu_marks.proofs.OwnMarks.{entered_for-append}
 use Rattle.core_state.specs.declared.shape.Shape.{Shape}
 use Rattle.core_state.specs.declared.view.View.{View}
 use Rattle.tree_points.specs.Progress.{HasGone}
+use Rattle.tree_points.proofs.Gone.{gone_same}
 use Rattle.citrus_tree.specs.Gone.{IsOfTry}
 use Rattle.citrus_tree.specs.Lookups.{Looked, told_of, Gets}
 use Rattle.citrus_tree.specs.Replies.{WasAnswered, HasUpdated, HasTried, PutsBy, SetsBy, DelsBy}
 use Rattle.citrus_tree.specs.Clients.{ClientAt, caller_of, IsTold, HasCalled, room_of, ChainsMeetFronts}
+use Rattle.citrus_tree.proofs.Leavings.{goes_looked, was_answered}
 
-own_here : (p : ℕ) (m : Mark) (own : List Mark) → own_of p own ≡ own → (b : Bool) → is_of p m ≡ b → own_of p (cond b (m ∷ own) own) ≡ cond b (m ∷ own) own
+own_here : (p : ℕ) (m : Mark) (own : List Mark) → own_of p own ≡ own → (b : Bool) → is_of p m ≡ b
+    → own_of p (cond b (m ∷ own) own) ≡ cond b (m ∷ own) own
 own_here p m own twice true is = ap (λ b. cond b (m ∷ own_of p own) (own_of p own)) is ∙ ap (λ xs. m ∷ xs) twice
 own_here p m own twice false is = twice
 
@@ -99,26 +101,39 @@ module _ (explains : Dictionary → Op → Reply → Type 0) (v w : View) (op : 
   own_grows marks gone = ap (λ p. own_of p w.seen) gone.same ∙ gone.own
 
   -- a call that made no update
-  unchanged : (tries : List Mark) → HasTried v (key_of op) tries w → tells_update told.reply ≡ false → (front : ℕ) → length (updates_of v.seen) ≤ front → front ≤ length (updates_of w.seen) → explains (map_at (updates_of w.seen) front) op told.reply
+  unchanged : (tries : List Mark) → HasTried v (key_of op) tries w → tells_update told.reply ≡ false → (front : ℕ)
+      → length (updates_of v.seen) ≤ front → front ≤ length (updates_of w.seen) → explains (map_at (updates_of w.seen) front) op told.reply
       → HasAnswered explains (of_view v) op told (of_view w)
   unchanged tries t tells front low high explained = record {
     place = t.own.same;
     marks = tries;
     own = own_grows tries t.own;
-    keyed = all_map (IsOfTry v.allowance.place (key_of op)) (IsLeftBy v.allowance.place (key_of op)) tries (try_left v.allowance.place (key_of op)) t.tried.each;
+    keyed = all_map (IsOfTry v.allowance.place (key_of op)) (IsLeftBy v.allowance.place (key_of op)) tries
+        (try_left v.allowance.place (key_of op)) t.tried.each;
     entered = t.tried.entered;
-    waits = all_map (IsOfTry v.allowance.place (key_of op)) (WaitsFor (updates_of w.seen)) tries (try_waits (updates_of w.seen) v.allowance.place (key_of op)) t.tried.each;
+    waits = all_map (IsOfTry v.allowance.place (key_of op)) (WaitsFor (updates_of w.seen)) tries
+        (try_waits (updates_of w.seen) v.allowance.place (key_of op)) t.tried.each;
     since = t.own.begins;
     met = met_its_own w;
-    reply = subst (λ b. MatchBool b (HasMadeUpdate (of_view v) op told tries w.seen) (WasExplained explains (of_view v) op told tries w.seen)) (sym tells)
-        (record { left = no_updates v.allowance.place (key_of op) tries t.tried.each; front = front; since = low; until = high; explained = explained });
+    reply = subst (λ b. MatchBool b (HasMadeUpdate (of_view v) op told tries w.seen)
+        (WasExplained explains (of_view v) op told tries w.seen)) (sym tells)
+        (record {
+          left = no_updates v.allowance.place (key_of op) tries t.tried.each;
+          front = front;
+          since = low;
+          until = high;
+          explained = explained;
+        });
   }
 
   -- a call that its last search answered
-  answered : (tries : List Mark) (answer : Option ℕ) → HasTried v (key_of op) tries w → WasAnswered v (key_of op) answer w → tells_update told.reply ≡ false
-      → ((m : Dictionary) → finite.get m (key_of op) ≡ answer → explains m op told.reply) → HasAnswered explains (of_view v) op told (of_view w)
+  answered : (tries : List Mark) (answer : Option ℕ) → HasTried v (key_of op) tries w → WasAnswered v (key_of op) answer w
+      → tells_update told.reply ≡ false
+      → ((m : Dictionary) → finite.get m (key_of op) ≡ answer → explains m op told.reply)
+      → HasAnswered explains (of_view v) op told (of_view w)
   answered tries answer t a tells explained =
-      let to_end : IsPrefix a.until w.seen = prefix_trans a.until (a.until ++ Left v.allowance.place a.count ∷ []) w.seen (Left v.allowance.place a.count ∷ [], refl) a.seen in
+      let to_end : IsPrefix a.until w.seen = prefix_trans a.until (a.until ++ Left v.allowance.place a.count ∷ []) w.seen
+      (Left v.allowance.place a.count ∷ [], refl) a.seen in
       let more = updates_more a.until w.seen to_end in
       let front : ℕ = a.said.front in
       let made = a.said.made in
@@ -126,93 +141,99 @@ module _ (explains : Dictionary → Op → Reply → Type 0) (v w : View) (op : 
       let low = updates_below v.seen a.before a.since in
       let high = updates_below a.until w.seen to_end in
       unchanged tries t tells a.said.front (omega arith) (omega arith)
-      (explained (map_at (updates_of w.seen) a.said.front) (ap (λ us. finite.get (map_at us a.said.front) (key_of op)) more.1 ∙ ap (λ m. finite.get m (key_of op)) (map_before (updates_of a.until) more.0 a.said.front a.said.made) ∙ a.said.answers))
+      (explained (map_at (updates_of w.seen) a.said.front)
+      (ap (λ us. finite.get (map_at us a.said.front) (key_of op)) more.1
+      ∙ ap (λ m. finite.get m (key_of op)) (map_before (updates_of a.until) more.0 a.said.front a.said.made) ∙ a.said.answers))
 
   -- a call that made its update, with the marks that it left before and after
-  updated : (tries before after : List Mark) → HasUpdated v op tries before after told.number w → updates_of after ≡ [] → entered_for v.allowance.place (key_of op) after ≡ entered_for v.allowance.place (key_of op) after
-      → AllByRecursion (IsLeftBy v.allowance.place (key_of op)) after → AllByRecursion (WaitsFor (updates_of w.seen)) after → tells_update told.reply ≡ true → Confirms (map_of (updates_of before)) op told.reply
+  updated : (tries before after : List Mark) → HasUpdated v op tries before after told.number w → updates_of after ≡ []
+      → entered_for v.allowance.place (key_of op) after ≡ entered_for v.allowance.place (key_of op) after
+      → AllByRecursion (IsLeftBy v.allowance.place (key_of op)) after → AllByRecursion (WaitsFor (updates_of w.seen)) after
+      → tells_update told.reply ≡ true → Confirms (map_of (updates_of before)) op told.reply
       → HasAnswered explains (of_view v) op told (of_view w)
   updated tries before after u none same keyed waits tells confirms =
       let mark : Mark = Done (record { caller = v.allowance.place; op = op }) in
       let more = updates_more (before ++ Done (record { caller = v.allowance.place; op = op }) ∷ []) w.seen u.stands in
       let us_is : updates_of w.seen ≡ updates_of before ++ record { caller = v.allowance.place; op = op } ∷ more.0 =
-      more.1 ∙ ap (λ us. us ++ more.0) (updates_of-append before (Done (record { caller = v.allowance.place; op = op }) ∷ [])) ∙ append_assoc (updates_of before) (record { caller = v.allowance.place; op = op } ∷ []) more.0 in
+      more.1 ∙ ap (λ us. us ++ more.0) (updates_of-append before (Done (record { caller = v.allowance.place; op = op }) ∷ []))
+      ∙ append_assoc (updates_of before) (record { caller = v.allowance.place; op = op } ∷ []) more.0 in
       let number = u.number_is in
       let below = updates_below v.seen before u.since in
       let place_of : told.number - 1 ≡ length (updates_of before) = omega arith in
       let upto : List Mark = tries ++ Done (record { caller = v.allowance.place; op = op }) ∷ [] in
-      let split = entered_for-append v.allowance.place (key_of op) (tries ++ Done (record { caller = v.allowance.place; op = op }) ∷ []) after in
+      let split = entered_for-append v.allowance.place (key_of op)
+      (tries ++ Done (record { caller = v.allowance.place; op = op }) ∷ []) after in
       let inner = entered_for-append v.allowance.place (key_of op) tries (Done (record { caller = v.allowance.place; op = op }) ∷ []) in
       let some_search = u.tried.entered in
       record {
         place = u.own.same;
         marks = (tries ++ Done (record { caller = v.allowance.place; op = op }) ∷ []) ++ after;
         own = own_grows ((tries ++ Done (record { caller = v.allowance.place; op = op }) ∷ []) ++ after) u.own;
-        keyed = all_append (IsLeftBy v.allowance.place (key_of op)) (tries ++ Done (record { caller = v.allowance.place; op = op }) ∷ []) after
-            (all_append (IsLeftBy v.allowance.place (key_of op)) tries (Done (record { caller = v.allowance.place; op = op }) ∷ []) (all_map (IsOfTry v.allowance.place (key_of op)) (IsLeftBy v.allowance.place (key_of op)) tries (try_left v.allowance.place (key_of op)) u.tried.each) (refl, tt)) keyed;
+        keyed = all_append (IsLeftBy v.allowance.place (key_of op))
+            (tries ++ Done (record { caller = v.allowance.place; op = op }) ∷ []) after
+            (all_append (IsLeftBy v.allowance.place (key_of op)) tries (Done (record { caller = v.allowance.place; op = op }) ∷ [])
+            (all_map (IsOfTry v.allowance.place (key_of op)) (IsLeftBy v.allowance.place (key_of op)) tries
+            (try_left v.allowance.place (key_of op)) u.tried.each) (refl, tt)) keyed;
         entered = omega arith;
         waits = all_append (WaitsFor (updates_of w.seen)) (tries ++ Done (record { caller = v.allowance.place; op = op }) ∷ []) after
-            (all_append (WaitsFor (updates_of w.seen)) tries (Done (record { caller = v.allowance.place; op = op }) ∷ []) (all_map (IsOfTry v.allowance.place (key_of op)) (WaitsFor (updates_of w.seen)) tries (try_waits (updates_of w.seen) v.allowance.place (key_of op)) u.tried.each) (tt, tt)) waits;
+            (all_append (WaitsFor (updates_of w.seen)) tries (Done (record { caller = v.allowance.place; op = op }) ∷ [])
+            (all_map (IsOfTry v.allowance.place (key_of op)) (WaitsFor (updates_of w.seen)) tries
+            (try_waits (updates_of w.seen) v.allowance.place (key_of op)) u.tried.each) (tt, tt)) waits;
         since = u.own.begins;
         met = met_its_own w;
-        reply = subst (λ b. MatchBool b (HasMadeUpdate (of_view v) op told ((tries ++ Done (record { caller = v.allowance.place; op = op }) ∷ []) ++ after) w.seen) (WasExplained explains (of_view v) op told ((tries ++ Done (record { caller = v.allowance.place; op = op }) ∷ []) ++ after) w.seen)) (sym tells)
+        reply = subst (λ b. MatchBool b (HasMadeUpdate (of_view v) op told
+            ((tries ++ Done (record { caller = v.allowance.place; op = op }) ∷ []) ++ after) w.seen)
+            (WasExplained explains (of_view v) op told
+            ((tries ++ Done (record { caller = v.allowance.place; op = op }) ∷ []) ++ after) w.seen)) (sym tells)
             (record {
-              left = updates_of-append (tries ++ Done (record { caller = v.allowance.place; op = op }) ∷ []) after ∙ ap (λ z. updates_of (tries ++ Done (record { caller = v.allowance.place; op = op }) ∷ []) ++ z) none ∙ append-nil (updates_of (tries ++ Done (record { caller = v.allowance.place; op = op }) ∷ []))
-                  ∙ updates_of-append tries (Done (record { caller = v.allowance.place; op = op }) ∷ []) ∙ ap (λ z. z ++ record { caller = v.allowance.place; op = op } ∷ []) (no_updates v.allowance.place (key_of op) tries u.tried.each);
+              left = updates_of-append (tries ++ Done (record { caller = v.allowance.place; op = op }) ∷ []) after
+                  ∙ ap (λ z. updates_of (tries ++ Done (record { caller = v.allowance.place; op = op }) ∷ []) ++ z) none
+                  ∙ append-nil (updates_of (tries ++ Done (record { caller = v.allowance.place; op = op }) ∷ []))
+                  ∙ updates_of-append tries (Done (record { caller = v.allowance.place; op = op }) ∷ [])
+                  ∙ ap (λ z. z ++ record { caller = v.allowance.place; op = op } ∷ [])
+                  (no_updates v.allowance.place (key_of op) tries u.tried.each);
               later = omega arith;
-              stands = subst (λ (z : List Update × ℕ). slice_get z.0 z.1 ≡ Some (record { caller = v.allowance.place; op = op })) (λ i. (sym us_is i, sym place_of i)) (at_end (updates_of before) more.0 (record { caller = v.allowance.place; op = op }));
-              confirms = subst (λ d. Confirms d op told.reply) (sym (ap (λ (z : List Update × ℕ). map_at z.0 z.1) (λ i. (us_is i, place_of i)) ∙ ap map_of (take_at (updates_of before) (record { caller = v.allowance.place; op = op } ∷ more.0) (length (updates_of before)) refl))) confirms;
+              stands = subst (λ (z : List Update × ℕ). slice_get z.0 z.1 ≡ Some (record { caller = v.allowance.place; op = op }))
+                  (λ i. (sym us_is i, sym place_of i)) (at_end (updates_of before) more.0 (record { caller = v.allowance.place; op = op }));
+              confirms = subst (λ d. Confirms d op told.reply)
+                  (sym (ap (λ (z : List Update × ℕ). map_at z.0 z.1) (λ i. (us_is i, place_of i))
+                  ∙ ap map_of (take_at (updates_of before) (record { caller = v.allowance.place; op = op } ∷ more.0)
+                  (length (updates_of before)) refl))) confirms;
             });
       }
 
   -- the map just before the update, and where it stands in the history
   update_there : (tries before after : List Mark) → HasUpdated v op tries before after told.number w
-      → (slice_get (updates_of w.seen) (length (updates_of before)) ≡ Some (record { caller = v.allowance.place; op = op })) × (map_at (updates_of w.seen) (length (updates_of before)) ≡ map_of (updates_of before))
+      → (slice_get (updates_of w.seen) (length (updates_of before)) ≡ Some (record { caller = v.allowance.place; op = op }))
+      × (map_at (updates_of w.seen) (length (updates_of before)) ≡ map_of (updates_of before))
   update_there tries before after u =
       let more = updates_more (before ++ Done (record { caller = v.allowance.place; op = op }) ∷ []) w.seen u.stands in
       let us_is : updates_of w.seen ≡ updates_of before ++ record { caller = v.allowance.place; op = op } ∷ more.0 =
-      more.1 ∙ ap (λ us. us ++ more.0) (updates_of-append before (Done (record { caller = v.allowance.place; op = op }) ∷ [])) ∙ append_assoc (updates_of before) (record { caller = v.allowance.place; op = op } ∷ []) more.0 in (
-        ap (λ us. slice_get us (length (updates_of before))) us_is ∙ at_end (updates_of before) more.0 (record { caller = v.allowance.place; op = op }),
-        ap (λ us. map_at us (length (updates_of before))) us_is ∙ ap map_of (take_at (updates_of before) (record { caller = v.allowance.place; op = op } ∷ more.0) (length (updates_of before)) refl),
+      more.1 ∙ ap (λ us. us ++ more.0) (updates_of-append before (Done (record { caller = v.allowance.place; op = op }) ∷ []))
+      ∙ append_assoc (updates_of before) (record { caller = v.allowance.place; op = op } ∷ []) more.0 in (
+        ap (λ us. slice_get us (length (updates_of before))) us_is
+            ∙ at_end (updates_of before) more.0 (record { caller = v.allowance.place; op = op }),
+        ap (λ us. map_at us (length (updates_of before))) us_is
+            ∙ ap map_of (take_at (updates_of before) (record { caller = v.allowance.place; op = op } ∷ more.0)
+            (length (updates_of before)) refl),
       )
 
 absent : (m : Dictionary) (key : ℕ) → finite.get m key ≡ None → finite.contains_key m key ≡ false
 absent m key none = ap is_some none
 
 -- a lookup by itself is a call that its one search answered
-looked_tried : (v w : View) (key : ℕ) (answer : Option ℕ) → Looked v key answer w → HasTried v key (Entered v.allowance.place v.counts.sections key ∷ (Left v.allowance.place v.counts.sections ∷ [])) w × WasAnswered v key answer w
+looked_tried : (v w : View) (key : ℕ) (answer : Option ℕ) → Looked v key answer w
+    → HasTried v key (Entered v.allowance.place v.counts.sections key ∷ (Left v.allowance.place v.counts.sections ∷ [])) w
+    × WasAnswered v key answer w
 looked_tried v w key answer l =
     let p : ℕ = v.allowance.place in
-    let place : w.allowance.place ≡ v.allowance.place = ap (λ (z : View). z.allowance.place) l.others in
-    let begins : IsPrefix v.seen l.before = l.sees.begins in
-    let entered : IsPrefix l.before (l.before ++ Entered v.allowance.place v.counts.sections key ∷ []) = (Entered v.allowance.place v.counts.sections key ∷ [], refl) in
-    let to_until : IsPrefix l.before l.until = prefix_trans l.before (l.before ++ Entered v.allowance.place v.counts.sections key ∷ []) l.until entered l.within in
-    let ends : IsPrefix (l.until ++ Left v.allowance.place v.counts.sections ∷ []) w.seen = ([], append-nil (l.until ++ Left v.allowance.place v.counts.sections ∷ []) ∙ sym l.seen) in
-    let to_end : IsPrefix l.until w.seen = prefix_trans l.until (l.until ++ Left v.allowance.place v.counts.sections ∷ []) w.seen (Left v.allowance.place v.counts.sections ∷ [], refl) ends in
-    let same : updates_of w.seen ≡ updates_of l.until = ap updates_of l.seen ∙ updates_of-append l.until (Left v.allowance.place v.counts.sections ∷ []) ∙ append-nil (updates_of l.until) in
-    let here : (v.allowance.place == v.allowance.place) ≡ true = eq-eqb v.allowance.place v.allowance.place refl in
-    let mine : own_of v.allowance.place (Left v.allowance.place v.counts.sections ∷ []) ≡ Left v.allowance.place v.counts.sections ∷ [] = ap (λ b. cond b (Left v.allowance.place v.counts.sections ∷ []) []) here in
-    let own : own_of v.allowance.place w.seen ≡ own_of v.allowance.place v.seen ++ Entered v.allowance.place v.counts.sections key ∷ (Left v.allowance.place v.counts.sections ∷ []) =
-    ap (own_of v.allowance.place) l.seen ∙ own_of-append v.allowance.place l.until (Left v.allowance.place v.counts.sections ∷ [])
-    ∙ (λ i. l.between i ++ mine i) ∙ append_assoc (own_of v.allowance.place l.before) (Entered v.allowance.place v.counts.sections key ∷ []) (Left v.allowance.place v.counts.sections ∷ [])
-    ∙ ap (λ xs. xs ++ Entered v.allowance.place v.counts.sections key ∷ (Left v.allowance.place v.counts.sections ∷ [])) (sym (l.sees.own v.allowance.place (works_there v l.sees.works))) in (
+    let one : entered_for p key (Entered p v.counts.sections key ∷ (Left p v.counts.sections ∷ [])) ≡ 1 =
+    ap (λ b. cond b (cond (key == key) 1 0) 0 + 0) (eq-eqb p p refl) ∙ ap (λ b. cond b 1 0 + 0) (eq-eqb key key refl) in (
       record {
-        tried = record {
-          each = ((refl, refl), (refl, tt));
-          entered = (let one : entered_for v.allowance.place key (Entered v.allowance.place v.counts.sections key ∷ (Left v.allowance.place v.counts.sections ∷ [])) ≡ 1 = ap (λ b. cond b (cond (key == key) 1 0) 0 + 0) here ∙ ap (λ b. cond b 1 0 + 0) (eq-eqb key key refl) in omega arith);
-          once = omega arith;
-        };
-        own = record { same = place; begins = prefix_trans v.seen l.before w.seen begins (prefix_trans l.before l.until w.seen to_until to_end); own = own };
+        tried = record { each = ((refl, refl), (refl, tt)); entered = omega arith; once = omega arith };
+        own = (goes_looked l).gone;
       },
-      record {
-        count = v.counts.sections;
-        before = l.before;
-        until = l.until;
-        since = begins;
-        within = l.within;
-        seen = ends;
-        said = subst (λ us. WasSaid us key (length (updates_of l.before)) answer) same l.said;
-      },
+      was_answered l gone_same,
     )
 
 -- each call answers as its marks say
@@ -220,44 +241,67 @@ module _ (k : Shape) (v w : View) where
   got : (key : ℕ) (told : Told) → Gets v key told w → HasAnswered (Explains (room_of k)) (of_view v) (Get key) told (of_view w)
   got key told g = subst (λ t. HasAnswered (Explains (room_of k)) (of_view v) (Get key) t (of_view w)) (sym g.1) (by g.0 g.2)
     where
-      by : (answer : Option ℕ) → Looked v key answer w → HasAnswered (Explains (room_of k)) (of_view v) (Get key) (told_of answer) (of_view w)
-      by None l = let t = looked_tried v w key None l in answered (Explains (room_of k)) v w (Get key) (record { reply = Absent; number = 0 }) _ None t.0 t.1 refl (λ m none. absent m key none)
-      by (Some value) l = let t = looked_tried v w key (Some value) l in answered (Explains (room_of k)) v w (Get key) (record { reply = Val value; number = 0 }) _ (Some value) t.0 t.1 refl (λ m is. is)
+      by : (answer : Option ℕ) → Looked v key answer w
+          → HasAnswered (Explains (room_of k)) (of_view v) (Get key) (told_of answer) (of_view w)
+      by None l = let t = looked_tried v w key None l in
+          answered (Explains (room_of k)) v w (Get key) (record { reply = Absent; number = 0 }) _ None t.0 t.1 refl
+          (λ m none. absent m key none)
+      by (Some value) l = let t = looked_tried v w key (Some value) l in
+          answered (Explains (room_of k)) v w (Get key) (record { reply = Val value; number = 0 }) _ (Some value) t.0 t.1 refl (λ m is. is)
 
-  was_put : (key value : ℕ) (tries : List Mark) (reply : Reply) (number : ℕ) → PutsBy k v key value tries reply number w → HasAnswered (Explains (room_of k)) (of_view v) (Put key value) (record { reply = reply; number = number }) (of_view w)
-  was_put key value tries Old number p = answered (Explains (room_of k)) v w (Put key value) (record { reply = Old; number = number }) tries (Some p.2.0) p.1 p.2.1 refl (λ m is. ap is_some is)
-  was_put key value tries New number p = updated (Explains (room_of k)) v w (Put key value) (record { reply = New; number = number }) tries p.0 [] p.1 refl refl tt tt refl tt
+  was_put : (key value : ℕ) (tries : List Mark) (reply : Reply) (number : ℕ) → PutsBy k v key value tries reply number w
+      → HasAnswered (Explains (room_of k)) (of_view v) (Put key value) (record { reply = reply; number = number }) (of_view w)
+  was_put key value tries Old number p = answered (Explains (room_of k)) v w (Put key value) (record { reply = Old; number = number }) tries
+      (Some p.2.0) p.1 p.2.1 refl (λ m is. ap is_some is)
+  was_put key value tries New number p = updated (Explains (room_of k)) v w (Put key value)
+      (record { reply = New; number = number }) tries p.0 [] p.1 refl refl tt tt refl tt
   was_put key value tries Full number p =
-      let now : map_at (updates_of w.seen) (length (updates_of w.seen)) ≡ map_of (updates_of w.seen) = ap map_of (take_all (length (updates_of w.seen)) (updates_of w.seen) (omega arith)) in
-      unchanged (Explains (room_of k)) v w (Put key value) (record { reply = Full; number = number }) tries p.1 refl (length (updates_of w.seen)) (updates_below v.seen w.seen p.1.own.begins) (omega arith)
-      (subst (λ d. Explains (room_of k) d (Put key value) Full) (sym now) p.2.fills)
+      let now : map_at (updates_of w.seen) (length (updates_of w.seen)) ≡ map_of (updates_of w.seen) =
+      ap map_of (take_all (length (updates_of w.seen)) (updates_of w.seen) (omega arith)) in
+      unchanged (Explains (room_of k)) v w (Put key value) (record { reply = Full; number = number }) tries p.1 refl
+      (length (updates_of w.seen)) (updates_below v.seen w.seen p.1.own.begins) (omega arith)
+      (subst (λ d. Explains (room_of k) d (Put key value) Full) (sym now) p.3.fills)
   was_put key value tries (Val x) number p = absurd p
   was_put key value tries Absent number p = absurd p
   was_put key value tries Gone number p = absurd p
   was_put key value tries (Was x) number p = absurd p
 
-  was_set : (key value : ℕ) (tries : List Mark) (reply : Reply) (number : ℕ) → SetsBy v key value tries reply number w → HasAnswered (Explains (room_of k)) (of_view v) (Set key value) (record { reply = reply; number = number }) (of_view w)
-  was_set key value tries Absent number p = answered (Explains (room_of k)) v w (Set key value) (record { reply = Absent; number = number }) tries None p.1 p.2 refl (λ m none. absent m key none)
-  was_set key value tries (Was old) number p = updated (Explains (room_of k)) v w (Set key value) (record { reply = Was old; number = number }) tries p.0 [] p.1 refl refl tt tt refl p.2
+  was_set : (key value : ℕ) (tries : List Mark) (reply : Reply) (number : ℕ) → SetsBy v key value tries reply number w
+      → HasAnswered (Explains (room_of k)) (of_view v) (Set key value) (record { reply = reply; number = number }) (of_view w)
+  was_set key value tries Absent number p = answered (Explains (room_of k)) v w (Set key value)
+      (record { reply = Absent; number = number }) tries None p.1 p.2 refl (λ m none. absent m key none)
+  was_set key value tries (Was old) number p = updated (Explains (room_of k)) v w (Set key value)
+      (record { reply = Was old; number = number }) tries p.0 [] p.1 refl refl tt tt refl p.2
   was_set key value tries New number p = absurd p
   was_set key value tries Old number p = absurd p
   was_set key value tries Full number p = absurd p
   was_set key value tries (Val x) number p = absurd p
   was_set key value tries Gone number p = absurd p
 
-  was_deleted : (key : ℕ) (tries : List Mark) (reply : Reply) (number : ℕ) → DelsBy v key tries reply number w → HasAnswered (Explains (room_of k)) (of_view v) (Del key) (record { reply = reply; number = number }) (of_view w)
-  was_deleted key tries Absent number p = answered (Explains (room_of k)) v w (Del key) (record { reply = Absent; number = number }) tries None p.1 p.2 refl (λ m none. absent m key none)
+  was_deleted : (key : ℕ) (tries : List Mark) (reply : Reply) (number : ℕ) → DelsBy v key tries reply number w
+      → HasAnswered (Explains (room_of k)) (of_view v) (Del key) (record { reply = reply; number = number }) (of_view w)
+  was_deleted key tries Absent number p = answered (Explains (room_of k)) v w (Del key)
+      (record { reply = Absent; number = number }) tries None p.1 p.2 refl (λ m none. absent m key none)
   was_deleted key tries Gone number p = elim p.3 [
     | inl none ↦ by [] none refl tt tt
     | inr move ↦ by (Began v.allowance.place move.0 (key + 1) move.1 ∷ (Ended v.allowance.place move.0 ∷ [])) move.2 refl (refl, (refl, tt)) (
       inr (let there = update_there (Explains (room_of k)) v w (Del key) (record { reply = Gone; number = number }) tries p.0 p.1 p.2 in
-          record { position = length (updates_of p.0); key = key; update = there.0; low_is = refl; next = subst (λ d. callers.IsNextKey d key move.1) (sym there.1) move.3 }),
+          record {
+            position = length (updates_of p.0);
+            key = key;
+            update = there.0;
+            low_is = refl;
+            next = subst (λ d. callers.IsNextKey d key move.1) (sym there.1) move.3;
+          }),
       (tt, tt),
     )
   ]
     where
-      by : (after : List Mark) → p.1 ≡ after → updates_of after ≡ [] → AllByRecursion (IsLeftBy v.allowance.place key) after → AllByRecursion (WaitsFor (updates_of w.seen)) after → HasAnswered (Explains (room_of k)) (of_view v) (Del key) (record { reply = Gone; number = number }) (of_view w)
-      by after is none keyed waits = updated (Explains (room_of k)) v w (Del key) (record { reply = Gone; number = number }) tries p.0 after (subst (λ a. HasUpdated v (Del key) tries p.0 a number w) is p.2) none refl keyed waits refl tt
+      by : (after : List Mark) → p.1 ≡ after → updates_of after ≡ [] → AllByRecursion (IsLeftBy v.allowance.place key) after
+          → AllByRecursion (WaitsFor (updates_of w.seen)) after
+          → HasAnswered (Explains (room_of k)) (of_view v) (Del key) (record { reply = Gone; number = number }) (of_view w)
+      by after is none keyed waits = updated (Explains (room_of k)) v w (Del key) (record { reply = Gone; number = number }) tries p.0 after
+          (subst (λ a. HasUpdated v (Del key) tries p.0 a number w) is p.2) none refl keyed waits refl tt
   was_deleted key tries New number p = absurd p
   was_deleted key tries Old number p = absurd p
   was_deleted key tries Full number p = absurd p
@@ -272,11 +316,17 @@ module _ (k : Shape) (v w : View) where
 
 -- a chain of calls, from a client whose place had made no update, where each call keeps the shape and answers as its marks say
 pub chain_told : {C : Type 0} (made : C → Op → Told → C → Type 0) (on_tree : C → ClientAt)
-    → ((c : C) (op : Op) (told : Told) (d : C) → made c op told d → ((on_tree d).shape ≡ (on_tree c).shape) × HasAnswered (Explains (room_of (on_tree c).shape)) (caller_of (on_tree c)) op told (caller_of (on_tree d)))
-    → (k : Shape) (ops : List Op) (tolds : List Told) (before after : C) → (on_tree before).shape ≡ k → own_updates (on_tree before).seat.view.allowance.place (updates_of (on_tree before).seat.view.seen) ≡ []
-    → IsChain made before ops tolds after → HasTold (Explains (room_of k)) (caller_of (on_tree before)) ops tolds (caller_of (on_tree after))
+    → ((c : C) (op : Op) (told : Told) (d : C) → made c op told d
+    → ((on_tree d).shape ≡ (on_tree c).shape) × HasAnswered (Explains (room_of (on_tree c).shape)) (caller_of (on_tree c)) op told
+    (caller_of (on_tree d)))
+    → (k : Shape) (ops : List Op) (tolds : List Told) (before after : C) → (on_tree before).shape ≡ k
+    → own_updates (on_tree before).seat.view.allowance.place (updates_of (on_tree before).seat.view.seen) ≡ []
+    → IsChain made before ops tolds after → HasTold (Explains (room_of k)) (caller_of (on_tree before)) ops tolds
+    (caller_of (on_tree after))
 chain_told {C} made on_tree answers k ops tolds before after same none chain =
-    chain_tells kept (λ c. caller_of (on_tree c)) (Explains (room_of k)) (λ c op told d call. subst (λ z. HasAnswered (Explains (room_of z)) (caller_of (on_tree c)) op told (caller_of (on_tree d))) call.1 (answers c op told d call.0).1)
+    chain_tells kept (λ c. caller_of (on_tree c)) (Explains (room_of k))
+    (λ c op told d call. subst (λ z. HasAnswered (Explains (room_of z)) (caller_of (on_tree c)) op told (caller_of (on_tree d))) call.1
+    (answers c op told d call.0).1)
     ops tolds before after (met_its_own (on_tree before).seat.view) none (with_shape ops tolds before same chain)
   where
     kept : C → Op → Told → C → Type 0
@@ -288,9 +338,13 @@ chain_told {C} made on_tree answers k ops tolds before after same none chain =
     with_shape (o ∷ os) [] c is done = absurd done
     with_shape (o ∷ os) (t ∷ ts) c is done = (done.0, (done.1, is), with_shape os ts done.0 ((answers c o t done.0 done.1).0 ∙ is) done.2)
 
-pub chain_has_told : (k : Shape) (ops : List Op) (tolds : List Told) (before after : ClientAt) → before.shape ≡ k → own_updates before.seat.view.allowance.place (updates_of before.seat.view.seen) ≡ []
+pub chain_has_told : (k : Shape) (ops : List Op) (tolds : List Told) (before after : ClientAt) → before.shape ≡ k
+    → own_updates before.seat.view.allowance.place (updates_of before.seat.view.seen) ≡ []
     → IsChain HasCalled before ops tolds after → HasTold (Explains (room_of k)) (caller_of before) ops tolds (caller_of after)
-chain_has_told = chain_told HasCalled (λ c. c) (λ c op told d call. (call.shape, made_answers c.shape c.seat.view d.seat.view op told call.answer))
+chain_has_told = chain_told HasCalled (λ c. c)
+    (λ c op told d call. (call.shape, made_answers c.shape c.seat.view d.seat.view op told call.answer))
 
 pub chains_meet : ChainsMeetFronts
-chains_meet ops tolds before after none chain = told_meets (Explains (room_of before.shape)) (caller_of before) ops tolds (caller_of after) (chain_has_told before.shape ops tolds before after refl none chain)
+chains_meet ops tolds before after none chain =
+    told_meets (Explains (room_of before.shape)) (caller_of before) ops tolds (caller_of after)
+    (chain_has_told before.shape ops tolds before after refl none chain)

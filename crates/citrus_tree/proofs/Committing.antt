@@ -24,36 +24,49 @@ tried_none v = refl
 
 module _ (k : Shape) (v w : View) (t : Tried v w) where
   pub may_open : (expected : ℕ) → expected % 2 ≡ 0 → v.moving ≡ None → v.commit ≡ None → IsAsked k w (acts.OpenCommit expected)
-  may_open expected even settled paid = λ now. (tt, record { even = even; settled = ap (λ (z : View). z.moving) t ∙ settled; paid = ap (λ (z : View). z.commit) t ∙ paid })
+  may_open expected even settled paid = λ now. (
+    tt,
+    record { even = even; settled = ap (λ (z : View). z.moving) t ∙ settled; paid = ap (λ (z : View). z.commit) t ∙ paid },
+  )
 
   module _ (expected found : ℕ) (x : View) (told : Told k w (acts.OpenCommit expected) found x) where
     pub opens : found ≡ expected → Opened v found x
     opens same =
         let u : View = noted w (acts.OpenCommit expected) found in
         let goes : x ≡ record (with_front u (expected + 1)) { commit = Some (record { found = expected; stored = false }) } =
-        told.goes ∙ ap (λ z. cond z (record (with_front u (expected + 1)) { commit = Some (record { found = expected; stored = false }) }) (with_front u found)) (eq-eqb found expected same) in
+        told.goes ∙ ap (λ z. cond z (record (with_front u (expected + 1)) { commit = Some (record { found = expected; stored = false }) })
+        (with_front u found)) (eq-eqb found expected same) in
         let latest = ap (λ (z : View). z.latest) goes in
         let trail = ap (λ (z : View). z.trail) goes in
-        goes ∙ (λ i. record (t i) { commit = Some (record { found = (sym same) i; stored = false }); latest = (sym latest) i; trail = (sym trail) i })
+        goes ∙ (λ i. record (t i) {
+          commit = Some (record { found = (sym same) i; stored = false });
+          latest = (sym latest) i;
+          trail = (sym trail) i;
+        })
 
     pub tries : found ≢ expected → Tried v x
     tries other =
         let u : View = noted w (acts.OpenCommit expected) found in
         let goes : x ≡ with_front u found =
-        told.goes ∙ ap (λ z. cond z (record (with_front u (expected + 1)) { commit = Some (record { found = expected; stored = false }) }) (with_front u found)) (ne_eqb found expected other) in
+        told.goes ∙ ap (λ z. cond z (record (with_front u (expected + 1)) { commit = Some (record { found = expected; stored = false }) })
+        (with_front u found)) (ne_eqb found expected other) in
         let latest = ap (λ (z : View). z.latest) goes in
         let trail = ap (λ (z : View). z.trail) goes in
         goes ∙ (λ i. record (t i) { latest = (sym latest) i; trail = (sym trail) i })
 
-    pub opens_at : found ≡ expected → ((op : Op) (kept e : ℕ) (u : Update) → IsAt k op kept (at.Commit u e) v → IsAt k op kept (at.Commit u expected) w)
+    pub opens_at : found ≡ expected → ((op : Op) (kept e : ℕ) (u : Update) → IsAt k op kept (at.Commit u e) v
+        → IsAt k op kept (at.Commit u expected) w)
         → (op : Op) (kept e : ℕ) (u : Update) → IsAt k op kept (at.Commit u e) v → IsAt k op kept (at.Store u found) x
-    opens_at same go op kept e u a = subst (λ n. IsAt k op kept (at.Store u n) x) (sym same) (passes_commit_made same (go op kept e u a) told)
+    opens_at same go op kept e u a = subst (λ n. IsAt k op kept (at.Store u n) x) (sym same)
+        (passes_commit_made same (go op kept e u a) told)
 
-    pub tries_at : found ≢ expected → (next : ℕ) → next % 2 ≡ 0 → ((op : Op) (kept e : ℕ) (u : Update) → IsAt k op kept (at.Commit u e) v → IsAt k op kept (at.Commit u expected) w)
+    pub tries_at : found ≢ expected → (next : ℕ) → next % 2 ≡ 0
+        → ((op : Op) (kept e : ℕ) (u : Update) → IsAt k op kept (at.Commit u e) v → IsAt k op kept (at.Commit u expected) w)
         → (op : Op) (kept e : ℕ) (u : Update) → IsAt k op kept (at.Commit u e) v → IsAt k op kept (at.Commit u next) x
     tries_at other next even go op kept e u a = passes_commit_again other (go op kept e u a) told next even
 
-pub any_begins : (k : Shape) (v : View) (expected : ℕ) → expected % 2 ≡ 0 → (op : Op) (kept e : ℕ) (u : Update) → IsAt k op kept (at.Commit u e) v → IsAt k op kept (at.Commit u expected) v
+pub any_begins : (k : Shape) (v : View) (expected : ℕ) → expected % 2 ≡ 0 → (op : Op) (kept e : ℕ) (u : Update)
+    → IsAt k op kept (at.Commit u e) v → IsAt k op kept (at.Commit u expected) v
 any_begins k v expected even op kept e u a = commits_any a expected even
 
 module _ (k : Shape) (v w : View) (front : ℕ) where
@@ -61,7 +74,9 @@ module _ (k : Shape) (v w : View) (front : ℕ) where
   may_close odd = λ now. (tt, (front, odd, refl))
 
   pub closes : Told k v (acts.CloseCommit (front + 2)) (front + 2) w → Closed v w
-  closes told = let latest = ap (λ (z : View). z.latest) told.goes in let trail = ap (λ (z : View). z.trail) told.goes in told.goes ∙ (λ i. record v { commit = None; latest = (sym latest) i; trail = (sym trail) i })
+  closes told = let latest = ap (λ (z : View). z.latest) told.goes in let trail = ap (λ (z : View). z.trail) told.goes in
+      told.goes ∙ (λ i. record v { commit = None; latest = (sym latest) i; trail = (sym trail) i })
 
-  pub closes_at : Told k v (acts.CloseCommit (front + 2)) (front + 2) w → (op : Op) (kept : ℕ) (u : Update) → IsAt k op kept (at.Even u front) v → IsAt k op kept (past_even u ((front + 2) / 2)) w
+  pub closes_at : Told k v (acts.CloseCommit (front + 2)) (front + 2) w → (op : Op) (kept : ℕ) (u : Update)
+      → IsAt k op kept (at.Even u front) v → IsAt k op kept (past_even u ((front + 2) / 2)) w
   closes_at told op kept u a = passes_even a told

@@ -25,7 +25,12 @@ pub none_begun : {v w : View} {marks : List Mark} → HasGone v w marks → w.co
 none_begun gone count wait = record { place = gone.same; seen = gone.begins; count = count; wait = wait }
 
 pub none_on : {u v w : View} → HasBegunNone u v → HasBegunNone v w → HasBegunNone u w
-none_on {u} {v} {w} a b = record { place = b.place ∙ a.place; seen = prefix_trans u.seen v.seen w.seen a.seen b.seen; count = b.count ∙ a.count; wait = b.wait ∙ a.wait }
+none_on {u} {v} {w} a b = record {
+  place = b.place ∙ a.place;
+  seen = prefix_trans u.seen v.seen w.seen a.seen b.seen;
+  count = b.count ∙ a.count;
+  wait = b.wait ∙ a.wait;
+}
 
 -- one was
 abbrev count_of : Option Waiting → ℕ
@@ -49,7 +54,8 @@ waited_first {k} {v} {w} {low} {high} (mid, began, over) =
     }
 
 first_seen : {v w : View} → HasBegunFirst v w → IsPrefix v.seen w.seen
-first_seen {v} {w} first = prefix_trans v.seen first.before.seen w.seen first.none.seen (prefix_trans first.before.seen first.after.seen w.seen (seen_more first.before first.after _ first.begun.leaves) first.seen)
+first_seen {v} {w} first = prefix_trans v.seen first.before.seen w.seen first.none.seen
+    (prefix_trans first.before.seen first.after.seen w.seen (seen_more first.before first.after _ first.begun.leaves) first.seen)
 
 -- nothing of waits before, or after
 pub first_later : {u v w : View} → HasBegunNone u v → HasBegunFirst v w → HasBegunFirst u w
@@ -81,7 +87,8 @@ first_stays {u} {v} {w} first seen same = record {
 }
 
 pub reclaimed_first : {k : Shape} {v w : View} {listed : List ℕ} → HasReclaimed k v listed w → HasBegunFirst v w
-reclaimed_first {k} {v} {w} back = first_stays (waited_first back.waits) (each_begins back.waited w _ back.gives.marks) (ap (λ (z : View). z.wait) back.gives.rest)
+reclaimed_first {k} {v} {w} back = first_stays (waited_first back.waits) (each_begins back.waited w _ back.gives.marks)
+    (ap (λ (z : View). z.wait) back.gives.rest)
 
 -- a lookup begins none
 pub gets_wait : {v w : View} {key : ℕ} {told : Told} → Gets v key told w → KeepsWait v w
@@ -104,7 +111,8 @@ first_twice {u} {v} {w} first more second = record {
 
 -- one call after another
 pub wait_later : {u v w : View} → HasBegunNone u v → KeepsWait v w → KeepsWait u w
-wait_later {u} {v} {w} none later = ⊎_elim (λ (still : HasBegunNone v w). inl (none_on none still)) (λ (first : HasBegunFirst v w). inr (first_later none first)) later
+wait_later {u} {v} {w} none later = ⊎_elim (λ (still : HasBegunNone v w). inl (none_on none still))
+    (λ (first : HasBegunFirst v w). inr (first_later none first)) later
 
 pub wait_on : {u v w : View} → u.counts.waits ≤ v.counts.waits → KeepsWait u v → KeepsWait v w → KeepsWait u w
 wait_on {u} {v} {w} more early late = ⊎_elim

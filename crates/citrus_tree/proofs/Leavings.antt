@@ -1,10 +1,12 @@
 -- What steps and searches leave of marks, and what they leave alone.
-use Rattle.std.proofs.Common.{◌≡◌, ℕ, ◌==◌, cond, Bool, true, false, List, [], ◌∷◌, ◌++◌, length, Option, refl, sym, ap, subst, ◌∙◌, append_assoc, append-nil}
+use Rattle.std.proofs.Common.{◌≡◌, ℕ, ◌==◌, cond, Bool, true, false, List, [], ◌∷◌, ◌++◌, length, Option, refl, sym, ap, subst, ◌∙◌, append_assoc, append-nil, arith}
 use mathlib.Core.List.{IsPrefix}
 use Rattle.prcu_marks.specs.declared.mark.Mark.{Mark}
 use Rattle.prcu_marks.specs.declared.mark.Mark.TheVariants.{Entered, Left as LeftMark}
+use Rattle.prcu_marks.specs.Callers.{entered_for}
 use Rattle.prcu_marks.specs.Marks.{updates_of, own_of}
 use Rattle.prcu_marks.proofs.MarkLists.{own_of-append, updates_of-append}
+use Rattle.prcu_marks.proofs.OwnMarks.{entered_for-append}
 use Rattle.prcu_model.specs.Dictionary.{WasSaid}
 use Rattle.prcu_model.proofs.ListFacts.{prefix_trans}
 use Rattle.std.proofs.Common.{eq-eqb}
@@ -15,7 +17,7 @@ use Rattle.core_acts.specs.declared.act.Act.TheVariants as acts
 use Rattle.core_acts.specs.declared.act.Part.{Part}
 use Rattle.seat_table.specs.Told.{Told}
 use Rattle.tree_points.specs.Progress.{HasGone}
-use Rattle.tree_points.proofs.Gone.{gone_none, gone_on, gone_stays, gone_same}
+use Rattle.tree_points.proofs.Gone.{allowed, gone_none, gone_on, gone_stays, gone_same}
 use Rattle.tree_points.proofs.Staying.{stays}
 use Rattle.citrus_tree.specs.Going.{Goes, Opened, Closed}
 use Rattle.citrus_tree.specs.Lookups.{Looked}
@@ -32,7 +34,12 @@ rest_if true v x y a b = a
 rest_if false v x y a b = b
 
 with_rest : {v w : View} {marks : List Mark} → HasGone v w marks → (x : View) → w ≡ x → Rest v x → Goes v w marks
-with_rest gone x e r = record { gone = gone; retired = ap (λ (z : View). z.hands.retired) e ∙ r.retired; wait = ap (λ (z : View). z.wait) e ∙ r.wait; waits = ap (λ (z : View). z.counts.waits) e ∙ r.waits }
+with_rest gone x e r = record {
+  gone = gone;
+  retired = ap (λ (z : View). z.hands.retired) e ∙ r.retired;
+  wait = ap (λ (z : View). z.wait) e ∙ r.wait;
+  waits = ap (λ (z : View). z.counts.waits) e ∙ r.waits;
+}
 
 pub goes_same : (v : View) → Goes v v []
 goes_same v = record { gone = gone_same; retired = refl; wait = refl; waits = refl }
@@ -41,22 +48,31 @@ pub goes_on : {u v w : View} {first second : List Mark} → Goes u v first → G
 goes_on a b = record { gone = gone_on a.gone b.gone; retired = b.retired ∙ a.retired; wait = b.wait ∙ a.wait; waits = b.waits ∙ a.waits }
 
 pub goes_stays : {u v w : View} {first : List Mark} → Goes u v first → Goes v w [] → Goes u w first
-goes_stays a b = record { gone = gone_stays a.gone b.gone; retired = b.retired ∙ a.retired; wait = b.wait ∙ a.wait; waits = b.waits ∙ a.waits }
+goes_stays a b = record {
+  gone = gone_stays a.gone b.gone;
+  retired = b.retired ∙ a.retired;
+  wait = b.wait ∙ a.wait;
+  waits = b.waits ∙ a.waits;
+}
 
 pub goes_lock : {k : Shape} {v w : View} {n s : ℕ} → Told k v (acts.Lock s) n w → Goes v w []
-goes_lock {k} {v} {w} {n} {s} t = with_rest (stays (acts.Lock s) refl t) _ t.goes (rest_if (n == 0) v _ _ (record { retired = refl; wait = refl; waits = refl }) (record { retired = refl; wait = refl; waits = refl }))
+goes_lock {k} {v} {w} {n} {s} t = with_rest (stays (acts.Lock s) refl t) _ t.goes
+    (rest_if (n == 0) v _ _ (record { retired = refl; wait = refl; waits = refl }) (record { retired = refl; wait = refl; waits = refl }))
 
 pub goes_load : {k : Shape} {v w : View} {n s : ℕ} {p : Part} → Told k v (acts.LockedLoad s p) n w → Goes v w []
-goes_load {k} {v} {w} {n} {s} {p} t = with_rest (stays (acts.LockedLoad s p) refl t) _ t.goes (record { retired = refl; wait = refl; waits = refl })
+goes_load {k} {v} {w} {n} {s} {p} t = with_rest (stays (acts.LockedLoad s p) refl t) _ t.goes
+    (record { retired = refl; wait = refl; waits = refl })
 
 pub goes_unlock : {k : Shape} {v w : View} {n s : ℕ} → Told k v (acts.Unlock s) n w → Goes v w []
 goes_unlock {k} {v} {w} {n} {s} t = with_rest (stays (acts.Unlock s) refl t) _ t.goes (record { retired = refl; wait = refl; waits = refl })
 
 pub goes_opened : {v w : View} {front : ℕ} → Opened v front w → Goes v w []
-goes_opened e = with_rest (gone_none (ap (λ (z : View). z.allowance.place) e) (ap (λ (z : View). z.seen) e)) _ e (record { retired = refl; wait = refl; waits = refl })
+goes_opened e = with_rest (gone_none (allowed e refl) (ap (λ (z : View). z.seen) e)) _ e
+    (record { retired = refl; wait = refl; waits = refl })
 
 pub goes_closed : {v w : View} → Closed v w → Goes v w []
-goes_closed e = with_rest (gone_none (ap (λ (z : View). z.allowance.place) e) (ap (λ (z : View). z.seen) e)) _ e (record { retired = refl; wait = refl; waits = refl })
+goes_closed e = with_rest (gone_none (allowed e refl) (ap (λ (z : View). z.seen) e)) _ e
+    (record { retired = refl; wait = refl; waits = refl })
 
 module _ {v w : View} {key : ℕ} {answer : Option ℕ} (l : Looked v key answer w) where
   -- the marks of the section
@@ -64,20 +80,31 @@ module _ {v w : View} {key : ℕ} {answer : Option ℕ} (l : Looked v key answer
   section_marks = Entered v.allowance.place v.counts.sections key ∷ (LeftMark v.allowance.place v.counts.sections ∷ [])
 
   to_end : IsPrefix l.before w.seen
-  to_end = subst (IsPrefix l.before) (sym l.seen) (prefix_trans l.before (l.before ++ Entered v.allowance.place v.counts.sections key ∷ []) _ (Entered v.allowance.place v.counts.sections key ∷ [], refl) (prefix_trans _ l.until _ l.within (LeftMark v.allowance.place v.counts.sections ∷ [], refl)))
+  to_end = subst (IsPrefix l.before) (sym l.seen)
+      (prefix_trans l.before (l.before ++ Entered v.allowance.place v.counts.sections key
+      ∷ []) _ (Entered v.allowance.place v.counts.sections key ∷ [], refl)
+      (prefix_trans _ l.until _ l.within (LeftMark v.allowance.place v.counts.sections ∷ [], refl)))
+
+  own_looked : own_of v.allowance.place w.seen ≡ own_of v.allowance.place l.before
+      ++ Entered v.allowance.place v.counts.sections key ∷ (LeftMark v.allowance.place v.counts.sections ∷ [])
+  own_looked =
+      let p : ℕ = v.allowance.place in
+      let e : Mark = Entered p v.counts.sections key in
+      let m : Mark = LeftMark p v.counts.sections in
+      let last : own_of p w.seen ≡ own_of p l.until ++ m ∷ [] =
+      ap (own_of p) l.seen ∙ own_of-append p l.until (m ∷ []) ∙ ap (λ b. own_of p l.until ++ cond b (m ∷ []) []) (eq-eqb p p refl) in
+      last ∙ ap (λ o. o ++ m ∷ []) l.between ∙ append_assoc (own_of p l.before) (e ∷ []) (m ∷ [])
 
   pub goes_looked : Goes v w (Entered v.allowance.place v.counts.sections key ∷ (LeftMark v.allowance.place v.counts.sections ∷ []))
   goes_looked =
       let p : ℕ = v.allowance.place in
-      let e : Mark = Entered p v.counts.sections key in
-      let m : Mark = LeftMark p v.counts.sections in
-      let last : own_of p w.seen ≡ own_of p l.until ++ m ∷ [] = ap (own_of p) l.seen ∙ own_of-append p l.until (m ∷ []) ∙ ap (λ b. own_of p l.until ++ cond b (m ∷ []) []) (eq-eqb p p refl) in
       let before : own_of p v.seen ≡ own_of p l.before = l.sees.own p (works_there v l.sees.works) in
       with_rest
       (record {
         same = ap (λ (z : View). z.allowance.place) l.others;
+        allowance = allowed l.others refl;
         begins = prefix_trans v.seen l.before w.seen l.sees.begins to_end;
-        own = last ∙ ap (λ o. o ++ m ∷ []) l.between ∙ append_assoc (own_of p l.before) (e ∷ []) (m ∷ []) ∙ ap (λ o. o ++ e ∷ (m ∷ [])) (sym before);
+        own = own_looked ∙ ap (λ o. o ++ Entered p v.counts.sections key ∷ (LeftMark p v.counts.sections ∷ [])) (sym before);
       })
       _ l.others (record { retired = refl; wait = refl; waits = refl })
 
@@ -88,7 +115,32 @@ module _ {v w : View} {key : ℕ} {answer : Option ℕ} (l : Looked v key answer
     until = l.until;
     since = prefix_trans u.seen v.seen l.before g.begins l.sees.begins;
     within = subst (λ p. IsPrefix (l.before ++ Entered p v.counts.sections key ∷ []) l.until) g.same l.within;
-    seen = subst (λ p. IsPrefix (l.until ++ LeftMark p v.counts.sections ∷ []) w.seen) g.same ([], append-nil (l.until ++ LeftMark v.allowance.place v.counts.sections ∷ []) ∙ sym l.seen);
+    seen = subst (λ p. IsPrefix (l.until ++ LeftMark p v.counts.sections ∷ []) w.seen) g.same
+        ([], append-nil (l.until ++ LeftMark v.allowance.place v.counts.sections ∷ []) ∙ sym l.seen);
+    more = [];
+    own = subst (λ p. own_of p w.seen ≡ own_of p l.before
+        ++ Entered p v.counts.sections key ∷ (LeftMark p v.counts.sections ∷ [])) g.same own_looked;
+    last = refl;
     said = subst (λ us. WasSaid us key (length (updates_of l.before)) answer)
-        (ap updates_of l.seen ∙ updates_of-append l.until (LeftMark v.allowance.place v.counts.sections ∷ []) ∙ append-nil (updates_of l.until)) l.said;
+        (ap updates_of l.seen ∙ updates_of-append l.until (LeftMark v.allowance.place v.counts.sections ∷ [])
+        ∙ append-nil (updates_of l.until)) l.said;
   }
+
+-- An answer stays one where the place enters no further section with the key.
+pub answered_on : {u v w : View} {key : ℕ} {answer : Option ℕ} {first later : List Mark} → HasGone u v first → WasAnswered u key answer v
+    → HasGone v w later → entered_for u.allowance.place key later ≡ 0 → WasAnswered u key answer w
+answered_on {u} {v} {w} {key} {later = later} g a n none = record {
+  count = a.count;
+  before = a.before;
+  until = a.until;
+  since = a.since;
+  within = a.within;
+  seen = prefix_trans (a.until ++ LeftMark u.allowance.place a.count ∷ []) v.seen w.seen a.seen n.begins;
+  more = a.more ++ later;
+  own =
+      let p : ℕ = u.allowance.place in
+      let after : own_of p w.seen ≡ own_of p v.seen ++ later = subst (λ q. own_of q w.seen ≡ own_of q v.seen ++ later) g.same n.own in
+      after ∙ ap (λ o. o ++ later) a.own ∙ append_assoc (own_of p a.before) (Entered p a.count key ∷ (LeftMark p a.count ∷ a.more)) later;
+  last = (let split = entered_for-append u.allowance.place key a.more later in let first = a.last in omega arith);
+  said = a.said;
+}

@@ -4,6 +4,7 @@ pub mod Loads
 pub mod Locks
 pub mod Finds
 pub mod Updates
+pub mod Retiring
 pub mod Bypasses
 pub mod Shifts
 pub mod Copies

@@ -13,6 +13,7 @@ use Rattle.core_state.specs.declared.shape.Shape.{Shape}
 use Rattle.core_state.specs.declared.view.View.{View}
 use Rattle.seat_table.specs.Gains.{IsInformed}
 use Rattle.seat_table.specs.Seats.{TableAt, SeatAt, IsQuietSeat}
+use Rattle.tree_points.specs.Progress.{KeepsAllowance}
 use Rattle.citrus_tree.specs.Gone.{KeepsWait}
 use Rattle.citrus_tree.specs.Lookups.{Gets}
 use Rattle.citrus_tree.specs.Replies.{Puts, Sets, Dels}
@@ -25,7 +26,11 @@ pub record ClientAt : Type 0 where
 
 -- the caller that a client is
 abbrev pub caller_of : ClientAt → Caller
-caller_of client = record { place = client.seat.view.allowance.place; own = own_of client.seat.view.allowance.place client.seat.view.seen; seen = client.seat.view.seen }
+caller_of client = record {
+  place = client.seat.view.allowance.place;
+  own = own_of client.seat.view.allowance.place client.seat.view.seen;
+  seen = client.seat.view.seen;
+}
 
 -- what an operation is told, by its call
 abbrev pub IsTold : Shape → View → Op → Told → View → Type 0
@@ -41,6 +46,7 @@ pub record HasCalled (before : ClientAt) (op : Op) (told : Told) (after : Client
   pub answer : IsTold before.shape before.seat.view op told after.seat.view
   pub wait : KeepsWait before.seat.view after.seat.view
   pub tickets : before.seat.view.allowance.tickets ≤ after.seat.view.allowance.tickets + 4
+  pub allowance : KeepsAllowance before.seat.view after.seat.view
   pub quiet : IsQuietSeat after.seat
   pub informed : IsInformed after.seat.view
 
@@ -50,5 +56,7 @@ room_of k = record { scripts = k.places; slots = k.slots }
 
 -- Of a client whose place had made no update, the calls so far tell of lines that fit the updates that it has seen.
 abbrev pub ChainsMeetFronts : Type 0
-ChainsMeetFronts = (ops : List Op) (tolds : List Told) (before after : ClientAt) → own_updates before.seat.view.allowance.place (updates_of before.seat.view.seen) ≡ []
-    → IsChain HasCalled before ops tolds after → MeetsFronts (Explains (room_of before.shape)) (updates_of after.seat.view.seen) before.seat.view.allowance.place (told_lines ops tolds)
+ChainsMeetFronts = (ops : List Op) (tolds : List Told) (before after : ClientAt)
+    → own_updates before.seat.view.allowance.place (updates_of before.seat.view.seen) ≡ []
+    → IsChain HasCalled before ops tolds after → MeetsFronts (Explains (room_of before.shape))
+    (updates_of after.seat.view.seen) before.seat.view.allowance.place (told_lines ops tolds)

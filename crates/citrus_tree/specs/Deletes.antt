@@ -3,11 +3,13 @@
 use Rattle.std.specs.Prelude.{◌≡◌, ◌⊎◌, ℕ, ◌+◌, ◌*◌, ◌^◌, ◌<◌, ◌≤◌, ◌==◌, if◌then◌else◌, List, [], ◌∷◌, ◌++◌, length, map, Option, Some, None}
 use mathlib.Core.List.{IsPrefix}
 use Rattle.prcu_marks.specs.declared.mark.Mark.{Mark}
-use Rattle.prcu_marks.specs.declared.mark.Mark.TheVariants.{Entered, Left, Began, Ended, Done}
+use Rattle.prcu_marks.specs.declared.mark.Mark.TheVariants.{Entered, Left, Began, Ended, Done, Unlinked}
 use Rattle.prcu_marks.specs.declared.mark.Side.{Side}
 use Rattle.prcu_marks.specs.Callers.{IsNextKey}
 use Rattle.prcu_marks.specs.Marks.{updates_of}
 use Rattle.prcu_model.specs.Dictionary.{map_of}
+use Rattle.prcu_model.specs.declared.operation.Reply.{Reply}
+use Rattle.prcu_model.specs.declared.operation.Reply.TheVariants.{Gone}
 use Rattle.prcu_model.specs.declared.operation.Told.{Told}
 use Rattle.prcu_model.specs.declared.operation.Op.{Op}
 use Rattle.prcu_model.specs.declared.operation.Op.TheVariants.{Del}
@@ -24,7 +26,8 @@ use Rattle.core_points.specs.declared.stage.Stage.TheVariants as at
 use Rattle.tree_points.specs.At.{IsAt}
 use Rattle.citrus_tree.specs.Going.{MayBegin}
 use Rattle.citrus_tree.specs.Gone.{KeepsWait, retired_marks, waits_in}
-use Rattle.citrus_tree.specs.Replies.{DelsBy, IsMoveWait}
+use Rattle.seat_table.specs.Seats.{SeatAt}
+use Rattle.citrus_tree.specs.Replies.{DelsBy, IsMoveWait, RetiresInOrder}
 use Rattle.tree_points.specs.Progress.{HasGone}
 
 -- A call stands at this point.
@@ -79,12 +82,12 @@ walked_to parent slot = record { parent = parent; slot = slot; parent_generation
 abbrev pub giving_up : ℕ → Stage
 giving_up count = if count == 0 then at.EnterClock else at.Unlock last.Again
 
--- The update of the operation was made, at its number, and these marks were left after it.
-pub record HasDone (v : View) (op : Op) (after : List Mark) (number : ℕ) (w : View) : Type 0 where
+-- The update of the operation was made, at its number, and unlinked this slot; and these marks were left after it.
+pub record HasDone (v : View) (op : Op) (node : ℕ) (after : List Mark) (number : ℕ) (w : View) : Type 0 where
   pub before : List Mark
   pub gone : HasGone v w (Done (record { caller = v.allowance.place; op = op }) ∷ after)
   pub since : IsPrefix v.seen before
-  pub stands : IsPrefix (before ++ Done (record { caller = v.allowance.place; op = op }) ∷ []) w.seen
+  pub stands : IsPrefix (before ++ Done (record { caller = v.allowance.place; op = op }) ∷ (Unlinked node ∷ [])) w.seen
   pub number_is : number ≡ length (updates_of before) + 1
 
 -- the node of a target, with its links as they are now
@@ -98,13 +101,14 @@ AreLivesSmall node (Some successor) = (2 * node.generation < 2 ^ 64) × (2 * suc
 
 -- A delete made its update, and after it began no wait, or just the one for its move.
 pub record HasDeleted (v : View) (key number : ℕ) (w : View) : Type 0 where
+  pub node : ℕ
   pub after : List Mark
-  pub done : HasDone v (Del key) after number w
+  pub done : HasDone v (Del key) node after number w
   pub move : (after ≡ []) ⊎ IsMoveWait v done.before key after
 
 -- The copy was linked, with the next key that the dictionary had.
-pub record HasCopied (v : View) (key next_key number : ℕ) (w : View) : Type 0 where
-  pub done : HasDone v (Del key) [] number w
+pub record HasCopied (v : View) (key next_key node number : ℕ) (w : View) : Type 0 where
+  pub done : HasDone v (Del key) node [] number w
   pub next : IsNextKey (map_of (updates_of done.before)) key next_key
 
 -- The place has a spare for a copy, and room for two more retired slots: a delete of any key may begin its search.
@@ -127,6 +131,16 @@ pub record HasMadeRoom (v w : View) : Type 0 where
 -- A delete came to its end with no wait for everybody.
 abbrev pub DelsAtOnce : View → ℕ → Told → View → Type 0
 DelsAtOnce v key told w = (tries : List Mark) × DelsBy v key tries told.reply told.number w × (waits_in tries ≡ 0)
+
+-- What a delete that was told this has retired, and what one that took nothing out leaves listed.
+abbrev pub RetiresBy : SeatAt → ℕ → Reply → ℕ → SeatAt → Type 0
+RetiresBy s key Gone number t = RetiresInOrder s key number t
+RetiresBy s key _ number t = t.listed ≡ s.listed
+
+-- the same of a try, by the number of its update
+abbrev pub RetiresIf : SeatAt → ℕ → Option ℕ → SeatAt → Type 0
+RetiresIf s key (Some number) t = RetiresInOrder s key number t
+RetiresIf s key None t = t.listed ≡ s.listed
 
 -- where a delete goes on after it stored this link in a side
 abbrev pub relinked_at : ℕ → ℕ → Side → ℕ → Stage

@@ -111,7 +111,8 @@ leaf_stage (Some held) spot = at.LeafLock spot
 
 -- the value was stored: just before its update the dictionary gave the key the old one
 abbrev pub Stores : View → ℕ → ℕ → Replaced → View → Type 0
-Stores v key value done w = (before : List Mark) × MakesUpdate v (Set key value) before done.number w × (finite.get (map_of (updates_of before)) key ≡ Some done.old)
+Stores v key value done w = (before : List Mark) × MakesUpdate v (Set key value) before done.number w
+    × (finite.get (map_of (updates_of before)) key ≡ Some done.old)
 
 -- where a set stands after it tried to store its value
 abbrev pub set_stage : Option Replaced → Stage

@@ -79,5 +79,6 @@ retired_marks v = map (λ (r : Retired). (r.slot, r.unlinked, r.waited)) v.hands
 pub record KeepsSlots (s t : SeatAt) : Type 0 where
   pub waits : s.view.counts.waits ≤ t.view.counts.waits
   pub wait : t.view.counts.waits ≡ s.view.counts.waits → t.view.wait ≡ s.view.wait
-  pub retired : t.view.counts.waits ≡ s.view.counts.waits → (later : List (ℕ × ℕ × Bool)) × (retired_marks t.view ≡ retired_marks s.view ++ later)
+  pub retired : t.view.counts.waits ≡ s.view.counts.waits
+      → (later : List (ℕ × ℕ × Bool)) × (retired_marks t.view ≡ retired_marks s.view ++ later)
   pub listed : t.view.counts.waits ≡ s.view.counts.waits → (later : List ℕ) × (t.listed ≡ s.listed ++ later)

@@ -1,6 +1,7 @@
 -- What a search is told, hop by hop.
 -- Source: docs/TREE.md, "The calls".
 use base.Fml.{GName}
+use denote.MutBor.{MutBor}
 use Rattle.std.specs.Prelude.{◌≡◌, ◌≢◌, ℕ, Some, None}
 use Rattle.prcu_marks.specs.declared.mark.Side.{Side}
 use Rattle.core_state.specs.declared.shape.Shape.{Shape}
@@ -26,8 +27,8 @@ use Rattle.citrus_tree.specs.declared.search.End.{End}
 use Rattle.citrus_tree.specs.declared.search.End.TheVariants.{Hit, Missing}
 use Rattle.citrus_tree.specs.Lookups.{IsSearching, Looked}
 
--- What a clause sees of a search: the table, the seat that takes its steps and the reference by which it was lent, the sought key, the slot and
--- the side at which it stands, and what its last hop came to.
+-- What a clause sees of a search: the table, the seat that takes its steps and the reference by which it was lent, the sought key, the slot
+-- and the side at which it stands, and what its last hop came to.
 pub record SearchAt : Type 0 where
   pub table : TableAt
   pub seat : SeatAt
@@ -38,7 +39,19 @@ pub record SearchAt : Type 0 where
   pub last : Hop
 
 abbrev pub search_at : {W : Type 0} → Search W → SearchAt
-search_at s = record { table = s.table.now; seat = s.seat.now; lender = s.seat.ghost_name; key = s.key; slot = s.slot; side = s.side; last = s.last }
+search_at s = record {
+  table = s.table.now;
+  seat = s.seat.now;
+  lender = s.seat.ghost_name;
+  key = s.key;
+  slot = s.slot;
+  side = s.side;
+  last = s.last;
+}
+
+-- the seat as a search left it that is over, by the references that were in it
+abbrev pub seat_left : {A X : Type 0} → A × (MutBor SeatAt × X) → SeatAt
+seat_left (table, (seat, rest)) = seat.now
 
 -- where a search stands that went on from a slot and a side
 abbrev pub state_after : ℕ → Side → Step → SearchState
@@ -48,8 +61,11 @@ state_after s b step.Ended = at.Missed s b
 
 -- What a step down loads: a link to a slot, and that slot's key, which is another or the sought one; or a link that is 0.
 abbrev pub Loads : Shape → View → ℕ → ℕ → Side → Step → View → Type 0
-Loads k v key s b (step.Moved c d) w = (c ≢ 0) × ((u : View) × (there : ℕ) × Told k v (SearchLoad s (part.Link b)) c u × Told k u (SearchLoad c part.Key) there w × (step_side key there ≡ Some d))
-Loads k v key s b (step.Found c) w = (c ≢ 0) × ((u : View) × Told k v (SearchLoad s (part.Link b)) c u × Told k u (SearchLoad c part.Key) key w)
+Loads k v key s b (step.Moved c d) w = (c ≢ 0)
+    × ((u : View) × (there : ℕ) × Told k v (SearchLoad s (part.Link b)) c u × Told k u (SearchLoad c part.Key) there w
+    × (step_side key there ≡ Some d))
+Loads k v key s b (step.Found c) w = (c ≢ 0) × ((u : View) × Told k v (SearchLoad s (part.Link b)) c u
+    × Told k u (SearchLoad c part.Key) key w)
 Loads k v key s b step.Ended w = Told k v (SearchLoad s (part.Link b)) 0 w
 
 -- From the view v a section with the key was entered. Where its search stands, by what its last hop came to.
@@ -70,7 +86,8 @@ Hops k v key s b (Ended slot side) c d w = (slot ≡ s) × (side ≡ b) × Loads
 
 -- the same of a search before the hop and after it
 abbrev pub HasHopped : ℕ → SearchAt → Hop → SearchAt → Type 0
-HasHopped way before hop after = Hops (shape_of way before.table) before.seat.view before.key before.slot before.side hop after.slot after.side after.seat.view
+HasHopped way before hop after =
+    Hops (shape_of way before.table) before.seat.view before.key before.slot before.side hop after.slot after.side after.seat.view
 
 -- The section recorded the empty side.
 pub record Records (r : Reading) (spot : Spot) : Type 0 where

@@ -67,7 +67,14 @@ pub record Looked (v : View) (key : ℕ) (answer : Option ℕ) (w : View) : Type
   pub made : Makes is_of_lookup v.trail w.trail
   pub reading : Reading
   pub sought : reading.key ≡ key
-  pub others : w ≡ record v { enter = w.enter; section = None; records = reading ∷ v.records; counts = record v.counts { sections = v.counts.sections + 1 }; trail = w.trail; seen = w.seen }
+  pub others : w ≡ record v {
+    enter = w.enter;
+    section = None;
+    records = reading ∷ v.records;
+    counts = record v.counts { sections = v.counts.sections + 1 };
+    trail = w.trail;
+    seen = w.seen;
+  }
   pub informed : IsInformed w
 
 -- what a get is told

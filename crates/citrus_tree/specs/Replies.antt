@@ -4,9 +4,9 @@ use Rattle.std.specs.Prelude.{◌≡◌, ◌⊎◌, ℕ, ◌+◌, ◌-◌, ◌*�
 use Rattle.std.specs.FinMap as finite
 use mathlib.Core.List.{IsPrefix}
 use Rattle.prcu_marks.specs.declared.mark.Mark.{Mark}
-use Rattle.prcu_marks.specs.declared.mark.Mark.TheVariants.{Entered, Left, Began, Ended, Done}
-use Rattle.prcu_marks.specs.Callers.{IsNextKey}
-use Rattle.prcu_marks.specs.Marks.{updates_of}
+use Rattle.prcu_marks.specs.declared.mark.Mark.TheVariants.{Entered, Left, Began, Ended, Done, Unlinked}
+use Rattle.prcu_marks.specs.Callers.{IsNextKey, entered_for}
+use Rattle.prcu_marks.specs.Marks.{own_of, updates_of}
 use Rattle.prcu_model.specs.declared.operation.Op.{Op}
 use Rattle.prcu_model.specs.declared.operation.Op.TheVariants.{Put, Del, Set}
 use Rattle.prcu_model.specs.declared.operation.Reply.{Reply}
@@ -18,12 +18,14 @@ use Rattle.core_state.specs.declared.shape.Shape.{Shape}
 use Rattle.core_state.specs.declared.words.Field.TheVariants.{Free}
 use Rattle.core_state.specs.declared.words.Kind.TheVariants.{K10}
 use Rattle.core_state.specs.declared.view.View.{View}
+use Rattle.seat_table.specs.Seats.{SeatAt}
 use Rattle.seat_table.specs.Waits.{EndWith}
 use Rattle.tree_points.specs.Progress.{HasGone}
 use Rattle.citrus_tree.specs.Gone.{AreTries, NeededRoom, waits_in}
 
--- A section with the key was entered at the place after all that was seen at the call, and left before what is seen now. The dictionary
--- gave the answer at a front in between.
+-- A section with the key was entered at the place after all that was seen at the call, and left before what is seen now. It is the last
+-- one:
+-- the place has entered none with the key since. The dictionary gave the answer at a front in between.
 pub record WasAnswered (v : View) (key : ℕ) (answer : Option ℕ) (w : View) : Type 0 where
   pub count : ℕ
   pub before : List Mark
@@ -31,6 +33,10 @@ pub record WasAnswered (v : View) (key : ℕ) (answer : Option ℕ) (w : View) :
   pub since : IsPrefix v.seen before
   pub within : IsPrefix (before ++ Entered v.allowance.place count key ∷ []) until
   pub seen : IsPrefix (until ++ Left v.allowance.place count ∷ []) w.seen
+  pub more : List Mark
+  pub own : own_of v.allowance.place w.seen ≡ own_of v.allowance.place before
+      ++ Entered v.allowance.place count key ∷ (Left v.allowance.place count ∷ more)
+  pub last : entered_for v.allowance.place key more ≡ 0
   pub said : WasSaid (updates_of until) key (length (updates_of before)) answer
 
 -- The call made its update, which stands in the history at its number, after all that was seen at the call. These are the marks that its
@@ -55,19 +61,23 @@ pub record IsFullNow (k : Shape) (w : View) : Type 0 where
   pub last : EndWith w.trail.steps (record { kind = K10; field = Free; number = 0 } ∷ [])
   pub fills : k.slots ≤ finite.len (map_of (updates_of w.seen)) + 20 * (k.places - 1)
 
--- A put is told New where it made its update, Old where its last search found the key, and Full where the last step found nothing free.
+-- A put is told New where it made its update, Old where its last search found the key, and Full where its last search found the key absent
+-- and the last step nothing free.
 abbrev pub PutsBy : Shape → View → ℕ → ℕ → List Mark → Reply → ℕ → View → Type 0
-PutsBy k v key value tries New number w = (before : List Mark) × HasUpdated v (Put key value) tries before [] number w × IsPrefix w.seen (before ++ Done (record { caller = v.allowance.place; op = Put key value }) ∷ [])
+PutsBy k v key value tries New number w = (before : List Mark) × HasUpdated v (Put key value) tries before [] number w
+    × IsPrefix w.seen (before ++ Done (record { caller = v.allowance.place; op = Put key value }) ∷ [])
 PutsBy k v key value tries Old number w = (number ≡ 0) × HasTried v key tries w × ((old : ℕ) × WasAnswered v key (Some old) w)
-PutsBy k v key value tries Full number w = (number ≡ 0) × HasTried v key tries w × IsFullNow k w
+PutsBy k v key value tries Full number w = (number ≡ 0) × HasTried v key tries w × WasAnswered v key None w × IsFullNow k w
 PutsBy k v key value tries _ number w = ⊥
 
 abbrev pub Puts : Shape → View → ℕ → ℕ → Told → View → Type 0
-Puts k v key value told w = (tries : List Mark) × PutsBy k v key value tries told.reply told.number w × (1 ≤ waits_in tries → NeededRoom k v w)
+Puts k v key value told w = (tries : List Mark) × PutsBy k v key value tries told.reply told.number w
+    × (1 ≤ waits_in tries → NeededRoom k v w)
 
 -- A set begins no wait. It is told Was where it made its update: just before it the dictionary gave the key the old value.
 abbrev pub SetsBy : View → ℕ → ℕ → List Mark → Reply → ℕ → View → Type 0
-SetsBy v key value tries (Was old) number w = (before : List Mark) × HasUpdated v (Set key value) tries before [] number w × (finite.get (map_of (updates_of before)) key ≡ Some old)
+SetsBy v key value tries (Was old) number w = (before : List Mark) × HasUpdated v (Set key value) tries before [] number w
+    × (finite.get (map_of (updates_of before)) key ≡ Some old)
 SetsBy v key value tries Absent number w = (number ≡ 0) × HasTried v key tries w × WasAnswered v key None w
 SetsBy v key value tries _ number w = ⊥
 
@@ -76,14 +86,44 @@ Sets v key value told w = (tries : List Mark) × SetsBy v key value tries told.r
 
 -- the marks of a wait for the keys above this one, up to the next that the dictionary had
 abbrev pub IsMoveWait : View → List Mark → ℕ → List Mark → Type 0
-IsMoveWait v before key after = (count next : ℕ) × (after ≡ Began v.allowance.place count (key + 1) next ∷ (Ended v.allowance.place count ∷ [])) × IsNextKey (map_of (updates_of before)) key next
+IsMoveWait v before key after = (count next : ℕ)
+    × (after ≡ Began v.allowance.place count (key + 1) next ∷ (Ended v.allowance.place count ∷ []))
+    × IsNextKey (map_of (updates_of before)) key next
+
+-- The slot was unlinked after these marks.
+pub record IsUnlinkedSince (from : List Mark) (slot : ℕ) (seen : List Mark) : Type 0 where
+  pub until : List Mark
+  pub since : IsPrefix from until
+  pub stands : IsPrefix (until ++ Unlinked slot ∷ []) seen
+
+-- a delete has an old successor at most, which was unlinked after these marks
+abbrev pub AreUnlinkedSince : List Mark → List ℕ → List Mark → Type 0
+AreUnlinkedSince from [] seen = Unit {0}
+AreUnlinkedSince from (old ∷ []) seen = IsUnlinkedSince from old seen
+AreUnlinkedSince from (old ∷ (other ∷ more)) seen = ⊥
+
+-- What a del has retired it has listed last: first the slot that its update took out, whose unlinking stands just behind the update, and
+-- behind it the old successor, where it moved one, which was unlinked later. What was listed before stays before, or was given back.
+pub record RetiresInOrder (s : SeatAt) (key number : ℕ) (t : SeatAt) : Type 0 where
+  pub before : List Mark
+  pub number_is : number ≡ length (updates_of before) + 1
+  pub deleted : ℕ
+  pub unlinked : IsPrefix (before ++ Done (record { caller = s.view.allowance.place; op = Del key }) ∷ (Unlinked deleted ∷ [])) t.view.seen
+  pub old : List ℕ
+  pub later : AreUnlinkedSince (before ++ Done (record { caller = s.view.allowance.place; op = Del key })
+      ∷ (Unlinked deleted ∷ [])) old t.view.seen
+  pub kept : List ℕ
+  pub kept_is : (kept ≡ s.listed) ⊎ (kept ≡ [])
+  pub listed : t.listed ≡ kept ++ deleted ∷ old
 
 -- After its update a del has begun no other wait, or just the one for its move. Before it one for everybody at most, where at the call 15
 -- slots were retired or the place had no spare.
 abbrev pub DelsBy : View → ℕ → List Mark → Reply → ℕ → View → Type 0
-DelsBy v key tries Gone number w = (before after : List Mark) × HasUpdated v (Del key) tries before after number w × ((after ≡ []) ⊎ IsMoveWait v before key after)
+DelsBy v key tries Gone number w = (before after : List Mark) × HasUpdated v (Del key) tries before after number w
+    × ((after ≡ []) ⊎ IsMoveWait v before key after)
 DelsBy v key tries Absent number w = (number ≡ 0) × HasTried v key tries w × WasAnswered v key None w
 DelsBy v key tries _ number w = ⊥
 
 abbrev pub Dels : View → ℕ → Told → View → Type 0
-Dels v key told w = (tries : List Mark) × DelsBy v key tries told.reply told.number w × (1 ≤ waits_in tries → (15 ≤ length v.hands.retired) ⊎ (v.hands.spare ≡ None))
+Dels v key told w = (tries : List Mark) × DelsBy v key tries told.reply told.number w
+    × (1 ≤ waits_in tries → (15 ≤ length v.hands.retired) ⊎ (v.hands.spare ≡ None))

@@ -2,13 +2,11 @@
 ghost use Rattle.std.specs.Prelude.{◌≡◌, ◌+◌, ◌/◌, ◌≤◌};
 ghost use Rattle.seat_table.specs.Gains.{IsInformed};
 ghost use Rattle.seat_table.specs.Seats.{IsQuietSeat, shape_of};
+ghost use Rattle.tree_points.specs.Progress.{KeepsAllowance};
 ghost use Rattle.citrus_tree.specs.Clients.{IsTold};
 ghost use Rattle.citrus_tree.specs.Gone.{KeepsSlots, KeepsWait};
 
-use crate::delete::del;
-use crate::insert::put;
-use crate::lookup::get;
-use crate::replace::set;
+use crate::steadfast::{del, get, put, set};
 use prcu_marks::{Client, Gate};
 use prcu_model::{Op, Told};
 use seat_table::{CitrusTable, Seat, WaitPart};
@@ -34,6 +32,7 @@ pub fn call<R: Wait, W: WaitPart, G: Gate>(
     ensures wait { KeepsWait seat.old.view seat.new.view }
     ensures slots { KeepsSlots seat.old seat.new }
     ensures tickets { seat.old.view.allowance.tickets ≤ seat.new.view.allowance.tickets + 4 }
+    ensures allowance { KeepsAllowance seat.old.view seat.new.view }
     ensures quiet { IsQuietSeat seat.new }
     ensures informed { IsInformed seat.new.view }
 {

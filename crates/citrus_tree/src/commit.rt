@@ -1,5 +1,5 @@
 //! The front, made odd for one store.
-ghost use Rattle.std.specs.Prelude.{◌≡◌, ℕ, ◌+◌, ◌/◌, ◌%◌, ◌≤◌, true, Some, None};
+ghost use Rattle.std.specs.Prelude.{◌≡◌, ℕ, ◌+◌, ◌/◌, ◌%◌, ◌≤◌, true, Some, None, IfOk};
 ghost use Rattle.core_points.specs.declared.stage.Stage.TheVariants as at;
 ghost use Rattle.core_points.specs.declared.stage.Update.{Update};
 ghost use Rattle.core_points.specs.Programs.{past_even};
@@ -8,9 +8,8 @@ ghost use Rattle.seat_table.specs.Seats.{shape_of};
 ghost use Rattle.tree_points.specs.At.{IsAt};
 ghost use Rattle.citrus_tree.specs.Going.{Opened, Closed};
 
-use crossbeam_utils::Backoff;
+use patience::Patience;
 use seat_table::{CitrusTable, Seat, WaitPart, steps};
-use std::sync::Wait;
 
 // The number itself, or the next one, whichever is even.
 fn even_from(number: u64) -> u64
@@ -24,30 +23,32 @@ fn even_from(number: u64) -> u64
 }
 
 /// Makes the front odd, and answers the even number that it was. It waits while another caller's update is being stored.
-pub(crate) fn open_front<R: Wait, W: WaitPart>(
-    rt: &R,
+pub(crate) fn open_front<P: Patience, W: WaitPart>(
+    patience: &P,
     table: &CitrusTable<W>,
     seat: &mut Seat<W>,
-) -> u64
+) -> Result<u64, P::Tired>
     requires table { seat.old.table ≡ table.now }
     requires settled { seat.old.view.moving ≡ None }
     requires paid { seat.old.view.commit ≡ None }
     ensures seat { (seat.new.table ≡ seat.old.table) × (seat.new.listed ≡ seat.old.listed) }
-    ensures few { result ≤ 2199023255553 }
-    ensures opened { Opened seat.old.view result seat.new.view }
-    ensures at { (op : Op) (kept e : ℕ) (u : Update) → IsAt (shape_of W.WAY table.now) op kept (at.Commit u e) seat.old.view → IsAt (shape_of W.WAY table.now) op kept (at.Store u result) seat.new.view }
+    ensures few { IfOk result (λ answer. answer ≤ 2199023255553) }
+    ensures opened { IfOk result (λ answer. Opened seat.old.view answer seat.new.view) }
+    ensures at { IfOk result (λ answer. (op : Op) (kept e : ℕ) (u : Update)
+        → IsAt (shape_of W.WAY table.now) op kept (at.Commit u e) seat.old.view
+        → IsAt (shape_of W.WAY table.now) op kept (at.Store u answer) seat.new.view) }
 {
-    let backoff = Backoff::new();
+    let mut pauses = patience.pauses();
     let mut expected = even_from(seat.front_seen());
-    for _ in rt.forever() {
+    for _ in 0..u64::MAX {
         let found = steps::open_commit(table, seat, expected);
         if found == expected {
-            return found;
+            return Ok(found);
         }
         expected = even_from(found);
-        backoff.snooze();
+        patience.pause(&mut pauses)?;
     }
-    unreachable!()
+    Err(patience.tired())
 }
 
 /// Makes the front even again, and answers the number of the update that was stored.
@@ -62,7 +63,8 @@ pub(crate) fn close_front<W: WaitPart>(
     ensures seat { (seat.new.table ≡ seat.old.table) × (seat.new.listed ≡ seat.old.listed) }
     ensures number { result ≡ (front + 2) / 2 }
     ensures closed { Closed seat.old.view seat.new.view }
-    ensures at { (op : Op) (kept : ℕ) (u : Update) → IsAt (shape_of W.WAY table.now) op kept (at.Even u front) seat.old.view → IsAt (shape_of W.WAY table.now) op kept (past_even u ((front + 2) / 2)) seat.new.view }
+    ensures at { (op : Op) (kept : ℕ) (u : Update) → IsAt (shape_of W.WAY table.now) op kept (at.Even u front) seat.old.view
+        → IsAt (shape_of W.WAY table.now) op kept (past_even u ((front + 2) / 2)) seat.new.view }
 {
     let even = front + 2;
     steps::close_commit(table, seat, even);

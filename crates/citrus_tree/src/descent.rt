@@ -1,5 +1,5 @@
 //! The way down from the root, in a section and without a lock.
-ghost use Rattle.std.specs.Prelude.{◌≡◌, ◌≤◌, [], None};
+ghost use Rattle.std.specs.Prelude.{◌≡◌, ◌≤◌, [], None, IfOk};
 ghost use Rattle.core_state.specs.declared.view.SearchState.TheVariants.{At};
 ghost use Rattle.core_state.specs.declared.view.View.{View};
 ghost use Rattle.core_state.specs.parts.ReaderParts.{state_slot};
@@ -9,9 +9,9 @@ ghost use Rattle.citrus_tree.specs.Hops.{Loads, state_after};
 ghost use Rattle.citrus_tree.specs.Lookups.{IsSearching, state_of};
 
 use core_state::{side_field, step_side};
+use patience::Patience;
 use prcu_marks::{Gate, Point, Side};
 use seat_table::{CitrusTable, Part, Seat, WaitPart, steps};
-use std::sync::Wait;
 
 /// Where a search goes on from a slot and a side.
 #[derive(Clone, Copy)]
@@ -48,7 +48,8 @@ pub(crate) fn go_down<W: WaitPart>(
     ensures place { 1 ≤ table.now.places }
     ensures loads { Loads (shape_of W.WAY table.now) seat.old.view key slot side result seat.new.view }
     ensures slot { IsSlot (shape_of W.WAY table.now) (state_slot (state_after slot side result)) }
-    ensures searching { (v : View) → IsSearching v key (At slot side) seat.old.view → IsSearching v key (state_after slot side result) seat.new.view }
+    ensures searching { (v : View) → IsSearching v key (At slot side) seat.old.view
+        → IsSearching v key (state_after slot side result) seat.new.view }
 {
     let link = steps::search_load(table, seat, slot, Part::Link { side });
     // The slot may have been unlinked meanwhile. Its links still lead to the tree, or to slots unlinked later.
@@ -64,40 +65,40 @@ pub(crate) fn go_down<W: WaitPart>(
 }
 
 /// Enters a section with the key, and goes down from the root until a slot has the key or a side is empty. The section stays open.
-pub(crate) fn descend<R: Wait, W: WaitPart, G: Gate>(
-    rt: &R,
+pub(crate) fn descend<P: Patience, W: WaitPart, G: Gate>(
+    patience: &P,
     table: &CitrusTable<W>,
     seat: &mut Seat<W>,
     gate: &G,
     key: u64,
-) -> Descent
+) -> Result<Descent, P::Tired>
     requires table { seat.old.table ≡ table.now }
     requires outside { seat.old.view.section ≡ None }
     requires unlocked { seat.old.view.locks ≡ [] }
     ensures seat { (seat.new.table ≡ seat.old.table) × (seat.new.listed ≡ seat.old.listed) }
-    ensures place { 1 ≤ table.now.places }
-    ensures slot { IsSlot (shape_of W.WAY table.now) (state_slot (state_of result)) }
-    ensures searching { IsSearching seat.old.view key (state_of result) seat.new.view }
+    ensures place { IfOk result (λ _. 1 ≤ table.now.places) }
+    ensures slot { IfOk result (λ answer. IsSlot (shape_of W.WAY table.now) (state_slot (state_of answer))) }
+    ensures searching { IfOk result (λ answer. IsSearching seat.old.view key (state_of answer) seat.new.view) }
 {
     W::enter(table, seat, key);
     gate.pass(Point::InSection, seat.place());
     let mut at = 0;
     let mut side = Side::Right;
-    for _ in rt.forever() {
+    for _ in 0..u64::MAX {
         match go_down(table, seat, key, at, side) {
             Step::Moved { slot, side: next } => {
                 at = slot;
                 side = next;
             }
             Step::Found { slot } => {
-                return Descent::Found {
+                return Ok(Descent::Found {
                     slot,
                     parent: at,
                     side,
-                };
+                });
             }
-            Step::Ended => return Descent::Ended { slot: at, side },
+            Step::Ended => return Ok(Descent::Ended { slot: at, side }),
         }
     }
-    unreachable!()
+    Err(patience.tired())
 }

@@ -1,5 +1,5 @@
 //! A pair is added.
-ghost use Rattle.std.specs.Prelude.{◌≡◌, ℕ, ◌+◌, ◌*◌, ◌≤◌, true, false, ◌∷◌, [], Some, None};
+ghost use Rattle.std.specs.Prelude.{◌≡◌, ℕ, ◌+◌, ◌*◌, ◌≤◌, true, false, ◌∷◌, [], Some, None, IfOk};
 ghost use Rattle.core_points.specs.declared.stage.Aim.TheVariants.{Leaf};
 ghost use Rattle.core_points.specs.declared.stage.Spot.{Spot};
 ghost use Rattle.core_points.specs.declared.stage.Stage.TheVariants as at;
@@ -7,6 +7,7 @@ ghost use Rattle.prcu_model.specs.declared.operation.Op.TheVariants.{Put};
 ghost use Rattle.seat_table.specs.Gains.{IsInformed};
 ghost use Rattle.seat_table.specs.Seats.{AreListed, IsQuietSeat, IsSlotOf, shape_of};
 ghost use Rattle.tree_points.specs.At.{HasLocks, IsAt};
+ghost use Rattle.tree_points.specs.Progress.{KeepsAllowance};
 ghost use Rattle.citrus_tree.specs.Deletes.{StandsAt, Comes};
 ghost use Rattle.citrus_tree.specs.Going.{Goes, Searched, leaf_stage};
 ghost use Rattle.citrus_tree.specs.Gone.{KeepsSlots, KeepsWait};
@@ -20,74 +21,75 @@ use crate::lives::is_life;
 use crate::search::leave_with_spot;
 use core_points::stage::Spot;
 use core_state::{side_field, tag_field};
-use crossbeam_utils::Backoff;
-use node_slots::{Taken, put_back, reclaim, take};
+use node_slots::patient::{reclaim, take};
+use node_slots::{Taken, put_back};
+use patience::Patience;
 use prcu_marks::{Gate, Point, Side};
 use prcu_model::{Reply, Told};
 use seat_table::{CitrusTable, Part, Seat, WaitPart, steps};
-use std::sync::Wait;
 
 /// Adds the pair, where the key is absent: `New` with the update's position. `Old` where the key is present, as at `get`, and `Full`
-/// where no slot is free and the caller has none to give back. It waits for the holder of the lock of the node above, for other
-/// updates, and, where no slot is free, for all open sections.
-pub fn put<R: Wait, W: WaitPart, G: Gate>(
-    rt: &R,
+/// where it is absent, no slot is free, and the caller has none to give back. It waits for the holder of the lock of the node above, for
+/// other updates, and, where no slot is free, for all open sections.
+pub fn put<P: Patience, W: WaitPart, G: Gate>(
+    patience: &P,
     table: &CitrusTable<W>,
     seat: &mut Seat<W>,
     gate: &G,
     key: u64,
     value: u64,
-) -> Told
+) -> Result<Told, P::Tired>
     requires table { seat.old.table ≡ table.now }
     requires quiet { IsQuietSeat seat.old }
     requires tickets { 4 ≤ seat.old.view.allowance.tickets }
     ensures table { seat.new.table ≡ seat.old.table }
-    ensures puts { Puts (shape_of W.WAY table.now) seat.old.view key value result seat.new.view }
-    ensures quiet { IsQuietSeat seat.new }
-    ensures wait { KeepsWait seat.old.view seat.new.view }
-    ensures slots { KeepsSlots seat.old seat.new }
-    ensures tickets { seat.old.view.allowance.tickets ≤ seat.new.view.allowance.tickets + 4 }
-    ensures informed { IsInformed seat.new.view }
+    ensures puts { IfOk result (λ answer. Puts (shape_of W.WAY table.now) seat.old.view key value answer seat.new.view) }
+    ensures quiet { IfOk result (λ _. IsQuietSeat seat.new) }
+    ensures wait { IfOk result (λ _. KeepsWait seat.old.view seat.new.view) }
+    ensures slots { IfOk result (λ _. KeepsSlots seat.old seat.new) }
+    ensures tickets { IfOk result (λ _. seat.old.view.allowance.tickets ≤ seat.new.view.allowance.tickets + 4) }
+    ensures allowance { IfOk result (λ _. KeepsAllowance seat.old.view seat.new.view) }
+    ensures informed { IfOk result (λ _. IsInformed seat.new.view) }
 {
-    let backoff = Backoff::new();
-    for _ in rt.forever() {
-        let Some(spot) = find_spot(rt, table, seat, gate, key) else {
+    let mut pauses = patience.pauses();
+    for _ in 0..u64::MAX {
+        let Some(spot) = find_spot(patience, table, seat, gate, key)? else {
             give_up_leaf(table, seat);
-            return answered(gate, seat, Reply::Old, 0);
+            return Ok(answered(gate, seat, Reply::Old, 0));
         };
-        let Some(leaf) = leaf_in_hand(rt, table, seat, key, value) else {
-            return answered(gate, seat, Reply::Full, 0);
+        let Some(leaf) = leaf_in_hand(patience, table, seat, key, value)? else {
+            return Ok(answered(gate, seat, Reply::Full, 0));
         };
         gate.pass(Point::BeforeLock, seat.place());
-        if let Some(number) = link_leaf(rt, table, seat, spot, leaf, key, value) {
-            return answered(gate, seat, Reply::New, number);
+        if let Some(number) = link_leaf(patience, table, seat, spot, leaf, key, value)? {
+            return Ok(answered(gate, seat, Reply::New, number));
         }
-        backoff.snooze();
+        patience.pause(&mut pauses)?;
     }
-    unreachable!()
+    Err(patience.tired())
 }
 
 // The empty side at which the key belongs, or none where the key is present.
-fn find_spot<R: Wait, W: WaitPart, G: Gate>(
-    rt: &R,
+fn find_spot<P: Patience, W: WaitPart, G: Gate>(
+    patience: &P,
     table: &CitrusTable<W>,
     seat: &mut Seat<W>,
     gate: &G,
     key: u64,
-) -> Option<Spot>
+) -> Result<Option<Spot>, P::Tired>
     requires table { seat.old.table ≡ table.now }
     requires outside { seat.old.view.section ≡ None }
     requires unlocked { seat.old.view.locks ≡ [] }
     ensures seat { (seat.new.table ≡ seat.old.table) × (seat.new.listed ≡ seat.old.listed) }
-    ensures place { 1 ≤ table.now.places }
-    ensures searched { Searched (shape_of W.WAY table.now) seat.old.view key result seat.new.view }
+    ensures place { IfOk result (λ _. 1 ≤ table.now.places) }
+    ensures searched { IfOk result (λ answer. Searched (shape_of W.WAY table.now) seat.old.view key answer seat.new.view) }
 {
-    match descend(rt, table, seat, gate, key) {
+    match descend(patience, table, seat, gate, key)? {
         Descent::Found { .. } => {
             W::leave(table, seat);
-            None
+            Ok(None)
         }
-        Descent::Ended { slot, side } => Some(leave_with_spot(table, seat, slot, side)),
+        Descent::Ended { slot, side } => Ok(Some(leave_with_spot(table, seat, slot, side))),
     }
 }
 
@@ -109,31 +111,36 @@ fn give_up_leaf<W: WaitPart>(table: &CitrusTable<W>, seat: &mut Seat<W>)
 
 // The slot in hand, filled with the pair. It is filled once, after it was taken. There is none where no slot is free, and no retired
 // one to give back.
-fn leaf_in_hand<R: Wait, W: WaitPart>(
-    rt: &R,
+fn leaf_in_hand<P: Patience, W: WaitPart>(
+    patience: &P,
     table: &CitrusTable<W>,
     seat: &mut Seat<W>,
     key: u64,
     value: u64,
-) -> Option<u32>
+) -> Result<Option<u32>, P::Tired>
     requires table { seat.old.table ≡ table.now }
     requires listed { AreListed seat.old }
-    requires at { (kept : ℕ) × (spot : Spot) × IsAt (shape_of W.WAY table.now) (Put key value) kept (leaf_stage seat.old.view.hands.hand spot) seat.old.view }
+    requires at { (kept : ℕ) × (spot : Spot) × IsAt (shape_of W.WAY table.now) (Put key value) kept
+        (leaf_stage seat.old.view.hands.hand spot) seat.old.view }
     ensures table { seat.new.table ≡ seat.old.table }
-    ensures listed { AreListed seat.new }
-    ensures slot { (slot : ℕ) → result ≡ Some slot → IsSlotOf (Some slot) seat.new.view.hands.hand }
-    ensures room { MakesRoom (shape_of W.WAY table.now) seat.old.view seat.new.view }
-    ensures slots { KeepsSlots seat.old seat.new }
-    ensures full { result ≡ None → IsFullNow (shape_of W.WAY table.now) seat.new.view }
-    ensures at { (kept : ℕ) (spot : Spot) → IsAt (shape_of W.WAY table.now) (Put key value) kept (leaf_stage seat.old.view.hands.hand spot) seat.old.view → IsAt (shape_of W.WAY table.now) (Put key value) kept (filled_stage result spot) seat.new.view }
-    ensures informed { result ≡ None → IsInformed seat.new.view }
+    ensures listed { IfOk result (λ _. AreListed seat.new) }
+    ensures slot { IfOk result (λ answer. (slot : ℕ) → answer ≡ Some slot → IsSlotOf (Some slot) seat.new.view.hands.hand) }
+    ensures room { IfOk result (λ _. MakesRoom (shape_of W.WAY table.now) seat.old.view seat.new.view) }
+    ensures slots { IfOk result (λ _. KeepsSlots seat.old seat.new) }
+    ensures full { IfOk result (λ answer. answer ≡ None → IsFullNow (shape_of W.WAY table.now) seat.new.view) }
+    ensures at { IfOk result (λ answer. (kept : ℕ) (spot : Spot)
+        → IsAt (shape_of W.WAY table.now) (Put key value) kept (leaf_stage seat.old.view.hands.hand spot) seat.old.view
+        → IsAt (shape_of W.WAY table.now) (Put key value) kept (filled_stage answer spot) seat.new.view) }
+    ensures informed { IfOk result (λ answer. answer ≡ None → IsInformed seat.new.view) }
 {
     if let Some(slot) = seat.in_hand() {
-        return Some(slot);
+        return Ok(Some(slot));
     }
-    let slot = take_slot(rt, table, seat)?;
+    let Some(slot) = take_slot(patience, table, seat)? else {
+        return Ok(None);
+    };
     fill_leaf(table, seat, slot, key, value);
-    Some(slot)
+    Ok(Some(slot))
 }
 
 // Stores the pair in the slot in hand, and no children.
@@ -150,7 +157,8 @@ fn fill_leaf<W: WaitPart>(
     ensures seat { (seat.new.table ≡ seat.old.table) × (seat.new.listed ≡ seat.old.listed) }
     ensures slot { IsSlotOf (Some slot) seat.new.view.hands.hand }
     ensures goes { Goes seat.old.view seat.new.view [] }
-    ensures at { (kept : ℕ) (spot : Spot) → IsAt (shape_of W.WAY table.now) (Put key value) kept (at.LeafField spot 0) seat.old.view → IsAt (shape_of W.WAY table.now) (Put key value) kept (at.LeafLock spot) seat.new.view }
+    ensures at { (kept : ℕ) (spot : Spot) → IsAt (shape_of W.WAY table.now) (Put key value) kept (at.LeafField spot 0) seat.old.view
+        → IsAt (shape_of W.WAY table.now) (Put key value) kept (at.LeafLock spot) seat.new.view }
 {
     steps::fill(table, seat, slot, Part::Key, key);
     steps::fill(table, seat, slot, Part::Value, value);
@@ -159,70 +167,74 @@ fn fill_leaf<W: WaitPart>(
 }
 
 // A slot, for which the retired ones are given back where none is free.
-fn take_slot<R: Wait, W: WaitPart>(
-    rt: &R,
+fn take_slot<P: Patience, W: WaitPart>(
+    patience: &P,
     table: &CitrusTable<W>,
     seat: &mut Seat<W>,
-) -> Option<u32>
+) -> Result<Option<u32>, P::Tired>
     requires table { seat.old.table ≡ table.now }
     requires listed { AreListed seat.old }
     requires at { (spot : Spot) × (expected : ℕ) × StandsAt (shape_of W.WAY table.now) (at.Reserve (Leaf spot) expected) seat.old.view }
     ensures table { seat.new.table ≡ seat.old.table }
-    ensures listed { AreListed seat.new }
-    ensures slot { (slot : ℕ) → result ≡ Some slot → IsSlotOf (Some slot) seat.new.view.hands.hand }
-    ensures room { MakesRoom (shape_of W.WAY table.now) seat.old.view seat.new.view }
-    ensures slots { KeepsSlots seat.old seat.new }
-    ensures full { result ≡ None → IsFullNow (shape_of W.WAY table.now) seat.new.view }
-    ensures at { (spot : Spot) (expected : ℕ) → Comes (shape_of W.WAY table.now) (at.Reserve (Leaf spot) expected) seat.old.view (taken_stage result spot) seat.new.view }
-    ensures informed { IsInformed seat.new.view }
+    ensures listed { IfOk result (λ _. AreListed seat.new) }
+    ensures slot { IfOk result (λ answer. (slot : ℕ) → answer ≡ Some slot → IsSlotOf (Some slot) seat.new.view.hands.hand) }
+    ensures room { IfOk result (λ _. MakesRoom (shape_of W.WAY table.now) seat.old.view seat.new.view) }
+    ensures slots { IfOk result (λ _. KeepsSlots seat.old seat.new) }
+    ensures full { IfOk result (λ answer. answer ≡ None → IsFullNow (shape_of W.WAY table.now) seat.new.view) }
+    ensures at { IfOk result (λ answer. (spot : Spot) (expected : ℕ)
+        → Comes (shape_of W.WAY table.now) (at.Reserve (Leaf spot) expected) seat.old.view (taken_stage answer spot) seat.new.view) }
+    ensures informed { IfOk result (λ _. IsInformed seat.new.view) }
 {
-    if let Taken::Slot { slot, .. } = take(rt, table, seat) {
-        return Some(slot);
+    if let Taken::Slot { slot, .. } = take(patience, table, seat)? {
+        return Ok(Some(slot));
     }
     if seat.retired().is_empty() {
-        return None;
+        return Ok(None);
     }
-    reclaim(rt, table, seat);
-    match take(rt, table, seat) {
-        Taken::Slot { slot, .. } => Some(slot),
-        Taken::Empty => None,
+    reclaim(patience, table, seat)?;
+    match take(patience, table, seat)? {
+        Taken::Slot { slot, .. } => Ok(Some(slot)),
+        Taken::Empty => Ok(None),
     }
 }
 
 // Links the slot in hand at the recorded side, and answers the update's number; or nothing, where the lock is taken or the side isn't
 // as recorded any more.
-fn link_leaf<R: Wait, W: WaitPart>(
-    rt: &R,
+fn link_leaf<P: Patience, W: WaitPart>(
+    patience: &P,
     table: &CitrusTable<W>,
     seat: &mut Seat<W>,
     spot: Spot,
     leaf: u32,
     key: u64,
     value: u64,
-) -> Option<u64>
+) -> Result<Option<u64>, P::Tired>
     requires table { seat.old.table ≡ table.now }
     requires slot { IsSlotOf (Some leaf) seat.old.view.hands.hand }
     requires at { (kept : ℕ) × IsAt (shape_of W.WAY table.now) (Put key value) kept (at.LeafLock spot) seat.old.view }
     ensures seat { (seat.new.table ≡ seat.old.table) × (seat.new.listed ≡ seat.old.listed) }
-    ensures again { result ≡ None → Goes seat.old.view seat.new.view [] }
-    ensures linked { (kept number : ℕ) → IsAt (shape_of W.WAY table.now) (Put key value) kept (at.LeafLock spot) seat.old.view → result ≡ Some number → Links seat.old.view key value number seat.new.view }
-    ensures at { (kept : ℕ) → IsAt (shape_of W.WAY table.now) (Put key value) kept (at.LeafLock spot) seat.old.view → IsAt (shape_of W.WAY table.now) (Put key value) kept (linked_stage result) seat.new.view }
-    ensures informed { IsInformed seat.new.view }
+    ensures again { IfOk result (λ answer. answer ≡ None → Goes seat.old.view seat.new.view []) }
+    ensures linked { IfOk result (λ answer. (kept number : ℕ)
+        → IsAt (shape_of W.WAY table.now) (Put key value) kept (at.LeafLock spot) seat.old.view → answer ≡ Some number
+        → Links seat.old.view key value number seat.new.view) }
+    ensures at { IfOk result (λ answer. (kept : ℕ) → IsAt (shape_of W.WAY table.now) (Put key value) kept (at.LeafLock spot) seat.old.view
+        → IsAt (shape_of W.WAY table.now) (Put key value) kept (linked_stage answer) seat.new.view) }
+    ensures informed { IfOk result (λ _. IsInformed seat.new.view) }
 {
     if steps::lock(table, seat, spot.slot) != 0 {
-        return None;
+        return Ok(None);
     }
     // Since the search others may have used the slot again, filled the side, or filled and emptied it. docs/TREE.md#the-tree
     if !still_holds(table, seat, spot) {
         steps::unlock(table, seat, spot.slot);
-        return None;
+        return Ok(None);
     }
     // Odd for the one store alone: updates take turns for these three steps, and get their numbers by them. docs/TREE.md#the-tree
-    let front = open_front(rt, table, seat);
+    let front = open_front(patience, table, seat)?;
     steps::link_leaf(table, seat, spot.slot, spot.side, leaf, key, value);
     let number = close_front(table, seat, front);
     steps::unlock(table, seat, spot.slot);
-    Some(number)
+    Ok(Some(number))
 }
 
 // Whether the side under the lock is as recorded. All three words are loaded before they are judged.

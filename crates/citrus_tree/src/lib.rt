@@ -11,13 +11,12 @@ mod insert;
 pub mod laws;
 mod lives;
 mod lookup;
+pub mod patient;
 mod replace;
 mod search;
+mod steadfast;
 
 pub use client::{TreeClient, call};
 pub use core_points::stage::Spot;
-pub use delete::del;
-pub use insert::put;
-pub use lookup::get;
-pub use replace::set;
 pub use search::{End, Hop, Search};
+pub use steadfast::{del, get, put, set};

@@ -1,63 +1,63 @@
 //! Lookups, in a section and without a lock.
-ghost use Rattle.std.specs.Prelude.{◌≡◌, [], None};
+ghost use Rattle.std.specs.Prelude.{◌≡◌, [], None, IfOk};
 ghost use Rattle.seat_table.specs.Seats.{IsQuietSeat};
 ghost use Rattle.citrus_tree.specs.Lookups.{Looked, Gets};
 
 use crate::descent::{Descent, descend};
+use patience::Patience;
 use prcu_marks::{Gate, Point};
 use prcu_model::{Reply, Told};
 use seat_table::{CitrusTable, Part, Seat, WaitPart, steps};
-use std::sync::Wait;
 
 // What the dictionary gave the key at some time of a section that is entered and left.
-fn look_up<R: Wait, W: WaitPart, G: Gate>(
-    rt: &R,
+fn look_up<P: Patience, W: WaitPart, G: Gate>(
+    patience: &P,
     table: &CitrusTable<W>,
     seat: &mut Seat<W>,
     gate: &G,
     key: u64,
-) -> Option<u64>
+) -> Result<Option<u64>, P::Tired>
     requires table { seat.old.table ≡ table.now }
     requires outside { seat.old.view.section ≡ None }
     requires unlocked { seat.old.view.locks ≡ [] }
     ensures seat { (seat.new.table ≡ seat.old.table) × (seat.new.listed ≡ seat.old.listed) }
-    ensures looked { Looked seat.old.view key result seat.new.view }
+    ensures looked { IfOk result (λ answer. Looked seat.old.view key answer seat.new.view) }
 {
-    match descend(rt, table, seat, gate, key) {
+    match descend(patience, table, seat, gate, key)? {
         Descent::Found { slot, .. } => {
             // Without a lock: a node that is unlinked by now keeps its value, and that was the key's at a front of this section.
             // docs/TREE.md#why-a-get-beside-a-delete-is-right
             let value = steps::search_load(table, seat, slot, Part::Value);
             W::leave(table, seat);
-            Some(value)
+            Ok(Some(value))
         }
         Descent::Ended { .. } => {
             W::leave(table, seat);
-            None
+            Ok(None)
         }
     }
 }
 
 /// The key's value, or `Absent`, as the dictionary gave it at some time of the call. It takes no lock and waits for nobody's step, but
 /// others' updates can make the search longer.
-pub fn get<R: Wait, W: WaitPart, G: Gate>(
-    rt: &R,
+pub fn get<P: Patience, W: WaitPart, G: Gate>(
+    patience: &P,
     table: &CitrusTable<W>,
     seat: &mut Seat<W>,
     gate: &G,
     key: u64,
-) -> Told
+) -> Result<Told, P::Tired>
     requires table { seat.old.table ≡ table.now }
     requires quiet { IsQuietSeat seat.old }
     ensures seat { seat.new.table ≡ seat.old.table }
-    ensures listed { seat.new.listed ≡ seat.old.listed }
-    ensures gets { Gets seat.old.view key result seat.new.view }
-    ensures quiet { IsQuietSeat seat.new }
+    ensures listed { IfOk result (λ _. seat.new.listed ≡ seat.old.listed) }
+    ensures gets { IfOk result (λ answer. Gets seat.old.view key answer seat.new.view) }
+    ensures quiet { IfOk result (λ _. IsQuietSeat seat.new) }
 {
-    let reply = match look_up(rt, table, seat, gate, key) {
+    let reply = match look_up(patience, table, seat, gate, key)? {
         Some(value) => Reply::Val { value },
         None => Reply::Absent,
     };
     gate.pass(Point::Answered, seat.place());
-    Told { reply, number: 0 }
+    Ok(Told { reply, number: 0 })
 }

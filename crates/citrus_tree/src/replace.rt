@@ -1,10 +1,11 @@
 //! A value is replaced.
-ghost use Rattle.std.specs.Prelude.{◌≡◌, ℕ, ◌+◌, ◌≤◌, [], Some, None};
+ghost use Rattle.std.specs.Prelude.{◌≡◌, ℕ, ◌+◌, ◌≤◌, [], Some, None, IfOk};
 ghost use Rattle.core_points.specs.declared.stage.Stage.TheVariants as at;
 ghost use Rattle.prcu_model.specs.declared.operation.Op.TheVariants.{Set};
 ghost use Rattle.seat_table.specs.Gains.{IsInformed};
 ghost use Rattle.seat_table.specs.Seats.{IsQuietSeat, shape_of};
 ghost use Rattle.tree_points.specs.At.{IsAt};
+ghost use Rattle.tree_points.specs.Progress.{KeepsAllowance};
 ghost use Rattle.citrus_tree.specs.declared.replace.Replaced.{Replaced};
 ghost use Rattle.citrus_tree.specs.Going.{Goes, Sought, Stores, set_stage};
 ghost use Rattle.citrus_tree.specs.Gone.{KeepsSlots, KeepsWait};
@@ -15,11 +16,10 @@ use crate::commit::{close_front, open_front};
 use crate::descent::{Descent, descend};
 use crate::lives::is_life;
 use core_state::generation_of;
-use crossbeam_utils::Backoff;
+use patience::Patience;
 use prcu_marks::{Gate, Point};
 use prcu_model::{Reply, Told};
 use seat_table::{CitrusTable, Part, Seat, WaitPart, steps};
-use std::sync::Wait;
 
 /// A slot that had the key, with its generation then.
 #[derive(Clone, Copy)]
@@ -37,102 +37,108 @@ pub(crate) struct Replaced {
 
 /// Gives the key another value, where it is present: `Was` with the old value and the update's position. `Absent` as at `get`. It waits
 /// for the holder of the node's lock and for other updates, and for no reader.
-pub fn set<R: Wait, W: WaitPart, G: Gate>(
-    rt: &R,
+pub fn set<P: Patience, W: WaitPart, G: Gate>(
+    patience: &P,
     table: &CitrusTable<W>,
     seat: &mut Seat<W>,
     gate: &G,
     key: u64,
     value: u64,
-) -> Told
+) -> Result<Told, P::Tired>
     requires table { seat.old.table ≡ table.now }
     requires quiet { IsQuietSeat seat.old }
     requires tickets { 4 ≤ seat.old.view.allowance.tickets }
     ensures table { seat.new.table ≡ seat.old.table }
-    ensures sets { Sets seat.old.view key value result seat.new.view }
-    ensures quiet { IsQuietSeat seat.new }
-    ensures wait { KeepsWait seat.old.view seat.new.view }
-    ensures slots { KeepsSlots seat.old seat.new }
-    ensures tickets { seat.old.view.allowance.tickets ≤ seat.new.view.allowance.tickets + 4 }
-    ensures informed { IsInformed seat.new.view }
+    ensures sets { IfOk result (λ answer. Sets seat.old.view key value answer seat.new.view) }
+    ensures quiet { IfOk result (λ _. IsQuietSeat seat.new) }
+    ensures wait { IfOk result (λ _. KeepsWait seat.old.view seat.new.view) }
+    ensures slots { IfOk result (λ _. KeepsSlots seat.old seat.new) }
+    ensures tickets { IfOk result (λ _. seat.old.view.allowance.tickets ≤ seat.new.view.allowance.tickets + 4) }
+    ensures allowance { IfOk result (λ _. KeepsAllowance seat.old.view seat.new.view) }
+    ensures informed { IfOk result (λ _. IsInformed seat.new.view) }
 {
-    let backoff = Backoff::new();
-    for _ in rt.forever() {
-        let Some(holder) = find_holder(rt, table, seat, gate, key) else {
-            return answered(gate, seat, Reply::Absent, 0);
+    let mut pauses = patience.pauses();
+    for _ in 0..u64::MAX {
+        let Some(holder) = find_holder(patience, table, seat, gate, key)? else {
+            return Ok(answered(gate, seat, Reply::Absent, 0));
         };
         gate.pass(Point::BeforeLock, seat.place());
-        if let Some(done) = store_value(rt, table, seat, holder, key, value) {
-            return answered(gate, seat, Reply::Was { value: done.old }, done.number);
+        if let Some(done) = store_value(patience, table, seat, holder, key, value)? {
+            return Ok(answered(gate, seat, Reply::Was { value: done.old }, done.number));
         }
-        backoff.snooze();
+        patience.pause(&mut pauses)?;
     }
-    unreachable!()
+    Err(patience.tired())
 }
 
 // The slot that has the key, or none where the key is absent.
-fn find_holder<R: Wait, W: WaitPart, G: Gate>(
-    rt: &R,
+fn find_holder<P: Patience, W: WaitPart, G: Gate>(
+    patience: &P,
     table: &CitrusTable<W>,
     seat: &mut Seat<W>,
     gate: &G,
     key: u64,
-) -> Option<Holder>
+) -> Result<Option<Holder>, P::Tired>
     requires table { seat.old.table ≡ table.now }
     requires outside { seat.old.view.section ≡ None }
     requires unlocked { seat.old.view.locks ≡ [] }
     ensures seat { (seat.new.table ≡ seat.old.table) × (seat.new.listed ≡ seat.old.listed) }
-    ensures place { 1 ≤ table.now.places }
-    ensures sought { Sought (shape_of W.WAY table.now) seat.old.view key result seat.new.view }
+    ensures place { IfOk result (λ _. 1 ≤ table.now.places) }
+    ensures sought { IfOk result (λ answer. Sought (shape_of W.WAY table.now) seat.old.view key answer seat.new.view) }
 {
-    match descend(rt, table, seat, gate, key) {
+    match descend(patience, table, seat, gate, key)? {
         Descent::Found { slot, .. } => {
             let life = steps::search_load(table, seat, slot, Part::Life);
             W::leave(table, seat);
-            Some(Holder {
+            Ok(Some(Holder {
                 slot,
                 generation: generation_of(life),
-            })
+            }))
         }
         Descent::Ended { .. } => {
             W::leave(table, seat);
-            None
+            Ok(None)
         }
     }
 }
 
 // Stores the value in the recorded slot; or nothing, where the lock is taken or the slot's life isn't as recorded any more.
-fn store_value<R: Wait, W: WaitPart>(
-    rt: &R,
+fn store_value<P: Patience, W: WaitPart>(
+    patience: &P,
     table: &CitrusTable<W>,
     seat: &mut Seat<W>,
     holder: Holder,
     key: u64,
     value: u64,
-) -> Option<Replaced>
+) -> Result<Option<Replaced>, P::Tired>
     requires table { seat.old.table ≡ table.now }
-    requires at { (kept : ℕ) × IsAt (shape_of W.WAY table.now) (Set key value) kept (at.SetLock holder.slot holder.generation) seat.old.view }
+    requires at { (kept : ℕ) × IsAt (shape_of W.WAY table.now) (Set key value) kept
+        (at.SetLock holder.slot holder.generation) seat.old.view }
     ensures seat { (seat.new.table ≡ seat.old.table) × (seat.new.listed ≡ seat.old.listed) }
-    ensures again { result ≡ None → Goes seat.old.view seat.new.view [] }
-    ensures stored { (kept : ℕ) (done : Replaced) → IsAt (shape_of W.WAY table.now) (Set key value) kept (at.SetLock holder.slot holder.generation) seat.old.view → result ≡ Some done → Stores seat.old.view key value done seat.new.view }
-    ensures at { (kept : ℕ) → IsAt (shape_of W.WAY table.now) (Set key value) kept (at.SetLock holder.slot holder.generation) seat.old.view → IsAt (shape_of W.WAY table.now) (Set key value) kept (set_stage result) seat.new.view }
-    ensures informed { IsInformed seat.new.view }
+    ensures again { IfOk result (λ answer. answer ≡ None → Goes seat.old.view seat.new.view []) }
+    ensures stored { IfOk result (λ answer. (kept : ℕ) (done : Replaced)
+        → IsAt (shape_of W.WAY table.now) (Set key value) kept (at.SetLock holder.slot holder.generation) seat.old.view → answer ≡ Some done
+        → Stores seat.old.view key value done seat.new.view) }
+    ensures at { IfOk result (λ answer. (kept : ℕ)
+        → IsAt (shape_of W.WAY table.now) (Set key value) kept (at.SetLock holder.slot holder.generation) seat.old.view
+        → IsAt (shape_of W.WAY table.now) (Set key value) kept (set_stage answer) seat.new.view) }
+    ensures informed { IfOk result (λ _. IsInformed seat.new.view) }
 {
     if steps::lock(table, seat, holder.slot) != 0 {
-        return None;
+        return Ok(None);
     }
     // A delete may have marked the node since, and the slot may have another key by now. docs/TREE.md#what-could-go-wrong
     let life = steps::locked_load(table, seat, holder.slot, Part::Life);
     let holds = is_life(life, holder.generation);
     if !holds {
         steps::unlock(table, seat, holder.slot);
-        return None;
+        return Ok(None);
     }
     // Only the lock's holder stores here, so this is the value that the update replaces.
     let old = steps::locked_load(table, seat, holder.slot, Part::Value);
-    let front = open_front(rt, table, seat);
+    let front = open_front(patience, table, seat)?;
     steps::replace_value(table, seat, holder.slot, key, value);
     let number = close_front(table, seat, front);
     steps::unlock(table, seat, holder.slot);
-    Some(Replaced { old, number })
+    Ok(Some(Replaced { old, number }))
 }

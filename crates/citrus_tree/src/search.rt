@@ -5,7 +5,7 @@ ghost use Rattle.core_state.specs.declared.view.View.{View};
 ghost use Rattle.seat_table.specs.Gains.{IsSlot};
 ghost use Rattle.seat_table.specs.Seats.{shape_of};
 ghost use Rattle.citrus_tree.specs.declared.search.Hop.TheVariants.{Moved};
-ghost use Rattle.citrus_tree.specs.Hops.{search_at, IsSearch, HasHopped, Records, Finishes};
+ghost use Rattle.citrus_tree.specs.Hops.{search_at, seat_left, IsSearch, HasHopped, Records, Finishes};
 ghost use Rattle.citrus_tree.specs.Lookups.{IsSearching, Looked};
 
 use crate::descent::{Step, go_down};
@@ -15,7 +15,7 @@ use prcu_marks::Side;
 use seat_table::{CitrusTable, Part, Seat, WaitPart, steps};
 
 /// What a hop came to.
-#[derive(Clone, Copy, Debug, PartialEq, Eq)]
+#[derive(Clone, Copy)]
 pub enum Hop {
     /// At a slot with another key.
     Moved,
@@ -72,8 +72,10 @@ impl<'a, W: WaitPart> Search<'a, W> {
         requires moved { (search_at self.old).last ≡ Moved }
         requires stands { (v : View) × IsSearch W.WAY v (search_at self.old) }
         ensures same_reference { (search_at self.new).lender ≡ (search_at self.old).lender }
-        ensures seat { ((search_at self.new).seat.table ≡ (search_at self.old).seat.table) × ((search_at self.new).seat.listed ≡ (search_at self.old).seat.listed) }
-        ensures asked { ((search_at self.new).table ≡ (search_at self.old).table) × ((search_at self.new).key ≡ (search_at self.old).key) × ((search_at self.new).last ≡ result) }
+        ensures seat { ((search_at self.new).seat.table ≡ (search_at self.old).seat.table)
+            × ((search_at self.new).seat.listed ≡ (search_at self.old).seat.listed) }
+        ensures asked { ((search_at self.new).table ≡ (search_at self.old).table) × ((search_at self.new).key ≡ (search_at self.old).key)
+            × ((search_at self.new).last ≡ result) }
         ensures hops { HasHopped W.WAY (search_at self.old) result (search_at self.new) }
         ensures stands { (v : View) → IsSearch W.WAY v (search_at self.old) → IsSearch W.WAY v (search_at self.new) }
     {
@@ -102,13 +104,14 @@ impl<'a, W: WaitPart> Search<'a, W> {
     }
 
     /// Loads the value that was found, or what marks the empty side, and leaves the section. The last hop has to have found or ended.
-    // `self.exit.1.0` is the reference to the seat.
     pub fn finish(self) -> End
         requires table { (search_at self).seat.table ≡ (search_at self).table }
         requires over { (search_at self).last ≢ Moved }
         requires stands { (v : View) × IsSearch W.WAY v (search_at self) }
-        ensures seat { (self.exit.1.0.now.table ≡ (search_at self.entry).seat.table) × (self.exit.1.0.now.listed ≡ (search_at self.entry).seat.listed) }
-        ensures finished { (v : View) → IsSearch W.WAY v (search_at self.entry) → Finishes v (search_at self.entry).key result self.exit.1.0.now.view }
+        ensures seat { ((seat_left self.exit).table ≡ (search_at self.entry).seat.table)
+            × ((seat_left self.exit).listed ≡ (search_at self.entry).seat.listed) }
+        ensures finished { (v : View) → IsSearch W.WAY v (search_at self.entry)
+            → Finishes v (search_at self.entry).key result (seat_left self.exit).view }
     {
         let Search {
             table,
@@ -146,7 +149,8 @@ pub(crate) fn leave_with_spot<W: WaitPart>(
     requires searching { (v : View) × (key : ℕ) × IsSearching v key (Missed slot side) seat.old.view }
     ensures seat { (seat.new.table ≡ seat.old.table) × (seat.new.listed ≡ seat.old.listed) }
     ensures slot { result.slot ≡ slot }
-    ensures looked { (v : View) (key : ℕ) → IsSearching v key (Missed slot side) seat.old.view → (looked : Looked v key None seat.new.view) × Records looked.reading result }
+    ensures looked { (v : View) (key : ℕ) → IsSearching v key (Missed slot side) seat.old.view
+        → (looked : Looked v key None seat.new.view) × Records looked.reading result }
 {
     // Inside the section: no slot at which it stood is used again before it is left. docs/TREE.md#what-could-go-wrong
     let tag = steps::search_load(table, seat, slot, Part::Tag { side });

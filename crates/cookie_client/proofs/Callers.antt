@@ -19,13 +19,18 @@ use Rattle.cookie_client.specs.Clients.{CookieClientAt, HasCalled}
 
 -- the marks of what was done about the cookie
 module _ (p key : ℕ) (us : List Update) where
-  ends_plain : (cookie : Option CookieAt) (ms : List Mark) → (ms ≡ []) ⊎ ((c : CookieAt) × (cookie ≡ Some c) × (ms ≡ Ended p c.count ∷ [])) → IsPlain p key us ms
-  ends_plain cookie ms ends = ⊎_elim (λ (e : ms ≡ []). subst (IsPlain p key us) (sym e) (no_plain p key us)) (λ (e : (c : CookieAt) × (cookie ≡ Some c) × (ms ≡ Ended p c.count ∷ [])). subst (IsPlain p key us) (sym e.2) (ended_plain p key us e.0.count)) ends
+  ends_plain : (cookie : Option CookieAt) (ms : List Mark) → (ms ≡ []) ⊎ ((c : CookieAt) × (cookie ≡ Some c) × (ms ≡ Ended p c.count ∷ []))
+      → IsPlain p key us ms
+  ends_plain cookie ms ends = ⊎_elim (λ (e : ms ≡ []). subst (IsPlain p key us) (sym e) (no_plain p key us))
+      (λ (e : (c : CookieAt) × (cookie ≡ Some c) × (ms ≡ Ended p c.count ∷ [])). subst (IsPlain p key us) (sym e.2)
+      (ended_plain p key us e.0.count)) ends
 
   begins_plain : (n : ℕ) (ms : List Mark) → (ms ≡ []) ⊎ (ms ≡ Began p n 0 greatest_key ∷ []) → IsPlain p key us ms
-  begins_plain n ms begins = ⊎_elim (λ (e : ms ≡ []). subst (IsPlain p key us) (sym e) (no_plain p key us)) (λ (e : ms ≡ Began p n 0 greatest_key ∷ []). subst (IsPlain p key us) (sym e) (began_plain p key us n)) begins
+  begins_plain n ms begins = ⊎_elim (λ (e : ms ≡ []). subst (IsPlain p key us) (sym e) (no_plain p key us))
+      (λ (e : ms ≡ Began p n 0 greatest_key ∷ []). subst (IsPlain p key us) (sym e) (began_plain p key us n)) begins
 
-pub called_answers : (before : CookieClientAt) (op : Op) (told : Told) (after : CookieClientAt) → HasCalled before op told after → HasAnswered (Explains (room_of before.tree.shape)) (caller_of before.tree) op told (caller_of after.tree)
+pub called_answers : (before : CookieClientAt) (op : Op) (told : Told) (after : CookieClientAt) → HasCalled before op told after
+    → HasAnswered (Explains (room_of before.tree.shape)) (caller_of before.tree) op told (caller_of after.tree)
 called_answers before op told after call =
     let v : View = before.tree.seat.view in
     let r : View = call.ready.view in
@@ -41,9 +46,15 @@ called_answers before op told after call =
     let place : m.allowance.place ≡ r.allowance.place = answered.place in
     let first = ends_plain v.allowance.place key us before.cookie ends.ended ends.ends in
     let last = both_plain r.allowance.place key us settled.ended settled.began
-    (ends_plain r.allowance.place key us call.held settled.ended (subst (λ p. (settled.ended ≡ []) ⊎ ((c : CookieAt) × (call.held ≡ Some c) × (settled.ended ≡ Ended p c.count ∷ []))) place settled.ends))
-    (begins_plain r.allowance.place key us m.counts.waits settled.began (subst (λ p. (settled.began ≡ []) ⊎ (settled.began ≡ Began p m.counts.waits 0 greatest_key ∷ [])) place settled.begins)) in
-    let until = answered_longer explains (caller_of (record before.tree { seat = call.ready })) (caller_of (record before.tree { seat = call.answered })) (caller_of after.tree) op told (settled.ended ++ settled.began) answered last.none gone.begins
+    (ends_plain r.allowance.place key us call.held settled.ended
+    (subst (λ p. (settled.ended ≡ []) ⊎ ((c : CookieAt) × (call.held ≡ Some c)
+    × (settled.ended ≡ Ended p c.count ∷ []))) place settled.ends))
+    (begins_plain r.allowance.place key us m.counts.waits settled.began
+    (subst (λ p. (settled.began ≡ []) ⊎ (settled.began ≡ Began p m.counts.waits 0 greatest_key ∷ [])) place settled.begins)) in
+    let until = answered_longer explains (caller_of (record before.tree { seat = call.ready }))
+    (caller_of (record before.tree { seat = call.answered })) (caller_of after.tree) op told
+    (settled.ended ++ settled.began) answered last.none gone.begins
     gone.same (ap (λ p. own_of p w.seen) gone.same ∙ gone.own) last.keyed last.waits (met_its_own w) in
-    answered_earlier explains (caller_of before.tree) (caller_of (record before.tree { seat = call.ready })) (caller_of after.tree) op told ends.ended first.none ends.gone.same ends.gone.begins until
+    answered_earlier explains (caller_of before.tree) (caller_of (record before.tree { seat = call.ready }))
+    (caller_of after.tree) op told ends.ended first.none ends.gone.same ends.gone.begins until
     (ap (λ p. own_of p r.seen) ends.gone.same ∙ ends.gone.own) first.keyed first.waits

@@ -37,9 +37,12 @@ good_stays k None s t keeps good = tt
 good_stays k (Some c) s t keeps good = let still = cookies_stay k c s t keeps good.1 good.2 in (good.0, still.0, still.1)
 
 -- what is done about the cookie before a call, the call, and what is done about the cookie after it
-pub made_call : (shape : Shape) (table : TableAt) (cookie left held : Option CookieAt) (s ready mid t : SeatAt) (op : Op) (told : Told) → IsGood shape s cookie → MakesRoom shape op cookie s left ready
-    → tree.HasCalled (record { shape = shape; table = table; seat = ready }) op told (record { shape = shape; table = table; seat = mid }) → IsGood shape mid left → Settles shape left mid held t → IsQuietSeat t → (AreSound mid.view.seen → AreSound t.view.seen)
-    → HasCalled (record { tree = record { shape = shape; table = table; seat = s }; cookie = cookie }) op told (record { tree = record { shape = shape; table = table; seat = t }; cookie = held })
+pub made_call : (shape : Shape) (table : TableAt) (cookie left held : Option CookieAt) (s ready mid t : SeatAt) (op : Op) (told : Told)
+    → IsGood shape s cookie → MakesRoom shape op cookie s left ready
+    → tree.HasCalled (record { shape = shape; table = table; seat = ready }) op told (record { shape = shape; table = table; seat = mid })
+    → IsGood shape mid left → Settles shape left mid held t → IsQuietSeat t → (AreSound mid.view.seen → AreSound t.view.seen)
+    → HasCalled (record { tree = record { shape = shape; table = table; seat = s }; cookie = cookie }) op told
+    (record { tree = record { shape = shape; table = table; seat = t }; cookie = held })
 made_call shape table cookie left held s ready mid t op told first room call good settles quiet sound = record {
   held = left;
   ready = ready;
@@ -51,7 +54,8 @@ made_call shape table cookie left held s ready mid t op told first room call goo
   ends = room_ends shape op cookie s left ready first room;
   waits = settles_leave shape left mid held t good settles;
   few = starts_few settles.left settles.between held t settles.starts;
-  tickets = let same = ap (λ (z : Allowance). z.tickets) (room_allows shape op cookie s left ready first room) in let a = call.tickets in let b = settles_pay shape left mid held t good settles in omega arith;
+  tickets = let same = ap (λ (z : Allowance). z.tickets) (room_allows shape op cookie s left ready first room) in let a = call.tickets in
+      let b = settles_pay shape left mid held t good settles in omega arith;
   quiet = quiet;
   sound = sound (informed_sound mid.view call.informed);
 }
@@ -60,4 +64,8 @@ made_call shape table cookie left held s ready mid t op told first room call goo
 pub chains_meet : ChainsMeetFronts
 chains_meet ops tolds before after none chain =
     told_meets (Explains (room_of before.tree.shape)) (caller_of before.tree) ops tolds (caller_of after.tree)
-    (chain_told HasCalled (λ (c : CookieClientAt). c.tree) (λ c op told d call. (ap (λ (z : ClientAt). z.shape) call.same, called_answers c op told d call)) before.tree.shape ops tolds before after refl none chain)
+    (chain_told HasCalled (λ (c : CookieClientAt). c.tree)
+    (λ c op told d call. (
+      ap (λ (z : ClientAt). z.shape) call.same,
+      called_answers c op told d call,
+    )) before.tree.shape ops tolds before after refl none chain)

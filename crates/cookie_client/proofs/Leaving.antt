@@ -13,7 +13,7 @@ use Rattle.seat_table.specs.Gains.{IsInformed}
 use Rattle.seat_table.specs.Seats.{SeatAt}
 use Rattle.seat_table.specs.Waits.{IsOver}
 use Rattle.tree_points.specs.Progress.{HasGone}
-use Rattle.tree_points.proofs.Gone.{gone_none, gone_on, gone_stays, gone_same, gone_begun, gone_over}
+use Rattle.tree_points.proofs.Gone.{allowed, gone_none, gone_on, gone_stays, gone_same, gone_begun, gone_over}
 use Rattle.node_slots.specs.Reclaiming.{return_marks}
 use Rattle.node_slots.proofs.Marking.{each_begins, each_own, returned_nobodys}
 use Rattle.grace_cookie.specs.declared.answers.Ask.{Ask}
@@ -24,14 +24,17 @@ use Rattle.cookie_client.specs.Settling.{IsGood, GoesOnBy, Asks, WasStarted, Sta
 use Rattle.cookie_client.specs.Rooms.{Holding, AsksOn, AsksUntilNone, LacksRoom, MakesRoom, LeavesEnd}
 
 -- what the seat knows after slots went back: as many waits, and no mark of its place more
-pub back_gone : (c : CookieAt) (s : SeatAt) (number : ℕ) (t : SeatAt) → HasGivenBack c s number t → HasGone s.view t.view [] × (t.view.allowance ≡ s.view.allowance) × (t.view.counts.waits ≡ s.view.counts.waits)
+pub back_gone : (c : CookieAt) (s : SeatAt) (number : ℕ) (t : SeatAt) → HasGivenBack c s number t
+    → HasGone s.view t.view [] × (t.view.allowance ≡ s.view.allowance) × (t.view.counts.waits ≡ s.view.counts.waits)
 back_gone c s number t back = ⊎_elim
-    (λ (none : GivesNone c s number t). let e = ap (λ (z : SeatAt). z.view) none.same in (gone_none (ap (λ (z : View). z.allowance.place) e) (ap (λ (z : View). z.seen) e), ap (λ (z : View). z.allowance) e, ap (λ (z : View). z.counts.waits) e))
+    (λ (none : GivesNone c s number t). let e = ap (λ (z : SeatAt). z.view) none.same in
+    (gone_none (allowed e refl) (ap (λ (z : View). z.seen) e), ap (λ (z : View). z.allowance) e, ap (λ (z : View). z.counts.waits) e))
     (λ (some : GivesSome c s number t).
     let g = some.gives in
     let marks : List Mark = return_marks (held_list s.view.hands.spare) (take c.slots s.listed) in (
       record {
         same = ap (λ (z : View). z.allowance.place) g.rest;
+        allowance = allowed g.rest refl;
         begins = each_begins s.view t.view marks g.marks;
         own = each_own s.view t.view marks (returned_nobodys (held_list s.view.hands.spare) _) g.marks ∙ sym (append-nil _);
       },
@@ -48,21 +51,32 @@ record AskLeaves (cookie : Option CookieAt) (v w : View) : Type 0 where
   pub allowance : w.allowance ≡ v.allowance
   pub waits : w.counts.waits ≡ v.counts.waits
 
-nothing_left : (cookie : Option CookieAt) (v w : View) → w.allowance ≡ v.allowance → w.counts.waits ≡ v.counts.waits → w.seen ≡ v.seen → AskLeaves cookie v w
-nothing_left cookie v w allowance waits seen = record { ended = []; gone = gone_none (ap (λ (a : Allowance). a.place) allowance) seen; ends = inl refl; allowance = allowance; waits = waits }
+nothing_left : (cookie : Option CookieAt) (v w : View) → w.allowance ≡ v.allowance → w.counts.waits ≡ v.counts.waits → w.seen ≡ v.seen
+    → AskLeaves cookie v w
+nothing_left cookie v w allowance waits seen =
+    record {
+      ended = [];
+      gone = gone_none (record
+          { rest = allowance ∙ ap (λ n. record v.allowance { tickets = n }) (sym (ap (λ (a : Allowance). a.tickets) allowance)) }) seen;
+      ends = inl refl;
+      allowance = allowance;
+      waits = waits;
+    }
 
 same_view : (cookie : Option CookieAt) (v : View) (s t : SeatAt) → t ≡ s → AskLeaves cookie v s.view → AskLeaves cookie v t.view
 same_view cookie v s t same = subst (λ (z : SeatAt). AskLeaves cookie v z.view) (sym same)
 
 module _ (k : Shape) (c : CookieAt) (s : SeatAt) (going : c.over ≡ false) (of : IsOf k c s.view) (left : Option CookieAt) (t : SeatAt) where
-  ended_here : (now : CookieAt) (mid : SeatAt) (number : ℕ) → IsLatest c s.view → IsOver k s.view mid.view → HasGivenBack now mid number t → AskLeaves (Some c) s.view t.view
+  ended_here : (now : CookieAt) (mid : SeatAt) (number : ℕ) → IsLatest c s.view → IsOver k s.view mid.view → HasGivenBack now mid number t
+      → AskLeaves (Some c) s.view t.view
   ended_here now mid number latest over back =
       let on = of.going going latest in
       let same : Some over.wait ≡ Some on.0 = sym over.was ∙ on.1 in
       let is : over.wait ≡ on.0 = cc in
       let count : over.wait.count ≡ c.count = ap (λ (z : Waiting). z.count) is ∙ on.2 in
       let later = back_gone now mid number t back in
-      let first : HasGone s.view mid.view (Ended s.view.allowance.place c.count ∷ []) = subst (λ n. HasGone s.view mid.view (Ended s.view.allowance.place n ∷ [])) count (gone_over over) in
+      let first : HasGone s.view mid.view (Ended s.view.allowance.place c.count ∷ []) =
+      subst (λ n. HasGone s.view mid.view (Ended s.view.allowance.place n ∷ [])) count (gone_over over) in
       record {
         ended = Ended s.view.allowance.place c.count ∷ [];
         gone = gone_stays first later.0;
@@ -71,19 +85,23 @@ module _ (k : Shape) (c : CookieAt) (s : SeatAt) (going : c.over ≡ false) (of 
         waits = later.2 ∙ ap (λ (z : View). z.counts.waits) over.ended.others;
       }
 
-  one_leaves : (answer : Ask) (now : CookieAt) (mid : SeatAt) → Asked k c s.view answer now mid.view → GoesOnBy answer now mid left t → AskLeaves (Some c) s.view t.view
+  one_leaves : (answer : Ask) (now : CookieAt) (mid : SeatAt) → Asked k c s.view answer now mid.view → GoesOnBy answer now mid left t
+      → AskLeaves (Some c) s.view t.view
   one_leaves Over now mid asked goes = elim asked.how [
     | inl before ↦ absurd (cc)
     | inr over ↦ ended_here now mid goes.1.0 over.1 over.2 goes.1.1
   ]
   one_leaves (NotYet why) now mid asked goes =
       let e = (asked.3).looked.others in
-      same_view (Some c) s.view mid t goes.1 (nothing_left (Some c) s.view mid.view (ap (λ (z : View). z.allowance) e) (ap (λ (z : View). z.counts.waits) e) (ap (λ (z : View). z.seen) e))
+      same_view (Some c) s.view mid t goes.1 (nothing_left (Some c) s.view mid.view (ap (λ (z : View). z.allowance) e)
+      (ap (λ (z : View). z.counts.waits) e) (ap (λ (z : View). z.seen) e))
   one_leaves (GivenUp latest) now mid asked goes =
       let e = asked.view in
-      same_view (Some c) s.view mid t goes.1 (nothing_left (Some c) s.view mid.view (ap (λ (z : View). z.allowance) e) (ap (λ (z : View). z.counts.waits) e) (ap (λ (z : View). z.seen) e))
+      same_view (Some c) s.view mid t goes.1 (nothing_left (Some c) s.view mid.view (ap (λ (z : View). z.allowance) e)
+      (ap (λ (z : View). z.counts.waits) e) (ap (λ (z : View). z.seen) e))
 
-asks_leave : (k : Shape) (cookie : Option CookieAt) (s : SeatAt) (left : Option CookieAt) (t : SeatAt) → IsGood k s cookie → Asks k cookie s left t → AskLeaves cookie s.view t.view
+asks_leave : (k : Shape) (cookie : Option CookieAt) (s : SeatAt) (left : Option CookieAt) (t : SeatAt) → IsGood k s cookie
+    → Asks k cookie s left t → AskLeaves cookie s.view t.view
 asks_leave k None s left t good asks = same_view None s.view s t asks.1 (nothing_left None s.view s.view refl refl refl)
 asks_leave k (Some c) s left t good asks = one_leaves k c s good.0 good.1 left t asks.answer asks.now asks.seat asks.asked asks.goes
 
@@ -98,7 +116,8 @@ record IsStillHeld (cookie : Option CookieAt) (v : View) (d : CookieAt) (w : Vie
   pub allowance : w.allowance ≡ v.allowance
   pub waits : w.counts.waits ≡ v.counts.waits
 
-still_going : (k : Shape) (c : CookieAt) (s : SeatAt) (d : CookieAt) (t : SeatAt) (answer : Ask) (now : CookieAt) (mid : SeatAt) → IsSameCookie c now → Asked k c s.view answer now mid.view → GoesOnBy answer now mid (Some d) t
+still_going : (k : Shape) (c : CookieAt) (s : SeatAt) (d : CookieAt) (t : SeatAt) (answer : Ask) (now : CookieAt) (mid : SeatAt)
+    → IsSameCookie c now → Asked k c s.view answer now mid.view → GoesOnBy answer now mid (Some d) t
     → IsStillHeld (Some c) s.view d t.view
 still_going k c s d t Over now mid same asked goes = absurd (let none = goes.0 in cc)
 still_going k c s d t (GivenUp latest) now mid same asked goes = absurd (let none = goes.0 in cc)
@@ -110,16 +129,18 @@ still_going k c s d t (NotYet why) now mid same asked goes =
       c = c;
       was = refl;
       count = ap (λ (z : CookieAt). z.count) (is ∙ same);
-      gone = gone_none (ap (λ (z : View). z.allowance.place) (there ∙ e)) (ap (λ (z : View). z.seen) (there ∙ e));
+      gone = gone_none (allowed (there ∙ e) refl) (ap (λ (z : View). z.seen) (there ∙ e));
       allowance = ap (λ (z : View). z.allowance) (there ∙ e);
       waits = ap (λ (z : View). z.counts.waits) (there ∙ e);
     }
 
-still_once : (k : Shape) (cookie : Option CookieAt) (s : SeatAt) (d : CookieAt) (t : SeatAt) → Asks k cookie s (Some d) t → IsStillHeld cookie s.view d t.view
+still_once : (k : Shape) (cookie : Option CookieAt) (s : SeatAt) (d : CookieAt) (t : SeatAt) → Asks k cookie s (Some d) t
+    → IsStillHeld cookie s.view d t.view
 still_once k None s d t asks = absurd (let none = asks.0 in cc)
 still_once k (Some c) s d t asks = still_going k c s d t asks.answer asks.now asks.seat asks.same asks.asked asks.goes
 
-still_on : (k : Shape) (cookie : Option CookieAt) (s : SeatAt) (held : List Holding) (d : CookieAt) (t : SeatAt) → AsksOn k cookie s held (Some d) t → IsStillHeld cookie s.view d t.view
+still_on : (k : Shape) (cookie : Option CookieAt) (s : SeatAt) (held : List Holding) (d : CookieAt) (t : SeatAt)
+    → AsksOn k cookie s held (Some d) t → IsStillHeld cookie s.view d t.view
 still_on k cookie s [] d t asks = still_once k cookie s d t asks
 still_on k cookie s (h ∷ earlier) d t asks =
     let first = still_on k cookie s earlier h.cookie h.seat asks.0 in
@@ -135,28 +156,39 @@ still_on k cookie s (h ∷ earlier) d t asks =
     }
 
 -- At the end at most the wait of that cookie was ended.
-asks_on_leave : (k : Shape) (cookie : Option CookieAt) (s : SeatAt) (held : List Holding) (left : Option CookieAt) (t : SeatAt) → IsGood k s cookie → AsksOn k cookie s held left t → AskLeaves cookie s.view t.view
+asks_on_leave : (k : Shape) (cookie : Option CookieAt) (s : SeatAt) (held : List Holding) (left : Option CookieAt) (t : SeatAt)
+    → IsGood k s cookie → AsksOn k cookie s held left t → AskLeaves cookie s.view t.view
 asks_on_leave k cookie s [] left t good asks = asks_leave k cookie s left t good asks
 asks_on_leave k cookie s (h ∷ earlier) left t good asks =
     let first = still_on k cookie s earlier h.cookie h.seat asks.0 in
     let last = asks_leave k (Some h.cookie) h.seat left t asks.1 asks.2 in record {
       ended = last.ended;
       gone = gone_on first.gone last.gone;
-      ends = ⊎_elim (λ (e : last.ended ≡ []). inl e) (λ (e : (c : CookieAt) × (Some h.cookie ≡ Some c) × (last.ended ≡ Ended h.seat.view.allowance.place c.count ∷ [])).
+      ends = ⊎_elim (λ (e : last.ended ≡ []). inl e)
+          (λ (e : (c : CookieAt) × (Some h.cookie ≡ Some c) × (last.ended ≡ Ended h.seat.view.allowance.place c.count ∷ [])).
           let held = e.1 in
           let is : e.0 ≡ h.cookie = cc in
-          inr (first.c, first.was, e.2 ∙ (λ i. Ended (first.allowance i).place ((ap (λ (z : CookieAt). z.count) is ∙ first.count) i) ∷ []))) last.ends;
+          inr (
+            first.c,
+            first.was,
+            e.2 ∙ (λ i. Ended (first.allowance i).place ((ap (λ (z : CookieAt). z.count) is ∙ first.count) i)
+                ∷ []),
+          )) last.ends;
       allowance = last.allowance ∙ first.allowance;
       waits = last.waits ∙ first.waits;
     }
 
-room_leaves : (k : Shape) (op : Op) (cookie : Option CookieAt) (s : SeatAt) (left : Option CookieAt) (t : SeatAt) → IsGood k s cookie → MakesRoom k op cookie s left t → AskLeaves cookie s.view t.view
+room_leaves : (k : Shape) (op : Op) (cookie : Option CookieAt) (s : SeatAt) (left : Option CookieAt) (t : SeatAt) → IsGood k s cookie
+    → MakesRoom k op cookie s left t → AskLeaves cookie s.view t.view
 room_leaves k op cookie s left t good room = ⊎_elim
-    (λ (none : (LacksRoom op s → ⊥) × (left ≡ cookie) × (t ≡ s)). same_view cookie s.view s t none.2 (nothing_left cookie s.view s.view refl refl refl))
-    (λ (some : LacksRoom op s × (left ≡ None) × AsksUntilNone k cookie s t). asks_on_leave k cookie s (some.2).held None t good (some.2).asks)
+    (λ (none : (LacksRoom op s → ⊥) × (left ≡ cookie) × (t ≡ s)). same_view cookie s.view s t none.2
+    (nothing_left cookie s.view s.view refl refl refl))
+    (λ (some : LacksRoom op s × (left ≡ None) × AsksUntilNone k cookie s t). asks_on_leave k cookie s (some.2).held None t good
+    (some.2).asks)
     room
 
-module _ (k : Shape) (op : Op) (cookie : Option CookieAt) (s : SeatAt) (left : Option CookieAt) (t : SeatAt) (good : IsGood k s cookie) (room : MakesRoom k op cookie s left t) where
+module _ (k : Shape) (op : Op) (cookie : Option CookieAt) (s : SeatAt) (left : Option CookieAt) (t : SeatAt) (good : IsGood k s cookie)
+    (room : MakesRoom k op cookie s left t) where
   abbrev leaves : AskLeaves cookie s.view t.view
   leaves = room_leaves k op cookie s left t good room
 
@@ -168,14 +200,18 @@ module _ (k : Shape) (op : Op) (cookie : Option CookieAt) (s : SeatAt) (left : O
 
 -- whatever one finds when one asks next, it was asked for since the start
 abbrev pub AsksSince : Shape → Option CookieAt → SeatAt → Option CookieAt → SeatAt → Type 0
-AsksSince k cookie s now t = (left : Option CookieAt) (u : SeatAt) → Asks k now t left u → (held : List Holding) × AsksOn k cookie s held left u
+AsksSince k cookie s now t = (left : Option CookieAt) (u : SeatAt) → Asks k now t left u
+    → (held : List Holding) × AsksOn k cookie s held left u
 
-pub still_asked : (k : Shape) (cookie : Option CookieAt) (s : SeatAt) (now : Option CookieAt) (t : SeatAt) (next : Option CookieAt) (u : SeatAt) → AsksSince k cookie s now t → Asks k now t next u → is_some next ≡ true → IsGood k u next
+pub still_asked : (k : Shape) (cookie : Option CookieAt) (s : SeatAt) (now : Option CookieAt) (t : SeatAt) (next : Option CookieAt)
+    (u : SeatAt) → AsksSince k cookie s now t → Asks k now t next u → is_some next ≡ true → IsGood k u next
     → AsksSince k cookie s next u
 still_asked k cookie s now t None u since asks some good = absurd (cc)
-still_asked k cookie s now t (Some d) u since asks some good = λ left w more. let before = since (Some d) u asks in (record { cookie = d; seat = u } ∷ before.0, (before.1, good, more))
+still_asked k cookie s now t (Some d) u since asks some good = λ left w more. let before = since (Some d) u asks in
+    (record { cookie = d; seat = u } ∷ before.0, (before.1, good, more))
 
-pub asked_out : (k : Shape) (cookie : Option CookieAt) (s : SeatAt) (now : Option CookieAt) (t : SeatAt) (next : Option CookieAt) (u : SeatAt) → AsksSince k cookie s now t → Asks k now t next u → is_some next ≡ false → AsksUntilNone k cookie s u
+pub asked_out : (k : Shape) (cookie : Option CookieAt) (s : SeatAt) (now : Option CookieAt) (t : SeatAt) (next : Option CookieAt)
+    (u : SeatAt) → AsksSince k cookie s now t → Asks k now t next u → is_some next ≡ false → AsksUntilNone k cookie s u
 asked_out k cookie s now t None u since asks none = let all = since None u asks in record { held = all.0; asks = all.1 }
 asked_out k cookie s now t (Some d) u since asks none = absurd (cc)
 
@@ -187,9 +223,11 @@ record StartLeaves (v w : View) : Type 0 where
   pub tickets : v.allowance.tickets ≤ w.allowance.tickets + 1
 
 none_started : (s t : SeatAt) → t ≡ s → StartLeaves s.view t.view
-none_started s t same = subst (λ (z : SeatAt). StartLeaves s.view z.view) (sym same) (record { began = []; gone = gone_same; begins = inl refl; tickets = omega arith })
+none_started s t same = subst (λ (z : SeatAt). StartLeaves s.view z.view) (sym same)
+    (record { began = []; gone = gone_same; begins = inl refl; tickets = omega arith })
 
-starts_leave : (left : Option CookieAt) (s : SeatAt) (held : Option CookieAt) (t : SeatAt) → Starts left s held t → StartLeaves s.view t.view
+starts_leave : (left : Option CookieAt) (s : SeatAt) (held : Option CookieAt) (t : SeatAt) → Starts left s held t
+    → StartLeaves s.view t.view
 starts_leave (Some c) s held t starts = none_started s t starts.1
 starts_leave None s None t starts = none_started s t starts.1
 starts_leave None s (Some c) t starts = record {
@@ -199,7 +237,8 @@ starts_leave None s (Some c) t starts = record {
   tickets = let e = ap (λ (z : View). z.allowance.tickets) starts.begun.others in omega arith;
 }
 
-module _ (k : Shape) (cookie : Option CookieAt) (s : SeatAt) (held : Option CookieAt) (t : SeatAt) (good : IsGood k s cookie) (settles : Settles k cookie s held t) where
+module _ (k : Shape) (cookie : Option CookieAt) (s : SeatAt) (held : Option CookieAt) (t : SeatAt) (good : IsGood k s cookie)
+    (settles : Settles k cookie s held t) where
   asking : AskLeaves cookie s.view settles.between.view
   asking = asks_leave k cookie s settles.left settles.between good settles.asks
 
@@ -212,7 +251,8 @@ module _ (k : Shape) (cookie : Option CookieAt) (s : SeatAt) (held : Option Cook
     began = starting.began;
     gone = gone_on asking.gone starting.gone;
     ends = asking.ends;
-    begins = subst (λ (z : ℕ × ℕ). (starting.began ≡ []) ⊎ (starting.began ≡ Began z.0 z.1 0 greatest_key ∷ [])) (λ i. ((asking.allowance i).place, asking.waits i)) starting.begins;
+    begins = subst (λ (z : ℕ × ℕ). (starting.began ≡ []) ⊎ (starting.began ≡ Began z.0 z.1 0 greatest_key ∷ []))
+        (λ i. ((asking.allowance i).place, asking.waits i)) starting.begins;
   }
 
   pub settles_pay : s.view.allowance.tickets ≤ t.view.allowance.tickets + 1
@@ -238,6 +278,7 @@ pub none_started_few : (held : Option CookieAt) (s : SeatAt) → is_some held �
 none_started_few None s none few = (few, refl)
 none_started_few (Some c) s none few = absurd (cc)
 
-pub one_started : (held : Option CookieAt) (s : SeatAt) (c : CookieAt) (t : SeatAt) → is_some held ≡ false → WasStarted s c t → Starts held s (Some c) t
+pub one_started : (held : Option CookieAt) (s : SeatAt) (c : CookieAt) (t : SeatAt) → is_some held ≡ false → WasStarted s c t
+    → Starts held s (Some c) t
 one_started None s c t none started = started
 one_started (Some d) s c t none started = absurd (cc)

@@ -29,7 +29,8 @@ there_longer us more i u there =
     let long = length-append us more in
     slice_get-get_or (us ++ more) i u (omega arith) ∙ ap Some (get_or_append_left us more u i below ∙ read)
 
-module _ (explains : Dictionary → Op → Reply → Type 0) (before mid after : Caller) (op : Op) (told : Told) (more : List Mark) (answered : HasAnswered explains before op told mid) (none : updates_of more ≡ []) (since : IsPrefix mid.seen after.seen) where
+module _ (explains : Dictionary → Op → Reply → Type 0) (before mid after : Caller) (op : Op) (told : Told) (more : List Mark)
+    (answered : HasAnswered explains before op told mid) (none : updates_of more ≡ []) (since : IsPrefix mid.seen after.seen) where
   abbrev rest : List Update
   rest = updates_of since.0
 
@@ -37,16 +38,22 @@ module _ (explains : Dictionary → Op → Reply → Type 0) (before mid after :
   seen_is = ap updates_of (sym since.1) ∙ updates_of-append mid.seen since.0
 
   updates_are : updates_of (answered.marks ++ more) ≡ updates_of answered.marks
-  updates_are = updates_of-append answered.marks more ∙ ap (λ us. updates_of answered.marks ++ us) none ∙ append-nil (updates_of answered.marks)
+  updates_are = updates_of-append answered.marks more ∙ ap (λ us. updates_of answered.marks ++ us) none
+      ∙ append-nil (updates_of answered.marks)
 
-  reply_longer : (b : Bool) → MatchBool b (HasMadeUpdate before op told answered.marks mid.seen) (WasExplained explains before op told answered.marks mid.seen)
-      → MatchBool b (HasMadeUpdate before op told (answered.marks ++ more) after.seen) (WasExplained explains before op told (answered.marks ++ more) after.seen)
+  reply_longer : (b : Bool) → MatchBool b (HasMadeUpdate before op told answered.marks mid.seen)
+      (WasExplained explains before op told answered.marks mid.seen)
+      → MatchBool b (HasMadeUpdate before op told (answered.marks ++ more) after.seen)
+      (WasExplained explains before op told (answered.marks ++ more) after.seen)
   reply_longer true made =
       let inside = slice_get_within (updates_of mid.seen) (told.number - 1) _ made.stands in record {
         left = updates_are ∙ made.left;
         later = made.later;
-        stands = subst (λ us. slice_get us (told.number - 1) ≡ Some (record { caller = before.place; op = op })) (sym seen_is) (there_longer (updates_of mid.seen) (updates_of since.0) (told.number - 1) _ made.stands);
-        confirms = subst (λ d. Confirms d op told.reply) (sym (ap (λ us. map_at us (told.number - 1)) seen_is ∙ map_at-longer (updates_of mid.seen) (updates_of since.0) (told.number - 1) (omega arith))) made.confirms;
+        stands = subst (λ us. slice_get us (told.number - 1) ≡ Some (record { caller = before.place; op = op })) (sym seen_is)
+            (there_longer (updates_of mid.seen) (updates_of since.0) (told.number - 1) _ made.stands);
+        confirms = subst (λ d. Confirms d op told.reply)
+            (sym (ap (λ us. map_at us (told.number - 1)) seen_is
+            ∙ map_at-longer (updates_of mid.seen) (updates_of since.0) (told.number - 1) (omega arith))) made.confirms;
       }
   reply_longer false was =
       let long = ap length seen_is in
@@ -56,11 +63,14 @@ module _ (explains : Dictionary → Op → Reply → Type 0) (before mid after :
         front = was.front;
         since = was.since;
         until = omega arith;
-        explained = subst (λ d. explains d op told.reply) (sym (ap (λ us. map_at us was.front) seen_is ∙ map_at-longer (updates_of mid.seen) (updates_of since.0) was.front was.until)) was.explained;
+        explained = subst (λ d. explains d op told.reply)
+            (sym (ap (λ us. map_at us was.front) seen_is
+            ∙ map_at-longer (updates_of mid.seen) (updates_of since.0) was.front was.until)) was.explained;
       }
 
   -- further marks of the place that are of no section and of no update
-  pub answered_longer : after.place ≡ mid.place → after.own ≡ mid.own ++ more → AllByRecursion (IsLeftBy before.place (key_of op)) more → AllByRecursion (WaitsFor (updates_of after.seen)) more → HasSeenItsOwn after
+  pub answered_longer : after.place ≡ mid.place → after.own ≡ mid.own ++ more → AllByRecursion (IsLeftBy before.place (key_of op)) more
+      → AllByRecursion (WaitsFor (updates_of after.seen)) more → HasSeenItsOwn after
       → HasAnswered explains before op told after
   answered_longer place own keyed waits met = record {
     place = place ∙ answered.place;
@@ -69,7 +79,9 @@ module _ (explains : Dictionary → Op → Reply → Type 0) (before mid after :
     keyed = all_append (IsLeftBy before.place (key_of op)) answered.marks more answered.keyed keyed;
     entered = let one = answered.entered in let both = entered_for-append before.place (key_of op) answered.marks more in omega arith;
     waits = all_append (WaitsFor (updates_of after.seen)) answered.marks more
-        (subst (λ us. AllByRecursion (WaitsFor us) answered.marks) (sym seen_is) (all_map (WaitsFor (updates_of mid.seen)) (WaitsFor (updates_of mid.seen ++ updates_of since.0)) answered.marks (waits_longer (updates_of mid.seen) (updates_of since.0)) answered.waits))
+        (subst (λ us. AllByRecursion (WaitsFor us) answered.marks) (sym seen_is)
+        (all_map (WaitsFor (updates_of mid.seen)) (WaitsFor (updates_of mid.seen ++ updates_of since.0)) answered.marks
+        (waits_longer (updates_of mid.seen) (updates_of since.0)) answered.waits))
         waits;
     since = prefix_trans before.seen mid.seen after.seen answered.since since;
     met = met;
@@ -78,16 +90,20 @@ module _ (explains : Dictionary → Op → Reply → Type 0) (before mid after :
 
 -- ---- marks before a call: its answer is one of what began with them
 
-module _ (explains : Dictionary → Op → Reply → Type 0) (before mid after : Caller) (op : Op) (told : Told) (first : List Mark) (none : updates_of first ≡ []) (here : mid.place ≡ before.place) (since : IsPrefix before.seen mid.seen)
+module _ (explains : Dictionary → Op → Reply → Type 0) (before mid after : Caller) (op : Op) (told : Told) (first : List Mark)
+    (none : updates_of first ≡ []) (here : mid.place ≡ before.place) (since : IsPrefix before.seen mid.seen)
     (answered : HasAnswered explains mid op told after) where
   updates_later : updates_of (first ++ answered.marks) ≡ updates_of answered.marks
   updates_later = updates_of-append first answered.marks ∙ ap (λ us. us ++ updates_of answered.marks) none
 
   fewer : length (updates_of before.seen) ≤ length (updates_of mid.seen)
-  fewer = let long = ap (λ h. length (updates_of h)) (sym since.1) ∙ ap length (updates_of-append before.seen since.0) ∙ length-append (updates_of before.seen) (updates_of since.0) in omega arith
+  fewer = let long = ap (λ h. length (updates_of h)) (sym since.1) ∙ ap length (updates_of-append before.seen since.0)
+      ∙ length-append (updates_of before.seen) (updates_of since.0) in omega arith
 
-  reply_earlier : (b : Bool) → MatchBool b (HasMadeUpdate mid op told answered.marks after.seen) (WasExplained explains mid op told answered.marks after.seen)
-      → MatchBool b (HasMadeUpdate before op told (first ++ answered.marks) after.seen) (WasExplained explains before op told (first ++ answered.marks) after.seen)
+  reply_earlier : (b : Bool) → MatchBool b (HasMadeUpdate mid op told answered.marks after.seen)
+      (WasExplained explains mid op told answered.marks after.seen)
+      → MatchBool b (HasMadeUpdate before op told (first ++ answered.marks) after.seen)
+      (WasExplained explains before op told (first ++ answered.marks) after.seen)
   reply_earlier true made =
       let few = fewer in
       let later = made.later in record {
@@ -107,13 +123,17 @@ module _ (explains : Dictionary → Op → Reply → Type 0) (before mid after :
       }
 
   -- earlier marks of the place that are of no section and of no update
-  pub answered_earlier : mid.own ≡ before.own ++ first → AllByRecursion (IsLeftBy before.place (key_of op)) first → AllByRecursion (WaitsFor (updates_of after.seen)) first → HasAnswered explains before op told after
+  pub answered_earlier : mid.own ≡ before.own ++ first → AllByRecursion (IsLeftBy before.place (key_of op)) first
+      → AllByRecursion (WaitsFor (updates_of after.seen)) first → HasAnswered explains before op told after
   answered_earlier own keyed waits = record {
     place = answered.place ∙ here;
     marks = first ++ answered.marks;
     own = answered.own ∙ ap (λ xs. xs ++ answered.marks) own ∙ append_assoc before.own first answered.marks;
-    keyed = all_append (IsLeftBy before.place (key_of op)) first answered.marks keyed (subst (λ p. AllByRecursion (IsLeftBy p (key_of op)) answered.marks) here answered.keyed);
-    entered = let one : 1 ≤ entered_for before.place (key_of op) answered.marks = subst (λ p. 1 ≤ entered_for p (key_of op) answered.marks) here answered.entered in let both = entered_for-append before.place (key_of op) first answered.marks in omega arith;
+    keyed = all_append (IsLeftBy before.place (key_of op)) first answered.marks keyed
+        (subst (λ p. AllByRecursion (IsLeftBy p (key_of op)) answered.marks) here answered.keyed);
+    entered = let one : 1 ≤ entered_for before.place (key_of op) answered.marks =
+        subst (λ p. 1 ≤ entered_for p (key_of op) answered.marks) here answered.entered in
+        let both = entered_for-append before.place (key_of op) first answered.marks in omega arith;
     waits = all_append (WaitsFor (updates_of after.seen)) first answered.marks waits answered.waits;
     since = prefix_trans before.seen mid.seen after.seen since answered.since;
     met = answered.met;

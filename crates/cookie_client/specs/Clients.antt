@@ -20,8 +20,8 @@ pub record CookieClientAt : Type 0 where
   pub tree : ClientAt
   pub cookie : Option CookieAt
 
--- A call: where the operation lacks room, what was done about the cookie first; that of a client of the tree, which began with this seat and
--- was answered with that one; and then what was done about the cookie.
+-- A call: where the operation lacks room, what was done about the cookie first; that of a client of the tree, which began with this seat
+-- and was answered with that one; and then what was done about the cookie.
 pub record HasCalled (before : CookieClientAt) (op : Op) (told : Told) (after : CookieClientAt) : Type 0 where
   pub held : Option CookieAt
   pub ready : SeatAt
@@ -39,5 +39,7 @@ pub record HasCalled (before : CookieClientAt) (op : Op) (told : Told) (after : 
 
 -- Of a client whose place had made no update, the calls so far tell of lines that fit the updates that it has seen.
 abbrev pub ChainsMeetFronts : Type 0
-ChainsMeetFronts = (ops : List Op) (tolds : List Told) (before after : CookieClientAt) → own_updates before.tree.seat.view.allowance.place (updates_of before.tree.seat.view.seen) ≡ []
-    → IsChain HasCalled before ops tolds after → MeetsFronts (Explains (room_of before.tree.shape)) (updates_of after.tree.seat.view.seen) before.tree.seat.view.allowance.place (told_lines ops tolds)
+ChainsMeetFronts = (ops : List Op) (tolds : List Told) (before after : CookieClientAt)
+    → own_updates before.tree.seat.view.allowance.place (updates_of before.tree.seat.view.seen) ≡ []
+    → IsChain HasCalled before ops tolds after → MeetsFronts (Explains (room_of before.tree.shape))
+    (updates_of after.tree.seat.view.seen) before.tree.seat.view.allowance.place (told_lines ops tolds)

@@ -20,7 +20,8 @@ pub record Holding : Type 0 where
 -- One asked again and again, and held the cookie still at these moments, the latest one first. Then one asked once more.
 abbrev pub AsksOn : Shape → Option CookieAt → SeatAt → List Holding → Option CookieAt → SeatAt → Type 0
 AsksOn k cookie s [] left t = Asks k cookie s left t
-AsksOn k cookie s (h ∷ earlier) left t = AsksOn k cookie s earlier (Some h.cookie) h.seat × IsGood k h.seat (Some h.cookie) × Asks k (Some h.cookie) h.seat left t
+AsksOn k cookie s (h ∷ earlier) left t = AsksOn k cookie s earlier (Some h.cookie) h.seat × IsGood k h.seat (Some h.cookie)
+    × Asks k (Some h.cookie) h.seat left t
 
 -- One asked until no cookie was held: it was over, and its slots went back, or it had been given up.
 pub record AsksUntilNone (k : Shape) (cookie : Option CookieAt) (s t : SeatAt) : Type 0 where
@@ -33,7 +34,8 @@ LacksRoom op s = ((key : ℕ) × (op ≡ Del key)) × (15 ≤ length s.view.hand
 
 -- Where the operation lacks room one asks until no cookie is held; else nothing is done.
 abbrev pub MakesRoom : Shape → Op → Option CookieAt → SeatAt → Option CookieAt → SeatAt → Type 0
-MakesRoom k op cookie s left t = ((LacksRoom op s → ⊥) × (left ≡ cookie) × (t ≡ s)) ⊎ (LacksRoom op s × (left ≡ None) × AsksUntilNone k cookie s t)
+MakesRoom k op cookie s left t = ((LacksRoom op s → ⊥) × (left ≡ cookie) × (t ≡ s))
+    ⊎ (LacksRoom op s × (left ≡ None) × AsksUntilNone k cookie s t)
 
 -- What asking leaves of marks at the place: at most the end of the wait of the cookie that was held.
 pub record LeavesEnd (cookie : Option CookieAt) (v w : View) : Type 0 where

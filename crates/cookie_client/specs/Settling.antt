@@ -22,7 +22,8 @@ abbrev pub IsGood : Shape → SeatAt → Option CookieAt → Type 0
 IsGood k s None = Unit {0}
 IsGood k s (Some c) = (c.over ≡ false) × IsOf k c s.view × HasKept c s
 
--- By the answer about a cookie: when it is over its slots go back, and none is held; where it was given up none is held; else it is held still.
+-- By the answer about a cookie: when it is over its slots go back, and none is held; where it was given up none is held; else it is held
+-- still.
 abbrev pub GoesOnBy : Ask → CookieAt → SeatAt → Option CookieAt → SeatAt → Type 0
 GoesOnBy Over c s left t = (left ≡ None) × ((number : ℕ) × HasGivenBack c s number t)
 GoesOnBy (NotYet why) c s left t = (left ≡ Some c) × (t ≡ s)
@@ -62,7 +63,8 @@ pub record Settles (k : Shape) (cookie : Option CookieAt) (s : SeatAt) (held : O
   pub asks : Asks k cookie s left between
   pub starts : Starts left between held t
 
--- What this leaves of marks at the place: at most the end of the wait of the cookie that was held, and then at most the beginning of one wait,
+-- What this leaves of marks at the place: at most the end of the wait of the cookie that was held, and then at most the beginning of one
+-- wait,
 -- which is for everybody.
 pub record LeavesWaits (cookie : Option CookieAt) (v w : View) : Type 0 where
   pub ended : List Mark
@@ -75,7 +77,8 @@ pub record LeavesWaits (cookie : Option CookieAt) (v w : View) : Type 0 where
 abbrev pub IsFewOrHeld : SeatAt → Option CookieAt → Type 0
 IsFewOrHeld s held = (length s.view.hands.retired < 8) ⊎ ((c : CookieAt) × (held ≡ Some c))
 
--- Among these marks the updates are a history, waits outlast the readers they are for, and no slot is used again that an open reader may meet.
+-- Among these marks the updates are a history, waits outlast the readers they are for, and no slot is used again that an open reader may
+-- meet.
 pub record AreSound (seen : List Mark) : Type 0 where
   pub legal : IsLegal (updates_of seen)
   pub grace : Grace seen

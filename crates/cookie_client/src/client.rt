@@ -34,7 +34,10 @@ impl<'a, W: WaitPart, G: Gate> Model for CookieClient<'a, W, G> {
 
     ghost Value = { CookieClientAt };
 
-    ghost view = { λ c. record { tree = record { shape = shape_of W.WAY c.table.now; table = c.table.now; seat = c.seat }; cookie = c.cookie } };
+    ghost view = { λ c. record {
+      tree = record { shape = shape_of W.WAY c.table.now; table = c.table.now; seat = c.seat };
+      cookie = c.cookie;
+    } };
 
     ghost invariant = { λ c. (c.seat.table ≡ c.table.now) × IsQuietSeat c.seat × IsGood (shape_of W.WAY c.table.now) c.seat c.cookie };
 }
@@ -44,7 +47,10 @@ impl<'a, W: WaitPart, G: Gate> CookieClient<'a, W, G> {
     pub fn new(table: &'a CitrusTable<W>, seat: Seat<W>, gate: &'a G) -> CookieClient<'a, W, G>
         requires table { seat.table ≡ table.now }
         requires quiet { IsQuietSeat seat }
-        ensures client { result ≡ record { tree = record { shape = shape_of W.WAY table.now; table = table.now; seat = seat }; cookie = None } }
+        ensures client { result ≡ record {
+          tree = record { shape = shape_of W.WAY table.now; table = table.now; seat = seat };
+          cookie = None;
+        } }
     {
         CookieClient {
             table,

@@ -23,17 +23,21 @@ covers_exact map facts gaps low below pairs are_facts are_gaps cover = record {
       let one : Some x.0 ≡ Some value = sym (are_facts f.0 (fact_of (key, x.0)) f.1) ∙ is in
       let same : x.0 ≡ value = cc in
       subst (λ z. IsIn pairs (key, z)) same x.1)
-      (λ (x : (gap : Gap) × IsIn gaps gap × IsBetween gap key). absurd (let none : None ≡ Some value = sym (are_gaps x.1.0 x.0 x.1.1 key x.2) ∙ is in cc))
+      (λ (x : (gap : Gap) × IsIn gaps gap × IsBetween gap key). absurd
+      (let none : None ≡ Some value = sym (are_gaps x.1.0 x.0 x.1.1 key x.2) ∙ is in cc))
       (cover.all key from to);
 }
 
 -- the pairs after the first one
-rest_of : (map : ℕ → Option ℕ) (low below : ℕ) (p : Pair) (ps : List Pair) → ArePairs map low below (p ∷ ps) → ArePairs map (p.0 + 1) below ps
+rest_of : (map : ℕ → Option ℕ) (low below : ℕ) (p : Pair) (ps : List Pair) → ArePairs map low below (p ∷ ps)
+    → ArePairs map (p.0 + 1) below ps
 rest_of map low below p ps are = record {
   ascend = λ i j a b at_a at_b less. are.ascend (suc i) (suc j) a b at_a at_b (omega arith);
-  inside = λ i a at. (let above = are.ascend 0 (suc i) p a refl at (omega arith) in let inside = are.inside (suc i) a at in (omega arith, inside.1));
+  inside = λ i a at. (let above = are.ascend 0 (suc i) p a refl at (omega arith) in let inside = are.inside (suc i) a at in
+      (omega arith, inside.1));
   there = λ i a at. are.there (suc i) a at;
-  all = λ key value from to is. (let first = are.inside 0 p refl in behind key value from (are.all key value (omega (arith, first.0, from)) to is));
+  all = λ key value from to is. (let first = are.inside 0 p refl in
+      behind key value from (are.all key value (omega (arith, first.0, from)) to is));
 }
   where
     behind : (key value : ℕ) → p.0 + 1 ≤ key → IsIn (p ∷ ps) (key, value) → IsIn ps (key, value)
@@ -41,7 +45,8 @@ rest_of map low below p ps are = record {
     behind key value from (suc i, at) = (i, at)
 
 -- the first pairs of two such lists are one
-first_one : (map : ℕ → Option ℕ) (low below : ℕ) (p q : Pair) (ps qs : List Pair) → ArePairs map low below (p ∷ ps) → ArePairs map low below (q ∷ qs) → p ≡ q
+first_one : (map : ℕ → Option ℕ) (low below : ℕ) (p q : Pair) (ps qs : List Pair) → ArePairs map low below (p ∷ ps)
+    → ArePairs map low below (q ∷ qs) → p ≡ q
 first_one map low below p q ps qs a b =
     let inside_p = a.inside 0 p refl in
     let inside_q = b.inside 0 q refl in
@@ -50,12 +55,17 @@ first_one map low below p q ps qs a b =
     meets : IsIn (q ∷ qs) p → IsIn (p ∷ ps) q → p ≡ q
     meets (zero, at) second = (let e : q ≡ p = cc in sym e)
     meets (suc i, at) (zero, at') = (let e : p ≡ q = cc in e)
-    meets (suc i, at) (suc j, at') = absurd (let x = b.ascend 0 (suc i) q p refl at (omega arith) in let y = a.ascend 0 (suc j) p q refl at' (omega arith) in omega arith)
+    meets (suc i, at) (suc j, at') = absurd (let x = b.ascend 0 (suc i) q p refl at (omega arith) in
+        let y = a.ascend 0 (suc j) p q refl at' (omega arith) in omega arith)
 
 pub pairs_one : PairsAreOne
 pairs_one map low below [] [] a b = refl
-pairs_one map low below [] (q ∷ qs) a b = absurd (let inside = b.inside 0 q refl in let has = a.all q.0 q.1 inside.0 inside.1 (b.there 0 q refl) in let less = at_below [] has.0 q has.1 in omega arith)
-pairs_one map low below (p ∷ ps) [] a b = absurd (let inside = a.inside 0 p refl in let has = b.all p.0 p.1 inside.0 inside.1 (a.there 0 p refl) in let less = at_below [] has.0 p has.1 in omega arith)
+pairs_one map low below [] (q ∷ qs) a b = absurd
+    (let inside = b.inside 0 q refl in let has = a.all q.0 q.1 inside.0 inside.1 (b.there 0 q refl) in
+    let less = at_below [] has.0 q has.1 in omega arith)
+pairs_one map low below (p ∷ ps) [] a b = absurd
+    (let inside = a.inside 0 p refl in let has = b.all p.0 p.1 inside.0 inside.1 (a.there 0 p refl) in
+    let less = at_below [] has.0 p has.1 in omega arith)
 pairs_one map low below (p ∷ ps) (q ∷ qs) a b =
     let first = first_one map low below p q ps qs a b in
     let others = subst (λ z. ArePairs map (z.0 + 1) below qs) (sym first) (rest_of map low below q qs b) in
@@ -75,7 +85,8 @@ cover_none facts gaps low = record {
 }
 
 -- more was found
-pub cover_more : (a b : Listing) (low below : ℕ) (pairs : List Pair) → HasFoundMore a b → Cover a.facts a.gaps low below pairs → Cover b.facts b.gaps low below pairs
+pub cover_more : (a b : Listing) (low below : ℕ) (pairs : List Pair) → HasFoundMore a b → Cover a.facts a.gaps low below pairs
+    → Cover b.facts b.gaps low below pairs
 cover_more a b low below pairs more c = record {
   ascend = c.ascend;
   inside = c.inside;
@@ -87,7 +98,8 @@ cover_more a b low below pairs more c = record {
 }
 
 -- gaps up to another key
-pub cover_gaps : (facts : List Fact) (gaps : List Gap) (low from below : ℕ) (pairs : List Pair) → Cover facts gaps low from pairs → from ≤ below → AreGaps gaps from below → Cover facts gaps low below pairs
+pub cover_gaps : (facts : List Fact) (gaps : List Gap) (low from below : ℕ) (pairs : List Pair) → Cover facts gaps low from pairs
+    → from ≤ below → AreGaps gaps from below → Cover facts gaps low below pairs
 cover_gaps facts gaps low from below pairs c more empty = record {
   ascend = c.ascend;
   inside = λ i p at. (let inside = c.inside i p at in (inside.0, omega (arith, inside.1, more)));
@@ -96,7 +108,8 @@ cover_gaps facts gaps low from below pairs c more empty = record {
 }
 
 -- and one pair more
-pub cover_pair : (facts : List Fact) (gaps : List Gap) (low key value : ℕ) (pairs : List Pair) → Cover facts gaps low key pairs → low ≤ key → IsIn facts (fact_of (key, value)) → Cover facts gaps low (key + 1) (pairs ++ (key, value) ∷ [])
+pub cover_pair : (facts : List Fact) (gaps : List Gap) (low key value : ℕ) (pairs : List Pair) → Cover facts gaps low key pairs → low ≤ key
+    → IsIn facts (fact_of (key, value)) → Cover facts gaps low (key + 1) (pairs ++ (key, value) ∷ [])
 cover_pair facts gaps low key value pairs c least has = record {
   ascend = λ i j a b at_a at_b less. ascends i j a b less (at_end pairs (key, value) a i at_a) (at_end pairs (key, value) b j at_b);
   inside = λ i p at. ⊎_elim
@@ -108,11 +121,18 @@ cover_pair facts gaps low key value pairs c least has = record {
       (λ (new : (i ≡ length pairs) × ((key, value) ≡ p)). subst (λ (z : Pair). IsIn facts (fact_of z)) new.1 has)
       (at_end pairs (key, value) p i at);
   all = λ y from to. dite (dec_le key y)
-      (λ above. (let same : key ≡ y = omega arith in inl (value, subst (λ z. IsIn (pairs ++ (key, value) ∷ []) (z, value)) same (in_second pairs ((key, value) ∷ []) (key, value) (0, refl)))))
-      (λ under. ⊎_elim (λ (x : (v : ℕ) × IsIn pairs (y, v)). inl (x.0, in_first pairs ((key, value) ∷ []) (y, x.0) x.1)) (λ (x : (gap : Gap) × IsIn gaps gap × IsBetween gap y). inr x) (c.all y from (omega arith)));
+      (λ above. (let same : key ≡ y = omega arith in
+      inl (
+        value,
+        subst (λ z. IsIn (pairs ++ (key, value) ∷ []) (z, value)) same
+            (in_second pairs ((key, value) ∷ []) (key, value) (0, refl)),
+      )))
+      (λ under. ⊎_elim (λ (x : (v : ℕ) × IsIn pairs (y, v)). inl (x.0, in_first pairs ((key, value) ∷ []) (y, x.0) x.1))
+      (λ (x : (gap : Gap) × IsIn gaps gap × IsBetween gap y). inr x) (c.all y from (omega arith)));
 }
   where
-    ascends : (i j : ℕ) (a b : Pair) → i < j → IsAt pairs i a ⊎ ((i ≡ length pairs) × ((key, value) ≡ a)) → IsAt pairs j b ⊎ ((j ≡ length pairs) × ((key, value) ≡ b)) → a.0 < b.0
+    ascends : (i j : ℕ) (a b : Pair) → i < j → IsAt pairs i a ⊎ ((i ≡ length pairs) × ((key, value) ≡ a))
+        → IsAt pairs j b ⊎ ((j ≡ length pairs) × ((key, value) ≡ b)) → a.0 < b.0
     ascends i j a b less (inl at_a) (inl at_b) = c.ascend i j a b at_a at_b less
     ascends i j a b less (inl at_a) (inr new) = subst (λ (z : Pair). a.0 < z.0) new.1 (c.inside i a at_a).1
     ascends i j a b less (inr new) (inl at_b) = absurd (let below = at_below pairs j b at_b in let e = new.0 in omega arith)

@@ -1,5 +1,5 @@
 -- What a try tells whose second look found the number of the first, and how tries end.
-use Rattle.std.proofs.Common.{◌≡◌, ◌≢◌, ℕ, zero, suc, ◌+◌, ◌*◌, ◌/◌, ◌%◌, ◌==◌, ◌≤◌, true, false, List, [], ◌∷◌, ◌++◌, length, take, Some, None, refl, sym, ap, subst, ◌∙◌, ⊎_elim, inl, inr, arith, eq-eqb, append_assoc, length-append}
+use Rattle.std.proofs.Common.{◌≡◌, ◌≢◌, ℕ, ◌+◌, ◌*◌, ◌/◌, ◌%◌, ◌==◌, ◌≤◌, true, false, List, [], ◌∷◌, ◌++◌, length, take, Some, None, refl, sym, ap, subst, ◌∙◌, inl, inr, arith, eq-eqb, append_assoc, length-append}
 use Rattle.std.specs.FinMap as finite
 use Rattle.std.proofs.Math.Seq.{take-append_seam}
 use mathlib.Core.List.{IsPrefix}
@@ -18,8 +18,8 @@ use Rattle.core_state.specs.declared.view.View.{View}
 use Rattle.core_state.specs.memory.Lists.{IsEven, IsOdd}
 use Rattle.core_state.specs.parts.TreeParts.{map_now}
 use Rattle.key_interval.specs.Keys.{Interval}
-use Rattle.list_laws.specs.Counts.{IsIn, Each}
-use Rattle.list_laws.proofs.Lists.{in_append}
+use Rattle.list_laws.specs.Counts.{Each}
+use Rattle.core_frames.proofs.First.{each_one, each_none, each_append}
 use Rattle.core_acts.specs.declared.act.Act.TheVariants.{LookAtFront}
 use Rattle.seat_table.specs.Gains.{IsListedNow}
 use Rattle.seat_table.specs.Told.{Told}
@@ -41,28 +41,20 @@ fewer_updates : (h seen : List Mark) → IsPrefix h seen → length (updates_of 
 fewer_updates h seen p = (let e = ap length (updates_on h seen p) ∙ length-append (updates_of h) (updates_of p.0) in omega (arith, e))
 
 -- What the dictionary had after the updates of a beginning of the marks, it has by all marks at that front.
-had_now : (h seen : List Mark) (front : ℕ) → IsPrefix h seen → front ≡ length (updates_of h) → (key : ℕ) → had_at (updates_of seen) front key ≡ map_now h key
-had_now h seen front p is key = ap (λ us. finite.get (map_of us) key) ((λ i. take (is i) (updates_on h seen p i)) ∙ take-append_seam (updates_of h) (updates_of p.0))
+had_now : (h seen : List Mark) (front : ℕ) → IsPrefix h seen → front ≡ length (updates_of h) → (key : ℕ)
+    → had_at (updates_of seen) front key ≡ map_now h key
+had_now h seen front p is key = ap (λ us. finite.get (map_of us) key)
+    ((λ i. take (is i) (updates_on h seen p i)) ∙ take-append_seam (updates_of h) (updates_of p.0))
 
 half_of : (n front : ℕ) → n ≡ 2 * front → n / 2 ≡ front
 half_of n front is = omega (arith, is)
 
 pub is_even : (n : ℕ) → (n % 2 == 1) ≡ false → IsEven n
-is_even n is = dite (ℕ_discrete (n % 2) 1) (λ odd. absurd (let e : true ≡ false = sym (eq-eqb (n % 2) 1 odd) ∙ is in cc)) (λ ne. omega (arith, ne))
+is_even n is = dite (ℕ_discrete (n % 2) 1) (λ odd. absurd (let e : true ≡ false = sym (eq-eqb (n % 2) 1 odd) ∙ is in cc))
+    (λ ne. omega (arith, ne))
 
-each_one : {A : Type 0} (P : A → Type 0) (a : A) → P a → Each (a ∷ []) P
-each_one P a p zero x at = (let e : a ≡ x = cc in subst P e p)
-each_one P a p (suc zero) x at = absurd (cc)
-each_one P a p (suc (suc i)) x at = absurd (cc)
-
-each_none : {A : Type 0} (P : A → Type 0) → Each {A = A} [] P
-each_none P zero x at = absurd (cc)
-each_none P (suc i) x at = absurd (cc)
-
-each_append : {A : Type 0} (P : A → Type 0) (xs ys : List A) → Each xs P → Each ys P → Each (xs ++ ys) P
-each_append P xs ys p q i x at = ⊎_elim (λ (a : IsIn xs x). p a.0 x a.1) (λ (a : IsIn ys x). q a.0 x a.1) (in_append xs ys x (i, at))
-
--- A try with two looks: from the view v a section with the key was entered, the front was looked at, pairs were loaded, the front was looked at
+-- A try with two looks: from the view v a section with the key was entered, the front was looked at, pairs were loaded, the front was
+-- looked at
 -- again, and the section was left.
 pub record LooksTwice (k : Shape) (v : View) (key first n : ℕ) (d : View) : Type 0 where
   pub first_seen : View
@@ -74,7 +66,9 @@ pub record LooksTwice (k : Shape) (v : View) (key first n : ℕ) (d : View) : Ty
   pub left : HasLeft looked d
   pub outside : v.section ≡ None
 
-abbrev pub looks_twice : {k : Shape} {v e a b u d : View} {key entered first n : ℕ} → entered ≡ key → HasEntered v entered e → Told k e LookAtFront first a → HasLoaded a b → Told k b LookAtFront n u → HasLeft u d → v.section ≡ None → LooksTwice k v key first n d
+abbrev pub looks_twice : {k : Shape} {v e a b u d : View} {key entered first n : ℕ} → entered ≡ key → HasEntered v entered e
+    → Told k e LookAtFront first a → HasLoaded a b → Told k b LookAtFront n u → HasLeft u d → v.section ≡ None
+    → LooksTwice k v key first n d
 looks_twice {k} {v} {e} {a} {b} {u} {d} {key} {entered} {first} {n} same enters look loads told left outside = record {
   first_seen = a;
   loaded = b;
@@ -91,17 +85,24 @@ module _ {k : Shape} {v : View} {key first n : ℕ} {d : View} (z : LooksTwice k
   before = loaded_try v key (first ∷ []) z.first_seen z.begins z.loaded z.loads
 
   pub tried_twice : HasTried v key (record { first = first; second = Some n } ∷ []) d
-  tried_twice = left_try v key (first ∷ n ∷ []) z.looked (looked_try v key (first ∷ []) z.loaded before k n z.looked z.told) d z.outside z.left (record { first = first; second = Some n }) refl
+  tried_twice = left_try v key (first ∷ n ∷ []) z.looked
+      (looked_try v key (first ∷ []) z.loaded before k n z.looked z.told) d z.outside z.left
+      (record { first = first; second = Some n }) refl
 
   pub moved_between : (first % 2 == 1) ≡ false → n ≢ first → EndAs (Moved first n) 1 (record { first = first; second = Some n } ∷ [])
-  moved_between even ne = (refl, each_one HasMoved (record { first = first; second = Some n }) (inr (is_even first even, (n, refl, ne))), ([], record { first = first; second = Some n }, refl, refl, refl))
+  moved_between even ne = (
+    refl,
+    each_one HasMoved (record { first = first; second = Some n }) (inr (is_even first even, (n, refl, ne))),
+    ([], record { first = first; second = Some n }, refl, refl, refl),
+  )
 
   -- the second found the number of the first
   module _ {front : ℕ} (same : n ≡ first) (even : (first % 2 == 1) ≡ false) (half : front ≡ first / 2) where
     now : IsListedNow z.told.marks (record z.loads.section { listing = Some z.loads.after }) z.loads.after
     now =
         let is = front_is v key first z.first_seen z.loaded z.begins z.loads in
-        z.told.gains.same (record z.loads.section { listing = Some z.loads.after }) z.loads.after (ap (λ (x : View). x.section) z.loads.others) refl (subst IsEven (sym same) (is_even first even)) (same ∙ sym is)
+        z.told.gains.same (record z.loads.section { listing = Some z.loads.after }) z.loads.after
+        (ap (λ (x : View). x.section) z.loads.others) refl (subst IsEven (sym same) (is_even first even)) (same ∙ sym is)
 
     first_is : first ≡ 2 * length (updates_of z.told.marks)
     first_is = sym (front_is v key first z.first_seen z.loaded z.begins z.loads) ∙ now.front
@@ -113,7 +114,8 @@ module _ {k : Shape} {v : View} {key first n : ℕ} {d : View} (z : LooksTwice k
     twice = first_is ∙ ap (λ x. 2 * x) (sym count)
 
     in_all : IsPrefix z.told.marks d.seen
-    in_all = subst (λ x. IsPrefix x d.seen) (ap (λ (x : View). x.seen) z.told.goes) (seen_more z.looked d (Left z.looked.allowance.place z.left.section.count) z.left.leaves)
+    in_all = subst (λ x. IsPrefix x d.seen) (ap (λ (x : View). x.seen) z.told.goes)
+        (seen_more z.looked d (Left z.looked.allowance.place z.left.section.count) z.left.leaves)
 
     pub recent : IsBetweenFronts front v.seen d.seen
     recent =
@@ -124,14 +126,17 @@ module _ {k : Shape} {v : View} {key first n : ℕ} {d : View} (z : LooksTwice k
     had : (y : ℕ) → had_at (updates_of d.seen) front y ≡ map_now z.told.marks y
     had = had_now z.told.marks d.seen front in_all count
 
-    exact : (low below : ℕ) (pairs : List Pair) → Cover z.loads.after.facts z.loads.after.gaps low below pairs → ArePairs (had_at (updates_of d.seen) front) low below pairs
+    exact : (low below : ℕ) (pairs : List Pair) → Cover z.loads.after.facts z.loads.after.gaps low below pairs
+        → ArePairs (had_at (updates_of d.seen) front) low below pairs
     exact low below pairs cover = covers_exact (had_at (updates_of d.seen) front) z.loads.after.facts z.loads.after.gaps low below pairs
         (λ j (f : Fact) at. had f.key ∙ now.facts j f at) (λ j (gap : Gap) at y between. had y ∙ now.gaps j gap at y between) cover
 
-    pub holds_whole : (keys : Interval) (page : Paged) → length page.pairs ≤ page.capacity → Cover z.loads.after.facts z.loads.after.gaps keys.low (keys.high + 1) page.pairs → IsWhole keys d.seen front page
+    pub holds_whole : (keys : Interval) (page : Paged) → length page.pairs ≤ page.capacity
+        → Cover z.loads.after.facts z.loads.after.gaps keys.low (keys.high + 1) page.pairs → IsWhole keys d.seen front page
     holds_whole keys page fit cover = record { pairs = exact keys.low (keys.high + 1) page.pairs cover; fit = fit }
 
-    pub holds_part : (keys : Interval) (next : ℕ) (page : Paged) → Gathers z.loads.after keys page (Some next) → IsPart keys d.seen front next page
+    pub holds_part : (keys : Interval) (next : ℕ) (page : Paged) → Gathers z.loads.after keys page (Some next)
+        → IsPart keys d.seen front next page
     holds_part keys next page g = record {
       pairs = exact keys.low next page.pairs g.0;
       full = g.2;
@@ -143,30 +148,47 @@ module _ {k : Shape} {v : View} {key first n : ℕ} {d : View} (z : LooksTwice k
     stood = (omega arith, ([], each_none HasMoved, λ j. record { first = twice j; second = Some ((same ∙ twice) j) } ∷ []))
 
 -- a try whose first look found an odd number
-module _ (k : Shape) (v : View) (key first : ℕ) (a : View) (i : InTry v key (first ∷ []) a) (d : View) (left : HasLeft a d) (outside : v.section ≡ None) where
+module _ (k : Shape) (v : View) (key first : ℕ) (a : View) (i : InTry v key (first ∷ []) a) (d : View) (left : HasLeft a d)
+    (outside : v.section ≡ None) where
   pub tried_once : HasTried v key (record { first = first; second = None } ∷ []) d
   tried_once = left_try v key (first ∷ []) a i d outside left (record { first = first; second = None }) refl
 
   pub moved_at_first : IsOdd first → EndAs (Moved first first) 1 (record { first = first; second = None } ∷ [])
-  moved_at_first odd = (refl, each_one HasMoved (record { first = first; second = None }) (inl (odd, refl)), ([], record { first = first; second = None }, refl, refl, refl))
+  moved_at_first odd = (
+    refl,
+    each_one HasMoved (record { first = first; second = None }) (inl (odd, refl)),
+    ([], record { first = first; second = None }, refl, refl, refl),
+  )
 
 -- one try after others
-stood_later : (front most : ℕ) (ts us : List Try) → length ts ≡ most → Each ts HasMoved → HasStood front 1 us → HasStood front (most + 1) (ts ++ us)
+stood_later : (front most : ℕ) (ts us : List Try) → length ts ≡ most → Each ts HasMoved → HasStood front 1 us
+    → HasStood front (most + 1) (ts ++ us)
 stood_later front most ts us long moved stands =
     let all = length-append ts us in
-    let last : Try = record { first = 2 * front; second = Some (2 * front) } in
-    (omega (arith, all, long, stands.0), (ts ++ stands.1.0, each_append HasMoved ts stands.1.0 moved stands.1.1, ap (λ l. ts ++ l) stands.1.2 ∙ sym (append_assoc ts stands.1.0 (last ∷ []))))
+    let last : Try = record { first = 2 * front; second = Some (2 * front) } in (
+      omega (arith, all, long, stands.0),
+      (
+        ts ++ stands.1.0,
+        each_append HasMoved ts stands.1.0 moved stands.1.1,
+        ap (λ l. ts ++ l) stands.1.2 ∙ sym (append_assoc ts stands.1.0 (last ∷ [])),
+      ),
+    )
 
-pub ends_later : (r : Listed) (first last most : ℕ) (ts us : List Try) → EndAs (Moved first last) most ts → EndAs r 1 us → EndAs r (most + 1) (ts ++ us)
+pub ends_later : (r : Listed) (first last most : ℕ) (ts us : List Try) → EndAs (Moved first last) most ts → EndAs r 1 us
+    → EndAs r (most + 1) (ts ++ us)
 ends_later (Whole front) first last most ts us given ends = stood_later front most ts us given.0 given.1 ends
 ends_later (Part front next) first last most ts us given ends = stood_later front most ts us given.0 given.1 ends
 ends_later (Moved f n) first last most ts us given ends =
     let all = length-append ts us in
-    let e = ends.2 in
-    (omega (arith, all, given.0, ends.0), each_append HasMoved ts us given.1 ends.1, (ts ++ e.0, e.1, ap (λ l. ts ++ l) e.2 ∙ sym (append_assoc ts e.0 (e.1 ∷ [])), e.3, e.4))
+    let e = ends.2 in (
+      omega (arith, all, given.0, ends.0),
+      each_append HasMoved ts us given.1 ends.1,
+      (ts ++ e.0, e.1, ap (λ l. ts ++ l) e.2 ∙ sym (append_assoc ts e.0 (e.1 ∷ [])), e.3, e.4),
+    )
 
 -- where tries are left
-pub ends_early : (r : Listed) (most more : ℕ) (ts : List Try) → most ≤ more → ((first last : ℕ) → r ≡ Moved first last → ⊥) → EndAs r most ts → EndAs r more ts
+pub ends_early : (r : Listed) (most more : ℕ) (ts : List Try) → most ≤ more → ((first last : ℕ) → r ≡ Moved first last → ⊥)
+    → EndAs r most ts → EndAs r more ts
 ends_early (Whole front) most more ts less counted ends = (omega (arith, less, ends.0), ends.1)
 ends_early (Part front next) most more ts less counted ends = (omega (arith, less, ends.0), ends.1)
 ends_early (Moved first last) most more ts less counted ends = absurd (counted first last refl)

@@ -39,7 +39,15 @@ pub record InTry (v : View) (key : ℕ) (numbers : List ℕ) (w : View) : Type 0
   pub own : own_of v.allowance.place w.seen ≡ own_of v.allowance.place v.seen ++ Entered v.allowance.place v.counts.sections key ∷ []
   pub looks : w.looks ≡ v.looks ++ looks_of v.allowance.place v.counts.sections numbers
   pub made : Makes is_of_list v.trail w.trail
-  pub others : w ≡ record v { enter = w.enter; section = w.section; counts = record v.counts { sections = v.counts.sections + 1 }; latest = record v.latest { front = w.latest.front }; looks = w.looks; trail = w.trail; seen = w.seen }
+  pub others : w ≡ record v {
+    enter = w.enter;
+    section = w.section;
+    counts = record v.counts { sections = v.counts.sections + 1 };
+    latest = record v.latest { front = w.latest.front };
+    looks = w.looks;
+    trail = w.trail;
+    seen = w.seen;
+  }
 
 -- the kinds of step of a list are those of its parts
 either_true : (a : Bool) → cond a true true ≡ true
@@ -48,19 +56,23 @@ either_true false = refl
 
 of_exit : (kind : Kind) → is_exit kind ≡ true → is_of_list kind ≡ true
 of_exit kind e =
-    ap (λ z. cond (is_load kind) true (cond (is_look kind) true (cond (is_entry kind) true z))) e ∙ ap (λ z. cond (is_load kind) true (cond (is_look kind) true z)) (either_true (is_entry kind))
+    ap (λ z. cond (is_load kind) true (cond (is_look kind) true (cond (is_entry kind) true z))) e
+    ∙ ap (λ z. cond (is_load kind) true (cond (is_look kind) true z)) (either_true (is_entry kind))
     ∙ ap (λ z. cond (is_load kind) true z) (either_true (is_look kind)) ∙ either_true (is_load kind)
 
 of_entry : (kind : Kind) → is_entry kind ≡ true → is_of_list kind ≡ true
 of_entry kind e =
-    ap (λ z. cond (is_load kind) true (cond (is_look kind) true (cond z true (is_exit kind)))) e ∙ ap (λ z. cond (is_load kind) true z) (either_true (is_look kind)) ∙ either_true (is_load kind)
+    ap (λ z. cond (is_load kind) true (cond (is_look kind) true (cond z true (is_exit kind)))) e
+    ∙ ap (λ z. cond (is_load kind) true z) (either_true (is_look kind)) ∙ either_true (is_load kind)
 
 of_load : (kind : Kind) → is_load kind ≡ true → is_of_list kind ≡ true
 of_load kind e = ap (λ z. cond z true (cond (is_look kind) true (cond (is_entry kind) true (is_exit kind)))) e
 
-looks_of-append : (place section : ℕ) (ms ns : List ℕ) → looks_of place section (ms ++ ns) ≡ looks_of place section ms ++ looks_of place section ns
+looks_of-append : (place section : ℕ) (ms ns : List ℕ)
+    → looks_of place section (ms ++ ns) ≡ looks_of place section ms ++ looks_of place section ns
 looks_of-append place section [] ns = refl
-looks_of-append place section (m ∷ ms) ns = ap (λ (l : List Look). record { place = place; section = section; front = m } ∷ l) (looks_of-append place section ms ns)
+looks_of-append place section (m ∷ ms) ns = ap (λ (l : List Look). record { place = place; section = section; front = m } ∷ l)
+    (looks_of-append place section ms ns)
 
 module _ (v : View) (key : ℕ) where
   pub entered_try : (w : View) → HasEntered v key w → InTry v key [] w
@@ -97,7 +109,8 @@ module _ (v : View) (key : ℕ) where
         let h = t.marks in
         let count : now.count ≡ v.counts.sections = ap (λ (z : Section). z.count) same ∙ i.count in
         let look : Look = record { place = v.allowance.place; section = v.counts.sections; front = n } in
-        let own : own_of u.allowance.place u.seen ≡ own_of u.allowance.place h = t.sees.own u.allowance.place (works_there u t.sees.works) in
+        let own : own_of u.allowance.place u.seen ≡ own_of u.allowance.place h =
+        t.sees.own u.allowance.place (works_there u t.sees.works) in
         subst (InTry v key (numbers ++ n ∷ [])) (sym t.goes) (record {
           section = record now { listing = looked n now.listing };
           inside = refl;
@@ -106,7 +119,8 @@ module _ (v : View) (key : ℕ) where
           lists = lists_again n numbers now.listing (subst (λ (z : Section). Lists z.listing numbers) (sym same) i.lists);
           seen = prefix_trans v.seen u.seen h i.seen t.sees.begins;
           own = sym (subst (λ p. own_of p u.seen ≡ own_of p h) place_is own) ∙ i.own;
-          looks = (λ j. i.looks j ++ record { place = place_is j; section = count j; front = n } ∷ []) ∙ append_assoc v.looks (looks_of v.allowance.place v.counts.sections numbers) (look ∷ [])
+          looks = (λ j. i.looks j ++ record { place = place_is j; section = count j; front = n } ∷ [])
+              ∙ append_assoc v.looks (looks_of v.allowance.place v.counts.sections numbers) (look ∷ [])
               ∙ ap (λ l. v.looks ++ l) (sym (looks_of-append v.allowance.place v.counts.sections numbers (n ∷ [])));
           made = made_more is_of_list v.trail u kinds.K37 Front n refl i.made;
           others = λ j. record (i.others j) {
@@ -124,7 +138,8 @@ module _ (v : View) (key : ℕ) where
 
       lists_on : (ns : List ℕ) → Lists l.section.listing ns → Lists (Some l.after) ns
       lists_on [] none = absurd (let e : Some l.before ≡ None = sym l.lists ∙ none in cc)
-      lists_on (n ∷ ns) x = (let e : Some l.before ≡ Some x.0 = sym l.lists ∙ x.1 in let same : ◌≡◌ {A = Listing} l.before x.0 = cc in (l.after, refl, l.more.front ∙ ap (λ (z : Listing). z.front) same ∙ x.2))
+      lists_on (n ∷ ns) x = (let e : Some l.before ≡ Some x.0 = sym l.lists ∙ x.1 in let same : ◌≡◌ {A = Listing} l.before x.0 = cc in
+          (l.after, refl, l.more.front ∙ ap (λ (z : Listing). z.front) same ∙ x.2))
 
       -- pairs are loaded
       pub loaded_try : InTry v key numbers w
@@ -147,21 +162,35 @@ module _ (v : View) (key : ℕ) where
         let one : Some l.section ≡ Some i.section = sym l.was ∙ i.inside in
         let same : ◌≡◌ {A = Section} l.section i.section = cc in
         let count : l.section.count ≡ v.counts.sections = ap (λ (z : Section). z.count) same ∙ i.count in
-        let own : own_of u.allowance.place w.seen ≡ own_of u.allowance.place u.seen ++ Left u.allowance.place l.section.count ∷ [] = own_more u w (Left u.allowance.place l.section.count) (eq-eqb u.allowance.place u.allowance.place refl) l.leaves in
-        let mine : own_of v.allowance.place w.seen ≡ own_of v.allowance.place u.seen ++ Left v.allowance.place v.counts.sections ∷ [] = subst (λ (z : ℕ × ℕ). own_of z.0 w.seen ≡ own_of z.0 u.seen ++ Left z.0 z.1 ∷ []) (λ j. (place_is j, count j)) own in
-        let looks : v.looks ++ looks_of v.allowance.place v.counts.sections numbers ≡ v.looks ++ looks_from v.allowance.place v.counts.sections (t ∷ []) =
-        ap (λ ns. v.looks ++ looks_of v.allowance.place v.counts.sections ns) (sym is) ∙ ap (λ l. v.looks ++ l) (sym (append-nil (looks_of v.allowance.place v.counts.sections (numbers_of t)))) in
+        let own : own_of u.allowance.place w.seen ≡ own_of u.allowance.place u.seen ++ Left u.allowance.place l.section.count ∷ [] =
+        own_more u w (Left u.allowance.place l.section.count) (eq-eqb u.allowance.place u.allowance.place refl) l.leaves in
+        let mine : own_of v.allowance.place w.seen ≡ own_of v.allowance.place u.seen ++ Left v.allowance.place v.counts.sections ∷ [] =
+        subst (λ (z : ℕ × ℕ). own_of z.0 w.seen ≡ own_of z.0 u.seen ++ Left z.0 z.1 ∷ []) (λ j. (place_is j, count j)) own in
+        let looks : v.looks ++ looks_of v.allowance.place v.counts.sections numbers ≡ v.looks
+        ++ looks_from v.allowance.place v.counts.sections (t ∷ []) =
+        ap (λ ns. v.looks ++ looks_of v.allowance.place v.counts.sections ns) (sym is)
+        ∙ ap (λ l. v.looks ++ l) (sym (append-nil (looks_of v.allowance.place v.counts.sections (numbers_of t)))) in
         subst (HasTried v key (t ∷ [])) (sym l.others) (record {
           seen = prefix_trans v.seen u.seen w.seen i.seen (seen_more u w (Left u.allowance.place l.section.count) l.leaves);
-          own = mine ∙ ap (λ s. s ++ Left v.allowance.place v.counts.sections ∷ []) i.own ∙ append_assoc (own_of v.allowance.place v.seen) (Entered v.allowance.place v.counts.sections key ∷ []) (Left v.allowance.place v.counts.sections ∷ []);
+          own = mine ∙ ap (λ s. s ++ Left v.allowance.place v.counts.sections ∷ []) i.own
+              ∙ append_assoc (own_of v.allowance.place v.seen) (Entered v.allowance.place v.counts.sections key ∷ [])
+              (Left v.allowance.place v.counts.sections ∷ []);
           looks = i.looks ∙ looks;
           made = made_both is_of_list is_exit is_of_list (λ kind is. is) of_exit v.trail u.trail w.trail i.made l.made;
-          others = λ j. record (i.others j) { enter = w.enter; section = sym outside j; records = l.section.reading ∷ u.records; trail = w.trail; seen = w.seen };
+          others = λ j. record (i.others j) {
+            enter = w.enter;
+            section = sym outside j;
+            records = l.section.reading ∷ u.records;
+            trail = w.trail;
+            seen = w.seen;
+          };
         })
 
 -- a section that was entered with the key, and its first look
-pub first_try : (k : Shape) (v : View) (key entered : ℕ) (e : View) (first : ℕ) (a : View) → entered ≡ key → HasEntered v entered e → Told k e LookAtFront first a → InTry v key (first ∷ []) a
-first_try k v key entered e first a same enters t = looked_try v key [] e (entered_try v key e (subst (λ z. HasEntered v z e) same enters)) k first a t
+pub first_try : (k : Shape) (v : View) (key entered : ℕ) (e : View) (first : ℕ) (a : View) → entered ≡ key → HasEntered v entered e
+    → Told k e LookAtFront first a → InTry v key (first ∷ []) a
+first_try k v key entered e first a same enters t =
+    looked_try v key [] e (entered_try v key e (subst (λ z. HasEntered v z e) same enters)) k first a t
 
 -- A listing was begun with the number of the first look.
 pub begun_listing : (v : View) (key n : ℕ) (u : View) → InTry v key (n ∷ []) u → IsListing u
@@ -176,18 +205,24 @@ front_is v key n u w i l =
     l.more.front ∙ ap (λ (z : Listing). z.front) before ∙ i.lists.2
 
 -- tries one after another
-looks_from-append : (place section : ℕ) (ts us : List Try) → looks_from place section (ts ++ us) ≡ looks_from place section ts ++ looks_from place (section + length ts) us
+looks_from-append : (place section : ℕ) (ts us : List Try)
+    → looks_from place section (ts ++ us) ≡ looks_from place section ts ++ looks_from place (section + length ts) us
 looks_from-append place section [] us = ap (λ n. looks_from place n us) (omega arith)
 looks_from-append place section (t ∷ ts) us =
     let next : section + 1 + length ts ≡ section + suc (length ts) = omega arith in
-    ap (λ l. looks_of place section (numbers_of t) ++ l) (looks_from-append place (section + 1) ts us ∙ ap (λ n. looks_from place (section + 1) ts ++ looks_from place n us) next)
-    ∙ sym (append_assoc (looks_of place section (numbers_of t)) (looks_from place (section + 1) ts) (looks_from place (section + suc (length ts)) us))
+    ap (λ l. looks_of place section (numbers_of t) ++ l)
+    (looks_from-append place (section + 1) ts us ∙ ap (λ n. looks_from place (section + 1) ts ++ looks_from place n us) next)
+    ∙ sym (append_assoc (looks_of place section (numbers_of t)) (looks_from place (section + 1) ts)
+    (looks_from place (section + suc (length ts)) us))
 
-marks_from-append : (place section key : ℕ) (ts us : List Try) → marks_from place section key (ts ++ us) ≡ marks_from place section key ts ++ marks_from place (section + length ts) key us
+marks_from-append : (place section key : ℕ) (ts us : List Try)
+    → marks_from place section key (ts ++ us) ≡ marks_from place section key ts ++ marks_from place (section + length ts) key us
 marks_from-append place section key [] us = ap (λ n. marks_from place n key us) (omega arith)
 marks_from-append place section key (t ∷ ts) us =
     let next : section + 1 + length ts ≡ section + suc (length ts) = omega arith in
-    ap (λ l. Entered place section key ∷ Left place section ∷ l) (marks_from-append place (section + 1) key ts us ∙ ap (λ n. marks_from place (section + 1) key ts ++ marks_from place n key us) next)
+    ap (λ l. Entered place section key ∷ Left place section ∷ l)
+    (marks_from-append place (section + 1) key ts us
+    ∙ ap (λ n. marks_from place (section + 1) key ts ++ marks_from place n key us) next)
 
 pub tried_both : (a b c : View) (key : ℕ) (ts us : List Try) → HasTried a key ts b → HasTried b key us c → HasTried a key (ts ++ us) c
 tried_both a b c key ts us x y =
@@ -196,13 +231,34 @@ tried_both a b c key ts us x y =
     let place : b.allowance.place ≡ p = ap (λ (z : View). z.allowance.place) x.others in
     let sections : b.counts.sections ≡ n + length ts = ap (λ (z : View). z.counts.sections) x.others in
     let many : n + length ts + length us ≡ n + length (ts ++ us) = (let e = length-append ts us in omega arith) in
-    let own : own_of p c.seen ≡ own_of p b.seen ++ marks_from p (n + length ts) key us = subst (λ (z : ℕ × ℕ). own_of z.0 c.seen ≡ own_of z.0 b.seen ++ marks_from z.0 z.1 key us) (λ j. (place j, sections j)) y.own in
+    let own : own_of p c.seen ≡ own_of p b.seen ++ marks_from p (n + length ts) key us =
+    subst (λ (z : ℕ × ℕ). own_of z.0 c.seen ≡ own_of z.0 b.seen ++ marks_from z.0 z.1 key us) (λ j. (place j, sections j)) y.own in
     record {
       seen = prefix_trans a.seen b.seen c.seen x.seen y.seen;
-      own = own ∙ ap (λ l. l ++ marks_from p (n + length ts) key us) x.own ∙ append_assoc (own_of p a.seen) (marks_from p n key ts) (marks_from p (n + length ts) key us) ∙ ap (λ l. own_of p a.seen ++ l) (sym (marks_from-append p n key ts us));
-      looks = y.looks ∙ (λ j. x.looks j ++ looks_from (place j) (sections j) us) ∙ append_assoc a.looks (looks_from p n ts) (looks_from p (n + length ts) us) ∙ ap (λ l. a.looks ++ l) (sym (looks_from-append p n ts us));
+      own = own ∙ ap (λ l. l ++ marks_from p (n + length ts) key us) x.own
+          ∙ append_assoc (own_of p a.seen) (marks_from p n key ts) (marks_from p (n + length ts) key us)
+          ∙ ap (λ l. own_of p a.seen ++ l) (sym (marks_from-append p n key ts us));
+      looks = y.looks ∙ (λ j. x.looks j ++ looks_from (place j) (sections j) us)
+          ∙ append_assoc a.looks (looks_from p n ts) (looks_from p (n + length ts) us)
+          ∙ ap (λ l. a.looks ++ l) (sym (looks_from-append p n ts us));
       made = made_both is_of_list is_of_list is_of_list (λ kind is. is) (λ kind is. is) a.trail b.trail c.trail x.made y.made;
       others = y.others
-          ∙ (λ j. record (x.others j) { enter = c.enter; records = c.records; counts = record ((x.others j).counts) { sections = (x.others j).counts.sections + length us }; latest = record ((x.others j).latest) { front = c.latest.front }; looks = c.looks; trail = c.trail; seen = c.seen })
-          ∙ (λ j. record a { enter = c.enter; records = c.records; counts = record a.counts { sections = many j }; latest = record a.latest { front = c.latest.front }; looks = c.looks; trail = c.trail; seen = c.seen });
+          ∙ (λ j. record (x.others j) {
+            enter = c.enter;
+            records = c.records;
+            counts = record ((x.others j).counts) { sections = (x.others j).counts.sections + length us };
+            latest = record ((x.others j).latest) { front = c.latest.front };
+            looks = c.looks;
+            trail = c.trail;
+            seen = c.seen;
+          })
+          ∙ (λ j. record a {
+            enter = c.enter;
+            records = c.records;
+            counts = record a.counts { sections = many j };
+            latest = record a.latest { front = c.latest.front };
+            looks = c.looks;
+            trail = c.trail;
+            seen = c.seen;
+          });
     }

@@ -45,11 +45,13 @@ IsRecent (Moved first last) before now = Unit {0}
 -- Both looks of the last try found twice the front. There were at most so many tries, and an update was under way or made in each
 -- of those before.
 abbrev pub HasStood : ℕ → ℕ → List Try → Type 0
-HasStood front most tries = (length tries ≤ most) × ((earlier : List Try) × Each earlier HasMoved × (tries ≡ earlier ++ record { first = 2 * front; second = Some (2 * front) } ∷ []))
+HasStood front most tries = (length tries ≤ most)
+    × ((earlier : List Try) × Each earlier HasMoved × (tries ≡ earlier ++ record { first = 2 * front; second = Some (2 * front) } ∷ []))
 
 -- There were so many tries, and an update was under way or made in each. The looks of the last one found these numbers.
 abbrev pub HasGivenUp : ℕ → ℕ → ℕ → List Try → Type 0
-HasGivenUp first last most tries = (length tries ≡ most) × Each tries HasMoved × ((earlier : List Try) × (t : Try) × (tries ≡ earlier ++ t ∷ []) × (t.first ≡ first) × (last_look t ≡ last))
+HasGivenUp first last most tries = (length tries ≡ most) × Each tries HasMoved
+    × ((earlier : List Try) × (t : Try) × (tries ≡ earlier ++ t ∷ []) × (t.first ≡ first) × (last_look t ≡ last))
 
 -- how the tries ended, by the answer
 abbrev pub EndAs : Listed → ℕ → List Try → Type 0

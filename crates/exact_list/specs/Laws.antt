@@ -15,4 +15,5 @@ CoversAreExact = (map : ℕ → Option ℕ) (facts : List Fact) (gaps : List Gap
 
 -- A map has one such list for a range, no other.
 abbrev pub PairsAreOne : Type 0
-PairsAreOne = (map : ℕ → Option ℕ) (low below : ℕ) (pairs others : List Pair) → ArePairs map low below pairs → ArePairs map low below others → pairs ≡ others
+PairsAreOne = (map : ℕ → Option ℕ) (low below : ℕ) (pairs others : List Pair) → ArePairs map low below pairs → ArePairs map low below others
+    → pairs ≡ others

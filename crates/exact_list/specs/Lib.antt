@@ -3,3 +3,4 @@ pub mod Laws
 pub mod Tries
 pub mod Answers
 pub mod Walked
+pub mod Ways

@@ -43,4 +43,5 @@ pub record Cover (facts : List Fact) (gaps : List Gap) (low below : ℕ) (pairs 
   pub ascend : Ascend pairs
   pub inside : Each pairs (λ (p : Pair). (low ≤ p.0) × (p.0 < below))
   pub found : Each pairs (λ (p : Pair). IsIn facts (fact_of p))
-  pub all : (key : ℕ) → low ≤ key → key < below → ((value : ℕ) × IsIn pairs (key, value)) ⊎ ((gap : Gap) × IsIn gaps gap × IsBetween gap key)
+  pub all : (key : ℕ) → low ≤ key → key < below → ((value : ℕ) × IsIn pairs (key, value))
+      ⊎ ((gap : Gap) × IsIn gaps gap × IsBetween gap key)

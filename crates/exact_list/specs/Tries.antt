@@ -69,4 +69,12 @@ pub record HasTried (v : View) (key : ℕ) (tries : List Try) (w : View) : Type 
   pub own : own_of v.allowance.place w.seen ≡ own_of v.allowance.place v.seen ++ marks_from v.allowance.place v.counts.sections key tries
   pub looks : w.looks ≡ v.looks ++ looks_from v.allowance.place v.counts.sections tries
   pub made : Makes is_of_list v.trail w.trail
-  pub others : w ≡ record v { enter = w.enter; records = w.records; counts = record v.counts { sections = v.counts.sections + length tries }; latest = record v.latest { front = w.latest.front }; looks = w.looks; trail = w.trail; seen = w.seen }
+  pub others : w ≡ record v {
+    enter = w.enter;
+    records = w.records;
+    counts = record v.counts { sections = v.counts.sections + length tries };
+    latest = record v.latest { front = w.latest.front };
+    looks = w.looks;
+    trail = w.trail;
+    seen = w.seen;
+  }

@@ -1,17 +1,18 @@
 -- What the loads of a listing come to, walk by walk.
 -- Source: docs/TREE.md, "Lists of a key range".
-use Rattle.std.specs.Prelude.{◌≡◌, ℕ, ◌+◌, ◌^◌, ◌<◌, ◌≤◌, List, length, Option, Some, None}
+use Rattle.std.specs.Prelude.{◌≡◌, ℕ, ◌+◌, ◌<◌, ◌≤◌, List, length, Option, Some, None}
 use Rattle.core_state.specs.declared.view.Fact.{Fact}
 use Rattle.core_state.specs.declared.view.Gap.{Gap}
 use Rattle.core_state.specs.declared.view.Listing.{Listing}
 use Rattle.core_state.specs.declared.view.Section.{Section}
 use Rattle.core_state.specs.declared.view.View.{View}
+use Rattle.core_state.specs.declared.view.Visit.{Visit}
 use Rattle.core_state.specs.parts.ListingParts.{IsBetween}
 use Rattle.key_interval.specs.Keys.{Interval}
 use Rattle.list_laws.specs.Counts.{IsIn}
 use Rattle.seat_table.specs.Sections.{Makes}
 use Rattle.exact_list.specs.Answers.{Paged}
-use Rattle.exact_list.specs.Pairs.{Pair, fact_of, Cover}
+use Rattle.exact_list.specs.Pairs.{fact_of, Cover}
 use Rattle.exact_list.specs.Tries.{is_load}
 
 -- the open section is a listing
@@ -26,6 +27,7 @@ pub record HasFoundMore (before after : Listing) : Type 0 where
   pub front : after.front ≡ before.front
   pub facts : (f : Fact) → IsIn before.facts f → IsIn after.facts f
   pub gaps : (gap : Gap) → IsIn before.gaps gap → IsIn after.gaps gap
+  pub visits : (t : Visit) → IsIn before.visits t → IsIn after.visits t
 
 -- Only loads of the listing were made.
 pub record HasLoaded (v w : View) : Type 0 where
@@ -42,12 +44,8 @@ pub record HasLoaded (v w : View) : Type 0 where
 abbrev pub AreGaps : List Gap → ℕ → ℕ → Type 0
 AreGaps gaps from below = (y : ℕ) → from ≤ y → y < below → (gap : Gap) × IsIn gaps gap × IsBetween gap y
 
--- The pair with the least key from one on was found, and a gap below it; or a gap above.
-abbrev pub FindsLeast : Listing → ℕ → Option Pair → Type 0
-FindsLeast l from None = AreGaps l.gaps from (2 ^ 64)
-FindsLeast l from (Some pair) = (from ≤ pair.0) × IsIn l.facts (fact_of pair) × AreGaps l.gaps from pair.0
-
 -- The page holds what was found of these keys; where one more was found, it is full.
 abbrev pub Gathers : Listing → Interval → Paged → Option ℕ → Type 0
 Gathers l keys page None = Cover l.facts l.gaps keys.low (keys.high + 1) page.pairs
-Gathers l keys page (Some next) = Cover l.facts l.gaps keys.low next page.pairs × (next ≤ keys.high) × (length page.pairs ≡ page.capacity) × ((value : ℕ) × IsIn l.facts (fact_of (next, value)))
+Gathers l keys page (Some next) = Cover l.facts l.gaps keys.low next page.pairs × (next ≤ keys.high) × (length page.pairs ≡ page.capacity)
+    × ((value : ℕ) × IsIn l.facts (fact_of (next, value)))

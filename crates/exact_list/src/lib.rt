@@ -4,7 +4,11 @@
 pub mod laws;
 mod listing;
 mod page;
+pub mod patient;
+mod steadfast;
 mod walks;
+mod way;
 
-pub use listing::{Listed, list};
+pub use listing::Listed;
 pub use page::Page;
+pub use steadfast::list;

@@ -1,5 +1,5 @@
 //! Lists of a key range.
-ghost use Rattle.std.specs.Prelude.{◌≡◌, ◌≤◌, List, [], ◌∷◌, None};
+ghost use Rattle.std.specs.Prelude.{◌≡◌, ◌≤◌, List, [], ◌∷◌, None, IfOk};
 ghost use Rattle.seat_table.specs.Seats.{IsQuietSeat};
 ghost use Rattle.exact_list.specs.Answers.{Holds, IsRecent, EndAs};
 ghost use Rattle.exact_list.specs.Tries.{Try, HasTried};
@@ -8,8 +8,8 @@ use crate::page::Page;
 use crate::walks::gather;
 use core_state::{front_of, linking};
 use key_interval::Keys;
+use patience::Patience;
 use seat_table::{CitrusTable, Seat, WaitPart, steps};
-use std::sync::Wait;
 
 /// What a list came to.
 #[derive(Clone, Copy, Debug, PartialEq, Eq)]
@@ -24,41 +24,42 @@ pub enum Listed {
 }
 
 // One try, in a section of its own.
-fn attempt<R: Wait, W: WaitPart>(
-    rt: &R,
+fn attempt<P: Patience, W: WaitPart>(
+    patience: &P,
     table: &CitrusTable<W>,
     seat: &mut Seat<W>,
     keys: &Keys,
     page: &mut Page,
-) -> Listed
+) -> Result<Listed, P::Tired>
     requires table { seat.old.table ≡ table.now }
     requires outside { seat.old.view.section ≡ None }
     requires unlocked { seat.old.view.locks ≡ [] }
     ensures seat { (seat.new.table ≡ seat.old.table) × (seat.new.listed ≡ seat.old.listed) }
-    ensures capacity { page.new.capacity ≡ page.old.capacity }
-    ensures tried { (t : Try) × HasTried seat.old.view keys.now.low (t ∷ []) seat.new.view × EndAs result 1 (t ∷ []) }
-    ensures holds { Holds result keys.now seat.new.view.seen page.new }
-    ensures recent { IsRecent result seat.old.view.seen seat.new.view.seen }
+    ensures capacity { IfOk result (λ _. page.new.capacity ≡ page.old.capacity) }
+    ensures tried { IfOk result (λ answer. (t : Try) × HasTried seat.old.view keys.now.low (t ∷ []) seat.new.view
+        × EndAs answer 1 (t ∷ [])) }
+    ensures holds { IfOk result (λ answer. Holds answer keys.now seat.new.view.seen page.new) }
+    ensures recent { IfOk result (λ answer. IsRecent answer seat.old.view.seen seat.new.view.seen) }
 {
     page.clear();
     W::enter(table, seat, keys.low());
     let first = steps::look_at_front(table, seat);
     if linking(first) {
         W::leave(table, seat);
-        return Listed::Moved { first, last: first };
+        return Ok(Listed::Moved { first, last: first });
     }
-    let next = gather(rt, table, seat, keys, page);
+    let next = gather(patience, table, seat, keys, page)?;
     // The same number again: no update came between, so what was found is so at that front. docs/TREE_CALLS.md#lists-of-a-key-range
     let last = steps::look_at_front(table, seat);
     W::leave(table, seat);
     if last != first {
         page.clear();
-        return Listed::Moved { first, last };
+        return Ok(Listed::Moved { first, last });
     }
     let front = front_of(first);
     match next {
-        None => Listed::Whole { front },
-        Some(next) => Listed::Part { front, next },
+        None => Ok(Listed::Whole { front }),
+        Some(next) => Ok(Listed::Part { front, next }),
     }
 }
 
@@ -68,33 +69,34 @@ fn attempt<R: Wait, W: WaitPart>(
 ///
 /// The front isn't before what the seat has seen. No memory is asked for, and no ticket is taken.
 ///
-/// The walk for one pair loads two words for each slot on the way, three where it turns left: so a list of n pairs costs n times the
-/// depth of the tree. The looks at the front are as the sequence numbers of a seqlock.
-pub fn list<R: Wait, W: WaitPart>(
-    rt: &R,
+/// It walks the tree in order, and loads some four words for each pair, beside those on the first way down. Where more than 64 slots were
+/// passed to the left it goes down from the root again now and then. The looks at the front are as the sequence numbers of a seqlock.
+pub fn list<P: Patience, W: WaitPart>(
+    patience: &P,
     table: &CitrusTable<W>,
     seat: &mut Seat<W>,
     keys: Keys,
     page: &mut Page,
     tries: u32,
-) -> Listed
+) -> Result<Listed, P::Tired>
     requires table { seat.old.table ≡ table.now }
     requires quiet { IsQuietSeat seat.old }
     requires tries { 1 ≤ tries }
     ensures seat { (seat.new.table ≡ seat.old.table) × (seat.new.listed ≡ seat.old.listed) }
-    ensures quiet { IsQuietSeat seat.new }
-    ensures tickets { seat.new.view.allowance.tickets ≡ seat.old.view.allowance.tickets }
-    ensures capacity { page.new.capacity ≡ page.old.capacity }
-    ensures tried { (made : List Try) × HasTried seat.old.view keys.low made seat.new.view × EndAs result tries made }
-    ensures holds { Holds result keys seat.new.view.seen page.new }
-    ensures recent { IsRecent result seat.old.view.seen seat.new.view.seen }
+    ensures quiet { IfOk result (λ _. IsQuietSeat seat.new) }
+    ensures tickets { IfOk result (λ _. seat.new.view.allowance.tickets ≡ seat.old.view.allowance.tickets) }
+    ensures capacity { IfOk result (λ _. page.new.capacity ≡ page.old.capacity) }
+    ensures tried { IfOk result (λ answer. (made : List Try) × HasTried seat.old.view keys.low made seat.new.view
+        × EndAs answer tries made) }
+    ensures holds { IfOk result (λ answer. Holds answer keys seat.new.view.seen page.new) }
+    ensures recent { IfOk result (λ answer. IsRecent answer seat.old.view.seen seat.new.view.seen) }
 {
-    let mut listed = attempt(rt, table, seat, &keys, page);
+    let mut listed = attempt(patience, table, seat, &keys, page)?;
     for tried in 1..tries {
         match listed {
-            Listed::Moved { .. } => listed = attempt(rt, table, seat, &keys, page),
-            _ => return listed,
+            Listed::Moved { .. } => listed = attempt(patience, table, seat, &keys, page)?,
+            _ => return Ok(listed),
         }
     }
-    listed
+    Ok(listed)
 }

@@ -1,88 +1,99 @@
-//! The walks of a listing.
-ghost use Rattle.std.specs.Prelude.{◌≡◌, ◌<◌, ◌≤◌, [], length};
+//! The walk of a listing: in order, on the way by which it came.
+ghost use Rattle.std.specs.Prelude.{◌≡◌, ◌<◌, ◌≤◌, [], length, IfOk};
 ghost use Rattle.seat_table.specs.Seats.{shape_of};
-ghost use Rattle.exact_list.specs.Walked.{IsListing, HasLoaded, FindsLeast, Gathers};
+ghost use Rattle.exact_list.specs.Walked.{IsListing, HasLoaded, Gathers};
+ghost use Rattle.exact_list.specs.Ways.{HasCome};
 
 use crate::page::Page;
+use crate::way::{Next, Way};
 use core_acts::Part;
 use core_state::child_of;
 use key_interval::Keys;
+use patience::Patience;
 use prcu_marks::Side;
 use seat_table::{CitrusTable, Seat, WaitWords, steps};
-use std::sync::Wait;
 
 // the links that a walk follows
 const LEFT: Part = Part::Link { side: Side::Left };
 
 const RIGHT: Part = Part::Link { side: Side::Right };
 
-// Walks from the root for the least key that is at least `from`. The latest slot with a greater key, past which the walk went to the
-// left, has the pair that is answered where the walk ends. Its value is loaded when the walk comes by: a listing loads only from the
-// slot at which its walk stands.
-pub(crate) fn least<R: Wait, W: WaitWords>(
-    rt: &R,
+// Goes down from a link to an end: past lesser keys than `from` to the right, past others to the left. These it keeps.
+fn descend<P: Patience, W: WaitWords>(
+    patience: &P,
     table: &CitrusTable<W>,
     seat: &mut Seat<W>,
     from: u64,
-) -> Option<(u64, u64)>
+    mut link: u64,
+    way: &mut Way,
+) -> Result<(), P::Tired>
     requires table { seat.old.table ≡ table.now }
-    requires listing { IsListing seat.old.view }
+    requires come { (x : IsListing seat.old.view) × HasCome (shape_of W.WAY table.now) x.listing from link way.old }
     ensures seat { (seat.new.table ≡ seat.old.table) × (seat.new.listed ≡ seat.old.listed) }
-    ensures least { (loaded : HasLoaded seat.old.view seat.new.view) × FindsLeast loaded.after from result }
+    ensures ended { IfOk result (λ _. (loaded : HasLoaded seat.old.view seat.new.view)
+        × HasCome (shape_of W.WAY table.now) loaded.after from 0 way.new) }
 {
-    let mut above = None;
-    let mut link = steps::list_load(table, seat, 0, RIGHT);
-    for _ in rt.forever() {
+    for _ in 0..u64::MAX {
         let Some(slot) = child_of(link) else {
-            return above;
+            return Ok(());
         };
         let key = steps::list_load(table, seat, slot, Part::Key);
         if key < from {
             link = steps::list_load(table, seat, slot, RIGHT);
             continue;
         }
-        let value = steps::list_load(table, seat, slot, Part::Value);
-        if key == from {
-            return Some((key, value));
-        }
-        above = Some((key, value));
+        way.pass(slot, key);
         link = steps::list_load(table, seat, slot, LEFT);
     }
-    unreachable!()
+    Err(patience.tired())
 }
 
-// Gathers the pairs with these keys on the page, the least first, and answers the key for which it has no room, if there is one.
-pub(crate) fn gather<R: Wait, W: WaitWords>(
-    rt: &R,
+// Gathers the pairs with these keys on the page, the least first, and answers the key for which it has no room, if there is one. From a
+// slot whose pair it took the walk goes on to the right, and from an end to the latest slot past which it went to the left: what it found
+// there still holds as long as nothing was updated. docs/TREE_CALLS.md#lists-of-a-key-range
+pub(crate) fn gather<P: Patience, W: WaitWords>(
+    patience: &P,
     table: &CitrusTable<W>,
     seat: &mut Seat<W>,
     keys: &Keys,
     page: &mut Page,
-) -> Option<u64>
+) -> Result<Option<u64>, P::Tired>
     requires table { seat.old.table ≡ table.now }
     requires listing { IsListing seat.old.view }
     requires empty { page.old.pairs ≡ [] }
     ensures seat { (seat.new.table ≡ seat.old.table) × (seat.new.listed ≡ seat.old.listed) }
-    ensures page { (page.new.capacity ≡ page.old.capacity) × (length page.new.pairs ≤ page.new.capacity) }
-    ensures gathered { (loaded : HasLoaded seat.old.view seat.new.view) × Gathers loaded.after keys.now page.new result }
+    ensures page { IfOk result (λ _. (page.new.capacity ≡ page.old.capacity) × (length page.new.pairs ≤ page.new.capacity)) }
+    ensures gathered { IfOk result (λ answer. (loaded : HasLoaded seat.old.view seat.new.view)
+        × Gathers loaded.after keys.now page.new answer) }
 {
     let mut from = keys.low();
     let high = keys.high();
-    for _ in rt.forever() {
-        let Some((key, value)) = least(rt, table, seat, from) else {
-            return None;
+    let mut way = Way::new();
+    let mut link = steps::list_load(table, seat, 0, RIGHT);
+    for _ in 0..u64::MAX {
+        descend(patience, table, seat, from, link, &mut way)?;
+        let passed = match way.next(from) {
+            Next::Done => return Ok(None),
+            Next::Lost => {
+                link = steps::list_load(table, seat, 0, RIGHT);
+                continue;
+            }
+            Next::At(passed) => passed,
         };
+        let key = passed.key;
         if key > high {
-            return None;
+            return Ok(None);
         }
+        let value = steps::list_load(table, seat, passed.slot, Part::Value);
         if page.is_full() {
-            return Some(key);
+            return Ok(Some(key));
         }
         page.add(key, value);
         if key == high {
-            return None;
+            return Ok(None);
         }
         from = key + 1;
+        link = steps::list_load(table, seat, passed.slot, RIGHT);
     }
-    unreachable!()
+    Err(patience.tired())
 }

@@ -30,7 +30,8 @@ or_true true = refl
 or_true false = refl
 
 -- The poll ended the wait.
-module _ (k : Shape) (c : CookieAt) (v w : View) (of : IsOf k c v) (was : c.over ≡ false) (latest : IsLatest c v) (over : IsOver k v w) where
+module _ (k : Shape) (c : CookieAt) (v w : View) (of : IsOf k c v) (was : c.over ≡ false) (latest : IsLatest c v)
+    (over : IsOver k v w) where
   on : GoesOn k c v
   on = of.going was latest
 
@@ -78,7 +79,9 @@ module _ (k : Shape) (c : CookieAt) (v w : View) (of : IsOf k c v) (was : c.over
   pub over_of : (d : CookieAt) → d.over ≡ true → d.count ≡ c.count → IsOf k d w
   over_of d e same = record {
     begun = let a = of.begun in let b = waits_same in omega arith;
-    began = subst (λ (z : ℕ × ℕ). IsIn w.seen (Began z.0 z.1 0 greatest_key)) (λ i. (sym place_same i, sym same i)) (seen_later ended.leaves.before w.seen (Began v.allowance.place c.count 0 greatest_key) (Ended v.allowance.place c.count ∷ [], sym marked) began_before);
+    began = subst (λ (z : ℕ × ℕ). IsIn w.seen (Began z.0 z.1 0 greatest_key)) (λ i. (sym place_same i, sym same i))
+        (seen_later ended.leaves.before w.seen (Began v.allowance.place c.count 0 greatest_key)
+        (Ended v.allowance.place c.count ∷ [], sym marked) began_before);
     outlasted = λ _. subst (λ (z : ℕ × ℕ). HasOutlasted z.0 z.1 w.seen) (λ i. (sym place_same i, sym same i)) has_outlasted;
     going = λ f _. absurd (cc);
   }
@@ -90,16 +93,23 @@ module _ (k : Shape) (c : CookieAt) (v w : View) (of : IsOf k c v) (was : c.over
       let same : Some since.0 ≡ Some over.wait = sym since.1 ∙ over.was in
       let wait_is : since.0 ≡ over.wait = cc in
       let late : r.unlinked < over.wait.began = subst (λ (z : Waiting). r.unlinked < z.began) wait_is since.2 in
-      let everybody : is_grace_for over.wait r.unlinked ≡ true = ap (λ (z : ℕ × ℕ). is_grace_for (record over.wait { low = z.0; high = z.1 }) r.unlinked) (λ i. (low_is i, high_is i)) ∙ ap (λ b. b && true) (lt-ltb r.unlinked over.wait.began late) in
+      let everybody : is_grace_for over.wait r.unlinked ≡ true =
+      ap (λ (z : ℕ × ℕ). is_grace_for (record over.wait { low = z.0; high = z.1 }) r.unlinked) (λ i. (low_is i, high_is i))
+      ∙ ap (λ b. b && true) (lt-ltb r.unlinked over.wait.began late) in
       record {
         i = kept.i;
         r = waited_retired over.wait r;
-        at = (ap (λ (z : View). get_elem? z.hands.retired kept.i) ended.others ∙ at_map (waited_retired over.wait) v.hands.retired kept.i r kept.at.0, kept.at.1);
+        at = (
+          ap (λ (z : View). get_elem? z.hands.retired kept.i) ended.others
+              ∙ at_map (waited_retired over.wait) v.hands.retired kept.i r kept.at.0,
+          kept.at.1,
+        );
         since = λ f. absurd (cc);
         waited = λ _. ap (λ b. r.waited || b) everybody ∙ or_true r.waited;
       }
 
-  pub over_kept : (d : CookieAt) (s t : SeatAt) → d.over ≡ true → d.count ≡ c.count → d.slots ≡ c.slots → s.view ≡ v → t.view ≡ w → t.listed ≡ s.listed → HasKept c s → HasKept d t
+  pub over_kept : (d : CookieAt) (s t : SeatAt) → d.over ≡ true → d.count ≡ c.count → d.slots ≡ c.slots → s.view ≡ v → t.view ≡ w
+      → t.listed ≡ s.listed → HasKept c s → HasKept d t
   over_kept d s t e count slots was_view now listed has = record {
     kept = λ now_latest.
         let kept : AreKept c s = has.kept (ap (λ (z : View). z.counts.waits) was_view ∙ latest) in record {
@@ -108,22 +118,30 @@ module _ (k : Shape) (c : CookieAt) (v w : View) (of : IsOf k c v) (was : c.over
           listed = listed ∙ kept.listed;
           many = kept.many ∙ sym slots;
           apart = kept.apart;
-          each = subst (λ (z : View). AllByRecursion (IsKept d z) kept.slots) (sym now) (all_change (IsKept c v) (IsKept d w) kept.slots (λ slot there one. one_waited d e slot one) (subst (λ (z : View). AllByRecursion (IsKept c z) kept.slots) was_view kept.each));
+          each = subst (λ (z : View). AllByRecursion (IsKept d z) kept.slots) (sym now)
+              (all_change (IsKept c v) (IsKept d w) kept.slots (λ slot there one. one_waited d e slot one)
+              (subst (λ (z : View). AllByRecursion (IsKept c z) kept.slots) was_view kept.each));
         };
   }
 
 -- It goes on.
-pub going_kept : (c d : CookieAt) (v w : View) (wait : Waiting) (steps : List StepMade) (new : Waiting) (s t : SeatAt) → HasLooked v wait steps new w → v.wait ≡ Some wait → d.over ≡ c.over → d.count ≡ c.count → d.slots ≡ c.slots → s.view ≡ v → t.view ≡ w → t.listed ≡ s.listed → HasKept c s → HasKept d t
+pub going_kept : (c d : CookieAt) (v w : View) (wait : Waiting) (steps : List StepMade) (new : Waiting) (s t : SeatAt)
+    → HasLooked v wait steps new w → v.wait ≡ Some wait → d.over ≡ c.over → d.count ≡ c.count → d.slots ≡ c.slots → s.view ≡ v → t.view ≡ w
+    → t.listed ≡ s.listed → HasKept c s → HasKept d t
 going_kept c d v w wait steps new s t looked wait_is over count slots was_view now listed has = record {
   kept = λ latest.
-      let same : t.view.counts.waits ≡ s.view.counts.waits = ap (λ (z : View). z.counts.waits) now ∙ ap (λ (z : View). z.counts.waits) looked.others ∙ ap (λ (z : View). z.counts.waits) (sym was_view) in
+      let same : t.view.counts.waits ≡ s.view.counts.waits =
+      ap (λ (z : View). z.counts.waits) now ∙ ap (λ (z : View). z.counts.waits) looked.others
+      ∙ ap (λ (z : View). z.counts.waits) (sym was_view) in
       let kept : AreKept c s = has.kept (sym same ∙ latest ∙ ap (λ n. n + 1) count) in record {
         slots = kept.slots;
         later = kept.later;
         listed = listed ∙ kept.listed;
         many = kept.many ∙ sym slots;
         apart = kept.apart;
-        each = subst (λ (z : View). AllByRecursion (IsKept d z) kept.slots) (sym now) (all_change (IsKept c v) (IsKept d w) kept.slots (λ slot there one. on slot one) (subst (λ (z : View). AllByRecursion (IsKept c z) kept.slots) was_view kept.each));
+        each = subst (λ (z : View). AllByRecursion (IsKept d z) kept.slots) (sym now)
+            (all_change (IsKept c v) (IsKept d w) kept.slots (λ slot there one. on slot one)
+            (subst (λ (z : View). AllByRecursion (IsKept c z) kept.slots) was_view kept.each));
       };
 }
   where
@@ -132,6 +150,11 @@ going_kept c d v w wait steps new s t looked wait_is over count slots was_view n
       i = one.i;
       r = one.r;
       at = (ap (λ (z : View). get_elem? z.hands.retired one.i) looked.others ∙ one.at.0, one.at.1);
-      since = λ f. let since = one.since (sym over ∙ f) in let same : Some since.0 ≡ Some wait = sym since.1 ∙ wait_is in let is : since.0 ≡ wait = cc in (new, looked.wait_is, subst (λ n. one.r.unlinked < n) (ap (λ (z : Waiting). z.began) is ∙ sym (ap (λ (z : Waiting). z.began) looked.same)) since.2);
+      since = λ f. let since = one.since (sym over ∙ f) in let same : Some since.0 ≡ Some wait = sym since.1 ∙ wait_is in
+          let is : since.0 ≡ wait = cc in (
+            new,
+            looked.wait_is,
+            subst (λ n. one.r.unlinked < n) (ap (λ (z : Waiting). z.began) is ∙ sym (ap (λ (z : Waiting). z.began) looked.same)) since.2,
+          );
       waited = λ f. one.waited (sym over ∙ f);
     }

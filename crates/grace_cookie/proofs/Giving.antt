@@ -14,8 +14,10 @@ use Rattle.grace_cookie.specs.Asking.{GivesSome}
 unlisted_behind : (s : ℕ) (xs ys : List ℕ) → times s xs ≡ 0 → unlisted s (xs ++ ys) ≡ xs ++ unlisted s ys
 unlisted_behind s [] ys none = refl
 unlisted_behind s (x ∷ xs) ys none = ⊎_elim
-    (λ (e : x ≡ s). absurd (let a : times s (s ∷ xs) ≡ 0 = subst (λ y. times s (y ∷ xs) ≡ 0) e none in let b = times_here s xs in omega arith))
-    (λ (ne : x ≢ s). ap (λ b. cond (not b) (x ∷ unlisted s (xs ++ ys)) (unlisted s (xs ++ ys))) (ne_eqb x s ne) ∙ ap (λ l. x ∷ l) (unlisted_behind s xs ys (let a = times_other s x xs ne in omega arith)))
+    (λ (e : x ≡ s). absurd (let a : times s (s ∷ xs) ≡ 0 = subst (λ y. times s (y ∷ xs) ≡ 0) e none in let b = times_here s xs in
+    omega arith))
+    (λ (ne : x ≢ s). ap (λ b. cond (not b) (x ∷ unlisted s (xs ++ ys)) (unlisted s (xs ++ ys))) (ne_eqb x s ne)
+    ∙ ap (λ l. x ∷ l) (unlisted_behind s xs ys (let a = times_other s x xs ne in omega arith)))
     (cases_eq x s)
 
 -- slots that stand once each at the head of a list are its first ones
@@ -30,10 +32,12 @@ first_apart (x ∷ xs) ys once =
 
 module _ (c : CookieAt) (s : SeatAt) (kept : AreKept c s) where
   pub head_is : take c.slots s.listed ≡ kept.slots
-  head_is = ap (λ n. take n s.listed) (sym kept.many) ∙ ap (take (length kept.slots)) kept.listed ∙ take_at kept.slots kept.later (length kept.slots) refl
+  head_is = ap (λ n. take n s.listed) (sym kept.many) ∙ ap (take (length kept.slots)) kept.listed
+      ∙ take_at kept.slots kept.later (length kept.slots) refl
 
   pub first_is : first_slots c.slots s.listed ≡ kept.slots
-  first_is = ap (λ n. first_slots n s.listed) (sym kept.many) ∙ ap (first_slots (length kept.slots)) kept.listed ∙ first_apart kept.slots kept.later kept.apart
+  first_is = ap (λ n. first_slots n s.listed) (sym kept.many) ∙ ap (first_slots (length kept.slots)) kept.listed
+      ∙ first_apart kept.slots kept.later kept.apart
 
   pub some_first : 1 ≤ c.slots → 1 ≤ length (first_slots c.slots s.listed)
   some_first some = let long = ap length first_is in let many = kept.many in omega arith
@@ -45,7 +49,8 @@ module _ (c : CookieAt) (s : SeatAt) (kept : AreKept c s) where
       one slot there =
           let here = all_times (IsKept c s.view) kept.slots slot kept.each there in
           let still = subst (AreUnraised s.view) head_is unraised in
-          let low = all_times (λ x. (i : ℕ) (r : Retired) → IsRetiredAt s.view i r x → r.raised ≡ false) kept.slots slot still there in record {
+          let low = all_times (λ x. (i : ℕ) (r : Retired) → IsRetiredAt s.view i r x → r.raised ≡ false) kept.slots slot still there in
+          record {
             i = here.i;
             r = here.r;
             at = here.at;
@@ -53,7 +58,9 @@ module _ (c : CookieAt) (s : SeatAt) (kept : AreKept c s) where
             waited = here.waited over;
           }
 
-  pub gives_some : (answer : ℕ) (t : SeatAt) → 1 ≤ c.slots → IsLatest c s.view → answer ≡ c.slots → GivesBack s.view (first_slots c.slots s.listed) t.view → t.listed ≡ without_slots (first_slots c.slots s.listed) s.listed → GivesSome c s answer t
+  pub gives_some : (answer : ℕ) (t : SeatAt) → 1 ≤ c.slots → IsLatest c s.view → answer ≡ c.slots
+      → GivesBack s.view (first_slots c.slots s.listed) t.view → t.listed ≡ without_slots (first_slots c.slots s.listed) s.listed
+      → GivesSome c s answer t
   gives_some answer t some latest is gives listed =
       let same = first_is ∙ sym head_is in record {
         some = some;

@@ -21,7 +21,12 @@ use Rattle.grace_cookie.specs.Keeping.{KeepsCookies, KeepsRetired, CookiesStay}
 use Rattle.grace_cookie.proofs.Asking.{seen_later}
 
 pub outlasted_later : (p count : ℕ) (h more : List Mark) → IsPrefix h more → HasOutlasted p count h → HasOutlasted p count more
-outlasted_later p count h more begins has = record { before = has.before; began = has.began; ends = prefix_trans _ h more has.ends begins; left = has.left }
+outlasted_later p count h more begins has = record {
+  before = has.before;
+  began = has.began;
+  ends = prefix_trans _ h more has.ends begins;
+  left = has.left;
+}
 
 module _ (k : Shape) (c : CookieAt) (s t : SeatAt) (keeps : KeepsCookies s t) (of : IsOf k c s.view) where
   place : s.view.allowance.place ≡ t.view.allowance.place
@@ -40,15 +45,18 @@ module _ (k : Shape) (c : CookieAt) (s t : SeatAt) (keeps : KeepsCookies s t) (o
           i = kept.i;
           r = now.0;
           at = (now.1, now.2.0 ∙ kept.at.1);
-          since = λ going. let since = kept.since going in (since.0, keeps.wait same_waits ∙ since.1, subst (λ n. n < since.0.began) (sym now.2.1) since.2);
+          since = λ going. let since = kept.since going in
+              (since.0, keeps.wait same_waits ∙ since.1, subst (λ n. n < since.0.began) (sym now.2.1) since.2);
           waited = λ over. now.2.2 (kept.waited over);
         }
 
   stays_of : IsOf k c t.view
   stays_of = record {
     begun = let a = of.begun in let b = keeps.waits in omega arith;
-    began = subst (λ p. IsIn t.view.seen (Began p c.count 0 greatest_key)) place (seen_later s.view.seen t.view.seen (Began s.view.allowance.place c.count 0 greatest_key) keeps.seen of.began);
-    outlasted = λ over. subst (λ p. HasOutlasted p c.count t.view.seen) place (outlasted_later s.view.allowance.place c.count s.view.seen t.view.seen keeps.seen (of.outlasted over));
+    began = subst (λ p. IsIn t.view.seen (Began p c.count 0 greatest_key)) place
+        (seen_later s.view.seen t.view.seen (Began s.view.allowance.place c.count 0 greatest_key) keeps.seen of.began);
+    outlasted = λ over. subst (λ p. HasOutlasted p c.count t.view.seen) place
+        (outlasted_later s.view.allowance.place c.count s.view.seen t.view.seen keeps.seen (of.outlasted over));
     going = λ over latest. let on = of.going over (was_latest latest) in (on.0, keeps.wait (same_waits latest) ∙ on.1, on.2, on.3);
   }
 
@@ -70,7 +78,9 @@ pub cookies_stay : CookiesStay
 cookies_stay k c s t keeps of has = (stays_of k c s t keeps of, stays_kept k c s t keeps of has)
 
 -- a call that begins no wait, and neither retires a slot nor lists one
-pub keeps_all : (s t : SeatAt) → t.view.allowance.place ≡ s.view.allowance.place → IsPrefix s.view.seen t.view.seen → t.view.counts.waits ≡ s.view.counts.waits → t.view.wait ≡ s.view.wait → t.view.hands.retired ≡ s.view.hands.retired → t.listed ≡ s.listed → KeepsCookies s t
+pub keeps_all : (s t : SeatAt) → t.view.allowance.place ≡ s.view.allowance.place → IsPrefix s.view.seen t.view.seen
+    → t.view.counts.waits ≡ s.view.counts.waits → t.view.wait ≡ s.view.wait → t.view.hands.retired ≡ s.view.hands.retired
+    → t.listed ≡ s.listed → KeepsCookies s t
 keeps_all s t place seen waits wait retired listed = record {
   place = place;
   seen = seen;
@@ -81,7 +91,8 @@ keeps_all s t place seen waits wait retired listed = record {
 }
 
 -- a call that begins a wait
-pub gives_up : (s t : SeatAt) → t.view.allowance.place ≡ s.view.allowance.place → IsPrefix s.view.seen t.view.seen → s.view.counts.waits < t.view.counts.waits → KeepsCookies s t
+pub gives_up : (s t : SeatAt) → t.view.allowance.place ≡ s.view.allowance.place → IsPrefix s.view.seen t.view.seen
+    → s.view.counts.waits < t.view.counts.waits → KeepsCookies s t
 gives_up s t place seen later = record {
   place = place;
   seen = seen;
@@ -98,23 +109,35 @@ waits_on k s t low high waited =
     let begun = waited.1 in
     let over = waited.2 in
     let e = over.ended.others in
-    gives_up s t (ap (λ (z : View). z.allowance.place) e ∙ ap (λ (z : View). z.allowance.place) begun.others) (prefix_trans s.view.seen mid.seen t.view.seen (seen_more s.view mid _ begun.leaves) (seen_more mid t.view _ over.ended.leaves))
+    gives_up s t (ap (λ (z : View). z.allowance.place) e ∙ ap (λ (z : View). z.allowance.place) begun.others)
+    (prefix_trans s.view.seen mid.seen t.view.seen (seen_more s.view mid _ begun.leaves) (seen_more mid t.view _ over.ended.leaves))
     (let a = ap (λ (z : View). z.counts.waits) e in let b = ap (λ (z : View). z.counts.waits) begun.others in omega arith)
 
--- the same, where it retires slots and lists them: what is told of each retired slot is its number, where it was unlinked, and whether it was
+-- the same, where it retires slots and lists them: what is told of each retired slot is its number, where it was unlinked, and whether it
+-- was
 -- waited for
 abbrev mark_of : Retired → ℕ × ℕ × Bool
 mark_of r = (r.slot, r.unlinked, r.waited)
 
-marked_at : (rs : List Retired) (i : ℕ) (x : ℕ × ℕ × Bool) → get_elem? (map mark_of rs) i ≡ some x → (r : Retired) × (get_elem? rs i ≡ some r) × (mark_of r ≡ x)
+marked_at : (rs : List Retired) (i : ℕ) (x : ℕ × ℕ × Bool) → get_elem? (map mark_of rs) i ≡ some x
+    → (r : Retired) × (get_elem? rs i ≡ some r) × (mark_of r ≡ x)
 marked_at [] i x e = absurd (some-ne-none x (sym e))
 marked_at (r ∷ rs) zero x e = (r, refl, some-injective (mark_of r) x e)
 marked_at (r ∷ rs) (suc i) x e = marked_at rs i x e
 
-pub stay_retired : (v w : View) (later : List (ℕ × ℕ × Bool)) → map (λ (r : Retired). (r.slot, r.unlinked, r.waited)) w.hands.retired ≡ map (λ (r : Retired). (r.slot, r.unlinked, r.waited)) v.hands.retired ++ later → KeepsRetired v w
+pub stay_retired : (v w : View) (later : List (ℕ × ℕ × Bool))
+    → map (λ (r : Retired). (r.slot, r.unlinked, r.waited)) w.hands.retired
+    ≡ map (λ (r : Retired). (r.slot, r.unlinked, r.waited)) v.hands.retired ++ later → KeepsRetired v w
 stay_retired v w later same = record {
   each = λ i r there.
       let here = at_longer (map mark_of v.hands.retired) later i (mark_of r) (at_map mark_of v.hands.retired i r there) in
-      let now = marked_at w.hands.retired i (mark_of r) (ap (λ l. get_elem? l i) same ∙ here) in
-      (now.0, now.1, (ap (λ (x : ℕ × ℕ × Bool). x.0) now.2, ap (λ (x : ℕ × ℕ × Bool). x.1) now.2, λ yes. ap (λ (x : ℕ × ℕ × Bool). x.2) now.2 ∙ yes));
+      let now = marked_at w.hands.retired i (mark_of r) (ap (λ l. get_elem? l i) same ∙ here) in (
+        now.0,
+        now.1,
+        (
+          ap (λ (x : ℕ × ℕ × Bool). x.0) now.2,
+          ap (λ (x : ℕ × ℕ × Bool). x.1) now.2,
+          λ yes. ap (λ (x : ℕ × ℕ × Bool). x.2) now.2 ∙ yes,
+        ),
+      );
 }

@@ -20,19 +20,24 @@ quiet_unraised v quiet [] = tt
 quiet_unraised v quiet (slot ∷ slots) = ((λ i r at. none_raised v.hands.retired quiet.raised i r at.0), quiet_unraised v quiet slots)
 
 -- the slots that are left where some went back
-one_less : (xs : List ℕ) (rs : List Retired) (s : ℕ) → ((t : ℕ) → times t xs ≡ times t (slots_in rs)) → (t : ℕ) → times t (unlisted s xs) ≡ times t (slots_in (without_retired s rs))
+one_less : (xs : List ℕ) (rs : List Retired) (s : ℕ) → ((t : ℕ) → times t xs ≡ times t (slots_in rs)) → (t : ℕ)
+    → times t (unlisted s xs) ≡ times t (slots_in (without_retired s rs))
 one_less xs rs s same t = ⊎_elim
-    (λ (e : t ≡ s). subst (λ y. times y (unlisted s xs) ≡ times y (slots_in (without_retired s rs))) (sym e) (unlisted_none s xs ∙ sym (retired_none s rs)))
+    (λ (e : t ≡ s). subst (λ y. times y (unlisted s xs) ≡ times y (slots_in (without_retired s rs))) (sym e)
+    (unlisted_none s xs ∙ sym (retired_none s rs)))
     (λ (ne : t ≢ s). unlisted_else s t xs ne ∙ same t ∙ sym (retired_else s t ne rs))
     (cases_eq t s)
 
-all_less : (slots xs : List ℕ) (rs : List Retired) → ((t : ℕ) → times t xs ≡ times t (slots_in rs)) → (t : ℕ) → times t (without_slots slots xs) ≡ times t (slots_in (without_all slots rs))
+all_less : (slots xs : List ℕ) (rs : List Retired) → ((t : ℕ) → times t xs ≡ times t (slots_in rs)) → (t : ℕ)
+    → times t (without_slots slots xs) ≡ times t (slots_in (without_all slots rs))
 all_less [] xs rs same = same
 all_less (s ∷ slots) xs rs same = all_less slots (unlisted s xs) (without_retired s rs) (one_less xs rs s same)
 
-left_unraised : (slots : List ℕ) (rs : List Retired) → Each rs (λ (r : Retired). r.raised ≡ false) → Each (without_all slots rs) (λ (r : Retired). r.raised ≡ false)
+left_unraised : (slots : List ℕ) (rs : List Retired) → Each rs (λ (r : Retired). r.raised ≡ false)
+    → Each (without_all slots rs) (λ (r : Retired). r.raised ≡ false)
 left_unraised [] rs none = none
-left_unraised (s ∷ slots) rs none = left_unraised slots (without_retired s rs) (λ i r there. let was = in_without s rs r (i, there) in none was.0.0 r was.0.1)
+left_unraised (s ∷ slots) rs none = left_unraised slots (without_retired s rs)
+    (λ i r there. let was = in_without s rs r (i, there) in none was.0.0 r was.0.1)
 
 some_quiet : (c : CookieAt) (s : SeatAt) (answer : ℕ) (t : SeatAt) → GivesSome c s answer t → IsQuietSeat s → IsQuietSeat t
 some_quiet c s answer t gave quiet =
@@ -48,9 +53,14 @@ some_quiet c s answer t gave quiet =
         moving = ap (λ (z : View). z.moving) e ∙ q.moving;
         owes = ap (λ (z : View). z.hands.owes) e ∙ q.owes;
         commit = ap (λ (z : View). z.commit) e ∙ q.commit;
-        raised = ap (λ (z : View). unraised_among z.hands.retired) e ∙ all_unraised (without_all slots rs) (left_unraised slots rs (none_raised rs q.raised)) ∙ ap (λ (z : View). length z.hands.retired) (sym e);
+        raised = ap (λ (z : View). unraised_among z.hands.retired) e
+            ∙ all_unraised (without_all slots rs) (left_unraised slots rs (none_raised rs q.raised))
+            ∙ ap (λ (z : View). length z.hands.retired) (sym e);
       };
-      listed = record { each = λ slot. ap (times slot) gave.listed ∙ all_less slots s.listed rs quiet.listed.each slot ∙ ap (λ (z : View). times slot (slots_in z.hands.retired)) (sym e) };
+      listed = record {
+        each = λ slot. ap (times slot) gave.listed ∙ all_less slots s.listed rs quiet.listed.each slot
+            ∙ ap (λ (z : View). times slot (slots_in z.hands.retired)) (sym e);
+      };
     }
 
 pub back_quiet : (c : CookieAt) (s : SeatAt) (answer : ℕ) (t : SeatAt) → HasGivenBack c s answer t → IsQuietSeat s → IsQuietSeat t

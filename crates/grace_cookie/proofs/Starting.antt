@@ -31,7 +31,8 @@ module _ (v w : View) (begun : HasBegun v 0 18446744073709551615 w) where
   waits_more : w.counts.waits ≡ v.counts.waits + 1
   waits_more = ap (λ (z : View). z.counts.waits) begun.others
 
-  pub started_of : {W : Type 0} (k : Shape) (grace : Grace W) (count slots : ℕ) → count ≡ v.counts.waits → grace.keys ≡ everybody → IsLatestOf k grace w → IsOf k (fresh grace count slots) w
+  pub started_of : {W : Type 0} (k : Shape) (grace : Grace W) (count slots : ℕ) → count ≡ v.counts.waits → grace.keys ≡ everybody
+      → IsLatestOf k grace w → IsOf k (fresh grace count slots) w
   started_of k grace count slots is keys latest =
       let wait : Waiting = latest.0 in
       let same : Some wait ≡ Some (new_wait v 0 18446744073709551615 begun.clock begun.leaves.before) = sym latest.1 ∙ begun.wait_is in
@@ -42,10 +43,16 @@ module _ (v w : View) (begun : HasBegun v 0 18446744073709551615 w) where
         begun = let a = waits_more in omega arith;
         began = subst (λ (z : ℕ × ℕ). IsIn w.seen (Began z.0 z.1 0 greatest_key)) (λ i. (sym place_same i, sym is i)) seen;
         outlasted = λ e. absurd (cc);
-        going = λ _ _. (wait, latest.1, ap (λ (z : Waiting). z.count) wait_is ∙ sym is, subst (λ (keys : Interval). HasReached k keys grace.clock (reached grace) wait) keys latest.2);
+        going = λ _ _. (
+          wait,
+          latest.1,
+          ap (λ (z : Waiting). z.count) wait_is ∙ sym is,
+          subst (λ (keys : Interval). HasReached k keys grace.clock (reached grace) wait) keys latest.2,
+        );
       }
 
-  module _ (c : CookieAt) (s : SeatAt) (now : s.view ≡ w) (same : (t : ℕ) → times t s.listed ≡ times t (slots_in v.hands.retired)) (once : (t : ℕ) → times t s.listed ≤ 1) (many : c.slots ≡ length s.listed) (going : c.over ≡ false) where
+  module _ (c : CookieAt) (s : SeatAt) (now : s.view ≡ w) (same : (t : ℕ) → times t s.listed ≡ times t (slots_in v.hands.retired))
+      (once : (t : ℕ) → times t s.listed ≤ 1) (many : c.slots ≡ length s.listed) (going : c.over ≡ false) where
     one_kept : (slot : ℕ) → 1 ≤ times slot s.listed → IsKept c w slot
     one_kept slot least =
         let there = retired_there slot v.hands.retired (let e = same slot in omega arith) in

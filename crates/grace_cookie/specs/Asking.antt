@@ -26,7 +26,8 @@ pub record IsFoundOver (k : Shape) (c : CookieAt) (v : View) (d : CookieAt) (w :
   pub how : EndedNowOrBefore k c v w
 
 -- Its wait is the latest one, and goes on by what this poll found.
-pub record IsFoundGoing (c : CookieAt) (v : View) (wait : Waiting) (steps : List StepMade) (new : Waiting) (d : CookieAt) (w : View) : Type 0 where
+pub record IsFoundGoing (c : CookieAt) (v : View) (wait : Waiting) (steps : List StepMade) (new : Waiting) (d : CookieAt)
+    (w : View) : Type 0 where
   pub was : c.over ≡ false
   pub going : d.over ≡ false
   pub latest : IsLatest c v
@@ -44,7 +45,8 @@ pub record IsGivenUp (c : CookieAt) (v : View) (latest : ℕ) (d : CookieAt) (w 
 
 abbrev pub Asked : Shape → CookieAt → View → Ask → CookieAt → View → Type 0
 Asked k c v Over d w = IsFoundOver k c v d w
-Asked k c v (NotYet why) d w = (wait : Waiting) × (steps : List StepMade) × (new : Waiting) × IsFoundGoing c v wait steps new d w × Shows wait steps why
+Asked k c v (NotYet why) d w = (wait : Waiting) × (steps : List StepMade) × (new : Waiting) × IsFoundGoing c v wait steps new d w
+    × Shows wait steps why
 Asked k c v (GivenUp latest) d w = IsGivenUp c v latest d w
 
 -- None was retired at the start, or the place has begun a later wait. The answer is 0, and nothing changed.

@@ -45,7 +45,8 @@ pub record HasOutlasted (p count : ℕ) (seen : List Mark) : Type 0 where
 abbrev pub GoesOn : Shape → CookieAt → View → Type 0
 GoesOn k c v = (wait : Waiting) × (v.wait ≡ Some wait) × (wait.count ≡ c.count) × HasReached k everybody c.clock c.reached wait
 
--- The cookie is of this seat. Its wait was begun at the seat's place. Where it was found over, the seat has seen that; else the wait goes on
+-- The cookie is of this seat. Its wait was begun at the seat's place. Where it was found over, the seat has seen that; else the wait goes
+-- on
 -- as the cookie says, unless the place has begun a later one.
 pub record IsOf (k : Shape) (c : CookieAt) (v : View) : Type 0 where
   pub begun : c.count < v.counts.waits

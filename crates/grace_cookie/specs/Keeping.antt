@@ -16,9 +16,11 @@ StaysRetired r now = (now.slot ≡ r.slot) × (now.unlinked ≡ r.unlinked) × (
 
 -- Each retired slot stays where it is, and later ones are behind.
 pub record KeepsRetired (v w : View) : Type 0 where
-  pub each : (i : ℕ) (r : Retired) → get_elem? v.hands.retired i ≡ some r → (now : Retired) × (get_elem? w.hands.retired i ≡ some now) × StaysRetired r now
+  pub each : (i : ℕ) (r : Retired) → get_elem? v.hands.retired i ≡ some r
+      → (now : Retired) × (get_elem? w.hands.retired i ≡ some now) × StaysRetired r now
 
--- The place is the same, it has begun no fewer waits, and the seat has seen as much. Where it has begun no further wait, the latest one is as
+-- The place is the same, it has begun no fewer waits, and the seat has seen as much. Where it has begun no further wait, the latest one is
+-- as
 -- it was, the retired slots stay, and further slots are listed behind.
 pub record KeepsCookies (s t : SeatAt) : Type 0 where
   pub place : t.view.allowance.place ≡ s.view.allowance.place

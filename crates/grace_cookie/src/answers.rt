@@ -3,7 +3,7 @@
 use prcu_marks::Why;
 
 /// What `ask` answers.
-#[derive(Clone, Copy, Debug, PartialEq, Eq)]
+#[derive(Clone, Copy)]
 pub enum Ask {
     /// Each reader has left that read when the cookie was started.
     Over,

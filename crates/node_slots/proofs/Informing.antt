@@ -11,12 +11,14 @@ IsSameOrInformed turns s t = ((turns ≡ 0) × (t ≡ s)) ⊎ IsInformed t.view
 
 module _ (turns : ℕ) (s t : SeatAt) (so_far : IsSameOrInformed turns s t) where
   pub stays_informed : IsInformed s.view → IsInformed t.view
-  stays_informed was = ⊎_elim (λ (same : (turns ≡ 0) × (t ≡ s)). subst (λ (z : SeatAt). IsInformed z.view) (sym same.1) was) (λ (now : IsInformed t.view). now) so_far
+  stays_informed was = ⊎_elim (λ (same : (turns ≡ 0) × (t ≡ s)). subst (λ (z : SeatAt). IsInformed z.view) (sym same.1) was)
+      (λ (now : IsInformed t.view). now) so_far
 
   -- all turns were made
   pub informed_end : (count : ℕ) → count ≤ turns → 1 ≤ length (first_slots count s.listed) → IsInformed t.view
   informed_end count over some = ⊎_elim
-      (λ (same : (turns ≡ 0) × (t ≡ s)). absurd (let none : count ≡ 0 = (let zero_turns = same.0 in omega arith) in let long = ap (λ n. length (first_slots n s.listed)) none in omega arith))
+      (λ (same : (turns ≡ 0) × (t ≡ s)). absurd (let none : count ≡ 0 = (let zero_turns = same.0 in omega arith) in
+      let long = ap (λ n. length (first_slots n s.listed)) none in omega arith))
       (λ (now : IsInformed t.view). now)
       so_far
 
@@ -24,7 +26,9 @@ module _ (turns : ℕ) (s t : SeatAt) (so_far : IsSameOrInformed turns s t) wher
   pub informed_out : (count : ℕ) → first_of t.listed ≡ None → 1 ≤ length (first_slots count s.listed) → IsInformed t.view
   informed_out count none some = ⊎_elim
       (λ (same : (turns ≡ 0) × (t ≡ s)). absurd (
-      let empty : first_slots count s.listed ≡ [] = ap (λ (z : SeatAt). first_slots count z.listed) (sym same.1) ∙ ap (first_slots count) (none_is t.listed none) ∙ first_none count in
+      let empty : first_slots count s.listed ≡ [] =
+      ap (λ (z : SeatAt). first_slots count z.listed) (sym same.1) ∙ ap (first_slots count) (none_is t.listed none)
+      ∙ first_none count in
       let long = ap length empty in
       omega arith
       ))

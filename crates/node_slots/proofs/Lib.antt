@@ -1,5 +1,6 @@
 pub mod Seizing
 pub mod Takes
+pub mod Trying
 pub mod PuttingBack
 pub mod Returning
 pub mod Marking

@@ -20,7 +20,8 @@ drop_other x y ys ne = ap (λ b. cond b ys (y ∷ drop_one x ys)) (ne_eqb y x ne
 drop_times : (x : ℕ) (ys : List ℕ) → 1 ≤ times x ys → (t : ℕ) → times t ys ≡ times t (x ∷ drop_one x ys)
 drop_times x [] least t = absurd (omega arith)
 drop_times x (y ∷ ys) least t = ⊎_elim
-    (λ (e : y ≡ x). subst (λ z. times t (z ∷ ys) ≡ times t (x ∷ drop_one x (z ∷ ys))) (sym e) (ap (λ l. times t (x ∷ l)) (sym (drop_here x ys))))
+    (λ (e : y ≡ x). subst (λ z. times t (z ∷ ys) ≡ times t (x ∷ drop_one x (z ∷ ys))) (sym e)
+    (ap (λ l. times t (x ∷ l)) (sym (drop_here x ys))))
     (λ (ne : y ≢ x).
     let rest = drop_times x ys (let a = times_other x y ys ne in omega arith) t in
     let same = ap (λ l. times t (x ∷ l)) (drop_other x y ys ne) in
@@ -30,7 +31,8 @@ drop_times x (y ∷ ys) least t = ⊎_elim
 drop_length : (x : ℕ) (ys : List ℕ) → 1 ≤ times x ys → length ys ≡ suc (length (drop_one x ys))
 drop_length x [] least = absurd (omega arith)
 drop_length x (y ∷ ys) least = ⊎_elim
-    (λ (e : y ≡ x). subst (λ z. length (z ∷ ys) ≡ suc (length (drop_one x (z ∷ ys)))) (sym e) (ap (λ l. suc (length l)) (sym (drop_here x ys))))
+    (λ (e : y ≡ x). subst (λ z. length (z ∷ ys) ≡ suc (length (drop_one x (z ∷ ys)))) (sym e)
+    (ap (λ l. suc (length l)) (sym (drop_here x ys))))
     (λ (ne : y ≢ x).
     let rest = drop_length x ys (let a = times_other x y ys ne in omega arith) in
     let same = ap length (drop_other x y ys ne) in
@@ -53,7 +55,8 @@ slots_length (r ∷ rs) = ap suc (slots_length rs)
 
 -- as many are listed as are retired
 pub listed_length : (s : SeatAt) → AreListed s → length s.listed ≡ length s.view.hands.retired
-listed_length s listed = same_length s.listed (map (λ (r : Retired). r.slot) s.view.hands.retired) listed.each ∙ slots_length s.view.hands.retired
+listed_length s listed = same_length s.listed (map (λ (r : Retired). r.slot) s.view.hands.retired) listed.each
+    ∙ slots_length s.view.hands.retired
 
 map_same : (xs : List ℕ) → map (λ (n : ℕ). n) xs ≡ xs
 map_same [] = refl

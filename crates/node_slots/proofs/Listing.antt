@@ -32,7 +32,8 @@ unlisted_none s (x ∷ xs) = ⊎_elim
 pub unlisted_else : (s t : ℕ) (xs : List ℕ) → t ≢ s → times t (unlisted s xs) ≡ times t xs
 unlisted_else s t [] ne = refl
 unlisted_else s t (x ∷ xs) ne = ⊎_elim
-    (λ (e : x ≡ s). subst (λ y. times t (unlisted s (y ∷ xs)) ≡ times t (y ∷ xs)) (sym e) (ap (times t) (unlisted_here s xs) ∙ unlisted_else s t xs ne ∙ sym (times_other t s xs (λ f. ne (sym f)))))
+    (λ (e : x ≡ s). subst (λ y. times t (unlisted s (y ∷ xs)) ≡ times t (y ∷ xs)) (sym e)
+    (ap (times t) (unlisted_here s xs) ∙ unlisted_else s t xs ne ∙ sym (times_other t s xs (λ f. ne (sym f)))))
     (λ (other : x ≢ s). let a = ap (times t) (unlisted_other s x xs other) in let b = unlisted_else s t xs ne in omega arith)
     (cases_eq x s)
 
@@ -45,7 +46,8 @@ unlisted_less s t xs none = ⊎_elim
 pub unlisted_length : (s : ℕ) (xs : List ℕ) → length (unlisted s xs) ≤ length xs
 unlisted_length s [] = omega arith
 unlisted_length s (x ∷ xs) = ⊎_elim
-    (λ (e : x ≡ s). subst (λ y. length (unlisted s (y ∷ xs)) ≤ length (y ∷ xs)) (sym e) (let a = ap length (unlisted_here s xs) in let c = unlisted_length s xs in omega arith))
+    (λ (e : x ≡ s). subst (λ y. length (unlisted s (y ∷ xs)) ≤ length (y ∷ xs)) (sym e)
+    (let a = ap length (unlisted_here s xs) in let c = unlisted_length s xs in omega arith))
     (λ (ne : x ≢ s). let a = ap length (unlisted_other s x xs ne) in let c = unlisted_length s xs in omega arith)
     (cases_eq x s)
 
@@ -62,7 +64,8 @@ first_apart : (s n : ℕ) (xs : List ℕ) → times s xs ≡ 0 → AllByRecursio
 first_apart s zero xs none = tt
 first_apart s (suc n) [] none = tt
 first_apart s (suc n) (x ∷ xs) none = ⊎_elim
-    (λ (e : x ≡ s). absurd (let a : times s (s ∷ xs) ≡ 0 = subst (λ y. times s (y ∷ xs) ≡ 0) e none in let b = times_here s xs in omega arith))
+    (λ (e : x ≡ s). absurd (let a : times s (s ∷ xs) ≡ 0 = subst (λ y. times s (y ∷ xs) ≡ 0) e none in let b = times_here s xs in
+    omega arith))
     (λ (ne : x ≢ s). (ne, first_apart s n (unlisted x xs) (unlisted_less x s xs (sym (times_other s x xs ne) ∙ none))))
     (cases_eq x s)
 
@@ -82,34 +85,56 @@ still_ready v w s t gone ne ready =
     let here : IsIn w.hands.retired ready.r = subst (λ rs. IsIn rs ready.r) (sym gone) there in
     record { i = here.0; r = ready.r; at = (here.1, ready.at.1); unraised = ready.unraised; waited = ready.waited }
 
-all_still_ready : (v w : View) (s : ℕ) → w.hands.retired ≡ without_retired s v.hands.retired → (ts : List ℕ) → AllByRecursion (λ t. t ≢ s) ts → AllByRecursion (IsReady v) ts → AllByRecursion (IsReady w) ts
+all_still_ready : (v w : View) (s : ℕ) → w.hands.retired ≡ without_retired s v.hands.retired → (ts : List ℕ)
+    → AllByRecursion (λ t. t ≢ s) ts → AllByRecursion (IsReady v) ts → AllByRecursion (IsReady w) ts
 all_still_ready v w s gone [] apart ready = tt
 all_still_ready v w s gone (t ∷ ts) apart ready = (still_ready v w s t gone apart.0 ready.0, all_still_ready v w s gone ts apart.1 ready.1)
 
 -- one slot more goes back
 abbrev returning : View → View → View
-returning w z = record z { hands = record z.hands { spare = w.hands.spare; retired = w.hands.retired }; latest = record z.latest { free = w.latest.free }; trail = w.trail; seen = w.seen }
+returning w z = record z {
+  hands = record z.hands { spare = w.hands.spare; retired = w.hands.retired };
+  latest = record z.latest { free = w.latest.free };
+  trail = w.trail;
+  seen = w.seen;
+}
 
 returned_is : (u : View) (s : ℕ) (w : View) → Returns u s w → (w ≡ returning w u) × (w.hands.retired ≡ without_retired s u.hands.retired)
 returned_is u s w (inl r) = (
-  r.rest ∙ (λ i. record u { hands = record u.hands { spare = ap (λ (z : View). z.hands.spare) (sym r.rest) i; retired = ap (λ (z : View). z.hands.retired) (sym r.rest) i }; latest = record u.latest { free = ap (λ (z : View). z.latest.free) (sym r.rest) i }; trail = w.trail; seen = w.seen }),
+  r.rest ∙ (λ i. record u {
+    hands = record u.hands
+        { spare = ap (λ (z : View). z.hands.spare) (sym r.rest) i; retired = ap (λ (z : View). z.hands.retired) (sym r.rest) i };
+    latest = record u.latest { free = ap (λ (z : View). z.latest.free) (sym r.rest) i };
+    trail = w.trail;
+    seen = w.seen;
+  }),
   ap (λ (z : View). z.hands.retired) r.rest,
 )
 returned_is u s w (inr r) = (
-  r.rest ∙ (λ i. record u { hands = record u.hands { spare = ap (λ (z : View). z.hands.spare) (sym r.rest) i; retired = ap (λ (z : View). z.hands.retired) (sym r.rest) i }; latest = record u.latest { free = ap (λ (z : View). z.latest.free) (sym r.rest) i }; trail = w.trail; seen = w.seen }),
+  r.rest ∙ (λ i. record u {
+    hands = record u.hands
+        { spare = ap (λ (z : View). z.hands.spare) (sym r.rest) i; retired = ap (λ (z : View). z.hands.retired) (sym r.rest) i };
+    latest = record u.latest { free = ap (λ (z : View). z.latest.free) (sym r.rest) i };
+    trail = w.trail;
+    seen = w.seen;
+  }),
   ap (λ (z : View). z.hands.retired) r.rest,
 )
 
 -- the mark that it leaves, and the spare then
 abbrev Marked : View → List ℕ → View → List ℕ → View → Type 0
-Marked v slots u more w = LeavesEach v (return_marks (held_list v.hands.spare) more) w × (held_list w.hands.spare ≡ first_spare (held_list v.hands.spare) more)
+Marked v slots u more w = LeavesEach v (return_marks (held_list v.hands.spare) more) w
+    × (held_list w.hands.spare ≡ first_spare (held_list v.hands.spare) more)
 
-marked_more : (v : View) (slots : List ℕ) (u : View) (s : ℕ) (w : View) → GivesBack v slots u → Returns u s w → Marked v slots u (slots ++ s ∷ []) w
+marked_more : (v : View) (slots : List ℕ) (u : View) (s : ℕ) (w : View) → GivesBack v slots u → Returns u s w
+    → Marked v slots u (slots ++ s ∷ []) w
 marked_more v slots u s w gives (inl r) =
     let none : first_spare (held_list v.hands.spare) slots ≡ [] = sym gives.spare ∙ ap held_list r.none in
     let goes = first_goes (held_list v.hands.spare) slots s none in
     let same = ap (λ (z : View). z.allowance) gives.rest in (
-      subst (λ ms. LeavesEach v ms w) (sym goes.0) (leaves_more v u w (return_marks (held_list v.hands.spare) slots) (Given s) gives.marks same (ap (λ (z : View). z.allowance) r.rest ∙ same) r.given),
+      subst (λ ms. LeavesEach v ms w) (sym goes.0)
+          (leaves_more v u w (return_marks (held_list v.hands.spare) slots) (Given s) gives.marks same
+          (ap (λ (z : View). z.allowance) r.rest ∙ same) r.given),
       ap (λ (z : View). held_list z.hands.spare) r.rest ∙ sym goes.1,
     )
 marked_more v slots u s w gives (inr r) =
@@ -117,7 +142,9 @@ marked_more v slots u s w gives (inr r) =
     let one : first_spare (held_list v.hands.spare) slots ≡ spare.slot ∷ [] = sym gives.spare ∙ ap held_list r.some.1 in
     let goes = other_goes (held_list v.hands.spare) slots s spare.slot one in
     let same = ap (λ (z : View). z.allowance) gives.rest in (
-      subst (λ ms. LeavesEach v ms w) (sym goes.0) (leaves_more v u w (return_marks (held_list v.hands.spare) slots) (Freed s) gives.marks same (ap (λ (z : View). z.allowance) r.rest ∙ same) r.freed),
+      subst (λ ms. LeavesEach v ms w) (sym goes.0)
+          (leaves_more v u w (return_marks (held_list v.hands.spare) slots) (Freed s) gives.marks same
+          (ap (λ (z : View). z.allowance) r.rest ∙ same) r.freed),
       ap (λ (z : View). held_list z.hands.spare) r.rest ∙ gives.spare ∙ sym goes.1,
     )
 
@@ -132,14 +159,21 @@ gives_none v = record { marks = none (held_list v.hands.spare); spare = same (he
     same [] = refl
     same (x ∷ xs) = refl
 
-gives_more : (v : View) (slots : List ℕ) (u : View) (s : ℕ) (w : View) → GivesBack v slots u → Returns u s w → GivesBack v (slots ++ s ∷ []) w
+gives_more : (v : View) (slots : List ℕ) (u : View) (s : ℕ) (w : View) → GivesBack v slots u → Returns u s w
+    → GivesBack v (slots ++ s ∷ []) w
 gives_more v slots u s w gives returns =
     let marked = marked_more v slots u s w gives returns in
     let is = returned_is u s w returns in
-    let all : w.hands.retired ≡ without_all (slots ++ s ∷ []) v.hands.retired = is.1 ∙ ap (λ (z : View). without_retired s z.hands.retired) gives.rest ∙ sym (all_more slots s v.hands.retired) in record {
+    let all : w.hands.retired ≡ without_all (slots ++ s ∷ []) v.hands.retired =
+    is.1 ∙ ap (λ (z : View). without_retired s z.hands.retired) gives.rest ∙ sym (all_more slots s v.hands.retired) in record {
       marks = marked.0;
       spare = marked.1;
-      rest = is.0 ∙ ap (returning w) gives.rest ∙ (λ i. record v { hands = record v.hands { spare = w.hands.spare; retired = all i }; latest = record v.latest { free = w.latest.free }; trail = w.trail; seen = w.seen });
+      rest = is.0 ∙ ap (returning w) gives.rest ∙ (λ i. record v {
+        hands = record v.hands { spare = w.hands.spare; retired = all i };
+        latest = record v.latest { free = w.latest.free };
+        trail = w.trail;
+        seen = w.seen;
+      });
     }
 
 -- Some of the first slots went back, and so many are left.
@@ -169,7 +203,8 @@ module _ (v : View) (old : List ℕ) (count left : ℕ) (u : View) (cur : List �
     cut : first_slots left cur ≡ slot ∷ rest
     cut =
         let is = first_is cur slot first in
-        ap (first_slots left) is.1 ∙ first_some left slot is.0 some ∙ ap (λ l. slot ∷ first_slots (left - 1) l) (sym (unlisted_here slot is.0) ∙ ap (unlisted slot) (sym is.1))
+        ap (first_slots left) is.1 ∙ first_some left slot is.0 some
+        ∙ ap (λ l. slot ∷ first_slots (left - 1) l) (sym (unlisted_here slot is.0) ∙ ap (unlisted slot) (sym is.1))
 
     all_ready : AllByRecursion (IsReady u) (slot ∷ rest)
     all_ready = (subst (AreReady u) cut on.ready).each
@@ -183,16 +218,22 @@ module _ (v : View) (old : List ℕ) (count left : ℕ) (u : View) (cur : List �
       split = on.split ∙ ap (λ l. on.done ++ l) cut ∙ sym (append_assoc on.done (slot ∷ []) rest);
       gave = gives_more v on.done u slot w on.gave returns;
       listed = ap (unlisted slot) on.listed ∙ sym (without_more on.done slot old);
-      ready = record { each = all_still_ready u w slot (returned_is u slot w returns).1 rest (first_apart slot (left - 1) (unlisted slot cur) (unlisted_none slot cur)) all_ready.1 };
+      ready = record {
+        each = all_still_ready u w slot (returned_is u slot w returns).1 rest
+            (first_apart slot (left - 1) (unlisted slot cur) (unlisted_none slot cur)) all_ready.1;
+      };
     })
 
 -- all of them went back
-pub goes_end : (v : View) (old : List ℕ) (count left : ℕ) (u : View) (cur : List ℕ) → left ≡ 0 → GoesOn v old count left u cur → GivesBack v (first_slots count old) u × (cur ≡ without_slots (first_slots count old) old)
+pub goes_end : (v : View) (old : List ℕ) (count left : ℕ) (u : View) (cur : List ℕ) → left ≡ 0 → GoesOn v old count left u cur
+    → GivesBack v (first_slots count old) u × (cur ≡ without_slots (first_slots count old) old)
 goes_end v old count left u cur none on =
     let all : first_slots count old ≡ on.done = on.split ∙ ap (λ n. on.done ++ first_slots n cur) none ∙ append-nil on.done in
     (subst (λ l. GivesBack v l u) (sym all) on.gave, on.listed ∙ ap (λ l. without_slots l old) (sym all))
 
-pub goes_out : (v : View) (old : List ℕ) (count left : ℕ) (u : View) (cur : List ℕ) → first_of cur ≡ None → GoesOn v old count left u cur → GivesBack v (first_slots count old) u × (cur ≡ without_slots (first_slots count old) old)
+pub goes_out : (v : View) (old : List ℕ) (count left : ℕ) (u : View) (cur : List ℕ) → first_of cur ≡ None → GoesOn v old count left u cur
+    → GivesBack v (first_slots count old) u × (cur ≡ without_slots (first_slots count old) old)
 goes_out v old count left u cur none on =
-    let all : first_slots count old ≡ on.done = on.split ∙ ap (λ l. on.done ++ first_slots left l) (none_is cur none) ∙ ap (λ l. on.done ++ l) (first_none left) ∙ append-nil on.done in
+    let all : first_slots count old ≡ on.done = on.split ∙ ap (λ l. on.done ++ first_slots left l) (none_is cur none)
+    ∙ ap (λ l. on.done ++ l) (first_none left) ∙ append-nil on.done in
     (subst (λ l. GivesBack v l u) (sym all) on.gave, on.listed ∙ ap (λ l. without_slots l old) (sym all))

@@ -1,4 +1,5 @@
--- The calls on slots over the points of a call of the tree: where one begins its conditions are met, and where it ends the next point stands.
+-- The calls on slots over the points of a call of the tree: where one begins its conditions are met, and where it ends the next point
+-- stands.
 use Rattle.std.proofs.Common.{◌≡◌, ◌≢◌, ℕ, ◌+◌, ◌-◌, ◌≤◌, true, false, List, [], ◌∷◌, map, Option, Some, None, refl, sym, ap, subst, ◌∙◌, arith}
 use Rattle.prcu_model.specs.declared.operation.Op.{Op}
 use Rattle.prcu_marks.specs.declared.mark.Mark.TheVariants.{Given, Freed, Began, Ended}
@@ -27,7 +28,7 @@ use Rattle.seat_table.specs.Seats.{IsSlotOf}
 use Rattle.tree_points.specs.At.{IsAt, IsDone}
 use Rattle.tree_points.specs.Progress.{HasGone, HasGivenAll}
 use Rattle.tree_points.proofs.SameCall.{moves_on}
-use Rattle.tree_points.proofs.Gone.{gone_with, gone_all}
+use Rattle.tree_points.proofs.Gone.{allowed, gone_with, gone_all}
 use Rattle.node_slots.specs.Slots.{aged, next_life, renewing, PutsBack}
 use Rattle.node_slots.specs.Taking.{HasTaken, FoundNone}
 use Rattle.node_slots.specs.Reclaiming.{first_spare, HasReclaimed}
@@ -50,7 +51,11 @@ pub may_take : {k : Shape} {op : Op} {kept e : ℕ} {aim : Aim} {v : View} → I
 may_take {e = e} {aim = aim} {v = v} a = by aim a.fits
   where
     by : (aim : Aim) → Fits a.own (at.Reserve aim e) v → MayTake v
-    by (Leaf spot) f = let p = f.point in record { unreserved = (p.1).3; empty = p.2; ticket = (let t = f.tickets in let two = least_two a.own.retired spot in omega arith) }
+    by (Leaf spot) f = let p = f.point in record {
+      unreserved = (p.1).3;
+      empty = p.2;
+      ticket = (let t = f.tickets in let two = least_two a.own.retired spot in omega arith);
+    }
     by Spare f = let i = (f.point).0 in record { unreserved = (i.1).3; empty = i.2; ticket = (let t = f.tickets in omega arith) }
     by Room f = absurd f.point
 
@@ -78,12 +83,13 @@ module _ {slot generation : ℕ} {v w : View} (taken : HasTaken v slot generatio
   taken_slot = subst (IsSlotOf (Some slot)) (sym taken_in_hand) refl
 
   pub taken_gone : HasGone v w []
-  taken_gone = gone_with taken.given.before (Given slot ∷ []) taken.given.seen (ap (λ (z : View). z.allowance.place) taken.rest) taken.given.marked
+  taken_gone = gone_with taken.given.before (Given slot ∷ []) taken.given.seen (allowed taken.rest refl) taken.given.marked
 
   pub taken_retired : w.hands.retired ≡ v.hands.retired
   taken_retired = ap (λ (z : View). z.hands.retired) taken.rest
 
-  pub takes_leaf : {k : Shape} {op : Op} {kept e : ℕ} {spot : Spot} → IsAt k op kept (at.Reserve (Leaf spot) e) v → IsAt k op kept (at.LeafField spot 0) w
+  pub takes_leaf : {k : Shape} {op : Op} {kept e : ℕ} {spot : Spot} → IsAt k op kept (at.Reserve (Leaf spot) e) v
+      → IsAt k op kept (at.LeafField spot 0) w
   takes_leaf {spot = spot} a =
       let o : Own = a.own in
       let f = a.fits in
@@ -92,7 +98,17 @@ module _ {slot generation : ℕ} {v w : View} (taken : HasTaken v slot generatio
       let b = bare_noted v slot (Life slot) life false [] [] None false p.1 refl in
       let owns = owns_noted o v slot (Life slot) life false f.owns in
       let fits : Fits o' (at.LeafField spot 0) after_taking = record {
-        owns = record { same = owns.same; works = owns.works; spare_is = owns.spare_is; retired_are = owns.retired_are; locks_are = owns.locks_are; key_fits = owns.key_fits; keys_fit = owns.keys_fit; scans = owns.scans; scans_table = owns.scans_table };
+        owns = record {
+          same = owns.same;
+          works = owns.works;
+          spare_is = owns.spare_is;
+          retired_are = owns.retired_are;
+          locks_are = owns.locks_are;
+          key_fits = owns.key_fits;
+          keys_fit = owns.keys_fit;
+          scans = owns.scans;
+          scans_table = owns.scans_table;
+        };
         tickets = (let t = f.tickets in let two = least_two o.retired spot in omega arith);
         unraised = λ z. f.unraised refl;
         point = (p.0, b, (slot, refl, refl), p.5, p.6, omega arith);
@@ -109,7 +125,17 @@ module _ {slot generation : ℕ} {v w : View} (taken : HasTaken v slot generatio
       let b = bare_noted v slot (Life slot) life false [] [] None false i.1 refl in
       let owns = owns_noted o v slot (Life slot) life false f.owns in
       let fits : Fits o' (at.Keep slot) after_taking = record {
-        owns = record { same = owns.same; works = owns.works; spare_is = owns.spare_is; retired_are = owns.retired_are; locks_are = owns.locks_are; key_fits = owns.key_fits; keys_fit = owns.keys_fit; scans = owns.scans; scans_table = owns.scans_table };
+        owns = record {
+          same = owns.same;
+          works = owns.works;
+          spare_is = owns.spare_is;
+          retired_are = owns.retired_are;
+          locks_are = owns.locks_are;
+          key_fits = owns.key_fits;
+          keys_fit = owns.keys_fit;
+          scans = owns.scans;
+          scans_table = owns.scans_table;
+        };
         tickets = (let t = f.tickets in omega arith);
         unraised = λ z. f.unraised refl;
         point = (i.0, b, (aged slot life, refl, refl), p.2, p.3, p.4);
@@ -126,7 +152,7 @@ module _ {k : Shape} {v w : View} (none : FoundNone k v w) where
   after_none = record v { latest = record v.latest { free = Some 0 }; trail = w.trail; seen = w.seen }
 
   pub none_gone : HasGone v w []
-  none_gone = gone_all w.seen none.sees (ap (λ (z : View). z.allowance.place) none.rest) refl
+  none_gone = gone_all w.seen none.sees (allowed none.rest refl) refl
 
   pub none_retired_now : w.hands.retired ≡ v.hands.retired
   none_retired_now = ap (λ (z : View). z.hands.retired) none.rest
@@ -150,7 +176,8 @@ module _ {k : Shape} {v w : View} (none : FoundNone k v w) where
       moves_on a o' refl (subst (Fits o' at.Finished) (sym none.rest) fits)
 
   -- Where something is retired it is given back first.
-  pub none_begins : {op : Op} {kept e : ℕ} {spot : Spot} → v.hands.retired ≢ [] → IsAt k op kept (at.Reserve (Leaf spot) e) v → IsAt k op kept (at.Begin (Reuse (Leaf spot))) w
+  pub none_begins : {op : Op} {kept e : ℕ} {spot : Spot} → v.hands.retired ≢ [] → IsAt k op kept (at.Reserve (Leaf spot) e) v
+      → IsAt k op kept (at.Begin (Reuse (Leaf spot))) w
   none_begins {spot = spot} some a =
       let o : Own = a.own in
       let f = a.fits in
@@ -158,7 +185,8 @@ module _ {k : Shape} {v w : View} (none : FoundNone k v w) where
       let o' : Own = go o (at.Begin (Reuse (Leaf spot))) in
       let fits : Fits o' (at.Begin (Reuse (Leaf spot))) after_none = record {
         owns = f.owns;
-        tickets = (let t = f.tickets in let three = three_left o.retired spot (none_retired v.hands.retired o.retired f.owns.retired_are some) in omega arith);
+        tickets = (let t = f.tickets in let three = three_left o.retired spot
+            (none_retired v.hands.retired o.retired f.owns.retired_are some) in omega arith);
         unraised = λ z. f.unraised refl;
         point = ((p.0, p.1, p.2, p.3), (p.5, p.6));
       } in
@@ -193,7 +221,7 @@ may_put_back {v = v} a =
 
 module _ {slot : ℕ} {v w : View} (back : PutsBack v slot w) where
   pub back_gone : HasGone v w []
-  back_gone = gone_with back.freed.before (Freed slot ∷ []) back.freed.seen (ap (λ (z : View). z.allowance.place) back.rest) back.freed.marked
+  back_gone = gone_with back.freed.before (Freed slot ∷ []) back.freed.seen (allowed back.rest refl) back.freed.marked
 
   pub back_retired : w.hands.retired ≡ v.hands.retired
   back_retired = ap (λ (z : View). z.hands.retired) back.rest
@@ -207,15 +235,35 @@ module _ {slot : ℕ} {v w : View} (back : PutsBack v slot w) where
       let life : ℕ = back.life in
       let first : View = noting v slot (Life slot) life false in
       let u : View = renewing v slot life in
-      let last : View = record u { hands = record u.hands { hand = None }; latest = record v.latest { free = Some (back.found + 1) }; trail = w.trail; seen = w.seen } in
+      let last : View = record u {
+        hands = record u.hands { hand = None };
+        latest = record v.latest { free = Some (back.found + 1) };
+        trail = w.trail;
+        seen = w.seen;
+      } in
       let e = ap (λ (z : View). z.trail) back.rest in
-      let is : w ≡ last = back.rest ∙ (λ i. record u { hands = record u.hands { hand = None }; latest = record v.latest { free = Some (back.found + 1) }; trail = sym e i; seen = w.seen }) in
+      let is : w ≡ last = back.rest ∙ (λ i. record u {
+        hands = record u.hands { hand = None };
+        latest = record v.latest { free = Some (back.found + 1) };
+        trail = sym e i;
+        seen = w.seen;
+      }) in
       let o' : Own = go (record o { hand = None }) at.Finished in
       let b1 = bare_noted v slot (Life slot) life false [] [] None false (p.2).0 refl in
       let b2 = bare_noted first slot (Life slot) (next_life life) true [] [] None false b1 refl in
       let owns = owns_noted o first slot (Life slot) (next_life life) true (owns_noted o v slot (Life slot) life false f.owns) in
       let fits : Fits o' at.Finished last = record {
-        owns = record { same = owns.same; works = owns.works; spare_is = owns.spare_is; retired_are = owns.retired_are; locks_are = owns.locks_are; key_fits = owns.key_fits; keys_fit = owns.keys_fit; scans = owns.scans; scans_table = owns.scans_table };
+        owns = record {
+          same = owns.same;
+          works = owns.works;
+          spare_is = owns.spare_is;
+          retired_are = owns.retired_are;
+          locks_are = owns.locks_are;
+          key_fits = owns.key_fits;
+          keys_fit = owns.keys_fit;
+          scans = owns.scans;
+          scans_table = owns.scans_table;
+        };
         tickets = f.tickets;
         unraised = λ z. f.unraised refl;
         point = (p.0, b2, refl);
@@ -236,24 +284,40 @@ may_reclaim a =
     let f = a.fits in
     let i = (f.point).0 in
     let b = i.1 in
-    record { outside = i.0; unlocked = b.0; settled = b.2; paid = b.4; ticket = (let t = f.tickets in omega arith); unraised = f.unraised refl }
+    record {
+      outside = i.0;
+      unlocked = b.0;
+      settled = b.2;
+      paid = b.4;
+      ticket = (let t = f.tickets in omega arith);
+      unraised = f.unraised refl;
+    }
 
-pub reclaim_gone : {k : Shape} {v w : View} {listed : List ℕ} → HasReclaimed k v listed w → HasGone v w (Began v.allowance.place v.counts.waits 0 18446744073709551615 ∷ (Ended v.allowance.place v.counts.waits ∷ []))
-reclaim_gone back = record { same = ap (λ (z : View). z.allowance.place) back.rest; begins = back.seen; own = back.own }
+pub reclaim_gone : {k : Shape} {v w : View} {listed : List ℕ} → HasReclaimed k v listed w
+    → HasGone v w (Began v.allowance.place v.counts.waits 0 18446744073709551615 ∷ (Ended v.allowance.place v.counts.waits ∷ []))
+reclaim_gone back = record {
+  same = ap (λ (z : View). z.allowance.place) back.rest;
+  allowance = allowed back.rest refl;
+  begins = back.seen;
+  own = back.own;
+}
 
 pub reclaim_retired : {k : Shape} {v w : View} {listed : List ℕ} → HasReclaimed k v listed w → w.hands.retired ≡ []
 reclaim_retired back = ap (λ (z : View). z.hands.retired) back.rest
 
-some_listed : (rs : List Retired) (xs : List ℕ) → rs ≢ [] → ((t : ℕ) → times t xs ≡ times t (map (λ (r : Retired). r.slot) rs)) → (x : ℕ) × (more : List ℕ) × (xs ≡ x ∷ more)
+some_listed : (rs : List Retired) (xs : List ℕ) → rs ≢ [] → ((t : ℕ) → times t xs ≡ times t (map (λ (r : Retired). r.slot) rs))
+    → (x : ℕ) × (more : List ℕ) × (xs ≡ x ∷ more)
 some_listed [] xs ne eq = absurd (ne refl)
-some_listed (r ∷ rs) [] ne eq = absurd (let one = times_here r.slot (map (λ (r : Retired). r.slot) rs) in let none = eq r.slot in omega arith)
+some_listed (r ∷ rs) [] ne eq = absurd (let one = times_here r.slot (map (λ (r : Retired). r.slot) rs) in let none = eq r.slot in
+    omega arith)
 some_listed (r ∷ rs) (x ∷ xs) ne eq = (x, xs, refl)
 
 one_held : (o : Option Held) (x : ℕ) → held_list o ≡ x ∷ [] → is_some (spare_slot o) ≡ true
 one_held None x e = let bad : [] ≡ x ∷ [] = e in absurd (cc)
 one_held (Some held) x e = refl
 
-module _ {k : Shape} {v w : View} {listed : List ℕ} (comes : v.hands.spare ≡ None → v.hands.retired ≢ []) (same : (t : ℕ) → times t listed ≡ times t (map (λ (r : Retired). r.slot) v.hands.retired)) (back : HasReclaimed k v listed w) where
+module _ {k : Shape} {v w : View} {listed : List ℕ} (comes : v.hands.spare ≡ None → v.hands.retired ≢ [])
+    (same : (t : ℕ) → times t listed ≡ times t (map (λ (r : Retired). r.slot) v.hands.retired)) (back : HasReclaimed k v listed w) where
   -- the place has a spare then
   spare_there : (o : Option Held) → v.hands.spare ≡ o → is_some (spare_slot w.hands.spare) ≡ true
   spare_there None e =

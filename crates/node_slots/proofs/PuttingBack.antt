@@ -32,10 +32,12 @@ pub some_slot : (o : Option Held) (held : Held) → o ≡ Some held → IsSlotOf
 some_slot None held e is = absurd (cc)
 some_slot (Some other) held e is = is
 
-pub hand_inside : (k : Shape) (v : View) (held : Held) (slot : ℕ) → TellsNow k v → v.hands.hand ≡ Some held → slot ≡ held.slot → slot < slot_count k
+pub hand_inside : (k : Shape) (v : View) (held : Held) (slot : ℕ) → TellsNow k v → v.hands.hand ≡ Some held → slot ≡ held.slot
+    → slot < slot_count k
 hand_inside k v held slot told there is = subst (λ s. s < slot_count k) (sym is) (told.tells.hand_within held there)
 
-module _ (k : Shape) (v : View) (held : Held) (slot life : ℕ) (hand : IsInHand v held slot) (unraised : held.raised ≡ false) (paid : v.hands.owes ≡ false) (v1 : View) (first : Told k v (LoadOwnLife slot) life v1) where
+module _ (k : Shape) (v : View) (held : Held) (slot life : ℕ) (hand : IsInHand v held slot) (unraised : held.raised ≡ false)
+    (paid : v.hands.owes ≡ false) (v1 : View) (first : Told k v (LoadOwnLife slot) life v1) where
   abbrev aging : View
   aging = after_own_life (noted v (LoadOwnLife slot) life) slot life
 
@@ -45,7 +47,11 @@ module _ (k : Shape) (v : View) (held : Held) (slot life : ℕ) (hand : IsInHand
   pub unraised_there : HasUnraised v1 slot life
   unraised_there = subst (λ z. HasUnraised z slot life) (sym first.goes) (record {
     held = record held { known = note ∷ held.known };
-    in_hand = (ap (note_option slot note) hand.0 ∙ ap (λ b. Some (cond b (record held { known = note ∷ held.known }) held)) (eq-eqb held.slot slot hand.1), hand.1);
+    in_hand = (
+      ap (note_option slot note) hand.0 ∙ ap (λ b. Some (cond b (record held { known = note ∷ held.known }) held))
+          (eq-eqb held.slot slot hand.1),
+      hand.1,
+    );
     unraised = unraised;
     loaded = ap (λ b. cond b (Some life) (known_in held.known (Life slot))) (same_self (Life slot));
     paid = paid;
@@ -73,5 +79,10 @@ module _ (k : Shape) (v : View) (held : Held) (slot life : ℕ) (hand : IsInHand
           life = life;
           found = found;
           freed = record { before = h; seen = record { works = sees.works; begins = sees.begins; own = sees.own }; marked = refl };
-          rest = λ i. record u { hands = record u.hands { owes = sym paid i; hand = None }; latest = record v.latest { free = Some (found + 1) }; trail = last.trail; seen = last.seen };
+          rest = λ i. record u {
+            hands = record u.hands { owes = sym paid i; hand = None };
+            latest = record v.latest { free = Some (found + 1) };
+            trail = last.trail;
+            seen = last.seen;
+          };
         })

@@ -25,13 +25,16 @@ use Rattle.node_slots.specs.Slots.{next_life}
 use Rattle.node_slots.specs.Reclaiming.{IsReady, BecomesSpare, BecomesFree}
 
 -- a retired slot that is changed keeps its place
-at_changed : (rs : List Retired) (i : ℕ) (r : Retired) (slot : ℕ) (f : Retired → Retired) → get_elem? rs i ≡ some r → r.slot ≡ slot → get_elem? (change_retired slot f rs) i ≡ some (f r)
-at_changed rs i r slot f at is = at_map (λ (x : Retired). cond (x.slot == slot) (f x) x) rs i r at ∙ ap (λ b. some (cond b (f r) r)) (eq-eqb r.slot slot is)
+at_changed : (rs : List Retired) (i : ℕ) (r : Retired) (slot : ℕ) (f : Retired → Retired) → get_elem? rs i ≡ some r → r.slot ≡ slot
+    → get_elem? (change_retired slot f rs) i ≡ some (f r)
+at_changed rs i r slot f at is = at_map (λ (x : Retired). cond (x.slot == slot) (f x) x) rs i r at
+    ∙ ap (λ b. some (cond b (f r) r)) (eq-eqb r.slot slot is)
 
 -- what is noted of another slot
 aside : (slot : ℕ) (known : Known) (o : Option Held) → ((held : Held) → o ≡ Some held → held.slot ≡ slot → ⊥) → note_option slot known o ≡ o
 aside slot known None apart = refl
-aside slot known (Some held) apart = ap (λ b. Some (cond b (record held { known = known ∷ held.known }) held)) (ne_eqb held.slot slot (λ e. apart held refl e))
+aside slot known (Some held) apart = ap (λ b. Some (cond b (record held { known = known ∷ held.known }) held))
+    (ne_eqb held.slot slot (λ e. apart held refl e))
 
 -- whether there is a spare
 pub none_there : (o : Option Held) → IsSlotOf None o → o ≡ None
@@ -49,7 +52,8 @@ retired_inside k v i slot r at told = subst (λ x. x < slot_count k) at.1 (told.
 pub needs_life : (k : Shape) (v : View) (slot : ℕ) → IsReady v slot → IsAsked k v (LoadRetiredLife slot)
 needs_life k v slot ready = λ told. (retired_inside k v ready.i slot ready.r ready.at told, (ready.i, ready.r, ready.at))
 
-module _ (k : Shape) (v : View) (slot : ℕ) (ready : IsReady v slot) (unlocked : v.locks ≡ []) (settled : v.moving ≡ None) (life : ℕ) (v1 : View) (first : Told k v (LoadRetiredLife slot) life v1) where
+module _ (k : Shape) (v : View) (slot : ℕ) (ready : IsReady v slot) (unlocked : v.locks ≡ []) (settled : v.moving ≡ None) (life : ℕ)
+    (v1 : View) (first : Told k v (LoadRetiredLife slot) life v1) where
   abbrev note : Known
   note = record { field = Life slot; number = life; stored = false }
 
@@ -57,7 +61,10 @@ module _ (k : Shape) (v : View) (slot : ℕ) (ready : IsReady v slot) (unlocked 
   to r = record r { life = Some life }
 
   abbrev loaded : View
-  loaded = record v { hands = record v.hands { retired = change_retired slot to v.hands.retired }; trail = (noted v (LoadRetiredLife slot) life).trail }
+  loaded = record v {
+    hands = record v.hands { retired = change_retired slot to v.hands.retired };
+    trail = (noted v (LoadRetiredLife slot) life).trail;
+  }
 
   abbrev number : ℕ
   number = next_life life
@@ -95,7 +102,10 @@ module _ (k : Shape) (v : View) (slot : ℕ) (ready : IsReady v slot) (unlocked 
 
   pub needs_raised : (spare : Held) → v.hands.spare ≡ Some spare → IsAsked k v1 (RaiseRetired slot number)
   needs_raised spare has = subst (λ z. IsAsked k z (RaiseRetired slot number)) (sym loaded_is)
-      (λ told. (retired_inside k loaded ready.i slot (to ready.r) raises.retired told, (ready.i, life, to ready.r, raises, (λ none. let e : Some spare ≡ None = sym has ∙ none in cc))))
+      (λ told. (
+        retired_inside k loaded ready.i slot (to ready.r) raises.retired told,
+        (ready.i, life, to ready.r, raises, (λ none. let e : Some spare ≡ None = sym has ∙ none in cc)),
+      ))
 
   pub becomes_spare : v.hands.spare ≡ None → (w : View) → Told k v1 (RaiseToSpare slot number) number w → BecomesSpare v slot w
   becomes_spare none w second =
@@ -108,7 +118,11 @@ module _ (k : Shape) (v : View) (slot : ℕ) (ready : IsReady v slot) (unlocked 
         none = none;
         life = life;
         given = record { before = h; seen = record { works = sees.works; begins = sees.begins; own = sees.own }; marked = refl };
-        rest = λ i. record v { hands = record v.hands { spare = last.hands.spare; retired = gone i }; trail = last.trail; seen = last.seen };
+        rest = λ i. record v {
+          hands = record v.hands { spare = last.hands.spare; retired = gone i };
+          trail = last.trail;
+          seen = last.seen;
+        };
       })
 
   module _ (v2 : View) (second : Told k v1 (RaiseRetired slot number) number v2) where
@@ -124,15 +138,23 @@ module _ (k : Shape) (v : View) (slot : ℕ) (ready : IsReady v slot) (unlocked 
     frees : v.hands.owes ≡ false → NeedsFreeRetired raised ready.i (raise (to ready.r)) slot
     frees paid = record {
       paid = paid;
-      retired = (at_changed loaded.hands.retired ready.i (to ready.r) slot raise (at_changed v.hands.retired ready.i ready.r slot to ready.at.0 ready.at.1) ready.at.1, ready.at.1);
+      retired = (
+        at_changed loaded.hands.retired ready.i (to ready.r) slot raise
+            (at_changed v.hands.retired ready.i ready.r slot to ready.at.0 ready.at.1) ready.at.1,
+        ready.at.1,
+      );
       raised = refl;
     }
 
     pub needs_freed : v.hands.owes ≡ false → IsAsked k v2 (FreeRetired slot)
     needs_freed paid = subst (λ z. IsAsked k z (FreeRetired slot)) (sym raised_is)
-        (λ told. (retired_inside k raised ready.i slot (raise (to ready.r)) (frees paid).retired told, (ready.i, raise (to ready.r), frees paid)))
+        (λ told. (
+          retired_inside k raised ready.i slot (raise (to ready.r)) (frees paid).retired told,
+          (ready.i, raise (to ready.r), frees paid),
+        ))
 
-    pub becomes_free : (spare : Held) → v.hands.spare ≡ Some spare → v.hands.owes ≡ false → (v3 w : View) (found : ℕ) → Told k v2 (FreeRetired slot) 0 v3 → Told k v3 CountFree found w → BecomesFree v slot w
+    pub becomes_free : (spare : Held) → v.hands.spare ≡ Some spare → v.hands.owes ≡ false → (v3 w : View) (found : ℕ)
+        → Told k v2 (FreeRetired slot) 0 v3 → Told k v3 CountFree found w → BecomesFree v slot w
     becomes_free spare has paid v3 w found third fourth =
         let h : List Mark = third.marks in
         let last : View = after_count_free (noted (after_free_retired (noted raised (FreeRetired slot) 0) slot h) CountFree found) found in
@@ -144,5 +166,10 @@ module _ (k : Shape) (v : View) (slot : ℕ) (ready : IsReady v slot) (unlocked 
           some = (spare, has);
           found = found;
           freed = record { before = h; seen = record { works = sees.works; begins = sees.begins; own = sees.own }; marked = refl };
-          rest = λ i. record v { hands = record v.hands { owes = sym paid i; retired = gone i }; latest = record v.latest { free = Some (found + 1) }; trail = last.trail; seen = last.seen };
+          rest = λ i. record v {
+            hands = record v.hands { owes = sym paid i; retired = gone i };
+            latest = record v.latest { free = Some (found + 1) };
+            trail = last.trail;
+            seen = last.seen;
+          };
         })

@@ -23,7 +23,8 @@ module _ (k : Shape) (v : View) (slot found : ℕ) (v1 : View) (free : found ≡
       let last : View = after_own_life (noted in_hand (LoadOwnLife slot) life) slot life in
       let is : w ≡ last = goes_from (seized_is k v slot found v1 free first) second in
       let fits : life ≤ 2199023255553 = second.fits in
-      let here : cond (slot == slot) (record (seized slot) { known = known ∷ (seized slot).known }) (seized slot) ≡ aged slot life = ap (λ b. cond b (record (seized slot) { known = known ∷ (seized slot).known }) (seized slot)) (eq-eqb slot slot refl) in
+      let here : cond (slot == slot) (record (seized slot) { known = known ∷ (seized slot).known }) (seized slot) ≡ aged slot life =
+      ap (λ b. cond b (record (seized slot) { known = known ∷ (seized slot).known }) (seized slot)) (eq-eqb slot slot refl) in
       let u : View = noting v slot (Life slot) life false in
       subst (HasSeized v slot (life / 2)) (sym is) (record {
         life = life;

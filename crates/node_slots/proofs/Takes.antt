@@ -1,39 +1,15 @@
 -- What the loops of a take told, one after another.
-use Rattle.std.proofs.Common.{◌≡◌, ℕ, ◌-◌, ◌≤◌, true, false, [], ◌∷◌, ◌++◌, Some, refl, sym, ap, subst, ◌∙◌, append_assoc, append-nil, arith}
-use Rattle.prcu_model.proofs.ListFacts.{all_append}
+use Rattle.std.proofs.Common.{◌≡◌, ℕ, ◌-◌, ◌≤◌, true, false, ◌∷◌, Some, refl, sym, ap, subst, ◌∙◌}
 use Rattle.prcu_marks.specs.declared.mark.Mark.TheVariants.{Given}
 use Rattle.core_state.specs.declared.shape.Shape.{Shape}
-use Rattle.core_state.specs.declared.words.Field.{Field}
-use Rattle.core_state.specs.declared.words.Field.TheVariants.{Free, State, Life}
-use Rattle.core_state.specs.declared.words.Kind.{Kind}
-use Rattle.core_state.specs.declared.words.Kind.TheVariants.{K9, K10, K11}
+use Rattle.core_state.specs.declared.words.Field.TheVariants.{Life}
 use Rattle.core_state.specs.declared.view.Held.{Held}
-use Rattle.core_state.specs.declared.view.StepMade.{StepMade}
-use Rattle.core_state.specs.declared.view.Trail.{Trail}
 use Rattle.core_state.specs.declared.view.View.{View}
 use Rattle.core_state.specs.views.Known.{noting}
-use Rattle.core_state.specs.steps.Seating.{stepped}
 use Rattle.seat_table.specs.Gains.{Sees}
 use Rattle.seat_table.specs.Sections.{Leaves}
 use Rattle.node_slots.specs.Slots.{Reserved, FoundEmpty, FoundOther, aged, HasSeized, FoundTaken}
-use Rattle.node_slots.specs.Taking.{FindsSome, AddsSome, HasTried, HasReserved, FoundNone, HasScanned, HasGot, HasTaken}
-
-pub adds_none : (a : Trail) → AddsSome a a
-adds_none a = record { steps = []; some = tt; trail = ap (λ l. record a { steps = l }) (sym (append-nil a.steps)) }
-
-pub adds_both : (a b c : Trail) → AddsSome a b → AddsSome b c → AddsSome a c
-adds_both a b c first second = record {
-  steps = first.steps ++ second.steps;
-  some = all_append (λ (t : StepMade). FindsSome t.kind t.number) first.steps second.steps first.some second.some;
-  trail = second.trail ∙ ap (λ (t : Trail). record t { steps = t.steps ++ second.steps }) first.trail ∙ ap (λ l. record a { steps = l }) (append_assoc a.steps first.steps second.steps);
-}
-
--- one more step
-adds_step : (v : View) (kind : Kind) (field : Field) (number : ℕ) → FindsSome kind number → AddsSome v.trail (stepped v kind field number).trail
-adds_step v kind field number is = record { steps = record { kind = kind; field = field; number = number } ∷ []; some = (is, tt); trail = refl }
-
-abbrev ended_empty : Trail → Trail
-ended_empty t = record t { steps = t.steps ++ record { kind = K10; field = Free; number = 0 } ∷ [] }
+use Rattle.node_slots.specs.Taking.{HasTried, HasReserved, FoundNone, HasScanned, HasGot, HasTaken}
 
 -- Exchanges of the free count.
 module _ (v u w : View) (tried : HasTried v u) where
@@ -42,16 +18,27 @@ module _ (v u w : View) (tried : HasTried v u) where
 
   pub tried_again : (expected found : ℕ) → FoundOther u expected found w → HasTried v w
   tried_again expected found other =
-      let e : w ≡ trying u = other.rest ∙ (λ i. record u { latest = record u.latest { free = ap (λ (z : View). z.latest.free) (sym other.rest) i }; trail = ap (λ (z : View). z.trail) (sym other.rest) i }) in record {
-        trail = adds_both v.trail u.trail w.trail tried.trail (subst (AddsSome u.trail) (sym (ap (λ (z : View). z.trail) other.rest)) (adds_step u K10 Free found other.some));
+      let e : w ≡ trying u = other.rest ∙ (λ i. record u {
+        latest = record u.latest { free = ap (λ (z : View). z.latest.free) (sym other.rest) i };
+        trail = ap (λ (z : View). z.trail) (sym other.rest) i;
+      }) in record {
         rest = e ∙ ap trying tried.rest;
       }
 
   pub then_reserved : (expected : ℕ) → 1 ≤ expected → Reserved u expected w → HasReserved v w
   then_reserved expected some is =
-      let change : View → View = λ z. record z { allowance = record z.allowance { tickets = z.allowance.tickets - 1 }; hands = record z.hands { reserved = true }; latest = record z.latest { free = w.latest.free }; trail = w.trail } in
-      let e : w ≡ change u = is ∙ (λ i. record u { allowance = record u.allowance { tickets = u.allowance.tickets - 1 }; hands = record u.hands { reserved = true }; latest = record u.latest { free = ap (λ (z : View). z.latest.free) (sym is) i }; trail = ap (λ (z : View). z.trail) (sym is) i }) in record {
-        trail = adds_both v.trail u.trail w.trail tried.trail (subst (AddsSome u.trail) (sym (ap (λ (z : View). z.trail) is)) (adds_step u K10 Free expected (λ none. absurd (omega arith))));
+      let change : View → View = λ z. record z {
+        allowance = record z.allowance { tickets = z.allowance.tickets - 1 };
+        hands = record z.hands { reserved = true };
+        latest = record z.latest { free = w.latest.free };
+        trail = w.trail;
+      } in
+      let e : w ≡ change u = is ∙ (λ i. record u {
+        allowance = record u.allowance { tickets = u.allowance.tickets - 1 };
+        hands = record u.hands { reserved = true };
+        latest = record u.latest { free = ap (λ (z : View). z.latest.free) (sym is) i };
+        trail = ap (λ (z : View). z.trail) (sym is) i;
+      }) in record {
         rest = e ∙ ap change tried.rest;
       }
 
@@ -59,64 +46,99 @@ module _ (v u w : View) (tried : HasTried v u) where
   then_none k empty =
       let e = ap (λ (z : View). z.trail) empty.rest in
       let change : View → View = λ z. record z { latest = record z.latest { free = Some 0 }; trail = w.trail; seen = w.seen } in
-      let same : w ≡ change u = empty.rest ∙ (λ i. record u { latest = record u.latest { free = Some 0 }; trail = sym e i; seen = w.seen }) in
+      let same : w ≡ change u = empty.rest ∙ (λ i. record u
+      { latest = record u.latest { free = Some 0 }; trail = sym e i; seen = w.seen }) in
       let sees = subst (λ z. Sees z w.seen) tried.rest empty.sees in record {
-        trail = record { steps = tried.trail.steps; some = tried.trail.some; trail = e ∙ ap ended_empty tried.trail.trail };
         sees = record { works = sees.works; begins = sees.begins; own = sees.own };
-        full = λ settled paid. empty.full (ap (λ (z : View). z.moving) tried.rest ∙ settled) (ap (λ (z : View). z.hands.owes) tried.rest ∙ paid);
-        spare_comes = λ none nothing. empty.spare_comes (ap (λ (z : View). z.hands.spare) (sym empty.rest) ∙ none) (ap (λ (z : View). z.hands.retired) (sym empty.rest) ∙ nothing);
+        full = λ settled paid. empty.full (ap (λ (z : View). z.moving) tried.rest ∙ settled)
+            (ap (λ (z : View). z.hands.owes) tried.rest ∙ paid);
+        spare_comes = λ none nothing. empty.spare_comes (ap (λ (z : View). z.hands.spare) (sym empty.rest) ∙ none)
+            (ap (λ (z : View). z.hands.retired) (sym empty.rest) ∙ nothing);
         rest = same ∙ ap change tried.rest;
       }
 
 -- A scan.
 pub scanned_none : (v : View) → HasScanned v v
-scanned_none v = record { trail = adds_none v.trail; rest = refl }
+scanned_none v = record { rest = refl }
 
 pub tried_none : (v : View) → HasTried v v
-tried_none v = record { trail = adds_none v.trail; rest = refl }
+tried_none v = record { rest = refl }
 
 module _ (v u w : View) (slot : ℕ) (scanned : HasScanned v u) where
   pub scanned_more : (found : ℕ) → FoundTaken u slot found w → HasScanned v w
   scanned_more found taken =
       let e = ap (λ (z : View). z.trail) taken.rest in record {
-        trail = adds_both v.trail u.trail w.trail scanned.trail (subst (AddsSome u.trail) (sym e) (adds_step u K11 (State slot) found tt));
         rest = taken.rest ∙ (λ i. record u { trail = sym e i }) ∙ ap (λ (z : View). record z { trail = w.trail }) scanned.rest;
       }
 
   pub got : (generation : ℕ) → HasSeized u slot generation w → HasGot v slot generation w
   got generation seized =
       let life : ℕ = seized.life in
-      let one : StepMade = record { kind = K11; field = State slot; number = 0 } in
-      let two : StepMade = record { kind = K9; field = Life slot; number = life } in
       let e = ap (λ (z : View). z.trail) seized.rest in
-      let change : View → View = λ z. record (noting z slot (Life slot) life false) { hands = record (noting z slot (Life slot) life false).hands { reserved = false; hand = Some (aged slot life) }; trail = w.trail; seen = w.seen } in
-      let same : w ≡ change u = seized.rest ∙ (λ i. record (noting u slot (Life slot) life false) { hands = record (noting u slot (Life slot) life false).hands { reserved = false; hand = Some (aged slot life) }; trail = sym e i; seen = w.seen }) in
+      let change : View → View = λ z. record (noting z slot (Life slot) life false) {
+        hands = record (noting z slot (Life slot) life false).hands { reserved = false; hand = Some (aged slot life) };
+        trail = w.trail;
+        seen = w.seen;
+      } in
+      let same : w ≡ change u = seized.rest ∙ (λ i. record (noting u slot (Life slot) life false) {
+        hands = record (noting u slot (Life slot) life false).hands { reserved = false; hand = Some (aged slot life) };
+        trail = sym e i;
+        seen = w.seen;
+      }) in
       let given = subst (λ z. Leaves z (Given slot) w) scanned.rest seized.given in record {
         life = life;
         generation_is = seized.generation_is;
         few = seized.few;
-        given = record { before = given.before; seen = record { works = given.seen.works; begins = given.seen.begins; own = given.seen.own }; marked = given.marked };
-        trail = adds_both v.trail u.trail w.trail scanned.trail (record {
-          steps = one ∷ two ∷ [];
-          some = (tt, (tt, tt));
-          trail = e ∙ ap (λ l. record u.trail { steps = l }) (append_assoc u.trail.steps (one ∷ []) (two ∷ []));
-        });
+        given = record {
+          before = given.before;
+          seen =
+              record { works = given.seen.works; begins = given.seen.begins; own = given.seen.own };
+          marked = given.marked;
+        };
         rest = same ∙ ap change scanned.rest;
       }
 
+pub got_later : (v u w : View) (slot generation : ℕ) → HasScanned v u → HasGot u slot generation w → HasGot v slot generation w
+got_later v u w slot generation scanned had =
+    let life : ℕ = had.life in
+    let change : View → View = λ z. record (noting z slot (Life slot) life false) {
+      hands = record (noting z slot (Life slot) life false).hands { reserved = false; hand = Some (aged slot life) };
+      trail = w.trail;
+      seen = w.seen;
+    } in
+    let given = subst (λ z. Leaves z (Given slot) w) scanned.rest had.given in record {
+      life = life;
+      generation_is = had.generation_is;
+      few = had.few;
+      given = record {
+        before = given.before;
+        seen = record { works = given.seen.works; begins = given.seen.begins; own = given.seen.own };
+        marked = given.marked;
+      };
+      rest = had.rest ∙ ap change scanned.rest;
+    }
+
 -- A reservation, and a slot for it.
-pub taken : (v u w : View) (slot generation : ℕ) → v.hands.reserved ≡ false → HasReserved v u → HasGot u slot generation w → HasTaken v slot generation w
+pub taken : (v u w : View) (slot generation : ℕ) → v.hands.reserved ≡ false → HasReserved v u → HasGot u slot generation w
+    → HasTaken v slot generation w
 taken v u w slot generation unreserved reserved had =
     let life : ℕ = had.life in
-    let change : View → View = λ z. record (noting z slot (Life slot) life false) { hands = record (noting z slot (Life slot) life false).hands { reserved = false; hand = Some (aged slot life) }; trail = w.trail; seen = w.seen } in
+    let change : View → View = λ z. record (noting z slot (Life slot) life false) {
+      hands = record (noting z slot (Life slot) life false).hands { reserved = false; hand = Some (aged slot life) };
+      trail = w.trail;
+      seen = w.seen;
+    } in
     let n : View = noting v slot (Life slot) life false in
     let free = ap (λ (z : View). z.latest.free) had.rest in
     let given = subst (λ z. Leaves z (Given slot) w) reserved.rest had.given in record {
       life = life;
       generation_is = had.generation_is;
       few = had.few;
-      given = record { before = given.before; seen = record { works = given.seen.works; begins = given.seen.begins; own = given.seen.own }; marked = given.marked };
-      trail = adds_both v.trail u.trail w.trail reserved.trail had.trail;
+      given = record {
+        before = given.before;
+        seen = record { works = given.seen.works; begins = given.seen.begins; own = given.seen.own };
+        marked = given.marked;
+      };
       rest = had.rest ∙ ap change reserved.rest ∙ (λ i. record n {
         allowance = record v.allowance { tickets = v.allowance.tickets - 1 };
         hands = record n.hands { reserved = sym unreserved i; hand = Some (aged slot life) };
@@ -127,5 +149,6 @@ taken v u w slot generation unreserved reserved had =
     }
 
 -- A slot that was taken may be put back.
-pub may_put_back : (v w : View) (slot generation : ℕ) → HasTaken v slot generation w → (held : Held) × (w.hands.hand ≡ Some held) × (held.raised ≡ false)
+pub may_put_back : (v w : View) (slot generation : ℕ) → HasTaken v slot generation w
+    → (held : Held) × (w.hands.hand ≡ Some held) × (held.raised ≡ false)
 may_put_back v w slot generation had = (aged slot had.life, ap (λ (z : View). z.hands.hand) had.rest, refl)

@@ -52,14 +52,24 @@ pub record BecomesSpare (v : View) (slot : ℕ) (w : View) : Type 0 where
   pub none : v.hands.spare ≡ None
   pub life : ℕ
   pub given : Leaves v (Given slot) w
-  pub rest : w ≡ record v { hands = record v.hands { spare = Some (new_spare slot (next_life life)); retired = without_retired slot v.hands.retired }; trail = w.trail; seen = w.seen }
+  pub rest : w ≡ record v {
+    hands = record v.hands
+        { spare = Some (new_spare slot (next_life life)); retired = without_retired slot v.hands.retired };
+    trail = w.trail;
+    seen = w.seen;
+  }
 
 -- The place had a spare. The slot is free, with the next generation, and the free count is one more.
 pub record BecomesFree (v : View) (slot : ℕ) (w : View) : Type 0 where
   pub some : (held : Held) × (v.hands.spare ≡ Some held)
   pub found : ℕ
   pub freed : Leaves v (Freed slot) w
-  pub rest : w ≡ record v { hands = record v.hands { retired = without_retired slot v.hands.retired }; latest = record v.latest { free = Some (found + 1) }; trail = w.trail; seen = w.seen }
+  pub rest : w ≡ record v {
+    hands = record v.hands { retired = without_retired slot v.hands.retired };
+    latest = record v.latest { free = Some (found + 1) };
+    trail = w.trail;
+    seen = w.seen;
+  }
 
 abbrev pub Returns : View → ℕ → View → Type 0
 Returns v slot w = BecomesSpare v slot w ⊎ BecomesFree v slot w
@@ -84,7 +94,12 @@ first_spare (spare ∷ none) slots = spare ∷ none
 pub record GivesBack (v : View) (slots : List ℕ) (w : View) : Type 0 where
   pub marks : LeavesEach v (return_marks (held_list v.hands.spare) slots) w
   pub spare : held_list w.hands.spare ≡ first_spare (held_list v.hands.spare) slots
-  pub rest : w ≡ record v { hands = record v.hands { spare = w.hands.spare; retired = without_all slots v.hands.retired }; latest = record v.latest { free = w.latest.free }; trail = w.trail; seen = w.seen }
+  pub rest : w ≡ record v {
+    hands = record v.hands { spare = w.hands.spare; retired = without_all slots v.hands.retired };
+    latest = record v.latest { free = w.latest.free };
+    trail = w.trail;
+    seen = w.seen;
+  }
 
 -- One wait for everybody was begun and has ended, and each slot that was retired went back then.
 pub record HasReclaimed (k : Shape) (v : View) (listed : List ℕ) (w : View) : Type 0 where
@@ -92,7 +107,8 @@ pub record HasReclaimed (k : Shape) (v : View) (listed : List ℕ) (w : View) : 
   pub waits : HasWaited k v 0 18446744073709551615 waited
   pub gives : GivesBack waited (first_slots (length listed) listed) w
   pub seen : IsPrefix v.seen w.seen
-  pub own : own_of v.allowance.place w.seen ≡ own_of v.allowance.place v.seen ++ Began v.allowance.place v.counts.waits 0 18446744073709551615 ∷ Ended v.allowance.place v.counts.waits ∷ []
+  pub own : own_of v.allowance.place w.seen ≡ own_of v.allowance.place v.seen
+      ++ Began v.allowance.place v.counts.waits 0 18446744073709551615 ∷ Ended v.allowance.place v.counts.waits ∷ []
   pub spare : held_list w.hands.spare ≡ first_spare (held_list v.hands.spare) listed
   pub rest : w ≡ record v {
     allowance = record v.allowance { tickets = v.allowance.tickets - 1 };

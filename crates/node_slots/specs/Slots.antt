@@ -50,7 +50,11 @@ Reserves k v expected (Lost found) w = FoundOther v expected found w
 
 -- a slot that was seized, and whose life was loaded since
 abbrev pub aged : ℕ → ℕ → Held
-aged slot life = record { slot = slot; known = record { field = Life slot; number = life; stored = false } ∷ (seized slot).known; raised = false }
+aged slot life = record {
+  slot = slot;
+  known = record { field = Life slot; number = life; stored = false } ∷ (seized slot).known;
+  raised = false;
+}
 
 -- The slot was found free and is in hand for the reservation, given anew. Its life was loaded then.
 pub record HasSeized (v : View) (slot generation : ℕ) (w : View) : Type 0 where
@@ -59,7 +63,11 @@ pub record HasSeized (v : View) (slot generation : ℕ) (w : View) : Type 0 wher
   pub few : generation ≤ 1099511627776
   pub given : Leaves v (Given slot) w
   pub rest : let u : View = noting v slot (Life slot) life false in
-      w ≡ record u { hands = record u.hands { reserved = false; hand = Some (aged slot life) }; trail = (stepped (stepped v K11 (State slot) 0) K9 (Life slot) life).trail; seen = w.seen }
+      w ≡ record u {
+        hands = record u.hands { reserved = false; hand = Some (aged slot life) };
+        trail = (stepped (stepped v K11 (State slot) 0) K9 (Life slot) life).trail;
+        seen = w.seen;
+      }
 
 -- The slot was found not to be free.
 pub record FoundTaken (v : View) (slot found : ℕ) (w : View) : Type 0 where
@@ -86,7 +94,8 @@ pub record PutsBack (v : View) (slot : ℕ) (w : View) : Type 0 where
       w ≡ record u {
         hands = record u.hands { hand = None };
         latest = record v.latest { free = Some (found + 1) };
-        trail = (stepped (stepped (stepped (stepped v K9 (Life slot) life) K12 (Life slot) (next_life life)) K15 (State slot) 0) K16 Free found).trail;
+        trail = (stepped (stepped (stepped (stepped v K9 (Life slot) life) K12 (Life slot) (next_life life)) K15
+            (State slot) 0) K16 Free found).trail;
         seen = w.seen;
       }
 

@@ -1,7 +1,7 @@
 //! What the calls answer.
 
 /// What `reserve` answers.
-#[derive(Clone, Copy, Debug, PartialEq, Eq)]
+#[derive(Clone, Copy)]
 pub enum Reserve {
     /// The free count was the number expected, and is one less.
     Held,
@@ -12,7 +12,7 @@ pub enum Reserve {
 }
 
 /// What `seize` answers.
-#[derive(Clone, Copy, Debug, PartialEq, Eq)]
+#[derive(Clone, Copy)]
 pub enum Seize {
     /// The slot was free, and is in hand.
     Got { generation: u64 },
@@ -21,7 +21,7 @@ pub enum Seize {
 }
 
 /// What `take` answers.
-#[derive(Clone, Copy, Debug, PartialEq, Eq)]
+#[derive(Clone, Copy)]
 pub enum Taken {
     /// The slot was free, and is in hand.
     Slot { slot: u32, generation: u64 },
@@ -30,7 +30,7 @@ pub enum Taken {
 }
 
 /// What `try_lock` answers.
-#[derive(Clone, Copy, Debug, PartialEq, Eq)]
+#[derive(Clone, Copy)]
 pub enum Lock {
     /// The lock was free, and is the place's now.
     Held,

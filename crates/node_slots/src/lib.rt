@@ -4,12 +4,14 @@
 
 mod answers;
 mod locks;
+pub mod patient;
 mod reclaiming;
 mod slots;
+mod steadfast;
 mod taking;
 
 pub use answers::{Lock, Reserve, Seize, Taken};
 pub use locks::{try_lock, unlock};
-pub use reclaiming::{give_back, reclaim};
+pub use reclaiming::give_back;
 pub use slots::{put_back, reserve, retire, seize};
-pub use taking::take;
+pub use steadfast::{reclaim, take};

@@ -1,5 +1,5 @@
 //! The calls that give retired slots back, after a wait for everybody.
-ghost use Rattle.std.specs.Prelude.{◌≡◌, ℕ, ◌+◌, ◌≤◌, ◌<◌, false, List, [], ◌∷◌, length, Some, None};
+ghost use Rattle.std.specs.Prelude.{◌≡◌, ℕ, ◌+◌, ◌≤◌, ◌<◌, false, List, [], ◌∷◌, length, Some, None, IfOk};
 ghost use Rattle.list_laws.specs.Counts.{Each};
 ghost use Rattle.core_state.specs.declared.view.Held.{Held};
 ghost use Rattle.core_state.specs.declared.view.Retired.{Retired};
@@ -8,8 +8,9 @@ ghost use Rattle.seat_table.specs.Gains.{IsInformed};
 ghost use Rattle.node_slots.specs.Reclaiming.{IsReady, AreReady, BecomesSpare, BecomesFree, Returns, GivesBack, HasReclaimed, first_of, first_slots, without_slots};
 
 use key_interval::Keys;
-use seat_table::{CitrusTable, Seat, WaitPart, WaitWords, steps, wait_for_readers};
-use std::sync::Wait;
+use patience::Patience;
+use prcu_marks::OpenGate;
+use seat_table::{CitrusTable, Seat, WaitPart, WaitWords, steps, wait_in_grace};
 
 // Makes a retired slot the spare.
 fn keep_spare<W: WaitWords>(table: &CitrusTable<W>, seat: &mut Seat<W>, slot: u32)
@@ -45,6 +46,7 @@ fn free_retired<W: WaitWords>(table: &CitrusTable<W>, seat: &mut Seat<W>, slot: 
     steps::raise_retired(table, seat, slot, 2 * (life / 2 + 1));
     steps::free_retired(table, seat, slot);
     steps::count_free(table, seat);
+    seat.note_freed(slot);
 }
 
 // Gives a retired slot back, which becomes the spare where the place has none.
@@ -97,7 +99,11 @@ pub fn give_back<W: WaitWords>(table: &CitrusTable<W>, seat: &mut Seat<W>, count
 
 /// Waits until each reader has left that reads now, and gives all retired slots back then. Where the place has no spare the first of them
 /// becomes its spare.
-pub fn reclaim<R: Wait, W: WaitPart>(rt: &R, table: &CitrusTable<W>, seat: &mut Seat<W>)
+pub fn reclaim<P: Patience, W: WaitPart>(
+    patience: &P,
+    table: &CitrusTable<W>,
+    seat: &mut Seat<W>,
+) -> Result<(), P::Tired>
     requires table { seat.old.table ≡ table.now }
     requires outside { seat.old.view.section ≡ None }
     requires unlocked { seat.old.view.locks ≡ [] }
@@ -107,12 +113,13 @@ pub fn reclaim<R: Wait, W: WaitPart>(rt: &R, table: &CitrusTable<W>, seat: &mut 
     requires listed { AreListed seat.old }
     requires unraised { Each seat.old.view.hands.retired (λ (r : Retired). r.raised ≡ false) }
     ensures table { seat.new.table ≡ seat.old.table }
-    ensures listed { seat.new.listed ≡ [] }
-    ensures view { HasReclaimed (shape_of W.WAY table.now) seat.old.view seat.old.listed seat.new.view }
-    ensures informed { IsInformed seat.new.view }
+    ensures listed { IfOk result (λ _. seat.new.listed ≡ []) }
+    ensures view { IfOk result (λ _. HasReclaimed (shape_of W.WAY table.now) seat.old.view seat.old.listed seat.new.view) }
+    ensures informed { IfOk result (λ _. IsInformed seat.new.view) }
 {
     // For all keys: a reader may stand at a retired slot whatever its key. docs/TREE.md#the-tree
-    wait_for_readers(rt, table, seat, Keys::all());
+    wait_in_grace(patience, table, seat, &OpenGate, Keys::all())?;
     let count = seat.retired().len();
     give_back(table, seat, count);
+    Ok(())
 }

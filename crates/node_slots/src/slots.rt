@@ -5,6 +5,7 @@ ghost use Rattle.core_state.specs.declared.view.Held.{Held};
 ghost use Rattle.core_state.specs.declared.view.Retired.{Retired};
 ghost use Rattle.core_state.specs.views.Known.{HasLock};
 ghost use Rattle.core_state.specs.steps.Slots.{IsInHand, IsRetiredAt};
+ghost use Rattle.seat_table.specs.Scans.{after_look};
 ghost use Rattle.seat_table.specs.Seats.{shape_of};
 ghost use Rattle.seat_table.specs.Gains.{IsInformed, StaysIn};
 ghost use Rattle.node_slots.specs.Slots.{Reserves, Seizes, PutsBack};
@@ -20,7 +21,7 @@ pub fn reserve<W: WaitWords>(table: &CitrusTable<W>, seat: &mut Seat<W>, expecte
     requires unreserved { seat.old.view.hands.reserved ≡ false }
     requires empty { seat.old.view.hands.hand ≡ None }
     requires ticket { 1 ≤ seat.old.view.allowance.tickets }
-    ensures seat { (seat.new.table ≡ seat.old.table) × (seat.new.listed ≡ seat.old.listed) }
+    ensures seat { (seat.new.table ≡ seat.old.table) × (seat.new.listed ≡ seat.old.listed) × (seat.new.looked ≡ seat.old.looked) }
     ensures view { Reserves (shape_of W.WAY table.now) seat.old.view expected result seat.new.view }
     ensures informed { IsInformed seat.new.view }
     ensures stays { StaysIn (shape_of W.WAY table.now) seat.new.view }
@@ -42,6 +43,7 @@ pub fn seize<W: WaitWords>(table: &CitrusTable<W>, seat: &mut Seat<W>, slot: u32
     requires reserved { seat.old.view.hands.reserved ≡ true }
     requires slot { (1 ≤ slot) × (slot ≤ table.now.slots + table.now.places) }
     ensures seat { (seat.new.table ≡ seat.old.table) × (seat.new.listed ≡ seat.old.listed) }
+    ensures looked { seat.new.looked ≡ after_look (table.now.slots + table.now.places) seat.old.looked slot }
     ensures view { Seizes seat.old.view slot result seat.new.view }
     ensures informed { IsInformed seat.new.view }
     ensures stays { StaysIn (shape_of W.WAY table.now) seat.new.view }
@@ -61,7 +63,7 @@ pub fn put_back<W: WaitWords>(table: &CitrusTable<W>, seat: &mut Seat<W>)
     requires table { seat.old.table ≡ table.now }
     requires paid { seat.old.view.hands.owes ≡ false }
     requires hand { (held : Held) × (seat.old.view.hands.hand ≡ Some held) × (held.raised ≡ false) }
-    ensures seat { (seat.new.table ≡ seat.old.table) × (seat.new.listed ≡ seat.old.listed) }
+    ensures seat { (seat.new.table ≡ seat.old.table) × (seat.new.listed ≡ seat.old.listed) × (seat.new.looked ≡ seat.old.looked) }
     ensures view { (held : Held) → seat.old.view.hands.hand ≡ Some held → PutsBack seat.old.view held.slot seat.new.view }
     ensures informed { IsInformed seat.new.view }
     ensures stays { StaysIn (shape_of W.WAY table.now) seat.new.view }
@@ -75,6 +77,7 @@ pub fn put_back<W: WaitWords>(table: &CitrusTable<W>, seat: &mut Seat<W>)
     steps::free_in_hand(table, seat, slot);
     // Counted last: a reservation stands for a slot that is free already. docs/TREE_CALLS.md#the-trees-slots-and-locks
     steps::count_free(table, seat);
+    seat.note_freed(slot);
 }
 
 /// Lists a slot that this place unlinked, as the last one. A later `reclaim` or `give_back` gives it back.

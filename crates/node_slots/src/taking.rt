@@ -1,114 +1,137 @@
 //! The call that takes a free slot.
-ghost use Rattle.std.specs.Prelude.{◌≡◌, ℕ, ◌+◌, ◌≤◌, ◌<◌, true, false, None};
+ghost use Rattle.std.specs.Prelude.{◌≡◌, ℕ, ◌+◌, ◌≤◌, true, false, None, IfSome, IfNone, IfOk};
 ghost use Rattle.seat_table.specs.Seats.{shape_of};
 ghost use Rattle.seat_table.specs.Gains.{IsInformed, StaysIn};
 ghost use Rattle.node_slots.specs.declared.answers.Taken.TheVariants.{Slot};
-ghost use Rattle.node_slots.specs.Taking.{HasReserved, FoundNone, HasGot, Takes};
+ghost use Rattle.node_slots.specs.Taking.{HasReserved, FoundNone, HasScanned, HasGot, Takes, ReservesAtLast, TriesInVain, MissesFreed, FindsFreed, FindsInRound, TriesBy};
 
 use crate::answers::{Reserve, Seize, Taken};
 use crate::slots::{reserve, seize};
 use crossbeam_utils::Backoff;
-use seat_table::{CitrusTable, Seat, WaitWords};
-use std::sync::Wait;
+use patience::Patience;
+use seat_table::{CitrusTable, Seat, WaitWords, next_slot};
+
+/// A slot that was seized.
+#[derive(Drop)]
+struct Seized {
+    slot: u32,
+    generation: u64,
+}
 
 // Reserves a free slot, where there is one.
-fn reserve_some<R: Wait, W: WaitWords>(rt: &R, table: &CitrusTable<W>, seat: &mut Seat<W>) -> bool
+fn reserve_some<P: Patience, W: WaitWords>(
+    patience: &P,
+    table: &CitrusTable<W>,
+    seat: &mut Seat<W>,
+) -> Result<bool, P::Tired>
     requires table { seat.old.table ≡ table.now }
     requires unreserved { seat.old.view.hands.reserved ≡ false }
     requires empty { seat.old.view.hands.hand ≡ None }
     requires ticket { 1 ≤ seat.old.view.allowance.tickets }
-    ensures seat { (seat.new.table ≡ seat.old.table) × (seat.new.listed ≡ seat.old.listed) }
-    ensures reserved { result ≡ true → HasReserved seat.old.view seat.new.view }
-    ensures none { result ≡ false → FoundNone (shape_of W.WAY table.now) seat.old.view seat.new.view }
-    ensures informed { IsInformed seat.new.view }
-    ensures stays { StaysIn (shape_of W.WAY table.now) seat.new.view }
-    ensures within { seat.new.view.allowance.place < table.now.places }
+    ensures seat { (seat.new.table ≡ seat.old.table) × (seat.new.listed ≡ seat.old.listed) × (seat.new.looked ≡ seat.old.looked) }
+    ensures reserved { IfOk result (λ answer. answer ≡ true → HasReserved seat.old.view seat.new.view) }
+    ensures at_last { IfOk result (λ answer. answer ≡ true → ReservesAtLast (shape_of W.WAY table.now) seat.old.view seat.new.view) }
+    ensures none { IfOk result (λ answer. answer ≡ false → FoundNone (shape_of W.WAY table.now) seat.old.view seat.new.view) }
+    ensures in_vain { IfOk result (λ answer. answer ≡ false
+        → TriesInVain (shape_of W.WAY table.now) seat.old.view seat.old.looked seat.new.view seat.new.looked) }
+    ensures informed { IfOk result (λ _. IsInformed seat.new.view) }
+    ensures stays { IfOk result (λ _. StaysIn (shape_of W.WAY table.now) seat.new.view) }
 {
     let backoff = Backoff::new();
     let mut expected = seat.free_seen().max(1);
-    for _ in rt.forever() {
+    for _ in 0..u64::MAX {
         match reserve(table, seat, expected) {
-            Reserve::Held => return true,
-            Reserve::Empty => return false,
+            Reserve::Held => return Ok(true),
+            Reserve::Empty => return Ok(false),
             Reserve::Lost { found } => expected = found,
         }
         backoff.spin();
     }
-    unreachable!()
+    Err(patience.tired())
 }
 
-// The slot after this one, in a round that leaves the root out.
-fn next_slot(slot: u32, last: u32) -> u32
-    requires few { (1 ≤ last) × (last < 4294967295) }
-    ensures inside { (1 ≤ result) × (result ≤ last) }
-{
-    if slot < last { slot + 1 } else { 1 }
-}
-
-// Where the first scan of a place begins: each place has a region of the slots.
-fn region(slots: u32, places: u32, place: u32) -> u32
-    requires slots { (1 ≤ slots) × (slots ≤ 2097152) }
-    requires places { (place < places) × (places ≤ 64) }
-    ensures inside { (1 ≤ result) × (result ≤ slots + places) }
-{
-    let before = place as u64 * slots as u64 / places as u64;
-    places + 1 + before as u32
-}
-
-// Where the scan for a free slot begins: after the slot that was seized last, at first in the place's region.
-fn first_slot<W: WaitWords>(table: &CitrusTable<W>, seat: &Seat<W>) -> u32
-    requires within { seat.now.view.allowance.place < table.now.places }
-    ensures inside { (1 ≤ result) × (result ≤ table.now.slots + table.now.places) }
-{
-    let seized = seat.last_seized();
-    if seized == 0 {
-        return region(table.slots(), table.places(), seat.place());
-    }
-    next_slot(seized, table.slots() + table.places())
-}
-
-// Seizes a free slot for the reservation. Such a slot comes up sooner or later, since the reservation counts one.
-fn seize_some<R: Wait, W: WaitWords>(
-    rt: &R,
-    table: &CitrusTable<W>,
-    seat: &mut Seat<W>,
-) -> (u32, u64)
+// Looks at the slots that the seat freed, the last one first, and seizes the first that is free still.
+fn seize_freed<W: WaitWords>(table: &CitrusTable<W>, seat: &mut Seat<W>) -> Option<Seized>
     requires table { seat.old.table ≡ table.now }
     requires reserved { seat.old.view.hands.reserved ≡ true }
-    requires within { seat.old.view.allowance.place < table.now.places }
     ensures seat { (seat.new.table ≡ seat.old.table) × (seat.new.listed ≡ seat.old.listed) }
-    ensures got { HasGot seat.old.view result.0 result.1 seat.new.view }
-    ensures inside { (1 ≤ result.0) × (result.0 ≤ table.now.slots + table.now.places) }
-    ensures informed { IsInformed seat.new.view }
-    ensures stays { StaysIn (shape_of W.WAY table.now) seat.new.view }
+    ensures got { IfSome result (λ s. HasGot seat.old.view s.slot s.generation seat.new.view) }
+    ensures finds { IfSome result (λ s. FindsFreed
+        (table.now.slots + table.now.places) seat.old.view seat.old.looked s.slot seat.new.view seat.new.looked) }
+    ensures inside { IfSome result (λ s. (1 ≤ s.slot) × (s.slot ≤ table.now.slots + table.now.places)) }
+    ensures informed { IfSome result (λ _. IsInformed seat.new.view) }
+    ensures stays { IfSome result (λ _. StaysIn (shape_of W.WAY table.now) seat.new.view) }
+    ensures none { IfNone result (HasScanned seat.old.view seat.new.view) }
+    ensures misses { IfNone result (MissesFreed (table.now.slots
+        + table.now.places) seat.old.view seat.old.looked 64 seat.new.view seat.new.looked) }
+{
+    for i in 0..64_usize {
+        let Some(slot) = seat.take_freed() else {
+            return None;
+        };
+        if let Seize::Got { generation } = seize(table, seat, slot) {
+            return Some(Seized { slot, generation });
+        }
+    }
+    None
+}
+
+// Looks at one slot after another, from where the seat's scans have come to, and seizes the first free one. There is one sooner or later,
+// since the reservation counts one.
+fn scan<P: Patience, W: WaitWords>(
+    patience: &P,
+    table: &CitrusTable<W>,
+    seat: &mut Seat<W>,
+) -> Result<Seized, P::Tired>
+    requires table { seat.old.table ≡ table.now }
+    requires reserved { seat.old.view.hands.reserved ≡ true }
+    ensures seat { (seat.new.table ≡ seat.old.table) × (seat.new.listed ≡ seat.old.listed) }
+    ensures got { IfOk result (λ answer. HasGot seat.old.view answer.slot answer.generation seat.new.view) }
+    ensures finds { IfOk result (λ answer. FindsInRound
+        (table.now.slots + table.now.places) seat.old.view seat.old.looked answer.slot seat.new.view seat.new.looked) }
+    ensures inside { IfOk result (λ answer. (1 ≤ answer.slot) × (answer.slot ≤ table.now.slots + table.now.places)) }
+    ensures informed { IfOk result (λ _. IsInformed seat.new.view) }
+    ensures stays { IfOk result (λ _. StaysIn (shape_of W.WAY table.now) seat.new.view) }
 {
     let last = table.slots() + table.places();
-    let mut slot = first_slot(table, seat);
-    for _ in rt.forever() {
+    for _ in 0..u64::MAX {
+        let slot = next_slot(seat.last_looked(), last);
         if let Seize::Got { generation } = seize(table, seat, slot) {
-            return (slot, generation);
+            return Ok(Seized { slot, generation });
         }
-        slot = next_slot(slot, last);
     }
-    unreachable!()
+    Err(patience.tired())
 }
 
 /// Takes a free slot, where there is one. `Empty` comes exactly where the last exchange of the free count found 0; all before it found
-/// other numbers. A scan begins after the slot that the seat seized last, so that a round of the table is as long as its scans.
-pub fn take<R: Wait, W: WaitWords>(rt: &R, table: &CitrusTable<W>, seat: &mut Seat<W>) -> Taken
+/// other numbers.
+pub fn take<P: Patience, W: WaitWords>(
+    patience: &P,
+    table: &CitrusTable<W>,
+    seat: &mut Seat<W>,
+) -> Result<Taken, P::Tired>
     requires table { seat.old.table ≡ table.now }
     requires unreserved { seat.old.view.hands.reserved ≡ false }
     requires empty { seat.old.view.hands.hand ≡ None }
     requires ticket { 1 ≤ seat.old.view.allowance.tickets }
     ensures seat { (seat.new.table ≡ seat.old.table) × (seat.new.listed ≡ seat.old.listed) }
-    ensures view { Takes (shape_of W.WAY table.now) seat.old.view result seat.new.view }
-    ensures inside { (slot generation : ℕ) → result ≡ Slot slot generation → (1 ≤ slot) × (slot ≤ table.now.slots + table.now.places) }
-    ensures informed { IsInformed seat.new.view }
-    ensures stays { StaysIn (shape_of W.WAY table.now) seat.new.view }
+    ensures view { IfOk result (λ answer. Takes (shape_of W.WAY table.now) seat.old.view answer seat.new.view) }
+    ensures tries { IfOk result (λ answer. TriesBy
+        (shape_of W.WAY table.now) seat.old.view seat.old.looked answer seat.new.view seat.new.looked) }
+    ensures inside { IfOk result (λ answer. (slot generation : ℕ) → answer ≡ Slot slot generation
+        → (1 ≤ slot) × (slot ≤ table.now.slots + table.now.places)) }
+    ensures informed { IfOk result (λ _. IsInformed seat.new.view) }
+    ensures stays { IfOk result (λ _. StaysIn (shape_of W.WAY table.now) seat.new.view) }
 {
-    if !reserve_some(rt, table, seat) {
-        return Taken::Empty;
+    if !reserve_some(patience, table, seat)? {
+        return Ok(Taken::Empty);
     }
-    let (slot, generation) = seize_some(rt, table, seat);
-    Taken::Slot { slot, generation }
+    if let Some(Seized { slot, generation }) = seize_freed(table, seat) {
+        return Ok(Taken::Slot { slot, generation });
+    }
+    let found = scan(patience, table, seat)?;
+    Ok(Taken::Slot {
+        slot: found.slot,
+        generation: found.generation,
+    })
 }

@@ -15,9 +15,11 @@ pub may_look_first : (k : Shape) (v : View) (key : ℕ) (w : View) → HasEntere
 may_look_first k v key w entered = may_look v key [] w (entered_try v key w entered) k
 
 -- the section is entered and left, and the front looked at once
-module _ (k : Shape) (v : View) (key : ℕ) (entered : View) (found : ℕ) (looked left : View) (outside : v.section ≡ None) (enters : HasEntered v key entered) (tells : Told k entered LookAtFront found looked) (leaves : HasLeft looked left) where
+module _ (k : Shape) (v : View) (key : ℕ) (entered : View) (found : ℕ) (looked left : View) (outside : v.section ≡ None)
+    (enters : HasEntered v key entered) (tells : Told k entered LookAtFront found looked) (leaves : HasLeft looked left) where
   looked_once : HasTried v key (record { first = found; second = None } ∷ []) left
-  looked_once = left_try v key (found ∷ []) looked (first_try k v key key entered found looked refl enters tells) left outside leaves (record { first = found; second = None }) refl
+  looked_once = left_try v key (found ∷ []) looked (first_try k v key key entered found looked refl enters tells) left outside leaves
+      (record { first = found; second = None }) refl
 
   pub only_looked : OnlyLists v left
   only_looked = only_tried v left key (record { first = found; second = None } ∷ []) looked_once

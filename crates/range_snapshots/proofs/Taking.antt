@@ -47,14 +47,17 @@ only_tried v w key ts t = record {
 -- ---- snapshots of longer histories
 
 had_longer : (us more : List Update) (front : ℕ) → front ≤ length us → had_at us front ≡ had_at (us ++ more) front
-had_longer us more front within = (let get : Dictionary → ℕ → Option ℕ = λ m key. finite.get m key in sym (ap get (map_at-longer us more front within)))
+had_longer us more front within = (let get : Dictionary → ℕ → Option ℕ = λ m key. finite.get m key in
+    sym (ap get (map_at-longer us more front within)))
 
 module _ (low high : ℕ) where
-  pub snapshots_since : (us : List Update) (since later : ℕ) (ss : List SnapshotAt) → since ≤ later → AreSnapshots us low high later ss → AreSnapshots us low high since ss
+  pub snapshots_since : (us : List Update) (since later : ℕ) (ss : List SnapshotAt) → since ≤ later → AreSnapshots us low high later ss
+      → AreSnapshots us low high since ss
   snapshots_since us since later [] less are = tt
   snapshots_since us since later (s ∷ ss) less are = ((let from = are.0 in omega arith), are.1, are.2, are.3)
 
-  pub snapshots_longer : (us more : List Update) (since : ℕ) (ss : List SnapshotAt) → AreSnapshots us low high since ss → AreSnapshots (us ++ more) low high since ss
+  pub snapshots_longer : (us more : List Update) (since : ℕ) (ss : List SnapshotAt) → AreSnapshots us low high since ss
+      → AreSnapshots (us ++ more) low high since ss
   snapshots_longer us more since [] are = tt
   snapshots_longer us more since (s ∷ ss) are = (
     are.0,
@@ -65,30 +68,40 @@ module _ (low high : ℕ) where
 
   -- one, and then others of a history that begins with that of the first
   pub snapshots_next : (a b : List Mark) (since : ℕ) (s : SnapshotAt) (ss : List SnapshotAt) → IsPrefix a b
-      → AreSnapshots (updates_of a) low high since (s ∷ []) → AreSnapshots (updates_of b) low high (length (updates_of a)) ss → AreSnapshots (updates_of b) low high since (s ∷ ss)
+      → AreSnapshots (updates_of a) low high since (s ∷ []) → AreSnapshots (updates_of b) low high (length (updates_of a)) ss
+      → AreSnapshots (updates_of b) low high since (s ∷ ss)
   snapshots_next a b since s ss begins first others =
       let whole : updates_of a ++ updates_of begins.0 ≡ updates_of b = sym (updates_of-append a begins.0) ∙ ap updates_of begins.1 in
-      let one = subst (λ us. AreSnapshots us low high since (s ∷ [])) whole (snapshots_longer (updates_of a) (updates_of begins.0) since (s ∷ []) first) in
+      let one = subst (λ us. AreSnapshots us low high since (s ∷ [])) whole
+      (snapshots_longer (updates_of a) (updates_of begins.0) since (s ∷ []) first) in
       (one.0, one.1, one.2, snapshots_since (updates_of b) s.front (length (updates_of a)) ss first.1 others)
 
-  pub snapshots_seen : (a b : List Mark) (since : ℕ) (ss : List SnapshotAt) → IsPrefix a b → AreSnapshots (updates_of a) low high since ss → AreSnapshots (updates_of b) low high since ss
+  pub snapshots_seen : (a b : List Mark) (since : ℕ) (ss : List SnapshotAt) → IsPrefix a b → AreSnapshots (updates_of a) low high since ss
+      → AreSnapshots (updates_of b) low high since ss
   snapshots_seen a b since ss begins are =
-      subst (λ us. AreSnapshots us low high since ss) (sym (updates_of-append a begins.0) ∙ ap updates_of begins.1) (snapshots_longer (updates_of a) (updates_of begins.0) since ss are)
+      subst (λ us. AreSnapshots us low high since ss) (sym (updates_of-append a begins.0) ∙ ap updates_of begins.1)
+      (snapshots_longer (updates_of a) (updates_of begins.0) since ss are)
 
 -- ---- what a list answered is a snapshot
 
-pub whole_taken : (keys : Interval) (before now : List Mark) (front : ℕ) (page : Paged) → page.capacity ≡ 4096 → IsWhole keys now front page → IsBetweenFronts front before now
-    → AreSnapshots (updates_of now) keys.low keys.high (length (updates_of before)) (record { front = front; pairs = page.pairs; next = None } ∷ [])
+pub whole_taken : (keys : Interval) (before now : List Mark) (front : ℕ) (page : Paged) → page.capacity ≡ 4096 → IsWhole keys now front page
+    → IsBetweenFronts front before now
+    → AreSnapshots (updates_of now) keys.low keys.high (length (updates_of before))
+    (record { front = front; pairs = page.pairs; next = None } ∷ [])
 whole_taken keys before now front page room whole between = (between.0, between.1, (whole.pairs, (let fit = whole.fit in omega arith)), tt)
 
-pub part_taken : (keys : Interval) (before now : List Mark) (front next : ℕ) (page : Paged) → page.capacity ≡ 4096 → IsPart keys now front next page → IsBetweenFronts front before now
-    → AreSnapshots (updates_of now) keys.low keys.high (length (updates_of before)) (record { front = front; pairs = page.pairs; next = Some next } ∷ [])
-part_taken keys before now front next page room part between = (between.0, between.1, (part.pairs, part.full ∙ room, part.inside, part.there), tt)
+pub part_taken : (keys : Interval) (before now : List Mark) (front next : ℕ) (page : Paged) → page.capacity ≡ 4096
+    → IsPart keys now front next page → IsBetweenFronts front before now
+    → AreSnapshots (updates_of now) keys.low keys.high (length (updates_of before))
+    (record { front = front; pairs = page.pairs; next = Some next } ∷ [])
+part_taken keys before now front next page room part between =
+    (between.0, between.1, (part.pairs, part.full ∙ room, part.inside, part.there), tt)
 
 -- ---- the looks by which snapshots were found
 
 -- the looks of tries end with those of the last one
-last_looks : (place section : ℕ) (ts : List Try) (t : Try) → (last : ℕ) × (before : List Look) × (looks_from place section (ts ++ t ∷ []) ≡ before ++ looks_of place last (numbers_of t))
+last_looks : (place section : ℕ) (ts : List Try) (t : Try)
+    → (last : ℕ) × (before : List Look) × (looks_from place section (ts ++ t ∷ []) ≡ before ++ looks_of place last (numbers_of t))
 last_looks place section [] t = (section, [], append-nil (looks_of place section (numbers_of t)))
 last_looks place section (u ∷ us) t =
     let rest = last_looks place (section + 1) us t in
@@ -96,7 +109,8 @@ last_looks place section (u ∷ us) t =
     (rest.0, these ++ rest.1, ap (λ l. these ++ l) rest.2 ∙ sym (append_assoc these rest.1 (looks_of place rest.0 (numbers_of t))))
 
 -- a list that counted, after other looks
-pub looked_stood : (u v w : View) (key most : ℕ) (s : SnapshotAt) (ts : List Try) → OnlyLists u v → HasTried v key ts w → HasStood s.front most ts → HasLookedAt u w (s ∷ [])
+pub looked_stood : (u v w : View) (key most : ℕ) (s : SnapshotAt) (ts : List Try) → OnlyLists u v → HasTried v key ts w
+    → HasStood s.front most ts → HasLookedAt u w (s ∷ [])
 looked_stood u v w key most s ts only tried stood =
     let place : v.allowance.place ≡ u.allowance.place = ap (λ a. a.place) only.allowance in
     let n = v.counts.sections in
@@ -104,20 +118,32 @@ looked_stood u v w key most s ts only tried stood =
     let t : Try = record { first = 2 * s.front; second = Some (2 * s.front) } in
     let last = last_looks p n stood.1.0 t in
     let earlier = only.looks.0 in
-    let ends : looks_from v.allowance.place n ts ≡ last.1 ++ looks_of p last.0 (numbers_of t) = ap (λ q. looks_from q n ts) place ∙ ap (looks_from p n) stood.1.2 ∙ last.2 in
+    let ends : looks_from v.allowance.place n ts ≡ last.1 ++ looks_of p last.0 (numbers_of t) =
+    ap (λ q. looks_from q n ts) place ∙ ap (looks_from p n) stood.1.2 ∙ last.2 in
     record {
       since = earlier ++ looks_from v.allowance.place n ts;
-      added = tried.looks ∙ ap (λ l. l ++ looks_from v.allowance.place n ts) (sym only.looks.1) ∙ append_assoc u.looks earlier (looks_from v.allowance.place n ts);
-      found = (last.0, earlier ++ last.1, [], ap (λ l. earlier ++ l) ends ∙ sym (append_assoc earlier last.1 (looks_of p last.0 (numbers_of t))), tt);
+      added = tried.looks ∙ ap (λ l. l ++ looks_from v.allowance.place n ts) (sym only.looks.1)
+          ∙ append_assoc u.looks earlier (looks_from v.allowance.place n ts);
+      found = (
+        last.0,
+        earlier ++ last.1,
+        [],
+        ap (λ l. earlier ++ l) ends
+            ∙ sym (append_assoc earlier last.1 (looks_of p last.0 (numbers_of t))),
+        tt,
+      );
     }
 
 -- other looks may stand before
-pub looked_later : (place : ℕ) (before looks : List Look) (ss : List SnapshotAt) → WereLookedAt place looks ss → WereLookedAt place (before ++ looks) ss
+pub looked_later : (place : ℕ) (before looks : List Look) (ss : List SnapshotAt) → WereLookedAt place looks ss
+    → WereLookedAt place (before ++ looks) ss
 looked_later place before looks [] were = tt
-looked_later place before looks (s ∷ ss) were = (were.0, before ++ were.1, were.2, ap (λ l. before ++ l) were.3 ∙ sym (append_assoc before were.1 _), were.4)
+looked_later place before looks (s ∷ ss) were =
+    (were.0, before ++ were.1, were.2, ap (λ l. before ++ l) were.3 ∙ sym (append_assoc before were.1 _), were.4)
 
 -- one, and then others
-pub looked_next : (u v w : View) (s : SnapshotAt) (ss : List SnapshotAt) → OnlyLists u v → HasLookedAt u v (s ∷ []) → HasLookedAt v w ss → HasLookedAt u w (s ∷ ss)
+pub looked_next : (u v w : View) (s : SnapshotAt) (ss : List SnapshotAt) → OnlyLists u v → HasLookedAt u v (s ∷ []) → HasLookedAt v w ss
+    → HasLookedAt u w (s ∷ ss)
 looked_next u v w s ss only first others =
     let one = first.found in
     let more = others.since in

@@ -7,9 +7,12 @@ use Rattle.account_text.specs.Account.{IsAccount, HaveReplies}
 use Rattle.range_snapshots.specs.Snapshots.{SnapshotAt, AreSnapshots}
 use Rattle.range_snapshots.specs.WatchText.{watch_part, IsWatchText}
 
-pub watch_made : (scripts : List (List Op)) (slots low high : ℕ) (told : List (List Told)) (history : List Update) (account text : List ℕ) (snapshots : List SnapshotAt) → length snapshots ≡ 4 → AreSnapshots history low high 0 snapshots
-    → (a : IsAccount scripts slots account) × (a.history ≡ history) × HaveReplies told a.lines → text ≡ account ++ watch_part low high snapshots
-    → (watch : IsWatchText scripts slots low high text) × (watch.account.history ≡ history) × (watch.snapshots ≡ snapshots) × HaveReplies told watch.account.lines
+pub watch_made : (scripts : List (List Op)) (slots low high : ℕ) (told : List (List Told)) (history : List Update) (account text : List ℕ)
+    (snapshots : List SnapshotAt) → length snapshots ≡ 4 → AreSnapshots history low high 0 snapshots
+    → (a : IsAccount scripts slots account) × (a.history ≡ history) × HaveReplies told a.lines
+    → text ≡ account ++ watch_part low high snapshots
+    → (watch : IsWatchText scripts slots low high text) × (watch.account.history ≡ history) × (watch.snapshots ≡ snapshots)
+    × HaveReplies told watch.account.lines
 watch_made scripts slots low high told history account text snapshots four taken a printed = (
   record {
     account_text = account;

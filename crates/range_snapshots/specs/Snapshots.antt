@@ -18,14 +18,16 @@ pub record SnapshotAt : Type 0 where
 -- 4,096, and the next key of the map is the one after them.
 abbrev pub AreFirstPairs : (ℕ → Option ℕ) → ℕ → ℕ → List Pair → Option ℕ → Type 0
 AreFirstPairs map low high pairs None = ArePairs map low (high + 1) pairs × (length pairs ≤ 4096)
-AreFirstPairs map low high pairs (Some next) = ArePairs map low next pairs × (length pairs ≡ 4096) × (next ≤ high) × ((value : ℕ) × (map next ≡ Some value))
+AreFirstPairs map low high pairs (Some next) =
+    ArePairs map low next pairs × (length pairs ≡ 4096) × (next ≤ high) × ((value : ℕ) × (map next ≡ Some value))
 
 -- Snapshots of a history, taken one after another. The front of each is one of the history's, and isn't below the number given, nor below
 -- that of the snapshot before.
 abbrev pub AreSnapshots : List Update → ℕ → ℕ → ℕ → List SnapshotAt → Type 0
 AreSnapshots history low high since [] = Unit {0}
 AreSnapshots history low high since (s ∷ ss) =
-    (since ≤ s.front) × (s.front ≤ length history) × AreFirstPairs (had_at history s.front) low high s.pairs s.next × AreSnapshots history low high s.front ss
+    (since ≤ s.front) × (s.front ≤ length history) × AreFirstPairs (had_at history s.front) low high s.pairs s.next
+    × AreSnapshots history low high s.front ss
 
 -- what is there before a first snapshot is taken, and of a dictionary without updates
 abbrev pub none_yet : SnapshotAt
@@ -40,7 +42,8 @@ look_at place section front = record { place = place; section = section; front =
 abbrev pub WereLookedAt : ℕ → List Look → List SnapshotAt → Type 0
 WereLookedAt place looks [] = Unit {0}
 WereLookedAt place looks (s ∷ ss) =
-    (section : ℕ) × (earlier later : List Look) × (looks ≡ earlier ++ look_at place section s.front ∷ look_at place section s.front ∷ later) × WereLookedAt place later ss
+    (section : ℕ) × (earlier later : List Look) × (looks ≡ earlier ++ look_at place section s.front ∷ look_at place section s.front ∷ later)
+    × WereLookedAt place later ss
 
 -- From one view to the other the seat made some more looks, and snapshots were found by those.
 pub record HasLookedAt (v w : View) (snapshots : List SnapshotAt) : Type 0 where

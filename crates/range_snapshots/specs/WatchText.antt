@@ -17,7 +17,8 @@ block_text s = kind_text s.front s.next ++ codes " " ++ decimal (length s.pairs)
 
 -- the range, its snapshots, and `end`
 abbrev pub watch_part : ℕ → ℕ → List SnapshotAt → List ℕ
-watch_part low high snapshots = codes "watch " ++ decimal low ++ codes " " ++ decimal high ++ codes "\n" ++ flat_map block_text snapshots ++ codes "end\n"
+watch_part low high snapshots = codes "watch " ++ decimal low ++ codes " " ++ decimal high ++ codes "\n" ++ flat_map block_text snapshots
+    ++ codes "end\n"
 
 -- A text is a watch text of scripts, slots and a key range where it prints their account and, behind it, four snapshots of the range by
 -- the account's history, at fronts that never fall.

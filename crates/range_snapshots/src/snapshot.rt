@@ -89,7 +89,8 @@ impl Snapshot {
         ensures seat { seat.new.table ≡ seat.old.table }
         ensures quiet { IsQuietSeat seat.new }
         ensures only { OnlyLists seat.old.view seat.new.view }
-        ensures taken { AreSnapshots (updates_of seat.new.view.seen) keys.low keys.high (length (updates_of seat.old.view.seen)) (self.new ∷ []) }
+        ensures taken { AreSnapshots (updates_of seat.new.view.seen) keys.low keys.high (length (updates_of seat.old.view.seen))
+            (self.new ∷ []) }
         ensures looked { HasLookedAt seat.old.view seat.new.view (self.new ∷ []) }
     {
         pause(table, seat, keys.low(), pace);

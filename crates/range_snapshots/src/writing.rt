@@ -28,7 +28,8 @@ pub fn make_watch_text(
     requires explained { AreExplainable scripts.now (entries_of told.now) history.now slots }
     requires legal { IsLegal history.now }
     requires snapshots { AreSnapshots history.now keys.low keys.high 0 snapshots.now }
-    ensures { IfOk result (λ text. (watch : IsWatchText scripts.now slots keys.low keys.high text.items) × (watch.account.history ≡ history.now) × (watch.snapshots ≡ snapshots.now)
+    ensures { IfOk result (λ text. (watch : IsWatchText scripts.now slots keys.low keys.high text.items)
+        × (watch.account.history ≡ history.now) × (watch.snapshots ≡ snapshots.now)
         × HaveReplies (entries_of told.now) watch.account.lines) }
 {
     let mut text = make_account(alloc, scripts, told, history, slots)?;

@@ -42,19 +42,24 @@ either_is false x y = refl
 last_turned : (n : ℕ) → bit_xor n 1 ≡ turned_gate n
 last_turned n = dite (ℕ_discrete (n % 2) 0)
     (λ e. let half : n / 2 * 2 + 1 ≡ n + 1 = omega arith in
-    xor_step n 1 ∙ ap (λ r. bit_xor (n / 2) 0 * 2 + differ r 1) e ∙ ap (λ z. z * 2 + 1) (xor_zero_r (n / 2)) ∙ half ∙ ap (λ b. cond b (n + 1) (n - 1)) (sym (eq-eqb (n % 2) 0 e)))
+    xor_step n 1 ∙ ap (λ r. bit_xor (n / 2) 0 * 2 + differ r 1) e ∙ ap (λ z. z * 2 + 1) (xor_zero_r (n / 2)) ∙ half
+    ∙ ap (λ b. cond b (n + 1) (n - 1)) (sym (eq-eqb (n % 2) 0 e)))
     (λ ne. let one : n % 2 ≡ 1 = omega arith in let half : n / 2 * 2 + 0 ≡ n - 1 = omega arith in
-    xor_step n 1 ∙ ap (λ r. bit_xor (n / 2) 0 * 2 + differ r 1) one ∙ ap (λ z. z * 2 + 0) (xor_zero_r (n / 2)) ∙ half ∙ ap (λ b. cond b (n + 1) (n - 1)) (sym (ne_eqb (n % 2) 0 ne)))
+    xor_step n 1 ∙ ap (λ r. bit_xor (n / 2) 0 * 2 + differ r 1) one ∙ ap (λ z. z * 2 + 0) (xor_zero_r (n / 2)) ∙ half
+    ∙ ap (λ b. cond b (n + 1) (n - 1)) (sym (ne_eqb (n % 2) 0 ne)))
 
-module _ (k : Shape) (slots id : ℕ) (me : Me Nothing View) (c : Act) (word : ℕ) (is : is_field k (field_of me.0.allowance.place c) ≡ true) (at_word : word ≡ word_of k (field_of me.0.allowance.place c)) (works : Works me.0) (asks : Asks k me.0 c) where
+module _ (k : Shape) (slots id : ℕ) (me : Me Nothing View) (c : Act) (word : ℕ) (is : is_field k (field_of me.0.allowance.place c) ≡ true)
+    (at_word : word ≡ word_of k (field_of me.0.allowance.place c)) (works : Works me.0) (asks : Asks k me.0 c) where
   abbrev Holds : State Nothing View → Type 0
   Holds s = Rule k s.words s.views
 
   abbrev access : Access
   access = access_of me.0.allowance.place c
 
-  allows_field : (f : ℕ → ℕ) → ((n : ℕ) → n < 18446744073709551616 → StaysWord (access_of me.0.allowance.place c) n → f n ≡ left_by (access_of me.0.allowance.place c) n)
-      → Allows Holds slots id me (word_of k (field_of me.0.allowance.place c)) f (λ n. tells k c me (said_by (access_of me.0.allowance.place c) n))
+  allows_field : (f : ℕ → ℕ) → ((n : ℕ) → n < 18446744073709551616 → StaysWord (access_of me.0.allowance.place c) n
+      → f n ≡ left_by (access_of me.0.allowance.place c) n)
+      → Allows Holds slots id me (word_of k (field_of me.0.allowance.place c)) f
+      (λ n. tells k c me (said_by (access_of me.0.allowance.place c) n))
   allows_field f same s r len at below =
       let field : Field = (field_of me.0.allowance.place c) in
       let m : Memory = memory_of k s.words in
@@ -63,8 +68,11 @@ module _ (k : Shape) (slots id : ℕ) (me : Me Nothing View) (c : Act) (word : �
       let left : ℕ = left_by access (m field) in
       let w : View = done me.0 c h (m field) in
       let made : List Mark = marks me.0 c (m field) in
-      let kept : Invariant k (stored m field left) (set s.views id w) (h ++ made) = (acts_keep k m s.views h id me.0 c r.holds at works asks).0 in
-      let leaves : f (slice_index s.words (word_of k field)) ≡ left = ap f (sym found) ∙ same (m field) (subst (λ z. z < 18446744073709551616) (sym found) below) (fits k m s.views h r.holds.now id me.0 at c asks) in
+      let kept : Invariant k (stored m field left) (set s.views id w) (h ++ made) =
+      (acts_keep k m s.views h id me.0 c r.holds at works asks).0 in
+      let leaves : f (slice_index s.words (word_of k field)) ≡ left =
+      ap f (sym found) ∙ same (m field) (subst (λ z. z < 18446744073709551616) (sym found) below)
+      (fits k m s.views h r.holds.now id me.0 at c asks) in
       let rule : Rule k (set s.words (word_of k field) left) (set s.views id w) = record {
         marks = h ++ made;
         long = length-set s.words (word_of k field) left ∙ r.long;
@@ -74,17 +82,25 @@ module _ (k : Shape) (slots id : ℕ) (me : Me Nothing View) (c : Act) (word : �
       let m' : Memory = stored m field left in
       let vs' : List View = set s.views id w in
       let h' : List Mark = h ++ made in
-      let still : Works w = still_works k.places s.views id me.0 w at r.holds.now.seats.placed kept.now.seats.placed (kept.now.seats.spent id w there) works in
+      let still : Works w = still_works k.places s.views id me.0 w at r.holds.now.seats.placed kept.now.seats.placed
+      (kept.now.seats.spent id w there) works in
       let telling : tells k c me (said_by access (m field)) (w, me.1) = (
         refl,
-        record { marks = h'; sees = sees k m' vs' h' kept.now id w there still; word = m'; tells = told_of k m' vs' h' id w kept.now there still; apart = tells_apart k m' vs' h' kept.now id w there },
+        record {
+          marks = h';
+          sees = sees k m' vs' h' kept.now id w there still;
+          word = m';
+          tells = told_of k m' vs' h' id w kept.now there still;
+          apart = tells_apart k m' vs' h' kept.now id w there;
+        },
         record {
           marks = h;
           sees = sees k m s.views h r.holds.now id me.0 at works;
           goes = refl;
           informed = informed k m' vs' h' kept.now id w there;
           fits = said_fits k field access (m field) (word_fits k m s.views h r.holds.now id me.0 at field is)
-              (subst (WordFits k field) (ap (λ t. cond t left (m field)) (same_self field)) (word_fits k m' vs' h' kept.now id w there field is));
+              (subst (WordFits k field) (ap (λ t. cond t left (m field)) (same_self field))
+              (word_fits k m' vs' h' kept.now id w there field is));
           gains = gains k m s.views h r.holds.now id me.0 at c works asks;
           stood = stood_inside k m' vs' h' kept.now id w there;
           side = has_side k m' vs' h' kept.now id w there;
@@ -99,37 +115,52 @@ module _ (k : Shape) (slots id : ℕ) (me : Me Nothing View) (c : Act) (word : �
         subst (λ z. tells k c me (said_by access z) (w, me.1)) found telling,
       )
 
-  allows : (f : ℕ → ℕ) → ((n : ℕ) → n < 18446744073709551616 → StaysWord (access_of me.0.allowance.place c) n → f n ≡ left_by (access_of me.0.allowance.place c) n)
+  allows : (f : ℕ → ℕ) → ((n : ℕ) → n < 18446744073709551616 → StaysWord (access_of me.0.allowance.place c) n
+      → f n ≡ left_by (access_of me.0.allowance.place c) n)
       → Allows Holds slots id me word f (λ n. tells k c me (said_by (access_of me.0.allowance.place c) n))
   allows f same = subst (λ i. Allows Holds slots id me i f (λ n. tells k c me (said_by access n))) (sym at_word) (allows_field f same)
 
   pub allows_load : (access_of me.0.allowance.place c) ≡ Load → Allows Holds slots id me word (λ n. n) (tells k c me)
-  allows_load is = subst (λ a. Allows Holds slots id me word (λ n. n) (λ n. tells k c me (said_by a n))) is (allows (λ n. n) (λ n small fits. sym (ap (λ a. left_by a n) is)))
+  allows_load is = subst (λ a. Allows Holds slots id me word (λ n. n) (λ n. tells k c me (said_by a n))) is
+      (allows (λ n. n) (λ n small fits. sym (ap (λ a. left_by a n) is)))
 
   pub allows_store : (x : ℕ) → (access_of me.0.allowance.place c) ≡ Store x → Allows Holds slots id me word (λ _. x) (λ _. tells k c me x)
-  allows_store x is = subst (λ a. Allows Holds slots id me word (λ _. x) (λ n. tells k c me (said_by a n))) is (allows (λ _. x) (λ n small fits. sym (ap (λ a. left_by a n) is)))
+  allows_store x is = subst (λ a. Allows Holds slots id me word (λ _. x) (λ n. tells k c me (said_by a n))) is
+      (allows (λ _. x) (λ n small fits. sym (ap (λ a. left_by a n) is)))
 
-  pub allows_exchange : (old new : ℕ) → (access_of me.0.allowance.place c) ≡ Exchange old new → Allows Holds slots id me word (λ n. either (n == old) new n) (tells k c me)
-  allows_exchange old new is = subst (λ a. Allows Holds slots id me word (λ n. either (n == old) new n) (λ n. tells k c me (said_by a n))) is
+  pub allows_exchange : (old new : ℕ) → (access_of me.0.allowance.place c) ≡ Exchange old new
+      → Allows Holds slots id me word (λ n. either (n == old) new n) (tells k c me)
+  allows_exchange old new is = subst (λ a. Allows Holds slots id me word (λ n. either (n == old) new n)
+      (λ n. tells k c me (said_by a n))) is
       (allows (λ n. either (n == old) new n) (λ n small fits. either_is (n == old) new n ∙ sym (ap (λ a. left_by a n) is)))
 
-  pub allows_add : (x : ℕ) → (access_of me.0.allowance.place c) ≡ Add x → Allows Holds slots id me word (λ n. (n + x) % 2 ^ 64) (tells k c me)
+  pub allows_add : (x : ℕ) → (access_of me.0.allowance.place c) ≡ Add x
+      → Allows Holds slots id me word (λ n. (n + x) % 2 ^ 64) (tells k c me)
   allows_add x is = subst (λ a. Allows Holds slots id me word (λ n. (n + x) % 2 ^ 64) (λ n. tells k c me (said_by a n))) is
-      (allows (λ n. (n + x) % 2 ^ 64) (λ n small fits. let sum : n + x < 18446744073709551616 = subst (λ a. StaysWord a n) is fits in let whole : (n + x) % 2 ^ 64 ≡ n + x = omega arith in whole ∙ sym (ap (λ a. left_by a n) is)))
+      (allows (λ n. (n + x) % 2 ^ 64) (λ n small fits. let sum : n + x < 18446744073709551616 = subst (λ a. StaysWord a n) is fits in
+      let whole : (n + x) % 2 ^ 64 ≡ n + x = omega arith in whole ∙ sym (ap (λ a. left_by a n) is)))
 
-  pub allows_subtract : (x : ℕ) → x ≤ 1 → (access_of me.0.allowance.place c) ≡ Subtract x → Allows Holds slots id me word (λ n. (n + (2 ^ 64 - x)) % 2 ^ 64) (tells k c me)
-  allows_subtract x one is = subst (λ a. Allows Holds slots id me word (λ n. (n + (2 ^ 64 - x)) % 2 ^ 64) (λ n. tells k c me (said_by a n))) is
-      (allows (λ n. (n + (2 ^ 64 - x)) % 2 ^ 64) (λ n small fits. let there : x ≤ n = subst (λ a. StaysWord a n) is fits in let less : (n + (2 ^ 64 - x)) % 2 ^ 64 ≡ n - x = omega arith in less ∙ sym (ap (λ a. left_by a n) is)))
+  pub allows_subtract : (x : ℕ) → x ≤ 1 → (access_of me.0.allowance.place c) ≡ Subtract x
+      → Allows Holds slots id me word (λ n. (n + (2 ^ 64 - x)) % 2 ^ 64) (tells k c me)
+  allows_subtract x one is = subst (λ a. Allows Holds slots id me word (λ n. (n + (2 ^ 64 - x)) % 2 ^ 64)
+      (λ n. tells k c me (said_by a n))) is
+      (allows (λ n. (n + (2 ^ 64 - x)) % 2 ^ 64) (λ n small fits. let there : x ≤ n = subst (λ a. StaysWord a n) is fits in
+      let less : (n + (2 ^ 64 - x)) % 2 ^ 64 ≡ n - x = omega arith in less ∙ sym (ap (λ a. left_by a n) is)))
 
   pub allows_flip : (access_of me.0.allowance.place c) ≡ Flip → Allows Holds slots id me word (λ n. bit_xor n 1) (tells k c me)
-  allows_flip is = subst (λ a. Allows Holds slots id me word (λ n. bit_xor n 1) (λ n. tells k c me (said_by a n))) is (allows (λ n. bit_xor n 1) (λ n small fits. last_turned n ∙ sym (ap (λ a. left_by a n) is)))
+  allows_flip is = subst (λ a. Allows Holds slots id me word (λ n. bit_xor n 1) (λ n. tells k c me (said_by a n))) is
+      (allows (λ n. bit_xor n 1) (λ n small fits. last_turned n ∙ sym (ap (λ a. left_by a n) is)))
 
 -- the shape that clauses see is the table's
 pub same_shape : (way : ℕ) (key k : Shape) → key.waiter ≡ way_of way → k ≡ with_way way key → k ≡ key
-same_shape way key k is same = let e = sym is in same ∙ (λ i. record { waiter = e i; slots = key.slots; places = key.places; tickets = key.tickets })
+same_shape way key k is same = let e = sym is in
+    same ∙ (λ i. record { waiter = e i; slots = key.slots; places = key.places; tickets = key.tickets })
 
 -- the same over the rule of a table, for what a call has picked
-pub as_table : (key k picked_shape : Shape) (picked c : Act) (slots id : ℕ) (me : Me Nothing View) (word : ℕ) (f : ℕ → ℕ) (then : Shape → Act → ℕ → Me Nothing View → Type 0) → k ≡ key → picked_shape ≡ k → picked ≡ c
-    → Allows (λ (s : State Nothing View). Rule k s.words s.views) slots id me word f (then k c) → Allows (λ (s : State Nothing View). Rule key s.words s.views) slots id me word f (then picked_shape picked)
+pub as_table : (key k picked_shape : Shape) (picked c : Act) (slots id : ℕ) (me : Me Nothing View) (word : ℕ) (f : ℕ → ℕ)
+    (then : Shape → Act → ℕ → Me Nothing View → Type 0) → k ≡ key → picked_shape ≡ k → picked ≡ c
+    → Allows (λ (s : State Nothing View). Rule k s.words s.views) slots id me word f (then k c)
+    → Allows (λ (s : State Nothing View). Rule key s.words s.views) slots id me word f (then picked_shape picked)
 as_table key k picked_shape picked c slots id me word f then is same is_case allowed =
-    subst (λ (z : Shape × Shape × Act). Allows (λ (s : State Nothing View). Rule z.0 s.words s.views) slots id me word f (then z.1 z.2)) (λ i. (is i, sym same i, sym is_case i)) allowed
+    subst (λ (z : Shape × Shape × Act). Allows (λ (s : State Nothing View). Rule z.0 s.words s.views) slots id me word f (then z.1 z.2))
+    (λ i. (is i, sym same i, sym is_case i)) allowed

@@ -64,7 +64,8 @@ at_front (y ∷ ys) rest (suc i) x below e = at_front ys rest i x (omega arith) 
 -- what holds of all marks holds of a beginning of them
 grace_front : (a rest : List Mark) → Grace (a ++ rest) → Grace a
 grace_front a rest grace i j e p n low high q c x began ended entered before least most =
-    let t = grace i j e p n low high q c x (at_longer a rest i _ began) (at_longer a rest j _ ended) (at_longer a rest e _ entered) before least most in
+    let t = grace i j e p n low high q c x (at_longer a rest i _ began) (at_longer a rest j _ ended)
+    (at_longer a rest e _ entered) before least most in
     let end = at_below a j _ ended in
     (t.0, t.1, t.2, at_front a rest t.0 _ (let less = t.2 in omega arith) t.3)
 
@@ -109,9 +110,11 @@ sum_most test (suc n) = let rest = sum_most test n in let one = flag_most (test 
 
 sum_part : (f : ℕ → ℕ) (n s : ℕ) → s < n → f s ≤ sum_below f n
 sum_part f zero s below = absurd (omega arith)
-sum_part f (suc n) s below = dite (ℕ_discrete s n) (λ e. let same : f s ≡ f n = ap f e in omega arith) (λ ne. let rest = sum_part f n s (omega arith) in omega arith)
+sum_part f (suc n) s below = dite (ℕ_discrete s n) (λ e. let same : f s ≡ f n = ap f e in omega arith)
+    (λ ne. let rest = sum_part f n s (omega arith) in omega arith)
 
-pub said_fits : (k : Shape) (field : Field) (a : Access) (n : ℕ) → WordFits k field n → WordFits k field (left_by a n) → WordFits k field (said_by a n)
+pub said_fits : (k : Shape) (field : Field) (a : Access) (n : ℕ) → WordFits k field n → WordFits k field (left_by a n)
+    → WordFits k field (said_by a n)
 said_fits k field Load n found left = found
 said_fits k field (Store x) n found left = left
 said_fits k field (Exchange old new) n found left = found
@@ -120,25 +123,29 @@ said_fits k field (Subtract x) n found left = found
 said_fits k field Flip n found left = found
 
 -- a view that worked at a place still does: nobody else answers for its places
-pub still_works : (places : ℕ) (vs : List View) (id : ℕ) (v w : View) → get_elem? vs id ≡ some v → ArePlaced places vs → ArePlaced places (set vs id w) → (w.allowance.places ≡ 0 → w ≡ spent_view) → Works v → Works w
+pub still_works : (places : ℕ) (vs : List View) (id : ℕ) (v w : View) → get_elem? vs id ≡ some v → ArePlaced places vs
+    → ArePlaced places (set vs id w) → (w.allowance.places ≡ 0 → w ≡ spent_view) → Works v → Works w
 still_works places vs id v w at before after spent works = dite (ℕ_discrete w.allowance.places 0)
     (λ none.
     let p : ℕ = v.allowance.place in
     let had = works_there v works in
     let moved = total_set (λ (u : View). times p (places_of u)) vs id v w at in
-    let same : total (λ (u : View). times p (places_of u)) (set vs id w) ≡ total (λ (u : View). times p (places_of u)) vs = after p ∙ sym (before p) in
+    let same : total (λ (u : View). times p (places_of u)) (set vs id w) ≡ total (λ (u : View). times p (places_of u)) vs =
+    after p ∙ sym (before p) in
     let gone : times p (places_of w) ≡ 0 = ap (λ (u : View). times p (places_of u)) (spent none) in
     absurd (omega arith))
     (λ some_place. omega arith)
 
-module _ (k : Shape) (m : Memory) (vs : List View) (h : List Mark) (i : HoldsNow k m vs h) (id : ℕ) (v : View) (at : get_elem? vs id ≡ some v) where
+module _ (k : Shape) (m : Memory) (vs : List View) (h : List Mark) (i : HoldsNow k m vs h) (id : ℕ) (v : View)
+    (at : get_elem? vs id ≡ some v) where
   pub sees : Works v → Sees v h
   sees works = record { works = works; begins = i.marks.seen.begins id v at; own = (i.seats.owned id v at).met }
 
   -- the waits of a place and its tickets are paid for
   few_waits : v.counts.waits + v.allowance.tickets ≤ 1099511627776
   few_waits = dite (ℕ_discrete v.allowance.places 0)
-      (λ none. let e = i.seats.spent id v at none in let waits : v.counts.waits ≡ 0 = ap (λ (z : View). z.counts.waits) e in let tickets : v.allowance.tickets ≡ 0 = ap (λ (z : View). z.allowance.tickets) e in omega arith)
+      (λ none. let e = i.seats.spent id v at none in let waits : v.counts.waits ≡ 0 = ap (λ (z : View). z.counts.waits) e in
+      let tickets : v.allowance.tickets ≡ 0 = ap (λ (z : View). z.allowance.tickets) e in omega arith)
       (λ some_place.
       let counted = (i.seats.counted id v at (omega arith)).waits in
       let part = begun_part v.allowance.place h in
@@ -159,7 +166,8 @@ module _ (k : Shape) (m : Memory) (vs : List View) (h : List Mark) (i : HoldsNow
   pub informed : IsInformed v
   informed =
       let more = i.marks.seen.begins id v at in record {
-        legal = AreUpdatesFrom-front finite.empty (updates_of v.seen) (updates_of more.0) (subst IsLegal (ap updates_of (sym more.1) ∙ updates_of-append v.seen more.0) i.front.legal);
+        legal = AreUpdatesFrom-front finite.empty (updates_of v.seen) (updates_of more.0)
+            (subst IsLegal (ap updates_of (sym more.1) ∙ updates_of-append v.seen more.0) i.front.legal);
         grace = grace_front v.seen more.0 (subst Grace (sym more.1) i.grace.grace);
         reuse = reuse_front v.seen more.0 (subst Reuse (sym more.1) i.grace.reuse);
         few_waits = few_waits;
@@ -170,15 +178,19 @@ module _ (k : Shape) (m : Memory) (vs : List View) (h : List Mark) (i : HoldsNow
   small_clock = let paid = i.counts.clock in let few = i.table.few_tickets in omega arith
 
   small_free : m Free ≤ 2097217
-  small_free = let free = i.counts.free in let most = sum_most (λ s. m (StateWord s) == 0) (slot_count k) in let a = i.table.few_slots in let b = i.table.few_places in omega arith
+  small_free = let free = i.counts.free in let most = sum_most (λ s. m (StateWord s) == 0) (slot_count k) in let a = i.table.few_slots in
+      let b = i.table.few_places in omega arith
 
   pub small_front : m Front ≤ 2199023255553
   small_front =
       let paid = i.counts.clock in
       let few = i.table.few_tickets in
-      ⊎_elim (λ even. let is = even.0 in omega arith) (λ (odd : IsOddBy m vs (length (updates_of h))). let is = odd.word in let updates = odd.updates in odd_case odd.commit.stored odd.commit.found refl updates is) i.front.turned
+      ⊎_elim (λ even. let is = even.0 in omega arith)
+      (λ (odd : IsOddBy m vs (length (updates_of h))). let is = odd.word in let updates = odd.updates in
+      odd_case odd.commit.stored odd.commit.found refl updates is) i.front.turned
     where
-      odd_case : (stored : Bool) (found : ℕ) → stored ≡ stored → found + cond stored 2 0 ≡ 2 * length (updates_of h) → m Front ≡ found + 1 → m Front ≤ 2199023255553
+      odd_case : (stored : Bool) (found : ℕ) → stored ≡ stored → found + cond stored 2 0 ≡ 2 * length (updates_of h) → m Front ≡ found + 1
+          → m Front ≤ 2199023255553
       odd_case true found e updates is = let paid = i.counts.clock in let few = i.table.few_tickets in omega arith
       odd_case false found e updates is = let paid = i.counts.clock in let few = i.table.few_tickets in omega arith
 
@@ -186,7 +198,8 @@ module _ (k : Shape) (m : Memory) (vs : List View) (h : List Mark) (i : HoldsNow
   small_count : (c side : ℕ) → k.waiter ≡ Domain → c < 64 → side < 2 → m (Count c side) ≤ 64
   small_count c side way small few =
       let is = (i.waiters.domain way).counts c side small few in
-      let most = total_le (λ (u : View). inside_count c side u.section) (λ (u : View). length (places_of u)) vs (λ j u there. one_each u u.section refl (λ section inside. (i.seats.sections j u there section inside).works)) in
+      let most = total_le (λ (u : View). inside_count c side u.section) (λ (u : View). length (places_of u)) vs
+      (λ j u there. one_each u u.section refl (λ section inside. (i.seats.sections j u there section inside).works)) in
       let places = all_places k m vs h i in
       let few_places = i.table.few_places in
       omega arith
@@ -195,23 +208,29 @@ module _ (k : Shape) (m : Memory) (vs : List View) (h : List Mark) (i : HoldsNow
       at_most true = omega arith
       at_most false = omega arith
 
-      one_each : (u : View) (o : Option Section) → u.section ≡ o → ((section : Section) → u.section ≡ Some section → Works u) → inside_count c side o ≤ length (places_of u)
+      one_each : (u : View) (o : Option Section) → u.section ≡ o → ((section : Section) → u.section ≡ Some section → Works u)
+          → inside_count c side o ≤ length (places_of u)
       one_each u None e works = omega arith
-      one_each u (Some section) e works = let one = at_most (class_of section.key == c && section.stamp == side) in let some_place = works section e in let long = places_length u in omega arith
+      one_each u (Some section) e works = let one = at_most (class_of section.key == c && section.stamp == side) in
+          let some_place = works section e in let long = places_length u in omega arith
 
   -- and the view's own is one of them
-  own_count : (c side : ℕ) (section : Section) → k.waiter ≡ Domain → c < 64 → side < 2 → v.section ≡ Some section → c ≡ class_of section.key → side ≡ section.stamp → 1 ≤ m (Count c side)
+  own_count : (c side : ℕ) (section : Section) → k.waiter ≡ Domain → c < 64 → side < 2 → v.section ≡ Some section → c ≡ class_of section.key
+      → side ≡ section.stamp → 1 ≤ m (Count c side)
   own_count c side section way small few inside at_class at_side =
       let is = (i.waiters.domain way).counts c side small few in
       let part = total_part (λ (u : View). inside_count c side u.section) vs id v at in
-      let mine : inside_count c side v.section ≡ 1 = ap (inside_count c side) inside ∙ ap (λ b. cond b 1 0) (both_true _ _ (eq-eqb (class_of section.key) c (sym at_class)) (eq-eqb section.stamp side (sym at_side))) in
+      let mine : inside_count c side v.section ≡ 1 =
+      ap (inside_count c side) inside ∙ ap (λ b. cond b 1 0)
+      (both_true _ _ (eq-eqb (class_of section.key) c (sym at_class)) (eq-eqb section.stamp side (sym at_side))) in
       omega arith
 
   pub fits : (a : Act) → Asks k v a → StaysWord (access_of v.allowance.place a) (m (field_of v.allowance.place a))
   fits (BeginWait low high) asks = let small = small_clock in omega arith
   fits CountFree asks = let small = small_free in omega arith
   fits (EnterByCount key side) (has, needs) = let small = small_count (class_of key) side has.0 (omega arith) has.2 in omega arith
-  fits (LeaveByCount class side) (has, needs) = own_count class side needs.0 has.0 has.1 has.2 needs.1.section_is needs.1.class_is needs.1.side_is
+  fits (LeaveByCount class side) (has, needs) =
+      own_count class side needs.0 has.0 has.1 has.2 needs.1.section_is needs.1.class_is needs.1.side_is
   fits _ asks = tt
 
   -- the number in a word is small
@@ -221,9 +240,11 @@ module _ (k : Shape) (m : Memory) (vs : List View) (h : List Mark) (i : HoldsNow
       let by = i.locks.locked.named s below some_holder in
       let is = (i.locks.locked.held by.1.id by.1.view by.1.there s by.0 by.1.holds).0 in
       let works : 1 ≤ by.1.view.allowance.places = dite (ℕ_discrete by.1.view.allowance.places 0)
-      (λ none. let none_held : None ≡ Some by.0 = sym (ap (λ (z : View). lock_of z.locks s) (i.seats.spent by.1.id by.1.view by.1.there none)) ∙ by.1.holds in absurd (cc))
+      (λ none. let none_held : None ≡ Some by.0 = sym
+      (ap (λ (z : View). lock_of z.locks s) (i.seats.spent by.1.id by.1.view by.1.there none)) ∙ by.1.holds in absurd (cc))
       (λ some_place. omega arith) in
-      let place = place_within k.places vs i.seats.placed by.1.id by.1.view.allowance.place by.1.view by.1.there (works_there by.1.view works) in
+      let place = place_within k.places vs i.seats.placed by.1.id by.1.view.allowance.place by.1.view by.1.there
+      (works_there by.1.view works) in
       omega arith)
 
   life_small : (s : ℕ) → s < slot_count k → m (Life s) ≤ 2199023255553
@@ -234,8 +255,10 @@ module _ (k : Shape) (m : Memory) (vs : List View) (h : List Mark) (i : HoldsNow
       omega arith
 
   tag_small : (s : ℕ) (b : Side) → s < slot_count k → m (Tag s b) ≤ 1099511627776
-  tag_small s Left below = let part = sum_part (λ t. m (Tag t Left) + m (Tag t Right)) (slot_count k) s below in let paid = i.counts.tags in let few = i.table.few_tickets in omega arith
-  tag_small s Right below = let part = sum_part (λ t. m (Tag t Left) + m (Tag t Right)) (slot_count k) s below in let paid = i.counts.tags in let few = i.table.few_tickets in omega arith
+  tag_small s Left below = let part = sum_part (λ t. m (Tag t Left) + m (Tag t Right)) (slot_count k) s below in let paid = i.counts.tags in
+      let few = i.table.few_tickets in omega arith
+  tag_small s Right below = let part = sum_part (λ t. m (Tag t Left) + m (Tag t Right)) (slot_count k) s below in
+      let paid = i.counts.tags in let few = i.table.few_tickets in omega arith
 
   pub word_fits : (field : Field) → is_field k field ≡ true → WordFits k field (m field)
   word_fits Clock has = small_clock
@@ -251,15 +274,19 @@ module _ (k : Shape) (m : Memory) (vs : List View) (h : List Mark) (i : HoldsNow
   is_apart slot = record {
     not_both = λ held own j r gone.
         let in_retired = in_first v.hands.retired (joined_retired v.allowance.joined) r (j, gone.0) in
-        let listed : 1 ≤ times slot (map (λ (z : Retired). z.slot) (retired_of v)) = subst (λ s. 1 ≤ times s (map (λ (z : Retired). z.slot) (retired_of v))) gone.1 (times_in (λ (z : Retired). z.slot) (retired_of v) r in_retired) in
+        let listed : 1 ≤ times slot (map (λ (z : Retired). z.slot) (retired_of v)) =
+        subst (λ s. 1 ≤ times s (map (λ (z : Retired). z.slot) (retired_of v))) gone.1
+        (times_in (λ (z : Retired). z.slot) (retired_of v) r in_retired) in
         let all = slots_count v slot in
         let spares = spares_count v slot in
         let below = own_below m (slot_count k) i.chart vs h i.slots id v at slot (omega arith) in
         let role = i.slots.roles.once slot below in
         let part = total_part (λ (u : View). times slot (slots_of u)) vs id v at in
         ⊎_elim
-        (λ (mine : IsInHand v held slot). absurd (let there : 1 ≤ times slot (held_list v.hands.hand) = subst (λ s. 1 ≤ times s (held_list v.hands.hand)) mine.1 (held_there v.hands.hand held mine.0) in omega arith))
-        (λ (mine : IsSpare v held slot). absurd (let there : 1 ≤ times slot (held_list v.hands.spare) = subst (λ s. 1 ≤ times s (held_list v.hands.spare)) mine.1 (held_there v.hands.spare held mine.0) in omega arith))
+        (λ (mine : IsInHand v held slot). absurd (let there : 1 ≤ times slot (held_list v.hands.hand) =
+        subst (λ s. 1 ≤ times s (held_list v.hands.hand)) mine.1 (held_there v.hands.hand held mine.0) in omega arith))
+        (λ (mine : IsSpare v held slot). absurd (let there : 1 ≤ times slot (held_list v.hands.spare) =
+        subst (λ s. 1 ≤ times s (held_list v.hands.spare)) mine.1 (held_there v.hands.spare held mine.0) in omega arith))
         own;
   }
 
@@ -275,10 +302,12 @@ module _ (k : Shape) (m : Memory) (vs : List View) (h : List Mark) (i : HoldsNow
   -- the slots at which an open section stood are the table's
   pub stood_inside : StoodInside k v
   stood_inside = record {
-    stood = λ section s inside has. slot (⊎_elim (λ linked. i.tree.shape.within s linked) (λ held. let back = held.0 in gone_within k m vs h i s back.at back.gone)
+    stood = λ section s inside has. slot (⊎_elim (λ linked. i.tree.shape.within s linked)
+        (λ held. let back = held.0 in gone_within k m vs h i s back.at back.gone)
         ((i.readers.served id v at section inside).stood s has).here);
-    listed = λ section listing inside lists. slot (dite (ℕ_discrete listing.slot 0) (λ none. omega arith)
-        (λ some_slot. ⊎_elim (λ linked. i.tree.shape.within listing.slot linked) (λ back. gone_within k m vs h i listing.slot back.at back.gone) ((i.listings.listings id v at section listing inside lists).here some_slot)));
+    listed = λ section listing t inside lists has. slot
+        (⊎_elim (λ linked. i.tree.shape.within t.slot linked) (λ back. gone_within k m vs h i t.slot back.at back.gone)
+        ((i.listings.listings id v at section listing inside lists).visits has.0 t has.1).here);
   }
     where
       slot : {s : ℕ} → s < slot_count k → IsSlot k s
@@ -291,11 +320,15 @@ module _ (k : Shape) (m : Memory) (vs : List View) (h : List Mark) (i : HoldsNow
       let whole : updates_of h ≡ updates_of v.seen ++ updates_of more.0 = ap updates_of (sym more.1) ∙ updates_of-append v.seen more.0 in
       record {
         within = within_front (updates_of v.seen) (updates_of more.0) k.slots (subst (λ us. StaysWithin us k.slots) whole all);
-        others = λ p past. begins_none (own_of p v.seen) (own_of p more.0) (sym (own_of-append p v.seen more.0) ∙ ap (own_of p) more.1 ∙ i.seats.within p past);
+        others = λ p past. begins_none (own_of p v.seen) (own_of p more.0)
+            (sym (own_of-append p v.seen more.0) ∙ ap (own_of p) more.1 ∙ i.seats.within p past);
       }
 
   pub has_side : HasSide k v
   has_side = record { small = λ section inside domain. (i.waiters.domain domain).sides id v at section inside }
 
-pub word_below : (way : ℕ) (t : TableAt) (v : View) (a : Act) (word words : ℕ) → word ≡ word_of (shape_of way t) (field_of v.allowance.place a) → words ≡ word_count (shape_of way t) → Asks (shape_of way t) v a → word < words
-word_below way t v a word words at is asks = subst (λ (z : ℕ × ℕ). z.0 < z.1) (λ i. (sym at i, sym is i)) (word_inside (shape_of way t) (field_of v.allowance.place a) (has_word (shape_of way t) (field_of v.allowance.place a) asks.0))
+pub word_below : (way : ℕ) (t : TableAt) (v : View) (a : Act) (word words : ℕ)
+    → word ≡ word_of (shape_of way t) (field_of v.allowance.place a) → words ≡ word_count (shape_of way t) → Asks (shape_of way t) v a
+    → word < words
+word_below way t v a word words at is asks = subst (λ (z : ℕ × ℕ). z.0 < z.1) (λ i. (sym at i, sym is i))
+    (word_inside (shape_of way t) (field_of v.allowance.place a) (has_word (shape_of way t) (field_of v.allowance.place a) asks.0))

@@ -47,20 +47,26 @@ use Rattle.seat_table.specs.Gains.{GivesAnswer, LeavesAnswer, AreGone, FindsFull
 use Rattle.seat_table.proofs.Facts.{is_apart}
 use Rattle.seat_table.proofs.Records.{value_now}
 
-module _ (k : Shape) (m : Memory) (vs : List View) (h : List Mark) (i : HoldsNow k m vs h) (id : ℕ) (v : View) (at : get_elem? vs id ≡ some v) where
+module _ (k : Shape) (m : Memory) (vs : List View) (h : List Mark) (i : HoldsNow k m vs h) (id : ℕ) (v : View)
+    (at : get_elem? vs id ≡ some v) where
   -- what the open section found, the dictionary said
   gives : (section : Section) → v.section ≡ Some section → GivesAnswer h section
   gives section inside =
       record {
-        absent = λ slot b no_list state. subst (λ z. WasSaid (updates_of h) section.key section.from (answer_of m (slot_count k) section.key z)) state (said no_list);
-        present = λ slot parent value b no_list state. subst (λ z. WasSaid (updates_of h) section.key section.from (answer_of m (slot_count k) section.key z)) state (said no_list);
+        absent = λ slot b no_list state. subst (λ z. WasSaid (updates_of h) section.key section.from
+            (answer_of m (slot_count k) section.key z)) state (said no_list);
+        present = λ slot parent value b no_list state. subst (λ z. WasSaid (updates_of h) section.key section.from
+            (answer_of m (slot_count k) section.key z)) state (said no_list);
         there = held;
       }
     where
-      said : section.listing ≡ None → WasSaid (updates_of h) section.key section.from (answer_of m (slot_count k) section.key section.reading.state)
+      said : section.listing ≡ None → WasSaid (updates_of h) section.key section.from
+          (answer_of m (slot_count k) section.key section.reading.state)
       said no_list = searches_are_answered k m vs h i section (record { id = id; view = v; there = at; inside = inside; no_list = no_list })
 
-      held : (slot parent : ℕ) (b : Side) → section.listing ≡ None → section.reading.state ≡ Found slot parent b None → IsIn section.reading.stood slot → section.reading.key ≡ section.key → (value : ℕ) × WasSaid (updates_of h) section.key section.from (Some value)
+      held : (slot parent : ℕ) (b : Side) → section.listing ≡ None → section.reading.state ≡ Found slot parent b None
+          → IsIn section.reading.stood slot → section.reading.key ≡ section.key
+          → (value : ℕ) × WasSaid (updates_of h) section.key section.from (Some value)
       held slot parent b no_list state here sought =
           let r : Reading = section.reading in
           let kept = in_first (open_reading v.section) v.records r (subst (λ x. IsIn (open_reading x) r) (sym inside) (0, refl)) in
@@ -70,7 +76,8 @@ module _ (k : Shape) (m : Memory) (vs : List View) (h : List Mark) (i : HoldsNow
           let key : m (Key slot) ≡ section.key = stood.key r.key well.1 ∙ sought in (
             m (Value slot),
             subst (WasSaid (updates_of h) section.key section.from) (follow_here m (slot_count k) slot section.key (well.0).some_slot key)
-                (subst (λ z. WasSaid (updates_of h) section.key section.from (answer_of m (slot_count k) section.key z)) state (said no_list)),
+                (subst (λ z. WasSaid (updates_of h) section.key section.from (answer_of m (slot_count k) section.key z)) state
+                (said no_list)),
           )
 
   -- what its turn found counts the updates, until its update is made
@@ -82,35 +89,51 @@ module _ (k : Shape) (m : Memory) (vs : List View) (h : List Mark) (i : HoldsNow
       let one : v ≡ odd.view = at_one vs odd.id v odd.view (subst (λ z. get_elem? vs z ≡ some v) same at) odd.there in
       let e : Some odd.commit ≡ Some commit = sym odd.has ∙ ap (λ (z : View). z.commit) (sym one) ∙ mine in
       let t : odd.commit ≡ commit = cc in
-      let all : commit.found + cond commit.stored 2 0 ≡ 2 * length (updates_of h) = subst (λ (z : Commit). z.found + cond z.stored 2 0 ≡ 2 * length (updates_of h)) t odd.updates in
-      let none : commit.found + cond false 2 0 ≡ 2 * length (updates_of h) = subst (λ b. commit.found + cond b 2 0 ≡ 2 * length (updates_of h)) unmade all in
+      let all : commit.found + cond commit.stored 2 0 ≡ 2 * length (updates_of h) =
+      subst (λ (z : Commit). z.found + cond z.stored 2 0 ≡ 2 * length (updates_of h)) t odd.updates in
+      let none : commit.found + cond false 2 0 ≡ 2 * length (updates_of h) =
+      subst (λ b. commit.found + cond b 2 0 ≡ 2 * length (updates_of h)) unmade all in
       omega arith)
       (λ other. let none : None ≡ Some commit = sym (odd.alone id v other at) ∙ mine in absurd (cc)))
       i.front.turned
 
   -- leaving adds no update
-  gives_later : (section : Section) (mark : Mark) → updates_of (mark ∷ []) ≡ [] → GivesAnswer h section → GivesAnswer (h ++ mark ∷ []) section
+  gives_later : (section : Section) (mark : Mark) → updates_of (mark ∷ []) ≡ [] → GivesAnswer h section
+      → GivesAnswer (h ++ mark ∷ []) section
   gives_later section mark none gives =
-      let same : updates_of (h ++ mark ∷ []) ≡ updates_of h = updates_of-append h (mark ∷ []) ∙ ap (λ us. updates_of h ++ us) none ∙ append-nil (updates_of h) in
+      let same : updates_of (h ++ mark ∷ []) ≡ updates_of h =
+      updates_of-append h (mark ∷ []) ∙ ap (λ us. updates_of h ++ us) none ∙ append-nil (updates_of h) in
       record {
-        absent = λ slot b no_list state. subst (λ us. WasSaid us section.key section.from None) (sym same) (gives.absent slot b no_list state);
-        present = λ slot parent value b no_list state. subst (λ us. WasSaid us section.key section.from (Some value)) (sym same) (gives.present slot parent value b no_list state);
-        there = λ slot parent b no_list state here sought. (let given = gives.there slot parent b no_list state here sought in (given.0, subst (λ us. WasSaid us section.key section.from (Some given.0)) (sym same) given.1));
+        absent = λ slot b no_list state. subst (λ us. WasSaid us section.key section.from None) (sym same)
+            (gives.absent slot b no_list state);
+        present = λ slot parent value b no_list state. subst (λ us. WasSaid us section.key section.from (Some value)) (sym same)
+            (gives.present slot parent value b no_list state);
+        there = λ slot parent b no_list state here sought. (let given = gives.there slot parent b no_list state here sought in
+            (given.0, subst (λ us. WasSaid us section.key section.from (Some given.0)) (sym same) given.1));
       }
 
   -- after an update there is one more
-  counted : (w : View) (commit : Commit) (marks : List Mark) → w.seen ≡ h ++ marks → length (updates_of marks) ≡ 1 → v.commit ≡ Some commit → commit.stored ≡ false → IsCounted v w
+  counted : (w : View) (commit : Commit) (marks : List Mark) → w.seen ≡ h ++ marks → length (updates_of marks) ≡ 1 → v.commit ≡ Some commit
+      → commit.stored ≡ false → IsCounted v w
   counted w commit marks seen one mine unmade = record {
     found = λ other is.
-        let e : length (updates_of w.seen) ≡ length (updates_of h) + length (updates_of marks) = ap (λ s. length (updates_of s)) seen ∙ ap length (updates_of-append h marks) ∙ length-append (updates_of h) (updates_of marks) in
+        let e : length (updates_of w.seen) ≡ length (updates_of h) + length (updates_of marks) =
+        ap (λ s. length (updates_of s)) seen ∙ ap length (updates_of-append h marks)
+        ∙ length-append (updates_of h) (updates_of marks) in
         let same : Some commit ≡ Some other = sym mine ∙ is in
         let same_commit : commit ≡ other = cc in
-        let found : other.found ≡ 2 * length (updates_of h) = subst (λ (z : Commit). z.found ≡ 2 * length (updates_of h)) same_commit (commit_counts commit mine unmade) in
+        let found : other.found ≡ 2 * length (updates_of h) =
+        subst (λ (z : Commit). z.found ≡ 2 * length (updates_of h)) same_commit (commit_counts commit mine unmade) in
         omega arith;
   }
 
-  left_gives : (w : View) (section : Section) → v.section ≡ Some section → w.seen ≡ h ++ LeftMark v.allowance.place section.count ∷ [] → LeavesAnswer v w
-  left_gives w section mine seen = record { answer = λ other inside. subst (λ s. GivesAnswer s other) (sym seen) (gives_later other (LeftMark v.allowance.place section.count) refl (gives other inside)) }
+  left_gives : (w : View) (section : Section) → v.section ≡ Some section → w.seen ≡ h ++ LeftMark v.allowance.place section.count ∷ []
+      → LeavesAnswer v w
+  left_gives w section mine seen = record {
+    answer =
+        λ other inside. subst (λ s. GivesAnswer s other) (sym seen)
+        (gives_later other (LeftMark v.allowance.place section.count) refl (gives other inside));
+  }
 
   -- a slot that was free is none of the view's
   was_no_own : (slot : ℕ) → slot < slot_count k → WasNoOwn v slot (m (StateWord slot))
@@ -130,9 +153,11 @@ module _ (k : Shape) (m : Memory) (vs : List View) (h : List Mark) (i : HoldsNow
         let word = (i.locks.locked.held by.1.id by.1.view by.1.there slot by.0 by.1.holds).0 in
         let place : by.1.view.allowance.place ≡ v.allowance.place = omega arith in
         let other_works : Works by.1.view = dite (ℕ_discrete by.1.view.allowance.places 0)
-        (λ spent. absurd (let e : None ≡ Some by.0 = sym (ap (λ (z : View). lock_of z.locks slot) (i.seats.spent by.1.id by.1.view by.1.there spent)) ∙ by.1.holds in cc))
+        (λ spent. absurd (let e : None ≡ Some by.0 =
+        sym (ap (λ (z : View). lock_of z.locks slot) (i.seats.spent by.1.id by.1.view by.1.there spent)) ∙ by.1.holds in cc))
         (λ some_place. omega arith) in
-        let same : by.1.id ≡ id = places_apart k.places vs i.seats.placed by.1.id id v.allowance.place by.1.view v by.1.there at (subst (λ p. 1 ≤ times p (places_of by.1.view)) place (works_there by.1.view other_works)) (works_there v works) in
+        let same : by.1.id ≡ id = places_apart k.places vs i.seats.placed by.1.id id v.allowance.place by.1.view v by.1.there at
+        (subst (λ p. 1 ≤ times p (places_of by.1.view)) place (works_there by.1.view other_works)) (works_there v works) in
         let one : by.1.view ≡ v = at_one vs id by.1.view v (subst (λ z. get_elem? vs z ≡ some by.1.view) same by.1.there) at in
         let e : None ≡ Some by.0 = sym none ∙ ap (λ (z : View). lock_of z.locks slot) (sym one) ∙ by.1.holds in
         cc;
@@ -145,7 +170,8 @@ module _ (k : Shape) (m : Memory) (vs : List View) (h : List Mark) (i : HoldsNow
         let is = i.listings.listings id v at section listing inside lists in
         let even_front : IsEven listing.front = subst IsEven found even in
         let now = is.now even_front found in
-        let front : m Front ≡ 2 * length (updates_of h) = ⊎_elim (λ e. e.0) (λ (odd : IsOddBy m vs (length (updates_of h))). absurd (odd_not odd even)) i.front.turned in
+        let front : m Front ≡ 2 * length (updates_of h) =
+        ⊎_elim (λ e. e.0) (λ (odd : IsOddBy m vs (length (updates_of h))). absurd (odd_not odd even)) i.front.turned in
         let since = is.since even_front in
         record { front = sym found ∙ front; since = omega arith; facts = now.facts; gaps = now.gaps };
   }
@@ -153,7 +179,8 @@ module _ (k : Shape) (m : Memory) (vs : List View) (h : List Mark) (i : HoldsNow
       odd_not : IsOddBy m vs (length (updates_of h)) → IsEven (m Front) → ⊥
       odd_not odd even = by_stored odd.commit.stored odd.commit.found refl odd.updates odd.word even
         where
-          by_stored : (stored : Bool) (found : ℕ) → stored ≡ stored → found + cond stored 2 0 ≡ 2 * length (updates_of h) → m Front ≡ found + 1 → IsEven (m Front) → ⊥
+          by_stored : (stored : Bool) (found : ℕ) → stored ≡ stored → found + cond stored 2 0 ≡ 2 * length (updates_of h)
+              → m Front ≡ found + 1 → IsEven (m Front) → ⊥
           by_stored true found e updates word even = absurd (omega arith)
           by_stored false found e updates word even = absurd (omega arith)
 
@@ -169,7 +196,8 @@ module _ (k : Shape) (m : Memory) (vs : List View) (h : List Mark) (i : HoldsNow
   }
 
   -- where the free count is 0, the dictionary is full
-  finds_full : (expected : ℕ) → Works v → NeedsReserve v expected → FindsFull k v (m Free) (after_reserve (noted v (Reserve expected) (m Free)) expected (m Free) h)
+  finds_full : (expected : ℕ) → Works v → NeedsReserve v expected
+      → FindsFull k v (m Free) (after_reserve (noted v (Reserve expected) (m Free)) expected (m Free) h)
   finds_full expected works needs = record {
     full = λ none still paid.
         let w : View = after_reserve (noted v (Reserve expected) (m Free)) expected (m Free) h in
@@ -178,19 +206,29 @@ module _ (k : Shape) (m : Memory) (vs : List View) (h : List Mark) (i : HoldsNow
         let second : (n == 0) ≡ true = eq-eqb n 0 none in
         let u : View = noted v (Reserve expected) n in
         let empty : View = record (with_free u 0) { seen = h } in
-        let is : w ≡ empty = ap (λ b. cond b (reserving (with_free u (expected - 1))) (cond (n == 0) empty (with_free u n))) first ∙ ap (λ b. cond b empty (with_free u n)) second in
+        let is : w ≡ empty = ap (λ b. cond b (reserving (with_free u (expected - 1))) (cond (n == 0) empty (with_free u n))) first
+        ∙ ap (λ b. cond b empty (with_free u n)) second in
         let seen : w.seen ≡ h = ap (λ (z : View). z.seen) is in
         let retired : w.hands.retired ≡ v.hands.retired = ap (λ (z : View). z.hands.retired) is in
-        subst (λ (z : List Mark × List Retired). k.slots ≤ finite.len (map_of (updates_of z.0)) + length z.1 + 20 * (k.places - 1)) (λ i. (sym seen i, sym retired i))
-        (empty_is_full k m vs h i id v at (record { works = works; reserved = needs.unreserved; hand = needs.empty; owes = paid; moving = still }) none);
+        subst (λ (z : List Mark × List Retired). k.slots ≤ finite.len (map_of (updates_of z.0)) + length z.1 + 20 * (k.places - 1))
+        (λ i. (sym seen i, sym retired i))
+        (empty_is_full k m vs h i id v at (record {
+          works = works;
+          reserved = needs.unreserved;
+          hand = needs.empty;
+          owes = paid;
+          moving = still;
+        }) none);
   }
 
   -- leaving a section
-  leaves : (section : Section) → v.section ≡ Some section → (w : View) (count : ℕ) → count ≡ section.count → w.seen ≡ h ++ LeftMark v.allowance.place count ∷ [] → LeavesAnswer v w
+  leaves : (section : Section) → v.section ≡ Some section → (w : View) (count : ℕ) → count ≡ section.count
+      → w.seen ≡ h ++ LeftMark v.allowance.place count ∷ [] → LeavesAnswer v w
   leaves section inside w count is seen = left_gives w section inside (seen ∙ ap (λ c. h ++ LeftMark v.allowance.place c ∷ []) is)
 
   -- by the act, what is gained
-  pub gains : (a : Act) → Works v → Asks k v a → Gains k v a h (said v a (m (field_of v.allowance.place a))) (done v a h (m (field_of v.allowance.place a)))
+  pub gains : (a : Act) → Works v → Asks k v a → Gains k v a h (said v a (m (field_of v.allowance.place a)))
+      (done v a h (m (field_of v.allowance.place a)))
   gains LoadClock works asks = record { each = (i.seats.owned id v at).joined }
   gains LeaveByStamp works (has, needs) = leaves needs.0 needs.1 _ _ (ap (λ (s : Section). s.count) (section_is v needs.0 needs.1)) refl
   gains (BeginWait low high) works asks = are_gone _ low high refl
@@ -198,18 +236,31 @@ module _ (k : Shape) (m : Memory) (vs : List View) (h : List Mark) (i : HoldsNow
   gains (Reserve expected) works (has, needs) = finds_full expected works needs
   gains (Seize slot) works (has, needs) = was_no_own slot has
   gains (TakeLock slot) works (has, needs) = is_others slot has works
-  gains (LinkLeaf slot b leaf key value) works (has, (commit, r, lock, held, generation, tag, needs, key_is)) = counted _ commit _ refl refl needs.has_commit.commit_is needs.has_commit.unmade
-  gains (Bypass parent b node child key) works (has, (commit, r, left, right, needs, key_is)) = counted _ commit _ refl refl needs.has_commit.commit_is needs.has_commit.unmade
-  gains (LinkCopy parent b node copy old old_parent key next_key) works (has, (commit, r, held, left, right, value, needs, key_is)) = record {
-    counted = counted _ commit _ refl refl needs.has_commit.commit_is needs.has_commit.unmade;
-    next = subst (λ x. IsNextKey (map_of (updates_of h)) x next_key) key_is (copy_next k m vs h id v i at works commit r held parent b node copy old old_parent left right next_key value needs);
-  }
+  gains (LinkLeaf slot b leaf key value) works (has, (commit, r, lock, held, generation, tag, needs, key_is)) =
+      counted _ commit _ refl refl needs.has_commit.commit_is needs.has_commit.unmade
+  gains (Bypass parent b node child key) works (has, (commit, r, left, right, needs, key_is)) =
+      counted _ commit _ refl refl needs.has_commit.commit_is needs.has_commit.unmade
+  gains (LinkCopy parent b node copy old old_parent key next_key) works (has, (commit, r, held, left, right, value, needs, key_is)) =
+      record {
+        counted = counted _ commit _ refl refl needs.has_commit.commit_is needs.has_commit.unmade;
+        next = subst (λ x. IsNextKey (map_of (updates_of h)) x next_key) key_is
+            (copy_next k m vs h id v i at works commit r held parent b node copy old old_parent left right next_key value needs);
+      }
   gains (ReplaceValue slot key value) works (has, (commit, r, generation, needs, key_is)) = record {
     counted = counted _ commit _ refl refl needs.has_commit.commit_is needs.has_commit.unmade;
     was = λ old known. subst (λ x. map_now h x ≡ Some old) key_is
-        (value_now k m vs h i id v at slot r old (i.front.settled id v at commit needs.has_commit.commit_is needs.has_commit.unmade) (record { kept = needs.kept; found = needs.found; generation = generation; recorded = needs.generation_is; life = needs.life_now }) known);
+        (value_now k m vs h i id v at slot r old (i.front.settled id v at commit needs.has_commit.commit_is needs.has_commit.unmade)
+        (record {
+          kept = needs.kept;
+          found = needs.found;
+          generation = generation;
+          recorded = needs.generation_is;
+          life = needs.life_now;
+        }) known);
   }
-  gains (LeaveByCount class side) works (has, needs) = leaves needs.0 needs.1.section_is _ _ (ap (λ (s : Section). s.count) (section_is v needs.0 needs.1.section_is)) refl
-  gains (LeaveByRow class) works (has, needs) = leaves needs.0 needs.1.section_is _ _ (ap (λ (s : Section). s.count) (section_is v needs.0 needs.1.section_is)) refl
+  gains (LeaveByCount class side) works (has, needs) =
+      leaves needs.0 needs.1.section_is _ _ (ap (λ (s : Section). s.count) (section_is v needs.0 needs.1.section_is)) refl
+  gains (LeaveByRow class) works (has, needs) = leaves needs.0 needs.1.section_is _ _ (ap (λ (s : Section). s.count)
+      (section_is v needs.0 needs.1.section_is)) refl
   gains LookAtFront works asks = looks_again
   gains _ works asks = tt

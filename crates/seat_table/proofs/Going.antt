@@ -6,5 +6,6 @@ use Rattle.core_acts.specs.declared.act.Act.{Act}
 use Rattle.core_acts.specs.Acts.{noted, after}
 use Rattle.seat_table.specs.Told.{Told}
 
-pub goes_from : {k : Shape} {v x w : View} {a : Act} {found : ℕ} → v ≡ x → (told : Told k v a found w) → w ≡ after (noted x a found) a told.marks found
+pub goes_from : {k : Shape} {v x w : View} {a : Act} {found : ℕ} → v ≡ x → (told : Told k v a found w)
+    → w ≡ after (noted x a found) a told.marks found
 goes_from {k} {v} {x} {w} {a} {found} is told = told.goes ∙ ap (λ z. after (noted z a found) a told.marks found) is

@@ -30,10 +30,16 @@ noted_none slot known (Some held) e = absurd (some_none (cond (held.slot == slot
 
 -- without a lock and without a move, it is noted of the slot in hand and of the spare alone
 pub noting_hands : (v : View) (slot : ℕ) (field : Field) (number : ℕ) (stored : Bool) → v.locks ≡ [] → v.moving ≡ None
-    → noting v slot field number stored ≡ record v { hands = record v.hands { hand = note_option slot (record { field = field; number = number; stored = stored }) v.hands.hand; spare = note_option slot (record { field = field; number = number; stored = stored }) v.hands.spare } }
+    → noting v slot field number stored ≡ record v {
+      hands = record v.hands {
+        hand = note_option slot (record { field = field; number = number; stored = stored }) v.hands.hand;
+        spare = note_option slot (record { field = field; number = number; stored = stored }) v.hands.spare;
+      };
+    }
 noting_hands v slot field number stored free settled =
     let known : Known = record { field = field; number = number; stored = stored } in
-    let locks : change_lock slot (note_lock known) v.locks ≡ v.locks = ap (λ (ls : List HeldLock). change_lock slot (note_lock known) ls) free ∙ sym free in
+    let locks : change_lock slot (note_lock known) v.locks ≡ v.locks =
+    ap (λ (ls : List HeldLock). change_lock slot (note_lock known) ls) free ∙ sym free in
     let moving : note_moving slot known v.moving ≡ v.moving = ap (λ (m : Option Move). note_moving slot known m) settled ∙ sym settled in
     λ i. record v {
       locks = locks i;
@@ -42,12 +48,14 @@ noting_hands v slot field number stored free settled =
     }
 
 -- a retired slot that was changed and is taken out was taken out
-pub without_changed : (s : ℕ) (f : Retired → Retired) → ((r : Retired) → (f r).slot ≡ r.slot) → (rs : List Retired) → without_retired s (change_retired s f rs) ≡ without_retired s rs
+pub without_changed : (s : ℕ) (f : Retired → Retired) → ((r : Retired) → (f r).slot ≡ r.slot) → (rs : List Retired)
+    → without_retired s (change_retired s f rs) ≡ without_retired s rs
 without_changed s f keeps [] = refl
 without_changed s f keeps (x ∷ xs) = ⊎_elim
     (λ (e : x.slot ≡ s).
     ap (λ b. without_retired s (cond b (f x) x ∷ change_retired s f xs)) (eq-eqb x.slot s e)
-    ∙ ap (λ b. cond b (without_retired s (change_retired s f xs)) (f x ∷ without_retired s (change_retired s f xs))) (eq-eqb (f x).slot s (keeps x ∙ e))
+    ∙ ap (λ b. cond b (without_retired s (change_retired s f xs)) (f x ∷ without_retired s (change_retired s f xs)))
+    (eq-eqb (f x).slot s (keeps x ∙ e))
     ∙ without_changed s f keeps xs
     ∙ sym (ap (λ b. cond b (without_retired s xs) (x ∷ without_retired s xs)) (eq-eqb x.slot s e)))
     (λ (ne : x.slot ≢ s).

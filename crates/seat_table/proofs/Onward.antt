@@ -24,28 +24,46 @@ module _ (such : Field → Type 0) where
   pub looks_then : (u v w : View) → LooksAt such u v → LooksAt such v w → LooksAt such u w
   looks_then u v w a b = record {
     steps = a.steps ++ b.steps;
-    makes = b.makes ∙ ap (λ (z : Trail). record z { steps = z.steps ++ b.steps }) a.makes ∙ ap (on u) (append_assoc u.trail.steps a.steps b.steps);
+    makes = b.makes ∙ ap (λ (z : Trail). record z { steps = z.steps ++ b.steps }) a.makes
+        ∙ ap (on u) (append_assoc u.trail.steps a.steps b.steps);
     each = all_append (λ (t : StepMade). such (spot_seen t.field)) a.steps b.steps a.each b.each;
   }
 
-  pub looks_as : (other : Field → Type 0) → ((field : Field) → such field → other field) → (v w : View) → LooksAt such v w → LooksAt other v w
-  looks_as other more v w a = record { steps = a.steps; makes = a.makes; each = all_map (λ (t : StepMade). such (spot_seen t.field)) (λ (t : StepMade). other (spot_seen t.field)) a.steps (λ t is. more (spot_seen t.field) is) a.each }
+  pub looks_as : (other : Field → Type 0) → ((field : Field) → such field → other field) → (v w : View) → LooksAt such v w
+      → LooksAt other v w
+  looks_as other more v w a = record {
+    steps = a.steps;
+    makes = a.makes;
+    each = all_map (λ (t : StepMade). such (spot_seen t.field)) (λ (t : StepMade). other (spot_seen t.field)) a.steps
+        (λ t is. more (spot_seen t.field) is) a.each;
+  }
 
   -- one step
-  pub step_at : (v w : View) (kind : Kind) (field : Field) (number : ℕ) → w.trail ≡ (stepped v kind field number).trail → such (spot_seen field) → LooksAt such v w
-  step_at v w kind field number trail is = record { steps = record { kind = kind; field = field; number = number } ∷ []; makes = trail; each = (is, tt) }
+  pub step_at : (v w : View) (kind : Kind) (field : Field) (number : ℕ) → w.trail ≡ (stepped v kind field number).trail
+      → such (spot_seen field) → LooksAt such v w
+  step_at v w kind field number trail is = record {
+    steps = record { kind = kind; field = field; number = number } ∷ [];
+    makes = trail;
+    each = (is, tt);
+  }
 
   -- a look of a wait
-  pub look_at : (v w : View) (kind : Kind) (field : Field) (found : ℕ) (last : Bool) (h : List Mark) → w ≡ after_look (stepped v kind field found) (wait_of v) field last found h → such (spot_seen field) → LooksAt such v w
-  look_at v w kind field found last h goes is = step_at v w kind field found (ap (λ (z : View). z.trail) goes ∙ looked (excuses (wait_of v) field found) last) is
+  pub look_at : (v w : View) (kind : Kind) (field : Field) (found : ℕ) (last : Bool) (h : List Mark)
+      → w ≡ after_look (stepped v kind field found) (wait_of v) field last found h → such (spot_seen field) → LooksAt such v w
+  look_at v w kind field found last h goes is = step_at v w kind field found
+      (ap (λ (z : View). z.trail) goes ∙ looked (excuses (wait_of v) field found) last) is
     where
-      looked : (excused ends : Bool) → (if excused then (if ends then ending (stepped v kind field found) (with_excused (wait_of v) field) h else record (stepped v kind field found) { wait = Some (with_excused (wait_of v) field) }) else stepped v kind field found).trail ≡ (stepped v kind field found).trail
+      looked : (excused ends : Bool) → (if excused then
+          (if ends then ending (stepped v kind field found) (with_excused (wait_of v) field) h
+          else record (stepped v kind field found) { wait = Some (with_excused (wait_of v) field) }) else stepped v kind field found).trail
+          ≡ (stepped v kind field found).trail
       looked false ends = refl
       looked true false = refl
       looked true true = refl
 
   -- a load of a gate
-  pub gate_at : (v w : View) (kind : Kind) (field : Field) (class found : ℕ) → w ≡ gated (stepped v kind field found) class found v.section → such (spot_seen field) → LooksAt such v w
+  pub gate_at : (v w : View) (kind : Kind) (field : Field) (class found : ℕ) → w ≡ gated (stepped v kind field found) class found v.section
+      → such (spot_seen field) → LooksAt such v w
   gate_at v w kind field class found goes is = step_at v w kind field found (ap (λ (z : View). z.trail) goes ∙ loaded v.section) is
     where
       loaded : (there : Option Section) → (gated (stepped v kind field found) class found there).trail ≡ (stepped v kind field found).trail

@@ -17,21 +17,44 @@ one_wait v a b first second = let one : Some a ≡ Some b = sym first ∙ second
 module _ {W : Type 0} (k : Shape) (v u w : View) (grace next : Grace W) (come : IsGoingOn k v grace u) where
   pub goes_further : IsGoingOn k u next w → IsGoingOn k v next w
   goes_further p =
-      let second = subst (λ z. HasLooked u z p.1 p.2 w) (one_wait u p.0 come.2 p.3 come.4.wait_is) p.4 in
-      (come.0, come.1 ++ p.1, p.2, come.3, looks_on v u w come.0 come.2 p.2 come.1 p.1 come.4 second, p.5)
+      let second = subst (λ z. HasLooked u z p.steps p.new w) (one_wait u p.wait come.new p.was come.looked.wait_is) p.looked in
+      record {
+        wait = come.wait;
+        steps = come.steps ++ p.steps;
+        new = p.new;
+        was = come.was;
+        looked = looks_on v u w come.wait come.new p.new come.steps p.steps come.looked second;
+        reaches = p.reaches;
+      }
 
   pub stops_further : (why : Why) → Polled k u (NotYet why) next w → Polled k v (NotYet why) next w
+  unfolding goes_further
   stops_further why p =
-      let same = one_wait u p.0 come.2 p.3 come.4.wait_is in
-      let second = subst (λ z. HasLooked u z p.1 p.2 w) same p.4 in
-      let shows = shows_later come.1 p.1 come.2 why (subst (λ z. Shows z p.1 why) same p.6) in
-      (come.0, come.1 ++ p.1, p.2, come.3, looks_on v u w come.0 come.2 p.2 come.1 p.1 come.4 second, p.5, shows_by come.0 come.2 come.4.same (come.1 ++ p.1) why shows, p.7)
+      let same = one_wait u p.on.wait come.new p.on.was come.looked.wait_is in
+      let shows = shows_later come.steps p.on.steps come.new why (subst (λ z. Shows z p.on.steps why) same p.shows) in
+      record {
+        on = goes_further p.on;
+        shows = shows_by come.wait come.new come.looked.same (come.steps ++ p.on.steps) why shows;
+        there = p.there;
+      }
 
 -- A look that met a reader stops the poll where it is.
-pub stops_here : {W : Type 0} (k : Shape) (v w : View) (grace : Grace W) → IsLatestOf k grace v → (why : Why) → StopsAt (reached grace) why → HasMet v why w → Polled k v (NotYet why) grace w
+pub stops_here : {W : Type 0} (k : Shape) (v w : View) (grace : Grace W) → IsLatestOf k grace v → (why : Why) → StopsAt (reached grace) why
+    → HasMet v why w → Polled k v (NotYet why) grace w
 stops_here k v w grace latest why there p =
     let same = one_wait v p.0 latest.0 p.2 latest.1 in
-    (latest.0, p.1, latest.0, latest.1, subst (λ z. HasLooked v z p.1 z w) same p.3, latest.2, subst (λ z. Shows z p.1 why) same p.4, there)
+    record {
+      on = record {
+        wait = latest.0;
+        steps = p.1;
+        new = latest.0;
+        was = latest.1;
+        looked = subst (λ z. HasLooked v z p.1 z w) same p.3;
+        reaches = latest.2;
+      };
+      shows = subst (λ z. Shows z p.1 why) same p.4;
+      there = there;
+    }
 
 pub comes_to : {W : Type 0} (k : Shape) (v u : View) (grace : Grace W) → IsGoingOn k v grace u → IsLatestOf k grace u
-comes_to k v u grace come = (come.2, come.4.wait_is, come.5)
+comes_to k v u grace come = (come.new, come.looked.wait_is, come.reaches)

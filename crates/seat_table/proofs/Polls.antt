@@ -57,10 +57,12 @@ module _ (wait : Waiting) (keys : Interval) (key : ℕ) (low : wait.low ≡ keys
       out (omega (arith, a, low), omega (arith, b, high)))
 
   pub key_in : Holds keys key → is_for wait key ≡ true
-  key_in inside = and_from (nat_le wait.low key) (nat_le key wait.high) (le-leb wait.low key (omega (arith, inside.0, low))) (le-leb key wait.high (omega (arith, inside.1, high)))
+  key_in inside = and_from (nat_le wait.low key) (nat_le key wait.high) (le-leb wait.low key (omega (arith, inside.0, low)))
+      (le-leb key wait.high (omega (arith, inside.1, high)))
 
 -- one load, as its call tells it
-module _ (v w : View) (kind : Kind) (field : Field) (wait : Waiting) (found : ℕ) (last : Bool) (h : List Mark) (was : v.wait ≡ Some wait) (sees : Sees v h) (goes : w ≡ after_look (stepped v kind field found) (wait_of v) field last found h) (informed : IsInformed w) where
+module _ (v w : View) (kind : Kind) (field : Field) (wait : Waiting) (found : ℕ) (last : Bool) (h : List Mark) (was : v.wait ≡ Some wait)
+    (sees : Sees v h) (goes : w ≡ after_look (stepped v kind field found) (wait_of v) field last found h) (informed : IsInformed w) where
   look_is : w ≡ after_look (stepped v kind field found) wait field last found h
   look_is = goes ∙ ap (λ z. after_look (stepped v kind field found) z field last found h) (wait_is v wait was)
 
@@ -72,33 +74,53 @@ module _ (v w : View) (kind : Kind) (field : Field) (wait : Waiting) (found : �
 
 -- from look to look
 module _ {W : Type 0} (k : Shape) (v u w : View) (grace : Grace W) (come : IsGoingOn k v grace u) where
-  same_was : (wait : Waiting) → u.wait ≡ Some wait → wait ≡ come.2
-  same_was wait was = let one : Some wait ≡ Some come.2 = sym was ∙ come.4.wait_is in cc
+  same_was : (wait : Waiting) → u.wait ≡ Some wait → wait ≡ come.new
+  same_was wait was = let one : Some wait ≡ Some come.new = sym was ∙ come.looked.wait_is in cc
 
-  pub goes_on : (next : Grace W) (field : Field) → HasPassed u false field w → HasReached k next.keys next.clock (reached next) (with_excused come.2 field) → IsGoingOn k v next w
+  pub goes_on : (next : Grace W) (field : Field) → HasPassed u false field w
+      → HasReached k next.keys next.clock (reached next) (with_excused come.new field) → IsGoingOn k v next w
   goes_on next field p there =
       let second = subst (λ z. HasLooked u z p.1 (with_excused z field) w) (same_was p.0 p.2) p.3 in
-      (come.0, come.1 ++ p.1, with_excused come.2 field, come.3, looks_on v u w come.0 come.2 (with_excused come.2 field) come.1 p.1 come.4 second, there)
+      record {
+        wait = come.wait;
+        steps = come.steps ++ p.1;
+        new = with_excused come.new field;
+        was = come.was;
+        looked = looks_on v u w come.wait come.new (with_excused come.new field) come.steps p.1 come.looked second;
+        reaches = there;
+      }
 
   pub is_not_yet : (why : Why) → StopsAt (reached grace) why → HasMet u why w → Polled k v (NotYet why) grace w
   is_not_yet why there p =
       let same = same_was p.0 p.2 in
       let second = subst (λ z. HasLooked u z p.1 z w) same p.3 in
-      let shows = shows_later come.1 p.1 come.2 why (subst (λ z. Shows z p.1 why) same p.4) in
-      (come.0, come.1 ++ p.1, come.2, come.3, looks_on v u w come.0 come.2 come.2 come.1 p.1 come.4 second, come.5, shows_by come.0 come.2 come.4.same (come.1 ++ p.1) why shows, there)
+      let shows = shows_later come.steps p.1 come.new why (subst (λ z. Shows z p.1 why) same p.4) in
+      record {
+        on = record {
+          wait = come.wait;
+          steps = come.steps ++ p.1;
+          new = come.new;
+          was = come.was;
+          looked = looks_on v u w come.wait come.new come.new come.steps p.1 come.looked second;
+          reaches = come.reaches;
+        };
+        shows = shows_by come.wait come.new come.looked.same (come.steps ++ p.1) why shows;
+        there = there;
+      }
 
-  pub is_over : (field : Field) → HasPassed u true field w → (k.waiter ≡ Domain → (c : ℕ) → c < 64 → MeetsClass (keys_of come.2) c → times c come.2.turned ≡ 1) → IsOver k v w
+  pub is_over : (field : Field) → HasPassed u true field w
+      → (k.waiter ≡ Domain → (c : ℕ) → c < 64 → MeetsClass (keys_of come.new) c → times c come.new.turned ≡ 1) → IsOver k v w
   is_over field p each =
       let second = subst (λ z. HasEnded u z p.1 (ended_by z field) w) (same_was p.0 p.2) p.3 in
-      let ended = looks_end v u w come.0 come.2 (ended_by come.2 field) come.1 p.1 come.4 second in
+      let ended = looks_end v u w come.wait come.new (ended_by come.new field) come.steps p.1 come.looked second in
       record {
-        wait = come.0;
-        steps = come.1 ++ p.1;
-        new = ended_by come.2 field;
-        was = come.3;
+        wait = come.wait;
+        steps = come.steps ++ p.1;
+        new = ended_by come.new field;
+        was = come.was;
         ended = ended;
-        turned = record { only = come.5.met; each = each };
-        left = have_left v come.0 (come.1 ++ p.1) (ended_by come.2 field) w ended;
+        turned = record { only = come.reaches.met; each = each };
+        left = have_left v come.wait (come.steps ++ p.1) (ended_by come.new field) w ended;
       }
 
   -- the same for waiters that turn no gates

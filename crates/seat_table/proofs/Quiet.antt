@@ -31,12 +31,15 @@ waited_length wait (r ∷ rs) = ap suc (waited_length wait rs)
 pub begun_quiet : {s t : SeatAt} {low high : ℕ} → HasBegun s.view low high t.view → t.listed ≡ s.listed → IsQuietSeat s → IsQuietSeat t
 begun_quiet {s} {t} begun listed quiet =
     let e = begun.others in
-    still_quiet s t (ap (λ (z : View). z.section) e) (ap (λ (z : View). z.locks) e) (ap (λ (z : View). z.hands) e) (ap (λ (z : View). z.moving) e) (ap (λ (z : View). z.commit) e) listed quiet
+    still_quiet s t (ap (λ (z : View). z.section) e) (ap (λ (z : View). z.locks) e) (ap (λ (z : View). z.hands) e)
+    (ap (λ (z : View). z.moving) e) (ap (λ (z : View). z.commit) e) listed quiet
 
-pub looked_quiet : {s t : SeatAt} {wait new : Waiting} {steps : List StepMade} → HasLooked s.view wait steps new t.view → t.listed ≡ s.listed → IsQuietSeat s → IsQuietSeat t
+pub looked_quiet : {s t : SeatAt} {wait new : Waiting} {steps : List StepMade} → HasLooked s.view wait steps new t.view
+    → t.listed ≡ s.listed → IsQuietSeat s → IsQuietSeat t
 looked_quiet {s} {t} looked listed quiet =
     let e = looked.others in
-    still_quiet s t (ap (λ (z : View). z.section) e) (ap (λ (z : View). z.locks) e) (ap (λ (z : View). z.hands) e) (ap (λ (z : View). z.moving) e) (ap (λ (z : View). z.commit) e) listed quiet
+    still_quiet s t (ap (λ (z : View). z.section) e) (ap (λ (z : View). z.locks) e) (ap (λ (z : View). z.hands) e)
+    (ap (λ (z : View). z.moving) e) (ap (λ (z : View). z.commit) e) listed quiet
 
 -- and so does the poll that ends a wait, which notes what was waited for
 pub over_quiet : {k : Shape} {s t : SeatAt} → IsOver k s.view t.view → t.listed ≡ s.listed → IsQuietSeat s → IsQuietSeat t
@@ -52,13 +55,18 @@ over_quiet {k} {s} {t} over listed quiet =
         moving = ap (λ (z : View). z.moving) e ∙ ap (waited_move over.wait) q.moving;
         owes = ap (λ (z : View). z.hands.owes) e ∙ q.owes;
         commit = ap (λ (z : View). z.commit) e ∙ q.commit;
-        raised = ap (λ (z : View). unraised_among z.hands.retired) e ∙ waited_raised over.wait rs ∙ q.raised ∙ sym (waited_length over.wait rs) ∙ ap (λ (z : View). length z.hands.retired) (sym e);
+        raised = ap (λ (z : View). unraised_among z.hands.retired) e ∙ waited_raised over.wait rs ∙ q.raised
+            ∙ sym (waited_length over.wait rs) ∙ ap (λ (z : View). length z.hands.retired) (sym e);
       };
-      listed = record { each = λ slot. ap (times slot) listed ∙ quiet.listed.each slot ∙ ap (times slot) (sym (waited_slots over.wait rs)) ∙ ap (λ (z : View). times slot (slots_in z.hands.retired)) (sym e) };
+      listed = record {
+        each = λ slot. ap (times slot) listed ∙ quiet.listed.each slot ∙ ap (times slot) (sym (waited_slots over.wait rs))
+            ∙ ap (λ (z : View). times slot (slots_in z.hands.retired)) (sym e);
+      };
     }
 
 -- after a whole wait
-pub waited_quiet : {k : Shape} {s t : SeatAt} {low high : ℕ} → HasWaited k s.view low high t.view → t.listed ≡ s.listed → IsQuietSeat s → IsQuietSeat t
+pub waited_quiet : {k : Shape} {s t : SeatAt} {low high : ℕ} → HasWaited k s.view low high t.view → t.listed ≡ s.listed → IsQuietSeat s
+    → IsQuietSeat t
 waited_quiet {k} {s} {t} waited listed quiet =
     let mid : SeatAt = record s { view = waited.0 } in
     over_quiet {s = mid} waited.2 listed (begun_quiet {t = mid} waited.1 refl quiet)
@@ -70,9 +78,13 @@ outside s = record s { view = record s.view { section = None } }
 pub entered_quiet : {s t : SeatAt} {key : ℕ} → HasEntered s.view key t.view → t.listed ≡ s.listed → IsQuietSeat s → IsQuietReader t
 entered_quiet {s} {t} entered listed quiet =
     let e = entered.others in
-    record { quiet = still_quiet s (outside t) (sym quiet.view.section) (ap (λ (z : View). z.locks) e) (ap (λ (z : View). z.hands) e) (ap (λ (z : View). z.moving) e) (ap (λ (z : View). z.commit) e) listed quiet }
+    record {
+      quiet = still_quiet s (outside t) (sym quiet.view.section) (ap (λ (z : View). z.locks) e) (ap (λ (z : View). z.hands) e)
+          (ap (λ (z : View). z.moving) e) (ap (λ (z : View). z.commit) e) listed quiet;
+    }
 
 pub left_quiet : {s t : SeatAt} → HasLeft s.view t.view → t.listed ≡ s.listed → IsQuietReader s → IsQuietSeat t
 left_quiet {s} {t} left listed quiet =
     let e = left.others in
-    still_quiet (outside s) t left.outside (ap (λ (z : View). z.locks) e) (ap (λ (z : View). z.hands) e) (ap (λ (z : View). z.moving) e) (ap (λ (z : View). z.commit) e) listed quiet.quiet
+    still_quiet (outside s) t left.outside (ap (λ (z : View). z.locks) e) (ap (λ (z : View). z.hands) e) (ap (λ (z : View). z.moving) e)
+    (ap (λ (z : View). z.commit) e) listed quiet.quiet

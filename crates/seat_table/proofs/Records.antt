@@ -21,7 +21,8 @@ use Rattle.core_state.specs.parts.TreeParts.{map_now}
 use Rattle.core_state.specs.Invariant.{HoldsNow}
 use Rattle.core_tree.proofs.locks.Locked.{young_locked}
 
-lock_there : (o : Option HeldLock) (field : Field) (n : ℕ) → known_in (known_of o) field ≡ Some n → (lock : HeldLock) × (o ≡ Some lock) × (known_in lock.known field ≡ Some n)
+lock_there : (o : Option HeldLock) (field : Field) (n : ℕ) → known_in (known_of o) field ≡ Some n
+    → (lock : HeldLock) × (o ≡ Some lock) × (known_in lock.known field ≡ Some n)
 lock_there None field n e = absurd (cc)
 lock_there (Some lock) field n e = (lock, refl, e)
 
@@ -33,9 +34,11 @@ pub record IsRecordOf (v : View) (node : ℕ) (r : Reading) : Type 0 where
   pub recorded : LoadedGeneration r node generation
   pub life : known_in (known_under v node) (Life node) ≡ Some (2 * generation)
 
-module _ (k : Shape) (m : Memory) (vs : List View) (h : List Mark) (i : HoldsNow k m vs h) (id : ℕ) (v : View) (at : get_elem? vs id ≡ some v) where
+module _ (k : Shape) (m : Memory) (vs : List View) (h : List Mark) (i : HoldsNow k m vs h) (id : ℕ) (v : View)
+    (at : get_elem? vs id ≡ some v) where
   -- the value known under its lock is the dictionary's, where the holder has no move
-  pub value_now : (node : ℕ) (r : Reading) (value : ℕ) → v.moving ≡ None → IsRecordOf v node r → known_in (known_under v node) (Value node) ≡ Some value → map_now h r.key ≡ Some value
+  pub value_now : (node : ℕ) (r : Reading) (value : ℕ) → v.moving ≡ None → IsRecordOf v node r
+      → known_in (known_under v node) (Value node) ≡ Some value → map_now h r.key ≡ Some value
   value_now node r value settled is known =
       let among : IsIn (readings_of v) r = in_second (open_reading v.section) v.records r is.kept in
       let l = lock_there (lock_of v.locks node) (Life node) (2 * is.generation) is.life in
@@ -48,5 +51,6 @@ module _ (k : Shape) (m : Memory) (vs : List View) (h : List Mark) (i : HoldsNow
       let young = young_locked k m vs h i id v at settled node (l.0, l.1) linked in
       let e = i.tree.map.sound node linked well.0.some_slot young in
       let held : known_in l.0.known (Value node) ≡ Some value = subst (λ o. known_in (known_of o) (Value node) ≡ Some value) l.1 known in
-      let word : m (Value node) ≡ value = (i.locks.known id v at node l.0 l.1).fields r is.generation value (Value node) among is.recorded (inl now) held in
+      let word : m (Value node) ≡ value = (i.locks.known id v at node l.0 l.1).fields r is.generation value (Value node) among is.recorded
+      (inl now) held in
       ap (map_now h) (sym key) ∙ e ∙ ap (λ z. Some z) word

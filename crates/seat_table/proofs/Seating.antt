@@ -27,22 +27,29 @@ module _ (k : Shape) (id : ℕ) (v : View) where
   abbrev Holds : State Nothing View → Type 0
   Holds s = Rule k s.words s.views
 
-  pub seat_splits : (places tickets : ℕ) → NeedsSplit v places tickets → Splits Holds id v (first_of places tickets v) (second_of places tickets v)
-  seat_splits places tickets needs s r at = record { marks = r.marks; long = r.long; holds = record { now = split_keeps k _ s.views r.marks id places tickets v r.holds.now at needs; within = r.holds.within } }
+  pub seat_splits : (places tickets : ℕ) → NeedsSplit v places tickets
+      → Splits Holds id v (first_of places tickets v) (second_of places tickets v)
+  seat_splits places tickets needs s r at = record {
+    marks = r.marks;
+    long = r.long;
+    holds = record { now = split_keeps k _ s.views r.marks id places tickets v r.holds.now at needs; within = r.holds.within };
+  }
 
   pub seat_joins : (other : ℕ) (w : View) → Works v → Works w → NeedsJoin v w → Joins Holds id v other w (both_of v w) spent_view
   seat_joins other w works also needs s r at apart there = record {
     marks = r.marks;
     long = r.long;
     holds = record {
-      now = join_keeps k _ s.views r.marks id other v w r.holds.now at (sym (set_else s.views id other (both_of v w) apart) ∙ there) (λ e. apart (sym e)) works also needs;
+      now = join_keeps k _ s.views r.marks id other v w r.holds.now at (sym (set_else s.views id other (both_of v w) apart) ∙ there)
+          (λ e. apart (sym e)) works also needs;
       within = r.holds.within;
     };
   }
 
 -- the places of a view that gives some of them away, and of the one that gets them
 module _ (v : View) (places tickets : ℕ) (few : places < v.allowance.places) where
-  split_places : (p : ℕ) → times p (places_of v) ≡ times p (places_of (first_of places tickets v)) + times p (places_of (second_of places tickets v))
+  split_places : (p : ℕ) → times p (places_of v)
+      ≡ times p (places_of (first_of places tickets v)) + times p (places_of (second_of places tickets v))
   split_places p =
       let e : v.allowance.places ≡ (v.allowance.places - places) + places = omega arith in
       let f : v.allowance.place + (v.allowance.places - places) ≡ v.allowance.place + v.allowance.places - places = omega arith in
@@ -61,7 +68,8 @@ module _ (v : View) (places tickets : ℕ) (few : places < v.allowance.places) w
   second_sees some h s = record { works = some; begins = s.begins; own = λ p has. s.own p (let all = split_places p in omega arith) }
 
 -- what is told of the view that gives places away
-pub first_told : (k : Shape) (v w : View) (places tickets : ℕ) → w ≡ first_of places tickets v → places < v.allowance.places → TellsNow k v → TellsNow k w
+pub first_told : (k : Shape) (v w : View) (places tickets : ℕ) → w ≡ first_of places tickets v → places < v.allowance.places → TellsNow k v
+    → TellsNow k w
 first_told k v w places tickets is few told =
     let t = told.tells in
     subst (TellsNow k) (sym is) (record {
@@ -92,7 +100,8 @@ first_told k v w places tickets is few told =
     })
 
 -- and of one that works at a place for the first time, of which it knows the spare alone
-pub second_told : (k : Shape) (v w : View) (places tickets : ℕ) → w ≡ second_of places tickets v → 1 ≤ places → places < v.allowance.places → v.allowance.place + v.allowance.places ≤ k.places → TellsNow k v → TellsNow k w
+pub second_told : (k : Shape) (v w : View) (places tickets : ℕ) → w ≡ second_of places tickets v → 1 ≤ places → places < v.allowance.places
+    → v.allowance.place + v.allowance.places ≤ k.places → TellsNow k v → TellsNow k w
 second_told k v w places tickets is some few inside told =
     let t = told.tells in
     subst (TellsNow k) (sym is) (record {
@@ -113,7 +122,8 @@ second_told k v w places tickets is some few inside told =
         place_within = omega arith;
         locks_within = λ s lock. absurd (let e = lock.1 in cc);
         hand_within = λ held hand. absurd (cc);
-        spare_within = λ held spare. (let slot : held.slot ≡ v.allowance.place + v.allowance.places - places + 1 = same_slot spare in omega arith);
+        spare_within = λ held spare. (let slot : held.slot ≡ v.allowance.place + v.allowance.places - places + 1 = same_slot spare in
+            omega arith);
         retired_within = λ i r e. absurd (cc);
         move_within = λ move is. absurd (cc);
         links_within = λ r s generation kept loaded life b child known. absurd (cc);
@@ -126,7 +136,8 @@ second_told k v w places tickets is some few inside told =
     same_slot {held} {s} e = let q : unknown_slot s ≡ held = cc in ap (λ (z : Held). z.slot) (sym q)
 
 -- what a quiet view is, for another view with the same fields
-quiet_as : (v w : View) → w.section ≡ v.section → w.locks ≡ v.locks → w.hands ≡ v.hands → w.moving ≡ v.moving → w.commit ≡ v.commit → IsQuiet v → IsQuiet w
+quiet_as : (v w : View) → w.section ≡ v.section → w.locks ≡ v.locks → w.hands ≡ v.hands → w.moving ≡ v.moving → w.commit ≡ v.commit
+    → IsQuiet v → IsQuiet w
 quiet_as v w section locks hands moving commit q = record {
   section = section ∙ q.section;
   locks = locks ∙ q.locks;
@@ -139,30 +150,54 @@ quiet_as v w section locks hands moving commit q = record {
 }
 
 -- a seat stays quiet where its view has the same hands and is in no other way less quiet
-pub still_quiet : (s t : SeatAt) → t.view.section ≡ s.view.section → t.view.locks ≡ s.view.locks → t.view.hands ≡ s.view.hands → t.view.moving ≡ s.view.moving → t.view.commit ≡ s.view.commit → t.listed ≡ s.listed → IsQuietSeat s → IsQuietSeat t
+pub still_quiet : (s t : SeatAt) → t.view.section ≡ s.view.section → t.view.locks ≡ s.view.locks → t.view.hands ≡ s.view.hands
+    → t.view.moving ≡ s.view.moving → t.view.commit ≡ s.view.commit → t.listed ≡ s.listed → IsQuietSeat s → IsQuietSeat t
 still_quiet s t section locks hands moving commit listed q = record {
   view = quiet_as s.view t.view section locks hands moving commit q.view;
-  listed = record { each = λ slot. subst (λ (z : List ℕ × Hands). times slot z.0 ≡ times slot (map (λ (r : Retired). r.slot) z.1.retired)) (λ i. (sym listed i, sym hands i)) (q.listed.each slot) };
+  listed = record {
+    each = λ slot. subst (λ (z : List ℕ × Hands). times slot z.0 ≡ times slot (map (λ (r : Retired). r.slot) z.1.retired))
+        (λ i. (sym listed i, sym hands i)) (q.listed.each slot);
+  };
 }
 
-pub first_quiet : (s t : SeatAt) (places tickets : ℕ) → t.view ≡ first_of places tickets s.view → t.listed ≡ s.listed → IsQuietSeat s → IsQuietSeat t
-first_quiet s t places tickets is listed q = still_quiet s t (ap (λ (z : View). z.section) is) (ap (λ (z : View). z.locks) is) (ap (λ (z : View). z.hands) is) (ap (λ (z : View). z.moving) is) (ap (λ (z : View). z.commit) is) listed q
+pub first_quiet : (s t : SeatAt) (places tickets : ℕ) → t.view ≡ first_of places tickets s.view → t.listed ≡ s.listed → IsQuietSeat s
+    → IsQuietSeat t
+first_quiet s t places tickets is listed q = still_quiet s t (ap (λ (z : View). z.section) is) (ap (λ (z : View). z.locks) is)
+    (ap (λ (z : View). z.hands) is) (ap (λ (z : View). z.moving) is) (ap (λ (z : View). z.commit) is) listed q
 
 -- a view that works at a place for the first time is quiet
-pub new_quiet : (t : SeatAt) (place places tickets : ℕ) (seen : List Mark) → t.view ≡ new_view place places tickets seen → t.listed ≡ [] → IsQuietSeat t
-new_quiet t place places tickets seen is listed = subst (λ (z : List ℕ × View). IsQuietSeat (record { table = t.table; view = z.1; listed = z.0 })) (λ i. (sym listed i, sym is i))
-    (record { view = record { section = refl; locks = refl; reserved = refl; hand = refl; moving = refl; owes = refl; commit = refl; raised = refl }; listed = record { each = λ slot. refl } })
+pub new_quiet : (t : SeatAt) (place places tickets : ℕ) (seen : List Mark) → t.view ≡ new_view place places tickets seen → t.listed ≡ []
+    → IsQuietSeat t
+new_quiet t place places tickets seen is listed =
+    subst (λ (z : List ℕ × View). IsQuietSeat (record { table = t.table; view = z.1; listed = z.0; looked = t.looked }))
+    (λ i. (sym listed i, sym is i))
+    (record {
+      view = record {
+        section = refl;
+        locks = refl;
+        reserved = refl;
+        hand = refl;
+        moving = refl;
+        owes = refl;
+        commit = refl;
+        raised = refl;
+      };
+      listed = record { each = λ slot. refl };
+    })
 
 -- after a join, and the load of the clock that follows
-pub joined_quiet : (k : Shape) (s o t : SeatAt) (clock : ℕ) → Told k (both_of s.view o.view) LoadClock clock t.view → t.listed ≡ s.listed → IsQuietSeat s → IsQuietSeat t
+pub joined_quiet : (k : Shape) (s o t : SeatAt) (clock : ℕ) → Told k (both_of s.view o.view) LoadClock clock t.view → t.listed ≡ s.listed
+    → IsQuietSeat s → IsQuietSeat t
 joined_quiet k s o t clock told listed q =
     let is = told.goes in
-    still_quiet s t (ap (λ (z : View). z.section) is) (ap (λ (z : View). z.locks) is) (ap (λ (z : View). z.hands) is) (ap (λ (z : View). z.moving) is) (ap (λ (z : View). z.commit) is) listed q
+    still_quiet s t (ap (λ (z : View). z.section) is) (ap (λ (z : View). z.locks) is) (ap (λ (z : View). z.hands) is)
+    (ap (λ (z : View). z.moving) is) (ap (λ (z : View). z.commit) is) listed q
 
 pub joined_own : (k : Shape) (v other w : View) (clock : ℕ) → Works other → Told k (both_of v other) LoadClock clock w → KeepsOwn v other w
 joined_own k v other w clock works told =
     let both : List Mark = longer v.seen other.seen in
-    let cut : take (length both) told.marks ≡ both = subst (λ z. take (length both) z ≡ both) told.sees.begins.1 (take-append_seam both told.sees.begins.0) in
+    let cut : take (length both) told.marks ≡ both =
+    subst (λ z. take (length both) z ≡ both) told.sees.begins.1 (take-append_seam both told.sees.begins.0) in
     let seen : w.seen ≡ take (length both) told.marks = ap (λ (z : View). z.seen) told.goes ∙ sym cut in
     let first = told.gains.each 0 (meeting_of v both) refl in
     let second = told.gains.each 1 (meeting_of other both) refl in
@@ -181,5 +216,6 @@ joined_own k v other w clock works told =
       second_own = λ p has. ap (own_of p) seen ∙ second.own p has;
     }
 
-pub joined_own_at : (k : Shape) (v other both w : View) (clock : ℕ) → both ≡ both_of v other → Works other → Told k both LoadClock clock w → KeepsOwn v other w
+pub joined_own_at : (k : Shape) (v other both w : View) (clock : ℕ) → both ≡ both_of v other → Works other → Told k both LoadClock clock w
+    → KeepsOwn v other w
 joined_own_at k v other both w clock is works told = joined_own k v other w clock works (subst (λ z. Told k z LoadClock clock w) is told)

@@ -32,24 +32,30 @@ use Rattle.seat_table.specs.Sections.{Leaves, Makes, EndBy, is_entry, shows_read
 pub made_none : (which : Kind → Bool) (a : Trail) → Makes which a a
 made_none which a = record { steps = []; each = tt; trail = sym (ap (λ (l : List StepMade). record a { steps = l }) (append-nil a.steps)) }
 
-abbrev pub made_more : (which : Kind → Bool) (a : Trail) (w : View) (kind : Kind) (field : Field) (number : ℕ) → which kind ≡ true → Makes which a w.trail → Makes which a (stepped w kind field number).trail
+abbrev pub made_more : (which : Kind → Bool) (a : Trail) (w : View) (kind : Kind) (field : Field) (number : ℕ) → which kind ≡ true
+    → Makes which a w.trail → Makes which a (stepped w kind field number).trail
 made_more which a w kind field number is m =
     let t : StepMade = record { kind = kind; field = field; number = number } in
     record {
       steps = m.steps ++ t ∷ [];
       each = all_append (λ (t : StepMade). which t.kind ≡ true) m.steps (t ∷ []) m.each (is, tt);
-      trail = (λ i. record (m.trail i) { steps = (m.trail i).steps ++ t ∷ [] }) ∙ (λ i. record a { steps = append_assoc a.steps m.steps (t ∷ []) i });
+      trail = (λ i. record (m.trail i) { steps = (m.trail i).steps ++ t ∷ [] })
+          ∙ (λ i. record a { steps = append_assoc a.steps m.steps (t ∷ []) i });
     }
 
-all_of : (f g : Kind → Bool) → ((kind : Kind) → f kind ≡ true → g kind ≡ true) → (ts : List StepMade) → AllByRecursion (λ (t : StepMade). f t.kind ≡ true) ts → AllByRecursion (λ (t : StepMade). g t.kind ≡ true) ts
+all_of : (f g : Kind → Bool) → ((kind : Kind) → f kind ≡ true → g kind ≡ true) → (ts : List StepMade)
+    → AllByRecursion (λ (t : StepMade). f t.kind ≡ true) ts → AllByRecursion (λ (t : StepMade). g t.kind ≡ true) ts
 all_of f g more [] all = tt
 all_of f g more (t ∷ ts) all = (more t.kind all.0, all_of f g more ts all.1)
 
-pub made_both : (f g h : Kind → Bool) → ((kind : Kind) → f kind ≡ true → h kind ≡ true) → ((kind : Kind) → g kind ≡ true → h kind ≡ true) → (a b c : Trail) → Makes f a b → Makes g b c → Makes h a c
+pub made_both : (f g h : Kind → Bool) → ((kind : Kind) → f kind ≡ true → h kind ≡ true) → ((kind : Kind) → g kind ≡ true → h kind ≡ true)
+    → (a b c : Trail) → Makes f a b → Makes g b c → Makes h a c
 made_both f g h first second a b c m n = record {
   steps = m.steps ++ n.steps;
-  each = all_append (λ (t : StepMade). h t.kind ≡ true) m.steps n.steps (all_of f h first m.steps m.each) (all_of g h second n.steps n.each);
-  trail = n.trail ∙ (λ i. record (m.trail i) { steps = (m.trail i).steps ++ n.steps }) ∙ (λ i. record a { steps = append_assoc a.steps m.steps n.steps i });
+  each = all_append (λ (t : StepMade). h t.kind ≡ true) m.steps n.steps (all_of f h first m.steps m.each)
+      (all_of g h second n.steps n.each);
+  trail = n.trail ∙ (λ i. record (m.trail i) { steps = (m.trail i).steps ++ n.steps })
+      ∙ (λ i. record a { steps = append_assoc a.steps m.steps n.steps i });
 }
 
 -- One mark after another: what was seen is a beginning of what is seen then.
@@ -59,7 +65,8 @@ seen_more v w mark leaves =
     (more.0 ++ mark ∷ [], sym (append_assoc v.seen more.0 (mark ∷ [])) ∙ ap (λ l. l ++ mark ∷ []) more.1 ∙ sym leaves.marked)
 
 -- and the marks of the own place are one more
-pub own_more : (v w : View) (mark : Mark) → is_of v.allowance.place mark ≡ true → Leaves v mark w → own_of v.allowance.place w.seen ≡ own_of v.allowance.place v.seen ++ mark ∷ []
+pub own_more : (v w : View) (mark : Mark) → is_of v.allowance.place mark ≡ true → Leaves v mark w
+    → own_of v.allowance.place w.seen ≡ own_of v.allowance.place v.seen ++ mark ∷ []
 own_more v w mark mine leaves =
     ap (own_of v.allowance.place) leaves.marked ∙ own_of-append v.allowance.place leaves.before (mark ∷ [])
     ∙ ap (λ l. l ++ own_of v.allowance.place (mark ∷ [])) (sym (leaves.seen.own v.allowance.place (works_there v leaves.seen.works)))
@@ -69,11 +76,16 @@ own_more v w mark mine leaves =
 abbrev Enters : Trail → Trail → Type 0
 Enters a b = (made : Makes is_entry a b) × EndBy shows_reader made.steps
 
-enters_by : (a : Trail) (w : View) (kind : Kind) (field : Field) (number : ℕ) → is_entry kind ≡ true → shows_reader kind ≡ true → Makes is_entry a w.trail → Enters a (stepped w kind field number).trail
-enters_by a w kind field number is shows m = (made_more is_entry a w kind field number is m, record { earlier = m.steps; last = record { kind = kind; field = field; number = number }; whole = refl; kind_is = shows })
+enters_by : (a : Trail) (w : View) (kind : Kind) (field : Field) (number : ℕ) → is_entry kind ≡ true → shows_reader kind ≡ true
+    → Makes is_entry a w.trail → Enters a (stepped w kind field number).trail
+enters_by a w kind field number is shows m = (
+  made_more is_entry a w kind field number is m,
+  record { earlier = m.steps; last = record { kind = kind; field = field; number = number }; whole = refl; kind_is = shows },
+)
 
 -- A section that is entered from a view in which only what was done for it changed.
-entered_from : (v u w : View) (key stamp clocked : ℕ) (h : List Mark) → Enters v.trail u.trail → u ≡ record v { enter = u.enter; trail = u.trail } → Sees u h → w ≡ entering u key stamp clocked h → IsInformed w → HasEntered v key w
+entered_from : (v u w : View) (key stamp clocked : ℕ) (h : List Mark) → Enters v.trail u.trail
+    → u ≡ record v { enter = u.enter; trail = u.trail } → Sees u h → w ≡ entering u key stamp clocked h → IsInformed w → HasEntered v key w
 entered_from v u w key stamp clocked h enters same sees is told = subst (HasEntered v key) (sym is)
     (subst (λ z. Sees z h → IsInformed (entering z key stamp clocked h) → HasEntered v key (entering z key stamp clocked h)) (sym same)
     (λ s i. record {
@@ -92,7 +104,8 @@ entered_from v u w key stamp clocked h enters same sees is told = subst (HasEnte
     }) sees (subst IsInformed is told))
 
 -- the first waiter: the clock, the key, then the stamp
-module _ (k : Shape) (v : View) (key stamp : ℕ) (v1 v2 : View) (first : Told k v LoadClock stamp v1) (second : Told k v1 (AnnounceKey key) key v2) where
+module _ (k : Shape) (v : View) (key stamp : ℕ) (v1 v2 : View) (first : Told k v LoadClock stamp v1)
+    (second : Told k v1 (AnnounceKey key) key v2) where
   abbrev announced : View
   announced = after_announce (noted (after_clock_load (noted v LoadClock stamp) stamp first.marks) (AnnounceKey key) key) key
 
@@ -102,29 +115,49 @@ module _ (k : Shape) (v : View) (key stamp : ℕ) (v1 v2 : View) (first : Told k
   -- what the third step of enter needs
   pub needs_entry : v.section ≡ None → v.locks ≡ [] → key < 2 ^ 64 → (clocked : Clocked) × NeedsEnterByStamp v2 key stamp clocked
   needs_entry outside free fits =
-      let clocked : Clocked = record { number = stamp; at = length first.marks } in
-      (clocked, subst (λ z. NeedsEnterByStamp z key stamp clocked) (sym second_is) (record { entry = record { outside = outside; free = free; key_fits = fits }; clock = refl; stamp_is = refl; announced = refl }))
+      let clocked : Clocked = record { number = stamp; at = length first.marks } in (
+        clocked,
+        subst (λ z. NeedsEnterByStamp z key stamp clocked) (sym second_is)
+            (record {
+              entry = record { outside = outside; free = free; key_fits = fits };
+              clock = refl;
+              stamp_is = refl;
+              announced = refl;
+            }),
+      )
 
   pub entered : (w : View) → Told k v2 (EnterByStamp key stamp) stamp w → HasEntered v key w
   entered w third =
       let s = third.sees in
       entered_from v (noted v2 (EnterByStamp key stamp) stamp) w key stamp (clocked_at v2) third.marks
-      (subst (λ z. Enters v.trail (noted z (EnterByStamp key stamp) stamp).trail) (sym second_is) (enters_by v.trail announced kinds.K5 _ _ refl refl (made_more is_entry v.trail (after_clock_load (noted v LoadClock stamp) stamp first.marks) kinds.K4 _ _ refl (made_more is_entry v.trail v kinds.K3 _ _ refl (made_none is_entry v.trail)))))
-      (subst (λ z. noted z (EnterByStamp key stamp) stamp ≡ record v { enter = z.enter; trail = (noted z (EnterByStamp key stamp) stamp).trail }) (sym second_is) refl) (record { works = s.works; begins = s.begins; own = s.own }) third.goes third.informed
+      (subst (λ z. Enters v.trail (noted z (EnterByStamp key stamp) stamp).trail) (sym second_is)
+      (enters_by v.trail announced kinds.K5 _ _ refl refl
+      (made_more is_entry v.trail (after_clock_load (noted v LoadClock stamp) stamp first.marks) kinds.K4 _ _ refl
+      (made_more is_entry v.trail v kinds.K3 _ _ refl (made_none is_entry v.trail)))))
+      (subst (λ z. noted z (EnterByStamp key stamp) stamp
+      ≡ record v { enter = z.enter; trail = (noted z (EnterByStamp key stamp) stamp).trail }) (sym second_is) refl)
+      (record { works = s.works; begins = s.begins; own = s.own }) third.goes third.informed
 
 -- the third waiter: the clock, then the stamp
 module _ (k : Shape) (v v1 : View) (key stamp : ℕ) (first : Told k v LoadClock stamp v1) where
   pub needs_row : v.section ≡ None → v.locks ≡ [] → key < 2 ^ 64 → (clocked : Clocked) × NeedsEnterByRow v1 key stamp clocked
   needs_row outside free fits =
-      let clocked : Clocked = record { number = stamp; at = length first.marks } in
-      (clocked, subst (λ z. NeedsEnterByRow z key stamp clocked) (sym first.goes) (record { entry = record { outside = outside; free = free; key_fits = fits }; clock = refl; stamp_is = refl }))
+      let clocked : Clocked = record { number = stamp; at = length first.marks } in (
+        clocked,
+        subst (λ z. NeedsEnterByRow z key stamp clocked) (sym first.goes)
+            (record { entry = record { outside = outside; free = free; key_fits = fits }; clock = refl; stamp_is = refl }),
+      )
 
   pub entered_row : (w : View) → Told k v1 (EnterByRow key stamp) stamp w → HasEntered v key w
   entered_row w second =
       let s = second.sees in
       entered_from v (noted v1 (EnterByRow key stamp) stamp) w key stamp (clocked_at v1) second.marks
-      (subst (λ z. Enters v.trail (noted z (EnterByRow key stamp) stamp).trail) (sym first.goes) (enters_by v.trail (after_clock_load (noted v LoadClock stamp) stamp first.marks) kinds.K33 _ _ refl refl (made_more is_entry v.trail v kinds.K3 _ _ refl (made_none is_entry v.trail))))
-      (subst (λ z. noted z (EnterByRow key stamp) stamp ≡ record v { enter = z.enter; trail = (noted z (EnterByRow key stamp) stamp).trail }) (sym first.goes) refl) (record { works = s.works; begins = s.begins; own = s.own }) second.goes second.informed
+      (subst (λ z. Enters v.trail (noted z (EnterByRow key stamp) stamp).trail) (sym first.goes)
+      (enters_by v.trail (after_clock_load (noted v LoadClock stamp) stamp first.marks) kinds.K33 _ _ refl refl
+      (made_more is_entry v.trail v kinds.K3 _ _ refl (made_none is_entry v.trail))))
+      (subst (λ z. noted z (EnterByRow key stamp) stamp
+      ≡ record v { enter = z.enter; trail = (noted z (EnterByRow key stamp) stamp).trail }) (sym first.goes) refl)
+      (record { works = s.works; begins = s.begins; own = s.own }) second.goes second.informed
 
 -- the second waiter: the gate, then the count
 module _ (k : Shape) (v v1 : View) (key gate : ℕ) (outside : v.section ≡ None) (first : Told k v (LoadGate (class_of key)) gate v1) where
@@ -135,19 +168,34 @@ module _ (k : Shape) (v v1 : View) (key gate : ℕ) (outside : v.section ≡ Non
   gate_is = first.goes ∙ ap (gated read (class_of key) gate) outside
 
   pub needs_count : (side : ℕ) → v.locks ≡ [] → key < 2 ^ 64 → side ≡ gate % 2 → (g : ℕ) × NeedsEnterByCount v1 key side g
-  needs_count side free fits side_is = (gate, subst (λ z. NeedsEnterByCount z key side gate) (sym gate_is) (record { entry = record { outside = outside; free = free; key_fits = fits }; gate_is = ap (λ same. cond same (Some gate) (gate_in v.enter.gates (class_of key))) (eq-eqb (class_of key) (class_of key) refl); side_is = side_is }))
+  needs_count side free fits side_is = (
+    gate,
+    subst (λ z. NeedsEnterByCount z key side gate) (sym gate_is)
+        (record {
+          entry = record { outside = outside; free = free; key_fits = fits };
+          gate_is = ap (λ same. cond same (Some gate) (gate_in v.enter.gates (class_of key))) (eq-eqb (class_of key) (class_of key) refl);
+          side_is = side_is;
+        }),
+  )
 
   pub entered_count : (w : View) (side found : ℕ) → Told k v1 (EnterByCount key side) found w → HasEntered v key w
   entered_count w side found second =
       let s = second.sees in
       entered_from v (noted v1 (EnterByCount key side) found) w key side (length second.marks) second.marks
-      (subst (λ z. Enters v.trail (noted z (EnterByCount key side) found).trail) (sym gate_is) (enters_by v.trail (gated read (class_of key) gate None) kinds.K29 _ _ refl refl (made_more is_entry v.trail v kinds.K28 _ _ refl (made_none is_entry v.trail))))
-      (subst (λ z. noted z (EnterByCount key side) found ≡ record v { enter = z.enter; trail = (noted z (EnterByCount key side) found).trail }) (sym gate_is) refl) (record { works = s.works; begins = s.begins; own = s.own }) second.goes second.informed
+      (subst (λ z. Enters v.trail (noted z (EnterByCount key side) found).trail) (sym gate_is)
+      (enters_by v.trail (gated read (class_of key) gate None) kinds.K29 _ _ refl refl
+      (made_more is_entry v.trail v kinds.K28 _ _ refl (made_none is_entry v.trail))))
+      (subst (λ z. noted z (EnterByCount key side) found
+      ≡ record v { enter = z.enter; trail = (noted z (EnterByCount key side) found).trail }) (sym gate_is) refl)
+      (record { works = s.works; begins = s.begins; own = s.own }) second.goes second.informed
 
 -- A section is left by one step.
-left_by : (v w : View) (kind : Kind) (field : Field) (number : ℕ) (section : Section) (h : List Mark) → is_exit kind ≡ true → v.section ≡ Some section → Sees v h → w ≡ leaving (stepped v kind field number) (section_of v) h → LeavesAnswer v w → IsInformed w → HasLeft v w
+left_by : (v w : View) (kind : Kind) (field : Field) (number : ℕ) (section : Section) (h : List Mark) → is_exit kind ≡ true
+    → v.section ≡ Some section → Sees v h → w ≡ leaving (stepped v kind field number) (section_of v) h → LeavesAnswer v w → IsInformed w
+    → HasLeft v w
 left_by v w kind field number section h exit was sees goes answers informed =
-    let is : w ≡ leaving (stepped v kind field number) section h = goes ∙ ap (λ s. leaving (stepped v kind field number) s h) (section_is v section was) in
+    let is : w ≡ leaving (stepped v kind field number) section h =
+    goes ∙ ap (λ s. leaving (stepped v kind field number) s h) (section_is v section was) in
     subst (HasLeft v) (sym is) (record {
       section = section;
       was = was;
@@ -174,7 +222,8 @@ module _ (v mid w : View) (key : ℕ) (first : HasEntered v key mid) (second : H
   pub visit_seen : IsPrefix v.seen w.seen
   visit_seen = prefix_trans v.seen mid.seen w.seen (seen_more v mid _ first.leaves) (seen_more mid w _ second.leaves)
 
-  pub visit_own : own_of v.allowance.place w.seen ≡ own_of v.allowance.place v.seen ++ Entered v.allowance.place v.counts.sections key ∷ Left v.allowance.place v.counts.sections ∷ []
+  pub visit_own : own_of v.allowance.place w.seen ≡ own_of v.allowance.place v.seen
+      ++ Entered v.allowance.place v.counts.sections key ∷ Left v.allowance.place v.counts.sections ∷ []
   visit_own =
       let place : mid.allowance.place ≡ v.allowance.place = ap (λ (z : View). z.allowance.place) first.others in
       let one : Some first.section ≡ Some second.section = sym first.inside ∙ second.was in
@@ -182,11 +231,23 @@ module _ (v mid w : View) (key : ℕ) (first : HasEntered v key mid) (second : H
       let count : second.section.count ≡ v.counts.sections = ap (λ (z : Section). z.count) (sym same) ∙ first.count_is in
       let a = own_more v mid _ (eq-eqb v.allowance.place v.allowance.place refl) first.leaves in
       let b = own_more mid w _ (eq-eqb mid.allowance.place mid.allowance.place refl) second.leaves in
-      let c : own_of v.allowance.place w.seen ≡ own_of v.allowance.place mid.seen ++ Left v.allowance.place v.counts.sections ∷ [] = subst (λ (z : ℕ × ℕ). own_of z.0 w.seen ≡ own_of z.0 mid.seen ++ Left z.0 z.1 ∷ []) (λ i. (place i, count i)) b in
-      c ∙ ap (λ l. l ++ Left v.allowance.place v.counts.sections ∷ []) a ∙ append_assoc (own_of v.allowance.place v.seen) (Entered v.allowance.place v.counts.sections key ∷ []) (Left v.allowance.place v.counts.sections ∷ [])
+      let c : own_of v.allowance.place w.seen ≡ own_of v.allowance.place mid.seen ++ Left v.allowance.place v.counts.sections ∷ [] =
+      subst (λ (z : ℕ × ℕ). own_of z.0 w.seen ≡ own_of z.0 mid.seen ++ Left z.0 z.1 ∷ []) (λ i. (place i, count i)) b in
+      c ∙ ap (λ l. l ++ Left v.allowance.place v.counts.sections ∷ []) a
+      ∙ append_assoc (own_of v.allowance.place v.seen) (Entered v.allowance.place v.counts.sections key ∷ [])
+      (Left v.allowance.place v.counts.sections ∷ [])
 
 pub begun : (k : Shape) (v w : View) (low high found : ℕ) → Told k v (BeginWait low high) found w → HasBegun v low high w
 begun k v w low high found told =
     let h : List Mark = told.marks in
     let is : w ≡ after_begin (noted v (BeginWait low high) found) low high found h = told.goes in
-    subst (HasBegun v low high) (sym is) (record { clock = found; leaves = record { before = h; seen = told.sees; marked = refl }; wait_is = refl; older = ((told.before).tells).older; moves = λ move is. (((told.before).tells).moves move is).2; made = refl; others = refl; informed = subst IsInformed is told.informed })
+    subst (HasBegun v low high) (sym is) (record {
+      clock = found;
+      leaves = record { before = h; seen = told.sees; marked = refl };
+      wait_is = refl;
+      older = ((told.before).tells).older;
+      moves = λ move is. (((told.before).tells).moves move is).2;
+      made = refl;
+      others = refl;
+      informed = subst IsInformed is told.informed;
+    })

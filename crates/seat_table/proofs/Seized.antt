@@ -44,7 +44,9 @@ module _ (v : View) (slot life number : ℕ) (next : number ≡ 2 * (life / 2 + 
     record {
       paid = hand.paid;
       in_hand = (
-        ap (λ o. raise_held (note_option slot note o)) hand.in_hand.0 ∙ ap (λ b. raise_held (Some (cond b (record hand.held { known = note ∷ hand.held.known }) hand.held))) (eq-eqb hand.held.slot slot hand.in_hand.1),
+        ap (λ o. raise_held (note_option slot note o)) hand.in_hand.0
+            ∙ ap (λ b. raise_held (Some (cond b (record hand.held { known = note ∷ hand.held.known }) hand.held)))
+            (eq-eqb hand.held.slot slot hand.in_hand.1),
         hand.in_hand.1,
       );
       raised = refl;

@@ -1,5 +1,5 @@
 -- The first words of a table.
-use Rattle.std.proofs.Common.{◌≡◌, ℕ, zero, suc, ◌+◌, ◌-◌, ◌*◌, ◌<◌, ◌≤◌, ◌==◌, nat_lt, nat_le, ◌&&◌, Bool, true, false, cond, List, [], ◌∷◌, ◌++◌, Some, None, length, get_or, refl, sym, ap, subst, ◌∙◌, arith, ne_eqb, length-append, append_assoc}
+use Rattle.std.proofs.Common.{◌≡◌, ℕ, zero, suc, ◌+◌, ◌-◌, ◌*◌, ◌<◌, ◌≤◌, nat_lt, nat_le, ◌&&◌, Bool, true, false, cond, List, [], ◌∷◌, ◌++◌, Some, None, length, get_or, refl, sym, ap, subst, ◌∙◌, arith, length-append, append_assoc}
 use Rattle.std.specs.Prelude.{replicate}
 use Rattle.std.proofs.lemmas.Bool.{lt-ltb, ltb-true, leb-true, le-leb}
 use Rattle.std.proofs.lemmas.List.{get_or_append_left, get_or-append-add, get_or-replicate, length-replicate, replicate_more}
@@ -12,7 +12,7 @@ use Rattle.core_state.specs.declared.shape.Waiter.{Waiter}
 use Rattle.core_state.specs.declared.shape.Waiter.TheVariants.{Eer, Domain, Deer}
 use Rattle.core_state.specs.declared.words.Field.{Field}
 use Rattle.core_state.specs.declared.words.Field.TheVariants.{Announced, Stamp, Gate, Count, Row, Lock, Life, Key, Value, Link, Tag}
-use Rattle.core_state.specs.memory.Memory.{Memory, slot_count, same_waiter, waiter_words, slot_base, word_count, word_of, is_field, memory_of, idle}
+use Rattle.core_state.specs.memory.Memory.{Memory, line, apart, lead, classes, waiter_base, waiter_room, slot_count, same_waiter, slot_base, state_base, word_count, word_of, is_field, memory_of, idle}
 use Rattle.core_state.specs.Fresh.{first_view, IsFresh}
 use Rattle.core_state.specs.Invariant.{IsShape, Rule}
 use Rattle.core_frames.proofs.Telling.{told_of}
@@ -25,110 +25,127 @@ use Rattle.seat_table.specs.declared.rule.Nothing.{Nothing}
 use Rattle.seat_table.specs.Gains.{HasSide, TellsNow}
 use Rattle.seat_table.specs.Seats.{TableAt, way_of, shape_of, with_way, HasPlace, HasFew}
 use Rattle.seat_table.specs.Seated.{Numbers, IsSeat}
-use Rattle.seat_table.specs.Fresh.{key_stamps, slot_words, waiter_part, first_words}
+use Rattle.seat_table.specs.Fresh.{alone, key_stamps, waiter_part, first_states, first_words, FirstWordsHold}
 use Rattle.seat_table.proofs.Memories.{lies}
 
 -- one more of each
-pub many_more : (old new newer : List ℕ) (i word : ℕ) → new ≡ old ++ replicate i word → newer ≡ new ++ word ∷ [] → newer ≡ old ++ replicate (i + 1) word
-many_more old new newer i word was is = is ∙ ap (λ l. l ++ word ∷ []) was ∙ append_assoc old (replicate i word) (word ∷ []) ∙ ap (λ l. old ++ l) (replicate_more i word)
+pub many_more : (old new newer : List ℕ) (i word : ℕ) → new ≡ old ++ replicate i word → newer ≡ new ++ word ∷ []
+    → newer ≡ old ++ replicate (i + 1) word
+many_more old new newer i word was is = is ∙ ap (λ l. l ++ word ∷ []) was ∙ append_assoc old (replicate i word) (word ∷ [])
+    ∙ ap (λ l. old ++ l) (replicate_more i word)
 
-stamps_end : (n : ℕ) → key_stamps n ++ 0 ∷ idle ∷ [] ≡ key_stamps (suc n)
+stamps_end : (n : ℕ) → key_stamps n ++ key_stamps 1 ≡ key_stamps (suc n)
 stamps_end zero = refl
-stamps_end (suc n) = ap (λ l. 0 ∷ idle ∷ l) (stamps_end n)
+stamps_end (suc n) = ap (λ l. (0 ∷ idle ∷ replicate (apart - 2) 0) ++ l) (stamps_end n)
 
-pub stamps_more : (old new newer : List ℕ) (i : ℕ) → new ≡ old ++ key_stamps i → newer ≡ new ++ 0 ∷ idle ∷ [] → newer ≡ old ++ key_stamps (i + 1)
-stamps_more old new newer i was is = is ∙ ap (λ l. l ++ 0 ∷ idle ∷ []) was ∙ append_assoc old (key_stamps i) (0 ∷ idle ∷ []) ∙ ap (λ l. old ++ l) (stamps_end i ∙ ap key_stamps (let e : suc i ≡ i + 1 = omega arith in e))
-
-slots_end : (state n : ℕ) → slot_words state n ++ state ∷ 0 ∷ 0 ∷ 0 ∷ 0 ∷ 0 ∷ 0 ∷ 0 ∷ 0 ∷ [] ≡ slot_words state (suc n)
-slots_end state zero = refl
-slots_end state (suc n) = ap (λ l. state ∷ 0 ∷ 0 ∷ 0 ∷ 0 ∷ 0 ∷ 0 ∷ 0 ∷ 0 ∷ l) (slots_end state n)
-
-pub slots_more : (old new newer : List ℕ) (i state : ℕ) → new ≡ old ++ slot_words state i → newer ≡ new ++ state ∷ 0 ∷ 0 ∷ 0 ∷ 0 ∷ 0 ∷ 0 ∷ 0 ∷ 0 ∷ [] → newer ≡ old ++ slot_words state (i + 1)
-slots_more old new newer i state was is = is ∙ ap (λ l. l ++ state ∷ 0 ∷ 0 ∷ 0 ∷ 0 ∷ 0 ∷ 0 ∷ 0 ∷ 0 ∷ []) was ∙ append_assoc old (slot_words state i) (state ∷ 0 ∷ 0 ∷ 0 ∷ 0 ∷ 0 ∷ 0 ∷ 0 ∷ 0 ∷ [])
-    ∙ ap (λ l. old ++ l) (slots_end state i ∙ ap (slot_words state) (let e : suc i ≡ i + 1 = omega arith in e))
+pub stamps_more : (old new newer : List ℕ) (i : ℕ) → new ≡ old ++ key_stamps i → newer ≡ new ++ key_stamps 1
+    → newer ≡ old ++ key_stamps (i + 1)
+stamps_more old new newer i was is = is ∙ ap (λ l. l ++ key_stamps 1) was ∙ append_assoc old (key_stamps i) (key_stamps 1)
+    ∙ ap (λ l. old ++ l) (stamps_end i ∙ ap key_stamps (let e : suc i ≡ i + 1 = omega arith in e))
 
 -- what the parts have
-length_stamps : (n : ℕ) → length (key_stamps n) ≡ 2 * n
+length_stamps : (n : ℕ) → length (key_stamps n) ≡ apart * n
 length_stamps zero = refl
 length_stamps (suc n) = let rest = length_stamps n in omega arith
 
-length_slots : (state n : ℕ) → length (slot_words state n) ≡ 9 * n
-length_slots state zero = refl
-length_slots state (suc n) = let rest = length_slots state n in omega arith
-
-length_part : (w : Waiter) (places : ℕ) → length (waiter_part w places) ≡ waiter_words w places
+length_part : (w : Waiter) (places : ℕ) → length (waiter_part w places) ≡ waiter_room w places
 length_part Eer places = length_stamps places
-length_part Domain places = length-replicate {A = ℕ} 192 0
-length_part Deer places = length-replicate {A = ℕ} (64 * places) idle
+length_part Domain places = length-replicate {A = ℕ} (apart * classes) 0
+length_part Deer places = length-replicate {A = ℕ} (classes * places) idle
 
-stamps_at : (n p : ℕ) → p < n → (get_or (key_stamps n) (2 * p) 0 ≡ 0) × (get_or (key_stamps n) (suc (2 * p)) 0 ≡ idle)
+-- a place's pair of words, among those of all places
+stamps_at : (n p : ℕ) → p < n → (get_or (key_stamps n) (apart * p) 0 ≡ 0) × (get_or (key_stamps n) (apart * p + 1) 0 ≡ idle)
 stamps_at zero p small = absurd (omega arith)
 stamps_at (suc n) zero small = (refl, refl)
 stamps_at (suc n) (suc p) small =
     let rest = stamps_at n p (omega arith) in
-    let e : 2 * suc p ≡ suc (suc (2 * p)) = omega arith in
-    (ap (λ i. get_or (key_stamps (suc n)) i 0) e ∙ rest.0, ap (λ i. get_or (key_stamps (suc n)) (suc i) 0) e ∙ rest.1)
-
-row_at : (state j : ℕ) (more : List ℕ) → j < 9 → get_or (state ∷ 0 ∷ 0 ∷ 0 ∷ 0 ∷ 0 ∷ 0 ∷ 0 ∷ 0 ∷ more) j 0 ≡ cond (j == 0) state 0
-row_at state zero more small = refl
-row_at state (suc zero) more small = refl
-row_at state (suc (suc zero)) more small = refl
-row_at state (suc (suc (suc zero))) more small = refl
-row_at state (suc (suc (suc (suc zero)))) more small = refl
-row_at state (suc (suc (suc (suc (suc zero))))) more small = refl
-row_at state (suc (suc (suc (suc (suc (suc zero)))))) more small = refl
-row_at state (suc (suc (suc (suc (suc (suc (suc zero))))))) more small = refl
-row_at state (suc (suc (suc (suc (suc (suc (suc (suc zero)))))))) more small = refl
-row_at state (suc (suc (suc (suc (suc (suc (suc (suc (suc j))))))))) more small = absurd (omega arith)
-
-slots_at : (state n s j : ℕ) → s < n → j < 9 → get_or (slot_words state n) (9 * s + j) 0 ≡ cond (j == 0) state 0
-slots_at state zero s j below small = absurd (omega arith)
-slots_at state (suc n) zero j below small = ap (λ i. get_or (slot_words state (suc n)) i 0) (let e : 9 * 0 + j ≡ j = omega arith in e) ∙ row_at state j (slot_words state n) small
-slots_at state (suc n) (suc s) j below small =
-    let e : 9 * suc s + j ≡ suc (suc (suc (suc (suc (suc (suc (suc (suc (9 * s + j))))))))) = omega arith in
-    ap (λ i. get_or (slot_words state (suc n)) i 0) e ∙ slots_at state n s j (omega arith) small
+    let pair : List ℕ = 0 ∷ idle ∷ replicate (apart - 2) 0 in
+    let e : apart * suc p ≡ apart + apart * p = omega arith in
+    let f : apart * suc p + 1 ≡ apart + (apart * p + 1) = omega arith in (
+      ap (λ i. get_or (key_stamps (suc n)) i 0) e ∙ get_or-append-add pair (key_stamps n) (apart * p) 0 ∙ rest.0,
+      ap (λ i. get_or (key_stamps (suc n)) i 0) f ∙ get_or-append-add pair (key_stamps n) (apart * p + 1) 0 ∙ rest.1,
+    )
 
 module _ (k : Shape) where
   abbrev ws : List ℕ
   ws = first_words k
 
+  -- the room before the free count, and the free count with its room
+  abbrev before : List ℕ
+  before = replicate (lead + 2 * apart) 0
+
   abbrev part : List ℕ
   part = waiter_part k.waiter k.places
 
+  abbrev lines : List ℕ
+  lines = replicate (line * slot_count k) 0
+
   abbrev used : List ℕ
-  used = slot_words 1 (k.places + 1)
+  used = replicate (k.places + 1) 1
 
   abbrev unused : List ℕ
-  unused = slot_words 0 k.slots
+  unused = replicate k.slots 0
+
+  length_states : length (first_states k) ≡ slot_count k
+  length_states =
+      let a = length-replicate {A = ℕ} (k.places + 1) 1 in
+      let b = length-replicate {A = ℕ} k.slots 0 in
+      let c = length-append used unused in
+      omega arith
+
+  length_lines : length lines ≡ line * slot_count k
+  length_lines = length-replicate {A = ℕ} (line * slot_count k) 0
 
   long : length ws ≡ word_count k
   long =
-      let a = length_part k.waiter k.places in
-      let b = length_slots 1 (k.places + 1) in
-      let c = length_slots 0 k.slots in
-      let d = length-append part (used ++ unused) in
-      let e = length-append used unused in
+      let a = length-replicate {A = ℕ} (lead + 2 * apart) 0 in
+      let b = length-replicate {A = ℕ} (apart - 1) 0 in
+      let c = length_part k.waiter k.places in
+      let d = length_lines in
+      let e = length_states in
+      let f = length-append before (alone k.slots ++ (part ++ (lines ++ first_states k))) in
+      let g = length-append (alone k.slots) (part ++ (lines ++ first_states k)) in
+      let h = length-append part (lines ++ first_states k) in
+      let i = length-append lines (first_states k) in
       omega arith
 
+  -- what stands from the waiter's words on
+  from_base : (j : ℕ) → get_or ws (waiter_base + j) 0 ≡ get_or (part ++ (lines ++ first_states k)) j 0
+  from_base j = ap (λ z. get_or ws z 0) (let e : waiter_base + j ≡ (lead + 2 * apart) + (apart + j) = omega arith in e)
+      ∙ get_or-append-add before (alone k.slots ++ (part ++ (lines ++ first_states k))) (apart + j) 0
+      ∙ get_or-append-add (alone k.slots) (part ++ (lines ++ first_states k)) j 0
+
   -- the waiter's words
-  part_at : (j : ℕ) → j < waiter_words k.waiter k.places → get_or ws (3 + j) 0 ≡ get_or part j 0
-  part_at j small = get_or-append-add (0 ∷ 0 ∷ k.slots ∷ []) (part ++ (used ++ unused)) j 0 ∙ get_or_append_left part (used ++ unused) 0 j (let a = length_part k.waiter k.places in omega arith)
+  part_at : (j : ℕ) → j < waiter_room k.waiter k.places → get_or ws (waiter_base + j) 0 ≡ get_or part j 0
+  part_at j small = from_base j ∙ get_or_append_left part (lines ++ first_states k) 0 j
+      (let a = length_part k.waiter k.places in omega arith)
 
-  -- the words of the slots
-  rest_at : (i : ℕ) → get_or ws (slot_base k + i) 0 ≡ get_or (used ++ unused) i 0
-  rest_at i =
+  -- the words of the slots but their states
+  line_at : (i : ℕ) → i < line * slot_count k → get_or ws (slot_base k + i) 0 ≡ 0
+  line_at i small =
       let a = length_part k.waiter k.places in
-      let e : slot_base k + i ≡ 3 + (length part + i) = omega arith in
-      ap (λ z. get_or ws z 0) e ∙ get_or-append-add (0 ∷ 0 ∷ k.slots ∷ []) (part ++ (used ++ unused)) (length part + i) 0 ∙ get_or-append-add part (used ++ unused) i 0
+      let e : slot_base k + i ≡ waiter_base + (length part + i) = omega arith in
+      ap (λ z. get_or ws z 0) e ∙ from_base (length part + i) ∙ get_or-append-add part (lines ++ first_states k) i 0
+      ∙ get_or_append_left lines (first_states k) 0 i (let b = length_lines in omega arith)
+      ∙ get_or-replicate (line * slot_count k) i 0 0 small
 
-  slot_at : (s j : ℕ) → s < slot_count k → j < 9 → get_or ws (slot_base k + 9 * s + j) 0 ≡ cond (j == 0) (cond (nat_le s k.places) 1 0) 0
-  slot_at s j below small = ap (λ z. get_or ws z 0) (let e : slot_base k + 9 * s + j ≡ slot_base k + (9 * s + j) = omega arith in e) ∙ rest_at (9 * s + j) ∙ dite (dec_le s k.places)
-      (λ le. get_or_append_left used unused 0 (9 * s + j) (let a = length_slots 1 (k.places + 1) in omega arith) ∙ slots_at 1 (k.places + 1) s j (omega arith) small ∙ ap (λ b. cond (j == 0) (cond b 1 0) 0) (sym (le-leb s k.places le)))
+  -- the states
+  state_at : (s : ℕ) → s < slot_count k → get_or ws (state_base k + s) 0 ≡ cond (nat_le s k.places) 1 0
+  state_at s small =
+      let a = length_part k.waiter k.places in
+      let b = length_lines in
+      let c = length-replicate {A = ℕ} (k.places + 1) 1 in
+      let e : state_base k + s ≡ waiter_base + (length part + (length lines + s)) = omega arith in
+      ap (λ z. get_or ws z 0) e ∙ from_base (length part + (length lines + s))
+      ∙ get_or-append-add part (lines ++ first_states k) (length lines + s) 0 ∙ get_or-append-add lines (first_states k) s 0
+      ∙ dite (dec_le s k.places)
+      (λ le. get_or_append_left used unused 0 s (omega arith) ∙ get_or-replicate (k.places + 1) s 1 0 (omega arith)
+      ∙ ap (λ b. cond b 1 0) (sym (le-leb s k.places le)))
       (λ more.
-      let a = length_slots 1 (k.places + 1) in
       let t : ℕ = s - (k.places + 1) in
-      let e : 9 * s + j ≡ length used + (9 * t + j) = omega arith in
-      ap (λ z. get_or (used ++ unused) z 0) e ∙ get_or-append-add used unused (9 * t + j) 0 ∙ slots_at 0 k.slots t j (omega arith) small ∙ ap (λ b. cond (j == 0) (cond b 1 0) 0) (sym (not_le s k.places more)))
+      let f : s ≡ length used + t = omega arith in
+      ap (λ z. get_or (used ++ unused) z 0) f ∙ get_or-append-add used unused t 0 ∙ get_or-replicate k.slots t 0 0 (omega arith)
+      ∙ ap (λ b. cond b 1 0) (sym (not_le s k.places more)))
     where
       not_le : (a b : ℕ) → (a ≤ b → ⊥) → nat_le a b ≡ false
       not_le a b more = by_bool (nat_le a b) refl
@@ -141,28 +158,26 @@ module _ (k : Shape) where
   or_none true x is = is refl
   or_none false x is = refl
 
-  slot_none : (field : Field) (s j : ℕ) → is_field k field ≡ nat_lt s (slot_count k) → word_of k field ≡ slot_base k + 9 * s + j → 1 ≤ j → j < 9 → memory_of k ws field ≡ 0
-  slot_none field s j of at some small = or_none (is_field k field) (get_or ws (word_of k field) 0) (λ has. ap (λ z. get_or ws z 0) at ∙ slot_at s j (ltb-true s (slot_count k) (sym of ∙ has)) small ∙ no_state j some)
-    where
-      no_state : (j : ℕ) → 1 ≤ j → ◌≡◌ {A = ℕ} (cond (j == 0) (cond (nat_le s k.places) 1 0) 0) 0
-      no_state zero some = absurd (omega arith)
-      no_state (suc j) some = ap (λ b. cond b (cond (nat_le s k.places) 1 0) 0) (ne_eqb (suc j) 0 (λ e. omega arith))
+  slot_none : (field : Field) (s j : ℕ) → is_field k field ≡ nat_lt s (slot_count k) → word_of k field ≡ slot_base k + (line * s + j)
+      → j < line → memory_of k ws field ≡ 0
+  slot_none field s j of at small = or_none (is_field k field) (get_or ws (word_of k field) 0)
+      (λ has. let below = ltb-true s (slot_count k) (sym of ∙ has) in ap (λ z. get_or ws z 0) at ∙ line_at (line * s + j) (omega arith))
 
   -- the waiter's words by the waiter
-  key_at : (w : Waiter) (places p : ℕ) → waiter_words w places ≡ 2 * places → same_waiter w Eer ≡ true → p < places → get_or (waiter_part w places) (2 * p) 0 ≡ 0
-  key_at Eer places p all is small = (stamps_at places p small).0
-  key_at _ places p all is small = absurd (cc)
+  key_at : (w : Waiter) (places p : ℕ) → same_waiter w Eer ≡ true → p < places → get_or (waiter_part w places) (apart * p) 0 ≡ 0
+  key_at Eer places p is small = (stamps_at places p small).0
+  key_at _ places p is small = absurd (cc)
 
-  stamp_at : (w : Waiter) (places p : ℕ) → same_waiter w Eer ≡ true → p < places → get_or (waiter_part w places) (suc (2 * p)) 0 ≡ idle
+  stamp_at : (w : Waiter) (places p : ℕ) → same_waiter w Eer ≡ true → p < places → get_or (waiter_part w places) (apart * p + 1) 0 ≡ idle
   stamp_at Eer places p is small = (stamps_at places p small).1
   stamp_at _ places p is small = absurd (cc)
 
-  domain_at : (w : Waiter) (places j : ℕ) → same_waiter w Domain ≡ true → j < 192 → get_or (waiter_part w places) j 0 ≡ 0
-  domain_at Domain places j is small = get_or-replicate 192 j 0 0 small
+  domain_at : (w : Waiter) (places j : ℕ) → same_waiter w Domain ≡ true → j < apart * classes → get_or (waiter_part w places) j 0 ≡ 0
+  domain_at Domain places j is small = get_or-replicate (apart * classes) j 0 0 small
   domain_at _ places j is small = absurd (cc)
 
-  deer_at : (w : Waiter) (places j : ℕ) → same_waiter w Deer ≡ true → j < 64 * places → get_or (waiter_part w places) j 0 ≡ idle
-  deer_at Deer places j is small = get_or-replicate (64 * places) j idle 0 small
+  deer_at : (w : Waiter) (places j : ℕ) → same_waiter w Deer ≡ true → j < classes * places → get_or (waiter_part w places) j 0 ≡ idle
+  deer_at Deer places j is small = get_or-replicate (classes * places) j idle 0 small
   deer_at _ places j is small = absurd (cc)
 
   first : (a b : Bool) → (a && b) ≡ true → a ≡ true
@@ -170,12 +185,12 @@ module _ (k : Shape) where
   first false b e = absurd (cc)
 
   link_case : (s : ℕ) (b : Side) → memory_of k ws (Link s b) ≡ 0
-  link_case s Left = slot_none (Link s Left) s 5 refl refl (omega arith) (omega arith)
-  link_case s Right = slot_none (Link s Right) s 6 refl refl (omega arith) (omega arith)
+  link_case s Left = slot_none (Link s Left) s 4 refl (omega arith) (omega arith)
+  link_case s Right = slot_none (Link s Right) s 5 refl (omega arith) (omega arith)
 
   tag_case : (s : ℕ) (b : Side) → memory_of k ws (Tag s b) ≡ 0
-  tag_case s Left = slot_none (Tag s Left) s 7 refl refl (omega arith) (omega arith)
-  tag_case s Right = slot_none (Tag s Right) s 8 refl refl (omega arith) (omega arith)
+  tag_case s Left = slot_none (Tag s Left) s 6 refl (omega arith) (omega arith)
+  tag_case s Right = slot_none (Tag s Right) s 7 refl (omega arith) (omega arith)
 
   has_place : (w : Waiter) (p places : ℕ) → p < places → nat_lt p places ≡ true
   has_place w p places small = lt-ltb p places small
@@ -185,45 +200,92 @@ module _ (k : Shape) where
     clock = refl;
     front = refl;
     free = refl;
-    announced = λ p. or_none (is_field k (Announced p)) (get_or ws (3 + 2 * p) 0) (λ has. let l = lies k (Announced p) has in part_at (2 * p) (let a = l.1 in let b = l.2 in omega arith) ∙ key_at k.waiter k.places p l.1 (first _ _ has) l.2);
+    announced = λ p. or_none (is_field k (Announced p)) (get_or ws (word_of k (Announced p)) 0)
+        (λ has. let l = lies k (Announced p) has in part_at (apart * p) (let a = l.1 in let b = l.2 in omega arith)
+        ∙ key_at k.waiter k.places p (first _ _ has) l.2);
     stamps = λ p eer small.
         let is : is_field k (Stamp p) ≡ true = ap (λ w. same_waiter w Eer && nat_lt p k.places) eer ∙ has_place k.waiter p k.places small in
         let l = lies k (Stamp p) is in
-        ap (λ b. cond b (get_or ws (word_of k (Stamp p)) 0) 0) is ∙ ap (λ z. get_or ws z 0) (let e : word_of k (Stamp p) ≡ 3 + suc (2 * p) = omega arith in e) ∙ part_at (suc (2 * p)) (let a = l.1 in let b = l.2 in omega arith) ∙ stamp_at k.waiter k.places p (first _ _ is) small;
-    gates = λ c. or_none (is_field k (Gate c)) (get_or ws (3 + 3 * c) 0) (λ has. let l = lies k (Gate c) has in part_at (3 * c) (let a = l.1 in let b = l.2 in omega arith) ∙ domain_at k.waiter k.places (3 * c) (first _ _ has) (let b = l.2 in omega arith));
-    counts = λ c side. or_none (is_field k (Count c side)) (get_or ws (4 + 3 * c + side) 0)
-        (λ has. let l = lies k (Count c side) has in ap (λ z. get_or ws z 0) (let e : 4 + 3 * c + side ≡ 3 + (1 + 3 * c + side) = omega arith in e) ∙ part_at (1 + 3 * c + side) (let a = l.1 in let b = l.2 in let d = l.3 in omega arith) ∙ domain_at k.waiter k.places (1 + 3 * c + side) (first _ _ has) (let b = l.2 in let d = l.3 in omega arith));
+        ap (λ b. cond b (get_or ws (word_of k (Stamp p)) 0) 0) is
+        ∙ ap (λ z. get_or ws z 0) (let e : word_of k (Stamp p) ≡ waiter_base + (apart * p + 1) = omega arith in e)
+        ∙ part_at (apart * p + 1) (let a = l.1 in let b = l.2 in omega arith) ∙ stamp_at k.waiter k.places p (first _ _ is) small;
+    gates = λ c. or_none (is_field k (Gate c)) (get_or ws (word_of k (Gate c)) 0)
+        (λ has. let l = lies k (Gate c) has in part_at (apart * c) (let a = l.1 in let b = l.2 in omega arith)
+        ∙ domain_at k.waiter k.places (apart * c) (first _ _ has) (let b = l.2 in omega arith));
+    counts = λ c side. or_none (is_field k (Count c side)) (get_or ws (word_of k (Count c side)) 0)
+        (λ has. let l = lies k (Count c side) has in
+        let inside : apart * c + 1 + side < apart * classes = (let b = l.2 in let d = l.3 in omega arith) in
+        ap (λ z. get_or ws z 0) (let e : word_of k (Count c side) ≡ waiter_base + (apart * c + 1 + side) = omega arith in e)
+        ∙ part_at (apart * c + 1 + side) (let a = l.1 in omega arith)
+        ∙ domain_at k.waiter k.places (apart * c + 1 + side) (first _ _ has) inside);
     rows = λ p c deer small few.
-        let is : is_field k (Row p c) ≡ true = ap (λ w. same_waiter w Deer && (nat_lt p k.places && nat_lt c 64)) deer ∙ ap (λ b. b && nat_lt c 64) (has_place k.waiter p k.places small) ∙ has_place k.waiter c 64 few in
+        let is : is_field k (Row p c) ≡ true = ap (λ w. same_waiter w Deer && (nat_lt p k.places && nat_lt c classes)) deer
+        ∙ ap (λ b. b && nat_lt c classes) (has_place k.waiter p k.places small) ∙ has_place k.waiter c classes few in
         let l = lies k (Row p c) is in
-        ap (λ b. cond b (get_or ws (word_of k (Row p c)) 0) 0) is ∙ ap (λ z. get_or ws z 0) (let e : word_of k (Row p c) ≡ 3 + (64 * p + c) = omega arith in e) ∙ part_at (64 * p + c) (let a = l.1 in let b = l.2 in omega arith) ∙ deer_at k.waiter k.places (64 * p + c) (first _ _ is) (omega arith);
-    states = λ s small. ap (λ b. cond b (get_or ws (slot_base k + 9 * s) 0) 0) (has_place k.waiter s (slot_count k) small) ∙ ap (λ z. get_or ws z 0) (let e : slot_base k + 9 * s ≡ slot_base k + 9 * s + 0 = omega arith in e) ∙ slot_at s 0 small (omega arith);
-    locks = λ s. slot_none (Lock s) s 1 refl refl (omega arith) (omega arith);
-    lives = λ s. slot_none (Life s) s 2 refl refl (omega arith) (omega arith);
-    keys = λ s. slot_none (Key s) s 3 refl refl (omega arith) (omega arith);
-    values = λ s. slot_none (Value s) s 4 refl refl (omega arith) (omega arith);
+        ap (λ b. cond b (get_or ws (word_of k (Row p c)) 0) 0) is
+        ∙ ap (λ z. get_or ws z 0) (let e : word_of k (Row p c) ≡ waiter_base + (classes * p + c) = omega arith in e)
+        ∙ part_at (classes * p + c) (let a = l.1 in let b = l.2 in omega arith)
+        ∙ deer_at k.waiter k.places (classes * p + c) (first _ _ is) (omega arith);
+    states = λ s small. ap (λ b. cond b (get_or ws (state_base k + s) 0) 0) (has_place k.waiter s (slot_count k) small) ∙ state_at s small;
+    locks = λ s. slot_none (Lock s) s 0 refl (omega arith) (omega arith);
+    lives = λ s. slot_none (Life s) s 1 refl (omega arith) (omega arith);
+    keys = λ s. slot_none (Key s) s 2 refl (omega arith) (omega arith);
+    values = λ s. slot_none (Value s) s 3 refl (omega arith) (omega arith);
     links = link_case;
     tags = tag_case;
   }
 
 -- The rule holds of the first words.
 pub rule_starts : (k : Shape) (words : List ℕ) → IsShape k → words ≡ first_words k → Rule k words (first_view k ∷ [])
-rule_starts k words shape is = subst (λ z. Rule k z (first_view k ∷ [])) (sym is) (record { marks = []; long = long k; holds = tables_begin k (memory_of k (first_words k)) shape (fresh k) })
+rule_starts k words shape is = subst (λ z. Rule k z (first_view k ∷ [])) (sym is)
+    (record { marks = []; long = long k; holds = tables_begin k (memory_of k (first_words k)) shape (fresh k) })
 
 module _ (way : ℕ) (k : Shape) (is : k.waiter ≡ way_of way) (shape : IsShape k) where
   abbrev first_at : TableId → TableAt
   first_at table = record { id = table; slots = k.slots; places = k.places; tickets = k.tickets }
 
   abbrev first_numbers : Numbers
-  first_numbers = record { place = 0; places = k.places; tickets = k.tickets; key = None; stamp = 0; hand = None; spare = Some 1; waits = 0; turns = 0; free = k.slots; front = 0 }
+  first_numbers = record {
+    place = 0;
+    places = k.places;
+    tickets = k.tickets;
+    key = None;
+    stamp = 0;
+    hand = None;
+    spare = Some 1;
+    waits = 0;
+    turns = 0;
+    free = k.slots;
+    front = 0;
+  }
 
   -- what the first seat has
-  pub first_room : (table : TableId) (me : Me Nothing View) → me ≡ (first_view k, []) → (me.1 ≡ []) × IsSeat way (first_at table) first_numbers me.0
-  first_room table me e = subst (λ (m : Me Nothing View). (m.1 ≡ []) × IsSeat way (first_at table) first_numbers m.0) (sym e)
-      (refl, record { room = room; side = side; told = told; few = few; place = refl; places = refl; tickets = refl; key = tt; stamp = tt; hand = tt; spare = refl; waits = refl; turns = refl; free = refl; front = refl })
+  pub first_room : (table : TableId) (me : Me Nothing View) → me ≡ (first_view k, [])
+      → (me.1 ≡ []) × IsSeat way (first_at table) first_numbers me.0
+  first_room table me e = subst (λ (m : Me Nothing View). (m.1 ≡ []) × IsSeat way (first_at table) first_numbers m.0) (sym e) (
+    refl,
+    record {
+      room = room;
+      side = side;
+      told = told;
+      few = few;
+      place = refl;
+      places = refl;
+      tickets = refl;
+      key = tt;
+      stamp = tt;
+      hand = tt;
+      spare = refl;
+      waits = refl;
+      turns = refl;
+      free = refl;
+      front = refl;
+    },
+  )
     where
       room : HasPlace (first_at table) (first_view k)
-      room = let some_place = shape.some_place in let few_places = shape.few_places in record { works = some_place; inside = omega arith; few_places = few_places }
+      room = let some_place = shape.some_place in let few_places = shape.few_places in
+          record { works = some_place; inside = omega arith; few_places = few_places }
 
       side : HasSide (shape_of way (first_at table)) (first_view k)
       side = record { small = λ section inside domain. absurd (cc) }
@@ -233,22 +295,38 @@ module _ (way : ℕ) (k : Shape) (is : k.waiter ≡ way_of way) (shape : IsShape
           let m : Memory = memory_of k (first_words k) in
           let now = (tables_begin k m shape (fresh k)).now in
           let vs : List View = first_view k ∷ [] in
-          record { marks = []; sees = sees k m vs [] now 0 (first_view k) refl shape.some_place; word = m; tells = told_of k m vs [] 0 (first_view k) now refl shape.some_place; apart = λ s. omega arith }
+          record {
+            marks = [];
+            sees = sees k m vs [] now 0 (first_view k) refl shape.some_place;
+            word = m;
+            tells = told_of k m vs [] 0 (first_view k) now refl shape.some_place;
+            apart = λ s. omega arith;
+          }
 
       few : HasFew (first_view k)
       few = let few_tickets = shape.few_tickets in record { waits = omega arith; turns = omega arith }
 
   -- what the table has
-  pub first_table : (key : Shape) (words base : ℕ) → key ≡ k → words ≡ word_count k → ((z : Shape) → z.waiter ≡ k.waiter → z.places ≡ k.places → base ≡ slot_base z)
-      → (words ≡ word_count (with_way way key)) × IsShape (with_way way key) × (key.waiter ≡ way_of way) × (base ≡ slot_base (with_way way key)) × (k.slots ≡ key.slots) × (k.places ≡ key.places)
-  first_table key words base e all at = subst (λ (z : Shape). (words ≡ word_count (with_way way z)) × IsShape (with_way way z) × (z.waiter ≡ way_of way) × (base ≡ slot_base (with_way way z)) × (k.slots ≡ z.slots) × (k.places ≡ z.places)) (sym e) (
-    all ∙ ap (λ w. word_count (record { waiter = w; slots = k.slots; places = k.places; tickets = k.tickets })) is,
-    record { some_slot = shape.some_slot; few_slots = shape.few_slots; some_place = shape.some_place; few_places = shape.few_places; few_tickets = shape.few_tickets },
-    is,
-    at (with_way way k) (sym is) refl,
-    refl,
-    refl,
-  )
+  pub first_table : (key : Shape) (words : ℕ) → key ≡ k → words ≡ word_count k
+      → (words ≡ word_count (with_way way key)) × IsShape (with_way way key) × (key.waiter ≡ way_of way) × (k.slots ≡ key.slots)
+      × (k.places ≡ key.places)
+  first_table key words e all = subst (λ (z : Shape). (words ≡ word_count (with_way way z)) × IsShape (with_way way z)
+      × (z.waiter ≡ way_of way) × (k.slots ≡ z.slots) × (k.places ≡ z.places)) (sym e) (
+        all ∙ ap (λ w. word_count (record { waiter = w; slots = k.slots; places = k.places; tickets = k.tickets })) is,
+        record {
+          some_slot = shape.some_slot;
+          few_slots = shape.few_slots;
+          some_place = shape.some_place;
+          few_places = shape.few_places;
+          few_tickets = shape.few_tickets;
+        },
+        is,
+        refl,
+        refl,
+      )
 
 pub first_long : (k : Shape) (words : List ℕ) → words ≡ first_words k → length words ≡ word_count k
 first_long k words is = ap length is ∙ long k
+
+pub first_words_hold : FirstWordsHold
+first_words_hold k shape = (long k, fresh k, rule_starts k (first_words k) shape refl)

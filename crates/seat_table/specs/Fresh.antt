@@ -1,32 +1,48 @@
 -- A table as it is made: its words, and the one seat.
 -- Source: docs/TREE.md, "The words of the tree's table".
-use Rattle.std.specs.Prelude.{ℕ, zero, suc, ◌+◌, ◌*◌, List, [], ◌∷◌, ◌++◌, replicate}
+use Rattle.std.specs.Prelude.{◌≡◌, ℕ, zero, suc, ◌+◌, ◌-◌, ◌*◌, List, [], ◌∷◌, ◌++◌, length, replicate}
 use Rattle.core_state.specs.declared.shape.Shape.{Shape}
 use Rattle.core_state.specs.declared.shape.Waiter.{Waiter}
 use Rattle.core_state.specs.declared.shape.Waiter.TheVariants.{Eer, Domain, Deer}
-use Rattle.core_state.specs.memory.Memory.{idle}
-use Rattle.core_state.specs.Fresh.{first_view}
+use Rattle.core_state.specs.memory.Memory.{line, apart, lead, classes, slot_count, idle, word_count, memory_of}
+use Rattle.core_state.specs.Fresh.{first_view, IsFresh}
+use Rattle.core_state.specs.Invariant.{IsShape, Rule}
+use Rattle.seat_table.specs.Scans.{region}
 use Rattle.seat_table.specs.Seats.{SeatAt, TableAt, shape_of}
 
 abbrev pub fresh_seat : ℕ → TableAt → SeatAt
-fresh_seat way table = record { table = table; view = first_view (shape_of way table); listed = [] }
+fresh_seat way table = record {
+  table = table;
+  view = first_view (shape_of way table);
+  listed = [];
+  looked = region table.slots table.places 0;
+}
 
--- so many keys and stamps, side by side
+-- a word that stands alone, and the room behind it
+abbrev pub alone : ℕ → List ℕ
+alone word = word ∷ replicate (apart - 1) 0
+
+-- so many keys and stamps, each pair with the room behind it
 abbrev pub key_stamps : ℕ → List ℕ
 key_stamps zero = []
-key_stamps (suc n) = 0 ∷ idle ∷ key_stamps n
-
--- the words of so many slots with this state
-abbrev pub slot_words : ℕ → ℕ → List ℕ
-slot_words state zero = []
-slot_words state (suc n) = state ∷ 0 ∷ 0 ∷ 0 ∷ 0 ∷ 0 ∷ 0 ∷ 0 ∷ 0 ∷ slot_words state n
+key_stamps (suc n) = (0 ∷ idle ∷ replicate (apart - 2) 0) ++ key_stamps n
 
 -- the waiter's words
 abbrev pub waiter_part : Waiter → ℕ → List ℕ
 waiter_part Eer places = key_stamps places
-waiter_part Domain places = replicate 192 0
-waiter_part Deer places = replicate (64 * places) idle
+waiter_part Domain places = replicate (apart * classes) 0
+waiter_part Deer places = replicate (classes * places) idle
 
--- the clock, the front, the free count, the waiter's words, and the slots: the root and the spares aren't free
+-- the states: the root and the spares aren't free
+abbrev pub first_states : Shape → List ℕ
+first_states k = replicate (k.places + 1) 1 ++ replicate k.slots 0
+
+-- the room before them, the clock, the front, the free count, the waiter's words, the slots' lines, and the states
 abbrev pub first_words : Shape → List ℕ
-first_words k = (0 ∷ 0 ∷ k.slots ∷ []) ++ (waiter_part k.waiter k.places ++ (slot_words 1 (k.places + 1) ++ slot_words 0 k.slots))
+first_words k = replicate (lead + 2 * apart) 0
+    ++ (alone k.slots ++ (waiter_part k.waiter k.places ++ (replicate (line * slot_count k) 0 ++ first_states k)))
+
+-- These words are those of a fresh table, as many as its shape has, and with the first seat's view they have the rule.
+abbrev pub FirstWordsHold : Type 0
+FirstWordsHold = (k : Shape) → IsShape k → (length (first_words k) ≡ word_count k) × IsFresh k (memory_of k (first_words k))
+    × Rule k (first_words k) (first_view k ∷ [])

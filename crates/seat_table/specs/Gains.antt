@@ -22,6 +22,7 @@ use Rattle.core_state.specs.declared.view.Retired.{Retired}
 use Rattle.core_state.specs.declared.view.SearchState.TheVariants.{Found, Missed}
 use Rattle.core_state.specs.declared.view.Section.{Section}
 use Rattle.core_state.specs.declared.view.View.{View}
+use Rattle.core_state.specs.declared.view.Visit.{Visit}
 use Rattle.list_laws.specs.Counts.{times, IsIn, Each}
 use Rattle.core_state.specs.memory.Lists.{IsEven}
 use Rattle.core_state.specs.memory.Memory.{slot_count}
@@ -68,10 +69,11 @@ pub record IsSlot (k : Shape) (s : ℕ) : Type 0 where
   pub inside : s < slot_count k
   pub fits : s < 4294967296
 
--- The slots at which the open section has stood are the table's, and so is that of its listing.
+-- The slots at which the open section has stood are the table's, and so are those where its listing has been.
 pub record StoodInside (k : Shape) (w : View) : Type 0 where
   pub stood : (section : Section) (s : ℕ) → w.section ≡ Some section → IsIn section.reading.stood s → IsSlot k s
-  pub listed : (section : Section) (listing : Listing) → w.section ≡ Some section → section.listing ≡ Some listing → IsSlot k listing.slot
+  pub listed : (section : Section) (listing : Listing) (t : Visit) → w.section ≡ Some section → section.listing ≡ Some listing
+      → IsIn listing.visits t → IsSlot k t.slot
 
 -- The side of an open section of the second waiter is 0 or 1.
 pub record HasSide (k : Shape) (w : View) : Type 0 where
@@ -104,9 +106,12 @@ pub record StaysIn (k : Shape) (w : View) : Type 0 where
 -- What the search of a section found, the dictionary said at some front since the section was entered. Where it found the key and loaded
 -- no value, the key had some value then.
 pub record GivesAnswer (seen : List Mark) (section : Section) : Type 0 where
-  pub absent : (slot : ℕ) (b : Side) → section.listing ≡ None → section.reading.state ≡ Missed slot b → WasSaid (updates_of seen) section.key section.from None
-  pub present : (slot parent value : ℕ) (b : Side) → section.listing ≡ None → section.reading.state ≡ Found slot parent b (Some value) → WasSaid (updates_of seen) section.key section.from (Some value)
-  pub there : (slot parent : ℕ) (b : Side) → section.listing ≡ None → section.reading.state ≡ Found slot parent b None → IsIn section.reading.stood slot → section.reading.key ≡ section.key
+  pub absent : (slot : ℕ) (b : Side) → section.listing ≡ None → section.reading.state ≡ Missed slot b
+      → WasSaid (updates_of seen) section.key section.from None
+  pub present : (slot parent value : ℕ) (b : Side) → section.listing ≡ None → section.reading.state ≡ Found slot parent b (Some value)
+      → WasSaid (updates_of seen) section.key section.from (Some value)
+  pub there : (slot parent : ℕ) (b : Side) → section.listing ≡ None → section.reading.state ≡ Found slot parent b None
+      → IsIn section.reading.stood slot → section.reading.key ≡ section.key
       → (value : ℕ) × WasSaid (updates_of seen) section.key section.from (Some value)
 
 -- after a section was left
@@ -160,7 +165,8 @@ pub record IsListedNow (h : List Mark) (section : Section) (listing : Listing) :
 
 -- after a later look that found the even number which the first one found
 pub record LooksAgain (v : View) (h : List Mark) (found : ℕ) : Type 0 where
-  pub same : (section : Section) (listing : Listing) → v.section ≡ Some section → section.listing ≡ Some listing → IsEven found → found ≡ listing.front → IsListedNow h section listing
+  pub same : (section : Section) (listing : Listing) → v.section ≡ Some section → section.listing ≡ Some listing → IsEven found
+      → found ≡ listing.front → IsListedNow h section listing
 
 -- When the seat was last joined with another, the marks of each one's places were those that it had seen itself.
 pub record HaveMet (v : View) (h : List Mark) : Type 0 where

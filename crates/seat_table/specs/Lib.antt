@@ -1,3 +1,4 @@
+pub mod Scans
 pub mod Seats
 pub mod Gains
 pub mod Told

@@ -31,11 +31,12 @@ pub record TableAt : Type 0 where
 abbrev pub shape_of : ℕ → TableAt → Shape
 shape_of way t = record { waiter = way_of way; slots = t.slots; places = t.places; tickets = t.tickets }
 
--- a seat: of which table it is, what it knows, and the retired slots that it lists
+-- a seat: of which table it is, what it knows, the retired slots that it lists, and the slot to which its scans for a free one have come
 pub record SeatAt : Type 0 where
   pub table : TableAt
   pub view : View
   pub listed : List ℕ
+  pub looked : ℕ
 
 -- The seat works at a place of the table, which has at most 64.
 pub record HasPlace (t : TableAt) (v : View) : Type 0 where

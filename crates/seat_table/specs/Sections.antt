@@ -80,7 +80,13 @@ pub record HasEntered (v : View) (key : ℕ) (w : View) : Type 0 where
   pub reading_is : section.reading ≡ fresh_reading key
   pub made : Makes is_entry v.trail w.trail
   pub ends : EndBy shows_reader made.steps
-  pub others : w ≡ record v { enter = w.enter; section = w.section; counts = record v.counts { sections = v.counts.sections + 1 }; trail = w.trail; seen = w.seen }
+  pub others : w ≡ record v {
+    enter = w.enter;
+    section = w.section;
+    counts = record v.counts { sections = v.counts.sections + 1 };
+    trail = w.trail;
+    seen = w.seen;
+  }
   pub informed : IsInformed w
 
 -- The open section was left. What its search found, the dictionary said at some front since it was entered.
@@ -103,5 +109,11 @@ pub record HasBegun (v : View) (low high : ℕ) (w : View) : Type 0 where
   pub older : Each v.hands.retired (λ (r : Retired). r.unlinked < length leaves.before)
   pub moves : (move : Move) → v.moving ≡ Some move → move.made < length leaves.before
   pub made : w.trail ≡ (stepped v K7 Clock clock).trail
-  pub others : w ≡ record v { allowance = record v.allowance { tickets = v.allowance.tickets - 1 }; wait = w.wait; counts = record v.counts { waits = v.counts.waits + 1 }; trail = w.trail; seen = w.seen }
+  pub others : w ≡ record v {
+    allowance = record v.allowance { tickets = v.allowance.tickets - 1 };
+    wait = w.wait;
+    counts = record v.counts { waits = v.counts.waits + 1 };
+    trail = w.trail;
+    seen = w.seen;
+  }
   pub informed : IsInformed w

@@ -5,7 +5,7 @@ use Rattle.atomic_table.specs.Table.{Me, Step}
 use Rattle.prcu_marks.specs.declared.mark.Mark.{Mark}
 use Rattle.core_state.specs.declared.shape.Shape.{Shape}
 use Rattle.core_state.specs.declared.view.View.{View}
-use Rattle.core_state.specs.memory.Memory.{word_of}
+use Rattle.core_state.specs.declared.words.Field.{Field}
 use Rattle.core_acts.specs.declared.act.Act.{Act}
 use Rattle.core_acts.specs.declared.access.Access.{Access}
 use Rattle.core_acts.specs.Acts.{field_of, access_of, noted, Asks, after}
@@ -32,9 +32,9 @@ pub record Told (k : Shape) (v : View) (a : Act) (found : ℕ) (w : View) : Type
   pub stays : StaysIn k w
 
 -- What an access asks: the word and the access are those of the act, which may be made.
-pub record Touches (way : ℕ) (t : TableAt) (v : View) (a : Act) (access : Access) (word : ℕ) : Type 0 where
+pub record Touches (way : ℕ) (t : TableAt) (v : View) (a : Act) (access : Access) (word : Field) : Type 0 where
   pub room : HasPlace t v
-  pub at : word ≡ word_of (shape_of way t) (field_of v.allowance.place a)
+  pub at : word ≡ field_of v.allowance.place a
   pub does : access_of v.allowance.place a ≡ access
   pub asks : Asks (shape_of way t) v a
 

@@ -85,9 +85,13 @@ EndWith steps last = (earlier : List StepMade) × (steps ≡ earlier ++ last)
 -- What a poll found by its latest loads, by the keys and the clock of the wait: a key of the interval and a stamp that is neither idle nor
 -- above the clock; a count of a class that the keys meet; or such a stamp of such a class.
 abbrev pub Shows : Waiting → List StepMade → Why → Type 0
-Shows wait steps (Reader place key stamp) = EndWith steps (record { kind = K8; field = Announced place; number = key } ∷ record { kind = K8; field = Stamp place; number = stamp } ∷ []) × Holds (keys_of wait) key × (stamp ≢ idle) × (stamp ≤ wait.clock)
-Shows wait steps (Counter class side count) = EndWith steps (record { kind = K31; field = Count class side; number = count } ∷ []) × (1 ≤ count) × MeetsClass (keys_of wait) class
-Shows wait steps (RowOf place class stamp) = EndWith steps (record { kind = K35; field = Row place class; number = stamp } ∷ []) × (stamp ≢ idle) × (stamp ≤ wait.clock) × MeetsClass (keys_of wait) class
+Shows wait steps (Reader place key stamp) = EndWith steps
+    (record { kind = K8; field = Announced place; number = key } ∷ record { kind = K8; field = Stamp place; number = stamp } ∷ [])
+    × Holds (keys_of wait) key × (stamp ≢ idle) × (stamp ≤ wait.clock)
+Shows wait steps (Counter class side count) = EndWith steps (record { kind = K31; field = Count class side; number = count } ∷ [])
+    × (1 ≤ count) × MeetsClass (keys_of wait) class
+Shows wait steps (RowOf place class stamp) = EndWith steps (record { kind = K35; field = Row place class; number = stamp } ∷ [])
+    × (stamp ≢ idle) × (stamp ≤ wait.clock) × MeetsClass (keys_of wait) class
 Shows wait steps _ = ⊥
 
 -- The grace has come to the place or the class of what was found, so that the next poll looks there first.
@@ -126,7 +130,15 @@ pub record HasEnded (v : View) (wait : Waiting) (steps : List StepMade) (new : W
   pub ends : EndBy is_look steps
   pub excused : excuses wait ends.last.field ends.last.number ≡ true
   pub leaves : Leaves v (Ended v.allowance.place wait.count) w
-  pub others : w ≡ record v { enter = w.enter; hands = record v.hands { retired = map (waited_retired wait) v.hands.retired }; moving = waited_move wait v.moving; wait = w.wait; counts = record v.counts { turns = w.counts.turns }; trail = w.trail; seen = w.seen }
+  pub others : w ≡ record v {
+    enter = w.enter;
+    hands = record v.hands { retired = map (waited_retired wait) v.hands.retired };
+    moving = waited_move wait v.moving;
+    wait = w.wait;
+    counts = record v.counts { turns = w.counts.turns };
+    trail = w.trail;
+    seen = w.seen;
+  }
   pub informed : IsInformed w
 
 -- The gates that were turned are of classes that the keys meet, and the second waiter turned each of these once.
@@ -136,7 +148,8 @@ pub record TurnedEach (k : Shape) (new : Waiting) : Type 0 where
 
 -- Each section with one of these keys that was entered before the wait began was left.
 pub record HaveLeft (p count low high : ℕ) (seen : List Mark) : Type 0 where
-  pub left : (began at q n x : ℕ) → get_elem? seen began ≡ some (Began p count low high) → get_elem? seen at ≡ some (Entered q n x) → at < began → low ≤ x → x ≤ high
+  pub left : (began at q n x : ℕ) → get_elem? seen began ≡ some (Began p count low high) → get_elem? seen at ≡ some (Entered q n x)
+      → at < began → low ≤ x → x ≤ high
       → (j : ℕ) × (get_elem? seen j ≡ some (Left q n))
 
 abbrev pub ended_by : Waiting → Field → Waiting
@@ -158,12 +171,23 @@ pub record IsOver (k : Shape) (v w : View) : Type 0 where
   pub left : HaveLeft v.allowance.place wait.count wait.low wait.high w.seen
 
 -- It goes on, as far as the grace says, by what the steps found.
-abbrev pub IsGoingOn : {W : Type 0} → Shape → View → Grace W → View → Type 0
-IsGoingOn k v grace w = (wait : Waiting) × (steps : List StepMade) × (new : Waiting) × (v.wait ≡ Some wait) × HasLooked v wait steps new w × HasReached k grace.keys grace.clock (reached grace) new
+pub record IsGoingOn {W : Type 0} (k : Shape) (v : View) (grace : Grace W) (w : View) : Type 0 where
+  pub wait : Waiting
+  pub steps : List StepMade
+  pub new : Waiting
+  pub was : v.wait ≡ Some wait
+  pub looked : HasLooked v wait steps new w
+  pub reaches : HasReached k grace.keys grace.clock (reached grace) new
+
+-- It goes on, and the latest steps found what stands in its way.
+pub record HasStopped {W : Type 0} (k : Shape) (v : View) (why : Why) (grace : Grace W) (w : View) : Type 0 where
+  pub on : IsGoingOn k v grace w
+  pub shows : Shows on.wait on.steps why
+  pub there : StopsAt (reached grace) why
 
 abbrev pub Polled : {W : Type 0} → Shape → View → Poll → Grace W → View → Type 0
 Polled k v Over grace w = IsOver k v w
-Polled k v (NotYet why) grace w = (wait : Waiting) × (steps : List StepMade) × (new : Waiting) × (v.wait ≡ Some wait) × HasLooked v wait steps new w × HasReached k grace.keys grace.clock (reached grace) new × Shows wait steps why × StopsAt (reached grace) why
+Polled k v (NotYet why) grace w = HasStopped k v why grace w
 
 -- A wait for these keys was begun, and is over.
 abbrev pub HasWaited : Shape → View → ℕ → ℕ → View → Type 0

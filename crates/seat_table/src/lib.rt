@@ -3,7 +3,9 @@
 #![tactic(auto)]
 
 mod access;
+pub mod laws;
 mod rule;
+mod scan;
 mod seat;
 pub mod steps;
 mod table;
@@ -12,7 +14,8 @@ mod wait;
 mod waiter;
 
 pub use core_acts::Part;
+pub use scan::next_slot;
 pub use seat::Seat;
 pub use table::{CitrusTable, words_of};
-pub use wait::{Grace, Poll, WaitPart, wait_for_readers};
+pub use wait::{Grace, Poll, WaitPart, wait_for_readers, wait_in_grace};
 pub use waiter::WaitWords;

@@ -9,16 +9,18 @@ ghost use Rattle.core_state.specs.views.Known.{HasLock};
 ghost use Rattle.core_acts.specs.declared.act.Act.TheVariants.{LoadClock};
 ghost use Rattle.seat_table.specs.Seats.{IsQuietSeat, KeepsOwn, IsInside, IsSlotOf, IsLastFound, shape_of};
 ghost use Rattle.seat_table.specs.Gains.{TellsNow};
+ghost use Rattle.seat_table.specs.Scans as scans;
 ghost use Rattle.seat_table.specs.Told.{Told};
 
 use crate::access::load;
 use crate::rule::Nothing;
+use crate::scan::region;
 use crate::table::CitrusTable;
 use crate::told::{Cut, Glue, Share};
 use crate::waiter::WaitWords;
 use arrayvec::ArrayVec;
 use core_acts::Act;
-use core_state::View;
+use core_state::{Field, View};
 use std::marker::{Brand, Model, PhantomData};
 
 /// What one caller steps with. A clause sees the table that it is of, what it knows, and the retired slots that it lists.
@@ -39,8 +41,9 @@ pub struct Seat<W: WaitWords> {
     pub(crate) turns: u64,
     pub(crate) free: u64,
     pub(crate) front: u64,
-    pub(crate) seized: u32,
+    pub(crate) looked: u32,
     pub(crate) listed: ArrayVec<u32, 16>,
+    pub(crate) freed: ArrayVec<u32, 64>,
     pub(crate) marker: PhantomData<W>,
 }
 
@@ -51,9 +54,33 @@ impl<W: WaitWords> Model for Seat<W> {
 
     ghost Value = { SeatAt };
 
-    ghost view = { λ s. record { table = record { id = s.seat.table_id; slots = s.slots; places = s.table_places; tickets = s.table_tickets }; view = s.seat.me.0; listed = s.listed.items } };
+    ghost view = { λ s. record {
+      table = record {
+        id = s.seat.table_id;
+        slots = s.slots;
+        places = s.table_places;
+        tickets = s.table_tickets;
+      };
+      view = s.seat.me.0;
+      listed = s.listed.items;
+      looked = s.looked;
+    } };
 
-    ghost invariant = { λ s. (s.seat.me.1 ≡ []) × IsSeat W.WAY (record { id = s.seat.table_id; slots = s.slots; places = s.table_places; tickets = s.table_tickets }) (record { place = s.place; places = s.places; tickets = s.tickets; key = s.key; stamp = s.stamp; hand = s.hand; spare = s.spare; waits = s.waits; turns = s.turns; free = s.free; front = s.front }) s.seat.me.0 };
+    ghost invariant = { λ s. (s.seat.me.1 ≡ []) × IsSeat W.WAY
+        (record { id = s.seat.table_id; slots = s.slots; places = s.table_places; tickets = s.table_tickets })
+        (record {
+          place = s.place;
+          places = s.places;
+          tickets = s.tickets;
+          key = s.key;
+          stamp = s.stamp;
+          hand = s.hand;
+          spare = s.spare;
+          waits = s.waits;
+          turns = s.turns;
+          free = s.free;
+          front = s.front;
+        }) s.seat.me.0 };
 }
 
 impl<W: WaitWords> Seat<W> {
@@ -131,7 +158,7 @@ impl<W: WaitWords> Seat<W> {
         requires unlocked { HasLock self.old.view slot → ⊥ }
         requires unlisted { TellsNow (shape_of W.WAY self.old.table) self.old.view → IsIn self.old.listed slot → ⊥ }
         requires few { length self.old.listed < 16 }
-        ensures seat { (self.new.table ≡ self.old.table) × (self.new.view ≡ self.old.view) }
+        ensures seat { (self.new.table ≡ self.old.table) × (self.new.view ≡ self.old.view) × (self.new.looked ≡ self.old.looked) }
         ensures listed { self.new.listed ≡ self.old.listed ++ slot ∷ [] }
     {
         self.listed.push(slot);
@@ -165,9 +192,35 @@ impl<W: WaitWords> Seat<W> {
         self.front
     }
 
-    /// The slot that it seized last, at first 0. It says where to look for the next free slot, and no clause rests on it.
-    pub fn last_seized(&self) -> u32 {
-        self.seized
+    /// The slot to which its scans for a free slot have come: each look at the slot after it moves it on. At first it is the one before the
+    /// region of its place.
+    pub fn last_looked(&self) -> u32
+        ensures { result ≡ self.now.looked }
+    {
+        self.looked
+    }
+
+    /// Notes a slot that this place freed, so that it is looked at before others. Where 64 are noted already it isn't.
+    pub fn note_freed(&mut self, slot: u32)
+        ensures { self.new ≡ self.old }
+    {
+        if !self.freed.is_full() {
+            self.freed.push(slot);
+        }
+    }
+
+    /// The slot that was noted last of those that this place freed, which is noted no more. It may have been seized since.
+    pub fn take_freed(&mut self) -> Option<u32>
+        ensures seat { self.new ≡ self.old }
+        ensures inside { (slot : ℕ) → result ≡ Some slot → (1 ≤ slot) × (slot ≤ self.old.table.slots + self.old.table.places) }
+    {
+        let slot = self.freed.pop()?;
+        // It is a slot of the table. That is tested here, where else each step would have to keep it.
+        let last = self.slots as u64 + self.table_places as u64;
+        if slot == 0 || slot as u64 > last {
+            return None;
+        }
+        Some(slot)
     }
 }
 
@@ -180,8 +233,11 @@ fn cut<W: WaitWords, A: Share>(
     requires picked { (A.places ≡ away) × (A.tickets ≡ tickets) }
     requires table { seat.table ≡ table.now }
     requires needs { NeedsSplit seat.view away tickets }
-    ensures seats { (result.0.table ≡ seat.table) × (result.1.table ≡ seat.table) × (result.0.listed ≡ seat.listed) × (result.1.listed ≡ []) }
+    ensures seats { (result.0.table ≡ seat.table) × (result.1.table ≡ seat.table) × (result.0.listed ≡ seat.listed)
+        × (result.1.listed ≡ []) }
     ensures views { (result.0.view ≡ first_of away tickets seat.view) × (result.1.view ≡ second_of away tickets seat.view) }
+    ensures looked { (result.0.looked ≡ seat.looked)
+        × (result.1.looked ≡ scans.region seat.table.slots seat.table.places result.1.view.allowance.place) }
 {
     let Seat {
         seat: mut first,
@@ -199,8 +255,9 @@ fn cut<W: WaitWords, A: Share>(
         turns,
         free,
         front,
-        seized,
+        looked,
         listed,
+        freed,
         marker,
     } = seat;
     let second = table.table.shared.split_seat::<Cut<A>>(&mut first);
@@ -222,8 +279,9 @@ fn cut<W: WaitWords, A: Share>(
             turns,
             free,
             front,
-            seized,
+            looked,
             listed,
+            freed,
             marker,
         },
         Seat {
@@ -242,8 +300,9 @@ fn cut<W: WaitWords, A: Share>(
             turns: 0,
             free: slots as u64,
             front: 0,
-            seized: 0,
+            looked: region(table.slots(), table.places(), new_place),
             listed: ArrayVec::new(),
+            freed: ArrayVec::new(),
             marker: PhantomData,
         },
     )
@@ -257,8 +316,11 @@ impl<W: WaitWords> Seat<W> {
         requires quiet { IsQuietSeat self }
         requires places { (1 ≤ places) × (places < self.view.allowance.places) }
         requires tickets { tickets ≤ self.view.allowance.tickets }
-        ensures seats { (result.0.table ≡ self.table) × (result.1.table ≡ self.table) × (result.0.listed ≡ self.listed) × (result.1.listed ≡ []) }
+        ensures seats { (result.0.table ≡ self.table) × (result.1.table ≡ self.table) × (result.0.listed ≡ self.listed)
+            × (result.1.listed ≡ []) }
         ensures views { (result.0.view ≡ first_of places tickets self.view) × (result.1.view ≡ second_of places tickets self.view) }
+        ensures looked { (result.0.looked ≡ self.looked)
+            × (result.1.looked ≡ scans.region self.table.slots self.table.places result.1.view.allowance.place) }
         ensures quiet { IsQuietSeat result.0 × IsQuietSeat result.1 }
     {
         cut::<W, Brand>(self, table, places, tickets)
@@ -269,7 +331,7 @@ impl<W: WaitWords> Seat<W> {
     pub fn join(self, table: &CitrusTable<W>, other: Seat<W>) -> Seat<W>
         requires table { (self.table ≡ table.now) × (other.table ≡ table.now) }
         requires quiet { IsQuietSeat self × IsQuietSeat other }
-        ensures seat { (result.table ≡ self.table) × (result.listed ≡ self.listed) }
+        ensures seat { (result.table ≡ self.table) × (result.listed ≡ self.listed) × (result.looked ≡ self.looked) }
         ensures told { (clock : ℕ) × Told (shape_of W.WAY table.now) (both_of self.view other.view) LoadClock clock result.view }
         ensures own { KeepsOwn self.view other.view result.view }
         ensures quiet { IsQuietSeat result }
@@ -290,8 +352,9 @@ impl<W: WaitWords> Seat<W> {
             turns,
             free,
             front,
-            seized,
+            looked,
             listed,
+            freed,
             marker,
         } = self;
         let Seat {
@@ -310,12 +373,13 @@ impl<W: WaitWords> Seat<W> {
             turns: their_turns,
             free: _,
             front: _,
-            seized: _,
+            looked: _,
             listed: _,
+            freed: _,
             marker: _,
         } = other;
         table.table.shared.join_seat::<Glue>(&mut seat, theirs);
-        load(table, &mut seat, Act::LoadClock, 0);
+        load(table, &mut seat, Act::LoadClock, Field::Clock);
         Seat {
             seat,
             slots,
@@ -332,8 +396,9 @@ impl<W: WaitWords> Seat<W> {
             turns: turns + their_turns,
             free,
             front,
-            seized,
+            looked,
             listed,
+            freed,
             marker,
         }
     }

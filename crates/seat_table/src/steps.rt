@@ -2,35 +2,21 @@
 //! seat gained from the rule.
 ghost use Rattle.std.specs.Prelude.{◌≡◌, ℕ, ◌+◌, ◌<◌};
 ghost use Rattle.core_state.specs.declared.shape.Shape.{Shape};
-ghost use Rattle.core_state.specs.memory.Memory.{word_of};
 ghost use Rattle.core_acts.specs.declared.act.Act.TheVariants as acts;
-ghost use Rattle.core_acts.specs.Acts.{in_slot};
+ghost use Rattle.seat_table.specs.Scans as scans;
 ghost use Rattle.seat_table.specs.Told.{IsAsked, Told};
 ghost use Rattle.seat_table.specs.Seats.{shape_of, unlisted};
 
 use crate::access::{add, exchange, flip, load, store, subtract};
+use crate::scan::after_look;
 use crate::seat::Seat;
 use crate::table::CitrusTable;
 use crate::waiter::WaitWords;
 use arrayvec::ArrayVec;
-use core_acts::{Act, Part};
-use core_state::{side_field, tag_field};
-use key_interval::Keys;
+use core_acts::{Act, Part, in_slot};
+use core_state::Field;
+use key_interval::{Keys, class_of};
 use prcu_marks::Side;
-
-// Where a part of a slot lies.
-fn part_word<W: WaitWords>(table: &CitrusTable<W>, slot: u32, part: Part) -> usize
-    ensures { result ≡ word_of (shape_of W.WAY table.now) (in_slot slot part) }
-{
-    let field = match part {
-        Part::Life => 2,
-        Part::Key => 3,
-        Part::Value => 4,
-        Part::Link { side } => side_field(side),
-        Part::Tag { side } => tag_field(side),
-    };
-    table.base + 9 * slot as usize + field as usize
-}
 
 // Takes a slot off the list of retired slots.
 fn take_off(listed: &mut ArrayVec<u32, 16>, slot: u32)
@@ -43,20 +29,20 @@ fn take_off(listed: &mut ArrayVec<u32, 16>, slot: u32)
 pub fn load_clock<W: WaitWords>(table: &CitrusTable<W>, seat: &mut Seat<W>) -> u64
     requires table { seat.old.table ≡ table.now }
     requires asks { IsAsked (shape_of W.WAY table.now) seat.old.view acts.LoadClock }
-    ensures seat { (seat.new.table ≡ seat.old.table) × (seat.new.listed ≡ seat.old.listed) }
+    ensures seat { (seat.new.table ≡ seat.old.table) × (seat.new.listed ≡ seat.old.listed) × (seat.new.looked ≡ seat.old.looked) }
     ensures told { Told (shape_of W.WAY table.now) seat.old.view acts.LoadClock result seat.new.view }
 {
-    load(table, &mut seat.seat, Act::LoadClock, 0)
+    load(table, &mut seat.seat, Act::LoadClock, Field::Clock)
 }
 
 /// Stores the own key word (K4).
 pub fn announce_key<W: WaitWords>(table: &CitrusTable<W>, seat: &mut Seat<W>, key: u64)
     requires table { seat.old.table ≡ table.now }
     requires asks { IsAsked (shape_of W.WAY table.now) seat.old.view (acts.AnnounceKey key) }
-    ensures seat { (seat.new.table ≡ seat.old.table) × (seat.new.listed ≡ seat.old.listed) }
+    ensures seat { (seat.new.table ≡ seat.old.table) × (seat.new.listed ≡ seat.old.listed) × (seat.new.looked ≡ seat.old.looked) }
     ensures told { Told (shape_of W.WAY table.now) seat.old.view (acts.AnnounceKey key) key seat.new.view }
 {
-    let word = 3 + 2 * seat.place as usize;
+    let word = Field::Announced { place: seat.place };
     store(table, &mut seat.seat, Act::AnnounceKey { key }, word, key);
 }
 
@@ -69,10 +55,10 @@ pub fn enter_by_stamp<W: WaitWords>(
 )
     requires table { seat.old.table ≡ table.now }
     requires asks { IsAsked (shape_of W.WAY table.now) seat.old.view (acts.EnterByStamp key stamp) }
-    ensures seat { (seat.new.table ≡ seat.old.table) × (seat.new.listed ≡ seat.old.listed) }
+    ensures seat { (seat.new.table ≡ seat.old.table) × (seat.new.listed ≡ seat.old.listed) × (seat.new.looked ≡ seat.old.looked) }
     ensures told { Told (shape_of W.WAY table.now) seat.old.view (acts.EnterByStamp key stamp) stamp seat.new.view }
 {
-    let word = 4 + 2 * seat.place as usize;
+    let word = Field::Stamp { place: seat.place };
     seat.key = Some(key);
     seat.stamp = stamp;
     let act = Act::EnterByStamp { key, stamp };
@@ -83,10 +69,10 @@ pub fn enter_by_stamp<W: WaitWords>(
 pub fn leave_by_stamp<W: WaitWords>(table: &CitrusTable<W>, seat: &mut Seat<W>)
     requires table { seat.old.table ≡ table.now }
     requires asks { IsAsked (shape_of W.WAY table.now) seat.old.view acts.LeaveByStamp }
-    ensures seat { (seat.new.table ≡ seat.old.table) × (seat.new.listed ≡ seat.old.listed) }
+    ensures seat { (seat.new.table ≡ seat.old.table) × (seat.new.listed ≡ seat.old.listed) × (seat.new.looked ≡ seat.old.looked) }
     ensures told { Told (shape_of W.WAY table.now) seat.old.view acts.LeaveByStamp 18446744073709551615 seat.new.view }
 {
-    let word = 4 + 2 * seat.place as usize;
+    let word = Field::Stamp { place: seat.place };
     seat.key = None;
     store(table, &mut seat.seat, Act::LeaveByStamp, word, u64::MAX);
 }
@@ -95,14 +81,15 @@ pub fn leave_by_stamp<W: WaitWords>(table: &CitrusTable<W>, seat: &mut Seat<W>)
 pub fn begin_wait<W: WaitWords>(table: &CitrusTable<W>, seat: &mut Seat<W>, keys: Keys) -> u64
     requires table { seat.old.table ≡ table.now }
     requires asks { IsAsked (shape_of W.WAY table.now) seat.old.view (acts.BeginWait keys.low keys.high) }
-    ensures seat { (seat.new.table ≡ seat.old.table) × (seat.new.listed ≡ seat.old.listed) }
+    ensures seat { (seat.new.table ≡ seat.old.table) × (seat.new.listed ≡ seat.old.listed) × (seat.new.looked ≡ seat.old.looked) }
     ensures told { Told (shape_of W.WAY table.now) seat.old.view (acts.BeginWait keys.low keys.high) result seat.new.view }
 {
     let low = keys.low();
     let high = keys.high();
     seat.tickets -= 1;
     seat.waits += 1;
-    add(table, &mut seat.seat, Act::BeginWait { low, high }, 0, 1)
+    let act = Act::BeginWait { low, high };
+    add(table, &mut seat.seat, act, Field::Clock, 1)
 }
 
 /// Loads the key of a place, in a wait (K8).
@@ -114,10 +101,10 @@ pub fn look_key<W: WaitWords>(
 ) -> u64
     requires table { seat.old.table ≡ table.now }
     requires asks { IsAsked (shape_of W.WAY table.now) seat.old.view (acts.LookKey place last) }
-    ensures seat { (seat.new.table ≡ seat.old.table) × (seat.new.listed ≡ seat.old.listed) }
+    ensures seat { (seat.new.table ≡ seat.old.table) × (seat.new.listed ≡ seat.old.listed) × (seat.new.looked ≡ seat.old.looked) }
     ensures told { Told (shape_of W.WAY table.now) seat.old.view (acts.LookKey place last) result seat.new.view }
 {
-    let word = 3 + 2 * place as usize;
+    let word = Field::Announced { place };
     load(table, &mut seat.seat, Act::LookKey { place, last }, word)
 }
 
@@ -130,10 +117,10 @@ pub fn look_stamp<W: WaitWords>(
 ) -> u64
     requires table { seat.old.table ≡ table.now }
     requires asks { IsAsked (shape_of W.WAY table.now) seat.old.view (acts.LookStamp place last) }
-    ensures seat { (seat.new.table ≡ seat.old.table) × (seat.new.listed ≡ seat.old.listed) }
+    ensures seat { (seat.new.table ≡ seat.old.table) × (seat.new.listed ≡ seat.old.listed) × (seat.new.looked ≡ seat.old.looked) }
     ensures told { Told (shape_of W.WAY table.now) seat.old.view (acts.LookStamp place last) result seat.new.view }
 {
-    let word = 4 + 2 * place as usize;
+    let word = Field::Stamp { place };
     load(table, &mut seat.seat, Act::LookStamp { place, last }, word)
 }
 
@@ -141,10 +128,10 @@ pub fn look_stamp<W: WaitWords>(
 pub fn load_own_life<W: WaitWords>(table: &CitrusTable<W>, seat: &mut Seat<W>, slot: u32) -> u64
     requires table { seat.old.table ≡ table.now }
     requires asks { IsAsked (shape_of W.WAY table.now) seat.old.view (acts.LoadOwnLife slot) }
-    ensures seat { (seat.new.table ≡ seat.old.table) × (seat.new.listed ≡ seat.old.listed) }
+    ensures seat { (seat.new.table ≡ seat.old.table) × (seat.new.listed ≡ seat.old.listed) × (seat.new.looked ≡ seat.old.looked) }
     ensures told { Told (shape_of W.WAY table.now) seat.old.view (acts.LoadOwnLife slot) result seat.new.view }
 {
-    let word = part_word(table, slot, Part::Life);
+    let word = Field::Life { slot };
     load(table, &mut seat.seat, Act::LoadOwnLife { slot }, word)
 }
 
@@ -152,10 +139,10 @@ pub fn load_own_life<W: WaitWords>(table: &CitrusTable<W>, seat: &mut Seat<W>, s
 pub fn keep_as_spare<W: WaitWords>(table: &CitrusTable<W>, seat: &mut Seat<W>, slot: u32) -> u64
     requires table { seat.old.table ≡ table.now }
     requires asks { IsAsked (shape_of W.WAY table.now) seat.old.view (acts.KeepAsSpare slot) }
-    ensures seat { (seat.new.table ≡ seat.old.table) × (seat.new.listed ≡ seat.old.listed) }
+    ensures seat { (seat.new.table ≡ seat.old.table) × (seat.new.listed ≡ seat.old.listed) × (seat.new.looked ≡ seat.old.looked) }
     ensures told { Told (shape_of W.WAY table.now) seat.old.view (acts.KeepAsSpare slot) result seat.new.view }
 {
-    let word = part_word(table, slot, Part::Life);
+    let word = Field::Life { slot };
     let found = load(table, &mut seat.seat, Act::KeepAsSpare { slot }, word);
     seat.hand = None;
     seat.spare = Some(slot);
@@ -166,10 +153,10 @@ pub fn keep_as_spare<W: WaitWords>(table: &CitrusTable<W>, seat: &mut Seat<W>, s
 pub fn load_retired_life<W: WaitWords>(table: &CitrusTable<W>, seat: &mut Seat<W>, slot: u32) -> u64
     requires table { seat.old.table ≡ table.now }
     requires asks { IsAsked (shape_of W.WAY table.now) seat.old.view (acts.LoadRetiredLife slot) }
-    ensures seat { (seat.new.table ≡ seat.old.table) × (seat.new.listed ≡ seat.old.listed) }
+    ensures seat { (seat.new.table ≡ seat.old.table) × (seat.new.listed ≡ seat.old.listed) × (seat.new.looked ≡ seat.old.looked) }
     ensures told { Told (shape_of W.WAY table.now) seat.old.view (acts.LoadRetiredLife slot) result seat.new.view }
 {
-    let word = part_word(table, slot, Part::Life);
+    let word = Field::Life { slot };
     load(table, &mut seat.seat, Act::LoadRetiredLife { slot }, word)
 }
 
@@ -177,11 +164,18 @@ pub fn load_retired_life<W: WaitWords>(table: &CitrusTable<W>, seat: &mut Seat<W
 pub fn reserve<W: WaitWords>(table: &CitrusTable<W>, seat: &mut Seat<W>, expected: u64) -> u64
     requires table { seat.old.table ≡ table.now }
     requires asks { IsAsked (shape_of W.WAY table.now) seat.old.view (acts.Reserve expected) }
-    ensures seat { (seat.new.table ≡ seat.old.table) × (seat.new.listed ≡ seat.old.listed) }
+    ensures seat { (seat.new.table ≡ seat.old.table) × (seat.new.listed ≡ seat.old.listed) × (seat.new.looked ≡ seat.old.looked) }
     ensures told { Told (shape_of W.WAY table.now) seat.old.view (acts.Reserve expected) result seat.new.view }
 {
     let act = Act::Reserve { expected };
-    let found = exchange(table, &mut seat.seat, act, 2, expected, expected - 1);
+    let found = exchange(
+        table,
+        &mut seat.seat,
+        act,
+        Field::Free,
+        expected,
+        expected - 1,
+    );
     if found == expected {
         seat.tickets -= 1;
         seat.free = expected - 1;
@@ -196,18 +190,21 @@ pub fn seize<W: WaitWords>(table: &CitrusTable<W>, seat: &mut Seat<W>, slot: u32
     requires table { seat.old.table ≡ table.now }
     requires asks { IsAsked (shape_of W.WAY table.now) seat.old.view (acts.Seize slot) }
     ensures seat { (seat.new.table ≡ seat.old.table) × (seat.new.listed ≡ seat.old.listed) }
+    ensures looked { seat.new.looked ≡ scans.after_look (table.now.slots + table.now.places) seat.old.looked slot }
     ensures told { Told (shape_of W.WAY table.now) seat.old.view (acts.Seize slot) result seat.new.view }
 {
-    let word = table.base + 9 * slot as usize;
+    let word = Field::State { slot };
+    let looked = after_look(seat.looked, slot, table.slots() + table.places());
     let found = exchange(table, &mut seat.seat, Act::Seize { slot }, word, 0, 1);
+    seat.looked = looked;
     if found == 0 {
         seat.hand = Some(slot);
-        seat.seized = slot;
     }
     found
 }
 
 /// Stores the key, the value or a link of the slot in hand or the spare (K12).
+#[inline(always)]
 pub fn fill<W: WaitWords>(
     table: &CitrusTable<W>,
     seat: &mut Seat<W>,
@@ -217,10 +214,10 @@ pub fn fill<W: WaitWords>(
 )
     requires table { seat.old.table ≡ table.now }
     requires asks { IsAsked (shape_of W.WAY table.now) seat.old.view (acts.Fill slot part number) }
-    ensures seat { (seat.new.table ≡ seat.old.table) × (seat.new.listed ≡ seat.old.listed) }
+    ensures seat { (seat.new.table ≡ seat.old.table) × (seat.new.listed ≡ seat.old.listed) × (seat.new.looked ≡ seat.old.looked) }
     ensures told { Told (shape_of W.WAY table.now) seat.old.view (acts.Fill slot part number) number seat.new.view }
 {
-    let word = part_word(table, slot, part);
+    let word = in_slot(slot, part);
     let act = Act::Fill { slot, part, number };
     store(table, &mut seat.seat, act, word, number);
 }
@@ -234,10 +231,10 @@ pub fn raise_in_hand<W: WaitWords>(
 )
     requires table { seat.old.table ≡ table.now }
     requires asks { IsAsked (shape_of W.WAY table.now) seat.old.view (acts.RaiseInHand slot number) }
-    ensures seat { (seat.new.table ≡ seat.old.table) × (seat.new.listed ≡ seat.old.listed) }
+    ensures seat { (seat.new.table ≡ seat.old.table) × (seat.new.listed ≡ seat.old.listed) × (seat.new.looked ≡ seat.old.looked) }
     ensures told { Told (shape_of W.WAY table.now) seat.old.view (acts.RaiseInHand slot number) number seat.new.view }
 {
-    let word = part_word(table, slot, Part::Life);
+    let word = Field::Life { slot };
     let act = Act::RaiseInHand { slot, number };
     store(table, &mut seat.seat, act, word, number);
 }
@@ -252,10 +249,11 @@ pub fn raise_to_spare<W: WaitWords>(
     requires table { seat.old.table ≡ table.now }
     requires asks { IsAsked (shape_of W.WAY table.now) seat.old.view (acts.RaiseToSpare slot number) }
     ensures table { seat.new.table ≡ seat.old.table }
+    ensures looked { seat.new.looked ≡ seat.old.looked }
     ensures listed { seat.new.listed ≡ unlisted slot seat.old.listed }
     ensures told { Told (shape_of W.WAY table.now) seat.old.view (acts.RaiseToSpare slot number) number seat.new.view }
 {
-    let word = part_word(table, slot, Part::Life);
+    let word = Field::Life { slot };
     take_off(&mut seat.listed, slot);
     seat.spare = Some(slot);
     let act = Act::RaiseToSpare { slot, number };
@@ -271,10 +269,10 @@ pub fn raise_retired<W: WaitWords>(
 )
     requires table { seat.old.table ≡ table.now }
     requires asks { IsAsked (shape_of W.WAY table.now) seat.old.view (acts.RaiseRetired slot number) }
-    ensures seat { (seat.new.table ≡ seat.old.table) × (seat.new.listed ≡ seat.old.listed) }
+    ensures seat { (seat.new.table ≡ seat.old.table) × (seat.new.listed ≡ seat.old.listed) × (seat.new.looked ≡ seat.old.looked) }
     ensures told { Told (shape_of W.WAY table.now) seat.old.view (acts.RaiseRetired slot number) number seat.new.view }
 {
-    let word = part_word(table, slot, Part::Life);
+    let word = Field::Life { slot };
     let act = Act::RaiseRetired { slot, number };
     store(table, &mut seat.seat, act, word, number);
 }
@@ -283,10 +281,10 @@ pub fn raise_retired<W: WaitWords>(
 pub fn lock<W: WaitWords>(table: &CitrusTable<W>, seat: &mut Seat<W>, slot: u32) -> u64
     requires table { seat.old.table ≡ table.now }
     requires asks { IsAsked (shape_of W.WAY table.now) seat.old.view (acts.Lock slot) }
-    ensures seat { (seat.new.table ≡ seat.old.table) × (seat.new.listed ≡ seat.old.listed) }
+    ensures seat { (seat.new.table ≡ seat.old.table) × (seat.new.listed ≡ seat.old.listed) × (seat.new.looked ≡ seat.old.looked) }
     ensures told { Told (shape_of W.WAY table.now) seat.old.view (acts.Lock slot) result seat.new.view }
 {
-    let word = table.base + 9 * slot as usize + 1;
+    let word = Field::Lock { slot };
     let mine = seat.place as u64 + 1;
     exchange(table, &mut seat.seat, Act::Lock { slot }, word, 0, mine)
 }
@@ -295,10 +293,10 @@ pub fn lock<W: WaitWords>(table: &CitrusTable<W>, seat: &mut Seat<W>, slot: u32)
 pub fn unlock<W: WaitWords>(table: &CitrusTable<W>, seat: &mut Seat<W>, slot: u32)
     requires table { seat.old.table ≡ table.now }
     requires asks { IsAsked (shape_of W.WAY table.now) seat.old.view (acts.Unlock slot) }
-    ensures seat { (seat.new.table ≡ seat.old.table) × (seat.new.listed ≡ seat.old.listed) }
+    ensures seat { (seat.new.table ≡ seat.old.table) × (seat.new.listed ≡ seat.old.listed) × (seat.new.looked ≡ seat.old.looked) }
     ensures told { Told (shape_of W.WAY table.now) seat.old.view (acts.Unlock slot) 0 seat.new.view }
 {
-    let word = table.base + 9 * slot as usize + 1;
+    let word = Field::Lock { slot };
     store(table, &mut seat.seat, Act::Unlock { slot }, word, 0);
 }
 
@@ -306,10 +304,10 @@ pub fn unlock<W: WaitWords>(table: &CitrusTable<W>, seat: &mut Seat<W>, slot: u3
 pub fn free_in_hand<W: WaitWords>(table: &CitrusTable<W>, seat: &mut Seat<W>, slot: u32)
     requires table { seat.old.table ≡ table.now }
     requires asks { IsAsked (shape_of W.WAY table.now) seat.old.view (acts.FreeInHand slot) }
-    ensures seat { (seat.new.table ≡ seat.old.table) × (seat.new.listed ≡ seat.old.listed) }
+    ensures seat { (seat.new.table ≡ seat.old.table) × (seat.new.listed ≡ seat.old.listed) × (seat.new.looked ≡ seat.old.looked) }
     ensures told { Told (shape_of W.WAY table.now) seat.old.view (acts.FreeInHand slot) 0 seat.new.view }
 {
-    let word = table.base + 9 * slot as usize;
+    let word = Field::State { slot };
     seat.hand = None;
     store(table, &mut seat.seat, Act::FreeInHand { slot }, word, 0);
 }
@@ -319,10 +317,11 @@ pub fn free_retired<W: WaitWords>(table: &CitrusTable<W>, seat: &mut Seat<W>, sl
     requires table { seat.old.table ≡ table.now }
     requires asks { IsAsked (shape_of W.WAY table.now) seat.old.view (acts.FreeRetired slot) }
     ensures table { seat.new.table ≡ seat.old.table }
+    ensures looked { seat.new.looked ≡ seat.old.looked }
     ensures listed { seat.new.listed ≡ unlisted slot seat.old.listed }
     ensures told { Told (shape_of W.WAY table.now) seat.old.view (acts.FreeRetired slot) 0 seat.new.view }
 {
-    let word = table.base + 9 * slot as usize;
+    let word = Field::State { slot };
     take_off(&mut seat.listed, slot);
     store(table, &mut seat.seat, Act::FreeRetired { slot }, word, 0);
 }
@@ -331,14 +330,15 @@ pub fn free_retired<W: WaitWords>(table: &CitrusTable<W>, seat: &mut Seat<W>, sl
 pub fn count_free<W: WaitWords>(table: &CitrusTable<W>, seat: &mut Seat<W>)
     requires table { seat.old.table ≡ table.now }
     requires asks { IsAsked (shape_of W.WAY table.now) seat.old.view acts.CountFree }
-    ensures seat { (seat.new.table ≡ seat.old.table) × (seat.new.listed ≡ seat.old.listed) }
+    ensures seat { (seat.new.table ≡ seat.old.table) × (seat.new.listed ≡ seat.old.listed) × (seat.new.looked ≡ seat.old.looked) }
     ensures told { (found : ℕ) × Told (shape_of W.WAY table.now) seat.old.view acts.CountFree found seat.new.view }
 {
-    let found = add(table, &mut seat.seat, Act::CountFree, 2, 1);
+    let found = add(table, &mut seat.seat, Act::CountFree, Field::Free, 1);
     seat.free = found + 1;
 }
 
 /// Loads a word of a slot, in a search (K17).
+#[inline(always)]
 pub fn search_load<W: WaitWords>(
     table: &CitrusTable<W>,
     seat: &mut Seat<W>,
@@ -347,14 +347,15 @@ pub fn search_load<W: WaitWords>(
 ) -> u64
     requires table { seat.old.table ≡ table.now }
     requires asks { IsAsked (shape_of W.WAY table.now) seat.old.view (acts.SearchLoad slot part) }
-    ensures seat { (seat.new.table ≡ seat.old.table) × (seat.new.listed ≡ seat.old.listed) }
+    ensures seat { (seat.new.table ≡ seat.old.table) × (seat.new.listed ≡ seat.old.listed) × (seat.new.looked ≡ seat.old.looked) }
     ensures told { Told (shape_of W.WAY table.now) seat.old.view (acts.SearchLoad slot part) result seat.new.view }
 {
-    let word = part_word(table, slot, part);
+    let word = in_slot(slot, part);
     load(table, &mut seat.seat, Act::SearchLoad { slot, part }, word)
 }
 
 /// Loads a word of a slot, in a listing (K17).
+#[inline(always)]
 pub fn list_load<W: WaitWords>(
     table: &CitrusTable<W>,
     seat: &mut Seat<W>,
@@ -363,14 +364,15 @@ pub fn list_load<W: WaitWords>(
 ) -> u64
     requires table { seat.old.table ≡ table.now }
     requires asks { IsAsked (shape_of W.WAY table.now) seat.old.view (acts.ListLoad slot part) }
-    ensures seat { (seat.new.table ≡ seat.old.table) × (seat.new.listed ≡ seat.old.listed) }
+    ensures seat { (seat.new.table ≡ seat.old.table) × (seat.new.listed ≡ seat.old.listed) × (seat.new.looked ≡ seat.old.looked) }
     ensures told { Told (shape_of W.WAY table.now) seat.old.view (acts.ListLoad slot part) result seat.new.view }
 {
-    let word = part_word(table, slot, part);
+    let word = in_slot(slot, part);
     load(table, &mut seat.seat, Act::ListLoad { slot, part }, word)
 }
 
 /// Loads a word of a slot under its lock (K18).
+#[inline(always)]
 pub fn locked_load<W: WaitWords>(
     table: &CitrusTable<W>,
     seat: &mut Seat<W>,
@@ -379,10 +381,10 @@ pub fn locked_load<W: WaitWords>(
 ) -> u64
     requires table { seat.old.table ≡ table.now }
     requires asks { IsAsked (shape_of W.WAY table.now) seat.old.view (acts.LockedLoad slot part) }
-    ensures seat { (seat.new.table ≡ seat.old.table) × (seat.new.listed ≡ seat.old.listed) }
+    ensures seat { (seat.new.table ≡ seat.old.table) × (seat.new.listed ≡ seat.old.listed) × (seat.new.looked ≡ seat.old.looked) }
     ensures told { Told (shape_of W.WAY table.now) seat.old.view (acts.LockedLoad slot part) result seat.new.view }
 {
-    let word = part_word(table, slot, part);
+    let word = in_slot(slot, part);
     load(table, &mut seat.seat, Act::LockedLoad { slot, part }, word)
 }
 
@@ -390,11 +392,18 @@ pub fn locked_load<W: WaitWords>(
 pub fn open_commit<W: WaitWords>(table: &CitrusTable<W>, seat: &mut Seat<W>, expected: u64) -> u64
     requires table { seat.old.table ≡ table.now }
     requires asks { IsAsked (shape_of W.WAY table.now) seat.old.view (acts.OpenCommit expected) }
-    ensures seat { (seat.new.table ≡ seat.old.table) × (seat.new.listed ≡ seat.old.listed) }
+    ensures seat { (seat.new.table ≡ seat.old.table) × (seat.new.listed ≡ seat.old.listed) × (seat.new.looked ≡ seat.old.looked) }
     ensures told { Told (shape_of W.WAY table.now) seat.old.view (acts.OpenCommit expected) result seat.new.view }
 {
     let act = Act::OpenCommit { expected };
-    let found = exchange(table, &mut seat.seat, act, 1, expected, expected + 1);
+    let found = exchange(
+        table,
+        &mut seat.seat,
+        act,
+        Field::Front,
+        expected,
+        expected + 1,
+    );
     seat.front = if found == expected {
         expected + 1
     } else {
@@ -415,10 +424,10 @@ pub fn link_leaf<W: WaitWords>(
 )
     requires table { seat.old.table ≡ table.now }
     requires asks { IsAsked (shape_of W.WAY table.now) seat.old.view (acts.LinkLeaf slot side leaf key value) }
-    ensures seat { (seat.new.table ≡ seat.old.table) × (seat.new.listed ≡ seat.old.listed) }
+    ensures seat { (seat.new.table ≡ seat.old.table) × (seat.new.listed ≡ seat.old.listed) × (seat.new.looked ≡ seat.old.looked) }
     ensures told { Told (shape_of W.WAY table.now) seat.old.view (acts.LinkLeaf slot side leaf key value) leaf seat.new.view }
 {
-    let word = part_word(table, slot, Part::Link { side });
+    let word = Field::Link { slot, side };
     seat.tickets -= 1;
     seat.hand = None;
     let act = Act::LinkLeaf {
@@ -443,10 +452,10 @@ pub fn bypass<W: WaitWords>(
 )
     requires table { seat.old.table ≡ table.now }
     requires asks { IsAsked (shape_of W.WAY table.now) seat.old.view (acts.Bypass parent side node child key) }
-    ensures seat { (seat.new.table ≡ seat.old.table) × (seat.new.listed ≡ seat.old.listed) }
+    ensures seat { (seat.new.table ≡ seat.old.table) × (seat.new.listed ≡ seat.old.listed) × (seat.new.looked ≡ seat.old.looked) }
     ensures told { Told (shape_of W.WAY table.now) seat.old.view (acts.Bypass parent side node child key) child seat.new.view }
 {
-    let word = part_word(table, parent, Part::Link { side });
+    let word = Field::Link { slot: parent, side };
     seat.tickets -= 1;
     let act = Act::Bypass {
         parent,
@@ -462,10 +471,10 @@ pub fn bypass<W: WaitWords>(
 pub fn mark<W: WaitWords>(table: &CitrusTable<W>, seat: &mut Seat<W>, slot: u32, life: u64)
     requires table { seat.old.table ≡ table.now }
     requires asks { IsAsked (shape_of W.WAY table.now) seat.old.view (acts.Mark slot life) }
-    ensures seat { (seat.new.table ≡ seat.old.table) × (seat.new.listed ≡ seat.old.listed) }
+    ensures seat { (seat.new.table ≡ seat.old.table) × (seat.new.listed ≡ seat.old.listed) × (seat.new.looked ≡ seat.old.looked) }
     ensures told { Told (shape_of W.WAY table.now) seat.old.view (acts.Mark slot life) (life + 1) seat.new.view }
 {
-    let word = part_word(table, slot, Part::Life);
+    let word = Field::Life { slot };
     store(
         table,
         &mut seat.seat,
@@ -486,10 +495,10 @@ pub fn raise_tag<W: WaitWords>(
     requires table { seat.old.table ≡ table.now }
     requires fits { tag < 18446744073709551615 }
     requires asks { IsAsked (shape_of W.WAY table.now) seat.old.view (acts.RaiseTag slot side tag) }
-    ensures seat { (seat.new.table ≡ seat.old.table) × (seat.new.listed ≡ seat.old.listed) }
+    ensures seat { (seat.new.table ≡ seat.old.table) × (seat.new.listed ≡ seat.old.listed) × (seat.new.looked ≡ seat.old.looked) }
     ensures told { Told (shape_of W.WAY table.now) seat.old.view (acts.RaiseTag slot side tag) (tag + 1) seat.new.view }
 {
-    let word = part_word(table, slot, Part::Tag { side });
+    let word = Field::Tag { slot, side };
     let act = Act::RaiseTag { slot, side, tag };
     store(table, &mut seat.seat, act, word, tag + 1);
 }
@@ -498,11 +507,17 @@ pub fn raise_tag<W: WaitWords>(
 pub fn close_commit<W: WaitWords>(table: &CitrusTable<W>, seat: &mut Seat<W>, front: u64)
     requires table { seat.old.table ≡ table.now }
     requires asks { IsAsked (shape_of W.WAY table.now) seat.old.view (acts.CloseCommit front) }
-    ensures seat { (seat.new.table ≡ seat.old.table) × (seat.new.listed ≡ seat.old.listed) }
+    ensures seat { (seat.new.table ≡ seat.old.table) × (seat.new.listed ≡ seat.old.listed) × (seat.new.looked ≡ seat.old.looked) }
     ensures told { Told (shape_of W.WAY table.now) seat.old.view (acts.CloseCommit front) front seat.new.view }
 {
     seat.front = front;
-    store(table, &mut seat.seat, Act::CloseCommit { front }, 1, front);
+    store(
+        table,
+        &mut seat.seat,
+        Act::CloseCommit { front },
+        Field::Front,
+        front,
+    );
 }
 
 /// Links a copy of the successor, which is the spare, in a node's place (K25).
@@ -520,10 +535,11 @@ pub fn link_copy<W: WaitWords>(
 )
     requires table { seat.old.table ≡ table.now }
     requires asks { IsAsked (shape_of W.WAY table.now) seat.old.view (acts.LinkCopy parent side node copy old old_parent key next_key) }
-    ensures seat { (seat.new.table ≡ seat.old.table) × (seat.new.listed ≡ seat.old.listed) }
-    ensures told { Told (shape_of W.WAY table.now) seat.old.view (acts.LinkCopy parent side node copy old old_parent key next_key) copy seat.new.view }
+    ensures seat { (seat.new.table ≡ seat.old.table) × (seat.new.listed ≡ seat.old.listed) × (seat.new.looked ≡ seat.old.looked) }
+    ensures told { Told (shape_of W.WAY table.now) seat.old.view
+        (acts.LinkCopy parent side node copy old old_parent key next_key) copy seat.new.view }
 {
-    let word = part_word(table, parent, Part::Link { side });
+    let word = Field::Link { slot: parent, side };
     seat.tickets -= 1;
     seat.spare = None;
     let act = Act::LinkCopy {
@@ -549,10 +565,13 @@ pub fn unlink_left<W: WaitWords>(
 )
     requires table { seat.old.table ≡ table.now }
     requires asks { IsAsked (shape_of W.WAY table.now) seat.old.view (acts.UnlinkLeft parent old child) }
-    ensures seat { (seat.new.table ≡ seat.old.table) × (seat.new.listed ≡ seat.old.listed) }
+    ensures seat { (seat.new.table ≡ seat.old.table) × (seat.new.listed ≡ seat.old.listed) × (seat.new.looked ≡ seat.old.looked) }
     ensures told { Told (shape_of W.WAY table.now) seat.old.view (acts.UnlinkLeft parent old child) child seat.new.view }
 {
-    let word = part_word(table, parent, Part::Link { side: Side::Left });
+    let word = Field::Link {
+        slot: parent,
+        side: Side::Left,
+    };
     let act = Act::UnlinkLeft { parent, old, child };
     store(table, &mut seat.seat, act, word, child as u64);
 }
@@ -567,10 +586,13 @@ pub fn unlink_right<W: WaitWords>(
 )
     requires table { seat.old.table ≡ table.now }
     requires asks { IsAsked (shape_of W.WAY table.now) seat.old.view (acts.UnlinkRight copy old child) }
-    ensures seat { (seat.new.table ≡ seat.old.table) × (seat.new.listed ≡ seat.old.listed) }
+    ensures seat { (seat.new.table ≡ seat.old.table) × (seat.new.listed ≡ seat.old.listed) × (seat.new.looked ≡ seat.old.looked) }
     ensures told { Told (shape_of W.WAY table.now) seat.old.view (acts.UnlinkRight copy old child) child seat.new.view }
 {
-    let word = part_word(table, copy, Part::Link { side: Side::Right });
+    let word = Field::Link {
+        slot: copy,
+        side: Side::Right,
+    };
     let act = Act::UnlinkRight { copy, old, child };
     store(table, &mut seat.seat, act, word, child as u64);
 }
@@ -579,10 +601,10 @@ pub fn unlink_right<W: WaitWords>(
 pub fn load_gate<W: WaitWords>(table: &CitrusTable<W>, seat: &mut Seat<W>, class: u32) -> u64
     requires table { seat.old.table ≡ table.now }
     requires asks { IsAsked (shape_of W.WAY table.now) seat.old.view (acts.LoadGate class) }
-    ensures seat { (seat.new.table ≡ seat.old.table) × (seat.new.listed ≡ seat.old.listed) }
+    ensures seat { (seat.new.table ≡ seat.old.table) × (seat.new.listed ≡ seat.old.listed) × (seat.new.looked ≡ seat.old.looked) }
     ensures told { Told (shape_of W.WAY table.now) seat.old.view (acts.LoadGate class) result seat.new.view }
 {
-    let word = 3 + 3 * class as usize;
+    let word = Field::Gate { class };
     load(table, &mut seat.seat, Act::LoadGate { class }, word)
 }
 
@@ -590,10 +612,11 @@ pub fn load_gate<W: WaitWords>(table: &CitrusTable<W>, seat: &mut Seat<W>, class
 pub fn enter_by_count<W: WaitWords>(table: &CitrusTable<W>, seat: &mut Seat<W>, key: u64, side: u32)
     requires table { seat.old.table ≡ table.now }
     requires asks { IsAsked (shape_of W.WAY table.now) seat.old.view (acts.EnterByCount key side) }
-    ensures seat { (seat.new.table ≡ seat.old.table) × (seat.new.listed ≡ seat.old.listed) }
+    ensures seat { (seat.new.table ≡ seat.old.table) × (seat.new.listed ≡ seat.old.listed) × (seat.new.looked ≡ seat.old.looked) }
     ensures told { (found : ℕ) × Told (shape_of W.WAY table.now) seat.old.view (acts.EnterByCount key side) found seat.new.view }
 {
-    let word = 4 + 3 * (key % 64) as usize + side as usize;
+    let class = class_of(key);
+    let word = Field::Count { class, side };
     seat.key = Some(key);
     seat.stamp = side as u64;
     add(
@@ -614,10 +637,10 @@ pub fn leave_by_count<W: WaitWords>(
 )
     requires table { seat.old.table ≡ table.now }
     requires asks { IsAsked (shape_of W.WAY table.now) seat.old.view (acts.LeaveByCount class side) }
-    ensures seat { (seat.new.table ≡ seat.old.table) × (seat.new.listed ≡ seat.old.listed) }
+    ensures seat { (seat.new.table ≡ seat.old.table) × (seat.new.listed ≡ seat.old.listed) × (seat.new.looked ≡ seat.old.looked) }
     ensures told { (found : ℕ) × Told (shape_of W.WAY table.now) seat.old.view (acts.LeaveByCount class side) found seat.new.view }
 {
-    let word = 4 + 3 * class as usize + side as usize;
+    let word = Field::Count { class, side };
     seat.key = None;
     subtract(
         table,
@@ -638,10 +661,10 @@ pub fn look_count<W: WaitWords>(
 ) -> u64
     requires table { seat.old.table ≡ table.now }
     requires asks { IsAsked (shape_of W.WAY table.now) seat.old.view (acts.LookCount class side last) }
-    ensures seat { (seat.new.table ≡ seat.old.table) × (seat.new.listed ≡ seat.old.listed) }
+    ensures seat { (seat.new.table ≡ seat.old.table) × (seat.new.listed ≡ seat.old.listed) × (seat.new.looked ≡ seat.old.looked) }
     ensures told { Told (shape_of W.WAY table.now) seat.old.view (acts.LookCount class side last) result seat.new.view }
 {
-    let word = 4 + 3 * class as usize + side as usize;
+    let word = Field::Count { class, side };
     load(
         table,
         &mut seat.seat,
@@ -654,10 +677,10 @@ pub fn look_count<W: WaitWords>(
 pub fn turn_gate<W: WaitWords>(table: &CitrusTable<W>, seat: &mut Seat<W>, class: u32) -> u64
     requires table { seat.old.table ≡ table.now }
     requires asks { IsAsked (shape_of W.WAY table.now) seat.old.view (acts.TurnGate class) }
-    ensures seat { (seat.new.table ≡ seat.old.table) × (seat.new.listed ≡ seat.old.listed) }
+    ensures seat { (seat.new.table ≡ seat.old.table) × (seat.new.listed ≡ seat.old.listed) × (seat.new.looked ≡ seat.old.looked) }
     ensures told { Told (shape_of W.WAY table.now) seat.old.view (acts.TurnGate class) result seat.new.view }
 {
-    let word = 3 + 3 * class as usize;
+    let word = Field::Gate { class };
     seat.turns += 1;
     flip(table, &mut seat.seat, Act::TurnGate { class }, word)
 }
@@ -666,10 +689,12 @@ pub fn turn_gate<W: WaitWords>(table: &CitrusTable<W>, seat: &mut Seat<W>, class
 pub fn enter_by_row<W: WaitWords>(table: &CitrusTable<W>, seat: &mut Seat<W>, key: u64, stamp: u64)
     requires table { seat.old.table ≡ table.now }
     requires asks { IsAsked (shape_of W.WAY table.now) seat.old.view (acts.EnterByRow key stamp) }
-    ensures seat { (seat.new.table ≡ seat.old.table) × (seat.new.listed ≡ seat.old.listed) }
+    ensures seat { (seat.new.table ≡ seat.old.table) × (seat.new.listed ≡ seat.old.listed) × (seat.new.looked ≡ seat.old.looked) }
     ensures told { Told (shape_of W.WAY table.now) seat.old.view (acts.EnterByRow key stamp) stamp seat.new.view }
 {
-    let word = 3 + 64 * seat.place as usize + (key % 64) as usize;
+    let place = seat.place;
+    let class = class_of(key);
+    let word = Field::Row { place, class };
     seat.key = Some(key);
     seat.stamp = stamp;
     let act = Act::EnterByRow { key, stamp };
@@ -680,10 +705,11 @@ pub fn enter_by_row<W: WaitWords>(table: &CitrusTable<W>, seat: &mut Seat<W>, ke
 pub fn leave_by_row<W: WaitWords>(table: &CitrusTable<W>, seat: &mut Seat<W>, class: u32)
     requires table { seat.old.table ≡ table.now }
     requires asks { IsAsked (shape_of W.WAY table.now) seat.old.view (acts.LeaveByRow class) }
-    ensures seat { (seat.new.table ≡ seat.old.table) × (seat.new.listed ≡ seat.old.listed) }
+    ensures seat { (seat.new.table ≡ seat.old.table) × (seat.new.listed ≡ seat.old.listed) × (seat.new.looked ≡ seat.old.looked) }
     ensures told { Told (shape_of W.WAY table.now) seat.old.view (acts.LeaveByRow class) 18446744073709551615 seat.new.view }
 {
-    let word = 3 + 64 * seat.place as usize + class as usize;
+    let place = seat.place;
+    let word = Field::Row { place, class };
     seat.key = None;
     store(
         table,
@@ -704,10 +730,10 @@ pub fn look_row<W: WaitWords>(
 ) -> u64
     requires table { seat.old.table ≡ table.now }
     requires asks { IsAsked (shape_of W.WAY table.now) seat.old.view (acts.LookRow place class last) }
-    ensures seat { (seat.new.table ≡ seat.old.table) × (seat.new.listed ≡ seat.old.listed) }
+    ensures seat { (seat.new.table ≡ seat.old.table) × (seat.new.listed ≡ seat.old.listed) × (seat.new.looked ≡ seat.old.looked) }
     ensures told { Told (shape_of W.WAY table.now) seat.old.view (acts.LookRow place class last) result seat.new.view }
 {
-    let word = 3 + 64 * place as usize + class as usize;
+    let word = Field::Row { place, class };
     load(
         table,
         &mut seat.seat,
@@ -726,10 +752,10 @@ pub fn replace_value<W: WaitWords>(
 )
     requires table { seat.old.table ≡ table.now }
     requires asks { IsAsked (shape_of W.WAY table.now) seat.old.view (acts.ReplaceValue slot key value) }
-    ensures seat { (seat.new.table ≡ seat.old.table) × (seat.new.listed ≡ seat.old.listed) }
+    ensures seat { (seat.new.table ≡ seat.old.table) × (seat.new.listed ≡ seat.old.listed) × (seat.new.looked ≡ seat.old.looked) }
     ensures told { Told (shape_of W.WAY table.now) seat.old.view (acts.ReplaceValue slot key value) value seat.new.view }
 {
-    let word = part_word(table, slot, Part::Value);
+    let word = Field::Value { slot };
     seat.tickets -= 1;
     let act = Act::ReplaceValue { slot, key, value };
     store(table, &mut seat.seat, act, word, value);
@@ -739,10 +765,10 @@ pub fn replace_value<W: WaitWords>(
 pub fn look_at_front<W: WaitWords>(table: &CitrusTable<W>, seat: &mut Seat<W>) -> u64
     requires table { seat.old.table ≡ table.now }
     requires asks { IsAsked (shape_of W.WAY table.now) seat.old.view acts.LookAtFront }
-    ensures seat { (seat.new.table ≡ seat.old.table) × (seat.new.listed ≡ seat.old.listed) }
+    ensures seat { (seat.new.table ≡ seat.old.table) × (seat.new.listed ≡ seat.old.listed) × (seat.new.looked ≡ seat.old.looked) }
     ensures told { Told (shape_of W.WAY table.now) seat.old.view acts.LookAtFront result seat.new.view }
 {
-    let found = load(table, &mut seat.seat, Act::LookAtFront, 1);
+    let found = load(table, &mut seat.seat, Act::LookAtFront, Field::Front);
     seat.front = found;
     found
 }

@@ -1,15 +1,16 @@
 //! The table, and how it is made.
-ghost use Rattle.std.specs.Prelude.{◌≡◌, ℕ, ◌+◌, ◌*◌, ◌^◌, ◌<◌, ◌≤◌, ◌∷◌, ◌++◌, [], IfOk, length, replicate};
-ghost use Rattle.core_state.specs.memory.Memory.{slot_base};
+ghost use Rattle.std.specs.Prelude.{◌≡◌, ℕ, ◌+◌, ◌*◌, ◌^◌, ◌<◌, ◌≤◌, ◌++◌, IfOk, length, replicate};
 ghost use Rattle.core_state.specs.declared.shape.Shape.{Shape};
-ghost use Rattle.seat_table.specs.Fresh.{fresh_seat, key_stamps, slot_words, waiter_part, first_words};
+ghost use Rattle.seat_table.specs.Fresh.{fresh_seat, alone, key_stamps, waiter_part, first_words};
 ghost use Rattle.seat_table.specs.Seats.{IsQuietSeat};
 
 use crate::rule::{Nothing, Ruled};
+use crate::scan::region;
 use crate::seat::Seat;
 use crate::waiter::{WaitWords, waiter_of};
 use arrayvec::ArrayVec;
 use atomic_table::Table;
+use core_acts::{APART, CLASSES, LEAD, LINE};
 use core_state::shape::Waiter;
 use core_state::{Shape, View};
 use prcu_model::NoMemory;
@@ -20,26 +21,32 @@ use std::marker::{Model, PhantomData};
 #[derive(Drop)]
 pub struct CitrusTable<W: WaitWords> {
     pub(crate) table: Table<Nothing, View, Shape, Ruled, Global>,
-    pub(crate) base: usize,
-    slots: u32,
-    places: u32,
+    pub(crate) slots: u32,
+    pub(crate) places: u32,
     marker: PhantomData<W>,
 }
 
 impl<W: WaitWords> Model for CitrusTable<W> {
     ghost use Rattle.std.specs.Prelude.{◌≡◌};
     ghost use Rattle.core_state.specs.Invariant.{IsShape};
-    ghost use Rattle.core_state.specs.memory.Memory.{slot_base, word_count};
+    ghost use Rattle.core_state.specs.memory.Memory.{word_count};
     ghost use Rattle.seat_table.specs.Seats.{TableAt, way_of, with_way};
 
     ghost Value = { TableAt };
 
-    ghost view = { λ t. record { id = t.table.shared.table_id; slots = t.table.shared.key.slots; places = t.table.shared.key.places; tickets = t.table.shared.key.tickets } };
+    ghost view = { λ t. record {
+      id = t.table.shared.table_id;
+      slots = t.table.shared.key.slots;
+      places = t.table.shared.key.places;
+      tickets = t.table.shared.key.tickets;
+    } };
 
-    ghost invariant = { λ t. (t.table.shared.table_id.words ≡ word_count (with_way W.WAY t.table.shared.key)) × IsShape (with_way W.WAY t.table.shared.key) × (t.table.shared.key.waiter ≡ way_of W.WAY) × (t.base ≡ slot_base (with_way W.WAY t.table.shared.key)) × (t.slots ≡ t.table.shared.key.slots) × (t.places ≡ t.table.shared.key.places) };
+    ghost invariant = { λ t. (t.table.shared.table_id.words ≡ word_count (with_way W.WAY t.table.shared.key))
+        × IsShape (with_way W.WAY t.table.shared.key) × (t.table.shared.key.waiter ≡ way_of W.WAY) × (t.slots ≡ t.table.shared.key.slots)
+        × (t.places ≡ t.table.shared.key.places) };
 }
 
-fn add_many(words: &mut Vec<u64>, count: u32, word: u64) -> Result<(), AllocError>
+fn add_many(words: &mut Vec<u64>, count: usize, word: u64) -> Result<(), AllocError>
     ensures { IfOk result (λ _. words.new.items ≡ words.old.items ++ replicate count word) }
 {
     for i in 0..count {
@@ -48,15 +55,24 @@ fn add_many(words: &mut Vec<u64>, count: u32, word: u64) -> Result<(), AllocErro
     Ok(())
 }
 
+// A word, and the room behind it.
+fn add_alone(words: &mut Vec<u64>, word: u64) -> Result<(), AllocError>
+    ensures { IfOk result (λ _. words.new.items ≡ words.old.items ++ alone word) }
+{
+    words.push(word)?;
+    add_many(words, APART - 1, 0)
+}
+
+// The key and the stamp of a place, and the room behind them.
 fn add_place(words: &mut Vec<u64>) -> Result<(), AllocError>
-    ensures { IfOk result (λ _. words.new.items ≡ words.old.items ++ 0 ∷ 18446744073709551615 ∷ []) }
+    ensures { IfOk result (λ _. words.new.items ≡ words.old.items ++ key_stamps 1) }
 {
     words.push(0)?;
     words.push(u64::MAX)?;
-    Ok(())
+    add_many(words, APART - 2, 0)
 }
 
-fn add_places(words: &mut Vec<u64>, places: u32) -> Result<(), AllocError>
+fn add_places(words: &mut Vec<u64>, places: usize) -> Result<(), AllocError>
     ensures { IfOk result (λ _. words.new.items ≡ words.old.items ++ key_stamps places) }
 {
     for i in 0..places {
@@ -65,65 +81,31 @@ fn add_places(words: &mut Vec<u64>, places: u32) -> Result<(), AllocError>
     Ok(())
 }
 
-fn add_slot(words: &mut Vec<u64>, state: u64) -> Result<(), AllocError>
-    ensures { IfOk result (λ _. words.new.items ≡ words.old.items ++ state ∷ 0 ∷ 0 ∷ 0 ∷ 0 ∷ 0 ∷ 0 ∷ 0 ∷ 0 ∷ []) }
-{
-    words.push(state)?;
-    words.push(0)?;
-    words.push(0)?;
-    words.push(0)?;
-    words.push(0)?;
-    words.push(0)?;
-    words.push(0)?;
-    words.push(0)?;
-    words.push(0)?;
-    Ok(())
-}
-
-fn add_slots(words: &mut Vec<u64>, count: u32, state: u64) -> Result<(), AllocError>
-    ensures { IfOk result (λ _. words.new.items ≡ words.old.items ++ slot_words state count) }
-{
-    for i in 0..count {
-        add_slot(words, state)?;
-    }
-    Ok(())
-}
-
-fn add_waiter(words: &mut Vec<u64>, waiter: Waiter, places: u32) -> Result<(), AllocError>
-    requires places { places ≤ 64 }
+fn add_waiter(words: &mut Vec<u64>, waiter: Waiter, places: usize) -> Result<(), AllocError>
+    requires places { places < 4294967296 }
     ensures { IfOk result (λ _. words.new.items ≡ words.old.items ++ waiter_part waiter places) }
 {
     match waiter {
         Waiter::Eer => add_places(words, places),
-        Waiter::Domain => add_many(words, 192, 0),
-        Waiter::Deer => add_many(words, 64 * places, u64::MAX),
+        Waiter::Domain => add_many(words, APART * CLASSES, 0),
+        Waiter::Deer => add_many(words, CLASSES * places, u64::MAX),
     }
 }
 
 /// The words of a table as it is made for this shape.
 pub fn words_of(alloc: Global, shape: &Shape) -> Result<Vec<u64>, AllocError>
-    requires places { shape.now.places ≤ 64 }
     ensures { IfOk result (λ words. words.items ≡ first_words shape.now) }
 {
+    let slots = shape.slots as usize;
+    let places = shape.places as usize;
     let mut words = Vec::new(alloc);
-    words.push(0)?;
-    words.push(0)?;
-    words.push(shape.slots as u64)?;
-    add_waiter(&mut words, shape.waiter, shape.places)?;
-    add_slots(&mut words, shape.places + 1, 1)?;
-    add_slots(&mut words, shape.slots, 0)?;
+    add_many(&mut words, LEAD + 2 * APART, 0)?;
+    add_alone(&mut words, shape.slots as u64)?;
+    add_waiter(&mut words, shape.waiter, places)?;
+    add_many(&mut words, LINE * (slots + places + 1), 0)?;
+    add_many(&mut words, places + 1, 1)?;
+    add_many(&mut words, slots, 0)?;
     Ok(words)
-}
-
-fn base_of(waiter: Waiter, places: u32) -> usize
-    requires places { places ≤ 64 }
-    ensures { (k : Shape) → k.waiter ≡ waiter → k.places ≡ places → result ≡ slot_base k }
-{
-    match waiter {
-        Waiter::Eer => 3 + 2 * places as usize,
-        Waiter::Domain => 195,
-        Waiter::Deer => 3 + 64 * places as usize,
-    }
 }
 
 impl<W: WaitWords> CitrusTable<W> {
@@ -167,14 +149,14 @@ impl<W: WaitWords> CitrusTable<W> {
             turns: 0,
             free: slots as u64,
             front: 0,
-            seized: 0,
+            looked: region(slots, places, 0),
             listed: ArrayVec::new(),
+            freed: ArrayVec::new(),
             marker: PhantomData,
         };
         Ok((
             CitrusTable {
                 table,
-                base: base_of(waiter, places),
                 slots,
                 places,
                 marker: PhantomData,

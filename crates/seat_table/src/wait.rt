@@ -1,5 +1,5 @@
 //! Waits, whatever the waiter.
-ghost use Rattle.std.specs.Prelude.{◌≡◌, ◌≤◌, [], Some, None};
+ghost use Rattle.std.specs.Prelude.{◌≡◌, ◌≤◌, [], Some, None, IfOk};
 ghost use Rattle.core_state.specs.declared.view.Section.{Section};
 ghost use Rattle.seat_table.specs.Seats.{IsQuietSeat, shape_of};
 ghost use Rattle.seat_table.specs.Sections.{HasEntered, HasLeft, HasBegun, IsQuietReader};
@@ -9,9 +9,9 @@ ghost use Rattle.seat_table.specs.Waits.{IsLatestOf, Polled, HasWaited, reached,
 use crate::seat::Seat;
 use crate::table::CitrusTable;
 use crate::waiter::WaitWords;
-use crossbeam_utils::Backoff;
 use key_interval::Keys;
-use prcu_marks::Why;
+use patience::{Patience, Steadfast};
+use prcu_marks::{Gate, OpenGate, Point, Why};
 use std::marker::PhantomData;
 use std::sync::Wait;
 
@@ -98,7 +98,34 @@ pub trait WaitPart: WaitWords {
         ensures quiet { IsQuietSeat seat.old → IsQuietSeat seat.new };
 }
 
-/// Waits until each reader with one of these keys has left that is reading now.
+/// Waits until each reader with one of these keys has left that is reading now, and passes the gate once the wait has begun.
+pub fn wait_in_grace<P: Patience, W: WaitPart, G: Gate>(
+    patience: &P,
+    table: &CitrusTable<W>,
+    seat: &mut Seat<W>,
+    gate: &G,
+    keys: Keys,
+) -> Result<(), P::Tired>
+    requires table { seat.old.table ≡ table.now }
+    requires outside { seat.old.view.section ≡ None }
+    requires ticket { 1 ≤ seat.old.view.allowance.tickets }
+    ensures seat { (seat.new.table ≡ seat.old.table) × (seat.new.listed ≡ seat.old.listed) }
+    ensures waited { IfOk result (λ _. HasWaited (shape_of W.WAY table.now) seat.old.view keys.low keys.high seat.new.view) }
+    ensures quiet { IsQuietSeat seat.old → IsQuietSeat seat.new }
+{
+    let mut grace = W::begin(table, seat, keys);
+    gate.pass(Point::InGrace, seat.place());
+    let mut pauses = patience.pauses();
+    for _ in 0..u64::MAX {
+        match W::poll(table, seat, &mut grace) {
+            Poll::Over => return Ok(()),
+            Poll::NotYet { why: _ } => patience.pause(&mut pauses)?,
+        }
+    }
+    Err(patience.tired())
+}
+
+/// The same for a caller that never gives up, with no gate.
 pub fn wait_for_readers<R: Wait, W: WaitPart>(
     rt: &R,
     table: &CitrusTable<W>,
@@ -112,13 +139,8 @@ pub fn wait_for_readers<R: Wait, W: WaitPart>(
     ensures waited { HasWaited (shape_of W.WAY table.now) seat.old.view keys.low keys.high seat.new.view }
     ensures quiet { IsQuietSeat seat.old → IsQuietSeat seat.new }
 {
-    let mut grace = W::begin(table, seat, keys);
-    let backoff = Backoff::new();
-    for _ in rt.forever() {
-        match W::poll(table, seat, &mut grace) {
-            Poll::Over => return,
-            Poll::NotYet { why: _ } => backoff.snooze(),
-        }
+    match wait_in_grace(&Steadfast::new(rt), table, seat, &OpenGate, keys) {
+        Ok(()) => (),
+        Err(never) => match never {},
     }
-    unreachable!()
 }

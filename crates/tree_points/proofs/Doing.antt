@@ -11,7 +11,7 @@ use Rattle.core_state.specs.parts.TreeParts.{map_now}
 use Rattle.core_points.specs.Facts.{is_delete, one_lock, read_at, set_known}
 use Rattle.core_points.proofs.Notes.{one_locked}
 use Rattle.core_acts.specs.Acts.{spare_of}
-use Rattle.tree_points.specs.Progress.{HasGone, HasUpdated}
+use Rattle.tree_points.specs.Progress.{HasGone, HasUpdated, KeepsAllowance}
 use Rattle.prcu_marks.specs.declared.mark.Side.{Side}
 use Rattle.prcu_marks.specs.declared.mark.Side.TheVariants.{Left, Right}
 use Rattle.prcu_model.specs.declared.operation.Op.{Op}
@@ -43,99 +43,147 @@ use Rattle.core_points.specs.DeleteFacts.{under}
 use Rattle.core_points.proofs.ClearLocks.{relinked_slots}
 use Rattle.core_points.proofs.Locking.{slots_in}
 use Rattle.core_tree.proofs.locks.Locked.{loaded_known}
-use Rattle.tree_points.proofs.Gone.{gone_with, lock_slots, noting_same}
+use Rattle.tree_points.proofs.Gone.{allowed, gone_with, lock_slots, noting_same}
 
 -- a step after all marks, of which the first is the place's
-one_gone : {v w : View} (h more : List Mark) (op : Op) → (own_of v.allowance.place more ≡ []) → Sees v h → w.allowance.place ≡ v.allowance.place → w.seen ≡ h ++ Done (record { caller = v.allowance.place; op = op }) ∷ more
+one_gone : {v w : View} (h more : List Mark) (op : Op) → (own_of v.allowance.place more ≡ []) → Sees v h → KeepsAllowance v w
+    → w.seen ≡ h ++ Done (record { caller = v.allowance.place; op = op }) ∷ more
     → HasGone v w (Done (record { caller = v.allowance.place; op = op }) ∷ [])
-one_gone {v} {w} h more op none sees place seen =
+one_gone {v} {w} h more op none sees keeps seen =
     let p : ℕ = v.allowance.place in
     let first : Mark = Done (record { caller = p; op = op }) in
     subst (HasGone v w) (ap (λ z. cond z (first ∷ own_of p more) (own_of p more)) (eq-eqb p p refl) ∙ ap (λ l. first ∷ l) none)
-    (gone_with h (first ∷ more) sees place seen)
+    (gone_with h (first ∷ more) sees keeps seen)
 
-abbrev updated : {v w : View} (h more : List Mark) (op : Op) (front : ℕ) → (own_of v.allowance.place more ≡ []) → updates_of more ≡ [] → Sees v h → w.allowance.place ≡ v.allowance.place → w.seen ≡ h ++ Done (record { caller = v.allowance.place; op = op }) ∷ more
+abbrev updated : {v w : View} (h more : List Mark) (op : Op) (front : ℕ) → (own_of v.allowance.place more ≡ []) → updates_of more ≡ []
+    → Sees v h → KeepsAllowance v w → w.seen ≡ h ++ Done (record { caller = v.allowance.place; op = op }) ∷ more
     → front + 2 ≡ 2 * length (updates_of w.seen) → HasUpdated v op front w
-updated {v} {w} h more op front none no_update sees place seen found = record {
+updated {v} {w} h more op front none no_update sees keeps seen found = record {
   before = h;
   sees = sees;
   more = more;
   seen = seen;
-  gone = one_gone h more op none sees place seen;
+  gone = one_gone h more op none sees keeps seen;
   counted =
       let u : Update = record { caller = v.allowance.place; op = op } in
-      let all : length (updates_of w.seen) ≡ length (updates_of h ++ u ∷ updates_of more) = ap (λ l. length (updates_of l)) seen ∙ ap length (updates_of-append h (Done u ∷ more)) in
-      let sum : length (updates_of h ++ u ∷ updates_of more) ≡ length (updates_of h) + length (u ∷ updates_of more) = length-append (updates_of h) (u ∷ updates_of more) in
+      let all : length (updates_of w.seen) ≡ length (updates_of h ++ u ∷ updates_of more) =
+      ap (λ l. length (updates_of l)) seen ∙ ap length (updates_of-append h (Done u ∷ more)) in
+      let sum : length (updates_of h ++ u ∷ updates_of more) ≡ length (updates_of h) + length (u ∷ updates_of more) =
+      length-append (updates_of h) (u ∷ updates_of more) in
       let one : length (u ∷ updates_of more) ≡ 1 = ap (λ l. length (u ∷ l)) no_update in
       omega arith;
 }
 
 -- the value that a set loaded under its lock
-pub the_value : (v : View) (s generation old : ℕ) → v.locks ≡ one_lock s (set_known s generation old) → known_in (known_under v s) (Value s) ≡ Some old
+pub the_value : (v : View) (s generation old : ℕ) → v.locks ≡ one_lock s (set_known s generation old)
+    → known_in (known_under v s) (Value s) ≡ Some old
 the_value v s generation old e =
     let known : List Known = set_known s generation old in
-    ap (λ (ls : List HeldLock). known_in (known_of (lock_of ls s)) (Value s)) e ∙ ap (λ l. known_in (known_of l) (Value s)) (one_locked s known) ∙ ap (λ z. cond z (Some old) (known_in (read_at (Life s) (2 * generation) ∷ []) (Value s))) (eq-eqb s s refl)
+    ap (λ (ls : List HeldLock). known_in (known_of (lock_of ls s)) (Value s)) e
+    ∙ ap (λ l. known_in (known_of l) (Value s)) (one_locked s known)
+    ∙ ap (λ z. cond z (Some old) (known_in (read_at (Life s) (2 * generation) ∷ []) (Value s))) (eq-eqb s s refl)
 
 module _ {k : Shape} {kept n : ℕ} {v w : View} where
-  pub updated_leaf : {key value leaf front : ℕ} {spot : Spot} → IsAt k (Put key value) kept (at.Store (update.Leaf spot) front) v → Told k v (acts.LinkLeaf spot.slot spot.side leaf key value) n w → HasUpdated v (Put key value) front w
+  pub updated_leaf : {key value leaf front : ℕ} {spot : Spot} → IsAt k (Put key value) kept (at.Store (update.Leaf spot) front) v
+      → Told k v (acts.LinkLeaf spot.slot spot.side leaf key value) n w → HasUpdated v (Put key value) front w
   updated_leaf {key} {value} {leaf} {front} a t =
-      updated t.marks [] (Put key value) front refl refl t.sees (ap (λ (z : View). z.allowance.place) t.goes) (ap (λ (z : View). z.seen) t.goes) ((t.gains).found (record { found = front; stored = false }) (((a.fits).point).2).1)
+      updated t.marks [] (Put key value) front refl refl t.sees (allowed t.goes refl) (ap (λ (z : View). z.seen) t.goes)
+      ((t.gains).found (record { found = front; stored = false }) (((a.fits).point).2).1)
 
   -- a set's value was the key's, as the set loaded it
-  pub updated_value : {key value s old front : ℕ} → IsAt k (Set key value) kept (at.Store (update.Value s old) front) v → Told k v (acts.ReplaceValue s key value) n w
+  pub updated_value : {key value s old front : ℕ} → IsAt k (Set key value) kept (at.Store (update.Value s old) front) v
+      → Told k v (acts.ReplaceValue s key value) n w
       → (u : HasUpdated v (Set key value) front w) × (map_now u.before key ≡ Some old)
   updated_value {key} {value} {s} {old} {front} a t = (
-    updated t.marks [] (Set key value) front refl refl t.sees (ap (λ (z : View). z.allowance.place) t.goes) (ap (λ (z : View). z.seen) t.goes) (((t.gains).counted).found (record { found = front; stored = false }) ((((a.fits).point).1).0).1),
+    updated t.marks [] (Set key value) front refl refl t.sees (allowed t.goes refl) (ap (λ (z : View). z.seen) t.goes)
+        (((t.gains).counted).found (record { found = front; stored = false }) ((((a.fits).point).1).0).1),
     (t.gains).was old (the_value v s ((a.fits).point).0 old (((a.fits).point).1).1),
   )
 
-  pub updated_bypass : {op : Op} {child front : ℕ} {d : Node} → IsAt k op kept (at.Store (update.Bypass d child) front) v → Told k v (acts.Bypass d.parent d.side d.node child (key_of op)) n w → HasUpdated v (Del (key_of op)) front w
+  pub updated_bypass : {op : Op} {child front : ℕ} {d : Node} → IsAt k op kept (at.Store (update.Bypass d child) front) v
+      → Told k v (acts.Bypass d.parent d.side d.node child (key_of op)) n w → HasUpdated v (Del (key_of op)) front w
   updated_bypass {op} {child} {front} {d} a t =
-      updated t.marks (Unlinked d.node ∷ []) (Del (key_of op)) front refl refl t.sees (ap (λ (z : View). z.allowance.place) t.goes) (ap (λ (z : View). z.seen) t.goes) ((t.gains).found (record { found = front; stored = false }) (((a.fits).point).0).1)
+      updated t.marks (Unlinked d.node ∷ []) (Del (key_of op)) front refl refl t.sees (allowed t.goes refl)
+      (ap (λ (z : View). z.seen) t.goes) ((t.gains).found (record { found = front; stored = false }) (((a.fits).point).0).1)
 
   -- the copy's key is the next one that the dictionary had
-  pub updated_copy : {op : Op} {next_key copy front : ℕ} {d : Node} {u : Successor} → IsAt k op kept (at.Store (update.Copy d u next_key copy) front) v → Told k v (acts.LinkCopy d.parent d.side d.node copy u.slot u.parent (key_of op) next_key) n w
+  pub updated_copy : {op : Op} {next_key copy front : ℕ} {d : Node} {u : Successor}
+      → IsAt k op kept (at.Store (update.Copy d u next_key copy) front) v
+      → Told k v (acts.LinkCopy d.parent d.side d.node copy u.slot u.parent (key_of op) next_key) n w
       → (x : HasUpdated v (Del (key_of op)) front w) × IsNextKey (map_of (updates_of x.before)) (key_of op) next_key
   updated_copy {op} {next_key} {copy} {front} {d} {u} a t = (
-    updated t.marks (Unlinked d.node ∷ []) (Del (key_of op)) front refl refl t.sees (ap (λ (z : View). z.allowance.place) t.goes) (ap (λ (z : View). z.seen) t.goes) (((t.gains).counted).found (record { found = front; stored = false }) ((((a.fits).point).0).0).1),
+    updated t.marks (Unlinked d.node ∷ []) (Del (key_of op)) front refl refl t.sees (allowed t.goes refl) (ap (λ (z : View). z.seen) t.goes)
+        (((t.gains).counted).found (record { found = front; stored = false }) ((((a.fits).point).0).0).1),
     (t.gains).next,
   )
 
-  pub gone_store_leaf : {key value leaf front : ℕ} {spot : Spot} → IsAt k (Put key value) kept (at.Store (update.Leaf spot) front) v → Told k v (acts.LinkLeaf spot.slot spot.side leaf key value) n w
+  pub gone_store_leaf : {key value leaf front : ℕ} {spot : Spot} → IsAt k (Put key value) kept (at.Store (update.Leaf spot) front) v
+      → Told k v (acts.LinkLeaf spot.slot spot.side leaf key value) n w
       → HasGone v w (Done (record { caller = v.allowance.place; op = Put key value }) ∷ [])
   gone_store_leaf a t = (updated_leaf a t).gone
 
-  pub gone_store_value : {key value s old front : ℕ} → IsAt k (Set key value) kept (at.Store (update.Value s old) front) v → Told k v (acts.ReplaceValue s key value) n w
+  pub gone_store_value : {key value s old front : ℕ} → IsAt k (Set key value) kept (at.Store (update.Value s old) front) v
+      → Told k v (acts.ReplaceValue s key value) n w
       → HasGone v w (Done (record { caller = v.allowance.place; op = Set key value }) ∷ [])
   gone_store_value a t = ((updated_value a t).0).gone
 
-  pub gone_store_bypass : {op : Op} {child front : ℕ} {d : Node} → IsAt k op kept (at.Store (update.Bypass d child) front) v → Told k v (acts.Bypass d.parent d.side d.node child (key_of op)) n w
+  pub gone_store_bypass : {op : Op} {child front : ℕ} {d : Node} → IsAt k op kept (at.Store (update.Bypass d child) front) v
+      → Told k v (acts.Bypass d.parent d.side d.node child (key_of op)) n w
       → HasGone v w (Done (record { caller = v.allowance.place; op = Del (key_of op) }) ∷ [])
   gone_store_bypass a t = (updated_bypass a t).gone
 
-  pub gone_store_copy : {op : Op} {next_key copy front : ℕ} {d : Node} {u : Successor} → IsAt k op kept (at.Store (update.Copy d u next_key copy) front) v → Told k v (acts.LinkCopy d.parent d.side d.node copy u.slot u.parent (key_of op) next_key) n w
+  pub gone_store_copy : {op : Op} {next_key copy front : ℕ} {d : Node} {u : Successor}
+      → IsAt k op kept (at.Store (update.Copy d u next_key copy) front) v
+      → Told k v (acts.LinkCopy d.parent d.side d.node copy u.slot u.parent (key_of op) next_key) n w
       → HasGone v w (Done (record { caller = v.allowance.place; op = Del (key_of op) }) ∷ [])
   gone_store_copy a t = ((updated_copy a t).0).gone
 
 -- What the table asks for each of them is given, and the front is made even next.
-pub needs_store_bypass : {k : Shape} {op : Op} {kept : ℕ} {v : View} {d : Node} {child : ℕ} {front : ℕ} → IsAt k op kept (at.Store (update.Bypass d child) front) v → TellsNow k v → Asks k v (acts.Bypass d.parent d.side d.node child (key_of op))
-needs_store_bypass {op = op} {d = d} {child = child} {front = front} a now = needs_as (at.Store (update.Bypass d child) front) (acts.Bypass d.parent d.side d.node child (key_of op)) a refl (ap (λ (x : Op). acts.Bypass d.parent d.side d.node child (key_of x)) a.op_is) now
+pub needs_store_bypass : {k : Shape} {op : Op} {kept : ℕ} {v : View} {d : Node} {child : ℕ} {front : ℕ}
+    → IsAt k op kept (at.Store (update.Bypass d child) front) v → TellsNow k v
+    → Asks k v (acts.Bypass d.parent d.side d.node child (key_of op))
+needs_store_bypass {op = op} {d = d} {child = child} {front = front} a now =
+    needs_as (at.Store (update.Bypass d child) front) (acts.Bypass d.parent d.side d.node child (key_of op)) a refl
+    (ap (λ (x : Op). acts.Bypass d.parent d.side d.node child (key_of x)) a.op_is) now
 
-pub passes_store_bypass : {k : Shape} {op : Op} {kept n : ℕ} {v w : View} {d : Node} {child : ℕ} {front : ℕ} → IsAt k op kept (at.Store (update.Bypass d child) front) v → Told k v (acts.Bypass d.parent d.side d.node child (key_of op)) n w → IsAt k op kept (at.Even (update.Bypass d child) front) w
-passes_store_bypass {op = op} {d = d} {child = child} {front = front} a t = passes_as (at.Store (update.Bypass d child) front) (at.Even (update.Bypass d child) front) (acts.Bypass d.parent d.side d.node child (key_of op)) a refl (ap (λ (x : Op). acts.Bypass d.parent d.side d.node child (key_of x)) a.op_is) refl t
+pub passes_store_bypass : {k : Shape} {op : Op} {kept n : ℕ} {v w : View} {d : Node} {child : ℕ} {front : ℕ}
+    → IsAt k op kept (at.Store (update.Bypass d child) front) v → Told k v (acts.Bypass d.parent d.side d.node child (key_of op)) n w
+    → IsAt k op kept (at.Even (update.Bypass d child) front) w
+passes_store_bypass {op = op} {d = d} {child = child} {front = front} a t =
+    passes_as (at.Store (update.Bypass d child) front) (at.Even (update.Bypass d child) front)
+    (acts.Bypass d.parent d.side d.node child (key_of op)) a refl
+    (ap (λ (x : Op). acts.Bypass d.parent d.side d.node child (key_of x)) a.op_is) refl t
 
-pub needs_store_copy : {k : Shape} {op : Op} {kept : ℕ} {v : View} {d : Node} {u : Successor} {next_key : ℕ} {copy : ℕ} {front : ℕ} → IsAt k op kept (at.Store (update.Copy d u next_key copy) front) v → TellsNow k v → Asks k v (acts.LinkCopy d.parent d.side d.node copy u.slot u.parent (key_of op) next_key)
-needs_store_copy {op = op} {d = d} {u = u} {next_key = next_key} {copy = copy} {front = front} a now = needs_as (at.Store (update.Copy d u next_key copy) front) (acts.LinkCopy d.parent d.side d.node copy u.slot u.parent (key_of op) next_key) a refl (ap (λ (x : Op). acts.LinkCopy d.parent d.side d.node copy u.slot u.parent (key_of x) next_key) a.op_is) now
+pub needs_store_copy : {k : Shape} {op : Op} {kept : ℕ} {v : View} {d : Node} {u : Successor} {next_key : ℕ} {copy : ℕ} {front : ℕ}
+    → IsAt k op kept (at.Store (update.Copy d u next_key copy) front) v → TellsNow k v
+    → Asks k v (acts.LinkCopy d.parent d.side d.node copy u.slot u.parent (key_of op) next_key)
+needs_store_copy {op = op} {d = d} {u = u} {next_key = next_key} {copy = copy} {front = front} a now =
+    needs_as (at.Store (update.Copy d u next_key copy) front)
+    (acts.LinkCopy d.parent d.side d.node copy u.slot u.parent (key_of op) next_key) a refl
+    (ap (λ (x : Op). acts.LinkCopy d.parent d.side d.node copy u.slot u.parent (key_of x) next_key) a.op_is) now
 
-pub passes_store_copy : {k : Shape} {op : Op} {kept n : ℕ} {v w : View} {d : Node} {u : Successor} {next_key : ℕ} {copy : ℕ} {front : ℕ} → IsAt k op kept (at.Store (update.Copy d u next_key copy) front) v → Told k v (acts.LinkCopy d.parent d.side d.node copy u.slot u.parent (key_of op) next_key) n w → IsAt k op kept (at.Even (update.Copy d u next_key copy) front) w
-passes_store_copy {op = op} {d = d} {u = u} {next_key = next_key} {copy = copy} {front = front} a t = passes_as (at.Store (update.Copy d u next_key copy) front) (at.Even (update.Copy d u next_key copy) front) (acts.LinkCopy d.parent d.side d.node copy u.slot u.parent (key_of op) next_key) a refl (ap (λ (x : Op). acts.LinkCopy d.parent d.side d.node copy u.slot u.parent (key_of x) next_key) a.op_is) refl t
+pub passes_store_copy : {k : Shape} {op : Op} {kept n : ℕ} {v w : View} {d : Node} {u : Successor} {next_key : ℕ} {copy : ℕ} {front : ℕ}
+    → IsAt k op kept (at.Store (update.Copy d u next_key copy) front) v
+    → Told k v (acts.LinkCopy d.parent d.side d.node copy u.slot u.parent (key_of op) next_key) n w
+    → IsAt k op kept (at.Even (update.Copy d u next_key copy) front) w
+passes_store_copy {op = op} {d = d} {u = u} {next_key = next_key} {copy = copy} {front = front} a t =
+    passes_as (at.Store (update.Copy d u next_key copy) front) (at.Even (update.Copy d u next_key copy) front)
+    (acts.LinkCopy d.parent d.side d.node copy u.slot u.parent (key_of op) next_key) a refl
+    (ap (λ (x : Op). acts.LinkCopy d.parent d.side d.node copy u.slot u.parent (key_of x) next_key) a.op_is) refl t
 
 -- a set's store is of its operation's value
-pub needs_store_value : {k : Shape} {kept key value : ℕ} {v : View} {s old front : ℕ} → IsAt k (Set key value) kept (at.Store (update.Value s old) front) v → TellsNow k v → Asks k v (acts.ReplaceValue s key value)
-needs_store_value {key = key} {value = value} {s = s} {old = old} {front = front} a now = needs_as (at.Store (update.Value s old) front) (acts.ReplaceValue s key value) a refl (ap (λ (x : Op). acts.ReplaceValue s (key_of x) (value_in x)) a.op_is) now
+pub needs_store_value : {k : Shape} {kept key value : ℕ} {v : View} {s old front : ℕ}
+    → IsAt k (Set key value) kept (at.Store (update.Value s old) front) v → TellsNow k v → Asks k v (acts.ReplaceValue s key value)
+needs_store_value {key = key} {value = value} {s = s} {old = old} {front = front} a now =
+    needs_as (at.Store (update.Value s old) front) (acts.ReplaceValue s key value) a refl
+    (ap (λ (x : Op). acts.ReplaceValue s (key_of x) (value_in x)) a.op_is) now
 
-pub passes_store_value : {k : Shape} {kept n key value : ℕ} {v w : View} {s old front : ℕ} → IsAt k (Set key value) kept (at.Store (update.Value s old) front) v → Told k v (acts.ReplaceValue s key value) n w → IsAt k (Set key value) kept (at.Even (update.Value s old) front) w
-passes_store_value {key = key} {value = value} {s = s} {old = old} {front = front} a t = passes_as (at.Store (update.Value s old) front) (at.Even (update.Value s old) front) (acts.ReplaceValue s key value) a refl (ap (λ (x : Op). acts.ReplaceValue s (key_of x) (value_in x)) a.op_is) refl t
+pub passes_store_value : {k : Shape} {kept n key value : ℕ} {v w : View} {s old front : ℕ}
+    → IsAt k (Set key value) kept (at.Store (update.Value s old) front) v → Told k v (acts.ReplaceValue s key value) n w
+    → IsAt k (Set key value) kept (at.Even (update.Value s old) front) w
+passes_store_value {key = key} {value = value} {s = s} {old = old} {front = front} a t =
+    passes_as (at.Store (update.Value s old) front) (at.Even (update.Value s old) front) (acts.ReplaceValue s key value) a refl
+    (ap (λ (x : Op). acts.ReplaceValue s (key_of x) (value_in x)) a.op_is) refl t
 
 -- what a delete's operation is
 pub op_deletes : (op : Op) → is_delete op ≡ true → op ≡ Del (key_of op)
@@ -152,13 +200,15 @@ module _ {k : Shape} {n : ℕ} {v w : View} where
   pub locks_replace : {s key value : ℕ} → Told k v (acts.ReplaceValue s key value) n w → slots_in w.locks ≡ slots_in v.locks
   locks_replace {s} {key} {value} t = ap (λ (z : View). slots_in z.locks) t.goes ∙ (noting_same v s (Value s) value true).locks
 
-  pub locks_bypass : {parent node child key : ℕ} {b : Side} → Told k v (acts.Bypass parent b node child key) n w → slots_in w.locks ≡ slots_in v.locks
+  pub locks_bypass : {parent node child key : ℕ} {b : Side} → Told k v (acts.Bypass parent b node child key) n w
+      → slots_in w.locks ≡ slots_in v.locks
   locks_bypass {parent} {node} {child} {b = b} t =
       ap (λ (z : View). slots_in z.locks) t.goes
       ∙ relinked_slots parent b child node (noting v parent (Link parent b) child true).locks
       ∙ (noting_same v parent (Link parent b) child true).locks
 
-  pub locks_copy : {parent node copy old old_parent key next_key : ℕ} {b : Side} → Told k v (acts.LinkCopy parent b node copy old old_parent key next_key) n w → slots_in w.locks ≡ slots_in v.locks
+  pub locks_copy : {parent node copy old old_parent key next_key : ℕ} {b : Side}
+      → Told k v (acts.LinkCopy parent b node copy old old_parent key next_key) n w → slots_in w.locks ≡ slots_in v.locks
   locks_copy {parent} {node} {b = b} t =
       let held : Held = spare_of v in
       ap (λ (z : View). slots_in z.locks) t.goes
@@ -166,28 +216,35 @@ module _ {k : Shape} {n : ℕ} {v w : View} where
       ∙ (noting_same v parent (Link parent b) held.slot true).locks
 
 -- A child that was loaded under the locks is one of the table's slots, and its number fits 32 bits.
-pub children_within : {k : Shape} {op : Op} {kept child : ℕ} {v : View} {d : Node} → IsAt k op kept (at.Mark d child) v → TellsNow k v → IsChild (k.slots + k.places + 1) d.left × IsChild (k.slots + k.places + 1) d.right
+pub children_within : {k : Shape} {op : Op} {kept child : ℕ} {v : View} {d : Node} → IsAt k op kept (at.Mark d child) v → TellsNow k v
+    → IsChild (k.slots + k.places + 1) d.left × IsChild (k.slots + k.places + 1) d.right
 children_within {k} {op} {kept} {child} {v} {d} a now =
     let p = ((a.fits).point).4 in
     let r = p.0 in
     let holds = p.2 in
     let known = under v.locks d.node in
     let life = loaded_known known (Life d.node) (2 * d.generation) ((a.fits).point).5 in
-    let links = (now.tells).links_within r d.node d.generation holds.kept holds.recorded life in
-    (links Left d.left (loaded_known known (Link d.node Left) d.left holds.left), links Right d.right (loaded_known known (Link d.node Right) d.right holds.right))
+    let links = (now.tells).links_within r d.node d.generation holds.kept holds.recorded life in (
+      links Left d.left (loaded_known known (Link d.node Left) d.left holds.left),
+      links Right d.right (loaded_known known (Link d.node Right) d.right holds.right),
+    )
 
-pub child_within : {k : Shape} {op : Op} {kept child : ℕ} {v : View} {d : Node} → IsAt k op kept (at.Mark d child) v → TellsNow k v → IsChild (k.slots + k.places + 1) child
+pub child_within : {k : Shape} {op : Op} {kept child : ℕ} {v : View} {d : Node} → IsAt k op kept (at.Mark d child) v → TellsNow k v
+    → IsChild (k.slots + k.places + 1) child
 child_within {k} {op} {kept} {child} {v} {d} a now =
     let both = children_within a now in
     subst (λ x. IsChild (k.slots + k.places + 1) x) (sym ((a.fits).point).6) (by (d.left == 0) both.0 both.1)
   where
-    by : (z : Bool) → IsChild (k.slots + k.places + 1) d.left → IsChild (k.slots + k.places + 1) d.right → IsChild (k.slots + k.places + 1) (cond z d.right d.left)
+    by : (z : Bool) → IsChild (k.slots + k.places + 1) d.left → IsChild (k.slots + k.places + 1) d.right
+        → IsChild (k.slots + k.places + 1) (cond z d.right d.left)
     by true left right = right
     by false left right = left
 
 -- and so is that of the old successor
-pub old_child_within : {k : Shape} {op : Op} {kept child : ℕ} {v : View} {m : Moving} → IsAt k op kept (at.Unlink m child) v → TellsNow k v → IsChild (k.slots + k.places + 1) child
+pub old_child_within : {k : Shape} {op : Op} {kept child : ℕ} {v : View} {m : Moving} → IsAt k op kept (at.Unlink m child) v → TellsNow k v
+    → IsChild (k.slots + k.places + 1) child
 old_child_within {k} {op} {kept} {child} {v} {m} a now =
     let p = (a.fits).point in
     let move = (p.0).6 in
-    (now.tells).old_links_within move.0 move.1 Right child (subst (λ s. known_in (under v.locks s) (Link s Right) ≡ Some child) (sym move.5) p.3)
+    (now.tells).old_links_within move.0 move.1 Right child
+    (subst (λ s. known_in (under v.locks s) (Link s Right) ≡ Some child) (sym move.5) p.3)

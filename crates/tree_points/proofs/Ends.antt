@@ -34,7 +34,8 @@ few_unraised (r ∷ rs) = by r.raised (few_unraised rs)
     by true le = omega arith
     by false le = omega arith
 
-first_raised : (x : Retired) (rs : List Retired) → unraised_among (x ∷ rs) ≡ length (x ∷ rs) → (x.raised ≡ false) × (unraised_among rs ≡ length rs)
+first_raised : (x : Retired) (rs : List Retired) → unraised_among (x ∷ rs) ≡ length (x ∷ rs)
+    → (x.raised ≡ false) × (unraised_among rs ≡ length rs)
 first_raised x rs all = by x.raised refl all
   where
     by : (z : Bool) → x.raised ≡ z → cond z 0 1 + unraised_among rs ≡ length (x ∷ rs) → (x.raised ≡ false) × (unraised_among rs ≡ length rs)
@@ -77,7 +78,8 @@ new_own k op kept v = record {
   kept = kept;
 }
 
-module _ (k : Shape) (op : Op) (kept : ℕ) (v : View) (quiet : IsQuiet v) (works : Works v) (some_place : 1 ≤ k.places) (fits : key_of op < 2 ^ 64) (paid : kept + 4 ≤ v.allowance.tickets) where
+module _ (k : Shape) (op : Op) (kept : ℕ) (v : View) (quiet : IsQuiet v) (works : Works v) (some_place : 1 ≤ k.places)
+    (fits : key_of op < 2 ^ 64) (paid : kept + 4 ≤ v.allowance.tickets) where
   between : IsFree (new_own k op kept v) v
   between = record {
     owns = record {
@@ -110,28 +112,37 @@ module _ (k : Shape) (op : Op) (kept : ℕ) (v : View) (quiet : IsQuiet v) (work
     places_are = refl;
     last = refl;
     keeps = refl;
-    fits = subst (λ x. Fits (begun_with (new_own k op kept v) (op ∷ [])) x v) is (begins (new_own k op kept v) v between (op ∷ []) one_key (omega arith));
+    fits = subst (λ x. Fits (begun_with (new_own k op kept v) (op ∷ [])) x v) is
+        (begins (new_own k op kept v) v between (op ∷ []) one_key (omega arith));
   }
 
 -- A call begins, with four tickets beside those that it leaves alone.
-pub begins_get : {k : Shape} {kept key : ℕ} {v : View} → IsQuiet v → Works v → 1 ≤ k.places → key < 2 ^ 64 → kept + 4 ≤ v.allowance.tickets → IsAt k (Get key) kept at.EnterClock v
-begins_get {k} {kept} {key} {v} quiet works some_place fits paid = call k (Get key) kept v quiet works some_place fits paid at.EnterClock refl
+pub begins_get : {k : Shape} {kept key : ℕ} {v : View} → IsQuiet v → Works v → 1 ≤ k.places → key < 2 ^ 64 → kept + 4 ≤ v.allowance.tickets
+    → IsAt k (Get key) kept at.EnterClock v
+begins_get {k} {kept} {key} {v} quiet works some_place fits paid =
+    call k (Get key) kept v quiet works some_place fits paid at.EnterClock refl
 
-pub begins_put : {k : Shape} {kept key value : ℕ} {v : View} → IsQuiet v → Works v → 1 ≤ k.places → key < 2 ^ 64 → kept + 4 ≤ v.allowance.tickets → IsAt k (Put key value) kept at.EnterClock v
-begins_put {k} {kept} {key} {value} {v} quiet works some_place fits paid = call k (Put key value) kept v quiet works some_place fits paid at.EnterClock refl
+pub begins_put : {k : Shape} {kept key value : ℕ} {v : View} → IsQuiet v → Works v → 1 ≤ k.places → key < 2 ^ 64
+    → kept + 4 ≤ v.allowance.tickets → IsAt k (Put key value) kept at.EnterClock v
+begins_put {k} {kept} {key} {value} {v} quiet works some_place fits paid =
+    call k (Put key value) kept v quiet works some_place fits paid at.EnterClock refl
 
-pub begins_set : {k : Shape} {kept key value : ℕ} {v : View} → IsQuiet v → Works v → 1 ≤ k.places → key < 2 ^ 64 → kept + 4 ≤ v.allowance.tickets → IsAt k (Set key value) kept at.EnterClock v
-begins_set {k} {kept} {key} {value} {v} quiet works some_place fits paid = call k (Set key value) kept v quiet works some_place fits paid at.EnterClock refl
+pub begins_set : {k : Shape} {kept key value : ℕ} {v : View} → IsQuiet v → Works v → 1 ≤ k.places → key < 2 ^ 64
+    → kept + 4 ≤ v.allowance.tickets → IsAt k (Set key value) kept at.EnterClock v
+begins_set {k} {kept} {key} {value} {v} quiet works some_place fits paid =
+    call k (Set key value) kept v quiet works some_place fits paid at.EnterClock refl
 
 pub slots_length : (rs : List Retired) → length (map (λ (r : Retired). r.slot) rs) ≡ length rs
 slots_length [] = refl
 slots_length (r ∷ rs) = ap suc (slots_length rs)
 
-pub begins_room : {k : Shape} {kept key : ℕ} {v : View} → IsQuiet v → Works v → 1 ≤ k.places → key < 2 ^ 64 → kept + 4 ≤ v.allowance.tickets → 15 ≤ length v.hands.retired → IsAt k (Del key) kept (at.Begin (Reuse Room)) v
+pub begins_room : {k : Shape} {kept key : ℕ} {v : View} → IsQuiet v → Works v → 1 ≤ k.places → key < 2 ^ 64 → kept + 4 ≤ v.allowance.tickets
+    → 15 ≤ length v.hands.retired → IsAt k (Del key) kept (at.Begin (Reuse Room)) v
 begins_room {k} {kept} {key} {v} quiet works some_place fits paid many =
     let o : Own = new_own k (Del key) kept v in
     call k (Del key) kept v quiet works some_place fits paid (at.Begin (Reuse Room))
-    (ap (λ z. cond z (at.Begin (Reuse Room)) (spare_first o)) (le-leb 15 (length o.retired) (subst (λ n. 15 ≤ n) (sym (slots_length v.hands.retired)) many)))
+    (ap (λ z. cond z (at.Begin (Reuse Room)) (spare_first o))
+    (le-leb 15 (length o.retired) (subst (λ n. 15 ≤ n) (sym (slots_length v.hands.retired)) many)))
 
 few_retired : (n : ℕ) → n < 15 → nat_le 15 n ≡ false
 few_retired n lt = lt-leb 15 n lt
@@ -145,20 +156,25 @@ module _ (k : Shape) (key kept : ℕ) (v : View) (few : length v.hands.retired <
   o = new_own k (Del key) kept v
 
   first_is : first_point o (Del key) ≡ spare_first o
-  first_is = ap (λ z. cond z (at.Begin (Reuse Room)) (spare_first o)) (few_retired (length o.retired) (subst (λ n. n < 15) (sym (slots_length v.hands.retired)) few))
+  first_is = ap (λ z. cond z (at.Begin (Reuse Room)) (spare_first o))
+      (few_retired (length o.retired) (subst (λ n. n < 15) (sym (slots_length v.hands.retired)) few))
 
-pub begins_delete : {k : Shape} {kept key : ℕ} {v : View} → IsQuiet v → Works v → 1 ≤ k.places → key < 2 ^ 64 → kept + 4 ≤ v.allowance.tickets → length v.hands.retired < 15 → v.hands.spare ≢ None → IsAt k (Del key) kept at.EnterClock v
+pub begins_delete : {k : Shape} {kept key : ℕ} {v : View} → IsQuiet v → Works v → 1 ≤ k.places → key < 2 ^ 64
+    → kept + 4 ≤ v.allowance.tickets → length v.hands.retired < 15 → v.hands.spare ≢ None → IsAt k (Del key) kept at.EnterClock v
 begins_delete {k} {kept} {key} {v} quiet works some_place fits paid few given =
     let o : Own = new_own k (Del key) kept v in
     call k (Del key) kept v quiet works some_place fits paid at.EnterClock
-    (first_is k key kept v few ∙ ap (λ z. cond z at.EnterClock (at.Reserve Spare (cond (o.free == 0) 1 o.free))) (has_spare v.hands.spare given))
+    (first_is k key kept v few ∙ ap (λ z. cond z at.EnterClock (at.Reserve Spare (cond (o.free == 0) 1 o.free)))
+    (has_spare v.hands.spare given))
 
-pub begins_spare : {k : Shape} {kept key : ℕ} {v : View} → IsQuiet v → Works v → 1 ≤ k.places → key < 2 ^ 64 → kept + 4 ≤ v.allowance.tickets → length v.hands.retired < 15 → v.hands.spare ≡ None
+pub begins_spare : {k : Shape} {kept key : ℕ} {v : View} → IsQuiet v → Works v → 1 ≤ k.places → key < 2 ^ 64
+    → kept + 4 ≤ v.allowance.tickets → length v.hands.retired < 15 → v.hands.spare ≡ None
     → (expected : ℕ) → 1 ≤ expected → IsAt k (Del key) kept (at.Reserve Spare expected) v
 begins_spare {k} {kept} {key} {v} quiet works some_place fits paid few none expected positive =
     let o : Own = new_own k (Del key) kept v in
     reserves_any (call k (Del key) kept v quiet works some_place fits paid (at.Reserve Spare 1)
-    (first_is k key kept v few ∙ ap (λ x. cond (is_some (spare_slot x)) at.EnterClock (at.Reserve Spare (cond (o.free == 0) 1 o.free))) none)) expected positive
+    (first_is k key kept v few ∙ ap (λ x. cond (is_some (spare_slot x)) at.EnterClock
+    (at.Reserve Spare (cond (o.free == 0) 1 o.free))) none)) expected positive
 
 -- A call ends quiet, and has left those tickets alone.
 pub is_quiet : {k : Shape} {op : Op} {kept : ℕ} {v : View} → IsDone k op kept v → IsQuiet v

@@ -6,6 +6,7 @@ use Rattle.prcu_marks.specs.Marks.{own_of}
 use Rattle.prcu_marks.proofs.MarkLists.{own_of-append}
 use Rattle.prcu_model.proofs.ListFacts.{prefix_trans}
 use Rattle.core_state.specs.declared.shape.Shape.{Shape}
+use Rattle.core_state.specs.declared.view.Allowance.{Allowance}
 use Rattle.core_state.specs.declared.view.HeldLock.{HeldLock}
 use Rattle.core_state.specs.declared.view.Known.{Known}
 use Rattle.core_state.specs.declared.view.Retired.{Retired}
@@ -22,32 +23,50 @@ use Rattle.seat_table.specs.Sections.{HasBegun, HasEntered, HasLeft, Leaves}
 use Rattle.seat_table.specs.Waits.{HasWaited, IsOver}
 use Rattle.core_state.specs.declared.view.Waiting.{Waiting}
 use Rattle.core_state.specs.steps.Waits.{new_wait}
-use Rattle.tree_points.specs.Progress.{HasGone}
+use Rattle.tree_points.specs.Progress.{HasGone, KeepsAllowance}
+
+-- Of the allowance only the tickets changed.
+pub allowed : {v w x : View} → w ≡ x → x.allowance ≡ record v.allowance { tickets = x.allowance.tickets } → KeepsAllowance v w
+allowed {v} e keeps = record {
+  rest = subst (λ (z : View). z.allowance ≡ record v.allowance { tickets = z.allowance.tickets })
+      (sym e) keeps;
+}
+
+pub allowed_on : {u v w : View} → KeepsAllowance u v → KeepsAllowance v w → KeepsAllowance u w
+allowed_on {u} {v} {w} a b = record { rest = b.rest ∙ ap (λ (z : Allowance). record z { tickets = w.allowance.tickets }) a.rest }
+
+place_of : {v w : View} → KeepsAllowance v w → w.allowance.place ≡ v.allowance.place
+place_of keeps = ap (λ (z : Allowance). z.place) keeps.rest
 
 -- Marks one after another.
-pub gone_none : {v w : View} → w.allowance.place ≡ v.allowance.place → w.seen ≡ v.seen → HasGone v w []
-gone_none {v} {w} same e = record {
-  same = same;
+pub gone_none : {v w : View} → KeepsAllowance v w → w.seen ≡ v.seen → HasGone v w []
+gone_none {v} {w} keeps e = record {
+  same = place_of keeps;
+  allowance = keeps;
   begins = ([], append-nil v.seen ∙ sym e);
   own = ap (own_of v.allowance.place) e ∙ sym (append-nil (own_of v.allowance.place v.seen));
 }
 
-pub gone_with : {v w : View} (h ms : List Mark) → Sees v h → w.allowance.place ≡ v.allowance.place → w.seen ≡ h ++ ms → HasGone v w (own_of v.allowance.place ms)
-gone_with {v} {w} h ms sees same e =
+pub gone_with : {v w : View} (h ms : List Mark) → Sees v h → KeepsAllowance v w → w.seen ≡ h ++ ms
+    → HasGone v w (own_of v.allowance.place ms)
+gone_with {v} {w} h ms sees keeps e =
     let more = sees.begins in
     record {
-      same = same;
+      same = place_of keeps;
+      allowance = keeps;
       begins = (more.0 ++ ms, sym (append_assoc v.seen more.0 ms) ∙ ap (λ l. l ++ ms) more.1 ∙ sym e);
-      own = ap (own_of v.allowance.place) e ∙ own_of-append v.allowance.place h ms ∙ ap (λ l. l ++ own_of v.allowance.place ms) (sym (sees.own v.allowance.place (works_there v sees.works)));
+      own = ap (own_of v.allowance.place) e ∙ own_of-append v.allowance.place h ms
+          ∙ ap (λ l. l ++ own_of v.allowance.place ms) (sym (sees.own v.allowance.place (works_there v sees.works)));
     }
 
 -- where a step saw all marks, or left some that are no place's
-pub gone_all : {v w : View} (h : List Mark) → Sees v h → w.allowance.place ≡ v.allowance.place → w.seen ≡ h → HasGone v w []
-gone_all {v} {w} h sees same e = gone_with h [] sees same (e ∙ sym (append-nil h))
+pub gone_all : {v w : View} (h : List Mark) → Sees v h → KeepsAllowance v w → w.seen ≡ h → HasGone v w []
+gone_all {v} {w} h sees keeps e = gone_with h [] sees keeps (e ∙ sym (append-nil h))
 
 pub gone_on : {u v w : View} {first second : List Mark} → HasGone u v first → HasGone v w second → HasGone u w (first ++ second)
 gone_on {u} {v} {w} {first} {second} m n = record {
   same = n.same ∙ m.same;
+  allowance = allowed_on m.allowance n.allowance;
   begins = prefix_trans u.seen v.seen w.seen m.begins n.begins;
   own =
       let p : ℕ = u.allowance.place in
@@ -60,44 +79,50 @@ pub gone_stays : {u v w : View} {first : List Mark} → HasGone u v first → Ha
 gone_stays {u} {v} {w} {first} m n = subst (HasGone u w) (append-nil first) (gone_on m n)
 
 pub gone_same : {v : View} → HasGone v v []
-gone_same = gone_none refl refl
+gone_same = gone_none (record { rest = refl }) refl
 
 -- by a mark of the waiter's calls
-gone_leaves : {v w : View} (mark : Mark) → w.allowance.place ≡ v.allowance.place → Leaves v mark w → HasGone v w (own_of v.allowance.place (mark ∷ []))
-gone_leaves mark same leaves = gone_with leaves.before (mark ∷ []) leaves.seen same leaves.marked
+gone_leaves : {v w : View} (mark : Mark) → KeepsAllowance v w → Leaves v mark w → HasGone v w (own_of v.allowance.place (mark ∷ []))
+gone_leaves mark keeps leaves = gone_with leaves.before (mark ∷ []) leaves.seen keeps leaves.marked
 
 pub gone_entered : {v w : View} {key : ℕ} → HasEntered v key w → HasGone v w (Entered v.allowance.place v.counts.sections key ∷ [])
 gone_entered {v} {w} {key} e =
-    subst (HasGone v w) (ap (λ z. cond z (Entered v.allowance.place v.counts.sections key ∷ []) []) (eq-eqb v.allowance.place v.allowance.place refl))
-    (gone_leaves (Entered v.allowance.place v.counts.sections key) (ap (λ (z : View). z.allowance.place) e.others) e.leaves)
+    subst (HasGone v w) (ap (λ z. cond z (Entered v.allowance.place v.counts.sections key ∷ []) [])
+    (eq-eqb v.allowance.place v.allowance.place refl))
+    (gone_leaves (Entered v.allowance.place v.counts.sections key) (allowed e.others refl) e.leaves)
 
 pub gone_left : {v w : View} (e : HasLeft v w) → HasGone v w (Left v.allowance.place e.section.count ∷ [])
 gone_left {v} {w} e =
-    subst (HasGone v w) (ap (λ z. cond z (Left v.allowance.place e.section.count ∷ []) []) (eq-eqb v.allowance.place v.allowance.place refl))
-    (gone_leaves (Left v.allowance.place e.section.count) (ap (λ (z : View). z.allowance.place) e.others) e.leaves)
+    subst (HasGone v w) (ap (λ z. cond z (Left v.allowance.place e.section.count ∷ []) [])
+    (eq-eqb v.allowance.place v.allowance.place refl))
+    (gone_leaves (Left v.allowance.place e.section.count) (allowed e.others refl) e.leaves)
 
 pub gone_begun : {v w : View} {low high : ℕ} → HasBegun v low high w → HasGone v w (Began v.allowance.place v.counts.waits low high ∷ [])
 gone_begun {v} {w} {low} {high} began =
-    subst (HasGone v w) (ap (λ z. cond z (Began v.allowance.place v.counts.waits low high ∷ []) []) (eq-eqb v.allowance.place v.allowance.place refl))
-    (gone_leaves (Began v.allowance.place v.counts.waits low high) (ap (λ (z : View). z.allowance.place) began.others) began.leaves)
+    subst (HasGone v w) (ap (λ z. cond z (Began v.allowance.place v.counts.waits low high ∷ []) [])
+    (eq-eqb v.allowance.place v.allowance.place refl))
+    (gone_leaves (Began v.allowance.place v.counts.waits low high) (allowed began.others refl) began.leaves)
 
 pub gone_over : {k : Shape} {v w : View} (over : IsOver k v w) → HasGone v w (Ended v.allowance.place over.wait.count ∷ [])
 gone_over {k} {v} {w} over =
-    subst (HasGone v w) (ap (λ z. cond z (Ended v.allowance.place over.wait.count ∷ []) []) (eq-eqb v.allowance.place v.allowance.place refl))
-    (gone_leaves (Ended v.allowance.place over.wait.count) (ap (λ (z : View). z.allowance.place) (over.ended).others) (over.ended).leaves)
+    subst (HasGone v w) (ap (λ z. cond z (Ended v.allowance.place over.wait.count ∷ []) [])
+    (eq-eqb v.allowance.place v.allowance.place refl))
+    (gone_leaves (Ended v.allowance.place over.wait.count) (allowed (over.ended).others refl) (over.ended).leaves)
 
-pub gone_waited : {k : Shape} {v w : View} {low high : ℕ} → HasWaited k v low high w → HasGone v w (Began v.allowance.place v.counts.waits low high ∷ (Ended v.allowance.place v.counts.waits ∷ []))
+pub gone_waited : {k : Shape} {v w : View} {low high : ℕ} → HasWaited k v low high w
+    → HasGone v w (Began v.allowance.place v.counts.waits low high ∷ (Ended v.allowance.place v.counts.waits ∷ []))
 gone_waited {k} {v} {w} {low} {high} (mid, began, over) =
     let place : mid.allowance.place ≡ v.allowance.place = ap (λ (z : View). z.allowance.place) began.others in
-    let later : w.allowance.place ≡ mid.allowance.place = ap (λ (z : View). z.allowance.place) (over.ended).others in
     let one : Some over.wait ≡ Some (new_wait v low high began.clock began.leaves.before) = sym over.was ∙ began.wait_is in
     let count : over.wait.count ≡ v.counts.waits = ap (λ (z : Option Waiting). count_of z) one in
     gone_on
-    (subst (HasGone v mid) (ap (λ z. cond z (Began v.allowance.place v.counts.waits low high ∷ []) []) (eq-eqb v.allowance.place v.allowance.place refl))
-    (gone_leaves (Began v.allowance.place v.counts.waits low high) place began.leaves))
+    (subst (HasGone v mid) (ap (λ z. cond z (Began v.allowance.place v.counts.waits low high ∷ []) [])
+    (eq-eqb v.allowance.place v.allowance.place refl))
+    (gone_leaves (Began v.allowance.place v.counts.waits low high) (allowed began.others refl) began.leaves))
     (subst (λ (z : ℕ × ℕ). HasGone mid w (Ended z.0 z.1 ∷ [])) (λ i. (place i, count i))
-    (subst (HasGone mid w) (ap (λ z. cond z (Ended mid.allowance.place over.wait.count ∷ []) []) (eq-eqb mid.allowance.place mid.allowance.place refl))
-    (gone_leaves (Ended mid.allowance.place over.wait.count) later (over.ended).leaves)))
+    (subst (HasGone mid w) (ap (λ z. cond z (Ended mid.allowance.place over.wait.count ∷ []) [])
+    (eq-eqb mid.allowance.place mid.allowance.place refl))
+    (gone_leaves (Ended mid.allowance.place over.wait.count) (allowed (over.ended).others refl) (over.ended).leaves)))
   where
     count_of : Option Waiting → ℕ
     count_of None = 0
@@ -108,9 +133,11 @@ slot_kept : (f : HeldLock → HeldLock) → ((l : HeldLock) → (f l).slot ≡ l
 slot_kept f same l true = same l
 slot_kept f same l false = refl
 
-pub lock_slots : (s : ℕ) (f : HeldLock → HeldLock) → ((l : HeldLock) → (f l).slot ≡ l.slot) → (ls : List HeldLock) → slots_in (change_lock s f ls) ≡ slots_in ls
+pub lock_slots : (s : ℕ) (f : HeldLock → HeldLock) → ((l : HeldLock) → (f l).slot ≡ l.slot) → (ls : List HeldLock)
+    → slots_in (change_lock s f ls) ≡ slots_in ls
 lock_slots s f same [] = refl
-lock_slots s f same (l ∷ ls) = ap (λ x. x ∷ slots_in (change_lock s f ls)) (slot_kept f same l (l.slot == s)) ∙ ap (λ xs. l.slot ∷ xs) (lock_slots s f same ls)
+lock_slots s f same (l ∷ ls) = ap (λ x. x ∷ slots_in (change_lock s f ls)) (slot_kept f same l (l.slot == s))
+    ∙ ap (λ xs. l.slot ∷ xs) (lock_slots s f same ls)
 
 abbrev pub retired_in : List Retired → List ℕ
 retired_in = map (λ (r : Retired). r.slot)
@@ -119,9 +146,11 @@ retired_kept : (f : Retired → Retired) → ((r : Retired) → (f r).slot ≡ r
 retired_kept f same r true = same r
 retired_kept f same r false = refl
 
-pub retired_slots : (s : ℕ) (f : Retired → Retired) → ((r : Retired) → (f r).slot ≡ r.slot) → (rs : List Retired) → retired_in (change_retired s f rs) ≡ retired_in rs
+pub retired_slots : (s : ℕ) (f : Retired → Retired) → ((r : Retired) → (f r).slot ≡ r.slot) → (rs : List Retired)
+    → retired_in (change_retired s f rs) ≡ retired_in rs
 retired_slots s f same [] = refl
-retired_slots s f same (r ∷ rs) = ap (λ x. x ∷ retired_in (change_retired s f rs)) (retired_kept f same r (r.slot == s)) ∙ ap (λ xs. r.slot ∷ xs) (retired_slots s f same rs)
+retired_slots s f same (r ∷ rs) = ap (λ x. x ∷ retired_in (change_retired s f rs)) (retired_kept f same r (r.slot == s))
+    ∙ ap (λ xs. r.slot ∷ xs) (retired_slots s f same rs)
 
 -- The place, its locks, the slot in hand, the spare and the retired slots are the same.
 pub record IsSame (v w : View) : Type 0 where

@@ -43,101 +43,175 @@ slot_in_hand None life key value held fits = ap spare_slot fits
 slot_in_hand (Some s) life key value held fits = ap spare_slot fits.1 ∙ ap Some (fits.2).slot_is
 
 -- A leaf is filled.
-leaf_hand : {k : Shape} {op : Op} {kept i leaf : ℕ} {v : View} {spot : Spot} (a : IsAt k op kept (at.LeafField spot i) v) → IsSlotOf (Some leaf) v.hands.hand → a.own.hand ≡ Some leaf
+leaf_hand : {k : Shape} {op : Op} {kept i leaf : ℕ} {v : View} {spot : Spot} (a : IsAt k op kept (at.LeafField spot i) v)
+    → IsSlotOf (Some leaf) v.hands.hand → a.own.hand ≡ Some leaf
 leaf_hand {leaf = leaf} {v = v} a is = let p = ((a.fits).point).2 in p.1 ∙ sym (ap spare_slot p.2) ∙ slot_of v.hands.hand leaf is
 
-leaf_case : {k : Shape} {kept leaf key value : ℕ} {v : View} {spot : Spot} (i : ℕ) (a : IsAt k (Put key value) kept (at.LeafField spot i) v) → IsSlotOf (Some leaf) v.hands.hand
+leaf_case : {k : Shape} {kept leaf key value : ℕ} {v : View} {spot : Spot} (i : ℕ) (a : IsAt k (Put key value) kept (at.LeafField spot i) v)
+    → IsSlotOf (Some leaf) v.hands.hand
     → act_at a.own (at.LeafField spot i) ≡ acts.Fill leaf (content_part i) (contents key value 0 0 i)
 leaf_case {leaf = leaf} i a is =
     ap (λ x. acts.Fill (or_root x) (content_part i) (contents (key_now a.own) (value_in a.own.op) 0 0 i)) (leaf_hand a is)
     ∙ ap (λ (x : Op). acts.Fill leaf (content_part i) (contents (key_of x) (value_in x) 0 0 i)) a.op_is
 
-pub needs_leaf_key : {k : Shape} {kept leaf key value : ℕ} {v : View} {spot : Spot} → IsSlotOf (Some leaf) v.hands.hand → IsAt k (Put key value) kept (at.LeafField spot 0) v → TellsNow k v → Asks k v (acts.Fill leaf part.Key key)
-needs_leaf_key {leaf = leaf} {key = key} {value = value} {spot = spot} is a now = needs_as (at.LeafField spot 0) (acts.Fill leaf part.Key key) a refl (leaf_case 0 a is) now
+pub needs_leaf_key : {k : Shape} {kept leaf key value : ℕ} {v : View} {spot : Spot} → IsSlotOf (Some leaf) v.hands.hand
+    → IsAt k (Put key value) kept (at.LeafField spot 0) v → TellsNow k v → Asks k v (acts.Fill leaf part.Key key)
+needs_leaf_key {leaf = leaf} {key = key} {value = value} {spot = spot} is a now =
+    needs_as (at.LeafField spot 0) (acts.Fill leaf part.Key key) a refl (leaf_case 0 a is) now
 
-pub passes_leaf_key : {k : Shape} {kept n leaf key value : ℕ} {v w : View} {spot : Spot} → IsSlotOf (Some leaf) v.hands.hand → IsAt k (Put key value) kept (at.LeafField spot 0) v → Told k v (acts.Fill leaf part.Key key) n w → IsAt k (Put key value) kept (at.LeafField spot 1) w
-passes_leaf_key {leaf = leaf} {key = key} {value = value} {spot = spot} is a t = passes_as (at.LeafField spot 0) (at.LeafField spot 1) (acts.Fill leaf part.Key key) a refl (leaf_case 0 a is) refl t
+pub passes_leaf_key : {k : Shape} {kept n leaf key value : ℕ} {v w : View} {spot : Spot} → IsSlotOf (Some leaf) v.hands.hand
+    → IsAt k (Put key value) kept (at.LeafField spot 0) v → Told k v (acts.Fill leaf part.Key key) n w
+    → IsAt k (Put key value) kept (at.LeafField spot 1) w
+passes_leaf_key {leaf = leaf} {key = key} {value = value} {spot = spot} is a t =
+    passes_as (at.LeafField spot 0) (at.LeafField spot 1) (acts.Fill leaf part.Key key) a refl (leaf_case 0 a is) refl t
 
-pub needs_leaf_value : {k : Shape} {kept leaf key value : ℕ} {v : View} {spot : Spot} → IsSlotOf (Some leaf) v.hands.hand → IsAt k (Put key value) kept (at.LeafField spot 1) v → TellsNow k v → Asks k v (acts.Fill leaf part.Value value)
-needs_leaf_value {leaf = leaf} {key = key} {value = value} {spot = spot} is a now = needs_as (at.LeafField spot 1) (acts.Fill leaf part.Value value) a refl (leaf_case 1 a is) now
+pub needs_leaf_value : {k : Shape} {kept leaf key value : ℕ} {v : View} {spot : Spot} → IsSlotOf (Some leaf) v.hands.hand
+    → IsAt k (Put key value) kept (at.LeafField spot 1) v → TellsNow k v → Asks k v (acts.Fill leaf part.Value value)
+needs_leaf_value {leaf = leaf} {key = key} {value = value} {spot = spot} is a now =
+    needs_as (at.LeafField spot 1) (acts.Fill leaf part.Value value) a refl (leaf_case 1 a is) now
 
-pub passes_leaf_value : {k : Shape} {kept n leaf key value : ℕ} {v w : View} {spot : Spot} → IsSlotOf (Some leaf) v.hands.hand → IsAt k (Put key value) kept (at.LeafField spot 1) v → Told k v (acts.Fill leaf part.Value value) n w → IsAt k (Put key value) kept (at.LeafField spot 2) w
-passes_leaf_value {leaf = leaf} {key = key} {value = value} {spot = spot} is a t = passes_as (at.LeafField spot 1) (at.LeafField spot 2) (acts.Fill leaf part.Value value) a refl (leaf_case 1 a is) refl t
+pub passes_leaf_value : {k : Shape} {kept n leaf key value : ℕ} {v w : View} {spot : Spot} → IsSlotOf (Some leaf) v.hands.hand
+    → IsAt k (Put key value) kept (at.LeafField spot 1) v → Told k v (acts.Fill leaf part.Value value) n w
+    → IsAt k (Put key value) kept (at.LeafField spot 2) w
+passes_leaf_value {leaf = leaf} {key = key} {value = value} {spot = spot} is a t =
+    passes_as (at.LeafField spot 1) (at.LeafField spot 2) (acts.Fill leaf part.Value value) a refl (leaf_case 1 a is) refl t
 
-pub needs_leaf_left : {k : Shape} {kept leaf key value : ℕ} {v : View} {spot : Spot} → IsSlotOf (Some leaf) v.hands.hand → IsAt k (Put key value) kept (at.LeafField spot 2) v → TellsNow k v → Asks k v (acts.Fill leaf (part.Link Left) 0)
-needs_leaf_left {leaf = leaf} {key = key} {value = value} {spot = spot} is a now = needs_as (at.LeafField spot 2) (acts.Fill leaf (part.Link Left) 0) a refl (leaf_case 2 a is) now
+pub needs_leaf_left : {k : Shape} {kept leaf key value : ℕ} {v : View} {spot : Spot} → IsSlotOf (Some leaf) v.hands.hand
+    → IsAt k (Put key value) kept (at.LeafField spot 2) v → TellsNow k v → Asks k v (acts.Fill leaf (part.Link Left) 0)
+needs_leaf_left {leaf = leaf} {key = key} {value = value} {spot = spot} is a now =
+    needs_as (at.LeafField spot 2) (acts.Fill leaf (part.Link Left) 0) a refl (leaf_case 2 a is) now
 
-pub passes_leaf_left : {k : Shape} {kept n leaf key value : ℕ} {v w : View} {spot : Spot} → IsSlotOf (Some leaf) v.hands.hand → IsAt k (Put key value) kept (at.LeafField spot 2) v → Told k v (acts.Fill leaf (part.Link Left) 0) n w → IsAt k (Put key value) kept (at.LeafField spot 3) w
-passes_leaf_left {leaf = leaf} {key = key} {value = value} {spot = spot} is a t = passes_as (at.LeafField spot 2) (at.LeafField spot 3) (acts.Fill leaf (part.Link Left) 0) a refl (leaf_case 2 a is) refl t
+pub passes_leaf_left : {k : Shape} {kept n leaf key value : ℕ} {v w : View} {spot : Spot} → IsSlotOf (Some leaf) v.hands.hand
+    → IsAt k (Put key value) kept (at.LeafField spot 2) v → Told k v (acts.Fill leaf (part.Link Left) 0) n w
+    → IsAt k (Put key value) kept (at.LeafField spot 3) w
+passes_leaf_left {leaf = leaf} {key = key} {value = value} {spot = spot} is a t =
+    passes_as (at.LeafField spot 2) (at.LeafField spot 3) (acts.Fill leaf (part.Link Left) 0) a refl (leaf_case 2 a is) refl t
 
-pub needs_leaf_right : {k : Shape} {kept leaf key value : ℕ} {v : View} {spot : Spot} → IsSlotOf (Some leaf) v.hands.hand → IsAt k (Put key value) kept (at.LeafField spot 3) v → TellsNow k v → Asks k v (acts.Fill leaf (part.Link Right) 0)
-needs_leaf_right {leaf = leaf} {key = key} {value = value} {spot = spot} is a now = needs_as (at.LeafField spot 3) (acts.Fill leaf (part.Link Right) 0) a refl (leaf_case 3 a is) now
+pub needs_leaf_right : {k : Shape} {kept leaf key value : ℕ} {v : View} {spot : Spot} → IsSlotOf (Some leaf) v.hands.hand
+    → IsAt k (Put key value) kept (at.LeafField spot 3) v → TellsNow k v → Asks k v (acts.Fill leaf (part.Link Right) 0)
+needs_leaf_right {leaf = leaf} {key = key} {value = value} {spot = spot} is a now =
+    needs_as (at.LeafField spot 3) (acts.Fill leaf (part.Link Right) 0) a refl (leaf_case 3 a is) now
 
-pub passes_leaf_right : {k : Shape} {kept n leaf key value : ℕ} {v w : View} {spot : Spot} → IsSlotOf (Some leaf) v.hands.hand → IsAt k (Put key value) kept (at.LeafField spot 3) v → Told k v (acts.Fill leaf (part.Link Right) 0) n w → IsAt k (Put key value) kept (at.LeafLock spot) w
-passes_leaf_right {leaf = leaf} {key = key} {value = value} {spot = spot} is a t = passes_as (at.LeafField spot 3) (at.LeafLock spot) (acts.Fill leaf (part.Link Right) 0) a refl (leaf_case 3 a is) refl t
+pub passes_leaf_right : {k : Shape} {kept n leaf key value : ℕ} {v w : View} {spot : Spot} → IsSlotOf (Some leaf) v.hands.hand
+    → IsAt k (Put key value) kept (at.LeafField spot 3) v → Told k v (acts.Fill leaf (part.Link Right) 0) n w
+    → IsAt k (Put key value) kept (at.LeafLock spot) w
+passes_leaf_right {leaf = leaf} {key = key} {value = value} {spot = spot} is a t =
+    passes_as (at.LeafField spot 3) (at.LeafLock spot) (acts.Fill leaf (part.Link Right) 0) a refl (leaf_case 3 a is) refl t
 
 -- and linked
-pub linked_case : {k : Shape} {op : Op} {kept leaf front : ℕ} {v : View} {spot : Spot} (a : IsAt k op kept (at.Store (update.Leaf spot) front) v) → IsSlotOf (Some leaf) v.hands.hand
+pub linked_case : {k : Shape} {op : Op} {kept leaf front : ℕ} {v : View} {spot : Spot}
+    (a : IsAt k op kept (at.Store (update.Leaf spot) front) v) → IsSlotOf (Some leaf) v.hands.hand
     → act_at a.own (at.Store (update.Leaf spot) front) ≡ acts.LinkLeaf spot.slot spot.side leaf (key_of op) (value_in op)
 linked_case {op = op} {leaf = leaf} {v = v} {spot = spot} a is =
-    let hand : a.own.hand ≡ Some leaf = sym (slot_in_hand a.own.hand _ _ _ v.hands.hand ((a.fits).point).3) ∙ slot_of v.hands.hand leaf is in
-    ap (λ x. acts.LinkLeaf spot.slot spot.side (or_root x) (key_now a.own) (value_in a.own.op)) hand ∙ ap (λ (x : Op). acts.LinkLeaf spot.slot spot.side leaf (key_of x) (value_in x)) a.op_is
+    let hand : a.own.hand ≡ Some leaf = sym (slot_in_hand a.own.hand _ _ _ v.hands.hand ((a.fits).point).3)
+    ∙ slot_of v.hands.hand leaf is in
+    ap (λ x. acts.LinkLeaf spot.slot spot.side (or_root x) (key_now a.own) (value_in a.own.op)) hand
+    ∙ ap (λ (x : Op). acts.LinkLeaf spot.slot spot.side leaf (key_of x) (value_in x)) a.op_is
 
-pub needs_store_leaf : {k : Shape} {op : Op} {kept leaf front : ℕ} {v : View} {spot : Spot} → IsSlotOf (Some leaf) v.hands.hand → IsAt k op kept (at.Store (update.Leaf spot) front) v → TellsNow k v → Asks k v (acts.LinkLeaf spot.slot spot.side leaf (key_of op) (value_in op))
-needs_store_leaf {op = op} {leaf = leaf} {front = front} {spot = spot} is a now = needs_as (at.Store (update.Leaf spot) front) (acts.LinkLeaf spot.slot spot.side leaf (key_of op) (value_in op)) a refl (linked_case a is) now
+pub needs_store_leaf : {k : Shape} {op : Op} {kept leaf front : ℕ} {v : View} {spot : Spot} → IsSlotOf (Some leaf) v.hands.hand
+    → IsAt k op kept (at.Store (update.Leaf spot) front) v → TellsNow k v
+    → Asks k v (acts.LinkLeaf spot.slot spot.side leaf (key_of op) (value_in op))
+needs_store_leaf {op = op} {leaf = leaf} {front = front} {spot = spot} is a now =
+    needs_as (at.Store (update.Leaf spot) front) (acts.LinkLeaf spot.slot spot.side leaf (key_of op) (value_in op)) a refl
+    (linked_case a is) now
 
-pub passes_store_leaf : {k : Shape} {op : Op} {kept n leaf front : ℕ} {v w : View} {spot : Spot} → IsSlotOf (Some leaf) v.hands.hand → IsAt k op kept (at.Store (update.Leaf spot) front) v → Told k v (acts.LinkLeaf spot.slot spot.side leaf (key_of op) (value_in op)) n w
+pub passes_store_leaf : {k : Shape} {op : Op} {kept n leaf front : ℕ} {v w : View} {spot : Spot} → IsSlotOf (Some leaf) v.hands.hand
+    → IsAt k op kept (at.Store (update.Leaf spot) front) v → Told k v (acts.LinkLeaf spot.slot spot.side leaf (key_of op) (value_in op)) n w
     → IsAt k op kept (at.Even (update.Leaf spot) front) w
-passes_store_leaf {op = op} {leaf = leaf} {front = front} {spot = spot} is a t = passes_as (at.Store (update.Leaf spot) front) (at.Even (update.Leaf spot) front) (acts.LinkLeaf spot.slot spot.side leaf (key_of op) (value_in op)) a refl (linked_case a is) refl t
+passes_store_leaf {op = op} {leaf = leaf} {front = front} {spot = spot} is a t =
+    passes_as (at.Store (update.Leaf spot) front) (at.Even (update.Leaf spot) front)
+    (acts.LinkLeaf spot.slot spot.side leaf (key_of op) (value_in op)) a refl (linked_case a is) refl t
 
 -- The spare gets the fields of a copy.
-pub own_spare : {k : Shape} {op : Op} {kept copy : ℕ} {v : View} {stage : Stage} (a : IsAt k op kept stage v) → IsSlotOf (Some copy) v.hands.spare → a.own.spare ≡ Some copy
+pub own_spare : {k : Shape} {op : Op} {kept copy : ℕ} {v : View} {stage : Stage} (a : IsAt k op kept stage v)
+    → IsSlotOf (Some copy) v.hands.spare → a.own.spare ≡ Some copy
 own_spare {copy = copy} {v = v} a is = sym ((a.fits).owns).spare_is ∙ slot_of v.hands.spare copy is
 
-copy_case : {k : Shape} {op : Op} {kept copy next_key value : ℕ} {v : View} {d : Node} {u : Successor} (i : ℕ) (a : IsAt k op kept (at.CopyField d u next_key value i) v) → IsSlotOf (Some copy) v.hands.spare
+copy_case : {k : Shape} {op : Op} {kept copy next_key value : ℕ} {v : View} {d : Node} {u : Successor} (i : ℕ)
+    (a : IsAt k op kept (at.CopyField d u next_key value i) v) → IsSlotOf (Some copy) v.hands.spare
     → act_at a.own (at.CopyField d u next_key value i) ≡ acts.Fill copy (content_part i) (contents next_key value d.left d.right i)
-copy_case {next_key = next_key} {value = value} {d = d} i a is = ap (λ x. acts.Fill (or_root x) (content_part i) (contents next_key value d.left d.right i)) (own_spare a is)
+copy_case {next_key = next_key} {value = value} {d = d} i a is =
+    ap (λ x. acts.Fill (or_root x) (content_part i) (contents next_key value d.left d.right i)) (own_spare a is)
 
-pub needs_copy_key : {k : Shape} {op : Op} {kept copy next_key value : ℕ} {v : View} {d : Node} {u : Successor} → IsSlotOf (Some copy) v.hands.spare → IsAt k op kept (at.CopyField d u next_key value 0) v → TellsNow k v → Asks k v (acts.Fill copy part.Key next_key)
-needs_copy_key {copy = copy} {next_key = next_key} {value = value} {d = d} {u = u} is a now = needs_as (at.CopyField d u next_key value 0) (acts.Fill copy part.Key next_key) a refl (copy_case 0 a is) now
+pub needs_copy_key : {k : Shape} {op : Op} {kept copy next_key value : ℕ} {v : View} {d : Node} {u : Successor}
+    → IsSlotOf (Some copy) v.hands.spare → IsAt k op kept (at.CopyField d u next_key value 0) v → TellsNow k v
+    → Asks k v (acts.Fill copy part.Key next_key)
+needs_copy_key {copy = copy} {next_key = next_key} {value = value} {d = d} {u = u} is a now =
+    needs_as (at.CopyField d u next_key value 0) (acts.Fill copy part.Key next_key) a refl (copy_case 0 a is) now
 
-pub passes_copy_key : {k : Shape} {op : Op} {kept n copy next_key value : ℕ} {v w : View} {d : Node} {u : Successor} → IsSlotOf (Some copy) v.hands.spare → IsAt k op kept (at.CopyField d u next_key value 0) v → Told k v (acts.Fill copy part.Key next_key) n w → IsAt k op kept (at.CopyField d u next_key value 1) w
-passes_copy_key {copy = copy} {next_key = next_key} {value = value} {d = d} {u = u} is a t = passes_as (at.CopyField d u next_key value 0) (at.CopyField d u next_key value 1) (acts.Fill copy part.Key next_key) a refl (copy_case 0 a is) refl t
+pub passes_copy_key : {k : Shape} {op : Op} {kept n copy next_key value : ℕ} {v w : View} {d : Node} {u : Successor}
+    → IsSlotOf (Some copy) v.hands.spare → IsAt k op kept (at.CopyField d u next_key value 0) v
+    → Told k v (acts.Fill copy part.Key next_key) n w → IsAt k op kept (at.CopyField d u next_key value 1) w
+passes_copy_key {copy = copy} {next_key = next_key} {value = value} {d = d} {u = u} is a t =
+    passes_as (at.CopyField d u next_key value 0) (at.CopyField d u next_key value 1) (acts.Fill copy part.Key next_key) a refl
+    (copy_case 0 a is) refl t
 
-pub needs_copy_value : {k : Shape} {op : Op} {kept copy next_key value : ℕ} {v : View} {d : Node} {u : Successor} → IsSlotOf (Some copy) v.hands.spare → IsAt k op kept (at.CopyField d u next_key value 1) v → TellsNow k v → Asks k v (acts.Fill copy part.Value value)
-needs_copy_value {copy = copy} {next_key = next_key} {value = value} {d = d} {u = u} is a now = needs_as (at.CopyField d u next_key value 1) (acts.Fill copy part.Value value) a refl (copy_case 1 a is) now
+pub needs_copy_value : {k : Shape} {op : Op} {kept copy next_key value : ℕ} {v : View} {d : Node} {u : Successor}
+    → IsSlotOf (Some copy) v.hands.spare → IsAt k op kept (at.CopyField d u next_key value 1) v → TellsNow k v
+    → Asks k v (acts.Fill copy part.Value value)
+needs_copy_value {copy = copy} {next_key = next_key} {value = value} {d = d} {u = u} is a now =
+    needs_as (at.CopyField d u next_key value 1) (acts.Fill copy part.Value value) a refl (copy_case 1 a is) now
 
-pub passes_copy_value : {k : Shape} {op : Op} {kept n copy next_key value : ℕ} {v w : View} {d : Node} {u : Successor} → IsSlotOf (Some copy) v.hands.spare → IsAt k op kept (at.CopyField d u next_key value 1) v → Told k v (acts.Fill copy part.Value value) n w → IsAt k op kept (at.CopyField d u next_key value 2) w
-passes_copy_value {copy = copy} {next_key = next_key} {value = value} {d = d} {u = u} is a t = passes_as (at.CopyField d u next_key value 1) (at.CopyField d u next_key value 2) (acts.Fill copy part.Value value) a refl (copy_case 1 a is) refl t
+pub passes_copy_value : {k : Shape} {op : Op} {kept n copy next_key value : ℕ} {v w : View} {d : Node} {u : Successor}
+    → IsSlotOf (Some copy) v.hands.spare → IsAt k op kept (at.CopyField d u next_key value 1) v
+    → Told k v (acts.Fill copy part.Value value) n w → IsAt k op kept (at.CopyField d u next_key value 2) w
+passes_copy_value {copy = copy} {next_key = next_key} {value = value} {d = d} {u = u} is a t =
+    passes_as (at.CopyField d u next_key value 1) (at.CopyField d u next_key value 2) (acts.Fill copy part.Value value) a refl
+    (copy_case 1 a is) refl t
 
-pub needs_copy_left : {k : Shape} {op : Op} {kept copy next_key value : ℕ} {v : View} {d : Node} {u : Successor} → IsSlotOf (Some copy) v.hands.spare → IsAt k op kept (at.CopyField d u next_key value 2) v → TellsNow k v → Asks k v (acts.Fill copy (part.Link Left) d.left)
-needs_copy_left {copy = copy} {next_key = next_key} {value = value} {d = d} {u = u} is a now = needs_as (at.CopyField d u next_key value 2) (acts.Fill copy (part.Link Left) d.left) a refl (copy_case 2 a is) now
+pub needs_copy_left : {k : Shape} {op : Op} {kept copy next_key value : ℕ} {v : View} {d : Node} {u : Successor}
+    → IsSlotOf (Some copy) v.hands.spare → IsAt k op kept (at.CopyField d u next_key value 2) v → TellsNow k v
+    → Asks k v (acts.Fill copy (part.Link Left) d.left)
+needs_copy_left {copy = copy} {next_key = next_key} {value = value} {d = d} {u = u} is a now =
+    needs_as (at.CopyField d u next_key value 2) (acts.Fill copy (part.Link Left) d.left) a refl (copy_case 2 a is) now
 
-pub passes_copy_left : {k : Shape} {op : Op} {kept n copy next_key value : ℕ} {v w : View} {d : Node} {u : Successor} → IsSlotOf (Some copy) v.hands.spare → IsAt k op kept (at.CopyField d u next_key value 2) v → Told k v (acts.Fill copy (part.Link Left) d.left) n w → IsAt k op kept (at.CopyField d u next_key value 3) w
-passes_copy_left {copy = copy} {next_key = next_key} {value = value} {d = d} {u = u} is a t = passes_as (at.CopyField d u next_key value 2) (at.CopyField d u next_key value 3) (acts.Fill copy (part.Link Left) d.left) a refl (copy_case 2 a is) refl t
+pub passes_copy_left : {k : Shape} {op : Op} {kept n copy next_key value : ℕ} {v w : View} {d : Node} {u : Successor}
+    → IsSlotOf (Some copy) v.hands.spare → IsAt k op kept (at.CopyField d u next_key value 2) v
+    → Told k v (acts.Fill copy (part.Link Left) d.left) n w → IsAt k op kept (at.CopyField d u next_key value 3) w
+passes_copy_left {copy = copy} {next_key = next_key} {value = value} {d = d} {u = u} is a t =
+    passes_as (at.CopyField d u next_key value 2) (at.CopyField d u next_key value 3) (acts.Fill copy (part.Link Left) d.left) a refl
+    (copy_case 2 a is) refl t
 
-pub needs_copy_right : {k : Shape} {op : Op} {kept copy next_key value : ℕ} {v : View} {d : Node} {u : Successor} → IsSlotOf (Some copy) v.hands.spare → IsAt k op kept (at.CopyField d u next_key value 3) v → TellsNow k v → Asks k v (acts.Fill copy (part.Link Right) d.right)
-needs_copy_right {copy = copy} {next_key = next_key} {value = value} {d = d} {u = u} is a now = needs_as (at.CopyField d u next_key value 3) (acts.Fill copy (part.Link Right) d.right) a refl (copy_case 3 a is) now
+pub needs_copy_right : {k : Shape} {op : Op} {kept copy next_key value : ℕ} {v : View} {d : Node} {u : Successor}
+    → IsSlotOf (Some copy) v.hands.spare → IsAt k op kept (at.CopyField d u next_key value 3) v → TellsNow k v
+    → Asks k v (acts.Fill copy (part.Link Right) d.right)
+needs_copy_right {copy = copy} {next_key = next_key} {value = value} {d = d} {u = u} is a now =
+    needs_as (at.CopyField d u next_key value 3) (acts.Fill copy (part.Link Right) d.right) a refl (copy_case 3 a is) now
 
-pub passes_copy_right : {k : Shape} {op : Op} {kept n copy next_key value : ℕ} {v w : View} {d : Node} {u : Successor} → IsSlotOf (Some copy) v.hands.spare → IsAt k op kept (at.CopyField d u next_key value 3) v → Told k v (acts.Fill copy (part.Link Right) d.right) n w → IsAt k op kept (at.CopyAge d u next_key) w
-passes_copy_right {copy = copy} {next_key = next_key} {value = value} {d = d} {u = u} is a t = passes_as (at.CopyField d u next_key value 3) (at.CopyAge d u next_key) (acts.Fill copy (part.Link Right) d.right) a refl (copy_case 3 a is) refl t
+pub passes_copy_right : {k : Shape} {op : Op} {kept n copy next_key value : ℕ} {v w : View} {d : Node} {u : Successor}
+    → IsSlotOf (Some copy) v.hands.spare → IsAt k op kept (at.CopyField d u next_key value 3) v
+    → Told k v (acts.Fill copy (part.Link Right) d.right) n w → IsAt k op kept (at.CopyAge d u next_key) w
+passes_copy_right {copy = copy} {next_key = next_key} {value = value} {d = d} {u = u} is a t =
+    passes_as (at.CopyField d u next_key value 3) (at.CopyAge d u next_key) (acts.Fill copy (part.Link Right) d.right) a refl
+    (copy_case 3 a is) refl t
 
-pub needs_copy_age : {k : Shape} {op : Op} {kept copy next_key : ℕ} {v : View} {d : Node} {u : Successor} → IsSlotOf (Some copy) v.hands.spare → IsAt k op kept (at.CopyAge d u next_key) v → TellsNow k v → Asks k v (acts.LoadOwnLife copy)
-needs_copy_age {copy = copy} {next_key = next_key} {d = d} {u = u} is a now = needs_as (at.CopyAge d u next_key) (acts.LoadOwnLife copy) a refl (ap (λ x. acts.LoadOwnLife (or_root x)) (own_spare a is)) now
+pub needs_copy_age : {k : Shape} {op : Op} {kept copy next_key : ℕ} {v : View} {d : Node} {u : Successor}
+    → IsSlotOf (Some copy) v.hands.spare → IsAt k op kept (at.CopyAge d u next_key) v → TellsNow k v → Asks k v (acts.LoadOwnLife copy)
+needs_copy_age {copy = copy} {next_key = next_key} {d = d} {u = u} is a now =
+    needs_as (at.CopyAge d u next_key) (acts.LoadOwnLife copy) a refl (ap (λ x. acts.LoadOwnLife (or_root x)) (own_spare a is)) now
 
-pub passes_copy_age : {k : Shape} {op : Op} {kept n copy next_key : ℕ} {v w : View} {d : Node} {u : Successor} → IsSlotOf (Some copy) v.hands.spare → IsAt k op kept (at.CopyAge d u next_key) v → Told k v (acts.LoadOwnLife copy) n w → IsAt k op kept (at.CopyLock d u next_key) w
-passes_copy_age {copy = copy} {next_key = next_key} {d = d} {u = u} is a t = passes_as (at.CopyAge d u next_key) (at.CopyLock d u next_key) (acts.LoadOwnLife copy) a refl (ap (λ x. acts.LoadOwnLife (or_root x)) (own_spare a is)) refl t
+pub passes_copy_age : {k : Shape} {op : Op} {kept n copy next_key : ℕ} {v w : View} {d : Node} {u : Successor}
+    → IsSlotOf (Some copy) v.hands.spare → IsAt k op kept (at.CopyAge d u next_key) v → Told k v (acts.LoadOwnLife copy) n w
+    → IsAt k op kept (at.CopyLock d u next_key) w
+passes_copy_age {copy = copy} {next_key = next_key} {d = d} {u = u} is a t =
+    passes_as (at.CopyAge d u next_key) (at.CopyLock d u next_key) (acts.LoadOwnLife copy) a refl
+    (ap (λ x. acts.LoadOwnLife (or_root x)) (own_spare a is)) refl t
 
-pub needs_copy_lock : {k : Shape} {op : Op} {kept copy next_key : ℕ} {v : View} {d : Node} {u : Successor} → IsSlotOf (Some copy) v.hands.spare → IsAt k op kept (at.CopyLock d u next_key) v → TellsNow k v → Asks k v (acts.Lock copy)
-needs_copy_lock {copy = copy} {next_key = next_key} {d = d} {u = u} is a now = needs_as (at.CopyLock d u next_key) (acts.Lock copy) a refl (ap (λ x. acts.Lock (or_root x)) (own_spare a is)) now
+pub needs_copy_lock : {k : Shape} {op : Op} {kept copy next_key : ℕ} {v : View} {d : Node} {u : Successor}
+    → IsSlotOf (Some copy) v.hands.spare → IsAt k op kept (at.CopyLock d u next_key) v → TellsNow k v → Asks k v (acts.Lock copy)
+needs_copy_lock {copy = copy} {next_key = next_key} {d = d} {u = u} is a now =
+    needs_as (at.CopyLock d u next_key) (acts.Lock copy) a refl (ap (λ x. acts.Lock (or_root x)) (own_spare a is)) now
 
-pub passes_copy_lock_free : {k : Shape} {op : Op} {kept n copy next_key : ℕ} {v w : View} {d : Node} {u : Successor} → n ≡ 0 → IsSlotOf (Some copy) v.hands.spare → IsAt k op kept (at.CopyLock d u next_key) v → Told k v (acts.Lock copy) n w
+pub passes_copy_lock_free : {k : Shape} {op : Op} {kept n copy next_key : ℕ} {v w : View} {d : Node} {u : Successor} → n ≡ 0
+    → IsSlotOf (Some copy) v.hands.spare → IsAt k op kept (at.CopyLock d u next_key) v → Told k v (acts.Lock copy) n w
     → IsAt k op kept (at.CopyMark d u next_key) w
 passes_copy_lock_free {n = n} {copy = copy} {next_key = next_key} {d = d} {u = u} free is a t =
-    passes_as (at.CopyLock d u next_key) (at.CopyMark d u next_key) (acts.Lock copy) a refl (ap (λ x. acts.Lock (or_root x)) (own_spare a is))
+    passes_as (at.CopyLock d u next_key) (at.CopyMark d u next_key) (acts.Lock copy) a refl
+    (ap (λ x. acts.Lock (or_root x)) (own_spare a is))
     (ap (λ (x : Own). x.stage) (lock_free a.own (or_root a.own.spare) n (at.CopyMark d u next_key) free)) t
 
-pub passes_copy_lock_busy : {k : Shape} {op : Op} {kept n copy next_key : ℕ} {v w : View} {d : Node} {u : Successor} → n ≢ 0 → IsSlotOf (Some copy) v.hands.spare → IsAt k op kept (at.CopyLock d u next_key) v → Told k v (acts.Lock copy) n w
+pub passes_copy_lock_busy : {k : Shape} {op : Op} {kept n copy next_key : ℕ} {v w : View} {d : Node} {u : Successor} → n ≢ 0
+    → IsSlotOf (Some copy) v.hands.spare → IsAt k op kept (at.CopyLock d u next_key) v → Told k v (acts.Lock copy) n w
     → IsAt k op kept (at.Unlock last.Again) w
 passes_copy_lock_busy {n = n} {copy = copy} {next_key = next_key} {d = d} {u = u} busy is a t =
     passes_as (at.CopyLock d u next_key) (at.Unlock last.Again) (acts.Lock copy) a refl (ap (λ x. acts.Lock (or_root x)) (own_spare a is))
@@ -148,54 +222,89 @@ passes_copy_lock_busy {n = n} {copy = copy} {next_key = next_key} {d = d} {u = u
     some_left true = refl
     some_left false = refl
 
-pub locks_copy_mark : {k : Shape} {op : Op} {kept copy next_key : ℕ} {v : View} {d : Node} {u : Successor} → IsSlotOf (Some copy) v.hands.spare → IsAt k op kept (at.CopyMark d u next_key) v → HasLocks (copy ∷ all_locks d u) v
-locks_copy_mark {v = v} {d = d} {u = u} is a = record { same = subst (λ xs. SameLocks xs v.locks) (((a.fits).point).4 ∙ ap (λ x. or_root x ∷ all_locks d u) (own_spare a is)) ((a.fits).owns).locks_are }
+pub locks_copy_mark : {k : Shape} {op : Op} {kept copy next_key : ℕ} {v : View} {d : Node} {u : Successor}
+    → IsSlotOf (Some copy) v.hands.spare → IsAt k op kept (at.CopyMark d u next_key) v → HasLocks (copy ∷ all_locks d u) v
+locks_copy_mark {v = v} {d = d} {u = u} is a =
+    record {
+      same = subst (λ xs. SameLocks xs v.locks) (((a.fits).point).4 ∙ ap (λ x. or_root x ∷ all_locks d u) (own_spare a is))
+          ((a.fits).owns).locks_are;
+    }
 
-pub needs_copy_mark : {k : Shape} {op : Op} {kept next_key : ℕ} {v : View} {d : Node} {u : Successor} → IsAt k op kept (at.CopyMark d u next_key) v → TellsNow k v → Asks k v (acts.Mark d.node (2 * d.generation))
+pub needs_copy_mark : {k : Shape} {op : Op} {kept next_key : ℕ} {v : View} {d : Node} {u : Successor}
+    → IsAt k op kept (at.CopyMark d u next_key) v → TellsNow k v → Asks k v (acts.Mark d.node (2 * d.generation))
 needs_copy_mark a now = needs_at _ _ _ _ _ a refl now
 
-pub passes_copy_mark : {k : Shape} {op : Op} {kept n copy next_key : ℕ} {v w : View} {d : Node} {u : Successor} → IsSlotOf (Some copy) v.hands.spare → IsAt k op kept (at.CopyMark d u next_key) v → Told k v (acts.Mark d.node (2 * d.generation)) n w
+pub passes_copy_mark : {k : Shape} {op : Op} {kept n copy next_key : ℕ} {v w : View} {d : Node} {u : Successor}
+    → IsSlotOf (Some copy) v.hands.spare → IsAt k op kept (at.CopyMark d u next_key) v → Told k v (acts.Mark d.node (2 * d.generation)) n w
     → (expected : ℕ) → expected % 2 ≡ 0 → IsAt k op kept (at.Commit (update.Copy d u next_key copy) expected) w
 passes_copy_mark {k} {op} {kept} {n} {copy} {next_key} {v} {w} {d} {u} is a t expected even =
-    subst (λ x. IsAt k op kept (at.Commit (update.Copy d u next_key (or_root x)) expected) w) (own_spare a is) (commits_any (passes_at k op kept v w n (at.CopyMark d u next_key) a refl t) expected even)
+    subst (λ x. IsAt k op kept (at.Commit (update.Copy d u next_key (or_root x)) expected) w) (own_spare a is)
+    (commits_any (passes_at k op kept v w n (at.CopyMark d u next_key) a refl t) expected even)
 
 -- The old successor is unlinked from the copy, or from its parent.
-unlink_copy_case : (o : Own) (m : Moving) (child : ℕ) → (m.successor.parent == m.node.node) ≡ true → act_at o (at.Unlink m child) ≡ acts.UnlinkRight m.copy m.successor.slot child
-unlink_copy_case o m child e = ap (λ z. cond z (acts.UnlinkRight m.copy m.successor.slot child) (acts.UnlinkLeft m.successor.parent m.successor.slot child)) e
+unlink_copy_case : (o : Own) (m : Moving) (child : ℕ) → (m.successor.parent == m.node.node) ≡ true
+    → act_at o (at.Unlink m child) ≡ acts.UnlinkRight m.copy m.successor.slot child
+unlink_copy_case o m child e = ap (λ z. cond z (acts.UnlinkRight m.copy m.successor.slot child)
+    (acts.UnlinkLeft m.successor.parent m.successor.slot child)) e
 
-unlink_parent_case : (o : Own) (m : Moving) (child : ℕ) → (m.successor.parent == m.node.node) ≡ false → act_at o (at.Unlink m child) ≡ acts.UnlinkLeft m.successor.parent m.successor.slot child
-unlink_parent_case o m child e = ap (λ z. cond z (acts.UnlinkRight m.copy m.successor.slot child) (acts.UnlinkLeft m.successor.parent m.successor.slot child)) e
+unlink_parent_case : (o : Own) (m : Moving) (child : ℕ) → (m.successor.parent == m.node.node) ≡ false
+    → act_at o (at.Unlink m child) ≡ acts.UnlinkLeft m.successor.parent m.successor.slot child
+unlink_parent_case o m child e = ap (λ z. cond z (acts.UnlinkRight m.copy m.successor.slot child)
+    (acts.UnlinkLeft m.successor.parent m.successor.slot child)) e
 
 unlink_step : (o : Own) (m : Moving) (child : ℕ) → is_step (act_at o (at.Unlink m child)) ≡ true
 unlink_step o m child = by (m.successor.parent == m.node.node)
   where
-    by : (z : Bool) → is_step (cond z (acts.UnlinkRight m.copy m.successor.slot child) (acts.UnlinkLeft m.successor.parent m.successor.slot child)) ≡ true
+    by : (z : Bool) → is_step (cond z (acts.UnlinkRight m.copy m.successor.slot child)
+        (acts.UnlinkLeft m.successor.parent m.successor.slot child)) ≡ true
     by true = refl
     by false = refl
 
-pub needs_unlink_copy : {k : Shape} {op : Op} {kept child : ℕ} {v : View} {m : Moving} → (m.successor.parent == m.node.node) ≡ true → IsAt k op kept (at.Unlink m child) v → TellsNow k v → Asks k v (acts.UnlinkRight m.copy m.successor.slot child)
-needs_unlink_copy {child = child} {m = m} e a now = needs_as (at.Unlink m child) (acts.UnlinkRight m.copy m.successor.slot child) a (unlink_step a.own m child) (unlink_copy_case a.own m child e) now
+pub needs_unlink_copy : {k : Shape} {op : Op} {kept child : ℕ} {v : View} {m : Moving} → (m.successor.parent == m.node.node) ≡ true
+    → IsAt k op kept (at.Unlink m child) v → TellsNow k v → Asks k v (acts.UnlinkRight m.copy m.successor.slot child)
+needs_unlink_copy {child = child} {m = m} e a now =
+    needs_as (at.Unlink m child) (acts.UnlinkRight m.copy m.successor.slot child) a (unlink_step a.own m child)
+    (unlink_copy_case a.own m child e) now
 
-pub needs_unlink_parent : {k : Shape} {op : Op} {kept child : ℕ} {v : View} {m : Moving} → (m.successor.parent == m.node.node) ≡ false → IsAt k op kept (at.Unlink m child) v → TellsNow k v → Asks k v (acts.UnlinkLeft m.successor.parent m.successor.slot child)
-needs_unlink_parent {child = child} {m = m} e a now = needs_as (at.Unlink m child) (acts.UnlinkLeft m.successor.parent m.successor.slot child) a (unlink_step a.own m child) (unlink_parent_case a.own m child e) now
+pub needs_unlink_parent : {k : Shape} {op : Op} {kept child : ℕ} {v : View} {m : Moving} → (m.successor.parent == m.node.node) ≡ false
+    → IsAt k op kept (at.Unlink m child) v → TellsNow k v → Asks k v (acts.UnlinkLeft m.successor.parent m.successor.slot child)
+needs_unlink_parent {child = child} {m = m} e a now =
+    needs_as (at.Unlink m child) (acts.UnlinkLeft m.successor.parent m.successor.slot child) a (unlink_step a.own m child)
+    (unlink_parent_case a.own m child e) now
 
 -- Afterwards it holds the same locks; where the link is empty now, its tag is to be raised.
 abbrev unlink_next : Moving → ℕ → Stage
-unlink_next m child = if child == 0 then (if m.successor.parent == m.node.node then at.EmptyTag m.number m.copy Right else at.EmptyTag m.number m.successor.parent Left) else at.Unlock (last.Gone m.number)
+unlink_next m child =
+    if child == 0 then
+    (if m.successor.parent == m.node.node then at.EmptyTag m.number m.copy Right else at.EmptyTag m.number m.successor.parent
+    Left) else at.Unlock (last.Gone m.number)
 
-unlinked : {k : Shape} {op : Op} {kept n child : ℕ} {v w : View} {m : Moving} → IsAt k op kept (at.Unlink m child) v → (c : Act) → ((o : Own) → act_at o (at.Unlink m child) ≡ c) → Told k v c n w → IsAt k op kept (unlink_next m child) w × HasLocks (move_locks m) w
+unlinked : {k : Shape} {op : Op} {kept n child : ℕ} {v w : View} {m : Moving} → IsAt k op kept (at.Unlink m child) v → (c : Act)
+    → ((o : Own) → act_at o (at.Unlink m child) ≡ c) → Told k v c n w → IsAt k op kept (unlink_next m child) w × HasLocks (move_locks m) w
 unlinked {k} {op} {kept} {n} {child} {v} {w} {m} a c e t =
     let f = fits_next k op kept v w n (at.Unlink m child) a (unlink_step a.own m child) (subst (λ x. Told k v x n w) (sym (e a.own)) t) in
     (next_own k op kept v w n (at.Unlink m child) a f, record { same = (f.owns).locks_are })
 
-pub passes_unlink_copy : {k : Shape} {op : Op} {kept n child : ℕ} {v w : View} {m : Moving} → (m.successor.parent == m.node.node) ≡ true → IsAt k op kept (at.Unlink m child) v → Told k v (acts.UnlinkRight m.copy m.successor.slot child) n w
-    → IsAt k op kept (if child == 0 then at.EmptyTag m.number m.copy Right else at.Unlock (last.Gone m.number)) w × HasLocks (move_locks m) w
+pub passes_unlink_copy : {k : Shape} {op : Op} {kept n child : ℕ} {v w : View} {m : Moving} → (m.successor.parent == m.node.node) ≡ true
+    → IsAt k op kept (at.Unlink m child) v → Told k v (acts.UnlinkRight m.copy m.successor.slot child) n w
+    → IsAt k op kept (if child == 0 then at.EmptyTag m.number m.copy Right else at.Unlock (last.Gone m.number)) w
+    × HasLocks (move_locks m) w
 passes_unlink_copy {k} {op} {kept} {n} {child} {v} {w} {m} e a t =
-    let r = unlinked a (acts.UnlinkRight m.copy m.successor.slot child) (λ o. unlink_copy_case o m child e) t in
-    (subst (λ z. IsAt k op kept (if child == 0 then (if z then at.EmptyTag m.number m.copy Right else at.EmptyTag m.number m.successor.parent Left) else at.Unlock (last.Gone m.number)) w) e r.0, r.1)
+    let r = unlinked a (acts.UnlinkRight m.copy m.successor.slot child) (λ o. unlink_copy_case o m child e) t in (
+      subst (λ z. IsAt k op kept (if child == 0 then
+          (if z then at.EmptyTag m.number m.copy Right else at.EmptyTag m.number m.successor.parent Left) else at.Unlock
+          (last.Gone m.number)) w) e r.0,
+      r.1,
+    )
 
-pub passes_unlink_parent : {k : Shape} {op : Op} {kept n child : ℕ} {v w : View} {m : Moving} → (m.successor.parent == m.node.node) ≡ false → IsAt k op kept (at.Unlink m child) v → Told k v (acts.UnlinkLeft m.successor.parent m.successor.slot child) n w
-    → IsAt k op kept (if child == 0 then at.EmptyTag m.number m.successor.parent Left else at.Unlock (last.Gone m.number)) w × HasLocks (move_locks m) w
+pub passes_unlink_parent : {k : Shape} {op : Op} {kept n child : ℕ} {v w : View} {m : Moving} → (m.successor.parent == m.node.node) ≡ false
+    → IsAt k op kept (at.Unlink m child) v → Told k v (acts.UnlinkLeft m.successor.parent m.successor.slot child) n w
+    → IsAt k op kept (if child == 0 then at.EmptyTag m.number m.successor.parent Left else at.Unlock (last.Gone m.number)) w
+    × HasLocks (move_locks m) w
 passes_unlink_parent {k} {op} {kept} {n} {child} {v} {w} {m} e a t =
-    let r = unlinked a (acts.UnlinkLeft m.successor.parent m.successor.slot child) (λ o. unlink_parent_case o m child e) t in
-    (subst (λ z. IsAt k op kept (if child == 0 then (if z then at.EmptyTag m.number m.copy Right else at.EmptyTag m.number m.successor.parent Left) else at.Unlock (last.Gone m.number)) w) e r.0, r.1)
+    let r = unlinked a (acts.UnlinkLeft m.successor.parent m.successor.slot child) (λ o. unlink_parent_case o m child e) t in (
+      subst (λ z. IsAt k op kept (if child == 0 then
+          (if z then at.EmptyTag m.number m.copy Right else at.EmptyTag m.number m.successor.parent Left) else at.Unlock
+          (last.Gone m.number)) w) e r.0,
+      r.1,
+    )

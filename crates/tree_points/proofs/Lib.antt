@@ -10,6 +10,7 @@ pub mod Leaving
 pub mod Waiting
 pub mod Ends
 pub mod Gone
+pub mod Allowed
 pub mod Staying
 pub mod Doing
 pub mod Taking

@@ -46,7 +46,8 @@ pub record SameCall (new o : Own) : Type 0 where
   pub keeps : new.kept ≡ o.kept
 
 pub answered : (new o : Own) (reply : Reply) (number : ℕ) → SameCall new o → SameCall (answer new reply number) o
-answered new o reply number s = subst (λ ops. SameCall (begun_with (record new { told = new.told ++ record { reply = reply; number = number } ∷ [] }) ops) o) (sym s.last)
+answered new o reply number s = subst (λ ops. SameCall
+    (begun_with (record new { told = new.told ++ record { reply = reply; number = number } ∷ [] }) ops) o) (sym s.last)
     (record { op_is = s.op_is; slots_are = s.slots_are; places_are = s.places_are; last = refl; keeps = s.keeps })
 
 either : (o x y : Own) (z : Bool) → SameCall x o → SameCall y o → SameCall (cond z x y) o
@@ -61,19 +62,22 @@ module _ (o : Own) (n : ℕ) (e : o.rest ≡ []) where
   goes_to stage = record { op_is = refl; slots_are = refl; places_are = refl; last = e; keeps = refl }
 
   locked : (s : ℕ) (next : Stage) → SameCall (past_lock o s n next) o
-  locked s next = either o (go (record o { locks = s ∷ o.locks }) next) (go o (if is_none_left o.locks then at.EnterClock else at.Unlock last.Again)) (n == 0)
+  locked s next = either o (go (record o { locks = s ∷ o.locks }) next)
+      (go o (if is_none_left o.locks then at.EnterClock else at.Unlock last.Again)) (n == 0)
       (record { op_is = refl; slots_are = refl; places_are = refl; last = e; keeps = refl })
       (record { op_is = refl; slots_are = refl; places_are = refl; last = e; keeps = refl })
 
   none_is_free : (aim : Aim) → SameCall (none_free (record o { free = 0 }) aim) o
-  none_is_free (Leaf spot) = either o (answer (record o { free = 0 }) Full 0) (go (record o { free = 0 }) (at.Begin (Reuse (Leaf spot)))) (is_none_left o.retired)
+  none_is_free (Leaf spot) = either o (answer (record o { free = 0 }) Full 0) (go (record o { free = 0 }) (at.Begin (Reuse (Leaf spot))))
+      (is_none_left o.retired)
       (answered (record o { free = 0 }) o Full 0 (record { op_is = refl; slots_are = refl; places_are = refl; last = e; keeps = refl }))
       (record { op_is = refl; slots_are = refl; places_are = refl; last = e; keeps = refl })
   none_is_free Spare = record { op_is = refl; slots_are = refl; places_are = refl; last = e; keeps = refl }
   none_is_free Room = record { op_is = refl; slots_are = refl; places_are = refl; last = e; keeps = refl }
 
   reserved : (aim : Aim) (expected : ℕ) → SameCall (past_reserve o aim expected n) o
-  reserved aim expected = either o (go (record o { free = n - 1 }) (at.Seize aim)) (cond (n == 0) (none_free (record o { free = 0 }) aim) (go (record o { free = n }) (at.Reserve aim n))) (n == expected)
+  reserved aim expected = either o (go (record o { free = n - 1 }) (at.Seize aim))
+      (cond (n == 0) (none_free (record o { free = 0 }) aim) (go (record o { free = n }) (at.Reserve aim n))) (n == expected)
       (record { op_is = refl; slots_are = refl; places_are = refl; last = e; keeps = refl })
       (either o (none_free (record o { free = 0 }) aim) (go (record o { free = n }) (at.Reserve aim n)) (n == 0) (none_is_free aim)
       (record { op_is = refl; slots_are = refl; places_are = refl; last = e; keeps = refl }))
@@ -83,7 +87,8 @@ module _ (o : Own) (n : ℕ) (e : o.rest ≡ []) where
   over (Move m) = goes_to _
 
   is_excused : (waits : Waits) (clock p : ℕ) → SameCall (excused o waits clock p) o
-  is_excused waits clock p = either o (wait_over o waits) (go o (at.LookKey waits clock (p + 1))) (p + 1 == o.places) (over waits) (goes_to _)
+  is_excused waits clock p = either o (wait_over o waits) (go o (at.LookKey waits clock (p + 1))) (p + 1 == o.places) (over waits)
+      (goes_to _)
 
   left : (next : Then) → SameCall (left_section o next) o
   left then.Absent = answered o o _ 0 as_was
@@ -95,9 +100,12 @@ module _ (o : Own) (n : ℕ) (e : o.rest ≡ []) where
 
   no_lock : (last : Last) → SameCall (unlocked (record o { locks = but_first o.locks }) last) o
   no_lock last.Again = record { op_is = refl; slots_are = refl; places_are = refl; last = e; keeps = refl }
-  no_lock (last.New number) = answered (record o { locks = but_first o.locks }) o _ number (record { op_is = refl; slots_are = refl; places_are = refl; last = e; keeps = refl })
-  no_lock (last.Gone number) = answered (record o { locks = but_first o.locks }) o _ number (record { op_is = refl; slots_are = refl; places_are = refl; last = e; keeps = refl })
-  no_lock (last.Was value number) = answered (record o { locks = but_first o.locks }) o _ number (record { op_is = refl; slots_are = refl; places_are = refl; last = e; keeps = refl })
+  no_lock (last.New number) = answered (record o { locks = but_first o.locks }) o _ number
+      (record { op_is = refl; slots_are = refl; places_are = refl; last = e; keeps = refl })
+  no_lock (last.Gone number) = answered (record o { locks = but_first o.locks }) o _ number
+      (record { op_is = refl; slots_are = refl; places_are = refl; last = e; keeps = refl })
+  no_lock (last.Was value number) = answered (record o { locks = but_first o.locks }) o _ number
+      (record { op_is = refl; slots_are = refl; places_are = refl; last = e; keeps = refl })
 
   seized : (aim : Aim) → SameCall (after o n (at.Seize aim)) o
   seized aim =
@@ -107,7 +115,8 @@ module _ (o : Own) (n : ℕ) (e : o.rest ≡ []) where
       (record { op_is = refl; slots_are = refl; places_are = refl; last = e; keeps = refl })
 
   raised : (aim : Aim) → SameCall (after o n (at.OldRaise aim n)) o
-  raised aim = either o (go o (at.OldFree aim)) (giving (record o { spare = Some (first_or_root o.retired); retired = but_first o.retired }) aim) (is_some o.spare)
+  raised aim = either o (go o (at.OldFree aim)) (giving
+      (record o { spare = Some (first_or_root o.retired); retired = but_first o.retired }) aim) (is_some o.spare)
       (goes_to _) (record { op_is = refl; slots_are = refl; places_are = refl; last = e; keeps = refl })
 
   stored : (u : Update) (front : ℕ) → SameCall (after o n (at.Store u front)) o
@@ -138,18 +147,26 @@ module _ (o : Own) (n : ℕ) (e : o.rest ≡ []) where
   same_call (at.Keep s) = record { op_is = refl; slots_are = refl; places_are = refl; last = e; keeps = refl }
   same_call at.Raise = record { op_is = refl; slots_are = refl; places_are = refl; last = e; keeps = refl }
   same_call at.Free = record { op_is = refl; slots_are = refl; places_are = refl; last = e; keeps = refl }
-  same_call at.Count = answered (record o { free = n + 1 }) o Old 0 (record { op_is = refl; slots_are = refl; places_are = refl; last = e; keeps = refl })
+  same_call at.Count = answered (record o { free = n + 1 }) o Old 0
+      (record { op_is = refl; slots_are = refl; places_are = refl; last = e; keeps = refl })
   same_call (at.Begin waits) = record { op_is = refl; slots_are = refl; places_are = refl; last = e; keeps = refl }
-  same_call (at.LookKey waits clock p) = either o (go o (at.LookStamp waits clock p n)) (excused o waits clock p) (is_reader o waits n) (goes_to _) (is_excused waits clock p)
-  same_call (at.LookStamp waits clock p key) = either o (excused o waits clock p) (go o (at.LookKey waits clock p)) ((n == idle) || nat_lt clock n) (is_excused waits clock p) (goes_to _)
+  same_call (at.LookKey waits clock p) = either o (go o (at.LookStamp waits clock p n)) (excused o waits clock p) (is_reader o waits n)
+      (goes_to _) (is_excused waits clock p)
+  same_call (at.LookStamp waits clock p key) = either o (excused o waits clock p) (go o (at.LookKey waits clock p))
+      ((n == idle) || nat_lt clock n) (is_excused waits clock p) (goes_to _)
   same_call (at.OldAge aim) = record { op_is = refl; slots_are = refl; places_are = refl; last = e; keeps = refl }
   same_call (at.OldRaise aim life) = raised aim
   same_call (at.OldFree aim) = record { op_is = refl; slots_are = refl; places_are = refl; last = e; keeps = refl }
   same_call (at.OldCount aim) = record { op_is = refl; slots_are = refl; places_are = refl; last = e; keeps = refl }
-  same_call (at.Commit u expected) = either o (go (record o { front = expected + 1 }) (at.Store u expected)) (go (record o { front = n }) (at.Commit u (n + n % 2))) (n == expected) (record { op_is = refl; slots_are = refl; places_are = refl; last = e; keeps = refl }) (record { op_is = refl; slots_are = refl; places_are = refl; last = e; keeps = refl })
+  same_call (at.Commit u expected) = either o (go (record o { front = expected + 1 }) (at.Store u expected))
+      (go (record o { front = n }) (at.Commit u (n + n % 2))) (n == expected)
+      (record { op_is = refl; slots_are = refl; places_are = refl; last = e; keeps = refl })
+      (record { op_is = refl; slots_are = refl; places_are = refl; last = e; keeps = refl })
   same_call (at.Store u front) = stored u front
   same_call (at.Even u front) = record { op_is = refl; slots_are = refl; places_are = refl; last = e; keeps = refl }
-  same_call (at.Unlock l) = either o (unlocked (record o { locks = but_first o.locks }) l) (go (record o { locks = but_first o.locks }) (at.Unlock l)) (is_none_left (but_first o.locks)) (no_lock l) (record { op_is = refl; slots_are = refl; places_are = refl; last = e; keeps = refl })
+  same_call (at.Unlock l) = either o (unlocked (record o { locks = but_first o.locks }) l)
+      (go (record o { locks = but_first o.locks }) (at.Unlock l)) (is_none_left (but_first o.locks)) (no_lock l)
+      (record { op_is = refl; slots_are = refl; places_are = refl; last = e; keeps = refl })
   same_call (at.SetLife s) = record { op_is = refl; slots_are = refl; places_are = refl; last = e; keeps = refl }
   same_call (at.SetLock s generation) = locked s (at.SetCheck s generation)
   same_call (at.SetCheck s generation) = record { op_is = refl; slots_are = refl; places_are = refl; last = e; keeps = refl }
@@ -181,19 +198,24 @@ goes_on o at.Finished is = cc
 goes_on o _ is = refl
 
 module _ (k : Shape) (op : Op) (kept : ℕ) where
-  pub told_own : (o : Own) (v : View) (h : List Mark) (word : Field → ℕ) → o.slots ≡ k.slots → o.places ≡ k.places → IsToldOf k.slots k.places v h word → IsTold o v h word
-  told_own o v h word slots places t = subst (λ x. IsToldOf x o.places v h word) (sym slots) (subst (λ x. IsToldOf k.slots x v h word) (sym places) t)
+  pub told_own : (o : Own) (v : View) (h : List Mark) (word : Field → ℕ) → o.slots ≡ k.slots → o.places ≡ k.places
+      → IsToldOf k.slots k.places v h word → IsTold o v h word
+  told_own o v h word slots places t = subst (λ x. IsToldOf x o.places v h word) (sym slots)
+      (subst (λ x. IsToldOf k.slots x v h word) (sym places) t)
 
-  pub needs_at : (v : View) (stage : Stage) (a : IsAt k op kept stage v) → is_step (act_at a.own stage) ≡ true → TellsNow k v → Asks k v (act_at a.own stage)
+  pub needs_at : (v : View) (stage : Stage) (a : IsAt k op kept stage v) → is_step (act_at a.own stage) ≡ true → TellsNow k v
+      → Asks k v (act_at a.own stage)
   needs_at v stage a is now =
       let o : Own = a.own in
       let told = told_own o v now.marks now.word a.slots_are a.places_are now.tells in
       let any : is_step (act_at o stage) ≡ false → k.waiter ≡ Eer = λ no. absurd (let e : true ≡ false = sym is ∙ no in cc) in (
-        subst (λ p. IsWord k (field_of p (act_at o stage))) (sym ((a.fits).owns).same) (acts_are_within k now.marks o v now.word stage any (sym a.slots_are) (sym a.places_are) told a.fits),
+        subst (λ p. IsWord k (field_of p (act_at o stage))) (sym ((a.fits).owns).same)
+            (acts_are_within k now.marks o v now.word stage any (sym a.slots_are) (sym a.places_are) told a.fits),
         needs_are_given k now.marks o v now.word 0 stage any (sym a.places_are) told a.fits,
       )
 
-  pub next_own : (v w : View) (n : ℕ) (stage : Stage) (a : IsAt k op kept stage v) → Fits (after a.own n stage) (after a.own n stage).stage w → IsAt k op kept (after a.own n stage).stage w
+  pub next_own : (v w : View) (n : ℕ) (stage : Stage) (a : IsAt k op kept stage v)
+      → Fits (after a.own n stage) (after a.own n stage).stage w → IsAt k op kept (after a.own n stage).stage w
   next_own v w n stage a f =
       let s = same_call a.own n a.last stage in
       record {
@@ -207,7 +229,8 @@ module _ (k : Shape) (op : Op) (kept : ℕ) where
       }
 
   -- the view fits the next point
-  pub fits_next : (v w : View) (n : ℕ) (stage : Stage) (a : IsAt k op kept stage v) → is_step (act_at a.own stage) ≡ true → Told k v (act_at a.own stage) n w → Fits (after a.own n stage) (after a.own n stage).stage w
+  pub fits_next : (v w : View) (n : ℕ) (stage : Stage) (a : IsAt k op kept stage v) → is_step (act_at a.own stage) ≡ true
+      → Told k v (act_at a.own stage) n w → Fits (after a.own n stage) (after a.own n stage).stage w
   fits_next v w n stage a is t =
       let o : Own = a.own in
       let act : Act = act_at o stage in
@@ -216,9 +239,12 @@ module _ (k : Shape) (op : Op) (kept : ℕ) where
       let u : View = noted v act n in
       let free = trails_are_free h o v word stage (kind_of act) (field_of v.allowance.place act) n in
       let told = told_own o v h word a.slots_are a.places_are (t.before).tells in
-      let found : said v act (word (field_of o.place act)) ≡ n = ap (λ p. said v act (word (field_of p act))) (sym ((a.fits).owns).same) ∙ (t.before).found_is in
+      let found : said v act (word (field_of o.place act)) ≡ n =
+      ap (λ p. said v act (word (field_of p act))) (sym ((a.fits).owns).same) ∙ (t.before).found_is in
       subst (λ x. Fits (after o n stage) (after o n stage).stage x) (sym t.goes)
-      (subst (λ s. Fits (after o s stage) (after o s stage).stage (view_after u h s act)) found (next_fits h o u word stage (free.1 told) (goes_on o stage is) (free.0 a.fits)))
+      (subst (λ s. Fits (after o s stage) (after o s stage).stage (view_after u h s act)) found
+      (next_fits h o u word stage (free.1 told) (goes_on o stage is) (free.0 a.fits)))
 
-  pub passes_at : (v w : View) (n : ℕ) (stage : Stage) (a : IsAt k op kept stage v) → is_step (act_at a.own stage) ≡ true → Told k v (act_at a.own stage) n w → IsAt k op kept (after a.own n stage).stage w
+  pub passes_at : (v w : View) (n : ℕ) (stage : Stage) (a : IsAt k op kept stage v) → is_step (act_at a.own stage) ≡ true
+      → Told k v (act_at a.own stage) n w → IsAt k op kept (after a.own n stage).stage w
   passes_at v w n stage a is t = next_own v w n stage a (fits_next v w n stage a is t)

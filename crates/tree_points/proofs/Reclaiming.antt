@@ -68,13 +68,18 @@ module _ (o : Own) (v w : View) (aim : Aim) (f : Fits o (at.Begin (Reuse aim)) v
 two_owed : {k : Shape} {kept key : ℕ} {stage : Stage} {v : View} (a : IsAt k (Del key) kept stage v) → owed_op a.own.op a.own.hand [] ≤ 2
 two_owed a = subst (λ (x : Op). owed_op x a.own.hand [] ≤ 2) (sym a.op_is) (omega arith)
 
-pub reclaims_spare : {k : Shape} {kept key : ℕ} {v w : View} → IsAt k (Del key) kept (at.Begin (Reuse Spare)) v → HasGivenAll v w → IsAt k (Del key) kept at.EnterClock w
-reclaims_spare {v = v} {w = w} a r = moves_on a (new a.own v w Spare a.fits r) refl (enters_again a.own v w Spare a.fits r 2 (two_owed a) (let paid = (a.fits).tickets in let one = r.paid in omega arith))
+pub reclaims_spare : {k : Shape} {kept key : ℕ} {v w : View} → IsAt k (Del key) kept (at.Begin (Reuse Spare)) v → HasGivenAll v w
+    → IsAt k (Del key) kept at.EnterClock w
+reclaims_spare {v = v} {w = w} a r = moves_on a (new a.own v w Spare a.fits r) refl
+    (enters_again a.own v w Spare a.fits r 2 (two_owed a) (let paid = (a.fits).tickets in let one = r.paid in omega arith))
 
-pub reclaims_room : {k : Shape} {kept key : ℕ} {v w : View} → IsAt k (Del key) kept (at.Begin (Reuse Room)) v → HasGivenAll v w → IsAt k (Del key) kept at.EnterClock w
-reclaims_room {v = v} {w = w} a r = moves_on a (new a.own v w Room a.fits r) refl (enters_again a.own v w Room a.fits r 2 (two_owed a) (let paid = (a.fits).tickets in let one = r.paid in omega arith))
+pub reclaims_room : {k : Shape} {kept key : ℕ} {v w : View} → IsAt k (Del key) kept (at.Begin (Reuse Room)) v → HasGivenAll v w
+    → IsAt k (Del key) kept at.EnterClock w
+reclaims_room {v = v} {w = w} a r = moves_on a (new a.own v w Room a.fits r) refl
+    (enters_again a.own v w Room a.fits r 2 (two_owed a) (let paid = (a.fits).tickets in let one = r.paid in omega arith))
 
-pub reclaims_leaf : {k : Shape} {op : Op} {kept : ℕ} {v w : View} {spot : Spot} → IsAt k op kept (at.Begin (Reuse (Leaf spot))) v → HasGivenAll v w → (expected : ℕ) → 1 ≤ expected → IsAt k op kept (at.Reserve (Leaf spot) expected) w
+pub reclaims_leaf : {k : Shape} {op : Op} {kept : ℕ} {v w : View} {spot : Spot} → IsAt k op kept (at.Begin (Reuse (Leaf spot))) v
+    → HasGivenAll v w → (expected : ℕ) → 1 ≤ expected → IsAt k op kept (at.Reserve (Leaf spot) expected) w
 reclaims_leaf {v = v} {w = w} {spot = spot} a r expected positive =
     moves_on a (new a.own v w (Leaf spot) a.fits r) refl (let i = ((a.fits).point).0 in
     let for = ((a.fits).point).1 in

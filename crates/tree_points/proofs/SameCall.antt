@@ -20,7 +20,8 @@ abbrev pub of_call : Own → OfCall
 of_call o = record { op = o.op; slots = o.slots; places = o.places; rest = o.rest; kept = o.kept }
 
 -- The call goes on to another point, with what its caller keeps then.
-abbrev pub moves_on : {k : Shape} {op : Op} {kept : ℕ} {from to : Stage} {v w : View} (a : IsAt k op kept from v) (o : Own) → of_call o ≡ of_call a.own → Fits o to w → IsAt k op kept to w
+abbrev pub moves_on : {k : Shape} {op : Op} {kept : ℕ} {from to : Stage} {v w : View} (a : IsAt k op kept from v) (o : Own)
+    → of_call o ≡ of_call a.own → Fits o to w → IsAt k op kept to w
 moves_on a o same fits = record {
   own = o;
   op_is = ap (λ (x : OfCall). x.op) same ∙ a.op_is;

@@ -36,10 +36,12 @@ outside_enter a = ((a.fits).point).0
 pub unlocked_enter : {k : Shape} {op : Op} {kept : ℕ} {v : View} → IsAt k op kept at.EnterClock v → v.locks ≡ []
 unlocked_enter a = ((((a.fits).point).1).0).0
 
-pub inside_link : {k : Shape} {op : Op} {kept s : ℕ} {b : Side} {v : View} → IsAt k op kept (at.AtLink s b) v → (section : Section) × (v.section ≡ Some section)
+pub inside_link : {k : Shape} {op : Op} {kept s : ℕ} {b : Side} {v : View} → IsAt k op kept (at.AtLink s b) v
+    → (section : Section) × (v.section ≡ Some section)
 inside_link a = let i = ((a.fits).point).1 in (i.0, i.1)
 
-pub inside_leave : {k : Shape} {op : Op} {kept : ℕ} {next : Then} {v : View} → IsAt k op kept (at.Leave next) v → (section : Section) × (v.section ≡ Some section)
+pub inside_leave : {k : Shape} {op : Op} {kept : ℕ} {next : Then} {v : View} → IsAt k op kept (at.Leave next) v
+    → (section : Section) × (v.section ≡ Some section)
 inside_leave {next = next} {v = v} a = by next (a.fits)
   where
     by : (next : Then) → Fits a.own (at.Leave next) v → (section : Section) × (v.section ≡ Some section)
@@ -60,7 +62,8 @@ outside_move a = (((a.fits).point).0).0
 pub ticket_begin : {k : Shape} {op : Op} {kept : ℕ} {waits : Waits} {v : View} → IsAt k op kept (at.Begin waits) v → 1 ≤ v.allowance.tickets
 ticket_begin a = let paid = (a.fits).tickets in omega arith
 
-pub order_move : {k : Shape} {op : Op} {kept : ℕ} {m : Moving} {v : View} → IsAt k op kept (at.Begin (Move m)) v → TellsNow k v → (key_of op < m.next_key) × (m.next_key < 2 ^ 64)
+pub order_move : {k : Shape} {op : Op} {kept : ℕ} {m : Moving} {v : View} → IsAt k op kept (at.Begin (Move m)) v → TellsNow k v
+    → (key_of op < m.next_key) × (m.next_key < 2 ^ 64)
 order_move a now =
     let move = (((a.fits).point).0).6 in
     let tells = (now.tells).moves move.0 move.1 in
@@ -74,23 +77,30 @@ slot_there : (held : Option Held) (s : ℕ) → spare_slot held ≡ Some s → I
 slot_there None s e = cc
 slot_there (Some held) s e = let q : held.slot ≡ s = cc in sym q
 
-pub hand_age : {k : Shape} {op : Op} {kept s : ℕ} {spot : Spot} {v : View} → IsAt k op kept (at.Age (Leaf spot) s) v → IsSlotOf (Some s) v.hands.hand
+pub hand_age : {k : Shape} {op : Op} {kept s : ℕ} {spot : Spot} {v : View} → IsAt k op kept (at.Age (Leaf spot) s) v
+    → IsSlotOf (Some s) v.hands.hand
 hand_age {s = s} {v = v} a = slot_there v.hands.hand s (ap spare_slot ((a.fits).point).2)
 
 pub hand_age_spare : {k : Shape} {op : Op} {kept s : ℕ} {v : View} → IsAt k op kept (at.Age Spare s) v → IsSlotOf (Some s) v.hands.hand
 hand_age_spare {s = s} {v = v} a = slot_there v.hands.hand s (ap spare_slot ((a.fits).point).2)
 
-pub hand_field : {k : Shape} {op : Op} {kept i : ℕ} {spot : Spot} {v : View} → IsAt k op kept (at.LeafField spot i) v → (s : ℕ) × IsSlotOf (Some s) v.hands.hand
+pub hand_field : {k : Shape} {op : Op} {kept i : ℕ} {spot : Spot} {v : View} → IsAt k op kept (at.LeafField spot i) v
+    → (s : ℕ) × IsSlotOf (Some s) v.hands.hand
 hand_field {v = v} a = let p = ((a.fits).point).2 in (p.0, slot_there v.hands.hand p.0 (ap spare_slot p.2))
 
-pub hand_lock : {k : Shape} {op : Op} {kept : ℕ} {spot : Spot} {v : View} → IsAt k op kept (at.LeafLock spot) v → (s : ℕ) × IsSlotOf (Some s) v.hands.hand
-hand_lock {v = v} a = let p = (a.fits).point in ((p.1).0, slot_there v.hands.hand (p.1).0 (slot_in_hand a.own.hand _ _ _ v.hands.hand p.3 ∙ (p.1).1))
+pub hand_lock : {k : Shape} {op : Op} {kept : ℕ} {spot : Spot} {v : View} → IsAt k op kept (at.LeafLock spot) v
+    → (s : ℕ) × IsSlotOf (Some s) v.hands.hand
+hand_lock {v = v} a = let p = (a.fits).point in
+    ((p.1).0, slot_there v.hands.hand (p.1).0 (slot_in_hand a.own.hand _ _ _ v.hands.hand p.3 ∙ (p.1).1))
 
-pub hand_store : {k : Shape} {op : Op} {kept front : ℕ} {spot : Spot} {v : View} → IsAt k op kept (at.Store (update.Leaf spot) front) v → (s : ℕ) × IsSlotOf (Some s) v.hands.hand
-hand_store {v = v} a = let p = (a.fits).point in ((p.1).0, slot_there v.hands.hand (p.1).0 (slot_in_hand a.own.hand _ _ _ v.hands.hand p.3 ∙ (p.1).1))
+pub hand_store : {k : Shape} {op : Op} {kept front : ℕ} {spot : Spot} {v : View} → IsAt k op kept (at.Store (update.Leaf spot) front) v
+    → (s : ℕ) × IsSlotOf (Some s) v.hands.hand
+hand_store {v = v} a = let p = (a.fits).point in
+    ((p.1).0, slot_there v.hands.hand (p.1).0 (slot_in_hand a.own.hand _ _ _ v.hands.hand p.3 ∙ (p.1).1))
 
 pub hand_raise : {k : Shape} {op : Op} {kept : ℕ} {v : View} → IsAt k op kept at.Raise v → (s : ℕ) × IsSlotOf (Some s) v.hands.hand
-hand_raise {v = v} a = let p = (a.fits).point in ((p.1).0, slot_there v.hands.hand (p.1).0 (slot_in_hand a.own.hand _ _ _ v.hands.hand (p.2).1 ∙ (p.1).1))
+hand_raise {v = v} a = let p = (a.fits).point in
+    ((p.1).0, slot_there v.hands.hand (p.1).0 (slot_in_hand a.own.hand _ _ _ v.hands.hand (p.2).1 ∙ (p.1).1))
 
 -- a search of another operation than a put has no slot in hand
 pub no_hand_enter : {k : Shape} {op : Op} {kept : ℕ} {v : View} → is_put op ≡ false → IsAt k op kept at.EnterClock v → v.hands.hand ≡ None
@@ -104,7 +114,8 @@ spare_there : (held : Option Held) (x : Option ℕ) → spare_slot held ≡ x �
 spare_there held x e some none = absurd (let q : false ≡ true = ap (λ h. is_some (spare_slot h)) (sym none) ∙ ap is_some e ∙ some in cc)
 
 pub spare_enter : {k : Shape} {kept key : ℕ} {v : View} → IsAt k (Del key) kept at.EnterClock v → v.hands.spare ≢ None
-spare_enter {v = v} a = spare_there v.hands.spare a.own.spare ((a.fits).owns).spare_is (((((a.fits).point).1).2).has_spare (ap is_delete a.op_is))
+spare_enter {v = v} a = spare_there v.hands.spare a.own.spare ((a.fits).owns).spare_is
+    (((((a.fits).point).1).2).has_spare (ap is_delete a.op_is))
 
 pub room_enter : {k : Shape} {kept key : ℕ} {v : View} → IsAt k (Del key) kept at.EnterClock v → length v.hands.retired < 15
 room_enter {v = v} a =

@@ -14,7 +14,7 @@ use Rattle.core_acts.specs.declared.act.Act.{Act}
 use Rattle.core_acts.specs.declared.act.Act.TheVariants as acts
 use Rattle.core_acts.specs.declared.act.Part.{Part}
 use Rattle.core_acts.specs.Acts.{after, in_slot, marks_of, noted}
-use Rattle.core_acts.proofs.Acting.{has_seen, place_stays}
+use Rattle.core_acts.proofs.Acting.{has_seen}
 use Rattle.seat_table.specs.Told.{Told}
 use Rattle.seat_table.specs.Seats.{IsSlotOf}
 use Rattle.list_laws.specs.Counts.{times}
@@ -23,22 +23,25 @@ use Rattle.prcu_marks.specs.Marks.{own_of}
 use Rattle.prcu_marks.specs.declared.mark.Side.{Side}
 use Rattle.tree_points.specs.At.{HasLocks}
 use Rattle.tree_points.specs.Progress.{HasGone}
-use Rattle.tree_points.proofs.Gone.{IsSame, gone_none, gone_with, lock_slots, noting_same}
+use Rattle.tree_points.proofs.Allowed.{allowance_stays}
+use Rattle.tree_points.proofs.Gone.{IsSame, allowed, gone_none, gone_with, lock_slots, noting_same}
 
 -- A step leaves the marks of its act: of these the place has its own, and it has seen all before them.
-pub gone_by : {k : Shape} {v w : View} {n : ℕ} (a : Act) → Told k v a n w → HasGone v w (own_of v.allowance.place (marks_of (noted v a n) a n))
+pub gone_by : {k : Shape} {v w : View} {n : ℕ} (a : Act) → Told k v a n w
+    → HasGone v w (own_of v.allowance.place (marks_of (noted v a n) a n))
 gone_by {k} {v} {w} {n} a t =
     let made : List Mark = marks_of (noted v a n) a n in
-    let place : w.allowance.place ≡ v.allowance.place = ap (λ (z : View). z.allowance.place) t.goes ∙ place_stays (noted v a n) t.marks n a in
+    let keeps = allowed t.goes (allowance_stays (noted v a n) t.marks n a).rest in
     let seen = ap (λ (z : View). z.seen) t.goes in
     ⊎_elim
     (λ (none : (made ≡ []) × ((after (noted v a n) a t.marks n).seen ≡ v.seen)).
-    subst (HasGone v w) (sym (ap (own_of v.allowance.place) none.0)) (gone_none place (seen ∙ none.1)))
-    (λ all. gone_with t.marks made t.sees place (seen ∙ all))
+    subst (HasGone v w) (sym (ap (own_of v.allowance.place) none.0)) (gone_none keeps (seen ∙ none.1)))
+    (λ all. gone_with t.marks made t.sees keeps (seen ∙ all))
     (has_seen (noted v a n) t.marks n a)
 
 -- so none, where the act leaves none of a place
-pub stays : {k : Shape} {v w : View} {n : ℕ} (a : Act) → own_of v.allowance.place (marks_of (noted v a n) a n) ≡ [] → Told k v a n w → HasGone v w []
+pub stays : {k : Shape} {v w : View} {n : ℕ} (a : Act) → own_of v.allowance.place (marks_of (noted v a n) a n) ≡ [] → Told k v a n w
+    → HasGone v w []
 stays {k} {v} {w} {n} a none t = subst (HasGone v w) none (gone_by a t)
 
 by_same : {v w : View} (x : View) → w ≡ x → IsSame v x → IsSame v w
@@ -47,16 +50,28 @@ by_same {v} {w} x e same = subst (IsSame v) (sym e) same
 -- The place's locks and slots stay as they are by a load, a fill, an exchange of the front, a mark, a tag and the end of a commit.
 module _ {k : Shape} {v w : View} {n : ℕ} where
   pub same_search : {slot : ℕ} {p : Part} → Told k v (acts.SearchLoad slot p) n w → IsSame v w
-  same_search t = by_same _ t.goes (record { place = refl; tickets = refl; locks = refl; hand = refl; spare = refl; retired = refl; seen = refl })
+  same_search t = by_same _ t.goes (record {
+    place = refl;
+    tickets = refl;
+    locks = refl;
+    hand = refl;
+    spare = refl;
+    retired = refl;
+    seen = refl;
+  })
 
   pub same_locked : {slot : ℕ} {p : Part} → Told k v (acts.LockedLoad slot p) n w → IsSame v w
-  same_locked {slot} {p} t = by_same _ t.goes (let same = noting_same v slot (in_slot slot p) n false in record { place = refl; tickets = refl; locks = same.locks; hand = same.hand; spare = same.spare; retired = refl; seen = refl })
+  same_locked {slot} {p} t = by_same _ t.goes (let same = noting_same v slot (in_slot slot p) n false in
+      record { place = refl; tickets = refl; locks = same.locks; hand = same.hand; spare = same.spare; retired = refl; seen = refl })
 
   pub same_age : {slot : ℕ} → Told k v (acts.LoadOwnLife slot) n w → IsSame v w
-  same_age {slot} t = by_same _ t.goes (let same = noting_same v slot (Life slot) n false in record { place = refl; tickets = refl; locks = same.locks; hand = same.hand; spare = same.spare; retired = refl; seen = refl })
+  same_age {slot} t = by_same _ t.goes (let same = noting_same v slot (Life slot) n false in
+      record { place = refl; tickets = refl; locks = same.locks; hand = same.hand; spare = same.spare; retired = refl; seen = refl })
 
   pub same_fill : {slot number : ℕ} {p : Part} → Told k v (acts.Fill slot p number) n w → IsSame v w
-  same_fill {slot} {number} {p} t = by_same _ t.goes (let same = noting_same v slot (in_slot slot p) number true in record { place = refl; tickets = refl; locks = same.locks; hand = same.hand; spare = same.spare; retired = refl; seen = refl })
+  same_fill {slot} {number} {p} t = by_same _ t.goes
+      (let same = noting_same v slot (in_slot slot p) number true in
+      record { place = refl; tickets = refl; locks = same.locks; hand = same.hand; spare = same.spare; retired = refl; seen = refl })
 
   pub same_busy : {slot : ℕ} → n ≢ 0 → Told k v (acts.Lock slot) n w → IsSame v w
   same_busy {slot} busy t =
@@ -65,7 +80,15 @@ module _ {k : Shape} {v w : View} {n : ℕ} where
       (record { place = refl; tickets = refl; locks = refl; hand = refl; spare = refl; retired = refl; seen = refl })
 
   pub same_count : Told k v acts.CountFree n w → IsSame v w
-  same_count t = by_same _ t.goes (record { place = refl; tickets = refl; locks = refl; hand = refl; spare = refl; retired = refl; seen = refl })
+  same_count t = by_same _ t.goes (record {
+    place = refl;
+    tickets = refl;
+    locks = refl;
+    hand = refl;
+    spare = refl;
+    retired = refl;
+    seen = refl;
+  })
 
   pub same_commit : {expected : ℕ} → Told k v (acts.OpenCommit expected) n w → IsSame v w
   same_commit {expected} t =
@@ -102,7 +125,15 @@ module _ {k : Shape} {v w : View} {n : ℕ} where
   })
 
   pub same_even : {front : ℕ} → Told k v (acts.CloseCommit front) n w → IsSame v w
-  same_even t = by_same _ t.goes (record { place = refl; tickets = refl; locks = refl; hand = refl; spare = refl; retired = refl; seen = refl })
+  same_even t = by_same _ t.goes (record {
+    place = refl;
+    tickets = refl;
+    locks = refl;
+    hand = refl;
+    spare = refl;
+    retired = refl;
+    seen = refl;
+  })
 
 -- So the same locks are held, the same slot is in hand, and the same is the spare.
 pub keeps_locks : {v w : View} {slots : List ℕ} → IsSame v w → HasLocks slots v → HasLocks slots w

@@ -21,18 +21,23 @@ use Rattle.core_points.specs.Acts.{is_step}
 use Rattle.tree_points.proofs.Passing.{needs_at, passes_at}
 
 -- where the step is this one
-pub needs_as : {k : Shape} {op : Op} {kept : ℕ} {v : View} (stage : Stage) (c : Act) (a : IsAt k op kept stage v) → is_step (act_at a.own stage) ≡ true → act_at a.own stage ≡ c → TellsNow k v → Asks k v c
+pub needs_as : {k : Shape} {op : Op} {kept : ℕ} {v : View} (stage : Stage) (c : Act) (a : IsAt k op kept stage v)
+    → is_step (act_at a.own stage) ≡ true → act_at a.own stage ≡ c → TellsNow k v → Asks k v c
 needs_as {k} {op} {kept} {v} stage c a is e now = subst (λ x. Asks k v x) e (needs_at k op kept v stage a is now)
 
-pub passes_as : {k : Shape} {op : Op} {kept n : ℕ} {v w : View} (stage next : Stage) (c : Act) (a : IsAt k op kept stage v) → is_step (act_at a.own stage) ≡ true → act_at a.own stage ≡ c → (after a.own n stage).stage ≡ next → Told k v c n w → IsAt k op kept next w
+pub passes_as : {k : Shape} {op : Op} {kept n : ℕ} {v w : View} (stage next : Stage) (c : Act) (a : IsAt k op kept stage v)
+    → is_step (act_at a.own stage) ≡ true → act_at a.own stage ≡ c → (after a.own n stage).stage ≡ next → Told k v c n w
+    → IsAt k op kept next w
 passes_as {k} {op} {kept} {n} {v} {w} stage next c a is e to t =
     subst (λ x. IsAt k op kept x w) to (passes_at k op kept v w n stage a is (subst (λ x. Told k v x n w) (sym e) t))
 
 -- one way or the other
-pub at_true : {k : Shape} {op : Op} {kept : ℕ} {w : View} (z : Bool) (x y : Stage) → z ≡ true → IsAt k op kept (if z then x else y) w → IsAt k op kept x w
+pub at_true : {k : Shape} {op : Op} {kept : ℕ} {w : View} (z : Bool) (x y : Stage) → z ≡ true → IsAt k op kept (if z then x else y) w
+    → IsAt k op kept x w
 at_true {k} {op} {kept} {w} z x y e a = subst (λ b. IsAt k op kept (if b then x else y) w) e a
 
-pub at_false : {k : Shape} {op : Op} {kept : ℕ} {w : View} (z : Bool) (x y : Stage) → z ≡ false → IsAt k op kept (if z then x else y) w → IsAt k op kept y w
+pub at_false : {k : Shape} {op : Op} {kept : ℕ} {w : View} (z : Bool) (x y : Stage) → z ≡ false → IsAt k op kept (if z then x else y) w
+    → IsAt k op kept y w
 at_false {k} {op} {kept} {w} z x y e a = subst (λ b. IsAt k op kept (if b then x else y) w) e a
 
 pub stage_if : (z : Bool) (x y : Own) → (cond z x y).stage ≡ (if z then x.stage else y.stage)
@@ -40,14 +45,22 @@ stage_if true x y = refl
 stage_if false x y = refl
 
 -- An update may be begun with any even number that is taken for the front's.
-pub commits_any : {k : Shape} {op : Op} {kept e : ℕ} {u : Update} {v : View} → IsAt k op kept (at.Commit u e) v → (expected : ℕ) → expected % 2 ≡ 0 → IsAt k op kept (at.Commit u expected) v
-commits_any a expected even = moves_on a a.own refl (record { owns = a.fits.owns; tickets = a.fits.tickets; unraised = a.fits.unraised; point = ((a.fits.point).0, even) })
+pub commits_any : {k : Shape} {op : Op} {kept e : ℕ} {u : Update} {v : View} → IsAt k op kept (at.Commit u e) v → (expected : ℕ)
+    → expected % 2 ≡ 0 → IsAt k op kept (at.Commit u expected) v
+commits_any a expected even = moves_on a a.own refl
+    (record { owns = a.fits.owns; tickets = a.fits.tickets; unraised = a.fits.unraised; point = ((a.fits.point).0, even) })
 
 -- A slot may be reserved with any number that is taken for the free count's.
-pub reserves_any : {k : Shape} {op : Op} {kept e : ℕ} {aim : Aim} {v : View} → IsAt k op kept (at.Reserve aim e) v → (expected : ℕ) → 1 ≤ expected → IsAt k op kept (at.Reserve aim expected) v
+pub reserves_any : {k : Shape} {op : Op} {kept e : ℕ} {aim : Aim} {v : View} → IsAt k op kept (at.Reserve aim e) v → (expected : ℕ)
+    → 1 ≤ expected → IsAt k op kept (at.Reserve aim expected) v
 reserves_any {e = e} {aim = aim} {v = v} a expected some = moves_on a a.own refl (by aim a.fits)
   where
     by : (aim : Aim) → Fits a.own (at.Reserve aim e) v → Fits a.own (at.Reserve aim expected) v
-    by (Leaf spot) f = let p = f.point in record { owns = f.owns; tickets = f.tickets; unraised = f.unraised; point = (p.0, p.1, p.2, p.3, some, p.5, p.6) }
+    by (Leaf spot) f = let p = f.point in record {
+      owns = f.owns;
+      tickets = f.tickets;
+      unraised = f.unraised;
+      point = (p.0, p.1, p.2, p.3, some, p.5, p.6);
+    }
     by Spare f = let p = f.point in record { owns = f.owns; tickets = f.tickets; unraised = f.unraised; point = (p.0, some, p.2, p.3, p.4) }
     by Room f = absurd f.point

@@ -23,6 +23,7 @@ use Rattle.core_points.proofs.MoveWaits.{graced_move}
 use Rattle.core_points.proofs.Reclaim.{each_map, graced, same_slots}
 use Rattle.seat_table.specs.Sections.{HasBegun}
 use Rattle.seat_table.specs.Waits.{HasWaited, IsOver}
+use Rattle.core_points.proofs.Notes.{owns_retired}
 
 -- The wait that was begun is the one that ended, and the view after it.
 module _ (k : Shape) (v w : View) (low high : ℕ) (waited : HasWaited k v low high w) where
@@ -65,14 +66,18 @@ module _ (k : Shape) (v w : View) (low high : ℕ) (waited : HasWaited k v low h
       }) begun.others ∙ ap (λ c. record outlasted { counts = c }) (sym counts_are)
     where
       counts_are : w.counts ≡ record v.counts { waits = v.counts.waits + 1; turns = w.counts.turns }
-      counts_are = ap (λ (z : View). z.counts) (over.ended).others ∙ ap (λ (z : View). record z.counts { turns = w.counts.turns }) begun.others
+      counts_are = ap (λ (z : View). z.counts) (over.ended).others
+          ∙ ap (λ (z : View). record z.counts { turns = w.counts.turns }) begun.others
 
   pub began_is : over.wait.began ≡ length begun.leaves.before
   began_is = ap (λ (z : Waiting). z.began) is_new
 
 -- After a wait for everybody the retired slots may be given back.
-pub waits_old : {k : Shape} {op : Op} {kept : ℕ} {v w : View} {aim : Aim} → v.hands.retired ≢ [] → TellsNow k v → IsAt k op kept (at.Begin (Reuse aim)) v → HasWaited k v 0 18446744073709551615 w → IsAt k op kept (at.OldAge aim) w
-waits_old {k} {op} {kept} {v} {w} {aim} some now a waited = moves_on a (go o (at.OldAge aim)) refl (subst (Fits (go o (at.OldAge aim)) (at.OldAge aim)) (sym (outlasts k v w 0 18446744073709551615 waited)) fits)
+pub waits_old : {k : Shape} {op : Op} {kept : ℕ} {v w : View} {aim : Aim} → v.hands.retired ≢ [] → TellsNow k v
+    → IsAt k op kept (at.Begin (Reuse aim)) v → HasWaited k v 0 18446744073709551615 w → IsAt k op kept (at.OldAge aim) w
+waits_old {k} {op} {kept} {v} {w} {aim} some now a waited =
+    moves_on a (go o (at.OldAge aim)) refl (subst (Fits (go o (at.OldAge aim)) (at.OldAge aim))
+    (sym (outlasts k v w 0 18446744073709551615 waited)) fits)
   where
     o : Own
     o = a.own
@@ -107,19 +112,10 @@ waits_old {k} {op} {kept} {v} {w} {aim} some now a waited = moves_on a (go o (at
         let idle = (f.point).0 in
         let bare = idle.1 in
         record {
-          owns = record {
-            same = owns.same;
-            works = owns.works;
-            spare_is = owns.spare_is;
-            retired_are = same_slots (waited_retired wait) (λ r. refl) v.hands.retired ∙ owns.retired_are;
-            locks_are = owns.locks_are;
-            key_fits = owns.key_fits;
-            keys_fit = owns.keys_fit;
-            scans = owns.scans;
-            scans_table = owns.scans_table;
-          };
+          owns = owns_retired o v owns _ _ (same_slots (waited_retired wait) (λ r. refl) v.hands.retired ∙ owns.retired_are);
           tickets = (let paid = f.tickets in omega arith);
-          unraised = λ z. each_map (waited_retired wait) (λ (r : Retired). r.raised ≡ false) (λ (r : Retired). r.raised ≡ false) v.hands.retired (λ r q. q) (f.unraised refl);
+          unraised = λ z. each_map (waited_retired wait) (λ (r : Retired). r.raised ≡ false)
+              (λ (r : Retired). r.raised ≡ false) v.hands.retired (λ r q. q) (f.unraised refl);
           point = (
             (idle.0, (bare.0, bare.1, ap (waited_move wait) bare.2, bare.3, bare.4), idle.2, idle.3),
             for_aim aim (for_plain aim (f.point).1),
@@ -131,8 +127,11 @@ waits_old {k} {op} {kept} {v} {w} {aim} some now a waited = moves_on a (go o (at
         }
 
 -- After the wait of a move the old successor may be unlinked.
-pub waits_move : {k : Shape} {op : Op} {kept : ℕ} {v w : View} {m : Moving} → IsAt k op kept (at.Begin (Move m)) v → HasWaited k v (key_of op + 1) m.next_key w → IsAt k op kept (at.OldMark m) w
-waits_move {k} {op} {kept} {v} {w} {m} a waited = moves_on a (go o (at.OldMark m)) refl (subst (Fits (go o (at.OldMark m)) (at.OldMark m)) (sym (outlasts k v w (key_of op + 1) m.next_key waited)) fits)
+pub waits_move : {k : Shape} {op : Op} {kept : ℕ} {v w : View} {m : Moving} → IsAt k op kept (at.Begin (Move m)) v
+    → HasWaited k v (key_of op + 1) m.next_key w → IsAt k op kept (at.OldMark m) w
+waits_move {k} {op} {kept} {v} {w} {m} a waited =
+    moves_on a (go o (at.OldMark m)) refl (subst (Fits (go o (at.OldMark m)) (at.OldMark m))
+    (sym (outlasts k v w (key_of op + 1) m.next_key waited)) fits)
   where
     o : Own
     o = a.own
@@ -165,21 +164,24 @@ waits_move {k} {op} {kept} {v} {w} {m} a waited = moves_on a (go o (at.OldMark m
         let owns = f.owns in
         let s = (f.point).0 in
         record {
-          owns = record {
-            same = owns.same;
-            works = owns.works;
-            spare_is = owns.spare_is;
-            retired_are = same_slots (waited_retired wait) (λ r. refl) v.hands.retired ∙ owns.retired_are;
-            locks_are = owns.locks_are;
-            key_fits = owns.key_fits;
-            keys_fit = owns.keys_fit;
-            scans = owns.scans;
-            scans_table = owns.scans_table;
-          };
+          owns = owns_retired o v owns _ _ (same_slots (waited_retired wait) (λ r. refl) v.hands.retired ∙ owns.retired_are);
           tickets = (let paid = f.tickets in omega arith);
-          unraised = λ z. each_map (waited_retired wait) (λ (r : Retired). r.raised ≡ false) (λ (r : Retired). r.raised ≡ false) v.hands.retired (λ r q. q) (f.unraised refl);
+          unraised = λ z. each_map (waited_retired wait) (λ (r : Retired). r.raised ≡ false)
+              (λ (r : Retired). r.raised ≡ false) v.hands.retired (λ r q. q) (f.unraised refl);
           point = (
-            (s.0, s.1, s.2, s.3, s.4, s.5, graced_move (record wait { ended = false }) v.moving (key_now o) m wait.clock 0 s.6 out, s.7, s.8, s.9, s.10),
+            (
+              s.0,
+              s.1,
+              s.2,
+              s.3,
+              s.4,
+              s.5,
+              graced_move (record wait { ended = false }) v.moving (key_now o) m wait.clock 0 s.6 out,
+              s.7,
+              s.8,
+              s.9,
+              s.10,
+            ),
             (f.point).1,
             (f.point).2,
           );

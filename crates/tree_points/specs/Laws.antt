@@ -15,11 +15,13 @@ use Rattle.core_points.specs.Acts.{is_step}
 
 -- At each point whose step is none of the waiter's, what the table asks for the step is given, whatever the waiter.
 abbrev pub StepsAreAsked : Type 0
-StepsAreAsked = (k : Shape) (op : Op) (kept : ℕ) (v : View) (stage : Stage) (a : IsAt k op kept stage v) → is_step (act_at a.own stage) ≡ true → TellsNow k v → Asks k v (act_at a.own stage)
+StepsAreAsked = (k : Shape) (op : Op) (kept : ℕ) (v : View) (stage : Stage) (a : IsAt k op kept stage v)
+    → is_step (act_at a.own stage) ≡ true → TellsNow k v → Asks k v (act_at a.own stage)
 
 -- After such a step the call stands at the next point, whatever number the step found.
 abbrev pub StepsPass : Type 0
-StepsPass = (k : Shape) (op : Op) (kept : ℕ) (v w : View) (n : ℕ) (stage : Stage) (a : IsAt k op kept stage v) → is_step (act_at a.own stage) ≡ true → Told k v (act_at a.own stage) n w
+StepsPass = (k : Shape) (op : Op) (kept : ℕ) (v w : View) (n : ℕ) (stage : Stage) (a : IsAt k op kept stage v)
+    → is_step (act_at a.own stage) ≡ true → Told k v (act_at a.own stage) n w
     → IsAt k op kept (after a.own n stage).stage w
 
 -- A call that has answered is quiet, and has left those tickets alone.

@@ -9,9 +9,14 @@ use Rattle.prcu_model.specs.declared.operation.Op.{Op}
 use Rattle.core_state.specs.declared.view.View.{View}
 use Rattle.seat_table.specs.Gains.{Sees}
 
--- At the same place the seat has seen more, and of its own exactly these marks.
+-- Of what a seat may work with only its tickets changed: it has the same places, and the same seats were joined into it.
+pub record KeepsAllowance (v w : View) : Type 0 where
+  pub rest : w.allowance ≡ record v.allowance { tickets = w.allowance.tickets }
+
+-- At the same place the seat has seen more, and of its own exactly these marks. Of what it may work with only its tickets changed.
 pub record HasGone (v w : View) (marks : List Mark) : Type 0 where
   pub same : w.allowance.place ≡ v.allowance.place
+  pub allowance : KeepsAllowance v w
   pub begins : IsPrefix v.seen w.seen
   pub own : own_of v.allowance.place w.seen ≡ own_of v.allowance.place v.seen ++ marks
 
@@ -25,7 +30,8 @@ pub record HasUpdated (v : View) (op : Op) (front : ℕ) (w : View) : Type 0 whe
   pub gone : HasGone v w (Done (record { caller = v.allowance.place; op = op }) ∷ [])
   pub counted : front ≡ 2 * length (updates_of before)
 
--- All of the place's retired slots were given back, by one wait and with one ticket at most; the place has a spare. What a call knows of the
+-- All of the place's retired slots were given back, by one wait and with one ticket at most; the place has a spare. What a call knows of
+-- the
 -- rest is as it was.
 pub record HasGivenAll (v w : View) : Type 0 where
   pub place : w.allowance.place ≡ v.allowance.place

@@ -46,7 +46,6 @@ mod lists;
 mod scripts;
 mod searches;
 mod slots;
-mod threads;
 
 // An operation, and what it is to be answered.
 type Call = (Op, Told);

@@ -17,7 +17,8 @@ use Rattle.tree_points.proofs.Holding.{needs_copy_key, needs_copy_value, needs_c
 use Rattle.citrus_tree.specs.Deletes.{KeepsAll}
 use Rattle.citrus_tree.proofs.deletes.Keeping.{keeps_on, keeps_fill, keeps_locked_load, keeps_own_life, spare_fill, spare_locked_load, spare_own_life}
 
-module _ {k : Shape} {op : Op} {kept : ℕ} {d : Node} {u : Successor} {v : View} (copy : ℕ) (spare : IsSlotOf (Some copy) v.hands.spare) (a : IsAt k op kept (at.SuccessorKey d u) v) where
+module _ {k : Shape} {op : Op} {kept : ℕ} {d : Node} {u : Successor} {v : View} (copy : ℕ) (spare : IsSlotOf (Some copy) v.hands.spare)
+    (a : IsAt k op kept (at.SuccessorKey d u) v) where
   pub loads_key : IsAsked k v (acts.LockedLoad u.slot part.Key)
   loads_key = needs_successor_key a
 
@@ -90,6 +91,7 @@ module _ {k : Shape} {op : Op} {kept : ℕ} {d : Node} {u : Successor} {v : View
 
                 pub copied_same : KeepsAll v v7
                 copied_same =
-                    let rest = keeps_on _ _ _ (keeps_fill k _ _ _ _ _ _ t5) (keeps_on _ _ _ (keeps_fill k _ _ _ _ _ _ t6) (keeps_own_life k _ _ _ _ t7)) in
+                    let rest = keeps_on _ _ _ (keeps_fill k _ _ _ _ _ _ t5)
+                    (keeps_on _ _ _ (keeps_fill k _ _ _ _ _ _ t6) (keeps_own_life k _ _ _ _ t7)) in
                     let pair = keeps_on _ _ _ (keeps_fill k _ _ _ _ _ _ t3) (keeps_on _ _ _ (keeps_fill k _ _ _ _ _ _ t4) rest) in
                     keeps_on _ _ _ (keeps_locked_load k _ _ _ _ _ t1) (keeps_on _ _ _ (keeps_locked_load k _ _ _ _ _ t2) pair)

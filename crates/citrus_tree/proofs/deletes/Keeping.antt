@@ -21,6 +21,7 @@ use Rattle.tree_points.specs.At.{HasLocks}
 use Rattle.tree_points.proofs.Gone.{gone_none, gone_on}
 use Rattle.citrus_tree.specs.Deletes.{KeepsAll, KeepsRest, locked_slots, retired_slots}
 use Rattle.citrus_tree.specs.Gone.{retired_marks}
+use Rattle.tree_points.specs.Progress.{KeepsAllowance}
 
 pub keeps_on : (v w x : View) → KeepsAll v w → KeepsAll w x → KeepsAll v x
 keeps_on v w x f g = record {
@@ -43,13 +44,16 @@ pub rest_of : (v w : View) → KeepsAll v w → KeepsRest v w
 rest_of v w f = record { gone = f.gone; waits = f.waits; retired = f.retired; stay = f.stay }
 
 -- Locks.
-pub slots_kept : (s : ℕ) (f : HeldLock → HeldLock) → ((l : HeldLock) → (f l).slot ≡ l.slot) → (ls : List HeldLock) → map (λ (l : HeldLock). l.slot) (change_lock s f ls) ≡ map (λ (l : HeldLock). l.slot) ls
+pub slots_kept : (s : ℕ) (f : HeldLock → HeldLock) → ((l : HeldLock) → (f l).slot ≡ l.slot) → (ls : List HeldLock)
+    → map (λ (l : HeldLock). l.slot) (change_lock s f ls) ≡ map (λ (l : HeldLock). l.slot) ls
 slots_kept s f same [] = refl
 slots_kept s f same (l ∷ ls) =
-    let head : (cond (l.slot == s) (f l) l).slot ≡ l.slot = elim (l.slot == s) as (λ b. (cond b (f l) l).slot ≡ l.slot) [ true ↦ same l | false ↦ refl ] in
+    let head : (cond (l.slot == s) (f l) l).slot ≡ l.slot =
+    elim (l.slot == s) as (λ b. (cond b (f l) l).slot ≡ l.slot) [ true ↦ same l | false ↦ refl ] in
     ap (λ x. x ∷ map (λ (l : HeldLock). l.slot) (change_lock s f ls)) head ∙ ap (λ xs. l.slot ∷ xs) (slots_kept s f same ls)
 
-pub noted_kept : (s : ℕ) (known : Known) (ls : List HeldLock) → map (λ (l : HeldLock). l.slot) (change_lock s (note_lock known) ls) ≡ map (λ (l : HeldLock). l.slot) ls
+pub noted_kept : (s : ℕ) (known : Known) (ls : List HeldLock)
+    → map (λ (l : HeldLock). l.slot) (change_lock s (note_lock known) ls) ≡ map (λ (l : HeldLock). l.slot) ls
 noted_kept s known ls = slots_kept s (note_lock known) (λ l. refl) ls
 
 same_emptied : (b : Side) (l : HeldLock) → (with_emptied b false l).slot ≡ l.slot
@@ -57,33 +61,51 @@ same_emptied Left l = refl
 same_emptied Right l = refl
 
 -- the slots of what stays retired
-marked_slots : (rs : List Retired) → map (λ (x : ℕ × ℕ × Bool). x.0) (map (λ (r : Retired). (r.slot, r.unlinked, r.waited)) rs) ≡ map (λ (r : Retired). r.slot) rs
+marked_slots : (rs : List Retired) → map (λ (x : ℕ × ℕ × Bool). x.0) (map (λ (r : Retired). (r.slot, r.unlinked, r.waited)) rs)
+    ≡ map (λ (r : Retired). r.slot) rs
 marked_slots [] = refl
 marked_slots (r ∷ rs) = ap (λ xs. r.slot ∷ xs) (marked_slots rs)
 
 pub slots_stay : (v w : View) → retired_marks w ≡ retired_marks v → retired_slots w ≡ retired_slots v
 slots_stay v w stay = sym (marked_slots w.hands.retired) ∙ ap (map (λ (x : ℕ × ℕ × Bool). x.0)) stay ∙ marked_slots v.hands.retired
 
-pub keeps : (v w : View) → w.allowance.place ≡ v.allowance.place → w.seen ≡ v.seen → w.wait ≡ v.wait → w.counts.waits ≡ v.counts.waits → retired_marks w ≡ retired_marks v → locked_slots w ≡ locked_slots v → KeepsAll v w
-keeps v w place seen wait waits stay locked = record { gone = gone_none place seen; waits = record { wait = wait; count = waits }; retired = slots_stay v w stay; stay = stay; locked = locked }
+pub keeps : (v w : View) → KeepsAllowance v w → w.seen ≡ v.seen → w.wait ≡ v.wait → w.counts.waits ≡ v.counts.waits
+    → retired_marks w ≡ retired_marks v → locked_slots w ≡ locked_slots v → KeepsAll v w
+keeps v w allowance seen wait waits stay locked =
+    record {
+      gone = gone_none allowance seen;
+      waits = record { wait = wait; count = waits };
+      retired = slots_stay v w stay;
+      stay = stay;
+      locked = locked;
+    }
+
+pub keeps_self : (v : View) → KeepsAll v v
+keeps_self v = keeps v v (record { rest = refl }) refl refl refl refl refl
 
 pub keeps_search_load : (k : Shape) (v w : View) (s : ℕ) (p : Part) (n : ℕ) → Told k v (acts.SearchLoad s p) n w → KeepsAll v w
-keeps_search_load k v w s p n t = subst (KeepsAll v) (sym t.goes) (keeps v _ refl refl refl refl refl refl)
+keeps_search_load k v w s p n t = subst (KeepsAll v) (sym t.goes) (keeps v _ (record { rest = refl }) refl refl refl refl refl)
 
 pub keeps_locked_load : (k : Shape) (v w : View) (s : ℕ) (p : Part) (n : ℕ) → Told k v (acts.LockedLoad s p) n w → KeepsAll v w
-keeps_locked_load k v w s p n t = subst (KeepsAll v) (sym t.goes) (keeps v _ refl refl refl refl refl (noted_kept s _ v.locks))
+keeps_locked_load k v w s p n t = subst (KeepsAll v) (sym t.goes)
+    (keeps v _ (record { rest = refl }) refl refl refl refl (noted_kept s _ v.locks))
 
 pub keeps_mark : (k : Shape) (v w : View) (s life n : ℕ) → Told k v (acts.Mark s life) n w → KeepsAll v w
-keeps_mark k v w s life n t = subst (KeepsAll v) (sym t.goes) (keeps v _ refl refl refl refl refl (slots_kept s (with_mark true) (λ l. refl) _ ∙ noted_kept s _ v.locks))
+keeps_mark k v w s life n t = subst (KeepsAll v) (sym t.goes)
+    (keeps v _ (record { rest = refl }) refl refl refl refl (slots_kept s (with_mark true) (λ l. refl) _ ∙ noted_kept s _ v.locks))
 
 pub keeps_raise_tag : (k : Shape) (v w : View) (s tag n : ℕ) (b : Side) → Told k v (acts.RaiseTag s b tag) n w → KeepsAll v w
-keeps_raise_tag k v w s tag n b t = subst (KeepsAll v) (sym t.goes) (keeps v _ refl refl refl refl refl (slots_kept s (with_emptied b false) (same_emptied b) _ ∙ noted_kept s _ v.locks))
+keeps_raise_tag k v w s tag n b t = subst (KeepsAll v) (sym t.goes)
+    (keeps v _ (record { rest = refl }) refl refl refl refl
+    (slots_kept s (with_emptied b false) (same_emptied b) _ ∙ noted_kept s _ v.locks))
 
 pub keeps_fill : (k : Shape) (v w : View) (s : ℕ) (p : Part) (number n : ℕ) → Told k v (acts.Fill s p number) n w → KeepsAll v w
-keeps_fill k v w s p number n t = subst (KeepsAll v) (sym t.goes) (keeps v _ refl refl refl refl refl (noted_kept s _ v.locks))
+keeps_fill k v w s p number n t = subst (KeepsAll v) (sym t.goes)
+    (keeps v _ (record { rest = refl }) refl refl refl refl (noted_kept s _ v.locks))
 
 pub keeps_own_life : (k : Shape) (v w : View) (s n : ℕ) → Told k v (acts.LoadOwnLife s) n w → KeepsAll v w
-keeps_own_life k v w s n t = subst (KeepsAll v) (sym t.goes) (keeps v _ refl refl refl refl refl (noted_kept s _ v.locks))
+keeps_own_life k v w s n t = subst (KeepsAll v) (sym t.goes)
+    (keeps v _ (record { rest = refl }) refl refl refl refl (noted_kept s _ v.locks))
 
 spare_noted : (o : Option Held) (s copy : ℕ) (known : Known) → IsSlotOf (Some copy) o → IsSlotOf (Some copy) (note_option s known o)
 spare_noted None s copy known is = is
@@ -91,26 +113,36 @@ spare_noted (Some held) s copy known is =
     let same : (note_held s known held).slot ≡ held.slot = elim (held.slot == s) as (λ b. (cond b (record held { known = known ∷ held.known }) held).slot ≡ held.slot) [ true ↦ refl | false ↦ refl ] in
     is ∙ sym same
 
-pub spare_fill : (k : Shape) (v w : View) (s : ℕ) (p : Part) (number n copy : ℕ) → Told k v (acts.Fill s p number) n w → IsSlotOf (Some copy) v.hands.spare → IsSlotOf (Some copy) w.hands.spare
-spare_fill k v w s p number n copy t is = subst (λ (x : View). IsSlotOf (Some copy) x.hands.spare) (sym t.goes) (spare_noted v.hands.spare s copy _ is)
+pub spare_fill : (k : Shape) (v w : View) (s : ℕ) (p : Part) (number n copy : ℕ) → Told k v (acts.Fill s p number) n w
+    → IsSlotOf (Some copy) v.hands.spare → IsSlotOf (Some copy) w.hands.spare
+spare_fill k v w s p number n copy t is = subst (λ (x : View). IsSlotOf (Some copy) x.hands.spare) (sym t.goes)
+    (spare_noted v.hands.spare s copy _ is)
 
-pub spare_locked_load : (k : Shape) (v w : View) (s : ℕ) (p : Part) (n copy : ℕ) → Told k v (acts.LockedLoad s p) n w → IsSlotOf (Some copy) v.hands.spare → IsSlotOf (Some copy) w.hands.spare
-spare_locked_load k v w s p n copy t is = subst (λ (x : View). IsSlotOf (Some copy) x.hands.spare) (sym t.goes) (spare_noted v.hands.spare s copy _ is)
+pub spare_locked_load : (k : Shape) (v w : View) (s : ℕ) (p : Part) (n copy : ℕ) → Told k v (acts.LockedLoad s p) n w
+    → IsSlotOf (Some copy) v.hands.spare → IsSlotOf (Some copy) w.hands.spare
+spare_locked_load k v w s p n copy t is = subst (λ (x : View). IsSlotOf (Some copy) x.hands.spare) (sym t.goes)
+    (spare_noted v.hands.spare s copy _ is)
 
-pub spare_own_life : (k : Shape) (v w : View) (s n copy : ℕ) → Told k v (acts.LoadOwnLife s) n w → IsSlotOf (Some copy) v.hands.spare → IsSlotOf (Some copy) w.hands.spare
-spare_own_life k v w s n copy t is = subst (λ (x : View). IsSlotOf (Some copy) x.hands.spare) (sym t.goes) (spare_noted v.hands.spare s copy _ is)
+pub spare_own_life : (k : Shape) (v w : View) (s n copy : ℕ) → Told k v (acts.LoadOwnLife s) n w → IsSlotOf (Some copy) v.hands.spare
+    → IsSlotOf (Some copy) w.hands.spare
+spare_own_life k v w s n copy t is = subst (λ (x : View). IsSlotOf (Some copy) x.hands.spare) (sym t.goes)
+    (spare_noted v.hands.spare s copy _ is)
 
 -- the two views that a lock leaves: as tried, with the lock or without it
-spare_if : (z : Bool) (copy : ℕ) (x y : View) → IsSlotOf (Some copy) x.hands.spare → IsSlotOf (Some copy) y.hands.spare → IsSlotOf (Some copy) (cond z x y).hands.spare
+spare_if : (z : Bool) (copy : ℕ) (x y : View) → IsSlotOf (Some copy) x.hands.spare → IsSlotOf (Some copy) y.hands.spare
+    → IsSlotOf (Some copy) (cond z x y).hands.spare
 spare_if true copy x y a b = a
 spare_if false copy x y a b = b
 
-pub spare_lock : (k : Shape) (v w : View) (s n copy : ℕ) → Told k v (acts.Lock s) n w → IsSlotOf (Some copy) v.hands.spare → IsSlotOf (Some copy) w.hands.spare
+pub spare_lock : (k : Shape) (v w : View) (s n copy : ℕ) → Told k v (acts.Lock s) n w → IsSlotOf (Some copy) v.hands.spare
+    → IsSlotOf (Some copy) w.hands.spare
 spare_lock k v w s n copy t is = subst (λ (x : View). IsSlotOf (Some copy) x.hands.spare) (sym t.goes) (spare_if (n == 0) copy _ _ is is)
 
 -- Locks are got and given up.
-pub keeps_rest_of : (v w : View) → w.allowance.place ≡ v.allowance.place → w.seen ≡ v.seen → w.wait ≡ v.wait → w.counts.waits ≡ v.counts.waits → retired_marks w ≡ retired_marks v → KeepsRest v w
-keeps_rest_of v w place seen wait waits stay = record { gone = gone_none place seen; waits = record { wait = wait; count = waits }; retired = slots_stay v w stay; stay = stay }
+pub keeps_rest_of : (v w : View) → KeepsAllowance v w → w.seen ≡ v.seen → w.wait ≡ v.wait → w.counts.waits ≡ v.counts.waits
+    → retired_marks w ≡ retired_marks v → KeepsRest v w
+keeps_rest_of v w allowance seen wait waits stay =
+    record { gone = gone_none allowance seen; waits = record { wait = wait; count = waits }; retired = slots_stay v w stay; stay = stay }
 
 pub rest_lock : (k : Shape) (v w : View) (s n : ℕ) → Told k v (acts.Lock s) n w → KeepsRest v w
 rest_lock k v w s n t = subst (KeepsRest v) (sym t.goes) (by (n == 0))
@@ -119,8 +151,8 @@ rest_lock k v w s n t = subst (KeepsRest v) (sym t.goes) (by (n == 0))
     u = noted v (acts.Lock s) n
 
     by : (z : Bool) → KeepsRest v (cond z (record u { locks = new_lock s ∷ u.locks }) u)
-    by true = keeps_rest_of v _ refl refl refl refl refl
-    by false = keeps_rest_of v _ refl refl refl refl refl
+    by true = keeps_rest_of v _ (record { rest = refl }) refl refl refl refl
+    by false = keeps_rest_of v _ (record { rest = refl }) refl refl refl refl
 
 pub locks_busy : (k : Shape) (v w : View) (s n : ℕ) → n ≢ 0 → Told k v (acts.Lock s) n w → w.locks ≡ v.locks
 locks_busy k v w s n busy t =
@@ -128,7 +160,7 @@ locks_busy k v w s n busy t =
     ap (λ (x : View). x.locks) (t.goes ∙ ap (λ z. cond z (record u { locks = new_lock s ∷ u.locks }) u) (ne_eqb n 0 busy))
 
 pub rest_unlock : (k : Shape) (v w : View) (s n : ℕ) → Told k v (acts.Unlock s) n w → KeepsRest v w
-rest_unlock k v w s n t = subst (KeepsRest v) (sym t.goes) (keeps_rest_of v _ refl refl refl refl refl)
+rest_unlock k v w s n t = subst (KeepsRest v) (sym t.goes) (keeps_rest_of v _ (record { rest = refl }) refl refl refl refl)
 
 -- the same slots are locked
 pub same_locks : {v w : View} {slots : List ℕ} → locked_slots w ≡ locked_slots v → HasLocks slots v → HasLocks slots w

@@ -19,7 +19,8 @@ use Rattle.citrus_tree.specs.Deletes.{retired_slots}
 use Rattle.seat_table.specs.Seats.{SeatAt, AreListed}
 
 -- a slot that is retired stands somewhere
-pub in_slots : (rs : List Retired) (s : ℕ) → 1 ≤ times s (map (λ (r : Retired). r.slot) rs) → (i : ℕ) × (r : Retired) × ((get_elem? rs i ≡ some r) × (r.slot ≡ s))
+pub in_slots : (rs : List Retired) (s : ℕ) → 1 ≤ times s (map (λ (r : Retired). r.slot) rs)
+    → (i : ℕ) × (r : Retired) × ((get_elem? rs i ≡ some r) × (r.slot ≡ s))
 in_slots [] s least = absurd (omega arith)
 in_slots (r ∷ rs) s least = ⊎_elim
     (λ (e : r.slot ≡ s). (0, r, (refl, e)))
@@ -36,14 +37,18 @@ module _ (v w : View) (slot : ℕ) (more : retired_slots w ≡ retired_slots v +
   pub now_retired : 1 ≤ times slot (retired_slots w)
   now_retired = let a = more_times slot in let b = times_here slot [] in omega arith
 
-  pub yet_unlisted : (listed : List ℕ) → ((t : ℕ) → times t listed ≡ times t (retired_slots v)) → times slot (retired_slots w) ≤ 1 → IsIn listed slot → ⊥
-  yet_unlisted listed each once = not_in slot listed (let a = more_times slot in let b = times_here slot [] in let e = each slot in omega arith)
+  pub yet_unlisted : (listed : List ℕ) → ((t : ℕ) → times t listed ≡ times t (retired_slots v)) → times slot (retired_slots w) ≤ 1
+      → IsIn listed slot → ⊥
+  yet_unlisted listed each once = not_in slot listed
+      (let a = more_times slot in let b = times_here slot [] in let e = each slot in omega arith)
 
-  pub listed_more : (listed : List ℕ) → ((t : ℕ) → times t listed ≡ times t (retired_slots v)) → (t : ℕ) → times t (listed ++ slot ∷ []) ≡ times t (retired_slots w)
+  pub listed_more : (listed : List ℕ) → ((t : ℕ) → times t listed ≡ times t (retired_slots v)) → (t : ℕ)
+      → times t (listed ++ slot ∷ []) ≡ times t (retired_slots w)
   listed_more listed each t = times_append t listed (slot ∷ []) ∙ (let a = more_times t in let e = each t in omega arith)
 
 -- A delete has room.
-pub few_listed : {k : Shape} {op : Op} {kept : ℕ} (s : SeatAt) (d : Node) → IsAt k op kept (deleting d None) s.view → AreListed s → length s.listed < 15
+pub few_listed : {k : Shape} {op : Op} {kept : ℕ} (s : SeatAt) (d : Node) → IsAt k op kept (deleting d None) s.view → AreListed s
+    → length s.listed < 15
 few_listed s d a listed =
     let room : length a.own.retired < 15 = ((a.fits.point).1).1.room ((a.fits.point).1).0 in
     let same : length (map (λ (r : Retired). r.slot) s.view.hands.retired) ≡ length a.own.retired = ap length a.fits.owns.retired_are in

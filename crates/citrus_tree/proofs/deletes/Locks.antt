@@ -25,7 +25,12 @@ use Rattle.citrus_tree.proofs.deletes.Keeping.{keeps_rest, locks_busy, rest_lock
 
 -- Before any step nothing changed.
 pub rest_none : (v : View) → KeepsRest v v
-rest_none v = record { gone = gone_none refl refl; waits = record { wait = refl; count = refl }; retired = refl; stay = refl }
+rest_none v = record {
+  gone = gone_none (record { rest = refl }) refl;
+  waits = record { wait = refl; count = refl };
+  retired = refl;
+  stay = refl;
+}
 
 -- Giving up: so many locks are left.
 pub record GivesUp (k : Shape) (t : Target) (count left : ℕ) (v w : View) : Type 0 where
@@ -42,26 +47,31 @@ giving_some m = ap (λ z. cond z at.EnterClock (at.Unlock last.Again)) (ne_eqb (
 pub giving_is : (count m : ℕ) → count ≡ suc m → giving_up count ≡ at.Unlock last.Again
 giving_is count m e = ap giving_up e ∙ giving_some m
 
-unlocking : {k : Shape} {op : Op} {kept : ℕ} {w : View} (left m : ℕ) → left ≡ suc m → IsAt k op kept (giving_up left) w → IsAt k op kept (at.Unlock last.Again) w
+unlocking : {k : Shape} {op : Op} {kept : ℕ} {w : View} (left m : ℕ) → left ≡ suc m → IsAt k op kept (giving_up left) w
+    → IsAt k op kept (at.Unlock last.Again) w
 unlocking {k} {op} {kept} {w} left m e a = subst (λ s. IsAt k op kept s w) (giving_is left m e) a
 
-has_next : (t : Target) (left m : ℕ) (w : View) → left ≡ suc m → HasLocks (first_locks t left) w → HasLocks (target_lock t m ∷ first_locks t m) w
+has_next : (t : Target) (left m : ℕ) (w : View) → left ≡ suc m → HasLocks (first_locks t left) w
+    → HasLocks (target_lock t m ∷ first_locks t m) w
 has_next t left m w e has = subst (λ x. HasLocks (first_locks t x) w) e has
 
-pub needs_give : (k : Shape) (t : Target) (count left m : ℕ) (v w : View) → StandsAt k (giving_up count) v → left ≡ suc m → GivesUp k t count left v w → IsAsked k w (acts.Unlock (target_lock t m))
+pub needs_give : (k : Shape) (t : Target) (count left m : ℕ) (v w : View) → StandsAt k (giving_up count) v → left ≡ suc m
+    → GivesUp k t count left v w → IsAsked k w (acts.Unlock (target_lock t m))
 needs_give k t count left m v w a e g = needs_unlock (has_next t left m w e g.locked) (unlocking left m e (g.at a.0 a.1 a.2))
 
 clock_locks : {k : Shape} {op : Op} {kept : ℕ} {w : View} → IsAt k op kept at.EnterClock w → HasLocks [] w
 clock_locks a = record { same = λ s. ap (λ (ls : List HeldLock). times s (map (λ (l : HeldLock). l.slot) ls)) (((a.fits.point).1).0).0 }
 
-pub gives_on : (k : Shape) (t : Target) (count left m n : ℕ) (v w x : View) → StandsAt k (giving_up count) v → left ≡ suc m → GivesUp k t count left v w → Told k w (acts.Unlock (target_lock t m)) n x → GivesUp k t count m v x
+pub gives_on : (k : Shape) (t : Target) (count left m n : ℕ) (v w x : View) → StandsAt k (giving_up count) v → left ≡ suc m
+    → GivesUp k t count left v w → Told k w (acts.Unlock (target_lock t m)) n x → GivesUp k t count m v x
 gives_on k t count left zero n v w x a e g told = record {
   at = λ op kept b. passes_unlock_again (has_next t left zero w e g.locked) (unlocking left zero e (g.at op kept b)) told;
   locked = clock_locks (passes_unlock_again (has_next t left zero w e g.locked) (unlocking left zero e (g.at a.0 a.1 a.2)) told);
   rest = keeps_rest v w x g.rest (rest_unlock k w x _ _ told);
 }
 gives_on k t count left (suc m) n v w x a e g told = record {
-  at = λ op kept b. subst (λ s. IsAt k op kept s x) (sym (giving_some m)) (passes_unlock (has_next t left (suc m) w e g.locked) (unlocking left (suc m) e (g.at op kept b)) told).0;
+  at = λ op kept b. subst (λ s. IsAt k op kept s x) (sym (giving_some m))
+      (passes_unlock (has_next t left (suc m) w e g.locked) (unlocking left (suc m) e (g.at op kept b)) told).0;
   locked = (passes_unlock (has_next t left (suc m) w e g.locked) (unlocking left (suc m) e (g.at a.0 a.1 a.2)) told).1;
   rest = keeps_rest v w x g.rest (rest_unlock k w x _ _ told);
 }
@@ -88,33 +98,47 @@ gets_none k t v = record {
 }
   where
     first : locking t 0 ≡ at.TargetLock t 0
-    first = ap (λ z. cond z (at.TargetLoad t 0 nothing_found) (at.TargetLock t 0)) (ne_eqb 0 (target_locks t) (λ e. (let s = some_locks t in omega arith)))
+    first = ap (λ z. cond z (at.TargetLoad t 0 nothing_found) (at.TargetLock t 0))
+        (ne_eqb 0 (target_locks t) (λ e. (let s = some_locks t in omega arith)))
 
-to_lock : {k : Shape} {op : Op} {kept : ℕ} {w : View} (t : Target) (i : ℕ) → i < target_locks t → IsAt k op kept (locking t i) w → IsAt k op kept (at.TargetLock t i) w
+to_lock : {k : Shape} {op : Op} {kept : ℕ} {w : View} (t : Target) (i : ℕ) → i < target_locks t → IsAt k op kept (locking t i) w
+    → IsAt k op kept (at.TargetLock t i) w
 to_lock t i lt a = at_false (i == target_locks t) _ _ (ne_eqb i (target_locks t) (λ e. omega arith)) a
 
-pub needs_get : (k : Shape) (t : Target) (i : ℕ) (v w : View) → StandsAt k (at.TargetLock t 0) v → i < target_locks t → Gets k t i v w → IsAsked k w (acts.Lock (target_lock t i))
+pub needs_get : (k : Shape) (t : Target) (i : ℕ) (v w : View) → StandsAt k (at.TargetLock t 0) v → i < target_locks t → Gets k t i v w
+    → IsAsked k w (acts.Lock (target_lock t i))
 needs_get k t i v w a lt g = needs_target_lock (to_lock t i lt (g.at a.0 a.1 a.2))
 
-pub gets_on : (k : Shape) (t : Target) (i n : ℕ) (v w x : View) → i < target_locks t → Gets k t i v w → n ≡ 0 → Told k w (acts.Lock (target_lock t i)) n x → Gets k t (i + 1) v x
+pub gets_on : (k : Shape) (t : Target) (i n : ℕ) (v w x : View) → i < target_locks t → Gets k t i v w → n ≡ 0
+    → Told k w (acts.Lock (target_lock t i)) n x → Gets k t (i + 1) v x
 gets_on k t i n v w x lt g free told = record {
   at = λ op kept a. passes_target_lock_free free (to_lock t i lt (g.at op kept a)) told;
   rest = keeps_rest v w x g.rest (rest_lock k w x _ _ told);
 }
 
 -- Where one is found taken, those before it are given up.
-busy_at : {k : Shape} {op : Op} {kept : ℕ} {w x : View} (t : Target) (i n : ℕ) → n ≢ 0 → IsAt k op kept (at.TargetLock t i) w → Told k w (acts.Lock (target_lock t i)) n x → IsAt k op kept (giving_up i) x
+busy_at : {k : Shape} {op : Op} {kept : ℕ} {w x : View} (t : Target) (i n : ℕ) → n ≢ 0 → IsAt k op kept (at.TargetLock t i) w
+    → Told k w (acts.Lock (target_lock t i)) n x → IsAt k op kept (giving_up i) x
 busy_at t zero n busy a told = passes_target_lock_first busy a told
-busy_at {k} {op} {kept} {w} {x} t (suc i) n busy a told = subst (λ s. IsAt k op kept s x) (sym (giving_some i)) (passes_target_lock_busy (suc i) (omega arith) busy a told)
+busy_at {k} {op} {kept} {w} {x} t (suc i) n busy a told =
+    subst (λ s. IsAt k op kept s x) (sym (giving_some i)) (passes_target_lock_busy (suc i) (omega arith) busy a told)
 
-pub gets_busy : (k : Shape) (t : Target) (i n : ℕ) (v w x : View) → i < target_locks t → Gets k t i v w → n ≢ 0 → Told k w (acts.Lock (target_lock t i)) n x → Comes k (at.TargetLock t 0) v (giving_up i) x
+pub gets_busy : (k : Shape) (t : Target) (i n : ℕ) (v w x : View) → i < target_locks t → Gets k t i v w → n ≢ 0
+    → Told k w (acts.Lock (target_lock t i)) n x → Comes k (at.TargetLock t 0) v (giving_up i) x
 gets_busy k t i n v w x lt g busy told = λ op kept a. busy_at t i n busy (to_lock t i lt (g.at op kept a)) told
 
-pub busy_locks : (k : Shape) (t : Target) (i n : ℕ) (v w x : View) → StandsAt k (at.TargetLock t 0) v → i < target_locks t → Gets k t i v w → n ≢ 0 → Told k w (acts.Lock (target_lock t i)) n x → HasLocks (first_locks t i) x
-busy_locks k t i n v w x a lt g busy told = record { same = subst (λ ls. SameLocks (first_locks t i) ls) (sym (locks_busy k w x _ n busy told)) (locks_target_lock (to_lock t i lt (g.at a.0 a.1 a.2))).same }
+pub busy_locks : (k : Shape) (t : Target) (i n : ℕ) (v w x : View) → StandsAt k (at.TargetLock t 0) v → i < target_locks t → Gets k t i v w
+    → n ≢ 0 → Told k w (acts.Lock (target_lock t i)) n x → HasLocks (first_locks t i) x
+busy_locks k t i n v w x a lt g busy told = record {
+  same =
+      subst (λ ls. SameLocks (first_locks t i) ls) (sym (locks_busy k w x _ n busy told))
+      (locks_target_lock (to_lock t i lt (g.at a.0 a.1 a.2))).same;
+}
 
-pub all_got : {k : Shape} {op : Op} {kept : ℕ} {w : View} (t : Target) (i : ℕ) → i ≡ target_locks t → IsAt k op kept (locking t i) w → IsAt k op kept (at.TargetLoad t 0 nothing_found) w
-all_got {k} {op} {kept} {w} t i e a = subst (λ z. IsAt k op kept (cond z (at.TargetLoad t 0 nothing_found) (at.TargetLock t i)) w) (eq-eqb i (target_locks t) e) a
+pub all_got : {k : Shape} {op : Op} {kept : ℕ} {w : View} (t : Target) (i : ℕ) → i ≡ target_locks t → IsAt k op kept (locking t i) w
+    → IsAt k op kept (at.TargetLoad t 0 nothing_found) w
+all_got {k} {op} {kept} {w} t i e a = subst (λ z. IsAt k op kept (cond z (at.TargetLoad t 0 nothing_found) (at.TargetLock t i)) w)
+    (eq-eqb i (target_locks t) e) a
 
 -- Numbers.
 pub one_left : (count done : ℕ) → done < count → count - done ≡ suc (count - 1 - done)

@@ -33,7 +33,10 @@ zero_fits : 0 < 2 ^ 64
 zero_fits = omega arith
 
 pub empty_listed : (s : SeatAt) → s.listed ≡ [] → s.view.hands.retired ≡ [] → AreListed s
-empty_listed s none gone = record { each = λ t. ap (times t) none ∙ ap (λ (rs : List Retired). times t (map (λ (r : Retired). r.slot) rs)) (sym gone) }
+empty_listed s none gone = record {
+  each = λ t. ap (times t) none
+      ∙ ap (λ (rs : List Retired). times t (map (λ (r : Retired). r.slot) rs)) (sym gone);
+}
 
 -- the place has a spare
 pub given_spare : (o : Option ℕ) (held : Option Held) → IsSlotOf o held → is_some o ≡ true → held ≢ None
@@ -46,7 +49,8 @@ pub room_same : (v : View) → HasMadeRoom v v
 room_same v = record { marks = []; gone = gone_same; waited = inl refl; waits = omega arith; latest = inl (none_yet v) }
 
 -- All retired slots were given back.
-pub room_reclaimed : {k : Shape} {v w : View} {listed : List ℕ} → HasReclaimed k v listed w → (15 ≤ length v.hands.retired) ⊎ (v.hands.spare ≡ None) → HasMadeRoom v w
+pub room_reclaimed : {k : Shape} {v w : View} {listed : List ℕ} → HasReclaimed k v listed w
+    → (15 ≤ length v.hands.retired) ⊎ (v.hands.spare ≡ None) → HasMadeRoom v w
 room_reclaimed {k} {v} {w} {listed} back why = record {
   marks = Began v.allowance.place v.counts.waits 0 18446744073709551615 ∷ (Ended v.allowance.place v.counts.waits ∷ []);
   gone = reclaim_gone back;
@@ -56,7 +60,8 @@ room_reclaimed {k} {v} {w} {listed} back why = record {
 }
 
 -- Nothing of the place's own was left before.
-pub room_later : {v w x : View} → HasGone v w [] → KeepsWaits v w → w.hands.retired ≡ v.hands.retired → w.hands.spare ≡ v.hands.spare → HasMadeRoom w x → HasMadeRoom v x
+pub room_later : {v w x : View} → HasGone v w [] → KeepsWaits v w → w.hands.retired ≡ v.hands.retired → w.hands.spare ≡ v.hands.spare
+    → HasMadeRoom w x → HasMadeRoom v x
 room_later {v} {w} {x} g same retired spare r = record {
   marks = r.marks;
   gone = gone_on g r.gone;
@@ -64,7 +69,8 @@ room_later {v} {w} {x} g same retired spare r = record {
       (λ (f : HasWaitedForRoom w r.marks). inr (record {
         count = f.count;
         marks_are = f.marks_are ∙ ap (λ p. Began p f.count 0 18446744073709551615 ∷ (Ended p f.count ∷ [])) g.same;
-        why = ⊎_elim (λ (many : 15 ≤ length w.hands.retired). inl (subst (λ (rs : List Retired). 15 ≤ length rs) retired many)) (λ (none : w.hands.spare ≡ None). inr (sym spare ∙ none)) f.why;
+        why = ⊎_elim (λ (many : 15 ≤ length w.hands.retired). inl (subst (λ (rs : List Retired). 15 ≤ length rs) retired many))
+            (λ (none : w.hands.spare ≡ None). inr (sym spare ∙ none)) f.why;
       })) r.waited;
   waits = subst (λ n. n ≤ x.counts.waits) same.count r.waits;
   latest = wait_later (none_begun g same.count same.wait) r.latest;
@@ -73,9 +79,15 @@ room_later {v} {w} {x} g same retired spare r = record {
 module _ {k : Shape} {v : View} (quiet : IsQuiet v) where
   pub ready_at_once : length v.hands.retired < 15 → v.hands.spare ≢ None → IsReadyToDelete k v v
   ready_at_once few given = λ key kept fits paid.
-      record { outside = quiet.section; unlocked = quiet.locks; at = λ seated. begins_delete quiet seated.works seated.some_place fits paid few given }
+      record {
+        outside = quiet.section;
+        unlocked = quiet.locks;
+        at = λ seated. begins_delete quiet seated.works seated.some_place fits paid few given;
+      }
 
-  pub ready_reclaimed : {w : View} {listed : List ℕ} → 15 ≤ length v.hands.retired → ((t : ℕ) → times t listed ≡ times t (map (λ (r : Retired). r.slot) v.hands.retired)) → HasReclaimed k v listed w → IsReadyToDelete k v w
+  pub ready_reclaimed : {w : View} {listed : List ℕ} → 15 ≤ length v.hands.retired
+      → ((t : ℕ) → times t listed ≡ times t (map (λ (r : Retired). r.slot) v.hands.retired)) → HasReclaimed k v listed w
+      → IsReadyToDelete k v w
   ready_reclaimed many same back = λ key kept fits paid. record {
     outside = ap (λ (z : View). z.section) back.rest ∙ quiet.section;
     unlocked = ap (λ (z : View). z.locks) back.rest ∙ quiet.locks;
@@ -92,7 +104,8 @@ module _ {k : Shape} {v : View} (quiet : IsQuiet v) where
 
     module _ {slot generation : ℕ} {w : View} (taken : HasTaken v slot generation w) where
       keeping : 1 ≤ k.places → (key kept : ℕ) → key < 2 ^ 64 → kept + 4 ≤ v.allowance.tickets → IsAt k (Del key) kept (at.Keep slot) w
-      keeping some_place key kept fits paid = takes_spare taken (reserving (record { works = taken.given.seen.works; some_place = some_place }) key kept fits paid)
+      keeping some_place key kept fits paid = takes_spare taken
+          (reserving (record { works = taken.given.seen.works; some_place = some_place }) key kept fits paid)
 
       pub needs_kept : 4 ≤ v.allowance.tickets → IsAsked k w (acts.KeepAsSpare slot)
       needs_kept paid = λ told. needs_keep (keeping told.tells.some_place 0 0 zero_fits paid) told
@@ -106,8 +119,11 @@ module _ {k : Shape} {v : View} (quiet : IsQuiet v) where
           marks = [];
           gone = gone_stays (taken_gone taken) (stays (acts.KeepAsSpare slot) refl t);
           waited = inl refl;
-          waits = (let a : x.counts.waits ≡ w.counts.waits = ap (λ (z : View). z.counts.waits) t.goes in let b : w.counts.waits ≡ v.counts.waits = ap (λ (z : View). z.counts.waits) taken.rest in omega arith);
-          latest = inl (none_begun (gone_stays (taken_gone taken) (stays (acts.KeepAsSpare slot) refl t)) (ap (λ (z : View). z.counts.waits) t.goes ∙ ap (λ (z : View). z.counts.waits) taken.rest) (ap (λ (z : View). z.wait) t.goes ∙ ap (λ (z : View). z.wait) taken.rest));
+          waits = (let a : x.counts.waits ≡ w.counts.waits = ap (λ (z : View). z.counts.waits) t.goes in
+              let b : w.counts.waits ≡ v.counts.waits = ap (λ (z : View). z.counts.waits) taken.rest in omega arith);
+          latest = inl (none_begun (gone_stays (taken_gone taken) (stays (acts.KeepAsSpare slot) refl t))
+              (ap (λ (z : View). z.counts.waits) t.goes ∙ ap (λ (z : View). z.counts.waits) taken.rest)
+              (ap (λ (z : View). z.wait) t.goes ∙ ap (λ (z : View). z.wait) taken.rest));
         }
 
         pub kept_retired : x.hands.retired ≡ v.hands.retired
@@ -122,17 +138,23 @@ module _ {k : Shape} {v : View} (quiet : IsQuiet v) where
         settled = ap (λ (z : View). z.moving) empty.rest ∙ quiet.moving;
         paid = ap (λ (z : View). z.hands.owes) empty.rest ∙ quiet.owes;
         ticket = (let same = ap (λ (z : View). z.allowance.tickets) empty.rest in omega arith);
-        unraised = subst (λ (rs : List Retired). Each rs (λ (r : Retired). r.raised ≡ false)) (sym (ap (λ (z : View). z.hands.retired) empty.rest)) (none_raised v.hands.retired quiet.raised);
+        unraised = subst (λ (rs : List Retired). Each rs (λ (r : Retired). r.raised ≡ false))
+            (sym (ap (λ (z : View). z.hands.retired) empty.rest)) (none_raised v.hands.retired quiet.raised);
       }
 
-      module _ {x : View} {listed : List ℕ} (same : (t : ℕ) → times t listed ≡ times t (map (λ (r : Retired). r.slot) w.hands.retired)) (back : HasReclaimed k w listed x) where
+      module _ {x : View} {listed : List ℕ} (same : (t : ℕ) → times t listed ≡ times t (map (λ (r : Retired). r.slot) w.hands.retired))
+          (back : HasReclaimed k w listed x) where
         pub ready_spare : IsReadyToDelete k v x
         ready_spare = λ key kept fits paid. record {
           outside = ap (λ (z : View). z.section) back.rest ∙ (may_reclaim_spare (omega arith)).outside;
           unlocked = ap (λ (z : View). z.locks) back.rest ∙ (may_reclaim_spare (omega arith)).unlocked;
-          at = λ seated. reclaims_spare (none_begins_spare empty (reserving (record { works = empty.sees.works; some_place = seated.some_place }) key kept fits paid)) (gives_all empty.spare_comes same back);
+          at = λ seated. reclaims_spare (none_begins_spare empty
+              (reserving (record { works = empty.sees.works; some_place = seated.some_place }) key kept fits paid))
+              (gives_all empty.spare_comes same back);
         }
 
         pub room_spare : HasMadeRoom v x
-        room_spare = room_later (none_gone empty) (record { wait = ap (λ (z : View). z.wait) empty.rest; count = ap (λ (z : View). z.counts.waits) empty.rest })
-            (ap (λ (z : View). z.hands.retired) empty.rest) (ap (λ (z : View). z.hands.spare) empty.rest) (room_reclaimed back (inr (ap (λ (z : View). z.hands.spare) empty.rest ∙ none)))
+        room_spare = room_later (none_gone empty) (record
+            { wait = ap (λ (z : View). z.wait) empty.rest; count = ap (λ (z : View). z.counts.waits) empty.rest })
+            (ap (λ (z : View). z.hands.retired) empty.rest) (ap (λ (z : View). z.hands.spare) empty.rest)
+            (room_reclaimed back (inr (ap (λ (z : View). z.hands.spare) empty.rest ∙ none)))

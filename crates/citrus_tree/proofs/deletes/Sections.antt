@@ -4,6 +4,8 @@ use mathlib.Core.List.{IsPrefix}
 use Rattle.prcu_marks.specs.declared.mark.Mark.{Mark}
 use Rattle.prcu_marks.specs.declared.mark.Mark.TheVariants.{Entered, Left as LeftMark}
 use Rattle.prcu_marks.specs.declared.mark.Side.{Side}
+use Rattle.prcu_marks.specs.Callers.{entered_for}
+use Rattle.prcu_marks.specs.Marks.{own_of}
 use Rattle.prcu_model.specs.declared.operation.Op.TheVariants.{Del}
 use Rattle.prcu_model.specs.Dictionary.{key_of}
 use Rattle.prcu_model.proofs.ListFacts.{prefix_trans}
@@ -21,7 +23,7 @@ use Rattle.seat_table.specs.Sections.{HasLeft}
 use Rattle.tree_points.specs.At.{IsAt, IsDone}
 use Rattle.tree_points.specs.Progress.{HasGone}
 use Rattle.tree_points.proofs.SameCall.{moves_on}
-use Rattle.tree_points.proofs.Gone.{gone_entered, gone_left, gone_none, gone_on, gone_same, gone_stays}
+use Rattle.tree_points.proofs.Gone.{allowed, gone_entered, gone_left, gone_none, gone_on, gone_same, gone_stays}
 use Rattle.tree_points.proofs.Leaving.{leaves_delete}
 use Rattle.tree_points.proofs.Standing.{no_hand_enter}
 use Rattle.citrus_tree.specs.Going.{IsSeated}
@@ -37,10 +39,17 @@ seated_by some_place i = record { works = i.entered.leaves.seen.works; some_plac
 
 module _ {k : Shape} {kept key : ℕ} where
   -- the search found the node
-  pub at_parent : {v w : View} {p s : ℕ} {b : Side} → IsAt k (Del key) kept at.EnterClock v → IsSearching v key (Found s p b None) w → IsAt k (Del key) kept (at.ParentLife p b s) w
+  pub at_parent : {v w : View} {p s : ℕ} {b : Side} → IsAt k (Del key) kept at.EnterClock v → IsSearching v key (Found s p b None) w
+      → IsAt k (Del key) kept (at.ParentLife p b s) w
   at_parent {v} {w} {p} {s} {b} a i =
       let e = i.entered in
-      let same : w ≡ record v { enter = i.entry.enter; section = w.section; counts = record v.counts { sections = v.counts.sections + 1 }; trail = w.trail; seen = i.entry.seen } =
+      let same : w ≡ record v {
+        enter = i.entry.enter;
+        section = w.section;
+        counts = record v.counts { sections = v.counts.sections + 1 };
+        trail = w.trail;
+        seen = i.entry.seen;
+      } =
       i.others ∙ ap (λ (z : View). record z { section = w.section; trail = w.trail }) e.others in
       subst (λ (z : View). IsAt k (Del key) kept (at.ParentLife p b s) z) (sym same) (moves_on a a.own refl (record {
         owns = a.fits.owns;
@@ -52,7 +61,13 @@ module _ {k : Shape} {kept key : ℕ} where
           (
             record e.section { reading = i.reading },
             i.inside,
-            record { searches = e.no_list; key_is = e.key_is ∙ ap key_of (sym a.op_is); sought = i.key_is ∙ ap key_of (sym a.op_is); state_is = i.state_is; here = i.here },
+            record {
+              searches = e.no_list;
+              key_is = e.key_is ∙ ap key_of (sym a.op_is);
+              sought = i.key_is ∙ ap key_of (sym a.op_is);
+              state_is = i.state_is;
+              here = i.here;
+            },
             (i.above, tt),
           ),
         );
@@ -71,22 +86,28 @@ module _ {k : Shape} {kept key : ℕ} where
       }))
 
   -- the section was left with a target
-  pub at_target : {v w : View} {t : Target} → IsAt k (Del key) kept (at.Leave (next.Delete t)) v → StoodInside k v → HasLeft v w → IsAt k (Del key) kept (at.TargetLock t 0) w
+  pub at_target : {v w : View} {t : Target} → IsAt k (Del key) kept (at.Leave (next.Delete t)) v → StoodInside k v → HasLeft v w
+      → IsAt k (Del key) kept (at.TargetLock t 0) w
   at_target {v} {w} a inside left = leaves_delete k (Del key) kept v w left inside a
 
 -- What the section leaves.
-pub searched_found : {v w x y : View} {key : ℕ} {state : SearchState} → IsSearching v key state w → KeepsAll w x → HasLeft x y → HasSearched v key y
+pub searched_found : {v w x y : View} {key : ℕ} {state : SearchState} → IsSearching v key state w → KeepsAll w x → HasLeft x y
+    → HasSearched v key y
 searched_found {v} {w} {x} {y} {key} {state} i k left =
     let e = i.entered in
-    let inside : HasGone v w (Entered v.allowance.place v.counts.sections key ∷ []) = gone_stays (gone_entered e) (gone_none (ap (λ (z : View). z.allowance.place) i.others) (ap (λ (z : View). z.seen) i.others)) in
+    let inside : HasGone v w (Entered v.allowance.place v.counts.sections key ∷ []) =
+    gone_stays (gone_entered e) (gone_none (allowed i.others refl) (ap (λ (z : View). z.seen) i.others)) in
     let before : HasGone v x (Entered v.allowance.place v.counts.sections key ∷ []) = gone_stays inside k.gone in
     record {
       count = v.counts.sections;
       left = left.section.count;
-      gone = subst (λ p. HasGone v y (Entered v.allowance.place v.counts.sections key ∷ (LeftMark p left.section.count ∷ []))) before.same (gone_on before (gone_left left));
+      gone = subst (λ p. HasGone v y (Entered v.allowance.place v.counts.sections key ∷ (LeftMark p left.section.count ∷ []))) before.same
+          (gone_on before (gone_left left));
       waits = record {
-        wait = ap (λ (z : View). z.wait) left.others ∙ k.waits.wait ∙ ap (λ (z : View). z.wait) i.others ∙ ap (λ (z : View). z.wait) e.others;
-        count = ap (λ (z : View). z.counts.waits) left.others ∙ k.waits.count ∙ ap (λ (z : View). z.counts.waits) i.others ∙ ap (λ (z : View). z.counts.waits) e.others;
+        wait = ap (λ (z : View). z.wait) left.others ∙ k.waits.wait ∙ ap (λ (z : View). z.wait) i.others
+            ∙ ap (λ (z : View). z.wait) e.others;
+        count = ap (λ (z : View). z.counts.waits) left.others ∙ k.waits.count ∙ ap (λ (z : View). z.counts.waits) i.others
+            ∙ ap (λ (z : View). z.counts.waits) e.others;
       };
       retired = ap retired_slots left.others ∙ k.retired ∙ ap retired_slots i.others ∙ ap retired_slots e.others;
       stay = ap retired_marks left.others ∙ k.stay ∙ ap retired_marks i.others ∙ ap retired_marks e.others;
@@ -108,7 +129,8 @@ pub answered_now : {v w : View} {key : ℕ} {answer : Option ℕ} → Looked v k
 answered_now l = was_answered l gone_same
 
 -- An answer since a later moment is one since an earlier.
-pub answered_before : {u v w : View} {key : ℕ} {answer : Option ℕ} {marks : List Mark} → HasGone u v marks → WasAnswered v key answer w → WasAnswered u key answer w
+pub answered_before : {u v w : View} {key : ℕ} {answer : Option ℕ} {marks : List Mark} → HasGone u v marks → WasAnswered v key answer w
+    → WasAnswered u key answer w
 answered_before {u} {v} {w} {key} g a = record {
   count = a.count;
   before = a.before;
@@ -116,5 +138,8 @@ answered_before {u} {v} {w} {key} g a = record {
   since = prefix_trans u.seen v.seen a.before g.begins a.since;
   within = subst (λ p. IsPrefix (a.before ++ Entered p a.count key ∷ []) a.until) g.same a.within;
   seen = subst (λ p. IsPrefix (a.until ++ LeftMark p a.count ∷ []) w.seen) g.same a.seen;
+  more = a.more;
+  own = subst (λ p. own_of p w.seen ≡ own_of p a.before ++ Entered p a.count key ∷ (LeftMark p a.count ∷ a.more)) g.same a.own;
+  last = subst (λ p. entered_for p key a.more ≡ 0) g.same a.last;
   said = a.said;
 }

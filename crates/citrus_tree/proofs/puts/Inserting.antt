@@ -26,7 +26,7 @@ use Rattle.core_points.specs.Tickets.{owed_op}
 use Rattle.core_points.specs.declared.stage.Spot.{Spot}
 use Rattle.core_points.specs.declared.stage.Stage.TheVariants as at
 use Rattle.tree_points.specs.At.{IsAt}
-use Rattle.tree_points.specs.Progress.{HasGone}
+use Rattle.tree_points.specs.Progress.{HasGone, KeepsAllowance}
 use Rattle.tree_points.proofs.Ends.{begins_put, has_kept, is_quiet}
 use Rattle.tree_points.proofs.Gone.{gone_on, gone_same}
 use Rattle.tree_points.proofs.Holding.{slot_in_hand}
@@ -40,12 +40,19 @@ use Rattle.citrus_tree.specs.Putting.{Links, MakesRoom, Reused, old_stage}
 use Rattle.citrus_tree.specs.Replies.{IsFullNow, Puts}
 use Rattle.citrus_tree.proofs.puts.Filling.{needed_on}
 use Rattle.citrus_tree.proofs.KeepingWaits.{first_later, first_stays, none_begun, none_on, none_yet}
-use Rattle.citrus_tree.proofs.Leavings.{goes_looked, was_answered}
+use Rattle.citrus_tree.proofs.Leavings.{answered_on, goes_looked, was_answered}
 use Rattle.citrus_tree.proofs.sets.Replacing.{may_begin, waits_in-append}
 
 -- the view after a lookup
 abbrev left_view : {v w : View} {key : ℕ} {answer : Option ℕ} → Looked v key answer w → View
-left_view {v} {w} l = record v { enter = w.enter; section = None; records = l.reading ∷ v.records; counts = record v.counts { sections = v.counts.sections + 1 }; trail = w.trail; seen = w.seen }
+left_view {v} {w} l = record v {
+  enter = w.enter;
+  section = None;
+  records = l.reading ∷ v.records;
+  counts = record v.counts { sections = v.counts.sections + 1 };
+  trail = w.trail;
+  seen = w.seen;
+}
 
 -- Where a put stands after its search.
 module _ {k : Shape} {kept key value : ℕ} {v : View} (a : IsAt k (Put key value) kept at.EnterClock v) where
@@ -57,7 +64,12 @@ module _ {k : Shape} {kept key value : ℕ} {v : View} (a : IsAt k (Put key valu
   old_at {w} l = subst (λ (z : View). IsAt k (Put key value) kept (old_stage z.hands.hand) z) (sym l.others) (by v.hands.hand refl)
     where
       by : (h : Option Held) → v.hands.hand ≡ h → IsAt k (Put key value) kept (old_stage h) (left_view l)
-      by None e = moves_on a a.own refl (record { owns = a.fits.owns; tickets = (let t = a.fits.tickets in omega arith); unraised = a.fits.unraised; point = (refl, ((a.fits.point).1).0, e) })
+      by None e = moves_on a a.own refl (record {
+        owns = a.fits.owns;
+        tickets = (let t = a.fits.tickets in omega arith);
+        unraised = a.fits.unraised;
+        point = (refl, ((a.fits.point).1).0, e);
+      })
       by (Some held) e = moves_on a a.own refl (record {
         owns = a.fits.owns;
         tickets = (let t = a.fits.tickets in omega arith);
@@ -66,16 +78,27 @@ module _ {k : Shape} {kept key value : ℕ} {v : View} (a : IsAt k (Put key valu
       })
 
   -- it isn't, and the empty side is recorded
-  pub spot_at : {w : View} {spot : Spot} (l : Looked v key None w) → Records l.reading spot → spot.slot < slot_count k → IsAt k (Put key value) kept (leaf_stage w.hands.hand spot) w
-  spot_at {w} {spot} l r below = subst (λ (z : View). IsAt k (Put key value) kept (leaf_stage z.hands.hand spot) z) (sym l.others) (by v.hands.hand refl)
+  pub spot_at : {w : View} {spot : Spot} (l : Looked v key None w) → Records l.reading spot → spot.slot < slot_count k
+      → IsAt k (Put key value) kept (leaf_stage w.hands.hand spot) w
+  spot_at {w} {spot} l r below = subst (λ (z : View). IsAt k (Put key value) kept (leaf_stage z.hands.hand spot) z) (sym l.others)
+      (by v.hands.hand refl)
     where
       has : HasSpot (table_of a.own) (left_view l).records (key_now a.own) spot
-      has = (l.reading, (0, refl), l.sought ∙ sym (ap key_of a.op_is), r.state_is, r.generation_is, r.tag_is, (let s = a.slots_are in let p = a.places_are in omega arith))
+      has = (
+        l.reading,
+        (0, refl),
+        l.sought ∙ sym (ap key_of a.op_is),
+        r.state_is,
+        r.generation_is,
+        r.tag_is,
+        (let s = a.slots_are in let p = a.places_are in omega arith),
+      )
 
       by : (h : Option Held) → v.hands.hand ≡ h → IsAt k (Put key value) kept (leaf_stage h spot) (left_view l)
       by None e = moves_on a a.own refl (record {
         owns = a.fits.owns;
-        tickets = subst (λ (z : Op × Option ℕ). owed_op z.0 z.1 a.own.retired + 4 * length a.own.rest + a.own.kept ≤ v.allowance.tickets) (λ i. (a.op_is i, own_hand None e i)) a.fits.tickets;
+        tickets = subst (λ (z : Op × Option ℕ). owed_op z.0 z.1 a.own.retired + 4 * length a.own.rest + a.own.kept ≤ v.allowance.tickets)
+            (λ i. (a.op_is i, own_hand None e i)) a.fits.tickets;
         unraised = a.fits.unraised;
         point = (refl, ((a.fits.point).1).0, e, own_hand None e, omega arith, has, ap is_put a.op_is);
       })
@@ -92,12 +115,18 @@ section_of w key = Entered w.allowance.place w.counts.sections key ∷ (LeftMark
 
 -- What was left so far goes on.
 module _ {k : Shape} {v w : View} {key : ℕ} {marks : List Mark} (s : Since k v key marks w) where
-  since_goes : {x : View} (more : List Mark) → Goes w x more → AllByRecursion (IsOfTry v.allowance.place key) more → waits_in more ≡ 0 → Since k v key (marks ++ more) x
+  since_goes : {x : View} (more : List Mark) → Goes w x more → AllByRecursion (IsOfTry v.allowance.place key) more → waits_in more ≡ 0
+      → Since k v key (marks ++ more) x
   since_goes {x} more g each none = record {
     gone = gone_on s.gone g.gone;
     each = all_append (IsOfTry v.allowance.place key) marks more s.each each;
     waits = ⊎_elim
-        (λ (u : Unwaited v w marks). inl (record { none = (let both = waits_in-append marks more in let first = u.none in omega arith); retired = g.retired ∙ u.retired; wait = g.wait ∙ u.wait; waits = g.waits ∙ u.waits }))
+        (λ (u : Unwaited v w marks). inl (record {
+          none = (let both = waits_in-append marks more in let first = u.none in omega arith);
+          retired = g.retired ∙ u.retired;
+          wait = g.wait ∙ u.wait;
+          waits = g.waits ∙ u.waits;
+        }))
         (λ (t : Waited k v w marks). inr (record {
           one = (let both = waits_in-append marks more in let first = t.one in omega arith);
           none = g.retired ∙ t.none;
@@ -110,9 +139,11 @@ module _ {k : Shape} {v w : View} {key : ℕ} {marks : List Mark} (s : Since k v
   pub since_stays : {x : View} → Goes w x [] → Since k v key marks x
   since_stays {x} g = subst (λ ms. Since k v key ms x) (append-nil marks) (since_goes [] g tt refl)
 
-  since_reused : {x : View} → Reused k w x → Since k v key (marks ++ (Began w.allowance.place w.counts.waits 0 18446744073709551615 ∷ (Ended w.allowance.place w.counts.waits ∷ []))) x
+  since_reused : {x : View} → Reused k w x → Since k v key
+      (marks ++ (Began w.allowance.place w.counts.waits 0 18446744073709551615 ∷ (Ended w.allowance.place w.counts.waits ∷ []))) x
   since_reused {x} r =
-      let more : List Mark = Began w.allowance.place w.counts.waits 0 18446744073709551615 ∷ (Ended w.allowance.place w.counts.waits ∷ []) in
+      let more : List Mark = Began w.allowance.place w.counts.waits 0 18446744073709551615
+      ∷ (Ended w.allowance.place w.counts.waits ∷ []) in
       record {
         gone = gone_on s.gone r.gone;
         each = all_append (IsOfTry v.allowance.place key) marks more s.each ((s.gone.same, refl, refl), (s.gone.same, tt));
@@ -125,7 +156,8 @@ module _ {k : Shape} {v w : View} {key : ℕ} {marks : List Mark} (s : Since k v
                 until = r.needed.until;
                 since = prefix_trans v.seen w.seen r.needed.until s.gone.begins r.needed.since;
                 made = r.needed.made;
-                fills = subst (λ (rs : List Retired). k.slots ≤ finite.len (map_of (updates_of r.needed.until)) + length rs + 20 * (k.places - 1)) u.retired r.needed.fills;
+                fills = subst (λ (rs : List Retired). k.slots
+                    ≤ finite.len (map_of (updates_of r.needed.until)) + length rs + 20 * (k.places - 1)) u.retired r.needed.fills;
               };
               wait = first_later (none_begun s.gone u.waits u.wait) r.wait;
             }))
@@ -136,7 +168,10 @@ module _ {k : Shape} {v w : View} {key : ℕ} {marks : List Mark} (s : Since k v
   pub since_room : {x : View} → MakesRoom k w x → (more : List Mark) × Since k v key (marks ++ more) x
   since_room {x} room = ⊎_elim
       (λ (g : Goes w x []). ([], since_goes [] g tt refl))
-      (λ (r : Reused k w x). (Began w.allowance.place w.counts.waits 0 18446744073709551615 ∷ (Ended w.allowance.place w.counts.waits ∷ []), since_reused r))
+      (λ (r : Reused k w x). (
+        Began w.allowance.place w.counts.waits 0 18446744073709551615 ∷ (Ended w.allowance.place w.counts.waits ∷ []),
+        since_reused r,
+      ))
       room
 
   -- one more section
@@ -148,21 +183,36 @@ module _ {k : Shape} {v w : View} {key : ℕ} {marks : List Mark} (s : Since k v
     entered_looked =
         let split = entered_for-append v.allowance.place key marks (section_of w key) in
         let one : entered_for v.allowance.place key (section_of w key) ≡ 1 =
-        ap (λ b. cond b (cond (key == key) 1 0) 0 + 0) (eq-eqb w.allowance.place v.allowance.place s.gone.same) ∙ ap (λ b. cond b 1 0 + 0) (eq-eqb key key refl) in
+        ap (λ b. cond b (cond (key == key) 1 0) 0 + 0) (eq-eqb w.allowance.place v.allowance.place s.gone.same)
+        ∙ ap (λ b. cond b 1 0 + 0) (eq-eqb key key refl) in
         omega arith
 
   pub are_tries : 1 ≤ entered_for v.allowance.place key marks → AreTries v.allowance.place key marks
   are_tries some = record {
     each = s.each;
     entered = some;
-    once = ⊎_elim (λ (u : Unwaited v w marks). (let none = u.none in omega arith)) (λ (t : Waited k v w marks). (let one = t.one in omega arith)) s.waits;
+    once = ⊎_elim (λ (u : Unwaited v w marks). (let none = u.none in omega arith))
+        (λ (t : Waited k v w marks). (let one = t.one in omega arith)) s.waits;
   }
 
   pub needs_room : {x : View} → IsPrefix w.seen x.seen → 1 ≤ waits_in marks → NeededRoom k v x
-  needs_room {x} more some = ⊎_elim (λ (u : Unwaited v w marks). absurd (let none = u.none in omega arith)) (λ (t : Waited k v w marks). needed_on t.needed more) s.waits
+  needs_room {x} more some = ⊎_elim (λ (u : Unwaited v w marks). absurd (let none = u.none in omega arith))
+      (λ (t : Waited k v w marks). needed_on t.needed more) s.waits
 
   pub keeps_wait : (x : View) → HasBegunNone w x → KeepsWait v x
-  keeps_wait x none = ⊎_elim (λ (u : Unwaited v w marks). inl (none_on (none_begun s.gone u.waits u.wait) none)) (λ (t : Waited k v w marks). inr (first_stays t.wait none.seen none.wait)) s.waits
+  keeps_wait x none = ⊎_elim (λ (u : Unwaited v w marks). inl (none_on (none_begun s.gone u.waits u.wait) none))
+      (λ (t : Waited k v w marks). inr (first_stays t.wait none.seen none.wait)) s.waits
+
+-- the marks of room that was made, none of which is a section's
+room_leaves : {k : Shape} {v w : View} → MakesRoom k v w → (more : List Mark) × HasGone v w more × ((p s : ℕ) → entered_for p s more ≡ 0)
+room_leaves {k} {v} {w} room = ⊎_elim
+    (λ (g : Goes v w []). ([], g.gone, λ p s. refl))
+    (λ (r : Reused k v w). (
+      Began v.allowance.place v.counts.waits 0 18446744073709551615 ∷ (Ended v.allowance.place v.counts.waits ∷ []),
+      r.gone,
+      λ p s. refl,
+    ))
+    room
 
 no_more : (xs : List Mark) → IsPrefix xs xs
 no_more xs = ([], append-nil xs)
@@ -178,7 +228,11 @@ module _ {k : Shape} {key value : ℕ} {v : View} where
   begins quiet fits = record {
     marks = [];
     since = record { gone = gone_same; each = tt; waits = inl (record { none = refl; retired = refl; wait = refl; waits = refl }) };
-    ready = λ kept few. record { outside = quiet.section; unlocked = quiet.locks; at = λ seated. begins_put quiet seated.works seated.some_place fits few };
+    ready = λ kept few. record {
+      outside = quiet.section;
+      unlocked = quiet.locks;
+      at = λ seated. begins_put quiet seated.works seated.some_place fits few;
+    };
   }
 
   module _ {w : View} (t : Trying k key value v w) (few : 4 ≤ v.allowance.tickets) where
@@ -203,16 +257,18 @@ module _ {k : Shape} {key value : ℕ} {v : View} where
         pub old_puts : Puts k v key value (record { reply = Old; number = 0 }) y
         old_puts =
             let before = since_looked t.since f.1 in
-            let s = since_stays before g in
-            let said = was_answered f.1 t.since.gone in (
+            let s = since_stays before g in (
               t.marks ++ section_of w key,
               (
                 refl,
                 record { tried = are_tries s (entered_looked t.since f.1); own = s.gone },
-                (f.0, record { count = said.count; before = said.before; until = said.until; since = said.since; within = said.within; seen = prefix_trans _ x.seen y.seen said.seen g.gone.begins; said = said.said }),
+                (f.0, answered_on before.gone (was_answered f.1 t.since.gone) g.gone refl),
               ),
               needs_room s (no_more y.seen),
             )
+
+        pub old_allowance : KeepsAllowance v y
+        old_allowance = (since_stays (since_looked t.since f.1) g).gone.allowance
 
         pub old_wait : KeepsWait v y
         old_wait = keeps_wait (since_stays (since_looked t.since f.1) g) y (none_yet y)
@@ -222,12 +278,14 @@ module _ {k : Shape} {key value : ℕ} {v : View} where
           old_quiet = is_quiet (ends (Put key value) 0 (old_ready 0 few))
 
           pub old_tickets : v.allowance.tickets ≤ y.allowance.tickets + 4
-          old_tickets = (let left = has_kept (ends (Put key value) (v.allowance.tickets - 4) (old_ready (v.allowance.tickets - 4) (omega arith))) in omega arith)
+          old_tickets = (let left = has_kept (ends (Put key value) (v.allowance.tickets - 4)
+              (old_ready (v.allowance.tickets - 4) (omega arith))) in omega arith)
 
     -- it isn't
     module _ {x : View} (some_place : 1 ≤ k.places) (spot : Spot) (f : Searched k w key (Some spot) x) where
       spot_ready : (kept : ℕ) → kept + 4 ≤ v.allowance.tickets → IsAt k (Put key value) kept (leaf_stage x.hands.hand spot) x
-      spot_ready kept enough = spot_at ((t.ready kept enough).at (record { works = f.0.sees.works; some_place = some_place })) f.0 f.1 f.2.inside
+      spot_ready kept enough = spot_at ((t.ready kept enough).at
+          (record { works = f.0.sees.works; some_place = some_place })) f.0 f.1 f.2.inside
 
       pub may_take_leaf : (c : ℕ) × (s : Spot) × IsAt k (Put key value) c (leaf_stage x.hands.hand s) x
       may_take_leaf = (0, spot, spot_ready 0 few)
@@ -236,6 +294,9 @@ module _ {k : Shape} {key value : ℕ} {v : View} where
       spot_retired = (goes_looked f.0).retired
 
       module _ {y : View} (room : MakesRoom k x y) where
+        left : (more : List Mark) × HasGone x y more × ((p s : ℕ) → entered_for p s more ≡ 0)
+        left = room_leaves room
+
         abbrev tried : List Mark
         tried = (t.marks ++ section_of w key) ++ (since_room (since_looked t.since f.0) room).0
 
@@ -244,29 +305,41 @@ module _ {k : Shape} {key value : ℕ} {v : View} where
 
         entered : 1 ≤ entered_for v.allowance.place key tried
         entered =
-            let split = entered_for-append v.allowance.place key (t.marks ++ section_of w key) (since_room (since_looked t.since f.0) room).0 in
+            let split = entered_for-append v.allowance.place key (t.marks ++ section_of w key)
+            (since_room (since_looked t.since f.0) room).0 in
             let some = entered_looked t.since f.0 in
             omega arith
 
         pub full_puts : IsFullNow k y → Puts k v key value (record { reply = Full; number = 0 }) y
         full_puts full = (
           tried,
-          (refl, record { tried = are_tries since entered; own = since.gone }, full),
+          (
+            refl,
+            record { tried = are_tries since entered; own = since.gone },
+            answered_on (since_looked t.since f.0).gone (was_answered f.0 t.since.gone) left.1 (left.2 v.allowance.place key),
+            full,
+          ),
           needs_room since (no_more y.seen),
         )
+
+        pub full_allowance : KeepsAllowance v y
+        full_allowance = since.gone.allowance
 
         pub full_wait : KeepsWait v y
         full_wait = keeps_wait since y (none_yet y)
 
-        module _ (ends : (c : ℕ) (s : Spot) → IsAt k (Put key value) c (leaf_stage x.hands.hand s) x → IsAt k (Put key value) c at.Finished y) where
+        module _ (ends : (c : ℕ) (s : Spot) → IsAt k (Put key value) c (leaf_stage x.hands.hand s) x
+            → IsAt k (Put key value) c at.Finished y) where
           pub full_quiet : IsQuiet y
           full_quiet = is_quiet (ends 0 spot (spot_ready 0 few))
 
           pub full_tickets : v.allowance.tickets ≤ y.allowance.tickets + 4
-          full_tickets = (let left = has_kept (ends (v.allowance.tickets - 4) spot (spot_ready (v.allowance.tickets - 4) (omega arith))) in omega arith)
+          full_tickets = (let left = has_kept (ends (v.allowance.tickets - 4) spot (spot_ready (v.allowance.tickets - 4) (omega arith))) in
+              omega arith)
 
         -- a filled slot is in hand
-        module _ (filled : (c : ℕ) (s : Spot) → IsAt k (Put key value) c (leaf_stage x.hands.hand s) x → IsAt k (Put key value) c (at.LeafLock s) y) where
+        module _ (filled : (c : ℕ) (s : Spot) → IsAt k (Put key value) c (leaf_stage x.hands.hand s) x
+            → IsAt k (Put key value) c (at.LeafLock s) y) where
           locking : (kept : ℕ) → kept + 4 ≤ v.allowance.tickets → IsAt k (Put key value) kept (at.LeafLock spot) y
           locking kept enough = filled kept spot (spot_ready kept enough)
 
@@ -274,11 +347,17 @@ module _ {k : Shape} {key value : ℕ} {v : View} where
           may_link = (0, locking 0 few)
 
           -- it wasn't linked
-          pub tries_again : {z : View} → Goes y z [] → ((c : ℕ) → IsAt k (Put key value) c (at.LeafLock spot) y → IsAt k (Put key value) c at.EnterClock z) → Trying k key value v z
-          tries_again g again = record { marks = tried; since = since_stays since g; ready = λ kept enough. may_begin (again kept (locking kept enough)) }
+          pub tries_again : {z : View} → Goes y z [] → ((c : ℕ) → IsAt k (Put key value) c (at.LeafLock spot) y
+              → IsAt k (Put key value) c at.EnterClock z) → Trying k key value v z
+          tries_again g again = record {
+            marks = tried;
+            since = since_stays since g;
+            ready = λ kept enough. may_begin (again kept (locking kept enough));
+          }
 
           -- it was linked
-          module _ {z : View} (number : ℕ) (made : (c n : ℕ) → IsAt k (Put key value) c (at.LeafLock spot) y → ◌≡◌ {A = Option ℕ} (Some number) (Some n) → Links y key value n z) where
+          module _ {z : View} (number : ℕ) (made : (c n : ℕ) → IsAt k (Put key value) c (at.LeafLock spot) y
+              → ◌≡◌ {A = Option ℕ} (Some number) (Some n) → Links y key value n z) where
             linked : Links y key value number z
             linked = made 0 number (locking 0 few) refl
 
@@ -286,13 +365,22 @@ module _ {k : Shape} {key value : ℕ} {v : View} where
             same_place = since.gone.same
 
             all_gone : HasGone v z (tried ++ Done (record { caller = v.allowance.place; op = Put key value }) ∷ [])
-            all_gone = subst (λ (p : ℕ). HasGone v z (tried ++ Done (record { caller = p; op = Put key value }) ∷ [])) same_place (gone_on since.gone linked.1.goes.gone)
+            all_gone = subst (λ (p : ℕ). HasGone v z (tried ++ Done (record { caller = p; op = Put key value }) ∷ [])) same_place
+                (gone_on since.gone linked.1.goes.gone)
 
             stands : IsPrefix (linked.0 ++ Done (record { caller = v.allowance.place; op = Put key value }) ∷ []) z.seen
-            stands = ([], append-nil (linked.0 ++ Done (record { caller = v.allowance.place; op = Put key value }) ∷ []) ∙ sym (linked.1.seen ∙ (λ i. linked.0 ++ Done (record { caller = same_place i; op = Put key value }) ∷ [])))
+            stands = (
+              [],
+              append-nil (linked.0 ++ Done (record { caller = v.allowance.place; op = Put key value }) ∷ [])
+                  ∙ sym (linked.1.seen ∙ (λ i. linked.0 ++ Done (record { caller = same_place i; op = Put key value }) ∷ [])),
+            )
 
             newest : IsPrefix z.seen (linked.0 ++ Done (record { caller = v.allowance.place; op = Put key value }) ∷ [])
-            newest = ([], append-nil z.seen ∙ (linked.1.seen ∙ (λ i. linked.0 ++ Done (record { caller = same_place i; op = Put key value }) ∷ [])))
+            newest = (
+              [],
+              append-nil z.seen ∙ (linked.1.seen
+                  ∙ (λ i. linked.0 ++ Done (record { caller = same_place i; op = Put key value }) ∷ [])),
+            )
 
             pub new_puts : Puts k v key value (record { reply = New; number = number }) z
             new_puts = (
@@ -301,7 +389,8 @@ module _ {k : Shape} {key value : ℕ} {v : View} where
                 linked.0,
                 record {
                   tried = are_tries since entered;
-                  own = subst (HasGone v z) (sym (append-nil (tried ++ Done (record { caller = v.allowance.place; op = Put key value }) ∷ []))) all_gone;
+                  own = subst (HasGone v z) (sym (append-nil
+                      (tried ++ Done (record { caller = v.allowance.place; op = Put key value }) ∷ []))) all_gone;
                   since = prefix_trans v.seen y.seen linked.0 since.gone.begins linked.1.since;
                   stands = stands;
                   number_is = linked.1.number_is;
@@ -311,6 +400,9 @@ module _ {k : Shape} {key value : ℕ} {v : View} where
               ),
               needs_room since linked.1.goes.gone.begins,
             )
+
+            pub new_allowance : KeepsAllowance v z
+            new_allowance = all_gone.allowance
 
             pub new_goes : Goes y z (Done (record { caller = y.allowance.place; op = Put key value }) ∷ [])
             new_goes = linked.1.goes
@@ -326,4 +418,5 @@ module _ {k : Shape} {key value : ℕ} {v : View} where
               new_quiet = is_quiet (ends 0 (locking 0 few))
 
               pub new_tickets : v.allowance.tickets ≤ z.allowance.tickets + 4
-              new_tickets = (let left = has_kept (ends (v.allowance.tickets - 4) (locking (v.allowance.tickets - 4) (omega arith))) in omega arith)
+              new_tickets = (let left = has_kept (ends (v.allowance.tickets - 4) (locking (v.allowance.tickets - 4) (omega arith))) in
+                  omega arith)

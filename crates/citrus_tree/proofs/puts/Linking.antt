@@ -39,11 +39,13 @@ module _ (spot : Spot) (life link tag : ℕ) where
 
   all_same : (life ≡ 2 * spot.generation) × (link ≡ 0) × (tag ≡ spot.tag) → as_recorded ≡ true
   all_same (first, second, third) =
-      ap (λ z. z && ((link == 0) && (tag == spot.tag))) (eq-eqb life (2 * spot.generation) first) ∙ ap (λ z. z && (tag == spot.tag)) (eq-eqb link 0 second) ∙ eq-eqb tag spot.tag third
+      ap (λ z. z && ((link == 0) && (tag == spot.tag))) (eq-eqb life (2 * spot.generation) first)
+      ∙ ap (λ z. z && (tag == spot.tag)) (eq-eqb link 0 second) ∙ eq-eqb tag spot.tag third
 
   not_all : (life ≡ 2 * spot.generation → link ≡ 0 → tag ≡ spot.tag → ⊥) → as_recorded ≡ false
   not_all fails = ⊎_elim
-      (λ (first : life ≡ 2 * spot.generation). ap (λ z. z && ((link == 0) && (tag == spot.tag))) (eq-eqb life (2 * spot.generation) first) ∙ ⊎_elim
+      (λ (first : life ≡ 2 * spot.generation). ap (λ z. z && ((link == 0) && (tag == spot.tag))) (eq-eqb life (2 * spot.generation) first)
+      ∙ ⊎_elim
       (λ (second : link ≡ 0). ap (λ z. z && (tag == spot.tag)) (eq-eqb link 0 second) ∙ ne_eqb tag spot.tag (fails first second))
       (λ (other : link ≢ 0). ap (λ z. z && (tag == spot.tag)) (ne_eqb link 0 other))
       (cases_eq link 0))
@@ -76,23 +78,29 @@ module _ {k : Shape} {op : Op} {kept : ℕ} {spot : Spot} {v : View} (a : IsAt k
         checked_locks = keeps_locks (same_locked third) (locks_leaf_tag at2)
 
         pub checked_hand : (leaf : ℕ) → IsSlotOf (Some leaf) v.hands.hand → IsSlotOf (Some leaf) z.hands.hand
-        checked_hand leaf is = keeps_hand (Some leaf) (same_locked third) (keeps_hand (Some leaf) (same_locked second) (keeps_hand (Some leaf) (same_locked first) is))
+        checked_hand leaf is = keeps_hand (Some leaf) (same_locked third)
+            (keeps_hand (Some leaf) (same_locked second) (keeps_hand (Some leaf) (same_locked first) is))
 
-        pub checked_at : (b : Bool) → (b ≡ true → (life ≡ 2 * spot.generation) × (link ≡ 0) × (tag ≡ spot.tag)) → (b ≡ false → life ≡ 2 * spot.generation → link ≡ 0 → tag ≡ spot.tag → ⊥) → IsAt k op kept (held_stage b spot) z
+        pub checked_at : (b : Bool) → (b ≡ true → (life ≡ 2 * spot.generation) × (link ≡ 0) × (tag ≡ spot.tag))
+            → (b ≡ false → life ≡ 2 * spot.generation → link ≡ 0 → tag ≡ spot.tag → ⊥) → IsAt k op kept (held_stage b spot) z
         checked_at true holds fails = passes_leaf_tag at2 third (all_same spot life link tag (holds refl)) 0 refl
         checked_at false holds fails = passes_leaf_tag_again at2 third (not_all spot life link tag (fails refl))
 
 -- what still holds, or doesn't
-pub holds_at : {k : Shape} {op : Op} {kept : ℕ} {y : View} (spot : Spot) (b : Bool) → b ≡ true → IsAt k op kept (held_stage b spot) y → IsAt k op kept (at.Commit (update.Leaf spot) 0) y
+pub holds_at : {k : Shape} {op : Op} {kept : ℕ} {y : View} (spot : Spot) (b : Bool) → b ≡ true → IsAt k op kept (held_stage b spot) y
+    → IsAt k op kept (at.Commit (update.Leaf spot) 0) y
 holds_at {k} {op} {kept} {y} spot b e a = subst (λ z. IsAt k op kept (held_stage z spot) y) e a
 
-pub fails_at : {k : Shape} {op : Op} {kept : ℕ} {y : View} (spot : Spot) (b : Bool) → b ≡ false → IsAt k op kept (held_stage b spot) y → IsAt k op kept (at.Unlock last.Again) y
+pub fails_at : {k : Shape} {op : Op} {kept : ℕ} {y : View} (spot : Spot) (b : Bool) → b ≡ false → IsAt k op kept (held_stage b spot) y
+    → IsAt k op kept (at.Unlock last.Again) y
 fails_at {k} {op} {kept} {y} spot b e a = subst (λ z. IsAt k op kept (held_stage z spot) y) e a
 
-pub settled_leaf : {k : Shape} {op : Op} {kept e : ℕ} {spot : Spot} {y : View} → IsAt k op kept (at.Commit (update.Leaf spot) e) y → y.moving ≡ None
+pub settled_leaf : {k : Shape} {op : Op} {kept e : ℕ} {spot : Spot} {y : View} → IsAt k op kept (at.Commit (update.Leaf spot) e) y
+    → y.moving ≡ None
 settled_leaf a = (((a.fits.point).0).2).2
 
-pub unpaid_leaf : {k : Shape} {op : Op} {kept e : ℕ} {spot : Spot} {y : View} → IsAt k op kept (at.Commit (update.Leaf spot) e) y → y.commit ≡ None
+pub unpaid_leaf : {k : Shape} {op : Op} {kept e : ℕ} {spot : Spot} {y : View} → IsAt k op kept (at.Commit (update.Leaf spot) e) y
+    → y.commit ≡ None
 unpaid_leaf a = (((a.fits.point).0).2).1
 
 hand_if : (z : Bool) (x y : View) (hand : Option Held) → x.hands.hand ≡ hand → y.hands.hand ≡ hand → (cond z x y).hands.hand ≡ hand
@@ -100,8 +108,10 @@ hand_if true x y hand a b = a
 hand_if false x y hand a b = b
 
 -- a lock was tried: the same slot is in hand
-pub hand_locked : {k : Shape} {v w : View} {n s : ℕ} (leaf : ℕ) → Told k v (acts.Lock s) n w → IsSlotOf (Some leaf) v.hands.hand → IsSlotOf (Some leaf) w.hands.hand
-hand_locked {k} {v} {w} {n} {s} leaf t is = subst (IsSlotOf (Some leaf)) (sym (ap (λ (z : View). z.hands.hand) t.goes ∙ hand_if (n == 0) _ _ v.hands.hand refl refl)) is
+pub hand_locked : {k : Shape} {v w : View} {n s : ℕ} (leaf : ℕ) → Told k v (acts.Lock s) n w → IsSlotOf (Some leaf) v.hands.hand
+    → IsSlotOf (Some leaf) w.hands.hand
+hand_locked {k} {v} {w} {n} {s} leaf t is = subst (IsSlotOf (Some leaf))
+    (sym (ap (λ (z : View). z.hands.hand) t.goes ∙ hand_if (n == 0) _ _ v.hands.hand refl refl)) is
 
 -- The lock is tried, the record holds or not, and the leaf is linked.
 module _ {k : Shape} {key value kept : ℕ} {spot : Spot} {v : View} (a : IsAt k (Put key value) kept (at.LeafLock spot) v) where
@@ -138,7 +148,8 @@ module _ {k : Shape} {key value kept : ℕ} {spot : Spot} {v : View} (a : IsAt k
       goes3 odd = goes_stays goes2 (goes_opened odd)
 
       -- it holds
-      module _ {front : ℕ} {o : View} (odd : Opened y front o) (storing : IsAt k (Put key value) kept (at.Store (update.Leaf spot) front) o) (leaf : ℕ) (is : IsSlotOf (Some leaf) y.hands.hand) where
+      module _ {front : ℕ} {o : View} (odd : Opened y front o) (storing : IsAt k (Put key value) kept (at.Store (update.Leaf spot) front) o)
+          (leaf : ℕ) (is : IsSlotOf (Some leaf) y.hands.hand) where
         in_hand : IsSlotOf (Some leaf) o.hands.hand
         in_hand = subst (IsSlotOf (Some leaf)) (sym (ap (λ (x : View). x.hands.hand) odd)) is
 
@@ -156,7 +167,8 @@ module _ {k : Shape} {key value kept : ℕ} {spot : Spot} {v : View} (a : IsAt k
           seen = ap (λ (x : View). x.seen) fourth.goes ∙ ap (λ (p : ℕ). h ++ Done (record { caller = p; op = Put key value }) ∷ []) place
 
           pub is_odd : q.commit ≡ Some (record { found = front; stored = true })
-          is_odd = ap (λ (x : View). x.commit) fourth.goes ∙ ap (λ (c : Commit). Some (record c { stored = true })) (commit_is o _ (ap (λ (x : View). x.commit) odd))
+          is_odd = ap (λ (x : View). x.commit) fourth.goes
+              ∙ ap (λ (c : Commit). Some (record c { stored = true })) (commit_is o _ (ap (λ (x : View). x.commit) odd))
 
           pub evening : IsAt k (Put key value) kept (at.Even (update.Leaf spot) front) q
           evening = passes_store_leaf in_hand storing fourth
@@ -172,7 +184,8 @@ module _ {k : Shape} {key value kept : ℕ} {spot : Spot} {v : View} (a : IsAt k
 
           module _ {t : View} (even : Closed q t) (unlocking : IsAt k (Put key value) kept (at.Unlock (last.New ((front + 2) / 2))) t) where
             last_lock : HasLocks (spot.slot ∷ []) t
-            last_lock = locks_from {v = q} {w = t} (ap (λ (x : View). map (λ (l : HeldLock). l.slot) x.locks) even) (locks_from {v = o} {w = q} (locks_link fourth) (locks_store_leaf storing))
+            last_lock = locks_from {v = q} {w = t} (ap (λ (x : View). map (λ (l : HeldLock). l.slot) x.locks) even)
+                (locks_from {v = o} {w = q} (locks_link fourth) (locks_store_leaf storing))
 
             pub lets_go : IsAsked k t (acts.Unlock spot.slot)
             lets_go = needs_unlock last_lock unlocking
@@ -183,10 +196,14 @@ module _ {k : Shape} {key value kept : ℕ} {spot : Spot} {v : View} (a : IsAt k
 
               pub links : (number : ℕ) → number ≡ (front + 2) / 2 → Links v key value number e
               links number number_is =
-                  let seen_e : e.seen ≡ h ++ Done (record { caller = v.allowance.place; op = Put key value }) ∷ [] = ap (λ (x : View). x.seen) fifth.goes ∙ ap (λ (x : View). x.seen) even ∙ seen in
-                  let us : updates_of q.seen ≡ updates_of h ++ record { caller = v.allowance.place; op = Put key value } ∷ [] = ap updates_of seen ∙ updates_of-append h (Done (record { caller = v.allowance.place; op = Put key value }) ∷ []) in
-                  let long : length (updates_of q.seen) ≡ length (updates_of h) + 1 = ap length us ∙ length-append (updates_of h) (record { caller = v.allowance.place; op = Put key value } ∷ []) in
-                  let counted : front + 2 ≡ 2 * length (updates_of q.seen) = fourth.gains.found (record { found = front; stored = false }) (ap (λ (x : View). x.commit) odd) in (
+                  let seen_e : e.seen ≡ h ++ Done (record { caller = v.allowance.place; op = Put key value }) ∷ [] =
+                  ap (λ (x : View). x.seen) fifth.goes ∙ ap (λ (x : View). x.seen) even ∙ seen in
+                  let us : updates_of q.seen ≡ updates_of h ++ record { caller = v.allowance.place; op = Put key value } ∷ [] =
+                  ap updates_of seen ∙ updates_of-append h (Done (record { caller = v.allowance.place; op = Put key value }) ∷ []) in
+                  let long : length (updates_of q.seen) ≡ length (updates_of h) + 1 =
+                  ap length us ∙ length-append (updates_of h) (record { caller = v.allowance.place; op = Put key value } ∷ []) in
+                  let counted : front + 2 ≡ 2 * length (updates_of q.seen) =
+                  fourth.gains.found (record { found = front; stored = false }) (ap (λ (x : View). x.commit) odd) in (
                     h,
                     record {
                       goes = goes_stays goes4 (goes_stays (goes_closed even) (goes_unlock fifth));

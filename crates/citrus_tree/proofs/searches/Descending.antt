@@ -30,8 +30,10 @@ module _ (k : Shape) (key s : ℕ) (b : Side) (w : View) (slot : IsSlot k s) whe
     may_read some_slot i = needs_key k i.0 key n s b u (on some_slot i.0 i.1) (slot_on some_slot i)
 
     module _ (there : ℕ) (x : View) (second : Told k u (SearchLoad n part.Key) there x) where
-      pub found_at : n ≢ 0 → step_side key there ≡ None → (v : View) → IsSearching v key (at.At s b) w → IsSearching v key (at.Found n s b None) x
+      pub found_at : n ≢ 0 → step_side key there ≡ None → (v : View) → IsSearching v key (at.At s b) w
+          → IsSearching v key (at.Found n s b None) x
       found_at some_slot is v i = read k v key n s b there u x None is (on some_slot v i) second
 
-      pub moved_on : (next : Side) → n ≢ 0 → step_side key there ≡ Some next → (v : View) → IsSearching v key (at.At s b) w → IsSearching v key (at.At n next) x
+      pub moved_on : (next : Side) → n ≢ 0 → step_side key there ≡ Some next → (v : View) → IsSearching v key (at.At s b) w
+          → IsSearching v key (at.At n next) x
       moved_on next some_slot is v i = read k v key n s b there u x (Some next) is (on some_slot v i) second

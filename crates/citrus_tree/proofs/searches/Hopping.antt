@@ -27,17 +27,21 @@ module _ (k : Shape) (key : ℕ) (last : Hop) (s : ℕ) (b : Side) (w : View) (i
   link_searching stands = (stands.0, (at_link stands.0 stands.1).1)
 
   module _ (x : View) where
-    pub moved_on : (c : ℕ) (d : Side) → IsSlot k c → ((v : View) → IsSearching v key (at.At s b) w → IsSearching v key (at.At c d) x) → (v : View) → Stands k v key last s b w → Stands k v key last c d x
+    pub moved_on : (c : ℕ) (d : Side) → IsSlot k c → ((v : View) → IsSearching v key (at.At s b) w → IsSearching v key (at.At c d) x)
+        → (v : View) → Stands k v key last s b w → Stands k v key last c d x
     moved_on c d slot on v stands = subst (λ z. Stands k v key z c d x) (sym is_moved) (slot, on v (at_link v stands).1)
 
-    pub found_at : (c : ℕ) → IsSlot k c → ((v : View) → IsSearching v key (at.At s b) w → IsSearching v key (at.Found c s b None) x) → (v : View) → Stands k v key last s b w → Stands k v key (Found c) c b x
+    pub found_at : (c : ℕ) → IsSlot k c → ((v : View) → IsSearching v key (at.At s b) w → IsSearching v key (at.Found c s b None) x)
+        → (v : View) → Stands k v key last s b w → Stands k v key (Found c) c b x
     found_at c slot on v stands = (refl, slot, (s, b, on v (at_link v stands).1))
 
-    pub ended_at : ((v : View) → IsSearching v key (at.At s b) w → IsSearching v key (at.Missed s b) x) → (v : View) → Stands k v key last s b w → Stands k v key (Ended s b) s b x
+    pub ended_at : ((v : View) → IsSearching v key (at.At s b) w → IsSearching v key (at.Missed s b) x) → (v : View)
+        → Stands k v key last s b w → Stands k v key (Ended s b) s b x
     ended_at on v stands = (refl, refl, (at_link v stands).0, on v (at_link v stands).1)
 
 -- the end of a search that found its key
-module _ (k : Shape) (key : ℕ) (last : Hop) (s : ℕ) (b : Side) (w : View) (c : ℕ) (is : last ≡ Found c) (value : ℕ) (x : View) (t : Told k w (SearchLoad c part.Value) value x) (v : View) (stands : Stands k v key last s b w) where
+module _ (k : Shape) (key : ℕ) (last : Hop) (s : ℕ) (b : Side) (w : View) (c : ℕ) (is : last ≡ Found c) (value : ℕ) (x : View)
+    (t : Told k w (SearchLoad c part.Value) value x) (v : View) (stands : Stands k v key last s b w) where
   at_found : Stands k v key (Found c) s b w
   at_found = subst (λ z. Stands k v key z s b w) is stands
 

@@ -1,5 +1,5 @@
 -- Searches in a section, hop by hop.
-use Rattle.std.proofs.Common.{◌≡◌, ◌/◌, ◌≢◌, ℕ, suc, ◌<◌, ◌&&◌, cond, Bool, true, false, List, [], ◌∷◌, ◌++◌, Option, Some, None, refl, sym, ap, subst, ◌∙◌, arith, eq-eqb, ne_eqb}
+use Rattle.std.proofs.Common.{◌≡◌, ◌/◌, ◌≢◌, ℕ, suc, ◌&&◌, cond, Bool, true, false, List, [], ◌∷◌, ◌++◌, Option, Some, None, refl, sym, ap, subst, ◌∙◌, arith, eq-eqb, ne_eqb}
 use mathlib.Core.List.{IsPrefix}
 use Rattle.prcu_marks.specs.declared.mark.Mark.{Mark}
 use Rattle.prcu_marks.specs.declared.mark.Mark.TheVariants.{Entered, Left as LeftMark}
@@ -54,17 +54,21 @@ same_side-refl Right = refl
 abbrev noting_load : Reading → Field → ℕ → Reading
 noting_load r field n = record r { loads = record { field = field; number = n; stored = false } ∷ r.loads }
 
-link_moves : (r : Reading) (s : ℕ) (b : Side) (n : ℕ) → r.state ≡ At s b → loaded r (Link s b) n ≡ linked_on (noting_load r (Link s b) n) s b n
+link_moves : (r : Reading) (s : ℕ) (b : Side) (n : ℕ) → r.state ≡ At s b
+    → loaded r (Link s b) n ≡ linked_on (noting_load r (Link s b) n) s b n
 link_moves r s b n e =
     let r' : Reading = noting_load r (Link s b) n in
-    ap (λ z. searched r' z (Link s b) n) e ∙ ap (λ z. cond z (linked_on r' s b n) r') (ap (λ z. z && same_side b b) (eq-eqb s s refl) ∙ same_side-refl b)
+    ap (λ z. searched r' z (Link s b) n) e ∙ ap (λ z. cond z (linked_on r' s b n) r')
+    (ap (λ z. z && same_side b b) (eq-eqb s s refl) ∙ same_side-refl b)
 
-key_moves : (r : Reading) (s p : ℕ) (b : Side) (n : ℕ) → r.state ≡ Unread s p b → loaded r (Key s) n ≡ record (noting_load r (Key s) n) { state = key_stand s p b (step_side r.key n) }
+key_moves : (r : Reading) (s p : ℕ) (b : Side) (n : ℕ) → r.state ≡ Unread s p b
+    → loaded r (Key s) n ≡ record (noting_load r (Key s) n) { state = key_stand s p b (step_side r.key n) }
 key_moves r s p b n e =
     let r' : Reading = noting_load r (Key s) n in
     ap (λ z. searched r' z (Key s) n) e ∙ ap (λ z. cond z (record r' { state = key_stand s p b (step_side r'.key n) }) r') (eq-eqb s s refl)
 
-value_moves : (r : Reading) (s p : ℕ) (b : Side) (n : ℕ) → r.state ≡ Found s p b None → loaded r (Value s) n ≡ record (noting_load r (Value s) n) { state = Found s p b (Some n) }
+value_moves : (r : Reading) (s p : ℕ) (b : Side) (n : ℕ) → r.state ≡ Found s p b None
+    → loaded r (Value s) n ≡ record (noting_load r (Value s) n) { state = Found s p b (Some n) }
 value_moves r s p b n e =
     let r' : Reading = noting_load r (Value s) n in
     ap (λ z. searched r' z (Value s) n) e ∙ ap (λ z. cond z (record r' { state = Found s p b (Some n) }) r') (eq-eqb s s refl)
@@ -81,7 +85,8 @@ entry_is : (kind : Kind) → is_entry kind ≡ true → is_of_lookup kind ≡ tr
 entry_is kind e = ap (λ z. cond (is_load kind) true (cond z true (is_exit kind))) e ∙ either_true (is_load kind)
 
 exit_is : (kind : Kind) → is_exit kind ≡ true → is_of_lookup kind ≡ true
-exit_is kind e = ap (λ z. cond (is_load kind) true (cond (is_entry kind) true z)) e ∙ ap (λ z. cond (is_load kind) true z) (either_true (is_entry kind)) ∙ either_true (is_load kind)
+exit_is kind e = ap (λ z. cond (is_load kind) true (cond (is_entry kind) true z)) e
+    ∙ ap (λ z. cond (is_load kind) true z) (either_true (is_entry kind)) ∙ either_true (is_load kind)
 
 pub root_is : (k : Shape) → IsSlot k 0
 root_is k = record { inside = omega arith; fits = omega arith }
@@ -103,12 +108,15 @@ module _ (k : Shape) (v : View) (key : ℕ) where
   }
 
   -- a load, after which what it found out is known
-  pub moved_as : (state state' : SearchState) (s : ℕ) (p : Part) (n : ℕ) (w x : View) (i : IsSearching v key state w) → Told k w (SearchLoad s p) n x → (r : Reading) → loaded i.reading (in_slot s p) n ≡ r → r.key ≡ key → r.state ≡ state' → IsIn r.stood (state_slot state') → IsIn r.stood (state_parent state')
+  pub moved_as : (state state' : SearchState) (s : ℕ) (p : Part) (n : ℕ) (w x : View) (i : IsSearching v key state w)
+      → Told k w (SearchLoad s p) n x → (r : Reading) → loaded i.reading (in_slot s p) n ≡ r → r.key ≡ key → r.state ≡ state'
+      → IsIn r.stood (state_slot state') → IsIn r.stood (state_parent state')
       → (j : IsSearching v key state' x) × (j.reading ≡ r)
   moved_as state state' s p n w x i t r is sought stands here above =
       let u : View = noted w (SearchLoad s p) n in
       let goes : x ≡ record u { section = Some (record i.entered.section { reading = r }) } =
-      t.goes ∙ ap (λ z. after_search_load u z (in_slot s p) n) (opened w _ i.inside) ∙ ap (λ z. record u { section = Some (record i.entered.section { reading = z }) }) is in
+      t.goes ∙ ap (λ z. after_search_load u z (in_slot s p) n) (opened w _ i.inside)
+      ∙ ap (λ z. record u { section = Some (record i.entered.section { reading = z }) }) is in
       subst (λ z. (j : IsSearching v key state' z) × (j.reading ≡ r)) (sym goes) (
         record {
           entry = i.entry;
@@ -125,59 +133,84 @@ module _ (k : Shape) (v : View) (key : ℕ) where
         refl,
       )
 
-  moved : (state state' : SearchState) (s : ℕ) (p : Part) (n : ℕ) (w x : View) (i : IsSearching v key state w) → Told k w (SearchLoad s p) n x → (r : Reading) → loaded i.reading (in_slot s p) n ≡ r → r.key ≡ key → r.state ≡ state' → IsIn r.stood (state_slot state') → IsIn r.stood (state_parent state') → IsSearching v key state' x
+  moved : (state state' : SearchState) (s : ℕ) (p : Part) (n : ℕ) (w x : View) (i : IsSearching v key state w)
+      → Told k w (SearchLoad s p) n x → (r : Reading) → loaded i.reading (in_slot s p) n ≡ r → r.key ≡ key → r.state ≡ state'
+      → IsIn r.stood (state_slot state') → IsIn r.stood (state_parent state') → IsSearching v key state' x
   moved state state' s p n w x i t r is sought stands here above = (moved_as state state' s p n w x i t r is sought stands here above).0
 
   -- where it stands is a slot of the table
-  pub slot_at : (state : SearchState) (s : ℕ) (p : Part) (n : ℕ) (w x : View) → IsSearching v key state x → Told k w (SearchLoad s p) n x → IsSlot k (state_slot state)
+  pub slot_at : (state : SearchState) (s : ℕ) (p : Part) (n : ℕ) (w x : View) → IsSearching v key state x → Told k w (SearchLoad s p) n x
+      → IsSlot k (state_slot state)
   slot_at state s p n w x i t = t.stood.stood _ (state_slot state) i.inside i.here
 
   -- any part of it may be loaded
-  pub asks : (state : SearchState) (p : Part) (w : View) → IsSearching v key state w → IsSlot k (state_slot state) → IsAsked k w (SearchLoad (state_slot state) p)
-  asks state p w i slot = λ now. (part_word k (state_slot state) p slot.inside, (record i.entered.section { reading = i.reading }, record { section_is = i.inside; searches = i.entered.no_list; stood = i.here; loadable = part_loadable (state_slot state) p }))
+  pub asks : (state : SearchState) (p : Part) (w : View) → IsSearching v key state w → IsSlot k (state_slot state)
+      → IsAsked k w (SearchLoad (state_slot state) p)
+  asks state p w i slot = λ now. (
+    part_word k (state_slot state) p slot.inside,
+    (
+      record i.entered.section { reading = i.reading },
+      record { section_is = i.inside; searches = i.entered.no_list; stood = i.here; loadable = part_loadable (state_slot state) p },
+    ),
+  )
 
   pub needs_link : (s : ℕ) (b : Side) (w : View) → IsSearching v key (At s b) w → IsSlot k s → IsAsked k w (SearchLoad s (part.Link b))
   needs_link s b w i slot = asks (At s b) (part.Link b) w i slot
 
-  at_link : (s : ℕ) (b : Side) (n : ℕ) (w x : View) (i : IsSearching v key (At s b) w) → Told k w (SearchLoad s (part.Link b)) n x → (r : Reading) → linked_on (noting_load i.reading (Link s b) n) s b n ≡ r → (state : SearchState) → r.key ≡ key → r.state ≡ state → IsIn r.stood (state_slot state) → IsIn r.stood (state_parent state) → IsSearching v key state x
-  at_link s b n w x i t r is state sought stands here above = moved (At s b) state s (part.Link b) n w x i t r (link_moves i.reading s b n i.state_is ∙ is) sought stands here above
+  at_link : (s : ℕ) (b : Side) (n : ℕ) (w x : View) (i : IsSearching v key (At s b) w) → Told k w (SearchLoad s (part.Link b)) n x
+      → (r : Reading) → linked_on (noting_load i.reading (Link s b) n) s b n ≡ r → (state : SearchState) → r.key ≡ key → r.state ≡ state
+      → IsIn r.stood (state_slot state) → IsIn r.stood (state_parent state) → IsSearching v key state x
+  at_link s b n w x i t r is state sought stands here above =
+      moved (At s b) state s (part.Link b) n w x i t r (link_moves i.reading s b n i.state_is ∙ is) sought stands here above
 
   -- the link is empty, or leads on
-  pub missed : (s : ℕ) (b : Side) (n : ℕ) (w x : View) → n ≡ 0 → IsSearching v key (At s b) w → Told k w (SearchLoad s (part.Link b)) n x → IsSearching v key (Missed s b) x
+  pub missed : (s : ℕ) (b : Side) (n : ℕ) (w x : View) → n ≡ 0 → IsSearching v key (At s b) w → Told k w (SearchLoad s (part.Link b)) n x
+      → IsSearching v key (Missed s b) x
   missed s b n w x none i t =
       let r : Reading = record (noting_load i.reading (Link s b) n) { state = Missed s b } in
-      at_link s b n w x i t r (ap (λ z. cond z r (record (noting_load i.reading (Link s b) n) { state = Unread n s b; stood = n ∷ i.reading.stood })) (eq-eqb n 0 none)) (Missed s b) i.key_is refl i.here i.here
+      at_link s b n w x i t r (ap (λ z. cond z r (record (noting_load i.reading (Link s b) n)
+      { state = Unread n s b; stood = n ∷ i.reading.stood })) (eq-eqb n 0 none)) (Missed s b) i.key_is refl i.here i.here
 
-  pub reached : (s : ℕ) (b : Side) (n : ℕ) (w x : View) → n ≢ 0 → IsSearching v key (At s b) w → Told k w (SearchLoad s (part.Link b)) n x → IsSearching v key (Unread n s b) x
+  pub reached : (s : ℕ) (b : Side) (n : ℕ) (w x : View) → n ≢ 0 → IsSearching v key (At s b) w → Told k w (SearchLoad s (part.Link b)) n x
+      → IsSearching v key (Unread n s b) x
   reached s b n w x some_slot i t =
       let r : Reading = record (noting_load i.reading (Link s b) n) { state = Unread n s b; stood = n ∷ i.reading.stood } in
-      at_link s b n w x i t r (ap (λ z. cond z (record (noting_load i.reading (Link s b) n) { state = Missed s b }) r) (ne_eqb n 0 some_slot)) (Unread n s b) i.key_is refl (first_in i.reading.stood n) (later_in i.reading.stood n s i.here)
+      at_link s b n w x i t r (ap (λ z. cond z (record (noting_load i.reading (Link s b) n) { state = Missed s b }) r)
+      (ne_eqb n 0 some_slot)) (Unread n s b) i.key_is refl (first_in i.reading.stood n) (later_in i.reading.stood n s i.here)
 
   pub needs_key : (s p : ℕ) (b : Side) (w : View) → IsSearching v key (Unread s p b) w → IsSlot k s → IsAsked k w (SearchLoad s part.Key)
   needs_key s p b w i slot = asks (Unread s p b) part.Key w i slot
 
   -- the key of the slot was loaded
-  pub read : (s p : ℕ) (b : Side) (n : ℕ) (w x : View) (o : Option Side) → step_side key n ≡ o → IsSearching v key (Unread s p b) w → Told k w (SearchLoad s part.Key) n x → IsSearching v key (key_stand s p b o) x
+  pub read : (s p : ℕ) (b : Side) (n : ℕ) (w x : View) (o : Option Side) → step_side key n ≡ o → IsSearching v key (Unread s p b) w
+      → Told k w (SearchLoad s part.Key) n x → IsSearching v key (key_stand s p b o) x
   read s p b n w x None is i t =
       moved (Unread s p b) (Found s p b None) s part.Key n w x i t (record (noting_load i.reading (Key s) n) { state = Found s p b None })
-      (key_moves i.reading s p b n i.state_is ∙ ap (λ z. record (noting_load i.reading (Key s) n) { state = key_stand s p b z }) (ap (λ z. step_side z n) i.key_is ∙ is)) i.key_is refl i.here i.above
+      (key_moves i.reading s p b n i.state_is ∙ ap (λ z. record (noting_load i.reading (Key s) n) { state = key_stand s p b z })
+      (ap (λ z. step_side z n) i.key_is ∙ is)) i.key_is refl i.here i.above
   read s p b n w x (Some c) is i t =
       moved (Unread s p b) (At s c) s part.Key n w x i t (record (noting_load i.reading (Key s) n) { state = At s c })
-      (key_moves i.reading s p b n i.state_is ∙ ap (λ z. record (noting_load i.reading (Key s) n) { state = key_stand s p b z }) (ap (λ z. step_side z n) i.key_is ∙ is)) i.key_is refl i.here i.here
+      (key_moves i.reading s p b n i.state_is ∙ ap (λ z. record (noting_load i.reading (Key s) n) { state = key_stand s p b z })
+      (ap (λ z. step_side z n) i.key_is ∙ is)) i.key_is refl i.here i.here
 
-  pub needs_value : (s p : ℕ) (b : Side) (w : View) → IsSearching v key (Found s p b None) w → IsSlot k s → IsAsked k w (SearchLoad s part.Value)
+  pub needs_value : (s p : ℕ) (b : Side) (w : View) → IsSearching v key (Found s p b None) w → IsSlot k s
+      → IsAsked k w (SearchLoad s part.Value)
   needs_value s p b w i slot = asks (Found s p b None) part.Value w i slot
 
-  pub valued : (s p : ℕ) (b : Side) (n : ℕ) (w x : View) → IsSearching v key (Found s p b None) w → Told k w (SearchLoad s part.Value) n x → IsSearching v key (Found s p b (Some n)) x
+  pub valued : (s p : ℕ) (b : Side) (n : ℕ) (w x : View) → IsSearching v key (Found s p b None) w → Told k w (SearchLoad s part.Value) n x
+      → IsSearching v key (Found s p b (Some n)) x
   valued s p b n w x i t =
-      moved (Found s p b None) (Found s p b (Some n)) s part.Value n w x i t (record (noting_load i.reading (Value s) n) { state = Found s p b (Some n) }) (value_moves i.reading s p b n i.state_is) i.key_is refl i.here i.above
+      moved (Found s p b None) (Found s p b (Some n)) s part.Value n w x i t
+      (record (noting_load i.reading (Value s) n) { state = Found s p b (Some n) })
+      (value_moves i.reading s p b n i.state_is) i.key_is refl i.here i.above
 
   -- a section is open
   pub in_section : (state : SearchState) (w : View) → IsSearching v key state w → (section : Section) × (w.section ≡ Some section)
   in_section state w i = (record i.entered.section { reading = i.reading }, i.inside)
 
   -- the section that was left is the one that was entered
-  section_is : (state : SearchState) (w x : View) (i : IsSearching v key state w) (l : HasLeft w x) → ◌≡◌ {A = Section} l.section (record i.entered.section { reading = i.reading })
+  section_is : (state : SearchState) (w x : View) (i : IsSearching v key state w) (l : HasLeft w x)
+      → ◌≡◌ {A = Section} l.section (record i.entered.section { reading = i.reading })
   section_is state w x i l = let one : Some l.section ≡ Some (record i.entered.section { reading = i.reading }) = sym l.was ∙ i.inside in cc
 
   no_list : (state : SearchState) (w x : View) (i : IsSearching v key state w) (l : HasLeft w x) → l.section.listing ≡ None
@@ -187,63 +220,87 @@ module _ (k : Shape) (v : View) (key : ℕ) where
   state_at state w x i l = ap (λ (z : Section). z.reading.state) (section_is state w x i l) ∙ i.state_is
 
   -- the section was left
-  pub looked : (state : SearchState) (answer : Option ℕ) (w x : View) (i : IsSearching v key state w) (l : HasLeft w x) → WasSaid (updates_of x.seen) l.section.key l.section.from answer → (l : Looked v key answer x) × (l.reading ≡ i.reading)
+  pub looked : (state : SearchState) (answer : Option ℕ) (w x : View) (i : IsSearching v key state w) (l : HasLeft w x)
+      → WasSaid (updates_of x.seen) l.section.key l.section.from answer → (l : Looked v key answer x) × (l.reading ≡ i.reading)
   looked state answer w x i l said =
       let e = i.entered in
       let same : ◌≡◌ {A = Section} l.section (record e.section { reading = i.reading }) = section_is state w x i l in
-      let place : w.allowance.place ≡ v.allowance.place = ap (λ (z : View). z.allowance.place) i.others ∙ ap (λ (z : View). z.allowance.place) e.others in
+      let place : w.allowance.place ≡ v.allowance.place =
+      ap (λ (z : View). z.allowance.place) i.others ∙ ap (λ (z : View). z.allowance.place) e.others in
       let count : l.section.count ≡ v.counts.sections = ap (λ (z : Section). z.count) same ∙ e.count_is in
       let entered : Mark = Entered v.allowance.place v.counts.sections key in
       let marked : w.seen ≡ e.leaves.before ++ entered ∷ [] = ap (λ (z : View). z.seen) i.others ∙ e.leaves.marked in
-      let own : own_of w.allowance.place w.seen ≡ own_of w.allowance.place l.leaves.before = l.leaves.seen.own w.allowance.place (works_there w l.leaves.seen.works) in (
+      let own : own_of w.allowance.place w.seen ≡ own_of w.allowance.place l.leaves.before =
+      l.leaves.seen.own w.allowance.place (works_there w l.leaves.seen.works) in (
         record {
           before = e.leaves.before;
           until = l.leaves.before;
           sees = e.leaves.seen;
           within = subst (λ z. IsPrefix z l.leaves.before) marked l.leaves.seen.begins;
-          between = subst (λ p. own_of p l.leaves.before ≡ own_of p w.seen) place (sym own) ∙ ap (own_of v.allowance.place) marked ∙ own_of-append v.allowance.place e.leaves.before (entered ∷ [])
-              ∙ ap (λ b. own_of v.allowance.place e.leaves.before ++ cond b (entered ∷ []) []) (eq-eqb v.allowance.place v.allowance.place refl);
+          between = subst (λ p. own_of p l.leaves.before ≡ own_of p w.seen) place (sym own) ∙ ap (own_of v.allowance.place) marked
+              ∙ own_of-append v.allowance.place e.leaves.before (entered ∷ [])
+              ∙ ap (λ b. own_of v.allowance.place e.leaves.before ++ cond b (entered ∷ []) [])
+              (eq-eqb v.allowance.place v.allowance.place refl);
           seen = l.leaves.marked ∙ (λ j. l.leaves.before ++ LeftMark (place j) (count j) ∷ []);
-          said = subst (λ (z : ℕ × ℕ). WasSaid (updates_of x.seen) z.0 z.1 answer) (λ j. ((ap (λ (z : Section). z.key) same ∙ e.key_is) j, (ap (λ (z : Section). z.from) same ∙ e.from_is) j)) said;
+          said = subst (λ (z : ℕ × ℕ). WasSaid (updates_of x.seen) z.0 z.1 answer)
+              (λ j. ((ap (λ (z : Section). z.key) same ∙ e.key_is) j, (ap (λ (z : Section). z.from) same ∙ e.from_is) j)) said;
           made = made_both is_of_lookup is_exit is_of_lookup (λ kind is. is) exit_is v.trail w.trail x.trail
               (made_both is_entry is_load is_of_lookup entry_is load_is v.trail i.entry.trail w.trail e.made i.made) l.made;
           reading = i.reading;
           sought = i.key_is;
-          others = l.others ∙ (λ j. record (i.others j) { enter = x.enter; section = None; records = (same j).reading ∷ (i.others j).records; trail = x.trail; seen = x.seen })
-              ∙ (λ j. record (e.others j) { enter = x.enter; section = None; records = i.reading ∷ (e.others j).records; trail = x.trail; seen = x.seen });
+          others = l.others ∙ (λ j. record (i.others j)
+              { enter = x.enter; section = None; records = (same j).reading ∷ (i.others j).records; trail = x.trail; seen = x.seen })
+              ∙ (λ j. record (e.others j) {
+                enter = x.enter;
+                section = None;
+                records = i.reading ∷ (e.others j).records;
+                trail = x.trail;
+                seen = x.seen;
+              });
           informed = l.informed;
         },
         refl,
       )
 
   -- by what the search came to
-  pub looked_missed_as : (s : ℕ) (b : Side) (w x : View) (i : IsSearching v key (Missed s b) w) → HasLeft w x → (l : Looked v key None x) × (l.reading ≡ i.reading)
-  looked_missed_as s b w x i l = looked (Missed s b) None w x i l (l.answer.absent s b (no_list (Missed s b) w x i l) (state_at (Missed s b) w x i l))
+  pub looked_missed_as : (s : ℕ) (b : Side) (w x : View) (i : IsSearching v key (Missed s b) w) → HasLeft w x
+      → (l : Looked v key None x) × (l.reading ≡ i.reading)
+  looked_missed_as s b w x i l = looked (Missed s b) None w x i l
+      (l.answer.absent s b (no_list (Missed s b) w x i l) (state_at (Missed s b) w x i l))
 
   pub looked_missed : (s : ℕ) (b : Side) (w x : View) → IsSearching v key (Missed s b) w → HasLeft w x → Looked v key None x
   looked_missed s b w x i l = (looked_missed_as s b w x i l).0
 
-  pub looked_found : (s p value : ℕ) (b : Side) (w x : View) → IsSearching v key (Found s p b (Some value)) w → HasLeft w x → Looked v key (Some value) x
-  looked_found s p value b w x i l = (looked (Found s p b (Some value)) (Some value) w x i l (l.answer.present s p value b (no_list (Found s p b (Some value)) w x i l) (state_at (Found s p b (Some value)) w x i l))).0
+  pub looked_found : (s p value : ℕ) (b : Side) (w x : View) → IsSearching v key (Found s p b (Some value)) w → HasLeft w x
+      → Looked v key (Some value) x
+  looked_found s p value b w x i l = (looked (Found s p b (Some value)) (Some value) w x i l
+      (l.answer.present s p value b (no_list (Found s p b (Some value)) w x i l) (state_at (Found s p b (Some value)) w x i l))).0
 
   -- where no value was loaded, there was one
-  pub looked_there_as : (s p : ℕ) (b : Side) (w x : View) (i : IsSearching v key (Found s p b None) w) → HasLeft w x → (value : ℕ) × ((l : Looked v key (Some value) x) × (l.reading ≡ i.reading))
+  pub looked_there_as : (s p : ℕ) (b : Side) (w x : View) (i : IsSearching v key (Found s p b None) w) → HasLeft w x
+      → (value : ℕ) × ((l : Looked v key (Some value) x) × (l.reading ≡ i.reading))
   looked_there_as s p b w x i l =
       let state : SearchState = Found s p b None in
       let same = section_is (Found s p b None) w x i l in
-      let said = l.answer.there s p b (no_list (Found s p b None) w x i l) (state_at (Found s p b None) w x i l) (subst (λ (z : Section). IsIn z.reading.stood s) (sym same) i.here)
+      let said = l.answer.there s p b (no_list (Found s p b None) w x i l) (state_at (Found s p b None) w x i l)
+      (subst (λ (z : Section). IsIn z.reading.stood s) (sym same) i.here)
       (subst (λ (z : Section). z.reading.key ≡ z.key) (sym same) (i.key_is ∙ sym i.entered.key_is)) in
       (said.0, looked (Found s p b None) (Some said.0) w x i l said.1)
 
   -- a search that found its key loads the life of the slot
-  found_aged : (s p : ℕ) (b : Side) (life : ℕ) (w x : View) (i : IsSearching v key (Found s p b None) w) → Told k w (SearchLoad s part.Life) life x → (j : IsSearching v key (Found s p b None) x) × (j.reading ≡ noting_load i.reading (Life s) life)
+  found_aged : (s p : ℕ) (b : Side) (life : ℕ) (w x : View) (i : IsSearching v key (Found s p b None) w)
+      → Told k w (SearchLoad s part.Life) life x → (j : IsSearching v key (Found s p b None) x)
+      × (j.reading ≡ noting_load i.reading (Life s) life)
   found_aged s p b life w x i t =
-      moved_as (Found s p b None) (Found s p b None) s part.Life life w x i t (noting_load i.reading (Life s) life) (ap (λ z. searched (noting_load i.reading (Life s) life) z (Life s) life) i.state_is) i.key_is i.state_is i.here i.above
+      moved_as (Found s p b None) (Found s p b None) s part.Life life w x i t (noting_load i.reading (Life s) life)
+      (ap (λ z. searched (noting_load i.reading (Life s) life) z (Life s) life) i.state_is) i.key_is i.state_is i.here i.above
 
-  pub needs_found_life : (s p : ℕ) (b : Side) (w : View) → IsSearching v key (Found s p b None) w → IsSlot k s → IsAsked k w (SearchLoad s part.Life)
+  pub needs_found_life : (s p : ℕ) (b : Side) (w : View) → IsSearching v key (Found s p b None) w → IsSlot k s
+      → IsAsked k w (SearchLoad s part.Life)
   needs_found_life s p b w i slot = asks (Found s p b None) part.Life w i slot
 
-  pub sought : (s p : ℕ) (b : Side) (life generation : ℕ) (w x y : View) → IsSlot k s → IsSearching v key (Found s p b None) w → Told k w (SearchLoad s part.Life) life x → HasLeft x y → generation ≡ life / 2
+  pub sought : (s p : ℕ) (b : Side) (life generation : ℕ) (w x y : View) → IsSlot k s → IsSearching v key (Found s p b None) w
+      → Told k w (SearchLoad s part.Life) life x → HasLeft x y → generation ≡ life / 2
       → Sought k v key (Some (record { slot = s; generation = generation })) y
   sought s p b life generation w x y slot i t left half =
       let j = found_aged s p b life w x i t in
@@ -254,14 +311,23 @@ module _ (k : Shape) (v : View) (key : ℕ) where
         parent = p;
         side = b;
         state_is = ap (λ (r : Reading). r.state) l.1.1 ∙ j.0.state_is;
-        generation_is = (life, ap (λ (r : Reading). known_in r.loads (Life s)) (l.1.1 ∙ j.1) ∙ ap (λ q. cond q (Some life) (known_in i.reading.loads (Life s))) (eq-eqb s s refl), half);
+        generation_is = (
+          life,
+          ap (λ (r : Reading). known_in r.loads (Life s)) (l.1.1 ∙ j.1)
+              ∙ ap (λ q. cond q (Some life) (known_in i.reading.loads (Life s))) (eq-eqb s s refl),
+          half,
+        );
         slot_is = slot;
       }
 
   -- at the end of a search that missed, loads only add what they loaded
-  stays : (s : ℕ) (b : Side) (p : Part) (n : ℕ) (w x : View) (i : IsSearching v key (Missed s b) w) → Told k w (SearchLoad s p) n x → ((r : Reading) → searched r (Missed s b) (in_slot s p) n ≡ r) → (j : IsSearching v key (Missed s b) x) × (j.reading ≡ noting_load i.reading (in_slot s p) n)
+  stays : (s : ℕ) (b : Side) (p : Part) (n : ℕ) (w x : View) (i : IsSearching v key (Missed s b) w) → Told k w (SearchLoad s p) n x
+      → ((r : Reading) → searched r (Missed s b) (in_slot s p) n ≡ r)
+      → (j : IsSearching v key (Missed s b) x) × (j.reading ≡ noting_load i.reading (in_slot s p) n)
   stays s b p n w x i t nowhere =
-      moved_as (Missed s b) (Missed s b) s p n w x i t (noting_load i.reading (in_slot s p) n) (ap (λ z. searched (noting_load i.reading (in_slot s p) n) z (in_slot s p) n) i.state_is ∙ nowhere (noting_load i.reading (in_slot s p) n)) i.key_is i.state_is i.here i.above
+      moved_as (Missed s b) (Missed s b) s p n w x i t (noting_load i.reading (in_slot s p) n)
+      (ap (λ z. searched (noting_load i.reading (in_slot s p) n) z (in_slot s p) n) i.state_is
+      ∙ nowhere (noting_load i.reading (in_slot s p) n)) i.key_is i.state_is i.here i.above
 
   module _ (s : ℕ) (b : Side) (w : View) (i : IsSearching v key (Missed s b) w) (slot : IsSlot k s) where
     pub needs_tag : IsAsked k w (SearchLoad s (part.Tag b))
@@ -284,13 +350,22 @@ module _ (k : Shape) (v : View) (key : ℕ) where
         both : aged.0.reading ≡ noting_load (noting_load i.reading (Tag s b) tag) (Life s) life
         both = aged.1 ∙ ap (λ z. noting_load z (Life s) life) tagged.1
 
-        pub finished : (generation : ℕ) (z : View) → generation ≡ life / 2 → HasLeft y z → (l : Looked v key None z) × Records l.reading (record { slot = s; side = b; generation = generation; tag = tag })
+        pub finished : (generation : ℕ) (z : View) → generation ≡ life / 2 → HasLeft y z
+            → (l : Looked v key None z) × Records l.reading (record { slot = s; side = b; generation = generation; tag = tag })
         finished generation z half left =
             let l = looked_missed_as s b y z aged.0 left in (
               l.0,
               subst (λ r. Records r (record { slot = s; side = b; generation = generation; tag = tag })) (sym l.1) (record {
                 state_is = aged.0.state_is;
-                generation_is = (life, ap (λ r. known_in r.loads (Life s)) both ∙ ap (λ q. cond q (Some life) (known_in (record { field = Tag s b; number = tag; stored = false } ∷ i.reading.loads) (Life s))) (eq-eqb s s refl), half);
-                tag_is = ap (λ r. known_in r.loads (Tag s b)) both ∙ ap (λ q. cond q (Some tag) (known_in i.reading.loads (Tag s b))) (ap (λ q. q && same_side b b) (eq-eqb s s refl) ∙ same_side-refl b);
+                generation_is = (
+                  life,
+                  ap (λ r. known_in r.loads (Life s)) both
+                      ∙ ap (λ q. cond q (Some life) (known_in (record { field = Tag s b; number = tag; stored = false } ∷ i.reading.loads)
+                      (Life s))) (eq-eqb s s refl),
+                  half,
+                );
+                tag_is = ap (λ r. known_in r.loads (Tag s b)) both
+                    ∙ ap (λ q. cond q (Some tag) (known_in i.reading.loads (Tag s b)))
+                    (ap (λ q. q && same_side b b) (eq-eqb s s refl) ∙ same_side-refl b);
               }),
             )

@@ -43,7 +43,11 @@ waits_in-append (Unlinked s ∷ a) b = waits_in-append a b
 waits_in-append (Freed s ∷ a) b = waits_in-append a b
 
 pub listed_on : (s t : SeatAt) → t.listed ≡ s.listed → t.view.hands.retired ≡ s.view.hands.retired → AreListed s → AreListed t
-listed_on s t listed retired are = record { each = λ slot. ap (times slot) listed ∙ are.each slot ∙ ap (λ (rs : List Retired). times slot (map (λ (r : Retired). r.slot) rs)) (sym retired) }
+listed_on s t listed retired are = record {
+  each =
+      λ slot. ap (times slot) listed ∙ are.each slot
+      ∙ ap (λ (rs : List Retired). times slot (map (λ (r : Retired). r.slot) rs)) (sym retired);
+}
 
 -- A call that stands at its first point may begin.
 pub may_begin : {k : Shape} {op : Op} {kept : ℕ} {v : View} → IsAt k op kept at.EnterClock v → MayBegin k op kept v
@@ -64,7 +68,11 @@ module _ {k : Shape} {key value : ℕ} {v : View} where
     goes = goes_same v;
     each = tt;
     none = refl;
-    ready = λ kept few. record { outside = quiet.section; unlocked = quiet.locks; at = λ seated. begins_set quiet seated.works seated.some_place fits few };
+    ready = λ kept few. record {
+      outside = quiet.section;
+      unlocked = quiet.locks;
+      at = λ seated. begins_set quiet seated.works seated.some_place fits few;
+    };
   }
 
   module _ {w : View} (t : Trying k (Set key value) v w) (few : 4 ≤ v.allowance.tickets) where
@@ -88,19 +96,28 @@ module _ {k : Shape} {key value : ℕ} {v : View} where
       goes : Goes v x (t.marks ++ (Entered w.allowance.place w.counts.sections key ∷ (LeftMark w.allowance.place w.counts.sections ∷ [])))
       goes = goes_on t.goes (goes_looked l)
 
-      none : waits_in (t.marks ++ (Entered w.allowance.place w.counts.sections key ∷ (LeftMark w.allowance.place w.counts.sections ∷ []))) ≡ 0
-      none = waits_in-append t.marks (Entered w.allowance.place w.counts.sections key ∷ (LeftMark w.allowance.place w.counts.sections ∷ [])) ∙ ap (λ n. n + 0) t.none
+      none : waits_in (t.marks ++ (Entered w.allowance.place w.counts.sections key ∷ (LeftMark w.allowance.place w.counts.sections ∷ [])))
+          ≡ 0
+      none = waits_in-append t.marks (Entered w.allowance.place w.counts.sections key ∷ (LeftMark w.allowance.place w.counts.sections ∷ []))
+          ∙ ap (λ n. n + 0) t.none
 
-      each : AllByRecursion (IsOfTry v.allowance.place key) (t.marks ++ (Entered w.allowance.place w.counts.sections key ∷ (LeftMark w.allowance.place w.counts.sections ∷ [])))
-      each = all_append (IsOfTry v.allowance.place key) t.marks (Entered w.allowance.place w.counts.sections key ∷ (LeftMark w.allowance.place w.counts.sections ∷ [])) t.each ((place, refl), (place, tt))
+      each : AllByRecursion (IsOfTry v.allowance.place key)
+          (t.marks ++ (Entered w.allowance.place w.counts.sections key ∷ (LeftMark w.allowance.place w.counts.sections ∷ [])))
+      each = all_append (IsOfTry v.allowance.place key) t.marks
+          (Entered w.allowance.place w.counts.sections key ∷ (LeftMark w.allowance.place w.counts.sections ∷ [])) t.each
+          ((place, refl), (place, tt))
 
-      tries : AreTries v.allowance.place key (t.marks ++ (Entered w.allowance.place w.counts.sections key ∷ (LeftMark w.allowance.place w.counts.sections ∷ [])))
+      tries : AreTries v.allowance.place key (t.marks
+          ++ (Entered w.allowance.place w.counts.sections key ∷ (LeftMark w.allowance.place w.counts.sections ∷ [])))
       tries = record {
         each = each;
         entered =
-            (let split = entered_for-append v.allowance.place key t.marks (Entered w.allowance.place w.counts.sections key ∷ (LeftMark w.allowance.place w.counts.sections ∷ [])) in
-            let one : entered_for v.allowance.place key (Entered w.allowance.place w.counts.sections key ∷ (LeftMark w.allowance.place w.counts.sections ∷ [])) ≡ 1 =
-            ap (λ b. cond b (cond (key == key) 1 0) 0 + 0) (eq-eqb w.allowance.place v.allowance.place place) ∙ ap (λ b. cond b 1 0 + 0) (eq-eqb key key refl) in
+            (let split = entered_for-append v.allowance.place key t.marks
+            (Entered w.allowance.place w.counts.sections key ∷ (LeftMark w.allowance.place w.counts.sections ∷ [])) in
+            let one : entered_for v.allowance.place key
+            (Entered w.allowance.place w.counts.sections key ∷ (LeftMark w.allowance.place w.counts.sections ∷ [])) ≡ 1 =
+            ap (λ b. cond b (cond (key == key) 1 0) 0 + 0) (eq-eqb w.allowance.place v.allowance.place place)
+            ∙ ap (λ b. cond b 1 0 + 0) (eq-eqb key key refl) in
             omega arith);
         once = (let n = none in omega arith);
       }
@@ -123,7 +140,8 @@ module _ {k : Shape} {key value : ℕ} {v : View} where
         pub absent_tickets : v.allowance.tickets ≤ x.allowance.tickets + 4
         absent_tickets = (let left = has_kept (done (v.allowance.tickets - 4) (omega arith)) in omega arith)
 
-      pub absent_goes : Goes v x (t.marks ++ (Entered w.allowance.place w.counts.sections key ∷ (LeftMark w.allowance.place w.counts.sections ∷ [])))
+      pub absent_goes : Goes v x (t.marks ++ (Entered w.allowance.place w.counts.sections key
+          ∷ (LeftMark w.allowance.place w.counts.sections ∷ [])))
       absent_goes = goes
 
       pub absent_retired : x.hands.retired ≡ v.hands.retired
@@ -135,13 +153,15 @@ module _ {k : Shape} {key value : ℕ} {v : View} where
     -- the key is there
     module _ {x : View} {holder : Holder} (some_place : 1 ≤ k.places) (f : Sought k w key (Some holder) x) where
       pub locking : (kept : ℕ) → kept + 4 ≤ v.allowance.tickets → IsAt k (Set key value) kept (at.SetLock holder.slot holder.generation) x
-      locking kept enough = at_lock ((t.ready kept enough).at (record { works = f.looked.sees.works; some_place = some_place })) f.looked (f.parent, f.side, f.state_is) f.generation_is f.slot_is.inside
+      locking kept enough = at_lock ((t.ready kept enough).at (record { works = f.looked.sees.works; some_place = some_place })) f.looked
+          (f.parent, f.side, f.state_is) f.generation_is f.slot_is.inside
 
       pub may_store : (b : ℕ) × IsAt k (Set key value) b (at.SetLock holder.slot holder.generation) x
       may_store = (0, locking 0 few)
 
       -- the store wasn't made
-      pub tries_again : {y : View} → Goes x y [] → ((b : ℕ) → IsAt k (Set key value) b (at.SetLock holder.slot holder.generation) x → IsAt k (Set key value) b at.EnterClock y) → Trying k (Set key value) v y
+      pub tries_again : {y : View} → Goes x y [] → ((b : ℕ) → IsAt k (Set key value) b (at.SetLock holder.slot holder.generation) x
+          → IsAt k (Set key value) b at.EnterClock y) → Trying k (Set key value) v y
       tries_again g again = record {
         marks = t.marks ++ (Entered w.allowance.place w.counts.sections key ∷ (LeftMark w.allowance.place w.counts.sections ∷ []));
         goes = goes_stays (goes f.looked) g;
@@ -152,16 +172,22 @@ module _ {k : Shape} {key value : ℕ} {v : View} where
 
       -- it was made
       module _ {y : View} {done_as : Replaced}
-          (s : (b : ℕ) (r : Replaced) → IsAt k (Set key value) b (at.SetLock holder.slot holder.generation) x → ◌≡◌ {A = Option Replaced} (Some done_as) (Some r) → Stores x key value r y)
-          (at_done : (b : ℕ) → IsAt k (Set key value) b (at.SetLock holder.slot holder.generation) x → IsAt k (Set key value) b at.Finished y) where
+          (s : (b : ℕ) (r : Replaced) → IsAt k (Set key value) b (at.SetLock holder.slot holder.generation) x
+          → ◌≡◌ {A = Option Replaced} (Some done_as) (Some r) → Stores x key value r y)
+          (at_done : (b : ℕ) → IsAt k (Set key value) b (at.SetLock holder.slot holder.generation) x
+          → IsAt k (Set key value) b at.Finished y) where
         is_stored : Stores x key value done_as y
         is_stored = s 0 done_as (locking 0 few) refl
 
         same_place : x.allowance.place ≡ v.allowance.place
         same_place = (goes f.looked).gone.same
 
-        pub goes_all : Goes v y ((t.marks ++ (Entered w.allowance.place w.counts.sections key ∷ (LeftMark w.allowance.place w.counts.sections ∷ []))) ++ Done (record { caller = v.allowance.place; op = Set key value }) ∷ [])
-        goes_all = subst (λ (p : ℕ). Goes v y ((t.marks ++ (Entered w.allowance.place w.counts.sections key ∷ (LeftMark w.allowance.place w.counts.sections ∷ []))) ++ Done (record { caller = p; op = Set key value }) ∷ [])) same_place
+        pub goes_all : Goes v y ((t.marks ++ (Entered w.allowance.place w.counts.sections key
+            ∷ (LeftMark w.allowance.place w.counts.sections ∷ [])))
+            ++ Done (record { caller = v.allowance.place; op = Set key value }) ∷ [])
+        goes_all = subst (λ (p : ℕ). Goes v y ((t.marks
+            ++ (Entered w.allowance.place w.counts.sections key ∷ (LeftMark w.allowance.place w.counts.sections ∷ [])))
+            ++ Done (record { caller = p; op = Set key value }) ∷ [])) same_place
             (goes_on (goes f.looked) is_stored.1.goes)
 
         pub stored_sets : Sets v key value (record { reply = Was done_as.old; number = done_as.number }) y
@@ -171,9 +197,15 @@ module _ {k : Shape} {key value : ℕ} {v : View} where
             is_stored.0,
             record {
               tried = tries f.looked;
-              own = subst (HasGone v y) (sym (append-nil ((t.marks ++ (Entered w.allowance.place w.counts.sections key ∷ (LeftMark w.allowance.place w.counts.sections ∷ []))) ++ Done (record { caller = v.allowance.place; op = Set key value }) ∷ []))) goes_all.gone;
+              own = subst (HasGone v y) (sym (append-nil
+                  ((t.marks ++ (Entered w.allowance.place w.counts.sections key ∷ (LeftMark w.allowance.place w.counts.sections ∷ [])))
+                  ++ Done (record { caller = v.allowance.place; op = Set key value }) ∷ []))) goes_all.gone;
               since = prefix_trans v.seen x.seen is_stored.0 (goes f.looked).gone.begins is_stored.1.since;
-              stands = ([], append-nil (is_stored.0 ++ Done (record { caller = v.allowance.place; op = Set key value }) ∷ []) ∙ sym (is_stored.1.seen ∙ (λ i. is_stored.0 ++ Done (record { caller = same_place i; op = Set key value }) ∷ [])));
+              stands = (
+                [],
+                append-nil (is_stored.0 ++ Done (record { caller = v.allowance.place; op = Set key value }) ∷ [])
+                    ∙ sym (is_stored.1.seen ∙ (λ i. is_stored.0 ++ Done (record { caller = same_place i; op = Set key value }) ∷ [])),
+              );
               number_is = is_stored.1.number_is;
               legal = is_stored.1.legal;
             },

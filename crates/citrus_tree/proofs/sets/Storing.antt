@@ -59,25 +59,36 @@ module _ {k : Shape} {kept key value : ℕ} where
       (none, subst (λ h. HandFits h a.own.hand_life (key_now a.own) (value_in a.own.op) v.hands.hand) none calm.1)
 
   -- its search has left the section with a record
-  pub at_lock : {v w : View} {old : ℕ} {holder : Holder} → IsAt k (Set key value) kept at.EnterClock v → (l : Looked v key (Some old) w) → (p : ℕ) × (b : Side) × (l.reading.state ≡ Found holder.slot p b None)
-      → LoadedGeneration l.reading holder.slot holder.generation → holder.slot < slot_count k → IsAt k (Set key value) kept (at.SetLock holder.slot holder.generation) w
+  pub at_lock : {v w : View} {old : ℕ} {holder : Holder} → IsAt k (Set key value) kept at.EnterClock v → (l : Looked v key (Some old) w)
+      → (p : ℕ) × (b : Side) × (l.reading.state ≡ Found holder.slot p b None)
+      → LoadedGeneration l.reading holder.slot holder.generation → holder.slot < slot_count k
+      → IsAt k (Set key value) kept (at.SetLock holder.slot holder.generation) w
   at_lock {v} {w} {old} {holder} a l found generation below =
       let none = no_hand a in
       let bare = ((a.fits.point).1).0 in
-      subst (λ (z : View). IsAt k (Set key value) kept (at.SetLock holder.slot holder.generation) z) (sym l.others) (moves_on a a.own refl (record {
+      subst (λ (z : View). IsAt k (Set key value) kept (at.SetLock holder.slot holder.generation) z) (sym l.others)
+      (moves_on a a.own refl (record {
         owns = a.fits.owns;
         tickets = a.fits.tickets;
         unraised = a.fits.unraised;
         point = (
           (refl, bare.1, bare.2, bare.3, bare.4, none.1, none.0),
           bare.0,
-          (l.reading, (0, refl), l.sought ∙ sym (ap key_of a.op_is), (found.0, found.1, None, found.2), generation, (let s = a.slots_are in let p = a.places_are in omega arith)),
+          (
+            l.reading,
+            (0, refl),
+            l.sought ∙ sym (ap key_of a.op_is),
+            (found.0, found.1, None, found.2),
+            generation,
+            (let s = a.slots_are in let p = a.places_are in omega arith),
+          ),
           ap is_set a.op_is,
         );
       }))
 
   -- or found nothing: the call is over
-  pub at_end : {v w : View} {answer : Option ℕ} → IsAt k (Set key value) kept at.EnterClock v → Looked v key answer w → IsDone k (Set key value) kept w
+  pub at_end : {v w : View} {answer : Option ℕ} → IsAt k (Set key value) kept at.EnterClock v → Looked v key answer w
+      → IsDone k (Set key value) kept w
   at_end {v} {w} {answer} a l =
       let none = no_hand a in
       let bare = ((a.fits.point).1).0 in
@@ -148,7 +159,8 @@ module _ {k : Shape} {key kept value s g : ℕ} {v : View} (a : IsAt k (Set key 
             pub unpaid : z.commit ≡ None
             unpaid = (((committing.fits.point).0).1).0.1
 
-            module _ {front : ℕ} {o : View} (odd : Opened z front o) (storing : IsAt k (Set key value) kept (at.Store (update.Value s old) front) o) where
+            module _ {front : ℕ} {o : View} (odd : Opened z front o)
+                (storing : IsAt k (Set key value) kept (at.Store (update.Value s old) front) o) where
               goes4 : Goes v o []
               goes4 = goes_stays goes3 (goes_opened odd)
 
@@ -163,10 +175,12 @@ module _ {k : Shape} {key kept value s g : ℕ} {v : View} (a : IsAt k (Set key 
                 place = goes4.gone.same
 
                 seen : q.seen ≡ h ++ Done (record { caller = v.allowance.place; op = Set key value }) ∷ []
-                seen = ap (λ (x : View). x.seen) fourth.goes ∙ ap (λ (p : ℕ). h ++ Done (record { caller = p; op = Set key value }) ∷ []) place
+                seen = ap (λ (x : View). x.seen) fourth.goes
+                    ∙ ap (λ (p : ℕ). h ++ Done (record { caller = p; op = Set key value }) ∷ []) place
 
                 pub is_odd : q.commit ≡ Some (record { found = front; stored = true })
-                is_odd = ap (λ (x : View). x.commit) fourth.goes ∙ ap (λ (c : Commit). Some (record c { stored = true })) (commit_is o _ (ap (λ (x : View). x.commit) odd))
+                is_odd = ap (λ (x : View). x.commit) fourth.goes
+                    ∙ ap (λ (c : Commit). Some (record c { stored = true })) (commit_is o _ (ap (λ (x : View). x.commit) odd))
 
                 pub evening : IsAt k (Set key value) kept (at.Even (update.Value s old) front) q
                 evening = passes_store_value storing fourth
@@ -180,9 +194,11 @@ module _ {k : Shape} {key kept value s g : ℕ} {v : View} (a : IsAt k (Set key 
                       waits = ap (λ (x : View). x.counts.waits) fourth.goes;
                     }))
 
-                module _ {t : View} (even : Closed q t) (unlocking : IsAt k (Set key value) kept (at.Unlock (last.Was old ((front + 2) / 2))) t) where
+                module _ {t : View} (even : Closed q t) (unlocking : IsAt k (Set key value) kept
+                    (at.Unlock (last.Was old ((front + 2) / 2))) t) where
                   last_lock : HasLocks (s ∷ []) t
-                  last_lock = locks_from {v = q} {w = t} (ap (λ (x : View). map (λ (l : HeldLock). l.slot) x.locks) even) (locks_from {v = o} {w = q} (locks_replace fourth) (locks_store_value storing))
+                  last_lock = locks_from {v = q} {w = t} (ap (λ (x : View). map (λ (l : HeldLock). l.slot) x.locks) even)
+                      (locks_from {v = o} {w = q} (locks_replace fourth) (locks_store_value storing))
 
                   pub lets_go : IsAsked k t (acts.Unlock s)
                   lets_go = needs_unlock last_lock unlocking
@@ -193,10 +209,15 @@ module _ {k : Shape} {key kept value s g : ℕ} {v : View} (a : IsAt k (Set key 
 
                     pub stored : (done : Replaced) → done.old ≡ old → done.number ≡ (front + 2) / 2 → Stores v key value done e
                     stored done old_is number_is =
-                        let seen_e : e.seen ≡ h ++ Done (record { caller = v.allowance.place; op = Set key value }) ∷ [] = ap (λ (x : View). x.seen) fifth.goes ∙ ap (λ (x : View). x.seen) even ∙ seen in
-                        let us : updates_of q.seen ≡ updates_of h ++ record { caller = v.allowance.place; op = Set key value } ∷ [] = ap updates_of seen ∙ updates_of-append h (Done (record { caller = v.allowance.place; op = Set key value }) ∷ []) in
-                        let long : length (updates_of q.seen) ≡ length (updates_of h) + 1 = ap length us ∙ length-append (updates_of h) (record { caller = v.allowance.place; op = Set key value } ∷ []) in
-                        let counted : front + 2 ≡ 2 * length (updates_of q.seen) = (fourth.gains.counted).found (record { found = front; stored = false }) (ap (λ (x : View). x.commit) odd) in (
+                        let seen_e : e.seen ≡ h ++ Done (record { caller = v.allowance.place; op = Set key value }) ∷ [] =
+                        ap (λ (x : View). x.seen) fifth.goes ∙ ap (λ (x : View). x.seen) even ∙ seen in
+                        let us : updates_of q.seen ≡ updates_of h ++ record { caller = v.allowance.place; op = Set key value } ∷ [] =
+                        ap updates_of seen ∙ updates_of-append h
+                        (Done (record { caller = v.allowance.place; op = Set key value }) ∷ []) in
+                        let long : length (updates_of q.seen) ≡ length (updates_of h) + 1 =
+                        ap length us ∙ length-append (updates_of h) (record { caller = v.allowance.place; op = Set key value } ∷ []) in
+                        let counted : front + 2 ≡ 2 * length (updates_of q.seen) =
+                        (fourth.gains.counted).found (record { found = front; stored = false }) (ap (λ (x : View). x.commit) odd) in (
                           h,
                           record {
                             goes = goes_stays goes5 (goes_stays (goes_closed even) (goes_unlock fifth));

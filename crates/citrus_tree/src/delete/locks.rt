@@ -63,8 +63,10 @@ pub(crate) fn lock_target<W: WaitPart>(
     requires table { seat.old.table ≡ table.now }
     requires at { StandsAt (shape_of W.WAY table.now) (at.TargetLock target.now 0) seat.old.view }
     ensures seat { (seat.new.table ≡ seat.old.table) × (seat.new.listed ≡ seat.old.listed) }
-    ensures got { result ≡ true → Comes (shape_of W.WAY table.now) (at.TargetLock target.now 0) seat.old.view (at.TargetLoad target.now 0 nothing_found) seat.new.view }
-    ensures busy { result ≡ false → Comes (shape_of W.WAY table.now) (at.TargetLock target.now 0) seat.old.view at.EnterClock seat.new.view }
+    ensures got { result ≡ true → Comes (shape_of W.WAY table.now) (at.TargetLock target.now 0) seat.old.view
+        (at.TargetLoad target.now 0 nothing_found) seat.new.view }
+    ensures busy { result ≡ false → Comes (shape_of W.WAY table.now)
+        (at.TargetLock target.now 0) seat.old.view at.EnterClock seat.new.view }
     ensures same { KeepsRest seat.old.view seat.new.view }
 {
     for at in 0..lock_count(target) {
@@ -123,9 +125,11 @@ pub(crate) fn validate<W: WaitPart>(
     requires table { seat.old.table ≡ table.now }
     requires at { StandsAt (shape_of W.WAY table.now) (at.TargetLoad target.now 0 nothing_found) seat.old.view }
     ensures seat { (seat.new.table ≡ seat.old.table) × (seat.new.listed ≡ seat.old.listed) }
-    ensures holds { IfSome result (λ node. Comes (shape_of W.WAY table.now) (at.TargetLoad target.now 0 nothing_found) seat.old.view (deleting node target.now.successor) seat.new.view) }
+    ensures holds { IfSome result (λ node. Comes (shape_of W.WAY table.now) (at.TargetLoad target.now 0 nothing_found) seat.old.view
+        (deleting node target.now.successor) seat.new.view) }
     ensures node { IfSome result (λ node. IsNodeOf target.now node × AreLivesSmall node target.now.successor) }
-    ensures fails { IfNone result (Comes (shape_of W.WAY table.now) (at.TargetLoad target.now 0 nothing_found) seat.old.view (at.Unlock last.Again) seat.new.view) }
+    ensures fails { IfNone result (Comes (shape_of W.WAY table.now) (at.TargetLoad target.now 0 nothing_found) seat.old.view
+        (at.Unlock last.Again) seat.new.view) }
     ensures locked { HasLocks (first_locks target.now (target_locks target.now)) seat.new.view }
     ensures same { KeepsAll seat.old.view seat.new.view }
 {
@@ -146,7 +150,8 @@ fn load_found<W: WaitPart>(table: &CitrusTable<W>, seat: &mut Seat<W>, target: &
     requires table { seat.old.table ≡ table.now }
     requires at { StandsAt (shape_of W.WAY table.now) (at.TargetLoad target.now 0 nothing_found) seat.old.view }
     ensures seat { (seat.new.table ≡ seat.old.table) × (seat.new.listed ≡ seat.old.listed) }
-    ensures at { Comes (shape_of W.WAY table.now) (at.TargetLoad target.now 0 nothing_found) seat.old.view (verdict target.now result) seat.new.view }
+    ensures at { Comes (shape_of W.WAY table.now) (at.TargetLoad target.now 0 nothing_found) seat.old.view
+        (verdict target.now result) seat.new.view }
     ensures fits { (result.life < 2 ^ 64) × (result.successor_life < 2 ^ 64) }
     ensures same { KeepsAll seat.old.view seat.new.view }
 {
@@ -162,7 +167,8 @@ fn load_node<W: WaitPart>(table: &CitrusTable<W>, seat: &mut Seat<W>, target: &T
     requires table { seat.old.table ≡ table.now }
     requires at { StandsAt (shape_of W.WAY table.now) (at.TargetLoad target.now 0 nothing_found) seat.old.view }
     ensures seat { (seat.new.table ≡ seat.old.table) × (seat.new.listed ≡ seat.old.listed) }
-    ensures at { Comes (shape_of W.WAY table.now) (at.TargetLoad target.now 0 nothing_found) seat.old.view (past_target_load target.now 4 result) seat.new.view }
+    ensures at { Comes (shape_of W.WAY table.now) (at.TargetLoad target.now 0 nothing_found) seat.old.view
+        (past_target_load target.now 4 result) seat.new.view }
     ensures fits { (result.life < 2 ^ 64) × (result.successor_life < 2 ^ 64) }
     ensures same { KeepsAll seat.old.view seat.new.view }
 {
@@ -196,7 +202,8 @@ fn load_successor<W: WaitPart>(
     requires table { seat.old.table ≡ table.now }
     requires at { StandsAt (shape_of W.WAY table.now) (past_target_load (two_children node successor) 4 found) seat.old.view }
     ensures seat { (seat.new.table ≡ seat.old.table) × (seat.new.listed ≡ seat.old.listed) }
-    ensures at { Comes (shape_of W.WAY table.now) (past_target_load (two_children node successor) 4 found) seat.old.view (verdict (two_children node successor) result) seat.new.view }
+    ensures at { Comes (shape_of W.WAY table.now) (past_target_load (two_children node successor) 4 found) seat.old.view
+        (verdict (two_children node successor) result) seat.new.view }
     ensures fits { (result.life ≡ found.life) × (result.successor_life < 2 ^ 64) }
     ensures same { KeepsAll seat.old.view seat.new.view }
 {
@@ -226,7 +233,8 @@ fn load_link<W: WaitPart>(
     requires table { seat.old.table ≡ table.now }
     requires at { StandsAt (shape_of W.WAY table.now) (past_target_load (two_children node successor) 4 found) seat.old.view }
     ensures seat { (seat.new.table ≡ seat.old.table) × (seat.new.listed ≡ seat.old.listed) }
-    ensures at { Comes (shape_of W.WAY table.now) (past_target_load (two_children node successor) 4 found) seat.old.view (at.TargetLoad (two_children node successor) 7 result) seat.new.view }
+    ensures at { Comes (shape_of W.WAY table.now) (past_target_load (two_children node successor) 4 found) seat.old.view
+        (at.TargetLoad (two_children node successor) 7 result) seat.new.view }
     ensures life { result.life ≡ found.life }
     ensures same { KeepsAll seat.old.view seat.new.view }
 {

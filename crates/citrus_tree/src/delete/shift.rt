@@ -1,5 +1,5 @@
 //! A node with two children is taken out: its successor moves to its place.
-ghost use Rattle.std.specs.Prelude.{◌≡◌, ◌≢◌, ◌⊎◌, ◌+◌, ◌*◌, ◌^◌, ◌<◌, ◌≤◌, ◌==◌, ℕ, List, [], ◌∷◌, ◌++◌, length, Some, None, IfSome, IfNone};
+ghost use Rattle.std.specs.Prelude.{◌≡◌, ◌≢◌, ◌⊎◌, ◌+◌, ◌*◌, ◌^◌, ◌<◌, ◌≤◌, ◌==◌, ℕ, List, [], ◌∷◌, ◌++◌, length, Some, None, IfSome, IfNone, IfOk};
 ghost use Rattle.list_laws.specs.Counts.{times};
 ghost use Rattle.prcu_marks.specs.declared.mark.Mark.TheVariants.{Began, Ended};
 ghost use Rattle.prcu_model.specs.declared.operation.Op.TheVariants.{Del};
@@ -13,43 +13,47 @@ ghost use Rattle.seat_table.specs.Seats.{AreListed, IsSlotOf, shape_of};
 ghost use Rattle.seat_table.specs.Waits.{HasWaited};
 ghost use Rattle.tree_points.specs.At.{HasLocks, IsAt, IsDone};
 ghost use Rattle.tree_points.specs.Progress.{HasGone};
-ghost use Rattle.citrus_tree.specs.Deletes.{StandsAt, Comes, KeepsAll, KeepsRest, KeepsWaits, HasDeleted, HasCopied, AreLivesSmall, locked_slots, retired_slots};
+ghost use Rattle.citrus_tree.specs.Deletes.{StandsAt, Comes, KeepsAll, KeepsRest, KeepsWaits, HasDeleted, HasCopied, AreLivesSmall, RetiresIf, locked_slots, retired_slots};
 ghost use Rattle.citrus_tree.specs.Gone.{KeepsSlots, KeepsWait};
+ghost use Rattle.citrus_tree.specs.Replies.{IsUnlinkedSince};
 
 use crate::commit::{close_front, open_front};
 use crate::delete::bypass::{settle_side, slot_of};
 use crate::delete::locks::unlock_target;
 use core_points::stage::{Moving, Node, Successor, Target};
-use crossbeam_utils::Backoff;
 use key_interval::Keys;
-use prcu_marks::{Gate, Point, Side};
-use seat_table::{CitrusTable, Part, Poll, Seat, WaitPart, steps};
-use std::sync::Wait;
+use patience::Patience;
+use prcu_marks::{Gate, Side};
+use seat_table::{CitrusTable, Part, Seat, WaitPart, steps, wait_in_grace};
 
 /// Links a copy of the successor in the node's place, waits for the readers that may be on their way to the old one, unlinks that, gives
 /// up all locks, and answers the update's number; or nothing, where the copy's lock is taken.
-pub(crate) fn shift<R: Wait, W: WaitPart, G: Gate>(
-    rt: &R,
+pub(crate) fn shift<P: Patience, W: WaitPart, G: Gate>(
+    patience: &P,
     table: &CitrusTable<W>,
     seat: &mut Seat<W>,
     gate: &G,
     key: u64,
     node: Node,
     successor: Successor,
-) -> Option<u64>
+) -> Result<Option<u64>, P::Tired>
     requires table { seat.old.table ≡ table.now }
     requires at { (kept : ℕ) × IsAt (shape_of W.WAY table.now) (Del key) kept (at.SuccessorKey node successor) seat.old.view }
     requires small { AreLivesSmall node (Some successor) }
     requires listed { AreListed seat.old }
     ensures table { seat.new.table ≡ seat.old.table }
-    ensures done { IfSome result (λ number. (kept : ℕ) → IsAt (shape_of W.WAY table.now) (Del key) kept (at.SuccessorKey node successor) seat.old.view → IsDone (shape_of W.WAY table.now) (Del key) kept seat.new.view) }
-    ensures deleted { IfSome result (λ number. HasDeleted seat.old.view key number seat.new.view) }
-    ensures again { IfNone result (Comes (shape_of W.WAY table.now) (at.SuccessorKey node successor) seat.old.view at.EnterClock seat.new.view) }
-    ensures same { IfNone result (KeepsRest seat.old.view seat.new.view) }
-    ensures waits { IfSome result (λ _. KeepsWait seat.old.view seat.new.view) }
-    ensures slots { KeepsSlots seat.old seat.new }
-    ensures listed { AreListed seat.new }
-    ensures informed { IfSome result (λ number. IsInformed seat.new.view) }
+    ensures done { IfOk result (λ answer. IfSome answer
+        (λ number. (kept : ℕ) → IsAt (shape_of W.WAY table.now) (Del key) kept (at.SuccessorKey node successor) seat.old.view
+        → IsDone (shape_of W.WAY table.now) (Del key) kept seat.new.view)) }
+    ensures deleted { IfOk result (λ answer. IfSome answer (λ number. HasDeleted seat.old.view key number seat.new.view)) }
+    ensures retires { IfOk result (λ answer. RetiresIf seat.old key answer seat.new) }
+    ensures again { IfOk result (λ answer. IfNone answer
+        (Comes (shape_of W.WAY table.now) (at.SuccessorKey node successor) seat.old.view at.EnterClock seat.new.view)) }
+    ensures same { IfOk result (λ answer. IfNone answer (KeepsRest seat.old.view seat.new.view)) }
+    ensures waits { IfOk result (λ answer. IfSome answer (λ _. KeepsWait seat.old.view seat.new.view)) }
+    ensures slots { IfOk result (λ _. KeepsSlots seat.old seat.new) }
+    ensures listed { IfOk result (λ _. AreListed seat.new) }
+    ensures informed { IfOk result (λ answer. IfSome answer (λ number. IsInformed seat.new.view)) }
 {
     let Some(copy) = seat.spare() else {
         unreachable!()
@@ -63,9 +67,9 @@ pub(crate) fn shift<R: Wait, W: WaitPart, G: Gate>(
             successor: Some(successor),
         };
         unlock_target(table, seat, &target);
-        return None;
+        return Ok(None);
     }
-    let number = link_copy(rt, table, seat, node, successor, copy, key, next_key);
+    let number = link_copy(patience, table, seat, node, successor, copy, key, next_key)?;
     let moving = Moving {
         node,
         successor,
@@ -73,8 +77,8 @@ pub(crate) fn shift<R: Wait, W: WaitPart, G: Gate>(
         next_key,
         number,
     };
-    finish(rt, table, seat, gate, key, moving);
-    Some(number)
+    finish(patience, table, seat, gate, key, moving)?;
+    Ok(Some(number))
 }
 
 // Fills the spare with the successor's pair and the node's links, and answers the successor's key.
@@ -89,7 +93,8 @@ fn fill_copy<W: WaitPart>(
     requires at { StandsAt (shape_of W.WAY table.now) (at.SuccessorKey node successor) seat.old.view }
     requires spare { IsSlotOf (Some copy) seat.old.view.hands.spare }
     ensures seat { (seat.new.table ≡ seat.old.table) × (seat.new.listed ≡ seat.old.listed) }
-    ensures at { Comes (shape_of W.WAY table.now) (at.SuccessorKey node successor) seat.old.view (at.CopyLock node successor result) seat.new.view }
+    ensures at { Comes (shape_of W.WAY table.now) (at.SuccessorKey node successor) seat.old.view
+        (at.CopyLock node successor result) seat.new.view }
     ensures spare { IsSlotOf (Some copy) seat.new.view.hands.spare }
     ensures same { KeepsAll seat.old.view seat.new.view }
 {
@@ -116,8 +121,8 @@ fn fill_copy<W: WaitPart>(
 }
 
 // Marks the node, links the copy in its place, and answers the update's number.
-fn link_copy<R: Wait, W: WaitPart>(
-    rt: &R,
+fn link_copy<P: Patience, W: WaitPart>(
+    patience: &P,
     table: &CitrusTable<W>,
     seat: &mut Seat<W>,
     node: Node,
@@ -125,20 +130,31 @@ fn link_copy<R: Wait, W: WaitPart>(
     copy: u32,
     key: u64,
     next_key: u64,
-) -> u64
+) -> Result<u64, P::Tired>
     requires table { seat.old.table ≡ table.now }
     requires at { (kept : ℕ) × IsAt (shape_of W.WAY table.now) (Del key) kept (at.CopyMark node successor next_key) seat.old.view }
     requires spare { IsSlotOf (Some copy) seat.old.view.hands.spare }
     requires small { AreLivesSmall node (Some successor) }
     ensures seat { (seat.new.table ≡ seat.old.table) × (seat.new.listed ≡ seat.old.listed) }
-    ensures at { (kept : ℕ) → IsAt (shape_of W.WAY table.now) (Del key) kept (at.CopyMark node successor next_key) seat.old.view → IsAt (shape_of W.WAY table.now) (Del key) kept (at.Begin (waits.Move (record { node = node; successor = successor; copy = copy; next_key = next_key; number = result }))) seat.new.view }
-    ensures done { (kept : ℕ) → IsAt (shape_of W.WAY table.now) (Del key) kept (at.CopyMark node successor next_key) seat.old.view → HasCopied seat.old.view key next_key result seat.new.view }
-    ensures locked { locked_slots seat.new.view ≡ locked_slots seat.old.view }
-    ensures retired { retired_slots seat.new.view ≡ retired_slots seat.old.view ++ node.node ∷ [] }
-    ensures waits { KeepsWaits seat.old.view seat.new.view }
+    ensures at { IfOk result (λ answer. (kept : ℕ)
+        → IsAt (shape_of W.WAY table.now) (Del key) kept (at.CopyMark node successor next_key) seat.old.view
+        → IsAt (shape_of W.WAY table.now) (Del key) kept
+        (at.Begin (waits.Move (record {
+          node = node;
+          successor = successor;
+          copy = copy;
+          next_key = next_key;
+          number = answer;
+        }))) seat.new.view) }
+    ensures done { IfOk result (λ answer. (kept : ℕ)
+        → IsAt (shape_of W.WAY table.now) (Del key) kept (at.CopyMark node successor next_key) seat.old.view
+        → HasCopied seat.old.view key next_key node.node answer seat.new.view) }
+    ensures locked { IfOk result (λ _. locked_slots seat.new.view ≡ locked_slots seat.old.view) }
+    ensures retired { IfOk result (λ _. retired_slots seat.new.view ≡ retired_slots seat.old.view ++ node.node ∷ []) }
+    ensures waits { IfOk result (λ _. KeepsWaits seat.old.view seat.new.view) }
 {
     steps::mark(table, seat, node.node, 2 * node.generation);
-    let front = open_front(rt, table, seat);
+    let front = open_front(patience, table, seat)?;
     steps::link_copy(
         table,
         seat,
@@ -151,64 +167,51 @@ fn link_copy<R: Wait, W: WaitPart>(
         key,
         next_key,
     );
-    close_front(table, seat, front)
+    Ok(close_front(table, seat, front))
 }
 
 // Ends a move that is pending.
-fn finish<R: Wait, W: WaitPart, G: Gate>(
-    rt: &R,
+fn finish<P: Patience, W: WaitPart, G: Gate>(
+    patience: &P,
     table: &CitrusTable<W>,
     seat: &mut Seat<W>,
     gate: &G,
     key: u64,
     moving: Moving,
-)
+) -> Result<(), P::Tired>
     requires table { seat.old.table ≡ table.now }
     requires at { (kept : ℕ) × IsAt (shape_of W.WAY table.now) (Del key) kept (at.Begin (waits.Move moving)) seat.old.view }
     requires small { 2 * moving.successor.generation < 2 ^ 64 }
-    requires listed { (slot : ℕ) → times slot seat.old.listed + times slot (moving.node.node ∷ []) ≡ times slot (retired_slots seat.old.view) }
+    requires listed { (slot : ℕ) → times slot seat.old.listed + times slot (moving.node.node ∷ [])
+        ≡ times slot (retired_slots seat.old.view) }
     requires few { length seat.old.listed < 15 }
     requires above { key < moving.next_key }
     ensures table { seat.new.table ≡ seat.old.table }
-    ensures done { (kept : ℕ) → IsAt (shape_of W.WAY table.now) (Del key) kept (at.Begin (waits.Move moving)) seat.old.view → IsDone (shape_of W.WAY table.now) (Del key) kept seat.new.view }
-    ensures waited { HasGone seat.old.view seat.new.view (Began seat.old.view.allowance.place seat.old.view.counts.waits (key + 1) moving.next_key ∷ (Ended seat.old.view.allowance.place seat.old.view.counts.waits ∷ [])) }
-    ensures waits { KeepsWait seat.old.view seat.new.view }
-    ensures later { seat.old.view.counts.waits < seat.new.view.counts.waits }
-    ensures listed { AreListed seat.new }
-    ensures informed { IsInformed seat.new.view }
+    ensures done { IfOk result (λ _. (kept : ℕ) → IsAt (shape_of W.WAY table.now) (Del key) kept
+        (at.Begin (waits.Move moving)) seat.old.view → IsDone (shape_of W.WAY table.now) (Del key) kept seat.new.view) }
+    ensures waited { IfOk result (λ _. HasGone seat.old.view seat.new.view
+        (Began seat.old.view.allowance.place seat.old.view.counts.waits (key + 1) moving.next_key
+        ∷ (Ended seat.old.view.allowance.place seat.old.view.counts.waits ∷ []))) }
+    ensures waits { IfOk result (λ _. KeepsWait seat.old.view seat.new.view) }
+    ensures later { IfOk result (λ _. seat.old.view.counts.waits < seat.new.view.counts.waits) }
+    ensures unlinked { IfOk result (λ _. IsUnlinkedSince seat.old.view.seen moving.successor.slot seat.new.view.seen) }
+    ensures listing { IfOk result (λ _. seat.new.listed ≡ seat.old.listed ++ moving.node.node ∷ (moving.successor.slot ∷ [])) }
+    ensures listed { IfOk result (λ _. AreListed seat.new) }
+    ensures informed { IfOk result (λ _. IsInformed seat.new.view) }
 {
     // Between the copy's link and the unlinking: earlier readers may be on their way to the old successor. docs/TREE.md#the-tree
-    wait_in_grace(rt, table, seat, gate, Keys::between(key, moving.next_key));
+    wait_in_grace(
+        patience,
+        table,
+        seat,
+        gate,
+        Keys::between(key, moving.next_key),
+    )?;
     unlink_old(table, seat, moving);
     unlock_all(table, seat, moving);
     seat.list_retired(moving.node.node);
     seat.list_retired(moving.successor.slot);
-}
-
-// Waits until each reader with one of these keys has left that is reading now. It passes the gate once the wait has begun.
-fn wait_in_grace<R: Wait, W: WaitPart, G: Gate>(
-    rt: &R,
-    table: &CitrusTable<W>,
-    seat: &mut Seat<W>,
-    gate: &G,
-    keys: Keys,
-)
-    requires table { seat.old.table ≡ table.now }
-    requires outside { seat.old.view.section ≡ None }
-    requires ticket { 1 ≤ seat.old.view.allowance.tickets }
-    ensures seat { (seat.new.table ≡ seat.old.table) × (seat.new.listed ≡ seat.old.listed) }
-    ensures waited { HasWaited (shape_of W.WAY table.now) seat.old.view keys.low keys.high seat.new.view }
-{
-    let mut grace = W::begin(table, seat, keys);
-    gate.pass(Point::InGrace, seat.place());
-    let backoff = Backoff::new();
-    for _ in rt.forever() {
-        match W::poll(table, seat, &mut grace) {
-            Poll::Over => return,
-            Poll::NotYet { why: _ } => backoff.snooze(),
-        }
-    }
-    unreachable!()
+    Ok(())
 }
 
 // Marks the old successor and unlinks it: from the copy's right, where it was the node's right, else from its parent's left.
@@ -220,6 +223,7 @@ fn unlink_old<W: WaitPart>(table: &CitrusTable<W>, seat: &mut Seat<W>, moving: M
     ensures at { Comes (shape_of W.WAY table.now) (at.OldMark moving) seat.old.view (at.Unlock (last.Gone moving.number)) seat.new.view }
     ensures locked { HasLocks (move_locks moving) seat.new.view }
     ensures gone { HasGone seat.old.view seat.new.view [] }
+    ensures unlinked { IsUnlinkedSince seat.old.view.seen moving.successor.slot seat.new.view.seen }
     ensures retired { retired_slots seat.new.view ≡ retired_slots seat.old.view ++ moving.successor.slot ∷ [] }
     ensures waits { KeepsWaits seat.old.view seat.new.view }
 {
@@ -264,7 +268,8 @@ fn unlock_below<W: WaitPart>(table: &CitrusTable<W>, seat: &mut Seat<W>, moving:
     requires at { StandsAt (shape_of W.WAY table.now) (at.Unlock (last.Gone moving.number)) seat.old.view }
     requires locked { HasLocks (move_locks moving) seat.old.view }
     ensures seat { (seat.new.table ≡ seat.old.table) × (seat.new.listed ≡ seat.old.listed) }
-    ensures at { Comes (shape_of W.WAY table.now) (at.Unlock (last.Gone moving.number)) seat.old.view (at.Unlock (last.Gone moving.number)) seat.new.view }
+    ensures at { Comes (shape_of W.WAY table.now) (at.Unlock (last.Gone moving.number)) seat.old.view
+        (at.Unlock (last.Gone moving.number)) seat.new.view }
     ensures locked { HasLocks (moving.copy ∷ moving.node.node ∷ moving.node.parent ∷ []) seat.new.view }
     ensures same { KeepsRest seat.old.view seat.new.view }
 {

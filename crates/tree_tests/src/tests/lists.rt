@@ -1,19 +1,9 @@
-//! What no clause says: that a list is answered where nobody updates, and given up beside an update that stays under way.
+//! What no clause says: that a list is given up beside an update that stays under way.
 use eer_wait::Eer;
 use exact_list::{Listed, Page, list};
 use key_interval::Keys;
 use seat_table::{CitrusTable, steps};
 use std::test::Fail;
-
-#[test]
-fn an_empty_dictionary_has_no_pair(rt: HostRuntime) -> Result<(), Fail> {
-    let (table, mut seat) = CitrusTable::<Eer>::new(rt.alloc(), 1, 1, 4)?;
-    let mut page = Page::new(rt.alloc(), 2)?;
-    let listed = list(&rt, &table, &mut seat, Keys::all(), &mut page, 1);
-    assert_eq!(rt; listed, Listed::Whole { front: 0 });
-    assert_eq!(rt; (page.count(), page.capacity()), (0, 2));
-    Ok(())
-}
 
 #[test]
 fn a_list_is_given_up_beside_an_update_that_stays_under_way(rt: HostRuntime) -> Result<(), Fail> {

@@ -9,23 +9,36 @@ loop-init g c = record {
   listed = search rules;
   even = c.even_from-expected.ensures.even;
   tried = tried_none c.args.seat.now.view;
-  at = any_begins (shape_of g.W.WaitWords.WAY c.args.table.now) c.args.seat.now.view c.even_from-expected.result c.even_from-expected.ensures.even;
+  at = any_begins
+      (shape_of g.W.WaitWords.WAY c.args.table.now) c.args.seat.now.view c.even_from-expected.result c.even_from-expected.ensures.even;
 }
 
 pub open_commit-found-requires-clause-asks : goal.open_commit-found-requires-clause-asks
-open_commit-found-requires-clause-asks g c = may_open (shape_of g.W.WaitWords.WAY c.args.table.now) c.args.seat.now.view c.loop.seat.view c.loop.invariant.tried c.loop.expected c.loop.invariant.even c.requires.settled c.requires.paid
+open_commit-found-requires-clause-asks g c = may_open
+    (shape_of g.W.WaitWords.WAY c.args.table.now) c.args.seat.now.view c.loop.seat.view c.loop.invariant.tried c.loop.expected
+    c.loop.invariant.even c.requires.settled c.requires.paid
 
 pub returns-then-found-expected-clause-opened : goal.returns-then-found-expected-clause-opened
-returns-then-found-expected-clause-opened g c = opens (shape_of g.W.WaitWords.WAY c.args.table.now) c.args.seat.now.view c.loop.seat.view c.loop.invariant.tried c.loop.expected c.open_commit-found.result c.open_commit-found.new.seat.view c.open_commit-found.ensures.told c.if-found-expected.true
+returns-then-found-expected-clause-opened g c =
+    opens (shape_of g.W.WaitWords.WAY c.args.table.now) c.args.seat.now.view c.loop.seat.view c.loop.invariant.tried c.loop.expected
+    c.open_commit-found.result c.open_commit-found.new.seat.view c.open_commit-found.ensures.told c.if-found-expected.true
 
 pub returns-then-found-expected-clause-at : goal.returns-then-found-expected-clause-at
-returns-then-found-expected-clause-at g c = opens_at (shape_of g.W.WaitWords.WAY c.args.table.now) c.args.seat.now.view c.loop.seat.view c.loop.invariant.tried c.loop.expected c.open_commit-found.result c.open_commit-found.new.seat.view c.open_commit-found.ensures.told c.if-found-expected.true c.loop.invariant.at
+returns-then-found-expected-clause-at g c = opens_at
+    (shape_of g.W.WaitWords.WAY c.args.table.now) c.args.seat.now.view c.loop.seat.view c.loop.invariant.tried c.loop.expected
+    c.open_commit-found.result c.open_commit-found.new.seat.view c.open_commit-found.ensures.told c.if-found-expected.true
+    c.loop.invariant.at
 
 pub loop-preserved : goal.loop-preserved
 loop-preserved g c = record {
   table = search rules;
   listed = search rules;
   even = c.even_from-expected-in-loop.ensures.even;
-  tried = tries (shape_of g.W.WaitWords.WAY c.args.table.now) c.args.seat.now.view c.loop.seat.view c.loop.invariant.tried c.loop.expected c.open_commit-found.result c.open_commit-found.new.seat.view c.open_commit-found.ensures.told c.if-found-expected.false;
-  at = tries_at (shape_of g.W.WaitWords.WAY c.args.table.now) c.args.seat.now.view c.loop.seat.view c.loop.invariant.tried c.loop.expected c.open_commit-found.result c.open_commit-found.new.seat.view c.open_commit-found.ensures.told c.if-found-expected.false c.even_from-expected-in-loop.result c.even_from-expected-in-loop.ensures.even c.loop.invariant.at;
+  tried = tries
+      (shape_of g.W.WaitWords.WAY c.args.table.now) c.args.seat.now.view c.loop.seat.view c.loop.invariant.tried c.loop.expected
+      c.open_commit-found.result c.open_commit-found.new.seat.view c.open_commit-found.ensures.told c.if-found-expected.false;
+  at = tries_at
+      (shape_of g.W.WaitWords.WAY c.args.table.now) c.args.seat.now.view c.loop.seat.view c.loop.invariant.tried c.loop.expected
+      c.open_commit-found.result c.open_commit-found.new.seat.view c.open_commit-found.ensures.told c.if-found-expected.false
+      c.even_from-expected-in-loop.result c.even_from-expected-in-loop.ensures.even c.loop.invariant.at;
 }

@@ -13,5 +13,6 @@ invariant-loop g l = record {
   listed : l.seat.listed ≡ l.fn.seat.listed;
   even : l.expected % 2 ≡ 0;
   tried : Tried l.fn.seat.view l.seat.view;
-  at : (op : Op) (kept e : ℕ) (u : Update) → IsAt (shape_of g.W.WaitWords.WAY l.table) op kept (at.Commit u e) l.fn.seat.view → IsAt (shape_of g.W.WaitWords.WAY l.table) op kept (at.Commit u l.expected) l.seat.view;
+  at : (op : Op) (kept e : ℕ) (u : Update) → IsAt (shape_of g.W.WaitWords.WAY l.table) op kept (at.Commit u e) l.fn.seat.view
+      → IsAt (shape_of g.W.WaitWords.WAY l.table) op kept (at.Commit u l.expected) l.seat.view;
 }

@@ -1,5 +1,18 @@
-use Rattle.std.proofs.Common.{refl, ◌∙◌}
-use Rattle.citrus_tree.proofs.deletes.Tries.{absent_dels, gone_dels, gone_wait, tries_again, tries_first}
+use Rattle.core_points.specs.declared.stage.Stage.TheVariants as at
+use Rattle.std.specs.declared.option.Option.TheVariants.{None}
+use Rattle.std.specs.Option.{IfSome, IfNone}
+use Rattle.seat_table.specs.Gains.{IsInformed}
+use Rattle.citrus_tree.specs.Replies.{WasAnswered}
+use Rattle.citrus_tree.specs.Gone.{KeepsWait}
+use Rattle.citrus_tree.specs.Deletes.{HasDeleted, KeepsRest, RetiresIf}
+use Rattle.core_points.specs.declared.stage.Target.{Target}
+use Rattle.prcu_model.specs.declared.operation.Op.TheVariants.{Del}
+use Rattle.tree_points.specs.At.{IsAt}
+use Rattle.citrus_tree.specs.Going.{MayBegin}
+use Rattle.seat_table.specs.Seats.{shape_of}
+use Rattle.std.specs.declared.option.Option.{Option}
+use Rattle.std.proofs.Common.{refl, ◌∙◌, subst, ℕ}
+use Rattle.citrus_tree.proofs.deletes.Tries.{absent_dels, gone_dels, gone_wait, tried_retires, tries_again, tries_first}
 use Rattle.citrus_tree.proofs.KeepingSlots.{searched_slots, slots_on, slots_self}
 use Rattle.citrus_tree.proofs.delete.delete.Goals as goal
 
@@ -7,6 +20,7 @@ pub loop-init : goal.loop-init
 loop-init g c = record {
   table = refl;
   listed = c.requires.listed;
+  same = refl;
   tries = tries_first _ c.args.key c.args.seat.now.view;
   slots = slots_self c.args.seat.now;
 }
@@ -15,28 +29,73 @@ pub find_target-requires-clause-at : goal.find_target-requires-clause-at
 find_target-requires-clause-at g c = let a = c.requires.at in (a.0, c.loop.invariant.tries.ready a.0 a.1)
 
 pub returns-in_default-clause-dels : goal.returns-in_default-clause-dels
-returns-in_default-clause-dels g c = absent_dels c.loop.invariant.tries c.find_target.ensures.searched c.in_default.ensures.absent
+returns-in_default-clause-dels g c = absent_dels c.loop.invariant.tries c.in_ok-target.ensures.searched
+    (subst (λ (r : Option Target). IfNone r
+    (WasAnswered c.loop.seat.view c.args.key None c.find_target.new.seat.view)) c.in_default.is c.in_ok-target.ensures.absent)
 
 pub take_out-requires-clause-at : goal.take_out-requires-clause-at
-take_out-requires-clause-at g c = let a = c.requires.at in (a.0, c.in-Some-find_target.ensures.found a.0 (c.loop.invariant.tries.ready a.0 a.1))
+take_out-requires-clause-at g c = let a = c.requires.at in (
+  a.0,
+  (subst (λ (r : Option Target). IfSome r
+      (λ target. (kept : ℕ) → MayBegin (shape_of g.W.WaitWords.WAY c.args.table.now) (Del c.args.key) kept c.loop.seat.view
+      → IsAt (shape_of g.W.WaitWords.WAY c.args.table.now) (Del c.args.key) kept
+      (at.TargetLock target 0) c.find_target.new.seat.view)) c.in-Some.is c.in_ok-target.ensures.found) a.0
+      (c.loop.invariant.tries.ready a.0 a.1),
+)
 
-pub returns-in-Some-take_out-clause-dels : goal.returns-in-Some-take_out-clause-dels
-returns-in-Some-take_out-clause-dels g c = gone_dels c.loop.invariant.tries c.find_target.ensures.searched c.in-Some-take_out.ensures.deleted c.in-Some-take_out.ensures.informed
+pub returns-in-Some-2-clause-dels : goal.returns-in-Some-2-clause-dels
+returns-in-Some-2-clause-dels g c = gone_dels c.loop.invariant.tries c.in_ok-target.ensures.searched
+    (subst (λ (r : Option ℕ). IfSome r
+    (λ number. HasDeleted c.find_target.new.seat.view c.args.key number c.take_out.new.seat.view)) c.in-Some-2.is
+    c.in_ok-number.ensures.deleted) (subst (λ (r : Option ℕ). IfSome r
+    (λ number. IsInformed c.take_out.new.seat.view)) c.in-Some-2.is c.in_ok-number.ensures.informed)
 
-pub returns-in-Some-take_out-clause-wait : goal.returns-in-Some-take_out-clause-wait
-returns-in-Some-take_out-clause-wait g c = gone_wait c.loop.invariant.tries c.find_target.ensures.searched c.take_out.new.seat.view c.in-Some-take_out.ensures.waits
+pub returns-in-Some-2-clause-wait : goal.returns-in-Some-2-clause-wait
+returns-in-Some-2-clause-wait g c = gone_wait c.loop.invariant.tries c.in_ok-target.ensures.searched c.take_out.new.seat.view
+    (subst (λ (r : Option ℕ). IfSome r
+    (λ number. KeepsWait c.find_target.new.seat.view c.take_out.new.seat.view)) c.in-Some-2.is c.in_ok-number.ensures.waits)
 
 pub loop-preserved : goal.loop-preserved
 loop-preserved g c = record {
   table = c.take_out.ensures.table ∙ c.find_target.ensures.seat.0 ∙ c.loop.invariant.table;
-  listed = c.take_out.ensures.listed;
-  tries = tries_again c.loop.invariant.tries c.find_target.ensures.searched c.in_default-take_out.ensures.same (λ kept a. c.in_default-take_out.ensures.again kept (c.in-Some-find_target.ensures.found kept a));
-  slots = slots_on c.args.seat.now c.find_target.new.seat c.take_out.new.seat (searched_slots c.args.seat.now c.loop.seat c.find_target.new.seat c.args.key c.loop.invariant.slots c.find_target.ensures.searched c.find_target.ensures.seat.1) c.take_out.ensures.slots;
+  listed = c.in_ok-number.ensures.listed;
+  same = (subst
+      (λ (r : Option ℕ). RetiresIf c.find_target.new.seat c.args.key r c.take_out.new.seat) c.in_default-2.is
+      c.in_ok-number.ensures.retires) ∙ c.find_target.ensures.seat.1 ∙ c.loop.invariant.same;
+  tries = tries_again c.loop.invariant.tries c.in_ok-target.ensures.searched
+      (subst (λ (r : Option ℕ). IfNone r
+      (KeepsRest c.find_target.new.seat.view c.take_out.new.seat.view)) c.in_default-2.is c.in_ok-number.ensures.same)
+      (λ kept a. (subst (λ (r : Option ℕ). IfNone r
+      ((kept : ℕ) → IsAt (shape_of g.W.WaitWords.WAY c.args.table.now) (Del c.args.key) kept
+      (at.TargetLock c.in-Some.target 0) c.find_target.new.seat.view
+      → IsAt (shape_of g.W.WaitWords.WAY c.args.table.now)
+      (Del c.args.key) kept at.EnterClock c.take_out.new.seat.view)) c.in_default-2.is c.in_ok-number.ensures.again) kept
+      ((subst (λ (r : Option Target). IfSome r (λ target. (kept : ℕ)
+      → MayBegin (shape_of g.W.WaitWords.WAY c.args.table.now) (Del c.args.key) kept c.loop.seat.view
+      → IsAt (shape_of g.W.WaitWords.WAY c.args.table.now) (Del c.args.key) kept
+      (at.TargetLock target 0) c.find_target.new.seat.view)) c.in-Some.is c.in_ok-target.ensures.found) kept a));
+  slots = slots_on c.args.seat.now c.find_target.new.seat c.take_out.new.seat
+      (searched_slots c.args.seat.now c.loop.seat c.find_target.new.seat c.args.key c.loop.invariant.slots c.in_ok-target.ensures.searched
+      c.find_target.ensures.seat.1) c.in_ok-number.ensures.slots;
 }
 
 pub returns-in_default-clause-slots : goal.returns-in_default-clause-slots
-returns-in_default-clause-slots g c = searched_slots c.args.seat.now c.loop.seat c.find_target.new.seat c.args.key c.loop.invariant.slots c.find_target.ensures.searched c.find_target.ensures.seat.1
+returns-in_default-clause-slots g c =
+    searched_slots c.args.seat.now c.loop.seat c.find_target.new.seat c.args.key c.loop.invariant.slots c.in_ok-target.ensures.searched
+    c.find_target.ensures.seat.1
 
-pub returns-in-Some-take_out-clause-slots : goal.returns-in-Some-take_out-clause-slots
-returns-in-Some-take_out-clause-slots g c =
-    slots_on c.args.seat.now c.find_target.new.seat c.take_out.new.seat (searched_slots c.args.seat.now c.loop.seat c.find_target.new.seat c.args.key c.loop.invariant.slots c.find_target.ensures.searched c.find_target.ensures.seat.1) c.take_out.ensures.slots
+pub returns-in-Some-2-clause-slots : goal.returns-in-Some-2-clause-slots
+returns-in-Some-2-clause-slots g c =
+    slots_on c.args.seat.now c.find_target.new.seat c.take_out.new.seat
+    (searched_slots c.args.seat.now c.loop.seat c.find_target.new.seat c.args.key c.loop.invariant.slots c.in_ok-target.ensures.searched
+    c.find_target.ensures.seat.1) c.in_ok-number.ensures.slots
+
+pub returns-in_default-clause-retires : goal.returns-in_default-clause-retires
+returns-in_default-clause-retires g c = c.find_target.ensures.seat.1 ∙ c.loop.invariant.same
+
+pub returns-in-Some-2-clause-retires : goal.returns-in-Some-2-clause-retires
+returns-in-Some-2-clause-retires g c =
+    tried_retires c.args.seat.now c.loop.seat c.find_target.new.seat c.take_out.new.seat c.in-Some-2.number c.loop.invariant.tries
+    c.in_ok-target.ensures.searched (c.find_target.ensures.seat.1 ∙ c.loop.invariant.same)
+    (subst (λ (r : Option ℕ). RetiresIf c.find_target.new.seat c.args.key r c.take_out.new.seat) c.in-Some-2.is
+    c.in_ok-number.ensures.retires)

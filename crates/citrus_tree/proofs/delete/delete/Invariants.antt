@@ -8,6 +8,7 @@ abbrev pub invariant-loop : goal.invariant-loop
 invariant-loop g l = record {
   table : l.seat.table ≡ l.fn.seat.table;
   listed : AreListed l.seat;
+  same : l.seat.listed ≡ l.fn.seat.listed;
   tries : TriesToDelete (shape_of g.W.WaitWords.WAY l.table) l.key l.fn.seat.view l.seat.view;
   slots : KeepsSlots l.fn.seat l.seat;
 }

@@ -1,4 +1,4 @@
-use Rattle.std.proofs.Common.{◌<◌, ◌≤◌, length, sym, ap, ◌∙◌, inl, arith}
+use Rattle.std.proofs.Common.{◌<◌, ◌≤◌, length, sym, ap, ◌∙◌, inl, inr, refl, arith}
 use Rattle.node_slots.proofs.Listed.{listed_length}
 use Rattle.tree_points.proofs.Ends.{none_raised}
 use Rattle.citrus_tree.proofs.deletes.Room.{given_spare, ready_at_once, ready_reclaimed, room_reclaimed}
@@ -10,18 +10,25 @@ reclaim-requires-clause-unraised g c = none_raised c.args.seat.now.view.hands.re
 
 pub returns-then-retired-ge15-clause-at : goal.returns-then-retired-ge15-clause-at
 returns-then-retired-ge15-clause-at g c =
-    let many : 15 ≤ length c.args.seat.now.view.hands.retired = (let a = c.if-retired-ge15.true in let b = ap length c.retired.ensures in let e = listed_length c.args.seat.now c.requires.quiet.listed in omega arith) in
-    ready_reclaimed c.requires.quiet.view many c.requires.quiet.listed.each c.reclaim.ensures.view
+    let many : 15 ≤ length c.args.seat.now.view.hands.retired =
+    (let a = c.if-retired-ge15.true in let b = ap length c.retired.ensures in
+    let e = listed_length c.args.seat.now c.requires.quiet.listed in omega arith) in
+    ready_reclaimed c.requires.quiet.view many c.requires.quiet.listed.each c.in_ok-reclaim.ensures.view
 
 pub returns-then-retired-ge15-clause-room : goal.returns-then-retired-ge15-clause-room
 returns-then-retired-ge15-clause-room g c =
-    let many : 15 ≤ length c.args.seat.now.view.hands.retired = (let a = c.if-retired-ge15.true in let b = ap length c.retired.ensures in let e = listed_length c.args.seat.now c.requires.quiet.listed in omega arith) in
-    room_reclaimed c.reclaim.ensures.view (inl many)
+    let many : 15 ≤ length c.args.seat.now.view.hands.retired =
+    (let a = c.if-retired-ge15.true in let b = ap length c.retired.ensures in
+    let e = listed_length c.args.seat.now c.requires.quiet.listed in omega arith) in
+    room_reclaimed c.in_ok-reclaim.ensures.view (inl many)
 
 pub returns-then-is_some-clause-at : goal.returns-then-is_some-clause-at
 returns-then-is_some-clause-at g c =
-    let few : length c.args.seat.now.view.hands.retired < 15 = (let a = c.if-retired-ge15.false in let b = ap length c.retired.ensures in let e = listed_length c.args.seat.now c.requires.quiet.listed in omega arith) in
-    ready_at_once c.requires.quiet.view few (given_spare c.spare.result c.args.seat.now.view.hands.spare c.spare.ensures (sym c.is_some.ensures ∙ c.if-is_some.true))
+    let few : length c.args.seat.now.view.hands.retired < 15 =
+    (let a = c.if-retired-ge15.false in let b = ap length c.retired.ensures in
+    let e = listed_length c.args.seat.now c.requires.quiet.listed in omega arith) in
+    ready_at_once c.requires.quiet.view few (given_spare c.spare.result c.args.seat.now.view.hands.spare c.spare.ensures
+    (sym c.is_some.ensures ∙ c.if-is_some.true))
 
 pub take_spare-requires-clause-few : goal.take_spare-requires-clause-few
 take_spare-requires-clause-few g c =
@@ -31,7 +38,13 @@ take_spare-requires-clause-few g c =
     omega arith
 
 pub returns-then-retired-ge15-clause-slots : goal.returns-then-retired-ge15-clause-slots
-returns-then-retired-ge15-clause-slots g c = slots_reclaimed c.args.seat.now c.reclaim.new.seat c.reclaim.ensures.view
+returns-then-retired-ge15-clause-slots g c = slots_reclaimed c.args.seat.now c.reclaim.new.seat c.in_ok-reclaim.ensures.view
 
 pub returns-then-is_some-clause-slots : goal.returns-then-is_some-clause-slots
 returns-then-is_some-clause-slots g c = slots_self c.args.seat.now
+
+pub returns-then-retired-ge15-clause-kept : goal.returns-then-retired-ge15-clause-kept
+returns-then-retired-ge15-clause-kept g c = inr c.in_ok-reclaim.ensures.listed
+
+pub returns-then-is_some-clause-kept : goal.returns-then-is_some-clause-kept
+returns-then-is_some-clause-kept g c = inl refl

@@ -1,7 +1,10 @@
+use Rattle.seat_table.specs.Seats.{shape_of}
+use Rattle.node_slots.specs.Taking.{Takes}
+use Rattle.node_slots.specs.declared.answers.Taken.{Taken}
 use Rattle.node_slots.proofs.Points.{none_retired_now}
 use Rattle.citrus_tree.proofs.sets.Replacing.{listed_on}
 use Rattle.citrus_tree.proofs.deletes.Room.{may_reclaim_spare, ready_kept, ready_spare, room_kept, room_spare}
-use Rattle.std.proofs.Common.{[], ap, ◌∙◌}
+use Rattle.std.proofs.Common.{[], ap, ◌∙◌, inl, inr, subst}
 use Rattle.core_state.specs.declared.view.View.{View}
 use Rattle.citrus_tree.proofs.KeepingSlots.{slots_goes, slots_on, slots_reclaimed, slots_same}
 use Rattle.citrus_tree.proofs.puts.Filling.{goes_none}
@@ -9,32 +12,67 @@ use Rattle.citrus_tree.specs.Gone.{retired_marks}
 use Rattle.citrus_tree.proofs.delete.take_spare.Goals as goal
 
 pub reclaim-requires-clause-unraised : goal.reclaim-requires-clause-unraised
-reclaim-requires-clause-unraised g c = (may_reclaim_spare c.requires.quiet.view c.requires.few c.requires.none c.in-Empty.ensures.view c.requires.tickets).unraised
+reclaim-requires-clause-unraised g c = (may_reclaim_spare c.requires.quiet.view c.requires.few c.requires.none
+    (subst (λ (r : Taken). Takes
+    (shape_of g.W.WaitWords.WAY c.args.table.now) c.args.seat.now.view r c.take.new.seat.view) c.in-Empty.is c.in_ok-slot.ensures.view)
+    c.requires.tickets).unraised
 
 pub returns-in-Slot-clause-at : goal.returns-in-Slot-clause-at
 returns-in-Slot-clause-at g c =
-    ready_kept c.requires.quiet.view c.requires.few c.requires.none c.in-Slot.ensures.view c.keep_as_spare.ensures.told
+    ready_kept c.requires.quiet.view c.requires.few c.requires.none
+    (subst (λ (r : Taken). Takes
+    (shape_of g.W.WaitWords.WAY c.args.table.now) c.args.seat.now.view r c.take.new.seat.view) c.in-Slot.is c.in_ok-slot.ensures.view)
+    c.keep_as_spare.ensures.told
 
 pub returns-in-Slot-clause-room : goal.returns-in-Slot-clause-room
 returns-in-Slot-clause-room g c =
-    room_kept c.requires.quiet.view c.requires.few c.requires.none c.in-Slot.ensures.view c.keep_as_spare.ensures.told
+    room_kept c.requires.quiet.view c.requires.few c.requires.none
+    (subst (λ (r : Taken). Takes
+    (shape_of g.W.WaitWords.WAY c.args.table.now) c.args.seat.now.view r c.take.new.seat.view) c.in-Slot.is c.in_ok-slot.ensures.view)
+    c.keep_as_spare.ensures.told
 
-pub returns-in-Empty-clause-at : goal.returns-in-Empty-clause-at
-returns-in-Empty-clause-at g c =
-    ready_spare c.requires.quiet.view c.requires.few c.requires.none c.in-Empty.ensures.view
-    (listed_on c.args.seat.now c.take.new.seat c.take.ensures.seat.1 (none_retired_now c.in-Empty.ensures.view) c.requires.quiet.listed).each c.reclaim.ensures.view
+pub returns-in_ok-reclaim-in-Empty-clause-at : goal.returns-in_ok-reclaim-in-Empty-clause-at
+returns-in_ok-reclaim-in-Empty-clause-at g c =
+    ready_spare c.requires.quiet.view c.requires.few c.requires.none
+    (subst (λ (r : Taken). Takes
+    (shape_of g.W.WaitWords.WAY c.args.table.now) c.args.seat.now.view r c.take.new.seat.view) c.in-Empty.is c.in_ok-slot.ensures.view)
+    (listed_on c.args.seat.now c.take.new.seat c.take.ensures.seat.1
+    (none_retired_now (subst (λ (r : Taken). Takes
+    (shape_of g.W.WaitWords.WAY c.args.table.now) c.args.seat.now.view r c.take.new.seat.view) c.in-Empty.is c.in_ok-slot.ensures.view))
+    c.requires.quiet.listed).each c.in_ok-reclaim-in-Empty.ensures.view
 
-pub returns-in-Empty-clause-room : goal.returns-in-Empty-clause-room
-returns-in-Empty-clause-room g c =
-    room_spare c.requires.quiet.view c.requires.few c.requires.none c.in-Empty.ensures.view
-    (listed_on c.args.seat.now c.take.new.seat c.take.ensures.seat.1 (none_retired_now c.in-Empty.ensures.view) c.requires.quiet.listed).each c.reclaim.ensures.view
+pub returns-in_ok-reclaim-in-Empty-clause-room : goal.returns-in_ok-reclaim-in-Empty-clause-room
+returns-in_ok-reclaim-in-Empty-clause-room g c =
+    room_spare c.requires.quiet.view c.requires.few c.requires.none
+    (subst (λ (r : Taken). Takes
+    (shape_of g.W.WaitWords.WAY c.args.table.now) c.args.seat.now.view r c.take.new.seat.view) c.in-Empty.is c.in_ok-slot.ensures.view)
+    (listed_on c.args.seat.now c.take.new.seat c.take.ensures.seat.1
+    (none_retired_now (subst (λ (r : Taken). Takes
+    (shape_of g.W.WaitWords.WAY c.args.table.now) c.args.seat.now.view r c.take.new.seat.view) c.in-Empty.is c.in_ok-slot.ensures.view))
+    c.requires.quiet.listed).each c.in_ok-reclaim-in-Empty.ensures.view
 
 pub returns-in-Slot-clause-slots : goal.returns-in-Slot-clause-slots
 returns-in-Slot-clause-slots g c =
     let t = c.keep_as_spare.ensures.told.goes in
-    let taken = c.in-Slot.ensures.view.rest in
-    slots_same c.args.seat.now c.keep_as_spare.new.seat (ap (λ (x : View). x.counts.waits) t ∙ ap (λ (x : View). x.counts.waits) taken) (ap (λ (x : View). x.wait) t ∙ ap (λ (x : View). x.wait) taken) (ap retired_marks t ∙ ap retired_marks taken)
+    let taken = (subst
+    (λ (r : Taken). Takes
+    (shape_of g.W.WaitWords.WAY c.args.table.now) c.args.seat.now.view r c.take.new.seat.view) c.in-Slot.is
+    c.in_ok-slot.ensures.view).rest in
+    slots_same c.args.seat.now c.keep_as_spare.new.seat (ap (λ (x : View). x.counts.waits) t ∙ ap (λ (x : View). x.counts.waits) taken)
+    (ap (λ (x : View). x.wait) t ∙ ap (λ (x : View). x.wait) taken) (ap retired_marks t ∙ ap retired_marks taken)
     (c.keep_as_spare.ensures.seat.1 ∙ c.take.ensures.seat.1)
 
-pub returns-in-Empty-clause-slots : goal.returns-in-Empty-clause-slots
-returns-in-Empty-clause-slots g c = slots_on c.args.seat.now c.take.new.seat c.reclaim.new.seat (slots_goes c.args.seat.now c.take.new.seat [] (goes_none c.in-Empty.ensures.view) c.take.ensures.seat.1) (slots_reclaimed c.take.new.seat c.reclaim.new.seat c.reclaim.ensures.view)
+pub returns-in_ok-reclaim-in-Empty-clause-slots : goal.returns-in_ok-reclaim-in-Empty-clause-slots
+returns-in_ok-reclaim-in-Empty-clause-slots g c =
+    slots_on c.args.seat.now c.take.new.seat c.reclaim.new.seat
+    (slots_goes c.args.seat.now c.take.new.seat []
+    (goes_none (subst
+    (λ (r : Taken). Takes
+    (shape_of g.W.WaitWords.WAY c.args.table.now) c.args.seat.now.view r c.take.new.seat.view) c.in-Empty.is c.in_ok-slot.ensures.view))
+    c.take.ensures.seat.1) (slots_reclaimed c.take.new.seat c.reclaim.new.seat c.in_ok-reclaim-in-Empty.ensures.view)
+
+pub returns-in-Slot-clause-kept : goal.returns-in-Slot-clause-kept
+returns-in-Slot-clause-kept g c = inl (c.keep_as_spare.ensures.seat.1 ∙ c.take.ensures.seat.1)
+
+pub returns-in_ok-reclaim-in-Empty-clause-kept : goal.returns-in_ok-reclaim-in-Empty-clause-kept
+returns-in_ok-reclaim-in-Empty-clause-kept g c = inr c.in_ok-reclaim-in-Empty.ensures.listed

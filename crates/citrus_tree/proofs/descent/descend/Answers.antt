@@ -8,5 +8,6 @@ loop-init g c = record {
   table = search rules;
   listed = search rules;
   slot = root_is (shape_of g.W.WaitWords.WAY c.args.table.now);
-  searching = begun (shape_of g.W.WaitWords.WAY c.args.table.now) c.args.seat.now.view c.args.key c.enter.new.seat.view c.enter.ensures.entered;
+  searching = begun
+      (shape_of g.W.WaitWords.WAY c.args.table.now) c.args.seat.now.view c.args.key c.enter.new.seat.view c.enter.ensures.entered;
 }

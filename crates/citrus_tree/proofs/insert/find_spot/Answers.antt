@@ -1,3 +1,6 @@
+use Rattle.core_state.specs.parts.ReaderParts.{state_slot}
+use Rattle.citrus_tree.specs.Lookups.{IsSearching, state_of}
+use Rattle.citrus_tree.specs.declared.descent.Descent.{Descent}
 use Rattle.std.proofs.Common.{sym, subst}
 use Rattle.seat_table.specs.Gains.{IsSlot}
 use Rattle.seat_table.specs.Seats.{shape_of}
@@ -6,10 +9,21 @@ use Rattle.citrus_tree.proofs.insert.find_spot.Goals as goal
 
 pub returns-in-Found-clause-searched : goal.returns-in-Found-clause-searched
 returns-in-Found-clause-searched g c =
-    let there = looked_there_as (shape_of g.W.WaitWords.WAY c.args.table.now) c.args.seat.now.view c.args.key c.in-Found.slot c.in-Found.parent c.in-Found.side c.descend.new.seat.view c.leave.new.seat.view c.in-Found.ensures.searching c.leave.ensures.left in
+    let there = looked_there_as
+    (shape_of g.W.WaitWords.WAY c.args.table.now) c.args.seat.now.view c.args.key c.in-Found.slot c.in-Found.parent c.in-Found.side
+    c.descend.new.seat.view c.leave.new.seat.view
+    (subst (λ (d : Descent). IsSearching c.args.seat.now.view c.args.key
+    (state_of d) c.descend.new.seat.view) c.in-Found.is c.in_ok-descend.ensures.searching) c.leave.ensures.left in
     (there.0, there.1.0)
 
 pub returns-in-Ended-clause-searched : goal.returns-in-Ended-clause-searched
 returns-in-Ended-clause-searched g c =
-    let left = c.leave_with_spot.ensures.looked c.args.seat.now.view c.args.key c.in-Ended.ensures.searching in
-    (left.0, left.1, subst (IsSlot (shape_of g.W.WaitWords.WAY c.args.table.now)) (sym c.leave_with_spot.ensures.slot) c.in-Ended.ensures.slot)
+    let left = c.leave_with_spot.ensures.looked c.args.seat.now.view c.args.key
+    (subst (λ (d : Descent). IsSearching c.args.seat.now.view c.args.key
+    (state_of d) c.descend.new.seat.view) c.in-Ended.is c.in_ok-descend.ensures.searching) in (
+      left.0,
+      left.1,
+      subst (IsSlot (shape_of g.W.WaitWords.WAY c.args.table.now)) (sym c.leave_with_spot.ensures.slot)
+          (subst (λ (d : Descent). IsSlot (shape_of g.W.WaitWords.WAY c.args.table.now)
+          (state_slot (state_of d))) c.in-Ended.is c.in_ok-descend.ensures.slot),
+    )

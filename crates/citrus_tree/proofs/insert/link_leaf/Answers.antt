@@ -4,45 +4,69 @@ use Rattle.citrus_tree.proofs.puts.Linking.{checking, fails_at, holds_at, settle
 use Rattle.citrus_tree.proofs.insert.link_leaf.Goals as goal
 
 pub still_holds-requires-clause-at : goal.still_holds-requires-clause-at
-still_holds-requires-clause-at g c = (Put c.args.key c.args.value, c.requires.at.0, checking c.requires.at.1 c.lock.ensures.told c.if-lock-ne0.false)
+still_holds-requires-clause-at g c = (
+  Put c.args.key c.args.value,
+  c.requires.at.0,
+  checking c.requires.at.1 c.lock.ensures.told c.if-lock-ne0.false,
+)
 
 pub unlock-requires-clause-asks : goal.unlock-requires-clause-asks
-unlock-requires-clause-asks g c = gives_up_lock c.requires.at.1 c.lock.ensures.told c.still_holds.ensures.goes c.still_holds.ensures.locked (fails_at c.args.spot c.still_holds.result c.if-not-still_holds.true (c.still_holds.ensures.at _ _ (checking c.requires.at.1 c.lock.ensures.told c.if-lock-ne0.false)))
+unlock-requires-clause-asks g c = gives_up_lock c.requires.at.1 c.lock.ensures.told c.still_holds.ensures.goes c.still_holds.ensures.locked
+    (fails_at c.args.spot c.still_holds.result c.if-not-still_holds.true
+    (c.still_holds.ensures.at _ _ (checking c.requires.at.1 c.lock.ensures.told c.if-lock-ne0.false)))
 
 pub returns-then-not-still_holds-clause-at : goal.returns-then-not-still_holds-clause-at
-returns-then-not-still_holds-clause-at g c kept a = again_at a c.lock.ensures.told c.still_holds.ensures.goes c.still_holds.ensures.locked (fails_at c.args.spot c.still_holds.result c.if-not-still_holds.true (c.still_holds.ensures.at _ _ (checking a c.lock.ensures.told c.if-lock-ne0.false))) c.unlock.ensures.told
+returns-then-not-still_holds-clause-at g c kept a =
+    again_at a c.lock.ensures.told c.still_holds.ensures.goes c.still_holds.ensures.locked
+    (fails_at c.args.spot c.still_holds.result c.if-not-still_holds.true
+    (c.still_holds.ensures.at _ _ (checking a c.lock.ensures.told c.if-lock-ne0.false))) c.unlock.ensures.told
 
-pub open_front-front-requires-clause-settled : goal.open_front-front-requires-clause-settled
-open_front-front-requires-clause-settled g c = settled_leaf (holds_at c.args.spot c.still_holds.result c.if-not-still_holds.false (c.still_holds.ensures.at _ _ (checking c.requires.at.1 c.lock.ensures.told c.if-lock-ne0.false)))
+pub open_front-requires-clause-settled : goal.open_front-requires-clause-settled
+open_front-requires-clause-settled g c = settled_leaf
+    (holds_at c.args.spot c.still_holds.result c.if-not-still_holds.false
+    (c.still_holds.ensures.at _ _ (checking c.requires.at.1 c.lock.ensures.told c.if-lock-ne0.false)))
 
-pub open_front-front-requires-clause-paid : goal.open_front-front-requires-clause-paid
-open_front-front-requires-clause-paid g c = unpaid_leaf (holds_at c.args.spot c.still_holds.result c.if-not-still_holds.false (c.still_holds.ensures.at _ _ (checking c.requires.at.1 c.lock.ensures.told c.if-lock-ne0.false)))
+pub open_front-requires-clause-paid : goal.open_front-requires-clause-paid
+open_front-requires-clause-paid g c = unpaid_leaf
+    (holds_at c.args.spot c.still_holds.result c.if-not-still_holds.false
+    (c.still_holds.ensures.at _ _ (checking c.requires.at.1 c.lock.ensures.told c.if-lock-ne0.false)))
 
 pub link_leaf-requires-clause-asks : goal.link_leaf-requires-clause-asks
 link_leaf-requires-clause-asks g c =
-    let storing = (c.open_front-front.ensures.at _ _ _ _ (holds_at c.args.spot c.still_holds.result c.if-not-still_holds.false (c.still_holds.ensures.at _ _ (checking c.requires.at.1 c.lock.ensures.told c.if-lock-ne0.false)))) in
-    stores_leaf c.requires.at.1 c.lock.ensures.told c.still_holds.ensures.goes c.open_front-front.ensures.opened storing c.args.leaf (c.still_holds.ensures.slot c.args.leaf (hand_locked c.args.leaf c.lock.ensures.told c.requires.slot))
+    let storing = (c.in_ok-front.ensures.at _ _ _ _ (holds_at c.args.spot c.still_holds.result c.if-not-still_holds.false
+    (c.still_holds.ensures.at _ _ (checking c.requires.at.1 c.lock.ensures.told c.if-lock-ne0.false)))) in
+    stores_leaf c.requires.at.1 c.lock.ensures.told c.still_holds.ensures.goes c.in_ok-front.ensures.opened storing c.args.leaf
+    (c.still_holds.ensures.slot c.args.leaf (hand_locked c.args.leaf c.lock.ensures.told c.requires.slot))
 
 pub unlock-requires-2-clause-asks : goal.unlock-requires-2-clause-asks
 unlock-requires-2-clause-asks g c =
-    let storing = (c.open_front-front.ensures.at _ _ _ _ (holds_at c.args.spot c.still_holds.result c.if-not-still_holds.false (c.still_holds.ensures.at _ _ (checking c.requires.at.1 c.lock.ensures.told c.if-lock-ne0.false)))) in
+    let storing = (c.in_ok-front.ensures.at _ _ _ _ (holds_at c.args.spot c.still_holds.result c.if-not-still_holds.false
+    (c.still_holds.ensures.at _ _ (checking c.requires.at.1 c.lock.ensures.told c.if-lock-ne0.false)))) in
     let hand = c.still_holds.ensures.slot c.args.leaf (hand_locked c.args.leaf c.lock.ensures.told c.requires.slot) in
-    lets_go c.requires.at.1 c.lock.ensures.told c.still_holds.ensures.goes c.open_front-front.ensures.opened storing c.args.leaf hand c.link_leaf.ensures.told c.close_front-number.ensures.closed
-    (c.close_front-number.ensures.at _ _ _ (evening c.requires.at.1 c.lock.ensures.told c.still_holds.ensures.goes c.open_front-front.ensures.opened storing c.args.leaf hand c.link_leaf.ensures.told))
+    lets_go c.requires.at.1 c.lock.ensures.told c.still_holds.ensures.goes c.in_ok-front.ensures.opened storing c.args.leaf hand
+    c.link_leaf.ensures.told c.close_front-number.ensures.closed
+    (c.close_front-number.ensures.at _ _ _ (evening c.requires.at.1 c.lock.ensures.told c.still_holds.ensures.goes
+    c.in_ok-front.ensures.opened storing c.args.leaf hand c.link_leaf.ensures.told))
 
 pub returns-clause-linked : goal.returns-clause-linked
 returns-clause-linked g c kept number a e =
-    let storing = (c.open_front-front.ensures.at _ _ _ _ (holds_at c.args.spot c.still_holds.result c.if-not-still_holds.false (c.still_holds.ensures.at _ _ (checking a c.lock.ensures.told c.if-lock-ne0.false)))) in
+    let storing = (c.in_ok-front.ensures.at _ _ _ _ (holds_at c.args.spot c.still_holds.result c.if-not-still_holds.false
+    (c.still_holds.ensures.at _ _ (checking a c.lock.ensures.told c.if-lock-ne0.false)))) in
     let hand = c.still_holds.ensures.slot c.args.leaf (hand_locked c.args.leaf c.lock.ensures.told c.requires.slot) in
     let is : ◌≡◌ {A = ℕ} number c.close_front-number.result = cc in
-    links a c.lock.ensures.told c.still_holds.ensures.goes c.open_front-front.ensures.opened storing c.args.leaf hand c.link_leaf.ensures.told c.close_front-number.ensures.closed
-    (c.close_front-number.ensures.at _ _ _ (evening a c.lock.ensures.told c.still_holds.ensures.goes c.open_front-front.ensures.opened storing c.args.leaf hand c.link_leaf.ensures.told))
+    links a c.lock.ensures.told c.still_holds.ensures.goes c.in_ok-front.ensures.opened storing c.args.leaf hand c.link_leaf.ensures.told
+    c.close_front-number.ensures.closed
+    (c.close_front-number.ensures.at _ _ _ (evening a c.lock.ensures.told c.still_holds.ensures.goes c.in_ok-front.ensures.opened storing
+    c.args.leaf hand c.link_leaf.ensures.told))
     c.unlock-2.ensures.told number (is ∙ c.close_front-number.ensures.number)
 
 pub returns-clause-at : goal.returns-clause-at
 returns-clause-at g c kept a =
-    let storing = (c.open_front-front.ensures.at _ _ _ _ (holds_at c.args.spot c.still_holds.result c.if-not-still_holds.false (c.still_holds.ensures.at _ _ (checking a c.lock.ensures.told c.if-lock-ne0.false)))) in
+    let storing = (c.in_ok-front.ensures.at _ _ _ _ (holds_at c.args.spot c.still_holds.result c.if-not-still_holds.false
+    (c.still_holds.ensures.at _ _ (checking a c.lock.ensures.told c.if-lock-ne0.false)))) in
     let hand = c.still_holds.ensures.slot c.args.leaf (hand_locked c.args.leaf c.lock.ensures.told c.requires.slot) in
-    done_at a c.lock.ensures.told c.still_holds.ensures.goes c.open_front-front.ensures.opened storing c.args.leaf hand c.link_leaf.ensures.told c.close_front-number.ensures.closed
-    (c.close_front-number.ensures.at _ _ _ (evening a c.lock.ensures.told c.still_holds.ensures.goes c.open_front-front.ensures.opened storing c.args.leaf hand c.link_leaf.ensures.told))
+    done_at a c.lock.ensures.told c.still_holds.ensures.goes c.in_ok-front.ensures.opened storing c.args.leaf hand c.link_leaf.ensures.told
+    c.close_front-number.ensures.closed
+    (c.close_front-number.ensures.at _ _ _ (evening a c.lock.ensures.told c.still_holds.ensures.goes c.in_ok-front.ensures.opened storing
+    c.args.leaf hand c.link_leaf.ensures.told))
     c.unlock-2.ensures.told

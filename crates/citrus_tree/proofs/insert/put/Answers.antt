@@ -1,8 +1,14 @@
+use Rattle.prcu_model.specs.declared.operation.Op.TheVariants.{Put}
+use Rattle.tree_points.specs.At.{IsAt}
+use Rattle.citrus_tree.specs.Putting.{filled_stage, linked_stage}
+use Rattle.citrus_tree.specs.Going.{Searched}
+use Rattle.core_points.specs.declared.stage.Spot.{Spot}
+use Rattle.std.specs.declared.option.Option.{Option}
 use Rattle.std.proofs.Common.{[], refl, sym, subst, ◌∙◌}
 use Rattle.prcu_model.specs.declared.operation.Told.{Told}
 use Rattle.seat_table.specs.Seats.{shape_of}
 use Rattle.citrus_tree.specs.Replies.{Puts}
-use Rattle.citrus_tree.proofs.puts.Inserting.{begins, outside, unlocked, may_give_up, old_retired, old_puts, old_wait, old_quiet, old_tickets, may_take_leaf, spot_retired, full_puts, full_wait, full_quiet, full_tickets, may_link, tries_again, new_goes, new_puts, new_retired, new_wait, new_quiet, new_tickets}
+use Rattle.citrus_tree.proofs.puts.Inserting.{begins, outside, unlocked, may_give_up, old_retired, old_puts, old_allowance, old_wait, old_quiet, old_tickets, may_take_leaf, spot_retired, full_puts, full_allowance, full_wait, full_quiet, full_tickets, may_link, tries_again, new_goes, new_puts, new_retired, new_allowance, new_wait, new_quiet, new_tickets}
 use Rattle.citrus_tree.proofs.sets.Replacing.{listed_on}
 use Rattle.citrus_tree.proofs.KeepingSlots.{goes_slots, slots_on, slots_self}
 use Rattle.citrus_tree.proofs.Leavings.{goes_looked}
@@ -23,82 +29,233 @@ pub find_spot-requires-clause-unlocked : goal.find_spot-requires-clause-unlocked
 find_spot-requires-clause-unlocked g c = unlocked c.loop.invariant.tries c.requires.tickets
 
 pub give_up_leaf-requires-clause-at : goal.give_up_leaf-requires-clause-at
-give_up_leaf-requires-clause-at g c = may_give_up c.loop.invariant.tries c.requires.tickets c.find_spot.ensures.place c.in_default.ensures.searched
+give_up_leaf-requires-clause-at g c = may_give_up c.loop.invariant.tries c.requires.tickets c.in_ok-spot.ensures.place
+    (subst (λ (r : Option Spot). Searched
+    (shape_of g.W.WaitWords.WAY c.args.table.now) c.loop.seat.view c.args.key r c.find_spot.new.seat.view) c.in_default.is
+    c.in_ok-spot.ensures.searched)
 
 pub give_up_leaf-requires-clause-informed : goal.give_up_leaf-requires-clause-informed
-give_up_leaf-requires-clause-informed g c = c.in_default.ensures.searched.1.informed
+give_up_leaf-requires-clause-informed g c = (subst
+    (λ (r : Option Spot). Searched
+    (shape_of g.W.WaitWords.WAY c.args.table.now) c.loop.seat.view c.args.key r c.find_spot.new.seat.view) c.in_default.is
+    c.in_ok-spot.ensures.searched).1.informed
 
 pub returns-in_default-clause-puts : goal.returns-in_default-clause-puts
-returns-in_default-clause-puts g c = subst (λ (r : Told). Puts (shape_of g.W.WaitWords.WAY c.args.table.now) c.args.seat.now.view c.args.key c.args.value r c.give_up_leaf.new.seat.view) (sym c.answered.ensures)
-    (old_puts c.loop.invariant.tries c.requires.tickets c.find_spot.ensures.place c.in_default.ensures.searched c.give_up_leaf.ensures.goes)
+returns-in_default-clause-puts g c = subst (λ (r : Told). Puts
+    (shape_of g.W.WaitWords.WAY c.args.table.now) c.args.seat.now.view c.args.key c.args.value r c.give_up_leaf.new.seat.view)
+    (sym c.answered.ensures)
+    (old_puts c.loop.invariant.tries c.requires.tickets c.in_ok-spot.ensures.place
+    (subst (λ (r : Option Spot). Searched
+    (shape_of g.W.WaitWords.WAY c.args.table.now) c.loop.seat.view c.args.key r c.find_spot.new.seat.view) c.in_default.is
+    c.in_ok-spot.ensures.searched) c.give_up_leaf.ensures.goes)
 
 pub returns-in_default-clause-quiet : goal.returns-in_default-clause-quiet
 returns-in_default-clause-quiet g c = record {
-  view = old_quiet c.loop.invariant.tries c.requires.tickets c.find_spot.ensures.place c.in_default.ensures.searched c.give_up_leaf.ensures.goes c.give_up_leaf.ensures.at;
-  listed = listed_on c.loop.seat c.give_up_leaf.new.seat (c.give_up_leaf.ensures.seat.1 ∙ c.find_spot.ensures.seat.1) (c.give_up_leaf.ensures.goes.retired ∙ old_retired c.loop.invariant.tries c.requires.tickets c.find_spot.ensures.place c.in_default.ensures.searched) c.loop.invariant.listed;
+  view = old_quiet c.loop.invariant.tries c.requires.tickets c.in_ok-spot.ensures.place
+      (subst (λ (r : Option Spot). Searched
+      (shape_of g.W.WaitWords.WAY c.args.table.now) c.loop.seat.view c.args.key r c.find_spot.new.seat.view) c.in_default.is
+      c.in_ok-spot.ensures.searched) c.give_up_leaf.ensures.goes c.give_up_leaf.ensures.at;
+  listed = listed_on c.loop.seat c.give_up_leaf.new.seat (c.give_up_leaf.ensures.seat.1 ∙ c.find_spot.ensures.seat.1)
+      (c.give_up_leaf.ensures.goes.retired ∙ old_retired c.loop.invariant.tries c.requires.tickets c.in_ok-spot.ensures.place
+      (subst (λ (r : Option Spot). Searched
+      (shape_of g.W.WaitWords.WAY c.args.table.now) c.loop.seat.view c.args.key r c.find_spot.new.seat.view) c.in_default.is
+      c.in_ok-spot.ensures.searched)) c.loop.invariant.listed;
 }
 
 pub returns-in_default-clause-wait : goal.returns-in_default-clause-wait
-returns-in_default-clause-wait g c = old_wait c.loop.invariant.tries c.requires.tickets c.find_spot.ensures.place c.in_default.ensures.searched c.give_up_leaf.ensures.goes
+returns-in_default-clause-wait g c = old_wait c.loop.invariant.tries c.requires.tickets c.in_ok-spot.ensures.place
+    (subst (λ (r : Option Spot). Searched
+    (shape_of g.W.WaitWords.WAY c.args.table.now) c.loop.seat.view c.args.key r c.find_spot.new.seat.view) c.in_default.is
+    c.in_ok-spot.ensures.searched) c.give_up_leaf.ensures.goes
 
 pub returns-in_default-clause-tickets : goal.returns-in_default-clause-tickets
-returns-in_default-clause-tickets g c = old_tickets c.loop.invariant.tries c.requires.tickets c.find_spot.ensures.place c.in_default.ensures.searched c.give_up_leaf.ensures.goes c.give_up_leaf.ensures.at
+returns-in_default-clause-tickets g c = old_tickets c.loop.invariant.tries c.requires.tickets c.in_ok-spot.ensures.place
+    (subst (λ (r : Option Spot). Searched
+    (shape_of g.W.WaitWords.WAY c.args.table.now) c.loop.seat.view c.args.key r c.find_spot.new.seat.view) c.in_default.is
+    c.in_ok-spot.ensures.searched) c.give_up_leaf.ensures.goes c.give_up_leaf.ensures.at
 
 pub leaf_in_hand-requires-clause-listed : goal.leaf_in_hand-requires-clause-listed
-leaf_in_hand-requires-clause-listed g c = listed_on c.loop.seat c.find_spot.new.seat c.find_spot.ensures.seat.1 (spot_retired c.loop.invariant.tries c.requires.tickets c.find_spot.ensures.place c.in-Some-find_spot.spot c.in-Some-find_spot.ensures.searched) c.loop.invariant.listed
+leaf_in_hand-requires-clause-listed g c = listed_on c.loop.seat c.find_spot.new.seat c.find_spot.ensures.seat.1
+    (spot_retired c.loop.invariant.tries c.requires.tickets c.in_ok-spot.ensures.place c.in-Some.spot
+    (subst (λ (r : Option Spot). Searched
+    (shape_of g.W.WaitWords.WAY c.args.table.now) c.loop.seat.view c.args.key r c.find_spot.new.seat.view) c.in-Some.is
+    c.in_ok-spot.ensures.searched)) c.loop.invariant.listed
 
 pub leaf_in_hand-requires-clause-at : goal.leaf_in_hand-requires-clause-at
-leaf_in_hand-requires-clause-at g c = may_take_leaf c.loop.invariant.tries c.requires.tickets c.find_spot.ensures.place c.in-Some-find_spot.spot c.in-Some-find_spot.ensures.searched
+leaf_in_hand-requires-clause-at g c = may_take_leaf c.loop.invariant.tries c.requires.tickets c.in_ok-spot.ensures.place c.in-Some.spot
+    (subst (λ (r : Option Spot). Searched
+    (shape_of g.W.WaitWords.WAY c.args.table.now) c.loop.seat.view c.args.key r c.find_spot.new.seat.view) c.in-Some.is
+    c.in_ok-spot.ensures.searched)
 
-pub returns-in_default-leaf_in_hand-clause-puts : goal.returns-in_default-leaf_in_hand-clause-puts
-returns-in_default-leaf_in_hand-clause-puts g c = subst (λ (r : Told). Puts (shape_of g.W.WaitWords.WAY c.args.table.now) c.args.seat.now.view c.args.key c.args.value r c.leaf_in_hand.new.seat.view) (sym c.answered-in_default-leaf_in_hand.ensures)
-    (full_puts c.loop.invariant.tries c.requires.tickets c.find_spot.ensures.place c.in-Some-find_spot.spot c.in-Some-find_spot.ensures.searched c.in_default-leaf_in_hand.ensures.room (c.in_default-leaf_in_hand.ensures.full refl))
+pub returns-in_default-2-clause-puts : goal.returns-in_default-2-clause-puts
+returns-in_default-2-clause-puts g c = subst (λ (r : Told). Puts
+    (shape_of g.W.WaitWords.WAY c.args.table.now) c.args.seat.now.view c.args.key c.args.value r c.leaf_in_hand.new.seat.view)
+    (sym c.answered-in_default-2.ensures)
+    (full_puts c.loop.invariant.tries c.requires.tickets c.in_ok-spot.ensures.place c.in-Some.spot
+    (subst (λ (r : Option Spot). Searched
+    (shape_of g.W.WaitWords.WAY c.args.table.now) c.loop.seat.view c.args.key r c.find_spot.new.seat.view) c.in-Some.is
+    c.in_ok-spot.ensures.searched) c.in_ok-leaf.ensures.room (c.in_ok-leaf.ensures.full c.in_default-2.is))
 
-pub returns-in_default-leaf_in_hand-clause-quiet : goal.returns-in_default-leaf_in_hand-clause-quiet
-returns-in_default-leaf_in_hand-clause-quiet g c = record { view = full_quiet c.loop.invariant.tries c.requires.tickets c.find_spot.ensures.place c.in-Some-find_spot.spot c.in-Some-find_spot.ensures.searched c.in_default-leaf_in_hand.ensures.room c.in_default-leaf_in_hand.ensures.at; listed = c.in_default-leaf_in_hand.ensures.listed }
-
-pub returns-in_default-leaf_in_hand-clause-wait : goal.returns-in_default-leaf_in_hand-clause-wait
-returns-in_default-leaf_in_hand-clause-wait g c = full_wait c.loop.invariant.tries c.requires.tickets c.find_spot.ensures.place c.in-Some-find_spot.spot c.in-Some-find_spot.ensures.searched c.in_default-leaf_in_hand.ensures.room
-
-pub returns-in_default-leaf_in_hand-clause-tickets : goal.returns-in_default-leaf_in_hand-clause-tickets
-returns-in_default-leaf_in_hand-clause-tickets g c = full_tickets c.loop.invariant.tries c.requires.tickets c.find_spot.ensures.place c.in-Some-find_spot.spot c.in-Some-find_spot.ensures.searched c.in_default-leaf_in_hand.ensures.room c.in_default-leaf_in_hand.ensures.at
-
-pub link_leaf-requires-clause-at : goal.link_leaf-requires-clause-at
-link_leaf-requires-clause-at g c = may_link c.loop.invariant.tries c.requires.tickets c.find_spot.ensures.place c.in-Some-find_spot.spot c.in-Some-find_spot.ensures.searched c.in-Some-leaf_in_hand.ensures.room c.in-Some-leaf_in_hand.ensures.at
-
-pub returns-in-Some-link_leaf-clause-puts : goal.returns-in-Some-link_leaf-clause-puts
-returns-in-Some-link_leaf-clause-puts g c = subst (λ (r : Told). Puts (shape_of g.W.WaitWords.WAY c.args.table.now) c.args.seat.now.view c.args.key c.args.value r c.link_leaf.new.seat.view) (sym c.answered-in-Some-link_leaf.ensures)
-    (new_puts c.loop.invariant.tries c.requires.tickets c.find_spot.ensures.place c.in-Some-find_spot.spot c.in-Some-find_spot.ensures.searched c.in-Some-leaf_in_hand.ensures.room c.in-Some-leaf_in_hand.ensures.at c.in-Some-link_leaf.number c.in-Some-link_leaf.ensures.linked)
-
-pub returns-in-Some-link_leaf-clause-quiet : goal.returns-in-Some-link_leaf-clause-quiet
-returns-in-Some-link_leaf-clause-quiet g c = record {
-  view = new_quiet c.loop.invariant.tries c.requires.tickets c.find_spot.ensures.place c.in-Some-find_spot.spot c.in-Some-find_spot.ensures.searched c.in-Some-leaf_in_hand.ensures.room c.in-Some-leaf_in_hand.ensures.at c.in-Some-link_leaf.number c.in-Some-link_leaf.ensures.linked c.in-Some-link_leaf.ensures.at;
-  listed = listed_on c.leaf_in_hand.new.seat c.link_leaf.new.seat c.link_leaf.ensures.seat.1 (new_retired c.loop.invariant.tries c.requires.tickets c.find_spot.ensures.place c.in-Some-find_spot.spot c.in-Some-find_spot.ensures.searched c.in-Some-leaf_in_hand.ensures.room c.in-Some-leaf_in_hand.ensures.at c.in-Some-link_leaf.number c.in-Some-link_leaf.ensures.linked) c.leaf_in_hand.ensures.listed;
+pub returns-in_default-2-clause-quiet : goal.returns-in_default-2-clause-quiet
+returns-in_default-2-clause-quiet g c = record {
+  view =
+      full_quiet c.loop.invariant.tries c.requires.tickets c.in_ok-spot.ensures.place c.in-Some.spot
+      (subst (λ (r : Option Spot). Searched
+      (shape_of g.W.WaitWords.WAY c.args.table.now) c.loop.seat.view c.args.key r c.find_spot.new.seat.view) c.in-Some.is
+      c.in_ok-spot.ensures.searched) c.in_ok-leaf.ensures.room
+      (λ kept spot a. subst (λ r. IsAt (shape_of g.W.WaitWords.WAY c.args.table.now) (Put c.args.key c.args.value) kept
+      (filled_stage r spot) c.leaf_in_hand.new.seat.view) c.in_default-2.is (c.in_ok-leaf.ensures.at kept spot a));
+  listed = c.in_ok-leaf.ensures.listed;
 }
 
-pub returns-in-Some-link_leaf-clause-wait : goal.returns-in-Some-link_leaf-clause-wait
-returns-in-Some-link_leaf-clause-wait g c = new_wait c.loop.invariant.tries c.requires.tickets c.find_spot.ensures.place c.in-Some-find_spot.spot c.in-Some-find_spot.ensures.searched c.in-Some-leaf_in_hand.ensures.room c.in-Some-leaf_in_hand.ensures.at c.in-Some-link_leaf.number c.in-Some-link_leaf.ensures.linked
+pub returns-in_default-2-clause-wait : goal.returns-in_default-2-clause-wait
+returns-in_default-2-clause-wait g c = full_wait c.loop.invariant.tries c.requires.tickets c.in_ok-spot.ensures.place c.in-Some.spot
+    (subst (λ (r : Option Spot). Searched
+    (shape_of g.W.WaitWords.WAY c.args.table.now) c.loop.seat.view c.args.key r c.find_spot.new.seat.view) c.in-Some.is
+    c.in_ok-spot.ensures.searched) c.in_ok-leaf.ensures.room
 
-pub returns-in-Some-link_leaf-clause-tickets : goal.returns-in-Some-link_leaf-clause-tickets
-returns-in-Some-link_leaf-clause-tickets g c = new_tickets c.loop.invariant.tries c.requires.tickets c.find_spot.ensures.place c.in-Some-find_spot.spot c.in-Some-find_spot.ensures.searched c.in-Some-leaf_in_hand.ensures.room c.in-Some-leaf_in_hand.ensures.at c.in-Some-link_leaf.number c.in-Some-link_leaf.ensures.linked c.in-Some-link_leaf.ensures.at
+pub returns-in_default-2-clause-tickets : goal.returns-in_default-2-clause-tickets
+returns-in_default-2-clause-tickets g c = full_tickets c.loop.invariant.tries c.requires.tickets c.in_ok-spot.ensures.place c.in-Some.spot
+    (subst (λ (r : Option Spot). Searched
+    (shape_of g.W.WaitWords.WAY c.args.table.now) c.loop.seat.view c.args.key r c.find_spot.new.seat.view) c.in-Some.is
+    c.in_ok-spot.ensures.searched) c.in_ok-leaf.ensures.room
+    (λ kept spot a. subst (λ r. IsAt (shape_of g.W.WaitWords.WAY c.args.table.now) (Put c.args.key c.args.value) kept
+    (filled_stage r spot) c.leaf_in_hand.new.seat.view) c.in_default-2.is (c.in_ok-leaf.ensures.at kept spot a))
+
+pub link_leaf-requires-clause-at : goal.link_leaf-requires-clause-at
+link_leaf-requires-clause-at g c = may_link c.loop.invariant.tries c.requires.tickets c.in_ok-spot.ensures.place c.in-Some.spot
+    (subst (λ (r : Option Spot). Searched
+    (shape_of g.W.WaitWords.WAY c.args.table.now) c.loop.seat.view c.args.key r c.find_spot.new.seat.view) c.in-Some.is
+    c.in_ok-spot.ensures.searched) c.in_ok-leaf.ensures.room
+    (λ kept spot a. subst (λ r. IsAt (shape_of g.W.WaitWords.WAY c.args.table.now) (Put c.args.key c.args.value) kept
+    (filled_stage r spot) c.leaf_in_hand.new.seat.view) c.in-Some-2.is (c.in_ok-leaf.ensures.at kept spot a))
+
+pub returns-in-Some-3-clause-puts : goal.returns-in-Some-3-clause-puts
+returns-in-Some-3-clause-puts g c = subst (λ (r : Told). Puts
+    (shape_of g.W.WaitWords.WAY c.args.table.now) c.args.seat.now.view c.args.key c.args.value r c.link_leaf.new.seat.view)
+    (sym c.answered-in-Some-3.ensures)
+    (new_puts c.loop.invariant.tries c.requires.tickets c.in_ok-spot.ensures.place c.in-Some.spot
+    (subst (λ (r : Option Spot). Searched
+    (shape_of g.W.WaitWords.WAY c.args.table.now) c.loop.seat.view c.args.key r c.find_spot.new.seat.view) c.in-Some.is
+    c.in_ok-spot.ensures.searched) c.in_ok-leaf.ensures.room
+    (λ kept spot a. subst (λ r. IsAt (shape_of g.W.WaitWords.WAY c.args.table.now) (Put c.args.key c.args.value) kept
+    (filled_stage r spot) c.leaf_in_hand.new.seat.view) c.in-Some-2.is (c.in_ok-leaf.ensures.at kept spot a)) c.in-Some-3.number
+    (λ kept number a e. c.in_ok-number.ensures.linked kept number a (c.in-Some-3.is ∙ e)))
+
+pub returns-in-Some-3-clause-quiet : goal.returns-in-Some-3-clause-quiet
+returns-in-Some-3-clause-quiet g c = record {
+  view = new_quiet c.loop.invariant.tries c.requires.tickets c.in_ok-spot.ensures.place c.in-Some.spot
+      (subst (λ (r : Option Spot). Searched
+      (shape_of g.W.WaitWords.WAY c.args.table.now) c.loop.seat.view c.args.key r c.find_spot.new.seat.view) c.in-Some.is
+      c.in_ok-spot.ensures.searched) c.in_ok-leaf.ensures.room
+      (λ kept spot a. subst (λ r. IsAt (shape_of g.W.WaitWords.WAY c.args.table.now) (Put c.args.key c.args.value) kept
+      (filled_stage r spot) c.leaf_in_hand.new.seat.view) c.in-Some-2.is (c.in_ok-leaf.ensures.at kept spot a)) c.in-Some-3.number
+      (λ kept number a e. c.in_ok-number.ensures.linked kept number a (c.in-Some-3.is ∙ e))
+      (λ kept a. subst (λ r. IsAt (shape_of g.W.WaitWords.WAY c.args.table.now) (Put c.args.key c.args.value) kept
+      (linked_stage r) c.link_leaf.new.seat.view) c.in-Some-3.is (c.in_ok-number.ensures.at kept a));
+  listed = listed_on c.leaf_in_hand.new.seat c.link_leaf.new.seat c.link_leaf.ensures.seat.1
+      (new_retired c.loop.invariant.tries c.requires.tickets c.in_ok-spot.ensures.place c.in-Some.spot
+      (subst (λ (r : Option Spot). Searched
+      (shape_of g.W.WaitWords.WAY c.args.table.now) c.loop.seat.view c.args.key r c.find_spot.new.seat.view) c.in-Some.is
+      c.in_ok-spot.ensures.searched) c.in_ok-leaf.ensures.room
+      (λ kept spot a. subst (λ r. IsAt (shape_of g.W.WaitWords.WAY c.args.table.now) (Put c.args.key c.args.value) kept
+      (filled_stage r spot) c.leaf_in_hand.new.seat.view) c.in-Some-2.is (c.in_ok-leaf.ensures.at kept spot a)) c.in-Some-3.number
+      (λ kept number a e. c.in_ok-number.ensures.linked kept number a (c.in-Some-3.is ∙ e))) c.in_ok-leaf.ensures.listed;
+}
+
+pub returns-in-Some-3-clause-wait : goal.returns-in-Some-3-clause-wait
+returns-in-Some-3-clause-wait g c = new_wait c.loop.invariant.tries c.requires.tickets c.in_ok-spot.ensures.place c.in-Some.spot
+    (subst (λ (r : Option Spot). Searched
+    (shape_of g.W.WaitWords.WAY c.args.table.now) c.loop.seat.view c.args.key r c.find_spot.new.seat.view) c.in-Some.is
+    c.in_ok-spot.ensures.searched) c.in_ok-leaf.ensures.room
+    (λ kept spot a. subst (λ r. IsAt (shape_of g.W.WaitWords.WAY c.args.table.now) (Put c.args.key c.args.value) kept
+    (filled_stage r spot) c.leaf_in_hand.new.seat.view) c.in-Some-2.is (c.in_ok-leaf.ensures.at kept spot a)) c.in-Some-3.number
+    (λ kept number a e. c.in_ok-number.ensures.linked kept number a (c.in-Some-3.is ∙ e))
+
+pub returns-in-Some-3-clause-tickets : goal.returns-in-Some-3-clause-tickets
+returns-in-Some-3-clause-tickets g c = new_tickets c.loop.invariant.tries c.requires.tickets c.in_ok-spot.ensures.place c.in-Some.spot
+    (subst (λ (r : Option Spot). Searched
+    (shape_of g.W.WaitWords.WAY c.args.table.now) c.loop.seat.view c.args.key r c.find_spot.new.seat.view) c.in-Some.is
+    c.in_ok-spot.ensures.searched) c.in_ok-leaf.ensures.room
+    (λ kept spot a. subst (λ r. IsAt (shape_of g.W.WaitWords.WAY c.args.table.now) (Put c.args.key c.args.value) kept
+    (filled_stage r spot) c.leaf_in_hand.new.seat.view) c.in-Some-2.is (c.in_ok-leaf.ensures.at kept spot a)) c.in-Some-3.number
+    (λ kept number a e. c.in_ok-number.ensures.linked kept number a (c.in-Some-3.is ∙ e))
+    (λ kept a. subst (λ r. IsAt (shape_of g.W.WaitWords.WAY c.args.table.now) (Put c.args.key c.args.value) kept
+    (linked_stage r) c.link_leaf.new.seat.view) c.in-Some-3.is (c.in_ok-number.ensures.at kept a))
 
 pub loop-preserved : goal.loop-preserved
 loop-preserved g c = record {
   table = c.link_leaf.ensures.seat.0 ∙ c.leaf_in_hand.ensures.table ∙ c.find_spot.ensures.seat.0 ∙ c.loop.invariant.table;
-  listed = listed_on c.leaf_in_hand.new.seat c.link_leaf.new.seat c.link_leaf.ensures.seat.1 (c.in_default-link_leaf.ensures.again refl).retired c.leaf_in_hand.ensures.listed;
-  tries = tries_again c.loop.invariant.tries c.requires.tickets c.find_spot.ensures.place c.in-Some-find_spot.spot c.in-Some-find_spot.ensures.searched c.in-Some-leaf_in_hand.ensures.room c.in-Some-leaf_in_hand.ensures.at (c.in_default-link_leaf.ensures.again refl) c.in_default-link_leaf.ensures.at;
-  slots = goes_slots c.args.seat.now c.leaf_in_hand.new.seat c.link_leaf.new.seat [] (slots_on c.args.seat.now c.find_spot.new.seat c.leaf_in_hand.new.seat (goes_slots c.args.seat.now c.loop.seat c.find_spot.new.seat _ c.loop.invariant.slots (goes_looked c.in-Some-find_spot.ensures.searched.0) c.find_spot.ensures.seat.1) c.leaf_in_hand.ensures.slots) (c.in_default-link_leaf.ensures.again refl) c.link_leaf.ensures.seat.1;
+  listed = listed_on c.leaf_in_hand.new.seat c.link_leaf.new.seat c.link_leaf.ensures.seat.1
+      (c.in_ok-number.ensures.again c.in_default-3.is).retired c.in_ok-leaf.ensures.listed;
+  tries = tries_again c.loop.invariant.tries c.requires.tickets c.in_ok-spot.ensures.place c.in-Some.spot
+      (subst (λ (r : Option Spot). Searched
+      (shape_of g.W.WaitWords.WAY c.args.table.now) c.loop.seat.view c.args.key r c.find_spot.new.seat.view) c.in-Some.is
+      c.in_ok-spot.ensures.searched) c.in_ok-leaf.ensures.room
+      (λ kept spot a. subst (λ r. IsAt (shape_of g.W.WaitWords.WAY c.args.table.now) (Put c.args.key c.args.value) kept
+      (filled_stage r spot) c.leaf_in_hand.new.seat.view) c.in-Some-2.is (c.in_ok-leaf.ensures.at kept spot a))
+      (c.in_ok-number.ensures.again c.in_default-3.is)
+      (λ kept a. subst (λ r. IsAt (shape_of g.W.WaitWords.WAY c.args.table.now) (Put c.args.key c.args.value) kept
+      (linked_stage r) c.link_leaf.new.seat.view) c.in_default-3.is (c.in_ok-number.ensures.at kept a));
+  slots = goes_slots c.args.seat.now c.leaf_in_hand.new.seat c.link_leaf.new.seat []
+      (slots_on c.args.seat.now c.find_spot.new.seat c.leaf_in_hand.new.seat
+      (goes_slots c.args.seat.now c.loop.seat c.find_spot.new.seat _ c.loop.invariant.slots
+      (goes_looked (subst (λ (r : Option Spot). Searched
+      (shape_of g.W.WaitWords.WAY c.args.table.now) c.loop.seat.view c.args.key r c.find_spot.new.seat.view) c.in-Some.is
+      c.in_ok-spot.ensures.searched).0) c.find_spot.ensures.seat.1) c.in_ok-leaf.ensures.slots)
+      (c.in_ok-number.ensures.again c.in_default-3.is) c.link_leaf.ensures.seat.1;
 }
 
 pub returns-in_default-clause-slots : goal.returns-in_default-clause-slots
 returns-in_default-clause-slots g c =
-    let found = goes_slots c.args.seat.now c.loop.seat c.find_spot.new.seat _ c.loop.invariant.slots (goes_looked c.in_default.ensures.searched.1) c.find_spot.ensures.seat.1 in
-    goes_slots c.args.seat.now c.find_spot.new.seat c.give_up_leaf.new.seat [] found c.give_up_leaf.ensures.goes c.give_up_leaf.ensures.seat.1
+    let found = goes_slots c.args.seat.now c.loop.seat c.find_spot.new.seat _ c.loop.invariant.slots
+    (goes_looked (subst (λ (r : Option Spot). Searched
+    (shape_of g.W.WaitWords.WAY c.args.table.now) c.loop.seat.view c.args.key r c.find_spot.new.seat.view) c.in_default.is
+    c.in_ok-spot.ensures.searched).1) c.find_spot.ensures.seat.1 in
+    goes_slots c.args.seat.now c.find_spot.new.seat c.give_up_leaf.new.seat [] found c.give_up_leaf.ensures.goes
+    c.give_up_leaf.ensures.seat.1
 
-pub returns-in_default-leaf_in_hand-clause-slots : goal.returns-in_default-leaf_in_hand-clause-slots
-returns-in_default-leaf_in_hand-clause-slots g c = slots_on c.args.seat.now c.find_spot.new.seat c.leaf_in_hand.new.seat (goes_slots c.args.seat.now c.loop.seat c.find_spot.new.seat _ c.loop.invariant.slots (goes_looked c.in-Some-find_spot.ensures.searched.0) c.find_spot.ensures.seat.1) c.leaf_in_hand.ensures.slots
+pub returns-in_default-2-clause-slots : goal.returns-in_default-2-clause-slots
+returns-in_default-2-clause-slots g c = slots_on c.args.seat.now c.find_spot.new.seat c.leaf_in_hand.new.seat
+    (goes_slots c.args.seat.now c.loop.seat c.find_spot.new.seat _ c.loop.invariant.slots
+    (goes_looked (subst (λ (r : Option Spot). Searched
+    (shape_of g.W.WaitWords.WAY c.args.table.now) c.loop.seat.view c.args.key r c.find_spot.new.seat.view) c.in-Some.is
+    c.in_ok-spot.ensures.searched).0) c.find_spot.ensures.seat.1) c.in_ok-leaf.ensures.slots
 
-pub returns-in-Some-link_leaf-clause-slots : goal.returns-in-Some-link_leaf-clause-slots
-returns-in-Some-link_leaf-clause-slots g c =
-    let leaf = slots_on c.args.seat.now c.find_spot.new.seat c.leaf_in_hand.new.seat (goes_slots c.args.seat.now c.loop.seat c.find_spot.new.seat _ c.loop.invariant.slots (goes_looked c.in-Some-find_spot.ensures.searched.0) c.find_spot.ensures.seat.1) c.leaf_in_hand.ensures.slots in
-    goes_slots c.args.seat.now c.leaf_in_hand.new.seat c.link_leaf.new.seat _ leaf (new_goes c.loop.invariant.tries c.requires.tickets c.find_spot.ensures.place c.in-Some-find_spot.spot c.in-Some-find_spot.ensures.searched c.in-Some-leaf_in_hand.ensures.room c.in-Some-leaf_in_hand.ensures.at c.in-Some-link_leaf.number c.in-Some-link_leaf.ensures.linked) c.link_leaf.ensures.seat.1
+pub returns-in-Some-3-clause-slots : goal.returns-in-Some-3-clause-slots
+returns-in-Some-3-clause-slots g c =
+    let leaf = slots_on c.args.seat.now c.find_spot.new.seat c.leaf_in_hand.new.seat
+    (goes_slots c.args.seat.now c.loop.seat c.find_spot.new.seat _ c.loop.invariant.slots
+    (goes_looked (subst (λ (r : Option Spot). Searched
+    (shape_of g.W.WaitWords.WAY c.args.table.now) c.loop.seat.view c.args.key r c.find_spot.new.seat.view) c.in-Some.is
+    c.in_ok-spot.ensures.searched).0) c.find_spot.ensures.seat.1) c.in_ok-leaf.ensures.slots in
+    goes_slots c.args.seat.now c.leaf_in_hand.new.seat c.link_leaf.new.seat _ leaf
+    (new_goes c.loop.invariant.tries c.requires.tickets c.in_ok-spot.ensures.place c.in-Some.spot
+    (subst (λ (r : Option Spot). Searched
+    (shape_of g.W.WaitWords.WAY c.args.table.now) c.loop.seat.view c.args.key r c.find_spot.new.seat.view) c.in-Some.is
+    c.in_ok-spot.ensures.searched) c.in_ok-leaf.ensures.room
+    (λ kept spot a. subst (λ r. IsAt (shape_of g.W.WaitWords.WAY c.args.table.now) (Put c.args.key c.args.value) kept
+    (filled_stage r spot) c.leaf_in_hand.new.seat.view) c.in-Some-2.is (c.in_ok-leaf.ensures.at kept spot a)) c.in-Some-3.number
+    (λ kept number a e. c.in_ok-number.ensures.linked kept number a (c.in-Some-3.is ∙ e))) c.link_leaf.ensures.seat.1
+
+pub returns-in_default-clause-allowance : goal.returns-in_default-clause-allowance
+returns-in_default-clause-allowance g c = old_allowance c.loop.invariant.tries c.requires.tickets c.in_ok-spot.ensures.place
+    (subst (λ (r : Option Spot). Searched
+    (shape_of g.W.WaitWords.WAY c.args.table.now) c.loop.seat.view c.args.key r c.find_spot.new.seat.view) c.in_default.is
+    c.in_ok-spot.ensures.searched) c.give_up_leaf.ensures.goes
+
+pub returns-in_default-2-clause-allowance : goal.returns-in_default-2-clause-allowance
+returns-in_default-2-clause-allowance g c =
+    full_allowance c.loop.invariant.tries c.requires.tickets c.in_ok-spot.ensures.place c.in-Some.spot
+    (subst (λ (r : Option Spot). Searched
+    (shape_of g.W.WaitWords.WAY c.args.table.now) c.loop.seat.view c.args.key r c.find_spot.new.seat.view) c.in-Some.is
+    c.in_ok-spot.ensures.searched) c.in_ok-leaf.ensures.room
+
+pub returns-in-Some-3-clause-allowance : goal.returns-in-Some-3-clause-allowance
+returns-in-Some-3-clause-allowance g c = new_allowance c.loop.invariant.tries c.requires.tickets c.in_ok-spot.ensures.place c.in-Some.spot
+    (subst (λ (r : Option Spot). Searched
+    (shape_of g.W.WaitWords.WAY c.args.table.now) c.loop.seat.view c.args.key r c.find_spot.new.seat.view) c.in-Some.is
+    c.in_ok-spot.ensures.searched) c.in_ok-leaf.ensures.room
+    (λ kept spot a. subst (λ r. IsAt (shape_of g.W.WaitWords.WAY c.args.table.now) (Put c.args.key c.args.value) kept
+    (filled_stage r spot) c.leaf_in_hand.new.seat.view) c.in-Some-2.is (c.in_ok-leaf.ensures.at kept spot a)) c.in-Some-3.number
+    (λ kept number a e. c.in_ok-number.ensures.linked kept number a (c.in-Some-3.is ∙ e))

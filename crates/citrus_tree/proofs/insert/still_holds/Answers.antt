@@ -11,13 +11,18 @@ pub locked_load-tag-requires-clause-asks : goal.locked_load-tag-requires-clause-
 locked_load-tag-requires-clause-asks g c = checks_tag c.requires.at.2 c.locked_load-life.ensures.told c.locked_load-link.ensures.told
 
 pub returns-clause-slot : goal.returns-clause-slot
-returns-clause-slot g c = checked_hand c.requires.at.2 c.locked_load-life.ensures.told c.locked_load-link.ensures.told c.locked_load-tag.ensures.told
+returns-clause-slot g c =
+    checked_hand c.requires.at.2 c.locked_load-life.ensures.told c.locked_load-link.ensures.told c.locked_load-tag.ensures.told
 
 pub returns-clause-locked : goal.returns-clause-locked
-returns-clause-locked g c = checked_locks c.requires.at.2 c.locked_load-life.ensures.told c.locked_load-link.ensures.told c.locked_load-tag.ensures.told
+returns-clause-locked g c =
+    checked_locks c.requires.at.2 c.locked_load-life.ensures.told c.locked_load-link.ensures.told c.locked_load-tag.ensures.told
 
 pub returns-clause-goes : goal.returns-clause-goes
-returns-clause-goes g c = checked_goes c.requires.at.2 c.locked_load-life.ensures.told c.locked_load-link.ensures.told c.locked_load-tag.ensures.told
+returns-clause-goes g c =
+    checked_goes c.requires.at.2 c.locked_load-life.ensures.told c.locked_load-link.ensures.told c.locked_load-tag.ensures.told
 
 pub returns-clause-at : goal.returns-clause-at
-returns-clause-at g c op kept a = checked_at a c.locked_load-life.ensures.told c.locked_load-link.ensures.told c.locked_load-tag.ensures.told c.is_as_recorded.result c.is_as_recorded.ensures.holds c.is_as_recorded.ensures.fails
+returns-clause-at g c op kept a =
+    checked_at a c.locked_load-life.ensures.told c.locked_load-link.ensures.told c.locked_load-tag.ensures.told c.is_as_recorded.result
+    c.is_as_recorded.ensures.holds c.is_as_recorded.ensures.fails

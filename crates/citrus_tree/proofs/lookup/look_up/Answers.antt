@@ -1,11 +1,32 @@
+use Rattle.seat_table.specs.Gains.{IsSlot}
+use Rattle.core_state.specs.parts.ReaderParts.{state_slot}
+use Rattle.std.proofs.Common.{subst, rules}
+use Rattle.citrus_tree.specs.Lookups.{IsSearching, state_of}
+use Rattle.citrus_tree.specs.declared.descent.Descent.{Descent}
 use Rattle.seat_table.specs.Seats.{shape_of}
 use Rattle.citrus_tree.proofs.searches.Searching.{valued, looked_found, looked_missed}
 use Rattle.citrus_tree.proofs.lookup.look_up.Goals as goal
 
 pub returns-in-Found-clause-looked : goal.returns-in-Found-clause-looked
-returns-in-Found-clause-looked g c = looked_found (shape_of g.W.WaitWords.WAY c.args.table.now) c.args.seat.now.view c.args.key c.in-Found.slot c.in-Found.parent c.search_load-value.result c.in-Found.side c.search_load-value.new.seat.view c.leave.new.seat.view
-    (valued (shape_of g.W.WaitWords.WAY c.args.table.now) c.args.seat.now.view c.args.key c.in-Found.slot c.in-Found.parent c.in-Found.side c.search_load-value.result c.descend.new.seat.view c.search_load-value.new.seat.view c.in-Found.ensures.searching c.search_load-value.ensures.told)
+returns-in-Found-clause-looked g c = looked_found
+    (shape_of g.W.WaitWords.WAY c.args.table.now) c.args.seat.now.view c.args.key c.in-Found.slot c.in-Found.parent
+    c.search_load-value.result c.in-Found.side c.search_load-value.new.seat.view c.leave.new.seat.view
+    (valued (shape_of g.W.WaitWords.WAY c.args.table.now) c.args.seat.now.view c.args.key c.in-Found.slot c.in-Found.parent c.in-Found.side
+    c.search_load-value.result c.descend.new.seat.view c.search_load-value.new.seat.view
+    (subst (λ (d : Descent). IsSearching c.args.seat.now.view c.args.key
+    (state_of d) c.descend.new.seat.view) c.in-Found.is c.in_ok-slot.ensures.searching) c.search_load-value.ensures.told)
     c.leave.ensures.left
 
 pub returns-in-Ended-clause-looked : goal.returns-in-Ended-clause-looked
-returns-in-Ended-clause-looked g c = looked_missed (shape_of g.W.WaitWords.WAY c.args.table.now) c.args.seat.now.view c.args.key c.in-Ended.slot c.in-Ended.side c.descend.new.seat.view c.leave-in-Ended.new.seat.view c.in-Ended.ensures.searching c.leave-in-Ended.ensures.left
+returns-in-Ended-clause-looked g c = looked_missed
+    (shape_of g.W.WaitWords.WAY c.args.table.now) c.args.seat.now.view c.args.key c.in-Ended.slot c.in-Ended.side c.descend.new.seat.view
+    c.leave-in-Ended.new.seat.view (subst (λ (d : Descent). IsSearching c.args.seat.now.view c.args.key
+    (state_of d) c.descend.new.seat.view) c.in-Ended.is c.in_ok-slot.ensures.searching) c.leave-in-Ended.ensures.left
+
+pub search_load-value-requires-clause-asks : goal.search_load-value-requires-clause-asks
+search_load-value-requires-clause-asks g c =
+    let searching = subst (λ (d : Descent). IsSearching c.args.seat.now.view c.args.key
+    (state_of d) c.descend.new.seat.view) c.in-Found.is c.in_ok-slot.ensures.searching in
+    let slot = subst (λ (d : Descent). IsSlot (shape_of g.W.WaitWords.WAY c.args.table.now)
+    (state_slot (state_of d))) c.in-Found.is c.in_ok-slot.ensures.slot in
+    search rules

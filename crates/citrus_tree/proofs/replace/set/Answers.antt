@@ -1,4 +1,11 @@
-use Rattle.std.proofs.Common.{refl, sym, subst, ◌∙◌}
+use Rattle.citrus_tree.specs.declared.replace.Replaced.{Replaced}
+use Rattle.citrus_tree.specs.declared.replace.Holder.{Holder}
+use Rattle.prcu_model.specs.declared.operation.Op.TheVariants.{Set}
+use Rattle.tree_points.specs.At.{IsAt}
+use Rattle.citrus_tree.specs.Going.{Sought, set_stage}
+use Rattle.seat_table.specs.Seats.{shape_of}
+use Rattle.std.specs.declared.option.Option.{Option}
+use Rattle.std.proofs.Common.{refl, sym, subst, ◌∙◌, ℕ}
 use Rattle.prcu_model.specs.declared.operation.Told.{Told}
 use Rattle.citrus_tree.specs.Replies.{Sets}
 use Rattle.citrus_tree.proofs.sets.Replacing.{absent_goes, begins, absent_sets, goes_all, may_store, tries_again, stored_sets, stored_quiet, stored_retired, stored_wait, stored_tickets, listed_on}
@@ -13,39 +20,102 @@ loop-init g c = record {
 }
 
 pub returns-in_default-clause-sets : goal.returns-in_default-clause-sets
-returns-in_default-clause-sets g c = subst (λ (r : Told). Sets c.args.seat.now.view c.args.key c.args.value r c.find_holder.new.seat.view) (sym c.answered.ensures) (absent_sets c.loop.invariant.tries c.requires.tickets c.in_default.ensures.sought refl)
+returns-in_default-clause-sets g c = subst (λ (r : Told). Sets c.args.seat.now.view c.args.key c.args.value r c.find_holder.new.seat.view)
+    (sym c.answered.ensures) (absent_sets c.loop.invariant.tries c.requires.tickets
+    (subst (λ (r : Option Holder). Sought
+    (shape_of g.W.WaitWords.WAY c.args.table.now) c.loop.seat.view c.args.key r c.find_holder.new.seat.view) c.in_default.is
+    c.in_ok-holder.ensures.sought) refl)
 
 pub store_value-requires-clause-at : goal.store_value-requires-clause-at
-store_value-requires-clause-at g c = may_store c.loop.invariant.tries c.requires.tickets c.find_holder.ensures.place c.in-Some-find_holder.ensures.sought
+store_value-requires-clause-at g c = may_store c.loop.invariant.tries c.requires.tickets c.in_ok-holder.ensures.place
+    (subst (λ (r : Option Holder). Sought
+    (shape_of g.W.WaitWords.WAY c.args.table.now) c.loop.seat.view c.args.key r c.find_holder.new.seat.view) c.in-Some.is
+    c.in_ok-holder.ensures.sought)
 
-pub returns-in-Some-store_value-clause-sets : goal.returns-in-Some-store_value-clause-sets
-returns-in-Some-store_value-clause-sets g c = subst (λ (r : Told). Sets c.args.seat.now.view c.args.key c.args.value r c.store_value.new.seat.view) (sym c.answered-in-Some-store_value.ensures)
-    (stored_sets c.loop.invariant.tries c.requires.tickets c.find_holder.ensures.place c.in-Some-find_holder.ensures.sought c.in-Some-store_value.ensures.stored c.in-Some-store_value.ensures.at)
+pub returns-in-Some-2-clause-sets : goal.returns-in-Some-2-clause-sets
+returns-in-Some-2-clause-sets g c = subst (λ (r : Told). Sets c.args.seat.now.view c.args.key c.args.value r c.store_value.new.seat.view)
+    (sym c.answered-in-Some-2.ensures)
+    (stored_sets c.loop.invariant.tries c.requires.tickets c.in_ok-holder.ensures.place
+    (subst (λ (r : Option Holder). Sought
+    (shape_of g.W.WaitWords.WAY c.args.table.now) c.loop.seat.view c.args.key r c.find_holder.new.seat.view) c.in-Some.is
+    c.in_ok-holder.ensures.sought) (λ (kept : ℕ) (done : Replaced) a e. c.in_ok-done.ensures.stored kept done a (c.in-Some-2.is ∙ e))
+    (λ (kept : ℕ) a. subst (λ (r : Option Replaced). IsAt (shape_of g.W.WaitWords.WAY c.args.table.now)
+    (Set c.args.key c.args.value) kept (set_stage r) c.store_value.new.seat.view) c.in-Some-2.is (c.in_ok-done.ensures.at kept a)))
 
-pub returns-in-Some-store_value-clause-quiet : goal.returns-in-Some-store_value-clause-quiet
-returns-in-Some-store_value-clause-quiet g c = record {
-  view = stored_quiet c.loop.invariant.tries c.requires.tickets c.find_holder.ensures.place c.in-Some-find_holder.ensures.sought c.in-Some-store_value.ensures.stored c.in-Some-store_value.ensures.at;
-  listed = listed_on c.args.seat.now c.store_value.new.seat (c.store_value.ensures.seat.1 ∙ c.find_holder.ensures.seat.1 ∙ c.loop.invariant.listed)
-      (stored_retired c.loop.invariant.tries c.requires.tickets c.find_holder.ensures.place c.in-Some-find_holder.ensures.sought c.in-Some-store_value.ensures.stored c.in-Some-store_value.ensures.at) c.requires.quiet.listed;
+pub returns-in-Some-2-clause-quiet : goal.returns-in-Some-2-clause-quiet
+returns-in-Some-2-clause-quiet g c = record {
+  view = stored_quiet c.loop.invariant.tries c.requires.tickets c.in_ok-holder.ensures.place
+      (subst (λ (r : Option Holder). Sought
+      (shape_of g.W.WaitWords.WAY c.args.table.now) c.loop.seat.view c.args.key r c.find_holder.new.seat.view) c.in-Some.is
+      c.in_ok-holder.ensures.sought) (λ (kept : ℕ) (done : Replaced) a e. c.in_ok-done.ensures.stored kept done a (c.in-Some-2.is ∙ e))
+      (λ (kept : ℕ) a. subst (λ (r : Option Replaced). IsAt (shape_of g.W.WaitWords.WAY c.args.table.now) (Set c.args.key c.args.value) kept
+      (set_stage r) c.store_value.new.seat.view) c.in-Some-2.is (c.in_ok-done.ensures.at kept a));
+  listed = listed_on c.args.seat.now c.store_value.new.seat
+      (c.store_value.ensures.seat.1 ∙ c.find_holder.ensures.seat.1 ∙ c.loop.invariant.listed)
+      (stored_retired c.loop.invariant.tries c.requires.tickets c.in_ok-holder.ensures.place
+      (subst (λ (r : Option Holder). Sought
+      (shape_of g.W.WaitWords.WAY c.args.table.now) c.loop.seat.view c.args.key r c.find_holder.new.seat.view) c.in-Some.is
+      c.in_ok-holder.ensures.sought) (λ (kept : ℕ) (done : Replaced) a e. c.in_ok-done.ensures.stored kept done a (c.in-Some-2.is ∙ e))
+      (λ (kept : ℕ) a. subst (λ (r : Option Replaced). IsAt (shape_of g.W.WaitWords.WAY c.args.table.now)
+      (Set c.args.key c.args.value) kept (set_stage r) c.store_value.new.seat.view) c.in-Some-2.is
+      (c.in_ok-done.ensures.at kept a))) c.requires.quiet.listed;
 }
 
-pub returns-in-Some-store_value-clause-wait : goal.returns-in-Some-store_value-clause-wait
-returns-in-Some-store_value-clause-wait g c = stored_wait c.loop.invariant.tries c.requires.tickets c.find_holder.ensures.place c.in-Some-find_holder.ensures.sought c.in-Some-store_value.ensures.stored c.in-Some-store_value.ensures.at
+pub returns-in-Some-2-clause-wait : goal.returns-in-Some-2-clause-wait
+returns-in-Some-2-clause-wait g c = stored_wait c.loop.invariant.tries c.requires.tickets c.in_ok-holder.ensures.place
+    (subst (λ (r : Option Holder). Sought
+    (shape_of g.W.WaitWords.WAY c.args.table.now) c.loop.seat.view c.args.key r c.find_holder.new.seat.view) c.in-Some.is
+    c.in_ok-holder.ensures.sought) (λ (kept : ℕ) (done : Replaced) a e. c.in_ok-done.ensures.stored kept done a (c.in-Some-2.is ∙ e))
+    (λ (kept : ℕ) a. subst (λ (r : Option Replaced). IsAt (shape_of g.W.WaitWords.WAY c.args.table.now) (Set c.args.key c.args.value) kept
+    (set_stage r) c.store_value.new.seat.view) c.in-Some-2.is (c.in_ok-done.ensures.at kept a))
 
-pub returns-in-Some-store_value-clause-tickets : goal.returns-in-Some-store_value-clause-tickets
-returns-in-Some-store_value-clause-tickets g c = stored_tickets c.loop.invariant.tries c.requires.tickets c.find_holder.ensures.place c.in-Some-find_holder.ensures.sought c.in-Some-store_value.ensures.stored c.in-Some-store_value.ensures.at
+pub returns-in-Some-2-clause-tickets : goal.returns-in-Some-2-clause-tickets
+returns-in-Some-2-clause-tickets g c = stored_tickets c.loop.invariant.tries c.requires.tickets c.in_ok-holder.ensures.place
+    (subst (λ (r : Option Holder). Sought
+    (shape_of g.W.WaitWords.WAY c.args.table.now) c.loop.seat.view c.args.key r c.find_holder.new.seat.view) c.in-Some.is
+    c.in_ok-holder.ensures.sought) (λ (kept : ℕ) (done : Replaced) a e. c.in_ok-done.ensures.stored kept done a (c.in-Some-2.is ∙ e))
+    (λ (kept : ℕ) a. subst (λ (r : Option Replaced). IsAt (shape_of g.W.WaitWords.WAY c.args.table.now) (Set c.args.key c.args.value) kept
+    (set_stage r) c.store_value.new.seat.view) c.in-Some-2.is (c.in_ok-done.ensures.at kept a))
 
 pub loop-preserved : goal.loop-preserved
 loop-preserved g c = record {
   table = c.store_value.ensures.seat.0 ∙ c.find_holder.ensures.seat.0 ∙ c.loop.invariant.table;
   listed = c.store_value.ensures.seat.1 ∙ c.find_holder.ensures.seat.1 ∙ c.loop.invariant.listed;
-  tries = tries_again c.loop.invariant.tries c.requires.tickets c.find_holder.ensures.place c.in-Some-find_holder.ensures.sought (c.in_default-store_value.ensures.again refl) c.in_default-store_value.ensures.at;
+  tries = tries_again c.loop.invariant.tries c.requires.tickets c.in_ok-holder.ensures.place
+      (subst (λ (r : Option Holder). Sought
+      (shape_of g.W.WaitWords.WAY c.args.table.now) c.loop.seat.view c.args.key r c.find_holder.new.seat.view) c.in-Some.is
+      c.in_ok-holder.ensures.sought) (c.in_ok-done.ensures.again c.in_default-2.is)
+      (λ (kept : ℕ) a. subst (λ (r : Option Replaced). IsAt (shape_of g.W.WaitWords.WAY c.args.table.now) (Set c.args.key c.args.value) kept
+      (set_stage r) c.store_value.new.seat.view) c.in_default-2.is (c.in_ok-done.ensures.at kept a));
 }
 
 pub returns-in_default-clause-slots : goal.returns-in_default-clause-slots
-returns-in_default-clause-slots g c = slots_goes c.args.seat.now c.find_holder.new.seat _ (absent_goes c.loop.invariant.tries c.requires.tickets c.in_default.ensures.sought) (c.find_holder.ensures.seat.1 ∙ c.loop.invariant.listed)
+returns-in_default-clause-slots g c =
+    slots_goes c.args.seat.now c.find_holder.new.seat _ (absent_goes c.loop.invariant.tries c.requires.tickets
+    (subst (λ (r : Option Holder). Sought
+    (shape_of g.W.WaitWords.WAY c.args.table.now) c.loop.seat.view c.args.key r c.find_holder.new.seat.view) c.in_default.is
+    c.in_ok-holder.ensures.sought)) (c.find_holder.ensures.seat.1 ∙ c.loop.invariant.listed)
 
-pub returns-in-Some-store_value-clause-slots : goal.returns-in-Some-store_value-clause-slots
-returns-in-Some-store_value-clause-slots g c =
-    slots_goes c.args.seat.now c.store_value.new.seat _ (goes_all c.loop.invariant.tries c.requires.tickets c.find_holder.ensures.place c.in-Some-find_holder.ensures.sought c.in-Some-store_value.ensures.stored c.in-Some-store_value.ensures.at)
+pub returns-in-Some-2-clause-slots : goal.returns-in-Some-2-clause-slots
+returns-in-Some-2-clause-slots g c =
+    slots_goes c.args.seat.now c.store_value.new.seat _ (goes_all c.loop.invariant.tries c.requires.tickets c.in_ok-holder.ensures.place
+    (subst (λ (r : Option Holder). Sought
+    (shape_of g.W.WaitWords.WAY c.args.table.now) c.loop.seat.view c.args.key r c.find_holder.new.seat.view) c.in-Some.is
+    c.in_ok-holder.ensures.sought) (λ (kept : ℕ) (done : Replaced) a e. c.in_ok-done.ensures.stored kept done a (c.in-Some-2.is ∙ e))
+    (λ (kept : ℕ) a. subst (λ (r : Option Replaced). IsAt (shape_of g.W.WaitWords.WAY c.args.table.now)
+    (Set c.args.key c.args.value) kept (set_stage r) c.store_value.new.seat.view) c.in-Some-2.is (c.in_ok-done.ensures.at kept a)))
     (c.store_value.ensures.seat.1 ∙ c.find_holder.ensures.seat.1 ∙ c.loop.invariant.listed)
+
+pub returns-in_default-clause-allowance : goal.returns-in_default-clause-allowance
+returns-in_default-clause-allowance g c = (absent_goes c.loop.invariant.tries c.requires.tickets
+    (subst (λ (r : Option Holder). Sought
+    (shape_of g.W.WaitWords.WAY c.args.table.now) c.loop.seat.view c.args.key r c.find_holder.new.seat.view) c.in_default.is
+    c.in_ok-holder.ensures.sought)).gone.allowance
+
+pub returns-in-Some-2-clause-allowance : goal.returns-in-Some-2-clause-allowance
+returns-in-Some-2-clause-allowance g c = (goes_all c.loop.invariant.tries c.requires.tickets c.in_ok-holder.ensures.place
+    (subst (λ (r : Option Holder). Sought
+    (shape_of g.W.WaitWords.WAY c.args.table.now) c.loop.seat.view c.args.key r c.find_holder.new.seat.view) c.in-Some.is
+    c.in_ok-holder.ensures.sought) (λ (kept : ℕ) (done : Replaced) a e. c.in_ok-done.ensures.stored kept done a (c.in-Some-2.is ∙ e))
+    (λ (kept : ℕ) a. subst (λ (r : Option Replaced). IsAt (shape_of g.W.WaitWords.WAY c.args.table.now) (Set c.args.key c.args.value) kept
+    (set_stage r) c.store_value.new.seat.view) c.in-Some-2.is (c.in_ok-done.ensures.at kept a))).gone.allowance

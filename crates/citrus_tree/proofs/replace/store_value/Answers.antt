@@ -7,36 +7,59 @@ pub locked_load-life-requires-clause-asks : goal.locked_load-life-requires-claus
 locked_load-life-requires-clause-asks g c = loads_life c.requires.at.1 c.lock.ensures.told c.if-lock-ne0.false
 
 pub unlock-requires-clause-asks : goal.unlock-requires-clause-asks
-unlock-requires-clause-asks g c = gives_up c.requires.at.1 c.lock.ensures.told c.if-lock-ne0.false c.locked_load-life.ensures.told (not_alive _ _ c.is_life-holds.ensures c.if-not-holds.true)
+unlock-requires-clause-asks g c = gives_up c.requires.at.1 c.lock.ensures.told c.if-lock-ne0.false c.locked_load-life.ensures.told
+    (not_alive _ _ c.is_life-holds.ensures c.if-not-holds.true)
 
 pub returns-then-not-holds-clause-at : goal.returns-then-not-holds-clause-at
-returns-then-not-holds-clause-at g c kept a = again_at a c.lock.ensures.told c.if-lock-ne0.false c.locked_load-life.ensures.told (not_alive _ _ c.is_life-holds.ensures c.if-not-holds.true) c.unlock.ensures.told
+returns-then-not-holds-clause-at g c kept a = again_at a c.lock.ensures.told c.if-lock-ne0.false c.locked_load-life.ensures.told
+    (not_alive _ _ c.is_life-holds.ensures c.if-not-holds.true) c.unlock.ensures.told
 
 pub locked_load-old-requires-clause-asks : goal.locked_load-old-requires-clause-asks
-locked_load-old-requires-clause-asks g c = loads_value c.requires.at.1 c.lock.ensures.told c.if-lock-ne0.false c.locked_load-life.ensures.told (is_alive _ _ c.is_life-holds.ensures c.if-not-holds.false)
+locked_load-old-requires-clause-asks g c =
+    loads_value c.requires.at.1 c.lock.ensures.told c.if-lock-ne0.false c.locked_load-life.ensures.told
+    (is_alive _ _ c.is_life-holds.ensures c.if-not-holds.false)
 
 pub replace_value-requires-clause-asks : goal.replace_value-requires-clause-asks
 replace_value-requires-clause-asks g c =
-    stores c.requires.at.1 c.lock.ensures.told c.if-lock-ne0.false c.locked_load-life.ensures.told (is_alive _ _ c.is_life-holds.ensures c.if-not-holds.false) c.locked_load-old.ensures.told c.open_front-front.ensures.opened
-    (c.open_front-front.ensures.at _ _ _ _ (committing c.requires.at.1 c.lock.ensures.told c.if-lock-ne0.false c.locked_load-life.ensures.told (is_alive _ _ c.is_life-holds.ensures c.if-not-holds.false) c.locked_load-old.ensures.told))
+    stores c.requires.at.1 c.lock.ensures.told c.if-lock-ne0.false c.locked_load-life.ensures.told
+    (is_alive _ _ c.is_life-holds.ensures c.if-not-holds.false) c.locked_load-old.ensures.told c.in_ok-front.ensures.opened
+    (c.in_ok-front.ensures.at _ _ _ _ (committing c.requires.at.1 c.lock.ensures.told c.if-lock-ne0.false c.locked_load-life.ensures.told
+    (is_alive _ _ c.is_life-holds.ensures c.if-not-holds.false) c.locked_load-old.ensures.told))
 
 pub unlock-requires-2-clause-asks : goal.unlock-requires-2-clause-asks
 unlock-requires-2-clause-asks g c =
-    let storing = c.open_front-front.ensures.at _ _ _ _ (committing c.requires.at.1 c.lock.ensures.told c.if-lock-ne0.false c.locked_load-life.ensures.told (is_alive _ _ c.is_life-holds.ensures c.if-not-holds.false) c.locked_load-old.ensures.told) in
-    lets_go c.requires.at.1 c.lock.ensures.told c.if-lock-ne0.false c.locked_load-life.ensures.told (is_alive _ _ c.is_life-holds.ensures c.if-not-holds.false) c.locked_load-old.ensures.told c.open_front-front.ensures.opened storing c.replace_value.ensures.told c.close_front-number.ensures.closed
-    (c.close_front-number.ensures.at _ _ _ (evening c.requires.at.1 c.lock.ensures.told c.if-lock-ne0.false c.locked_load-life.ensures.told (is_alive _ _ c.is_life-holds.ensures c.if-not-holds.false) c.locked_load-old.ensures.told c.open_front-front.ensures.opened storing c.replace_value.ensures.told))
+    let storing =
+    c.in_ok-front.ensures.at _ _ _ _ (committing c.requires.at.1 c.lock.ensures.told c.if-lock-ne0.false c.locked_load-life.ensures.told
+    (is_alive _ _ c.is_life-holds.ensures c.if-not-holds.false) c.locked_load-old.ensures.told) in
+    lets_go c.requires.at.1 c.lock.ensures.told c.if-lock-ne0.false c.locked_load-life.ensures.told
+    (is_alive _ _ c.is_life-holds.ensures c.if-not-holds.false) c.locked_load-old.ensures.told c.in_ok-front.ensures.opened storing
+    c.replace_value.ensures.told c.close_front-number.ensures.closed
+    (c.close_front-number.ensures.at _ _ _ (evening c.requires.at.1 c.lock.ensures.told c.if-lock-ne0.false c.locked_load-life.ensures.told
+    (is_alive _ _ c.is_life-holds.ensures c.if-not-holds.false) c.locked_load-old.ensures.told c.in_ok-front.ensures.opened storing
+    c.replace_value.ensures.told))
 
 pub returns-clause-stored : goal.returns-clause-stored
 returns-clause-stored g c kept done a e =
-    let storing = c.open_front-front.ensures.at _ _ _ _ (committing a c.lock.ensures.told c.if-lock-ne0.false c.locked_load-life.ensures.told (is_alive _ _ c.is_life-holds.ensures c.if-not-holds.false) c.locked_load-old.ensures.told) in
+    let storing = c.in_ok-front.ensures.at _ _ _ _ (committing a c.lock.ensures.told c.if-lock-ne0.false c.locked_load-life.ensures.told
+    (is_alive _ _ c.is_life-holds.ensures c.if-not-holds.false) c.locked_load-old.ensures.told) in
     let is : ◌≡◌ {A = Replaced} done (record { old = c.locked_load-old.result; number = c.close_front-number.result }) = cc in
-    stored a c.lock.ensures.told c.if-lock-ne0.false c.locked_load-life.ensures.told (is_alive _ _ c.is_life-holds.ensures c.if-not-holds.false) c.locked_load-old.ensures.told c.open_front-front.ensures.opened storing c.replace_value.ensures.told c.close_front-number.ensures.closed
-    (c.close_front-number.ensures.at _ _ _ (evening a c.lock.ensures.told c.if-lock-ne0.false c.locked_load-life.ensures.told (is_alive _ _ c.is_life-holds.ensures c.if-not-holds.false) c.locked_load-old.ensures.told c.open_front-front.ensures.opened storing c.replace_value.ensures.told))
-    c.unlock-2.ensures.told done (ap (λ (z : Replaced). z.old) is) (ap (λ (z : Replaced). z.number) is ∙ c.close_front-number.ensures.number)
+    stored a c.lock.ensures.told c.if-lock-ne0.false c.locked_load-life.ensures.told
+    (is_alive _ _ c.is_life-holds.ensures c.if-not-holds.false) c.locked_load-old.ensures.told c.in_ok-front.ensures.opened storing
+    c.replace_value.ensures.told c.close_front-number.ensures.closed
+    (c.close_front-number.ensures.at _ _ _ (evening a c.lock.ensures.told c.if-lock-ne0.false c.locked_load-life.ensures.told
+    (is_alive _ _ c.is_life-holds.ensures c.if-not-holds.false) c.locked_load-old.ensures.told c.in_ok-front.ensures.opened storing
+    c.replace_value.ensures.told))
+    c.unlock-2.ensures.told done (ap (λ (z : Replaced). z.old) is)
+    (ap (λ (z : Replaced). z.number) is ∙ c.close_front-number.ensures.number)
 
 pub returns-clause-at : goal.returns-clause-at
 returns-clause-at g c kept a =
-    let storing = c.open_front-front.ensures.at _ _ _ _ (committing a c.lock.ensures.told c.if-lock-ne0.false c.locked_load-life.ensures.told (is_alive _ _ c.is_life-holds.ensures c.if-not-holds.false) c.locked_load-old.ensures.told) in
-    done_at a c.lock.ensures.told c.if-lock-ne0.false c.locked_load-life.ensures.told (is_alive _ _ c.is_life-holds.ensures c.if-not-holds.false) c.locked_load-old.ensures.told c.open_front-front.ensures.opened storing c.replace_value.ensures.told c.close_front-number.ensures.closed
-    (c.close_front-number.ensures.at _ _ _ (evening a c.lock.ensures.told c.if-lock-ne0.false c.locked_load-life.ensures.told (is_alive _ _ c.is_life-holds.ensures c.if-not-holds.false) c.locked_load-old.ensures.told c.open_front-front.ensures.opened storing c.replace_value.ensures.told))
+    let storing = c.in_ok-front.ensures.at _ _ _ _ (committing a c.lock.ensures.told c.if-lock-ne0.false c.locked_load-life.ensures.told
+    (is_alive _ _ c.is_life-holds.ensures c.if-not-holds.false) c.locked_load-old.ensures.told) in
+    done_at a c.lock.ensures.told c.if-lock-ne0.false c.locked_load-life.ensures.told
+    (is_alive _ _ c.is_life-holds.ensures c.if-not-holds.false) c.locked_load-old.ensures.told c.in_ok-front.ensures.opened storing
+    c.replace_value.ensures.told c.close_front-number.ensures.closed
+    (c.close_front-number.ensures.at _ _ _ (evening a c.lock.ensures.told c.if-lock-ne0.false c.locked_load-life.ensures.told
+    (is_alive _ _ c.is_life-holds.ensures c.if-not-holds.false) c.locked_load-old.ensures.told c.in_ok-front.ensures.opened storing
+    c.replace_value.ensures.told))
     c.unlock-2.ensures.told

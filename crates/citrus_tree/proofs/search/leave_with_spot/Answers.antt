@@ -3,4 +3,8 @@ use Rattle.citrus_tree.proofs.searches.Searching.{finished}
 use Rattle.citrus_tree.proofs.search.leave_with_spot.Goals as goal
 
 pub returns-clause-looked : goal.returns-clause-looked
-returns-clause-looked g c v key i = finished (shape_of g.W.WaitWords.WAY c.args.table.now) v key c.args.slot c.args.side c.args.seat.now.view i c.requires.slot c.search_load-tag.result c.search_load-tag.new.seat.view c.search_load-tag.ensures.told c.search_load-life.result c.search_load-life.new.seat.view c.search_load-life.ensures.told c.generation_of.result c.leave.new.seat.view c.generation_of.ensures c.leave.ensures.left
+returns-clause-looked g c v key i =
+    finished (shape_of g.W.WaitWords.WAY c.args.table.now) v key c.args.slot c.args.side c.args.seat.now.view i c.requires.slot
+    c.search_load-tag.result c.search_load-tag.new.seat.view c.search_load-tag.ensures.told c.search_load-life.result
+    c.search_load-life.new.seat.view c.search_load-life.ensures.told c.generation_of.result c.leave.new.seat.view c.generation_of.ensures
+    c.leave.ensures.left

@@ -11,4 +11,5 @@ give_back-requires-clause-unraised g c = λ latest. quiet_unraised c.ask.new.sea
 pub returns-in-Over-clause-sound : goal.returns-in-Over-clause-sound
 returns-in-Over-clause-sound g c = λ sound.
     let good = subst (IsGood (shape_of g.W.WaitWords.WAY c.args.table.now) c.args.seat.now) c.in_ok-held.was c.requires.good in
-    informed_sound c.give_back.new.seat.view (c.give_back.ensures.informed (found_informed _ c.in_ok-held.held c.args.seat.now.view _ _ good.0 c.in-Over.ensures.asked))
+    informed_sound c.give_back.new.seat.view (c.give_back.ensures.informed
+    (found_informed _ c.in_ok-held.held c.args.seat.now.view _ _ good.0 c.in-Over.ensures.asked))

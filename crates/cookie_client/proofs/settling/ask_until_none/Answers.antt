@@ -9,7 +9,8 @@ loop-init g c = (refl, c.requires.quiet, c.requires.good, λ left u asks. ([], a
 pub returns-then-is_none-clause-asks : goal.returns-then-is_none-clause-asks
 returns-then-is_none-clause-asks g c =
     let e = c.ask_once-held.ensures in
-    asked_out (shape_of g.W.WaitWords.WAY c.args.table.now) c.args.cookie c.args.seat.now c.loop.held c.loop.seat c.ask_once-held.result c.ask_once-held.new.seat c.loop.invariant.3 e.asks
+    asked_out (shape_of g.W.WaitWords.WAY c.args.table.now) c.args.cookie c.args.seat.now c.loop.held c.loop.seat c.ask_once-held.result
+    c.ask_once-held.new.seat c.loop.invariant.3 e.asks
     (c.is_none.ensures ∙ ap not c.if-is_none.true)
 
 pub loop-preserved : goal.loop-preserved
@@ -18,6 +19,7 @@ loop-preserved g c =
       e.table ∙ c.loop.invariant.0,
       e.quiet,
       e.good,
-      still_asked (shape_of g.W.WaitWords.WAY c.args.table.now) c.args.cookie c.args.seat.now c.loop.held c.loop.seat c.ask_once-held.result c.ask_once-held.new.seat c.loop.invariant.3 e.asks
+      still_asked (shape_of g.W.WaitWords.WAY c.args.table.now) c.args.cookie c.args.seat.now c.loop.held c.loop.seat c.ask_once-held.result
+          c.ask_once-held.new.seat c.loop.invariant.3 e.asks
           (c.is_none.ensures ∙ ap not c.if-is_none.false) e.good,
     )

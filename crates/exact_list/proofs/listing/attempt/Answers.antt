@@ -8,24 +8,30 @@ use Rattle.exact_list.proofs.listing.attempt.Goals as goal
 
 pub returns-in-None-clause-holds : goal.returns-in-None-clause-holds
 returns-in-None-clause-holds g c =
-    let z = looks_twice c.low.ensures.low c.enter.ensures.entered c.look_at_front-first.ensures.told c.gather-next.ensures.gathered.0 c.look_at_front-last.ensures.told c.leave-2.ensures.left c.requires.outside in
-    holds_whole z c.if-last-first.false (sym c.linking.ensures ∙ c.if-linking.false) c.front_of-front.ensures c.args.keys.now c.gather-next.new.page c.gather-next.ensures.page.1
-    (subst (Gathers z.loads.after c.args.keys.now c.gather-next.new.page) c.in-None.is c.gather-next.ensures.gathered.1)
+    let z = looks_twice c.low.ensures.low c.enter.ensures.entered c.look_at_front-first.ensures.told c.in_ok-next.ensures.gathered.0
+    c.look_at_front-last.ensures.told c.leave-2.ensures.left c.requires.outside in
+    holds_whole z c.if-last-first.false (sym c.linking.ensures
+    ∙ c.if-linking.false) c.front_of-front.ensures c.args.keys.now c.gather.new.page c.in_ok-next.ensures.page.1
+    (subst (Gathers z.loads.after c.args.keys.now c.gather.new.page) c.in-None.is c.in_ok-next.ensures.gathered.1)
 
 pub returns-in-Some-clause-holds : goal.returns-in-Some-clause-holds
 returns-in-Some-clause-holds g c =
-    let z = looks_twice c.low.ensures.low c.enter.ensures.entered c.look_at_front-first.ensures.told c.gather-next.ensures.gathered.0 c.look_at_front-last.ensures.told c.leave-2.ensures.left c.requires.outside in
-    holds_part z c.if-last-first.false (sym c.linking.ensures ∙ c.if-linking.false) c.front_of-front.ensures c.args.keys.now c.in-Some.next c.gather-next.new.page
-    (subst (Gathers z.loads.after c.args.keys.now c.gather-next.new.page) c.in-Some.is c.gather-next.ensures.gathered.1)
+    let z = looks_twice c.low.ensures.low c.enter.ensures.entered c.look_at_front-first.ensures.told c.in_ok-next.ensures.gathered.0
+    c.look_at_front-last.ensures.told c.leave-2.ensures.left c.requires.outside in
+    holds_part z c.if-last-first.false (sym c.linking.ensures
+    ∙ c.if-linking.false) c.front_of-front.ensures c.args.keys.now c.in-Some.next c.gather.new.page
+    (subst (Gathers z.loads.after c.args.keys.now c.gather.new.page) c.in-Some.is c.in_ok-next.ensures.gathered.1)
 
 pub returns-in-None-clause-recent : goal.returns-in-None-clause-recent
 returns-in-None-clause-recent g c =
-    let z = looks_twice c.low.ensures.low c.enter.ensures.entered c.look_at_front-first.ensures.told c.gather-next.ensures.gathered.0 c.look_at_front-last.ensures.told c.leave-2.ensures.left c.requires.outside in
+    let z = looks_twice c.low.ensures.low c.enter.ensures.entered c.look_at_front-first.ensures.told c.in_ok-next.ensures.gathered.0
+    c.look_at_front-last.ensures.told c.leave-2.ensures.left c.requires.outside in
     recent z c.if-last-first.false (sym c.linking.ensures ∙ c.if-linking.false) c.front_of-front.ensures
 
 pub returns-in-Some-clause-recent : goal.returns-in-Some-clause-recent
 returns-in-Some-clause-recent g c =
-    let z = looks_twice c.low.ensures.low c.enter.ensures.entered c.look_at_front-first.ensures.told c.gather-next.ensures.gathered.0 c.look_at_front-last.ensures.told c.leave-2.ensures.left c.requires.outside in
+    let z = looks_twice c.low.ensures.low c.enter.ensures.entered c.look_at_front-first.ensures.told c.in_ok-next.ensures.gathered.0
+    c.look_at_front-last.ensures.told c.leave-2.ensures.left c.requires.outside in
     recent z c.if-last-first.false (sym c.linking.ensures ∙ c.if-linking.false) c.front_of-front.ensures
 
 pub returns-then-linking-clause-tried : goal.returns-then-linking-clause-tried
@@ -35,15 +41,21 @@ returns-then-linking-clause-tried g c =
     let key = c.args.keys.now.low in
     let first = c.look_at_front-first.result in
     let a = c.look_at_front-first.new.seat.view in
-    let i = first_try k v key c.low.result c.enter.new.seat.view first a c.low.ensures.low c.enter.ensures.entered c.look_at_front-first.ensures.told in
-    (record { first = first; second = None }, tried_once k v key first a i c.leave.new.seat.view c.leave.ensures.left c.requires.outside, moved_at_first k v key first a i c.leave.new.seat.view c.leave.ensures.left c.requires.outside (eqb-true _ 1 (sym c.linking.ensures ∙ c.if-linking.true)))
+    let i = first_try k v key c.low.result c.enter.new.seat.view first a c.low.ensures.low c.enter.ensures.entered
+    c.look_at_front-first.ensures.told in (
+      record { first = first; second = None },
+      tried_once k v key first a i c.leave.new.seat.view c.leave.ensures.left c.requires.outside,
+      moved_at_first k v key first a i c.leave.new.seat.view c.leave.ensures.left c.requires.outside
+          (eqb-true _ 1 (sym c.linking.ensures ∙ c.if-linking.true)),
+    )
 
-pub gather-next-requires-clause-listing : goal.gather-next-requires-clause-listing
-gather-next-requires-clause-listing g c =
+pub gather-requires-clause-listing : goal.gather-requires-clause-listing
+gather-requires-clause-listing g c =
     let k = shape_of g.W.WaitWords.WAY c.args.table.now in
     let v = c.args.seat.now.view in
     let key = c.args.keys.now.low in
-    let i = first_try k v key c.low.result c.enter.new.seat.view c.look_at_front-first.result c.look_at_front-first.new.seat.view c.low.ensures.low c.enter.ensures.entered c.look_at_front-first.ensures.told in
+    let i = first_try k v key c.low.result c.enter.new.seat.view c.look_at_front-first.result c.look_at_front-first.new.seat.view
+    c.low.ensures.low c.enter.ensures.entered c.look_at_front-first.ensures.told in
     begun_listing v key c.look_at_front-first.result c.look_at_front-first.new.seat.view i
 
 pub look_at_front-last-requires-clause-asks : goal.look_at_front-last-requires-clause-asks
@@ -53,21 +65,34 @@ look_at_front-last-requires-clause-asks g c = λ told.
     let key = c.args.keys.now.low in
     let first = c.look_at_front-first.result in
     let a = c.look_at_front-first.new.seat.view in
-    let b = c.gather-next.new.seat.view in
-    let i = first_try k v key c.low.result c.enter.new.seat.view first a c.low.ensures.low c.enter.ensures.entered c.look_at_front-first.ensures.told in
-    may_look v key (first ∷ []) b (loaded_try v key (first ∷ []) a i b c.gather-next.ensures.gathered.0) k
+    let b = c.gather.new.seat.view in
+    let i = first_try k v key c.low.result c.enter.new.seat.view first a c.low.ensures.low c.enter.ensures.entered
+    c.look_at_front-first.ensures.told in
+    may_look v key (first ∷ []) b (loaded_try v key (first ∷ []) a i b c.in_ok-next.ensures.gathered.0) k
 
 pub returns-then-last-first-clause-tried : goal.returns-then-last-first-clause-tried
 returns-then-last-first-clause-tried g c =
-    let z = looks_twice c.low.ensures.low c.enter.ensures.entered c.look_at_front-first.ensures.told c.gather-next.ensures.gathered.0 c.look_at_front-last.ensures.told c.leave-2.ensures.left c.requires.outside in
-    (record { first = c.look_at_front-first.result; second = Some c.look_at_front-last.result }, tried_twice z, moved_between z (sym c.linking.ensures ∙ c.if-linking.false) (omega (arith, c.if-last-first.true)))
+    let z = looks_twice c.low.ensures.low c.enter.ensures.entered c.look_at_front-first.ensures.told c.in_ok-next.ensures.gathered.0
+    c.look_at_front-last.ensures.told c.leave-2.ensures.left c.requires.outside in (
+      record { first = c.look_at_front-first.result; second = Some c.look_at_front-last.result },
+      tried_twice z,
+      moved_between z (sym c.linking.ensures ∙ c.if-linking.false) (omega (arith, c.if-last-first.true)),
+    )
 
 pub returns-in-None-clause-tried : goal.returns-in-None-clause-tried
 returns-in-None-clause-tried g c =
-    let z = looks_twice c.low.ensures.low c.enter.ensures.entered c.look_at_front-first.ensures.told c.gather-next.ensures.gathered.0 c.look_at_front-last.ensures.told c.leave-2.ensures.left c.requires.outside in
-    (record { first = c.look_at_front-first.result; second = Some c.look_at_front-last.result }, tried_twice z, stood z c.if-last-first.false (sym c.linking.ensures ∙ c.if-linking.false) c.front_of-front.ensures)
+    let z = looks_twice c.low.ensures.low c.enter.ensures.entered c.look_at_front-first.ensures.told c.in_ok-next.ensures.gathered.0
+    c.look_at_front-last.ensures.told c.leave-2.ensures.left c.requires.outside in (
+      record { first = c.look_at_front-first.result; second = Some c.look_at_front-last.result },
+      tried_twice z,
+      stood z c.if-last-first.false (sym c.linking.ensures ∙ c.if-linking.false) c.front_of-front.ensures,
+    )
 
 pub returns-in-Some-clause-tried : goal.returns-in-Some-clause-tried
 returns-in-Some-clause-tried g c =
-    let z = looks_twice c.low.ensures.low c.enter.ensures.entered c.look_at_front-first.ensures.told c.gather-next.ensures.gathered.0 c.look_at_front-last.ensures.told c.leave-2.ensures.left c.requires.outside in
-    (record { first = c.look_at_front-first.result; second = Some c.look_at_front-last.result }, tried_twice z, stood z c.if-last-first.false (sym c.linking.ensures ∙ c.if-linking.false) c.front_of-front.ensures)
+    let z = looks_twice c.low.ensures.low c.enter.ensures.entered c.look_at_front-first.ensures.told c.in_ok-next.ensures.gathered.0
+    c.look_at_front-last.ensures.told c.leave-2.ensures.left c.requires.outside in (
+      record { first = c.look_at_front-first.result; second = Some c.look_at_front-last.result },
+      tried_twice z,
+      stood z c.if-last-first.false (sym c.linking.ensures ∙ c.if-linking.false) c.front_of-front.ensures,
+    )

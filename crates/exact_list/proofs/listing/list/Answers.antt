@@ -10,15 +10,19 @@ loop-tried-preserved g c =
     let made = i.tried.0 in
     let v = c.args.seat.now.view in
     let mid = c.loop-tried.seat.view in
-    let w = c.attempt-listed-in-Moved.new.seat.view in
-    let t = c.attempt-listed-in-Moved.ensures.tried in
-    let r = c.attempt-listed-in-Moved.result in
+    let w = c.attempt-in-Moved.new.seat.view in
+    let t = c.in_ok-listed-in-Moved.ensures.tried in
+    let r = c.in_ok-listed-in-Moved.listed in
     let given = subst (λ z. EndAs z c.loop-tried.tried made) c.in-Moved.is i.tried.2 in record {
       table = search rules;
       listed = search rules;
       capacity = search rules;
       few = search rules;
-      tried = (made ++ t.0 ∷ [], tried_both v mid w c.args.keys.low made (t.0 ∷ []) i.tried.1 t.1, ends_later r c.in-Moved.first c.in-Moved.last c.loop-tried.tried made (t.0 ∷ []) given t.2);
-      holds = c.attempt-listed-in-Moved.ensures.holds;
-      recent = recent_later r v.seen mid.seen w.seen i.tried.1.seen c.attempt-listed-in-Moved.ensures.recent;
+      tried = (
+        made ++ t.0 ∷ [],
+        tried_both v mid w c.args.keys.low made (t.0 ∷ []) i.tried.1 t.1,
+        ends_later r c.in-Moved.first c.in-Moved.last c.loop-tried.tried made (t.0 ∷ []) given t.2,
+      );
+      holds = c.in_ok-listed-in-Moved.ensures.holds;
+      recent = recent_later r v.seen mid.seen w.seen i.tried.1.seen c.in_ok-listed-in-Moved.ensures.recent;
     }

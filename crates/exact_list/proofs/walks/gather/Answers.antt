@@ -1,55 +1,87 @@
-use Rattle.std.proofs.Common.{rules, ◌+◌, length, refl, sym, ap, subst, ◌∙◌, arith}
+use Rattle.std.proofs.Common.{rules, ◌+◌, refl, sym, ap, subst, ◌∙◌, length, arith}
+use Rattle.seat_table.specs.Seats.{shape_of}
 use Rattle.exact_list.proofs.Loading.{still_listing}
-use Rattle.exact_list.proofs.Gathering.{Gathered, gathered_none, gathers_rest, gathers_below, gathers_next, gathers_pair, above_from}
+use Rattle.exact_list.proofs.Walking.{may_begin}
+use Rattle.exact_list.proofs.Gathering.{Gathered, starts, descends, may_restart, restarts, ends, meets, ends_below, may_value_met, has_value, gathers_pair, may_go_right, walks_on}
 use Rattle.exact_list.proofs.walks.gather.Goals as goal
+
+pub list_load-link-requires-clause-asks : goal.list_load-link-requires-clause-asks
+list_load-link-requires-clause-asks g c = λ told. may_begin
+    (shape_of g.W.WaitWords.WAY c.args.table.now) c.args.seat.now.view c.args.seat.now.view c.requires.listing
 
 pub loop-init : goal.loop-init
 loop-init g c =
-    let v = c.args.seat.now.view in
-    let empty = ap length c.requires.empty in
     let low = c.low-from.ensures.low in
     let ordered = c.low-from.ensures.ordered in
     record {
-      table = refl;
-      listed = refl;
+      table = search rules;
+      listed = search rules;
       capacity = refl;
-      room = omega (arith, empty);
+      room = (let empty = ap length c.requires.empty in omega (arith, empty));
       low = omega (arith, low);
       high = omega (arith, low, ordered);
-      gathered = subst (λ z. Gathered v v c.args.keys.now.low z c.args.page.now.pairs) (sym low) (gathered_none v c.args.keys.now.low c.args.page.now.pairs c.requires.listing c.requires.empty);
+      walks = starts (sym low) c.requires.listing c.requires.empty c.new-way.ensures.none c.list_load-link.ensures.told;
     }
 
-pub least-requires-clause-listing : goal.least-requires-clause-listing
-least-requires-clause-listing g c = still_listing c.args.seat.now.view c.loop.seat.view c.loop.invariant.gathered.0
+pub descend-requires-clause-come : goal.descend-requires-clause-come
+descend-requires-clause-come g c = let w = c.loop.invariant.walks in (still_listing c.args.seat.now.view c.loop.seat.view w.loaded, w.come)
 
-pub returns-in_default-clause-gathered : goal.returns-in_default-clause-gathered
-returns-in_default-clause-gathered g c =
+pub returns-in-Done-clause-gathered : goal.returns-in-Done-clause-gathered
+returns-in-Done-clause-gathered g c =
     let i = c.loop.invariant in
     let high = c.high-high.ensures.high in
     let fits = c.high-high.type_inv in
-    gathers_rest c.args.seat.now.view c.loop.seat.view c.least.new.seat.view c.args.keys.now.low c.loop.from c.loop.page.pairs i.gathered c.least.result c.least.ensures.least (c.args.keys.now.high + 1) c.in_default.is (omega (arith, i.high)) (omega (arith, high, fits))
+    ends c.next.new.self (c.args.keys.now.high + 1) (descends i.walks c.in_ok-descend.ensures.ended) c.next.ensures c.in-Done.is
+    (let at = i.high in omega (arith, at)) (omega (arith, high, fits))
+
+pub list_load-link-requires-in-Lost-clause-asks : goal.list_load-link-requires-in-Lost-clause-asks
+list_load-link-requires-in-Lost-clause-asks g c = λ told. may_restart (descends c.loop.invariant.walks c.in_ok-descend.ensures.ended)
+
+pub loop-preserved-in-Lost : goal.loop-preserved-in-Lost
+loop-preserved-in-Lost g c =
+    let i = c.loop.invariant in
+    record {
+      table = search rules;
+      listed = search rules;
+      capacity = i.capacity;
+      room = i.room;
+      low = i.low;
+      high = i.high;
+      walks = restarts (descends i.walks c.in_ok-descend.ensures.ended) c.next.ensures c.in-Lost.is c.list_load-link-in-Lost.ensures.told;
+    }
 
 pub returns-then-key-high-clause-gathered : goal.returns-then-key-high-clause-gathered
 returns-then-key-high-clause-gathered g c =
     let i = c.loop.invariant in
     let high = c.high-high.ensures.high in
     let above = c.if-key-high.true in
-    gathers_below c.args.seat.now.view c.loop.seat.view c.least.new.seat.view c.args.keys.now.low c.loop.from c.loop.page.pairs i.gathered c.least.result c.least.ensures.least c.in-Some-least.key c.in-Some-least.value c.in-Some-least.is (c.args.keys.now.high + 1) (omega (arith, i.high)) (omega (arith, high, above))
+    ends_below (meets (descends i.walks c.in_ok-descend.ensures.ended) c.next.ensures c.in-At.is) (c.args.keys.now.high + 1)
+    (let at = i.high in omega (arith, at)) (omega (arith, high, above))
+
+pub list_load-value-requires-clause-asks : goal.list_load-value-requires-clause-asks
+list_load-value-requires-clause-asks g c = λ told. may_value_met
+    (meets (descends c.loop.invariant.walks c.in_ok-descend.ensures.ended) c.next.ensures c.in-At.is)
 
 pub returns-then-is_full-clause-gathered : goal.returns-then-is_full-clause-gathered
 returns-then-is_full-clause-gathered g c =
-    let i = c.loop.invariant in
     let high = c.high-high.ensures.high in
     let within = c.if-key-high.false in
-    let n = gathers_next c.args.seat.now.view c.loop.seat.view c.least.new.seat.view c.args.keys.now.low c.loop.from c.loop.page.pairs i.gathered c.least.result c.least.ensures.least c.in-Some-least.key c.in-Some-least.value c.in-Some-least.is in
-    (n.0, (n.1, omega (arith, high, within), c.is_full.ensures.full.0 c.if-is_full.true, (c.in-Some-least.value, n.2)))
+    let n = has_value
+    (meets (descends c.loop.invariant.walks c.in_ok-descend.ensures.ended) c.next.ensures c.in-At.is) c.list_load-value.ensures.told in
+    (n.0, (n.1, omega (arith, high, within), c.is_full.ensures.full.0 c.if-is_full.true, (c.list_load-value.result, n.3)))
 
 pub returns-then-key-high-2-clause-gathered : goal.returns-then-key-high-2-clause-gathered
 returns-then-key-high-2-clause-gathered g c =
     let i = c.loop.invariant in
     let at_high = c.if-key-high-2.true ∙ c.high-high.ensures.high in
-    subst (λ z. Gathered c.args.seat.now.view c.least.new.seat.view c.args.keys.now.low (z + 1) c.add.new.self.pairs) at_high
-    (gathers_pair c.args.seat.now.view c.loop.seat.view c.least.new.seat.view c.args.keys.now.low c.loop.from c.loop.page.pairs i.gathered c.least.result c.least.ensures.least c.in-Some-least.key c.in-Some-least.value c.in-Some-least.is c.add.new.self.pairs c.add.ensures.added i.low)
+    let z = meets (descends i.walks c.in_ok-descend.ensures.ended) c.next.ensures c.in-At.is in
+    subst (λ x. Gathered c.args.seat.now.view c.list_load-value.new.seat.view c.args.keys.now.low (x + 1) c.add.new.self.pairs) at_high
+    (gathers_pair z c.list_load-value.ensures.told c.add.new.self.pairs c.add.ensures.added i.low)
+
+pub list_load-link-requires-in-loop-clause-asks : goal.list_load-link-requires-in-loop-clause-asks
+list_load-link-requires-in-loop-clause-asks g c = λ told.
+    may_go_right (meets
+    (descends c.loop.invariant.walks c.in_ok-descend.ensures.ended) c.next.ensures c.in-At.is) c.list_load-value.ensures.told
 
 pub loop-preserved : goal.loop-preserved
 loop-preserved g c =
@@ -57,12 +89,16 @@ loop-preserved g c =
     let high = c.high-high.ensures.high in
     let within = c.if-key-high.false in
     let below = c.if-key-high-2.false in
-    let more = above_from c.args.seat.now.view c.loop.seat.view c.least.new.seat.view c.args.keys.now.low c.loop.from c.loop.page.pairs i.gathered c.least.result c.least.ensures.least c.in-Some-least.key c.in-Some-least.value c.in-Some-least.is in record {
+    let z = meets (descends i.walks c.in_ok-descend.ensures.ended) c.next.ensures c.in-At.is in
+    let more = z.least in
+    let low = i.low in
+    record {
       table = search rules;
       listed = search rules;
       capacity = search rules;
       room = c.add.ensures.fits;
-      low = omega (arith, i.low, more);
+      low = omega (arith, low, more);
       high = omega (arith, high, within, below);
-      gathered = gathers_pair c.args.seat.now.view c.loop.seat.view c.least.new.seat.view c.args.keys.now.low c.loop.from c.loop.page.pairs i.gathered c.least.result c.least.ensures.least c.in-Some-least.key c.in-Some-least.value c.in-Some-least.is c.add.new.self.pairs c.add.ensures.added i.low;
+      walks = walks_on z c.list_load-value.ensures.told c.add.new.self.pairs c.add.ensures.added i.low
+          c.list_load-link-in-loop.ensures.told;
     }

@@ -1,6 +1,6 @@
 use Rattle.std.proofs.Common.{◌≡◌, ◌≤◌, length}
-use Rattle.exact_list.specs.Pairs.{Cover}
-use Rattle.exact_list.specs.Walked.{HasLoaded}
+use Rattle.seat_table.specs.Seats.{shape_of}
+use Rattle.exact_list.proofs.Gathering.{Walks}
 use Rattle.exact_list.proofs.walks.gather.Given as goal
 
 abbrev pub invariant-loop : goal.invariant-loop
@@ -11,5 +11,5 @@ invariant-loop g l = record {
   room : length l.page.pairs ≤ l.page.capacity;
   low : l.keys.low ≤ l.from;
   high : l.from ≤ l.keys.high;
-  gathered : (loaded : HasLoaded l.fn.seat.view l.seat.view) × Cover loaded.after.facts loaded.after.gaps l.keys.low l.from l.page.pairs;
+  walks : Walks (shape_of g.W.WaitWords.WAY l.table) l.fn.seat.view l.seat.view l.keys.low l.from l.link l.page.pairs l.way;
 }

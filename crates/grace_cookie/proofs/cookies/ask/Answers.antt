@@ -10,7 +10,8 @@ pub returns-in-Over-clause-asked : goal.returns-in-Over-clause-asked
 returns-in-Over-clause-asked g c =
     let k : Shape = shape_of g.W.WaitWords.WAY c.args.table.now in
     let was = sym (ap (λ (z : CookieAt). z.over) c.cookie.view_is) ∙ c.if-cookie.false in
-    let latest = is_latest _ _ _ _ c.requires.of.begun c.waits-latest.ensures (ap (λ (z : CookieAt). z.count) c.cookie.view_is) c.if-latest-cookie.false in
+    let latest = is_latest _ _ _ _ c.requires.of.begun c.waits-latest.ensures
+    (ap (λ (z : CookieAt). z.count) c.cookie.view_is) c.if-latest-cookie.false in
     found_over k c.args.cookie.now c.args.seat.now.view c.poll.new.seat.view c.requires.of was latest c.in-Over.ensures.polled _ refl
 
 pub returns-in-Over-clause-of : goal.returns-in-Over-clause-of
@@ -27,10 +28,13 @@ returns-in-Over-clause-kept g c =
     let was = sym (ap (λ (z : CookieAt). z.over) c.cookie.view_is) ∙ c.if-cookie.false in
     let same = ap (λ (z : CookieAt). z.count) c.cookie.view_is in
     let latest = is_latest _ _ _ _ c.requires.of.begun c.waits-latest.ensures same c.if-latest-cookie.false in
-    over_kept k c.args.cookie.now c.args.seat.now.view c.poll.new.seat.view c.requires.of was latest c.in-Over.ensures.polled _ c.args.seat.now c.poll.new.seat refl same (ap (λ (z : CookieAt). z.slots) c.cookie.view_is) refl refl c.in-Over.ensures.seat.1
+    over_kept k c.args.cookie.now c.args.seat.now.view c.poll.new.seat.view c.requires.of was latest c.in-Over.ensures.polled _
+    c.args.seat.now c.poll.new.seat refl same (ap (λ (z : CookieAt). z.slots) c.cookie.view_is) refl refl c.in-Over.ensures.seat.1
 
 pub returns-in-NotYet-clause-kept : goal.returns-in-NotYet-clause-kept
 returns-in-NotYet-clause-kept g c =
-    let p = c.in-NotYet.ensures.polled in
+    let p = c.in-NotYet.ensures.polled.on in
     let is = c.cookie.view_is in
-    going_kept c.args.cookie.now _ c.args.seat.now.view c.poll.new.seat.view p.0 p.1 p.2 c.args.seat.now c.poll.new.seat p.4 p.3 (ap (λ (z : CookieAt). z.over) is) (ap (λ (z : CookieAt). z.count) is) (ap (λ (z : CookieAt). z.slots) is) refl refl c.in-NotYet.ensures.seat.1
+    going_kept c.args.cookie.now _ c.args.seat.now.view c.poll.new.seat.view p.wait p.steps p.new c.args.seat.now c.poll.new.seat p.looked
+    p.was (ap (λ (z : CookieAt). z.over) is) (ap (λ (z : CookieAt). z.count) is)
+    (ap (λ (z : CookieAt). z.slots) is) refl refl c.in-NotYet.ensures.seat.1

@@ -8,16 +8,22 @@ use Rattle.grace_cookie.proofs.cookies.give_back.Goals as goal
 
 pub give_back-requires-clause-ready : goal.give_back-requires-clause-ready
 give_back-requires-clause-ready g c =
-    let latest = is_latest _ _ _ _ c.requires.of.begun c.waits.ensures (ap (λ (z : CookieAt). z.count) c.cookie.view_is) c.if-waits-cookie.false in
-    subst (λ n. AreReady c.args.seat.now.view (first_slots n c.args.seat.now.listed)) (sym (ap (λ (z : CookieAt). z.slots) c.cookie.view_is)) (all_ready c.args.cookie c.args.seat.now (c.requires.kept.kept latest) c.requires.over (c.requires.unraised latest))
+    let latest = is_latest _ _ _ _ c.requires.of.begun c.waits.ensures
+    (ap (λ (z : CookieAt). z.count) c.cookie.view_is) c.if-waits-cookie.false in
+    subst (λ n. AreReady c.args.seat.now.view (first_slots n c.args.seat.now.listed))
+    (sym (ap (λ (z : CookieAt). z.slots) c.cookie.view_is))
+    (all_ready c.args.cookie c.args.seat.now (c.requires.kept.kept latest) c.requires.over (c.requires.unraised latest))
 
 pub returns-clause-back : goal.returns-clause-back
 returns-clause-back g c =
-    let latest = is_latest _ _ _ _ c.requires.of.begun c.waits.ensures (ap (λ (z : CookieAt). z.count) c.cookie.view_is) c.if-waits-cookie.false in
+    let latest = is_latest _ _ _ _ c.requires.of.begun c.waits.ensures
+    (ap (λ (z : CookieAt). z.count) c.cookie.view_is) c.if-waits-cookie.false in
     let slots = ap (λ (z : CookieAt). z.slots) c.cookie.view_is in
     let some : 1 ≤ c.args.cookie.slots = subst (λ n. 1 ≤ n) slots (omega (arith, c.if-cookie-eq0.false)) in
-    let gives = subst (λ n. GivesBack c.args.seat.now.view (first_slots n c.args.seat.now.listed) c.give_back.new.seat.view) slots c.give_back.ensures.view in
-    let listed = subst (λ n. c.give_back.new.seat.listed ≡ without_slots (first_slots n c.args.seat.now.listed) c.args.seat.now.listed) slots c.give_back.ensures.listed in
+    let gives = subst (λ n. GivesBack c.args.seat.now.view
+    (first_slots n c.args.seat.now.listed) c.give_back.new.seat.view) slots c.give_back.ensures.view in
+    let listed = subst (λ n. c.give_back.new.seat.listed
+    ≡ without_slots (first_slots n c.args.seat.now.listed) c.args.seat.now.listed) slots c.give_back.ensures.listed in
     inr (gives_some c.args.cookie c.args.seat.now (c.requires.kept.kept latest) _ c.give_back.new.seat some latest slots gives listed)
 
 pub returns-clause-quiet : goal.returns-clause-quiet
@@ -25,7 +31,9 @@ returns-clause-quiet g c = back_quiet c.args.cookie c.args.seat.now _ c.give_bac
 
 pub returns-clause-reuse : goal.returns-clause-reuse
 returns-clause-reuse g c = λ _.
-    (let latest = is_latest _ _ _ _ c.requires.of.begun c.waits.ensures (ap (λ (z : CookieAt). z.count) c.cookie.view_is) c.if-waits-cookie.false in
+    (let latest = is_latest _ _ _ _ c.requires.of.begun c.waits.ensures
+    (ap (λ (z : CookieAt). z.count) c.cookie.view_is) c.if-waits-cookie.false in
     let slots = ap (λ (z : CookieAt). z.slots) c.cookie.view_is in
     let some : 1 ≤ c.args.cookie.slots = subst (λ n. 1 ≤ n) slots (omega (arith, c.if-cookie-eq0.false)) in
-    c.give_back.ensures.reuse (subst (λ n. 1 ≤ length (first_slots n c.args.seat.now.listed)) (sym slots) (some_first c.args.cookie c.args.seat.now (c.requires.kept.kept latest) some)))
+    c.give_back.ensures.reuse (subst (λ n. 1 ≤ length (first_slots n c.args.seat.now.listed)) (sym slots)
+    (some_first c.args.cookie c.args.seat.now (c.requires.kept.kept latest) some)))

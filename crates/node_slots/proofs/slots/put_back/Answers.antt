@@ -1,7 +1,7 @@
 use Rattle.std.proofs.Common.{inl, refl, sym, ap, subst}
 use Rattle.core_state.specs.declared.shape.Shape.{Shape}
 use Rattle.core_state.specs.declared.view.View.{View}
-use Rattle.seat_table.specs.Seats.{shape_of}
+use Rattle.seat_table.specs.Seats.{SeatAt, shape_of}
 use Rattle.seat_table.proofs.Seized.{needs_raise}
 use Rattle.node_slots.specs.Slots.{PutsBack}
 use Rattle.node_slots.proofs.PuttingBack.{slot_is, hand_inside, unraised_there, frees, puts_back}
@@ -27,7 +27,10 @@ free_in_hand-requires-clause-asks g c = λ told.
     let k : Shape = shape_of g.W.WaitWords.WAY c.args.table.now in
     let h = c.requires.hand in
     let is = slot_is _ h.0 c.in-Some.slot h.1 c.in-Some.ensures in
-    let free = frees k _ h.0 c.in-Some.slot _ (h.1, sym is) h.2 c.requires.paid _ c.load_own_life-life.ensures.told _ c.raise_in_hand.ensures.told in
+    let free = frees k _ h.0 c.in-Some.slot _ (
+      h.1,
+      sym is,
+    ) h.2 c.requires.paid _ c.load_own_life-life.ensures.told _ c.raise_in_hand.ensures.told in
     (hand_inside k _ free.0 c.in-Some.slot told free.1.in_hand.0 (sym free.1.in_hand.1), free)
 
 pub count_free-requires-clause-asks : goal.count_free-requires-clause-asks
@@ -38,5 +41,10 @@ returns-clause-view g c = λ held e.
     let k : Shape = shape_of g.W.WaitWords.WAY c.args.table.now in
     let h = c.requires.hand in
     let is = slot_is _ h.0 c.in-Some.slot h.1 c.in-Some.ensures in
-    subst (λ s. PutsBack c.args.seat.now.view s c.count_free.new.seat.view) (slot_is _ held c.in-Some.slot e c.in-Some.ensures)
-    (puts_back k _ h.0 c.in-Some.slot _ (h.1, sym is) h.2 c.requires.paid _ c.load_own_life-life.ensures.told _ c.raise_in_hand.ensures.told _ _ c.count_free.ensures.told.0 c.free_in_hand.ensures.told c.count_free.ensures.told.1)
+    subst (λ (z : SeatAt). PutsBack c.args.seat.now.view held.slot z.view) (sym c.note_freed.ensures)
+    (subst (λ s. PutsBack c.args.seat.now.view s c.count_free.new.seat.view) (slot_is _ held c.in-Some.slot e c.in-Some.ensures)
+    (puts_back k _ h.0 c.in-Some.slot _ (
+      h.1,
+      sym is,
+    ) h.2 c.requires.paid _ c.load_own_life-life.ensures.told _ c.raise_in_hand.ensures.told _ _ c.count_free.ensures.told.0
+    c.free_in_hand.ensures.told c.count_free.ensures.told.1))

@@ -5,7 +5,12 @@ use Rattle.node_slots.proofs.Seizing.{has_seized}
 use Rattle.node_slots.proofs.slots.seize.Goals as goal
 
 pub load_own_life-life-requires-clause-asks : goal.load_own_life-life-requires-clause-asks
-load_own_life-life-requires-clause-asks g c = λ told. (omega (arith, c.requires.slot.1), needs_life (shape_of g.W.WaitWords.WAY c.args.table.now) _ _ _ _ c.if-found-ne0.false c.seize-found.ensures.told)
+load_own_life-life-requires-clause-asks g c = λ told. (
+  omega (arith, c.requires.slot.1),
+  needs_life (shape_of g.W.WaitWords.WAY c.args.table.now) _ _ _ _ c.if-found-ne0.false c.seize-found.ensures.told,
+)
 
 pub returns-clause-view : goal.returns-clause-view
-returns-clause-view g c = has_seized (shape_of g.W.WaitWords.WAY c.args.table.now) _ _ _ _ c.if-found-ne0.false c.seize-found.ensures.told _ _ c.load_own_life-life.ensures.told
+returns-clause-view g c =
+    has_seized (shape_of g.W.WaitWords.WAY c.args.table.now) _ _ _ _ c.if-found-ne0.false c.seize-found.ensures.told _ _
+    c.load_own_life-life.ensures.told

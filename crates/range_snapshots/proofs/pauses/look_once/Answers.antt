@@ -4,8 +4,11 @@ use Rattle.range_snapshots.proofs.pauses.look_once.Goals as goal
 
 pub look_at_front-front-requires-clause-asks : goal.look_at_front-front-requires-clause-asks
 look_at_front-front-requires-clause-asks g c = λ told.
-    may_look_first (shape_of g.W.WaitWords.WAY c.args.table.now) c.args.seat.now.view c.args.key c.enter.new.seat.view c.enter.ensures.entered
+    may_look_first
+    (shape_of g.W.WaitWords.WAY c.args.table.now) c.args.seat.now.view c.args.key c.enter.new.seat.view c.enter.ensures.entered
 
 pub returns-clause-only : goal.returns-clause-only
 returns-clause-only g c =
-    only_looked (shape_of g.W.WaitWords.WAY c.args.table.now) c.args.seat.now.view c.args.key c.enter.new.seat.view c.look_at_front-front.result c.look_at_front-front.new.seat.view c.leave.new.seat.view c.requires.quiet.view.section c.enter.ensures.entered c.look_at_front-front.ensures.told c.leave.ensures.left
+    only_looked (shape_of g.W.WaitWords.WAY c.args.table.now) c.args.seat.now.view c.args.key c.enter.new.seat.view
+    c.look_at_front-front.result c.look_at_front-front.new.seat.view c.leave.new.seat.view c.requires.quiet.view.section
+    c.enter.ensures.entered c.look_at_front-front.ensures.told c.leave.ensures.left

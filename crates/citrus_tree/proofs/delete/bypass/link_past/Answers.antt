@@ -19,18 +19,21 @@ pub bypass-requires-clause-asks : goal.bypass-requires-clause-asks
 bypass-requires-clause-asks g c =
     let child = child_is c.args.node c.slot_of-child.ensures c.only_child.ensures (c.requires.at).1 c.mark.ensures.told in
     let u = update.Bypass c.args.node c.slot_of-child.result in
-    needs_store_bypass (c.open_front-front.ensures.at _ _ 0 u (marked c.args.node c.slot_of-child.result child (c.requires.at).1 c.mark.ensures.told))
+    needs_store_bypass (c.in_ok-front.ensures.at _ _ 0 u
+    (marked c.args.node c.slot_of-child.result child (c.requires.at).1 c.mark.ensures.told))
 
 pub settle_side-requires-clause-at : goal.settle_side-requires-clause-at
 settle_side-requires-clause-at g c =
     let child = child_is c.args.node c.slot_of-child.ensures c.only_child.ensures (c.requires.at).1 c.mark.ensures.told in
     let u = update.Bypass c.args.node c.slot_of-child.result in
     let a = c.requires.at in (
-      (c.open_front-front.result + 2) / 2,
+      (c.in_ok-front.front + 2) / 2,
       (
         Del c.args.key,
         a.0,
-        c.close_front-number.ensures.at (Del c.args.key) a.0 u (passes_store_bypass (c.open_front-front.ensures.at (Del c.args.key) a.0 0 u (marked c.args.node c.slot_of-child.result child a.1 c.mark.ensures.told)) c.bypass.ensures.told),
+        c.close_front-number.ensures.at (Del c.args.key) a.0 u
+            (passes_store_bypass (c.in_ok-front.ensures.at (Del c.args.key) a.0 0 u
+            (marked c.args.node c.slot_of-child.result child a.1 c.mark.ensures.told)) c.bypass.ensures.told),
       ),
     )
 
@@ -38,33 +41,47 @@ pub returns-clause-at : goal.returns-clause-at
 returns-clause-at g c = λ kept a.
     (let child = child_is c.args.node c.slot_of-child.ensures c.only_child.ensures (c.requires.at).1 c.mark.ensures.told in
     let u = update.Bypass c.args.node c.slot_of-child.result in
-    subst (λ n. IsAt (shape_of g.W.WaitWords.WAY c.args.table.now) (Del c.args.key) kept (at.Unlock (last.Gone n)) c.settle_side.new.seat.view) (sym c.close_front-number.ensures.number)
-    (c.settle_side.ensures.at ((c.open_front-front.result + 2) / 2) (Del c.args.key) kept
-    (c.close_front-number.ensures.at (Del c.args.key) kept u (passes_store_bypass (c.open_front-front.ensures.at (Del c.args.key) kept 0 u (marked c.args.node c.slot_of-child.result child a c.mark.ensures.told)) c.bypass.ensures.told))))
+    subst (λ n. IsAt (shape_of g.W.WaitWords.WAY c.args.table.now) (Del c.args.key) kept
+    (at.Unlock (last.Gone n)) c.settle_side.new.seat.view) (sym c.close_front-number.ensures.number)
+    (c.settle_side.ensures.at ((c.in_ok-front.front + 2) / 2) (Del c.args.key) kept
+    (c.close_front-number.ensures.at (Del c.args.key) kept u
+    (passes_store_bypass (c.in_ok-front.ensures.at (Del c.args.key) kept 0 u
+    (marked c.args.node c.slot_of-child.result child a c.mark.ensures.told)) c.bypass.ensures.told))))
 
 pub returns-clause-done : goal.returns-clause-done
 returns-clause-done g c = λ kept a.
     (let k = (shape_of g.W.WaitWords.WAY c.args.table.now) in
     let child = child_is c.args.node c.slot_of-child.ensures c.only_child.ensures (c.requires.at).1 c.mark.ensures.told in
     let u = update.Bypass c.args.node c.slot_of-child.result in
-    let stored = c.open_front-front.ensures.at (Del c.args.key) kept 0 u (marked c.args.node c.slot_of-child.result child a c.mark.ensures.told) in
-    let made = bypass_done k c.args.key kept c.args.node c.slot_of-child.result c.open_front-front.result _ c.open_front-front.new.seat.view c.bypass.new.seat.view stored c.bypass.ensures.told in
-    let first = keeps_on _ _ _ (keeps_mark k _ _ _ _ _ c.mark.ensures.told) (opened_keeps _ _ c.open_front-front.result c.open_front-front.ensures.opened) in
+    let stored = c.in_ok-front.ensures.at (Del c.args.key) kept 0 u
+    (marked c.args.node c.slot_of-child.result child a c.mark.ensures.told) in
+    let made = bypass_done k c.args.key kept c.args.node c.slot_of-child.result c.in_ok-front.front _ c.open_front.new.seat.view
+    c.bypass.new.seat.view stored c.bypass.ensures.told in
+    let first = keeps_on _ _ _ (keeps_mark k _ _ _ _ _ c.mark.ensures.told)
+    (opened_keeps _ _ c.in_ok-front.front c.in_ok-front.ensures.opened) in
     let later = keeps_on _ _ _ (closed_keeps _ _ c.close_front-number.ensures.closed) c.settle_side.ensures.same in
-    subst (λ n. HasDone c.args.seat.now.view (Del c.args.key) [] n c.settle_side.new.seat.view) (half_two c.open_front-front.result ∙ sym c.close_front-number.ensures.number)
-    (done_still _ _ _ (Del c.args.key) [] _ (done_later _ _ _ (Del c.args.key) [] _ first made) later.gone))
+    subst (λ n. HasDone c.args.seat.now.view (Del c.args.key) c.args.node.node [] n c.settle_side.new.seat.view)
+    (half_two c.in_ok-front.front ∙ sym c.close_front-number.ensures.number)
+    (done_still _ _ _ (Del c.args.key) c.args.node.node [] _ (done_later _ _ _ (Del c.args.key) c.args.node.node [] _ first made)
+    later.gone))
 
 pub returns-clause-locked : goal.returns-clause-locked
 returns-clause-locked g c =
     let k = (shape_of g.W.WaitWords.WAY c.args.table.now) in
-    (c.settle_side.ensures.same).locked ∙ (closed_keeps c.bypass.new.seat.view c.close_front-number.new.seat.view c.close_front-number.ensures.closed).locked ∙ bypass_locked k _ _ _ _ _ _ _ _ c.bypass.ensures.told
-    ∙ (opened_keeps c.mark.new.seat.view c.open_front-front.new.seat.view c.open_front-front.result c.open_front-front.ensures.opened).locked ∙ (keeps_mark k _ _ _ _ _ c.mark.ensures.told).locked
+    (c.settle_side.ensures.same).locked
+    ∙ (closed_keeps c.bypass.new.seat.view c.close_front-number.new.seat.view c.close_front-number.ensures.closed).locked
+    ∙ bypass_locked k _ _ _ _ _ _ _ _ c.bypass.ensures.told
+    ∙ (opened_keeps c.mark.new.seat.view c.open_front.new.seat.view c.in_ok-front.front c.in_ok-front.ensures.opened).locked
+    ∙ (keeps_mark k _ _ _ _ _ c.mark.ensures.told).locked
 
 pub returns-clause-stay : goal.returns-clause-stay
 returns-clause-stay g c =
     let k = (shape_of g.W.WaitWords.WAY c.args.table.now) in
     let b = bypass_stay k _ _ _ _ _ _ _ _ c.bypass.ensures.told in (
       b.0,
-      (c.settle_side.ensures.same).stay ∙ (closed_keeps c.bypass.new.seat.view c.close_front-number.new.seat.view c.close_front-number.ensures.closed).stay ∙ b.1
-          ∙ ap (λ xs. xs ++ b.0) ((opened_keeps c.mark.new.seat.view c.open_front-front.new.seat.view c.open_front-front.result c.open_front-front.ensures.opened).stay ∙ (keeps_mark k _ _ _ _ _ c.mark.ensures.told).stay),
+      (c.settle_side.ensures.same).stay
+          ∙ (closed_keeps c.bypass.new.seat.view c.close_front-number.new.seat.view c.close_front-number.ensures.closed).stay ∙ b.1
+          ∙ ap (λ xs. xs ++ b.0)
+          ((opened_keeps c.mark.new.seat.view c.open_front.new.seat.view c.in_ok-front.front c.in_ok-front.ensures.opened).stay
+          ∙ (keeps_mark k _ _ _ _ _ c.mark.ensures.told).stay),
     )

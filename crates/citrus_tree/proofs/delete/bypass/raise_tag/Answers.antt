@@ -7,12 +7,15 @@ pub locked_load-tag-requires-clause-asks : goal.locked_load-tag-requires-clause-
 locked_load-tag-requires-clause-asks g c = needs_empty_tag {b = c.args.side} ((c.requires.at).1).2
 
 pub raise_tag-requires-clause-asks : goal.raise_tag-requires-clause-asks
-raise_tag-requires-clause-asks g c = needs_empty_raise (passes_empty_tag {b = c.args.side} ((c.requires.at).1).2 c.locked_load-tag.ensures.told)
+raise_tag-requires-clause-asks g c = needs_empty_raise
+    (passes_empty_tag {b = c.args.side} ((c.requires.at).1).2 c.locked_load-tag.ensures.told)
 
 pub returns-clause-at : goal.returns-clause-at
-returns-clause-at g c = λ number op kept a. passes_empty_raise (passes_empty_tag {b = c.args.side} a c.locked_load-tag.ensures.told) c.raise_tag.ensures.told
+returns-clause-at g c = λ number op kept a. passes_empty_raise
+    (passes_empty_tag {b = c.args.side} a c.locked_load-tag.ensures.told) c.raise_tag.ensures.told
 
 pub returns-clause-same : goal.returns-clause-same
 returns-clause-same g c =
     let k = shape_of g.W.WaitWords.WAY c.args.table.now in
-    keeps_on c.args.seat.now.view c.locked_load-tag.new.seat.view c.raise_tag.new.seat.view (keeps_locked_load k _ _ _ _ _ c.locked_load-tag.ensures.told) (keeps_raise_tag k _ _ _ _ _ _ c.raise_tag.ensures.told)
+    keeps_on c.args.seat.now.view c.locked_load-tag.new.seat.view c.raise_tag.new.seat.view
+    (keeps_locked_load k _ _ _ _ _ c.locked_load-tag.ensures.told) (keeps_raise_tag k _ _ _ _ _ _ c.raise_tag.ensures.told)

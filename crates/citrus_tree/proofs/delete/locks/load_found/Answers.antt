@@ -10,4 +10,5 @@ returns-in-Some-clause-at g c = λ op kept a.
     (let k = (shape_of g.W.WaitWords.WAY c.args.table.now) in
     let same = as_two c.args.target.now c.in-Some.successor c.in-Some.is in
     subst (λ t. IsAt k op kept (verdict t c.load_successor.result) c.load_successor.new.seat.view) (sym same)
-    (c.load_successor.ensures.at op kept (subst (λ t. IsAt k op kept (past_target_load t 4 c.load_node-found.result) c.load_node-found.new.seat.view) same (c.load_node-found.ensures.at op kept a))))
+    (c.load_successor.ensures.at op kept (subst (λ t. IsAt k op kept
+    (past_target_load t 4 c.load_node-found.result) c.load_node-found.new.seat.view) same (c.load_node-found.ensures.at op kept a))))

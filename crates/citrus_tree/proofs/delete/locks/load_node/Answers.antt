@@ -16,14 +16,16 @@ pub locked_load-life-requires-clause-asks : goal.locked_load-life-requires-claus
 locked_load-life-requires-clause-asks g c =
     let t = c.args.target.now in
     let f1 = with_found nothing_found 0 c.locked_load-parent_life.result in
-    needs_target_load (load_1 t f1 (load_0 t nothing_found (c.requires.at).2 c.locked_load-parent_life.ensures.told) c.locked_load-link.ensures.told)
+    needs_target_load (load_1 t f1 (load_0 t nothing_found
+    (c.requires.at).2 c.locked_load-parent_life.ensures.told) c.locked_load-link.ensures.told)
 
 pub locked_load-left-requires-clause-asks : goal.locked_load-left-requires-clause-asks
 locked_load-left-requires-clause-asks g c =
     let t = c.args.target.now in
     let f1 = with_found nothing_found 0 c.locked_load-parent_life.result in
     let f2 = with_found f1 1 c.locked_load-link.result in
-    needs_target_load (load_2 t f2 (load_1 t f1 (load_0 t nothing_found (c.requires.at).2 c.locked_load-parent_life.ensures.told) c.locked_load-link.ensures.told) c.locked_load-life.ensures.told)
+    needs_target_load (load_2 t f2 (load_1 t f1 (load_0 t nothing_found
+    (c.requires.at).2 c.locked_load-parent_life.ensures.told) c.locked_load-link.ensures.told) c.locked_load-life.ensures.told)
 
 pub locked_load-right-requires-clause-asks : goal.locked_load-right-requires-clause-asks
 locked_load-right-requires-clause-asks g c =
@@ -31,7 +33,10 @@ locked_load-right-requires-clause-asks g c =
     let f1 = with_found nothing_found 0 c.locked_load-parent_life.result in
     let f2 = with_found f1 1 c.locked_load-link.result in
     let f3 = with_found f2 2 c.locked_load-life.result in
-    needs_target_load (load_3 t f3 (load_2 t f2 (load_1 t f1 (load_0 t nothing_found (c.requires.at).2 c.locked_load-parent_life.ensures.told) c.locked_load-link.ensures.told) c.locked_load-life.ensures.told) c.locked_load-left.ensures.told)
+    needs_target_load (load_3 t f3 (load_2 t f2 (load_1 t f1
+    (load_0 t nothing_found
+    (c.requires.at).2 c.locked_load-parent_life.ensures.told) c.locked_load-link.ensures.told) c.locked_load-life.ensures.told)
+    c.locked_load-left.ensures.told)
 
 pub returns-clause-at : goal.returns-clause-at
 returns-clause-at g c = λ op kept a.
@@ -40,10 +45,15 @@ returns-clause-at g c = λ op kept a.
     let f2 = with_found f1 1 c.locked_load-link.result in
     let f3 = with_found f2 2 c.locked_load-life.result in
     let f4 = with_found f3 3 c.locked_load-left.result in
-    passes_target_load (load_3 t f3 (load_2 t f2 (load_1 t f1 (load_0 t nothing_found a c.locked_load-parent_life.ensures.told) c.locked_load-link.ensures.told) c.locked_load-life.ensures.told) c.locked_load-left.ensures.told) c.locked_load-right.ensures.told)
+    passes_target_load (load_3 t f3 (load_2 t f2 (load_1 t f1
+    (load_0 t nothing_found a c.locked_load-parent_life.ensures.told) c.locked_load-link.ensures.told) c.locked_load-life.ensures.told)
+    c.locked_load-left.ensures.told) c.locked_load-right.ensures.told)
 
 pub returns-clause-same : goal.returns-clause-same
 returns-clause-same g c =
     let k = (shape_of g.W.WaitWords.WAY c.args.table.now) in
-    keeps_on _ _ _ (keeps_locked_load k _ _ _ _ _ c.locked_load-parent_life.ensures.told) (keeps_on _ _ _ (keeps_locked_load k _ _ _ _ _ c.locked_load-link.ensures.told) (keeps_on _ _ _ (keeps_locked_load k _ _ _ _ _ c.locked_load-life.ensures.told)
-    (keeps_on _ _ _ (keeps_locked_load k _ _ _ _ _ c.locked_load-left.ensures.told) (keeps_locked_load k _ _ _ _ _ c.locked_load-right.ensures.told))))
+    keeps_on _ _ _ (keeps_locked_load k _ _ _ _ _ c.locked_load-parent_life.ensures.told)
+    (keeps_on _ _ _ (keeps_locked_load k _ _ _ _ _ c.locked_load-link.ensures.told)
+    (keeps_on _ _ _ (keeps_locked_load k _ _ _ _ _ c.locked_load-life.ensures.told)
+    (keeps_on _ _ _ (keeps_locked_load k _ _ _ _ _ c.locked_load-left.ensures.told)
+    (keeps_locked_load k _ _ _ _ _ c.locked_load-right.ensures.told))))

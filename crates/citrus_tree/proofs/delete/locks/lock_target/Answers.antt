@@ -17,7 +17,8 @@ pub lock-requires-clause-asks : goal.lock-requires-clause-asks
 lock-requires-clause-asks g c =
     let k = (shape_of g.W.WaitWords.WAY c.args.table.now) in
     subst (λ s. IsAsked k c.loop-at.seat.view (acts.Lock s)) (sym c.lock_at.ensures)
-    (needs_get k c.args.target.now c.loop-at.at c.args.seat.now.view c.loop-at.seat.view c.requires.at (below_end c.loop-at.at _ _ c.loop-at-test.true c.lock_count-at-end.ensures.count) c.loop-at.invariant.gets)
+    (needs_get k c.args.target.now c.loop-at.at c.args.seat.now.view c.loop-at.seat.view c.requires.at
+    (below_end c.loop-at.at _ _ c.loop-at-test.true c.lock_count-at-end.ensures.count) c.loop-at.invariant.gets)
 
 pub unlock_first-requires-clause-at : goal.unlock_first-requires-clause-at
 unlock_first-requires-clause-at g c =
@@ -25,22 +26,27 @@ unlock_first-requires-clause-at g c =
     let a = c.requires.at in (
       a.0,
       a.1,
-      gets_busy k c.args.target.now c.loop-at.at c.lock.result c.args.seat.now.view c.loop-at.seat.view c.lock.new.seat.view (below_end c.loop-at.at _ _ c.loop-at-test.true c.lock_count-at-end.ensures.count) c.loop-at.invariant.gets c.if-lock-ne0.true
-          (subst (λ s. Told k c.loop-at.seat.view (acts.Lock s) c.lock.result c.lock.new.seat.view) c.lock_at.ensures c.lock.ensures.told) a.0 a.1 a.2,
+      gets_busy k c.args.target.now c.loop-at.at c.lock.result c.args.seat.now.view c.loop-at.seat.view c.lock.new.seat.view
+          (below_end c.loop-at.at _ _ c.loop-at-test.true c.lock_count-at-end.ensures.count) c.loop-at.invariant.gets c.if-lock-ne0.true
+          (subst (λ s. Told k c.loop-at.seat.view
+          (acts.Lock s) c.lock.result c.lock.new.seat.view) c.lock_at.ensures c.lock.ensures.told) a.0 a.1 a.2,
     )
 
 pub unlock_first-requires-clause-locked : goal.unlock_first-requires-clause-locked
 unlock_first-requires-clause-locked g c =
     let k = (shape_of g.W.WaitWords.WAY c.args.table.now) in
-    busy_locks k c.args.target.now c.loop-at.at c.lock.result c.args.seat.now.view c.loop-at.seat.view c.lock.new.seat.view c.requires.at (below_end c.loop-at.at _ _ c.loop-at-test.true c.lock_count-at-end.ensures.count) c.loop-at.invariant.gets c.if-lock-ne0.true
+    busy_locks k c.args.target.now c.loop-at.at c.lock.result c.args.seat.now.view c.loop-at.seat.view c.lock.new.seat.view c.requires.at
+    (below_end c.loop-at.at _ _ c.loop-at-test.true c.lock_count-at-end.ensures.count) c.loop-at.invariant.gets c.if-lock-ne0.true
     (subst (λ s. Told k c.loop-at.seat.view (acts.Lock s) c.lock.result c.lock.new.seat.view) c.lock_at.ensures c.lock.ensures.told)
 
 pub returns-then-lock-ne0-clause-busy : goal.returns-then-lock-ne0-clause-busy
 returns-then-lock-ne0-clause-busy g c = λ _ op kept a.
     (let k = (shape_of g.W.WaitWords.WAY c.args.table.now) in
     c.unlock_first.ensures.at op kept
-    (gets_busy k c.args.target.now c.loop-at.at c.lock.result c.args.seat.now.view c.loop-at.seat.view c.lock.new.seat.view (below_end c.loop-at.at _ _ c.loop-at-test.true c.lock_count-at-end.ensures.count) c.loop-at.invariant.gets c.if-lock-ne0.true
-    (subst (λ s. Told k c.loop-at.seat.view (acts.Lock s) c.lock.result c.lock.new.seat.view) c.lock_at.ensures c.lock.ensures.told) op kept a))
+    (gets_busy k c.args.target.now c.loop-at.at c.lock.result c.args.seat.now.view c.loop-at.seat.view c.lock.new.seat.view
+    (below_end c.loop-at.at _ _ c.loop-at-test.true c.lock_count-at-end.ensures.count) c.loop-at.invariant.gets c.if-lock-ne0.true
+    (subst (λ s. Told k c.loop-at.seat.view
+    (acts.Lock s) c.lock.result c.lock.new.seat.view) c.lock_at.ensures c.lock.ensures.told) op kept a))
 
 pub loop-at-preserved : goal.loop-at-preserved
 loop-at-preserved g c =
@@ -49,9 +55,12 @@ loop-at-preserved g c =
       table = (c.lock.ensures.seat).0 ∙ c.loop-at.invariant.table;
       listed = (c.lock.ensures.seat).1 ∙ c.loop-at.invariant.listed;
       few = omega (arith, lt);
-      gets = gets_on k c.args.target.now c.loop-at.at c.lock.result c.args.seat.now.view c.loop-at.seat.view c.lock.new.seat.view lt c.loop-at.invariant.gets c.if-lock-ne0.false
+      gets = gets_on k c.args.target.now c.loop-at.at c.lock.result c.args.seat.now.view c.loop-at.seat.view c.lock.new.seat.view lt
+          c.loop-at.invariant.gets c.if-lock-ne0.false
           (subst (λ s. Told k c.loop-at.seat.view (acts.Lock s) c.lock.result c.lock.new.seat.view) c.lock_at.ensures c.lock.ensures.told);
     }
 
 pub returns-clause-got : goal.returns-clause-got
-returns-clause-got g c = λ _ op kept a. all_got c.args.target.now c.loop-at.at (at_end c.loop-at.at _ _ c.loop-at-test.false c.lock_count-at-end.ensures.count c.loop-at.invariant.few) (c.loop-at.invariant.gets.at op kept a)
+returns-clause-got g c = λ _ op kept a. all_got c.args.target.now c.loop-at.at
+    (at_end c.loop-at.at _ _ c.loop-at-test.false c.lock_count-at-end.ensures.count c.loop-at.invariant.few)
+    (c.loop-at.invariant.gets.at op kept a)

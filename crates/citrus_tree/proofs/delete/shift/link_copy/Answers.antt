@@ -17,38 +17,59 @@ use Rattle.citrus_tree.proofs.delete.shift.link_copy.Goals as goal
 pub mark-requires-clause-asks : goal.mark-requires-clause-asks
 mark-requires-clause-asks g c = needs_copy_mark (c.requires.at).1
 
-pub open_front-front-requires-clause-settled : goal.open_front-front-requires-clause-settled
-open_front-front-requires-clause-settled g c = (copy_paid c.args.node c.args.successor (passes_copy_mark c.requires.spare (c.requires.at).1 c.mark.ensures.told 0 refl)).0
+pub open_front-requires-clause-settled : goal.open_front-requires-clause-settled
+open_front-requires-clause-settled g c = (copy_paid c.args.node c.args.successor
+    (passes_copy_mark c.requires.spare (c.requires.at).1 c.mark.ensures.told 0 refl)).0
 
-pub open_front-front-requires-clause-paid : goal.open_front-front-requires-clause-paid
-open_front-front-requires-clause-paid g c = (copy_paid c.args.node c.args.successor (passes_copy_mark c.requires.spare (c.requires.at).1 c.mark.ensures.told 0 refl)).1
+pub open_front-requires-clause-paid : goal.open_front-requires-clause-paid
+open_front-requires-clause-paid g c = (copy_paid c.args.node c.args.successor
+    (passes_copy_mark c.requires.spare (c.requires.at).1 c.mark.ensures.told 0 refl)).1
 
 pub link_copy-requires-clause-asks : goal.link_copy-requires-clause-asks
 link_copy-requires-clause-asks g c =
-    needs_store_copy (c.open_front-front.ensures.at _ _ 0 (update.Copy c.args.node c.args.successor c.args.next_key c.args.copy) (passes_copy_mark c.requires.spare (c.requires.at).1 c.mark.ensures.told 0 refl))
+    needs_store_copy (c.in_ok-front.ensures.at _ _ 0 (update.Copy c.args.node c.args.successor c.args.next_key c.args.copy)
+    (passes_copy_mark c.requires.spare (c.requires.at).1 c.mark.ensures.told 0 refl))
 
 pub close_front-requires-clause-odd : goal.close_front-requires-clause-odd
 close_front-requires-clause-odd g c =
-    copy_odd c.args.node c.args.successor (passes_store_copy (c.open_front-front.ensures.at _ _ 0 (update.Copy c.args.node c.args.successor c.args.next_key c.args.copy) (passes_copy_mark c.requires.spare (c.requires.at).1 c.mark.ensures.told 0 refl)) c.link_copy.ensures.told)
+    copy_odd c.args.node c.args.successor (passes_store_copy
+    (c.in_ok-front.ensures.at _ _ 0 (update.Copy c.args.node c.args.successor c.args.next_key c.args.copy)
+    (passes_copy_mark c.requires.spare (c.requires.at).1 c.mark.ensures.told 0 refl)) c.link_copy.ensures.told)
 
 pub returns-clause-at : goal.returns-clause-at
 returns-clause-at g c = λ kept a.
     (let u = update.Copy c.args.node c.args.successor c.args.next_key c.args.copy in
-    subst (λ n. IsAt (shape_of g.W.WaitWords.WAY c.args.table.now) (Del c.args.key) kept (at.Begin (waits.Move (record { node = c.args.node; successor = c.args.successor; copy = c.args.copy; next_key = c.args.next_key; number = n }))) c.close_front.new.seat.view) (sym c.close_front.ensures.number)
-    (c.close_front.ensures.at (Del c.args.key) kept u (passes_store_copy (c.open_front-front.ensures.at (Del c.args.key) kept 0 u (passes_copy_mark c.requires.spare a c.mark.ensures.told 0 refl)) c.link_copy.ensures.told)))
+    subst (λ n. IsAt (shape_of g.W.WaitWords.WAY c.args.table.now) (Del c.args.key) kept
+    (at.Begin (waits.Move (record {
+      node = c.args.node;
+      successor = c.args.successor;
+      copy = c.args.copy;
+      next_key = c.args.next_key;
+      number = n;
+    }))) c.close_front.new.seat.view) (sym c.close_front.ensures.number)
+    (c.close_front.ensures.at (Del c.args.key) kept u
+    (passes_store_copy (c.in_ok-front.ensures.at (Del c.args.key) kept 0 u
+    (passes_copy_mark c.requires.spare a c.mark.ensures.told 0 refl)) c.link_copy.ensures.told)))
 
 pub returns-clause-done : goal.returns-clause-done
 returns-clause-done g c = λ kept a.
     (let k = (shape_of g.W.WaitWords.WAY c.args.table.now) in
     let u = update.Copy c.args.node c.args.successor c.args.next_key c.args.copy in
-    let stored = c.open_front-front.ensures.at (Del c.args.key) kept 0 u (passes_copy_mark c.requires.spare a c.mark.ensures.told 0 refl) in
-    let made = copy_made k c.args.key kept c.args.node c.args.successor c.args.next_key c.args.copy c.open_front-front.result _ c.open_front-front.new.seat.view c.link_copy.new.seat.view stored c.link_copy.ensures.told in
-    let first = keeps_on _ _ _ (keeps_mark k _ _ _ _ _ c.mark.ensures.told) (opened_keeps c.mark.new.seat.view c.open_front-front.new.seat.view c.open_front-front.result c.open_front-front.ensures.opened) in
-    subst (λ n. HasCopied c.args.seat.now.view c.args.key c.args.next_key n c.close_front.new.seat.view) (half_two c.open_front-front.result ∙ sym c.close_front.ensures.number)
-    (copied_still _ _ _ c.args.key c.args.next_key _ (copied_later _ _ _ c.args.key c.args.next_key _ first made) (closed_keeps c.link_copy.new.seat.view c.close_front.new.seat.view c.close_front.ensures.closed).gone))
+    let stored = c.in_ok-front.ensures.at (Del c.args.key) kept 0 u (passes_copy_mark c.requires.spare a c.mark.ensures.told 0 refl) in
+    let made = copy_made k c.args.key kept c.args.node c.args.successor c.args.next_key c.args.copy c.in_ok-front.front _
+    c.open_front.new.seat.view c.link_copy.new.seat.view stored c.link_copy.ensures.told in
+    let first = keeps_on _ _ _ (keeps_mark k _ _ _ _ _ c.mark.ensures.told)
+    (opened_keeps c.mark.new.seat.view c.open_front.new.seat.view c.in_ok-front.front c.in_ok-front.ensures.opened) in
+    subst (λ n. HasCopied c.args.seat.now.view c.args.key c.args.next_key c.args.node.node n c.close_front.new.seat.view)
+    (half_two c.in_ok-front.front ∙ sym c.close_front.ensures.number)
+    (copied_still _ _ _ c.args.key c.args.next_key c.args.node.node
+    _ (copied_later _ _ _ c.args.key c.args.next_key c.args.node.node _ first made)
+    (closed_keeps c.link_copy.new.seat.view c.close_front.new.seat.view c.close_front.ensures.closed).gone))
 
 pub returns-clause-locked : goal.returns-clause-locked
 returns-clause-locked g c =
     let k = (shape_of g.W.WaitWords.WAY c.args.table.now) in
-    (closed_keeps c.link_copy.new.seat.view c.close_front.new.seat.view c.close_front.ensures.closed).locked ∙ copy_locked k _ _ _ _ _ _ _ _ _ _ _ c.link_copy.ensures.told
-    ∙ (opened_keeps c.mark.new.seat.view c.open_front-front.new.seat.view c.open_front-front.result c.open_front-front.ensures.opened).locked ∙ (keeps_mark k _ _ _ _ _ c.mark.ensures.told).locked
+    (closed_keeps c.link_copy.new.seat.view c.close_front.new.seat.view c.close_front.ensures.closed).locked
+    ∙ copy_locked k _ _ _ _ _ _ _ _ _ _ _ c.link_copy.ensures.told
+    ∙ (opened_keeps c.mark.new.seat.view c.open_front.new.seat.view c.in_ok-front.front c.in_ok-front.ensures.opened).locked
+    ∙ (keeps_mark k _ _ _ _ _ c.mark.ensures.told).locked

@@ -5,6 +5,7 @@ use Rattle.tree_points.proofs.Holding.{needs_unlink_copy, needs_unlink_parent, p
 use Rattle.tree_points.proofs.Gone.{gone_on}
 use Rattle.citrus_tree.proofs.deletes.Keeping.{keeps_on, keeps_locked_load, keeps_mark, same_locks}
 use Rattle.citrus_tree.proofs.deletes.Shifts.{unlinking, copy_unlinks, parent_unlinks}
+use Rattle.citrus_tree.proofs.deletes.Retiring.{unlinked_on}
 use Rattle.citrus_tree.proofs.delete.shift.unlink_old.Goals as goal
 
 pub mark-requires-clause-asks : goal.mark-requires-clause-asks
@@ -14,49 +15,111 @@ pub locked_load-right-requires-clause-asks : goal.locked_load-right-requires-cla
 locked_load-right-requires-clause-asks g c = needs_old_right (passes_old_mark (c.requires.at).2 c.mark.ensures.told)
 
 pub unlink_right-requires-clause-asks : goal.unlink_right-requires-clause-asks
-unlink_right-requires-clause-asks g c = λ told. needs_unlink_copy (eq-eqb c.args.moving.successor.parent c.args.moving.node.node c.if-successor-node.true) (unlinking c.args.moving c.slot_of-child.ensures told.tells (passes_old_right (passes_old_mark (c.requires.at).2 c.mark.ensures.told) c.locked_load-right.ensures.told)) told
+unlink_right-requires-clause-asks g c = λ told. needs_unlink_copy
+    (eq-eqb c.args.moving.successor.parent c.args.moving.node.node c.if-successor-node.true)
+    (unlinking c.args.moving c.slot_of-child.ensures told.tells
+    (passes_old_right (passes_old_mark (c.requires.at).2 c.mark.ensures.told) c.locked_load-right.ensures.told)) told
 
 pub unlink_left-requires-clause-asks : goal.unlink_left-requires-clause-asks
-unlink_left-requires-clause-asks g c = λ told. needs_unlink_parent (ne_eqb c.args.moving.successor.parent c.args.moving.node.node c.if-successor-node.false) (unlinking c.args.moving c.slot_of-child.ensures told.tells (passes_old_right (passes_old_mark (c.requires.at).2 c.mark.ensures.told) c.locked_load-right.ensures.told)) told
+unlink_left-requires-clause-asks g c = λ told. needs_unlink_parent
+    (ne_eqb c.args.moving.successor.parent c.args.moving.node.node c.if-successor-node.false)
+    (unlinking c.args.moving c.slot_of-child.ensures told.tells
+    (passes_old_right (passes_old_mark (c.requires.at).2 c.mark.ensures.told) c.locked_load-right.ensures.told)) told
 
 pub settle_side-requires-clause-at : goal.settle_side-requires-clause-at
-settle_side-requires-clause-at g c = let a = c.requires.at in (c.args.moving.number, (a.0, a.1, (passes_unlink_copy (eq-eqb c.args.moving.successor.parent c.args.moving.node.node c.if-successor-node.true) (unlinking c.args.moving c.slot_of-child.ensures c.unlink_right.ensures.told.before.tells (passes_old_right (passes_old_mark a.2 c.mark.ensures.told) c.locked_load-right.ensures.told)) c.unlink_right.ensures.told).0))
+settle_side-requires-clause-at g c = let a = c.requires.at in (
+  c.args.moving.number,
+  (
+    a.0,
+    a.1,
+    (passes_unlink_copy
+        (eq-eqb c.args.moving.successor.parent c.args.moving.node.node c.if-successor-node.true)
+        (unlinking c.args.moving c.slot_of-child.ensures c.unlink_right.ensures.told.before.tells
+        (passes_old_right (passes_old_mark a.2 c.mark.ensures.told) c.locked_load-right.ensures.told)) c.unlink_right.ensures.told).0,
+  ),
+)
 
 pub settle_side-requires-2-clause-at : goal.settle_side-requires-2-clause-at
-settle_side-requires-2-clause-at g c = let a = c.requires.at in (c.args.moving.number, (a.0, a.1, (passes_unlink_parent (ne_eqb c.args.moving.successor.parent c.args.moving.node.node c.if-successor-node.false) (unlinking c.args.moving c.slot_of-child.ensures c.unlink_left.ensures.told.before.tells (passes_old_right (passes_old_mark a.2 c.mark.ensures.told) c.locked_load-right.ensures.told)) c.unlink_left.ensures.told).0))
+settle_side-requires-2-clause-at g c = let a = c.requires.at in (
+  c.args.moving.number,
+  (
+    a.0,
+    a.1,
+    (passes_unlink_parent
+        (ne_eqb c.args.moving.successor.parent c.args.moving.node.node c.if-successor-node.false)
+        (unlinking c.args.moving c.slot_of-child.ensures c.unlink_left.ensures.told.before.tells
+        (passes_old_right (passes_old_mark a.2 c.mark.ensures.told) c.locked_load-right.ensures.told)) c.unlink_left.ensures.told).0,
+  ),
+)
 
 pub returns-then-successor-node-clause-at : goal.returns-then-successor-node-clause-at
-returns-then-successor-node-clause-at g c = λ op kept a. c.settle_side.ensures.at c.args.moving.number op kept (passes_unlink_copy (eq-eqb c.args.moving.successor.parent c.args.moving.node.node c.if-successor-node.true) (unlinking c.args.moving c.slot_of-child.ensures c.unlink_right.ensures.told.before.tells (passes_old_right (passes_old_mark a c.mark.ensures.told) c.locked_load-right.ensures.told)) c.unlink_right.ensures.told).0
+returns-then-successor-node-clause-at g c = λ op kept a. c.settle_side.ensures.at c.args.moving.number op kept
+    (passes_unlink_copy (eq-eqb c.args.moving.successor.parent c.args.moving.node.node c.if-successor-node.true)
+    (unlinking c.args.moving c.slot_of-child.ensures c.unlink_right.ensures.told.before.tells
+    (passes_old_right (passes_old_mark a c.mark.ensures.told) c.locked_load-right.ensures.told)) c.unlink_right.ensures.told).0
 
 pub returns-clause-at : goal.returns-clause-at
-returns-clause-at g c = λ op kept a. c.settle_side-2.ensures.at c.args.moving.number op kept (passes_unlink_parent (ne_eqb c.args.moving.successor.parent c.args.moving.node.node c.if-successor-node.false) (unlinking c.args.moving c.slot_of-child.ensures c.unlink_left.ensures.told.before.tells (passes_old_right (passes_old_mark a c.mark.ensures.told) c.locked_load-right.ensures.told)) c.unlink_left.ensures.told).0
+returns-clause-at g c = λ op kept a. c.settle_side-2.ensures.at c.args.moving.number op kept
+    (passes_unlink_parent (ne_eqb c.args.moving.successor.parent c.args.moving.node.node c.if-successor-node.false)
+    (unlinking c.args.moving c.slot_of-child.ensures c.unlink_left.ensures.told.before.tells
+    (passes_old_right (passes_old_mark a c.mark.ensures.told) c.locked_load-right.ensures.told)) c.unlink_left.ensures.told).0
 
 pub returns-then-successor-node-clause-locked : goal.returns-then-successor-node-clause-locked
-returns-then-successor-node-clause-locked g c = same_locks (c.settle_side.ensures.same).locked (passes_unlink_copy (eq-eqb c.args.moving.successor.parent c.args.moving.node.node c.if-successor-node.true) (unlinking c.args.moving c.slot_of-child.ensures c.unlink_right.ensures.told.before.tells (passes_old_right (passes_old_mark (c.requires.at).2 c.mark.ensures.told) c.locked_load-right.ensures.told)) c.unlink_right.ensures.told).1
+returns-then-successor-node-clause-locked g c =
+    same_locks (c.settle_side.ensures.same).locked
+    (passes_unlink_copy (eq-eqb c.args.moving.successor.parent c.args.moving.node.node c.if-successor-node.true)
+    (unlinking c.args.moving c.slot_of-child.ensures c.unlink_right.ensures.told.before.tells
+    (passes_old_right
+    (passes_old_mark (c.requires.at).2 c.mark.ensures.told) c.locked_load-right.ensures.told)) c.unlink_right.ensures.told).1
 
 pub returns-clause-locked : goal.returns-clause-locked
-returns-clause-locked g c = same_locks (c.settle_side-2.ensures.same).locked (passes_unlink_parent (ne_eqb c.args.moving.successor.parent c.args.moving.node.node c.if-successor-node.false) (unlinking c.args.moving c.slot_of-child.ensures c.unlink_left.ensures.told.before.tells (passes_old_right (passes_old_mark (c.requires.at).2 c.mark.ensures.told) c.locked_load-right.ensures.told)) c.unlink_left.ensures.told).1
+returns-clause-locked g c = same_locks (c.settle_side-2.ensures.same).locked
+    (passes_unlink_parent (ne_eqb c.args.moving.successor.parent c.args.moving.node.node c.if-successor-node.false)
+    (unlinking c.args.moving c.slot_of-child.ensures c.unlink_left.ensures.told.before.tells
+    (passes_old_right
+    (passes_old_mark (c.requires.at).2 c.mark.ensures.told) c.locked_load-right.ensures.told)) c.unlink_left.ensures.told).1
 
 pub returns-then-successor-node-clause-gone : goal.returns-then-successor-node-clause-gone
 returns-then-successor-node-clause-gone g c =
     let k = (shape_of g.W.WaitWords.WAY c.args.table.now) in
-    let first = keeps_on _ _ _ (keeps_mark k _ _ _ _ _ c.mark.ensures.told) (keeps_locked_load k _ _ _ _ _ c.locked_load-right.ensures.told) in
+    let first = keeps_on _ _ _ (keeps_mark k _ _ _ _ _ c.mark.ensures.told)
+    (keeps_locked_load k _ _ _ _ _ c.locked_load-right.ensures.told) in
     gone_on first.gone (gone_on (copy_unlinks k _ _ _ _ _ _ c.unlink_right.ensures.told).gone (c.settle_side.ensures.same).gone)
 
 pub returns-clause-gone : goal.returns-clause-gone
 returns-clause-gone g c =
     let k = (shape_of g.W.WaitWords.WAY c.args.table.now) in
-    let first = keeps_on _ _ _ (keeps_mark k _ _ _ _ _ c.mark.ensures.told) (keeps_locked_load k _ _ _ _ _ c.locked_load-right.ensures.told) in
+    let first = keeps_on _ _ _ (keeps_mark k _ _ _ _ _ c.mark.ensures.told)
+    (keeps_locked_load k _ _ _ _ _ c.locked_load-right.ensures.told) in
     gone_on first.gone (gone_on (parent_unlinks k _ _ _ _ _ _ c.unlink_left.ensures.told).gone (c.settle_side-2.ensures.same).gone)
 
 pub returns-then-successor-node-clause-retired : goal.returns-then-successor-node-clause-retired
 returns-then-successor-node-clause-retired g c =
     let k = (shape_of g.W.WaitWords.WAY c.args.table.now) in
-    let first = keeps_on _ _ _ (keeps_mark k _ _ _ _ _ c.mark.ensures.told) (keeps_locked_load k _ _ _ _ _ c.locked_load-right.ensures.told) in
-    (c.settle_side.ensures.same).retired ∙ (copy_unlinks k _ _ _ _ _ _ c.unlink_right.ensures.told).retired ∙ ap (λ xs. xs ++ c.args.moving.successor.slot ∷ []) first.retired
+    let first = keeps_on _ _ _ (keeps_mark k _ _ _ _ _ c.mark.ensures.told)
+    (keeps_locked_load k _ _ _ _ _ c.locked_load-right.ensures.told) in
+    (c.settle_side.ensures.same).retired ∙ (copy_unlinks k _ _ _ _ _ _ c.unlink_right.ensures.told).retired
+    ∙ ap (λ xs. xs ++ c.args.moving.successor.slot ∷ []) first.retired
 
 pub returns-clause-retired : goal.returns-clause-retired
 returns-clause-retired g c =
     let k = (shape_of g.W.WaitWords.WAY c.args.table.now) in
-    let first = keeps_on _ _ _ (keeps_mark k _ _ _ _ _ c.mark.ensures.told) (keeps_locked_load k _ _ _ _ _ c.locked_load-right.ensures.told) in
-    (c.settle_side-2.ensures.same).retired ∙ (parent_unlinks k _ _ _ _ _ _ c.unlink_left.ensures.told).retired ∙ ap (λ xs. xs ++ c.args.moving.successor.slot ∷ []) first.retired
+    let first = keeps_on _ _ _ (keeps_mark k _ _ _ _ _ c.mark.ensures.told)
+    (keeps_locked_load k _ _ _ _ _ c.locked_load-right.ensures.told) in
+    (c.settle_side-2.ensures.same).retired ∙ (parent_unlinks k _ _ _ _ _ _ c.unlink_left.ensures.told).retired
+    ∙ ap (λ xs. xs ++ c.args.moving.successor.slot ∷ []) first.retired
+
+pub returns-then-successor-node-clause-unlinked : goal.returns-then-successor-node-clause-unlinked
+returns-then-successor-node-clause-unlinked g c =
+    let k = (shape_of g.W.WaitWords.WAY c.args.table.now) in
+    let first = keeps_on _ _ _ (keeps_mark k _ _ _ _ _ c.mark.ensures.told)
+    (keeps_locked_load k _ _ _ _ _ c.locked_load-right.ensures.told) in
+    unlinked_on first.gone.begins (copy_unlinks k _ _ _ _ _ _ c.unlink_right.ensures.told).unlinked (c.settle_side.ensures.same).gone.begins
+
+pub returns-clause-unlinked : goal.returns-clause-unlinked
+returns-clause-unlinked g c =
+    let k = (shape_of g.W.WaitWords.WAY c.args.table.now) in
+    let first = keeps_on _ _ _ (keeps_mark k _ _ _ _ _ c.mark.ensures.told)
+    (keeps_locked_load k _ _ _ _ _ c.locked_load-right.ensures.told) in
+    unlinked_on first.gone.begins (parent_unlinks k _ _ _ _ _ _ c.unlink_left.ensures.told).unlinked
+    (c.settle_side-2.ensures.same).gone.begins

@@ -4,7 +4,8 @@ use Rattle.citrus_tree.proofs.deletes.Keeping.{keeps_rest, rest_unlock}
 use Rattle.citrus_tree.proofs.delete.shift.unlock_all.Goals as goal
 
 pub unlock-requires-clause-asks : goal.unlock-requires-clause-asks
-unlock-requires-clause-asks g c = let a = c.requires.at in needs_unlock c.unlock_below.ensures.locked (c.unlock_below.ensures.at a.0 a.1 a.2)
+unlock-requires-clause-asks g c = let a = c.requires.at in
+    needs_unlock c.unlock_below.ensures.locked (c.unlock_below.ensures.at a.0 a.1 a.2)
 
 pub unlock-requires-2-clause-asks : goal.unlock-requires-2-clause-asks
 unlock-requires-2-clause-asks g c =
@@ -28,4 +29,5 @@ returns-clause-at g c = λ op kept a.
 pub returns-clause-same : goal.returns-clause-same
 returns-clause-same g c =
     let k = (shape_of g.W.WaitWords.WAY c.args.table.now) in
-    keeps_rest _ _ _ c.unlock_below.ensures.same (keeps_rest _ _ _ (rest_unlock k _ _ _ _ c.unlock.ensures.told) (keeps_rest _ _ _ (rest_unlock k _ _ _ _ c.unlock-2.ensures.told) (rest_unlock k _ _ _ _ c.unlock-3.ensures.told)))
+    keeps_rest _ _ _ c.unlock_below.ensures.same (keeps_rest _ _ _ (rest_unlock k _ _ _ _ c.unlock.ensures.told)
+    (keeps_rest _ _ _ (rest_unlock k _ _ _ _ c.unlock-2.ensures.told) (rest_unlock k _ _ _ _ c.unlock-3.ensures.told)))

@@ -13,10 +13,12 @@ unlock-requires-2-clause-asks g c =
     needs_unlock p.1 p.0
 
 pub returns-then-successor-node-clause-at : goal.returns-then-successor-node-clause-at
-returns-then-successor-node-clause-at g c = λ op kept a. (passes_unlock (below_same c.args.moving c.if-successor-node.true c.requires.locked) a c.unlock.ensures.told).0
+returns-then-successor-node-clause-at g c = λ op kept a. (passes_unlock
+    (below_same c.args.moving c.if-successor-node.true c.requires.locked) a c.unlock.ensures.told).0
 
 pub returns-then-successor-node-clause-locked : goal.returns-then-successor-node-clause-locked
-returns-then-successor-node-clause-locked g c = (passes_unlock (below_same c.args.moving c.if-successor-node.true c.requires.locked) (c.requires.at).2 c.unlock.ensures.told).1
+returns-then-successor-node-clause-locked g c =
+    (passes_unlock (below_same c.args.moving c.if-successor-node.true c.requires.locked) (c.requires.at).2 c.unlock.ensures.told).1
 
 pub returns-clause-at : goal.returns-clause-at
 returns-clause-at g c = λ op kept a.
@@ -29,4 +31,5 @@ returns-clause-locked g c =
     (passes_unlock p.1 p.0 c.unlock-2.ensures.told).1
 
 pub returns-clause-same : goal.returns-clause-same
-returns-clause-same g c = let k = (shape_of g.W.WaitWords.WAY c.args.table.now) in keeps_rest _ _ _ (rest_unlock k _ _ _ _ c.unlock.ensures.told) (rest_unlock k _ _ _ _ c.unlock-2.ensures.told)
+returns-clause-same g c = let k = (shape_of g.W.WaitWords.WAY c.args.table.now) in
+    keeps_rest _ _ _ (rest_unlock k _ _ _ _ c.unlock.ensures.told) (rest_unlock k _ _ _ _ c.unlock-2.ensures.told)

@@ -1,3 +1,6 @@
+use Rattle.std.proofs.Common.{subst}
+use Rattle.citrus_tree.specs.Lookups.{IsSearching, state_of}
+use Rattle.citrus_tree.specs.declared.descent.Descent.{Descent}
 use Rattle.prcu_model.specs.declared.operation.Op.TheVariants.{Del}
 use Rattle.seat_table.specs.Seats.{shape_of}
 use Rattle.tree_points.proofs.Standing.{inside_leave}
@@ -11,33 +14,68 @@ descend-requires-clause-outside g c = c.requires.at.1.outside
 pub descend-requires-clause-unlocked : goal.descend-requires-clause-unlocked
 descend-requires-clause-unlocked g c = c.requires.at.1.unlocked
 
-pub load_target-target-requires-clause-at : goal.load_target-target-requires-clause-at
-load_target-target-requires-clause-at g c =
-    let a = c.requires.at in
-    (Del c.args.key, a.0, at_parent (a.1.at (seated_by c.descend.ensures.place c.in-Found.ensures.searching)) c.in-Found.ensures.searching)
+pub load_target-requires-clause-at : goal.load_target-requires-clause-at
+load_target-requires-clause-at g c =
+    let a = c.requires.at in (
+      Del c.args.key,
+      a.0,
+      at_parent (a.1.at (seated_by c.in_ok-slot.ensures.place
+          (subst (λ (d : Descent). IsSearching c.args.seat.now.view c.args.key
+          (state_of d) c.descend.new.seat.view) c.in-Found.is c.in_ok-slot.ensures.searching)))
+          (subst (λ (d : Descent). IsSearching c.args.seat.now.view c.args.key
+          (state_of d) c.descend.new.seat.view) c.in-Found.is c.in_ok-slot.ensures.searching),
+    )
 
 pub leave-requires-clause-inside : goal.leave-requires-clause-inside
 leave-requires-clause-inside g c =
     let a = c.requires.at in
-    inside_leave (c.load_target-target.ensures.at (Del c.args.key) a.0 (at_parent (a.1.at (seated_by c.descend.ensures.place c.in-Found.ensures.searching)) c.in-Found.ensures.searching))
+    inside_leave (c.in_ok-target-in-Found.ensures.at (Del c.args.key) a.0
+    (at_parent (a.1.at (seated_by c.in_ok-slot.ensures.place
+    (subst (λ (d : Descent). IsSearching c.args.seat.now.view c.args.key
+    (state_of d) c.descend.new.seat.view) c.in-Found.is c.in_ok-slot.ensures.searching)))
+    (subst (λ (d : Descent). IsSearching c.args.seat.now.view c.args.key
+    (state_of d) c.descend.new.seat.view) c.in-Found.is c.in_ok-slot.ensures.searching)))
 
-pub returns-in-Found-clause-found : goal.returns-in-Found-clause-found
-returns-in-Found-clause-found g c = λ kept a.
-    at_target (c.load_target-target.ensures.at (Del c.args.key) kept (at_parent (a.at (seated_by c.descend.ensures.place c.in-Found.ensures.searching)) c.in-Found.ensures.searching))
-    c.load_target-target.ensures.inside c.leave.ensures.left
+pub returns-in_ok-target-in-Found-clause-found : goal.returns-in_ok-target-in-Found-clause-found
+returns-in_ok-target-in-Found-clause-found g c = λ kept a.
+    at_target (c.in_ok-target-in-Found.ensures.at (Del c.args.key) kept
+    (at_parent (a.at (seated_by c.in_ok-slot.ensures.place
+    (subst (λ (d : Descent). IsSearching c.args.seat.now.view c.args.key
+    (state_of d) c.descend.new.seat.view) c.in-Found.is c.in_ok-slot.ensures.searching)))
+    (subst (λ (d : Descent). IsSearching c.args.seat.now.view c.args.key
+    (state_of d) c.descend.new.seat.view) c.in-Found.is c.in_ok-slot.ensures.searching)))
+    c.in_ok-target-in-Found.ensures.inside c.leave.ensures.left
 
-pub returns-in-Found-clause-searched : goal.returns-in-Found-clause-searched
-returns-in-Found-clause-searched g c = searched_found c.in-Found.ensures.searching c.load_target-target.ensures.same c.leave.ensures.left
+pub returns-in_ok-target-in-Found-clause-searched : goal.returns-in_ok-target-in-Found-clause-searched
+returns-in_ok-target-in-Found-clause-searched g c =
+    searched_found (subst (λ (d : Descent). IsSearching c.args.seat.now.view c.args.key
+    (state_of d) c.descend.new.seat.view) c.in-Found.is c.in_ok-slot.ensures.searching) c.in_ok-target-in-Found.ensures.same
+    c.leave.ensures.left
 
 pub returns-in-Ended-clause-done : goal.returns-in-Ended-clause-done
 returns-in-Ended-clause-done g c = λ kept a.
-    at_end (a.at (seated_by c.descend.ensures.place c.in-Ended.ensures.searching))
-    (looked_missed (shape_of g.W.WaitWords.WAY c.args.table.now) c.args.seat.now.view c.args.key c.in-Ended.slot c.in-Ended.side c.descend.new.seat.view c.leave-in-Ended.new.seat.view c.in-Ended.ensures.searching c.leave-in-Ended.ensures.left)
+    at_end (a.at (seated_by c.in_ok-slot.ensures.place
+    (subst (λ (d : Descent). IsSearching c.args.seat.now.view c.args.key
+    (state_of d) c.descend.new.seat.view) c.in-Ended.is c.in_ok-slot.ensures.searching)))
+    (looked_missed
+    (shape_of g.W.WaitWords.WAY c.args.table.now) c.args.seat.now.view c.args.key c.in-Ended.slot c.in-Ended.side
+    c.descend.new.seat.view c.leave-in-Ended.new.seat.view
+    (subst (λ (d : Descent). IsSearching c.args.seat.now.view c.args.key
+    (state_of d) c.descend.new.seat.view) c.in-Ended.is c.in_ok-slot.ensures.searching) c.leave-in-Ended.ensures.left)
 
 pub returns-in-Ended-clause-absent : goal.returns-in-Ended-clause-absent
 returns-in-Ended-clause-absent g c =
-    answered_now (looked_missed (shape_of g.W.WaitWords.WAY c.args.table.now) c.args.seat.now.view c.args.key c.in-Ended.slot c.in-Ended.side c.descend.new.seat.view c.leave-in-Ended.new.seat.view c.in-Ended.ensures.searching c.leave-in-Ended.ensures.left)
+    answered_now (looked_missed
+    (shape_of g.W.WaitWords.WAY c.args.table.now) c.args.seat.now.view c.args.key c.in-Ended.slot c.in-Ended.side
+    c.descend.new.seat.view c.leave-in-Ended.new.seat.view
+    (subst (λ (d : Descent). IsSearching c.args.seat.now.view c.args.key
+    (state_of d) c.descend.new.seat.view) c.in-Ended.is c.in_ok-slot.ensures.searching) c.leave-in-Ended.ensures.left)
 
 pub returns-in-Ended-clause-searched : goal.returns-in-Ended-clause-searched
 returns-in-Ended-clause-searched g c =
-    searched_missed (looked_missed (shape_of g.W.WaitWords.WAY c.args.table.now) c.args.seat.now.view c.args.key c.in-Ended.slot c.in-Ended.side c.descend.new.seat.view c.leave-in-Ended.new.seat.view c.in-Ended.ensures.searching c.leave-in-Ended.ensures.left)
+    searched_missed
+    (looked_missed
+    (shape_of g.W.WaitWords.WAY c.args.table.now) c.args.seat.now.view c.args.key c.in-Ended.slot c.in-Ended.side
+    c.descend.new.seat.view c.leave-in-Ended.new.seat.view
+    (subst (λ (d : Descent). IsSearching c.args.seat.now.view c.args.key
+    (state_of d) c.descend.new.seat.view) c.in-Ended.is c.in_ok-slot.ensures.searching) c.leave-in-Ended.ensures.left)

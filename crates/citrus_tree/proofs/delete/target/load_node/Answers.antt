@@ -13,14 +13,19 @@ search_load-life-requires-clause-asks g c =
 
 pub search_load-left-requires-clause-asks : goal.search_load-left-requires-clause-asks
 search_load-left-requires-clause-asks g c =
-    needs_node_left (passes_node_life (passes_parent_life (c.requires.at).2 c.search_load-parent_life.ensures.told) c.search_load-life.ensures.told)
+    needs_node_left (passes_node_life (passes_parent_life
+    (c.requires.at).2 c.search_load-parent_life.ensures.told) c.search_load-life.ensures.told)
 
 pub search_load-right-requires-clause-asks : goal.search_load-right-requires-clause-asks
 search_load-right-requires-clause-asks g c =
-    needs_node_right (passes_node_left (passes_node_life (passes_parent_life (c.requires.at).2 c.search_load-parent_life.ensures.told) c.search_load-life.ensures.told) c.search_load-left.ensures.told)
+    needs_node_right (passes_node_left (passes_node_life
+    (passes_parent_life
+    (c.requires.at).2 c.search_load-parent_life.ensures.told) c.search_load-life.ensures.told) c.search_load-left.ensures.told)
 
 pub returns-clause-at : goal.returns-clause-at
-returns-clause-at g c = λ op kept a. node_loaded c.args.parent c.args.slot c.generation_of.result c.generation_of-2.result c.args.side c.generation_of.ensures c.generation_of-2.ensures a
+returns-clause-at g c =
+    λ op kept a. node_loaded c.args.parent c.args.slot c.generation_of.result c.generation_of-2.result c.args.side c.generation_of.ensures
+    c.generation_of-2.ensures a
     c.search_load-parent_life.ensures.told c.search_load-life.ensures.told c.search_load-left.ensures.told c.search_load-right.ensures.told
 
 pub returns-clause-inside : goal.returns-clause-inside
@@ -29,5 +34,7 @@ returns-clause-inside g c = (c.search_load-right.ensures.told).stood
 pub returns-clause-same : goal.returns-clause-same
 returns-clause-same g c =
     let k = (shape_of g.W.WaitWords.WAY c.args.table.now) in
-    keeps_on _ _ _ (keeps_search_load k _ _ _ _ _ c.search_load-parent_life.ensures.told) (keeps_on _ _ _ (keeps_search_load k _ _ _ _ _ c.search_load-life.ensures.told)
-    (keeps_on _ _ _ (keeps_search_load k _ _ _ _ _ c.search_load-left.ensures.told) (keeps_search_load k _ _ _ _ _ c.search_load-right.ensures.told)))
+    keeps_on _ _ _ (keeps_search_load k _ _ _ _ _ c.search_load-parent_life.ensures.told)
+    (keeps_on _ _ _ (keeps_search_load k _ _ _ _ _ c.search_load-life.ensures.told)
+    (keeps_on _ _ _ (keeps_search_load k _ _ _ _ _ c.search_load-left.ensures.told)
+    (keeps_search_load k _ _ _ _ _ c.search_load-right.ensures.told)))

@@ -10,7 +10,9 @@ search_load-life-requires-clause-asks g c =
 
 pub returns-clause-at : goal.returns-clause-at
 returns-clause-at g c = λ op kept a.
-    successor_loaded c.args.node c.args.parent c.args.slot c.load_above-parent_generation.result c.generation_of.result c.generation_of.ensures (c.load_above-parent_generation.ensures.at op kept a) c.search_load-life.ensures.told
+    successor_loaded c.args.node c.args.parent c.args.slot c.load_above-parent_generation.result c.generation_of.result
+    c.generation_of.ensures (c.load_above-parent_generation.ensures.at op kept a) c.search_load-life.ensures.told
 
 pub returns-clause-same : goal.returns-clause-same
-returns-clause-same g c = keeps_on _ _ _ c.load_above-parent_generation.ensures.same (keeps_search_load (shape_of g.W.WaitWords.WAY c.args.table.now) _ _ _ _ _ c.search_load-life.ensures.told)
+returns-clause-same g c = keeps_on _ _ _ c.load_above-parent_generation.ensures.same
+    (keeps_search_load (shape_of g.W.WaitWords.WAY c.args.table.now) _ _ _ _ _ c.search_load-life.ensures.told)

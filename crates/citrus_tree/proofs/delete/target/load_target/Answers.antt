@@ -3,9 +3,15 @@ use Rattle.citrus_tree.proofs.delete.target.load_target.Goals as goal
 
 pub load_successor-successor-requires-clause-at : goal.load_successor-successor-requires-clause-at
 load_successor-successor-requires-clause-at g c =
-    let a = c.requires.at in
-    (a.0, a.1, c.walk-parent.ensures.at a.0 a.1 (first_walk c.load_node-node.result c.if-node-eq0.false c.if-node-eq0-2.false (c.load_node-node.ensures.at a.0 a.1 a.2)))
+    let a = c.requires.at in (
+      a.0,
+      a.1,
+      c.in_ok-parent.ensures.at a.0 a.1 (first_walk c.load_node-node.result c.if-node-eq0.false c.if-node-eq0-2.false
+          (c.load_node-node.ensures.at a.0 a.1 a.2)),
+    )
 
 pub returns-clause-at : goal.returns-clause-at
 returns-clause-at g c = λ op kept a.
-    c.load_successor-successor.ensures.at op kept (c.walk-parent.ensures.at op kept (first_walk c.load_node-node.result c.if-node-eq0.false c.if-node-eq0-2.false (c.load_node-node.ensures.at op kept a)))
+    c.load_successor-successor.ensures.at op kept
+    (c.in_ok-parent.ensures.at op kept (first_walk c.load_node-node.result c.if-node-eq0.false c.if-node-eq0-2.false
+    (c.load_node-node.ensures.at op kept a)))

@@ -5,7 +5,8 @@ use Rattle.citrus_tree.proofs.deletes.Finds.{slot_fits, walks_first, needs_walk,
 use Rattle.citrus_tree.proofs.delete.target.walk.Goals as goal
 
 pub overflow_cast-slot : goal.overflow_cast-slot
-overflow_cast-slot g c = let small = slot_fits c.args.node (walked_to c.args.node.node c.args.node.right) (c.requires.at).2 c.requires.inside in search rules
+overflow_cast-slot g c = let small = slot_fits c.args.node (walked_to c.args.node.node c.args.node.right)
+    (c.requires.at).2 c.requires.inside in search rules
 
 pub loop-init : goal.loop-init
 loop-init g c = record {
@@ -16,23 +17,33 @@ loop-init g c = record {
 
 pub search_load-left-requires-clause-asks : goal.search_load-left-requires-clause-asks
 search_load-left-requires-clause-asks g c =
-    needs_walk (shape_of g.W.WaitWords.WAY c.args.table.now) c.args.node c.loop.parent c.loop.slot c.args.seat.now.view c.loop.seat.view c.requires.at c.loop.invariant.walks
+    needs_walk (shape_of g.W.WaitWords.WAY c.args.table.now) c.args.node c.loop.parent c.loop.slot c.args.seat.now.view c.loop.seat.view
+    c.requires.at c.loop.invariant.walks
 
 pub returns-then-left-eq0-clause-at : goal.returns-then-left-eq0-clause-at
 returns-then-left-eq0-clause-at g c =
-    (walk_ends (shape_of g.W.WaitWords.WAY c.args.table.now) c.args.node c.loop.parent c.loop.slot c.search_load-left.result c.args.seat.now.view c.loop.seat.view c.search_load-left.new.seat.view c.if-left-eq0.true c.loop.invariant.walks c.search_load-left.ensures.told).0
+    (walk_ends (shape_of g.W.WaitWords.WAY c.args.table.now) c.args.node c.loop.parent c.loop.slot c.search_load-left.result
+    c.args.seat.now.view c.loop.seat.view c.search_load-left.new.seat.view c.if-left-eq0.true c.loop.invariant.walks
+    c.search_load-left.ensures.told).0
 
 pub returns-then-left-eq0-clause-same : goal.returns-then-left-eq0-clause-same
 returns-then-left-eq0-clause-same g c =
-    (walk_ends (shape_of g.W.WaitWords.WAY c.args.table.now) c.args.node c.loop.parent c.loop.slot c.search_load-left.result c.args.seat.now.view c.loop.seat.view c.search_load-left.new.seat.view c.if-left-eq0.true c.loop.invariant.walks c.search_load-left.ensures.told).1
+    (walk_ends (shape_of g.W.WaitWords.WAY c.args.table.now) c.args.node c.loop.parent c.loop.slot c.search_load-left.result
+    c.args.seat.now.view c.loop.seat.view c.search_load-left.new.seat.view c.if-left-eq0.true c.loop.invariant.walks
+    c.search_load-left.ensures.told).1
 
 pub overflow_cast-slot-in-loop : goal.overflow_cast-slot-in-loop
 overflow_cast-slot-in-loop g c =
-    let small = walk_fits (shape_of g.W.WaitWords.WAY c.args.table.now) c.args.node c.loop.parent c.loop.slot c.search_load-left.result c.args.seat.now.view c.loop.seat.view c.search_load-left.new.seat.view c.requires.at c.if-left-eq0.false c.loop.invariant.walks c.search_load-left.ensures.told in search rules
+    let small = walk_fits
+    (shape_of g.W.WaitWords.WAY c.args.table.now) c.args.node c.loop.parent c.loop.slot c.search_load-left.result c.args.seat.now.view
+    c.loop.seat.view c.search_load-left.new.seat.view c.requires.at c.if-left-eq0.false c.loop.invariant.walks
+    c.search_load-left.ensures.told in search rules
 
 pub loop-preserved : goal.loop-preserved
 loop-preserved g c = record {
   table = (c.search_load-left.ensures.seat).0 ∙ c.loop.invariant.table;
   listed = (c.search_load-left.ensures.seat).1 ∙ c.loop.invariant.listed;
-  walks = walks_on (shape_of g.W.WaitWords.WAY c.args.table.now) c.args.node c.loop.parent c.loop.slot c.search_load-left.result c.args.seat.now.view c.loop.seat.view c.search_load-left.new.seat.view c.if-left-eq0.false c.loop.invariant.walks c.search_load-left.ensures.told;
+  walks = walks_on
+      (shape_of g.W.WaitWords.WAY c.args.table.now) c.args.node c.loop.parent c.loop.slot c.search_load-left.result c.args.seat.now.view
+      c.loop.seat.view c.search_load-left.new.seat.view c.if-left-eq0.false c.loop.invariant.walks c.search_load-left.ensures.told;
 }

@@ -3,4 +3,7 @@ use Rattle.citrus_tree.proofs.searches.Searching.{root_is, begun}
 use Rattle.citrus_tree.proofs.search.Search.start.Goals as goal
 
 pub returns-clause-stands : goal.returns-clause-stands
-returns-clause-stands g c = (root_is (shape_of g.W.WaitWords.WAY c.args.table.now), begun (shape_of g.W.WaitWords.WAY c.args.table.now) c.args.seat.now.view c.args.key c.enter.new.seat.view c.enter.ensures.entered)
+returns-clause-stands g c = (
+  root_is (shape_of g.W.WaitWords.WAY c.args.table.now),
+  begun (shape_of g.W.WaitWords.WAY c.args.table.now) c.args.seat.now.view c.args.key c.enter.new.seat.view c.enter.ensures.entered,
+)

@@ -8,4 +8,5 @@ returns c =
     let items : c.self.inside.pairs.items ≡ c.args.self.now.pairs = (λ i. (c.self.view_is i).pairs) in
     let less = subst (λ (z : List Pair). c.args.i < length z) (sym items) c.requires in
     subst (λ (z : List Pair). IsAt z c.args.i c.index.result.now) items
-    (subst (λ (z : Pair). IsAt c.self.inside.pairs.items c.args.i z) (sym c.index.ensures) (at_index c.self.inside.pairs.items c.args.i c.index.result.now less))
+    (subst (λ (z : Pair). IsAt c.self.inside.pairs.items c.args.i z) (sym c.index.ensures)
+    (at_index c.self.inside.pairs.items c.args.i c.index.result.now less))

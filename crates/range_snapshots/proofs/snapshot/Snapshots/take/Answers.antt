@@ -17,9 +17,12 @@ returns-clause-taken g c =
     let last = c.take-4.ensures.only.seen in
     let later = prefix_trans two three four c.take-3.ensures.only.seen last in
     let latest = prefix_trans one two four c.take-2.ensures.only.seen later in
-    snapshots_next low high one four (length (updates_of none)) c.take.new.self (c.take-2.new.self ∷ c.take-3.new.self ∷ c.take-4.new.self ∷ []) latest c.take.ensures.taken
-    (snapshots_next low high two four (length (updates_of one)) c.take-2.new.self (c.take-3.new.self ∷ c.take-4.new.self ∷ []) later c.take-2.ensures.taken
-    (snapshots_next low high three four (length (updates_of two)) c.take-3.new.self (c.take-4.new.self ∷ []) last c.take-3.ensures.taken c.take-4.ensures.taken))
+    snapshots_next low high one four (length (updates_of none)) c.take.new.self
+    (c.take-2.new.self ∷ c.take-3.new.self ∷ c.take-4.new.self ∷ []) latest c.take.ensures.taken
+    (snapshots_next low high two four (length (updates_of one)) c.take-2.new.self
+    (c.take-3.new.self ∷ c.take-4.new.self ∷ []) later c.take-2.ensures.taken
+    (snapshots_next low high three four (length (updates_of two)) c.take-3.new.self
+    (c.take-4.new.self ∷ []) last c.take-3.ensures.taken c.take-4.ensures.taken))
 
 pub returns-clause-looked : goal.returns-clause-looked
 returns-clause-looked g c =
@@ -28,6 +31,8 @@ returns-clause-looked g c =
     let two = c.take-2.new.seat.view in
     let three = c.take-3.new.seat.view in
     let four = c.take-4.new.seat.view in
-    looked_next none one four c.take.new.self (c.take-2.new.self ∷ c.take-3.new.self ∷ c.take-4.new.self ∷ []) c.take.ensures.only c.take.ensures.looked
+    looked_next none one four c.take.new.self (c.take-2.new.self ∷ c.take-3.new.self ∷ c.take-4.new.self
+    ∷ []) c.take.ensures.only c.take.ensures.looked
     (looked_next one two four c.take-2.new.self (c.take-3.new.self ∷ c.take-4.new.self ∷ []) c.take-2.ensures.only c.take-2.ensures.looked
-    (looked_next two three four c.take-3.new.self (c.take-4.new.self ∷ []) c.take-3.ensures.only c.take-3.ensures.looked c.take-4.ensures.looked))
+    (looked_next two three four c.take-3.new.self
+    (c.take-4.new.self ∷ []) c.take-3.ensures.only c.take-3.ensures.looked c.take-4.ensures.looked))

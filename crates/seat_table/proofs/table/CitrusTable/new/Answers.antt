@@ -17,4 +17,4 @@ invariant_of-result g c =
     let k : Shape = record { waiter = c.waiter_of-waiter.result; slots = c.args.slots; places = c.args.places; tickets = c.args.tickets } in
     let long : length c.as_slice.result.now ≡ word_count k = first_long k c.as_slice.result.now (search rules) in
     let made = c.in_ok-table.ensures in
-    first_table g.W.WaitWords.WAY k c.waiter_of-waiter.ensures (search rules) _ _ _ (search rules) (made.0 ∙ long) c.base_of.ensures
+    first_table g.W.WaitWords.WAY k c.waiter_of-waiter.ensures (search rules) _ _ (search rules) (made.0 ∙ long)

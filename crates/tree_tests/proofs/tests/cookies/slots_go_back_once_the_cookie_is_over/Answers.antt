@@ -4,10 +4,17 @@ use Rattle.grace_cookie.proofs.Quiet.{quiet_unraised}
 use Rattle.tree_tests.proofs.tests.cookies.slots_go_back_once_the_cookie_is_over.Goals as goal
 
 pub ask-requires-2-clause-of : goal.ask-requires-2-clause-of
-ask-requires-2-clause-of g c = (cookies_stay (shape_of 0 c.in_ok-table.table) c.ask.new.cookie c.ask.new.seat c.get_beside-reply.new.seat c.get_beside-reply.ensures.keeps c.ask.ensures.of (c.ask.ensures.kept c.start-cookie.ensures.kept)).0
+ask-requires-2-clause-of g c =
+    (cookies_stay
+    (shape_of 0 c.in_ok-table.table) c.ask.new.cookie c.ask.new.seat c.get_beside-reply.new.seat c.get_beside-reply.ensures.keeps
+    c.ask.ensures.of (c.ask.ensures.kept c.start-cookie.ensures.kept)).0
 
 pub give_back-requires-clause-kept : goal.give_back-requires-clause-kept
-give_back-requires-clause-kept g c = c.ask-2.ensures.kept (cookies_stay (shape_of 0 c.in_ok-table.table) c.ask.new.cookie c.ask.new.seat c.get_beside-reply.new.seat c.get_beside-reply.ensures.keeps c.ask.ensures.of (c.ask.ensures.kept c.start-cookie.ensures.kept)).1
+give_back-requires-clause-kept g c = c.ask-2.ensures.kept
+    (cookies_stay
+    (shape_of 0 c.in_ok-table.table) c.ask.new.cookie c.ask.new.seat c.get_beside-reply.new.seat c.get_beside-reply.ensures.keeps
+    c.ask.ensures.of (c.ask.ensures.kept c.start-cookie.ensures.kept)).1
 
 pub give_back-requires-clause-unraised : goal.give_back-requires-clause-unraised
-give_back-requires-clause-unraised g c = λ _. quiet_unraised c.ask-2.new.seat.view (c.ask-2.ensures.quiet c.get_beside-reply.ensures.quiet).view _
+give_back-requires-clause-unraised g c = λ _. quiet_unraised c.ask-2.new.seat.view
+    (c.ask-2.ensures.quiet c.get_beside-reply.ensures.quiet).view _

@@ -1,0 +1,44 @@
+//! The calls, for callers with a patience of their own: where it ends, so does the call, and the seat may hold locks or stand in a section.
+ghost use Rattle.std.specs.Prelude.{◌≡◌, ◌+◌, ◌≤◌, IfOk};
+ghost use Rattle.seat_table.specs.Gains.{IsInformed};
+ghost use Rattle.seat_table.specs.Seats.{IsQuietSeat, shape_of};
+ghost use Rattle.tree_points.specs.Progress.{KeepsAllowance};
+ghost use Rattle.citrus_tree.specs.Clients.{IsTold};
+ghost use Rattle.citrus_tree.specs.Gone.{KeepsSlots, KeepsWait};
+
+pub use crate::delete::del;
+pub use crate::insert::put;
+pub use crate::lookup::get;
+pub use crate::replace::set;
+use patience::Patience;
+use prcu_marks::Gate;
+use prcu_model::{Op, Told};
+use seat_table::{CitrusTable, Seat, WaitPart};
+
+/// Makes the operation by its own call: `put`, `get`, `del` or `set`. There it is said what it waits for.
+pub fn call<P: Patience, W: WaitPart, G: Gate>(
+    patience: &P,
+    table: &CitrusTable<W>,
+    seat: &mut Seat<W>,
+    gate: &G,
+    op: Op,
+) -> Result<Told, P::Tired>
+    requires table { seat.old.table ≡ table.now }
+    requires quiet { IsQuietSeat seat.old }
+    requires tickets { 4 ≤ seat.old.view.allowance.tickets }
+    ensures table { seat.new.table ≡ seat.old.table }
+    ensures told { IfOk result (λ answer. IsTold (shape_of W.WAY table.now) seat.old.view op answer seat.new.view) }
+    ensures wait { IfOk result (λ _. KeepsWait seat.old.view seat.new.view) }
+    ensures slots { IfOk result (λ _. KeepsSlots seat.old seat.new) }
+    ensures tickets { IfOk result (λ _. seat.old.view.allowance.tickets ≤ seat.new.view.allowance.tickets + 4) }
+    ensures allowance { IfOk result (λ _. KeepsAllowance seat.old.view seat.new.view) }
+    ensures quiet { IfOk result (λ _. IsQuietSeat seat.new) }
+    ensures informed { IfOk result (λ _. IsInformed seat.new.view) }
+{
+    match op {
+        Op::Put { key, value } => put(patience, table, seat, gate, key, value),
+        Op::Get { key } => get(patience, table, seat, gate, key),
+        Op::Del { key } => del(patience, table, seat, gate, key),
+        Op::Set { key, value } => set(patience, table, seat, gate, key, value),
+    }
+}

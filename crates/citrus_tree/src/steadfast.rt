@@ -1,0 +1,125 @@
+//! The calls, for callers that never give up.
+ghost use Rattle.std.specs.Prelude.{◌≡◌, ◌+◌, ◌≤◌};
+ghost use Rattle.citrus_tree.specs.Gone.{KeepsSlots, KeepsWait};
+ghost use Rattle.citrus_tree.specs.Lookups.{Gets};
+ghost use Rattle.citrus_tree.specs.Replies.{Dels, Puts, RetiresInOrder, Sets};
+ghost use Rattle.prcu_model.specs.declared.operation.Reply.TheVariants.{Gone};
+ghost use Rattle.seat_table.specs.Gains.{IsInformed};
+ghost use Rattle.seat_table.specs.Seats.{IsQuietSeat, shape_of};
+ghost use Rattle.tree_points.specs.Progress.{KeepsAllowance};
+
+use crate::patient;
+use patience::Steadfast;
+use prcu_marks::Gate;
+use prcu_model::Told;
+use seat_table::{CitrusTable, Seat, WaitPart};
+use std::sync::Wait;
+
+/// The key's value, or `Absent`, as the dictionary gave it at some time of the call. It takes no lock and waits for nobody's step, but
+/// others' updates can make the search longer.
+pub fn get<R: Wait, W: WaitPart, G: Gate>(
+    rt: &R,
+    table: &CitrusTable<W>,
+    seat: &mut Seat<W>,
+    gate: &G,
+    key: u64,
+) -> Told
+    requires table { seat.old.table ≡ table.now }
+    requires quiet { IsQuietSeat seat.old }
+    ensures seat { seat.new.table ≡ seat.old.table }
+    ensures listed { seat.new.listed ≡ seat.old.listed }
+    ensures gets { Gets seat.old.view key result seat.new.view }
+    ensures quiet { IsQuietSeat seat.new }
+{
+    match patient::get(&Steadfast::new(rt), table, seat, gate, key) {
+        Ok(told) => told,
+        Err(never) => match never {},
+    }
+}
+
+/// Adds the pair, where the key is absent: `New` with the update's position. `Old` where the key is present, as at `get`, and `Full`
+/// where it is absent, no slot is free, and the caller has none to give back. It waits for the holder of the lock of the node above, for
+/// other updates, and, where no slot is free, for all open sections.
+pub fn put<R: Wait, W: WaitPart, G: Gate>(
+    rt: &R,
+    table: &CitrusTable<W>,
+    seat: &mut Seat<W>,
+    gate: &G,
+    key: u64,
+    value: u64,
+) -> Told
+    requires table { seat.old.table ≡ table.now }
+    requires quiet { IsQuietSeat seat.old }
+    requires tickets { 4 ≤ seat.old.view.allowance.tickets }
+    ensures table { seat.new.table ≡ seat.old.table }
+    ensures puts { Puts (shape_of W.WAY table.now) seat.old.view key value result seat.new.view }
+    ensures quiet { IsQuietSeat seat.new }
+    ensures wait { KeepsWait seat.old.view seat.new.view }
+    ensures slots { KeepsSlots seat.old seat.new }
+    ensures tickets { seat.old.view.allowance.tickets ≤ seat.new.view.allowance.tickets + 4 }
+    ensures allowance { KeepsAllowance seat.old.view seat.new.view }
+    ensures informed { IsInformed seat.new.view }
+{
+    match patient::put(&Steadfast::new(rt), table, seat, gate, key, value) {
+        Ok(told) => told,
+        Err(never) => match never {},
+    }
+}
+
+/// Gives the key another value, where it is present: `Was` with the old value and the update's position. `Absent` as at `get`. It waits
+/// for the holder of the node's lock and for other updates, and for no reader.
+pub fn set<R: Wait, W: WaitPart, G: Gate>(
+    rt: &R,
+    table: &CitrusTable<W>,
+    seat: &mut Seat<W>,
+    gate: &G,
+    key: u64,
+    value: u64,
+) -> Told
+    requires table { seat.old.table ≡ table.now }
+    requires quiet { IsQuietSeat seat.old }
+    requires tickets { 4 ≤ seat.old.view.allowance.tickets }
+    ensures table { seat.new.table ≡ seat.old.table }
+    ensures sets { Sets seat.old.view key value result seat.new.view }
+    ensures quiet { IsQuietSeat seat.new }
+    ensures wait { KeepsWait seat.old.view seat.new.view }
+    ensures slots { KeepsSlots seat.old seat.new }
+    ensures tickets { seat.old.view.allowance.tickets ≤ seat.new.view.allowance.tickets + 4 }
+    ensures allowance { KeepsAllowance seat.old.view seat.new.view }
+    ensures informed { IsInformed seat.new.view }
+{
+    match patient::set(&Steadfast::new(rt), table, seat, gate, key, value) {
+        Ok(told) => told,
+        Err(never) => match never {},
+    }
+}
+
+/// Takes the key's pair out, where the key is present: `Gone` with the update's position. The slot that it took out is listed as retired,
+/// and behind it the old successor, where the node had two children. `Absent` as at `get`. It waits for the holders of the locks of the
+/// nodes that it touches, and for other updates. Where the node has two children it waits too for the open sections whose keys lie above
+/// the key and up to the next one; and before it begins, where many slots are retired or the place has no spare, for all open sections.
+pub fn del<R: Wait, W: WaitPart, G: Gate>(
+    rt: &R,
+    table: &CitrusTable<W>,
+    seat: &mut Seat<W>,
+    gate: &G,
+    key: u64,
+) -> Told
+    requires table { seat.old.table ≡ table.now }
+    requires quiet { IsQuietSeat seat.old }
+    requires tickets { 4 ≤ seat.old.view.allowance.tickets }
+    ensures table { seat.new.table ≡ seat.old.table }
+    ensures dels { Dels seat.old.view key result seat.new.view }
+    ensures wait { KeepsWait seat.old.view seat.new.view }
+    ensures slots { KeepsSlots seat.old seat.new }
+    ensures retires { result.reply ≡ Gone → RetiresInOrder seat.old key result.number seat.new }
+    ensures tickets { seat.old.view.allowance.tickets ≤ seat.new.view.allowance.tickets + 4 }
+    ensures allowance { KeepsAllowance seat.old.view seat.new.view }
+    ensures quiet { IsQuietSeat seat.new }
+    ensures informed { IsInformed seat.new.view }
+{
+    match patient::del(&Steadfast::new(rt), table, seat, gate, key) {
+        Ok(told) => told,
+        Err(never) => match never {},
+    }
+}

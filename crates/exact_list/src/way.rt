@@ -1,0 +1,78 @@
+//! The way back of a walk.
+ghost use Rattle.std.specs.Prelude.{◌≡◌, [], false};
+ghost use Rattle.exact_list.specs.Ways.{HasPassed, NextIs};
+
+use arrayvec::ArrayVec;
+
+/// How many slots of a way are kept.
+const KEPT: usize = 64;
+
+/// A slot past which a walk went to the left. Its key comes next where no lesser one is left.
+#[derive(Clone, Copy, Default)]
+pub(crate) struct Passed {
+    pub(crate) slot: u32,
+    pub(crate) key: u64,
+}
+
+/// The slots past which a walk went to the left, on the way on which it came, the latest last.
+#[derive(Drop)]
+pub(crate) struct Way {
+    pub(crate) passed: ArrayVec<Passed, KEPT>,
+    /// There were more than there is room for, and earlier ones were given up.
+    pub(crate) cut: bool,
+}
+
+/// Where a walk goes on once it came to an end.
+pub(crate) enum Next {
+    /// At this slot.
+    At(Passed),
+    /// Nowhere: it is through.
+    Done,
+    /// At the root: the rest of the way was given up, or the tree has changed.
+    Lost,
+}
+
+impl Way {
+    // The way of a walk that begins at the root.
+    pub(crate) fn new() -> Way
+        ensures none { result.passed.items ≡ [] }
+        ensures whole { result.cut ≡ false }
+    {
+        Way {
+            passed: ArrayVec::new(),
+            cut: false,
+        }
+    }
+
+    // Adds a slot. Where there is no room, all earlier ones are given up.
+    pub(crate) fn pass(&mut self, slot: u32, key: u64)
+        ensures { HasPassed self.old (record { slot = slot; key = key }) self.new }
+    {
+        if !self.passed.is_full() {
+            self.passed.push(Passed { slot, key });
+            return;
+        }
+        self.passed.clear();
+        self.cut = true;
+        self.passed.push(Passed { slot, key });
+    }
+
+    // Takes off the latest slot, where its key is at least `from`. It is less only where an update came between.
+    pub(crate) fn next(&mut self, from: u64) -> Next
+        ensures { NextIs self.old from result self.new }
+    {
+        let Some(passed) = self.passed.pop() else {
+            if !self.cut {
+                return Next::Done;
+            }
+            self.cut = false;
+            return Next::Lost;
+        };
+        if passed.key < from {
+            self.passed.clear();
+            self.cut = false;
+            return Next::Lost;
+        }
+        Next::At(passed)
+    }
+}

@@ -1,0 +1,58 @@
+//! How long a loop goes on that others may hold up, and what it does meanwhile. A call that may not return takes the runtime; a call of a
+//! static library, where there is none, has to come to an end: so it gives up after more rounds than a machine makes in a century.
+#![tactic(auto)]
+
+use crossbeam_utils::Backoff;
+use std::convert::Infallible;
+use std::sync::Wait;
+
+/// How a caller waits for others. A loop that may not end pauses after each round that came to nothing, for at most 2^64 - 1 rounds.
+pub trait Patience {
+    /// What a call answers that has given up. `Infallible` where none ever does.
+    type Tired: Drop;
+
+    /// What one loop counts its pauses with.
+    type Pauses: Drop;
+
+    /// Before the first round.
+    fn pauses(&self) -> Self::Pauses;
+
+    /// After a round that came to nothing: lets others go on, or gives up.
+    fn pause(&self, pauses: &mut Self::Pauses) -> Result<(), Self::Tired>;
+
+    /// After 2^64 - 1 rounds.
+    fn tired(&self) -> Self::Tired;
+}
+
+/// Never gives up: spins for some rounds, and yields the processor from then on.
+#[derive(Drop)]
+pub struct Steadfast<'a, R: Wait> {
+    rt: &'a R,
+}
+
+impl<'a, R: Wait> Steadfast<'a, R> {
+    /// The patience of a caller that may wait for good.
+    pub fn new(rt: &'a R) -> Steadfast<'a, R> {
+        Steadfast { rt }
+    }
+}
+
+impl<'a, R: Wait> Patience for Steadfast<'a, R> {
+    type Tired = Infallible;
+
+    type Pauses = Backoff;
+
+    fn pauses(&self) -> Backoff {
+        Backoff::new()
+    }
+
+    fn pause(&self, pauses: &mut Backoff) -> Result<(), Infallible> {
+        pauses.snooze();
+        Ok(())
+    }
+
+    fn tired(&self) -> Infallible {
+        for _ in self.rt.forever() {}
+        unreachable!()
+    }
+}
