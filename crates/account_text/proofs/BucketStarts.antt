@@ -7,10 +7,12 @@ use Rattle.account_text.specs.Buckets.{bucket_of, IsUpTo, IsOrdered, IsOrderedBy
 use Rattle.account_text.proofs.KeyChanges.{nothing}
 
 -- One number more at the end: it keeps the first ones, and what follows them is this one.
-pub push-kept : (xs ys : List ℕ) (x n : ℕ) → ((i : ℕ) → i < n → get_or ys i 0 ≡ get_or xs i 0) → n ≤ length ys → (i : ℕ) → i < n → get_or (ys ++ x ∷ []) i 0 ≡ get_or xs i 0
+pub push-kept : (xs ys : List ℕ) (x n : ℕ) → ((i : ℕ) → i < n → get_or ys i 0 ≡ get_or xs i 0) → n ≤ length ys → (i : ℕ) → i < n
+    → get_or (ys ++ x ∷ []) i 0 ≡ get_or xs i 0
 push-kept xs ys x n kept long i lt = get_or_append_left ys (x ∷ []) 0 i (omega arith) ∙ kept i lt
 
-pub push-filled : (ys : List ℕ) (x n : ℕ) → ((i : ℕ) → n ≤ i → i < length ys → get_or ys i 0 ≡ x) → (i : ℕ) → n ≤ i → i < length (ys ++ x ∷ []) → get_or (ys ++ x ∷ []) i 0 ≡ x
+pub push-filled : (ys : List ℕ) (x n : ℕ) → ((i : ℕ) → n ≤ i → i < length ys → get_or ys i 0 ≡ x) → (i : ℕ) → n ≤ i
+    → i < length (ys ++ x ∷ []) → get_or (ys ++ x ∷ []) i 0 ≡ x
 push-filled ys x n filled i above within = elim (cases_lt i (length ys)) [
   | inl lt ↦ get_or_append_left ys (x ∷ []) 0 i lt ∙ filled i above lt
   | inr last ↦ get_or_push ys x 0 i (omega (arith, length-append ys (x ∷ [])))
@@ -20,8 +22,10 @@ push-filled ys x n filled i above within = elim (cases_lt i (length ys)) [
 pub record HaveStarts (buckets : ℕ) (changes : List Change) (passed : ℕ) (starts : List ℕ) : Type 0 where
   pub count : length starts ≤ buckets
   pub within : (bucket : ℕ) → bucket < length starts → get_or starts bucket 0 ≤ passed
-  pub lower : (bucket i : ℕ) (none : Change) → bucket < length starts → i < get_or starts bucket 0 → bucket_of buckets (get_or changes i none).key < bucket
-  pub others : (bucket i : ℕ) (none : Change) → bucket < length starts → get_or starts bucket 0 ≤ i → i < length changes → bucket ≤ bucket_of buckets (get_or changes i none).key
+  pub lower : (bucket i : ℕ) (none : Change) → bucket < length starts → i < get_or starts bucket 0
+      → bucket_of buckets (get_or changes i none).key < bucket
+  pub others : (bucket i : ℕ) (none : Change) → bucket < length starts → get_or starts bucket 0 ≤ i → i < length changes
+      → bucket ≤ bucket_of buckets (get_or changes i none).key
   pub left : (i : ℕ) (none : Change) → i < passed → bucket_of buckets (get_or changes i none).key < length starts
 
 pub starts-none : (buckets : ℕ) (changes : List Change) (starts : List ℕ) → length starts ≡ 0 → HaveStarts buckets changes 0 starts
@@ -33,9 +37,13 @@ starts-none buckets changes starts none = record {
   left = λ i c lt. absurd (omega arith);
 }
 
-module _ (buckets : ℕ) (changes : List Change) (ordered : IsOrderedByBucket buckets changes) (passed : ℕ) (starts more : List ℕ) (have : HaveStarts buckets changes passed starts) (count : ℕ) (long : length more ≡ length starts + (count - length starts)) (kept : (i : ℕ) → i < length starts → get_or more i 0 ≡ get_or starts i 0) (filled : (i : ℕ) → length starts ≤ i → i < length more → get_or more i 0 ≡ passed) where
+module _ (buckets : ℕ) (changes : List Change) (ordered : IsOrderedByBucket buckets changes) (passed : ℕ) (starts more : List ℕ)
+    (have : HaveStarts buckets changes passed starts) (count : ℕ) (long : length more ≡ length starts + (count - length starts))
+    (kept : (i : ℕ) → i < length starts → get_or more i 0 ≡ get_or starts i 0)
+    (filled : (i : ℕ) → length starts ≤ i → i < length more → get_or more i 0 ≡ passed) where
   -- one change more was passed
-  module _ (here : Change) (is : here ≡ get_or changes passed nothing) (below : passed < length changes) (own : count ≡ bucket_of buckets here.key + 1) (fits : count ≤ buckets) where
+  module _ (here : Change) (is : here ≡ get_or changes passed nothing) (below : passed < length changes)
+      (own : count ≡ bucket_of buckets here.key + 1) (fits : count ≤ buckets) where
     key_is : (none : Change) → bucket_of buckets here.key ≡ bucket_of buckets (get_or changes passed none).key
     key_is none = ap (λ c. bucket_of buckets c.key) (is ∙ get_or_default changes passed nothing none below)
 
@@ -55,7 +63,8 @@ module _ (buckets : ℕ) (changes : List Change) (ordered : IsOrderedByBucket bu
         | inr new ↦ omega (arith, (ordered passed i none (omega (arith, filled bucket new lt)) within).0, key_is none)
       ];
       left = λ i none lt. elim (cases_eq i passed) [
-        | inl last ↦ let e : bucket_of buckets (get_or changes i none).key ≡ bucket_of buckets here.key = ap (λ k. bucket_of buckets (get_or changes k none).key) last ∙ sym (key_is none) in omega (arith, e)
+        | inl last ↦ let e : bucket_of buckets (get_or changes i none).key ≡ bucket_of buckets here.key =
+            ap (λ k. bucket_of buckets (get_or changes k none).key) last ∙ sym (key_is none) in omega (arith, e)
         | inr earlier ↦ omega (arith, have.left i none (omega (arith, earlier)))
       ];
     }
@@ -79,7 +88,8 @@ module _ (buckets : ℕ) (changes : List Change) (ordered : IsOrderedByBucket bu
   }
 
 -- the changes from one bucket's beginning to the next one's
-module _ (buckets : ℕ) (changes : List Change) (starts : List ℕ) (held : IsInBuckets buckets changes starts) (bucket : ℕ) (below : bucket < buckets) where
+module _ (buckets : ℕ) (changes : List Change) (starts : List ℕ) (held : IsInBuckets buckets changes starts) (bucket : ℕ)
+    (below : bucket < buckets) where
   abbrev from : ℕ
   from = get_or starts bucket 0
 
@@ -94,7 +104,8 @@ module _ (buckets : ℕ) (changes : List Change) (starts : List ℕ) (held : IsI
     | inr le ↦ le
     | inl gt ↦
         let lower = held.starts_are.lower bucket until nothing (omega arith) gt in
-        let others = held.starts_are.others (bucket + 1) until nothing (omega arith) (omega arith) (omega (arith, held.starts_are.within bucket (omega arith))) in
+        let others = held.starts_are.others (bucket + 1) until nothing (omega arith) (omega arith)
+        (omega (arith, held.starts_are.within bucket (omega arith))) in
         absurd (omega (arith, lower, others))
   ]
 
@@ -112,7 +123,8 @@ module _ (buckets : ℕ) (changes : List Change) (starts : List ℕ) (held : IsI
     in_front i none lt is =
         let long = length-take-le from changes from-within in
         let there = get_or-take from changes i none (omega (arith, long)) in
-        let same : bucket_of buckets (get_or changes i none).key ≡ bucket = ap (λ c. bucket_of buckets c.key) (sym there) ∙ ap (bucket_of buckets) is ∙ own in
+        let same : bucket_of buckets (get_or changes i none).key ≡ bucket =
+        ap (λ c. bucket_of buckets c.key) (sym there) ∙ ap (bucket_of buckets) is ∙ own in
         absurd (omega (arith, same, held.starts_are.lower bucket i none (omega arith) (omega (arith, long))))
 
     abbrev back : List Change
@@ -120,17 +132,21 @@ module _ (buckets : ℕ) (changes : List Change) (starts : List ℕ) (held : IsI
 
     in_back : (i : ℕ) (none : Change) → i < length back → (get_or back i none).key ≡ key → ⊥
     in_back i none lt is =
-        let there : get_or back i none ≡ get_or changes (from + ((until - from) + i)) none = get_or-drop (until - from) (drop from changes) i none ∙ get_or-drop from changes ((until - from) + i) none in
-        let same : bucket_of buckets (get_or changes (from + ((until - from) + i)) none).key ≡ bucket = ap (λ c. bucket_of buckets c.key) (sym there) ∙ ap (bucket_of buckets) is ∙ own in
+        let there : get_or back i none ≡ get_or changes (from + ((until - from) + i)) none =
+        get_or-drop (until - from) (drop from changes) i none ∙ get_or-drop from changes ((until - from) + i) none in
+        let same : bucket_of buckets (get_or changes (from + ((until - from) + i)) none).key ≡ bucket =
+        ap (λ c. bucket_of buckets c.key) (sym there) ∙ ap (bucket_of buckets) is ∙ own in
         let past = from-until in
-        let others = held.starts_are.others (bucket + 1) (from + ((until - from) + i)) none (omega arith) (omega (arith, past)) (omega (arith, lt, length-drop (until - from) (drop from changes), length-drop from changes)) in
+        let others = held.starts_are.others (bucket + 1) (from + ((until - from) + i)) none (omega arith) (omega (arith, past))
+        (omega (arith, lt, length-drop (until - from) (drop from changes), length-drop from changes)) in
         absurd (omega (arith, same, others))
 
     cut-out : IsCutOut changes part key
     cut-out = record {
       front = take from changes;
       back = back;
-      is = sym (ap (λ rest. take from changes ++ rest) (take-append-drop (until - from) (drop from changes)) ∙ take-append-drop from changes);
+      is = sym (ap (λ rest. take from changes ++ rest) (take-append-drop (until - from) (drop from changes))
+          ∙ take-append-drop from changes);
       none_front = in_front;
       none_back = in_back;
     }
@@ -148,10 +164,13 @@ module _ (buckets : ℕ) (changes : List Change) (starts : List ℕ) (held : IsI
     part-ordered i j none le within =
         let same = in_bucket i none (omega arith) ∙ sym (in_bucket j none within) in
         let rising = (held.ordered (from + i) (from + j) none (omega arith) (omega (arith, long-part, until-within))).1 same in
-        subst (λ c. IsUpTo c.key c.position (get_or part i none)) (sym (at_part j none within)) (subst (IsUpTo (get_or changes (from + j) none).key (get_or changes (from + j) none).position) (sym (at_part i none (omega arith))) rising)
+        subst (λ c. IsUpTo c.key c.position (get_or part i none)) (sym (at_part j none within))
+        (subst (IsUpTo (get_or changes (from + j) none).key (get_or changes (from + j) none).position)
+        (sym (at_part i none (omega arith))) rising)
 
     -- the same at numbers and a list that were read
-    module _ (first last : ℕ) (read : List Change) (first_is : first ≡ get_or starts bucket first) (last_is : last ≡ get_or starts (bucket + 1) last) (read_is : read ≡ changes) where
+    module _ (first last : ℕ) (read : List Change) (first_is : first ≡ get_or starts bucket first)
+        (last_is : last ≡ get_or starts (bucket + 1) last) (read_is : read ≡ changes) where
       same_first : first ≡ from
       same_first = first_is ∙ get_or_default starts bucket first 0 (omega (arith, held.starts_are.count))
 

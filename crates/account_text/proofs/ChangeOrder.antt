@@ -32,8 +32,10 @@ module _ (key front : ℕ) where
       let rising = ordered i j none le within in
       passes _ _ (omega (arith, here.0, rising.0)) (λ e. omega (arith, here, rising))
 
-  module _ (changes : List Change) (count : ℕ) (point : IsPartitionPoint (λ c. is_up_to key front c ≡ true) (λ c. is_up_to key front c ≡ false) changes count) where
-    pub until-take : count ≤ length changes → (part : List Change) → part ≡ take count changes → length part ≡ count → All (IsUpTo key front) part
+  module _ (changes : List Change) (count : ℕ) (point : IsPartitionPoint (λ c. is_up_to key front c ≡ true)
+      (λ c. is_up_to key front c ≡ false) changes count) where
+    pub until-take : count ≤ length changes → (part : List Change) → part ≡ take count changes → length part ≡ count
+        → All (IsUpTo key front) part
     until-take bound part is long =
         subst (All (IsUpTo key front)) (sym is) (λ k none lt.
         let lower : k < count = omega (arith, lt, ap length is, long) in
@@ -52,9 +54,14 @@ place_of buckets change = (bucket_of buckets change.key, change.key, change.posi
 abbrev pub place_cmp : ℕ × ℕ × ℕ → ℕ × ℕ × ℕ → Ordering
 place_cmp x y = ordering_then (ordering_then (nat_cmp x.0 y.0) (nat_cmp x.1 y.1)) (nat_cmp x.2 y.2)
 
-not_less : (c d a b p q : ℕ) → is_lt (ordering_then (ordering_then (nat_cmp c d) (nat_cmp a b)) (nat_cmp p q)) ≡ false → (d ≤ c) × (d ≡ c → (b ≤ a) × (b ≡ a → q ≤ p))
+not_less : (c d a b p q : ℕ) → is_lt (ordering_then (ordering_then (nat_cmp c d) (nat_cmp a b)) (nat_cmp p q)) ≡ false
+    → (d ≤ c) × (d ≡ c → (b ≤ a) × (b ≡ a → q ≤ p))
 not_less c d a b p q h = (grind (arith, nat_tests), λ s. (grind (arith, nat_tests), λ e. grind (arith, nat_tests)))
 
-pub IsOrderedByBucket-from_sorted : (buckets : ℕ) (changes : List Change) → IsSortedByKey (place_of buckets) place_cmp changes → IsOrderedByBucket buckets changes
+pub IsOrderedByBucket-from_sorted : (buckets : ℕ) (changes : List Change) → IsSortedByKey (place_of buckets) place_cmp changes
+    → IsOrderedByBucket buckets changes
 IsOrderedByBucket-from_sorted buckets changes sorted i j none le within =
-    not_less _ _ _ _ _ _ (sorted_far (λ x y. is_lt (place_cmp (place_of buckets x) (place_of buckets y))) (ranks_by (then_total (then_total (on_total (λ (x : ℕ × ℕ × ℕ). x.0) nat_cmp_total) (on_total (λ (x : ℕ × ℕ × ℕ). x.1) nat_cmp_total)) (on_total (λ (x : ℕ × ℕ × ℕ). x.2) nat_cmp_total)) (place_of buckets)) changes sorted i j none le within)
+    not_less _ _ _ _ _ _ (sorted_far (λ x y. is_lt (place_cmp (place_of buckets x) (place_of buckets y)))
+    (ranks_by (then_total (then_total (on_total (λ (x : ℕ × ℕ × ℕ). x.0) nat_cmp_total)
+    (on_total (λ (x : ℕ × ℕ × ℕ). x.1) nat_cmp_total)) (on_total (λ (x : ℕ × ℕ × ℕ). x.2) nat_cmp_total))
+    (place_of buckets)) changes sorted i j none le within)

@@ -36,7 +36,8 @@ module _ (room : Room) (history : List Update) where
   one_least : (before : ℕ) (told : Line) (m n : ℕ) → IsLeastFor room history before told m → IsLeastFor room history before told n → m ≡ n
   one_least before told m n first second = omega (arith, first.1 n second.0, second.1 m first.0)
 
-  one_numbering : (before : ℕ) (told a b : List Line) → AreNumbered room history before told a → AreNumbered room history before told b → a ≡ b
+  one_numbering : (before : ℕ) (told a b : List Line) → AreNumbered room history before told a → AreNumbered room history before told b
+      → a ≡ b
   one_numbering before [] [] [] h k = refl
   one_numbering before [] [] (y ∷ b) h k = absurd k
   one_numbering before [] (x ∷ a) b h k = absurd h
@@ -60,15 +61,18 @@ module _ (room : Room) (history : List Update) where
       λ i. first i ∷ others i
 
 -- what is printed is an account
-pub IsAccount-from_printed : (scripts : List (List Op)) (slots : ℕ) (told : List (List Told)) (history : List Update) (text : List ℕ) → IsPrinted scripts slots told history text → IsAccount scripts slots text
+pub IsAccount-from_printed : (scripts : List (List Op)) (slots : ℕ) (told : List (List Told)) (history : List Update) (text : List ℕ)
+    → IsPrinted scripts slots told history text → IsAccount scripts slots text
 IsAccount-from_printed scripts slots told history text p =
     subst (IsAccount scripts slots) (sym p.printed) (IsAccount-numbered scripts told history slots p.lines p.explainable p.numbered p.legal)
 
 -- an account is the print of its own claims
-pub IsPrinted-from_account : (scripts : List (List Op)) (slots : ℕ) (text : List ℕ) (a : IsAccount scripts slots text) → IsPrinted scripts slots (map tolds_of a.lines) a.history text
+pub IsPrinted-from_account : (scripts : List (List Op)) (slots : ℕ) (text : List ℕ) (a : IsAccount scripts slots text)
+    → IsPrinted scripts slots (map tolds_of a.lines) a.history text
 IsPrinted-from_account scripts slots text a =
     let room : Room = record { scripts = length scripts; slots = slots } in
-    let back : all_told_lines scripts (map tolds_of a.lines) ≡ a.lines = ap (λ ss. all_told_lines ss (map tolds_of a.lines)) (sym a.ops) ∙ all_told_lines-back a.lines in
+    let back : all_told_lines scripts (map tolds_of a.lines) ≡ a.lines =
+    ap (λ ss. all_told_lines ss (map tolds_of a.lines)) (sym a.ops) ∙ all_told_lines-back a.lines in
     record {
       legal = a.legal;
       explainable = record {
@@ -81,21 +85,33 @@ IsPrinted-from_account scripts slots text a =
     }
 
 -- the lines that the number rule gives are the only ones that can be printed
-pub printed-text : (scripts : List (List Op)) (slots : ℕ) (told : List (List Told)) (history : List Update) (text : List ℕ) (lines : List (List Line)) → AllAreNumbered (record { scripts = length scripts; slots = slots }) history (all_told_lines scripts told) lines → IsPrinted scripts slots told history text → text ≡ account_of lines history (finite.entries (map_of history))
+pub printed-text : (scripts : List (List Op)) (slots : ℕ) (told : List (List Told)) (history : List Update) (text : List ℕ)
+    (lines : List (List Line)) → AllAreNumbered (record { scripts = length scripts; slots = slots }) history
+    (all_told_lines scripts told) lines → IsPrinted scripts slots told history text
+    → text ≡ account_of lines history (finite.entries (map_of history))
 printed-text scripts slots told history text lines numbered p =
-    p.printed ∙ ap (λ ls. account_of ls history (finite.entries (map_of history))) (one_numbering_of_all (record { scripts = length scripts; slots = slots }) history (all_told_lines scripts told) p.lines lines p.numbered numbered)
+    p.printed ∙ ap (λ ls. account_of ls history (finite.entries (map_of history)))
+    (one_numbering_of_all (record { scripts = length scripts; slots = slots }) history
+    (all_told_lines scripts told) p.lines lines p.numbered numbered)
 
 -- where the claims hold, the text is their print exactly where it equals the bytes that were written
-pub IsPrinted-compared : (scripts : List (List Op)) (slots : ℕ) (told : List (List Told)) (history : List Update) (text : List ℕ) (lines : List (List Line)) → IsLegal history → AreExplainable scripts told history slots → AllAreNumbered (record { scripts = length scripts; slots = slots }) history (all_told_lines scripts told) lines → (written : List ℕ) → written ≡ account_of lines history (finite.entries (map_of history)) → (answer : Bool) → Decides answer (written ≡ text) → IsTrue answer ↔ IsPrinted scripts slots told history text
+pub IsPrinted-compared : (scripts : List (List Op)) (slots : ℕ) (told : List (List Told)) (history : List Update) (text : List ℕ)
+    (lines : List (List Line)) → IsLegal history → AreExplainable scripts told history slots
+    → AllAreNumbered (record { scripts = length scripts; slots = slots }) history (all_told_lines scripts told) lines → (written : List ℕ)
+    → written ≡ account_of lines history (finite.entries (map_of history)) → (answer : Bool) → Decides answer (written ≡ text)
+    → IsTrue answer ↔ IsPrinted scripts slots told history text
 IsPrinted-compared scripts slots told history text lines legal explainable numbered written is answer same = (
   λ e. record { legal = legal; explainable = explainable; lines = lines; numbered = numbered; printed = sym (same.0 e) ∙ is },
   λ p. same.1 (is ∙ sym (printed-text scripts slots told history text lines numbered p)),
 )
 
 -- Where an account's claims are found, the text is their print exactly where it is an account.
-pub IsAccount-by_claims : (scripts : List (List Op)) (slots : ℕ) (text : List ℕ) (told : List (List Told)) (history : List Update) → ((a : IsAccount scripts slots text) → (told ≡ map tolds_of a.lines) × (history ≡ a.history)) → (answer : Bool) → IsTrue answer ↔ IsPrinted scripts slots told history text → IsTrue answer ↔ IsAccount scripts slots text
+pub IsAccount-by_claims : (scripts : List (List Op)) (slots : ℕ) (text : List ℕ) (told : List (List Told)) (history : List Update)
+    → ((a : IsAccount scripts slots text) → (told ≡ map tolds_of a.lines) × (history ≡ a.history)) → (answer : Bool)
+    → IsTrue answer ↔ IsPrinted scripts slots told history text → IsTrue answer ↔ IsAccount scripts slots text
 IsAccount-by_claims scripts slots text told history claims answer decides = (
   λ e. IsAccount-from_printed scripts slots told history text (decides.0 e),
   λ a. let found = claims a in
-      decides.1 (subst (λ t. IsPrinted scripts slots t history text) (sym found.0) (subst (λ h. IsPrinted scripts slots (map tolds_of a.lines) h text) (sym found.1) (IsPrinted-from_account scripts slots text a))),
+      decides.1 (subst (λ t. IsPrinted scripts slots t history text) (sym found.0)
+      (subst (λ h. IsPrinted scripts slots (map tolds_of a.lines) h text) (sym found.1) (IsPrinted-from_account scripts slots text a))),
 )

@@ -31,11 +31,13 @@ module _ (n : ℕ) where
   none_own (u ∷ us) position caller all past =
       let below : u.caller < n = all 0 u (omega arith) in
       let other : (u.caller == caller) ≡ false = grind (arith, nat_tests) in
-      ap (λ b. cond b (record { position = position; op = u.op } ∷ own_updates_from (position + 1) caller us) (own_updates_from (position + 1) caller us)) other
+      ap (λ b. cond b (record { position = position; op = u.op } ∷ own_updates_from (position + 1) caller us)
+      (own_updates_from (position + 1) caller us)) other
       ∙ none_own us (position + 1) caller (λ k d h. all (suc k) d (omega arith)) past
 
   -- where no caller past the others has an update, all are of those
-  below_from_none : (us : List Update) (position : ℕ) → ((caller : ℕ) → n ≤ caller → own_updates_from position caller us ≡ []) → AreBelow n us
+  below_from_none : (us : List Update) (position : ℕ) → ((caller : ℕ) → n ≤ caller → own_updates_from position caller us ≡ [])
+      → AreBelow n us
   below_from_none [] position none = λ k d h. absurd (omega (arith, h))
   below_from_none (u ∷ us) position none =
       elim [
@@ -43,9 +45,12 @@ module _ (n : ℕ) where
           | inl lt ↦ lt
           | inr past ↦
               let own : (u.caller == u.caller) ≡ true = grind (arith, nat_tests) in
-              absurd (some_there (u.caller == u.caller) (record { position = position; op = u.op }) (own_updates_from (position + 1) u.caller us) own (none u.caller past))
+              absurd (some_there (u.caller == u.caller) (record { position = position; op = u.op })
+              (own_updates_from (position + 1) u.caller us) own (none u.caller past))
         ]
-        | suc k ↦ λ d h. below_from_none us (position + 1) (λ caller past. tail_none (u.caller == caller) (record { position = position; op = u.op }) (own_updates_from (position + 1) caller us) (none caller past)) k d (omega (arith, h))
+        | suc k ↦ λ d h. below_from_none us (position + 1)
+            (λ caller past. tail_none (u.caller == caller) (record { position = position; op = u.op })
+            (own_updates_from (position + 1) caller us) (none caller past)) k d (omega (arith, h))
       ]
 
 module _ (room : Room) (history : List Update) where
@@ -58,7 +63,8 @@ module _ (room : Room) (history : List Update) where
   abbrev AreOwnTold : ℕ → List (List Line) → Type 0
   AreOwnTold caller lists = (k : ℕ) → k < length lists → own_updates (caller + k) history ≡ told_updates (get_or lists k [])
 
-  all_from : (lists : List (List Line)) (caller : ℕ) → AreOwnTold caller lists → AllByRecursion (AllByRecursion (IsConfirmed history)) lists → AllByRecursion (CanBeNumbered room history) lists → AreAllExplained caller lists
+  all_from : (lists : List (List Line)) (caller : ℕ) → AreOwnTold caller lists → AllByRecursion (AllByRecursion (IsConfirmed history)) lists
+      → AllByRecursion (CanBeNumbered room history) lists → AreAllExplained caller lists
   all_from [] caller updates confirmed fronts = tt
   all_from (lines ∷ lists) caller updates confirmed fronts =
       let first : caller + 0 ≡ caller = omega arith in
@@ -68,20 +74,24 @@ module _ (room : Room) (history : List Update) where
           confirmed = confirmed.0;
           fronts = fronts.0;
         },
-        all_from lists (caller + 1) (λ k below. subst (λ n. own_updates n history ≡ told_updates (get_or lists k [])) (more k) (updates (suc k) (omega (arith, below)))) confirmed.1 fronts.1,
+        all_from lists (caller + 1) (λ k below. subst (λ n. own_updates n history ≡ told_updates (get_or lists k [])) (more k)
+            (updates (suc k) (omega (arith, below)))) confirmed.1 fronts.1,
       )
 
   updates_of : (lists : List (List Line)) (caller : ℕ) → AreAllExplained caller lists → AreOwnTold caller lists
   updates_of [] caller all = λ k below. absurd (omega (arith, below))
   updates_of (lines ∷ lists) caller all =
       elim [
-        | zero ↦ λ below. let first : caller ≡ caller + 0 = omega arith in subst (λ n. own_updates n history ≡ told_updates lines) first all.0.updates
+        | zero ↦ λ below. let first : caller ≡ caller + 0 = omega arith in
+            subst (λ n. own_updates n history ≡ told_updates lines) first all.0.updates
         | suc k ↦ λ below.
             let more : caller + 1 + k ≡ caller + suc k = omega arith in
-            subst (λ n. own_updates n history ≡ told_updates (get_or lists k [])) more (updates_of lists (caller + 1) all.1 k (omega (arith, below)))
+            subst (λ n. own_updates n history ≡ told_updates (get_or lists k [])) more
+            (updates_of lists (caller + 1) all.1 k (omega (arith, below)))
       ]
 
-  confirmed_of : (lists : List (List Line)) (caller : ℕ) → AreAllExplained caller lists → AllByRecursion (AllByRecursion (IsConfirmed history)) lists
+  confirmed_of : (lists : List (List Line)) (caller : ℕ) → AreAllExplained caller lists
+      → AllByRecursion (AllByRecursion (IsConfirmed history)) lists
   confirmed_of [] caller all = tt
   confirmed_of (lines ∷ lists) caller all = (all.0.confirmed, confirmed_of lists (caller + 1) all.1)
 
@@ -89,10 +99,12 @@ module _ (room : Room) (history : List Update) where
   fronts_of [] caller all = tt
   fronts_of (lines ∷ lists) caller all = (all.0.fronts, fronts_of lists (caller + 1) all.1)
 
-  AreExplained-from_all : (lists : List (List Line)) → AreBelow (length lists) history → AreAllExplained 0 lists → AreExplained room history lists
+  AreExplained-from_all : (lists : List (List Line)) → AreBelow (length lists) history → AreAllExplained 0 lists
+      → AreExplained room history lists
   AreExplained-from_all lists below all = record {
     updates = λ c. elim (cases_lt c (length lists)) [
-      | inl lt ↦ let zero_more : 0 + c ≡ c = omega arith in subst (λ n. own_updates n history ≡ told_updates (get_or lists c [])) zero_more (updates_of lists 0 all c lt)
+      | inl lt ↦ let zero_more : 0 + c ≡ c = omega arith in
+          subst (λ n. own_updates n history ≡ told_updates (get_or lists c [])) zero_more (updates_of lists 0 all c lt)
       | inr past ↦ none_own (length lists) history 1 c below past ∙ sym (ap told_updates (get_or_past lists c [] past))
     ];
     confirmed = confirmed_of lists 0 all;
@@ -101,12 +113,16 @@ module _ (room : Room) (history : List Update) where
 
   all_from_explained : (lists : List (List Line)) → AreExplained room history lists → AreAllExplained 0 lists
   all_from_explained lists explained =
-      all_from lists 0 (λ k lt. let zero_more : k ≡ 0 + k = omega arith in subst (λ n. own_updates n history ≡ told_updates (get_or lists k [])) zero_more (explained.updates k)) explained.confirmed explained.fronts
+      all_from lists 0 (λ k lt. let zero_more : k ≡ 0 + k = omega arith in
+      subst (λ n. own_updates n history ≡ told_updates (get_or lists k [])) zero_more
+      (explained.updates k)) explained.confirmed explained.fronts
 
   below_from_explained : (lists : List (List Line)) → AreExplained room history lists → AreBelow (length lists) history
-  below_from_explained lists explained = below_from_none (length lists) history 1 (λ c past. explained.updates c ∙ ap told_updates (get_or_past lists c [] past))
+  below_from_explained lists explained = below_from_none (length lists) history 1
+      (λ c past. explained.updates c ∙ ap told_updates (get_or_past lists c [] past))
 
-count_lines : (scripts : List (List Op)) (tolds : List (List Told)) → map length tolds ≡ map length scripts → length (all_told_lines scripts tolds) ≡ length scripts
+count_lines : (scripts : List (List Op)) (tolds : List (List Told)) → map length tolds ≡ map length scripts
+    → length (all_told_lines scripts tolds) ≡ length scripts
 count_lines [] tolds same = refl
 count_lines (script ∷ scripts) [] same = absurd (cc)
 count_lines (script ∷ scripts) (told ∷ tolds) same =
@@ -118,7 +134,8 @@ module _ (scripts : List (List Op)) (tolds : List (List Told)) (history : List U
   room = record { scripts = length scripts; slots = slots }
 
   -- where each operation is answered and no update is of another caller, the scripts can be looked at one by one
-  pub AreExplainable-one_by_one : map length tolds ≡ map length scripts → AreBelow (length scripts) history → AreAllExplained room history 0 (all_told_lines scripts tolds) ↔ AreExplainable scripts tolds history slots
+  pub AreExplainable-one_by_one : map length tolds ≡ map length scripts → AreBelow (length scripts) history
+      → AreAllExplained room history 0 (all_told_lines scripts tolds) ↔ AreExplainable scripts tolds history slots
   AreExplainable-one_by_one same below =
       let count = count_lines scripts tolds same in
       let lines_below : AreBelow (length (all_told_lines scripts tolds)) history = subst (λ n. AreBelow n history) (sym count) below in (
@@ -127,13 +144,17 @@ module _ (scripts : List (List Op)) (tolds : List (List Told)) (history : List U
       )
 
   pub below_from_explainable : AreExplainable scripts tolds history slots → AreBelow (length scripts) history
-  below_from_explainable able = subst (λ n. AreBelow n history) (count_lines scripts tolds able.lengths) (below_from_explained room history (all_told_lines scripts tolds) able.explained)
+  below_from_explainable able = subst (λ n. AreBelow n history) (count_lines scripts tolds able.lengths)
+      (below_from_explained room history (all_told_lines scripts tolds) able.explained)
 
 -- a room of so many scripts
 pub room_of : (shared : Room) (count : ℕ) → shared.scripts ≡ count → record { scripts = count; slots = shared.slots } ≡ shared
 room_of shared count is = λ i. record { scripts = sym is i; slots = shared.slots }
 
 -- the same where the scripts' number is that of a room
-pub AreExplainable-by_room : (scripts : List (List Op)) (tolds : List (List Told)) (history : List Update) (shared : Room) → shared.scripts ≡ length scripts → map length tolds ≡ map length scripts → AreBelow (length scripts) history → AreAllExplained shared history 0 (all_told_lines scripts tolds) ↔ AreExplainable scripts tolds history shared.slots
+pub AreExplainable-by_room : (scripts : List (List Op)) (tolds : List (List Told)) (history : List Update) (shared : Room)
+    → shared.scripts ≡ length scripts → map length tolds ≡ map length scripts → AreBelow (length scripts) history
+    → AreAllExplained shared history 0 (all_told_lines scripts tolds) ↔ AreExplainable scripts tolds history shared.slots
 AreExplainable-by_room scripts tolds history shared is same below =
-    subst (λ r. AreAllExplained r history 0 (all_told_lines scripts tolds) ↔ AreExplainable scripts tolds history shared.slots) (room_of shared (length scripts) is) (AreExplainable-one_by_one scripts tolds history shared.slots same below)
+    subst (λ r. AreAllExplained r history 0 (all_told_lines scripts tolds) ↔ AreExplainable scripts tolds history shared.slots)
+    (room_of shared (length scripts) is) (AreExplainable-one_by_one scripts tolds history shared.slots same below)

@@ -48,11 +48,13 @@ FitsMap-remove m k fits key value e =
 
 FitsMap-updated : (m : Dictionary) (op : Op) → FitsMap m → FitsWords op → FitsMap (updated m op)
 FitsMap-updated m (Put k v) fits words =
-    elim (finite.contains_key m k) as (λ b. FitsMap (cond b m (finite.insert m k v))) [ true ↦ fits | false ↦ FitsMap-insert m k v fits words.1 ]
+    elim (finite.contains_key m k) as (λ b. FitsMap
+    (cond b m (finite.insert m k v))) [ true ↦ fits | false ↦ FitsMap-insert m k v fits words.1 ]
 FitsMap-updated m (Get k) fits words = fits
 FitsMap-updated m (Del k) fits words = FitsMap-remove m k fits
 FitsMap-updated m (Set k v) fits words =
-    elim (finite.contains_key m k) as (λ b. FitsMap (cond b (finite.insert m k v) m)) [ true ↦ FitsMap-insert m k v fits words.1 | false ↦ fits ]
+    elim (finite.contains_key m k) as (λ b. FitsMap
+    (cond b (finite.insert m k v) m)) [ true ↦ FitsMap-insert m k v fits words.1 | false ↦ fits ]
 
 abbrev OpsFit : List Update → Type 0
 OpsFit us = AllByRecursion (λ u. FitsWords u.op) us
@@ -101,34 +103,42 @@ FitsReply-confirmed m op Absent fits h = tt
 FitsReply-confirmed m op Gone fits h = tt
 
 -- positions of updates are within the history
-own_updates_from-within : (p c : ℕ) (us : List Update) → AllByRecursion (λ placed. placed.position < p + length us) (own_updates_from p c us)
+own_updates_from-within : (p c : ℕ) (us : List Update)
+    → AllByRecursion (λ placed. placed.position < p + length us) (own_updates_from p c us)
 own_updates_from-within p c [] = tt
 own_updates_from-within p c (u ∷ us) =
-    let rest = weaker (p + 1 + length us) (p + suc (length us)) (omega arith) (own_updates_from (p + 1) c us) (own_updates_from-within (p + 1) c us) in
-    elim (eqb u.caller c) as (λ b. AllByRecursion (λ placed. placed.position < p + suc (length us)) (cond b (record { position = p; op = u.op } ∷ own_updates_from (p + 1) c us) (own_updates_from (p + 1) c us))) [
+    let rest = weaker (p + 1 + length us) (p + suc (length us)) (omega arith) (own_updates_from (p + 1) c us)
+    (own_updates_from-within (p + 1) c us) in
+    elim (eqb u.caller c) as (λ b. AllByRecursion (λ placed. placed.position < p + suc (length us))
+    (cond b (record { position = p; op = u.op } ∷ own_updates_from (p + 1) c us) (own_updates_from (p + 1) c us))) [
       | true ↦ (omega arith, rest)
       | false ↦ rest
     ]
   where
-    weaker : (m n : ℕ) → m ≤ n → (placed : List Placed) → AllByRecursion (λ x. x.position < m) placed → AllByRecursion (λ x. x.position < n) placed
+    weaker : (m n : ℕ) → m ≤ n → (placed : List Placed) → AllByRecursion (λ x. x.position < m) placed
+        → AllByRecursion (λ x. x.position < n) placed
     weaker m n le [] all = tt
     weaker m n le (x ∷ xs) all = let first = all.0 in (omega arith, weaker m n le xs all.1)
 
 -- What holds of the updates that lines tell of holds of each line that tells of one.
-from_told_updates : (P : ℕ → Op → Type 0) (lines : List Line) → AllByRecursion (λ x. P x.position x.op) (told_updates lines) → AllByRecursion (λ line. IsTrue (tells_update line.reply) → P line.number line.op) lines
+from_told_updates : (P : ℕ → Op → Type 0) (lines : List Line) → AllByRecursion (λ x. P x.position x.op) (told_updates lines)
+    → AllByRecursion (λ line. IsTrue (tells_update line.reply) → P line.number line.op) lines
 from_told_updates P [] all = tt
 from_told_updates P (line ∷ lines) all =
-    elim (tells_update line.reply) as (λ b. AllByRecursion (λ x. P x.position x.op) (cond b (record { position = line.number; op = line.op } ∷ told_updates lines) (told_updates lines))
+    elim (tells_update line.reply) as (λ b. AllByRecursion (λ x. P x.position x.op)
+    (cond b (record { position = line.number; op = line.op } ∷ told_updates lines) (told_updates lines))
     → (IsTrue b → P line.number line.op) × AllByRecursion (λ l. IsTrue (tells_update l.reply) → P l.number l.op) lines) [
       | true ↦ λ h. ((λ is. h.0), from_told_updates P lines h.1)
       | false ↦ λ h. ((λ is. absurd (false≢true is)), from_told_updates P lines h)
     ] all
 
-to_told_updates : (P : Op → Type 0) (lines : List Line) → AllByRecursion (λ line. P line.op) lines → AllByRecursion (λ x. P x.op) (told_updates lines)
+to_told_updates : (P : Op → Type 0) (lines : List Line) → AllByRecursion (λ line. P line.op) lines
+    → AllByRecursion (λ x. P x.op) (told_updates lines)
 to_told_updates P [] all = tt
 to_told_updates P (line ∷ lines) all =
     let rest = to_told_updates P lines all.1 in
-    elim (tells_update line.reply) as (λ b. AllByRecursion (λ x. P x.op) (cond b (record { position = line.number; op = line.op } ∷ told_updates lines) (told_updates lines))) [
+    elim (tells_update line.reply) as (λ b. AllByRecursion (λ x. P x.op)
+    (cond b (record { position = line.number; op = line.op } ∷ told_updates lines) (told_updates lines))) [
       | true ↦ (all.0, rest)
       | false ↦ rest
     ]
@@ -137,12 +147,15 @@ same : (n : ℕ) → eqb n n ≡ true
 same n = grind (arith, nat_tests)
 
 -- What holds of every caller's own updates holds of all.
-from_own_updates : (P : ℕ → Op → Type 0) (p : ℕ) (us : List Update) → ((c : ℕ) → AllByRecursion (λ x. P c x.op) (own_updates_from p c us)) → AllByRecursion (λ u. P u.caller u.op) us
+from_own_updates : (P : ℕ → Op → Type 0) (p : ℕ) (us : List Update) → ((c : ℕ) → AllByRecursion (λ x. P c x.op) (own_updates_from p c us))
+    → AllByRecursion (λ u. P u.caller u.op) us
 from_own_updates P p [] all = tt
 from_own_updates P p (u ∷ us) all =
     (first, from_own_updates P (p + 1) us rest)
   where
-    cases : (c : ℕ) (b : Bool) → AllByRecursion (λ x. P c x.op) (cond b (record { position = p; op = u.op } ∷ own_updates_from (p + 1) c us) (own_updates_from (p + 1) c us)) → AllByRecursion (λ x. P c x.op) (own_updates_from (p + 1) c us)
+    cases : (c : ℕ) (b : Bool) → AllByRecursion (λ x. P c x.op)
+        (cond b (record { position = p; op = u.op } ∷ own_updates_from (p + 1) c us) (own_updates_from (p + 1) c us))
+        → AllByRecursion (λ x. P c x.op) (own_updates_from (p + 1) c us)
     cases c true h = h.1
     cases c false h = h
 
@@ -150,7 +163,9 @@ from_own_updates P p (u ∷ us) all =
     rest c = cases c (eqb u.caller c) (all c)
 
     first : P u.caller u.op
-    first = (subst (λ b. AllByRecursion (λ x. P u.caller x.op) (cond b (record { position = p; op = u.op } ∷ own_updates_from (p + 1) u.caller us) (own_updates_from (p + 1) u.caller us))) (same u.caller) (all u.caller)).0
+    first = (subst (λ b. AllByRecursion (λ x. P u.caller x.op)
+        (cond b (record { position = p; op = u.op } ∷ own_updates_from (p + 1) u.caller us) (own_updates_from (p + 1) u.caller us)))
+        (same u.caller) (all u.caller)).0
 
 -- by index and by recursion
 from_index : (Q : List Line → Type 0) (lists : List (List Line)) → ((c : ℕ) → Q (get_or lists c [])) → AllByRecursion Q lists
@@ -166,7 +181,8 @@ line_ops : (lines : List Line) → AllByRecursion FitsWords (ops_of lines) → A
 line_ops [] all = tt
 line_ops (line ∷ lines) all = (all.0, line_ops lines all.1)
 
-told_ops : (lists : List (List Line)) → AllFit (map ops_of lists) → AllByRecursion (λ lines. AllByRecursion (λ x. FitsWords x.op) (told_updates lines)) lists
+told_ops : (lists : List (List Line)) → AllFit (map ops_of lists)
+    → AllByRecursion (λ lines. AllByRecursion (λ x. FitsWords x.op) (told_updates lines)) lists
 told_ops [] all = tt
 told_ops (lines ∷ lists) all = (to_told_updates FitsWords lines (line_ops lines all.0), told_ops lists all.1)
 
@@ -182,40 +198,71 @@ length-history_from : (n : ℕ) (us : List Update) → length us ≤ length (his
 length-history_from n [] = omega arith
 length-history_from n (u ∷ us) =
     let front = decimal n ++ codes " " ++ decimal u.caller ++ codes " " ++ op_text u.op in
-    omega (arith, length-history_from (n + 1) us, length-append (front ++ codes "\n") (history_from (n + 1) us), length-append front (codes "\n"))
+    omega (
+      arith,
+      length-history_from (n + 1) us,
+      length-append (front ++ codes "\n") (history_from (n + 1) us),
+      length-append front (codes "\n"),
+    )
 
-length-account : (lists : List (List Line)) (history : List Update) (final : List (ℕ × ℕ)) → length history ≤ length (account_of lists history final)
+length-account : (lists : List (List Line)) (history : List Update) (final : List (ℕ × ℕ))
+    → length history ≤ length (account_of lists history final)
 length-account lists history final =
     let scripts = scripts_from 0 lists in
     let head = codes "history " ++ decimal (length history) ++ codes "\n" in
     let updates = history_from 1 history in
     let pairs = codes "final " ++ decimal (length final) ++ codes "\n" ++ flat_map pair_text final in
-    omega (arith, length-history_from 1 history, length-append (scripts ++ (head ++ updates) ++ pairs) (codes "end\n"), length-append (scripts ++ (head ++ updates)) pairs, length-append scripts (head ++ updates), length-append head updates)
+    omega (
+      arith,
+      length-history_from 1 history,
+      length-append (scripts ++ (head ++ updates) ++ pairs) (codes "end\n"),
+      length-append (scripts ++ (head ++ updates)) pairs,
+      length-append scripts (head ++ updates),
+      length-append head updates,
+    )
 
 module _ (room : Room) (history : List Update) (ops : OpsFit history) (short : length history < 2 ^ 64) where
-  line_fits : (before : ℕ) (line : Line) → MayStand room history before line line.number → IsConfirmed history line → (IsTrue (tells_update line.reply) → line.number < 1 + length history) → FitsLine line
+  line_fits : (before : ℕ) (line : Line) → MayStand room history before line line.number → IsConfirmed history line
+      → (IsTrue (tells_update line.reply) → line.number < 1 + length history) → FitsLine line
   line_fits before line stands confirmed within =
-      elim (tells_update line.reply) as (λ b. MatchBool b ((line.number ≡ line.number) × (before < line.number)) ((before ≤ line.number) × (line.number ≤ length history) × Explains room (map_at history line.number) line.op line.reply)
-      → (IsTrue b → Confirms (map_at history (line.number - 1)) line.op line.reply) → (IsTrue b → line.number < 1 + length history) → FitsLine line) [
-        | true ↦ λ h k w. (FitsReply-confirmed (map_at history (line.number - 1)) line.op line.reply (FitsMap-at history (line.number - 1) ops) (k refl), let n = w refl in omega arith)
-        | false ↦ λ h k w. (FitsReply-explained room (map_at history line.number) line.op line.reply (FitsMap-at history line.number ops) h.2, let n = h.1 in omega arith)
+      elim (tells_update line.reply) as (λ b. MatchBool b ((line.number ≡ line.number) × (before < line.number))
+      ((before ≤ line.number) × (line.number ≤ length history) × Explains room (map_at history line.number) line.op line.reply)
+      → (IsTrue b → Confirms (map_at history (line.number - 1)) line.op line.reply) → (IsTrue b → line.number < 1 + length history)
+      → FitsLine line) [
+        | true ↦ λ h k w. (
+          FitsReply-confirmed (map_at history (line.number - 1)) line.op line.reply
+              (FitsMap-at history (line.number - 1) ops) (k refl),
+          let n = w refl in omega arith,
+        )
+        | false ↦ λ h k w. (
+          FitsReply-explained room (map_at history line.number) line.op line.reply
+              (FitsMap-at history line.number ops) h.2,
+          let n = h.1 in omega arith,
+        )
       ] stands confirmed within
 
-  lines_fit : (before : ℕ) (lines : List Line) → AreNumbered room history before lines lines → AllByRecursion (IsConfirmed history) lines → AllByRecursion (λ line. IsTrue (tells_update line.reply) → line.number < 1 + length history) lines → AllByRecursion FitsLine lines
+  lines_fit : (before : ℕ) (lines : List Line) → AreNumbered room history before lines lines → AllByRecursion (IsConfirmed history) lines
+      → AllByRecursion (λ line. IsTrue (tells_update line.reply) → line.number < 1 + length history) lines → AllByRecursion FitsLine lines
   lines_fit before [] numbered confirmed within = tt
   lines_fit before (line ∷ lines) numbered confirmed within =
       (line_fits before line numbered.2.0 confirmed.0 within.0, lines_fit line.number lines numbered.3 confirmed.1 within.1)
 
-  lists_fit : (lists : List (List Line)) → AllAreNumbered room history lists lists → AllByRecursion (AllByRecursion (IsConfirmed history)) lists → AllByRecursion (λ lines. AllByRecursion (λ line. IsTrue (tells_update line.reply) → line.number < 1 + length history) lines) lists → AllByRecursion (AllByRecursion FitsLine) lists
+  lists_fit : (lists : List (List Line)) → AllAreNumbered room history lists lists
+      → AllByRecursion (AllByRecursion (IsConfirmed history)) lists
+      → AllByRecursion (λ lines. AllByRecursion (λ line. IsTrue (tells_update line.reply) → line.number < 1 + length history) lines) lists
+      → AllByRecursion (AllByRecursion FitsLine) lists
   lists_fit [] numbered confirmed within = tt
-  lists_fit (lines ∷ lists) numbered confirmed within = (lines_fit 0 lines numbered.0 confirmed.0 within.0, lists_fit lists numbered.1 confirmed.1 within.1)
+  lists_fit (lines ∷ lists) numbered confirmed within =
+      (lines_fit 0 lines numbered.0 confirmed.0 within.0, lists_fit lists numbered.1 confirmed.1 within.1)
 
 -- an account of scripts whose numbers fit, in a text that fits, has numbers that fit
-pub Fit-account : (scripts : List (List Op)) (slots : ℕ) (text : List ℕ) (a : IsAccount scripts slots text) → AllFit scripts → length scripts ≤ 64 → length text < 2 ^ 64 → Fit scripts a.lines a.history
+pub Fit-account : (scripts : List (List Op)) (slots : ℕ) (text : List ℕ) (a : IsAccount scripts slots text) → AllFit scripts
+    → length scripts ≤ 64 → length text < 2 ^ 64 → Fit scripts a.lines a.history
 Fit-account scripts slots text a fits few long =
     let told = told_ops a.lines (subst AllFit (sym a.ops) fits) in
     let ops : OpsFit a.history = from_own_updates (λ c op. FitsWords op) 1 a.history (λ c.
-    subst (AllByRecursion (λ x. FitsWords x.op)) (sym (a.explained.updates c)) (at_index (λ lines. AllByRecursion (λ x. FitsWords x.op) (told_updates lines)) a.lines tt told c)) in
+    subst (AllByRecursion (λ x. FitsWords x.op)) (sym (a.explained.updates c))
+    (at_index (λ lines. AllByRecursion (λ x. FitsWords x.op) (told_updates lines)) a.lines tt told c)) in
     let many : length a.lines ≡ length scripts = sym (length-map a.lines ops_of) ∙ ap length a.ops in
     let callers : AllByRecursion (λ u. u.caller < 2 ^ 32) a.history = from_own_updates (λ c op. c < 2 ^ 32) 1 a.history (λ c.
     subst (AllByRecursion (λ x. c < 2 ^ 32)) (sym (a.explained.updates c))
@@ -223,14 +270,19 @@ Fit-account scripts slots text a fits few long =
       | inl below ↦ anything (c < 2 ^ 32) (told_updates (get_or a.lines c [])) (omega arith)
       | inr past ↦ subst (λ lines. AllByRecursion (λ x. c < 2 ^ 32) (told_updates lines)) (sym (get_or_past a.lines c [] past)) tt
     ])) in
-    let short : length a.history < 2 ^ 64 = omega (arith, length-account a.lines a.history (finite.entries (map_of a.history)), ap length a.printed) in
-    let within = from_index (λ lines. AllByRecursion (λ line. IsTrue (tells_update line.reply) → line.number < 1 + length a.history) lines) a.lines (λ c.
+    let short : length a.history < 2 ^ 64 = omega
+    (arith, length-account a.lines a.history (finite.entries (map_of a.history)), ap length a.printed) in
+    let within = from_index (λ lines. AllByRecursion
+    (λ line. IsTrue (tells_update line.reply) → line.number < 1 + length a.history) lines) a.lines (λ c.
     from_told_updates (λ n op. n < 1 + length a.history) (get_or a.lines c [])
     (subst (AllByRecursion (λ x. x.position < 1 + length a.history)) (a.explained.updates c) (own_updates_from-within 1 c a.history))) in
     record {
       ops = a.ops;
       scripts_fit = fits;
-      lines_fit = lists_fit (record { scripts = length scripts; slots = slots }) a.history ops short a.lines a.numbered a.explained.confirmed within;
+      lines_fit = lists_fit (record {
+        scripts = length scripts;
+        slots = slots;
+      }) a.history ops short a.lines a.numbered a.explained.confirmed within;
       history_fits = both a.history callers ops;
       short = short;
     }

@@ -32,11 +32,13 @@ get-remove_other m k key other =
 -- an update of another key leaves a key's value
 get-updated_other : (m : Dictionary) (op : Op) (key : ℕ) → key_of op ≢ key → map.get (updated m op) key ≡ map.get m key
 get-updated_other m (Put k v) key other =
-    elim (map.contains_key m k) as (λ b. map.get (cond b m (map.insert m k v)) key ≡ map.get m key) [ true ↦ refl | false ↦ get-insert_other m k v key other ]
+    elim (map.contains_key m k) as (λ b. map.get (cond b m (map.insert m k v)) key
+    ≡ map.get m key) [ true ↦ refl | false ↦ get-insert_other m k v key other ]
 get-updated_other m (Get k) key other = refl
 get-updated_other m (Del k) key other = get-remove_other m k key other
 get-updated_other m (Set k v) key other =
-    elim (map.contains_key m k) as (λ b. map.get (cond b (map.insert m k v) m) key ≡ map.get m key) [ true ↦ get-insert_other m k v key other | false ↦ refl ]
+    elim (map.contains_key m k) as (λ b. map.get (cond b (map.insert m k v) m) key
+    ≡ map.get m key) [ true ↦ get-insert_other m k v key other | false ↦ refl ]
 
 abbrev pub nothing : Change
 nothing = record { key = 0; position = 0; value = None }
@@ -47,9 +49,11 @@ no_update = record { caller = 0; op = Put 0 0 }
 -- each update of the key has a change among these
 abbrev pub HaveKey : List Update → List Change → ℕ → Type 0
 HaveKey history changes key =
-    (position : ℕ) → 0 < position → position ≤ length history → key_of (get_or history (position - 1) no_update).op ≡ key → IsTrue (list_any (λ change. change.position == position) changes)
+    (position : ℕ) → 0 < position → position ≤ length history → key_of (get_or history (position - 1) no_update).op ≡ key
+    → IsTrue (list_any (λ change. change.position == position) changes)
 
-module _ (history : List Update) (changes : List Change) (right : All (IsChangeOf history) changes) (key : ℕ) (whole : HaveKey history changes key) where
+module _ (history : List Update) (changes : List Change) (right : All (IsChangeOf history) changes) (key : ℕ)
+    (whole : HaveKey history changes key) where
   -- a change of the key, later than one front and no later than another, that has left the value at this one
   pub record IsLast (low high : ℕ) : Type 0 where
     pub place : ℕ
@@ -60,16 +64,19 @@ module _ (history : List Update) (changes : List Change) (right : All (IsChangeO
     pub value : (get_or changes place nothing).value ≡ map.get (map_at history high) key
 
   -- the update at a front is at the key
-  last_here : (low front : ℕ) → low ≤ front → front < length history → key_of (get_or history front no_update).op ≡ key → IsLast low (front + 1)
+  last_here : (low front : ℕ) → low ≤ front → front < length history → key_of (get_or history front no_update).op ≡ key
+      → IsLast low (front + 1)
   last_here low front le below own =
       let at_front : (front + 1) - 1 ≡ front = omega arith in
-      let some = Any-from_list_any (λ change. change.position == front + 1) changes (whole (front + 1) (omega arith) (omega arith) (ap (λ i. key_of (get_or history i no_update).op) at_front ∙ own)) in
+      let some = Any-from_list_any (λ change. change.position == front + 1) changes
+      (whole (front + 1) (omega arith) (omega arith) (ap (λ i. key_of (get_or history i no_update).op) at_front ∙ own)) in
       let place = some.0 in
       let there : get_or changes place nothing ≡ some.1 = get_or_default changes place nothing some.1 some.2 ∙ some.3 in
       let at : (get_or changes place nothing).position ≡ front + 1 = ap (λ c. c.position) there ∙ grind (arith, nat_tests, some.4) in
       let is = right place nothing some.2 in
       let before : (get_or changes place nothing).position - 1 ≡ front = omega arith in
-      let same : (get_or changes place nothing).key ≡ key = is.key no_update ∙ ap (λ i. key_of (get_or history i no_update).op) before ∙ own in
+      let same : (get_or changes place nothing).key ≡ key =
+      is.key no_update ∙ ap (λ i. key_of (get_or history i no_update).op) before ∙ own in
       record {
         place = place;
         within = some.2;
@@ -80,7 +87,8 @@ module _ (history : List Update) (changes : List Change) (right : All (IsChangeO
       }
 
   -- Between two fronts a key's value stays, or there is a last change.
-  pub last_change : (low n : ℕ) → low + n ≤ length history → (map.get (map_at history (low + n)) key ≡ map.get (map_at history low) key) ⊎ IsLast low (low + n)
+  pub last_change : (low n : ℕ) → low + n ≤ length history
+      → (map.get (map_at history (low + n)) key ≡ map.get (map_at history low) key) ⊎ IsLast low (low + n)
   last_change low zero fits = let e : low + 0 ≡ low = omega arith in inl (ap (λ f. map.get (map_at history f) key) e)
   last_change low (suc n) fits =
       let next : low + suc n ≡ low + n + 1 = omega arith in
@@ -90,17 +98,28 @@ module _ (history : List Update) (changes : List Change) (right : All (IsChangeO
       (elim (cases_eq (key_of op) key) [
         | inl own ↦ inr (last_here low (low + n) (omega arith) below own)
         | inr other ↦
-            let step : map.get (map_at history (low + n + 1)) key ≡ map.get (map_at history (low + n)) key = ap (λ m. map.get m key) (map_at-next history (low + n) no_update below) ∙ get-updated_other (map_at history (low + n)) op key other in
+            let step : map.get (map_at history (low + n + 1)) key ≡ map.get (map_at history (low + n)) key =
+            ap (λ m. map.get m key) (map_at-next history (low + n) no_update below)
+            ∙ get-updated_other (map_at history (low + n)) op key other in
             elim (last_change low n (omega arith)) [
               | inl same ↦ inl (step ∙ same)
-              | inr c ↦ inr (record { place = c.place; within = c.within; key_is = c.key_is; after = c.after; until = omega (arith, c.until); value = c.value ∙ sym step })
+              | inr c ↦ inr (record {
+                place = c.place;
+                within = c.within;
+                key_is = c.key_is;
+                after = c.after;
+                until = omega (arith, c.until);
+                value = c.value ∙ sym step;
+              })
             ]
       ])
 
-  pub last_between : (low high : ℕ) → low ≤ high → high ≤ length history → (map.get (map_at history high) key ≡ map.get (map_at history low) key) ⊎ IsLast low high
+  pub last_between : (low high : ℕ) → low ≤ high → high ≤ length history
+      → (map.get (map_at history high) key ≡ map.get (map_at history low) key) ⊎ IsLast low high
   last_between low high le fits =
       let n : low + (high - low) ≡ high = omega arith in
-      subst (λ f. (map.get (map_at history f) key ≡ map.get (map_at history low) key) ⊎ IsLast low f) n (last_change low (high - low) (omega arith))
+      subst (λ f. (map.get (map_at history f) key ≡ map.get (map_at history low) key) ⊎ IsLast low f) n
+      (last_change low (high - low) (omega arith))
 
 module _ (P : Change → Type 0) (xs ys : List Change) (all : All P (xs ++ ys)) where
   in_front : All P xs
@@ -117,11 +136,14 @@ module _ (history : List Update) (key position : ℕ) (own : key_of (get_or hist
     | inr apart ↦ grind (arith, nat_tests)
   ]
 
-  none_at : (changes : List Change) → All (IsChangeOf history) changes → All (λ change. change.key ≢ key) changes → list_any (λ change. change.position == position) changes ≡ false
-  none_at changes right others = list_any_none (λ change. change.position == position) changes (λ i none lt. not_at (get_or changes i none) (right i none lt) (others i none lt))
+  none_at : (changes : List Change) → All (IsChangeOf history) changes → All (λ change. change.key ≢ key) changes
+      → list_any (λ change. change.position == position) changes ≡ false
+  none_at changes right others = list_any_none (λ change. change.position == position) changes
+      (λ i none lt. not_at (get_or changes i none) (right i none lt) (others i none lt))
 
 -- What is cut out for a key has all its changes.
-module _ (history : List Update) (changes part : List Change) (key : ℕ) (right : All (IsChangeOf history) changes) (whole : AreAllChanged changes (length history)) (cut : IsCutOut changes part key) where
+module _ (history : List Update) (changes part : List Change) (key : ℕ) (right : All (IsChangeOf history) changes)
+    (whole : AreAllChanged changes (length history)) (cut : IsCutOut changes part key) where
   all_right : All (IsChangeOf history) (cut.front ++ (part ++ cut.back))
   all_right = subst (All (IsChangeOf history)) cut.is right
 
@@ -140,7 +162,9 @@ module _ (history : List Update) (changes part : List Change) (key : ℕ) (right
   cut-whole position some le own =
       let test = λ (change : Change). change.position == position in
       let all : list_any test (cut.front ++ (part ++ cut.back)) ≡ true = ap (list_any test) (sym cut.is) ∙ whole position some le in
-      let parted : (list_any test cut.front || (list_any test part || list_any test cut.back)) ≡ true = ap (λ b. list_any test cut.front || b) (sym (list_any-append test part cut.back)) ∙ sym (list_any-append test cut.front (part ++ cut.back)) ∙ all in
+      let parted : (list_any test cut.front || (list_any test part || list_any test cut.back)) ≡ true =
+      ap (λ b. list_any test cut.front || b) (sym (list_any-append test part cut.back))
+      ∙ sym (list_any-append test cut.front (part ++ cut.back)) ∙ all in
       only (list_any test cut.front) (list_any test part) (list_any test cut.back) parted
       (none_at history key position own cut.front (in_front (IsChangeOf history) cut.front (part ++ cut.back) all_right) cut.none_front)
       (none_at history key position own cut.back (in_back (IsChangeOf history) part cut.back rest_right) cut.none_back)
@@ -154,7 +178,9 @@ pub record AreSplit (history : List Update) (until later : List Change) (key fro
   pub high : All (IsPast key front) later
   pub fits : front ≤ length history
 
-pub are_split : (history : List Update) (sizes : List ℕ) (changes part until later : List Change) (key front : ℕ) → IsIndexed history sizes changes → IsCutOut changes part key → IsOrdered part → part ≡ until ++ later → All (IsUpTo key front) until → All (IsPast key front) later → front ≤ length history → AreSplit history until later key front
+pub are_split : (history : List Update) (sizes : List ℕ) (changes part until later : List Change) (key front : ℕ)
+    → IsIndexed history sizes changes → IsCutOut changes part key → IsOrdered part → part ≡ until ++ later → All (IsUpTo key front) until
+    → All (IsPast key front) later → front ≤ length history → AreSplit history until later key front
 are_split history sizes changes part until later key front indexed cut ordered parts low high fits = record {
   right = subst (All (IsChangeOf history)) parts (cut-right history changes part key indexed.right indexed.whole cut);
   whole = subst (λ cs. HaveKey history cs key) parts (cut-whole history changes part key indexed.right indexed.whole cut);
@@ -167,7 +193,9 @@ are_split history sizes changes part until later key front indexed cut ordered p
 pub IsOrdered-later : (until later : List Change) → IsOrdered (until ++ later) → IsOrdered later
 IsOrdered-later until later ordered i j none le within =
     let rising = ordered (length until + i) (length until + j) none (omega arith) (omega (arith, length-append until later)) in
-    subst (λ c. IsUpTo c.key c.position (get_or later i none)) (get_or-append-add until later j none) (subst (λ c. IsUpTo (get_or (until ++ later) (length until + j) none).key (get_or (until ++ later) (length until + j) none).position c) (get_or-append-add until later i none) rising)
+    subst (λ c. IsUpTo c.key c.position (get_or later i none)) (get_or-append-add until later j none)
+    (subst (λ c. IsUpTo (get_or (until ++ later) (length until + j) none).key
+    (get_or (until ++ later) (length until + j) none).position c) (get_or-append-add until later i none) rising)
 
 module _ (history : List Update) (until later : List Change) (key front : ℕ) (split : AreSplit history until later key front) where
   right : All (IsChangeOf history) (until ++ later)
@@ -192,13 +220,15 @@ module _ (history : List Update) (until later : List Change) (key front : ℕ) (
   changes = until ++ later
 
   -- a change no later than the front is among the first ones
-  is_until : (place : ℕ) → place < length changes → (get_or changes place nothing).key ≡ key → (get_or changes place nothing).position ≤ front → place < length until
+  is_until : (place : ℕ) → place < length changes → (get_or changes place nothing).key ≡ key
+      → (get_or changes place nothing).position ≤ front → place < length until
   is_until place within own no_later = elim (cases_lt place (length until)) [
     | inl lt ↦ lt
     | inr past ↦
         let j = place - length until in
         let is : length until + j ≡ place = omega arith in
-        let same : get_or changes place nothing ≡ get_or later j nothing = ap (λ p. get_or changes p nothing) (sym is) ∙ get_or-append-add until later j nothing in
+        let same : get_or changes place nothing ≡ get_or later j nothing =
+        ap (λ p. get_or changes p nothing) (sym is) ∙ get_or-append-add until later j nothing in
         let late = high j nothing (omega (arith, length-append until later)) in
         let k = ap (λ c. c.key) same in
         let p = ap (λ c. c.position) same in
@@ -233,7 +263,8 @@ module _ (history : List Update) (until later : List Change) (key front : ℕ) (
   last_other some other = elim (last_between history changes right key whole 0 front (omega arith) fits) [
     | inl same ↦ sym (same ∙ map.get-empty nat_cmp key)
     | inr c ↦
-        let here : last ≡ get_or until (length until - 1) nothing = get_or_append_left until later nothing (length until - 1) (omega arith) in
+        let here : last ≡ get_or until (length until - 1) nothing =
+        get_or_append_left until later nothing (length until - 1) (omega arith) in
         let up_to = low (length until - 1) nothing (omega arith) in
         let among = is_until c.place c.within c.key_is c.until in
         let rising = ordered c.place (length until - 1) nothing (omega arith) (omega (arith, length-append until later)) in
@@ -244,7 +275,8 @@ module _ (history : List Update) (until later : List Change) (key front : ℕ) (
   value-last : 0 < length until → value_for key (Some last) ≡ map.get (map_at history front) key
   value-last some = elim (cases_eq last.key key) [
     | inl own ↦ let test : (last.key == key) ≡ true = grind (arith, nat_tests) in ap (λ b. cond b last.value None) test ∙ last_own some own
-    | inr other ↦ let test : (last.key == key) ≡ false = grind (arith, nat_tests) in ap (λ b. cond b last.value None) test ∙ last_other some other
+    | inr other ↦ let test : (last.key == key) ≡ false = grind (arith, nat_tests) in
+        ap (λ b. cond b last.value None) test ∙ last_other some other
   ]
 
   -- the value that the last of the first ones left is that at the front
@@ -252,7 +284,8 @@ module _ (history : List Update) (until later : List Change) (key front : ℕ) (
   value-until = elim (cases_lt 0 (length until)) [
     | inr none ↦ ap (value_for key) (slice_get_past until (length until - 1) (omega arith)) ∙ sym (none_until none)
     | inl some ↦
-        let here : last ≡ get_or until (length until - 1) nothing = get_or_append_left until later nothing (length until - 1) (omega arith) in
+        let here : last ≡ get_or until (length until - 1) nothing =
+        get_or_append_left until later nothing (length until - 1) (omega arith) in
         ap (value_for key) (slice_get-get_or until (length until - 1) nothing (omega arith) ∙ ap Some (sym here)) ∙ value-last some
   ]
 
@@ -268,12 +301,14 @@ module _ (history : List Update) (until later : List Change) (key front : ℕ) (
       pub no_later : (get_or later place nothing).position ≤ other
       pub shown : IsShown op reply (get_or later place nothing).value
 
-    shown_by : (other : ℕ) → front ≤ other → other ≤ length history → IsShown op reply (map.get (map_at history other) key) → IsShownBy other
+    shown_by : (other : ℕ) → front ≤ other → other ≤ length history → IsShown op reply (map.get (map_at history other) key)
+        → IsShownBy other
     shown_by other le within shown = elim (last_between history changes right key whole front other le within) [
       | inl same ↦ absurd (not_now (subst (IsShown op reply) same shown))
       | inr c ↦ elim (cases_lt c.place (length until)) [
         | inl among ↦
-            let here : get_or changes c.place nothing ≡ get_or until c.place nothing = get_or_append_left until later nothing c.place among in
+            let here : get_or changes c.place nothing ≡ get_or until c.place nothing =
+            get_or_append_left until later nothing c.place among in
             let up_to = low c.place nothing among in
             absurd (omega (arith, ap (λ d. d.position) here, up_to.1 (ap (λ d. d.key) (sym here) ∙ c.key_is), c.after))
         | inr past ↦
@@ -291,14 +326,16 @@ module _ (history : List Update) (until later : List Change) (key front : ℕ) (
     ]
 
     -- where no later change shows the reply, no later front does
-    pub none_shown : All (λ change. change.key ≡ key → IsShown op reply change.value → ⊥) later → (other : ℕ) → front ≤ other → other ≤ length history → IsShown op reply (map.get (map_at history other) key) → ⊥
+    pub none_shown : All (λ change. change.key ≡ key → IsShown op reply change.value → ⊥) later → (other : ℕ) → front ≤ other
+        → other ≤ length history → IsShown op reply (map.get (map_at history other) key) → ⊥
     none_shown none other le within shown =
         let by = shown_by other le within shown in
         none by.place nothing by.within by.key_is by.shown
 
     module _ (position : ℕ) (first : IsFirstShown later key op reply position) where
       is_there : IsChangeOf history (get_or later first.place nothing)
-      is_there = subst (IsChangeOf history) (at_later first.place) (right (length until + first.place) nothing (omega (arith, first.within, length-append until later)))
+      is_there = subst (IsChangeOf history) (at_later first.place)
+          (right (length until + first.place) nothing (omega (arith, first.within, length-append until later)))
 
       pub first-above : front ≤ position
       first-above = omega (arith, (high first.place nothing first.within).1 (first.key_is nothing), first.is nothing)
@@ -308,7 +345,8 @@ module _ (history : List Update) (until later : List Change) (key front : ℕ) (
 
       pub first-shown : IsShown op reply (map.get (map_at history position) key)
       first-shown =
-          let value : (get_or later first.place nothing).value ≡ map.get (map_at history position) key = is_there.value ∙ (λ i. map.get (map_at history (first.is nothing i)) (first.key_is nothing i)) in
+          let value : (get_or later first.place nothing).value ≡ map.get (map_at history position) key =
+          is_there.value ∙ (λ i. map.get (map_at history (first.is nothing i)) (first.key_is nothing i)) in
           subst (IsShown op reply) value (first.shown nothing)
 
       pub first-least : (other : ℕ) → front ≤ other → other < position → IsShown op reply (map.get (map_at history other) key) → ⊥
@@ -317,9 +355,12 @@ module _ (history : List Update) (until later : List Change) (key front : ℕ) (
           elim (cases_lt by.place first.place) [
             | inl before ↦ first.first by.place nothing before by.shown
             | inr no_less ↦
-                let rising = ordered (length until + first.place) (length until + by.place) nothing (omega arith) (omega (arith, by.within, length-append until later)) in
+                let rising = ordered (length until + first.place) (length until + by.place) nothing (omega arith)
+                (omega (arith, by.within, length-append until later)) in
                 let one = at_later first.place in
                 let two = at_later by.place in
-                let keys : (get_or changes (length until + first.place) nothing).key ≡ (get_or changes (length until + by.place) nothing).key = ap (λ d. d.key) one ∙ first.key_is nothing ∙ sym (ap (λ d. d.key) two ∙ by.key_is) in
+                let keys : (get_or changes (length until + first.place) nothing).key
+                ≡ (get_or changes (length until + by.place) nothing).key =
+                ap (λ d. d.key) one ∙ first.key_is nothing ∙ sym (ap (λ d. d.key) two ∙ by.key_is) in
                 absurd (omega (arith, rising.1 keys, ap (λ d. d.position) one, ap (λ d. d.position) two, first.is nothing, by.no_later))
           ]

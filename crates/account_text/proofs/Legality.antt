@@ -23,14 +23,17 @@ module _ (m : Dictionary) (key : ℕ) where
 
   module _ (before after : ℕ) (old : before ≡ map.len m) where
     -- a put was an update where there is a pair more
-    pub was-put : (value : ℕ) → after ≡ map.len (updated m (Put key value)) → (nat_lt before after ≡ true) ↔ (map.contains_key m key ≡ false)
+    pub was-put : (value : ℕ) → after ≡ map.len (updated m (Put key value))
+        → (nat_lt before after ≡ true) ↔ (map.contains_key m key ≡ false)
     was-put value new =
         elim (map.contains_key m key) as (λ b. map.contains_key m key ≡ b → (nat_lt before after ≡ true) ↔ (b ≡ false)) [
           | true ↦ λ present.
               let same : map.len (updated m (Put key value)) ≡ map.len m = ap map.len (updated-put_present m key value present) in
               (λ more. absurd (lower more (omega (arith, old, new, same))), λ e. absurd (false≢true (sym e)))
           | false ↦ λ absent.
-              let more : map.len (updated m (Put key value)) ≡ map.len m + 1 = ap map.len (updated-put_absent m key value absent) ∙ map.len-insert nat_cmp_total m key value ∙ ap (λ b. cond b (map.len m) (map.len m + 1)) absent in
+              let more : map.len (updated m (Put key value)) ≡ map.len m + 1 =
+              ap map.len (updated-put_absent m key value absent) ∙ map.len-insert nat_cmp_total m key value
+              ∙ ap (λ b. cond b (map.len m) (map.len m + 1)) absent in
               (λ t. refl, λ t. higher (omega (arith, old, new, more)))
         ] refl
       where
@@ -60,12 +63,14 @@ module _ (m : Dictionary) (key : ℕ) where
         equal t e = absurd (grind (arith, nat_tests))
 
   -- a set was one where its key has a value afterwards
-  pub was-set : (value : ℕ) (left : Option ℕ) → left ≡ map.get (updated m (Set key value)) key → (is_some left ≡ true) ↔ (map.contains_key m key ≡ true)
+  pub was-set : (value : ℕ) (left : Option ℕ) → left ≡ map.get (updated m (Set key value)) key
+      → (is_some left ≡ true) ↔ (map.contains_key m key ≡ true)
   was-set value left is =
       elim (map.contains_key m key) as (λ b. map.contains_key m key ≡ b → (is_some left ≡ true) ↔ (b ≡ true)) [
         | true ↦ λ present.
             let own : eq_by_cmp nat_cmp key key ≡ true = grind (arith, nat_tests) in
-            let some : left ≡ Some value = is ∙ ap (λ n. map.get n key) (updated-set_present m key value present) ∙ map.get-insert nat_cmp_total m key value key ∙ ap (λ b. cond b (Some value) (map.get m key)) own in
+            let some : left ≡ Some value = is ∙ ap (λ n. map.get n key) (updated-set_present m key value present)
+            ∙ map.get-insert nat_cmp_total m key value key ∙ ap (λ b. cond b (Some value) (map.get m key)) own in
             (λ t. refl, λ t. ap is_some some)
         | false ↦ λ absent.
             let none : is_some left ≡ false = ap is_some (is ∙ ap (λ n. map.get n key) (updated-set_absent m key value absent)) ∙ absent in
@@ -73,9 +78,11 @@ module _ (m : Dictionary) (key : ℕ) where
       ] refl
 
 -- Whether all so far were updates, and what that says of the whole history, one update on.
-pub legal-more : (legal was : Bool) (A B U L : Type 0) → (legal ≡ true → A ↔ L) → (legal ≡ false → L → ⊥) → ((was ≡ true) ↔ U) → (U → A ↔ L → B ↔ L) → ((U → ⊥) → A ↔ L → L → ⊥) → ((legal && was) ≡ true → B ↔ L) × ((legal && was) ≡ false → L → ⊥)
+pub legal-more : (legal was : Bool) (A B U L : Type 0) → (legal ≡ true → A ↔ L) → (legal ≡ false → L → ⊥) → ((was ≡ true) ↔ U)
+    → (U → A ↔ L → B ↔ L) → ((U → ⊥) → A ↔ L → L → ⊥) → ((legal && was) ≡ true → B ↔ L) × ((legal && was) ≡ false → L → ⊥)
 legal-more true true A B U L still broken test next none = (λ t. next (test.0 refl) (still refl), λ f. absurd (false≢true (sym f)))
-legal-more true false A B U L still broken test next none = (λ t. absurd (false≢true t), λ f. none (λ u. false≢true (test.1 u)) (still refl))
+legal-more true false A B U L still broken test next none =
+    (λ t. absurd (false≢true t), λ f. none (λ u. false≢true (test.1 u)) (still refl))
 legal-more false true A B U L still broken test next none = (λ t. absurd (false≢true t), λ f. broken refl)
 legal-more false false A B U L still broken test next none = (λ t. absurd (false≢true t), λ f. broken refl)
 

@@ -20,7 +20,8 @@ length_cond : {X : Type 0} (b : Bool) (x : X) (xs : List X) (n : ℕ) → length
 length_cond true x xs n e = omega arith
 length_cond false x xs n e = omega arith
 
-at_cond : {X : Type 0} (b : Bool) (x y : X) (xs : List X) (n : ℕ) → slice_get xs n ≡ Some y → slice_get (cond b (x ∷ xs) xs) (cond b 1 0 + n) ≡ Some y
+at_cond : {X : Type 0} (b : Bool) (x y : X) (xs : List X) (n : ℕ) → slice_get xs n ≡ Some y
+    → slice_get (cond b (x ∷ xs) xs) (cond b 1 0 + n) ≡ Some y
 at_cond true x y xs n e = let next : 1 + n ≡ suc n = omega arith in ap (slice_get (x ∷ xs)) next ∙ e
 at_cond false x y xs n e = let same : 0 + n ≡ n = omega arith in ap (slice_get xs) same ∙ e
 
@@ -29,7 +30,8 @@ first_cond true x xs is = refl
 first_cond false x xs is = absurd (cc)
 
 -- what stands in such a list is the first, or one of the others
-parts_cond : {X : Type 0} (b : Bool) (x y : X) (xs : List X) (n : ℕ) → slice_get (cond b (x ∷ xs) xs) n ≡ Some y → ((b ≡ true) × (n ≡ 0) × (x ≡ y)) ⊎ ((m : ℕ) × (cond b 1 0 + m ≡ n) × (slice_get xs m ≡ Some y))
+parts_cond : {X : Type 0} (b : Bool) (x y : X) (xs : List X) (n : ℕ) → slice_get (cond b (x ∷ xs) xs) n ≡ Some y
+    → ((b ≡ true) × (n ≡ 0) × (x ≡ y)) ⊎ ((m : ℕ) × (cond b 1 0 + m ≡ n) × (slice_get xs m ≡ Some y))
 parts_cond true x y xs zero e = inl (refl, refl, cc)
 parts_cond true x y xs (suc n) e = inr (n, omega arith, e)
 parts_cond false x y xs n e = inr (n, omega arith, e)
@@ -44,11 +46,13 @@ module _ (caller : ℕ) where
   pub length-own : (us : List Update) (position : ℕ) → length (own_updates_from position caller us) ≡ own_count caller us
   length-own [] position = refl
   length-own (u ∷ us) position =
-      length_cond (u.caller == caller) (placed position u) (own_updates_from (position + 1) caller us) (own_count caller us) (length-own us (position + 1))
+      length_cond (u.caller == caller) (placed position u) (own_updates_from (position + 1) caller us) (own_count caller us)
+      (length-own us (position + 1))
       ∙ sym (count-cons u us)
 
   -- an update of the caller stands at its turn
-  own-at : (us : List Update) (position i : ℕ) (none : Update) → i < length us → (get_or us i none).caller ≡ caller → slice_get (own_updates_from position caller us) (own_count caller (take i us)) ≡ Some (placed (position + i) (get_or us i none))
+  own-at : (us : List Update) (position i : ℕ) (none : Update) → i < length us → (get_or us i none).caller ≡ caller
+      → slice_get (own_updates_from position caller us) (own_count caller (take i us)) ≡ Some (placed (position + i) (get_or us i none))
   own-at [] position i none below own = absurd (omega (arith, below))
   own-at (u ∷ us) position zero none below own =
       let is : (u.caller == caller) ≡ true = grind (arith, nat_tests) in
@@ -57,7 +61,8 @@ module _ (caller : ℕ) where
   own-at (u ∷ us) position (suc i) none below own =
       let next : position + 1 + i ≡ position + suc i = omega arith in
       ap (slice_get (own_updates_from position caller (u ∷ us))) (count-cons u (take i us))
-      ∙ at_cond (u.caller == caller) (placed position u) (placed (position + suc i) (get_or us i none)) (own_updates_from (position + 1) caller us) (own_count caller (take i us))
+      ∙ at_cond (u.caller == caller) (placed position u) (placed (position + suc i) (get_or us i none))
+      (own_updates_from (position + 1) caller us) (own_count caller (take i us))
       (own-at us (position + 1) i none (omega arith) own ∙ ap (λ p. Some (placed p (get_or us i none))) next)
 
   -- where an update that stands at a turn is in the history
@@ -69,54 +74,66 @@ module _ (caller : ℕ) where
     pub op : (none : Update) → (get_or us place none).op ≡ is.op
     pub turn_is : own_count caller (take place us) ≡ turn
 
-  pub at-own : (us : List Update) (position turn : ℕ) (is : Placed) → slice_get (own_updates_from position caller us) turn ≡ Some is → IsAt us position turn is
+  pub at-own : (us : List Update) (position turn : ℕ) (is : Placed) → slice_get (own_updates_from position caller us) turn ≡ Some is
+      → IsAt us position turn is
   at-own [] position turn is e = absurd (cc)
-  at-own (u ∷ us) position turn is e = elim (parts_cond (u.caller == caller) (placed position u) is (own_updates_from (position + 1) caller us) turn e) [
-    | inl here ↦
-        let own : u.caller ≡ caller = grind (arith, nat_tests, here.0) in
-        record {
-          place = 0;
-          within = omega arith;
-          own = λ none. own;
-          position_is = omega (arith, ap (λ p. p.position) here.2);
-          op = λ none. ap (λ p. p.op) here.2;
-          turn_is = sym here.1;
-        }
-    | inr later ↦
-        let rest = at-own us (position + 1) later.0 is later.2 in
-        record {
-          place = suc rest.place;
-          within = omega (arith, rest.within);
-          own = rest.own;
-          position_is = omega (arith, rest.position_is);
-          op = rest.op;
-          turn_is = count-cons u (take rest.place us) ∙ ap (λ n. cond (u.caller == caller) 1 0 + n) rest.turn_is ∙ later.1;
-        }
-  ]
+  at-own (u ∷ us) position turn is e = elim (parts_cond (u.caller == caller) (placed position u) is
+      (own_updates_from (position + 1) caller us) turn e) [
+        | inl here ↦
+            let own : u.caller ≡ caller = grind (arith, nat_tests, here.0) in
+            record {
+              place = 0;
+              within = omega arith;
+              own = λ none. own;
+              position_is = omega (arith, ap (λ p. p.position) here.2);
+              op = λ none. ap (λ p. p.op) here.2;
+              turn_is = sym here.1;
+            }
+        | inr later ↦
+            let rest = at-own us (position + 1) later.0 is later.2 in
+            record {
+              place = suc rest.place;
+              within = omega (arith, rest.within);
+              own = rest.own;
+              position_is = omega (arith, rest.position_is);
+              op = rest.op;
+              turn_is = count-cons u (take rest.place us) ∙ ap (λ n. cond (u.caller == caller) 1 0 + n) rest.turn_is ∙ later.1;
+            }
+      ]
 
 module _ (history : List Update) (caller : ℕ) where
   -- An update is at its turn exactly where it is the caller's, at this position, with so many before it.
-  pub own-is : (position turn : ℕ) (op : Op) (i : ℕ) (none : Update) → position ≡ i + 1 → i < length history → ((get_or history i none).caller ≡ caller) × ((get_or history i none).op ≡ op) × (own_count caller (take i history) ≡ turn) ↔ (slice_get (own_updates caller history) turn ≡ Some (record { position = position; op = op }))
+  pub own-is : (position turn : ℕ) (op : Op) (i : ℕ) (none : Update) → position ≡ i + 1 → i < length history
+      → ((get_or history i none).caller ≡ caller) × ((get_or history i none).op ≡ op) × (own_count caller (take i history) ≡ turn)
+      ↔ (slice_get (own_updates caller history) turn ≡ Some (record { position = position; op = op }))
   own-is position turn op i none at below = (
     λ h.
         let position_is : 1 + i ≡ position = omega arith in
-        ap (slice_get (own_updates caller history)) (sym h.2) ∙ own-at caller history 1 i none below h.0 ∙ (λ k. Some (record { position = position_is k; op = h.1 k })),
+        ap (slice_get (own_updates caller history)) (sym h.2) ∙ own-at caller history 1 i none below h.0
+        ∙ (λ k. Some (record { position = position_is k; op = h.1 k })),
     λ e.
         let is = at-own caller history 1 turn (record { position = position; op = op }) e in
-        let place : is.place ≡ i = omega (arith, is.position_is) in
-        (ap (λ k. (get_or history k none).caller) (sym place) ∙ is.own none, ap (λ k. (get_or history k none).op) (sym place) ∙ is.op none, ap (λ k. own_count caller (take k history)) (sym place) ∙ is.turn_is),
+        let place : is.place ≡ i = omega (arith, is.position_is) in (
+          ap (λ k. (get_or history k none).caller) (sym place) ∙ is.own none,
+          ap (λ k. (get_or history k none).op) (sym place) ∙ is.op none,
+          ap (λ k. own_count caller (take k history)) (sym place) ∙ is.turn_is,
+        ),
   )
 
-  pub own-bounds : (position turn : ℕ) (op : Op) → slice_get (own_updates caller history) turn ≡ Some (record { position = position; op = op }) → (0 < position) × (position ≤ length history)
+  pub own-bounds : (position turn : ℕ) (op : Op)
+      → slice_get (own_updates caller history) turn ≡ Some (record { position = position; op = op })
+      → (0 < position) × (position ≤ length history)
   own-bounds position turn op e =
       let is = at-own caller history 1 turn (record { position = position; op = op }) e in
       (omega (arith, is.position_is), omega (arith, is.position_is, is.within))
 
-  pub own-turn : (turn : ℕ) (is : Placed) → slice_get (own_updates caller history) turn ≡ Some is → turn < length (own_updates caller history)
+  pub own-turn : (turn : ℕ) (is : Placed) → slice_get (own_updates caller history) turn ≡ Some is
+      → turn < length (own_updates caller history)
   own-turn turn is e = slice_get_within (own_updates caller history) turn is e
 
   -- no line tells exactly of no update
-  pub AreToldFrom-end : (turn : ℕ) → turn ≤ length (own_updates caller history) → AreToldFrom history caller turn [] ↔ (turn ≡ length (own_updates caller history))
+  pub AreToldFrom-end : (turn : ℕ) → turn ≤ length (own_updates caller history)
+      → AreToldFrom history caller turn [] ↔ (turn ≡ length (own_updates caller history))
   AreToldFrom-end turn le = (
     λ h. omega (arith, ap length h.updates, length-drop turn (own_updates caller history)),
     λ all. record { updates = drop_all turn (own_updates caller history) (omega (arith, all)); confirmed = tt },
@@ -140,7 +157,8 @@ first_left (x ∷ xs) ys (suc n) y e =
 
 module _ (history : List Update) (caller turn : ℕ) (line : Line) (lines : List Line) where
   -- a line that tells of no update
-  pub AreToldFrom-other : tells_update line.reply ≡ false → AreToldFrom history caller turn (line ∷ lines) ↔ AreToldFrom history caller turn lines
+  pub AreToldFrom-other : tells_update line.reply ≡ false
+      → AreToldFrom history caller turn (line ∷ lines) ↔ AreToldFrom history caller turn lines
   AreToldFrom-other is =
       let same = other_case (tells_update line.reply) (record { position = line.number; op = line.op }) (told_updates lines) is in (
         λ h. record { updates = h.updates ∙ same; confirmed = h.confirmed.1 },
@@ -148,14 +166,17 @@ module _ (history : List Update) (caller turn : ℕ) (line : Line) (lines : List
       )
 
   -- a line that tells of one
-  pub AreToldFrom-next : tells_update line.reply ≡ true → AreToldFrom history caller turn (line ∷ lines) ↔ (IsTold history caller turn line × AreToldFrom history caller (turn + 1) lines)
+  pub AreToldFrom-next : tells_update line.reply ≡ true
+      → AreToldFrom history caller turn (line ∷ lines) ↔ (IsTold history caller turn line × AreToldFrom history caller (turn + 1) lines)
   AreToldFrom-next is =
       let same = told_case (tells_update line.reply) (record { position = line.number; op = line.op }) (told_updates lines) is in (
         λ h.
-            let left = first_left (own_updates caller history) (told_updates lines) turn (record { position = line.number; op = line.op }) (h.updates ∙ same) in
+            let left = first_left (own_updates caller history) (told_updates lines) turn (record { position = line.number; op = line.op })
+            (h.updates ∙ same) in
             ((left.0, h.confirmed.0 is), record { updates = left.1; confirmed = h.confirmed.1 }),
         λ h. record {
-          updates = drop-there (own_updates caller history) turn (record { position = line.number; op = line.op }) h.0.0 ∙ ap (λ ps. record { position = line.number; op = line.op } ∷ ps) h.1.updates ∙ sym same;
+          updates = drop-there (own_updates caller history) turn (record { position = line.number; op = line.op }) h.0.0
+              ∙ ap (λ ps. record { position = line.number; op = line.op } ∷ ps) h.1.updates ∙ sym same;
           confirmed = ((λ _. h.0.1), h.1.confirmed);
         },
       )

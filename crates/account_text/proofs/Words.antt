@@ -24,7 +24,8 @@ no_space bytes word rest l is =
     no_space_before word rest (subst P is l)
 
 -- A word without a space is what stands before the first space.
-pub at_space : (bytes front after word rest : List ℕ) → IsParted bytes 32 front after → Lacks word 32 → bytes ≡ word ++ 32 ∷ rest → (front ≡ word) × (after ≡ rest)
+pub at_space : (bytes front after word rest : List ℕ) → IsParted bytes 32 front after → Lacks word 32 → bytes ≡ word ++ 32 ∷ rest
+    → (front ≡ word) × (after ≡ rest)
 at_space bytes front after word rest p l is = same_parts 32 front word after rest p.first l (sym p.whole ∙ is)
 
 -- what stands after the operation's key and a space, where this follows the operation and a space
@@ -53,7 +54,9 @@ pub after_key-short : (op : Op) (rest : List ℕ) → ((key : ℕ) × (op ≡ Ge
 after_key-short op rest (inl h) = ap (λ o. after_key o rest) h.1
 after_key-short op rest (inr h) = ap (λ o. after_key o rest) h.1
 
-pub after_key-long : (op : Op) (rest : List ℕ) → FitsWords op → ((key : ℕ) × (value : ℕ) × (op ≡ Put key value)) ⊎ ((key : ℕ) × (value : ℕ) × (op ≡ Set key value)) → (value : ℕ) × (value < 2 ^ 64) × (after_key op rest ≡ decimal value ++ 32 ∷ rest)
+pub after_key-long : (op : Op) (rest : List ℕ) → FitsWords op
+    → ((key : ℕ) × (value : ℕ) × (op ≡ Put key value)) ⊎ ((key : ℕ) × (value : ℕ) × (op ≡ Set key value))
+    → (value : ℕ) × (value < 2 ^ 64) × (after_key op rest ≡ decimal value ++ 32 ∷ rest)
 after_key-long op rest fits (inl (key, value, is)) = (value, (subst FitsWords is fits).1, ap (λ o. after_key o rest) is)
 after_key-long op rest fits (inr (key, value, is)) = (value, (subst FitsWords is fits).1, ap (λ o. after_key o rest) is)
 
@@ -63,4 +66,5 @@ update_words n update = simp append_assoc
 
 pub Lacks-history : Lacks (codes "history") 32
 Lacks-history =
-    All-from_recursion (λ b. b ≢ 32) (codes "history") (omega arith, (omega arith, (omega arith, (omega arith, (omega arith, (omega arith, (omega arith, tt)))))))
+    All-from_recursion (λ b. b ≢ 32) (codes "history")
+    (omega arith, (omega arith, (omega arith, (omega arith, (omega arith, (omega arith, (omega arith, tt)))))))

@@ -29,5 +29,7 @@ HaveReplies told lists = map (λ lines. map (λ line. line.reply) lines) lists �
 
 -- Of the same scripts and slots, two accounts with the same history and the same replies are one text.
 abbrev pub AccountsAreOne : Type 0
-AccountsAreOne = (scripts : List (List Op)) (slots : ℕ) (told : List (List Told)) (text other_text : List ℕ) (account : IsAccount scripts slots text) (other : IsAccount scripts slots other_text) → account.history ≡ other.history → HaveReplies told account.lines
+AccountsAreOne = (scripts : List (List Op)) (slots : ℕ) (told : List (List Told)) (text other_text : List ℕ)
+    (account : IsAccount scripts slots text) (other : IsAccount scripts slots other_text) → account.history ≡ other.history
+    → HaveReplies told account.lines
     → HaveReplies told other.lines → text ≡ other_text

@@ -14,19 +14,25 @@ IsUpTo key front change = (change.key ≤ key) × (change.key ≡ key → change
 -- keys ascend, and for each key the positions do
 abbrev pub IsOrdered : List Change → Type 0
 IsOrdered changes =
-    (i j : ℕ) (none : Change) → i ≤ j → j < length changes → IsUpTo (slice_index_or changes j none).key (slice_index_or changes j none).position (slice_index_or changes i none)
+    (i j : ℕ) (none : Change) → i ≤ j → j < length changes
+    → IsUpTo (slice_index_or changes j none).key (slice_index_or changes j none).position (slice_index_or changes i none)
 
 -- buckets ascend, in each the keys do, and for each key the positions
 abbrev pub IsOrderedByBucket : ℕ → List Change → Type 0
 IsOrderedByBucket buckets changes =
-    (i j : ℕ) (none : Change) → i ≤ j → j < length changes → (bucket_of buckets (slice_index_or changes i none).key ≤ bucket_of buckets (slice_index_or changes j none).key) × (bucket_of buckets (slice_index_or changes i none).key ≡ bucket_of buckets (slice_index_or changes j none).key → IsUpTo (slice_index_or changes j none).key (slice_index_or changes j none).position (slice_index_or changes i none))
+    (i j : ℕ) (none : Change) → i ≤ j → j < length changes
+    → (bucket_of buckets (slice_index_or changes i none).key ≤ bucket_of buckets (slice_index_or changes j none).key)
+    × (bucket_of buckets (slice_index_or changes i none).key ≡ bucket_of buckets (slice_index_or changes j none).key
+    → IsUpTo (slice_index_or changes j none).key (slice_index_or changes j none).position (slice_index_or changes i none))
 
 -- Each bucket begins where the changes of lower buckets end; the last number is where all end.
 pub record AreStarts (buckets : ℕ) (changes : List Change) (starts : List ℕ) : Type 0 where
   pub count : length starts ≡ buckets + 1
   pub within : (bucket : ℕ) → bucket ≤ buckets → slice_index starts bucket ≤ length changes
-  pub lower : (bucket i : ℕ) (none : Change) → bucket ≤ buckets → i < slice_index starts bucket → bucket_of buckets (slice_index_or changes i none).key < bucket
-  pub others : (bucket i : ℕ) (none : Change) → bucket ≤ buckets → slice_index starts bucket ≤ i → i < length changes → bucket ≤ bucket_of buckets (slice_index_or changes i none).key
+  pub lower : (bucket i : ℕ) (none : Change) → bucket ≤ buckets → i < slice_index starts bucket
+      → bucket_of buckets (slice_index_or changes i none).key < bucket
+  pub others : (bucket i : ℕ) (none : Change) → bucket ≤ buckets → slice_index starts bucket ≤ i → i < length changes
+      → bucket ≤ bucket_of buckets (slice_index_or changes i none).key
 
 -- The changes lie in buckets, in order.
 pub record IsInBuckets (buckets : ℕ) (changes : List Change) (starts : List ℕ) : Type 0 where

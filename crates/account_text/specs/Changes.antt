@@ -45,7 +45,8 @@ pub record IsChangeOf (history : List Update) (change : Change) : Type 0 where
 
 -- each of the first so many positions is that of a change
 abbrev pub AreAllChanged : List Change → ℕ → Type 0
-AreAllChanged changes count = (position : ℕ) → 0 < position → position ≤ count → IsTrue (list_any (λ change. change.position == position) changes)
+AreAllChanged changes count = (position : ℕ) → 0 < position → position ≤ count
+    → IsTrue (list_any (λ change. change.position == position) changes)
 
 -- at a higher key, or at the key and later than the front
 abbrev pub IsPast : ℕ → ℕ → Change → Type 0

@@ -17,7 +17,8 @@ line_of op told = record { op = op; reply = told.reply; number = told.number }
 -- The line tells of the caller's update after so many others of its own, and the reply fits it.
 abbrev pub IsTold : List Update → ℕ → ℕ → Line → Type 0
 IsTold history caller turn line =
-    (slice_get (own_updates caller history) turn ≡ Some (record { position = line.number; op = line.op })) × Confirms (map_at history (line.number - 1)) line.op line.reply
+    (slice_get (own_updates caller history) turn ≡ Some (record { position = line.number; op = line.op }))
+    × Confirms (map_at history (line.number - 1)) line.op line.reply
 
 -- The caller's updates after so many of its own are those that the lines tell of, and each reply fits its update.
 pub record AreToldFrom (history : List Update) (caller turn : ℕ) (lines : List Line) : Type 0 where

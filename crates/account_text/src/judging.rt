@@ -101,9 +101,12 @@ fn try_number_script(
 ) -> Result<Option<LineList>, NoMemory>
     requires same_length { length told.now ≡ length script.now }
     requires fits { length script.now < 2 ^ 32 }
-    ensures none { IfOk result (λ lines. IfNone lines (CanBeNumbered timeline.now.room timeline.now.history (told_lines script.now told.now) → ⊥)) }
-    ensures able { IfOk result (λ lines. IfSome lines (λ _. CanBeNumbered timeline.now.room timeline.now.history (told_lines script.now told.now))) }
-    ensures numbered { IfOk result (λ lines. IfSome lines (λ list. AreNumbered timeline.now.room timeline.now.history 0 (told_lines script.now told.now) list.entries)) }
+    ensures none { IfOk result (λ lines. IfNone lines
+        (CanBeNumbered timeline.now.room timeline.now.history (told_lines script.now told.now) → ⊥)) }
+    ensures able { IfOk result (λ lines. IfSome lines
+        (λ _. CanBeNumbered timeline.now.room timeline.now.history (told_lines script.now told.now))) }
+    ensures numbered { IfOk result (λ lines. IfSome lines
+        (λ list. AreNumbered timeline.now.room timeline.now.history 0 (told_lines script.now told.now) list.entries)) }
 {
     let mut lines = LineList::new(alloc, script.len() as u32)?;
     let mut before = 0;
@@ -135,9 +138,12 @@ fn explain_script(
     requires caller { caller < turns.now.callers }
     requires same_length { length told.now ≡ length script.now }
     requires fits { length script.now < 2 ^ 32 }
-    ensures none { IfOk result (λ lines. IfNone lines (IsScriptExplained timeline.now.room timeline.now.history caller (told_lines script.now told.now) → ⊥)) }
-    ensures explained { IfOk result (λ lines. IfSome lines (λ _. IsScriptExplained timeline.now.room timeline.now.history caller (told_lines script.now told.now))) }
-    ensures numbered { IfOk result (λ lines. IfSome lines (λ list. AreNumbered timeline.now.room timeline.now.history 0 (told_lines script.now told.now) list.entries)) }
+    ensures none { IfOk result (λ lines. IfNone lines
+        (IsScriptExplained timeline.now.room timeline.now.history caller (told_lines script.now told.now) → ⊥)) }
+    ensures explained { IfOk result (λ lines. IfSome lines
+        (λ _. IsScriptExplained timeline.now.room timeline.now.history caller (told_lines script.now told.now))) }
+    ensures numbered { IfOk result (λ lines. IfSome lines
+        (λ list. AreNumbered timeline.now.room timeline.now.history 0 (told_lines script.now told.now) list.entries)) }
 {
     if !are_updates_told(caller, script, told, timeline, turns) {
         return Ok(None);
@@ -154,8 +160,10 @@ pub fn explain(
     timeline: &Timeline,
 ) -> Result<Option<Vec<LineList>>, NoMemory>
     requires { timeline.now.room.scripts ≡ length scripts.now }
-    ensures none { IfOk result (λ lists. IfNone lists (AreExplainable scripts.now (entries_of told.now) timeline.now.history timeline.now.room.slots → ⊥)) }
-    ensures explained { IfOk result (λ lists. IfSome lists (λ _. AreExplainable scripts.now (entries_of told.now) timeline.now.history timeline.now.room.slots)) }
+    ensures none { IfOk result (λ lists. IfNone lists
+        (AreExplainable scripts.now (entries_of told.now) timeline.now.history timeline.now.room.slots → ⊥)) }
+    ensures explained { IfOk result (λ lists. IfSome lists
+        (λ _. AreExplainable scripts.now (entries_of told.now) timeline.now.history timeline.now.room.slots)) }
     ensures numbered { IfOk result (λ lists. IfSome lists (λ lists. AllAreNumbered timeline.now.room timeline.now.history
         (all_told_lines scripts.now (entries_of told.now)) (entries_of lists.items))) }
 {

@@ -43,7 +43,8 @@ fn in_order(mut changes: Vec<Change>, buckets: u32) -> Vec<Change>
 fn fill(starts: &mut Vec<usize>, count: usize, start: usize) -> Result<(), NoMemory>
     ensures long { OnOk result (length starts.new.items ≡ length starts.old.items + (count - length starts.old.items)) }
     ensures kept { OnOk result ((i : ℕ) → i < length starts.old.items → slice_index starts.new.items i ≡ slice_index starts.old.items i) }
-    ensures filled { OnOk result ((i : ℕ) → length starts.old.items ≤ i → i < length starts.new.items → slice_index starts.new.items i ≡ start) }
+    ensures filled { OnOk result ((i : ℕ) → length starts.old.items ≤ i → i < length starts.new.items
+        → slice_index starts.new.items i ≡ start) }
 {
     for _ in starts.len()..count {
         starts.push(start)?;

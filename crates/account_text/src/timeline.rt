@@ -91,10 +91,12 @@ fn first_shown(changes: &[Change], key: u64, op: Op, reply: Reply) -> Option<u64
 
 // The first of these numbers of pairs that fills the slots, counted from 0.
 fn first_filled(sizes: &[u64], scripts: u32, slots: u32) -> Option<u64>
-    ensures none { IfNone result ((i : ℕ) → i < length sizes.now → IsFilled (record { scripts = scripts; slots = slots }) (slice_index sizes.now i) → ⊥) }
+    ensures none { IfNone result ((i : ℕ) → i < length sizes.now
+        → IsFilled (record { scripts = scripts; slots = slots }) (slice_index sizes.now i) → ⊥) }
     ensures within { IfSome result (λ first. first < length sizes.now) }
     ensures filled { IfSome result (λ first. IsFilled (record { scripts = scripts; slots = slots }) (slice_index sizes.now first)) }
-    ensures first { IfSome result (λ first. (i : ℕ) → i < first → IsFilled (record { scripts = scripts; slots = slots }) (slice_index sizes.now i) → ⊥) }
+    ensures first { IfSome result (λ first. (i : ℕ) → i < first
+        → IsFilled (record { scripts = scripts; slots = slots }) (slice_index sizes.now i) → ⊥) }
 {
     for (i, pairs) in sizes.iter().enumerate() {
         if are_filled(*pairs, scripts, slots) {
@@ -106,7 +108,8 @@ fn first_filled(sizes: &[u64], scripts: u32, slots: u32) -> Option<u64>
 
 // Whether the operation was an update, by the dictionary's size before and after it and the value that it left at its key.
 fn was_update(op: Op, before: u64, after: u64, value: Option<u64>) -> bool
-    ensures { (m : Dictionary) → before ≡ map.len m → after ≡ map.len (updated m op) → value ≡ map.get (updated m op) (key_of op) → IsTrue result ↔ IsUpdateAt m op }
+    ensures { (m : Dictionary) → before ≡ map.len m → after ≡ map.len (updated m op) → value ≡ map.get (updated m op) (key_of op)
+        → IsTrue result ↔ IsUpdateAt m op }
 {
     match op {
         Op::Put { .. } => before < after,
@@ -129,7 +132,8 @@ struct Replayed {
 // Replays the history.
 fn replay(alloc: Global, history: &[Update]) -> Result<Replayed, NoMemory>
     ensures fronts { IfOk result (λ all. length all.sizes.items ≡ length history.now + 1) }
-    ensures sizes { IfOk result (λ all. (front : ℕ) → front ≤ length history.now → slice_index all.sizes.items front ≡ map.len (map_at history.now front)) }
+    ensures sizes { IfOk result (λ all. (front : ℕ) → front ≤ length history.now
+        → slice_index all.sizes.items front ≡ map.len (map_at history.now front)) }
     ensures right { IfOk result (λ all. All (IsChangeOf history.now) all.changes.items) }
     ensures whole { IfOk result (λ all. AreAllChanged all.changes.items (length history.now)) }
     ensures last { IfOk result (λ all. all.last ≡ map_at history.now (length history.now)) }
@@ -190,7 +194,8 @@ impl<'a> Model for Timeline<'a> {
     ghost use Rattle.prcu_model.specs.Dictionary.{map_at};
     ghost use Rattle.account_text.specs.Changes.{IsIndexed};
 
-    ghost invariant = { λ t. IsIndexed t.history.now t.sizes.items t.changes × (t.last ≡ map_at t.history.now (length t.history.now)) × (IsTrue t.legal ↔ IsLegal t.history.now) };
+    ghost invariant = { λ t. IsIndexed t.history.now t.sizes.items t.changes × (t.last ≡ map_at t.history.now (length t.history.now))
+        × (IsTrue t.legal ↔ IsLegal t.history.now) };
 }
 
 impl<'a> Timeline<'a> {

@@ -40,7 +40,8 @@ IsLine error n = ◌≡◌ {A = Result (List (List Op)) ScriptError} (Err error)
 
 -- An answer that tells the first bad line of a text.
 abbrev TellsError : ScriptError → Answer → Type 0
-TellsError error answer = (answer.status ≡ BadScript) × (answer.ran ≡ Nothing) × (number : ℕ) × (error ≡ Line number) × (answer.text.items ≡ codes "bad line " ++ decimal number ++ codes "\n")
+TellsError error answer = (answer.status ≡ BadScript) × (answer.ran ≡ Nothing) × (number : ℕ) × (error ≡ Line number)
+    × (answer.text.items ≡ codes "bad line " ++ decimal number ++ codes "\n")
 
 -- What is told of a text that isn't too long, where this error came of reading it.
 module _ (most : ℕ) (input : List ℕ) (error : ScriptError) (short : length input ≤ 134217728)
@@ -52,12 +53,22 @@ module _ (most : ℕ) (input : List ℕ) (error : ScriptError) (short : length i
       let found = line number (ap Err tells.3) in
       let within = first_bad-within most input found.0 found.1 in
       let same : number ≡ found.0 = omega (arith, found.2) in
-      record { number = found.0; first = found.1; none = none number (ap Err tells.3); told = tells.4 ∙ ap (λ n. codes "bad line " ++ decimal n ++ codes "\n") same }
+      record {
+        number = found.0;
+        first = found.1;
+        none = none number (ap Err tells.3);
+        told = tells.4 ∙ ap (λ n. codes "bad line " ++ decimal n ++ codes "\n") same;
+      }
 
   -- So it is what a command writes that tells bad lines.
-  pub refused : {E : Type 0} (command : Command) (result : Result Answer E) → ((text : List ℕ) → TellsBadLineUpTo most input text → (writes : Writes command BadScript input text) × Leaves command BadScript input text writes Nothing)
-      → IfOk result (TellsError error) → IfOk result (λ answer. (writes : Writes command answer.status input answer.text.items) × Leaves command answer.status input answer.text.items writes answer.ran)
+  pub refused : {E : Type 0} (command : Command) (result : Result Answer E)
+      → ((text : List ℕ) → TellsBadLineUpTo most input text
+      → (writes : Writes command BadScript input text) × Leaves command BadScript input text writes Nothing)
+      → IfOk result (TellsError error) → IfOk result
+      (λ answer. (writes : Writes command answer.status input answer.text.items)
+      × Leaves command answer.status input answer.text.items writes answer.ran)
   refused command result tells =
       IfOk-weaker result _ _ (λ answer told.
-      subst (λ (z : Status × Ran). (writes : Writes command z.0 input answer.text.items) × Leaves command z.0 input answer.text.items writes z.1) (λ i. (sym told.0 i, sym told.1 i))
+      subst (λ (z : Status × Ran). (writes : Writes command z.0 input answer.text.items)
+      × Leaves command z.0 input answer.text.items writes z.1) (λ i. (sym told.0 i, sym told.1 i))
       (tells answer.text.items (bad_told answer told)))

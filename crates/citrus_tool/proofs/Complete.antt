@@ -13,7 +13,8 @@ use Rattle.citrus_tool.specs.Answers.{Writes, Leaves, AnsweredBy, IsAnswerable}
 use Rattle.command_words.proofs.InputParts.{one_before}
 
 -- what was taken of an input is no longer than that
-pub not_too_long : (limit : ℕ) (input : List ℕ) (after : Option (List ℕ)) (P : Type 0) → TakesToLimit limit (Some input) after P → length input ≤ limit → P → ⊥
+pub not_too_long : (limit : ℕ) (input : List ℕ) (after : Option (List ℕ)) (P : Type 0) → TakesToLimit limit (Some input) after P
+    → length input ≤ limit → P → ⊥
 not_too_long limit input after P t short p =
     let past : limit < length t.0 = t.3.0 p in
     omega (arith, ap length t.1.1, length-append t.0 t.1.0)
@@ -42,13 +43,15 @@ reads_bad (Watch low high slots waiter) input text bad = tt
 reads_bad Hash input text bad = tt
 
 -- an input with good scripts isn't told bad
-pub not_bad : (command : Command) (input : List ℕ) (after written written_now : Option (List ℕ)) (ran : Ran) → AnsweredBy command BadScript (Some input) after written written_now ran → IsAnswerable command input → ⊥
+pub not_bad : (command : Command) (input : List ℕ) (after written written_now : Option (List ℕ)) (ran : Ran)
+    → AnsweredBy command BadScript (Some input) after written written_now ran → IsAnswerable command input → ⊥
 not_bad command input after written written_now ran a good =
     let same = whole_input input after a.input a.read (a.ended (reads_bad command a.input a.text a.answers)) in
     no_bad_line command a.input a.text a.answers (subst (IsAnswerable command) (sym same) good)
 
 -- an input that was read whole, and an answer that was written whole
-pub answered : (command : Command) (status : Status) (left left_now written written_now : Option (List ℕ)) (ran : Ran) (input seen text sent : List ℕ) → seen ≡ input → sent ≡ text
+pub answered : (command : Command) (status : Status) (left left_now written written_now : Option (List ℕ)) (ran : Ran)
+    (input seen text sent : List ℕ) → seen ≡ input → sent ≡ text
     → length input ≤ limit_of command → Takes left left_now input → (Reads command → IsAtEnd left_now)
     → (writes : Writes command status seen text) × Leaves command status seen text writes ran → Appends written written_now sent
     → AnsweredBy command status left left_now written written_now ran
@@ -66,7 +69,8 @@ answered command status left left_now written written_now ran input seen text se
     }
 
 -- the statuses that are left
-pub one_of_three : (status : Status) → (status ≡ Usage → ⊥) → (status ≡ ReadFault → ⊥) → (status ≡ WriteFault → ⊥) → (status ≡ TooLong → ⊥) → (status ≡ BadScript → ⊥) → (status ≡ Done) ⊎ (status ≡ Refused) ⊎ (status ≡ NoMemory)
+pub one_of_three : (status : Status) → (status ≡ Usage → ⊥) → (status ≡ ReadFault → ⊥) → (status ≡ WriteFault → ⊥) → (status ≡ TooLong → ⊥)
+    → (status ≡ BadScript → ⊥) → (status ≡ Done) ⊎ (status ≡ Refused) ⊎ (status ≡ NoMemory)
 one_of_three Done u r w t b = inl refl
 one_of_three Refused u r w t b = inr (inl refl)
 one_of_three NoMemory u r w t b = inr (inr refl)

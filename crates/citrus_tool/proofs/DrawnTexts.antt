@@ -17,16 +17,22 @@ none_told : (lists : List (List Line)) → map ops_of lists ≡ [] → HaveRepli
 none_told [] none = refl
 none_told (lines ∷ lists) none = absurd (cc)
 
-one_drawn : (scripts : List (List Op)) (slots number : ℕ) (text other_text : List ℕ) (account : IsAccount scripts slots text) (other : IsAccount scripts slots other_text) → IsDrawn scripts slots number account.lines account.history → IsDrawn scripts slots number other.lines other.history
+one_drawn : (scripts : List (List Op)) (slots number : ℕ) (text other_text : List ℕ) (account : IsAccount scripts slots text)
+    (other : IsAccount scripts slots other_text) → IsDrawn scripts slots number account.lines account.history
+    → IsDrawn scripts slots number other.lines other.history
     → text ≡ other_text
 one_drawn [] slots number text other_text account other a b =
-    accounts_are_one [] slots [] text other_text account other (a ∙ sym b) (none_told account.lines account.ops) (none_told other.lines other.ops)
+    accounts_are_one [] slots [] text other_text account other (a ∙ sym b) (none_told account.lines account.ops)
+    (none_told other.lines other.ops)
 one_drawn (script ∷ scripts) slots number text other_text account other a b =
     let same = schedules_are_one (script ∷ scripts) slots number a.0 b.0 account.history other.history a.1 b.1 in
-    accounts_are_one (script ∷ scripts) slots a.0 text other_text account other same.1 a.2 (subst (λ told. HaveReplies told other.lines) (sym same.0) b.2)
+    accounts_are_one (script ∷ scripts) slots a.0 text other_text account other same.1 a.2
+    (subst (λ told. HaveReplies told other.lines) (sym same.0) b.2)
 
 pub drawn_texts_are_one : DrawnTextsAreOne
 drawn_texts_are_one slots number input text other_text one other =
     let read = one_reading 64 (lines_of input) [] other.accounts.scripts one.accounts.scripts other.accounts.read one.accounts.read in
-    let again = subst (λ scripts. (account : IsAccount scripts (slots_of slots scripts) other_text) × IsDrawn scripts (slots_of slots scripts) number account.lines account.history) read (other.accounts.account, other.drawn) in
-    one_drawn one.accounts.scripts (slots_of slots one.accounts.scripts) number text other_text one.accounts.account again.0 one.drawn again.1
+    let again = subst (λ scripts. (account : IsAccount scripts (slots_of slots scripts) other_text)
+    × IsDrawn scripts (slots_of slots scripts) number account.lines account.history) read (other.accounts.account, other.drawn) in
+    one_drawn one.accounts.scripts
+    (slots_of slots one.accounts.scripts) number text other_text one.accounts.account again.0 one.drawn again.1

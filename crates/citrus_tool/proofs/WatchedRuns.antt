@@ -19,7 +19,7 @@ use Rattle.command_words.specs.declared.statuses.Status.TheVariants.{Done}
 use Rattle.citrus_tool.specs.declared.outcome.Ran.{Ran}
 use Rattle.citrus_tool.specs.declared.outcome.Ran.TheVariants.{Nothing}
 use Rattle.citrus_tool.specs.Answers.{Writes, Leaves}
-use Rattle.citrus_tool.specs.Leavings.{number_of, tree_with}
+use Rattle.citrus_tool.specs.Leavings.{tree_with}
 use Rattle.command_words.specs.Limits.{slots_of}
 use Rattle.citrus_tool.specs.Watching.{IsWatchedTree, LeavesWatched}
 use Rattle.citrus_tool.proofs.Leavings.{none_within, some_left}
@@ -44,18 +44,23 @@ none_before low high later taken = (
 
 pub none_listed : (low high : ℕ) → AreSnapshots [] low high 0 (none_yet ∷ none_yet ∷ none_yet ∷ none_yet ∷ [])
 none_listed low high =
-    none_before low high (none_yet ∷ none_yet ∷ none_yet ∷ []) (none_before low high (none_yet ∷ none_yet ∷ []) (none_before low high (none_yet ∷ []) (none_before low high [] tt)))
+    none_before low high (none_yet ∷ none_yet ∷ none_yet ∷ [])
+    (none_before low high (none_yet ∷ none_yet ∷ []) (none_before low high (none_yet ∷ []) (none_before low high [] tt)))
 
 -- a watched run without scripts
-watches_nothing : (waiter : Waiter) (scripts : List (List Op)) (slots : ℕ) (lines : List (List Line)) (history : List Update) (lists : List SnapshotAt) → length scripts ≡ 0 → HaveReplies [] lines → LeavesWatched waiter scripts slots lines history lists Nothing
+watches_nothing : (waiter : Waiter) (scripts : List (List Op)) (slots : ℕ) (lines : List (List Line)) (history : List Update)
+    (lists : List SnapshotAt) → length scripts ≡ 0 → HaveReplies [] lines → LeavesWatched waiter scripts slots lines history lists Nothing
 watches_nothing waiter [] slots lines history lists none replies = ([], refl, replies)
 watches_nothing waiter (script ∷ scripts) slots lines history lists none replies = absurd (omega (arith, none))
 
 -- A watch text was made.
 module _ (scripts : List (List Op)) (slots low high : ℕ) (text : List ℕ) where
   -- without scripts
-  pub nothing_watched : (waiter : Waiter) (lists : List SnapshotAt) → length scripts ≡ 0 → (watch : IsWatchText scripts slots low high text) × (watch.account.history ≡ []) × (watch.snapshots ≡ lists) × HaveReplies [] watch.account.lines
-      → (watch : IsWatchText scripts slots low high text) × StaysWithin watch.account.history (slots + 20) × LeavesWatched waiter scripts slots watch.account.lines watch.account.history watch.snapshots Nothing
+  pub nothing_watched : (waiter : Waiter) (lists : List SnapshotAt) → length scripts ≡ 0
+      → (watch : IsWatchText scripts slots low high text) × (watch.account.history ≡ []) × (watch.snapshots ≡ lists)
+      × HaveReplies [] watch.account.lines
+      → (watch : IsWatchText scripts slots low high text) × StaysWithin watch.account.history (slots + 20)
+      × LeavesWatched waiter scripts slots watch.account.lines watch.account.history watch.snapshots Nothing
   nothing_watched waiter lists none written = (
     written.0,
     subst (λ h. StaysWithin h (slots + 20)) (sym written.1) (λ front at. none_within (slots + 20) front),
@@ -63,18 +68,22 @@ module _ (scripts : List (List Op)) (slots low high : ℕ) (text : List ℕ) whe
   )
 
   -- by the history and the lists of a run, and the run's tree beside it
-  pub watched_beside : (way : ℕ) (told given : List (Roomy Told)) (history seen : List Update) (lists : List SnapshotAt) (table : TableAt) (seat : SeatAt) → given ≡ told → seen ≡ history → StaysWithin history (slots + 20)
-      → IsWatchedTree way scripts slots told history lists table seat
-      → (watch : IsWatchText scripts slots low high text) × (watch.account.history ≡ seen) × (watch.snapshots ≡ lists) × HaveReplies (entries_of given) watch.account.lines
+  pub watched_beside : (waiter : Waiter) (told given : List (Roomy Told)) (history seen : List Update) (lists : List SnapshotAt)
+      (table : TableAt) (seat : SeatAt) → given ≡ told → seen ≡ history → StaysWithin history (slots + 20)
+      → IsWatchedTree waiter scripts slots told history lists table seat
+      → (watch : IsWatchText scripts slots low high text) × (watch.account.history ≡ seen) × (watch.snapshots ≡ lists)
+      × HaveReplies (entries_of given) watch.account.lines
       → (watch : IsWatchText scripts slots low high text) × StaysWithin watch.account.history (slots + 20)
-      × ((told : List (Roomy Told)) × IsWatchedTree way scripts slots told watch.account.history watch.snapshots table seat × HaveReplies (entries_of told) watch.account.lines)
-  watched_beside way told given history seen lists table seat same_told same within left written =
+      × ((told : List (Roomy Told)) × IsWatchedTree waiter scripts slots told watch.account.history watch.snapshots table seat
+      × HaveReplies (entries_of told) watch.account.lines)
+  watched_beside waiter told given history seen lists table seat same_told same within left written =
       let is = sym (written.1 ∙ same) in (
         written.0,
         subst (λ h. StaysWithin h (slots + 20)) is within,
         (
           told,
-          subst (λ (z : List Update × List SnapshotAt). IsWatchedTree way scripts slots told z.0 z.1 table seat) (λ i. (is i, sym written.2 i)) left,
+          subst (λ (z : List Update × List SnapshotAt). IsWatchedTree waiter scripts slots told z.0 z.1 table seat)
+              (λ i. (is i, sym written.2 i)) left,
           subst (λ t. HaveReplies (entries_of t) written.0.account.lines) same_told written.3,
         ),
       )
@@ -82,19 +91,33 @@ module _ (scripts : List (List Op)) (slots low high : ℕ) (text : List ℕ) whe
   -- The tree of the waiter that was chosen is what is left.
   pub watched_in : (waiter chosen : Waiter) (table : TableAt) (seat : SeatAt) → waiter ≡ chosen → 1 ≤ length scripts
       → (watch : IsWatchText scripts slots low high text) × StaysWithin watch.account.history (slots + 20)
-      × ((told : List (Roomy Told)) × IsWatchedTree (number_of chosen) scripts slots told watch.account.history watch.snapshots table seat × HaveReplies (entries_of told) watch.account.lines)
-      → (watch : IsWatchText scripts slots low high text) × StaysWithin watch.account.history (slots + 20) × LeavesWatched waiter scripts slots watch.account.lines watch.account.history watch.snapshots (tree_with chosen table seat)
+      × ((told : List (Roomy Told)) × IsWatchedTree chosen scripts slots told watch.account.history watch.snapshots table seat
+      × HaveReplies (entries_of told) watch.account.lines)
+      → (watch : IsWatchText scripts slots low high text) × StaysWithin watch.account.history (slots + 20)
+      × LeavesWatched waiter scripts slots watch.account.lines watch.account.history watch.snapshots (tree_with chosen table seat)
   watched_in waiter chosen table seat is some made = (
     made.0,
     made.1,
-    subst (λ w. LeavesWatched w scripts slots made.0.account.lines made.0.account.history made.0.snapshots (tree_with chosen table seat)) (sym is)
+    subst (λ w. LeavesWatched w scripts slots made.0.account.lines made.0.account.history made.0.snapshots (tree_with chosen table seat))
+        (sym is)
         (made.2.0, some_left scripts (tree_with chosen table seat) _ some (table, seat, refl, made.2.1), made.2.2),
   )
 
 -- the watch text of a script text, and what is left beside it
-pub watch_written : (low high : ℕ) (limit : Option ℕ) (waiter : Waiter) (scripts : List (List Op)) (slots : ℕ) (input text : List ℕ) (ran : Ran) → IsScriptTextUpTo 63 input scripts → slots ≡ slots_of limit scripts
-    → (watch : IsWatchText scripts slots low high text) × StaysWithin watch.account.history (slots + 20) × LeavesWatched waiter scripts slots watch.account.lines watch.account.history watch.snapshots ran
+pub watch_written : (low high : ℕ) (limit : Option ℕ) (waiter : Waiter) (scripts : List (List Op)) (slots : ℕ) (input text : List ℕ)
+    (ran : Ran) → IsScriptTextUpTo 63 input scripts → slots ≡ slots_of limit scripts
+    → (watch : IsWatchText scripts slots low high text) × StaysWithin watch.account.history (slots + 20)
+    × LeavesWatched waiter scripts slots watch.account.lines watch.account.history watch.snapshots ran
     → (writes : Writes (Watch low high limit waiter) Done input text) × Leaves (Watch low high limit waiter) Done input text writes ran
 watch_written low high limit waiter scripts slots input text ran read shared made =
-    let m = subst (λ s. (watch : IsWatchText scripts s low high text) × StaysWithin watch.account.history (s + 20) × LeavesWatched waiter scripts s watch.account.lines watch.account.history watch.snapshots ran) shared made in
-    (record { scripts = scripts; read = read; watch = m.0; never_full = never_full limit scripts m.0.account_text m.0.account; within_slots = m.1 }, m.2)
+    let m = subst (λ s. (watch : IsWatchText scripts s low high text) × StaysWithin watch.account.history (s + 20)
+    × LeavesWatched waiter scripts s watch.account.lines watch.account.history watch.snapshots ran) shared made in (
+      record {
+        scripts = scripts;
+        read = read;
+        watch = m.0;
+        never_full = never_full limit scripts m.0.account_text m.0.account;
+        within_slots = m.1;
+      },
+      m.2,
+    )

@@ -42,7 +42,8 @@ pub record AccountsByDraws (slots : Option ℕ) (number : ℕ) (input text : Lis
 
 -- The input, the slots and the number determine such a text.
 abbrev pub DrawnTextsAreOne : Type 0
-DrawnTextsAreOne = (slots : Option ℕ) (number : ℕ) (input text other_text : List ℕ) → AccountsByDraws slots number input text → AccountsByDraws slots number input other_text → text ≡ other_text
+DrawnTextsAreOne = (slots : Option ℕ) (number : ℕ) (input text other_text : List ℕ) → AccountsByDraws slots number input text
+    → AccountsByDraws slots number input other_text → text ≡ other_text
 
 -- what `run` writes of good scripts
 abbrev pub WritesRun : Mode → Option ℕ → List ℕ → List ℕ → Type 0
@@ -52,7 +53,8 @@ WritesRun (Schedule number) slots input text = AccountsByDraws slots number inpu
 -- what it leaves beside that: in threads the tree on which they ran and were told what is written, by a schedule nothing
 abbrev pub LeavesRun : (mode : Mode) (slots : Option ℕ) (input text : List ℕ) → WritesRun mode slots input text → Ran → Type 0
 LeavesRun (Threads waiter cookies) slots input text accounts ran =
-    RunsInThreads waiter cookies accounts.scripts (slots_of slots accounts.scripts) accounts.account.lines accounts.account.history ran
+    RunsInThreads (record { waiter = waiter; cookies = cookies }) accounts.scripts
+    (slots_of slots accounts.scripts) accounts.account.lines accounts.account.history ran
 LeavesRun (Schedule number) slots input text accounts ran = ran ≡ Nothing
 
 -- The input has a line that is bad where a text may hold so many scripts. So it is no text of such scripts, and the text tells the
@@ -123,7 +125,9 @@ MayWrite command input text = (status : Status) × Writes command status input t
 abbrev pub Leaves : (command : Command) (status : Status) (input text : List ℕ) → Writes command status input text → Ran → Type 0
 Leaves (Run slots mode) Done input text accounts ran = LeavesRun mode slots input text accounts ran
 Leaves (Load number scripts ops waiter) Done input text writes ran = LeavesMade waiter (made_scripts number scripts ops) ran
-Leaves (Watch low high slots waiter) Done input text watches ran = LeavesWatched waiter watches.scripts (slots_of slots watches.scripts) watches.watch.account.lines watches.watch.account.history watches.watch.snapshots ran
+Leaves (Watch low high slots waiter) Done input text watches ran =
+    LeavesWatched waiter watches.scripts
+    (slots_of slots watches.scripts) watches.watch.account.lines watches.watch.account.history watches.watch.snapshots ran
 Leaves Hash Done input text accounts ran = LeavesHash accounts.scripts accounts.account.lines accounts.account.history ran
 Leaves _ _ input text writes ran = ran ≡ Nothing
 
@@ -150,7 +154,8 @@ pub record AnsweredInPartBy (command : Command) (left left_now written written_n
   pub appended : AppendsFront written written_now text
 
 -- The words ask for a command, and that is answered.
-pub record Answered (words : List (List ℕ)) (status : Status) (left left_now written written_now : Option (List ℕ)) (ran : Ran) : Type 0 where
+pub record Answered (words : List (List ℕ)) (status : Status) (left left_now written written_now : Option (List ℕ))
+    (ran : Ran) : Type 0 where
   pub command : Command
   pub asked : Asks words command
   pub answered : AnsweredBy command status left left_now written written_now ran

@@ -1,6 +1,6 @@
 -- What a run leaves beside its account.
 -- Source: docs/ARCHITECTURE.md, "A run", and docs/HASH_DICTIONARY.md, "Scripts beside each other on the hash dictionary".
-use Rattle.std.specs.Prelude.{◌≡◌, ℕ, ◌<◌, ◌≤◌, Bool, false, List, [], ◌∷◌, length}
+use Rattle.std.specs.Prelude.{◌≡◌, ℕ, ◌<◌, ◌≤◌, false, List, [], ◌∷◌, length}
 use Rattle.prcu_model.specs.declared.operation.Op.{Op}
 use Rattle.prcu_model.specs.declared.operation.Line.{Line}
 use Rattle.prcu_model.specs.declared.operation.Told.{Told}
@@ -22,6 +22,7 @@ use Rattle.core_state.specs.declared.shape.Waiter.TheVariants.{Eer, Domain, Deer
 use Rattle.core_state.specs.views.Views.{places_of}
 use Rattle.seat_table.specs.Gains as tree_gains
 use Rattle.seat_table.specs.Seats as tree
+use Rattle.tree_run.specs.declared.running.RunWith.{RunWith}
 use Rattle.tree_run.specs.Runs.{tickets_for, HasRun}
 use Rattle.schedule_run.specs.Schedules.{IsOfSchedule}
 use Rattle.hash_core.specs.Seats.{AnswersFor}
@@ -49,22 +50,17 @@ LeavesSome (script ∷ scripts) ran left = left
 -- The tree on which the scripts ran, which has so many slots and places, and the tickets for their operations; and the one seat into which
 -- those of all its places were joined. Each script's calls were made there by a client of its own, which holds cookies or doesn't, and
 -- were told this. The seat is quiet, answers for every place, and is informed, so it may go on.
-pub record IsTreeLeftOf (way : ℕ) (cookies : Bool) (scripts : List (List Op)) (slots places : ℕ) (told : List (Roomy Told)) (history : List Update) (table : tree.TableAt) (seat : tree.SeatAt) : Type 0 where
-  pub run : HasRun way cookies table scripts told seat
+pub record IsTreeLeftOf (how : RunWith) (scripts : List (List Op)) (slots places : ℕ) (told : List (Roomy Told)) (history : List Update)
+    (table : tree.TableAt) (seat : tree.SeatAt) : Type 0 where
+  pub run : HasRun how table scripts told seat
   pub of_table : seat.table ≡ table
   pub slots_are : table.slots ≡ slots
   pub places_are : table.places ≡ places
-  pub tickets : table.tickets ≡ tickets_for cookies (op_count scripts)
+  pub tickets : table.tickets ≡ tickets_for how.cookies (op_count scripts)
   pub quiet : tree.IsQuietSeat seat
   pub answers : (place : ℕ) → place < places → 1 ≤ times place (places_of seat.view)
   pub informed : tree_gains.IsInformed seat.view
   pub marks : AreMarksOf scripts history seat.view.seen
-
--- the number of a waiter
-abbrev pub number_of : Waiter → ℕ
-number_of Eer = 0
-number_of Domain = 1
-number_of Deer = 2
 
 -- a tree of this waiter and a seat on it
 abbrev pub tree_with : Waiter → tree.TableAt → tree.SeatAt → Ran
@@ -72,15 +68,16 @@ tree_with Eer table seat = OnEer table seat
 tree_with Domain table seat = OnDomain table seat
 tree_with Deer table seat = OnDeer table seat
 
-abbrev pub LeavesTree : Waiter → Bool → List (List Op) → ℕ → ℕ → List (Roomy Told) → List Update → Ran → Type 0
-LeavesTree waiter cookies scripts slots places told history ran =
-    LeavesSome scripts ran ((table : tree.TableAt) × (seat : tree.SeatAt) × (ran ≡ tree_with waiter table seat) × IsTreeLeftOf (number_of waiter) cookies scripts slots places told history table seat)
+abbrev pub LeavesTree : RunWith → List (List Op) → ℕ → ℕ → List (Roomy Told) → List Update → Ran → Type 0
+LeavesTree how scripts slots places told history ran =
+    LeavesSome scripts ran ((table : tree.TableAt) × (seat : tree.SeatAt) × (ran ≡ tree_with how.waiter table seat)
+    × IsTreeLeftOf how scripts slots places told history table seat)
 
 -- In threads the scripts leave the tree of their waiter, with a place for each, and the lines have the replies that their calls on it were
 -- told.
-abbrev pub RunsInThreads : Waiter → Bool → List (List Op) → ℕ → List (List Line) → List Update → Ran → Type 0
-RunsInThreads waiter cookies scripts slots lines history ran =
-    (told : List (Roomy Told)) × LeavesTree waiter cookies scripts slots (length scripts) told history ran × HaveReplies (entries_of told) lines
+abbrev pub RunsInThreads : RunWith → List (List Op) → ℕ → List (List Line) → List Update → Ran → Type 0
+RunsInThreads how scripts slots lines history ran =
+    (told : List (Roomy Told)) × LeavesTree how scripts slots (length scripts) told history ran × HaveReplies (entries_of told) lines
 
 -- The replies of the lines and the history are those of the run whose steps the number draws. Without scripts there is no step.
 abbrev pub IsDrawn : List (List Op) → ℕ → ℕ → List (List Line) → List Update → Type 0
@@ -90,7 +87,8 @@ IsDrawn (script ∷ scripts) slots number lines history =
 
 -- By a schedule the scripts leave nothing, and the replies of their lines and their history are drawn.
 abbrev pub RunsBy : Mode → List (List Op) → ℕ → List (List Line) → List Update → Ran → Type 0
-RunsBy (Threads waiter cookies) scripts slots lines history ran = RunsInThreads waiter cookies scripts slots lines history ran
+RunsBy (Threads waiter cookies) scripts slots lines history ran =
+    RunsInThreads (record { waiter = waiter; cookies = cookies }) scripts slots lines history ran
 RunsBy (Schedule number) scripts slots lines history ran = (ran ≡ Nothing) × IsDrawn scripts slots number lines history
 
 -- This history is legal and explains what the scripts were told, and the summary of running them one after another counts just that.
@@ -103,13 +101,14 @@ pub record IsSummedUp (scripts : List (List Op)) (told : List (Roomy Told)) (his
 pub record LeavesMade (waiter : Waiter) (scripts : List (List Op)) (ran : Ran) : Type 0 where
   pub told : List (Roomy Told)
   pub history : List Update
-  pub left : LeavesTree waiter false scripts (default_slots_of scripts) (length scripts) told history ran
+  pub left : LeavesTree (record { waiter = waiter; cookies = false }) scripts (default_slots_of scripts) (length scripts) told history ran
   pub summed : IsSummedUp scripts told history
 
 -- The hash dictionary on which the scripts ran, which has a place for each and a ticket for each operation, and the one seat into which
 -- those of all scripts were joined; none of its marks is a wait's. Each script's calls were made there by a client of its own, and were
 -- told this. The seat is quiet, answers for the place of every script, and is informed, so it may go on.
-pub record IsLeftOf (scripts : List (List Op)) (told : List (Roomy Told)) (history : List Update) (table : TableAt) (seat : SeatAt) : Type 0 where
+pub record IsLeftOf (scripts : List (List Op)) (told : List (Roomy Told)) (history : List Update) (table : TableAt)
+    (seat : SeatAt) : Type 0 where
   pub run : HaveRun (client_for table) HasCalled (StandsFor table) scripts told seat.view
   pub of_table : seat.table ≡ table.id
   pub capacities : AreCapacities scripts table.capacities
@@ -123,4 +122,6 @@ pub record IsLeftOf (scripts : List (List Op)) (told : List (Roomy Told)) (histo
 
 abbrev pub LeavesHash : List (List Op) → List (List Line) → List Update → Ran → Type 0
 LeavesHash scripts lines history ran =
-    (told : List (Roomy Told)) × LeavesSome scripts ran ((table : TableAt) × (seat : SeatAt) × (ran ≡ Hash table seat) × IsLeftOf scripts told history table seat) × HaveReplies (entries_of told) lines
+    (told : List (Roomy Told)) × LeavesSome scripts ran
+    ((table : TableAt) × (seat : SeatAt) × (ran ≡ Hash table seat) × IsLeftOf scripts told history table seat)
+    × HaveReplies (entries_of told) lines

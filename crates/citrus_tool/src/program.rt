@@ -30,7 +30,8 @@ pub fn run_words<R: Threads + Wait + Sync, S: Source, K: Sink, E: Sink, G: Gate 
     // What `tool` says of the words, of what was read and of faults.
     ensures usage { (result ≡ Status.Usage) ↔ (IsCommand (map string_bytes words.now) → ⊥) }
     ensures unread { result ≡ Status.Usage → source.new ≡ source.old }
-    ensures reads_nothing { (command : command.Command) → Asks (map string_bytes words.now) command → (Reads command → ⊥) → source.new ≡ source.old }
+    ensures reads_nothing { (command : command.Command) → Asks (map string_bytes words.now) command → (Reads command → ⊥)
+        → source.new ≡ source.old }
     ensures read_fault { result ≡ Status.ReadFault → Rose (S.faults source.old) (S.faults source.new) }
     ensures write_fault { result ≡ Status.WriteFault → Rose (K.faults sink.old) (K.faults sink.new) }
     ensures no_read_fault { (result ≡ Status.ReadFault → ⊥) → S.faults source.new ≡ S.faults source.old }
@@ -59,7 +60,8 @@ pub fn run_words<R: Threads + Wait + Sync, S: Source, K: Sink, E: Sink, G: Gate 
         → (result ≡ Status.Done) ⊎ (result ≡ Status.Refused) ⊎ (result ≡ Status.NoMemory) }
 
     // What is told is the status that is given.
-    ensures told { (Rose (E.faults errors.old) (E.faults errors.new) → ⊥) → Appends (E.bytes errors.old) (E.bytes errors.new) (status_line result) }
+    ensures told { (Rose (E.faults errors.old) (E.faults errors.new) → ⊥)
+        → Appends (E.bytes errors.old) (E.bytes errors.new) (status_line result) }
     ensures told_on { (Rose (E.faults errors.old) (E.faults errors.new) → ⊥) → E.passed_on errors.new }
     ensures front { AppendsFront (E.bytes errors.old) (E.bytes errors.new) (status_line result) }
 {

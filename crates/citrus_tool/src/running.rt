@@ -21,6 +21,7 @@ use script_text::{ScriptError, parse, parse_up_to, push_number};
 use std::alloc::Global;
 use std::sync::Wait;
 use std::thread::Threads;
+use tree_run::RunWith;
 use workload::make;
 
 // How many scripts may be watched: the lists are made at the last of 64 places.
@@ -113,7 +114,8 @@ fn run_by<R: Threads + Wait + Sync, G: Gate + Sync>(
     }
     match mode {
         Mode::Threads { waiter, cookies } => {
-            account_in_threads(rt, alloc, scripts, slots, waiter, cookies, gate)
+            let how = RunWith { waiter, cookies };
+            account_in_threads(rt, alloc, scripts, slots, how, gate)
         }
         Mode::Schedule { number } => Ok((
             account_by_schedule(rt, alloc, scripts, slots, number)?,
@@ -125,7 +127,8 @@ fn run_by<R: Threads + Wait + Sync, G: Gate + Sync>(
 // The account of no scripts.
 fn account_of_none(alloc: Global, scripts: &Scripts, slots: u32) -> Result<Vec<u8>, NoMemory>
     requires { length scripts.now ≡ 0 }
-    ensures { IfOk result (λ text. (account : IsAccount scripts.now slots text.items) × (account.history ≡ []) × HaveReplies [] account.lines) }
+    ensures { IfOk result (λ text. (account : IsAccount scripts.now slots text.items) × (account.history ≡ [])
+        × HaveReplies [] account.lines) }
 {
     make_account(alloc, scripts, &[], &[], slots)
 }
@@ -288,7 +291,8 @@ fn load<R: Threads + Wait + Sync, G: Gate + Sync>(
     gate: &G,
 ) -> Result<Answer, NoMemory>
     requires { IsInRange (Command.Load number scripts ops waiter) }
-    ensures { IfOk result (λ answer. (input : List ℕ) → (writes : Writes (Command.Load number scripts ops waiter) answer.status input answer.text.items)
+    ensures { IfOk result (λ answer. (input : List ℕ)
+        → (writes : Writes (Command.Load number scripts ops waiter) answer.status input answer.text.items)
         × Leaves (Command.Load number scripts ops waiter) answer.status input answer.text.items writes answer.ran) }
 {
     let made = make(alloc, number, scripts, ops)?;

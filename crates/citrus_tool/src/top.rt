@@ -34,7 +34,8 @@ pub fn tool<R: Threads + Wait + Sync, S: Source, K: Sink, G: Gate + Sync>(
     ensures unread { result.status ≡ Status.Usage → source.new ≡ source.old }
 
     // A command that reads nothing leaves the source as it is.
-    ensures reads_nothing { (command : command.Command) → Asks (map string_bytes words.now) command → (Reads command → ⊥) → source.new ≡ source.old }
+    ensures reads_nothing { (command : command.Command) → Asks (map string_bytes words.now) command → (Reads command → ⊥)
+        → source.new ≡ source.old }
 
     // Faults are those of the source and the sink, and each is told: a count stays as it was at every other status.
     ensures read_fault { result.status ≡ Status.ReadFault → Rose (S.faults source.old) (S.faults source.new) }
@@ -49,7 +50,8 @@ pub fn tool<R: Threads + Wait + Sync, S: Source, K: Sink, G: Gate + Sync>(
         → TakesToLimit (limit_of command) (S.rest source.old) (S.rest source.new) (result.status ≡ Status.TooLong) }
 
     // Where something may have been written the input was read to its end, and nothing was read after the end was told.
-    ensures last { (WritesNothing result.status → ⊥) → (command : command.Command) → Asks (map string_bytes words.now) command → Reads command
+    ensures last { (WritesNothing result.status → ⊥) → (command : command.Command) → Asks (map string_bytes words.now) command
+        → Reads command
         → ReadsToEnd S.reads source.old source.new }
 
     // What was written answers what was read, and what is left is what the run made.

@@ -9,6 +9,7 @@ ghost use Rattle.account_text.specs.Account.{IsAccount, HaveReplies};
 ghost use Rattle.workload.specs.Draws.{IsMade};
 ghost use Rattle.workload.specs.Summaries.{plain_summary};
 ghost use Rattle.workload.specs.SummaryText.{summary_text};
+ghost use Rattle.tree_run.specs.Runs.{run_with};
 ghost use Rattle.citrus_tool.specs.Leavings.{IsTreeLeftOf, RunsInThreads, IsSummedUp, LeavesMade};
 
 use crate::outcome::Ran;
@@ -24,7 +25,7 @@ use seat_table::{CitrusTable, Seat, WaitPart};
 use std::alloc::Global;
 use std::sync::Wait;
 use std::thread::Threads;
-use tree_run::run_scripts;
+use tree_run::{RunWith, run_scripts};
 use workload::{summary_of, write_summary};
 
 // What is written of a run, and the tree with the seats of all scripts as one.
@@ -35,38 +36,52 @@ struct Written<W: WaitPart> {
     seat: Seat<W>,
 }
 
-/// Runs the scripts on a tree of this waiter with so many slots, by clients that hold cookies or by clients that hold none: their
+/// Runs the scripts on a tree of the chosen waiter with so many slots, by clients that hold cookies or by clients that hold none: their
 /// account, and the tree.
 pub(crate) fn account_in_threads<R: Threads + Wait + Sync, G: Gate + Sync>(
     rt: &R,
     alloc: Global,
     scripts: &Scripts,
     slots: u32,
-    waiter: Waiter,
-    cookies: bool,
+    how: RunWith,
     gate: &G,
 ) -> Result<(Vec<u8>, Ran), NoMemory>
     requires some { 1 ≤ length scripts.now }
     requires slots { (1 ≤ slots) × (slots ≤ 2097152) }
     ensures { IfOk result (λ made. (account : IsAccount scripts.now slots made.0.items) × StaysWithin account.history slots
-        × RunsInThreads waiter cookies scripts.now slots account.lines account.history made.1) }
+        × RunsInThreads how scripts.now slots account.lines account.history made.1) }
 {
-    match waiter {
+    match how.waiter {
         Waiter::Eer => {
             let Written { text, table, seat } = account_on(
-                rt, alloc, scripts, slots, cookies, gate,
+                rt,
+                alloc,
+                scripts,
+                slots,
+                how.cookies,
+                gate,
             )?;
             Ok((text, Ran::Eer { table, seat }))
         }
         Waiter::Domain => {
             let Written { text, table, seat } = account_on(
-                rt, alloc, scripts, slots, cookies, gate,
+                rt,
+                alloc,
+                scripts,
+                slots,
+                how.cookies,
+                gate,
             )?;
             Ok((text, Ran::Domain { table, seat }))
         }
         Waiter::Deer => {
             let Written { text, table, seat } = account_on(
-                rt, alloc, scripts, slots, cookies, gate,
+                rt,
+                alloc,
+                scripts,
+                slots,
+                how.cookies,
+                gate,
             )?;
             Ok((text, Ran::Deer { table, seat }))
         }
@@ -86,7 +101,7 @@ fn account_on<R: Threads + Wait + Sync, W: WaitPart + Send + Sync, G: Gate + Syn
     requires some { 1 ≤ length scripts.now }
     requires slots { (1 ≤ slots) × (slots ≤ 2097152) }
     ensures { IfOk result (λ made. (account : IsAccount scripts.now slots made.text.items) × StaysWithin account.history slots
-        × ((told : List (Roomy Told)) × IsTreeLeftOf W.WAY cookies scripts.now slots (length scripts.now) told account.history made.table made.seat
+        × ((told : List (Roomy Told)) × IsTreeLeftOf (run_with W.WAY cookies) scripts.now slots (length scripts.now) told account.history made.table made.seat
         × HaveReplies (entries_of told) account.lines)) }
 {
     let ran = run_scripts(rt, alloc, scripts, slots, cookies, gate)?;
@@ -139,7 +154,7 @@ fn summary_on<R: Threads + Wait + Sync, W: WaitPart + Send + Sync, G: Gate + Syn
     requires some { 1 ≤ length scripts.now }
     ensures text { IfOk result (λ made. made.text.items ≡ summary_text (plain_summary scripts.now)) }
     ensures left { IfOk result (λ made. (told : List (Roomy Told)) × (history : List Update)
-        × IsTreeLeftOf W.WAY false scripts.now (default_slots_of scripts.now) (length scripts.now) told history made.table made.seat
+        × IsTreeLeftOf (run_with W.WAY false) scripts.now (default_slots_of scripts.now) (length scripts.now) told history made.table made.seat
         × IsSummedUp scripts.now told history) }
 {
     let ran = run_scripts(rt, alloc, scripts, default_slots(scripts), false, gate)?;

@@ -5,6 +5,7 @@ ghost use Rattle.prcu_model.specs.Lists.{Roomy, entries_of};
 ghost use Rattle.prcu_model.specs.Slots.{StaysWithin};
 ghost use Rattle.account_text.specs.Account.{HaveReplies};
 ghost use Rattle.range_snapshots.specs.WatchText.{IsWatchText};
+ghost use Rattle.seat_table.specs.Seats.{way_of};
 ghost use Rattle.citrus_tool.specs.Watching.{IsWatchedTree, LeavesWatched};
 
 use crate::outcome::Ran;
@@ -78,7 +79,7 @@ fn watch_on<R: Threads + Wait + Sync, W: WaitPart + Send + Sync, G: Gate + Sync>
     requires slots { (1 ≤ slots) × (slots ≤ 2097132) }
     ensures { IfOk result (λ made. (watch : IsWatchText scripts.now slots keys.low keys.high made.text.items)
         × StaysWithin watch.account.history (slots + 20)
-        × ((told : List (Roomy Told)) × IsWatchedTree W.WAY scripts.now slots told watch.account.history watch.snapshots made.table made.seat
+        × ((told : List (Roomy Told)) × IsWatchedTree (way_of W.WAY) scripts.now slots told watch.account.history watch.snapshots made.table made.seat
         × HaveReplies (entries_of told) watch.account.lines)) }
 {
     let ran = run_watched(rt, alloc, scripts, slots, keys, gate)?;

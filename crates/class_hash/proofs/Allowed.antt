@@ -26,7 +26,8 @@ either_is : (b : Bool) (x y : ℕ) → either b x y ≡ cond b x y
 either_is true x y = refl
 either_is false x y = refl
 
-module _ (k : Shape) (t : TableAt) (slots id : ℕ) (me : Me Nothing View) (a : Act) (is : is_field k.capacities.items (field_of me.0 a) ≡ true) (works : 1 ≤ me.0.places) (needs : Needs k.capacities.items me.0 a) where
+module _ (k : Shape) (t : TableAt) (slots id : ℕ) (me : Me Nothing View) (a : Act)
+    (is : is_field k.capacities.items (field_of me.0 a) ≡ true) (works : 1 ≤ me.0.places) (needs : Needs k.capacities.items me.0 a) where
   abbrev Holds : State Nothing View → Type 0
   Holds s = Rule k s.words s.views
 
@@ -34,7 +35,8 @@ module _ (k : Shape) (t : TableAt) (slots id : ℕ) (me : Me Nothing View) (a : 
   here = record t { capacities = k.capacities.items; places = k.places }
 
   allows : (f : ℕ → ℕ) → ((n : ℕ) → n < 18446744073709551616 → Fits (access_of me.0 a) n → f n ≡ left_by (access_of me.0 a) n)
-      → Allows Holds slots id me (word_of (field_of me.0 a)) f (λ n. tells (record t { capacities = k.capacities.items; places = k.places }) a me (said_by (access_of me.0 a) n))
+      → Allows Holds slots id me (word_of (field_of me.0 a)) f
+      (λ n. tells (record t { capacities = k.capacities.items; places = k.places }) a me (said_by (access_of me.0 a) n))
   allows f same s r len at below =
       let field : Field = field_of me.0 a in
       let m : Memory = memory_of k.capacities.items s.words in
@@ -44,12 +46,16 @@ module _ (k : Shape) (t : TableAt) (slots id : ℕ) (me : Me Nothing View) (a : 
       let w : View = done me.0 a h (m field) in
       let vs' : List View = set s.views id w in
       let h' : List Mark = h ++ marks_of me.0 a in
-      let kept : MemoryRule k.capacities.items k.places k.tickets (stored m field left) vs' h' = (acts_keep k.capacities.items k.places k.tickets m s.views h id me.0 a r.holds at works needs).rule in
-      let leaves : f (slice_index s.words (word_of field)) ≡ left = ap f (sym found) ∙ same (m field) (subst (λ z. z < 18446744073709551616) (sym found) below) (fits k.capacities.items k.places k.tickets m s.views h r.holds id me.0 at a needs) in
+      let kept : MemoryRule k.capacities.items k.places k.tickets (stored m field left) vs' h' =
+      (acts_keep k.capacities.items k.places k.tickets m s.views h id me.0 a r.holds at works needs).rule in
+      let leaves : f (slice_index s.words (word_of field)) ≡ left =
+      ap f (sym found) ∙ same (m field) (subst (λ z. z < 18446744073709551616) (sym found) below)
+      (fits k.capacities.items k.places k.tickets m s.views h r.holds id me.0 at a needs) in
       let rule : Rule k (set s.words (word_of field) left) vs' = record {
         marks = h';
         long = length-set s.words (word_of field) left ∙ r.long;
-        holds = subst (λ z. MemoryRule k.capacities.items k.places k.tickets z vs' h') (sym (memory-stored k.capacities.items s.words field left is r.long)) kept;
+        holds = subst (λ z. MemoryRule k.capacities.items k.places k.tickets z vs' h')
+            (sym (memory-stored k.capacities.items s.words field left is r.long)) kept;
       } in
       let there : get_elem? vs' id ≡ some w = set_here s.views id w (at_below s.views id me.0 at) in
       let still : 1 ≤ w.places = subst (λ n. 1 ≤ n) (sym (still_places me.0 a h (m field))) works in
@@ -72,7 +78,9 @@ module _ (k : Shape) (t : TableAt) (slots id : ℕ) (me : Me Nothing View) (a : 
       )
 
 -- The same for what a call has picked, over the table that it was passed.
-module _ (k : Shape) (t z : TableAt) (b a : Act) (slots id : ℕ) (me : Me Nothing View) (word : ℕ) (access : Access) (touches : Touches t me.0 a access word) (capacities : t.capacities ≡ k.capacities.items) (places : t.places ≡ k.places) (table_is : z ≡ t) (act_is : b ≡ a) where
+module _ (k : Shape) (t z : TableAt) (b a : Act) (slots id : ℕ) (me : Me Nothing View) (word : ℕ) (access : Access)
+    (touches : Touches t me.0 a access word) (capacities : t.capacities ≡ k.capacities.items) (places : t.places ≡ k.places)
+    (table_is : z ≡ t) (act_is : b ≡ a) where
   needs : Needs k.capacities.items me.0 a
   needs = subst (λ cs. Needs cs me.0 a) capacities touches.asks
 
@@ -82,27 +90,34 @@ module _ (k : Shape) (t z : TableAt) (b a : Act) (slots id : ℕ) (me : Me Nothi
   allows_it : (f : ℕ → ℕ) → ((n : ℕ) → n < 18446744073709551616 → Fits access n → f n ≡ left_by access n)
       → Allows (λ (s : State Nothing View). Rule k s.words s.views) slots id me word f (λ n. tells z b me (said_by access n))
   allows_it f same =
-      let allowed = allows k t slots id me a (field_there k.capacities.items me.0 touches.place a needs) touches.place.works needs f (subst (λ x. (n : ℕ) → n < 18446744073709551616 → Fits x n → f n ≡ left_by x n) (sym touches.does) same) in
-      subst (λ (x : ℕ × TableAt × Act × Access). Allows (λ (s : State Nothing View). Rule k s.words s.views) slots id me x.0 f (λ n. tells x.1 x.2 me (said_by x.3 n)))
+      let allowed = allows k t slots id me a (field_there k.capacities.items me.0 touches.place a needs) touches.place.works needs f
+      (subst (λ x. (n : ℕ) → n < 18446744073709551616 → Fits x n → f n ≡ left_by x n) (sym touches.does) same) in
+      subst (λ (x : ℕ × TableAt × Act × Access). Allows (λ (s : State Nothing View). Rule k s.words s.views) slots id me x.0 f
+      (λ n. tells x.1 x.2 me (said_by x.3 n)))
       (λ i. (sym touches.at i, same_table i, sym act_is i, touches.does i)) allowed
 
-module _ (k : Shape) (t z : TableAt) (b a : Act) (slots id : ℕ) (me : Me Nothing View) (word : ℕ) (capacities : t.capacities ≡ k.capacities.items) (places : t.places ≡ k.places) (table_is : z ≡ t) (act_is : b ≡ a) where
+module _ (k : Shape) (t z : TableAt) (b a : Act) (slots id : ℕ) (me : Me Nothing View) (word : ℕ)
+    (capacities : t.capacities ≡ k.capacities.items) (places : t.places ≡ k.places) (table_is : z ≡ t) (act_is : b ≡ a) where
   pub allows_load : Touches t me.0 a loads word
       → Allows (λ (s : State Nothing View). Rule k s.words s.views) slots id me word (λ n. n) (tells z b me)
   allows_load touches = allows_it k t z b a slots id me word loads touches capacities places table_is act_is (λ n. n) (λ n small fits. refl)
 
   pub allows_store : (x : ℕ) → Touches t me.0 a (stores x) word
       → Allows (λ (s : State Nothing View). Rule k s.words s.views) slots id me word (λ _. x) (λ _. tells z b me x)
-  allows_store x touches = allows_it k t z b a slots id me word (stores x) touches capacities places table_is act_is (λ _. x) (λ n small fits. refl)
+  allows_store x touches = allows_it k t z b a slots id me word (stores x) touches capacities places table_is act_is (λ _. x)
+      (λ n small fits. refl)
 
   pub allows_exchange : (old new : ℕ) → Touches t me.0 a (exchanges old new) word
       → Allows (λ (s : State Nothing View). Rule k s.words s.views) slots id me word (λ n. either (n == old) new n) (tells z b me)
-  allows_exchange old new touches = allows_it k t z b a slots id me word (exchanges old new) touches capacities places table_is act_is (λ n. either (n == old) new n) (λ n small fits. either_is (n == old) new n)
+  allows_exchange old new touches = allows_it k t z b a slots id me word (exchanges old new) touches capacities places table_is act_is
+      (λ n. either (n == old) new n) (λ n small fits. either_is (n == old) new n)
 
   pub allows_add : (x : ℕ) → Touches t me.0 a (adds x) word
       → Allows (λ (s : State Nothing View). Rule k s.words s.views) slots id me word (λ n. (n + x) % 2 ^ 64) (tells z b me)
-  allows_add x touches = allows_it k t z b a slots id me word (adds x) touches capacities places table_is act_is (λ n. (n + x) % 2 ^ 64) (λ n small fits. omega arith)
+  allows_add x touches = allows_it k t z b a slots id me word (adds x) touches capacities places table_is act_is (λ n. (n + x) % 2 ^ 64)
+      (λ n small fits. omega arith)
 
   pub allows_subtract : (x : ℕ) → x ≤ 1 → Touches t me.0 a (subtracts x) word
       → Allows (λ (s : State Nothing View). Rule k s.words s.views) slots id me word (λ n. (n + (2 ^ 64 - x)) % 2 ^ 64) (tells z b me)
-  allows_subtract x one touches = allows_it k t z b a slots id me word (subtracts x) touches capacities places table_is act_is (λ n. (n + (2 ^ 64 - x)) % 2 ^ 64) (λ n small fits. omega arith)
+  allows_subtract x one touches = allows_it k t z b a slots id me word (subtracts x) touches capacities places table_is act_is
+      (λ n. (n + (2 ^ 64 - x)) % 2 ^ 64) (λ n small fits. omega arith)

@@ -27,7 +27,9 @@ cut_once : (xs : List StepMade) (s : StepMade) (ys xs' : List StepMade) (s' : St
     → LoadNoLists ys → loads_free s'.kind s'.field ≡ true → xs ++ s ∷ ys ≡ xs' ++ s' ∷ ys' → (s ≡ s') × (ys ≡ ys')
 cut_once [] s ys [] s' ys' before after loads e = (cc, cc)
 cut_once [] s ys (x' ∷ xs') s' ys' before after loads e = absurd (no_load ys xs' s' ys' after loads cc)
-cut_once (x ∷ xs) s ys [] s' ys' before after loads e = let same : x ≡ s' = cc in let none : loads_free s'.kind s'.field ≡ false = subst (λ (z : StepMade). loads_free z.kind z.field ≡ false) same before.0 in absurd (cc)
+cut_once (x ∷ xs) s ys [] s' ys' before after loads e = let same : x ≡ s' = cc in
+    let none : loads_free s'.kind s'.field ≡ false = subst (λ (z : StepMade). loads_free z.kind z.field ≡ false) same before.0 in
+    absurd (cc)
 cut_once (x ∷ xs) s ys (x' ∷ xs') s' ys' before after loads e = cut_once xs s ys xs' s' ys' before.1 after loads cc
 
 abbrev loaded : ℕ → ℕ → StepMade
@@ -40,7 +42,8 @@ loaded_next class retired = record { kind = H9; field = Retired class; number = 
 once : (v u x w s1 s2 : List StepMade) (a b : StepMade) → u ≡ v ++ s1 → x ≡ (u ++ a ∷ []) ++ b ∷ [] → w ≡ x ++ s2
     → w ≡ v ++ (s1 ++ a ∷ b ∷ s2)
 once v u x w s1 s2 a b first second third =
-    third ∙ ap (λ t. t ++ s2) second ∙ ap (λ t. ((t ++ a ∷ []) ++ b ∷ []) ++ s2) first ∙ append_assoc ((v ++ s1) ++ a ∷ []) (b ∷ []) s2 ∙ append_assoc (v ++ s1) (a ∷ []) (b ∷ s2) ∙ append_assoc v s1 (a ∷ b ∷ s2)
+    third ∙ ap (λ t. t ++ s2) second ∙ ap (λ t. ((t ++ a ∷ []) ++ b ∷ []) ++ s2) first ∙ append_assoc ((v ++ s1) ++ a ∷ []) (b ∷ []) s2
+    ∙ append_assoc (v ++ s1) (a ∷ []) (b ∷ s2) ∙ append_assoc v s1 (a ∷ b ∷ s2)
 
 module _ (capacities : List ℕ) (v w : View) (key value : ℕ) where
   exactly : (reply : Reply) (number : ℕ) → PutsBy capacities v key value reply number w
@@ -49,7 +52,8 @@ module _ (capacities : List ℕ) (v w : View) (key value : ℕ) where
     λ e. absurd (cc),
     λ both.
         let on = p.trail in
-        absurd (no_load on.steps both.earlier (loaded (key % 64) 0) (loaded_next (key % 64) 0 ∷ both.later) on.plain refl (append_cancel_left v.trail on.steps _ (sym on.trail ∙ both.trail))),
+        absurd (no_load on.steps both.earlier (loaded (key % 64) 0) (loaded_next (key % 64) 0 ∷ both.later) on.plain refl
+        (append_cancel_left v.trail on.steps _ (sym on.trail ∙ both.trail))),
   )
   exactly New number p = (λ e. absurd (cc), λ both. absurd (not_both both))
     where
@@ -61,8 +65,11 @@ module _ (capacities : List ℕ) (v w : View) (key value : ℕ) where
           let l = room.lists in
           let a : StepMade = loaded l.hold.class room.free in
           let b : StepMade = loaded_next l.hold.class room.retired in
-          let whole = once v.trail u.trail room.listed.trail w.trail walked.trail.steps room.trail.steps (loaded l.hold.class room.free) (loaded_next l.hold.class room.retired) walked.trail.trail l.trail room.trail.trail in
-          let cut = cut_once walked.trail.steps (loaded l.hold.class room.free) (loaded_next l.hold.class room.retired ∷ room.trail.steps) both.earlier (loaded (key % 64) 0) (loaded_next (key % 64) 0 ∷ both.later) walked.trail.plain (refl, room.trail.plain) refl
+          let whole = once v.trail u.trail room.listed.trail w.trail walked.trail.steps room.trail.steps (loaded l.hold.class room.free)
+          (loaded_next l.hold.class room.retired) walked.trail.trail l.trail room.trail.trail in
+          let cut = cut_once walked.trail.steps (loaded l.hold.class room.free)
+          (loaded_next l.hold.class room.retired ∷ room.trail.steps) both.earlier (loaded (key % 64) 0)
+          (loaded_next (key % 64) 0 ∷ both.later) walked.trail.plain (refl, room.trail.plain) refl
           (append_cancel_left v.trail _ _ (sym whole ∙ both.trail)) in
           let next : loaded_next l.hold.class room.retired ≡ loaded_next (key % 64) 0 = (let e = cut.1 in cc) in
           room.some (ap (λ (s : StepMade). s.number) cut.0) (ap (λ (s : StepMade). s.number) next)
@@ -75,13 +82,18 @@ module _ (capacities : List ℕ) (v w : View) (key value : ℕ) where
           let x : View = p.leaves.listed in
           let l : Lists capacities p.locked 0 0 p.leaves.listed = p.leaves.lists in
           let e = p.leaves.unlocks in
-          let same : l.hold ≡ walked.hold = (let q : Some l.hold ≡ Some walked.hold = sym l.is ∙ ap (λ (z : View). z.hold) walked.view in cc) in
+          let same : l.hold ≡ walked.hold = (let q : Some l.hold ≡ Some walked.hold = sym l.is ∙ ap (λ (z : View). z.hold) walked.view in
+          cc) in
           let class : l.hold.class ≡ key % 64 = ap (λ (k : Hold). k.class) same ∙ walked.class in
           record {
             earlier = walked.trail.steps;
             later = record { kind = H7; field = Lock (hold_of p.leaves.listed).class; number = 0 } ∷ [];
-            trail = subst (λ c. w.trail ≡ v.trail ++ (walked.trail.steps ++ loaded c 0 ∷ loaded_next c 0 ∷ record { kind = H7; field = Lock (hold_of p.leaves.listed).class; number = 0 } ∷ [])) class
-                (once v.trail u.trail x.trail w.trail walked.trail.steps (record { kind = H7; field = Lock (hold_of p.leaves.listed).class; number = 0 } ∷ []) (loaded l.hold.class 0) (loaded_next l.hold.class 0) walked.trail.trail l.trail (ap (λ (z : View). z.trail) e));
+            trail = subst (λ c. w.trail ≡ v.trail ++ (walked.trail.steps
+                ++ loaded c 0 ∷ loaded_next c 0 ∷ record { kind = H7; field = Lock (hold_of p.leaves.listed).class; number = 0 }
+                ∷ [])) class
+                (once v.trail u.trail x.trail w.trail walked.trail.steps
+                (record { kind = H7; field = Lock (hold_of p.leaves.listed).class; number = 0 } ∷ []) (loaded l.hold.class 0)
+                (loaded_next l.hold.class 0) walked.trail.trail l.trail (ap (λ (z : View). z.trail) e));
           }
   exactly (Val x) number p = absurd p
   exactly Absent number p = absurd p

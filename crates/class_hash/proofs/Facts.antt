@@ -81,9 +81,11 @@ first_slot capacities c next first xs of path there =
     let p = path_cons next first xs there path in
     of first (let e = ap (times first) p.1 in let t = times_here first p.0 in omega arith)
 
-module _ (capacities : List ℕ) (places tickets : ℕ) (m : Memory) (vs : List View) (h : List Mark) (r : MemoryRule capacities places tickets m vs h) (id : ℕ) (v : View) (at : get_elem? vs id ≡ some v) where
+module _ (capacities : List ℕ) (places tickets : ℕ) (m : Memory) (vs : List View) (h : List Mark)
+    (r : MemoryRule capacities places tickets m vs h) (id : ℕ) (v : View) (at : get_elem? vs id ≡ some v) where
   pub few_tickets : v.tickets ≤ most_tickets
-  few_tickets = let a = total_part (λ (u : View). u.tickets) vs id v at in let b = r.tickets_are in let c = r.shape.few_tickets in omega arith
+  few_tickets = let a = total_part (λ (u : View). u.tickets) vs id v at in let b = r.tickets_are in let c = r.shape.few_tickets in
+      omega arith
 
   pub few_updates : length (updates_of h) ≤ most_tickets
   few_updates = let b = r.tickets_are in let c = r.shape.few_tickets in omega arith
@@ -95,12 +97,14 @@ module _ (capacities : List ℕ) (places tickets : ℕ) (m : Memory) (vs : List 
       record {
         works = works;
         heard = r.seen.heard id v at;
-        legal = AreUpdatesFrom-front finite.empty (updates_of v.seen) (updates_of more.0) (subst IsLegal (ap updates_of (sym more.1) ∙ updates_of-append v.seen more.0) r.legal);
+        legal = AreUpdatesFrom-front finite.empty (updates_of v.seen) (updates_of more.0)
+            (subst IsLegal (ap updates_of (sym more.1) ∙ updates_of-append v.seen more.0) r.legal);
         marks = marks_begin places v.seen h more r.marks;
         reuse = reuse_begins capacities v.seen h more r.reuse;
         met = λ p answers. r.owned.met id v p at answers;
         unused = λ p has far. r.owned.unused id v p at has far;
-        within = λ p far. front_none (own_of p v.seen) (own_of p more.0) (sym (own_of-append p v.seen more.0) ∙ ap (own_of p) more.1 ∙ r.owned.within p far);
+        within = λ p far. front_none (own_of p v.seen) (own_of p more.0)
+            (sym (own_of-append p v.seen more.0) ∙ ap (own_of p) more.1 ∙ r.owned.within p far);
       }
     where
       front_none : (xs ys : List Mark) → xs ++ ys ≡ [] → xs ≡ []
@@ -115,7 +119,8 @@ module _ (capacities : List ℕ) (places tickets : ℕ) (m : Memory) (vs : List 
       by None locked = λ some_holder. absurd (some_holder locked.0)
       by (Some hold) locked = λ some_holder.
           let u : View = locked.1 in
-          let mine : AnswersFor locked.1 locked.1.place = (let works = (r.held.held locked.0 locked.1 hold locked.2 locked.3).1 in inl (omega arith, omega arith)) in (
+          let mine : AnswersFor locked.1 locked.1.place =
+          (let works = (r.held.held locked.0 locked.1 hold locked.2 locked.3).1 in inl (omega arith, omega arith)) in (
             locked.1.place,
             locked.5,
             r.apart.within locked.0 locked.1 locked.1.place locked.2 mine,
@@ -130,7 +135,8 @@ module _ (capacities : List ℕ) (places tickets : ℕ) (m : Memory) (vs : List 
   gives_answer section inside =
       let b = (r.buckets (section.key % 64) (key_small section.key)).answered in
       record {
-        absent = λ ended. subst (WillAnswer capacities (section.key % 64) m h (updates_of h) (r.bucket (section.key % 64)).chain section) ended (b.readers id v section at inside refl);
+        absent = λ ended. subst (WillAnswer capacities (section.key % 64) m h (updates_of h)
+            (r.bucket (section.key % 64)).chain section) ended (b.readers id v section at inside refl);
         present = λ value is. b.loaded id v section value at inside refl is;
       }
 
@@ -144,7 +150,9 @@ module _ (capacities : List ℕ) (places tickets : ℕ) (m : Memory) (vs : List 
           → s ≡ slot → is_slot_of capacities (section.key % 64) slot ≡ true
       at_slot s slot way e =
           let c : ℕ = section.key % 64 in
-          subst (λ z. is_slot_of capacities c z ≡ true) e (way_slot capacities c m m h h (updates_of h) (updates_of h) (r.bucket c) (λ t _. (refl, refl, refl, refl)) (same_marks capacities c h) (r.buckets c (key_small section.key)).roles section s way)
+          subst (λ z. is_slot_of capacities c z ≡ true) e
+          (way_slot capacities c m m h h (updates_of h) (updates_of h) (r.bucket c) (λ t _. (refl, refl, refl, refl))
+          (same_marks capacities c h) (r.buckets c (key_small section.key)).roles section s way)
 
       stand_case : (state : SearchState)
           → WillAnswer capacities (section.key % 64) m h (updates_of h) (r.bucket (section.key % 64)).chain section state → (slot : ℕ)
@@ -180,14 +188,24 @@ module _ (capacities : List ℕ) (places tickets : ℕ) (m : Memory) (vs : List 
         (first ∷ q.0, q.1, p.1 ∙ ap (λ z. first ∷ z) q.2, q.3)
 
     pub link_of : (field : Field) → IsOfClass capacities hold.class field → IsLinkOf capacities hold field (m field)
-    link_of (Head d) of = subst (λ z. IsLink capacities hold.class (m (Head z))) (sym of) (first_slot capacities hold.class (λ s. m (Next s)) (m (Head hold.class)) (r.bucket hold.class).chain (chain_slot capacities hold.class (r.bucket hold.class) rule.roles) rule.chained.path)
-    link_of (Free d) of = subst (λ z. IsLink capacities hold.class (m (Free z))) (sym of) (first_slot capacities hold.class (λ s. m (Chain s)) (m (Free hold.class)) (r.bucket hold.class).free (free_slot capacities hold.class (r.bucket hold.class) rule.roles) rule.listed.free)
-    link_of (Retired d) of = subst (λ z. IsLink capacities hold.class (m (Retired z))) (sym of) (first_slot capacities hold.class (λ s. m (Chain s)) (m (Retired hold.class)) (r.bucket hold.class).retired (retired_slot capacities hold.class (r.bucket hold.class) rule.roles) rule.listed.retired)
+    link_of (Head d) of = subst (λ z. IsLink capacities hold.class (m (Head z))) (sym of)
+        (first_slot capacities hold.class (λ s. m (Next s)) (m (Head hold.class)) (r.bucket hold.class).chain
+        (chain_slot capacities hold.class (r.bucket hold.class) rule.roles) rule.chained.path)
+    link_of (Free d) of = subst (λ z. IsLink capacities hold.class (m (Free z))) (sym of)
+        (first_slot capacities hold.class (λ s. m (Chain s)) (m (Free hold.class)) (r.bucket hold.class).free
+        (free_slot capacities hold.class (r.bucket hold.class) rule.roles) rule.listed.free)
+    link_of (Retired d) of = subst (λ z. IsLink capacities hold.class (m (Retired z))) (sym of)
+        (first_slot capacities hold.class (λ s. m (Chain s)) (m (Retired hold.class)) (r.bucket hold.class).retired
+        (retired_slot capacities hold.class (r.bucket hold.class) rule.roles) rule.listed.retired)
     link_of (Next slot) of = λ on.
-        let head : IsPath (λ s. m (Next s)) on.first (r.bucket hold.class).chain = IsPath-from (λ s. m (Next s)) (m (Head hold.class)) on.first (r.bucket hold.class).chain (known (Head hold.class) on.first on.head).1 rule.chained.path in
+        let head : IsPath (λ s. m (Next s)) on.first (r.bucket hold.class).chain =
+        IsPath-from (λ s. m (Next s)) (m (Head hold.class)) on.first (r.bucket hold.class).chain
+        (known (Head hold.class) on.first on.head).1 rule.chained.path in
         let q = comes on.first on.before slot (r.bucket hold.class).chain on.comes head in
         first_slot capacities hold.class (λ s. m (Next s)) (m (Next slot)) q.1
-        (λ x there. chain_slot capacities hold.class (r.bucket hold.class) rule.roles x (let e = ap (times x) q.2 in let a = times_append x q.0 (slot ∷ q.1) in let b : times x (slot ∷ q.1) ≡ (cond (lib.Dec.eqb slot x) 1 0) + times x q.1 = refl in omega arith)) q.3
+        (λ x there. chain_slot capacities hold.class (r.bucket hold.class) rule.roles x
+        (let e = ap (times x) q.2 in let a = times_append x q.0 (slot ∷ q.1) in
+        let b : times x (slot ∷ q.1) ≡ (cond (lib.Dec.eqb slot x) 1 0) + times x q.1 = refl in omega arith)) q.3
     link_of (Key slot) of = tt
     link_of (Value slot) of = tt
     link_of (Chain slot) of = tt
@@ -198,21 +216,30 @@ module _ (capacities : List ℕ) (places tickets : ℕ) (m : Memory) (vs : List 
         → finite.get (map_of (updates_of h)) key ≡ Some (m (Value slot))
     value_now slot key on key_is =
         let chain : List ℕ = (r.bucket hold.class).chain in
-        let head : IsPath (λ s. m (Next s)) on.first (r.bucket hold.class).chain = IsPath-from (λ s. m (Next s)) (m (Head hold.class)) on.first (r.bucket hold.class).chain (known (Head hold.class) on.first on.head).1 rule.chained.path in
+        let head : IsPath (λ s. m (Next s)) on.first (r.bucket hold.class).chain =
+        IsPath-from (λ s. m (Next s)) (m (Head hold.class)) on.first (r.bucket hold.class).chain
+        (known (Head hold.class) on.first on.head).1 rule.chained.path in
         let q = comes on.first on.before slot (r.bucket hold.class).chain on.comes head in
         let is : m (Key slot) ≡ key = (known (Key slot) key key_is).1 in
-        let there : 1 ≤ times slot (r.bucket hold.class).chain = (let e = ap (times slot) q.2 in let a = times_append slot q.0 (slot ∷ q.1) in let b = times_here slot q.1 in omega arith) in
-        let class : key % 64 ≡ hold.class = ap (λ z. z % 64) (sym is) ∙ all_times (λ s. m (Key s) % 64 ≡ hold.class) (r.bucket hold.class).chain slot rule.chained.classes there in
-        let found : seek m (m (Key slot)) (r.bucket hold.class).chain ≡ Some (m (Value slot)) = ap (seek m (m (Key slot))) q.2 ∙ seek_slot m slot q.0 q.1 (subst (HaveDistinctKeys m) q.2 rule.chained.distinct) in
+        let there : 1 ≤ times slot (r.bucket hold.class).chain =
+        (let e = ap (times slot) q.2 in let a = times_append slot q.0 (slot ∷ q.1) in let b = times_here slot q.1 in omega arith) in
+        let class : key % 64 ≡ hold.class = ap (λ z. z % 64) (sym is)
+        ∙ all_times (λ s. m (Key s) % 64 ≡ hold.class) (r.bucket hold.class).chain slot rule.chained.classes there in
+        let found : seek m (m (Key slot)) (r.bucket hold.class).chain ≡ Some (m (Value slot)) =
+        ap (seek m (m (Key slot))) q.2 ∙ seek_slot m slot q.0 q.1 (subst (HaveDistinctKeys m) q.2 rule.chained.distinct) in
         rule.mapped.answers key class ∙ subst (λ z. seek m z (r.bucket hold.class).chain ≡ Some (m (Value slot))) is found
 
     -- a free slot isn't on the known walk
     pub free_off : (slot : ℕ) → slot ≢ 0 → known_in hold.known (Free hold.class) ≡ Some slot → IsOnWalk hold slot → ⊥
     free_off slot ne first_is on =
         let there : 1 ≤ times slot (r.bucket hold.class).chain = on_chain capacities places tickets m vs h r id v at hold mine slot on in
-        let p = path_cons (λ s. m (Chain s)) slot (r.bucket hold.class).free ne (subst (λ z. IsPath (λ s. m (Chain s)) z (r.bucket hold.class).free) (known (Free hold.class) slot first_is).1 rule.listed.free) in
-        let free : 1 ≤ times slot (r.bucket hold.class).free = (let e = ap (times slot) p.1 in let t = times_here slot p.0 in omega arith) in
-        in_both _ _ _ _ _ _ _ (roles_by capacities places tickets m vs h r id v at hold mine slot) (ap (λ b. cond b 1 0) (free_slot capacities hold.class (r.bucket hold.class) rule.roles slot free)) there free
+        let p = path_cons (λ s. m (Chain s)) slot (r.bucket hold.class).free ne
+        (subst (λ z. IsPath (λ s. m (Chain s)) z (r.bucket hold.class).free)
+        (known (Free hold.class) slot first_is).1 rule.listed.free) in
+        let free : 1 ≤ times slot (r.bucket hold.class).free =
+        (let e = ap (times slot) p.1 in let t = times_here slot p.0 in omega arith) in
+        in_both _ _ _ _ _ _ _ (roles_by capacities places tickets m vs h r id v at hold mine slot)
+        (ap (λ b. cond b 1 0) (free_slot capacities hold.class (r.bucket hold.class) rule.roles slot free)) there free
       where
         in_both : (a b c d e f t : ℕ) → a + b + c + d + e + f ≡ t → t ≡ 1 → 1 ≤ a → 1 ≤ b → ⊥
         in_both a b c d e f t all one first second = absurd (omega arith)
@@ -223,8 +250,10 @@ module _ (capacities : List ℕ) (places tickets : ℕ) (m : Memory) (vs : List 
     full_now field n seen found same f =
         let none : m (Retired hold.class) ≡ 0 = ap m (sym f.field_is) ∙ found ∙ f.none in
         record {
-          pairs = subst (λ z. HasPairs hold.class (map_of (updates_of z)) (capacity capacities hold.class)) (sym same) (full_class capacities places tickets m vs h r id v at hold mine f.free none f.taken f.unlinked f.moved);
-          absent = λ key class shows. subst (λ z. finite.get (map_of (updates_of z)) key ≡ None) (sym same) (rule.mapped.answers key class ∙ absent_now capacities places tickets m vs h r id v at hold mine key shows);
+          pairs = subst (λ z. HasPairs hold.class (map_of (updates_of z)) (capacity capacities hold.class)) (sym same)
+              (full_class capacities places tickets m vs h r id v at hold mine f.free none f.taken f.unlinked f.moved);
+          absent = λ key class shows. subst (λ z. finite.get (map_of (updates_of z)) key ≡ None) (sym same)
+              (rule.mapped.answers key class ∙ absent_now capacities places tickets m vs h r id v at hold mine key shows);
         }
 
     pub old_value : (slot key old : ℕ) → IsOnWalk hold slot → known_in hold.known (Key slot) ≡ Some key
@@ -250,7 +279,8 @@ module _ (capacities : List ℕ) (places tickets : ℕ) (m : Memory) (vs : List 
       turn_case : IsTurned m vs (length (updates_of h)) → updates_by commit ≡ 2 * length (updates_of h)
       turn_case (inl free) = absurd (let z : Some commit ≡ None = sym is ∙ free.1 id v at in cc)
       turn_case (inr odd) =
-          let me : id ≡ odd.0 = dite (ℕ_discrete id odd.0) (λ q. q) (λ q. absurd (let z : Some commit ≡ None = sym is ∙ odd.9 id v q at in cc)) in
+          let me : id ≡ odd.0 = dite (ℕ_discrete id odd.0) (λ q. q)
+          (λ q. absurd (let z : Some commit ≡ None = sym is ∙ odd.9 id v q at in cc)) in
           let same : v ≡ odd.1 = at_one vs id v odd.1 at (subst (λ k. get_elem? vs k ≡ some odd.1) (sym me) odd.4) in
           let e : Some commit ≡ Some odd.2 = sym is ∙ ap (λ (z : View). z.commit) same ∙ odd.5 in
           let t : commit ≡ odd.2 = cc in
@@ -261,7 +291,8 @@ module _ (capacities : List ℕ) (places tickets : ℕ) (m : Memory) (vs : List 
   has_room works = record {
     place = record {
       works = works;
-      few = (let last : ℕ = v.place + v.places - 1 in let below = r.apart.within id v last at (inl (omega arith, omega arith)) in let few = r.shape.few_places in omega arith);
+      few = (let last : ℕ = v.place + v.places - 1 in let below = r.apart.within id v last at (inl (omega arith, omega arith)) in
+          let few = r.shape.few_places in omega arith);
       held = λ hold mine. small hold mine;
     };
     few_tickets = few_tickets;
@@ -273,7 +304,8 @@ Fits (adds x) n = n + x < 18446744073709551616
 Fits (subtracts x) n = x ≤ n
 Fits _ n = Unit {0}
 
-module _ (capacities : List ℕ) (places tickets : ℕ) (m : Memory) (vs : List View) (h : List Mark) (r : MemoryRule capacities places tickets m vs h) (id : ℕ) (v : View) (at : get_elem? vs id ≡ some v) where
+module _ (capacities : List ℕ) (places tickets : ℕ) (m : Memory) (vs : List View) (h : List Mark)
+    (r : MemoryRule capacities places tickets m vs h) (id : ℕ) (v : View) (at : get_elem? vs id ≡ some v) where
   -- a section's class has its reader
   one_reader : (section : Section) → v.section ≡ Some section → 1 ≤ m (Readers (section.key % 64))
   one_reader section inside = some_reader capacities places tickets m vs h r id v at section inside (key_small section.key)
@@ -305,9 +337,15 @@ module _ (capacities : List ℕ) (places tickets : ℕ) (m : Memory) (vs : List 
 
 -- No step takes a place away.
 pub still_places : (v : View) (a : Act) (h : List Mark) (n : ℕ) → (done v a h n).places ≡ v.places
-still_places v (act.Lock class) h n = elim (n == 0) as (λ b. (cond b (record (noted v (act.Lock class) n) { hold = Some (fresh_hold class) }) (noted v (act.Lock class) n)).places ≡ v.places) [ true ↦ refl | false ↦ refl ]
-still_places v act.LoadReaders h n = elim (n == 0) as (λ b. (cond b (record (noted v act.LoadReaders n) { hold = Some (record (hold_of v) { clear = true }) }) (noted v act.LoadReaders n)).places ≡ v.places) [ true ↦ refl | false ↦ refl ]
-still_places v (act.OpenCommit even) h n = elim (n == even) as (λ b. (cond b (record (noted v (act.OpenCommit even) n) { commit = Some (record { found = even; stored = false }) }) (noted v (act.OpenCommit even) n)).places ≡ v.places) [ true ↦ refl | false ↦ refl ]
+still_places v (act.Lock class) h n = elim (n == 0) as (λ b. (cond b
+    (record (noted v (act.Lock class) n) { hold = Some (fresh_hold class) }) (noted v (act.Lock class) n)).places
+    ≡ v.places) [ true ↦ refl | false ↦ refl ]
+still_places v act.LoadReaders h n = elim (n == 0) as (λ b. (cond b
+    (record (noted v act.LoadReaders n) { hold = Some (record (hold_of v) { clear = true }) }) (noted v act.LoadReaders n)).places
+    ≡ v.places) [ true ↦ refl | false ↦ refl ]
+still_places v (act.OpenCommit even) h n = elim (n == even) as (λ b. (cond b
+    (record (noted v (act.OpenCommit even) n) { commit = Some (record { found = even; stored = false }) })
+    (noted v (act.OpenCommit even) n)).places ≡ v.places) [ true ↦ refl | false ↦ refl ]
 still_places v act.LoadFront h n = refl
 still_places v (act.Enter key) h n = refl
 still_places v act.Leave h n = refl

@@ -33,12 +33,16 @@ use Rattle.class_hash.proofs.Trails.{adds_none, adds_step}
 pub avoids : (known : List Known) (slot first : ℕ) (ss : List ℕ) → IsWholeWalk known first ss
     → ((before : List ℕ) → ComesTo known first before slot → ⊥) → AllByRecursion (λ s. s ≢ slot) ss
 avoids known slot first [] w never = tt
-avoids known slot first (s ∷ ss) w never = ((λ e. never [] (w.0 ∙ e, λ z. w.1 (e ∙ z))), avoids known slot w.2.0 ss w.2.2 (λ before c. never (s ∷ before) (w.0, w.1, (w.2.0, w.2.1, c))))
+avoids known slot first (s ∷ ss) w never = (
+  (λ e. never [] (w.0 ∙ e, λ z. w.1 (e ∙ z))),
+  avoids known slot w.2.0 ss w.2.2 (λ before c. never (s ∷ before) (w.0, w.1, (w.2.0, w.2.1, c))),
+)
 
 pub whole_still : (before after : List Known) → KnowsMore before after → (first : ℕ) (ss : List ℕ) → IsWholeWalk before first ss
     → IsWholeWalk after first ss
 whole_still before after more first [] w = w
-whole_still before after more first (s ∷ ss) w = (w.0, w.1, (w.2.0, more (Next s) w.2.0 w.2.1, whole_still before after more w.2.0 ss w.2.2))
+whole_still before after more first (s ∷ ss) w =
+    (w.0, w.1, (w.2.0, more (Next s) w.2.0 w.2.1, whole_still before after more w.2.0 ss w.2.2))
 
 -- a key that is known to be absent is so after loads
 pub absent_still : (old : Hold) (known : List Known) (key : ℕ) → KnowsMore old.known known → ShowsAbsent old key
@@ -58,8 +62,10 @@ listed_absent hold free retired key shows = record {
   first = shows.first;
   walk = shows.walk;
   head = shows.head;
-  whole = whole_kept hold.known (knowing (knowing hold (Free hold.class) free) (Retired hold.class) retired).known 0 (λ s _. refl) (λ s _. refl) shows.first shows.walk (avoids_zero hold.known shows.first shows.walk shows.whole) shows.whole;
-  lacks = lacks_kept hold.known (knowing (knowing hold (Free hold.class) free) (Retired hold.class) retired).known 0 (λ s _. refl) (λ s _. refl) key shows.walk (avoids_zero hold.known shows.first shows.walk shows.whole) shows.lacks;
+  whole = whole_kept hold.known (knowing (knowing hold (Free hold.class) free) (Retired hold.class) retired).known 0 (λ s _. refl)
+      (λ s _. refl) shows.first shows.walk (avoids_zero hold.known shows.first shows.walk shows.whole) shows.whole;
+  lacks = lacks_kept hold.known (knowing (knowing hold (Free hold.class) free) (Retired hold.class) retired).known 0 (λ s _. refl)
+      (λ s _. refl) key shows.walk (avoids_zero hold.known shows.first shows.walk shows.whole) shows.lacks;
 }
 
 polled_absent : (hold : Hold) (first key : ℕ) → ShowsAbsent hold key → ShowsAbsent (polled hold first) key
@@ -67,8 +73,10 @@ polled_absent hold first key shows = record {
   first = shows.first;
   walk = shows.walk;
   head = shows.head;
-  whole = whole_kept hold.known (polled hold first).known 0 (λ s _. refl) (λ s _. refl) shows.first shows.walk (avoids_zero hold.known shows.first shows.walk shows.whole) shows.whole;
-  lacks = lacks_kept hold.known (polled hold first).known 0 (λ s _. refl) (λ s _. refl) key shows.walk (avoids_zero hold.known shows.first shows.walk shows.whole) shows.lacks;
+  whole = whole_kept hold.known (polled hold first).known 0 (λ s _. refl) (λ s _. refl) shows.first shows.walk
+      (avoids_zero hold.known shows.first shows.walk shows.whole) shows.whole;
+  lacks = lacks_kept hold.known (polled hold first).known 0 (λ s _. refl) (λ s _. refl) key shows.walk
+      (avoids_zero hold.known shows.first shows.walk shows.whole) shows.lacks;
 }
 
 -- the slot was taken from the free list, and a pair and a next stored in it
@@ -76,18 +84,22 @@ abbrev pub taken_hold : Hold → ℕ → ℕ → Hold
 taken_hold hold slot next = record (knowing hold (Free hold.class) next) { taken = Some slot }
 
 abbrev pub filled_hold : Hold → ℕ → ℕ → ℕ → ℕ → ℕ → Hold
-filled_hold hold slot next key value first = knowing (knowing (knowing (taken_hold hold slot next) (Key slot) key) (Value slot) value) (Next slot) first
+filled_hold hold slot next key value first = knowing (knowing (knowing (taken_hold hold slot next) (Key slot) key) (Value slot) value)
+    (Next slot) first
 
 -- and after stores in a slot that isn't on the walk
 filled_absent : (hold : Hold) (slot next key value first other : ℕ) → (IsOnWalk hold slot → ⊥) → ShowsAbsent hold other
     → ShowsAbsent (filled_hold hold slot next key value first) other
 filled_absent hold slot next key value first other off shows =
-    let away : AllByRecursion (λ s. s ≢ slot) shows.walk = avoids hold.known slot shows.first shows.walk shows.whole (λ before c. off (record { first = shows.first; before = before; head = shows.head; comes = c })) in
+    let away : AllByRecursion (λ s. s ≢ slot) shows.walk =
+    avoids hold.known slot shows.first shows.walk shows.whole
+    (λ before c. off (record { first = shows.first; before = before; head = shows.head; comes = c })) in
     record {
       first = shows.first;
       walk = shows.walk;
       head = shows.head;
-      whole = whole_kept hold.known (filled_hold hold slot next key value first).known slot nexts keys shows.first shows.walk away shows.whole;
+      whole = whole_kept hold.known
+          (filled_hold hold slot next key value first).known slot nexts keys shows.first shows.walk away shows.whole;
       lacks = lacks_kept hold.known (filled_hold hold slot next key value first).known slot nexts keys other shows.walk away shows.lacks;
     }
   where
@@ -101,7 +113,13 @@ filled_absent hold slot next key value first other off shows =
 pub may_poll_still : (v w : View) → MayPoll v → HasStepped v w → MayPoll w
 may_poll_still v w may idle = record {
   hold = may.hold;
-  finished = record { hold_is = ap (λ (z : View). z.hold) idle.view ∙ may.finished.hold_is; taken = may.finished.taken; unlinked = may.finished.unlinked; moved = may.finished.moved; even = ap (λ (z : View). z.commit) idle.view ∙ may.finished.even };
+  finished = record {
+    hold_is = ap (λ (z : View). z.hold) idle.view ∙ may.finished.hold_is;
+    taken = may.finished.taken;
+    unlinked = may.finished.unlinked;
+    moved = may.finished.moved;
+    even = ap (λ (z : View). z.commit) idle.view ∙ may.finished.even;
+  };
   free = may.free;
   first = may.first;
   some = may.some;
@@ -110,14 +128,17 @@ may_poll_still v w may idle = record {
 
 pub polled_on : (v w x : View) → HasStepped v w → Refilled w x → HasPolled v x
 polled_on v w x idle r =
-    let F : View → View = λ z. record (stepped (stepped (stepped z H8 (Readers r.hold.class) 0) H10 (Retired r.hold.class) 0) H10 (Free r.hold.class) r.first) { hold = Some (polled r.hold r.first) } in
+    let F : View → View = λ z. record (stepped (stepped (stepped z H8 (Readers r.hold.class) 0) H10 (Retired r.hold.class) 0) H10
+    (Free r.hold.class) r.first) { hold = Some (polled r.hold r.first) } in
     let whole : x ≡ F (record v { trail = w.trail }) = r.rest ∙ ap F idle.view in
     record {
       hold = r.hold;
       is = sym (ap (λ (z : View). z.hold) idle.view) ∙ r.is;
       first = r.first;
       retired = r.retired;
-      trail = subst (λ (z : View). AddsNoLists v.trail z.trail) (sym whole) (adds_step v.trail _ H10 (Free r.hold.class) r.first refl (adds_step v.trail _ H10 (Retired r.hold.class) 0 refl (adds_step v.trail w.trail H8 (Readers r.hold.class) 0 refl idle.trail)));
+      trail = subst (λ (z : View). AddsNoLists v.trail z.trail) (sym whole)
+          (adds_step v.trail _ H10 (Free r.hold.class) r.first refl
+          (adds_step v.trail _ H10 (Retired r.hold.class) 0 refl (adds_step v.trail w.trail H8 (Readers r.hold.class) 0 refl idle.trail)));
       view = whole ∙ sym (ap (λ (z : View). record v { hold = Some (polled r.hold r.first); trail = z.trail }) whole);
     }
 
@@ -126,7 +147,8 @@ waited_on v w x (Counter class side count) idle p =
     let F : View → View = λ z. stepped z H8 (Readers p.1.hold.class) count in
     let whole : x ≡ F (record v { trail = w.trail }) = p.1.rest ∙ ap F idle.view in
     record {
-      trail = subst (λ (z : View). AddsNoLists v.trail z.trail) (sym whole) (adds_step v.trail w.trail H8 (Readers p.1.hold.class) count refl idle.trail);
+      trail = subst (λ (z : View). AddsNoLists v.trail z.trail) (sym whole)
+          (adds_step v.trail w.trail H8 (Readers p.1.hold.class) count refl idle.trail);
       view = whole ∙ sym (ap (λ (z : View). record v { trail = z.trail }) whole);
     }
 waited_on v w x _ idle p = absurd p
@@ -140,7 +162,13 @@ module _ (capacities : List ℕ) (v : View) (f : HasFinished v) (free retired : 
   needs = let z : Some f.0 ≡ Some l.hold = sym f.1.hold_is ∙ l.is in let e : f.0 ≡ l.hold = cc in subst (NeedsUnlock v) e f.1
 
   needs_listed : NeedsUnlock x listed_hold
-  needs_listed = record { hold_is = ap (λ (z : View). z.hold) l.rest; taken = needs.taken; unlinked = needs.unlinked; moved = needs.moved; even = ap (λ (z : View). z.commit) l.rest ∙ needs.even }
+  needs_listed = record {
+    hold_is = ap (λ (z : View). z.hold) l.rest;
+    taken = needs.taken;
+    unlinked = needs.unlinked;
+    moved = needs.moved;
+    even = ap (λ (z : View). z.commit) l.rest ∙ needs.even;
+  }
 
   free_is : known_in listed_hold.known (Free l.hold.class) ≡ Some free
   free_is = known_here l.hold (Free l.hold.class) free
@@ -167,20 +195,36 @@ module _ (capacities : List ℕ) (v : View) (f : HasFinished v) (free retired : 
   }
 
   pub may_poll : free ≡ 0 → retired ≢ 0 → MayPoll x
-  may_poll none ne = record { hold = listed_hold; finished = needs_listed; free = free_is ∙ ap Some none; first = retired; some = ne; retired = retired_is }
+  may_poll none ne = record {
+    hold = listed_hold;
+    finished = needs_listed;
+    free = free_is ∙ ap Some none;
+    first = retired;
+    some = ne;
+    retired = retired_is;
+  }
 
   pub free_polled : retired ≢ 0 → (y : View) → HasPolled x y → HasFree capacities v retired y
   free_polled ne y p =
       let same : p.hold ≡ listed_hold = (let z : Some p.hold ≡ Some listed_hold = sym p.is ∙ ap (λ (u : View). u.hold) l.rest in cc) in
-      let known : known_in listed_hold.known (Retired l.hold.class) ≡ Some p.first = subst (λ (k : Hold). known_in k.known (Retired k.class) ≡ Some p.first) same p.retired in
+      let known : known_in listed_hold.known (Retired l.hold.class) ≡ Some p.first =
+      subst (λ (k : Hold). known_in k.known (Retired k.class) ≡ Some p.first) same p.retired in
       let number : p.first ≡ retired = (let z : Some p.first ≡ Some retired = sym known ∙ retired_is in cc) in
-      let whole : y ≡ record v { hold = Some (polled listed_hold retired); trail = y.trail; seen = x.seen } = p.view ∙ ap (λ (k : Hold). record x { hold = Some (polled k p.first); trail = y.trail }) same ∙ ap (λ n. record x { hold = Some (polled listed_hold n); trail = y.trail }) number
+      let whole : y ≡ record v { hold = Some (polled listed_hold retired); trail = y.trail; seen = x.seen } =
+      p.view ∙ ap (λ (k : Hold). record x { hold = Some (polled k p.first); trail = y.trail }) same
+      ∙ ap (λ n. record x { hold = Some (polled listed_hold n); trail = y.trail }) number
       ∙ ap (λ (u : View). record u { hold = Some (polled listed_hold retired); trail = y.trail; seen = x.seen }) l.rest in
       record {
         hold = l.hold;
         new = polled listed_hold retired;
         was = l.is;
-        finished = record { hold_is = ap (λ (u : View). u.hold) whole; taken = needs.taken; unlinked = needs.unlinked; moved = refl; even = ap (λ (u : View). u.commit) whole ∙ needs.even };
+        finished = record {
+          hold_is = ap (λ (u : View). u.hold) whole;
+          taken = needs.taken;
+          unlinked = needs.unlinked;
+          moved = refl;
+          even = ap (λ (u : View). u.commit) whole ∙ needs.even;
+        };
         class = refl;
         first = known_here (knowing listed_hold (Retired l.hold.class) 0) (Free l.hold.class) retired;
         slot_is = l.retired_link ne;
@@ -191,7 +235,8 @@ module _ (capacities : List ℕ) (v : View) (f : HasFinished v) (free retired : 
       }
 
 -- the chain of the slot and the head were loaded
-module _ {table : TableAt} {v : View} {slot key : ℕ} (value : ℕ) (may : MayFill table.capacities v slot key) {next : ℕ} {x1 : View} (a : Told table v (act.LockedLoad (Chain slot)) next x1) where
+module _ {table : TableAt} {v : View} {slot key : ℕ} (value : ℕ) (may : MayFill table.capacities v slot key) {next : ℕ} {x1 : View}
+    (a : Told table v (act.LockedLoad (Chain slot)) next x1) where
   none_loaded : HasLoaded v may.hold v may.hold
   none_loaded = not_loaded v may.hold may.finished.hold_is
 
@@ -245,7 +290,8 @@ module _ {table : TableAt} {v : View} {slot key : ℕ} (value : ℕ) (may : MayF
       view3 : x3 ≡ v3
       view3 = goes_on loaded2.view t
 
-      pub may_write_key : (hold : Hold) × (other : ℕ) × NeedsWrite x3 hold other (Key slot) × (is_slot_of table.capacities hold.class slot ≡ true)
+      pub may_write_key : (hold : Hold) × (other : ℕ) × NeedsWrite x3 hold other (Key slot)
+          × (is_slot_of table.capacities hold.class slot ≡ true)
       may_write_key = (k3, slot, record { hold_is = ap (λ (z : View). z.hold) view3; taken = refl; field_is = refl }, may.slot_is)
 
       module _ {x4 : View} (d : Told table x3 (act.Fill (Key slot) key) key x4) where
@@ -258,7 +304,8 @@ module _ {table : TableAt} {v : View} {slot key : ℕ} (value : ℕ) (may : MayF
         view4 : x4 ≡ v4
         view4 = goes_on view3 d
 
-        pub may_write_value : (hold : Hold) × (other : ℕ) × NeedsWrite x4 hold other (Value slot) × (is_slot_of table.capacities hold.class slot ≡ true)
+        pub may_write_value : (hold : Hold) × (other : ℕ) × NeedsWrite x4 hold other (Value slot)
+            × (is_slot_of table.capacities hold.class slot ≡ true)
         may_write_value = (k4, slot, record { hold_is = ap (λ (z : View). z.hold) view4; taken = refl; field_is = refl }, may.slot_is)
 
         module _ {x5 : View} (e : Told table x4 (act.Fill (Value slot) value) value x5) where
@@ -271,7 +318,8 @@ module _ {table : TableAt} {v : View} {slot key : ℕ} (value : ℕ) (may : MayF
           view5 : x5 ≡ v5
           view5 = goes_on view4 e
 
-          pub may_write_next : (hold : Hold) × (other : ℕ) × NeedsWrite x5 hold other (Next slot) × (is_slot_of table.capacities hold.class slot ≡ true)
+          pub may_write_next : (hold : Hold) × (other : ℕ) × NeedsWrite x5 hold other (Next slot)
+              × (is_slot_of table.capacities hold.class slot ≡ true)
           may_write_next = (k5, slot, record { hold_is = ap (λ (z : View). z.hold) view5; taken = refl; field_is = refl }, may.slot_is)
 
           pub filled : {x6 : View} → Told table x5 (act.Fill (Next slot) first) first x6 → Filled v slot key value x6
@@ -292,11 +340,17 @@ module _ {table : TableAt} {v : View} {slot key : ℕ} (value : ℕ) (may : MayF
                   key_is = known_here k3 (Key slot) key;
                   value_is = known_here k4 (Value slot) value;
                   next_is = known_here k5 (Next slot) first;
-                  head_is = subst (λ z. known_in k2.known (Head z) ≡ Some first) is (known_here (knowing may.hold (Chain slot) next) (Head class) first);
+                  head_is = subst (λ z. known_in k2.known (Head z) ≡ Some first) is
+                      (known_here (knowing may.hold (Chain slot) next) (Head class) first);
                   class = may.class;
                   absent = filled_absent k2 slot next key value first key off (absent_still may.hold k2.known key more2 may.absent);
                   ticket = subst (λ n. 1 ≤ n) (sym (ap (λ (z : View). z.tickets) view6)) may.ticket;
                 };
-                trail = subst (λ (z : View). AddsNoLists v.trail z.trail) (sym view6) (adds_step v.trail _ H11 (Next slot) first refl (adds_step v.trail _ H11 (Value slot) value refl (adds_step v.trail _ H11 (Key slot) key refl (adds_step v.trail x2.trail H10 (Free may.hold.class) next refl loaded2.trail))));
-                view = view6 ∙ sym (ap (λ (z : View). record v { hold = z.hold; trail = z.trail; seen = t.marks ++ Given slot ∷ [] }) view6);
+                trail = subst (λ (z : View). AddsNoLists v.trail z.trail) (sym view6)
+                    (adds_step v.trail _ H11 (Next slot) first refl
+                    (adds_step v.trail _ H11 (Value slot) value refl
+                    (adds_step v.trail _ H11 (Key slot) key refl
+                    (adds_step v.trail x2.trail H10 (Free may.hold.class) next refl loaded2.trail))));
+                view = view6 ∙ sym (ap (λ (z : View). record v
+                    { hold = z.hold; trail = z.trail; seen = t.marks ++ Given slot ∷ [] }) view6);
               }

@@ -30,33 +30,44 @@ use Rattle.class_hash.proofs.Facts.{held_by_other, gives_answer, stands_in_class
 left_answer : (section : Section) (h : List Mark) (place count : ℕ) → GivesAnswer h section
     → GivesAnswer (h ++ Left place count ∷ []) section
 left_answer section h place count gives =
-    let same : updates_of (h ++ Left place count ∷ []) ≡ updates_of h = updates_of-append h (Left place count ∷ []) ∙ append-nil (updates_of h) in
+    let same : updates_of (h ++ Left place count ∷ []) ≡ updates_of h =
+    updates_of-append h (Left place count ∷ []) ∙ append-nil (updates_of h) in
     record {
       absent = λ ended. subst (λ us. WasSaid us section.key section.from None) (sym same) (gives.absent ended);
       present = λ value is. subst (λ us. WasSaid us section.key section.from (Some value)) (sym same) (gives.present value is);
     }
 
-module _ (capacities : List ℕ) (places tickets : ℕ) (t : TableAt) (of_table : t.capacities ≡ capacities) (at_places : t.places ≡ places) (m : Memory) (vs : List View) (h : List Mark) (r : MemoryRule capacities places tickets m vs h) (id : ℕ) (v : View) (at : get_elem? vs id ≡ some v) where
+module _ (capacities : List ℕ) (places tickets : ℕ) (t : TableAt) (of_table : t.capacities ≡ capacities) (at_places : t.places ≡ places)
+    (m : Memory) (vs : List View) (h : List Mark) (r : MemoryRule capacities places tickets m vs h) (id : ℕ) (v : View)
+    (at : get_elem? vs id ≡ some v) where
   -- after an update
-  counted : (a : Act) → 1 ≤ v.places → Needs capacities v a → let w = done v a h (m (field_of v a)) in w.commit ≡ Some (record { found = (commit_of v).found; stored = true }) → w.seen ≡ h ++ marks_of v a → IsCounted v w
+  counted : (a : Act) → 1 ≤ v.places → Needs capacities v a → let w = done v a h (m (field_of v a)) in
+      w.commit ≡ Some (record { found = (commit_of v).found; stored = true }) → w.seen ≡ h ++ marks_of v a → IsCounted v w
   counted a works needs made seen =
       let n : ℕ = m (field_of v a) in
       let kept = (acts_keep capacities places tickets m vs h id v a r at works needs).rule in
-      record { position = position capacities places tickets _ _ _ kept id (done v a h n) (set_here vs id (done v a h n) (at_below vs id v at)) (record { found = (commit_of v).found; stored = true }) made ∙ ap (λ z. 2 * length (updates_of z)) (sym seen) }
+      record {
+        position = position capacities places tickets _ _ _ kept id (done v a h n)
+            (set_here vs id (done v a h n) (at_below vs id v at)) (record { found = (commit_of v).found; stored = true }) made
+            ∙ ap (λ z. 2 * length (updates_of z)) (sym seen);
+      }
 
   pub gains : (a : Act) → 1 ≤ v.places → Needs capacities v a
       → Gains t v a h (said v a (m (field_of v a))) (done v a h (m (field_of v a)))
   gains LoadFront works d = tt
   gains (Enter key) works d = tt
   gains Leave works d =
-      subst (GivesAnswer (h ++ Left v.place (section_of v).count ∷ [])) (sym (section_is v d.0 d.1)) (left_answer d.0 h v.place (section_of v).count (gives_answer capacities places tickets m vs h r id v at d.0 d.1))
+      subst (GivesAnswer (h ++ Left v.place (section_of v).count ∷ [])) (sym (section_is v d.0 d.1))
+      (left_answer d.0 h v.place (section_of v).count (gives_answer capacities places tickets m vs h r id v at d.0 d.1))
   gains (SearchLoad field) works d =
       let w : View = done v (SearchLoad field) h (m field) in
       let kept = (acts_keep capacities places tickets m vs h id v (SearchLoad field) r at works d).rule in
-      subst (λ cs. StandsInClass cs (section_of w)) (sym of_table) (stands_in_class capacities places tickets _ _ _ kept id w (set_here vs id w (at_below vs id v at)) (section_of w) refl)
+      subst (λ cs. StandsInClass cs (section_of w)) (sym of_table)
+      (stands_in_class capacities places tickets _ _ _ kept id w (set_here vs id w (at_below vs id v at)) (section_of w) refl)
   gains (Lock class) works d = record {
     even = quiet_turn m vs _ r.turned id v at d.1.1;
-    other = subst (λ n. IsHeldByOther n v (m (LockWord class))) (sym at_places) (held_by_other capacities places tickets m vs h r id v at class d.0 d.1.1);
+    other = subst (λ n. IsHeldByOther n v (m (LockWord class))) (sym at_places)
+        (held_by_other capacities places tickets m vs h r id v at class d.0 d.1.1);
   }
   gains Unlock works d = tt
   gains LoadReaders works d = tt
@@ -65,10 +76,12 @@ module _ (capacities : List ℕ) (places tickets : ℕ) (t : TableAt) (of_table 
       let tells : TellsWord capacities d.0 field (m field) w = record {
         link = link_of capacities places tickets m vs h r id v at d.0 d.1 field d.2;
         same = λ number is. (is_known capacities places tickets m vs h r id v at d.0 d.1 field number is).1;
-        full = λ f. full_now capacities places tickets m vs h r id v at d.0 d.1 field (m field) w.seen refl (ap (λ b. cond b h v.seen) (eq-eqb (m field) 0 f.none)) f;
+        full = λ f. full_now capacities places tickets m vs h r id v at d.0 d.1 field (m field) w.seen refl
+            (ap (λ b. cond b h v.seen) (eq-eqb (m field) 0 f.none)) f;
       } in
       subst (λ (z : List ℕ × Hold). TellsWord z.0 z.1 field (m field) w) (λ i. (sym of_table i, sym (hold_is v d.0 d.1) i)) tells
-  gains (TakeSlot slot next) works d = subst (λ (z : Hold). IsOnWalk z slot → ⊥) (sym (hold_is v d.0 d.1.hold_is)) (free_off capacities places tickets m vs h r id v at d.0 d.1.hold_is slot d.1.some d.1.first)
+  gains (TakeSlot slot next) works d = subst (λ (z : Hold). IsOnWalk z slot → ⊥) (sym (hold_is v d.0 d.1.hold_is))
+      (free_off capacities places tickets m vs h r id v at d.0 d.1.hold_is slot d.1.some d.1.first)
   gains (TakeRetired slot) works d = tt
   gains (FreeRetired slot) works d = tt
   gains (StoreChain slot number) works d = tt
@@ -79,6 +92,7 @@ module _ (capacities : List ℕ) (places tickets : ℕ) (t : TableAt) (of_table 
   gains (UnlinkSlot link slot key next) works d = counted (UnlinkSlot link slot key next) works d refl refl
   gains (ReplaceValue slot key value) works d = record {
     counted = counted (ReplaceValue slot key value) works d refl refl;
-    was = λ old is. old_value capacities places tickets m vs h r id v at d.0 d.2.commit.hold_is slot key old d.2.on_walk d.2.key_is (subst (λ (z : Hold). known_in z.known (Value slot) ≡ Some old) (hold_is v d.0 d.2.commit.hold_is) is);
+    was = λ old is. old_value capacities places tickets m vs h r id v at d.0 d.2.commit.hold_is slot key old d.2.on_walk d.2.key_is
+        (subst (λ (z : Hold). known_in z.known (Value slot) ≡ Some old) (hold_is v d.0 d.2.commit.hold_is) is);
   }
   gains (CloseCommit front) works d = tt

@@ -18,7 +18,8 @@ fresh_informed capacities places tickets some_place = record {
   within = λ p far. refl;
 }
 
-module _ (capacities : List ℕ) (places : ℕ) (v : View) (away tickets : ℕ) (some_place : 1 ≤ away) (fewer : away < v.places) (informed : IsInformed capacities places v) where
+module _ (capacities : List ℕ) (places : ℕ) (v : View) (away tickets : ℕ) (some_place : 1 ≤ away) (fewer : away < v.places)
+    (informed : IsInformed capacities places v) where
   first_place : (p : ℕ) → HasPlace (first_of away tickets v) p → HasPlace v p
   first_place p has = let low = has.0 in let high = has.1 in (low, omega arith)
 
@@ -49,7 +50,8 @@ module _ (capacities : List ℕ) (places : ℕ) (v : View) (away tickets : ℕ) 
       legal = informed.legal;
       marks = informed.marks;
       reuse = informed.reuse;
-      met = λ p answers. let s = second_place p answers in informed.met p (inl s.0) ∙ informed.unused p s.0 (λ e. let more = s.1 in omega arith);
+      met = λ p answers. let s = second_place p answers in
+          informed.met p (inl s.0) ∙ informed.unused p s.0 (λ e. let more = s.1 in omega arith);
       unused = λ p has far. refl;
       within = informed.within;
     },

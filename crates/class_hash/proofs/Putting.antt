@@ -34,7 +34,11 @@ module _ {v : View} {slot key value : ℕ} (may : MayLink v slot key value) {eve
     even,
     may.first,
     record {
-      commit = record { hold_is = ap (λ (z : View). z.hold) t.view ∙ may.is; commit_is = ap (λ (z : View). z.commit) t.view; ticket = subst (λ n. 1 ≤ n) (sym (ap (λ (z : View). z.tickets) t.view)) may.ticket };
+      commit = record {
+        hold_is = ap (λ (z : View). z.hold) t.view ∙ may.is;
+        commit_is = ap (λ (z : View). z.commit) t.view;
+        ticket = subst (λ n. 1 ≤ n) (sym (ap (λ (z : View). z.tickets) t.view)) may.ticket;
+      };
       taken = may.taken;
       key_is = may.key_is;
       value_is = may.value_is;
@@ -53,7 +57,8 @@ module _ {v : View} {slot key value : ℕ} (may : MayLink v slot key value) {eve
     v2 = after_link (stepped v1 H13 (Head may.hold.class) slot) may.hold even slot key value c.marks
 
     view2 : x2 ≡ v2
-    view2 = goes_on t.view c ∙ ap (λ (k : Hold). after_link (stepped v1 H13 (Head k.class) slot) k even slot key value c.marks) (hold_is v may.hold may.is)
+    view2 = goes_on t.view c ∙ ap (λ (k : Hold). after_link (stepped v1 H13 (Head k.class) slot) k even slot key value c.marks)
+        (hold_is v may.hold may.is)
 
     pub may_even : (e : ℕ) × NeedsEven x2 e × (even + 2 ≡ e + 2)
     may_even = (even, ap (λ (z : View). z.commit) view2, refl)
@@ -66,7 +71,16 @@ module _ {v : View} {slot key value : ℕ} (may : MayLink v slot key value) {eve
       view3 = goes_on view2 d
 
       pub may_unlock : (hold : Hold) × NeedsUnlock x3 hold
-      may_unlock = (record (knowing may.hold (Head may.hold.class) slot) { taken = None }, record { hold_is = ap (λ (z : View). z.hold) view3; taken = refl; unlinked = may.unlinked; moved = may.moved; even = ap (λ (z : View). z.commit) view3 })
+      may_unlock = (
+        record (knowing may.hold (Head may.hold.class) slot) { taken = None },
+        record {
+          hold_is = ap (λ (z : View). z.hold) view3;
+          taken = refl;
+          unlinked = may.unlinked;
+          moved = may.moved;
+          even = ap (λ (z : View). z.commit) view3;
+        },
+      )
 
       pub linked : {x4 : View} → Unlocks x3 x4 → Linked v key value (even / 2 + 1) x4
       linked {x4} e =
@@ -78,15 +92,24 @@ module _ {v : View} {slot key value : ℕ} (may : MayLink v slot key value) {eve
             before = c.marks;
             since = subst (λ (z : View). IsPrefix z.seen c.marks) t.view c.begins;
             legal = subst (λ z. IsLegal (updates_of z)) (sym seen4) c.informed.legal;
-            number_is = (let half : even / 2 + 1 ≡ length (updates_of x2.seen) = omega arith in half) ∙ ap (λ z. length (updates_of z)) (sym seen4);
+            number_is = (let half : even / 2 + 1 ≡ length (updates_of x2.seen) = omega arith in half)
+                ∙ ap (λ z. length (updates_of z)) (sym seen4);
             view = last ∙ ap (λ (q : Option Commit). record (goes_by act.Unlock [] 0 v3) { commit = q }) (sym may.commit)
-                ∙ sym (ap (λ (z : View). record v { tickets = v.tickets - 1; hold = None; own = v.own ++ Done (record { caller = v.place; op = Put key value }) ∷ []; trail = z.trail; seen = c.marks ++ Done (record { caller = v.place; op = Put key value }) ∷ [] }) last);
+                ∙ sym (ap (λ (z : View). record v {
+                  tickets = v.tickets - 1;
+                  hold = None;
+                  own = v.own ++ Done (record { caller = v.place; op = Put key value }) ∷ [];
+                  trail = z.trail;
+                  seen = c.marks ++ Done (record { caller = v.place; op = Put key value }) ∷ [];
+                }) last);
           }
 
       pub linked_trail : {x4 : View} → Unlocks x3 x4 → AddsNoLists v.trail x4.trail
       linked_trail {x4} e =
           let last : x4 ≡ goes_by act.Unlock [] 0 v3 = e ∙ ap (goes_by act.Unlock [] 0) view3 in
-          subst (λ (z : View). AddsNoLists v.trail z.trail) (sym last) (adds_step v.trail _ H7 (Lock may.hold.class) 0 refl (adds_step v.trail _ H16 Front (even + 2) refl (adds_step v.trail x1.trail H13 (Head may.hold.class) slot refl t.trail)))
+          subst (λ (z : View). AddsNoLists v.trail z.trail) (sym last)
+          (adds_step v.trail _ H7 (Lock may.hold.class) 0 refl
+          (adds_step v.trail _ H16 Front (even + 2) refl (adds_step v.trail x1.trail H13 (Head may.hold.class) slot refl t.trail)))
 
 -- a slot that is free may be filled
 pub may_fill : (capacities : List ℕ) (v x : View) (key free slot : ℕ) → MayAdd v key → HasFree capacities v free x → slot ≡ free
@@ -107,19 +130,33 @@ may_fill capacities v x key free slot may f is =
 pub added : (capacities : List ℕ) (v x y w : View) (key value free slot number : ℕ) → HasFree capacities v free x
     → Filled x slot key value y → Linked y key value number w → AddsNoLists y.trail w.trail → Added capacities v key value number w
 added capacities v x y w key value free slot number f g l on =
-    let F : View → View = λ z. record z { tickets = z.tickets - 1; hold = None; own = z.own ++ Done (record { caller = z.place; op = Put key value }) ∷ []; trail = w.trail; seen = l.before ++ Done (record { caller = z.place; op = Put key value }) ∷ [] } in
+    let F : View → View = λ z. record z {
+      tickets = z.tickets - 1;
+      hold = None;
+      own = z.own ++ Done (record { caller = z.place; op = Put key value }) ∷ [];
+      trail = w.trail;
+      seen = l.before ++ Done (record { caller = z.place; op = Put key value }) ∷ [];
+    } in
     let since : IsPrefix v.seen g.before = prefix_trans v.seen x.seen g.before f.seen g.since in
     let until_w : AddsNoLists x.trail w.trail = adds_both x.trail y.trail w.trail g.trail on in
     let until : IsPrefix (g.before ++ Given slot ∷ []) l.before = subst (λ (z : View). IsPrefix z.seen l.before) g.view l.since in
     record {
       linked = record {
         before = l.before;
-        since = prefix_trans v.seen g.before l.before since (prefix_trans g.before (g.before ++ Given slot ∷ []) l.before (Given slot ∷ [], refl) until);
+        since = prefix_trans v.seen g.before l.before since
+            (prefix_trans g.before (g.before ++ Given slot ∷ []) l.before (Given slot ∷ [], refl) until);
         legal = l.legal;
         number_is = l.number_is;
         view = l.view ∙ ap F g.view ∙ ap F f.view;
       };
       slot = slot;
       given = record { before = g.before; since = since; until = until };
-      room = record { listed = f.room.listed; free = f.room.free; retired = f.room.retired; lists = f.room.lists; some = f.room.some; trail = adds_both f.room.listed.trail x.trail w.trail f.room.trail until_w };
+      room = record {
+        listed = f.room.listed;
+        free = f.room.free;
+        retired = f.room.retired;
+        lists = f.room.lists;
+        some = f.room.some;
+        trail = adds_both f.room.listed.trail x.trail w.trail f.room.trail until_w;
+      };
     }

@@ -31,7 +31,8 @@ module _ {V : Type 0} (place : V → ℕ) where
   without_else p f v ne = ap (λ b. cond b 0 (f v)) (ne_eqb (place v) p ne)
 
   without_less : (p : ℕ) (f : V → ℕ) (v : V) → without p f v ≤ f v
-  without_less p f v = dite (ℕ_discrete (place v) p) (λ e. let a = without_here p f v e in omega arith) (λ ne. let a = without_else p f v ne in omega arith)
+  without_less p f v = dite (ℕ_discrete (place v) p) (λ e. let a = without_here p f v e in omega arith)
+      (λ ne. let a = without_else p f v ne in omega arith)
 
   -- where no element of the place counts, nothing is left out
   none_there : (p : ℕ) (f : V → ℕ) (vs : List V) → ((i : ℕ) (v : V) → get_elem? vs i ≡ some v → place v ≡ p → f v ≡ 0)
@@ -50,13 +51,17 @@ module _ {V : Type 0} (place : V → ℕ) where
       dite (ℕ_discrete (place x) p)
       (λ e. dite (dec_le 1 (f x))
       (λ counts.
-      let rest = none_there p f xs (λ i v there at. dite (dec_le 1 (f v)) (λ some_one. absurd (let z : 0 ≡ suc i = apart 0 (suc i) x v refl there counts some_one (e ∙ sym at) in omega arith)) (λ none. omega arith)) in
+      let rest = none_there p f xs (λ i v there at. dite (dec_le 1 (f v))
+      (λ some_one. absurd (let z : 0 ≡ suc i = apart 0 (suc i) x v refl there counts some_one (e ∙ sym at) in omega arith))
+      (λ none. omega arith)) in
       let a = without_here p f x e in let b = (few 0 x refl).0 in omega arith)
       (λ none.
-      let rest = one_there p bound f xs (λ i j v w a b c d s. let z : suc i ≡ suc j = apart (suc i) (suc j) v w a b c d s in omega arith) (λ i v at. few (suc i) v at) in
+      let rest = one_there p bound f xs (λ i j v w a b c d s. let z : suc i ≡ suc j = apart (suc i) (suc j) v w a b c d s in omega arith)
+      (λ i v at. few (suc i) v at) in
       let a = without_here p f x e in omega arith))
       (λ ne.
-      let rest = one_there p bound f xs (λ i j v w a b c d s. let z : suc i ≡ suc j = apart (suc i) (suc j) v w a b c d s in omega arith) (λ i v at. few (suc i) v at) in
+      let rest = one_there p bound f xs (λ i j v w a b c d s. let z : suc i ≡ suc j = apart (suc i) (suc j) v w a b c d s in omega arith)
+      (λ i v at. few (suc i) v at) in
       let a = without_else p f x ne in omega arith)
 
   none_counts : (f : V → ℕ) (vs : List V) → AreFew f 0 vs → total f vs ≡ 0

@@ -31,7 +31,14 @@ module _ (v : View) (key : ℕ) where
   -- the view in the section
   abbrev inside : List Mark → List StepMade → SearchState → Option ℕ → View
   inside before steps state loaded = record v {
-    section = Some (record { key = key; count = v.sections; entered = length before; from = length (updates_of before); state = state; loaded = loaded });
+    section = Some (record {
+      key = key;
+      count = v.sections;
+      entered = length before;
+      from = length (updates_of before);
+      state = state;
+      loaded = loaded;
+    });
     sections = v.sections + 1;
     own = v.own ++ Entered v.place v.sections key ∷ [];
     trail = v.trail ++ steps;
@@ -54,7 +61,8 @@ module _ (v : View) (key : ℕ) where
         made = record {
           entry = i.made.entry;
           loads = i.made.loads ++ step ∷ [];
-          inside = all_append (λ (step : StepMade). step.kind ≡ H5) i.made.loads (record { kind = H5; field = field; number = n } ∷ []) i.made.inside (refl, tt);
+          inside = all_append (λ (step : StepMade). step.kind ≡ H5) i.made.loads
+              (record { kind = H5; field = field; number = n } ∷ []) i.made.inside (refl, tt);
           are = ap (λ steps. steps ++ record { kind = H5; field = field; number = n } ∷ []) i.made.are;
         };
         since = i.since;
@@ -80,14 +88,17 @@ module _ (v : View) (key : ℕ) where
 
   -- a link was loaded
   pub at_link : (t : TableAt) (state : SearchState) (field : Field) (link : ℕ) (w x : View)
-      → ((entered from : ℕ) → ◌≡◌ {A = Section} (searched (at entered from state None) state field link) (at entered from (link_stand link) None))
+      → ((entered from : ℕ) → ◌≡◌ {A = Section} (searched (at entered from state None) state field link)
+      (at entered from (link_stand link) None))
       → IsSearching v key state None w → Told t w (SearchLoad field) link x → IsAtLink t.capacities v key link x
   at_link t state field link w x goes i told =
       let further = moved t state (link_stand link) None None field link w x goes i told in
-      let stood : ◌≡◌ {A = Section} (section_of x) (at (length i.before) (length (updates_of i.before)) (link_stand link) None) = section_is x _ (section_at (link_stand link) None x further) in
+      let stood : ◌≡◌ {A = Section} (section_of x) (at (length i.before) (length (updates_of i.before)) (link_stand link) None) =
+      section_is x _ (section_at (link_stand link) None x further) in
       record {
         searching = further;
-        slot = λ ne. subst (λ (z : Section). is_slot_of t.capacities (z.key % 64) link ≡ true) stood (told.gains link (subst (λ (z : Section). StandsAt z.state link) (sym stood) (stands link ne)));
+        slot = λ ne. subst (λ (z : Section). is_slot_of t.capacities (z.key % 64) link ≡ true) stood
+            (told.gains link (subst (λ (z : Section). StandsAt z.state link) (sym stood) (stands link ne)));
       }
 
   -- the stand at a link that isn't 0, and at one that is
@@ -106,12 +117,26 @@ module _ (v : View) (key : ℕ) where
   pub found_key : (t : TableAt) (slot n : ℕ) (w x : View) → n ≡ key → IsSearching v key (Unread slot) None w
       → Told t w (SearchLoad (Key slot)) n x → IsSearching v key (Found slot) None x
   found_key t slot n w x e i s = moved t (Unread slot) (Found slot) None None (Key slot) n w x
-      (λ entered from j. record { key = key; count = v.sections; entered = entered; from = from; state = ap (λ b. cond b (Found slot) (Passed slot)) (eq-eqb n key e) j; loaded = None }) i s
+      (λ entered from j. record {
+        key = key;
+        count = v.sections;
+        entered = entered;
+        from = from;
+        state = ap (λ b. cond b (Found slot) (Passed slot)) (eq-eqb n key e) j;
+        loaded = None;
+      }) i s
 
   pub passed_key : (t : TableAt) (slot n : ℕ) (w x : View) → n ≢ key → IsSearching v key (Unread slot) None w
       → Told t w (SearchLoad (Key slot)) n x → IsSearching v key (Passed slot) None x
   passed_key t slot n w x ne i s = moved t (Unread slot) (Passed slot) None None (Key slot) n w x
-      (λ entered from j. record { key = key; count = v.sections; entered = entered; from = from; state = ap (λ b. cond b (Found slot) (Passed slot)) (ne_eqb n key ne) j; loaded = None }) i s
+      (λ entered from j. record {
+        key = key;
+        count = v.sections;
+        entered = entered;
+        from = from;
+        state = ap (λ b. cond b (Found slot) (Passed slot)) (ne_eqb n key ne) j;
+        loaded = None;
+      }) i s
 
   pub read_value : (t : TableAt) (slot n : ℕ) (w x : View) → IsSearching v key (Found slot) None w
       → Told t w (SearchLoad (Value slot)) n x → IsSearching v key (Found slot) (Some n) x
@@ -124,11 +149,14 @@ module _ (v : View) (key : ℕ) where
   -- the section was left: what its search came to was said since it was entered
   pub looked : (t : TableAt) (state : SearchState) (loaded answer : Option ℕ) (w x : View) (found : ℕ)
       → IsSearching v key state loaded w → Told t w Leave found x
-      → ((seen : List Mark) (section : Section) → section.state ≡ state → section.loaded ≡ loaded → GivesAnswer seen section → WasSaid (updates_of seen) section.key section.from answer) → Looked v key answer x
+      → ((seen : List Mark) (section : Section) → section.state ≡ state → section.loaded ≡ loaded → GivesAnswer seen section
+      → WasSaid (updates_of seen) section.key section.from answer) → Looked v key answer x
   looked t state loaded answer w x found i told gives =
-      let stood : ◌≡◌ {A = Section} (section_of w) (at (length i.before) (length (updates_of i.before)) state loaded) = section_is w _ (section_at state loaded w i) in
+      let stood : ◌≡◌ {A = Section} (section_of w) (at (length i.before) (length (updates_of i.before)) state loaded) =
+      section_is w _ (section_at state loaded w i) in
       let step : StepMade = record { kind = H4; field = Readers (key % 64); number = found } in
-      let said : WasSaid (updates_of x.seen) (section_of w).key (section_of w).from answer = gives x.seen (section_of w) (ap (λ (z : Section). z.state) stood) (ap (λ (z : Section). z.loaded) stood) told.gains in
+      let said : WasSaid (updates_of x.seen) (section_of w).key (section_of w).from answer =
+      gives x.seen (section_of w) (ap (λ (z : Section). z.state) stood) (ap (λ (z : Section). z.loaded) stood) told.gains in
       record {
         before = i.before;
         until = told.marks;
@@ -150,7 +178,19 @@ module _ (v : View) (key : ℕ) where
 module _ (v : View) (key : ℕ) (t : TableAt) where
   pub may_load_head : (w : View) → IsSearching v key Start None w
       → (x : Section) × (w.section ≡ Some x) × (x.key % 64 ≡ key % 64) × (key % 64 ≡ x.key % 64)
-  may_load_head w i = (record { key = key; count = v.sections; entered = length i.before; from = length (updates_of i.before); state = Start; loaded = None }, section_at v key Start None w i, refl, refl)
+  may_load_head w i = (
+    record {
+      key = key;
+      count = v.sections;
+      entered = length i.before;
+      from = length (updates_of i.before);
+      state = Start;
+      loaded = None;
+    },
+    section_at v key Start None w i,
+    refl,
+    refl,
+  )
 
   may_load : (state : SearchState) (slot n : ℕ) (w : View) → n ≡ slot → StandsAt state slot
       → is_slot_of t.capacities (key % 64) slot ≡ true → IsSearching v key state None w
@@ -192,11 +232,33 @@ module _ (v : View) (key : ℕ) (w : View) where
   pub in_section : (answer : Option ℕ) → (answer ≡ None → IsSearching v key Ended None w)
       → ((value : ℕ) → answer ≡ Some value → (slot : ℕ) × IsSearching v key (Found slot) (Some value) w)
       → (x : Section) × (w.section ≡ Some x)
-  in_section None ended found = let i = ended refl in (record { key = key; count = v.sections; entered = length i.before; from = length (updates_of i.before); state = Ended; loaded = None }, section_at v key Ended None w i)
-  in_section (Some value) ended found = let f = found value refl in (record { key = key; count = v.sections; entered = length f.1.before; from = length (updates_of f.1.before); state = Found f.0; loaded = Some value }, section_at v key (Found f.0) (Some value) w f.1)
+  in_section None ended found = let i = ended refl in (
+    record {
+      key = key;
+      count = v.sections;
+      entered = length i.before;
+      from = length (updates_of i.before);
+      state = Ended;
+      loaded = None;
+    },
+    section_at v key Ended None w i,
+  )
+  in_section (Some value) ended found = let f = found value refl in (
+    record {
+      key = key;
+      count = v.sections;
+      entered = length f.1.before;
+      from = length (updates_of f.1.before);
+      state = Found f.0;
+      loaded = Some value;
+    },
+    section_at v key (Found f.0) (Some value) w f.1,
+  )
 
   pub looked_at : (answer : Option ℕ) → (answer ≡ None → IsSearching v key Ended None w)
       → ((value : ℕ) → answer ≡ Some value → (slot : ℕ) × IsSearching v key (Found slot) (Some value) w)
       → (t : TableAt) (found : ℕ) (x : View) → Told t w Leave found x → Looked v key answer x
-  looked_at None ended found t n x left = looked v key t Ended None None w x n (ended refl) left (λ seen section state loaded gives. gives.absent state)
-  looked_at (Some value) ended found t n x left = let f = found value refl in looked v key t (Found f.0) (Some value) (Some value) w x n f.1 left (λ seen section state loaded gives. gives.present value loaded)
+  looked_at None ended found t n x left = looked v key t Ended None None w x n (ended refl) left
+      (λ seen section state loaded gives. gives.absent state)
+  looked_at (Some value) ended found t n x left = let f = found value refl in
+      looked v key t (Found f.0) (Some value) (Some value) w x n f.1 left (λ seen section state loaded gives. gives.present value loaded)

@@ -33,7 +33,8 @@ module _ (k : Shape) (id : ℕ) (v : View) where
   joins other w quiet empty s r at apart there = record {
     marks = r.marks;
     long = r.long;
-    holds = law2 k.capacities.items k.places k.tickets _ s.views r.marks r.holds id v at other w (sym (set_else s.views id other (both_of v w) apart) ∙ there) (λ e. apart (sym e)) quiet empty;
+    holds = law2 k.capacities.items k.places k.tickets _ s.views r.marks r.holds id v at other w
+        (sym (set_else s.views id other (both_of v w) apart) ∙ there) (λ e. apart (sym e)) quiet empty;
   }
 
 -- the class that a seat remembers is that of the lock that it holds

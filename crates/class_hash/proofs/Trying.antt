@@ -10,6 +10,7 @@ use Rattle.hash_core.specs.declared.words.Field.TheVariants.{Lock}
 use Rattle.hash_core.specs.declared.words.Kind.TheVariants.{H7}
 use Rattle.hash_core.specs.declared.view.Section.{Section}
 use Rattle.hash_core.specs.declared.view.Hold.{Hold}
+use Rattle.hash_core.specs.declared.view.StepMade.{StepMade}
 use Rattle.hash_core.specs.declared.view.View.{View}
 use Rattle.prcu_model.specs.Dictionary.{map_of}
 use Rattle.prcu_marks.specs.Marks.{updates_of}
@@ -19,13 +20,13 @@ use Rattle.class_hash.specs.Answers.{IsFull}
 use Rattle.hash_core.specs.Known.{ShowsAbsent}
 use Rattle.hash_core.specs.Steps.{IsQuiet, NeedsUnlock, fresh_hold}
 use Rattle.prcu_model.proofs.ListFacts.{all_append, prefix_self, prefix_trans}
-use Rattle.class_hash.proofs.Trails.{adds_step, adds_both, lookup_plain}
+use Rattle.class_hash.proofs.Trails.{adds_step, adds_both, lookup_plain, NoneOrLookup, begins_more, begins_on, begins_by}
 use Rattle.prcu_marks.specs.Callers.{entered_for}
 use Rattle.prcu_marks.proofs.OwnMarks.{entered_for-append}
 use Rattle.hash_core.specs.declared.act.Act.TheVariants as act
 use Rattle.hash_core.specs.Acts.{hold_of}
 use Rattle.class_hash.proofs.Calls.{goes_by}
-use Rattle.class_hash.specs.Trails.{AddsNoLists}
+use Rattle.class_hash.specs.Trails.{AddsNoLists, BeginsByLookup}
 use Rattle.class_hash.specs.Lookups.{Looked}
 use Rattle.class_hash.specs.Walks.{HasLoaded, IsFoundAt}
 use Rattle.class_hash.specs.Updates.{HasLocked, MayReplace, Replaced, link_after, MayUnlink, Removed}
@@ -43,43 +44,85 @@ pub looked_quiet : (w x : View) (key : ℕ) (answer : Option ℕ) → IsQuiet w 
 looked_quiet w x key answer quiet l = (ap (λ (z : View). z.section) l.view, ap (λ (z : View). z.hold) l.view ∙ quiet.1)
 
 -- from the search to the walk
-module _ {v w x y z : View} {key class : ℕ} {answer : Option ℕ} {new : Hold} (quiet : IsQuiet v) (t : HasTried v key w) (l : Looked w key answer x) (k : HasLocked x class y)
+module _ {v w x y z : View} {key class : ℕ} {answer : Option ℕ} {new : Hold} (quiet : IsQuiet v) (t : HasTried v key w)
+    (l : Looked w key answer x) (k : HasLocked x class y)
     (n : HasLoaded y (fresh_hold class) z new) (no_turn : x.commit ≡ None) where
   marks : List Mark
   marks = Entered w.place w.sections key ∷ Left w.place w.sections ∷ []
 
   abbrev base : View
-  base = record w { section = None; sections = w.sections + 1; own = (w.own ++ Entered w.place w.sections key ∷ []) ++ Left w.place w.sections ∷ []; trail = x.trail; seen = x.seen }
+  base = record w {
+    section = None;
+    sections = w.sections + 1;
+    own = (w.own ++ Entered w.place w.sections key ∷ []) ++ Left w.place w.sections ∷ [];
+    trail = x.trail;
+    seen = x.seen;
+  }
 
-  x_is : x ≡ record w { section = None; sections = w.sections + 1; own = (w.own ++ Entered w.place w.sections key ∷ []) ++ Left w.place w.sections ∷ []; trail = x.trail; seen = x.seen }
-  x_is = l.view ∙ (λ j. record w { section = None; sections = w.sections + 1; own = (w.own ++ Entered w.place w.sections key ∷ []) ++ Left w.place w.sections ∷ []; trail = (sym l.view j).trail; seen = (sym l.view j).seen })
+  x_is : x ≡ record w {
+    section = None;
+    sections = w.sections + 1;
+    own = (w.own ++ Entered w.place w.sections key ∷ []) ++ Left w.place w.sections ∷ [];
+    trail = x.trail;
+    seen = x.seen;
+  }
+  x_is = l.view ∙ (λ j. record w {
+    section = None;
+    sections = w.sections + 1;
+    own = (w.own ++ Entered w.place w.sections key ∷ []) ++ Left w.place w.sections ∷ [];
+    trail = (sym l.view j).trail;
+    seen = (sym l.view j).seen;
+  })
 
   -- after the walk: that of the start, but for the lock, what was seen and done
-  z_is : z ≡ record v { section = None; sections = w.sections + 1; hold = Some new; own = (w.own ++ Entered w.place w.sections key ∷ []) ++ Left w.place w.sections ∷ []; trail = z.trail; seen = z.seen }
-  z_is = n.view ∙ (λ j. record (k.view j) { hold = Some new; trail = z.trail; seen = z.seen }) ∙ (λ j. record (x_is j) { hold = Some new; trail = z.trail; seen = z.seen })
-      ∙ (λ j. record (t.view j) { section = None; sections = w.sections + 1; hold = Some new; own = (w.own ++ Entered w.place w.sections key ∷ []) ++ Left w.place w.sections ∷ []; trail = z.trail; seen = z.seen })
+  z_is : z ≡ record v {
+    section = None;
+    sections = w.sections + 1;
+    hold = Some new;
+    own = (w.own ++ Entered w.place w.sections key ∷ []) ++ Left w.place w.sections ∷ [];
+    trail = z.trail;
+    seen = z.seen;
+  }
+  z_is = n.view ∙ (λ j. record (k.view j) { hold = Some new; trail = z.trail; seen = z.seen })
+      ∙ (λ j. record (x_is j) { hold = Some new; trail = z.trail; seen = z.seen })
+      ∙ (λ j. record (t.view j) {
+        section = None;
+        sections = w.sections + 1;
+        hold = Some new;
+        own = (w.own ++ Entered w.place w.sections key ∷ []) ++ Left w.place w.sections ∷ [];
+        trail = z.trail;
+        seen = z.seen;
+      })
 
   same_place : w.place ≡ v.place
   same_place = ap (λ (u : View). u.place) t.view
 
   seen_x : IsPrefix w.seen x.seen
-  seen_x = subst (IsPrefix w.seen) (sym (ap (λ (u : View). u.seen) l.view)) (prefix_trans w.seen l.before _ l.since (prefix_trans l.before (l.before ++ Entered w.place w.sections key ∷ []) _ (Entered w.place w.sections key ∷ [], refl) (prefix_trans _ l.until _ l.within (Left w.place w.sections ∷ [], refl))))
+  seen_x = subst (IsPrefix w.seen) (sym (ap (λ (u : View). u.seen) l.view))
+      (prefix_trans w.seen l.before _ l.since (prefix_trans l.before
+      (l.before ++ Entered w.place w.sections key ∷ []) _ (Entered w.place w.sections key ∷ [], refl)
+      (prefix_trans _ l.until _ l.within (Left w.place w.sections ∷ [], refl))))
 
   seen_z : IsPrefix v.seen z.seen
-  seen_z = prefix_trans v.seen w.seen z.seen t.seen (prefix_trans w.seen x.seen z.seen seen_x (subst (λ s. IsPrefix s z.seen) (ap (λ (u : View). u.seen) k.view) n.seen))
+  seen_z = prefix_trans v.seen w.seen z.seen t.seen
+      (prefix_trans w.seen x.seen z.seen seen_x (subst (λ s. IsPrefix s z.seen) (ap (λ (u : View). u.seen) k.view) n.seen))
 
   -- the lists weren't loaded
   trail_z : AddsNoLists v.trail w.trail → AddsNoLists v.trail z.trail
   trail_z before =
-      let searched : AddsNoLists w.trail x.trail = record { steps = l.steps; plain = lookup_plain key l.steps l.made; trail = ap (λ (u : View). u.trail) l.view } in
-      adds_both v.trail w.trail z.trail before (adds_both w.trail x.trail z.trail searched (adds_both x.trail y.trail z.trail k.trail n.trail))
+      let searched : AddsNoLists w.trail x.trail =
+      record { steps = l.steps; plain = lookup_plain key l.steps l.made; trail = ap (λ (u : View). u.trail) l.view } in
+      adds_both v.trail w.trail z.trail before (adds_both w.trail x.trail z.trail searched
+      (adds_both x.trail y.trail z.trail k.trail n.trail))
 
   own_z : z.own ≡ v.own ++ (t.marks ++ Entered w.place w.sections key ∷ Left w.place w.sections ∷ [])
   own_z = ap (λ (u : View). u.own) z_is ∙ append_assoc w.own (Entered w.place w.sections key ∷ []) (Left w.place w.sections ∷ [])
-      ∙ ap (λ o. o ++ Entered w.place w.sections key ∷ Left w.place w.sections ∷ []) t.own ∙ append_assoc v.own t.marks (Entered w.place w.sections key ∷ Left w.place w.sections ∷ [])
+      ∙ ap (λ o. o ++ Entered w.place w.sections key ∷ Left w.place w.sections ∷ []) t.own
+      ∙ append_assoc v.own t.marks (Entered w.place w.sections key ∷ Left w.place w.sections ∷ [])
 
   plain_z : AllByRecursion (IsOfSection v.place key) (t.marks ++ Entered w.place w.sections key ∷ Left w.place w.sections ∷ [])
-  plain_z = all_append (IsOfSection v.place key) t.marks (Entered w.place w.sections key ∷ Left w.place w.sections ∷ []) t.plain ((same_place, refl), (same_place, tt))
+  plain_z = all_append (IsOfSection v.place key) t.marks (Entered w.place w.sections key ∷ Left w.place w.sections ∷ []) t.plain
+      ((same_place, refl), (same_place, tt))
 
   searched_z : 1 ≤ entered_for v.place key (t.marks ++ Entered w.place w.sections key ∷ Left w.place w.sections ∷ [])
   searched_z =
@@ -92,7 +135,13 @@ module _ {v w x y z : View} {key class : ℕ} {answer : Option ℕ} {new : Hold}
   turn_z = ap (λ (u : View). u.commit) n.view ∙ ap (λ (u : View). u.commit) k.view ∙ no_turn
 
   needs_z : NeedsUnlock z new
-  needs_z = record { hold_is = ap (λ (u : View). u.hold) n.view; taken = ap (λ (h : Hold). h.taken) n.only; unlinked = ap (λ (h : Hold). h.unlinked) n.only; moved = ap (λ (h : Hold). h.moved) n.only; even = turn_z }
+  needs_z = record {
+    hold_is = ap (λ (u : View). u.hold) n.view;
+    taken = ap (λ (h : Hold). h.taken) n.only;
+    unlinked = ap (λ (h : Hold). h.unlinked) n.only;
+    moved = ap (λ (h : Hold). h.moved) n.only;
+    even = turn_z;
+  }
 
   pub has_finished : HasFinished z
   has_finished = (new, needs_z)
@@ -109,13 +158,22 @@ module _ {v w x y z : View} {key class : ℕ} {answer : Option ℕ} {new : Hold}
   }
 
   abbrev walked : View
-  walked = record v { section = None; sections = w.sections + 1; hold = Some new; own = (w.own ++ Entered w.place w.sections key ∷ []) ++ Left w.place w.sections ∷ []; trail = z.trail; seen = z.seen }
+  walked = record v {
+    section = None;
+    sections = w.sections + 1;
+    hold = Some new;
+    own = (w.own ++ Entered w.place w.sections key ∷ []) ++ Left w.place w.sections ∷ [];
+    trail = z.trail;
+    seen = z.seen;
+  }
 
   pub tried_again : (u : View) → Unlocks z u → HasTried v key u
   tried_again u e =
       let F : View → View = goes_by act.Unlock [] 0 in
       let u_is : u ≡ F walked = e ∙ ap F z_is in
-      let whole : u ≡ record (F walked) { section = v.section; hold = v.hold } = u_is ∙ ap (λ (q : Option Section × Option Hold). record (F walked) { section = q.0; hold = q.1 }) (λ i. (sym quiet.0 i, sym quiet.1 i)) in
+      let whole : u ≡ record (F walked) { section = v.section; hold = v.hold } =
+      u_is ∙ ap (λ (q : Option Section × Option Hold). record (F walked) { section = q.0; hold = q.1 })
+      (λ i. (sym quiet.0 i, sym quiet.1 i)) in
       record {
         marks = t.marks ++ Entered w.place w.sections key ∷ Left w.place w.sections ∷ [];
         plain = plain_z;
@@ -125,7 +183,8 @@ module _ {v w x y z : View} {key class : ℕ} {answer : Option ℕ} {new : Hold}
       }
 
   pub tried_on : AddsNoLists v.trail w.trail → (u : View) → Unlocks z u → AddsNoLists v.trail u.trail
-  tried_on before u e = subst (λ (y : View). AddsNoLists v.trail y.trail) (sym e) (adds_step v.trail z.trail H7 (Lock (hold_of z).class) 0 refl (trail_z before))
+  tried_on before u e = subst (λ (y : View). AddsNoLists v.trail y.trail) (sym e)
+      (adds_step v.trail z.trail H7 (Lock (hold_of z).class) 0 refl (trail_z before))
 
   -- the update left the seat quiet
   pub replaced_quiet : {u : View} {value old number : ℕ} → Replaced z key value old number u → IsQuiet u
@@ -137,21 +196,31 @@ module _ {v w x y z : View} {key class : ℕ} {answer : Option ℕ} {new : Hold}
   pub updated_once : (u : View) (value old number : ℕ) → Replaced z key value old number u → SetsBy v key value (Was old) number u
   updated_once u value old number r =
       let place : z.place ≡ v.place = ap (λ (y : View). y.place) z_is in
-      let F : View → View = λ y. record y { tickets = y.tickets - 1; hold = None; own = z.own ++ Done (record { caller = z.place; op = Set key value }) ∷ []; trail = u.trail; seen = r.before ++ Done (record { caller = z.place; op = Set key value }) ∷ [] } in
+      let F : View → View = λ y. record y {
+        tickets = y.tickets - 1;
+        hold = None;
+        own = z.own ++ Done (record { caller = z.place; op = Set key value }) ∷ [];
+        trail = u.trail;
+        seen = r.before ++ Done (record { caller = z.place; op = Set key value }) ∷ [];
+      } in
       let u_is : u ≡ F walked = r.view ∙ ap F z_is in
-      let whole : u ≡ record (F walked) { section = v.section; hold = v.hold } = u_is ∙ ap (λ (q : Option Section × Option Hold). record (F walked) { section = q.0; hold = q.1 }) (λ i. (sym quiet.0 i, sym quiet.1 i)) in record {
+      let whole : u ≡ record (F walked) { section = v.section; hold = v.hold } =
+      u_is ∙ ap (λ (q : Option Section × Option Hold). record (F walked) { section = q.0; hold = q.1 })
+      (λ i. (sym quiet.0 i, sym quiet.1 i)) in record {
         before = r.before;
         updated = record {
           marks = t.marks ++ Entered w.place w.sections key ∷ Left w.place w.sections ∷ [];
           plain = plain_z;
           searched = searched_z;
           own = ap (λ (y : View). y.own) r.view ∙ ap (λ o. o ++ Done (record { caller = z.place; op = Set key value }) ∷ []) own_z
-              ∙ ap (λ p. (v.own ++ (t.marks ++ Entered w.place w.sections key ∷ Left w.place w.sections ∷ [])) ++ Done (record { caller = p; op = Set key value }) ∷ []) place;
+              ∙ ap (λ p. (v.own ++ (t.marks ++ Entered w.place w.sections key ∷ Left w.place w.sections ∷ []))
+              ++ Done (record { caller = p; op = Set key value }) ∷ []) place;
           since = prefix_trans v.seen z.seen r.before seen_z r.since;
           seen = ap (λ (y : View). y.seen) r.view ∙ ap (λ p. r.before ++ Done (record { caller = p; op = Set key value }) ∷ []) place;
           legal = r.legal;
           number_is = r.number_is;
-          view = whole ∙ sym (ap (λ (y : View). record v { tickets = v.tickets - 1; sections = y.sections; own = y.own; trail = y.trail; seen = y.seen }) whole);
+          view = whole ∙ sym (ap (λ (y : View). record v
+              { tickets = v.tickets - 1; sections = y.sections; own = y.own; trail = y.trail; seen = y.seen }) whole);
         };
         was = r.was;
       }
@@ -175,9 +244,17 @@ module _ {v w x y z : View} {key class : ℕ} {answer : Option ℕ} {new : Hold}
   pub removed_once : (u : View) (number : ℕ) → Removed z key number u → DelsBy v key Gone number u
   removed_once u number r =
       let place : z.place ≡ v.place = ap (λ (y : View). y.place) z_is in
-      let F : View → View = λ y. record y { tickets = y.tickets - 1; hold = None; own = z.own ++ Done (record { caller = z.place; op = Del key }) ∷ []; trail = u.trail; seen = r.before ++ Done (record { caller = z.place; op = Del key }) ∷ Unlinked r.slot ∷ [] } in
+      let F : View → View = λ y. record y {
+        tickets = y.tickets - 1;
+        hold = None;
+        own = z.own ++ Done (record { caller = z.place; op = Del key }) ∷ [];
+        trail = u.trail;
+        seen = r.before ++ Done (record { caller = z.place; op = Del key }) ∷ Unlinked r.slot ∷ [];
+      } in
       let u_is : u ≡ F walked = r.view ∙ ap F z_is in
-      let whole : u ≡ record (F walked) { section = v.section; hold = v.hold } = u_is ∙ ap (λ (q : Option Section × Option Hold). record (F walked) { section = q.0; hold = q.1 }) (λ i. (sym quiet.0 i, sym quiet.1 i)) in record {
+      let whole : u ≡ record (F walked) { section = v.section; hold = v.hold } =
+      u_is ∙ ap (λ (q : Option Section × Option Hold). record (F walked) { section = q.0; hold = q.1 })
+      (λ i. (sym quiet.0 i, sym quiet.1 i)) in record {
         before = r.before;
         slot = r.slot;
         updated = record {
@@ -185,12 +262,15 @@ module _ {v w x y z : View} {key class : ℕ} {answer : Option ℕ} {new : Hold}
           plain = plain_z;
           searched = searched_z;
           own = ap (λ (y : View). y.own) r.view ∙ ap (λ o. o ++ Done (record { caller = z.place; op = Del key }) ∷ []) own_z
-              ∙ ap (λ p. (v.own ++ (t.marks ++ Entered w.place w.sections key ∷ Left w.place w.sections ∷ [])) ++ Done (record { caller = p; op = Del key }) ∷ []) place;
+              ∙ ap (λ p. (v.own ++ (t.marks ++ Entered w.place w.sections key ∷ Left w.place w.sections ∷ []))
+              ++ Done (record { caller = p; op = Del key }) ∷ []) place;
           since = prefix_trans v.seen z.seen r.before seen_z r.since;
-          seen = ap (λ (y : View). y.seen) r.view ∙ ap (λ p. r.before ++ Done (record { caller = p; op = Del key }) ∷ Unlinked r.slot ∷ []) place;
+          seen = ap (λ (y : View). y.seen) r.view ∙ ap (λ p. r.before
+              ++ Done (record { caller = p; op = Del key }) ∷ Unlinked r.slot ∷ []) place;
           legal = r.legal;
           number_is = r.number_is;
-          view = whole ∙ sym (ap (λ (y : View). record v { tickets = v.tickets - 1; sections = y.sections; own = y.own; trail = y.trail; seen = y.seen }) whole);
+          view = whole ∙ sym (ap (λ (y : View). record v
+              { tickets = v.tickets - 1; sections = y.sections; own = y.own; trail = y.trail; seen = y.seen }) whole);
         };
       }
 
@@ -207,19 +287,40 @@ module _ {v w x y z : View} {key class : ℕ} {answer : Option ℕ} {new : Hold}
   walked_is : z ≡ record v { sections = z.sections; hold = Some new; own = z.own; trail = z.trail; seen = z.seen }
   walked_is =
       let whole : z ≡ record walked { section = v.section } = z_is ∙ ap (λ q. record walked { section = q }) (sym quiet.0) in
-      whole ∙ sym (ap (λ (y : View). record v { sections = y.sections; hold = Some new; own = y.own; trail = y.trail; seen = y.seen }) whole)
+      whole ∙ sym (ap (λ (y : View). record v {
+        sections = y.sections;
+        hold = Some new;
+        own = y.own;
+        trail = y.trail;
+        seen = y.seen;
+      }) whole)
 
   has_walked : AddsNoLists v.trail w.trail → key % 64 ≡ class → ShowsAbsent new key → HasWalked v key z
-  has_walked before of absent = record { hold = new; class = ap (λ (h : Hold). h.class) n.only ∙ sym of; absent = absent; trail = trail_z before; seen = seen_z; view = walked_is }
+  has_walked before of absent = record {
+    hold = new;
+    class = ap (λ (h : Hold). h.class) n.only ∙ sym of;
+    absent = absent;
+    trail = trail_z before;
+    seen = seen_z;
+    view = walked_is;
+  }
 
   pub added_once : (capacities : List ℕ) (u : View) (value number : ℕ) → AddsNoLists v.trail w.trail → key % 64 ≡ class
       → ShowsAbsent new key → Added capacities z key value number u → PutsBy capacities v key value New number u
   added_once capacities u value number before of absent a =
       let r : Linked z key value number u = a.linked in
       let place : z.place ≡ v.place = ap (λ (y : View). y.place) z_is in
-      let F : View → View = λ y. record y { tickets = y.tickets - 1; hold = None; own = z.own ++ Done (record { caller = z.place; op = Put key value }) ∷ []; trail = u.trail; seen = r.before ++ Done (record { caller = z.place; op = Put key value }) ∷ [] } in
+      let F : View → View = λ y. record y {
+        tickets = y.tickets - 1;
+        hold = None;
+        own = z.own ++ Done (record { caller = z.place; op = Put key value }) ∷ [];
+        trail = u.trail;
+        seen = r.before ++ Done (record { caller = z.place; op = Put key value }) ∷ [];
+      } in
       let u_is : u ≡ F walked = r.view ∙ ap F z_is in
-      let whole : u ≡ record (F walked) { section = v.section; hold = v.hold } = u_is ∙ ap (λ (q : Option Section × Option Hold). record (F walked) { section = q.0; hold = q.1 }) (λ i. (sym quiet.0 i, sym quiet.1 i)) in record {
+      let whole : u ≡ record (F walked) { section = v.section; hold = v.hold } =
+      u_is ∙ ap (λ (q : Option Section × Option Hold). record (F walked) { section = q.0; hold = q.1 })
+      (λ i. (sym quiet.0 i, sym quiet.1 i)) in record {
         before = r.before;
         slot = a.slot;
         updated = record {
@@ -227,14 +328,20 @@ module _ {v w x y z : View} {key class : ℕ} {answer : Option ℕ} {new : Hold}
           plain = plain_z;
           searched = searched_z;
           own = ap (λ (y : View). y.own) r.view ∙ ap (λ o. o ++ Done (record { caller = z.place; op = Put key value }) ∷ []) own_z
-              ∙ ap (λ p. (v.own ++ (t.marks ++ Entered w.place w.sections key ∷ Left w.place w.sections ∷ [])) ++ Done (record { caller = p; op = Put key value }) ∷ []) place;
+              ∙ ap (λ p. (v.own ++ (t.marks ++ Entered w.place w.sections key ∷ Left w.place w.sections ∷ []))
+              ++ Done (record { caller = p; op = Put key value }) ∷ []) place;
           since = prefix_trans v.seen z.seen r.before seen_z r.since;
           seen = ap (λ (y : View). y.seen) r.view ∙ ap (λ p. r.before ++ Done (record { caller = p; op = Put key value }) ∷ []) place;
           legal = r.legal;
           number_is = r.number_is;
-          view = whole ∙ sym (ap (λ (y : View). record v { tickets = v.tickets - 1; sections = y.sections; own = y.own; trail = y.trail; seen = y.seen }) whole);
+          view = whole ∙ sym (ap (λ (y : View). record v
+              { tickets = v.tickets - 1; sections = y.sections; own = y.own; trail = y.trail; seen = y.seen }) whole);
         };
-        given = record { before = a.given.before; since = prefix_trans v.seen z.seen a.given.before seen_z a.given.since; until = a.given.until };
+        given = record {
+          before = a.given.before;
+          since = prefix_trans v.seen z.seen a.given.before seen_z a.given.since;
+          until = a.given.until;
+        };
         locked = z;
         walked = has_walked before of absent;
         room = a.room;
@@ -246,25 +353,33 @@ module _ {v w x y z : View} {key class : ℕ} {answer : Option ℕ} {new : Hold}
       let l : Lists capacities z 0 0 left.listed = left.lists in
       let e : Unlocks left.listed u = left.unlocks in
       let F : View → View = λ q. record q { hold = None; trail = u.trail; seen = left.listed.seen } in
-      let first : u ≡ record left.listed { hold = None; trail = u.trail } = e ∙ sym (ap (λ (q : View). record left.listed { hold = None; trail = q.trail }) e) in
+      let first : u ≡ record left.listed { hold = None; trail = u.trail } =
+      e ∙ sym (ap (λ (q : View). record left.listed { hold = None; trail = q.trail }) e) in
       let u_is : u ≡ F walked = first ∙ ap F l.rest ∙ ap F z_is in
-      let whole : u ≡ record (F walked) { section = v.section; hold = v.hold } = u_is ∙ ap (λ (q : Option Section × Option Hold). record (F walked) { section = q.0; hold = q.1 }) (λ i. (sym quiet.0 i, sym quiet.1 i)) in
+      let whole : u ≡ record (F walked) { section = v.section; hold = v.hold } =
+      u_is ∙ ap (λ (q : Option Section × Option Hold). record (F walked) { section = q.0; hold = q.1 })
+      (λ i. (sym quiet.0 i, sym quiet.1 i)) in
       let same : l.hold ≡ new = (let q : Some l.hold ≡ Some new = sym l.is ∙ ap (λ (q : View). q.hold) n.view in cc) in
       let class_new : new.class ≡ key % 64 = ap (λ (h : Hold). h.class) n.only ∙ sym of in
-      let full : IsFull capacities new u.seen = subst (λ s. IsFull capacities new s) (sym (ap (λ (q : View). q.seen) first)) (subst (λ (k : Hold). IsFull capacities k left.listed.seen) same (l.full refl refl)) in
+      let full : IsFull capacities new u.seen = subst (λ s. IsFull capacities new s) (sym (ap (λ (q : View). q.seen) first))
+      (subst (λ (k : Hold). IsFull capacities k left.listed.seen) same (l.full refl refl)) in
       let own_u : u.own ≡ z.own = ap (λ (q : View). q.own) first ∙ ap (λ (q : View). q.own) l.rest in record {
         tried = record {
           marks = t.marks ++ Entered w.place w.sections key ∷ Left w.place w.sections ∷ [];
           plain = plain_z;
           own = own_u ∙ own_z;
-          seen = subst (IsPrefix v.seen) (sym (ap (λ (q : View). q.seen) first)) (prefix_trans v.seen z.seen left.listed.seen seen_z l.seen);
+          seen = subst (IsPrefix v.seen) (sym (ap (λ (q : View). q.seen) first))
+              (prefix_trans v.seen z.seen left.listed.seen seen_z l.seen);
           view = whole ∙ sym (ap (λ (q : View). record v { sections = q.sections; own = q.own; trail = q.trail; seen = q.seen }) whole);
         };
         searched = searched_z;
         locked = z;
         walked = has_walked before of absent;
         leaves = left;
-        room = record { absent = full.absent key (sym class_new) absent; pairs = subst (λ d. HasPairs d (map_of (updates_of u.seen)) (capacity capacities d)) class_new full.pairs };
+        room = record {
+          absent = full.absent key (sym class_new) absent;
+          pairs = subst (λ d. HasPairs d (map_of (updates_of u.seen)) (capacity capacities d)) class_new full.pairs;
+        };
         none = refl;
       }
 
@@ -284,5 +399,33 @@ found_once capacities v w x key value (Some old) is t before l = record {
   old = old;
   looked = l;
   none = refl;
-  trail = adds_both v.trail w.trail x.trail before (record { steps = l.steps; plain = lookup_plain key l.steps l.made; trail = ap (λ (u : View). u.trail) l.view });
+  trail = adds_both v.trail w.trail x.trail before
+      (record { steps = l.steps; plain = lookup_plain key l.steps l.made; trail = ap (λ (u : View). u.trail) l.view });
 }
+
+-- two steps more
+listed_once : (a b : List StepMade) (s t : StepMade) → b ≡ (a ++ s ∷ []) ++ t ∷ [] → b ≡ a ++ s ∷ t ∷ []
+listed_once a b s t e = e ∙ append_assoc a (s ∷ []) (t ∷ [])
+
+-- The first steps of an update are those of a lookup: after a search, after the walk behind it, and after the lock was given up or the
+-- update made.
+module _ {start : List StepMade} {w x : View} {key : ℕ} {answer : Option ℕ} (tried : NoneOrLookup key start w.trail)
+    (l : Looked w key answer x) where
+  pub searched_first : BeginsByLookup key start x.trail
+  searched_first = begins_by tried l.made (ap (λ (u : View). u.trail) l.view)
+
+  module _ {y z : View} {class : ℕ} {hold new : Hold} (k : HasLocked x class y) (n : HasLoaded y hold z new) where
+    pub walked_first : BeginsByLookup key start z.trail
+    walked_first = begins_on (begins_on searched_first k.trail) n.trail
+
+    pub given_up_first : {u : View} → Unlocks z u → BeginsByLookup key start u.trail
+    given_up_first {u} e = begins_more walked_first (record { kind = H7; field = Lock (hold_of z).class; number = 0 } ∷ [])
+        (ap (λ (q : View). q.trail) e)
+
+    pub added_first : (capacities : List ℕ) (u : View) (value : ℕ) (added : Option ℕ) → IfNone added (LeavesFull capacities z u)
+        → IfSome added (λ number. Added capacities z key value number u) → BeginsByLookup key start u.trail
+    added_first capacities u value None left made =
+        begins_more (begins_more walked_first _ (listed_once _ _ _ _ left.lists.trail))
+        (record { kind = H7; field = Lock (hold_of left.listed).class; number = 0 } ∷ []) (ap (λ (q : View). q.trail) left.unlocks)
+    added_first capacities u value (Some number) left made =
+        begins_on (begins_more walked_first _ (listed_once _ _ _ _ made.room.lists.trail)) made.room.trail

@@ -5,7 +5,8 @@ use Rattle.prcu_marks.specs.declared.mark.Mark.TheVariants.{Done, Unlinked}
 use Rattle.prcu_model.specs.declared.operation.Op.TheVariants.{Del}
 use Rattle.prcu_model.specs.History.{IsLegal}
 use Rattle.hash_core.specs.declared.words.Field.{Field}
-use Rattle.hash_core.specs.declared.words.Field.TheVariants.{Head, Retired, Key, Next, Chain}
+use Rattle.hash_core.specs.declared.words.Field.TheVariants.{Front, Lock, Head, Retired, Key, Next, Chain}
+use Rattle.hash_core.specs.declared.words.Kind.TheVariants.{H7, H10, H14, H16}
 use Rattle.hash_core.specs.declared.view.Hold.{Hold}
 use Rattle.prcu_marks.specs.declared.commit.Commit.{Commit}
 use Rattle.hash_core.specs.declared.view.View.{View}
@@ -17,7 +18,9 @@ use Rattle.hash_core.specs.declared.act.Act.TheVariants as act
 use Rattle.hash_core.specs.Acts.{commit_of}
 use Rattle.class_hash.specs.Seats.{TableAt}
 use Rattle.class_hash.specs.Told.{Told}
+use Rattle.class_hash.specs.Trails.{AddsNoLists}
 use Rattle.class_hash.specs.Calls.{Unlocks}
+use Rattle.class_hash.proofs.Trails.{adds_step, adds_both}
 use Rattle.class_hash.proofs.Calls.{goes_by, goes_on}
 use Rattle.class_hash.specs.Walks.{HasLoaded, KnowsMore, IsLinkedFrom}
 use Rattle.class_hash.specs.Updates.{HasTurned, link_after, MayUnlink, Removed}
@@ -25,7 +28,8 @@ use Rattle.class_hash.proofs.Walking.{not_loaded, loaded_more, knows_more, known
 use Rattle.prcu_model.proofs.ListFacts.{prefix_trans}
 
 -- the next of the slot and the first retired slot were loaded
-module _ {table : TableAt} {v : View} {previous : Option ℕ} {slot key : ℕ} (may : MayUnlink table.capacities v previous slot key) {next : ℕ} {x1 : View} (a : Told table v (act.LockedLoad (Next slot)) next x1) where
+module _ {table : TableAt} {v : View} {previous : Option ℕ} {slot key : ℕ} (may : MayUnlink table.capacities v previous slot key) {next : ℕ}
+    {x1 : View} (a : Told table v (act.LockedLoad (Next slot)) next x1) where
   abbrev k0 : Hold
   k0 = may.hold
 
@@ -62,19 +66,49 @@ module _ {table : TableAt} {v : View} {previous : Option ℕ} {slot key : ℕ} (
 
     module _ {even : ℕ} {x3 : View} (t : HasTurned x2 even x3) where
       abbrev v3 : View
-      v3 = record v { hold = Some (knowing (knowing may.hold (Next slot) next) (Retired class) first); commit = Some (record { found = even; stored = false }); trail = x3.trail; seen = x2.seen }
+      v3 = record v {
+        hold = Some (knowing (knowing may.hold (Next slot) next) (Retired class) first);
+        commit = Some (record { found = even; stored = false });
+        trail = x3.trail;
+        seen = x2.seen;
+      }
 
-      view3 : x3 ≡ record v { hold = Some (knowing (knowing may.hold (Next slot) next) (Retired class) first); commit = Some (record { found = even; stored = false }); trail = x3.trail; seen = x2.seen }
-      view3 = t.view ∙ ap (λ (z : View). record z { commit = Some (record { found = even; stored = false }); trail = x3.trail; seen = x2.seen }) loaded2.view
+      view3 : x3 ≡ record v {
+        hold = Some (knowing (knowing may.hold (Next slot) next) (Retired class) first);
+        commit = Some (record { found = even; stored = false });
+        trail = x3.trail;
+        seen = x2.seen;
+      }
+      view3 = t.view ∙ ap (λ (z : View). record z {
+        commit = Some (record { found = even; stored = false });
+        trail = x3.trail;
+        seen = x2.seen;
+      }) loaded2.view
 
       link_by : (p : Option ℕ) → IsLinkedFrom may.hold p slot
-          → LinksTo (knowing (knowing may.hold (Next slot) next) (Retired class) first) (link_after may.hold.class p) × (known_in (knowing (knowing may.hold (Next slot) next) (Retired class) first).known (link_after may.hold.class p) ≡ Some slot)
+          → LinksTo (knowing (knowing may.hold (Next slot) next) (Retired class) first) (link_after may.hold.class p)
+          × (known_in (knowing (knowing may.hold (Next slot) next) (Retired class) first).known (link_after may.hold.class p)
+          ≡ Some slot)
       link_by None f = (refl, more2 (Head may.hold.class) slot f)
-      link_by (Some p) f = (record { first = f.0.first; before = f.0.before; head = more2 (Head may.hold.class) f.0.first f.0.head; comes = comes_to_still may.hold.known (knowing (knowing may.hold (Next slot) next) (Retired class) first).known more2 f.0.first f.0.before p f.0.comes }, more2 (Next p) slot f.1)
+      link_by (Some p) f = (
+        record {
+          first = f.0.first;
+          before = f.0.before;
+          head = more2 (Head may.hold.class) f.0.first f.0.head;
+          comes = comes_to_still may.hold.known (knowing (knowing may.hold (Next slot) next)
+              (Retired class) first).known more2 f.0.first f.0.before p f.0.comes;
+        },
+        more2 (Next p) slot f.1,
+      )
 
-      needs14 : NeedsUnlink x3 (knowing (knowing may.hold (Next slot) next) (Retired class) first) even (link_after may.hold.class previous) slot key next
+      needs14 : NeedsUnlink x3 (knowing (knowing may.hold (Next slot) next) (Retired class) first) even
+          (link_after may.hold.class previous) slot key next
       needs14 = record {
-        commit = record { hold_is = ap (λ (z : View). z.hold) view3; commit_is = ap (λ (z : View). z.commit) view3; ticket = subst (λ n. 1 ≤ n) (sym (ap (λ (z : View). z.tickets) view3)) may.ticket };
+        commit = record {
+          hold_is = ap (λ (z : View). z.hold) view3;
+          commit_is = ap (λ (z : View). z.commit) view3;
+          ticket = subst (λ n. 1 ≤ n) (sym (ap (λ (z : View). z.tickets) view3)) may.ticket;
+        };
         empty = may.finished.unlinked;
         link_is = (link_by previous may.found.from).0;
         linked = (link_by previous may.found.from).1;
@@ -91,13 +125,16 @@ module _ {table : TableAt} {v : View} {previous : Option ℕ} {slot key : ℕ} (
       may_cut at = (
         knowing (knowing may.hold (Next slot) next) (Retired class) first,
         even,
-        subst (λ z. NeedsUnlink x3 (knowing (knowing may.hold (Next slot) next) (Retired class) first) even z slot key next) (same_link ∙ sym at) needs14,
+        subst (λ z. NeedsUnlink x3 (knowing (knowing may.hold (Next slot) next) (Retired class) first) even z slot key next)
+            (same_link ∙ sym at) needs14,
         subst (λ z. IsOfClass table.capacities may.hold.class z) (same_link ∙ sym at) may.link,
       )
 
-      module _ {link : Field} (at : link ≡ link_after class previous) {x4 : View} (c : Told table x3 (act.UnlinkSlot link slot key next) next x4) where
+      module _ {link : Field} (at : link ≡ link_after class previous) {x4 : View}
+          (c : Told table x3 (act.UnlinkSlot link slot key next) next x4) where
         abbrev k4 : Hold
-        k4 = record (knowing (knowing (knowing may.hold (Next slot) next) (Retired class) first) link next) { clear = false; unlinked = Some slot }
+        k4 = record (knowing (knowing (knowing may.hold (Next slot) next) (Retired class) first) link next)
+            { clear = false; unlinked = Some slot }
 
         abbrev v4 : View
         v4 = goes_by (act.UnlinkSlot link slot key next) c.marks next v3
@@ -105,7 +142,8 @@ module _ {table : TableAt} {v : View} {previous : Option ℕ} {slot key : ℕ} (
         view4 : x4 ≡ v4
         view4 = goes_on view3 c
 
-        pub may_chain : (hold : Hold) × ((x4.hold ≡ Some hold) × (hold.unlinked ≡ Some slot)) × (is_slot_of table.capacities hold.class slot ≡ true)
+        pub may_chain : (hold : Hold) × ((x4.hold ≡ Some hold) × (hold.unlinked ≡ Some slot))
+            × (is_slot_of table.capacities hold.class slot ≡ true)
         may_chain = (k4, (ap (λ (z : View). z.hold) view4, refl), may.slot_is)
 
         module _ {x5 : View} (d : Told table x4 (act.StoreChain slot first) first x5) where
@@ -120,9 +158,12 @@ module _ {table : TableAt} {v : View} {previous : Option ℕ} {slot key : ℕ} (
 
           -- the retired word is known past the link and the chain
           past_link : (p : Option ℕ)
-              → known_in (knowing (knowing (knowing (knowing may.hold (Next slot) next) (Retired class) first) (link_after class p) next) (Chain slot) first).known (Retired may.hold.class) ≡ Some first
-          past_link None = subst (λ z. known_in (knowing (knowing may.hold (Next slot) next) (Retired class) first).known (Retired z) ≡ Some first) is (known_here (knowing may.hold (Next slot) next) (Retired class) first)
-          past_link (Some p) = subst (λ z. known_in (knowing (knowing may.hold (Next slot) next) (Retired class) first).known (Retired z) ≡ Some first) is (known_here (knowing may.hold (Next slot) next) (Retired class) first)
+              → known_in (knowing (knowing (knowing (knowing may.hold (Next slot) next) (Retired class) first) (link_after class p) next)
+              (Chain slot) first).known (Retired may.hold.class) ≡ Some first
+          past_link None = subst (λ z. known_in (knowing (knowing may.hold (Next slot) next) (Retired class) first).known (Retired z)
+              ≡ Some first) is (known_here (knowing may.hold (Next slot) next) (Retired class) first)
+          past_link (Some p) = subst (λ z. known_in (knowing (knowing may.hold (Next slot) next) (Retired class) first).known (Retired z)
+              ≡ Some first) is (known_here (knowing may.hold (Next slot) next) (Retired class) first)
 
           pub may_push : (hold : Hold) × (other : ℕ) × NeedsPush x5 hold slot other
           may_push = (
@@ -131,7 +172,8 @@ module _ {table : TableAt} {v : View} {previous : Option ℕ} {slot key : ℕ} (
             record {
               hold_is = ap (λ (z : View). z.hold) view5;
               unlinked = refl;
-              first_is = subst (λ l. known_in (knowing (knowing (knowing (knowing may.hold (Next slot) next) (Retired class) first) l next) (Chain slot) first).known (Retired may.hold.class) ≡ Some first) (sym at) (past_link previous);
+              first_is = subst (λ l. known_in (knowing (knowing (knowing (knowing may.hold (Next slot) next) (Retired class) first) l next)
+                  (Chain slot) first).known (Retired may.hold.class) ≡ Some first) (sym at) (past_link previous);
               chained = known_here k4 (Chain slot) first;
             },
           )
@@ -157,7 +199,16 @@ module _ {table : TableAt} {v : View} {previous : Option ℕ} {slot key : ℕ} (
               view7 = goes_on view6 f
 
               pub may_unlock : (hold : Hold) × NeedsUnlock x7 hold
-              may_unlock = (k6, record { hold_is = ap (λ (z : View). z.hold) view7; taken = may.finished.taken; unlinked = refl; moved = may.finished.moved; even = ap (λ (z : View). z.commit) view7 })
+              may_unlock = (
+                k6,
+                record {
+                  hold_is = ap (λ (z : View). z.hold) view7;
+                  taken = may.finished.taken;
+                  unlinked = refl;
+                  moved = may.finished.moved;
+                  even = ap (λ (z : View). z.commit) view7;
+                },
+              )
 
               pub removed : {x8 : View} → Unlocks x7 x8 → Removed v key (even / 2 + 1) x8
               removed {x8} g =
@@ -171,7 +222,23 @@ module _ {table : TableAt} {v : View} {previous : Option ℕ} {slot key : ℕ} (
                     slot = slot;
                     since = prefix_trans v.seen x2.seen c.marks loaded2.seen from2;
                     legal = subst (λ z. IsLegal (updates_of z)) (sym seen8) c.informed.legal;
-                    number_is = (let half : even / 2 + 1 ≡ length (updates_of x4.seen) = omega arith in half) ∙ ap (λ z. length (updates_of z)) (sym seen8);
+                    number_is = (let half : even / 2 + 1 ≡ length (updates_of x4.seen) = omega arith in half)
+                        ∙ ap (λ z. length (updates_of z)) (sym seen8);
                     view = last ∙ ap (λ (q : Option Commit). record (goes_by act.Unlock [] 0 v7) { commit = q }) (sym may.finished.even)
-                        ∙ sym (ap (λ (z : View). record v { tickets = v.tickets - 1; hold = None; own = v.own ++ Done (record { caller = v.place; op = Del key }) ∷ []; trail = z.trail; seen = c.marks ++ Done (record { caller = v.place; op = Del key }) ∷ Unlinked slot ∷ [] }) last);
+                        ∙ sym (ap (λ (z : View). record v {
+                          tickets = v.tickets - 1;
+                          hold = None;
+                          own = v.own ++ Done (record { caller = v.place; op = Del key }) ∷ [];
+                          trail = z.trail;
+                          seen = c.marks ++ Done (record { caller = v.place; op = Del key }) ∷ Unlinked slot ∷ [];
+                        }) last);
                   }
+
+              pub removed_trail : {x8 : View} → Unlocks x7 x8 → AddsNoLists v.trail x8.trail
+              removed_trail {x8} g =
+                  let last : x8 ≡ goes_by act.Unlock [] 0 v7 = g ∙ ap (goes_by act.Unlock [] 0) view7 in
+                  subst (λ (z : View). AddsNoLists v.trail z.trail) (sym last)
+                  (adds_step v.trail _ H7 (Lock may.hold.class) 0 refl (adds_step v.trail _ H16 Front (even + 2) refl
+                  (adds_step v.trail _ H10 (Retired may.hold.class) slot refl
+                  (adds_step v.trail _ H10 (Chain slot) first refl (adds_step v.trail x3.trail H14 link next refl
+                  (adds_both v.trail x2.trail x3.trail loaded2.trail t.trail))))))

@@ -5,7 +5,7 @@ use Rattle.prcu_marks.specs.declared.mark.Mark.TheVariants.{Done}
 use Rattle.prcu_model.specs.declared.operation.Op.TheVariants.{Set}
 use Rattle.prcu_model.specs.History.{IsLegal}
 use Rattle.hash_core.specs.declared.words.Field.TheVariants.{Front, Lock, Head, Key, Value}
-use Rattle.hash_core.specs.declared.words.Kind.TheVariants.{H6, H12}
+use Rattle.hash_core.specs.declared.words.Kind.TheVariants.{H6, H7, H12, H15, H16}
 use Rattle.hash_core.specs.declared.words.Field.{Field}
 use Rattle.hash_core.specs.declared.words.Kind.{Kind}
 use Rattle.hash_core.specs.declared.view.Hold.{Hold}
@@ -26,7 +26,7 @@ use Rattle.class_hash.specs.Updates.{HasStepped, HasLocked, HasTurned, MayReplac
 use Rattle.class_hash.proofs.Walking.{not_loaded, loaded_more, knows_more, known_here, comes_to_still}
 use Rattle.prcu_model.proofs.ListFacts.{prefix_trans}
 use Rattle.class_hash.proofs.Calls.{goes_by, goes_on}
-use Rattle.class_hash.proofs.Trails.{adds_none, adds_step}
+use Rattle.class_hash.proofs.Trails.{adds_none, adds_step, adds_both}
 
 -- no step was made yet
 pub not_stepped : (v : View) → HasStepped v v
@@ -35,7 +35,8 @@ not_stepped v = record { trail = adds_none v.trail; view = refl }
 -- a lock that was free
 pub locked : (table : TableAt) (v w x : View) (class : ℕ) → HasStepped v w → Told table w (act.Lock class) 0 x → HasLocked v class x
 locked table v w x class idle told =
-    let whole : x ≡ after_lock (stepped (record v { trail = w.trail }) H6 (Lock class) 0) class 0 = told.goes ∙ ap (λ (z : View). after_lock (stepped z H6 (Lock class) 0) class 0) idle.view in
+    let whole : x ≡ after_lock (stepped (record v { trail = w.trail }) H6 (Lock class) 0) class 0 =
+    told.goes ∙ ap (λ (z : View). after_lock (stepped z H6 (Lock class) 0) class 0) idle.view in
     record {
       trail = subst (λ (z : View). AddsNoLists v.trail z.trail) (sym whole) (adds_step v.trail w.trail H6 (Lock class) 0 refl idle.trail);
       view = whole ∙ sym (ap (λ (z : View). record v { hold = Some (fresh_hold class); trail = z.trail }) whole);
@@ -43,7 +44,16 @@ locked table v w x class idle told =
 
 -- who has just locked a bucket has begun nothing there, and may give it up
 pub locked_finished : (table : TableAt) (v w : View) (class : ℕ) → Told table v (act.Lock class) 0 w → HasFinished w
-locked_finished table v w class told = (fresh_hold class, record { hold_is = ap (λ (z : View). z.hold) told.goes; taken = refl; unlinked = refl; moved = refl; even = ap (λ (z : View). z.commit) told.goes ∙ told.gains.even })
+locked_finished table v w class told = (
+  fresh_hold class,
+  record {
+    hold_is = ap (λ (z : View). z.hold) told.goes;
+    taken = refl;
+    unlinked = refl;
+    moved = refl;
+    even = ap (λ (z : View). z.commit) told.goes ∙ told.gains.even;
+  },
+)
 
 -- a step that left nothing but the trail
 stepped_on : (v w x : View) (kind : Kind) (field : Field) (n : ℕ) → loads_free kind field ≡ false → HasStepped v w
@@ -59,7 +69,9 @@ stepped_on v w x kind field n plain idle e =
 pub not_locked : (table : TableAt) (v w x : View) (class found : ℕ) → found ≢ 0 → HasStepped v w → Told table w (act.Lock class) found x
     → HasStepped v x
 not_locked table v w x class found ne idle told =
-    stepped_on v w x H6 (Lock class) found refl idle (told.goes ∙ ap (λ b. cond b (record (stepped w H6 (Lock class) found) { hold = Some (fresh_hold class) }) (stepped w H6 (Lock class) found)) (ne_eqb found 0 ne))
+    stepped_on v w x H6 (Lock class) found refl idle
+    (told.goes ∙ ap (λ b. cond b (record (stepped w H6 (Lock class) found) { hold = Some (fresh_hold class) })
+    (stepped w H6 (Lock class) found)) (ne_eqb found 0 ne))
 
 -- the front was even, and is odd
 pub turned : (table : TableAt) (v w x : View) (even found : ℕ) → found ≡ even → HasStepped v w
@@ -78,7 +90,9 @@ turned table v w x even found same idle told =
 pub not_turned : (table : TableAt) (v w x : View) (even found : ℕ) → found ≢ even → HasStepped v w
     → Told table w (act.OpenCommit even) found x → HasStepped v x
 not_turned table v w x even found ne idle told =
-    stepped_on v w x H12 Front found refl idle (told.goes ∙ ap (λ b. cond b (record (stepped w H12 Front found) { commit = Some (record { found = even; stored = false }) }) (stepped w H12 Front found)) (ne_eqb found even ne))
+    stepped_on v w x H12 Front found refl idle (told.goes
+    ∙ ap (λ b. cond b (record (stepped w H12 Front found) { commit = Some (record { found = even; stored = false }) })
+    (stepped w H12 Front found)) (ne_eqb found even ne))
 
 pub even_next : (found : ℕ) → (found + found % 2) % 2 ≡ 0
 even_next found = omega arith
@@ -89,11 +103,15 @@ still_held v w hold is idle = ap (λ (z : View). z.hold) idle.view ∙ is
 -- after the load of the value
 pub holds_loaded : {table : TableAt} {v x1 : View} {slot key old : ℕ} → MayReplace table.capacities v slot key
     → Told table v (act.LockedLoad (Value slot)) old x1 → (hold : Hold) × (x1.hold ≡ Some hold)
-holds_loaded {table} {v} {x1} {slot} {key} {old} may a =
-    (knowing may.hold (Value slot) old, ap (λ (z : View). z.hold) (loaded_more table v may.hold v may.hold (not_loaded v may.hold may.finished.hold_is) (Value slot) old x1 a refl).view)
+holds_loaded {table} {v} {x1} {slot} {key} {old} may a = (
+  knowing may.hold (Value slot) old,
+  ap (λ (z : View). z.hold)
+      (loaded_more table v may.hold v may.hold (not_loaded v may.hold may.finished.hold_is) (Value slot) old x1 a refl).view,
+)
 
 -- the value was loaded, the front made odd, the value replaced, the front made even, the lock given up
-module _ {table : TableAt} {v x1 x2 : View} {slot key old even : ℕ} (value : ℕ) (may : MayReplace table.capacities v slot key) (a : Told table v (act.LockedLoad (Value slot)) old x1) (b : HasTurned x1 even x2) where
+module _ {table : TableAt} {v x1 x2 : View} {slot key old even : ℕ} (value : ℕ) (may : MayReplace table.capacities v slot key)
+    (a : Told table v (act.LockedLoad (Value slot)) old x1) (b : HasTurned x1 even x2) where
   loaded1 : HasLoaded v may.hold x1 (knowing may.hold (Value slot) old)
   loaded1 = loaded_more table v may.hold v may.hold (not_loaded v may.hold may.finished.hold_is) (Value slot) old x1 a refl
 
@@ -101,18 +119,37 @@ module _ {table : TableAt} {v x1 x2 : View} {slot key old even : ℕ} (value : �
   more1 = knows_more table v may.hold v may.hold (not_loaded v may.hold may.finished.hold_is) (Value slot) old x1 a
 
   abbrev v2 : View
-  v2 = record v { hold = Some (knowing may.hold (Value slot) old); commit = Some (record { found = even; stored = false }); trail = x2.trail; seen = x1.seen }
+  v2 = record v {
+    hold = Some (knowing may.hold (Value slot) old);
+    commit = Some (record { found = even; stored = false });
+    trail = x2.trail;
+    seen = x1.seen;
+  }
 
   view2 : x2 ≡ v2
-  view2 = b.view ∙ ap (λ (z : View). record z { commit = Some (record { found = even; stored = false }); trail = x2.trail; seen = x1.seen }) loaded1.view
+  view2 = b.view ∙ ap (λ (z : View). record z {
+    commit = Some (record { found = even; stored = false });
+    trail = x2.trail;
+    seen = x1.seen;
+  }) loaded1.view
 
   pub may_store : (hold : Hold) × (e : ℕ) × NeedsReplace x2 hold e slot key × (is_slot_of table.capacities hold.class slot ≡ true)
   may_store = (
     knowing may.hold (Value slot) old,
     even,
     record {
-      commit = record { hold_is = ap (λ (z : View). z.hold) view2; commit_is = ap (λ (z : View). z.commit) view2; ticket = subst (λ n. 1 ≤ n) (sym (ap (λ (z : View). z.tickets) view2)) may.ticket };
-      on_walk = record { first = may.on.first; before = may.on.before; head = more1 (Head may.hold.class) may.on.first may.on.head; comes = comes_to_still may.hold.known (knowing may.hold (Value slot) old).known more1 may.on.first may.on.before slot may.on.comes };
+      commit = record {
+        hold_is = ap (λ (z : View). z.hold) view2;
+        commit_is = ap (λ (z : View). z.commit) view2;
+        ticket = subst (λ n. 1 ≤ n) (sym (ap (λ (z : View). z.tickets) view2)) may.ticket;
+      };
+      on_walk = record {
+        first = may.on.first;
+        before = may.on.before;
+        head = more1 (Head may.hold.class) may.on.first may.on.head;
+        comes = comes_to_still may.hold.known (knowing may.hold
+            (Value slot) old).known more1 may.on.first may.on.before slot may.on.comes;
+      };
       key_is = more1 (Key slot) key may.key_is;
     },
     may.slot_is,
@@ -136,7 +173,16 @@ module _ {table : TableAt} {v x1 x2 : View} {slot key old even : ℕ} (value : �
       view4 = goes_on view3 d
 
       pub may_unlock : (hold : Hold) × NeedsUnlock x4 hold
-      may_unlock = (knowing (knowing may.hold (Value slot) old) (Value slot) value, record { hold_is = ap (λ (z : View). z.hold) view4; taken = may.finished.taken; unlinked = may.finished.unlinked; moved = may.finished.moved; even = ap (λ (z : View). z.commit) view4 })
+      may_unlock = (
+        knowing (knowing may.hold (Value slot) old) (Value slot) value,
+        record {
+          hold_is = ap (λ (z : View). z.hold) view4;
+          taken = may.finished.taken;
+          unlinked = may.finished.unlinked;
+          moved = may.finished.moved;
+          even = ap (λ (z : View). z.commit) view4;
+        },
+      )
 
       pub replaced : {x5 : View} → Unlocks x4 x5 → Replaced v key value old (even / 2 + 1) x5
       replaced {x5} e =
@@ -149,9 +195,24 @@ module _ {table : TableAt} {v x1 x2 : View} {slot key old even : ℕ} (value : �
           record {
             before = c.marks;
             since = prefix_trans v.seen x1.seen c.marks loaded1.seen from1;
-            was = c.gains.was old (subst (λ (k : Hold). known_in k.known (Value slot) ≡ Some old) (sym known2) (known_here may.hold (Value slot) old));
+            was = c.gains.was old (subst (λ (k : Hold). known_in k.known (Value slot) ≡ Some old) (sym known2)
+                (known_here may.hold (Value slot) old));
             legal = subst (λ z. IsLegal (updates_of z)) (sym seen5) c.informed.legal;
-            number_is = (let half : even / 2 + 1 ≡ length (updates_of x3.seen) = omega arith in half) ∙ ap (λ z. length (updates_of z)) (sym seen5);
+            number_is = (let half : even / 2 + 1 ≡ length (updates_of x3.seen) = omega arith in half)
+                ∙ ap (λ z. length (updates_of z)) (sym seen5);
             view = last ∙ ap (λ (t : Option Commit). record (goes_by act.Unlock [] 0 v4) { commit = t }) (sym may.finished.even)
-                ∙ sym (ap (λ (z : View). record v { tickets = v.tickets - 1; hold = None; own = v.own ++ Done (record { caller = v.place; op = Set key value }) ∷ []; trail = z.trail; seen = c.marks ++ Done (record { caller = v.place; op = Set key value }) ∷ [] }) last);
+                ∙ sym (ap (λ (z : View). record v {
+                  tickets = v.tickets - 1;
+                  hold = None;
+                  own = v.own ++ Done (record { caller = v.place; op = Set key value }) ∷ [];
+                  trail = z.trail;
+                  seen = c.marks ++ Done (record { caller = v.place; op = Set key value }) ∷ [];
+                }) last);
           }
+
+      pub replaced_trail : {x5 : View} → Unlocks x4 x5 → AddsNoLists v.trail x5.trail
+      replaced_trail {x5} e =
+          let last : x5 ≡ goes_by act.Unlock [] 0 v4 = e ∙ ap (goes_by act.Unlock [] 0) view4 in
+          subst (λ (z : View). AddsNoLists v.trail z.trail) (sym last)
+          (adds_step v.trail _ H7 (Lock may.hold.class) 0 refl (adds_step v.trail _ H16 Front (even + 2) refl
+          (adds_step v.trail x2.trail H15 (Value slot) value refl (adds_both v.trail x1.trail x2.trail loaded1.trail b.trail))))

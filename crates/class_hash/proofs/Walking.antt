@@ -33,7 +33,8 @@ pub known_still : (hold : Hold) (field : Field) (n : ℕ) → ((number : ℕ) �
 known_still hold field n agrees other number is = by (same_field field other) refl
   where
     by : (t : Bool) → same_field field other ≡ t → known_in (knowing hold field n).known other ≡ Some number
-    by true e = let q : field ≡ other = same_is field other e in ap (λ t. cond t (Some n) (known_in hold.known other)) e ∙ ap Some (agrees number (ap (known_in hold.known) q ∙ is))
+    by true e = let q : field ≡ other = same_is field other e in
+        ap (λ t. cond t (Some n) (known_in hold.known other)) e ∙ ap Some (agrees number (ap (known_in hold.known) q ∙ is))
     by false e = ap (λ t. cond t (Some n) (known_in hold.known other)) e ∙ is
 
 -- a walk that is known stays known
@@ -72,10 +73,18 @@ comes_to known first (s ∷ ss) slot ne c = (c.0, c.1, (c.2.0, c.2.1, comes_to k
 
 -- nothing was loaded yet
 pub not_loaded : (v : View) (hold : Hold) → v.hold ≡ Some hold → HasLoaded v hold v hold
-not_loaded v hold was = record { was = was; more = λ f n is. is; only = refl; trail = adds_none v.trail; seen = prefix_self v.seen; view = λ j. record v { hold = was j } }
+not_loaded v hold was = record {
+  was = was;
+  more = λ f n is. is;
+  only = refl;
+  trail = adds_none v.trail;
+  seen = prefix_self v.seen;
+  view = λ j. record v { hold = was j };
+}
 
 -- one more load
-module _ (table : TableAt) (v : View) (hold : Hold) (w : View) (now : Hold) (loaded : HasLoaded v hold w now) (field : Field) (n : ℕ) (x : View) (s : Told table w (LockedLoad field) n x) where
+module _ (table : TableAt) (v : View) (hold : Hold) (w : View) (now : Hold) (loaded : HasLoaded v hold w now) (field : Field) (n : ℕ)
+    (x : View) (s : Told table w (LockedLoad field) n x) where
   holds_now : w.hold ≡ Some now
   holds_now = ap (λ (z : View). z.hold) loaded.view
 
@@ -104,7 +113,8 @@ module _ (table : TableAt) (v : View) (hold : Hold) (w : View) (now : Hold) (loa
         only = λ j. record (loaded.only j) { known = record { field = field; number = n } ∷ now.known };
         trail = subst (λ (z : View). AddsNoLists v.trail z.trail) (sym after) (adds_step v.trail w.trail H9 field n plain loaded.trail);
         seen = subst (λ (z : View). IsPrefix v.seen z.seen) (sym after) (by (n == 0) longer);
-        view = after ∙ (λ j. record (loaded.view j) { hold = Some (knowing now field n); trail = there.trail; seen = there.seen }) ∙ (λ j. record v { hold = Some (knowing now field n); trail = (sym after j).trail; seen = (sym after j).seen });
+        view = after ∙ (λ j. record (loaded.view j) { hold = Some (knowing now field n); trail = there.trail; seen = there.seen })
+            ∙ (λ j. record v { hold = Some (knowing now field n); trail = (sym after j).trail; seen = (sym after j).seen });
       }
     where
       by : (t : Bool) → IsPrefix v.seen s.marks → IsPrefix v.seen (cond t s.marks w.seen)
@@ -120,10 +130,20 @@ pub walk_begins : {table : TableAt} (key : ℕ) {v : View} {hold : Hold} → v.h
     → (new : Hold) × HasLoaded v hold x new × IsWalking table.capacities key new None link
 walk_begins {table} key {v} {hold} was {class} same {link} {x} s =
     let none : HasLoaded v hold v hold = not_loaded v hold was in
-    let head : known_in (knowing hold (Head class) link).known (Head hold.class) ≡ Some link = subst (λ z. known_in (knowing hold (Head class) link).known (Head z) ≡ Some link) same (known_here hold (Head class) link) in (
+    let head : known_in (knowing hold (Head class) link).known (Head hold.class) ≡ Some link =
+    subst (λ z. known_in (knowing hold (Head class) link).known (Head z) ≡ Some link) same (known_here hold (Head class) link) in (
       knowing hold (Head class) link,
       loaded_more table v hold v hold none (Head class) link x s refl,
-      record { first = link; passed = []; head = head; comes = refl; lacks = tt; from = head; slot = link_now table v hold v hold none (Head class) link x s; before = tt },
+      record {
+        first = link;
+        passed = [];
+        head = head;
+        comes = refl;
+        lacks = tt;
+        from = head;
+        slot = link_now table v hold v hold none (Head class) link x s;
+        before = tt;
+      },
     )
 
 -- the walk at its end
@@ -132,11 +152,18 @@ pub walk_ends : {capacities : List ℕ} {key : ℕ} {v w : View} {hold new : Hol
 walk_ends {new = new} e loaded walk = record {
   new = new;
   loaded = loaded;
-  absent = record { first = walk.first; walk = walk.passed; head = walk.head; whole = whole new.known walk.first walk.passed (subst (ComesOver new.known walk.first walk.passed) e walk.comes); lacks = walk.lacks };
+  absent = record {
+    first = walk.first;
+    walk = walk.passed;
+    head = walk.head;
+    whole = whole new.known walk.first walk.passed (subst (ComesOver new.known walk.first walk.passed) e walk.comes);
+    lacks = walk.lacks;
+  };
 }
 
 -- one turn of the walk
-module _ {table : TableAt} {key : ℕ} {v : View} {hold : Hold} {w : View} {now : Hold} (loaded : HasLoaded v hold w now) {previous : Option ℕ} {link : ℕ} (walk : IsWalking table.capacities key now previous link)
+module _ {table : TableAt} {key : ℕ} {v : View} {hold : Hold} {w : View} {now : Hold} (loaded : HasLoaded v hold w now)
+    {previous : Option ℕ} {link : ℕ} (walk : IsWalking table.capacities key now previous link)
     {slot : ℕ} (is : slot ≡ link) (ne : link ≢ 0) {k : ℕ} {x : View} (s : Told table w (LockedLoad (Key slot)) k x) where
   abbrev then : Hold
   then = knowing now (Key slot) k
@@ -151,12 +178,23 @@ module _ {table : TableAt} {key : ℕ} {v : View} {hold : Hold} {w : View} {now 
   comes = subst (ComesOver now.known walk.first walk.passed) (sym is) walk.comes
 
   on_then : IsOnWalk (knowing now (Key slot) k) slot
-  on_then = record { first = walk.first; before = walk.passed; head = more (Head now.class) walk.first walk.head; comes = comes_to_still now.known (knowing now (Key slot) k).known more walk.first walk.passed slot (comes_to now.known walk.first walk.passed slot some_slot comes) }
+  on_then = record {
+    first = walk.first;
+    before = walk.passed;
+    head = more (Head now.class) walk.first walk.head;
+    comes = comes_to_still now.known (knowing now (Key slot) k).known more walk.first walk.passed slot
+        (comes_to now.known walk.first walk.passed slot some_slot comes);
+  }
 
   from_then : (p : Option ℕ) → IsLinkedFrom now p link → IsLinkedFrom (knowing now (Key slot) k) p slot
   from_then None f = more (Head now.class) slot (f ∙ ap Some (sym is))
   from_then (Some p) f = (
-    record { first = f.0.first; before = f.0.before; head = more (Head now.class) f.0.first f.0.head; comes = comes_to_still now.known (knowing now (Key slot) k).known more f.0.first f.0.before p f.0.comes },
+    record {
+      first = f.0.first;
+      before = f.0.before;
+      head = more (Head now.class) f.0.first f.0.head;
+      comes = comes_to_still now.known (knowing now (Key slot) k).known more f.0.first f.0.before p f.0.comes;
+    },
     more (Next p) slot (f.1 ∙ ap Some (sym is)),
   )
 
@@ -170,7 +208,12 @@ module _ {table : TableAt} {key : ℕ} {v : View} {hold : Hold} {w : View} {now 
   walk_found e = record {
     new = knowing now (Key slot) k;
     loaded = loaded_more table v hold w now loaded (Key slot) k x s refl;
-    found = record { some = some_slot; on = on_then; from = from_then previous walk.from; key_is = known_here now (Key slot) k ∙ ap Some e };
+    found = record {
+      some = some_slot;
+      on = on_then;
+      from = from_then previous walk.from;
+      key_is = known_here now (Key slot) k ∙ ap Some e;
+    };
     slot_is = subst (λ z. is_slot_of table.capacities z slot ≡ true) same_class of_class;
     before = subst (λ z. IfSome previous (λ p. is_slot_of table.capacities z p ≡ true)) same_class walk.before;
   }
@@ -183,8 +226,10 @@ module _ {table : TableAt} {key : ℕ} {v : View} {hold : Hold} {w : View} {now 
       → (new : Hold) × HasLoaded v hold y new × IsWalking table.capacities key new (Some slot) next
   walk_passes not {next} {y} t =
       let here : HasLoaded v hold x (knowing now (Key slot) k) = loaded_more table v hold w now loaded (Key slot) k x s refl in
-      let further : KnowsMore (knowing now (Key slot) k).known (knowing (knowing now (Key slot) k) (Next slot) next).known = knows_more table v hold x (knowing now (Key slot) k) here (Next slot) next y t in
-      let next_is : known_in (knowing (knowing now (Key slot) k) (Next slot) next).known (Next slot) ≡ Some next = known_here (knowing now (Key slot) k) (Next slot) next in
+      let further : KnowsMore (knowing now (Key slot) k).known (knowing (knowing now (Key slot) k) (Next slot) next).known =
+      knows_more table v hold x (knowing now (Key slot) k) here (Next slot) next y t in
+      let next_is : known_in (knowing (knowing now (Key slot) k) (Next slot) next).known (Next slot) ≡ Some next =
+      known_here (knowing now (Key slot) k) (Next slot) next in
       let both : KnowsMore now.known (knowing (knowing now (Key slot) k) (Next slot) next).known = (λ f n e. further f n (more f n e)) in (
         knowing (knowing now (Key slot) k) (Next slot) next,
         loaded_more table v hold x (knowing now (Key slot) k) here (Next slot) next y t refl,
@@ -192,10 +237,18 @@ module _ {table : TableAt} {key : ℕ} {v : View} {hold : Hold} {w : View} {now 
           first = walk.first;
           passed = walk.passed ++ slot ∷ [];
           head = both (Head now.class) walk.first walk.head;
-          comes = comes_more now.known (knowing (knowing now (Key slot) k) (Next slot) next).known both walk.first walk.passed slot next some_slot next_is comes;
-          lacks = lacks_more now.known (knowing (knowing now (Key slot) k) (Next slot) next).known both key walk.passed slot k (further (Key slot) k (known_here now (Key slot) k)) not walk.lacks;
+          comes = comes_more now.known (knowing (knowing now (Key slot) k)
+              (Next slot) next).known both walk.first walk.passed slot next some_slot next_is comes;
+          lacks = lacks_more now.known (knowing (knowing now (Key slot) k) (Next slot) next).known both key walk.passed slot k
+              (further (Key slot) k (known_here now (Key slot) k)) not walk.lacks;
           from = (
-            record { first = on_then.first; before = on_then.before; head = further (Head now.class) on_then.first on_then.head; comes = comes_to_still (knowing now (Key slot) k).known (knowing (knowing now (Key slot) k) (Next slot) next).known further on_then.first on_then.before slot on_then.comes },
+            record {
+              first = on_then.first;
+              before = on_then.before;
+              head = further (Head now.class) on_then.first on_then.head;
+              comes = comes_to_still (knowing now (Key slot) k).known
+                  (knowing (knowing now (Key slot) k) (Next slot) next).known further on_then.first on_then.before slot on_then.comes;
+            },
             next_is,
           );
           slot = link_now table v hold x (knowing now (Key slot) k) here (Next slot) next y t on_then;
@@ -209,7 +262,8 @@ avoids_zero known first [] w = tt
 avoids_zero known first (s ∷ ss) w = (w.1, avoids_zero known w.2.0 ss w.2.2)
 
 -- what stays known of a walk where another slot is stored in
-module _ (before after : List Known) (slot : ℕ) (nexts : (s : ℕ) → s ≢ slot → known_in after (Next s) ≡ known_in before (Next s)) (keys : (s : ℕ) → s ≢ slot → known_in after (Key s) ≡ known_in before (Key s)) where
+module _ (before after : List Known) (slot : ℕ) (nexts : (s : ℕ) → s ≢ slot → known_in after (Next s) ≡ known_in before (Next s))
+    (keys : (s : ℕ) → s ≢ slot → known_in after (Key s) ≡ known_in before (Key s)) where
   pub whole_kept : (first : ℕ) (ss : List ℕ) → AllByRecursion (λ s. s ≢ slot) ss → IsWholeWalk before first ss
       → IsWholeWalk after first ss
   whole_kept first [] a w = w
@@ -225,6 +279,8 @@ free_absent hold free key shows = record {
   first = shows.first;
   walk = shows.walk;
   head = shows.head;
-  whole = whole_kept hold.known (knowing hold (Free hold.class) free).known 0 (λ s _. refl) (λ s _. refl) shows.first shows.walk (avoids_zero hold.known shows.first shows.walk shows.whole) shows.whole;
-  lacks = lacks_kept hold.known (knowing hold (Free hold.class) free).known 0 (λ s _. refl) (λ s _. refl) key shows.walk (avoids_zero hold.known shows.first shows.walk shows.whole) shows.lacks;
+  whole = whole_kept hold.known (knowing hold (Free hold.class) free).known 0 (λ s _. refl) (λ s _. refl) shows.first shows.walk
+      (avoids_zero hold.known shows.first shows.walk shows.whole) shows.whole;
+  lacks = lacks_kept hold.known (knowing hold (Free hold.class) free).known 0 (λ s _. refl) (λ s _. refl) key shows.walk
+      (avoids_zero hold.known shows.first shows.walk shows.whole) shows.lacks;
 }

@@ -93,7 +93,8 @@ slot_added before room n chain old ws ws' long is_chain is was = subst (HasSlots
   };
   slots = λ i small. dite (ℕ_discrete i n)
       (λ e. subst (λ z. IsFreshSlot (ws ++ more) (before + z + 1) (next_link before room z)) (sym e) here)
-      (λ ne. let b = was.grown.long in slot_kept ws (ws ++ more) (before + i + 1) _ (old_word ws more) (omega arith) (was.slots i (omega arith)));
+      (λ ne. let b = was.grown.long in slot_kept ws (ws ++ more) (before + i + 1) _ (old_word ws more) (omega arith)
+      (was.slots i (omega arith)));
 })
   where
     more : List ℕ
@@ -108,7 +109,10 @@ slot_added before room n chain old ws ws' long is_chain is was = subst (HasSlots
     }
 
 pub no_class_slots : (capacities ws : List ℕ) → HasClassSlots capacities 0 ws ws
-no_class_slots capacities ws = record { grown = record { long = omega arith; kept = λ i below. refl }; slots = λ c i small. absurd (omega arith) }
+no_class_slots capacities ws = record {
+  grown = record { long = omega arith; kept = λ i below. refl };
+  slots = λ c i small. absurd (omega arith);
+}
 
 pub class_slots_added : (capacities : List ℕ) (n : ℕ) (old ws ws' : List ℕ) → length old ≡ 321 → n < length capacities
     → HasSlots (base capacities n) (capacity capacities n) (capacity capacities n) ws ws' → HasClassSlots capacities n old ws
@@ -120,7 +124,8 @@ class_slots_added capacities n old ws ws' long small added was =
     record {
       grown = record { long = omega arith; kept = λ i below. added.grown.kept i (omega arith) ∙ was.grown.kept i below };
       slots = λ c i before room. dite (ℕ_discrete c n)
-          (λ e. subst (λ z. IsFreshSlot ws' (base capacities z + i + 1) (next_link (base capacities z) (capacity capacities z) i)) (sym e) (added.slots i (subst (λ z. i < capacity capacities z) e room)))
+          (λ e. subst (λ z. IsFreshSlot ws' (base capacities z + i + 1) (next_link (base capacities z) (capacity capacities z) i)) (sym e)
+          (added.slots i (subst (λ z. i < capacity capacities z) e room)))
           (λ ne.
           let up = upto c n (omega arith) small in
           slot_kept ws ws' (base capacities c + i + 1) _ added.grown.kept (omega arith) (was.slots c i (omega arith) room));
@@ -130,9 +135,11 @@ class_slots_added capacities n old ws ws' long small added was =
     upto c zero less small = absurd (omega arith)
     upto c (suc n) less small =
         let e : suc n ≡ n + 1 = omega arith in
-        let more : base capacities (suc n) ≡ base capacities n + capacity capacities n = ap (base capacities) e ∙ base_more capacities n (omega arith) in
+        let more : base capacities (suc n) ≡ base capacities n + capacity capacities n =
+        ap (base capacities) e ∙ base_more capacities n (omega arith) in
         dite (ℕ_discrete c n)
-        (λ same. let p : base capacities c + capacity capacities c ≡ base capacities n + capacity capacities n = ap (λ z. base capacities z + capacity capacities z) same in omega arith)
+        (λ same. let p : base capacities c + capacity capacities c ≡ base capacities n + capacity capacities n =
+        ap (λ z. base capacities z + capacity capacities z) same in omega arith)
         (λ ne. let up = upto c n (omega arith) (omega arith) in omega arith)
 
 pub all_fresh : (capacities ws ws' : List ℕ) → length capacities ≡ 64 → HasClasses capacities (length capacities) ws
@@ -152,7 +159,9 @@ all_fresh capacities ws ws' all classes slots =
 pub rule_starts : (k : Shape) (cs ws : List ℕ) → k.capacities.items ≡ cs → length cs ≡ 64 → sum cs ≤ 2097152
     → (1 ≤ k.places) × (k.places ≤ 64) → k.tickets ≤ most_tickets → IsFresh cs ws → Rule k ws (first_seated k ∷ [])
 rule_starts k cs ws same classes slots places tickets fresh =
-    let shape : IsShape k.capacities.items k.places k.tickets = subst (λ z. IsShape z k.places k.tickets) (sym same) (record { classes = classes; slots = slots; some_place = places.0; few_places = places.1; few_tickets = tickets }) in
+    let shape : IsShape k.capacities.items k.places k.tickets =
+    subst (λ z. IsShape z k.places k.tickets) (sym same)
+    (record { classes = classes; slots = slots; some_place = places.0; few_places = places.1; few_tickets = tickets }) in
     let all : IsFresh k.capacities.items ws = subst (λ z. IsFresh z ws) (sym same) fresh in
     record {
       marks = [];

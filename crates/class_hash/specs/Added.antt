@@ -23,4 +23,5 @@ pub record HasSlots (before room n : ℕ) (old new : List ℕ) : Type 0 where
 -- the words of all slots of the first so many classes were added
 pub record HasClassSlots (capacities : List ℕ) (n : ℕ) (old new : List ℕ) : Type 0 where
   pub grown : HasGrown old new (4 * base capacities n)
-  pub slots : (c i : ℕ) → c < n → i < capacity capacities c → IsFreshSlot new (base capacities c + i + 1) (next_link (base capacities c) (capacity capacities c) i)
+  pub slots : (c i : ℕ) → c < n → i < capacity capacities c
+      → IsFreshSlot new (base capacities c + i + 1) (next_link (base capacities c) (capacity capacities c) i)

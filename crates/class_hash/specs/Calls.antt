@@ -39,9 +39,14 @@ pub record Lists (capacities : List ℕ) (v : View) (free retired : ℕ) (w : Vi
   pub free_link : IsLink capacities hold.class free
   pub retired_link : IsLink capacities hold.class retired
   pub full : free ≡ 0 → retired ≡ 0 → IsFull capacities hold w.seen
-  pub trail : w.trail ≡ (v.trail ++ record { kind = H9; field = Free hold.class; number = free } ∷ []) ++ record { kind = H9; field = Retired hold.class; number = retired } ∷ []
+  pub trail : w.trail ≡ (v.trail ++ record { kind = H9; field = Free hold.class; number = free } ∷ [])
+      ++ record { kind = H9; field = Retired hold.class; number = retired } ∷ []
   pub seen : IsPrefix v.seen w.seen
-  pub rest : w ≡ record v { hold = Some (knowing (knowing hold (Free hold.class) free) (Retired hold.class) retired); trail = w.trail; seen = w.seen }
+  pub rest : w ≡ record v {
+    hold = Some (knowing (knowing hold (Free hold.class) free) (Retired hold.class) retired);
+    trail = w.trail;
+    seen = w.seen;
+  }
 
 -- What was begun is finished. The free list was last known to be empty, and the retired list not to be.
 pub record MayPoll (v : View) : Type 0 where
@@ -62,7 +67,8 @@ pub record Refilled (v w : View) : Type 0 where
   pub is : v.hold ≡ Some hold
   pub first : ℕ
   pub retired : known_in hold.known (Retired hold.class) ≡ Some first
-  pub rest : w ≡ record (stepped (stepped (stepped v H8 (Readers hold.class) 0) H10 (Retired hold.class) 0) H10 (Free hold.class) first) { hold = Some (polled hold first) }
+  pub rest : w ≡ record (stepped (stepped (stepped v H8 (Readers hold.class) 0) H10 (Retired hold.class) 0) H10 (Free hold.class) first)
+      { hold = Some (polled hold first) }
 
 -- So many readers of the class were found, and nothing changed.
 pub record Waits (v : View) (class count : ℕ) (w : View) : Type 0 where

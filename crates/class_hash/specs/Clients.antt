@@ -50,6 +50,7 @@ ExplainsInClasses capacities m op reply = Explains (record { scripts = 0; slots 
 
 -- Of a client whose place had made no update, the calls so far tell of lines that fit the updates that it has seen.
 abbrev pub ChainsMeetFronts : Type 0
-ChainsMeetFronts = (ops : List Op) (tolds : List Told) (before after : ClientAt) → IsInformed before.table.capacities before.table.places before.view
+ChainsMeetFronts = (ops : List Op) (tolds : List Told) (before after : ClientAt)
+    → IsInformed before.table.capacities before.table.places before.view
     → own_updates before.view.place (updates_of before.view.seen) ≡ [] → IsChain HasCalled before ops tolds after
     → MeetsFronts (ExplainsInClasses before.table.capacities) (updates_of after.view.seen) before.view.place (told_lines ops tolds)

@@ -42,4 +42,5 @@ pub record IsFresh (capacities ws : List ℕ) : Type 0 where
   pub long : length ws ≡ word_count capacities
   pub front : slice_index ws 0 ≡ 0
   pub classes : (c : ℕ) → c < 64 → IsFreshClass ws c (first_link (base capacities c) (capacity capacities c))
-  pub slots : (c i : ℕ) → c < 64 → i < capacity capacities c → IsFreshSlot ws (base capacities c + i + 1) (next_link (base capacities c) (capacity capacities c) i)
+  pub slots : (c i : ℕ) → c < 64 → i < capacity capacities c
+      → IsFreshSlot ws (base capacities c + i + 1) (next_link (base capacities c) (capacity capacities c) i)

@@ -20,7 +20,14 @@ pub record IsSearching (v : View) (key : ℕ) (state : SearchState) (loaded : Op
   pub made : HasBegunLookup key steps
   pub since : IsPrefix v.seen before
   pub view : w ≡ record v {
-    section = Some (record { key = key; count = v.sections; entered = length before; from = length (updates_of before); state = state; loaded = loaded });
+    section = Some (record {
+      key = key;
+      count = v.sections;
+      entered = length before;
+      from = length (updates_of before);
+      state = state;
+      loaded = loaded;
+    });
     sections = v.sections + 1;
     own = v.own ++ Entered v.place v.sections key ∷ [];
     trail = v.trail ++ steps;

@@ -23,7 +23,12 @@ pub record TableAt : Type 0 where
 
 -- a table that is none
 abbrev pub no_table : TableAt
-no_table = record { id = record { words = 0; slots = 0; views_name = 0; atom = 0; block = 0; offset = 0; slot_names = [] }; capacities = []; places = 0; tickets = 0 }
+no_table = record {
+  id = record { words = 0; slots = 0; views_name = 0; atom = 0; block = 0; offset = 0; slot_names = [] };
+  capacities = [];
+  places = 0;
+  tickets = 0;
+}
 
 -- The seat works at a place of the table, which has at most 64, and a lock that it holds is that of a class.
 pub record HasPlace (v : View) : Type 0 where

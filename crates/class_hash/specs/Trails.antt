@@ -23,6 +23,13 @@ pub record IsLookup (key : ℕ) (steps : List StepMade) : Type 0 where
   pub exit : ℕ
   pub are : steps ≡ begun ++ record { kind = H4; field = Readers (key % 64); number = exit } ∷ []
 
+-- More steps were made, the first of which are those of a whole lookup of the key.
+pub record BeginsByLookup (key : ℕ) (before after : List StepMade) : Type 0 where
+  pub lookup : List StepMade
+  pub made : IsLookup key lookup
+  pub later : List StepMade
+  pub trail : after ≡ before ++ (lookup ++ later)
+
 -- whether a step loads the free word of a class under its lock, as who loads both lists does first
 abbrev pub loads_free : Kind → Field → Bool
 loads_free H9 (Free class) = true
@@ -41,4 +48,5 @@ pub record AddsNoLists (before after : List StepMade) : Type 0 where
 pub record LoadsBothEmpty (class : ℕ) (before after : List StepMade) : Type 0 where
   pub earlier : List StepMade
   pub later : List StepMade
-  pub trail : after ≡ before ++ (earlier ++ record { kind = H9; field = Free class; number = 0 } ∷ record { kind = H9; field = Retired class; number = 0 } ∷ later)
+  pub trail : after ≡ before ++ (earlier ++ record { kind = H9; field = Free class; number = 0 }
+      ∷ record { kind = H9; field = Retired class; number = 0 } ∷ later)

@@ -27,7 +27,8 @@ pub record HasLoaded (v : View) (hold : Hold) (w : View) (new : Hold) : Type 0 w
 -- The walk from a link goes over these slots and comes to another link.
 abbrev pub ComesOver : List Known → ℕ → List ℕ → ℕ → Type 0
 ComesOver known first [] link = first ≡ link
-ComesOver known first (s ∷ ss) link = (first ≡ s) × (s ≢ 0) × ((next : ℕ) × (known_in known (Next s) ≡ Some next) × ComesOver known next ss link)
+ComesOver known first (s ∷ ss) link = (first ≡ s) × (s ≢ 0)
+    × ((next : ℕ) × (known_in known (Next s) ≡ Some next) × ComesOver known next ss link)
 
 -- The link that the walk came to stands in the head, or in the next of the slot before.
 abbrev pub IsLinkedFrom : Hold → Option ℕ → ℕ → Type 0

@@ -3,7 +3,7 @@ ghost use Rattle.std.specs.Prelude.{◌≡◌, ◌≤◌, ◌%◌, ◌↔◌};
 ghost use Rattle.prcu_model.specs.declared.operation.Reply.TheVariants.{Full};
 ghost use Rattle.hash_core.specs.Steps.{IsQuiet};
 ghost use Rattle.class_hash.specs.Answers.{IsInformed};
-ghost use Rattle.class_hash.specs.Trails.{LoadsBothEmpty};
+ghost use Rattle.class_hash.specs.Trails.{LoadsBothEmpty, BeginsByLookup};
 ghost use Rattle.class_hash.specs.Replies.{Gets, told_added, Puts, Sets, Dels};
 
 use crate::bucket::free_bucket;
@@ -57,6 +57,7 @@ pub fn put<R: Wait>(rt: &R, table: &HashTable, seat: &mut HashSeat, key: u64, va
     ensures table { seat.new.table ≡ seat.old.table }
     ensures view { Puts table.now.capacities seat.old.view key value result seat.new.view }
     ensures full { (result.reply ≡ Full) ↔ LoadsBothEmpty (key % 64) seat.old.view.trail seat.new.view.trail }
+    ensures begins { BeginsByLookup key seat.old.view.trail seat.new.view.trail }
     ensures informed { IsInformed table.now.capacities table.now.places seat.new.view }
     ensures quiet { IsQuiet seat.new.view }
 {
@@ -81,6 +82,7 @@ pub fn set<R: Wait>(rt: &R, table: &HashTable, seat: &mut HashSeat, key: u64, va
     requires ticket { 1 ≤ seat.old.view.tickets }
     ensures table { seat.new.table ≡ seat.old.table }
     ensures view { Sets seat.old.view key value result seat.new.view }
+    ensures begins { BeginsByLookup key seat.old.view.trail seat.new.view.trail }
     ensures informed { IsInformed table.now.capacities table.now.places seat.new.view }
     ensures quiet { IsQuiet seat.new.view }
 {
@@ -106,6 +108,7 @@ pub fn del<R: Wait>(rt: &R, table: &HashTable, seat: &mut HashSeat, key: u64) ->
     requires ticket { 1 ≤ seat.old.view.tickets }
     ensures table { seat.new.table ≡ seat.old.table }
     ensures view { Dels seat.old.view key result seat.new.view }
+    ensures begins { BeginsByLookup key seat.old.view.trail seat.new.view.trail }
     ensures informed { IsInformed table.now.capacities table.now.places seat.new.view }
     ensures quiet { IsQuiet seat.new.view }
 {

@@ -37,8 +37,10 @@ fn walk_unlocked<R: Wait>(rt: &R, table: &HashTable, seat: &mut HashSeat, key: u
     requires table { seat.old.table ≡ table.now.id }
     requires entered { (before : View) × IsSearching before key Start None seat.old.view }
     ensures table { seat.new.table ≡ seat.old.table }
-    ensures ended { (before : View) → IsSearching before key Start None seat.old.view → result ≡ None → IsSearching before key Ended None seat.new.view }
-    ensures found { (before : View) (value : ℕ) → IsSearching before key Start None seat.old.view → result ≡ Some value → (slot : ℕ) × IsSearching before key (Found slot) (Some value) seat.new.view }
+    ensures ended { (before : View) → IsSearching before key Start None seat.old.view → result ≡ None
+        → IsSearching before key Ended None seat.new.view }
+    ensures found { (before : View) (value : ℕ) → IsSearching before key Start None seat.old.view → result ≡ Some value
+        → (slot : ℕ) × IsSearching before key (Found slot) (Some value) seat.new.view }
 {
     let class = (key % 64) as u32;
     let mut link = steps::search_load(table, seat, Field::Head { class });

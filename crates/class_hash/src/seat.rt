@@ -53,7 +53,8 @@ impl Model for HashSeat {
 
     ghost view = { λ s. record { table = s.seat.table_id; view = s.seat.me.0 } };
 
-    ghost invariant = { λ s. (s.seat.me.1 ≡ []) × IsSeat (record { place = s.place; places = s.places; tickets = s.tickets; key = s.key; bucket = s.bucket }) s.seat.me.0 };
+    ghost invariant = { λ s. (s.seat.me.1 ≡ []) × IsSeat
+        (record { place = s.place; places = s.places; tickets = s.tickets; key = s.key; bucket = s.bucket }) s.seat.me.0 };
 }
 
 impl HashSeat {
@@ -103,7 +104,8 @@ impl HashSeat {
 
     /// The first slot of the retired list, which is known.
     pub(crate) fn first_retired(&self) -> u64
-        requires { (hold : Hold) × (first : ℕ) × (self.now.view.hold ≡ Some hold) × (known_in hold.known (Retired hold.class) ≡ Some first) }
+        requires { (hold : Hold) × (first : ℕ) × (self.now.view.hold ≡ Some hold)
+            × (known_in hold.known (Retired hold.class) ≡ Some first) }
         ensures { (hold : Hold) → self.now.view.hold ≡ Some hold → known_in hold.known (Retired hold.class) ≡ Some result }
     {
         match &self.bucket {
@@ -126,7 +128,9 @@ impl HashSeat {
         requires tickets { tickets ≤ self.view.tickets }
         ensures table { (result.0.table ≡ self.table) × (result.1.table ≡ self.table) }
         ensures views { (result.0.view ≡ first_of places tickets self.view) × (result.1.view ≡ second_of places tickets self.view) }
-        ensures informed { IsInformed table.now.capacities table.now.places self.view → IsInformed table.now.capacities table.now.places result.0.view × IsInformed table.now.capacities table.now.places result.1.view }
+        ensures informed { IsInformed table.now.capacities table.now.places self.view
+            → IsInformed table.now.capacities table.now.places result.0.view
+            × IsInformed table.now.capacities table.now.places result.1.view }
     {
         cut::<Brand>(self, table, places, tickets)
     }

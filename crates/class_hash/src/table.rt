@@ -27,9 +27,15 @@ impl Model for HashTable {
 
     ghost Value = { TableAt };
 
-    ghost view = { λ t. record { id = t.table.shared.table_id; capacities = t.table.shared.key.capacities.items; places = t.table.shared.key.places; tickets = t.table.shared.key.tickets } };
+    ghost view = { λ t. record {
+      id = t.table.shared.table_id;
+      capacities = t.table.shared.key.capacities.items;
+      places = t.table.shared.key.places;
+      tickets = t.table.shared.key.tickets;
+    } };
 
-    ghost invariant = { λ t. (t.table.shared.table_id.words ≡ word_count t.table.shared.key.capacities.items) × IsShape t.table.shared.key.capacities.items t.table.shared.key.places t.table.shared.key.tickets };
+    ghost invariant = { λ t. (t.table.shared.table_id.words ≡ word_count t.table.shared.key.capacities.items)
+        × IsShape t.table.shared.key.capacities.items t.table.shared.key.places t.table.shared.key.tickets };
 }
 
 fn first_link_of(before: u32, room: u32) -> u64
@@ -136,7 +142,8 @@ impl HashTable {
         requires slots { sum capacities.now ≤ 2097152 }
         requires places { (1 ≤ places) × (places ≤ 64) }
         requires tickets { tickets ≤ 2 ^ 40 }
-        ensures made { IfOk result (λ made. (made.0.capacities ≡ capacities.now) × (made.0.places ≡ places) × (made.0.tickets ≡ tickets) × (made.1 ≡ fresh_seat made.0)) }
+        ensures made { IfOk result (λ made. (made.0.capacities ≡ capacities.now) × (made.0.places ≡ places) × (made.0.tickets ≡ tickets)
+            × (made.1 ≡ fresh_seat made.0)) }
         ensures informed { IfOk result (λ made. IsInformed made.0.capacities made.0.places made.1.view) }
     {
         let shape = Shape {

@@ -4,6 +4,7 @@ ghost use Rattle.hash_core.specs.declared.view.Hold.{Hold};
 ghost use Rattle.hash_core.specs.Steps.{IsQuiet};
 ghost use Rattle.class_hash.specs.Answers.{IsInformed};
 ghost use Rattle.class_hash.specs.Calls.{HasFinished};
+ghost use Rattle.class_hash.specs.Trails.{AddsNoLists};
 ghost use Rattle.class_hash.specs.Updates.{HasLocked, HasTurned, MayReplace, Replaced, link_after, MayUnlink, Removed};
 
 use crate::bucket::{Lock, try_bucket};
@@ -67,6 +68,7 @@ pub(crate) fn replace<R: Wait>(
     requires case { MayReplace table.now.capacities seat.old.view slot key }
     ensures table { seat.new.table ≡ seat.old.table }
     ensures view { Replaced seat.old.view key value result.0 result.1 seat.new.view }
+    ensures trail { AddsNoLists seat.old.view.trail seat.new.view.trail }
     ensures informed { IsInformed table.now.capacities table.now.places seat.new.view }
 {
     let old = steps::locked_load(table, seat, Field::Value { slot });
@@ -100,6 +102,7 @@ pub(crate) fn unlink<R: Wait>(
     requires case { MayUnlink table.now.capacities seat.old.view previous slot key }
     ensures table { seat.new.table ≡ seat.old.table }
     ensures view { Removed seat.old.view key result seat.new.view }
+    ensures trail { AddsNoLists seat.old.view.trail seat.new.view.trail }
     ensures informed { IsInformed table.now.capacities table.now.places seat.new.view }
 {
     let class = seat.class_held();

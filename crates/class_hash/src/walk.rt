@@ -29,7 +29,8 @@ pub(crate) fn walk_locked<R: Wait>(
     requires held { (hold : Hold) × (seat.old.view.hold ≡ Some hold) }
     ensures table { seat.new.table ≡ seat.old.table }
     ensures absent { IfNone result ((hold : Hold) → seat.old.view.hold ≡ Some hold → WalksPast key seat.old.view hold seat.new.view) }
-    ensures found { IfSome result (λ place. (hold : Hold) → seat.old.view.hold ≡ Some hold → WalksTo table.now.capacities key seat.old.view hold place.previous place.slot seat.new.view) }
+    ensures found { IfSome result (λ place. (hold : Hold) → seat.old.view.hold ≡ Some hold
+        → WalksTo table.now.capacities key seat.old.view hold place.previous place.slot seat.new.view) }
 {
     let class = seat.class_held();
     let mut previous = None;
@@ -53,7 +54,8 @@ pub(crate) fn lacks<R: Wait>(rt: &R, table: &HashTable, seat: &mut HashSeat, key
     requires table { seat.old.table ≡ table.now.id }
     requires held { (hold : Hold) × (seat.old.view.hold ≡ Some hold) }
     ensures table { seat.new.table ≡ seat.old.table }
-    ensures walked { (hold : Hold) → seat.old.view.hold ≡ Some hold → (new : Hold) × HasLoaded seat.old.view hold seat.new.view new × (result ≡ true → ShowsAbsent new key) }
+    ensures walked { (hold : Hold) → seat.old.view.hold ≡ Some hold
+        → (new : Hold) × HasLoaded seat.old.view hold seat.new.view new × (result ≡ true → ShowsAbsent new key) }
 {
     walk_locked(rt, table, seat, key).is_none()
 }

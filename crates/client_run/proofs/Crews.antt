@@ -45,11 +45,14 @@ at_front [] rest a = refl
 at_front (g ∷ gone) rest a = at_front gone rest a
 
 -- the tickets of the scripts that are left are those of the next and of the others
-pub tickets_turn : (scripts : List (List Op)) (i : ℕ) (script : List Op) → slice_get scripts i ≡ Some script → op_count (drop i scripts) ≡ length script + op_count (drop (i + 1) scripts)
-tickets_turn scripts i script there = ap op_count (drop-there scripts i script there) ∙ sum_by-cons {X = List Op} length script (drop (i + 1) scripts)
+pub tickets_turn : (scripts : List (List Op)) (i : ℕ) (script : List Op) → slice_get scripts i ≡ Some script
+    → op_count (drop i scripts) ≡ length script + op_count (drop (i + 1) scripts)
+tickets_turn scripts i script there = ap op_count (drop-there scripts i script there)
+    ∙ sum_by-cons {X = List Op} length script (drop (i + 1) scripts)
 
 -- what workers were told, as lists
-pub entries_are : {C : Type 0} (workers : List (Work C)) → entries_of (map (λ (w : Work C). w.told) workers) ≡ map (λ (w : Work C). w.told.entries) workers
+pub entries_are : {C : Type 0} (workers : List (Work C))
+    → entries_of (map (λ (w : Work C). w.told) workers) ≡ map (λ (w : Work C). w.told.entries) workers
 entries_are [] = refl
 entries_are (w ∷ ws) = ap (λ xs. w.told.entries ∷ xs) (entries_are ws)
 
@@ -57,7 +60,9 @@ module _ {C : Type 0} (client_for : ℕ → ℕ → C) (scripts : List (List Op)
   pub hired_none : AreHired client_for scripts 0 []
   hired_none = record { count = refl; each = λ i worker there. absurd (cc) }
 
-  pub hired_more : (n : ℕ) (workers : List (Work C)) (worker : Work C) → AreHired client_for scripts n workers → IsHired (client_for n (length (get_or scripts n []))) (get_or scripts n []) worker → AreHired client_for scripts (n + 1) (workers ++ worker ∷ [])
+  pub hired_more : (n : ℕ) (workers : List (Work C)) (worker : Work C) → AreHired client_for scripts n workers
+      → IsHired (client_for n (length (get_or scripts n []))) (get_or scripts n []) worker
+      → AreHired client_for scripts (n + 1) (workers ++ worker ∷ [])
   hired_more n workers worker hired next = record {
     count = (let long = hired.count in omega (arith, length-append workers (worker ∷ [])));
     each = λ i other there.
@@ -65,17 +70,20 @@ module _ {C : Type 0} (client_for : ℕ → ℕ → C) (scripts : List (List Op)
         let below = slice_get_within (workers ++ worker ∷ []) i other there in
         let long = length-append workers (worker ∷ []) in
         elim (cases_lt i (length workers)) [
-          | inl earlier ↦ hired.each i other (slice_get-get_or workers i other earlier ∙ ap Some (sym (get_or_append_left workers (worker ∷ []) other i earlier) ∙ read))
+          | inl earlier ↦ hired.each i other (slice_get-get_or workers i other earlier
+              ∙ ap Some (sym (get_or_append_left workers (worker ∷ []) other i earlier) ∙ read))
           | inr late ↦
               let last : length workers ≡ i = omega arith in
               let same : worker ≡ other = sym (get_or_push workers worker other i last) ∙ read in
               let at : n ≡ i = sym hired.count ∙ last in
-              subst (λ (w : Work C). IsHired (client_for i (length (get_or scripts i []))) (get_or scripts i []) w) same (subst (λ k. IsHired (client_for k (length (get_or scripts k []))) (get_or scripts k []) worker) at next)
+              subst (λ (w : Work C). IsHired (client_for i (length (get_or scripts i []))) (get_or scripts i []) w) same
+              (subst (λ k. IsHired (client_for k (length (get_or scripts k []))) (get_or scripts k []) worker) at next)
         ];
   }
 
   -- workers of whom each client has the means for its script
-  pub crew_ready : (left : C → ℕ) → ((i n : ℕ) → n ≤ left (client_for i n)) → (workers : List (Work C)) → IsCrew client_for scripts workers → AreReadyFor left workers scripts
+  pub crew_ready : (left : C → ℕ) → ((i n : ℕ) → n ≤ left (client_for i n)) → (workers : List (Work C)) → IsCrew client_for scripts workers
+      → AreReadyFor left workers scripts
   crew_ready left means workers crew i worker there =
       let hired = crew.each i worker there in
       record {
@@ -84,22 +92,29 @@ module _ {C : Type 0} (client_for : ℕ → ℕ → C) (scripts : List (List Op)
         means = subst (λ c. length (get_or scripts i []) ≤ left c) (sym hired.client_is) (means i (length (get_or scripts i [])));
       }
 
-  module _ (made : C → Op → Told → C → Type 0) (befores afters : List (Work C)) (crew : IsCrew client_for scripts befores) (count : length afters ≡ length befores) (runs : HaveMade made befores scripts afters) where
+  module _ (made : C → Op → Told → C → Type 0) (befores afters : List (Work C)) (crew : IsCrew client_for scripts befores)
+      (count : length afters ≡ length befores) (runs : HaveMade made befores scripts afters) where
     -- the chain of a worker's calls
-    pub chain_of : (i : ℕ) (after : Work C) → slice_get afters i ≡ Some after → IsChain made (client_for i (length (get_or scripts i []))) (get_or scripts i []) after.told.entries after.client
+    pub chain_of : (i : ℕ) (after : Work C) → slice_get afters i ≡ Some after
+        → IsChain made (client_for i (length (get_or scripts i []))) (get_or scripts i []) after.told.entries after.client
     chain_of i after there =
         let below = slice_get_within afters i after there in
         let same = slice_get-get_or befores i after (omega arith) in
-        subst (λ c. IsChain made c (get_or scripts i []) after.told.entries after.client) (crew.each i (get_or befores i after) same).client_is (runs i (get_or befores i after) after same there)
+        subst (λ c. IsChain made c (get_or scripts i []) after.told.entries after.client)
+        (crew.each i (get_or befores i after) same).client_is (runs i (get_or befores i after) after same there)
 
     -- what holds of each client at first, and is kept by each call, holds in the end
-    pub crew_keeps : (P : ℕ → C → Type 0) → ((i : ℕ) → P i (client_for i (length (get_or scripts i [])))) → ((i : ℕ) (before : C) (op : Op) (told : Told) (after : C) → P i before → made before op told after → P i after) → AreDone P afters
-    crew_keeps P start keeps i after there = chain_keeps made (P i) (keeps i) (get_or scripts i []) after.told.entries (client_for i (length (get_or scripts i []))) after.client (start i) (chain_of i after there)
+    pub crew_keeps : (P : ℕ → C → Type 0) → ((i : ℕ) → P i (client_for i (length (get_or scripts i []))))
+        → ((i : ℕ) (before : C) (op : Op) (told : Told) (after : C) → P i before → made before op told after → P i after) → AreDone P afters
+    crew_keeps P start keeps i after there = chain_keeps made (P i) (keeps i) (get_or scripts i []) after.told.entries
+        (client_for i (length (get_or scripts i []))) after.client (start i) (chain_of i after there)
 
     -- what all scripts were told, beside marks that have met all callers
     pub crew_has_told : (explains : Dictionary → Op → Reply → Type 0) (caller_of : C → Caller)
-        → ((i : ℕ) (ops : List Op) (tolds : List Told) (after : C) → IsChain made (client_for i (length ops)) ops tolds after → HasTold explains (newcomer i) ops tolds (caller_of after))
-        → (marks : List Mark) → HaveMet (map (λ (w : Work C). caller_of w.client) afters) marks → ((p : ℕ) → length scripts ≤ p → updates_of (own_of p marks) ≡ []) → IsLegal (updates_of marks)
+        → ((i : ℕ) (ops : List Op) (tolds : List Told) (after : C) → IsChain made (client_for i (length ops)) ops tolds after
+        → HasTold explains (newcomer i) ops tolds (caller_of after))
+        → (marks : List Mark) → HaveMet (map (λ (w : Work C). caller_of w.client) afters) marks
+        → ((p : ℕ) → length scripts ≤ p → updates_of (own_of p marks) ≡ []) → IsLegal (updates_of marks)
         → HaveTold explains scripts (map (λ (w : Work C). w.told.entries) afters) marks
     crew_has_told explains caller_of told marks met others legal = record {
       count = length-map afters (λ (w : Work C). w.told.entries) ∙ count ∙ crew.count;
@@ -109,19 +124,25 @@ module _ {C : Type 0} (client_for : ℕ → ℕ → C) (scripts : List (List Op)
     }
       where
         found : (i : ℕ) (w : Option (Work C)) → slice_get afters i ≡ w → i < length afters
-            → (c : Caller) × HasTold explains (newcomer i) (get_or scripts i []) (get_or (map (λ (w : Work C). w.told.entries) afters) i []) c × IsPrefix c.seen marks × (own_of i marks ≡ own_of i c.own)
+            → (c : Caller) × HasTold explains (newcomer i) (get_or scripts i [])
+            (get_or (map (λ (w : Work C). w.told.entries) afters) i []) c × IsPrefix c.seen marks × (own_of i marks ≡ own_of i c.own)
         found i None none below = absurd (some_there afters i below none)
         found i (Some after) is below =
-            let here : get_or (map (λ (w : Work C). w.told.entries) afters) i [] ≡ after.told.entries = get_or-map (λ (w : Work C). w.told.entries) afters i after [] below ∙ ap (λ (w : Work C). w.told.entries) (get_or_from_slice_get afters i after after is) in
+            let here : get_or (map (λ (w : Work C). w.told.entries) afters) i [] ≡ after.told.entries =
+            get_or-map (λ (w : Work C). w.told.entries) afters i after [] below
+            ∙ ap (λ (w : Work C). w.told.entries) (get_or_from_slice_get afters i after after is) in
             let all = met i (caller_of after.client) (mapped_at (λ (w : Work C). caller_of w.client) afters i after is) in (
               caller_of after.client,
-              subst (λ ts. HasTold explains (newcomer i) (get_or scripts i []) ts (caller_of after.client)) (sym here) (told i (get_or scripts i []) after.told.entries after.client (chain_of i after is)),
+              subst (λ ts. HasTold explains (newcomer i) (get_or scripts i []) ts (caller_of after.client)) (sym here)
+                  (told i (get_or scripts i []) after.told.entries after.client (chain_of i after is)),
               all.0,
               all.1,
             )
 
-module _ {C S : Type 0} (seat_of : C → S) (done : ℕ → C → Type 0) (stands_for : List C → S → Type 0) (workers : List (Work C)) (told : List (Roomy Told)) (all : AreDone done workers) where
-  pub gathered_first : (rest : List (Work C)) (now : List (Roomy Told)) (seat : S) → HasDismissed seat_of workers rest told now seat → ((c : C) → done 0 c → seat ≡ seat_of c → stands_for (c ∷ []) seat) → IsGathered stands_for workers rest told now seat
+module _ {C S : Type 0} (seat_of : C → S) (done : ℕ → C → Type 0) (stands_for : List C → S → Type 0) (workers : List (Work C))
+    (told : List (Roomy Told)) (all : AreDone done workers) where
+  pub gathered_first : (rest : List (Work C)) (now : List (Roomy Told)) (seat : S) → HasDismissed seat_of workers rest told now seat
+      → ((c : C) → done 0 c → seat ≡ seat_of c → stands_for (c ∷ []) seat) → IsGathered stands_for workers rest told now seat
   gathered_first rest now seat d start = record {
     gone = d.worker ∷ [];
     whole = d.first;
@@ -130,22 +151,33 @@ module _ {C S : Type 0} (seat_of : C → S) (done : ℕ → C → Type 0) (stand
   }
 
   -- the worker that goes next
-  pub gathered_next : (rest left : List (Work C)) (now more : List (Roomy Told)) (seat other : S) → (g : IsGathered stands_for workers rest told now seat) → (d : HasDismissed seat_of rest left now more other) → done (length g.gone) d.worker.client
+  pub gathered_next : (rest left : List (Work C)) (now more : List (Roomy Told)) (seat other : S)
+      → (g : IsGathered stands_for workers rest told now seat) → (d : HasDismissed seat_of rest left now more other)
+      → done (length g.gone) d.worker.client
   gathered_next rest left now more seat other g d =
       let whole : workers ≡ g.gone ++ d.worker ∷ left = g.whole ∙ ap (λ ws. g.gone ++ ws) d.first in
       all (length g.gone) d.worker (ap (λ ws. slice_get ws (length g.gone)) whole ∙ at_front g.gone left d.worker)
 
-  pub gathered_more : (rest left : List (Work C)) (now more : List (Roomy Told)) (seat other both : S) → IsGathered stands_for workers rest told now seat → HasDismissed seat_of rest left now more other
-      → ((cs : List C) (c : C) → done (length cs) c → other ≡ seat_of c → stands_for cs seat → stands_for (cs ++ c ∷ []) both) → IsGathered stands_for workers left told more both
+  pub gathered_more : (rest left : List (Work C)) (now more : List (Roomy Told)) (seat other both : S)
+      → IsGathered stands_for workers rest told now seat → HasDismissed seat_of rest left now more other
+      → ((cs : List C) (c : C) → done (length cs) c → other ≡ seat_of c → stands_for cs seat → stands_for (cs ++ c ∷ []) both)
+      → IsGathered stands_for workers left told more both
   gathered_more rest left now more seat other both g d next = record {
     gone = g.gone ++ d.worker ∷ [];
     whole = g.whole ∙ ap (λ ws. g.gone ++ ws) d.first ∙ sym (append_assoc g.gone (d.worker ∷ []) left);
-    told_is = d.told_is ∙ ap (λ ts. ts ++ d.worker.told ∷ []) g.told_is ∙ append_assoc told (map (λ (w : Work C). w.told) g.gone) (d.worker.told ∷ []) ∙ ap (λ ts. told ++ ts) (sym (map-push (λ (w : Work C). w.told) g.gone d.worker));
+    told_is = d.told_is ∙ ap (λ ts. ts ++ d.worker.told ∷ []) g.told_is
+        ∙ append_assoc told (map (λ (w : Work C). w.told) g.gone) (d.worker.told ∷ [])
+        ∙ ap (λ ts. told ++ ts) (sym (map-push (λ (w : Work C). w.told) g.gone d.worker));
     joined = subst (λ cs. stands_for cs both) (sym (map-push (λ (w : Work C). w.client) g.gone d.worker))
-        (next (map (λ (w : Work C). w.client) g.gone) d.worker.client (subst (λ n. done n d.worker.client) (sym (length-map g.gone (λ (w : Work C). w.client))) (gathered_next rest left now more seat other g d)) d.seat_is g.joined);
+        (next (map (λ (w : Work C). w.client) g.gone) d.worker.client
+        (subst (λ n. done n d.worker.client) (sym (length-map g.gone (λ (w : Work C). w.client)))
+        (gathered_next rest left now more seat other g d)) d.seat_is g.joined);
   }
 
-  pub gathered_all : (now : List (Roomy Told)) (seat : S) → IsGathered stands_for workers [] told now seat → stands_for (map (λ (w : Work C). w.client) workers) seat × (now ≡ told ++ map (λ (w : Work C). w.told) workers)
+  pub gathered_all : (now : List (Roomy Told)) (seat : S) → IsGathered stands_for workers [] told now seat
+      → stands_for (map (λ (w : Work C). w.client) workers) seat × (now ≡ told ++ map (λ (w : Work C). w.told) workers)
   gathered_all now seat g =
-      let gone : g.gone ≡ workers = sym (g.whole ∙ append-nil g.gone) in
-      (subst (λ ws. stands_for (map (λ (w : Work C). w.client) ws) seat) gone g.joined, g.told_is ∙ ap (λ ws. told ++ map (λ (w : Work C). w.told) ws) gone)
+      let gone : g.gone ≡ workers = sym (g.whole ∙ append-nil g.gone) in (
+        subst (λ ws. stands_for (map (λ (w : Work C). w.client) ws) seat) gone g.joined,
+        g.told_is ∙ ap (λ ws. told ++ map (λ (w : Work C). w.told) ws) gone,
+      )

@@ -27,27 +27,42 @@ Any-there : {X : Type 0} (P : X → Type 0) (x : X) (xs : List X) → Any P xs �
 Any-there P x xs any = (suc any.0, any.1, (let below = any.2 in omega arith), any.3, any.4)
 
 Any-append_left : {X : Type 0} (P : X → Type 0) (xs ys : List X) → Any P xs → Any P (xs ++ ys)
-Any-append_left P xs ys any = (any.0, any.1, (let below = any.2 in omega (arith, length-append xs ys)), get_or_append_left xs ys any.1 any.0 any.2 ∙ any.3, any.4)
+Any-append_left P xs ys any = (
+  any.0,
+  any.1,
+  (let below = any.2 in omega (arith, length-append xs ys)),
+  get_or_append_left xs ys any.1 any.0 any.2 ∙ any.3,
+  any.4,
+)
 
 Any-append_right : {X : Type 0} (P : X → Type 0) (xs ys : List X) → Any P ys → Any P (xs ++ ys)
 Any-append_right P [] ys any = any
 Any-append_right P (x ∷ xs) ys any = Any-there P x (xs ++ ys) (Any-append_right P xs ys any)
 
 Any-map : {X Y : Type 0} (P : Y → Type 0) (f : X → Y) (xs : List X) → Any (λ x. P (f x)) xs → Any P (map f xs)
-Any-map P f xs any = (any.0, f any.1, (let below = any.2 in omega (arith, length-map xs f)), get_or-map f xs any.0 any.1 (f any.1) any.2 ∙ ap f any.3, any.4)
+Any-map P f xs any = (
+  any.0,
+  f any.1,
+  (let below = any.2 in omega (arith, length-map xs f)),
+  get_or-map f xs any.0 any.1 (f any.1) any.2 ∙ ap f any.3,
+  any.4,
+)
 
-AllPairs-append : {X : Type 0} (R : X → X → Type 0) (xs ys : List X) → AllPairs R xs → AllPairs R ys → All (λ x. All (R x) ys) xs → AllPairs R (xs ++ ys)
+AllPairs-append : {X : Type 0} (R : X → X → Type 0) (xs ys : List X) → AllPairs R xs → AllPairs R ys → All (λ x. All (R x) ys) xs
+    → AllPairs R (xs ++ ys)
 AllPairs-append R [] ys first second cross = second
 AllPairs-append R (x ∷ xs) ys first second cross =
     AllPairs-cons R x (xs ++ ys)
     (All-append (R x) xs ys (λ k d below. first zero (suc k) d (omega arith) (omega arith)) (cross zero x (omega arith)))
-    (AllPairs-append R xs ys (λ i j d less below. first (suc i) (suc j) d (omega arith) (omega arith)) second (λ k d below. cross (suc k) d (omega arith)))
+    (AllPairs-append R xs ys (λ i j d less below. first (suc i) (suc j) d (omega arith) (omega arith)) second
+    (λ k d below. cross (suc k) d (omega arith)))
 
 -- ---- a caller's own updates
 
 -- A caller's update at this position of a history whose first update has that one.
 abbrev IsOwnAt : ℕ → ℕ → List Update → Placed → Type 0
-IsOwnAt position caller us own = (position ≤ own.position) × (slice_get us (own.position - position) ≡ Some (record { caller = caller; op = own.op }))
+IsOwnAt position caller us own = (position ≤ own.position)
+    × (slice_get us (own.position - position) ≡ Some (record { caller = caller; op = own.op }))
 
 module _ (caller : ℕ) where
   own_places : (us : List Update) (position : ℕ) → All (IsOwnAt position caller us) (own_updates_from position caller us)
@@ -57,37 +72,44 @@ module _ (caller : ℕ) where
       let rest = own_updates_from (position + 1) caller us in
       let later : All (IsOwnAt position caller (u ∷ us)) rest = (λ k d below.
       let own = own_places us (position + 1) k d below in
-      let at : (get_or rest k d).position - position ≡ suc ((get_or rest k d).position - (position + 1)) = (let low = own.0 in omega arith) in
+      let at : (get_or rest k d).position - position ≡ suc ((get_or rest k d).position - (position + 1)) =
+      (let low = own.0 in omega arith) in
       ((let low = own.0 in omega arith), rw at own.1)) in
-      let by_test : (mine : Bool) → (u.caller == caller) ≡ mine → All (IsOwnAt position caller (u ∷ us)) (if mine then here ∷ rest else rest) = (λ mine.
+      let by_test : (mine : Bool) → (u.caller == caller) ≡ mine
+      → All (IsOwnAt position caller (u ∷ us)) (if mine then here ∷ rest else rest) = (λ mine.
       elim mine as (λ m. (u.caller == caller) ≡ m → All (IsOwnAt position caller (u ∷ us)) (if m then here ∷ rest else rest)) [
         | true ↦ λ is.
             let zeroth : position - position ≡ 0 = omega arith in
             let same : u.caller ≡ caller = eqb-true u.caller caller is in
-            All-cons (IsOwnAt position caller (u ∷ us)) here rest (omega arith, rw zeroth (ap (λ c. Some (record { caller = c; op = u.op })) same)) later
+            All-cons (IsOwnAt position caller (u ∷ us)) here rest
+            (omega arith, rw zeroth (ap (λ c. Some (record { caller = c; op = u.op })) same)) later
         | false ↦ λ is. later
       ]) in
       by_test (u.caller == caller) refl
 
-  own_rises : (us : List Update) (position : ℕ) → AllPairs (λ own other. own.position < other.position) (own_updates_from position caller us)
+  own_rises : (us : List Update) (position : ℕ) → AllPairs (λ own other. own.position < other.position)
+      (own_updates_from position caller us)
   own_rises [] position = λ i j d less below. absurd (omega arith)
   own_rises (u ∷ us) position =
       let here : Placed = record { position = position; op = u.op } in
       let rest = own_updates_from (position + 1) caller us in
-      let above : All (λ other. position < other.position) rest = (λ k d below. let own = own_places us (position + 1) k d below in let low = own.0 in omega arith) in
+      let above : All (λ other. position < other.position) rest =
+      (λ k d below. let own = own_places us (position + 1) k d below in let low = own.0 in omega arith) in
       elim (u.caller == caller) as (λ mine. AllPairs (λ own other. own.position < other.position) (if mine then here ∷ rest else rest)) [
         | true ↦ AllPairs-cons (λ own other. own.position < other.position) here rest above (own_rises us (position + 1))
         | false ↦ own_rises us (position + 1)
       ]
 
-own_found : (us : List Update) (position i : ℕ) (u : Update) → slice_get us i ≡ Some u → Any (λ own. own.position ≡ position + i) (own_updates_from position u.caller us)
+own_found : (us : List Update) (position i : ℕ) (u : Update) → slice_get us i ≡ Some u
+    → Any (λ own. own.position ≡ position + i) (own_updates_from position u.caller us)
 own_found [] position i u there = absurd (cc)
 own_found (v ∷ us) position zero u there =
     let here : Placed = record { position = position; op = v.op } in
     let rest = own_updates_from (position + 1) u.caller us in
     let same : v ≡ u = cc in
     let test : (v.caller == u.caller) ≡ true = eq-eqb v.caller u.caller (ap (λ w. w.caller) same) in
-    subst (λ (mine : Bool). Any (λ own. own.position ≡ position + 0) (if mine then here ∷ rest else rest)) (sym test) (zero, here, (omega arith), refl, omega arith)
+    subst (λ (mine : Bool). Any (λ own. own.position ≡ position + 0) (if mine then here ∷ rest else rest)) (sym test)
+    (zero, here, (omega arith), refl, omega arith)
 own_found (v ∷ us) position (suc i) u there =
     let here : Placed = record { position = position; op = v.op } in
     let rest = own_updates_from (position + 1) u.caller us in
@@ -106,7 +128,8 @@ nowhere = record { position = 0; op = Get 0 }
 abbrev of_caller : ℕ → Placed → Numbered
 of_caller caller own = record { number = own.position; update = record { caller = caller; op = own.op } }
 
-rising_apart : (caller : ℕ) (owns : List Placed) → AllPairs (λ own other. own.position < other.position) owns → AllPairs (λ u other. u.number ≢ other.number) (map (of_caller caller) owns)
+rising_apart : (caller : ℕ) (owns : List Placed) → AllPairs (λ own other. own.position < other.position) owns
+    → AllPairs (λ u other. u.number ≢ other.number) (map (of_caller caller) owns)
 rising_apart caller owns rises i j d less below same =
     let inside : j < length owns = omega (arith, length-map owns (of_caller caller)) in
     let first = ap (λ (u : Numbered). u.number) (get_or-map (of_caller caller) owns i nowhere d (omega arith)) in
@@ -119,21 +142,26 @@ callers_of caller lines = All-map (λ u. u.update.caller ≡ caller) (of_caller 
 
 callers_from : (first : ℕ) (lines : List (List Line)) → All (λ u. first ≤ u.update.caller) (all_numbered_updates first lines)
 callers_from first [] = All-nil (λ u. first ≤ u.update.caller)
-callers_from first (own ∷ lines) = All-append (λ u. first ≤ u.update.caller) (numbered_updates first own) (all_numbered_updates (first + 1) lines)
+callers_from first (own ∷ lines) = All-append (λ u. first ≤ u.update.caller) (numbered_updates first own)
+    (all_numbered_updates (first + 1) lines)
     (λ k d below. let is = callers_of first own k d below in omega arith)
     (λ k d below. let is = callers_from (first + 1) lines k d below in omega arith)
 
-all_found : (P : Numbered → Type 0) (first : ℕ) (lines : List (List Line)) (c n : ℕ) → n ≡ first + c → c < length lines → Any P (numbered_updates n (get_or lines c [])) → Any P (all_numbered_updates first lines)
+all_found : (P : Numbered → Type 0) (first : ℕ) (lines : List (List Line)) (c n : ℕ) → n ≡ first + c → c < length lines
+    → Any P (numbered_updates n (get_or lines c [])) → Any P (all_numbered_updates first lines)
 all_found P first [] c n is below any = absurd (omega arith)
 all_found P first (own ∷ lines) zero n is below any =
     let same : n ≡ first = omega arith in
-    Any-append_left P (numbered_updates first own) (all_numbered_updates (first + 1) lines) (subst (λ (m : ℕ). Any P (numbered_updates m own)) same any)
+    Any-append_left P (numbered_updates first own) (all_numbered_updates (first + 1) lines)
+    (subst (λ (m : ℕ). Any P (numbered_updates m own)) same any)
 all_found P first (own ∷ lines) (suc c) n is below any =
-    Any-append_right P (numbered_updates first own) (all_numbered_updates (first + 1) lines) (all_found P (first + 1) lines c n (omega arith) (omega arith) any)
+    Any-append_right P (numbered_updates first own) (all_numbered_updates (first + 1) lines)
+    (all_found P (first + 1) lines c n (omega arith) (omega arith) any)
 
 any_place : (q : ℕ) (updates : List Numbered) → Any (λ u. u.number ≡ q + 1) updates → Any (λ x. eqb q x ≡ true) (places updates)
 any_place q updates any =
-    Any-map (λ x. eqb q x ≡ true) (λ (u : Numbered). u.number - 1) updates (any.0, any.1, any.2, any.3, eq-eqb q (any.1.number - 1) (let is = any.4 in omega arith))
+    Any-map (λ x. eqb q x ≡ true) (λ (u : Numbered). u.number - 1) updates
+    (any.0, any.1, any.2, any.3, eq-eqb q (any.1.number - 1) (let is = any.4 in omega arith))
 
 module _ (history : List Update) where
   -- The update stands at its number in the history.
@@ -144,16 +172,19 @@ module _ (history : List Update) where
   abbrev TellOwn : ℕ → List (List Line) → Type 0
   TellOwn first lines = (c n : ℕ) → n ≡ first + c → own_updates n history ≡ told_updates (get_or lines c [])
 
-  own_placed : (caller : ℕ) (lines : List Line) → own_updates caller history ≡ told_updates lines → All IsPlaced (numbered_updates caller lines)
+  own_placed : (caller : ℕ) (lines : List Line) → own_updates caller history ≡ told_updates lines
+      → All IsPlaced (numbered_updates caller lines)
   own_placed caller lines own =
-      subst (λ (owns : List Placed). All IsPlaced (map (of_caller caller) owns)) own (All-map IsPlaced (of_caller caller) (own_updates caller history) (own_places caller history 1))
+      subst (λ (owns : List Placed). All IsPlaced (map (of_caller caller) owns)) own
+      (All-map IsPlaced (of_caller caller) (own_updates caller history) (own_places caller history 1))
 
   all_placed : (first : ℕ) (lines : List (List Line)) → TellOwn first lines → All IsPlaced (all_numbered_updates first lines)
   all_placed first [] tell = All-nil IsPlaced
   all_placed first (own ∷ lines) tell = All-append IsPlaced (numbered_updates first own) (all_numbered_updates (first + 1) lines)
       (own_placed first own (tell zero first (omega arith))) (all_placed (first + 1) lines (λ c n is. tell (suc c) n (omega arith)))
 
-  all_apart : (first : ℕ) (lines : List (List Line)) → TellOwn first lines → AllPairs (λ u other. u.number ≢ other.number) (all_numbered_updates first lines)
+  all_apart : (first : ℕ) (lines : List (List Line)) → TellOwn first lines
+      → AllPairs (λ u other. u.number ≢ other.number) (all_numbered_updates first lines)
   all_apart first [] tell = λ i j d less below. absurd (omega arith)
   all_apart first (own ∷ lines) tell =
       let rest = all_numbered_updates (first + 1) lines in
@@ -167,7 +198,8 @@ module _ (history : List Update) where
       let other = get_or rest m e in
       let placed = own_placed first own mine k d below in
       let also = all_placed (first + 1) lines later m e inside in
-      let there : slice_get history (other.number - 1) ≡ Some u.update = subst (λ (n : ℕ). slice_get history (n - 1) ≡ Some u.update) same placed.1 in
+      let there : slice_get history (other.number - 1) ≡ Some u.update =
+      subst (λ (n : ℕ). slice_get history (n - 1) ≡ Some u.update) same placed.1 in
       let equal : u.update ≡ other.update = (let stands = also.1 in cc) in
       let caller = callers_of first own k d below in
       let higher = callers_from (first + 1) lines m e inside in
@@ -184,13 +216,16 @@ module _ (history : List Update) where
         let d : Update = none.update in
         let u = get_or history i d in
         let mine = own_found history 1 i u (slice_get-get_or history i d below) in
-        let told : Any (λ p. p.position ≡ 1 + i) (told_updates (get_or lines u.caller [])) = subst (Any (λ p. p.position ≡ 1 + i)) (own u.caller) mine in
+        let told : Any (λ p. p.position ≡ 1 + i) (told_updates (get_or lines u.caller [])) =
+        subst (Any (λ p. p.position ≡ 1 + i)) (own u.caller) mine in
         let numbered : Any (λ v. v.number ≡ i + 1) (numbered_updates u.caller (get_or lines u.caller [])) =
-        Any-map (λ v. v.number ≡ i + 1) (of_caller u.caller) (told_updates (get_or lines u.caller [])) (told.0, told.1, told.2, told.3, let is = told.4 in omega arith) in
+        Any-map (λ v. v.number ≡ i + 1) (of_caller u.caller) (told_updates (get_or lines u.caller []))
+        (told.0, told.1, told.2, told.3, let is = told.4 in omega arith) in
         elim (cases_lt u.caller (length lines)) [
           | inl script ↦ all_found (λ v. v.number ≡ i + 1) 0 lines u.caller u.caller (omega arith) script numbered
           | inr past ↦
-              let none_told : Any (λ p. p.position ≡ 1 + i) [] = subst (λ (ls : List Line). Any (λ p. p.position ≡ 1 + i) (told_updates ls)) (get_or_past lines u.caller [] past) told in
+              let none_told : Any (λ p. p.position ≡ 1 + i) [] =
+              subst (λ (ls : List Line). Any (λ p. p.position ≡ 1 + i) (told_updates ls)) (get_or_past lines u.caller [] past) told in
               absurd (Any-nil (λ p. p.position ≡ 1 + i) none_told)
         ]
 
@@ -199,11 +234,14 @@ module _ (history : List Update) where
         let updates = all_numbered_updates 0 lines in
         let placed = all_placed 0 lines tell in
         let positive : All (λ u. 1 ≤ u.number) updates = (λ k d below. (placed k d below).0) in
-        let distinct : IsDistinct eqb (places updates) = IsDistinct-from_AllPairs Decides-eqb (places updates) (apart_places updates positive (all_apart 0 lines tell)) in
-        let least : length (places updates) ≤ length history = length-le_from_distinct_below (places updates) (length history) distinct (λ q is.
+        let distinct : IsDistinct eqb (places updates) =
+        IsDistinct-from_AllPairs Decides-eqb (places updates) (apart_places updates positive (all_apart 0 lines tell)) in
+        let least : length (places updates) ≤ length history =
+        length-le_from_distinct_below (places updates) (length history) distinct (λ q is.
         let any : Any (λ x. eqb q x ≡ true) (places updates) = Any-from_list_any (eqb q) (places updates) is in
         let below : any.0 < length updates = (let there = any.2 in omega (arith, length-places updates)) in
-        let inside = slice_get_within history ((get_or updates any.0 none).number - 1) (get_or updates any.0 none).update (placed any.0 none below).1 in
+        let inside = slice_get_within history ((get_or updates any.0 none).number - 1) (get_or updates any.0 none).update
+        (placed any.0 none below).1 in
         let read = place_at updates any.0 any.1 below in
         let at = any.3 in
         let same = eqb-true q any.1 any.4 in

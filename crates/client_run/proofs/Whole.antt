@@ -25,7 +25,8 @@ pub place_at : (updates : List Numbered) (k d : ℕ) → k < length updates → 
 place_at updates k d below = get_or-map (λ (u : Numbered). u.number - 1) updates k none d below
 
 -- updates with numbers that differ have places that differ
-pub apart_places : (updates : List Numbered) → All (λ u. 1 ≤ u.number) updates → AllPairs (λ u other. u.number ≢ other.number) updates → AllPairs (λ x y. x ≢ y) (places updates)
+pub apart_places : (updates : List Numbered) → All (λ u. 1 ≤ u.number) updates → AllPairs (λ u other. u.number ≢ other.number) updates
+    → AllPairs (λ x y. x ≢ y) (places updates)
 apart_places updates positive once i j d less below same =
     let inside : j < length updates = omega (arith, length-places updates) in
     let first = place_at updates i d (omega arith) in
@@ -49,11 +50,16 @@ module _ (updates : List Numbered) (numbers : AreOneToCount updates) where
     no_place_left missing =
         let others : All (λ y. i ≢ y) (places updates) = (λ k d below same.
         let x = get_or (places updates) k d in
-        let found : list_any (eqb i) (places updates) ≡ true = list_any-from_Any (eqb i) (places updates) (k, x, below, get_or_default (places updates) k x d below, eq-eqb i x same) in
+        let found : list_any (eqb i) (places updates) ≡ true =
+        list_any-from_Any (eqb i) (places updates) (k, x, below, get_or_default (places updates) k x d below, eq-eqb i x same) in
         cc) in
-        let distinct : IsDistinct eqb (i ∷ places updates) = IsDistinct-from_AllPairs Decides-eqb (i ∷ places updates) (AllPairs-cons (λ x y. x ≢ y) i (places updates) others (apart_places updates numbers.positive numbers.once)) in
-        let all : All (λ y. y < length updates) (i ∷ places updates) = All-cons (λ y. y < length updates) i (places updates) inside below_count in
-        let many : length (i ∷ places updates) ≤ length updates = length-le_from_distinct_below (i ∷ places updates) (length updates) distinct (λ q found.
+        let distinct : IsDistinct eqb (i ∷ places updates) =
+        IsDistinct-from_AllPairs Decides-eqb (i ∷ places updates)
+        (AllPairs-cons (λ x y. x ≢ y) i (places updates) others (apart_places updates numbers.positive numbers.once)) in
+        let all : All (λ y. y < length updates) (i ∷ places updates) =
+        All-cons (λ y. y < length updates) i (places updates) inside below_count in
+        let many : length (i ∷ places updates) ≤ length updates =
+        length-le_from_distinct_below (i ∷ places updates) (length updates) distinct (λ q found.
         let any : Any (λ x. eqb q x ≡ true) (i ∷ places updates) = Any-from_list_any (eqb q) (i ∷ places updates) found in
         let low = all any.0 any.1 any.2 in
         let same = eqb-true q any.1 any.4 in
@@ -68,7 +74,8 @@ module _ (updates : List Numbered) (numbers : AreOneToCount updates) where
     -- some update has the number of the place
     pub update_at : Any (λ u. u.number ≡ i + 1) updates
     update_at =
-        let any : Any (λ x. eqb i x ≡ true) (places updates) = Any-from_list_any (eqb i) (places updates) (has_place (list_any (eqb i) (places updates)) refl) in
+        let any : Any (λ x. eqb i x ≡ true) (places updates) =
+        Any-from_list_any (eqb i) (places updates) (has_place (list_any (eqb i) (places updates)) refl) in
         let k = any.0 in
         let below : k < length updates = let there = any.2 in omega (arith, length-places updates) in
         let read = place_at updates k any.1 below in

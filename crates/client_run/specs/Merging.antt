@@ -12,7 +12,8 @@ pub record Numbered : Type 0 where
 
 -- the updates that a caller's lines tell of
 abbrev pub numbered_updates : ℕ → List Line → List Numbered
-numbered_updates caller lines = map (λ (own : Placed). record { number = own.position; update = record { caller = caller; op = own.op } }) (told_updates lines)
+numbered_updates caller lines = map (λ (own : Placed). record { number = own.position; update = record { caller = caller; op = own.op } })
+    (told_updates lines)
 
 -- those of all scripts, where the first of these has this caller
 abbrev pub all_numbered_updates : ℕ → List (List Line) → List Numbered

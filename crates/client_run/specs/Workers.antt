@@ -20,10 +20,12 @@ pub record IsReadyFor {C : Type 0} (left : C → ℕ) (worker : Work C) (script 
 
 -- Each worker is ready for the script of its number.
 abbrev pub AreReadyFor : {C : Type 0} → (C → ℕ) → List (Work C) → List (List Op) → Type 0
-AreReadyFor {C} left workers scripts = (i : ℕ) (worker : Work C) → slice_get workers i ≡ Some worker → IsReadyFor left worker (slice_index_or scripts i [])
+AreReadyFor {C} left workers scripts = (i : ℕ) (worker : Work C) → slice_get workers i ≡ Some worker
+    → IsReadyFor left worker (slice_index_or scripts i [])
 
 -- Each worker's client made the calls of the script of its number, each once and in order, and the worker holds what
 -- they were told.
 abbrev pub HaveMade : {C : Type 0} → (C → Op → Told → C → Type 0) → List (Work C) → List (List Op) → List (Work C) → Type 0
-HaveMade {C} made befores scripts afters = (i : ℕ) (before after : Work C) → slice_get befores i ≡ Some before → slice_get afters i ≡ Some after
+HaveMade {C} made befores scripts afters = (i : ℕ) (before after : Work C) → slice_get befores i ≡ Some before
+    → slice_get afters i ≡ Some after
     → IsChain made before.client (slice_index_or scripts i []) after.told.entries after.client

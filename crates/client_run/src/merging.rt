@@ -21,7 +21,8 @@ const NO_UPDATE: Update = Update {
 pub fn merge(alloc: Global, scripts: &Scripts, told: &[ToldList]) -> Result<Vec<Update>, NoMemory>
     requires lengths { map length (entries_of told.now) ≡ map length scripts.now }
     requires numbers { AreOneToCount (all_numbered_updates 0 (all_told_lines scripts.now (entries_of told.now))) }
-    ensures history { IfOk result (λ merged. IsHistoryOf (all_numbered_updates 0 (all_told_lines scripts.now (entries_of told.now))) merged.items) }
+    ensures history { IfOk result (λ merged. IsHistoryOf
+        (all_numbered_updates 0 (all_told_lines scripts.now (entries_of told.now))) merged.items) }
     ensures only { IfOk result (λ merged. (history : List Update)
         → TellOwnUpdates history (all_told_lines scripts.now (entries_of told.now)) → merged.items ≡ history) }
 {
@@ -79,7 +80,8 @@ fn store_script(history: &mut [Update], caller: u32, script: &[Op], told: &[Told
 // Stores the update, where the answer tells of one.
 fn store_update(history: &mut [Update], caller: u32, op: Op, answer: Told)
     requires { IsTrue (tells_update answer.reply) → (1 ≤ answer.number) × (answer.number ≤ length history.old) }
-    ensures { history.new ≡ if tells_update answer.reply then slice_set history.old (answer.number - 1) (record { caller = caller; op = op }) else history.old }
+    ensures { history.new ≡ if tells_update answer.reply then slice_set history.old (answer.number - 1)
+        (record { caller = caller; op = op }) else history.old }
 {
     if answer.reply.tells_update() {
         history[(answer.number - 1) as usize] = Update { caller, op };

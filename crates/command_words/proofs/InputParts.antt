@@ -20,7 +20,8 @@ lines_of-some (byte ∷ bytes) some =
     onto_some [] = omega arith
     onto_some (line ∷ lines) = omega arith
 
-onto_first-append : (byte : ℕ) (lines more : List (List ℕ)) → 0 < length lines → onto_first byte (lines ++ more) ≡ onto_first byte lines ++ more
+onto_first-append : (byte : ℕ) (lines more : List (List ℕ)) → 0 < length lines
+    → onto_first byte (lines ++ more) ≡ onto_first byte lines ++ more
 onto_first-append byte [] more some = absurd (omega arith)
 onto_first-append byte (line ∷ lines) more some = refl
 
@@ -29,15 +30,18 @@ lines_of-after [] rest = refl
 lines_of-after (byte ∷ front) rest =
     let others = lines_of-after front rest in
     let some : 0 < length (front ++ codes "\n") = omega (arith, length-append front (codes "\n")) in
-    elim (eqb byte 10) as (λ b. cond b ([] ∷ lines_of ((front ++ codes "\n") ++ rest)) (onto_first byte (lines_of ((front ++ codes "\n") ++ rest)))
+    elim (eqb byte 10) as (λ b. cond b ([] ∷ lines_of ((front ++ codes "\n") ++ rest))
+    (onto_first byte (lines_of ((front ++ codes "\n") ++ rest)))
     ≡ cond b ([] ∷ lines_of (front ++ codes "\n")) (onto_first byte (lines_of (front ++ codes "\n"))) ++ lines_of rest) [
       | true ↦ ap (λ lines. [] ∷ lines) others
-      | false ↦ ap (onto_first byte) others ∙ onto_first-append byte (lines_of (front ++ codes "\n")) (lines_of rest) (lines_of-some (front ++ codes "\n") some)
+      | false ↦ ap (onto_first byte) others ∙ onto_first-append byte (lines_of (front ++ codes "\n")) (lines_of rest)
+          (lines_of-some (front ++ codes "\n") some)
     ]
 
 lines_of-append : (front rest : List ℕ) → IsEnded front → lines_of (front ++ rest) ≡ lines_of front ++ lines_of rest
 lines_of-append front rest (inl none) = ap (λ f. lines_of (f ++ rest)) none ∙ sym (ap (λ f. lines_of f ++ lines_of rest) none)
-lines_of-append front rest (inr e) = ap (λ f. lines_of (f ++ rest)) e.1 ∙ lines_of-after e.0 rest ∙ sym (ap (λ f. lines_of f ++ lines_of rest) e.1)
+lines_of-append front rest (inr e) = ap (λ f. lines_of (f ++ rest)) e.1 ∙ lines_of-after e.0 rest
+    ∙ sym (ap (λ f. lines_of f ++ lines_of rest) e.1)
 
 abbrev Other : List ℕ → Type 0
 Other line = line ≡ codes "account" → ⊥
@@ -69,11 +73,13 @@ module _ (input : List ℕ) (at : ℕ) (cut : CutAt input at) where
     pub CutAt-next : Other line → CutAt input (at + (length line + 1))
     CutAt-next other =
         let ended_line = line ++ codes "\n" in
-        let lines : lines_of (cut.front ++ ended_line) ≡ lines_of cut.front ++ line ∷ [] = lines_of-append cut.front ended_line cut.ended ∙ ap (λ l. lines_of cut.front ++ l) (lines_of-parted line [] parted.first) in
+        let lines : lines_of (cut.front ++ ended_line) ≡ lines_of cut.front ++ line ∷ [] =
+        lines_of-append cut.front ended_line cut.ended ∙ ap (λ l. lines_of cut.front ++ l) (lines_of-parted line [] parted.first) in
         record {
           front = cut.front ++ ended_line;
           rest = after;
-          whole = cut.whole ∙ ap (λ r. cut.front ++ r) (sym rest_is ∙ parted.whole ∙ sym (append_assoc line (codes "\n") after)) ∙ sym (append_assoc cut.front ended_line after);
+          whole = cut.whole ∙ ap (λ r. cut.front ++ r) (sym rest_is ∙ parted.whole ∙ sym (append_assoc line (codes "\n") after))
+              ∙ sym (append_assoc cut.front ended_line after);
           place = length-append cut.front ended_line ∙ omega (arith, cut.place, length-append line (codes "\n"));
           lacks = subst (AllByRecursion Other) (sym lines) (all-append (lines_of cut.front) (line ∷ []) cut.lacks (other, tt));
           ended = inr (cut.front ++ line, sym (append_assoc cut.front line (codes "\n")));
@@ -85,16 +91,23 @@ module _ (input : List ℕ) (at : ℕ) (cut : CutAt input at) where
         inl (
           subst LacksAccount (sym front_is) cut.lacks,
           subst IsEnded (sym front_is) cut.ended,
-          sym (take-append-drop at input) ∙ ap (λ r. take at input ++ r) (parted.whole ∙ ap (λ l. l ++ 10 ∷ after) is) ∙ sym (append_assoc (take at input) (codes "account\n") after),
+          sym (take-append-drop at input) ∙ ap (λ r. take at input ++ r) (parted.whole ∙ ap (λ l. l ++ 10 ∷ after) is)
+              ∙ sym (append_assoc (take at input) (codes "account\n") after),
         )
 
   -- the last line has no byte 10, and is `account`
   pub parts-at_end : drop at input ≡ codes "account" → (account : List ℕ) → account ≡ [] → HasParts input (take at input) account
   parts-at_end is account none =
-      inr (inl (subst LacksAccount (sym front_is) cut.lacks, subst IsEnded (sym front_is) cut.ended, sym (take-append-drop at input) ∙ ap (λ r. take at input ++ r) is, none))
+      inr (inl (
+        subst LacksAccount (sym front_is) cut.lacks,
+        subst IsEnded (sym front_is) cut.ended,
+        sym (take-append-drop at input) ∙ ap (λ r. take at input ++ r) is,
+        none,
+      ))
 
   -- no line is `account`
-  pub parts-none : Lacks (drop at input) 10 → (drop at input ≡ codes "account" → ⊥) → (account : List ℕ) → account ≡ [] → HasParts input input account
+  pub parts-none : Lacks (drop at input) 10 → (drop at input ≡ codes "account" → ⊥) → (account : List ℕ) → account ≡ []
+      → HasParts input input account
   parts-none lacks other account none = inr (inr (subst LacksAccount (sym cut.whole) all_lack, refl, none))
     where
       last : (rest : List ℕ) → Lacks rest 10 → Other rest → AllByRecursion Other (lines_of rest)
@@ -103,16 +116,19 @@ module _ (input : List ℕ) (at : ℕ) (cut : CutAt input at) where
 
       all_lack : LacksAccount (cut.front ++ cut.rest)
       all_lack = subst (AllByRecursion Other) (sym (lines_of-append cut.front cut.rest cut.ended))
-          (all-append (lines_of cut.front) (lines_of cut.rest) cut.lacks (last cut.rest (subst (λ r. Lacks r 10) rest_is lacks) (λ e. other (rest_is ∙ e))))
+          (all-append (lines_of cut.front) (lines_of cut.rest) cut.lacks
+          (last cut.rest (subst (λ r. Lacks r 10) rest_is lacks) (λ e. other (rest_is ∙ e))))
 
 -- The parts of an input are the only ones.
 unlines : (front : List ℕ) → flat_map ended (lines_of (front ++ codes "\n")) ≡ front ++ codes "\n"
 unlines [] = refl
 unlines (byte ∷ front) =
     elim (eqb_tells byte 10) [
-      | inl y ↦ ap (λ b. flat_map ended (cond b ([] ∷ lines_of (front ++ codes "\n")) (onto_first byte (lines_of (front ++ codes "\n"))))) y.0
+      | inl y ↦ ap (λ b. flat_map ended (cond b ([] ∷ lines_of (front ++ codes "\n"))
+          (onto_first byte (lines_of (front ++ codes "\n"))))) y.0
           ∙ ap (λ rest. 10 ∷ rest) (unlines front) ∙ ap (λ b. b ∷ (front ++ codes "\n")) (sym y.1)
-      | inr n ↦ ap (λ b. flat_map ended (cond b ([] ∷ lines_of (front ++ codes "\n")) (onto_first byte (lines_of (front ++ codes "\n"))))) n.0
+      | inr n ↦ ap (λ b. flat_map ended (cond b ([] ∷ lines_of (front ++ codes "\n"))
+          (onto_first byte (lines_of (front ++ codes "\n"))))) n.0
           ∙ onto (lines_of (front ++ codes "\n")) (lines_of-some (front ++ codes "\n") (omega (arith, length-append front (codes "\n"))))
           ∙ ap (λ rest. byte ∷ rest) (unlines front)
     ]
@@ -126,7 +142,8 @@ unlines_of text (inl none) = ap (λ t. flat_map ended (lines_of t)) none ∙ sym
 unlines_of text (inr e) = ap (λ t. flat_map ended (lines_of t)) e.1 ∙ unlines e.0 ∙ sym e.1
 
 -- what stands before the first line that is `account`
-one_front : (xs ys more rest : List (List ℕ)) → AllByRecursion Other xs → AllByRecursion Other ys → xs ++ codes "account" ∷ more ≡ ys ++ codes "account" ∷ rest → xs ≡ ys
+one_front : (xs ys more rest : List (List ℕ)) → AllByRecursion Other xs → AllByRecursion Other ys
+    → xs ++ codes "account" ∷ more ≡ ys ++ codes "account" ∷ rest → xs ≡ ys
 one_front [] [] more rest all alls e = refl
 one_front [] (y ∷ ys) more rest all alls e = absurd (alls.0 (cc))
 one_front (x ∷ xs) [] more rest all alls e = absurd (all.0 (cc))
@@ -147,16 +164,23 @@ record Found (input before : List ℕ) : Type 0 where
   lacks : LacksAccount before
   ended_before : IsEnded before
 
-found_line : (input before account : List ℕ) → LacksAccount before → IsEnded before → input ≡ before ++ codes "account\n" ++ account → Found input before
+found_line : (input before account : List ℕ) → LacksAccount before → IsEnded before → input ≡ before ++ codes "account\n" ++ account
+    → Found input before
 found_line input before account lacks is_ended e = record {
   more = lines_of account;
-  lines = ap lines_of (e ∙ append_assoc before (codes "account\n") account) ∙ lines_of-append before (codes "account\n" ++ account) is_ended;
+  lines = ap lines_of (e ∙ append_assoc before (codes "account\n") account)
+      ∙ lines_of-append before (codes "account\n" ++ account) is_ended;
   lacks = lacks;
   ended_before = is_ended;
 }
 
 found_last : (input before : List ℕ) → LacksAccount before → IsEnded before → input ≡ before ++ codes "account" → Found input before
-found_last input before lacks is_ended e = record { more = []; lines = ap lines_of e ∙ lines_of-append before (codes "account") is_ended; lacks = lacks; ended_before = is_ended }
+found_last input before lacks is_ended e = record {
+  more = [];
+  lines = ap lines_of e ∙ lines_of-append before (codes "account") is_ended;
+  lacks = lacks;
+  ended_before = is_ended;
+}
 
 one_found : (input a b : List ℕ) → Found input a → Found input b → a ≡ b
 one_found input a b f h =
@@ -185,6 +209,7 @@ one_before input a b x y p q =
     ]
 
 pub length-before : (input before account : List ℕ) → HasParts input before account → length before ≤ length input
-length-before input before account (inl h) = omega (arith, ap length h.2, length-append (before ++ codes "account\n") account, length-append before (codes "account\n"))
+length-before input before account (inl h) = omega
+    (arith, ap length h.2, length-append (before ++ codes "account\n") account, length-append before (codes "account\n"))
 length-before input before account (inr (inl h)) = omega (arith, ap length h.2, length-append before (codes "account"))
 length-before input before account (inr (inr h)) = omega (arith, ap length h.1)

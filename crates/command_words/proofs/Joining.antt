@@ -31,7 +31,13 @@ none_spelled [] h = refl
 none_spelled (a ∷ arguments) h = absurd (no_words a h.0 h.3 (front_is_empty h.0 h.1 h.2))
 
 pub Joins-none : (before : Arguments) → Joins before [] before
-Joins-none before = record { slots = sym (append-nil _); schedule = sym (append-nil _); waiter = sym (append-nil _); cookies = sym (append-nil _); numbers = sym (append-nil _) }
+Joins-none before = record {
+  slots = sym (append-nil _);
+  schedule = sym (append-nil _);
+  waiter = sym (append-nil _);
+  cookies = sym (append-nil _);
+  numbers = sym (append-nil _);
+}
 
 -- what was found is known by its lists
 option-same : {X : Type 0} (a b : Option X) → option_to_list a ≡ option_to_list b → a ≡ b
@@ -75,7 +81,8 @@ Joins-same before found j =
 
 -- an argument and those after it
 module _ (before mid found : Arguments) (a : Argument) (arguments : List Argument) (first : Joins before (a ∷ []) mid) where
-  whole : {X : Type 0} (kind : Argument → List X) (xs ys : List X) → ys ≡ xs ++ among kind (a ∷ []) → xs ++ among kind (a ∷ arguments) ≡ ys ++ among kind arguments
+  whole : {X : Type 0} (kind : Argument → List X) (xs ys : List X) → ys ≡ xs ++ among kind (a ∷ [])
+      → xs ++ among kind (a ∷ arguments) ≡ ys ++ among kind arguments
   whole kind xs ys is =
       sym (append_assoc xs (kind a) (among kind arguments))
       ∙ ap (λ zs. (xs ++ zs) ++ among kind arguments) (sym (append-nil (kind a)))
@@ -107,41 +114,53 @@ cut_at : (W first rest : List (List ℕ)) (taken : ℕ) → W ≡ first ++ rest 
 cut_at W first rest taken cut is = ap (λ n. drop n W) is ∙ ap (drop (length first)) cut ∙ drop-append_seam first rest
 
 -- no word more
-pub none_found : (W : List (List ℕ)) (before : Arguments) → W ≡ [] → (arguments : List Argument) (found : Arguments) → AreSpelled arguments W → Joins before arguments found → Some before ≡ Some found
+pub none_found : (W : List (List ℕ)) (before : Arguments) → W ≡ [] → (arguments : List Argument) (found : Arguments)
+    → AreSpelled arguments W → Joins before arguments found → Some before ≡ Some found
 none_found W before none arguments found spelled joined =
     let no = none_spelled arguments (subst (AreSpelled arguments) none spelled) in
     ap Some (Joins-same before found (subst (λ (xs : List Argument). Joins before xs found) no joined))
 
 -- words that begin with no argument spell none, unless they are none
-pub not_spelled : (W : List (List ℕ)) (P : Type 0) → (W ≡ [] → ⊥) → ((argument : Argument) (first rest : List (List ℕ)) → W ≡ first ++ rest → IsSpelled argument first → ⊥) → (arguments : List Argument) → AreSpelled arguments W → P
+pub not_spelled : (W : List (List ℕ)) (P : Type 0) → (W ≡ [] → ⊥)
+    → ((argument : Argument) (first rest : List (List ℕ)) → W ≡ first ++ rest → IsSpelled argument first → ⊥) → (arguments : List Argument)
+    → AreSpelled arguments W → P
 not_spelled W P some none [] h = absurd (some h)
 not_spelled W P some none (a ∷ arguments) h = absurd (none a h.0 h.1 h.2 h.3)
 
-module _ (W : List (List ℕ)) (some : W ≡ [] → ⊥) (next : Argument) (taken : ℕ) (spelled : IsSpelled next (take taken W)) (within : taken ≤ length W) (before : Arguments) where
+module _ (W : List (List ℕ)) (some : W ≡ [] → ⊥) (next : Argument) (taken : ℕ) (spelled : IsSpelled next (take taken W))
+    (within : taken ≤ length W) (before : Arguments) where
   same_next : (a : Argument) (first rest : List (List ℕ)) → W ≡ first ++ rest → IsSpelled a first → (next ≡ a) × (taken ≡ length first)
   same_next a first rest cut is =
       let o = one_spelled (take taken W) first (drop taken W) rest (take-append-drop taken W ∙ cut) next a spelled is in
       (o.0, sym (length-take-le taken W within) ∙ o.1)
 
   -- where the argument can't follow, none can that begin with it
-  pub not_followed : (P : Type 0) → ((others : List Argument) (found : Arguments) → Joins before (next ∷ others) found → ⊥) → (arguments : List Argument) (found : Arguments) → AreSpelled arguments W → Joins before arguments found → P
+  pub not_followed : (P : Type 0) → ((others : List Argument) (found : Arguments) → Joins before (next ∷ others) found → ⊥)
+      → (arguments : List Argument) (found : Arguments) → AreSpelled arguments W → Joins before arguments found → P
   not_followed P cannot [] found h joined = absurd (some h)
   not_followed P cannot (a ∷ arguments) found h joined =
       let is = same_next a h.0 h.1 h.2 h.3 in
       absurd (cannot arguments found (subst (λ b. Joins before (b ∷ arguments) found) (sym is.0) joined))
 
   -- the others are those of the words that are left
-  pub read_others : (mid : Arguments) → Joins before (next ∷ []) mid → (result : Option Arguments) → ((arguments : List Argument) (found : Arguments) → AreSpelled arguments (drop taken W) → Joins mid arguments found → result ≡ Some found)
+  pub read_others : (mid : Arguments) → Joins before (next ∷ []) mid → (result : Option Arguments)
+      → ((arguments : List Argument) (found : Arguments) → AreSpelled arguments (drop taken W) → Joins mid arguments found
+      → result ≡ Some found)
       → (arguments : List Argument) (found : Arguments) → AreSpelled arguments W → Joins before arguments found → result ≡ Some found
   read_others mid first result rest [] found h joined = absurd (some h)
   read_others mid first result rest (a ∷ arguments) found h joined =
       let is = same_next a h.0 h.1 h.2 h.3 in
       let first_is : Joins before (a ∷ []) mid = subst (λ b. Joins before (b ∷ []) mid) is.0 first in
-      rest arguments found (subst (AreSpelled arguments) (sym (cut_at W h.0 h.1 taken h.2 is.1)) h.4) (Joins-rest before mid found a arguments first_is joined)
+      rest arguments found (subst (AreSpelled arguments) (sym (cut_at W h.0 h.1 taken h.2 is.1)) h.4)
+      (Joins-rest before mid found a arguments first_is joined)
 
   -- an argument more at the front
   pub AreSpelled-more : (mid : Arguments) → Joins before (next ∷ []) mid → (result : Option Arguments)
       → IfSome result (λ found. (arguments : List Argument) × AreSpelled arguments (drop taken W) × Joins mid arguments found)
       → IfSome result (λ found. (arguments : List Argument) × AreSpelled arguments W × Joins before arguments found)
   AreSpelled-more mid first result rest =
-      IfSome-map result (λ found r. (next ∷ r.0, (take taken W, drop taken W, sym (take-append-drop taken W), spelled, r.1), Joins-cons before mid found next r.0 first r.2)) rest
+      IfSome-map result (λ found r. (
+        next ∷ r.0,
+        (take taken W, drop taken W, sym (take-append-drop taken W), spelled, r.1),
+        Joins-cons before mid found next r.0 first r.2,
+      )) rest

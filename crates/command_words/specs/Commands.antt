@@ -36,13 +36,18 @@ IsMode (Schedule number) schedule named flag = (schedule ≡ Some number) × (na
 
 -- The arguments are just the command's.
 abbrev pub Suits : Command → Arguments → Type 0
-Suits (Run slots mode) found = (found.slots ≡ slots) × IsMode mode found.schedule found.waiter found.cookies × (numbers_of found.numbers ≡ [])
-Suits (Check slots) found = (found.slots ≡ slots) × (found.schedule ≡ None) × (found.waiter ≡ None) × (found.cookies ≡ false) × (numbers_of found.numbers ≡ [])
+Suits (Run slots mode) found = (found.slots ≡ slots) × IsMode mode found.schedule found.waiter found.cookies
+    × (numbers_of found.numbers ≡ [])
+Suits (Check slots) found = (found.slots ≡ slots) × (found.schedule ≡ None) × (found.waiter ≡ None) × (found.cookies ≡ false)
+    × (numbers_of found.numbers ≡ [])
 Suits (Load number scripts ops waiter) found =
-    (found.slots ≡ None) × (found.schedule ≡ None) × (waiter ≡ chosen found.waiter) × (found.cookies ≡ false) × (numbers_of found.numbers ≡ number ∷ scripts ∷ ops ∷ [])
+    (found.slots ≡ None) × (found.schedule ≡ None) × (waiter ≡ chosen found.waiter) × (found.cookies ≡ false)
+    × (numbers_of found.numbers ≡ number ∷ scripts ∷ ops ∷ [])
 Suits (Watch low high slots waiter) found =
-    (found.slots ≡ slots) × (found.schedule ≡ None) × (waiter ≡ chosen found.waiter) × (found.cookies ≡ false) × (numbers_of found.numbers ≡ low ∷ high ∷ [])
-Suits Hash found = (found.slots ≡ None) × (found.schedule ≡ None) × (found.waiter ≡ None) × (found.cookies ≡ false) × (numbers_of found.numbers ≡ [])
+    (found.slots ≡ slots) × (found.schedule ≡ None) × (waiter ≡ chosen found.waiter) × (found.cookies ≡ false)
+    × (numbers_of found.numbers ≡ low ∷ high ∷ [])
+Suits Hash found = (found.slots ≡ None) × (found.schedule ≡ None) × (found.waiter ≡ None) × (found.cookies ≡ false)
+    × (numbers_of found.numbers ≡ [])
 
 -- a number of slots from 1 on, which with those of 63 more scripts stays within the largest table
 abbrev pub AreSlots : Option ℕ → Type 0

@@ -9,7 +9,7 @@ use core_state::shape::Waiter;
 use script_text::read_number;
 
 /// One argument of a command.
-#[derive(Clone, Copy, Debug, PartialEq, Eq)]
+#[derive(Clone, Copy)]
 pub enum Argument {
     /// The option `--slots` with its number.
     Slots { number: u64 },
@@ -24,7 +24,7 @@ pub enum Argument {
 }
 
 /// Numbers that stand by themselves, in their order. No command takes more than three.
-#[derive(Clone, Copy, Debug, PartialEq, Eq)]
+#[derive(Clone, Copy)]
 pub enum Numbers {
     Zero,
     One(u64),
@@ -48,7 +48,7 @@ impl Numbers {
 }
 
 /// What a command's arguments are, in whatever order they stood: each option at most once.
-#[derive(Clone, Copy, Debug, PartialEq, Eq)]
+#[derive(Clone, Copy)]
 pub struct Arguments {
     pub slots: Option<u64>,
     pub schedule: Option<u64>,
@@ -61,7 +61,8 @@ impl Arguments {
     // Those so far and another: `None` exactly for an option that stood already, and for a fourth number.
     fn with(self, argument: Argument) -> Option<Arguments>
         ensures some { IfSome result (Joins self (argument ∷ [])) }
-        ensures none { (others : List Argument) (found : found.Arguments) → Joins self (argument ∷ others) found → IsSomeAnd result (λ _. ⊤) }
+        ensures none { (others : List Argument) (found : found.Arguments) → Joins self (argument ∷ others) found
+            → IsSomeAnd result (λ _. ⊤) }
     {
         match argument {
             Argument::Slots { number } => self.with_slots(number),
@@ -154,7 +155,8 @@ struct Valued<'a> {
 fn option_at<'a>(name: &[u8], words: &'a [String]) -> Option<Valued<'a>>
     ensures some { IfSome result (λ option. IsOption name.now option.value.now (take option.taken (map string_bytes words.now))) }
     ensures within { IfSome result (λ option. (1 ≤ option.taken) × (option.taken ≤ length words.now)) }
-    ensures only { (value : List ℕ) (first rest : List (List ℕ)) → map string_bytes words.now ≡ first ++ rest → IsOption name.now value first
+    ensures only { (value : List ℕ) (first rest : List (List ℕ)) → map string_bytes words.now ≡ first ++ rest
+        → IsOption name.now value first
         → IsSomeAnd result (λ option. (option.value.now ≡ value) × (option.taken ≡ length first)) }
 {
     let (first, rest) = words.split_first()?;
@@ -271,7 +273,8 @@ fn number_at(words: &[String]) -> Option<Next>
 fn next_argument(words: &[String]) -> Option<Next>
     ensures some { IfSome result (λ next. IsSpelled next.argument (take next.taken (map string_bytes words.now))) }
     ensures within { IfSome result (λ next. (1 ≤ next.taken) × (next.taken ≤ length words.now)) }
-    ensures only { (argument : Argument) (first rest : List (List ℕ)) → map string_bytes words.now ≡ first ++ rest → IsSpelled argument first
+    ensures only { (argument : Argument) (first rest : List (List ℕ)) → map string_bytes words.now ≡ first ++ rest
+        → IsSpelled argument first
         → IsSomeAnd result (λ _. ⊤) }
 {
     if let Some(option) = counted_at(b"--slots", words) {
@@ -302,8 +305,10 @@ fn next_argument(words: &[String]) -> Option<Next>
 /// The arguments that the words are, added to those so far: `None` exactly where the words aren't arguments, an option
 /// stands twice, or more than three numbers stand.
 pub fn read_arguments(words: &[String], so_far: Arguments) -> Option<Arguments>
-    ensures some { IfSome result (λ found. (arguments : List Argument) × AreSpelled arguments (map string_bytes words.now) × Joins so_far arguments found) }
-    ensures only { (arguments : List Argument) (found : found.Arguments) → AreSpelled arguments (map string_bytes words.now) → Joins so_far arguments found
+    ensures some { IfSome result (λ found. (arguments : List Argument) × AreSpelled arguments (map string_bytes words.now)
+        × Joins so_far arguments found) }
+    ensures only { (arguments : List Argument) (found : found.Arguments) → AreSpelled arguments (map string_bytes words.now)
+        → Joins so_far arguments found
         → result ≡ Some found }
 {
     if words.is_empty() {

@@ -11,7 +11,7 @@ use core_state::shape::Waiter;
 use prcu_model::Scripts;
 
 /// How `run` runs scripts.
-#[derive(Clone, Copy, Debug, PartialEq, Eq)]
+#[derive(Clone, Copy)]
 pub enum Mode {
     /// Each in a thread of its own, on one tree with this waiter, by clients that hold cookies or by clients that hold none.
     Threads { waiter: Waiter, cookies: bool },
@@ -20,7 +20,7 @@ pub enum Mode {
 }
 
 /// What the words ask for.
-#[derive(Clone, Copy, Debug, PartialEq, Eq)]
+#[derive(Clone, Copy)]
 pub enum Command {
     /// Runs the scripts of the input on one search tree, and writes their account. With a number of slots the tree takes no
     /// more pairs than that, and twenty for each script but the first.
@@ -131,8 +131,10 @@ fn mode_of(arguments: Arguments) -> Option<Mode>
 
 // The command `run`, where its options stand alone.
 fn run_of(arguments: Arguments) -> Option<Command>
-    ensures some { IfSome result (λ command. (slots : Option ℕ) × (mode : mode.Mode) × (command ≡ Command.Run slots mode) × Suits command arguments × IsInRange command) }
-    ensures only { (slots : Option ℕ) (mode : mode.Mode) → Suits (Command.Run slots mode) arguments → AreSlots slots → result ≡ Some (Command.Run slots mode) }
+    ensures some { IfSome result (λ command. (slots : Option ℕ) × (mode : mode.Mode) × (command ≡ Command.Run slots mode)
+        × Suits command arguments × IsInRange command) }
+    ensures only { (slots : Option ℕ) (mode : mode.Mode) → Suits (Command.Run slots mode) arguments → AreSlots slots
+        → result ≡ Some (Command.Run slots mode) }
 {
     let Numbers::Zero = arguments.numbers else {
         return None;
@@ -145,7 +147,8 @@ fn run_of(arguments: Arguments) -> Option<Command>
 
 // The command `check`, where its option stands alone.
 fn check_of(arguments: Arguments) -> Option<Command>
-    ensures some { IfSome result (λ command. (slots : Option ℕ) × (command ≡ Command.Check slots) × Suits command arguments × IsInRange command) }
+    ensures some { IfSome result (λ command. (slots : Option ℕ) × (command ≡ Command.Check slots) × Suits command arguments
+        × IsInRange command) }
     ensures only { (slots : Option ℕ) → Suits (Command.Check slots) arguments → AreSlots slots → result ≡ Some (Command.Check slots) }
 {
     match (
@@ -180,7 +183,8 @@ fn hash_of(arguments: Arguments) -> Option<Command>
 
 // The numbers of `load`, where nothing but a waiter stands beside them and they are in their ranges.
 fn load_of(arguments: Arguments) -> Option<Command>
-    ensures some { IfSome result (λ command. (number scripts ops : ℕ) × (waiter : waiter.Waiter) × (command ≡ Command.Load number scripts ops waiter)
+    ensures some { IfSome result (λ command. (number scripts ops : ℕ) × (waiter : waiter.Waiter)
+        × (command ≡ Command.Load number scripts ops waiter)
         × Suits command arguments × IsInRange command) }
     ensures only { (number scripts ops : ℕ) (waiter : waiter.Waiter) → Suits (Command.Load number scripts ops waiter) arguments
         → IsInRange (Command.Load number scripts ops waiter) → result ≡ Some (Command.Load number scripts ops waiter) }
@@ -207,7 +211,8 @@ fn load_of(arguments: Arguments) -> Option<Command>
 
 // The range of `watch`, where neither a schedule nor cookies stand beside it and the low key isn't above the high one.
 fn watch_of(arguments: Arguments) -> Option<Command>
-    ensures some { IfSome result (λ command. (low high : ℕ) × (slots : Option ℕ) × (waiter : waiter.Waiter) × (command ≡ Command.Watch low high slots waiter)
+    ensures some { IfSome result (λ command. (low high : ℕ) × (slots : Option ℕ) × (waiter : waiter.Waiter)
+        × (command ≡ Command.Watch low high slots waiter)
         × Suits command arguments × IsInRange command) }
     ensures only { (low high : ℕ) (slots : Option ℕ) (waiter : waiter.Waiter) → Suits (Command.Watch low high slots waiter) arguments
         → IsInRange (Command.Watch low high slots waiter) → result ≡ Some (Command.Watch low high slots waiter) }

@@ -56,7 +56,8 @@ impl Status {
 
 /// Writes the line that tells how the call ended, and has it passed on. Where `errors` fails, a front of it was written.
 pub fn tell<E: Sink>(status: Status, errors: &mut E)
-    ensures told { (Rose (E.faults errors.old) (E.faults errors.new) → ⊥) → Appends (E.bytes errors.old) (E.bytes errors.new) (status_line status) }
+    ensures told { (Rose (E.faults errors.old) (E.faults errors.new) → ⊥)
+        → Appends (E.bytes errors.old) (E.bytes errors.new) (status_line status) }
     ensures passed_on { (Rose (E.faults errors.old) (E.faults errors.new) → ⊥) → E.passed_on errors.new }
     ensures front { AppendsFront (E.bytes errors.old) (E.bytes errors.new) (status_line status) }
 {

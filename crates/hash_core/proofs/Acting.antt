@@ -34,17 +34,21 @@ module _ (capacities : List ℕ) (h : List Mark) (v : View) (n : ℕ) where
   by_hold P hold is p = subst P (sym (hold_is v hold is)) p
 
   -- and with the front that is odd by it
-  by_commit : (P : Hold → ℕ → Type 0) (hold : Hold) (even : ℕ) → v.hold ≡ Some hold → v.commit ≡ Some (record { found = even; stored = false }) → P hold even → P (hold_of v) (commit_of v).found
-  by_commit P hold even is odd p = subst (λ (z : Hold × ℕ). P z.0 z.1) (λ i. (sym (hold_is v hold is) i, (sym (commit_is v (record { found = even; stored = false }) odd) i).found)) p
+  by_commit : (P : Hold → ℕ → Type 0) (hold : Hold) (even : ℕ) → v.hold ≡ Some hold
+      → v.commit ≡ Some (record { found = even; stored = false }) → P hold even → P (hold_of v) (commit_of v).found
+  by_commit P hold even is odd p = subst (λ (z : Hold × ℕ). P z.0 z.1)
+      (λ i. (sym (hold_is v hold is) i, (sym (commit_is v (record { found = even; stored = false }) odd) i).found)) p
 
   acts : (a : Act) → Needs capacities v a → Steps capacities h v (kind_of a) (field_of v a) n (left v a n) (done v a h n) (marks_of v a)
   acts LoadFront d = step2
   acts (Enter key) d = step3 key d.0 d.1
   acts Leave d =
-      subst (λ z. IsStep capacities h (noted v Leave n) H4 (word.Readers (z.key % 64)) n (n - 1) (after_leave (noted v Leave n) z h) (Left v.place z.count ∷ [])) (sym (section_is v d.0 d.1)) (step4 d.0 d.1)
+      subst (λ z. IsStep capacities h (noted v Leave n) H4 (word.Readers (z.key % 64)) n (n - 1) (after_leave (noted v Leave n) z h)
+      (Left v.place z.count ∷ [])) (sym (section_is v d.0 d.1)) (step4 d.0 d.1)
   acts (SearchLoad field) d =
       let u : View = noted v (SearchLoad field) n in
-      subst (λ z. IsStep capacities h u H5 field n n (after_search_load u z field n) []) (sym (section_is v d.0 d.1)) (step5 d.0 field d.1 d.2)
+      subst (λ z. IsStep capacities h u H5 field n n (after_search_load u z field n) []) (sym (section_is v d.0 d.1))
+      (step5 d.0 field d.1 d.2)
   acts (Lock class) d = step6 class d.0 d.1
   acts Unlock d =
       let u : View = noted v Unlock 0 in
@@ -57,34 +61,43 @@ module _ (capacities : List ℕ) (h : List Mark) (v : View) (n : ℕ) where
       by_hold (λ z. IsStep capacities h u H9 field n n (after_held_load u z field n h) []) d.0 d.1 (step9 d.0 field d.1 d.2)
   acts (TakeSlot slot next) d =
       let u : View = noted v (TakeSlot slot next) next in
-      by_hold (λ z. IsStep capacities h u H10 (word.Free z.class) n next (after_take u z slot next h) (Given slot ∷ [])) d.0 d.1.hold_is (step10_take slot next d.0 (search rules))
+      by_hold (λ z. IsStep capacities h u H10 (word.Free z.class) n next (after_take u z slot next h) (Given slot ∷ [])) d.0 d.1.hold_is
+      (step10_take slot next d.0 (search rules))
   acts (TakeRetired slot) d =
       let u : View = noted v (TakeRetired slot) 0 in
-      by_hold (λ z. IsStep capacities h u H10 (word.Retired z.class) n 0 (after_move u z slot) []) d.0 d.1.hold_is (step10_move slot d.0 (search rules))
+      by_hold (λ z. IsStep capacities h u H10 (word.Retired z.class) n 0 (after_move u z slot) []) d.0 d.1.hold_is
+      (step10_move slot d.0 (search rules))
   acts (FreeRetired slot) d =
       let u : View = noted v (FreeRetired slot) slot in
-      by_hold (λ z. IsStep capacities h u H10 (word.Free z.class) n slot (after_refill u z slot) []) d.0 d.1.hold_is (step10_refill slot d.0 (search rules))
+      by_hold (λ z. IsStep capacities h u H10 (word.Free z.class) n slot (after_refill u z slot) []) d.0 d.1.hold_is
+      (step10_refill slot d.0 (search rules))
   acts (StoreChain slot number) d =
       let u : View = noted v (StoreChain slot number) number in
-      by_hold (λ z. IsStep capacities h u H10 (word.Chain slot) n number (after_chain u z slot number) []) d.0 d.1.0 (step10_chain slot number d.0 d.1)
+      by_hold (λ z. IsStep capacities h u H10 (word.Chain slot) n number (after_chain u z slot number) []) d.0 d.1.0
+      (step10_chain slot number d.0 d.1)
   acts (Retire slot) d =
       let u : View = noted v (Retire slot) slot in
-      by_hold (λ z. IsStep capacities h u H10 (word.Retired z.class) n slot (after_push u z slot) []) d.0 d.2.hold_is (step10_push slot d.1 d.0 (search rules))
+      by_hold (λ z. IsStep capacities h u H10 (word.Retired z.class) n slot (after_push u z slot) []) d.0 d.2.hold_is
+      (step10_push slot d.1 d.0 (search rules))
   acts (Fill field number) d =
       let u : View = noted v (Fill field number) number in
-      by_hold (λ z. IsStep capacities h u H11 field n number (after_write u z field number) []) d.0 d.2.hold_is (step11 d.1 number d.0 field (search rules))
+      by_hold (λ z. IsStep capacities h u H11 field n number (after_write u z field number) []) d.0 d.2.hold_is
+      (step11 d.1 number d.0 field (search rules))
   acts (OpenCommit even) d = step12 even d.0 d.1
   acts (LinkSlot slot key value) d =
       let u : View = noted v (LinkSlot slot key value) slot in
-      by_commit (λ z even. IsStep capacities h u H13 (word.Head z.class) n slot (after_link u z even slot key value h) (done_by u (Put key value) ∷ []))
+      by_commit (λ z even. IsStep capacities h u H13 (word.Head z.class) n slot (after_link u z even slot key value h)
+      (done_by u (Put key value) ∷ []))
       d.0 d.1 d.3.commit.hold_is d.3.commit.commit_is (step13 d.1 slot key value d.2 d.0 (search rules))
   acts (UnlinkSlot link slot key next) d =
       let u : View = noted v (UnlinkSlot link slot key next) next in
-      by_commit (λ z even. IsStep capacities h u H14 link n next (after_unlink u z even link slot key next h) (done_by u (Del key) ∷ Unlinked slot ∷ []))
+      by_commit (λ z even. IsStep capacities h u H14 link n next (after_unlink u z even link slot key next h)
+      (done_by u (Del key) ∷ Unlinked slot ∷ []))
       d.0 d.1 d.2.commit.hold_is d.2.commit.commit_is (step14 d.1 slot key next d.0 link (search rules))
   acts (ReplaceValue slot key value) d =
       let u : View = noted v (ReplaceValue slot key value) value in
-      by_commit (λ z even. IsStep capacities h u H15 (word.Value slot) n value (after_replace u z even slot key value h) (done_by u (Set key value) ∷ []))
+      by_commit (λ z even. IsStep capacities h u H15 (word.Value slot) n value (after_replace u z even slot key value h)
+      (done_by u (Set key value) ∷ []))
       d.0 d.1 d.2.commit.hold_is d.2.commit.commit_is (step15 d.1 slot key value d.0 (search rules))
   acts (CloseCommit front) d =
       let u : View = noted v (CloseCommit front) front in
@@ -95,4 +108,5 @@ acts_are_steps capacities h v n a needs = acts capacities h v n a needs
 
 pub acts_keep : ActsKeep
 acts_keep capacities places tickets m vs h id v a r at works needs =
-    steps_keep (kind_of a) capacities places tickets m vs h id v (done v a h (m (field_of v a))) (field_of v a) (left v a (m (field_of v a))) (marks_of v a) r at works (acts capacities h v (m (field_of v a)) a needs)
+    steps_keep (kind_of a) capacities places tickets m vs h id v (done v a h (m (field_of v a))) (field_of v a)
+    (left v a (m (field_of v a))) (marks_of v a) r at works (acts capacities h v (m (field_of v a)) a needs)

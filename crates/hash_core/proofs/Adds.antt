@@ -61,7 +61,8 @@ pub gone_at-unlinked_other : (h : List Mark) (s t : ℕ) → t ≢ s → gone_at
 gone_at-unlinked_other h s t ne = gone_at-snoc s h (Unlinked t) ∙ ap (λ b. cond b (Some (length h)) (gone_at s h)) (ne_eqb t s ne)
 
 -- a mark that gives no slot keeps reuse
-pub reuse_more : (capacities : List ℕ) (h : List Mark) (m : Mark) → ((s : ℕ) → m ≢ Given s) → ReuseByClass capacities h → ReuseByClass capacities (h ++ m ∷ [])
+pub reuse_more : (capacities : List ℕ) (h : List Mark) (m : Mark) → ((s : ℕ) → m ≢ Given s) → ReuseByClass capacities h
+    → ReuseByClass capacities (h ++ m ∷ [])
 reuse_more capacities h m none reuse j s c i p o given of gone there class =
     elim (at_end h m (Given s) j given) [
       | inl old ↦

@@ -24,7 +24,8 @@ pub record SameBusy (vs vs' : List View) : Type 0 where
   pub count : (c : ℕ) → total (λ v. inside_count c v.section) vs' ≡ total (λ v. inside_count c v.section) vs
 
 -- who holds no lock has no commit
-pub quiet_turn : (m : Memory) (vs : List View) (count : ℕ) → IsTurned m vs count → (id : ℕ) (v : View) → get_elem? vs id ≡ some v → v.hold ≡ None → HasNoCommit v
+pub quiet_turn : (m : Memory) (vs : List View) (count : ℕ) → IsTurned m vs count → (id : ℕ) (v : View) → get_elem? vs id ≡ some v
+    → v.hold ≡ None → HasNoCommit v
 quiet_turn m vs count (inl even) id v at free = even.1 id v at
 quiet_turn m vs count (inr odd) id v at free = odd.9 id v
     (λ e.
@@ -60,7 +61,8 @@ module _ (vs vs' : List View) (busy : SameBusy vs vs') where
   free_busy : (c : ℕ) (h : List Mark) (s : ℕ) → IsFreeOfReaders c h vs s → IsFreeOfReaders c h vs' s
   free_busy c h s free p j u section was at is class = free p j u section was (section_back j u section at is) is class
 
-  bucket_busy : (capacities : List ℕ) (c : ℕ) (m : Memory) (h : List Mark) (us : List Update) (b : Bucket) → BucketRule capacities c m h us vs b → BucketRule capacities c m h us vs' b
+  bucket_busy : (capacities : List ℕ) (c : ℕ) (m : Memory) (h : List Mark) (us : List Update) (b : Bucket)
+      → BucketRule capacities c m h us vs b → BucketRule capacities c m h us vs' b
   bucket_busy capacities c m h us b r = record {
     chained = r.chained;
     listed = r.listed;
@@ -97,8 +99,10 @@ module _ (vs vs' : List View) (busy : SameBusy vs vs') where
   )
 
   -- the rule, where the parts on seats hold that read quiet views
-  pub rule_busy : (capacities : List ℕ) (places tickets : ℕ) (m : Memory) (h : List Mark) → MemoryRule capacities places tickets m vs h → AreSeen vs' h → AreApart places vs' → AreOwned places vs' h
-      → ((j : ℕ) (u : View) → get_elem? vs' j ≡ some u → 1 ≤ u.places → u.sections ≡ entered_at u.place h) → total (λ (v : View). v.tickets) vs' ≡ total (λ (v : View). v.tickets) vs → MemoryRule capacities places tickets m vs' h
+  pub rule_busy : (capacities : List ℕ) (places tickets : ℕ) (m : Memory) (h : List Mark) → MemoryRule capacities places tickets m vs h
+      → AreSeen vs' h → AreApart places vs' → AreOwned places vs' h
+      → ((j : ℕ) (u : View) → get_elem? vs' j ≡ some u → 1 ≤ u.places → u.sections ≡ entered_at u.place h)
+      → total (λ (v : View). v.tickets) vs' ≡ total (λ (v : View). v.tickets) vs → MemoryRule capacities places tickets m vs' h
   rule_busy capacities places tickets m h r seen apart owned entered same = record {
     shape = r.shape;
     seen = seen;

@@ -11,7 +11,8 @@ and_true true b e = (refl, e)
 and_true false b e = absurd (cc)
 
 -- where a slot of a class lies
-pub slot_bounds : (capacities : List ℕ) (c s : ℕ) → is_slot_of capacities c s ≡ true → (base capacities c < s) × (s ≤ base capacities c + capacity capacities c)
+pub slot_bounds : (capacities : List ℕ) (c s : ℕ) → is_slot_of capacities c s ≡ true
+    → (base capacities c < s) × (s ≤ base capacities c + capacity capacities c)
 slot_bounds capacities c s e =
     let both = and_true _ _ e in
     (ltb-true (base capacities c) s both.0, leb-true s (base capacities c + capacity capacities c) both.1)

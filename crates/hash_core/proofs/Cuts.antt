@@ -13,11 +13,17 @@ use Rattle.list_laws.proofs.Lists.{times_here, times_other}
 use Rattle.hash_core.proofs.Paths.{IsPath-same, path_cons, seek_here, seek_past}
 
 -- a path that goes past the slot after `p` where the link of `p` does
-pub path_past : (next next' : ℕ → ℕ) (first p slot : ℕ) (ys rest : List ℕ) → next' p ≡ next slot → ((t : ℕ) → 1 ≤ times t ys → next' t ≡ next t) → ((t : ℕ) → 1 ≤ times t rest → next' t ≡ next t)
+pub path_past : (next next' : ℕ → ℕ) (first p slot : ℕ) (ys rest : List ℕ) → next' p ≡ next slot
+    → ((t : ℕ) → 1 ≤ times t ys → next' t ≡ next t) → ((t : ℕ) → 1 ≤ times t rest → next' t ≡ next t)
     → IsPath next first (ys ++ p ∷ slot ∷ rest) → IsPath next' first (ys ++ p ∷ rest)
-path_past next next' first p slot [] rest past before after path = (path.0, path.1, subst (λ z. IsPath next' z rest) (sym past) (IsPath-same next next' (next slot) rest after path.2.2))
-path_past next next' first p slot (y ∷ ys) rest past before after path =
-    (path.0, path.1, subst (λ z. IsPath next' z (ys ++ p ∷ rest)) (sym (before y (let t = times_here y ys in omega arith))) (path_past next next' (next y) p slot ys rest past (λ t there. before t (omega arith)) after path.2))
+path_past next next' first p slot [] rest past before after path =
+    (path.0, path.1, subst (λ z. IsPath next' z rest) (sym past) (IsPath-same next next' (next slot) rest after path.2.2))
+path_past next next' first p slot (y ∷ ys) rest past before after path = (
+  path.0,
+  path.1,
+  subst (λ z. IsPath next' z (ys ++ p ∷ rest)) (sym (before y (let t = times_here y ys in omega arith)))
+      (path_past next next' (next y) p slot ys rest past (λ t there. before t (omega arith)) after path.2),
+)
 
 -- a slot on a list cuts it in two
 pub cut_at : (x : ℕ) (xs : List ℕ) → 1 ≤ times x xs → (ys zs : List ℕ) × (xs ≡ ys ++ x ∷ zs)
@@ -33,7 +39,8 @@ path_back next first [] zs x path = path.2
 path_back next first (y ∷ ys) zs x path = path_back next (next y) ys zs x path.2
 
 -- two cuts of one list: the second's back begins in the first's front, or after it
-pub two_cuts : (qs bs fs rs : List ℕ) → qs ++ bs ≡ fs ++ rs → ((ks : List ℕ) × (qs ≡ fs ++ ks) × (rs ≡ ks ++ bs)) ⊎ ((ks : List ℕ) × (fs ≡ qs ++ ks) × (bs ≡ ks ++ rs))
+pub two_cuts : (qs bs fs rs : List ℕ) → qs ++ bs ≡ fs ++ rs
+    → ((ks : List ℕ) × (qs ≡ fs ++ ks) × (rs ≡ ks ++ bs)) ⊎ ((ks : List ℕ) × (fs ≡ qs ++ ks) × (bs ≡ ks ++ rs))
 two_cuts qs bs [] rs e = inl (qs, refl, sym e)
 two_cuts [] bs (f ∷ fs) rs e = inr (f ∷ fs, refl, e)
 two_cuts (a ∷ qs) bs (f ∷ fs) rs e =
@@ -53,12 +60,14 @@ seek_none_apart m key slot (f ∷ fs) rest none e =
     (λ ne. seek_none_apart m key slot fs rest (sym (seek_past m key f (fs ++ slot ∷ rest) ne) ∙ none) e)
 
 -- a search for another key finds the same without the slot
-pub seek_without : (m : Memory) (key slot : ℕ) (fs rest : List ℕ) → m (Key slot) ≢ key → seek m key (fs ++ slot ∷ rest) ≡ seek m key (fs ++ rest)
+pub seek_without : (m : Memory) (key slot : ℕ) (fs rest : List ℕ) → m (Key slot) ≢ key
+    → seek m key (fs ++ slot ∷ rest) ≡ seek m key (fs ++ rest)
 seek_without m key slot [] rest ne = seek_past m key slot rest ne
 seek_without m key slot (f ∷ fs) rest ne = ap (λ z. cond (m (Key f) == key) (Some (m (Value f))) z) (seek_without m key slot fs rest ne)
 
 -- without the slot the keys stay distinct, and its key is found no more
-pub distinct_without : (m : Memory) (slot : ℕ) (fs rest : List ℕ) → HaveDistinctKeys m (fs ++ slot ∷ rest) → HaveDistinctKeys m (fs ++ rest) × (seek m (m (Key slot)) (fs ++ rest) ≡ None)
+pub distinct_without : (m : Memory) (slot : ℕ) (fs rest : List ℕ) → HaveDistinctKeys m (fs ++ slot ∷ rest)
+    → HaveDistinctKeys m (fs ++ rest) × (seek m (m (Key slot)) (fs ++ rest) ≡ None)
 distinct_without m slot [] rest d = (d.1, d.0)
 distinct_without m slot (f ∷ fs) rest d =
     let ne : m (Key slot) ≢ m (Key f) = seek_none_apart m (m (Key f)) slot fs rest d.0 in
@@ -66,7 +75,8 @@ distinct_without m slot (f ∷ fs) rest d =
     ((sym (seek_without m (m (Key f)) slot fs rest ne) ∙ d.0, r.0), seek_past m (m (Key slot)) f (fs ++ rest) (λ e. ne (sym e)) ∙ r.1)
 
 -- a linked slot's key is found
-pub seek_some : (m : Memory) (key slot : ℕ) (fs rest : List ℕ) → m (Key slot) ≡ key → (value : ℕ) × (seek m key (fs ++ slot ∷ rest) ≡ Some value)
+pub seek_some : (m : Memory) (key slot : ℕ) (fs rest : List ℕ) → m (Key slot) ≡ key
+    → (value : ℕ) × (seek m key (fs ++ slot ∷ rest) ≡ Some value)
 seek_some m key slot [] rest e = (m (Value slot), seek_here m key slot rest e)
 seek_some m key slot (f ∷ fs) rest e =
     dite (ℕ_discrete (m (Key f)) key)
@@ -74,7 +84,8 @@ seek_some m key slot (f ∷ fs) rest e =
     (λ ne. let r = seek_some m key slot fs rest e in (r.0, seek_past m key f (fs ++ slot ∷ rest) ne ∙ r.1))
 
 -- and where keys are distinct it is found at that slot
-pub seek_slot : (m : Memory) (slot : ℕ) (fs rest : List ℕ) → HaveDistinctKeys m (fs ++ slot ∷ rest) → seek m (m (Key slot)) (fs ++ slot ∷ rest) ≡ Some (m (Value slot))
+pub seek_slot : (m : Memory) (slot : ℕ) (fs rest : List ℕ) → HaveDistinctKeys m (fs ++ slot ∷ rest)
+    → seek m (m (Key slot)) (fs ++ slot ∷ rest) ≡ Some (m (Value slot))
 seek_slot m slot [] rest d = seek_here m (m (Key slot)) slot rest refl
 seek_slot m slot (f ∷ fs) rest d =
     let ne : m (Key slot) ≢ m (Key f) = seek_none_apart m (m (Key f)) slot fs rest d.0 in
@@ -93,7 +104,8 @@ module _ (known : List Known) (m : Memory) (so : (s n : ℕ) → known_in known 
       let rest : xs ≡ ss = whole_path n.0 ss xs n.2 (subst (λ z. IsPath (λ t. m (Next t)) z xs) link p.2) in
       λ i. e i ∷ rest i
 
-  pub comes_on : (first : ℕ) (before chain : List ℕ) (slot : ℕ) → ComesTo known first before slot → IsPath (λ s. m (Next s)) first chain → 1 ≤ times slot chain
+  pub comes_on : (first : ℕ) (before chain : List ℕ) (slot : ℕ) → ComesTo known first before slot → IsPath (λ s. m (Next s)) first chain
+      → 1 ≤ times slot chain
   comes_on first [] chain slot c p =
       let r = path_cons (λ s. m (Next s)) first chain (λ e. c.1 (sym c.0 ∙ e)) p in
       let t : times first chain ≡ 1 + times first r.0 = ap (times first) r.1 ∙ times_here first r.0 in
@@ -105,12 +117,15 @@ module _ (known : List Known) (m : Memory) (so : (s n : ℕ) → known_in known 
       let link : m (Next x) ≡ n.0 = ap (λ z. m (Next z)) e ∙ so s n.0 n.1 in
       let r = comes_on n.0 ss xs slot n.2 (subst (λ z. IsPath (λ t. m (Next t)) z xs) link p.2) in omega arith
 
-pub lacks_none : (known : List Known) (m : Memory) → ((s n : ℕ) → known_in known (Key s) ≡ Some n → m (Key s) ≡ n) → (key : ℕ) (walk : List ℕ) → LacksKey known key walk → seek m key walk ≡ None
+pub lacks_none : (known : List Known) (m : Memory) → ((s n : ℕ) → known_in known (Key s) ≡ Some n → m (Key s) ≡ n)
+    → (key : ℕ) (walk : List ℕ) → LacksKey known key walk → seek m key walk ≡ None
 lacks_none known m so key [] l = refl
-lacks_none known m so key (s ∷ ss) l = let k = l.0 in seek_past m key s ss (λ e. k.2 (sym (so s k.0 k.1) ∙ e)) ∙ lacks_none known m so key ss l.1
+lacks_none known m so key (s ∷ ss) l = let k = l.0 in
+    seek_past m key s ss (λ e. k.2 (sym (so s k.0 k.1) ∙ e)) ∙ lacks_none known m so key ss l.1
 
 -- A value that is replaced at a slot: a search finds what it found, or that value under the slot's key.
-pub seek_replaced : (m m' : Memory) (key slot value : ℕ) (xs : List ℕ) → ((s : ℕ) → m' (Key s) ≡ m (Key s)) → ((s : ℕ) → s ≢ slot → m' (Value s) ≡ m (Value s)) → m' (Value slot) ≡ value
+pub seek_replaced : (m m' : Memory) (key slot value : ℕ) (xs : List ℕ) → ((s : ℕ) → m' (Key s) ≡ m (Key s))
+    → ((s : ℕ) → s ≢ slot → m' (Value s) ≡ m (Value s)) → m' (Value slot) ≡ value
     → (seek m' key xs ≡ seek m key xs) ⊎ ((m (Key slot) ≡ key) × (seek m' key xs ≡ Some value))
 seek_replaced m m' key slot value [] keys values new = inl refl
 seek_replaced m m' key slot value (x ∷ xs) keys values new =

@@ -30,28 +30,39 @@ each_one P a mine zero b e = subst (P 0) (some-injective a b e) mine
 each_one P a mine (suc j) b e = absurd (some-ne-none b (sym e))
 
 -- numbers in their order lead from one to the next
-path_from : (next : ℕ → ℕ) (n first link : ℕ) → 1 ≤ first → (n ≡ 0 → link ≡ 0) → (1 ≤ n → link ≡ first) → ((s : ℕ) → first ≤ s → s + 1 < first + n → next s ≡ s + 1) → ((s : ℕ) → 1 ≤ n → s + 1 ≡ first + n → next s ≡ 0)
+path_from : (next : ℕ → ℕ) (n first link : ℕ) → 1 ≤ first → (n ≡ 0 → link ≡ 0) → (1 ≤ n → link ≡ first)
+    → ((s : ℕ) → first ≤ s → s + 1 < first + n → next s ≡ s + 1) → ((s : ℕ) → 1 ≤ n → s + 1 ≡ first + n → next s ≡ 0)
     → IsPath next link (numbers_from first n)
 path_from next zero first link some_slot none begins goes ends = none refl
 path_from next (suc n) first link some_slot none begins goes ends = (
   begins (omega arith),
   some_slot,
-  path_from next n (first + 1) (next first) (omega arith) (λ e. ends first (omega arith) (omega arith)) (λ more. goes first (omega arith) (omega arith)) (λ s low high. goes s (omega arith) (omega arith)) (λ s more e. ends s (omega arith) (omega arith)),
+  path_from next n (first + 1) (next first) (omega arith) (λ e. ends first (omega arith) (omega arith))
+      (λ more. goes first (omega arith) (omega arith)) (λ s low high. goes s (omega arith) (omega arith))
+      (λ s more e. ends s (omega arith) (omega arith)),
 )
 
-module _ (capacities : List ℕ) (places tickets : ℕ) (shape : IsShape capacities places tickets) (m : Memory) (fresh : IsFresh capacities m) where
+module _ (capacities : List ℕ) (places tickets : ℕ) (shape : IsShape capacities places tickets) (m : Memory)
+    (fresh : IsFresh capacities m) where
   abbrev one_view : List View
   one_view = first_view places tickets ∷ []
 
   abbrev first_bucket : ℕ → Bucket
-  first_bucket c = record { chain = []; free = numbers_from (base capacities c + 1) (capacity capacities c); retired = []; moved = []; hold = None }
+  first_bucket c = record {
+    chain = [];
+    free = numbers_from (base capacities c + 1) (capacity capacities c);
+    retired = [];
+    moved = [];
+    hold = None;
+  }
 
   each_view : (P : ℕ → View → Type 0) → P 0 (first_view places tickets) → (j : ℕ) (u : View) → get_elem? one_view j ≡ some u → P j u
   each_view P = each_one P (first_view places tickets)
 
   module _ (c : ℕ) (small : c < 64) where
     is_slot : (s : ℕ) → base capacities c + 1 ≤ s → s < base capacities c + 1 + capacity capacities c → is_slot_of capacities c s ≡ true
-    is_slot s low high = and_from _ _ (lt-ltb (base capacities c) s (omega arith)) (le-leb s (base capacities c + capacity capacities c) (omega arith))
+    is_slot s low high = and_from _ _ (lt-ltb (base capacities c) s (omega arith))
+        (le-leb s (base capacities c + capacity capacities c) (omega arith))
 
     free_path : IsPath (λ s. m (Chain s)) (m (Free c)) (numbers_from (base capacities c + 1) (capacity capacities c))
     free_path =
@@ -60,18 +71,22 @@ module _ (capacities : List ℕ) (places tickets : ℕ) (shape : IsShape capacit
         path_from (λ s. m (Chain s)) room (before + 1) (m (Free c)) (omega arith)
         (λ none. fresh.free c small ∙ ap (λ b. cond b 0 (before + 1)) (eq-eqb room 0 none))
         (λ some_slot. fresh.free c small ∙ ap (λ b. cond b 0 (before + 1)) (ne_eqb room 0 (λ e. omega arith)))
-        (λ s low high. fresh.chains c s small (is_slot s low (omega arith)) ∙ ap (λ b. cond b 0 (s + 1)) (ne_eqb s (before + room) (λ e. omega arith)))
-        (λ s some_slot last. fresh.chains c s small (is_slot s (omega arith) (omega arith)) ∙ ap (λ b. cond b 0 (s + 1)) (eq-eqb s (before + room) (omega arith)))
+        (λ s low high. fresh.chains c s small (is_slot s low (omega arith))
+        ∙ ap (λ b. cond b 0 (s + 1)) (ne_eqb s (before + room) (λ e. omega arith)))
+        (λ s some_slot last. fresh.chains c s small (is_slot s (omega arith) (omega arith))
+        ∙ ap (λ b. cond b 0 (s + 1)) (eq-eqb s (before + room) (omega arith)))
 
     once_free : (x : ℕ) → times x (numbers_from (base capacities c + 1) (capacity capacities c)) ≡ cond (is_slot_of capacities c x) 1 0
     once_free x = once_case (is_slot_of capacities c x) refl
       where
-        once_case : (t : Bool) → is_slot_of capacities c x ≡ t → times x (numbers_from (base capacities c + 1) (capacity capacities c)) ≡ cond t 1 0
+        once_case : (t : Bool) → is_slot_of capacities c x ≡ t
+            → times x (numbers_from (base capacities c + 1) (capacity capacities c)) ≡ cond t 1 0
         once_case true is =
             let bounds = slot_bounds capacities c x is in let low = bounds.0 in let high = bounds.1 in
             from_times x (base capacities c + 1) (capacity capacities c) (omega arith) (omega arith)
         once_case false is = dite (dec_le 1 (times x (numbers_from (base capacities c + 1) (capacity capacities c))))
-            (λ there. let bounds = times_from x (base capacities c + 1) (capacity capacities c) there in absurd (let z : false ≡ true = sym is ∙ is_slot x bounds.0 bounds.1 in cc))
+            (λ there. let bounds = times_from x (base capacities c + 1) (capacity capacities c) there in
+            absurd (let z : false ≡ true = sym is ∙ is_slot x bounds.0 bounds.1 in cc))
             (λ not_there. omega arith)
 
     all_free : (s : ℕ) → IsFreeOfReaders c [] one_view s
@@ -87,10 +102,16 @@ module _ (capacities : List ℕ) (places tickets : ℕ) (shape : IsShape capacit
       known = record { known = λ hold field number is found. absurd (cc) };
       ages = record { chain = tt; taken = λ s is. absurd (cc); retired = tt; moved = tt; unlinked = λ s is. absurd (cc) };
       counted = record { readers = let none = fresh.readers c small in omega arith };
-      clean = record { free = all_from_times (IsFreeOfReaders c [] one_view) (first_bucket c).free (λ s _. all_free s); moved = tt; clear = λ hold is clear s of. all_free s };
+      clean = record {
+        free = all_from_times (IsFreeOfReaders c [] one_view) (first_bucket c).free (λ s _. all_free s);
+        moved = tt;
+        clear = λ hold is clear s of. all_free s;
+      };
       answered = record {
-        readers = λ j u section there is class. each_view (λ k z. z.section ≡ Some section → WillAnswer capacities c m [] [] [] section section.state) (λ mine. absurd (cc)) j u there is;
-        loaded = λ j u section value there is class read. each_view (λ k z. z.section ≡ Some section → WasSaid [] section.key section.from (Some value)) (λ mine. absurd (cc)) j u there is;
+        readers = λ j u section there is class. each_view
+            (λ k z. z.section ≡ Some section → WillAnswer capacities c m [] [] [] section section.state) (λ mine. absurd (cc)) j u there is;
+        loaded = λ j u section value there is class read. each_view
+            (λ k z. z.section ≡ Some section → WasSaid [] section.key section.from (Some value)) (λ mine. absurd (cc)) j u there is;
       };
     }
 
@@ -102,7 +123,11 @@ module _ (capacities : List ℕ) (places tickets : ℕ) (shape : IsShape capacit
   pub starts : MemoryRule capacities places tickets m (first_view places tickets ∷ []) []
   starts = record {
     shape = shape;
-    seen = record { begins = each_view (λ j u. IsPrefix u.seen []) ([], refl); heard = each_view (λ j u. HasHeard u) tt; longest = (0, first_view places tickets, refl, refl) };
+    seen = record {
+      begins = each_view (λ j u. IsPrefix u.seen []) ([], refl);
+      heard = each_view (λ j u. HasHeard u) tt;
+      longest = (0, first_view places tickets, refl, refl);
+    };
     apart = record {
       within = λ j u q there a. each_view (λ k z. AnswersFor z q → q < places) (place_first q) j u there a;
       apart = λ i j q a b ei ej aa ab. each_view (λ k z. k ≡ j) (each_view (λ l y. 0 ≡ l) refl j b ej) i a ei;
@@ -116,11 +141,16 @@ module _ (capacities : List ℕ) (places tickets : ℕ) (shape : IsShape capacit
       unused = λ j u q there has far. each_view (λ k z. own_of q z.own ≡ []) refl j u there;
     };
     sections = record {
-      open_here = λ j u section there is. each_view (λ k z. z.section ≡ Some section → (1 ≤ z.places) × (open_at z.place [] ≡ Some (open_of section)) × (section.from ≤ 0) × (section.key < 2 ^ 64)) (λ mine. absurd (cc)) j u there is;
+      open_here = λ j u section there is. each_view
+          (λ k z. z.section ≡ Some section → (1 ≤ z.places) × (open_at z.place [] ≡ Some (open_of section)) × (section.from ≤ 0)
+          × (section.key < 2 ^ 64)) (λ mine. absurd (cc)) j u there is;
       entered = λ j u there works. each_view (λ k z. z.sections ≡ entered_at z.place []) refl j u there;
       all = λ p o is. absurd (cc);
     };
-    held = record { held = λ j u hold there is. each_view (λ k z. z.hold ≡ Some hold → (hold.class < 64) × (1 ≤ z.places)) (λ mine. absurd (cc)) j u there is };
+    held = record {
+      held = λ j u hold there is. each_view (λ k z. z.hold ≡ Some hold → (hold.class < 64) × (1 ≤ z.places))
+          (λ mine. absurd (cc)) j u there is;
+    };
     turned = inl (let zero_front = fresh.front in omega arith, each_view (λ j u. HasNoCommit u) refl);
     tickets_are = omega arith;
     legal = tt;
@@ -137,8 +167,10 @@ has_field t n number has is = ap (λ b. cond b n 0) has ∙ is
 -- A memory is fresh where its words are: of each class its lock, readers, head, free and retired, and of each slot its
 -- chain.
 pub fresh_memory : (capacities ws : List ℕ) → slice_index ws 0 ≡ 0
-    → ((c : ℕ) → c < 64 → (slice_index ws (1 + 5 * c) ≡ 0) × (slice_index ws (2 + 5 * c) ≡ 0) × (slice_index ws (3 + 5 * c) ≡ 0) × (slice_index ws (4 + 5 * c) ≡ first_slot capacities c) × (slice_index ws (5 + 5 * c) ≡ 0))
-    → ((c i : ℕ) → c < 64 → i < capacity capacities c → slice_index ws (320 + 4 * (base capacities c + i + 1)) ≡ cond (i + 1 == capacity capacities c) 0 (base capacities c + i + 2))
+    → ((c : ℕ) → c < 64 → (slice_index ws (1 + 5 * c) ≡ 0) × (slice_index ws (2 + 5 * c) ≡ 0) × (slice_index ws (3 + 5 * c) ≡ 0)
+    × (slice_index ws (4 + 5 * c) ≡ first_slot capacities c) × (slice_index ws (5 + 5 * c) ≡ 0))
+    → ((c i : ℕ) → c < 64 → i < capacity capacities c
+    → slice_index ws (320 + 4 * (base capacities c + i + 1)) ≡ cond (i + 1 == capacity capacities c) 0 (base capacities c + i + 2))
     → IsFresh capacities (memory_of capacities ws)
 fresh_memory capacities ws front classes slots = record {
   front = front;
@@ -155,12 +187,16 @@ fresh_memory capacities ws front classes slots = record {
       let before : ℕ = base capacities c in
       let room : ℕ = capacity capacities c in
       has_field (nat_le 1 s && nat_le s (sum capacities)) _ _ (and_from _ _ (le-leb 1 s within.0) (le-leb s (sum capacities) within.1))
-      (subst (λ z. slice_index ws (320 + 4 * z) ≡ slot_after capacities c z) (let e : before + (s - (before + 1)) + 1 ≡ s = omega arith in e)
+      (subst (λ z. slice_index ws (320 + 4 * z) ≡ slot_after capacities c z)
+      (let e : before + (s - (before + 1)) + 1 ≡ s = omega arith in e)
       (slots c (s - (before + 1)) small (omega arith) ∙ chain_link before room (s - (before + 1))));
 }
   where
-    chain_link : (before room i : ℕ) → cond (i + 1 == room) 0 (before + i + 2) ≡ cond (before + i + 1 == before + room) 0 (before + i + 1 + 1)
+    chain_link : (before room i : ℕ) → cond (i + 1 == room) 0 (before + i + 2)
+        ≡ cond (before + i + 1 == before + room) 0 (before + i + 1 + 1)
     chain_link before room i = dite (ℕ_discrete (i + 1) room)
-        (λ e. ap (λ b. cond b 0 (before + i + 2)) (eq-eqb (i + 1) room e) ∙ sym (ap (λ b. cond b 0 (before + i + 1 + 1)) (eq-eqb (before + i + 1) (before + room) (omega arith))))
+        (λ e. ap (λ b. cond b 0 (before + i + 2)) (eq-eqb (i + 1) room e)
+        ∙ sym (ap (λ b. cond b 0 (before + i + 1 + 1)) (eq-eqb (before + i + 1) (before + room) (omega arith))))
         (λ ne. let same : before + i + 2 ≡ before + i + 1 + 1 = omega arith in
-        ap (λ b. cond b 0 (before + i + 2)) (ne_eqb (i + 1) room ne) ∙ same ∙ sym (ap (λ b. cond b 0 (before + i + 1 + 1)) (ne_eqb (before + i + 1) (before + room) (λ e. ne (omega arith)))))
+        ap (λ b. cond b 0 (before + i + 2)) (ne_eqb (i + 1) room ne) ∙ same
+        ∙ sym (ap (λ b. cond b 0 (before + i + 1 + 1)) (ne_eqb (before + i + 1) (before + room) (λ e. ne (omega arith)))))

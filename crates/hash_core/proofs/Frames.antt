@@ -31,7 +31,8 @@ use Rattle.hash_core.proofs.Paths.{path_cons, IsPath-same, IsPath-from, seek-sam
 
 -- What stands in the slots of a class is the same.
 abbrev pub SameSlots : List ℕ → ℕ → Memory → Memory → Type 0
-SameSlots capacities c m m' = (s : ℕ) → is_slot_of capacities c s ≡ true → (m' (Key s) ≡ m (Key s)) × (m' (Value s) ≡ m (Value s)) × (m' (Next s) ≡ m (Next s)) × (m' (Chain s) ≡ m (Chain s))
+SameSlots capacities c m m' = (s : ℕ) → is_slot_of capacities c s ≡ true
+    → (m' (Key s) ≡ m (Key s)) × (m' (Value s) ≡ m (Value s)) × (m' (Next s) ≡ m (Next s)) × (m' (Chain s) ≡ m (Chain s))
 
 -- What the parts on one class read of the memory is the same.
 pub record SameWords (capacities : List ℕ) (c : ℕ) (m m' : Memory) : Type 0 where
@@ -122,50 +123,66 @@ module _ (capacities : List ℕ) (c : ℕ) (b : Bucket) (roles : HaveOneRole cap
   pub taken_slot : (x : ℕ) → taken_of b.hold ≡ Some x → is_slot_of capacities c x ≡ true
   taken_slot x is =
       let r = roles.once x in
-      let one : times x (option_to_list (taken_of b.hold)) ≡ 1 = ap (λ o. times x (option_to_list o)) is ∙ (let t = times_here x [] in omega arith) in
+      let one : times x (option_to_list (taken_of b.hold)) ≡ 1 =
+      ap (λ o. times x (option_to_list o)) is ∙ (let t = times_here x [] in omega arith) in
       slot_case (is_slot_of capacities c x) _ r (omega arith)
 
   pub unlinked_slot : (x : ℕ) → unlinked_of b.hold ≡ Some x → is_slot_of capacities c x ≡ true
   unlinked_slot x is =
       let r = roles.once x in
-      let one : times x (option_to_list (unlinked_of b.hold)) ≡ 1 = ap (λ o. times x (option_to_list o)) is ∙ (let t = times_here x [] in omega arith) in
+      let one : times x (option_to_list (unlinked_of b.hold)) ≡ 1 =
+      ap (λ o. times x (option_to_list o)) is ∙ (let t = times_here x [] in omega arith) in
       slot_case (is_slot_of capacities c x) _ r (omega arith)
 
 -- What readers of a class will answer, where its slots and marks are the same.
-module _ (capacities : List ℕ) (c : ℕ) (m m' : Memory) (h h' : List Mark) (us us' : List Update) (b : Bucket) (slots : SameSlots capacities c m m') (marks : SameMarks capacities c h h' us us') (roles : HaveOneRole capacities c b) where
+module _ (capacities : List ℕ) (c : ℕ) (m m' : Memory) (h h' : List Mark) (us us' : List Update) (b : Bucket)
+    (slots : SameSlots capacities c m m') (marks : SameMarks capacities c h h' us us') (roles : HaveOneRole capacities c b) where
   pub still_said : (key from : ℕ) (answer : Option ℕ) → WasSaid us key from answer → WasSaid us' key from answer
-  still_said key from answer said = subst (λ z. WasSaid z key from answer) (sym marks.longer) (said_longer us marks.more key from answer said)
+  still_said key from answer said = subst (λ z. WasSaid z key from answer) (sym marks.longer)
+      (said_longer us marks.more key from answer said)
 
-  pub still_way : (section : Section) (slot : ℕ) → HasWay capacities c m h us b.chain section slot → HasWay capacities c m' h' us' b.chain section slot
+  pub still_way : (section : Section) (slot : ℕ) → HasWay capacities c m h us b.chain section slot
+      → HasWay capacities c m' h' us' b.chain section slot
   still_way section slot way =
       let of : (s : ℕ) → 1 ≤ times s (way.olds ++ way.rest) → is_slot_of capacities c s ≡ true = λ s there.
       let sum = times_append s way.olds way.rest in
       dite (dec_le 1 (times s way.olds))
       (λ in_olds. all_times (λ t. is_slot_of capacities c t ≡ true) way.olds s way.slots in_olds)
-      (λ not_olds. let cut = times_append s way.front way.rest in let whole = ap (times s) way.joins in chain_slot capacities c b roles s (omega arith)) in
+      (λ not_olds. let cut = times_append s way.front way.rest in let whole = ap (times s) way.joins in
+      chain_slot capacities c b roles s (omega arith)) in
       record {
         olds = way.olds;
         front = way.front;
         rest = way.rest;
         some = way.some;
         path = IsPath-same (λ s. m (Next s)) (λ s. m' (Next s)) slot (way.olds ++ way.rest) (λ s there. (slots s (of s there)).2) way.path;
-        held = all_change (IsHeldBack h section) (IsHeldBack h' section) way.olds (λ s there p. (p.0, marks.gone s (all_times (λ t. is_slot_of capacities c t ≡ true) way.olds s way.slots there) ∙ p.1, p.2)) way.held;
+        held = all_change (IsHeldBack h section) (IsHeldBack h' section) way.olds
+            (λ s there p. (
+              p.0,
+              marks.gone s (all_times (λ t. is_slot_of capacities c t ≡ true) way.olds s way.slots there) ∙ p.1,
+              p.2,
+            )) way.held;
         slots = way.slots;
         joins = way.joins;
-        said = subst (WasSaid us' section.key section.from) (sym (seek-same m m' section.key (way.olds ++ way.rest) (λ s there. let q = slots s (of s there) in (q.0, q.1)))) (still_said section.key section.from _ way.said);
+        said = subst (WasSaid us' section.key section.from)
+            (sym (seek-same m m' section.key (way.olds ++ way.rest) (λ s there. let q = slots s (of s there) in (q.0, q.1))))
+            (still_said section.key section.from _ way.said);
       }
 
   -- the first slot of a way is one of the class
   pub way_slot : (section : Section) (slot : ℕ) → HasWay capacities c m h us b.chain section slot → is_slot_of capacities c slot ≡ true
   way_slot section slot way =
       let first = path_cons (λ s. m (Next s)) slot (way.olds ++ way.rest) way.some way.path in
-      let there : 1 ≤ times slot (way.olds ++ way.rest) = (let t = times_here slot first.0 in let e = ap (times slot) first.1 in omega arith) in
+      let there : 1 ≤ times slot (way.olds ++ way.rest) =
+      (let t = times_here slot first.0 in let e = ap (times slot) first.1 in omega arith) in
       let sum = times_append slot way.olds way.rest in
       dite (dec_le 1 (times slot way.olds))
       (λ in_olds. all_times (λ t. is_slot_of capacities c t ≡ true) way.olds slot way.slots in_olds)
-      (λ not_olds. let cut = times_append slot way.front way.rest in let whole = ap (times slot) way.joins in chain_slot capacities c b roles slot (omega arith))
+      (λ not_olds. let cut = times_append slot way.front way.rest in let whole = ap (times slot) way.joins in
+      chain_slot capacities c b roles slot (omega arith))
 
-  pub still_answer : (section : Section) (state : SearchState) → WillAnswer capacities c m h us b.chain section state → WillAnswer capacities c m' h' us' b.chain section state
+  pub still_answer : (section : Section) (state : SearchState) → WillAnswer capacities c m h us b.chain section state
+      → WillAnswer capacities c m' h' us' b.chain section state
   still_answer section Start a = tt
   still_answer section (Unread s) a = still_way section s a
   still_answer section (Passed s) a = (still_way section s a.0, λ e. a.1 (sym (slots s (way_slot section s a.0)).0 ∙ e))
@@ -173,21 +190,25 @@ module _ (capacities : List ℕ) (c : ℕ) (m m' : Memory) (h h' : List Mark) (u
   still_answer section Ended a = still_said section.key section.from None a
 
 -- where slots were unlinked, where that is the same
-module _ (capacities : List ℕ) (c : ℕ) (h h' : List Mark) (b : Bucket) (gone : (s : ℕ) → is_slot_of capacities c s ≡ true → gone_at s h' ≡ gone_at s h) (roles : HaveOneRole capacities c b) where
+module _ (capacities : List ℕ) (c : ℕ) (h h' : List Mark) (b : Bucket)
+    (gone : (s : ℕ) → is_slot_of capacities c s ≡ true → gone_at s h' ≡ gone_at s h) (roles : HaveOneRole capacities c b) where
   still_gone : (s : ℕ) → is_slot_of capacities c s ≡ true → IsGone h s → IsGone h' s
   still_gone s of was = (was.0, gone s of ∙ was.1)
 
   pub frame_ages_same : HaveAges h b → HaveAges h' b
   frame_ages_same ages = record {
-    chain = all_change (λ s. gone_at s h ≡ None) (λ s. gone_at s h' ≡ None) b.chain (λ s there p. gone s (chain_slot capacities c b roles s there) ∙ p) ages.chain;
+    chain = all_change (λ s. gone_at s h ≡ None) (λ s. gone_at s h' ≡ None) b.chain
+        (λ s there p. gone s (chain_slot capacities c b roles s there) ∙ p) ages.chain;
     taken = λ s is. gone s (taken_slot capacities c b roles s is) ∙ ages.taken s is;
-    retired = all_change (IsGone h) (IsGone h') b.retired (λ s there p. still_gone s (retired_slot capacities c b roles s there) p) ages.retired;
+    retired = all_change (IsGone h) (IsGone h') b.retired
+        (λ s there p. still_gone s (retired_slot capacities c b roles s there) p) ages.retired;
     moved = all_change (IsGone h) (IsGone h') b.moved (λ s there p. still_gone s (moved_slot capacities c b roles s there) p) ages.moved;
     unlinked = λ s is. still_gone s (unlinked_slot capacities c b roles s is) (ages.unlinked s is);
   }
 
 -- who holds the lock, where that is the same
-module _ (c : ℕ) (m m' : Memory) (vs : List View) (id : ℕ) (v w : View) (at : get_elem? vs id ≡ some v) (word : m' (Lock c) ≡ m (Lock c)) (place : w.place ≡ v.place) (held_same : SameHold c v.hold w.hold) where
+module _ (c : ℕ) (m m' : Memory) (vs : List View) (id : ℕ) (v w : View) (at : get_elem? vs id ≡ some v) (word : m' (Lock c) ≡ m (Lock c))
+    (place : w.place ≡ v.place) (held_same : SameHold c v.hold w.hold) where
   pub locked_same : (hold : Option Hold) → IsLocked c m vs hold → IsLocked c m' (set vs id w) hold
   locked_same None locked = (
     word ∙ locked.0,
@@ -204,7 +225,8 @@ module _ (c : ℕ) (m m' : Memory) (vs : List View) (id : ℕ) (v w : View) (at 
         hold_same c v.hold w.hold hold held_same held locked.4,
         locked.4,
         word ∙ locked.5 ∙ ap (λ n. n + 1) (ap (λ (z : View). z.place) (sym same) ∙ sym place),
-        λ j u other. λ there. each_set (λ k z. k ≢ id → HoldsOther c z) vs id w (λ ne. absurd (ne refl)) (λ k z ne q _. locked.6 k z (λ f. ne (f ∙ e)) q) j u there other,
+        λ j u other. λ there. each_set (λ k z. k ≢ id → HoldsOther c z) vs id w (λ ne. absurd (ne refl))
+            (λ k z ne q _. locked.6 k z (λ f. ne (f ∙ e)) q) j u there other,
       ))
       (λ ne. (
         locked.0,
@@ -213,41 +235,57 @@ module _ (c : ℕ) (m m' : Memory) (vs : List View) (id : ℕ) (v w : View) (at 
         locked.3,
         locked.4,
         word ∙ locked.5,
-        λ j u other there. each_set (λ k z. k ≢ locked.0 → HoldsOther c z) vs id w (λ far. hold_other c v.hold w.hold held_same (locked.6 id v (λ f. ne (sym f)) at)) (λ k z not_id q far. locked.6 k z far q) j u there other,
+        λ j u other there. each_set (λ k z. k ≢ locked.0 → HoldsOther c z) vs id w
+            (λ far. hold_other c v.hold w.hold held_same (locked.6 id v (λ f. ne (sym f)) at))
+            (λ k z not_id q far. locked.6 k z far q) j u there other,
       ))
 
 -- slots that no section holds back, where the sections are the same
-module _ (capacities : List ℕ) (c : ℕ) (h h' : List Mark) (vs : List View) (id : ℕ) (v w : View) (at : get_elem? vs id ≡ some v) (last : (s : ℕ) → is_slot_of capacities c s ≡ true → last_unlinked s h' ≡ last_unlinked s h) (sections : SameSection c v.section w.section) where
+module _ (capacities : List ℕ) (c : ℕ) (h h' : List Mark) (vs : List View) (id : ℕ) (v w : View) (at : get_elem? vs id ≡ some v)
+    (last : (s : ℕ) → is_slot_of capacities c s ≡ true → last_unlinked s h' ≡ last_unlinked s h)
+    (sections : SameSection c v.section w.section) where
   pub still_free : (s : ℕ) → is_slot_of capacities c s ≡ true → IsFreeOfReaders c h vs s → IsFreeOfReaders c h' (set vs id w) s
   still_free s of free p j u section was there is class =
       each_set (λ k z. z.section ≡ Some section → p < section.entered) vs id w
       (λ mine. free p id v section (sym (last s of) ∙ was) at (section_back c v.section w.section section sections mine class) class)
       (λ k z other e theirs. free p k z section (sym (last s of) ∙ was) e theirs class) j u there is
 
-module _ (capacities : List ℕ) (c : ℕ) (m m' : Memory) (h h' : List Mark) (us us' : List Update) (vs : List View) (id : ℕ) (v w : View) (b : Bucket)
-    (at : get_elem? vs id ≡ some v) (words : SameWords capacities c m m') (marks : SameMarks capacities c h h' us us') (view : SameView c v w) (r : BucketRule capacities c m h us vs b) where
+module _ (capacities : List ℕ) (c : ℕ) (m m' : Memory) (h h' : List Mark) (us us' : List Update) (vs : List View) (id : ℕ) (v w : View)
+    (b : Bucket)
+    (at : get_elem? vs id ≡ some v) (words : SameWords capacities c m m') (marks : SameMarks capacities c h h' us us')
+    (view : SameView c v w) (r : BucketRule capacities c m h us vs b) where
   slot_chain : (x : ℕ) → 1 ≤ times x b.chain → is_slot_of capacities c x ≡ true
   slot_chain = chain_slot capacities c b r.roles
 
   frame_chained : IsChained c m' b.chain
   frame_chained =
-      let keys : (s : ℕ) → 1 ≤ times s b.chain → (m' (Key s) ≡ m (Key s)) × (m' (Value s) ≡ m (Value s)) = λ s there. let q = words.slots s (slot_chain s there) in (q.0, q.1) in
+      let keys : (s : ℕ) → 1 ≤ times s b.chain → (m' (Key s) ≡ m (Key s)) × (m' (Value s) ≡ m (Value s)) = λ s there. let q =
+      words.slots s (slot_chain s there) in (q.0, q.1) in
       record {
-        path = IsPath-from (λ s. m' (Next s)) (m (Head c)) (m' (Head c)) b.chain (sym words.head) (IsPath-same (λ s. m (Next s)) (λ s. m' (Next s)) (m (Head c)) b.chain (λ s there. (words.slots s (slot_chain s there)).2) r.chained.path);
-        classes = all_change (λ s. m (Key s) % 64 ≡ c) (λ s. m' (Key s) % 64 ≡ c) b.chain (λ s there p. ap (λ n. n % 64) (keys s there).0 ∙ p) r.chained.classes;
+        path = IsPath-from (λ s. m' (Next s)) (m (Head c)) (m' (Head c)) b.chain (sym words.head)
+            (IsPath-same (λ s. m (Next s)) (λ s. m' (Next s)) (m (Head c)) b.chain
+            (λ s there. (words.slots s (slot_chain s there)).2) r.chained.path);
+        classes = all_change (λ s. m (Key s) % 64 ≡ c) (λ s. m' (Key s) % 64 ≡ c) b.chain
+            (λ s there p. ap (λ n. n % 64) (keys s there).0 ∙ p) r.chained.classes;
         distinct = HaveDistinctKeys-same m m' b.chain keys r.chained.distinct;
       }
 
   frame_listed : AreListed c m' b
   frame_listed = record {
-    free = IsPath-from (λ s. m' (Chain s)) (m (Free c)) (m' (Free c)) b.free (sym words.free) (IsPath-same (λ s. m (Chain s)) (λ s. m' (Chain s)) (m (Free c)) b.free (λ s there. (words.slots s (free_slot capacities c b r.roles s there)).3) r.listed.free);
-    retired = IsPath-from (λ s. m' (Chain s)) (m (Retired c)) (m' (Retired c)) b.retired (sym words.retired) (IsPath-same (λ s. m (Chain s)) (λ s. m' (Chain s)) (m (Retired c)) b.retired (λ s there. (words.slots s (retired_slot capacities c b r.roles s there)).3) r.listed.retired);
-    moved = IsPath-same (λ s. m (Chain s)) (λ s. m' (Chain s)) (link_of (moved_of b.hold)) b.moved (λ s there. (words.slots s (moved_slot capacities c b r.roles s there)).3) r.listed.moved;
+    free = IsPath-from (λ s. m' (Chain s)) (m (Free c)) (m' (Free c)) b.free (sym words.free)
+        (IsPath-same (λ s. m (Chain s)) (λ s. m' (Chain s)) (m (Free c)) b.free
+        (λ s there. (words.slots s (free_slot capacities c b r.roles s there)).3) r.listed.free);
+    retired = IsPath-from (λ s. m' (Chain s)) (m (Retired c)) (m' (Retired c)) b.retired (sym words.retired)
+        (IsPath-same (λ s. m (Chain s)) (λ s. m' (Chain s)) (m (Retired c)) b.retired
+        (λ s there. (words.slots s (retired_slot capacities c b r.roles s there)).3) r.listed.retired);
+    moved = IsPath-same (λ s. m (Chain s)) (λ s. m' (Chain s)) (link_of (moved_of b.hold)) b.moved
+        (λ s there. (words.slots s (moved_slot capacities c b r.roles s there)).3) r.listed.moved;
   }
 
   frame_mapped : IsMapped c m' us' b.chain
   frame_mapped = record {
-    answers = λ key class. marks.pairs key class ∙ r.mapped.answers key class ∙ sym (seek-same m m' key b.chain (λ s there. let q = words.slots s (slot_chain s there) in (q.0, q.1)));
+    answers = λ key class. marks.pairs key class ∙ r.mapped.answers key class
+        ∙ sym (seek-same m m' key b.chain (λ s there. let q = words.slots s (slot_chain s there) in (q.0, q.1)));
   }
 
   frame_known : IsKnown capacities c m' b.hold
@@ -277,8 +315,12 @@ module _ (capacities : List ℕ) (c : ℕ) (m m' : Memory) (h h' : List Mark) (u
 
   frame_clean : AreClean capacities c h' (set vs id w) b
   frame_clean = record {
-    free = all_change (IsFreeOfReaders c h vs) (IsFreeOfReaders c h' (set vs id w)) b.free (λ s there p. still_free capacities c h h' vs id v w at marks.last view.section s (free_slot capacities c b r.roles s there) p) r.clean.free;
-    moved = all_change (IsFreeOfReaders c h vs) (IsFreeOfReaders c h' (set vs id w)) b.moved (λ s there p. still_free capacities c h h' vs id v w at marks.last view.section s (moved_slot capacities c b r.roles s there) p) r.clean.moved;
+    free = all_change (IsFreeOfReaders c h vs) (IsFreeOfReaders c h' (set vs id w)) b.free
+        (λ s there p. still_free capacities c h h' vs id v w at marks.last view.section s
+        (free_slot capacities c b r.roles s there) p) r.clean.free;
+    moved = all_change (IsFreeOfReaders c h vs) (IsFreeOfReaders c h' (set vs id w)) b.moved
+        (λ s there p. still_free capacities c h h' vs id v w at marks.last view.section s
+        (moved_slot capacities c b r.roles s there) p) r.clean.moved;
     clear = λ hold is clear s of. still_free capacities c h h' vs id v w at marks.last view.section s of (r.clean.clear hold is clear s of);
   }
 
@@ -286,12 +328,16 @@ module _ (capacities : List ℕ) (c : ℕ) (m m' : Memory) (h h' : List Mark) (u
   frame_answered = record {
     readers = λ j u section there is class.
         each_set (λ k z. z.section ≡ Some section → WillAnswer capacities c m' h' us' b.chain section section.state) vs id w
-        (λ mine. still_answer capacities c m m' h h' us us' b words.slots marks r.roles section section.state (r.answered.readers id v section at (section_back c v.section w.section section view.section mine class) class))
-        (λ k z other e theirs. still_answer capacities c m m' h h' us us' b words.slots marks r.roles section section.state (r.answered.readers k z section e theirs class)) j u there is;
+        (λ mine. still_answer capacities c m m' h h' us us' b words.slots marks r.roles section section.state
+        (r.answered.readers id v section at (section_back c v.section w.section section view.section mine class) class))
+        (λ k z other e theirs. still_answer capacities c m m' h h' us us' b words.slots marks r.roles section section.state
+        (r.answered.readers k z section e theirs class)) j u there is;
     loaded = λ j u section value there is class read.
         each_set (λ k z. z.section ≡ Some section → WasSaid us' section.key section.from (Some value)) vs id w
-        (λ mine. still_said capacities c m m' h h' us us' b words.slots marks r.roles section.key section.from (Some value) (r.answered.loaded id v section value at (section_back c v.section w.section section view.section mine class) class read))
-        (λ k z other e theirs. still_said capacities c m m' h h' us us' b words.slots marks r.roles section.key section.from (Some value) (r.answered.loaded k z section value e theirs class read)) j u there is;
+        (λ mine. still_said capacities c m m' h h' us us' b words.slots marks r.roles section.key section.from (Some value)
+        (r.answered.loaded id v section value at (section_back c v.section w.section section view.section mine class) class read))
+        (λ k z other e theirs. still_said capacities c m m' h h' us us' b words.slots marks r.roles section.key section.from (Some value)
+        (r.answered.loaded k z section value e theirs class read)) j u there is;
   }
 
   -- the whole rule on a class, where a step was made elsewhere

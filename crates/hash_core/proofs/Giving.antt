@@ -38,7 +38,13 @@ chains_are_map capacities places tickets m vs h r c small =
 
 pub slots_have_one_role : SlotsHaveOneRole
 slots_have_one_role capacities places tickets m vs h r c small =
-    let b = r.buckets c small in record { bucket = r.bucket c; path = b.chained.path; listed = b.listed; holder = b.locked; roles = b.roles }
+    let b = r.buckets c small in record {
+      bucket = r.bucket c;
+      path = b.chained.path;
+      listed = b.listed;
+      holder = b.locked;
+      roles = b.roles;
+    }
 
 pub readers_are_counted : ReadersAreCounted
 readers_are_counted capacities places tickets m vs h r c small = (r.buckets c small).counted.readers
@@ -52,7 +58,8 @@ marks_are_in_order capacities places tickets m vs h r = r.marks
 pub slots_are_reused : SlotsAreReused
 slots_are_reused capacities places tickets m vs h r = r.reuse
 
-module _ (capacities : List ℕ) (places tickets : ℕ) (m : Memory) (vs : List View) (h : List Mark) (r : MemoryRule capacities places tickets m vs h) (section : Section) (opened : IsOpenIn vs section) where
+module _ (capacities : List ℕ) (places tickets : ℕ) (m : Memory) (vs : List View) (h : List Mark)
+    (r : MemoryRule capacities places tickets m vs h) (section : Section) (opened : IsOpenIn vs section) where
   c : ℕ
   c = section.key % 64
 
@@ -71,18 +78,27 @@ module _ (capacities : List ℕ) (places tickets : ℕ) (m : Memory) (vs : List 
   abbrev IsAnswered : SearchState → Type 0
   IsAnswered state = (answer : Option ℕ) × Answers m section state answer × WasSaid (updates_of h) section.key section.from answer
 
-  answered : (state : SearchState) → WillAnswer capacities (section.key % 64) m h (updates_of h) (r.bucket (section.key % 64)).chain section state → IsAnswered state
+  answered : (state : SearchState) → WillAnswer capacities (section.key % 64) m h (updates_of h)
+      (r.bucket (section.key % 64)).chain section state → IsAnswered state
   answered Start w = (
     finite.get (map_of (updates_of h)) section.key,
-    record { path = (r.bucket (section.key % 64)).chain; leads = bucket_rule.chained.path; found = sym (bucket_rule.mapped.answers section.key refl) },
+    record {
+      path = (r.bucket (section.key % 64)).chain;
+      leads = bucket_rule.chained.path;
+      found = sym (bucket_rule.mapped.answers section.key refl);
+    },
     said_now (updates_of h) section.key section.from (r.sections.open_here opened.id opened.view section opened.there opened.inside).2,
   )
   answered (Unread s) w = (seek m section.key (w.olds ++ w.rest), record { path = w.olds ++ w.rest; leads = w.path; found = refl }, w.said)
   answered (Passed s) w =
       let way = w.0 in
       let first = path_cons (λ t. m (Next t)) s (way.olds ++ way.rest) way.some way.path in
-      let past : seek m section.key (way.olds ++ way.rest) ≡ seek m section.key first.0 = ap (seek m section.key) first.1 ∙ seek_past m section.key s first.0 w.1 in
-      (seek m section.key first.0, record { path = first.0; leads = first.2; found = refl }, subst (WasSaid (updates_of h) section.key section.from) past way.said)
+      let past : seek m section.key (way.olds ++ way.rest) ≡ seek m section.key first.0 =
+      ap (seek m section.key) first.1 ∙ seek_past m section.key s first.0 w.1 in (
+        seek m section.key first.0,
+        record { path = first.0; leads = first.2; found = refl },
+        subst (WasSaid (updates_of h) section.key section.from) past way.said,
+      )
   answered (Found s) w = found_case section.loaded refl
     where
       here : seek m section.key (w.0.olds ++ w.0.rest) ≡ Some (m (Value s))
@@ -91,26 +107,42 @@ module _ (capacities : List ℕ) (places tickets : ℕ) (m : Memory) (vs : List 
           ap (seek m section.key) first.1 ∙ seek_here m section.key s first.0 w.1
 
       found_case : (loaded : Option ℕ) → section.loaded ≡ loaded → IsAnswered (Found s)
-      found_case None is = (Some (m (Value s)), ap (λ z. Some (value_at m s z)) (sym is), subst (WasSaid (updates_of h) section.key section.from) here w.0.said)
-      found_case (Some value) is = (Some value, ap (λ z. Some (value_at m s z)) (sym is), bucket_rule.answered.loaded opened.id opened.view section value opened.there opened.inside refl is)
+      found_case None is = (
+        Some (m (Value s)),
+        ap (λ z. Some (value_at m s z)) (sym is),
+        subst (WasSaid (updates_of h) section.key section.from) here w.0.said,
+      )
+      found_case (Some value) is = (
+        Some value,
+        ap (λ z. Some (value_at m s z)) (sym is),
+        bucket_rule.answered.loaded opened.id opened.view section value opened.there opened.inside refl is,
+      )
   answered Ended w = (None, refl, w)
 
   -- the first slot of a way is held back, or linked
-  way_stands : (slot : ℕ) → Way slot → (is_slot_of capacities (section.key % 64) slot ≡ true) × (IsLinked m (section.key % 64) slot ⊎ IsHeldBack h section slot)
+  way_stands : (slot : ℕ) → Way slot → (is_slot_of capacities (section.key % 64) slot ≡ true)
+      × (IsLinked m (section.key % 64) slot ⊎ IsHeldBack h section slot)
   way_stands slot way =
       let chain : List ℕ = (r.bucket (section.key % 64)).chain in
       let first = path_cons (λ t. m (Next t)) slot (way.olds ++ way.rest) way.some way.path in
-      let there : 1 ≤ times slot (way.olds ++ way.rest) = (let t = times_here slot first.0 in let e = ap (times slot) first.1 in omega arith) in
+      let there : 1 ≤ times slot (way.olds ++ way.rest) =
+      (let t = times_here slot first.0 in let e = ap (times slot) first.1 in omega arith) in
       let sum = times_append slot way.olds way.rest in
       dite (dec_le 1 (times slot way.olds))
-      (λ in_olds. (all_times (λ t. is_slot_of capacities (section.key % 64) t ≡ true) way.olds slot way.slots in_olds, inr (all_times (IsHeldBack h section) way.olds slot way.held in_olds)))
+      (λ in_olds. (
+        all_times (λ t. is_slot_of capacities (section.key % 64) t ≡ true) way.olds slot way.slots in_olds,
+        inr (all_times (IsHeldBack h section) way.olds slot way.held in_olds),
+      ))
       (λ not_olds.
       let cut = times_append slot way.front way.rest in
       let whole = ap (times slot) way.joins in
-      let linked : 1 ≤ times slot chain = omega arith in
-      (chain_slot capacities (section.key % 64) (r.bucket (section.key % 64)) bucket_rule.roles slot linked, inl (record { chain = chain; path = bucket_rule.chained.path; there = linked })))
+      let linked : 1 ≤ times slot chain = omega arith in (
+        chain_slot capacities (section.key % 64) (r.bucket (section.key % 64)) bucket_rule.roles slot linked,
+        inl (record { chain = chain; path = bucket_rule.chained.path; there = linked }),
+      ))
 
-  stands : (state : SearchState) → WillAnswer capacities (section.key % 64) m h (updates_of h) (r.bucket (section.key % 64)).chain section state → (slot : ℕ) → StandsAt state slot
+  stands : (state : SearchState) → WillAnswer capacities (section.key % 64) m h (updates_of h)
+      (r.bucket (section.key % 64)).chain section state → (slot : ℕ) → StandsAt state slot
       → (is_slot_of capacities (section.key % 64) slot ≡ true) × (IsLinked m (section.key % 64) slot ⊎ IsHeldBack h section slot)
   stands Start w slot at = absurd at
   stands (Unread s) w slot at = way_stands slot (subst Way at w)
@@ -119,7 +151,9 @@ module _ (capacities : List ℕ) (places tickets : ℕ) (m : Memory) (vs : List 
   stands Ended w slot at = absurd at
 
 pub searches_are_answered : SearchesAreAnswered
-searches_are_answered capacities places tickets m vs h r section opened = answered capacities places tickets m vs h r section opened section.state (will capacities places tickets m vs h r section opened)
+searches_are_answered capacities places tickets m vs h r section opened =
+    answered capacities places tickets m vs h r section opened section.state (will capacities places tickets m vs h r section opened)
 
 pub searches_stand : SearchesStand
-searches_stand capacities places tickets m vs h r section opened slot at = stands capacities places tickets m vs h r section opened section.state (will capacities places tickets m vs h r section opened) slot at
+searches_stand capacities places tickets m vs h r section opened slot at =
+    stands capacities places tickets m vs h r section opened section.state (will capacities places tickets m vs h r section opened) slot at

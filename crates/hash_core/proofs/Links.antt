@@ -52,7 +52,9 @@ use Rattle.hash_core.proofs.Cuts.{whole_path, comes_on, lacks_none, cut_at, seek
 use Rattle.prcu_model.proofs.Worth.{get-updated_other, get-put, get-set}
 use Rattle.hash_core.proofs.Updating.{said_after, seats_updated}
 
-module _ (capacities : List ℕ) (places tickets : ℕ) (m : Memory) (vs : List View) (h : List Mark) (r : MemoryRule capacities places tickets m vs h) (id : ℕ) (v : View) (at : get_elem? vs id ≡ some v) (hold : Hold) (mine : v.hold ≡ Some hold) where
+module _ (capacities : List ℕ) (places tickets : ℕ) (m : Memory) (vs : List View) (h : List Mark)
+    (r : MemoryRule capacities places tickets m vs h) (id : ℕ) (v : View) (at : get_elem? vs id ≡ some v) (hold : Hold)
+    (mine : v.hold ≡ Some hold) where
   abbrev bucket_rule : BucketRule capacities hold.class m h (updates_of h) vs (r.bucket hold.class)
   bucket_rule = rule capacities places tickets m vs h r id v at hold mine
 
@@ -61,46 +63,66 @@ module _ (capacities : List ℕ) (places tickets : ℕ) (m : Memory) (vs : List 
 
   -- a slot on the known walk is linked
   pub on_chain : (slot : ℕ) → IsOnWalk hold slot → 1 ≤ times slot (r.bucket hold.class).chain
-  on_chain slot on = comes_on hold.known m (λ s n e. (is_known capacities places tickets m vs h r id v at hold mine (Next s) n e).1) on.first on.before chain_now slot on.comes
-      (subst (λ z. IsPath (λ s. m (Next s)) z chain_now) (is_known capacities places tickets m vs h r id v at hold mine (Head hold.class) on.first on.head).1 bucket_rule.chained.path)
+  on_chain slot on = comes_on hold.known m (λ s n e. (is_known capacities places tickets m vs h r id v at hold mine
+      (Next s) n e).1) on.first on.before chain_now slot on.comes
+      (subst (λ z. IsPath (λ s. m (Next s)) z chain_now)
+      (is_known capacities places tickets m vs h r id v at hold mine (Head hold.class) on.first on.head).1 bucket_rule.chained.path)
 
   -- a key that the known walk lacks is absent
   pub absent_now : (key : ℕ) → ShowsAbsent hold key → seek m key (r.bucket hold.class).chain ≡ None
   absent_now key shows =
-      let walk_is : chain_now ≡ shows.walk = whole_path hold.known m (λ s n e. (is_known capacities places tickets m vs h r id v at hold mine (Next s) n e).1) shows.first shows.walk chain_now shows.whole
-      (subst (λ z. IsPath (λ s. m (Next s)) z chain_now) (is_known capacities places tickets m vs h r id v at hold mine (Head hold.class) shows.first shows.head).1 bucket_rule.chained.path) in
-      ap (seek m key) walk_is ∙ lacks_none hold.known m (λ s n e. (is_known capacities places tickets m vs h r id v at hold mine (Key s) n e).1) key shows.walk shows.lacks
+      let walk_is : chain_now ≡ shows.walk = whole_path hold.known m
+      (λ s n e. (is_known capacities places tickets m vs h r id v at hold mine
+      (Next s) n e).1) shows.first shows.walk chain_now shows.whole
+      (subst (λ z. IsPath (λ s. m (Next s)) z chain_now)
+      (is_known capacities places tickets m vs h r id v at hold mine
+      (Head hold.class) shows.first shows.head).1 bucket_rule.chained.path) in
+      ap (seek m key) walk_is ∙ lacks_none hold.known m
+      (λ s n e. (is_known capacities places tickets m vs h r id v at hold mine (Key s) n e).1) key shows.walk shows.lacks
 
   -- a section was entered among the marks, at a front of the updates
-  pub section_bounds : (j : ℕ) (u : View) (section : Section) → get_elem? vs j ≡ some u → u.section ≡ Some section → (section.entered < length h) × (section.from ≤ length (updates_of h))
+  pub section_bounds : (j : ℕ) (u : View) (section : Section) → get_elem? vs j ≡ some u → u.section ≡ Some section
+      → (section.entered < length h) × (section.from ≤ length (updates_of h))
   section_bounds j u section there is =
       let o = r.sections.open_here j u section there is in
       (open_at-below u.place h (open_of section) o.1, o.2)
 
   -- readers' answers after a step of a view that stays in its section
   pub answered_from : (w : View) → w.section ≡ v.section → (m' : Memory) (h' : List Mark) (us' : List Update) (chain' : List ℕ)
-      → ((section : Section) → section.entered < length h → section.from ≤ length (updates_of h) → section.key % 64 ≡ hold.class → (state : SearchState) → WillAnswer capacities hold.class m h (updates_of h) (r.bucket hold.class).chain section state → WillAnswer capacities hold.class m' h' us' chain' section state)
-      → ((section : Section) (answer : Option ℕ) → WasSaid (updates_of h) section.key section.from answer → WasSaid us' section.key section.from answer)
+      → ((section : Section) → section.entered < length h → section.from ≤ length (updates_of h) → section.key % 64 ≡ hold.class
+      → (state : SearchState) → WillAnswer capacities hold.class m h (updates_of h) (r.bucket hold.class).chain section state
+      → WillAnswer capacities hold.class m' h' us' chain' section state)
+      → ((section : Section) (answer : Option ℕ) → WasSaid (updates_of h) section.key section.from answer
+      → WasSaid us' section.key section.from answer)
       → AreAnswered capacities hold.class m' h' us' (set vs id w) chain'
   answered_from w same m' h' us' chain' will said =
-      let each : (j : ℕ) (u : View) (section : Section) → get_elem? vs j ≡ some u → u.section ≡ Some section → section.key % 64 ≡ hold.class → WillAnswer capacities hold.class m' h' us' chain' section section.state = λ j u section there is class.
-      let b = section_bounds j u section there is in will section b.0 b.1 class section.state (bucket_rule.answered.readers j u section there is class) in
+      let each : (j : ℕ) (u : View) (section : Section) → get_elem? vs j ≡ some u → u.section ≡ Some section → section.key % 64 ≡ hold.class
+      → WillAnswer capacities hold.class m' h' us' chain' section section.state = λ j u section there is class.
+      let b = section_bounds j u section there is in
+      will section b.0 b.1 class section.state (bucket_rule.answered.readers j u section there is class) in
       record {
-        readers = λ j u section there is class. each_set (λ k z. z.section ≡ Some section → WillAnswer capacities hold.class m' h' us' chain' section section.state) vs id w
+        readers = λ j u section there is class. each_set
+            (λ k z. z.section ≡ Some section → WillAnswer capacities hold.class m' h' us' chain' section section.state) vs id w
             (λ yes. each id v section at (sym same ∙ yes) class) (λ k z far e theirs. each k z section e theirs class) j u there is;
-        loaded = λ j u section value there is class read. each_set (λ k z. z.section ≡ Some section → WasSaid us' section.key section.from (Some value)) vs id w
-            (λ yes. said section (Some value) (bucket_rule.answered.loaded id v section value at (sym same ∙ yes) class read)) (λ k z far e theirs. said section (Some value) (bucket_rule.answered.loaded k z section value e theirs class read)) j u there is;
+        loaded = λ j u section value there is class read. each_set
+            (λ k z. z.section ≡ Some section → WasSaid us' section.key section.from (Some value)) vs id w
+            (λ yes. said section (Some value) (bucket_rule.answered.loaded id v section value at (sym same ∙ yes) class read))
+            (λ k z far e theirs. said section (Some value)
+            (bucket_rule.answered.loaded k z section value e theirs class read)) j u there is;
       }
 
   -- what an update says of the keys of another class
-  pub marks_elsewhere : (d : ℕ) → d ≢ hold.class → (u : Update) → key_of u.op % 64 ≡ hold.class → (h' : List Mark) → updates_of h' ≡ updates_of h ++ u ∷ [] → ((s : ℕ) → is_slot_of capacities d s ≡ true → gone_at s h' ≡ gone_at s h)
-      → ((s : ℕ) → is_slot_of capacities d s ≡ true → last_unlinked s h' ≡ last_unlinked s h) → SameMarks capacities d h h' (updates_of h) (updates_of h')
+  pub marks_elsewhere : (d : ℕ) → d ≢ hold.class → (u : Update) → key_of u.op % 64 ≡ hold.class → (h' : List Mark)
+      → updates_of h' ≡ updates_of h ++ u ∷ [] → ((s : ℕ) → is_slot_of capacities d s ≡ true → gone_at s h' ≡ gone_at s h)
+      → ((s : ℕ) → is_slot_of capacities d s ≡ true → last_unlinked s h' ≡ last_unlinked s h)
+      → SameMarks capacities d h h' (updates_of h) (updates_of h')
   marks_elsewhere d ne u class h' longer gone last = record {
     more = u ∷ [];
     longer = longer;
     gone = gone;
     last = last;
-    pairs = λ key of. ap (λ z. finite.get (map_of z) key) longer ∙ ap (λ z. finite.get z key) (map_of-push (updates_of h) u) ∙ get-updated_other (map_of (updates_of h)) u.op key (λ e. ne (sym of ∙ ap (λ z. z % 64) e ∙ class));
+    pairs = λ key of. ap (λ z. finite.get (map_of z) key) longer ∙ ap (λ z. finite.get z key) (map_of-push (updates_of h) u)
+        ∙ get-updated_other (map_of (updates_of h)) u.op key (λ e. ne (sym of ∙ ap (λ z. z % 64) e ∙ class));
   }
 
   module _ (even : ℕ) (op : Op) where
@@ -131,11 +153,15 @@ module _ (capacities : List ℕ) (places tickets : ℕ) (m : Memory) (vs : List 
     pub done_reuse : ReuseByClass capacities h_done
     done_reuse = reuse_more capacities h (Done update) (λ s e. absurd (cc)) r.reuse
 
-    pub free_done : (w : View) → w.section ≡ v.section → (s : ℕ) → IsFreeOfReaders hold.class h vs s → IsFreeOfReaders hold.class h_done (set vs id w) s
-    free_done w same s free = free_each hold.class h h_done vs id w s (done_last s) (λ p section was is class. free p id v section was at (sym same ∙ is) class) free
+    pub free_done : (w : View) → w.section ≡ v.section → (s : ℕ) → IsFreeOfReaders hold.class h vs s
+        → IsFreeOfReaders hold.class h_done (set vs id w) s
+    free_done w same s free = free_each hold.class h h_done vs id w s (done_last s)
+        (λ p section was is class. free p id v section was at (sym same ∙ is) class) free
 
-    pub said_done : (section : Section) (answer : Option ℕ) → WasSaid (updates_of h) section.key section.from answer → WasSaid (updates_of h_done) section.key section.from answer
-    said_done section answer said = subst (λ z. WasSaid z section.key section.from answer) (sym done_longer) (said_longer (updates_of h) (update ∷ []) section.key section.from answer said)
+    pub said_done : (section : Section) (answer : Option ℕ) → WasSaid (updates_of h) section.key section.from answer
+        → WasSaid (updates_of h_done) section.key section.from answer
+    said_done section answer said = subst (λ z. WasSaid z section.key section.from answer) (sym done_longer)
+        (said_longer (updates_of h) (update ∷ []) section.key section.from answer said)
 
     pub get_done : (key : ℕ) → finite.get (map_of (updates_of h_done)) key ≡ finite.get (updated (map_of (updates_of h)) op) key
     get_done key = ap (λ z. finite.get (map_of z) key) done_longer ∙ ap (λ z. finite.get z key) (map_of-push (updates_of h) update)
@@ -171,7 +197,8 @@ module _ (capacities : List ℕ) (places tickets : ℕ) (m : Memory) (vs : List 
     absent13 = ap is_some (bucket_rule.mapped.answers key needs.class ∙ nothing13)
 
     slot_of13 : is_slot_of capacities hold.class slot ≡ true
-    slot_of13 = taken_slot capacities hold.class (r.bucket hold.class) bucket_rule.roles slot (ap taken_of (had capacities places tickets m vs h r id v at hold mine) ∙ needs.taken)
+    slot_of13 = taken_slot capacities hold.class (r.bucket hold.class) bucket_rule.roles slot
+        (ap taken_of (had capacities places tickets m vs h r id v at hold mine) ∙ needs.taken)
 
     abbrev b13 : Bucket
     b13 = record (r.bucket hold.class) { chain = slot ∷ (r.bucket hold.class).chain; hold = Some new13 }
@@ -179,48 +206,76 @@ module _ (capacities : List ℕ) (places tickets : ℕ) (m : Memory) (vs : List 
     mapped13 : (k : ℕ) → k % 64 ≡ hold.class → finite.get (map_of (updates_of h13)) k ≡ seek m13 k (slot ∷ chain_now)
     mapped13 k class = dite (ℕ_discrete k key)
         (λ e. subst (λ z. finite.get (map_of (updates_of h13)) z ≡ seek m13 z (slot ∷ chain_now)) (sym e)
-        (get_done even (Put key value) key ∙ get-put (map_of (updates_of h)) key value absent13 ∙ ap Some (sym is_value13) ∙ sym (seek_here m13 key slot chain_now is_key13)))
-        (λ ne. get_done_other even (Put key value) k ne ∙ bucket_rule.mapped.answers k class ∙ sym (seek-same m m13 k chain_now (λ s _. (refl, refl))) ∙ sym (seek_past m13 k slot chain_now (λ e. ne (sym e ∙ is_key13))))
+        (get_done even (Put key value) key ∙ get-put (map_of (updates_of h)) key value absent13 ∙ ap Some (sym is_value13)
+        ∙ sym (seek_here m13 key slot chain_now is_key13)))
+        (λ ne. get_done_other even (Put key value) k ne ∙ bucket_rule.mapped.answers k class
+        ∙ sym (seek-same m m13 k chain_now (λ s _. (refl, refl))) ∙ sym (seek_past m13 k slot chain_now (λ e. ne (sym e ∙ is_key13))))
 
     distinct13 : HaveDistinctKeys m13 (slot ∷ chain_now)
-    distinct13 = (seek-same m m13 (m (Key slot)) chain_now (λ s _. (refl, refl)) ∙ ap (λ z. seek m z chain_now) is_key13 ∙ nothing13, HaveDistinctKeys-same m m13 chain_now (λ s _. (refl, refl)) bucket_rule.chained.distinct)
+    distinct13 = (
+      seek-same m m13 (m (Key slot)) chain_now (λ s _. (refl, refl)) ∙ ap (λ z. seek m z chain_now) is_key13 ∙ nothing13,
+      HaveDistinctKeys-same m m13 chain_now (λ s _. (refl, refl)) bucket_rule.chained.distinct,
+    )
 
     pub law13 : MemoryRule capacities places tickets m13 (set vs id (after_link v hold even slot key value h)) h13
     law13 =
         let held : (r.bucket hold.class).hold ≡ Some hold = had capacities places tickets m vs h r id v at hold mine in
         after_step capacities places tickets m vs h r id v w13 at m13 h13
-        (seats_updated capacities places tickets m vs h r id v at hold mine even needs.commit (Put key value) new13 refl m13 refl [] (done_longer even (Put key value)) (λ p. refl) (done_open even (Put key value)) (done_entered even (Put key value)) (done_marks even (Put key value)) (done_reuse even (Put key value)) absent13)
+        (seats_updated capacities places tickets m vs h r id v at hold mine even needs.commit (Put key value) new13 refl m13 refl []
+        (done_longer even (Put key value)) (λ p. refl) (done_open even (Put key value)) (done_entered even (Put key value))
+        (done_marks even (Put key value)) (done_reuse even (Put key value)) absent13)
         hold.class b13
         (λ _. record {
           chained = record {
             path = (
               stored_here m (Head hold.class) slot (same_self (Head hold.class)),
               (slot_within capacities hold.class slot slot_of13).0,
-              subst (λ z. IsPath (λ s. m (Next s)) z chain_now) ((is_known capacities places tickets m vs h r id v at hold mine (Head hold.class) first needs.head_is).1 ∙ sym (is_known capacities places tickets m vs h r id v at hold mine (Next slot) first needs.next_is).1) bucket_rule.chained.path,
+              subst (λ z. IsPath (λ s. m (Next s)) z chain_now)
+                  ((is_known capacities places tickets m vs h r id v at hold mine (Head hold.class) first needs.head_is).1
+                  ∙ sym (is_known capacities places tickets m vs h r id v at hold mine
+                  (Next slot) first needs.next_is).1) bucket_rule.chained.path,
             );
             classes = (ap (λ z. z % 64) is_key13 ∙ needs.class, bucket_rule.chained.classes);
             distinct = distinct13;
           };
-          listed = record { free = bucket_rule.listed.free; retired = bucket_rule.listed.retired; moved = moved_by capacities places tickets m vs h r id v at hold mine };
-          roles = record { once = λ x. let a = roles_by capacities places tickets m vs h r id v at hold mine x in let n = ap (λ o. times x (option_to_list o)) needs.taken in omega arith };
+          listed = record {
+            free = bucket_rule.listed.free;
+            retired = bucket_rule.listed.retired;
+            moved = moved_by capacities places tickets m vs h r id v at hold mine;
+          };
+          roles = record {
+            once = λ x. let a = roles_by capacities places tickets m vs h r id v at hold mine x in
+                let n = ap (λ o. times x (option_to_list o)) needs.taken in omega arith;
+          };
           mapped = record { answers = mapped13 };
           locked = locked_by capacities places tickets m vs h r id v at hold new13 mine refl m13 refl w13 refl refl;
           known = known_after capacities places tickets m vs h r id v at hold mine (Head hold.class) slot refl new13 refl;
           ages = record {
-            chain = (done_gone even (Put key value) slot ∙ bucket_rule.ages.taken slot (ap taken_of held ∙ needs.taken), all_map (λ s. gone_at s h ≡ None) (λ s. gone_at s h13 ≡ None) chain_now (λ s p. done_gone even (Put key value) s ∙ p) bucket_rule.ages.chain);
+            chain = (
+              done_gone even (Put key value) slot ∙ bucket_rule.ages.taken slot (ap taken_of held ∙ needs.taken),
+              all_map (λ s. gone_at s h ≡ None) (λ s. gone_at s h13 ≡ None) chain_now
+                  (λ s p. done_gone even (Put key value) s ∙ p) bucket_rule.ages.chain,
+            );
             taken = λ s is. absurd (cc);
-            retired = all_map (IsGone h) (IsGone h13) (r.bucket hold.class).retired (λ s p. (p.0, done_gone even (Put key value) s ∙ p.1)) bucket_rule.ages.retired;
-            moved = all_map (IsGone h) (IsGone h13) (r.bucket hold.class).moved (λ s p. (p.0, done_gone even (Put key value) s ∙ p.1)) bucket_rule.ages.moved;
-            unlinked = λ s is. let p = bucket_rule.ages.unlinked s (ap unlinked_of held ∙ is) in (p.0, done_gone even (Put key value) s ∙ p.1);
+            retired = all_map (IsGone h) (IsGone h13) (r.bucket hold.class).retired
+                (λ s p. (p.0, done_gone even (Put key value) s ∙ p.1)) bucket_rule.ages.retired;
+            moved = all_map (IsGone h) (IsGone h13) (r.bucket hold.class).moved
+                (λ s p. (p.0, done_gone even (Put key value) s ∙ p.1)) bucket_rule.ages.moved;
+            unlinked = λ s is. let p = bucket_rule.ages.unlinked s (ap unlinked_of held ∙ is) in
+                (p.0, done_gone even (Put key value) s ∙ p.1);
           };
           counted = record { readers = (counted_still capacities hold.class m h vs id v w13 at refl bucket_rule.counted).readers };
           clean = record {
-            free = all_map (IsFreeOfReaders hold.class h vs) (IsFreeOfReaders hold.class h13 (set vs id w13)) (r.bucket hold.class).free (free_done even (Put key value) w13 refl) bucket_rule.clean.free;
-            moved = all_map (IsFreeOfReaders hold.class h vs) (IsFreeOfReaders hold.class h13 (set vs id w13)) (r.bucket hold.class).moved (free_done even (Put key value) w13 refl) bucket_rule.clean.moved;
-            clear = λ other is yes s of. let e : new13 ≡ other = cc in free_done even (Put key value) w13 refl s (bucket_rule.clean.clear hold held (ap (λ (z : Hold). z.clear) e ∙ yes) s of);
+            free = all_map (IsFreeOfReaders hold.class h vs) (IsFreeOfReaders hold.class h13 (set vs id w13)) (r.bucket hold.class).free
+                (free_done even (Put key value) w13 refl) bucket_rule.clean.free;
+            moved = all_map (IsFreeOfReaders hold.class h vs) (IsFreeOfReaders hold.class h13 (set vs id w13)) (r.bucket hold.class).moved
+                (free_done even (Put key value) w13 refl) bucket_rule.clean.moved;
+            clear = λ other is yes s of. let e : new13 ≡ other = cc in
+                free_done even (Put key value) w13 refl s (bucket_rule.clean.clear hold held (ap (λ (z : Hold). z.clear) e ∙ yes) s of);
           };
           answered = answered_from w13 refl m13 h13 (updates_of h13) (slot ∷ chain_now)
-              (λ section entered from class state. will_still capacities hold.class m m13 h h13 (updates_of h) (updates_of h13) chain_now (slot ∷ chain_now) section (record {
+              (λ section entered from class state. will_still capacities hold.class m m13 h h13 (updates_of h) (updates_of h13) chain_now
+              (slot ∷ chain_now) section (record {
                 linked = λ t _. (refl, refl, refl);
                 old = λ t _ _. (refl, refl, refl);
                 held = λ t _ p. (p.0, done_gone even (Put key value) t ∙ p.1, p.2);
@@ -231,7 +286,8 @@ module _ (capacities : List ℕ) (places tickets : ℕ) (m : Memory) (vs : List 
         })
         (λ d _ ne. record {
           words = class_words capacities hold.class d m slot ne (Head hold.class) refl;
-          marks = marks_elsewhere d ne (record { caller = v.place; op = Put key value }) needs.class h13 (done_longer even (Put key value)) (λ s _. done_gone even (Put key value) s) (λ s _. done_last even (Put key value) s);
+          marks = marks_elsewhere d ne (record { caller = v.place; op = Put key value }) needs.class h13 (done_longer even (Put key value))
+              (λ s _. done_gone even (Put key value) s) (λ s _. done_last even (Put key value) s);
           view = elsewhere_held capacities places tickets m vs h r id v at d hold new13 mine refl ne w13 refl refl refl;
         })
 
@@ -259,13 +315,15 @@ module _ (capacities : List ℕ) (places tickets : ℕ) (m : Memory) (vs : List 
     slot_of15 = chain_slot capacities hold.class (r.bucket hold.class) bucket_rule.roles slot there15
 
     class15 : key % 64 ≡ hold.class
-    class15 = ap (λ z. z % 64) (sym is_key15) ∙ all_times (λ s. m (Key s) % 64 ≡ hold.class) chain_now slot bucket_rule.chained.classes there15
+    class15 = ap (λ z. z % 64) (sym is_key15) ∙ all_times
+        (λ s. m (Key s) % 64 ≡ hold.class) chain_now slot bucket_rule.chained.classes there15
 
     abbrev cut15 : (ys zs : List ℕ) × (chain_now ≡ ys ++ slot ∷ zs)
     cut15 = cut_at slot chain_now there15
 
     found15 : (old : ℕ) × (seek m key chain_now ≡ Some old)
-    found15 = let f = seek_some m key slot (cut_at slot chain_now there15).0 (cut_at slot chain_now there15).1 is_key15 in (f.0, ap (seek m key) (cut_at slot chain_now there15).2 ∙ f.1)
+    found15 = let f = seek_some m key slot (cut_at slot chain_now there15).0 (cut_at slot chain_now there15).1 is_key15 in
+        (f.0, ap (seek m key) (cut_at slot chain_now there15).2 ∙ f.1)
 
     present15 : finite.contains_key (map_of (updates_of h)) key ≡ true
     present15 = ap is_some (bucket_rule.mapped.answers key class15 ∙ found15.1)
@@ -293,37 +351,49 @@ module _ (capacities : List ℕ) (places tickets : ℕ) (m : Memory) (vs : List 
     mapped15 k class = dite (ℕ_discrete k key)
         (λ e. subst (λ z. finite.get (map_of (updates_of h15)) z ≡ seek m15 z chain_now) (sym e)
         (get_done even (Set key value) key ∙ get-set (map_of (updates_of h)) key value present15 ∙ ap Some (sym new_value15) ∙ sym now15))
-        (λ ne. get_done_other even (Set key value) k ne ∙ bucket_rule.mapped.answers k class ∙ elim (search15 k chain_now) [ inl e ↦ sym e | inr e ↦ absurd (ne (sym e.0 ∙ is_key15)) ])
+        (λ ne. get_done_other even (Set key value) k ne ∙ bucket_rule.mapped.answers k class
+        ∙ elim (search15 k chain_now) [ inl e ↦ sym e | inr e ↦ absurd (ne (sym e.0 ∙ is_key15)) ])
       where
         now15 : seek m15 key chain_now ≡ Some (m15 (Value slot))
         now15 =
             let cut = cut_at slot chain_now there15 in
-            ap (λ z. seek m15 z chain_now) (sym is_key15) ∙ ap (seek m15 (m (Key slot))) cut.2 ∙ seek_slot m15 slot cut.0 cut.1 (subst (HaveDistinctKeys m15) cut.2 (distinct15 chain_now bucket_rule.chained.distinct))
+            ap (λ z. seek m15 z chain_now) (sym is_key15) ∙ ap (seek m15 (m (Key slot))) cut.2
+            ∙ seek_slot m15 slot cut.0 cut.1 (subst (HaveDistinctKeys m15) cut.2 (distinct15 chain_now bucket_rule.chained.distinct))
 
-    said_way15 : (section : Section) → section.from ≤ length (updates_of h) → (xs : List ℕ) → WasSaid (updates_of h) section.key section.from (seek m section.key xs) → WasSaid (updates_of h15) section.key section.from (seek m15 section.key xs)
+    said_way15 : (section : Section) → section.from ≤ length (updates_of h) → (xs : List ℕ)
+        → WasSaid (updates_of h) section.key section.from (seek m section.key xs)
+        → WasSaid (updates_of h15) section.key section.from (seek m15 section.key xs)
     said_way15 section from xs said = elim (search15 section.key xs) [
-      | inl e ↦ subst (WasSaid (updates_of h15) section.key section.from) (sym e) (said_done even (Set key value) section (seek m section.key xs) said)
+      | inl e ↦ subst (WasSaid (updates_of h15) section.key section.from) (sym e)
+          (said_done even (Set key value) section (seek m section.key xs) said)
       | inr e ↦
           let key_is : section.key ≡ key = sym e.0 ∙ is_key15 in
           subst (WasSaid (updates_of h15) section.key section.from) (sym e.1)
           (subst (λ z. WasSaid z section.key section.from (Some value)) (sym (done_longer even (Set key value)))
-          (said_after (updates_of h) (record { caller = v.place; op = Set key value }) section.key section.from (Some value) from (ap (finite.get (updated (map_of (updates_of h)) (Set key value))) key_is ∙ get-set (map_of (updates_of h)) key value present15)))
+          (said_after (updates_of h) (record { caller = v.place; op = Set key value }) section.key section.from (Some value) from
+          (ap (finite.get (updated (map_of (updates_of h)) (Set key value))) key_is
+          ∙ get-set (map_of (updates_of h)) key value present15)))
     ]
 
-    way15 : (section : Section) → section.from ≤ length (updates_of h) → (s : ℕ) → HasWay capacities hold.class m h (updates_of h) chain_now section s → HasWay capacities hold.class m15 h15 (updates_of h15) chain_now section s
+    way15 : (section : Section) → section.from ≤ length (updates_of h) → (s : ℕ)
+        → HasWay capacities hold.class m h (updates_of h) chain_now section s
+        → HasWay capacities hold.class m15 h15 (updates_of h15) chain_now section s
     way15 section from s way = record {
       olds = way.olds;
       front = way.front;
       rest = way.rest;
       some = way.some;
       path = way.path;
-      held = all_map (IsHeldBack h section) (IsHeldBack h15 section) way.olds (λ t p. (p.0, done_gone even (Set key value) t ∙ p.1, p.2)) way.held;
+      held = all_map (IsHeldBack h section) (IsHeldBack h15 section) way.olds
+          (λ t p. (p.0, done_gone even (Set key value) t ∙ p.1, p.2)) way.held;
       slots = way.slots;
       joins = way.joins;
       said = said_way15 section from (way.olds ++ way.rest) way.said;
     }
 
-    will15 : (section : Section) → section.from ≤ length (updates_of h) → (state : SearchState) → WillAnswer capacities hold.class m h (updates_of h) chain_now section state → WillAnswer capacities hold.class m15 h15 (updates_of h15) chain_now section state
+    will15 : (section : Section) → section.from ≤ length (updates_of h) → (state : SearchState)
+        → WillAnswer capacities hold.class m h (updates_of h) chain_now section state
+        → WillAnswer capacities hold.class m15 h15 (updates_of h15) chain_now section state
     will15 section from Start a = tt
     will15 section from (Unread s) a = way15 section from s a
     will15 section from (Passed s) a = (way15 section from s a.0, a.1)
@@ -335,11 +405,21 @@ module _ (capacities : List ℕ) (places tickets : ℕ) (m : Memory) (vs : List 
         let held : (r.bucket hold.class).hold ≡ Some hold = had capacities places tickets m vs h r id v at hold mine in
         let gone : (s : ℕ) → gone_at s h15 ≡ gone_at s h = done_gone even (Set key value) in
         after_step capacities places tickets m vs h r id v w15 at m15 h15
-        (seats_updated capacities places tickets m vs h r id v at hold mine even needs.commit (Set key value) new15 refl m15 refl [] (done_longer even (Set key value)) (λ p. refl) (done_open even (Set key value)) (done_entered even (Set key value)) (done_marks even (Set key value)) (done_reuse even (Set key value)) present15)
+        (seats_updated capacities places tickets m vs h r id v at hold mine even needs.commit (Set key value) new15 refl m15 refl []
+        (done_longer even (Set key value)) (λ p. refl) (done_open even (Set key value)) (done_entered even (Set key value))
+        (done_marks even (Set key value)) (done_reuse even (Set key value)) present15)
         hold.class (record (r.bucket hold.class) { hold = Some new15 })
         (λ _. record {
-          chained = record { path = bucket_rule.chained.path; classes = bucket_rule.chained.classes; distinct = distinct15 chain_now bucket_rule.chained.distinct };
-          listed = record { free = bucket_rule.listed.free; retired = bucket_rule.listed.retired; moved = moved_by capacities places tickets m vs h r id v at hold mine };
+          chained = record {
+            path = bucket_rule.chained.path;
+            classes = bucket_rule.chained.classes;
+            distinct = distinct15 chain_now bucket_rule.chained.distinct;
+          };
+          listed = record {
+            free = bucket_rule.listed.free;
+            retired = bucket_rule.listed.retired;
+            moved = moved_by capacities places tickets m vs h r id v at hold mine;
+          };
           roles = record { once = roles_by capacities places tickets m vs h r id v at hold mine };
           mapped = record { answers = mapped15 };
           locked = locked_by capacities places tickets m vs h r id v at hold new15 mine refl m15 refl w15 refl refl;
@@ -353,14 +433,19 @@ module _ (capacities : List ℕ) (places tickets : ℕ) (m : Memory) (vs : List 
           };
           counted = record { readers = (counted_still capacities hold.class m h vs id v w15 at refl bucket_rule.counted).readers };
           clean = record {
-            free = all_map (IsFreeOfReaders hold.class h vs) (IsFreeOfReaders hold.class h15 (set vs id w15)) (r.bucket hold.class).free (free_done even (Set key value) w15 refl) bucket_rule.clean.free;
-            moved = all_map (IsFreeOfReaders hold.class h vs) (IsFreeOfReaders hold.class h15 (set vs id w15)) (r.bucket hold.class).moved (free_done even (Set key value) w15 refl) bucket_rule.clean.moved;
-            clear = λ other is yes s of. let e : new15 ≡ other = cc in free_done even (Set key value) w15 refl s (bucket_rule.clean.clear hold held (ap (λ (z : Hold). z.clear) e ∙ yes) s of);
+            free = all_map (IsFreeOfReaders hold.class h vs) (IsFreeOfReaders hold.class h15 (set vs id w15)) (r.bucket hold.class).free
+                (free_done even (Set key value) w15 refl) bucket_rule.clean.free;
+            moved = all_map (IsFreeOfReaders hold.class h vs) (IsFreeOfReaders hold.class h15 (set vs id w15)) (r.bucket hold.class).moved
+                (free_done even (Set key value) w15 refl) bucket_rule.clean.moved;
+            clear = λ other is yes s of. let e : new15 ≡ other = cc in
+                free_done even (Set key value) w15 refl s (bucket_rule.clean.clear hold held (ap (λ (z : Hold). z.clear) e ∙ yes) s of);
           };
-          answered = answered_from w15 refl m15 h15 (updates_of h15) chain_now (λ section entered from class state. will15 section from state) (said_done even (Set key value));
+          answered = answered_from w15 refl m15 h15 (updates_of h15) chain_now
+              (λ section entered from class state. will15 section from state) (said_done even (Set key value));
         })
         (λ d _ ne. record {
           words = class_words capacities hold.class d m value ne (Value slot) slot_of15;
-          marks = marks_elsewhere d ne (record { caller = v.place; op = Set key value }) class15 h15 (done_longer even (Set key value)) (λ s _. gone s) (λ s _. done_last even (Set key value) s);
+          marks = marks_elsewhere d ne (record { caller = v.place; op = Set key value }) class15 h15 (done_longer even (Set key value))
+              (λ s _. gone s) (λ s _. done_last even (Set key value) s);
           view = elsewhere_held capacities places tickets m vs h r id v at d hold new15 mine refl ne w15 refl refl refl;
         })

@@ -35,29 +35,40 @@ use Rattle.hash_core.proofs.Quiet.{same_marks, same_section, same_hold, seats_sa
 use Rattle.hash_core.proofs.Whole.{SeatsRule, after_step, after_quiet}
 
 -- the parts on a class that read views, where another view has the same section
-module _ (capacities : List ℕ) (c : ℕ) (m : Memory) (h : List Mark) (vs : List View) (id : ℕ) (v w : View) (at : get_elem? vs id ≡ some v) (same : w.section ≡ v.section) where
+module _ (capacities : List ℕ) (c : ℕ) (m : Memory) (h : List Mark) (vs : List View) (id : ℕ) (v w : View) (at : get_elem? vs id ≡ some v)
+    (same : w.section ≡ v.section) where
   pub counted_still : AreCounted c m vs → AreCounted c m (set vs id w)
   counted_still counted = record {
-    readers = let sum = total_set (λ (z : View). inside_count c z.section) vs id v w at in let e = ap (inside_count c) same in let was = counted.readers in omega arith;
+    readers = let sum = total_set (λ (z : View). inside_count c z.section) vs id v w at in let e = ap (inside_count c) same in
+        let was = counted.readers in omega arith;
   }
 
   pub free_still : (s : ℕ) → IsFreeOfReaders c h vs s → IsFreeOfReaders c h (set vs id w) s
   free_still s free p j u section gone there is class = each_set (λ k z. z.section ≡ Some section → p < section.entered) vs id w
-      (λ mine. free p id v section gone at (sym same ∙ mine) class) (λ k z far e theirs. free p k z section gone e theirs class) j u there is
+      (λ mine. free p id v section gone at (sym same ∙ mine) class)
+      (λ k z far e theirs. free p k z section gone e theirs class) j u there is
 
   -- in a memory whose slots are the same
-  pub answered_still : (m' : Memory) (b : Bucket) → SameSlots capacities c m m' → HaveOneRole capacities c b → AreAnswered capacities c m h (updates_of h) vs b.chain → AreAnswered capacities c m' h (updates_of h) (set vs id w) b.chain
+  pub answered_still : (m' : Memory) (b : Bucket) → SameSlots capacities c m m' → HaveOneRole capacities c b
+      → AreAnswered capacities c m h (updates_of h) vs b.chain → AreAnswered capacities c m' h (updates_of h) (set vs id w) b.chain
   answered_still m' b slots roles answered =
       let us : List Update = updates_of h in
-      let will : (section : Section) → WillAnswer capacities c m h us b.chain section section.state → WillAnswer capacities c m' h us b.chain section section.state = λ section. still_answer capacities c m m' h h us us b slots (same_marks capacities c h) roles section section.state in
+      let will : (section : Section) → WillAnswer capacities c m h us b.chain section section.state
+      → WillAnswer capacities c m' h us b.chain section section.state =
+      λ section. still_answer capacities c m m' h h us us b slots (same_marks capacities c h) roles section section.state in
       record {
-        readers = λ j u section there is class. each_set (λ k z. z.section ≡ Some section → WillAnswer capacities c m' h us b.chain section section.state) vs id w
-            (λ mine. will section (answered.readers id v section at (sym same ∙ mine) class)) (λ k z far e theirs. will section (answered.readers k z section e theirs class)) j u there is;
-        loaded = λ j u section value there is class read. each_set (λ k z. z.section ≡ Some section → WasSaid us section.key section.from (Some value)) vs id w
-            (λ mine. answered.loaded id v section value at (sym same ∙ mine) class read) (λ k z far e theirs. answered.loaded k z section value e theirs class read) j u there is;
+        readers = λ j u section there is class. each_set
+            (λ k z. z.section ≡ Some section → WillAnswer capacities c m' h us b.chain section section.state) vs id w
+            (λ mine. will section (answered.readers id v section at (sym same ∙ mine) class))
+            (λ k z far e theirs. will section (answered.readers k z section e theirs class)) j u there is;
+        loaded = λ j u section value there is class read. each_set
+            (λ k z. z.section ≡ Some section → WasSaid us section.key section.from (Some value)) vs id w
+            (λ mine. answered.loaded id v section value at (sym same ∙ mine) class read)
+            (λ k z far e theirs. answered.loaded k z section value e theirs class read) j u there is;
       }
 
-module _ (capacities : List ℕ) (places tickets : ℕ) (m : Memory) (vs : List View) (h : List Mark) (r : MemoryRule capacities places tickets m vs h) (id : ℕ) (v : View) (at : get_elem? vs id ≡ some v) where
+module _ (capacities : List ℕ) (places tickets : ℕ) (m : Memory) (vs : List View) (h : List Mark)
+    (r : MemoryRule capacities places tickets m vs h) (id : ℕ) (v : View) (at : get_elem? vs id ≡ some v) where
   -- who holds a lock is the holder of its class
   pub holder_of : (c : ℕ) → c < 64 → (hold : Hold) → v.hold ≡ Some hold → hold.class ≡ c → (r.bucket c).hold ≡ Some hold
   holder_of c small hold mine class = holder_case (r.bucket c).hold refl (r.buckets c small).locked
@@ -114,8 +125,16 @@ module _ (capacities : List ℕ) (places tickets : ℕ) (m : Memory) (vs : List 
         let none : (r.bucket c).hold ≡ None = nobody in
         record {
           chained = record { path = b.chained.path; classes = b.chained.classes; distinct = b.chained.distinct };
-          listed = record { free = b.listed.free; retired = b.listed.retired; moved = subst (λ z. IsPath (λ s. m (Chain s)) (link_of (moved_of z)) (r.bucket c).moved) none b.listed.moved };
-          roles = record { once = λ x. subst (λ z. times x (r.bucket c).chain + times x (r.bucket c).free + times x (r.bucket c).retired + times x (r.bucket c).moved + times x (option_to_list (taken_of z)) + times x (option_to_list (unlinked_of z)) ≡ cond (is_slot_of capacities c x) 1 0) none (b.roles.once x) };
+          listed = record {
+            free = b.listed.free;
+            retired = b.listed.retired;
+            moved = subst (λ z. IsPath (λ s. m (Chain s)) (link_of (moved_of z)) (r.bucket c).moved) none b.listed.moved;
+          };
+          roles = record {
+            once = λ x. subst (λ z. times x (r.bucket c).chain + times x (r.bucket c).free + times x (r.bucket c).retired
+                + times x (r.bucket c).moved + times x (option_to_list (taken_of z)) + times x (option_to_list (unlinked_of z))
+                ≡ cond (is_slot_of capacities c x) 1 0) none (b.roles.once x);
+          };
           mapped = record { answers = b.mapped.answers };
           locked = (
             id,
@@ -124,17 +143,32 @@ module _ (capacities : List ℕ) (places tickets : ℕ) (m : Memory) (vs : List 
             refl,
             refl,
             stored_here m (Lock c) (v.place + 1) (same_self (Lock c)),
-            λ j u ne there. each_set (λ k z. k ≢ id → HoldsOther c z) vs id w6 (λ f. absurd (f refl)) (λ k z far e _. (subst (IsLocked c m vs) none b.locked).1 k z e) j u there ne,
+            λ j u ne there. each_set (λ k z. k ≢ id → HoldsOther c z) vs id w6 (λ f. absurd (f refl))
+                (λ k z far e _. (subst (IsLocked c m vs) none b.locked).1 k z e) j u there ne,
           );
-          known = record { known = λ hold field number is found. absurd (let e : fresh_hold c ≡ hold = cc in let z : known_in hold.known field ≡ None = ap (λ (y : Hold). known_in y.known field) (sym e) in cc) };
-          ages = record { chain = b.ages.chain; taken = λ s is. absurd (cc); retired = b.ages.retired; moved = b.ages.moved; unlinked = λ s is. absurd (cc) };
+          known = record {
+            known = λ hold field number is found. absurd
+                (let e : fresh_hold c ≡ hold = cc in let z : known_in hold.known field ≡ None =
+                ap (λ (y : Hold). known_in y.known field) (sym e) in cc);
+          };
+          ages = record {
+            chain = b.ages.chain;
+            taken = λ s is. absurd (cc);
+            retired = b.ages.retired;
+            moved = b.ages.moved;
+            unlinked = λ s is. absurd (cc);
+          };
           counted = record { readers = (counted_still capacities c m h vs id v w6 at refl b.counted).readers };
           clean = record {
-            free = all_map (IsFreeOfReaders c h vs) (IsFreeOfReaders c h (set vs id w6)) (r.bucket c).free (free_still capacities c m h vs id v w6 at refl) b.clean.free;
-            moved = all_map (IsFreeOfReaders c h vs) (IsFreeOfReaders c h (set vs id w6)) (r.bucket c).moved (free_still capacities c m h vs id v w6 at refl) b.clean.moved;
-            clear = λ hold is clear s of. absurd (let e : fresh_hold c ≡ hold = cc in let z : hold.clear ≡ false = ap (λ (y : Hold). y.clear) (sym e) in cc);
+            free = all_map (IsFreeOfReaders c h vs) (IsFreeOfReaders c h (set vs id w6)) (r.bucket c).free
+                (free_still capacities c m h vs id v w6 at refl) b.clean.free;
+            moved = all_map (IsFreeOfReaders c h vs) (IsFreeOfReaders c h (set vs id w6)) (r.bucket c).moved
+                (free_still capacities c m h vs id v w6 at refl) b.clean.moved;
+            clear = λ hold is clear s of. absurd (let e : fresh_hold c ≡ hold = cc in
+                let z : hold.clear ≡ false = ap (λ (y : Hold). y.clear) (sym e) in cc);
           };
-          answered = answered_still capacities c m h vs id v w6 at refl m6 (r.bucket c) (λ s _. (refl, refl, refl, refl)) b.roles b.answered;
+          answered = answered_still capacities c m h vs id v w6 at refl m6 (r.bucket c)
+              (λ s _. (refl, refl, refl, refl)) b.roles b.answered;
         }
 
     pub law6 : MemoryRule capacities places tickets m6 (set vs id w6) h
@@ -142,7 +176,11 @@ module _ (capacities : List ℕ) (places tickets : ℕ) (m : Memory) (vs : List 
         (λ d _ ne. record {
           words = lock_words capacities c d m (v.place + 1) ne;
           marks = same_marks capacities d h;
-          view = record { place = refl; section = same_section d v.section; hold = subst (λ z. SameHold d z w6.hold) (sym quiet.1) (λ e. ne (sym e)) };
+          view = record {
+            place = refl;
+            section = same_section d v.section;
+            hold = subst (λ z. SameHold d z w6.hold) (sym quiet.1) (λ e. ne (sym e));
+          };
         })
 
   -- H7
@@ -182,25 +220,43 @@ module _ (capacities : List ℕ) (places tickets : ℕ) (m : Memory) (vs : List 
         let locked = subst (IsLocked c m vs) mine b.locked in
         record {
           chained = record { path = b.chained.path; classes = b.chained.classes; distinct = b.chained.distinct };
-          listed = record { free = b.listed.free; retired = b.listed.retired; moved = subst (λ z. IsPath (λ s. m (Chain s)) (link_of z) (r.bucket c).moved) no_moved b.listed.moved };
-          roles = record { once = λ x. subst (λ (z : Option ℕ × Option ℕ). times x (r.bucket c).chain + times x (r.bucket c).free + times x (r.bucket c).retired + times x (r.bucket c).moved + times x (option_to_list z.0) + times x (option_to_list z.1) ≡ cond (is_slot_of capacities c x) 1 0) (λ i. (no_taken i, no_unlinked i)) (b.roles.once x) };
+          listed = record {
+            free = b.listed.free;
+            retired = b.listed.retired;
+            moved = subst (λ z. IsPath (λ s. m (Chain s)) (link_of z) (r.bucket c).moved) no_moved b.listed.moved;
+          };
+          roles = record {
+            once = λ x. subst (λ (z : Option ℕ × Option ℕ). times x (r.bucket c).chain + times x (r.bucket c).free
+                + times x (r.bucket c).retired + times x (r.bucket c).moved + times x (option_to_list z.0) + times x (option_to_list z.1)
+                ≡ cond (is_slot_of capacities c x) 1 0) (λ i. (no_taken i, no_unlinked i)) (b.roles.once x);
+          };
           mapped = record { answers = b.mapped.answers };
           locked = (
             stored_here m (Lock c) 0 (same_self (Lock c)),
             λ j u there. each_set (λ k z. HoldsOther c z) vs id w7 (λ other is. absurd (cc))
                 (λ k z far e. dite (ℕ_discrete k locked.0)
-                (λ f. let me : id ≡ locked.0 = dite (ℕ_discrete id locked.0) (λ q. q) (λ q. absurd (locked.6 id v q at hold needs.hold_is refl)) in absurd (far (f ∙ sym me)))
+                (λ f. let me : id ≡ locked.0 = dite (ℕ_discrete id locked.0) (λ q. q)
+                (λ q. absurd (locked.6 id v q at hold needs.hold_is refl)) in absurd (far (f ∙ sym me)))
                 (λ f. locked.6 k z f e)) j u there,
           );
           known = record { known = λ other field number is found. absurd (cc) };
-          ages = record { chain = b.ages.chain; taken = λ s is. absurd (cc); retired = b.ages.retired; moved = b.ages.moved; unlinked = λ s is. absurd (cc) };
+          ages = record {
+            chain = b.ages.chain;
+            taken = λ s is. absurd (cc);
+            retired = b.ages.retired;
+            moved = b.ages.moved;
+            unlinked = λ s is. absurd (cc);
+          };
           counted = record { readers = (counted_still capacities c m h vs id v w7 at refl b.counted).readers };
           clean = record {
-            free = all_map (IsFreeOfReaders c h vs) (IsFreeOfReaders c h (set vs id w7)) (r.bucket c).free (free_still capacities c m h vs id v w7 at refl) b.clean.free;
-            moved = all_map (IsFreeOfReaders c h vs) (IsFreeOfReaders c h (set vs id w7)) (r.bucket c).moved (free_still capacities c m h vs id v w7 at refl) b.clean.moved;
+            free = all_map (IsFreeOfReaders c h vs) (IsFreeOfReaders c h (set vs id w7)) (r.bucket c).free
+                (free_still capacities c m h vs id v w7 at refl) b.clean.free;
+            moved = all_map (IsFreeOfReaders c h vs) (IsFreeOfReaders c h (set vs id w7)) (r.bucket c).moved
+                (free_still capacities c m h vs id v w7 at refl) b.clean.moved;
             clear = λ other is clear s of. absurd (cc);
           };
-          answered = answered_still capacities c m h vs id v w7 at refl m7 (r.bucket c) (λ s _. (refl, refl, refl, refl)) b.roles b.answered;
+          answered = answered_still capacities c m h vs id v w7 at refl m7 (r.bucket c)
+              (λ s _. (refl, refl, refl, refl)) b.roles b.answered;
         }
 
     pub law7 : MemoryRule capacities places tickets m7 (set vs id w7) h
@@ -208,7 +264,11 @@ module _ (capacities : List ℕ) (places tickets : ℕ) (m : Memory) (vs : List 
         (λ d _ ne. record {
           words = lock_words capacities hold.class d m 0 ne;
           marks = same_marks capacities d h;
-          view = record { place = refl; section = same_section d v.section; hold = subst (λ z. SameHold d z None) (sym needs.hold_is) (λ e. ne (sym e)) };
+          view = record {
+            place = refl;
+            section = same_section d v.section;
+            hold = subst (λ z. SameHold d z None) (sym needs.hold_is) (λ e. ne (sym e));
+          };
         })
 
   -- the bucket of the holder, with what it knows and does now
@@ -216,10 +276,13 @@ module _ (capacities : List ℕ) (places tickets : ℕ) (m : Memory) (vs : List 
   held_bucket hold new = record (r.bucket hold.class) { hold = Some new }
 
   -- the holder is the same view
-  pub locked_by : (hold new : Hold) → v.hold ≡ Some hold → new.class ≡ hold.class → (m' : Memory) → m' (Lock hold.class) ≡ m (Lock hold.class) → (w : View) → w.hold ≡ Some new → w.place ≡ v.place → IsLocked hold.class m' (set vs id w) (Some new)
+  pub locked_by : (hold new : Hold) → v.hold ≡ Some hold → new.class ≡ hold.class → (m' : Memory)
+      → m' (Lock hold.class) ≡ m (Lock hold.class) → (w : View) → w.hold ≡ Some new → w.place ≡ v.place
+      → IsLocked hold.class m' (set vs id w) (Some new)
   locked_by hold new mine class m' word w is place =
       let c : ℕ = hold.class in
-      let locked = subst (IsLocked c m vs) (holder_of c (class_small hold mine) hold mine refl) (r.buckets c (class_small hold mine)).locked in
+      let locked = subst (IsLocked c m vs) (holder_of c (class_small hold mine) hold mine refl)
+      (r.buckets c (class_small hold mine)).locked in
       let me : id ≡ locked.0 = dite (ℕ_discrete id locked.0) (λ q. q) (λ q. absurd (locked.6 id v q at hold mine refl)) in
       let same : v ≡ locked.1 = at_one vs id v locked.1 at (subst (λ k. get_elem? vs k ≡ some locked.1) (sym me) locked.2) in (
         id,
@@ -228,21 +291,28 @@ module _ (capacities : List ℕ) (places tickets : ℕ) (m : Memory) (vs : List 
         is,
         class,
         word ∙ locked.5 ∙ ap (λ n. n + 1) (ap (λ (z : View). z.place) (sym same) ∙ sym place),
-        λ j u ne there. each_set (λ k z. k ≢ id → HoldsOther c z) vs id w (λ f. absurd (f refl)) (λ k z far e _. locked.6 k z (λ f. far (f ∙ sym me)) e) j u there ne,
+        λ j u ne there. each_set (λ k z. k ≢ id → HoldsOther c z) vs id w (λ f. absurd (f refl))
+            (λ k z far e _. locked.6 k z (λ f. far (f ∙ sym me)) e) j u there ne,
       )
 
   -- what the holder does is nothing to other classes
-  pub elsewhere_held : (d : ℕ) (hold new : Hold) → v.hold ≡ Some hold → new.class ≡ hold.class → d ≢ hold.class → (w : View) → w.hold ≡ Some new → w.place ≡ v.place → w.section ≡ v.section → SameView d v w
+  pub elsewhere_held : (d : ℕ) (hold new : Hold) → v.hold ≡ Some hold → new.class ≡ hold.class → d ≢ hold.class → (w : View)
+      → w.hold ≡ Some new → w.place ≡ v.place → w.section ≡ v.section → SameView d v w
   elsewhere_held d hold new mine class ne w is place section = record {
     place = place;
     section = subst (SameSection d v.section) (sym section) (same_section d v.section);
-    hold = subst (λ (q : Option Hold × Option Hold). SameHold d q.0 q.1) (λ i. (sym mine i, sym is i)) (inr (λ e. ne (sym e), λ e. ne (sym e ∙ class)));
+    hold = subst (λ (q : Option Hold × Option Hold). SameHold d q.0 q.1) (λ i. (sym mine i, sym is i))
+        (inr (λ e. ne (sym e), λ e. ne (sym e ∙ class)));
   }
 
-  pub clean_still : (c : ℕ) (w : View) → w.section ≡ v.section → (b : Bucket) → (new : Option Hold) → ((hold : Hold) → new ≡ Some hold → hold.clear ≡ true → (s : ℕ) → is_slot_of capacities c s ≡ true → IsFreeOfReaders c h vs s) → AreClean capacities c h vs b → AreClean capacities c h (set vs id w) (record b { hold = new })
+  pub clean_still : (c : ℕ) (w : View) → w.section ≡ v.section → (b : Bucket) → (new : Option Hold)
+      → ((hold : Hold) → new ≡ Some hold → hold.clear ≡ true → (s : ℕ) → is_slot_of capacities c s ≡ true → IsFreeOfReaders c h vs s)
+      → AreClean capacities c h vs b → AreClean capacities c h (set vs id w) (record b { hold = new })
   clean_still c w section b new clear clean = record {
-    free = all_map (IsFreeOfReaders c h vs) (IsFreeOfReaders c h (set vs id w)) b.free (free_still capacities c m h vs id v w at section) clean.free;
-    moved = all_map (IsFreeOfReaders c h vs) (IsFreeOfReaders c h (set vs id w)) b.moved (free_still capacities c m h vs id v w at section) clean.moved;
+    free = all_map (IsFreeOfReaders c h vs) (IsFreeOfReaders c h (set vs id w)) b.free
+        (free_still capacities c m h vs id v w at section) clean.free;
+    moved = all_map (IsFreeOfReaders c h vs) (IsFreeOfReaders c h (set vs id w)) b.moved
+        (free_still capacities c m h vs id v w at section) clean.moved;
     clear = λ hold is yes s of. free_still capacities c m h vs id v w at section s (clear hold is yes s of);
   }
 
@@ -254,10 +324,12 @@ module _ (capacities : List ℕ) (places tickets : ℕ) (m : Memory) (vs : List 
     abbrev w8 : View
     w8 = record v { hold = Some new8 }
 
-    no_section : hold.class < 64 → (j : ℕ) (u : View) (section : Section) → get_elem? vs j ≡ some u → u.section ≡ Some section → section.key % 64 ≢ hold.class
+    no_section : hold.class < 64 → (j : ℕ) (u : View) (section : Section) → get_elem? vs j ≡ some u → u.section ≡ Some section
+        → section.key % 64 ≢ hold.class
     no_section small j u section there is class =
         let part = total_part (λ (z : View). inside_count hold.class z.section) vs j u there in
-        let one : inside_count hold.class u.section ≡ 1 = ap (inside_count hold.class) is ∙ ap (λ t. cond t 1 0) (eq-eqb (section.key % 64) hold.class class) in
+        let one : inside_count hold.class u.section ≡ 1 =
+        ap (inside_count hold.class) is ∙ ap (λ t. cond t 1 0) (eq-eqb (section.key % 64) hold.class class) in
         let was = (r.buckets hold.class small).counted.readers in
         omega arith
 
@@ -283,17 +355,39 @@ module _ (capacities : List ℕ) (places tickets : ℕ) (m : Memory) (vs : List 
         let had : (r.bucket c).hold ≡ Some hold = holder_of c small hold mine refl in
         record {
           chained = b.chained;
-          listed = record { free = b.listed.free; retired = b.listed.retired; moved = subst (λ z. IsPath (λ s. m (Chain s)) (link_of (moved_of z)) (r.bucket c).moved) had b.listed.moved };
-          roles = record { once = λ x. subst (λ z. times x (r.bucket c).chain + times x (r.bucket c).free + times x (r.bucket c).retired + times x (r.bucket c).moved + times x (option_to_list (taken_of z)) + times x (option_to_list (unlinked_of z)) ≡ cond (is_slot_of capacities c x) 1 0) had (b.roles.once x) };
+          listed = record {
+            free = b.listed.free;
+            retired = b.listed.retired;
+            moved = subst (λ z. IsPath (λ s. m (Chain s)) (link_of (moved_of z)) (r.bucket c).moved) had b.listed.moved;
+          };
+          roles = record {
+            once = λ x. subst (λ z. times x (r.bucket c).chain + times x (r.bucket c).free + times x (r.bucket c).retired
+                + times x (r.bucket c).moved + times x (option_to_list (taken_of z)) + times x (option_to_list (unlinked_of z))
+                ≡ cond (is_slot_of capacities c x) 1 0) had (b.roles.once x);
+          };
           mapped = b.mapped;
           locked = locked_by hold new8 mine refl m refl w8 refl refl;
-          known = record { known = λ other field number is found. b.known.known hold field number had (let e : new8 ≡ other = cc in subst (λ (z : Hold). known_in z.known field ≡ Some number) (sym e) found) };
-          ages = record { chain = b.ages.chain; taken = λ s is. b.ages.taken s (ap taken_of had ∙ is); retired = b.ages.retired; moved = b.ages.moved; unlinked = λ s is. b.ages.unlinked s (ap unlinked_of had ∙ is) };
+          known = record {
+            known = λ other field number is found. b.known.known hold field number had
+                (let e : new8 ≡ other = cc in subst (λ (z : Hold). known_in z.known field ≡ Some number) (sym e) found);
+          };
+          ages = record {
+            chain = b.ages.chain;
+            taken = λ s is. b.ages.taken s (ap taken_of had ∙ is);
+            retired = b.ages.retired;
+            moved = b.ages.moved;
+            unlinked = λ s is. b.ages.unlinked s (ap unlinked_of had ∙ is);
+          };
           counted = counted_still capacities c m h vs id v w8 at refl b.counted;
-          clean = clean_still c w8 refl (r.bucket c) (Some new8) (λ other is yes s of p j u section gone there inside class. absurd (no_section small j u section there inside class)) b.clean;
+          clean = clean_still c w8 refl (r.bucket c) (Some new8)
+              (λ other is yes s of p j u section gone there inside class. absurd (no_section small j u section there inside class)) b.clean;
           answered = answered_still capacities c m h vs id v w8 at refl m (r.bucket c) (λ s _. (refl, refl, refl, refl)) b.roles b.answered;
         })
-        (λ d _ ne. record { words = same_words capacities d m; marks = same_marks capacities d h; view = elsewhere_held d hold new8 mine refl ne w8 refl refl refl })
+        (λ d _ ne. record {
+          words = same_words capacities d m;
+          marks = same_marks capacities d h;
+          view = elsewhere_held d hold new8 mine refl ne w8 refl refl refl;
+        })
 
   -- H9
   module _ (hold : Hold) (mine : v.hold ≡ Some hold) (field : Field) (of : IsOfClass capacities hold.class field) (see : Bool) where
@@ -303,11 +397,15 @@ module _ (capacities : List ℕ) (places tickets : ℕ) (m : Memory) (vs : List 
     abbrev w9 : View
     w9 = record v { hold = Some new9; seen = cond see h v.seen }
 
-    known9 : (other : Field) (number : ℕ) → ((f : Field) (n : ℕ) → known_in hold.known f ≡ Some n → IsOfClass capacities hold.class f × (m f ≡ n)) → known_in new9.known other ≡ Some number → IsOfClass capacities hold.class other × (m other ≡ number)
+    known9 : (other : Field) (number : ℕ) → ((f : Field) (n : ℕ) → known_in hold.known f ≡ Some n
+        → IsOfClass capacities hold.class f × (m f ≡ n)) → known_in new9.known other ≡ Some number
+        → IsOfClass capacities hold.class other × (m other ≡ number)
     known9 other number old found = known_case (same_field field other) refl found
       where
-        known_case : (t : Bool) → same_field field other ≡ t → cond t (Some (m field)) (known_in hold.known other) ≡ Some number → IsOfClass capacities hold.class other × (m other ≡ number)
-        known_case true same e = let q : field ≡ other = same_is field other same in (subst (IsOfClass capacities hold.class) q of, ap m (sym q) ∙ cc)
+        known_case : (t : Bool) → same_field field other ≡ t → cond t (Some (m field)) (known_in hold.known other) ≡ Some number
+            → IsOfClass capacities hold.class other × (m other ≡ number)
+        known_case true same e = let q : field ≡ other = same_is field other same in
+            (subst (IsOfClass capacities hold.class) q of, ap m (sym q) ∙ cc)
         known_case false same e = old other number e
 
     seen9 : AreSeen (set vs id w9) h
@@ -326,9 +424,13 @@ module _ (capacities : List ℕ) (places tickets : ℕ) (m : Memory) (vs : List 
         record {
           seen = seen9;
           apart = apart_same vs id v w9 at places (record { place = refl; places = refl; joined = refl }) r.apart;
-          owned = subst (AreOwned places (set vs id w9)) (append-nil h) (owned_same vs id v w9 at places h [] (record { place = refl; places = refl; joined = refl }) refl (met9 see refl) no_marks r.owned);
-          sections = open_same vs id v w9 at h h (updates_of h) (updates_of h) refl refl refl (section_back v w9 refl) (section_forth v w9 refl) (λ p. refl) (λ p. refl) (omega arith) r.sections;
-          held = held_still vs id v w9 at (λ other is. let e : new9 ≡ other = cc in (subst (λ (z : Hold). z.class < 64) e (class_small hold mine), works hold mine)) r.held;
+          owned = subst (AreOwned places (set vs id w9)) (append-nil h)
+              (owned_same vs id v w9 at places h [] (record { place = refl; places = refl; joined = refl }) refl
+              (met9 see refl) no_marks r.owned);
+          sections = open_same vs id v w9 at h h (updates_of h) (updates_of h) refl refl refl (section_back v w9 refl)
+              (section_forth v w9 refl) (λ p. refl) (λ p. refl) (omega arith) r.sections;
+          held = held_still vs id v w9 at (λ other is. let e : new9 ≡ other = cc in
+              (subst (λ (z : Hold). z.class < 64) e (class_small hold mine), works hold mine)) r.held;
           turned = turned_same vs id v w9 at m m (length (updates_of h)) refl refl (λ commit held is had. (new9, refl)) r.turned;
           tickets_are = tickets_same capacities places tickets m vs h r id v w9 at m refl;
           legal = r.legal;
@@ -344,17 +446,69 @@ module _ (capacities : List ℕ) (places tickets : ℕ) (m : Memory) (vs : List 
         let had : (r.bucket c).hold ≡ Some hold = holder_of c small hold mine refl in
         record {
           chained = b.chained;
-          listed = record { free = b.listed.free; retired = b.listed.retired; moved = subst (λ z. IsPath (λ s. m (Chain s)) (link_of (moved_of z)) (r.bucket c).moved) had b.listed.moved };
-          roles = record { once = λ x. subst (λ z. times x (r.bucket c).chain + times x (r.bucket c).free + times x (r.bucket c).retired + times x (r.bucket c).moved + times x (option_to_list (taken_of z)) + times x (option_to_list (unlinked_of z)) ≡ cond (is_slot_of capacities c x) 1 0) had (b.roles.once x) };
+          listed = record {
+            free = b.listed.free;
+            retired = b.listed.retired;
+            moved = subst (λ z. IsPath (λ s. m (Chain s)) (link_of (moved_of z)) (r.bucket c).moved) had b.listed.moved;
+          };
+          roles = record {
+            once = λ x. subst (λ z. times x (r.bucket c).chain + times x (r.bucket c).free + times x (r.bucket c).retired
+                + times x (r.bucket c).moved + times x (option_to_list (taken_of z)) + times x (option_to_list (unlinked_of z))
+                ≡ cond (is_slot_of capacities c x) 1 0) had (b.roles.once x);
+          };
           mapped = b.mapped;
           locked = locked_by hold new9 mine refl m refl w9 refl refl;
-          known = record { known = λ other f number is found. let e : new9 ≡ other = cc in known9 f number (λ g n has. b.known.known hold g n had has) (subst (λ (z : Hold). known_in z.known f ≡ Some number) (sym e) found) };
-          ages = record { chain = b.ages.chain; taken = λ s is. b.ages.taken s (ap taken_of had ∙ is); retired = b.ages.retired; moved = b.ages.moved; unlinked = λ s is. b.ages.unlinked s (ap unlinked_of had ∙ is) };
+          known = record {
+            known = λ other f number is found. let e : new9 ≡ other = cc in
+                known9 f number (λ g n has. b.known.known hold g n had has)
+                (subst (λ (z : Hold). known_in z.known f ≡ Some number) (sym e) found);
+          };
+          ages = record {
+            chain = b.ages.chain;
+            taken = λ s is. b.ages.taken s (ap taken_of had ∙ is);
+            retired = b.ages.retired;
+            moved = b.ages.moved;
+            unlinked = λ s is. b.ages.unlinked s (ap unlinked_of had ∙ is);
+          };
           counted = counted_still capacities c m h vs id v w9 at refl b.counted;
-          clean = clean_still c w9 refl (r.bucket c) (Some new9) (λ other is yes s of_c. let e : new9 ≡ other = cc in b.clean.clear hold had (ap (λ (z : Hold). z.clear) e ∙ yes) s of_c) b.clean;
+          clean = clean_still c w9 refl (r.bucket c) (Some new9)
+              (λ other is yes s of_c. let e : new9 ≡ other = cc in
+              b.clean.clear hold had (ap (λ (z : Hold). z.clear) e ∙ yes) s of_c) b.clean;
           answered = answered_still capacities c m h vs id v w9 at refl m (r.bucket c) (λ s _. (refl, refl, refl, refl)) b.roles b.answered;
         })
-        (λ d _ ne. record { words = same_words capacities d m; marks = same_marks capacities d h; view = elsewhere_held d hold new9 mine refl ne w9 refl refl refl })
+        (λ d _ ne. record {
+          words = same_words capacities d m;
+          marks = same_marks capacities d h;
+          view = elsewhere_held d hold new9 mine refl ne w9 refl refl refl;
+        })
+
+  -- the front is stored, and what the view has of its turn changes
+  front_stored : (number : ℕ) (commit : Option Commit)
+      → IsTurned (stored m Front number) (set vs id (record v { commit = commit })) (length (updates_of h))
+      → MemoryRule capacities places tickets (stored m Front number) (set vs id (record v { commit = commit })) h
+  front_stored number commit turned =
+      let w : View = record v { commit = commit } in
+      let to : Memory = stored m Front number in
+      after_quiet capacities places tickets m vs h r id v w at to h
+      (record {
+        seen = seen_same vs id v w at h refl refl r.seen;
+        apart = apart_same vs id v w at places (record { place = refl; places = refl; joined = refl }) r.apart;
+        owned = subst (AreOwned places (set vs id w)) (append-nil h)
+            (owned_same vs id v w at places h [] (record { place = refl; places = refl; joined = refl }) refl (inl refl) no_marks r.owned);
+        sections = open_same vs id v w at h h (updates_of h) (updates_of h) refl refl refl (section_back v w refl) (section_forth v w refl)
+            (λ p. refl) (λ p. refl) (omega arith) r.sections;
+        held = held_still vs id v w at (λ other is. r.held.held id v other at is) r.held;
+        turned = turned;
+        tickets_are = tickets_same capacities places tickets m vs h r id v w at to refl;
+        legal = r.legal;
+        marks = r.marks;
+        reuse = r.reuse;
+      })
+      (λ d _. record {
+        words = front_words capacities d m number;
+        marks = same_marks capacities d h;
+        view = record { place = refl; section = same_section d v.section; hold = same_hold d v.hold };
+      })
 
   -- H12, where the front was the even number
   module _ (hold : Hold) (even : ℕ) (needs : NeedsCommit v hold even) (found : m Front ≡ even) where
@@ -381,7 +535,8 @@ module _ (capacities : List ℕ) (places tickets : ℕ) (m : Memory) (vs : List 
           needs.0,
           refl,
           (let a = free.0 in omega arith),
-          λ j u ne there. each_set (λ k z. k ≢ id → HasNoCommit z) vs id w12 (λ f. absurd (f refl)) (λ k z far e _. free.1 k z e) j u there ne,
+          λ j u ne there. each_set (λ k z. k ≢ id → HasNoCommit z) vs id w12 (λ f. absurd (f refl))
+              (λ k z far e _. free.1 k z e) j u there ne,
         )
         turn_case (inr odd) = absurd (let a = odd.7 in let b = odd.8 in let z = needs.1 in parity odd.2.stored odd.2.found b a)
           where
@@ -390,20 +545,7 @@ module _ (capacities : List ℕ) (places tickets : ℕ) (m : Memory) (vs : List 
             parity false n b a = let z = needs.1 in omega arith
 
     pub law12 : MemoryRule capacities places tickets m12 (set vs id w12) h
-    law12 = after_quiet capacities places tickets m vs h r id v w12 at m12 h
-        (record {
-          seen = seen_same vs id v w12 at h refl refl r.seen;
-          apart = apart_same vs id v w12 at places (record { place = refl; places = refl; joined = refl }) r.apart;
-          owned = subst (AreOwned places (set vs id w12)) (append-nil h) (owned_same vs id v w12 at places h [] (record { place = refl; places = refl; joined = refl }) refl (inl refl) no_marks r.owned);
-          sections = open_same vs id v w12 at h h (updates_of h) (updates_of h) refl refl refl (section_back v w12 refl) (section_forth v w12 refl) (λ p. refl) (λ p. refl) (omega arith) r.sections;
-          held = held_still vs id v w12 at (λ other is. r.held.held id v other at is) r.held;
-          turned = turned12;
-          tickets_are = tickets_same capacities places tickets m vs h r id v w12 at m12 refl;
-          legal = r.legal;
-          marks = r.marks;
-          reuse = r.reuse;
-        })
-        (λ d _. record { words = front_words capacities d m (even + 1); marks = same_marks capacities d h; view = record { place = refl; section = same_section d v.section; hold = same_hold d v.hold } })
+    law12 = front_stored (even + 1) (Some turn12) turned12
 
   -- H16
   module _ (even : ℕ) (needs : NeedsEven v even) where
@@ -419,10 +561,13 @@ module _ (capacities : List ℕ) (places tickets : ℕ) (m : Memory) (vs : List 
         turn_case : IsTurned m vs (length (updates_of h)) → IsTurned m16 (set vs id w16) (length (updates_of h))
         turn_case (inl free) = absurd (let z : Some (record { found = even; stored = true }) ≡ None = sym needs ∙ free.1 id v at in cc)
         turn_case (inr odd) =
-            let me : id ≡ odd.0 = dite (ℕ_discrete id odd.0) (λ q. q) (λ q. absurd (let z : Some (record { found = even; stored = true }) ≡ None = sym needs ∙ odd.9 id v q at in cc)) in
+            let me : id ≡ odd.0 = dite (ℕ_discrete id odd.0) (λ q. q)
+            (λ q. absurd (let z : Some (record { found = even; stored = true }) ≡ None = sym needs ∙ odd.9 id v q at in cc)) in
             let same : v ≡ odd.1 = at_one vs id v odd.1 at (subst (λ k. get_elem? vs k ≡ some odd.1) (sym me) odd.4) in
-            let commit : Some (record { found = even; stored = true }) ≡ Some odd.2 = sym needs ∙ ap (λ (z : View). z.commit) same ∙ odd.5 in
-            let by : updates_by (record { found = even; stored = true }) ≡ updates_by odd.2 = ap (λ (o : Option Commit). turn_updates o) commit in
+            let commit : Some (record { found = even; stored = true }) ≡ Some odd.2 =
+            sym needs ∙ ap (λ (z : View). z.commit) same ∙ odd.5 in
+            let by : updates_by (record { found = even; stored = true }) ≡ updates_by odd.2 =
+            ap (λ (o : Option Commit). turn_updates o) commit in
             inl (
               (let b = odd.8 in omega arith),
               λ j u there. each_set (λ k z. HasNoCommit z) vs id w16 refl (λ k z far e. odd.9 k z (λ f. far (f ∙ sym me)) e) j u there,
@@ -433,17 +578,4 @@ module _ (capacities : List ℕ) (places tickets : ℕ) (m : Memory) (vs : List 
             turn_updates (Some t) = updates_by t
 
     pub law16 : MemoryRule capacities places tickets m16 (set vs id w16) h
-    law16 = after_quiet capacities places tickets m vs h r id v w16 at m16 h
-        (record {
-          seen = seen_same vs id v w16 at h refl refl r.seen;
-          apart = apart_same vs id v w16 at places (record { place = refl; places = refl; joined = refl }) r.apart;
-          owned = subst (AreOwned places (set vs id w16)) (append-nil h) (owned_same vs id v w16 at places h [] (record { place = refl; places = refl; joined = refl }) refl (inl refl) no_marks r.owned);
-          sections = open_same vs id v w16 at h h (updates_of h) (updates_of h) refl refl refl (section_back v w16 refl) (section_forth v w16 refl) (λ p. refl) (λ p. refl) (omega arith) r.sections;
-          held = held_still vs id v w16 at (λ other is. r.held.held id v other at is) r.held;
-          turned = turned16;
-          tickets_are = tickets_same capacities places tickets m vs h r id v w16 at m16 refl;
-          legal = r.legal;
-          marks = r.marks;
-          reuse = r.reuse;
-        })
-        (λ d _. record { words = front_words capacities d m (even + 2); marks = same_marks capacities d h; view = record { place = refl; section = same_section d v.section; hold = same_hold d v.hold } })
+    law16 = front_stored (even + 2) None turned16

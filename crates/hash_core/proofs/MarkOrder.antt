@@ -39,14 +39,18 @@ module _ (h : List Mark) (m : Mark) where
 pub marks_snoc : (places : ℕ) (h : List Mark) (m : Mark) → NewMark places h m → AreMarks places h → AreMarks places (h ++ m ∷ [])
 marks_snoc places h m new t = record {
   entered = λ j p c x e. ⊎_elim
-      (λ (o : get_elem? h j ≡ some (Entered p c x)). (let r = t.entered j p c x o in let b = sym (before_old h m j (Entered p c x) o) in (r.0, r.1, r.2 ∙ ap (entered_at p) b, ap (open_at p) (sym b) ∙ r.3)))
-      (λ n. (let r = subst (NewMark places h) n.1 new in let b = sym (before_new h m j n.0) in (r.0, r.1, r.2 ∙ ap (entered_at p) b, ap (open_at p) (sym b) ∙ r.3)))
+      (λ (o : get_elem? h j ≡ some (Entered p c x)). (let r = t.entered j p c x o in let b = sym (before_old h m j (Entered p c x) o) in
+      (r.0, r.1, r.2 ∙ ap (entered_at p) b, ap (open_at p) (sym b) ∙ r.3)))
+      (λ n. (let r = subst (NewMark places h) n.1 new in let b = sym (before_new h m j n.0) in
+      (r.0, r.1, r.2 ∙ ap (entered_at p) b, ap (open_at p) (sym b) ∙ r.3)))
       (at_end h m (Entered p c x) j e);
   left = λ j p c e. ⊎_elim
-      (λ (o : get_elem? h j ≡ some (Left p c)). (let r = t.left j p c o in (r.0, ap (open_at p) (before_old h m j (Left p c) o) ∙ r.1, r.2)))
+      (λ (o : get_elem? h j ≡ some (Left p c)). (let r = t.left j p c o in
+      (r.0, ap (open_at p) (before_old h m j (Left p c) o) ∙ r.1, r.2)))
       (λ n. (let r = subst (NewMark places h) n.1 new in (r.0, ap (open_at p) (before_new h m j n.0) ∙ r.1, r.2)))
       (at_end h m (Left p c) j e);
-  others = λ j a e. ⊎_elim (λ (o : get_elem? h j ≡ some a). t.others j a o) (λ n. subst IsLeftHere n.1 (left_here places h m new)) (at_end h m a j e);
+  others = λ j a e. ⊎_elim (λ (o : get_elem? h j ≡ some a). t.others j a o) (λ n. subst IsLeftHere n.1 (left_here places h m new))
+      (at_end h m a j e);
 }
 
 -- what stands before a mark of a beginning
@@ -58,7 +62,8 @@ marks_begin places a h begins all =
     let t = subst (AreMarks places) (sym begins.1) all in
     let r : List Mark = begins.0 in
     record {
-      entered = λ j p c x e. (let q = t.entered j p c x (at_longer a r j _ e) in let b = before_begins a r j _ e in (q.0, q.1, q.2 ∙ ap (entered_at p) b, ap (open_at p) (sym b) ∙ q.3));
+      entered = λ j p c x e. (let q = t.entered j p c x (at_longer a r j _ e) in let b = before_begins a r j _ e in
+          (q.0, q.1, q.2 ∙ ap (entered_at p) b, ap (open_at p) (sym b) ∙ q.3));
       left = λ j p c e. (let q = t.left j p c (at_longer a r j _ e) in (q.0, ap (open_at p) (sym (before_begins a r j _ e)) ∙ q.1, q.2));
       others = λ j m e. t.others j m (at_longer a r j m e);
     }

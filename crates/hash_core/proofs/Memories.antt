@@ -39,15 +39,24 @@ lies capacities (Chain s) e = slot_lies capacities s e
 -- no two fields share a word
 one_field : (capacities : List ℕ) (f g : Field) → Lies capacities f → Lies capacities g → word_of f ≡ word_of g → same_field f g ≡ true
 one_field capacities Front Front p q e = refl
-one_field capacities (Lock c) (Lock d) p q e = let f : c ≡ d = omega arith in subst (λ z. same_field (Lock c) (Lock z) ≡ true) f (same_self (Lock c))
-one_field capacities (Readers c) (Readers d) p q e = let f : c ≡ d = omega arith in subst (λ z. same_field (Readers c) (Readers z) ≡ true) f (same_self (Readers c))
-one_field capacities (Head c) (Head d) p q e = let f : c ≡ d = omega arith in subst (λ z. same_field (Head c) (Head z) ≡ true) f (same_self (Head c))
-one_field capacities (Free c) (Free d) p q e = let f : c ≡ d = omega arith in subst (λ z. same_field (Free c) (Free z) ≡ true) f (same_self (Free c))
-one_field capacities (Retired c) (Retired d) p q e = let f : c ≡ d = omega arith in subst (λ z. same_field (Retired c) (Retired z) ≡ true) f (same_self (Retired c))
-one_field capacities (Key c) (Key d) p q e = let f : c ≡ d = omega arith in subst (λ z. same_field (Key c) (Key z) ≡ true) f (same_self (Key c))
-one_field capacities (Value c) (Value d) p q e = let f : c ≡ d = omega arith in subst (λ z. same_field (Value c) (Value z) ≡ true) f (same_self (Value c))
-one_field capacities (Next c) (Next d) p q e = let f : c ≡ d = omega arith in subst (λ z. same_field (Next c) (Next z) ≡ true) f (same_self (Next c))
-one_field capacities (Chain c) (Chain d) p q e = let f : c ≡ d = omega arith in subst (λ z. same_field (Chain c) (Chain z) ≡ true) f (same_self (Chain c))
+one_field capacities (Lock c) (Lock d) p q e = let f : c ≡ d = omega arith in
+    subst (λ z. same_field (Lock c) (Lock z) ≡ true) f (same_self (Lock c))
+one_field capacities (Readers c) (Readers d) p q e = let f : c ≡ d = omega arith in
+    subst (λ z. same_field (Readers c) (Readers z) ≡ true) f (same_self (Readers c))
+one_field capacities (Head c) (Head d) p q e = let f : c ≡ d = omega arith in
+    subst (λ z. same_field (Head c) (Head z) ≡ true) f (same_self (Head c))
+one_field capacities (Free c) (Free d) p q e = let f : c ≡ d = omega arith in
+    subst (λ z. same_field (Free c) (Free z) ≡ true) f (same_self (Free c))
+one_field capacities (Retired c) (Retired d) p q e = let f : c ≡ d = omega arith in
+    subst (λ z. same_field (Retired c) (Retired z) ≡ true) f (same_self (Retired c))
+one_field capacities (Key c) (Key d) p q e = let f : c ≡ d = omega arith in
+    subst (λ z. same_field (Key c) (Key z) ≡ true) f (same_self (Key c))
+one_field capacities (Value c) (Value d) p q e = let f : c ≡ d = omega arith in
+    subst (λ z. same_field (Value c) (Value z) ≡ true) f (same_self (Value c))
+one_field capacities (Next c) (Next d) p q e = let f : c ≡ d = omega arith in
+    subst (λ z. same_field (Next c) (Next z) ≡ true) f (same_self (Next c))
+one_field capacities (Chain c) (Chain d) p q e = let f : c ≡ d = omega arith in
+    subst (λ z. same_field (Chain c) (Chain z) ≡ true) f (same_self (Chain c))
 one_field capacities _ _ p q e = absurd (omega arith)
 
 -- a field's word is one of the table's
@@ -67,24 +76,31 @@ word_inside capacities field is = inside_case field (lies capacities field is)
     inside_case (Chain s) p = omega arith
 
 -- what is loaded from a field's word
-pub memory-word : (capacities words : List ℕ) (field : Field) → is_field capacities field ≡ true → memory_of capacities words field ≡ slice_index words (word_of field)
+pub memory-word : (capacities words : List ℕ) (field : Field) → is_field capacities field ≡ true
+    → memory_of capacities words field ≡ slice_index words (word_of field)
 memory-word capacities words field is = ap (λ b. cond b (slice_index words (word_of field)) 0) is
 
-pub memory-stored : (capacities words : List ℕ) (field : Field) (n : ℕ) → is_field capacities field ≡ true → length words ≡ word_count capacities → memory_of capacities (set words (word_of field) n) ≡ stored (memory_of capacities words) field n
+pub memory-stored : (capacities words : List ℕ) (field : Field) (n : ℕ) → is_field capacities field ≡ true
+    → length words ≡ word_count capacities → memory_of capacities (set words (word_of field) n)
+    ≡ stored (memory_of capacities words) field n
 memory-stored capacities words field n is long = λ i other. at_field other i
   where
     here : word_of field < length words
     here = let a = word_inside capacities field is in omega arith
 
-    read_case : (other : Field) (t u : Bool) → is_field capacities other ≡ t → same_field field other ≡ u → cond t (slice_index (set words (word_of field) n) (word_of other)) 0 ≡ cond u n (cond t (slice_index words (word_of other)) 0)
+    read_case : (other : Field) (t u : Bool) → is_field capacities other ≡ t → same_field field other ≡ u
+        → cond t (slice_index (set words (word_of field) n) (word_of other)) 0 ≡ cond u n (cond t (slice_index words (word_of other)) 0)
     read_case other true true has same =
         let f : field ≡ other = same_is field other same in
         subst (λ z. slice_index (set words (word_of field) n) (word_of z) ≡ n) f (get_or-set_same words (word_of field) n 0 here)
     read_case other true false has same =
         get_or-set_other words (word_of field) (word_of other) n 0
-        (λ e. let z : true ≡ false = sym (one_field capacities field other (lies capacities field is) (lies capacities other has) (sym e)) ∙ same in absurd (cc))
-    read_case other false true has same = absurd (let f : field ≡ other = same_is field other same in let z : true ≡ false = sym is ∙ ap (is_field capacities) f ∙ has in cc)
+        (λ e. let z : true ≡ false = sym (one_field capacities field other (lies capacities field is) (lies capacities other has) (sym e))
+        ∙ same in absurd (cc))
+    read_case other false true has same = absurd (let f : field ≡ other = same_is field other same in
+        let z : true ≡ false = sym is ∙ ap (is_field capacities) f ∙ has in cc)
     read_case other false false has same = refl
 
-    at_field : (other : Field) → memory_of capacities (set words (word_of field) n) other ≡ stored (memory_of capacities words) field n other
+    at_field : (other : Field) → memory_of capacities (set words (word_of field) n) other
+        ≡ stored (memory_of capacities words) field n other
     at_field other = read_case other (is_field capacities other) (same_field field other) refl refl

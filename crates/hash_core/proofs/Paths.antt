@@ -10,7 +10,8 @@ use Rattle.hash_core.specs.Buckets.{seek, HaveDistinctKeys}
 use Rattle.list_laws.proofs.Lists.{times_here}
 
 -- a path goes on where no link on it changes
-pub IsPath-same : (next next' : ℕ → ℕ) (first : ℕ) (xs : List ℕ) → ((s : ℕ) → 1 ≤ times s xs → next' s ≡ next s) → IsPath next first xs → IsPath next' first xs
+pub IsPath-same : (next next' : ℕ → ℕ) (first : ℕ) (xs : List ℕ) → ((s : ℕ) → 1 ≤ times s xs → next' s ≡ next s) → IsPath next first xs
+    → IsPath next' first xs
 IsPath-same next next' first [] same path = path
 IsPath-same next next' first (s ∷ ss) same path =
     let here : next' s ≡ next s = same s (let t = times_here s ss in omega arith) in
@@ -22,7 +23,8 @@ pub IsPath-from : (next : ℕ → ℕ) (first first' : ℕ) (xs : List ℕ) → 
 IsPath-from next first first' xs e path = subst (λ n. IsPath next n xs) e path
 
 -- a link that isn't 0 is the first slot of its path
-pub path_cons : (next : ℕ → ℕ) (first : ℕ) (xs : List ℕ) → first ≢ 0 → IsPath next first xs → (ss : List ℕ) × (xs ≡ first ∷ ss) × IsPath next (next first) ss
+pub path_cons : (next : ℕ → ℕ) (first : ℕ) (xs : List ℕ) → first ≢ 0 → IsPath next first xs
+    → (ss : List ℕ) × (xs ≡ first ∷ ss) × IsPath next (next first) ss
 path_cons next first [] some path = absurd (some path)
 path_cons next first (s ∷ ss) some path = (ss, ap (λ z. z ∷ ss) (sym path.0), subst (λ z. IsPath next (next z) ss) (sym path.0) path.2)
 
@@ -42,14 +44,16 @@ one_path next first (x ∷ xs) (y ∷ ys) p q =
     λ i. e i ∷ rest i
 
 -- a search finds the same where no key or value on its way changes
-pub seek-same : (m m' : Memory) (key : ℕ) (xs : List ℕ) → ((s : ℕ) → 1 ≤ times s xs → (m' (Key s) ≡ m (Key s)) × (m' (Value s) ≡ m (Value s))) → seek m' key xs ≡ seek m key xs
+pub seek-same : (m m' : Memory) (key : ℕ) (xs : List ℕ)
+    → ((s : ℕ) → 1 ≤ times s xs → (m' (Key s) ≡ m (Key s)) × (m' (Value s) ≡ m (Value s))) → seek m' key xs ≡ seek m key xs
 seek-same m m' key [] same = refl
 seek-same m m' key (s ∷ ss) same =
     let here = same s (let t = times_here s ss in omega arith) in
     let rest : seek m' key ss ≡ seek m key ss = seek-same m m' key ss (λ t there. same t (omega arith)) in
     λ i. cond (here.0 i == key) (Some (here.1 i)) (rest i)
 
-pub HaveDistinctKeys-same : (m m' : Memory) (xs : List ℕ) → ((s : ℕ) → 1 ≤ times s xs → (m' (Key s) ≡ m (Key s)) × (m' (Value s) ≡ m (Value s))) → HaveDistinctKeys m xs → HaveDistinctKeys m' xs
+pub HaveDistinctKeys-same : (m m' : Memory) (xs : List ℕ)
+    → ((s : ℕ) → 1 ≤ times s xs → (m' (Key s) ≡ m (Key s)) × (m' (Value s) ≡ m (Value s))) → HaveDistinctKeys m xs → HaveDistinctKeys m' xs
 HaveDistinctKeys-same m m' [] same h = tt
 HaveDistinctKeys-same m m' (s ∷ ss) same h =
     let here = same s (let t = times_here s ss in omega arith) in
@@ -64,10 +68,14 @@ pub seek_past : (m : Memory) (key s : ℕ) (ss : List ℕ) → m (Key s) ≢ key
 seek_past m key s ss ne = ap (λ b. cond b (Some (m (Value s))) (seek m key ss)) (ne_eqb (m (Key s)) key ne)
 
 -- a search along two lists, one after the other
-pub seek_append : (m : Memory) (key : ℕ) (xs ys : List ℕ) → (seek m key xs ≡ None → seek m key (xs ++ ys) ≡ seek m key ys) × ((value : ℕ) → seek m key xs ≡ Some value → seek m key (xs ++ ys) ≡ Some value)
+pub seek_append : (m : Memory) (key : ℕ) (xs ys : List ℕ)
+    → (seek m key xs ≡ None → seek m key (xs ++ ys) ≡ seek m key ys)
+    × ((value : ℕ) → seek m key xs ≡ Some value → seek m key (xs ++ ys) ≡ Some value)
 seek_append m key [] ys = (λ e. refl, λ value e. absurd (cc))
 seek_append m key (x ∷ xs) ys =
     let rest = seek_append m key xs ys in
     dite (ℕ_discrete (m (Key x)) key)
-    (λ e. let a = seek_here m key x xs e in let b = seek_here m key x (xs ++ ys) e in (λ none. absurd (let z : Some (m (Value x)) ≡ None = sym a ∙ none in cc), λ value found. b ∙ sym a ∙ found))
-    (λ ne. let a = seek_past m key x xs ne in let b = seek_past m key x (xs ++ ys) ne in (λ none. b ∙ rest.0 (sym a ∙ none), λ value found. b ∙ rest.1 value (sym a ∙ found)))
+    (λ e. let a = seek_here m key x xs e in let b = seek_here m key x (xs ++ ys) e in
+    (λ none. absurd (let z : Some (m (Value x)) ≡ None = sym a ∙ none in cc), λ value found. b ∙ sym a ∙ found))
+    (λ ne. let a = seek_past m key x xs ne in let b = seek_past m key x (xs ++ ys) ne in
+    (λ none. b ∙ rest.0 (sym a ∙ none), λ value found. b ∙ rest.1 value (sym a ∙ found)))

@@ -27,7 +27,8 @@ pub record SameSeat (v w : View) : Type 0 where
   pub places : SamePlaces v w
   pub tickets : w.tickets ≡ v.tickets
   pub sections : w.sections ≡ v.sections
-  pub back : (section : Section) → w.section ≡ Some section → (old : Section) × (v.section ≡ Some old) × (open_of section ≡ open_of old) × (section.from ≡ old.from)
+  pub back : (section : Section) → w.section ≡ Some section
+      → (old : Section) × (v.section ≡ Some old) × (open_of section ≡ open_of old) × (section.from ≡ old.from)
   pub forth : (section : Section) → v.section ≡ Some section → (new : Section) × (w.section ≡ Some new) × (open_of section ≡ open_of new)
   pub commit : w.commit ≡ v.commit
   pub kept : (commit : Commit) (hold : Hold) → v.commit ≡ Some commit → v.hold ≡ Some hold → (k : Hold) × (w.hold ≡ Some k)
@@ -36,17 +37,25 @@ pub record SameSeat (v w : View) : Type 0 where
   pub heard : w.heard ≡ v.heard
 
 -- a section that stays
-pub section_back : (v w : View) → w.section ≡ v.section → (section : Section) → w.section ≡ Some section → (old : Section) × (v.section ≡ Some old) × (open_of section ≡ open_of old) × (section.from ≡ old.from)
+pub section_back : (v w : View) → w.section ≡ v.section → (section : Section) → w.section ≡ Some section
+    → (old : Section) × (v.section ≡ Some old) × (open_of section ≡ open_of old) × (section.from ≡ old.from)
 section_back v w same section is = (section, sym same ∙ is, refl, refl)
 
-pub section_forth : (v w : View) → w.section ≡ v.section → (section : Section) → v.section ≡ Some section → (new : Section) × (w.section ≡ Some new) × (open_of section ≡ open_of new)
+pub section_forth : (v w : View) → w.section ≡ v.section → (section : Section) → v.section ≡ Some section
+    → (new : Section) × (w.section ≡ Some new) × (open_of section ≡ open_of new)
 section_forth v w same section is = (section, same ∙ is, refl)
 
 pub no_marks : (p : ℕ) → own_of p [] ≡ []
 no_marks p = refl
 
 pub same_marks : (capacities : List ℕ) (d : ℕ) (h : List Mark) → SameMarks capacities d h h (updates_of h) (updates_of h)
-same_marks capacities d h = record { more = []; longer = sym (append-nil _); gone = λ s of. refl; last = λ s of. refl; pairs = λ key class. refl }
+same_marks capacities d h = record {
+  more = [];
+  longer = sym (append-nil _);
+  gone = λ s of. refl;
+  last = λ s of. refl;
+  pairs = λ key class. refl;
+}
 
 pub same_section : (d : ℕ) (a : Option Section) → SameSection d a a
 same_section d None = tt
@@ -56,7 +65,8 @@ pub same_hold : (d : ℕ) (a : Option Hold) → SameHold d a a
 same_hold d None = tt
 same_hold d (Some k) = inl refl
 
-module _ (capacities : List ℕ) (places tickets : ℕ) (m : Memory) (vs : List View) (h : List Mark) (r : MemoryRule capacities places tickets m vs h) (id : ℕ) (v w : View) (at : get_elem? vs id ≡ some v) (m' : Memory) where
+module _ (capacities : List ℕ) (places tickets : ℕ) (m : Memory) (vs : List View) (h : List Mark)
+    (r : MemoryRule capacities places tickets m vs h) (id : ℕ) (v w : View) (at : get_elem? vs id ≡ some v) (m' : Memory) where
   pub tickets_same : w.tickets ≡ v.tickets → length (updates_of h) + total (λ (z : View). z.tickets) (set vs id w) ≡ tickets
   tickets_same same = let sum = total_set (λ (z : View). z.tickets) vs id v w at in let was = r.tickets_are in omega arith
 
@@ -65,8 +75,11 @@ module _ (capacities : List ℕ) (places tickets : ℕ) (m : Memory) (vs : List 
   seats_same same seen front = record {
     seen = seen_same vs id v w at h seen same.heard r.seen;
     apart = apart_same vs id v w at places same.places r.apart;
-    owned = subst (λ z. AreOwned places (set vs id w) z) (append-nil h) (owned_same vs id v w at places h [] same.places same.own (inl seen) no_marks r.owned);
-    sections = open_same vs id v w at h h (updates_of h) (updates_of h) same.places.place same.places.places same.sections same.back same.forth (λ p. refl) (λ p. refl) (omega arith) r.sections;
+    owned = subst (λ z. AreOwned places (set vs id w) z) (append-nil h)
+        (owned_same vs id v w at places h [] same.places same.own (inl seen) no_marks r.owned);
+    sections = open_same vs id v w at h h (updates_of h)
+        (updates_of h) same.places.place same.places.places same.sections same.back same.forth (λ p. refl) (λ p. refl)
+        (omega arith) r.sections;
     held = held_still vs id v w at same.held r.held;
     turned = turned_same vs id v w at m m' (length (updates_of h)) front same.commit same.kept r.turned;
     tickets_are = tickets_same same.tickets;
@@ -76,7 +89,9 @@ module _ (capacities : List ℕ) (places tickets : ℕ) (m : Memory) (vs : List 
   }
 
 -- the trail is read by no part
-pub law_stepped : (capacities : List ℕ) (places tickets : ℕ) (m : Memory) (vs : List View) (h : List Mark) → MemoryRule capacities places tickets m vs h → (id : ℕ) (v : View) → get_elem? vs id ≡ some v → (kind : Kind) (field : Field) (number : ℕ)
+pub law_stepped : (capacities : List ℕ) (places tickets : ℕ) (m : Memory) (vs : List View) (h : List Mark)
+    → MemoryRule capacities places tickets m vs h → (id : ℕ) (v : View) → get_elem? vs id ≡ some v
+    → (kind : Kind) (field : Field) (number : ℕ)
     → MemoryRule capacities places tickets m (set vs id (stepped v kind field number)) h
 law_stepped capacities places tickets m vs h r id v at kind field number =
     let w : View = stepped v kind field number in
@@ -94,4 +109,8 @@ law_stepped capacities places tickets m vs h r id v at kind field number =
       own = refl;
       heard = refl;
     }) refl refl)
-    (λ d small. record { words = same_words capacities d m; marks = same_marks capacities d h; view = record { place = refl; section = same_section d v.section; hold = same_hold d v.hold } })
+    (λ d small. record {
+      words = same_words capacities d m;
+      marks = same_marks capacities d h;
+      view = record { place = refl; section = same_section d v.section; hold = same_hold d v.hold };
+    })

@@ -31,8 +31,11 @@ pub record SamePlaces (v w : View) : Type 0 where
 module _ (vs : List View) (id : ℕ) (v w : View) (at : get_elem? vs id ≡ some v) where
   pub seen_same : (h : List Mark) → w.seen ≡ v.seen → w.heard ≡ v.heard → AreSeen vs h → AreSeen (set vs id w) h
   seen_same h same heard s = record {
-    heard = each_set (λ j u. HasHeard u) vs id w (subst (λ (z : List Mark × List (List Mark)). AllByRecursion (λ seen. IsPrefix seen z.0) z.1) (λ i. (sym same i, sym heard i)) (s.heard id v at)) (λ j u other e. s.heard j u e);
-    begins = each_set (λ j u. IsPrefix u.seen h) vs id w (subst (λ z. IsPrefix z h) (sym same) (s.begins id v at)) (λ j u other e. s.begins j u e);
+    heard = each_set (λ j u. HasHeard u) vs id w (subst
+        (λ (z : List Mark × List (List Mark)). AllByRecursion (λ seen. IsPrefix seen z.0) z.1) (λ i. (sym same i, sym heard i))
+        (s.heard id v at)) (λ j u other e. s.heard j u e);
+    begins = each_set (λ j u. IsPrefix u.seen h) vs id w (subst (λ z. IsPrefix z h) (sym same) (s.begins id v at))
+        (λ j u other e. s.begins j u e);
     longest = let l = s.longest in dite (ℕ_discrete l.0 id)
         (λ e. let g : v ≡ l.1 = at_one vs id v l.1 at (subst (λ k. get_elem? vs k ≡ some l.1) e l.2) in
         (id, w, set_here vs id w (at_below vs id v at), same ∙ (ap (λ (z : View). z.seen) g ∙ l.3)))
@@ -43,37 +46,57 @@ module _ (vs : List View) (id : ℕ) (v w : View) (at : get_elem? vs id ≡ some
   seen_whole h h' new heard longer s = record {
     heard = each_set (λ j u. HasHeard u) vs id w
         (subst (λ (z : List Mark × List (List Mark)). AllByRecursion (λ seen. IsPrefix seen z.0) z.1) (λ i. (sym new i, sym heard i))
-        (all_map (λ seen. IsPrefix seen v.seen) (λ seen. IsPrefix seen h') v.heard (λ seen p. prefix_trans seen v.seen h' p (prefix_trans v.seen h h' (s.begins id v at) longer)) (s.heard id v at)))
+        (all_map (λ seen. IsPrefix seen v.seen) (λ seen. IsPrefix seen h') v.heard
+        (λ seen p. prefix_trans seen v.seen h' p (prefix_trans v.seen h h' (s.begins id v at) longer)) (s.heard id v at)))
         (λ j u other e. s.heard j u e);
-    begins = each_set (λ j u. IsPrefix u.seen h') vs id w (subst (λ z. IsPrefix z h') (sym new) (prefix_self h')) (λ j u other e. prefix_trans u.seen h h' (s.begins j u e) longer);
+    begins = each_set (λ j u. IsPrefix u.seen h') vs id w (subst (λ z. IsPrefix z h') (sym new) (prefix_self h'))
+        (λ j u other e. prefix_trans u.seen h h' (s.begins j u e) longer);
     longest = (id, w, set_here vs id w (at_below vs id v at), new);
   }
 
   answers_back : (p : ℕ) → SamePlaces v w → AnswersFor w p → AnswersFor v p
-  answers_back p same (inl has) = inl (let a = same.place in let l = has.0 in omega arith, let a = same.place in let b = same.places in let l = has.1 in omega arith)
+  answers_back p same (inl has) = inl (
+    let a = same.place in let l = has.0 in omega arith,
+    let a = same.place in let b = same.places in
+        let l = has.1 in omega arith,
+  )
   answers_back p same (inr there) = inr (subst (λ z. 1 ≤ times p z) same.joined there)
 
   answers_forth : (p : ℕ) → SamePlaces v w → AnswersFor v p → AnswersFor w p
-  answers_forth p same (inl has) = inl (let a = same.place in let l = has.0 in omega arith, let a = same.place in let b = same.places in let l = has.1 in omega arith)
+  answers_forth p same (inl has) = inl (
+    let a = same.place in let l = has.0 in omega arith,
+    let a = same.place in let b = same.places in
+        let l = has.1 in omega arith,
+  )
   answers_forth p same (inr there) = inr (subst (λ z. 1 ≤ times p z) (sym same.joined) there)
 
   -- who answers for a place now did so before
-  answered_before : (p j : ℕ) (u : View) → SamePlaces v w → get_elem? (set vs id w) j ≡ some u → AnswersFor u p → (z : View) × (get_elem? vs j ≡ some z) × AnswersFor z p
-  answered_before p j u same there = each_set (λ k z. AnswersFor z p → (y : View) × (get_elem? vs k ≡ some y) × AnswersFor y p) vs id w (λ a. (v, at, answers_back p same a)) (λ k z other e a. (z, e, a)) j u there
+  answered_before : (p j : ℕ) (u : View) → SamePlaces v w → get_elem? (set vs id w) j ≡ some u → AnswersFor u p
+      → (z : View) × (get_elem? vs j ≡ some z) × AnswersFor z p
+  answered_before p j u same there = each_set (λ k z. AnswersFor z p → (y : View) × (get_elem? vs k ≡ some y) × AnswersFor y p) vs id w
+      (λ a. (v, at, answers_back p same a)) (λ k z other e a. (z, e, a)) j u there
 
   pub apart_same : (places : ℕ) → SamePlaces v w → AreApart places vs → AreApart places (set vs id w)
   apart_same places same s = record {
     within = λ j u p there a. let b = answered_before p j u same there a in s.within j b.0 p b.1 b.2;
-    apart = λ i j p a b ei ej aa ab. let x = answered_before p i a same ei aa in let y = answered_before p j b same ej ab in s.apart i j p x.0 y.0 x.1 y.1 x.2 y.2;
+    apart = λ i j p a b ei ej aa ab. let x = answered_before p i a same ei aa in let y = answered_before p j b same ej ab in
+        s.apart i j p x.0 y.0 x.1 y.1 x.2 y.2;
     joined = λ j u p there has. each_set (λ k z. HasPlace z p → times p z.joined ≡ 0) vs id w
-        (λ mine. subst (λ z. times p z ≡ 0) (sym same.joined) (s.joined id v p at (let a = same.place in let l = mine.0 in omega arith, let a = same.place in let b = same.places in let l = mine.1 in omega arith)))
+        (λ mine. subst (λ z. times p z ≡ 0) (sym same.joined)
+        (s.joined id v p at (
+          let a = same.place in let l = mine.0 in omega arith,
+          let a = same.place in let b = same.places in
+              let l = mine.1 in omega arith,
+        )))
         (λ k z other e mine. s.joined k z p e mine) j u there has;
   }
 
   -- marks that no place left, and the view's own the same
-  pub owned_same : (places : ℕ) (h ms : List Mark) → SamePlaces v w → w.own ≡ v.own → (w.seen ≡ v.seen) ⊎ (w.seen ≡ h ++ ms) → ((p : ℕ) → own_of p ms ≡ []) → AreOwned places vs h → AreOwned places (set vs id w) (h ++ ms)
+  pub owned_same : (places : ℕ) (h ms : List Mark) → SamePlaces v w → w.own ≡ v.own → (w.seen ≡ v.seen) ⊎ (w.seen ≡ h ++ ms)
+      → ((p : ℕ) → own_of p ms ≡ []) → AreOwned places vs h → AreOwned places (set vs id w) (h ++ ms)
   owned_same places h ms same own seen none s =
-      let more : (p : ℕ) → own_of p (h ++ ms) ≡ own_of p h = λ p. own_of-append p h ms ∙ ap (λ z. own_of p h ++ z) (none p) ∙ append-nil (own_of p h) in
+      let more : (p : ℕ) → own_of p (h ++ ms) ≡ own_of p h =
+      λ p. own_of-append p h ms ∙ ap (λ z. own_of p h ++ z) (none p) ∙ append-nil (own_of p h) in
       record {
         own = λ j u p there a. each_set (λ k z. AnswersFor z p → own_of p (h ++ ms) ≡ own_of p z.own) vs id w
             (λ mine. more p ∙ s.own id v p at (answers_back p same mine) ∙ ap (own_of p) (sym own))
@@ -89,48 +112,71 @@ module _ (vs : List View) (id : ℕ) (v w : View) (at : get_elem? vs id ≡ some
             (λ mine. ap (own_of p) own ∙ s.none id v p at (λ b. mine (answers_forth p same b)))
             (λ k z other e theirs. s.none k z p e theirs) j u there a;
         unused = λ j u p there has far. each_set (λ k z. HasPlace z p → p ≢ z.place → own_of p z.own ≡ []) vs id w
-            (λ mine ne. ap (own_of p) own ∙ s.unused id v p at (let a = same.place in let l = mine.0 in omega arith, let a = same.place in let b = same.places in let l = mine.1 in omega arith) (λ e. ne (e ∙ sym same.place)))
+            (λ mine ne. ap (own_of p) own ∙ s.unused id v p at (
+              let a = same.place in let l = mine.0 in omega arith,
+              let a = same.place in let b = same.places in let l = mine.1 in
+                  omega arith,
+            ) (λ e. ne (e ∙ sym same.place)))
             (λ k z other e theirs ne. s.unused k z p e theirs ne) j u there has far;
       }
 
   -- a mark of the view's place, and others that no place left
-  pub owned_more : (places : ℕ) (h ms : List Mark) (m : Mark) → SamePlaces v w → 1 ≤ v.places → w.own ≡ v.own ++ m ∷ [] → w.seen ≡ h ++ m ∷ ms → is_of v.place m ≡ true → ((p : ℕ) → p ≢ v.place → is_of p m ≡ false) → ((p : ℕ) → own_of p ms ≡ [])
+  pub owned_more : (places : ℕ) (h ms : List Mark) (m : Mark) → SamePlaces v w → 1 ≤ v.places → w.own ≡ v.own ++ m ∷ []
+      → w.seen ≡ h ++ m ∷ ms → is_of v.place m ≡ true → ((p : ℕ) → p ≢ v.place → is_of p m ≡ false) → ((p : ℕ) → own_of p ms ≡ [])
       → AreApart places vs → AreOwned places vs h → AreOwned places (set vs id w) (h ++ m ∷ ms)
   owned_more places h ms m same works own seen mine_is others none apart s =
-      let here : own_of v.place (m ∷ ms) ≡ m ∷ [] = ap (λ b. cond b (m ∷ own_of v.place ms) (own_of v.place ms)) mine_is ∙ ap (λ z. m ∷ z) (none v.place) in
-      let there_none : (p : ℕ) → p ≢ v.place → own_of p (m ∷ ms) ≡ [] = λ p ne. ap (λ b. cond b (m ∷ own_of p ms) (own_of p ms)) (others p ne) ∙ none p in
+      let here : own_of v.place (m ∷ ms) ≡ m ∷ [] =
+      ap (λ b. cond b (m ∷ own_of v.place ms) (own_of v.place ms)) mine_is ∙ ap (λ z. m ∷ z) (none v.place) in
+      let there_none : (p : ℕ) → p ≢ v.place → own_of p (m ∷ ms) ≡ [] =
+      λ p ne. ap (λ b. cond b (m ∷ own_of p ms) (own_of p ms)) (others p ne) ∙ none p in
       let one : own_of v.place (m ∷ []) ≡ m ∷ [] = ap (λ b. cond b (m ∷ []) []) mine_is in
       let none_one : (p : ℕ) → p ≢ v.place → own_of p (m ∷ []) ≡ [] = λ p ne. ap (λ b. cond b (m ∷ []) []) (others p ne) in
-      let h_here : own_of v.place (h ++ m ∷ ms) ≡ own_of v.place h ++ m ∷ [] = own_of-append v.place h (m ∷ ms) ∙ ap (λ z. own_of v.place h ++ z) here in
-      let h_else : (p : ℕ) → p ≢ v.place → own_of p (h ++ m ∷ ms) ≡ own_of p h = λ p ne. own_of-append p h (m ∷ ms) ∙ ap (λ z. own_of p h ++ z) (there_none p ne) ∙ append-nil (own_of p h) in
-      let own_here : own_of v.place w.own ≡ own_of v.place v.own ++ m ∷ [] = ap (own_of v.place) own ∙ own_of-append v.place v.own (m ∷ []) ∙ ap (λ z. own_of v.place v.own ++ z) one in
-      let own_else : (p : ℕ) → p ≢ v.place → own_of p w.own ≡ own_of p v.own = λ p ne. ap (own_of p) own ∙ own_of-append p v.own (m ∷ []) ∙ ap (λ z. own_of p v.own ++ z) (none_one p ne) ∙ append-nil (own_of p v.own) in
+      let h_here : own_of v.place (h ++ m ∷ ms) ≡ own_of v.place h ++ m ∷ [] =
+      own_of-append v.place h (m ∷ ms) ∙ ap (λ z. own_of v.place h ++ z) here in
+      let h_else : (p : ℕ) → p ≢ v.place → own_of p (h ++ m ∷ ms) ≡ own_of p h =
+      λ p ne. own_of-append p h (m ∷ ms) ∙ ap (λ z. own_of p h ++ z) (there_none p ne) ∙ append-nil (own_of p h) in
+      let own_here : own_of v.place w.own ≡ own_of v.place v.own ++ m ∷ [] =
+      ap (own_of v.place) own ∙ own_of-append v.place v.own (m ∷ []) ∙ ap (λ z. own_of v.place v.own ++ z) one in
+      let own_else : (p : ℕ) → p ≢ v.place → own_of p w.own ≡ own_of p v.own =
+      λ p ne. ap (own_of p) own ∙ own_of-append p v.own (m ∷ []) ∙ ap (λ z. own_of p v.own ++ z) (none_one p ne)
+      ∙ append-nil (own_of p v.own) in
       let at_place : AnswersFor v v.place = inl (omega arith, omega arith) in
       let own_now : (p : ℕ) → AnswersFor w p → own_of p (h ++ m ∷ ms) ≡ own_of p w.own = λ p mine. dite (ℕ_discrete p v.place)
-      (λ e. subst (λ q. own_of q (h ++ m ∷ ms) ≡ own_of q w.own) (sym e) (h_here ∙ ap (λ z. z ++ m ∷ []) (s.own id v v.place at at_place) ∙ sym own_here))
+      (λ e. subst (λ q. own_of q (h ++ m ∷ ms) ≡ own_of q w.own) (sym e)
+      (h_here ∙ ap (λ z. z ++ m ∷ []) (s.own id v v.place at at_place) ∙ sym own_here))
       (λ ne. h_else p ne ∙ s.own id v p at (answers_back p same mine) ∙ sym (own_else p ne)) in
       record {
         own = λ j u p there a. each_set (λ k z. AnswersFor z p → own_of p (h ++ m ∷ ms) ≡ own_of p z.own) vs id w (own_now p)
-            (λ k z other e theirs. h_else p (λ f. other (apart.apart k id p z v e at theirs (subst (AnswersFor v) (sym f) at_place))) ∙ s.own k z p e theirs) j u there a;
+            (λ k z other e theirs. h_else p (λ f. other (apart.apart k id p z v e at theirs (subst (AnswersFor v) (sym f) at_place)))
+            ∙ s.own k z p e theirs) j u there a;
         met = λ j u p there a. each_set (λ k z. AnswersFor z p → own_of p z.seen ≡ own_of p z.own) vs id w
             (λ mine. ap (own_of p) seen ∙ own_now p mine)
             (λ k z other e theirs. s.met k z p e theirs) j u there a;
         within = λ p far. h_else p (λ e. let below = apart.within id v v.place at at_place in omega arith) ∙ s.within p far;
         none = λ j u p there a. each_set (λ k z. (AnswersFor z p → ⊥) → own_of p z.own ≡ []) vs id w
-            (λ mine. own_else p (λ e. mine (answers_forth p same (subst (AnswersFor v) (sym e) at_place))) ∙ s.none id v p at (λ b. mine (answers_forth p same b)))
+            (λ mine. own_else p (λ e. mine (answers_forth p same (subst (AnswersFor v) (sym e) at_place)))
+            ∙ s.none id v p at (λ b. mine (answers_forth p same b)))
             (λ k z other e theirs. s.none k z p e theirs) j u there a;
         unused = λ j u p there has far. each_set (λ k z. HasPlace z p → p ≢ z.place → own_of p z.own ≡ []) vs id w
-            (λ mine ne. let ne' : p ≢ v.place = λ e. ne (e ∙ sym same.place) in own_else p ne' ∙ s.unused id v p at (let a = same.place in let l = mine.0 in omega arith, let a = same.place in let b = same.places in let l = mine.1 in omega arith) ne')
+            (λ mine ne. let ne' : p ≢ v.place = λ e. ne (e ∙ sym same.place) in
+            own_else p ne' ∙ s.unused id v p at (
+              let a = same.place in let l = mine.0 in omega arith,
+              let a = same.place in
+                  let b = same.places in let l = mine.1 in omega arith,
+            ) ne')
             (λ k z other e theirs ne. s.unused k z p e theirs ne) j u there has far;
       }
 
   -- marks that enter and leave nothing
   pub open_same : (h h' : List Mark) (us us' : List Update) → w.place ≡ v.place → w.places ≡ v.places → w.sections ≡ v.sections
-      → ((section : Section) → w.section ≡ Some section → (old : Section) × (v.section ≡ Some old) × (open_of section ≡ open_of old) × (section.from ≡ old.from))
+      → ((section : Section) → w.section ≡ Some section
+      → (old : Section) × (v.section ≡ Some old) × (open_of section ≡ open_of old) × (section.from ≡ old.from))
       → ((section : Section) → v.section ≡ Some section → (new : Section) × (w.section ≡ Some new) × (open_of section ≡ open_of new))
-      → ((p : ℕ) → open_at p h' ≡ open_at p h) → ((p : ℕ) → entered_at p h' ≡ entered_at p h) → length us ≤ length us' → AreOpen vs h us → AreOpen (set vs id w) h' us'
+      → ((p : ℕ) → open_at p h' ≡ open_at p h) → ((p : ℕ) → entered_at p h' ≡ entered_at p h) → length us ≤ length us' → AreOpen vs h us
+      → AreOpen (set vs id w) h' us'
   open_same h h' us us' place places sections back forth opened entered longer s = record {
-    open_here = λ j u section there is. each_set (λ k z. z.section ≡ Some section → (1 ≤ z.places) × (open_at z.place h' ≡ Some (open_of section)) × (section.from ≤ length us') × (section.key < 2 ^ 64)) vs id w
+    open_here = λ j u section there is. each_set (λ k z. z.section ≡ Some section
+        → (1 ≤ z.places) × (open_at z.place h' ≡ Some (open_of section)) × (section.from ≤ length us') × (section.key < 2 ^ 64)) vs id w
         (λ mine. let old = back section mine in let o = s.open_here id v old.0 at old.1 in
         let same_key : section.key ≡ old.0.key = ap (λ (z : Open). z.key) old.2 in let same_from = old.3 in (
           let a = o.0 in omega arith,
@@ -138,7 +184,8 @@ module _ (vs : List View) (id : ℕ) (v w : View) (at : get_elem? vs id ≡ some
           let a = o.2 in omega arith,
           let a = o.3 in omega arith,
         ))
-        (λ k z other e theirs. let o = s.open_here k z section e theirs in (o.0, opened z.place ∙ o.1, let a = o.2 in omega arith, o.3)) j u there is;
+        (λ k z other e theirs. let o = s.open_here k z section e theirs in
+        (o.0, opened z.place ∙ o.1, let a = o.2 in omega arith, o.3)) j u there is;
     entered = λ j u there works. each_set (λ k z. 1 ≤ z.places → z.sections ≡ entered_at z.place h') vs id w
         (λ mine. sections ∙ s.entered id v at (omega arith) ∙ ap (λ p. entered_at p h) (sym place) ∙ sym (entered w.place))
         (λ k z other e theirs. s.entered k z e theirs ∙ sym (entered z.place)) j u there works;
@@ -152,12 +199,16 @@ module _ (vs : List View) (id : ℕ) (v w : View) (at : get_elem? vs id ≡ some
 
   pub held_still : ((hold : Hold) → w.hold ≡ Some hold → (hold.class < 64) × (1 ≤ w.places)) → AreHeld vs → AreHeld (set vs id w)
   held_still mine s = record {
-    held = λ j u hold there is. each_set (λ k z. z.hold ≡ Some hold → (hold.class < 64) × (1 ≤ z.places)) vs id w (mine hold) (λ k z other e theirs. s.held k z hold e theirs) j u there is;
+    held = λ j u hold there is. each_set (λ k z. z.hold ≡ Some hold → (hold.class < 64) × (1 ≤ z.places)) vs id w (mine hold)
+        (λ k z other e theirs. s.held k z hold e theirs) j u there is;
   }
 
   -- a step that leaves the front and whose commit it is
-  pub turned_same : (m m' : Memory) (count : ℕ) → m' Front ≡ m Front → w.commit ≡ v.commit → ((commit : Commit) (hold : Hold) → v.commit ≡ Some commit → v.hold ≡ Some hold → (k : Hold) × (w.hold ≡ Some k)) → IsTurned m vs count → IsTurned m' (set vs id w) count
-  turned_same m m' count front commit hold (inl even) = inl (front ∙ even.0, each_set (λ k z. HasNoCommit z) vs id w (commit ∙ even.1 id v at) (λ k z other e. even.1 k z e))
+  pub turned_same : (m m' : Memory) (count : ℕ) → m' Front ≡ m Front → w.commit ≡ v.commit
+      → ((commit : Commit) (hold : Hold) → v.commit ≡ Some commit → v.hold ≡ Some hold → (k : Hold) × (w.hold ≡ Some k))
+      → IsTurned m vs count → IsTurned m' (set vs id w) count
+  turned_same m m' count front commit hold (inl even) =
+      inl (front ∙ even.0, each_set (λ k z. HasNoCommit z) vs id w (commit ∙ even.1 id v at) (λ k z other e. even.1 k z e))
   turned_same m m' count front commit hold (inr odd) = inr (
       dite (ℕ_discrete odd.0 id)
       (λ e.
@@ -173,7 +224,8 @@ module _ (vs : List View) (id : ℕ) (v w : View) (at : get_elem? vs id ≡ some
         held.1,
         front ∙ odd.7,
         odd.8,
-        λ j u ne there. each_set (λ k z. k ≢ id → HasNoCommit z) vs id w (λ f. absurd (f refl)) (λ k z other q _. odd.9 k z (λ f. other (f ∙ e)) q) j u there ne,
+        λ j u ne there. each_set (λ k z. k ≢ id → HasNoCommit z) vs id w (λ f. absurd (f refl))
+            (λ k z other q _. odd.9 k z (λ f. other (f ∙ e)) q) j u there ne,
       ))
       (λ ne. (
         odd.0,
@@ -185,6 +237,7 @@ module _ (vs : List View) (id : ℕ) (v w : View) (at : get_elem? vs id ≡ some
         odd.6,
         front ∙ odd.7,
         odd.8,
-        λ j u far there. each_set (λ k z. k ≢ odd.0 → HasNoCommit z) vs id w (λ f. commit ∙ odd.9 id v (λ g. ne (sym g)) at) (λ k z other q f. odd.9 k z f q) j u there far,
+        λ j u far there. each_set (λ k z. k ≢ odd.0 → HasNoCommit z) vs id w (λ f. commit ∙ odd.9 id v (λ g. ne (sym g)) at)
+            (λ k z other q f. odd.9 k z f q) j u there far,
       ))
       )

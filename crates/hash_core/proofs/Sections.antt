@@ -58,18 +58,22 @@ free_each c h h' vs id w s same mine free p j u section was there is class =
     (λ k z other e theirs. free p k z section (sym same ∙ was) e theirs class) j u there is
 
 -- the same of all slots that are to be free
-pub clean_each : (capacities : List ℕ) (c : ℕ) (h h' : List Mark) (vs : List View) (id : ℕ) (w : View) (b : Bucket) → ((s : ℕ) → last_unlinked s h' ≡ last_unlinked s h)
-    → ((s p : ℕ) (section : Section) → IsFreeOfReaders c h vs s → last_unlinked s h ≡ Some p → w.section ≡ Some section → section.key % 64 ≡ c → p < section.entered)
+pub clean_each : (capacities : List ℕ) (c : ℕ) (h h' : List Mark) (vs : List View) (id : ℕ) (w : View) (b : Bucket)
+    → ((s : ℕ) → last_unlinked s h' ≡ last_unlinked s h)
+    → ((s p : ℕ) (section : Section) → IsFreeOfReaders c h vs s → last_unlinked s h ≡ Some p → w.section ≡ Some section
+    → section.key % 64 ≡ c → p < section.entered)
     → AreClean capacities c h vs b → AreClean capacities c h' (set vs id w) b
 clean_each capacities c h h' vs id w b same mine clean =
-    let each : (s : ℕ) → IsFreeOfReaders c h vs s → IsFreeOfReaders c h' (set vs id w) s = λ s free. free_each c h h' vs id w s (same s) (λ p section. mine s p section free) free in
+    let each : (s : ℕ) → IsFreeOfReaders c h vs s → IsFreeOfReaders c h' (set vs id w) s =
+    λ s free. free_each c h h' vs id w s (same s) (λ p section. mine s p section free) free in
     record {
       free = all_change (IsFreeOfReaders c h vs) (IsFreeOfReaders c h' (set vs id w)) b.free (λ s _ p. each s p) clean.free;
       moved = all_change (IsFreeOfReaders c h vs) (IsFreeOfReaders c h' (set vs id w)) b.moved (λ s _ p. each s p) clean.moved;
       clear = λ hold is clear s of. each s (clean.clear hold is clear s of);
     }
 
-module _ (capacities : List ℕ) (places tickets : ℕ) (m : Memory) (vs : List View) (h : List Mark) (r : MemoryRule capacities places tickets m vs h) (id : ℕ) (v : View) (at : get_elem? vs id ≡ some v) where
+module _ (capacities : List ℕ) (places tickets : ℕ) (m : Memory) (vs : List View) (h : List Mark)
+    (r : MemoryRule capacities places tickets m vs h) (id : ℕ) (v : View) (at : get_elem? vs id ≡ some v) where
   -- no other view works at the place
   other_place : (j : ℕ) (u : View) → j ≢ id → get_elem? vs j ≡ some u → 1 ≤ v.places → 1 ≤ u.places → u.place ≢ v.place
   other_place j u ne there mine theirs e =
@@ -95,7 +99,13 @@ module _ (capacities : List ℕ) (places tickets : ℕ) (m : Memory) (vs : List 
     same_updates3 = updates_of-append h (mark3 ∷ []) ∙ append-nil (updates_of h)
 
     same_marks3 : (d : ℕ) → SameMarks capacities d h h3 (updates_of h) (updates_of h3)
-    same_marks3 d = record { more = []; longer = same_updates3 ∙ sym (append-nil _); gone = λ s _. gone_at-same h mark3 tt s; last = λ s _. last_unlinked-same h mark3 tt s; pairs = λ k class. ap (λ us. finite.get (map_of us) k) same_updates3 }
+    same_marks3 d = record {
+      more = [];
+      longer = same_updates3 ∙ sym (append-nil _);
+      gone = λ s _. gone_at-same h mark3 tt s;
+      last = λ s _. last_unlinked-same h mark3 tt s;
+      pairs = λ k class. ap (λ us. finite.get (map_of us) k) same_updates3;
+    }
 
     open_here3 : open_at v.place h3 ≡ Some (open_of section3)
     open_here3 = open_at-snoc v.place h mark3 ∙ ap (λ b. cond b (Some (open_of section3)) (open_at v.place h)) (eq-eqb v.place v.place refl)
@@ -112,25 +122,41 @@ module _ (capacities : List ℕ) (places tickets : ℕ) (m : Memory) (vs : List 
         closed_case (Some o) is =
             let q = r.sections.all v.place o is in
             let there = r.sections.open_here q.0 q.1 q.2 q.3 q.5 in
-            let me : q.0 ≡ id = r.apart.apart q.0 id v.place q.1 v q.3 at (let e = q.4 in let w = there.0 in inl (omega arith, omega arith)) (inl (omega arith, omega arith)) in
+            let me : q.0 ≡ id = r.apart.apart q.0 id v.place q.1 v q.3 at (let e = q.4 in let w = there.0 in inl (omega arith, omega arith))
+            (inl (omega arith, omega arith)) in
             let same : v ≡ q.1 = at_one vs id v q.1 at (subst (λ k. get_elem? vs k ≡ some q.1) me q.3) in
             absurd (let z : Some q.2 ≡ None = sym (ap (λ (y : View). y.section) same ∙ q.5) ∙ outside in cc)
 
     sections3 : AreOpen (set vs id w3) h3 (updates_of h3)
     sections3 = record {
-      open_here = λ j u section there is. each_set (λ k z. z.section ≡ Some section → (1 ≤ z.places) × (open_at z.place h3 ≡ Some (open_of section)) × (section.from ≤ length (updates_of h3)) × (section.key < 2 ^ 64)) vs id w3
-          (λ mine. let e : section3 ≡ section = cc in subst (λ (z : Section). (1 ≤ v.places) × (open_at v.place h3 ≡ Some (open_of z)) × (z.from ≤ length (updates_of h3)) × (z.key < 2 ^ 64)) e (works, open_here3, let n = ap length same_updates3 in omega arith, fits))
-          (λ k z other e theirs. let o = r.sections.open_here k z section e theirs in
-          (o.0, open_else3 z.place (other_place k z other e works o.0) ∙ o.1, let n = ap length same_updates3 in let a = o.2 in omega arith, o.3)) j u there is;
+      open_here = λ j u section there is. each_set
+          (λ k z. z.section ≡ Some section → (1 ≤ z.places) × (open_at z.place h3 ≡ Some (open_of section))
+          × (section.from ≤ length (updates_of h3)) × (section.key < 2 ^ 64)) vs id w3
+          (λ mine. let e : section3 ≡ section = cc in
+          subst (λ (z : Section). (1 ≤ v.places) × (open_at v.place h3 ≡ Some (open_of z)) × (z.from ≤ length (updates_of h3))
+          × (z.key < 2 ^ 64)) e (works, open_here3, let n = ap length same_updates3 in omega arith, fits))
+          (λ k z other e theirs. let o = r.sections.open_here k z section e theirs in (
+            o.0,
+            open_else3 z.place (other_place k z other e works o.0) ∙ o.1,
+            let n = ap length same_updates3 in let a = o.2 in
+                omega arith,
+            o.3,
+          )) j u there is;
       entered = λ j u there has. each_set (λ k z. 1 ≤ z.places → z.sections ≡ entered_at z.place h3) vs id w3
-          (λ mine. let a = entered_at-append v.place h (mark3 ∷ []) in let one : entered_at v.place (mark3 ∷ []) ≡ 1 = ap (λ b. cond b 1 0 + 0) (eq-eqb v.place v.place refl) in let old = r.sections.entered id v at works in omega arith)
-          (λ k z other e theirs. let a = entered_at-append z.place h (mark3 ∷ []) in let none : entered_at z.place (mark3 ∷ []) ≡ 0 = ap (λ b. cond b 1 0 + 0) (ne_eqb v.place z.place (λ f. other_place k z other e works theirs (sym f))) in let old = r.sections.entered k z e theirs in omega arith) j u there has;
+          (λ mine. let a = entered_at-append v.place h (mark3 ∷ []) in
+          let one : entered_at v.place (mark3 ∷ []) ≡ 1 = ap (λ b. cond b 1 0 + 0) (eq-eqb v.place v.place refl) in
+          let old = r.sections.entered id v at works in omega arith)
+          (λ k z other e theirs. let a = entered_at-append z.place h (mark3 ∷ []) in
+          let none : entered_at z.place (mark3 ∷ []) ≡ 0 =
+          ap (λ b. cond b 1 0 + 0) (ne_eqb v.place z.place (λ f. other_place k z other e works theirs (sym f))) in
+          let old = r.sections.entered k z e theirs in omega arith) j u there has;
       all = λ p o is. dite (ℕ_discrete p v.place)
           (λ e. let now : open_at v.place h3 ≡ Some o = subst (λ q. open_at q h3 ≡ Some o) e is in
           let same : open_of section3 ≡ o = cc (open_here3, now) in
           (id, w3, section3, set_here vs id w3 (at_below vs id v at), sym e, refl, sym same))
           (λ ne. let q = r.sections.all p o (sym (open_else3 p ne) ∙ is) in
-          let far : q.0 ≢ id = λ e. let same : v ≡ q.1 = at_one vs id v q.1 at (subst (λ k. get_elem? vs k ≡ some q.1) e q.3) in absurd (let z : Some q.2 ≡ None = sym (ap (λ (y : View). y.section) same ∙ q.5) ∙ outside in cc) in
+          let far : q.0 ≢ id = λ e. let same : v ≡ q.1 = at_one vs id v q.1 at (subst (λ k. get_elem? vs k ≡ some q.1) e q.3) in
+          absurd (let z : Some q.2 ≡ None = sym (ap (λ (y : View). y.section) same ∙ q.5) ∙ outside in cc) in
           (q.0, q.1, q.2, set_else vs id q.0 w3 far ∙ q.3, q.4, q.5, q.6));
     }
 
@@ -138,13 +164,21 @@ module _ (capacities : List ℕ) (places tickets : ℕ) (m : Memory) (vs : List 
     seats3 = record {
       seen = seen_whole vs id v w3 at h h3 refl refl (mark3 ∷ [], refl) r.seen;
       apart = apart_same vs id v w3 at places (record { place = refl; places = refl; joined = refl }) r.apart;
-      owned = owned_more vs id v w3 at places h [] mark3 (record { place = refl; places = refl; joined = refl }) works refl refl (eq-eqb v.place v.place refl) (λ p ne. ne_eqb v.place p (λ e. ne (sym e))) (λ p. refl) r.apart r.owned;
+      owned = owned_more vs id v w3 at places h [] mark3 (record { place = refl; places = refl; joined = refl }) works refl refl
+          (eq-eqb v.place v.place refl) (λ p ne. ne_eqb v.place p (λ e. ne (sym e))) (λ p. refl) r.apart r.owned;
       sections = sections3;
       held = held_still vs id v w3 at (λ hold is. r.held.held id v hold at is) r.held;
-      turned = subst (IsTurned m3 (set vs id w3)) (sym (ap length same_updates3)) (turned_same vs id v w3 at m m3 (length (updates_of h)) refl refl (λ commit hold is held. (hold, held)) r.turned);
-      tickets_are = ap (λ us. length us + total (λ (z : View). z.tickets) (set vs id w3)) same_updates3 ∙ tickets_same capacities places tickets m vs h r id v w3 at m3 refl;
+      turned = subst (IsTurned m3 (set vs id w3)) (sym (ap length same_updates3))
+          (turned_same vs id v w3 at m m3 (length (updates_of h)) refl refl (λ commit hold is held. (hold, held)) r.turned);
+      tickets_are = ap (λ us. length us + total (λ (z : View). z.tickets) (set vs id w3)) same_updates3
+          ∙ tickets_same capacities places tickets m vs h r id v w3 at m3 refl;
       legal = subst IsLegal (sym same_updates3) r.legal;
-      marks = marks_snoc places h mark3 (r.apart.within id v v.place at (inl (omega arith, omega arith)), fits, r.sections.entered id v at works, closed3) r.marks;
+      marks = marks_snoc places h mark3 (
+        r.apart.within id v v.place at (inl (omega arith, omega arith)),
+        fits,
+        r.sections.entered id v at works,
+        closed3,
+      ) r.marks;
       reuse = reuse_more capacities h mark3 (λ s e. absurd (cc)) r.reuse;
     }
 
@@ -160,7 +194,10 @@ module _ (capacities : List ℕ) (places tickets : ℕ) (m : Memory) (vs : List 
           roles = b.roles;
           mapped = record { answers = λ k class. marks.pairs k class ∙ b.mapped.answers k class };
           locked = locked_same c m m3 vs id v w3 at refl refl (same_hold c v.hold) (r.bucket c).hold b.locked;
-          known = record { known = λ hold field number is found. let k = b.known.known hold field number is found in (k.0, known_case field k.0 ∙ k.1) };
+          known = record {
+            known = λ hold field number is found. let k = b.known.known hold field number is found in
+                (k.0, known_case field k.0 ∙ k.1);
+          };
           ages = frame_ages_same capacities c h h3 (r.bucket c) (λ s _. gone s) b.roles b.ages;
           counted = record {
             readers =
@@ -171,14 +208,25 @@ module _ (capacities : List ℕ) (places tickets : ℕ) (m : Memory) (vs : List 
                 let was = b.counted.readers in
                 omega arith;
           };
-          clean = clean_each capacities c h h3 vs id w3 (r.bucket c) (last_unlinked-same h mark3 tt) (λ s p section free was is class. let e : section3 ≡ section = cc in let l = last_unlinked-below s h p was in subst (λ (z : Section). p < z.entered) e l) b.clean;
+          clean = clean_each capacities c h h3 vs id w3 (r.bucket c) (last_unlinked-same h mark3 tt)
+              (λ s p section free was is class. let e : section3 ≡ section = cc in let l = last_unlinked-below s h p was in
+              subst (λ (z : Section). p < z.entered) e l) b.clean;
           answered = record {
-            readers = λ j u section there is class. each_set (λ k z. z.section ≡ Some section → WillAnswer capacities c m3 h3 (updates_of h3) (r.bucket c).chain section section.state) vs id w3
-                (λ mine. let e : section3 ≡ section = cc in subst (λ (z : Section). WillAnswer capacities c m3 h3 (updates_of h3) (r.bucket c).chain z z.state) e tt)
-                (λ k z other e theirs. still_answer capacities c m m3 h h3 (updates_of h) (updates_of h3) (r.bucket c) (λ s _. (refl, refl, refl, refl)) marks b.roles section section.state (b.answered.readers k z section e theirs class)) j u there is;
-            loaded = λ j u section value there is class read. each_set (λ k z. z.section ≡ Some section → WasSaid (updates_of h3) section.key section.from (Some value)) vs id w3
-                (λ mine. absurd (let e : section3 ≡ section = cc in let none : section.loaded ≡ None = ap (λ (z : Section). z.loaded) (sym e) in cc))
-                (λ k z other e theirs. still_said capacities c m m3 h h3 (updates_of h) (updates_of h3) (r.bucket c) (λ s _. (refl, refl, refl, refl)) marks b.roles section.key section.from (Some value) (b.answered.loaded k z section value e theirs class read)) j u there is;
+            readers = λ j u section there is class. each_set
+                (λ k z. z.section ≡ Some section → WillAnswer capacities c m3 h3 (updates_of h3)
+                (r.bucket c).chain section section.state) vs id w3
+                (λ mine. let e : section3 ≡ section = cc in
+                subst (λ (z : Section). WillAnswer capacities c m3 h3 (updates_of h3) (r.bucket c).chain z z.state) e tt)
+                (λ k z other e theirs. still_answer capacities c m m3 h h3 (updates_of h) (updates_of h3) (r.bucket c)
+                (λ s _. (refl, refl, refl, refl)) marks b.roles section section.state
+                (b.answered.readers k z section e theirs class)) j u there is;
+            loaded = λ j u section value there is class read. each_set
+                (λ k z. z.section ≡ Some section → WasSaid (updates_of h3) section.key section.from (Some value)) vs id w3
+                (λ mine. absurd (let e : section3 ≡ section = cc in
+                let none : section.loaded ≡ None = ap (λ (z : Section). z.loaded) (sym e) in cc))
+                (λ k z other e theirs. still_said capacities c m m3 h h3 (updates_of h) (updates_of h3) (r.bucket c)
+                (λ s _. (refl, refl, refl, refl)) marks b.roles section.key section.from (Some value)
+                (b.answered.loaded k z section value e theirs class read)) j u there is;
           };
         }
       where
@@ -198,12 +246,20 @@ module _ (capacities : List ℕ) (places tickets : ℕ) (m : Memory) (vs : List 
         (λ d small ne. record {
           words = readers_words capacities (key % 64) d m (m (Readers (key % 64)) + 1) ne;
           marks = same_marks3 d;
-          view = record { place = refl; section = subst (λ z. SameSection d z w3.section) (sym outside) (λ e. ne (sym e)); hold = same_hold d v.hold };
+          view = record {
+            place = refl;
+            section = subst (λ z. SameSection d z w3.section) (sym outside) (λ e. ne (sym e));
+            hold = same_hold d v.hold;
+          };
         })
 
   -- what a load of another field gives, where the memory is the same
-  known_same : (d : ℕ) (m' : Memory) → ((field : Field) → IsOfClass capacities d field → m' field ≡ m field) → IsKnown capacities d m (r.bucket d).hold → IsKnown capacities d m' (r.bucket d).hold
-  known_same d m' same known = record { known = λ hold field number is found. let k = known.known hold field number is found in (k.0, same field k.0 ∙ k.1) }
+  known_same : (d : ℕ) (m' : Memory) → ((field : Field) → IsOfClass capacities d field → m' field ≡ m field)
+      → IsKnown capacities d m (r.bucket d).hold → IsKnown capacities d m' (r.bucket d).hold
+  known_same d m' same known = record {
+    known = λ hold field number is found. let k = known.known hold field number is found in
+        (k.0, same field k.0 ∙ k.1);
+  }
 
   module _ (section : Section) (inside : v.section ≡ Some section) where
     works4 : 1 ≤ v.places
@@ -225,7 +281,13 @@ module _ (capacities : List ℕ) (places tickets : ℕ) (m : Memory) (vs : List 
     same_updates4 = updates_of-append h (mark4 ∷ []) ∙ append-nil (updates_of h)
 
     same_marks4 : (d : ℕ) → SameMarks capacities d h h4 (updates_of h) (updates_of h4)
-    same_marks4 d = record { more = []; longer = same_updates4 ∙ sym (append-nil _); gone = λ s _. gone_at-same h mark4 tt s; last = λ s _. last_unlinked-same h mark4 tt s; pairs = λ k class. ap (λ us. finite.get (map_of us) k) same_updates4 }
+    same_marks4 d = record {
+      more = [];
+      longer = same_updates4 ∙ sym (append-nil _);
+      gone = λ s _. gone_at-same h mark4 tt s;
+      last = λ s _. last_unlinked-same h mark4 tt s;
+      pairs = λ k class. ap (λ us. finite.get (map_of us) k) same_updates4;
+    }
 
     open_here4 : open_at v.place h4 ≡ None
     open_here4 = open_at-snoc v.place h mark4 ∙ ap (λ b. cond b None (open_at v.place h)) (eq-eqb v.place v.place refl)
@@ -238,17 +300,26 @@ module _ (capacities : List ℕ) (places tickets : ℕ) (m : Memory) (vs : List 
 
     sections4 : AreOpen (set vs id w4) h4 (updates_of h4)
     sections4 = record {
-      open_here = λ j u other there is. each_set (λ k z. z.section ≡ Some other → (1 ≤ z.places) × (open_at z.place h4 ≡ Some (open_of other)) × (other.from ≤ length (updates_of h4)) × (other.key < 2 ^ 64)) vs id w4
+      open_here = λ j u other there is. each_set (λ k z. z.section ≡ Some other
+          → (1 ≤ z.places) × (open_at z.place h4 ≡ Some (open_of other)) × (other.from ≤ length (updates_of h4))
+          × (other.key < 2 ^ 64)) vs id w4
           (λ mine. absurd (cc))
-          (λ k z far e theirs. let o = r.sections.open_here k z other e theirs in
-          (o.0, open_else4 z.place (other_place k z far e works4 o.0) ∙ o.1, let n = ap length same_updates4 in let a = o.2 in omega arith, o.3)) j u there is;
+          (λ k z far e theirs. let o = r.sections.open_here k z other e theirs in (
+            o.0,
+            open_else4 z.place (other_place k z far e works4 o.0) ∙ o.1,
+            let n = ap length same_updates4 in let a = o.2 in
+                omega arith,
+            o.3,
+          )) j u there is;
       entered = λ j u there has. each_set (λ k z. 1 ≤ z.places → z.sections ≡ entered_at z.place h4) vs id w4
           (λ mine. r.sections.entered id v at works4 ∙ sym (same_entered4 v.place))
           (λ k z far e theirs. r.sections.entered k z e theirs ∙ sym (same_entered4 z.place)) j u there has;
       all = λ p o is. dite (ℕ_discrete p v.place)
-          (λ e. absurd (let now : open_at v.place h4 ≡ Some o = subst (λ q. open_at q h4 ≡ Some o) e is in let z : None ≡ Some o = sym open_here4 ∙ now in cc))
+          (λ e. absurd (let now : open_at v.place h4 ≡ Some o = subst (λ q. open_at q h4 ≡ Some o) e is in
+          let z : None ≡ Some o = sym open_here4 ∙ now in cc))
           (λ ne. let q = r.sections.all p o (sym (open_else4 p ne) ∙ is) in
-          let far : q.0 ≢ id = λ e. let same : v ≡ q.1 = at_one vs id v q.1 at (subst (λ k. get_elem? vs k ≡ some q.1) e q.3) in ne (sym q.4 ∙ ap (λ (y : View). y.place) (sym same)) in
+          let far : q.0 ≢ id = λ e. let same : v ≡ q.1 = at_one vs id v q.1 at (subst (λ k. get_elem? vs k ≡ some q.1) e q.3) in
+          ne (sym q.4 ∙ ap (λ (y : View). y.place) (sym same)) in
           (q.0, q.1, q.2, set_else vs id q.0 w4 far ∙ q.3, q.4, q.5, q.6));
     }
 
@@ -256,11 +327,14 @@ module _ (capacities : List ℕ) (places tickets : ℕ) (m : Memory) (vs : List 
     seats4 = record {
       seen = seen_whole vs id v w4 at h h4 refl refl (mark4 ∷ [], refl) r.seen;
       apart = apart_same vs id v w4 at places (record { place = refl; places = refl; joined = refl }) r.apart;
-      owned = owned_more vs id v w4 at places h [] mark4 (record { place = refl; places = refl; joined = refl }) works4 refl refl (eq-eqb v.place v.place refl) (λ p ne. ne_eqb v.place p (λ e. ne (sym e))) (λ p. refl) r.apart r.owned;
+      owned = owned_more vs id v w4 at places h [] mark4 (record { place = refl; places = refl; joined = refl }) works4 refl refl
+          (eq-eqb v.place v.place refl) (λ p ne. ne_eqb v.place p (λ e. ne (sym e))) (λ p. refl) r.apart r.owned;
       sections = sections4;
       held = held_still vs id v w4 at (λ hold is. r.held.held id v hold at is) r.held;
-      turned = subst (IsTurned m4 (set vs id w4)) (sym (ap length same_updates4)) (turned_same vs id v w4 at m m4 (length (updates_of h)) refl refl (λ commit hold is held. (hold, held)) r.turned);
-      tickets_are = ap (λ us. length us + total (λ (z : View). z.tickets) (set vs id w4)) same_updates4 ∙ tickets_same capacities places tickets m vs h r id v w4 at m4 refl;
+      turned = subst (IsTurned m4 (set vs id w4)) (sym (ap length same_updates4))
+          (turned_same vs id v w4 at m m4 (length (updates_of h)) refl refl (λ commit hold is held. (hold, held)) r.turned);
+      tickets_are = ap (λ us. length us + total (λ (z : View). z.tickets) (set vs id w4)) same_updates4
+          ∙ tickets_same capacities places tickets m vs h r id v w4 at m4 refl;
       legal = subst IsLegal (sym same_updates4) r.legal;
       marks = marks_snoc places h mark4 (open_of section, (r.sections.open_here id v section at inside).1, refl) r.marks;
       reuse = reuse_more capacities h mark4 (λ s e. absurd (cc)) r.reuse;
@@ -275,7 +349,8 @@ module _ (capacities : List ℕ) (places tickets : ℕ) (m : Memory) (vs : List 
         let was = (r.buckets c small).counted.readers in
         omega arith
 
-    bucket4 : section.key % 64 < 64 → BucketRule capacities (section.key % 64) m4 h4 (updates_of h4) (set vs id w4) (r.bucket (section.key % 64))
+    bucket4 : section.key % 64 < 64 → BucketRule capacities (section.key % 64) m4 h4 (updates_of h4) (set vs id w4)
+        (r.bucket (section.key % 64))
     bucket4 small =
         let c : ℕ = section.key % 64 in
         let b = r.buckets c small in
@@ -292,20 +367,29 @@ module _ (capacities : List ℕ) (places tickets : ℕ) (m : Memory) (vs : List 
           counted = record {
             readers =
                 let sum = total_set (λ (z : View). inside_count c z.section) vs id v w4 at in
-                let before : inside_count c v.section ≡ 1 = ap (inside_count c) inside ∙ ap (λ t. cond t 1 0) (eq-eqb (section.key % 64) c refl) in
+                let before : inside_count c v.section ≡ 1 =
+                ap (inside_count c) inside ∙ ap (λ t. cond t 1 0) (eq-eqb (section.key % 64) c refl) in
                 let word : m4 (Readers c) ≡ m (Readers c) - 1 = stored_here m (Readers c) (m (Readers c) - 1) (same_self (Readers c)) in
                 let was = b.counted.readers in
                 let has = some_reader small in
                 omega arith;
           };
-          clean = clean_each capacities c h h4 vs id w4 (r.bucket c) (last_unlinked-same h mark4 tt) (λ s p other free was is class. absurd (cc)) b.clean;
+          clean = clean_each capacities c h h4 vs id w4 (r.bucket c) (last_unlinked-same h mark4 tt)
+              (λ s p other free was is class. absurd (cc)) b.clean;
           answered = record {
-            readers = λ j u other there is class. each_set (λ k z. z.section ≡ Some other → WillAnswer capacities c m4 h4 (updates_of h4) (r.bucket c).chain other other.state) vs id w4
+            readers = λ j u other there is class. each_set
+                (λ k z. z.section ≡ Some other → WillAnswer capacities c m4 h4 (updates_of h4)
+                (r.bucket c).chain other other.state) vs id w4
                 (λ mine. absurd (cc))
-                (λ k z far e theirs. still_answer capacities c m m4 h h4 (updates_of h) (updates_of h4) (r.bucket c) (λ s _. (refl, refl, refl, refl)) marks b.roles other other.state (b.answered.readers k z other e theirs class)) j u there is;
-            loaded = λ j u other value there is class read. each_set (λ k z. z.section ≡ Some other → WasSaid (updates_of h4) other.key other.from (Some value)) vs id w4
+                (λ k z far e theirs. still_answer capacities c m m4 h h4 (updates_of h) (updates_of h4) (r.bucket c)
+                (λ s _. (refl, refl, refl, refl)) marks b.roles other other.state
+                (b.answered.readers k z other e theirs class)) j u there is;
+            loaded = λ j u other value there is class read. each_set
+                (λ k z. z.section ≡ Some other → WasSaid (updates_of h4) other.key other.from (Some value)) vs id w4
                 (λ mine. absurd (cc))
-                (λ k z far e theirs. still_said capacities c m m4 h h4 (updates_of h) (updates_of h4) (r.bucket c) (λ s _. (refl, refl, refl, refl)) marks b.roles other.key other.from (Some value) (b.answered.loaded k z other value e theirs class read)) j u there is;
+                (λ k z far e theirs. still_said capacities c m m4 h h4 (updates_of h) (updates_of h4) (r.bucket c)
+                (λ s _. (refl, refl, refl, refl)) marks b.roles other.key other.from (Some value)
+                (b.answered.loaded k z other value e theirs class read)) j u there is;
           };
         }
       where
@@ -325,7 +409,11 @@ module _ (capacities : List ℕ) (places tickets : ℕ) (m : Memory) (vs : List 
         (λ d small ne. record {
           words = readers_words capacities (section.key % 64) d m (m (Readers (section.key % 64)) - 1) ne;
           marks = same_marks4 d;
-          view = record { place = refl; section = subst (λ z. SameSection d z None) (sym inside) (λ e. ne (sym e)); hold = same_hold d v.hold };
+          view = record {
+            place = refl;
+            section = subst (λ z. SameSection d z None) (sym inside) (λ e. ne (sym e));
+            hold = same_hold d v.hold;
+          };
         })
 
     -- H5: where the search goes on, its way goes on
@@ -335,13 +423,16 @@ module _ (capacities : List ℕ) (places tickets : ℕ) (m : Memory) (vs : List 
 
       -- what the dictionary says now
       says : (answer : Option ℕ) → seek m section.key (r.bucket c).chain ≡ answer → WasSaid (updates_of h) section.key section.from answer
-      says answer is = subst (WasSaid (updates_of h) section.key section.from) ((r.buckets c small).mapped.answers section.key class ∙ is) (said_now (updates_of h) section.key section.from (r.sections.open_here id v section at inside).2)
+      says answer is = subst (WasSaid (updates_of h) section.key section.from) ((r.buckets c small).mapped.answers section.key class ∙ is)
+          (said_now (updates_of h) section.key section.from (r.sections.open_here id v section at inside).2)
 
       -- from the head
-      pub way_from_head : (link : ℕ) → link ≡ m (Head c) → WillAnswer capacities c m h (updates_of h) (r.bucket c).chain section (link_stand link)
+      pub way_from_head : (link : ℕ) → link ≡ m (Head c)
+          → WillAnswer capacities c m h (updates_of h) (r.bucket c).chain section (link_stand link)
       way_from_head link is = link_case (WillAnswer capacities c m h (updates_of h) (r.bucket c).chain section) link
           (λ e.
-          let none : (r.bucket c).chain ≡ [] = path_none (λ s. m (Next s)) (r.bucket c).chain (subst (λ z. IsPath (λ s. m (Next s)) z (r.bucket c).chain) (sym is ∙ e) (r.buckets c small).chained.path) in
+          let none : (r.bucket c).chain ≡ [] = path_none (λ s. m (Next s)) (r.bucket c).chain
+          (subst (λ z. IsPath (λ s. m (Next s)) z (r.bucket c).chain) (sym is ∙ e) (r.buckets c small).chained.path) in
           says None (ap (seek m section.key) none))
           (λ ne. record {
             olds = [];
@@ -356,14 +447,20 @@ module _ (capacities : List ℕ) (places tickets : ℕ) (m : Memory) (vs : List 
           })
 
       -- past a slot with another key
-      pub way_past : (slot link : ℕ) → HasWay capacities c m h (updates_of h) (r.bucket c).chain section slot → m (Key slot) ≢ section.key → link ≡ m (Next slot) → WillAnswer capacities c m h (updates_of h) (r.bucket c).chain section (link_stand link)
+      pub way_past : (slot link : ℕ) → HasWay capacities c m h (updates_of h) (r.bucket c).chain section slot → m (Key slot) ≢ section.key
+          → link ≡ m (Next slot) → WillAnswer capacities c m h (updates_of h) (r.bucket c).chain section (link_stand link)
       way_past slot link way other is = goes way.olds way.rest way.front way.path way.held way.slots way.joins way.said
         where
-          past : (olds rest front : List ℕ) → (link' : ℕ) → link' ≡ m (Next slot) → IsPath (λ s. m (Next s)) (m (Next slot)) (olds ++ rest) → AllByRecursion (IsHeldBack h section) olds → AllByRecursion (λ s. is_slot_of capacities c s ≡ true) olds → (r.bucket c).chain ≡ front ++ rest
-              → WasSaid (updates_of h) section.key section.from (seek m section.key (olds ++ rest)) → WillAnswer capacities c m h (updates_of h) (r.bucket c).chain section (link_stand link')
-          past olds rest front link' at_next path held slots joins said = link_case (WillAnswer capacities c m h (updates_of h) (r.bucket c).chain section) link'
+          past : (olds rest front : List ℕ) → (link' : ℕ) → link' ≡ m (Next slot) → IsPath (λ s. m (Next s)) (m (Next slot)) (olds ++ rest)
+              → AllByRecursion (IsHeldBack h section) olds → AllByRecursion (λ s. is_slot_of capacities c s ≡ true) olds
+              → (r.bucket c).chain ≡ front ++ rest
+              → WasSaid (updates_of h) section.key section.from (seek m section.key (olds ++ rest))
+              → WillAnswer capacities c m h (updates_of h) (r.bucket c).chain section (link_stand link')
+          past olds rest front link' at_next path held slots joins said =
+              link_case (WillAnswer capacities c m h (updates_of h) (r.bucket c).chain section) link'
               (λ e.
-              let none : olds ++ rest ≡ [] = path_none (λ s. m (Next s)) (olds ++ rest) (subst (λ z. IsPath (λ s. m (Next s)) z (olds ++ rest)) (sym at_next ∙ e) path) in
+              let none : olds ++ rest ≡ [] = path_none (λ s. m (Next s)) (olds ++ rest)
+              (subst (λ z. IsPath (λ s. m (Next s)) z (olds ++ rest)) (sym at_next ∙ e) path) in
               subst (λ z. WasSaid (updates_of h) section.key section.from (seek m section.key z)) none said)
               (λ ne. record {
                 olds = olds;
@@ -377,39 +474,52 @@ module _ (capacities : List ℕ) (places tickets : ℕ) (m : Memory) (vs : List 
                 said = said;
               })
 
-          goes : (olds rest front : List ℕ) → IsPath (λ s. m (Next s)) slot (olds ++ rest) → AllByRecursion (IsHeldBack h section) olds → AllByRecursion (λ s. is_slot_of capacities c s ≡ true) olds → (r.bucket c).chain ≡ front ++ rest
-              → WasSaid (updates_of h) section.key section.from (seek m section.key (olds ++ rest)) → WillAnswer capacities c m h (updates_of h) (r.bucket c).chain section (link_stand link)
+          goes : (olds rest front : List ℕ) → IsPath (λ s. m (Next s)) slot (olds ++ rest) → AllByRecursion (IsHeldBack h section) olds
+              → AllByRecursion (λ s. is_slot_of capacities c s ≡ true) olds → (r.bucket c).chain ≡ front ++ rest
+              → WasSaid (updates_of h) section.key section.from (seek m section.key (olds ++ rest))
+              → WillAnswer capacities c m h (updates_of h) (r.bucket c).chain section (link_stand link)
           goes [] [] front path held slots joins said = absurd (way.some path)
           goes [] (s ∷ ss) front path held slots joins said =
-              past [] ss (front ++ s ∷ []) link is (subst (λ z. IsPath (λ t. m (Next t)) (m (Next z)) ss) (sym path.0) path.2) tt tt (joins ∙ sym (append_assoc front (s ∷ []) ss))
-              (subst (WasSaid (updates_of h) section.key section.from) (seek_past m section.key s ss (λ e. other (ap (λ z. m (Key z)) path.0 ∙ e))) said)
+              past [] ss (front ++ s ∷ []) link is (subst (λ z. IsPath (λ t. m (Next t)) (m (Next z)) ss) (sym path.0) path.2) tt tt
+              (joins ∙ sym (append_assoc front (s ∷ []) ss))
+              (subst (WasSaid (updates_of h) section.key section.from)
+              (seek_past m section.key s ss (λ e. other (ap (λ z. m (Key z)) path.0 ∙ e))) said)
           goes (t ∷ ts) rest front path held slots joins said =
-              past ts rest front link is (subst (λ z. IsPath (λ u. m (Next u)) (m (Next z)) (ts ++ rest)) (sym path.0) path.2) held.1 slots.1 joins
-              (subst (WasSaid (updates_of h) section.key section.from) (seek_past m section.key t (ts ++ rest) (λ e. other (ap (λ z. m (Key z)) path.0 ∙ e))) said)
+              past ts rest front link is (subst (λ z. IsPath (λ u. m (Next u)) (m (Next z)) (ts ++ rest))
+              (sym path.0) path.2) held.1 slots.1 joins
+              (subst (WasSaid (updates_of h) section.key section.from)
+              (seek_past m section.key t (ts ++ rest) (λ e. other (ap (λ z. m (Key z)) path.0 ∙ e))) said)
 
       -- the value at the slot found
-      pub value_said : (slot : ℕ) → HasWay capacities c m h (updates_of h) (r.bucket c).chain section slot → m (Key slot) ≡ section.key → WasSaid (updates_of h) section.key section.from (Some (m (Value slot)))
+      pub value_said : (slot : ℕ) → HasWay capacities c m h (updates_of h) (r.bucket c).chain section slot → m (Key slot) ≡ section.key
+          → WasSaid (updates_of h) section.key section.from (Some (m (Value slot)))
       value_said slot way found =
           let first = path_cons (λ s. m (Next s)) slot (way.olds ++ way.rest) way.some way.path in
-          subst (WasSaid (updates_of h) section.key section.from) (ap (seek m section.key) first.1 ∙ seek_here m section.key slot first.0 found) way.said
+          subst (WasSaid (updates_of h) section.key section.from)
+          (ap (seek m section.key) first.1 ∙ seek_here m section.key slot first.0 found) way.said
 
     -- what the search will answer after a load, and what value it has loaded
     module _ (c : ℕ) (small : c < 64) (class : section.key % 64 ≡ c) (field : Field) (may : MayLoad section field) where
       abbrev Will : SearchState → Type 0
       Will state = WillAnswer capacities c m h (updates_of h) (r.bucket c).chain section state
 
-      will_case : (state : SearchState) (f : Field) → MayLoad (record section { state = state }) f → Will state → Will section.state → Will (searched section state f (m f)).state
+      will_case : (state : SearchState) (f : Field) → MayLoad (record section { state = state }) f → Will state → Will section.state
+          → Will (searched section state f (m f)).state
       will_case Start (Head d) may will now = way_from_head c small class (m (Head d)) (ap (λ z. m (Head z)) (sym may ∙ class))
       will_case (Unread s) (Key t) may will now =
           dite (ℕ_discrete (m (Key t)) section.key)
-          (λ e. subst Will (sym (ap (λ b. cond b (Found s) (Passed s)) (eq-eqb (m (Key t)) section.key e))) (will, ap (λ z. m (Key z)) may ∙ e))
-          (λ ne. subst Will (sym (ap (λ b. cond b (Found s) (Passed s)) (ne_eqb (m (Key t)) section.key ne))) (will, λ e. ne (ap (λ z. m (Key z)) (sym may) ∙ e)))
+          (λ e. subst Will (sym (ap (λ b. cond b (Found s) (Passed s)) (eq-eqb (m (Key t)) section.key e)))
+          (will, ap (λ z. m (Key z)) may ∙ e))
+          (λ ne. subst Will (sym (ap (λ b. cond b (Found s) (Passed s)) (ne_eqb (m (Key t)) section.key ne)))
+          (will, λ e. ne (ap (λ z. m (Key z)) (sym may) ∙ e)))
       will_case (Passed s) (Next t) may will now = way_past c small class s (m (Next t)) will.0 will.1 (ap (λ z. m (Next z)) (sym may))
       will_case (Found s) (Value t) may will now = now
       will_case _ _ may will now = now
 
-      loaded_case : (state : SearchState) (f : Field) → MayLoad (record section { state = state }) f → Will state → ((value : ℕ) → section.loaded ≡ Some value → WasSaid (updates_of h) section.key section.from (Some value))
-          → (value : ℕ) → (searched section state f (m f)).loaded ≡ Some value → WasSaid (updates_of h) section.key section.from (Some value)
+      loaded_case : (state : SearchState) (f : Field) → MayLoad (record section { state = state }) f → Will state
+          → ((value : ℕ) → section.loaded ≡ Some value → WasSaid (updates_of h) section.key section.from (Some value))
+          → (value : ℕ) → (searched section state f (m f)).loaded ≡ Some value
+          → WasSaid (updates_of h) section.key section.from (Some value)
       loaded_case (Found s) (Value t) may will now value is =
           let e : m (Value s) ≡ value = let z : m (Value t) ≡ value = cc in ap (λ y. m (Value y)) may ∙ z in
           subst (λ n. WasSaid (updates_of h) section.key section.from (Some n)) e (value_said c small class s will.0 will.1)
@@ -418,7 +528,8 @@ module _ (capacities : List ℕ) (places tickets : ℕ) (m : Memory) (vs : List 
       loaded_case (Passed s) (Next t) may will now value is = now value is
       loaded_case _ _ may will now value is = now value is
 
-    searched_same : (state : SearchState) (f : Field) (n : ℕ) → (open_of (searched section state f n) ≡ open_of section) × ((searched section state f n).from ≡ section.from)
+    searched_same : (state : SearchState) (f : Field) (n : ℕ)
+        → (open_of (searched section state f n) ≡ open_of section) × ((searched section state f n).from ≡ section.from)
     searched_same Start (Head d) n = (refl, refl)
     searched_same (Unread s) (Key t) n = (refl, refl)
     searched_same (Passed s) (Next t) n = (refl, refl)
@@ -444,8 +555,10 @@ module _ (capacities : List ℕ) (places tickets : ℕ) (m : Memory) (vs : List 
             places = record { place = refl; places = refl; joined = refl };
             tickets = refl;
             sections = refl;
-            back = λ new is. let e : section5 ≡ new = cc in let s = searched_same section.state field (m field) in (section, inside, ap open_of (sym e) ∙ s.0, ap (λ (z : Section). z.from) (sym e) ∙ s.1);
-            forth = λ old is. let e : section ≡ old = cc in (section5, refl, ap open_of (sym e) ∙ sym (searched_same section.state field (m field)).0);
+            back = λ new is. let e : section5 ≡ new = cc in let s = searched_same section.state field (m field) in
+                (section, inside, ap open_of (sym e) ∙ s.0, ap (λ (z : Section). z.from) (sym e) ∙ s.1);
+            forth = λ old is. let e : section ≡ old = cc in
+                (section5, refl, ap open_of (sym e) ∙ sym (searched_same section.state field (m field)).0);
             commit = refl;
             kept = λ commit hold is held. (hold, held);
             held = λ hold is. r.held.held id v hold at is;
@@ -453,7 +566,8 @@ module _ (capacities : List ℕ) (places tickets : ℕ) (m : Memory) (vs : List 
             heard = refl;
           }) refl refl
 
-      bucket5 : section.key % 64 < 64 → BucketRule capacities (section.key % 64) m h (updates_of h) (set vs id w5) (r.bucket (section.key % 64))
+      bucket5 : section.key % 64 < 64 → BucketRule capacities (section.key % 64) m h (updates_of h) (set vs id w5)
+          (r.bucket (section.key % 64))
       bucket5 small =
           let c : ℕ = section.key % 64 in
           let b = r.buckets c small in
@@ -479,21 +593,29 @@ module _ (capacities : List ℕ) (places tickets : ℕ) (m : Memory) (vs : List 
                 let l = free p id v section was at inside refl in
                 let f : section.entered ≡ new.entered = sym entered5 ∙ ap (λ (z : Section). z.entered) e in omega arith) b.clean;
             answered = record {
-              readers = λ j u new there is class. each_set (λ k z. z.section ≡ Some new → WillAnswer capacities c m h (updates_of h) (r.bucket c).chain new new.state) vs id w5
+              readers = λ j u new there is class. each_set
+                  (λ k z. z.section ≡ Some new → WillAnswer capacities c m h (updates_of h) (r.bucket c).chain new new.state) vs id w5
                   (λ mine. let e : section5 ≡ new = cc in
-                  subst (λ (z : Section). WillAnswer capacities c m h (updates_of h) (r.bucket c).chain z z.state) e (same_will c section5 section5.state (searched_same section.state field (m field)).0 (searched_same section.state field (m field)).1 (will_case c small refl field may section.state field may will will)))
+                  subst (λ (z : Section). WillAnswer capacities c m h (updates_of h) (r.bucket c).chain z z.state) e
+                  (same_will c section5 section5.state (searched_same section.state field (m field)).0
+                  (searched_same section.state field (m field)).1 (will_case c small refl field may section.state field may will will)))
                   (λ k z far e theirs. b.answered.readers k z new e theirs class) j u there is;
-              loaded = λ j u new value there is class read. each_set (λ k z. z.section ≡ Some new → WasSaid (updates_of h) new.key new.from (Some value)) vs id w5
+              loaded = λ j u new value there is class read. each_set
+                  (λ k z. z.section ≡ Some new → WasSaid (updates_of h) new.key new.from (Some value)) vs id w5
                   (λ mine. let e : section5 ≡ new = cc in
-                  let said = loaded_case c small refl field may section.state field may will (λ n has. b.answered.loaded id v section n at inside refl has) value (ap (λ (z : Section). z.loaded) e ∙ read) in
+                  let said = loaded_case c small refl field may section.state field may will
+                  (λ n has. b.answered.loaded id v section n at inside refl has) value (ap (λ (z : Section). z.loaded) e ∙ read) in
                   let s = searched_same section.state field (m field) in
-                  subst (λ (q : ℕ × ℕ). WasSaid (updates_of h) q.0 q.1 (Some value)) (λ i. ((sym key5 ∙ ap (λ (z : Section). z.key) e) i, (sym s.1 ∙ ap (λ (z : Section). z.from) e) i)) said)
+                  subst (λ (q : ℕ × ℕ). WasSaid (updates_of h) q.0 q.1 (Some value))
+                  (λ i. ((sym key5 ∙ ap (λ (z : Section). z.key) e) i, (sym s.1 ∙ ap (λ (z : Section). z.from) e) i)) said)
                   (λ k z far e theirs. b.answered.loaded k z new value e theirs class read) j u there is;
             };
           }
         where
           -- what is answered is read of the key, the entry and the front alone
-          same_will : (c : ℕ) (new : Section) (state : SearchState) → open_of new ≡ open_of section → new.from ≡ section.from → WillAnswer capacities c m h (updates_of h) (r.bucket c).chain section state → WillAnswer capacities c m h (updates_of h) (r.bucket c).chain new state
+          same_will : (c : ℕ) (new : Section) (state : SearchState) → open_of new ≡ open_of section → new.from ≡ section.from
+              → WillAnswer capacities c m h (updates_of h) (r.bucket c).chain section state
+              → WillAnswer capacities c m h (updates_of h) (r.bucket c).chain new state
           same_will c new state o f will = like state will
             where
               key : new.key ≡ section.key
@@ -502,23 +624,27 @@ module _ (capacities : List ℕ) (places tickets : ℕ) (m : Memory) (vs : List 
               entered : section.entered ≡ new.entered
               entered = ap (λ (z : Open). z.at) (sym o)
 
-              said_like : (answer : ℕ → Option ℕ) → WasSaid (updates_of h) section.key section.from (answer section.key) → WasSaid (updates_of h) new.key new.from (answer new.key)
+              said_like : (answer : ℕ → Option ℕ) → WasSaid (updates_of h) section.key section.from (answer section.key)
+                  → WasSaid (updates_of h) new.key new.from (answer new.key)
               said_like answer said = subst (λ (q : ℕ × ℕ). WasSaid (updates_of h) q.0 q.1 (answer q.0)) (λ i. (sym key i, sym f i)) said
 
-              way_like : (slot : ℕ) → HasWay capacities c m h (updates_of h) (r.bucket c).chain section slot → HasWay capacities c m h (updates_of h) (r.bucket c).chain new slot
+              way_like : (slot : ℕ) → HasWay capacities c m h (updates_of h) (r.bucket c).chain section slot
+                  → HasWay capacities c m h (updates_of h) (r.bucket c).chain new slot
               way_like slot way = record {
                 olds = way.olds;
                 front = way.front;
                 rest = way.rest;
                 some = way.some;
                 path = way.path;
-                held = all_map (IsHeldBack h section) (IsHeldBack h new) way.olds (λ t p. (p.0, p.1, subst (λ z. z < p.0) entered p.2)) way.held;
+                held = all_map (IsHeldBack h section) (IsHeldBack h new) way.olds
+                    (λ t p. (p.0, p.1, subst (λ z. z < p.0) entered p.2)) way.held;
                 slots = way.slots;
                 joins = way.joins;
                 said = said_like (λ k. seek m k (way.olds ++ way.rest)) way.said;
               }
 
-              like : (st : SearchState) → WillAnswer capacities c m h (updates_of h) (r.bucket c).chain section st → WillAnswer capacities c m h (updates_of h) (r.bucket c).chain new st
+              like : (st : SearchState) → WillAnswer capacities c m h (updates_of h) (r.bucket c).chain section st
+                  → WillAnswer capacities c m h (updates_of h) (r.bucket c).chain new st
               like Start w = tt
               like (Unread s) w = way_like s w
               like (Passed s) w = (way_like s w.0, λ e. w.1 (e ∙ key))
@@ -531,5 +657,10 @@ module _ (capacities : List ℕ) (places tickets : ℕ) (m : Memory) (vs : List 
           (λ d small ne. record {
             words = same_words capacities d m;
             marks = same_marks capacities d h;
-            view = record { place = refl; section = subst (λ z. SameSection d z w5.section) (sym inside) (inr (λ e. ne (sym e), λ e. ne (sym e ∙ ap (λ k. k % 64) key5))); hold = same_hold d v.hold };
+            view = record {
+              place = refl;
+              section = subst (λ z. SameSection d z w5.section) (sym inside)
+                  (inr (λ e. ne (sym e), λ e. ne (sym e ∙ ap (λ k. k % 64) key5)));
+              hold = same_hold d v.hold;
+            };
           })

@@ -33,23 +33,30 @@ module _ {A : Type 0} where
   end_else (x ∷ xs) a b (suc j) e = end_else xs a b j e
 
   -- a fact of each element, after one has changed and another has come
-  each_split : (P : ℕ → A → Type 0) (vs : List A) (id : ℕ) (v w : A) → P id v → P (length (set vs id v)) w → ((j : ℕ) (u : A) → j ≢ id → get_elem? vs j ≡ some u → P j u)
+  each_split : (P : ℕ → A → Type 0) (vs : List A) (id : ℕ) (v w : A) → P id v → P (length (set vs id v)) w
+      → ((j : ℕ) (u : A) → j ≢ id → get_elem? vs j ≡ some u → P j u)
       → (j : ℕ) (u : A) → get_elem? (set vs id v ++ w ∷ []) j ≡ some u → P j u
   each_split P vs id v w first second others j u e = elim (at_end (set vs id v) w u j e) [ inl there ↦ each_set P vs id v first others j u there | inr new ↦ subst (λ (x : ℕ × A). P x.0 x.1) (λ i. (sym new.0 i, new.1 i)) second ]
 
 -- a place that left no marks entered no section
 no_entered : (p : ℕ) (h : List Mark) → own_of p h ≡ [] → entered_at p h ≡ 0
 no_entered p [] none = refl
-no_entered p (Entered q c x ∷ h) none = elim (q == p) as (λ b. cond b (Entered q c x ∷ own_of p h) (own_of p h) ≡ [] → cond b 1 0 + entered_at p h ≡ 0) [ true ↦ λ e. absurd (cc) | false ↦ λ e. let rest = no_entered p h e in omega arith ] none
-no_entered p (Left q c ∷ h) none = elim (q == p) as (λ b. cond b (Left q c ∷ own_of p h) (own_of p h) ≡ [] → entered_at p h ≡ 0) [ true ↦ λ e. absurd (cc) | false ↦ λ e. no_entered p h e ] none
-no_entered p (Began q c a b ∷ h) none = elim (q == p) as (λ t. cond t (Began q c a b ∷ own_of p h) (own_of p h) ≡ [] → entered_at p h ≡ 0) [ true ↦ λ e. absurd (cc) | false ↦ λ e. no_entered p h e ] none
-no_entered p (Ended q c ∷ h) none = elim (q == p) as (λ b. cond b (Ended q c ∷ own_of p h) (own_of p h) ≡ [] → entered_at p h ≡ 0) [ true ↦ λ e. absurd (cc) | false ↦ λ e. no_entered p h e ] none
-no_entered p (Done u ∷ h) none = elim (u.caller == p) as (λ b. cond b (Done u ∷ own_of p h) (own_of p h) ≡ [] → entered_at p h ≡ 0) [ true ↦ λ e. absurd (cc) | false ↦ λ e. no_entered p h e ] none
+no_entered p (Entered q c x ∷ h) none = elim (q == p) as (λ b. cond b (Entered q c x ∷ own_of p h) (own_of p h) ≡ []
+    → cond b 1 0 + entered_at p h ≡ 0) [ true ↦ λ e. absurd (cc) | false ↦ λ e. let rest = no_entered p h e in omega arith ] none
+no_entered p (Left q c ∷ h) none = elim (q == p) as (λ b. cond b (Left q c ∷ own_of p h) (own_of p h) ≡ []
+    → entered_at p h ≡ 0) [ true ↦ λ e. absurd (cc) | false ↦ λ e. no_entered p h e ] none
+no_entered p (Began q c a b ∷ h) none = elim (q == p) as (λ t. cond t (Began q c a b ∷ own_of p h) (own_of p h) ≡ []
+    → entered_at p h ≡ 0) [ true ↦ λ e. absurd (cc) | false ↦ λ e. no_entered p h e ] none
+no_entered p (Ended q c ∷ h) none = elim (q == p) as (λ b. cond b (Ended q c ∷ own_of p h) (own_of p h) ≡ []
+    → entered_at p h ≡ 0) [ true ↦ λ e. absurd (cc) | false ↦ λ e. no_entered p h e ] none
+no_entered p (Done u ∷ h) none = elim (u.caller == p) as (λ b. cond b (Done u ∷ own_of p h) (own_of p h) ≡ []
+    → entered_at p h ≡ 0) [ true ↦ λ e. absurd (cc) | false ↦ λ e. no_entered p h e ] none
 no_entered p (Given s ∷ h) none = no_entered p h none
 no_entered p (Unlinked s ∷ h) none = no_entered p h none
 no_entered p (Freed s ∷ h) none = no_entered p h none
 
-module _ (capacities : List ℕ) (places tickets : ℕ) (m : Memory) (vs : List View) (h : List Mark) (r : MemoryRule capacities places tickets m vs h) (id : ℕ) (v : View) (at : get_elem? vs id ≡ some v) where
+module _ (capacities : List ℕ) (places tickets : ℕ) (m : Memory) (vs : List View) (h : List Mark)
+    (r : MemoryRule capacities places tickets m vs h) (id : ℕ) (v : View) (at : get_elem? vs id ≡ some v) where
   -- the place of another view isn't this view's
   not_other : (j p : ℕ) (u : View) → j ≢ id → get_elem? vs j ≡ some u → AnswersFor u p → AnswersFor v p → ⊥
   not_other j p u far there theirs mine = far (r.apart.apart j id p u v there at theirs mine)
@@ -67,12 +74,14 @@ module _ (capacities : List ℕ) (places tickets : ℕ) (m : Memory) (vs : List 
     some_first : p < v.places
     some_first = needs.2
 
-    each1 : (P : ℕ → View → Type 0) → P id first1 → P (length (set vs id first1)) second1 → ((j : ℕ) (u : View) → j ≢ id → get_elem? vs j ≡ some u → P j u) → (j : ℕ) (u : View) → get_elem? vs1 j ≡ some u → P j u
+    each1 : (P : ℕ → View → Type 0) → P id first1 → P (length (set vs id first1)) second1
+        → ((j : ℕ) (u : View) → j ≢ id → get_elem? vs j ≡ some u → P j u) → (j : ℕ) (u : View) → get_elem? vs1 j ≡ some u → P j u
     each1 P = each_split P vs id first1 second1
 
     -- the second view's places were the first's, and not its first place
     second_place : (q : ℕ) → AnswersFor second1 q → HasPlace v q × (q ≢ v.place) × (v.place + v.places - p ≤ q)
-    second_place q (inl has) = let low = has.0 in let high = has.1 in let less = some_first in ((omega arith, omega arith), (λ e. omega arith), low)
+    second_place q (inl has) = let low = has.0 in let high = has.1 in let less = some_first in
+        ((omega arith, omega arith), (λ e. omega arith), low)
     second_place q (inr joined) = absurd (omega arith)
 
     first_answers : (q : ℕ) → AnswersFor first1 q → AnswersFor v q
@@ -98,26 +107,36 @@ module _ (capacities : List ℕ) (places tickets : ℕ) (m : Memory) (vs : List 
       begins = each1 (λ j u. IsPrefix u.seen h) (r.seen.begins id v at) (r.seen.begins id v at) (λ j u _ e. r.seen.begins j u e);
       heard = each1 (λ j u. HasHeard u) (r.seen.heard id v at) tt (λ j u _ e. r.seen.heard j u e);
       longest = let l = r.seen.longest in dite (ℕ_discrete l.0 id)
-          (λ e. let same : v ≡ l.1 = at_one vs id v l.1 at (subst (λ k. get_elem? vs k ≡ some l.1) e l.2) in
-          (id, first1, end_else (set vs id first1) second1 first1 id (set_here vs id first1 (at_below vs id v at)), ap (λ (z : View). z.seen) same ∙ l.3))
+          (λ e. let same : v ≡ l.1 = at_one vs id v l.1 at (subst (λ k. get_elem? vs k ≡ some l.1) e l.2) in (
+            id,
+            first1,
+            end_else (set vs id first1) second1 first1 id (set_here vs id first1 (at_below vs id v at)),
+            ap (λ (z : View). z.seen) same ∙ l.3,
+          ))
           (λ far. (l.0, l.1, end_else (set vs id first1) second1 l.1 l.0 (set_else vs id l.0 first1 far ∙ l.2), l.3));
     }
 
     apart1 : AreApart places vs1
     apart1 = record {
-      within = λ j u q there a. each1 (λ k z. AnswersFor z q → q < places) (λ b. r.apart.within id v q at (first_answers q b)) (λ b. r.apart.within id v q at (second_answers q b)) (λ k z _ e b. r.apart.within k z q e b) j u there a;
+      within = λ j u q there a. each1 (λ k z. AnswersFor z q → q < places) (λ b. r.apart.within id v q at (first_answers q b))
+          (λ b. r.apart.within id v q at (second_answers q b)) (λ k z _ e b. r.apart.within k z q e b) j u there a;
       apart = λ i j q a b ei ej aa ab. each1 (λ k z. AnswersFor z q → k ≡ j)
-          (λ f. each1 (λ l y. AnswersFor y q → id ≡ l) (λ _. refl) (λ s. absurd (never_both q f s)) (λ l y far e o. absurd (not_other l q y far e o (first_answers q f))) j b ej ab)
-          (λ s. each1 (λ l y. AnswersFor y q → length (set vs id first1) ≡ l) (λ f. absurd (never_both q f s)) (λ _. refl) (λ l y far e o. absurd (not_other l q y far e o (second_answers q s))) j b ej ab)
-          (λ k z far e o. each1 (λ l y. AnswersFor y q → k ≡ l) (λ f. absurd (not_other k q z far e o (first_answers q f))) (λ s. absurd (not_other k q z far e o (second_answers q s))) (λ l y _ g n. r.apart.apart k l q z y e g o n) j b ej ab)
+          (λ f. each1 (λ l y. AnswersFor y q → id ≡ l) (λ _. refl) (λ s. absurd (never_both q f s))
+          (λ l y far e o. absurd (not_other l q y far e o (first_answers q f))) j b ej ab)
+          (λ s. each1 (λ l y. AnswersFor y q → length (set vs id first1) ≡ l) (λ f. absurd (never_both q f s)) (λ _. refl)
+          (λ l y far e o. absurd (not_other l q y far e o (second_answers q s))) j b ej ab)
+          (λ k z far e o. each1 (λ l y. AnswersFor y q → k ≡ l) (λ f. absurd (not_other k q z far e o (first_answers q f)))
+          (λ s. absurd (not_other k q z far e o (second_answers q s))) (λ l y _ g n. r.apart.apart k l q z y e g o n) j b ej ab)
           i a ei aa;
       joined = λ j u q there has. each1 (λ k z. HasPlace z q → times q z.joined ≡ 0)
-          (λ mine. r.apart.joined id v q at (let low = mine.0 in let high = mine.1 in (low, omega arith))) (λ _. refl) (λ k z _ e theirs. r.apart.joined k z q e theirs) j u there has;
+          (λ mine. r.apart.joined id v q at (let low = mine.0 in let high = mine.1 in (low, omega arith))) (λ _. refl)
+          (λ k z _ e theirs. r.apart.joined k z q e theirs) j u there has;
     }
 
     -- the second view's places left no marks
     second_own : (q : ℕ) → AnswersFor second1 q → (own_of q v.own ≡ []) × (own_of q h ≡ [])
-    second_own q a = let s = second_place q a in let none = r.owned.unused id v q at s.0 s.1 in (none, r.owned.own id v q at (inl s.0) ∙ none)
+    second_own q a = let s = second_place q a in let none = r.owned.unused id v q at s.0 s.1 in
+        (none, r.owned.own id v q at (inl s.0) ∙ none)
 
     first_none : (q : ℕ) → (AnswersFor first1 q → ⊥) → own_of q v.own ≡ []
     first_none q not_first =
@@ -131,12 +150,14 @@ module _ (capacities : List ℕ) (places tickets : ℕ) (m : Memory) (vs : List 
       own = λ j u q there a. each1 (λ k z. AnswersFor z q → own_of q h ≡ own_of q z.own)
           (λ f. r.owned.own id v q at (first_answers q f)) (λ s. (second_own q s).1) (λ k z _ e o. r.owned.own k z q e o) j u there a;
       met = λ j u q there a. each1 (λ k z. AnswersFor z q → own_of q z.seen ≡ own_of q z.own)
-          (λ f. r.owned.met id v q at (first_answers q f)) (λ s. r.owned.met id v q at (second_answers q s) ∙ (second_own q s).0) (λ k z _ e o. r.owned.met k z q e o) j u there a;
+          (λ f. r.owned.met id v q at (first_answers q f)) (λ s. r.owned.met id v q at (second_answers q s) ∙ (second_own q s).0)
+          (λ k z _ e o. r.owned.met k z q e o) j u there a;
       within = r.owned.within;
       none = λ j u q there a. each1 (λ k z. (AnswersFor z q → ⊥) → own_of q z.own ≡ [])
           (first_none q) (λ _. refl) (λ k z _ e o. r.owned.none k z q e o) j u there a;
       unused = λ j u q there has far. each1 (λ k z. HasPlace z q → q ≢ z.place → own_of q z.own ≡ [])
-          (λ f ne. r.owned.unused id v q at (let low = f.0 in let high = f.1 in (low, omega arith)) ne) (λ _ _. refl) (λ k z _ e o ne. r.owned.unused k z q e o ne) j u there has far;
+          (λ f ne. r.owned.unused id v q at (let low = f.0 in let high = f.1 in (low, omega arith)) ne) (λ _ _. refl)
+          (λ k z _ e o ne. r.owned.unused k z q e o ne) j u there has far;
     }
 
     turn1 : HasNoCommit v
@@ -150,7 +171,8 @@ module _ (capacities : List ℕ) (places tickets : ℕ) (m : Memory) (vs : List 
 
     busy1 : SameBusy vs vs1
     busy1 = record {
-      back = each1 (λ j u. (get_elem? vs j ≡ some u) ⊎ (IsQuiet u × HasNoCommit u)) (inr (needs.0, turn1)) (inr ((refl, refl), refl)) (λ j u _ e. inl e);
+      back = each1 (λ j u. (get_elem? vs j ≡ some u) ⊎ (IsQuiet u × HasNoCommit u)) (inr (needs.0, turn1)) (inr ((refl, refl), refl))
+          (λ j u _ e. inl e);
       forth = λ j u e. dite (ℕ_discrete j id)
           (λ same. inr (subst IsQuiet (at_one vs id v u at (subst (λ k. get_elem? vs k ≡ some u) same e)) needs.0))
           (λ far. inl (end_else (set vs id first1) second1 u j (set_else vs id j first1 far ∙ e)));
@@ -174,7 +196,8 @@ module _ (capacities : List ℕ) (places tickets : ℕ) (m : Memory) (vs : List 
     pub law1 : MemoryRule capacities places tickets m (set vs id (first_of p t v) ++ second_of p t v ∷ []) h
     law1 = rule_busy vs vs1 busy1 capacities places tickets m h r seen1 apart1 owned1 entered1 tickets1
 
-module _ (capacities : List ℕ) (places tickets : ℕ) (m : Memory) (vs : List View) (h : List Mark) (r : MemoryRule capacities places tickets m vs h) (id : ℕ) (v : View) (at : get_elem? vs id ≡ some v)
+module _ (capacities : List ℕ) (places tickets : ℕ) (m : Memory) (vs : List View) (h : List Mark)
+    (r : MemoryRule capacities places tickets m vs h) (id : ℕ) (v : View) (at : get_elem? vs id ≡ some v)
     (j : ℕ) (other : View) (there : get_elem? vs j ≡ some other) (two : id ≢ j) (quiet : IsQuiet v) (quiet_other : IsQuiet other) where
   abbrev both2 : View
   both2 = both_of v other
@@ -182,8 +205,10 @@ module _ (capacities : List ℕ) (places tickets : ℕ) (m : Memory) (vs : List 
   abbrev vs2 : List View
   vs2 = set (set vs id both2) j spent
 
-  each2 : (P : ℕ → View → Type 0) → P id both2 → P j spent → ((k : ℕ) (u : View) → k ≢ id → k ≢ j → get_elem? vs k ≡ some u → P k u) → (k : ℕ) (u : View) → get_elem? vs2 k ≡ some u → P k u
-  each2 P both gone others = each_set P (set vs id both2) j spent gone (λ k u far e. each_set (λ l y. l ≢ j → P l y) vs id both2 (λ _. both) (λ l y ne g not_j. others l y ne not_j g) k u e far)
+  each2 : (P : ℕ → View → Type 0) → P id both2 → P j spent → ((k : ℕ) (u : View) → k ≢ id → k ≢ j → get_elem? vs k ≡ some u → P k u)
+      → (k : ℕ) (u : View) → get_elem? vs2 k ≡ some u → P k u
+  each2 P both gone others = each_set P (set vs id both2) j spent gone
+      (λ k u far e. each_set (λ l y. l ≢ j → P l y) vs id both2 (λ _. both) (λ l y ne g not_j. others l y ne not_j g) k u e far)
 
   both_at : get_elem? vs2 id ≡ some both2
   both_at = set_else (set vs id both2) j id spent two ∙ set_here vs id both2 (at_below vs id v at)
@@ -201,8 +226,10 @@ module _ (capacities : List ℕ) (places tickets : ℕ) (m : Memory) (vs : List 
   spent_none q (inl has) = let high = has.1 in omega arith
   spent_none q (inr joined) = omega arith
 
-  joined_times : (q : ℕ) → times q both2.joined ≡ times q v.joined + (times q (numbers_from other.place other.places) + times q other.joined)
-  joined_times q = let outer = times_append q v.joined (numbers_from other.place other.places ++ other.joined) in let inner = times_append q (numbers_from other.place other.places) other.joined in omega arith
+  joined_times : (q : ℕ) → times q both2.joined ≡ times q v.joined
+      + (times q (numbers_from other.place other.places) + times q other.joined)
+  joined_times q = let outer = times_append q v.joined (numbers_from other.place other.places ++ other.joined) in
+      let inner = times_append q (numbers_from other.place other.places) other.joined in omega arith
 
   from_both : (q : ℕ) → AnswersFor both2 q → AnswersFor v q ⊎ AnswersFor other q
   from_both q (inl has) = inl (inl has)
@@ -219,7 +246,8 @@ module _ (capacities : List ℕ) (places tickets : ℕ) (m : Memory) (vs : List 
   mine_both q (inr joined) = inr (let sum = joined_times q in omega arith)
 
   theirs_both : (q : ℕ) → AnswersFor other q → AnswersFor both2 q
-  theirs_both q (inl has) = inr (let sum = joined_times q in let some_time = from_times q other.place other.places has.0 has.1 in omega arith)
+  theirs_both q (inl has) = inr (let sum = joined_times q in let some_time = from_times q other.place other.places has.0 has.1 in
+      omega arith)
   theirs_both q (inr joined) = inr (let sum = joined_times q in omega arith)
 
   -- no third view answers for a place of the two
@@ -244,7 +272,8 @@ module _ (capacities : List ℕ) (places tickets : ℕ) (m : Memory) (vs : List 
       (id, both2, both_at, longer_whole_first v.seen other.seen h mine_seen theirs_seen whole))
       (λ not_id. dite (ℕ_discrete l.0 j)
       (λ e.
-      let whole : other.seen ≡ h = ap (λ (z : View). z.seen) (at_one vs j other l.1 there (subst (λ k. get_elem? vs k ≡ some l.1) e l.2)) ∙ l.3 in
+      let whole : other.seen ≡ h = ap (λ (z : View). z.seen) (at_one vs j other l.1 there (subst (λ k. get_elem? vs k ≡ some l.1) e l.2))
+      ∙ l.3 in
       (id, both2, both_at, longer_whole_second v.seen other.seen h mine_seen theirs_seen whole))
       (λ not_j. (l.0, l.1, else_at l.0 l.1 not_id not_j l.2, l.3)))
 
@@ -261,13 +290,19 @@ module _ (capacities : List ℕ) (places tickets : ℕ) (m : Memory) (vs : List 
     (
       longer_theirs,
       all_append (λ s. IsPrefix s both2.seen) v.heard other.heard
-          (all_map (λ s. IsPrefix s v.seen) (λ s. IsPrefix s both2.seen) v.heard (λ s p. prefix_trans s v.seen both2.seen p longer_mine) (r.seen.heard id v at))
-          (all_map (λ s. IsPrefix s other.seen) (λ s. IsPrefix s both2.seen) other.heard (λ s p. prefix_trans s other.seen both2.seen p longer_theirs) (r.seen.heard j other there)),
+          (all_map (λ s. IsPrefix s v.seen) (λ s. IsPrefix s both2.seen) v.heard (λ s p. prefix_trans s v.seen both2.seen p longer_mine)
+          (r.seen.heard id v at))
+          (all_map (λ s. IsPrefix s other.seen) (λ s. IsPrefix s both2.seen) other.heard
+          (λ s p. prefix_trans s other.seen both2.seen p longer_theirs) (r.seen.heard j other there)),
     ),
   )
 
   seen2 : AreSeen vs2 h
-  seen2 = record { begins = each2 (λ k u. IsPrefix u.seen h) both_seen (h, refl) (λ k u _ _ e. r.seen.begins k u e); heard = each2 (λ k u. HasHeard u) heard2 tt (λ k u _ _ e. r.seen.heard k u e); longest = longest2 }
+  seen2 = record {
+    begins = each2 (λ k u. IsPrefix u.seen h) both_seen (h, refl) (λ k u _ _ e. r.seen.begins k u e);
+    heard = each2 (λ k u. HasHeard u) heard2 tt (λ k u _ _ e. r.seen.heard k u e);
+    longest = longest2;
+  }
 
   apart2 : AreApart places vs2
   apart2 = record {
@@ -275,9 +310,11 @@ module _ (capacities : List ℕ) (places tickets : ℕ) (m : Memory) (vs : List 
         (λ b. elim (from_both q b) [ inl mine ↦ r.apart.within id v q at mine | inr theirs ↦ r.apart.within j other q there theirs ])
         (λ b. absurd (spent_none q b)) (λ l y _ _ g b. r.apart.within l y q g b) k u e a;
     apart = λ k l q a b ek el aa ab. each2 (λ i z. AnswersFor z q → i ≡ l)
-        (λ f. each2 (λ n y. AnswersFor y q → id ≡ n) (λ _. refl) (λ s. absurd (spent_none q s)) (λ n y not_id not_j g o. absurd (not_third n q y not_id not_j g o f)) l b el ab)
+        (λ f. each2 (λ n y. AnswersFor y q → id ≡ n) (λ _. refl) (λ s. absurd (spent_none q s))
+        (λ n y not_id not_j g o. absurd (not_third n q y not_id not_j g o f)) l b el ab)
         (λ s. absurd (spent_none q s))
-        (λ i z not_id not_j g o. each2 (λ n y. AnswersFor y q → i ≡ n) (λ f. absurd (not_third i q z not_id not_j g o f)) (λ s. absurd (spent_none q s)) (λ n y _ _ gn on. r.apart.apart i n q z y g gn o on) l b el ab)
+        (λ i z not_id not_j g o. each2 (λ n y. AnswersFor y q → i ≡ n) (λ f. absurd (not_third i q z not_id not_j g o f))
+        (λ s. absurd (spent_none q s)) (λ n y _ _ gn on. r.apart.apart i n q z y g gn o on) l b el ab)
         k a ek aa;
     joined = λ k u q e has. each2 (λ l y. HasPlace y q → times q y.joined ≡ 0)
         (λ mine.
@@ -295,13 +332,15 @@ module _ (capacities : List ℕ) (places tickets : ℕ) (m : Memory) (vs : List 
   own_append q = own_of-append q v.own other.own
 
   own_mine : (q : ℕ) → AnswersFor v q → own_of q both2.own ≡ own_of q v.own
-  own_mine q mine = own_append q ∙ ap (λ z. own_of q v.own ++ z) (r.owned.none j other q there (not_two q mine)) ∙ append-nil (own_of q v.own)
+  own_mine q mine = own_append q ∙ ap (λ z. own_of q v.own ++ z) (r.owned.none j other q there (not_two q mine))
+      ∙ append-nil (own_of q v.own)
 
   own_theirs : (q : ℕ) → AnswersFor other q → own_of q both2.own ≡ own_of q other.own
   own_theirs q theirs = own_append q ∙ ap (λ z. z ++ own_of q other.own) (r.owned.none id v q at (λ mine. not_two q mine theirs))
 
   -- what is between a list that has all marks of a place and the whole list has them too
-  met_longer : (q : ℕ) (u : View) → own_of q u.seen ≡ own_of q u.own → own_of q h ≡ own_of q u.own → IsPrefix u.seen both2.seen → own_of q both2.seen ≡ own_of q u.own
+  met_longer : (q : ℕ) (u : View) → own_of q u.seen ≡ own_of q u.own → own_of q h ≡ own_of q u.own → IsPrefix u.seen both2.seen
+      → own_of q both2.seen ≡ own_of q u.own
   met_longer q u met whole longer = own_of-between q u.seen both2.seen h longer both_seen (met ∙ sym whole) ∙ met
 
   owned2 : AreOwned places vs2 h
@@ -312,12 +351,14 @@ module _ (capacities : List ℕ) (places tickets : ℕ) (m : Memory) (vs : List 
     met = λ k u q e a. each2 (λ l y. AnswersFor y q → own_of q y.seen ≡ own_of q y.own)
         (λ b. elim (from_both q b) [
           | inl mine ↦ met_longer q v (r.owned.met id v q at mine) (r.owned.own id v q at mine) longer_mine ∙ sym (own_mine q mine)
-          | inr theirs ↦ met_longer q other (r.owned.met j other q there theirs) (r.owned.own j other q there theirs) longer_theirs ∙ sym (own_theirs q theirs)
+          | inr theirs ↦ met_longer q other (r.owned.met j other q there theirs) (r.owned.own j other q there theirs) longer_theirs
+              ∙ sym (own_theirs q theirs)
         ])
         (λ s. absurd (spent_none q s)) (λ l y _ _ g o. r.owned.met l y q g o) k u e a;
     within = r.owned.within;
     none = λ k u q e a. each2 (λ l y. (AnswersFor y q → ⊥) → own_of q y.own ≡ [])
-        (λ not_both. own_append q ∙ ap (λ z. z ++ own_of q other.own) (r.owned.none id v q at (λ mine. not_both (mine_both q mine))) ∙ r.owned.none j other q there (λ theirs. not_both (theirs_both q theirs)))
+        (λ not_both. own_append q ∙ ap (λ z. z ++ own_of q other.own) (r.owned.none id v q at (λ mine. not_both (mine_both q mine)))
+        ∙ r.owned.none j other q there (λ theirs. not_both (theirs_both q theirs)))
         (λ _. refl) (λ l y _ _ g o. r.owned.none l y q g o) k u e a;
     unused = λ k u q e has far. each2 (λ l y. HasPlace y q → q ≢ y.place → own_of q y.own ≡ [])
         (λ mine ne. own_mine q (inl mine) ∙ r.owned.unused id v q at mine ne)
@@ -333,7 +374,8 @@ module _ (capacities : List ℕ) (places tickets : ℕ) (m : Memory) (vs : List 
 
   busy2 : SameBusy vs vs2
   busy2 = record {
-    back = each2 (λ k u. (get_elem? vs k ≡ some u) ⊎ (IsQuiet u × HasNoCommit u)) (inr (quiet, quiet_turn m vs (length (updates_of h)) r.turned id v at quiet.1)) (inr ((refl, refl), refl)) (λ k u _ _ e. inl e);
+    back = each2 (λ k u. (get_elem? vs k ≡ some u) ⊎ (IsQuiet u × HasNoCommit u))
+        (inr (quiet, quiet_turn m vs (length (updates_of h)) r.turned id v at quiet.1)) (inr ((refl, refl), refl)) (λ k u _ _ e. inl e);
     forth = λ k u e. dite (ℕ_discrete k id)
         (λ same. inr (subst IsQuiet (at_one vs id v u at (subst (λ l. get_elem? vs l ≡ some u) same e)) quiet))
         (λ not_id. dite (ℕ_discrete k j)
@@ -343,7 +385,8 @@ module _ (capacities : List ℕ) (places tickets : ℕ) (m : Memory) (vs : List 
   }
 
   entered2 : (k : ℕ) (u : View) → get_elem? vs2 k ≡ some u → 1 ≤ u.places → u.sections ≡ entered_at u.place h
-  entered2 = each2 (λ k u. 1 ≤ u.places → u.sections ≡ entered_at u.place h) (λ works. r.sections.entered id v at works) (λ works. absurd (omega arith)) (λ k u _ _ e. r.sections.entered k u e)
+  entered2 = each2 (λ k u. 1 ≤ u.places → u.sections ≡ entered_at u.place h) (λ works. r.sections.entered id v at works)
+      (λ works. absurd (omega arith)) (λ k u _ _ e. r.sections.entered k u e)
 
   tickets2 : total (λ (z : View). z.tickets) vs2 ≡ total (λ (z : View). z.tickets) vs
   tickets2 =

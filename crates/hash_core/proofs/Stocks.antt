@@ -45,7 +45,9 @@ use Rattle.hash_core.proofs.Locks.{counted_still, free_still, answered_still, ho
 use Rattle.hash_core.proofs.Ways.{KeepsWays, will_still}
 use Rattle.hash_core.proofs.Whole.{SeatsRule, after_step}
 
-module _ (capacities : List ℕ) (places tickets : ℕ) (m : Memory) (vs : List View) (h : List Mark) (r : MemoryRule capacities places tickets m vs h) (id : ℕ) (v : View) (at : get_elem? vs id ≡ some v) (hold : Hold) (mine : v.hold ≡ Some hold) where
+module _ (capacities : List ℕ) (places tickets : ℕ) (m : Memory) (vs : List View) (h : List Mark)
+    (r : MemoryRule capacities places tickets m vs h) (id : ℕ) (v : View) (at : get_elem? vs id ≡ some v) (hold : Hold)
+    (mine : v.hold ≡ Some hold) where
   abbrev c : ℕ
   c = hold.class
 
@@ -62,31 +64,41 @@ module _ (capacities : List ℕ) (places tickets : ℕ) (m : Memory) (vs : List 
   had = holder_of capacities places tickets m vs h r id v at hold.class small hold mine refl
 
   -- what the holder knows is so
-  pub is_known : (field : Field) (number : ℕ) → known_in hold.known field ≡ Some number → IsOfClass capacities hold.class field × (m field ≡ number)
+  pub is_known : (field : Field) (number : ℕ) → known_in hold.known field ≡ Some number
+      → IsOfClass capacities hold.class field × (m field ≡ number)
   is_known field number found = rule.known.known hold field number had found
 
   -- what it knows after a store
-  pub known_after : (field : Field) (number : ℕ) → IsOfClass capacities hold.class field → (new : Hold) → new.known ≡ (knowing hold field number).known → IsKnown capacities hold.class (stored m field number) (Some new)
+  pub known_after : (field : Field) (number : ℕ) → IsOfClass capacities hold.class field → (new : Hold)
+      → new.known ≡ (knowing hold field number).known → IsKnown capacities hold.class (stored m field number) (Some new)
   known_after field number of new same = record {
     known = λ other f n is found.
         let e : new ≡ other = cc in
-        let there : known_in (knowing hold field number).known f ≡ Some n = ap (λ k. known_in k f) (sym same) ∙ ap (λ (z : Hold). known_in z.known f) e ∙ found in
+        let there : known_in (knowing hold field number).known f ≡ Some n =
+        ap (λ k. known_in k f) (sym same) ∙ ap (λ (z : Hold). known_in z.known f) e ∙ found in
         known_case f n (same_field field f) refl there;
   }
     where
-      known_case : (f : Field) (n : ℕ) (t : Bool) → same_field field f ≡ t → cond t (Some number) (known_in hold.known f) ≡ Some n → IsOfClass capacities hold.class f × (stored m field number f ≡ n)
-      known_case f n true is e = let q : field ≡ f = same_is field f is in (subst (IsOfClass capacities hold.class) q of, ap (λ t. cond t number (m f)) is ∙ cc)
+      known_case : (f : Field) (n : ℕ) (t : Bool) → same_field field f ≡ t → cond t (Some number) (known_in hold.known f) ≡ Some n
+          → IsOfClass capacities hold.class f × (stored m field number f ≡ n)
+      known_case f n true is e = let q : field ≡ f = same_is field f is in
+          (subst (IsOfClass capacities hold.class) q of, ap (λ t. cond t number (m f)) is ∙ cc)
       known_case f n false is e = let k = is_known f n e in (k.0, ap (λ t. cond t number (m f)) is ∙ k.1)
 
   -- the slot roles, by what the holder has in hand
-  pub roles_by : (x : ℕ) → times x (r.bucket hold.class).chain + times x (r.bucket hold.class).free + times x (r.bucket hold.class).retired + times x (r.bucket hold.class).moved + times x (option_to_list hold.taken) + times x (option_to_list hold.unlinked) ≡ cond (is_slot_of capacities hold.class x) 1 0
-  roles_by x = subst (λ z. times x (r.bucket hold.class).chain + times x (r.bucket hold.class).free + times x (r.bucket hold.class).retired + times x (r.bucket hold.class).moved + times x (option_to_list (taken_of z)) + times x (option_to_list (unlinked_of z)) ≡ cond (is_slot_of capacities hold.class x) 1 0) had (rule.roles.once x)
+  pub roles_by : (x : ℕ) → times x (r.bucket hold.class).chain + times x (r.bucket hold.class).free + times x (r.bucket hold.class).retired
+      + times x (r.bucket hold.class).moved + times x (option_to_list hold.taken) + times x (option_to_list hold.unlinked)
+      ≡ cond (is_slot_of capacities hold.class x) 1 0
+  roles_by x = subst (λ z. times x (r.bucket hold.class).chain + times x (r.bucket hold.class).free + times x (r.bucket hold.class).retired
+      + times x (r.bucket hold.class).moved + times x (option_to_list (taken_of z)) + times x (option_to_list (unlinked_of z))
+      ≡ cond (is_slot_of capacities hold.class x) 1 0) had (rule.roles.once x)
 
   pub moved_by : IsPath (λ s. m (Chain s)) (link_of hold.moved) (r.bucket hold.class).moved
   moved_by = subst (λ z. IsPath (λ s. m (Chain s)) (link_of (moved_of z)) (r.bucket hold.class).moved) had rule.listed.moved
 
   -- a step that leaves no mark, and only changes what the holder knows and has in hand
-  seats_held : (new : Hold) → new.class ≡ hold.class → (m' : Memory) → m' Front ≡ m Front → SeatsRule capacities places tickets m' (set vs id (record v { hold = Some new })) h
+  seats_held : (new : Hold) → new.class ≡ hold.class → (m' : Memory) → m' Front ≡ m Front
+      → SeatsRule capacities places tickets m' (set vs id (record v { hold = Some new })) h
   seats_held new class m' front =
       let w : View = record v { hold = Some new } in
       seats_same capacities places tickets m vs h r id v w at m'
@@ -98,22 +110,33 @@ module _ (capacities : List ℕ) (places tickets : ℕ) (m : Memory) (vs : List 
         forth = section_forth v w refl;
         commit = refl;
         kept = λ commit held is had_it. (new, refl);
-        held = λ other is. let e : new ≡ other = cc in (subst (λ (z : Hold). z.class < 64) e (subst (λ z. z < 64) (sym class) small), works capacities places tickets m vs h r id v at hold mine);
+        held = λ other is. let e : new ≡ other = cc in (
+          subst (λ (z : Hold). z.class < 64) e (subst (λ z. z < 64) (sym class) small),
+          works capacities places tickets m vs h r id v at hold mine,
+        );
         own = refl;
         heard = refl;
       }) refl front
 
   -- readers' answers, where the slots on their ways stay
-  answered_by : (w : View) → w.section ≡ v.section → (m' : Memory) (chain' : List ℕ) → ((section : Section) → KeepsWays capacities hold.class m m' h h (updates_of h) (updates_of h) (r.bucket hold.class).chain chain' section) → AreAnswered capacities hold.class m' h (updates_of h) (set vs id w) chain'
+  answered_by : (w : View) → w.section ≡ v.section → (m' : Memory) (chain' : List ℕ)
+      → ((section : Section) → KeepsWays capacities hold.class m m' h h (updates_of h) (updates_of h)
+      (r.bucket hold.class).chain chain' section) → AreAnswered capacities hold.class m' h (updates_of h) (set vs id w) chain'
   answered_by w same m' chain' keeps =
       let us : List Update = updates_of h in
       let chain : List ℕ = (r.bucket hold.class).chain in
-      let will : (section : Section) → WillAnswer capacities hold.class m h us chain section section.state → WillAnswer capacities hold.class m' h us chain' section section.state = λ section. will_still capacities hold.class m m' h h us us chain chain' section (keeps section) section.state in
+      let will : (section : Section) → WillAnswer capacities hold.class m h us chain section section.state
+      → WillAnswer capacities hold.class m' h us chain' section section.state =
+      λ section. will_still capacities hold.class m m' h h us us chain chain' section (keeps section) section.state in
       record {
-        readers = λ j u section there is class. each_set (λ k z. z.section ≡ Some section → WillAnswer capacities hold.class m' h us chain' section section.state) vs id w
-            (λ yes. will section (rule.answered.readers id v section at (sym same ∙ yes) class)) (λ k z far e theirs. will section (rule.answered.readers k z section e theirs class)) j u there is;
-        loaded = λ j u section value there is class read. each_set (λ k z. z.section ≡ Some section → WasSaid us section.key section.from (Some value)) vs id w
-            (λ yes. rule.answered.loaded id v section value at (sym same ∙ yes) class read) (λ k z far e theirs. rule.answered.loaded k z section value e theirs class read) j u there is;
+        readers = λ j u section there is class. each_set
+            (λ k z. z.section ≡ Some section → WillAnswer capacities hold.class m' h us chain' section section.state) vs id w
+            (λ yes. will section (rule.answered.readers id v section at (sym same ∙ yes) class))
+            (λ k z far e theirs. will section (rule.answered.readers k z section e theirs class)) j u there is;
+        loaded = λ j u section value there is class read. each_set
+            (λ k z. z.section ≡ Some section → WasSaid us section.key section.from (Some value)) vs id w
+            (λ yes. rule.answered.loaded id v section value at (sym same ∙ yes) class read)
+            (λ k z far e theirs. rule.answered.loaded k z section value e theirs class read) j u there is;
       }
 
   -- H10, refill
@@ -125,7 +148,8 @@ module _ (capacities : List ℕ) (places tickets : ℕ) (m : Memory) (vs : List 
     m_refill = stored m (Free hold.class) slot
 
     no_free : (r.bucket hold.class).free ≡ []
-    no_free = path_none (λ s. m (Chain s)) (r.bucket hold.class).free (subst (λ z. IsPath (λ s. m (Chain s)) z (r.bucket hold.class).free) (is_known (Free hold.class) 0 needs.empty).1 rule.listed.free)
+    no_free = path_none (λ s. m (Chain s)) (r.bucket hold.class).free
+        (subst (λ z. IsPath (λ s. m (Chain s)) z (r.bucket hold.class).free) (is_known (Free hold.class) 0 needs.empty).1 rule.listed.free)
 
     abbrev b_refill : Bucket
     b_refill = record (r.bucket hold.class) { free = (r.bucket hold.class).moved; moved = []; hold = Some new_refill }
@@ -137,7 +161,8 @@ module _ (capacities : List ℕ) (places tickets : ℕ) (m : Memory) (vs : List 
         (λ _. record {
           chained = record { path = rule.chained.path; classes = rule.chained.classes; distinct = rule.chained.distinct };
           listed = record {
-            free = subst (λ z. IsPath (λ s. m (Chain s)) z (r.bucket hold.class).moved) (ap link_of needs.moved ∙ sym (stored_here m (Free hold.class) slot (same_self (Free hold.class)))) moved_by;
+            free = subst (λ z. IsPath (λ s. m (Chain s)) z (r.bucket hold.class).moved)
+                (ap link_of needs.moved ∙ sym (stored_here m (Free hold.class) slot (same_self (Free hold.class)))) moved_by;
             retired = rule.listed.retired;
             moved = refl;
           };
@@ -145,12 +170,26 @@ module _ (capacities : List ℕ) (places tickets : ℕ) (m : Memory) (vs : List 
           mapped = record { answers = rule.mapped.answers };
           locked = locked_by capacities places tickets m vs h r id v at hold new_refill mine refl m_refill refl w refl refl;
           known = known_after (Free hold.class) slot refl new_refill refl;
-          ages = record { chain = rule.ages.chain; taken = λ s is. rule.ages.taken s (ap taken_of had ∙ is); retired = rule.ages.retired; moved = tt; unlinked = λ s is. rule.ages.unlinked s (ap unlinked_of had ∙ is) };
+          ages = record {
+            chain = rule.ages.chain;
+            taken = λ s is. rule.ages.taken s (ap taken_of had ∙ is);
+            retired = rule.ages.retired;
+            moved = tt;
+            unlinked = λ s is. rule.ages.unlinked s (ap unlinked_of had ∙ is);
+          };
           counted = record { readers = (counted_still capacities hold.class m h vs id v w at refl rule.counted).readers };
-          clean = (let still = clean_still capacities places tickets m vs h r id v at hold.class w refl (r.bucket hold.class) (Some new_refill) (λ other is yes s of. let e : new_refill ≡ other = cc in rule.clean.clear hold had (ap (λ (z : Hold). z.clear) e ∙ yes) s of) rule.clean in record { free = still.moved; moved = tt; clear = still.clear });
-          answered = answered_still capacities hold.class m h vs id v w at refl m_refill (r.bucket hold.class) (λ s _. (refl, refl, refl, refl)) rule.roles rule.answered;
+          clean = (let still = clean_still capacities places tickets m vs h r id v at hold.class w refl (r.bucket hold.class)
+              (Some new_refill) (λ other is yes s of. let e : new_refill ≡ other = cc in
+              rule.clean.clear hold had (ap (λ (z : Hold). z.clear) e ∙ yes) s of) rule.clean in
+              record { free = still.moved; moved = tt; clear = still.clear });
+          answered = answered_still capacities hold.class m h vs id v w at refl m_refill (r.bucket hold.class)
+              (λ s _. (refl, refl, refl, refl)) rule.roles rule.answered;
         })
-        (λ d _ ne. record { words = class_words capacities hold.class d m slot ne (Free hold.class) refl; marks = same_marks capacities d h; view = elsewhere_held capacities places tickets m vs h r id v at d hold new_refill mine refl ne w refl refl refl })
+        (λ d _ ne. record {
+          words = class_words capacities hold.class d m slot ne (Free hold.class) refl;
+          marks = same_marks capacities d h;
+          view = elsewhere_held capacities places tickets m vs h r id v at d hold new_refill mine refl ne w refl refl refl;
+        })
 
   -- H10, move
   module _ (slot : ℕ) (needs : NeedsMove v hold slot) where
@@ -161,7 +200,8 @@ module _ (capacities : List ℕ) (places tickets : ℕ) (m : Memory) (vs : List 
     m_move = stored m (Retired hold.class) 0
 
     no_moved : (r.bucket hold.class).moved ≡ []
-    no_moved = path_none (λ s. m (Chain s)) (r.bucket hold.class).moved (subst (λ z. IsPath (λ s. m (Chain s)) (link_of z) (r.bucket hold.class).moved) needs.empty moved_by)
+    no_moved = path_none (λ s. m (Chain s)) (r.bucket hold.class).moved
+        (subst (λ z. IsPath (λ s. m (Chain s)) (link_of z) (r.bucket hold.class).moved) needs.empty moved_by)
 
     abbrev b_move : Bucket
     b_move = record (r.bucket hold.class) { retired = []; moved = (r.bucket hold.class).retired; hold = Some new_move }
@@ -175,24 +215,39 @@ module _ (capacities : List ℕ) (places tickets : ℕ) (m : Memory) (vs : List 
           listed = record {
             free = rule.listed.free;
             retired = stored_here m (Retired hold.class) 0 (same_self (Retired hold.class));
-            moved = subst (λ z. IsPath (λ s. m (Chain s)) z (r.bucket hold.class).retired) (is_known (Retired hold.class) slot needs.first).1 rule.listed.retired;
+            moved = subst (λ z. IsPath (λ s. m (Chain s)) z (r.bucket hold.class).retired)
+                (is_known (Retired hold.class) slot needs.first).1 rule.listed.retired;
           };
           roles = record { once = λ x. let a = roles_by x in let n = ap (times x) no_moved in omega arith };
           mapped = record { answers = rule.mapped.answers };
           locked = locked_by capacities places tickets m vs h r id v at hold new_move mine refl m_move refl w refl refl;
           known = known_after (Retired hold.class) 0 refl new_move refl;
-          ages = record { chain = rule.ages.chain; taken = λ s is. rule.ages.taken s (ap taken_of had ∙ is); retired = tt; moved = rule.ages.retired; unlinked = λ s is. rule.ages.unlinked s (ap unlinked_of had ∙ is) };
+          ages = record {
+            chain = rule.ages.chain;
+            taken = λ s is. rule.ages.taken s (ap taken_of had ∙ is);
+            retired = tt;
+            moved = rule.ages.retired;
+            unlinked = λ s is. rule.ages.unlinked s (ap unlinked_of had ∙ is);
+          };
           counted = record { readers = (counted_still capacities hold.class m h vs id v w at refl rule.counted).readers };
-          clean = (let still = clean_still capacities places tickets m vs h r id v at hold.class w refl (r.bucket hold.class) (Some new_move) (λ other is yes s of. rule.clean.clear hold had needs.clear s of) rule.clean in
+          clean = (let still = clean_still capacities places tickets m vs h r id v at hold.class w refl (r.bucket hold.class)
+              (Some new_move) (λ other is yes s of. rule.clean.clear hold had needs.clear s of) rule.clean in
               record {
                 free = still.free;
                 moved = all_from_times (IsFreeOfReaders hold.class h (set vs id w)) (r.bucket hold.class).retired
-                    (λ s there. free_still capacities hold.class m h vs id v w at refl s (rule.clean.clear hold had needs.clear s (retired_slot capacities hold.class (r.bucket hold.class) rule.roles s there)));
+                    (λ s there. free_still capacities hold.class m h vs id v w at refl s
+                    (rule.clean.clear hold had needs.clear s
+                    (retired_slot capacities hold.class (r.bucket hold.class) rule.roles s there)));
                 clear = still.clear;
               });
-          answered = answered_still capacities hold.class m h vs id v w at refl m_move (r.bucket hold.class) (λ s _. (refl, refl, refl, refl)) rule.roles rule.answered;
+          answered = answered_still capacities hold.class m h vs id v w at refl m_move (r.bucket hold.class)
+              (λ s _. (refl, refl, refl, refl)) rule.roles rule.answered;
         })
-        (λ d _ ne. record { words = class_words capacities hold.class d m 0 ne (Retired hold.class) refl; marks = same_marks capacities d h; view = elsewhere_held capacities places tickets m vs h r id v at d hold new_move mine refl ne w refl refl refl })
+        (λ d _ ne. record {
+          words = class_words capacities hold.class d m 0 ne (Retired hold.class) refl;
+          marks = same_marks capacities d h;
+          view = elsewhere_held capacities places tickets m vs h r id v at d hold new_move mine refl ne w refl refl refl;
+        })
 
   -- H10, push
   module _ (slot first : ℕ) (needs : NeedsPush v hold slot first) where
@@ -216,19 +271,39 @@ module _ (capacities : List ℕ) (places tickets : ℕ) (m : Memory) (vs : List 
           chained = record { path = rule.chained.path; classes = rule.chained.classes; distinct = rule.chained.distinct };
           listed = record {
             free = rule.listed.free;
-            retired = (stored_here m (Retired hold.class) slot (same_self (Retired hold.class)), (slot_within capacities hold.class slot slot_of_push).0, subst (λ z. IsPath (λ s. m (Chain s)) z (r.bucket hold.class).retired) ((is_known (Retired hold.class) first needs.first_is).1 ∙ sym (is_known (Chain slot) first needs.chained).1) rule.listed.retired);
+            retired = (
+              stored_here m (Retired hold.class) slot (same_self (Retired hold.class)),
+              (slot_within capacities hold.class slot slot_of_push).0,
+              subst (λ z. IsPath (λ s. m (Chain s)) z (r.bucket hold.class).retired)
+                  ((is_known (Retired hold.class) first needs.first_is).1
+                  ∙ sym (is_known (Chain slot) first needs.chained).1) rule.listed.retired,
+            );
             moved = moved_by;
           };
           roles = record { once = λ x. let a = roles_by x in let n = ap (λ o. times x (option_to_list o)) needs.unlinked in omega arith };
           mapped = record { answers = rule.mapped.answers };
           locked = locked_by capacities places tickets m vs h r id v at hold new_push mine refl m_push refl w refl refl;
           known = known_after (Retired hold.class) slot refl new_push refl;
-          ages = record { chain = rule.ages.chain; taken = λ s is. rule.ages.taken s (ap taken_of had ∙ is); retired = (rule.ages.unlinked slot (ap unlinked_of had ∙ needs.unlinked), rule.ages.retired); moved = rule.ages.moved; unlinked = λ s is. absurd (cc) };
+          ages = record {
+            chain = rule.ages.chain;
+            taken = λ s is. rule.ages.taken s (ap taken_of had ∙ is);
+            retired = (rule.ages.unlinked slot (ap unlinked_of had ∙ needs.unlinked), rule.ages.retired);
+            moved = rule.ages.moved;
+            unlinked = λ s is. absurd (cc);
+          };
           counted = record { readers = (counted_still capacities hold.class m h vs id v w at refl rule.counted).readers };
-          clean = (let still = clean_still capacities places tickets m vs h r id v at hold.class w refl (r.bucket hold.class) (Some new_push) (λ other is yes s of. let e : new_push ≡ other = cc in rule.clean.clear hold had (ap (λ (z : Hold). z.clear) e ∙ yes) s of) rule.clean in record { free = still.free; moved = still.moved; clear = still.clear });
-          answered = answered_still capacities hold.class m h vs id v w at refl m_push (r.bucket hold.class) (λ s _. (refl, refl, refl, refl)) rule.roles rule.answered;
+          clean = (let still = clean_still capacities places tickets m vs h r id v at hold.class w refl (r.bucket hold.class)
+              (Some new_push) (λ other is yes s of. let e : new_push ≡ other = cc in
+              rule.clean.clear hold had (ap (λ (z : Hold). z.clear) e ∙ yes) s of) rule.clean in
+              record { free = still.free; moved = still.moved; clear = still.clear });
+          answered = answered_still capacities hold.class m h vs id v w at refl m_push (r.bucket hold.class)
+              (λ s _. (refl, refl, refl, refl)) rule.roles rule.answered;
         })
-        (λ d _ ne. record { words = class_words capacities hold.class d m slot ne (Retired hold.class) refl; marks = same_marks capacities d h; view = elsewhere_held capacities places tickets m vs h r id v at d hold new_push mine refl ne w refl refl refl })
+        (λ d _ ne. record {
+          words = class_words capacities hold.class d m slot ne (Retired hold.class) refl;
+          marks = same_marks capacities d h;
+          view = elsewhere_held capacities places tickets m vs h r id v at d hold new_push mine refl ne w refl refl refl;
+        })
 
   -- H10, chain
   module _ (slot number : ℕ) (needs : NeedsChain v hold slot) where
@@ -242,30 +317,51 @@ module _ (capacities : List ℕ) (places tickets : ℕ) (m : Memory) (vs : List 
     slot_of_chain = unlinked_slot capacities hold.class (r.bucket hold.class) rule.roles slot (ap unlinked_of had ∙ needs.1)
 
     -- the slot in hand is on no list
-    chain_else : (xs : List ℕ) → ((x : ℕ) → times x xs + times x (option_to_list hold.unlinked) ≤ 1) → (s : ℕ) → 1 ≤ times s xs → m_chain (Chain s) ≡ m (Chain s)
+    chain_else : (xs : List ℕ) → ((x : ℕ) → times x xs + times x (option_to_list hold.unlinked) ≤ 1) → (s : ℕ) → 1 ≤ times s xs
+        → m_chain (Chain s) ≡ m (Chain s)
     chain_else xs once s there = ap (λ t. cond t number (m (Chain s))) (ne_eqb slot s (λ e.
         let a = once slot in
-        let b : times slot (option_to_list hold.unlinked) ≡ 1 = ap (λ o. times slot (option_to_list o)) needs.1 ∙ (let t = times_here slot [] in omega arith) in
+        let b : times slot (option_to_list hold.unlinked) ≡ 1 =
+        ap (λ o. times slot (option_to_list o)) needs.1 ∙ (let t = times_here slot [] in omega arith) in
         let d : 1 ≤ times slot xs = subst (λ z. 1 ≤ times z xs) (sym e) there in omega arith))
 
     pub law_chain : MemoryRule capacities places tickets m_chain (set vs id (after_chain v hold slot number)) h
     law_chain =
         let w : View = after_chain v hold slot number in
-        after_step capacities places tickets m vs h r id v w at m_chain h (seats_held new_chain refl m_chain refl) hold.class (record (r.bucket hold.class) { hold = Some new_chain })
+        after_step capacities places tickets m vs h r id v w at m_chain h (seats_held new_chain refl m_chain refl) hold.class
+        (record (r.bucket hold.class) { hold = Some new_chain })
         (λ _. record {
           chained = record { path = rule.chained.path; classes = rule.chained.classes; distinct = rule.chained.distinct };
           listed = record {
-            free = IsPath-same (λ s. m (Chain s)) (λ s. m_chain (Chain s)) (m (Free hold.class)) (r.bucket hold.class).free (chain_else (r.bucket hold.class).free (λ x. let a = roles_by x in let l = at_most_one (is_slot_of capacities hold.class x) _ a in omega arith)) rule.listed.free;
-            retired = IsPath-same (λ s. m (Chain s)) (λ s. m_chain (Chain s)) (m (Retired hold.class)) (r.bucket hold.class).retired (chain_else (r.bucket hold.class).retired (λ x. let a = roles_by x in let l = at_most_one (is_slot_of capacities hold.class x) _ a in omega arith)) rule.listed.retired;
-            moved = IsPath-same (λ s. m (Chain s)) (λ s. m_chain (Chain s)) (link_of hold.moved) (r.bucket hold.class).moved (chain_else (r.bucket hold.class).moved (λ x. let a = roles_by x in let l = at_most_one (is_slot_of capacities hold.class x) _ a in omega arith)) moved_by;
+            free = IsPath-same (λ s. m (Chain s)) (λ s. m_chain (Chain s)) (m (Free hold.class)) (r.bucket hold.class).free
+                (chain_else (r.bucket hold.class).free (λ x. let a = roles_by x in
+                let l = at_most_one (is_slot_of capacities hold.class x) _ a in omega arith)) rule.listed.free;
+            retired = IsPath-same (λ s. m (Chain s)) (λ s. m_chain (Chain s)) (m (Retired hold.class)) (r.bucket hold.class).retired
+                (chain_else (r.bucket hold.class).retired
+                (λ x. let a = roles_by x in let l = at_most_one (is_slot_of capacities hold.class x) _ a in
+                omega arith)) rule.listed.retired;
+            moved = IsPath-same (λ s. m (Chain s)) (λ s. m_chain (Chain s)) (link_of hold.moved) (r.bucket hold.class).moved
+                (chain_else (r.bucket hold.class).moved (λ x. let a = roles_by x in
+                let l = at_most_one (is_slot_of capacities hold.class x) _ a in omega arith)) moved_by;
           };
           roles = record { once = roles_by };
-          mapped = record { answers = λ key class. rule.mapped.answers key class ∙ sym (seek-same m m_chain key (r.bucket hold.class).chain (λ s _. (refl, refl))) };
+          mapped = record {
+            answers = λ key class. rule.mapped.answers key class
+                ∙ sym (seek-same m m_chain key (r.bucket hold.class).chain (λ s _. (refl, refl)));
+          };
           locked = locked_by capacities places tickets m vs h r id v at hold new_chain mine refl m_chain refl w refl refl;
           known = known_after (Chain slot) number slot_of_chain new_chain refl;
-          ages = record { chain = rule.ages.chain; taken = λ s is. rule.ages.taken s (ap taken_of had ∙ is); retired = rule.ages.retired; moved = rule.ages.moved; unlinked = λ s is. rule.ages.unlinked s (ap unlinked_of had ∙ is) };
+          ages = record {
+            chain = rule.ages.chain;
+            taken = λ s is. rule.ages.taken s (ap taken_of had ∙ is);
+            retired = rule.ages.retired;
+            moved = rule.ages.moved;
+            unlinked = λ s is. rule.ages.unlinked s (ap unlinked_of had ∙ is);
+          };
           counted = record { readers = (counted_still capacities hold.class m h vs id v w at refl rule.counted).readers };
-          clean = clean_still capacities places tickets m vs h r id v at hold.class w refl (r.bucket hold.class) (Some new_chain) (λ other is yes s of. let e : new_chain ≡ other = cc in rule.clean.clear hold had (ap (λ (z : Hold). z.clear) e ∙ yes) s of) rule.clean;
+          clean = clean_still capacities places tickets m vs h r id v at hold.class w refl (r.bucket hold.class) (Some new_chain)
+              (λ other is yes s of. let e : new_chain ≡ other = cc in
+              rule.clean.clear hold had (ap (λ (z : Hold). z.clear) e ∙ yes) s of) rule.clean;
           answered = answered_by w refl m_chain (r.bucket hold.class).chain (λ section. record {
             linked = λ t _. (refl, refl, refl);
             old = λ t _ _. (refl, refl, refl);
@@ -274,7 +370,11 @@ module _ (capacities : List ℕ) (places tickets : ℕ) (m : Memory) (vs : List 
             said = λ answer s. s;
           });
         })
-        (λ d _ ne. record { words = class_words capacities hold.class d m number ne (Chain slot) slot_of_chain; marks = same_marks capacities d h; view = elsewhere_held capacities places tickets m vs h r id v at d hold new_chain mine refl ne w refl refl refl })
+        (λ d _ ne. record {
+          words = class_words capacities hold.class d m number ne (Chain slot) slot_of_chain;
+          marks = same_marks capacities d h;
+          view = elsewhere_held capacities places tickets m vs h r id v at d hold new_chain mine refl ne w refl refl refl;
+        })
 
   -- H11
   module _ (slot : ℕ) (field : Field) (number : ℕ) (needs : NeedsWrite v hold slot field) where
@@ -294,7 +394,8 @@ module _ (capacities : List ℕ) (places tickets : ℕ) (m : Memory) (vs : List 
     of_class11 _ is = absurd is
 
     -- other slots keep what stands in them, and the class its words
-    else11 : (f : Field) → IsFieldOf slot f → (s : ℕ) → s ≢ slot → (stored m f number (Key s) ≡ m (Key s)) × (stored m f number (Value s) ≡ m (Value s)) × (stored m f number (Next s) ≡ m (Next s))
+    else11 : (f : Field) → IsFieldOf slot f → (s : ℕ) → s ≢ slot
+        → (stored m f number (Key s) ≡ m (Key s)) × (stored m f number (Value s) ≡ m (Value s)) × (stored m f number (Next s) ≡ m (Next s))
     else11 (Key t) is s ne = (ap (λ b. cond b number (m (Key s))) (ne_eqb t s (λ e. ne (sym e ∙ is))), refl, refl)
     else11 (Value t) is s ne = (refl, ap (λ b. cond b number (m (Value s))) (ne_eqb t s (λ e. ne (sym e ∙ is))), refl)
     else11 (Next t) is s ne = (refl, refl, ap (λ b. cond b number (m (Next s))) (ne_eqb t s (λ e. ne (sym e ∙ is))))
@@ -306,7 +407,10 @@ module _ (capacities : List ℕ) (places tickets : ℕ) (m : Memory) (vs : List 
     chains11 (Next t) is s = refl
     chains11 _ is s = absurd is
 
-    words11 : (f : Field) → IsFieldOf slot f → (d : ℕ) → (stored m f number (Lock d) ≡ m (Lock d)) × (stored m f number (Readers d) ≡ m (Readers d)) × (stored m f number (Head d) ≡ m (Head d)) × (stored m f number (Free d) ≡ m (Free d)) × (stored m f number (Retired d) ≡ m (Retired d)) × (stored m f number Front ≡ m Front)
+    words11 : (f : Field) → IsFieldOf slot f → (d : ℕ)
+        → (stored m f number (Lock d) ≡ m (Lock d)) × (stored m f number (Readers d) ≡ m (Readers d))
+        × (stored m f number (Head d) ≡ m (Head d)) × (stored m f number (Free d) ≡ m (Free d))
+        × (stored m f number (Retired d) ≡ m (Retired d)) × (stored m f number Front ≡ m Front)
     words11 (Key t) is d = (refl, refl, refl, refl, refl, refl)
     words11 (Value t) is d = (refl, refl, refl, refl, refl, refl)
     words11 (Next t) is d = (refl, refl, refl, refl, refl, refl)
@@ -317,7 +421,8 @@ module _ (capacities : List ℕ) (places tickets : ℕ) (m : Memory) (vs : List 
     linked11 s there e =
         let a = roles_by slot in
         let l = at_most_one (is_slot_of capacities hold.class slot) _ a in
-        let b : times slot (option_to_list hold.taken) ≡ 1 = ap (λ o. times slot (option_to_list o)) needs.taken ∙ (let t = times_here slot [] in omega arith) in
+        let b : times slot (option_to_list hold.taken) ≡ 1 =
+        ap (λ o. times slot (option_to_list o)) needs.taken ∙ (let t = times_here slot [] in omega arith) in
         let d : 1 ≤ times slot (r.bucket hold.class).chain = subst (λ z. 1 ≤ times z (r.bucket hold.class).chain) e there in omega arith
 
     pub law11 : MemoryRule capacities places tickets m11 (set vs id (after_write v hold field number)) h
@@ -326,34 +431,62 @@ module _ (capacities : List ℕ) (places tickets : ℕ) (m : Memory) (vs : List 
         let f = needs.field_is in
         let c : ℕ = hold.class in
         let chain : List ℕ = (r.bucket hold.class).chain in
-        after_step capacities places tickets m vs h r id v w at m11 h (seats_held new11 refl m11 (words11 field f c).5) hold.class (record (r.bucket hold.class) { hold = Some new11 })
+        after_step capacities places tickets m vs h r id v w at m11 h (seats_held new11 refl m11 (words11 field f c).5) hold.class
+        (record (r.bucket hold.class) { hold = Some new11 })
         (λ _. record {
           chained = record {
-            path = subst (λ z. IsPath (λ s. m11 (Next s)) z chain) (sym (words11 field f c).2) (IsPath-same (λ s. m (Next s)) (λ s. m11 (Next s)) (m (Head c)) chain (λ s there. (else11 field f s (linked11 s there)).2) rule.chained.path);
-            classes = all_change (λ s. m (Key s) % 64 ≡ c) (λ s. m11 (Key s) % 64 ≡ c) chain (λ s there p. ap (λ n. n % 64) (else11 field f s (linked11 s there)).0 ∙ p) rule.chained.classes;
-            distinct = HaveDistinctKeys-same m m11 chain (λ s there. let q = else11 field f s (linked11 s there) in (q.0, q.1)) rule.chained.distinct;
+            path = subst (λ z. IsPath (λ s. m11 (Next s)) z chain) (sym (words11 field f c).2)
+                (IsPath-same (λ s. m (Next s)) (λ s. m11 (Next s)) (m (Head c)) chain
+                (λ s there. (else11 field f s (linked11 s there)).2) rule.chained.path);
+            classes = all_change (λ s. m (Key s) % 64 ≡ c) (λ s. m11 (Key s) % 64 ≡ c) chain
+                (λ s there p. ap (λ n. n % 64) (else11 field f s (linked11 s there)).0 ∙ p) rule.chained.classes;
+            distinct = HaveDistinctKeys-same m m11 chain
+                (λ s there. let q = else11 field f s (linked11 s there) in (q.0, q.1)) rule.chained.distinct;
           };
           listed = record {
-            free = subst (λ z. IsPath (λ s. m11 (Chain s)) z (r.bucket c).free) (sym (words11 field f c).3) (IsPath-same (λ s. m (Chain s)) (λ s. m11 (Chain s)) (m (Free c)) (r.bucket c).free (λ s _. chains11 field f s) rule.listed.free);
-            retired = subst (λ z. IsPath (λ s. m11 (Chain s)) z (r.bucket c).retired) (sym (words11 field f c).4) (IsPath-same (λ s. m (Chain s)) (λ s. m11 (Chain s)) (m (Retired c)) (r.bucket c).retired (λ s _. chains11 field f s) rule.listed.retired);
-            moved = IsPath-same (λ s. m (Chain s)) (λ s. m11 (Chain s)) (link_of hold.moved) (r.bucket c).moved (λ s _. chains11 field f s) moved_by;
+            free = subst (λ z. IsPath (λ s. m11 (Chain s)) z (r.bucket c).free) (sym (words11 field f c).3)
+                (IsPath-same (λ s. m (Chain s)) (λ s. m11 (Chain s)) (m (Free c)) (r.bucket c).free
+                (λ s _. chains11 field f s) rule.listed.free);
+            retired = subst (λ z. IsPath (λ s. m11 (Chain s)) z (r.bucket c).retired) (sym (words11 field f c).4)
+                (IsPath-same (λ s. m (Chain s)) (λ s. m11 (Chain s)) (m (Retired c)) (r.bucket c).retired
+                (λ s _. chains11 field f s) rule.listed.retired);
+            moved = IsPath-same (λ s. m (Chain s)) (λ s. m11 (Chain s)) (link_of hold.moved) (r.bucket c).moved
+                (λ s _. chains11 field f s) moved_by;
           };
           roles = record { once = roles_by };
-          mapped = record { answers = λ key class. rule.mapped.answers key class ∙ sym (seek-same m m11 key chain (λ s there. let q = else11 field f s (linked11 s there) in (q.0, q.1))) };
+          mapped = record {
+            answers = λ key class. rule.mapped.answers key class
+                ∙ sym (seek-same m m11 key chain (λ s there. let q = else11 field f s (linked11 s there) in (q.0, q.1)));
+          };
           locked = locked_by capacities places tickets m vs h r id v at hold new11 mine refl m11 (words11 field f c).0 w refl refl;
           known = known_after field number (of_class11 field f) new11 refl;
-          ages = record { chain = rule.ages.chain; taken = λ s is. rule.ages.taken s (ap taken_of had ∙ is); retired = rule.ages.retired; moved = rule.ages.moved; unlinked = λ s is. rule.ages.unlinked s (ap unlinked_of had ∙ is) };
+          ages = record {
+            chain = rule.ages.chain;
+            taken = λ s is. rule.ages.taken s (ap taken_of had ∙ is);
+            retired = rule.ages.retired;
+            moved = rule.ages.moved;
+            unlinked = λ s is. rule.ages.unlinked s (ap unlinked_of had ∙ is);
+          };
           counted = record { readers = (words11 field f c).1 ∙ (counted_still capacities c m h vs id v w at refl rule.counted).readers };
-          clean = clean_still capacities places tickets m vs h r id v at c w refl (r.bucket c) (Some new11) (λ other is yes s of. let e : new11 ≡ other = cc in rule.clean.clear hold had (ap (λ (z : Hold). z.clear) e ∙ yes) s of) rule.clean;
+          clean = clean_still capacities places tickets m vs h r id v at c w refl (r.bucket c) (Some new11)
+              (λ other is yes s of. let e : new11 ≡ other = cc in
+              rule.clean.clear hold had (ap (λ (z : Hold). z.clear) e ∙ yes) s of) rule.clean;
           answered = answered_by w refl m11 chain (λ section. record {
             linked = λ t there. else11 field f t (linked11 t there);
-            old = λ t _ held. else11 field f t (λ e. absurd (let g : gone_at slot h ≡ None = rule.ages.taken slot (ap taken_of had ∙ needs.taken) in let z : gone_at slot h ≡ Some held.0 = subst (λ y. gone_at y h ≡ Some held.0) e held.1 in let q : None ≡ Some held.0 = sym g ∙ z in cc));
+            old = λ t _ held. else11 field f t (λ e. absurd
+                (let g : gone_at slot h ≡ None = rule.ages.taken slot (ap taken_of had ∙ needs.taken) in
+                let z : gone_at slot h ≡ Some held.0 = subst (λ y. gone_at y h ≡ Some held.0) e held.1 in
+                let q : None ≡ Some held.0 = sym g ∙ z in cc));
             held = λ t _ p. p;
             joins = λ front rest e. (front, e);
             said = λ answer s. s;
           });
         })
-        (λ d _ ne. record { words = class_words capacities hold.class d m number ne field (of_class11 field f); marks = same_marks capacities d h; view = elsewhere_held capacities places tickets m vs h r id v at d hold new11 mine refl ne w refl refl refl })
+        (λ d _ ne. record {
+          words = class_words capacities hold.class d m number ne field (of_class11 field f);
+          marks = same_marks capacities d h;
+          view = elsewhere_held capacities places tickets m vs h r id v at d hold new11 mine refl ne w refl refl refl;
+        })
 
   -- H10, take
   module _ (slot next : ℕ) (needs : NeedsTake v hold slot next) where
@@ -373,13 +506,16 @@ module _ (capacities : List ℕ) (places tickets : ℕ) (m : Memory) (vs : List 
     same_updates_take = updates_of-append h (Given slot ∷ []) ∙ append-nil (updates_of h)
 
     first_free : (ss : List ℕ) × ((r.bucket hold.class).free ≡ slot ∷ ss) × IsPath (λ s. m (Chain s)) (m (Chain slot)) ss
-    first_free = path_cons (λ s. m (Chain s)) slot (r.bucket hold.class).free needs.some (subst (λ z. IsPath (λ s. m (Chain s)) z (r.bucket hold.class).free) (is_known (Free hold.class) slot needs.first).1 rule.listed.free)
+    first_free = path_cons (λ s. m (Chain s)) slot (r.bucket hold.class).free needs.some
+        (subst (λ z. IsPath (λ s. m (Chain s)) z (r.bucket hold.class).free)
+        (is_known (Free hold.class) slot needs.first).1 rule.listed.free)
 
     abbrev others_free : List ℕ
     others_free = first_free.0
 
     slot_of_take : is_slot_of capacities hold.class slot ≡ true
-    slot_of_take = free_slot capacities hold.class (r.bucket hold.class) rule.roles slot (let t = times_here slot first_free.0 in let e = ap (times slot) first_free.1 in omega arith)
+    slot_of_take = free_slot capacities hold.class (r.bucket hold.class) rule.roles slot
+        (let t = times_here slot first_free.0 in let e = ap (times slot) first_free.1 in omega arith)
 
     -- no section of the class holds the slot back
     slot_clean : IsFreeOfReaders hold.class h vs slot
@@ -403,7 +539,8 @@ module _ (capacities : List ℕ) (places tickets : ℕ) (m : Memory) (vs : List 
         let d : 1 ≤ times slot xs = subst (λ z. 1 ≤ times z xs) e there in omega arith
 
     still_free_take : (s : ℕ) → IsFreeOfReaders hold.class h vs s → IsFreeOfReaders hold.class h_take (set vs id w_take) s
-    still_free_take s free p j u section last there is class = free_still capacities hold.class m h vs id v w_take at refl s free p j u section (sym (last_take s) ∙ last) there is class
+    still_free_take s free p j u section last there is class =
+        free_still capacities hold.class m h vs id v w_take at refl s free p j u section (sym (last_take s) ∙ last) there is class
 
     reuse_take : ReuseByClass capacities h_take
     reuse_take j s d i p o given of gone there class =
@@ -416,7 +553,8 @@ module _ (capacities : List ℕ) (places tickets : ℕ) (m : Memory) (vs : List 
               let e : slot ≡ s = (let z = new.1 in cc) in
               let same : take j h_take ≡ h = ap (λ n. take n h_take) new.0 ∙ take-append_seam h (Given slot ∷ []) in
               let q = r.sections.all p o (ap (open_at p) (sym same) ∙ there) in
-              let c_is : hold.class ≡ d = one_class capacities hold.class d slot slot_of_take (subst (λ z. is_slot_of capacities d z ≡ true) (sym e) of) in
+              let c_is : hold.class ≡ d = one_class capacities hold.class d slot slot_of_take
+              (subst (λ z. is_slot_of capacities d z ≡ true) (sym e) of) in
               let key : q.2.key % 64 ≡ hold.class = ap (λ (z : Open). z.key % 64) (sym q.6) ∙ class ∙ sym c_is in
               let l = slot_clean i q.0 q.1 q.2 (ap (λ z. last_unlinked z h) e ∙ ap (last_unlinked s) (sym same) ∙ gone) q.3 q.5 key in
               let at_is : o.at ≡ q.2.entered = ap (λ (z : Open). z.at) q.6 in omega arith
@@ -426,7 +564,8 @@ module _ (capacities : List ℕ) (places tickets : ℕ) (m : Memory) (vs : List 
     same_marks_take d ne = record {
       more = [];
       longer = same_updates_take ∙ sym (append-nil _);
-      gone = λ s of. gone_take s (λ e. ne (one_class capacities d hold.class slot (subst (λ z. is_slot_of capacities d z ≡ true) e of) slot_of_take));
+      gone = λ s of. gone_take s (λ e. ne (one_class capacities d hold.class slot
+          (subst (λ z. is_slot_of capacities d z ≡ true) e of) slot_of_take));
       last = λ s _. last_take s;
       pairs = λ key class. ap (λ us. finite.get (map_of us) key) same_updates_take;
     }
@@ -435,11 +574,18 @@ module _ (capacities : List ℕ) (places tickets : ℕ) (m : Memory) (vs : List 
     seats_take = record {
       seen = seen_whole vs id v w_take at h h_take refl refl (Given slot ∷ [], refl) r.seen;
       apart = apart_same vs id v w_take at places (record { place = refl; places = refl; joined = refl }) r.apart;
-      owned = owned_same vs id v w_take at places h (Given slot ∷ []) (record { place = refl; places = refl; joined = refl }) refl (inr refl) (λ p. refl) r.owned;
-      sections = open_same vs id v w_take at h h_take (updates_of h) (updates_of h_take) refl refl refl (section_back v w_take refl) (section_forth v w_take refl) (open_at-same h (Given slot) tt) (λ p. let a = entered_at-append p h (Given slot ∷ []) in omega arith) (let n = ap length same_updates_take in omega arith) r.sections;
-      held = held_still vs id v w_take at (λ other is. let e : new_take ≡ other = cc in (subst (λ (z : Hold). z.class < 64) e small, works capacities places tickets m vs h r id v at hold mine)) r.held;
-      turned = subst (IsTurned m_take (set vs id w_take)) (sym (ap length same_updates_take)) (turned_same vs id v w_take at m m_take (length (updates_of h)) refl refl (λ commit held is had_it. (new_take, refl)) r.turned);
-      tickets_are = ap (λ us. length us + total (λ (z : View). z.tickets) (set vs id w_take)) same_updates_take ∙ tickets_same capacities places tickets m vs h r id v w_take at m_take refl;
+      owned = owned_same vs id v w_take at places h (Given slot ∷ []) (record { place = refl; places = refl; joined = refl }) refl
+          (inr refl) (λ p. refl) r.owned;
+      sections = open_same vs id v w_take at h h_take (updates_of h) (updates_of h_take) refl refl refl (section_back v w_take refl)
+          (section_forth v w_take refl) (open_at-same h (Given slot) tt)
+          (λ p. let a = entered_at-append p h (Given slot ∷ []) in omega arith)
+          (let n = ap length same_updates_take in omega arith) r.sections;
+      held = held_still vs id v w_take at (λ other is. let e : new_take ≡ other = cc in
+          (subst (λ (z : Hold). z.class < 64) e small, works capacities places tickets m vs h r id v at hold mine)) r.held;
+      turned = subst (IsTurned m_take (set vs id w_take)) (sym (ap length same_updates_take))
+          (turned_same vs id v w_take at m m_take (length (updates_of h)) refl refl (λ commit held is had_it. (new_take, refl)) r.turned);
+      tickets_are = ap (λ us. length us + total (λ (z : View). z.tickets) (set vs id w_take)) same_updates_take
+          ∙ tickets_same capacities places tickets m vs h r id v w_take at m_take refl;
       legal = subst IsLegal (sym same_updates_take) r.legal;
       marks = marks_snoc places h (Given slot) tt r.marks;
       reuse = reuse_take;
@@ -453,10 +599,18 @@ module _ (capacities : List ℕ) (places tickets : ℕ) (m : Memory) (vs : List 
         let chain : List ℕ = (r.bucket hold.class).chain in
         let us : List Update = updates_of h in
         let us' : List Update = updates_of h_take in
-        let keeps : (section : Section) (j : ℕ) (u : View) → get_elem? vs j ≡ some u → u.section ≡ Some section → section.key % 64 ≡ hold.class → KeepsWays capacities hold.class m m_take h h_take us us' chain chain section = λ section j u there is class. record {
+        let keeps : (section : Section) (j : ℕ) (u : View) → get_elem? vs j ≡ some u → u.section ≡ Some section
+        → section.key % 64 ≡ hold.class → KeepsWays capacities hold.class m m_take h h_take us us' chain chain section =
+        λ section j u there is class. record {
           linked = λ t _. (refl, refl, refl);
           old = λ t _ _. (refl, refl, refl);
-          held = λ t _ p. (p.0, gone_take t (λ e. absurd (let l = slot_clean p.0 j u section (last_gone slot h p.0 (subst (λ z. gone_at z h ≡ Some p.0) e p.1)) there is class in let g = p.2 in omega arith)) ∙ p.1, p.2);
+          held = λ t _ p. (
+            p.0,
+            gone_take t (λ e. absurd
+                (let l = slot_clean p.0 j u section (last_gone slot h p.0 (subst (λ z. gone_at z h ≡ Some p.0) e p.1)) there is class in
+                let g = p.2 in omega arith)) ∙ p.1,
+            p.2,
+          );
           joins = λ front rest e. (front, e);
           said = λ answer s. subst (λ z. WasSaid z section.key section.from answer) (sym same_updates_take) s;
         } in
@@ -464,36 +618,74 @@ module _ (capacities : List ℕ) (places tickets : ℕ) (m : Memory) (vs : List 
         (λ _. record {
           chained = record { path = rule.chained.path; classes = rule.chained.classes; distinct = rule.chained.distinct };
           listed = record {
-            free = subst (λ z. IsPath (λ s. m (Chain s)) z first_free.0) ((is_known (Chain slot) next needs.next_is).1 ∙ sym (stored_here m (Free hold.class) next (same_self (Free hold.class)))) first_free.2;
+            free = subst (λ z. IsPath (λ s. m (Chain s)) z first_free.0)
+                ((is_known (Chain slot) next needs.next_is).1
+                ∙ sym (stored_here m (Free hold.class) next (same_self (Free hold.class)))) first_free.2;
             retired = rule.listed.retired;
             moved = moved_by;
           };
-          roles = record { once = λ x. let a = roles_by x in let n = ap (λ o. times x (option_to_list o)) needs.empty in let f = ap (times x) first_free.1 in omega arith };
+          roles = record {
+            once = λ x. let a = roles_by x in let n = ap (λ o. times x (option_to_list o)) needs.empty in
+                let f = ap (times x) first_free.1 in omega arith;
+          };
           mapped = record { answers = λ key class. ap (λ z. finite.get (map_of z) key) same_updates_take ∙ rule.mapped.answers key class };
           locked = locked_by capacities places tickets m vs h r id v at hold new_take mine refl m_take refl w_take refl refl;
           known = known_after (Free hold.class) next refl new_take refl;
           ages = record {
-            chain = all_change (λ s. gone_at s h ≡ None) (λ s. gone_at s h_take ≡ None) chain (λ s there p. gone_take s (not_take chain (λ x. let a = roles_by x in let l = at_most_one (is_slot_of capacities hold.class x) _ a in omega arith) s there) ∙ p) rule.ages.chain;
+            chain = all_change (λ s. gone_at s h ≡ None) (λ s. gone_at s h_take ≡ None) chain
+                (λ s there p. gone_take s (not_take chain
+                (λ x. let a = roles_by x in let l = at_most_one (is_slot_of capacities hold.class x) _ a in omega arith) s there)
+                ∙ p) rule.ages.chain;
             taken = λ s is. let e : slot ≡ s = cc in subst (λ z. gone_at z h_take ≡ None) e (gone_at-given_here h slot);
-            retired = all_change (IsGone h) (IsGone h_take) (r.bucket hold.class).retired (λ s there p. (p.0, gone_take s (not_take (r.bucket hold.class).retired (λ x. let a = roles_by x in let l = at_most_one (is_slot_of capacities hold.class x) _ a in omega arith) s there) ∙ p.1)) rule.ages.retired;
-            moved = all_change (IsGone h) (IsGone h_take) (r.bucket hold.class).moved (λ s there p. (p.0, gone_take s (not_take (r.bucket hold.class).moved (λ x. let a = roles_by x in let l = at_most_one (is_slot_of capacities hold.class x) _ a in omega arith) s there) ∙ p.1)) rule.ages.moved;
+            retired = all_change (IsGone h) (IsGone h_take) (r.bucket hold.class).retired
+                (λ s there p. (
+                  p.0,
+                  gone_take s (not_take (r.bucket hold.class).retired
+                      (λ x. let a = roles_by x in let l = at_most_one (is_slot_of capacities hold.class x) _ a in omega arith) s there)
+                      ∙ p.1,
+                )) rule.ages.retired;
+            moved = all_change (IsGone h) (IsGone h_take) (r.bucket hold.class).moved
+                (λ s there p. (
+                  p.0,
+                  gone_take s (not_take (r.bucket hold.class).moved
+                      (λ x. let a = roles_by x in let l = at_most_one (is_slot_of capacities hold.class x) _ a in omega arith) s there)
+                      ∙ p.1,
+                )) rule.ages.moved;
             unlinked = λ s is.
-                let p = rule.ages.unlinked s (ap unlinked_of had ∙ is) in
-                (p.0, gone_take s (not_take (option_to_list hold.unlinked) (λ x. let a = roles_by x in let l = at_most_one (is_slot_of capacities hold.class x) _ a in omega arith) s (let e : times s (option_to_list hold.unlinked) ≡ 1 = ap (λ o. times s (option_to_list o)) is ∙ (let t = times_here s [] in omega arith) in omega arith)) ∙ p.1);
+                let p = rule.ages.unlinked s (ap unlinked_of had ∙ is) in (
+                  p.0,
+                  gone_take s (not_take (option_to_list hold.unlinked)
+                      (λ x. let a = roles_by x in let l = at_most_one (is_slot_of capacities hold.class x) _ a in omega arith) s
+                      (let e : times s (option_to_list hold.unlinked) ≡ 1 =
+                      ap (λ o. times s (option_to_list o)) is ∙ (let t = times_here s [] in omega arith) in omega arith)) ∙ p.1,
+                );
           };
           counted = record { readers = (counted_still capacities hold.class m h vs id v w_take at refl rule.counted).readers };
           clean = record {
-            free = all_map (IsFreeOfReaders hold.class h vs) (IsFreeOfReaders hold.class h_take (set vs id w_take)) first_free.0 still_free_take others_clean;
-            moved = all_map (IsFreeOfReaders hold.class h vs) (IsFreeOfReaders hold.class h_take (set vs id w_take)) (r.bucket hold.class).moved still_free_take rule.clean.moved;
-            clear = λ other is yes s of. let e : new_take ≡ other = cc in still_free_take s (rule.clean.clear hold had (ap (λ (z : Hold). z.clear) e ∙ yes) s of);
+            free = all_map (IsFreeOfReaders hold.class h vs)
+                (IsFreeOfReaders hold.class h_take (set vs id w_take)) first_free.0 still_free_take others_clean;
+            moved = all_map (IsFreeOfReaders hold.class h vs) (IsFreeOfReaders hold.class h_take (set vs id w_take))
+                (r.bucket hold.class).moved still_free_take rule.clean.moved;
+            clear = λ other is yes s of. let e : new_take ≡ other = cc in
+                still_free_take s (rule.clean.clear hold had (ap (λ (z : Hold). z.clear) e ∙ yes) s of);
           };
           answered = record {
-            readers = λ j u section there is class. each_set (λ k z. z.section ≡ Some section → WillAnswer capacities hold.class m_take h_take us' chain section section.state) vs id w_take
-                (λ yes. will_still capacities hold.class m m_take h h_take us us' chain chain section (keeps section id v at yes class) section.state (rule.answered.readers id v section at yes class))
-                (λ k z far e theirs. will_still capacities hold.class m m_take h h_take us us' chain chain section (keeps section k z e theirs class) section.state (rule.answered.readers k z section e theirs class)) j u there is;
-            loaded = λ j u section value there is class read. each_set (λ k z. z.section ≡ Some section → WasSaid us' section.key section.from (Some value)) vs id w_take
+            readers = λ j u section there is class. each_set
+                (λ k z. z.section ≡ Some section
+                → WillAnswer capacities hold.class m_take h_take us' chain section section.state) vs id w_take
+                (λ yes. will_still capacities hold.class m m_take h h_take us us' chain chain section
+                (keeps section id v at yes class) section.state (rule.answered.readers id v section at yes class))
+                (λ k z far e theirs. will_still capacities hold.class m m_take h h_take us us' chain chain section
+                (keeps section k z e theirs class) section.state (rule.answered.readers k z section e theirs class)) j u there is;
+            loaded = λ j u section value there is class read. each_set
+                (λ k z. z.section ≡ Some section → WasSaid us' section.key section.from (Some value)) vs id w_take
                 (λ yes. (keeps section id v at yes class).said (Some value) (rule.answered.loaded id v section value at yes class read))
-                (λ k z far e theirs. (keeps section k z e theirs class).said (Some value) (rule.answered.loaded k z section value e theirs class read)) j u there is;
+                (λ k z far e theirs. (keeps section k z e theirs class).said (Some value)
+                (rule.answered.loaded k z section value e theirs class read)) j u there is;
           };
         })
-        (λ d _ ne. record { words = class_words capacities hold.class d m next ne (Free hold.class) refl; marks = same_marks_take d ne; view = elsewhere_held capacities places tickets m vs h r id v at d hold new_take mine refl ne w_take refl refl refl })
+        (λ d _ ne. record {
+          words = class_words capacities hold.class d m next ne (Free hold.class) refl;
+          marks = same_marks_take d ne;
+          view = elsewhere_held capacities places tickets m vs h r id v at d hold new_take mine refl ne w_take refl refl refl;
+        })

@@ -42,20 +42,48 @@ same_is (Chain c) (Chain d) e = ap Chain (eqb-true c d e)
 same_is _ _ e = absurd (cc)
 
 pub same_words : (capacities : List ℕ) (d : ℕ) (m : Memory) → SameWords capacities d m m
-same_words capacities d m = record { lock = refl; readers = refl; head = refl; free = refl; retired = refl; slots = λ s of. (refl, refl, refl, refl) }
+same_words capacities d m = record {
+  lock = refl;
+  readers = refl;
+  head = refl;
+  free = refl;
+  retired = refl;
+  slots = λ s of. (refl, refl, refl, refl);
+}
 
 pub front_words : (capacities : List ℕ) (d : ℕ) (m : Memory) (n : ℕ) → SameWords capacities d m (stored m Front n)
-front_words capacities d m n = record { lock = refl; readers = refl; head = refl; free = refl; retired = refl; slots = λ s of. (refl, refl, refl, refl) }
+front_words capacities d m n = record {
+  lock = refl;
+  readers = refl;
+  head = refl;
+  free = refl;
+  retired = refl;
+  slots = λ s of. (refl, refl, refl, refl);
+}
 
 module _ (capacities : List ℕ) (c d : ℕ) (m : Memory) (n : ℕ) (other : d ≢ c) where
   far : c ≢ d
   far e = other (sym e)
 
   pub lock_words : SameWords capacities d m (stored m (Lock c) n)
-  lock_words = record { lock = cond_ne 0 n (m (Lock d)) c d far; readers = refl; head = refl; free = refl; retired = refl; slots = λ s of. (refl, refl, refl, refl) }
+  lock_words = record {
+    lock = cond_ne 0 n (m (Lock d)) c d far;
+    readers = refl;
+    head = refl;
+    free = refl;
+    retired = refl;
+    slots = λ s of. (refl, refl, refl, refl);
+  }
 
   pub readers_words : SameWords capacities d m (stored m (Readers c) n)
-  readers_words = record { lock = refl; readers = cond_ne 0 n (m (Readers d)) c d far; head = refl; free = refl; retired = refl; slots = λ s of. (refl, refl, refl, refl) }
+  readers_words = record {
+    lock = refl;
+    readers = cond_ne 0 n (m (Readers d)) c d far;
+    head = refl;
+    free = refl;
+    retired = refl;
+    slots = λ s of. (refl, refl, refl, refl);
+  }
 
   -- a slot of another class
   far_slot : (s t : ℕ) → is_slot_of capacities c s ≡ true → is_slot_of capacities d t ≡ true → s ≢ t
@@ -65,10 +93,59 @@ module _ (capacities : List ℕ) (c d : ℕ) (m : Memory) (n : ℕ) (other : d �
   class_words Front of = absurd of
   class_words (Lock e) of = absurd of
   class_words (Readers e) of = absurd of
-  class_words (Head e) of = record { lock = refl; readers = refl; head = cond_ne 0 n (m (Head d)) e d (λ f. far (sym of ∙ f)); free = refl; retired = refl; slots = λ s _. (refl, refl, refl, refl) }
-  class_words (Free e) of = record { lock = refl; readers = refl; head = refl; free = cond_ne 0 n (m (Free d)) e d (λ f. far (sym of ∙ f)); retired = refl; slots = λ s _. (refl, refl, refl, refl) }
-  class_words (Retired e) of = record { lock = refl; readers = refl; head = refl; free = refl; retired = cond_ne 0 n (m (Retired d)) e d (λ f. far (sym of ∙ f)); slots = λ s _. (refl, refl, refl, refl) }
-  class_words (Key t) of = record { lock = refl; readers = refl; head = refl; free = refl; retired = refl; slots = λ s here. (cond_ne 0 n (m (Key s)) t s (far_slot t s of here), refl, refl, refl) }
-  class_words (Value t) of = record { lock = refl; readers = refl; head = refl; free = refl; retired = refl; slots = λ s here. (refl, cond_ne 0 n (m (Value s)) t s (far_slot t s of here), refl, refl) }
-  class_words (Next t) of = record { lock = refl; readers = refl; head = refl; free = refl; retired = refl; slots = λ s here. (refl, refl, cond_ne 0 n (m (Next s)) t s (far_slot t s of here), refl) }
-  class_words (Chain t) of = record { lock = refl; readers = refl; head = refl; free = refl; retired = refl; slots = λ s here. (refl, refl, refl, cond_ne 0 n (m (Chain s)) t s (far_slot t s of here)) }
+  class_words (Head e) of = record {
+    lock = refl;
+    readers = refl;
+    head = cond_ne 0 n (m (Head d)) e d (λ f. far (sym of ∙ f));
+    free = refl;
+    retired = refl;
+    slots = λ s _. (refl, refl, refl, refl);
+  }
+  class_words (Free e) of = record {
+    lock = refl;
+    readers = refl;
+    head = refl;
+    free = cond_ne 0 n (m (Free d)) e d (λ f. far (sym of ∙ f));
+    retired = refl;
+    slots = λ s _. (refl, refl, refl, refl);
+  }
+  class_words (Retired e) of = record {
+    lock = refl;
+    readers = refl;
+    head = refl;
+    free = refl;
+    retired = cond_ne 0 n (m (Retired d)) e d (λ f. far (sym of ∙ f));
+    slots = λ s _. (refl, refl, refl, refl);
+  }
+  class_words (Key t) of = record {
+    lock = refl;
+    readers = refl;
+    head = refl;
+    free = refl;
+    retired = refl;
+    slots = λ s here. (cond_ne 0 n (m (Key s)) t s (far_slot t s of here), refl, refl, refl);
+  }
+  class_words (Value t) of = record {
+    lock = refl;
+    readers = refl;
+    head = refl;
+    free = refl;
+    retired = refl;
+    slots = λ s here. (refl, cond_ne 0 n (m (Value s)) t s (far_slot t s of here), refl, refl);
+  }
+  class_words (Next t) of = record {
+    lock = refl;
+    readers = refl;
+    head = refl;
+    free = refl;
+    retired = refl;
+    slots = λ s here. (refl, refl, cond_ne 0 n (m (Next s)) t s (far_slot t s of here), refl);
+  }
+  class_words (Chain t) of = record {
+    lock = refl;
+    readers = refl;
+    head = refl;
+    free = refl;
+    retired = refl;
+    slots = λ s here. (refl, refl, refl, cond_ne 0 n (m (Chain s)) t s (far_slot t s of here));
+  }

@@ -33,20 +33,28 @@ use Rattle.hash_core.proofs.Locks.{class_small, works}
 use Rattle.hash_core.proofs.Whole.{SeatsRule}
 
 -- what the last front says
-pub said_after : (us : List Update) (u : Update) (key from : ℕ) (answer : Option ℕ) → from ≤ length us → finite.get (updated (map_of us) u.op) key ≡ answer → WasSaid (us ++ u ∷ []) key from answer
+pub said_after : (us : List Update) (u : Update) (key from : ℕ) (answer : Option ℕ) → from ≤ length us
+    → finite.get (updated (map_of us) u.op) key ≡ answer → WasSaid (us ++ u ∷ []) key from answer
 said_after us u key from answer since e =
     let l = length-append us (u ∷ []) in
-    subst (WasSaid (us ++ u ∷ []) key from) (ap (λ z. finite.get z key) (map_of-push us u) ∙ e) (said_now (us ++ u ∷ []) key from (omega arith))
+    subst (WasSaid (us ++ u ∷ []) key from) (ap (λ z. finite.get z key) (map_of-push us u) ∙ e)
+    (said_now (us ++ u ∷ []) key from (omega arith))
 
-module _ (capacities : List ℕ) (places tickets : ℕ) (m : Memory) (vs : List View) (h : List Mark) (r : MemoryRule capacities places tickets m vs h) (id : ℕ) (v : View) (at : get_elem? vs id ≡ some v) (hold : Hold) (mine : v.hold ≡ Some hold) (even : ℕ) (commit : HasCommit v hold even) where
+module _ (capacities : List ℕ) (places tickets : ℕ) (m : Memory) (vs : List View) (h : List Mark)
+    (r : MemoryRule capacities places tickets m vs h) (id : ℕ) (v : View) (at : get_elem? vs id ≡ some v) (hold : Hold)
+    (mine : v.hold ≡ Some hold) (even : ℕ) (commit : HasCommit v hold even) where
   -- the front is odd by this view
-  pub turned_by : (m Front ≡ even + 1) × (even ≡ 2 * length (updates_of h)) × ((j : ℕ) (u : View) → j ≢ id → get_elem? vs j ≡ some u → HasNoCommit u)
+  pub turned_by : (m Front ≡ even + 1) × (even ≡ 2 * length (updates_of h))
+      × ((j : ℕ) (u : View) → j ≢ id → get_elem? vs j ≡ some u → HasNoCommit u)
   turned_by = elim r.turned [
     | inl quiet ↦ absurd (let a : None ≡ Some (record { found = even; stored = false }) = sym (quiet.1 id v at) ∙ commit.commit_is in cc)
     | inr odd ↦
-        let me : id ≡ odd.0 = dite (ℕ_discrete id odd.0) (λ q. q) (λ ne. absurd (let a : None ≡ Some (record { found = even; stored = false }) = sym (odd.9 id v ne at) ∙ commit.commit_is in cc)) in
+        let me : id ≡ odd.0 = dite (ℕ_discrete id odd.0) (λ q. q)
+        (λ ne. absurd (let a : None ≡ Some (record { found = even; stored = false }) = sym (odd.9 id v ne at) ∙ commit.commit_is in
+        cc)) in
         let same : v ≡ odd.1 = at_one vs id v odd.1 at (subst (λ k. get_elem? vs k ≡ some odd.1) (sym me) odd.4) in
-        let there : Some odd.2 ≡ Some (record { found = even; stored = false }) = sym odd.5 ∙ ap (λ (z : View). z.commit) (sym same) ∙ commit.commit_is in
+        let there : Some odd.2 ≡ Some (record { found = even; stored = false }) =
+        sym odd.5 ∙ ap (λ (z : View). z.commit) (sym same) ∙ commit.commit_is in
         let it : ◌≡◌ {A = Commit} odd.2 (record { found = even; stored = false }) = cc in
         let found : odd.2.found ≡ even = ap (λ (z : Commit). z.found) it in
         let count : updates_by odd.2 ≡ updates_by (record { found = even; stored = false }) = ap updates_by it in
@@ -54,7 +62,8 @@ module _ (capacities : List ℕ) (places tickets : ℕ) (m : Memory) (vs : List 
   ]
 
   module _ (op : Op) (new : Hold) (class : new.class ≡ hold.class) (m' : Memory) (front : m' Front ≡ m Front) (more : List Mark)
-      (longer : updates_of (h ++ Done (record { caller = v.place; op = op }) ∷ more) ≡ updates_of h ++ record { caller = v.place; op = op } ∷ [])
+      (longer : updates_of (h ++ Done (record { caller = v.place; op = op }) ∷ more) ≡ updates_of h
+      ++ record { caller = v.place; op = op } ∷ [])
       (none : (p : ℕ) → own_of p more ≡ [])
       (opened : (p : ℕ) → open_at p (h ++ Done (record { caller = v.place; op = op }) ∷ more) ≡ open_at p h)
       (entered : (p : ℕ) → entered_at p (h ++ Done (record { caller = v.place; op = op }) ∷ more) ≡ entered_at p h)
@@ -75,10 +84,16 @@ module _ (capacities : List ℕ) (places tickets : ℕ) (m : Memory) (vs : List 
       seats_updated = record {
         seen = seen_whole vs id v w_new at h h_new refl refl (Done (record { caller = v.place; op = op }) ∷ more, refl) r.seen;
         apart = apart_same vs id v w_new at places (record { place = refl; places = refl; joined = refl }) r.apart;
-        owned = owned_more vs id v w_new at places h more (Done (record { caller = v.place; op = op })) (record { place = refl; places = refl; joined = refl }) (works capacities places tickets m vs h r id v at hold mine) refl refl
+        owned = owned_more vs id v w_new at places h more (Done (record { caller = v.place; op = op }))
+            (record { place = refl; places = refl; joined = refl }) (works capacities places tickets m vs h r id v at hold mine) refl refl
             (eq-eqb v.place v.place refl) (λ p ne. ne_eqb v.place p (λ e. ne (sym e))) none r.apart r.owned;
-        sections = open_same vs id v w_new at h h_new (updates_of h) (updates_of h_new) refl refl refl (section_back v w_new refl) (section_forth v w_new refl) opened entered (let n = one_longer in omega arith) r.sections;
-        held = held_still vs id v w_new at (λ other is. let e : new ≡ other = cc in (subst (λ (z : Hold). z.class < 64) e (subst (λ z. z < 64) (sym class) (class_small capacities places tickets m vs h r id v at hold mine)), works capacities places tickets m vs h r id v at hold mine)) r.held;
+        sections = open_same vs id v w_new at h h_new (updates_of h) (updates_of h_new) refl refl refl (section_back v w_new refl)
+            (section_forth v w_new refl) opened entered (let n = one_longer in omega arith) r.sections;
+        held = held_still vs id v w_new at (λ other is. let e : new ≡ other = cc in (
+          subst (λ (z : Hold). z.class < 64) e (subst (λ z. z < 64) (sym class)
+              (class_small capacities places tickets m vs h r id v at hold mine)),
+          works capacities places tickets m vs h r id v at hold mine,
+        )) r.held;
         turned = inr (
           id,
           w_new,
@@ -89,7 +104,8 @@ module _ (capacities : List ℕ) (places tickets : ℕ) (m : Memory) (vs : List 
           refl,
           front ∙ turned_by.0,
           (let a = turned_by.1 in let n = one_longer in omega arith),
-          λ j u ne there. each_set (λ k z. k ≢ id → HasNoCommit z) vs id w_new (λ f. absurd (f refl)) (λ k z far e _. turned_by.2 k z far e) j u there ne,
+          λ j u ne there. each_set (λ k z. k ≢ id → HasNoCommit z) vs id w_new (λ f. absurd (f refl))
+              (λ k z far e _. turned_by.2 k z far e) j u there ne,
         );
         tickets_are =
             (let sum = total_set (λ (z : View). z.tickets) vs id v w_new at in

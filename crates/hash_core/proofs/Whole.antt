@@ -35,13 +35,17 @@ pub record IsElsewhere (capacities : List ℕ) (d : ℕ) (m m' : Memory) (h h' :
   pub marks : SameMarks capacities d h h' (updates_of h) (updates_of h')
   pub view : SameView d v w
 
-module _ (capacities : List ℕ) (places tickets : ℕ) (m : Memory) (vs : List View) (h : List Mark) (r : MemoryRule capacities places tickets m vs h) (id : ℕ) (v w : View) (at : get_elem? vs id ≡ some v) (m' : Memory) (h' : List Mark)
+module _ (capacities : List ℕ) (places tickets : ℕ) (m : Memory) (vs : List View) (h : List Mark)
+    (r : MemoryRule capacities places tickets m vs h) (id : ℕ) (v w : View) (at : get_elem? vs id ≡ some v) (m' : Memory) (h' : List Mark)
     (seats : SeatsRule capacities places tickets m' (set vs id w) h') where
-  still : (d : ℕ) → d < 64 → IsElsewhere capacities d m m' h h' v w → BucketRule capacities d m' h' (updates_of h') (set vs id w) (r.bucket d)
-  still d small elsewhere = bucket_frame capacities d m m' h h' (updates_of h) (updates_of h') vs id v w (r.bucket d) at elsewhere.words elsewhere.marks elsewhere.view (r.buckets d small)
+  still : (d : ℕ) → d < 64 → IsElsewhere capacities d m m' h h' v w
+      → BucketRule capacities d m' h' (updates_of h') (set vs id w) (r.bucket d)
+  still d small elsewhere = bucket_frame capacities d m m' h h' (updates_of h) (updates_of h') vs id v w
+      (r.bucket d) at elsewhere.words elsewhere.marks elsewhere.view (r.buckets d small)
 
   -- a step in one class
-  pub after_step : (c : ℕ) (b : Bucket) → (c < 64 → BucketRule capacities c m' h' (updates_of h') (set vs id w) b) → ((d : ℕ) → d < 64 → d ≢ c → IsElsewhere capacities d m m' h h' v w) → MemoryRule capacities places tickets m' (set vs id w) h'
+  pub after_step : (c : ℕ) (b : Bucket) → (c < 64 → BucketRule capacities c m' h' (updates_of h') (set vs id w) b)
+      → ((d : ℕ) → d < 64 → d ≢ c → IsElsewhere capacities d m m' h h' v w) → MemoryRule capacities places tickets m' (set vs id w) h'
   after_step c b mine others = record {
     shape = r.shape;
     seen = seats.seen;
@@ -57,7 +61,8 @@ module _ (capacities : List ℕ) (places tickets : ℕ) (m : Memory) (vs : List 
     bucket = λ d. cond (d == c) b (r.bucket d);
     buckets = λ d small. dite (ℕ_discrete d c)
         (λ e. let here : b ≡ cond (d == c) b (r.bucket d) = ap (λ t. cond t b (r.bucket d)) (sym (eq-eqb d c e)) in
-        subst (BucketRule capacities d m' h' (updates_of h') (set vs id w)) here (subst (λ z. BucketRule capacities z m' h' (updates_of h') (set vs id w) b) (sym e) (mine (subst (λ z. z < 64) e small))))
+        subst (BucketRule capacities d m' h' (updates_of h') (set vs id w)) here
+        (subst (λ z. BucketRule capacities z m' h' (updates_of h') (set vs id w) b) (sym e) (mine (subst (λ z. z < 64) e small))))
         (λ ne. let there : r.bucket d ≡ cond (d == c) b (r.bucket d) = ap (λ t. cond t b (r.bucket d)) (sym (ne_eqb d c ne)) in
         subst (BucketRule capacities d m' h' (updates_of h') (set vs id w)) there (still d small (others d small ne)));
   }

@@ -125,7 +125,8 @@ abbrev pub Needs : List ℕ → View → Act → Type 0
 Needs capacities v LoadFront = Unit {0}
 Needs capacities v (Enter key) = (key < 2 ^ 64) × IsQuiet v
 Needs capacities v Leave = (section : Section) × (v.section ≡ Some section)
-Needs capacities v (SearchLoad field) = (section : Section) × (v.section ≡ Some section) × MayLoad section field × IsOfClass capacities (section.key % 64) field
+Needs capacities v (SearchLoad field) = (section : Section) × (v.section ≡ Some section) × MayLoad section field
+    × IsOfClass capacities (section.key % 64) field
 Needs capacities v (Lock class) = (class < 64) × IsQuiet v
 Needs capacities v Unlock = (hold : Hold) × NeedsUnlock v hold
 Needs capacities v LoadReaders = (hold : Hold) × (v.hold ≡ Some hold)
@@ -138,8 +139,10 @@ Needs capacities v (Retire slot) = (hold : Hold) × (first : ℕ) × NeedsPush v
 Needs capacities v (Fill field number) = (hold : Hold) × (slot : ℕ) × NeedsWrite v hold slot field × IsOfClass capacities hold.class field
 Needs capacities v (OpenCommit even) = (hold : Hold) × NeedsCommit v hold even
 Needs capacities v (LinkSlot slot key value) = (hold : Hold) × (even first : ℕ) × NeedsLink v hold even slot key value first
-Needs capacities v (UnlinkSlot link slot key next) = (hold : Hold) × (even : ℕ) × NeedsUnlink v hold even link slot key next × IsOfClass capacities hold.class link
-Needs capacities v (ReplaceValue slot key value) = (hold : Hold) × (even : ℕ) × NeedsReplace v hold even slot key × IsOfClass capacities hold.class (word.Value slot)
+Needs capacities v (UnlinkSlot link slot key next) =
+    (hold : Hold) × (even : ℕ) × NeedsUnlink v hold even link slot key next × IsOfClass capacities hold.class link
+Needs capacities v (ReplaceValue slot key value) =
+    (hold : Hold) × (even : ℕ) × NeedsReplace v hold even slot key × IsOfClass capacities hold.class (word.Value slot)
 Needs capacities v (CloseCommit front) = (even : ℕ) × NeedsEven v even × (front ≡ even + 2)
 
 -- The view after it, by all marks before it and the number that it tells; v is the view before, with the step in its trail.

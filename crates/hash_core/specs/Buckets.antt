@@ -70,7 +70,8 @@ pub record AreListed (c : ℕ) (m : Memory) (b : Bucket) : Type 0 where
 -- Each slot of the class is in just one of these, once, and no other slot is: the chain, the free list, the retired list,
 -- the list in hand, the slot taken, the slot unlinked.
 pub record HaveOneRole (capacities : List ℕ) (c : ℕ) (b : Bucket) : Type 0 where
-  pub once : (x : ℕ) → times x b.chain + times x b.free + times x b.retired + times x b.moved + times x (option_to_list (taken_of b.hold)) + times x (option_to_list (unlinked_of b.hold))
+  pub once : (x : ℕ) → times x b.chain + times x b.free + times x b.retired + times x b.moved + times x (option_to_list (taken_of b.hold))
+      + times x (option_to_list (unlinked_of b.hold))
       ≡ (if is_slot_of capacities c x then 1 else 0)
 
 -- The chain's pairs are those of the dictionary now whose key is of the class.
@@ -84,12 +85,14 @@ HoldsOther c v = (hold : Hold) → v.hold ≡ Some hold → hold.class ≢ c
 -- A lock word is the place plus 1 of the one view that holds the lock, 0 where none does.
 abbrev pub IsLocked : ℕ → Memory → List View → Option Hold → Type 0
 IsLocked c m vs None = (m (Lock c) ≡ 0) × ((id : ℕ) (v : View) → get_elem? vs id ≡ some v → HoldsOther c v)
-IsLocked c m vs (Some hold) = (holder : ℕ) × (u : View) × (get_elem? vs holder ≡ some u) × (u.hold ≡ Some hold) × (hold.class ≡ c) × (m (Lock c) ≡ u.place + 1)
+IsLocked c m vs (Some hold) = (holder : ℕ) × (u : View) × (get_elem? vs holder ≡ some u) × (u.hold ≡ Some hold) × (hold.class ≡ c)
+    × (m (Lock c) ≡ u.place + 1)
     × ((id : ℕ) (v : View) → id ≢ holder → get_elem? vs id ≡ some v → HoldsOther c v)
 
 -- What the holder knows of the class's words is so.
 pub record IsKnown (capacities : List ℕ) (c : ℕ) (m : Memory) (held : Option Hold) : Type 0 where
-  pub known : (hold : Hold) (field : Field) (number : ℕ) → held ≡ Some hold → known_in hold.known field ≡ Some number → IsOfClass capacities c field × (m field ≡ number)
+  pub known : (hold : Hold) (field : Field) (number : ℕ) → held ≡ Some hold → known_in hold.known field ≡ Some number
+      → IsOfClass capacities c field × (m field ≡ number)
 
 -- A linked slot and the slot taken weren't unlinked since they were given; those that are retired, in hand or just
 -- unlinked were.
@@ -110,7 +113,8 @@ pub record AreCounted (c : ℕ) (m : Memory) (vs : List View) : Type 0 where
 
 -- No open section of the class was entered before the slot was unlinked last, whatever came after that.
 abbrev pub IsFreeOfReaders : ℕ → List Mark → List View → ℕ → Type 0
-IsFreeOfReaders c h vs s = (p id : ℕ) (v : View) (section : Section) → last_unlinked s h ≡ Some p → get_elem? vs id ≡ some v → v.section ≡ Some section → section.key % 64 ≡ c → p < section.entered
+IsFreeOfReaders c h vs s = (p id : ℕ) (v : View) (section : Section) → last_unlinked s h ≡ Some p → get_elem? vs id ≡ some v
+    → v.section ≡ Some section → section.key % 64 ≡ c → p < section.entered
 
 -- That holds of free slots and of the list in hand, and where the holder found no reader of all slots of the class.
 pub record AreClean (capacities : List ℕ) (c : ℕ) (h : List Mark) (vs : List View) (b : Bucket) : Type 0 where

@@ -25,20 +25,32 @@ done_by v op = Done (record { caller = v.place; op = op })
 -- that a seat makes after a join.
 pub data IsStep (capacities : List ℕ) (h : List Mark) (v : View) : Kind → Field → ℕ → ℕ → View → List Mark → Type 0 where
   step2 : {n : ℕ} → IsStep capacities h v H2 Front n n v []
-  step3 : {n : ℕ} (key : ℕ) → key < 2 ^ 64 → IsQuiet v → IsStep capacities h v H3 (Readers (key % 64)) n (n + 1) (after_enter v key h) (Entered v.place v.sections key ∷ [])
-  step4 : {n : ℕ} (section : Section) → v.section ≡ Some section → IsStep capacities h v H4 (Readers (section.key % 64)) n (n - 1) (after_leave v section h) (Left v.place section.count ∷ [])
-  step5 : {n : ℕ} (section : Section) (field : Field) → v.section ≡ Some section → MayLoad section field → IsStep capacities h v H5 field n n (after_search_load v section field n) []
-  step6 : {n : ℕ} (class : ℕ) → class < 64 → IsQuiet v → IsStep capacities h v H6 (Lock class) n (if n == 0 then v.place + 1 else n) (after_lock v class n) []
+  step3 : {n : ℕ} (key : ℕ) → key < 2 ^ 64 → IsQuiet v
+      → IsStep capacities h v H3 (Readers (key % 64)) n (n + 1) (after_enter v key h) (Entered v.place v.sections key ∷ [])
+  step4 : {n : ℕ} (section : Section) → v.section ≡ Some section
+      → IsStep capacities h v H4 (Readers (section.key % 64)) n (n - 1) (after_leave v section h) (Left v.place section.count ∷ [])
+  step5 : {n : ℕ} (section : Section) (field : Field) → v.section ≡ Some section → MayLoad section field
+      → IsStep capacities h v H5 field n n (after_search_load v section field n) []
+  step6 : {n : ℕ} (class : ℕ) → class < 64 → IsQuiet v
+      → IsStep capacities h v H6 (Lock class) n (if n == 0 then v.place + 1 else n) (after_lock v class n) []
   step7 : {n : ℕ} (hold : Hold) → NeedsUnlock v hold → IsStep capacities h v H7 (Lock hold.class) n 0 (after_unlock v) []
   step8 : {n : ℕ} (hold : Hold) → v.hold ≡ Some hold → IsStep capacities h v H8 (Readers hold.class) n n (after_readers_load v hold n) []
-  step9 : {n : ℕ} (hold : Hold) (field : Field) → v.hold ≡ Some hold → IsOfClass capacities hold.class field → IsStep capacities h v H9 field n n (after_held_load v hold field n h) []
-  step10_take : {n : ℕ} (slot next : ℕ) (hold : Hold) → NeedsTake v hold slot next → IsStep capacities h v H10 (Free hold.class) n next (after_take v hold slot next h) (Given slot ∷ [])
-  step10_refill : {n : ℕ} (slot : ℕ) (hold : Hold) → NeedsRefill v hold slot → IsStep capacities h v H10 (Free hold.class) n slot (after_refill v hold slot) []
-  step10_move : {n : ℕ} (slot : ℕ) (hold : Hold) → NeedsMove v hold slot → IsStep capacities h v H10 (Retired hold.class) n 0 (after_move v hold slot) []
-  step10_push : {n : ℕ} (slot first : ℕ) (hold : Hold) → NeedsPush v hold slot first → IsStep capacities h v H10 (Retired hold.class) n slot (after_push v hold slot) []
-  step10_chain : {n : ℕ} (slot number : ℕ) (hold : Hold) → NeedsChain v hold slot → IsStep capacities h v H10 (Chain slot) n number (after_chain v hold slot number) []
-  step11 : {n : ℕ} (slot number : ℕ) (hold : Hold) (field : Field) → NeedsWrite v hold slot field → IsStep capacities h v H11 field n number (after_write v hold field number) []
-  step12 : {n : ℕ} (even : ℕ) (hold : Hold) → NeedsCommit v hold even → IsStep capacities h v H12 Front n (if n == even then even + 1 else n) (after_commit v even n) []
+  step9 : {n : ℕ} (hold : Hold) (field : Field) → v.hold ≡ Some hold → IsOfClass capacities hold.class field
+      → IsStep capacities h v H9 field n n (after_held_load v hold field n h) []
+  step10_take : {n : ℕ} (slot next : ℕ) (hold : Hold) → NeedsTake v hold slot next
+      → IsStep capacities h v H10 (Free hold.class) n next (after_take v hold slot next h) (Given slot ∷ [])
+  step10_refill : {n : ℕ} (slot : ℕ) (hold : Hold) → NeedsRefill v hold slot
+      → IsStep capacities h v H10 (Free hold.class) n slot (after_refill v hold slot) []
+  step10_move : {n : ℕ} (slot : ℕ) (hold : Hold) → NeedsMove v hold slot
+      → IsStep capacities h v H10 (Retired hold.class) n 0 (after_move v hold slot) []
+  step10_push : {n : ℕ} (slot first : ℕ) (hold : Hold) → NeedsPush v hold slot first
+      → IsStep capacities h v H10 (Retired hold.class) n slot (after_push v hold slot) []
+  step10_chain : {n : ℕ} (slot number : ℕ) (hold : Hold) → NeedsChain v hold slot
+      → IsStep capacities h v H10 (Chain slot) n number (after_chain v hold slot number) []
+  step11 : {n : ℕ} (slot number : ℕ) (hold : Hold) (field : Field) → NeedsWrite v hold slot field
+      → IsStep capacities h v H11 field n number (after_write v hold field number) []
+  step12 : {n : ℕ} (even : ℕ) (hold : Hold) → NeedsCommit v hold even
+      → IsStep capacities h v H12 Front n (if n == even then even + 1 else n) (after_commit v even n) []
   step13 : {n : ℕ} (even slot key value first : ℕ) (hold : Hold) → NeedsLink v hold even slot key value first
       → IsStep capacities h v H13 (Head hold.class) n slot (after_link v hold even slot key value h) (done_by v (Put key value) ∷ [])
   step14 : {n : ℕ} (even slot key next : ℕ) (hold : Hold) (link : Field) → NeedsUnlink v hold even link slot key next
@@ -60,4 +72,5 @@ is_store _ = false
 
 -- A step as a seat makes it: it is noted in the trail, with the number found, or stored where the kind stores.
 abbrev pub Steps : List ℕ → List Mark → View → Kind → Field → ℕ → ℕ → View → List Mark → Type 0
-Steps capacities h v kind field found left w marks = IsStep capacities h (stepped v kind field (if is_store kind then left else found)) kind field found left w marks
+Steps capacities h v kind field found left w marks =
+    IsStep capacities h (stepped v kind field (if is_store kind then left else found)) kind field found left w marks

@@ -37,7 +37,8 @@ pub record ShowsAbsent (hold : Hold) (key : ℕ) : Type 0 where
 -- The walk from a link goes over these slots, and then comes to the slot.
 abbrev pub ComesTo : List Known → ℕ → List ℕ → ℕ → Type 0
 ComesTo known first [] slot = (first ≡ slot) × (slot ≢ 0)
-ComesTo known first (s ∷ ss) slot = (first ≡ s) × (s ≢ 0) × ((next : ℕ) × (known_in known (Next s) ≡ Some next) × ComesTo known next ss slot)
+ComesTo known first (s ∷ ss) slot = (first ≡ s) × (s ≢ 0)
+    × ((next : ℕ) × (known_in known (Next s) ≡ Some next) × ComesTo known next ss slot)
 
 -- the slot is on the known walk
 pub record IsOnWalk (hold : Hold) (slot : ℕ) : Type 0 where

@@ -40,7 +40,8 @@ pub record HasChain (capacities : List ℕ) (c : ℕ) (m : Memory) (us : List Up
   pub mapped : IsMapped c m us chain
 
 abbrev pub ChainsAreMap : Type 0
-ChainsAreMap = (capacities : List ℕ) (places tickets : ℕ) (m : Memory) (vs : List View) (h : List Mark) → MemoryRule capacities places tickets m vs h → (c : ℕ) → c < 64 → HasChain capacities c m (updates_of h)
+ChainsAreMap = (capacities : List ℕ) (places tickets : ℕ) (m : Memory) (vs : List View) (h : List Mark)
+    → MemoryRule capacities places tickets m vs h → (c : ℕ) → c < 64 → HasChain capacities c m (updates_of h)
 
 -- Each slot of a class is in one of these: its chain, its free list, its retired list, or in hand of who holds the class's lock.
 pub record HasRoles (capacities : List ℕ) (c : ℕ) (m : Memory) (vs : List View) : Type 0 where
@@ -51,15 +52,18 @@ pub record HasRoles (capacities : List ℕ) (c : ℕ) (m : Memory) (vs : List Vi
   pub roles : HaveOneRole capacities c bucket
 
 abbrev pub SlotsHaveOneRole : Type 0
-SlotsHaveOneRole = (capacities : List ℕ) (places tickets : ℕ) (m : Memory) (vs : List View) (h : List Mark) → MemoryRule capacities places tickets m vs h → (c : ℕ) → c < 64 → HasRoles capacities c m vs
+SlotsHaveOneRole = (capacities : List ℕ) (places tickets : ℕ) (m : Memory) (vs : List View) (h : List Mark)
+    → MemoryRule capacities places tickets m vs h → (c : ℕ) → c < 64 → HasRoles capacities c m vs
 
 -- A class's readers word is the number of its open sections.
 abbrev pub ReadersAreCounted : Type 0
-ReadersAreCounted = (capacities : List ℕ) (places tickets : ℕ) (m : Memory) (vs : List View) (h : List Mark) → MemoryRule capacities places tickets m vs h → (c : ℕ) → c < 64 → m (Readers c) ≡ total (λ v. inside_count c v.section) vs
+ReadersAreCounted = (capacities : List ℕ) (places tickets : ℕ) (m : Memory) (vs : List View) (h : List Mark)
+    → MemoryRule capacities places tickets m vs h → (c : ℕ) → c < 64 → m (Readers c) ≡ total (λ v. inside_count c v.section) vs
 
 -- The front word is twice the number of updates where no update is being made, and odd while one view makes one.
 abbrev pub FrontCounts : Type 0
-FrontCounts = (capacities : List ℕ) (places tickets : ℕ) (m : Memory) (vs : List View) (h : List Mark) → MemoryRule capacities places tickets m vs h → IsTurned m vs (length (updates_of h))
+FrontCounts = (capacities : List ℕ) (places tickets : ℕ) (m : Memory) (vs : List View) (h : List Mark)
+    → MemoryRule capacities places tickets m vs h → IsTurned m vs (length (updates_of h))
 
 -- a section that is open
 pub record IsOpenIn (vs : List View) (section : Section) : Type 0 where
@@ -90,7 +94,8 @@ Answers m section Ended answer = answer ≡ None
 
 -- What each open search will answer the dictionary said at some front since it was entered.
 abbrev pub SearchesAreAnswered : Type 0
-SearchesAreAnswered = (capacities : List ℕ) (places tickets : ℕ) (m : Memory) (vs : List View) (h : List Mark) → MemoryRule capacities places tickets m vs h → (section : Section) → IsOpenIn vs section
+SearchesAreAnswered = (capacities : List ℕ) (places tickets : ℕ) (m : Memory) (vs : List View) (h : List Mark)
+    → MemoryRule capacities places tickets m vs h → (section : Section) → IsOpenIn vs section
     → (answer : Option ℕ) × Answers m section section.state answer × WasSaid (updates_of h) section.key section.from answer
 
 -- the slot is on the chain of the class
@@ -102,28 +107,34 @@ pub record IsLinked (m : Memory) (c slot : ℕ) : Type 0 where
 -- A slot at which an open search stands is one of its class. It is linked, or was unlinked since the section was entered and
 -- not given since.
 abbrev pub SearchesStand : Type 0
-SearchesStand = (capacities : List ℕ) (places tickets : ℕ) (m : Memory) (vs : List View) (h : List Mark) → MemoryRule capacities places tickets m vs h → (section : Section) → IsOpenIn vs section → (slot : ℕ) → StandsAt section.state slot
+SearchesStand = (capacities : List ℕ) (places tickets : ℕ) (m : Memory) (vs : List View) (h : List Mark)
+    → MemoryRule capacities places tickets m vs h → (section : Section) → IsOpenIn vs section → (slot : ℕ) → StandsAt section.state slot
     → (is_slot_of capacities (section.key % 64) slot ≡ true) × (IsLinked m (section.key % 64) slot ⊎ IsHeldBack h section slot)
 
 -- The marks stand in order, and have reuse by class.
 abbrev pub MarksAreInOrder : Type 0
-MarksAreInOrder = (capacities : List ℕ) (places tickets : ℕ) (m : Memory) (vs : List View) (h : List Mark) → MemoryRule capacities places tickets m vs h → AreMarks places h
+MarksAreInOrder = (capacities : List ℕ) (places tickets : ℕ) (m : Memory) (vs : List View) (h : List Mark)
+    → MemoryRule capacities places tickets m vs h → AreMarks places h
 
 abbrev pub SlotsAreReused : Type 0
-SlotsAreReused = (capacities : List ℕ) (places tickets : ℕ) (m : Memory) (vs : List View) (h : List Mark) → MemoryRule capacities places tickets m vs h → ReuseByClass capacities h
+SlotsAreReused = (capacities : List ℕ) (places tickets : ℕ) (m : Memory) (vs : List View) (h : List Mark)
+    → MemoryRule capacities places tickets m vs h → ReuseByClass capacities h
 
 -- What a step leaves: the key, value and next of a slot that was unlinked stay until it is given.
 pub record KeepsPast (m : Memory) (h : List Mark) (to : Memory) : Type 0 where
   pub content : (s : ℕ) (field : Field) → IsGone h s → IsFieldOf s field → to field ≡ m field
 
-pub record IsKept (capacities : List ℕ) (places tickets : ℕ) (m : Memory) (h : List Mark) (to : Memory) (vs : List View) (h' : List Mark) : Type 0 where
+pub record IsKept (capacities : List ℕ) (places tickets : ℕ) (m : Memory) (h : List Mark) (to : Memory) (vs : List View)
+    (h' : List Mark) : Type 0 where
   pub rule : MemoryRule capacities places tickets to vs h'
   pub past : KeepsPast m h to
 
 -- Each step of the kind, as a seat makes it that works at a place, keeps the rule, from any state that has it.
 abbrev pub Keeps : Kind → Type 0
-Keeps kind = (capacities : List ℕ) (places tickets : ℕ) (m : Memory) (vs : List View) (h : List Mark) (id : ℕ) (v w : View) (field : Field) (left : ℕ) (marks : List Mark)
-    → MemoryRule capacities places tickets m vs h → get_elem? vs id ≡ some v → 1 ≤ v.places → Steps capacities h v kind field (m field) left w marks
+Keeps kind = (capacities : List ℕ) (places tickets : ℕ) (m : Memory) (vs : List View) (h : List Mark) (id : ℕ) (v w : View) (field : Field)
+    (left : ℕ) (marks : List Mark)
+    → MemoryRule capacities places tickets m vs h → get_elem? vs id ≡ some v → 1 ≤ v.places
+    → Steps capacities h v kind field (m field) left w marks
     → IsKept capacities places tickets m h (stored m field left) (set vs id w) (h ++ marks)
 
 abbrev pub StepsKeep : Type 0
@@ -131,36 +142,48 @@ StepsKeep = (kind : Kind) → Keeps kind
 
 -- An act whose needs are met is a step of its kind, whatever it finds; so it keeps the rule.
 abbrev pub ActsAreSteps : Type 0
-ActsAreSteps = (capacities : List ℕ) (h : List Mark) (v : View) (n : ℕ) (a : Act) → Needs capacities v a → Steps capacities h v (kind_of a) (field_of v a) n (left v a n) (done v a h n) (marks_of v a)
+ActsAreSteps = (capacities : List ℕ) (h : List Mark) (v : View) (n : ℕ) (a : Act) → Needs capacities v a
+    → Steps capacities h v (kind_of a) (field_of v a) n (left v a n) (done v a h n) (marks_of v a)
 
 abbrev pub ActsKeep : Type 0
-ActsKeep = (capacities : List ℕ) (places tickets : ℕ) (m : Memory) (vs : List View) (h : List Mark) (id : ℕ) (v : View) (a : Act) → MemoryRule capacities places tickets m vs h → get_elem? vs id ≡ some v → 1 ≤ v.places → Needs capacities v a
-    → let field = field_of v a in let n = m field in IsKept capacities places tickets m h (stored m field (left v a n)) (set vs id (done v a h n)) (h ++ marks_of v a)
+ActsKeep = (capacities : List ℕ) (places tickets : ℕ) (m : Memory) (vs : List View) (h : List Mark) (id : ℕ) (v : View) (a : Act)
+    → MemoryRule capacities places tickets m vs h → get_elem? vs id ≡ some v → 1 ≤ v.places → Needs capacities v a
+    → let field = field_of v a in let n = m field in
+    IsKept capacities places tickets m h (stored m field (left v a n)) (set vs id (done v a h n)) (h ++ marks_of v a)
 
 -- A split keeps the rule.
 abbrev pub SplitsKeep : Type 0
-SplitsKeep = (capacities : List ℕ) (places tickets : ℕ) (m : Memory) (vs : List View) (h : List Mark) (id away given : ℕ) (v : View) → MemoryRule capacities places tickets m vs h → get_elem? vs id ≡ some v → NeedsSplit v away given
+SplitsKeep = (capacities : List ℕ) (places tickets : ℕ) (m : Memory) (vs : List View) (h : List Mark) (id away given : ℕ) (v : View)
+    → MemoryRule capacities places tickets m vs h → get_elem? vs id ≡ some v → NeedsSplit v away given
     → MemoryRule capacities places tickets m (set vs id (first_of away given v) ++ second_of away given v ∷ []) h
 
 -- A join keeps the rule.
 abbrev pub JoinsKeep : Type 0
-JoinsKeep = (capacities : List ℕ) (places tickets : ℕ) (m : Memory) (vs : List View) (h : List Mark) (id other_id : ℕ) (v other : View) → MemoryRule capacities places tickets m vs h → get_elem? vs id ≡ some v → get_elem? vs other_id ≡ some other
-    → id ≢ other_id → IsQuiet v → IsQuiet other → MemoryRule capacities places tickets m (set (set vs id (both_of v other)) other_id spent) h
+JoinsKeep = (capacities : List ℕ) (places tickets : ℕ) (m : Memory) (vs : List View) (h : List Mark) (id other_id : ℕ) (v other : View)
+    → MemoryRule capacities places tickets m vs h → get_elem? vs id ≡ some v → get_elem? vs other_id ≡ some other
+    → id ≢ other_id → IsQuiet v → IsQuiet other → MemoryRule capacities places tickets m
+    (set (set vs id (both_of v other)) other_id spent) h
 
 -- A table as it is made has the rule.
 abbrev pub FreshHolds : Type 0
-FreshHolds = (capacities : List ℕ) (places tickets : ℕ) (m : Memory) → IsShape capacities places tickets → IsFresh capacities m → MemoryRule capacities places tickets m (first_view places tickets ∷ []) []
+FreshHolds = (capacities : List ℕ) (places tickets : ℕ) (m : Memory) → IsShape capacities places tickets → IsFresh capacities m
+    → MemoryRule capacities places tickets m (first_view places tickets ∷ []) []
 
 -- The words, the views and the marks that a table can come to.
 pub data Run (capacities : List ℕ) (places tickets : ℕ) : Memory → List View → List Mark → Type 0 where
   begins : {m : Memory} → IsFresh capacities m → Run capacities places tickets m (first_view places tickets ∷ []) []
-  steps : {m : Memory} {vs : List View} {h : List Mark} (id : ℕ) (v w : View) (kind : Kind) (field : Field) (left : ℕ) (marks : List Mark) → Run capacities places tickets m vs h → get_elem? vs id ≡ some v → 1 ≤ v.places
-      → Steps capacities h v kind field (m field) left w marks → Run capacities places tickets (stored m field left) (set vs id w) (h ++ marks)
-  splits : {m : Memory} {vs : List View} {h : List Mark} (id away given : ℕ) (v : View) → Run capacities places tickets m vs h → get_elem? vs id ≡ some v → NeedsSplit v away given
+  steps : {m : Memory} {vs : List View} {h : List Mark} (id : ℕ) (v w : View) (kind : Kind) (field : Field) (left : ℕ) (marks : List Mark)
+      → Run capacities places tickets m vs h → get_elem? vs id ≡ some v → 1 ≤ v.places
+      → Steps capacities h v kind field (m field) left w marks
+      → Run capacities places tickets (stored m field left) (set vs id w) (h ++ marks)
+  splits : {m : Memory} {vs : List View} {h : List Mark} (id away given : ℕ) (v : View) → Run capacities places tickets m vs h
+      → get_elem? vs id ≡ some v → NeedsSplit v away given
       → Run capacities places tickets m (set vs id (first_of away given v) ++ second_of away given v ∷ []) h
-  joins : {m : Memory} {vs : List View} {h : List Mark} (id other_id : ℕ) (v other : View) → Run capacities places tickets m vs h → get_elem? vs id ≡ some v → get_elem? vs other_id ≡ some other → id ≢ other_id → IsQuiet v → IsQuiet other
+  joins : {m : Memory} {vs : List View} {h : List Mark} (id other_id : ℕ) (v other : View) → Run capacities places tickets m vs h
+      → get_elem? vs id ≡ some v → get_elem? vs other_id ≡ some other → id ≢ other_id → IsQuiet v → IsQuiet other
       → Run capacities places tickets m (set (set vs id (both_of v other)) other_id spent) h
 
 -- Whatever steps, splits and joins are made from a table as it is made, the rule holds.
 abbrev pub RunsHold : Type 0
-RunsHold = (capacities : List ℕ) (places tickets : ℕ) (m : Memory) (vs : List View) (h : List Mark) → IsShape capacities places tickets → Run capacities places tickets m vs h → MemoryRule capacities places tickets m vs h
+RunsHold = (capacities : List ℕ) (places tickets : ℕ) (m : Memory) (vs : List View) (h : List Mark) → IsShape capacities places tickets
+    → Run capacities places tickets m vs h → MemoryRule capacities places tickets m vs h

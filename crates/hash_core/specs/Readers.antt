@@ -24,7 +24,8 @@ IsHeldBack h section s = (p : ℕ) × (gone_at s h ≡ Some p) × (section.enter
 
 -- From a slot `next` leads over slots that were unlinked since the section was entered, and then along the rest of the
 -- chain. What is found on that way the dictionary said at some front since then.
-pub record HasWay (capacities : List ℕ) (c : ℕ) (m : Memory) (h : List Mark) (us : List Update) (chain : List ℕ) (section : Section) (slot : ℕ) : Type 0 where
+pub record HasWay (capacities : List ℕ) (c : ℕ) (m : Memory) (h : List Mark) (us : List Update) (chain : List ℕ) (section : Section)
+    (slot : ℕ) : Type 0 where
   pub olds : List ℕ
   pub front : List ℕ
   pub rest : List ℕ
@@ -45,6 +46,9 @@ WillAnswer capacities c m h us chain section Ended = WasSaid us section.key sect
 
 -- Each open section of the class will be answered what the dictionary said since it was entered; and so was the value that
 -- it has loaded.
-pub record AreAnswered (capacities : List ℕ) (c : ℕ) (m : Memory) (h : List Mark) (us : List Update) (vs : List View) (chain : List ℕ) : Type 0 where
-  pub readers : (id : ℕ) (v : View) (section : Section) → get_elem? vs id ≡ some v → v.section ≡ Some section → section.key % 64 ≡ c → WillAnswer capacities c m h us chain section section.state
-  pub loaded : (id : ℕ) (v : View) (section : Section) (value : ℕ) → get_elem? vs id ≡ some v → v.section ≡ Some section → section.key % 64 ≡ c → section.loaded ≡ Some value → WasSaid us section.key section.from (Some value)
+pub record AreAnswered (capacities : List ℕ) (c : ℕ) (m : Memory) (h : List Mark) (us : List Update) (vs : List View)
+    (chain : List ℕ) : Type 0 where
+  pub readers : (id : ℕ) (v : View) (section : Section) → get_elem? vs id ≡ some v → v.section ≡ Some section → section.key % 64 ≡ c
+      → WillAnswer capacities c m h us chain section section.state
+  pub loaded : (id : ℕ) (v : View) (section : Section) (value : ℕ) → get_elem? vs id ≡ some v → v.section ≡ Some section
+      → section.key % 64 ≡ c → section.loaded ≡ Some value → WasSaid us section.key section.from (Some value)

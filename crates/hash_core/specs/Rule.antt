@@ -17,7 +17,8 @@ use Rattle.hash_core.specs.Readers.{AreAnswered}
 use Rattle.hash_core.specs.Seats.{AreSeen, AreApart, AreOwned, AreOpen, AreHeld, IsTurned}
 
 -- what holds of one class
-pub record BucketRule (capacities : List ℕ) (c : ℕ) (m : Memory) (h : List Mark) (us : List Update) (vs : List View) (b : Bucket) : Type 0 where
+pub record BucketRule (capacities : List ℕ) (c : ℕ) (m : Memory) (h : List Mark) (us : List Update) (vs : List View)
+    (b : Bucket) : Type 0 where
   pub chained : IsChained c m b.chain
   pub listed : AreListed c m b
   pub roles : HaveOneRole capacities c b

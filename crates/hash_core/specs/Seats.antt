@@ -60,7 +60,9 @@ pub record AreOpen (vs : List View) (h : List Mark) (us : List Update) : Type 0 
   pub open_here : (id : ℕ) (v : View) (section : Section) → get_elem? vs id ≡ some v → v.section ≡ Some section
       → (1 ≤ v.places) × (open_at v.place h ≡ Some (open_of section)) × (section.from ≤ length us) × (section.key < 2 ^ 64)
   pub entered : (id : ℕ) (v : View) → get_elem? vs id ≡ some v → 1 ≤ v.places → v.sections ≡ entered_at v.place h
-  pub all : (p : ℕ) (o : Open) → open_at p h ≡ Some o → (id : ℕ) × (v : View) × (section : Section) × (get_elem? vs id ≡ some v) × (v.place ≡ p) × (v.section ≡ Some section) × (o ≡ open_of section)
+  pub all : (p : ℕ) (o : Open) → open_at p h ≡ Some o
+      → (id : ℕ) × (v : View) × (section : Section) × (get_elem? vs id ≡ some v) × (v.place ≡ p) × (v.section ≡ Some section)
+      × (o ≡ open_of section)
 
 -- A lock that is held is that of a class, and its holder works at a place.
 pub record AreHeld (vs : List View) : Type 0 where
@@ -73,5 +75,6 @@ HasNoCommit v = v.commit ≡ None
 abbrev pub IsTurned : Memory → List View → ℕ → Type 0
 IsTurned m vs count =
     ((m Front ≡ 2 * count) × ((id : ℕ) (v : View) → get_elem? vs id ≡ some v → HasNoCommit v))
-    ⊎ ((owner : ℕ) × (u : View) × (commit : Commit) × (hold : Hold) × (get_elem? vs owner ≡ some u) × (u.commit ≡ Some commit) × (u.hold ≡ Some hold) × (m Front ≡ commit.found + 1) × (updates_by commit ≡ 2 * count)
+    ⊎ ((owner : ℕ) × (u : View) × (commit : Commit) × (hold : Hold) × (get_elem? vs owner ≡ some u) × (u.commit ≡ Some commit)
+    × (u.hold ≡ Some hold) × (m Front ≡ commit.found + 1) × (updates_by commit ≡ 2 * count)
     × ((id : ℕ) (v : View) → id ≢ owner → get_elem? vs id ≡ some v → HasNoCommit v))

@@ -147,7 +147,10 @@ pub record NeedsTake (v : View) (hold : Hold) (slot next : ℕ) : Type 0 where
   pub empty : hold.taken ≡ None
 
 abbrev pub after_take : View → Hold → ℕ → ℕ → List Mark → View
-after_take v hold slot next h = record v { hold = Some (record (knowing hold (Free hold.class) next) { taken = Some slot }); seen = h ++ Given slot ∷ [] }
+after_take v hold slot next h = record v {
+  hold = Some (record (knowing hold (Free hold.class) next) { taken = Some slot });
+  seen = h ++ Given slot ∷ [];
+}
 
 -- Refill: the list in hand becomes the free list, which is empty.
 pub record NeedsRefill (v : View) (hold : Hold) (slot : ℕ) : Type 0 where
@@ -236,7 +239,8 @@ pub record NeedsLink (v : View) (hold : Hold) (even slot key value first : ℕ) 
   pub absent : ShowsAbsent hold key
 
 abbrev pub after_link : View → Hold → ℕ → ℕ → ℕ → ℕ → List Mark → View
-after_link v hold even slot key value h = updated_view v (record (knowing hold (Head hold.class) slot) { taken = None }) even (Put key value) h []
+after_link v hold even slot key value h = updated_view v (record (knowing hold (Head hold.class) slot) { taken = None }) even
+    (Put key value) h []
 
 -- the link to a slot on the known walk: the head, or the next of a slot on the walk
 abbrev pub LinksTo : Hold → Field → Type 0
@@ -255,7 +259,8 @@ pub record NeedsUnlink (v : View) (hold : Hold) (even : ℕ) (link : Field) (slo
   pub next_is : known_in hold.known (Next slot) ≡ Some next
 
 abbrev pub after_unlink : View → Hold → ℕ → Field → ℕ → ℕ → ℕ → List Mark → View
-after_unlink v hold even link slot key next h = updated_view v (record (knowing hold link next) { clear = false; unlinked = Some slot }) even (Del key) h (Unlinked slot ∷ [])
+after_unlink v hold even link slot key next h =
+    updated_view v (record (knowing hold link next) { clear = false; unlinked = Some slot }) even (Del key) h (Unlinked slot ∷ [])
 
 -- H15: the value of a slot on the known walk is replaced.
 pub record NeedsReplace (v : View) (hold : Hold) (even slot key : ℕ) : Type 0 where

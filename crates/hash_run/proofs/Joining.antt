@@ -37,8 +37,10 @@ joined_first v quiet place works = record {
 }
 
 -- one more, at the next place
-joined_more : (vs : List View) (seat other w : View) (front : ℕ) → IsJoined vs seat → IsQuiet other → other.place ≡ length vs → 1 ≤ other.places
-    → w ≡ stepped (both_of seat other) H2 Front front → IsPrefix seat.seen w.seen → IsPrefix other.seen w.seen → IsJoined (vs ++ other ∷ []) w
+joined_more : (vs : List View) (seat other w : View) (front : ℕ) → IsJoined vs seat → IsQuiet other → other.place ≡ length vs
+    → 1 ≤ other.places
+    → w ≡ stepped (both_of seat other) H2 Front front → IsPrefix seat.seen w.seen → IsPrefix other.seen w.seen
+    → IsJoined (vs ++ other ∷ []) w
 joined_more vs seat other w front joined quiet place works is mine theirs = record {
   quiet = (ap (λ (z : View). z.section) is ∙ joined.quiet.0, ap (λ (z : View). z.hold) is ∙ joined.quiet.1);
   own = ap (λ (z : View). z.own) is ∙ ap (λ xs. xs ++ other.own) joined.own ∙ sym (all_own-append vs other);
@@ -48,7 +50,8 @@ joined_more vs seat other w front joined quiet place works is mine theirs = reco
       let below = slice_get_within (vs ++ other ∷ []) i u there in
       let long = length-append vs (other ∷ []) in
       elim (cases_lt i (length vs)) [
-        | inl earlier ↦ prefix_trans u.seen seat.seen w.seen (joined.seen i u (slice_get-get_or vs i u earlier ∙ ap Some (sym (get_or_append_left vs (other ∷ []) u i earlier) ∙ read))) mine
+        | inl earlier ↦ prefix_trans u.seen seat.seen w.seen
+            (joined.seen i u (slice_get-get_or vs i u earlier ∙ ap Some (sym (get_or_append_left vs (other ∷ []) u i earlier) ∙ read))) mine
         | inr late ↦
             let last : length vs ≡ i = omega arith in
             let same : other ≡ u = sym (get_or_push vs other u i last) ∙ read in
@@ -59,8 +62,10 @@ joined_more vs seat other w front joined quiet place works is mine theirs = reco
     both : View
     both = stepped (both_of seat other) H2 Front front
 
-    joined_places : (p : ℕ) → times p (seat.joined ++ (numbers_from other.place other.places ++ other.joined)) ≡ times p seat.joined + (times p (numbers_from other.place other.places) + times p other.joined)
-    joined_places p = let outer = times_append p seat.joined (numbers_from other.place other.places ++ other.joined) in let inner = times_append p (numbers_from other.place other.places) other.joined in omega arith
+    joined_places : (p : ℕ) → times p (seat.joined ++ (numbers_from other.place other.places ++ other.joined))
+        ≡ times p seat.joined + (times p (numbers_from other.place other.places) + times p other.joined)
+    joined_places p = let outer = times_append p seat.joined (numbers_from other.place other.places ++ other.joined) in
+        let inner = times_append p (numbers_from other.place other.places) other.joined in omega arith
 
     keeps_answer : (p : ℕ) → AnswersFor seat p → AnswersFor (stepped (both_of seat other) H2 Front front) p
     keeps_answer p (inl has) = inl has
@@ -69,10 +74,12 @@ joined_more vs seat other w front joined quiet place works is mine theirs = reco
     answers_now : (p : ℕ) → p < length vs + 1 → AnswersFor (stepped (both_of seat other) H2 Front front) p
     answers_now p below = elim (cases_lt p (length vs)) [
       | inl earlier ↦ keeps_answer p (joined.answers p earlier)
-      | inr late ↦ inr (let all = joined_places p in let there = from_times p other.place other.places (omega arith) (omega arith) in omega arith)
+      | inr late ↦ inr (let all = joined_places p in let there = from_times p other.place other.places (omega arith) (omega arith) in
+          omega arith)
     ]
 
-map-push : (cs : List ClientAt) (c : ClientAt) → map (λ (client : ClientAt). client.view) (cs ++ c ∷ []) ≡ map (λ (client : ClientAt). client.view) cs ++ c.view ∷ []
+map-push : (cs : List ClientAt) (c : ClientAt)
+    → map (λ (client : ClientAt). client.view) (cs ++ c ∷ []) ≡ map (λ (client : ClientAt). client.view) cs ++ c.view ∷ []
 map-push [] c = refl
 map-push (x ∷ cs) c = ap (λ vs. x.view ∷ vs) (map-push cs c)
 
@@ -80,16 +87,21 @@ module _ (table : TableAt) where
   pub stands_first : (c : ClientAt) (seat : View) → IsDone table 0 c → IsQuiet seat → seat ≡ c.view → StandsFor table (c ∷ []) seat
   stands_first c seat d quiet is =
       let works = d.informed.works in
-      subst (StandsFor table (c ∷ [])) (sym is) (record { joined = joined_first c.view (subst IsQuiet is quiet) d.place works; informed = d.informed })
+      subst (StandsFor table (c ∷ [])) (sym is) (record
+      { joined = joined_first c.view (subst IsQuiet is quiet) d.place works; informed = d.informed })
 
-  pub stands_more : (cs : List ClientAt) (c : ClientAt) (seat other w : View) (front : ℕ) → IsDone table (length cs) c → StandsFor table cs seat → IsQuiet other → other ≡ c.view
-      → w ≡ stepped (both_of seat other) H2 Front front → IsPrefix seat.seen w.seen → IsPrefix other.seen w.seen → IsInformed table.capacities table.places w → StandsFor table (cs ++ c ∷ []) w
+  pub stands_more : (cs : List ClientAt) (c : ClientAt) (seat other w : View) (front : ℕ) → IsDone table (length cs) c
+      → StandsFor table cs seat → IsQuiet other → other ≡ c.view
+      → w ≡ stepped (both_of seat other) H2 Front front → IsPrefix seat.seen w.seen → IsPrefix other.seen w.seen
+      → IsInformed table.capacities table.places w → StandsFor table (cs ++ c ∷ []) w
   stands_more cs c seat other w front d so_far quiet same is mine theirs informed =
       let works = d.one_place in
-      let place : other.place ≡ length (map (λ (client : ClientAt). client.view) cs) = ap (λ (z : View). z.place) same ∙ d.place ∙ sym (length-map cs (λ (client : ClientAt). client.view)) in
+      let place : other.place ≡ length (map (λ (client : ClientAt). client.view) cs) =
+      ap (λ (z : View). z.place) same ∙ d.place ∙ sym (length-map cs (λ (client : ClientAt). client.view)) in
       let places = ap (λ (z : View). z.places) same in
       record {
         joined = subst (λ vs. IsJoined vs w) (ap (λ v. map (λ (client : ClientAt). client.view) cs ++ v ∷ []) same ∙ sym (map-push cs c))
-            (joined_more (map (λ (client : ClientAt). client.view) cs) seat other w front so_far.joined quiet place (omega arith) is mine theirs);
+            (joined_more (map (λ (client : ClientAt). client.view) cs) seat other w front so_far.joined quiet place
+            (omega arith) is mine theirs);
         informed = informed;
       }

@@ -36,9 +36,11 @@ PutsInto d _ = Unit {0}
 
 module _ (d : Dictionary) where
   -- a dictionary that updates make has no keys but those that are put
-  updated_within : (m : Dictionary) (op : Op) → PutsInto d op → ((k : ℕ) → finite.contains_key m k ≡ true → finite.contains_key d k ≡ true) → (k : ℕ) → finite.contains_key (updated m op) k ≡ true → finite.contains_key d k ≡ true
+  updated_within : (m : Dictionary) (op : Op) → PutsInto d op → ((k : ℕ) → finite.contains_key m k ≡ true → finite.contains_key d k ≡ true)
+      → (k : ℕ) → finite.contains_key (updated m op) k ≡ true → finite.contains_key d k ≡ true
   updated_within m op into within k there = dite (ℕ_discrete k (key_of op))
-      (λ same. subst (λ z. finite.contains_key d z ≡ true) (sym same) (own op into (subst (λ z. finite.contains_key (updated m op) z ≡ true) same there)))
+      (λ same. subst (λ z. finite.contains_key d z ≡ true) (sym same)
+      (own op into (subst (λ z. finite.contains_key (updated m op) z ≡ true) same there)))
       (λ apart. within k (ap is_some (sym (get-updated_other m op k apart)) ∙ there))
     where
       own : (o : Op) → PutsInto d o → finite.contains_key (updated m o) (key_of o) ≡ true → finite.contains_key d (key_of o) ≡ true
@@ -51,7 +53,9 @@ module _ (d : Dictionary) where
           by true is = within key is
           by false is = within key (subst (λ z. finite.contains_key z key ≡ true) (ap (λ b. cond b (finite.insert m key value) m) is) has)
 
-  all_within : (m : Dictionary) (us : List Update) → AllByRecursion (λ u. PutsInto d u.op) us → ((k : ℕ) → finite.contains_key m k ≡ true → finite.contains_key d k ≡ true) → (k : ℕ) → finite.contains_key (updated_all m us) k ≡ true → finite.contains_key d k ≡ true
+  all_within : (m : Dictionary) (us : List Update) → AllByRecursion (λ u. PutsInto d u.op) us
+      → ((k : ℕ) → finite.contains_key m k ≡ true → finite.contains_key d k ≡ true) → (k : ℕ)
+      → finite.contains_key (updated_all m us) k ≡ true → finite.contains_key d k ≡ true
   all_within m [] all within = within
   all_within m (u ∷ us) all within = all_within (updated m u.op) us all.1 (updated_within m u.op all.0 within)
 
@@ -63,7 +67,8 @@ module _ (d : Dictionary) where
   take_all_of P (suc n) [] all = tt
   take_all_of P (suc n) (u ∷ us) all = (all.0, take_all_of P n us all.1)
 
-  pub front_within : (us : List Update) (front : ℕ) → AllByRecursion (λ u. PutsInto d u.op) us → (k : ℕ) → finite.contains_key (map_at us front) k ≡ true → finite.contains_key d k ≡ true
+  pub front_within : (us : List Update) (front : ℕ) → AllByRecursion (λ u. PutsInto d u.op) us → (k : ℕ)
+      → finite.contains_key (map_at us front) k ≡ true → finite.contains_key d k ≡ true
   front_within us front all = all_within finite.empty (take front us) (take_all_of (λ u. PutsInto d u.op) front us all) none_there
 
 -- ---- the dictionary of all puts has each key that is put
@@ -71,7 +76,8 @@ module _ (d : Dictionary) where
 abbrev IsPut : Update → Type 0
 IsPut u = is_put u.op ≡ true
 
-put_stays : (m : Dictionary) (op : Op) (k : ℕ) → is_put op ≡ true → finite.contains_key m k ≡ true → finite.contains_key (updated m op) k ≡ true
+put_stays : (m : Dictionary) (op : Op) (k : ℕ) → is_put op ≡ true → finite.contains_key m k ≡ true
+    → finite.contains_key (updated m op) k ≡ true
 put_stays m (Put key value) k is there = by (finite.contains_key m key) refl
   where
     by : (b : Bool) → finite.contains_key m key ≡ b → finite.contains_key (updated m (Put key value)) k ≡ true
@@ -93,32 +99,40 @@ put_there m (Get key) is = absurd (cc)
 put_there m (Del key) is = absurd (cc)
 put_there m (Set key value) is = absurd (cc)
 
-puts_stay : (m : Dictionary) (us : List Update) (k : ℕ) → AllByRecursion IsPut us → finite.contains_key m k ≡ true → finite.contains_key (updated_all m us) k ≡ true
+puts_stay : (m : Dictionary) (us : List Update) (k : ℕ) → AllByRecursion IsPut us → finite.contains_key m k ≡ true
+    → finite.contains_key (updated_all m us) k ≡ true
 puts_stay m [] k all there = there
 puts_stay m (u ∷ us) k all there = puts_stay (updated m u.op) us k all.1 (put_stays m u.op k all.0 there)
 
-puts_there : (m : Dictionary) (us : List Update) → AllByRecursion IsPut us → AllByRecursion (λ u. finite.contains_key (updated_all m us) (key_of u.op) ≡ true) us
+puts_there : (m : Dictionary) (us : List Update) → AllByRecursion IsPut us
+    → AllByRecursion (λ u. finite.contains_key (updated_all m us) (key_of u.op) ≡ true) us
 puts_there m [] all = tt
-puts_there m (u ∷ us) all = (puts_stay (updated m u.op) us (key_of u.op) all.1 (put_there m u.op all.0), puts_there (updated m u.op) us all.1)
+puts_there m (u ∷ us) all = (
+  puts_stay (updated m u.op) us (key_of u.op) all.1 (put_there m u.op all.0),
+  puts_there (updated m u.op) us all.1,
+)
 
 puts_are : (ops : List Op) → AllByRecursion IsPut (puts_of ops)
 puts_are [] = tt
 puts_are (op ∷ ops) = let rest = puts_are ops in
-    elim (is_put op) as (λ b. is_put op ≡ b → AllByRecursion IsPut (cond b (record { caller = 0; op = op } ∷ puts_of ops) (puts_of ops))) [ true ↦ λ is. (is, rest) | false ↦ λ is. rest ] refl
+    elim (is_put op) as (λ b. is_put op ≡ b → AllByRecursion IsPut
+    (cond b (record { caller = 0; op = op } ∷ puts_of ops) (puts_of ops))) [ true ↦ λ is. (is, rest) | false ↦ λ is. rest ] refl
 
 all_puts_are : (scripts : List (List Op)) → AllByRecursion IsPut (all_puts scripts)
 all_puts_are [] = tt
 all_puts_are (script ∷ scripts) = all_append IsPut (puts_of script) (all_puts scripts) (puts_are script) (all_puts_are scripts)
 
 module _ (d : Dictionary) where
-  script_puts : (ops : List Op) → AllByRecursion (λ (u : Update). finite.contains_key d (key_of u.op) ≡ true) (puts_of ops) → AllByRecursion (PutsInto d) ops
+  script_puts : (ops : List Op) → AllByRecursion (λ (u : Update). finite.contains_key d (key_of u.op) ≡ true) (puts_of ops)
+      → AllByRecursion (PutsInto d) ops
   script_puts [] all = tt
   script_puts (Put key value ∷ ops) all = (all.0, script_puts ops all.1)
   script_puts (Get key ∷ ops) all = (tt, script_puts ops all)
   script_puts (Del key ∷ ops) all = (tt, script_puts ops all)
   script_puts (Set key value ∷ ops) all = (tt, script_puts ops all)
 
-  scripts_put : (scripts : List (List Op)) → AllByRecursion (λ (u : Update). finite.contains_key d (key_of u.op) ≡ true) (all_puts scripts) → AllByRecursion (AllByRecursion (PutsInto d)) scripts
+  scripts_put : (scripts : List (List Op)) → AllByRecursion (λ (u : Update). finite.contains_key d (key_of u.op) ≡ true) (all_puts scripts)
+      → AllByRecursion (AllByRecursion (PutsInto d)) scripts
   scripts_put [] all = tt
   scripts_put (script ∷ scripts) all = (
     script_puts script (all_front (λ (u : Update). finite.contains_key d (key_of u.op) ≡ true) (puts_of script) (all_puts scripts) all),
@@ -157,19 +171,24 @@ class_keys c (e ∷ es) = cond (e.0 % 64 == c) (e.0 ∷ class_keys c es) (class_
 
 length-class_keys : (c : ℕ) (es : List (ℕ × ℕ)) → length (class_keys c es) ≡ class_len c es
 length-class_keys c [] = refl
-length-class_keys c (e ∷ es) = let rest = length-class_keys c es in elim (e.0 % 64 == c) as (λ b. length (cond b (e.0 ∷ class_keys c es) (class_keys c es)) ≡ cond b 1 0 + class_len c es) [ true ↦ omega arith | false ↦ omega arith ]
+length-class_keys c (e ∷ es) = let rest = length-class_keys c es in
+    elim (e.0 % 64 == c) as (λ b. length (cond b (e.0 ∷ class_keys c es) (class_keys c es))
+    ≡ cond b 1 0 + class_len c es) [ true ↦ omega arith | false ↦ omega arith ]
 
-key_among : (c k : ℕ) (es : List (ℕ × ℕ)) → k % 64 ≡ c → list_any (eq_by_cmp nat_cmp k) (map (λ (e : ℕ × ℕ). e.0) es) ≡ true → 1 ≤ times k (class_keys c es)
+key_among : (c k : ℕ) (es : List (ℕ × ℕ)) → k % 64 ≡ c → list_any (eq_by_cmp nat_cmp k) (map (λ (e : ℕ × ℕ). e.0) es) ≡ true
+    → 1 ≤ times k (class_keys c es)
 key_among c k [] class there = absurd (cc)
 key_among c k (e ∷ es) class there = dite (ℕ_discrete e.0 k)
     (λ same.
     let test : (e.0 % 64 == c) ≡ true = eq-eqb (e.0 % 64) c (ap (λ z. z % 64) same ∙ class) in
     let is : class_keys c (e ∷ es) ≡ e.0 ∷ class_keys c es = ap (λ b. cond b (e.0 ∷ class_keys c es) (class_keys c es)) test in
-    let here : times k (e.0 ∷ class_keys c es) ≡ 1 + times k (class_keys c es) = ap (λ b. cond b 1 0 + times k (class_keys c es)) (eq-eqb e.0 k same) in
+    let here : times k (e.0 ∷ class_keys c es) ≡ 1 + times k (class_keys c es) =
+    ap (λ b. cond b 1 0 + times k (class_keys c es)) (eq-eqb e.0 k same) in
     let all = ap (times k) is in omega arith)
     (λ apart.
     let other : eq_by_cmp nat_cmp k e.0 ≡ false = unsigned_tied k e.0 ∙ ne_eqb k e.0 (λ same. apart (sym same)) in
-    let later : list_any (eq_by_cmp nat_cmp k) (map (λ (z : ℕ × ℕ). z.0) es) ≡ true = sym (later_only (eq_by_cmp nat_cmp k e.0) (list_any (eq_by_cmp nat_cmp k) (map (λ (z : ℕ × ℕ). z.0) es)) other) ∙ there in
+    let later : list_any (eq_by_cmp nat_cmp k) (map (λ (z : ℕ × ℕ). z.0) es) ≡ true =
+    sym (later_only (eq_by_cmp nat_cmp k e.0) (list_any (eq_by_cmp nat_cmp k) (map (λ (z : ℕ × ℕ). z.0) es)) other) ∙ there in
     let rest = key_among c k es class later in
     by (e.0 % 64 == c) rest)
   where
@@ -186,24 +205,31 @@ module _ (scripts : List (List Op)) (capacities : List ℕ) (right : AreCapaciti
   abbrev d : Dictionary
   d = put_keys scripts
 
-  never_full : (m : Dictionary) (key : ℕ) → ((k : ℕ) → finite.contains_key m k ≡ true → finite.contains_key (put_keys scripts) k ≡ true) → finite.contains_key (put_keys scripts) key ≡ true
+  never_full : (m : Dictionary) (key : ℕ) → ((k : ℕ) → finite.contains_key m k ≡ true → finite.contains_key (put_keys scripts) k ≡ true)
+      → finite.contains_key (put_keys scripts) key ≡ true
       → finite.get m key ≡ None → HasPairs (key % 64) m (capacity capacities (key % 64)) → ⊥
   never_full m key within put none pairs =
       let c : ℕ = key % 64 in
       let small : key % 64 < 64 = omega arith in
       let room = right.each (key % 64) small in
-      let missing : times key pairs.keys ≡ 0 = dite (dec_le 1 (times key pairs.keys)) (λ there. absurd (let is : true ≡ false = sym ((pairs.there key refl).1 there) ∙ ap is_some none in cc)) (λ not_there. omega arith) in
+      let missing : times key pairs.keys ≡ 0 = dite (dec_le 1 (times key pairs.keys))
+      (λ there. absurd (let is : true ≡ false = sym ((pairs.there key refl).1 there) ∙ ap is_some none in cc))
+      (λ not_there. omega arith) in
       let few = times_length (key ∷ pairs.keys) (class_keys (key % 64) (finite.entries (put_keys scripts))) (λ x. among x missing) in
       let long = length-class_keys (key % 64) (finite.entries (put_keys scripts)) in
       let many = pairs.as_many in
       omega arith
     where
-      in_class : (x : ℕ) → x % 64 ≡ key % 64 → finite.contains_key (put_keys scripts) x ≡ true → 1 ≤ times x (class_keys (key % 64) (finite.entries (put_keys scripts)))
-      in_class x class has = key_among (key % 64) x (finite.entries (put_keys scripts)) class (sym (finite.contains_key-keys (put_keys scripts) x) ∙ has)
+      in_class : (x : ℕ) → x % 64 ≡ key % 64 → finite.contains_key (put_keys scripts) x ≡ true
+          → 1 ≤ times x (class_keys (key % 64) (finite.entries (put_keys scripts)))
+      in_class x class has = key_among (key % 64) x (finite.entries (put_keys scripts)) class
+          (sym (finite.contains_key-keys (put_keys scripts) x) ∙ has)
 
-      among : (x : ℕ) → times key pairs.keys ≡ 0 → times x (key ∷ pairs.keys) ≤ times x (class_keys (key % 64) (finite.entries (put_keys scripts)))
+      among : (x : ℕ) → times key pairs.keys ≡ 0 → times x (key ∷ pairs.keys)
+          ≤ times x (class_keys (key % 64) (finite.entries (put_keys scripts)))
       among x missing = dite (ℕ_discrete key x)
-          (λ same. subst (λ z. times z (key ∷ pairs.keys) ≤ times z (class_keys (key % 64) (finite.entries (put_keys scripts)))) same (let here = times_here key pairs.keys in let has = in_class key refl put in omega arith))
+          (λ same. subst (λ z. times z (key ∷ pairs.keys) ≤ times z (class_keys (key % 64) (finite.entries (put_keys scripts)))) same
+          (let here = times_here key pairs.keys in let has = in_class key refl put in omega arith))
           (λ apart.
           let other = times_other x key pairs.keys apart in
           dite (dec_le 1 (times x pairs.keys))
@@ -214,7 +240,8 @@ module _ (scripts : List (List Op)) (capacities : List ℕ) (right : AreCapaciti
           (λ not_there. omega arith))
 
   -- what explains a reply here explains it wherever, if no put is told that no slot is left
-  plain_row : (room : Room) (m : Dictionary) (op : Op) (reply : Reply) → ((key value : ℕ) → op ≡ Put key value → reply ≡ Full → ⊥) → ExplainsInClasses capacities m op reply → Explains room m op reply
+  plain_row : (room : Room) (m : Dictionary) (op : Op) (reply : Reply) → ((key value : ℕ) → op ≡ Put key value → reply ≡ Full → ⊥)
+      → ExplainsInClasses capacities m op reply → Explains room m op reply
   plain_row room m (Put key value) New not_full e = e
   plain_row room m (Put key value) Old not_full e = e
   plain_row room m (Put key value) Full not_full e = absurd (not_full key value refl refl)
@@ -245,61 +272,80 @@ module _ (scripts : List (List Op)) (capacities : List ℕ) (right : AreCapaciti
   plain_row room m (Set key value) (Was x) not_full e = e
 
   module _ (room : Room) (us : List Update) (put : AllByRecursion (λ (u : Update). PutsInto (put_keys scripts) u.op) us) where
-    row : (front : ℕ) (op : Op) (reply : Reply) → PutsInto (put_keys scripts) op → ExplainsInClasses capacities (map_at us front) op reply → Explains room (map_at us front) op reply
+    row : (front : ℕ) (op : Op) (reply : Reply) → PutsInto (put_keys scripts) op → ExplainsInClasses capacities (map_at us front) op reply
+        → Explains room (map_at us front) op reply
     row front op reply into e = plain_row room (map_at us front) op reply
         (λ key value is full.
-        let f : ExplainsInClasses capacities (map_at us front) (Put key value) Full = subst (λ (z : Op × Reply). ExplainsInClasses capacities (map_at us front) z.0 z.1) (λ i. (is i, full i)) e in
+        let f : ExplainsInClasses capacities (map_at us front) (Put key value) Full =
+        subst (λ (z : Op × Reply). ExplainsInClasses capacities (map_at us front) z.0 z.1) (λ i. (is i, full i)) e in
         let i : PutsInto (put_keys scripts) (Put key value) = subst (PutsInto (put_keys scripts)) is into in
         never_full (map_at us front) key (front_within (put_keys scripts) us front put) i f.0 f.1) e
 
-    line_stands : (before : ℕ) (line : Line) (number : ℕ) → PutsInto (put_keys scripts) line.op → MayStandBy (ExplainsInClasses capacities) us before line number → MayStandBy (Explains room) us before line number
+    line_stands : (before : ℕ) (line : Line) (number : ℕ) → PutsInto (put_keys scripts) line.op
+        → MayStandBy (ExplainsInClasses capacities) us before line number → MayStandBy (Explains room) us before line number
     line_stands before line number into may =
-        elim (tells_update line.reply) as (λ b. MatchBool b ((number ≡ line.number) × (before < number)) ((before ≤ number) × (number ≤ length us) × ExplainsInClasses capacities (map_at us number) line.op line.reply)
-        → MatchBool b ((number ≡ line.number) × (before < number)) ((before ≤ number) × (number ≤ length us) × Explains room (map_at us number) line.op line.reply)) [
+        elim (tells_update line.reply) as (λ b. MatchBool b ((number ≡ line.number) × (before < number))
+        ((before ≤ number) × (number ≤ length us) × ExplainsInClasses capacities (map_at us number) line.op line.reply)
+        → MatchBool b ((number ≡ line.number) × (before < number))
+        ((before ≤ number) × (number ≤ length us) × Explains room (map_at us number) line.op line.reply)) [
           | true ↦ λ m. m
           | false ↦ λ m. (m.0, m.1, row number line.op line.reply into m.2)
         ] may
 
-    lines_stand : (before : ℕ) (lines : List Line) (numbers : List ℕ) → AllByRecursion (λ (line : Line). PutsInto (put_keys scripts) line.op) lines → MayStandBesideBy (ExplainsInClasses capacities) us before lines numbers → MayStandBesideBy (Explains room) us before lines numbers
+    lines_stand : (before : ℕ) (lines : List Line) (numbers : List ℕ)
+        → AllByRecursion (λ (line : Line). PutsInto (put_keys scripts) line.op) lines
+        → MayStandBesideBy (ExplainsInClasses capacities) us before lines numbers → MayStandBesideBy (Explains room) us before lines numbers
     lines_stand before [] [] all beside = tt
     lines_stand before [] (n ∷ numbers) all beside = absurd beside
     lines_stand before (line ∷ lines) [] all beside = absurd beside
-    lines_stand before (line ∷ lines) (n ∷ numbers) all beside = (line_stands before line n all.0 beside.0, lines_stand n lines numbers all.1 beside.1)
+    lines_stand before (line ∷ lines) (n ∷ numbers) all beside =
+        (line_stands before line n all.0 beside.0, lines_stand n lines numbers all.1 beside.1)
 
-    pub all_stand : (lists : List (List Line)) → AllByRecursion (AllByRecursion (λ (line : Line). PutsInto (put_keys scripts) line.op)) lists → AllByRecursion (λ lines. (numbers : List ℕ) × MayStandBesideBy (ExplainsInClasses capacities) us 0 lines numbers) lists → AllByRecursion (CanBeNumbered room us) lists
+    pub all_stand : (lists : List (List Line)) → AllByRecursion
+        (AllByRecursion (λ (line : Line). PutsInto (put_keys scripts) line.op)) lists
+        → AllByRecursion (λ lines. (numbers : List ℕ) × MayStandBesideBy (ExplainsInClasses capacities) us 0 lines numbers) lists
+        → AllByRecursion (CanBeNumbered room us) lists
     all_stand [] into all = tt
     all_stand (lines ∷ lists) into all = ((all.0.0, lines_stand 0 lines all.0.0 into.0 all.0.1), all_stand lists into.1 all.1)
 
 -- ---- the updates are the scripts' operations
 
 module _ (P : Op → Type 0) where
-  later_own : (b : Bool) (p : Placed) (ps : List Placed) → AllByRecursion (λ (q : Placed). P q.op) (cond b (p ∷ ps) ps) → AllByRecursion (λ (q : Placed). P q.op) ps
+  later_own : (b : Bool) (p : Placed) (ps : List Placed) → AllByRecursion (λ (q : Placed). P q.op) (cond b (p ∷ ps) ps)
+      → AllByRecursion (λ (q : Placed). P q.op) ps
   later_own true p ps all = all.1
   later_own false p ps all = all
 
-  pub all_from_own : (n : ℕ) (us : List Update) → ((c : ℕ) → AllByRecursion (λ (q : Placed). P q.op) (own_updates_from n c us)) → AllByRecursion (λ (u : Update). P u.op) us
+  pub all_from_own : (n : ℕ) (us : List Update) → ((c : ℕ) → AllByRecursion (λ (q : Placed). P q.op) (own_updates_from n c us))
+      → AllByRecursion (λ (u : Update). P u.op) us
   all_from_own n [] each = tt
   all_from_own n (u ∷ us) each = (
-    (subst (λ b. AllByRecursion (λ (q : Placed). P q.op) (cond b (record { position = n; op = u.op } ∷ own_updates_from (n + 1) u.caller us) (own_updates_from (n + 1) u.caller us))) (eq-eqb u.caller u.caller refl) (each u.caller)).0,
+    (subst (λ b. AllByRecursion (λ (q : Placed). P q.op)
+        (cond b (record { position = n; op = u.op } ∷ own_updates_from (n + 1) u.caller us) (own_updates_from (n + 1) u.caller us)))
+        (eq-eqb u.caller u.caller refl) (each u.caller)).0,
     all_from_own (n + 1) us (λ c. later_own (u.caller == c) (record { position = n; op = u.op }) (own_updates_from (n + 1) c us) (each c)),
   )
 
-  pub told_from_lines : (lines : List Line) → AllByRecursion (λ (line : Line). P line.op) lines → AllByRecursion (λ (q : Placed). P q.op) (told_updates lines)
+  pub told_from_lines : (lines : List Line) → AllByRecursion (λ (line : Line). P line.op) lines
+      → AllByRecursion (λ (q : Placed). P q.op) (told_updates lines)
   told_from_lines [] all = tt
   told_from_lines (line ∷ lines) all = let rest = told_from_lines lines all.1 in
       elim (tells_update line.reply) as (λ b. AllByRecursion (λ (q : Placed). P q.op) (cond b (record { position = line.number; op = line.op } ∷ told_updates lines) (told_updates lines))) [ true ↦ (all.0, rest) | false ↦ rest ]
 
-  lines_from_ops : (ops : List Op) (tolds : List Told) → AllByRecursion P ops → AllByRecursion (λ (line : Line). P line.op) (told_lines ops tolds)
+  lines_from_ops : (ops : List Op) (tolds : List Told) → AllByRecursion P ops
+      → AllByRecursion (λ (line : Line). P line.op) (told_lines ops tolds)
   lines_from_ops [] tolds all = tt
   lines_from_ops (op ∷ ops) [] all = tt
   lines_from_ops (op ∷ ops) (t ∷ tolds) all = (all.0, lines_from_ops ops tolds all.1)
 
-  pub all_lines_from_ops : (scripts : List (List Op)) (tolds : List (List Told)) → AllByRecursion (AllByRecursion P) scripts → AllByRecursion (AllByRecursion (λ (line : Line). P line.op)) (all_told_lines scripts tolds)
+  pub all_lines_from_ops : (scripts : List (List Op)) (tolds : List (List Told)) → AllByRecursion (AllByRecursion P) scripts
+      → AllByRecursion (AllByRecursion (λ (line : Line). P line.op)) (all_told_lines scripts tolds)
   all_lines_from_ops [] tolds all = tt
   all_lines_from_ops (s ∷ ss) [] all = tt
   all_lines_from_ops (s ∷ ss) (t ∷ ts) all = (lines_from_ops s t all.0, all_lines_from_ops ss ts all.1)
 
-  pub at_number : (lists : List (List Line)) (i : ℕ) → AllByRecursion (AllByRecursion (λ (line : Line). P line.op)) lists → AllByRecursion (λ (line : Line). P line.op) (get_or lists i [])
+  pub at_number : (lists : List (List Line)) (i : ℕ) → AllByRecursion (AllByRecursion (λ (line : Line). P line.op)) lists
+      → AllByRecursion (λ (line : Line). P line.op) (get_or lists i [])
   at_number [] i all = tt
   at_number (l ∷ ls) zero all = all.0
   at_number (l ∷ ls) (suc i) all = at_number ls i all.1

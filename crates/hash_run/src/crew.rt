@@ -49,7 +49,8 @@ fn hire_one<'a, G: Gate>(
     requires table { seat.table ≡ table.now.id }
     requires quiet { IsQuiet seat.view }
     requires script { length script.now ≤ 1048576 }
-    ensures { (place : ℕ) → seat.view ≡ idle_view place 1 (length script.now) → IfOk result (λ worker. IsHired (client_for table.now place (length script.now)) script.now worker) }
+    ensures { (place : ℕ) → seat.view ≡ idle_view place 1 (length script.now)
+        → IfOk result (λ worker. IsHired (client_for table.now place (length script.now)) script.now worker) }
 {
     Worker::new(
         alloc,

@@ -50,7 +50,8 @@ pub fn run_scripts<R: Threads + Wait + Sync, G: Gate + Sync>(
     gate: &G,
 ) -> Result<HashRun, NoMemory>
     requires some { 1 ≤ length scripts.now }
-    ensures run { IfOk result (λ run. HaveRun (client_for run.table) HasCalled (StandsFor run.table) scripts.now run.told.items run.seat.view) }
+    ensures run { IfOk result (λ run. HaveRun (client_for run.table) HasCalled
+        (StandsFor run.table) scripts.now run.told.items run.seat.view) }
     ensures explained { IfOk result (λ run. (slots : ℕ) → AreExplainable scripts.now (entries_of run.told.items) run.history.items slots) }
     ensures legal { IfOk result (λ run. IsLegal run.history.items) }
     ensures history { IfOk result (λ run. run.history.items ≡ updates_of run.seat.view.seen) }

@@ -6,40 +6,51 @@ use Rattle.io_edge.specs.Edge.{Takes, Appends, AppendsFront}
 use Rattle.io_edge.specs.Whole.{TakesToLimit}
 
 -- a piece from `at` on of the bytes that a source holds
-pub Takes-piece : (bytes rest piece : List ℕ) (at n : ℕ) → drop at bytes ≡ rest → piece ≡ take n (drop at bytes) → Takes (Some rest) (Some (drop (at + n) bytes)) piece
+pub Takes-piece : (bytes rest piece : List ℕ) (at n : ℕ) → drop at bytes ≡ rest → piece ≡ take n (drop at bytes)
+    → Takes (Some rest) (Some (drop (at + n) bytes)) piece
 Takes-piece bytes rest piece at n held taken =
     (drop (at + n) bytes, sym held ∙ sym (take-append-drop n (drop at bytes)) ∙ cc (taken, drop-drop n at bytes), refl)
 
-pub Takes-append : (before between after : Option (List ℕ)) (xs ys : List ℕ) → Takes before between xs → Takes between after ys → Takes before after (xs ++ ys)
+pub Takes-append : (before between after : Option (List ℕ)) (xs ys : List ℕ) → Takes before between xs → Takes between after ys
+    → Takes before after (xs ++ ys)
 Takes-append None None after xs ys first second = second
 Takes-append None (Some rest) after xs ys first second = absurd (cc)
 Takes-append (Some bytes) None after xs ys first second = absurd (cc)
 Takes-append (Some bytes) (Some rest) after xs ys first second =
     (second.0, cc (append_assoc xs ys second.0), second.2)
 
-pub Appends-append : (before between after : Option (List ℕ)) (xs ys : List ℕ) → Appends before between xs → Appends between after ys → Appends before after (xs ++ ys)
+pub Appends-append : (before between after : Option (List ℕ)) (xs ys : List ℕ) → Appends before between xs → Appends between after ys
+    → Appends before after (xs ++ ys)
 Appends-append None None after xs ys first second = second
 Appends-append None (Some bytes) after xs ys first second = absurd (cc)
 Appends-append (Some bytes) None after xs ys first second = absurd (cc)
 Appends-append (Some bytes) (Some more) after xs ys first second = cc (append_assoc bytes xs ys)
 
 -- one more piece of a text
-pub Appends-more : (before between after : Option (List ℕ)) (text : List ℕ) (i n : ℕ) → Appends before between (take i text) → Appends between after (take n (take (length text - i) (drop i text))) → Appends before after (take (i + n) text)
+pub Appends-more : (before between after : Option (List ℕ)) (text : List ℕ) (i n : ℕ) → Appends before between (take i text)
+    → Appends between after (take n (take (length text - i) (drop i text))) → Appends before after (take (i + n) text)
 Appends-more before between after text i n first second =
     let second = rw (take_rest text i) at second in
     rw (take-add i n text) (Appends-append before between after (take i text) (take n (drop i text)) first second)
 
 -- a write that failed after a front of the text
-pub AppendsFront-failed : (before between after : Option (List ℕ)) (text : List ℕ) (i : ℕ) → Appends before between (take i text) → after ≡ between → AppendsFront before after text
+pub AppendsFront-failed : (before between after : Option (List ℕ)) (text : List ℕ) (i : ℕ) → Appends before between (take i text)
+    → after ≡ between → AppendsFront before after text
 AppendsFront-failed before between after text i first same =
     (take i text, drop i text, sym (take-append-drop i text), rw same first)
 
 -- a call that takes up to what is left of the limit, after these bytes
-pub TakesToLimit-append : (limit left : ℕ) (before between after : Option (List ℕ)) (xs : List ℕ) (P Q : Type 0) → Takes before between xs → length xs + left ≡ limit → (Q → P) → (P → Q) → TakesToLimit left between after P → TakesToLimit limit before after Q
+pub TakesToLimit-append : (limit left : ℕ) (before between after : Option (List ℕ)) (xs : List ℕ) (P Q : Type 0) → Takes before between xs
+    → length xs + left ≡ limit → (Q → P) → (P → Q) → TakesToLimit left between after P → TakesToLimit limit before after Q
 TakesToLimit-append limit left before between after xs P Q first room to from second =
-    let l = length-append xs second.0 in
-    (xs ++ second.0, Takes-append before between after xs second.0 first second.1, omega arith, (λ q. omega (arith, second.3.0 (to q)), λ past. from (second.3.1 (omega arith))))
+    let l = length-append xs second.0 in (
+      xs ++ second.0,
+      Takes-append before between after xs second.0 first second.1,
+      omega arith,
+      (λ q. omega (arith, second.3.0 (to q)), λ past. from (second.3.1 (omega arith))),
+    )
 
 -- a text that was written whole, in a sink that failed only afterwards
-pub AppendsFront-whole : (before between after : Option (List ℕ)) (text : List ℕ) → Appends before between text → after ≡ between → AppendsFront before after text
+pub AppendsFront-whole : (before between after : Option (List ℕ)) (text : List ℕ) → Appends before between text → after ≡ between
+    → AppendsFront before after text
 AppendsFront-whole before between after text whole same = (text, [], sym (append-nil text), rw same whole)

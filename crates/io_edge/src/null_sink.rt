@@ -5,7 +5,7 @@ ghost use Rattle.io_edge.specs.Edge.{Appends};
 use crate::edge::{Failed, Sink};
 
 /// A sink that takes every piece whole, keeps nothing, tells nothing and never fails.
-#[derive(Clone, Copy, Debug, Drop)]
+#[derive(Clone, Copy, Drop)]
 pub struct NullSink;
 
 impl NullSink {

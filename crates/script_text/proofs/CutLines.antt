@@ -10,7 +10,8 @@ eqb-no : (a b : ℕ) → a ≢ b → eqb a b ≡ false
 eqb-no a b ne = elim (eqb_tells a b) [ inl y ↦ absurd (ne y.1) | inr n ↦ n.0 ]
 
 -- What stands before the first of a byte, and after it, is told by the list.
-pub same_parts : (byte : ℕ) (front front' rest rest' : List ℕ) → Lacks front byte → Lacks front' byte → front ++ byte ∷ rest ≡ front' ++ byte ∷ rest' → (front ≡ front') × (rest ≡ rest')
+pub same_parts : (byte : ℕ) (front front' rest rest' : List ℕ) → Lacks front byte → Lacks front' byte
+    → front ++ byte ∷ rest ≡ front' ++ byte ∷ rest' → (front ≡ front') × (rest ≡ rest')
 same_parts byte [] [] rest rest' f f' e = (refl, cc)
 same_parts byte [] (b ∷ front') rest rest' f f' e = absurd (All-head (λ x. x ≢ byte) b front' f' cc)
 same_parts byte (a ∷ front) [] rest rest' f f' e = absurd (All-head (λ x. x ≢ byte) a front f cc)

@@ -21,11 +21,13 @@ module _ (ds : List ℕ) (i : ℕ) (here : i < length ds) where
     value_with = digits_value_more 10 ds i here ∙ omega (arith, digit_value_digit (get_or ds i 0) digit)
 
     -- one more digit
-    pub read_more : (value : ℕ) → AllDigits 10 (take i ds) → value ≡ digits_value 10 (take i ds) → AllDigits 10 (take (i + 1) ds) × (value * 10 + (get_or ds i 0 - 48) ≡ digits_value 10 (take (i + 1) ds))
+    pub read_more : (value : ℕ) → AllDigits 10 (take i ds) → value ≡ digits_value 10 (take i ds)
+        → AllDigits 10 (take (i + 1) ds) × (value * 10 + (get_or ds i 0 - 48) ≡ digits_value 10 (take (i + 1) ds))
     read_more value all is =
         (digits_more 10 ds i here all (omega (arith, digit_value_digit (get_or ds i 0) digit)), omega (arith, value_with))
 
-    pub too_large : (value : ℕ) → value ≡ digits_value 10 (take i ds) → 2 ^ 64 ≤ value * 10 + (get_or ds i 0 - 48) → digits_value 10 ds < 2 ^ 64 → ⊥
+    pub too_large : (value : ℕ) → value ≡ digits_value 10 (take i ds) → 2 ^ 64 ≤ value * 10 + (get_or ds i 0 - 48)
+        → digits_value 10 ds < 2 ^ 64 → ⊥
     too_large value is large small = omega (arith, value_with, digits_value-take-le 10 ds (i + 1) (omega arith))
 
 pub empty_no_decimal : (ds : List ℕ) → length ds ≡ 0 → (n : ℕ) → n < 2 ^ 64 → ds ≡ decimal n → ⊥
@@ -39,7 +41,8 @@ zero_no_decimal ds more zero n small e =
     ]
 
 -- Without a leading zero, the digits of a number are what is printed of it.
-pub decimal_from_digits : (ds : List ℕ) (r : Option ℕ) → SomeIff r (AllDigits 10 ds × (digits_value 10 ds < 2 ^ 64)) (digits_value 10 ds) → 0 < length ds → (get_or ds 0 0 ≡ 48 → length ds ≡ 1) → MatchOption r ((n : ℕ) → n < 2 ^ 64 → ds ≡ decimal n → ⊥) (λ n. ds ≡ decimal n)
+pub decimal_from_digits : (ds : List ℕ) (r : Option ℕ) → SomeIff r (AllDigits 10 ds × (digits_value 10 ds < 2 ^ 64)) (digits_value 10 ds)
+    → 0 < length ds → (get_or ds 0 0 ≡ 48 → length ds ≡ 1) → MatchOption r ((n : ℕ) → n < 2 ^ 64 → ds ≡ decimal n → ⊥) (λ n. ds ≡ decimal n)
 decimal_from_digits ds None bad some lead = λ n small e.
     let d = decimal_is_IsNumeral n small in
     bad (rw e d.0.1, omega (arith, ap (digits_value 10) e, d.1))

@@ -20,7 +20,8 @@ no_blank_op line op (inr b) t = omega (arith, first_of_op_text op, ap (λ x. get
 no_script_op : (op : Op) → op_text op ≡ codes "script" → ⊥
 no_script_op op e = omega (arith, fourth_of_op_text op, ap (λ x. get_or x 3 0) e)
 
-same_begun : {most : ℕ} {before a b : List (List Op)} {line : List ℕ} → BeginsScript most before line a → BeginsScript most before line b → a ≡ b
+same_begun : {most : ℕ} {before a b : List (List Op)} {line : List ℕ} → BeginsScript most before line a → BeginsScript most before line b
+    → a ≡ b
 same_begun s t = s.begun ∙ sym t.begun
 
 same_added : {before a b : List (List Op)} {line : List ℕ} → AddsOperation before line a → AddsOperation before line b → a ≡ b
@@ -28,7 +29,8 @@ same_added {before} s t =
     s.added ∙ ap (with_op before) (op_text-injective s.op t.op s.fits t.fits (sym s.text ∙ t.text)) ∙ sym t.added
 
 module _ (most : ℕ) where
-  pub one_after : (before a b : List (List Op)) (line : List ℕ) → IsGoodLineUpTo most before line a → IsGoodLineUpTo most before line b → a ≡ b
+  pub one_after : (before a b : List (List Op)) (line : List ℕ) → IsGoodLineUpTo most before line a → IsGoodLineUpTo most before line b
+      → a ≡ b
   one_after before a b line (inl s) (inl t) = s.1 ∙ sym t.1
   one_after before a b line (inl s) (inr (inl t)) = absurd (no_blank_script line s.0 t.text)
   one_after before a b line (inl s) (inr (inr t)) = absurd (no_blank_op line t.op s.0 t.text)
@@ -40,7 +42,8 @@ module _ (most : ℕ) where
   one_after before a b line (inr (inr s)) (inr (inr t)) = same_added s t
 
   -- One list of scripts is left by the same lines.
-  pub one_reading : (lines : List (List ℕ)) (before a b : List (List Op)) → ReadsUpTo most before lines a → ReadsUpTo most before lines b → a ≡ b
+  pub one_reading : (lines : List (List ℕ)) (before a b : List (List Op)) → ReadsUpTo most before lines a → ReadsUpTo most before lines b
+      → a ≡ b
   one_reading [] before a b r s = r ∙ sym s
   one_reading (line ∷ lines) before a b r s =
       let same : r.0 ≡ s.0 = one_after before r.0 s.0 line r.1 s.1 in
@@ -48,21 +51,26 @@ module _ (most : ℕ) where
       one_reading lines s.0 a b (subst P same r.2) s.2
 
   -- there are no more scripts than there may be
-  good_few : (before after : List (List Op)) (line : List ℕ) → IsGoodLineUpTo most before line after → length before ≤ most → length after ≤ most
+  good_few : (before after : List (List Op)) (line : List ℕ) → IsGoodLineUpTo most before line after → length before ≤ most
+      → length after ≤ most
   good_few before after line (inl s) few = (let n = ap length s.1 in omega arith)
-  good_few before after line (inr (inl s)) few = (let n = ap length s.begun in let room = s.room in omega (arith, length-append before ([] ∷ [])))
+  good_few before after line (inr (inl s)) few =
+      (let n = ap length s.begun in let room = s.room in omega (arith, length-append before ([] ∷ [])))
   good_few before after line (inr (inr s)) few = (let n = ap length s.added ∙ length-with_op before s.op in omega arith)
 
-  pub reads_few : (lines : List (List ℕ)) (before after : List (List Op)) → ReadsUpTo most before lines after → length before ≤ most → length after ≤ most
+  pub reads_few : (lines : List (List ℕ)) (before after : List (List Op)) → ReadsUpTo most before lines after → length before ≤ most
+      → length after ≤ most
   reads_few [] before after r few = (let n = ap length r in omega arith)
   reads_few (line ∷ lines) before after r few = reads_few lines r.0 after r.2 (good_few before r.0 line r.1 few)
 
   -- lines after lines
-  pub Reads-append : (lines more : List (List ℕ)) (before between after : List (List Op)) → ReadsUpTo most before lines between → ReadsUpTo most between more after → ReadsUpTo most before (lines ++ more) after
+  pub Reads-append : (lines more : List (List ℕ)) (before between after : List (List Op)) → ReadsUpTo most before lines between
+      → ReadsUpTo most between more after → ReadsUpTo most before (lines ++ more) after
   Reads-append [] more before between after r s = let P : List (List Op) → Type 0 = λ x. ReadsUpTo most x more after in subst P r s
   Reads-append (line ∷ lines) more before between after r s = (r.0, r.1, Reads-append lines more r.0 between after r.2 s)
 
-  pub Reads-split : (lines more : List (List ℕ)) (before after : List (List Op)) → ReadsUpTo most before (lines ++ more) after → (between : List (List Op)) × ReadsUpTo most before lines between × ReadsUpTo most between more after
+  pub Reads-split : (lines more : List (List ℕ)) (before after : List (List Op)) → ReadsUpTo most before (lines ++ more) after
+      → (between : List (List Op)) × ReadsUpTo most before lines between × ReadsUpTo most between more after
   Reads-split [] more before after r = (before, refl, r)
   Reads-split (line ∷ lines) more before after r =
       let h = Reads-split lines more r.0 after r.2 in
@@ -87,7 +95,8 @@ module _ (most : ℕ) where
     joined : (line after : List ℕ) → lines_of rest ≡ line ∷ lines_of after → lines_of text ≡ h.lines ++ line ∷ lines_of after
     joined line after cut = h.cut ∙ ap (λ x. h.lines ++ x) cut
 
-    pub HasRead-more : (line after : List ℕ) (next : ℕ) (now : List (List Op)) → lines_of rest ≡ line ∷ lines_of after → IsGoodLineUpTo most scripts line now → next ≡ min (number + 1) 4294967295 → HasRead text after next now
+    pub HasRead-more : (line after : List ℕ) (next : ℕ) (now : List (List Op)) → lines_of rest ≡ line ∷ lines_of after
+        → IsGoodLineUpTo most scripts line now → next ≡ min (number + 1) 4294967295 → HasRead text after next now
     HasRead-more line after next now cut good is = record {
       lines = h.lines ++ line ∷ [];
       cut = joined line after cut ∙ sym (append_assoc h.lines (line ∷ []) (lines_of after));
@@ -106,8 +115,10 @@ module _ (most : ℕ) where
     is_read_once end others r = one_reading (lines_of text) [] others scripts r (is_read end)
 
     -- at a bad line
-    module _ (line after : List ℕ) (cut : lines_of rest ≡ line ∷ lines_of after) (bad : (now : List (List Op)) → IsGoodLineUpTo most scripts line now → ⊥) where
-      pub is_first_bad : (next : ℕ) → next ≡ min (number + 1) 4294967295 → (first : ℕ) × IsFirstBadUpTo most text first × (next ≡ min first 4294967295)
+    module _ (line after : List ℕ) (cut : lines_of rest ≡ line ∷ lines_of after)
+        (bad : (now : List (List Op)) → IsGoodLineUpTo most scripts line now → ⊥) where
+      pub is_first_bad : (next : ℕ) → next ≡ min (number + 1) 4294967295
+          → (first : ℕ) × IsFirstBadUpTo most text first × (next ≡ min first 4294967295)
       is_first_bad next is =
           let number_is : (length h.lines + 1) - 1 ≡ length h.lines = omega arith in
           let all = joined line after cut in (

@@ -44,7 +44,8 @@ op_text_is (Set key value) = ap (λ x. codes "set " ++ x) (append_assoc (decimal
 
 three : (a b c byte : ℕ) → a ≢ byte → b ≢ byte → c ≢ byte → Lacks (a ∷ b ∷ c ∷ []) byte
 three a b c byte na nb nc =
-    All-cons (λ x. x ≢ byte) a (b ∷ c ∷ []) na (All-cons (λ x. x ≢ byte) b (c ∷ []) nb (All-cons (λ x. x ≢ byte) c [] nc (All-nil (λ x. x ≢ byte))))
+    All-cons (λ x. x ≢ byte) a (b ∷ c ∷ []) na (All-cons (λ x. x ≢ byte) b (c ∷ []) nb
+    (All-cons (λ x. x ≢ byte) c [] nc (All-nil (λ x. x ≢ byte))))
 
 -- The words have none of these bytes.
 pub Lacks-word : (op : Op) (byte : ℕ) → byte < 97 → Lacks (word_of op) byte
@@ -71,9 +72,11 @@ Lacks-op_text op byte fits low =
     (All-cons (λ x. x ≢ byte) 32 (words_of op) (omega arith) (Lacks-words op byte fits low)))
 
 -- Two numbers are told by their text.
-pub pair_text-injective : (m n m' n' : ℕ) → m < 2 ^ 64 → n < 2 ^ 64 → m' < 2 ^ 64 → n' < 2 ^ 64 → pair_text m n ≡ pair_text m' n' → (m ≡ m') × (n ≡ n')
+pub pair_text-injective : (m n m' n' : ℕ) → m < 2 ^ 64 → n < 2 ^ 64 → m' < 2 ^ 64 → n' < 2 ^ 64 → pair_text m n ≡ pair_text m' n'
+    → (m ≡ m') × (n ≡ n')
 pair_text-injective m n m' n' is_m is_n is_m' is_n' e =
-    let parts = same_parts 32 (decimal m) (decimal m') (decimal n) (decimal n') (Lacks-decimal m 32 is_m (omega arith)) (Lacks-decimal m' 32 is_m' (omega arith)) e in
+    let parts = same_parts 32 (decimal m) (decimal m') (decimal n) (decimal n') (Lacks-decimal m 32 is_m (omega arith))
+    (Lacks-decimal m' 32 is_m' (omega arith)) e in
     (decimal_injective m m' is_m is_m' parts.0, decimal_injective n n' is_n is_n' parts.1)
 
 -- The first word and the others tell the operation.
@@ -98,13 +101,16 @@ same_op (Set k v) (Set l w) f g e h = let both = pair_text-injective k v l w f.0
 -- An operation is told by its text.
 pub op_text-injective : (o p : Op) → FitsWords o → FitsWords p → op_text o ≡ op_text p → o ≡ p
 op_text-injective o p f g e =
-    let parts = same_parts 32 (word_of o) (word_of p) (words_of o) (words_of p) (Lacks-word o 32 (omega arith)) (Lacks-word p 32 (omega arith)) (sym (op_text_is o) ∙ e ∙ op_text_is p) in
+    let parts = same_parts 32 (word_of o) (word_of p) (words_of o) (words_of p) (Lacks-word o 32 (omega arith))
+    (Lacks-word p 32 (omega arith)) (sym (op_text_is o) ∙ e ∙ op_text_is p) in
     same_op o p f g parts.0 parts.1
 
 -- Bytes that are two numbers are parted at the space between them.
-pub pair_parts : (bytes first second : List ℕ) (m n : ℕ) → m < 2 ^ 64 → IsParted bytes 32 first second → bytes ≡ decimal m ++ codes " " ++ decimal n → (first ≡ decimal m) × (second ≡ decimal n)
+pub pair_parts : (bytes first second : List ℕ) (m n : ℕ) → m < 2 ^ 64 → IsParted bytes 32 first second
+    → bytes ≡ decimal m ++ codes " " ++ decimal n → (first ≡ decimal m) × (second ≡ decimal n)
 pair_parts bytes first second m n small p e =
-    same_parts 32 first (decimal m) second (decimal n) p.first (Lacks-decimal m 32 small (omega arith)) (sym p.whole ∙ e ∙ append_assoc (decimal m) (codes " ") (decimal n))
+    same_parts 32 first (decimal m) second (decimal n) p.first (Lacks-decimal m 32 small (omega arith))
+    (sym p.whole ∙ e ∙ append_assoc (decimal m) (codes " ") (decimal n))
 
 -- An operation's text begins with a letter.
 pub first_of_op_text : (op : Op) → 97 ≤ get_or (op_text op) 0 0

@@ -16,7 +16,8 @@ use Rattle.script_text.proofs.OpTexts.{Lacks-op_text}
 use Rattle.script_text.proofs.OneReading.{Reads-append}
 
 -- one more of a list
-flat_map_take : {X A : Type 0} (f : X → List A) (bs : List A) (xs : List X) (i : ℕ) (d : X) → i < length xs → (bs ++ flat_map f (take i xs)) ++ f (get_or xs i d) ≡ bs ++ flat_map f (take (i + 1) xs)
+flat_map_take : {X A : Type 0} (f : X → List A) (bs : List A) (xs : List X) (i : ℕ) (d : X) → i < length xs
+    → (bs ++ flat_map f (take i xs)) ++ f (get_or xs i d) ≡ bs ++ flat_map f (take (i + 1) xs)
 flat_map_take f bs xs i d here =
     flat_map_more f bs (take i xs) (get_or xs i d) ∙ ap (λ x. bs ++ flat_map f x) (sym (take_more xs i d here))
 
@@ -52,7 +53,8 @@ scripts_text-more out after scripts i script there is fits more fit =
     let e : get_or scripts i [] ≡ script = get_or_from_slice_get scripts i script [] there in
     let P : List Op → Type 0 = All FitsWords in
     record {
-      text = more ∙ ap (λ x. x ++ script_text script) is ∙ ap (λ x. scripts_text (take i scripts) ++ script_text x) (sym e) ∙ flat_map_take script_text [] scripts i [] here;
+      text = more ∙ ap (λ x. x ++ script_text script) is ∙ ap (λ x. scripts_text (take i scripts) ++ script_text x) (sym e)
+          ∙ flat_map_take script_text [] scripts i [] here;
       fits = All-more (All FitsWords) scripts i [] here fits (subst P (sym e) fit);
     }
 
@@ -72,22 +74,27 @@ scripts_text-ended (script ∷ scripts) =
     ∙ sym (flat_map-append ended (map op_text script) (flat_map script_lines scripts)))
 
 Lacks-script : Lacks (codes "script") 10
-Lacks-script = All-from_recursion (λ b. b ≢ 10) (codes "script") (omega arith, (omega arith, (omega arith, (omega arith, (omega arith, (omega arith, tt))))))
+Lacks-script = All-from_recursion (λ b. b ≢ 10) (codes "script")
+    (omega arith, (omega arith, (omega arith, (omega arith, (omega arith, (omega arith, tt))))))
 
 Lacks-lines : (scripts : List (List Op)) → All (All FitsWords) scripts → All (λ line. Lacks line 10) (flat_map script_lines scripts)
 Lacks-lines [] fits = All-nil (λ line. Lacks line 10)
 Lacks-lines (script ∷ scripts) fits =
     All-cons (λ line. Lacks line 10) (codes "script") (map op_text script ++ flat_map script_lines scripts) Lacks-script
     (All-append (λ line. Lacks line 10) (map op_text script) (flat_map script_lines scripts)
-    (All-map (λ line. Lacks line 10) op_text script (All-weaker FitsWords (λ op. Lacks (op_text op) 10) (λ op fit. Lacks-op_text op 10 fit (omega arith)) script (All-head (All FitsWords) script scripts fits)))
+    (All-map (λ line. Lacks line 10) op_text script
+    (All-weaker FitsWords (λ op. Lacks (op_text op) 10) (λ op fit. Lacks-op_text op 10 fit (omega arith)) script
+    (All-head (All FitsWords) script scripts fits)))
     (Lacks-lines scripts (All-tail (All FitsWords) script scripts fits)))
 
-lines_of-scripts_text : (scripts : List (List Op)) → All (All FitsWords) scripts → lines_of (scripts_text scripts) ≡ flat_map script_lines scripts
+lines_of-scripts_text : (scripts : List (List Op)) → All (All FitsWords) scripts
+    → lines_of (scripts_text scripts) ≡ flat_map script_lines scripts
 lines_of-scripts_text scripts fits =
     ap lines_of (scripts_text-ended scripts) ∙ lines_of-flat_map (flat_map script_lines scripts) (Lacks-lines scripts fits)
 
 -- An operation goes to the last script.
-with_op-last : (before : List (List Op)) (script : List Op) (op : Op) → with_op (before ++ script ∷ []) op ≡ before ++ (script ++ op ∷ []) ∷ []
+with_op-last : (before : List (List Op)) (script : List Op) (op : Op)
+    → with_op (before ++ script ∷ []) op ≡ before ++ (script ++ op ∷ []) ∷ []
 with_op-last [] script op = refl
 with_op-last (s ∷ []) script op = refl
 with_op-last (s ∷ t ∷ before) script op = ap (λ x. s ∷ x) (with_op-last (t ∷ before) script op)
@@ -113,10 +120,12 @@ Reads-ops before done (op ∷ ops) fits room =
         room = omega (arith, op_count-last before done);
         added = sym (with_op-last before done op);
       })),
-      subst P (append_assoc done (op ∷ []) ops) (Reads-ops before (done ++ op ∷ []) ops (All-tail FitsWords op ops fits) (omega (arith, length-append done (op ∷ [])))),
+      subst P (append_assoc done (op ∷ []) ops) (Reads-ops before (done ++ op ∷ []) ops (All-tail FitsWords op ops fits)
+          (omega (arith, length-append done (op ∷ [])))),
     )
 
-Reads-script : (before : List (List Op)) (script : List Op) → All FitsWords script → length before < 64 → op_count before + length script ≤ 1048576
+Reads-script : (before : List (List Op)) (script : List Op) → All FitsWords script → length before < 64
+    → op_count before + length script ≤ 1048576
     → Reads before (script_lines script) (before ++ script ∷ [])
 Reads-script before script fits few room = (
   before ++ [] ∷ [],
@@ -124,19 +133,22 @@ Reads-script before script fits few room = (
   Reads-ops before [] script fits (omega arith),
 )
 
-Reads-scripts : (before scripts : List (List Op)) → All (All FitsWords) scripts → length before + length scripts ≤ 64 → op_count before + op_count scripts ≤ 1048576
+Reads-scripts : (before scripts : List (List Op)) → All (All FitsWords) scripts → length before + length scripts ≤ 64
+    → op_count before + op_count scripts ≤ 1048576
     → Reads before (flat_map script_lines scripts) (before ++ scripts)
 Reads-scripts before [] fits few room = append-nil before
 Reads-scripts before (script ∷ scripts) fits few room =
     let counted = op_count-cons script scripts in
     let others : Reads (before ++ script ∷ []) (flat_map script_lines scripts) ((before ++ script ∷ []) ++ scripts) =
-    Reads-scripts (before ++ script ∷ []) scripts (All-tail (All FitsWords) script scripts fits) (omega (arith, length-append before (script ∷ []))) (omega (arith, op_count-last before script)) in
+    Reads-scripts (before ++ script ∷ []) scripts (All-tail (All FitsWords) script scripts fits)
+    (omega (arith, length-append before (script ∷ []))) (omega (arith, op_count-last before script)) in
     let P : List (List Op) → Type 0 = λ x. Reads (before ++ script ∷ []) (flat_map script_lines scripts) x in
     Reads-append 64 (script_lines script) (flat_map script_lines scripts) before (before ++ script ∷ []) (before ++ script ∷ scripts)
     (Reads-script before script (All-head (All FitsWords) script scripts fits) (omega arith) (omega arith))
     (subst P (append_assoc before (script ∷ []) scripts) others)
 
-pub scripts_text-again : (scripts : List (List Op)) → All (All FitsWords) scripts → length scripts ≤ 64 → op_count scripts ≤ 1048576 → IsScriptText (scripts_text scripts) scripts
+pub scripts_text-again : (scripts : List (List Op)) → All (All FitsWords) scripts → length scripts ≤ 64 → op_count scripts ≤ 1048576
+    → IsScriptText (scripts_text scripts) scripts
 scripts_text-again scripts fits few room =
     let P : List (List ℕ) → Type 0 = λ x. Reads [] x scripts in
     subst P (sym (lines_of-scripts_text scripts fits)) (Reads-scripts [] scripts fits (omega arith) (omega arith))

@@ -26,12 +26,14 @@ pub record AddsOperation (before : List (List Op)) (line : List ℕ) (after : Li
 
 -- The line is good after the scripts that were read before it, and leaves these.
 abbrev pub IsGoodLineUpTo : ℕ → List (List Op) → List ℕ → List (List Op) → Type 0
-IsGoodLineUpTo most before line after = (IsBlank line × (after ≡ before)) ⊎ BeginsScript most before line after ⊎ AddsOperation before line after
+IsGoodLineUpTo most before line after = (IsBlank line × (after ≡ before)) ⊎ BeginsScript most before line after
+    ⊎ AddsOperation before line after
 
 -- The lines are good, one after another.
 abbrev pub ReadsUpTo : ℕ → List (List Op) → List (List ℕ) → List (List Op) → Type 0
 ReadsUpTo most before [] after = after ≡ before
-ReadsUpTo most before (line ∷ lines) after = (between : List (List Op)) × IsGoodLineUpTo most before line between × ReadsUpTo most between lines after
+ReadsUpTo most before (line ∷ lines) after = (between : List (List Op)) × IsGoodLineUpTo most before line between
+    × ReadsUpTo most between lines after
 
 -- The text is in the grammar, where it may hold so many scripts, and these are its scripts.
 abbrev pub IsScriptTextUpTo : ℕ → List ℕ → List (List Op) → Type 0

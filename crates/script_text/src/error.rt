@@ -6,7 +6,7 @@ use prcu_model::NoMemory;
 use thiserror::Error;
 
 /// Why a text wasn't read.
-#[derive(Clone, Copy, Debug, PartialEq, Eq, Error)]
+#[derive(Clone, Copy, Debug, Error)]
 pub enum ScriptError {
     /// The line with this number, counted from 1, is the first bad one. A number that doesn't fit stays the largest.
     #[error("line {number} is not a script's")]

@@ -35,7 +35,8 @@ left_of client = tickets_last client.cookies client.tree.seat.view.allowance.tic
 
 -- A call, by the client that it is: one that holds cookies, or one of the tree.
 abbrev pub CalledBy : Bool → ScriptClientAt → Op → Told → ScriptClientAt → Type 0
-CalledBy true before op told after = holding.HasCalled (record { tree = before.tree; cookie = before.cookie }) op told (record { tree = after.tree; cookie = after.cookie })
+CalledBy true before op told after = holding.HasCalled (record { tree = before.tree; cookie = before.cookie }) op told
+    (record { tree = after.tree; cookie = after.cookie })
 CalledBy false before op told after = waiting.HasCalled before.tree op told after.tree
 
 pub record HasCalled (before : ScriptClientAt) (op : Op) (told : Told) (after : ScriptClientAt) : Type 0 where

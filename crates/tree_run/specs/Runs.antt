@@ -7,11 +7,15 @@ use Rattle.prcu_model.specs.Lists.{Roomy}
 use Rattle.prcu_marks.specs.Callers.{Caller}
 use Rattle.client_run.specs.Crews.{HaveMet, HaveRun}
 use Rattle.list_laws.specs.Counts.{times}
+use Rattle.core_state.specs.declared.shape.Shape.{Shape}
+use Rattle.core_state.specs.declared.shape.Waiter.{Waiter}
 use Rattle.core_state.specs.views.Views.{places_of}
 use Rattle.core_state.specs.steps.Seating.{new_view}
-use Rattle.seat_table.specs.Seats.{TableAt, SeatAt, shape_of}
+use Rattle.seat_table.specs.Seats.{TableAt, SeatAt, way_of}
 use Rattle.seat_table.specs.Gains.{IsInformed}
 use Rattle.citrus_tree.specs.Clients.{caller_of}
+use Rattle.seat_table.specs.Scans.{region}
+use Rattle.tree_run.specs.declared.running.RunWith.{RunWith}
 use Rattle.tree_run.specs.Callers.{ScriptClientAt, newcomer, HasCalled}
 
 -- how many tickets so many operations may use: four for each, and one more for each where cookies are held
@@ -21,11 +25,25 @@ tickets_for false ops = 4 * ops
 
 -- a seat that has done and seen nothing, with these places and tickets
 abbrev pub seat_for : TableAt → ℕ → ℕ → ℕ → SeatAt
-seat_for table place places tickets = record { table = table; view = new_view place places tickets []; listed = [] }
+seat_for table place places tickets = record {
+  table = table;
+  view = new_view place places tickets [];
+  listed = [];
+  looked = region table.slots table.places place;
+}
+
+-- how scripts run on a tree whose waiter has this number
+abbrev pub run_with : ℕ → Bool → RunWith
+run_with way cookies = record { waiter = way_of way; cookies = cookies }
+
+-- the shape of a table with this waiter
+abbrev pub shape_with : Waiter → TableAt → Shape
+shape_with waiter table = record { waiter = waiter; slots = table.slots; places = table.places; tickets = table.tickets }
 
 -- the client for a script of this number and length
-abbrev pub client_for : ℕ → Bool → TableAt → ℕ → ℕ → ScriptClientAt
-client_for way cookies table i ops = newcomer cookies (record { shape = shape_of way table; table = table; seat = seat_for table i 1 (tickets_for cookies ops) })
+abbrev pub client_for : RunWith → TableAt → ℕ → ℕ → ScriptClientAt
+client_for how table i ops = newcomer how.cookies
+    (record { shape = shape_with how.waiter table; table = table; seat = seat_for table i 1 (tickets_for how.cookies ops) })
 
 -- the caller that a client is
 abbrev pub script_caller : ScriptClientAt → Caller
@@ -42,7 +60,8 @@ pub record StandsFor (clients : List ScriptClientAt) (seat : SeatAt) : Type 0 wh
   pub answers : (p : ℕ) → p < length clients → 1 ≤ times p (places_of seat.view)
   pub met : HaveMet (map script_caller clients) seat.view.seen
 
--- Scripts ran on a table: each client's seat had done nothing before. The seat into which theirs were joined is informed of all that they did.
-pub record HasRun (way : ℕ) (cookies : Bool) (table : TableAt) (scripts : List (List Op)) (told : List (Roomy Told)) (seat : SeatAt) : Type 0 where
-  pub ran : HaveRun (client_for way cookies table) HasCalled StandsFor scripts told seat
+-- Scripts ran on a table: each client's seat had done nothing before. The seat into which theirs were joined is informed of all that they
+-- did.
+pub record HasRun (how : RunWith) (table : TableAt) (scripts : List (List Op)) (told : List (Roomy Told)) (seat : SeatAt) : Type 0 where
+  pub ran : HaveRun (client_for how table) HasCalled StandsFor scripts told seat
   pub informed : IsInformed seat.view

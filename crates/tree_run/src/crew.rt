@@ -3,7 +3,7 @@ ghost use Rattle.std.specs.Prelude.{◌≡◌, ℕ, ◌≤◌, length, IfOk};
 ghost use Rattle.prcu_model.specs.Scripts.{op_count};
 ghost use Rattle.client_run.specs.Crews.{IsHired, IsCrew};
 ghost use Rattle.seat_table.specs.Seats.{IsQuietSeat};
-ghost use Rattle.tree_run.specs.Runs.{seat_for, client_for, tickets_for};
+ghost use Rattle.tree_run.specs.Runs.{run_with, seat_for, client_for, tickets_for};
 
 use crate::client::{ScriptClient, tickets_for};
 use client_run::Worker;
@@ -24,7 +24,7 @@ pub(crate) fn hire<'a, W: WaitPart, G: Gate>(
     requires some { 1 ≤ length scripts.now }
     requires seat { seat ≡ seat_for table.now 0 (length scripts.now) (tickets_for cookies (op_count scripts.now)) }
     requires quiet { IsQuietSeat seat }
-    ensures { IfOk result (λ workers. IsCrew (client_for W.WAY cookies table.now) scripts.now workers.items) }
+    ensures { IfOk result (λ workers. IsCrew (client_for (run_with W.WAY cookies) table.now) scripts.now workers.items) }
 {
     let mut workers = Vec::with_capacity(alloc, scripts.count() as usize)?;
     let mut rest = seat;
@@ -53,7 +53,8 @@ fn hire_one<'a, W: WaitPart, G: Gate>(
     requires table { seat.table ≡ table.now }
     requires quiet { IsQuietSeat seat }
     requires script { length script.now ≤ 1048576 }
-    ensures { (place : ℕ) → seat ≡ seat_for table.now place 1 (tickets_for cookies (length script.now)) → IfOk result (λ worker. IsHired (client_for W.WAY cookies table.now place (length script.now)) script.now worker) }
+    ensures { (place : ℕ) → seat ≡ seat_for table.now place 1 (tickets_for cookies (length script.now))
+        → IfOk result (λ worker. IsHired (client_for (run_with W.WAY cookies) table.now place (length script.now)) script.now worker) }
 {
     Worker::new(
         alloc,

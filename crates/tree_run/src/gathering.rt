@@ -47,7 +47,8 @@ fn dismiss_first<W: WaitPart, G: Gate>(
     requires some { 1 ≤ vec_len workers.old }
     requires room { vec_len told.old + 1 ≤ vec_capacity told.old }
     ensures seat { HasDismissed (λ client. client.tree.seat) workers.old.items workers.new.items told.old.items told.new.items result }
-    ensures table { (worker : Work ScriptClientAt) → workers.old.items ≡ worker ∷ workers.new.items → result.table ≡ worker.client.tree.table }
+    ensures table { (worker : Work ScriptClientAt) → workers.old.items ≡ worker ∷ workers.new.items
+        → result.table ≡ worker.client.tree.table }
     ensures quiet { IsQuietSeat result }
     ensures works { 1 ≤ result.view.allowance.places }
     ensures lengths { (vec_len workers.old ≡ vec_len workers.new + 1) × (vec_len told.new ≡ vec_len told.old + 1) }

@@ -7,4 +7,4 @@ mod gathering;
 mod running;
 
 pub use client::tickets_for;
-pub use running::{SeatRun, TreeRun, run_on, run_scripts};
+pub use running::{RunWith, SeatRun, TreeRun, run_on, run_scripts};

@@ -14,18 +14,28 @@ ghost use Rattle.core_state.specs.views.Views.{places_of};
 ghost use Rattle.seat_table.specs.Seats.{TableAt, IsQuietSeat, shape_of};
 ghost use Rattle.seat_table.specs.Gains.{IsInformed, StaysIn};
 ghost use Rattle.tree_run.specs.Callers.{HasCalled};
-ghost use Rattle.tree_run.specs.Runs.{seat_for, client_for, tickets_for, HasRun};
+ghost use Rattle.tree_run.specs.Runs.{run_with, seat_for, client_for, tickets_for, HasRun};
 
 use crate::client::{ScriptClient, tickets_for};
 use crate::crew::hire;
 use crate::gathering::gather;
 use client_run::{Worker, merge, run_all};
+use core_state::shape::Waiter;
 use prcu_marks::Gate;
 use prcu_model::{NoMemory, Scripts, ToldList, Update};
 use seat_table::{CitrusTable, Seat, WaitPart};
 use std::alloc::Global;
 use std::sync::Wait;
 use std::thread::Threads;
+
+/// How scripts run on a tree.
+#[derive(Clone, Copy)]
+pub struct RunWith {
+    /// How deletes wait for readers. The clients of a run have it as their type.
+    pub waiter: Waiter,
+    /// Whether clients hold cookies, or stand still for readers where many slots are retired.
+    pub cookies: bool,
+}
 
 /// What a run leaves.
 #[derive(Drop)]
@@ -56,13 +66,14 @@ pub fn run_scripts<R: Threads + Wait + Sync, W: WaitPart + Send + Sync, G: Gate 
     requires way { W.WAY ≤ 2 }
     requires some { 1 ≤ length scripts.now }
     requires slots { (1 ≤ slots) × (slots ≤ 2097152) }
-    ensures run { IfOk result (λ run. HasRun W.WAY cookies run.table scripts.now run.told.items run.seat) }
+    ensures run { IfOk result (λ run. HasRun (run_with W.WAY cookies) run.table scripts.now run.told.items run.seat) }
     ensures explained { IfOk result (λ run. AreExplainable scripts.now (entries_of run.told.items) run.history.items slots) }
     ensures legal { IfOk result (λ run. IsLegal run.history.items) }
     ensures within { IfOk result (λ run. StaysWithin run.history.items slots) }
     ensures history { IfOk result (λ run. run.history.items ≡ updates_of run.seat.view.seen) }
     ensures marks { IfOk result (λ run. FitsScripts scripts.now run.seat.view.seen) }
-    ensures table { IfOk result (λ run. (run.table.slots ≡ slots) × (run.table.places ≡ length scripts.now) × (run.table.tickets ≡ tickets_for cookies (op_count scripts.now))) }
+    ensures table { IfOk result (λ run. (run.table.slots ≡ slots) × (run.table.places ≡ length scripts.now)
+        × (run.table.tickets ≡ tickets_for cookies (op_count scripts.now))) }
     ensures seat { IfOk result (λ run. run.seat.table ≡ run.table) }
     ensures quiet { IfOk result (λ run. IsQuietSeat run.seat) }
     ensures informed { IfOk result (λ run. IsInformed run.seat.view) }
@@ -101,7 +112,7 @@ pub fn run_on<R: Threads + Wait + Sync, W: WaitPart + Send + Sync, G: Gate + Syn
     requires some { 1 ≤ length scripts.now }
     requires seat { seat ≡ seat_for table.now 0 (length scripts.now) (tickets_for cookies (op_count scripts.now)) }
     requires quiet { IsQuietSeat seat }
-    ensures run { IfOk result (λ run. HasRun W.WAY cookies table.now scripts.now run.told.items run.seat) }
+    ensures run { IfOk result (λ run. HasRun (run_with W.WAY cookies) table.now scripts.now run.told.items run.seat) }
     ensures table { IfOk result (λ run. run.seat.table ≡ table.now) }
     ensures quiet { IfOk result (λ run. IsQuietSeat run.seat) }
     ensures stays { IfOk result (λ run. StaysIn (shape_of W.WAY table.now) run.seat.view) }
@@ -119,7 +130,7 @@ fn run_crew<'a, R: Threads + Wait + Sync, W: WaitPart + Send + Sync, G: Gate + S
     mut workers: Vec<Worker<ScriptClient<'a, W, G>>>,
     scripts: &Scripts,
 ) -> Vec<Worker<ScriptClient<'a, W, G>>>
-    requires crew { (cookies : Bool) × (table : TableAt) × IsCrew (client_for W.WAY cookies table) scripts.now workers.items }
+    requires crew { (cookies : Bool) × (table : TableAt) × IsCrew (client_for (run_with W.WAY cookies) table) scripts.now workers.items }
     ensures count { length result.items ≡ length workers.entry.items }
     ensures made { HaveMade HasCalled workers.entry.items scripts.now result.items }
 {

@@ -11,8 +11,10 @@ use Rattle.range_snapshots.specs.Snapshots.{SnapshotAt, WereLookedAt, HasLookedA
 use Rattle.range_snapshots.proofs.Taking.{looked_later}
 
 -- A join puts them behind those of the scripts' seat.
-pub joined_looked : (k : Shape) (table : TableAt) (place clock : ℕ) (seat lister both : SeatAt) (ss : List SnapshotAt) → Told k (both_of seat.view lister.view) LoadClock clock both.view
+pub joined_looked : (k : Shape) (table : TableAt) (place clock : ℕ) (seat lister both : SeatAt) (ss : List SnapshotAt)
+    → Told k (both_of seat.view lister.view) LoadClock clock both.view
     → HasLookedAt (seat_for table place 1 0).view lister.view ss → WereLookedAt place both.view.looks ss
 joined_looked k table place clock seat lister both ss told looked =
-    let joined : both.view.looks ≡ seat.view.looks ++ looked.since = ap (λ (v : View). v.looks) told.goes ∙ ap (λ l. seat.view.looks ++ l) looked.added in
+    let joined : both.view.looks ≡ seat.view.looks ++ looked.since =
+    ap (λ (v : View). v.looks) told.goes ∙ ap (λ l. seat.view.looks ++ l) looked.added in
     subst (λ l. WereLookedAt place l ss) (sym joined) (looked_later place seat.view.looks looked.since ss looked.found)

@@ -13,7 +13,8 @@ use Rattle.prcu_model.specs.Replies.{Room, Explains, tells_update}
 use Rattle.prcu_model.specs.Fronts.{MayStand, MayStandBeside, CanBeNumbered, AreExplained}
 
 -- Where a put may be told `full` in the one room, it may in the other.
-module _ (one other : Room) (fuller : (n : ℕ) → one.slots ≤ n + 20 * (one.scripts - 1) → other.slots ≤ n + 20 * (other.scripts - 1)) (us : List Update) where
+module _ (one other : Room) (fuller : (n : ℕ) → one.slots ≤ n + 20 * (one.scripts - 1) → other.slots ≤ n + 20 * (other.scripts - 1))
+    (us : List Update) where
   explained : (m : Dictionary) (op : Op) (reply : Reply) → Explains one m op reply → Explains other m op reply
   explained m (Put key value) New e = absurd e
   explained m (Put key value) Old e = e
@@ -46,13 +47,16 @@ module _ (one other : Room) (fuller : (n : ℕ) → one.slots ≤ n + 20 * (one.
 
   stands : (before : ℕ) (line : Line) (number : ℕ) → MayStand one us before line number → MayStand other us before line number
   stands before line number may =
-      elim (tells_update line.reply) as (λ b. MatchBool b ((number ≡ line.number) × (before < number)) ((before ≤ number) × (number ≤ length us) × Explains one (map_at us number) line.op line.reply)
-      → MatchBool b ((number ≡ line.number) × (before < number)) ((before ≤ number) × (number ≤ length us) × Explains other (map_at us number) line.op line.reply)) [
+      elim (tells_update line.reply) as (λ b. MatchBool b ((number ≡ line.number) × (before < number))
+      ((before ≤ number) × (number ≤ length us) × Explains one (map_at us number) line.op line.reply)
+      → MatchBool b ((number ≡ line.number) × (before < number))
+      ((before ≤ number) × (number ≤ length us) × Explains other (map_at us number) line.op line.reply)) [
         | true ↦ λ m. m
         | false ↦ λ m. (m.0, m.1, explained (map_at us number) line.op line.reply m.2)
       ] may
 
-  stand : (before : ℕ) (lines : List Line) (numbers : List ℕ) → MayStandBeside one us before lines numbers → MayStandBeside other us before lines numbers
+  stand : (before : ℕ) (lines : List Line) (numbers : List ℕ) → MayStandBeside one us before lines numbers
+      → MayStandBeside other us before lines numbers
   stand before [] [] beside = tt
   stand before [] (n ∷ numbers) beside = absurd beside
   stand before (line ∷ lines) [] beside = absurd beside

@@ -1,5 +1,5 @@
 -- A watched run, from the scripts' run and the snapshots beside it to one explained history.
-use Rattle.std.proofs.Common.{◌≡◌, ℕ, ◌+◌, ◌<◌, ◌≤◌, false, List, [], length, inl, inr, sym, ap, subst, ◌∙◌, arith}
+use Rattle.std.proofs.Common.{◌≡◌, ℕ, ◌+◌, ◌<◌, ◌≤◌, List, [], length, inl, inr, sym, ap, subst, ◌∙◌, arith}
 use Rattle.std.proofs.lemmas.Bool.{cases_lt}
 use Rattle.std.proofs.lemmas.List.{length-map}
 use Rattle.prcu_model.specs.declared.operation.Op.{Op}
@@ -16,11 +16,12 @@ use Rattle.client_run.specs.Workers.{Work}
 use Rattle.list_laws.specs.Counts.{times}
 use Rattle.core_state.specs.views.Views.{places_of}
 use Rattle.core_frames.proofs.views.SeatFacts.{works_there}
-use Rattle.seat_table.specs.Seats.{TableAt, SeatAt, KeepsOwn, shape_of}
+use Rattle.seat_table.specs.Seats.{TableAt, SeatAt, KeepsOwn}
 use Rattle.seat_table.specs.Gains.{StaysIn}
 use Rattle.citrus_tree.specs.Clients.{room_of}
 use Rattle.tree_run.specs.Callers.{ScriptClientAt}
-use Rattle.tree_run.specs.Runs.{seat_for, HasRun}
+use Rattle.tree_run.specs.declared.running.RunWith.{RunWith}
+use Rattle.tree_run.specs.Runs.{shape_with, seat_for, HasRun}
 use Rattle.tree_run.proofs.Finished.{run_told, run_explained, run_marks}
 use Rattle.range_snapshots.specs.Snapshots.{OnlyLists}
 use Rattle.tree_watch.proofs.Rooms.{explained_too}
@@ -34,19 +35,25 @@ pub record IsMerged (scripts : List (List Op)) (told : List (Roomy Told)) (seat 
   pub marks : FitsScripts scripts seat.view.seen
 
 -- no place but the scripts' made an update
-others : (way : ℕ) (table : TableAt) (scripts : List (List Op)) (seat : SeatAt) {count : ℕ} → StaysIn (shape_of way table) seat.view → updates_of (own_of (length scripts) seat.view.seen) ≡ [] → table.places ≡ count + 1 → count ≡ length scripts
+others : (how : RunWith) (table : TableAt) (scripts : List (List Op)) (seat : SeatAt) {count : ℕ}
+    → StaysIn (shape_with how.waiter table) seat.view → updates_of (own_of (length scripts) seat.view.seen) ≡ [] → table.places ≡ count + 1
+    → count ≡ length scripts
     → (p : ℕ) → length scripts ≤ p → updates_of (own_of p seat.view.seen) ≡ []
-others way table scripts seat {count} stays idle few all p past = elim (cases_lt p (length scripts + 1)) [
+others how table scripts seat {count} stays idle few all p past = elim (cases_lt p (length scripts + 1)) [
   | inl here ↦ (let same : length scripts ≡ p = omega arith in subst (λ q. updates_of (own_of q seat.view.seen) ≡ []) same idle)
   | inr far ↦ ap updates_of (stays.others p (omega (arith, few, all, far)))
 ]
 
-module _ {way : ℕ} {table : TableAt} {scripts : List (List Op)} {told : List (Roomy Told)} {seat : SeatAt} {slots count tickets : ℕ} (run : HasRun way false table scripts told seat) (stays : StaysIn (shape_of way table) seat.view)
-    (idle : updates_of (own_of (length scripts) seat.view.seen) ≡ []) (some : 1 ≤ length scripts) (made : (table.slots ≡ slots + 20) × (table.places ≡ count + 1) × (table.tickets ≡ tickets)) (all : count ≡ length scripts) where
+module _ {how : RunWith} {table : TableAt} {scripts : List (List Op)} {told : List (Roomy Told)} {seat : SeatAt} {slots count tickets : ℕ}
+    (run : HasRun how table scripts told seat) (stays : StaysIn (shape_with how.waiter table) seat.view)
+    (idle : updates_of (own_of (length scripts) seat.view.seen) ≡ []) (some : 1 ≤ length scripts)
+    (made : (table.slots ≡ slots + 20) × (table.places ≡ count + 1) × (table.tickets ≡ tickets)) (all : count ≡ length scripts) where
   watched : AreExplainable scripts (entries_of told) (updates_of seat.view.seen) slots
   watched = record {
-    lengths = run_told run (others way table scripts seat stays idle made.1 all);
-    explained = explained_too (room_of (shape_of way table)) (record { scripts = length scripts; slots = slots }) (λ n full. (let many = made.0 in let few = made.1 in omega (arith, many, few, all, full))) (updates_of seat.view.seen) _ (run_explained run (others way table scripts seat stays idle made.1 all));
+    lengths = run_told run (others how table scripts seat stays idle made.1 all);
+    explained = explained_too (room_of (shape_with how.waiter table)) (record { scripts = length scripts; slots = slots })
+        (λ n full. (let many = made.0 in let few = made.1 in omega (arith, many, few, all, full)))
+        (updates_of seat.view.seen) _ (run_explained run (others how table scripts seat stays idle made.1 all));
   }
 
   -- with what was told as it is where it is read
@@ -54,28 +61,36 @@ module _ {way : ℕ} {table : TableAt} {scripts : List (List Op)} {told : List (
   watched_explained same = subst (λ xs. AreExplainable scripts (entries_of xs) (updates_of seat.view.seen) slots) (sym same) watched
 
   -- with the history that was merged
-  pub watched_merged : {ts : List (Roomy Told)} {history : List Update} → ts ≡ told → ((us : List Update) → TellOwnUpdates us (all_told_lines scripts (entries_of ts)) → history ≡ us) → IsMerged scripts told seat slots history
+  pub watched_merged : {ts : List (Roomy Told)} {history : List Update} → ts ≡ told
+      → ((us : List Update) → TellOwnUpdates us (all_told_lines scripts (entries_of ts)) → history ≡ us)
+      → IsMerged scripts told seat slots history
   watched_merged same only =
       let history_is = only (updates_of seat.view.seen) (watched_explained same).explained.updates in
       record {
         history_is = history_is;
         explained = subst (λ us. AreExplainable scripts (entries_of told) us slots) (sym history_is) watched;
         legal = subst IsLegal (sym history_is) run.informed.legal;
-        within = subst (λ us. StaysWithin us (slots + 20)) (sym history_is) (subst (StaysWithin (updates_of seat.view.seen)) made.0 stays.within);
-        marks = run_marks run (others way table scripts seat stays idle made.1 all);
+        within = subst (λ us. StaysWithin us (slots + 20)) (sym history_is)
+            (subst (StaysWithin (updates_of seat.view.seen)) made.0 stays.within);
+        marks = run_marks run (others how table scripts seat stays idle made.1 all);
       }
 
 -- ---- the place of the snapshots
 
-lists_there : (table : TableAt) (place : ℕ) (lister : SeatAt) → OnlyLists (seat_for table place 1 0).view lister.view → 1 ≤ times place (places_of lister.view)
-lists_there table place lister only = subst (λ q. 1 ≤ times q (places_of lister.view)) (ap (λ a. a.place) only.allowance) (works_there lister.view (let n = ap (λ a. a.places) only.allowance in omega arith))
+lists_there : (table : TableAt) (place : ℕ) (lister : SeatAt) → OnlyLists (seat_for table place 1 0).view lister.view
+    → 1 ≤ times place (places_of lister.view)
+lists_there table place lister only = subst (λ q. 1 ≤ times q (places_of lister.view)) (ap (λ a. a.place) only.allowance)
+    (works_there lister.view (let n = ap (λ a. a.places) only.allowance in omega arith))
 
 -- It made no update, by what the joined seat has seen.
-pub joined_idle : (table : TableAt) (place : ℕ) (seat lister both : SeatAt) → OnlyLists (seat_for table place 1 0).view lister.view → KeepsOwn seat.view lister.view both.view → updates_of (own_of place both.view.seen) ≡ []
-joined_idle table place seat lister both only keeps = ap updates_of (keeps.second_own place (lists_there table place lister only)) ∙ only.own
+pub joined_idle : (table : TableAt) (place : ℕ) (seat lister both : SeatAt) → OnlyLists (seat_for table place 1 0).view lister.view
+    → KeepsOwn seat.view lister.view both.view → updates_of (own_of place both.view.seen) ≡ []
+joined_idle table place seat lister both only keeps =
+    ap updates_of (keeps.second_own place (lists_there table place lister only)) ∙ only.own
 
 -- The joined seat answers for it, as for the scripts' places.
-module _ {way : ℕ} {table : TableAt} {scripts : List (List Op)} {told : List (Roomy Told)} {seat : SeatAt} (run : HasRun way false table scripts told seat) where
+module _ {how : RunWith} {table : TableAt} {scripts : List (List Op)} {told : List (Roomy Told)} {seat : SeatAt}
+    (run : HasRun how table scripts told seat) where
   script_answers : (p : ℕ) → p < length scripts → 1 ≤ times p (places_of seat.view)
   script_answers p inside =
       let clients = length-map run.ran.workers (λ (w : Work ScriptClientAt). w.client) in
@@ -83,12 +98,14 @@ module _ {way : ℕ} {table : TableAt} {scripts : List (List Op)} {told : List (
       let hired = run.ran.crew.count in
       run.ran.joined.answers p (omega (arith, clients, count, hired, inside))
 
-  pub joined_answers : (lister both : SeatAt) → OnlyLists (seat_for table (length scripts) 1 0).view lister.view → KeepsOwn seat.view lister.view both.view → (p : ℕ) → p < length scripts + 1 → 1 ≤ times p (places_of both.view)
+  pub joined_answers : (lister both : SeatAt) → OnlyLists (seat_for table (length scripts) 1 0).view lister.view
+      → KeepsOwn seat.view lister.view both.view → (p : ℕ) → p < length scripts + 1 → 1 ≤ times p (places_of both.view)
   joined_answers lister both only keeps p inside = elim (cases_lt p (length scripts)) [
     | inl script ↦ (let n = keeps.places p in let has = script_answers p script in omega (arith, n, has))
     | inr last ↦
         let same : length scripts ≡ p = omega (arith, inside, last) in
-        let has : 1 ≤ times p (places_of lister.view) = subst (λ q. 1 ≤ times q (places_of lister.view)) same (lists_there table (length scripts) lister only) in
+        let has : 1 ≤ times p (places_of lister.view) =
+        subst (λ q. 1 ≤ times q (places_of lister.view)) same (lists_there table (length scripts) lister only) in
         let n = keeps.places p in
         omega (arith, n, has)
   ]

@@ -12,7 +12,7 @@ ghost use Rattle.list_laws.specs.Counts.{times};
 ghost use Rattle.core_state.specs.views.Views.{places_of};
 ghost use Rattle.seat_table.specs.Seats.{IsQuietSeat, shape_of};
 ghost use Rattle.seat_table.specs.Gains.{IsInformed, StaysIn};
-ghost use Rattle.tree_run.specs.Runs.{seat_for, tickets_for, HasRun};
+ghost use Rattle.tree_run.specs.Runs.{run_with, seat_for, tickets_for, HasRun};
 ghost use Rattle.range_snapshots.specs.Snapshots.{AreSnapshots, WereLookedAt, HasLookedAt, OnlyLists, none_yet};
 
 use client_run::merge;
@@ -65,7 +65,7 @@ pub fn run_watched<R: Threads + Wait + Sync, W: WaitPart + Send + Sync, G: Gate 
     requires way { W.WAY ≤ 2 }
     requires scripts { (1 ≤ length scripts.now) × (length scripts.now ≤ 63) }
     requires slots { (1 ≤ slots) × (slots ≤ 2097132) }
-    ensures run { IfOk result (λ run. HasRun W.WAY false run.table scripts.now run.told.items run.seat) }
+    ensures run { IfOk result (λ run. HasRun (run_with W.WAY false) run.table scripts.now run.told.items run.seat) }
     ensures explained { IfOk result (λ run. AreExplainable scripts.now (entries_of run.told.items) run.history.items slots) }
     ensures legal { IfOk result (λ run. IsLegal run.history.items) }
     ensures within { IfOk result (λ run. StaysWithin run.history.items (slots + 20)) }
@@ -73,7 +73,8 @@ pub fn run_watched<R: Threads + Wait + Sync, W: WaitPart + Send + Sync, G: Gate 
     ensures snapshots { IfOk result (λ run. AreSnapshots run.history.items keys.low keys.high 0 run.snapshots) }
     ensures looked { IfOk result (λ run. WereLookedAt (length scripts.now) run.seat.view.looks run.snapshots) }
     ensures marks { IfOk result (λ run. FitsScripts scripts.now run.seat.view.seen) }
-    ensures table { IfOk result (λ run. (run.table.slots ≡ slots + 20) × (run.table.places ≡ length scripts.now + 1) × (run.table.tickets ≡ 4 * op_count scripts.now)) }
+    ensures table { IfOk result (λ run. (run.table.slots ≡ slots + 20) × (run.table.places ≡ length scripts.now + 1)
+        × (run.table.tickets ≡ 4 * op_count scripts.now)) }
     ensures seat { IfOk result (λ run. run.seat.table ≡ run.table) }
     ensures quiet { IfOk result (λ run. IsQuietSeat run.seat) }
     ensures informed { IfOk result (λ run. IsInformed run.seat.view) }
@@ -122,7 +123,7 @@ fn run_beside<R: Threads + Wait + Sync, W: WaitPart + Send + Sync, G: Gate + Syn
     requires workers { workers ≡ seat_for table.now 0 (length scripts.now) (tickets_for false (op_count scripts.now)) }
     requires lister { lister ≡ seat_for table.now (length scripts.now) 1 0 }
     requires quiet { IsQuietSeat workers × IsQuietSeat lister }
-    ensures run { IfOk result (λ made. HasRun W.WAY false table.now scripts.now made.told.items made.seat) }
+    ensures run { IfOk result (λ made. HasRun (run_with W.WAY false) table.now scripts.now made.told.items made.seat) }
     ensures table { IfOk result (λ made. made.seat.table ≡ table.now) }
     ensures quiet { IfOk result (λ made. IsQuietSeat made.seat) }
     ensures stays { IfOk result (λ made. StaysIn (shape_of W.WAY table.now) made.seat.view) }
@@ -135,8 +136,9 @@ fn run_beside<R: Threads + Wait + Sync, W: WaitPart + Send + Sync, G: Gate + Syn
     let (ran, listed) = join(
         rt,
         || -> Result<SeatRun<W>, NoMemory>
-            requires { IsSync R.row × (1 ≤ length scripts.now) × (workers ≡ seat_for table.now 0 (length scripts.now) (tickets_for false (op_count scripts.now))) × IsQuietSeat workers }
-            ensures run { IfOk result (λ run. HasRun W.WAY false table.entry.now scripts.entry.now run.told.items run.seat) }
+            requires { IsSync R.row × (1 ≤ length scripts.now)
+                × (workers ≡ seat_for table.now 0 (length scripts.now) (tickets_for false (op_count scripts.now))) × IsQuietSeat workers }
+            ensures run { IfOk result (λ run. HasRun (run_with W.WAY false) table.entry.now scripts.entry.now run.told.items run.seat) }
             ensures table { IfOk result (λ run. run.seat.table ≡ table.entry.now) }
             ensures quiet { IfOk result (λ run. IsQuietSeat run.seat) }
         {

@@ -30,7 +30,8 @@ case_some : (b : Bool) (v w : ℕ) (was : Option ℕ) → cond b (Some v) was �
 case_some true v w was e = inr (refl, sym (same_value v w e))
 case_some false v w was e = inl e
 
-came_from : (b : Bool) (op : Op) (its was : Option ℕ) (w : ℕ) → value_after b op its was ≡ Some w → (was ≡ Some w) ⊎ ((b ≡ true) × (w ≡ value_of op))
+came_from : (b : Bool) (op : Op) (its was : Option ℕ) (w : ℕ) → value_after b op its was ≡ Some w
+    → (was ≡ Some w) ⊎ ((b ≡ true) × (w ≡ value_of op))
 came_from b (Put key value) None was w e = case_some b value w was e
 came_from b (Put key value) (Some v) was w e = inl e
 came_from b (Get key) its was w e = inl e
@@ -49,19 +50,23 @@ tied q key e =
 
 AreLow-updated : (m : Dictionary) (op : Op) → IsLow (key_of op) (value_of op) → AreLow m → AreLow (updated m op)
 AreLow-updated m op low all key value there =
-    let from = came_from (eq_by_cmp nat_cmp key (key_of op)) op (map.get m (key_of op)) (map.get m key) value (sym (get-updated m op key) ∙ there) in
+    let from = came_from (eq_by_cmp nat_cmp key (key_of op)) op (map.get m (key_of op)) (map.get m key) value
+    (sym (get-updated m op key) ∙ there) in
     elim from as (λ _. IsLow key value) [
       | inl was ↦ all key value was
       | inr new ↦ let same = tied key (key_of op) new.0 in (omega (arith, same, low.0), omega (arith, new.1, low.1))
     ]
 
-AreLow-updated_all : (us : List Update) (m : Dictionary) → All (λ u. IsLow (key_of u.op) (value_of u.op)) us → AreLow m → AreLow (updated_all m us)
+AreLow-updated_all : (us : List Update) (m : Dictionary) → All (λ u. IsLow (key_of u.op) (value_of u.op)) us → AreLow m
+    → AreLow (updated_all m us)
 AreLow-updated_all [] m low all = all
 AreLow-updated_all (u ∷ us) m low all =
-    AreLow-updated_all us (updated m u.op) (λ k d below. low (suc k) d (omega (arith, below))) (AreLow-updated m u.op (low 0 u (omega arith)) all)
+    AreLow-updated_all us (updated m u.op) (λ k d below. low (suc k) d (omega (arith, below)))
+    (AreLow-updated m u.op (low 0 u (omega arith)) all)
 
 pub AreLow-history : (history : List Update) → All (λ u. IsLow (key_of u.op) (value_of u.op)) history → AreLow (map_of history)
-AreLow-history history low = AreLow-updated_all history map.empty low (λ key value there. let no : None ≡ Some value = sym (map.get-empty nat_cmp key) ∙ there in absurd (cc))
+AreLow-history history low = AreLow-updated_all history map.empty low
+    (λ key value there. let no : None ≡ Some value = sym (map.get-empty nat_cmp key) ∙ there in absurd (cc))
 
 first : (a b : Bool) → T (a && b) → T a
 first true b p = tt
@@ -84,20 +89,23 @@ find_below key [] below = refl
 find_below key (e ∷ es) below =
     ap (λ b. cond b (Some e.1) (find nat_cmp key es)) (not_tied key e.0 (first _ _ below)) ∙ find_below key es (second _ _ below)
 
-entries_low : (es : List (ℕ × ℕ)) → T (is_sorted nat_cmp es) → ((key value : ℕ) → find nat_cmp key es ≡ Some value → IsLow key value) → AllByRecursion (λ e. IsLow e.0 e.1) es
+entries_low : (es : List (ℕ × ℕ)) → T (is_sorted nat_cmp es) → ((key value : ℕ) → find nat_cmp key es ≡ Some value → IsLow key value)
+    → AllByRecursion (λ e. IsLow e.0 e.1) es
 entries_low [] sorted low = tt
 entries_low (e ∷ es) sorted low = (
   low e.0 e.1 (ap (λ r. cond (is_eq r) (Some e.1) (find nat_cmp e.0 es)) (tied_itself nat_cmp_total e.0)),
   entries_low es (second _ _ sorted) (λ key value there.
       elim (eq_by_cmp nat_cmp key e.0) as (λ b. eq_by_cmp nat_cmp key e.0 ≡ b → IsLow key value) [
         | true ↦ λ same.
-            let no : None ≡ Some value = sym (find_below e.0 es (first _ _ sorted)) ∙ ap (λ k. find nat_cmp k es) (sym (tied key e.0 same)) ∙ there in
+            let no : None ≡ Some value = sym (find_below e.0 es (first _ _ sorted)) ∙ ap (λ k. find nat_cmp k es) (sym (tied key e.0 same))
+            ∙ there in
             absurd (cc)
         | false ↦ λ other. low key value (ap (λ b. cond b (Some e.1) (find nat_cmp key es)) other ∙ there)
       ] refl),
 )
 
-sums_low : (es : List (ℕ × ℕ)) → AllByRecursion (λ e. IsLow e.0 e.1) es → (sum_by (λ e. e.0) es ≤ 262144 * length es) × (sum_by (λ e. e.1) es ≤ 2147483648 * length es)
+sums_low : (es : List (ℕ × ℕ)) → AllByRecursion (λ e. IsLow e.0 e.1) es
+    → (sum_by (λ e. e.0) es ≤ 262144 * length es) × (sum_by (λ e. e.1) es ≤ 2147483648 * length es)
 sums_low [] low = (omega arith, omega arith)
 sums_low (e ∷ es) low =
     let rest = sums_low es low.1 in

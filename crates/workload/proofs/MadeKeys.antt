@@ -28,7 +28,8 @@ module _ (script state : ℕ) (few : script < 64) where
       let after = next_state (next_state state) in
       let kind = drawn (next_state state) % 4 in
       let key = 64 * (drawn after % 4096) + script in
-      elim (ltb kind 2) as (λ b. IsMadeFor script (cond {A = Op × ℕ} b (Put key (drawn (next_state after)), next_state after) (cond (eqb kind 2) (Get key, after) (Del key, after))).0) [
+      elim (ltb kind 2) as (λ b. IsMadeFor script (cond {A = Op × ℕ} b (Put key (drawn (next_state after)), next_state after)
+      (cond (eqb kind 2) (Get key, after) (Del key, after))).0) [
         | true ↦ record { own = omega arith; key = omega arith; value = drawn_low after }
         | false ↦ elim (eqb kind 2) as (λ b. IsMadeFor script (cond {A = Op × ℕ} b (Get key, after) (Del key, after)).0) [
           | true ↦ record { own = omega arith; key = omega arith; value = omega arith }
@@ -38,11 +39,16 @@ module _ (script state : ℕ) (few : script < 64) where
 
 made_ops-IsMadeFor : (script state ops : ℕ) → script < 64 → AllByRecursion (IsMadeFor script) (made_ops script state ops)
 made_ops-IsMadeFor script state zero few = tt
-made_ops-IsMadeFor script state (suc ops) few = (made_op-IsMadeFor script state few, made_ops-IsMadeFor script (made_op script state).1 ops few)
+made_ops-IsMadeFor script state (suc ops) few =
+    (made_op-IsMadeFor script state few, made_ops-IsMadeFor script (made_op script state).1 ops few)
 
-made_from : (number first scripts ops : ℕ) → first + scripts ≤ 64 → AllOps IsMadeFor first (map (made_script number ops) (range_with_len first scripts))
+made_from : (number first scripts ops : ℕ) → first + scripts ≤ 64
+    → AllOps IsMadeFor first (map (made_script number ops) (range_with_len first scripts))
 made_from number first zero ops few = tt
-made_from number first (suc scripts) ops few = (made_ops-IsMadeFor first ((number + first) % 2 ^ 64) ops (omega (arith, few)), made_from number (first + 1) scripts ops (omega (arith, few)))
+made_from number first (suc scripts) ops few = (
+  made_ops-IsMadeFor first ((number + first) % 2 ^ 64) ops (omega (arith, few)),
+  made_from number (first + 1) scripts ops (omega (arith, few)),
+)
 
 pub made_scripts-IsMadeFor : (number scripts ops : ℕ) → scripts ≤ 64 → AllOps IsMadeFor 0 (made_scripts number scripts ops)
 made_scripts-IsMadeFor number scripts ops few = made_from number 0 scripts ops (omega (arith, few))

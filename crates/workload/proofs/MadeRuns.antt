@@ -51,7 +51,8 @@ own_scripts : (caller : ℕ) (scripts : List (List Op)) → AllOps IsMadeFor cal
 own_scripts caller [] all = tt
 own_scripts caller (script ∷ scripts) all = (own_script caller script all.0, own_scripts (caller + 1) scripts all.1)
 
-module _ (scripts : List (List Op)) (tolds : List (List Told)) (history : List Update) (is_made : IsMade scripts) (few : length scripts ≤ 64) (legal : IsLegal history) (able : AreExplainable scripts tolds history (default_slots_of scripts)) where
+module _ (scripts : List (List Op)) (tolds : List (List Told)) (history : List Update) (is_made : IsMade scripts)
+    (few : length scripts ≤ 64) (legal : IsLegal history) (able : AreExplainable scripts tolds history (default_slots_of scripts)) where
   all_made : AllOps IsMadeFor 0 scripts
   all_made =
       let count = ap length is_made.made ∙ length-made_scripts is_made.number is_made.count is_made.ops in
@@ -64,11 +65,13 @@ module _ (scripts : List (List Op)) (tolds : List (List Told)) (history : List U
   pub summary-is-plain : summary_with scripts tolds (map_of history) ≡ plain_summary scripts
   summary-is-plain = λ i. summary_by scripts (are_plain.replies i) (are_plain.same_map i)
 
-  sums : (key_sum (map_of history) ≤ 262144 * map.len (map_of history)) × (value_sum (map_of history) ≤ 2147483648 * map.len (map_of history))
+  sums : (key_sum (map_of history) ≤ 262144 * map.len (map_of history))
+      × (value_sum (map_of history) ≤ 2147483648 * map.len (map_of history))
   sums =
       let room : Room = record { scripts = length scripts; slots = default_slots_of scripts } in
       let ops = ops_of-all_told_lines scripts tolds able.lengths in
-      let all = ops-of-history IsMadeFor room history (all_told_lines scripts tolds) able.explained (subst (AllOps IsMadeFor 0) (sym ops) all_made) in
+      let all = ops-of-history IsMadeFor room history (all_told_lines scripts tolds) able.explained
+      (subst (AllOps IsMadeFor 0) (sym ops) all_made) in
       sums-le (map_of history) (AreLow-history history (λ k d below. ((all k d below).key, (all k d below).value)))
 
   few_pairs : op_count scripts ≤ 1048576 → map.len (map_of history) ≤ 1048576

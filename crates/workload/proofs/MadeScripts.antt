@@ -27,17 +27,25 @@ pub record HasBegun (first now : List (List Op)) (script state done ops : ℕ) (
   pub count : length begun ≡ done
   pub rest : begun ++ made_ops script state (ops - done) ≡ whole
 
-pub HasBegun-none : (first now : List (List Op)) (script state ops : ℕ) → now ≡ first ++ [] ∷ [] → HasBegun first now script state 0 ops (made_ops script state ops)
-HasBegun-none first now script state ops is = record { begun = []; now_is = is; count = refl; rest = ap (made_ops script state) (omega arith) }
+pub HasBegun-none : (first now : List (List Op)) (script state ops : ℕ) → now ≡ first ++ [] ∷ []
+    → HasBegun first now script state 0 ops (made_ops script state ops)
+HasBegun-none first now script state ops is = record {
+  begun = [];
+  now_is = is;
+  count = refl;
+  rest = ap (made_ops script state) (omega arith);
+}
 
-module _ (first now : List (List Op)) (script state done ops : ℕ) (whole : List Op) (has : HasBegun first now script state done ops whole) where
+module _ (first now : List (List Op)) (script state done ops : ℕ) (whole : List Op)
+    (has : HasBegun first now script state done ops whole) where
   pub HasBegun-some : 0 < length now
   HasBegun-some = omega (arith, ap length has.now_is, length-append first (has.begun ∷ []))
 
   pub HasBegun-room : done < ops → op_count first + ops ≤ 1048576 → op_count now < 1048576
   HasBegun-room more few = omega (arith, ap op_count has.now_is, op_count-last first has.begun, has.count)
 
-  pub HasBegun-more : (after : List (List Op)) (op : Op) (next : ℕ) → (op, next) ≡ made_op script state → after ≡ with_op now op → done < ops → HasBegun first after script next (done + 1) ops whole
+  pub HasBegun-more : (after : List (List Op)) (op : Op) (next : ℕ) → (op, next) ≡ made_op script state → after ≡ with_op now op
+      → done < ops → HasBegun first after script next (done + 1) ops whole
   HasBegun-more after op next made is more =
       let left : ops - done ≡ suc (ops - (done + 1)) = omega arith in
       record {
@@ -54,10 +62,12 @@ module _ (first now : List (List Op)) (script state done ops : ℕ) (whole : Lis
   pub HasBegun-all : ops ≤ done → now ≡ first ++ whole ∷ []
   HasBegun-all past =
       let none : ops - done ≡ 0 = omega arith in
-      has.now_is ∙ ap (λ s. first ++ s ∷ []) (sym (append-nil has.begun) ∙ ap (λ n. has.begun ++ made_ops script state n) (sym none) ∙ has.rest)
+      has.now_is ∙ ap (λ s. first ++ s ∷ []) (sym (append-nil has.begun) ∙ ap (λ n. has.begun ++ made_ops script state n) (sym none)
+      ∙ has.rest)
 
 -- so many scripts, and one more
-pub made_scripts-more : (number scripts ops : ℕ) → made_scripts number (scripts + 1) ops ≡ made_scripts number scripts ops ++ made_script number ops scripts ∷ []
+pub made_scripts-more : (number scripts ops : ℕ)
+    → made_scripts number (scripts + 1) ops ≡ made_scripts number scripts ops ++ made_script number ops scripts ∷ []
 made_scripts-more number scripts ops = map-range_with_len_more (made_script number ops) 0 scripts scripts (omega arith)
 
 pub length-made_scripts : (number scripts ops : ℕ) → length (made_scripts number scripts ops) ≡ scripts

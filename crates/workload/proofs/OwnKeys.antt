@@ -23,9 +23,11 @@ module _ (owner : ℕ → ℕ) where
   IsOwn caller op = owner (key_of op) ≡ caller
 
   -- after the caller's own update of both
-  pub Agrees-updated : (caller : ℕ) (m n : Dictionary) (op : Op) → IsOwn caller op → Agrees caller m n → Agrees caller (updated m op) (updated n op)
+  pub Agrees-updated : (caller : ℕ) (m n : Dictionary) (op : Op) → IsOwn caller op → Agrees caller m n
+      → Agrees caller (updated m op) (updated n op)
   Agrees-updated caller m n op own agrees q is =
-      get-updated m op q ∙ (λ i. value_after (eq_by_cmp nat_cmp q (key_of op)) op (agrees (key_of op) own i) (agrees q is i)) ∙ sym (get-updated n op q)
+      get-updated m op q ∙ (λ i. value_after (eq_by_cmp nat_cmp q (key_of op)) op (agrees (key_of op) own i) (agrees q is i))
+      ∙ sym (get-updated n op q)
 
   -- after an update of another caller
   pub Agrees-other : (caller other : ℕ) (m : Dictionary) (op : Op) → IsOwn other op → other ≢ caller → Agrees caller m (updated m op)
@@ -43,7 +45,9 @@ own_past : (us : List Update) (position caller front : ℕ) → front < position
 own_past [] position caller front lt = tt
 own_past (u ∷ us) position caller front lt =
     let rest = own_past us (position + 1) caller front (omega arith) in
-    elim (eqb u.caller caller) as (λ b. ArePast front (cond b (record { position = position; op = u.op } ∷ own_updates_from (position + 1) caller us) (own_updates_from (position + 1) caller us))) [
+    elim (eqb u.caller caller) as (λ b. ArePast front
+    (cond b (record { position = position; op = u.op } ∷ own_updates_from (position + 1) caller us)
+    (own_updates_from (position + 1) caller us))) [
       | true ↦ (lt, rest)
       | false ↦ rest
     ]
@@ -57,46 +61,59 @@ module _ (owner : ℕ → ℕ) (history : List Update) (all_own : All (λ u. IsO
   ahead front = own_updates_from (front + 1) caller (drop front history)
 
   ahead-next : (front : ℕ) → front < length history → ahead front
-      ≡ cond (eqb (get_or history front some_update).caller caller) (record { position = front + 1; op = (get_or history front some_update).op } ∷ ahead (front + 1)) (ahead (front + 1))
+      ≡ cond (eqb (get_or history front some_update).caller caller)
+      (record { position = front + 1; op = (get_or history front some_update).op } ∷ ahead (front + 1)) (ahead (front + 1))
   ahead-next front below = ap (own_updates_from (front + 1) caller) (drop_more history front some_update below)
 
   -- where none of them comes before the next front, nothing of the caller's keys changes
-  skip_one : (front : ℕ) → ArePast (front + 1) (ahead front) → (ahead (front + 1) ≡ ahead front) × Agrees owner caller (map_at history front) (map_at history (front + 1))
+  skip_one : (front : ℕ) → ArePast (front + 1) (ahead front)
+      → (ahead (front + 1) ≡ ahead front) × Agrees owner caller (map_at history front) (map_at history (front + 1))
   skip_one front past = elim (cases_lt front (length history)) [
     | inl below ↦
         let u = get_or history front some_update in
         let next = ahead-next front below in
         let rest = subst (ArePast (front + 1)) next past in
         let one = map_at-next history front some_update below in
-        elim (eqb u.caller caller) as (λ b. eqb u.caller caller ≡ b → ArePast (front + 1) (cond b (record { position = front + 1; op = u.op } ∷ ahead (front + 1)) (ahead (front + 1)))
+        elim (eqb u.caller caller) as (λ b. eqb u.caller caller ≡ b
+        → ArePast (front + 1) (cond b (record { position = front + 1; op = u.op } ∷ ahead (front + 1)) (ahead (front + 1)))
         → ahead front ≡ cond b (record { position = front + 1; op = u.op } ∷ ahead (front + 1)) (ahead (front + 1))
         → (ahead (front + 1) ≡ ahead front) × Agrees owner caller (map_at history front) (map_at history (front + 1))) [
           | true ↦ λ is past next. absurd (omega (arith, past.0))
           | false ↦ λ is past next.
-              let ne : u.caller ≢ caller = grind (arith, nat_tests) in
-              (sym next, subst (λ m. Agrees owner caller (map_at history front) m) (sym one) (Agrees-other owner caller u.caller (map_at history front) u.op (all_own front some_update below) ne))
+              let ne : u.caller ≢ caller = grind (arith, nat_tests) in (
+                sym next,
+                subst (λ m. Agrees owner caller (map_at history front) m) (sym one)
+                    (Agrees-other owner caller u.caller (map_at history front) u.op (all_own front some_update below) ne),
+              )
         ] refl rest next
     | inr end ↦
         let none = drop_all front history end in
         let also = drop_all (front + 1) history (omega arith) in
         let before : ahead front ≡ [] = ap (own_updates_from (front + 1) caller) none in
         let after : ahead (front + 1) ≡ [] = ap (own_updates_from (front + 1 + 1) caller) also in
-        let same : map_at history front ≡ map_at history (front + 1) = ap map_of (take_all front history end ∙ sym (take_all (front + 1) history (omega arith))) in
+        let same : map_at history front ≡ map_at history (front + 1) =
+        ap map_of (take_all front history end ∙ sym (take_all (front + 1) history (omega arith))) in
         (after ∙ sym before, λ q is. ap (λ m. map.get m q) same)
   ]
 
-  pub skip : (count front : ℕ) → ArePast (front + count) (ahead front) → (ahead (front + count) ≡ ahead front) × Agrees owner caller (map_at history front) (map_at history (front + count))
-  skip zero front past = subst (λ n. (ahead n ≡ ahead front) × Agrees owner caller (map_at history front) (map_at history n)) (omega arith) (refl, λ q is. refl)
+  pub skip : (count front : ℕ) → ArePast (front + count) (ahead front)
+      → (ahead (front + count) ≡ ahead front) × Agrees owner caller (map_at history front) (map_at history (front + count))
+  skip zero front past = subst (λ n. (ahead n ≡ ahead front) × Agrees owner caller (map_at history front) (map_at history n)) (omega arith)
+      (refl, λ q is. refl)
   skip (suc count) front past =
       let one = skip_one front (ArePast-earlier (front + suc count) (front + 1) (ahead front) (omega arith) past) in
-      let rest = skip count (front + 1) (subst (λ n. ArePast n (ahead (front + 1))) (omega arith) (subst (ArePast (front + suc count)) (sym one.0) past)) in
-      subst (λ n. (ahead n ≡ ahead front) × Agrees owner caller (map_at history front) (map_at history n)) (omega arith) (rest.0 ∙ one.0, λ q is. one.1 q is ∙ rest.1 q is)
+      let rest = skip count (front + 1) (subst (λ n. ArePast n (ahead (front + 1))) (omega arith)
+      (subst (ArePast (front + suc count)) (sym one.0) past)) in
+      subst (λ n. (ahead n ≡ ahead front) × Agrees owner caller (map_at history front) (map_at history n)) (omega arith)
+      (rest.0 ∙ one.0, λ q is. one.1 q is ∙ rest.1 q is)
 
   -- to the end, where none is left
   pub skip_all : (front : ℕ) → ahead front ≡ [] → Agrees owner caller (map_at history front) (map_of history)
   skip_all front none =
-      let whole : map_at history (front + length history) ≡ map_of history = ap map_of (take_all (front + length history) history (omega arith)) in
-      subst (λ m. Agrees owner caller (map_at history front) m) whole (skip (length history) front (subst (ArePast (front + length history)) (sym none) tt)).1
+      let whole : map_at history (front + length history) ≡ map_of history =
+      ap map_of (take_all (front + length history) history (omega arith)) in
+      subst (λ m. Agrees owner caller (map_at history front) m) whole
+      (skip (length history) front (subst (ArePast (front + length history)) (sym none) tt)).1
 
   -- What the next update of the history is, where it is the caller's.
   pub record IsNext (front : ℕ) (op : Op) (rest : List Placed) : Type 0 where
@@ -105,12 +122,16 @@ module _ (owner : ℕ → ℕ) (history : List Update) (all_own : All (λ u. IsO
     pub its_caller : (get_or history front some_update).caller ≡ caller
     pub later : ahead (front + 1) ≡ rest
 
-  pub next_found : (front : ℕ) (op : Op) (rest : List Placed) → ahead front ≡ record { position = front + 1; op = op } ∷ rest → IsNext front op rest
+  pub next_found : (front : ℕ) (op : Op) (rest : List Placed) → ahead front ≡ record { position = front + 1; op = op } ∷ rest
+      → IsNext front op rest
   next_found front op rest is = elim (cases_lt front (length history)) [
     | inl below ↦
         let u = get_or history front some_update in
-        let next : cond (eqb u.caller caller) (record { position = front + 1; op = u.op } ∷ ahead (front + 1)) (ahead (front + 1)) ≡ record { position = front + 1; op = op } ∷ rest = sym (ahead-next front below) ∙ is in
-        elim (eqb u.caller caller) as (λ b. eqb u.caller caller ≡ b → cond b (record { position = front + 1; op = u.op } ∷ ahead (front + 1)) (ahead (front + 1)) ≡ record { position = front + 1; op = op } ∷ rest → IsNext front op rest) [
+        let next : cond (eqb u.caller caller) (record { position = front + 1; op = u.op } ∷ ahead (front + 1)) (ahead (front + 1))
+        ≡ record { position = front + 1; op = op } ∷ rest = sym (ahead-next front below) ∙ is in
+        elim (eqb u.caller caller) as (λ b. eqb u.caller caller ≡ b
+        → cond b (record { position = front + 1; op = u.op } ∷ ahead (front + 1)) (ahead (front + 1))
+        ≡ record { position = front + 1; op = op } ∷ rest → IsNext front op rest) [
           | true ↦ λ mine e.
               let head : ◌≡◌ {A = Placed} (record { position = front + 1; op = u.op }) (record { position = front + 1; op = op }) = cc in
               let caller_is : u.caller ≡ caller = grind (arith, nat_tests) in

@@ -25,7 +25,8 @@ valued reply m key e =
       | Some v ↦ λ e. absurd (cc)
     ] e
 
-explained_at : (room : Room) (m : Dictionary) (op : Op) (reply : Reply) → Explains room m op reply → (reply ≡ Full → ⊥) → reply ≡ plain_reply None m op
+explained_at : (room : Room) (m : Dictionary) (op : Op) (reply : Reply) → Explains room m op reply → (reply ≡ Full → ⊥)
+    → reply ≡ plain_reply None m op
 explained_at room m (Get key) (Val value) e lacks = sym (ap (with_value Val) e)
 explained_at room m (Get key) Absent e lacks = valued Val m key e
 explained_at room m (Del key) Absent e lacks = absent (map.contains_key m key) Gone Absent e

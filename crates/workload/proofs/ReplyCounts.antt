@@ -17,11 +17,20 @@ reply_count-le passes (told ∷ tolds) =
     let rest = reply_count-le passes tolds in
     let here = count_by-le-length passes (map (λ t. t.reply) told) in
     let same = length-map told (λ t. t.reply) in
-    omega (arith, rest, here, same, sum_by-cons (count_by passes) (map (λ t. t.reply) told) (replies_of tolds), sum_by-cons length told tolds)
+    omega (
+      arith,
+      rest,
+      here,
+      same,
+      sum_by-cons (count_by passes) (map (λ t. t.reply) told) (replies_of tolds),
+      sum_by-cons length told tolds,
+    )
 
-pub HasRoom-list : (told : List (Roomy Told)) (i : ℕ) (list : Roomy Told) → i < length told → list ≡ get_or told i list → sum_by length (entries_of told) < 2 ^ 64 → HasRoom (counts_of (entries_of (take i told))) (length list.entries)
+pub HasRoom-list : (told : List (Roomy Told)) (i : ℕ) (list : Roomy Told) → i < length told → list ≡ get_or told i list
+    → sum_by length (entries_of told) < 2 ^ 64 → HasRoom (counts_of (entries_of (take i told))) (length list.entries)
 HasRoom-list told i list below is few =
-    let there : get_or (entries_of told) i [] ≡ list.entries = get_or-map (λ l. l.entries) told i list [] below ∙ ap (λ l. l.entries) (sym is) in
+    let there : get_or (entries_of told) i [] ≡ list.entries =
+    get_or-map (λ l. l.entries) told i list [] below ∙ ap (λ l. l.entries) (sym is) in
     let count = length-map told (λ l. l.entries) in
     let more = sum_by_more_le length (entries_of told) i [] (omega (arith, below, count)) in
     let front = ap (λ ls. sum_by length ls) (take-map (λ l. l.entries) i told) in
@@ -36,5 +45,6 @@ HasRoom-list told i list below is few =
     }
 
 -- as many entries as operations
-pub entry_count : (scripts : List (List Op)) (tolds : List (List Told)) → map length tolds ≡ map length scripts → sum_by length tolds ≡ op_count scripts
+pub entry_count : (scripts : List (List Op)) (tolds : List (List Told)) → map length tolds ≡ map length scripts
+    → sum_by length tolds ≡ op_count scripts
 entry_count scripts tolds same = sym (sum-map length tolds) ∙ ap sum same ∙ sum-map length scripts

@@ -14,7 +14,7 @@ use std::alloc::Global;
 
 /// What a run came to: how many scripts and operations there were, how often each reply was told, and how many pairs the
 /// dictionary had at the end, with the sums of their keys and of their values.
-#[derive(Clone, Copy, Debug, PartialEq, Eq)]
+#[derive(Clone, Copy)]
 pub struct Summary {
     pub scripts: u64,
     pub ops: u64,

@@ -19,11 +19,16 @@ returns-in-Some c =
     let text = c.args.text.now in
     let long : length text < 2 ^ 64 = omega arith in
     let few : length scripts ≤ 64 = omega arith in
-    let claims : (a : IsAccount scripts c.args.slots text) → (entries_of c.deref.result.now ≡ map tolds_of a.lines) × (c.deref-in-Some.result.now ≡ a.history) = λ a.
-    let found = c.in_ok-claims.ensures.found a.lines a.history (finite.entries (map_of a.history)) (Fit-account scripts c.args.slots text a c.count.ensures.fits few long) a.printed in
-    let same = same_some c.in_ok-claims.field-0 c.in-Some.claims found.0 c.in-Some.is found.1 in
-    (ap entries_of (c.deref.ensures.value ∙ ap (λ k. k.told.items) same) ∙ found.2, c.deref-in-Some.ensures.value ∙ ap (λ k. k.history.items) same ∙ found.3) in
-    IfOk-weaker c.prints.result _ _ (λ answer decides. IsAccount-by_claims scripts c.args.slots text (entries_of c.deref.result.now) c.deref-in-Some.result.now claims answer decides) c.prints.ensures
+    let claims : (a : IsAccount scripts c.args.slots text)
+    → (entries_of c.deref.result.now ≡ map tolds_of a.lines) × (c.deref-in-Some.result.now ≡ a.history) = λ a.
+    let found = c.in_ok-claims.ensures.found a.lines a.history (finite.entries (map_of a.history))
+    (Fit-account scripts c.args.slots text a c.count.ensures.fits few long) a.printed in
+    let same = same_some c.in_ok-claims.field-0 c.in-Some.claims found.0 c.in-Some.is found.1 in (
+      ap entries_of (c.deref.ensures.value ∙ ap (λ k. k.told.items) same) ∙ found.2,
+      c.deref-in-Some.ensures.value ∙ ap (λ k. k.history.items) same ∙ found.3,
+    ) in
+    IfOk-weaker c.prints.result _ _ (λ answer decides. IsAccount-by_claims scripts c.args.slots text
+    (entries_of c.deref.result.now) c.deref-in-Some.result.now claims answer decides) c.prints.ensures
 
 pub returns-in-None : goal.returns-in-None
 returns-in-None c =
@@ -32,6 +37,7 @@ returns-in-None c =
     let long : length text < 2 ^ 64 = omega arith in
     let few : length scripts ≤ 64 = omega arith in (
       λ e. absurd (false≢true e),
-      λ a. let found = c.in_ok-claims.ensures.found a.lines a.history (finite.entries (map_of a.history)) (Fit-account scripts c.args.slots text a c.count.ensures.fits few long) a.printed in
+      λ a. let found = c.in_ok-claims.ensures.found a.lines a.history (finite.entries (map_of a.history))
+          (Fit-account scripts c.args.slots text a c.count.ensures.fits few long) a.printed in
           let none = c.in-None.is in absurd (cc found.1),
     )

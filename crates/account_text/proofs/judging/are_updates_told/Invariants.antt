@@ -8,5 +8,6 @@ abbrev pub invariant-loop-op : goal.invariant-loop-op
 invariant-loop-op l = record {
   few : l.passed ≤ length l.yielded;
   most : l.passed ≤ length (own_updates l.caller l.timeline.history);
-  told : AreToldFrom l.timeline.history l.caller l.passed (told_lines (drop (length l.yielded) l.script) (drop (length l.yielded) l.told)) ↔ AreToldFrom l.timeline.history l.caller 0 (told_lines l.script l.told);
+  told : AreToldFrom l.timeline.history l.caller l.passed (told_lines (drop (length l.yielded) l.script) (drop (length l.yielded) l.told))
+      ↔ AreToldFrom l.timeline.history l.caller 0 (told_lines l.script l.told);
 }

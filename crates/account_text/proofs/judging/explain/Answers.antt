@@ -10,24 +10,31 @@ use Rattle.account_text.proofs.judging.explain.Goals as goal
 use Rattle.account_text.proofs.judging.explain.Goals.{After-entries-answers, then-not-are_all_answered-via-then-not-are_all_answered, then-not-are_all_answered-via-else-not-are_all_answered+then-not-are_callers_below}
 use Rattle.prcu_model.proofs.ToldLists.{same_count, same_length, SameLengths-next}
 
-next_script : (c : After-entries-answers) → lines_left c.args.scripts.now c.args.told.now c.loop-i.i ≡ told_lines c.script-script.result.now c.entries-answers.result.now ∷ lines_left c.args.scripts.now c.args.told.now (c.loop-i.i + 1)
+next_script : (c : After-entries-answers) → lines_left c.args.scripts.now c.args.told.now c.loop-i.i
+    ≡ told_lines c.script-script.result.now c.entries-answers.result.now ∷ lines_left c.args.scripts.now c.args.told.now (c.loop-i.i + 1)
 next_script c =
-    lines_left-turn c.args.scripts.now c.args.told.now c.loop-i.i c.script-script.result.now c.index-told-i.result c.script-script.ensures.script c.loop-i-test.true c.index-told-i.is
-    ∙ ap (λ list. told_lines c.script-script.result.now list ∷ lines_left c.args.scripts.now c.args.told.now (c.loop-i.i + 1)) (sym c.entries-answers.ensures)
+    lines_left-turn c.args.scripts.now c.args.told.now c.loop-i.i c.script-script.result.now c.index-told-i.result
+    c.script-script.ensures.script c.loop-i-test.true c.index-told-i.is
+    ∙ ap (λ list. told_lines c.script-script.result.now list ∷ lines_left c.args.scripts.now c.args.told.now (c.loop-i.i + 1))
+    (sym c.entries-answers.ensures)
 
 pub returns-then-not-are_all_answered-clause-none : goal.returns-then-not-are_all_answered-clause-none
 returns-then-not-are_all_answered-clause-none c = λ able.
     elim c.then-not-are_all_answered.branch [
-      | then-not-are_all_answered-via-then-not-are_all_answered w ↦ absurd (false≢true (sym w.if-not-are_all_answered.true ∙ c.are_all_answered.ensures.1 able.lengths))
+      | then-not-are_all_answered-via-then-not-are_all_answered w ↦ absurd
+          (false≢true (sym w.if-not-are_all_answered.true ∙ c.are_all_answered.ensures.1 able.lengths))
       | then-not-are_all_answered-via-else-not-are_all_answered+then-not-are_callers_below w ↦
-          let below = below_from_explainable c.args.scripts.now (entries_of c.args.told.now) c.args.timeline.now.history c.args.timeline.now.room.slots able in
-          absurd (false≢true (sym w.if-not-are_callers_below.true ∙ w.are_callers_below.ensures.1 (rw (c.history-history.ensures, w.count.ensures.count) below)))
+          let below = below_from_explainable c.args.scripts.now
+          (entries_of c.args.told.now) c.args.timeline.now.history c.args.timeline.now.room.slots able in
+          absurd (false≢true (sym w.if-not-are_callers_below.true
+          ∙ w.are_callers_below.ensures.1 (rw (c.history-history.ensures, w.count.ensures.count) below)))
     ]
 
 pub explain_script-requires-clause-same_length : goal.explain_script-requires-clause-same_length
 explain_script-requires-clause-same_length c =
     ap length c.entries-answers.ensures
-    ∙ same_length c.args.scripts.now c.args.told.now c.loop-i.i c.script-script.result.now c.index-told-i.result c.script-script.ensures.script c.loop-i-test.true c.index-told-i.is c.loop-i.invariant.lengths
+    ∙ same_length c.args.scripts.now c.args.told.now c.loop-i.i c.script-script.result.now c.index-told-i.result
+    c.script-script.ensures.script c.loop-i-test.true c.index-told-i.is c.loop-i.invariant.lengths
 
 pub returns-in_default-clause-none : goal.returns-in_default-clause-none
 returns-in_default-clause-none c = λ able.
@@ -35,7 +42,8 @@ returns-in_default-clause-none c = λ able.
     let scripts = c.args.scripts.now in
     let same = rw (next_script (goal.at.returns-in_default-clause-none c).After-entries-answers) at c.loop-i.invariant.same in
     let lengths = c.are_all_answered.ensures.0 c.if-not-are_all_answered.false in
-    let below : AreBelow (length scripts) course.history = rw (c.history-history.ensures, c.count.ensures.count) at (c.are_callers_below.ensures.0 c.if-not-are_callers_below.false) in
+    let below : AreBelow (length scripts) course.history =
+    rw (c.history-history.ensures, c.count.ensures.count) at (c.are_callers_below.ensures.0 c.if-not-are_callers_below.false) in
     let whole = AreExplainable-by_room scripts (entries_of c.args.told.now) course.history course.room c.requires lengths below in
     let none = rw c.in_default.is at c.in_ok-lines.ensures.none in
     none (same.1 (whole.1 able)).0
@@ -52,7 +60,8 @@ loop-i-preserved c =
     let numbered : AreNumbered course.room course.history 0 told list = rw c.in-Some.is at c.in_ok-lines.ensures.numbered in
     let same = rw here at inv.same in
     record {
-      lengths = SameLengths-next c.args.scripts.now c.args.told.now c.loop-i.i c.script-script.result.now c.index-told-i.result c.script-script.ensures.script c.loop-i-test.true c.index-told-i.is inv.lengths;
+      lengths = SameLengths-next c.args.scripts.now c.args.told.now c.loop-i.i c.script-script.result.now c.index-told-i.result
+          c.script-script.ensures.script c.loop-i-test.true c.index-told-i.is inv.lengths;
       same = (λ rest. same.0 (this, rest), λ all. (same.1 all).1);
       numbered = λ rest later.
           let from_here : AllAreNumbered course.room course.history (left c.loop-i.i) (list ∷ rest) = rw here (numbered, later) in
@@ -64,7 +73,8 @@ returns-clause-explained c =
     let course = c.args.timeline.now in
     let scripts = c.args.scripts.now in
     let lengths = c.are_all_answered.ensures.0 c.if-not-are_all_answered.false in
-    let below : AreBelow (length scripts) course.history = rw (c.history-history.ensures, c.count.ensures.count) at (c.are_callers_below.ensures.0 c.if-not-are_callers_below.false) in
+    let below : AreBelow (length scripts) course.history =
+    rw (c.history-history.ensures, c.count.ensures.count) at (c.are_callers_below.ensures.0 c.if-not-are_callers_below.false) in
     let whole = AreExplainable-by_room scripts (entries_of c.args.told.now) course.history course.room c.requires lengths below in
     let none = lines_left-end scripts c.args.told.now c.loop-i.i (omega (arith, same_count scripts c.args.told.now lengths)) in
     let same = rw none at c.loop-i.invariant.same in
@@ -74,6 +84,7 @@ pub returns-clause-numbered : goal.returns-clause-numbered
 returns-clause-numbered c =
     let course = c.args.timeline.now in
     let lengths = c.are_all_answered.ensures.0 c.if-not-are_all_answered.false in
-    let none = lines_left-end c.args.scripts.now c.args.told.now c.loop-i.i (omega (arith, same_count c.args.scripts.now c.args.told.now lengths)) in
+    let none = lines_left-end c.args.scripts.now c.args.told.now c.loop-i.i
+    (omega (arith, same_count c.args.scripts.now c.args.told.now lengths)) in
     let all = c.loop-i.invariant.numbered [] (subst (λ left. AllAreNumbered course.room course.history left []) (sym none) tt) in
     rw append-nil at all

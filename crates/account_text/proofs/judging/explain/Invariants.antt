@@ -14,6 +14,8 @@ invariant-loop-i l =
     let left = lines_left l.scripts l.told l.i in
     record {
       lengths : SameLengths l.scripts l.told l.i;
-      same : AreAllExplained course.room course.history l.i left ↔ AreAllExplained course.room course.history 0 (all_told_lines l.scripts (entries_of l.told));
-      numbered : (rest : List (List Line)) → AllAreNumbered course.room course.history left rest → AllAreNumbered course.room course.history (all_told_lines l.scripts (entries_of l.told)) (entries_of l.lists.items ++ rest);
+      same : AreAllExplained course.room course.history l.i left
+          ↔ AreAllExplained course.room course.history 0 (all_told_lines l.scripts (entries_of l.told));
+      numbered : (rest : List (List Line)) → AllAreNumbered course.room course.history left rest
+          → AllAreNumbered course.room course.history (all_told_lines l.scripts (entries_of l.told)) (entries_of l.lists.items ++ rest);
     }

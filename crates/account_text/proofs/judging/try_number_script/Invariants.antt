@@ -12,5 +12,6 @@ invariant-loop-op l =
     record {
       room : length l.script ≤ l.lines.spare + length l.yielded;
       same : Can course.room course.history l.before left ↔ CanBeNumbered course.room course.history (told_lines l.script l.told);
-      numbered : (rest : List Line) → AreNumbered course.room course.history l.before left rest → AreNumbered course.room course.history 0 (told_lines l.script l.told) (l.lines.entries ++ rest);
+      numbered : (rest : List Line) → AreNumbered course.room course.history l.before left rest
+          → AreNumbered course.room course.history 0 (told_lines l.script l.told) (l.lines.entries ++ rest);
     }

@@ -11,4 +11,7 @@ loop-i-preserved c =
     let here = get_or changes c.loop-i.i nothing in
     let is = c.bucket_of.ensures.is in
     let filled = c.in_ok-fill.ensures in
-    starts-more c.args.buckets changes c.requires.ordered c.loop-i.i c.loop-i.starts.items c.fill.new.starts.items c.loop-i.invariant (c.bucket_of.result + 1) filled.long filled.kept filled.filled here refl c.loop-i-test.true (ap (λ b. b + 1) (is ∙ ap (λ d. bucket_of c.args.buckets d.key) (get_or_default changes c.loop-i.i _ nothing c.loop-i-test.true))) (omega (arith, c.bucket_of.ensures.below c.requires.some))
+    starts-more c.args.buckets changes c.requires.ordered c.loop-i.i c.loop-i.starts.items c.fill.new.starts.items c.loop-i.invariant
+    (c.bucket_of.result + 1) filled.long filled.kept filled.filled here refl c.loop-i-test.true
+    (ap (λ b. b + 1) (is ∙ ap (λ d. bucket_of c.args.buckets d.key) (get_or_default changes c.loop-i.i _ nothing c.loop-i-test.true)))
+    (omega (arith, c.bucket_of.ensures.below c.requires.some))

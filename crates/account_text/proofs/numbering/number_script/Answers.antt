@@ -8,16 +8,21 @@ use Rattle.account_text.proofs.LineNumbers.{told_lines-turn, told_lines-end, Can
 use Rattle.account_text.proofs.numbering.number_script.Goals as goal
 use Rattle.account_text.proofs.numbering.number_script.Goals.{In-Some}
 
-next_line : (c : In-Some) → told_lines (drop (length c.loop-op.yielded) c.args.script.now) (drop (length c.loop-op.yielded) c.args.told.now) ≡ line_of c.in-Some.op.now c.in-Some.answer.now ∷ told_lines (drop (length c.loop-op.yielded + 1) c.args.script.now) (drop (length c.loop-op.yielded + 1) c.args.told.now)
+next_line : (c : In-Some) → told_lines (drop (length c.loop-op.yielded) c.args.script.now) (drop (length c.loop-op.yielded) c.args.told.now)
+    ≡ line_of c.in-Some.op.now c.in-Some.answer.now
+    ∷ told_lines (drop (length c.loop-op.yielded + 1) c.args.script.now) (drop (length c.loop-op.yielded + 1) c.args.told.now)
 next_line c =
-    let t = zip_turn c.args.script.now c.args.told.now c.loop-op.yielded c.into_iter-op-iterator.result c.loop-op.op-iterator c.next.new.self c.next.result (cc) (cc) c.loop-op.yielded_by (c.in-Some.op, c.in-Some.answer) c.in-Some.is c.next.ensures.steps in
-    told_lines-turn c.args.script.now c.args.told.now (length c.loop-op.yielded) c.in-Some.op.now c.in-Some.answer.now t.0 t.1 (t.2 c.in-Some.op.now) (t.3 c.in-Some.answer.now)
+    let t = zip_turn c.args.script.now c.args.told.now c.loop-op.yielded c.into_iter-op-iterator.result c.loop-op.op-iterator
+    c.next.new.self c.next.result (cc) (cc) c.loop-op.yielded_by (c.in-Some.op, c.in-Some.answer) c.in-Some.is c.next.ensures.steps in
+    told_lines-turn c.args.script.now c.args.told.now (length c.loop-op.yielded) c.in-Some.op.now c.in-Some.answer.now t.0 t.1
+    (t.2 c.in-Some.op.now) (t.3 c.in-Some.answer.now)
 
 pub number_for-number-requires : goal.number_for-number-requires
 number_for-number-requires c =
     let course = c.args.timeline.now in
     let inv = c.loop-op.invariant in
-    let can = Can-first course.room course.history c.loop-op.before _ _ (subst (Can course.room course.history c.loop-op.before) (next_line (goal.at.number_for-number-requires c).In-Some) inv.can) in
+    let can = Can-first course.room course.history c.loop-op.before _ _ (subst (Can course.room course.history c.loop-op.before)
+    (next_line (goal.at.number_for-number-requires c).In-Some) inv.can) in
     can
 
 pub loop-op-preserved : goal.loop-op-preserved
@@ -31,19 +36,25 @@ loop-op-preserved c =
     let number = c.number_for-number.result in
     let line : Line = record { op = told.op; reply = told.reply; number = number } in
     let least : IsLeastFor course.room course.history c.loop-op.before told number = c.number_for-number.ensures in
-    let more : length (c.loop-op.yielded ++ (c.in-Some.op, c.in-Some.answer) ∷ []) ≡ n + 1 = length_push c.loop-op.yielded (c.in-Some.op, c.in-Some.answer) in
+    let more : length (c.loop-op.yielded ++ (c.in-Some.op, c.in-Some.answer) ∷ []) ≡ n + 1 =
+    length_push c.loop-op.yielded (c.in-Some.op, c.in-Some.answer) in
     rw more (record {
       room = omega arith;
-      can = Can-rest course.room course.history c.loop-op.before told left number least (subst (Can course.room course.history c.loop-op.before) here inv.can);
+      can = Can-rest course.room course.history c.loop-op.before told left number least
+          (subst (Can course.room course.history c.loop-op.before) here inv.can);
       numbered = λ rest later.
-          let from_here : AreNumbered course.room course.history c.loop-op.before (told_lines (drop n c.args.script.now) (drop n c.args.told.now)) (line ∷ rest) = rw here (refl, refl, least, later) in
+          let from_here : AreNumbered course.room course.history c.loop-op.before
+          (told_lines (drop n c.args.script.now) (drop n c.args.told.now)) (line ∷ rest) = rw here (refl, refl, least, later) in
           rw (c.push.ensures.appended, append_assoc) (inv.numbered (line ∷ rest) from_here);
     })
 
 pub returns : goal.returns
 returns c =
     let course = c.args.timeline.now in
-    let turns = zip_end c.args.script.now c.args.told.now c.loop-op.yielded c.into_iter-op-iterator.result c.loop-op.op-iterator c.next.new.self c.next.result (cc) (cc) c.loop-op.yielded_by c.in-None.is c.next.ensures.steps in
-    let none : told_lines (drop (length c.loop-op.yielded) c.args.script.now) (drop (length c.loop-op.yielded) c.args.told.now) ≡ [] = told_lines-end c.args.script.now c.args.told.now (length c.loop-op.yielded) (omega (arith, turns)) in
-    let all = c.loop-op.invariant.numbered [] (subst (λ left. AreNumbered course.room course.history c.loop-op.before left []) (sym none) tt) in
+    let turns = zip_end c.args.script.now c.args.told.now c.loop-op.yielded c.into_iter-op-iterator.result c.loop-op.op-iterator
+    c.next.new.self c.next.result (cc) (cc) c.loop-op.yielded_by c.in-None.is c.next.ensures.steps in
+    let none : told_lines (drop (length c.loop-op.yielded) c.args.script.now) (drop (length c.loop-op.yielded) c.args.told.now) ≡ [] =
+    told_lines-end c.args.script.now c.args.told.now (length c.loop-op.yielded) (omega (arith, turns)) in
+    let all = c.loop-op.invariant.numbered [] (subst (λ left. AreNumbered course.room course.history c.loop-op.before left [])
+    (sym none) tt) in
     rw append-nil at all

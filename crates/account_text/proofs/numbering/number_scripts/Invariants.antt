@@ -15,5 +15,6 @@ invariant-loop-i l =
     record {
       lengths : SameLengths l.scripts l.told l.i;
       can : AllByRecursion (CanBeNumbered course.room course.history) left;
-      numbered : (rest : List (List Line)) → AllAreNumbered course.room course.history left rest → AllAreNumbered course.room course.history (all_told_lines l.scripts (entries_of l.told)) (entries_of l.lists.items ++ rest);
+      numbered : (rest : List (List Line)) → AllAreNumbered course.room course.history left rest
+          → AllAreNumbered course.room course.history (all_told_lines l.scripts (entries_of l.told)) (entries_of l.lists.items ++ rest);
     }

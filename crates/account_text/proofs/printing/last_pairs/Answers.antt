@@ -12,8 +12,11 @@ pub loop-update-preserved : goal.loop-update-preserved
 loop-update-preserved c =
     let none : Update = record { caller = 0; op = Put 0 0 } in
     let at = c.loop-update.update-index in
-    c.in_ok-update.ensures.ok ∙ ap (λ m. updated m (get_or c.args.history.now at none).op) c.loop-update.invariant ∙ sym (map_at-next c.args.history.now at none c.loop-update-test.true)
+    c.in_ok-update.ensures.ok ∙ ap (λ m. updated m (get_or c.args.history.now at none).op) c.loop-update.invariant
+    ∙ sym (map_at-next c.args.history.now at none c.loop-update-test.true)
 
 pub returns : goal.returns
 returns c =
-    IfOk-weaker c.pairs.result _ _ (λ pairs is. is ∙ ap map.entries (c.loop-update.invariant ∙ ap map_of (take_all c.loop-update.update-index c.args.history.now (omega arith)))) c.pairs.ensures.pairs
+    IfOk-weaker c.pairs.result _ _ (λ pairs is. is
+    ∙ ap map.entries (c.loop-update.invariant ∙ ap map_of
+    (take_all c.loop-update.update-index c.args.history.now (omega arith)))) c.pairs.ensures.pairs

@@ -6,7 +6,8 @@ use Rattle.script_text.specs.Lines.{op_text}
 use Rattle.script_text.proofs.OpTexts.{op_text-injective}
 use Rattle.account_text.proofs.reading.last_op.Goals as goal
 
-the_op : (line : List ℕ) (r : Option Op) → MatchOption r ((o : Op) → FitsWords o → line ≡ op_text o → ⊥) (λ o. (line ≡ op_text o) × FitsWords o) → (op : Op) → FitsWords op → line ≡ op_text op → r ≡ Some op
+the_op : (line : List ℕ) (r : Option Op) → MatchOption r ((o : Op) → FitsWords o → line ≡ op_text o → ⊥)
+    (λ o. (line ≡ op_text o) × FitsWords o) → (op : Op) → FitsWords op → line ≡ op_text op → r ≡ Some op
 the_op line None none op fits is = absurd (none op fits is)
 the_op line (Some o) some op fits is = ap Some (op_text-injective o op some.1 fits (sym some.0 ∙ is))
 

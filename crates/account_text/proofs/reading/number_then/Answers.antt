@@ -9,10 +9,12 @@ returns-in_err-word c n rest small is = absurd (no_space c.args.bytes.now (decim
 
 pub returns-in_err-last_number : goal.returns-in_err-last_number
 returns-in_err-last_number c n rest small is =
-    let parts = at_space c.args.bytes.now c.in_ok-word.word.now c.in_ok-word.rest.now (decimal n) rest c.in_ok-word.ensures.some (Lacks-decimal n 32 small (omega arith)) is in
+    let parts = at_space c.args.bytes.now c.in_ok-word.word.now c.in_ok-word.rest.now (decimal n) rest c.in_ok-word.ensures.some
+    (Lacks-decimal n 32 small (omega arith)) is in
     absurd (cc (c.in_err-last_number.ensures n small parts.0))
 
 pub returns : goal.returns
 returns c n rest small is =
-    let parts = at_space c.args.bytes.now c.in_ok-word.word.now c.in_ok-word.rest.now (decimal n) rest c.in_ok-word.ensures.some (Lacks-decimal n 32 small (omega arith)) is in
+    let parts = at_space c.args.bytes.now c.in_ok-word.word.now c.in_ok-word.rest.now (decimal n) rest c.in_ok-word.ensures.some
+    (Lacks-decimal n 32 small (omega arith)) is in
     (cc (c.in_ok-last_number.ensures n small parts.0), parts.1)

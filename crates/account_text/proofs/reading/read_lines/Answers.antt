@@ -10,7 +10,8 @@ returns-in_default c lines more tells =
     let i = c.loop-op.op-index in
     let ops = drop (i + 1) script in
     let here = drop_more script i _ c.loop-op-test.true in
-    let h = subst (λ (x : List Op). HasRead c.loop-op.rest.now x c.loop-op.told.entries lines more) here (c.loop-op.invariant.read lines more tells) in
+    let h = subst (λ (x : List Op). HasRead c.loop-op.rest.now x c.loop-op.told.entries lines more) here
+    (c.loop-op.invariant.read lines more tells) in
     let first = first_line c.loop-op.rest.now _ ops c.loop-op.told.entries lines more h in
     c.in_default.ensures first.line first.others first.op_is first.op_fits first.line_fits first.begins
 
@@ -23,7 +24,8 @@ loop-op-preserved c =
       room = omega (arith, c.push.ensures.spare, c.loop-op.invariant.room);
       read = λ lines more tells.
           let here = drop_more script i _ c.loop-op-test.true in
-          let h = subst (λ (x : List Op). HasRead c.loop-op.rest.now x c.loop-op.told.entries lines more) here (c.loop-op.invariant.read lines more tells) in
+          let h = subst (λ (x : List Op). HasRead c.loop-op.rest.now x c.loop-op.told.entries lines more) here
+          (c.loop-op.invariant.read lines more tells) in
           let first = first_line c.loop-op.rest.now _ ops c.loop-op.told.entries lines more h in
           let read = c.in-Some.ensures first.line first.others first.op_is first.op_fits first.line_fits first.begins in
           first.next c.in-Some.after.now c.in-Some.answer c.push.new.self.entries read.0 read.1 c.push.ensures.appended;
@@ -33,5 +35,6 @@ pub returns : goal.returns
 returns c lines more tells =
     let script = c.args.script.now in
     let none = drop_all c.loop-op.op-index script c.loop-op-test.false in
-    let h = subst (λ (x : List Op). HasRead c.loop-op.rest.now x c.loop-op.told.entries lines more) none (c.loop-op.invariant.read lines more tells) in
+    let h = subst (λ (x : List Op). HasRead c.loop-op.rest.now x c.loop-op.told.entries lines more) none
+    (c.loop-op.invariant.read lines more tells) in
     HasRead-end c.loop-op.rest.now c.loop-op.told.entries lines more h

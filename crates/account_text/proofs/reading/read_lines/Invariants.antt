@@ -8,5 +8,6 @@ use Rattle.account_text.proofs.reading.read_lines.Given as goal
 abbrev pub invariant-loop-op : goal.invariant-loop-op
 invariant-loop-op l = record {
   room : length l.script ≤ l.told.spare + l.op-index;
-  read : (lines : List Line) (more : List (List ℕ)) → TellsScript l.initial.rest l.script lines more → HasRead l.rest (drop l.op-index l.script) l.told.entries lines more;
+  read : (lines : List Line) (more : List (List ℕ)) → TellsScript l.initial.rest l.script lines more
+      → HasRead l.rest (drop l.op-index l.script) l.told.entries lines more;
 }

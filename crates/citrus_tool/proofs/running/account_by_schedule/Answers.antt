@@ -8,7 +8,8 @@ use Rattle.std.proofs.lemmas.Result.{IfOk-weaker}
 use Rattle.citrus_tool.proofs.running.account_by_schedule.Goals as goal
 
 pub make_account-requires-clause-explained : goal.make_account-requires-clause-explained
-make_account-requires-clause-explained g c = explained_as c.args.scripts.now _ _ _ _ c.args.slots c.deref.ensures.value c.deref-2.ensures.value c.in_ok-ran.ensures.explained
+make_account-requires-clause-explained g c =
+    explained_as c.args.scripts.now _ _ _ _ c.args.slots c.deref.ensures.value c.deref-2.ensures.value c.in_ok-ran.ensures.explained
 
 pub returns : goal.returns
 returns g c =
@@ -17,6 +18,7 @@ returns g c =
     IfOk-weaker c.make_account.result _ _
     (λ text account. drawn_account c.args.scripts.now c.args.slots c.args.number (entries_of told) history text.items c.requires.some
     (subst (λ h. StaysWithin h c.args.slots) (sym c.deref-2.ensures.value) c.in_ok-ran.ensures.within)
-    (subst (IsOfSchedule c.args.scripts.now c.args.slots c.args.number (entries_of told)) (sym c.deref-2.ensures.value) c.in_ok-ran.ensures.drawn)
+    (subst (IsOfSchedule c.args.scripts.now c.args.slots c.args.number (entries_of told))
+    (sym c.deref-2.ensures.value) c.in_ok-ran.ensures.drawn)
     (account.0, account.1, subst (λ t. HaveReplies (entries_of t) account.0.lines) c.deref.ensures.value account.2))
     c.make_account.ensures

@@ -11,7 +11,8 @@ pub returns-in-Err-clause-written : goal.returns-in-Err-clause-written
 returns-in-Err-clause-written c =
     let parts = c.parts_of.result in
     let within = length-before c.args.input.now parts.0.now parts.1.now c.parts_of.ensures in
-    IfOk-weaker c.bad_line.result _ _ (λ answer told. subst (λ (s : Status). Writes (Check c.args.slots) s c.args.input.now answer.text.items) (sym told.0) (record {
+    IfOk-weaker c.bad_line.result _ _ (λ answer told. subst (λ (s : Status). Writes
+    (Check c.args.slots) s c.args.input.now answer.text.items) (sym told.0) (record {
       before = parts.0.now;
       account = parts.1.now;
       parts = c.parts_of.ensures;

@@ -9,10 +9,17 @@ returns-in_ok-text-in-Ok g c =
     let scripts = c.in-Ok.scripts in
     let text = c.in_ok-text-in-Ok.text.items in
     let account = c.in_ok-text-in-Ok.ensures.0 in (
-      record { scripts = scripts; read = c.in-Ok.ensures.ok; account = account; never_full = never_full None scripts text account; within_slots = within_default scripts text account },
+      record {
+        scripts = scripts;
+        read = c.in-Ok.ensures.ok;
+        account = account;
+        never_full = never_full None scripts text account;
+        within_slots = within_default scripts text account;
+      },
       c.in_ok-text-in-Ok.ensures.1,
     )
 
 pub returns-in-Err : goal.returns-in-Err
 returns-in-Err g c =
-    refused 64 c.args.input.now c.in-Err.error (omega arith) c.in-Err.ensures.line c.in-Err.ensures.none Hash c.bad_line.result (λ text bad. (bad, refl)) c.bad_line.ensures
+    refused 64 c.args.input.now c.in-Err.error (omega arith) c.in-Err.ensures.line c.in-Err.ensures.none Hash c.bad_line.result
+    (λ text bad. (bad, refl)) c.bad_line.ensures

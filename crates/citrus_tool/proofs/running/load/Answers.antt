@@ -6,5 +6,7 @@ use Rattle.citrus_tool.proofs.running.load.Goals as goal
 
 pub returns : goal.returns
 returns g c = λ input.
-    let is = c.in_ok-made.ensures in
-    (c.in_ok-text.ensures.text ∙ ap (λ s. summary_text (plain_summary s)) is, subst (λ s. LeavesMade c.args.waiter s c.in_ok-text.ran) is c.in_ok-text.ensures.left)
+    let is = c.in_ok-made.ensures in (
+      c.in_ok-text.ensures.text ∙ ap (λ s. summary_text (plain_summary s)) is,
+      subst (λ s. LeavesMade c.args.waiter s c.in_ok-text.ran) is c.in_ok-text.ensures.left,
+    )

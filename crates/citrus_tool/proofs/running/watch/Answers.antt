@@ -10,10 +10,14 @@ use Rattle.citrus_tool.proofs.running.watch.Goals as goal
 
 pub returns-in_ok-text-in-Ok : goal.returns-in_ok-text-in-Ok
 returns-in_ok-text-in-Ok g c =
-    watch_written c.args.low c.args.high c.args.slots c.args.waiter c.in-Ok.scripts c.slots_for-shared.result c.args.input.now c.in_ok-text-in-Ok.text.items c.in_ok-text-in-Ok.ran c.in-Ok.ensures.ok c.slots_for-shared.ensures.shared
-    (subst (λ (keys : Interval). (watch : IsWatchText c.in-Ok.scripts c.slots_for-shared.result keys.low keys.high c.in_ok-text-in-Ok.text.items) × StaysWithin watch.account.history (c.slots_for-shared.result + 20)
-    × LeavesWatched c.args.waiter c.in-Ok.scripts c.slots_for-shared.result watch.account.lines watch.account.history watch.snapshots c.in_ok-text-in-Ok.ran) c.in-Some.ensures.keys c.in_ok-text-in-Ok.ensures)
+    watch_written c.args.low c.args.high c.args.slots c.args.waiter c.in-Ok.scripts c.slots_for-shared.result c.args.input.now
+    c.in_ok-text-in-Ok.text.items c.in_ok-text-in-Ok.ran c.in-Ok.ensures.ok c.slots_for-shared.ensures.shared
+    (subst (λ (keys : Interval). (watch : IsWatchText c.in-Ok.scripts c.slots_for-shared.result keys.low keys.high
+    c.in_ok-text-in-Ok.text.items) × StaysWithin watch.account.history (c.slots_for-shared.result + 20)
+    × LeavesWatched c.args.waiter c.in-Ok.scripts c.slots_for-shared.result watch.account.lines watch.account.history watch.snapshots
+    c.in_ok-text-in-Ok.ran) c.in-Some.ensures.keys c.in_ok-text-in-Ok.ensures)
 
 pub returns-in-Err : goal.returns-in-Err
 returns-in-Err g c =
-    refused 63 c.args.input.now c.in-Err.error (omega arith) c.in-Err.ensures.line c.in-Err.ensures.none (Watch c.args.low c.args.high c.args.slots c.args.waiter) c.bad_line.result (λ text bad. (bad, refl)) c.bad_line.ensures
+    refused 63 c.args.input.now c.in-Err.error (omega arith) c.in-Err.ensures.line c.in-Err.ensures.none
+    (Watch c.args.low c.args.high c.args.slots c.args.waiter) c.bad_line.result (λ text bad. (bad, refl)) c.bad_line.ensures

@@ -13,5 +13,6 @@ returns-in-Ok-write_all-clause-done g c = λ is.
     let written = g.K.Sink.bytes c.args.sink.now in
     let written_now = g.K.Sink.bytes c.write_all.new.sink in
     subst (λ (s : Status). AnsweredBy command s left left_now written written_now c.in-Ok-answer_to.answer.ran) is
-    (answered command answer.status left left_now written written_now answer.ran c.in-Ok.input.items c.deref.result.now answer.text.items c.deref-2.result.now c.deref.ensures.value c.deref-2.ensures.value
+    (answered command answer.status left left_now written written_now answer.ran c.in-Ok.input.items c.deref.result.now answer.text.items
+    c.deref-2.result.now c.deref.ensures.value c.deref-2.ensures.value
     c.in-Ok.ensures.short c.in-Ok.ensures.whole c.in-Ok.ensures.end c.in-Ok-answer_to.ensures c.in-Ok-write_all.ensures.whole)

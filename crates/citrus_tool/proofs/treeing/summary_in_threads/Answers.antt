@@ -10,7 +10,8 @@ returns-in_ok-text-in-Eer-clause-left g c =
 pub returns-in_ok-text-in-Domain-clause-left : goal.returns-in_ok-text-in-Domain-clause-left
 returns-in_ok-text-in-Domain-clause-left g c =
     let made = c.in_ok-text-in-Domain.field-0 in
-    made_left c.args.waiter Domain c.args.scripts.now made.table made.seat c.in-Domain.is c.requires.some c.in_ok-text-in-Domain.ensures.left
+    made_left c.args.waiter Domain c.args.scripts.now made.table made.seat c.in-Domain.is c.requires.some
+    c.in_ok-text-in-Domain.ensures.left
 
 pub returns-in_ok-text-in-Deer-clause-left : goal.returns-in_ok-text-in-Deer-clause-left
 returns-in_ok-text-in-Deer-clause-left g c =

@@ -4,6 +4,7 @@ use Rattle.prcu_model.specs.Dictionary.{map_of}
 use Rattle.prcu_model.specs.Fronts.{AreExplainable}
 use Rattle.prcu_model.specs.Scripts.{default_slots_of}
 use Rattle.workload.specs.Summaries.{summary_with}
+use Rattle.tree_run.specs.Runs.{run_with}
 use Rattle.citrus_tool.specs.Leavings.{IsTreeLeftOf}
 use Rattle.citrus_tool.proofs.Leavings.{explained_as}
 use Rattle.citrus_tool.proofs.treeing.summary_on.Goals as goal
@@ -12,7 +13,9 @@ pub summary_of-requires-clause-explainable : goal.summary_of-requires-clause-exp
 summary_of-requires-clause-explainable g c =
     let scripts = c.args.scripts.now in
     explained_as scripts _ _ _ _ (default_slots_of scripts) c.deref.ensures.value c.deref-2.ensures.value
-    (subst (λ s. AreExplainable scripts (entries_of c.in_ok-ran.ran.told.items) c.in_ok-ran.ran.history.items s) c.default_slots.ensures.default c.in_ok-ran.ensures.explained)
+    (subst (λ s. AreExplainable scripts
+    (entries_of c.in_ok-ran.ran.told.items) c.in_ok-ran.ran.history.items s) c.default_slots.ensures.default
+    c.in_ok-ran.ensures.explained)
 
 pub returns-clause-left : goal.returns-clause-left
 returns-clause-left g c =
@@ -22,8 +25,19 @@ returns-clause-left g c =
     let default = c.default_slots.ensures.default in (
       ran.told.items,
       ran.history.items,
-      subst (λ s. IsTreeLeftOf g.W.WaitWords.WAY false scripts s (length scripts) ran.told.items ran.history.items ran.table ran.seat) default
-          (record { run = e.run; of_table = e.seat; slots_are = e.table.0; places_are = e.table.1; tickets = e.table.2; quiet = e.quiet; answers = e.answers; informed = e.informed; marks = record { fits = e.marks; updates = sym e.history } }),
+      subst (λ s. IsTreeLeftOf (run_with g.W.WaitWords.WAY false) scripts s
+          (length scripts) ran.told.items ran.history.items ran.table ran.seat) default
+          (record {
+            run = e.run;
+            of_table = e.seat;
+            slots_are = e.table.0;
+            places_are = e.table.1;
+            tickets = e.table.2;
+            quiet = e.quiet;
+            answers = e.answers;
+            informed = e.informed;
+            marks = record { fits = e.marks; updates = sym e.history };
+          }),
       record {
         explained = subst (λ s. AreExplainable scripts (entries_of ran.told.items) ran.history.items s) default e.explained;
         legal = e.legal;

@@ -8,4 +8,5 @@ pub returns-in-0-clause-held : goal.returns-in-0-clause-held
 returns-in-0-clause-held c = λ held.
     let v = c.args.seat.now.view in
     let w = c.lock.new.seat.view in
-    locked_finished c.args.table.now v w c.args.class (subst (λ n. Told c.args.table.now v (Lock c.args.class) n w) c.in-0.is c.lock.ensures.told)
+    locked_finished c.args.table.now v w c.args.class
+    (subst (λ n. Told c.args.table.now v (Lock c.args.class) n w) c.in-0.is c.lock.ensures.told)

@@ -1,7 +1,9 @@
 use Rattle.std.proofs.Common.{◌≡◌}
 use Rattle.class_hash.specs.Trails.{AddsNoLists}
 use Rattle.class_hash.specs.Replies.{HasTried}
+use Rattle.class_hash.proofs.Trails.{NoneOrLookup}
 use Rattle.class_hash.proofs.dictionary.put.Given as goal
 
 abbrev pub invariant-loop : goal.invariant-loop
-invariant-loop g l = (l.seat.table ≡ l.fn.seat.table) × HasTried l.fn.seat.view l.key l.seat.view × AddsNoLists l.fn.seat.view.trail l.seat.view.trail
+invariant-loop g l = (l.seat.table ≡ l.fn.seat.table) × HasTried l.fn.seat.view l.key l.seat.view
+    × AddsNoLists l.fn.seat.view.trail l.seat.view.trail × NoneOrLookup l.key l.fn.seat.view.trail l.seat.view.trail

@@ -24,16 +24,19 @@ pub fill-requires-2-clause-asks : goal.fill-requires-2-clause-asks
 fill-requires-2-clause-asks c =
     let may = c.requires.case in
     let of_class = class_is c.args.seat.now.view may.hold c.class_held-class.result may.finished.hold_is c.class_held-class.ensures.class in
-    may_write_value c.args.value may c.locked_load-next.ensures.told of_class c.locked_load-first.ensures.told c.take_slot.ensures.told c.fill.ensures.told
+    may_write_value c.args.value may c.locked_load-next.ensures.told of_class c.locked_load-first.ensures.told c.take_slot.ensures.told
+    c.fill.ensures.told
 
 pub fill-requires-3-clause-asks : goal.fill-requires-3-clause-asks
 fill-requires-3-clause-asks c =
     let may = c.requires.case in
     let of_class = class_is c.args.seat.now.view may.hold c.class_held-class.result may.finished.hold_is c.class_held-class.ensures.class in
-    may_write_next c.args.value may c.locked_load-next.ensures.told of_class c.locked_load-first.ensures.told c.take_slot.ensures.told c.fill.ensures.told c.fill-2.ensures.told
+    may_write_next c.args.value may c.locked_load-next.ensures.told of_class c.locked_load-first.ensures.told c.take_slot.ensures.told
+    c.fill.ensures.told c.fill-2.ensures.told
 
 pub returns-clause-view : goal.returns-clause-view
 returns-clause-view c =
     let may = c.requires.case in
     let of_class = class_is c.args.seat.now.view may.hold c.class_held-class.result may.finished.hold_is c.class_held-class.ensures.class in
-    filled c.args.value may c.locked_load-next.ensures.told of_class c.locked_load-first.ensures.told c.take_slot.ensures.told c.fill.ensures.told c.fill-2.ensures.told c.fill-3.ensures.told
+    filled c.args.value may c.locked_load-next.ensures.told of_class c.locked_load-first.ensures.told c.take_slot.ensures.told
+    c.fill.ensures.told c.fill-2.ensures.told c.fill-3.ensures.told

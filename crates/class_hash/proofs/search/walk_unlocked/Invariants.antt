@@ -6,4 +6,5 @@ use Rattle.class_hash.specs.Lookups.{IsSearching, IsAtLink}
 use Rattle.class_hash.proofs.search.walk_unlocked.Given as goal
 
 abbrev pub invariant-loop : goal.invariant-loop
-invariant-loop g l = (l.seat.table ≡ l.fn.seat.table) × ((before : View) → IsSearching before l.key Start None l.fn.seat.view → IsAtLink l.table.capacities before l.key l.link l.seat.view)
+invariant-loop g l = (l.seat.table ≡ l.fn.seat.table)
+    × ((before : View) → IsSearching before l.key Start None l.fn.seat.view → IsAtLink l.table.capacities before l.key l.link l.seat.view)

@@ -4,7 +4,11 @@ use Rattle.class_hash.proofs.Walking.{walk_begins, walk_ends, walk_found, may_lo
 use Rattle.class_hash.proofs.walk.walk_locked.Goals as goal
 
 pub loop-init : goal.loop-init
-loop-init g c = (search rules, λ hold was. walk_begins c.args.key was (class_is c.args.seat.now.view hold c.class_held-class.result was c.class_held-class.ensures.class) c.locked_load-link.ensures.told)
+loop-init g c = (
+  search rules,
+  λ hold was. walk_begins c.args.key was
+      (class_is c.args.seat.now.view hold c.class_held-class.result was c.class_held-class.ensures.class) c.locked_load-link.ensures.told,
+)
 
 pub returns-then-link-eq0-clause-absent : goal.returns-then-link-eq0-clause-absent
 returns-then-link-eq0-clause-absent g c hold was = let i = c.loop.invariant.1 hold was in walk_ends c.if-link-eq0.true i.1 i.2
@@ -24,5 +28,6 @@ pub loop-preserved : goal.loop-preserved
 loop-preserved g c = (
   search rules,
   λ hold was. let i = c.loop.invariant.1 hold was in
-      walk_passes i.1 i.2 c.slot_at-slot.ensures c.if-link-eq0.false c.locked_load.ensures.told c.if-locked_load-key.false c.locked_load-link-in-loop.ensures.told,
+      walk_passes i.1 i.2 c.slot_at-slot.ensures c.if-link-eq0.false c.locked_load.ensures.told c.if-locked_load-key.false
+      c.locked_load-link-in-loop.ensures.told,
 )

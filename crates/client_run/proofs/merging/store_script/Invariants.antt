@@ -9,5 +9,6 @@ use Rattle.client_run.proofs.merging.store_script.Given as goal
 abbrev pub invariant-loop-op : goal.invariant-loop-op
 invariant-loop-op l = record {
   inside : AreInside (length l.history) (own_left l.caller l.script l.told (length l.yielded));
-  stored : stored l.history (own_left l.caller l.script l.told (length l.yielded)) ≡ stored l.fn.history (numbered_updates l.caller (told_lines l.script l.told));
+  stored : stored l.history (own_left l.caller l.script l.told (length l.yielded))
+      ≡ stored l.fn.history (numbered_updates l.caller (told_lines l.script l.told));
 }

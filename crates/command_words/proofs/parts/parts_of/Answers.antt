@@ -13,19 +13,22 @@ take-nil zero = refl
 take-nil (suc n) = refl
 
 -- a test of bytes that failed
-differ : (bytes : List ℕ) (seen : List ℕ) → seen ≡ codes "account" → (test : Bool) → test ≡ pointwise eqb bytes seen → test ≡ false → bytes ≡ codes "account" → ⊥
+differ : (bytes : List ℕ) (seen : List ℕ) → seen ≡ codes "account" → (test : Bool) → test ≡ pointwise eqb bytes seen → test ≡ false
+    → bytes ≡ codes "account" → ⊥
 differ bytes seen is test by failed e = false≢true (sym failed ∙ (slice_eq-Decides Decides-eqb bytes seen test by).1 (e ∙ sym is))
 
 pub returns-then-eq : goal.returns-then-eq
 returns-then-eq c =
     let is : c.in-Some.line.now ≡ codes "account" = search rules in
     let rest = take_rest c.args.input.now c.loop-line.at in
-    parts-at_line c.args.input.now c.loop-line.at c.loop-line.invariant c.in-Some.line.now c.in-Some.after.now (subst (λ r. IsParted r 10 c.in-Some.line.now c.in-Some.after.now) rest c.in-Some.ensures.some) is
+    parts-at_line c.args.input.now c.loop-line.at c.loop-line.invariant c.in-Some.line.now c.in-Some.after.now
+    (subst (λ r. IsParted r 10 c.in-Some.line.now c.in-Some.after.now) rest c.in-Some.ensures.some) is
 
 pub loop-line-preserved : goal.loop-line-preserved
 loop-line-preserved c =
     let rest = take_rest c.args.input.now c.loop-line.at in
-    CutAt-next c.args.input.now c.loop-line.at c.loop-line.invariant c.in-Some.line.now c.in-Some.after.now (subst (λ r. IsParted r 10 c.in-Some.line.now c.in-Some.after.now) rest c.in-Some.ensures.some)
+    CutAt-next c.args.input.now c.loop-line.at c.loop-line.invariant c.in-Some.line.now c.in-Some.after.now
+    (subst (λ r. IsParted r 10 c.in-Some.line.now c.in-Some.after.now) rest c.in-Some.ensures.some)
     (differ c.in-Some.line.now c.as_slice.result.now c.as_slice.ensures c.eq.result c.eq.ensures c.if-eq.false)
 
 pub returns : goal.returns

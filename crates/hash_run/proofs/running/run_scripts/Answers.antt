@@ -15,23 +15,35 @@ use Rattle.hash_run.proofs.running.run_scripts.Goals as goal
 
 pub gather-seat-requires-clause-done : goal.gather-seat-requires-clause-done
 gather-seat-requires-clause-done g c =
-    all_done c.in_ok-table.table c.args.scripts.now c.in_ok-workers.workers.items c.run_crew.result.items (c.in_ok-workers.ensures) c.run_crew.ensures.count c.run_crew.ensures.made
+    all_done c.in_ok-table.table c.args.scripts.now c.in_ok-workers.workers.items c.run_crew.result.items
+    (c.in_ok-workers.ensures) c.run_crew.ensures.count c.run_crew.ensures.made
 
 pub merge-requires-clause-lengths : goal.merge-requires-clause-lengths
 merge-requires-clause-lengths g c =
     let table = c.in_ok-table.ensures.made in
-    let capacities : AreCapacities c.args.scripts.now c.in_ok-table.table.capacities = subst (AreCapacities c.args.scripts.now) (sym table.0) c.in_ok-capacities.ensures.capacities in
-    let given : c.deref.result.now ≡ [] ++ map (λ (w : Work ClientAt). w.told) c.run_crew.result.items = c.deref.ensures.value ∙ c.gather-seat.ensures.told ∙ ap (λ ts. ts ++ map (λ (w : Work ClientAt). w.told) c.run_crew.result.items) c.in_ok-told.ensures.items in
-    let all = told_explained c.in_ok-table.table c.args.scripts.now c.in_ok-workers.workers.items c.run_crew.result.items c.in_ok-workers.ensures c.run_crew.ensures.count c.run_crew.ensures.made c.gather-seat.result.view c.gather-seat.ensures.joined (table.1 ∙ c.count-count.ensures.count) capacities c.deref.result.now given in
+    let capacities : AreCapacities c.args.scripts.now c.in_ok-table.table.capacities =
+    subst (AreCapacities c.args.scripts.now) (sym table.0) c.in_ok-capacities.ensures.capacities in
+    let given : c.deref.result.now ≡ [] ++ map (λ (w : Work ClientAt). w.told) c.run_crew.result.items =
+    c.deref.ensures.value ∙ c.gather-seat.ensures.told
+    ∙ ap (λ ts. ts ++ map (λ (w : Work ClientAt). w.told) c.run_crew.result.items) c.in_ok-told.ensures.items in
+    let all = told_explained c.in_ok-table.table c.args.scripts.now c.in_ok-workers.workers.items c.run_crew.result.items
+    c.in_ok-workers.ensures c.run_crew.ensures.count c.run_crew.ensures.made c.gather-seat.result.view c.gather-seat.ensures.joined
+    (table.1 ∙ c.count-count.ensures.count) capacities c.deref.result.now given in
     (all 0).lengths
 
 pub merge-requires-clause-numbers : goal.merge-requires-clause-numbers
 merge-requires-clause-numbers g c =
     let table = c.in_ok-table.ensures.made in
-    let capacities : AreCapacities c.args.scripts.now c.in_ok-table.table.capacities = subst (AreCapacities c.args.scripts.now) (sym table.0) c.in_ok-capacities.ensures.capacities in
-    let given : c.deref.result.now ≡ [] ++ map (λ (w : Work ClientAt). w.told) c.run_crew.result.items = c.deref.ensures.value ∙ c.gather-seat.ensures.told ∙ ap (λ ts. ts ++ map (λ (w : Work ClientAt). w.told) c.run_crew.result.items) c.in_ok-told.ensures.items in
-    let all = told_explained c.in_ok-table.table c.args.scripts.now c.in_ok-workers.workers.items c.run_crew.result.items c.in_ok-workers.ensures c.run_crew.ensures.count c.run_crew.ensures.made c.gather-seat.result.view c.gather-seat.ensures.joined (table.1 ∙ c.count-count.ensures.count) capacities c.deref.result.now given in
-    AreOneToCount-own (updates_of c.gather-seat.result.view.seen) (all_told_lines c.args.scripts.now (entries_of c.deref.result.now)) ((all 0).explained.updates)
+    let capacities : AreCapacities c.args.scripts.now c.in_ok-table.table.capacities =
+    subst (AreCapacities c.args.scripts.now) (sym table.0) c.in_ok-capacities.ensures.capacities in
+    let given : c.deref.result.now ≡ [] ++ map (λ (w : Work ClientAt). w.told) c.run_crew.result.items =
+    c.deref.ensures.value ∙ c.gather-seat.ensures.told
+    ∙ ap (λ ts. ts ++ map (λ (w : Work ClientAt). w.told) c.run_crew.result.items) c.in_ok-told.ensures.items in
+    let all = told_explained c.in_ok-table.table c.args.scripts.now c.in_ok-workers.workers.items c.run_crew.result.items
+    c.in_ok-workers.ensures c.run_crew.ensures.count c.run_crew.ensures.made c.gather-seat.result.view c.gather-seat.ensures.joined
+    (table.1 ∙ c.count-count.ensures.count) capacities c.deref.result.now given in
+    AreOneToCount-own (updates_of c.gather-seat.result.view.seen) (all_told_lines c.args.scripts.now (entries_of c.deref.result.now))
+    ((all 0).explained.updates)
 
 pub returns-clause-run : goal.returns-clause-run
 returns-clause-run g c = record {
@@ -40,49 +52,75 @@ returns-clause-run g c = record {
   crew = c.in_ok-workers.ensures;
   count = c.run_crew.ensures.count;
   made = c.run_crew.ensures.made;
-  told_is = c.gather-seat.ensures.told ∙ ap (λ ts. ts ++ map (λ (w : Work ClientAt). w.told) c.run_crew.result.items) c.in_ok-told.ensures.items;
+  told_is = c.gather-seat.ensures.told ∙ ap (λ ts. ts
+      ++ map (λ (w : Work ClientAt). w.told) c.run_crew.result.items) c.in_ok-told.ensures.items;
   joined = c.gather-seat.ensures.joined;
 }
 
 pub returns-clause-explained : goal.returns-clause-explained
 returns-clause-explained g c slots =
     let table = c.in_ok-table.ensures.made in
-    let capacities : AreCapacities c.args.scripts.now c.in_ok-table.table.capacities = subst (AreCapacities c.args.scripts.now) (sym table.0) c.in_ok-capacities.ensures.capacities in
-    let given : c.deref.result.now ≡ [] ++ map (λ (w : Work ClientAt). w.told) c.run_crew.result.items = c.deref.ensures.value ∙ c.gather-seat.ensures.told ∙ ap (λ ts. ts ++ map (λ (w : Work ClientAt). w.told) c.run_crew.result.items) c.in_ok-told.ensures.items in
-    let all = told_explained c.in_ok-table.table c.args.scripts.now c.in_ok-workers.workers.items c.run_crew.result.items c.in_ok-workers.ensures c.run_crew.ensures.count c.run_crew.ensures.made c.gather-seat.result.view c.gather-seat.ensures.joined (table.1 ∙ c.count-count.ensures.count) capacities c.deref.result.now given in
-    let tell : TellOwnUpdates (updates_of c.gather-seat.result.view.seen) (all_told_lines c.args.scripts.now (entries_of c.deref.result.now)) = (all 0).explained.updates in
-    let history : c.in_ok-history.history.items ≡ updates_of c.gather-seat.result.view.seen = c.in_ok-history.ensures.only (updates_of c.gather-seat.result.view.seen) tell in
+    let capacities : AreCapacities c.args.scripts.now c.in_ok-table.table.capacities =
+    subst (AreCapacities c.args.scripts.now) (sym table.0) c.in_ok-capacities.ensures.capacities in
+    let given : c.deref.result.now ≡ [] ++ map (λ (w : Work ClientAt). w.told) c.run_crew.result.items =
+    c.deref.ensures.value ∙ c.gather-seat.ensures.told
+    ∙ ap (λ ts. ts ++ map (λ (w : Work ClientAt). w.told) c.run_crew.result.items) c.in_ok-told.ensures.items in
+    let all = told_explained c.in_ok-table.table c.args.scripts.now c.in_ok-workers.workers.items c.run_crew.result.items
+    c.in_ok-workers.ensures c.run_crew.ensures.count c.run_crew.ensures.made c.gather-seat.result.view c.gather-seat.ensures.joined
+    (table.1 ∙ c.count-count.ensures.count) capacities c.deref.result.now given in
+    let tell : TellOwnUpdates (updates_of c.gather-seat.result.view.seen)
+    (all_told_lines c.args.scripts.now (entries_of c.deref.result.now)) = (all 0).explained.updates in
+    let history : c.in_ok-history.history.items ≡ updates_of c.gather-seat.result.view.seen =
+    c.in_ok-history.ensures.only (updates_of c.gather-seat.result.view.seen) tell in
     subst (λ ts. AreExplainable c.args.scripts.now (entries_of ts) c.in_ok-history.history.items slots) c.deref.ensures.value
     (subst (λ h. AreExplainable c.args.scripts.now (entries_of c.deref.result.now) h slots) (sym history) (all slots))
 
 pub returns-clause-legal : goal.returns-clause-legal
 returns-clause-legal g c =
     let table = c.in_ok-table.ensures.made in
-    let capacities : AreCapacities c.args.scripts.now c.in_ok-table.table.capacities = subst (AreCapacities c.args.scripts.now) (sym table.0) c.in_ok-capacities.ensures.capacities in
-    let given : c.deref.result.now ≡ [] ++ map (λ (w : Work ClientAt). w.told) c.run_crew.result.items = c.deref.ensures.value ∙ c.gather-seat.ensures.told ∙ ap (λ ts. ts ++ map (λ (w : Work ClientAt). w.told) c.run_crew.result.items) c.in_ok-told.ensures.items in
-    let all = told_explained c.in_ok-table.table c.args.scripts.now c.in_ok-workers.workers.items c.run_crew.result.items c.in_ok-workers.ensures c.run_crew.ensures.count c.run_crew.ensures.made c.gather-seat.result.view c.gather-seat.ensures.joined (table.1 ∙ c.count-count.ensures.count) capacities c.deref.result.now given in
-    let tell : TellOwnUpdates (updates_of c.gather-seat.result.view.seen) (all_told_lines c.args.scripts.now (entries_of c.deref.result.now)) = (all 0).explained.updates in
-    let history : c.in_ok-history.history.items ≡ updates_of c.gather-seat.result.view.seen = c.in_ok-history.ensures.only (updates_of c.gather-seat.result.view.seen) tell in
+    let capacities : AreCapacities c.args.scripts.now c.in_ok-table.table.capacities =
+    subst (AreCapacities c.args.scripts.now) (sym table.0) c.in_ok-capacities.ensures.capacities in
+    let given : c.deref.result.now ≡ [] ++ map (λ (w : Work ClientAt). w.told) c.run_crew.result.items =
+    c.deref.ensures.value ∙ c.gather-seat.ensures.told
+    ∙ ap (λ ts. ts ++ map (λ (w : Work ClientAt). w.told) c.run_crew.result.items) c.in_ok-told.ensures.items in
+    let all = told_explained c.in_ok-table.table c.args.scripts.now c.in_ok-workers.workers.items c.run_crew.result.items
+    c.in_ok-workers.ensures c.run_crew.ensures.count c.run_crew.ensures.made c.gather-seat.result.view c.gather-seat.ensures.joined
+    (table.1 ∙ c.count-count.ensures.count) capacities c.deref.result.now given in
+    let tell : TellOwnUpdates (updates_of c.gather-seat.result.view.seen)
+    (all_told_lines c.args.scripts.now (entries_of c.deref.result.now)) = (all 0).explained.updates in
+    let history : c.in_ok-history.history.items ≡ updates_of c.gather-seat.result.view.seen =
+    c.in_ok-history.ensures.only (updates_of c.gather-seat.result.view.seen) tell in
     subst IsLegal (sym history) c.gather-seat.ensures.joined.informed.legal
 
 pub returns-clause-history : goal.returns-clause-history
 returns-clause-history g c =
     let table = c.in_ok-table.ensures.made in
-    let capacities : AreCapacities c.args.scripts.now c.in_ok-table.table.capacities = subst (AreCapacities c.args.scripts.now) (sym table.0) c.in_ok-capacities.ensures.capacities in
-    let given : c.deref.result.now ≡ [] ++ map (λ (w : Work ClientAt). w.told) c.run_crew.result.items = c.deref.ensures.value ∙ c.gather-seat.ensures.told ∙ ap (λ ts. ts ++ map (λ (w : Work ClientAt). w.told) c.run_crew.result.items) c.in_ok-told.ensures.items in
-    let all = told_explained c.in_ok-table.table c.args.scripts.now c.in_ok-workers.workers.items c.run_crew.result.items c.in_ok-workers.ensures c.run_crew.ensures.count c.run_crew.ensures.made c.gather-seat.result.view c.gather-seat.ensures.joined (table.1 ∙ c.count-count.ensures.count) capacities c.deref.result.now given in
-    let tell : TellOwnUpdates (updates_of c.gather-seat.result.view.seen) (all_told_lines c.args.scripts.now (entries_of c.deref.result.now)) = (all 0).explained.updates in
-    let history : c.in_ok-history.history.items ≡ updates_of c.gather-seat.result.view.seen = c.in_ok-history.ensures.only (updates_of c.gather-seat.result.view.seen) tell in
+    let capacities : AreCapacities c.args.scripts.now c.in_ok-table.table.capacities =
+    subst (AreCapacities c.args.scripts.now) (sym table.0) c.in_ok-capacities.ensures.capacities in
+    let given : c.deref.result.now ≡ [] ++ map (λ (w : Work ClientAt). w.told) c.run_crew.result.items =
+    c.deref.ensures.value ∙ c.gather-seat.ensures.told
+    ∙ ap (λ ts. ts ++ map (λ (w : Work ClientAt). w.told) c.run_crew.result.items) c.in_ok-told.ensures.items in
+    let all = told_explained c.in_ok-table.table c.args.scripts.now c.in_ok-workers.workers.items c.run_crew.result.items
+    c.in_ok-workers.ensures c.run_crew.ensures.count c.run_crew.ensures.made c.gather-seat.result.view c.gather-seat.ensures.joined
+    (table.1 ∙ c.count-count.ensures.count) capacities c.deref.result.now given in
+    let tell : TellOwnUpdates (updates_of c.gather-seat.result.view.seen)
+    (all_told_lines c.args.scripts.now (entries_of c.deref.result.now)) = (all 0).explained.updates in
+    let history : c.in_ok-history.history.items ≡ updates_of c.gather-seat.result.view.seen =
+    c.in_ok-history.ensures.only (updates_of c.gather-seat.result.view.seen) tell in
     history
 
 pub returns-clause-marks : goal.returns-clause-marks
 returns-clause-marks g c =
     let table = c.in_ok-table.ensures.made in
-    let capacities : AreCapacities c.args.scripts.now c.in_ok-table.table.capacities = subst (AreCapacities c.args.scripts.now) (sym table.0) c.in_ok-capacities.ensures.capacities in
-    run_marks c.in_ok-table.table c.args.scripts.now c.in_ok-workers.workers.items c.run_crew.result.items c.in_ok-workers.ensures c.run_crew.ensures.count c.run_crew.ensures.made c.gather-seat.result.view c.gather-seat.ensures.joined (table.1 ∙ c.count-count.ensures.count) capacities
+    let capacities : AreCapacities c.args.scripts.now c.in_ok-table.table.capacities =
+    subst (AreCapacities c.args.scripts.now) (sym table.0) c.in_ok-capacities.ensures.capacities in
+    run_marks c.in_ok-table.table c.args.scripts.now c.in_ok-workers.workers.items c.run_crew.result.items c.in_ok-workers.ensures
+    c.run_crew.ensures.count c.run_crew.ensures.made c.gather-seat.result.view c.gather-seat.ensures.joined
+    (table.1 ∙ c.count-count.ensures.count) capacities
 
 pub returns-clause-waits : goal.returns-clause-waits
-returns-clause-waits g c = λ j place count low high there. c.gather-seat.ensures.joined.informed.marks.others j (Began place count low high) there
+returns-clause-waits g c = λ j place count low high there. c.gather-seat.ensures.joined.informed.marks.others j
+    (Began place count low high) there
 
 pub returns-clause-answers : goal.returns-clause-answers
 returns-clause-answers g c = λ place below.

@@ -12,5 +12,10 @@ returns-in_err-taken-clause-too_long g c =
 pub loop-text-preserved : goal.loop-text-preserved
 loop-text-preserved g c =
     let inv = c.loop-text.invariant in
-    let led = c.in_ok-taken.ensures.led in
-    (search rules, search rules, rw c.in_ok-taken.ensures.added (Takes-append _ _ _ _ _ inv.2 c.in_ok-taken.ensures.taken), search rules, (suc inv.4.0, (c.loop-text.source, led.0, c.in_ok-taken.taken, inv.4.1, omega arith, led.2)))
+    let led = c.in_ok-taken.ensures.led in (
+      search rules,
+      search rules,
+      rw c.in_ok-taken.ensures.added (Takes-append _ _ _ _ _ inv.2 c.in_ok-taken.ensures.taken),
+      search rules,
+      (suc inv.4.0, (c.loop-text.source, led.0, c.in_ok-taken.taken, inv.4.1, omega arith, led.2)),
+    )

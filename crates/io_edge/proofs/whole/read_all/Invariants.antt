@@ -5,7 +5,8 @@ use Rattle.io_edge.proofs.whole.read_all.Given as goal
 
 abbrev pub invariant-loop-text : goal.invariant-loop-text
 invariant-loop-text g l =
-    (0 < length l.buffer) × (vec_len l.text ≤ l.limit) × Takes (g.S.Source.rest l.initial.source) (g.S.Source.rest l.source) l.text.items × (g.S.Source.faults l.source ≡ g.S.Source.faults l.initial.source)
+    (0 < length l.buffer) × (vec_len l.text ≤ l.limit) × Takes (g.S.Source.rest l.initial.source) (g.S.Source.rest l.source) l.text.items
+    × (g.S.Source.faults l.source ≡ g.S.Source.faults l.initial.source)
     × ((count : ℕ) × TookBytes g.S.Source.reads count l.initial.source l.source)
 
 abbrev pub decreases-loop-text : goal.decreases-loop-text

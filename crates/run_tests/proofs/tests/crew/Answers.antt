@@ -14,14 +14,16 @@ loop-i-preserved c =
     let worker = c.in_ok-new.field-0 in
     let script = c.script-calls.result.now in
     let read : script ≡ get_or c.args.scripts.now (length workers) [] =
-    sym (get_or_from_slice_get c.args.scripts.now c.loop-i.i script [] c.script-calls.ensures.script) ∙ ap (λ k. get_or c.args.scripts.now k []) (sym c.loop-i.invariant.many) in
+    sym (get_or_from_slice_get c.args.scripts.now c.loop-i.i script [] c.script-calls.ensures.script)
+    ∙ ap (λ k. get_or c.args.scripts.now k []) (sym c.loop-i.invariant.many) in
     let ready : IsReadyFor (λ clerk. clerk.left) worker script = record {
       empty = c.in_ok-new.ensures.empty;
       room = c.in_ok-new.ensures.room;
       means = let left = ap (λ clerk. clerk.left) c.in_ok-new.ensures.client in omega arith;
     } in
     let next : AreReadyFor (λ clerk. clerk.left) (workers ++ worker ∷ []) c.args.scripts.now =
-    AreReadyFor-push (λ clerk. clerk.left) c.args.scripts.now workers worker c.loop-i.invariant.ready (subst (λ (ops : List Op). IsReadyFor (λ clerk. clerk.left) worker ops) read ready) in
+    AreReadyFor-push (λ clerk. clerk.left) c.args.scripts.now workers worker c.loop-i.invariant.ready
+    (subst (λ (ops : List Op). IsReadyFor (λ clerk. clerk.left) worker ops) read ready) in
     rw c.in_ok-push.ensures.items (record {
       many = length-append workers (worker ∷ []) ∙ ap (λ k. k + 1) c.loop-i.invariant.many;
       ready = next;

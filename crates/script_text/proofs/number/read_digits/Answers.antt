@@ -10,16 +10,21 @@ returns-then-not-is_ascii_digit c read =
 pub returns-in_err-checked_mul : goal.returns-in_err-checked_mul
 returns-in_err-checked_mul c =
     rw c.from_residual.ensures
-    (λ read. too_large c.args.digits.now c.loop-digit.digit-index (omega arith) c.if-not-is_ascii_digit.ensures.cases _ c.loop-digit.invariant.value (omega (arith, c.in_err-checked_mul.ensures)) read.1)
+    (λ read. too_large c.args.digits.now c.loop-digit.digit-index
+    (omega arith) c.if-not-is_ascii_digit.ensures.cases _ c.loop-digit.invariant.value
+    (omega (arith, c.in_err-checked_mul.ensures)) read.1)
 
 pub returns-in_err-value : goal.returns-in_err-value
 returns-in_err-value c =
     rw c.from_residual-in_err-value.ensures
-    (λ read. too_large c.args.digits.now c.loop-digit.digit-index (omega arith) c.if-not-is_ascii_digit.ensures.cases _ c.loop-digit.invariant.value (omega (arith, c.in_ok-checked_mul.ensures, c.in_err-value.ensures)) read.1)
+    (λ read. too_large c.args.digits.now c.loop-digit.digit-index
+    (omega arith) c.if-not-is_ascii_digit.ensures.cases _ c.loop-digit.invariant.value
+    (omega (arith, c.in_ok-checked_mul.ensures, c.in_err-value.ensures)) read.1)
 
 pub loop-digit-preserved : goal.loop-digit-preserved
 loop-digit-preserved c =
-    let more = read_more c.args.digits.now c.loop-digit.digit-index (omega arith) c.if-not-is_ascii_digit.ensures.cases c.loop-digit.value c.loop-digit.invariant.digits c.loop-digit.invariant.value in
+    let more = read_more c.args.digits.now c.loop-digit.digit-index
+    (omega arith) c.if-not-is_ascii_digit.ensures.cases c.loop-digit.value c.loop-digit.invariant.digits c.loop-digit.invariant.value in
     record {
       digits = more.0;
       value = omega (arith, c.in_ok-checked_mul.ensures, c.in_ok-value.ensures, more.1);

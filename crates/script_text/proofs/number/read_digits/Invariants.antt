@@ -4,4 +4,8 @@ use Rattle.script_text.proofs.number.read_digits.Given as goal
 
 abbrev pub invariant-loop-digit : goal.invariant-loop-digit
 invariant-loop-digit l =
-    record { digits : AllDigits 10 (take l.digit-index l.digits); value : l.value ≡ digits_value 10 (take l.digit-index l.digits); small : l.value < 2 ^ 64 }
+    record {
+      digits : AllDigits 10 (take l.digit-index l.digits);
+      value : l.value ≡ digits_value 10 (take l.digit-index l.digits);
+      small : l.value < 2 ^ 64;
+    }

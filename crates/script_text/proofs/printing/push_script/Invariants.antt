@@ -5,4 +5,7 @@ use Rattle.script_text.proofs.printing.push_script.Given as goal
 
 abbrev pub invariant-loop-op : goal.invariant-loop-op
 invariant-loop-op l =
-    record { text : l.out.items ≡ l.fn.out.items ++ script_text (take l.op-index l.script); fits : All FitsWords (take l.op-index l.script) }
+    record {
+      text : l.out.items ≡ l.fn.out.items ++ script_text (take l.op-index l.script);
+      fits : All FitsWords (take l.op-index l.script);
+    }

@@ -12,5 +12,6 @@ pub returns-in-None-clause-cut : goal.returns-in-None-clause-cut
 returns-in-None-clause-cut c =
     let text = c.args.text.now in
     let some : 0 < length text = grind (arith, nat_tests) in
-    let end : take (length text - length text) (drop (length text) text) ≡ [] = nil_from_length _ (simp (length-take, length-drop) (omega arith)) in
+    let end : take (length text - length text) (drop (length text) text) ≡ [] =
+    nil_from_length _ (simp (length-take, length-drop) (omega arith)) in
     rw end (lines_of-last text some c.in-None.ensures.none)

@@ -20,7 +20,8 @@ merge-requires-clause-numbers g c =
     let made = c.in_ok-table.ensures.table in
     let ran = c.in_ok-ran.ensures in
     let all = alone_explained ran.run ran.stays (made.1 ∙ c.count.ensures.count) made.0 c.deref.ensures.value in
-    AreOneToCount-own (updates_of c.in_ok-ran.ran.seat.view.seen) (all_told_lines c.args.scripts.now (entries_of c.deref.result.now)) all.explained.updates
+    AreOneToCount-own (updates_of c.in_ok-ran.ran.seat.view.seen)
+    (all_told_lines c.args.scripts.now (entries_of c.deref.result.now)) all.explained.updates
 
 pub returns-clause-explained : goal.returns-clause-explained
 returns-clause-explained g c =
@@ -28,7 +29,8 @@ returns-clause-explained g c =
     let ran = c.in_ok-ran.ensures in
     let all = alone_explained ran.run ran.stays (made.1 ∙ c.count.ensures.count) made.0 c.deref.ensures.value in
     let history = c.in_ok-history.ensures.only (updates_of c.in_ok-ran.ran.seat.view.seen) all.explained.updates in
-    subst (λ h. AreExplainable c.args.scripts.now (entries_of c.in_ok-ran.ran.told.items) h c.args.slots) (sym history) (alone_explained ran.run ran.stays (made.1 ∙ c.count.ensures.count) made.0 refl)
+    subst (λ h. AreExplainable c.args.scripts.now (entries_of c.in_ok-ran.ran.told.items) h c.args.slots) (sym history)
+    (alone_explained ran.run ran.stays (made.1 ∙ c.count.ensures.count) made.0 refl)
 
 pub returns-clause-history : goal.returns-clause-history
 returns-clause-history g c =
@@ -52,7 +54,8 @@ returns-clause-within g c =
     let ran = c.in_ok-ran.ensures in
     let all = alone_explained ran.run ran.stays (made.1 ∙ c.count.ensures.count) made.0 c.deref.ensures.value in
     let history = c.in_ok-history.ensures.only (updates_of c.in_ok-ran.ran.seat.view.seen) all.explained.updates in
-    subst (λ h. StaysWithin h c.args.slots) (sym history) (subst (StaysWithin (updates_of c.in_ok-ran.ran.seat.view.seen)) made.0 ran.stays.within)
+    subst (λ h. StaysWithin h c.args.slots) (sym history)
+    (subst (StaysWithin (updates_of c.in_ok-ran.ran.seat.view.seen)) made.0 ran.stays.within)
 
 pub returns-clause-marks : goal.returns-clause-marks
 returns-clause-marks g c =

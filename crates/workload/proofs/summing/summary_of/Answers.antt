@@ -16,14 +16,16 @@ pub sums_of-keys-requires-clause-keys : goal.sums_of-keys-requires-clause-keys
 sums_of-keys-requires-clause-keys c =
     let few : length c.args.scripts.now ≤ 64 = omega (arith, c.count.ensures.count, c.count.ensures.limit) in
     let short : op_count c.args.scripts.now ≤ 1048576 = omega (arith, c.ops.ensures.count, c.ops.ensures.limit) in
-    let fits = key_sum-fits c.args.scripts.now (entries_of c.args.told.now) c.args.history.now c.requires.made few c.requires.legal c.requires.explainable short in
+    let fits = key_sum-fits c.args.scripts.now
+    (entries_of c.args.told.now) c.args.history.now c.requires.made few c.requires.legal c.requires.explainable short in
     subst (λ m. key_sum m < 2 ^ 64) (sym c.in_ok-dict.ensures) fits
 
 pub sums_of-keys-requires-clause-values : goal.sums_of-keys-requires-clause-values
 sums_of-keys-requires-clause-values c =
     let few : length c.args.scripts.now ≤ 64 = omega (arith, c.count.ensures.count, c.count.ensures.limit) in
     let short : op_count c.args.scripts.now ≤ 1048576 = omega (arith, c.ops.ensures.count, c.ops.ensures.limit) in
-    let fits = value_sum-fits c.args.scripts.now (entries_of c.args.told.now) c.args.history.now c.requires.made few c.requires.legal c.requires.explainable short in
+    let fits = value_sum-fits c.args.scripts.now
+    (entries_of c.args.told.now) c.args.history.now c.requires.made few c.requires.legal c.requires.explainable short in
     subst (λ m. value_sum m < 2 ^ 64) (sym c.in_ok-dict.ensures) fits
 
 pub returns-clause-plain : goal.returns-clause-plain
@@ -43,4 +45,5 @@ returns-clause-plain c =
       keys = (c.sums_of-keys.ensures.keys ∙ ap key_sum dict) i;
       values = (c.sums_of-keys.ensures.values ∙ ap value_sum dict) i;
     })
-    ∙ summary-is-plain c.args.scripts.now (entries_of c.args.told.now) c.args.history.now c.requires.made few c.requires.legal c.requires.explainable
+    ∙ summary-is-plain c.args.scripts.now
+    (entries_of c.args.told.now) c.args.history.now c.requires.made few c.requires.legal c.requires.explainable

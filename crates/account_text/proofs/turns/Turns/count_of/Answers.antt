@@ -7,4 +7,5 @@ pub returns : goal.returns
 returns c =
     let t = c.self.inside in
     let there : c.args.caller < length t.counts.items = rw (← c.self.view_is) at c.requires in
-    rw (← c.self.view_is) (c.index.ensures ∙ get_or_default_zero t.counts.items c.args.caller c.index.result.now there ∙ c.self.invariant.count c.args.caller there ∙ sym (length-own c.args.caller t.history.now 1))
+    rw (← c.self.view_is) (c.index.ensures ∙ get_or_default_zero t.counts.items c.args.caller c.index.result.now there
+    ∙ c.self.invariant.count c.args.caller there ∙ sym (length-own c.args.caller t.history.now 1))

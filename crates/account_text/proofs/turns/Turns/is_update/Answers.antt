@@ -25,14 +25,20 @@ returns-then-position-eq0 c =
     )
 
 abbrev IsSame : After-eq → Type 0
-IsSame c = Decides c.eq.result (get_or c.self.inside.history.now (c.args.position - 1) no_update ≡ record { caller = c.args.caller; op = c.args.op })
+IsSame c = Decides c.eq.result (get_or c.self.inside.history.now (c.args.position - 1) no_update
+    ≡ record { caller = c.args.caller; op = c.args.op })
 
 same : (c : After-eq) → IsSame c
 same c = search rules
 
-at_place : (c : After-eq) → ((get_or c.self.inside.history.now (c.args.position - 1) no_update).caller ≡ c.args.caller) × ((get_or c.self.inside.history.now (c.args.position - 1) no_update).op ≡ c.args.op) × (own_count c.args.caller (take (c.args.position - 1) c.self.inside.history.now) ≡ c.args.turn) ↔ (slice_get (own_updates c.args.caller c.self.inside.history.now) c.args.turn ≡ Some (record { position = c.args.position; op = c.args.op }))
+at_place : (c : After-eq) → ((get_or c.self.inside.history.now (c.args.position - 1) no_update).caller ≡ c.args.caller)
+    × ((get_or c.self.inside.history.now (c.args.position - 1) no_update).op ≡ c.args.op)
+    × (own_count c.args.caller (take (c.args.position - 1) c.self.inside.history.now) ≡ c.args.turn)
+    ↔ (slice_get (own_updates c.args.caller c.self.inside.history.now) c.args.turn
+    ≡ Some (record { position = c.args.position; op = c.args.op }))
 at_place c =
-    own-is c.self.inside.history.now c.args.caller c.args.position c.args.turn c.args.op (c.args.position - 1) no_update (omega (arith, c.if-position-eq0.false)) (omega (arith, c.if-position-eq0.false, c.if-position-self.false))
+    own-is c.self.inside.history.now c.args.caller c.args.position c.args.turn c.args.op (c.args.position - 1) no_update
+    (omega (arith, c.if-position-eq0.false)) (omega (arith, c.if-position-eq0.false, c.if-position-self.false))
 
 pub returns-then-eq : goal.returns-then-eq
 returns-then-eq c =
@@ -43,7 +49,8 @@ returns-then-eq c =
     let update = (same at).0 c.if-eq.true in
     let place = at_place at in
     let turn : c.index.result.now ≡ own_count c.args.caller (take i t.history.now) =
-    c.index.ensures ∙ get_or_default_zero t.turns.items i c.index.result.now (omega (arith, there, c.self.invariant.all)) ∙ c.self.invariant.turn i no_update there ∙ ap (λ (u : Update). own_count u.caller (take i t.history.now)) update in
+    c.index.ensures ∙ get_or_default_zero t.turns.items i c.index.result.now (omega (arith, there, c.self.invariant.all))
+    ∙ c.self.invariant.turn i no_update there ∙ ap (λ (u : Update). own_count u.caller (take i t.history.now)) update in
     let test = Decides-eqb c.index.result.now c.args.turn in
     rw (← c.self.view_is) (
       λ e. place.0 (ap (λ u. u.caller) update, ap (λ u. u.op) update, sym turn ∙ test.0 e),

@@ -8,6 +8,7 @@ abbrev pub invariant-loop-update : goal.invariant-loop-update
 invariant-loop-update l = record {
   callers : length l.counts.items ≡ l.callers;
   all : length l.turns.items ≡ l.update-index;
-  turn : (i : ℕ) (none : Update) → i < l.update-index → get_or l.turns.items i 0 ≡ own_count (get_or l.history i none).caller (take i l.history);
+  turn : (i : ℕ) (none : Update) → i < l.update-index
+      → get_or l.turns.items i 0 ≡ own_count (get_or l.history i none).caller (take i l.history);
   count : (caller : ℕ) → caller < l.callers → get_or l.counts.items caller 0 ≡ own_count caller (take l.update-index l.history);
 }

@@ -20,8 +20,16 @@ same_section v w (NotYet why) p = ap (λ (z : View). z.section) (waited v w why 
 finished : (v w : View) (poll : Poll) → MayPoll v → Polls v poll w → HasFinished w
 finished v w Over may p =
     let same : may.hold ≡ p.hold = (let z : Some may.hold ≡ Some p.hold = sym may.finished.hold_is ∙ p.is in cc) in
-    let done : NeedsUnlock v p.hold = subst (NeedsUnlock v) same may.finished in
-    (polled p.hold p.first, record { hold_is = ap (λ (z : View). z.hold) p.rest; taken = done.taken; unlinked = done.unlinked; moved = refl; even = ap (λ (z : View). z.commit) p.rest ∙ done.even })
+    let done : NeedsUnlock v p.hold = subst (NeedsUnlock v) same may.finished in (
+      polled p.hold p.first,
+      record {
+        hold_is = ap (λ (z : View). z.hold) p.rest;
+        taken = done.taken;
+        unlinked = done.unlinked;
+        moved = refl;
+        even = ap (λ (z : View). z.commit) p.rest ∙ done.even;
+      },
+    )
 finished v w (NotYet why) may p = let still = may_poll_still v w may (waited v w why p) in (still.hold, still.finished)
 
 again : (v w : View) (poll : Poll) → MayPoll v → Polls v poll w → poll ≢ Over → MayPoll w
@@ -32,7 +40,9 @@ pub returns-clause-section : goal.returns-clause-section
 returns-clause-section c = same_section c.args.seat.now.view c.poll_class.new.seat.view c.poll_class.result c.poll_class.ensures.view
 
 pub returns-clause-finished : goal.returns-clause-finished
-returns-clause-finished c = finished c.args.seat.now.view c.poll_class.new.seat.view c.poll_class.result c.requires.lists c.poll_class.ensures.view
+returns-clause-finished c =
+    finished c.args.seat.now.view c.poll_class.new.seat.view c.poll_class.result c.requires.lists c.poll_class.ensures.view
 
 pub returns-clause-again : goal.returns-clause-again
-returns-clause-again c = again c.args.seat.now.view c.poll_class.new.seat.view c.poll_class.result c.requires.lists c.poll_class.ensures.view
+returns-clause-again c =
+    again c.args.seat.now.view c.poll_class.new.seat.view c.poll_class.result c.requires.lists c.poll_class.ensures.view
