@@ -1,56 +1,51 @@
 #!/usr/bin/env bash
-# Prints the time and the peak memory of `run` with each waiter and of `hash`, which run scripts in threads, beside those of the plain
-# program in C++, which runs the same texts one script after another on a `std::map`. Nine in ten operations are gets. Then the same of
-# `load`. It stands outside the gate; what it printed on one machine stands in docs/BENCHMARKS.md.
+# Measures `run` with each waiter and `hash`, which run scripts in threads, beside the plain program in C++, which runs the same texts one
+# script after another on a std::map; then `load`, and two kinds of text for which a command is slow. The best of three goes to
+# bench/results/threads.csv. It stands outside the gate.
 set -eu
-# shellcheck source=bench/built.sh
-. "$(dirname "$0")/built.sh"
-for name in made_text plain; do
-    g++ -O2 -std=c++17 -o "$out/$name" "$top/bench/$name.cpp"
-done
-cc -O2 -o "$out/measure" "$top/bench/measure.c"
-
-# The best of five by the seconds that passed: processor seconds, kibibytes at the peak, seconds passed.
-measure() {
-    for _ in 1 2 3 4 5; do
-        "$out/measure" "$@" <"$out/text" 2>&1 >"$out/ours" | tail -1
-    done | sort -n -k 3 | head -1
-}
-
-# One row: `row OPERATIONS KEYS SCRIPTS WHAT PROGRAM WORDS..`.
-row() {
-    local ops=$1 keys=$2 scripts=$3 what=$4
-    shift 4
-    # shellcheck disable=SC2046
-    set -- $(measure "$@")
-    awk -v ops="$ops" -v keys="$keys" -v scripts="$scripts" -v what="$what" -v s="$1" -v m="$2" -v p="$3" 'BEGIN {
-        printf "| %d | %s | %d | %s | %.2f | %.2f | %.0f |\n", ops, keys, scripts, what, p, s, m / 1024 }'
-}
-
-# What was written last is an account of the text.
-judged() {
-    { cat "$out/text"; echo account; cat "$out/ours"; } >"$out/claim"
-    [ "$("$citrus" check <"$out/claim")" = yes ]
-}
-
-echo '| operations | keys | scripts | what | seconds | processor seconds | MiB |'
-echo '|---|---|---|---|---|---|---|'
+# shellcheck source=bench/commands.sh
+. "$(dirname "$0")/commands.sh"
 ops=${OPS:-1000000}
-for keys in ${KEYS:-64 1000 10000}; do
+
+# One row: `row TEXT OPERATIONS SCRIPTS WHAT PROGRAM WORDS..`. The text stands in a file.
+row() {
+    local name=$1 ops=$2 scripts=$3 what=$4
+    shift 4
+    echo "$what,$name,$ops,$scripts,$(measure "$out/text" "$out/ours" "$@")"
+}
+
+rows() {
+    local scripts waiter count
+    echo 'what,text,operations,scripts,seconds,processor_seconds,mib'
     for scripts in 1 2 4; do
-        "$out/made_text" "$ops" "$scripts" "$keys" >"$out/text"
+        "$out/made_text" "$ops" "$scripts" 10000 >"$out/text"
         for waiter in eer d deer; do
-            row "$ops" "$keys" "$scripts" "\`run --waiter $waiter\`" "$citrus" run --waiter "$waiter"
-            judged
+            row '90 of 100 gets on 10000 keys' "$ops" "$scripts" "run --waiter $waiter" "$citrus" run --waiter "$waiter"
+            judged "$out/text" "$out/ours"
         done
-        row "$ops" "$keys" "$scripts" '`hash`' "$citrus" hash
-        judged
-        row "$ops" "$keys" "$scripts" 'C++' "$out/plain" run
+        row '90 of 100 gets on 10000 keys' "$ops" "$scripts" hash "$citrus" hash
+        judged "$out/text" "$out/ours"
+        row '90 of 100 gets on 10000 keys' "$ops" "$scripts" C++ "$out/plain" run
     done
-done
-: >"$out/text"
-for waiter in eer d deer; do
-    row 800000 'of their own' 8 "\`load 1 8 100000 --waiter $waiter\`" "$citrus" load 1 8 100000 --waiter "$waiter"
-done
-row 800000 'of their own' 8 'C++, the same' "$out/plain" load 1 8 100000
+    for scripts in 1 4; do
+        "$out/made_text" $((ops * 9 / 10)) "$scripts" 200000 98 >"$out/text"
+        row '98 of 100 gets on 200000 keys' $((ops * 9 / 10)) "$scripts" run "$citrus" run
+        row '98 of 100 gets on 200000 keys' $((ops * 9 / 10)) "$scripts" hash "$citrus" hash
+    done
+    for count in 8000 16000 32000; do
+        { echo script; seq -f 'put %.0f 1' "$count"; } >"$out/text"
+        row 'ascending puts' "$count" 1 run "$citrus" run
+    done
+    : >"$out/text"
+    for scripts in 1 8 64; do
+        for waiter in eer d deer; do
+            row load "$ops" "$scripts" "load --waiter $waiter" "$citrus" load 1 "$scripts" $((ops / scripts)) --waiter "$waiter"
+        done
+        row load "$ops" "$scripts" C++ "$out/plain" load 1 "$scripts" $((ops / scripts))
+    done
+}
+
+measured_here "the best of 3 runs" >"$out/threads.csv"
+rows >>"$out/threads.csv"
+cp "$out/threads.csv" "$results/threads.csv"
 rm -f "$out/claim" "$out/text" "$out/ours"

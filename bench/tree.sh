@@ -1,37 +1,46 @@
 #!/usr/bin/env bash
-# Prints the nanoseconds of an operation on the search tree, for each waiter and mix at one, two and four threads, beside those of the
-# same accesses in C++, of a std::map under one lock, and of a BTreeMap under one lock: `tree.sh [ROUNDS [TIMES]]`. Each figure is the
-# best of so many runs of each program, which take turns. It stands outside the gate; what it printed on one machine stands in
-# docs/BENCHMARKS.md.
+# Measures an operation on the search tree, for each waiter and mix at one, two and four threads, beside the same steps in C++ and other
+# dictionaries: `tree.sh [--rounds N] [--operations N] [--seconds S] [--beside PROGRAM]`. In each round every program runs once; a thread
+# makes so many operations, and a cell of the peers ends after so many seconds. `--beside` is a tree_benches of another commit. Minima and
+# medians go to bench/results/tree.csv. Where tree_benches isn't built, the peers run alone. It stands outside the gate.
 set -eu
-top=$(cd "$(dirname "${BASH_SOURCE[0]}")/.." && pwd)
-out=$top/bench/out
-program=$top/crates/tree_benches/out/tree_benches
-rounds=${1:-300000}
-times=${2:-5}
-mkdir -p "$out"
-# The program is built, and does nothing where it has no words.
-(cd "$top/crates/tree_benches" && rt run -- </dev/null >"$out/told" 2>&1) || { cat "$out/told" >&2; exit 1; }
-g++ -O2 -std=c++17 -pthread -o "$out/tree" "$top/bench/tree.cpp"
-
-: >"$out/ours"
-: >"$out/theirs"
-for _ in $(seq "$times"); do
-    "$program" times calls "$rounds" >>"$out/ours"
-    "$out/tree" "$rounds" >>"$out/theirs"
+# shellcheck source=bench/peers.sh
+. "$(dirname "$0")/peers.sh"
+# shellcheck source=bench/results.sh
+. "$top/bench/results.sh"
+rounds=7 operations=100000 seconds=1 beside=
+while [ $# -gt 0 ]; do
+    case $1 in
+        --rounds) rounds=$2 ;;
+        --operations) operations=$2 ;;
+        --seconds) seconds=$2 ;;
+        --beside) beside=$2 ;;
+        *) echo "usage: tree.sh [--rounds N] [--operations N] [--seconds S] [--beside PROGRAM]" >&2; exit 2 ;;
+    esac
+    shift 2
 done
-echo '| where | operations | threads | ns | ns of C++ | times | ns of std::map under a lock |'
-echo '|---|---|---|---|---|---|---|'
-awk -F ': ' '
-    { name = $1; ns = $2 + 0 }
-    FNR == NR { if (!(name in best)) { best[name] = ns; order[++count] = name } else if (ns < best[name]) best[name] = ns; next }
-    { if (!(name in plain) || ns < plain[name]) plain[name] = ns }
-    END {
-        for (i = 1; i <= count; i++) {
-            name = order[i]
-            split(name, words, ", ")
-            locked = plain["map under a lock, " words[2] ", " words[3]]
-            sub(/ threads/, "", words[3])
-            printf "| %s | %s | %s | %.0f | %.0f | %.2f | %.0f |\n", words[1], words[2], words[3], best[name], plain[name], best[name] / plain[name], locked
-        }
-    }' "$out/ours" "$out/theirs"
+
+# The lines of a proved program. It has no limit for a cell, so all of its cells together have one.
+proved_lines() {
+    local most
+    most=$(awk -v seconds="$seconds" 'BEGIN { print 60 * seconds + 30 }')
+    timeout "$most" "$1" times calls "$operations" || echo "$1 wasn't done in $most s" >&2
+}
+
+build_peers
+with_ours=yes
+has_ours || with_ours=
+measured_here "$rounds rounds of $operations operations a thread" >"$out/tree.csv"
+: >"$out/tree_cells"
+for ((round = 1; round <= rounds; round++)); do
+    [ -z "$with_ours" ] || proved_lines "$ours" | cells 'proved ' >>"$out/tree_cells"
+    [ -z "$beside" ] || proved_lines "$beside" | cells 'before ' >>"$out/tree_cells"
+    for peer in "${peers[@]}"; do
+        # shellcheck disable=SC2086
+        $peer --operations "$operations" --seconds "$seconds" calls | cells '' >>"$out/tree_cells"
+    done
+    echo "round $round of $rounds, after $SECONDS s" >&2
+done
+summary "$out/tree_cells" >>"$out/tree.csv"
+cp "$out/tree.csv" "$results/tree.csv"
+same_answers "$out/tree_cells"

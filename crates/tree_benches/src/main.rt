@@ -7,7 +7,9 @@
 mod calls;
 mod cookies;
 mod crew;
+mod jobs;
 mod lists;
+mod seated;
 mod waits;
 mod words;
 

@@ -1,7 +1,12 @@
 //! The words of the program, and what is written of times.
 
+use crate::crew::Crew;
+use crate::jobs::Worked;
+use std::io;
+use std::rt::Runtime;
+
 /// What is measured.
-#[derive(Clone, Copy, Debug, PartialEq, Eq)]
+#[derive(Clone, Copy)]
 pub enum Bench {
     Waits,
     Lists,
@@ -23,7 +28,7 @@ impl Bench {
 }
 
 /// What the words ask of a bench.
-#[derive(Clone, Copy, Debug, PartialEq, Eq)]
+#[derive(Clone, Copy)]
 pub struct Ask {
     /// How often each thread does its work.
     pub rounds: u32,
@@ -46,4 +51,25 @@ pub fn rounds_of(word: &str, most: u32) -> Option<u32> {
 pub fn tenths_of(nanos: u128, count: u64) -> (u128, u128) {
     let tenths = nanos.saturating_mul(10) / u128::from(count.max(1));
     (tenths / 10, tenths % 10)
+}
+
+/// A line: what did the work, which work, the threads, and how often, or where times are asked for, the nanoseconds of each one in tenths and
+/// what was told.
+pub fn write_line<R: Runtime>(
+    rt: &R,
+    whose: &str,
+    name: &str,
+    crew: Crew,
+    unit: &str,
+    worked: Worked,
+    ask: &Ask,
+) -> io::Result<()> {
+    let threads = crew.count();
+    let rounds = ask.rounds;
+    if !ask.timed {
+        return println!(rt; "{whose}, {name}, {threads} threads: {rounds} {unit} each");
+    }
+    let (whole, tenth) = tenths_of(worked.nanos, u64::from(rounds));
+    let sum = worked.sum;
+    println!(rt; "{whose}, {name}, {threads} threads: {whole}.{tenth} ns, answers {sum}")
 }

@@ -2,7 +2,6 @@
 
 use prcu_marks::Client;
 use prcu_model::{Op, Reply, Told};
-use std::alloc::Global;
 use std::collections::BTreeMap;
 use std::collections::btree_map::Entry;
 use std::sync::{Mutex, Wait};
@@ -13,13 +12,7 @@ pub type Pairs = BTreeMap<u64, u64>;
 /// A client of the map. A put is told `Full` where memory is short.
 #[derive(Clone, Copy)]
 pub struct LockedClient<'a> {
-    pairs: &'a Mutex<Pairs>,
-}
-
-impl<'a> LockedClient<'a> {
-    pub fn new(pairs: &'a Mutex<Pairs>) -> LockedClient<'a> {
-        LockedClient { pairs }
-    }
+    pub pairs: &'a Mutex<Pairs>,
 }
 
 impl<'a> Client for LockedClient<'a> {
@@ -61,9 +54,4 @@ fn put(pairs: &mut Pairs, key: u64, value: u64) -> Reply {
         }
         Err(_) => Reply::Full,
     }
-}
-
-/// A map without pairs, under a lock.
-pub fn no_pairs(alloc: Global) -> Mutex<Pairs> {
-    Mutex::new(BTreeMap::new(alloc))
 }

@@ -1,21 +1,24 @@
-//! Which work is done and timed, and what is written of it.
-ghost use Rattle.std.specs.Prelude.{◌≡◌, ◌≤◌};
+//! Which work is done and timed.
+ghost use Rattle.std.specs.Prelude.{◌≤◌};
 
-use crate::calls::locked::{LockedClient, no_pairs};
-use crate::calls::mix::Mix;
-use crate::calls::work::{
-    Work, Worked, time_alone, time_by_four, time_by_two, tree_client, two_clients,
-};
+use crate::calls::locked::LockedClient;
+use crate::calls::mix::Row;
+use crate::calls::work::{Calls, fill};
 use crate::crew::Crew;
-use crate::words::{Ask, tenths_of};
+use crate::jobs::{Crewed, Worked, time};
+use crate::seated::Seated;
+use crate::words::{Ask, write_line};
+use citrus_tree::TreeClient;
 use d_wait::Domain;
 use deer_wait::Deer;
 use eer_wait::Eer;
+use prcu_marks::OpenGate;
 use seat_table::{CitrusTable, WaitPart};
 use std::alloc::Global;
+use std::collections::BTreeMap;
 use std::io;
 use std::rt::Runtime;
-use std::sync::Wait;
+use std::sync::{Mutex, Wait};
 use std::thread::Threads;
 
 /// So many rounds at most.
@@ -42,10 +45,10 @@ fn measure_tree<R: Threads + Wait + Sync + Runtime, W: WaitPart + Sync>(
 ) -> io::Result<()>
     requires way { W.WAY ≤ 2 }
 {
-    for mix in Mix::ALL {
+    for row in Row::ALL {
         for crew in Crew::ALL {
-            let worked = time_tree::<R, W>(rt, alloc, crew, mix, ask.rounds)?;
-            write_line(rt, name, mix, crew, worked, ask)?;
+            let worked = time_tree::<R, W>(rt, alloc, crew, row, ask.rounds)?;
+            write_line(rt, name, row.name, crew, "operations", worked, ask)?;
         }
     }
     Ok(())
@@ -57,10 +60,18 @@ fn measure_map<R: Threads + Wait + Sync + Runtime>(
     alloc: Global,
     ask: &Ask,
 ) -> io::Result<()> {
-    for mix in Mix::ALL {
+    for row in Row::ALL {
         for crew in Crew::ALL {
-            let worked = time_map(rt, alloc, crew, mix, ask.rounds)?;
-            write_line(rt, "map under a lock", mix, crew, worked, ask)?;
+            let worked = time_map(rt, alloc, crew, row, ask.rounds)?;
+            write_line(
+                rt,
+                "map under a lock",
+                row.name,
+                crew,
+                "operations",
+                worked,
+                ask,
+            )?;
         }
     }
     Ok(())
@@ -71,32 +82,72 @@ fn time_tree<R: Threads + Wait + Sync + Runtime, W: WaitPart + Sync>(
     rt: &R,
     alloc: Global,
     crew: Crew,
-    mix: Mix,
+    row: Row,
     rounds: u32,
 ) -> io::Result<Worked>
     requires way { W.WAY ≤ 2 }
 {
     let places = crew.count();
     let rounds = rounds.min(MOST_ROUNDS);
-    let tickets = 4 * u64::from(places) * (u64::from(rounds) + u64::from(mix.keys()));
-    let Ok((table, seat)) = CitrusTable::<W>::new(alloc, mix.keys() + 64, places, tickets) else {
+    let keys = row.keys.min(200_000);
+    let tickets = 4 * u64::from(places) * (u64::from(rounds) + u64::from(keys));
+    let Ok((table, seat)) = CitrusTable::<W>::new(alloc, keys + 64, places, tickets) else {
         return Err(io::Error::from(io::ErrorKind::OutOfMemory));
     };
-    let work = Work { mix, rounds };
-    match crew {
-        Crew::One => time_alone(rt, tree_client(&table, seat), work),
+    let seated = Seated::new(&table, seat);
+    let crewed = match crew {
+        Crew::One => Crewed::One(calls_of(filled(rt, seated, row), row, rounds, 0)),
         Crew::Two => {
-            let (first, second) = two_clients(&table, seat);
-            time_by_two(rt, first, second, work)
+            let (first, second) = seated.halves(1);
+            let client = filled(rt, first, row);
+            Crewed::Two(
+                calls_of(client, row, rounds, 0),
+                calls_of(second.client(), row, rounds, 1),
+            )
         }
         Crew::Four => {
-            let half = seat.tickets() / 2;
-            let (first, second) = seat.split(&table, 2, half);
-            let first = two_clients(&table, first);
-            let second = two_clients(&table, second);
-            time_by_four(rt, first, second, work)
+            let (half, rest) = seated.halves(2);
+            let (first, second) = half.halves(1);
+            let (third, fourth) = rest.halves(1);
+            let client = filled(rt, first, row);
+            Crewed::Four(
+                two_of(client, second.client(), row, rounds, 0),
+                two_of(third.client(), fourth.client(), row, rounds, 2),
+            )
         }
+    };
+    time(rt, crewed)
+}
+
+// A client of the tree, after it put the keys that come first.
+fn filled<'a, R: Wait, W: WaitPart>(
+    rt: &R,
+    seated: Seated<'a, W>,
+    row: Row,
+) -> TreeClient<'a, W, OpenGate> {
+    let mut client = seated.client();
+    fill(rt, &mut client, row);
+    client
+}
+
+// So many operations of a row by a client, whose draws begin at the place.
+fn calls_of<C>(client: C, row: Row, rounds: u32, place: u32) -> Calls<C> {
+    Calls {
+        client,
+        row,
+        rounds,
+        place,
     }
+}
+
+// Those of two clients.
+fn two_of<C>(first: C, second: C, row: Row, rounds: u32, place: u32) -> (Calls<C>, Calls<C>)
+    requires place { place ≤ 2 }
+{
+    (
+        calls_of(first, row, rounds, place),
+        calls_of(second, row, rounds, place + 1),
+    )
 }
 
 // What comes of it that each of the threads makes so many operations on a map under a lock.
@@ -104,38 +155,22 @@ fn time_map<R: Threads + Wait + Sync + Runtime>(
     rt: &R,
     alloc: Global,
     crew: Crew,
-    mix: Mix,
+    row: Row,
     rounds: u32,
 ) -> io::Result<Worked> {
-    let pairs = no_pairs(alloc);
-    let client = LockedClient::new(&pairs);
-    let work = Work { mix, rounds };
-    match crew {
-        Crew::One => time_alone(rt, client, work),
-        Crew::Two => time_by_two(rt, client, client, work),
-        Crew::Four => time_by_four(rt, (client, client), (client, client), work),
-    }
-}
-
-// A line: where the work was done, the mix, the threads, and the nanoseconds of an operation in tenths and the sum of what was
-// answered, where they are asked for.
-fn write_line<R: Runtime>(
-    rt: &R,
-    name: &str,
-    mix: Mix,
-    crew: Crew,
-    worked: Worked,
-    ask: &Ask,
-) -> io::Result<()> {
-    let threads = crew.count();
-    let mix = mix.name();
-    if !ask.timed {
-        return println!(rt;
-            "{name}, {mix}, {threads} threads: {} operations each",
-            ask.rounds
-        );
-    }
-    let (whole, tenth) = tenths_of(worked.nanos, u64::from(ask.rounds));
-    let sum = worked.sum;
-    println!(rt; "{name}, {mix}, {threads} threads: {whole}.{tenth} ns, answers {sum}")
+    let pairs = Mutex::new(BTreeMap::new(alloc));
+    let mut client = LockedClient { pairs: &pairs };
+    fill(rt, &mut client, row);
+    let crewed = match crew {
+        Crew::One => Crewed::One(calls_of(client, row, rounds, 0)),
+        Crew::Two => Crewed::Two(
+            calls_of(client, row, rounds, 0),
+            calls_of(client, row, rounds, 1),
+        ),
+        Crew::Four => Crewed::Four(
+            two_of(client, client, row, rounds, 0),
+            two_of(client, client, row, rounds, 2),
+        ),
+    };
+    time(rt, crewed)
 }

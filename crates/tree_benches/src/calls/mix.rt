@@ -11,58 +11,69 @@ pub enum Mix {
     MostlyGets,
     /// 50 of 100 are gets, on 1,000 keys.
     HalfGets,
+    /// 98 of 100 are gets, on 200,000 keys.
+    ManyKeys,
+    /// All are gets, on 20,000 keys.
+    OnlyGets,
     /// Those of the command `load`: two of four are puts and one is a get, on 4,096 keys that each thread has for itself.
     Load,
 }
 
+/// A mix with its name, how many keys four threads may use, and how many puts of drawn keys come first. After these about half of the keys
+/// are there, and none of the command's.
+#[derive(Clone, Copy)]
+pub struct Row {
+    pub name: &'static str,
+    pub mix: Mix,
+    pub keys: u32,
+    pub first_puts: u32,
+}
+
+impl Row {
+    pub const ALL: [Row; 5] = [
+        Row {
+            name: "90 of 100 gets on 20000 keys",
+            mix: Mix::MostlyGets,
+            keys: 20_000,
+            first_puts: 14_000,
+        },
+        Row {
+            name: "50 of 100 gets on 1000 keys",
+            mix: Mix::HalfGets,
+            keys: 1_000,
+            first_puts: 700,
+        },
+        Row {
+            name: "98 of 100 gets on 200000 keys",
+            mix: Mix::ManyKeys,
+            keys: 200_000,
+            first_puts: 140_000,
+        },
+        Row {
+            name: "100 of 100 gets on 20000 keys",
+            mix: Mix::OnlyGets,
+            keys: 20_000,
+            first_puts: 14_000,
+        },
+        Row {
+            name: "the operations of load",
+            mix: Mix::Load,
+            keys: 16_384,
+            first_puts: 0,
+        },
+    ];
+}
+
 impl Mix {
-    pub const ALL: [Mix; 3] = [Mix::MostlyGets, Mix::HalfGets, Mix::Load];
-
-    /// The name that is written.
-    pub fn name(self) -> &'static str {
-        match self {
-            Mix::MostlyGets => "90 of 100 gets on 20000 keys",
-            Mix::HalfGets => "50 of 100 gets on 1000 keys",
-            Mix::Load => "the operations of load",
-        }
-    }
-
-    /// How many keys four threads may use.
-    pub fn keys(self) -> u32
-        ensures few { result ≤ 20000 }
-    {
-        match self {
-            Mix::MostlyGets => 20_000,
-            Mix::HalfGets => 1_000,
-            Mix::Load => 16_384,
-        }
-    }
-
-    /// How many puts come first, of drawn keys. About half of the keys are there then, and none of the command's.
-    pub fn first_puts(self) -> u32
-        ensures few { result ≤ 20000 }
-    {
-        match self {
-            Mix::MostlyGets => 14_000,
-            Mix::HalfGets => 700,
-            Mix::Load => 0,
-        }
-    }
-
     /// The operation that is drawn at a state, for the thread of a place; and the state after it.
     pub fn draw(self, place: u32, state: u64) -> (Op, u64) {
         match self {
             Mix::MostlyGets => draw_of(90, 20_000, state),
             Mix::HalfGets => draw_of(50, 1_000, state),
+            Mix::ManyKeys => draw_of(98, 200_000, state),
+            Mix::OnlyGets => draw_of(100, 20_000, state),
             Mix::Load => draw_of_load(place, state),
         }
-    }
-
-    /// A put of a key that is drawn at a state, and the state after it.
-    pub fn draw_put(self, state: u64) -> (Op, u64) {
-        let state = next_state(state);
-        let key = drawn(state) % u64::from(self.keys().max(1));
-        (Op::Put { key, value: state }, state)
     }
 }
 

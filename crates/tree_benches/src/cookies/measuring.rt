@@ -1,18 +1,22 @@
 //! Which rows are measured, and what is written of them.
-ghost use Rattle.std.specs.Prelude.{◌≡◌, ◌≤◌};
+ghost use Rattle.std.specs.Prelude.{◌≤◌};
 
-use crate::cookies::beside::{fill, write_beside};
-use crate::cookies::rows::{Deletes, Holds, Rest, Row, Work};
+use crate::cookies::beside::{Reading, Writing, fill};
+use crate::cookies::rows::{Holds, Kind, Rest, Row, Work};
 use crate::cookies::tally::Tally;
+use crate::jobs::side_by_side;
+use crate::seated::Seated;
 use crate::words::{Ask, tenths_of};
+use cookie_client::CookieClient;
 use d_wait::Domain;
 use deer_wait::Deer;
 use eer_wait::Eer;
+use prcu_marks::{Client, OpenGate};
 use seat_table::{CitrusTable, WaitPart};
 use std::alloc::Global;
 use std::io;
 use std::rt::Runtime;
-use std::sync::Wait;
+use std::sync::{Mutex, Wait};
 use std::thread::Threads;
 
 /// So many rounds at most.
@@ -20,14 +24,6 @@ pub const MOST_ROUNDS: u32 = 1_000_000;
 
 // How many keys the tree has before the writer begins.
 const KEYS: u32 = 1000;
-
-// What is deleted, and how long a section lasts.
-const KINDS: [(Deletes, u64); 4] = [
-    (Deletes::Leaves, 1),
-    (Deletes::Leaves, 10),
-    (Deletes::Leaves, 100),
-    (Deletes::Middles, 10),
-];
 
 /// Measures each row for each waiter, and writes a line for each.
 pub fn measure_all<R: Threads + Wait + Sync + Runtime>(
@@ -49,18 +45,27 @@ fn measure_rows<R: Threads + Wait + Sync + Runtime, W: WaitPart + Sync>(
 ) -> io::Result<()>
     requires way { W.WAY ≤ 2 }
 {
-    for (deletes, section) in KINDS {
-        for rest in Rest::ALL {
-            for holds in Holds::ALL {
-                let row = Row {
-                    deletes,
-                    section,
-                    rest,
-                    holds,
-                };
-                let tally = measure::<R, W>(rt, alloc, row, ask)?;
-                write_line(rt, waiter, row, tally, ask)?;
-            }
+    for kind in Kind::ALL {
+        measure_kind::<R, W>(rt, alloc, waiter, kind, ask)?;
+    }
+    Ok(())
+}
+
+// Measures each row of a kind.
+fn measure_kind<R: Threads + Wait + Sync + Runtime, W: WaitPart + Sync>(
+    rt: &R,
+    alloc: Global,
+    waiter: &str,
+    kind: Kind,
+    ask: &Ask,
+) -> io::Result<()>
+    requires way { W.WAY ≤ 2 }
+{
+    for rest in Rest::ALL {
+        for holds in Holds::ALL {
+            let row = Row { kind, rest, holds };
+            let tally = measure::<R, W>(rt, alloc, row, ask)?;
+            write_line(rt, waiter, row, tally, ask)?;
         }
     }
     Ok(())
@@ -69,12 +74,11 @@ fn measure_rows<R: Threads + Wait + Sync + Runtime, W: WaitPart + Sync>(
 // What the two threads do in a row. Where no times are asked for a section is short.
 fn work_of(row: Row, ask: &Ask) -> Work {
     let unit = if ask.timed { 1_000_000 } else { 1000 };
-    let section = row.section.saturating_mul(unit);
+    let section = row.kind.section.saturating_mul(unit);
     Work {
-        deletes: row.deletes,
+        middles: row.kind.middles,
         section,
-        rest: row.rest.nanos_of(section),
-        holds: row.holds,
+        rest: (section / 10).saturating_mul(row.rest.tenths),
         rounds: ask.rounds,
     }
 }
@@ -88,13 +92,37 @@ fn measure<R: Threads + Wait + Sync + Runtime, W: WaitPart + Sync>(
 ) -> io::Result<Tally>
     requires way { W.WAY ≤ 2 }
 {
-    let work = work_of(row, ask);
     let Ok((table, seat)) = CitrusTable::<W>::new(alloc, KEYS + 64, 2, 1 << 36) else {
         return Err(io::Error::from(io::ErrorKind::OutOfMemory));
     };
     let (writer, reader) = seat.split(&table, 1, 0);
-    let writer = fill(rt, &table, writer, KEYS);
-    write_beside(rt, &table, writer, reader, work)
+    let writer = fill(rt, Seated::new(&table, writer), KEYS);
+    let stop = Mutex::new(false);
+    let work = work_of(row, ask);
+    let reading = Reading {
+        seated: Seated::new(&table, reader),
+        work,
+        stop: &stop,
+    };
+    if row.holds.cookies {
+        let (table, seat) = writer.parts();
+        let client = CookieClient::new(table, seat, &OpenGate);
+        write_beside(rt, reading, client)
+    } else {
+        write_beside(rt, reading, writer.client())
+    }
+}
+
+// What the calls of the writer with this client take beside the reader.
+fn write_beside<'a, R: Threads + Wait + Sync + Runtime, W: WaitPart + Sync, C: Client + Drop>(
+    rt: &R,
+    reading: Reading<'a, W>,
+    client: C,
+) -> io::Result<Tally> {
+    let work = reading.work;
+    let stop = reading.stop;
+    let ((), tally) = side_by_side(rt, reading, Writing { client, work, stop });
+    tally
 }
 
 // A line: the row, and where they are asked for, how many calls the writer made, and what they took.
@@ -105,10 +133,10 @@ fn write_line<R: Runtime>(
     tally: Tally,
     ask: &Ask,
 ) -> io::Result<()> {
-    let section = row.section;
-    let deletes = row.deletes.name();
-    let rest = row.rest.name();
-    let holds = row.holds.name();
+    let section = row.kind.section;
+    let deletes = row.kind.name;
+    let rest = row.rest.name;
+    let holds = row.holds.name;
     if !ask.timed {
         return println!(rt;
             "{waiter} waiter, sections of {section}, {deletes}, {rest}, {holds}: {} sections",

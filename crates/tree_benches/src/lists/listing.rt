@@ -2,17 +2,17 @@
 ghost use Rattle.std.specs.Prelude.{◌≡◌};
 ghost use Rattle.seat_table.specs.Seats.{IsQuietSeat};
 
-use citrus_tree::TreeClient;
+use crate::jobs::Job;
+use crate::seated::Seated;
 use exact_list::{Listed, Page, list};
 use key_interval::Keys;
-use prcu_marks::{Client, OpenGate};
+use prcu_marks::Client;
 use prcu_model::Op;
-use seat_table::{CitrusTable, Seat, WaitPart};
+use seat_table::WaitPart;
 use std::io;
-use std::rt::Runtime;
 use std::sync::{Mutex, Wait};
-use std::thread::{Threads, join};
-use std::time::Instant;
+use std::thread::Threads;
+use std::time::{Clock, Instant};
 use workload::drawing::{drawn, next_state};
 
 /// How many different keys are drawn.
@@ -37,6 +37,16 @@ pub struct Tally {
     pub moved: u32,
 }
 
+impl Tally {
+    // One list more, which ended so and gave so many pairs.
+    fn add(&mut self, listed: Listed, pairs: u32) {
+        match listed {
+            Listed::Moved { .. } => self.moved = self.moved.saturating_add(1),
+            _ => self.pairs = self.pairs.saturating_add(u64::from(pairs)),
+        }
+    }
+}
+
 /// Puts so many keys.
 pub fn fill<R: Wait, C: Client>(rt: &R, client: &mut C, shape: Shape, count: u32) {
     let mut state = 12_345;
@@ -53,75 +63,73 @@ pub fn fill<R: Wait, C: Client>(rt: &R, client: &mut C, shape: Shape, count: u32
     }
 }
 
-/// Makes so many lists, one after another, each by one try, from keys of the lower half on.
-pub fn list_often<R: Wait + Runtime, W: WaitPart>(
+/// So many lists, one after another, each by one try, from keys of the lower half on. At their end it says that there are no more.
+#[derive(Drop)]
+pub struct Listing<'a, W: WaitPart> {
+    pub seated: Seated<'a, W>,
+    pub page: Page,
+    pub rounds: u32,
+    pub stop: &'a Mutex<bool>,
+}
+
+impl<'a, W: WaitPart> Job for Listing<'a, W> {
+    type Told = io::Result<Tally>;
+
+    fn run<R: Threads + Wait + Sync + Clock>(self, rt: &R) -> io::Result<Tally> {
+        let tally = list_often(rt, self.seated, self.page, self.rounds);
+        *self.stop.lock(rt) = true;
+        tally
+    }
+}
+
+fn list_often<R: Wait + Clock, W: WaitPart>(
     rt: &R,
-    table: &CitrusTable<W>,
-    mut seat: Seat<W>,
-    page: &mut Page,
+    seated: Seated<'_, W>,
+    mut page: Page,
     rounds: u32,
-) -> io::Result<Tally>
-    requires table { seat.table ≡ table.now }
-    requires quiet { IsQuietSeat seat }
-{
+) -> io::Result<Tally> {
+    let (table, mut seat) = seated.parts();
     let mut state = 1;
-    let mut pairs = 0u64;
-    let mut moved = 0u32;
+    let mut tally = Tally {
+        nanos: 0,
+        pairs: 0,
+        moved: 0,
+    };
     let begun = Instant::now(rt)?;
     for _ in 0..rounds {
         state = next_state(state);
         let keys = Keys::between(drawn(state) % (KEYS / 2), u64::MAX);
-        match list(rt, table, &mut seat, keys, page, 1) {
-            Listed::Moved { .. } => moved = moved.saturating_add(1),
-            _ => pairs = pairs.saturating_add(u64::from(page.count())),
-        }
+        let listed = list(rt, table, &mut seat, keys, &mut page, 1);
+        tally.add(listed, page.count());
     }
-    let nanos = begun.elapsed(rt)?.as_nanos();
-    Ok(Tally {
-        nanos,
-        pairs,
-        moved,
-    })
+    tally.nanos = begun.elapsed(rt)?.as_nanos();
+    Ok(tally)
 }
 
-// Puts and deletes drawn keys until it is told to stop, or has no means any more.
-fn update_until_stopped<R: Wait, C: Client + Drop>(rt: &R, mut client: C, stop: &Mutex<bool>) {
-    let mut state = 99;
-    for _ in 0..client.remaining() {
-        if *stop.lock(rt) || client.remaining() == 0 {
-            return;
-        }
-        state = next_state(state);
-        let key = drawn(state);
-        client.call(rt, Op::Put { key, value: 1 });
-        if client.remaining() == 0 {
-            return;
-        }
-        client.call(rt, Op::Del { key });
-    }
+/// Puts and deletes of drawn keys, until the job is told to stop, or has no means any more.
+#[derive(Drop)]
+pub struct Updating<'a, C> {
+    pub client: C,
+    pub stop: &'a Mutex<bool>,
 }
 
-/// The same beside a thread that updates the tree.
-pub fn list_beside<R: Threads + Wait + Sync + Runtime, W: WaitPart + Sync>(
-    rt: &R,
-    table: &CitrusTable<W>,
-    seat: Seat<W>,
-    client: TreeClient<'_, W, OpenGate>,
-    page: &mut Page,
-    rounds: u32,
-) -> io::Result<Tally>
-    requires table { seat.table ≡ table.now }
-    requires quiet { IsQuietSeat seat }
-{
-    let stop = Mutex::new(false);
-    let ((), tally) = join(
-        rt,
-        || update_until_stopped(rt, client, &stop),
-        || {
-            let tally = list_often(rt, table, seat, page, rounds);
-            *stop.lock(rt) = true;
-            tally
-        },
-    );
-    tally
+impl<'a, C: Client + Drop> Job for Updating<'a, C> {
+    type Told = ();
+
+    fn run<R: Threads + Wait + Sync + Clock>(self, rt: &R) {
+        let mut client = self.client;
+        let mut state = 99;
+        for _ in 0..client.remaining() {
+            if *self.stop.lock(rt) || client.remaining() == 0 {
+                return;
+            }
+            state = next_state(state);
+            let key = drawn(state);
+            client.call(rt, Op::Put { key, value: 1 });
+            if client.remaining() == 0 {
+                return;
+            }
+            client.call(rt, Op::Del { key });
+        }
+    }
 }

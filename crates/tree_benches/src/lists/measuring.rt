@@ -1,6 +1,8 @@
 //! Which lists are made and timed, and what is written of them.
 
-use crate::lists::listing::{Shape, Tally, fill, list_beside, list_often};
+use crate::jobs::{Job, side_by_side};
+use crate::lists::listing::{Listing, Shape, Tally, Updating, fill};
+use crate::seated::Seated;
 use crate::words::{Ask, tenths_of};
 use citrus_tree::TreeClient;
 use eer_wait::Eer;
@@ -10,7 +12,7 @@ use seat_table::CitrusTable;
 use std::alloc::Global;
 use std::io;
 use std::rt::Runtime;
-use std::sync::Wait;
+use std::sync::{Mutex, Wait};
 use std::thread::Threads;
 
 /// So many rounds at most.
@@ -73,6 +75,7 @@ pub fn measure_all<R: Threads + Wait + Sync + Runtime>(
     Ok(())
 }
 
+// What comes of the lists of a row.
 fn measure<R: Threads + Wait + Sync + Runtime>(
     rt: &R,
     alloc: Global,
@@ -80,25 +83,48 @@ fn measure<R: Threads + Wait + Sync + Runtime>(
     beside: bool,
     rounds: u32,
 ) -> io::Result<Tally> {
-    let full = || io::Error::from(io::ErrorKind::OutOfMemory);
-    let Ok((table, seat)) = CitrusTable::<Eer>::new(alloc, row.keys.min(1_000_000) + 64, 2, 1 << 36)
-    else {
-        return Err(full());
+    let slots = row.keys.min(1_000_000) + 64;
+    let Ok((table, seat)) = CitrusTable::<Eer>::new(alloc, slots, 2, 1 << 36) else {
+        return Err(io::Error::from(io::ErrorKind::OutOfMemory));
     };
-    let Ok(mut page) = Page::new(alloc, row.page.max(1)) else {
-        return Err(full());
+    let Ok(page) = Page::new(alloc, row.page.max(1)) else {
+        return Err(io::Error::from(io::ErrorKind::OutOfMemory));
     };
     let (seat, other) = seat.split(&table, 1, 0);
     let mut client = TreeClient::new(&table, seat, &OpenGate);
     fill(rt, &mut client, row.shape, row.keys);
-    if beside {
-        list_beside(rt, &table, other, client, &mut page, rounds)
-    } else {
-        list_often(rt, &table, other, &mut page, rounds)
-    }
+    list_by(rt, Seated::new(&table, other), client, page, beside, rounds)
 }
 
-// A line: the row, and where they are asked for, what a pair took and how many of the lists moved.
+// What comes of the lists that this seat makes, at rest or beside the client.
+fn list_by<'a, R: Threads + Wait + Sync + Runtime>(
+    rt: &R,
+    seated: Seated<'a, Eer>,
+    client: TreeClient<'a, Eer, OpenGate>,
+    page: Page,
+    beside: bool,
+    rounds: u32,
+) -> io::Result<Tally> {
+    let stop = Mutex::new(false);
+    let listing = Listing {
+        seated,
+        page,
+        rounds,
+        stop: &stop,
+    };
+    if !beside {
+        return listing.run(rt);
+    }
+    let updating = Updating {
+        client,
+        stop: &stop,
+    };
+    let ((), tally) = side_by_side(rt, updating, listing);
+    tally
+}
+
+// A line: the row, and where they are asked for, what a pair took, how many of the lists moved, and how many pairs were listed. Where
+// each list moved no pair took any time.
 fn write_line<R: Runtime>(
     rt: &R,
     name: &str,
@@ -106,15 +132,16 @@ fn write_line<R: Runtime>(
     tally: Tally,
     ask: &Ask,
 ) -> io::Result<()> {
+    let rounds = ask.rounds;
     if !ask.timed {
-        return println!(rt; "{name}, {place}: {} lists", ask.rounds);
+        return println!(rt; "{name}, {place}: {rounds} lists");
     }
-    if tally.pairs == 0 {
-        return println!(rt; "{name}, {place}: {} of {} moved", tally.moved, ask.rounds);
+    let Tally { pairs, moved, .. } = tally;
+    let (whole, tenth) = tenths_of(tally.nanos, pairs);
+    if pairs == 0 {
+        return println!(rt; "{name}, {place}: {moved} of {rounds} moved");
     }
-    let (whole, tenth) = tenths_of(tally.nanos, tally.pairs);
     println!(rt;
-        "{name}, {place}: {whole}.{tenth} ns a pair, {} of {} moved",
-        tally.moved, ask.rounds
+        "{name}, {place}: {whole}.{tenth} ns a pair, {moved} of {rounds} moved, {pairs} pairs"
     )
 }

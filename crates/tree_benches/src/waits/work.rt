@@ -1,29 +1,42 @@
-//! The same work in one, two or four threads, each with a seat of its own on one table.
-ghost use Rattle.std.specs.Prelude.{◌≡◌, ◌≤◌, [], None};
+//! What a thread does with a seat of its own.
+ghost use Rattle.std.specs.Prelude.{◌≡◌, [], None};
 ghost use Rattle.seat_table.specs.Seats.{IsQuietSeat};
 
+use crate::jobs::Job;
+use crate::seated::Seated;
 use key_interval::Keys;
 use seat_table::{CitrusTable, Seat, WaitPart, wait_for_readers};
 use std::sync::Wait;
-use std::thread::{Threads, join};
+use std::thread::Threads;
+use std::time::Clock;
 
 /// What a thread does in a round.
-#[derive(Drop)]
+#[derive(Clone, Copy)]
 pub enum Work {
     /// It enters a section with a key and leaves it.
     Section,
-    /// It waits for the readers with one of these keys.
-    Wait { keys: Keys },
+    /// It waits for the readers with one of eight keys.
+    WaitForFew,
+    /// It waits for all readers.
+    WaitForAll,
+}
+
+/// So many rounds of work.
+#[derive(Drop)]
+pub struct Rounds<'a, W: WaitPart> {
+    pub seated: Seated<'a, W>,
+    pub work: Work,
+    pub count: u32,
 }
 
 // Enters and leaves so many sections, with one key after another.
-fn read<W: WaitPart>(table: &CitrusTable<W>, mut seat: Seat<W>, rounds: u32)
-    requires table { seat.table ≡ table.now }
-    requires quiet { IsQuietSeat seat }
+fn read<W: WaitPart>(table: &CitrusTable<W>, seat: &mut Seat<W>, rounds: u32)
+    requires table { seat.old.table ≡ table.now }
+    requires quiet { IsQuietSeat seat.old }
 {
     for key in 0..rounds {
-        W::enter(table, &mut seat, u64::from(key));
-        W::leave(table, &mut seat);
+        W::enter(table, seat, u64::from(key));
+        W::leave(table, seat);
     }
 }
 
@@ -31,84 +44,32 @@ fn read<W: WaitPart>(table: &CitrusTable<W>, mut seat: Seat<W>, rounds: u32)
 fn wait<R: Wait, W: WaitPart>(
     rt: &R,
     table: &CitrusTable<W>,
-    mut seat: Seat<W>,
+    seat: &mut Seat<W>,
     keys: Keys,
     rounds: u32,
 )
-    requires table { seat.table ≡ table.now }
-    requires quiet { IsQuietSeat seat }
+    requires table { seat.old.table ≡ table.now }
+    requires quiet { IsQuietSeat seat.old }
 {
     for _ in 0..rounds {
         if seat.tickets() == 0 {
             return;
         }
-        wait_for_readers(rt, table, &mut seat, keys);
+        wait_for_readers(rt, table, seat, keys);
     }
 }
 
-/// Does the work so many times, in this thread.
-pub fn work_alone<R: Wait, W: WaitPart>(
-    rt: &R,
-    table: &CitrusTable<W>,
-    seat: Seat<W>,
-    work: &Work,
-    rounds: u32,
-)
-    requires table { seat.table ≡ table.now }
-    requires quiet { IsQuietSeat seat }
-{
-    match work {
-        Work::Section => read(table, seat, rounds),
-        Work::Wait { keys } => wait(rt, table, seat, *keys, rounds),
+impl<'a, W: WaitPart> Job for Rounds<'a, W> {
+    /// How many waits were begun.
+    type Told = u64;
+
+    fn run<R: Threads + Wait + Sync + Clock>(self, rt: &R) -> u64 {
+        let (table, mut seat) = self.seated.parts();
+        match self.work {
+            Work::Section => read(table, &mut seat, self.count),
+            Work::WaitForFew => wait(rt, table, &mut seat, Keys::between(7, 15), self.count),
+            Work::WaitForAll => wait(rt, table, &mut seat, Keys::all(), self.count),
+        }
+        seat.waits()
     }
-}
-
-/// Does the work so many times in each of two threads, which share the tickets.
-pub fn work_by_two<R: Threads + Wait + Sync, W: WaitPart + Sync>(
-    rt: &R,
-    table: &CitrusTable<W>,
-    seat: Seat<W>,
-    work: &Work,
-    rounds: u32,
-)
-    requires table { seat.table ≡ table.now }
-    requires quiet { IsQuietSeat seat }
-    requires places { 2 ≤ seat.view.allowance.places }
-{
-    let tickets = seat.tickets() / 2;
-    let (first, second) = seat.split(table, 1, tickets);
-    join(
-        rt,
-        || -> ()
-            requires { (first.table ≡ table.now) × IsQuietSeat first }
-        { work_alone(rt, table, first, work, rounds) },
-        || -> ()
-            requires { (second.table ≡ table.now) × IsQuietSeat second }
-        { work_alone(rt, table, second, work, rounds) },
-    );
-}
-
-/// Does the work so many times in each of four threads, which share the tickets.
-pub fn work_by_four<R: Threads + Wait + Sync, W: WaitPart + Sync>(
-    rt: &R,
-    table: &CitrusTable<W>,
-    seat: Seat<W>,
-    work: &Work,
-    rounds: u32,
-)
-    requires table { seat.table ≡ table.now }
-    requires quiet { IsQuietSeat seat }
-    requires places { seat.view.allowance.places ≡ 4 }
-{
-    let tickets = seat.tickets() / 2;
-    let (first, second) = seat.split(table, 2, tickets);
-    join(
-        rt,
-        || -> ()
-            requires { (first.table ≡ table.now) × IsQuietSeat first × (first.view.allowance.places ≡ 2) }
-        { work_by_two(rt, table, first, work, rounds) },
-        || -> ()
-            requires { (second.table ≡ table.now) × IsQuietSeat second × (second.view.allowance.places ≡ 2) }
-        { work_by_two(rt, table, second, work, rounds) },
-    );
 }

@@ -1,9 +1,11 @@
 // Sections and waits of each waiter in one, two and four threads: the atomic accesses of the bench `waits` of crates/tree_benches on
-// the same words, and nothing else. `waits ROUNDS` writes a line for each as that program does with the word `times`.
+// the same words, and nothing else. `waits ROUNDS [--packed]` writes a line for each as that program does with the word `times`.
 #include "waiters.hpp"
 #include <chrono>
 #include <cstdio>
 #include <cstdlib>
+#include <string>
+#include <thread>
 
 enum class Work { Section, WaitFew, WaitAll };
 
@@ -18,13 +20,14 @@ template <class W> __attribute__((noinline)) void wait(Words &words, Seat seat, 
     for (uint32_t i = 0; i < rounds && seat.tickets > 0; i++) {
         seat.tickets--;
         seat.waits++;
-        Grace grace{keys, words[0].fetch_add(1)};
+        Grace grace{keys, words[W::Layout::clock].fetch_add(1)};
         while (!W::poll(words, seat, grace, places)) std::this_thread::yield();
     }
 }
 
 template <class W> void measure(const char *what, Work work, uint32_t places, uint32_t rounds) {
-    Words words = W::made(places);
+    Words words(W::end(places));
+    W::set_up(words, places);
     const Keys keys = work == Work::WaitAll ? Keys{0, UINT64_MAX} : Keys{8, 15};
     const auto run = [&](uint32_t place) {
         Seat seat{place, rounds, {}};
@@ -46,10 +49,15 @@ template <class W> void measure_all(uint32_t rounds) {
     for (uint32_t places : {1, 2, 4}) measure<W>("wait for all keys", Work::WaitAll, places, rounds);
 }
 
+template <class L> void measure_waiters(uint32_t rounds) {
+    measure_all<Eer<L>>(rounds);
+    measure_all<Domain<L>>(rounds);
+    measure_all<Deer<L>>(rounds);
+}
+
 int main(int count, char **args) {
     if (count < 2) return 2;
     const uint32_t rounds = strtoul(args[1], nullptr, 10);
-    measure_all<Eer>(rounds);
-    measure_all<Domain>(rounds);
-    measure_all<Deer>(rounds);
+    if (count > 2 && args[2] == std::string("--packed")) measure_waiters<Packed>(rounds);
+    else measure_waiters<Spaced>(rounds);
 }

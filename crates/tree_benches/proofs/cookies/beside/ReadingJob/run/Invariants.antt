@@ -1,5 +1,5 @@
 use Rattle.std.proofs.Common.{◌≡◌, [], None}
-use Rattle.tree_benches.proofs.cookies.beside.read_long.Given as goal
+use Rattle.tree_benches.proofs.cookies.beside.ReadingJob.run.Given as goal
 
 -- the seat is of this table, in no section, and without locks
 abbrev pub invariant-loop : goal.invariant-loop

@@ -1,0 +1,25 @@
+#!/usr/bin/env bash
+# Measures on a quiet machine, draws the pictures, and writes the tables of docs/BENCHMARKS.md:
+# `all.sh [--rounds N] [--operations N] [--seconds S] [--beside PROGRAM] [--commands] [--cookies]`. The first four are words of tree.sh. It
+# takes some four minutes. `--commands` measures whole commands too, by threads.sh and text.sh, some five minutes more, and `--cookies`
+# by cookies.sh a writer beside a reader that stays for long, a minute and a half. It stands outside the gate.
+set -eu
+here=$(dirname "$0")
+words=() more=()
+while [ $# -gt 0 ]; do
+    case $1 in
+        --commands) more+=(threads.sh text.sh); shift ;;
+        --cookies) more+=(cookies.sh); shift ;;
+        --rounds | --operations | --seconds | --beside) words+=("$1" "${2:?}"); shift 2 ;;
+        *) echo "usage: all.sh [--rounds N] [--operations N] [--seconds S] [--beside PROGRAM] [--commands] [--cookies]" >&2; exit 2 ;;
+    esac
+done
+# A subject that can't be measured here keeps the numbers that it had.
+failed=()
+measure() { "$here/$1" "${@:2}" || failed+=("$1"); echo "$1 is done, after $SECONDS s" >&2; }
+measure tree.sh "${words[@]}"
+for script in growth.sh waits.sh lists.sh "${more[@]}"; do measure "$script"; done
+measure plots.sh >/dev/null
+measure tables.sh
+"$here/compare.sh" || true
+[ ${#failed[@]} = 0 ] || { echo "not measured, or not as it should be: ${failed[*]}" >&2; exit 1; }

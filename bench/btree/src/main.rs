@@ -1,0 +1,25 @@
+//! A `BTreeMap` under one lock: std's `Mutex` and `RwLock`, and with the feature `parking_lot` those of that crate.
+//! `btree [--operations N] [--seconds S] calls|keys|crowd` writes the lines that the programs of bench/cpp write.
+
+mod maps;
+mod measuring;
+mod mixes;
+
+use maps::{Locked, Pairs};
+use measuring::{measure_all, Options};
+use std::process::ExitCode;
+
+fn main() -> ExitCode {
+    let Some(options) = Options::from_words(std::env::args().skip(1)) else {
+        eprintln!("usage: btree [--operations N] [--seconds S] calls|keys|crowd");
+        return ExitCode::from(2);
+    };
+    measure_all(&options, "BTreeMap under Mutex", Locked::<std::sync::Mutex<Pairs>>::default);
+    measure_all(&options, "BTreeMap under RwLock", Locked::<std::sync::RwLock<Pairs>>::default);
+    #[cfg(feature = "parking_lot")]
+    {
+        measure_all(&options, "BTreeMap under parking_lot Mutex", Locked::<parking_lot::Mutex<Pairs>>::default);
+        measure_all(&options, "BTreeMap under parking_lot RwLock", Locked::<parking_lot::RwLock<Pairs>>::default);
+    }
+    ExitCode::SUCCESS
+}

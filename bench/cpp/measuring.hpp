@@ -1,0 +1,141 @@
+// Threads that make drawn operations on one dictionary, timed. Each program here writes a line for each cell of a subject, as
+// `tree_benches times calls` does: `NAME, MIX, N threads: NS ns, answers SUM`. A dictionary has `client(place)`; a client has `call`,
+// which answers a found value, or 1 (or the update's number) where an update changed something, else 0; and `may_call`, whether it has
+// the means for one more.
+#pragma once
+#include "mixes.hpp"
+#include <algorithm>
+#include <chrono>
+#include <cinttypes>
+#include <cstdio>
+#include <cstdlib>
+#include <memory>
+#include <string>
+#include <thread>
+#include <vector>
+
+using Clock = std::chrono::steady_clock;
+
+enum class Subject { Calls, Keys, Places, Crowd };
+
+struct Options {
+    Subject subject = Subject::Calls;
+    uint32_t operations = 100000; // of each thread
+    double seconds = 1;           // a cell ends when they have passed
+    bool packed = false;
+};
+
+inline Options options_of(int count, char **words) {
+    Options options;
+    for (int i = 1; i < count; i++) {
+        const std::string word = words[i];
+        const auto number = [&] { return ++i < count ? strtod(words[i], nullptr) : 0; };
+        if (word == "--operations") options.operations = number();
+        else if (word == "--seconds") options.seconds = number();
+        else if (word == "--packed") options.packed = true;
+        else if (word == "calls") options.subject = Subject::Calls;
+        else if (word == "keys") options.subject = Subject::Keys;
+        else if (word == "places") options.subject = Subject::Places;
+        else if (word == "crowd") options.subject = Subject::Crowd;
+        else {
+            fprintf(stderr, "usage: %s [--operations N] [--seconds S] [--packed] calls|keys|places|crowd\n", words[0]);
+            exit(2);
+        }
+    }
+    return options;
+}
+
+struct Done {
+    uint64_t operations = 0, sum = 0;
+    bool cut = false;
+};
+
+// Puts keys before the work begins, where the mix has them put.
+template <class Client, class Mix> void fill(Client &client, const Mix &mix) {
+    Draws draws{12345};
+    for (uint64_t i = 0; i < mix.first_puts && client.may_call(); i++) {
+        const uint64_t key = draws.next() % mix.keys;
+        client.call({Kind::Put, key, draws.state});
+    }
+}
+
+template <class Client, class Mix>
+__attribute__((noinline)) Done work(Client &client, const Mix &mix, uint32_t place, uint32_t operations, Clock::time_point end) {
+    Done done;
+    Draws draws{place};
+    while (done.operations < operations && client.may_call()) {
+        done.sum += client.call(mix.draw(draws, place));
+        done.operations++;
+        if (done.operations % 256 == 0 && Clock::now() > end) {
+            done.cut = done.operations < operations;
+            break;
+        }
+    }
+    return done;
+}
+
+// The places are those of the dictionary; so many of them have a thread.
+struct Crew {
+    uint32_t threads, places;
+};
+
+template <class Dictionary, class Mix>
+void measure(Dictionary &dictionary, const std::string &name, const Mix &mix, Crew crew, const Options &options) {
+    auto first = dictionary.client(0);
+    fill(first, mix);
+    std::vector<Done> done(crew.threads);
+    const auto begun = Clock::now();
+    const auto end = begun + std::chrono::duration_cast<Clock::duration>(std::chrono::duration<double>(options.seconds));
+    std::vector<std::thread> threads;
+    for (uint32_t place = 1; place < crew.threads; place++)
+        threads.emplace_back([&, place] {
+            auto client = dictionary.client(place);
+            done[place] = work(client, mix, place, options.operations, end);
+        });
+    done[0] = work(first, mix, 0, options.operations, end);
+    for (auto &thread : threads) thread.join();
+    const std::chrono::duration<double, std::nano> passed = Clock::now() - begun;
+
+    Done all;
+    for (const Done &one : done) {
+        all.operations += one.operations;
+        all.sum += one.sum;
+        all.cut |= one.cut;
+    }
+    printf("%s, %s, %u threads", name.c_str(), mix.name().c_str(), crew.threads);
+    if (crew.places != crew.threads) printf(" of %u", crew.places);
+    const double nanos = passed.count() * crew.threads / all.operations;
+    printf(": %.1f ns%s, answers %" PRIu64 "\n", nanos, all.cut ? ", cut" : "", all.sum);
+    fflush(stdout);
+}
+
+// What a dictionary is made for.
+struct Room {
+    uint64_t keys;
+    uint32_t places, operations;
+};
+
+// Measures all cells of the subject, each on a dictionary of its own: `make(room)`.
+template <class Make> void measure_all(const std::string &name, const Options &options, const Make &make) {
+    const auto cell = [&](const auto &mix, Crew crew) {
+        const auto dictionary = make(Room{mix.keys, crew.places, options.operations});
+        measure(*dictionary, name, mix, crew, options);
+    };
+    switch (options.subject) {
+    case Subject::Calls:
+        for_each_mix([&](const auto &mix) {
+            for (const uint32_t threads : {1, 2, 4}) cell(mix, {threads, threads});
+        });
+        break;
+    case Subject::Keys:
+        for (const uint64_t keys : {1000, 10000, 100000, 1000000})
+            for (const uint32_t threads : {1, 4}) cell(MostlyGets{keys}, {threads, threads});
+        break;
+    case Subject::Places:
+        for (const uint32_t places : {1, 2, 4, 8, 16, 32, 64}) cell(Uniform<50, 1000>{}, {std::min(places, 4u), places});
+        break;
+    case Subject::Crowd:
+        for (const uint32_t threads : {1, 2, 4, 8, 16, 32, 64}) cell(Uniform<90, 20000>{}, {threads, threads});
+        break;
+    }
+}

@@ -1,0 +1,128 @@
+// The tree's table and its slots: the atomic accesses of crates/seat_table and node_slots on the same words, in the same order.
+#pragma once
+#include "backoff.hpp"
+#include "waiters.hpp"
+#include <algorithm>
+
+struct TreeSeat : Seat {
+    uint32_t hand = 0, spare = 0, seized = 0;
+    uint64_t free = 0, front = 0;
+    std::vector<uint32_t> retired;
+};
+
+template <class W> class TreeSlots {
+public:
+    using L = typename W::Layout;
+    static constexpr size_t most_retired = 15;
+
+    TreeSlots(uint32_t slots, uint32_t places)
+        : slots_(slots), places_(places), base_(W::end(places)), words_(base_ + 9 * (uint64_t(slots) + places + 1)) {
+        W::set_up(words_, places);
+        words_[L::free_count] = slots;
+        for (uint32_t slot = 0; slot <= places; slot++) state(slot) = 1;
+    }
+
+    TreeSeat seat(uint32_t place, uint64_t tickets) const {
+        TreeSeat seat;
+        seat.place = place;
+        seat.tickets = tickets;
+        seat.spare = place + 1;
+        seat.free = slots_;
+        seat.retired.reserve(most_retired + 1);
+        return seat;
+    }
+
+protected:
+    std::atomic<uint64_t> &at(uint32_t slot, Field field) { return words_[L::field(base_, slot, field)]; }
+    std::atomic<uint64_t> &front() { return words_[L::front]; }
+    void enter(TreeSeat &seat, uint64_t key) { W::enter(words_, seat, key); }
+    void leave(TreeSeat &seat) { W::leave(words_, seat); }
+
+    // What was found. It is the old value where the exchange was made.
+    static uint64_t exchange(std::atomic<uint64_t> &word, uint64_t old, uint64_t next) {
+        word.compare_exchange_strong(old, next);
+        return old;
+    }
+
+    // Takes a slot into the hand. Where none is free, the retired ones are waited for.
+    bool take_slot(TreeSeat &seat) {
+        if (take(seat)) return true;
+        if (seat.retired.empty()) return false;
+        reclaim(seat);
+        return take(seat);
+    }
+
+    void put_back(TreeSeat &seat) {
+        free_slot(seat, seat.hand);
+        seat.hand = 0;
+    }
+
+    // Before a delete: a spare slot for the copy, and room for what is retired.
+    void make_room(TreeSeat &seat) {
+        if (seat.retired.size() >= most_retired) return reclaim(seat);
+        if (seat.spare != 0) return;
+        if (!take(seat)) return reclaim(seat);
+        at(seat.hand, Life).load();
+        seat.spare = seat.hand;
+        seat.hand = 0;
+    }
+
+    void wait(TreeSeat &seat, Keys keys) {
+        seat.tickets--;
+        seat.waits++;
+        Grace grace{keys, words_[L::clock].fetch_add(1)};
+        Backoff backoff;
+        while (!W::poll(words_, seat, grace, places_)) backoff.snooze();
+    }
+
+private:
+    std::atomic<uint64_t> &state(uint32_t slot) { return words_[L::state(base_, slots_ + places_ + 1, slot)]; }
+
+    bool take(TreeSeat &seat) {
+        Backoff backoff;
+        uint64_t expected = std::max<uint64_t>(seat.free, 1);
+        for (;; backoff.spin()) {
+            const uint64_t found = exchange(words_[L::free_count], expected, expected - 1);
+            seat.free = found == expected ? expected - 1 : found;
+            if (found == expected) break;
+            if (found == 0) return false;
+            expected = found;
+        }
+        seat.tickets--;
+        uint32_t slot = seat.seized == 0 ? places_ + 1 + uint64_t(seat.place) * slots_ / places_ : next_slot(seat.seized);
+        while (exchange(state(slot), 0, 1) != 0) slot = next_slot(slot);
+        seat.hand = seat.seized = slot;
+        at(slot, Life).load();
+        return true;
+    }
+
+    uint32_t next_slot(uint32_t slot) const { return slot < slots_ + places_ ? slot + 1 : 1; }
+
+    void raise_life(uint32_t slot) {
+        const uint64_t life = at(slot, Life).load();
+        at(slot, Life).store(2 * (life / 2 + 1));
+    }
+
+    void free_slot(TreeSeat &seat, uint32_t slot) {
+        raise_life(slot);
+        state(slot).store(0);
+        seat.free = words_[L::free_count].fetch_add(1) + 1;
+    }
+
+    void reclaim(TreeSeat &seat) {
+        wait(seat, {0, UINT64_MAX});
+        for (const uint32_t slot : seat.retired) {
+            if (seat.spare == 0) {
+                raise_life(slot);
+                seat.spare = slot;
+            } else {
+                free_slot(seat, slot);
+            }
+        }
+        seat.retired.clear();
+    }
+
+    uint32_t slots_, places_;
+    uint64_t base_;
+    Words words_;
+};

@@ -1,0 +1,58 @@
+# For the other scripts here to read in: builds the programs that the tree is measured beside, where a source is newer, and says which
+# are left out. The first word of each in `peers` is a program, the others are words for it. TREE_BENCHES may name another proved program.
+# shellcheck shell=bash disable=SC2034
+set -eu
+top=$(cd "$(dirname "${BASH_SOURCE[0]}")/.." && pwd)
+out=$top/bench/out
+ours=${TREE_BENCHES:-$top/crates/tree_benches/out/tree_benches}
+# A large row of words gets a mapping of its own, whatever was freed before it: then its lines begin where the layout has them
+# (core_acts/src/layout.rt). Else the C library would take the rows of a program's later tables from its heap.
+export MALLOC_MMAP_THRESHOLD_=131072
+mkdir -p "$out"
+
+left_out() { echo "left out: $*" >&2; }
+
+# Whether the program is there, and newer than all in a folder.
+is_newest() { [ -x "$1" ] && [ -z "$(find "$2" -type f ! -name Cargo.lock -newer "$1" -print -quit)" ]; }
+
+# Builds bench/cpp/NAME.cpp: `build_cpp NAME [LIBRARY]`.
+build_cpp() {
+    is_newest "$out/$1" "$top/bench/cpp" || g++ -O2 -std=c++17 -pthread -o "$out/$1" "$top/bench/cpp/$1.cpp" ${2:+"-l$2"}
+}
+
+# The same where the header is there: `build_with HEADER PACKAGE NAME LIBRARY`.
+build_with() {
+    [ -e "/usr/include/$1" ] || { left_out "$3, since Debian's $2 isn't installed"; return 1; }
+    build_cpp "$3" "$4"
+}
+
+# Builds the program on BTreeMap, with the locks of parking_lot where Debian's sources of it are there.
+build_btree() {
+    local sources=/usr/share/cargo/registry folder=$top/bench/btree
+    hash rustc 2>/dev/null || { left_out "BTreeMap, since there is no rustc"; return 1; }
+    ! is_newest "$out/btree" "$folder" || return 0
+    if hash cargo 2>/dev/null && compgen -G "$sources/parking_lot-0.12*" >/dev/null &&
+        (cd "$folder" && cargo build --quiet --release --offline --features parking_lot --target-dir "$out/btree_build" \
+            --config 'source.crates-io.replace-with="debian"' --config "source.debian.directory=\"$sources\"") &&
+        cp "$out/btree_build/release/btree" "$out/btree"; then
+        return
+    fi
+    left_out "the locks of parking_lot, which Debian's librust-parking-lot-dev has"
+    rustc -O --edition 2021 -o "$out/btree" "$folder/src/main.rs"
+}
+
+build_peers() {
+    build_cpp same
+    build_cpp citrus
+    build_cpp locked
+    peers=("$out/same" "$out/same --packed" "$out/citrus" "$out/locked")
+    ! build_btree || peers+=("$out/btree")
+    ! build_with oneapi/tbb/concurrent_map.h libtbb-dev tbb tbb || peers+=("$out/tbb")
+    ! build_with cds/init.h libcds-dev cds cds || peers+=("$out/cds")
+}
+
+# Whether the proved program stands. It is measured as it is.
+has_ours() {
+    [ -x "$ours" ] || { left_out "the proved tree, since $ours isn't built: rt run in crates/tree_benches builds it"; return 1; }
+    [ -z "$(find "$top/crates" -name '*.rt' -newer "$ours" -print -quit)" ] || echo "tree_benches is older than some source" >&2
+}

@@ -1,0 +1,172 @@
+#!/usr/bin/env bash
+# Writes the tables of docs/BENCHMARKS.md from the summaries in bench/results: what stands between `<!-- NAME -->` and
+# `<!-- end of NAME -->` is replaced where the summary of this name is there. `tables.sh NAME..` prints tables instead.
+set -eu
+# shellcheck source=bench/results.sh
+. "$(dirname "$0")/results.sh"
+page=$top/docs/BENCHMARKS.md
+
+# The head of a table: `head_of COLUMN..`.
+head_of() {
+    printf '| %s ' "$@"
+    echo '|'
+    printf '|---%.0s' "$@"
+    echo '|'
+}
+
+# The minima of the proved tree, and how many times those of C++ they are; then medians.
+tree() {
+    head_of gets keys threads first second third 'first, times C++' second third \
+        'first, median' 'best map under a lock' TBB 'skip list' Ellen 'plain CITRUS'
+    with_best "$1" | awk -F, '
+        BEGIN { split("90 50 load 98 100", mixes, " "); split("1 2 4", crews, " "); split("first second third", waiters, " ") }
+        { least[$1, $2, $4] = $6; median[$1, $2, $4] = $7; keys[$2] = $3 }
+        function ns(value) { return value == "" ? "-" : sprintf("%.0f", value) }
+        function times(ours, theirs) { return ours == "" || theirs == "" ? "-" : sprintf("%.2f", ours / theirs) }
+        END {
+            for (m = 1; m <= 5; m++) for (c = 1; c <= 3; c++) {
+                mix = mixes[m]; crew = crews[c]
+                row = "| " mix " | " keys[mix] " | " crew
+                for (w = 1; w <= 3; w++) row = row " | " ns(least["proved " waiters[w], mix, crew])
+                for (w = 1; w <= 3; w++) row = row " | " times(least["proved " waiters[w], mix, crew], least["C++ " waiters[w], mix, crew])
+                print row " | " ns(median["proved first", mix, crew]) " | " ns(median["best under a lock", mix, crew]) " | " \
+                    ns(median["TBB map", mix, crew]) " | " ns(median["libcds skip list", mix, crew]) " | " \
+                    ns(median["libcds Ellen tree", mix, crew]) " | " ns(median["plain CITRUS", mix, crew]) " |"
+            }
+        }'
+}
+
+# A row for each value of a column, with the medians of these series: `grown FILE COLUMN SERIES..`.
+grown() {
+    local file=$1 column=$2 IFS='|'
+    shift 2
+    with_best "$file" | awk -F, -v column="$column" -v names="$*" '
+        BEGIN { count = split(names, series, "|") }
+        { row = $column "," $4; if (!seen[row]++) order[++rows] = row; median[row, $1] = $7 }
+        END {
+            for (r = 1; r <= rows; r++) {
+                split(order[r], at, ",")
+                printf "%d,%d", at[1], at[2]
+                for (s = 1; s <= count; s++) printf ",%s", median[order[r], series[s]]
+                print ""
+            }
+        }' | sort -t, -k 1,1n -k 2,2n | awk -F, '{
+            printf "|"
+            for (i = 1; i <= NF; i++) printf " %s |", $i == "" ? "-" : sprintf("%.0f", $i)
+            print ""
+        }'
+}
+
+keys() {
+    head_of keys threads 'first waiter, C++' 'best map under a lock' TBB 'plain CITRUS'
+    grown "$1" 3 'C++ first' 'best under a lock' 'TBB map' 'plain CITRUS'
+}
+
+# Each row has what one, two and four threads take.
+waits() {
+    head_of waiter what 1 2 4 'times C++, 1' 2 4
+    awk -F, '/^#/ || /^waiter/ { next }
+        {
+            row = $1 " | " $2
+            if (row != last) { if (last) print "| " last " |" ns times " |"; last = row; ns = times = "" }
+            ns = ns " " $4 " |"
+            times = times (times ? " |" : "") sprintf(" %.2f", $4 / $5)
+        }
+        END { print "| " last " |" ns times " |" }' "$1"
+}
+
+lists() {
+    head_of 'pairs, of keys in the tree' 'at rest, ns a pair' 'beside a writer, ns a pair' 'lists that moved'
+    awk -F, '/^#/ || /^pairs/ { next }
+        $2 == "at rest" { rest = $3; next }
+        { printf "| %s | %s | %s | %d of %d |\n", $1, rest, $3, $4, $5 }' "$1"
+}
+
+# Seconds that pass, of each command in a row of its text.
+threads() {
+    head_of text operations scripts 'run, first waiter' second third hash 'C++'
+    awk -F, '/^#/ || /^what/ { next }
+        {
+            row = $2 " | " $3 " | " $4
+            if (!seen[row]++) order[++rows] = row
+            what = $1
+            sub(/^(run|load) --waiter /, "", what)
+            seconds[row, what == "run" ? "eer" : what] = $5
+        }
+        END {
+            split("eer d deer hash C++", whats, " ")
+            for (r = 1; r <= rows; r++) {
+                printf "| %s |", order[r]
+                for (w = 1; w <= 5; w++) printf " %s |", (order[r], whats[w]) in seconds ? sprintf("%.2f", seconds[order[r], whats[w]]) : "-"
+                print ""
+            }
+        }' "$1"
+}
+
+# Processor seconds of each command, how many times those of C++ they are, and the peak.
+text() {
+    head_of operations scripts 'run, s' 'times C++' MiB 'check, s' 'times C++' MiB 'load, s' 'times C++' MiB
+    awk -F, '/^#/ || /^what/ { next }
+        {
+            row = $2 " | " $3
+            if (!seen[row]++) order[++rows] = row
+            found[row] = found[row] sprintf(" | %.3f | %.2f | %.0f", $5, $5 / $8, $6)
+        }
+        END { for (r = 1; r <= rows; r++) print "| " order[r] found[order[r]] " |" }' "$1"
+}
+
+limits() {
+    head_of what command 'bytes read' 'bytes written' 'processor seconds' MiB
+    awk -F, '/^#/ || /^what/ { next } { printf "| %s | %s | %d | %d | %.2f | %.0f |\n", $1, $2, $3, $4, $6, $7 }' "$1"
+}
+
+# The rows of sections of 10 ms, in which the writer rests.
+cookies() {
+    head_of waiter deletes 'rest after each' 'at most, ms' 'with cookies' 'in the mean, µs' 'with cookies' 'long calls' 'with cookies'
+    awk -F, '$2 == "10 ms" && $4 != "none" {
+        printf "| %s | %s | %s | %s | %s | %s | %s | %d of %d | %d of %d |\n", $1, $3, $4, $5, $6, $7, $8, $9, $10, $11, $12 }' "$1"
+}
+
+# A table, and when and where it was measured.
+table() {
+    "$1" "$results/$1.csv"
+    echo
+    sed -n '1s/^# \([^,]*\), \(.*\)$/Measured on \1: \2./p' "$results/$1.csv"
+}
+
+# The pictures that are there.
+pictures() {
+    local name caption
+    while read -r name caption; do
+        [ ! -e "$top/docs/pictures/bench_$name.svg" ] || printf '![%s](pictures/bench_%s.svg)\n\n%s\n\n' "${caption%%.*}" "$name" "$caption"
+    done <<'END'
+threads Operations a second of all threads together, medians. A line that rises gains by threads.
+ratio The proved tree beside the same steps in C++, minima. At 1 it takes as long as the C++, below less.
+layout What it makes that words stand apart, at four threads with the first waiter, medians. Less is better.
+keys How an operation's time grows with the keys, medians. Both axes are logarithmic; the tree is that in C++.
+places How the time grows with the places of the table, and what more threads than processors give, medians. The tree is that in C++.
+END
+}
+
+# Puts a file in the page in place of what stands between the marks of this name: `put_in NAME FILE`.
+put_in() {
+    awk -v name="$1" -v file="$2" '
+        $0 == "<!-- end of " name " -->" { while ((getline line <file) > 0) print line; inside = 0 }
+        !inside { print }
+        $0 == "<!-- " name " -->" { inside = 1 }' "$page" >"$out/page"
+    cp "$out/page" "$page"
+}
+
+if [ $# -gt 0 ]; then
+    for name in "$@"; do table "$name"; done
+    exit
+fi
+out=$top/bench/out
+mkdir -p "$out"
+for name in tree keys waits lists threads text limits cookies; do
+    [ -e "$results/$name.csv" ] || continue
+    { echo; table "$name"; echo; } >"$out/table"
+    put_in "$name" "$out/table"
+done
+{ echo; pictures; } >"$out/table"
+put_in pictures "$out/table"
