@@ -44,6 +44,7 @@ PICTURES = {
         "deer_wait": "waits by reader and class",
         "waits_beside": "an example of waits alone",
         "seat_table": "the table, seats, one call a step",
+        "patience": "how a loop waits",
     },
     "laws": {
         "core_points": "what a call knows at each point",

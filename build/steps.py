@@ -27,16 +27,16 @@ def acts():
 def laws():
     """The crate that has the law of a kind."""
     found = {}
-    for path in sorted(glob.glob(f"{ROOT}/crates/core_*/src/laws.rt")):
+    for path in sorted(glob.glob(f"{ROOT}/crates/core_*/proofs/**/*.antt", recursive=True)):
         crate = os.path.relpath(path, ROOT).split("/")[1]
-        for number in re.findall(r"pub fn k(\d+)\(", text_of(os.path.relpath(path, ROOT))):
-            found[f"K{number}"] = crate
+        for kind in re.findall(r"^ *pub keeps\d+ : Keeps (K\d+)$", text_of(os.path.relpath(path, ROOT)), re.M):
+            found[kind] = crate
     return found
 
 
 def definitions():
     """Of each act the need and the view after it, and of each definition the file that has it."""
-    text = text_of("crates/core_acts/specs/Acts.antt").replace("MarkNode", "Mark")
+    text = re.sub(r"\n +", " ", text_of("crates/core_acts/specs/Acts.antt").replace("MarkNode", "Mark"))
     files = {name: file for file, names in re.findall(r"specs\.steps\.(\w+)\.\{([^}]*)\}", text) for name in names.split(", ")}
     needs, after = {}, {}
     for name, body in re.findall(r"^Needs k v \(?(\w+)[^=]*\)? = (.*)$", text, re.M):

@@ -18,15 +18,18 @@ use Rattle.d_wait.specs.Classes.{at_next}
 
 -- a step of a wait, by where it looks
 module _ {k : Shape} {v w : View} where
-  pub count_looked : {class side found : ℕ} {last : Bool} → Told k v (LookCount class side last) found w → LooksAt (λ field. field ≡ Count class side) v w
-  count_looked {class} {side} {found} {last} told = look_at (λ field. field ≡ Count class side) v w kinds.K31 (Count class side) found last told.marks told.goes refl
+  pub count_looked : {class side found : ℕ} {last : Bool} → Told k v (LookCount class side last) found w
+      → LooksAt (λ field. field ≡ Count class side) v w
+  count_looked {class} {side} {found} {last} told =
+      look_at (λ field. field ≡ Count class side) v w kinds.K31 (Count class side) found last told.marks told.goes refl
 
   -- a gate is no spot
   pub gate_looked : {class found : ℕ} (r : Reached) → Told k v (LoadGate class) found w → LooksAt (IsOnward r) v w
   gate_looked {class} {found} r told = gate_at (IsOnward r) v w kinds.K28 (Gate class) class found told.goes (λ none. none)
 
   pub gate_turned : {class found : ℕ} (r : Reached) → Told k v (TurnGate class) found w → LooksAt (IsOnward r) v w
-  gate_turned {class} {found} r told = step_at (IsOnward r) v w kinds.K32 (Gate class) found (ap (λ (z : View). z.trail) told.goes) (λ none. none)
+  gate_turned {class} {found} r told = step_at (IsOnward r) v w kinds.K32 (Gate class) found (ap (λ (z : View). z.trail) told.goes)
+      (λ none. none)
 
 -- from one place of a wait to a later one
 pub later_self : (r : Reached) → IsLater r r
@@ -37,33 +40,54 @@ later_then r s t first second field before = second field (first field before)
 
 module _ {W : Type 0} (grace : Grace W) where
   -- a gate that isn't turned may be loaded and turned
-  pub later_unturned : (gate : ℕ) (turned : Bool) → grace.turned ≡ false → IsLater (reached grace) (reached (record grace { gate = gate; turned = turned }))
+  pub later_unturned : (gate : ℕ) (turned : Bool) → grace.turned ≡ false
+      → IsLater (reached grace) (reached (record grace { gate = gate; turned = turned }))
   later_unturned gate turned unturned (Stamp p) before = before
-  later_unturned gate turned unturned (Count c side) before = ⊎_elim (λ (less : c < grace.class). inl less) (λ (on : (c ≡ grace.class) × (grace.turned ≡ true) × (side ≢ grace.gate % 2)). absurd (let e : false ≡ true = sym unturned ∙ on.1 in cc)) before
+  later_unturned gate turned unturned (Count c side) before =
+      ⊎_elim (λ (less : c < grace.class). inl less)
+      (λ (on : (c ≡ grace.class) × (grace.turned ≡ true) × (side ≢ grace.gate % 2)). absurd
+      (let e : false ≡ true = sym unturned ∙ on.1 in cc)) before
   later_unturned gate turned unturned (Row p c) before = before
   later_unturned gate turned unturned _ before = absurd before
 
   pub later_next : IsLater (reached grace) (reached (at_next grace))
   later_next (Stamp p) before = before
-  later_next (Count c side) before = ⊎_elim (λ (less : c < grace.class). inl (omega (arith, less))) (λ (on : (c ≡ grace.class) × (grace.turned ≡ true) × (side ≢ grace.gate % 2)). inl (omega (arith, on.0))) before
-  later_next (Row p c) before = ⊎_elim (λ (less : p < grace.place). inl less) (λ (on : (p ≡ grace.place) × (c < grace.class)). inr (on.0, omega (arith, on.1))) before
+  later_next (Count c side) before = ⊎_elim (λ (less : c < grace.class). inl (omega (arith, less)))
+      (λ (on : (c ≡ grace.class) × (grace.turned ≡ true) × (side ≢ grace.gate % 2)). inl (omega (arith, on.0))) before
+  later_next (Row p c) before = ⊎_elim (λ (less : p < grace.place). inl less)
+      (λ (on : (p ≡ grace.place) × (c < grace.class)). inr (on.0, omega (arith, on.1))) before
   later_next _ before = absurd before
 
   -- the sides that are looked at
   pub onward_unturned : (side : ℕ) → grace.turned ≡ false → IsOnward (reached grace) (Count grace.class side)
-  onward_unturned side unturned before = ⊎_elim (λ (less : grace.class < grace.class). omega (arith, less)) (λ (on : (grace.class ≡ grace.class) × (grace.turned ≡ true) × (side ≢ grace.gate % 2)). absurd (let e : false ≡ true = sym unturned ∙ on.1 in cc)) before
+  onward_unturned side unturned before = ⊎_elim (λ (less : grace.class < grace.class). omega (arith, less))
+      (λ (on : (grace.class ≡ grace.class) × (grace.turned ≡ true) × (side ≢ grace.gate % 2)). absurd
+      (let e : false ≡ true = sym unturned ∙ on.1 in cc)) before
 
   pub onward_named : IsOnward (reached grace) (Count grace.class (grace.gate % 2))
-  onward_named before = ⊎_elim (λ (less : grace.class < grace.class). omega (arith, less)) (λ (on : (grace.class ≡ grace.class) × (grace.turned ≡ true) × ((grace.gate % 2) ≢ grace.gate % 2)). on.2 refl) before
+  onward_named before = ⊎_elim (λ (less : grace.class < grace.class). omega (arith, less))
+      (λ (on : (grace.class ≡ grace.class) × (grace.turned ≡ true) × ((grace.gate % 2) ≢ grace.gate % 2)). on.2 refl) before
 
 -- a look after others
-pub looked_count : (r : Reached) (class side : ℕ) {u v w : View} → IsOnward r (Count class side) → LooksAt (IsOnward r) u v → LooksAt (λ field. field ≡ Count class side) v w → LooksAt (IsOnward r) u w
-looked_count r class side {u} {v} {w} there a b = looks_then (IsOnward r) u v w a (looks_as (λ field. field ≡ Count class side) (IsOnward r) (λ field is. subst (IsOnward r) (sym is) there) v w b)
+pub looked_count : (r : Reached) (class side : ℕ) {u v w : View} → IsOnward r (Count class side) → LooksAt (IsOnward r) u v
+    → LooksAt (λ field. field ≡ Count class side) v w → LooksAt (IsOnward r) u w
+looked_count r class side {u} {v} {w} there a b =
+    looks_then (IsOnward r) u v w a (looks_as (λ field. field ≡ Count class side) (IsOnward r)
+    (λ field is. subst (IsOnward r) (sym is) there) v w b)
+
+-- a look at the side that the gate names, after others that go on from an earlier place
+pub looked_named : {W : Type 0} (r : Reached) (here : Grace W) {u v w : View} → IsLater r (reached here) → LooksAt (IsOnward r) u v
+    → LooksAt (λ field. field ≡ Count here.class (here.gate % 2)) v w → LooksAt (IsOnward r) u w
+looked_named r here later a b =
+    looked_count r here.class (here.gate % 2) (λ before. onward_named here (later (Count here.class (here.gate % 2)) before)) a b
 
 -- looks from a later place after others
-pub looks_later : (r s : Reached) {u v w : View} → IsLater r s → LooksAt (IsOnward r) u v → LooksAt (IsOnward s) v w → LooksAt (IsOnward r) u w
-looks_later r s {u} {v} {w} later a b = looks_then (IsOnward r) u v w a (looks_as (IsOnward s) (IsOnward r) (λ field there before. there (later field before)) v w b)
+pub looks_later : (r s : Reached) {u v w : View} → IsLater r s → LooksAt (IsOnward r) u v → LooksAt (IsOnward s) v w
+    → LooksAt (IsOnward r) u w
+looks_later r s {u} {v} {w} later a b = looks_then (IsOnward r) u v w a
+    (looks_as (IsOnward s) (IsOnward r) (λ field there before. there (later field before)) v w b)
 
 -- A grace within the classes of its keys isn't beyond the last one.
 pub within_last : (keys : Interval) (class last : ℕ) → IsWithin keys class → IsLastClass keys last → class ≤ last
-within_last keys class last within is = dite (dec_le class last) (λ most. most) (λ beyond. absurd (is.greatest within.0 (omega (arith, within.1, beyond)) within.2 within.3))
+within_last keys class last within is = dite (dec_le class last) (λ most. most)
+    (λ beyond. absurd (is.greatest within.0 (omega (arith, within.1, beyond)) within.2 within.3))

@@ -39,26 +39,40 @@ module _ (wait : Waiting) (keys : Interval) (low : wait.low ≡ keys.low) (high 
 
 -- a load of a side
 module _ (k : Shape) (v w : View) (wait : Waiting) (class side found : ℕ) (last : Bool) (was : v.wait ≡ Some wait) where
-  side_told : (told : Told k v (LookCount class side last) found w) → w ≡ after_look (noted v (LookCount class side last) found) wait (Count class side) last found told.marks
-  side_told told = told.goes ∙ ap (λ z. after_look (noted v (LookCount class side last) found) z (Count class side) last found told.marks) (wait_is v wait was)
+  side_told : (told : Told k v (LookCount class side last) found w)
+      → w ≡ after_look (noted v (LookCount class side last) found) wait (Count class side) last found told.marks
+  side_told told = told.goes ∙ ap (λ z. after_look (noted v (LookCount class side last) found) z (Count class side) last found told.marks)
+      (wait_is v wait was)
 
   pub side_passes : Told k v (LookCount class side last) found w → found ≡ 0 → HasPassed v last (Count class side) w
-  side_passes told is = (wait, step_of kinds.K31 (Count class side) found, was, look_passes v w kinds.K31 (Count class side) wait found told.marks was told.sees told.informed refl last (eq-eqb found 0 is) (side_told told))
+  side_passes told is = (
+    wait,
+    step_of kinds.K31 (Count class side) found,
+    was,
+    look_passes v w kinds.K31 (Count class side) wait found told.marks was told.sees told.informed refl last (eq-eqb found 0 is)
+        (side_told told),
+  )
 
-  pub side_stays : Told k v (LookCount class side last) found w → found ≢ 0 → HasLooked v wait (step_of kinds.K31 (Count class side) found) wait w
-  side_stays told is = look_stays v w kinds.K31 (Count class side) wait found told.marks was told.sees told.informed last (ne_eqb found 0 is) (side_told told)
+  pub side_stays : Told k v (LookCount class side last) found w → found ≢ 0
+      → HasLooked v wait (step_of kinds.K31 (Count class side) found) wait w
+  side_stays told is = look_stays v w kinds.K31 (Count class side) wait found told.marks was told.sees told.informed last
+      (ne_eqb found 0 is) (side_told told)
 
 -- from class to class
 module _ {W : Type 0} (k : Shape) (domain : k.waiter ≡ Domain) (grace : Grace W) where
   -- What is excused of the sides is excused.
-  excused_by : (wait : Waiting) (r : Reached) (excused : List Field) → ((c side : ℕ) → IsSpot k wait (Count c side) → IsBefore r (Count c side) → IsIn excused (Count c side)) → (field : Field) → IsSpot k wait field → IsBefore r field → IsIn excused field
+  excused_by : (wait : Waiting) (r : Reached) (excused : List Field)
+      → ((c side : ℕ) → IsSpot k wait (Count c side) → IsBefore r (Count c side) → IsIn excused (Count c side)) → (field : Field)
+      → IsSpot k wait field → IsBefore r field → IsIn excused field
   excused_by wait r excused counts (Count c side) spot before = counts c side spot before
   excused_by wait r excused counts (Stamp q) spot before = absurd (let e : Domain ≡ Eer = sym domain ∙ spot.0 in cc)
   excused_by wait r excused counts (Row p c) spot before = absurd (let e : Domain ≡ Deer = sym domain ∙ spot.0 in cc)
   excused_by wait r excused counts _ spot before = absurd spot
 
   -- All sides are excused, with this one of the last class.
-  rest : (wait : Waiting) (side : ℕ) → HasReached k grace.keys grace.clock (reached grace) wait → grace.turned ≡ true → side ≡ grace.gate % 2 → IsLastClass grace.keys grace.class → (other : Field) → IsSpot k wait other → IsIn (Count grace.class side ∷ wait.excused) other
+  rest : (wait : Waiting) (side : ℕ) → HasReached k grace.keys grace.clock (reached grace) wait → grace.turned ≡ true
+      → side ≡ grace.gate % 2 → IsLastClass grace.keys grace.class → (other : Field) → IsSpot k wait other
+      → IsIn (Count grace.class side ∷ wait.excused) other
   rest wait side r turned side_is last (Count c s) spot = dite (ℕ_discrete c grace.class)
       (λ here. dite (ℕ_discrete s side)
       (λ same. subst (λ (z : ℕ × ℕ). IsIn (Count z.0 z.1 ∷ wait.excused) (Count c s)) (λ i. (here i, same i)) (0, refl))
@@ -70,14 +84,25 @@ module _ {W : Type 0} (k : Shape) (domain : k.waiter ≡ Domain) (grace : Grace 
   rest wait side r turned side_is last (Row p c) spot = absurd (let e : Domain ≡ Deer = sym domain ∙ spot.0 in cc)
   rest wait side r turned side_is last _ spot = absurd spot
 
-  pub may_look : (v : View) (side : ℕ) (last : Bool) → (last ≡ true → (grace.turned ≡ true) × (side ≡ grace.gate % 2) × IsLastClass grace.keys grace.class) → IsLatestOf k grace v → (wait : Waiting) × MayLook k v wait (Count grace.class side) last
-  may_look v side last end latest = (latest.0, record { wait_is = latest.1; going = latest.2.going; rest = λ is. let e = end is in rest latest.0 side latest.2 e.0 e.1 e.2 })
+  pub may_look : (v : View) (side : ℕ) (last : Bool)
+      → (last ≡ true → (grace.turned ≡ true) × (side ≡ grace.gate % 2) × IsLastClass grace.keys grace.class) → IsLatestOf k grace v
+      → (wait : Waiting) × MayLook k v wait (Count grace.class side) last
+  may_look v side last end latest = (
+    latest.0,
+    record {
+      wait_is = latest.1;
+      going = latest.2.going;
+      rest = λ is. let e = end is in
+          rest latest.0 side latest.2 e.0 e.1 e.2;
+    },
+  )
 
   abbrev with_gate : ℕ → Grace W
   with_gate gate = record grace { gate = gate }
 
   -- A gate that is loaded before it is turned leaves the wait where it is.
-  gate_free : (wait : Waiting) (gate : ℕ) → grace.turned ≡ false → HasReached k grace.keys grace.clock (reached grace) wait → HasReached k grace.keys grace.clock (reached (with_gate gate)) wait
+  gate_free : (wait : Waiting) (gate : ℕ) → grace.turned ≡ false → HasReached k grace.keys grace.clock (reached grace) wait
+      → HasReached k grace.keys grace.clock (reached (with_gate gate)) wait
   gate_free wait gate unturned r = record {
     going = r.going;
     low_is = r.low_is;
@@ -86,63 +111,91 @@ module _ {W : Type 0} (k : Shape) (domain : k.waiter ≡ Domain) (grace : Grace 
     inside = r.inside;
     small = r.small;
     excused = excused_by wait (reached (with_gate gate)) wait.excused (λ c side spot before. r.excused (Count c side) spot
-        (⊎_elim (λ (less : c < grace.class). inl less) (λ (on : (c ≡ grace.class) × (grace.turned ≡ true) × (side ≢ gate % 2)). absurd (let e : false ≡ true = sym unturned ∙ on.1 in cc)) before));
+        (⊎_elim (λ (less : c < grace.class). inl less)
+        (λ (on : (c ≡ grace.class) × (grace.turned ≡ true) × (side ≢ gate % 2)). absurd
+        (let e : false ≡ true = sym unturned ∙ on.1 in cc)) before));
     met = r.met;
     turned = r.turned;
     once = r.once;
   }
 
-  loaded_by : (v : View) (wait : Waiting) (found : ℕ) (there : Option Section) → v.wait ≡ Some wait → HasLooked v wait (step_of kinds.K28 (Gate grace.class) found) wait (gated (noted v (LoadGate grace.class) found) grace.class found there)
+  loaded_by : (v : View) (wait : Waiting) (found : ℕ) (there : Option Section) → v.wait ≡ Some wait
+      → HasLooked v wait (step_of kinds.K28 (Gate grace.class) found) wait
+      (gated (noted v (LoadGate grace.class) found) grace.class found there)
   loaded_by v wait found None was = record { wait_is = was; same = refl; turns = refl; makes = refl; others = refl }
   loaded_by v wait found (Some section) was = record { wait_is = was; same = refl; turns = refl; makes = refl; others = refl }
 
-  pub gate_loaded : (v w : View) (found : ℕ) → grace.turned ≡ false → IsLatestOf k grace v → Told k v (LoadGate grace.class) found w → IsGoingOn k v (with_gate found) w
-  gate_loaded v w found unturned latest told = (
-    latest.0,
-    step_of kinds.K28 (Gate grace.class) found,
-    latest.0,
-    latest.1,
-    subst (λ z. HasLooked v latest.0 (step_of kinds.K28 (Gate grace.class) found) latest.0 z) (sym told.goes) (loaded_by v latest.0 found v.section latest.1),
-    gate_free latest.0 found unturned latest.2,
-  )
+  pub gate_loaded : (v w : View) (found : ℕ) → grace.turned ≡ false → IsLatestOf k grace v → Told k v (LoadGate grace.class) found w
+      → IsGoingOn k v (with_gate found) w
+  gate_loaded v w found unturned latest told = record {
+    wait = latest.0;
+    steps = step_of kinds.K28 (Gate grace.class) found;
+    new = latest.0;
+    was = latest.1;
+    looked = subst (λ z. HasLooked v latest.0 (step_of kinds.K28 (Gate grace.class) found) latest.0 z) (sym told.goes)
+        (loaded_by v latest.0 found v.section latest.1);
+    reaches = gate_free latest.0 found unturned latest.2;
+  }
 
   -- After a look that passed the side that the gate doesn't name, the gate may be turned.
-  module _ (v u : View) (latest : IsLatestOf k grace v) (unturned : grace.turned ≡ false) (side : ℕ) (passed : HasPassed v false (Count grace.class side) u) where
+  module _ (v u : View) (latest : IsLatestOf k grace v) (unturned : grace.turned ≡ false) (side : ℕ)
+      (passed : HasPassed v false (Count grace.class side) u) where
     abbrev between : Waiting
     between = with_excused latest.0 (Count grace.class side)
 
     looked : HasLooked v latest.0 passed.1 between u
-    looked = subst (λ z. HasLooked v z passed.1 (with_excused z (Count grace.class side)) u) (one_wait v passed.0 latest.0 passed.2 latest.1) passed.3
+    looked = subst (λ z. HasLooked v z passed.1 (with_excused z (Count grace.class side)) u)
+        (one_wait v passed.0 latest.0 passed.2 latest.1) passed.3
 
     not_turned : IsIn latest.0.turned grace.class → ⊥
-    not_turned there = ⊎_elim (λ (less : grace.class < grace.class). omega (arith, less)) (λ (on : (grace.class ≡ grace.class) × (grace.turned ≡ true)). let e : false ≡ true = sym unturned ∙ on.1 in cc) (latest.2.turned domain grace.class there)
+    not_turned there = ⊎_elim (λ (less : grace.class < grace.class). omega (arith, less))
+        (λ (on : (grace.class ≡ grace.class) × (grace.turned ≡ true)). let e : false ≡ true = sym unturned ∙ on.1 in cc)
+        (latest.2.turned domain grace.class there)
 
     pub may_turn : MeetsClass grace.keys grace.class → (wait : Waiting) × NeedsGateTurn u wait grace.class
-    may_turn met = (between, record { wait_is = looked.wait_is; going = latest.2.going; small = latest.2.small; met = image_same latest.0 grace.keys latest.2.low_is latest.2.high_is grace.class met; once = not_turned })
+    may_turn met = (
+      between,
+      record {
+        wait_is = looked.wait_is;
+        going = latest.2.going;
+        small = latest.2.small;
+        met = image_same latest.0 grace.keys latest.2.low_is latest.2.high_is grace.class met;
+        once = not_turned;
+      },
+    )
 
     abbrev after : Waiting
     after = record between { turned = grace.class ∷ latest.0.turned }
 
-    turning : (w : View) (found : ℕ) → Told k u (TurnGate grace.class) found w → HasLooked u between (step_of kinds.K32 (Gate grace.class) found) after w
+    turning : (w : View) (found : ℕ) → Told k u (TurnGate grace.class) found w
+        → HasLooked u between (step_of kinds.K32 (Gate grace.class) found) after w
     turning w found told =
-        let is : w ≡ after_gate_turn (noted u (TurnGate grace.class) found) between grace.class = told.goes ∙ ap (λ z. after_gate_turn (noted u (TurnGate grace.class) found) z grace.class) (wait_is u between looked.wait_is) in
-        subst (λ z. HasLooked u between (step_of kinds.K32 (Gate grace.class) found) after z) (sym is) (record { wait_is = refl; same = refl; turns = omega arith; makes = refl; others = refl })
+        let is : w ≡ after_gate_turn (noted u (TurnGate grace.class) found) between grace.class =
+        told.goes ∙ ap (λ z. after_gate_turn (noted u (TurnGate grace.class) found) z grace.class) (wait_is u between looked.wait_is) in
+        subst (λ z. HasLooked u between (step_of kinds.K32 (Gate grace.class) found) after z) (sym is)
+        (record { wait_is = refl; same = refl; turns = omega arith; makes = refl; others = refl })
 
     abbrev turned_grace : Grace W
     turned_grace = record grace { turned = true }
 
-    one_more : (c : ℕ) → c < 64 → MeetsClass (keys_of latest.0) c → (c < grace.class) ⊎ ((c ≡ grace.class) × (true ≡ true)) → times c (grace.class ∷ latest.0.turned) ≡ 1
+    one_more : (c : ℕ) → c < 64 → MeetsClass (keys_of latest.0) c → (c < grace.class) ⊎ ((c ≡ grace.class) × (true ≡ true))
+        → times c (grace.class ∷ latest.0.turned) ≡ 1
     one_more c small met before = ⊎_elim
-        (λ (less : c < grace.class). times_other c grace.class latest.0.turned (λ is. omega (arith, is, less)) ∙ latest.2.once domain c small met (inl less))
+        (λ (less : c < grace.class). times_other c grace.class latest.0.turned (λ is. omega (arith, is, less))
+        ∙ latest.2.once domain c small met (inl less))
         (λ (on : (c ≡ grace.class) × (true ≡ true)). subst (λ z. times z (grace.class ∷ latest.0.turned) ≡ 1) (sym on.0)
-        (times_here grace.class latest.0.turned ∙ (let none : times grace.class latest.0.turned ≡ 0 = dite (dec_le 1 (times grace.class latest.0.turned)) (λ some_time. absurd (not_turned (in_times grace.class latest.0.turned some_time))) (λ never. omega (arith, never)) in omega (arith, none))))
+        (times_here grace.class latest.0.turned ∙ (let none : times grace.class latest.0.turned ≡ 0 =
+        dite (dec_le 1 (times grace.class latest.0.turned))
+        (λ some_time. absurd (not_turned (in_times grace.class latest.0.turned some_time))) (λ never. omega (arith, never)) in
+        omega (arith, none))))
         before
 
     turned_which : (c : ℕ) → IsIn (grace.class ∷ latest.0.turned) c → (c ≡ grace.class) ⊎ IsIn latest.0.turned c
     turned_which c (zero, is) = inl (let e : some grace.class ≡ some c = is in cc)
     turned_which c (suc i, is) = inr (i, is)
 
-    turned_reached : MeetsClass grace.keys grace.class → side ≡ 1 - grace.gate % 2 → HasReached k grace.keys grace.clock (reached turned_grace) after
+    turned_reached : MeetsClass grace.keys grace.class → side ≡ 1 - grace.gate % 2
+        → HasReached k grace.keys grace.clock (reached turned_grace) after
     turned_reached met side_is =
         let r = latest.2 in
         record {
@@ -160,68 +213,99 @@ module _ {W : Type 0} (k : Shape) (domain : k.waiter ≡ Domain) (grace : Grace 
               subst (λ (z : ℕ × ℕ). IsIn (Count z.0 z.1 ∷ latest.0.excused) (Count c s)) (λ i. (here i, same i)) (0, refl))
               before);
           met = λ c there. ⊎_elim
-              (λ (here : c ≡ grace.class). subst (λ z. (z < 64) × MeetsClass (keys_of latest.0) z) (sym here) (r.small, image_same latest.0 grace.keys r.low_is r.high_is grace.class met))
+              (λ (here : c ≡ grace.class). subst (λ z. (z < 64) × MeetsClass (keys_of latest.0) z) (sym here)
+              (r.small, image_same latest.0 grace.keys r.low_is r.high_is grace.class met))
               (λ (old : IsIn latest.0.turned c). r.met c old)
               (turned_which c there);
           turned = λ _ c there. ⊎_elim
               (λ (here : c ≡ grace.class). inr (here, refl))
-              (λ (old : IsIn latest.0.turned c). ⊎_elim (λ (less : c < grace.class). inl less) (λ (on : (c ≡ grace.class) × (grace.turned ≡ true)). inr (on.0, refl)) (r.turned domain c old))
+              (λ (old : IsIn latest.0.turned c). ⊎_elim (λ (less : c < grace.class). inl less)
+              (λ (on : (c ≡ grace.class) × (grace.turned ≡ true)). inr (on.0, refl)) (r.turned domain c old))
               (turned_which c there);
           once = λ _. one_more;
         }
 
-    pub turned_on : (w : View) (found : ℕ) → MeetsClass grace.keys grace.class → side ≡ 1 - grace.gate % 2 → Told k u (TurnGate grace.class) found w → IsGoingOn k v turned_grace w
-    turned_on w found met side_is told = (latest.0, passed.1 ++ step_of kinds.K32 (Gate grace.class) found, after, latest.1, looks_on v u w latest.0 between after passed.1 (step_of kinds.K32 (Gate grace.class) found) looked (turning w found told), turned_reached met side_is)
+    pub turned_on : (w : View) (found : ℕ) → MeetsClass grace.keys grace.class → side ≡ 1 - grace.gate % 2
+        → Told k u (TurnGate grace.class) found w → IsGoingOn k v turned_grace w
+    turned_on w found met side_is told = record {
+      wait = latest.0;
+      steps = passed.1 ++ step_of kinds.K32 (Gate grace.class) found;
+      new = after;
+      was = latest.1;
+      looked = looks_on v u w latest.0 between after passed.1 (step_of kinds.K32 (Gate grace.class) found) looked (turning w found told);
+      reaches = turned_reached met side_is;
+    }
 
   -- from this class to the next one
-  next_reached : (wait new : Waiting) → new ≡ record wait { excused = new.excused } → grace.class < 63 → HasReached k grace.keys grace.clock (reached grace) wait
-      → ((c side : ℕ) → IsSpot k wait (Count c side) → c < grace.class + 1 → IsIn new.excused (Count c side)) → ((c : ℕ) → MeetsClass (keys_of wait) c → c < grace.class + 1 → IsTurnedBefore (reached grace) c)
+  next_reached : (wait new : Waiting) → new ≡ record wait { excused = new.excused } → grace.class < 63
+      → HasReached k grace.keys grace.clock (reached grace) wait
+      → ((c side : ℕ) → IsSpot k wait (Count c side) → c < grace.class + 1 → IsIn new.excused (Count c side))
+      → ((c : ℕ) → MeetsClass (keys_of wait) c → c < grace.class + 1 → IsTurnedBefore (reached grace) c)
       → HasReached k grace.keys grace.clock (reached (at_next grace)) new
-  next_reached wait new same less r counts classes = subst (λ z. HasReached k grace.keys grace.clock (reached (at_next grace)) z) (sym same) (record {
-    going = r.going;
-    low_is = r.low_is;
-    high_is = r.high_is;
-    clock_is = r.clock_is;
-    inside = r.inside;
-    small = omega (arith, less);
-    excused = excused_by wait (reached (at_next grace)) new.excused (λ c side spot before. counts c side spot (⊎_elim (λ (l : c < grace.class + 1). l) (λ (on : (c ≡ grace.class + 1) × (false ≡ true) × (side ≢ 18446744073709551615 % 2)). absurd (let e = on.1 in cc)) before));
-    met = r.met;
-    turned = λ _ c there. inl (⊎_elim (λ (l : c < grace.class). omega (arith, l)) (λ (on : (c ≡ grace.class) × (grace.turned ≡ true)). omega (arith, on.0)) (r.turned domain c there));
-    once = λ _ c small met before. r.once domain c small met (classes c met (⊎_elim (λ (l : c < grace.class + 1). l) (λ (on : (c ≡ grace.class + 1) × (false ≡ true)). absurd (let e = on.1 in cc)) before));
-  })
+  next_reached wait new same less r counts classes =
+      subst (λ z. HasReached k grace.keys grace.clock (reached (at_next grace)) z) (sym same) (record {
+        going = r.going;
+        low_is = r.low_is;
+        high_is = r.high_is;
+        clock_is = r.clock_is;
+        inside = r.inside;
+        small = omega (arith, less);
+        excused = excused_by wait (reached (at_next grace)) new.excused
+            (λ c side spot before. counts c side spot (⊎_elim (λ (l : c < grace.class + 1). l)
+            (λ (on : (c ≡ grace.class + 1) × (false ≡ true) × (side ≢ 18446744073709551615 % 2)). absurd (let e = on.1 in cc)) before));
+        met = r.met;
+        turned = λ _ c there. inl (⊎_elim (λ (l : c < grace.class). omega (arith, l))
+            (λ (on : (c ≡ grace.class) × (grace.turned ≡ true)). omega (arith, on.0)) (r.turned domain c there));
+        once = λ _ c small met before. r.once domain c small met
+            (classes c met (⊎_elim (λ (l : c < grace.class + 1). l)
+            (λ (on : (c ≡ grace.class + 1) × (false ≡ true)). absurd (let e = on.1 in cc)) before));
+      })
 
   -- A class that no key has is passed without a look.
-  pub skips : (v : View) → grace.class < 63 → (MeetsClass grace.keys grace.class → ⊥) → IsLatestOf k grace v → IsGoingOn k v (at_next grace) v
+  pub skips : (v : View) → grace.class < 63 → (MeetsClass grace.keys grace.class → ⊥) → IsLatestOf k grace v
+      → IsGoingOn k v (at_next grace) v
   skips v small none latest =
       let r = latest.2 in
-      let below : (c : ℕ) → MeetsClass (keys_of latest.0) c → c < grace.class + 1 → c < grace.class = λ c met less. dite (ℕ_discrete c grace.class) (λ here. absurd (none (subst (MeetsClass grace.keys) here (same_image latest.0 grace.keys r.low_is r.high_is c met)))) (λ ne. omega (arith, less, ne)) in
-      begins_on k v (at_next grace) (latest.0, latest.1, next_reached latest.0 latest.0 refl small r (λ c side spot less. r.excused (Count c side) spot (inl (below c spot.3 less))) (λ c met less. inl (below c met less)))
+      let below : (c : ℕ) → MeetsClass (keys_of latest.0) c → c < grace.class + 1 → c < grace.class =
+      λ c met less. dite (ℕ_discrete c grace.class)
+      (λ here. absurd (none (subst (MeetsClass grace.keys) here (same_image latest.0 grace.keys r.low_is r.high_is c met))))
+      (λ ne. omega (arith, less, ne)) in
+      begins_on k v (at_next grace) (
+        latest.0,
+        latest.1,
+        next_reached latest.0 latest.0 refl small r (λ c side spot less. r.excused (Count c side) spot (inl (below c spot.3 less)))
+            (λ c met less. inl (below c met less)),
+      )
 
   -- After a look that passed the side that the gate names, all of this class is passed.
-  pub passes_class : (v w : View) (side : ℕ) → grace.class < 63 → grace.turned ≡ true → side ≡ grace.gate % 2 → IsLatestOf k grace v → HasPassed v false (Count grace.class side) w → IsGoingOn k v (at_next grace) w
+  pub passes_class : (v w : View) (side : ℕ) → grace.class < 63 → grace.turned ≡ true → side ≡ grace.gate % 2 → IsLatestOf k grace v
+      → HasPassed v false (Count grace.class side) w → IsGoingOn k v (at_next grace) w
   passes_class v w side small turned side_is latest passed =
       let r = latest.2 in
-      let looked = subst (λ z. HasLooked v z passed.1 (with_excused z (Count grace.class side)) w) (one_wait v passed.0 latest.0 passed.2 latest.1) passed.3 in (
-        latest.0,
-        passed.1,
-        with_excused latest.0 (Count grace.class side),
-        latest.1,
-        looked,
-        next_reached latest.0 (with_excused latest.0 (Count grace.class side)) refl small r
+      let looked = subst (λ z. HasLooked v z passed.1 (with_excused z (Count grace.class side)) w)
+      (one_wait v passed.0 latest.0 passed.2 latest.1) passed.3 in record {
+        wait = latest.0;
+        steps = passed.1;
+        new = with_excused latest.0 (Count grace.class side);
+        was = latest.1;
+        looked = looked;
+        reaches = next_reached latest.0 (with_excused latest.0 (Count grace.class side)) refl small r
             (λ c s spot less. dite (ℕ_discrete c grace.class)
             (λ here. dite (ℕ_discrete s side)
             (λ same. subst (λ (z : ℕ × ℕ). IsIn (Count z.0 z.1 ∷ latest.0.excused) (Count c s)) (λ i. (here i, same i)) (0, refl))
             (λ ne. let e = r.excused (Count c s) spot (inr (here, turned, λ is. ne (is ∙ sym side_is))) in (suc e.0, e.1)))
             (λ ne. let e = r.excused (Count c s) spot (inl (omega (arith, less, ne))) in (suc e.0, e.1)))
-            (λ c met less. dite (ℕ_discrete c grace.class) (λ here. inr (here, turned)) (λ ne. inl (omega (arith, less, ne)))),
-      )
+            (λ c met less. dite (ℕ_discrete c grace.class) (λ here. inr (here, turned)) (λ ne. inl (omega (arith, less, ne))));
+      }
 
   -- At the last class the wait is over.
-  pub ends : (v w : View) (side : ℕ) → grace.turned ≡ true → IsLastClass grace.keys grace.class → IsLatestOf k grace v → HasPassed v true (Count grace.class side) w → IsOver k v w
+  pub ends : (v w : View) (side : ℕ) → grace.turned ≡ true → IsLastClass grace.keys grace.class → IsLatestOf k grace v
+      → HasPassed v true (Count grace.class side) w → IsOver k v w
   ends v w side turned last latest passed =
       let r = latest.2 in
       let new : Waiting = ended_by latest.0 (Count grace.class side) in
-      let ended = subst (λ z. HasEnded v z passed.1 (ended_by z (Count grace.class side)) w) (one_wait v passed.0 latest.0 passed.2 latest.1) passed.3 in
+      let ended = subst (λ z. HasEnded v z passed.1 (ended_by z (Count grace.class side)) w)
+      (one_wait v passed.0 latest.0 passed.2 latest.1) passed.3 in
       record {
         wait = latest.0;
         steps = passed.1;
@@ -230,13 +314,18 @@ module _ {W : Type 0} (k : Shape) (domain : k.waiter ≡ Domain) (grace : Grace 
         ended = ended;
         turned = record {
           only = r.met;
-          each = λ _ c small met. r.once domain c small met (dite (ℕ_discrete c grace.class) (λ here. inr (here, turned)) (λ ne. inl (dite (dec_le (suc c) grace.class) (λ less. less) (λ not. absurd (last.greatest c (omega (arith, ne, not)) small (same_image latest.0 grace.keys r.low_is r.high_is c met))))));
+          each = λ _ c small met. r.once domain c small met
+              (dite (ℕ_discrete c grace.class) (λ here. inr (here, turned))
+              (λ ne. inl (dite (dec_le (suc c) grace.class) (λ less. less)
+              (λ not. absurd (last.greatest c (omega (arith, ne, not)) small (same_image latest.0 grace.keys r.low_is r.high_is c met))))));
         };
         left = have_left v latest.0 passed.1 new w ended;
       }
 
   -- Beyond the last class all counts were found at 0 and all gates are turned, so that the wait may go back to it.
-  pub back_reached : (last : ℕ) (wait : Waiting) → last < grace.class → IsLastClass grace.keys last → HasReached k grace.keys grace.clock (reached grace) wait → HasReached k grace.keys grace.clock (reached (record grace { class = last; turned = true })) wait
+  pub back_reached : (last : ℕ) (wait : Waiting) → last < grace.class → IsLastClass grace.keys last
+      → HasReached k grace.keys grace.clock (reached grace) wait
+      → HasReached k grace.keys grace.clock (reached (record grace { class = last; turned = true })) wait
   back_reached last wait beyond is_last r = record {
     going = r.going;
     low_is = r.low_is;
@@ -244,18 +333,37 @@ module _ {W : Type 0} (k : Shape) (domain : k.waiter ≡ Domain) (grace : Grace 
     clock_is = r.clock_is;
     inside = r.inside;
     small = omega (arith, beyond, r.small);
-    excused = excused_by wait (reached (record grace { class = last; turned = true })) wait.excused (λ c side spot before. r.excused (Count c side) spot (inl (⊎_elim (λ (l : c < last). omega (arith, l, beyond)) (λ (on : (c ≡ last) × (true ≡ true) × (side ≢ grace.gate % 2)). omega (arith, on.0, beyond)) before)));
+    excused = excused_by wait (reached (record grace { class = last; turned = true })) wait.excused
+        (λ c side spot before. r.excused (Count c side) spot
+        (inl (⊎_elim (λ (l : c < last). omega (arith, l, beyond))
+        (λ (on : (c ≡ last) × (true ≡ true) × (side ≢ grace.gate % 2)). omega (arith, on.0, beyond)) before)));
     met = r.met;
     turned = λ _ c there. at_most c (r.met c there);
-    once = λ _ c small met before. r.once domain c small met (inl (⊎_elim (λ (l : c < last). omega (arith, l, beyond)) (λ (on : (c ≡ last) × (true ≡ true)). omega (arith, on.0, beyond)) before));
+    once = λ _ c small met before. r.once domain c small met
+        (inl (⊎_elim (λ (l : c < last). omega (arith, l, beyond))
+        (λ (on : (c ≡ last) × (true ≡ true)). omega (arith, on.0, beyond)) before));
   }
     where
       at_most : (c : ℕ) → (c < 64) × MeetsClass (keys_of wait) c → (c < last) ⊎ ((c ≡ last) × (true ≡ true))
-      at_most c met = dite (ℕ_discrete c last) (λ here. inr (here, refl)) (λ ne. inl (dite (dec_le (suc c) last) (λ less. less) (λ not. absurd (is_last.greatest c (omega (arith, ne, not)) met.0 (same_image wait grace.keys r.low_is r.high_is c met.1)))))
+      at_most c met = dite (ℕ_discrete c last) (λ here. inr (here, refl))
+          (λ ne. inl (dite (dec_le (suc c) last) (λ less. less)
+          (λ not. absurd (is_last.greatest c (omega (arith, ne, not)) met.0 (same_image wait grace.keys r.low_is r.high_is c met.1)))))
 
   -- After the classes before the last one, a grace that went back is at the last one.
-  pub goes_back : (v u : View) (last : ℕ) (next : Grace W) → last ≤ grace.class → IsLastClass grace.keys last → IsBack last grace next → IsGoingOn k v grace u → IsGoingOn k v next u × IsLastClass next.keys next.class
+  pub goes_back : (v u : View) (last : ℕ) (next : Grace W) → last ≤ grace.class → IsLastClass grace.keys last → IsBack last grace next
+      → IsGoingOn k v grace u → IsGoingOn k v next u × IsLastClass next.keys next.class
   goes_back v u last next most is_last back come = dite (dec_le grace.class last)
-      (λ within. subst (λ (z : Grace W). IsGoingOn k v z u × IsLastClass z.keys z.class) (sym (back.within within)) (come, let same : last ≡ grace.class = omega (arith, within, most) in subst (IsLastClass grace.keys) same is_last))
+      (λ within. subst (λ (z : Grace W). IsGoingOn k v z u × IsLastClass z.keys z.class) (sym (back.within within))
+      (come, let same : last ≡ grace.class = omega (arith, within, most) in subst (IsLastClass grace.keys) same is_last))
       (λ not. let beyond : last < grace.class = omega (arith, not) in
-      subst (λ (z : Grace W). IsGoingOn k v z u × IsLastClass z.keys z.class) (sym (back.beyond beyond)) ((come.0, come.1, come.2, come.3, come.4, back_reached last come.2 beyond is_last come.5), is_last))
+      subst (λ (z : Grace W). IsGoingOn k v z u × IsLastClass z.keys z.class) (sym (back.beyond beyond)) (
+        record {
+          wait = come.wait;
+          steps = come.steps;
+          new = come.new;
+          was = come.was;
+          looked = come.looked;
+          reaches = back_reached last come.new beyond is_last come.reaches;
+        },
+        is_last,
+      ))

@@ -15,7 +15,8 @@ use Rattle.core_waits.proofs.waits.Turns.{in_times}
 module _ (keys : Interval) (xs ys : List ℕ) (one : AreClassesOf keys xs) (other : AreClassesOf keys ys) where
   same_times : (c : ℕ) → times c xs ≡ times c ys
   same_times c = dite (dec_le 1 (times c xs))
-      (λ there. let met = one.only c (in_times c xs there) in let a = one.each c met.0 met.1 in let b = other.each c met.0 met.1 in omega (arith, a, b))
+      (λ there. let met = one.only c (in_times c xs there) in let a = one.each c met.0 met.1 in let b = other.each c met.0 met.1 in
+      omega (arith, a, b))
       (λ none. dite (dec_le 1 (times c ys))
       (λ there. let met = other.only c (in_times c ys there) in let a = one.each c met.0 met.1 in absurd (omega (arith, a, none)))
       (λ neither. omega (arith, none, neither)))
@@ -33,14 +34,18 @@ same_length keys xs ys one other = let a = at_most keys xs ys one other in let b
 pub end_turns_rest : EndTurnsRest
 end_turns_rest k v w wait classes domain was all over =
     let same = one_wait v over.wait wait over.was was in
-    let turned : AreClassesOf (keys_of over.wait) over.new.turned = subst (λ z. AreClassesOf z over.new.turned) (ap keys_of over.ended.same) (record { each = over.turned.each domain; only = over.turned.only }) in
-    let lengths = same_length (keys_of wait) over.new.turned classes (subst (λ z. AreClassesOf (keys_of z) over.new.turned) same turned) all in
+    let turned : AreClassesOf (keys_of over.wait) over.new.turned =
+    subst (λ z. AreClassesOf z over.new.turned) (ap keys_of over.ended.same)
+    (record { each = over.turned.each domain; only = over.turned.only }) in
+    let lengths = same_length (keys_of wait) over.new.turned classes
+    (subst (λ z. AreClassesOf (keys_of z) over.new.turned) same turned) all in
     let turns = subst (λ z. w.counts.turns + length z.turned ≡ v.counts.turns + length over.new.turned) same over.ended.turns in
     omega (arith, lengths, turns)
 
 pub wait_turns_each : WaitTurnsEach
 wait_turns_each k v w keys classes domain all waited =
     let begun = waited.1 in
-    let rest = end_turns_rest k waited.0 w (new_wait v keys.low keys.high begun.clock begun.leaves.before) classes domain begun.wait_is all waited.2 in
+    let rest = end_turns_rest k waited.0 w
+    (new_wait v keys.low keys.high begun.clock begun.leaves.before) classes domain begun.wait_is all waited.2 in
     let turns = ap (λ (z : View). z.counts.turns) begun.others in
     omega (arith, rest, turns)

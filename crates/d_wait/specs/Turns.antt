@@ -17,8 +17,10 @@ pub record AreClassesOf (keys : Interval) (classes : List ℕ) : Type 0 where
 
 -- With the poll that ends it, a wait has turned as many gates as its keys have classes.
 abbrev pub EndTurnsRest : Type 0
-EndTurnsRest = (k : Shape) (v w : View) (wait : Waiting) (classes : List ℕ) → k.waiter ≡ Domain → v.wait ≡ Some wait → AreClassesOf (keys_of wait) classes → IsOver k v w → w.counts.turns + length wait.turned ≡ v.counts.turns + length classes
+EndTurnsRest = (k : Shape) (v w : View) (wait : Waiting) (classes : List ℕ) → k.waiter ≡ Domain → v.wait ≡ Some wait
+    → AreClassesOf (keys_of wait) classes → IsOver k v w → w.counts.turns + length wait.turned ≡ v.counts.turns + length classes
 
 -- A whole wait turns as many gates as its keys have classes.
 abbrev pub WaitTurnsEach : Type 0
-WaitTurnsEach = (k : Shape) (v w : View) (keys : Interval) (classes : List ℕ) → k.waiter ≡ Domain → AreClassesOf keys classes → HasWaited k v keys.low keys.high w → w.counts.turns ≡ v.counts.turns + length classes
+WaitTurnsEach = (k : Shape) (v w : View) (keys : Interval) (classes : List ℕ) → k.waiter ≡ Domain → AreClassesOf keys classes
+    → HasWaited k v keys.low keys.high w → w.counts.turns ≡ v.counts.turns + length classes

@@ -123,7 +123,8 @@ fn pass(
     requires small { grace.old.class < 63 }
     ensures seat { (seat.new.table ≡ seat.old.table) × (seat.new.listed ≡ seat.old.listed) }
     ensures grace { (grace.new.keys ≡ grace.old.keys) × (grace.new.clock ≡ grace.old.clock) }
-    ensures passed { IfNone result ((grace.new.class ≡ grace.old.class + 1) × IsGoingOn (shape_of 1 table.now) seat.old.view grace.new seat.new.view) }
+    ensures passed { IfNone result ((grace.new.class ≡ grace.old.class + 1)
+        × IsGoingOn (shape_of 1 table.now) seat.old.view grace.new seat.new.view) }
     ensures met { IfSome result (λ why. Polled (shape_of 1 table.now) seat.old.view (NotYet why) grace.new seat.new.view) }
     ensures onward { LooksAt (IsOnward (reached grace.old)) seat.old.view seat.new.view }
     ensures later { IfNone result (IsLater (reached grace.old) (reached grace.new)) }

@@ -116,7 +116,8 @@ fn come_to_last(
     requires image { IsImage grace.old.keys image.now }
     ensures seat { (seat.new.table ≡ seat.old.table) × (seat.new.listed ≡ seat.old.listed) }
     ensures grace { StaysAt grace.old grace.new }
-    ensures passed { IfNone result ((grace.new.class ≡ image.now.last) × IsGoingOn (shape_of 2 table.now) seat.old.view grace.new seat.new.view) }
+    ensures passed { IfNone result ((grace.new.class ≡ image.now.last)
+        × IsGoingOn (shape_of 2 table.now) seat.old.view grace.new seat.new.view) }
     ensures met { IfSome result (λ why. Polled (shape_of 2 table.now) seat.old.view (NotYet why) grace.new seat.new.view) }
     ensures onward { LooksAt (IsRowFrom grace.old.place grace.old.class) seat.old.view seat.new.view }
 {
@@ -144,7 +145,8 @@ fn pass_place(
     requires image { IsImage grace.old.keys image.now }
     ensures seat { (seat.new.table ≡ seat.old.table) × (seat.new.listed ≡ seat.old.listed) }
     ensures grace { (grace.new.keys ≡ grace.old.keys) × (grace.new.clock ≡ grace.old.clock) }
-    ensures passed { IfNone result ((grace.new.place ≡ grace.old.place + 1) × IsGoingOn (shape_of 2 table.now) seat.old.view grace.new seat.new.view) }
+    ensures passed { IfNone result ((grace.new.place ≡ grace.old.place + 1)
+        × IsGoingOn (shape_of 2 table.now) seat.old.view grace.new seat.new.view) }
     ensures met { IfSome result (λ why. Polled (shape_of 2 table.now) seat.old.view (NotYet why) grace.new seat.new.view) }
     ensures onward { grace.old.class ≤ image.now.last → LooksAt (IsRowFrom grace.old.place grace.old.class) seat.old.view seat.new.view }
     ensures first { IfNone result (grace.new.class ≡ 0) }

@@ -41,7 +41,8 @@ at_place grace place = record grace { place = place }
 
 module _ {W : Type 0} (k : Shape) (eer : k.waiter ≡ Eer) (grace : Grace W) where
   -- A spot of this waiter is a stamp, and with the word at this place all up to it are excused.
-  up_to : (wait : Waiting) → HasReached k grace.keys grace.clock (reached grace) wait → (field : Field) → IsSpot k wait field → ((q : ℕ) → field ≡ Stamp q → q ≤ grace.place) → IsIn (Stamp grace.place ∷ wait.excused) field
+  up_to : (wait : Waiting) → HasReached k grace.keys grace.clock (reached grace) wait → (field : Field) → IsSpot k wait field
+      → ((q : ℕ) → field ≡ Stamp q → q ≤ grace.place) → IsIn (Stamp grace.place ∷ wait.excused) field
   up_to wait r (Stamp q) spot less = dite (ℕ_discrete q grace.place)
       (λ same. subst (λ z. IsIn (Stamp z ∷ wait.excused) (Stamp q)) same (0, refl))
       (λ ne. let e = r.excused (Stamp q) spot (omega (arith, less q refl, ne)) in (suc e.0, e.1))
@@ -49,15 +50,25 @@ module _ {W : Type 0} (k : Shape) (eer : k.waiter ≡ Eer) (grace : Grace W) whe
   up_to wait r (Row p c) spot less = absurd (let e : Eer ≡ Deer = sym eer ∙ spot.0 in cc)
   up_to wait r _ spot less = absurd spot
 
-  before_excused : (wait : Waiting) → HasReached k grace.keys grace.clock (reached grace) wait → (place : ℕ) → place ≤ grace.place → (field : Field) → IsSpot k wait field → IsBefore (reached (at_place grace place)) field → IsIn wait.excused field
+  before_excused : (wait : Waiting) → HasReached k grace.keys grace.clock (reached grace) wait → (place : ℕ) → place ≤ grace.place
+      → (field : Field) → IsSpot k wait field → IsBefore (reached (at_place grace place)) field → IsIn wait.excused field
   before_excused wait r place less (Stamp q) spot before = r.excused (Stamp q) spot (omega (arith, before, less))
   before_excused wait r place less (Count c side) spot before = absurd (let e : Eer ≡ Domain = sym eer ∙ spot.0 in cc)
   before_excused wait r place less (Row p c) spot before = absurd (let e : Eer ≡ Deer = sym eer ∙ spot.0 in cc)
   before_excused wait r place less _ spot before = absurd spot
 
   -- the key or the stamp may be looked at
-  pub may_look : (v : View) (field : Field) → spot_seen field ≡ Stamp grace.place → (last : Bool) → (last ≡ true → grace.place + 1 ≡ k.places) → IsLatestOf k grace v → (wait : Waiting) × MayLook k v wait field last
-  may_look v field here last end latest = (latest.0, record { wait_is = latest.1; going = latest.2.going; rest = λ is other spot. subst (λ f. IsIn (f ∷ latest.0.excused) other) (sym here) (up_to latest.0 latest.2 other spot (at other spot (end is))) })
+  pub may_look : (v : View) (field : Field) → spot_seen field ≡ Stamp grace.place → (last : Bool)
+      → (last ≡ true → grace.place + 1 ≡ k.places) → IsLatestOf k grace v → (wait : Waiting) × MayLook k v wait field last
+  may_look v field here last end latest = (
+    latest.0,
+    record {
+      wait_is = latest.1;
+      going = latest.2.going;
+      rest = λ is other spot. subst (λ f. IsIn (f ∷ latest.0.excused) other) (sym here)
+          (up_to latest.0 latest.2 other spot (at other spot (end is)));
+    },
+  )
     where
       at : (other : Field) → IsSpot k latest.0 other → grace.place + 1 ≡ k.places → (q : ℕ) → other ≡ Stamp q → q ≤ grace.place
       at other spot ends q is = let s = subst (IsSpot k latest.0) is spot in omega (arith, s.1, ends)
@@ -83,13 +94,16 @@ module _ {W : Type 0} (k : Shape) (eer : k.waiter ≡ Eer) (grace : Grace W) whe
         },
       )
 
-  next_excused : (wait : Waiting) → HasReached k grace.keys grace.clock (reached grace) wait → (field : Field) → IsSpot k wait field → IsBefore (reached (at_place grace (grace.place + 1))) field → IsIn (Stamp grace.place ∷ wait.excused) field
-  next_excused wait r field spot before = up_to wait r field spot (λ q is. let b = subst (IsBefore (reached (at_place grace (grace.place + 1)))) is before in omega (arith, b))
+  next_excused : (wait : Waiting) → HasReached k grace.keys grace.clock (reached grace) wait → (field : Field) → IsSpot k wait field
+      → IsBefore (reached (at_place grace (grace.place + 1))) field → IsIn (Stamp grace.place ∷ wait.excused) field
+  next_excused wait r field spot before = up_to wait r field spot
+      (λ q is. let b = subst (IsBefore (reached (at_place grace (grace.place + 1)))) is before in omega (arith, b))
 
   -- and then the wait is at the next place
-  pub next_place : (v u w : View) → IsGoingOn k v grace u → HasPassed u false (Stamp grace.place) w → grace.place + 2 ≤ k.places → IsGoingOn k v (at_place grace (grace.place + 1)) w
+  pub next_place : (v u w : View) → IsGoingOn k v grace u → HasPassed u false (Stamp grace.place) w → grace.place + 2 ≤ k.places
+      → IsGoingOn k v (at_place grace (grace.place + 1)) w
   next_place v u w come passed less =
-      let r = come.5 in
+      let r = come.reaches in
       goes_on k v u w grace come (at_place grace (grace.place + 1)) (Stamp grace.place) passed (record {
         going = r.going;
         low_is = r.low_is;
@@ -97,14 +111,15 @@ module _ {W : Type 0} (k : Shape) (eer : k.waiter ≡ Eer) (grace : Grace W) whe
         clock_is = r.clock_is;
         inside = omega (arith, less);
         small = r.small;
-        excused = next_excused come.2 r;
+        excused = next_excused come.new r;
         met = r.met;
         turned = r.turned;
         once = r.once;
       })
 
 -- At a key that excuses, its stamp is passed.
-pub key_passes : (v w : View) (wait : Waiting) (place : ℕ) (steps : List StepMade) (last : Bool) → Passed v wait last steps (Announced place) w → Passed v wait last steps (Stamp place) w
+pub key_passes : (v w : View) (wait : Waiting) (place : ℕ) (steps : List StepMade) (last : Bool)
+    → Passed v wait last steps (Announced place) w → Passed v wait last steps (Stamp place) w
 key_passes v w wait place steps true p = p
 key_passes v w wait place steps false p = p
 
@@ -117,5 +132,8 @@ module _ {k : Shape} {v w : View} {place found : ℕ} {last : Bool} where
   stamp_looked told = look_at (λ field. field ≡ Stamp place) v w K8 (Stamp place) found last told.marks told.goes refl
 
 -- and after looks at no place before
-pub looked_place : (r : Reached) (place : ℕ) {u v w : View} → r.place ≤ place → LooksAt (IsOnward r) u v → LooksAt (λ field. field ≡ Stamp place) v w → LooksAt (IsOnward r) u w
-looked_place r place {u} {v} {w} less a b = looks_then (IsOnward r) u v w a (looks_as (λ field. field ≡ Stamp place) (IsOnward r) (λ field is. subst (IsOnward r) (sym is) (λ before. omega (arith, before, less))) v w b)
+pub looked_place : (r : Reached) (place : ℕ) {u v w : View} → r.place ≤ place → LooksAt (IsOnward r) u v
+    → LooksAt (λ field. field ≡ Stamp place) v w → LooksAt (IsOnward r) u w
+looked_place r place {u} {v} {w} less a b = looks_then (IsOnward r) u v w a
+    (looks_as (λ field. field ≡ Stamp place) (IsOnward r)
+    (λ field is. subst (IsOnward r) (sym is) (λ before. omega (arith, before, less))) v w b)

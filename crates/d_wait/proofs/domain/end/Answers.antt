@@ -4,19 +4,17 @@ use Rattle.seat_table.specs.Seats.{shape_of}
 use Rattle.seat_table.proofs.Waiting.{polls_end}
 use Rattle.key_interval.specs.LastClass.{IsLastClass}
 use Rattle.d_wait.specs.declared.domain.Domain.{Domain}
-use Rattle.seat_table.proofs.Polling.{comes_to, stops_further, stops_here}
-use Rattle.core_state.specs.declared.words.Field.TheVariants.{Count}
+use Rattle.seat_table.proofs.Polling.{comes_to}
+use Rattle.seat_table.proofs.Polls.{is_not_yet}
 use Rattle.seat_table.specs.Waits.{reached}
-use Rattle.d_wait.proofs.Onward.{onward_named, looked_count}
+use Rattle.d_wait.proofs.Onward.{looked_named}
 use Rattle.d_wait.proofs.Sides.{ends}
 use Rattle.d_wait.proofs.domain.end.Goals as goal
 
 pub returns-in-Some-look-clause-met : goal.returns-in-Some-look-clause-met
 returns-in-Some-look-clause-met c =
-    let come = c.in_default.ensures.turned.1 in
-    let here = c.turn.new.grace in
-    stops_further (shape_of 1 c.args.table.now) c.args.seat.now.view c.turn.new.seat.view c.look.new.seat.view here here come c.in-Some-look.why
-    (stops_here (shape_of 1 c.args.table.now) c.turn.new.seat.view c.look.new.seat.view here (comes_to (shape_of 1 c.args.table.now) c.args.seat.now.view c.turn.new.seat.view here come) c.in-Some-look.why c.in-Some-look.ensures.there c.in-Some-look.ensures.met)
+    is_not_yet (shape_of 1 c.args.table.now) c.args.seat.now.view c.turn.new.seat.view c.look.new.seat.view c.turn.new.grace
+    c.in_default.ensures.turned.1 c.in-Some-look.why c.in-Some-look.ensures.there c.in-Some-look.ensures.met
 
 pub returns-clause-over : goal.returns-clause-over
 returns-clause-over c =
@@ -25,16 +23,13 @@ returns-clause-over c =
     let latest = comes_to (shape_of 1 c.args.table.now) c.args.seat.now.view c.turn.new.seat.view here come in
     let last = subst (λ (z : Grace Domain). IsLastClass z.keys z.class) (sym c.turn.ensures.grace) c.requires.last in
     polls_end (shape_of 1 c.args.table.now) c.args.seat.now.view c.turn.new.seat.view c.look.new.seat.view here here come
-    (ends (shape_of 1 c.args.table.now) refl here c.turn.new.seat.view c.look.new.seat.view (here.gate % 2) c.in_default.ensures.turned.0 last latest c.in_default-look.ensures.passed)
+    (ends (shape_of 1 c.args.table.now) refl here c.turn.new.seat.view c.look.new.seat.view
+    (here.gate % 2) c.in_default.ensures.turned.0 last latest c.in_default-look.ensures.passed)
 
 pub returns-in-Some-look-clause-onward : goal.returns-in-Some-look-clause-onward
-returns-in-Some-look-clause-onward c =
-    let r = reached c.args.grace.now in
-    let here = c.turn.new.grace in
-    looked_count r here.class (here.gate % 2) (λ before. onward_named here (c.turn.ensures.later (Count here.class (here.gate % 2)) before)) c.turn.ensures.onward c.look.ensures.spot
+returns-in-Some-look-clause-onward c = looked_named
+    (reached c.args.grace.now) c.turn.new.grace c.turn.ensures.later c.turn.ensures.onward c.look.ensures.spot
 
 pub returns-clause-onward : goal.returns-clause-onward
 returns-clause-onward c =
-    let r = reached c.args.grace.now in
-    let here = c.turn.new.grace in
-    looked_count r here.class (here.gate % 2) (λ before. onward_named here (c.turn.ensures.later (Count here.class (here.gate % 2)) before)) c.turn.ensures.onward c.look.ensures.spot
+    looked_named (reached c.args.grace.now) c.turn.new.grace c.turn.ensures.later c.turn.ensures.onward c.look.ensures.spot

@@ -4,7 +4,12 @@ use Rattle.d_wait.proofs.Sides.{may_look, side_passes}
 use Rattle.d_wait.proofs.domain.look.Goals as goal
 
 pub look_count-count-requires-clause-asks : goal.look_count-count-requires-clause-asks
-look_count-count-requires-clause-asks c = λ told. ((refl, c.requires.latest.2.small, c.requires.side), may_look (shape_of 1 c.args.table.now) refl c.args.grace.now _ c.args.side c.args.last c.requires.end c.requires.latest)
+look_count-count-requires-clause-asks c = λ told. (
+  (refl, c.requires.latest.2.small, c.requires.side),
+  may_look (shape_of 1 c.args.table.now) refl c.args.grace.now _ c.args.side c.args.last c.requires.end c.requires.latest,
+)
 
 pub returns-then-count-eq0-clause-passed : goal.returns-then-count-eq0-clause-passed
-returns-then-count-eq0-clause-passed c = side_passes (shape_of 1 c.args.table.now) _ _ c.requires.latest.0 c.args.grace.now.class c.args.side c.look_count-count.result c.args.last c.requires.latest.1 c.look_count-count.ensures.told c.if-count-eq0.true
+returns-then-count-eq0-clause-passed c = side_passes
+    (shape_of 1 c.args.table.now) _ _ c.requires.latest.0 c.args.grace.now.class c.args.side c.look_count-count.result c.args.last
+    c.requires.latest.1 c.look_count-count.ensures.told c.if-count-eq0.true

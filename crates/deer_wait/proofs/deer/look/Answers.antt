@@ -10,7 +10,10 @@ use Rattle.deer_wait.proofs.Rows.{may_look, image_of}
 use Rattle.deer_wait.proofs.deer.look.Goals as goal
 
 pub look_row-stamp-requires-clause-asks : goal.look_row-stamp-requires-clause-asks
-look_row-stamp-requires-clause-asks c = λ told. ((refl, c.requires.inside, c.requires.latest.2.small), may_look (shape_of 2 c.args.table.now) refl c.args.grace.now _ c.args.last c.requires.end c.requires.latest)
+look_row-stamp-requires-clause-asks c = λ told. (
+  (refl, c.requires.inside, c.requires.latest.2.small),
+  may_look (shape_of 2 c.args.table.now) refl c.args.grace.now _ c.args.last c.requires.end c.requires.latest,
+)
 
 pub returns-then-not-is_early-clause-passed : goal.returns-then-not-is_early-clause-passed
 returns-then-not-is_early-clause-passed c =
@@ -21,8 +24,12 @@ returns-then-not-is_early-clause-passed c =
     let excused : excuses latest.0 field found ≡ true = ⊎_elim
     (λ (e : found ≡ idle). stamp_idle latest.0.clock found e)
     (λ (l : c.args.grace.now.clock < found). stamp_late latest.0.clock found (omega (arith, l, latest.2.clock_is)))
-    (c.is_early.ensures.late c.if-not-is_early.true) in
-    (latest.0, step_of K35 field found, latest.1, load_passes _ _ K35 field latest.0 found c.args.last told.marks latest.1 told.sees told.goes told.informed refl excused)
+    (c.is_early.ensures.late c.if-not-is_early.true) in (
+      latest.0,
+      step_of K35 field found,
+      latest.1,
+      load_passes _ _ K35 field latest.0 found c.args.last told.marks latest.1 told.sees told.goes told.informed refl excused,
+    )
 
 pub returns-clause-met : goal.returns-clause-met
 returns-clause-met c =
@@ -36,6 +43,7 @@ returns-clause-met c =
       latest.0,
       step_of K35 field found,
       latest.1,
-      load_stays _ _ K35 field latest.0 found c.args.last told.marks latest.1 told.sees told.goes told.informed (stamp_stays latest.0.clock found is.0 early),
+      load_stays _ _ K35 field latest.0 found c.args.last told.marks latest.1 told.sees told.goes told.informed
+          (stamp_stays latest.0.clock found is.0 early),
       (([], refl), is.0, early, image_of latest.0 c.args.grace.now.keys r.low_is r.high_is c.args.grace.now.class c.requires.met),
     )

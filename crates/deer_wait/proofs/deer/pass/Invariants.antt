@@ -6,4 +6,11 @@ use Rattle.deer_wait.specs.Images.{IsRowFrom, StaysAt}
 use Rattle.deer_wait.proofs.deer.pass.Given as goal
 
 abbrev pub invariant-loop-class : goal.invariant-loop-class
-invariant-loop-class l = (l.seat.table ≡ l.fn.seat.table) × (l.seat.listed ≡ l.fn.seat.listed) × StaysAt l.fn.grace l.grace × (l.grace.class ≡ l.class) × IsGoingOn (shape_of 2 l.table) l.fn.seat.view l.grace l.seat.view × LooksAt (IsRowFrom l.fn.grace.place l.fn.grace.class) l.fn.seat.view l.seat.view
+invariant-loop-class l = record {
+  table : l.seat.table ≡ l.fn.seat.table;
+  listed : l.seat.listed ≡ l.fn.seat.listed;
+  stays : StaysAt l.fn.grace l.grace;
+  class : l.grace.class ≡ l.class;
+  going : IsGoingOn (shape_of 2 l.table) l.fn.seat.view l.grace l.seat.view;
+  looks : LooksAt (IsRowFrom l.fn.grace.place l.fn.grace.class) l.fn.seat.view l.seat.view;
+}

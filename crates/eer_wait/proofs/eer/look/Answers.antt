@@ -11,7 +11,11 @@ use Rattle.eer_wait.proofs.eer.look.Goals.{then-stamp-via-then-stamp, then-stamp
 use Rattle.eer_wait.proofs.eer.look.Goals as goal
 
 pub look_key-key-requires-clause-asks : goal.look_key-key-requires-clause-asks
-look_key-key-requires-clause-asks c = λ told. ((refl, c.requires.inside), may_look (shape_of 0 c.args.table.now) refl c.args.grace.now _ (Announced c.args.grace.now.place) refl c.args.last c.requires.end c.requires.latest)
+look_key-key-requires-clause-asks c = λ told. (
+  (refl, c.requires.inside),
+  may_look (shape_of 0 c.args.table.now) refl c.args.grace.now _ (Announced c.args.grace.now.place) refl c.args.last c.requires.end
+      c.requires.latest,
+)
 
 pub returns-then-not-holds-clause-passed : goal.returns-then-not-holds-clause-passed
 returns-then-not-holds-clause-passed c =
@@ -20,8 +24,14 @@ returns-then-not-holds-clause-passed c =
     let place = c.args.grace.now.place in
     let key = c.look_key-key.result in
     let told = c.look_key-key.ensures.told in
-    let out = key_excuses latest.0 c.args.grace.now.keys key r.low_is r.high_is place (not_so c.holds.result c.holds.ensures.1 c.if-not-holds.true) in
-    (latest.0, step_of K8 (Announced place) key, latest.1, key_passes _ _ latest.0 place _ c.args.last (load_passes _ _ K8 (Announced place) latest.0 key c.args.last told.marks latest.1 told.sees told.goes told.informed refl out))
+    let out = key_excuses latest.0 c.args.grace.now.keys key r.low_is r.high_is place
+    (not_so c.holds.result c.holds.ensures.1 c.if-not-holds.true) in (
+      latest.0,
+      step_of K8 (Announced place) key,
+      latest.1,
+      key_passes _ _ latest.0 place _ c.args.last (load_passes _ _ K8
+          (Announced place) latest.0 key c.args.last told.marks latest.1 told.sees told.goes told.informed refl out),
+    )
 
 pub look_stamp-stamp-requires-clause-asks : goal.look_stamp-stamp-requires-clause-asks
 look_stamp-stamp-requires-clause-asks c =
@@ -32,7 +42,11 @@ look_stamp-stamp-requires-clause-asks c =
     let told = c.look_key-key.ensures.told in
     let inside = key_stays latest.0 c.args.grace.now.keys key r.low_is r.high_is place (c.holds.ensures.0 c.if-not-holds.false) in
     let stays = load_stays _ _ K8 (Announced place) latest.0 key c.args.last told.marks latest.1 told.sees told.goes told.informed inside in
-    λ now. ((refl, c.requires.inside), may_look (shape_of 0 c.args.table.now) refl c.args.grace.now _ (Stamp place) refl c.args.last c.requires.end (latest.0, stays.wait_is, r))
+    λ now. (
+      (refl, c.requires.inside),
+      may_look (shape_of 0 c.args.table.now) refl c.args.grace.now _ (Stamp place) refl c.args.last c.requires.end
+          (latest.0, stays.wait_is, r),
+    )
 
 pub returns-then-stamp-clause-passed : goal.returns-then-stamp-clause-passed
 returns-then-stamp-clause-passed c =
@@ -44,7 +58,8 @@ returns-then-stamp-clause-passed c =
     let first = c.look_key-key.ensures.told in
     let second = c.look_stamp-stamp.ensures.told in
     let inside = key_stays latest.0 c.args.grace.now.keys key r.low_is r.high_is place (c.holds.ensures.0 c.if-not-holds.false) in
-    let stays = load_stays _ _ K8 (Announced place) latest.0 key c.args.last first.marks latest.1 first.sees first.goes first.informed inside in
+    let stays = load_stays _ _ K8
+    (Announced place) latest.0 key c.args.last first.marks latest.1 first.sees first.goes first.informed inside in
     let excused = elim c.then-stamp.branch as (λ _. excuses latest.0 (Stamp c.args.grace.now.place) c.look_stamp-stamp.result ≡ true) [
       | then-stamp-via-then-stamp w ↦ stamp_idle latest.0.clock stamp w.if-stamp.true
       | then-stamp-via-else-stamp+then-grace-stamp w ↦ stamp_late latest.0.clock stamp (omega (arith, w.if-grace-stamp.true, r.clock_is))
@@ -52,7 +67,9 @@ returns-then-stamp-clause-passed c =
       latest.0,
       step_of K8 (Announced place) key ++ step_of K8 (Stamp place) stamp,
       latest.1,
-      passes_on _ _ _ latest.0 _ _ c.args.last (Stamp place) stays (load_passes _ _ K8 (Stamp place) latest.0 stamp c.args.last second.marks stays.wait_is second.sees second.goes second.informed refl excused),
+      passes_on _ _ _ latest.0 _ _ c.args.last (Stamp place) stays
+          (load_passes _ _ K8
+          (Stamp place) latest.0 stamp c.args.last second.marks stays.wait_is second.sees second.goes second.informed refl excused),
     )
 
 pub returns-clause-met : goal.returns-clause-met
@@ -65,9 +82,12 @@ returns-clause-met c =
     let first = c.look_key-key.ensures.told in
     let second = c.look_stamp-stamp.ensures.told in
     let inside = c.holds.ensures.0 c.if-not-holds.false in
-    let stays = load_stays _ _ K8 (Announced place) latest.0 key c.args.last first.marks latest.1 first.sees first.goes first.informed (key_stays latest.0 c.args.grace.now.keys key r.low_is r.high_is place inside) in
+    let stays = load_stays _ _ K8 (Announced place) latest.0 key c.args.last first.marks latest.1 first.sees first.goes first.informed
+    (key_stays latest.0 c.args.grace.now.keys key r.low_is r.high_is place inside) in
     let early : c.look_stamp-stamp.result ≤ latest.0.clock = omega (arith, c.if-grace-stamp.false, r.clock_is) in
-    let again = load_stays _ _ K8 (Stamp place) latest.0 stamp c.args.last second.marks stays.wait_is second.sees second.goes second.informed (stamp_stays latest.0.clock stamp c.if-stamp.false early) in (
+    let again = load_stays _ _ K8
+    (Stamp place) latest.0 stamp c.args.last second.marks stays.wait_is second.sees second.goes second.informed
+    (stamp_stays latest.0.clock stamp c.if-stamp.false early) in (
       latest.0,
       step_of K8 (Announced place) key ++ step_of K8 (Stamp place) stamp,
       latest.1,
@@ -76,10 +96,12 @@ returns-clause-met c =
     )
 
 pub returns-then-stamp-clause-spot : goal.returns-then-stamp-clause-spot
-returns-then-stamp-clause-spot c = looks_then (λ field. field ≡ Stamp c.args.grace.now.place) _ _ _ (key_looked c.look_key-key.ensures.told) (stamp_looked c.look_stamp-stamp.ensures.told)
+returns-then-stamp-clause-spot c = looks_then (λ field. field ≡ Stamp c.args.grace.now.place) _ _ _ (key_looked c.look_key-key.ensures.told)
+    (stamp_looked c.look_stamp-stamp.ensures.told)
 
 pub returns-clause-spot : goal.returns-clause-spot
-returns-clause-spot c = looks_then (λ field. field ≡ Stamp c.args.grace.now.place) _ _ _ (key_looked c.look_key-key.ensures.told) (stamp_looked c.look_stamp-stamp.ensures.told)
+returns-clause-spot c = looks_then (λ field. field ≡ Stamp c.args.grace.now.place) _ _ _ (key_looked c.look_key-key.ensures.told)
+    (stamp_looked c.look_stamp-stamp.ensures.told)
 
 pub returns-then-not-holds-clause-spot : goal.returns-then-not-holds-clause-spot
 returns-then-not-holds-clause-spot c = key_looked c.look_key-key.ensures.told

@@ -7,7 +7,10 @@ use Rattle.seat_table.proofs.Sections.{entered_count}
 use Rattle.d_wait.proofs.domain.DomainWaitPart.enter.Goals as goal
 
 pub returns-clause-entered : goal.returns-clause-entered
-returns-clause-entered c = entered_count (shape_of 1 c.args.table.now) _ _ c.args.key c.load_gate-gate.result c.requires.outside (subst (λ z. Told (shape_of 1 c.args.table.now) c.args.seat.now.view (LoadGate z) c.load_gate-gate.result c.load_gate-gate.new.seat.view) c.class_of.ensures.class c.load_gate-gate.ensures.told) _ _ c.enter_by_count.ensures.told.0 c.enter_by_count.ensures.told.1
+returns-clause-entered c = entered_count (shape_of 1 c.args.table.now) _ _ c.args.key c.load_gate-gate.result c.requires.outside
+    (subst (λ z. Told (shape_of 1 c.args.table.now) c.args.seat.now.view
+    (LoadGate z) c.load_gate-gate.result c.load_gate-gate.new.seat.view) c.class_of.ensures.class c.load_gate-gate.ensures.told) _ _
+    c.enter_by_count.ensures.told.0 c.enter_by_count.ensures.told.1
 
 pub returns-clause-quiet : goal.returns-clause-quiet
 returns-clause-quiet c = entered_quiet (returns-clause-entered c) (search rules)

@@ -14,39 +14,64 @@ use Rattle.d_wait.proofs.Sides.{goes_back}
 use Rattle.d_wait.proofs.domain.DomainWaitPart.poll.Goals as goal
 
 pub loop-init : goal.loop-init
-loop-init c = (refl, refl, refl, refl, refl, begins_on (shape_of 1 c.args.table.now) c.args.seat.now.view c.args.grace.now c.requires.latest, looks_none (IsOnward (reached c.args.grace.now)) c.args.seat.now.view, later_self (reached c.args.grace.now))
+loop-init c = record {
+  table = refl;
+  listed = refl;
+  keys = refl;
+  clock = refl;
+  class = refl;
+  going = begins_on (shape_of 1 c.args.table.now) c.args.seat.now.view c.args.grace.now c.requires.latest;
+  looks = looks_none (IsOnward (reached c.args.grace.now)) c.args.seat.now.view;
+  later = later_self (reached c.args.grace.now);
+}
 
 pub returns-in-Some-clause-polled : goal.returns-in-Some-clause-polled
-returns-in-Some-clause-polled c = stops_further (shape_of 1 c.args.table.now) c.args.seat.now.view c.loop.seat.view c.pass.new.seat.view c.loop.grace c.pass.new.grace c.loop.invariant.5 c.in-Some.why c.in-Some.ensures.met
+returns-in-Some-clause-polled c = stops_further
+    (shape_of 1 c.args.table.now) c.args.seat.now.view c.loop.seat.view c.pass.new.seat.view c.loop.grace c.pass.new.grace
+    c.loop.invariant.going c.in-Some.why c.in-Some.ensures.met
 
 pub end-requires-clause-latest : goal.end-requires-clause-latest
 end-requires-clause-latest c =
     let i = c.loop.invariant in
-    let back = goes_back (shape_of 1 c.args.table.now) refl c.loop.grace c.args.seat.now.view c.loop.seat.view c.last_class-last.result c.go_back.new.grace (omega (arith, c.loop-test.false, i.4)) (subst (λ z. IsLastClass z c.last_class-last.result) (sym i.2) c.last_class-last.ensures.last) c.go_back.ensures i.5 in
+    let back = goes_back
+    (shape_of 1 c.args.table.now) refl c.loop.grace c.args.seat.now.view c.loop.seat.view c.last_class-last.result c.go_back.new.grace
+    (omega (arith, c.loop-test.false, i.class)) (subst (λ z. IsLastClass z c.last_class-last.result)
+    (sym i.keys) c.last_class-last.ensures.last) c.go_back.ensures i.going in
     comes_to (shape_of 1 c.args.table.now) c.args.seat.now.view c.loop.seat.view c.go_back.new.grace back.0
 
 pub end-requires-clause-last : goal.end-requires-clause-last
 end-requires-clause-last c =
     let i = c.loop.invariant in
-    (goes_back (shape_of 1 c.args.table.now) refl c.loop.grace c.args.seat.now.view c.loop.seat.view c.last_class-last.result c.go_back.new.grace (omega (arith, c.loop-test.false, i.4)) (subst (λ z. IsLastClass z c.last_class-last.result) (sym i.2) c.last_class-last.ensures.last) c.go_back.ensures i.5).1
+    (goes_back (shape_of 1 c.args.table.now) refl c.loop.grace c.args.seat.now.view c.loop.seat.view c.last_class-last.result
+    c.go_back.new.grace (omega (arith, c.loop-test.false, i.class))
+    (subst (λ z. IsLastClass z c.last_class-last.result) (sym i.keys) c.last_class-last.ensures.last) c.go_back.ensures i.going).1
 
 pub returns-in-Some-end-clause-polled : goal.returns-in-Some-end-clause-polled
 returns-in-Some-end-clause-polled c =
     let i = c.loop.invariant in
-    let back = goes_back (shape_of 1 c.args.table.now) refl c.loop.grace c.args.seat.now.view c.loop.seat.view c.last_class-last.result c.go_back.new.grace (omega (arith, c.loop-test.false, i.4)) (subst (λ z. IsLastClass z c.last_class-last.result) (sym i.2) c.last_class-last.ensures.last) c.go_back.ensures i.5 in
-    stops_further (shape_of 1 c.args.table.now) c.args.seat.now.view c.loop.seat.view c.end.new.seat.view c.go_back.new.grace c.end.new.grace back.0 c.in-Some-end.why c.in-Some-end.ensures.met
+    let back = goes_back
+    (shape_of 1 c.args.table.now) refl c.loop.grace c.args.seat.now.view c.loop.seat.view c.last_class-last.result c.go_back.new.grace
+    (omega (arith, c.loop-test.false, i.class)) (subst (λ z. IsLastClass z c.last_class-last.result)
+    (sym i.keys) c.last_class-last.ensures.last) c.go_back.ensures i.going in
+    stops_further
+    (shape_of 1 c.args.table.now) c.args.seat.now.view c.loop.seat.view c.end.new.seat.view c.go_back.new.grace c.end.new.grace back.0
+    c.in-Some-end.why c.in-Some-end.ensures.met
 
 pub returns-clause-polled : goal.returns-clause-polled
 returns-clause-polled c =
     let i = c.loop.invariant in
-    let back = goes_back (shape_of 1 c.args.table.now) refl c.loop.grace c.args.seat.now.view c.loop.seat.view c.last_class-last.result c.go_back.new.grace (omega (arith, c.loop-test.false, i.4)) (subst (λ z. IsLastClass z c.last_class-last.result) (sym i.2) c.last_class-last.ensures.last) c.go_back.ensures i.5 in
-    polls_end (shape_of 1 c.args.table.now) c.args.seat.now.view c.loop.seat.view c.end.new.seat.view c.go_back.new.grace c.end.new.grace back.0 c.in_default-end.ensures.over
+    let back = goes_back
+    (shape_of 1 c.args.table.now) refl c.loop.grace c.args.seat.now.view c.loop.seat.view c.last_class-last.result c.go_back.new.grace
+    (omega (arith, c.loop-test.false, i.class)) (subst (λ z. IsLastClass z c.last_class-last.result)
+    (sym i.keys) c.last_class-last.ensures.last) c.go_back.ensures i.going in
+    polls_end (shape_of 1 c.args.table.now) c.args.seat.now.view c.loop.seat.view c.end.new.seat.view c.go_back.new.grace c.end.new.grace
+    back.0 c.in_default-end.ensures.over
 
 pub returns-in-Some-clause-quiet : goal.returns-in-Some-clause-quiet
-returns-in-Some-clause-quiet c = looked_quiet (returns-in-Some-clause-polled c).4 (search rules)
+returns-in-Some-clause-quiet c = looked_quiet (returns-in-Some-clause-polled c).on.looked (search rules)
 
 pub returns-in-Some-end-clause-quiet : goal.returns-in-Some-end-clause-quiet
-returns-in-Some-end-clause-quiet c = looked_quiet (returns-in-Some-end-clause-polled c).4 (search rules)
+returns-in-Some-end-clause-quiet c = looked_quiet (returns-in-Some-end-clause-polled c).on.looked (search rules)
 
 pub returns-clause-quiet : goal.returns-clause-quiet
 returns-clause-quiet c = over_quiet (returns-clause-polled c) (search rules)
@@ -54,30 +79,36 @@ returns-clause-quiet c = over_quiet (returns-clause-polled c) (search rules)
 pub loop-preserved : goal.loop-preserved
 loop-preserved c =
     let i = c.loop.invariant in
-    let passed = c.in_default.ensures.passed in (
-      search rules,
-      search rules,
-      search rules,
-      search rules,
-      search rules,
-      goes_further (shape_of 1 c.args.table.now) c.args.seat.now.view c.loop.seat.view c.pass.new.seat.view c.loop.grace c.pass.new.grace i.5 passed.1,
-      looks_later (reached c.args.grace.now) (reached c.loop.grace) i.7 i.6 c.pass.ensures.onward,
-      later_then (reached c.args.grace.now) (reached c.loop.grace) (reached c.pass.new.grace) i.7 c.in_default.ensures.later,
-    )
+    let passed = c.in_default.ensures.passed in
+    record {
+      table = search rules;
+      listed = search rules;
+      keys = search rules;
+      clock = search rules;
+      class = search rules;
+      going = goes_further
+          (shape_of 1 c.args.table.now) c.args.seat.now.view c.loop.seat.view c.pass.new.seat.view c.loop.grace c.pass.new.grace i.going
+          passed.1;
+      looks = looks_later (reached c.args.grace.now) (reached c.loop.grace) i.later i.looks c.pass.ensures.onward;
+      later = later_then (reached c.args.grace.now) (reached c.loop.grace) (reached c.pass.new.grace) i.later c.in_default.ensures.later;
+    }
 
 pub returns-in-Some-clause-onward : goal.returns-in-Some-clause-onward
-returns-in-Some-clause-onward c = λ within. looks_later (reached c.args.grace.now) (reached c.loop.grace) c.loop.invariant.7 c.loop.invariant.6 c.pass.ensures.onward
+returns-in-Some-clause-onward c = λ within. looks_later (reached c.args.grace.now)
+    (reached c.loop.grace) c.loop.invariant.later c.loop.invariant.looks c.pass.ensures.onward
 
 pub returns-in-Some-end-clause-onward : goal.returns-in-Some-end-clause-onward
 returns-in-Some-end-clause-onward c = λ within.
     let i = c.loop.invariant in
     let most = within_last c.args.grace.now.keys c.args.grace.now.class c.last_class-last.result within c.last_class-last.ensures.last in
-    let stays = c.go_back.ensures.within (omega (arith, most, i.4, c.loop-test.false, c.loop.auto.counter, c.loop.auto.counter-end)) in
-    looks_later (reached c.args.grace.now) (reached c.go_back.new.grace) (subst (λ (z : Grace Domain). IsLater (reached c.args.grace.now) (reached z)) (sym stays) i.7) i.6 c.end.ensures.onward
+    let stays = c.go_back.ensures.within (omega (arith, most, i.class, c.loop-test.false, c.loop.auto.counter, c.loop.auto.counter-end)) in
+    looks_later (reached c.args.grace.now) (reached c.go_back.new.grace)
+    (subst (λ (z : Grace Domain). IsLater (reached c.args.grace.now) (reached z)) (sym stays) i.later) i.looks c.end.ensures.onward
 
 pub returns-clause-onward : goal.returns-clause-onward
 returns-clause-onward c = λ within.
     let i = c.loop.invariant in
     let most = within_last c.args.grace.now.keys c.args.grace.now.class c.last_class-last.result within c.last_class-last.ensures.last in
-    let stays = c.go_back.ensures.within (omega (arith, most, i.4, c.loop-test.false, c.loop.auto.counter, c.loop.auto.counter-end)) in
-    looks_later (reached c.args.grace.now) (reached c.go_back.new.grace) (subst (λ (z : Grace Domain). IsLater (reached c.args.grace.now) (reached z)) (sym stays) i.7) i.6 c.end.ensures.onward
+    let stays = c.go_back.ensures.within (omega (arith, most, i.class, c.loop-test.false, c.loop.auto.counter, c.loop.auto.counter-end)) in
+    looks_later (reached c.args.grace.now) (reached c.go_back.new.grace)
+    (subst (λ (z : Grace Domain). IsLater (reached c.args.grace.now) (reached z)) (sym stays) i.later) i.looks c.end.ensures.onward

@@ -5,7 +5,10 @@ use Rattle.seat_table.proofs.Sections.{needs_row, entered_row}
 use Rattle.deer_wait.proofs.deer.DeerWaitPart.enter.Goals as goal
 
 pub enter_by_row-requires-clause-asks : goal.enter_by_row-requires-clause-asks
-enter_by_row-requires-clause-asks c = λ told. ((refl, told.tells.place_within, omega arith), needs_row (shape_of 2 c.args.table.now) _ _ _ _ c.load_clock-stamp.ensures.told (search rules) (search rules) c.ranges.key.fits)
+enter_by_row-requires-clause-asks c = λ told. (
+  (refl, told.tells.place_within, omega arith),
+  needs_row (shape_of 2 c.args.table.now) _ _ _ _ c.load_clock-stamp.ensures.told (search rules) (search rules) c.ranges.key.fits,
+)
 
 pub returns-clause-entered : goal.returns-clause-entered
 returns-clause-entered c = entered_row (shape_of 2 c.args.table.now) _ _ _ _ c.load_clock-stamp.ensures.told _ c.enter_by_row.ensures.told

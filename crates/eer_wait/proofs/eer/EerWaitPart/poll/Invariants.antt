@@ -6,4 +6,11 @@ use Rattle.eer_wait.proofs.Places.{at_place}
 use Rattle.eer_wait.proofs.eer.EerWaitPart.poll.Given as goal
 
 abbrev pub invariant-loop-place : goal.invariant-loop-place
-invariant-loop-place l = (l.seat.table ≡ l.fn.seat.table) × (l.seat.listed ≡ l.fn.seat.listed) × (l.grace.keys ≡ l.fn.grace.keys) × (l.grace.clock ≡ l.fn.grace.clock) × IsGoingOn (shape_of 0 l.table) l.fn.seat.view (at_place l.grace l.place) l.seat.view × LooksAt (IsOnward (reached l.fn.grace)) l.fn.seat.view l.seat.view
+invariant-loop-place l = record {
+  table : l.seat.table ≡ l.fn.seat.table;
+  listed : l.seat.listed ≡ l.fn.seat.listed;
+  keys : l.grace.keys ≡ l.fn.grace.keys;
+  clock : l.grace.clock ≡ l.fn.grace.clock;
+  going : IsGoingOn (shape_of 0 l.table) l.fn.seat.view (at_place l.grace l.place) l.seat.view;
+  looks : LooksAt (IsOnward (reached l.fn.grace)) l.fn.seat.view l.seat.view;
+}
