@@ -1,5 +1,5 @@
 -- What the invariant gives, in plain words; and what it is for a kind of step to keep it.
--- Source: docs/TREE.md, "What the invariant gives".
+-- Source: docs/TREE_INVARIANT.md, "What the invariant gives".
 use Rattle.std.specs.Prelude.{◌≡◌, ◌≢◌, ℕ, ◌+◌, ◌-◌, ◌*◌, ◌^◌, ◌<◌, ◌≤◌, ◌⊎◌, true, false, List, [], ◌∷◌, ◌++◌, length, set, Option, Some, None}
 use Rattle.std.specs.FinMap as finite
 use mathlib.Core.Option.{some}

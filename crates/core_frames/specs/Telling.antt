@@ -1,6 +1,6 @@
 -- What the rule tells of one view, which works at a place, between any two steps: by its own words and marks, and by how large the table
 -- is.
--- Source: docs/TREE.md, "What a step sees".
+-- Source: docs/TREE_CALLS.md, "What a step sees".
 use Rattle.std.specs.Prelude.{◌≡◌, ◌≢◌, ℕ, ◌+◌, ◌*◌, ◌^◌, ◌<◌, ◌≤◌, List, [], ◌∷◌, length, map, Some, None}
 use mathlib.Core.Option.{some}
 use lib.ListN.{get_elem?}

@@ -5,6 +5,8 @@ pub mod Running
 pub mod Sound
 pub mod Phases
 pub mod ActMarks
+pub mod Replies
+pub mod NextPoints
 pub mod Turns
 pub mod Accounts
 pub mod Able

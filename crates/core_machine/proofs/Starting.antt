@@ -89,7 +89,7 @@ made_shape scripts slots m = record {
   few_slots = m.few_slots;
   some_place = m.some_script;
   few_places = m.few_scripts;
-  few_tickets = (let few = m.few_ops in let same = tickets_total scripts in let most : most_tickets ≡ 1099511627776 = refl in
+  few_tickets = (let few = m.few_ops in let same = tickets_total scripts in let most : most_tickets ≡ 144115188075855872 = refl in
       omega (arith, few, same, most));
 }
 

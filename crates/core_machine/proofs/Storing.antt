@@ -34,7 +34,7 @@ use Rattle.core_machine.specs.Runs.{Core, core, told_in, moved, shape_of, step, 
 use Rattle.core_machine.specs.Laws.{IsMachine}
 use Rattle.core_machine.specs.Stored.{IsAble}
 use Rattle.core_machine.specs.Stepping.{CanStep, found_now, told_now, index_now, shape_for, update_at}
-use Rattle.core_machine.proofs.Turns.{del_is, put_is, set_is}
+use Rattle.core_machine.proofs.Replies.{del_is, put_is, set_is}
 use Rattle.core_machine.specs.StepLaws.{AreWordsOf, CallersCanStep, IsStored, StepsAreStored}
 use Rattle.core_machine.proofs.Running.{IsRun, moves}
 use Rattle.core_machine.proofs.Sound.{core_runs, step_is, is_told, has_its_word, needs_met, stays_word}

@@ -1,5 +1,5 @@
 -- One step of a caller: what it has told, and how far its call is, after it.
-use Rattle.std.proofs.Common.{◌≡◌, ℕ, ◌+◌, ◌-◌, ◌*◌, ◌/◌, ◌≤◌, ◌==◌, ◌||◌, ◌&&◌, nat_lt, cond, Bool, true, false, MatchBool, List, [], ◌∷◌, ◌++◌, length, Option, Some, None, is_some, refl, sym, ap, subst, ◌∙◌, inl, inr, arith, eq-eqb, append-nil, append_assoc}
+use Rattle.std.proofs.Common.{◌≡◌, ℕ, ◌+◌, ◌-◌, ◌*◌, ◌/◌, ◌≤◌, ◌==◌, ◌||◌, ◌&&◌, nat_lt, cond, Bool, true, false, MatchBool, List, [], ◌∷◌, ◌++◌, length, Option, Some, None, refl, sym, ap, subst, ◌∙◌, inl, inr, arith, eq-eqb, append-nil, append_assoc}
 use Rattle.std.proofs.lemmas.Bool.{eqb-true}
 use Rattle.std.proofs.lemmas.List.{take_all, take_at}
 use Rattle.std.specs.List.{AllByRecursion, slice_get}
@@ -9,12 +9,12 @@ use lib.ListN.{get_elem?}
 use Rattle.prcu_marks.specs.declared.mark.Mark.{Mark}
 use Rattle.prcu_marks.specs.declared.mark.Mark.TheVariants.{Entered, Began, Done, Unlinked}
 use Rattle.prcu_model.specs.declared.operation.Op.{Op}
-use Rattle.prcu_model.specs.declared.operation.Op.TheVariants.{Put, Get, Del, Set}
+use Rattle.prcu_model.specs.declared.operation.Op.TheVariants.{Del}
 use Rattle.prcu_model.specs.declared.operation.Reply.{Reply}
 use Rattle.prcu_model.specs.declared.operation.Reply.TheVariants.{New, Old, Full, Val, Absent, Gone, Was}
 use Rattle.prcu_model.specs.declared.operation.Told.{Told}
 use Rattle.prcu_model.specs.declared.operation.Update.{Update}
-use Rattle.prcu_model.specs.Dictionary.{Dictionary, WasSaid, key_of, map_at, map_of}
+use Rattle.prcu_model.specs.Dictionary.{Dictionary, WasSaid, map_at, map_of}
 use Rattle.prcu_model.specs.Replies.{Room, Explains, Confirms, tells_update}
 use Rattle.prcu_marks.specs.Marks.{updates_of, own_of, is_of}
 use Rattle.prcu_marks.specs.Callers.{Caller, IsLeftBy, entered_for, WaitsFor, IsMoveWait, IsNextKey, HasMadeUpdate, WasExplained}
@@ -35,11 +35,7 @@ use Rattle.core_state.specs.steps.Loads.{after_search_load}
 use Rattle.core_state.specs.Invariant.{HoldsNow}
 use Rattle.core_points.specs.declared.stage.Aim.{Aim}
 use Rattle.core_points.specs.declared.stage.Aim.TheVariants.{Leaf, Spare, Room as ForRoom}
-use Rattle.core_points.specs.declared.stage.Found.{Found}
-use Rattle.core_points.specs.declared.stage.Node.{Node}
 use Rattle.core_points.specs.declared.stage.Spot.{Spot}
-use Rattle.core_points.specs.declared.stage.Successor.{Successor}
-use Rattle.core_points.specs.declared.stage.Target.{Target}
 use Rattle.core_points.specs.declared.stage.Last.{Last}
 use Rattle.core_points.specs.declared.stage.Last.TheVariants as last
 use Rattle.core_points.specs.declared.stage.Then.{Then}
@@ -56,92 +52,20 @@ use Rattle.core_acts.specs.Acts.{in_slot, access_of, said_by, noted, section_of,
 use Rattle.core_acts.specs.declared.act.Act.TheVariants.{LeaveByStamp}
 use Rattle.core_acts.proofs.Acting.{section_is}
 use Rattle.core_points.specs.Acts.{Act, field_of, marks_of, view_after}
-use Rattle.core_points.specs.Callers.{Own, but_first, first_or_root, go, high_key, low_key, or_root, is_none_left, is_some as has_slot, key_now, value_in}
-use Rattle.core_points.specs.Programs.{act_at, after, answer, committing, deleting, ended, past_left, past_right, past_target_load, verdict, excused, found, giving, is_reader, key_read, none_free, past_lock, past_reserve, past_unlock, taking, unlocked, wait_over}
-use Rattle.core_points.specs.DeletePlan.{last_right, move_locks, nothing_found, target_holds, target_lock, target_locks, target_part, target_slot, with_found}
-use Rattle.core_points.specs.Facts.{is_delete, is_put, is_set}
+use Rattle.core_points.specs.Callers.{Own, but_first, first_or_root, go, high_key, low_key, or_root, is_none_left, is_some as has_slot, key_now}
+use Rattle.core_points.specs.Programs.{act_at, after, answer, committing, ended, past_left, past_right, found, is_reader, key_read, none_free, past_reserve, past_unlock, taking, unlocked}
+use Rattle.core_points.specs.DeletePlan.{move_locks, nothing_found, target_lock, target_locks, target_part, target_slot, with_found}
+use Rattle.core_points.specs.Facts.{is_put}
 use Rattle.core_points.specs.Told.{IsTold}
 use Rattle.core_points.specs.Fits.{Fits}
 use Rattle.core_points.specs.Laws.{is_finished}
-use Rattle.core_machine.proofs.Phases.{Adds, IsLate, Known, Next, Phase, Since, Tells, aiming, answers_so, at_answer, either_next, entered_more, explained_later, goes_on, inside, made, made_later, move_later, moving, no_marks, outside, phase, said, searching, seen_before, since_later, tells_by, waiting}
+use Rattle.core_machine.proofs.Phases.{Adds, IsLate, Known, Next, Since, Tells, aiming, answers_so, at_answer, either_next, entered_more, explained_later, goes_on, inside, made, made_later, move_later, moving, no_marks, outside, phase, said, seen_before, since_later, tells_by, waiting}
 use Rattle.core_points.proofs.All.{needs_are_given}
 use Rattle.core_points.proofs.Answering.{answers_are_said}
 use Rattle.core_moves.proofs.copy.NextKey.{copy_next}
 use Rattle.core_machine.proofs.ActMarks.{began_adds, either_adds, left_adds, look_adds, own_one, seize_adds}
-
--- ---- what answers are explained by
-
-absent_explained : (room : Room) (op : Op) (m : Dictionary) → is_put op ≡ false → finite.get m (key_of op) ≡ None
-    → Explains room m op Absent
-absent_explained room (Put key value) m other none = absurd (cc)
-absent_explained room (Get key) m other none = ap is_some none
-absent_explained room (Del key) m other none = ap is_some none
-absent_explained room (Set key value) m other none = ap is_some none
-
-old_explained : (room : Room) (op : Op) (m : Dictionary) (value : ℕ) → is_put op ≡ true → finite.get m (key_of op) ≡ Some value
-    → Explains room m op Old
-old_explained room (Put key v) m value put is = ap is_some is
-old_explained room (Get key) m value put is = absurd (cc)
-old_explained room (Del key) m value put is = absurd (cc)
-old_explained room (Set key v) m value put is = absurd (cc)
-
-full_explained : (room : Room) (op : Op) (m : Dictionary) → is_put op ≡ true → room.slots ≤ finite.len m + 20 * (room.scripts - 1)
-    → Explains room m op Full
-full_explained room (Put key v) m put large = large
-full_explained room (Get key) m put large = absurd (cc)
-full_explained room (Del key) m put large = absurd (cc)
-full_explained room (Set key v) m put large = absurd (cc)
-
-pub put_is : (op : Op) → is_put op ≡ true → Put (key_of op) (value_in op) ≡ op
-put_is (Put key value) e = refl
-put_is (Get key) e = absurd (cc)
-put_is (Del key) e = absurd (cc)
-put_is (Set key value) e = absurd (cc)
-
-pub del_is : (op : Op) → is_delete op ≡ true → Del (key_of op) ≡ op
-del_is (Put key value) e = absurd (cc)
-del_is (Get key) e = absurd (cc)
-del_is (Del key) e = refl
-del_is (Set key value) e = absurd (cc)
-
-pub set_is : (op : Op) → is_set op ≡ true → Set (key_of op) (value_in op) ≡ op
-set_is (Put key value) e = absurd (cc)
-set_is (Get key) e = absurd (cc)
-set_is (Del key) e = absurd (cc)
-set_is (Set key value) e = refl
-
-new_confirms : (op : Op) (d : Dictionary) → is_put op ≡ true → Confirms d op New
-new_confirms (Put key value) d e = tt
-new_confirms (Get key) d e = absurd (cc)
-new_confirms (Del key) d e = absurd (cc)
-new_confirms (Set key value) d e = absurd (cc)
-
-gone_confirms : (op : Op) (d : Dictionary) → is_delete op ≡ true → Confirms d op Gone
-gone_confirms (Put key value) d e = absurd (cc)
-gone_confirms (Get key) d e = absurd (cc)
-gone_confirms (Del key) d e = tt
-gone_confirms (Set key value) d e = absurd (cc)
-
-was_confirms : (op : Op) (d : Dictionary) (old : ℕ) → is_set op ≡ true → finite.get d (key_of op) ≡ Some old → Confirms d op (Was old)
-was_confirms (Put key value) d old e is = absurd (cc)
-was_confirms (Get key) d old e is = absurd (cc)
-was_confirms (Del key) d old e is = absurd (cc)
-was_confirms (Set key value) d old e is = is
-
--- a search's answer, at a front since its section was entered
-said_explains : (room : Room) (c : Caller) (op : Op) (h marks : List Mark) (reply : Reply) (from : ℕ) (answers : Option ℕ)
-    → updates_of marks ≡ [] → length (updates_of c.seen) ≤ from → WasSaid (updates_of h) (key_of op) from answers
-    → ((m : Dictionary) → finite.get m (key_of op) ≡ answers → Explains room m op reply)
-    → WasExplained (Explains room) c op (record { reply = reply; number = 0 }) marks h
-said_explains room c op h marks reply from answers none late w explains = record {
-  left = none;
-  front = w.front;
-  since = (let s = w.since in omega arith);
-  until = w.made;
-  explained = explains (map_at (updates_of h) w.front) w.answers;
-}
-
--- ---- sections
+use Rattle.core_machine.proofs.Replies.{absent_explained, old_explained, full_explained, put_is, del_is, set_is, new_confirms, gone_confirms, was_confirms, said_explains}
+use Rattle.core_machine.proofs.NextPoints.{aim_outside, wait_outside, stage_next, either_tells, ended_next, found_next, lock_next, giving_next, place_next, right_next, left_next, target_next}
 
 late_in : (n : ℕ) (section : Option Section) (s : Section) → section ≡ Some s → IsLate n section → n ≤ s.from
 late_in n section s e late = subst (IsLate n) e late
@@ -151,90 +75,6 @@ load_late : (n : ℕ) (u : View) (field : Field) (found : ℕ) (section : Sectio
     → IsLate n (after_search_load u (section_of u) field found).section
 load_late n u field found section is late = subst (λ (z : Section). n ≤ z.from) (sym (section_is u section is))
     (late_in n u.section section is late)
-
--- ---- the next points
-
-aim_outside : (aim : Aim) → aiming aim ≡ inside → ⊥
-aim_outside (Leaf spot) e = absurd (cc)
-aim_outside Spare e = absurd (cc)
-aim_outside ForRoom e = absurd (cc)
-
-wait_outside : (waits : Waits) → waiting waits ≡ inside → ⊥
-wait_outside (Reuse aim) e = aim_outside aim e
-wait_outside (Move m) e = absurd (cc)
-
-stage_next : (o : Own) (p : Phase) (o' : Own) (b : Bool) (x y : Stage) → Next o p (go o' x) → Next o p (go o' y)
-    → Next o p (go o' (cond b x y))
-stage_next o p o' true x y nx ny = nx
-stage_next o p o' false x y nx ny = ny
-
-either_tells : (room : Room) (i : ℕ) (script : List Op) (section : Option Section) (h : List Mark) (b : Bool) (x y : Own)
-    → (b ≡ true → Tells room i script x section h) → (b ≡ false → Tells room i script y section h)
-    → Tells room i script (cond b x y) section h
-either_tells room i script section h true x y tx ty = tx refl
-either_tells room i script section h false x y tx ty = ty refl
-
-ended_next : (o o' : Own) (op : Op) (s : ℕ) (b : Side) → said o' ≡ said o → Next o inside (go o' (ended op s b))
-ended_next o o' (Put key value) s b same = (same, refl, inl refl)
-ended_next o o' (Get key) s b same = (same, refl, inl refl)
-ended_next o o' (Del key) s b same = (same, refl, inl refl)
-ended_next o o' (Set key value) s b same = (same, refl, inl refl)
-
-found_next : (o o' : Own) (op : Op) (s p : ℕ) (b : Side) → said o' ≡ said o → Next o inside (go o' (found op s p b))
-found_next o o' (Put key value) s p b same = (same, refl, inl refl)
-found_next o o' (Get key) s p b same = (same, refl, inl refl)
-found_next o o' (Del key) s p b same = (same, refl, inl refl)
-found_next o o' (Set key value) s p b same = (same, refl, inl refl)
-
-lock_next : (o o' : Own) (s n : ℕ) (next : Stage) → said o' ≡ said o → is_finished next ≡ false → phase next ≡ outside
-    → Next o outside (past_lock o' s n next)
-lock_next o o' s n next same going is = either_next o outside (n == 0) _ _ (same, going, inl (sym is))
-    (stage_next o outside o' (is_none_left o'.locks) _ _ (same, refl, inr (refl, refl)) (same, refl, inr (refl, refl)))
-
-giving_next : (o o' : Own) (aim : Aim) → said o' ≡ said o → Next o (aiming aim) (giving o' aim)
-giving_next o o' (Leaf spot) same = stage_next o outside o' (is_none_left o'.retired) _ _ (same, refl, inl refl) (same, refl, inl refl)
-giving_next o o' Spare same = stage_next o searching o' (is_none_left o'.retired) _ _ (same, refl, inl refl) (same, refl, inl refl)
-giving_next o o' ForRoom same = stage_next o searching o'
-    (is_none_left o'.retired) _ _ (stage_next o searching o' (has_slot o'.spare) _ _ (same, refl, inl refl) (same, refl, inl refl))
-    (same, refl, inl refl)
-
-wait_next : (o o' : Own) (waits : Waits) → said o' ≡ said o → Next o (waiting waits) (wait_over o' waits)
-wait_next o o' (Reuse aim) same = giving_next o o' aim same
-wait_next o o' (Move m) same = (same, refl, inl refl)
-
-place_next : (o o' : Own) (waits : Waits) (clock p : ℕ) → said o' ≡ said o → Next o (waiting waits) (excused o' waits clock p)
-place_next o o' waits clock p same = either_next o (waiting waits) (p + 1 == o'.places) _ _ (wait_next o o' waits same)
-    (same, refl, inl refl)
-
-right_next : (o o' : Own) (d : Node) → said o' ≡ said o → Next o inside (go o' (past_right d))
-right_next o o' d same = stage_next o inside o' ((d.left == 0) || (d.right == 0)) _ _ (same, refl, inl refl) (same, refl, inl refl)
-
-left_next : (o o' : Own) (d : Node) (u : Successor) (n : ℕ) → said o' ≡ said o → Next o inside (go o' (past_left d u n))
-left_next o o' d u n same = stage_next o inside o'
-    (n == 0) _ _ (stage_next o inside o' (u.parent == d.node) _ _ (same, refl, inl refl) (same, refl, inl refl)) (same, refl, inl refl)
-
-deleting_next : (o o' : Own) (d : Node) (x : Option Successor) → said o' ≡ said o → Next o outside (go o' (deleting d x))
-deleting_next o o' d None same = (same, refl, inl refl)
-deleting_next o o' d (Some u) same = (same, refl, inl refl)
-
-verdict_next : (o o' : Own) (t : Target) (f : Found) → said o' ≡ said o → Next o outside (go o' (verdict t f))
-verdict_next o o' t f same = stage_next o outside o'
-    (target_holds t f) _ _ (deleting_next o o' (record t.node { left = f.left; right = last_right t.node t.successor f }) t.successor same)
-    (same, refl, inr (refl, refl))
-
-target_next : (o o' : Own) (t : Target) (j : ℕ) (f : Found) → said o' ≡ said o → Next o outside (go o' (past_target_load t j f))
-target_next o o' t j f same = by t.successor
-  where
-    by : (x : Option Successor) → Next o outside (go o' (elim x as (λ _. Stage) [
-      | None ↦ cond (j == 4) (verdict t f) (at.TargetLoad t (j + 1) f)
-      | Some u ↦ cond (j == 8) (verdict t f) (cond ((j == 4) && (u.parent == t.node.node)) (at.TargetLoad t 6 f)
-          (at.TargetLoad t (j + 1) f))
-    ]))
-    by None = stage_next o outside o' (j == 4) _ _ (verdict_next o o' t f same) (same, refl, inl refl)
-    by (Some u) = stage_next o outside o' (j == 8) _ _ (verdict_next o o' t f same)
-        (stage_next o outside o' ((j == 4) && (u.parent == t.node.node)) _ _ (same, refl, inl refl) (same, refl, inl refl))
-
--- ---- the step
 
 module _ (k : Shape) (m : Memory) (vs : List View) (h : List Mark) (i : ℕ) (o : Own) (v : View) (script : List Op) (inv : HoldsNow k m vs h)
     (there : get_elem? vs i ≡ some v) (place : v.allowance.place ≡ i) where

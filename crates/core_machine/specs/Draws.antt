@@ -1,5 +1,5 @@
 -- Which callers step in a run that is drawn from a number.
--- Source: docs/TREE.md, "The machine"; the generator is that of docs/FORMATS.md, "The made workload".
+-- Source: docs/TREE_CALLS.md, "The machine"; the generator is that of docs/FORMATS.md, "The made workload".
 use Rattle.std.specs.Prelude.{◌≡◌, ℕ, ◌+◌, ◌%◌, ◌≤◌, if◌then◌else◌, List, [], ◌∷◌, length, slice_index_or}
 use Rattle.workload.specs.Draws.{next_state, drawn}
 use Rattle.core_points.specs.Callers.{Own}

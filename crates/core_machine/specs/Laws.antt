@@ -1,5 +1,5 @@
 -- What is promised of the core's run, whatever the scripts, the slots and the order of steps.
--- Source: docs/TREE.md, "The machine".
+-- Source: docs/TREE_CALLS.md, "The machine".
 use Rattle.std.specs.Prelude.{◌≡◌, ℕ, ◌≤◌, true, false, List, [], length}
 use mathlib.Core.Option.{some}
 use lib.ListN.{get_elem?}

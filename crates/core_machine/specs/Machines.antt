@@ -1,5 +1,5 @@
 -- What a machine stores, and that it is the core's.
--- Source: docs/TREE.md, "The machine".
+-- Source: docs/TREE_CALLS.md, "The machine".
 use Rattle.std.specs.Prelude.{map, ◌≡◌, ℕ, ◌*◌, ◌<◌, Bool, true, false, List, ◌++◌, set, slice_get, slice_set, Option, Some, None}
 use Rattle.prcu_marks.specs.declared.mark.Why.{Why}
 use Rattle.prcu_model.specs.declared.operation.Op.{Op}

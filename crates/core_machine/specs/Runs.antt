@@ -1,5 +1,5 @@
 -- The core's run: the words, what each caller keeps, its view, and the marks, after these callers have stepped in this order.
--- Source: docs/TREE.md, "The machine".
+-- Source: docs/TREE_CALLS.md, "The machine".
 use Rattle.std.specs.Prelude.{ℕ, ◌+◌, ◌*◌, ◌/◌, if◌then◌else◌, List, [], ◌∷◌, ◌++◌, length, map, set, None, Some}
 use mathlib.Core.Option.{Option, some}
 use lib.ListN.{get_elem?}

@@ -1,5 +1,5 @@
 -- Where the search of a caller's section stands.
--- Source: docs/TREE.md, "The machine".
+-- Source: docs/TREE_CALLS.md, "The machine".
 use Rattle.std.specs.Prelude.{ℕ, ◌==◌, if◌then◌else◌, Option, Some, None}
 use Rattle.core_state.specs.declared.view.Section.{Section}
 use Rattle.core_state.specs.declared.view.View.{View}

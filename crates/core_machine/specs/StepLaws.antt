@@ -1,5 +1,5 @@
 -- What is promised of one step on the words, of any core.
--- Source: docs/TREE.md, "The machine".
+-- Source: docs/TREE_CALLS.md, "The machine".
 use Rattle.std.specs.Prelude.{◌≡◌, ℕ, false, List, [], ◌∷◌, ◌++◌, length, set}
 use mathlib.Core.Option.{some}
 use lib.ListN.{get_elem?}

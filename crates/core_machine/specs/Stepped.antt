@@ -1,5 +1,5 @@
 -- What a step of the machine answers: that the caller went on, where it found its way blocked, or that its script had ended.
--- Source: docs/TREE.md, "The machine".
+-- Source: docs/TREE_CALLS.md, "The machine".
 use Rattle.std.specs.Prelude.{ℕ, ◌%◌, ◌==◌, nat_lt, ◌||◌, ◌&&◌, not, if◌then◌else◌, Option, Some, None}
 use mathlib.Core.Option.{none, some}
 use lib.ListN.{get_elem?}

@@ -1,5 +1,5 @@
 -- One step of a caller on the words: what it needs, and what it leaves.
--- Source: docs/TREE.md, "The machine".
+-- Source: docs/TREE_CALLS.md, "The machine".
 use Rattle.std.specs.Prelude.{◌≡◌, ℕ, ◌<◌, true, List, [], ◌∷◌, length, slice_index}
 use Rattle.prcu_model.specs.declared.operation.Update.{Update}
 use Rattle.core_state.specs.declared.shape.Shape.{Shape}

@@ -1,5 +1,5 @@
 -- What the machine's values stand for: what a caller keeps, and what the next point asks of the numbers.
--- Source: docs/TREE.md, "The machine".
+-- Source: docs/TREE_CALLS.md, "The machine".
 use Rattle.std.specs.Prelude.{◌≡◌, ◌≢◌, ℕ, ◌+◌, ◌*◌, ◌/◌, ◌%◌, ◌^◌, ◌<◌, ◌≤◌, Bool, true, false, if◌then◌else◌, length, drop}
 use Rattle.core_state.specs.declared.words.Field.{Field}
 use Rattle.core_points.specs.declared.stage.Update.{Update}

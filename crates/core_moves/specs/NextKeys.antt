@@ -1,5 +1,5 @@
 -- What the rule says of the keys of a move.
--- Source: docs/TREE.md, "The steps of the tree".
+-- Source: docs/TREE_INVARIANT.md, "The steps of the tree".
 use Rattle.std.specs.Prelude.{◌≡◌, ℕ, List}
 use mathlib.Core.Option.{some}
 use lib.ListN.{get_elem?}

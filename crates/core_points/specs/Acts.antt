@@ -1,5 +1,5 @@
 -- The acts as callers of the first waiter make them.
--- Source: docs/TREE.md, "The calls".
+-- Source: docs/TREE_CALLS.md, "The calls".
 use Rattle.std.specs.Prelude.{ℕ, Bool, true, false, List}
 use Rattle.prcu_marks.specs.declared.mark.Mark.{Mark}
 use Rattle.core_state.specs.declared.shape.Shape.{Shape}

@@ -1,5 +1,5 @@
 -- What is promised of the calls' points.
--- Source: docs/TREE.md, "The calls".
+-- Source: docs/TREE_CALLS.md, "The calls".
 use Rattle.std.specs.Prelude.{◌++◌, ◌+◌, [], None, Some, set, ◌≡◌, ℕ, ◌*◌, ◌^◌, ◌<◌, ◌≤◌, Bool, true, false, List, length}
 use mathlib.Core.Option.{some}
 use lib.ListN.{get_elem?}

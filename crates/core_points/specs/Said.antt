@@ -1,5 +1,5 @@
 -- What the history says of the answer that a call is about to give.
--- Source: docs/TREE.md, "The calls".
+-- Source: docs/TREE_CALLS.md, "The calls".
 use Rattle.std.specs.Prelude.{◌≡◌, ℕ, ◌+◌, ◌-◌, ◌*◌, ◌/◌, ◌≤◌, true, List, length, Some, None}
 use Rattle.std.specs.FinMap as finite
 use mathlib.Core.Option.{some}

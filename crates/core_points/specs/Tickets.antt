@@ -1,5 +1,5 @@
 -- The tickets that the rest of a call may use, at each of its points.
--- Source: docs/TREE.md, "The calls".
+-- Source: docs/TREE_CALLS.md, "The calls".
 use Rattle.std.specs.Prelude.{ℕ, ◌+◌, ◌-◌, if◌then◌else◌, List, Option, Some, None}
 use Rattle.prcu_model.specs.declared.operation.Op.{Op}
 use Rattle.prcu_model.specs.declared.operation.Op.TheVariants.{Put, Get, Del, Set}

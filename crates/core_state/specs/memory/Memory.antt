@@ -1,5 +1,5 @@
 -- The table's words as a memory with named fields, and where each stands in the table's row.
--- Source: docs/TREE.md, "The words of the tree's table".
+-- Source: docs/TREE_INVARIANT.md, "The words of the tree's table".
 use Rattle.std.specs.Prelude.{ℕ, ◌+◌, ◌*◌, ◌==◌, nat_lt, ◌&&◌, Bool, true, false, if◌then◌else◌, List, slice_index}
 use Rattle.prcu_marks.specs.declared.mark.Side.{Side}
 use Rattle.prcu_marks.specs.declared.mark.Side.TheVariants.{Left, Right}

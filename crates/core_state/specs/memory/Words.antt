@@ -1,5 +1,5 @@
 -- What single words say.
--- Source: docs/TREE.md, "The words of the tree's table".
+-- Source: docs/TREE_INVARIANT.md, "The words of the tree's table".
 use Rattle.std.specs.Prelude.{ℕ, ◌-◌, ◌==◌, nat_lt, if◌then◌else◌, Option, Some, None}
 use Rattle.prcu_marks.specs.declared.mark.Side.{Side}
 use Rattle.prcu_marks.specs.declared.mark.Side.TheVariants.{Left, Right}

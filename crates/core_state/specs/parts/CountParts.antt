@@ -1,5 +1,5 @@
 -- The invariant on counts: free slots, and the tickets that pay for clocks, generations, tags and turns.
--- Source: docs/TREE.md, "The invariant of the tree".
+-- Source: docs/TREE_INVARIANT.md, "The invariant of the tree".
 use Rattle.std.specs.Prelude.{◌≡◌, ℕ, ◌+◌, ◌-◌, ◌*◌, ◌/◌, ◌≤◌, ◌==◌, ◌&&◌, not, if◌then◌else◌, List, length, Option, Some, None}
 use Rattle.std.specs.FinMap as finite
 use Rattle.prcu_marks.specs.declared.mark.Mark.{Mark}

@@ -1,5 +1,5 @@
 -- The invariant on the front and the history.
--- Source: docs/TREE.md, "The invariant of the tree".
+-- Source: docs/TREE_INVARIANT.md, "The invariant of the tree".
 use Rattle.std.specs.Prelude.{◌≡◌, ◌≢◌, ◌⊎◌, ℕ, ◌+◌, ◌*◌, false, List, length, Some, None}
 use mathlib.Core.Option.{some}
 use lib.ListN.{get_elem?}

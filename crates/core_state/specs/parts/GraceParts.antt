@@ -1,5 +1,5 @@
 -- The invariant on grace and reuse: waits outlast the readers they are for, and nothing is used again that a reader may meet.
--- Source: docs/TREE.md, "The invariant of the tree".
+-- Source: docs/TREE_INVARIANT.md, "The invariant of the tree".
 use Rattle.std.specs.Prelude.{◌≡◌, ℕ, ◌+◌, ◌<◌, ◌≤◌, true, List, Some, None}
 use mathlib.Core.Option.{some}
 use lib.ListN.{get_elem?}

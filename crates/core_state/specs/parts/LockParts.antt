@@ -1,5 +1,5 @@
 -- The invariant on locks: who holds them, which nodes are marked, and that what was loaded and stored under a lock is so.
--- Source: docs/TREE.md, "The invariant of the tree".
+-- Source: docs/TREE_INVARIANT.md, "The invariant of the tree".
 use Rattle.std.specs.Prelude.{◌≡◌, ◌≢◌, ℕ, ◌+◌, ◌*◌, ◌/◌, ◌<◌, ◌≤◌, ◌⊎◌, true, false, List, [], length, map, Some, None}
 use mathlib.Core.Option.{some}
 use lib.ListN.{get_elem?}

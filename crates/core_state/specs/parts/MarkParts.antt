@@ -1,5 +1,5 @@
 -- The invariant on marks and waits.
--- Source: docs/TREE.md, "The invariant of the tree".
+-- Source: docs/TREE_INVARIANT.md, "The invariant of the tree".
 use Rattle.std.specs.Prelude.{◌≡◌, ℕ, ◌+◌, true, false, List, take, Some}
 use mathlib.Core.Option.{some}
 use mathlib.Core.List.{IsPrefix}

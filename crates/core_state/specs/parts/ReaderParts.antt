@@ -1,5 +1,5 @@
 -- The invariant on readers, their records and walks, and on how old an unlinked slot is that a section may meet.
--- Source: docs/TREE.md, "The invariant of the tree".
+-- Source: docs/TREE_INVARIANT.md, "The invariant of the tree".
 use Rattle.std.specs.Prelude.{◌≡◌, ◌≢◌, ℕ, ◌*◌, ◌/◌, ◌^◌, ◌<◌, ◌⊎◌, true, List, [], Option, Some, None}
 use mathlib.Core.Option.{some}
 use lib.ListN.{get_elem?}

@@ -1,5 +1,5 @@
 -- The invariant on seats and places: who answers for which place, which section is open where, and how many there were.
--- Source: docs/TREE.md, "The invariant of the tree".
+-- Source: docs/TREE_INVARIANT.md, "The invariant of the tree".
 use Rattle.std.specs.Prelude.{◌≡◌, ℕ, ◌^◌, ◌<◌, ◌≤◌, nat_lt, if◌then◌else◌, List, [], length, take, Some}
 use mathlib.Core.Option.{some}
 use mathlib.Core.List.{IsPrefix}

@@ -1,5 +1,5 @@
 -- The invariant on slots that aren't linked: each slot has one role, and what its life and its fields are there.
--- Source: docs/TREE.md, "The invariant of the tree".
+-- Source: docs/TREE_INVARIANT.md, "The invariant of the tree".
 use Rattle.std.specs.Prelude.{◌≡◌, ◌≢◌, ℕ, ◌+◌, ◌<◌, ◌≤◌, ◌==◌, true, false, List, length, Some, None}
 use mathlib.Core.Option.{some}
 use lib.ListN.{get_elem?}

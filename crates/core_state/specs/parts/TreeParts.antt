@@ -1,5 +1,5 @@
 -- The invariant on links, shape, map and pending moves.
--- Source: docs/TREE.md, "The invariant of the tree".
+-- Source: docs/TREE_INVARIANT.md, "The invariant of the tree".
 use Rattle.std.specs.Prelude.{◌≡◌, ◌≢◌, ℕ, ◌*◌, ◌<◌, ◌==◌, if◌then◌else◌, true, false, List, Option, Some}
 use Rattle.std.specs.FinMap as finite
 use mathlib.Core.Option.{some}

@@ -1,5 +1,5 @@
 -- The invariant on the words of the three waiters: where the open sections show, and what a wait has excused.
--- Source: docs/TREE.md, "The invariant of the tree".
+-- Source: docs/TREE_INVARIANT.md, "The invariant of the tree".
 use Rattle.std.specs.Prelude.{◌≡◌, ◌≢◌, ℕ, ◌<◌, ◌≤◌, ◌==◌, ◌&&◌, if◌then◌else◌, false, List, length, take, Option, Some, None}
 use mathlib.Core.Option.{some}
 use lib.ListN.{get_elem?}

@@ -1,5 +1,5 @@
 -- The steps of seats: K1 and K2, a split and a join.
--- Source: docs/TREE.md, "The steps of the tree".
+-- Source: docs/TREE_INVARIANT.md, "The steps of the tree".
 use Rattle.std.specs.Prelude.{◌≡◌, ℕ, ◌+◌, ◌-◌, ◌<◌, ◌≤◌, false, List, [], ◌∷◌, ◌++◌, length, map, Option, Some, None}
 use mathlib.Core.List.{IsPrefix}
 use Rattle.prcu_marks.specs.declared.mark.Mark.{Mark}

@@ -1,5 +1,5 @@
 -- The steps of slots that aren't linked: K9, K10, K11, K12, K15 and K16.
--- Source: docs/TREE.md, "The steps of the tree".
+-- Source: docs/TREE_INVARIANT.md, "The steps of the tree".
 use Rattle.std.specs.Prelude.{◌≡◌, ◌≢◌, ℕ, ◌+◌, ◌-◌, ◌*◌, ◌/◌, ◌≤◌, ◌==◌, ◌⊎◌, true, false, if◌then◌else◌, List, [], ◌∷◌, ◌++◌, map, Option, Some, None}
 use mathlib.Core.Option.{some}
 use lib.ListN.{get_elem?}

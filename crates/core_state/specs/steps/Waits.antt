@@ -1,5 +1,5 @@
 -- The steps of waits: K7, K8, K31, K32 and K35.
--- Source: docs/TREE.md, "The steps of the tree".
+-- Source: docs/TREE_INVARIANT.md, "The steps of the tree".
 use Rattle.std.specs.Prelude.{◌≡◌, ℕ, ◌+◌, ◌-◌, ◌%◌, ◌^◌, ◌<◌, ◌≤◌, ◌==◌, nat_lt, nat_le, ◌&&◌, ◌||◌, not, Bool, true, false, if◌then◌else◌, List, [], ◌∷◌, ◌++◌, length, map, Option, Some, None}
 use Rattle.prcu_marks.specs.declared.mark.Mark.{Mark}
 use Rattle.prcu_marks.specs.declared.mark.Mark.TheVariants.{Began, Ended}

@@ -1,7 +1,7 @@
 -- What is known of each slot beside its words, and what holds of the linked ones: the shape of the tree, said of one slot and
 -- its neighbours at a time. The range of a slot, from `low` on and below `high`, is what the literature on search structures
 -- calls its inset (Shasha and Goodman; Krishna, Shasha and Wies): the keys for which a search from the root reaches the slot.
--- Source: docs/TREE.md, "The chart of ranges".
+-- Source: docs/TREE_INVARIANT.md, "The chart of ranges".
 use Rattle.std.specs.Prelude.{◌≡◌, ◌≢◌, ℕ, ◌+◌, ◌<◌, ◌≤◌, ◌^◌, Bool, true, false, Option, Some}
 use Rattle.prcu_marks.specs.declared.mark.Side.{Side}
 use Rattle.prcu_marks.specs.declared.mark.Side.TheVariants.{Left, Right}

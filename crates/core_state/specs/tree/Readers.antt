@@ -1,5 +1,5 @@
 -- Where a reader stands, and what it will answer.
--- Source: docs/TREE.md, "Readers".
+-- Source: docs/TREE_INVARIANT.md, "Readers".
 use Rattle.std.specs.Prelude.{◌≡◌, ◌≢◌, ℕ, ◌<◌, ◌≤◌, Bool, true, false, List, Option, Some}
 use mathlib.Core.Option.{some}
 use lib.ListN.{get_elem?}

@@ -1,5 +1,5 @@
 -- What a view knows of words: the number that it last loaded or stored there.
--- Source: docs/TREE.md, "What a seat of the tree knows".
+-- Source: docs/TREE_INVARIANT.md, "What a seat of the tree knows".
 use Rattle.std.specs.Prelude.{◌≡◌, ℕ, ◌/◌, ◌==◌, Bool, if◌then◌else◌, List, [], ◌∷◌, map, Option, Some, None}
 use Rattle.prcu_marks.specs.declared.mark.Side.{Side}
 use Rattle.prcu_marks.specs.declared.mark.Side.TheVariants.{Left, Right}

@@ -1,5 +1,5 @@
 -- What a view has: its places, its slots, what its sections found out.
--- Source: docs/TREE.md, "What a seat of the tree knows".
+-- Source: docs/TREE_INVARIANT.md, "What a seat of the tree knows".
 use Rattle.std.specs.Prelude.{◌≡◌, ℕ, ◌+◌, ◌-◌, ◌<◌, ◌≤◌, Bool, false, if◌then◌else◌, List, [], ◌∷◌, ◌++◌, length, map, Option, Some, None}
 use Rattle.prcu_marks.specs.declared.mark.Mark.{Mark}
 use Rattle.prcu_marks.specs.Marks.{Open, own_of}
