@@ -1,5 +1,6 @@
 -- What asking about a cookie and starting one leaves.
 use Rattle.std.proofs.Common.{◌≡◌, ℕ, ◌+◌, ◌<◌, ◌≤◌, ◌⊎◌, is_some, true, false, List, [], ◌∷◌, length, take, Option, Some, None, inl, inr, refl, sym, ap, subst, ◌∙◌, ⊎_elim, arith, append-nil}
+use mathlib.Core.List.{IsPrefix}
 use Rattle.prcu_model.specs.declared.operation.Op.{Op}
 use Rattle.prcu_marks.specs.declared.mark.Mark.{Mark}
 use Rattle.prcu_marks.specs.declared.mark.Mark.TheVariants.{Began, Ended}
@@ -13,7 +14,7 @@ use Rattle.seat_table.specs.Gains.{IsInformed}
 use Rattle.seat_table.specs.Seats.{SeatAt}
 use Rattle.seat_table.specs.Waits.{IsOver}
 use Rattle.tree_points.specs.Progress.{HasGone}
-use Rattle.tree_points.proofs.Gone.{allowed, gone_none, gone_on, gone_stays, gone_same, gone_begun, gone_over}
+use Rattle.tree_points.proofs.Gone.{allowed, further_by, gone_none, gone_on, no_further, gone_stays, gone_same, gone_begun, gone_over}
 use Rattle.node_slots.specs.Reclaiming.{return_marks}
 use Rattle.node_slots.proofs.Marking.{each_begins, each_own, returned_nobodys}
 use Rattle.grace_cookie.specs.declared.answers.Ask.{Ask}
@@ -27,12 +28,16 @@ use Rattle.cookie_client.specs.Rooms.{Holding, AsksOn, AsksUntilNone, LacksRoom,
 pub back_gone : (c : CookieAt) (s : SeatAt) (number : ℕ) (t : SeatAt) → HasGivenBack c s number t
     → HasGone s.view t.view [] × (t.view.allowance ≡ s.view.allowance) × (t.view.counts.waits ≡ s.view.counts.waits)
 back_gone c s number t back = ⊎_elim
-    (λ (none : GivesNone c s number t). let e = ap (λ (z : SeatAt). z.view) none.same in
-    (gone_none (allowed e refl) (ap (λ (z : View). z.seen) e), ap (λ (z : View). z.allowance) e, ap (λ (z : View). z.counts.waits) e))
+    (λ (none : GivesNone c s number t). let e = ap (λ (z : SeatAt). z.view) none.same in (
+      gone_none (no_further s.view t.view (ap (λ (z : View). z.trail.steps) e)) (allowed e refl) (ap (λ (z : View). z.seen) e),
+      ap (λ (z : View). z.allowance) e,
+      ap (λ (z : View). z.counts.waits) e,
+    ))
     (λ (some : GivesSome c s number t).
     let g = some.gives in
     let marks : List Mark = return_marks (held_list s.view.hands.spare) (take c.slots s.listed) in (
       record {
+        steps = g.steps;
         same = ap (λ (z : View). z.allowance.place) g.rest;
         allowance = allowed g.rest refl;
         begins = each_begins s.view t.view marks g.marks;
@@ -51,12 +56,13 @@ record AskLeaves (cookie : Option CookieAt) (v w : View) : Type 0 where
   pub allowance : w.allowance ≡ v.allowance
   pub waits : w.counts.waits ≡ v.counts.waits
 
-nothing_left : (cookie : Option CookieAt) (v w : View) → w.allowance ≡ v.allowance → w.counts.waits ≡ v.counts.waits → w.seen ≡ v.seen
+nothing_left : (cookie : Option CookieAt) (v w : View) → IsPrefix v.trail.steps w.trail.steps → w.allowance ≡ v.allowance
+    → w.counts.waits ≡ v.counts.waits → w.seen ≡ v.seen
     → AskLeaves cookie v w
-nothing_left cookie v w allowance waits seen =
+nothing_left cookie v w steps allowance waits seen =
     record {
       ended = [];
-      gone = gone_none (record
+      gone = gone_none steps (record
           { rest = allowance ∙ ap (λ n. record v.allowance { tickets = n }) (sym (ap (λ (a : Allowance). a.tickets) allowance)) }) seen;
       ends = inl refl;
       allowance = allowance;
@@ -93,16 +99,19 @@ module _ (k : Shape) (c : CookieAt) (s : SeatAt) (going : c.over ≡ false) (of 
   ]
   one_leaves (NotYet why) now mid asked goes =
       let e = (asked.3).looked.others in
-      same_view (Some c) s.view mid t goes.1 (nothing_left (Some c) s.view mid.view (ap (λ (z : View). z.allowance) e)
+      same_view (Some c) s.view mid t goes.1 (nothing_left (Some c) s.view mid.view
+      (further_by s.view mid.view _ (asked.3).looked.makes refl) (ap (λ (z : View). z.allowance) e)
       (ap (λ (z : View). z.counts.waits) e) (ap (λ (z : View). z.seen) e))
   one_leaves (GivenUp latest) now mid asked goes =
       let e = asked.view in
-      same_view (Some c) s.view mid t goes.1 (nothing_left (Some c) s.view mid.view (ap (λ (z : View). z.allowance) e)
+      same_view (Some c) s.view mid t goes.1 (nothing_left (Some c) s.view mid.view
+      (no_further s.view mid.view (ap (λ (z : View). z.trail.steps) e)) (ap (λ (z : View). z.allowance) e)
       (ap (λ (z : View). z.counts.waits) e) (ap (λ (z : View). z.seen) e))
 
 asks_leave : (k : Shape) (cookie : Option CookieAt) (s : SeatAt) (left : Option CookieAt) (t : SeatAt) → IsGood k s cookie
     → Asks k cookie s left t → AskLeaves cookie s.view t.view
-asks_leave k None s left t good asks = same_view None s.view s t asks.1 (nothing_left None s.view s.view refl refl refl)
+asks_leave k None s left t good asks = same_view None s.view s t asks.1
+    (nothing_left None s.view s.view (no_further s.view s.view refl) refl refl refl)
 asks_leave k (Some c) s left t good asks = one_leaves k c s good.0 good.1 left t asks.answer asks.now asks.seat asks.asked asks.goes
 
 -- ---- asking on and on
@@ -129,7 +138,8 @@ still_going k c s d t (NotYet why) now mid same asked goes =
       c = c;
       was = refl;
       count = ap (λ (z : CookieAt). z.count) (is ∙ same);
-      gone = gone_none (allowed (there ∙ e) refl) (ap (λ (z : View). z.seen) (there ∙ e));
+      gone = gone_none (further_by s.view t.view _ (ap (λ (z : View). z.trail) there ∙ (asked.3).looked.makes) refl)
+          (allowed (there ∙ e) refl) (ap (λ (z : View). z.seen) (there ∙ e));
       allowance = ap (λ (z : View). z.allowance) (there ∙ e);
       waits = ap (λ (z : View). z.counts.waits) (there ∙ e);
     }
@@ -182,7 +192,7 @@ room_leaves : (k : Shape) (op : Op) (cookie : Option CookieAt) (s : SeatAt) (lef
     → MakesRoom k op cookie s left t → AskLeaves cookie s.view t.view
 room_leaves k op cookie s left t good room = ⊎_elim
     (λ (none : (LacksRoom op s → ⊥) × (left ≡ cookie) × (t ≡ s)). same_view cookie s.view s t none.2
-    (nothing_left cookie s.view s.view refl refl refl))
+    (nothing_left cookie s.view s.view (no_further s.view s.view refl) refl refl refl))
     (λ (some : LacksRoom op s × (left ≡ None) × AsksUntilNone k cookie s t). asks_on_leave k cookie s (some.2).held None t good
     (some.2).asks)
     room

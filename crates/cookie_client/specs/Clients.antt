@@ -1,5 +1,5 @@
 -- Clients of the tree that hold a cookie.
--- Source: docs/TREE.md, "Cookies".
+-- Source: docs/TREE_CALLS.md, "Cookies".
 use Rattle.std.specs.Prelude.{◌≡◌, ◌+◌, ◌≤◌, List, [], Option}
 use Rattle.prcu_model.specs.declared.operation.Op.{Op}
 use Rattle.prcu_model.specs.declared.operation.Told.{Told}

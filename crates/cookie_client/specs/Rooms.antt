@@ -1,5 +1,5 @@
 -- What a client does about its cookie before a call.
--- Source: docs/TREE.md, "Cookies".
+-- Source: docs/TREE_CALLS.md, "Cookies".
 use Rattle.std.specs.Prelude.{◌≡◌, ℕ, ◌≤◌, ◌⊎◌, List, [], ◌∷◌, length, Option, Some, None}
 use Rattle.prcu_model.specs.declared.operation.Op.{Op}
 use Rattle.prcu_model.specs.declared.operation.Op.TheVariants.{Del}

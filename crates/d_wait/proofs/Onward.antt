@@ -12,8 +12,9 @@ use Rattle.key_interval.specs.LastClass.{IsLastClass}
 use Rattle.seat_table.specs.declared.wait.Grace.{Grace}
 use Rattle.seat_table.specs.Onward.{LooksAt, IsOnward, IsWithin, IsLater}
 use Rattle.seat_table.specs.Told.{Told}
-use Rattle.seat_table.specs.Waits.{Reached, reached}
-use Rattle.seat_table.proofs.Onward.{looks_then, looks_as, step_at, look_at, gate_at}
+use Rattle.seat_table.specs.Once.{one_step}
+use Rattle.seat_table.specs.Waits.{Reached, reached, Made}
+use Rattle.seat_table.proofs.Onward.{look_trail, gate_trail, looks_then, looks_as, step_at, look_at, gate_at}
 use Rattle.d_wait.specs.Classes.{at_next}
 
 -- a step of a wait, by where it looks
@@ -22,6 +23,16 @@ module _ {k : Shape} {v w : View} where
       → LooksAt (λ field. field ≡ Count class side) v w
   count_looked {class} {side} {found} {last} told =
       look_at (λ field. field ≡ Count class side) v w kinds.K31 (Count class side) found last told.marks told.goes refl
+
+  pub count_made : {class side found : ℕ} {last : Bool} → Told k v (LookCount class side last) found w
+      → Made v (one_step kinds.K31 (Count class side) found) w
+  count_made {class} {side} {found} {last} told = look_trail v w kinds.K31 (Count class side) found last told.marks told.goes
+
+  pub gate_made : {class found : ℕ} → Told k v (LoadGate class) found w → Made v (one_step kinds.K28 (Gate class) found) w
+  gate_made {class} {found} told = gate_trail v w kinds.K28 (Gate class) found class told.goes
+
+  pub turn_made : {class found : ℕ} → Told k v (TurnGate class) found w → Made v (one_step kinds.K32 (Gate class) found) w
+  turn_made told = ap (λ (z : View). z.trail) told.goes
 
   -- a gate is no spot
   pub gate_looked : {class found : ℕ} (r : Reached) → Told k v (LoadGate class) found w → LooksAt (IsOnward r) v w

@@ -367,3 +367,13 @@ module _ {W : Type 0} (k : Shape) (domain : k.waiter ≡ Domain) (grace : Grace 
         },
         is_last,
       ))
+
+-- A grace that may have gone back is of the same keys and the same clock.
+module _ {W : Type 0} (last : ℕ) (old new : Grace W) (back : IsBack last old new) where
+  pub back_keys : new.keys ≡ old.keys
+  back_keys = dite (dec_le old.class last) (λ within. ap (λ (z : Grace W). z.keys) (back.within within))
+      (λ beyond. ap (λ (z : Grace W). z.keys) (back.beyond (omega (arith, beyond))))
+
+  pub back_clock : new.clock ≡ old.clock
+  back_clock = dite (dec_le old.class last) (λ within. ap (λ (z : Grace W). z.clock) (back.within within))
+      (λ beyond. ap (λ (z : Grace W). z.clock) (back.beyond (omega (arith, beyond))))

@@ -1,5 +1,5 @@
 -- The classes that a wait of the second waiter goes over.
--- Source: docs/TREE.md, "The tree's waits".
+-- Source: docs/TREE_CALLS.md, "The tree's waits".
 use Rattle.std.specs.Prelude.{◌≡◌, ℕ, ◌+◌, ◌<◌, ◌≤◌, true, false}
 use Rattle.seat_table.specs.declared.wait.Grace.{Grace}
 

@@ -1,5 +1,5 @@
 -- How many gates a wait of the second waiter turns.
--- Source: docs/TREE.md, "The tree's waits".
+-- Source: docs/TREE_CALLS.md, "The tree's waits".
 use Rattle.std.specs.Prelude.{◌≡◌, ℕ, ◌+◌, ◌<◌, List, length, Some}
 use Rattle.core_state.specs.declared.shape.Shape.{Shape}
 use Rattle.core_state.specs.declared.shape.Waiter.TheVariants.{Domain}

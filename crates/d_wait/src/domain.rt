@@ -6,6 +6,7 @@ ghost use Rattle.key_interval.specs.LastClass.{IsLastClass};
 ghost use Rattle.seat_table.specs.declared.wait.Poll.TheVariants.{NotYet};
 ghost use Rattle.seat_table.specs.Looks.{HasPassed, HasMet};
 ghost use Rattle.seat_table.specs.Onward.{LooksAt, IsOnward, IsLater};
+ghost use Rattle.seat_table.specs.Once.{FindsNone, FindsOnce};
 ghost use Rattle.seat_table.specs.Seats.{shape_of};
 ghost use Rattle.seat_table.specs.Waits.{IsLatestOf, IsGoingOn, IsOver, Polled, StopsAt, reached};
 ghost use Rattle.d_wait.specs.Classes.{StaysAt, at_next, IsBack};
@@ -37,6 +38,7 @@ fn load_gate(table: &CitrusTable<Domain>, seat: &mut Seat<Domain>, grace: &mut G
     ensures grace { grace.new ≡ record grace.old { gate = grace.new.gate } }
     ensures gone_on { IsGoingOn (shape_of 1 table.now) seat.old.view grace.new seat.new.view }
     ensures onward { LooksAt (IsOnward (reached grace.old)) seat.old.view seat.new.view }
+    ensures clear { FindsNone grace.old.keys grace.old.clock seat.old.view seat.new.view }
 {
     if grace.gate != NOT_LOADED {
         return;
@@ -63,6 +65,8 @@ fn look(
     ensures met { IfSome result (λ why. HasMet seat.old.view why seat.new.view) }
     ensures there { IfSome result (λ why. StopsAt (reached grace.now) why) }
     ensures spot { LooksAt (λ field. field ≡ Count grace.now.class side) seat.old.view seat.new.view }
+    ensures clear { IfNone result (FindsNone grace.now.keys grace.now.clock seat.old.view seat.new.view) }
+    ensures once { IfSome result (λ why. FindsOnce grace.now.keys grace.now.clock seat.old.view why seat.new.view) }
 {
     let class = grace.class;
     let count = steps::look_count(table, seat, class, side, last);
@@ -87,6 +91,8 @@ fn turn(
     ensures met { IfSome result (λ why. Polled (shape_of 1 table.now) seat.old.view (NotYet why) grace.new seat.new.view) }
     ensures onward { LooksAt (IsOnward (reached grace.old)) seat.old.view seat.new.view }
     ensures later { IsLater (reached grace.old) (reached grace.new) }
+    ensures clear { IfNone result (FindsNone grace.old.keys grace.old.clock seat.old.view seat.new.view) }
+    ensures once { IfSome result (λ why. FindsOnce grace.old.keys grace.old.clock seat.old.view why seat.new.view) }
 {
     if grace.turned {
         return None;
@@ -128,6 +134,8 @@ fn pass(
     ensures met { IfSome result (λ why. Polled (shape_of 1 table.now) seat.old.view (NotYet why) grace.new seat.new.view) }
     ensures onward { LooksAt (IsOnward (reached grace.old)) seat.old.view seat.new.view }
     ensures later { IfNone result (IsLater (reached grace.old) (reached grace.new)) }
+    ensures clear { IfNone result (FindsNone grace.old.keys grace.old.clock seat.old.view seat.new.view) }
+    ensures once { IfSome result (λ why. FindsOnce grace.old.keys grace.old.clock seat.old.view why seat.new.view) }
 {
     if !grace.keys.meets_class(grace.class) {
         go_on(grace);
@@ -158,6 +166,8 @@ fn end(
     ensures over { IfNone result (IsOver (shape_of 1 table.now) seat.old.view seat.new.view) }
     ensures met { IfSome result (λ why. Polled (shape_of 1 table.now) seat.old.view (NotYet why) grace.new seat.new.view) }
     ensures onward { LooksAt (IsOnward (reached grace.old)) seat.old.view seat.new.view }
+    ensures clear { IfNone result (FindsNone grace.old.keys grace.old.clock seat.old.view seat.new.view) }
+    ensures once { IfSome result (λ why. FindsOnce grace.old.keys grace.old.clock seat.old.view why seat.new.view) }
 {
     if let Some(why) = turn(table, seat, grace) {
         return Some(why);

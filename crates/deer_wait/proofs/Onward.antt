@@ -13,14 +13,19 @@ use Rattle.key_interval.specs.LastClass.{IsLastClass}
 use Rattle.seat_table.specs.Onward.{LooksAt, IsOnward, IsWithin}
 use Rattle.seat_table.specs.Told.{Told}
 use Rattle.seat_table.specs.declared.wait.Grace.{Grace}
-use Rattle.seat_table.specs.Waits.{Reached, reached}
-use Rattle.seat_table.proofs.Onward.{looks_then, looks_as, look_at}
+use Rattle.seat_table.specs.Once.{one_step}
+use Rattle.seat_table.specs.Waits.{Reached, reached, Made}
+use Rattle.seat_table.proofs.Onward.{look_trail, looks_then, looks_as, look_at}
 use Rattle.deer_wait.specs.Images.{IsRowFrom}
 
 pub row_looked : {k : Shape} {v w : View} {place class found : ℕ} {last : Bool} → Told k v (LookRow place class last) found w
     → LooksAt (λ field. field ≡ Row place class) v w
 row_looked {k} {v} {w} {place} {class} {found} {last} told =
     look_at (λ field. field ≡ Row place class) v w K35 (Row place class) found last told.marks told.goes refl
+
+pub row_made : {k : Shape} {v w : View} {place class found : ℕ} {last : Bool} → Told k v (LookRow place class last) found w
+    → Made v (one_step K35 (Row place class) found) w
+row_made {k} {v} {w} {place} {class} {found} {last} told = look_trail v w K35 (Row place class) found last told.marks told.goes
 
 -- the rows from a later one on
 pub rows_from : (place class p c : ℕ) → (place < p) ⊎ ((place ≡ p) × (class ≤ c)) → (field : Field) → IsRowFrom p c field

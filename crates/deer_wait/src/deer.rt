@@ -8,6 +8,7 @@ ghost use Rattle.seat_table.specs.declared.wait.Poll.TheVariants.{NotYet};
 ghost use Rattle.seat_table.specs.Waits.{IsLatestOf, IsGoingOn, Polled, StopsAt, reached};
 ghost use Rattle.seat_table.specs.Looks.{HasPassed, HasMet};
 ghost use Rattle.seat_table.specs.Onward.{LooksAt};
+ghost use Rattle.seat_table.specs.Once.{FindsNone, FindsOnce};
 ghost use Rattle.deer_wait.specs.Images.{IsImage, IsRowFrom, HasEach, HasSkipped, StaysAt};
 
 use crate::image::{Image, image_of};
@@ -43,6 +44,8 @@ fn look(
     ensures met { IfSome result (λ why. HasMet seat.old.view why seat.new.view) }
     ensures there { IfSome result (λ why. StopsAt (reached grace.now) why) }
     ensures spot { LooksAt (λ field. field ≡ Row grace.now.place grace.now.class) seat.old.view seat.new.view }
+    ensures clear { IfNone result (FindsNone grace.now.keys grace.now.clock seat.old.view seat.new.view) }
+    ensures once { IfSome result (λ why. FindsOnce grace.now.keys grace.now.clock seat.old.view why seat.new.view) }
 {
     let place = grace.place;
     let class = grace.class;
@@ -84,6 +87,8 @@ fn pass(
     ensures met { IfSome result (λ why. Polled (shape_of 2 table.now) seat.old.view (NotYet why) grace.new seat.new.view) }
     ensures onward { LooksAt (IsRowFrom grace.old.place grace.old.class) seat.old.view seat.new.view }
     ensures later { grace.old.class ≤ grace.new.class }
+    ensures clear { IfNone result (FindsNone grace.old.keys grace.old.clock seat.old.view seat.new.view) }
+    ensures once { IfSome result (λ why. FindsOnce grace.old.keys grace.old.clock seat.old.view why seat.new.view) }
 {
     for class in grace.class..end {
         if let Some(why) = look(table, seat, grace, false) {
@@ -120,6 +125,8 @@ fn come_to_last(
         × IsGoingOn (shape_of 2 table.now) seat.old.view grace.new seat.new.view) }
     ensures met { IfSome result (λ why. Polled (shape_of 2 table.now) seat.old.view (NotYet why) grace.new seat.new.view) }
     ensures onward { LooksAt (IsRowFrom grace.old.place grace.old.class) seat.old.view seat.new.view }
+    ensures clear { IfNone result (FindsNone grace.old.keys grace.old.clock seat.old.view seat.new.view) }
+    ensures once { IfSome result (λ why. FindsOnce grace.old.keys grace.old.clock seat.old.view why seat.new.view) }
 {
     if let Some(why) = pass(table, seat, grace, image.below) {
         return Some(why);
@@ -150,6 +157,8 @@ fn pass_place(
     ensures met { IfSome result (λ why. Polled (shape_of 2 table.now) seat.old.view (NotYet why) grace.new seat.new.view) }
     ensures onward { grace.old.class ≤ image.now.last → LooksAt (IsRowFrom grace.old.place grace.old.class) seat.old.view seat.new.view }
     ensures first { IfNone result (grace.new.class ≡ 0) }
+    ensures clear { IfNone result (FindsNone grace.old.keys grace.old.clock seat.old.view seat.new.view) }
+    ensures once { IfSome result (λ why. FindsOnce grace.old.keys grace.old.clock seat.old.view why seat.new.view) }
 {
     if let Some(why) = come_to_last(table, seat, grace, image) {
         return Some(why);

@@ -1,5 +1,5 @@
 -- A wait of the first waiter goes from place to place.
-use Rattle.std.proofs.Common.{◌≡◌, ℕ, suc, ◌+◌, ◌≤◌, Bool, true, false, List, ◌∷◌, refl, sym, subst, ◌∙◌, arith}
+use Rattle.std.proofs.Common.{◌≡◌, ℕ, suc, ◌+◌, ◌≤◌, Bool, true, false, List, ◌∷◌, ◌++◌, refl, sym, subst, ◌∙◌, arith}
 use Rattle.std.proofs.lemmas.Bool.{not_from_true, not_from_false}
 use mathlib.Core.Logic.{dite}
 use native.Mathlib.Decide.{ℕ_discrete}
@@ -15,13 +15,15 @@ use Rattle.key_interval.specs.Keys.{Interval, Holds}
 use Rattle.list_laws.specs.Counts.{IsIn}
 use Rattle.seat_table.specs.declared.wait.Grace.{Grace}
 use Rattle.core_acts.specs.Acts.{MayLook}
-use Rattle.seat_table.specs.Waits.{Reached, reached, IsBefore, HasReached, Passed, IsLatestOf, IsGoingOn}
+use Rattle.seat_table.specs.Waits.{Reached, reached, IsBefore, HasReached, Made, Passed, IsLatestOf, IsGoingOn}
 use Rattle.seat_table.specs.Looks.{HasPassed}
 use Rattle.seat_table.specs.Onward.{LooksAt, IsOnward}
 use Rattle.seat_table.specs.Told.{Told}
 use Rattle.core_acts.specs.declared.act.Act.TheVariants.{LookKey, LookStamp}
 use Rattle.core_state.specs.declared.words.Kind.TheVariants.{K8}
-use Rattle.seat_table.proofs.Onward.{looks_then, looks_as, look_at}
+use Rattle.seat_table.specs.Once.{one_step}
+use Rattle.seat_table.proofs.Once.{made_then}
+use Rattle.seat_table.proofs.Onward.{look_trail, looks_then, looks_as, look_at}
 use Rattle.seat_table.proofs.Polls.{key_in, key_out, goes_on}
 use Rattle.seat_table.proofs.Waiting.{begins_on}
 
@@ -128,8 +130,18 @@ module _ {k : Shape} {v w : View} {place found : ℕ} {last : Bool} where
   pub key_looked : Told k v (LookKey place last) found w → LooksAt (λ field. field ≡ Stamp place) v w
   key_looked told = look_at (λ field. field ≡ Stamp place) v w K8 (Announced place) found last told.marks told.goes refl
 
+  pub key_made : Told k v (LookKey place last) found w → Made v (one_step K8 (Announced place) found) w
+  key_made told = look_trail v w K8 (Announced place) found last told.marks told.goes
+
   pub stamp_looked : Told k v (LookStamp place last) found w → LooksAt (λ field. field ≡ Stamp place) v w
   stamp_looked told = look_at (λ field. field ≡ Stamp place) v w K8 (Stamp place) found last told.marks told.goes refl
+
+-- a key and then its stamp
+pub place_made : {k : Shape} {u v w : View} {place key stamp : ℕ} {last : Bool} → Told k u (LookKey place last) key v
+    → Told k v (LookStamp place last) stamp w → Made u (one_step K8 (Announced place) key ++ one_step K8 (Stamp place) stamp) w
+place_made {k} {u} {v} {w} {place} {key} {stamp} {last} first second =
+    made_then u v w (one_step K8 (Announced place) key) (one_step K8 (Stamp place) stamp) (key_made first)
+    (look_trail v w K8 (Stamp place) stamp last second.marks second.goes)
 
 -- and after looks at no place before
 pub looked_place : (r : Reached) (place : ℕ) {u v w : View} → r.place ≤ place → LooksAt (IsOnward r) u v

@@ -5,6 +5,7 @@ ghost use Rattle.seat_table.specs.Seats.{shape_of};
 ghost use Rattle.seat_table.specs.Waits.{IsLatestOf, StopsAt, reached};
 ghost use Rattle.seat_table.specs.Looks.{HasPassed, HasMet};
 ghost use Rattle.seat_table.specs.Onward.{LooksAt};
+ghost use Rattle.seat_table.specs.Once.{FindsNone, FindsOnce};
 
 use key_interval::Keys;
 use prcu_marks::Why;
@@ -36,6 +37,8 @@ fn look(
     ensures met { IfSome result (λ why. HasMet seat.old.view why seat.new.view) }
     ensures there { IfSome result (λ why. StopsAt (reached grace.now) why) }
     ensures spot { LooksAt (λ field. field ≡ Stamp grace.now.place) seat.old.view seat.new.view }
+    ensures clear { IfNone result (FindsNone grace.now.keys grace.now.clock seat.old.view seat.new.view) }
+    ensures once { IfSome result (λ why. FindsOnce grace.now.keys grace.now.clock seat.old.view why seat.new.view) }
 {
     let place = grace.place;
     let key = steps::look_key(table, seat, place, last);

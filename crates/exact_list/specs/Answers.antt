@@ -1,5 +1,5 @@
 -- What a list answers.
--- Source: docs/TREE.md, "Lists of a key range".
+-- Source: docs/TREE_CALLS.md, "Lists of a key range".
 use Rattle.std.specs.Prelude.{◌≡◌, ℕ, ◌+◌, ◌*◌, ◌≤◌, List, [], ◌∷◌, ◌++◌, length, Some}
 use Rattle.key_interval.specs.Keys.{Interval}
 use Rattle.prcu_marks.specs.declared.mark.Mark.{Mark}

@@ -1,5 +1,5 @@
 -- What a listing's facts and gaps come to, over definitions alone.
--- Source: docs/TREE.md, "Lists of a key range".
+-- Source: docs/TREE_CALLS.md, "Lists of a key range".
 use Rattle.std.specs.Prelude.{◌≡◌, ℕ, List, Option, Some, None}
 use Rattle.core_state.specs.declared.view.Fact.{Fact}
 use Rattle.core_state.specs.declared.view.Gap.{Gap}

@@ -1,5 +1,5 @@
 -- The pairs of a dictionary in a range of keys, and what a listing has to find of them.
--- Source: docs/TREE.md, "Lists of a key range".
+-- Source: docs/TREE_CALLS.md, "Lists of a key range".
 use Rattle.std.specs.Prelude.{◌≡◌, ℕ, ◌<◌, ◌≤◌, ◌⊎◌, List, Option, Some}
 use Rattle.std.specs.FinMap as finite
 use mathlib.Core.Option.{some}

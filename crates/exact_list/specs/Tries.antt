@@ -1,5 +1,5 @@
 -- The tries of a list: each is a section of its own, with the looks at the front that were made in it.
--- Source: docs/TREE.md, "Lists of a key range".
+-- Source: docs/TREE_CALLS.md, "Lists of a key range".
 use Rattle.std.specs.Prelude.{◌≡◌, ◌≢◌, ℕ, ◌+◌, ◌⊎◌, if◌then◌else◌, Bool, true, false, List, [], ◌∷◌, ◌++◌, length, Option, Some, None}
 use mathlib.Core.List.{IsPrefix}
 use Rattle.prcu_marks.specs.declared.mark.Mark.{Mark}

@@ -1,5 +1,5 @@
 -- The way of a walk: where it has come to, and the slots to which it goes back.
--- Source: docs/TREE.md, "Lists of a key range".
+-- Source: docs/TREE_CALLS.md, "Lists of a key range".
 use Rattle.std.specs.Prelude.{◌≡◌, ◌≢◌, ℕ, ◌≤◌, ◌⊎◌, true, false, List, [], ◌∷◌, ◌++◌, Option, Some, None}
 use Rattle.core_state.specs.declared.shape.Shape.{Shape}
 use Rattle.core_state.specs.declared.view.Gap.{Gap}

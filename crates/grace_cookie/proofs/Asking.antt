@@ -7,6 +7,7 @@ use mathlib.Core.List.{IsPrefix}
 use Rattle.atomic_table.proofs.Lists.{at_map}
 use Rattle.prcu_marks.specs.declared.mark.Mark.{Mark}
 use Rattle.prcu_marks.specs.declared.mark.Mark.TheVariants.{Began, Ended}
+use Rattle.prcu_marks.specs.declared.mark.Why.{Why}
 use Rattle.prcu_marks.specs.Bounds.{greatest_key}
 use Rattle.core_state.specs.declared.shape.Shape.{Shape}
 use Rattle.core_state.specs.declared.view.Retired.{Retired}
@@ -17,9 +18,12 @@ use Rattle.core_state.specs.steps.Waits.{waited_retired, is_grace_for}
 use Rattle.list_laws.specs.Counts.{IsIn}
 use Rattle.list_laws.proofs.Lists.{in_first, all_change}
 use Rattle.seat_table.specs.Seats.{SeatAt}
-use Rattle.seat_table.specs.Waits.{HaveLeft, HasLooked, HasEnded, IsOver}
-use Rattle.grace_cookie.specs.Cookies.{CookieAt, IsLatest, HasOutlasted, GoesOn, IsOf, IsKept, AreKept, HasKept}
-use Rattle.grace_cookie.specs.Asking.{IsFoundOver}
+use Rattle.seat_table.specs.declared.wait.Grace.{Grace}
+use Rattle.seat_table.specs.Once.{FindsNone, FindsOnce}
+use Rattle.seat_table.specs.Waits.{HaveLeft, HasLooked, HasEnded, IsOver, HasStopped}
+use Rattle.grace_cookie.specs.Cookies.{CookieAt, everybody, IsLatest, HasOutlasted, GoesOn, IsOf, IsKept, AreKept, HasKept}
+use Rattle.grace_cookie.specs.declared.answers.Ask.TheVariants.{NotYet}
+use Rattle.grace_cookie.specs.Asking.{IsFoundOver, Asked}
 
 -- a mark that was seen stands among more marks too
 pub seen_later : (h more : List Mark) (mark : Mark) → IsPrefix h more → IsIn h mark → IsIn more mark
@@ -73,8 +77,8 @@ module _ (k : Shape) (c : CookieAt) (v w : View) (of : IsOf k c v) (was : c.over
     left = subst (HaveLeft v.allowance.place c.count 0 greatest_key) marked has_left;
   }
 
-  pub found_over : (d : CookieAt) → d.over ≡ true → IsFoundOver k c v d w
-  found_over d e = record { over = e; outlasted = has_outlasted; how = inr (was, latest, over) }
+  pub found_over : (d : CookieAt) → d.over ≡ true → FindsNone everybody c.clock v w → IsFoundOver k c v d w
+  found_over d e none = record { over = e; outlasted = has_outlasted; how = inr (was, latest, over, none) }
 
   pub over_of : (d : CookieAt) → d.over ≡ true → d.count ≡ c.count → IsOf k d w
   over_of d e same = record {
@@ -124,7 +128,30 @@ module _ (k : Shape) (c : CookieAt) (v w : View) (of : IsOf k c v) (was : c.over
         };
   }
 
--- It goes on.
+-- It goes on, by what the one look found that stopped it.
+pub found_going : {W : Type 0} (k : Shape) (c : CookieAt) (v w : View) (why : Why) (grace : Grace W) (d : CookieAt) → IsOf k c v
+    → c.over ≡ false → IsLatest c v → d.over ≡ false → HasStopped k v why grace w → FindsOnce everybody c.clock v why w
+    → Asked k c v (NotYet why) d w
+found_going k c v w why grace d of was latest going stopped once =
+    let p = stopped.on in
+    let on = of.going was latest in
+    let e : Some p.wait ≡ Some on.0 = sym p.was ∙ on.1 in
+    let same : p.wait ≡ on.0 = cc in (
+      p.wait,
+      p.steps,
+      p.new,
+      record {
+        was = was;
+        going = going;
+        latest = latest;
+        wait_is = p.was;
+        count_is = ap (λ (z : Waiting). z.count) same ∙ on.2;
+        looked = p.looked;
+        once = once;
+      },
+      stopped.shows,
+    )
+
 pub going_kept : (c d : CookieAt) (v w : View) (wait : Waiting) (steps : List StepMade) (new : Waiting) (s t : SeatAt)
     → HasLooked v wait steps new w → v.wait ≡ Some wait → d.over ≡ c.over → d.count ≡ c.count → d.slots ≡ c.slots → s.view ≡ v → t.view ≡ w
     → t.listed ≡ s.listed → HasKept c s → HasKept d t

@@ -1,32 +1,35 @@
 -- What asking about a cookie answers, and what giving slots back by it leaves.
--- Source: docs/TREE.md, "Cookies".
+-- Source: docs/TREE_CALLS.md, "Cookies".
 use Rattle.std.specs.Prelude.{◌≡◌, ℕ, ◌+◌, ◌<◌, ◌≤◌, ◌⊎◌, true, false, List, take, Some}
 use Rattle.core_state.specs.declared.shape.Shape.{Shape}
 use Rattle.core_state.specs.declared.view.StepMade.{StepMade}
 use Rattle.core_state.specs.declared.view.View.{View}
 use Rattle.core_state.specs.declared.view.Waiting.{Waiting}
+use Rattle.prcu_marks.specs.declared.mark.Why.{Why}
 use Rattle.seat_table.specs.Seats.{SeatAt}
+use Rattle.seat_table.specs.Once.{FindsNone, FindsOnce}
 use Rattle.seat_table.specs.Waits.{HasLooked, Shows, IsOver}
 use Rattle.node_slots.specs.Reclaiming.{GivesBack, without_slots}
 use Rattle.grace_cookie.specs.declared.answers.Ask.{Ask}
 use Rattle.grace_cookie.specs.declared.answers.Ask.TheVariants.{Over, NotYet, GivenUp}
-use Rattle.grace_cookie.specs.Cookies.{CookieAt, IsLatest, HasOutlasted}
+use Rattle.grace_cookie.specs.Cookies.{CookieAt, IsLatest, HasOutlasted, everybody}
 
 -- the same cookie, which may have been found over, or have come further
 abbrev pub IsSameCookie : CookieAt → CookieAt → Type 0
 IsSameCookie c d = d ≡ record c { over = d.over; reached = d.reached }
 
--- It was found over before, and nothing changed; or its wait is the latest one and ended by this poll.
+-- It was found over before, and nothing changed; or its wait is the latest one and ended by this poll, which found no reader in its way.
 abbrev pub EndedNowOrBefore : Shape → CookieAt → View → View → Type 0
-EndedNowOrBefore k c v w = ((c.over ≡ true) × (w ≡ v)) ⊎ ((c.over ≡ false) × IsLatest c v × IsOver k v w)
+EndedNowOrBefore k c v w = ((c.over ≡ true) × (w ≡ v))
+    ⊎ ((c.over ≡ false) × IsLatest c v × IsOver k v w × FindsNone everybody c.clock v w)
 
 pub record IsFoundOver (k : Shape) (c : CookieAt) (v : View) (d : CookieAt) (w : View) : Type 0 where
   pub over : d.over ≡ true
   pub outlasted : HasOutlasted v.allowance.place c.count w.seen
   pub how : EndedNowOrBefore k c v w
 
--- Its wait is the latest one, and goes on by what this poll found.
-pub record IsFoundGoing (c : CookieAt) (v : View) (wait : Waiting) (steps : List StepMade) (new : Waiting) (d : CookieAt)
+-- Its wait is the latest one, and goes on by what this one poll found: it stopped at the first reader in its way.
+pub record IsFoundGoing (c : CookieAt) (v : View) (wait : Waiting) (steps : List StepMade) (new : Waiting) (why : Why) (d : CookieAt)
     (w : View) : Type 0 where
   pub was : c.over ≡ false
   pub going : d.over ≡ false
@@ -34,6 +37,7 @@ pub record IsFoundGoing (c : CookieAt) (v : View) (wait : Waiting) (steps : List
   pub wait_is : v.wait ≡ Some wait
   pub count_is : wait.count ≡ c.count
   pub looked : HasLooked v wait steps new w
+  pub once : FindsOnce everybody c.clock v why w
 
 -- It wasn't found over before, and the place has begun a later wait, the latest of which has this number. Nothing changed.
 pub record IsGivenUp (c : CookieAt) (v : View) (latest : ℕ) (d : CookieAt) (w : View) : Type 0 where
@@ -45,7 +49,7 @@ pub record IsGivenUp (c : CookieAt) (v : View) (latest : ℕ) (d : CookieAt) (w 
 
 abbrev pub Asked : Shape → CookieAt → View → Ask → CookieAt → View → Type 0
 Asked k c v Over d w = IsFoundOver k c v d w
-Asked k c v (NotYet why) d w = (wait : Waiting) × (steps : List StepMade) × (new : Waiting) × IsFoundGoing c v wait steps new d w
+Asked k c v (NotYet why) d w = (wait : Waiting) × (steps : List StepMade) × (new : Waiting) × IsFoundGoing c v wait steps new why d w
     × Shows wait steps why
 Asked k c v (GivenUp latest) d w = IsGivenUp c v latest d w
 

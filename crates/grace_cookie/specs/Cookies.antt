@@ -1,5 +1,5 @@
 -- Cookies: waits for everybody that were begun, and are asked about later.
--- Source: docs/TREE.md, "Cookies".
+-- Source: docs/TREE_CALLS.md, "Cookies".
 use Rattle.std.specs.Prelude.{◌≡◌, ℕ, ◌+◌, ◌<◌, ◌≤◌, Bool, true, false, List, [], ◌∷◌, ◌++◌, length, Some}
 use Rattle.std.specs.List.{AllByRecursion}
 use mathlib.Core.List.{IsPrefix}

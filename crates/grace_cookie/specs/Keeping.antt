@@ -1,5 +1,5 @@
 -- What a call leaves of a seat, so that a cookie of the seat stays good.
--- Source: docs/TREE.md, "Cookies".
+-- Source: docs/TREE_CALLS.md, "Cookies".
 use Rattle.std.specs.Prelude.{◌≡◌, ℕ, ◌≤◌, true, List, ◌++◌}
 use mathlib.Core.Option.{some}
 use lib.ListN.{get_elem?}

@@ -42,6 +42,7 @@ use Rattle.core_state.specs.Invariant.{HoldsNow}
 use Rattle.core_frames.proofs.views.SeatFacts.{works_there, place_within}
 use Rattle.core_frames.proofs.views.Roles.{slots_count, spares_count, held_there, own_below, own_once, retired_count}
 use Rattle.std.proofs.lemmas.List.{take-append-le}
+use Rattle.prcu_marks.specs.Bounds.{most_front, most_life, most_tickets, most_turns}
 use Rattle.core_frames.proofs.chart.Plain.{gone_within}
 use Rattle.core_frames.proofs.Counting.{total_le, places_length, all_places}
 use Rattle.key_interval.specs.Keys.{class_of}
@@ -142,7 +143,7 @@ module _ (k : Shape) (m : Memory) (vs : List View) (h : List Mark) (i : HoldsNow
   sees works = record { works = works; begins = i.marks.seen.begins id v at; own = (i.seats.owned id v at).met }
 
   -- the waits of a place and its tickets are paid for
-  few_waits : v.counts.waits + v.allowance.tickets ≤ 1099511627776
+  few_waits : v.counts.waits + v.allowance.tickets ≤ most_tickets
   few_waits = dite (ℕ_discrete v.allowance.places 0)
       (λ none. let e = i.seats.spent id v at none in let waits : v.counts.waits ≡ 0 = ap (λ (z : View). z.counts.waits) e in
       let tickets : v.allowance.tickets ≡ 0 = ap (λ (z : View). z.allowance.tickets) e in omega arith)
@@ -155,7 +156,7 @@ module _ (k : Shape) (m : Memory) (vs : List View) (h : List Mark) (i : HoldsNow
       let few = i.table.few_tickets in
       omega arith)
 
-  few_turns : v.counts.turns ≤ 70368744177664
+  few_turns : v.counts.turns ≤ most_turns
   few_turns =
       let all = i.counts.turns in
       let mine = total_part (λ (u : View). u.counts.turns + turns_to_come u.wait) vs id v at in
@@ -174,14 +175,14 @@ module _ (k : Shape) (m : Memory) (vs : List View) (h : List Mark) (i : HoldsNow
         few_turns = few_turns;
       }
 
-  small_clock : m Clock ≤ 1099511627776
+  small_clock : m Clock ≤ most_tickets
   small_clock = let paid = i.counts.clock in let few = i.table.few_tickets in omega arith
 
   small_free : m Free ≤ 2097217
   small_free = let free = i.counts.free in let most = sum_most (λ s. m (StateWord s) == 0) (slot_count k) in let a = i.table.few_slots in
       let b = i.table.few_places in omega arith
 
-  pub small_front : m Front ≤ 2199023255553
+  pub small_front : m Front ≤ most_front
   small_front =
       let paid = i.counts.clock in
       let few = i.table.few_tickets in
@@ -190,7 +191,7 @@ module _ (k : Shape) (m : Memory) (vs : List View) (h : List Mark) (i : HoldsNow
       odd_case odd.commit.stored odd.commit.found refl updates is) i.front.turned
     where
       odd_case : (stored : Bool) (found : ℕ) → stored ≡ stored → found + cond stored 2 0 ≡ 2 * length (updates_of h) → m Front ≡ found + 1
-          → m Front ≤ 2199023255553
+          → m Front ≤ most_front
       odd_case true found e updates is = let paid = i.counts.clock in let few = i.table.few_tickets in omega arith
       odd_case false found e updates is = let paid = i.counts.clock in let few = i.table.few_tickets in omega arith
 
@@ -247,14 +248,14 @@ module _ (k : Shape) (m : Memory) (vs : List View) (h : List Mark) (i : HoldsNow
       (works_there by.1.view works) in
       omega arith)
 
-  life_small : (s : ℕ) → s < slot_count k → m (Life s) ≤ 2199023255553
+  life_small : (s : ℕ) → s < slot_count k → m (Life s) ≤ most_life
   life_small s below =
       let part = sum_part (λ t. m (Life t) / 2) (slot_count k) s below in
       let paid = i.counts.generations in
       let few = i.table.few_tickets in
       omega arith
 
-  tag_small : (s : ℕ) (b : Side) → s < slot_count k → m (Tag s b) ≤ 1099511627776
+  tag_small : (s : ℕ) (b : Side) → s < slot_count k → m (Tag s b) ≤ most_tickets
   tag_small s Left below = let part = sum_part (λ t. m (Tag t Left) + m (Tag t Right)) (slot_count k) s below in let paid = i.counts.tags in
       let few = i.table.few_tickets in omega arith
   tag_small s Right below = let part = sum_part (λ t. m (Tag t Left) + m (Tag t Right)) (slot_count k) s below in

@@ -43,9 +43,9 @@ use Rattle.core_acts.specs.declared.act.Act.TheVariants.{LoadClock, LeaveByStamp
 use Rattle.core_acts.specs.Acts.{field_of, noted, Asks}
 use Rattle.core_acts.specs.Laws.{said, done}
 use Rattle.core_acts.proofs.Acting.{section_is}
-use Rattle.seat_table.specs.Gains.{GivesAnswer, LeavesAnswer, AreGone, FindsFull, WasNoOwn, IsOthers, IsCounted, LooksAgain, Gains}
+use Rattle.seat_table.specs.Gains.{GivesAnswer, LeavesAnswer, AreGone, FindsFull, WasNoOwn, IsOthers, IsCounted, LooksAgain, KnowsValue, Gains}
 use Rattle.seat_table.proofs.Facts.{is_apart}
-use Rattle.seat_table.proofs.Records.{value_now}
+use Rattle.seat_table.proofs.Records.{value_now, value_taken}
 
 module _ (k : Shape) (m : Memory) (vs : List View) (h : List Mark) (i : HoldsNow k m vs h) (id : ℕ) (v : View)
     (at : get_elem? vs id ≡ some v) where
@@ -238,11 +238,38 @@ module _ (k : Shape) (m : Memory) (vs : List View) (h : List Mark) (i : HoldsNow
   gains (TakeLock slot) works (has, needs) = is_others slot has works
   gains (LinkLeaf slot b leaf key value) works (has, (commit, r, lock, held, generation, tag, needs, key_is)) =
       counted _ commit _ refl refl needs.has_commit.commit_is needs.has_commit.unmade
-  gains (Bypass parent b node child key) works (has, (commit, r, left, right, needs, key_is)) =
-      counted _ commit _ refl refl needs.has_commit.commit_is needs.has_commit.unmade
+  gains (Bypass parent b node child key) works (has, (commit, r, left, right, needs, key_is)) = record {
+    counted = counted _ commit _ refl refl needs.has_commit.commit_is needs.has_commit.unmade;
+    was = subst (λ x. KnowsValue v h node x) key_is (value_taken (record {
+      who = record { k = k; m = m; vs = vs; h = h; id = id; v = v; inv = i; there = at; works = works };
+      commit = commit;
+      r = r;
+      p = parent;
+      b = b;
+      d = node;
+      left = left;
+      right = right;
+      has_commit = needs.has_commit;
+      records = needs.records.records;
+      marked = needs.marked;
+    }));
+  }
   gains (LinkCopy parent b node copy old old_parent key next_key) works (has, (commit, r, held, left, right, value, needs, key_is)) =
       record {
         counted = counted _ commit _ refl refl needs.has_commit.commit_is needs.has_commit.unmade;
+        was = subst (λ x. KnowsValue v h node x) key_is (value_taken (record {
+          who = record { k = k; m = m; vs = vs; h = h; id = id; v = v; inv = i; there = at; works = works };
+          commit = commit;
+          r = r;
+          p = parent;
+          b = b;
+          d = node;
+          left = left;
+          right = right;
+          has_commit = needs.has_commit;
+          records = needs.records.records;
+          marked = needs.marked;
+        }));
         next = subst (λ x. IsNextKey (map_of (updates_of h)) x next_key) key_is
             (copy_next k m vs h id v i at works commit r held parent b node copy old old_parent left right next_key value needs);
       }

@@ -13,4 +13,5 @@ pub mod Polls
 pub mod Seating
 pub mod Quiet
 pub mod Onward
+pub mod Once
 pub mod Going

@@ -14,6 +14,28 @@ use Rattle.core_state.specs.steps.Waits.{spot_seen, excuses, ending, with_excuse
 use Rattle.core_acts.specs.Acts.{wait_of}
 use Rattle.seat_table.specs.Onward.{LooksAt}
 
+-- the trail after a look of a wait, and after a load of a gate: one step more
+module _ (v w : View) (kind : Kind) (field : Field) (found : ℕ) where
+  pub look_trail : (last : Bool) (h : List Mark) → w ≡ after_look (stepped v kind field found) (wait_of v) field last found h
+      → w.trail ≡ (stepped v kind field found).trail
+  look_trail last h goes = ap (λ (z : View). z.trail) goes ∙ looked (excuses (wait_of v) field found) last
+    where
+      looked : (excused ends : Bool) → (if excused then
+          (if ends then ending (stepped v kind field found) (with_excused (wait_of v) field) h
+          else record (stepped v kind field found) { wait = Some (with_excused (wait_of v) field) }) else stepped v kind field found).trail
+          ≡ (stepped v kind field found).trail
+      looked false ends = refl
+      looked true false = refl
+      looked true true = refl
+
+  pub gate_trail : (class : ℕ) → w ≡ gated (stepped v kind field found) class found v.section
+      → w.trail ≡ (stepped v kind field found).trail
+  gate_trail class goes = ap (λ (z : View). z.trail) goes ∙ loaded v.section
+    where
+      loaded : (there : Option Section) → (gated (stepped v kind field found) class found there).trail ≡ (stepped v kind field found).trail
+      loaded None = refl
+      loaded (Some section) = refl
+
 module _ (such : Field → Type 0) where
   abbrev on : View → List StepMade → Trail
   on v l = record v.trail { steps = l }
@@ -50,22 +72,9 @@ module _ (such : Field → Type 0) where
   -- a look of a wait
   pub look_at : (v w : View) (kind : Kind) (field : Field) (found : ℕ) (last : Bool) (h : List Mark)
       → w ≡ after_look (stepped v kind field found) (wait_of v) field last found h → such (spot_seen field) → LooksAt such v w
-  look_at v w kind field found last h goes is = step_at v w kind field found
-      (ap (λ (z : View). z.trail) goes ∙ looked (excuses (wait_of v) field found) last) is
-    where
-      looked : (excused ends : Bool) → (if excused then
-          (if ends then ending (stepped v kind field found) (with_excused (wait_of v) field) h
-          else record (stepped v kind field found) { wait = Some (with_excused (wait_of v) field) }) else stepped v kind field found).trail
-          ≡ (stepped v kind field found).trail
-      looked false ends = refl
-      looked true false = refl
-      looked true true = refl
+  look_at v w kind field found last h goes is = step_at v w kind field found (look_trail v w kind field found last h goes) is
 
   -- a load of a gate
   pub gate_at : (v w : View) (kind : Kind) (field : Field) (class found : ℕ) → w ≡ gated (stepped v kind field found) class found v.section
       → such (spot_seen field) → LooksAt such v w
-  gate_at v w kind field class found goes is = step_at v w kind field found (ap (λ (z : View). z.trail) goes ∙ loaded v.section) is
-    where
-      loaded : (there : Option Section) → (gated (stepped v kind field found) class found there).trail ≡ (stepped v kind field found).trail
-      loaded None = refl
-      loaded (Some section) = refl
+  gate_at v w kind field class found goes is = step_at v w kind field found (gate_trail v w kind field found class goes) is

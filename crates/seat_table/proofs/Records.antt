@@ -20,6 +20,8 @@ use Rattle.core_state.specs.parts.ReaderParts.{StandsWell}
 use Rattle.core_state.specs.parts.TreeParts.{map_now}
 use Rattle.core_state.specs.Invariant.{HoldsNow}
 use Rattle.core_tree.proofs.locks.Locked.{young_locked}
+use Rattle.core_tree.proofs.updates.Deletion.{Deletion, node_field, node_key, node_marked, node_young, some_node}
+use Rattle.seat_table.specs.Gains.{KnowsValue}
 
 lock_there : (o : Option HeldLock) (field : Field) (n : ℕ) → known_in (known_of o) field ≡ Some n
     → (lock : HeldLock) × (o ≡ Some lock) × (known_in lock.known field ≡ Some n)
@@ -54,3 +56,9 @@ module _ (k : Shape) (m : Memory) (vs : List View) (h : List Mark) (i : HoldsNow
       let word : m (Value node) ≡ value = (i.locks.known id v at node l.0 l.1).fields r is.generation value (Value node) among is.recorded
       (inl now) held in
       ap (map_now h) (sym key) ∙ e ∙ ap (λ z. Some z) word
+
+-- The value known under the lock of a marked node is the dictionary's.
+pub value_taken : (z : Deletion) → KnowsValue z.who.v z.who.h z.d z.r.key
+value_taken z value known =
+    let e = z.who.inv.tree.map.sound z.d (node_marked z).0 (some_node z) (node_young z) in
+    ap (map_now z.who.h) (sym (node_key z)) ∙ e ∙ ap (λ n. Some n) (node_field z (Value z.d) value known)

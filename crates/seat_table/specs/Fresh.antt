@@ -1,5 +1,5 @@
 -- A table as it is made: its words, and the one seat.
--- Source: docs/TREE.md, "The words of the tree's table".
+-- Source: docs/TREE_INVARIANT.md, "The words of the tree's table".
 use Rattle.std.specs.Prelude.{◌≡◌, ℕ, zero, suc, ◌+◌, ◌-◌, ◌*◌, List, [], ◌∷◌, ◌++◌, length, replicate}
 use Rattle.core_state.specs.declared.shape.Shape.{Shape}
 use Rattle.core_state.specs.declared.shape.Waiter.{Waiter}

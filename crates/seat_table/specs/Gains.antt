@@ -1,5 +1,5 @@
 -- What a call takes from the rule after a step.
--- Source: docs/TREE.md, "What a step sees".
+-- Source: docs/TREE_CALLS.md, "What a step sees".
 use Rattle.std.specs.Prelude.{◌≡◌, ◌≢◌, ℕ, ◌+◌, ◌-◌, ◌*◌, ◌<◌, ◌≤◌, ◌⊎◌, false, List, length, map, Some, None, []}
 use Rattle.std.specs.FinMap as finite
 use mathlib.Core.List.{IsPrefix}
@@ -14,6 +14,7 @@ use Rattle.core_state.specs.declared.shape.Waiter.TheVariants.{Domain}
 use Rattle.core_state.specs.declared.words.Field.{Field}
 use Rattle.core_state.specs.declared.words.Field.TheVariants.{Clock, Front, Free, Lock, Life, Value, Tag}
 use Rattle.prcu_marks.specs.declared.commit.Commit.{Commit}
+use Rattle.prcu_marks.specs.Bounds.{most_front, most_life, most_tickets, most_turns}
 use Rattle.core_state.specs.declared.view.Fact.{Fact}
 use Rattle.core_state.specs.declared.view.Gap.{Gap}
 use Rattle.core_state.specs.declared.view.Held.{Held}
@@ -51,17 +52,17 @@ pub record IsInformed (w : View) : Type 0 where
   pub legal : IsLegal (updates_of w.seen)
   pub grace : Grace w.seen
   pub reuse : Reuse w.seen
-  pub few_waits : w.counts.waits + w.allowance.tickets ≤ 1099511627776
-  pub few_turns : w.counts.turns ≤ 70368744177664
+  pub few_waits : w.counts.waits + w.allowance.tickets ≤ most_tickets
+  pub few_turns : w.counts.turns ≤ most_turns
 
 -- how large the number in a word can be
 abbrev pub WordFits : Shape → Field → ℕ → Type 0
-WordFits k Clock n = n ≤ 1099511627776
-WordFits k Front n = n ≤ 2199023255553
+WordFits k Clock n = n ≤ most_tickets
+WordFits k Front n = n ≤ most_front
 WordFits k Free n = n ≤ 2097217
 WordFits k (Lock s) n = n ≤ k.places
-WordFits k (Life s) n = n ≤ 2199023255553
-WordFits k (Tag s b) n = n ≤ 1099511627776
+WordFits k (Life s) n = n ≤ most_life
+WordFits k (Tag s b) n = n ≤ most_tickets
 WordFits k _ n = Unit {0}
 
 -- a slot of the table; its number fits 32 bits
@@ -146,15 +147,20 @@ pub record IsOthers (v : View) (slot found : ℕ) : Type 0 where
 pub record IsCounted (v w : View) : Type 0 where
   pub found : (commit : Commit) → v.commit ≡ Some commit → commit.found + 2 ≡ 2 * length (updates_of w.seen)
 
--- The spare's key, where a copy is linked, is the next key that the dictionary had.
-pub record Moves (v w : View) (h : List Mark) (key next_key : ℕ) : Type 0 where
-  pub counted : IsCounted v w
-  pub next : IsNextKey (map_of (updates_of h)) key next_key
+-- a value known under the lock of the slot is the one that the dictionary has for the key
+abbrev pub KnowsValue : View → List Mark → ℕ → ℕ → Type 0
+KnowsValue v h slot key = (value : ℕ) → known_in (known_under v slot) (Value slot) ≡ Some value → map_now h key ≡ Some value
 
--- The value loaded under the lock, where it is replaced, is the one that the dictionary had.
-pub record Replaces (v w : View) (h : List Mark) (slot key : ℕ) : Type 0 where
+-- The value loaded under the lock, where it is replaced or its node is taken out, is the one that the dictionary had.
+pub record Changes (v w : View) (h : List Mark) (slot key : ℕ) : Type 0 where
   pub counted : IsCounted v w
-  pub was : (old : ℕ) → known_in (known_under v slot) (Value slot) ≡ Some old → map_now h key ≡ Some old
+  pub was : KnowsValue v h slot key
+
+-- The same where a copy is linked in the node's place; and the spare's key is the next key that the dictionary had.
+pub record Moves (v w : View) (h : List Mark) (node key next_key : ℕ) : Type 0 where
+  pub counted : IsCounted v w
+  pub was : KnowsValue v h node key
+  pub next : IsNextKey (map_of (updates_of h)) key next_key
 
 -- What a listing found is so of the dictionary now, after half as many updates as the front says; the section saw fewer or as many.
 pub record IsListedNow (h : List Mark) (section : Section) (listing : Listing) : Type 0 where
@@ -182,10 +188,10 @@ Gains k v (Reserve expected) h found w = FindsFull k v found w
 Gains k v (Seize slot) h found w = WasNoOwn v slot found
 Gains k v (TakeLock slot) h found w = IsOthers v slot found
 Gains k v (LinkLeaf slot b leaf key value) h found w = IsCounted v w
-Gains k v (Bypass parent b node child key) h found w = IsCounted v w
-Gains k v (LinkCopy parent b node copy old old_parent key next_key) h found w = Moves v w h key next_key
+Gains k v (Bypass parent b node child key) h found w = Changes v w h node key
+Gains k v (LinkCopy parent b node copy old old_parent key next_key) h found w = Moves v w h node key next_key
 Gains k v (LeaveByCount class side) h found w = LeavesAnswer v w
 Gains k v (LeaveByRow class) h found w = LeavesAnswer v w
-Gains k v (ReplaceValue slot key value) h found w = Replaces v w h slot key
+Gains k v (ReplaceValue slot key value) h found w = Changes v w h slot key
 Gains k v LookAtFront h found w = LooksAgain v h found
 Gains k v _ h found w = Unit {0}

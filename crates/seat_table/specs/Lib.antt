@@ -8,3 +8,4 @@ pub mod Sections
 pub mod Waits
 pub mod Looks
 pub mod Onward
+pub mod Once

@@ -1,5 +1,5 @@
 -- What one look of a poll tells, whatever the waiter: one load, or more of them, of a word in which a reader may stand.
--- Source: docs/TREE.md, "The tree's waits".
+-- Source: docs/TREE_CALLS.md, "The tree's waits".
 use Rattle.std.specs.Prelude.{◌≡◌, Bool, List, Some}
 use Rattle.prcu_marks.specs.declared.mark.Why.{Why}
 use Rattle.core_state.specs.declared.words.Field.{Field}

@@ -1,5 +1,5 @@
 -- Where the steps of a poll look.
--- Source: docs/TREE.md, "The tree's waits".
+-- Source: docs/TREE_CALLS.md, "The tree's waits".
 use Rattle.std.specs.Prelude.{ℕ, ◌<◌, ◌≤◌, List}
 use Rattle.std.specs.List.{AllByRecursion}
 use Rattle.core_state.specs.declared.words.Field.{Field}

@@ -1,5 +1,5 @@
 -- What is so of a seat between two steps.
--- Source: docs/TREE.md, "The tree's table".
+-- Source: docs/TREE_CALLS.md, "The tree's table".
 use Rattle.std.specs.Prelude.{◌≡◌, ℕ, Option}
 use Rattle.core_state.specs.declared.view.View.{View}
 use Rattle.seat_table.specs.Gains.{HasSide, TellsNow}

@@ -1,9 +1,10 @@
 -- What a clause sees of a seat and of a table.
--- Source: docs/TREE.md, "The tree's table".
+-- Source: docs/TREE_CALLS.md, "The tree's table".
 use Rattle.std.specs.Prelude.{◌≡◌, ℕ, zero, suc, ◌+◌, ◌≤◌, ◌==◌, not, filter, List, map, Option, Some, None}
 use mathlib.Core.List.{IsPrefix}
 use Rattle.atomic_table.specs.Seated.{TableId}
 use Rattle.prcu_marks.specs.Marks.{own_of}
+use Rattle.prcu_marks.specs.Bounds.{most_tickets, most_turns}
 use Rattle.core_state.specs.declared.shape.Shape.{Shape}
 use Rattle.core_state.specs.declared.shape.Waiter.{Waiter}
 use Rattle.core_state.specs.declared.shape.Waiter.TheVariants.{Eer, Domain, Deer}
@@ -46,8 +47,8 @@ pub record HasPlace (t : TableAt) (v : View) : Type 0 where
 
 -- The waits of its place and its tickets are few, and so are the gates that it turned.
 pub record HasFew (v : View) : Type 0 where
-  pub waits : v.counts.waits + v.allowance.tickets ≤ 1099511627776
-  pub turns : v.counts.turns ≤ 70368744177664
+  pub waits : v.counts.waits + v.allowance.tickets ≤ most_tickets
+  pub turns : v.counts.turns ≤ most_turns
 
 -- the key of the open section, if there is one
 abbrev pub IsInside : Option ℕ → Option Section → Type 0

@@ -1,5 +1,5 @@
 -- What is made of a view by entering a section, by leaving it, and by beginning a wait.
--- Source: docs/TREE.md, "The tree's sections".
+-- Source: docs/TREE_CALLS.md, "The tree's sections".
 use Rattle.std.specs.Prelude.{◌≡◌, ℕ, ◌+◌, ◌-◌, ◌<◌, Bool, true, false, List, [], ◌∷◌, ◌++◌, length, Some, None}
 use Rattle.std.specs.List.{AllByRecursion}
 use Rattle.prcu_marks.specs.declared.mark.Mark.{Mark}

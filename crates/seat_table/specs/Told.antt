@@ -1,5 +1,5 @@
 -- What a step tells.
--- Source: docs/TREE.md, "What a step sees".
+-- Source: docs/TREE_CALLS.md, "What a step sees".
 use Rattle.std.specs.Prelude.{◌≡◌, ℕ, List}
 use Rattle.atomic_table.specs.Table.{Me, Step}
 use Rattle.prcu_marks.specs.declared.mark.Mark.{Mark}

@@ -1,5 +1,5 @@
 -- What a poll does, whatever the waiter.
--- Source: docs/TREE.md, "The tree's waits".
+-- Source: docs/TREE_CALLS.md, "The tree's waits".
 use Rattle.std.specs.Prelude.{◌≡◌, ◌≢◌, ℕ, ◌+◌, ◌-◌, ◌%◌, ◌<◌, ◌≤◌, Bool, true, false, ◌⊎◌, List, [], ◌∷◌, ◌++◌, length, map, Some}
 use mathlib.Core.Option.{some}
 use lib.ListN.{get_elem?}

@@ -15,7 +15,7 @@ mod waiter;
 
 pub use core_acts::Part;
 pub use scan::next_slot;
-pub use seat::Seat;
+pub use seat::{MOST_FREED, Seat};
 pub use table::{CitrusTable, words_of};
 pub use wait::{Grace, Poll, WaitPart, wait_for_readers, wait_in_grace};
 pub use waiter::WaitWords;

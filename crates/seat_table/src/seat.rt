@@ -23,6 +23,9 @@ use core_acts::Act;
 use core_state::{Field, View};
 use std::marker::{Brand, Model, PhantomData};
 
+/// How many slots that its place freed a seat notes.
+pub const MOST_FREED: usize = 64;
+
 /// What one caller steps with. A clause sees the table that it is of, what it knows, and the retired slots that it lists.
 #[derive(Drop)]
 pub struct Seat<W: WaitWords> {
@@ -43,7 +46,7 @@ pub struct Seat<W: WaitWords> {
     pub(crate) front: u64,
     pub(crate) looked: u32,
     pub(crate) listed: ArrayVec<u32, 16>,
-    pub(crate) freed: ArrayVec<u32, 64>,
+    pub(crate) freed: ArrayVec<u32, MOST_FREED>,
     pub(crate) marker: PhantomData<W>,
 }
 
@@ -200,7 +203,7 @@ impl<W: WaitWords> Seat<W> {
         self.looked
     }
 
-    /// Notes a slot that this place freed, so that it is looked at before others. Where 64 are noted already it isn't.
+    /// Notes a slot that this place freed, so that it is looked at before others. Where [`MOST_FREED`] are noted already it isn't.
     pub fn note_freed(&mut self, slot: u32)
         ensures { self.new ≡ self.old }
     {

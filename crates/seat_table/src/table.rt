@@ -1,5 +1,6 @@
 //! The table, and how it is made.
-ghost use Rattle.std.specs.Prelude.{◌≡◌, ℕ, ◌+◌, ◌*◌, ◌^◌, ◌<◌, ◌≤◌, ◌++◌, IfOk, length, replicate};
+ghost use Rattle.std.specs.Prelude.{◌≡◌, ℕ, ◌+◌, ◌*◌, ◌<◌, ◌≤◌, ◌++◌, IfOk, length, replicate};
+ghost use Rattle.prcu_marks.specs.Bounds.{most_tickets};
 ghost use Rattle.core_state.specs.declared.shape.Shape.{Shape};
 ghost use Rattle.seat_table.specs.Fresh.{fresh_seat, alone, key_stamps, waiter_part, first_words};
 ghost use Rattle.seat_table.specs.Seats.{IsQuietSeat};
@@ -120,7 +121,7 @@ impl<W: WaitWords> CitrusTable<W> {
         requires way { W.WAY ≤ 2 }
         requires slots { (1 ≤ slots) × (slots ≤ 2097152) }
         requires places { (1 ≤ places) × (places ≤ 64) }
-        requires tickets { tickets ≤ 2 ^ 40 }
+        requires tickets { tickets ≤ most_tickets }
         ensures table { IfOk result (λ made. (made.0.slots ≡ slots) × (made.0.places ≡ places) × (made.0.tickets ≡ tickets)) }
         ensures seat { IfOk result (λ made. (made.1 ≡ fresh_seat W.WAY made.0) × IsQuietSeat made.1) }
     {

@@ -4,6 +4,7 @@ ghost use Rattle.core_state.specs.declared.view.Section.{Section};
 ghost use Rattle.seat_table.specs.Seats.{IsQuietSeat, shape_of};
 ghost use Rattle.seat_table.specs.Sections.{HasEntered, HasLeft, HasBegun, IsQuietReader};
 ghost use Rattle.seat_table.specs.Onward.{LooksAt, IsOnward, IsWithin};
+ghost use Rattle.seat_table.specs.Once.{LooksOnce};
 ghost use Rattle.seat_table.specs.Waits.{IsLatestOf, Polled, HasWaited, reached, start};
 
 use crate::seat::Seat;
@@ -86,8 +87,8 @@ pub trait WaitPart: WaitWords {
         ensures quiet { IsQuietSeat seat.old → IsQuietSeat seat.new };
 
     /// Looks for readers that the wait is for, from where the last poll stopped: at no place or class before. `Over` comes where there is
-    /// none any more; `NotYet` comes where this poll loaded what it names. A grace beyond the last class of its keys, which no poll leaves,
-    /// goes back to it.
+    /// none any more; `NotYet` comes where this poll loaded what it names: it stops at the first look that finds a reader in its way, and
+    /// looks no further. A grace beyond the last class of its keys, which no poll leaves, goes back to it.
     fn poll(table: &CitrusTable<Self>, seat: &mut Seat<Self>, grace: &mut Grace<Self>) -> Poll
         requires table { seat.old.table ≡ table.now }
         requires latest { IsLatestOf (shape_of Self.WAY table.now) grace.old seat.old.view }
@@ -95,6 +96,7 @@ pub trait WaitPart: WaitWords {
         ensures grace { (grace.new.keys ≡ grace.old.keys) × (grace.new.clock ≡ grace.old.clock) }
         ensures polled { Polled (shape_of Self.WAY table.now) seat.old.view result grace.new seat.new.view }
         ensures onward { IsWithin grace.old.keys grace.old.class → LooksAt (IsOnward (reached grace.old)) seat.old.view seat.new.view }
+        ensures once { LooksOnce grace.old.keys grace.old.clock seat.old.view result seat.new.view }
         ensures quiet { IsQuietSeat seat.old → IsQuietSeat seat.new };
 }
 

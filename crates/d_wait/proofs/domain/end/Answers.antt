@@ -1,4 +1,4 @@
-use Rattle.std.proofs.Common.{◌%◌, refl, sym, subst}
+use Rattle.std.proofs.Common.{◌%◌, refl, sym, ap, subst}
 use Rattle.seat_table.specs.declared.wait.Grace.{Grace}
 use Rattle.seat_table.specs.Seats.{shape_of}
 use Rattle.seat_table.proofs.Waiting.{polls_end}
@@ -9,6 +9,7 @@ use Rattle.seat_table.proofs.Polls.{is_not_yet}
 use Rattle.seat_table.specs.Waits.{reached}
 use Rattle.d_wait.proofs.Onward.{looked_named}
 use Rattle.d_wait.proofs.Sides.{ends}
+use Rattle.seat_table.proofs.Once.{finds_then, finds_later}
 use Rattle.d_wait.proofs.domain.end.Goals as goal
 
 pub returns-in-Some-look-clause-met : goal.returns-in-Some-look-clause-met
@@ -33,3 +34,13 @@ returns-in-Some-look-clause-onward c = looked_named
 pub returns-clause-onward : goal.returns-clause-onward
 returns-clause-onward c =
     looked_named (reached c.args.grace.now) c.turn.new.grace c.turn.ensures.later c.turn.ensures.onward c.look.ensures.spot
+
+pub returns-in-Some-look-clause-once : goal.returns-in-Some-look-clause-once
+returns-in-Some-look-clause-once c =
+    finds_later (ap (λ (z : Grace Domain). z.keys) c.turn.ensures.grace) (ap (λ (z : Grace Domain). z.clock) c.turn.ensures.grace)
+    c.in_default.ensures.clear c.in-Some-look.ensures.once
+
+pub returns-clause-clear : goal.returns-clause-clear
+returns-clause-clear c =
+    finds_then (ap (λ (z : Grace Domain). z.keys) c.turn.ensures.grace) (ap (λ (z : Grace Domain). z.clock) c.turn.ensures.grace)
+    c.in_default.ensures.clear c.in_default-look.ensures.clear

@@ -1,6 +1,13 @@
-use Rattle.std.proofs.Common.{refl}
+use Rattle.std.proofs.Common.{refl, subst}
 use Rattle.seat_table.specs.Seats.{shape_of}
 use Rattle.d_wait.proofs.Sides.{may_look, side_passes}
+use Rattle.core_state.specs.declared.words.Field.TheVariants.{Count}
+use Rattle.core_state.specs.declared.words.Kind.TheVariants.{K31}
+use Rattle.seat_table.specs.Once.{one_step}
+use Rattle.seat_table.specs.Once.IsClear.{empty}
+use Rattle.seat_table.specs.Waits.{Made}
+use Rattle.seat_table.proofs.Once.{finds_clear, finds_here}
+use Rattle.d_wait.proofs.Onward.{count_made}
 use Rattle.d_wait.proofs.domain.look.Goals as goal
 
 pub look_count-count-requires-clause-asks : goal.look_count-count-requires-clause-asks
@@ -13,3 +20,12 @@ pub returns-then-count-eq0-clause-passed : goal.returns-then-count-eq0-clause-pa
 returns-then-count-eq0-clause-passed c = side_passes
     (shape_of 1 c.args.table.now) _ _ c.requires.latest.0 c.args.grace.now.class c.args.side c.look_count-count.result c.args.last
     c.requires.latest.1 c.look_count-count.ensures.told c.if-count-eq0.true
+
+pub returns-then-count-eq0-clause-clear : goal.returns-then-count-eq0-clause-clear
+returns-then-count-eq0-clause-clear c = finds_clear
+    (subst (λ n. Made c.args.seat.now.view (one_step K31 (Count c.args.grace.now.class c.args.side) n) c.look_count-count.new.seat.view)
+    c.if-count-eq0.true (count_made c.look_count-count.ensures.told))
+    (empty c.args.grace.now.class c.args.side)
+
+pub returns-clause-once : goal.returns-clause-once
+returns-clause-once c = finds_here (count_made c.look_count-count.ensures.told)

@@ -9,6 +9,7 @@ use Rattle.seat_table.specs.Onward.{IsLater}
 use Rattle.seat_table.specs.Waits.{reached}
 use Rattle.d_wait.proofs.Onward.{later_then, later_next, looked_named}
 use Rattle.d_wait.proofs.Sides.{skips, passes_class}
+use Rattle.seat_table.proofs.Once.{finds_nothing, finds_then, finds_later}
 use Rattle.d_wait.proofs.domain.pass.Goals as goal
 
 pub returns-then-not-meets_class-clause-passed : goal.returns-then-not-meets_class-clause-passed
@@ -55,3 +56,16 @@ returns-clause-later c =
     let here = c.turn.new.grace in
     later_then (reached c.args.grace.now) (reached here) _ c.turn.ensures.later
     (subst (λ (z : Grace Domain). IsLater (reached here) (reached z)) (sym c.go_on-2.ensures) (later_next here))
+
+pub returns-then-not-meets_class-clause-clear : goal.returns-then-not-meets_class-clause-clear
+returns-then-not-meets_class-clause-clear c = finds_nothing
+
+pub returns-in-Some-look-clause-once : goal.returns-in-Some-look-clause-once
+returns-in-Some-look-clause-once c =
+    finds_later (ap (λ (z : Grace Domain). z.keys) c.turn.ensures.grace) (ap (λ (z : Grace Domain). z.clock) c.turn.ensures.grace)
+    c.in_default.ensures.clear c.in-Some-look.ensures.once
+
+pub returns-clause-clear : goal.returns-clause-clear
+returns-clause-clear c =
+    finds_then (ap (λ (z : Grace Domain). z.keys) c.turn.ensures.grace) (ap (λ (z : Grace Domain). z.clock) c.turn.ensures.grace)
+    c.in_default.ensures.clear c.in_default-look.ensures.clear

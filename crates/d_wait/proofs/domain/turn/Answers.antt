@@ -9,7 +9,9 @@ use Rattle.core_state.specs.declared.words.Field.TheVariants.{Count}
 use Rattle.seat_table.specs.Onward.{IsOnward, IsLater}
 use Rattle.seat_table.specs.Waits.{reached}
 use Rattle.seat_table.proofs.Onward.{looks_then}
-use Rattle.d_wait.proofs.Onward.{gate_turned, later_unturned, onward_unturned, looked_count}
+use Rattle.seat_table.specs.Once.IsClear.{turn as turns}
+use Rattle.seat_table.proofs.Once.{finds_nothing, finds_clear, finds_then, finds_later}
+use Rattle.d_wait.proofs.Onward.{turn_made, gate_turned, later_unturned, onward_unturned, looked_count}
 use Rattle.d_wait.proofs.Sides.{may_turn, turned_on}
 use Rattle.d_wait.proofs.domain.turn.Goals as goal
 
@@ -84,3 +86,18 @@ returns-clause-onward c =
 pub returns-clause-later : goal.returns-clause-later
 returns-clause-later c = subst (λ (z : Grace Domain). IsLater (reached c.args.grace.now) (reached (is_turned z)))
     (sym c.load_gate.ensures.grace) (later_unturned c.args.grace.now c.load_gate.new.grace.gate true c.if-grace.false)
+
+pub returns-then-grace-clause-clear : goal.returns-then-grace-clause-clear
+returns-then-grace-clause-clear c = finds_nothing
+
+pub returns-in-Some-clause-once : goal.returns-in-Some-clause-once
+returns-in-Some-clause-once c =
+    finds_later (ap (λ (z : Grace Domain). z.keys) c.load_gate.ensures.grace) (ap (λ (z : Grace Domain). z.clock) c.load_gate.ensures.grace)
+    c.load_gate.ensures.clear c.in-Some.ensures.once
+
+pub returns-clause-clear : goal.returns-clause-clear
+returns-clause-clear c =
+    let looked = finds_then (ap (λ (z : Grace Domain). z.keys) c.load_gate.ensures.grace)
+    (ap (λ (z : Grace Domain). z.clock) c.load_gate.ensures.grace) c.load_gate.ensures.clear c.in_default.ensures.clear in
+    finds_then refl refl looked
+    (finds_clear (turn_made c.turn_gate.ensures.told) (turns c.load_gate.new.grace.class c.turn_gate.result))

@@ -4,9 +4,10 @@ use Rattle.seat_table.specs.declared.wait.Grace.{Grace}
 use Rattle.seat_table.specs.Seats.{shape_of}
 use Rattle.deer_wait.specs.declared.deer.Deer.{Deer}
 use Rattle.deer_wait.specs.Images.{IsImage}
-use Rattle.seat_table.proofs.Polling.{comes_to, stops_further}
+use Rattle.seat_table.proofs.Polling.{comes_to, goes_further, stops_further}
 use Rattle.deer_wait.proofs.Onward.{looked_rows}
-use Rattle.deer_wait.proofs.Rows.{skips_gap}
+use Rattle.deer_wait.proofs.Rows.{skips_gap, goes_back}
+use Rattle.seat_table.proofs.Once.{finds_then, finds_later}
 use Rattle.deer_wait.proofs.deer.come_to_last.Goals as goal
 
 pub pass-requires-2-clause-latest : goal.pass-requires-2-clause-latest
@@ -53,3 +54,34 @@ returns-clause-onward c =
     ∙ ap (λ (z : Grace Deer). z.place) (sym c.skip_gap.ensures.stays) in
     looked_rows p c.args.grace.now.class after.place after.class
     (inr (here, omega (arith, c.pass.ensures.later, c.skip_gap.ensures.later))) c.pass.ensures.onward c.pass-2.ensures.onward
+
+pub returns-clause-passed : goal.returns-clause-passed
+returns-clause-passed c =
+    let same = ap (λ (z : Grace Deer). z.keys) (sym c.pass.ensures.grace) in
+    let skipped = skips_gap
+    (shape_of 2 c.args.table.now) refl c.pass.new.grace c.args.seat.now.view c.pass.new.seat.view c.in_default.ensures.passed.1
+    c.skip_gap.new.grace c.args.image.now (subst
+    (λ z. IsImage z c.args.image.now) same c.requires.image) c.skip_gap.ensures c.in_default.ensures.passed.0 in
+    let come = goes_further
+    (shape_of 2 c.args.table.now) c.args.seat.now.view c.pass.new.seat.view c.pass-2.new.seat.view c.skip_gap.new.grace
+    c.pass-2.new.grace skipped c.in_default-pass.ensures.passed.1 in (
+      refl,
+      goes_back (shape_of 2 c.args.table.now) refl c.pass-2.new.grace c.args.seat.now.view c.pass-2.new.seat.view come
+          c.args.image.now.last c.in_default-pass.ensures.passed.0,
+    )
+
+pub returns-in-Some-pass-clause-once : goal.returns-in-Some-pass-clause-once
+returns-in-Some-pass-clause-once c =
+    let stays = c.skip_gap.ensures.stays in
+    let first = c.pass.ensures.grace in
+    finds_later (ap (λ (z : Grace Deer). z.keys) stays ∙ ap (λ (z : Grace Deer). z.keys) first)
+    (ap (λ (z : Grace Deer). z.clock) stays ∙ ap (λ (z : Grace Deer). z.clock) first)
+    c.in_default.ensures.clear c.in-Some-pass.ensures.once
+
+pub returns-clause-clear : goal.returns-clause-clear
+returns-clause-clear c =
+    let stays = c.skip_gap.ensures.stays in
+    let first = c.pass.ensures.grace in
+    finds_then (ap (λ (z : Grace Deer). z.keys) stays ∙ ap (λ (z : Grace Deer). z.keys) first)
+    (ap (λ (z : Grace Deer). z.clock) stays ∙ ap (λ (z : Grace Deer). z.clock) first)
+    c.in_default.ensures.clear c.in_default-pass.ensures.clear

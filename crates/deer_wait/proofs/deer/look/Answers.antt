@@ -7,6 +7,9 @@ use Rattle.seat_table.specs.Seats.{shape_of}
 use Rattle.seat_table.proofs.Waiting.{step_of}
 use Rattle.seat_table.proofs.Polls.{stamp_idle, stamp_late, stamp_stays, load_passes, load_stays}
 use Rattle.deer_wait.proofs.Rows.{may_look, image_of}
+use Rattle.seat_table.specs.Once.IsClear.{row}
+use Rattle.seat_table.proofs.Once.{finds_clear, finds_here}
+use Rattle.deer_wait.proofs.Onward.{row_made}
 use Rattle.deer_wait.proofs.deer.look.Goals as goal
 
 pub look_row-stamp-requires-clause-asks : goal.look_row-stamp-requires-clause-asks
@@ -47,3 +50,10 @@ returns-clause-met c =
           (stamp_stays latest.0.clock found is.0 early),
       (([], refl), is.0, early, image_of latest.0 c.args.grace.now.keys r.low_is r.high_is c.args.grace.now.class c.requires.met),
     )
+
+pub returns-then-not-is_early-clause-clear : goal.returns-then-not-is_early-clause-clear
+returns-then-not-is_early-clause-clear c = finds_clear (row_made c.look_row-stamp.ensures.told)
+    (row c.args.grace.now.place c.args.grace.now.class c.look_row-stamp.result (c.is_early.ensures.late c.if-not-is_early.true))
+
+pub returns-clause-once : goal.returns-clause-once
+returns-clause-once c = finds_here (row_made c.look_row-stamp.ensures.told)

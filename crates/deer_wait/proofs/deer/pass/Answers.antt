@@ -7,6 +7,7 @@ use Rattle.seat_table.proofs.Polls.{is_not_yet}
 use Rattle.seat_table.proofs.Waiting.{begins_on}
 use Rattle.deer_wait.specs.declared.deer.Deer.{Deer}
 use Rattle.seat_table.proofs.Onward.{looks_none}
+use Rattle.seat_table.proofs.Once.{finds_nothing, finds_then, finds_later}
 use Rattle.deer_wait.specs.Images.{IsRowFrom}
 use Rattle.deer_wait.proofs.Onward.{looked_row}
 use Rattle.deer_wait.proofs.Rows.{moved, next_class}
@@ -19,6 +20,7 @@ loop-class-init c = record {
   stays = refl;
   class = refl;
   going = begins_on (shape_of 2 c.args.table.now) c.args.seat.now.view c.args.grace.now c.requires.latest;
+  clear = finds_nothing;
   looks = looks_none (IsRowFrom c.args.grace.now.place c.args.grace.now.class) c.args.seat.now.view;
 }
 
@@ -48,6 +50,8 @@ loop-class-preserved c =
           (moved grace grace.place (n + 1)) c.look.new.seat.view) i.class
           (next_class (shape_of 2 c.args.table.now) refl grace c.args.seat.now.view c.loop-class.seat.view i.going c.look.new.seat.view
           c.in_default.ensures.passed (omega (arith, i.class, c.loop-class-test.true, c.requires.small)));
+      clear = finds_then (ap (λ (z : Grace Deer). z.keys) i.stays) (ap (λ (z : Grace Deer). z.clock) i.stays) i.clear
+          c.in_default.ensures.clear;
       looks = (let here : c.args.grace.now.place ≡ grace.place = ap (λ (z : Grace Deer). z.place) (sym i.stays) in
           looked_row c.args.grace.now.place c.args.grace.now.class grace.place grace.class
           (inr (here, omega (arith, i.class, c.loop-class.auto.class))) i.looks c.look.ensures.spot);
@@ -60,3 +64,8 @@ returns-in-Some-clause-onward c =
     let here : c.args.grace.now.place ≡ grace.place = ap (λ (z : Grace Deer). z.place) (sym i.stays) in
     looked_row c.args.grace.now.place c.args.grace.now.class grace.place grace.class
     (inr (here, omega (arith, i.class, c.loop-class.auto.class))) i.looks c.look.ensures.spot
+
+pub returns-in-Some-clause-once : goal.returns-in-Some-clause-once
+returns-in-Some-clause-once c =
+    let i = c.loop-class.invariant in
+    finds_later (ap (λ (z : Grace Deer). z.keys) i.stays) (ap (λ (z : Grace Deer). z.clock) i.stays) i.clear c.in-Some.ensures.once

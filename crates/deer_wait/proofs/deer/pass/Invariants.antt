@@ -1,5 +1,6 @@
 use Rattle.std.proofs.Common.{◌≡◌}
 use Rattle.seat_table.specs.Seats.{shape_of}
+use Rattle.seat_table.specs.Once.{FindsNone}
 use Rattle.seat_table.specs.Waits.{IsGoingOn}
 use Rattle.seat_table.specs.Onward.{LooksAt}
 use Rattle.deer_wait.specs.Images.{IsRowFrom, StaysAt}
@@ -12,5 +13,6 @@ invariant-loop-class l = record {
   stays : StaysAt l.fn.grace l.grace;
   class : l.grace.class ≡ l.class;
   going : IsGoingOn (shape_of 2 l.table) l.fn.seat.view l.grace l.seat.view;
+  clear : FindsNone l.fn.grace.keys l.fn.grace.clock l.fn.seat.view l.seat.view;
   looks : LooksAt (IsRowFrom l.fn.grace.place l.fn.grace.class) l.fn.seat.view l.seat.view;
 }

@@ -6,6 +6,7 @@ use Rattle.deer_wait.specs.declared.deer.Deer.{Deer}
 use Rattle.deer_wait.specs.Images.{IsImage}
 use Rattle.deer_wait.proofs.Onward.{looked_row}
 use Rattle.deer_wait.proofs.Rows.{next_place}
+use Rattle.seat_table.proofs.Once.{finds_then, finds_later}
 use Rattle.deer_wait.proofs.deer.pass_place.Goals as goal
 
 pub returns-in-Some-look-clause-met : goal.returns-in-Some-look-clause-met
@@ -37,3 +38,13 @@ returns-clause-onward c = λ most.
     let place : c.args.grace.now.place ≡ here.place = ap (λ (z : Grace Deer). z.place) (sym c.come_to_last.ensures.grace) in
     looked_row c.args.grace.now.place c.args.grace.now.class here.place here.class
     (inr (place, omega (arith, most, c.in_default.ensures.passed.0))) c.come_to_last.ensures.onward c.look.ensures.spot
+
+pub returns-in-Some-look-clause-once : goal.returns-in-Some-look-clause-once
+returns-in-Some-look-clause-once c =
+    finds_later (ap (λ (z : Grace Deer). z.keys) c.come_to_last.ensures.grace)
+    (ap (λ (z : Grace Deer). z.clock) c.come_to_last.ensures.grace) c.in_default.ensures.clear c.in-Some-look.ensures.once
+
+pub returns-clause-clear : goal.returns-clause-clear
+returns-clause-clear c =
+    finds_then (ap (λ (z : Grace Deer). z.keys) c.come_to_last.ensures.grace)
+    (ap (λ (z : Grace Deer). z.clock) c.come_to_last.ensures.grace) c.in_default.ensures.clear c.in_default-look.ensures.clear

@@ -1,4 +1,4 @@
-use Rattle.std.proofs.Common.{arith, true, refl, ◌≡◌, ◌≤◌, [], ◌++◌}
+use Rattle.std.proofs.Common.{arith, inl, inr, true, refl, ◌≡◌, ◌≤◌, [], ◌++◌}
 use Rattle.core_state.specs.steps.Waits.{excuses}
 use Rattle.core_state.specs.declared.words.Kind.TheVariants.{K8}
 use Rattle.core_state.specs.declared.words.Field.TheVariants.{Announced, Stamp}
@@ -6,7 +6,10 @@ use Rattle.seat_table.specs.Seats.{shape_of}
 use Rattle.seat_table.proofs.Waiting.{step_of, looks_on, passes_on}
 use Rattle.seat_table.proofs.Polls.{not_so, stamp_idle, stamp_late, stamp_stays, load_passes, load_stays}
 use Rattle.seat_table.proofs.Onward.{looks_then}
-use Rattle.eer_wait.proofs.Places.{may_look, key_excuses, key_stays, key_passes, key_looked, stamp_looked}
+use Rattle.seat_table.specs.Once.{IsLate}
+use Rattle.seat_table.specs.Once.IsClear.{outside, late}
+use Rattle.seat_table.proofs.Once.{finds_clear, finds_here}
+use Rattle.eer_wait.proofs.Places.{may_look, key_excuses, key_stays, key_passes, key_looked, stamp_looked, key_made, place_made}
 use Rattle.eer_wait.proofs.eer.look.Goals.{then-stamp-via-then-stamp, then-stamp-via-else-stamp+then-grace-stamp}
 use Rattle.eer_wait.proofs.eer.look.Goals as goal
 
@@ -105,3 +108,21 @@ returns-clause-spot c = looks_then (λ field. field ≡ Stamp c.args.grace.now.p
 
 pub returns-then-not-holds-clause-spot : goal.returns-then-not-holds-clause-spot
 returns-then-not-holds-clause-spot c = key_looked c.look_key-key.ensures.told
+
+pub returns-then-not-holds-clause-clear : goal.returns-then-not-holds-clause-clear
+returns-then-not-holds-clause-clear c = finds_clear (key_made c.look_key-key.ensures.told)
+    (outside c.args.grace.now.place c.look_key-key.result (not_so c.holds.result c.holds.ensures.1 c.if-not-holds.true))
+
+pub returns-then-stamp-clause-clear : goal.returns-then-stamp-clause-clear
+returns-then-stamp-clause-clear c =
+    let key = c.look_key-key.result in
+    let stamp = c.look_stamp-stamp.result in
+    let is_late = elim c.then-stamp.branch as (λ _. IsLate c.args.grace.now.clock c.look_stamp-stamp.result) [
+      | then-stamp-via-then-stamp w ↦ inl w.if-stamp.true
+      | then-stamp-via-else-stamp+then-grace-stamp w ↦ inr w.if-grace-stamp.true
+    ] in
+    finds_clear (place_made c.look_key-key.ensures.told c.look_stamp-stamp.ensures.told)
+    (late c.args.grace.now.place key stamp (c.holds.ensures.0 c.if-not-holds.false) is_late)
+
+pub returns-clause-once : goal.returns-clause-once
+returns-clause-once c = finds_here (place_made c.look_key-key.ensures.told c.look_stamp-stamp.ensures.told)

@@ -1,9 +1,11 @@
-use Rattle.std.proofs.Common.{sym, ap, ◌∙◌, refl}
+use Rattle.std.proofs.Common.{ℕ, sym, ap, subst, ◌∙◌, refl}
 use Rattle.core_state.specs.declared.shape.Shape.{Shape}
+use Rattle.key_interval.specs.Keys.{Interval}
+use Rattle.seat_table.specs.Once.{FindsNone, FindsOnce}
 use Rattle.seat_table.specs.Seats.{shape_of}
 use Rattle.grace_cookie.specs.Cookies.{CookieAt}
 use Rattle.grace_cookie.proofs.Counting.{is_latest}
-use Rattle.grace_cookie.proofs.Asking.{found_over, over_of, over_kept, going_kept}
+use Rattle.grace_cookie.proofs.Asking.{found_over, found_going, over_of, over_kept, going_kept}
 use Rattle.grace_cookie.proofs.cookies.ask.Goals as goal
 
 pub returns-in-Over-clause-asked : goal.returns-in-Over-clause-asked
@@ -13,6 +15,19 @@ returns-in-Over-clause-asked g c =
     let latest = is_latest _ _ _ _ c.requires.of.begun c.waits-latest.ensures
     (ap (λ (z : CookieAt). z.count) c.cookie.view_is) c.if-latest-cookie.false in
     found_over k c.args.cookie.now c.args.seat.now.view c.poll.new.seat.view c.requires.of was latest c.in-Over.ensures.polled _ refl
+    (subst (λ (z : Interval × ℕ). FindsNone z.0 z.1 c.args.seat.now.view c.poll.new.seat.view)
+    (λ i. (c.cookie.invariant i, (c.cookie.view_is i).clock)) c.in-Over.ensures.once)
+
+pub returns-in-NotYet-clause-asked : goal.returns-in-NotYet-clause-asked
+returns-in-NotYet-clause-asked g c =
+    let k : Shape = shape_of g.W.WaitWords.WAY c.args.table.now in
+    let was = sym (ap (λ (z : CookieAt). z.over) c.cookie.view_is) ∙ c.if-cookie.false in
+    let latest = is_latest _ _ _ _ c.requires.of.begun c.waits-latest.ensures
+    (ap (λ (z : CookieAt). z.count) c.cookie.view_is) c.if-latest-cookie.false in
+    found_going k c.args.cookie.now c.args.seat.now.view c.poll.new.seat.view c.in-NotYet.why c.poll.new.grace _ c.requires.of was latest
+    c.if-cookie.false c.in-NotYet.ensures.polled
+    (subst (λ (z : Interval × ℕ). FindsOnce z.0 z.1 c.args.seat.now.view c.in-NotYet.why c.poll.new.seat.view)
+    (λ i. (c.cookie.invariant i, (c.cookie.view_is i).clock)) c.in-NotYet.ensures.once)
 
 pub returns-in-Over-clause-of : goal.returns-in-Over-clause-of
 returns-in-Over-clause-of g c =

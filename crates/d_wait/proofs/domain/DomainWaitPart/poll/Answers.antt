@@ -1,4 +1,4 @@
-use Rattle.std.proofs.Common.{rules, refl, sym, subst, arith}
+use Rattle.std.proofs.Common.{rules, refl, sym, subst, ◌∙◌, arith}
 use Rattle.seat_table.specs.Seats.{shape_of}
 use Rattle.seat_table.proofs.Quiet.{looked_quiet, over_quiet}
 use Rattle.seat_table.proofs.Waiting.{begins_on, polls_end}
@@ -8,9 +8,10 @@ use Rattle.seat_table.specs.Waits.{reached}
 use Rattle.seat_table.specs.declared.wait.Grace.{Grace}
 use Rattle.d_wait.specs.declared.domain.Domain.{Domain}
 use Rattle.seat_table.proofs.Onward.{looks_none}
+use Rattle.seat_table.proofs.Once.{finds_nothing, finds_then, finds_later}
 use Rattle.seat_table.proofs.Polling.{comes_to, goes_further, stops_further}
 use Rattle.d_wait.proofs.Onward.{later_self, later_then, looks_later, within_last}
-use Rattle.d_wait.proofs.Sides.{goes_back}
+use Rattle.d_wait.proofs.Sides.{goes_back, back_keys, back_clock}
 use Rattle.d_wait.proofs.domain.DomainWaitPart.poll.Goals as goal
 
 pub loop-init : goal.loop-init
@@ -21,6 +22,7 @@ loop-init c = record {
   clock = refl;
   class = refl;
   going = begins_on (shape_of 1 c.args.table.now) c.args.seat.now.view c.args.grace.now c.requires.latest;
+  clear = finds_nothing;
   looks = looks_none (IsOnward (reached c.args.grace.now)) c.args.seat.now.view;
   later = later_self (reached c.args.grace.now);
 }
@@ -89,6 +91,7 @@ loop-preserved c =
       going = goes_further
           (shape_of 1 c.args.table.now) c.args.seat.now.view c.loop.seat.view c.pass.new.seat.view c.loop.grace c.pass.new.grace i.going
           passed.1;
+      clear = finds_then i.keys i.clock i.clear c.in_default.ensures.clear;
       looks = looks_later (reached c.args.grace.now) (reached c.loop.grace) i.later i.looks c.pass.ensures.onward;
       later = later_then (reached c.args.grace.now) (reached c.loop.grace) (reached c.pass.new.grace) i.later c.in_default.ensures.later;
     }
@@ -112,3 +115,21 @@ returns-clause-onward c = λ within.
     let stays = c.go_back.ensures.within (omega (arith, most, i.class, c.loop-test.false, c.loop.auto.counter, c.loop.auto.counter-end)) in
     looks_later (reached c.args.grace.now) (reached c.go_back.new.grace)
     (subst (λ (z : Grace Domain). IsLater (reached c.args.grace.now) (reached z)) (sym stays) i.later) i.looks c.end.ensures.onward
+
+pub returns-in-Some-clause-once : goal.returns-in-Some-clause-once
+returns-in-Some-clause-once c = let i = c.loop.invariant in
+    finds_later i.keys i.clock i.clear c.in-Some.ensures.once
+
+pub returns-in-Some-end-clause-once : goal.returns-in-Some-end-clause-once
+returns-in-Some-end-clause-once c =
+    let i = c.loop.invariant in
+    let last = c.last_class-last.result in
+    finds_later (back_keys last c.loop.grace c.go_back.new.grace c.go_back.ensures ∙ i.keys)
+    (back_clock last c.loop.grace c.go_back.new.grace c.go_back.ensures ∙ i.clock) i.clear c.in-Some-end.ensures.once
+
+pub returns-clause-once : goal.returns-clause-once
+returns-clause-once c =
+    let i = c.loop.invariant in
+    let last = c.last_class-last.result in
+    finds_then (back_keys last c.loop.grace c.go_back.new.grace c.go_back.ensures ∙ i.keys)
+    (back_clock last c.loop.grace c.go_back.new.grace c.go_back.ensures ∙ i.clock) i.clear c.in_default-end.ensures.clear

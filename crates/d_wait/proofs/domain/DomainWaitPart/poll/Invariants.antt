@@ -1,6 +1,7 @@
 use Rattle.std.proofs.Common.{◌≡◌}
 use Rattle.seat_table.specs.Seats.{shape_of}
 use Rattle.seat_table.specs.Onward.{LooksAt, IsOnward, IsLater}
+use Rattle.seat_table.specs.Once.{FindsNone}
 use Rattle.seat_table.specs.Waits.{IsGoingOn, reached}
 use Rattle.d_wait.proofs.domain.DomainWaitPart.poll.Given as goal
 
@@ -12,6 +13,7 @@ invariant-loop l = record {
   clock : l.grace.clock ≡ l.fn.grace.clock;
   class : l.grace.class ≡ l.counter;
   going : IsGoingOn (shape_of 1 l.table) l.fn.seat.view l.grace l.seat.view;
+  clear : FindsNone l.fn.grace.keys l.fn.grace.clock l.fn.seat.view l.seat.view;
   looks : LooksAt (IsOnward (reached l.fn.grace)) l.fn.seat.view l.seat.view;
   later : IsLater (reached l.fn.grace) (reached l.grace);
 }

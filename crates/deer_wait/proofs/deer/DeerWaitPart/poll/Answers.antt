@@ -9,6 +9,7 @@ use Rattle.seat_table.proofs.Waiting.{begins_on}
 use Rattle.deer_wait.specs.declared.deer.Deer.{Deer}
 use Rattle.deer_wait.specs.Images.{IsRowFrom}
 use Rattle.seat_table.proofs.Onward.{looks_none}
+use Rattle.seat_table.proofs.Once.{finds_nothing, finds_then, finds_later}
 use Rattle.seat_table.proofs.Polling.{goes_further, stops_further}
 use Rattle.deer_wait.proofs.Onward.{looked_rows, onto, comes_later, rows_then, row_then}
 use Rattle.deer_wait.proofs.Rows.{not_domain, last_of}
@@ -22,6 +23,7 @@ loop-init c = record {
   clock = refl;
   place = refl;
   going = begins_on (shape_of 2 c.args.table.now) c.args.seat.now.view c.args.grace.now c.requires.latest;
+  clear = finds_nothing;
   looks = λ most. looks_none (IsRowFrom c.args.grace.now.place c.args.grace.now.class) c.args.seat.now.view;
   come = inl (refl, refl);
 }
@@ -95,6 +97,7 @@ loop-preserved c =
       going = goes_further
           (shape_of 2 c.args.table.now) c.args.seat.now.view c.loop.seat.view c.pass_place.new.seat.view here c.pass_place.new.grace i.going
           passed.1;
+      clear = finds_then i.keys i.clock i.clear c.in_default.ensures.clear;
       looks = λ most. let come = onto first.place first.class here.place here.class last most i.come in
           looked_rows first.place first.class here.place here.class come.0 (i.looks most) (c.pass_place.ensures.onward come.1);
       come = comes_later first.place first.class here.place here.class c.pass_place.new.grace.place c.pass_place.new.grace.class passed.0
@@ -128,3 +131,25 @@ returns-clause-onward c =
     row_then c.args.grace.now c.loop.grace c.image_of-image.result.last last c.loop.invariant.looks c.loop.invariant.come
     c.come_to_last.new.grace place
     c.in_default-come_to_last.ensures.passed.0 c.come_to_last.ensures.onward c.look.ensures.spot
+
+pub returns-in-Some-clause-once : goal.returns-in-Some-clause-once
+returns-in-Some-clause-once c = let i = c.loop.invariant in
+    finds_later i.keys i.clock i.clear c.in-Some.ensures.once
+
+pub returns-in-Some-come_to_last-clause-once : goal.returns-in-Some-come_to_last-clause-once
+returns-in-Some-come_to_last-clause-once c = let i = c.loop.invariant in
+    finds_later i.keys i.clock i.clear c.in-Some-come_to_last.ensures.once
+
+pub returns-in-Some-look-clause-once : goal.returns-in-Some-look-clause-once
+returns-in-Some-look-clause-once c =
+    let i = c.loop.invariant in
+    let come = finds_then i.keys i.clock i.clear c.in_default-come_to_last.ensures.clear in
+    finds_later (ap (λ (z : Grace Deer). z.keys) c.come_to_last.ensures.grace ∙ i.keys)
+    (ap (λ (z : Grace Deer). z.clock) c.come_to_last.ensures.grace ∙ i.clock) come c.in-Some-look.ensures.once
+
+pub returns-clause-once : goal.returns-clause-once
+returns-clause-once c =
+    let i = c.loop.invariant in
+    let come = finds_then i.keys i.clock i.clear c.in_default-come_to_last.ensures.clear in
+    finds_then (ap (λ (z : Grace Deer). z.keys) c.come_to_last.ensures.grace ∙ i.keys)
+    (ap (λ (z : Grace Deer). z.clock) c.come_to_last.ensures.grace ∙ i.clock) come c.in_default-look.ensures.clear

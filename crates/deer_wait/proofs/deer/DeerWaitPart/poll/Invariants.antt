@@ -1,6 +1,7 @@
 use Rattle.std.proofs.Common.{◌≡◌, ◌<◌, ◌≤◌, ◌⊎◌}
 use Rattle.seat_table.specs.Seats.{shape_of}
 use Rattle.seat_table.specs.Onward.{LooksAt}
+use Rattle.seat_table.specs.Once.{FindsNone}
 use Rattle.seat_table.specs.Waits.{IsGoingOn}
 use Rattle.deer_wait.specs.Images.{IsRowFrom}
 use Rattle.deer_wait.proofs.deer.DeerWaitPart.poll.Given as goal
@@ -13,6 +14,7 @@ invariant-loop l = record {
   clock : l.grace.clock ≡ l.fn.grace.clock;
   place : l.grace.place ≡ l.counter;
   going : IsGoingOn (shape_of 2 l.table) l.fn.seat.view l.grace l.seat.view;
+  clear : FindsNone l.fn.grace.keys l.fn.grace.clock l.fn.seat.view l.seat.view;
   looks : l.fn.grace.class ≤ l.image.last → LooksAt (IsRowFrom l.fn.grace.place l.fn.grace.class) l.fn.seat.view l.seat.view;
   come : ((l.fn.grace.place ≡ l.grace.place) × (l.fn.grace.class ≡ l.grace.class))
       ⊎ ((l.fn.grace.place < l.grace.place) × (l.grace.class ≡ 0));

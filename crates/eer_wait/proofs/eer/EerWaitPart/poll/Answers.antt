@@ -4,6 +4,7 @@ use Rattle.seat_table.specs.Seats.{shape_of}
 use Rattle.seat_table.specs.Onward.{IsOnward}
 use Rattle.seat_table.specs.Waits.{IsGoingOn, reached}
 use Rattle.seat_table.proofs.Onward.{looks_none}
+use Rattle.seat_table.proofs.Once.{finds_nothing, finds_then, finds_later}
 use Rattle.seat_table.proofs.Quiet.{looked_quiet, over_quiet}
 use Rattle.seat_table.proofs.Polls.{is_not_yet, ends}
 use Rattle.eer_wait.proofs.Places.{at_place, not_domain, comes_from, next_place, looked_place}
@@ -16,6 +17,7 @@ loop-place-init c = record {
   keys = refl;
   clock = refl;
   going = comes_from (shape_of 0 c.args.table.now) refl c.args.grace.now c.args.seat.now.view _ (omega arith) c.requires.latest;
+  clear = finds_nothing;
   looks = looks_none (IsOnward (reached c.args.grace.now)) c.args.seat.now.view;
 }
 
@@ -35,6 +37,7 @@ loop-place-preserved c =
       going = next_place (shape_of 0 c.args.table.now) refl
           (at_place c.loop-place.grace c.loop-place.place) c.args.seat.now.view c.loop-place.seat.view
           c.look.new.seat.view i.going c.in_default.ensures.passed (omega (arith, c.loop-place-test.true, c.places-last.ensures.places));
+      clear = finds_then i.keys i.clock i.clear c.in_default.ensures.clear;
       looks = looked_place (reached c.args.grace.now) c.loop-place.place c.loop-place.auto.place i.looks c.look.ensures.spot;
     }
 
@@ -82,3 +85,15 @@ returns-clause-onward c = λ within.
     let last : ℕ = c.places-last.result - 1 in
     looked_place (reached c.args.grace.now) last (omega
     (arith, c.places-last.ensures.places, c.requires.latest.2.inside)) c.loop-place.invariant.looks c.look-2.ensures.spot
+
+pub returns-in-Some-clause-once : goal.returns-in-Some-clause-once
+returns-in-Some-clause-once c = let i = c.loop-place.invariant in
+    finds_later i.keys i.clock i.clear c.in-Some.ensures.once
+
+pub returns-in-Some-look-clause-once : goal.returns-in-Some-look-clause-once
+returns-in-Some-look-clause-once c = let i = c.loop-place.invariant in
+    finds_later i.keys i.clock i.clear c.in-Some-look.ensures.once
+
+pub returns-clause-once : goal.returns-clause-once
+returns-clause-once c = let i = c.loop-place.invariant in
+    finds_then i.keys i.clock i.clear c.in_default-look.ensures.clear

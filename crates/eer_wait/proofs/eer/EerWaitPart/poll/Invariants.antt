@@ -1,6 +1,7 @@
 use Rattle.std.proofs.Common.{◌≡◌}
 use Rattle.seat_table.specs.Seats.{shape_of}
 use Rattle.seat_table.specs.Onward.{LooksAt, IsOnward}
+use Rattle.seat_table.specs.Once.{FindsNone}
 use Rattle.seat_table.specs.Waits.{IsGoingOn, reached}
 use Rattle.eer_wait.proofs.Places.{at_place}
 use Rattle.eer_wait.proofs.eer.EerWaitPart.poll.Given as goal
@@ -12,5 +13,6 @@ invariant-loop-place l = record {
   keys : l.grace.keys ≡ l.fn.grace.keys;
   clock : l.grace.clock ≡ l.fn.grace.clock;
   going : IsGoingOn (shape_of 0 l.table) l.fn.seat.view (at_place l.grace l.place) l.seat.view;
+  clear : FindsNone l.fn.grace.keys l.fn.grace.clock l.fn.seat.view l.seat.view;
   looks : LooksAt (IsOnward (reached l.fn.grace)) l.fn.seat.view l.seat.view;
 }
