@@ -17,7 +17,7 @@ use Rattle.core_acts.specs.declared.act.Act.TheVariants as acts
 use Rattle.core_acts.specs.declared.act.Part.{Part}
 use Rattle.seat_table.specs.Told.{Told}
 use Rattle.tree_points.specs.Progress.{HasGone}
-use Rattle.tree_points.proofs.Gone.{allowed, gone_none, gone_on, gone_stays, gone_same}
+use Rattle.tree_points.proofs.Gone.{allowed, further_by, gone_none, gone_on, gone_stays, gone_same}
 use Rattle.tree_points.proofs.Staying.{stays}
 use Rattle.citrus_tree.specs.Going.{Goes, Opened, Closed}
 use Rattle.citrus_tree.specs.Lookups.{Looked}
@@ -67,11 +67,11 @@ pub goes_unlock : {k : Shape} {v w : View} {n s : ℕ} → Told k v (acts.Unlock
 goes_unlock {k} {v} {w} {n} {s} t = with_rest (stays (acts.Unlock s) refl t) _ t.goes (record { retired = refl; wait = refl; waits = refl })
 
 pub goes_opened : {v w : View} {front : ℕ} → Opened v front w → Goes v w []
-goes_opened e = with_rest (gone_none (allowed e refl) (ap (λ (z : View). z.seen) e)) _ e
+goes_opened e = with_rest (gone_none e.steps (allowed e.rest refl) (ap (λ (z : View). z.seen) e.rest)) _ e.rest
     (record { retired = refl; wait = refl; waits = refl })
 
 pub goes_closed : {v w : View} → Closed v w → Goes v w []
-goes_closed e = with_rest (gone_none (allowed e refl) (ap (λ (z : View). z.seen) e)) _ e
+goes_closed e = with_rest (gone_none e.steps (allowed e.rest refl) (ap (λ (z : View). z.seen) e.rest)) _ e.rest
     (record { retired = refl; wait = refl; waits = refl })
 
 module _ {v w : View} {key : ℕ} {answer : Option ℕ} (l : Looked v key answer w) where
@@ -101,6 +101,7 @@ module _ {v w : View} {key : ℕ} {answer : Option ℕ} (l : Looked v key answer
       let before : own_of p v.seen ≡ own_of p l.before = l.sees.own p (works_there v l.sees.works) in
       with_rest
       (record {
+        steps = further_by v w _ l.made.trail refl;
         same = ap (λ (z : View). z.allowance.place) l.others;
         allowance = allowed l.others refl;
         begins = prefix_trans v.seen l.before w.seen l.sees.begins to_end;

@@ -1,6 +1,7 @@
 pub mod searches
 pub mod Committing
 pub mod Leavings
+pub mod Beginning
 pub mod sets
 pub mod KeepingSlots
 pub mod KeepingWaits

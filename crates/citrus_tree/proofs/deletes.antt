@@ -13,3 +13,4 @@ pub mod Pieces
 pub mod Room
 pub mod Sections
 pub mod Tries
+pub mod Values

@@ -1,5 +1,5 @@
 -- What the parts of a delete come to, from point to point of the call.
--- Source: docs/TREE.md, "The calls".
+-- Source: docs/TREE_CALLS.md, "The calls".
 use Rattle.std.specs.Prelude.{◌≡◌, ◌⊎◌, ℕ, ◌+◌, ◌*◌, ◌^◌, ◌<◌, ◌≤◌, ◌==◌, if◌then◌else◌, List, [], ◌∷◌, ◌++◌, length, map, Option, Some, None}
 use mathlib.Core.List.{IsPrefix}
 use Rattle.prcu_marks.specs.declared.mark.Mark.{Mark}
@@ -17,6 +17,8 @@ use Rattle.core_state.specs.declared.shape.Shape.{Shape}
 use Rattle.core_state.specs.declared.view.HeldLock.{HeldLock}
 use Rattle.core_state.specs.declared.view.Retired.{Retired}
 use Rattle.core_state.specs.declared.view.View.{View}
+use Rattle.core_state.specs.declared.words.Field.TheVariants.{Value}
+use Rattle.core_state.specs.views.Known.{known_in, known_under}
 use Rattle.core_points.specs.declared.stage.Node.{Node}
 use Rattle.core_points.specs.declared.stage.Successor.{Successor}
 use Rattle.core_points.specs.declared.stage.Target.{Target}
@@ -27,7 +29,9 @@ use Rattle.tree_points.specs.At.{IsAt}
 use Rattle.citrus_tree.specs.Going.{MayBegin}
 use Rattle.citrus_tree.specs.Gone.{KeepsWait, retired_marks, waits_in}
 use Rattle.seat_table.specs.Seats.{SeatAt}
-use Rattle.citrus_tree.specs.Replies.{DelsBy, IsMoveWait, RetiresInOrder}
+use Rattle.seat_table.specs.Sections.{Makes}
+use Rattle.citrus_tree.specs.Lookups.{is_load, is_of_lookup}
+use Rattle.citrus_tree.specs.Replies.{DelsBy, IsMoveWait, RetiresInOrder, TookOut}
 use Rattle.tree_points.specs.Progress.{HasGone}
 
 -- A call stands at this point.
@@ -65,8 +69,14 @@ pub record KeepsRest (v w : View) : Type 0 where
   pub retired : retired_slots w ≡ retired_slots v
   pub stay : retired_marks w ≡ retired_marks v
 
--- A section with the key was entered, and then one was left.
+-- Nothing was changed, and only loads of a search were made.
+pub record OnlyLoads (v w : View) : Type 0 where
+  pub all : KeepsAll v w
+  pub made : Makes is_load v.trail w.trail
+
+-- A section with the key was entered, in which there were only loads, and then one was left.
 pub record HasSearched (v : View) (key : ℕ) (w : View) : Type 0 where
+  pub made : Makes is_of_lookup v.trail w.trail
   pub count : ℕ
   pub left : ℕ
   pub gone : HasGone v w (Entered v.allowance.place count key ∷ (Left v.allowance.place left ∷ []))
@@ -145,3 +155,18 @@ RetiresIf s key None t = t.listed ≡ s.listed
 -- where a delete goes on after it stored this link in a side
 abbrev pub relinked_at : ℕ → ℕ → Side → ℕ → Stage
 relinked_at number slot b child = if child == 0 then at.EmptyTag number slot b else at.Unlock (last.Gone number)
+
+-- What was known of a slot's value under its lock is known still.
+pub record KeepsValue (slot : ℕ) (v w : View) : Type 0 where
+  pub still : (value : ℕ) → known_in (known_under v slot) (Value slot) ≡ Some value
+      → known_in (known_under w slot) (Value slot) ≡ Some value
+
+-- A value that was known of the node under its lock is the one that the update took out.
+pub record TakesValue (v : View) (node key number : ℕ) (w : View) : Type 0 where
+  pub took : (value : ℕ) → known_in (known_under v node) (Value node) ≡ Some value
+      → TookOut (updates_of w.seen) v.allowance.place key value number
+
+-- the value that the update took out is told
+abbrev pub TellsTaken : View → ℕ → ℕ → Option ℕ → View → Type 0
+TellsTaken v key number (Some value) w = TookOut (updates_of w.seen) v.allowance.place key value number
+TellsTaken v key number None w = ⊥

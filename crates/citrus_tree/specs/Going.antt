@@ -1,5 +1,5 @@
 -- What the parts of the calls leave.
--- Source: docs/TREE.md, "The calls".
+-- Source: docs/TREE_CALLS.md, "The calls".
 use Rattle.std.specs.Prelude.{◌≡◌, ◌⊎◌, ℕ, ◌+◌, ◌≤◌, false, List, [], ◌∷◌, ◌++◌, length, Option, Some, None}
 use Rattle.std.specs.List.{AllByRecursion}
 use Rattle.std.specs.FinMap as finite
@@ -57,13 +57,15 @@ pub record MakesUpdate (v : View) (op : Op) (before : List Mark) (number : ℕ) 
   pub number_is : number ≡ length (updates_of before) + 1
   pub legal : IsLegal (updates_of w.seen)
 
--- the front is odd by the view, which found this number
-abbrev pub Opened : View → ℕ → View → Type 0
-Opened v front w = w ≡ record v { commit = Some (record { found = front; stored = false }); latest = w.latest; trail = w.trail }
+-- The front is odd by the view, which found this number.
+pub record Opened (v : View) (front : ℕ) (w : View) : Type 0 where
+  pub steps : IsPrefix v.trail.steps w.trail.steps
+  pub rest : w ≡ record v { commit = Some (record { found = front; stored = false }); latest = w.latest; trail = w.trail }
 
--- the front is even again
-abbrev pub Closed : View → View → Type 0
-Closed v w = w ≡ record v { commit = None; latest = w.latest; trail = w.trail }
+-- The front is even again.
+pub record Closed (v w : View) : Type 0 where
+  pub steps : IsPrefix v.trail.steps w.trail.steps
+  pub rest : w ≡ record v { commit = None; latest = w.latest; trail = w.trail }
 
 -- what a put's search came to: the empty side at which the key belongs, or that the key is there
 abbrev pub Searched : Shape → View → ℕ → Option Spot → View → Type 0

@@ -1,5 +1,5 @@
 -- What a search is told, hop by hop.
--- Source: docs/TREE.md, "The calls".
+-- Source: docs/TREE_CALLS.md, "The calls".
 use base.Fml.{GName}
 use denote.MutBor.{MutBor}
 use Rattle.std.specs.Prelude.{◌≡◌, ◌≢◌, ℕ, Some, None}

@@ -6,3 +6,4 @@ pub mod Putting
 pub mod Replies
 pub mod Clients
 pub mod Deletes
+pub mod Beginnings

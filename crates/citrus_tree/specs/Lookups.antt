@@ -1,5 +1,5 @@
 -- What a lookup makes of a view, and what it answers.
--- Source: docs/TREE.md, "The calls".
+-- Source: docs/TREE_CALLS.md, "The calls".
 use Rattle.std.specs.Prelude.{◌≡◌, ℕ, ◌+◌, if◌then◌else◌, Bool, true, false, List, [], ◌∷◌, ◌++◌, length, Option, Some, None}
 use mathlib.Core.List.{IsPrefix}
 use Rattle.prcu_marks.specs.declared.mark.Mark.{Mark}

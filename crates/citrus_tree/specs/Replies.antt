@@ -1,5 +1,5 @@
 -- What the calls of the tree are told.
--- Source: docs/TREE.md, "The calls".
+-- Source: docs/TREE_CALLS.md, "The calls".
 use Rattle.std.specs.Prelude.{◌≡◌, ◌⊎◌, ℕ, ◌+◌, ◌-◌, ◌*◌, ◌≤◌, List, [], ◌∷◌, ◌++◌, length, Option, Some, None}
 use Rattle.std.specs.FinMap as finite
 use mathlib.Core.List.{IsPrefix}
@@ -12,6 +12,7 @@ use Rattle.prcu_model.specs.declared.operation.Op.TheVariants.{Put, Del, Set}
 use Rattle.prcu_model.specs.declared.operation.Reply.{Reply}
 use Rattle.prcu_model.specs.declared.operation.Reply.TheVariants.{New, Old, Full, Absent, Gone, Was}
 use Rattle.prcu_model.specs.declared.operation.Told.{Told}
+use Rattle.prcu_model.specs.declared.operation.Update.{Update}
 use Rattle.prcu_model.specs.Dictionary.{WasSaid, key_of, map_of}
 use Rattle.prcu_model.specs.History.{IsLegal}
 use Rattle.core_state.specs.declared.shape.Shape.{Shape}
@@ -127,3 +128,15 @@ DelsBy v key tries _ number w = ⊥
 abbrev pub Dels : View → ℕ → Told → View → Type 0
 Dels v key told w = (tries : List Mark) × DelsBy v key tries told.reply told.number w
     × (1 ≤ waits_in tries → (15 ≤ length v.hands.retired) ⊎ (v.hands.spare ≡ None))
+
+-- The update of this number took this pair out: the dictionary of the updates before it had the pair.
+pub record TookOut (history : List Update) (caller key value number : ℕ) : Type 0 where
+  pub before : List Update
+  pub stands : IsPrefix (before ++ record { caller = caller; op = Del key } ∷ []) history
+  pub number_is : number ≡ length before + 1
+  pub value_is : finite.get (map_of before) key ≡ Some value
+
+-- What a remove is told besides: at Gone the value of the pair that its update took out, and at Absent none.
+abbrev pub TellsValue : View → ℕ → Told → Option ℕ → View → Type 0
+TellsValue v key told (Some value) w = (told.reply ≡ Gone) × TookOut (updates_of w.seen) v.allowance.place key value told.number
+TellsValue v key told None w = told.reply ≡ Absent

@@ -1,5 +1,6 @@
 //! The front, made odd for one store.
 ghost use Rattle.std.specs.Prelude.{◌≡◌, ℕ, ◌+◌, ◌/◌, ◌%◌, ◌≤◌, true, Some, None, IfOk};
+ghost use Rattle.prcu_marks.specs.Bounds.{most_front};
 ghost use Rattle.core_points.specs.declared.stage.Stage.TheVariants as at;
 ghost use Rattle.core_points.specs.declared.stage.Update.{Update};
 ghost use Rattle.core_points.specs.Programs.{past_even};
@@ -32,7 +33,7 @@ pub(crate) fn open_front<P: Patience, W: WaitPart>(
     requires settled { seat.old.view.moving ≡ None }
     requires paid { seat.old.view.commit ≡ None }
     ensures seat { (seat.new.table ≡ seat.old.table) × (seat.new.listed ≡ seat.old.listed) }
-    ensures few { IfOk result (λ answer. answer ≤ 2199023255553) }
+    ensures few { IfOk result (λ answer. answer ≤ most_front) }
     ensures opened { IfOk result (λ answer. Opened seat.old.view answer seat.new.view) }
     ensures at { IfOk result (λ answer. (op : Op) (kept e : ℕ) (u : Update)
         → IsAt (shape_of W.WAY table.now) op kept (at.Commit u e) seat.old.view
@@ -59,7 +60,7 @@ pub(crate) fn close_front<W: WaitPart>(
 ) -> u64
     requires table { seat.old.table ≡ table.now }
     requires odd { seat.old.view.commit ≡ Some (record { found = front; stored = true }) }
-    requires few { front ≤ 2199023255553 }
+    requires few { front ≤ most_front }
     ensures seat { (seat.new.table ≡ seat.old.table) × (seat.new.listed ≡ seat.old.listed) }
     ensures number { result ≡ (front + 2) / 2 }
     ensures closed { Closed seat.old.view seat.new.view }

@@ -1,17 +1,21 @@
 //! A pair is taken out.
 
-ghost use Rattle.std.specs.Prelude.{◌≡◌, ◌⊎◌, ◌+◌, ◌<◌, ◌≤◌, ℕ, [], length, None, IfSome, IfNone, IfOk};
+ghost use Rattle.std.specs.Prelude.{◌≡◌, ◌≢◌, ◌⊎◌, ◌+◌, ◌<◌, ◌≤◌, ℕ, [], length, None, IfSome, IfNone, IfOk, true, is_some, Some};
 ghost use Rattle.prcu_model.specs.declared.operation.Op.TheVariants.{Del};
 ghost use Rattle.prcu_model.specs.declared.operation.Reply.TheVariants.{Gone};
 ghost use Rattle.core_points.specs.declared.stage.Stage.TheVariants as at;
+ghost use Rattle.core_points.specs.Programs.{deleting};
+ghost use Rattle.core_state.specs.declared.words.Field.TheVariants.{Value};
+ghost use Rattle.core_state.specs.views.Known.{known_in, known_under};
 ghost use Rattle.seat_table.specs.Gains.{IsInformed};
 ghost use Rattle.seat_table.specs.Seats.{AreListed, IsQuietSeat, shape_of};
 ghost use Rattle.tree_points.specs.At.{IsAt, IsDone};
 ghost use Rattle.tree_points.specs.Progress.{KeepsAllowance};
-ghost use Rattle.citrus_tree.specs.Deletes.{KeepsRest, HasDeleted, HasMadeRoom, IsReadyToDelete, DelsAtOnce, RetiresBy, RetiresIf};
+ghost use Rattle.citrus_tree.specs.Beginnings.{BeginsByLookup, BeginsOnceReady};
+ghost use Rattle.citrus_tree.specs.Deletes.{KeepsRest, HasDeleted, HasMadeRoom, IsReadyToDelete, DelsAtOnce, RetiresBy, RetiresIf, StandsAt, Comes, KeepsAll, TellsTaken};
 ghost use Rattle.citrus_tree.specs.Going.{MayBegin};
 ghost use Rattle.citrus_tree.specs.Gone.{KeepsSlots, KeepsWait};
-ghost use Rattle.citrus_tree.specs.Replies.{Dels, RetiresInOrder};
+ghost use Rattle.citrus_tree.specs.Replies.{Dels, RetiresInOrder, TellsValue};
 
 mod bypass;
 mod locks;
@@ -19,16 +23,32 @@ mod shift;
 mod target;
 
 use bypass::bypass;
-use core_points::stage::Target;
+use core_points::stage::{Node, Successor, Target};
 use locks::{lock_target, unlock_target, validate};
 use node_slots::Taken;
 use node_slots::patient::{reclaim, take};
 use patience::Patience;
 use prcu_marks::{Gate, Point};
 use prcu_model::{Reply, Told};
-use seat_table::{CitrusTable, Seat, WaitPart, steps};
+use seat_table::{CitrusTable, Part, Seat, WaitPart, steps};
 use shift::shift;
 use target::find_target;
+
+/// What a `remove` came to: what a `del` is told, and the value of the pair that was taken out.
+#[derive(Clone, Copy, Debug, PartialEq, Eq)]
+pub struct Removed {
+    /// `Gone` with the update's position, or `Absent`.
+    pub told: Told,
+    /// The value that the key had until then, at `Gone`.
+    pub value: Option<u64>,
+}
+
+/// The number of an update that took a pair out, and the pair's value where it was loaded.
+#[derive(Clone, Copy)]
+struct TakenOut {
+    number: u64,
+    value: Option<u64>,
+}
 
 /// Takes the key's pair out, where the key is present: `Gone` with the update's position. The slot that it took out is listed as retired,
 /// and behind it the old successor, where the node had two children. `Absent` as at `get`. It waits for the holders of the locks of the
@@ -46,6 +66,7 @@ pub fn del<P: Patience, W: WaitPart, G: Gate>(
     requires tickets { 4 ≤ seat.old.view.allowance.tickets }
     ensures table { seat.new.table ≡ seat.old.table }
     ensures dels { IfOk result (λ answer. Dels seat.old.view key answer seat.new.view) }
+    ensures begins { IfOk result (λ _. BeginsOnceReady seat.old.view key seat.new.view) }
     ensures wait { IfOk result (λ _. KeepsWait seat.old.view seat.new.view) }
     ensures slots { IfOk result (λ _. KeepsSlots seat.old seat.new) }
     ensures retires { IfOk result (λ answer. answer.reply ≡ Gone → RetiresInOrder seat.old key answer.number seat.new) }
@@ -54,11 +75,65 @@ pub fn del<P: Patience, W: WaitPart, G: Gate>(
     ensures quiet { IfOk result (λ _. IsQuietSeat seat.new) }
     ensures informed { IfOk result (λ _. IsInformed seat.new.view) }
 {
+    Ok(delete_telling(patience, table, seat, gate, key, false)?.told)
+}
+
+/// Takes the key's pair out as `del` does, and tells its value too. For that it makes one step more, a load under the node's lock just
+/// before the update's first step.
+pub fn remove<P: Patience, W: WaitPart, G: Gate>(
+    patience: &P,
+    table: &CitrusTable<W>,
+    seat: &mut Seat<W>,
+    gate: &G,
+    key: u64,
+) -> Result<Removed, P::Tired>
+    requires table { seat.old.table ≡ table.now }
+    requires quiet { IsQuietSeat seat.old }
+    requires tickets { 4 ≤ seat.old.view.allowance.tickets }
+    ensures table { seat.new.table ≡ seat.old.table }
+    ensures dels { IfOk result (λ answer. Dels seat.old.view key answer.told seat.new.view) }
+    ensures value { IfOk result (λ answer. TellsValue seat.old.view key answer.told answer.value seat.new.view) }
+    ensures begins { IfOk result (λ _. BeginsOnceReady seat.old.view key seat.new.view) }
+    ensures wait { IfOk result (λ _. KeepsWait seat.old.view seat.new.view) }
+    ensures slots { IfOk result (λ _. KeepsSlots seat.old seat.new) }
+    ensures retires { IfOk result (λ answer. answer.told.reply ≡ Gone → RetiresInOrder seat.old key answer.told.number seat.new) }
+    ensures tickets { IfOk result (λ _. seat.old.view.allowance.tickets ≤ seat.new.view.allowance.tickets + 4) }
+    ensures allowance { IfOk result (λ _. KeepsAllowance seat.old.view seat.new.view) }
+    ensures quiet { IfOk result (λ _. IsQuietSeat seat.new) }
+    ensures informed { IfOk result (λ _. IsInformed seat.new.view) }
+{
+    delete_telling(patience, table, seat, gate, key, true)
+}
+
+// A delete that tells the value where it is asked to.
+fn delete_telling<P: Patience, W: WaitPart, G: Gate>(
+    patience: &P,
+    table: &CitrusTable<W>,
+    seat: &mut Seat<W>,
+    gate: &G,
+    key: u64,
+    tells_value: bool,
+) -> Result<Removed, P::Tired>
+    requires table { seat.old.table ≡ table.now }
+    requires quiet { IsQuietSeat seat.old }
+    requires tickets { 4 ≤ seat.old.view.allowance.tickets }
+    ensures table { seat.new.table ≡ seat.old.table }
+    ensures dels { IfOk result (λ answer. Dels seat.old.view key answer.told seat.new.view) }
+    ensures value { IfOk result (λ answer. tells_value ≡ true → TellsValue seat.old.view key answer.told answer.value seat.new.view) }
+    ensures begins { IfOk result (λ _. BeginsOnceReady seat.old.view key seat.new.view) }
+    ensures wait { IfOk result (λ _. KeepsWait seat.old.view seat.new.view) }
+    ensures slots { IfOk result (λ _. KeepsSlots seat.old seat.new) }
+    ensures retires { IfOk result (λ answer. answer.told.reply ≡ Gone → RetiresInOrder seat.old key answer.told.number seat.new) }
+    ensures tickets { IfOk result (λ _. seat.old.view.allowance.tickets ≤ seat.new.view.allowance.tickets + 4) }
+    ensures allowance { IfOk result (λ _. KeepsAllowance seat.old.view seat.new.view) }
+    ensures quiet { IfOk result (λ _. IsQuietSeat seat.new) }
+    ensures informed { IfOk result (λ _. IsInformed seat.new.view) }
+{
     // Before the first search: inside a section of its own a wait for everybody would wait for itself.
     make_room(patience, table, seat)?;
-    let told = delete(patience, table, seat, gate, key)?;
+    let removed = delete(patience, table, seat, gate, key, tells_value)?;
     gate.pass(Point::Answered, seat.place());
-    Ok(told)
+    Ok(removed)
 }
 
 // Sees to it that the place has a spare, for a copy, and that two more slots can be retired. Where all retired slots were given back, the
@@ -74,6 +149,8 @@ fn make_room<P: Patience, W: WaitPart>(
     ensures table { seat.new.table ≡ seat.old.table }
     ensures at { IfOk result (λ _. IsReadyToDelete (shape_of W.WAY table.now) seat.old.view seat.new.view) }
     ensures room { IfOk result (λ _. HasMadeRoom seat.old.view seat.new.view) }
+    ensures at_once { IfOk result (λ _. length seat.old.view.hands.retired < 15 → seat.old.view.hands.spare ≢ None
+        → seat.new.view ≡ seat.old.view) }
     ensures slots { IfOk result (λ _. KeepsSlots seat.old seat.new) }
     ensures kept { IfOk result (λ _. (seat.new.listed ≡ seat.old.listed) ⊎ (seat.new.listed ≡ [])) }
     ensures listed { IfOk result (λ _. AreListed seat.new) }
@@ -127,15 +204,18 @@ fn delete<P: Patience, W: WaitPart, G: Gate>(
     seat: &mut Seat<W>,
     gate: &G,
     key: u64,
-) -> Result<Told, P::Tired>
+    tells_value: bool,
+) -> Result<Removed, P::Tired>
     requires table { seat.old.table ≡ table.now }
     requires at { (kept : ℕ) × MayBegin (shape_of W.WAY table.now) (Del key) kept seat.old.view }
     requires listed { AreListed seat.old }
     ensures table { seat.new.table ≡ seat.old.table }
     ensures done { IfOk result (λ _. (kept : ℕ) → MayBegin (shape_of W.WAY table.now) (Del key) kept seat.old.view
         → IsDone (shape_of W.WAY table.now) (Del key) kept seat.new.view) }
-    ensures dels { IfOk result (λ answer. DelsAtOnce seat.old.view key answer seat.new.view) }
-    ensures retires { IfOk result (λ answer. RetiresBy seat.old key answer.reply answer.number seat.new) }
+    ensures dels { IfOk result (λ answer. DelsAtOnce seat.old.view key answer.told seat.new.view) }
+    ensures value { IfOk result (λ answer. tells_value ≡ true → TellsValue seat.old.view key answer.told answer.value seat.new.view) }
+    ensures begins { IfOk result (λ _. BeginsByLookup seat.old.view key seat.new.view) }
+    ensures retires { IfOk result (λ answer. RetiresBy seat.old key answer.told.reply answer.told.number seat.new) }
     ensures wait { IfOk result (λ _. KeepsWait seat.old.view seat.new.view) }
     ensures slots { IfOk result (λ _. KeepsSlots seat.old seat.new) }
     ensures listed { IfOk result (λ _. AreListed seat.new) }
@@ -144,16 +224,22 @@ fn delete<P: Patience, W: WaitPart, G: Gate>(
     let mut pauses = patience.pauses();
     for _ in 0..u64::MAX {
         let Some(target) = find_target(patience, table, seat, gate, key)? else {
-            return Ok(Told {
-                reply: Reply::Absent,
-                number: 0,
+            return Ok(Removed {
+                told: Told {
+                    reply: Reply::Absent,
+                    number: 0,
+                },
+                value: None,
             });
         };
         gate.pass(Point::BeforeLock, seat.place());
-        if let Some(number) = take_out(patience, table, seat, gate, key, &target)? {
-            return Ok(Told {
-                reply: Reply::Gone,
-                number,
+        if let Some(taken) = take_out(patience, table, seat, gate, key, &target, tells_value)? {
+            return Ok(Removed {
+                told: Told {
+                    reply: Reply::Gone,
+                    number: taken.number,
+                },
+                value: taken.value,
             });
         }
         patience.pause(&mut pauses)?;
@@ -161,8 +247,8 @@ fn delete<P: Patience, W: WaitPart, G: Gate>(
     Err(patience.tired())
 }
 
-// Locks the target, takes it out and answers the update's number; or nothing, where a lock is taken or the target isn't as it was found
-// any more.
+// Locks the target, takes it out and answers the update's number, with the value where it is to be told; or nothing, where a lock is taken
+// or the target isn't as it was found any more.
 fn take_out<P: Patience, W: WaitPart, G: Gate>(
     patience: &P,
     table: &CitrusTable<W>,
@@ -170,22 +256,26 @@ fn take_out<P: Patience, W: WaitPart, G: Gate>(
     gate: &G,
     key: u64,
     target: &Target,
-) -> Result<Option<u64>, P::Tired>
+    tells_value: bool,
+) -> Result<Option<TakenOut>, P::Tired>
     requires table { seat.old.table ≡ table.now }
     requires at { (kept : ℕ) × IsAt (shape_of W.WAY table.now) (Del key) kept (at.TargetLock target.now 0) seat.old.view }
     requires listed { AreListed seat.old }
     ensures table { seat.new.table ≡ seat.old.table }
     ensures done { IfOk result (λ answer. IfSome answer
-        (λ number. (kept : ℕ) → IsAt (shape_of W.WAY table.now) (Del key) kept (at.TargetLock target.now 0) seat.old.view
+        (λ taken. (kept : ℕ) → IsAt (shape_of W.WAY table.now) (Del key) kept (at.TargetLock target.now 0) seat.old.view
         → IsDone (shape_of W.WAY table.now) (Del key) kept seat.new.view)) }
-    ensures deleted { IfOk result (λ answer. IfSome answer (λ number. HasDeleted seat.old.view key number seat.new.view)) }
-    ensures retires { IfOk result (λ answer. RetiresIf seat.old key answer seat.new) }
-    ensures waits { IfOk result (λ answer. IfSome answer (λ number. KeepsWait seat.old.view seat.new.view)) }
-    ensures informed { IfOk result (λ answer. IfSome answer (λ number. IsInformed seat.new.view)) }
+    ensures deleted { IfOk result (λ answer. IfSome answer (λ taken. HasDeleted seat.old.view key taken.number seat.new.view)) }
+    ensures value { IfOk result (λ answer. IfSome answer
+        (λ taken. tells_value ≡ true → TellsTaken seat.old.view key taken.number taken.value seat.new.view)) }
+    ensures retires { IfOk result (λ answer. IfSome answer (λ taken. RetiresInOrder seat.old key taken.number seat.new)) }
+    ensures waits { IfOk result (λ answer. IfSome answer (λ taken. KeepsWait seat.old.view seat.new.view)) }
+    ensures informed { IfOk result (λ answer. IfSome answer (λ taken. IsInformed seat.new.view)) }
     ensures again { IfOk result (λ answer. IfNone answer
         ((kept : ℕ) → IsAt (shape_of W.WAY table.now) (Del key) kept (at.TargetLock target.now 0) seat.old.view
         → IsAt (shape_of W.WAY table.now) (Del key) kept at.EnterClock seat.new.view)) }
     ensures same { IfOk result (λ answer. IfNone answer (KeepsRest seat.old.view seat.new.view)) }
+    ensures kept { IfOk result (λ answer. IfNone answer (seat.new.listed ≡ seat.old.listed)) }
     ensures slots { IfOk result (λ _. KeepsSlots seat.old seat.new) }
     ensures listed { IfOk result (λ _. AreListed seat.new) }
 {
@@ -196,8 +286,40 @@ fn take_out<P: Patience, W: WaitPart, G: Gate>(
         unlock_target(table, seat, target);
         return Ok(None);
     };
+    let value = value_where(table, seat, node, target.successor, tells_value);
     match target.successor {
-        None => Ok(Some(bypass(patience, table, seat, node, key)?)),
-        Some(successor) => Ok(shift(patience, table, seat, gate, key, node, successor)?),
+        None => {
+            let number = bypass(patience, table, seat, node, key)?;
+            Ok(Some(TakenOut { number, value }))
+        }
+        Some(successor) => {
+            let Some(number) = shift(patience, table, seat, gate, key, node, successor)? else {
+                return Ok(None);
+            };
+            Ok(Some(TakenOut { number, value }))
+        }
     }
+}
+
+// The value of a locked node, where it is asked for; else no step is made.
+fn value_where<W: WaitPart>(
+    table: &CitrusTable<W>,
+    seat: &mut Seat<W>,
+    node: Node,
+    successor: Option<Successor>,
+    tells_value: bool,
+) -> Option<u64>
+    requires table { seat.old.table ≡ table.now }
+    requires at { StandsAt (shape_of W.WAY table.now) (deleting node successor) seat.old.view }
+    ensures seat { (seat.new.table ≡ seat.old.table) × (seat.new.listed ≡ seat.old.listed) }
+    ensures asked { is_some result ≡ tells_value }
+    ensures value { IfSome result (λ value. known_in (known_under seat.new.view node.node) (Value node.node) ≡ Some value) }
+    ensures at { Comes (shape_of W.WAY table.now) (deleting node successor) seat.old.view (deleting node successor) seat.new.view }
+    ensures same { KeepsAll seat.old.view seat.new.view }
+{
+    if !tells_value {
+        return None;
+    }
+    // Only the lock's holder stores here, so this is the value that the key has when the node is taken out.
+    Some(steps::locked_load(table, seat, node.node, Part::Value))
 }

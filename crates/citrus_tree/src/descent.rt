@@ -65,6 +65,8 @@ pub(crate) fn go_down<W: WaitPart>(
 }
 
 /// Enters a section with the key, and goes down from the root until a slot has the key or a side is empty. The section stays open.
+// A call would hand its answer through memory.
+#[inline(always)]
 pub(crate) fn descend<P: Patience, W: WaitPart, G: Gate>(
     patience: &P,
     table: &CitrusTable<W>,

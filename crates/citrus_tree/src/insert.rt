@@ -9,6 +9,7 @@ ghost use Rattle.seat_table.specs.Seats.{AreListed, IsQuietSeat, IsSlotOf, shape
 ghost use Rattle.tree_points.specs.At.{HasLocks, IsAt};
 ghost use Rattle.tree_points.specs.Progress.{KeepsAllowance};
 ghost use Rattle.citrus_tree.specs.Deletes.{StandsAt, Comes};
+ghost use Rattle.citrus_tree.specs.Beginnings.{BeginsByLookup};
 ghost use Rattle.citrus_tree.specs.Going.{Goes, Searched, leaf_stage};
 ghost use Rattle.citrus_tree.specs.Gone.{KeepsSlots, KeepsWait};
 ghost use Rattle.citrus_tree.specs.Putting.{old_stage, taken_stage, filled_stage, held_stage, linked_stage, MakesRoom, Links};
@@ -44,6 +45,7 @@ pub fn put<P: Patience, W: WaitPart, G: Gate>(
     requires tickets { 4 ≤ seat.old.view.allowance.tickets }
     ensures table { seat.new.table ≡ seat.old.table }
     ensures puts { IfOk result (λ answer. Puts (shape_of W.WAY table.now) seat.old.view key value answer seat.new.view) }
+    ensures begins { IfOk result (λ _. BeginsByLookup seat.old.view key seat.new.view) }
     ensures quiet { IfOk result (λ _. IsQuietSeat seat.new) }
     ensures wait { IfOk result (λ _. KeepsWait seat.old.view seat.new.view) }
     ensures slots { IfOk result (λ _. KeepsSlots seat.old seat.new) }

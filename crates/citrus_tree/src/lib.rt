@@ -18,5 +18,6 @@ mod steadfast;
 
 pub use client::{TreeClient, call};
 pub use core_points::stage::Spot;
+pub use delete::Removed;
 pub use search::{End, Hop, Search};
-pub use steadfast::{del, get, put, set};
+pub use steadfast::{del, get, put, remove, set};

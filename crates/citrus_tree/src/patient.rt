@@ -3,10 +3,11 @@ ghost use Rattle.std.specs.Prelude.{◌≡◌, ◌+◌, ◌≤◌, IfOk};
 ghost use Rattle.seat_table.specs.Gains.{IsInformed};
 ghost use Rattle.seat_table.specs.Seats.{IsQuietSeat, shape_of};
 ghost use Rattle.tree_points.specs.Progress.{KeepsAllowance};
+ghost use Rattle.citrus_tree.specs.Beginnings.{Begins};
 ghost use Rattle.citrus_tree.specs.Clients.{IsTold};
 ghost use Rattle.citrus_tree.specs.Gone.{KeepsSlots, KeepsWait};
 
-pub use crate::delete::del;
+pub use crate::delete::{Removed, del, remove};
 pub use crate::insert::put;
 pub use crate::lookup::get;
 pub use crate::replace::set;
@@ -28,6 +29,7 @@ pub fn call<P: Patience, W: WaitPart, G: Gate>(
     requires tickets { 4 ≤ seat.old.view.allowance.tickets }
     ensures table { seat.new.table ≡ seat.old.table }
     ensures told { IfOk result (λ answer. IsTold (shape_of W.WAY table.now) seat.old.view op answer seat.new.view) }
+    ensures begins { IfOk result (λ _. Begins seat.old.view op seat.new.view) }
     ensures wait { IfOk result (λ _. KeepsWait seat.old.view seat.new.view) }
     ensures slots { IfOk result (λ _. KeepsSlots seat.old seat.new) }
     ensures tickets { IfOk result (λ _. seat.old.view.allowance.tickets ≤ seat.new.view.allowance.tickets + 4) }

@@ -7,6 +7,7 @@ ghost use Rattle.seat_table.specs.Seats.{IsQuietSeat, shape_of};
 ghost use Rattle.tree_points.specs.At.{IsAt};
 ghost use Rattle.tree_points.specs.Progress.{KeepsAllowance};
 ghost use Rattle.citrus_tree.specs.declared.replace.Replaced.{Replaced};
+ghost use Rattle.citrus_tree.specs.Beginnings.{BeginsByLookup};
 ghost use Rattle.citrus_tree.specs.Going.{Goes, Sought, Stores, set_stage};
 ghost use Rattle.citrus_tree.specs.Gone.{KeepsSlots, KeepsWait};
 ghost use Rattle.citrus_tree.specs.Replies.{Sets};
@@ -50,6 +51,7 @@ pub fn set<P: Patience, W: WaitPart, G: Gate>(
     requires tickets { 4 ≤ seat.old.view.allowance.tickets }
     ensures table { seat.new.table ≡ seat.old.table }
     ensures sets { IfOk result (λ answer. Sets seat.old.view key value answer seat.new.view) }
+    ensures begins { IfOk result (λ _. BeginsByLookup seat.old.view key seat.new.view) }
     ensures quiet { IfOk result (λ _. IsQuietSeat seat.new) }
     ensures wait { IfOk result (λ _. KeepsWait seat.old.view seat.new.view) }
     ensures slots { IfOk result (λ _. KeepsSlots seat.old seat.new) }

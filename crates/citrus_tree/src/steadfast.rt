@@ -1,13 +1,15 @@
 //! The calls, for callers that never give up.
 ghost use Rattle.std.specs.Prelude.{◌≡◌, ◌+◌, ◌≤◌};
+ghost use Rattle.citrus_tree.specs.Beginnings.{BeginsByLookup, BeginsOnceReady};
 ghost use Rattle.citrus_tree.specs.Gone.{KeepsSlots, KeepsWait};
 ghost use Rattle.citrus_tree.specs.Lookups.{Gets};
-ghost use Rattle.citrus_tree.specs.Replies.{Dels, Puts, RetiresInOrder, Sets};
+ghost use Rattle.citrus_tree.specs.Replies.{Dels, Puts, RetiresInOrder, Sets, TellsValue};
 ghost use Rattle.prcu_model.specs.declared.operation.Reply.TheVariants.{Gone};
 ghost use Rattle.seat_table.specs.Gains.{IsInformed};
 ghost use Rattle.seat_table.specs.Seats.{IsQuietSeat, shape_of};
 ghost use Rattle.tree_points.specs.Progress.{KeepsAllowance};
 
+use crate::delete::Removed;
 use crate::patient;
 use patience::Steadfast;
 use prcu_marks::Gate;
@@ -53,6 +55,7 @@ pub fn put<R: Wait, W: WaitPart, G: Gate>(
     requires tickets { 4 ≤ seat.old.view.allowance.tickets }
     ensures table { seat.new.table ≡ seat.old.table }
     ensures puts { Puts (shape_of W.WAY table.now) seat.old.view key value result seat.new.view }
+    ensures begins { BeginsByLookup seat.old.view key seat.new.view }
     ensures quiet { IsQuietSeat seat.new }
     ensures wait { KeepsWait seat.old.view seat.new.view }
     ensures slots { KeepsSlots seat.old seat.new }
@@ -81,6 +84,7 @@ pub fn set<R: Wait, W: WaitPart, G: Gate>(
     requires tickets { 4 ≤ seat.old.view.allowance.tickets }
     ensures table { seat.new.table ≡ seat.old.table }
     ensures sets { Sets seat.old.view key value result seat.new.view }
+    ensures begins { BeginsByLookup seat.old.view key seat.new.view }
     ensures quiet { IsQuietSeat seat.new }
     ensures wait { KeepsWait seat.old.view seat.new.view }
     ensures slots { KeepsSlots seat.old seat.new }
@@ -110,6 +114,7 @@ pub fn del<R: Wait, W: WaitPart, G: Gate>(
     requires tickets { 4 ≤ seat.old.view.allowance.tickets }
     ensures table { seat.new.table ≡ seat.old.table }
     ensures dels { Dels seat.old.view key result seat.new.view }
+    ensures begins { BeginsOnceReady seat.old.view key seat.new.view }
     ensures wait { KeepsWait seat.old.view seat.new.view }
     ensures slots { KeepsSlots seat.old seat.new }
     ensures retires { result.reply ≡ Gone → RetiresInOrder seat.old key result.number seat.new }
@@ -120,6 +125,36 @@ pub fn del<R: Wait, W: WaitPart, G: Gate>(
 {
     match patient::del(&Steadfast::new(rt), table, seat, gate, key) {
         Ok(told) => told,
+        Err(never) => match never {},
+    }
+}
+
+/// Takes the key's pair out as `del` does, and tells its value too. For that it makes one step more, a load under the node's lock just
+/// before the update's first step.
+pub fn remove<R: Wait, W: WaitPart, G: Gate>(
+    rt: &R,
+    table: &CitrusTable<W>,
+    seat: &mut Seat<W>,
+    gate: &G,
+    key: u64,
+) -> Removed
+    requires table { seat.old.table ≡ table.now }
+    requires quiet { IsQuietSeat seat.old }
+    requires tickets { 4 ≤ seat.old.view.allowance.tickets }
+    ensures table { seat.new.table ≡ seat.old.table }
+    ensures dels { Dels seat.old.view key result.told seat.new.view }
+    ensures value { TellsValue seat.old.view key result.told result.value seat.new.view }
+    ensures begins { BeginsOnceReady seat.old.view key seat.new.view }
+    ensures wait { KeepsWait seat.old.view seat.new.view }
+    ensures slots { KeepsSlots seat.old seat.new }
+    ensures retires { result.told.reply ≡ Gone → RetiresInOrder seat.old key result.told.number seat.new }
+    ensures tickets { seat.old.view.allowance.tickets ≤ seat.new.view.allowance.tickets + 4 }
+    ensures allowance { KeepsAllowance seat.old.view seat.new.view }
+    ensures quiet { IsQuietSeat seat.new }
+    ensures informed { IsInformed seat.new.view }
+{
+    match patient::remove(&Steadfast::new(rt), table, seat, gate, key) {
+        Ok(removed) => removed,
         Err(never) => match never {},
     }
 }

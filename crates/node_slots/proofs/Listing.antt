@@ -1,6 +1,8 @@
 -- Listed slots that go back, one after another.
 use Rattle.std.specs.List.{AllByRecursion}
 use Rattle.std.proofs.Common.{◌≡◌, ◌≢◌, ℕ, zero, suc, ◌-◌, ◌≤◌, not, cond, List, [], ◌∷◌, ◌++◌, length, Some, None, refl, sym, ap, subst, ◌∙◌, ⊎_elim, inl, inr, arith, eq-eqb, ne_eqb, append_assoc, append-nil}
+use mathlib.Core.List.{IsPrefix}
+use Rattle.prcu_model.proofs.ListFacts.{prefix_trans}
 use Rattle.std.proofs.lemmas.Bool.{cases_eq}
 use Rattle.core_frames.proofs.views.RetiredLists.{without_in}
 use Rattle.core_state.specs.declared.view.Held.{Held}
@@ -149,7 +151,12 @@ marked_more v slots u s w gives (inr r) =
     )
 
 pub gives_none : (v : View) → GivesBack v [] v
-gives_none v = record { marks = none (held_list v.hands.spare); spare = same (held_list v.hands.spare); rest = refl }
+gives_none v = record {
+  steps = ([], append-nil v.trail.steps);
+  marks = none (held_list v.hands.spare);
+  spare = same (held_list v.hands.spare);
+  rest = refl;
+}
   where
     none : (l : List ℕ) → LeavesEach v (return_marks l []) v
     none [] = refl
@@ -159,6 +166,10 @@ gives_none v = record { marks = none (held_list v.hands.spare); spare = same (he
     same [] = refl
     same (x ∷ xs) = refl
 
+returned_steps : (v : View) (slot : ℕ) (w : View) → Returns v slot w → IsPrefix v.trail.steps w.trail.steps
+returned_steps v slot w (inl r) = r.steps
+returned_steps v slot w (inr r) = r.steps
+
 gives_more : (v : View) (slots : List ℕ) (u : View) (s : ℕ) (w : View) → GivesBack v slots u → Returns u s w
     → GivesBack v (slots ++ s ∷ []) w
 gives_more v slots u s w gives returns =
@@ -166,6 +177,7 @@ gives_more v slots u s w gives returns =
     let is = returned_is u s w returns in
     let all : w.hands.retired ≡ without_all (slots ++ s ∷ []) v.hands.retired =
     is.1 ∙ ap (λ (z : View). without_retired s z.hands.retired) gives.rest ∙ sym (all_more slots s v.hands.retired) in record {
+      steps = prefix_trans v.trail.steps u.trail.steps w.trail.steps gives.steps (returned_steps u s w returns);
       marks = marked.0;
       spare = marked.1;
       rest = is.0 ∙ ap (returning w) gives.rest ∙ (λ i. record v {

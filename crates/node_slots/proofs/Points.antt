@@ -1,6 +1,10 @@
 -- The calls on slots over the points of a call of the tree: where one begins its conditions are met, and where it ends the next point
 -- stands.
-use Rattle.std.proofs.Common.{◌≡◌, ◌≢◌, ℕ, ◌+◌, ◌-◌, ◌≤◌, true, false, List, [], ◌∷◌, map, Option, Some, None, refl, sym, ap, subst, ◌∙◌, arith}
+use Rattle.std.proofs.Common.{◌≡◌, ◌≢◌, ℕ, ◌+◌, ◌-◌, ◌≤◌, true, false, List, [], ◌∷◌, ◌++◌, map, Option, Some, None, refl, sym, ap, subst, ◌∙◌, arith}
+use Rattle.node_slots.specs.declared.answers.Taken.TheVariants.{Slot, Empty}
+use Rattle.node_slots.specs.declared.answers.Taken.{Taken}
+use mathlib.Core.List.{IsPrefix}
+use Rattle.prcu_model.proofs.ListFacts.{prefix_trans}
 use Rattle.prcu_model.specs.declared.operation.Op.{Op}
 use Rattle.prcu_marks.specs.declared.mark.Mark.TheVariants.{Given, Freed, Began, Ended}
 use Rattle.core_state.specs.declared.shape.Shape.{Shape}
@@ -28,9 +32,9 @@ use Rattle.seat_table.specs.Seats.{IsSlotOf}
 use Rattle.tree_points.specs.At.{IsAt, IsDone}
 use Rattle.tree_points.specs.Progress.{HasGone, HasGivenAll}
 use Rattle.tree_points.proofs.SameCall.{moves_on}
-use Rattle.tree_points.proofs.Gone.{allowed, gone_with, gone_all}
+use Rattle.tree_points.proofs.Gone.{allowed, further_by, gone_with, gone_all}
 use Rattle.node_slots.specs.Slots.{aged, next_life, renewing, PutsBack}
-use Rattle.node_slots.specs.Taking.{HasTaken, FoundNone}
+use Rattle.node_slots.specs.Taking.{HasTaken, FoundNone, TriesBy}
 use Rattle.node_slots.specs.Reclaiming.{first_spare, HasReclaimed}
 
 least_two : (retired : List ℕ) (spot : Spot) → 2 ≤ owed_reserve (Leaf spot) retired
@@ -59,6 +63,12 @@ may_take {e = e} {aim = aim} {v = v} a = by aim a.fits
     by Spare f = let i = (f.point).0 in record { unreserved = (i.1).3; empty = i.2; ticket = (let t = f.tickets in omega arith) }
     by Room f = absurd f.point
 
+-- A take makes steps.
+pub tries_further : (k : Shape) (v w : View) (looked now : ℕ) (t : Taken) → TriesBy k v looked t w now
+    → IsPrefix v.trail.steps w.trail.steps
+tries_further k v w looked now (Slot slot generation) tries = further_by v w _ tries.makes refl
+tries_further k v w looked now Empty tries = further_by v w _ tries.makes refl
+
 -- A slot was taken, for a leaf or for a spare.
 module _ {slot generation : ℕ} {v w : View} (taken : HasTaken v slot generation w) where
   abbrev life : ℕ
@@ -82,8 +92,8 @@ module _ {slot generation : ℕ} {v w : View} (taken : HasTaken v slot generatio
   pub taken_slot : IsSlotOf (Some slot) w.hands.hand
   taken_slot = subst (IsSlotOf (Some slot)) (sym taken_in_hand) refl
 
-  pub taken_gone : HasGone v w []
-  taken_gone = gone_with taken.given.before (Given slot ∷ []) taken.given.seen (allowed taken.rest refl) taken.given.marked
+  pub taken_gone : IsPrefix v.trail.steps w.trail.steps → HasGone v w []
+  taken_gone steps = gone_with taken.given.before (Given slot ∷ []) steps taken.given.seen (allowed taken.rest refl) taken.given.marked
 
   pub taken_retired : w.hands.retired ≡ v.hands.retired
   taken_retired = ap (λ (z : View). z.hands.retired) taken.rest
@@ -151,8 +161,8 @@ module _ {k : Shape} {v w : View} (none : FoundNone k v w) where
   abbrev after_none : View
   after_none = record v { latest = record v.latest { free = Some 0 }; trail = w.trail; seen = w.seen }
 
-  pub none_gone : HasGone v w []
-  none_gone = gone_all w.seen none.sees (allowed none.rest refl) refl
+  pub none_gone : IsPrefix v.trail.steps w.trail.steps → HasGone v w []
+  none_gone steps = gone_all w.seen steps none.sees (allowed none.rest refl) refl
 
   pub none_retired_now : w.hands.retired ≡ v.hands.retired
   none_retired_now = ap (λ (z : View). z.hands.retired) none.rest
@@ -221,7 +231,13 @@ may_put_back {v = v} a =
 
 module _ {slot : ℕ} {v w : View} (back : PutsBack v slot w) where
   pub back_gone : HasGone v w []
-  back_gone = gone_with back.freed.before (Freed slot ∷ []) back.freed.seen (allowed back.rest refl) back.freed.marked
+  back_gone = gone_with back.freed.before (Freed slot ∷ []) steps back.freed.seen (allowed back.rest refl) back.freed.marked
+    where
+      steps : IsPrefix v.trail.steps w.trail.steps
+      steps = subst (λ (z : View). IsPrefix v.trail.steps z.trail.steps) (sym back.rest)
+          (prefix_trans v.trail.steps ((v.trail.steps ++ _) ++ _) (((((v.trail.steps ++ _) ++ _) ++ _)) ++ _)
+          (prefix_trans v.trail.steps (v.trail.steps ++ _) _ (_, refl) (_, refl))
+          (prefix_trans ((v.trail.steps ++ _) ++ _) (((v.trail.steps ++ _) ++ _) ++ _) _ (_, refl) (_, refl)))
 
   pub back_retired : w.hands.retired ≡ v.hands.retired
   back_retired = ap (λ (z : View). z.hands.retired) back.rest
@@ -295,7 +311,14 @@ may_reclaim a =
 
 pub reclaim_gone : {k : Shape} {v w : View} {listed : List ℕ} → HasReclaimed k v listed w
     → HasGone v w (Began v.allowance.place v.counts.waits 0 18446744073709551615 ∷ (Ended v.allowance.place v.counts.waits ∷ []))
-reclaim_gone back = record {
+reclaim_gone {v = v} {w = w} back = record {
+  steps =
+      let last = (back.waits).2 in
+      let mid : View = (back.waits).0 in
+      prefix_trans v.trail.steps back.waited.trail.steps w.trail.steps
+      (prefix_trans v.trail.steps mid.trail.steps back.waited.trail.steps (further_by v mid _ (back.waits).1.made refl)
+      (further_by mid back.waited _ last.ended.makes refl))
+      back.gives.steps;
   same = ap (λ (z : View). z.allowance.place) back.rest;
   allowance = allowed back.rest refl;
   begins = back.seen;

@@ -1,5 +1,6 @@
 -- What the steps of a retired slot that goes back told, one after another.
 use Rattle.std.proofs.Common.{◌≡◌, ℕ, ◌+◌, ◌<◌, ◌==◌, true, false, cond, List, [], ◌∷◌, Option, Some, None, refl, sym, ap, subst, ◌∙◌, eq-eqb, ne_eqb, inl, inr}
+use Rattle.prcu_model.proofs.ListFacts.{prefix_trans}
 use mathlib.Core.Option.{some}
 use lib.ListN.{get_elem?}
 use Rattle.atomic_table.proofs.Lists.{at_map}
@@ -117,6 +118,7 @@ module _ (k : Shape) (v : View) (slot : ℕ) (ready : IsReady v slot) (unlocked 
       subst (BecomesSpare v slot) (sym is) (record {
         none = none;
         life = life;
+        steps = prefix_trans v.trail.steps loaded.trail.steps last.trail.steps (_, refl) (_, refl);
         given = record { before = h; seen = record { works = sees.works; begins = sees.begins; own = sees.own }; marked = refl };
         rest = λ i. record v {
           hands = record v.hands { spare = last.hands.spare; retired = gone i };
@@ -165,6 +167,10 @@ module _ (k : Shape) (v : View) (slot : ℕ) (ready : IsReady v slot) (unlocked 
         subst (BecomesFree v slot) (sym is) (record {
           some = (spare, has);
           found = found;
+          steps = prefix_trans v.trail.steps raised.trail.steps last.trail.steps
+              (prefix_trans v.trail.steps loaded.trail.steps raised.trail.steps (_, refl) (_, refl))
+              (prefix_trans raised.trail.steps (after_free_retired (noted raised (FreeRetired slot) 0) slot h).trail.steps last.trail.steps
+              (_, refl) (_, refl));
           freed = record { before = h; seen = record { works = sees.works; begins = sees.begins; own = sees.own }; marked = refl };
           rest = λ i. record v {
             hands = record v.hands { owes = sym paid i; retired = gone i };

@@ -1,5 +1,6 @@
 -- What the two steps of a seizing told, one after the other.
 use Rattle.std.proofs.Common.{◌≡◌, ℕ, ◌/◌, ◌≤◌, ◌==◌, false, cond, ◌∷◌, Some, refl, sym, ap, subst, arith, eq-eqb}
+use Rattle.prcu_marks.specs.Bounds.{most_life}
 use Rattle.core_state.specs.declared.shape.Shape.{Shape}
 use Rattle.core_state.specs.declared.words.Field.TheVariants.{Life}
 use Rattle.core_state.specs.declared.view.Known.{Known}
@@ -22,7 +23,7 @@ module _ (k : Shape) (v : View) (slot found : ℕ) (v1 : View) (free : found ≡
       let known : Known = record { field = Life slot; number = life; stored = false } in
       let last : View = after_own_life (noted in_hand (LoadOwnLife slot) life) slot life in
       let is : w ≡ last = goes_from (seized_is k v slot found v1 free first) second in
-      let fits : life ≤ 2199023255553 = second.fits in
+      let fits : life ≤ most_life = second.fits in
       let here : cond (slot == slot) (record (seized slot) { known = known ∷ (seized slot).known }) (seized slot) ≡ aged slot life =
       ap (λ b. cond b (record (seized slot) { known = known ∷ (seized slot).known }) (seized slot)) (eq-eqb slot slot refl) in
       let u : View = noting v slot (Life slot) life false in

@@ -6,6 +6,7 @@ use Rattle.core_state.specs.declared.shape.Shape.{Shape}
 use Rattle.core_state.specs.declared.view.StepMade.{StepMade}
 use Rattle.core_state.specs.declared.view.Trail.{Trail}
 use Rattle.core_state.specs.declared.view.View.{View}
+use Rattle.seat_table.specs.declared.seat.TheConstants.{MOST_FREED}
 use Rattle.seat_table.specs.Scans.{next_slot, after_look}
 use Rattle.seat_table.specs.Seats.{IsLastFound}
 use Rattle.node_slots.specs.Slots.{Reserved, FoundEmpty, FoundOther, HasSeized, FoundTaken}
@@ -126,7 +127,7 @@ module _ (last : ℕ) (v : View) (looked : ℕ) where
     freed_more found taken = let long = length-append m.misses.missed (look slot found ∷ []) in let few = m.few in
         record { misses = more u w at next slot moved m.misses found taken; few = omega arith }
 
-    pub finds_freed : (generation : ℕ) → count < 64 → HasSeized u slot generation w → FindsFreed last v looked slot w next
+    pub finds_freed : (generation : ℕ) → count < MOST_FREED → HasSeized u slot generation w → FindsFreed last v looked slot w next
     finds_freed generation small seized = let few = m.few in
         record { finds = finds u w at next slot moved m.misses generation seized; few = omega arith }
 
@@ -172,7 +173,7 @@ module _ (k : Shape) (v u : View) (looked slot : ℕ) (r : ReservesAtLast k v u)
         comes = f.finds.comes;
       }
 
-  pub tries_round : (x w : View) (at now : ℕ) → MissesFreed last u looked 64 x at → FindsInRound last x at slot w now
+  pub tries_round : (x w : View) (at now : ℕ) → MissesFreed last u looked MOST_FREED x at → FindsInRound last x at slot w now
       → TriesFor k v looked slot w now
   tries_round x w at now m f =
       let missed : List StepMade = m.misses.missed in

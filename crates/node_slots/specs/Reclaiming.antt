@@ -1,5 +1,5 @@
 -- What giving retired slots back leaves.
--- Source: docs/TREE.md, "The tree's slots and locks".
+-- Source: docs/TREE_CALLS.md, "The tree's slots and locks".
 use Rattle.std.specs.Prelude.{◌≡◌, ℕ, zero, suc, ◌+◌, ◌-◌, ◌⊎◌, true, false, List, [], ◌∷◌, ◌++◌, length, map, Option, Some, None}
 use Rattle.std.specs.List.{AllByRecursion}
 use mathlib.Core.List.{IsPrefix}
@@ -51,6 +51,7 @@ without_all (slot ∷ slots) rs = without_all slots (without_retired slot rs)
 pub record BecomesSpare (v : View) (slot : ℕ) (w : View) : Type 0 where
   pub none : v.hands.spare ≡ None
   pub life : ℕ
+  pub steps : IsPrefix v.trail.steps w.trail.steps
   pub given : Leaves v (Given slot) w
   pub rest : w ≡ record v {
     hands = record v.hands
@@ -63,6 +64,7 @@ pub record BecomesSpare (v : View) (slot : ℕ) (w : View) : Type 0 where
 pub record BecomesFree (v : View) (slot : ℕ) (w : View) : Type 0 where
   pub some : (held : Held) × (v.hands.spare ≡ Some held)
   pub found : ℕ
+  pub steps : IsPrefix v.trail.steps w.trail.steps
   pub freed : Leaves v (Freed slot) w
   pub rest : w ≡ record v {
     hands = record v.hands { retired = without_retired slot v.hands.retired };
@@ -92,6 +94,7 @@ first_spare (spare ∷ none) slots = spare ∷ none
 
 -- These slots went back, in this order; where there was no spare, the first of them is it.
 pub record GivesBack (v : View) (slots : List ℕ) (w : View) : Type 0 where
+  pub steps : IsPrefix v.trail.steps w.trail.steps
   pub marks : LeavesEach v (return_marks (held_list v.hands.spare) slots) w
   pub spare : held_list w.hands.spare ≡ first_spare (held_list v.hands.spare) slots
   pub rest : w ≡ record v {

@@ -1,7 +1,8 @@
 -- What the calls on one slot leave, and what they found.
--- Source: docs/TREE.md, "The tree's slots and locks".
+-- Source: docs/TREE_CALLS.md, "The tree's slots and locks".
 use Rattle.std.specs.Prelude.{◌≡◌, ◌≢◌, ℕ, ◌+◌, ◌-◌, ◌*◌, ◌/◌, ◌≤◌, true, false, [], ◌∷◌, Some, None}
 use Rattle.prcu_marks.specs.declared.mark.Mark.TheVariants.{Given, Freed}
+use Rattle.prcu_marks.specs.Bounds.{most_tickets}
 use Rattle.core_state.specs.declared.shape.Shape.{Shape}
 use Rattle.core_state.specs.declared.words.Field.TheVariants.{Free, State, Lock as LockOf, Life}
 use Rattle.core_state.specs.declared.words.Kind.TheVariants.{K9, K10, K11, K12, K13, K14, K15, K16}
@@ -60,7 +61,7 @@ aged slot life = record {
 pub record HasSeized (v : View) (slot generation : ℕ) (w : View) : Type 0 where
   pub life : ℕ
   pub generation_is : generation ≡ life / 2
-  pub few : generation ≤ 1099511627776
+  pub few : generation ≤ most_tickets
   pub given : Leaves v (Given slot) w
   pub rest : let u : View = noting v slot (Life slot) life false in
       w ≡ record u {

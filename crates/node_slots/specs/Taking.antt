@@ -3,6 +3,7 @@
 use Rattle.std.specs.Prelude.{◌≡◌, ◌≢◌, ℕ, ◌+◌, ◌-◌, ◌/◌, ◌<◌, ◌≤◌, true, false, List, [], ◌∷◌, ◌++◌, length, Some, None}
 use Rattle.std.specs.List.{AllByRecursion}
 use Rattle.prcu_marks.specs.declared.mark.Mark.TheVariants.{Given}
+use Rattle.prcu_marks.specs.Bounds.{most_tickets}
 use Rattle.core_state.specs.declared.shape.Shape.{Shape}
 use Rattle.core_state.specs.declared.words.Field.{Field}
 use Rattle.core_state.specs.declared.words.Field.TheVariants.{Free, State, Life}
@@ -10,6 +11,7 @@ use Rattle.core_state.specs.declared.words.Kind.TheVariants.{K9, K10, K11}
 use Rattle.core_state.specs.declared.view.StepMade.{StepMade}
 use Rattle.core_state.specs.declared.view.View.{View}
 use Rattle.core_state.specs.views.Known.{noting}
+use Rattle.seat_table.specs.declared.seat.TheConstants.{MOST_FREED}
 use Rattle.seat_table.specs.Gains.{Sees, IsFull}
 use Rattle.seat_table.specs.Scans.{next_slot, after_look}
 use Rattle.seat_table.specs.Seats.{IsLastFound}
@@ -47,7 +49,7 @@ pub record HasScanned (v w : View) : Type 0 where
 pub record HasGot (v : View) (slot generation : ℕ) (w : View) : Type 0 where
   pub life : ℕ
   pub generation_is : generation ≡ life / 2
-  pub few : generation ≤ 1099511627776
+  pub few : generation ≤ most_tickets
   pub given : Leaves v (Given slot) w
   pub rest : let u : View = noting v slot (Life slot) life false in
       w ≡ record u { hands = record u.hands { reserved = false; hand = Some (aged slot life) }; trail = w.trail; seen = w.seen }
@@ -56,7 +58,7 @@ pub record HasGot (v : View) (slot generation : ℕ) (w : View) : Type 0 where
 pub record HasTaken (v : View) (slot generation : ℕ) (w : View) : Type 0 where
   pub life : ℕ
   pub generation_is : generation ≡ life / 2
-  pub few : generation ≤ 1099511627776
+  pub few : generation ≤ most_tickets
   pub given : Leaves v (Given slot) w
   pub rest : let u : View = noting v slot (Life slot) life false in
       w ≡ record u {
@@ -124,9 +126,8 @@ abbrev pub GoRound : ℕ → ℕ → List StepMade → Type 0
 GoRound last looked [] = Unit {0}
 GoRound last looked (t ∷ ts) = (t ≡ look (next_slot last looked) t.number) × GoRound last (next_slot last looked) ts
 
--- The looks for a free slot, of which the last one found one: first at no more than 64 slots, which are those that the seat freed, then at
--- one
--- after another from where its scans have come to.
+-- The looks for a free slot, of which the last one found one: first at slots that the seat freed, no more than it notes, then at one after
+-- another from where its scans have come to.
 pub record AreLooks (last looked slot : ℕ) (looks : List StepMade) : Type 0 where
   pub missed : List StepMade
   pub each : AllByRecursion IsMiss missed
@@ -134,7 +135,7 @@ pub record AreLooks (last looked slot : ℕ) (looks : List StepMade) : Type 0 wh
   pub freed : List StepMade
   pub round : List StepMade
   pub parts : looks ≡ freed ++ round
-  pub few : length freed ≤ 64
+  pub few : length freed ≤ MOST_FREED
   pub go_round : GoRound last (come_to last looked freed) round
 
 -- What a take tries: it exchanges the free count until an exchange isn't lost, and looks for a free slot where that found what it expected.
@@ -196,7 +197,7 @@ pub record Finds (last : ℕ) (v : View) (looked slot : ℕ) (w : View) (now : �
 
 pub record FindsFreed (last : ℕ) (v : View) (looked slot : ℕ) (w : View) (now : ℕ) : Type 0 where
   pub finds : Finds last v looked slot w now
-  pub few : length finds.missed < 64
+  pub few : length finds.missed < MOST_FREED
 
 pub record FindsInRound (last : ℕ) (v : View) (looked slot : ℕ) (w : View) (now : ℕ) : Type 0 where
   pub finds : Finds last v looked slot w now

@@ -9,7 +9,7 @@ use crate::answers::{Reserve, Seize, Taken};
 use crate::slots::{reserve, seize};
 use crossbeam_utils::Backoff;
 use patience::Patience;
-use seat_table::{CitrusTable, Seat, WaitWords, next_slot};
+use seat_table::{CitrusTable, MOST_FREED, Seat, WaitWords, next_slot};
 
 /// A slot that was seized.
 #[derive(Drop)]
@@ -63,9 +63,9 @@ fn seize_freed<W: WaitWords>(table: &CitrusTable<W>, seat: &mut Seat<W>) -> Opti
     ensures stays { IfSome result (λ _. StaysIn (shape_of W.WAY table.now) seat.new.view) }
     ensures none { IfNone result (HasScanned seat.old.view seat.new.view) }
     ensures misses { IfNone result (MissesFreed (table.now.slots
-        + table.now.places) seat.old.view seat.old.looked 64 seat.new.view seat.new.looked) }
+        + table.now.places) seat.old.view seat.old.looked MOST_FREED seat.new.view seat.new.looked) }
 {
-    for i in 0..64_usize {
+    for i in 0..MOST_FREED {
         let Some(slot) = seat.take_freed() else {
             return None;
         };

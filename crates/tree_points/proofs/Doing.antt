@@ -1,6 +1,7 @@
 -- The four stores that make an update: what each is asked for, the mark that it leaves, the locks that are held after it, and how far a
 -- child's number goes.
 use Rattle.std.proofs.Common.{◌≡◌, ℕ, ◌+◌, ◌*◌, ◌==◌, cond, Bool, true, false, List, [], ◌++◌, ◌∷◌, Some, refl, sym, ap, subst, ◌∙◌, eq-eqb, length, length-append, arith}
+use mathlib.Core.List.{IsPrefix}
 use Rattle.prcu_marks.proofs.MarkLists.{updates_of-append}
 use Rattle.prcu_marks.specs.Callers.{IsNextKey}
 use Rattle.prcu_model.specs.Dictionary.{key_of, map_of}
@@ -43,27 +44,30 @@ use Rattle.core_points.specs.DeleteFacts.{under}
 use Rattle.core_points.proofs.ClearLocks.{relinked_slots}
 use Rattle.core_points.proofs.Locking.{slots_in}
 use Rattle.core_tree.proofs.locks.Locked.{loaded_known}
-use Rattle.tree_points.proofs.Gone.{allowed, gone_with, lock_slots, noting_same}
+use Rattle.tree_points.proofs.Gone.{allowed, further, gone_with, lock_slots, noting_same}
 
 -- a step after all marks, of which the first is the place's
-one_gone : {v w : View} (h more : List Mark) (op : Op) → (own_of v.allowance.place more ≡ []) → Sees v h → KeepsAllowance v w
+one_gone : {v w : View} (h more : List Mark) (op : Op) → (own_of v.allowance.place more ≡ []) → IsPrefix v.trail.steps w.trail.steps
+    → Sees v h
+    → KeepsAllowance v w
     → w.seen ≡ h ++ Done (record { caller = v.allowance.place; op = op }) ∷ more
     → HasGone v w (Done (record { caller = v.allowance.place; op = op }) ∷ [])
-one_gone {v} {w} h more op none sees keeps seen =
+one_gone {v} {w} h more op none steps sees keeps seen =
     let p : ℕ = v.allowance.place in
     let first : Mark = Done (record { caller = p; op = op }) in
     subst (HasGone v w) (ap (λ z. cond z (first ∷ own_of p more) (own_of p more)) (eq-eqb p p refl) ∙ ap (λ l. first ∷ l) none)
-    (gone_with h (first ∷ more) sees keeps seen)
+    (gone_with h (first ∷ more) steps sees keeps seen)
 
 abbrev updated : {v w : View} (h more : List Mark) (op : Op) (front : ℕ) → (own_of v.allowance.place more ≡ []) → updates_of more ≡ []
-    → Sees v h → KeepsAllowance v w → w.seen ≡ h ++ Done (record { caller = v.allowance.place; op = op }) ∷ more
+    → IsPrefix v.trail.steps w.trail.steps → Sees v h → KeepsAllowance v w
+    → w.seen ≡ h ++ Done (record { caller = v.allowance.place; op = op }) ∷ more
     → front + 2 ≡ 2 * length (updates_of w.seen) → HasUpdated v op front w
-updated {v} {w} h more op front none no_update sees keeps seen found = record {
+updated {v} {w} h more op front none no_update steps sees keeps seen found = record {
   before = h;
   sees = sees;
   more = more;
   seen = seen;
-  gone = one_gone h more op none sees keeps seen;
+  gone = one_gone h more op none steps sees keeps seen;
   counted =
       let u : Update = record { caller = v.allowance.place; op = op } in
       let all : length (updates_of w.seen) ≡ length (updates_of h ++ u ∷ updates_of more) =
@@ -87,7 +91,8 @@ module _ {k : Shape} {kept n : ℕ} {v w : View} where
   pub updated_leaf : {key value leaf front : ℕ} {spot : Spot} → IsAt k (Put key value) kept (at.Store (update.Leaf spot) front) v
       → Told k v (acts.LinkLeaf spot.slot spot.side leaf key value) n w → HasUpdated v (Put key value) front w
   updated_leaf {key} {value} {leaf} {front} a t =
-      updated t.marks [] (Put key value) front refl refl t.sees (allowed t.goes refl) (ap (λ (z : View). z.seen) t.goes)
+      updated t.marks [] (Put key value) front refl refl (further v _ t.goes refl) t.sees (allowed t.goes refl)
+      (ap (λ (z : View). z.seen) t.goes)
       ((t.gains).found (record { found = front; stored = false }) (((a.fits).point).2).1)
 
   -- a set's value was the key's, as the set loaded it
@@ -95,7 +100,8 @@ module _ {k : Shape} {kept n : ℕ} {v w : View} where
       → Told k v (acts.ReplaceValue s key value) n w
       → (u : HasUpdated v (Set key value) front w) × (map_now u.before key ≡ Some old)
   updated_value {key} {value} {s} {old} {front} a t = (
-    updated t.marks [] (Set key value) front refl refl t.sees (allowed t.goes refl) (ap (λ (z : View). z.seen) t.goes)
+    updated t.marks [] (Set key value) front refl refl (further v _ t.goes refl) t.sees (allowed t.goes refl)
+        (ap (λ (z : View). z.seen) t.goes)
         (((t.gains).counted).found (record { found = front; stored = false }) ((((a.fits).point).1).0).1),
     (t.gains).was old (the_value v s ((a.fits).point).0 old (((a.fits).point).1).1),
   )
@@ -103,8 +109,8 @@ module _ {k : Shape} {kept n : ℕ} {v w : View} where
   pub updated_bypass : {op : Op} {child front : ℕ} {d : Node} → IsAt k op kept (at.Store (update.Bypass d child) front) v
       → Told k v (acts.Bypass d.parent d.side d.node child (key_of op)) n w → HasUpdated v (Del (key_of op)) front w
   updated_bypass {op} {child} {front} {d} a t =
-      updated t.marks (Unlinked d.node ∷ []) (Del (key_of op)) front refl refl t.sees (allowed t.goes refl)
-      (ap (λ (z : View). z.seen) t.goes) ((t.gains).found (record { found = front; stored = false }) (((a.fits).point).0).1)
+      updated t.marks (Unlinked d.node ∷ []) (Del (key_of op)) front refl refl (further v _ t.goes refl) t.sees (allowed t.goes refl)
+      (ap (λ (z : View). z.seen) t.goes) (((t.gains).counted).found (record { found = front; stored = false }) (((a.fits).point).0).1)
 
   -- the copy's key is the next one that the dictionary had
   pub updated_copy : {op : Op} {next_key copy front : ℕ} {d : Node} {u : Successor}
@@ -112,7 +118,8 @@ module _ {k : Shape} {kept n : ℕ} {v w : View} where
       → Told k v (acts.LinkCopy d.parent d.side d.node copy u.slot u.parent (key_of op) next_key) n w
       → (x : HasUpdated v (Del (key_of op)) front w) × IsNextKey (map_of (updates_of x.before)) (key_of op) next_key
   updated_copy {op} {next_key} {copy} {front} {d} {u} a t = (
-    updated t.marks (Unlinked d.node ∷ []) (Del (key_of op)) front refl refl t.sees (allowed t.goes refl) (ap (λ (z : View). z.seen) t.goes)
+    updated t.marks (Unlinked d.node ∷ []) (Del (key_of op)) front refl refl (further v _ t.goes refl) t.sees (allowed t.goes refl)
+        (ap (λ (z : View). z.seen) t.goes)
         (((t.gains).counted).found (record { found = front; stored = false }) ((((a.fits).point).0).0).1),
     (t.gains).next,
   )

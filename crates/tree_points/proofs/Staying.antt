@@ -1,5 +1,6 @@
 -- Which marks of the place a step leaves, and steps that leave its locks and slots alone.
 use Rattle.std.proofs.Common.{◌≡◌, ◌≢◌, ℕ, ◌+◌, ◌==◌, cond, Bool, true, false, List, [], ⊎_elim, ◌∷◌, Option, Some, None, refl, sym, ap, subst, ◌∙◌, ne_eqb}
+use mathlib.Core.List.{IsPrefix}
 use Rattle.prcu_marks.specs.declared.mark.Mark.{Mark}
 use Rattle.core_state.specs.declared.shape.Shape.{Shape}
 use Rattle.core_state.specs.declared.view.Held.{Held}
@@ -23,8 +24,8 @@ use Rattle.prcu_marks.specs.Marks.{own_of}
 use Rattle.prcu_marks.specs.declared.mark.Side.{Side}
 use Rattle.tree_points.specs.At.{HasLocks}
 use Rattle.tree_points.specs.Progress.{HasGone}
-use Rattle.tree_points.proofs.Allowed.{allowance_stays}
-use Rattle.tree_points.proofs.Gone.{IsSame, allowed, gone_none, gone_with, lock_slots, noting_same}
+use Rattle.tree_points.proofs.Allowed.{allowance_stays, trail_stays}
+use Rattle.tree_points.proofs.Gone.{IsSame, allowed, further, gone_none, gone_with, lock_slots, noting_same}
 
 -- A step leaves the marks of its act: of these the place has its own, and it has seen all before them.
 pub gone_by : {k : Shape} {v w : View} {n : ℕ} (a : Act) → Told k v a n w
@@ -33,10 +34,11 @@ gone_by {k} {v} {w} {n} a t =
     let made : List Mark = marks_of (noted v a n) a n in
     let keeps = allowed t.goes (allowance_stays (noted v a n) t.marks n a).rest in
     let seen = ap (λ (z : View). z.seen) t.goes in
+    let steps : IsPrefix v.trail.steps w.trail.steps = further v _ t.goes (trail_stays (noted v a n) t.marks n a) in
     ⊎_elim
     (λ (none : (made ≡ []) × ((after (noted v a n) a t.marks n).seen ≡ v.seen)).
-    subst (HasGone v w) (sym (ap (own_of v.allowance.place) none.0)) (gone_none keeps (seen ∙ none.1)))
-    (λ all. gone_with t.marks made t.sees keeps (seen ∙ all))
+    subst (HasGone v w) (sym (ap (own_of v.allowance.place) none.0)) (gone_none steps keeps (seen ∙ none.1)))
+    (λ all. gone_with t.marks made steps t.sees keeps (seen ∙ all))
     (has_seen (noted v a n) t.marks n a)
 
 -- so none, where the act leaves none of a place

@@ -1,5 +1,5 @@
 -- Where a call stands, on a table of some shape: its view fits a point of the call.
--- Source: docs/TREE.md, "The calls".
+-- Source: docs/TREE_CALLS.md, "The calls".
 use Rattle.std.specs.Prelude.{◌≡◌, ℕ, List, [], Some}
 use Rattle.prcu_model.specs.declared.operation.Op.{Op}
 use Rattle.core_state.specs.declared.shape.Shape.{Shape}

@@ -1,5 +1,5 @@
 -- What a call has left of marks between two moments.
--- Source: docs/TREE.md, "The calls".
+-- Source: docs/TREE_CALLS.md, "The calls".
 use Rattle.std.specs.Prelude.{◌≡◌, ◌≢◌, ℕ, ◌+◌, ◌*◌, ◌≤◌, List, [], ◌∷◌, ◌++◌, length, None}
 use mathlib.Core.List.{IsPrefix}
 use Rattle.prcu_marks.specs.declared.mark.Mark.{Mark}
@@ -13,8 +13,10 @@ use Rattle.seat_table.specs.Gains.{Sees}
 pub record KeepsAllowance (v w : View) : Type 0 where
   pub rest : w.allowance ≡ record v.allowance { tickets = w.allowance.tickets }
 
--- At the same place the seat has seen more, and of its own exactly these marks. Of what it may work with only its tickets changed.
+-- At the same place the seat has made more steps, has seen more, and of its own exactly these marks. Of what it may work with only its
+-- tickets changed.
 pub record HasGone (v w : View) (marks : List Mark) : Type 0 where
+  pub steps : IsPrefix v.trail.steps w.trail.steps
   pub same : w.allowance.place ≡ v.allowance.place
   pub allowance : KeepsAllowance v w
   pub begins : IsPrefix v.seen w.seen

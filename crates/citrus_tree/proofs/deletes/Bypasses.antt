@@ -40,12 +40,12 @@ loaded_known (l ∷ ls) field number e =
     ] e
 
 pub opened_keeps : (v w : View) (front : ℕ) → Opened v front w → KeepsAll v w
-opened_keeps v w front e = keeps v w (allowed e refl) (ap (λ (x : View). x.seen) e) (ap (λ (x : View). x.wait) e)
-    (ap (λ (x : View). x.counts.waits) e) (ap retired_marks e) (ap (λ (x : View). map (λ (l : HeldLock). l.slot) x.locks) e)
+opened_keeps v w front e = keeps v w e.steps (allowed e.rest refl) (ap (λ (x : View). x.seen) e.rest) (ap (λ (x : View). x.wait) e.rest)
+    (ap (λ (x : View). x.counts.waits) e.rest) (ap retired_marks e.rest) (ap (λ (x : View). map (λ (l : HeldLock). l.slot) x.locks) e.rest)
 
 pub closed_keeps : (v w : View) → Closed v w → KeepsAll v w
-closed_keeps v w e = keeps v w (allowed e refl) (ap (λ (x : View). x.seen) e) (ap (λ (x : View). x.wait) e)
-    (ap (λ (x : View). x.counts.waits) e) (ap retired_marks e) (ap (λ (x : View). map (λ (l : HeldLock). l.slot) x.locks) e)
+closed_keeps v w e = keeps v w e.steps (allowed e.rest refl) (ap (λ (x : View). x.seen) e.rest) (ap (λ (x : View). x.wait) e.rest)
+    (ap (λ (x : View). x.counts.waits) e.rest) (ap retired_marks e.rest) (ap (λ (x : View). map (λ (l : HeldLock). l.slot) x.locks) e.rest)
 
 abbrev pub only : Node → ℕ
 only d = if d.left == 0 then d.right else d.left

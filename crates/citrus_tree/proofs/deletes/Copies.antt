@@ -1,8 +1,9 @@
 -- A move fills the spare as its copy, step by step.
-use Rattle.std.proofs.Common.{ℕ, Some}
+use Rattle.std.proofs.Common.{◌≢◌, ℕ, Some, refl, ap, ◌∙◌, ne_eqb}
 use Rattle.prcu_model.specs.declared.operation.Op.{Op}
 use Rattle.core_state.specs.declared.shape.Shape.{Shape}
 use Rattle.core_state.specs.declared.view.View.{View}
+use Rattle.core_points.specs.Callers.{or_root}
 use Rattle.core_points.specs.declared.stage.Node.{Node}
 use Rattle.core_points.specs.declared.stage.Successor.{Successor}
 use Rattle.core_points.specs.declared.stage.Stage.TheVariants as at
@@ -13,9 +14,10 @@ use Rattle.seat_table.specs.Seats.{IsSlotOf}
 use Rattle.seat_table.specs.Told.{IsAsked, Told}
 use Rattle.tree_points.specs.At.{IsAt}
 use Rattle.tree_points.proofs.Deleting.{needs_successor_key, needs_successor_value, passes_successor_key, passes_successor_value}
-use Rattle.tree_points.proofs.Holding.{needs_copy_key, needs_copy_value, needs_copy_left, needs_copy_right, needs_copy_age, passes_copy_key, passes_copy_value, passes_copy_left, passes_copy_right, passes_copy_age}
-use Rattle.citrus_tree.specs.Deletes.{KeepsAll}
+use Rattle.tree_points.proofs.Holding.{needs_copy_key, needs_copy_value, needs_copy_left, needs_copy_right, needs_copy_age, own_spare, passes_copy_key, passes_copy_value, passes_copy_left, passes_copy_right, passes_copy_age}
+use Rattle.citrus_tree.specs.Deletes.{KeepsAll, KeepsValue}
 use Rattle.citrus_tree.proofs.deletes.Keeping.{keeps_on, keeps_fill, keeps_locked_load, keeps_own_life, spare_fill, spare_locked_load, spare_own_life}
+use Rattle.citrus_tree.proofs.deletes.Values.{value_fill, value_load, value_on, value_own_life}
 
 module _ {k : Shape} {op : Op} {kept : ℕ} {d : Node} {u : Successor} {v : View} (copy : ℕ) (spare : IsSlotOf (Some copy) v.hands.spare)
     (a : IsAt k op kept (at.SuccessorKey d u) v) where
@@ -95,3 +97,17 @@ module _ {k : Shape} {op : Op} {kept : ℕ} {d : Node} {u : Successor} {v : View
                     (keeps_on _ _ _ (keeps_fill k _ _ _ _ _ _ t6) (keeps_own_life k _ _ _ _ t7)) in
                     let pair = keeps_on _ _ _ (keeps_fill k _ _ _ _ _ _ t3) (keeps_on _ _ _ (keeps_fill k _ _ _ _ _ _ t4) rest) in
                     keeps_on _ _ _ (keeps_locked_load k _ _ _ _ _ t1) (keeps_on _ _ _ (keeps_locked_load k _ _ _ _ _ t2) pair)
+
+                -- the node's value is known as before: what was loaded is of the successor, and what was filled is in the copy
+                pub copied_value : KeepsValue d.node v v7
+                copied_value =
+                    let q = at1.fits.point in
+                    let both = ((q.0).0).2 in
+                    let apart : u.slot ≢ d.node = (both.3).apart.from_node in
+                    let aside : copy ≢ d.node = (λ same. (q.1).node (ap or_root (own_spare at1 spare1) ∙ same)) in
+                    value_on (value_load u.slot d.node part.Key refl t1)
+                    (value_on (value_load u.slot d.node part.Value (ne_eqb u.slot d.node apart) t2)
+                    (value_on (value_fill copy d.node part.Key refl t3)
+                    (value_on (value_fill copy d.node part.Value (ne_eqb copy d.node aside) t4)
+                    (value_on (value_fill copy d.node (part.Link Left) refl t5)
+                    (value_on (value_fill copy d.node (part.Link Right) refl t6) (value_own_life copy d.node t7))))))

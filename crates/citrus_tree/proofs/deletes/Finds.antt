@@ -17,8 +17,8 @@ use Rattle.seat_table.specs.Told.{IsAsked, Told}
 use Rattle.tree_points.specs.At.{IsAt}
 use Rattle.tree_points.proofs.Deleting.{needs_successor_left, passes_node_left, passes_node_life, passes_node_right, passes_parent_life, passes_successor_left, passes_successor_life, passes_successor_parent_life}
 use Rattle.tree_points.proofs.Steps.{at_false, at_true}
-use Rattle.citrus_tree.specs.Deletes.{Comes, KeepsAll, StandsAt, walked_to}
-use Rattle.citrus_tree.proofs.deletes.Keeping.{keeps_self, keeps_search_load, keeps_on}
+use Rattle.citrus_tree.specs.Deletes.{Comes, OnlyLoads, StandsAt, walked_to}
+use Rattle.citrus_tree.proofs.deletes.Keeping.{loads_self, loads_search_load, loads_on}
 
 pub node_loaded : {k : Shape} {op : Op} {kept n0 n1 n2 n3 : ℕ} {v v1 v2 v3 v4 : View} (p s g0 g1 : ℕ) (b : Side) → g0 ≡ n0 / 2 → g1 ≡ n1 / 2
     → IsAt k op kept (at.ParentLife p b s) v
@@ -58,10 +58,10 @@ slot_fits d u a inside =
 pub record Walks (k : Shape) (d : Node) (parent slot : ℕ) (v w : View) : Type 0 where
   pub at : Comes k (at.SuccessorLeft d (walked_to d.node d.right)) v (at.SuccessorLeft d (walked_to parent slot)) w
   pub inside : StoodInside k w
-  pub same : KeepsAll v w
+  pub same : OnlyLoads v w
 
 pub walks_first : (k : Shape) (d : Node) (v : View) → StoodInside k v → Walks k d d.node d.right v v
-walks_first k d v inside = record { at = λ op kept a. a; inside = inside; same = keeps_self v }
+walks_first k d v inside = record { at = λ op kept a. a; inside = inside; same = loads_self v }
 
 pub needs_walk : (k : Shape) (d : Node) (parent slot : ℕ) (v w : View) → StandsAt k (at.SuccessorLeft d (walked_to d.node d.right)) v
     → Walks k d parent slot v w → IsAsked k w (acts.SearchLoad slot (part.Link Left))
@@ -77,7 +77,7 @@ pub walks_on : (k : Shape) (d : Node) (parent slot n : ℕ) (v w x : View) → n
 walks_on k d parent slot n v w x some i told = record {
   at = λ op kept a. walks_to d parent slot some (i.at op kept a) told;
   inside = told.stood;
-  same = keeps_on v w x i.same (keeps_search_load k w x _ _ _ told);
+  same = loads_on v w x i.same (loads_search_load k w x _ _ _ told);
 }
 
 pub walk_fits : (k : Shape) (d : Node) (parent slot n : ℕ) (v w x : View) → StandsAt k (at.SuccessorLeft d (walked_to d.node d.right)) v
@@ -87,10 +87,10 @@ walk_fits k d parent slot n v w x a some i told =
 
 pub walk_ends : (k : Shape) (d : Node) (parent slot n : ℕ) (v w x : View) → n ≡ 0 → Walks k d parent slot v w
     → Told k w (acts.SearchLoad slot (part.Link Left)) n x
-    → Comes k (at.SuccessorLeft d (walked_to d.node d.right)) v (past_left d (walked_to parent slot) 0) x × KeepsAll v x
+    → Comes k (at.SuccessorLeft d (walked_to d.node d.right)) v (past_left d (walked_to parent slot) 0) x × OnlyLoads v x
 walk_ends k d parent slot n v w x none i told = (
   λ op kept a. subst (λ z. IsAt k op kept (past_left d (walked_to parent slot) z) x) none (passes_successor_left (i.at op kept a) told),
-  keeps_on v w x i.same (keeps_search_load k w x _ _ _ told),
+  loads_on v w x i.same (loads_search_load k w x _ _ _ told),
 )
 
 -- The generations of the successor and of its parent.

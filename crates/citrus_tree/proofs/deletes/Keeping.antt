@@ -1,5 +1,6 @@
 -- What single steps leave as it was: a delete's other locks and retired slots, its waits, and the marks of its place.
 use Rattle.std.proofs.Common.{◌≡◌, ◌≢◌, ℕ, ◌==◌, cond, Bool, true, false, Option, Some, None, ne_eqb, List, [], ◌∷◌, map, refl, sym, ap, subst, ◌∙◌}
+use mathlib.Core.List.{IsPrefix}
 use Rattle.prcu_marks.specs.declared.mark.Side.{Side}
 use Rattle.prcu_marks.specs.declared.mark.Side.TheVariants.{Left, Right}
 use Rattle.core_state.specs.declared.shape.Shape.{Shape}
@@ -13,13 +14,17 @@ use Rattle.core_state.specs.steps.Locks.{new_lock}
 use Rattle.core_state.specs.steps.Links.{with_mark}
 use Rattle.core_acts.specs.declared.act.Act.TheVariants as acts
 use Rattle.core_acts.specs.declared.act.Part.{Part}
-use Rattle.core_acts.specs.Acts.{noted}
+use Rattle.core_acts.specs.Acts.{in_slot, noted}
+use Rattle.core_state.specs.declared.words.Kind.TheVariants.{K17}
+use Rattle.seat_table.specs.Sections.{Makes}
+use Rattle.seat_table.proofs.Sections.{made_both, made_more, made_none}
+use Rattle.citrus_tree.specs.Lookups.{is_load}
 use Rattle.seat_table.specs.Seats.{IsSlotOf}
 use Rattle.seat_table.specs.Told.{Told}
 use Rattle.list_laws.specs.Counts.{times}
 use Rattle.tree_points.specs.At.{HasLocks}
-use Rattle.tree_points.proofs.Gone.{gone_none, gone_on}
-use Rattle.citrus_tree.specs.Deletes.{KeepsAll, KeepsRest, locked_slots, retired_slots}
+use Rattle.tree_points.proofs.Gone.{gone_none, gone_on, no_further}
+use Rattle.citrus_tree.specs.Deletes.{KeepsAll, KeepsRest, OnlyLoads, locked_slots, retired_slots}
 use Rattle.citrus_tree.specs.Gone.{retired_marks}
 use Rattle.tree_points.specs.Progress.{KeepsAllowance}
 
@@ -69,11 +74,12 @@ marked_slots (r ∷ rs) = ap (λ xs. r.slot ∷ xs) (marked_slots rs)
 pub slots_stay : (v w : View) → retired_marks w ≡ retired_marks v → retired_slots w ≡ retired_slots v
 slots_stay v w stay = sym (marked_slots w.hands.retired) ∙ ap (map (λ (x : ℕ × ℕ × Bool). x.0)) stay ∙ marked_slots v.hands.retired
 
-pub keeps : (v w : View) → KeepsAllowance v w → w.seen ≡ v.seen → w.wait ≡ v.wait → w.counts.waits ≡ v.counts.waits
+pub keeps : (v w : View) → IsPrefix v.trail.steps w.trail.steps → KeepsAllowance v w → w.seen ≡ v.seen → w.wait ≡ v.wait
+    → w.counts.waits ≡ v.counts.waits
     → retired_marks w ≡ retired_marks v → locked_slots w ≡ locked_slots v → KeepsAll v w
-keeps v w allowance seen wait waits stay locked =
+keeps v w steps allowance seen wait waits stay locked =
     record {
-      gone = gone_none allowance seen;
+      gone = gone_none steps allowance seen;
       waits = record { wait = wait; count = waits };
       retired = slots_stay v w stay;
       stay = stay;
@@ -81,31 +87,48 @@ keeps v w allowance seen wait waits stay locked =
     }
 
 pub keeps_self : (v : View) → KeepsAll v v
-keeps_self v = keeps v v (record { rest = refl }) refl refl refl refl refl
+keeps_self v = keeps v v (no_further v v refl) (record { rest = refl }) refl refl refl refl refl
 
 pub keeps_search_load : (k : Shape) (v w : View) (s : ℕ) (p : Part) (n : ℕ) → Told k v (acts.SearchLoad s p) n w → KeepsAll v w
-keeps_search_load k v w s p n t = subst (KeepsAll v) (sym t.goes) (keeps v _ (record { rest = refl }) refl refl refl refl refl)
+keeps_search_load k v w s p n t = subst (KeepsAll v) (sym t.goes) (keeps v _ (_, refl) (record { rest = refl }) refl refl refl refl refl)
+
+pub loads_self : (v : View) → OnlyLoads v v
+loads_self v = record { all = keeps_self v; made = made_none is_load v.trail }
+
+pub loads_on : (v w x : View) → OnlyLoads v w → OnlyLoads w x → OnlyLoads v x
+loads_on v w x f g = record {
+  all = keeps_on v w x f.all g.all;
+  made = made_both is_load is_load is_load (λ kind is. is) (λ kind is. is) v.trail w.trail x.trail f.made g.made;
+}
+
+pub loads_search_load : (k : Shape) (v w : View) (s : ℕ) (p : Part) (n : ℕ) → Told k v (acts.SearchLoad s p) n w → OnlyLoads v w
+loads_search_load k v w s p n t = record {
+  all = keeps_search_load k v w s p n t;
+  made = subst (λ (z : View). Makes is_load v.trail z.trail) (sym t.goes)
+      (made_more is_load v.trail v K17 (in_slot s p) n refl (made_none is_load v.trail));
+}
 
 pub keeps_locked_load : (k : Shape) (v w : View) (s : ℕ) (p : Part) (n : ℕ) → Told k v (acts.LockedLoad s p) n w → KeepsAll v w
 keeps_locked_load k v w s p n t = subst (KeepsAll v) (sym t.goes)
-    (keeps v _ (record { rest = refl }) refl refl refl refl (noted_kept s _ v.locks))
+    (keeps v _ (_, refl) (record { rest = refl }) refl refl refl refl (noted_kept s _ v.locks))
 
 pub keeps_mark : (k : Shape) (v w : View) (s life n : ℕ) → Told k v (acts.Mark s life) n w → KeepsAll v w
 keeps_mark k v w s life n t = subst (KeepsAll v) (sym t.goes)
-    (keeps v _ (record { rest = refl }) refl refl refl refl (slots_kept s (with_mark true) (λ l. refl) _ ∙ noted_kept s _ v.locks))
+    (keeps v _ (_, refl) (record { rest = refl }) refl refl refl refl
+    (slots_kept s (with_mark true) (λ l. refl) _ ∙ noted_kept s _ v.locks))
 
 pub keeps_raise_tag : (k : Shape) (v w : View) (s tag n : ℕ) (b : Side) → Told k v (acts.RaiseTag s b tag) n w → KeepsAll v w
 keeps_raise_tag k v w s tag n b t = subst (KeepsAll v) (sym t.goes)
-    (keeps v _ (record { rest = refl }) refl refl refl refl
+    (keeps v _ (_, refl) (record { rest = refl }) refl refl refl refl
     (slots_kept s (with_emptied b false) (same_emptied b) _ ∙ noted_kept s _ v.locks))
 
 pub keeps_fill : (k : Shape) (v w : View) (s : ℕ) (p : Part) (number n : ℕ) → Told k v (acts.Fill s p number) n w → KeepsAll v w
 keeps_fill k v w s p number n t = subst (KeepsAll v) (sym t.goes)
-    (keeps v _ (record { rest = refl }) refl refl refl refl (noted_kept s _ v.locks))
+    (keeps v _ (_, refl) (record { rest = refl }) refl refl refl refl (noted_kept s _ v.locks))
 
 pub keeps_own_life : (k : Shape) (v w : View) (s n : ℕ) → Told k v (acts.LoadOwnLife s) n w → KeepsAll v w
 keeps_own_life k v w s n t = subst (KeepsAll v) (sym t.goes)
-    (keeps v _ (record { rest = refl }) refl refl refl refl (noted_kept s _ v.locks))
+    (keeps v _ (_, refl) (record { rest = refl }) refl refl refl refl (noted_kept s _ v.locks))
 
 spare_noted : (o : Option Held) (s copy : ℕ) (known : Known) → IsSlotOf (Some copy) o → IsSlotOf (Some copy) (note_option s known o)
 spare_noted None s copy known is = is
@@ -139,10 +162,16 @@ pub spare_lock : (k : Shape) (v w : View) (s n copy : ℕ) → Told k v (acts.Lo
 spare_lock k v w s n copy t is = subst (λ (x : View). IsSlotOf (Some copy) x.hands.spare) (sym t.goes) (spare_if (n == 0) copy _ _ is is)
 
 -- Locks are got and given up.
-pub keeps_rest_of : (v w : View) → KeepsAllowance v w → w.seen ≡ v.seen → w.wait ≡ v.wait → w.counts.waits ≡ v.counts.waits
+pub keeps_rest_of : (v w : View) → IsPrefix v.trail.steps w.trail.steps → KeepsAllowance v w → w.seen ≡ v.seen → w.wait ≡ v.wait
+    → w.counts.waits ≡ v.counts.waits
     → retired_marks w ≡ retired_marks v → KeepsRest v w
-keeps_rest_of v w allowance seen wait waits stay =
-    record { gone = gone_none allowance seen; waits = record { wait = wait; count = waits }; retired = slots_stay v w stay; stay = stay }
+keeps_rest_of v w steps allowance seen wait waits stay =
+    record {
+      gone = gone_none steps allowance seen;
+      waits = record { wait = wait; count = waits };
+      retired = slots_stay v w stay;
+      stay = stay;
+    }
 
 pub rest_lock : (k : Shape) (v w : View) (s n : ℕ) → Told k v (acts.Lock s) n w → KeepsRest v w
 rest_lock k v w s n t = subst (KeepsRest v) (sym t.goes) (by (n == 0))
@@ -151,8 +180,8 @@ rest_lock k v w s n t = subst (KeepsRest v) (sym t.goes) (by (n == 0))
     u = noted v (acts.Lock s) n
 
     by : (z : Bool) → KeepsRest v (cond z (record u { locks = new_lock s ∷ u.locks }) u)
-    by true = keeps_rest_of v _ (record { rest = refl }) refl refl refl refl
-    by false = keeps_rest_of v _ (record { rest = refl }) refl refl refl refl
+    by true = keeps_rest_of v _ (_, refl) (record { rest = refl }) refl refl refl refl
+    by false = keeps_rest_of v _ (_, refl) (record { rest = refl }) refl refl refl refl
 
 pub locks_busy : (k : Shape) (v w : View) (s n : ℕ) → n ≢ 0 → Told k v (acts.Lock s) n w → w.locks ≡ v.locks
 locks_busy k v w s n busy t =
@@ -160,7 +189,7 @@ locks_busy k v w s n busy t =
     ap (λ (x : View). x.locks) (t.goes ∙ ap (λ z. cond z (record u { locks = new_lock s ∷ u.locks }) u) (ne_eqb n 0 busy))
 
 pub rest_unlock : (k : Shape) (v w : View) (s n : ℕ) → Told k v (acts.Unlock s) n w → KeepsRest v w
-rest_unlock k v w s n t = subst (KeepsRest v) (sym t.goes) (keeps_rest_of v _ (record { rest = refl }) refl refl refl refl)
+rest_unlock k v w s n t = subst (KeepsRest v) (sym t.goes) (keeps_rest_of v _ (_, refl) (record { rest = refl }) refl refl refl refl)
 
 -- the same slots are locked
 pub same_locks : {v w : View} {slots : List ℕ} → locked_slots w ≡ locked_slots v → HasLocks slots v → HasLocks slots w

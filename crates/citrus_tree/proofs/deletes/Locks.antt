@@ -20,13 +20,13 @@ use Rattle.tree_points.proofs.Locking.{needs_target_lock, needs_unlock, passes_t
 use Rattle.tree_points.proofs.Locking.{locks_target_lock}
 use Rattle.tree_points.proofs.Steps.{at_false}
 use Rattle.citrus_tree.specs.Deletes.{Comes, KeepsRest, StandsAt, giving_up}
-use Rattle.tree_points.proofs.Gone.{gone_none}
+use Rattle.tree_points.proofs.Gone.{gone_none, no_further}
 use Rattle.citrus_tree.proofs.deletes.Keeping.{keeps_rest, locks_busy, rest_lock, rest_unlock}
 
 -- Before any step nothing changed.
 pub rest_none : (v : View) → KeepsRest v v
 rest_none v = record {
-  gone = gone_none (record { rest = refl }) refl;
+  gone = gone_none (no_further v v refl) (record { rest = refl }) refl;
   waits = record { wait = refl; count = refl };
   retired = refl;
   stay = refl;

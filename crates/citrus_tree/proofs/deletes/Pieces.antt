@@ -21,7 +21,6 @@ use Rattle.tree_points.specs.At.{IsAt}
 use Rattle.tree_points.specs.Progress.{HasGone}
 use Rattle.tree_points.proofs.Ends.{slots_length}
 use Rattle.node_slots.proofs.Listed.{listed_length}
-use Rattle.std.specs.Prelude.{IfSome, IfNone}
 use Rattle.citrus_tree.specs.Replies.{IsMoveWait}
 use Rattle.citrus_tree.specs.Deletes.{HasCopied, HasDeleted, HasDone, retired_slots}
 use Rattle.tree_points.proofs.Gone.{gone_on}
@@ -93,11 +92,3 @@ deleted_later v w x key number g d = record {
 
 pub bypass_deletes : (v w : View) (key node number : ℕ) → HasDone v (Del key) node [] number w → HasDeleted v key number w
 bypass_deletes v w key node number d = record { node = node; after = []; done = d; move = inl refl }
-
-pub if_some : {P Q : ℕ → Type 0} (o : Option ℕ) → ((n : ℕ) → P n → Q n) → IfSome o P → IfSome o Q
-if_some None f x = x
-if_some (Some n) f x = f n x
-
-pub if_none : {P Q : Type 0} (o : Option ℕ) → (P → Q) → IfNone o P → IfNone o Q
-if_none None f x = f x
-if_none (Some n) f x = x

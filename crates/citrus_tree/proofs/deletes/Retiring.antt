@@ -1,5 +1,5 @@
 -- In which order a delete retires and lists its slots.
-use Rattle.std.proofs.Common.{◌≡◌, ℕ, List, [], ◌∷◌, ◌++◌, Option, Some, None, ◌⊎◌, inl, inr, ⊎_elim, refl, sym, subst, ◌∙◌, append-nil}
+use Rattle.std.proofs.Common.{◌≡◌, ℕ, List, [], ◌∷◌, ◌++◌, ◌⊎◌, inl, inr, ⊎_elim, refl, sym, subst, ◌∙◌, append-nil}
 use mathlib.Core.List.{IsPrefix}
 use Rattle.prcu_marks.specs.declared.mark.Mark.{Mark}
 use Rattle.prcu_marks.specs.declared.mark.Mark.TheVariants.{Done, Unlinked}
@@ -11,7 +11,7 @@ use Rattle.core_state.specs.declared.view.View.{View}
 use Rattle.seat_table.specs.Gains.{Sees}
 use Rattle.seat_table.specs.Seats.{SeatAt}
 use Rattle.tree_points.specs.Progress.{HasGone}
-use Rattle.citrus_tree.specs.Deletes.{HasDone, RetiresBy, RetiresIf}
+use Rattle.citrus_tree.specs.Deletes.{HasDone, RetiresBy}
 use Rattle.citrus_tree.specs.Replies.{AreUnlinkedSince, IsUnlinkedSince, RetiresInOrder}
 
 -- The old successor was unlinked after what had been seen.
@@ -75,11 +75,6 @@ retires_before r s t key number g first x = record {
       (λ (e : x.kept ≡ []). inr e) x.kept_is;
   listed = x.listed;
 }
-
-pub retires_if : {marks : List Mark} (r s t : SeatAt) (key : ℕ) (number : Option ℕ) → HasGone r.view s.view marks → s.listed ≡ r.listed
-    → RetiresIf s key number t → RetiresIf r key number t
-retires_if r s t key None g same x = x ∙ same
-retires_if r s t key (Some number) g same x = retires_before r s t key number g (inl same) x
 
 pub when_gone : {s t : SeatAt} {key number : ℕ} {reply : Reply} → reply ≡ Gone → RetiresBy s key reply number t
     → RetiresInOrder s key number t

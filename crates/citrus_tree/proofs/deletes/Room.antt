@@ -1,5 +1,6 @@
 -- What a delete does before its first search: it sees to a spare, and to room among the retired slots.
 use Rattle.std.proofs.Common.{◌≡◌, ◌≢◌, ℕ, ◌+◌, ◌^◌, ◌<◌, ◌≤◌, true, false, List, [], ◌∷◌, map, length, Option, Some, None, refl, sym, ap, subst, ◌∙◌, ◌⊎◌, inl, inr, ⊎_elim, arith}
+use mathlib.Core.List.{IsPrefix}
 use Rattle.std.specs.Option.{is_some}
 use Rattle.list_laws.specs.Counts.{Each, times}
 use Rattle.prcu_marks.specs.declared.mark.Mark.TheVariants.{Began, Ended}
@@ -43,6 +44,11 @@ pub given_spare : (o : Option ℕ) (held : Option Held) → IsSlotOf o held → 
 given_spare None held is some none = absurd (let e : false ≡ true = some in cc)
 given_spare (Some slot) None is some none = is
 given_spare (Some slot) (Some held) is some none = cc
+
+pub no_spare : (o : Option ℕ) (held : Option Held) → IsSlotOf o held → is_some o ≡ false → held ≡ None
+no_spare None None is none = refl
+no_spare None (Some held) is none = absurd is
+no_spare (Some slot) held is none = absurd (let e : true ≡ false = none in cc)
 
 -- Nothing had to be done.
 pub room_same : (v : View) → HasMadeRoom v v
@@ -114,14 +120,14 @@ module _ {k : Shape} {v : View} (quiet : IsQuiet v) where
         pub ready_kept : IsReadyToDelete k v x
         ready_kept = λ key kept fits paid. may_begin (passes_keep (keeping t.before.tells.some_place key kept fits paid) t)
 
-        pub room_kept : HasMadeRoom v x
-        room_kept = record {
+        pub room_kept : IsPrefix v.trail.steps w.trail.steps → HasMadeRoom v x
+        room_kept steps = record {
           marks = [];
-          gone = gone_stays (taken_gone taken) (stays (acts.KeepAsSpare slot) refl t);
+          gone = gone_stays (taken_gone taken steps) (stays (acts.KeepAsSpare slot) refl t);
           waited = inl refl;
           waits = (let a : x.counts.waits ≡ w.counts.waits = ap (λ (z : View). z.counts.waits) t.goes in
               let b : w.counts.waits ≡ v.counts.waits = ap (λ (z : View). z.counts.waits) taken.rest in omega arith);
-          latest = inl (none_begun (gone_stays (taken_gone taken) (stays (acts.KeepAsSpare slot) refl t))
+          latest = inl (none_begun (gone_stays (taken_gone taken steps) (stays (acts.KeepAsSpare slot) refl t))
               (ap (λ (z : View). z.counts.waits) t.goes ∙ ap (λ (z : View). z.counts.waits) taken.rest)
               (ap (λ (z : View). z.wait) t.goes ∙ ap (λ (z : View). z.wait) taken.rest));
         }
@@ -153,8 +159,8 @@ module _ {k : Shape} {v : View} (quiet : IsQuiet v) where
               (gives_all empty.spare_comes same back);
         }
 
-        pub room_spare : HasMadeRoom v x
-        room_spare = room_later (none_gone empty) (record
+        pub room_spare : IsPrefix v.trail.steps w.trail.steps → HasMadeRoom v x
+        room_spare steps = room_later (none_gone empty steps) (record
             { wait = ap (λ (z : View). z.wait) empty.rest; count = ap (λ (z : View). z.counts.waits) empty.rest })
             (ap (λ (z : View). z.hands.retired) empty.rest) (ap (λ (z : View). z.hands.spare) empty.rest)
             (room_reclaimed back (inr (ap (λ (z : View). z.hands.spare) empty.rest ∙ none)))

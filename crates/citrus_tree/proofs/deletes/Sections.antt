@@ -23,12 +23,16 @@ use Rattle.seat_table.specs.Sections.{HasLeft}
 use Rattle.tree_points.specs.At.{IsAt, IsDone}
 use Rattle.tree_points.specs.Progress.{HasGone}
 use Rattle.tree_points.proofs.SameCall.{moves_on}
-use Rattle.tree_points.proofs.Gone.{allowed, gone_entered, gone_left, gone_none, gone_on, gone_same, gone_stays}
+use Rattle.seat_table.specs.Sections.{is_entry, is_exit}
+use Rattle.seat_table.proofs.Sections.{made_both}
+use Rattle.citrus_tree.specs.Lookups.{is_load, is_of_lookup}
+use Rattle.citrus_tree.proofs.searches.Searching.{load_is, entry_is, exit_is}
+use Rattle.tree_points.proofs.Gone.{allowed, further_by, gone_entered, gone_left, gone_none, gone_on, gone_same, gone_stays}
 use Rattle.tree_points.proofs.Leaving.{leaves_delete}
 use Rattle.tree_points.proofs.Standing.{no_hand_enter}
 use Rattle.citrus_tree.specs.Going.{IsSeated}
 use Rattle.citrus_tree.specs.Gone.{retired_marks}
-use Rattle.citrus_tree.specs.Deletes.{HasSearched, KeepsAll, retired_slots}
+use Rattle.citrus_tree.specs.Deletes.{HasSearched, OnlyLoads, retired_slots}
 use Rattle.citrus_tree.specs.Lookups.{IsSearching, Looked}
 use Rattle.citrus_tree.specs.Replies.{WasAnswered}
 use Rattle.citrus_tree.proofs.Leavings.{goes_looked, was_answered}
@@ -91,32 +95,37 @@ module _ {k : Shape} {kept key : ℕ} where
   at_target {v} {w} a inside left = leaves_delete k (Del key) kept v w left inside a
 
 -- What the section leaves.
-pub searched_found : {v w x y : View} {key : ℕ} {state : SearchState} → IsSearching v key state w → KeepsAll w x → HasLeft x y
+pub searched_found : {v w x y : View} {key : ℕ} {state : SearchState} → IsSearching v key state w → OnlyLoads w x → HasLeft x y
     → HasSearched v key y
 searched_found {v} {w} {x} {y} {key} {state} i k left =
     let e = i.entered in
     let inside : HasGone v w (Entered v.allowance.place v.counts.sections key ∷ []) =
-    gone_stays (gone_entered e) (gone_none (allowed i.others refl) (ap (λ (z : View). z.seen) i.others)) in
-    let before : HasGone v x (Entered v.allowance.place v.counts.sections key ∷ []) = gone_stays inside k.gone in
+    gone_stays (gone_entered e) (gone_none (further_by i.entry w _ i.made.trail refl) (allowed i.others refl)
+    (ap (λ (z : View). z.seen) i.others)) in
+    let before : HasGone v x (Entered v.allowance.place v.counts.sections key ∷ []) = gone_stays inside k.all.gone in
     record {
+      made = made_both is_of_lookup is_exit is_of_lookup (λ kind is. is) exit_is v.trail x.trail y.trail
+          (made_both is_of_lookup is_load is_of_lookup (λ kind is. is) load_is v.trail w.trail x.trail
+          (made_both is_entry is_load is_of_lookup entry_is load_is v.trail i.entry.trail w.trail e.made i.made) k.made) left.made;
       count = v.counts.sections;
       left = left.section.count;
       gone = subst (λ p. HasGone v y (Entered v.allowance.place v.counts.sections key ∷ (LeftMark p left.section.count ∷ []))) before.same
           (gone_on before (gone_left left));
       waits = record {
-        wait = ap (λ (z : View). z.wait) left.others ∙ k.waits.wait ∙ ap (λ (z : View). z.wait) i.others
+        wait = ap (λ (z : View). z.wait) left.others ∙ k.all.waits.wait ∙ ap (λ (z : View). z.wait) i.others
             ∙ ap (λ (z : View). z.wait) e.others;
-        count = ap (λ (z : View). z.counts.waits) left.others ∙ k.waits.count ∙ ap (λ (z : View). z.counts.waits) i.others
+        count = ap (λ (z : View). z.counts.waits) left.others ∙ k.all.waits.count ∙ ap (λ (z : View). z.counts.waits) i.others
             ∙ ap (λ (z : View). z.counts.waits) e.others;
       };
-      retired = ap retired_slots left.others ∙ k.retired ∙ ap retired_slots i.others ∙ ap retired_slots e.others;
-      stay = ap retired_marks left.others ∙ k.stay ∙ ap retired_marks i.others ∙ ap retired_marks e.others;
+      retired = ap retired_slots left.others ∙ k.all.retired ∙ ap retired_slots i.others ∙ ap retired_slots e.others;
+      stay = ap retired_marks left.others ∙ k.all.stay ∙ ap retired_marks i.others ∙ ap retired_marks e.others;
     }
 
 pub searched_missed : {v w : View} {key : ℕ} {answer : Option ℕ} → Looked v key answer w → HasSearched v key w
 searched_missed {v} {w} l =
     let goes = goes_looked l in
     record {
+      made = l.made;
       count = v.counts.sections;
       left = v.counts.sections;
       gone = goes.gone;

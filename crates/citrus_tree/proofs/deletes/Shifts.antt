@@ -20,7 +20,7 @@ use Rattle.core_frames.specs.Telling.{IsToldOf}
 use Rattle.seat_table.specs.Told.{Told}
 use Rattle.tree_points.specs.At.{HasLocks, IsAt}
 use Rattle.tree_points.specs.Progress.{HasGone}
-use Rattle.tree_points.proofs.Gone.{allowed}
+use Rattle.tree_points.proofs.Gone.{allowed, further}
 use Rattle.citrus_tree.specs.Deletes.{KeepsWaits, retired_slots}
 use Rattle.citrus_tree.specs.Replies.{IsUnlinkedSince}
 use Rattle.citrus_tree.proofs.deletes.Retiring.{unlinked_there}
@@ -57,7 +57,7 @@ pub record Unlinks (v : View) (old : ℕ) (w : View) : Type 0 where
 
 pub copy_unlinks : (k : Shape) (v w : View) (copy old child n : ℕ) → Told k v (acts.UnlinkRight copy old child) n w → Unlinks v old w
 copy_unlinks k v w copy old child n t = record {
-  gone = unlinked_gone v w t.marks old t.sees (allowed t.goes refl) (ap (λ (x : View). x.seen) t.goes);
+  gone = unlinked_gone v w t.marks old (further v _ t.goes refl) t.sees (allowed t.goes refl) (ap (λ (x : View). x.seen) t.goes);
   unlinked = unlinked_there v w t.marks old t.sees (ap (λ (x : View). x.seen) t.goes);
   retired = ap retired_slots t.goes ∙ map_append v.hands.retired _;
   waits = record { wait = ap (λ (x : View). x.wait) t.goes; count = ap (λ (x : View). x.counts.waits) t.goes };
@@ -65,7 +65,7 @@ copy_unlinks k v w copy old child n t = record {
 
 pub parent_unlinks : (k : Shape) (v w : View) (parent old child n : ℕ) → Told k v (acts.UnlinkLeft parent old child) n w → Unlinks v old w
 parent_unlinks k v w parent old child n t = record {
-  gone = unlinked_gone v w t.marks old t.sees (allowed t.goes refl) (ap (λ (x : View). x.seen) t.goes);
+  gone = unlinked_gone v w t.marks old (further v _ t.goes refl) t.sees (allowed t.goes refl) (ap (λ (x : View). x.seen) t.goes);
   unlinked = unlinked_there v w t.marks old t.sees (ap (λ (x : View). x.seen) t.goes);
   retired = ap retired_slots t.goes ∙ map_append v.hands.retired _;
   waits = record { wait = ap (λ (x : View). x.wait) t.goes; count = ap (λ (x : View). x.counts.waits) t.goes };

@@ -1,10 +1,11 @@
 -- A delete's tries, one after another, and the call whole.
-use Rattle.std.proofs.Common.{◌≡◌, ℕ, ◌+◌, ◌-◌, ◌^◌, ◌<◌, ◌≤◌, ◌==◌, cond, List, [], ◌∷◌, ◌++◌, None, refl, sym, ap, subst, ◌∙◌, inl, inr, ⊎_elim, arith, eq-eqb, append_assoc}
+use Rattle.std.proofs.Common.{◌≡◌, ℕ, ◌+◌, ◌-◌, ◌^◌, ◌<◌, ◌≤◌, ◌==◌, cond, List, [], ◌∷◌, ◌++◌, Option, Some, None, refl, sym, ap, subst, ◌∙◌, inl, inr, ⊎_elim, arith, eq-eqb, append_assoc}
 use Rattle.std.specs.List.{AllByRecursion}
 use mathlib.Core.List.{IsPrefix}
 use Rattle.prcu_marks.specs.declared.mark.Mark.{Mark}
 use Rattle.prcu_marks.specs.declared.mark.Mark.TheVariants.{Entered, Left as LeftMark, Began, Ended, Done, Unlinked}
 use Rattle.prcu_marks.specs.Callers.{entered_for}
+use Rattle.prcu_marks.specs.Marks.{updates_of}
 use Rattle.prcu_marks.proofs.OwnMarks.{entered_for-append}
 use Rattle.prcu_model.specs.declared.operation.Op.TheVariants.{Del}
 use Rattle.prcu_model.specs.declared.operation.Reply.{Reply}
@@ -22,10 +23,12 @@ use Rattle.tree_points.specs.At.{IsAt, IsDone}
 use Rattle.tree_points.specs.Progress.{HasGone, KeepsAllowance}
 use Rattle.tree_points.proofs.Ends.{has_kept, is_quiet}
 use Rattle.tree_points.proofs.Gone.{gone_on, gone_same, gone_stays}
-use Rattle.citrus_tree.specs.Deletes.{DelsAtOnce, HasDeleted, HasMadeRoom, HasSearched, HasWaitedForRoom, IsReadyToDelete, KeepsRest, KeepsWaits, retired_slots}
+use Rattle.citrus_tree.specs.Beginnings.{BeginsByLookup}
+use Rattle.citrus_tree.proofs.Beginning.{MayHaveBegun, begins_later, begins_searched}
+use Rattle.citrus_tree.specs.Deletes.{DelsAtOnce, HasDeleted, HasMadeRoom, HasSearched, HasWaitedForRoom, IsReadyToDelete, KeepsRest, KeepsWaits, retired_slots, TellsTaken}
 use Rattle.citrus_tree.specs.Going.{MayBegin}
 use Rattle.citrus_tree.specs.Gone.{AreTries, IsOfTry, KeepsWait, waits_in}
-use Rattle.citrus_tree.specs.Replies.{Dels, DelsBy, IsMoveWait, RetiresInOrder, WasAnswered}
+use Rattle.citrus_tree.specs.Replies.{Dels, DelsBy, IsMoveWait, RetiresInOrder, TellsValue, TookOut, WasAnswered}
 use Rattle.citrus_tree.proofs.sets.Replacing.{may_begin, waits_in-append}
 use Rattle.citrus_tree.proofs.deletes.Retiring.{retires_before}
 use Rattle.citrus_tree.proofs.deletes.Sections.{answered_before}
@@ -45,6 +48,7 @@ pub record TriesToDelete (k : Shape) (key : ℕ) (v w : View) : Type 0 where
   pub each : AllByRecursion (IsOfTry v.allowance.place key) marks
   pub none : waits_in marks ≡ 0
   pub waits : KeepsWaits v w
+  pub first : MayHaveBegun v key w
   pub ready : (kept : ℕ) → MayBegin k (Del key) kept v → MayBegin k (Del key) kept w
 
 pub tries_first : (k : Shape) (key : ℕ) (v : View) → TriesToDelete k key v v
@@ -54,6 +58,7 @@ tries_first k key v = record {
   each = tt;
   none = refl;
   waits = record { wait = refl; count = refl };
+  first = inl refl;
   ready = λ kept a. a;
 }
 
@@ -97,6 +102,9 @@ module _ {k : Shape} {key : ℕ} {v w x : View} (t : TriesToDelete k key v w) (s
     none,
   )
 
+  pub absent_begins : BeginsByLookup v key x
+  absent_begins = begins_searched t.first s
+
   pub absent_wait : KeepsWait v x
   absent_wait = inl (none_begun gone searched_waits.count searched_waits.wait)
 
@@ -109,6 +117,7 @@ module _ {k : Shape} {key : ℕ} {v w x : View} (t : TriesToDelete k key v w) (s
     each = each;
     none = none;
     waits = waits_on searched_waits rest.waits;
+    first = inr (begins_later absent_begins rest.gone);
     ready = λ kept a. may_begin (again kept (t.ready kept a));
   }
 
@@ -147,6 +156,16 @@ module _ {k : Shape} {key : ℕ} {v w x : View} (t : TriesToDelete k key v w) (s
         ),
         none,
       )
+
+  pub gone_begins : {y : View} {number : ℕ} → HasDeleted x key number y → BeginsByLookup v key y
+  gone_begins d = begins_later absent_begins d.done.gone
+
+  -- with the value that it tells
+  pub tells_gone : (y : View) (number : ℕ) (o : Option ℕ) → TellsTaken x key number o y
+      → TellsValue v key (record { reply = Gone; number = number }) o y
+  tells_gone y number (Some value) took =
+      (refl, subst (λ p. TookOut (updates_of y.seen) p key value number) gone.same took)
+  tells_gone y number None took = absurd took
 
   pub gone_wait : (y : View) → KeepsWait x y → KeepsWait v y
   gone_wait y later = wait_later (none_begun gone searched_waits.count searched_waits.wait) later

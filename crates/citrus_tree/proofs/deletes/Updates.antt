@@ -1,6 +1,7 @@
 -- What the two updates of a delete leave: the bypass of a node, and the link of a copy.
-use Rattle.std.proofs.Common.{◌≡◌, ℕ, ◌+◌, ◌*◌, ◌/◌, ◌==◌, cond, Bool, true, false, List, [], ◌∷◌, ◌++◌, length, map, refl, sym, ap, subst, ◌∙◌, arith, append-nil, eq-eqb}
+use Rattle.std.proofs.Common.{◌≡◌, ℕ, ◌+◌, ◌*◌, ◌/◌, ◌==◌, cond, Bool, true, false, List, [], ◌∷◌, ◌++◌, length, map, Some, refl, sym, ap, subst, ◌∙◌, arith, append-nil, eq-eqb}
 use Rattle.std.proofs.lemmas.List.{map-append}
+use Rattle.std.specs.FinMap as finite
 use mathlib.Core.List.{IsPrefix}
 use Rattle.prcu_model.proofs.ListFacts.{prefix_trans}
 use Rattle.prcu_marks.specs.declared.mark.Mark.{Mark}
@@ -9,6 +10,7 @@ use Rattle.prcu_marks.specs.declared.mark.Side.{Side}
 use Rattle.prcu_marks.specs.declared.mark.Side.TheVariants.{Left, Right}
 use Rattle.prcu_marks.specs.Marks.{own_of, updates_of}
 use Rattle.prcu_marks.proofs.MarkLists.{updates_of-append}
+use Rattle.prcu_model.specs.Dictionary.{map_of}
 use Rattle.prcu_model.specs.declared.operation.Op.{Op}
 use Rattle.prcu_model.specs.declared.operation.Op.TheVariants.{Del}
 use Rattle.core_state.specs.declared.shape.Shape.{Shape}
@@ -28,8 +30,9 @@ use Rattle.seat_table.specs.Told.{Told}
 use Rattle.tree_points.specs.At.{IsAt}
 use Rattle.tree_points.specs.Progress.{HasGone, KeepsAllowance}
 use Rattle.citrus_tree.specs.Gone.{retired_marks}
-use Rattle.citrus_tree.specs.Deletes.{HasCopied, HasDone, KeepsAll, KeepsWaits, locked_slots, retired_slots}
-use Rattle.tree_points.proofs.Gone.{allowed, gone_on, gone_with}
+use Rattle.citrus_tree.specs.Deletes.{HasCopied, HasDone, KeepsAll, KeepsWaits, locked_slots, retired_slots, TakesValue}
+use Rattle.tree_points.proofs.Gone.{allowed, further, gone_on, gone_with}
+use Rattle.citrus_tree.specs.Replies.{TookOut}
 use Rattle.citrus_tree.proofs.deletes.Keeping.{noted_kept, slots_kept}
 
 -- A mark of the update, and one of the node's unlinking.
@@ -51,16 +54,33 @@ updates_more p node op h = ap length (updates_of-append h _) ∙ length_snoc (up
     length_snoc [] x = refl
     length_snoc (y ∷ xs) x = (let e = length_snoc xs x in omega arith)
 
-pub done_by_marks : (v w : View) (op : Op) (h : List Mark) (node front : ℕ) → Sees v h → KeepsAllowance v w
+pub done_by_marks : (v w : View) (op : Op) (h : List Mark) (node front : ℕ) → IsPrefix v.trail.steps w.trail.steps → Sees v h
+    → KeepsAllowance v w
     → w.seen ≡ h ++ done_mark v op ∷ (Unlinked node ∷ []) → front + 2 ≡ 2 * length (updates_of w.seen)
     → HasDone v op node [] (front / 2 + 1) w
-done_by_marks v w op h node front sees keeps e counted = record {
+done_by_marks v w op h node front steps sees keeps e counted = record {
   before = h;
-  gone = subst (HasGone v w) (own_done v.allowance.place node op) (gone_with h (done_mark v op ∷ (Unlinked node ∷ [])) sees keeps e);
+  gone = subst (HasGone v w) (own_done v.allowance.place node op) (gone_with h (done_mark v op ∷ (Unlinked node ∷ [])) steps sees keeps e);
   since = sees.begins;
   stands = ([], append-nil (h ++ done_mark v op ∷ (Unlinked node ∷ [])) ∙ sym e);
   number_is = half_front front (length (updates_of h))
       (counted ∙ ap (λ n. 2 * n) (ap (λ l. length (updates_of l)) e ∙ updates_more v.allowance.place node op h));
+}
+
+-- the pair that it took out
+took_by_marks : (v w : View) (h : List Mark) (node key front value : ℕ) → w.seen ≡ h ++ done_mark v (Del key) ∷ (Unlinked node ∷ [])
+    → front + 2 ≡ 2 * length (updates_of w.seen) → finite.get (map_of (updates_of h)) key ≡ Some value
+    → TookOut (updates_of w.seen) v.allowance.place key value (front / 2 + 1)
+took_by_marks v w h node key front value e counted is = record {
+  before = updates_of h;
+  stands = (
+    [],
+    append-nil (updates_of h ++ record { caller = v.allowance.place; op = Del key } ∷ [])
+        ∙ sym (ap updates_of e ∙ updates_of-append h (done_mark v (Del key) ∷ (Unlinked node ∷ []))),
+  );
+  number_is = half_front front (length (updates_of h))
+      (counted ∙ ap (λ n. 2 * n) (ap (λ l. length (updates_of l)) e ∙ updates_more v.allowance.place node (Del key) h));
+  value_is = is;
 }
 
 -- Steps before and after the update.
@@ -95,11 +115,17 @@ module _ (k : Shape) (key kept : ℕ) (d : Node) (child front n : ℕ) (v w : Vi
     (a : IsAt k (Del key) kept (at.Store (update.Bypass d child) front) v)
     (t : Told k v (acts.Bypass d.parent d.side d.node child key) n w) where
   bypass_front : front + 2 ≡ 2 * length (updates_of w.seen)
-  bypass_front = t.gains.found (record { found = front; stored = false }) ((a.fits.point).0).1
+  bypass_front = t.gains.counted.found (record { found = front; stored = false }) ((a.fits.point).0).1
 
   pub bypass_done : HasDone v (Del key) d.node [] (front / 2 + 1) w
-  bypass_done = done_by_marks v w (Del key) t.marks d.node front t.sees (allowed t.goes refl)
+  bypass_done = done_by_marks v w (Del key) t.marks d.node front (further v _ t.goes refl) t.sees (allowed t.goes refl)
       (ap (λ (x : View). x.seen) t.goes) bypass_front
+
+  pub bypass_takes : TakesValue v d.node key (front / 2 + 1) w
+  bypass_takes = record {
+    took = λ value known. took_by_marks v w t.marks d.node key front value (ap (λ (x : View). x.seen) t.goes) bypass_front
+        (t.gains.was value known);
+  }
 
 relinked_kept : (parent child gone : ℕ) (b : Side) (ls : List HeldLock)
     → map (λ (l : HeldLock). l.slot) (relinked parent b child gone ls) ≡ map (λ (l : HeldLock). l.slot) ls
@@ -135,12 +161,19 @@ module _ (k : Shape) (key kept : ℕ) (d : Node) (u : Successor) (next_key copy 
   copy_front = t.gains.counted.found (record { found = front; stored = false }) (((a.fits.point).0).0).1
 
   copy_done : HasDone v (Del key) d.node [] (front / 2 + 1) w
-  copy_done = done_by_marks v w (Del key) t.marks d.node front t.sees (allowed t.goes refl) (ap (λ (x : View). x.seen) t.goes) copy_front
+  copy_done = done_by_marks v w (Del key) t.marks d.node front (further v _ t.goes refl) t.sees (allowed t.goes refl)
+      (ap (λ (x : View). x.seen) t.goes) copy_front
 
   -- the copy has the next key that the dictionary had
   pub copy_made : HasCopied v key next_key d.node (front / 2 + 1) w
   unfolding copy_done done_by_marks
   copy_made = record { done = copy_done; next = t.gains.next }
+
+  pub copy_takes : TakesValue v d.node key (front / 2 + 1) w
+  copy_takes = record {
+    took = λ value known. took_by_marks v w t.marks d.node key front value (ap (λ (x : View). x.seen) t.goes) copy_front
+        (t.gains.was value known);
+  }
 
 module _ (k : Shape) (p node copy old above key next_key n : ℕ) (b : Side) (v w : View)
     (t : Told k v (acts.LinkCopy p b node copy old above key next_key) n w) where
@@ -172,6 +205,7 @@ copied_still v w x key next_key node n c g = record {
 }
 
 -- The old successor's unlinking.
-pub unlinked_gone : (v w : View) (h : List Mark) (old : ℕ) → Sees v h → KeepsAllowance v w → w.seen ≡ h ++ Unlinked old ∷ []
+pub unlinked_gone : (v w : View) (h : List Mark) (old : ℕ) → IsPrefix v.trail.steps w.trail.steps → Sees v h → KeepsAllowance v w
+    → w.seen ≡ h ++ Unlinked old ∷ []
     → HasGone v w []
-unlinked_gone v w h old sees keeps e = gone_with h (Unlinked old ∷ []) sees keeps e
+unlinked_gone v w h old steps sees keeps e = gone_with h (Unlinked old ∷ []) steps sees keeps e

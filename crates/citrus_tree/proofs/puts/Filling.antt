@@ -121,17 +121,17 @@ gives_up_at {k} {op} {kept} slot {v} {w} is back a =
     back_ends (back h.0 h.1) (subst (λ hand. IsAt k op kept (old_stage hand) v) h.1 a)
 
 -- A slot was taken, or none was free.
-pub goes_taken : {slot generation : ℕ} {v w : View} → HasTaken v slot generation w → Goes v w []
-goes_taken taken = record {
-  gone = taken_gone taken;
+pub goes_taken : {slot generation : ℕ} {v w : View} → HasTaken v slot generation w → IsPrefix v.trail.steps w.trail.steps → Goes v w []
+goes_taken taken steps = record {
+  gone = taken_gone taken steps;
   retired = taken_retired taken;
   wait = ap (λ (z : View). z.wait) taken.rest;
   waits = ap (λ (z : View). z.counts.waits) taken.rest;
 }
 
-pub goes_none : {k : Shape} {v w : View} → FoundNone k v w → Goes v w []
-goes_none none = record {
-  gone = none_gone none;
+pub goes_none : {k : Shape} {v w : View} → FoundNone k v w → IsPrefix v.trail.steps w.trail.steps → Goes v w []
+goes_none none steps = record {
+  gone = none_gone none steps;
   retired = none_retired_now none;
   wait = ap (λ (z : View). z.wait) none.rest;
   waits = ap (λ (z : View). z.counts.waits) none.rest;
@@ -168,7 +168,11 @@ pub is_full_now : {k : Shape} {op : Op} {kept e looked now : ℕ} {spot : Spot} 
     → w.hands.retired ≡ [] → IsAt k op kept (at.Reserve (Leaf spot) e) v → IsFullNow k w
 is_full_now {k} {op} {kept} {e} {looked} {now} {spot} {v} {w} none vain nothing a = record {
   none = nothing;
-  last = (v.trail.steps ++ vain.lost, ap (λ (t : Trail). t.steps) vain.makes ∙ sym (append_assoc v.trail.steps vain.lost (exchange 0 ∷ [])));
+  last = (
+    v.trail.steps ++ vain.lost,
+    ap (λ (t : Trail). t.steps) vain.makes
+        ∙ sym (append_assoc v.trail.steps vain.lost (exchange 0 ∷ [])),
+  );
   fills = (let full = none_is_full none a in let long : length w.hands.retired ≡ 0 = ap length nothing in omega arith);
 }
 
@@ -194,9 +198,10 @@ room_goes {k} {v} {w} {x} room goes = ⊎_elim
 -- none was free, and the retired slots were given back
 module _ {k : Shape} {v x y : View} {listed : List ℕ} (none : FoundNone k v x) (some : x.hands.retired ≢ [])
     (back : HasReclaimed k x listed y) where
-  pub reuses : {op : Op} {kept e : ℕ} {spot : Spot} → IsAt k op kept (at.Reserve (Leaf spot) e) v → Reused k v y
-  reuses a =
-      let g = goes_none none in
+  pub reuses : {op : Op} {kept e : ℕ} {spot : Spot} → IsPrefix v.trail.steps x.trail.steps → IsAt k op kept (at.Reserve (Leaf spot) e) v
+      → Reused k v y
+  reuses steps a =
+      let g = goes_none none steps in
       let place : x.allowance.place ≡ v.allowance.place = g.gone.same in
       let count : x.counts.waits ≡ v.counts.waits = g.waits in
       record {

@@ -29,6 +29,8 @@ use Rattle.tree_points.specs.At.{IsAt}
 use Rattle.tree_points.specs.Progress.{HasGone, KeepsAllowance}
 use Rattle.tree_points.proofs.Ends.{begins_put, has_kept, is_quiet}
 use Rattle.tree_points.proofs.Gone.{gone_on, gone_same}
+use Rattle.citrus_tree.specs.Beginnings.{BeginsByLookup}
+use Rattle.citrus_tree.proofs.Beginning.{MayHaveBegun, begins_later, begins_looked}
 use Rattle.tree_points.proofs.Holding.{slot_in_hand}
 use Rattle.tree_points.proofs.SameCall.{moves_on}
 use Rattle.citrus_tree.specs.Deletes.{Comes, StandsAt}
@@ -221,6 +223,7 @@ no_more xs = ([], append-nil xs)
 pub record Trying (k : Shape) (key value : ℕ) (v w : View) : Type 0 where
   pub marks : List Mark
   pub since : Since k v key marks w
+  pub first : MayHaveBegun v key w
   pub ready : (kept : ℕ) → kept + 4 ≤ v.allowance.tickets → MayBegin k (Put key value) kept w
 
 module _ {k : Shape} {key value : ℕ} {v : View} where
@@ -228,6 +231,7 @@ module _ {k : Shape} {key value : ℕ} {v : View} where
   begins quiet fits = record {
     marks = [];
     since = record { gone = gone_same; each = tt; waits = inl (record { none = refl; retired = refl; wait = refl; waits = refl }) };
+    first = inl refl;
     ready = λ kept few. record {
       outside = quiet.section;
       unlocked = quiet.locks;
@@ -266,6 +270,9 @@ module _ {k : Shape} {key value : ℕ} {v : View} where
               ),
               needs_room s (no_more y.seen),
             )
+
+        pub old_begins : BeginsByLookup v key y
+        old_begins = begins_later (begins_looked t.first f.1) g.gone
 
         pub old_allowance : KeepsAllowance v y
         old_allowance = (since_stays (since_looked t.since f.1) g).gone.allowance
@@ -322,6 +329,9 @@ module _ {k : Shape} {key value : ℕ} {v : View} where
           needs_room since (no_more y.seen),
         )
 
+        pub full_begins : BeginsByLookup v key y
+        full_begins = begins_later (begins_looked t.first f.0) left.1
+
         pub full_allowance : KeepsAllowance v y
         full_allowance = since.gone.allowance
 
@@ -352,6 +362,7 @@ module _ {k : Shape} {key value : ℕ} {v : View} where
           tries_again g again = record {
             marks = tried;
             since = since_stays since g;
+            first = inr (begins_later full_begins g.gone);
             ready = λ kept enough. may_begin (again kept (locking kept enough));
           }
 
@@ -400,6 +411,9 @@ module _ {k : Shape} {key value : ℕ} {v : View} where
               ),
               needs_room since linked.1.goes.gone.begins,
             )
+
+            pub new_begins : BeginsByLookup v key z
+            new_begins = begins_later full_begins linked.1.goes.gone
 
             pub new_allowance : KeepsAllowance v z
             new_allowance = all_gone.allowance

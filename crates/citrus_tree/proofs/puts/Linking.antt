@@ -151,7 +151,7 @@ module _ {k : Shape} {key value kept : ℕ} {spot : Spot} {v : View} (a : IsAt k
       module _ {front : ℕ} {o : View} (odd : Opened y front o) (storing : IsAt k (Put key value) kept (at.Store (update.Leaf spot) front) o)
           (leaf : ℕ) (is : IsSlotOf (Some leaf) y.hands.hand) where
         in_hand : IsSlotOf (Some leaf) o.hands.hand
-        in_hand = subst (IsSlotOf (Some leaf)) (sym (ap (λ (x : View). x.hands.hand) odd)) is
+        in_hand = subst (IsSlotOf (Some leaf)) (sym (ap (λ (x : View). x.hands.hand) odd.rest)) is
 
         pub stores_leaf : IsAsked k o (acts.LinkLeaf spot.slot spot.side leaf key value)
         stores_leaf = needs_store_leaf in_hand storing
@@ -168,7 +168,7 @@ module _ {k : Shape} {key value kept : ℕ} {spot : Spot} {v : View} (a : IsAt k
 
           pub is_odd : q.commit ≡ Some (record { found = front; stored = true })
           is_odd = ap (λ (x : View). x.commit) fourth.goes
-              ∙ ap (λ (c : Commit). Some (record c { stored = true })) (commit_is o _ (ap (λ (x : View). x.commit) odd))
+              ∙ ap (λ (c : Commit). Some (record c { stored = true })) (commit_is o _ (ap (λ (x : View). x.commit) odd.rest))
 
           pub evening : IsAt k (Put key value) kept (at.Even (update.Leaf spot) front) q
           evening = passes_store_leaf in_hand storing fourth
@@ -184,7 +184,7 @@ module _ {k : Shape} {key value kept : ℕ} {spot : Spot} {v : View} (a : IsAt k
 
           module _ {t : View} (even : Closed q t) (unlocking : IsAt k (Put key value) kept (at.Unlock (last.New ((front + 2) / 2))) t) where
             last_lock : HasLocks (spot.slot ∷ []) t
-            last_lock = locks_from {v = q} {w = t} (ap (λ (x : View). map (λ (l : HeldLock). l.slot) x.locks) even)
+            last_lock = locks_from {v = q} {w = t} (ap (λ (x : View). map (λ (l : HeldLock). l.slot) x.locks) even.rest)
                 (locks_from {v = o} {w = q} (locks_link fourth) (locks_store_leaf storing))
 
             pub lets_go : IsAsked k t (acts.Unlock spot.slot)
@@ -197,13 +197,13 @@ module _ {k : Shape} {key value kept : ℕ} {spot : Spot} {v : View} (a : IsAt k
               pub links : (number : ℕ) → number ≡ (front + 2) / 2 → Links v key value number e
               links number number_is =
                   let seen_e : e.seen ≡ h ++ Done (record { caller = v.allowance.place; op = Put key value }) ∷ [] =
-                  ap (λ (x : View). x.seen) fifth.goes ∙ ap (λ (x : View). x.seen) even ∙ seen in
+                  ap (λ (x : View). x.seen) fifth.goes ∙ ap (λ (x : View). x.seen) even.rest ∙ seen in
                   let us : updates_of q.seen ≡ updates_of h ++ record { caller = v.allowance.place; op = Put key value } ∷ [] =
                   ap updates_of seen ∙ updates_of-append h (Done (record { caller = v.allowance.place; op = Put key value }) ∷ []) in
                   let long : length (updates_of q.seen) ≡ length (updates_of h) + 1 =
                   ap length us ∙ length-append (updates_of h) (record { caller = v.allowance.place; op = Put key value } ∷ []) in
                   let counted : front + 2 ≡ 2 * length (updates_of q.seen) =
-                  fourth.gains.found (record { found = front; stored = false }) (ap (λ (x : View). x.commit) odd) in (
+                  fourth.gains.found (record { found = front; stored = false }) (ap (λ (x : View). x.commit) odd.rest) in (
                     h,
                     record {
                       goes = goes_stays goes4 (goes_stays (goes_closed even) (goes_unlock fifth));

@@ -78,13 +78,13 @@ either_true : (a : Bool) → cond a true true ≡ true
 either_true true = refl
 either_true false = refl
 
-load_is : (kind : Kind) → is_load kind ≡ true → is_of_lookup kind ≡ true
+pub load_is : (kind : Kind) → is_load kind ≡ true → is_of_lookup kind ≡ true
 load_is kind e = ap (λ z. cond z true (cond (is_entry kind) true (is_exit kind))) e
 
-entry_is : (kind : Kind) → is_entry kind ≡ true → is_of_lookup kind ≡ true
+pub entry_is : (kind : Kind) → is_entry kind ≡ true → is_of_lookup kind ≡ true
 entry_is kind e = ap (λ z. cond (is_load kind) true (cond z true (is_exit kind))) e ∙ either_true (is_load kind)
 
-exit_is : (kind : Kind) → is_exit kind ≡ true → is_of_lookup kind ≡ true
+pub exit_is : (kind : Kind) → is_exit kind ≡ true → is_of_lookup kind ≡ true
 exit_is kind e = ap (λ z. cond (is_load kind) true (cond (is_entry kind) true z)) e
     ∙ ap (λ z. cond (is_load kind) true z) (either_true (is_entry kind)) ∙ either_true (is_load kind)
 

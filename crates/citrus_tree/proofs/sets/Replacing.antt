@@ -1,5 +1,5 @@
 -- A set's tries, one after another.
-use Rattle.std.proofs.Common.{◌≡◌, ℕ, ◌+◌, ◌-◌, ◌<◌, ◌≤◌, ◌==◌, ◌^◌, cond, List, [], ◌∷◌, ◌++◌, map, Option, Some, None, refl, sym, ap, subst, ◌∙◌, inl, arith, eq-eqb, append-nil}
+use Rattle.std.proofs.Common.{◌≡◌, ℕ, ◌+◌, ◌-◌, ◌<◌, ◌≤◌, ◌==◌, ◌^◌, cond, List, [], ◌∷◌, ◌++◌, map, Option, Some, None, refl, sym, ap, subst, ◌∙◌, inl, arith, eq-eqb, append-nil, inr}
 use Rattle.std.specs.List.{AllByRecursion}
 use Rattle.prcu_marks.specs.declared.mark.Mark.{Mark}
 use Rattle.prcu_marks.specs.declared.mark.Mark.TheVariants.{Entered, Left as LeftMark, Began, Ended, Done, Given, Unlinked, Freed}
@@ -26,6 +26,8 @@ use Rattle.citrus_tree.specs.declared.replace.Replaced.{Replaced}
 use Rattle.citrus_tree.specs.Going.{Goes, MayBegin, Sought, Stores}
 use Rattle.citrus_tree.specs.Gone.{AreTries, IsOfTry, KeepsWait, waits_in}
 use Rattle.citrus_tree.specs.Lookups.{Looked}
+use Rattle.citrus_tree.specs.Beginnings.{BeginsByLookup}
+use Rattle.citrus_tree.proofs.Beginning.{MayHaveBegun, begins_later, begins_looked}
 use Rattle.citrus_tree.specs.Replies.{Sets, WasAnswered}
 use Rattle.citrus_tree.proofs.KeepingWaits.{none_begun}
 use Rattle.citrus_tree.proofs.Leavings.{goes_looked, goes_on, goes_same, goes_stays, was_answered}
@@ -59,6 +61,7 @@ pub record Trying (k : Shape) (op : Op) (v w : View) : Type 0 where
   pub goes : Goes v w marks
   pub each : AllByRecursion (IsOfTry v.allowance.place (key_of op)) marks
   pub none : waits_in marks ≡ 0
+  pub first : MayHaveBegun v (key_of op) w
   pub ready : (kept : ℕ) → kept + 4 ≤ v.allowance.tickets → MayBegin k op kept w
 
 module _ {k : Shape} {key value : ℕ} {v : View} where
@@ -68,6 +71,7 @@ module _ {k : Shape} {key value : ℕ} {v : View} where
     goes = goes_same v;
     each = tt;
     none = refl;
+    first = inl refl;
     ready = λ kept few. record {
       outside = quiet.section;
       unlocked = quiet.locks;
@@ -144,6 +148,9 @@ module _ {k : Shape} {key value : ℕ} {v : View} where
           ∷ (LeftMark w.allowance.place w.counts.sections ∷ [])))
       absent_goes = goes
 
+      pub absent_begins : BeginsByLookup v key x
+      absent_begins = begins_looked t.first l
+
       pub absent_retired : x.hands.retired ≡ v.hands.retired
       absent_retired = goes.retired
 
@@ -167,6 +174,7 @@ module _ {k : Shape} {key value : ℕ} {v : View} where
         goes = goes_stays (goes f.looked) g;
         each = each f.looked;
         none = none f.looked;
+        first = inr (begins_later (begins_looked t.first f.looked) g.gone);
         ready = λ kept enough. may_begin (again kept (locking kept enough));
       }
 
@@ -181,6 +189,9 @@ module _ {k : Shape} {key value : ℕ} {v : View} where
 
         same_place : x.allowance.place ≡ v.allowance.place
         same_place = (goes f.looked).gone.same
+
+        pub stored_begins : BeginsByLookup v key y
+        stored_begins = begins_later (begins_looked t.first f.looked) is_stored.1.goes.gone
 
         pub goes_all : Goes v y ((t.marks ++ (Entered w.allowance.place w.counts.sections key
             ∷ (LeftMark w.allowance.place w.counts.sections ∷ [])))

@@ -180,7 +180,7 @@ module _ {k : Shape} {key kept value s g : ℕ} {v : View} (a : IsAt k (Set key 
 
                 pub is_odd : q.commit ≡ Some (record { found = front; stored = true })
                 is_odd = ap (λ (x : View). x.commit) fourth.goes
-                    ∙ ap (λ (c : Commit). Some (record c { stored = true })) (commit_is o _ (ap (λ (x : View). x.commit) odd))
+                    ∙ ap (λ (c : Commit). Some (record c { stored = true })) (commit_is o _ (ap (λ (x : View). x.commit) odd.rest))
 
                 pub evening : IsAt k (Set key value) kept (at.Even (update.Value s old) front) q
                 evening = passes_store_value storing fourth
@@ -197,7 +197,7 @@ module _ {k : Shape} {key kept value s g : ℕ} {v : View} (a : IsAt k (Set key 
                 module _ {t : View} (even : Closed q t) (unlocking : IsAt k (Set key value) kept
                     (at.Unlock (last.Was old ((front + 2) / 2))) t) where
                   last_lock : HasLocks (s ∷ []) t
-                  last_lock = locks_from {v = q} {w = t} (ap (λ (x : View). map (λ (l : HeldLock). l.slot) x.locks) even)
+                  last_lock = locks_from {v = q} {w = t} (ap (λ (x : View). map (λ (l : HeldLock). l.slot) x.locks) even.rest)
                       (locks_from {v = o} {w = q} (locks_replace fourth) (locks_store_value storing))
 
                   pub lets_go : IsAsked k t (acts.Unlock s)
@@ -210,14 +210,14 @@ module _ {k : Shape} {key kept value s g : ℕ} {v : View} (a : IsAt k (Set key 
                     pub stored : (done : Replaced) → done.old ≡ old → done.number ≡ (front + 2) / 2 → Stores v key value done e
                     stored done old_is number_is =
                         let seen_e : e.seen ≡ h ++ Done (record { caller = v.allowance.place; op = Set key value }) ∷ [] =
-                        ap (λ (x : View). x.seen) fifth.goes ∙ ap (λ (x : View). x.seen) even ∙ seen in
+                        ap (λ (x : View). x.seen) fifth.goes ∙ ap (λ (x : View). x.seen) even.rest ∙ seen in
                         let us : updates_of q.seen ≡ updates_of h ++ record { caller = v.allowance.place; op = Set key value } ∷ [] =
                         ap updates_of seen ∙ updates_of-append h
                         (Done (record { caller = v.allowance.place; op = Set key value }) ∷ []) in
                         let long : length (updates_of q.seen) ≡ length (updates_of h) + 1 =
                         ap length us ∙ length-append (updates_of h) (record { caller = v.allowance.place; op = Set key value } ∷ []) in
                         let counted : front + 2 ≡ 2 * length (updates_of q.seen) =
-                        (fourth.gains.counted).found (record { found = front; stored = false }) (ap (λ (x : View). x.commit) odd) in (
+                        (fourth.gains.counted).found (record { found = front; stored = false }) (ap (λ (x : View). x.commit) odd.rest) in (
                           h,
                           record {
                             goes = goes_stays goes5 (goes_stays (goes_closed even) (goes_unlock fifth));

@@ -8,7 +8,7 @@ ghost use Rattle.core_points.specs.Programs.{deleting, past_even};
 ghost use Rattle.seat_table.specs.Gains.{IsInformed};
 ghost use Rattle.seat_table.specs.Seats.{AreListed, shape_of};
 ghost use Rattle.tree_points.specs.At.{HasLocks, IsAt, IsDone};
-ghost use Rattle.citrus_tree.specs.Deletes.{StandsAt, Comes, KeepsAll, KeepsWaits, HasDone, AreLivesSmall, locked_slots, relinked_at, retired_slots};
+ghost use Rattle.citrus_tree.specs.Deletes.{StandsAt, Comes, KeepsAll, KeepsWaits, HasDone, AreLivesSmall, TakesValue, locked_slots, relinked_at, retired_slots};
 ghost use Rattle.citrus_tree.specs.Gone.{KeepsSlots, retired_marks};
 
 use crate::commit::{close_front, open_front};
@@ -35,6 +35,7 @@ pub(crate) fn bypass<P: Patience, W: WaitPart>(
     ensures done { IfOk result (λ answer. (kept : ℕ) → IsAt (shape_of W.WAY table.now) (Del key) kept (deleting node None) seat.old.view
         → IsDone (shape_of W.WAY table.now) (Del key) kept seat.new.view
         × HasDone seat.old.view (Del key) node.node [] answer seat.new.view) }
+    ensures took { IfOk result (λ answer. TakesValue seat.old.view node.node key answer seat.new.view) }
     ensures listing { IfOk result (λ _. seat.new.listed ≡ seat.old.listed ++ node.node ∷ []) }
     ensures waits { IfOk result (λ _. KeepsWaits seat.old.view seat.new.view) }
     ensures slots { IfOk result (λ _. KeepsSlots seat.old seat.new) }
@@ -72,6 +73,7 @@ fn link_past<P: Patience, W: WaitPart>(
         → IsAt (shape_of W.WAY table.now) (Del key) kept (at.Unlock (last.Gone answer)) seat.new.view) }
     ensures done { IfOk result (λ answer. (kept : ℕ) → IsAt (shape_of W.WAY table.now) (Del key) kept (deleting node None) seat.old.view
         → HasDone seat.old.view (Del key) node.node [] answer seat.new.view) }
+    ensures took { IfOk result (λ answer. TakesValue seat.old.view node.node key answer seat.new.view) }
     ensures locked { IfOk result (λ _. locked_slots seat.new.view ≡ locked_slots seat.old.view) }
     ensures retired { IfOk result (λ _. retired_slots seat.new.view ≡ retired_slots seat.old.view ++ node.node ∷ []) }
     ensures stay { IfOk result (λ _. (later : List (ℕ × ℕ × Bool)) × (retired_marks seat.new.view ≡ retired_marks seat.old.view ++ later)) }

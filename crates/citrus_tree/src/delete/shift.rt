@@ -13,7 +13,7 @@ ghost use Rattle.seat_table.specs.Seats.{AreListed, IsSlotOf, shape_of};
 ghost use Rattle.seat_table.specs.Waits.{HasWaited};
 ghost use Rattle.tree_points.specs.At.{HasLocks, IsAt, IsDone};
 ghost use Rattle.tree_points.specs.Progress.{HasGone};
-ghost use Rattle.citrus_tree.specs.Deletes.{StandsAt, Comes, KeepsAll, KeepsRest, KeepsWaits, HasDeleted, HasCopied, AreLivesSmall, RetiresIf, locked_slots, retired_slots};
+ghost use Rattle.citrus_tree.specs.Deletes.{StandsAt, Comes, KeepsAll, KeepsRest, KeepsWaits, HasDeleted, HasCopied, AreLivesSmall, KeepsValue, RetiresIf, TakesValue, locked_slots, retired_slots};
 ghost use Rattle.citrus_tree.specs.Gone.{KeepsSlots, KeepsWait};
 ghost use Rattle.citrus_tree.specs.Replies.{IsUnlinkedSince};
 
@@ -46,6 +46,7 @@ pub(crate) fn shift<P: Patience, W: WaitPart, G: Gate>(
         (λ number. (kept : ℕ) → IsAt (shape_of W.WAY table.now) (Del key) kept (at.SuccessorKey node successor) seat.old.view
         → IsDone (shape_of W.WAY table.now) (Del key) kept seat.new.view)) }
     ensures deleted { IfOk result (λ answer. IfSome answer (λ number. HasDeleted seat.old.view key number seat.new.view)) }
+    ensures took { IfOk result (λ answer. IfSome answer (λ number. TakesValue seat.old.view node.node key number seat.new.view)) }
     ensures retires { IfOk result (λ answer. RetiresIf seat.old key answer seat.new) }
     ensures again { IfOk result (λ answer. IfNone answer
         (Comes (shape_of W.WAY table.now) (at.SuccessorKey node successor) seat.old.view at.EnterClock seat.new.view)) }
@@ -96,6 +97,7 @@ fn fill_copy<W: WaitPart>(
     ensures at { Comes (shape_of W.WAY table.now) (at.SuccessorKey node successor) seat.old.view
         (at.CopyLock node successor result) seat.new.view }
     ensures spare { IsSlotOf (Some copy) seat.new.view.hands.spare }
+    ensures value { KeepsValue node.node seat.old.view seat.new.view }
     ensures same { KeepsAll seat.old.view seat.new.view }
 {
     let next_key = steps::locked_load(table, seat, successor.slot, Part::Key);
@@ -149,6 +151,7 @@ fn link_copy<P: Patience, W: WaitPart>(
     ensures done { IfOk result (λ answer. (kept : ℕ)
         → IsAt (shape_of W.WAY table.now) (Del key) kept (at.CopyMark node successor next_key) seat.old.view
         → HasCopied seat.old.view key next_key node.node answer seat.new.view) }
+    ensures took { IfOk result (λ answer. TakesValue seat.old.view node.node key answer seat.new.view) }
     ensures locked { IfOk result (λ _. locked_slots seat.new.view ≡ locked_slots seat.old.view) }
     ensures retired { IfOk result (λ _. retired_slots seat.new.view ≡ retired_slots seat.old.view ++ node.node ∷ []) }
     ensures waits { IfOk result (λ _. KeepsWaits seat.old.view seat.new.view) }

@@ -7,7 +7,7 @@ ghost use Rattle.core_points.specs.Programs.{past_left, past_right};
 ghost use Rattle.seat_table.specs.Gains.{IsInformed, StoodInside};
 ghost use Rattle.seat_table.specs.Seats.{shape_of};
 ghost use Rattle.tree_points.specs.At.{IsAt, IsDone};
-ghost use Rattle.citrus_tree.specs.Deletes.{StandsAt, Comes, KeepsAll, HasSearched, walked_to};
+ghost use Rattle.citrus_tree.specs.Deletes.{StandsAt, Comes, OnlyLoads, HasSearched, walked_to};
 ghost use Rattle.citrus_tree.specs.Going.{MayBegin};
 ghost use Rattle.citrus_tree.specs.Replies.{WasAnswered};
 
@@ -67,7 +67,7 @@ fn load_target<P: Patience, W: WaitPart>(
     ensures at { IfOk result (λ answer. Comes (shape_of W.WAY table.now) (at.ParentLife parent side slot) seat.old.view
         (at.Leave (next.Delete answer)) seat.new.view) }
     ensures inside { IfOk result (λ _. StoodInside (shape_of W.WAY table.now) seat.new.view) }
-    ensures same { IfOk result (λ _. KeepsAll seat.old.view seat.new.view) }
+    ensures same { IfOk result (λ _. OnlyLoads seat.old.view seat.new.view) }
 {
     let node = load_node(table, seat, parent, side, slot);
     if node.left == 0 || node.right == 0 {
@@ -97,7 +97,7 @@ fn load_node<W: WaitPart>(
     ensures seat { (seat.new.table ≡ seat.old.table) × (seat.new.listed ≡ seat.old.listed) }
     ensures at { Comes (shape_of W.WAY table.now) (at.ParentLife parent side slot) seat.old.view (past_right result) seat.new.view }
     ensures inside { StoodInside (shape_of W.WAY table.now) seat.new.view }
-    ensures same { KeepsAll seat.old.view seat.new.view }
+    ensures same { OnlyLoads seat.old.view seat.new.view }
 {
     let parent_life = steps::search_load(table, seat, parent, Part::Life);
     let life = steps::search_load(table, seat, slot, Part::Life);
@@ -128,7 +128,7 @@ fn walk<P: Patience, W: WaitPart>(
     ensures at { IfOk result (λ answer. Comes (shape_of W.WAY table.now)
         (at.SuccessorLeft node (walked_to node.node node.right)) seat.old.view
         (past_left node (walked_to answer.0 answer.1) 0) seat.new.view) }
-    ensures same { IfOk result (λ _. KeepsAll seat.old.view seat.new.view) }
+    ensures same { IfOk result (λ _. OnlyLoads seat.old.view seat.new.view) }
 {
     let mut parent = node.node;
     let mut slot = node.right as u32;
@@ -157,7 +157,7 @@ fn load_successor<W: WaitPart>(
     ensures at { Comes (shape_of W.WAY table.now) (past_left node (walked_to parent slot) 0) seat.old.view
         (at.Leave (next.Delete (record { node = node; successor = Some result }))) seat.new.view }
     ensures inside { StoodInside (shape_of W.WAY table.now) seat.new.view }
-    ensures same { KeepsAll seat.old.view seat.new.view }
+    ensures same { OnlyLoads seat.old.view seat.new.view }
 {
     let parent_generation = load_above(table, seat, node, parent, slot);
     let life = steps::search_load(table, seat, slot, Part::Life);
@@ -182,7 +182,7 @@ fn load_above<W: WaitPart>(
     ensures seat { (seat.new.table ≡ seat.old.table) × (seat.new.listed ≡ seat.old.listed) }
     ensures at { Comes (shape_of W.WAY table.now) (past_left node (walked_to parent slot) 0) seat.old.view
         (at.SuccessorLife node (record { parent = parent; slot = slot; parent_generation = result; generation = 0 })) seat.new.view }
-    ensures same { KeepsAll seat.old.view seat.new.view }
+    ensures same { OnlyLoads seat.old.view seat.new.view }
 {
     if parent == node.node {
         return 0;

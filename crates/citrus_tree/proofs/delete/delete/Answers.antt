@@ -2,17 +2,18 @@ use Rattle.core_points.specs.declared.stage.Stage.TheVariants as at
 use Rattle.std.specs.declared.option.Option.TheVariants.{None}
 use Rattle.std.specs.Option.{IfSome, IfNone}
 use Rattle.seat_table.specs.Gains.{IsInformed}
-use Rattle.citrus_tree.specs.Replies.{WasAnswered}
+use Rattle.citrus_tree.specs.Replies.{RetiresInOrder, WasAnswered}
+use Rattle.citrus_tree.specs.declared.delete.TakenOut.{TakenOut}
 use Rattle.citrus_tree.specs.Gone.{KeepsWait}
-use Rattle.citrus_tree.specs.Deletes.{HasDeleted, KeepsRest, RetiresIf}
+use Rattle.citrus_tree.specs.Deletes.{HasDeleted, KeepsRest, TellsTaken}
 use Rattle.core_points.specs.declared.stage.Target.{Target}
 use Rattle.prcu_model.specs.declared.operation.Op.TheVariants.{Del}
 use Rattle.tree_points.specs.At.{IsAt}
 use Rattle.citrus_tree.specs.Going.{MayBegin}
 use Rattle.seat_table.specs.Seats.{shape_of}
 use Rattle.std.specs.declared.option.Option.{Option}
-use Rattle.std.proofs.Common.{refl, ◌∙◌, subst, ℕ}
-use Rattle.citrus_tree.proofs.deletes.Tries.{absent_dels, gone_dels, gone_wait, tried_retires, tries_again, tries_first}
+use Rattle.std.proofs.Common.{refl, ◌∙◌, subst, ℕ, ◌≡◌, true}
+use Rattle.citrus_tree.proofs.deletes.Tries.{absent_begins, absent_dels, gone_begins, gone_dels, gone_wait, tried_retires, tries_again, tries_first, tells_gone}
 use Rattle.citrus_tree.proofs.KeepingSlots.{searched_slots, slots_on, slots_self}
 use Rattle.citrus_tree.proofs.delete.delete.Goals as goal
 
@@ -45,38 +46,38 @@ take_out-requires-clause-at g c = let a = c.requires.at in (
 
 pub returns-in-Some-2-clause-dels : goal.returns-in-Some-2-clause-dels
 returns-in-Some-2-clause-dels g c = gone_dels c.loop.invariant.tries c.in_ok-target.ensures.searched
-    (subst (λ (r : Option ℕ). IfSome r
-    (λ number. HasDeleted c.find_target.new.seat.view c.args.key number c.take_out.new.seat.view)) c.in-Some-2.is
-    c.in_ok-number.ensures.deleted) (subst (λ (r : Option ℕ). IfSome r
-    (λ number. IsInformed c.take_out.new.seat.view)) c.in-Some-2.is c.in_ok-number.ensures.informed)
+    (subst (λ (r : Option TakenOut). IfSome r
+    (λ taken. HasDeleted c.find_target.new.seat.view c.args.key taken.number c.take_out.new.seat.view)) c.in-Some-2.is
+    c.in_ok-taken.ensures.deleted) (subst (λ (r : Option TakenOut). IfSome r
+    (λ _. IsInformed c.take_out.new.seat.view)) c.in-Some-2.is c.in_ok-taken.ensures.informed)
 
 pub returns-in-Some-2-clause-wait : goal.returns-in-Some-2-clause-wait
 returns-in-Some-2-clause-wait g c = gone_wait c.loop.invariant.tries c.in_ok-target.ensures.searched c.take_out.new.seat.view
-    (subst (λ (r : Option ℕ). IfSome r
-    (λ number. KeepsWait c.find_target.new.seat.view c.take_out.new.seat.view)) c.in-Some-2.is c.in_ok-number.ensures.waits)
+    (subst (λ (r : Option TakenOut). IfSome r
+    (λ _. KeepsWait c.find_target.new.seat.view c.take_out.new.seat.view)) c.in-Some-2.is c.in_ok-taken.ensures.waits)
 
 pub loop-preserved : goal.loop-preserved
 loop-preserved g c = record {
   table = c.take_out.ensures.table ∙ c.find_target.ensures.seat.0 ∙ c.loop.invariant.table;
-  listed = c.in_ok-number.ensures.listed;
+  listed = c.in_ok-taken.ensures.listed;
   same = (subst
-      (λ (r : Option ℕ). RetiresIf c.find_target.new.seat c.args.key r c.take_out.new.seat) c.in_default-2.is
-      c.in_ok-number.ensures.retires) ∙ c.find_target.ensures.seat.1 ∙ c.loop.invariant.same;
+      (λ (r : Option TakenOut). IfNone r (c.take_out.new.seat.listed ≡ c.find_target.new.seat.listed)) c.in_default-2.is
+      c.in_ok-taken.ensures.kept) ∙ c.find_target.ensures.seat.1 ∙ c.loop.invariant.same;
   tries = tries_again c.loop.invariant.tries c.in_ok-target.ensures.searched
-      (subst (λ (r : Option ℕ). IfNone r
-      (KeepsRest c.find_target.new.seat.view c.take_out.new.seat.view)) c.in_default-2.is c.in_ok-number.ensures.same)
-      (λ kept a. (subst (λ (r : Option ℕ). IfNone r
+      (subst (λ (r : Option TakenOut). IfNone r
+      (KeepsRest c.find_target.new.seat.view c.take_out.new.seat.view)) c.in_default-2.is c.in_ok-taken.ensures.same)
+      (λ kept a. (subst (λ (r : Option TakenOut). IfNone r
       ((kept : ℕ) → IsAt (shape_of g.W.WaitWords.WAY c.args.table.now) (Del c.args.key) kept
       (at.TargetLock c.in-Some.target 0) c.find_target.new.seat.view
       → IsAt (shape_of g.W.WaitWords.WAY c.args.table.now)
-      (Del c.args.key) kept at.EnterClock c.take_out.new.seat.view)) c.in_default-2.is c.in_ok-number.ensures.again) kept
+      (Del c.args.key) kept at.EnterClock c.take_out.new.seat.view)) c.in_default-2.is c.in_ok-taken.ensures.again) kept
       ((subst (λ (r : Option Target). IfSome r (λ target. (kept : ℕ)
       → MayBegin (shape_of g.W.WaitWords.WAY c.args.table.now) (Del c.args.key) kept c.loop.seat.view
       → IsAt (shape_of g.W.WaitWords.WAY c.args.table.now) (Del c.args.key) kept
       (at.TargetLock target 0) c.find_target.new.seat.view)) c.in-Some.is c.in_ok-target.ensures.found) kept a));
   slots = slots_on c.args.seat.now c.find_target.new.seat c.take_out.new.seat
       (searched_slots c.args.seat.now c.loop.seat c.find_target.new.seat c.args.key c.loop.invariant.slots c.in_ok-target.ensures.searched
-      c.find_target.ensures.seat.1) c.in_ok-number.ensures.slots;
+      c.find_target.ensures.seat.1) c.in_ok-taken.ensures.slots;
 }
 
 pub returns-in_default-clause-slots : goal.returns-in_default-clause-slots
@@ -88,14 +89,32 @@ pub returns-in-Some-2-clause-slots : goal.returns-in-Some-2-clause-slots
 returns-in-Some-2-clause-slots g c =
     slots_on c.args.seat.now c.find_target.new.seat c.take_out.new.seat
     (searched_slots c.args.seat.now c.loop.seat c.find_target.new.seat c.args.key c.loop.invariant.slots c.in_ok-target.ensures.searched
-    c.find_target.ensures.seat.1) c.in_ok-number.ensures.slots
+    c.find_target.ensures.seat.1) c.in_ok-taken.ensures.slots
 
 pub returns-in_default-clause-retires : goal.returns-in_default-clause-retires
 returns-in_default-clause-retires g c = c.find_target.ensures.seat.1 ∙ c.loop.invariant.same
 
 pub returns-in-Some-2-clause-retires : goal.returns-in-Some-2-clause-retires
 returns-in-Some-2-clause-retires g c =
-    tried_retires c.args.seat.now c.loop.seat c.find_target.new.seat c.take_out.new.seat c.in-Some-2.number c.loop.invariant.tries
+    tried_retires c.args.seat.now c.loop.seat c.find_target.new.seat c.take_out.new.seat c.in-Some-2.taken.number c.loop.invariant.tries
     c.in_ok-target.ensures.searched (c.find_target.ensures.seat.1 ∙ c.loop.invariant.same)
-    (subst (λ (r : Option ℕ). RetiresIf c.find_target.new.seat c.args.key r c.take_out.new.seat) c.in-Some-2.is
-    c.in_ok-number.ensures.retires)
+    (subst (λ (r : Option TakenOut). IfSome r
+    (λ taken. RetiresInOrder c.find_target.new.seat c.args.key taken.number c.take_out.new.seat)) c.in-Some-2.is
+    c.in_ok-taken.ensures.retires)
+
+pub returns-in-Some-2-clause-value : goal.returns-in-Some-2-clause-value
+returns-in-Some-2-clause-value g c e =
+    tells_gone c.loop.invariant.tries c.in_ok-target.ensures.searched c.take_out.new.seat.view c.in-Some-2.taken.number
+    c.in-Some-2.taken.value
+    ((subst (λ (r : Option TakenOut). IfSome r (λ taken. c.args.tells_value ≡ true
+    → TellsTaken c.find_target.new.seat.view c.args.key taken.number taken.value c.take_out.new.seat.view)) c.in-Some-2.is
+    c.in_ok-taken.ensures.value) e)
+
+pub returns-in_default-clause-begins : goal.returns-in_default-clause-begins
+returns-in_default-clause-begins g c = absent_begins c.loop.invariant.tries c.in_ok-target.ensures.searched
+
+pub returns-in-Some-2-clause-begins : goal.returns-in-Some-2-clause-begins
+returns-in-Some-2-clause-begins g c = gone_begins c.loop.invariant.tries c.in_ok-target.ensures.searched
+    (subst (λ (r : Option TakenOut). IfSome r
+    (λ taken. HasDeleted c.find_target.new.seat.view c.args.key taken.number c.take_out.new.seat.view)) c.in-Some-2.is
+    c.in_ok-taken.ensures.deleted)

@@ -1,7 +1,7 @@
 use Rattle.std.proofs.Common.{◌<◌, ◌≤◌, length, sym, ap, ◌∙◌, inl, inr, refl, arith}
 use Rattle.node_slots.proofs.Listed.{listed_length}
 use Rattle.tree_points.proofs.Ends.{none_raised}
-use Rattle.citrus_tree.proofs.deletes.Room.{given_spare, ready_at_once, ready_reclaimed, room_reclaimed}
+use Rattle.citrus_tree.proofs.deletes.Room.{given_spare, no_spare, ready_at_once, ready_reclaimed, room_reclaimed, room_same}
 use Rattle.citrus_tree.proofs.KeepingSlots.{slots_reclaimed, slots_self}
 use Rattle.citrus_tree.proofs.delete.make_room.Goals as goal
 
@@ -48,3 +48,20 @@ returns-then-retired-ge15-clause-kept g c = inr c.in_ok-reclaim.ensures.listed
 
 pub returns-then-is_some-clause-kept : goal.returns-then-is_some-clause-kept
 returns-then-is_some-clause-kept g c = inl refl
+
+pub returns-then-is_some-clause-room : goal.returns-then-is_some-clause-room
+returns-then-is_some-clause-room g c = room_same c.args.seat.now.view
+
+pub returns-then-retired-ge15-clause-at_once : goal.returns-then-retired-ge15-clause-at_once
+returns-then-retired-ge15-clause-at_once g c few some =
+    let many = c.if-retired-ge15.true in
+    let same = ap length c.retired.ensures in
+    let long = listed_length c.args.seat.now c.requires.quiet.listed in
+    absurd (omega arith)
+
+pub returns-then-is_some-clause-at_once : goal.returns-then-is_some-clause-at_once
+returns-then-is_some-clause-at_once g c few some = refl
+
+pub returns-clause-at_once : goal.returns-clause-at_once
+returns-clause-at_once g c few some = absurd (some (no_spare c.spare.result c.args.seat.now.view.hands.spare c.spare.ensures
+    (sym c.is_some.ensures ∙ c.if-is_some.false)))

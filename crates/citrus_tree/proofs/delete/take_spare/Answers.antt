@@ -1,7 +1,7 @@
 use Rattle.seat_table.specs.Seats.{shape_of}
 use Rattle.node_slots.specs.Taking.{Takes}
 use Rattle.node_slots.specs.declared.answers.Taken.{Taken}
-use Rattle.node_slots.proofs.Points.{none_retired_now}
+use Rattle.node_slots.proofs.Points.{none_retired_now, tries_further}
 use Rattle.citrus_tree.proofs.sets.Replacing.{listed_on}
 use Rattle.citrus_tree.proofs.deletes.Room.{may_reclaim_spare, ready_kept, ready_spare, room_kept, room_spare}
 use Rattle.std.proofs.Common.{[], ap, ◌∙◌, inl, inr, subst}
@@ -29,7 +29,7 @@ returns-in-Slot-clause-room g c =
     room_kept c.requires.quiet.view c.requires.few c.requires.none
     (subst (λ (r : Taken). Takes
     (shape_of g.W.WaitWords.WAY c.args.table.now) c.args.seat.now.view r c.take.new.seat.view) c.in-Slot.is c.in_ok-slot.ensures.view)
-    c.keep_as_spare.ensures.told
+    c.keep_as_spare.ensures.told (tries_further _ _ _ _ _ _ c.in_ok-slot.ensures.tries)
 
 pub returns-in_ok-reclaim-in-Empty-clause-at : goal.returns-in_ok-reclaim-in-Empty-clause-at
 returns-in_ok-reclaim-in-Empty-clause-at g c =
@@ -49,7 +49,7 @@ returns-in_ok-reclaim-in-Empty-clause-room g c =
     (listed_on c.args.seat.now c.take.new.seat c.take.ensures.seat.1
     (none_retired_now (subst (λ (r : Taken). Takes
     (shape_of g.W.WaitWords.WAY c.args.table.now) c.args.seat.now.view r c.take.new.seat.view) c.in-Empty.is c.in_ok-slot.ensures.view))
-    c.requires.quiet.listed).each c.in_ok-reclaim-in-Empty.ensures.view
+    c.requires.quiet.listed).each c.in_ok-reclaim-in-Empty.ensures.view (tries_further _ _ _ _ _ _ c.in_ok-slot.ensures.tries)
 
 pub returns-in-Slot-clause-slots : goal.returns-in-Slot-clause-slots
 returns-in-Slot-clause-slots g c =
@@ -68,7 +68,8 @@ returns-in_ok-reclaim-in-Empty-clause-slots g c =
     (slots_goes c.args.seat.now c.take.new.seat []
     (goes_none (subst
     (λ (r : Taken). Takes
-    (shape_of g.W.WaitWords.WAY c.args.table.now) c.args.seat.now.view r c.take.new.seat.view) c.in-Empty.is c.in_ok-slot.ensures.view))
+    (shape_of g.W.WaitWords.WAY c.args.table.now) c.args.seat.now.view r c.take.new.seat.view) c.in-Empty.is c.in_ok-slot.ensures.view)
+    (tries_further _ _ _ _ _ _ c.in_ok-slot.ensures.tries))
     c.take.ensures.seat.1) (slots_reclaimed c.take.new.seat c.reclaim.new.seat c.in_ok-reclaim-in-Empty.ensures.view)
 
 pub returns-in-Slot-clause-kept : goal.returns-in-Slot-clause-kept

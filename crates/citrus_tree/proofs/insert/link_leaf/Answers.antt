@@ -1,6 +1,6 @@
 use Rattle.std.proofs.Common.{◌≡◌, ℕ, ◌∙◌}
 use Rattle.prcu_model.specs.declared.operation.Op.TheVariants.{Put}
-use Rattle.citrus_tree.proofs.puts.Linking.{checking, fails_at, holds_at, settled_leaf, unpaid_leaf, hand_locked, gives_up_lock, again_at, stores_leaf, evening, lets_go, done_at, links}
+use Rattle.citrus_tree.proofs.puts.Linking.{checking, fails_at, holds_at, settled_leaf, unpaid_leaf, hand_locked, gives_up_lock, again_at, again_goes, stores_leaf, evening, lets_go, done_at, links}
 use Rattle.citrus_tree.proofs.insert.link_leaf.Goals as goal
 
 pub still_holds-requires-clause-at : goal.still_holds-requires-clause-at
@@ -70,3 +70,9 @@ returns-clause-at g c kept a =
     (c.close_front-number.ensures.at _ _ _ (evening a c.lock.ensures.told c.still_holds.ensures.goes c.in_ok-front.ensures.opened storing
     c.args.leaf hand c.link_leaf.ensures.told))
     c.unlock-2.ensures.told
+
+pub returns-then-not-still_holds-clause-again : goal.returns-then-not-still_holds-clause-again
+returns-then-not-still_holds-clause-again g c _ =
+    again_goes c.requires.at.1 c.lock.ensures.told c.still_holds.ensures.goes c.still_holds.ensures.locked
+    (fails_at c.args.spot c.still_holds.result c.if-not-still_holds.true
+    (c.still_holds.ensures.at _ _ (checking c.requires.at.1 c.lock.ensures.told c.if-lock-ne0.false))) c.unlock.ensures.told

@@ -8,7 +8,7 @@ use Rattle.std.proofs.Common.{[], refl, sym, subst, ◌∙◌}
 use Rattle.prcu_model.specs.declared.operation.Told.{Told}
 use Rattle.seat_table.specs.Seats.{shape_of}
 use Rattle.citrus_tree.specs.Replies.{Puts}
-use Rattle.citrus_tree.proofs.puts.Inserting.{begins, outside, unlocked, may_give_up, old_retired, old_puts, old_allowance, old_wait, old_quiet, old_tickets, may_take_leaf, spot_retired, full_puts, full_allowance, full_wait, full_quiet, full_tickets, may_link, tries_again, new_goes, new_puts, new_retired, new_allowance, new_wait, new_quiet, new_tickets}
+use Rattle.citrus_tree.proofs.puts.Inserting.{begins, outside, unlocked, may_give_up, old_retired, old_puts, old_allowance, old_begins, old_wait, old_quiet, old_tickets, may_take_leaf, spot_retired, full_puts, full_allowance, full_begins, full_wait, full_quiet, full_tickets, may_link, tries_again, new_goes, new_puts, new_retired, new_allowance, new_begins, new_wait, new_quiet, new_tickets}
 use Rattle.citrus_tree.proofs.sets.Replacing.{listed_on}
 use Rattle.citrus_tree.proofs.KeepingSlots.{goes_slots, slots_on, slots_self}
 use Rattle.citrus_tree.proofs.Leavings.{goes_looked}
@@ -253,6 +253,28 @@ returns-in_default-2-clause-allowance g c =
 
 pub returns-in-Some-3-clause-allowance : goal.returns-in-Some-3-clause-allowance
 returns-in-Some-3-clause-allowance g c = new_allowance c.loop.invariant.tries c.requires.tickets c.in_ok-spot.ensures.place c.in-Some.spot
+    (subst (λ (r : Option Spot). Searched
+    (shape_of g.W.WaitWords.WAY c.args.table.now) c.loop.seat.view c.args.key r c.find_spot.new.seat.view) c.in-Some.is
+    c.in_ok-spot.ensures.searched) c.in_ok-leaf.ensures.room
+    (λ kept spot a. subst (λ r. IsAt (shape_of g.W.WaitWords.WAY c.args.table.now) (Put c.args.key c.args.value) kept
+    (filled_stage r spot) c.leaf_in_hand.new.seat.view) c.in-Some-2.is (c.in_ok-leaf.ensures.at kept spot a)) c.in-Some-3.number
+    (λ kept number a e. c.in_ok-number.ensures.linked kept number a (c.in-Some-3.is ∙ e))
+
+pub returns-in_default-clause-begins : goal.returns-in_default-clause-begins
+returns-in_default-clause-begins g c = old_begins c.loop.invariant.tries c.requires.tickets c.in_ok-spot.ensures.place
+    (subst (λ (r : Option Spot). Searched
+    (shape_of g.W.WaitWords.WAY c.args.table.now) c.loop.seat.view c.args.key r c.find_spot.new.seat.view) c.in_default.is
+    c.in_ok-spot.ensures.searched) c.give_up_leaf.ensures.goes
+
+pub returns-in_default-2-clause-begins : goal.returns-in_default-2-clause-begins
+returns-in_default-2-clause-begins g c =
+    full_begins c.loop.invariant.tries c.requires.tickets c.in_ok-spot.ensures.place c.in-Some.spot
+    (subst (λ (r : Option Spot). Searched
+    (shape_of g.W.WaitWords.WAY c.args.table.now) c.loop.seat.view c.args.key r c.find_spot.new.seat.view) c.in-Some.is
+    c.in_ok-spot.ensures.searched) c.in_ok-leaf.ensures.room
+
+pub returns-in-Some-3-clause-begins : goal.returns-in-Some-3-clause-begins
+returns-in-Some-3-clause-begins g c = new_begins c.loop.invariant.tries c.requires.tickets c.in_ok-spot.ensures.place c.in-Some.spot
     (subst (λ (r : Option Spot). Searched
     (shape_of g.W.WaitWords.WAY c.args.table.now) c.loop.seat.view c.args.key r c.find_spot.new.seat.view) c.in-Some.is
     c.in_ok-spot.ensures.searched) c.in_ok-leaf.ensures.room

@@ -5,7 +5,7 @@ use Rattle.core_state.specs.declared.view.View.{View}
 use Rattle.std.proofs.Common.{ap, sym, ◌∙◌, inl, inr, subst}
 use Rattle.citrus_tree.proofs.puts.Filling.{goes_taken, goes_none, nothing_retired, something_retired, empty_is, empty_not, is_full_now, room_goes, reuses, reserves_again}
 use Rattle.citrus_tree.proofs.sets.Replacing.{listed_on}
-use Rattle.node_slots.proofs.Points.{none_ends, none_retired_now, takes_leaf}
+use Rattle.node_slots.proofs.Points.{none_ends, none_retired_now, takes_leaf, tries_further}
 use Rattle.std.proofs.Common.{[]}
 use Rattle.citrus_tree.proofs.KeepingSlots.{goes_slots, slots_goes, slots_on, slots_reclaimed}
 use Rattle.citrus_tree.proofs.insert.take_slot.Goals as goal
@@ -13,7 +13,8 @@ use Rattle.citrus_tree.proofs.insert.take_slot.Goals as goal
 pub returns-in-Slot-clause-room : goal.returns-in-Slot-clause-room
 returns-in-Slot-clause-room g c = inl (goes_taken
     (subst (λ (r : Taken). Takes
-    (shape_of g.W.WaitWords.WAY c.args.table.now) c.args.seat.now.view r c.take.new.seat.view) c.in-Slot.is c.in_ok-slot.ensures.view))
+    (shape_of g.W.WaitWords.WAY c.args.table.now) c.args.seat.now.view r c.take.new.seat.view) c.in-Slot.is c.in_ok-slot.ensures.view)
+    (tries_further _ _ _ _ _ _ c.in_ok-slot.ensures.tries))
 
 pub returns-in-Slot-clause-at : goal.returns-in-Slot-clause-at
 returns-in-Slot-clause-at g c spot expected op kept a =
@@ -24,7 +25,8 @@ returns-in-Slot-clause-at g c spot expected op kept a =
 pub returns-then-is_empty-clause-room : goal.returns-then-is_empty-clause-room
 returns-then-is_empty-clause-room g c = inl (goes_none
     (subst (λ (r : Taken). Takes
-    (shape_of g.W.WaitWords.WAY c.args.table.now) c.args.seat.now.view r c.take.new.seat.view) c.in_default.is c.in_ok-slot.ensures.view))
+    (shape_of g.W.WaitWords.WAY c.args.table.now) c.args.seat.now.view r c.take.new.seat.view) c.in_default.is c.in_ok-slot.ensures.view)
+    (tries_further _ _ _ _ _ _ c.in_ok-slot.ensures.tries))
 
 pub returns-then-is_empty-clause-full : goal.returns-then-is_empty-clause-full
 returns-then-is_empty-clause-full g c e =
@@ -46,7 +48,8 @@ returns-in-Empty-clause-full g c e =
     c.in_default.is c.in_ok-slot.ensures.view in
     let second = subst (λ (r : Taken). Takes (shape_of g.W.WaitWords.WAY c.args.table.now) c.reclaim.new.seat.view r c.take-2.new.seat.view)
     c.in-Empty.is c.in_ok-slot-2.ensures.view in
-    let vain = subst (λ (r : Taken). TriesBy (shape_of g.W.WaitWords.WAY c.args.table.now) c.reclaim.new.seat.view c.reclaim.new.seat.looked r
+    let vain = subst (λ (r : Taken). TriesBy
+    (shape_of g.W.WaitWords.WAY c.args.table.now) c.reclaim.new.seat.view c.reclaim.new.seat.looked r
     c.take-2.new.seat.view c.take-2.new.seat.looked) c.in-Empty.is c.in_ok-slot-2.ensures.tries in
     let listed = listed_on c.args.seat.now c.take.new.seat c.take.ensures.seat.1 (none_retired_now first) c.requires.listed in
     let some = something_retired c.take.new.seat listed
@@ -64,11 +67,11 @@ returns-in-Slot-2-clause-room g c =
     (λ none. empty_not c.retired.result.now (sym c.is_empty.ensures ∙ c.if-is_empty.false) (c.retired.ensures ∙ none)) in
     room_goes (inr (reuses (subst (λ (r : Taken). Takes
     (shape_of g.W.WaitWords.WAY c.args.table.now) c.args.seat.now.view r c.take.new.seat.view) c.in_default.is
-    c.in_ok-slot.ensures.view) some c.in_ok-reclaim.ensures.view c.requires.at.2.2))
+    c.in_ok-slot.ensures.view) some c.in_ok-reclaim.ensures.view (tries_further _ _ _ _ _ _ c.in_ok-slot.ensures.tries) c.requires.at.2.2))
     (goes_taken (subst
     (λ (r : Taken). Takes
     (shape_of g.W.WaitWords.WAY c.args.table.now) c.reclaim.new.seat.view r c.take-2.new.seat.view) c.in-Slot-2.is
-    c.in_ok-slot-2.ensures.view))
+    c.in_ok-slot-2.ensures.view) (tries_further _ _ _ _ _ _ c.in_ok-slot-2.ensures.tries))
 
 pub returns-in-Slot-2-clause-at : goal.returns-in-Slot-2-clause-at
 returns-in-Slot-2-clause-at g c spot expected op kept a =
@@ -96,11 +99,11 @@ returns-in-Empty-clause-room g c =
     (λ none. empty_not c.retired.result.now (sym c.is_empty.ensures ∙ c.if-is_empty.false) (c.retired.ensures ∙ none)) in
     room_goes (inr (reuses (subst (λ (r : Taken). Takes
     (shape_of g.W.WaitWords.WAY c.args.table.now) c.args.seat.now.view r c.take.new.seat.view) c.in_default.is
-    c.in_ok-slot.ensures.view) some c.in_ok-reclaim.ensures.view c.requires.at.2.2))
+    c.in_ok-slot.ensures.view) some c.in_ok-reclaim.ensures.view (tries_further _ _ _ _ _ _ c.in_ok-slot.ensures.tries) c.requires.at.2.2))
     (goes_none (subst
     (λ (r : Taken). Takes
     (shape_of g.W.WaitWords.WAY c.args.table.now) c.reclaim.new.seat.view r c.take-2.new.seat.view) c.in-Empty.is
-    c.in_ok-slot-2.ensures.view))
+    c.in_ok-slot-2.ensures.view) (tries_further _ _ _ _ _ _ c.in_ok-slot-2.ensures.tries))
 
 pub returns-in-Empty-clause-at : goal.returns-in-Empty-clause-at
 returns-in-Empty-clause-at g c spot expected op kept a =
@@ -122,14 +125,16 @@ pub returns-in-Slot-clause-slots : goal.returns-in-Slot-clause-slots
 returns-in-Slot-clause-slots g c = slots_goes c.args.seat.now c.take.new.seat []
     (goes_taken (subst
     (λ (r : Taken). Takes
-    (shape_of g.W.WaitWords.WAY c.args.table.now) c.args.seat.now.view r c.take.new.seat.view) c.in-Slot.is c.in_ok-slot.ensures.view))
+    (shape_of g.W.WaitWords.WAY c.args.table.now) c.args.seat.now.view r c.take.new.seat.view) c.in-Slot.is c.in_ok-slot.ensures.view)
+    (tries_further _ _ _ _ _ _ c.in_ok-slot.ensures.tries))
     c.take.ensures.seat.1
 
 pub returns-then-is_empty-clause-slots : goal.returns-then-is_empty-clause-slots
 returns-then-is_empty-clause-slots g c = slots_goes c.args.seat.now c.take.new.seat []
     (goes_none (subst
     (λ (r : Taken). Takes
-    (shape_of g.W.WaitWords.WAY c.args.table.now) c.args.seat.now.view r c.take.new.seat.view) c.in_default.is c.in_ok-slot.ensures.view))
+    (shape_of g.W.WaitWords.WAY c.args.table.now) c.args.seat.now.view r c.take.new.seat.view) c.in_default.is c.in_ok-slot.ensures.view)
+    (tries_further _ _ _ _ _ _ c.in_ok-slot.ensures.tries))
     c.take.ensures.seat.1
 
 pub returns-in-Slot-2-clause-slots : goal.returns-in-Slot-2-clause-slots
@@ -139,13 +144,13 @@ returns-in-Slot-2-clause-slots g c =
     (goes_none (subst
     (λ (r : Taken). Takes
     (shape_of g.W.WaitWords.WAY c.args.table.now) c.args.seat.now.view r c.take.new.seat.view) c.in_default.is
-    c.in_ok-slot.ensures.view)) c.take.ensures.seat.1)
+    c.in_ok-slot.ensures.view) (tries_further _ _ _ _ _ _ c.in_ok-slot.ensures.tries)) c.take.ensures.seat.1)
     (slots_reclaimed c.take.new.seat c.reclaim.new.seat c.in_ok-reclaim.ensures.view) in
     goes_slots c.args.seat.now c.reclaim.new.seat c.take-2.new.seat [] back
     (goes_taken (subst
     (λ (r : Taken). Takes
     (shape_of g.W.WaitWords.WAY c.args.table.now) c.reclaim.new.seat.view r c.take-2.new.seat.view) c.in-Slot-2.is
-    c.in_ok-slot-2.ensures.view)) c.take-2.ensures.seat.1
+    c.in_ok-slot-2.ensures.view) (tries_further _ _ _ _ _ _ c.in_ok-slot-2.ensures.tries)) c.take-2.ensures.seat.1
 
 pub returns-in-Empty-clause-slots : goal.returns-in-Empty-clause-slots
 returns-in-Empty-clause-slots g c =
@@ -154,10 +159,10 @@ returns-in-Empty-clause-slots g c =
     (goes_none (subst
     (λ (r : Taken). Takes
     (shape_of g.W.WaitWords.WAY c.args.table.now) c.args.seat.now.view r c.take.new.seat.view) c.in_default.is
-    c.in_ok-slot.ensures.view)) c.take.ensures.seat.1)
+    c.in_ok-slot.ensures.view) (tries_further _ _ _ _ _ _ c.in_ok-slot.ensures.tries)) c.take.ensures.seat.1)
     (slots_reclaimed c.take.new.seat c.reclaim.new.seat c.in_ok-reclaim.ensures.view) in
     goes_slots c.args.seat.now c.reclaim.new.seat c.take-2.new.seat [] back
     (goes_none (subst
     (λ (r : Taken). Takes
     (shape_of g.W.WaitWords.WAY c.args.table.now) c.reclaim.new.seat.view r c.take-2.new.seat.view) c.in-Empty.is
-    c.in_ok-slot-2.ensures.view)) c.take-2.ensures.seat.1
+    c.in_ok-slot-2.ensures.view) (tries_further _ _ _ _ _ _ c.in_ok-slot-2.ensures.tries)) c.take-2.ensures.seat.1

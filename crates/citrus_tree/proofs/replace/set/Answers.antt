@@ -8,7 +8,7 @@ use Rattle.std.specs.declared.option.Option.{Option}
 use Rattle.std.proofs.Common.{refl, sym, subst, ◌∙◌, ℕ}
 use Rattle.prcu_model.specs.declared.operation.Told.{Told}
 use Rattle.citrus_tree.specs.Replies.{Sets}
-use Rattle.citrus_tree.proofs.sets.Replacing.{absent_goes, begins, absent_sets, goes_all, may_store, tries_again, stored_sets, stored_quiet, stored_retired, stored_wait, stored_tickets, listed_on}
+use Rattle.citrus_tree.proofs.sets.Replacing.{absent_begins, absent_goes, begins, absent_sets, goes_all, may_store, tries_again, stored_begins, stored_sets, stored_quiet, stored_retired, stored_wait, stored_tickets, listed_on}
 use Rattle.citrus_tree.proofs.KeepingSlots.{slots_goes}
 use Rattle.citrus_tree.proofs.replace.set.Goals as goal
 
@@ -119,3 +119,17 @@ returns-in-Some-2-clause-allowance g c = (goes_all c.loop.invariant.tries c.requ
     c.in_ok-holder.ensures.sought) (λ (kept : ℕ) (done : Replaced) a e. c.in_ok-done.ensures.stored kept done a (c.in-Some-2.is ∙ e))
     (λ (kept : ℕ) a. subst (λ (r : Option Replaced). IsAt (shape_of g.W.WaitWords.WAY c.args.table.now) (Set c.args.key c.args.value) kept
     (set_stage r) c.store_value.new.seat.view) c.in-Some-2.is (c.in_ok-done.ensures.at kept a))).gone.allowance
+
+pub returns-in_default-clause-begins : goal.returns-in_default-clause-begins
+returns-in_default-clause-begins g c = absent_begins c.loop.invariant.tries c.requires.tickets
+    (subst (λ (r : Option Holder). Sought
+    (shape_of g.W.WaitWords.WAY c.args.table.now) c.loop.seat.view c.args.key r c.find_holder.new.seat.view) c.in_default.is
+    c.in_ok-holder.ensures.sought)
+
+pub returns-in-Some-2-clause-begins : goal.returns-in-Some-2-clause-begins
+returns-in-Some-2-clause-begins g c = stored_begins c.loop.invariant.tries c.requires.tickets c.in_ok-holder.ensures.place
+    (subst (λ (r : Option Holder). Sought
+    (shape_of g.W.WaitWords.WAY c.args.table.now) c.loop.seat.view c.args.key r c.find_holder.new.seat.view) c.in-Some.is
+    c.in_ok-holder.ensures.sought) (λ (kept : ℕ) (done : Replaced) a e. c.in_ok-done.ensures.stored kept done a (c.in-Some-2.is ∙ e))
+    (λ (kept : ℕ) a. subst (λ (r : Option Replaced). IsAt (shape_of g.W.WaitWords.WAY c.args.table.now) (Set c.args.key c.args.value) kept
+    (set_stage r) c.store_value.new.seat.view) c.in-Some-2.is (c.in_ok-done.ensures.at kept a))

@@ -5,10 +5,11 @@ use Rattle.core_state.specs.declared.view.View.{View}
 use Rattle.seat_table.specs.Seats.{shape_of}
 use Rattle.tree_points.specs.At.{IsDone}
 use Rattle.tree_points.proofs.Locking.{needs_unlock, passes_unlock, passes_unlock_gone}
-use Rattle.citrus_tree.specs.Deletes.{HasDone, retired_slots}
+use Rattle.citrus_tree.specs.Deletes.{HasDone, TakesValue, retired_slots}
 use Rattle.citrus_tree.proofs.deletes.Keeping.{keeps_rest, rest_unlock, same_locks, no_lock}
 use Rattle.citrus_tree.proofs.deletes.Lists.{in_slots, now_retired, yet_unlisted, listed_more, few_listed}
 use Rattle.citrus_tree.proofs.deletes.Updates.{done_still}
+use Rattle.citrus_tree.proofs.deletes.Values.{takes_more}
 use Rattle.citrus_tree.proofs.KeepingSlots.{slots_more}
 use Rattle.citrus_tree.specs.Gone.{retired_marks}
 use Rattle.citrus_tree.proofs.delete.bypass.bypass.Goals as goal
@@ -97,3 +98,12 @@ returns-clause-slots g c =
 pub returns-clause-listing : goal.returns-clause-listing
 returns-clause-listing g c = c.list_retired.ensures.listed
     ∙ ap (λ xs. xs ++ c.args.node.node ∷ []) ((c.unlock-2.ensures.seat).1 ∙ (c.unlock.ensures.seat).1 ∙ (c.link_past.ensures.seat).1)
+
+pub returns-clause-took : goal.returns-clause-took
+returns-clause-took g c =
+    let k = (shape_of g.W.WaitWords.WAY c.args.table.now) in
+    let rest = keeps_rest c.link_past.new.seat.view c.unlock.new.seat.view c.unlock-2.new.seat.view
+    (rest_unlock k _ _ _ _ c.unlock.ensures.told) (rest_unlock k _ _ _ _ c.unlock-2.ensures.told) in
+    subst (λ (x : View). TakesValue c.args.seat.now.view c.args.node.node c.args.key c.in_ok-number.number x)
+    (sym (c.list_retired.ensures.seat).1)
+    (takes_more c.unlock-2.new.seat.view rest.gone.begins c.in_ok-number.ensures.took)

@@ -6,10 +6,11 @@ use Rattle.core_points.specs.declared.stage.Update.TheVariants as update
 use Rattle.seat_table.specs.Seats.{shape_of}
 use Rattle.tree_points.specs.At.{IsAt}
 use Rattle.tree_points.proofs.Updating.{needs_mark, needs_store_bypass, passes_store_bypass}
-use Rattle.citrus_tree.specs.Deletes.{HasDone}
+use Rattle.citrus_tree.specs.Deletes.{HasDone, TakesValue}
 use Rattle.citrus_tree.proofs.deletes.Bypasses.{child_is, marked, opened_keeps, closed_keeps, half_two}
 use Rattle.citrus_tree.proofs.deletes.Keeping.{keeps_on, keeps_mark}
-use Rattle.citrus_tree.proofs.deletes.Updates.{bypass_stay, bypass_done, bypass_locked, done_later, done_still}
+use Rattle.citrus_tree.proofs.deletes.Updates.{bypass_stay, bypass_done, bypass_locked, bypass_takes, done_later, done_still}
+use Rattle.citrus_tree.proofs.deletes.Values.{takes_more, takes_since, value_mark, value_on, value_opened}
 use Rattle.citrus_tree.proofs.delete.bypass.link_past.Goals as goal
 
 pub mark-requires-clause-asks : goal.mark-requires-clause-asks
@@ -85,3 +86,23 @@ returns-clause-stay g c =
           ((opened_keeps c.mark.new.seat.view c.open_front.new.seat.view c.in_ok-front.front c.in_ok-front.ensures.opened).stay
           ∙ (keeps_mark k _ _ _ _ _ c.mark.ensures.told).stay),
     )
+
+pub returns-clause-took : goal.returns-clause-took
+returns-clause-took g c =
+    let k = (shape_of g.W.WaitWords.WAY c.args.table.now) in
+    let a = c.requires.at in
+    let child = child_is c.args.node c.slot_of-child.ensures c.only_child.ensures a.1 c.mark.ensures.told in
+    let u = update.Bypass c.args.node c.slot_of-child.result in
+    let stored = c.in_ok-front.ensures.at (Del c.args.key) a.0 0 u
+    (marked c.args.node c.slot_of-child.result child a.1 c.mark.ensures.told) in
+    let first = keeps_on _ _ _ (keeps_mark k _ _ _ _ _ c.mark.ensures.told)
+    (opened_keeps c.mark.new.seat.view c.open_front.new.seat.view c.in_ok-front.front c.in_ok-front.ensures.opened) in
+    let later = keeps_on _ _ _ (closed_keeps c.bypass.new.seat.view c.close_front-number.new.seat.view
+    c.close_front-number.ensures.closed) c.settle_side.ensures.same in
+    subst (λ n. TakesValue c.args.seat.now.view c.args.node.node c.args.key n c.settle_side.new.seat.view)
+    (half_two c.in_ok-front.front ∙ sym c.close_front-number.ensures.number)
+    (takes_more _ later.gone.begins
+    (takes_since first.gone (value_on (value_mark c.args.node.node _ c.args.node.node c.mark.ensures.told)
+    (value_opened c.args.node.node c.in_ok-front.front _ _ c.in_ok-front.ensures.opened))
+    (bypass_takes k c.args.key a.0 c.args.node c.slot_of-child.result c.in_ok-front.front _ c.open_front.new.seat.view
+    c.bypass.new.seat.view stored c.bypass.ensures.told)))

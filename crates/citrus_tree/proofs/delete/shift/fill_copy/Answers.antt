@@ -1,4 +1,4 @@
-use Rattle.citrus_tree.proofs.deletes.Copies.{loads_key, loads_value, copies_key, copies_value, copies_left, copies_right, loads_age, copied_at, copied_spare, copied_same}
+use Rattle.citrus_tree.proofs.deletes.Copies.{loads_key, loads_value, copies_key, copies_value, copies_left, copies_right, loads_age, copied_at, copied_spare, copied_same, copied_value}
 use Rattle.citrus_tree.proofs.delete.shift.fill_copy.Goals as goal
 
 pub locked_load-next_key-requires-clause-asks : goal.locked_load-next_key-requires-clause-asks
@@ -44,4 +44,9 @@ returns-clause-spare g c =
 pub returns-clause-same : goal.returns-clause-same
 returns-clause-same g c =
     copied_same c.args.copy c.requires.spare c.requires.at.2 c.locked_load-next_key.ensures.told c.locked_load-value.ensures.told
+    c.fill.ensures.told c.fill-2.ensures.told c.fill-3.ensures.told c.fill-4.ensures.told c.load_own_life.ensures.told
+
+pub returns-clause-value : goal.returns-clause-value
+returns-clause-value g c =
+    copied_value c.args.copy c.requires.spare c.requires.at.2 c.locked_load-next_key.ensures.told c.locked_load-value.ensures.told
     c.fill.ensures.told c.fill-2.ensures.told c.fill-3.ensures.told c.fill-4.ensures.told c.load_own_life.ensures.told

@@ -7,11 +7,12 @@ use Rattle.seat_table.specs.Seats.{shape_of}
 use Rattle.tree_points.specs.At.{IsAt}
 use Rattle.tree_points.proofs.Holding.{needs_copy_mark, passes_copy_mark}
 use Rattle.tree_points.proofs.Updating.{needs_store_copy, passes_store_copy}
-use Rattle.citrus_tree.specs.Deletes.{HasCopied}
+use Rattle.citrus_tree.specs.Deletes.{HasCopied, TakesValue}
 use Rattle.citrus_tree.proofs.deletes.Bypasses.{opened_keeps, closed_keeps, half_two}
 use Rattle.citrus_tree.proofs.deletes.Keeping.{keeps_on, keeps_mark}
 use Rattle.citrus_tree.proofs.deletes.Shifts.{copy_paid, copy_odd}
-use Rattle.citrus_tree.proofs.deletes.Updates.{copy_made, copy_locked, copied_later, copied_still}
+use Rattle.citrus_tree.proofs.deletes.Updates.{copy_made, copy_locked, copy_takes, copied_later, copied_still}
+use Rattle.citrus_tree.proofs.deletes.Values.{takes_more, takes_since, value_mark, value_on, value_opened}
 use Rattle.citrus_tree.proofs.delete.shift.link_copy.Goals as goal
 
 pub mark-requires-clause-asks : goal.mark-requires-clause-asks
@@ -73,3 +74,19 @@ returns-clause-locked g c =
     ∙ copy_locked k _ _ _ _ _ _ _ _ _ _ _ c.link_copy.ensures.told
     ∙ (opened_keeps c.mark.new.seat.view c.open_front.new.seat.view c.in_ok-front.front c.in_ok-front.ensures.opened).locked
     ∙ (keeps_mark k _ _ _ _ _ c.mark.ensures.told).locked
+
+pub returns-clause-took : goal.returns-clause-took
+returns-clause-took g c =
+    let k = (shape_of g.W.WaitWords.WAY c.args.table.now) in
+    let a = c.requires.at in
+    let u = update.Copy c.args.node c.args.successor c.args.next_key c.args.copy in
+    let stored = c.in_ok-front.ensures.at (Del c.args.key) a.0 0 u (passes_copy_mark c.requires.spare a.1 c.mark.ensures.told 0 refl) in
+    let first = keeps_on _ _ _ (keeps_mark k _ _ _ _ _ c.mark.ensures.told)
+    (opened_keeps c.mark.new.seat.view c.open_front.new.seat.view c.in_ok-front.front c.in_ok-front.ensures.opened) in
+    subst (λ n. TakesValue c.args.seat.now.view c.args.node.node c.args.key n c.close_front.new.seat.view)
+    (half_two c.in_ok-front.front ∙ sym c.close_front.ensures.number)
+    (takes_more _ (closed_keeps c.link_copy.new.seat.view c.close_front.new.seat.view c.close_front.ensures.closed).gone.begins
+    (takes_since first.gone (value_on (value_mark c.args.node.node _ c.args.node.node c.mark.ensures.told)
+    (value_opened c.args.node.node c.in_ok-front.front _ _ c.in_ok-front.ensures.opened))
+    (copy_takes k c.args.key a.0 c.args.node c.args.successor c.args.next_key c.args.copy c.in_ok-front.front _
+    c.open_front.new.seat.view c.link_copy.new.seat.view stored c.link_copy.ensures.told)))

@@ -12,6 +12,7 @@ use Rattle.citrus_tree.proofs.deletes.Pieces.{few_moved, one_listed, move_delete
 use Rattle.citrus_tree.proofs.KeepingSlots.{slots_later, slots_rest}
 use Rattle.citrus_tree.proofs.KeepingWaits.{none_begun, wait_later}
 use Rattle.citrus_tree.proofs.deletes.Retiring.{retires_before, two_retired}
+use Rattle.citrus_tree.proofs.deletes.Values.{copy_aside, takes_more, takes_since, value_lock, value_on}
 use Rattle.citrus_tree.proofs.delete.shift.shift.Goals as goal
 
 pub lock-requires-clause-asks : goal.lock-requires-clause-asks
@@ -142,3 +143,13 @@ returns-clause-retires g c =
     (inl (c.lock.ensures.seat.1 ∙ c.fill_copy-next_key.ensures.seat.1))
     (two_retired c.lock.new.seat c.link_copy.new.seat c.finish.new.seat c.args.key c.args.node.node c.args.successor.slot
     c.in_ok-number.number copied.done c.link_copy.ensures.seat.1 c.in_ok-finish.ensures.unlinked c.in_ok-finish.ensures.listing)
+
+pub returns-clause-took : goal.returns-clause-took
+returns-clause-took g c =
+    let k = (shape_of g.W.WaitWords.WAY c.args.table.now) in
+    let a = c.requires.at in
+    let filled = c.fill_copy-next_key.ensures in
+    let apart = copy_aside c.args.node c.args.successor (filled.at (Del c.args.key) a.0 a.1) filled.spare in
+    takes_more _ c.in_ok-finish.ensures.waited.begins
+    (takes_since (gone_on filled.same.gone (rest_lock k _ _ _ _ c.lock.ensures.told).gone)
+    (value_on filled.value (value_lock _ c.args.node.node apart c.lock.ensures.told)) c.in_ok-number.ensures.took)

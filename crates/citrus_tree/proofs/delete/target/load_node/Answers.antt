@@ -1,7 +1,7 @@
 use Rattle.seat_table.specs.Seats.{shape_of}
 use Rattle.tree_points.proofs.Deleting.{needs_parent_life, needs_node_life, needs_node_left, needs_node_right, passes_parent_life, passes_node_life, passes_node_left}
 use Rattle.citrus_tree.proofs.deletes.Finds.{node_loaded}
-use Rattle.citrus_tree.proofs.deletes.Keeping.{keeps_on, keeps_search_load}
+use Rattle.citrus_tree.proofs.deletes.Keeping.{loads_on, loads_search_load}
 use Rattle.citrus_tree.proofs.delete.target.load_node.Goals as goal
 
 pub search_load-parent_life-requires-clause-asks : goal.search_load-parent_life-requires-clause-asks
@@ -34,7 +34,7 @@ returns-clause-inside g c = (c.search_load-right.ensures.told).stood
 pub returns-clause-same : goal.returns-clause-same
 returns-clause-same g c =
     let k = (shape_of g.W.WaitWords.WAY c.args.table.now) in
-    keeps_on _ _ _ (keeps_search_load k _ _ _ _ _ c.search_load-parent_life.ensures.told)
-    (keeps_on _ _ _ (keeps_search_load k _ _ _ _ _ c.search_load-life.ensures.told)
-    (keeps_on _ _ _ (keeps_search_load k _ _ _ _ _ c.search_load-left.ensures.told)
-    (keeps_search_load k _ _ _ _ _ c.search_load-right.ensures.told)))
+    loads_on _ _ _ (loads_search_load k _ _ _ _ _ c.search_load-parent_life.ensures.told)
+    (loads_on _ _ _ (loads_search_load k _ _ _ _ _ c.search_load-life.ensures.told)
+    (loads_on _ _ _ (loads_search_load k _ _ _ _ _ c.search_load-left.ensures.told)
+    (loads_search_load k _ _ _ _ _ c.search_load-right.ensures.told)))

@@ -1,7 +1,7 @@
 use Rattle.seat_table.specs.Seats.{shape_of}
 use Rattle.tree_points.proofs.Deleting.{needs_successor_life}
 use Rattle.citrus_tree.proofs.deletes.Finds.{successor_loaded}
-use Rattle.citrus_tree.proofs.deletes.Keeping.{keeps_on, keeps_search_load}
+use Rattle.citrus_tree.proofs.deletes.Keeping.{loads_on, loads_search_load}
 use Rattle.citrus_tree.proofs.delete.target.load_successor.Goals as goal
 
 pub search_load-life-requires-clause-asks : goal.search_load-life-requires-clause-asks
@@ -14,5 +14,5 @@ returns-clause-at g c = λ op kept a.
     c.generation_of.ensures (c.load_above-parent_generation.ensures.at op kept a) c.search_load-life.ensures.told
 
 pub returns-clause-same : goal.returns-clause-same
-returns-clause-same g c = keeps_on _ _ _ c.load_above-parent_generation.ensures.same
-    (keeps_search_load (shape_of g.W.WaitWords.WAY c.args.table.now) _ _ _ _ _ c.search_load-life.ensures.told)
+returns-clause-same g c = loads_on _ _ _ c.load_above-parent_generation.ensures.same
+    (loads_search_load (shape_of g.W.WaitWords.WAY c.args.table.now) _ _ _ _ _ c.search_load-life.ensures.told)

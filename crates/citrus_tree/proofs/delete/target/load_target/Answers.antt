@@ -1,3 +1,4 @@
+use Rattle.citrus_tree.proofs.deletes.Keeping.{loads_on}
 use Rattle.citrus_tree.proofs.deletes.Finds.{first_walk}
 use Rattle.citrus_tree.proofs.delete.target.load_target.Goals as goal
 
@@ -15,3 +16,7 @@ returns-clause-at g c = λ op kept a.
     c.load_successor-successor.ensures.at op kept
     (c.in_ok-parent.ensures.at op kept (first_walk c.load_node-node.result c.if-node-eq0.false c.if-node-eq0-2.false
     (c.load_node-node.ensures.at op kept a)))
+
+pub returns-clause-same : goal.returns-clause-same
+returns-clause-same g c = loads_on _ _ _ c.load_node-node.ensures.same
+    (loads_on _ _ _ c.in_ok-parent.ensures.same c.load_successor-successor.ensures.same)
