@@ -20,7 +20,7 @@ use Rattle.hash_core.specs.Memory.{Memory, word_of, is_field}
 use Rattle.hash_core.specs.Slots.{capacity, is_slot_of, IsOfClass, word_count}
 use Rattle.prcu_marks.specs.Marks.{updates_of, own_of}
 use Rattle.prcu_marks.proofs.MarkLists.{updates_of-append, own_of-append}
-use Rattle.prcu_marks.specs.Bounds.{most_tickets}
+use Rattle.prcu_marks.specs.Bounds.{most_tickets, most_front}
 use Rattle.prcu_model.proofs.Fronts.{AreUpdatesFrom-front}
 use Rattle.hash_core.specs.Known.{known_in, ComesTo, IsOnWalk}
 use Rattle.std.specs.FinMap as finite
@@ -261,14 +261,14 @@ module _ (capacities : List ℕ) (places tickets : ℕ) (m : Memory) (vs : List 
     old_value slot key old on key_is value_is = value_now slot key on key_is ∙ ap Some (known (Value slot) old value_is).1
 
   -- the front is never large
-  pub front_small : m Front ≤ 2199023255553
+  pub front_small : m Front ≤ most_front
   front_small = turn_case r.turned
     where
-      turn_case : IsTurned m vs (length (updates_of h)) → m Front ≤ 2199023255553
+      turn_case : IsTurned m vs (length (updates_of h)) → m Front ≤ most_front
       turn_case (inl free) = let a = free.0 in let b = few_updates in omega arith
       turn_case (inr odd) = let a = odd.7 in let b = odd.8 in let c = few_updates in by odd.2.stored odd.2.found b a
         where
-          by : (t : Bool) (n : ℕ) → n + cond t 2 0 ≡ 2 * length (updates_of h) → m Front ≡ n + 1 → m Front ≤ 2199023255553
+          by : (t : Bool) (n : ℕ) → n + cond t 2 0 ≡ 2 * length (updates_of h) → m Front ≡ n + 1 → m Front ≤ most_front
           by true n b a = let c = few_updates in omega arith
           by false n b a = let c = few_updates in omega arith
 

@@ -12,6 +12,7 @@ use Rattle.hash_core.specs.declared.view.Hold.{Hold}
 use Rattle.prcu_marks.specs.declared.commit.Commit.{Commit}
 use Rattle.hash_core.specs.declared.view.View.{View}
 use Rattle.prcu_marks.specs.Marks.{updates_of}
+use Rattle.prcu_marks.specs.Bounds.{most_front}
 use Rattle.hash_core.specs.Known.{known_in, knowing}
 use Rattle.hash_core.specs.Slots.{is_slot_of}
 use Rattle.hash_core.specs.Steps.{stepped, NeedsUnlock, NeedsReplace, NeedsEven, after_lock, fresh_hold}
@@ -81,7 +82,7 @@ turned table v w x even found same idle told =
     let e : x ≡ odd w = told.goes ∙ ap (λ b. cond b (odd w) (stepped w H12 Front found)) (eq-eqb found even same) in
     let whole : x ≡ odd (record v { trail = w.trail }) = e ∙ ap odd idle.view in
     record {
-      small = subst (λ n. n ≤ 2199023255553) same told.gains;
+      small = subst (λ n. n ≤ most_front) same told.gains;
       trail = subst (λ (z : View). AddsNoLists v.trail z.trail) (sym whole) (adds_step v.trail w.trail H12 Front found refl idle.trail);
       view = whole ∙ sym (ap (λ (z : View). record v { commit = Some (record { found = even; stored = false }); trail = z.trail }) whole);
     }

@@ -16,6 +16,7 @@ use Rattle.hash_core.specs.Slots.{capacity, is_slot_of}
 use Rattle.hash_core.specs.Pairs.{HasPairs}
 use Rattle.prcu_model.specs.Dictionary.{map_of}
 use Rattle.std.specs.FinMap as finite
+use Rattle.prcu_marks.specs.Bounds.{most_front}
 use Rattle.hash_core.specs.Known.{known_in, ShowsAbsent, IsOnWalk}
 use Rattle.prcu_model.specs.Dictionary.{WasSaid}
 use Rattle.hash_core.specs.Steps.{StandsAt}
@@ -108,7 +109,7 @@ Gains t v (SearchLoad field) h found w = StandsInClass t.capacities (section_of 
 Gains t v (Lock class) h found w = TellsHolder t.places v found
 Gains t v (LockedLoad field) h found w = TellsWord t.capacities (hold_of v) field found w
 Gains t v (TakeSlot slot next) h found w = IsOnWalk (hold_of v) slot → ⊥
-Gains t v (OpenCommit even) h found w = found ≤ 2199023255553
+Gains t v (OpenCommit even) h found w = found ≤ most_front
 Gains t v (LinkSlot slot key value) h found w = IsCounted v w
 Gains t v (UnlinkSlot link slot key next) h found w = IsCounted v w
 Gains t v (ReplaceValue slot key value) h found w = TellsOld v h slot key w

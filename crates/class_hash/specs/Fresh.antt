@@ -1,8 +1,11 @@
 -- A table as it is made.
 -- Source: docs/HASH_DICTIONARY.md, "The hash dictionary".
-use Rattle.std.specs.Prelude.{◌≡◌, ℕ, ◌+◌, ◌*◌, ◌<◌, ◌==◌, if◌then◌else◌, List, length, slice_index}
+use Rattle.std.specs.Prelude.{◌≡◌, ℕ, ◌+◌, ◌<◌, ◌==◌, if◌then◌else◌, List, ◌∷◌, length, replicate, slice_index}
 use Rattle.hash_core.specs.declared.shape.Shape.{Shape}
+use Rattle.hash_core.specs.declared.layout.TheConstants.{CLASS_ROOM}
+use Rattle.hash_core.specs.declared.words.Field.TheVariants.{Front, Lock, Readers, Head, Free, Retired, Key, Value, Next, Chain}
 use Rattle.hash_core.specs.declared.view.View.{View}
+use Rattle.hash_core.specs.Memory.{word_of}
 use Rattle.hash_core.specs.Fresh.{first_view}
 use Rattle.hash_core.specs.Slots.{capacity, base, word_count}
 use Rattle.class_hash.specs.Seats.{SeatAt, TableAt}
@@ -22,25 +25,29 @@ first_link before room = if room == 0 then 0 else before + 1
 abbrev pub next_link : ℕ → ℕ → ℕ → ℕ
 next_link before room i = if i + 1 == room then 0 else before + i + 2
 
+-- the words of a class: its lock, readers, head, free and retired, and the room behind them
+abbrev pub class_words : ℕ → List ℕ
+class_words first = 0 ∷ 0 ∷ 0 ∷ first ∷ 0 ∷ replicate CLASS_ROOM 0
+
 -- A class's lock, readers, head, free and retired: its free list has its first slot.
 pub record IsFreshClass (ws : List ℕ) (c first : ℕ) : Type 0 where
-  pub lock : slice_index ws (1 + 5 * c) ≡ 0
-  pub readers : slice_index ws (2 + 5 * c) ≡ 0
-  pub head : slice_index ws (3 + 5 * c) ≡ 0
-  pub free : slice_index ws (4 + 5 * c) ≡ first
-  pub retired : slice_index ws (5 + 5 * c) ≡ 0
+  pub lock : slice_index ws (word_of (Lock c)) ≡ 0
+  pub readers : slice_index ws (word_of (Readers c)) ≡ 0
+  pub head : slice_index ws (word_of (Head c)) ≡ 0
+  pub free : slice_index ws (word_of (Free c)) ≡ first
+  pub retired : slice_index ws (word_of (Retired c)) ≡ 0
 
 -- A slot's key, value, next and chain.
 pub record IsFreshSlot (ws : List ℕ) (s chain : ℕ) : Type 0 where
-  pub key : slice_index ws (317 + 4 * s) ≡ 0
-  pub value : slice_index ws (318 + 4 * s) ≡ 0
-  pub next : slice_index ws (319 + 4 * s) ≡ 0
-  pub chain_is : slice_index ws (320 + 4 * s) ≡ chain
+  pub key : slice_index ws (word_of (Key s)) ≡ 0
+  pub value : slice_index ws (word_of (Value s)) ≡ 0
+  pub next : slice_index ws (word_of (Next s)) ≡ 0
+  pub chain_is : slice_index ws (word_of (Chain s)) ≡ chain
 
 -- All slots are on the free lists of their classes.
 pub record IsFresh (capacities ws : List ℕ) : Type 0 where
   pub long : length ws ≡ word_count capacities
-  pub front : slice_index ws 0 ≡ 0
+  pub front : slice_index ws (word_of Front) ≡ 0
   pub classes : (c : ℕ) → c < 64 → IsFreshClass ws c (first_link (base capacities c) (capacity capacities c))
   pub slots : (c i : ℕ) → c < 64 → i < capacity capacities c
       → IsFreshSlot ws (base capacities c + i + 1) (next_link (base capacities c) (capacity capacities c) i)

@@ -13,6 +13,7 @@ use Rattle.hash_core.specs.declared.words.Field.TheVariants.{Head, Key, Next}
 use Rattle.hash_core.specs.declared.view.Hold.{Hold}
 use Rattle.hash_core.specs.declared.view.View.{View}
 use Rattle.prcu_marks.specs.Marks.{updates_of}
+use Rattle.prcu_marks.specs.Bounds.{most_front}
 use Rattle.hash_core.specs.Slots.{is_slot_of, IsOfClass}
 use Rattle.hash_core.specs.Known.{known_in, IsOnWalk}
 use Rattle.hash_core.specs.Steps.{fresh_hold, NeedsUnlock}
@@ -31,7 +32,7 @@ pub record HasLocked (v : View) (class : ℕ) (w : View) : Type 0 where
 
 -- the front was made odd, after some steps
 pub record HasTurned (v : View) (even : ℕ) (w : View) : Type 0 where
-  pub small : even ≤ 2199023255553
+  pub small : even ≤ most_front
   pub trail : AddsNoLists v.trail w.trail
   pub view : w ≡ record v { commit = Some (record { found = even; stored = false }); trail = w.trail }
 

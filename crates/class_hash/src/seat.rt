@@ -15,7 +15,7 @@ use crate::rule::Nothing;
 use crate::table::HashTable;
 use crate::told::{Cut, Glue, Share};
 use atomic_table::Seat;
-use hash_core::{Act, View};
+use hash_core::{Act, Field, View, index_of};
 use std::marker::{Brand, Model};
 
 /// What a seat remembers of the bucket whose lock it holds.
@@ -162,7 +162,7 @@ impl HashSeat {
             bucket: _,
         } = other;
         table.table.shared.join_seat::<Glue>(&mut seat, theirs);
-        load(table, &mut seat, Act::LoadFront, 0);
+        load(table, &mut seat, Act::LoadFront, index_of(Field::Front));
         HashSeat {
             seat,
             place,

@@ -1,15 +1,16 @@
 //! One call for each step, by its name among the acts of `hash_core`. Each makes one atomic step, and tells the view after it, and what
 //! the seat gained from the rule. The load that a join makes stands with the join.
-ghost use Rattle.std.specs.Prelude.{◌≡◌, ◌≤◌};
+ghost use Rattle.std.specs.Prelude.{◌≡◌, ◌+◌, ◌≤◌};
+ghost use Rattle.prcu_marks.specs.Bounds.{most_front};
 ghost use Rattle.hash_core.specs.declared.act.Act.TheVariants as acts;
 ghost use Rattle.hash_core.specs.Acts.{Needs};
 ghost use Rattle.class_hash.specs.Told.{Told};
 
 use crate::access::{add, exchange, load, store, subtract};
-use crate::layout::{remember, stock_of, word_at};
 use crate::seat::{Bucket, HashSeat, Stock};
+use crate::stocks::{remember, stock_of};
 use crate::table::HashTable;
-use hash_core::{Act, Field};
+use hash_core::{Act, Field, index_of};
 
 /// Adds 1 to the readers of the key's class: a section is entered (H3).
 pub(crate) fn enter(table: &HashTable, seat: &mut HashSeat, key: u64) -> u64
@@ -20,7 +21,7 @@ pub(crate) fn enter(table: &HashTable, seat: &mut HashSeat, key: u64) -> u64
 {
     let class = (key % 64) as u32;
     seat.key = Some(key);
-    let word = word_at(Field::Readers { class });
+    let word = index_of(Field::Readers { class });
     add(table, &mut seat.seat, Act::Enter { key }, word, 1)
 }
 
@@ -33,7 +34,7 @@ pub(crate) fn leave(table: &HashTable, seat: &mut HashSeat) -> u64
 {
     let class = seat.class_read();
     seat.key = None;
-    let word = word_at(Field::Readers { class });
+    let word = index_of(Field::Readers { class });
     subtract(table, &mut seat.seat, Act::Leave, word, 1)
 }
 
@@ -44,7 +45,7 @@ pub(crate) fn search_load(table: &HashTable, seat: &mut HashSeat, field: Field) 
     ensures table { seat.new.table ≡ seat.old.table }
     ensures told { Told table.now seat.old.view (acts.SearchLoad field) result seat.new.view }
 {
-    let word = word_at(field);
+    let word = index_of(field);
     load(table, &mut seat.seat, Act::SearchLoad { field }, word)
 }
 
@@ -55,7 +56,7 @@ pub(crate) fn lock(table: &HashTable, seat: &mut HashSeat, class: u32) -> u64
     ensures table { seat.new.table ≡ seat.old.table }
     ensures told { Told table.now seat.old.view (acts.Lock class) result seat.new.view }
 {
-    let word = word_at(Field::Lock { class });
+    let word = index_of(Field::Lock { class });
     let mine = seat.place as u64 + 1;
     let found = exchange(table, &mut seat.seat, Act::Lock { class }, word, 0, mine);
     if found == 0 {
@@ -77,7 +78,7 @@ pub(crate) fn unlock(table: &HashTable, seat: &mut HashSeat)
 {
     let class = seat.class_held();
     seat.bucket = None;
-    let word = word_at(Field::Lock { class });
+    let word = index_of(Field::Lock { class });
     store(table, &mut seat.seat, Act::Unlock, word, 0);
 }
 
@@ -89,7 +90,7 @@ pub(crate) fn load_readers(table: &HashTable, seat: &mut HashSeat) -> u64
     ensures told { Told table.now seat.old.view acts.LoadReaders result seat.new.view }
 {
     let class = seat.class_held();
-    let word = word_at(Field::Readers { class });
+    let word = index_of(Field::Readers { class });
     load(table, &mut seat.seat, Act::LoadReaders, word)
 }
 
@@ -100,7 +101,7 @@ pub(crate) fn locked_load(table: &HashTable, seat: &mut HashSeat, field: Field) 
     ensures table { seat.new.table ≡ seat.old.table }
     ensures told { Told table.now seat.old.view (acts.LockedLoad field) result seat.new.view }
 {
-    let word = word_at(field);
+    let word = index_of(field);
     let found = load(table, &mut seat.seat, Act::LockedLoad { field }, word);
     remember(&mut seat.bucket, stock_of(&field), found);
     found
@@ -115,7 +116,7 @@ pub(crate) fn take_slot(table: &HashTable, seat: &mut HashSeat, slot: u32, next:
 {
     let class = seat.class_held();
     remember(&mut seat.bucket, Some(Stock::Free), next);
-    let word = word_at(Field::Free { class });
+    let word = index_of(Field::Free { class });
     store(
         table,
         &mut seat.seat,
@@ -134,7 +135,7 @@ pub(crate) fn take_retired(table: &HashTable, seat: &mut HashSeat, slot: u64)
 {
     let class = seat.class_held();
     remember(&mut seat.bucket, Some(Stock::Retired), 0);
-    let word = word_at(Field::Retired { class });
+    let word = index_of(Field::Retired { class });
     store(table, &mut seat.seat, Act::TakeRetired { slot }, word, 0);
 }
 
@@ -147,7 +148,7 @@ pub(crate) fn free_retired(table: &HashTable, seat: &mut HashSeat, slot: u64)
 {
     let class = seat.class_held();
     remember(&mut seat.bucket, Some(Stock::Free), slot);
-    let word = word_at(Field::Free { class });
+    let word = index_of(Field::Free { class });
     store(table, &mut seat.seat, Act::FreeRetired { slot }, word, slot);
 }
 
@@ -158,7 +159,7 @@ pub(crate) fn store_chain(table: &HashTable, seat: &mut HashSeat, slot: u32, num
     ensures table { seat.new.table ≡ seat.old.table }
     ensures told { Told table.now seat.old.view (acts.StoreChain slot number) number seat.new.view }
 {
-    let word = word_at(Field::Chain { slot });
+    let word = index_of(Field::Chain { slot });
     let act = Act::StoreChain { slot, number };
     store(table, &mut seat.seat, act, word, number);
 }
@@ -173,7 +174,7 @@ pub(crate) fn retire(table: &HashTable, seat: &mut HashSeat, slot: u32)
     let class = seat.class_held();
     let first = slot as u64;
     remember(&mut seat.bucket, Some(Stock::Retired), first);
-    let word = word_at(Field::Retired { class });
+    let word = index_of(Field::Retired { class });
     store(table, &mut seat.seat, Act::Retire { slot }, word, first);
 }
 
@@ -184,7 +185,7 @@ pub(crate) fn fill(table: &HashTable, seat: &mut HashSeat, field: Field, number:
     ensures table { seat.new.table ≡ seat.old.table }
     ensures told { Told table.now seat.old.view (acts.Fill field number) number seat.new.view }
 {
-    let word = word_at(field);
+    let word = index_of(field);
     let act = Act::Fill { field, number };
     store(table, &mut seat.seat, act, word, number);
 }
@@ -193,12 +194,13 @@ pub(crate) fn fill(table: &HashTable, seat: &mut HashSeat, field: Field, number:
 pub(crate) fn open_commit(table: &HashTable, seat: &mut HashSeat, even: u64) -> u64
     requires table { seat.old.table ≡ table.now.id }
     requires asks { Needs table.now.capacities seat.old.view (acts.OpenCommit even) }
-    requires small { even ≤ 2199023255554 }
+    requires small { even ≤ most_front + 1 }
     ensures table { seat.new.table ≡ seat.old.table }
     ensures told { Told table.now seat.old.view (acts.OpenCommit even) result seat.new.view }
 {
     let act = Act::OpenCommit { even };
-    exchange(table, &mut seat.seat, act, 0, even, even + 1)
+    let word = index_of(Field::Front);
+    exchange(table, &mut seat.seat, act, word, even, even + 1)
 }
 
 /// Links the slot taken, with this key and value, at the head (H13).
@@ -210,7 +212,7 @@ pub(crate) fn link_slot(table: &HashTable, seat: &mut HashSeat, slot: u32, key: 
 {
     let class = seat.class_held();
     seat.tickets -= 1;
-    let word = word_at(Field::Head { class });
+    let word = index_of(Field::Head { class });
     let act = Act::LinkSlot { slot, key, value };
     store(table, &mut seat.seat, act, word, slot as u64);
 }
@@ -230,7 +232,7 @@ pub(crate) fn unlink_slot(
     ensures told { Told table.now seat.old.view (acts.UnlinkSlot link slot key next) next seat.new.view }
 {
     seat.tickets -= 1;
-    let word = word_at(link);
+    let word = index_of(link);
     let act = Act::UnlinkSlot {
         link,
         slot,
@@ -248,7 +250,7 @@ pub(crate) fn replace_value(table: &HashTable, seat: &mut HashSeat, slot: u32, k
     ensures told { Told table.now seat.old.view (acts.ReplaceValue slot key value) value seat.new.view }
 {
     seat.tickets -= 1;
-    let word = word_at(Field::Value { slot });
+    let word = index_of(Field::Value { slot });
     let act = Act::ReplaceValue { slot, key, value };
     store(table, &mut seat.seat, act, word, value);
 }
@@ -260,5 +262,12 @@ pub(crate) fn close_commit(table: &HashTable, seat: &mut HashSeat, front: u64)
     ensures table { seat.new.table ≡ seat.old.table }
     ensures told { Told table.now seat.old.view (acts.CloseCommit front) front seat.new.view }
 {
-    store(table, &mut seat.seat, Act::CloseCommit { front }, 0, front);
+    let word = index_of(Field::Front);
+    store(
+        table,
+        &mut seat.seat,
+        Act::CloseCommit { front },
+        word,
+        front,
+    );
 }

@@ -1,13 +1,15 @@
 //! The table, and how it is made.
-ghost use Rattle.std.specs.Prelude.{◌≡◌, ◌+◌, ◌*◌, ◌^◌, ◌<◌, ◌≤◌, ◌∷◌, ◌++◌, [], IfOk, length, sum};
+ghost use Rattle.std.specs.Prelude.{◌≡◌, ◌+◌, ◌*◌, ◌<◌, ◌≤◌, ◌∷◌, ◌++◌, [], IfOk, length, sum};
+ghost use Rattle.prcu_marks.specs.Bounds.{most_tickets};
 ghost use Rattle.hash_core.specs.Slots.{base};
-ghost use Rattle.class_hash.specs.Fresh.{IsFresh, first_link, next_link, fresh_seat};
+ghost use Rattle.class_hash.specs.Fresh.{IsFresh, class_words, first_link, next_link, fresh_seat};
 ghost use Rattle.class_hash.specs.Answers.{IsInformed};
 ghost use Rattle.class_hash.specs.Added.{HasClasses, HasSlots, HasClassSlots};
 
 use crate::rule::{Nothing, Ruled};
 use crate::seat::HashSeat;
 use atomic_table::Table;
+use hash_core::layout::{CLASS_BASE, CLASS_ROOM, SLOT_BASE, SLOT_WORDS};
 use hash_core::{Shape, View};
 use prcu_model::NoMemory;
 use std::alloc::{AllocError, Global};
@@ -57,33 +59,25 @@ fn next_link_of(before: u32, room: u32, i: u32) -> u64
 }
 
 fn add_class(words: &mut Vec<u64>, free: u64) -> Result<(), AllocError>
-    ensures { IfOk result (λ _. words.new.items ≡ words.old.items ++ 0 ∷ 0 ∷ 0 ∷ free ∷ 0 ∷ []) }
+    ensures { IfOk result (λ _. words.new.items ≡ words.old.items ++ class_words free) }
 {
-    words.push(0)?;
-    words.push(0)?;
-    words.push(0)?;
-    words.push(free)?;
-    words.push(0)?;
-    Ok(())
+    words.extend_from_slice(&[0, 0, 0, free, 0])?;
+    words.extend_from_slice(&[0; CLASS_ROOM])
 }
 
 fn add_slot(words: &mut Vec<u64>, chain: u64) -> Result<(), AllocError>
     ensures { IfOk result (λ _. words.new.items ≡ words.old.items ++ 0 ∷ 0 ∷ 0 ∷ chain ∷ []) }
 {
-    words.push(0)?;
-    words.push(0)?;
-    words.push(0)?;
-    words.push(chain)?;
-    Ok(())
+    words.extend_from_slice(&[0, 0, 0, chain])
 }
 
-/// The front and the words of the classes.
+/// The front and the words of the classes, with the room before and behind each.
 fn add_classes(words: &mut Vec<u64>, capacities: &[u32]) -> Result<(), AllocError>
     requires empty { words.old.items ≡ [] }
     requires slots { sum capacities.now ≤ 2097152 }
     ensures { IfOk result (λ _. HasClasses capacities.now (length capacities.now) words.new.items) }
 {
-    words.push(0)?;
+    words.extend_from_slice(&[0; CLASS_BASE])?;
     let mut before = 0;
     for room in capacities {
         add_class(words, first_link_of(before, *room))?;
@@ -94,7 +88,7 @@ fn add_classes(words: &mut Vec<u64>, capacities: &[u32]) -> Result<(), AllocErro
 
 /// The words of the slots of one class, which come after `before` slots of others.
 fn add_slots(words: &mut Vec<u64>, before: u32, room: u32) -> Result<(), AllocError>
-    requires before { length words.old.items ≡ 321 + 4 * before }
+    requires before { length words.old.items ≡ SLOT_BASE + SLOT_WORDS * (before + 1) }
     requires slots { before + room ≤ 2097152 }
     ensures { IfOk result (λ _. HasSlots before room room words.old.items words.new.items) }
 {
@@ -106,7 +100,7 @@ fn add_slots(words: &mut Vec<u64>, before: u32, room: u32) -> Result<(), AllocEr
 
 /// The words of all slots.
 fn add_all_slots(words: &mut Vec<u64>, capacities: &[u32]) -> Result<(), AllocError>
-    requires classes { length words.old.items ≡ 321 }
+    requires classes { length words.old.items ≡ SLOT_BASE + SLOT_WORDS }
     requires slots { sum capacities.now ≤ 2097152 }
     ensures { IfOk result (λ _. HasClassSlots capacities.now (length capacities.now) words.old.items words.new.items) }
 {
@@ -141,7 +135,7 @@ impl HashTable {
         requires classes { length capacities.now ≡ 64 }
         requires slots { sum capacities.now ≤ 2097152 }
         requires places { (1 ≤ places) × (places ≤ 64) }
-        requires tickets { tickets ≤ 2 ^ 40 }
+        requires tickets { tickets ≤ most_tickets }
         ensures made { IfOk result (λ made. (made.0.capacities ≡ capacities.now) × (made.0.places ≡ places) × (made.0.tickets ≡ tickets)
             × (made.1 ≡ fresh_seat made.0)) }
         ensures informed { IfOk result (λ made. IsInformed made.0.capacities made.0.places made.1.view) }

@@ -8,11 +8,11 @@ use mathlib.Core.Option.{some, some-injective, some-ne-none}
 use mathlib.Core.List.{IsPrefix}
 use native.Mathlib.Decide.{dec_le, ℕ_discrete}
 use lib.ListN.{get_elem?}
-use Rattle.hash_core.specs.declared.words.Field.TheVariants.{Free, Chain}
+use Rattle.hash_core.specs.declared.words.Field.TheVariants.{Front, Lock, Readers, Head, Free, Retired, Chain}
 use Rattle.hash_core.specs.declared.view.View.{View}
 use Rattle.list_laws.specs.Counts.{times, numbers_from}
 use Rattle.hash_core.specs.Lists.{IsPath}
-use Rattle.hash_core.specs.Memory.{Memory, memory_of}
+use Rattle.hash_core.specs.Memory.{Memory, word_of, memory_of}
 use Rattle.hash_core.specs.Slots.{capacity, base, is_slot_of}
 use Rattle.prcu_marks.specs.Marks.{own_of, open_at, entered_at}
 use Rattle.hash_core.specs.Buckets.{Bucket, HoldsOther, IsFreeOfReaders}
@@ -164,13 +164,14 @@ module _ (capacities : List ℕ) (places tickets : ℕ) (shape : IsShape capacit
 has_field : (t : Bool) (n number : ℕ) → t ≡ true → n ≡ number → cond t n 0 ≡ number
 has_field t n number has is = ap (λ b. cond b n 0) has ∙ is
 
--- A memory is fresh where its words are: of each class its lock, readers, head, free and retired, and of each slot its
--- chain.
-pub fresh_memory : (capacities ws : List ℕ) → slice_index ws 0 ≡ 0
-    → ((c : ℕ) → c < 64 → (slice_index ws (1 + 5 * c) ≡ 0) × (slice_index ws (2 + 5 * c) ≡ 0) × (slice_index ws (3 + 5 * c) ≡ 0)
-    × (slice_index ws (4 + 5 * c) ≡ first_slot capacities c) × (slice_index ws (5 + 5 * c) ≡ 0))
+-- A memory is fresh where its words are: of each class its lock, readers, head, free and retired, and of each slot its chain.
+pub fresh_memory : (capacities ws : List ℕ) → slice_index ws (word_of Front) ≡ 0
+    → ((c : ℕ) → c < 64 → (slice_index ws (word_of (Lock c)) ≡ 0) × (slice_index ws (word_of (Readers c)) ≡ 0)
+    × (slice_index ws (word_of (Head c)) ≡ 0) × (slice_index ws (word_of (Free c)) ≡ first_slot capacities c)
+    × (slice_index ws (word_of (Retired c)) ≡ 0))
     → ((c i : ℕ) → c < 64 → i < capacity capacities c
-    → slice_index ws (320 + 4 * (base capacities c + i + 1)) ≡ cond (i + 1 == capacity capacities c) 0 (base capacities c + i + 2))
+    → slice_index ws (word_of (Chain (base capacities c + i + 1)))
+    ≡ cond (i + 1 == capacity capacities c) 0 (base capacities c + i + 2))
     → IsFresh capacities (memory_of capacities ws)
 fresh_memory capacities ws front classes slots = record {
   front = front;
@@ -187,7 +188,7 @@ fresh_memory capacities ws front classes slots = record {
       let before : ℕ = base capacities c in
       let room : ℕ = capacity capacities c in
       has_field (nat_le 1 s && nat_le s (sum capacities)) _ _ (and_from _ _ (le-leb 1 s within.0) (le-leb s (sum capacities) within.1))
-      (subst (λ z. slice_index ws (320 + 4 * z) ≡ slot_after capacities c z)
+      (subst (λ z. slice_index ws (word_of (Chain z)) ≡ slot_after capacities c z)
       (let e : before + (s - (before + 1)) + 1 ≡ s = omega arith in e)
       (slots c (s - (before + 1)) small (omega arith) ∙ chain_link before room (s - (before + 1))));
 }

@@ -1,10 +1,12 @@
 -- A store in a word of the table is a store in its field.
-use Rattle.std.proofs.Common.{◌≡◌, ℕ, ◌<◌, ◌≤◌, nat_le, ◌&&◌, Bool, true, false, cond, List, length, sum, set, slice_index, refl, sym, ap, subst, ◌∙◌, arith, get_or-set_other, get_or-set_same}
+use Rattle.std.proofs.Common.{◌≡◌, ℕ, ◌+◌, ◌*◌, ◌<◌, ◌≤◌, nat_le, ◌&&◌, Bool, true, false, cond, List, length, sum, set, slice_index, refl, sym, ap, subst, ◌∙◌, arith, get_or-set_other, get_or-set_same}
 use Rattle.std.proofs.lemmas.Bool.{ltb-true, leb-true}
+use Rattle.hash_core.specs.declared.layout.TheConstants.{APART, CLASS_BASE, CLASS_WORDS}
 use Rattle.hash_core.specs.declared.words.Field.{Field}
 use Rattle.hash_core.specs.declared.words.Field.TheVariants.{Front, Lock, Readers, Head, Free, Retired, Key, Value, Next, Chain}
 use Rattle.hash_core.specs.Memory.{word_of, same_field, is_field, memory_of, stored}
 use Rattle.hash_core.specs.Slots.{word_count}
+use Rattle.hash_core.specs.Places.{NoPlaceIsShared, FieldsAreWithin, IsOwnWord, LinesAreOwn}
 use Rattle.hash_core.proofs.Classes.{and_true}
 use Rattle.hash_core.proofs.Stores.{same_self, same_is}
 
@@ -59,8 +61,12 @@ one_field capacities (Chain c) (Chain d) p q e = let f : c ≡ d = omega arith i
     subst (λ z. same_field (Chain c) (Chain z) ≡ true) f (same_self (Chain c))
 one_field capacities _ _ p q e = absurd (omega arith)
 
+-- no two fields stand at one place of the row
+pub one_place : NoPlaceIsShared
+one_place capacities f g p q e = same_is f g (one_field capacities f g (lies capacities f p) (lies capacities g q) e)
+
 -- a field's word is one of the table's
-pub word_inside : (capacities : List ℕ) (field : Field) → is_field capacities field ≡ true → word_of field < word_count capacities
+pub word_inside : FieldsAreWithin
 word_inside capacities field is = inside_case field (lies capacities field is)
   where
     inside_case : (f : Field) → Lies capacities f → word_of f < word_count capacities
@@ -74,6 +80,21 @@ word_inside capacities field is = inside_case field (lies capacities field is)
     inside_case (Value s) p = omega arith
     inside_case (Next s) p = omega arith
     inside_case (Chain s) p = omega arith
+
+-- a class's words stand behind the front, in the class's own room
+own_place : (c : ℕ) (f : Field) → IsOwnWord c f → (CLASS_BASE + APART * c ≤ word_of f) × (word_of f < CLASS_BASE + APART * c + CLASS_WORDS)
+own_place c (Lock d) e = (omega arith, omega arith)
+own_place c (Readers d) e = (omega arith, omega arith)
+own_place c (Head d) e = (omega arith, omega arith)
+own_place c (Free d) e = (omega arith, omega arith)
+own_place c (Retired d) e = (omega arith, omega arith)
+own_place c _ e = absurd e
+
+pub lines_are_own : LinesAreOwn
+lines_are_own c g here = let at = own_place c g here in let low = at.0 in (
+  omega arith,
+  λ b f less there. let before = own_place b f there in let high = before.1 in omega arith,
+)
 
 -- what is loaded from a field's word
 pub memory-word : (capacities words : List ℕ) (field : Field) → is_field capacities field ≡ true

@@ -1,6 +1,7 @@
 pub mod Lists
 pub mod Memory
 pub mod Slots
+pub mod Places
 pub mod Marks
 pub mod Known
 pub mod Steps

@@ -1,21 +1,22 @@
--- The table's words as a memory with named fields.
+-- The table's words as a memory with named fields, and where each stands in the table's row.
 -- Source: docs/HASH_DICTIONARY.md, "The hash dictionary".
 use Rattle.std.specs.Prelude.{ℕ, ◌+◌, ◌*◌, ◌==◌, nat_lt, nat_le, ◌&&◌, Bool, true, false, if◌then◌else◌, List, slice_index, sum}
+use Rattle.hash_core.specs.declared.layout.TheConstants.{LEAD, APART, CLASS_BASE, SLOT_BASE, SLOT_WORDS}
 use Rattle.hash_core.specs.declared.words.Field.{Field}
 use Rattle.hash_core.specs.declared.words.Field.TheVariants.{Front, Lock, Readers, Head, Free, Retired, Key, Value, Next, Chain}
 
--- where a field lies among the words
+-- where a field stands in the row
 abbrev pub word_of : Field → ℕ
-word_of Front = 0
-word_of (Lock c) = 1 + 5 * c
-word_of (Readers c) = 2 + 5 * c
-word_of (Head c) = 3 + 5 * c
-word_of (Free c) = 4 + 5 * c
-word_of (Retired c) = 5 + 5 * c
-word_of (Key s) = 317 + 4 * s
-word_of (Value s) = 318 + 4 * s
-word_of (Next s) = 319 + 4 * s
-word_of (Chain s) = 320 + 4 * s
+word_of Front = LEAD
+word_of (Lock c) = CLASS_BASE + APART * c
+word_of (Readers c) = CLASS_BASE + APART * c + 1
+word_of (Head c) = CLASS_BASE + APART * c + 2
+word_of (Free c) = CLASS_BASE + APART * c + 3
+word_of (Retired c) = CLASS_BASE + APART * c + 4
+word_of (Key s) = SLOT_BASE + SLOT_WORDS * s
+word_of (Value s) = SLOT_BASE + SLOT_WORDS * s + 1
+word_of (Next s) = SLOT_BASE + SLOT_WORDS * s + 2
+word_of (Chain s) = SLOT_BASE + SLOT_WORDS * s + 3
 
 abbrev pub same_field : Field → Field → Bool
 same_field Front Front = true

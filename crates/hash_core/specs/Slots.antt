@@ -1,6 +1,7 @@
 -- Which slots a class owns, and which fields are its own.
 -- Source: docs/HASH_DICTIONARY.md, "The hash dictionary".
 use Rattle.std.specs.Prelude.{◌≡◌, ℕ, ◌+◌, ◌*◌, nat_lt, nat_le, ◌&&◌, Bool, IsTrue, List, take, sum, slice_index}
+use Rattle.hash_core.specs.declared.layout.TheConstants.{SLOT_BASE, SLOT_WORDS}
 use Rattle.hash_core.specs.declared.words.Field.{Field}
 use Rattle.hash_core.specs.declared.words.Field.TheVariants.{Front, Lock, Readers, Head, Free, Retired, Key, Value, Next, Chain}
 
@@ -31,4 +32,4 @@ IsOfClass capacities c (Chain s) = IsTrue (is_slot_of capacities c s)
 
 -- how many words the table has
 abbrev pub word_count : List ℕ → ℕ
-word_count capacities = 321 + 4 * sum capacities
+word_count capacities = SLOT_BASE + SLOT_WORDS * (sum capacities + 1)

@@ -1,5 +1,14 @@
-//! What the rule gives, and that each kind of step keeps it. Each is a function without a body whose promise is the law.
+//! How words stand, what the rule gives, and that each kind of step keeps it. Each is a function without a body whose promise is the law.
+ghost use Rattle.hash_core.specs.Places.{NoPlaceIsShared, FieldsAreWithin, LinesAreOwn};
 ghost use Rattle.hash_core.specs.Laws.{ChainsAreMap, SlotsHaveOneRole, ReadersAreCounted, FrontCounts, SearchesAreAnswered, SearchesStand, MarksAreInOrder, SlotsAreReused, StepsKeep, ActsAreSteps, ActsKeep, SplitsKeep, JoinsKeep, FreshHolds, RunsHold};
+
+/// Each field has a place of its own in the table's row, and the words of a class share no line of memory with those of another class or
+/// the front, wherever the row begins.
+pub fn words_stand_apart()
+    ensures places { NoPlaceIsShared }
+    ensures within { FieldsAreWithin }
+    ensures lines { LinesAreOwn }
+{}
 
 /// The chains hold just the pairs of the dictionary now, in distinct slots with distinct keys.
 pub fn chains_are_map()

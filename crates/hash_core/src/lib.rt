@@ -4,11 +4,13 @@
 
 pub mod act;
 pub mod laws;
+pub mod layout;
 pub mod shape;
 pub mod view;
 pub mod words;
 
 pub use act::Act;
+pub use layout::index_of;
 pub use shape::Shape;
 pub use view::{Hold, Known, SearchState, Section, StepMade, View};
 pub use words::{Field, Kind};

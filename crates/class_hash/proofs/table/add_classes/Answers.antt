@@ -1,0 +1,13 @@
+use Rattle.std.proofs.Common.{rules, arith}
+use Rattle.class_hash.proofs.Words.{class_added, base_more}
+use Rattle.class_hash.proofs.table.add_classes.Goals as goal
+
+pub loop-room-preserved : goal.loop-room-preserved
+loop-room-preserved c =
+    let i = c.loop-room.room-index in
+    let base = c.loop-room.invariant.1 in
+    let more = base_more c.args.capacities.now i (search rules) in (
+      class_added c.args.capacities.now i c.first_link_of.result c.loop-room.words.items c.add_class.new.words.items
+          (search rules) (search rules) c.loop-room.invariant.0,
+      omega arith,
+    )
