@@ -14,6 +14,3 @@ pub use memory::NoMemory;
 pub use operation::{Line, Op, Reply, Told, Update};
 pub use plain_map::PlainMap;
 pub use scripts::Scripts;
-
-#[cfg(test)]
-mod tests;

@@ -1,5 +1,5 @@
 //! Runs by a number: schedules of two scripts that meet, and of one.
-use super::scripts_of;
+use crate::scripts::scripts_of;
 use prcu_model::{Op, Reply, Told, Update};
 use schedule_run::run_scripts;
 use std::test::Fail;

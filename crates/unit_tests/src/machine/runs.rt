@@ -1,7 +1,7 @@
 //! Runs by hand.
 ghost use Rattle.std.specs.Prelude.{◌≡◌, ◌<◌, length};
 
-use super::scripts_of;
+use crate::scripts::scripts_of;
 use core_machine::{Machine, Stepped};
 use prcu_marks::Why;
 use prcu_model::{Dict, NoMemory, Op, Update};

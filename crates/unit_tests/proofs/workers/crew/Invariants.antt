@@ -1,6 +1,6 @@
 use Rattle.std.proofs.Common.{◌≡◌, length}
 use Rattle.client_run.specs.Workers.{AreReadyFor}
-use Rattle.run_tests.proofs.tests.crew.Given as goal
+use Rattle.unit_tests.proofs.workers.crew.Given as goal
 
 abbrev pub invariant-loop-i : goal.invariant-loop-i
 invariant-loop-i l = record {

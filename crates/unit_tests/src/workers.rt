@@ -1,5 +1,5 @@
 //! Runs of real threads, and a merge by hand.
-ghost use Rattle.std.specs.Prelude.{◌≡◌, ◌^◌, ◌<◌, length, IfOk, vec_len};
+ghost use Rattle.std.specs.Prelude.{◌≡◌, ◌^◌, ◌<◌, [], ◌∷◌, length, IfOk, vec_len};
 ghost use Rattle.client_run.specs.Workers.{AreReadyFor};
 
 use client_run::{Worker, merge, run_all};
@@ -200,20 +200,40 @@ fn told_list(alloc: Global, answers: &[Told]) -> Result<ToldList, NoMemory>
     Ok(list)
 }
 
+// Two scripts, of the first two operations and of the last two.
+fn two_scripts(
+    alloc: Global,
+    first: Op,
+    second: Op,
+    third: Op,
+    last: Op,
+) -> Result<Scripts, NoMemory>
+    ensures { IfOk result (λ scripts. scripts ≡ (first ∷ second ∷ []) ∷ (third ∷ last ∷ []) ∷ []) }
+{
+    let mut scripts = Scripts::new(alloc);
+    scripts.add_script()?;
+    scripts.add_op(first)?;
+    scripts.add_op(second)?;
+    scripts.add_script()?;
+    scripts.add_op(third)?;
+    scripts.add_op(last)?;
+    Ok(scripts)
+}
+
+#[test]
+fn scripts_without_an_operation_have_no_history(rt: HostRuntime) -> Result<(), Fail> {
+    let scripts = Scripts::new(rt.alloc());
+    assert!(rt; merge(rt.alloc(), &scripts, &[])?.is_empty());
+    Ok(())
+}
+
 #[test]
 fn a_history_has_each_update_at_its_number(rt: HostRuntime) -> Result<(), Fail> {
     let alloc = rt.alloc();
-    assert!(rt; merge(alloc, &Scripts::new(alloc), &[])?.is_empty());
     let put = Op::Put { key: 1, value: 10 };
     let set = Op::Set { key: 1, value: 11 };
     let del = Op::Del { key: 1 };
-    let mut scripts = Scripts::new(alloc);
-    scripts.add_script()?;
-    scripts.add_op(del)?;
-    scripts.add_op(put)?;
-    scripts.add_script()?;
-    scripts.add_op(set)?;
-    scripts.add_op(del)?;
+    let scripts = two_scripts(alloc, del, put, set, del)?;
     let told = [
         told_list(alloc, &[answer(Reply::Gone, 2), answer(Reply::New, 3)])?,
         told_list(alloc, &[answer(Reply::Absent, 0), answer(Reply::Gone, 1)])?,

@@ -3,7 +3,7 @@ use Rattle.std.proofs.lemmas.Option.{get_or_from_slice_get}
 use Rattle.prcu_model.specs.declared.operation.Op.{Op}
 use Rattle.client_run.specs.Workers.{IsReadyFor, AreReadyFor}
 use Rattle.client_run.proofs.Ready.{AreReadyFor-nil, AreReadyFor-push}
-use Rattle.run_tests.proofs.tests.crew.Goals as goal
+use Rattle.unit_tests.proofs.workers.crew.Goals as goal
 
 pub loop-i-init : goal.loop-i-init
 loop-i-init c = rw c.new-workers.ensures.items (record { many = refl; ready = AreReadyFor-nil (λ clerk. clerk.left) c.args.scripts.now })

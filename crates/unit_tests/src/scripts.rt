@@ -1,13 +1,10 @@
-//! What no clause says: what callers are told in given orders of steps, and by which numbers.
+//! Scripts for the tests of other modules.
 use prcu_model::{NoMemory, Op, Scripts};
 use std::alloc::Global;
 use std::process::Abort;
 
-mod runs;
-mod schedules;
-
-// A script of each of these lists.
-fn scripts_of(rt: &impl Abort, alloc: Global, lists: &[&[Op]]) -> Result<Scripts, NoMemory> {
+/// A script of each of these lists.
+pub fn scripts_of(rt: &impl Abort, alloc: Global, lists: &[&[Op]]) -> Result<Scripts, NoMemory> {
     let mut scripts = Scripts::new(alloc);
     for list in lists {
         assert!(rt; scripts.count() < Scripts::MOST_SCRIPTS);

@@ -1,5 +1,0 @@
-//! Scripts, accounts and workloads as texts, byte for byte.
-#![tactic(auto)]
-
-#[cfg(test)]
-mod tests;

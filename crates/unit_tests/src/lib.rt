@@ -1,0 +1,16 @@
+//! Tests of the model, of sources and sinks, of texts, of workers and of the machine. They stand here and not in the crates that they are
+//! of, since tests are proved together with all functions of their crate; and in one crate, since each reads what it needs of std anew.
+#![tactic(auto)]
+
+#[cfg(test)]
+mod machine;
+#[cfg(test)]
+mod model;
+#[cfg(test)]
+mod scripts;
+#[cfg(test)]
+mod streams;
+#[cfg(test)]
+mod texts;
+#[cfg(test)]
+mod workers;
