@@ -35,7 +35,8 @@ PICTURES = {
         "core_machine": "the calls, step by step",
         "cookie_client": "a client with a cookie",
         "grace_cookie": "waits asked about later",
-        "citrus_tree": "get, put, del, set",
+        "citrus_c": "for C, C++ and Rust",
+        "citrus_tree": "get, put, del, remove, set",
         "exact_list": "lists of a key range",
         "node_slots": "slots and locks",
         "tree_points": "points of calls, on the table",
@@ -69,7 +70,7 @@ BESIDE = {
     "laws": ("the tree",),
 }
 # tests, and programs that only measure or write rows
-ASIDE = {"tree_benches", "edge_tests", "text_tests", "run_tests", "table_tests", "machine_tests", "tree_tests", "hash_tests", "tool_tests", "tool_rows"}
+ASIDE = {"tree_benches", "index_example", "unit_tests", "table_tests", "tree_tests", "hash_tests", "tool_tests", "tool_rows"}
 
 
 def read_crates():

@@ -1,11 +1,11 @@
-"""The program's crates: what each stands on, what it was proved from, and what the program was built from."""
+"""The crates of the program and of the C library: what each stands on, what it was proved from, and what the two were built from."""
 import hashlib
 import os
 import re
 import shutil
 import tempfile
 
-PROGRAM = "citrus_cli"
+PROGRAM, LIBRARY = "citrus_cli", "citrus_c"
 PARTS = ("src", "specs", "proofs")
 
 
@@ -63,13 +63,17 @@ class Crate:
         self.name, self.folder = name, folder
         # The repository's crates that it names, and the toolchain's.
         self.used, self.libraries = used, libraries
-        self.is_program = name == PROGRAM
+        self.is_program, self.is_archive = name == PROGRAM, name == LIBRARY
         self.kept = f"{folder}/out/rlib/statements"
         self.record, self.log = f"{self.kept}/proved", f"{self.kept}/log"
-        # Of the program an object file, and else the library's statements.
-        self.made = f"{self.kept}/{name}.{'o' if self.is_program else 'rlib'}"
-        self.program = f"{folder}/out/{name}"
+        # Of the program an object file, of the C library an archive, and else the library's statements.
+        self.made = f"{self.kept}/{name}.{'o' if self.is_program else 'a' if self.is_archive else 'rlib'}"
+        # What people run or link, where it is one of these two.
+        self.result = f"{folder}/out/{f'lib{name}.a' if self.is_archive else name}"
         self.seconds = self.megabytes = self.behind = 0
+
+    def has_result(self):
+        return self.is_program or self.is_archive
 
     def below(self):
         """The crates below it, each after those that it uses."""
@@ -95,6 +99,9 @@ class Crate:
             found.append((path, of.st_ino, of.st_size, of.st_mtime_ns, of.st_ctime_ns))
         return found
 
+    def is_untouched_since(self, began):
+        return all(it[-1] <= began for it in self.touched())
+
     def own_sum(self, toolchain):
         """A sum of its files, of its line in crates.txt and of the toolchain."""
         told = (self.name, [it.name for it in self.used], self.libraries, toolchain.identity)
@@ -112,7 +119,7 @@ class Crate:
         return found.hexdigest()
 
     def made_sum(self):
-        return sum_of(self.program if self.is_program else f"{self.made}/format")
+        return sum_of(self.result if self.has_result() else f"{self.made}/format")
 
     def is_proved(self, key):
         return text_of(self.record).split()[:2] == [key, self.made_sum()]
@@ -132,7 +139,7 @@ class Crate:
         stamp, and no file that is older."""
         left = f"{self.folder}/out/rlib/{self.name}.rlib"
         times = [os.lstat(f"{folder}/{name}").st_ctime_ns for folder, _, names in os.walk(left) for name in names]
-        if self.is_program or not times or min(times) < began or os.path.exists(f"{self.folder}/out/rlib/stamp"):
+        if self.has_result() or not times or min(times) < began or os.path.exists(f"{self.folder}/out/rlib/stamp"):
             return
         self.forget()
         shutil.copytree(left, self.made, copy_function=link_or_copy)
@@ -152,7 +159,8 @@ class Crate:
             words += ["-L", f"dependency={crate.kept}"]
         words += ["--antt-project", f"{kit}/rattle/logic/antt-project.json", "--logic-built", f"{kit}/logic_built"]
         words += ["--links", f"{self.name}=", "--jobs", str(jobs)]
-        words += ["--toolchain", f"{kit}/toolchain", "--backend", "llvm"] if self.is_program else ["--statements"]
+        words += ["--crate-type", "staticlib"] if self.is_archive else []
+        words += ["--toolchain", f"{kit}/toolchain", "--backend", "llvm"] if self.has_result() else ["--statements"]
         return [*words, "-o", self.made]
 
     def link_words(self, toolchain):
@@ -161,8 +169,8 @@ class Crate:
         return [*words, "-o", f"{self.made}.linked", self.made, f"{kit}/c/libos_c.a", f"{kit}/c/liblibc_c.a"]
 
 
-def crates_of(top):
-    """The program's crate and those below it by crates.txt, each after those that it uses."""
+def crates_of(top, last=PROGRAM):
+    """This crate and those below it by crates.txt, each after those that it uses; none where crates.txt doesn't have it."""
     uses = {}
     for line in text_of(f"{top}/crates.txt").splitlines():
         head, _, words = line.partition("#")[0].partition(":")
@@ -176,12 +184,13 @@ def crates_of(top):
             found[name] = Crate(name, f"{top}/crates/{name}", used, [it for it in uses[name] if it not in uses])
         return found[name]
 
-    add(PROGRAM)
+    if last in uses:
+        add(last)
     return list(found.values())
 
 
 def weigh(crates, table):
-    """Gives each crate its measured seconds and megabytes, and how many seconds the longest chain from its beginning to the program takes."""
+    """Gives each crate its measured seconds and megabytes, and how many seconds the longest chain from its beginning to the last one takes."""
     measured = {}
     for line in text_of(table).splitlines():
         words = line.partition("#")[0].split()
@@ -200,12 +209,12 @@ def weigh(crates, table):
 
 
 class BuiltFrom:
-    """The record of what the program was built from. It is as old as the beginning of that build, so what changed since is newer; beside that it
-    has the sums of the sources and of the program, by which the program is known again where the sources are as they were."""
+    """The record of what the program, or the C library, was built from. It is as old as the beginning of that build, so what changed since is
+    newer; beside that it has the sums of the sources and of what was built, by which that is known again where the sources are as they were."""
 
     def __init__(self, crates, toolchain):
-        self.crates, self.toolchain, self.program = crates, toolchain, crates[-1]
-        self.path = f"{os.path.dirname(self.program.program)}/built_from"
+        self.crates, self.toolchain, self.last = crates, toolchain, crates[-1]
+        self.path = f"{os.path.dirname(self.last.result)}/built_from"
         # A file's time comes of another clock than the processor's.
         with tempfile.TemporaryFile() as file:
             self.began = os.fstat(file.fileno()).st_mtime_ns
@@ -222,16 +231,16 @@ class BuiltFrom:
         return self.touched == [it.touched() for it in self.crates]
 
     def holds(self):
-        """Whether the program stands, and was built from just these sources."""
+        """Whether what was built stands, and was built from just these sources."""
         lines = text_of(self.path).splitlines()
-        return len(lines) == 5 and lines[3] == self.sum and lines[4] == self.program.made_sum()
+        return len(lines) == 5 and lines[3] == self.sum and lines[4] == self.last.made_sum()
 
     def write(self, began=None):
-        """Says that the program is what a proved build made of the sources as they stood when this record was begun."""
+        """Says that this is what a proved build made of the sources as they stood when this record was begun."""
         parts = [f"{it.name}/{part}" for it in self.crates for part in PARTS if os.path.isdir(f"{it.folder}/{part}")]
         names = " ".join(it.name for it in self.crates)
         os.makedirs(os.path.dirname(self.path), exist_ok=True)
-        lines = [self.toolchain.rt, names, " ".join(parts), self.sum, self.program.made_sum()]
+        lines = [self.toolchain.rt, names, " ".join(parts), self.sum, self.last.made_sum()]
         replace_text(self.path, "".join(f"{it}\n" for it in lines))
         os.utime(self.path, ns=(began or self.began, began or self.began))
 

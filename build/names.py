@@ -1,7 +1,7 @@
 #!/usr/bin/env python3
-"""Checks that each name in backquotes on the pages and in the crates' READMEs stands in the code, in the specs or proofs, or as a file. It
-looks at names of several words alone (`IsRetiredAt`, `map_at`); those that end in _X stand for many and are left out. A path below src, specs
-or proofs has to be there, in the crate of the README or in the one that it names."""
+"""Checks that each name in backquotes on the pages and in the crates' READMEs stands in the code, that of ffi/ too, in the specs or proofs, or
+as a file. It looks at names of several words alone (`IsRetiredAt`, `map_at`); those that end in _X stand for many and are left out. A path
+below src, specs or proofs has to be there, in the crate of the README or in the one that it names."""
 import glob
 import os
 import re
@@ -23,6 +23,9 @@ def known():
         for path in glob.glob(f"{ROOT}/crates/*/{folder}/**/*.*", recursive=True):
             text = text_of(path)
             found |= set(re.findall(r"[\w-]+", text)) | set(re.findall(r"\w+", text))
+    for path in glob.glob(f"{ROOT}/ffi/**/*.*", recursive=True):
+        if re.search(r"\.(h|hpp|c|cpp|rs|sh)$", path):
+            found |= set(re.findall(r"\w+", text_of(path)))
     for path in glob.glob(f"{ROOT}/**", recursive=True):
         name = os.path.basename(path.rstrip("/"))
         found |= {name, os.path.splitext(name)[0]}

@@ -1,15 +1,16 @@
 #!/usr/bin/env python3
-"""Proves and builds the program's crates side by side, by the graph of crates.txt.
+"""Proves and builds the crates of the program, or of the C library, side by side, by the graph of crates.txt.
 
 usage: side_by_side.py build TOP RT
+       side_by_side.py library TOP RT
        side_by_side.py record TOP RT SINCE
        side_by_side.py measured TOP
 
-TOP is the folder of crates.txt, and RT the toolchain's command. With `build` each crate is proved over the statements of those below it, by
-the words with which the gate has rattle build it, so the longest chain of crates bounds the time, and not their number. What was proved
-stands in crates/NAME/out/rlib/statements, beside a sum of all that it was made from: a call after one that was stopped goes on, and
-one after a change proves what changed and what stands above it. With `record` the program that another proved build made since the
-file SINCE was written is recorded, unless a source was changed since. `measured` prints what the proofs of `build` took, as the table
+TOP is the folder of crates.txt, and RT the toolchain's command. With `build`, or `library`, each crate is proved over the statements of
+those below it, by the words with which the gate has rattle build it, so the longest chain of crates bounds the time, and not their number.
+What was proved stands in crates/NAME/out/rlib/statements, beside a sum of all that it was made from: a call after one that was stopped goes
+on, and one after a change proves what changed and what stands above it. With `record` the program that another proved build made since the
+file SINCE was written is recorded, unless a source was changed since. `measured` prints what the proofs of both took, as the table
 build/seconds.txt by which it shares out the processors and tells the time that is left.
 
 The status is 0 where the program stands and is recorded, 1 where a crate isn't proved or nothing was recorded, 3 where the toolchain
@@ -26,7 +27,7 @@ import time
 
 sys.dont_write_bytecode = True
 # pylint: disable=wrong-import-position
-from crates import BuiltFrom, Toolchain, crates_of, number_in, text_of, weigh
+from crates import LIBRARY, PROGRAM, BuiltFrom, Toolchain, crates_of, number_in, text_of, weigh
 
 NOT_PROVED, REFUSED = 1, 3
 ENDINGS = (signal.SIGINT, signal.SIGTERM, signal.SIGHUP)
@@ -293,8 +294,8 @@ class Build:
             self.progress.say(f"files of {crate.name} changed while it was proved: once more")
             self.left.append(crate)
             return
-        if crate.is_program:
-            os.replace(f"{crate.made}.linked", crate.program)
+        if crate.has_result():
+            os.replace(f"{crate.made}.linked" if crate.is_program else crate.made, crate.result)
         crate.keep(run.key, run.seconds / (TIME_OF_JOBS if run.jobs > 1 else 1), run.megabytes)
         self.done.add(crate)
         self.progress.tell(run, self.left, self.running)
@@ -328,15 +329,17 @@ def outdated(crates, toolchain):
 
 def announce(crates, left, lanes):
     progress = Progress(left, lanes)
-    what = f"{len(left)} of the program's {len(crates)} crates" if len(left) < len(crates) else f"the program's {len(crates)} crates"
+    of = f"the {'C library' if crates[-1].is_archive else 'program'}'s {len(crates)} crates"
+    what = f"{len(left)} of {of}" if len(left) < len(crates) else of
     busy = " beside what else runs here" if load_of_others(0) > 0.5 else ""
     say(f"to be proved first: {what}, in about {progress.minutes(left, [])} min on {lanes} processor{'s' * (lanes > 1)}{busy}")
-    say("./citrus --unproved WORDS answers within a minute, by a build without proofs. Ctrl-C ends this, and the next call goes on")
+    if crates[-1].is_program:
+        say("./citrus --unproved WORDS answers within a minute, by a build without proofs. Ctrl-C ends this, and the next call goes on")
     return progress
 
 
 def prove(crates, toolchain):
-    """Proves what has to be proved, and links the program."""
+    """Proves what has to be proved, and builds what the last crate is for."""
     lanes, group = processors(), Group()
     left = outdated(crates, toolchain)
     try:
@@ -356,9 +359,11 @@ def takes_statements(toolchain):
     return b"--statements" in told and b"--logic-built" in told and os.path.isdir(f"{toolchain.folder}/rlibs/std.rlib")
 
 
-def build(top, rt):
+def build(top, rt, last=PROGRAM):
     top = os.path.abspath(top)
-    toolchain, crates = Toolchain(rt), crates_of(top)
+    toolchain, crates = Toolchain(rt), crates_of(top, last)
+    if not crates:
+        raise Ended(NOT_PROVED, f"crates.txt has no crate {last}")
     weigh(crates, f"{top}/build/seconds.txt")
     held = lock(crates)
     while True:
@@ -379,15 +384,18 @@ def record_since(top, rt, since):
     """Records the program that another proved build made since that file was written, and takes what it left of the libraries."""
     top, began = os.path.abspath(top), os.stat(since).st_mtime_ns
     toolchain, crates = Toolchain(rt), crates_of(top)
-    held = lock(crates)
+    names = {it.name for it in crates}
+    # Those of the C library on which the program doesn't stand.
+    others = [it for it in crates_of(top, LIBRARY) if it.name not in names]
+    held = lock([*crates, *others])
     record = BuiltFrom(crates, toolchain)
-    changed = [it for crate in crates for it in crate.touched() if it[-1] > began]
-    if changed or os.stat(f"{top}/crates.txt").st_ctime_ns > began:
+    if not all(it.is_untouched_since(began) for it in crates) or os.stat(f"{top}/crates.txt").st_ctime_ns > began:
         raise Ended(NOT_PROVED, "files changed meanwhile, so the program isn't recorded as built from them")
-    if not os.path.exists(record.program.program) or os.stat(record.program.program).st_ctime_ns < began:
+    if not os.path.exists(record.last.result) or os.stat(record.last.result).st_ctime_ns < began:
         raise Ended(NOT_PROVED, "no program was built, so none is recorded")
-    for crate in crates:
-        crate.adopt(began, toolchain)
+    for crate in [*crates, *others]:
+        if crate.is_untouched_since(began):
+            crate.adopt(began, toolchain)
     record.write(began)
     for it in held:
         os.close(it)
@@ -395,7 +403,7 @@ def record_since(top, rt, since):
 
 def print_measured(top):
     print("# Of each crate: the processor seconds of its proof by one job, and the most megabytes that one process of it took.")
-    for crate in crates_of(top):
+    for crate in [*crates_of(top), *crates_of(top, LIBRARY)[-1:]]:
         words = text_of(crate.record).split()
         if len(words) != 4 or words[2] == "0":
             raise Ended(NOT_PROVED, f"nothing was measured of {crate.name}")
@@ -416,6 +424,8 @@ def main(words):
     try:
         if words[:1] == ["build"] and len(words) == 3:
             build(*words[1:])
+        elif words[:1] == ["library"] and len(words) == 3:
+            build(*words[1:], last=LIBRARY)
         elif words[:1] == ["record"] and len(words) == 4:
             record_since(*words[1:])
         elif words[:1] == ["measured"] and len(words) == 2:

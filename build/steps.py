@@ -1,6 +1,6 @@
 #!/usr/bin/env python3
-"""Writes the table of steps of docs/TREE_INVARIANT.md: what each act does, by its docstring in core_acts/src/act.rt; what it needs and the
-view after it, by core_acts/specs/Acts.antt; and the crate that proves its law. `--check` only says whether the page is up to date."""
+"""Writes the table of steps of docs/TREE_INVARIANT.md: what each act does, by its docstring in core_acts/src/act.rt; what it needs,
+by core_acts/specs/Acts.antt; and the crate that proves its law. `--check` only says whether the page is up to date."""
 import glob
 import os
 import re
@@ -52,9 +52,9 @@ def table():
     proved = laws()
     rows = {group: [] for group in GROUPS}
     for name, kind, does in acts():
-        row = f"| {kind} | `{name}` | {does} | {needs[name]}; `{after[name]}` | `{proved[kind]}` |"
+        row = f"| {kind} | `{name}` | {does} | {needs[name]} | `{proved[kind]}` |"
         rows[files[after[name]]].append((int(kind[1:]), row))
-    lines = ["| kind | act | what it does | needs; the view after | law in |", "|---|---|---|---|---|"]
+    lines = ["| kind | act | what it does | needs | law in |", "|---|---|---|---|---|"]
     for group, found in rows.items():
         lines.append(f"| | | *{group}* | | |")
         lines += [row for _, row in sorted(found, key=lambda pair: pair[0])]

@@ -1,0 +1,4 @@
+pub mod AsBox
+pub mod Finding
+pub mod Values
+pub mod Writing

@@ -1,0 +1,48 @@
+-- What a handle leads to.
+-- Source: docs/TREE_CALLS.md, "The tree's table".
+use Rattle.std.specs.Prelude.{◌≡◌, ℕ, Bool, false}
+use Rattle.prcu_marks.specs.Bounds.{most_tickets}
+use Rattle.core_state.specs.steps.Seating.{first_of, second_of}
+use Rattle.seat_table.specs.Fresh.{fresh_seat}
+use Rattle.seat_table.specs.Seats.{SeatAt, TableAt, IsQuietSeat, shape_of}
+use Rattle.citrus_tree.specs.Clients.{ClientAt}
+
+-- what a clause sees of a caller: the number of its waiter, its table, its seat, and whether a call of it gave up
+pub record CallerAt : Type 0 where
+  pub way : ℕ
+  pub table : TableAt
+  pub seat : SeatAt
+  pub lost : Bool
+
+-- the client of the tree that a caller is
+abbrev pub client_of : CallerAt → ClientAt
+client_of c = record { shape = shape_of c.way c.table; table = c.table; seat = c.seat }
+
+-- Both are callers of one index.
+pub record AreOfOneIndex (c d : CallerAt) : Type 0 where
+  pub way : d.way ≡ c.way
+  pub table : d.table ≡ c.table
+
+-- The caller may go on: it isn't lost, and its seat is one of its table, and quiet.
+pub record MayGoOn (c : CallerAt) : Type 0 where
+  pub kept : c.lost ≡ false
+  pub seat : c.seat.table ≡ c.table
+  pub quiet : IsQuietSeat c.seat
+
+-- The first caller of a new index with this waiter, so many slots and handles, and all tickets.
+pub record IsFresh (way slots handles : ℕ) (c : CallerAt) : Type 0 where
+  pub way_is : c.way ≡ way
+  pub slots_are : c.table.slots ≡ slots
+  pub handles_are : c.table.places ≡ handles
+  pub tickets_are : c.table.tickets ≡ most_tickets
+  pub seat_is : c.seat ≡ fresh_seat way c.table
+  pub may : MayGoOn c
+
+-- A caller became two. The second has the last of the unused handles, so many, and so many of the tickets, and has seen what the first has.
+pub record IsShared (c : CallerAt) (handles tickets : ℕ) (d other : CallerAt) : Type 0 where
+  pub first_index : AreOfOneIndex c d
+  pub second_index : AreOfOneIndex c other
+  pub first : d.seat.view ≡ first_of handles tickets c.seat.view
+  pub second : other.seat.view ≡ second_of handles tickets c.seat.view
+  pub first_may : MayGoOn d
+  pub second_may : MayGoOn other

@@ -1,0 +1,171 @@
+use crate::handle::Handle;
+use crate::library::{citrus_open, citrus_share, status, RawHandle};
+use crate::{Error, ALL_TICKETS, MAX_HANDLES, MAX_SLOTS};
+use std::fmt;
+use std::sync::{Arc, Mutex, MutexGuard, PoisonError};
+
+/// The handles that nobody has.
+pub(crate) struct Pool(Mutex<Vec<RawHandle>>);
+
+impl Pool {
+    fn free(&self) -> MutexGuard<'_, Vec<RawHandle>> {
+        self.0.lock().unwrap_or_else(PoisonError::into_inner)
+    }
+
+    /// Takes a handle back. There is room for it, since it was here before.
+    pub(crate) fn put_back(&self, raw: RawHandle) {
+        self.free().push(raw);
+    }
+}
+
+/// How a removal waits until nobody reads what it took out. Lookups differ little; see [`Builder::waiter`].
+#[derive(Clone, Copy, Debug, Default, PartialEq, Eq, Hash)]
+pub enum Waiter {
+    /// Looks at the key of each reader. The most exact one; take it first.
+    #[default]
+    Eer,
+    /// Counts readers in 64 classes of keys. What a wait costs doesn't grow with the number of handles.
+    Domain,
+    /// Has a stamp for each handle and class. Readers write to words of their own alone.
+    Deer,
+}
+
+impl Waiter {
+    /// The number that `citrus.h` has for it.
+    fn number(self) -> u32 {
+        match self {
+            Waiter::Eer => 0,
+            Waiter::Domain => 1,
+            Waiter::Deer => 2,
+        }
+    }
+}
+
+/// How an [`Index`] is made, where [`Index::new`] doesn't say enough.
+///
+/// ```
+/// use citrus_map::{Index, Waiter};
+///
+/// let index = Index::builder(1_000, 4).waiter(Waiter::Deer).build()?;
+/// assert_eq!(index.handle()?.insert(5, 50), Ok(true));
+/// # Ok::<(), citrus_map::Error>(())
+/// ```
+#[derive(Clone, Copy, Debug)]
+#[must_use]
+pub struct Builder {
+    slots: u32,
+    handles: u32,
+    waiter: Waiter,
+}
+
+impl Builder {
+    /// The way in which removals wait; [`Waiter::Eer`] where nothing is said. All three answer the same.
+    pub fn waiter(self, waiter: Waiter) -> Builder {
+        Builder { waiter, ..self }
+    }
+
+    /// Makes the index, with nothing in it. It takes the memory of all its slots at once.
+    ///
+    /// # Errors
+    /// [`Error::Slots`] and [`Error::Handles`] where a number is out of range, [`Error::NoMemory`].
+    pub fn build(self) -> Result<Index, Error> {
+        let Builder { slots, handles, waiter } = self;
+        if !(1..=MAX_SLOTS).contains(&slots) {
+            return Err(Error::Slots);
+        }
+        if !(1..=MAX_HANDLES).contains(&handles) {
+            return Err(Error::Handles);
+        }
+        let mut first = RawHandle::CLOSED;
+        // SAFETY: `first` is a closed handle of our own.
+        done(unsafe { citrus_open(&mut first, slots, handles, waiter.number()) })?;
+        let mut all = Vec::with_capacity(handles as usize);
+        for _ in 1..handles {
+            let mut other = RawHandle::CLOSED;
+            // SAFETY: both handles are our own, `first` open as the last call left it and `other` closed.
+            done(unsafe { citrus_share(&mut first, 1, ALL_TICKETS / u64::from(handles), &mut other) })?;
+            all.push(other);
+        }
+        all.push(first);
+        Ok(Index { slots, handles, pool: Arc::new(Pool(Mutex::new(all))) })
+    }
+}
+
+/// Tells the causes of `citrus_open` and `citrus_share` that arguments in range may have.
+fn done(status: i32) -> Result<(), Error> {
+    match status {
+        status::DONE => Ok(()),
+        status::NO_MEMORY => Err(Error::NoMemory),
+        status::LOST => Err(Error::Lost),
+        status => panic!("the library citrus answered {status} to a new handle, which citrus.h excludes"),
+    }
+}
+
+/// A concurrent ordered map from `u64` to `u64`. Threads share it by `&` or in an [`Arc`], and each works with a [`Handle`] of its own.
+///
+/// An index may be dropped before its handles. It is freed with the last of them.
+pub struct Index {
+    slots: u32,
+    handles: u32,
+    pool: Arc<Pool>,
+}
+
+impl Index {
+    /// A new index with 1 to [`MAX_SLOTS`] slots, and 1 to [`MAX_HANDLES`] handles that may be out at one time.
+    ///
+    /// A pair takes a slot, and each handle may keep up to [`HELD_SLOTS`](crate::HELD_SLOTS) for itself. So no insert finds the index full
+    /// while it has fewer than `pairs` pairs, if it has `pairs + HELD_SLOTS * handles` slots.
+    ///
+    /// # Errors
+    /// [`Error::Slots`] and [`Error::Handles`] where a number is out of range, [`Error::NoMemory`].
+    ///
+    /// ```
+    /// use citrus_map::{Error, Index, HELD_SLOTS};
+    ///
+    /// let index = Index::new(10_000 + HELD_SLOTS * 4, 4)?;
+    /// assert_eq!(index.handle()?.get(7), Ok(None));
+    /// assert!(matches!(Index::new(0, 4), Err(Error::Slots)));
+    /// # Ok::<(), Error>(())
+    /// ```
+    pub fn new(slots: u32, handles: u32) -> Result<Index, Error> {
+        Index::builder(slots, handles).build()
+    }
+
+    /// The same as [`Index::new`], with more to say before the index is made.
+    pub fn builder(slots: u32, handles: u32) -> Builder {
+        Builder { slots, handles, waiter: Waiter::default() }
+    }
+
+    /// A handle for a thread. It goes back to the index when it is dropped.
+    ///
+    /// Take one for each thread and keep it: this call locks a mutex, and the calls of a handle don't.
+    ///
+    /// # Errors
+    /// [`Error::NoHandle`] where all handles are out.
+    ///
+    /// ```
+    /// use citrus_map::{Error, Index};
+    ///
+    /// let index = Index::new(100, 1)?;
+    /// let only = index.handle()?;
+    /// assert!(matches!(index.handle(), Err(Error::NoHandle)));
+    /// drop(only);
+    /// assert!(index.handle().is_ok());
+    /// # Ok::<(), Error>(())
+    /// ```
+    pub fn handle(&self) -> Result<Handle, Error> {
+        let raw = self.pool.free().pop().ok_or(Error::NoHandle)?;
+        Ok(Handle::new(raw, Arc::clone(&self.pool)))
+    }
+
+    /// How many handles could be taken at this moment.
+    pub fn free_handles(&self) -> usize {
+        self.pool.free().len()
+    }
+}
+
+impl fmt::Debug for Index {
+    fn fmt(&self, text: &mut fmt::Formatter<'_>) -> fmt::Result {
+        text.debug_struct("Index").field("slots", &self.slots).field("handles", &self.handles).finish_non_exhaustive()
+    }
+}

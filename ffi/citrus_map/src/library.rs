@@ -1,0 +1,67 @@
+//! The C library, as its header `citrus.h` declares it.
+
+use std::ffi::c_void;
+use std::ptr::null_mut;
+
+/// What C calls a `citrus_handle`: closed, or open on an index. It is closed when it is dropped.
+#[repr(C)]
+pub(crate) struct RawHandle {
+    at: *mut c_void,
+}
+
+impl RawHandle {
+    pub(crate) const CLOSED: RawHandle = RawHandle { at: null_mut() };
+}
+
+// SAFETY: a handle may go from thread to thread, and so says the header. What moves it here is safe Rust, which orders the calls.
+unsafe impl Send for RawHandle {}
+
+impl Drop for RawHandle {
+    fn drop(&mut self) {
+        // SAFETY: the handle is closed or as the last call left it, and nobody else has it.
+        unsafe { citrus_close(self) }
+    }
+}
+
+/// What C calls a `citrus_pair`.
+#[repr(C)]
+#[derive(Clone, Copy)]
+pub(crate) struct RawPair {
+    pub(crate) key: u64,
+    pub(crate) value: u64,
+}
+
+pub(crate) mod status {
+    pub(crate) const DONE: i32 = 0;
+    pub(crate) const UNCHANGED: i32 = 1;
+    pub(crate) const FULL: i32 = 2;
+    pub(crate) const MORE: i32 = 3;
+    pub(crate) const MOVED: i32 = 4;
+    pub(crate) const NEW: i32 = 5;
+    pub(crate) const NO_MEMORY: i32 = -3;
+    pub(crate) const SPENT: i32 = -4;
+    pub(crate) const LOST: i32 = -5;
+}
+
+// Each handle is closed or as the last call with it left it, and one call at a time is made with it. The pointers of one call are distinct,
+// and lead to memory of their type. Whatever else a call may ask the library tests itself.
+extern "C" {
+    pub(crate) fn citrus_open(handle: *mut RawHandle, slots: u32, handles: u32, waiter: u32) -> i32;
+    pub(crate) fn citrus_share(handle: *mut RawHandle, handles: u32, tickets: u64, other: *mut RawHandle) -> i32;
+    pub(crate) fn citrus_close(handle: *mut RawHandle);
+    pub(crate) fn citrus_get(handle: *mut RawHandle, key: u64, value: *mut u64) -> i32;
+    pub(crate) fn citrus_insert(handle: *mut RawHandle, key: u64, value: u64) -> i32;
+    pub(crate) fn citrus_replace(handle: *mut RawHandle, key: u64, value: u64, old: *mut u64) -> i32;
+    pub(crate) fn citrus_upsert(handle: *mut RawHandle, key: u64, value: u64, old: *mut u64) -> i32;
+    pub(crate) fn citrus_remove(handle: *mut RawHandle, key: u64, old: *mut u64) -> i32;
+    pub(crate) fn citrus_list(
+        handle: *mut RawHandle,
+        low: u64,
+        high: u64,
+        pairs: *mut RawPair,
+        room: usize,
+        count: *mut usize,
+        next: *mut u64,
+    ) -> i32;
+    pub(crate) fn citrus_first(handle: *mut RawHandle, low: u64, key: *mut u64, value: *mut u64) -> i32;
+}

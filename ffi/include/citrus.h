@@ -1,0 +1,132 @@
+/* Citrus: an ordered index from 64-bit keys to 64-bit values, in memory, that up to 64 threads use at once.
+ *
+ * Lookups take no lock and wait for nobody; updates lock the few nodes that they change. Each thread calls through a handle of its own:
+ *
+ *     citrus_handle mine = CITRUS_CLOSED_HANDLE, other = CITRUS_CLOSED_HANDLE;
+ *     citrus_open(&mine, 100000, 2, CITRUS_EER);
+ *     citrus_share(&mine, 1, CITRUS_ALL_TICKETS / 2, &other);      // hand `other` to a second thread
+ *     citrus_insert(&mine, 5, 50);
+ *     citrus_close(&other);
+ *     citrus_close(&mine);
+ *
+ * The library's side of each call is proved. It tests what can be tested, a closed handle too, and answers with a status.
+ *
+ * What a caller owes, which nothing can test:
+ *   - a handle is CITRUS_CLOSED_HANDLE, or as the last call with it left it. It is moved and never copied: who hands it on sets the old one
+ *     to CITRUS_CLOSED_HANDLE, and nobody touches its member;
+ *   - one call at a time with one handle. It may go from thread to thread, by a lock, or by a thread's start or join;
+ *   - the pointers of one call aren't null and don't overlap, and each leads to memory of its type that lives as long as the call;
+ *   - no call from a signal handler, nor from the child of a fork of a program with threads;
+ *   - malloc, realloc and free are of one allocator.
+ *
+ * What is written: *value, *old, *key and *next only where the status says so; *count of citrus_list always. */
+#ifndef CITRUS_H
+#define CITRUS_H
+
+#include <stddef.h>
+#include <stdint.h>
+
+#ifdef __cplusplus
+extern "C" {
+#endif
+
+typedef struct { void *at; } citrus_handle;
+
+#define CITRUS_CLOSED_HANDLE { 0 }
+
+#define CITRUS_MAX_SLOTS 2097152u
+#define CITRUS_MAX_HANDLES 64u
+#define CITRUS_MAX_ROOM 1048576u
+/* 2^57: what the first handle of an index has. At a million updates a second, 4 tickets each, they last 1,100 years. */
+#define CITRUS_ALL_TICKETS 144115188075855872u
+
+/* How a remove waits for the readers that may still stand on what it takes out. CITRUS_EER looks at each handle: begin with it.
+ * CITRUS_DOMAIN counts readers by key modulo 64, so its waits cost the same with many handles. CITRUS_DEER has a stamp for each handle and
+ * each key modulo 64, and its lookups store once less. */
+enum { CITRUS_EER = 0, CITRUS_DOMAIN = 1, CITRUS_DEER = 2 };
+
+/* What a call answers. Those below 0 say that the call did nothing, but for CITRUS_LOST. Of several causes the first is told: CLOSED, LOST,
+ * BAD_ARGUMENT, SPENT, NO_MEMORY. */
+enum {
+    CITRUS_DONE = 0,
+    CITRUS_UNCHANGED = 1,     /* insert: the key is there already; get, replace, remove: it is absent; first: there is no such pair */
+    CITRUS_FULL = 2,          /* the key is absent, and there is no free slot for it */
+    CITRUS_MORE = 3,          /* list: there are more pairs than room */
+    CITRUS_MOVED = 4,         /* others updated the index in each of 1,000 tries; nothing was changed. A later call may get through */
+    CITRUS_NEW = 5,           /* upsert: the pair was added */
+    CITRUS_CLOSED = -1,       /* the handle is closed */
+    CITRUS_BAD_ARGUMENT = -2, /* a number is out of its range */
+    CITRUS_NO_MEMORY = -3,    /* malloc gave none; open, share, list and first alone take memory */
+    CITRUS_SPENT = -4,        /* the handle has fewer than 4 tickets: lists and shares are left to it */
+    CITRUS_LOST = -5          /* a call with this handle gave up after 2^64 - 1 rounds of waiting: the handle can only be closed */
+};
+
+typedef struct { uint64_t key, value; } citrus_pair;
+
+/* Opens a new, empty index. At DONE, what the handle was open on before is closed.
+ *   slots    1 to CITRUS_MAX_SLOTS: room for so many pairs, less up to 20 for each handle beside the first, which a thread may have taken
+ *            out of the index and not yet given back
+ *   handles  1 to CITRUS_MAX_HANDLES: how many there can be in all, since the place of a closed one isn't used again
+ *   waiter   CITRUS_EER, CITRUS_DOMAIN or CITRUS_DEER
+ * It takes all memory of the index at once, and only a list, a first or a share takes more later; its time grows with the slots.
+ * DONE; BAD_ARGUMENT or NO_MEMORY, and then the handle is as it was. */
+int32_t citrus_open(citrus_handle *handle, uint32_t slots, uint32_t handles, uint32_t waiter);
+
+/* Makes `other` a second handle of the index. So many of the handles that are left to the first one (1 or more; `other` itself is one of
+ * them) and so many of its tickets (0 or more) go over to it, and can be shared from it in turn. What `other` was open on before is closed.
+ * It waits for nobody and takes half a kilobyte of memory.
+ * DONE; CLOSED; BAD_ARGUMENT where the first has fewer handles or tickets; NO_MEMORY; LOST. But at DONE both are as they were. */
+int32_t citrus_share(citrus_handle *handle, uint32_t handles, uint64_t tickets, citrus_handle *other);
+
+/* Tells how many more handles can be shared from this one, and how many tickets it has. It costs a few loads.
+ * DONE, of a lost handle too; CLOSED. */
+int32_t citrus_left(citrus_handle *handle, uint32_t *handles, uint64_t *tickets);
+
+/* Closes the handle. A closed one may be closed again. The memory of the index is freed with the last of its handles. Until then what a
+ * closed handle had, its place and tickets, is lost to the index: keep handles and hand them on, where threads come and go. It waits for
+ * nobody. */
+void citrus_close(citrus_handle *handle);
+
+/* Tells the key's value.
+ * It takes no lock and waits for nobody: a few stores, and a load or two for each level of the tree. It needs 4 tickets and uses none.
+ * DONE, and *value; UNCHANGED where the key is absent; CLOSED; SPENT; LOST. */
+int32_t citrus_get(citrus_handle *handle, uint64_t key, uint64_t *value);
+
+/* The updates. Each searches as a get does, locks the few nodes that it changes, and begins again where another thread changed them first.
+ * Where another thread holds one of these locks it spins, since the library can't yield the processor: take no more threads that update than
+ * there are processors. It waits for readers only as said below. It needs 4 tickets and uses 4 at most. */
+
+/* Adds the pair, where the key is absent. Where no slot is free it first waits for all readers inside a call, to give back slots of its
+ * own.
+ * DONE; UNCHANGED where the key is there; FULL; CLOSED; SPENT; LOST. */
+int32_t citrus_insert(citrus_handle *handle, uint64_t key, uint64_t value);
+
+/* Gives the key another value, where it is present. It waits for no reader.
+ * DONE, and the value before in *old; UNCHANGED where the key is absent; CLOSED; SPENT; LOST. */
+int32_t citrus_replace(citrus_handle *handle, uint64_t key, uint64_t value, uint64_t *old);
+
+/* Gives the key this value: a replace, or else an insert, in turn until one of the two told an update.
+ * DONE, and the value before in *old, where the key was present; NEW where the pair was added; FULL; MOVED where other threads put the key
+ * in and took it out in each of 1,000 rounds; CLOSED; SPENT; LOST. */
+int32_t citrus_upsert(citrus_handle *handle, uint64_t key, uint64_t value, uint64_t *old);
+
+/* Takes the pair out, where the key is present. Where its node has two children it waits for the readers inside a call whose key lies above
+ * this key and up to the next one; and each 15th remove or so waits for all threads that are inside a call.
+ * DONE, and the value in *old; UNCHANGED where the key is absent; CLOSED; SPENT; LOST. */
+int32_t citrus_remove(citrus_handle *handle, uint64_t key, uint64_t *old);
+
+/* Lists the pairs with keys from low to high, both among them, all as they were at one moment of the call, keys ascending.
+ * It fills pairs[0] to pairs[*count - 1], and *count is 0 but at DONE and MORE. It takes no lock, and memory for `room` pairs. Where
+ * updates come it reads again, up to 1,000 times, so beside steady writers take short ranges. It needs no tickets.
+ * DONE; MORE where there are more than `room` such pairs: these are the first ones, and the key after them is in *next; MOVED; CLOSED;
+ * BAD_ARGUMENT where low is above high, or room is 0 or above CITRUS_MAX_ROOM; NO_MEMORY; LOST. */
+int32_t citrus_list(citrus_handle *handle, uint64_t low, uint64_t high, citrus_pair *pairs, size_t room, size_t *count, uint64_t *next);
+
+/* Tells the pair with the least key at or above `low`, as it was at one moment of the call. It costs what a list of one pair costs.
+ * DONE, and *key and *value; UNCHANGED where there is none; MOVED; CLOSED; NO_MEMORY; LOST. */
+int32_t citrus_first(citrus_handle *handle, uint64_t low, uint64_t *key, uint64_t *value);
+
+#ifdef __cplusplus
+}
+#endif
+#endif

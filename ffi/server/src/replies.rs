@@ -1,0 +1,115 @@
+//! From answers to the bytes of RESP2.
+
+/// Replies that haven't been sent.
+#[derive(Debug, Default)]
+pub struct Replies {
+    bytes: Vec<u8>,
+}
+
+impl Replies {
+    /// All of them.
+    pub fn bytes(&self) -> &[u8] {
+        &self.bytes
+    }
+
+    /// Forgets them, when they were sent.
+    pub fn clear(&mut self) {
+        self.bytes.clear();
+        self.bytes.shrink_to(1 << 20);
+    }
+
+    /// A word that says how it went.
+    pub fn status(&mut self, word: &str) {
+        self.line(b'+', word.as_bytes());
+    }
+
+    /// What went wrong, the kind of error first. An end of line in it becomes a space.
+    pub fn error(&mut self, text: &str) {
+        let text: Vec<u8> = text.bytes().map(|byte| if byte == b'\r' || byte == b'\n' { b' ' } else { byte }).collect();
+        self.line(b'-', &text);
+    }
+
+    /// A number that counts.
+    pub fn count(&mut self, number: u64) {
+        self.line(b':', Decimal::of(number).digits());
+    }
+
+    /// Bytes, whatever they are.
+    pub fn bulk(&mut self, bytes: &[u8]) {
+        self.line(b'$', Decimal::of(bytes.len() as u64).digits());
+        self.bytes.extend_from_slice(bytes);
+        self.bytes.extend_from_slice(b"\r\n");
+    }
+
+    /// A key or a value.
+    pub fn number(&mut self, number: u64) {
+        self.bulk(Decimal::of(number).digits());
+    }
+
+    /// A key or a value that may be absent.
+    pub fn number_or_nil(&mut self, number: Option<u64>) {
+        match number {
+            Some(number) => self.number(number),
+            None => self.bytes.extend_from_slice(b"$-1\r\n"),
+        }
+    }
+
+    /// The begin of an array: so many replies follow.
+    pub fn array(&mut self, length: usize) {
+        self.line(b'*', Decimal::of(length as u64).digits());
+    }
+
+    fn line(&mut self, kind: u8, text: &[u8]) {
+        self.bytes.push(kind);
+        self.bytes.extend_from_slice(text);
+        self.bytes.extend_from_slice(b"\r\n");
+    }
+}
+
+/// The digits of a number, at the end of their place.
+struct Decimal {
+    place: [u8; 20],
+    begin: usize,
+}
+
+impl Decimal {
+    fn of(mut number: u64) -> Decimal {
+        let mut decimal = Decimal { place: [b'0'; 20], begin: 19 };
+        while number >= 10 {
+            decimal.place[decimal.begin] = b'0' + (number % 10) as u8;
+            decimal.begin -= 1;
+            number /= 10;
+        }
+        decimal.place[decimal.begin] = b'0' + number as u8;
+        decimal
+    }
+
+    fn digits(&self) -> &[u8] {
+        &self.place[self.begin..]
+    }
+}
+
+#[cfg(test)]
+mod tests {
+    use super::*;
+
+    #[test]
+    fn numbers_are_written_as_std_writes_them() {
+        for number in [0, 7, 9, 10, 99, 100, 12_345, u64::MAX / 10, u64::MAX] {
+            assert_eq!(Decimal::of(number).digits(), number.to_string().as_bytes());
+        }
+    }
+
+    #[test]
+    fn replies_stand_one_behind_the_other() {
+        let mut replies = Replies::default();
+        replies.status("OK");
+        replies.error("ERR a\r\nb");
+        replies.count(12);
+        replies.array(3);
+        replies.bulk(b"");
+        replies.number(345);
+        replies.number_or_nil(None);
+        assert_eq!(replies.bytes(), b"+OK\r\n-ERR a  b\r\n:12\r\n*3\r\n$0\r\n\r\n$3\r\n345\r\n$-1\r\n");
+    }
+}

@@ -1,0 +1,259 @@
+/* Each answer of each call, in one thread. */
+#include "cases.h"
+#include <string.h>
+
+static citrus_handle open_index(uint32_t slots, uint32_t handles, uint32_t waiter) {
+    citrus_handle index = CITRUS_CLOSED_HANDLE;
+    WANT(citrus_open(&index, slots, handles, waiter), CITRUS_DONE);
+    return index;
+}
+
+static void an_absent_key(uint32_t waiter) {
+    citrus_handle index = open_index(10, 1, waiter);
+    uint64_t told = UNTOUCHED, key = UNTOUCHED;
+    WANT(citrus_get(&index, 1, &told), CITRUS_UNCHANGED);
+    WANT(citrus_replace(&index, 1, 10, &told), CITRUS_UNCHANGED);
+    WANT(citrus_remove(&index, 1, &told), CITRUS_UNCHANGED);
+    WANT(citrus_first(&index, 0, &key, &told), CITRUS_UNCHANGED);
+    WANT(citrus_get(&index, 1, &told), CITRUS_UNCHANGED);
+    WANT(told, UNTOUCHED);
+    WANT(key, UNTOUCHED);
+    citrus_close(&index);
+}
+
+static void a_pair_comes_and_goes(uint32_t waiter) {
+    citrus_handle index = open_index(10, 1, waiter);
+    uint64_t told = UNTOUCHED;
+    WANT(citrus_insert(&index, 1, 10), CITRUS_DONE);
+    WANT(citrus_insert(&index, 1, 11), CITRUS_UNCHANGED);
+    WANT(citrus_get(&index, 1, &told), CITRUS_DONE);
+    WANT(told, 10);
+    WANT(citrus_replace(&index, 1, 12, &told), CITRUS_DONE);
+    WANT(told, 10);
+    WANT(citrus_get(&index, 1, &told), CITRUS_DONE);
+    WANT(told, 12);
+    WANT(citrus_remove(&index, 1, &told), CITRUS_DONE);
+    WANT(told, 12);
+    told = UNTOUCHED;
+    WANT(citrus_remove(&index, 1, &told), CITRUS_UNCHANGED);
+    WANT(citrus_get(&index, 1, &told), CITRUS_UNCHANGED);
+    WANT(told, UNTOUCHED);
+    citrus_close(&index);
+}
+
+static void an_upsert_adds_and_then_replaces(uint32_t waiter) {
+    citrus_handle index = open_index(10, 1, waiter);
+    uint64_t told = UNTOUCHED;
+    WANT(citrus_upsert(&index, 1, 10, &told), CITRUS_NEW);
+    WANT(told, UNTOUCHED);
+    WANT(citrus_upsert(&index, 1, 11, &told), CITRUS_DONE);
+    WANT(told, 10);
+    WANT(citrus_get(&index, 1, &told), CITRUS_DONE);
+    WANT(told, 11);
+    citrus_close(&index);
+}
+
+static void numbers_at_their_ends(uint32_t waiter) {
+    citrus_handle index = open_index(10, 1, waiter);
+    uint64_t told = UNTOUCHED, key = UNTOUCHED;
+    WANT(citrus_insert(&index, UINT64_MAX, 0), CITRUS_DONE);
+    WANT(citrus_insert(&index, 0, UINT64_MAX), CITRUS_DONE);
+    WANT(citrus_get(&index, UINT64_MAX, &told), CITRUS_DONE);
+    WANT(told, 0);
+    WANT(citrus_first(&index, 0, &key, &told), CITRUS_DONE);
+    WANT(key, 0);
+    WANT(told, UINT64_MAX);
+    WANT(citrus_first(&index, 1, &key, &told), CITRUS_DONE);
+    WANT(key, UINT64_MAX);
+    WANT(citrus_first(&index, UINT64_MAX, &key, &told), CITRUS_DONE);
+    WANT(citrus_remove(&index, UINT64_MAX, &told), CITRUS_DONE);
+    WANT(citrus_first(&index, 1, &key, &told), CITRUS_UNCHANGED);
+    citrus_close(&index);
+}
+
+static void a_full_index(uint32_t waiter) {
+    citrus_handle index = open_index(3, 1, waiter);
+    uint64_t told = UNTOUCHED;
+    for (uint64_t key = 1; key <= 3; key++) WANT(citrus_insert(&index, key, 10 * key), CITRUS_DONE);
+    WANT(citrus_insert(&index, 4, 40), CITRUS_FULL);
+    WANT(citrus_upsert(&index, 4, 40, &told), CITRUS_FULL);
+    WANT(told, UNTOUCHED);
+    WANT(citrus_insert(&index, 3, 31), CITRUS_UNCHANGED);
+    WANT(citrus_upsert(&index, 3, 31, &told), CITRUS_DONE);
+    WANT(told, 30);
+    WANT(citrus_get(&index, 4, &told), CITRUS_UNCHANGED);
+    WANT(citrus_remove(&index, 2, &told), CITRUS_DONE);
+    WANT(told, 20);
+    WANT(citrus_insert(&index, 4, 40), CITRUS_DONE);
+    citrus_close(&index);
+}
+
+/* Takes out each key of a tree of 15, whose nodes have no child, one, or two, and sees that the others stay. */
+static void a_remove_at_each_node(uint32_t waiter) {
+    static const uint64_t order[] = {8, 4, 12, 2, 6, 10, 14, 1, 3, 5, 7, 9, 11, 13, 15};
+    for (uint64_t gone = 1; gone <= 15; gone++) {
+        citrus_handle index = open_index(40, 1, waiter);
+        uint64_t told = UNTOUCHED;
+        for (size_t i = 0; i < COUNT_OF(order); i++)
+            if (gone % 2 == 0 || order[i] != gone - 1) WANT(citrus_insert(&index, order[i], 100 + order[i]), CITRUS_DONE);
+        WANT(citrus_remove(&index, gone, &told), CITRUS_DONE);
+        WANT(told, 100 + gone);
+        for (uint64_t key = 1; key <= 15; key++) {
+            const int is_there = key != gone && (gone % 2 == 0 || key != gone - 1);
+            WANT(citrus_get(&index, key, &told), is_there ? CITRUS_DONE : CITRUS_UNCHANGED);
+            if (is_there) WANT(told, 100 + key);
+        }
+        citrus_close(&index);
+    }
+}
+
+static void lists(uint32_t waiter) {
+    citrus_handle index = open_index(10, 1, waiter);
+    citrus_pair pairs[4] = {{UNTOUCHED, UNTOUCHED}, {UNTOUCHED, UNTOUCHED}, {UNTOUCHED, UNTOUCHED}, {UNTOUCHED, UNTOUCHED}};
+    size_t count = 9;
+    uint64_t next = UNTOUCHED;
+    WANT(citrus_list(&index, 0, UINT64_MAX, pairs, 4, &count, &next), CITRUS_DONE);
+    WANT(count, 0);
+    for (uint64_t key = 4; key >= 2; key--) WANT(citrus_insert(&index, key, 10 * key), CITRUS_DONE);
+    WANT(citrus_list(&index, 0, UINT64_MAX, pairs, 4, &count, &next), CITRUS_DONE);
+    WANT(count, 3);
+    for (uint64_t i = 0; i < 3; i++) {
+        WANT(pairs[i].key, 2 + i);
+        WANT(pairs[i].value, 20 + 10 * i);
+    }
+    WANT(next, UNTOUCHED);
+    WANT(citrus_list(&index, 2, 4, pairs, 2, &count, &next), CITRUS_MORE);
+    WANT(count, 2);
+    WANT(next, 4);
+    WANT(citrus_list(&index, 2, 4, pairs, 3, &count, &next), CITRUS_DONE);
+    WANT(citrus_list(&index, 3, 3, pairs, 1, &count, &next), CITRUS_DONE);
+    WANT(count, 1);
+    WANT(pairs[0].key, 3);
+    WANT(citrus_list(&index, 5, 5, pairs, 4, &count, &next), CITRUS_DONE);
+    WANT(count, 0);
+    citrus_close(&index);
+}
+
+static void handles_and_tickets_are_shared(uint32_t waiter) {
+    citrus_handle first = open_index(10, 4, waiter), second = CITRUS_CLOSED_HANDLE, third = CITRUS_CLOSED_HANDLE;
+    uint32_t handles = 0;
+    uint64_t tickets = 0, told = UNTOUCHED;
+    WANT(citrus_left(&first, &handles, &tickets), CITRUS_DONE);
+    WANT(handles, 3);
+    WANT(tickets, CITRUS_ALL_TICKETS);
+    WANT(citrus_share(&first, 2, 1000, &second), CITRUS_DONE);
+    WANT(citrus_share(&second, 1, 400, &third), CITRUS_DONE);
+    WANT(citrus_left(&first, &handles, &tickets), CITRUS_DONE);
+    WANT(handles, 1);
+    WANT(tickets, CITRUS_ALL_TICKETS - 1000);
+    WANT(citrus_left(&second, &handles, &tickets), CITRUS_DONE);
+    WANT(handles, 0);
+    WANT(tickets, 600);
+    WANT(citrus_insert(&third, 1, 10), CITRUS_DONE);
+    WANT(citrus_get(&first, 1, &told), CITRUS_DONE);
+    WANT(told, 10);
+    WANT(citrus_left(&third, &handles, &tickets), CITRUS_DONE);
+    WANT(tickets >= 396 && tickets <= 400, 1);
+    citrus_close(&third);
+    WANT(citrus_share(&second, 1, 4, &third), CITRUS_BAD_ARGUMENT);
+    WANT(citrus_share(&first, 1, 4, &third), CITRUS_DONE);
+    WANT(citrus_get(&third, 1, &told), CITRUS_DONE);
+    WANT(citrus_left(&first, &handles, &tickets), CITRUS_DONE);
+    WANT(handles, 0);
+    citrus_close(&third);
+    citrus_close(&second);
+    citrus_close(&first);
+}
+
+static void the_index_lives_as_long_as_one_handle(uint32_t waiter) {
+    citrus_handle first = open_index(10, 3, waiter), second = CITRUS_CLOSED_HANDLE;
+    uint64_t told = UNTOUCHED;
+    WANT(citrus_insert(&first, 1, 10), CITRUS_DONE);
+    WANT(citrus_share(&first, 2, 1000, &second), CITRUS_DONE);
+    citrus_close(&first);
+    WANT(citrus_get(&second, 1, &told), CITRUS_DONE);
+    WANT(told, 10);
+    WANT(citrus_remove(&second, 1, &told), CITRUS_DONE);
+    citrus_close(&second);
+}
+
+static void slots_are_used_again(uint32_t waiter) {
+    citrus_handle index = open_index(8, 1, waiter);
+    uint64_t told = UNTOUCHED;
+    for (uint64_t i = 0; i < 50000 && !wrong_here; i++) {
+        WANT(citrus_insert(&index, i, 2 * i), CITRUS_DONE);
+        if (i >= 5) {
+            WANT(citrus_remove(&index, i - 5, &told), CITRUS_DONE);
+            WANT(told, 2 * (i - 5));
+        }
+    }
+    citrus_close(&index);
+}
+
+enum { MODEL_KEYS = 300 };
+
+/* What a list, and a first, of this handle must tell, by the model: 0 where the key is absent, else its value. */
+static void compare_lists(citrus_handle *index, const uint64_t *model) {
+    static citrus_pair pairs[MODEL_KEYS];
+    size_t count = 0, at = 0;
+    uint64_t next = 0, key = 0, value = 0;
+    WANT(citrus_list(index, 0, UINT64_MAX, pairs, MODEL_KEYS, &count, &next), CITRUS_DONE);
+    for (uint64_t i = 0; i < MODEL_KEYS; i++)
+        if (model[i]) {
+            WANT(at < count && pairs[at].key == i && pairs[at].value == model[i], 1);
+            at++;
+        }
+    WANT(count, at);
+    WANT(citrus_first(index, 0, &key, &value), at ? CITRUS_DONE : CITRUS_UNCHANGED);
+    if (at) WANT(key, pairs[0].key);
+}
+
+static void drawn_calls_as_a_model_has_them(uint32_t waiter) {
+    citrus_handle index = open_index(MODEL_KEYS + 1, 1, waiter);
+    uint64_t model[MODEL_KEYS], state = 88172645463325252u;
+    memset(model, 0, sizeof model);
+    for (uint64_t i = 1; i <= 100000 && !wrong_here; i++) {
+        const uint64_t key = draw(&state) % MODEL_KEYS, was = model[key];
+        uint64_t told = was;
+        switch (draw(&state) % 5) {
+        case 0: WANT(citrus_get(&index, key, &told), was ? CITRUS_DONE : CITRUS_UNCHANGED); break;
+        case 1:
+            WANT(citrus_insert(&index, key, i), was ? CITRUS_UNCHANGED : CITRUS_DONE);
+            if (!was) model[key] = i;
+            break;
+        case 2:
+            WANT(citrus_replace(&index, key, i, &told), was ? CITRUS_DONE : CITRUS_UNCHANGED);
+            if (was) model[key] = i;
+            break;
+        case 3:
+            WANT(citrus_upsert(&index, key, i, &told), was ? CITRUS_DONE : CITRUS_NEW);
+            model[key] = i;
+            break;
+        default:
+            WANT(citrus_remove(&index, key, &told), was ? CITRUS_DONE : CITRUS_UNCHANGED);
+            model[key] = 0;
+        }
+        WANT(told, was);
+        if (i % 5000 == 0) compare_lists(&index, model);
+    }
+    citrus_close(&index);
+}
+
+static const struct waiter_case cases[] = {
+    {"an absent key", an_absent_key},
+    {"a pair comes and goes", a_pair_comes_and_goes},
+    {"an upsert adds and then replaces", an_upsert_adds_and_then_replaces},
+    {"numbers at their ends", numbers_at_their_ends},
+    {"a full index", a_full_index},
+    {"a remove at each node", a_remove_at_each_node},
+    {"lists", lists},
+    {"handles and tickets are shared", handles_and_tickets_are_shared},
+    {"the index lives as long as one handle", the_index_lives_as_long_as_one_handle},
+    {"slots are used again", slots_are_used_again},
+    {"drawn calls as a model has them", drawn_calls_as_a_model_has_them},
+};
+
+int main(void) {
+    run_waiter_cases(cases, COUNT_OF(cases));
+    return failed_cases != 0;
+}

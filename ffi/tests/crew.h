@@ -1,0 +1,52 @@
+/* Threads with a handle each of one index. */
+#ifndef CREW_H
+#define CREW_H
+
+#include "cases.h"
+#include <pthread.h>
+#include <stdatomic.h>
+#include <stdlib.h>
+
+enum { MOST_THREADS = 64 };
+
+struct member {
+    citrus_handle handle;
+    uint32_t number, of;
+    void *shared;
+    uint64_t wrong;
+};
+
+/* Says what a thread was told in place of what it must be told; only the first few of it. */
+static inline void member_wants(struct member *member, const char *what, uint64_t key, uint64_t told, uint64_t wanted) {
+    if (told == wanted) return;
+    if (member->wrong++ < 3)
+        printf("thread %" PRIu32 ": %s %" PRIu64 ": %" PRId64 ", and %" PRId64 " was wanted\n", member->number, what, key, (int64_t)told,
+               (int64_t)wanted);
+}
+
+/* Runs the work in so many threads on a new index, each with a handle from which one handle less than `each` can be shared. They are to
+ * share all of these. */
+static inline void run_crew(uint32_t threads, uint32_t each, uint32_t slots, uint32_t waiter, void *(*work)(void *), void *shared) {
+    struct member members[MOST_THREADS] = {{.handle = CITRUS_CLOSED_HANDLE}};
+    pthread_t ids[MOST_THREADS];
+    uint32_t handles = 0;
+    uint64_t tickets = 0;
+    WANT(citrus_open(&members[0].handle, slots, threads * each, waiter), CITRUS_DONE);
+    for (uint32_t i = 1; i < threads; i++)
+        WANT(citrus_share(&members[0].handle, each, CITRUS_ALL_TICKETS / 64, &members[i].handle), CITRUS_DONE);
+    for (uint32_t i = 0; i < threads; i++) {
+        members[i].number = i;
+        members[i].of = threads;
+        members[i].shared = shared;
+        if (pthread_create(&ids[i], NULL, work, &members[i])) abort();
+    }
+    for (uint32_t i = 0; i < threads; i++) {
+        pthread_join(ids[i], NULL);
+        wrong_here += members[i].wrong != 0;
+    }
+    WANT(citrus_left(&members[0].handle, &handles, &tickets), CITRUS_DONE);
+    WANT(handles, 0);
+    for (uint32_t i = 0; i < threads; i++) citrus_close(&members[i].handle);
+}
+
+#endif

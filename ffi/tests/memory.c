@@ -1,0 +1,181 @@
+/* Memory: each allocation fails in turn, and what was taken is given back. It is linked with --wrap for malloc, realloc and free, so that
+ * the library's calls come here. */
+#include "crew.h"
+
+void *__real_malloc(size_t bytes);
+void *__real_realloc(void *at, size_t bytes);
+void __real_free(void *at);
+
+/* How many allocations go well before one fails, if one is to fail; and how many blocks are held. */
+static _Atomic int64_t until_failure = INT64_MAX;
+static _Atomic int64_t held;
+
+static int is_refused(void) { return --until_failure < 0; }
+
+void *__wrap_malloc(size_t bytes) {
+    void *at = is_refused() ? NULL : __real_malloc(bytes);
+    held += at != NULL;
+    return at;
+}
+
+void *__wrap_realloc(void *at, size_t bytes) {
+    void *moved = is_refused() ? NULL : __real_realloc(at, bytes);
+    held += at == NULL && moved != NULL;
+    return moved;
+}
+
+void __wrap_free(void *at) {
+    held -= at != NULL;
+    __real_free(at);
+}
+
+/* Lets each allocation of a call fail in turn, until it has all that it asks for: `call` returns its status. */
+static void fail_each(int32_t (*call)(void), int64_t fewest) {
+    int64_t failed = 0;
+    const int64_t before = held;
+    for (;; failed++) {
+        until_failure = failed;
+        const int32_t status = call();
+        until_failure = INT64_MAX;
+        if (status == CITRUS_DONE || wrong_here) break;
+        WANT(status, CITRUS_NO_MEMORY);
+        WANT(held, before);
+    }
+    WANT(failed >= fewest, 1);
+}
+
+static citrus_handle index_here = CITRUS_CLOSED_HANDLE, other_here = CITRUS_CLOSED_HANDLE;
+static uint32_t waiter_here;
+
+static int32_t open_it(void) { return citrus_open(&index_here, 100, 4, waiter_here); }
+static int32_t share_it(void) { return citrus_share(&index_here, 1, 100, &other_here); }
+
+static int32_t list_it(void) {
+    citrus_pair pairs[50];
+    size_t count = 9;
+    uint64_t next = UNTOUCHED;
+    const int32_t status = citrus_list(&index_here, 0, 9, pairs, 50, &count, &next);
+    WANT(count, status == CITRUS_DONE ? 2 : 0);
+    WANT(next, UNTOUCHED);
+    return status;
+}
+
+static int32_t first_of_it(void) {
+    uint64_t key = UNTOUCHED, value = UNTOUCHED;
+    const int32_t status = citrus_first(&index_here, 2, &key, &value);
+    WANT(key, status == CITRUS_DONE ? 5 : UNTOUCHED);
+    WANT(value, status == CITRUS_DONE ? 50 : UNTOUCHED);
+    return status;
+}
+
+static void each_allocation_fails(uint32_t waiter) {
+    const int64_t before = held;
+    uint64_t told = 0;
+    uint32_t handles = 0;
+    waiter_here = waiter;
+    fail_each(open_it, 1);
+    WANT(citrus_insert(&index_here, 1, 10), CITRUS_DONE);
+    WANT(citrus_insert(&index_here, 5, 50), CITRUS_DONE);
+    until_failure = 0;
+    WANT(citrus_open(&index_here, 100, 4, waiter), CITRUS_NO_MEMORY);
+    until_failure = INT64_MAX;
+    fail_each(list_it, 1);
+    fail_each(first_of_it, 0);
+    fail_each(share_it, 1);
+    WANT(citrus_left(&index_here, &handles, &told), CITRUS_DONE);
+    WANT(handles, 2);
+    WANT(told, CITRUS_ALL_TICKETS - 100 - 8 <= told ? told : 0);
+    WANT(citrus_get(&other_here, 5, &told), CITRUS_DONE);
+    WANT(told, 50);
+    citrus_close(&other_here);
+    citrus_close(&index_here);
+    WANT(held, before);
+}
+
+static void updates_take_no_memory(uint32_t waiter) {
+    uint64_t told = 0;
+    WANT(citrus_open(&index_here, 100, 1, waiter), CITRUS_DONE);
+    until_failure = 0;
+    for (uint64_t i = 0; i < 1000; i++) {
+        WANT(citrus_insert(&index_here, i % 90, i), CITRUS_DONE);
+        WANT(citrus_replace(&index_here, i % 90, i + 1, &told), CITRUS_DONE);
+        WANT(citrus_remove(&index_here, i % 90, &told), CITRUS_DONE);
+        WANT(citrus_upsert(&index_here, i % 90, i, &told), CITRUS_NEW);
+        WANT(citrus_get(&index_here, i % 90, &told), CITRUS_DONE);
+        if (i >= 5) WANT(citrus_remove(&index_here, (i - 5) % 90, &told), CITRUS_DONE);
+    }
+    WANT(until_failure, 0);
+    until_failure = INT64_MAX;
+    citrus_close(&index_here);
+}
+
+/* Thread i opens an index of its own, shares handles, and drops them in an order of its own. */
+static void *drop_handles(void *member) {
+    struct member *me = member;
+    uint64_t state = 1234567 + me->number;
+    citrus_handle handles[8] = {CITRUS_CLOSED_HANDLE};
+    uint64_t told = 0;
+    for (int round = 0; round < 200; round++) {
+        member_wants(me, "an open", 0, citrus_open(&handles[0], 20, 8, draw(&state) % 3), CITRUS_DONE);
+        for (uint64_t i = 1; i < 8; i++) member_wants(me, "a share", i, citrus_share(&handles[0], 1, 1000, &handles[i]), CITRUS_DONE);
+        for (uint64_t i = 0; i < 8; i++) member_wants(me, "an insert", i, citrus_insert(&handles[i], i, i), CITRUS_DONE);
+        for (uint64_t gone = draw(&state) % 8, left = 8; left; left--, gone = (gone + 3) % 8) {
+            member_wants(me, "a remove", gone, citrus_remove(&handles[gone], gone, &told), CITRUS_DONE);
+            citrus_close(&handles[gone]);
+        }
+    }
+    return NULL;
+}
+
+/* What run_crew itself and the threads take of memory is made before, and given back, as well. */
+static void dropped_handles_leave_nothing(void) {
+    const int64_t before = held;
+    run_crew(4, 1, 20, CITRUS_EER, drop_handles, NULL);
+    WANT(held, before);
+}
+
+enum { HANDLES_EACH = 16, OWN_KEYS = 500 };
+
+/* A thread that shares one handle after the other from its own, puts keys in with the new one and takes them out with its own, and closes
+ * it. */
+static void *close_one_after_the_other(void *member) {
+    struct member *me = member;
+    uint64_t told = 0;
+    for (uint64_t round = 1; round < HANDLES_EACH; round++) {
+        citrus_handle other = CITRUS_CLOSED_HANDLE;
+        member_wants(me, "a share", round, citrus_share(&me->handle, 1, 100000, &other), CITRUS_DONE);
+        for (uint64_t i = 0; i < OWN_KEYS; i++) {
+            const uint64_t key = i * 7919 % OWN_KEYS * me->of + me->number;
+            member_wants(me, "an insert of", key, citrus_insert(&other, key, round), CITRUS_DONE);
+            if (i % 3 == 0) member_wants(me, "a remove of", key, citrus_remove(&other, key, &told), CITRUS_DONE);
+        }
+        citrus_close(&other);
+        for (uint64_t i = 0; i < OWN_KEYS; i++) {
+            const uint64_t key = i * 7919 % OWN_KEYS * me->of + me->number;
+            const int32_t wanted = i % 3 == 0 ? CITRUS_UNCHANGED : CITRUS_DONE;
+            member_wants(me, "a remove of", key, citrus_remove(&me->handle, key, &told), wanted);
+        }
+    }
+    return NULL;
+}
+
+/* A handle that is closed holds nobody up: the updates of others go on. */
+static void handles_are_closed_beside_updates(uint32_t waiter) {
+    const int64_t before = held;
+    run_crew(4, HANDLES_EACH, 4 * OWN_KEYS + 20 * 64, waiter, close_one_after_the_other, NULL);
+    WANT(held, before);
+}
+
+static const struct waiter_case waiter_cases[] = {
+    {"each allocation fails in turn", each_allocation_fails},
+    {"updates take no memory", updates_take_no_memory},
+    {"handles are closed beside updates", handles_are_closed_beside_updates},
+};
+
+static const struct plain_case plain_cases[] = {{"dropped handles leave nothing", dropped_handles_leave_nothing}};
+
+int main(void) {
+    run_waiter_cases(waiter_cases, COUNT_OF(waiter_cases));
+    run_plain_cases(plain_cases, COUNT_OF(plain_cases));
+    return failed_cases != 0;
+}

@@ -1,0 +1,180 @@
+/* Each misuse that the library can see: it is answered with a status, and changes nothing. */
+#include "cases.h"
+#include <stdlib.h>
+
+static void a_closed_handle_at_each_call(void) {
+    citrus_handle closed = CITRUS_CLOSED_HANDLE, other = CITRUS_CLOSED_HANDLE;
+    uint64_t told = UNTOUCHED, key = UNTOUCHED;
+    uint32_t handles = 77;
+    size_t count = 9;
+    citrus_pair pair = {UNTOUCHED, UNTOUCHED};
+    WANT(citrus_share(&closed, 1, 4, &other), CITRUS_CLOSED);
+    WANT(citrus_left(&closed, &handles, &told), CITRUS_CLOSED);
+    WANT(citrus_get(&closed, 1, &told), CITRUS_CLOSED);
+    WANT(citrus_insert(&closed, 1, 10), CITRUS_CLOSED);
+    WANT(citrus_replace(&closed, 1, 10, &told), CITRUS_CLOSED);
+    WANT(citrus_upsert(&closed, 1, 10, &told), CITRUS_CLOSED);
+    WANT(citrus_remove(&closed, 1, &told), CITRUS_CLOSED);
+    WANT(citrus_list(&closed, 0, 9, &pair, 1, &count, &key), CITRUS_CLOSED);
+    WANT(citrus_first(&closed, 0, &key, &told), CITRUS_CLOSED);
+    WANT(told, UNTOUCHED);
+    WANT(key, UNTOUCHED);
+    WANT(pair.key, UNTOUCHED);
+    WANT(handles, 77);
+    WANT(count, 0);
+    WANT(closed.at == NULL && other.at == NULL, 1);
+}
+
+static void numbers_that_open_no_index(void) {
+    static const uint32_t numbers[][3] = {
+        {0, 1, 0},  {CITRUS_MAX_SLOTS + 1, 1, 0}, {UINT32_MAX, 1, 0}, {1, 0, 0},
+        {1, 65, 0}, {1, UINT32_MAX, 0},           {1, 1, 3},          {1, 1, UINT32_MAX},
+    };
+    for (size_t i = 0; i < COUNT_OF(numbers); i++) {
+        citrus_handle index = CITRUS_CLOSED_HANDLE;
+        WANT(citrus_open(&index, numbers[i][0], numbers[i][1], numbers[i][2]), CITRUS_BAD_ARGUMENT);
+        WANT(index.at == NULL, 1);
+        citrus_close(&index);
+    }
+}
+
+static void the_largest_index(void) {
+    citrus_handle handles[64] = {CITRUS_CLOSED_HANDLE};
+    uint64_t told = UNTOUCHED;
+    WANT(citrus_open(&handles[0], CITRUS_MAX_SLOTS, CITRUS_MAX_HANDLES, CITRUS_EER), CITRUS_DONE);
+    for (uint64_t i = 1; i < 64; i++) WANT(citrus_share(&handles[0], 1, 4, &handles[i]), CITRUS_DONE);
+    for (uint64_t i = 0; i < 64; i++) WANT(citrus_insert(&handles[i], i, 100 + i), CITRUS_DONE);
+    for (uint64_t i = 0; i < 64; i++) {
+        WANT(citrus_get(&handles[0], i, &told), CITRUS_DONE);
+        WANT(told, 100 + i);
+    }
+    for (uint64_t i = 0; i < 64; i++) citrus_close(&handles[i]);
+}
+
+static void an_open_handle_is_opened_again(void) {
+    citrus_handle index = CITRUS_CLOSED_HANDLE;
+    uint64_t told = UNTOUCHED;
+    WANT(citrus_open(&index, 5, 1, CITRUS_EER), CITRUS_DONE);
+    WANT(citrus_insert(&index, 1, 10), CITRUS_DONE);
+    WANT(citrus_open(&index, 5, 1, CITRUS_DEER), CITRUS_DONE);
+    WANT(citrus_get(&index, 1, &told), CITRUS_UNCHANGED);
+    WANT(citrus_insert(&index, 1, 11), CITRUS_DONE);
+    WANT(citrus_open(&index, 0, 1, CITRUS_EER), CITRUS_BAD_ARGUMENT);
+    WANT(citrus_get(&index, 1, &told), CITRUS_DONE);
+    WANT(told, 11);
+    citrus_close(&index);
+    citrus_close(&index);
+    WANT(citrus_get(&index, 1, &told), CITRUS_CLOSED);
+}
+
+static void more_is_shared_than_there_is(void) {
+    citrus_handle first = CITRUS_CLOSED_HANDLE, second = CITRUS_CLOSED_HANDLE, third = CITRUS_CLOSED_HANDLE;
+    uint32_t handles = 0;
+    uint64_t tickets = 0;
+    WANT(citrus_open(&first, 5, 3, CITRUS_EER), CITRUS_DONE);
+    WANT(citrus_share(&first, 0, 4, &second), CITRUS_BAD_ARGUMENT);
+    WANT(citrus_share(&first, 3, 4, &second), CITRUS_BAD_ARGUMENT);
+    WANT(citrus_share(&first, UINT32_MAX, 4, &second), CITRUS_BAD_ARGUMENT);
+    WANT(citrus_share(&first, 1, CITRUS_ALL_TICKETS + 1, &second), CITRUS_BAD_ARGUMENT);
+    WANT(citrus_share(&first, 1, UINT64_MAX, &second), CITRUS_BAD_ARGUMENT);
+    WANT(second.at == NULL, 1);
+    WANT(citrus_left(&first, &handles, &tickets), CITRUS_DONE);
+    WANT(handles, 2);
+    WANT(tickets, CITRUS_ALL_TICKETS);
+    WANT(citrus_share(&first, 1, CITRUS_ALL_TICKETS, &second), CITRUS_DONE);
+    WANT(citrus_share(&first, 1, 1, &third), CITRUS_BAD_ARGUMENT);
+    WANT(citrus_share(&first, 1, 0, &third), CITRUS_DONE);
+    WANT(citrus_share(&second, 1, 4, &third), CITRUS_BAD_ARGUMENT);
+    citrus_close(&third);
+    citrus_close(&second);
+    citrus_close(&first);
+}
+
+static void lists_of_nothing_and_of_too_much(void) {
+    citrus_handle index = CITRUS_CLOSED_HANDLE;
+    citrus_pair *pairs = calloc(CITRUS_MAX_ROOM + 1, sizeof *pairs);
+    size_t count = 9;
+    uint64_t next = UNTOUCHED;
+    if (!pairs) abort();
+    WANT(citrus_open(&index, 5, 1, CITRUS_EER), CITRUS_DONE);
+    WANT(citrus_insert(&index, 5, 50), CITRUS_DONE);
+    WANT(citrus_list(&index, 6, 5, pairs, 1, &count, &next), CITRUS_BAD_ARGUMENT);
+    WANT(count, 0);
+    count = 9;
+    WANT(citrus_list(&index, 0, 9, pairs, 0, &count, &next), CITRUS_BAD_ARGUMENT);
+    WANT(count, 0);
+    count = 9;
+    WANT(citrus_list(&index, 0, 9, pairs, CITRUS_MAX_ROOM + 1, &count, &next), CITRUS_BAD_ARGUMENT);
+    WANT(count, 0);
+    WANT(pairs[0].key, 0);
+    WANT(citrus_list(&index, 0, 9, pairs, CITRUS_MAX_ROOM, &count, &next), CITRUS_DONE);
+    WANT(count, 1);
+    WANT(pairs[0].key, 5);
+    WANT(pairs[1].key, 0);
+    WANT(next, UNTOUCHED);
+    citrus_close(&index);
+    free(pairs);
+}
+
+static void a_handle_without_tickets(void) {
+    citrus_handle index = CITRUS_CLOSED_HANDLE, spent = CITRUS_CLOSED_HANDLE;
+    uint64_t told = UNTOUCHED, key = UNTOUCHED, tickets = 0;
+    uint32_t handles = 0;
+    WANT(citrus_open(&index, 50, 3, CITRUS_EER), CITRUS_DONE);
+    WANT(citrus_insert(&index, 1, 10), CITRUS_DONE);
+    WANT(citrus_share(&index, 1, 3, &spent), CITRUS_DONE);
+    WANT(citrus_get(&spent, 1, &told), CITRUS_SPENT);
+    WANT(citrus_insert(&spent, 2, 20), CITRUS_SPENT);
+    WANT(citrus_replace(&spent, 1, 11, &told), CITRUS_SPENT);
+    WANT(citrus_upsert(&spent, 1, 11, &told), CITRUS_SPENT);
+    WANT(citrus_remove(&spent, 1, &told), CITRUS_SPENT);
+    WANT(told, UNTOUCHED);
+    WANT(citrus_left(&spent, &handles, &tickets), CITRUS_DONE);
+    WANT(tickets, 3);
+    WANT(citrus_first(&spent, 0, &key, &told), CITRUS_DONE);
+    WANT(told, 10);
+    citrus_close(&spent);
+    WANT(citrus_get(&index, 2, &told), CITRUS_UNCHANGED);
+    WANT(citrus_share(&index, 1, 4, &spent), CITRUS_DONE);
+    WANT(citrus_get(&spent, 1, &told), CITRUS_DONE);
+    WANT(citrus_get(&spent, 1, &told), CITRUS_DONE);
+    citrus_close(&spent);
+    citrus_close(&index);
+}
+
+/* Updates go on while 4 tickets are there, use at most 4 of them, and then are refused. */
+static void tickets_end(void) {
+    citrus_handle index = CITRUS_CLOSED_HANDLE, few = CITRUS_CLOSED_HANDLE;
+    uint64_t told = UNTOUCHED, tickets = 0, before = 200;
+    uint32_t handles = 0, updates = 0;
+    WANT(citrus_open(&index, 50, 2, CITRUS_EER), CITRUS_DONE);
+    WANT(citrus_share(&index, 1, before, &few), CITRUS_DONE);
+    while (before >= 4 && !wrong_here) {
+        const uint64_t key = updates % 10;
+        WANT(updates / 10 % 2 ? citrus_remove(&few, key, &told) : citrus_insert(&few, key, 7), CITRUS_DONE);
+        updates++;
+        WANT(citrus_left(&few, &handles, &tickets), CITRUS_DONE);
+        WANT(tickets <= before && before - tickets <= 4, 1);
+        before = tickets;
+    }
+    WANT(updates >= 50, 1);
+    WANT(citrus_insert(&few, 99, 7), CITRUS_SPENT);
+    citrus_close(&few);
+    citrus_close(&index);
+}
+
+static const struct plain_case cases[] = {
+    {"a closed handle at each call", a_closed_handle_at_each_call},
+    {"numbers that open no index", numbers_that_open_no_index},
+    {"the largest index", the_largest_index},
+    {"an open handle is opened again", an_open_handle_is_opened_again},
+    {"more is shared than there is", more_is_shared_than_there_is},
+    {"lists of nothing and of too much", lists_of_nothing_and_of_too_much},
+    {"a handle without tickets", a_handle_without_tickets},
+    {"tickets end", tickets_end},
+};
+
+int main(void) {
+    run_plain_cases(cases, COUNT_OF(cases));
+    return failed_cases != 0;
+}
