@@ -82,6 +82,40 @@ lists() {
         { printf "| %s | %s | %s | %d of %d |\n", $1, rest, $3, $4, $5 }' "$1"
 }
 
+# Medians of the Rust crate, and of other maps for Rust.
+rust_map() {
+    head_of gets keys threads 'first waiter' second third 'BTreeMap, Mutex' RwLock DashMap
+    awk -F, '
+        BEGIN {
+            split("90 50 load 98 100", mixes, " "); split("1 2 4", crews, " ")
+            split("citrus_map first,citrus_map second,citrus_map third,BTreeMap under Mutex,BTreeMap under RwLock,DashMap", series, ",")
+        }
+        { median[$1, $2, $4] = $7; keys[$2] = $3 }
+        END {
+            for (m = 1; m <= 5; m++) for (c = 1; c <= 3; c++) {
+                row = "| " mixes[m] " | " keys[mixes[m]] " | " crews[c] " |"
+                for (s = 1; s <= 6; s++) {
+                    ns = median[series[s], mixes[m], crews[c]]
+                    row = row " " (ns == "" ? "-" : sprintf("%.0f", ns)) " |"
+                }
+                print row
+            }
+        }' "$1"
+}
+
+# Thousands of requests a second, medians.
+server() {
+    head_of command connections citrus_server redis-server
+    awk -F, '/^#/ || /^server/ { next }
+        {
+            row = $2 " | " $3
+            if (!seen[row]++) order[++rows] = row
+            rate[row, $1] = sprintf("%.0f", $5 / 1000)
+        }
+        function of(name) { return (order[r], name) in rate ? rate[order[r], name] : "-" }
+        END { for (r = 1; r <= rows; r++) print "| " order[r] " | " of("citrus_server") " | " of("redis-server") " |" }' "$1"
+}
+
 # Seconds that pass, of each command in a row of its text.
 threads() {
     head_of text operations scripts 'run, first waiter' second third hash 'C++'
@@ -127,6 +161,27 @@ cookies() {
         printf "| %s | %s | %s | %s | %s | %s | %s | %d of %d | %d of %d |\n", $1, $3, $4, $5, $6, $7, $8, $9, $10, $11, $12 }' "$1"
 }
 
+# Medians through the C library; and by how much its minima are above those of the tree's own calls.
+embed() {
+    head_of gets keys threads first second third 'more than the tree, first' second third 'best std::map under a lock' TBB
+    with_best "$1" | awk -F, '
+        BEGIN { split("90 50 load 98 100", mixes, " "); split("1 2 4", crews, " "); split("first second third", waiters, " ") }
+        { least[$1, $2, $4] = $6; median[$1, $2, $4] = $7; keys[$2] = $3 }
+        function ns(value) { return value == "" ? "-" : sprintf("%.0f", value) }
+        END {
+            for (m = 1; m <= 5; m++) for (c = 1; c <= 3; c++) {
+                mix = mixes[m]; crew = crews[c]
+                row = "| " mix " | " keys[mix] " | " crew
+                for (w = 1; w <= 3; w++) row = row " | " ns(median["C library " waiters[w], mix, crew])
+                for (w = 1; w <= 3; w++) {
+                    library = least["C library " waiters[w], mix, crew]; ours = least["proved " waiters[w], mix, crew]
+                    row = row " | " (library == "" || ours == "" ? "-" : sprintf("%+.0f", library - ours))
+                }
+                print row " | " ns(median["best under a lock", mix, crew]) " | " ns(median["TBB map", mix, crew]) " |"
+            }
+        }'
+}
+
 # A table, and when and where it was measured.
 table() {
     "$1" "$results/$1.csv"
@@ -163,7 +218,7 @@ if [ $# -gt 0 ]; then
 fi
 out=$top/bench/out
 mkdir -p "$out"
-for name in tree keys waits lists threads text limits cookies; do
+for name in tree keys waits lists threads text limits cookies embed rust_map server; do
     [ -e "$results/$name.csv" ] || continue
     { echo; table "$name"; echo; } >"$out/table"
     put_in "$name" "$out/table"

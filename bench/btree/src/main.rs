@@ -14,12 +14,12 @@ fn main() -> ExitCode {
         eprintln!("usage: btree [--operations N] [--seconds S] calls|keys|crowd");
         return ExitCode::from(2);
     };
-    measure_all(&options, "BTreeMap under Mutex", Locked::<std::sync::Mutex<Pairs>>::default);
-    measure_all(&options, "BTreeMap under RwLock", Locked::<std::sync::RwLock<Pairs>>::default);
+    measure_all(&options, "BTreeMap under Mutex", |_| Locked::<std::sync::Mutex<Pairs>>::default());
+    measure_all(&options, "BTreeMap under RwLock", |_| Locked::<std::sync::RwLock<Pairs>>::default());
     #[cfg(feature = "parking_lot")]
     {
-        measure_all(&options, "BTreeMap under parking_lot Mutex", Locked::<parking_lot::Mutex<Pairs>>::default);
-        measure_all(&options, "BTreeMap under parking_lot RwLock", Locked::<parking_lot::RwLock<Pairs>>::default);
+        measure_all(&options, "BTreeMap under parking_lot Mutex", |_| Locked::<parking_lot::Mutex<Pairs>>::default());
+        measure_all(&options, "BTreeMap under parking_lot RwLock", |_| Locked::<parking_lot::RwLock<Pairs>>::default());
     }
     ExitCode::SUCCESS
 }

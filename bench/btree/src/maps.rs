@@ -1,8 +1,10 @@
 //! A map under a lock of any kind.
 
+use crate::measuring::{Client, Map};
 use crate::mixes::Op;
 use std::collections::btree_map::Entry;
 use std::collections::BTreeMap;
+use std::sync::Arc;
 
 pub type Pairs = BTreeMap<u64, u64>;
 
@@ -57,13 +59,20 @@ impl Lock for parking_lot::RwLock<Pairs> {
     }
 }
 
-/// The map that threads share.
+/// The pairs under the lock.
 #[derive(Default)]
-pub struct Locked<L>(L);
+pub struct Locked<L>(Arc<L>);
 
-impl<L: Lock> Locked<L> {
-    /// A found value, or 1 where the call changed something, else 0.
-    pub fn call(&self, op: Op) -> u64 {
+impl<L: Lock + Send> Map for Locked<L> {
+    type Client = Locked<L>;
+
+    fn client(&self) -> Locked<L> {
+        Locked(Arc::clone(&self.0))
+    }
+}
+
+impl<L: Lock> Client for Locked<L> {
+    fn call(&mut self, op: Op) -> u64 {
         match op {
             Op::Get { key } => self.0.read(|pairs| pairs.get(&key).copied().unwrap_or(0)),
             Op::Del { key } => self.0.write(|pairs| u64::from(pairs.remove(&key).is_some())),

@@ -1,9 +1,29 @@
 //! Threads that make drawn operations on one map, timed: a line for each cell of a subject.
 
-use crate::maps::{Lock, Locked};
 use crate::mixes::{Draws, Load, Mix, MostlyGets, Op, Uniform};
 use std::thread;
 use std::time::{Duration, Instant};
+
+/// A map that threads share.
+pub trait Map: Sync {
+    type Client: Client;
+
+    /// What a thread calls it by.
+    fn client(&self) -> Self::Client;
+}
+
+pub trait Client {
+    /// A found value, or 1 where the call changed something, else 0.
+    fn call(&mut self, op: Op) -> u64;
+}
+
+/// What a map is made for. One that grows needs neither number.
+#[derive(Clone, Copy)]
+#[allow(dead_code)]
+pub struct Room {
+    pub keys: u64,
+    pub threads: u64,
+}
 
 #[derive(Clone, Copy)]
 pub enum Subject {
@@ -55,20 +75,20 @@ impl Done {
     }
 }
 
-fn fill<L: Lock>(map: &Locked<L>, mix: impl Mix) {
+fn fill(client: &mut impl Client, mix: impl Mix) {
     let mut draws = Draws(12_345);
     for _ in 0..mix.first_puts() {
         let key = draws.draw() % mix.keys();
-        map.call(Op::Put { key, value: draws.0 });
+        client.call(Op::Put { key, value: draws.0 });
     }
 }
 
 #[inline(never)]
-fn work<L: Lock>(map: &Locked<L>, mix: impl Mix, place: u64, operations: u64, end: Instant) -> Done {
+fn work(client: &mut impl Client, mix: impl Mix, place: u64, operations: u64, end: Instant) -> Done {
     let mut draws = Draws(place);
     let mut done = Done { operations: 0, sum: 0, cut: false };
     while done.operations < operations {
-        done.sum = done.sum.wrapping_add(map.call(mix.draw(&mut draws, place)));
+        done.sum = done.sum.wrapping_add(client.call(mix.draw(&mut draws, place)));
         done.operations += 1;
         if done.operations % 256 == 0 && Instant::now() > end {
             done.cut = done.operations < operations;
@@ -78,14 +98,15 @@ fn work<L: Lock>(map: &Locked<L>, mix: impl Mix, place: u64, operations: u64, en
     done
 }
 
-fn measure<L: Lock>(map: &Locked<L>, name: &str, mix: impl Mix, threads: u64, options: &Options) {
-    fill(map, mix);
+fn measure(map: &impl Map, name: &str, mix: impl Mix, threads: u64, options: &Options) {
+    let mut client = map.client();
+    fill(&mut client, mix);
     let begun = Instant::now();
     let end = begun + options.limit;
     let done = thread::scope(|scope| {
-        let others: Vec<_> =
-            (1..threads).map(|place| scope.spawn(move || work(map, mix, place, options.operations, end))).collect();
-        let first = work(map, mix, 0, options.operations, end);
+        let start = |place| scope.spawn(move || work(&mut map.client(), mix, place, options.operations, end));
+        let others: Vec<_> = (1..threads).map(start).collect();
+        let first = work(&mut client, mix, 0, options.operations, end);
         others.into_iter().fold(first, |all, other| all.and(other.join().expect("no thread panics")))
     });
     let nanos = begun.elapsed().as_nanos() as f64 * threads as f64 / done.operations as f64;
@@ -94,7 +115,7 @@ fn measure<L: Lock>(map: &Locked<L>, name: &str, mix: impl Mix, threads: u64, op
 }
 
 /// Measures all cells of the subject, each on a map of its own.
-pub fn measure_all<L: Lock>(options: &Options, name: &str, make: impl Fn() -> Locked<L>) {
+pub fn measure_all<M: Map>(options: &Options, name: &str, make: impl Fn(Room) -> M) {
     match options.subject {
         Subject::Calls => {
             measure_crews(options, name, &make, Uniform::<90, 20_000>);
@@ -106,20 +127,24 @@ pub fn measure_all<L: Lock>(options: &Options, name: &str, make: impl Fn() -> Lo
         Subject::Keys => {
             for keys in [1_000, 10_000, 100_000, 1_000_000] {
                 for threads in [1, 4] {
-                    measure(&make(), name, MostlyGets { keys }, threads, options);
+                    measure_crew(options, name, &make, MostlyGets { keys }, threads);
                 }
             }
         }
         Subject::Crowd => {
             for threads in [1, 2, 4, 8, 16, 32, 64] {
-                measure(&make(), name, Uniform::<90, 20_000>, threads, options);
+                measure_crew(options, name, &make, Uniform::<90, 20_000>, threads);
             }
         }
     }
 }
 
-fn measure_crews<L: Lock>(options: &Options, name: &str, make: &impl Fn() -> Locked<L>, mix: impl Mix) {
+fn measure_crews<M: Map>(options: &Options, name: &str, make: &impl Fn(Room) -> M, mix: impl Mix) {
     for threads in [1, 2, 4] {
-        measure(&make(), name, mix, threads, options);
+        measure_crew(options, name, make, mix, threads);
     }
+}
+
+fn measure_crew<M: Map>(options: &Options, name: &str, make: &impl Fn(Room) -> M, mix: impl Mix, threads: u64) {
+    measure(&make(Room { keys: mix.keys(), threads }), name, mix, threads, options);
 }

@@ -42,6 +42,26 @@ fn run_two<R: Threads + Wait + Sync + Clock, J: Job<Told = u64> + Drop + Send>(
     one.wrapping_add(other)
 }
 
+fn run_three<R: Threads + Wait + Sync + Clock, J: Job<Told = u64> + Drop + Send>(
+    rt: &R,
+    first: J,
+    rest: (J, J),
+) -> u64 {
+    let (one, others) = join(rt, || first.run(rt), || run_two(rt, rest.0, rest.1));
+    one.wrapping_add(others)
+}
+
+// One thread starts all others. If a started one started the next, two would wait for a processor one after another.
+fn run_four<R: Threads + Wait + Sync + Clock, J: Job<Told = u64> + Drop + Send>(
+    rt: &R,
+    pair: (J, J),
+    rest: (J, J),
+) -> u64 {
+    let (first, second) = pair;
+    let (one, others) = join(rt, || first.run(rt), || run_three(rt, second, rest));
+    one.wrapping_add(others)
+}
+
 // The sum of what the jobs tell, each in a thread of its own.
 fn run_crew<R: Threads + Wait + Sync + Clock, J: Job<Told = u64> + Drop + Send>(
     rt: &R,
@@ -50,14 +70,7 @@ fn run_crew<R: Threads + Wait + Sync + Clock, J: Job<Told = u64> + Drop + Send>(
     match crewed {
         Crewed::One(job) => job.run(rt),
         Crewed::Two(first, second) => run_two(rt, first, second),
-        Crewed::Four(first, second) => {
-            let (one, other) = join(
-                rt,
-                || run_two(rt, first.0, first.1),
-                || run_two(rt, second.0, second.1),
-            );
-            one.wrapping_add(other)
-        }
+        Crewed::Four(first, second) => run_four(rt, first, second),
     }
 }
 

@@ -25,6 +25,8 @@ struct Row {
     shape: Shape,
     keys: u32,
     page: u32,
+    /// How many lists are made in a round: those of each row have as many pairs, so no row is over before the writer has begun.
+    lists: u32,
 }
 
 const ROWS: [Row; 5] = [
@@ -33,30 +35,35 @@ const ROWS: [Row; 5] = [
         shape: Shape::Scattered,
         keys: 100_000,
         page: 4096,
+        lists: 1,
     },
     Row {
         name: "256 of 100000 scattered keys",
         shape: Shape::Scattered,
         keys: 100_000,
         page: 256,
+        lists: 16,
     },
     Row {
         name: "16 of 100000 scattered keys",
         shape: Shape::Scattered,
         keys: 100_000,
         page: 16,
+        lists: 256,
     },
     Row {
         name: "256 of 1000 scattered keys",
         shape: Shape::Scattered,
         keys: 1000,
         page: 256,
+        lists: 16,
     },
     Row {
         name: "256 of 1000 ascending keys",
         shape: Shape::Ascending,
         keys: 1000,
         page: 256,
+        lists: 16,
     },
 ];
 
@@ -67,10 +74,15 @@ pub fn measure_all<R: Threads + Wait + Sync + Runtime>(
     ask: &Ask,
 ) -> io::Result<()> {
     for row in ROWS {
-        let tally = measure(rt, alloc, row, false, ask.rounds)?;
-        write_line(rt, row.name, "at rest", tally, ask)?;
-        let tally = measure(rt, alloc, row, true, ask.rounds)?;
-        write_line(rt, row.name, "beside a writer", tally, ask)?;
+        let rounds = ask.rounds.min(MOST_ROUNDS) * row.lists.min(256);
+        let ask = Ask {
+            rounds,
+            timed: ask.timed,
+        };
+        let tally = measure(rt, alloc, row, false, rounds)?;
+        write_line(rt, row.name, "at rest", tally, &ask)?;
+        let tally = measure(rt, alloc, row, true, rounds)?;
+        write_line(rt, row.name, "beside a writer", tally, &ask)?;
     }
     Ok(())
 }
@@ -119,7 +131,8 @@ fn list_by<'a, R: Threads + Wait + Sync + Runtime>(
         client,
         stop: &stop,
     };
-    let ((), tally) = side_by_side(rt, updating, listing);
+    // The thread that lists is started. So the writer is at work before the first list begins.
+    let (tally, ()) = side_by_side(rt, listing, updating);
     tally
 }
 

@@ -1,0 +1,56 @@
+//! The crate `citrus_map`, with each waiter.
+//! `rust_map [--operations N] [--seconds S] calls|keys|crowd` writes the lines that the programs of bench/cpp write.
+
+#[path = "../../btree/src/measuring.rs"]
+mod measuring;
+#[path = "../../btree/src/mixes.rs"]
+mod mixes;
+
+use citrus_map::{Handle, Index, Waiter, HELD_SLOTS};
+use measuring::{measure_all, Client, Map, Options, Room};
+use mixes::Op;
+use std::process::ExitCode;
+
+struct Tree(Index);
+
+impl Tree {
+    fn new(waiter: Waiter, room: Room) -> Tree {
+        let handles = u32::try_from(room.threads).expect("few threads");
+        let slots = u32::try_from(room.keys).expect("keys that fit an index") + HELD_SLOTS * handles;
+        Tree(Index::builder(slots, handles).waiter(waiter).build().expect("memory for the index"))
+    }
+}
+
+impl Map for Tree {
+    type Client = Handle;
+
+    fn client(&self) -> Handle {
+        self.0.handle().expect("a handle for each thread")
+    }
+}
+
+impl Client for Handle {
+    fn call(&mut self, op: Op) -> u64 {
+        let told = match op {
+            Op::Get { key } => self.get(key).map(|found| found.unwrap_or(0)),
+            Op::Del { key } => self.remove(key).map(|old| u64::from(old.is_some())),
+            Op::Put { key, value } => self.insert(key, value).map(u64::from),
+        };
+        told.expect("a slot for each key")
+    }
+}
+
+fn main() -> ExitCode {
+    let options = match Options::from_words(std::env::args().skip(1)) {
+        Some(options) => options,
+        None => {
+            eprintln!("usage: rust_map [--operations N] [--seconds S] calls|keys|crowd");
+            return ExitCode::from(2);
+        }
+    };
+    for (waiter, name) in [(Waiter::Eer, "first"), (Waiter::Domain, "second"), (Waiter::Deer, "third")] {
+        let name = format!("citrus_map {name}");
+        measure_all(&options, &name, |room| Tree::new(waiter, room));
+    }
+    ExitCode::SUCCESS
+}
