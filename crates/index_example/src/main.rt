@@ -2,36 +2,89 @@
 //! raises every second price, and takes every fourth article out. Then the index is counted.
 #![tactic(auto)]
 
-mod index;
-mod keeper;
+ghost use Rattle.std.specs.Prelude.{◌/◌, ◌≤◌};
+ghost use Rattle.citrus_tree.specs.Lookups.{Looked};
 
+use citrus_tree::TreeClient;
 use eer_wait::Eer;
-use index::{OWN, SHARE};
-use keeper::Keeper;
-use prcu_model::NoMemory;
+use prcu_marks::{Client, OpenGate};
+use prcu_model::{NoMemory, Op, Reply};
 use seat_table::CitrusTable;
 use std::alloc::Global;
 use std::process::ExitCode;
 use std::sync::Wait;
 use std::thread::{Threads, join};
 
-// The worth of what each thread took out of the index, and of what is left in it.
-#[derive(Clone, Copy)]
+/// How many articles each thread adds, and how many tickets it may use: four for each of four calls about an article.
+const OWN: u32 = 100;
+
+const SHARE: u64 = 1600;
+
+/// What a thread works with: a seat at the index, with no call under way.
+type Keeper<'a> = TreeClient<'a, Eer, OpenGate>;
+
+/// The price of an article, as the index had it at some time of the call.
+fn price<R: Wait>(rt: &R, keeper: &mut Keeper, article: u64) -> Option<u64>
+    requires tickets { 1 ≤ keeper.old.seat.view.allowance.tickets / 4 }
+    ensures looked { Looked keeper.old.seat.view article result keeper.new.seat.view }
+{
+    match keeper.call(rt, Op::Get { key: article }).reply {
+        Reply::Val { value } => Some(value),
+        _ => None,
+    }
+}
+
+/// Adds the articles from this number on, asks for the other thread's, and tells how many of its own it took out again.
+fn keep<'a, R: Wait>(rt: &R, keeper: Keeper<'a>, first: u32) -> (Keeper<'a>, u32) {
+    let mut keeper = keeper;
+    let mut taken_out: u32 = 0;
+    for at in 0..OWN {
+        if keeper.remaining() < 4 {
+            return (keeper, taken_out);
+        }
+        let key = u64::from(first) + u64::from(at);
+        keeper.call(rt, Op::Put { key, value: 10 });
+        price(rt, &mut keeper, key + u64::from(OWN));
+        if key % 2 == 0 {
+            keeper.call(rt, Op::Set { key, value: 15 });
+        }
+        if key % 4 == 0 {
+            let gone = keeper.call(rt, Op::Del { key }).reply == Reply::Gone;
+            taken_out = taken_out.saturating_add(u32::from(gone));
+        }
+    }
+    (keeper, taken_out)
+}
+
+/// The worth of all articles.
+fn total<R: Wait>(rt: &R, keeper: Keeper) -> u64 {
+    let mut keeper = keeper;
+    let mut sum: u64 = 0;
+    for article in 0..2 * OWN {
+        if keeper.remaining() < 1 {
+            return sum;
+        }
+        sum = sum.saturating_add(price(rt, &mut keeper, u64::from(article)).unwrap_or(0));
+    }
+    sum
+}
+
+/// How many articles each thread took out, and the worth of those that are left.
 struct Kept {
-    taken_out: [u64; 2],
+    taken_out: [u32; 2],
     left: u64,
 }
 
-// Lets two threads keep one index. Each has a seat with a place of its own and its share of the tickets.
+/// Lets two threads keep one index.
 fn keep_index<R: Threads + Wait + Sync>(rt: &R, alloc: Global) -> Result<Kept, NoMemory> {
     let (index, seat) = CitrusTable::<Eer>::new(alloc, 200, 2, 2 * SHARE)?;
     let (one, two) = seat.split(&index, 1, SHARE);
-    let one = Keeper::new(&index, one);
-    let two = Keeper::new(&index, two);
-    let (one, two) = join(rt, || one.keep(rt, 0), || two.keep(rt, OWN));
+    let one = TreeClient::new(&index, one, &OpenGate);
+    let two = TreeClient::new(&index, two, &OpenGate);
+    let ((one, first), (_, second)) = join(rt, || keep(rt, one, 0), || keep(rt, two, OWN));
     Ok(Kept {
-        taken_out: [one.1, two.1],
-        left: one.0.total(rt, 2 * OWN),
+        taken_out: [first, second],
+        left: total(rt, one),
     })
 }
 
@@ -39,10 +92,8 @@ fn main(rt: HostRuntime) -> ExitCode {
     let Ok(kept) = keep_index(&rt, rt.alloc()) else {
         return ExitCode::from(70);
     };
-    let [first, second] = kept.taken_out;
-    let left = kept.left;
-    let told = println!(rt; "taken out, by thread: {first} {second}\nleft in the index: {left}");
-    match told {
+    let Kept { taken_out, left } = kept;
+    match println!(rt; "taken out, by thread: {taken_out:?}\nleft in the index: {left}") {
         Ok(()) => ExitCode::SUCCESS,
         Err(_) => ExitCode::from(74),
     }
