@@ -30,6 +30,8 @@
 extern "C" {
 #endif
 
+/* Each call writes the handle. So handles of different threads should stand 128 bytes apart, or each on its thread's stack: in one line of
+   memory they make two threads half as fast. */
 typedef struct { void *at; } citrus_handle;
 
 #define CITRUS_CLOSED_HANDLE { 0 }

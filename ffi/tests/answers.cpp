@@ -7,7 +7,8 @@
 
 static_assert(!std::is_copy_constructible_v<citrus::handle> && !std::is_copy_assignable_v<citrus::handle>);
 static_assert(std::is_nothrow_move_constructible_v<citrus::handle> && std::is_nothrow_move_assignable_v<citrus::handle>);
-static_assert(sizeof(citrus::handle) == sizeof(citrus_handle));
+// Handles that stand beside each other share no line of memory.
+static_assert(alignof(citrus::handle) == 128 && sizeof(citrus::handle) == 128);
 
 // Whether the work is refused for this reason.
 static bool is_refused(citrus::fault why, const std::function<void()> &work) {

@@ -19,6 +19,8 @@ use std::sync::Arc;
 ///
 /// Any call may answer [`Error::Lost`], and each but [`range`](Handle::range), [`page`](Handle::page) and
 /// [`first_from`](Handle::first_from) may answer [`Error::Spent`]; both are years away.
+// Each call writes the handle. In lines of its own it doesn't take them from other threads' handles.
+#[repr(align(128))]
 pub struct Handle {
     raw: UnsafeCell<RawHandle>,
     /// Whether it can do no more, so that it doesn't go back.
