@@ -9,7 +9,7 @@ set -eu
 . "$(dirname "$0")/peers.sh"
 # shellcheck source=bench/results.sh
 . "$top/bench/results.sh"
-rounds=7 operations=100000 seconds=1 archive=()
+rounds=7 operations=400000 seconds=1 archive=()
 while [ $# -gt 0 ]; do
     case $1 in
         --rounds) rounds=$2 ;;

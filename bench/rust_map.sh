@@ -8,7 +8,7 @@ set -eu
 . "$(dirname "$0")/library.sh"
 # shellcheck source=bench/results.sh
 . "$top/bench/results.sh"
-rounds=7 operations=100000 seconds=1
+rounds=7 operations=400000 seconds=1
 while [ $# -gt 0 ]; do
     case $1 in
         --rounds) rounds=$2 ;;
