@@ -36,32 +36,6 @@ tree() {
         }'
 }
 
-# A row for each value of a column, with the medians of these series: `grown FILE COLUMN SERIES..`.
-grown() {
-    local file=$1 column=$2 IFS='|'
-    shift 2
-    with_best "$file" | awk -F, -v column="$column" -v names="$*" '
-        BEGIN { count = split(names, series, "|") }
-        { row = $column "," $4; if (!seen[row]++) order[++rows] = row; median[row, $1] = $7 }
-        END {
-            for (r = 1; r <= rows; r++) {
-                split(order[r], at, ",")
-                printf "%d,%d", at[1], at[2]
-                for (s = 1; s <= count; s++) printf ",%s", median[order[r], series[s]]
-                print ""
-            }
-        }' | sort -t, -k 1,1n -k 2,2n | awk -F, '{
-            printf "|"
-            for (i = 1; i <= NF; i++) printf " %s |", $i == "" ? "-" : sprintf("%.0f", $i)
-            print ""
-        }'
-}
-
-keys() {
-    head_of keys threads 'first waiter, C++' 'best map under a lock' TBB 'plain CITRUS'
-    grown "$1" 3 'C++ first' 'best under a lock' 'TBB map' 'plain CITRUS'
-}
-
 # Each row has what one, two and four threads take.
 waits() {
     head_of waiter what 1 2 4 'times C++, 1' 2 4
@@ -92,7 +66,7 @@ rust_map() {
         }
         { median[$1, $2, $4] = $7; keys[$2] = $3 }
         END {
-            for (m = 1; m <= 5; m++) for (c = 1; c <= 3; c++) {
+            for (m = 1; m <= 5; m++) for (c = 1; c <= 3; c += 2) {
                 row = "| " mixes[m] " | " keys[mixes[m]] " | " crews[c] " |"
                 for (s = 1; s <= 6; s++) {
                     ns = median[series[s], mixes[m], crews[c]]
@@ -169,7 +143,7 @@ embed() {
         { least[$1, $2, $4] = $6; median[$1, $2, $4] = $7; keys[$2] = $3 }
         function ns(value) { return value == "" ? "-" : sprintf("%.0f", value) }
         END {
-            for (m = 1; m <= 5; m++) for (c = 1; c <= 3; c++) {
+            for (m = 1; m <= 5; m++) for (c = 1; c <= 3; c += 2) {
                 mix = mixes[m]; crew = crews[c]
                 row = "| " mix " | " keys[mix] " | " crew
                 for (w = 1; w <= 3; w++) row = row " | " ns(median["C library " waiters[w], mix, crew])
@@ -218,7 +192,7 @@ if [ $# -gt 0 ]; then
 fi
 out=$top/bench/out
 mkdir -p "$out"
-for name in tree keys waits lists threads text limits cookies embed rust_map server; do
+for name in tree waits lists threads text limits cookies embed rust_map server; do
     [ -e "$results/$name.csv" ] || continue
     { echo; table "$name"; echo; } >"$out/table"
     put_in "$name" "$out/table"
