@@ -1,7 +1,8 @@
 #!/usr/bin/env bash
-# Runs the commands of README.md and docs/FORMATS.md one after another, and fails where one fails, waits for more input than it names, or
-# takes longer than it should. With the word `gate` it runs the gate where README has it, `.ci/run`, and holds the command after it to the
-# program that the gate left; else that is left out, and the program is built before. It stands outside the gate.
+# Runs the commands of README.md and docs/FORMATS.md, and fails where one fails, waits for more input than it names, or takes longer than
+# it should. The answer without proofs and the gate come first, as on a fresh clone, and the others in their order. Only with the word `gate`
+# it runs the gate, and holds the command after it to the program that the gate left; else the program is built before. What stands
+# below ~/ in a command is put into bench/out. It stands outside the gate.
 set -eu
 if [ "${1:-}" = gate ]; then
     top=$(cd "$(dirname "$0")/.." && pwd)
@@ -20,12 +21,20 @@ commands() {
     awk '/^```/ { inside = !inside; next } !inside { printf "%s ", $0 }' "$1" | grep -o '`\./citrus [^`]*`' | tr -d '`' || true
 }
 
-# How long a command may take: the gate three hours, a build without proofs a minute and as long as its program may run, and what comes
-# after the gate some seconds, which are too few to build anything.
+# As someone runs them who begins with a fresh clone.
+in_order() {
+    { commands README.md && commands docs/FORMATS.md; } >"$out/commands"
+    grep -e '--unproved' -e '^\.ci/run$' "$out/commands"
+    grep -v -e '--unproved' -e '^\.ci/run$' "$out/commands"
+}
+
+# How long a command may take: the gate three hours, a build without proofs a minute and as long as its program may run, the library what
+# its proofs take where the gate didn't run, and what comes after the gate some seconds, which are too few to build anything.
 seconds_for() {
     case $1 in
         .ci/run) echo 10800 ;;
         *--unproved*) echo 120 ;;
+        ffi/install.sh*) echo 3600 ;;
         *) [ "$before" = .ci/run ] && echo 5 || echo 60 ;;
     esac
 }
@@ -40,11 +49,11 @@ while IFS= read -r command; do
     case $command in
         .ci/run) [ "${1:-}" = gate ] || continue ;;
         # A pattern of words, and no command.
-        *'N'* | *'[') continue ;;
+        ./citrus*N* | *'[') continue ;;
     esac
     status=0
     began=$(date +%s%N)
-    timeout "$(seconds_for "$command")" bash -c "set -o pipefail; $command" <&8 >"$out/told" 2>&1 || status=$?
+    timeout "$(seconds_for "$command")" bash -c "set -o pipefail; ${command//\~\//$out/}" <&8 >"$out/told" 2>&1 || status=$?
     took=$((($(date +%s%N) - began) / 1000000))
     if [ "$status" != 0 ]; then
         cat "$out/told" >&2
@@ -54,7 +63,7 @@ while IFS= read -r command; do
     echo "$command: $(head -1 "$out/told") ($took ms)"
     done=$((done + 1))
     before=$command
-done < <(commands README.md && commands docs/FORMATS.md)
-rm -f "$out/terminal" "$out/told"
+done < <(in_order)
+rm -f "$out/terminal" "$out/told" "$out/commands"
 [ "$done" -ge 6 ] || { echo "readme.sh: only $done commands were found" >&2; exit 1; }
 echo "$done commands ran"

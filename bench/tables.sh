@@ -1,10 +1,9 @@
 #!/usr/bin/env bash
-# Writes the tables of docs/BENCHMARKS.md from the summaries in bench/results: what stands between `<!-- NAME -->` and
-# `<!-- end of NAME -->` is replaced where the summary of this name is there. `tables.sh NAME..` prints tables instead.
+# Writes the tables of docs/BENCHMARKS.md and bench/TABLES.md from the summaries in bench/results: what stands between `<!-- NAME -->`
+# and `<!-- end of NAME -->` is replaced where the summary of this name is there. `tables.sh NAME..` prints tables instead.
 set -eu
 # shellcheck source=bench/results.sh
 . "$(dirname "$0")/results.sh"
-page=$top/docs/BENCHMARKS.md
 
 # The head of a table: `head_of COLUMN..`.
 head_of() {
@@ -177,8 +176,10 @@ places How the time grows with the places of the table, and what more threads th
 END
 }
 
-# Puts a file in the page in place of what stands between the marks of this name: `put_in NAME FILE`.
+# Puts a file in place of what stands between the marks of this name, in the page that has them: `put_in NAME FILE`.
 put_in() {
+    local page
+    page=$(grep -lxF "<!-- $1 -->" "$top/docs/BENCHMARKS.md" "$top/bench/TABLES.md")
     awk -v name="$1" -v file="$2" '
         $0 == "<!-- end of " name " -->" { while ((getline line <file) > 0) print line; inside = 0 }
         !inside { print }

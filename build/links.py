@@ -1,6 +1,7 @@
 #!/usr/bin/env python3
 """Checks the pages: each relative link leads to a file that is there and to a heading of it, and each source that a definition
-names is a heading of its page, or stands in the page's list of what moved. Pages are README.md, docs/*.md and the READMEs of crates."""
+names is a heading of its page, or stands in the page's list of what moved. Pages are README.md, docs/*.md, the READMEs of crates, and
+those of bench/ and ffi/."""
 import glob
 import os
 import re
@@ -90,7 +91,7 @@ def files(*patterns):
 
 
 def main():
-    pages = files("README.md", "docs/*.md", "crates/*/README.md")
+    pages = files("README.md", "docs/*.md", "crates/*/README.md", "bench/*.md", "ffi/**/*.md")
     plain = files("crates/*/README.md", "crates/*/src/**/*.rt", "crates/*/specs/**/*.antt", "crates/*/proofs/**/*.antt", "bench/*", "build/*.sh")
     bad, named = [], {}
     for page in pages:

@@ -63,11 +63,12 @@ headers_stand_alone() {
         echo '#include <citrus.hpp>' | g++ -std=c++17 -pedantic -Wall -Wextra -Werror "-I$prefix/include" -fsyntax-only -xc++ -
 }
 
-# A program of the page: it stands there as it is compiled here, and writes what the page says.
-page_has() { python3 "$here/tests/page_has.py" "$top/docs/EMBEDDING.md" "$1"; }
+# A page shows the program as it is compiled here: `shows PAGE PROGRAM`.
+shows() { python3 "$here/tests/page_has.py" "$top/$1" "$here/$2"; }
 
+# A program of the page: it stands there, and writes what the page says.
 first_program() {
-    page_has "$here/$1" && "${@:3}" "$here/$1" "-I$prefix/include" "-L$prefix/lib" -lcitrus -o "$room/first" && [ "$("$room/first")" = "$2" ]
+    shows docs/EMBEDDING.md "$1" && "${@:3}" "$here/$1" "-I$prefix/include" "-L$prefix/lib" -lcitrus -o "$room/first" && [ "$("$room/first")" = "$2" ]
 }
 
 with_pkg_config() {
@@ -135,6 +136,7 @@ case_is 'the library is built and installed' [ -e "$prefix/lib/pkgconfig/citrus.
 [ "$failed" = 0 ] || end
 case_is 'the headers stand alone' headers_stand_alone
 case_is "the page's program in C" first_program c/first.c '5 has 50' gcc -Wall -Wextra -Werror
+case_is 'README shows the program in C' shows README.md c/first.c
 case_is "the page's program in C++" first_program cpp/first.cpp '5 has 50' g++ -std=c++17 -Wall -Wextra -Werror -pthread
 if hash pkg-config 2>/dev/null; then case_is "the page's program by pkg-config" with_pkg_config; else echo 'left out: pkg-config'; fi
 case_is 'the tests compile' compile_all
