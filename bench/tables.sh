@@ -170,7 +170,7 @@ pictures() {
     done <<'END'
 threads Operations a second of all threads together, medians. A line that rises gains by threads.
 ratio The proved tree beside the same steps in C++, minima. At 1 it takes as long as the C++, below less.
-layout What it makes that words stand apart, at four threads with the first waiter, medians. Less is better.
+layout What words that stand apart gain, at four threads with the first waiter, medians. Less is better.
 keys How an operation's time grows with the keys, medians. Both axes are logarithmic; the tree is that in C++.
 places How the time grows with the places of the table, and what more threads than processors give, medians. The tree is that in C++.
 END

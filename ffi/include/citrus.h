@@ -31,7 +31,7 @@ extern "C" {
 #endif
 
 /* Each call writes the handle. So handles of different threads should stand 128 bytes apart, or each on its thread's stack: in one line of
-   memory they make two threads half as fast. */
+   memory each call waits for the others' lines. */
 typedef struct { void *at; } citrus_handle;
 
 #define CITRUS_CLOSED_HANDLE { 0 }
@@ -77,7 +77,7 @@ int32_t citrus_open(citrus_handle *handle, uint32_t slots, uint32_t handles, uin
 /* Makes `other` a second handle of the index. So many of the handles that are left to the first one (1 or more; `other` itself is one of
  * them) and so many of its tickets (0 or more) go over to it, and can be shared from it in turn. What `other` was open on before is closed.
  * It waits for nobody and takes half a kilobyte of memory.
- * DONE; CLOSED; BAD_ARGUMENT where the first has fewer handles or tickets; NO_MEMORY; LOST. But at DONE both are as they were. */
+ * DONE; CLOSED; BAD_ARGUMENT where the first has fewer handles or tickets; NO_MEMORY; LOST. At all but DONE both are as they were. */
 int32_t citrus_share(citrus_handle *handle, uint32_t handles, uint64_t tickets, citrus_handle *other);
 
 /* Tells how many more handles can be shared from this one, and how many tickets it has. It costs a few loads.
@@ -113,12 +113,12 @@ int32_t citrus_replace(citrus_handle *handle, uint64_t key, uint64_t value, uint
 int32_t citrus_upsert(citrus_handle *handle, uint64_t key, uint64_t value, uint64_t *old);
 
 /* Takes the pair out, where the key is present. Where its node has two children it waits for the readers inside a call whose key lies above
- * this key and up to the next one; and each 15th remove or so waits for all threads that are inside a call.
+ * this key and up to the next one; and each 15th remove or so waits for all threads that are inside a call, a list too.
  * DONE, and the value in *old; UNCHANGED where the key is absent; CLOSED; SPENT; LOST. */
 int32_t citrus_remove(citrus_handle *handle, uint64_t key, uint64_t *old);
 
 /* Lists the pairs with keys from low to high, both among them, all as they were at one moment of the call, keys ascending.
- * It fills pairs[0] to pairs[*count - 1], and *count is 0 but at DONE and MORE. It takes no lock, and memory for `room` pairs. Where
+ * It fills pairs[0] to pairs[*count - 1], and *count is 0 except at DONE and MORE. It takes no lock, and memory for `room` pairs. Where
  * updates come it reads again, up to 1,000 times, so beside steady writers take short ranges. It needs no tickets.
  * DONE; MORE where there are more than `room` such pairs: these are the first ones, and the key after them is in *next; MOVED; CLOSED;
  * BAD_ARGUMENT where low is above high, or room is 0 or above CITRUS_MAX_ROOM; NO_MEMORY; LOST. */

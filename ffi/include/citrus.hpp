@@ -2,7 +2,7 @@
 // what each call does, waits for and costs, and what a caller owes. What is left to owe here: one call at a time with one handle; no call
 // from a signal handler, nor from the child of a fork of a program with threads.
 //
-//     citrus::handle mine(100000, 2);             // room for 100,000 pairs, for two threads
+//     citrus::handle mine(100000, 2);             // 100,000 slots, two handles
 //     citrus::handle other = mine.share();        // for the second thread
 //     mine.insert(5, 50);
 //     std::optional<uint64_t> value = mine.get(5);

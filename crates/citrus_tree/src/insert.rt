@@ -53,6 +53,7 @@ pub fn put<P: Patience, W: WaitPart, G: Gate>(
     ensures allowance { IfOk result (λ _. KeepsAllowance seat.old.view seat.new.view) }
     ensures informed { IfOk result (λ _. IsInformed seat.new.view) }
 {
+    // Without end, for all that a thread lives to see; the longer others are in the way, the longer the pauses.
     let mut pauses = patience.pauses();
     for _ in 0..u64::MAX {
         let Some(spot) = find_spot(patience, table, seat, gate, key)? else {
@@ -62,6 +63,7 @@ pub fn put<P: Patience, W: WaitPart, G: Gate>(
         let Some(leaf) = leaf_in_hand(patience, table, seat, key, value)? else {
             return Ok(answered(gate, seat, Reply::Full, 0));
         };
+        // A gate is the caller's: a test holds a thread back here, and any other caller lets it through.
         gate.pass(Point::BeforeLock, seat.place());
         if let Some(number) = link_leaf(patience, table, seat, spot, leaf, key, value)? {
             return Ok(answered(gate, seat, Reply::New, number));
@@ -232,6 +234,7 @@ fn link_leaf<P: Patience, W: WaitPart>(
         return Ok(None);
     }
     // Odd for the one store alone: updates take turns for these three steps, and get their numbers by them. docs/TREE.md#the-tree
+    // Who gives up here keeps the lock: the seat is lost with it. docs/EMBEDDING.md#a-lost-handle
     let front = open_front(patience, table, seat)?;
     steps::link_leaf(table, seat, spot.slot, spot.side, leaf, key, value);
     let number = close_front(table, seat, front);
@@ -239,7 +242,7 @@ fn link_leaf<P: Patience, W: WaitPart>(
     Ok(Some(number))
 }
 
-// Whether the side under the lock is as recorded. All three words are loaded before they are judged.
+// Whether the side under the lock is as recorded.
 fn still_holds<W: WaitPart>(table: &CitrusTable<W>, seat: &mut Seat<W>, spot: Spot) -> bool
     requires table { seat.old.table ≡ table.now }
     requires at { StandsAt (shape_of W.WAY table.now) (at.LeafLife spot) seat.old.view }

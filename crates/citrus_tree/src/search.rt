@@ -152,7 +152,8 @@ pub(crate) fn leave_with_spot<W: WaitPart>(
     ensures looked { (v : View) (key : ℕ) → IsSearching v key (Missed slot side) seat.old.view
         → (looked : Looked v key None seat.new.view) × Records looked.reading result }
 {
-    // Inside the section: no slot at which it stood is used again before it is left. docs/TREE.md#what-could-go-wrong
+    // Inside the section: until it is left no slot at which it stood is used again, and no move ends that takes the key away from this
+    // side. docs/TREE.md#what-could-go-wrong
     let tag = steps::search_load(table, seat, slot, Part::Tag { side });
     let life = steps::search_load(table, seat, slot, Part::Life);
     W::leave(table, seat);

@@ -33,7 +33,7 @@
 //! # What it costs
 //! - All memory is taken when the index is made, but for lists, which take theirs by the call.
 //! - The tree isn't balanced. Keys that come in no order make it some 2 log(n) deep; keys that come ascending make it a path.
-//! - A removal waits for lookups under way near its key, and each fifteenth of a handle for all that are under way.
+//! - A removal waits for lookups under way near its key, and every fifteenth one of a handle for all lookups and lists under way.
 //!
 //! # Limits
 //! 2,097,152 slots, 64 handles, and 2^55 updates divided by the number of handles. No call from a signal handler, or from the child of a

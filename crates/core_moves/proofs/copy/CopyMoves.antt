@@ -1,4 +1,4 @@
--- K25: the parts on the tree: shape, map and pending moves.
+-- The link of a copy: the parts on the tree: shape, map and pending moves.
 use Rattle.std.proofs.Common.{◌≡◌, ◌≢◌, ℕ, ◌*◌, ◌==◌, ◌⊎◌, cond, true, false, length, Some, None, refl, sym, ap, subst, ◌∙◌, ⊎_elim, inl, inr, arith, eq-eqb, ne_eqb}
 use Rattle.std.proofs.lemmas.Bool.{cases_eq}
 use mathlib.Core.Option.{some, some-injective}

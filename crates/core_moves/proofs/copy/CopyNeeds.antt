@@ -1,4 +1,4 @@
--- K25: what its case gives of the words and the chart.
+-- The link of a copy: what its case gives of the words and the chart.
 use Rattle.core_state.specs.steps.Links.{newly_retired}
 use Rattle.core_state.specs.declared.view.Known.{Known}
 use Rattle.core_state.specs.declared.view.Retired.{Retired}
@@ -40,7 +40,7 @@ use Rattle.core_tree.proofs.links.LinkSteps.{LinkStep, Retires}
 use Rattle.core_moves.proofs.copy.CopyShape.{lower, upper, changes}
 use Rattle.core_frames.proofs.marks.UpdateMarks.{delete_plain, delete_marks, delete_gone_here, delete_gone_other}
 
--- A step of K25: p, b, d, u, q are its parent, side, node, old successor and the old successor's parent.
+-- The step that links a copy: p, b, d, u, q are its parent, side, node, old successor and the old successor's parent.
 pub record CopyStep : Type 0 where
   pub who : Stepper
   pub commit : Commit

@@ -1,4 +1,4 @@
--- K25: the key of the copy is the next one in the dictionary above the key that is deleted.
+-- The link of a copy: the key of the copy is the next one in the dictionary above the key that is deleted.
 use Rattle.std.proofs.Common.{◌≡◌, ◌≢◌, ℕ, ◌<◌, ◌≤◌, true, false, Option, Some, None, refl, sym, ap, subst, ◌∙◌, arith}
 use Rattle.std.specs.FinMap as finite
 use Rattle.std.specs.Prelude.{is_some}

@@ -1,4 +1,4 @@
--- K12 into the slot in hand or the spare: a key, a value or a link is stored, or the life of the slot in hand is raised.
+-- A step on the slot in hand or the spare: a key, a value or a link is stored, or the life of the slot in hand is raised.
 use Rattle.std.proofs.Common.{◌≡◌, ◌≢◌, ℕ, ◌+◌, ◌/◌, ◌≤◌, ◌⊎◌, ◌==◌, true, false, cond, List, [], ◌++◌, map, set, Option, Some, None, refl, sym, ap, subst, ◌∙◌, ⊎_elim, inl, inr, arith}
 use Rattle.std.proofs.lemmas.Bool.{cases_eq}
 use mathlib.Core.Option.{some}

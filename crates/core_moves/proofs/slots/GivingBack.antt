@@ -1,4 +1,4 @@
--- K15 of a retired slot: it was waited for, and becomes a free one.
+-- A retired slot is given back: it was waited for, and becomes a free one.
 use Rattle.std.proofs.Common.{◌≡◌, ◌≢◌, ℕ, ◌<◌, ◌≤◌, ◌==◌, true, false, List, [], ◌∷◌, ◌++◌, set, Some, refl, sym, ap, subst, ◌∙◌, ⊎_elim, arith}
 use mathlib.Core.Option.{some}
 use lib.ListN.{get_elem?}

@@ -1,4 +1,4 @@
--- K12 into a retired slot that was waited for: its life is raised, and it becomes the spare, or stays retired.
+-- A step on a retired slot that was waited for: its life is raised, and it becomes the spare, or stays retired.
 use Rattle.std.proofs.Common.{◌≡◌, ◌≢◌, ℕ, ◌+◌, ◌/◌, ◌<◌, ◌≤◌, ◌⊎◌, ◌==◌, true, List, [], ◌∷◌, ◌++◌, length, set, Option, Some, None, refl, sym, ap, subst, ◌∙◌, ⊎_elim, inr, arith}
 use Rattle.std.proofs.lemmas.Bool.{cases_eq}
 use Rattle.prcu_marks.specs.declared.mark.Mark.{Mark}

@@ -1,4 +1,4 @@
--- A slot goes from the free ones into a hand, or back: K11, and K15 of a slot in hand.
+-- A slot goes from the free ones into a hand, or back: it is seized, and a slot in hand is freed.
 use Rattle.std.proofs.Common.{◌≡◌, ◌≢◌, ℕ, ◌<◌, ◌≤◌, ◌==◌, true, false, List, [], ◌∷◌, ◌++◌, map, set, Option, Some, None, refl, sym, ap, subst, ◌∙◌, ⊎_elim, arith, eq-eqb}
 use mathlib.Core.Option.{some}
 use lib.ListN.{get_elem?}
@@ -42,7 +42,7 @@ module _ (k : Shape) (m : Memory) (vs : List View) (h : List Mark) (id : ℕ) (v
   clear_by : gone_at slot h ≡ None → (a : ℕ) → last_unlinked slot h ≡ Some a → IsClear vs a 0 greatest_key
   clear_by none a last = inv.grace.clean slot a none last
 
-  -- K11: a free slot is seized
+  -- a free slot is seized
   module _ (needs : NeedsSeize v slot) (free : m (State slot) ≡ 0) where
     once : (flag (inv.chart.linked slot) ≡ 0) × (total (λ (u : View). times slot (slots_of u)) vs ≡ 0)
     once = let a = inv.slots.roles.once slot small in let f : flag (m (State slot) == 0) ≡ 1 = ap flag (eq-eqb (m (State slot)) 0 free) in
@@ -123,7 +123,7 @@ module _ (k : Shape) (m : Memory) (vs : List View) (h : List Mark) (id : ℕ) (v
           raised = (let a = ap flag needs.reserved in omega arith);
         })
 
-  -- K15: a slot in hand whose generation was raised is freed
+  -- a slot in hand whose generation was raised is freed
   module _ (held : Held) (needs : NeedsFreeInHand v held slot) where
     in_hand : times slot (held_list v.hands.hand) ≡ 1
     in_hand =
