@@ -87,7 +87,7 @@ int32_t citrus_left(citrus_handle *handle, uint32_t *handles, uint64_t *tickets)
 
 /* Closes the handle. A closed one may be closed again. What it had, its place, the handles that could be shared from it and its tickets, it
  * leaves to citrus_reopen, unless it is lost. So does a handle over which another is opened or shared. The memory of the index is freed with
- * the last of its handles. It waits for nobody, and costs one compare-exchange. */
+ * the last of its handles. It waits for nobody, and costs a few atomic steps. */
 void citrus_close(citrus_handle *handle);
 
 /* Makes `other`, which must be closed, a handle of the index, with all that one handle had which was closed: whose it was isn't told, and
