@@ -53,7 +53,7 @@ compile_c() { gcc -std=gnu11 "${strict[@]}" "$here/tests/$1.c" "${@:2}" -L"$pref
 compile_cpp() { g++ -std=c++17 "${strict[@]}" "$here/tests/$1.cpp" -L"$prefix/lib" -lcitrus -o "$room/$1_cpp"; }
 
 compile_all() {
-    compile_c answers && compile_c misuse && compile_c own_keys && compile_c moments &&
+    compile_c answers && compile_c misuse && compile_c own_keys && compile_c moments && compile_c reopened &&
         compile_c memory -Wl,--wrap=malloc,--wrap=realloc,--wrap=free && compile_cpp answers && compile_cpp order
 }
 
@@ -141,7 +141,7 @@ case_is "the page's program in C++" first_program cpp/first.cpp '5 has 50' g++ -
 if hash pkg-config 2>/dev/null; then case_is "the page's program by pkg-config" with_pkg_config; else echo 'left out: pkg-config'; fi
 case_is 'the tests compile' compile_all
 [ -x "$room/order_cpp" ] || end
-for program in answers misuse memory moments own_keys answers_cpp; do cases_of "$room/$program"; done
+for program in answers misuse memory moments own_keys reopened answers_cpp; do cases_of "$room/$program"; done
 if [ -x "$checker" ]; then orders; else echo "left out: one order of all calls, since $checker isn't built"; fi
 for crate in citrus_map server; do [ ! -e "$here/$crate/Cargo.toml" ] || rust_tests "$crate"; done
 [ ! -e "$here/citrus_map/Cargo.toml" ] || case_is "the page's program in Rust" rust_program

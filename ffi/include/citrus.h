@@ -51,14 +51,15 @@ enum { CITRUS_EER = 0, CITRUS_DOMAIN = 1, CITRUS_DEER = 2 };
  * BAD_ARGUMENT, SPENT, NO_MEMORY. */
 enum {
     CITRUS_DONE = 0,
-    CITRUS_UNCHANGED = 1,     /* insert: the key is there already; get, replace, remove: it is absent; first: there is no such pair */
+    CITRUS_UNCHANGED = 1,     /* insert: the key is there already; get, replace, remove: it is absent; first: there is no such pair;
+                                 reopen: no closed handle left a place */
     CITRUS_FULL = 2,          /* the key is absent, and there is no free slot for it */
     CITRUS_MORE = 3,          /* list: there are more pairs than room */
     CITRUS_MOVED = 4,         /* others updated the index in each of 1,000 tries; nothing was changed. A later call may get through */
     CITRUS_NEW = 5,           /* upsert: the pair was added */
     CITRUS_CLOSED = -1,       /* the handle is closed */
-    CITRUS_BAD_ARGUMENT = -2, /* a number is out of its range */
-    CITRUS_NO_MEMORY = -3,    /* malloc gave none; open, share, list and first alone take memory */
+    CITRUS_BAD_ARGUMENT = -2, /* a number is out of its range; reopen: the other handle is open */
+    CITRUS_NO_MEMORY = -3,    /* malloc gave none; open, share, reopen, list and first alone take memory */
     CITRUS_SPENT = -4,        /* the handle has fewer than 4 tickets: lists and shares are left to it */
     CITRUS_LOST = -5          /* a call with this handle gave up after 2^64 - 1 rounds of waiting: the handle can only be closed */
 };
@@ -68,9 +69,9 @@ typedef struct { uint64_t key, value; } citrus_pair;
 /* Opens a new, empty index. At DONE, what the handle was open on before is closed.
  *   slots    1 to CITRUS_MAX_SLOTS: room for so many pairs, less up to 20 for each handle beside the first, which a thread may have taken
  *            out of the index and not yet given back
- *   handles  1 to CITRUS_MAX_HANDLES: how many there can be in all, since the place of a closed one isn't used again
+ *   handles  1 to CITRUS_MAX_HANDLES: how many there can be at once. Each has a place, and a closed one leaves it to a reopen
  *   waiter   CITRUS_EER, CITRUS_DOMAIN or CITRUS_DEER
- * It takes all memory of the index at once, and only a list, a first or a share takes more later; its time grows with the slots.
+ * It takes all memory of the index at once, and only a list, a first, a share or a reopen takes more later; its time grows with the slots.
  * DONE; BAD_ARGUMENT or NO_MEMORY, and then the handle is as it was. */
 int32_t citrus_open(citrus_handle *handle, uint32_t slots, uint32_t handles, uint32_t waiter);
 
@@ -84,10 +85,18 @@ int32_t citrus_share(citrus_handle *handle, uint32_t handles, uint64_t tickets, 
  * DONE, of a lost handle too; CLOSED. */
 int32_t citrus_left(citrus_handle *handle, uint32_t *handles, uint64_t *tickets);
 
-/* Closes the handle. A closed one may be closed again. The memory of the index is freed with the last of its handles. Until then what a
- * closed handle had, its place and tickets, is lost to the index: keep handles and hand them on, where threads come and go. It waits for
- * nobody. */
+/* Closes the handle. A closed one may be closed again. What it had, its place, the handles that could be shared from it and its tickets, it
+ * leaves to citrus_reopen, unless it is lost. So does a handle over which another is opened or shared. The memory of the index is freed with
+ * the last of its handles. It waits for nobody, and costs a few atomic steps. */
 void citrus_close(citrus_handle *handle);
+
+/* Makes `other`, which must be closed, a handle of the index, with all that one handle had which was closed: whose it was isn't told, and
+ * citrus_left tells what it has. So threads that come and go may close their handles and open them again without end, while one handle of
+ * the index stays open. It waits for nobody: it looks at the places, 64 at most, and again only where another reopen was first. It takes
+ * half a kilobyte of memory.
+ * DONE; UNCHANGED where no closed handle left a place; CLOSED; BAD_ARGUMENT where `other` is open; NO_MEMORY, and the place is left still;
+ * LOST, where `handle` is. `handle` is as it was, and but at DONE `other` too. */
+int32_t citrus_reopen(citrus_handle *handle, citrus_handle *other);
 
 /* Tells the key's value.
  * It takes no lock and waits for nobody: a few stores, and a load or two for each level of the tree. It needs 4 tickets and uses none.

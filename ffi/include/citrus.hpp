@@ -109,6 +109,13 @@ public:
         return share(1, has.tickets / (uint64_t{has.handles} + 1));
     }
 
+    // A handle of the index with all that a handle had which was closed, if one left it. Throws closed, no_memory or lost.
+    std::optional<handle> reopen() {
+        handle other;
+        if (!is_done(citrus_reopen(&at_, &other.at_))) return std::nullopt;
+        return other;
+    }
+
     // How many more handles can be shared, and how many tickets are there. Throws closed.
     supply left() {
         supply has{};

@@ -165,6 +165,71 @@ static void handles_and_tickets_are_shared(uint32_t waiter) {
     citrus_close(&first);
 }
 
+static void a_closed_handle_is_opened_again(uint32_t waiter) {
+    citrus_handle first = open_index(10, 3, waiter), second = CITRUS_CLOSED_HANDLE, third = CITRUS_CLOSED_HANDLE;
+    uint32_t handles = 0;
+    uint64_t tickets = 0, told = UNTOUCHED;
+    WANT(citrus_share(&first, 2, 1000, &second), CITRUS_DONE);
+    WANT(citrus_insert(&second, 1, 10), CITRUS_DONE);
+    WANT(citrus_left(&second, &handles, &tickets), CITRUS_DONE);
+    const uint64_t before = tickets;
+    WANT(citrus_reopen(&first, &third), CITRUS_UNCHANGED);
+    WANT(third.at == NULL, 1);
+    citrus_close(&second);
+    WANT(citrus_reopen(&first, &third), CITRUS_DONE);
+    WANT(citrus_left(&third, &handles, &tickets), CITRUS_DONE);
+    WANT(handles, 1);
+    WANT(tickets, before);
+    WANT(citrus_get(&third, 1, &told), CITRUS_DONE);
+    WANT(told, 10);
+    WANT(citrus_remove(&third, 1, &told), CITRUS_DONE);
+    WANT(citrus_get(&first, 1, &told), CITRUS_UNCHANGED);
+    WANT(citrus_reopen(&first, &second), CITRUS_UNCHANGED);
+    citrus_close(&third);
+    citrus_close(&first);
+}
+
+/* What each of them had comes back once, that of the handle which opened the index too. */
+static void all_handles_but_one_are_opened_again(uint32_t waiter) {
+    citrus_handle handles[4] = {open_index(10, 4, waiter), CITRUS_CLOSED_HANDLE, CITRUS_CLOSED_HANDLE, CITRUS_CLOSED_HANDLE};
+    uint32_t more = 0;
+    uint64_t tickets = 0, all = 0, told = UNTOUCHED;
+    for (uint64_t i = 1; i < 4; i++) WANT(citrus_share(&handles[0], 1, 1000 * i, &handles[i]), CITRUS_DONE);
+    for (uint64_t i = 0; i < 3; i++) citrus_close(&handles[i]);
+    for (uint64_t i = 0; i < 3; i++) WANT(citrus_reopen(&handles[3], &handles[i]), CITRUS_DONE);
+    for (uint64_t i = 0; i < 4; i++) {
+        WANT(citrus_left(&handles[i], &more, &tickets), CITRUS_DONE);
+        WANT(more, 0);
+        all += tickets;
+        WANT(citrus_insert(&handles[i], i, i), CITRUS_DONE);
+        WANT(citrus_get(&handles[3 - i], i, &told), CITRUS_DONE);
+    }
+    WANT(all, CITRUS_ALL_TICKETS);
+    for (uint64_t i = 0; i < 4; i++) citrus_close(&handles[i]);
+}
+
+/* An open and a share close what they are made over. */
+static void a_handle_that_is_made_over_is_left(uint32_t waiter) {
+    citrus_handle first = open_index(10, 3, waiter), second = CITRUS_CLOSED_HANDLE, third = CITRUS_CLOSED_HANDLE;
+    uint32_t handles = 0;
+    uint64_t tickets = 0;
+    WANT(citrus_share(&first, 1, 500, &second), CITRUS_DONE);
+    WANT(citrus_share(&first, 1, 600, &second), CITRUS_DONE);
+    WANT(citrus_reopen(&second, &third), CITRUS_DONE);
+    WANT(citrus_left(&third, &handles, &tickets), CITRUS_DONE);
+    WANT(tickets, 500);
+    WANT(citrus_open(&third, 10, 1, waiter), CITRUS_DONE);
+    WANT(citrus_reopen(&third, &second), CITRUS_BAD_ARGUMENT);
+    citrus_close(&second);
+    citrus_close(&third);
+    WANT(citrus_reopen(&first, &second), CITRUS_DONE);
+    WANT(citrus_reopen(&first, &third), CITRUS_DONE);
+    WANT(citrus_reopen(&first, &third), CITRUS_BAD_ARGUMENT);
+    citrus_close(&third);
+    citrus_close(&second);
+    citrus_close(&first);
+}
+
 static void the_index_lives_as_long_as_one_handle(uint32_t waiter) {
     citrus_handle first = open_index(10, 3, waiter), second = CITRUS_CLOSED_HANDLE;
     uint64_t told = UNTOUCHED;
@@ -248,6 +313,9 @@ static const struct waiter_case cases[] = {
     {"a remove at each node", a_remove_at_each_node},
     {"lists", lists},
     {"handles and tickets are shared", handles_and_tickets_are_shared},
+    {"a closed handle is opened again", a_closed_handle_is_opened_again},
+    {"all handles but one are opened again", all_handles_but_one_are_opened_again},
+    {"a handle that is made over is left", a_handle_that_is_made_over_is_left},
     {"the index lives as long as one handle", the_index_lives_as_long_as_one_handle},
     {"slots are used again", slots_are_used_again},
     {"drawn calls as a model has them", drawn_calls_as_a_model_has_them},

@@ -106,6 +106,22 @@ static void handles_are_shared() {
     WANT(third.get(1).value_or(0), 10);
 }
 
+static void handles_are_opened_again() {
+    citrus::handle first(20, 2);
+    WANT(first.reopen().has_value(), false);
+    citrus::handle second = first.share(1, 1000);
+    second.insert(1, 10);
+    const uint64_t tickets = second.left().tickets;
+    second.close();
+    WANT(is_refused(citrus::fault::closed, [&] { second.reopen(); }), true);
+    second = first.reopen().value();
+    WANT(second.left().tickets, tickets);
+    WANT(second.get(1).value_or(0), 10);
+    second = citrus::handle();
+    WANT(first.reopen()->get(1).value_or(0), 10);
+    WANT(first.reopen().has_value(), true);
+}
+
 static void handles_go_to_threads() {
     citrus::handle index(1000, 4);
     std::vector<std::thread> threads;
@@ -124,6 +140,7 @@ static const plain_case plain_cases[] = {
     {"C++: refusals", refusals},
     {"C++: handles are moved", handles_are_moved},
     {"C++: handles are shared", handles_are_shared},
+    {"C++: handles are opened again", handles_are_opened_again},
     {"C++: handles go to threads", handles_go_to_threads},
 };
 

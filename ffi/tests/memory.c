@@ -49,6 +49,7 @@ static uint32_t waiter_here;
 
 static int32_t open_it(void) { return citrus_open(&index_here, 100, 4, waiter_here); }
 static int32_t share_it(void) { return citrus_share(&index_here, 1, 100, &other_here); }
+static int32_t reopen_it(void) { return citrus_reopen(&index_here, &other_here); }
 
 static int32_t list_it(void) {
     citrus_pair pairs[50];
@@ -88,6 +89,10 @@ static void each_allocation_fails(uint32_t waiter) {
     WANT(citrus_get(&other_here, 5, &told), CITRUS_DONE);
     WANT(told, 50);
     citrus_close(&other_here);
+    fail_each(reopen_it, 1);
+    WANT(citrus_left(&other_here, &handles, &told), CITRUS_DONE);
+    WANT(told, 100);
+    citrus_close(&other_here);
     citrus_close(&index_here);
     WANT(held, before);
 }
@@ -119,6 +124,10 @@ static void *drop_handles(void *member) {
         member_wants(me, "an open", 0, citrus_open(&handles[0], 20, 8, draw(&state) % 3), CITRUS_DONE);
         for (uint64_t i = 1; i < 8; i++) member_wants(me, "a share", i, citrus_share(&handles[0], 1, 1000, &handles[i]), CITRUS_DONE);
         for (uint64_t i = 0; i < 8; i++) member_wants(me, "an insert", i, citrus_insert(&handles[i], i, i), CITRUS_DONE);
+        for (uint64_t i = 1; i < 8; i += 2) {
+            citrus_close(&handles[i]);
+            member_wants(me, "a reopen", i, citrus_reopen(&handles[0], &handles[i]), CITRUS_DONE);
+        }
         for (uint64_t gone = draw(&state) % 8, left = 8; left; left--, gone = (gone + 3) % 8) {
             member_wants(me, "a remove", gone, citrus_remove(&handles[gone], gone, &told), CITRUS_DONE);
             citrus_close(&handles[gone]);

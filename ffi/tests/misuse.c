@@ -9,6 +9,7 @@ static void a_closed_handle_at_each_call(void) {
     size_t count = 9;
     citrus_pair pair = {UNTOUCHED, UNTOUCHED};
     WANT(citrus_share(&closed, 1, 4, &other), CITRUS_CLOSED);
+    WANT(citrus_reopen(&closed, &other), CITRUS_CLOSED);
     WANT(citrus_left(&closed, &handles, &told), CITRUS_CLOSED);
     WANT(citrus_get(&closed, 1, &told), CITRUS_CLOSED);
     WANT(citrus_insert(&closed, 1, 10), CITRUS_CLOSED);
@@ -85,6 +86,30 @@ static void more_is_shared_than_there_is(void) {
     WANT(citrus_share(&first, 1, 1, &third), CITRUS_BAD_ARGUMENT);
     WANT(citrus_share(&first, 1, 0, &third), CITRUS_DONE);
     WANT(citrus_share(&second, 1, 4, &third), CITRUS_BAD_ARGUMENT);
+    citrus_close(&third);
+    citrus_close(&second);
+    citrus_close(&first);
+}
+
+static void an_open_handle_at_a_reopen(void) {
+    citrus_handle first = CITRUS_CLOSED_HANDLE, second = CITRUS_CLOSED_HANDLE, third = CITRUS_CLOSED_HANDLE;
+    uint32_t handles = 0;
+    uint64_t told = UNTOUCHED, tickets = 0;
+    WANT(citrus_open(&first, 5, 3, CITRUS_EER), CITRUS_DONE);
+    WANT(citrus_share(&first, 1, 600, &second), CITRUS_DONE);
+    WANT(citrus_share(&first, 1, 700, &third), CITRUS_DONE);
+    citrus_close(&third);
+    WANT(citrus_open(&third, 5, 1, CITRUS_DEER), CITRUS_DONE);
+    WANT(citrus_insert(&third, 1, 10), CITRUS_DONE);
+    WANT(citrus_reopen(&first, &second), CITRUS_BAD_ARGUMENT);
+    WANT(citrus_reopen(&first, &third), CITRUS_BAD_ARGUMENT);
+    WANT(citrus_left(&second, &handles, &tickets), CITRUS_DONE);
+    WANT(tickets, 600);
+    WANT(citrus_get(&third, 1, &told), CITRUS_DONE);
+    citrus_close(&third);
+    WANT(citrus_reopen(&first, &third), CITRUS_DONE);
+    WANT(citrus_left(&third, &handles, &tickets), CITRUS_DONE);
+    WANT(tickets, 700);
     citrus_close(&third);
     citrus_close(&second);
     citrus_close(&first);
@@ -169,6 +194,7 @@ static const struct plain_case cases[] = {
     {"the largest index", the_largest_index},
     {"an open handle is opened again", an_open_handle_is_opened_again},
     {"more is shared than there is", more_is_shared_than_there_is},
+    {"an open handle at a reopen", an_open_handle_at_a_reopen},
     {"lists of nothing and of too much", lists_of_nothing_and_of_too_much},
     {"a handle without tickets", a_handle_without_tickets},
     {"tickets end", tickets_end},

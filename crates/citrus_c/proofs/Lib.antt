@@ -1,4 +1,5 @@
 pub mod AsBox
+pub mod Crossing
 pub mod Finding
 pub mod Values
 pub mod Writing

@@ -46,3 +46,8 @@ pub record IsShared (c : CallerAt) (handles tickets : ℕ) (d other : CallerAt) 
   pub second : other.seat.view ≡ second_of handles tickets c.seat.view
   pub first_may : MayGoOn d
   pub second_may : MayGoOn other
+
+-- Another caller of the index has a seat that a closed caller left. Whose it was isn't told.
+pub record IsReopened (c other : CallerAt) : Type 0 where
+  pub index : AreOfOneIndex c other
+  pub may : MayGoOn other

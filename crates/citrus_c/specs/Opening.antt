@@ -1,10 +1,10 @@
--- What is answered where handles are opened, shared and asked what they have left.
+-- What is answered where handles are opened, shared, opened again and asked what they have left.
 -- Source: docs/EMBEDDING.md, "Statuses".
-use Rattle.std.specs.Prelude.{◌≡◌, ℕ, ◌+◌, ◌<◌, ◌≤◌, true, Option, Some}
-use Rattle.citrus_c.specs.Callers.{CallerAt, IsFresh, IsShared}
+use Rattle.std.specs.Prelude.{◌≡◌, ℕ, ◌+◌, ◌<◌, ◌≤◌, true, Option, Some, None}
+use Rattle.citrus_c.specs.Callers.{CallerAt, IsFresh, IsShared, IsReopened}
 use Rattle.citrus_c.specs.Lists.{IsLeft}
 use Rattle.citrus_c.specs.declared.status.Status.{Status}
-use Rattle.citrus_c.specs.declared.status.Status.TheVariants.{Done, BadArgument, NoMemory, Lost}
+use Rattle.citrus_c.specs.declared.status.Status.TheVariants.{Done, Unchanged, BadArgument, NoMemory, Lost}
 
 -- an index can be made with these slots, handles and this waiter
 pub record CanOpen (slots handles way : ℕ) : Type 0 where
@@ -31,6 +31,19 @@ Shares c handles tickets was BadArgument d other = (CanShare c handles tickets �
 Shares c handles tickets was NoMemory d other = CanShare c handles tickets × IsLeft c d × (other ≡ was)
 Shares c handles tickets was Lost d other = (c.lost ≡ true) × (d ≡ c) × (other ≡ was)
 Shares c handles tickets was _ d other = ⊥
+
+-- why there is no other caller: nothing was found that a closed one left, or memory is short
+abbrev pub FailsToReopen : Status → Type 0
+FailsToReopen Unchanged = Unit {0}
+FailsToReopen NoMemory = Unit {0}
+FailsToReopen _ = ⊥
+
+-- What a reopen answers, of the caller, and of what the other handle holds before and after.
+abbrev pub Reopens : CallerAt → Option CallerAt → Status → CallerAt → Option CallerAt → Type 0
+Reopens c was Done d other = (e : CallerAt) × (was ≡ None) × (other ≡ Some e) × IsReopened c e × IsLeft c d
+Reopens c was BadArgument d other = (e : CallerAt) × (was ≡ Some e) × (other ≡ was) × IsLeft c d
+Reopens c was Lost d other = (c.lost ≡ true) × (d ≡ c) × (other ≡ was)
+Reopens c was status d other = FailsToReopen status × (was ≡ None) × (other ≡ was) × IsLeft c d
 
 -- How many more handles can be shared from it, and how many tickets it has.
 pub record HasLeft (c : CallerAt) (handles tickets : ℕ) (d : CallerAt) : Type 0 where

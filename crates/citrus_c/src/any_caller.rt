@@ -1,8 +1,9 @@
 //! What a handle leads to, whatever its waiter.
 ghost use Rattle.std.specs.Prelude.{◌≡◌, ◌≤◌, ◌<◌, ◌+◌, false, IfOk, IfErr, IfNone, IfSome};
-ghost use Rattle.citrus_c.specs.Callers.{MayGoOn, IsFresh, IsShared};
+ghost use Rattle.citrus_c.specs.Callers.{MayGoOn, IsFresh, IsShared, IsReopened};
 ghost use Rattle.citrus_c.specs.Calls.{IsCalled, TakesOut, CausedBy};
 ghost use Rattle.citrus_c.specs.Lists.{Lists, IsLostBy};
+ghost use Rattle.citrus_c.specs.Opening.{FailsToReopen};
 
 use crate::caller::Caller;
 use crate::status::Status;
@@ -153,6 +154,24 @@ impl AnyCaller {
             }),
             ByWaiter::Deer(caller) => Some(AnyCaller {
                 caller: ByWaiter::Deer(caller.share(handles, tickets)?),
+            }),
+        }
+    }
+
+    /// Another caller on the same table, with a seat that a caller left.
+    pub(crate) fn reopen(&self) -> Result<AnyCaller, Status>
+        ensures reopened { IfOk result (λ other. IsReopened self.now other) }
+        ensures cause { IfErr result FailsToReopen }
+    {
+        match &self.caller {
+            ByWaiter::Eer(caller) => Ok(AnyCaller {
+                caller: ByWaiter::Eer(caller.reopen()?),
+            }),
+            ByWaiter::Domain(caller) => Ok(AnyCaller {
+                caller: ByWaiter::Domain(caller.reopen()?),
+            }),
+            ByWaiter::Deer(caller) => Ok(AnyCaller {
+                caller: ByWaiter::Deer(caller.reopen()?),
             }),
         }
     }

@@ -1,11 +1,13 @@
-//! What a handle leads to, by its waiter: a seat, and the table that it shares with the seats of other callers.
+//! What a handle leads to, by its waiter: a seat, and what it shares with the other callers of the index.
 ghost use Rattle.std.specs.Prelude.{◌≡◌, ◌≤◌, ◌<◌, ◌+◌, false, IfOk, IfErr, IfNone, IfSome};
 ghost use Rattle.seat_table.specs.Seats.{IsQuietSeat};
 ghost use Rattle.core_state.specs.steps.Seating.{first_of, second_of};
-ghost use Rattle.citrus_c.specs.Callers.{MayGoOn, IsFresh, IsShared};
+ghost use Rattle.citrus_c.specs.Callers.{MayGoOn, IsFresh, IsShared, IsReopened};
+ghost use Rattle.citrus_c.specs.Opening.{FailsToReopen};
 ghost use Rattle.citrus_c.specs.Calls.{IsCalled, TakesOut, CausedBy};
 ghost use Rattle.citrus_c.specs.Lists.{Lists, IsLostBy};
 
+use crate::shared::Shared;
 use crate::spinning::{GaveUp, Spinning};
 use crate::status::Status;
 use citrus_tree::patient::{call, remove};
@@ -29,10 +31,9 @@ const ALL_TICKETS: u64 = 144_115_188_075_855_872;
 /// How many times a list is tried.
 pub(crate) const TRIES: u32 = 1_000;
 
-/// A seat, and its table. It is lost where a call gave up in its midst: the seat may hold locks, or stand in a section.
-#[derive(Drop)]
+/// A seat, and its table, which it shares. It is lost where a call gave up in its midst: the seat may hold locks, or stand in a section.
 pub(crate) struct Caller<W: WaitPart> {
-    table: Arc<CitrusTable<W>, Global>,
+    shared: Arc<Shared<W>, Global>,
     seat: Seat<W>,
     lost: bool,
 }
@@ -45,9 +46,20 @@ impl<W: WaitPart> Model for Caller<W> {
 
     ghost Value = { CallerAt };
 
-    ghost view = { λ c. record { way = W.WAY; table = arc_value c.table; seat = c.seat; lost = c.lost } };
+    ghost view = { λ c. record { way = W.WAY; table = arc_value c.shared; seat = c.seat; lost = c.lost } };
 
-    ghost invariant = { λ c. (c.seat.table ≡ arc_value c.table) × (c.lost ≡ false → IsQuietSeat c.seat) };
+    ghost invariant = { λ c. (c.seat.table ≡ arc_value c.shared) × (c.lost ≡ false → IsQuietSeat c.seat) };
+}
+
+impl<W: WaitPart> Drop for Caller<W> {
+    /// The seat is left to other callers, unless it may hold locks, or stand in a section.
+    fn drop(self) {
+        let Self { shared, seat, lost } = self;
+        if lost {
+            return;
+        }
+        shared.leave(seat);
+    }
 }
 
 /// What a seat gives away, and the table that it is of.
@@ -80,9 +92,9 @@ impl<W: WaitPart> Caller<W> {
         ensures { IfOk result (λ caller. IsFresh W.WAY slots handles caller) }
     {
         let (table, seat) = CitrusTable::<W>::new(alloc, slots, handles, ALL_TICKETS)?;
-        match Arc::new(alloc, table) {
-            Ok(table) => Ok(Caller {
-                table,
+        match Arc::new(alloc, Shared::new(alloc, table, handles)?) {
+            Ok(shared) => Ok(Caller {
+                shared,
                 seat,
                 lost: false,
             }),
@@ -134,7 +146,8 @@ impl<W: WaitPart> Caller<W> {
         if let Some(status) = self.hindrance() {
             return Err(status);
         }
-        match call(&Spinning, &self.table, &mut self.seat, &OpenGate, op) {
+        let table = self.shared.table();
+        match call(&Spinning, table, &mut self.seat, &OpenGate, op) {
             Ok(told) => Ok(told),
             Err(GaveUp) => {
                 self.lost = true;
@@ -151,7 +164,8 @@ impl<W: WaitPart> Caller<W> {
         if let Some(status) = self.hindrance() {
             return Err(status);
         }
-        match remove(&Spinning, &self.table, &mut self.seat, &OpenGate, key) {
+        let table = self.shared.table();
+        match remove(&Spinning, table, &mut self.seat, &OpenGate, key) {
             Ok(removed) => Ok(removed.value),
             Err(GaveUp) => {
                 self.lost = true;
@@ -169,7 +183,8 @@ impl<W: WaitPart> Caller<W> {
         if self.is_lost() {
             return Err(Status::Lost);
         }
-        match list(&Spinning, &self.table, &mut self.seat, keys, page, TRIES) {
+        let table = self.shared.table();
+        match list(&Spinning, table, &mut self.seat, keys, page, TRIES) {
             Ok(listed) => Ok(listed),
             Err(GaveUp) => {
                 self.lost = true;
@@ -187,19 +202,37 @@ impl<W: WaitPart> Caller<W> {
         ensures none { IfNone result (self.new ≡ self.old) }
         ensures shared { IfSome result (λ other. IsShared self.old handles tickets self.new other) }
     {
-        let Ok(table) = Arc::try_clone(&self.table) else {
+        let Ok(shared) = Arc::try_clone(&self.shared) else {
             return None;
         };
         let gift = Gift {
-            table: &table,
+            table: shared.table(),
             handles,
             tickets,
         };
         let seat = replace_with(&mut self.seat, gift, divide);
         Some(Caller {
-            table,
+            shared,
             seat,
             lost: false,
         })
+    }
+
+    /// Another caller on the same table, with a seat that a caller left.
+    pub(crate) fn reopen(&self) -> Result<Caller<W>, Status>
+        ensures reopened { IfOk result (λ other. IsReopened self.now other) }
+        ensures cause { IfErr result FailsToReopen }
+    {
+        let Ok(shared) = Arc::try_clone(&self.shared) else {
+            return Err(Status::NoMemory);
+        };
+        match shared.take() {
+            Some(seat) => Ok(Caller {
+                shared,
+                seat,
+                lost: false,
+            }),
+            None => Err(Status::Unchanged),
+        }
     }
 }

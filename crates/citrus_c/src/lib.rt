@@ -11,7 +11,7 @@ ghost use Rattle.citrus_c.specs.declared.status.Status.TheVariants.{Done};
 ghost use Rattle.citrus_c.specs.Calls.{Gets, Inserts, Replaces, Upserts, Removes};
 ghost use Rattle.citrus_c.specs.Holding.{Makes};
 ghost use Rattle.citrus_c.specs.Lists.{ListsOut, Firsts};
-ghost use Rattle.citrus_c.specs.Opening.{Opens, Shares, HasLeft};
+ghost use Rattle.citrus_c.specs.Opening.{Opens, Shares, Reopens, HasLeft};
 ghost use Rattle.citrus_c.specs.Statuses.{code_of};
 
 mod any_caller;
@@ -20,6 +20,8 @@ mod handle;
 mod lists;
 mod opening;
 mod parts;
+mod reopening;
+mod shared;
 mod sharing;
 mod spinning;
 mod status;
@@ -47,7 +49,8 @@ pub extern "C" fn citrus_open(
     opening::open(alloc, handle, slots, handles, waiter).code()
 }
 
-/// Closes the handle. Its places and tickets are lost to the index, which is freed with the last of its handles. A closed handle stays so.
+/// Closes the handle. What it had, places and tickets, waits in the index for [`citrus_reopen`], unless the handle is lost. The index is
+/// freed with the last of its handles. A closed handle stays so.
 #[unsafe(no_mangle)]
 pub extern "C" fn citrus_close(alloc: Global, handle: &mut Handle)
     ensures closed { handle.new.held ≡ None }
@@ -76,6 +79,23 @@ pub extern "C" fn citrus_share(
         return Status::Closed.code();
     };
     let (caller, status) = sharing::share(alloc, caller, handles, tickets, other);
+    *handle = Handle::of(caller);
+    status.code()
+}
+
+/// Makes `other`, which is closed, a handle of the index, with the places and tickets that a handle had which was closed. Whose they were
+/// isn't told.
+///
+/// 0 done, 1 where none wait, -1 closed, -2 where `other` is open, -3 where memory is short, -5 lost; but at 0 both are as they were.
+#[unsafe(no_mangle)]
+pub extern "C" fn citrus_reopen(alloc: Global, handle: &mut Handle, other: &mut Handle) -> i32
+    ensures reopened { Makes (λ c status d. Reopens c other.old.held status d other.new.held) handle.old.held result handle.new.held }
+    ensures closed { handle.old.held ≡ None → other.new.held ≡ other.old.held }
+{
+    let Some(caller) = handle.take(alloc) else {
+        return Status::Closed.code();
+    };
+    let status = reopening::reopen(alloc, &caller, other);
     *handle = Handle::of(caller);
     status.code()
 }

@@ -7,7 +7,7 @@ ghost use Rattle.citrus_c.specs.Statuses.{code_of};
 pub enum Status {
     /// The call did what it says.
     Done,
-    /// The key is absent, or present at an insert: nothing has changed.
+    /// The key is absent, or present at an insert, or no place waits for a reopen: nothing has changed.
     Unchanged,
     /// No slot is free: nothing has changed.
     Full,

@@ -14,7 +14,7 @@ use Rattle.std.specs.declared.option.Option.{Option}
 use Rattle.std.specs.declared.option.Option.TheVariants.{None, Some}
 use Rattle.citrus_c.specs.Handles.{handle_owns}
 use Rattle.citrus_c.specs.contracts.any_caller.AnyCaller as AnyCaller
-use Rattle.citrus_c.proofs.any_caller.AnyCaller.TheSendSync.{the_send as caller}
+use Rattle.citrus_c.proofs.Crossing.{caller}
 use Rattle.citrus_c.specs.contracts.handle.Handle.{the_row, the_type}
 
 owned_keyless : (a : Global) (p : Ptr) (k : Option AnyCaller.the_row.Denot) → Keyless (handle_owns a p k)
