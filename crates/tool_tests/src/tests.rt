@@ -4,6 +4,7 @@
 //! end.
 ghost use Rattle.std.specs.Prelude.{◌≤◌};
 
+use crate::same::assert_same;
 use citrus_tool::{Status, tool};
 use io_edge::{MemorySink, SteadySource};
 use prcu_marks::{Gate, OpenGate};
@@ -19,6 +20,15 @@ mod left;
 mod lists;
 mod meetings;
 
+// The words of this line behind the program's name.
+fn words_of(alloc: Global, line: &str) -> Result<Vec<String>, Fail> {
+    let mut words = Vec::new(alloc);
+    for word in line.split(' ').skip(1) {
+        words.push(String::from_str(alloc, word)?)?;
+    }
+    Ok(words)
+}
+
 // The status of this line, and what it wrote, where the scripts pass this gate.
 fn answer<R: Threads + Wait + Sync, G: Gate + Sync>(
     rt: &R,
@@ -27,10 +37,7 @@ fn answer<R: Threads + Wait + Sync, G: Gate + Sync>(
     input: &[u8],
     gate: &G,
 ) -> Result<(Status, Vec<u8>), Fail> {
-    let mut words = Vec::new(alloc);
-    for word in line.split(' ').skip(1) {
-        words.push(String::from_str(alloc, word)?)?;
-    }
+    let words = words_of(alloc, line)?;
     let mut source = SteadySource::new(Vec::from_slice(alloc, input)?, 1000);
     let mut sink = MemorySink::new(alloc, 100_000, 7, Vec::new(alloc))?;
     let outcome = tool(rt, alloc, &words, &mut source, &mut sink, gate);
@@ -47,9 +54,40 @@ fn assert_written<R: Threads + Wait + Sync + Abort>(
     text: &[u8],
 ) -> Result<(), Fail> {
     let (got, written) = answer(rt, alloc, line, input, &OpenGate)?;
-    assert_eq!(rt; got, status, "{line}");
-    assert!(rt; written.as_slice() == text, "{line}");
+    assert_same(rt, (got, written.as_slice() == text), (status, true), line);
     Ok(())
+}
+
+// Each key is put and deleted.
+fn ops_of(alloc: Global, keys: u64) -> Result<String, Fail> {
+    let mut text = String::new(alloc);
+    for key in 1..=keys.min(1000) {
+        text.push_str(&format!(in alloc; "put {key} {key}\ndel {key}\n")?)?;
+    }
+    Ok(text)
+}
+
+// What is told of it.
+fn told_of(alloc: Global, keys: u64) -> Result<String, Fail> {
+    let mut text = String::new(alloc);
+    for key in 1..=keys.min(1000) {
+        let (put, del) = (2 * key - 1, 2 * key);
+        text.push_str(&format!(in alloc; "put {key} {key} new {put}\ndel {key} gone {del}\n")?)?;
+    }
+    Ok(text)
+}
+
+// The updates of it by this caller.
+fn updates_of(alloc: Global, keys: u64, caller: u32) -> Result<String, Fail> {
+    let mut text = String::new(alloc);
+    for key in 1..=keys.min(1000) {
+        let (put, del) = (2 * key - 1, 2 * key);
+        let lines = format!(in alloc;
+            "{put} {caller} put {key} {key}\n{del} {caller} del {key}\n"
+        )?;
+        text.push_str(&lines)?;
+    }
+    Ok(text)
 }
 
 // Keys from 1 on, each put and deleted by the last of some scripts: their text, and their account. These are the lines of the scripts
@@ -61,19 +99,14 @@ fn put_and_deleted(
     text: &str,
     account: &str,
 ) -> Result<(String, String), Fail> {
-    let mut text = format!(in alloc; "{text}script\n")?;
-    let mut account = format!(in alloc; "{account}script {caller}\n")?;
-    let mut updates = String::new(alloc);
-    for key in 1..=keys.min(1000) {
-        let (put, del) = (2 * key - 1, 2 * key);
-        text.push_str(&format!(in alloc; "put {key} {key}\ndel {key}\n")?)?;
-        account.push_str(&format!(in alloc; "put {key} {key} new {put}\ndel {key} gone {del}\n")?)?;
-        updates.push_str(&format!(in alloc;
-            "{put} {caller} put {key} {key}\n{del} {caller} del {key}\n"
-        )?)?;
-    }
+    let ops = ops_of(alloc, keys)?;
+    let text = format!(in alloc; "{text}script\n{ops}")?;
+    let told = told_of(alloc, keys)?;
+    let updates = updates_of(alloc, keys, caller)?;
     let count = 2 * keys.min(1000);
-    account.push_str(&format!(in alloc; "history {count}\n{updates}final 0\nend\n")?)?;
+    let account = format!(in alloc;
+        "{account}script {caller}\n{told}history {count}\n{updates}final 0\nend\n"
+    )?;
     Ok((text, account))
 }
 

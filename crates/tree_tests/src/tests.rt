@@ -2,6 +2,7 @@
 ghost use Rattle.std.specs.Prelude.{◌≡◌};
 ghost use Rattle.seat_table.specs.Seats.{IsQuietSeat};
 
+use crate::same::assert_same;
 use citrus_tree::TreeClient;
 use prcu_marks::{Client, OpenGate};
 use prcu_model::{Op, Reply, Told};
@@ -64,7 +65,7 @@ fn run<R: Abort + Wait, W: WaitPart>(
 ) {
     for (op, answer) in calls {
         assert!(rt; client.remaining() > 0, "no tickets are left");
-        assert_eq!(rt; client.call(rt, *op), *answer, "{op:?} where {name}");
+        assert_same(rt, client.call(rt, *op), *answer, (*op, name));
     }
 }
 

@@ -1,11 +1,16 @@
-//! Tests of the model, of sources and sinks, of texts, of workers and of the machine. They stand here and not in the crates that they are
-//! of, since tests are proved together with all functions of their crate; and in one crate, since each reads what it needs of std anew.
+//! Tests of the model, of sources and sinks, of texts, of workers, of the machine and of the hash dictionary. They stand here and not in
+//! the crates that they are of, since tests are proved together with all functions of their crate; and in one crate, since each reads what
+//! it needs of std anew.
 #![tactic(auto)]
 
+#[cfg(test)]
+mod hash;
 #[cfg(test)]
 mod machine;
 #[cfg(test)]
 mod model;
+#[cfg(test)]
+mod same;
 #[cfg(test)]
 mod scripts;
 #[cfg(test)]

@@ -1,4 +1,3 @@
-//! What no clause says: what callers are told in given orders of steps, and by which numbers.
+//! What no clause says: what callers are told in given orders of steps. By which numbers is said by rows of `tool_rows`.
 
 mod runs;
-mod schedules;

@@ -1,4 +1,5 @@
 //! What no clause says of the model: that calls succeed, and a few answers from outside.
+use crate::same::assert_same;
 use crate::scripts::scripts_of;
 use prcu_model::{Dict, Line, LineList, NoMemory, Op, Reply, Scripts, Told, ToldList, Update};
 use std::alloc::Global;
@@ -33,10 +34,11 @@ fn left_by(alloc: Global, updates: &[Op]) -> Result<Dict, NoMemory> {
 #[test]
 fn a_history_is_replayed_update_by_update(rt: HostRuntime) -> Result<(), Fail> {
     let dict = left_by(rt.alloc(), &UPDATES)?;
-    assert_eq!(rt; dict.len(), 3);
-    assert_eq!(rt; dict.pair(0), (0, 1));
-    assert_eq!(rt; dict.pair(1), (2, 21));
-    assert_eq!(rt; dict.pair(2), (u64::MAX, 0));
+    assert!(rt; dict.len() == 3);
+    for (place, pair) in [(0, 1), (2, 21), (u64::MAX, 0)].iter().enumerate() {
+        assert!(rt; (place as u64) < dict.len());
+        assert_same(&rt, dict.pair(place as u64), *pair, place);
+    }
     Ok(())
 }
 
@@ -44,7 +46,7 @@ fn a_history_is_replayed_update_by_update(rt: HostRuntime) -> Result<(), Fail> {
 fn a_replayed_dictionary_answers_for_each_key(rt: HostRuntime) -> Result<(), Fail> {
     let dict = left_by(rt.alloc(), &UPDATES)?;
     for (key, value) in [(2, Some(21)), (5, None), (9, None), (u64::MAX, Some(0))] {
-        assert_eq!(rt; dict.get(key), value, "at {key}");
+        assert_same(&rt, dict.get(key), value, key);
     }
     Ok(())
 }
@@ -62,12 +64,15 @@ fn scripts_keep_their_operations_and_count_them(rt: HostRuntime) -> Result<(), F
     let second = [Op::Put { key: 2, value: 20 }];
     let scripts = scripts_of(&rt, rt.alloc(), &[&first, &second])?;
     assert!(rt; scripts.count() == 2);
-    assert_eq!(rt;
-        (scripts.ops(), scripts.puts(), scripts.default_slots()),
-        (3, 2, 42)
+    let counts = (scripts.ops(), scripts.puts(), scripts.default_slots());
+    assert_same(&rt, counts, (3, 2, 42), "the counts");
+    assert_same(&rt, scripts.script(0), first.as_slice(), "the first script");
+    assert_same(
+        &rt,
+        scripts.script(1),
+        second.as_slice(),
+        "the second script",
     );
-    assert_eq!(rt; scripts.script(0), first.as_slice());
-    assert_eq!(rt; scripts.script(1), second.as_slice());
     assert!(rt; Scripts::new(rt.alloc()).default_slots() == 1);
     Ok(())
 }
@@ -77,7 +82,7 @@ fn lists_of_answers_and_of_lines_grow(rt: HostRuntime) -> Result<(), Fail> {
     let reply = Reply::New;
     let mut told = ToldList::new(rt.alloc(), 1)?;
     told.push(Told { reply, number: 1 });
-    assert_eq!(rt; told.entries().len(), 1);
+    assert!(rt; told.entries().len() == 1);
     let op = Op::Get { key: 1 };
     let mut lines = LineList::new(rt.alloc(), 1)?;
     lines.push(Line {
@@ -85,6 +90,6 @@ fn lists_of_answers_and_of_lines_grow(rt: HostRuntime) -> Result<(), Fail> {
         reply,
         number: 0,
     });
-    assert_eq!(rt; lines.entries().len(), 1);
+    assert!(rt; lines.entries().len() == 1);
     Ok(())
 }

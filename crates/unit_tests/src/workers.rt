@@ -2,6 +2,7 @@
 ghost use Rattle.std.specs.Prelude.{◌≡◌, ◌^◌, ◌<◌, [], ◌∷◌, length, IfOk, vec_len};
 ghost use Rattle.client_run.specs.Workers.{AreReadyFor};
 
+use crate::same::assert_same;
 use client_run::{Worker, merge, run_all};
 use prcu_marks::Client;
 use prcu_model::{NoMemory, Op, Reply, Scripts, Told, ToldList};
@@ -136,11 +137,11 @@ fn crew<'a>(
 
 // That a caller's answers are those to its script, that its updates' numbers rise, and that none was seen. Now they are.
 fn assert_answers(rt: &impl Abort, caller: u32, calls: u32, told: &[Told], seen: &mut [bool]) {
-    assert_eq!(rt; told.len(), calls as usize, "to caller {caller}");
+    assert_same(rt, told.len(), calls as usize, caller);
     let mut last = 0;
     for (call, answer) in (0..calls).zip(told) {
         let reply = reply_at(caller, call);
-        assert_eq!(rt; answer.reply, reply, "to caller {caller} at call {call}");
+        assert_same(rt, answer.reply, reply, (caller, call));
         if reply.tells_update() {
             assert!(rt;
                 last < answer.number && answer.number <= seen.len() as u64,
@@ -151,7 +152,7 @@ fn assert_answers(rt: &impl Abort, caller: u32, calls: u32, told: &[Told], seen:
             assert!(rt; !seen[place], "{last} was told twice");
             seen[place] = true;
         } else {
-            assert_eq!(rt; answer.number, 0, "to caller {caller} at call {call}");
+            assert_same(rt, answer.number, 0, (caller, call));
         }
     }
 }
@@ -172,7 +173,7 @@ fn assert_run<R: Threads + Wait + Sync + Abort>(
     let mut seen = vec![in alloc; false; drawn.load(Ordering::SeqCst) as usize]?;
     for (caller, worker) in (0..callers).zip(workers) {
         let (clerk, told) = worker.into_parts();
-        assert_eq!(rt; clerk.remaining(), 0, "by caller {caller}");
+        assert_same(rt, clerk.remaining(), 0, caller);
         assert_answers(rt, caller, calls, told.entries(), &mut seen);
     }
     assert!(rt; seen.iter().all(|is_told| *is_told), "a number wasn't told");
@@ -240,9 +241,9 @@ fn a_history_has_each_update_at_its_number(rt: HostRuntime) -> Result<(), Fail> 
     ];
     let history = merge(alloc, &scripts, &told)?;
     let expected = [(1, del), (0, del), (0, put)];
-    assert_eq!(rt; history.len(), expected.len());
-    for (update, (caller, op)) in history.iter().zip(&expected) {
-        assert_eq!(rt; (update.caller, update.op), (*caller, *op));
+    assert_same(&rt, history.len(), expected.len(), "the length");
+    for (update, wanted) in history.iter().zip(&expected) {
+        assert_same(&rt, (update.caller, update.op), *wanted, *wanted);
     }
     Ok(())
 }

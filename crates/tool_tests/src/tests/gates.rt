@@ -2,6 +2,7 @@
 ghost use Rattle.std.specs.Prelude.{◌≤◌, ◌<◌};
 
 use super::answer;
+use crate::same::assert_same;
 use citrus_tool::Status;
 use prcu_marks::{Gate, Point};
 use std::alloc::Global;
@@ -117,12 +118,12 @@ pub fn assert_held<R: Threads + Wait + Sync + Abort>(
         misses: AtomicU64::new(0),
     };
     let (status, written) = answer(rt, alloc, line, input, &gate)?;
-    assert_eq!(rt; status, Status::Done, "{line}");
-    assert!(rt; written.as_slice() == text, "{line}");
-    assert_eq!(rt; gate.misses.load(Ordering::SeqCst), misses, "{line}");
+    let missed = gate.misses.load(Ordering::SeqCst);
+    let found = (status, written.as_slice() == text, missed);
+    assert_same(rt, found, (Status::Done, true, misses), line);
     for caller in 0..2 {
         let answers = gate.visits[number_of(caller, Point::Answered)].load(Ordering::SeqCst);
-        assert!(rt; answers >= 1, "{line}: caller {caller}");
+        assert_same(rt, answers >= 1, true, (line, caller));
     }
     Ok(())
 }

@@ -1,5 +1,6 @@
 //! Scripts that nobody chose, run and checked.
 use super::{answer, assert_written};
+use crate::same::assert_same;
 use citrus_tool::Status;
 use prcu_marks::OpenGate;
 use std::alloc::Global;
@@ -17,7 +18,7 @@ fn assert_checked_as_true<R: Threads + Wait + Sync + Abort>(
     scripts: &[u8],
 ) -> Result<(), Fail> {
     let (status, account) = answer(rt, alloc, line, scripts, &OpenGate)?;
-    assert_eq!(rt; status, Status::Done, "{line}");
+    assert_same(rt, status, Status::Done, line);
     let mut claim = Vec::from_slice(alloc, scripts)?;
     claim.extend_from_slice(b"account\n")?;
     claim.extend_from_slice(&account)?;
@@ -70,29 +71,56 @@ fn long_scripts(alloc: Global, number: u64) -> Result<String, Fail> {
     Ok(text)
 }
 
+// That the accounts of fifteen short scripts by a line with this option are true ones, where the first follows from this number.
+fn assert_short_ones<R: Threads + Wait + Sync + Abort>(
+    rt: &R,
+    alloc: Global,
+    option: &str,
+    first: u32,
+) -> Result<(), Fail> {
+    let line = format!(in alloc; "citrus run {option}")?;
+    for number in 0..15u64 {
+        let text = short_scripts(alloc, 4 * number + u64::from(first))?;
+        assert_checked_as_true(rt, alloc, &line, "citrus check", text.as_bytes())?;
+    }
+    Ok(())
+}
+
 #[test]
 fn what_is_written_is_checked_as_true(rt: HostRuntime) -> Result<(), Fail> {
-    let alloc = rt.alloc();
     let options = "--waiter=eer --waiter=d --waiter=deer --schedule=9";
-    for number in 0..15 {
-        for (i, option) in options.split(' ').enumerate() {
-            let text = short_scripts(alloc, 4 * number + i as u64)?;
-            let line = format!(in alloc; "citrus run {option}")?;
-            assert_checked_as_true(&rt, alloc, &line, "citrus check", text.as_bytes())?;
-        }
+    for (first, option) in (0..4).zip(options.split(' ')) {
+        assert_short_ones(&rt, rt.alloc(), option, first)?;
     }
+    Ok(())
+}
+
+#[test]
+fn what_the_hash_dictionary_writes_is_checked_as_true(rt: HostRuntime) -> Result<(), Fail> {
     for number in 0..300 {
-        let text = long_scripts(alloc, number / 3)?;
-        assert_checked_as_true(&rt, alloc, "citrus hash", "citrus check", text.as_bytes())?;
+        let text = long_scripts(rt.alloc(), number / 3)?;
+        let input = text.as_bytes();
+        assert_checked_as_true(&rt, rt.alloc(), "citrus hash", "citrus check", input)?;
     }
-    // Each script but the first has twenty slots more: 64 scripts with a put each share one slot and those.
+    Ok(())
+}
+
+// 64 scripts with a put each.
+fn puts_of_64(alloc: Global) -> Result<String, Fail> {
     let mut text = String::new(alloc);
     for key in 0..64u64 {
         text.push_str(&format!(in alloc; "script\nput {key} {key}\n")?)?;
     }
+    Ok(text)
+}
+
+// Each script but the first has twenty slots more: all share one slot and those.
+#[test]
+fn what_scripts_with_few_slots_write_is_checked_as_true(rt: HostRuntime) -> Result<(), Fail> {
+    let text = puts_of_64(rt.alloc())?;
     assert_checked_as_true(
         &rt,
-        alloc,
+        rt.alloc(),
         "citrus run --slots=1",
         "citrus check --slots 1",
         text.as_bytes(),

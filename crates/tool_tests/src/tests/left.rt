@@ -2,6 +2,8 @@
 ghost use Rattle.std.specs.Prelude.{◌≡◌};
 ghost use Rattle.hash_core.specs.Steps.{IsQuiet};
 
+use super::words_of;
+use crate::same::assert_same;
 use citrus_tool::{Ran, Status, tool};
 use class_hash::{HashSeat, HashTable, get};
 use io_edge::{MemorySink, SteadySource};
@@ -25,15 +27,14 @@ fn assert_found<R: Wait + Abort>(
             Some(value) => Reply::Val { value: *value },
             None => Reply::Absent,
         };
-        assert_eq!(rt; get(rt, table, &mut seat, *key).reply, wanted, "{key}");
+        assert_same(rt, get(rt, table, &mut seat, *key).reply, wanted, *key);
     }
 }
 
 #[test]
 fn the_dictionary_that_is_left_has_the_pairs_of_the_account(rt: HostRuntime) -> Result<(), Fail> {
     let alloc = rt.alloc();
-    let mut words = Vec::new(alloc);
-    words.push(String::from_str(alloc, "hash")?)?;
+    let words = words_of(alloc, "citrus hash")?;
     let text = b"script\nput 6 1\nput 70 2\ndel 6\nscript\nput 1 3\nget 70\n";
     let mut source = SteadySource::new(Vec::from_slice(alloc, text)?, 100);
     let mut sink = MemorySink::new(alloc, 1000, 7, Vec::new(alloc))?;

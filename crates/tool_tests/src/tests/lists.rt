@@ -2,6 +2,7 @@
 ghost use Rattle.std.specs.Prelude.{◌≡◌, ◌≤◌};
 ghost use Rattle.seat_table.specs.Seats.{IsQuietSeat};
 
+use crate::same::assert_same;
 use citrus_tree::put;
 use eer_wait::Eer;
 use exact_list::{Listed, Page, list};
@@ -13,25 +14,29 @@ use std::process::Abort;
 use std::sync::Wait;
 use std::test::Fail;
 
-// What is listed of the range on a page for so many pairs, with one try.
-fn listed<R: Wait + Abort>(
+// That the range is listed so with one try, on a page for so many pairs.
+fn assert_listed<R: Wait + Abort>(
     rt: &R,
     alloc: Global,
     table: &CitrusTable<Eer>,
     seat: &mut Seat<Eer>,
-    keys: Keys,
+    keys: Option<Keys>,
     capacity: u32,
-) -> Result<(Listed, Vec<(u64, u64)>), Fail>
+    wanted: (Listed, &[(u64, u64)]),
+) -> Result<(), Fail>
     requires table { seat.old.table ≡ table.now }
     requires quiet { IsQuietSeat seat.old }
     requires some { 1 ≤ capacity }
     ensures table { seat.new.table ≡ seat.old.table }
     ensures quiet { IsQuietSeat seat.new }
 {
+    let Some(keys) = keys else {
+        panic!(rt; "there are keys");
+    };
     let mut page = Page::new(alloc, capacity)?;
     let listed = list(rt, table, seat, keys, &mut page, 1);
-    let pairs = Vec::from_slice(alloc, page.pairs())?;
-    Ok((listed, pairs))
+    assert_same(rt, (listed, page.pairs()), wanted, capacity);
+    Ok(())
 }
 
 #[test]
@@ -41,20 +46,11 @@ fn a_list_has_the_pairs_of_its_range(rt: HostRuntime) -> Result<(), Fail> {
     put(&rt, &table, &mut seat, &OpenGate, 5, 50);
     put(&rt, &table, &mut seat, &OpenGate, 2, 20);
     put(&rt, &table, &mut seat, &OpenGate, 8, 80);
-    let Some(some) = Keys::new(2, 7) else {
-        panic!(rt; "there are keys")
-    };
-    let (found, pairs) = listed(&rt, alloc, &table, &mut seat, some, 8)?;
-    assert_eq!(rt; found, Listed::Whole { front: 3 });
-    assert!(rt; pairs.as_slice() == [(2, 20), (5, 50)].as_slice());
-    let Some(none) = Keys::new(9, 20) else {
-        panic!(rt; "there are keys")
-    };
-    let (found, pairs) = listed(&rt, alloc, &table, &mut seat, none, 8)?;
-    assert_eq!(rt; found, Listed::Whole { front: 3 });
-    assert!(rt; pairs.is_empty());
-    let (found, pairs) = listed(&rt, alloc, &table, &mut seat, Keys::all(), 2)?;
-    assert_eq!(rt; found, Listed::Part { front: 3, next: 8 });
-    assert!(rt; pairs.as_slice() == [(2, 20), (5, 50)].as_slice());
-    Ok(())
+    let pairs = [(2, 20), (5, 50)];
+    let whole = (Listed::Whole { front: 3 }, pairs.as_slice());
+    assert_listed(&rt, alloc, &table, &mut seat, Keys::new(2, 7), 8, whole)?;
+    let none = (Listed::Whole { front: 3 }, [].as_slice());
+    assert_listed(&rt, alloc, &table, &mut seat, Keys::new(9, 20), 8, none)?;
+    let part = (Listed::Part { front: 3, next: 8 }, pairs.as_slice());
+    assert_listed(&rt, alloc, &table, &mut seat, Some(Keys::all()), 2, part)
 }

@@ -1,6 +1,7 @@
 //! Two scripts beside each other, or a script and the lists of a range, held where they meet.
 use super::gates::{Hold, MANY, assert_held};
 use super::{answer, put_and_deleted};
+use crate::same::assert_same;
 use citrus_tool::Status;
 use prcu_marks::{OpenGate, Point};
 use std::alloc::Global;
@@ -259,7 +260,7 @@ fn assert_found_or_not<R: Threads + Wait + Sync + Abort>(
 ) -> Result<(), Fail> {
     let input = b"script\nput 1 1\nscript\nget 1\n";
     let (status, written) = answer(rt, alloc, line, input, &OpenGate)?;
-    assert_eq!(rt; status, Status::Done, "{line}");
+    assert_same(rt, status, Status::Done, line);
     let found =
         b"script 0\nput 1 1 new 1\nscript 1\nget 1 val 1 1\nhistory 1\n1 0 put 1 1\nfinal 1\n1 1\nend\n";
     let missed =

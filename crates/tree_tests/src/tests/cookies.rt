@@ -20,9 +20,9 @@ fn retire_one<R: Wait + Abort>(rt: &R, table: &CitrusTable<Eer>, seat: Seat<Eer>
     ensures { (result.table ≡ table.now) × IsQuietSeat result }
 {
     let (put, seat) = call_once(rt, table, seat, Op::Put { key: 5, value: 50 });
-    assert_eq!(rt; put, told(Reply::New, 1));
+    assert_same(rt, put, told(Reply::New, 1), "the put");
     let (del, seat) = call_once(rt, table, seat, Op::Del { key: 5 });
-    assert_eq!(rt; del, told(Reply::Gone, 2));
+    assert_same(rt, del, told(Reply::Gone, 2), "the delete");
     seat
 }
 
@@ -49,25 +49,32 @@ fn slots_go_back_once_the_cookie_is_over(rt: HostRuntime) -> Result<(), Fail> {
     let Ask::NotYet { why } = ask(&table, &mut writer, &mut cookie) else {
         panic!(rt; "the reader is inside");
     };
-    assert_eq!(rt;
-        why,
-        Why::Reader {
-            place: 1,
-            key: 7,
-            stamp: 0
-        }
-    );
     let reply = get_beside(&rt, &table, &mut writer);
-    assert_eq!(rt; reply, Reply::Absent);
     Eer::leave(&table, &mut reader);
     let Ask::Over = ask(&table, &mut writer, &mut cookie) else {
         panic!(rt; "the reader has left");
     };
-    assert_eq!(rt; give_back(&table, &mut writer, cookie), 1);
+    let given = give_back(&table, &mut writer, cookie);
     let Taken::Slot { slot, generation } = take(&rt, &table, &mut reader) else {
         panic!(rt; "the slot is free");
     };
-    assert_eq!(rt; (slot, generation), (3, 1));
+    let reader = Why::Reader {
+        place: 1,
+        key: 7,
+        stamp: 0,
+    };
+    assert_same(
+        &rt,
+        (why, reply),
+        (reader, Reply::Absent),
+        "beside the reader",
+    );
+    assert_same(
+        &rt,
+        (given, slot, generation),
+        (1, 3, 1),
+        "after the reader",
+    );
     Ok(())
 }
 
@@ -79,6 +86,6 @@ fn a_later_wait_gives_the_cookie_up(rt: HostRuntime) -> Result<(), Fail> {
     let Ask::GivenUp { latest } = ask(&table, &mut seat, &mut cookie) else {
         panic!(rt; "a later wait was begun");
     };
-    assert_eq!(rt; latest, 1);
+    assert_same(&rt, latest, 1, "the wait");
     Ok(())
 }

@@ -2,6 +2,7 @@
 ghost use Rattle.std.specs.Prelude.{◌≡◌, ◌≤◌};
 ghost use Rattle.seat_table.specs.Seats.{IsQuietSeat};
 
+use crate::same::assert_same;
 use citrus_tree::TreeClient;
 use d_wait::Domain;
 use deer_wait::Deer;
@@ -86,10 +87,7 @@ fn values_at(rt: &impl Abort, alloc: Global, history: &[Update]) -> Result<Vec<V
     fronts.push([None; 8])?;
     for update in history {
         let op = update.op;
-        assert!(rt;
-            map.reply_to(None, op).tells_update(),
-            "{op:?} does nothing"
-        );
+        assert_same(rt, map.reply_to(None, op).tells_update(), true, op);
         map.update(op)?;
         let mut values = [None; 8];
         for key in 0..KEYS {
@@ -110,27 +108,36 @@ fn least_front(fronts: &[Values], slots: u32, from: usize, op: Op, reply: Reply)
     None
 }
 
+// The front after an update, where its number is one behind the front before, and its reply is one at the front before its own.
+fn front_of_update(
+    fronts: &[Values],
+    slots: u32,
+    before: usize,
+    op: Op,
+    answer: Told,
+) -> Option<usize> {
+    let number = answer.number as usize;
+    if before < number && number < fronts.len() {
+        let values = &fronts[number - 1];
+        if is_reply(values, slots, op, answer.reply) {
+            return Some(number);
+        }
+    }
+    None
+}
+
 // That each reply of a script is one at some front, where the fronts never fall. An update's is the one before it.
 fn assert_explained(rt: &impl Abort, fronts: &[Values], slots: u32, script: &[Op], told: &[Told]) {
-    assert_eq!(rt; script.len(), told.len());
+    assert_same(rt, script.len(), told.len(), "the length");
     let mut front = 0;
     for (op, answer) in script.iter().zip(told) {
-        if answer.reply.tells_update() {
-            let number = answer.number as usize;
-            assert!(rt;
-                front < number && number < fronts.len(),
-                "{op:?} was told {answer:?}"
-            );
-            assert!(rt;
-                is_reply(&fronts[number - 1], slots, *op, answer.reply),
-                "{op:?} was told {answer:?}"
-            );
-            front = number;
+        let next = if answer.reply.tells_update() {
+            front_of_update(fronts, slots, front, *op, *answer)
         } else {
-            let found = least_front(fronts, slots, front, *op, answer.reply);
-            assert!(rt; found.is_some(), "{op:?} was told {answer:?}");
-            front = found.unwrap_or(front);
-        }
+            least_front(fronts, slots, front, *op, answer.reply)
+        };
+        assert_same(rt, next.is_some(), true, (*op, *answer));
+        front = next.unwrap_or(front);
     }
 }
 
@@ -198,24 +205,10 @@ fn assert_run<R: Threads + Wait + Sync + Abort, W: WaitPart + Send + Sync>(
 }
 
 #[test]
-fn one_history_explains_the_first_waiters_threads(rt: HostRuntime) -> Result<(), Fail> {
+fn one_history_explains_each_waiters_threads(rt: HostRuntime) -> Result<(), Fail> {
     for cookies in [false, true] {
         assert_run::<HostRuntime, Eer>(&rt, rt.alloc(), 5, cookies)?;
-    }
-    Ok(())
-}
-
-#[test]
-fn one_history_explains_the_second_waiters_threads(rt: HostRuntime) -> Result<(), Fail> {
-    for cookies in [false, true] {
         assert_run::<HostRuntime, Domain>(&rt, rt.alloc(), 70, cookies)?;
-    }
-    Ok(())
-}
-
-#[test]
-fn one_history_explains_the_third_waiters_threads(rt: HostRuntime) -> Result<(), Fail> {
-    for cookies in [false, true] {
         assert_run::<HostRuntime, Deer>(&rt, rt.alloc(), 65, cookies)?;
     }
     Ok(())

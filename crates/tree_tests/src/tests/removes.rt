@@ -22,7 +22,7 @@ fn made<R: Abort + Wait>(rt: &R, table: &CitrusTable<Eer>, seat: Seat<Eer>, call
 {
     let (op, answer) = call;
     let (told, seat) = call_once(rt, table, seat, op);
-    assert_eq!(rt; told, answer);
+    assert_same(rt, told, answer, op);
     seat
 }
 
@@ -40,7 +40,7 @@ fn remove_once<R: Abort + Wait>(
     let mut seat = seat;
     assert!(rt; seat.tickets() >= 4, "no tickets are left");
     let removed = remove(rt, table, &mut seat, &OpenGate, key);
-    assert_eq!(rt; removed, expected);
+    assert_same(rt, removed, expected, key);
     seat
 }
 

@@ -43,7 +43,7 @@ fn run_each<R: Abort + Wait, W: WaitPart>(
         let (table, seat) = CitrusTable::<W>::new(alloc, slots, 1, 64)?;
         let mut client = TreeClient::new(&table, seat, &OpenGate);
         run(rt, &mut client, name, calls);
-        assert_eq!(rt; left(&client.into_seat()), script.left, "{name}");
+        assert_same(rt, left(&client.into_seat()), script.left, name);
     }
     Ok(())
 }
@@ -242,11 +242,7 @@ fn many_retired_slots_are_given_back(rt: HostRuntime) -> Result<(), Fail> {
         (16, (Some(1), 1, 1)),
         (17, (Some(1), 2, 1)),
     ] {
-        assert_eq!(rt;
-            put_and_delete(&rt, rt.alloc(), times)?,
-            left,
-            "{times} times"
-        );
+        assert_same(&rt, put_and_delete(&rt, rt.alloc(), times)?, left, times);
     }
     Ok(())
 }

@@ -20,7 +20,7 @@ fn a_search_comes_to_a_key_below_another(rt: HostRuntime) -> Result<(), Fail> {
     let End::Hit { value } = search.finish() else {
         panic!(rt; "2 was found");
     };
-    assert_eq!(rt; (slot, value), (3, 20));
+    assert_same(&rt, (slot, value), (3, 20), "the slot and the value");
     Ok(())
 }
 
@@ -40,10 +40,8 @@ fn a_search_comes_to_the_side_where_a_key_belongs(rt: HostRuntime) -> Result<(),
     let End::Missing { spot } = search.finish() else {
         panic!(rt; "2 was not found");
     };
-    assert_eq!(rt; (slot, side), (2, Side::Left));
-    assert_eq!(rt;
-        (spot.slot, spot.side, spot.generation, spot.tag),
-        (2, Side::Left, 0, 1)
-    );
+    let found = (slot, side, spot.slot, spot.side, spot.generation, spot.tag);
+    let wanted = (2, Side::Left, 2, Side::Left, 0, 1);
+    assert_same(&rt, found, wanted, "the end and the spot");
     Ok(())
 }

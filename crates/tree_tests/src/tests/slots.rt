@@ -1,5 +1,6 @@
 //! What no clause says: what two seats find out of each other's slots and locks. With one slot and two places slots 1 and 2 are the spares, and
 //! slot 3 begins free.
+use crate::same::assert_same;
 use eer_wait::Eer;
 use node_slots::{
     Lock, Reserve, Seize, Taken, put_back, reclaim, reserve, seize, take, try_lock, unlock,
@@ -11,24 +12,23 @@ use std::test::Fail;
 fn a_reservation_is_lost_and_then_held(rt: HostRuntime) -> Result<(), Fail> {
     let (table, seat) = CitrusTable::<Eer>::new(rt.alloc(), 1, 2, 8)?;
     let (mut first, mut second) = seat.split(&table, 1, 4);
-    let Reserve::Lost { found } = reserve(&table, &mut first, 2) else {
+    let Reserve::Lost { found: count } = reserve(&table, &mut first, 2) else {
         panic!(rt; "the count is 1");
     };
-    assert_eq!(rt; found, 1);
     let Reserve::Held = reserve(&table, &mut first, 1) else {
         panic!(rt; "one slot is free");
     };
-    let Seize::NotFree { found } = seize(&table, &mut first, 1) else {
+    let Seize::NotFree { found: state } = seize(&table, &mut first, 1) else {
         panic!(rt; "slot 1 is a spare");
     };
-    assert_eq!(rt; found, 1);
     let Seize::Got { generation } = seize(&table, &mut first, 3) else {
         panic!(rt; "slot 3 is free");
     };
-    assert_eq!(rt; (generation, first.in_hand()), (0, Some(3)));
     let Reserve::Empty = reserve(&table, &mut second, 1) else {
         panic!(rt; "no slot is free");
     };
+    let found = (count, state, generation, first.in_hand());
+    assert_same(&rt, found, (1, 1, 0, Some(3)), "what the first seat finds");
     Ok(())
 }
 
@@ -39,19 +39,17 @@ fn a_slot_that_was_put_back_has_the_next_generation(rt: HostRuntime) -> Result<(
     let Taken::Slot { slot, generation } = take(&rt, &table, &mut first) else {
         panic!(rt; "slot 3 is free");
     };
-    assert_eq!(rt; (slot, generation), (3, 0));
+    assert_same(&rt, (slot, generation), (3, 0), "the slot");
     let Taken::Empty = take(&rt, &table, &mut second) else {
         panic!(rt; "no slot is free");
     };
     put_back(&table, &mut first);
-    assert_eq!(rt;
-        (first.in_hand(), first.tickets(), first.free_seen()),
-        (None, 3, 1)
-    );
+    let left = (first.in_hand(), first.tickets(), first.free_seen());
+    assert_same(&rt, left, (None, 3, 1), "the first seat");
     let Taken::Slot { slot, generation } = take(&rt, &table, &mut second) else {
         panic!(rt; "slot 3 is free again");
     };
-    assert_eq!(rt; (slot, generation), (3, 1));
+    assert_same(&rt, (slot, generation), (3, 1), "the slot again");
     Ok(())
 }
 
@@ -65,7 +63,7 @@ fn a_lock_that_is_held_is_busy(rt: HostRuntime) -> Result<(), Fail> {
     let Lock::Busy { found } = try_lock(&table, &mut second, 0) else {
         panic!(rt; "the first place holds it");
     };
-    assert_eq!(rt; found, 1);
+    assert_same(&rt, found, 1, "the holder");
     unlock(&table, &mut first, 0);
     let Lock::Held = try_lock(&table, &mut second, 0) else {
         panic!(rt; "nobody holds it any more");
@@ -77,9 +75,7 @@ fn a_lock_that_is_held_is_busy(rt: HostRuntime) -> Result<(), Fail> {
 fn a_reclaim_uses_a_ticket_for_its_wait(rt: HostRuntime) -> Result<(), Fail> {
     let (table, mut seat) = CitrusTable::<Eer>::new(rt.alloc(), 1, 2, 8)?;
     reclaim(&rt, &table, &mut seat);
-    assert_eq!(rt;
-        (seat.tickets(), seat.waits(), seat.spare()),
-        (7, 1, Some(1))
-    );
+    let left = (seat.tickets(), seat.waits(), seat.spare());
+    assert_same(&rt, left, (7, 1, Some(1)), "the seat");
     Ok(())
 }

@@ -1,6 +1,7 @@
 //! Runs by hand.
 ghost use Rattle.std.specs.Prelude.{◌≡◌, ◌<◌, length};
 
+use crate::same::assert_same;
 use crate::scripts::scripts_of;
 use core_machine::{Machine, Stepped};
 use prcu_marks::Why;
@@ -50,16 +51,24 @@ fn step_until(machine: &mut Machine, caller: u32, until: Until) -> Stepped
     Stepped::Moved
 }
 
+// That the caller's steps end so.
+fn assert_ends(rt: &impl Abort, machine: &mut Machine, caller: u32, wanted: Stepped)
+    requires { caller < length machine.old.owns }
+    ensures { length machine.new.owns ≡ length machine.old.owns }
+{
+    let stepped = step_until(machine, caller, Until::Stopped);
+    assert_same(rt, stepped, wanted, caller);
+}
+
 // That the caller was told so many answers, the last one with this number.
 fn assert_told(rt: &impl Abort, machine: &Machine, caller: u32, count: usize, number: u64)
     requires { caller < length machine.now.owns }
 {
     let told = machine.told(caller);
-    assert_eq!(rt; told.len(), count);
     let Some(last) = told.last() else {
         panic!(rt; "nothing was told");
     };
-    assert_eq!(rt; last.number, number);
+    assert_same(rt, (told.len(), last.number), (count, number), caller);
 }
 
 // The pairs that the updates leave, ascending.
@@ -93,25 +102,15 @@ fn a_put_beside_a_move_searches_again(rt: HostRuntime) -> Result<(), Fail> {
     let mut machine = Machine::new(rt.alloc(), &scripts, 45)?;
     step_until(&mut machine, 0, Until::Told { count: 4 });
     step_until(&mut machine, 1, Until::At { slot: 5 });
-    assert_eq!(rt;
-        step_until(&mut machine, 0, Until::Stopped),
-        Stepped::Blocked {
-            on: Why::Reader {
-                place: 1,
-                key: 6,
-                stamp: 0
-            }
-        }
-    );
+    let reader = Why::Reader {
+        place: 1,
+        key: 6,
+        stamp: 0,
+    };
+    assert_ends(&rt, &mut machine, 0, Stepped::Blocked { on: reader });
     step_until(&mut machine, 1, Until::Outside);
-    assert_eq!(rt;
-        step_until(&mut machine, 0, Until::Stopped),
-        Stepped::Finished
-    );
-    assert_eq!(rt;
-        step_until(&mut machine, 1, Until::Stopped),
-        Stepped::Finished
-    );
+    assert_ends(&rt, &mut machine, 0, Stepped::Finished);
+    assert_ends(&rt, &mut machine, 1, Stepped::Finished);
     assert_told(&rt, &machine, 0, 5, 5);
     assert_told(&rt, &machine, 1, 1, 6);
     assert_pairs(
@@ -120,7 +119,7 @@ fn a_put_beside_a_move_searches_again(rt: HostRuntime) -> Result<(), Fail> {
         machine.updates(),
         &[(2, 20), (6, 60), (7, 70), (9, 90)],
     )?;
-    assert_eq!(rt; machine.step(0), Stepped::Finished);
+    assert_same(&rt, machine.step(0), Stepped::Finished, "one step more");
     Ok(())
 }
 
@@ -134,17 +133,11 @@ fn a_put_at_a_node_that_is_deleted_searches_again(rt: HostRuntime) -> Result<(),
     step_until(&mut machine, 0, Until::Told { count: 1 });
     assert_told(&rt, &machine, 0, 1, 1);
     step_until(&mut machine, 1, Until::At { slot: 3 });
-    assert_eq!(rt; machine.standing(1), Some(3));
+    assert_same(&rt, machine.standing(1), Some(3), "below the node");
     step_until(&mut machine, 1, Until::Outside);
-    assert_eq!(rt; machine.standing(1), None);
-    assert_eq!(rt;
-        step_until(&mut machine, 0, Until::Stopped),
-        Stepped::Finished
-    );
-    assert_eq!(rt;
-        step_until(&mut machine, 1, Until::Stopped),
-        Stepped::Finished
-    );
+    assert_same(&rt, machine.standing(1), None, "outside");
+    assert_ends(&rt, &mut machine, 0, Stepped::Finished);
+    assert_ends(&rt, &mut machine, 1, Stepped::Finished);
     assert_told(&rt, &machine, 0, 2, 2);
     assert_told(&rt, &machine, 1, 1, 3);
     assert_pairs(&rt, rt.alloc(), machine.updates(), &[(6, 60)])?;

@@ -1,8 +1,10 @@
 //! Which texts are read and which line is refused, and what is printed.
 
+use crate::same::assert_same;
 use prcu_model::Op;
 use script_text::{ScriptError, parse, print, read_number, read_op};
 use std::alloc::Global;
+use std::process::Abort;
 use std::test::Fail;
 
 // The number of the first bad line, or 0 where the text is read.
@@ -26,7 +28,7 @@ fn blank_lines_and_comments_are_read(rt: HostRuntime) -> Result<(), Fail> {
         b"script\n\nscript\n# end",
     ];
     for text in texts {
-        assert_eq!(rt; bad_line(rt.alloc(), text)?, 0, "in {text:?}");
+        assert_same(&rt, bad_line(rt.alloc(), text)?, 0, text);
     }
     Ok(())
 }
@@ -70,7 +72,7 @@ fn the_first_bad_line_is_told(rt: HostRuntime) -> Result<(), Fail> {
         (b"script\nget 1\n\n\nscript\n#\nput 1 1 \n", 7),
     ];
     for (text, line) in cases {
-        assert_eq!(rt; bad_line(rt.alloc(), text)?, line, "in {text:?}");
+        assert_same(&rt, bad_line(rt.alloc(), text)?, line, text);
     }
     Ok(())
 }
@@ -81,44 +83,56 @@ fn sixty_four_scripts_are_read(rt: HostRuntime) -> Result<(), Fail> {
     for _ in 0..64u32 {
         text.extend_from_slice(b"script\n")?;
     }
-    assert_eq!(rt; bad_line(rt.alloc(), text.as_slice())?, 0);
+    let line = bad_line(rt.alloc(), text.as_slice())?;
+    assert_same(&rt, line, 0, "64 scripts");
     text.extend_from_slice(b"script\n")?;
-    assert_eq!(rt; bad_line(rt.alloc(), text.as_slice())?, 65);
+    let line = bad_line(rt.alloc(), text.as_slice())?;
+    assert_same(&rt, line, 65, "one script more");
     Ok(())
 }
 
+// Three scripts, with blank lines and a comment, and what is printed of them.
+const THREE: &[u8] =
+    b"#\nscript\nput 7 0\n\nset 7 18446744073709551615\nscript\nscript\ndel 7\nget 10";
+
+const PRINTED: &[u8] =
+    b"script\nput 7 0\nset 7 18446744073709551615\nscript\nscript\ndel 7\nget 10\n";
+
+const FIRST: [Op; 2] = [
+    Op::Put { key: 7, value: 0 },
+    Op::Set {
+        key: 7,
+        value: u64::MAX,
+    },
+];
+
+const LAST: [Op; 2] = [Op::Del { key: 7 }, Op::Get { key: 10 }];
+
 #[test]
 fn operations_come_in_their_order(rt: HostRuntime) -> Result<(), Fail> {
-    let text = b"#\nscript\nput 7 0\n\nset 7 18446744073709551615\nscript\nscript\ndel 7\nget 10";
-    let scripts = parse(rt.alloc(), text)?;
-    assert_eq!(rt; scripts.count(), 3);
-    let first = [
-        Op::Put { key: 7, value: 0 },
-        Op::Set {
-            key: 7,
-            value: u64::MAX,
-        },
-    ];
-    assert_eq!(rt; scripts.script(0), first.as_slice());
-    assert_eq!(rt; scripts.script(1).len(), 0);
-    let last = [Op::Del { key: 7 }, Op::Get { key: 10 }];
-    assert_eq!(rt; scripts.script(2), last.as_slice());
+    let scripts = parse(rt.alloc(), THREE)?;
+    assert!(rt; scripts.count() == 3);
+    assert_same(&rt, scripts.script(0), FIRST.as_slice(), "the first script");
+    assert_same(&rt, scripts.script(1).len(), 0, "the second script");
+    assert_same(&rt, scripts.script(2), LAST.as_slice(), "the third script");
+    Ok(())
+}
+
+// That the text is printed without comments and blank lines.
+fn assert_printed(rt: &impl Abort, alloc: Global, text: &[u8]) -> Result<(), Fail> {
+    let printed = print(alloc, &parse(alloc, text)?)?;
+    assert_same(rt, printed.as_slice(), PRINTED, text);
     Ok(())
 }
 
 #[test]
 fn printing_leaves_comments_and_blank_lines_out(rt: HostRuntime) -> Result<(), Fail> {
-    let text = b"#\nscript\nput 7 0\n\nset 7 18446744073709551615\nscript\nscript\ndel 7\nget 10";
-    let plain = b"script\nput 7 0\nset 7 18446744073709551615\nscript\nscript\ndel 7\nget 10\n";
-    let printed = print(rt.alloc(), &parse(rt.alloc(), text)?)?;
-    assert_eq!(rt; printed.as_slice(), plain.as_slice());
-    let again = print(rt.alloc(), &parse(rt.alloc(), printed.as_slice())?)?;
-    assert_eq!(rt; again.as_slice(), plain.as_slice());
-    Ok(())
+    assert_printed(&rt, rt.alloc(), THREE)?;
+    assert_printed(&rt, rt.alloc(), PRINTED)
 }
 
 #[test]
-fn numbers_and_operations_are_read_alone(rt: HostRuntime) -> Result<(), Fail> {
+fn numbers_are_read_alone(rt: HostRuntime) {
     let cases: [(&[u8], Option<u64>); 6] = [
         (b"0", Some(0)),
         (b"90", Some(90)),
@@ -128,9 +142,13 @@ fn numbers_and_operations_are_read_alone(rt: HostRuntime) -> Result<(), Fail> {
         (b"", None),
     ];
     for (text, number) in cases {
-        assert_eq!(rt; read_number(text), number, "at {text:?}");
+        assert_same(&rt, read_number(text), number, text);
     }
-    assert_eq!(rt; read_op(b"set 1 2"), Some(Op::Set { key: 1, value: 2 }));
-    assert_eq!(rt; read_op(b"set 1 2\n"), None);
-    Ok(())
+}
+
+#[test]
+fn operations_are_read_alone(rt: HostRuntime) {
+    let set = Some(Op::Set { key: 1, value: 2 });
+    assert_same(&rt, read_op(b"set 1 2"), set, "an operation");
+    assert_same(&rt, read_op(b"set 1 2\n"), None, "a line");
 }

@@ -1,5 +1,6 @@
 //! Workloads and a summary, number by number.
 
+use crate::same::assert_same;
 use account_text::is_explained;
 use prcu_model::{Op, Reply, Told, ToldList};
 use std::test::Fail;
@@ -9,7 +10,8 @@ use workload::{make, summary_of, write_summary};
 fn the_first_operation_of_number_0_is_a_del_that_finds_no_key(rt: HostRuntime) -> Result<(), Fail> {
     let alloc = rt.alloc();
     let scripts = make(alloc, 0, 1, 1)?;
-    assert_eq!(rt; scripts.script(0), [Op::Del { key: 115_200 }].as_slice());
+    let first = [Op::Del { key: 115_200 }];
+    assert_same(&rt, scripts.script(0), first.as_slice(), "the script");
     let mut list = ToldList::new(alloc, 1)?;
     list.push(Told {
         reply: Reply::Absent,
@@ -22,7 +24,7 @@ fn the_first_operation_of_number_0_is_a_del_that_finds_no_key(rt: HostRuntime) -
     let text = write_summary(alloc, &summary)?;
     let expected =
         b"scripts 1\nops 1\nnew 0\nold 0\nval 0\nnone 1\ngone 0\nsize 0\nkeys 0\nvalues 0\nend\n";
-    assert_eq!(rt; text.as_slice(), expected.as_slice());
+    assert_same(&rt, text.as_slice(), expected.as_slice(), "the summary");
     Ok(())
 }
 
@@ -36,7 +38,7 @@ fn the_state_of_the_second_script_wraps_around(rt: HostRuntime) -> Result<(), Fa
         },
         Op::Get { key: 24_576 },
     ];
-    assert_eq!(rt; scripts.script(0), first.as_slice());
+    assert_same(&rt, scripts.script(0), first.as_slice(), "the first script");
     let second = [
         Op::Del { key: 115_201 },
         Op::Put {
@@ -44,6 +46,11 @@ fn the_state_of_the_second_script_wraps_around(rt: HostRuntime) -> Result<(), Fa
             value: 823_830_125,
         },
     ];
-    assert_eq!(rt; scripts.script(1), second.as_slice());
+    assert_same(
+        &rt,
+        scripts.script(1),
+        second.as_slice(),
+        "the second script",
+    );
     Ok(())
 }
