@@ -1,5 +1,6 @@
 //! Which work is done and timed.
 ghost use Rattle.std.specs.Prelude.{◌≤◌};
+ghost use Rattle.tree_benches.specs.Crews.{count_of};
 
 use crate::calls::locked::LockedClient;
 use crate::calls::mix::Row;
@@ -95,7 +96,20 @@ fn time_tree<R: Threads + Wait + Sync + Runtime, W: WaitPart + Sync>(
         return Err(io::Error::from(io::ErrorKind::OutOfMemory));
     };
     let seated = Seated::new(&table, seat);
-    let crewed = match crew {
+    time(rt, tree_calls(rt, seated, crew, row, rounds))
+}
+
+// So many operations on the tree by each of the threads, the first of which has put the keys that come first.
+fn tree_calls<'a, R: Wait, W: WaitPart>(
+    rt: &R,
+    seated: Seated<'a, W>,
+    crew: Crew,
+    row: Row,
+    rounds: u32,
+) -> Crewed<Calls<TreeClient<'a, W, OpenGate>>>
+    requires places { count_of crew ≤ seated }
+{
+    match crew {
         Crew::One => Crewed::One(calls_of(filled(rt, seated, row), row, rounds, 0)),
         Crew::Two => {
             let (first, second) = seated.halves(1);
@@ -115,8 +129,7 @@ fn time_tree<R: Threads + Wait + Sync + Runtime, W: WaitPart + Sync>(
                 two_of(third.client(), fourth.client(), row, rounds, 2),
             )
         }
-    };
-    time(rt, crewed)
+    }
 }
 
 // A client of the tree, after it put the keys that come first.
@@ -161,7 +174,12 @@ fn time_map<R: Threads + Wait + Sync + Runtime>(
     let pairs = Mutex::new(BTreeMap::new(alloc));
     let mut client = LockedClient { pairs: &pairs };
     fill(rt, &mut client, row);
-    let crewed = match crew {
+    time(rt, shared_calls(client, crew, row, rounds))
+}
+
+// So many operations by each of the threads with a client of its own, all of which are alike.
+fn shared_calls<C: Copy>(client: C, crew: Crew, row: Row, rounds: u32) -> Crewed<Calls<C>> {
+    match crew {
         Crew::One => Crewed::One(calls_of(client, row, rounds, 0)),
         Crew::Two => Crewed::Two(
             calls_of(client, row, rounds, 0),
@@ -171,6 +189,5 @@ fn time_map<R: Threads + Wait + Sync + Runtime>(
             two_of(client, client, row, rounds, 0),
             two_of(client, client, row, rounds, 2),
         ),
-    };
-    time(rt, crewed)
+    }
 }

@@ -95,11 +95,11 @@ fn measure<R: Threads + Wait + Sync + Runtime>(
     beside: bool,
     rounds: u32,
 ) -> io::Result<Tally> {
-    let slots = row.keys.min(1_000_000) + 64;
-    let Ok((table, seat)) = CitrusTable::<Eer>::new(alloc, slots, 2, 1 << 36) else {
+    let Ok(page) = Page::new(alloc, row.page.max(1)) else {
         return Err(io::Error::from(io::ErrorKind::OutOfMemory));
     };
-    let Ok(page) = Page::new(alloc, row.page.max(1)) else {
+    let slots = row.keys.min(1_000_000) + 64;
+    let Ok((table, seat)) = CitrusTable::<Eer>::new(alloc, slots, 2, 1 << 36) else {
         return Err(io::Error::from(io::ErrorKind::OutOfMemory));
     };
     let (seat, other) = seat.split(&table, 1, 0);
