@@ -3,7 +3,7 @@
 # upsert, for which others have to come between its two calls 1,000 times in a row. It copies citrus_c to a folder of its own, lowers these
 # numbers in the copy to 10 and to 1, builds the library of it by install.sh, and runs tests/rare.c: `rare.sh [TIMES]`. Its last line is
 # `N passed, M failed`, and its status 1 where something failed.
-# The copy is proved as the library is, in some two minutes of a processor, over the crates below as they stand in the repository. So it
+# The copy is proved as the library is, in some three minutes of a processor, over the crates below as they stand in the repository. So it
 # stands outside of the gate.
 set -u
 here=$(cd "$(dirname "$0")" && pwd)
