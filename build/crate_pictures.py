@@ -30,7 +30,6 @@ PICTURES = {
     "tree": {
         "tree_watch": "scripts, and lists beside them",
         "tree_run": "scripts on one tree",
-        "range_snapshots": "four lists and their text",
         "schedule_run": "scripts by a number",
         "core_machine": "the calls, step by step",
         "cookie_client": "a client with a cookie",
@@ -51,9 +50,9 @@ PICTURES = {
         "core_points": "what a call knows at each point",
         "core_acts": "each step as a value",
         "core_laws": "all kinds of step",
-        "core_waits": "laws: seats, sections, waits, locks",
-        "core_moves": "laws: moves, slots used again",
-        "core_tree": "laws: loads, inserts, deletes",
+        "wait_laws": "laws: seats, sections, waits, locks",
+        "move_laws": "laws: moves, slots used again",
+        "tree_laws": "laws: loads, inserts, deletes",
         "core_examples": "runs on literal words",
         "core_frames": "what a step leaves, what follows",
         "core_state": "words, views, steps, invariant",
@@ -111,7 +110,7 @@ def edges_of(picture, used):
     if picture == "tree":
         drawn["the program"] = ["tree_watch", "schedule_run", "eer_wait", "d_wait", "deer_wait"]
         drawn["tree_run"].append("client_run")
-        drawn["range_snapshots"].append("account_text")
+        drawn["tree_watch"].append("account_text")
         drawn["core_machine"].append("core_points")
         drawn["tree_points"].append("core_points")
         drawn["seat_table"].append("core_acts")

@@ -27,7 +27,7 @@ def acts():
 def laws():
     """The crate that has the law of a kind."""
     found = {}
-    for path in sorted(glob.glob(f"{ROOT}/crates/core_*/proofs/**/*.antt", recursive=True)):
+    for path in sorted(glob.glob(f"{ROOT}/crates/*/proofs/**/*.antt", recursive=True)):
         crate = os.path.relpath(path, ROOT).split("/")[1]
         for kind in re.findall(r"^ *pub keeps\d+ : Keeps (K\d+)$", text_of(os.path.relpath(path, ROOT)), re.M):
             found[kind] = crate

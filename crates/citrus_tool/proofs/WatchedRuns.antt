@@ -12,8 +12,8 @@ use Rattle.account_text.specs.Account.{HaveReplies}
 use Rattle.script_text.specs.Grammar.{IsScriptTextUpTo}
 use Rattle.core_state.specs.declared.shape.Waiter.{Waiter}
 use Rattle.seat_table.specs.Seats.{TableAt, SeatAt}
-use Rattle.range_snapshots.specs.Snapshots.{SnapshotAt, AreSnapshots, none_yet}
-use Rattle.range_snapshots.specs.WatchText.{IsWatchText}
+use Rattle.tree_watch.specs.Snapshots.{SnapshotAt, AreSnapshots, none_yet}
+use Rattle.tree_watch.specs.WatchText.{IsWatchText}
 use Rattle.command_words.specs.declared.commands.Command.TheVariants.{Watch}
 use Rattle.command_words.specs.declared.statuses.Status.TheVariants.{Done}
 use Rattle.citrus_tool.specs.declared.outcome.Ran.{Ran}

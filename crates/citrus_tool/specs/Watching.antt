@@ -11,8 +11,8 @@ use Rattle.account_text.specs.Account.{HaveReplies}
 use Rattle.script_text.specs.Grammar.{IsScriptTextUpTo}
 use Rattle.core_state.specs.declared.shape.Waiter.{Waiter}
 use Rattle.seat_table.specs.Seats.{TableAt, SeatAt}
-use Rattle.range_snapshots.specs.Snapshots.{SnapshotAt, WereLookedAt}
-use Rattle.range_snapshots.specs.WatchText.{IsWatchText}
+use Rattle.tree_watch.specs.Snapshots.{SnapshotAt, WereLookedAt}
+use Rattle.tree_watch.specs.WatchText.{IsWatchText}
 use Rattle.citrus_tool.specs.declared.outcome.Ran.{Ran}
 use Rattle.citrus_tool.specs.Leavings.{LeavesSome, IsTreeLeftOf, tree_with}
 use Rattle.command_words.specs.Limits.{slots_of}

@@ -6,7 +6,7 @@ mod outcome;
 mod program;
 mod running;
 mod top;
-mod treeing;
+mod tree_runs;
 mod watching;
 
 pub use command_words::{Command, Mode, Status, tell};

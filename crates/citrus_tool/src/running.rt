@@ -9,7 +9,7 @@ ghost use Rattle.command_words.specs.Commands.{AreSlots, IsInRange, limit_of};
 ghost use Rattle.command_words.specs.Limits.{slots_of};
 
 use crate::outcome::Ran;
-use crate::treeing::{account_in_threads, summary_in_threads};
+use crate::tree_runs::{account_in_threads, summary_in_threads};
 use crate::watching::watch_in_threads;
 use account_text::{check, make_account};
 use command_words::{Command, Mode, Status, parts_of, slots_for};

@@ -4,7 +4,7 @@ ghost use Rattle.prcu_model.specs.declared.operation.Told.{Told};
 ghost use Rattle.prcu_model.specs.Lists.{Roomy, entries_of};
 ghost use Rattle.prcu_model.specs.Slots.{StaysWithin};
 ghost use Rattle.account_text.specs.Account.{HaveReplies};
-ghost use Rattle.range_snapshots.specs.WatchText.{IsWatchText};
+ghost use Rattle.tree_watch.specs.WatchText.{IsWatchText};
 ghost use Rattle.seat_table.specs.Seats.{way_of};
 ghost use Rattle.citrus_tool.specs.Watching.{IsWatchedTree, LeavesWatched};
 
@@ -13,12 +13,11 @@ use core_state::shape::Waiter;
 use key_interval::Keys;
 use prcu_marks::Gate;
 use prcu_model::{NoMemory, Scripts};
-use range_snapshots::{Snapshots, make_watch_text};
 use seat_table::{CitrusTable, Seat, WaitPart};
 use std::alloc::Global;
 use std::sync::Wait;
 use std::thread::Threads;
-use tree_watch::run_watched;
+use tree_watch::{Snapshots, make_watch_text, run_watched};
 
 // What is written of a run that was watched, and the tree with all seats as one.
 #[derive(Drop)]

@@ -7,7 +7,7 @@ use Rattle.core_state.specs.declared.view.View.{View}
 use Rattle.core_state.specs.memory.Memory.{Memory}
 use Rattle.core_state.specs.steps.Seating.{new_view, NeedsSplit, first_of, second_of}
 use Rattle.core_state.specs.Invariant.{HoldsNow}
-use Rattle.core_waits.specs.SeatLaws.{SplitKeeps}
+use Rattle.wait_laws.specs.SeatLaws.{SplitKeeps}
 use Rattle.list_laws.specs.Counts.{total}
 use Rattle.core_laws.specs.Whole.{place_views}
 

@@ -62,7 +62,7 @@ use Rattle.core_points.specs.Laws.{is_finished}
 use Rattle.core_machine.proofs.Phases.{Adds, IsLate, Known, Next, Since, Tells, aiming, answers_so, at_answer, either_next, entered_more, explained_later, goes_on, inside, made, made_later, move_later, moving, no_marks, outside, phase, said, seen_before, since_later, tells_by, waiting}
 use Rattle.core_points.proofs.All.{needs_are_given}
 use Rattle.core_points.proofs.Answering.{answers_are_said}
-use Rattle.core_moves.proofs.copy.NextKey.{copy_next}
+use Rattle.move_laws.proofs.copy.NextKey.{copy_next}
 use Rattle.core_machine.proofs.ActMarks.{began_adds, either_adds, left_adds, look_adds, own_one, seize_adds}
 use Rattle.core_machine.proofs.Replies.{absent_explained, old_explained, full_explained, put_is, del_is, set_is, new_confirms, gone_confirms, was_confirms, said_explains}
 use Rattle.core_machine.proofs.NextPoints.{aim_outside, wait_outside, stage_next, either_tells, ended_next, found_next, lock_next, giving_next, place_next, right_next, left_next, target_next}

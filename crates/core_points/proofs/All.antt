@@ -48,7 +48,7 @@ use Rattle.core_points.proofs.Sets.{needs_set_life, next_set_life, next_replace,
 use Rattle.core_points.proofs.Spares.{needs_reserve_spare, next_reserve_spare, needs_seize_spare, next_seize_spare, needs_age_spare, next_age_spare, needs_keep, next_keep}
 use Rattle.core_points.proofs.Targets.{needs_target_lock, next_target_lock, needs_target_load, next_target_load}
 use Rattle.core_points.proofs.Unlocks.{needs_unlock, next_unlock}
-use Rattle.core_tree.proofs.locks.Locked.{loaded_known}
+use Rattle.tree_laws.proofs.locks.Locked.{loaded_known}
 
 pub rule_tells : RuleTells
 rule_tells k m vs h id o v inv there works slots places =

@@ -41,8 +41,8 @@ use Rattle.core_points.specs.Facts.{Inside, Nothing, read_at, set_known}
 use Rattle.core_points.specs.Fits.{Fits}
 use Rattle.core_points.specs.Said.{AnswersAreSaid}
 use Rattle.core_points.proofs.Notes.{one_locked}
-use Rattle.core_tree.proofs.notes.Knowing.{known_here}
-use Rattle.core_tree.proofs.locks.Locked.{alive, young_locked}
+use Rattle.tree_laws.proofs.notes.Knowing.{known_here}
+use Rattle.tree_laws.proofs.locks.Locked.{alive, young_locked}
 
 -- A search that ended at an empty side, or loaded the value that it found: the dictionary said so since the section was entered.
 search_said : (k : Shape) (m : Memory) (vs : List View) (h : List Mark) (id : ℕ) (v : View) (key : ℕ) (state : SearchState)

@@ -34,9 +34,9 @@ use Rattle.core_points.proofs.PutLocks.{made_even}
 use Rattle.core_points.proofs.Sets.{quiet_noted}
 use Rattle.core_points.proofs.Spares.{delete_owed}
 use Rattle.core_points.proofs.UnderLocks.{loaded_more, under_other}
-use Rattle.core_tree.proofs.locks.Locked.{loaded_known, lock_under}
-use Rattle.core_tree.proofs.locks.Relocking.{change_here, slots_change}
-use Rattle.core_tree.proofs.notes.Knowing.{known_here}
+use Rattle.tree_laws.proofs.locks.Locked.{loaded_known, lock_under}
+use Rattle.tree_laws.proofs.locks.Relocking.{change_here, slots_change}
+use Rattle.tree_laws.proofs.notes.Knowing.{known_here}
 
 -- a slot under whose lock something was loaded is locked
 pub held_by_load : (v : View) (s : ℕ) (field : Field) (x : ℕ) → loaded_in (under v.locks s) field ≡ Some x

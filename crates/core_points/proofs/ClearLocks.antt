@@ -10,7 +10,7 @@ use Rattle.core_state.specs.steps.Links.{relinked, with_mark}
 use Rattle.core_points.specs.Facts.{AreClear}
 use Rattle.core_points.specs.DeleteFacts.{ClearButMark, Holds, under}
 use Rattle.core_points.proofs.Locking.{IsClear, each_more, slots_in}
-use Rattle.core_tree.proofs.locks.Relocking.{lock_of-change, changed, change_here, slots_change}
+use Rattle.tree_laws.proofs.locks.Relocking.{lock_of-change, changed, change_here, slots_change}
 
 pub emptied_slot : (b : Side) (e : Bool) (l : HeldLock) → (with_emptied b e l).slot ≡ l.slot
 emptied_slot Left e l = refl

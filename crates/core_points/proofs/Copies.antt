@@ -47,7 +47,7 @@ use Rattle.core_points.proofs.Sets.{quiet_noted, quiet_hand}
 use Rattle.core_points.proofs.Spares.{delete_owed}
 use Rattle.core_points.proofs.Targets.{holds_new}
 use Rattle.core_points.proofs.UnderLocks.{held_still, known_more_under, known_now, loaded_more, under_other}
-use Rattle.core_tree.proofs.locks.Relocking.{change_other, length_change, slots_change}
+use Rattle.tree_laws.proofs.locks.Relocking.{change_other, length_change, slots_change}
 
 -- The facts of this crate in the words of the steps.
 both_children : (v : View) (r : Reading) (d : Node) (u : Successor) → HoldsNode v.records v.locks r d → HoldsSuccessor v.locks r d u

@@ -37,7 +37,7 @@ use Rattle.core_points.proofs.FoundLoads.{StillFound, life_loaded, link_loaded, 
 use Rattle.core_points.proofs.Locking.{no_locks}
 use Rattle.core_points.proofs.Sets.{calm_quiet}
 use Rattle.core_points.proofs.Spares.{delete_owed, delete_no_put}
-use Rattle.core_tree.proofs.notes.Knowing.{known_here, known_still}
+use Rattle.tree_laws.proofs.notes.Knowing.{known_here, known_still}
 
 -- What a load keeps.
 here_loaded : (r r' : Reading) (field : Field) (n : ℕ) → StillFound r r' field n → known_in r'.loads field ≡ Some n

@@ -13,7 +13,7 @@ use Rattle.core_points.specs.Callers.{Own, go}
 use Rattle.core_points.specs.Facts.{AreClear, Owns, SameLocks, one_lock}
 use Rattle.core_points.specs.DeleteFacts.{Holds}
 use Rattle.core_points.proofs.Reclaim.{each_map}
-use Rattle.core_waits.proofs.locks.LockWords.{no_lock_times, without_here}
+use Rattle.wait_laws.proofs.locks.LockWords.{no_lock_times, without_here}
 
 nothing_in : (xs : List ℕ) → ((x : ℕ) → times x xs ≡ 0) → xs ≡ []
 nothing_in [] none = refl

@@ -32,9 +32,9 @@ use Rattle.core_points.proofs.Bypasses.{slots_push, unraised_push}
 use Rattle.core_points.proofs.ClearLocks.{clear_emptied, clear_marked, clear_stored, emptied_lock, relinked_slots}
 use Rattle.core_points.proofs.Notes.{owns_relocked, owns_noted}
 use Rattle.core_points.proofs.UnderLocks.{held_still, known_now}
-use Rattle.core_tree.proofs.locks.Locked.{under_lock}
-use Rattle.core_tree.proofs.locks.Relocking.{change_here, slots_change}
-use Rattle.core_tree.proofs.notes.Knowing.{known_here}
+use Rattle.tree_laws.proofs.locks.Locked.{under_lock}
+use Rattle.tree_laws.proofs.locks.Relocking.{change_here, slots_change}
+use Rattle.tree_laws.proofs.notes.Knowing.{known_here}
 
 held_slot : (s : ℕ) (kn : Known) (held : Held) → (note_held s kn held).slot ≡ held.slot
 held_slot s kn held = by (held.slot == s)

@@ -18,7 +18,7 @@ use Rattle.list_laws.specs.Counts.{times}
 use Rattle.core_points.specs.Callers.{Own}
 use Rattle.core_points.specs.Facts.{Bare, HandFits, IsLeaf, Owns, leaf_held, one_lock, read_at, stored_at}
 use Rattle.core_points.specs.Told.{Tells}
-use Rattle.core_tree.proofs.notes.Knowing.{known_here, known_still}
+use Rattle.tree_laws.proofs.notes.Knowing.{known_here, known_still}
 
 slot_noted : (kn : Known) (l : HeldLock) (b : Bool) → (cond b (note_lock kn l) l).slot ≡ l.slot
 slot_noted kn l true = refl

@@ -22,7 +22,7 @@ use Rattle.core_points.specs.Programs.{act_at, after}
 use Rattle.core_points.specs.Facts.{AreClear, HandFits, one_lock, read_at, spot_known, stored_at}
 use Rattle.core_points.specs.Fits.{Fits}
 use Rattle.core_points.proofs.Notes.{owns_noted, bare_noted, one_noted, one_locked}
-use Rattle.core_tree.proofs.notes.Knowing.{known_here}
+use Rattle.tree_laws.proofs.notes.Knowing.{known_here}
 
 module _ (k : Shape) (h : List Mark) (o : Own) (v : View) (n : ℕ) where
   -- the link of the leaf

@@ -28,7 +28,7 @@ use Rattle.core_points.specs.Fits.{Fits}
 use Rattle.core_points.proofs.Answers.{answers}
 use Rattle.core_points.proofs.Notes.{owns_scanned, owns_noted, bare_noted, held_here}
 use Rattle.core_frames.proofs.views.Readings.{missed_stays}
-use Rattle.core_tree.proofs.notes.Knowing.{known_here}
+use Rattle.tree_laws.proofs.notes.Knowing.{known_here}
 
 two_owed : (spot : Spot) (retired : List ℕ) → 2 ≤ owed_reserve (Leaf spot) retired
 two_owed spot [] = omega arith

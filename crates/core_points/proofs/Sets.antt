@@ -35,7 +35,7 @@ use Rattle.core_points.proofs.FoundLoads.{life_loaded, life_still, found_next}
 use Rattle.core_points.proofs.Locking.{no_locks, own_lock, clear_one}
 use Rattle.core_points.proofs.Notes.{owns_more, owns_noted, one_noted, one_locked}
 use Rattle.core_points.proofs.PutLocks.{made_even}
-use Rattle.core_tree.proofs.notes.Knowing.{known_here}
+use Rattle.tree_laws.proofs.notes.Knowing.{known_here}
 
 set_owed : (op : Op) (hand : Option ℕ) (retired : List ℕ) → is_set op ≡ true → owed_op op hand retired ≡ 1
 set_owed (Set key value) hand retired e = refl

@@ -40,7 +40,7 @@ use Rattle.core_points.proofs.Sets.{quiet_noted, quiet_calm, quiet_hand}
 use Rattle.core_points.proofs.TargetWords.{word_held, part_loadable, one_more}
 use Rattle.core_points.proofs.UnderLocks.{held_still}
 use Rattle.core_points.proofs.Unlocks.{none_in}
-use Rattle.core_tree.proofs.locks.Relocking.{length_change}
+use Rattle.tree_laws.proofs.locks.Relocking.{length_change}
 
 few_locks : (d : Node) (h : Option Successor) → target_locks (record { node = d; successor = h }) ≤ 4
 few_locks d None = omega arith

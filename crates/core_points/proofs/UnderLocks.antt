@@ -8,7 +8,7 @@ use Rattle.core_state.specs.views.Known.{known_in, known_of, loaded_in, lock_of,
 use Rattle.core_points.specs.Facts.{read_at}
 use Rattle.core_points.specs.DeleteFacts.{Holds, under}
 use Rattle.core_frames.proofs.views.Fields.{same_self}
-use Rattle.core_tree.proofs.locks.Relocking.{lock_of-change, changed, change_here, change_other}
+use Rattle.tree_laws.proofs.locks.Relocking.{lock_of-change, changed, change_here, change_other}
 
 -- another field is known as before
 pub loaded_more : (ls : List HeldLock) (s : ℕ) (kn : Known) (t : ℕ) (field : Field) (x : ℕ) → same_field kn.field field ≡ false

@@ -41,7 +41,7 @@ use Rattle.core_points.specs.Told.{IsTold}
 use Rattle.core_points.specs.Fits.{Fits}
 use Rattle.core_points.specs.Laws.{ActsAreWithin}
 use Rattle.core_points.proofs.All.{needs_are_given}
-use Rattle.core_tree.proofs.locks.Locked.{loaded_known, lock_under}
+use Rattle.tree_laws.proofs.locks.Locked.{loaded_known, lock_under}
 
 -- a slot of a target is one at which the section stood
 target_within : (o : Own) (v : View) (t : Target) (i : ℕ) → Fits o (at.TargetLock t i) v → target_lock t i < table_of o

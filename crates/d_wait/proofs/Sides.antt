@@ -27,7 +27,7 @@ use Rattle.key_interval.specs.LastClass.{IsLastClass}
 use Rattle.d_wait.specs.Classes.{at_next, IsBack}
 use Rattle.seat_table.specs.Looks.{HasPassed}
 use Rattle.seat_table.proofs.Polling.{one_wait}
-use Rattle.core_waits.proofs.waits.Turns.{in_times}
+use Rattle.wait_laws.proofs.waits.Turns.{in_times}
 
 -- the image of a wait's keys
 module _ (wait : Waiting) (keys : Interval) (low : wait.low ≡ keys.low) (high : wait.high ≡ keys.high) (c : ℕ) where

@@ -9,7 +9,7 @@ use Rattle.key_interval.specs.Keys.{Interval}
 use Rattle.list_laws.specs.Counts.{times}
 use Rattle.d_wait.specs.Turns.{AreClassesOf, EndTurnsRest, WaitTurnsEach}
 use Rattle.seat_table.proofs.Polling.{one_wait}
-use Rattle.core_waits.proofs.waits.Turns.{in_times}
+use Rattle.wait_laws.proofs.waits.Turns.{in_times}
 
 -- Two lists of the same classes are as long.
 module _ (keys : Interval) (xs ys : List ℕ) (one : AreClassesOf keys xs) (other : AreClassesOf keys ys) where

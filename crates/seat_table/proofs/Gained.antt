@@ -11,7 +11,7 @@ use Rattle.prcu_marks.specs.declared.mark.Mark.{Mark}
 use Rattle.prcu_marks.specs.declared.mark.Mark.TheVariants.{Left as LeftMark, Began}
 use Rattle.prcu_marks.specs.Marks.{updates_of, gone_at}
 use Rattle.prcu_marks.specs.Callers.{IsNextKey}
-use Rattle.core_moves.proofs.copy.NextKey.{copy_next}
+use Rattle.move_laws.proofs.copy.NextKey.{copy_next}
 use Rattle.prcu_model.specs.Dictionary.{map_of, WasSaid}
 use Rattle.prcu_marks.proofs.MarkLists.{updates_of-append}
 use Rattle.core_state.specs.declared.shape.Shape.{Shape}

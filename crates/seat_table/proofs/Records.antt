@@ -19,8 +19,8 @@ use Rattle.core_state.specs.views.Views.{open_reading, readings_of}
 use Rattle.core_state.specs.parts.ReaderParts.{StandsWell}
 use Rattle.core_state.specs.parts.TreeParts.{map_now}
 use Rattle.core_state.specs.Invariant.{HoldsNow}
-use Rattle.core_tree.proofs.locks.Locked.{young_locked}
-use Rattle.core_tree.proofs.updates.Deletion.{Deletion, node_field, node_key, node_marked, node_young, some_node}
+use Rattle.tree_laws.proofs.locks.Locked.{young_locked}
+use Rattle.tree_laws.proofs.updates.Deletion.{Deletion, node_field, node_key, node_marked, node_young, some_node}
 use Rattle.seat_table.specs.Gains.{KnowsValue}
 
 lock_there : (o : Option HeldLock) (field : Field) (n : ℕ) → known_in (known_of o) field ≡ Some n

@@ -17,8 +17,8 @@ use Rattle.core_acts.specs.declared.act.Act.TheVariants.{LoadClock}
 use Rattle.seat_table.specs.Seats.{SeatAt, IsQuietSeat, KeepsOwn}
 use Rattle.seat_table.specs.Gains.{Sees, TellsNow}
 use Rattle.seat_table.specs.Told.{Told}
-use Rattle.core_waits.proofs.seats.Splitting.{split_keeps, places_count, row_split}
-use Rattle.core_waits.proofs.seats.Joining.{join_keeps, spent_places_append, spent_places_are}
+use Rattle.wait_laws.proofs.seats.Splitting.{split_keeps, places_count, row_split}
+use Rattle.wait_laws.proofs.seats.Joining.{join_keeps, spent_places_append, spent_places_are}
 use Rattle.prcu_marks.specs.Marks.{own_of, longer}
 use mathlib.Core.List.{IsPrefix}
 use Rattle.std.proofs.Math.Seq.{take-append_seam}

@@ -43,7 +43,7 @@ use Rattle.core_frames.specs.Telling.{IsChild}
 use Rattle.core_points.specs.DeleteFacts.{under}
 use Rattle.core_points.proofs.ClearLocks.{relinked_slots}
 use Rattle.core_points.proofs.Locking.{slots_in}
-use Rattle.core_tree.proofs.locks.Locked.{loaded_known}
+use Rattle.tree_laws.proofs.locks.Locked.{loaded_known}
 use Rattle.tree_points.proofs.Gone.{allowed, further, gone_with, lock_slots, noting_same}
 
 -- a step after all marks, of which the first is the place's

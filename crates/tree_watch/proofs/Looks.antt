@@ -7,8 +7,8 @@ use Rattle.core_acts.specs.declared.act.Act.TheVariants.{LoadClock}
 use Rattle.seat_table.specs.Seats.{TableAt, SeatAt}
 use Rattle.seat_table.specs.Told.{Told}
 use Rattle.tree_run.specs.Runs.{seat_for}
-use Rattle.range_snapshots.specs.Snapshots.{SnapshotAt, WereLookedAt, HasLookedAt}
-use Rattle.range_snapshots.proofs.Taking.{looked_later}
+use Rattle.tree_watch.specs.Snapshots.{SnapshotAt, WereLookedAt, HasLookedAt}
+use Rattle.tree_watch.proofs.Taking.{looked_later}
 
 -- A join puts them behind those of the scripts' seat.
 pub joined_looked : (k : Shape) (table : TableAt) (place clock : ℕ) (seat lister both : SeatAt) (ss : List SnapshotAt)

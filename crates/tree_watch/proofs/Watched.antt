@@ -23,7 +23,7 @@ use Rattle.tree_run.specs.Callers.{ScriptClientAt}
 use Rattle.tree_run.specs.declared.running.RunWith.{RunWith}
 use Rattle.tree_run.specs.Runs.{shape_with, seat_for, HasRun}
 use Rattle.tree_run.proofs.Finished.{run_told, run_explained, run_marks}
-use Rattle.range_snapshots.specs.Snapshots.{OnlyLists}
+use Rattle.tree_watch.specs.Snapshots.{OnlyLists}
 use Rattle.tree_watch.proofs.Rooms.{explained_too}
 
 -- What a watched run's seat and a history that was merged from what was told have to do with each other.

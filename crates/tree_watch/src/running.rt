@@ -13,13 +13,14 @@ ghost use Rattle.core_state.specs.views.Views.{places_of};
 ghost use Rattle.seat_table.specs.Seats.{IsQuietSeat, shape_of};
 ghost use Rattle.seat_table.specs.Gains.{IsInformed, StaysIn};
 ghost use Rattle.tree_run.specs.Runs.{run_with, seat_for, tickets_for, HasRun};
-ghost use Rattle.range_snapshots.specs.Snapshots.{AreSnapshots, WereLookedAt, HasLookedAt, OnlyLists, none_yet};
+ghost use Rattle.tree_watch.specs.Snapshots.{AreSnapshots, WereLookedAt, HasLookedAt, OnlyLists, none_yet};
 
+use crate::pauses::Pace;
+use crate::snapshot::Snapshots;
 use client_run::merge;
 use key_interval::Keys;
 use prcu_marks::Gate;
 use prcu_model::{NoMemory, Scripts, ToldList, Update};
-use range_snapshots::{Pace, Snapshots};
 use seat_table::{CitrusTable, Seat, WaitPart};
 use std::alloc::Global;
 use std::sync::Wait;

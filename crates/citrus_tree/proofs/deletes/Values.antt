@@ -37,7 +37,7 @@ use Rattle.core_acts.specs.declared.act.Act.TheVariants as acts
 use Rattle.core_acts.specs.declared.act.Part.{Part}
 use Rattle.core_acts.specs.declared.act.Part.TheVariants as part
 use Rattle.core_acts.specs.Acts.{in_slot, noted}
-use Rattle.core_tree.proofs.locks.Relocking.{length_change}
+use Rattle.tree_laws.proofs.locks.Relocking.{length_change}
 use Rattle.seat_table.specs.Seats.{IsSlotOf}
 use Rattle.seat_table.specs.Told.{IsAsked, Told}
 use Rattle.tree_points.specs.At.{IsAt}

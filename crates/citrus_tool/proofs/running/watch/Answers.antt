@@ -1,7 +1,7 @@
 use Rattle.std.proofs.Common.{◌+◌, refl, subst, arith}
 use Rattle.prcu_model.specs.Slots.{StaysWithin}
 use Rattle.key_interval.specs.Keys.{Interval}
-use Rattle.range_snapshots.specs.WatchText.{IsWatchText}
+use Rattle.tree_watch.specs.WatchText.{IsWatchText}
 use Rattle.citrus_tool.specs.Watching.{LeavesWatched}
 use Rattle.command_words.specs.declared.commands.Command.TheVariants.{Watch}
 use Rattle.citrus_tool.proofs.BadLines.{refused}

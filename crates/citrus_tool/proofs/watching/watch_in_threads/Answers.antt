@@ -1,6 +1,6 @@
 use Rattle.std.proofs.Common.{[], sym, subst, arith}
 use Rattle.core_state.specs.declared.shape.Waiter.TheVariants.{Eer, Domain, Deer}
-use Rattle.range_snapshots.specs.Snapshots.{AreSnapshots}
+use Rattle.tree_watch.specs.Snapshots.{AreSnapshots}
 use Rattle.citrus_tool.proofs.WatchedRuns.{none_listed, nothing_watched, watched_in}
 use Rattle.citrus_tool.proofs.watching.watch_in_threads.Goals as goal
 

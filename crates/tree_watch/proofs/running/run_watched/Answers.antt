@@ -3,7 +3,7 @@ use Rattle.prcu_model.specs.Lists.{entries_of}
 use Rattle.prcu_model.specs.Fronts.{all_told_lines}
 use Rattle.prcu_marks.specs.Marks.{updates_of}
 use Rattle.client_run.proofs.OwnUpdates.{AreOneToCount-own}
-use Rattle.range_snapshots.specs.Snapshots.{AreSnapshots}
+use Rattle.tree_watch.specs.Snapshots.{AreSnapshots}
 use Rattle.tree_watch.proofs.Watched.{watched_explained, watched_merged}
 use Rattle.tree_watch.proofs.running.run_watched.Goals as goal
 

@@ -1,0 +1,209 @@
+-- The link of a copy: the parts on the tree: shape, map and pending moves.
+use Rattle.std.proofs.Common.{◌≡◌, ◌≢◌, ℕ, ◌*◌, ◌==◌, ◌⊎◌, cond, true, false, length, Some, None, refl, sym, ap, subst, ◌∙◌, ⊎_elim, inl, inr, arith, eq-eqb, ne_eqb}
+use Rattle.std.proofs.lemmas.Bool.{cases_eq}
+use mathlib.Core.Option.{some, some-injective}
+use lib.ListN.{get_elem?}
+use Rattle.atomic_table.proofs.Lists.{set_here, set_else}
+use Rattle.prcu_marks.specs.declared.mark.Side.TheVariants.{Left, Right}
+use Rattle.core_state.specs.declared.words.Field.TheVariants.{Life, Key, Link}
+use Rattle.core_state.specs.declared.view.Move.{Move}
+use Rattle.core_state.specs.declared.view.View.{View}
+use Rattle.core_state.specs.views.Known.{known_under, HasLock, LoadedGeneration, loaded_in}
+use Rattle.core_state.specs.steps.Moves.{new_move}
+use Rattle.core_state.specs.tree.Chart.{HoldsMap}
+use Rattle.core_state.specs.tree.Readers.{IsPending}
+use Rattle.core_state.specs.parts.TreeParts.{map_now, IsOldRecorded, IsMoving, AreMoving}
+use Rattle.list_laws.proofs.Lists.{at_below, each_set, in_second}
+use Rattle.core_state.specs.views.Views.{open_reading}
+use Rattle.tree_laws.proofs.locks.Locked.{loaded_known, alive, alive_field}
+use Rattle.move_laws.proofs.copy.CopyShape.{c_linked, c_young, c_key, not_c, was_linked, was_old, next_not, next_keyed, copy_map, still_linked}
+use Rattle.move_laws.proofs.copy.CopyNeeds.{CopyStep, update_of, copy_link, old_alive, old_lock, old_key, old_low, old_some, copy_some, copy_unread, no_end, copied, deletion, still_locked}
+use Rattle.move_laws.proofs.copy.CopySlots.{node_not_copy}
+use Rattle.tree_laws.proofs.updates.DeleteMarks.{delete_map}
+use Rattle.tree_laws.proofs.chart.ChangedFunctions.{put, put-same, put-other, moved, moved-same, moved-other}
+use Rattle.core_frames.proofs.marks.UpdateMarks.{delete_plain, delete_done}
+use Rattle.tree_laws.proofs.updates.Deletion.{kept, node_key, node_lock, node_marked, right_is, settled}
+use Rattle.tree_laws.proofs.frames.MoveSteps.{moving_left}
+
+module _ (z : CopyStep) where
+  open z use {who.{k, m, vs, h, id, v, there, inv, inv.{chart as g}}, held.{slot as c}}
+  open copied z use {new, to, w, us, hs}
+
+  abbrev pub move_now : Move
+  move_now = new_move z.held z.r.key z.next_key z.d z.u z.q (length h)
+
+  -- where the parent of the old successor stands
+  up_is : (g.up z.u ≡ z.q) × (g.side z.u ≡ cond (z.q == z.d) Right Left) × (z.q ≢ c) × HasLock v z.q
+  up_is = ⊎_elim
+      (λ (e : (z.q ≡ z.d) × (z.right ≡ z.u)).
+      (let i = inv.tree.shape.below z.d z.u Right (node_marked (deletion z)).0 (right_is (deletion z) ∙ e.1) (old_some z) in (
+        i.up ∙ sym e.0,
+        i.side ∙ ap (λ t. cond t Right Left) (sym (eq-eqb z.q z.d e.0)),
+        (λ f. node_not_copy z (sym e.0 ∙ f)),
+        subst (HasLock v) (sym e.0) (node_lock (deletion z)),
+      )))
+      (λ (e : (z.q ≢ z.d) × ((generation : ℕ) × LoadedGeneration z.r z.q generation
+      × (loaded_in (known_under v z.q) (Life z.q) ≡ Some (2 * generation)))
+      × (loaded_in (known_under v z.q) (Link z.q Left) ≡ Some z.u)).
+      (let l = e.1 in
+      let a = alive k m vs h inv id v there z.r z.q l.0 (kept (deletion z)) l.1
+      (loaded_known (known_under v z.q) (Life z.q) (2 * l.0) l.2) in
+      let link = alive_field k m vs h inv id v there z.r z.q (kept (deletion z)) a (Link z.q Left) z.u
+      (loaded_known (known_under v z.q) (Link z.q Left) z.u e.2) in
+      let i = inv.tree.shape.below z.q z.u Left a.on link (old_some z) in
+      (i.up, i.side ∙ ap (λ t. cond t Right Left) (sym (ne_eqb z.q z.d e.0)), (λ f. not_c (copy_link z) z.q a.on f), (a.lock, a.locked))))
+      z.needs.records.link
+
+  pub old_not_copy : z.u ≢ c
+  old_not_copy = not_c (copy_link z) z.u (old_alive z).on
+
+  parent_is : (to.up z.u ≡ move_now.parent) × (to.side z.u ≡ cond (move_now.parent == c) Right Left) × HasLock w move_now.parent
+  parent_is = ⊎_elim
+      (λ (e : z.q ≡ z.d).
+      (let is : move_now.parent ≡ c = ap (λ t. cond t c z.q) (eq-eqb z.q z.d e) in (
+        up ∙ ap (λ x. moved z.d c x) up_is.0 ∙ moved-same z.d c z.q e ∙ sym is,
+        side ∙ up_is.1 ∙ ap (λ t. cond t Right Left) (eq-eqb z.q z.d e ∙ sym (eq-eqb move_now.parent c is)),
+        subst (HasLock w) (sym is) (still_locked z c z.needs.locked),
+      )))
+      (λ ne.
+      (let is : move_now.parent ≡ z.q = ap (λ t. cond t c z.q) (ne_eqb z.q z.d ne) in (
+        up ∙ ap (λ x. moved z.d c x) up_is.0 ∙ moved-other z.d c z.q ne ∙ sym is,
+        side ∙ up_is.1 ∙ ap (λ t. cond t Right Left) (ne_eqb z.q z.d ne ∙ sym (ne_eqb move_now.parent c (λ f. up_is.2 (sym is ∙ f)))),
+        subst (HasLock w) (sym is) (still_locked z z.q up_is.3),
+      )))
+      (cases_eq z.q z.d)
+    where
+      up : to.up z.u ≡ moved z.d c (g.up z.u)
+      up = put-other (λ y. moved z.d c (g.up y)) c z.p z.u old_not_copy
+
+      side : to.side z.u ≡ g.side z.u
+      side = put-other g.side c z.b z.u old_not_copy
+
+  recorded_now : IsOldRecorded new w z.u
+  recorded_now =
+      let a = old_alive z in
+      let l = still_locked z z.u (old_lock z) in
+      record {
+        reading = z.r;
+        generation = a.generation;
+        lock = l.0;
+        kept = z.needs.records.records.kept;
+        loaded = a.recorded;
+        locked = l.1;
+        same = inl a.life;
+      }
+
+  moving_now : IsMoving new to hs w move_now
+  moving_now = record {
+    order = (let a = next_keyed (copy_link z) in let low = a.low in let b = old_low z in let e = node_key (deletion z) in
+        let f = old_key z in omega arith);
+    copy_some = copy_some z;
+    copy_linked = c_linked (copy_link z);
+    copy_young = c_young (copy_link z);
+    copy_key = c_key (copy_link z) ∙ old_key z;
+    old_linked = still_linked (copy_link z) z.u (old_alive z).on (next_not (copy_link z));
+    old_old = put-same (put g.old c false) z.u true z.u refl;
+    old_key = old_key z;
+    same_value = (copy_link z).value;
+    parent = parent_is.0;
+    side = parent_is.1;
+    copy_lock = still_locked z c z.needs.locked;
+    old_lock = still_locked z z.u (old_lock z);
+    parent_lock = parent_is.2;
+    made = delete_done h (update_of z) z.d;
+    recorded = recorded_now;
+    unmet = λ r generation has loaded e. copy_unread z id v r generation there (in_second (open_reading v.section) v.records r has) loaded
+        (let f : m (Life c) ≡ 2 * generation = e in omega arith);
+  }
+
+  -- the moves of other views
+  moving_other : (j : ℕ) (u : View) (move : Move) → get_elem? vs j ≡ some u → u.moving ≡ Some move → IsMoving new to hs u move
+  moving_other j u move e is =
+      let i = inv.tree.moves.each j u e move is in
+      let far_d = no_end z z.d (node_lock (deletion z)) j u move e is in
+      let far_u = no_end z z.u (old_lock z) j u move e is in
+      let old_c : move.old ≢ c = (λ f. not_c (copy_link z) move.old i.old_linked f) in
+      moving_left m new g to h hs u u move (record {
+        copy_linked = still_linked (copy_link z) move.copy.slot i.copy_linked far_d.0;
+        copy_old = was_old (copy_link z) move.copy.slot i.copy_linked far_u.0;
+        copy_key = refl;
+        copy_value = refl;
+        copy_life = refl;
+        old_linked = still_linked (copy_link z) move.old i.old_linked far_d.1;
+        old_old = was_old (copy_link z) move.old i.old_linked far_u.1;
+        old_key = refl;
+        old_value = refl;
+        parent = put-other (λ y. moved z.d c (g.up y)) c z.p move.old old_c
+            ∙ moved-other z.d c (g.up move.old) (λ f. far_d.2 (sym i.parent ∙ f));
+        side = put-other g.side c z.b move.old old_c;
+        held = λ s has. has;
+        generation = λ l generation locked has. (l, locked, has);
+        place = refl;
+        records = refl;
+        longer = (delete_plain h (update_of z) z.d).longer;
+      }) i
+
+  -- a pending move of before is one of another view
+  pub pending_still : (move : Move) → IsPending vs move → IsPending us move
+  pending_still move i = record {
+    id = i.id;
+    view = i.view;
+    there = set_else vs id i.id w (λ same.
+        (let it : i.view ≡ v = some-injective i.view v (sym i.there ∙ subst (λ j. get_elem? vs j ≡ some v) (sym same) there) in
+        absurd (let q : Some move ≡ None = sym i.moving ∙ ap (λ (x : View). x.moving) it ∙ settled (deletion z) in cc))) ∙ i.there;
+    moving = i.moving;
+  }
+
+  pub pending_now : IsPending us move_now
+  pending_now = record { id = id; view = w; there = set_here vs id w (at_below vs id v there); moving = refl }
+
+  -- who has which move afterwards
+  whose : (j : ℕ) (u : View) (move : Move) → get_elem? us j ≡ some u → u.moving ≡ Some move
+      → ((j ≡ id) × (move_now ≡ move)) ⊎ ((j ≢ id) × (get_elem? vs j ≡ some u))
+  whose j u move e is =
+      each_set (λ i x. x.moving ≡ Some move → ((i ≡ id) × (move_now ≡ move)) ⊎ ((i ≢ id) × (get_elem? vs i ≡ some x))) vs id w
+      (λ f. inl (refl, (let q : move_now ≡ move = cc in q)))
+      (λ i x ne f g. inr (ne, f)) j u e is
+
+  pub copy_map_after : HoldsMap new to (map_now hs)
+  copy_map_after = subst (HoldsMap new to) (sym (delete_map h v.allowance.place z.r.key z.d (m (Key z.d)) (node_key (deletion z))))
+      (copy_map (copy_link z) (map_now h) inv.tree.map)
+
+  pub copy_moves : AreMoving new to hs us
+  copy_moves = record {
+    each = each_set (λ j u. (move : Move) → u.moving ≡ Some move → IsMoving new to hs u move) vs id w
+        (λ move is. subst (IsMoving new to hs w) (let q : move_now ≡ move = cc in q) moving_now)
+        (λ j u ne e move is. moving_other j u move e is);
+    every = λ s l o. ⊎_elim
+        (λ (e : s ≡ z.u). record { move = move_now; pending = pending_now; old = sym e })
+        (λ ne.
+        (let nc : s ≢ c = (λ e. (let q : false ≡ true = sym (c_young (copy_link z)) ∙ ap to.old (sym e) ∙ o in absurd (cc))) in
+        let was = was_linked (copy_link z) s l nc in
+        let a = inv.tree.moves.every s was.0 (sym (was_old (copy_link z) s was.0 ne) ∙ o) in
+        record { move = a.move; pending = pending_still a.move a.pending; old = a.old }))
+        (cases_eq s z.u);
+    one_old = λ i j a b x y ea eb ia ib e. one i j a b x y ea eb ia ib e (whose i a x ea ia) (whose j b y eb ib);
+    one_copy = λ i j a b x y ea eb ia ib e. two i j a b x y ea eb ia ib e (whose i a x ea ia) (whose j b y eb ib);
+  }
+    where
+      one : (i j : ℕ) (a b : View) (x y : Move) → get_elem? us i ≡ some a → get_elem? us j ≡ some b → a.moving ≡ Some x → b.moving ≡ Some y
+          → x.old ≡ y.old
+          → ((i ≡ id) × (move_now ≡ x)) ⊎ ((i ≢ id) × (get_elem? vs i ≡ some a))
+          → ((j ≡ id) × (move_now ≡ y)) ⊎ ((j ≢ id) × (get_elem? vs j ≡ some b)) → i ≡ j
+      one i j a b x y ea eb ia ib e (inl p) (inl q) = p.0 ∙ sym q.0
+      one i j a b x y ea eb ia ib e (inl p) (inr q) =
+          absurd ((no_end z z.u (old_lock z) j b y q.1 ib).1 (sym e ∙ ap (λ (t : Move). t.old) (sym p.1)))
+      one i j a b x y ea eb ia ib e (inr p) (inl q) =
+          absurd ((no_end z z.u (old_lock z) i a x p.1 ia).1 (e ∙ ap (λ (t : Move). t.old) (sym q.1)))
+      one i j a b x y ea eb ia ib e (inr p) (inr q) = inv.tree.moves.one_old i j a b x y p.1 q.1 ia ib e
+
+      two : (i j : ℕ) (a b : View) (x y : Move) → get_elem? us i ≡ some a → get_elem? us j ≡ some b → a.moving ≡ Some x → b.moving ≡ Some y
+          → x.copy.slot ≡ y.copy.slot
+          → ((i ≡ id) × (move_now ≡ x)) ⊎ ((i ≢ id) × (get_elem? vs i ≡ some a))
+          → ((j ≡ id) × (move_now ≡ y)) ⊎ ((j ≢ id) × (get_elem? vs j ≡ some b)) → i ≡ j
+      two i j a b x y ea eb ia ib e (inl p) (inl q) = p.0 ∙ sym q.0
+      two i j a b x y ea eb ia ib e (inl p) (inr q) =
+          absurd ((no_end z c z.needs.locked j b y q.1 ib).0 (sym e ∙ ap (λ (t : Move). t.copy.slot) (sym p.1)))
+      two i j a b x y ea eb ia ib e (inr p) (inl q) =
+          absurd ((no_end z c z.needs.locked i a x p.1 ia).0 (e ∙ ap (λ (t : Move). t.copy.slot) (sym q.1)))
+      two i j a b x y ea eb ia ib e (inr p) (inr q) = inv.tree.moves.one_copy i j a b x y p.1 q.1 ia ib e

@@ -1,7 +1,0 @@
-use Rattle.std.proofs.Common.{◌≡◌}
-use Rattle.seat_table.specs.Seats.{IsQuietSeat}
-use Rattle.range_snapshots.specs.Snapshots.{OnlyLists}
-use Rattle.range_snapshots.proofs.pauses.is_moved.Given as goal
-
-abbrev pub invariant-loop : goal.invariant-loop
-invariant-loop g l = (l.seat.table ≡ l.fn.seat.table) × IsQuietSeat l.seat × OnlyLists l.fn.seat.view l.seat.view

@@ -1,9 +1,0 @@
-use Rattle.std.proofs.Common.{◌≡◌}
-use Rattle.seat_table.specs.Seats.{IsQuietSeat}
-use Rattle.range_snapshots.specs.Snapshots.{OnlyLists}
-use Rattle.range_snapshots.proofs.snapshot.Snapshot.take.Given as goal
-
--- lists that were tried changed nothing
-abbrev pub invariant-loop : goal.invariant-loop
-invariant-loop g l = (l.seat.table ≡ l.fn.seat.table) × IsQuietSeat l.seat × OnlyLists l.fn.seat.view l.seat.view
-    × (l.self-inside.page.capacity ≡ 4096)
