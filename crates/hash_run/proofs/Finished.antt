@@ -28,7 +28,7 @@ use Rattle.class_hash.specs.Seats.{TableAt}
 use Rattle.class_hash.specs.Clients.{ClientAt, caller_of, HasCalled, ExplainsInClasses}
 use Rattle.class_hash.proofs.Clients.{chain_has_told, calls_stay}
 use Rattle.hash_run.specs.Capacities.{put_keys, AreCapacities}
-use Rattle.client_run.specs.Crews.{IsCrew, AreDone, HaveMet}
+use Rattle.client_run.specs.Crews.{IsCrew, AreDone, HaveMet, HaveRun}
 use Rattle.client_run.proofs.Crews.{mapped_at, some_there, entries_are, crew_ready, chain_of, crew_keeps, crew_has_told}
 use Rattle.hash_run.specs.Crews.{idle_view, client_for, IsDone, IsJoined, StandsFor, all_own}
 use Rattle.hash_run.proofs.Roomy.{PutsInto, each_put_there, all_stand, all_from_own, told_from_lines, all_lines_from_ops, at_number}
@@ -209,7 +209,7 @@ module _ (table : TableAt) (scripts : List (List Op)) (befores afters : List (Wo
           (at_number (PutsInto (put_keys scripts)) (all_told_lines scripts
           (map (λ (w : Work ClientAt). w.told.entries) afters)) c lines_put)))
 
-      pub run_explained : (slots : ℕ) → AreExplainable scripts (map (λ (w : Work ClientAt). w.told.entries) afters)
+      run_explained : (slots : ℕ) → AreExplainable scripts (map (λ (w : Work ClientAt). w.told.entries) afters)
           (updates_of seat.seen) slots
       run_explained slots = record {
         lengths = run_lengths (ExplainsInClasses table.capacities) scripts
@@ -226,17 +226,37 @@ module _ (table : TableAt) (scripts : List (List Op)) (befores afters : List (Wo
         };
       }
 
-      pub run_marks : FitsScripts scripts seat.seen
+      run_marks : FitsScripts scripts seat.seen
       run_marks = run_fits (ExplainsInClasses table.capacities) scripts
           (map (λ (w : Work ClientAt). w.told.entries) afters) seat.seen have_told
 
--- What a run hands on once its seats are one: these told lists are explained by the updates that the seat has seen.
-pub told_explained : (table : TableAt) (scripts : List (List Op)) (befores afters : List (Work ClientAt))
-    → IsCrew (client_for table) scripts befores → length afters ≡ length befores → HaveMade HasCalled befores scripts afters
-    → (seat : View) → StandsFor table (map (λ (w : Work ClientAt). w.client) afters) seat → table.places ≡ length scripts
-    → AreCapacities scripts table.capacities
-    → (told : List (Roomy Told)) → told ≡ [] ++ map (λ (w : Work ClientAt). w.told) afters
-    → (slots : ℕ) → AreExplainable scripts (entries_of told) (updates_of seat.seen) slots
-told_explained table scripts befores afters crew count made seat stands places right told is slots =
-    subst (λ ts. AreExplainable scripts ts (updates_of seat.seen) slots) (sym (ap entries_of is ∙ entries_are afters))
-    (run_explained table scripts befores afters crew count made seat stands places right slots)
+-- A run whose clients' seats are one: what its scripts were told was pushed behind nothing.
+pub has_run : {table : TableAt} {scripts : List (List Op)} {befores : List (Work ClientAt)} {seat : View}
+    {told pushed first : List (Roomy Told)} (afters : List (Work ClientAt)) → IsCrew (client_for table) scripts befores
+    → length afters ≡ length befores
+    → HaveMade HasCalled befores scripts afters → StandsFor table (map (λ (w : Work ClientAt). w.client) afters) seat → told ≡ pushed
+    → pushed ≡ first ++ map (λ (w : Work ClientAt). w.told) afters → first ≡ []
+    → HaveRun (client_for table) HasCalled (StandsFor table) scripts told seat
+has_run {befores = befores} afters crew count made stands told pushed first = record {
+  hired = befores;
+  workers = afters;
+  crew = crew;
+  count = count;
+  made = made;
+  told_is = told ∙ pushed ∙ ap (λ ts. ts ++ map (λ (w : Work ClientAt). w.told) afters) first;
+  joined = stands;
+}
+
+-- What it hands on: what was told is explained by the updates that the seat has seen, and its marks are those of such scripts.
+module _ {table : TableAt} {scripts : List (List Op)} {told : List (Roomy Told)} {seat : View}
+    (run : HaveRun (client_for table) HasCalled (StandsFor table) scripts told seat) (places : table.places ≡ length scripts)
+    {capacities : List ℕ} (made : table.capacities ≡ capacities) (right : AreCapacities scripts capacities) where
+  pub told_explained : (slots : ℕ) → AreExplainable scripts (entries_of told) (updates_of seat.seen) slots
+  told_explained slots = subst (λ ts. AreExplainable scripts ts (updates_of seat.seen) slots)
+      (sym (ap entries_of run.told_is ∙ entries_are run.workers))
+      (run_explained table scripts run.hired run.workers run.crew run.count run.made seat run.joined places
+      (subst (AreCapacities scripts) (sym made) right) slots)
+
+  pub told_marks : FitsScripts scripts seat.seen
+  told_marks = run_marks table scripts run.hired run.workers run.crew run.count run.made seat run.joined places
+      (subst (AreCapacities scripts) (sym made) right)

@@ -1,4 +1,4 @@
-use Rattle.std.proofs.Common.{◌≡◌, [], ◌++◌, map, sym, ap, subst, ◌∙◌, arith}
+use Rattle.std.proofs.Common.{map, refl, sym, subst, ◌∙◌, arith}
 use Rattle.std.proofs.lemmas.List.{length-map}
 use Rattle.prcu_marks.specs.declared.mark.Mark.TheVariants.{Began}
 use Rattle.prcu_model.specs.Lists.{entries_of}
@@ -6,11 +6,9 @@ use Rattle.prcu_model.specs.History.{IsLegal}
 use Rattle.prcu_marks.specs.Marks.{updates_of}
 use Rattle.prcu_model.specs.Fronts.{all_told_lines, AreExplainable}
 use Rattle.client_run.specs.Workers.{Work}
-use Rattle.client_run.specs.Merging.{TellOwnUpdates}
 use Rattle.client_run.proofs.OwnUpdates.{AreOneToCount-own}
 use Rattle.class_hash.specs.Clients.{ClientAt}
-use Rattle.hash_run.specs.Capacities.{AreCapacities}
-use Rattle.hash_run.proofs.Finished.{all_done, run_marks, told_explained}
+use Rattle.hash_run.proofs.Finished.{all_done, has_run, told_explained, told_marks}
 use Rattle.hash_run.proofs.running.run_scripts.Goals as goal
 
 pub gather-seat-requires-clause-done : goal.gather-seat-requires-clause-done
@@ -20,103 +18,65 @@ gather-seat-requires-clause-done g c =
 
 pub merge-requires-clause-lengths : goal.merge-requires-clause-lengths
 merge-requires-clause-lengths g c =
-    let table = c.in_ok-table.ensures.made in
-    let capacities : AreCapacities c.args.scripts.now c.in_ok-table.table.capacities =
-    subst (AreCapacities c.args.scripts.now) (sym table.0) c.in_ok-capacities.ensures.capacities in
-    let given : c.deref.result.now ≡ [] ++ map (λ (w : Work ClientAt). w.told) c.run_crew.result.items =
-    c.deref.ensures.value ∙ c.gather-seat.ensures.told
-    ∙ ap (λ ts. ts ++ map (λ (w : Work ClientAt). w.told) c.run_crew.result.items) c.in_ok-told.ensures.items in
-    let all = told_explained c.in_ok-table.table c.args.scripts.now c.in_ok-workers.workers.items c.run_crew.result.items
-    c.in_ok-workers.ensures c.run_crew.ensures.count c.run_crew.ensures.made c.gather-seat.result.view c.gather-seat.ensures.joined
-    (table.1 ∙ c.count-count.ensures.count) capacities c.deref.result.now given in
+    let made = c.in_ok-table.ensures.made in
+    let run = has_run c.run_crew.result.items c.in_ok-workers.ensures c.run_crew.ensures.count c.run_crew.ensures.made
+    c.gather-seat.ensures.joined
+    c.deref.ensures.value c.gather-seat.ensures.told c.in_ok-told.ensures.items in
+    let all = told_explained run (made.1 ∙ c.count-count.ensures.count) made.0 c.in_ok-capacities.ensures.capacities in
     (all 0).lengths
 
 pub merge-requires-clause-numbers : goal.merge-requires-clause-numbers
 merge-requires-clause-numbers g c =
-    let table = c.in_ok-table.ensures.made in
-    let capacities : AreCapacities c.args.scripts.now c.in_ok-table.table.capacities =
-    subst (AreCapacities c.args.scripts.now) (sym table.0) c.in_ok-capacities.ensures.capacities in
-    let given : c.deref.result.now ≡ [] ++ map (λ (w : Work ClientAt). w.told) c.run_crew.result.items =
-    c.deref.ensures.value ∙ c.gather-seat.ensures.told
-    ∙ ap (λ ts. ts ++ map (λ (w : Work ClientAt). w.told) c.run_crew.result.items) c.in_ok-told.ensures.items in
-    let all = told_explained c.in_ok-table.table c.args.scripts.now c.in_ok-workers.workers.items c.run_crew.result.items
-    c.in_ok-workers.ensures c.run_crew.ensures.count c.run_crew.ensures.made c.gather-seat.result.view c.gather-seat.ensures.joined
-    (table.1 ∙ c.count-count.ensures.count) capacities c.deref.result.now given in
+    let made = c.in_ok-table.ensures.made in
+    let run = has_run c.run_crew.result.items c.in_ok-workers.ensures c.run_crew.ensures.count c.run_crew.ensures.made
+    c.gather-seat.ensures.joined
+    c.deref.ensures.value c.gather-seat.ensures.told c.in_ok-told.ensures.items in
+    let all = told_explained run (made.1 ∙ c.count-count.ensures.count) made.0 c.in_ok-capacities.ensures.capacities in
     AreOneToCount-own (updates_of c.gather-seat.result.view.seen) (all_told_lines c.args.scripts.now (entries_of c.deref.result.now))
-    ((all 0).explained.updates)
+    (all 0).explained.updates
 
 pub returns-clause-run : goal.returns-clause-run
-returns-clause-run g c = record {
-  hired = c.in_ok-workers.workers.items;
-  workers = c.run_crew.result.items;
-  crew = c.in_ok-workers.ensures;
-  count = c.run_crew.ensures.count;
-  made = c.run_crew.ensures.made;
-  told_is = c.gather-seat.ensures.told ∙ ap (λ ts. ts
-      ++ map (λ (w : Work ClientAt). w.told) c.run_crew.result.items) c.in_ok-told.ensures.items;
-  joined = c.gather-seat.ensures.joined;
-}
+returns-clause-run g c = has_run c.run_crew.result.items c.in_ok-workers.ensures c.run_crew.ensures.count c.run_crew.ensures.made
+    c.gather-seat.ensures.joined
+    refl c.gather-seat.ensures.told c.in_ok-told.ensures.items
 
 pub returns-clause-explained : goal.returns-clause-explained
 returns-clause-explained g c slots =
-    let table = c.in_ok-table.ensures.made in
-    let capacities : AreCapacities c.args.scripts.now c.in_ok-table.table.capacities =
-    subst (AreCapacities c.args.scripts.now) (sym table.0) c.in_ok-capacities.ensures.capacities in
-    let given : c.deref.result.now ≡ [] ++ map (λ (w : Work ClientAt). w.told) c.run_crew.result.items =
-    c.deref.ensures.value ∙ c.gather-seat.ensures.told
-    ∙ ap (λ ts. ts ++ map (λ (w : Work ClientAt). w.told) c.run_crew.result.items) c.in_ok-told.ensures.items in
-    let all = told_explained c.in_ok-table.table c.args.scripts.now c.in_ok-workers.workers.items c.run_crew.result.items
-    c.in_ok-workers.ensures c.run_crew.ensures.count c.run_crew.ensures.made c.gather-seat.result.view c.gather-seat.ensures.joined
-    (table.1 ∙ c.count-count.ensures.count) capacities c.deref.result.now given in
-    let tell : TellOwnUpdates (updates_of c.gather-seat.result.view.seen)
-    (all_told_lines c.args.scripts.now (entries_of c.deref.result.now)) = (all 0).explained.updates in
-    let history : c.in_ok-history.history.items ≡ updates_of c.gather-seat.result.view.seen =
-    c.in_ok-history.ensures.only (updates_of c.gather-seat.result.view.seen) tell in
+    let made = c.in_ok-table.ensures.made in
+    let run = has_run c.run_crew.result.items c.in_ok-workers.ensures c.run_crew.ensures.count c.run_crew.ensures.made
+    c.gather-seat.ensures.joined
+    c.deref.ensures.value c.gather-seat.ensures.told c.in_ok-told.ensures.items in
+    let all = told_explained run (made.1 ∙ c.count-count.ensures.count) made.0 c.in_ok-capacities.ensures.capacities in
+    let history = c.in_ok-history.ensures.only (updates_of c.gather-seat.result.view.seen) (all 0).explained.updates in
     subst (λ ts. AreExplainable c.args.scripts.now (entries_of ts) c.in_ok-history.history.items slots) c.deref.ensures.value
     (subst (λ h. AreExplainable c.args.scripts.now (entries_of c.deref.result.now) h slots) (sym history) (all slots))
 
 pub returns-clause-legal : goal.returns-clause-legal
 returns-clause-legal g c =
-    let table = c.in_ok-table.ensures.made in
-    let capacities : AreCapacities c.args.scripts.now c.in_ok-table.table.capacities =
-    subst (AreCapacities c.args.scripts.now) (sym table.0) c.in_ok-capacities.ensures.capacities in
-    let given : c.deref.result.now ≡ [] ++ map (λ (w : Work ClientAt). w.told) c.run_crew.result.items =
-    c.deref.ensures.value ∙ c.gather-seat.ensures.told
-    ∙ ap (λ ts. ts ++ map (λ (w : Work ClientAt). w.told) c.run_crew.result.items) c.in_ok-told.ensures.items in
-    let all = told_explained c.in_ok-table.table c.args.scripts.now c.in_ok-workers.workers.items c.run_crew.result.items
-    c.in_ok-workers.ensures c.run_crew.ensures.count c.run_crew.ensures.made c.gather-seat.result.view c.gather-seat.ensures.joined
-    (table.1 ∙ c.count-count.ensures.count) capacities c.deref.result.now given in
-    let tell : TellOwnUpdates (updates_of c.gather-seat.result.view.seen)
-    (all_told_lines c.args.scripts.now (entries_of c.deref.result.now)) = (all 0).explained.updates in
-    let history : c.in_ok-history.history.items ≡ updates_of c.gather-seat.result.view.seen =
-    c.in_ok-history.ensures.only (updates_of c.gather-seat.result.view.seen) tell in
+    let made = c.in_ok-table.ensures.made in
+    let run = has_run c.run_crew.result.items c.in_ok-workers.ensures c.run_crew.ensures.count c.run_crew.ensures.made
+    c.gather-seat.ensures.joined
+    c.deref.ensures.value c.gather-seat.ensures.told c.in_ok-told.ensures.items in
+    let all = told_explained run (made.1 ∙ c.count-count.ensures.count) made.0 c.in_ok-capacities.ensures.capacities in
+    let history = c.in_ok-history.ensures.only (updates_of c.gather-seat.result.view.seen) (all 0).explained.updates in
     subst IsLegal (sym history) c.gather-seat.ensures.joined.informed.legal
 
 pub returns-clause-history : goal.returns-clause-history
 returns-clause-history g c =
-    let table = c.in_ok-table.ensures.made in
-    let capacities : AreCapacities c.args.scripts.now c.in_ok-table.table.capacities =
-    subst (AreCapacities c.args.scripts.now) (sym table.0) c.in_ok-capacities.ensures.capacities in
-    let given : c.deref.result.now ≡ [] ++ map (λ (w : Work ClientAt). w.told) c.run_crew.result.items =
-    c.deref.ensures.value ∙ c.gather-seat.ensures.told
-    ∙ ap (λ ts. ts ++ map (λ (w : Work ClientAt). w.told) c.run_crew.result.items) c.in_ok-told.ensures.items in
-    let all = told_explained c.in_ok-table.table c.args.scripts.now c.in_ok-workers.workers.items c.run_crew.result.items
-    c.in_ok-workers.ensures c.run_crew.ensures.count c.run_crew.ensures.made c.gather-seat.result.view c.gather-seat.ensures.joined
-    (table.1 ∙ c.count-count.ensures.count) capacities c.deref.result.now given in
-    let tell : TellOwnUpdates (updates_of c.gather-seat.result.view.seen)
-    (all_told_lines c.args.scripts.now (entries_of c.deref.result.now)) = (all 0).explained.updates in
-    let history : c.in_ok-history.history.items ≡ updates_of c.gather-seat.result.view.seen =
-    c.in_ok-history.ensures.only (updates_of c.gather-seat.result.view.seen) tell in
-    history
+    let made = c.in_ok-table.ensures.made in
+    let run = has_run c.run_crew.result.items c.in_ok-workers.ensures c.run_crew.ensures.count c.run_crew.ensures.made
+    c.gather-seat.ensures.joined
+    c.deref.ensures.value c.gather-seat.ensures.told c.in_ok-told.ensures.items in
+    let all = told_explained run (made.1 ∙ c.count-count.ensures.count) made.0 c.in_ok-capacities.ensures.capacities in
+    c.in_ok-history.ensures.only (updates_of c.gather-seat.result.view.seen) (all 0).explained.updates
 
 pub returns-clause-marks : goal.returns-clause-marks
 returns-clause-marks g c =
-    let table = c.in_ok-table.ensures.made in
-    let capacities : AreCapacities c.args.scripts.now c.in_ok-table.table.capacities =
-    subst (AreCapacities c.args.scripts.now) (sym table.0) c.in_ok-capacities.ensures.capacities in
-    run_marks c.in_ok-table.table c.args.scripts.now c.in_ok-workers.workers.items c.run_crew.result.items c.in_ok-workers.ensures
-    c.run_crew.ensures.count c.run_crew.ensures.made c.gather-seat.result.view c.gather-seat.ensures.joined
-    (table.1 ∙ c.count-count.ensures.count) capacities
+    let made = c.in_ok-table.ensures.made in
+    let run = has_run c.run_crew.result.items c.in_ok-workers.ensures c.run_crew.ensures.count c.run_crew.ensures.made
+    c.gather-seat.ensures.joined
+    refl c.gather-seat.ensures.told c.in_ok-told.ensures.items in
+    told_marks run (made.1 ∙ c.count-count.ensures.count) made.0 c.in_ok-capacities.ensures.capacities
 
 pub returns-clause-waits : goal.returns-clause-waits
 returns-clause-waits g c = λ j place count low high there. c.gather-seat.ensures.joined.informed.marks.others j
