@@ -1,9 +1,10 @@
 -- Tries of an update: a search, the lock, a walk under it, and the lock given up or the update made.
-use Rattle.std.proofs.Common.{◌≡◌, ℕ, ◌+◌, ◌-◌, ◌%◌, ◌≤◌, ◌==◌, true, cond, arith, eq-eqb, List, [], ◌∷◌, ◌++◌, Option, Some, None, IfNone, IfSome, is_some, refl, sym, ap, subst, ◌∙◌, append_assoc, append-nil}
+use Rattle.std.proofs.Common.{◌≡◌, ℕ, ◌+◌, ◌-◌, ◌%◌, ◌≤◌, ◌==◌, true, cond, arith, eq-eqb, List, [], ◌∷◌, ◌++◌, length, Option, Some, None, IfNone, IfSome, is_some, refl, sym, ap, subst, ◌∙◌, append_assoc, append-nil}
 use Rattle.std.specs.List.{AllByRecursion}
 use mathlib.Core.List.{IsPrefix}
 use Rattle.prcu_marks.specs.declared.mark.Mark.{Mark}
 use Rattle.prcu_marks.specs.declared.mark.Mark.TheVariants.{Entered, Left, Done, Unlinked}
+use Rattle.prcu_model.specs.declared.operation.Op.{Op}
 use Rattle.prcu_model.specs.declared.operation.Op.TheVariants.{Put, Set, Del}
 use Rattle.prcu_model.specs.declared.operation.Reply.TheVariants.{New, Old, Full, Gone, Was}
 use Rattle.hash_core.specs.declared.words.Field.TheVariants.{Lock}
@@ -12,7 +13,8 @@ use Rattle.hash_core.specs.declared.view.Section.{Section}
 use Rattle.hash_core.specs.declared.view.Hold.{Hold}
 use Rattle.hash_core.specs.declared.view.StepMade.{StepMade}
 use Rattle.hash_core.specs.declared.view.View.{View}
-use Rattle.prcu_model.specs.Dictionary.{map_of}
+use Rattle.prcu_model.specs.Dictionary.{key_of, map_of}
+use Rattle.prcu_model.specs.History.{IsLegal}
 use Rattle.prcu_marks.specs.Marks.{updates_of}
 use Rattle.hash_core.specs.Pairs.{HasPairs}
 use Rattle.hash_core.specs.Slots.{capacity, is_slot_of, IsOfClass}
@@ -32,7 +34,7 @@ use Rattle.class_hash.specs.Walks.{HasLoaded, IsFoundAt}
 use Rattle.class_hash.specs.Updates.{HasLocked, MayReplace, Replaced, link_after, MayUnlink, Removed}
 use Rattle.class_hash.specs.Calls.{HasFinished, Unlocks, Lists}
 use Rattle.class_hash.specs.Puts.{MayAdd, Linked, Added, LeavesFull}
-use Rattle.class_hash.specs.Replies.{IsOfSection, HasTried, HasWalked, told_added, PutsBy, Puts, SetsBy, DelsBy}
+use Rattle.class_hash.specs.Replies.{IsOfSection, HasTried, HasUpdated, HasWalked, told_added, PutsBy, Puts, SetsBy, DelsBy}
 
 pub nothing_tried : (v : View) (key : ℕ) → HasTried v key v
 nothing_tried v key = record { marks = []; plain = tt; own = sym (append-nil v.own); seen = prefix_self v.seen; view = refl }
@@ -193,37 +195,52 @@ module _ {v w x y z : View} {key class : ℕ} {answer : Option ℕ} {new : Hold}
   pub removed_quiet : {u : View} {number : ℕ} → Removed z key number u → IsQuiet u
   removed_quiet r = (ap (λ (y : View). y.section) r.view ∙ ap (λ (y : View). y.section) z_is, ap (λ (y : View). y.hold) r.view)
 
-  pub updated_once : (u : View) (value old number : ℕ) → Replaced z key value old number u → SetsBy v key value (Was old) number u
-  updated_once u value old number r =
+  -- the update that was made after the walk is the one of the call
+  updated_by : (op : Op) (before more : List Mark) (number : ℕ) (u : View) → key_of op ≡ key → IsPrefix z.seen before
+      → IsLegal (updates_of u.seen) → number ≡ length (updates_of u.seen)
+      → u ≡ record z {
+        tickets = z.tickets - 1;
+        hold = None;
+        own = z.own ++ Done (record { caller = z.place; op = op }) ∷ [];
+        trail = u.trail;
+        seen = before ++ Done (record { caller = z.place; op = op }) ∷ more;
+      }
+      → HasUpdated v op before more number u
+  updated_by op before more number u key_is since legal number_is view =
       let place : z.place ≡ v.place = ap (λ (y : View). y.place) z_is in
       let F : View → View = λ y. record y {
         tickets = y.tickets - 1;
         hold = None;
-        own = z.own ++ Done (record { caller = z.place; op = Set key value }) ∷ [];
+        own = z.own ++ Done (record { caller = z.place; op = op }) ∷ [];
         trail = u.trail;
-        seen = r.before ++ Done (record { caller = z.place; op = Set key value }) ∷ [];
+        seen = before ++ Done (record { caller = z.place; op = op }) ∷ more;
       } in
-      let u_is : u ≡ F walked = r.view ∙ ap F z_is in
+      let u_is : u ≡ F walked = view ∙ ap F z_is in
       let whole : u ≡ record (F walked) { section = v.section; hold = v.hold } =
       u_is ∙ ap (λ (q : Option Section × Option Hold). record (F walked) { section = q.0; hold = q.1 })
       (λ i. (sym quiet.0 i, sym quiet.1 i)) in record {
-        before = r.before;
-        updated = record {
-          marks = t.marks ++ Entered w.place w.sections key ∷ Left w.place w.sections ∷ [];
-          plain = plain_z;
-          searched = searched_z;
-          own = ap (λ (y : View). y.own) r.view ∙ ap (λ o. o ++ Done (record { caller = z.place; op = Set key value }) ∷ []) own_z
-              ∙ ap (λ p. (v.own ++ (t.marks ++ Entered w.place w.sections key ∷ Left w.place w.sections ∷ []))
-              ++ Done (record { caller = p; op = Set key value }) ∷ []) place;
-          since = prefix_trans v.seen z.seen r.before seen_z r.since;
-          seen = ap (λ (y : View). y.seen) r.view ∙ ap (λ p. r.before ++ Done (record { caller = p; op = Set key value }) ∷ []) place;
-          legal = r.legal;
-          number_is = r.number_is;
-          view = whole ∙ sym (ap (λ (y : View). record v
-              { tickets = v.tickets - 1; sections = y.sections; own = y.own; trail = y.trail; seen = y.seen }) whole);
-        };
-        was = r.was;
+        marks = t.marks ++ Entered w.place w.sections key ∷ Left w.place w.sections ∷ [];
+        plain = subst (λ x. AllByRecursion (IsOfSection v.place x)
+            (t.marks ++ Entered w.place w.sections key ∷ Left w.place w.sections ∷ [])) (sym key_is) plain_z;
+        searched = subst (λ x. 1 ≤ entered_for v.place x
+            (t.marks ++ Entered w.place w.sections key ∷ Left w.place w.sections ∷ [])) (sym key_is) searched_z;
+        own = ap (λ (y : View). y.own) view ∙ ap (λ o. o ++ Done (record { caller = z.place; op = op }) ∷ []) own_z
+            ∙ ap (λ p. (v.own ++ (t.marks ++ Entered w.place w.sections key ∷ Left w.place w.sections ∷ []))
+            ++ Done (record { caller = p; op = op }) ∷ []) place;
+        since = prefix_trans v.seen z.seen before seen_z since;
+        seen = ap (λ (y : View). y.seen) view ∙ ap (λ p. before ++ Done (record { caller = p; op = op }) ∷ more) place;
+        legal = legal;
+        number_is = number_is;
+        view = whole ∙ sym (ap (λ (y : View). record v
+            { tickets = v.tickets - 1; sections = y.sections; own = y.own; trail = y.trail; seen = y.seen }) whole);
       }
+
+  pub updated_once : (u : View) (value old number : ℕ) → Replaced z key value old number u → SetsBy v key value (Was old) number u
+  updated_once u value old number r = record {
+    before = r.before;
+    updated = updated_by (Set key value) r.before [] number u refl r.since r.legal r.number_is r.view;
+    was = r.was;
+  }
 
   pub may_unlink : (capacities : List ℕ) (previous : Option ℕ) (slot : ℕ) → IsFoundAt key new previous slot
       → is_slot_of capacities class slot ≡ true → IfSome previous (λ p. is_slot_of capacities class p ≡ true) → 1 ≤ v.tickets
@@ -242,37 +259,11 @@ module _ {v w x y z : View} {key class : ℕ} {answer : Option ℕ} {new : Hold}
       by (Some q) f = f
 
   pub removed_once : (u : View) (number : ℕ) → Removed z key number u → DelsBy v key Gone number u
-  removed_once u number r =
-      let place : z.place ≡ v.place = ap (λ (y : View). y.place) z_is in
-      let F : View → View = λ y. record y {
-        tickets = y.tickets - 1;
-        hold = None;
-        own = z.own ++ Done (record { caller = z.place; op = Del key }) ∷ [];
-        trail = u.trail;
-        seen = r.before ++ Done (record { caller = z.place; op = Del key }) ∷ Unlinked r.slot ∷ [];
-      } in
-      let u_is : u ≡ F walked = r.view ∙ ap F z_is in
-      let whole : u ≡ record (F walked) { section = v.section; hold = v.hold } =
-      u_is ∙ ap (λ (q : Option Section × Option Hold). record (F walked) { section = q.0; hold = q.1 })
-      (λ i. (sym quiet.0 i, sym quiet.1 i)) in record {
-        before = r.before;
-        slot = r.slot;
-        updated = record {
-          marks = t.marks ++ Entered w.place w.sections key ∷ Left w.place w.sections ∷ [];
-          plain = plain_z;
-          searched = searched_z;
-          own = ap (λ (y : View). y.own) r.view ∙ ap (λ o. o ++ Done (record { caller = z.place; op = Del key }) ∷ []) own_z
-              ∙ ap (λ p. (v.own ++ (t.marks ++ Entered w.place w.sections key ∷ Left w.place w.sections ∷ []))
-              ++ Done (record { caller = p; op = Del key }) ∷ []) place;
-          since = prefix_trans v.seen z.seen r.before seen_z r.since;
-          seen = ap (λ (y : View). y.seen) r.view ∙ ap (λ p. r.before
-              ++ Done (record { caller = p; op = Del key }) ∷ Unlinked r.slot ∷ []) place;
-          legal = r.legal;
-          number_is = r.number_is;
-          view = whole ∙ sym (ap (λ (y : View). record v
-              { tickets = v.tickets - 1; sections = y.sections; own = y.own; trail = y.trail; seen = y.seen }) whole);
-        };
-      }
+  removed_once u number r = record {
+    before = r.before;
+    slot = r.slot;
+    updated = updated_by (Del key) r.before (Unlinked r.slot ∷ []) number u refl r.since r.legal r.number_is r.view;
+  }
 
   pub may_add : key % 64 ≡ class → ShowsAbsent new key → 1 ≤ v.tickets → MayAdd z key
   may_add of absent ticket = record {
@@ -308,35 +299,10 @@ module _ {v w x y z : View} {key class : ℕ} {answer : Option ℕ} {new : Hold}
   pub added_once : (capacities : List ℕ) (u : View) (value number : ℕ) → AddsNoLists v.trail w.trail → key % 64 ≡ class
       → ShowsAbsent new key → Added capacities z key value number u → PutsBy capacities v key value New number u
   added_once capacities u value number before of absent a =
-      let r : Linked z key value number u = a.linked in
-      let place : z.place ≡ v.place = ap (λ (y : View). y.place) z_is in
-      let F : View → View = λ y. record y {
-        tickets = y.tickets - 1;
-        hold = None;
-        own = z.own ++ Done (record { caller = z.place; op = Put key value }) ∷ [];
-        trail = u.trail;
-        seen = r.before ++ Done (record { caller = z.place; op = Put key value }) ∷ [];
-      } in
-      let u_is : u ≡ F walked = r.view ∙ ap F z_is in
-      let whole : u ≡ record (F walked) { section = v.section; hold = v.hold } =
-      u_is ∙ ap (λ (q : Option Section × Option Hold). record (F walked) { section = q.0; hold = q.1 })
-      (λ i. (sym quiet.0 i, sym quiet.1 i)) in record {
+      let r : Linked z key value number u = a.linked in record {
         before = r.before;
         slot = a.slot;
-        updated = record {
-          marks = t.marks ++ Entered w.place w.sections key ∷ Left w.place w.sections ∷ [];
-          plain = plain_z;
-          searched = searched_z;
-          own = ap (λ (y : View). y.own) r.view ∙ ap (λ o. o ++ Done (record { caller = z.place; op = Put key value }) ∷ []) own_z
-              ∙ ap (λ p. (v.own ++ (t.marks ++ Entered w.place w.sections key ∷ Left w.place w.sections ∷ []))
-              ++ Done (record { caller = p; op = Put key value }) ∷ []) place;
-          since = prefix_trans v.seen z.seen r.before seen_z r.since;
-          seen = ap (λ (y : View). y.seen) r.view ∙ ap (λ p. r.before ++ Done (record { caller = p; op = Put key value }) ∷ []) place;
-          legal = r.legal;
-          number_is = r.number_is;
-          view = whole ∙ sym (ap (λ (y : View). record v
-              { tickets = v.tickets - 1; sections = y.sections; own = y.own; trail = y.trail; seen = y.seen }) whole);
-        };
+        updated = updated_by (Put key value) r.before [] number u refl r.since r.legal r.number_is r.view;
         given = record {
           before = a.given.before;
           since = prefix_trans v.seen z.seen a.given.before seen_z a.given.since;

@@ -11,6 +11,7 @@ use Rattle.hash_core.specs.declared.words.Field.{Field}
 use Rattle.hash_core.specs.declared.words.Field.TheVariants.{Front, Lock, Readers, Chain}
 use Rattle.hash_core.specs.declared.view.Section.{Section}
 use Rattle.hash_core.specs.declared.view.Hold.{Hold}
+use Rattle.hash_core.specs.declared.view.Known.{Known}
 use Rattle.prcu_marks.specs.declared.commit.Commit.{Commit}
 use Rattle.hash_core.specs.declared.view.View.{View}
 use Rattle.list_laws.specs.Counts.{times}
@@ -316,6 +317,52 @@ module _ (capacities : List ℕ) (places tickets : ℕ) (m : Memory) (vs : List 
     clear = λ hold is yes s of. free_still capacities c m h vs id v w at section s (clear hold is yes s of);
   }
 
+  -- the rule of the holder's bucket stays where the holder learns what words are, or that no reader is in the class
+  holder_learns : (hold : Hold) → v.hold ≡ Some hold → (known : List Known) (clear : Bool) (seen : List Mark)
+      → ((field : Field) (number : ℕ) → ((f : Field) (n : ℕ) → known_in hold.known f ≡ Some n
+      → IsOfClass capacities hold.class f × (m f ≡ n)) → known_in known field ≡ Some number
+      → IsOfClass capacities hold.class field × (m field ≡ number))
+      → (hold.class < 64 → clear ≡ true → (s : ℕ) → is_slot_of capacities hold.class s ≡ true → IsFreeOfReaders hold.class h vs s)
+      → hold.class < 64 → BucketRule capacities hold.class m h (updates_of h)
+      (set vs id (record v { hold = Some (record hold { known = known; clear = clear }); seen = seen }))
+      (held_bucket hold (record hold { known = known; clear = clear }))
+  holder_learns hold mine known clear seen words none small =
+      let c : ℕ = hold.class in
+      let new : Hold = record hold { known = known; clear = clear } in
+      let w : View = record v { hold = Some new; seen = seen } in
+      let b = r.buckets c small in
+      let had : (r.bucket c).hold ≡ Some hold = holder_of c small hold mine refl in
+      record {
+        chained = b.chained;
+        listed = record {
+          free = b.listed.free;
+          retired = b.listed.retired;
+          moved = subst (λ z. IsPath (λ s. m (Chain s)) (link_of (moved_of z)) (r.bucket c).moved) had b.listed.moved;
+        };
+        roles = record {
+          once = λ x. subst (λ z. times x (r.bucket c).chain + times x (r.bucket c).free + times x (r.bucket c).retired
+              + times x (r.bucket c).moved + times x (option_to_list (taken_of z)) + times x (option_to_list (unlinked_of z))
+              ≡ cond (is_slot_of capacities c x) 1 0) had (b.roles.once x);
+        };
+        mapped = b.mapped;
+        locked = locked_by hold new mine refl m refl w refl refl;
+        known = record {
+          known = λ other field number is found. words field number (λ f n has. b.known.known hold f n had has)
+              (let e : new ≡ other = cc in subst (λ (z : Hold). known_in z.known field ≡ Some number) (sym e) found);
+        };
+        ages = record {
+          chain = b.ages.chain;
+          taken = λ s is. b.ages.taken s (ap taken_of had ∙ is);
+          retired = b.ages.retired;
+          moved = b.ages.moved;
+          unlinked = λ s is. b.ages.unlinked s (ap unlinked_of had ∙ is);
+        };
+        counted = counted_still capacities c m h vs id v w at refl b.counted;
+        clean = clean_still c w refl (r.bucket c) (Some new)
+            (λ other is yes. let e : new ≡ other = cc in none small (ap (λ (z : Hold). z.clear) e ∙ yes)) b.clean;
+        answered = answered_still capacities c m h vs id v w at refl m (r.bucket c) (λ s _. (refl, refl, refl, refl)) b.roles b.answered;
+      }
+
   -- H8, where no reader was found
   module _ (hold : Hold) (mine : v.hold ≡ Some hold) (nobody_reads : m (Readers hold.class) ≡ 0) where
     abbrev new8 : Hold
@@ -349,40 +396,8 @@ module _ (capacities : List ℕ) (places tickets : ℕ) (m : Memory) (vs : List 
           heard = refl;
         }) refl refl)
         hold.class (held_bucket hold new8)
-        (λ small.
-        let c : ℕ = hold.class in
-        let b = r.buckets c small in
-        let had : (r.bucket c).hold ≡ Some hold = holder_of c small hold mine refl in
-        record {
-          chained = b.chained;
-          listed = record {
-            free = b.listed.free;
-            retired = b.listed.retired;
-            moved = subst (λ z. IsPath (λ s. m (Chain s)) (link_of (moved_of z)) (r.bucket c).moved) had b.listed.moved;
-          };
-          roles = record {
-            once = λ x. subst (λ z. times x (r.bucket c).chain + times x (r.bucket c).free + times x (r.bucket c).retired
-                + times x (r.bucket c).moved + times x (option_to_list (taken_of z)) + times x (option_to_list (unlinked_of z))
-                ≡ cond (is_slot_of capacities c x) 1 0) had (b.roles.once x);
-          };
-          mapped = b.mapped;
-          locked = locked_by hold new8 mine refl m refl w8 refl refl;
-          known = record {
-            known = λ other field number is found. b.known.known hold field number had
-                (let e : new8 ≡ other = cc in subst (λ (z : Hold). known_in z.known field ≡ Some number) (sym e) found);
-          };
-          ages = record {
-            chain = b.ages.chain;
-            taken = λ s is. b.ages.taken s (ap taken_of had ∙ is);
-            retired = b.ages.retired;
-            moved = b.ages.moved;
-            unlinked = λ s is. b.ages.unlinked s (ap unlinked_of had ∙ is);
-          };
-          counted = counted_still capacities c m h vs id v w8 at refl b.counted;
-          clean = clean_still c w8 refl (r.bucket c) (Some new8)
-              (λ other is yes s of p j u section gone there inside class. absurd (no_section small j u section there inside class)) b.clean;
-          answered = answered_still capacities c m h vs id v w8 at refl m (r.bucket c) (λ s _. (refl, refl, refl, refl)) b.roles b.answered;
-        })
+        (holder_learns hold mine hold.known true v.seen (λ field number old. old field number)
+        (λ small yes s of p j u section gone there inside class. absurd (no_section small j u section there inside class)))
         (λ d _ ne. record {
           words = same_words capacities d m;
           marks = same_marks capacities d h;
@@ -440,42 +455,8 @@ module _ (capacities : List ℕ) (places tickets : ℕ) (m : Memory) (vs : List 
 
     pub law9 : MemoryRule capacities places tickets m (set vs id w9) h
     law9 = after_step capacities places tickets m vs h r id v w9 at m h seats9 hold.class (held_bucket hold new9)
-        (λ small.
-        let c : ℕ = hold.class in
-        let b = r.buckets c small in
-        let had : (r.bucket c).hold ≡ Some hold = holder_of c small hold mine refl in
-        record {
-          chained = b.chained;
-          listed = record {
-            free = b.listed.free;
-            retired = b.listed.retired;
-            moved = subst (λ z. IsPath (λ s. m (Chain s)) (link_of (moved_of z)) (r.bucket c).moved) had b.listed.moved;
-          };
-          roles = record {
-            once = λ x. subst (λ z. times x (r.bucket c).chain + times x (r.bucket c).free + times x (r.bucket c).retired
-                + times x (r.bucket c).moved + times x (option_to_list (taken_of z)) + times x (option_to_list (unlinked_of z))
-                ≡ cond (is_slot_of capacities c x) 1 0) had (b.roles.once x);
-          };
-          mapped = b.mapped;
-          locked = locked_by hold new9 mine refl m refl w9 refl refl;
-          known = record {
-            known = λ other f number is found. let e : new9 ≡ other = cc in
-                known9 f number (λ g n has. b.known.known hold g n had has)
-                (subst (λ (z : Hold). known_in z.known f ≡ Some number) (sym e) found);
-          };
-          ages = record {
-            chain = b.ages.chain;
-            taken = λ s is. b.ages.taken s (ap taken_of had ∙ is);
-            retired = b.ages.retired;
-            moved = b.ages.moved;
-            unlinked = λ s is. b.ages.unlinked s (ap unlinked_of had ∙ is);
-          };
-          counted = counted_still capacities c m h vs id v w9 at refl b.counted;
-          clean = clean_still c w9 refl (r.bucket c) (Some new9)
-              (λ other is yes s of_c. let e : new9 ≡ other = cc in
-              b.clean.clear hold had (ap (λ (z : Hold). z.clear) e ∙ yes) s of_c) b.clean;
-          answered = answered_still capacities c m h vs id v w9 at refl m (r.bucket c) (λ s _. (refl, refl, refl, refl)) b.roles b.answered;
-        })
+        (holder_learns hold mine new9.known hold.clear w9.seen known9
+        (λ small. (r.buckets hold.class small).clean.clear hold (holder_of hold.class small hold mine refl)))
         (λ d _ ne. record {
           words = same_words capacities d m;
           marks = same_marks capacities d h;

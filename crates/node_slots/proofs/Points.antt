@@ -106,19 +106,8 @@ module _ {slot generation : ℕ} {v w : View} (taken : HasTaken v slot generatio
       let p = f.point in
       let o' : Own = go (record o { hand = Some slot; hand_life = life }) (at.LeafField spot 0) in
       let b = bare_noted v slot (Life slot) life false [] [] None false p.1 refl in
-      let owns = owns_noted o v slot (Life slot) life false f.owns in
       let fits : Fits o' (at.LeafField spot 0) after_taking = record {
-        owns = record {
-          same = owns.same;
-          works = owns.works;
-          spare_is = owns.spare_is;
-          retired_are = owns.retired_are;
-          locks_are = owns.locks_are;
-          key_fits = owns.key_fits;
-          keys_fit = owns.keys_fit;
-          scans = owns.scans;
-          scans_table = owns.scans_table;
-        };
+        owns = owns_noted o v slot (Life slot) life false f.owns;
         tickets = (let t = f.tickets in let two = least_two o.retired spot in omega arith);
         unraised = λ z. f.unraised refl;
         point = (p.0, b, (slot, refl, refl), p.5, p.6, omega arith);
@@ -133,19 +122,8 @@ module _ {slot generation : ℕ} {v w : View} (taken : HasTaken v slot generatio
       let i = p.0 in
       let o' : Own = go (record o { hand = Some slot; hand_life = life }) (at.Keep slot) in
       let b = bare_noted v slot (Life slot) life false [] [] None false i.1 refl in
-      let owns = owns_noted o v slot (Life slot) life false f.owns in
       let fits : Fits o' (at.Keep slot) after_taking = record {
-        owns = record {
-          same = owns.same;
-          works = owns.works;
-          spare_is = owns.spare_is;
-          retired_are = owns.retired_are;
-          locks_are = owns.locks_are;
-          key_fits = owns.key_fits;
-          keys_fit = owns.keys_fit;
-          scans = owns.scans;
-          scans_table = owns.scans_table;
-        };
+        owns = owns_noted o v slot (Life slot) life false f.owns;
         tickets = (let t = f.tickets in omega arith);
         unraised = λ z. f.unraised refl;
         point = (i.0, b, (aged slot life, refl, refl), p.2, p.3, p.4);
@@ -267,19 +245,8 @@ module _ {slot : ℕ} {v w : View} (back : PutsBack v slot w) where
       let o' : Own = go (record o { hand = None }) at.Finished in
       let b1 = bare_noted v slot (Life slot) life false [] [] None false (p.2).0 refl in
       let b2 = bare_noted first slot (Life slot) (next_life life) true [] [] None false b1 refl in
-      let owns = owns_noted o first slot (Life slot) (next_life life) true (owns_noted o v slot (Life slot) life false f.owns) in
       let fits : Fits o' at.Finished last = record {
-        owns = record {
-          same = owns.same;
-          works = owns.works;
-          spare_is = owns.spare_is;
-          retired_are = owns.retired_are;
-          locks_are = owns.locks_are;
-          key_fits = owns.key_fits;
-          keys_fit = owns.keys_fit;
-          scans = owns.scans;
-          scans_table = owns.scans_table;
-        };
+        owns = owns_noted o first slot (Life slot) (next_life life) true (owns_noted o v slot (Life slot) life false f.owns);
         tickets = f.tickets;
         unraised = λ z. f.unraised refl;
         point = (p.0, b2, refl);

@@ -1,6 +1,5 @@
 -- The points of the slot in hand and of the spare.
-use Rattle.core_acts.specs.declared.act.Part.TheVariants as part
-use Rattle.std.proofs.Common.{◌≡◌, ◌≢◌, ℕ, ◌*◌, ◌%◌, ◌==◌, if◌then◌else◌, cond, Bool, true, false, ◌∷◌, Option, Some, None, refl, sym, ap, subst, ◌∙◌}
+use Rattle.std.proofs.Common.{◌≡◌, ◌≢◌, ℕ, ◌+◌, ◌*◌, ◌%◌, ◌==◌, if◌then◌else◌, cond, Bool, true, false, ◌∷◌, Option, Some, None, refl, sym, ap, subst, ◌∙◌}
 use Rattle.prcu_marks.specs.declared.mark.Side.TheVariants.{Left, Right}
 use Rattle.prcu_model.specs.declared.operation.Op.{Op}
 use Rattle.prcu_model.specs.declared.operation.Op.TheVariants.{Put}
@@ -54,49 +53,19 @@ leaf_case {leaf = leaf} i a is =
     ap (λ x. acts.Fill (or_root x) (content_part i) (contents (key_now a.own) (value_in a.own.op) 0 0 i)) (leaf_hand a is)
     ∙ ap (λ (x : Op). acts.Fill leaf (content_part i) (contents (key_of x) (value_in x) 0 0 i)) a.op_is
 
-pub needs_leaf_key : {k : Shape} {kept leaf key value : ℕ} {v : View} {spot : Spot} → IsSlotOf (Some leaf) v.hands.hand
-    → IsAt k (Put key value) kept (at.LeafField spot 0) v → TellsNow k v → Asks k v (acts.Fill leaf part.Key key)
-needs_leaf_key {leaf = leaf} {key = key} {value = value} {spot = spot} is a now =
-    needs_as (at.LeafField spot 0) (acts.Fill leaf part.Key key) a refl (leaf_case 0 a is) now
+pub needs_leaf : {k : Shape} {kept leaf key value : ℕ} {v : View} {spot : Spot} (i : ℕ) → IsSlotOf (Some leaf) v.hands.hand
+    → IsAt k (Put key value) kept (at.LeafField spot i) v → TellsNow k v
+    → Asks k v (acts.Fill leaf (content_part i) (contents key value 0 0 i))
+needs_leaf {leaf = leaf} {key = key} {value = value} {spot = spot} i is a now =
+    needs_as (at.LeafField spot i) (acts.Fill leaf (content_part i) (contents key value 0 0 i)) a refl (leaf_case i a is) now
 
-pub passes_leaf_key : {k : Shape} {kept n leaf key value : ℕ} {v w : View} {spot : Spot} → IsSlotOf (Some leaf) v.hands.hand
-    → IsAt k (Put key value) kept (at.LeafField spot 0) v → Told k v (acts.Fill leaf part.Key key) n w
-    → IsAt k (Put key value) kept (at.LeafField spot 1) w
-passes_leaf_key {leaf = leaf} {key = key} {value = value} {spot = spot} is a t =
-    passes_as (at.LeafField spot 0) (at.LeafField spot 1) (acts.Fill leaf part.Key key) a refl (leaf_case 0 a is) refl t
-
-pub needs_leaf_value : {k : Shape} {kept leaf key value : ℕ} {v : View} {spot : Spot} → IsSlotOf (Some leaf) v.hands.hand
-    → IsAt k (Put key value) kept (at.LeafField spot 1) v → TellsNow k v → Asks k v (acts.Fill leaf part.Value value)
-needs_leaf_value {leaf = leaf} {key = key} {value = value} {spot = spot} is a now =
-    needs_as (at.LeafField spot 1) (acts.Fill leaf part.Value value) a refl (leaf_case 1 a is) now
-
-pub passes_leaf_value : {k : Shape} {kept n leaf key value : ℕ} {v w : View} {spot : Spot} → IsSlotOf (Some leaf) v.hands.hand
-    → IsAt k (Put key value) kept (at.LeafField spot 1) v → Told k v (acts.Fill leaf part.Value value) n w
-    → IsAt k (Put key value) kept (at.LeafField spot 2) w
-passes_leaf_value {leaf = leaf} {key = key} {value = value} {spot = spot} is a t =
-    passes_as (at.LeafField spot 1) (at.LeafField spot 2) (acts.Fill leaf part.Value value) a refl (leaf_case 1 a is) refl t
-
-pub needs_leaf_left : {k : Shape} {kept leaf key value : ℕ} {v : View} {spot : Spot} → IsSlotOf (Some leaf) v.hands.hand
-    → IsAt k (Put key value) kept (at.LeafField spot 2) v → TellsNow k v → Asks k v (acts.Fill leaf (part.Link Left) 0)
-needs_leaf_left {leaf = leaf} {key = key} {value = value} {spot = spot} is a now =
-    needs_as (at.LeafField spot 2) (acts.Fill leaf (part.Link Left) 0) a refl (leaf_case 2 a is) now
-
-pub passes_leaf_left : {k : Shape} {kept n leaf key value : ℕ} {v w : View} {spot : Spot} → IsSlotOf (Some leaf) v.hands.hand
-    → IsAt k (Put key value) kept (at.LeafField spot 2) v → Told k v (acts.Fill leaf (part.Link Left) 0) n w
-    → IsAt k (Put key value) kept (at.LeafField spot 3) w
-passes_leaf_left {leaf = leaf} {key = key} {value = value} {spot = spot} is a t =
-    passes_as (at.LeafField spot 2) (at.LeafField spot 3) (acts.Fill leaf (part.Link Left) 0) a refl (leaf_case 2 a is) refl t
-
-pub needs_leaf_right : {k : Shape} {kept leaf key value : ℕ} {v : View} {spot : Spot} → IsSlotOf (Some leaf) v.hands.hand
-    → IsAt k (Put key value) kept (at.LeafField spot 3) v → TellsNow k v → Asks k v (acts.Fill leaf (part.Link Right) 0)
-needs_leaf_right {leaf = leaf} {key = key} {value = value} {spot = spot} is a now =
-    needs_as (at.LeafField spot 3) (acts.Fill leaf (part.Link Right) 0) a refl (leaf_case 3 a is) now
-
-pub passes_leaf_right : {k : Shape} {kept n leaf key value : ℕ} {v w : View} {spot : Spot} → IsSlotOf (Some leaf) v.hands.hand
-    → IsAt k (Put key value) kept (at.LeafField spot 3) v → Told k v (acts.Fill leaf (part.Link Right) 0) n w
-    → IsAt k (Put key value) kept (at.LeafLock spot) w
-passes_leaf_right {leaf = leaf} {key = key} {value = value} {spot = spot} is a t =
-    passes_as (at.LeafField spot 3) (at.LeafLock spot) (acts.Fill leaf (part.Link Right) 0) a refl (leaf_case 3 a is) refl t
+pub passes_leaf : {k : Shape} {kept n leaf key value : ℕ} {v w : View} {spot : Spot} (i : ℕ) → IsSlotOf (Some leaf) v.hands.hand
+    → IsAt k (Put key value) kept (at.LeafField spot i) v
+    → Told k v (acts.Fill leaf (content_part i) (contents key value 0 0 i)) n w
+    → IsAt k (Put key value) kept (if i == 3 then at.LeafLock spot else at.LeafField spot (i + 1)) w
+passes_leaf {leaf = leaf} {key = key} {value = value} {spot = spot} i is a t =
+    passes_as (at.LeafField spot i) (if i == 3 then at.LeafLock spot else at.LeafField spot (i + 1))
+    (acts.Fill leaf (content_part i) (contents key value 0 0 i)) a refl (leaf_case i a is) refl t
 
 -- and linked
 pub linked_case : {k : Shape} {op : Op} {kept leaf front : ℕ} {v : View} {spot : Spot}
@@ -133,57 +102,20 @@ copy_case : {k : Shape} {op : Op} {kept copy next_key value : ℕ} {v : View} {d
 copy_case {next_key = next_key} {value = value} {d = d} i a is =
     ap (λ x. acts.Fill (or_root x) (content_part i) (contents next_key value d.left d.right i)) (own_spare a is)
 
-pub needs_copy_key : {k : Shape} {op : Op} {kept copy next_key value : ℕ} {v : View} {d : Node} {u : Successor}
-    → IsSlotOf (Some copy) v.hands.spare → IsAt k op kept (at.CopyField d u next_key value 0) v → TellsNow k v
-    → Asks k v (acts.Fill copy part.Key next_key)
-needs_copy_key {copy = copy} {next_key = next_key} {value = value} {d = d} {u = u} is a now =
-    needs_as (at.CopyField d u next_key value 0) (acts.Fill copy part.Key next_key) a refl (copy_case 0 a is) now
+pub needs_copy : {k : Shape} {op : Op} {kept copy next_key value : ℕ} {v : View} {d : Node} {u : Successor} (i : ℕ)
+    → IsSlotOf (Some copy) v.hands.spare → IsAt k op kept (at.CopyField d u next_key value i) v → TellsNow k v
+    → Asks k v (acts.Fill copy (content_part i) (contents next_key value d.left d.right i))
+needs_copy {copy = copy} {next_key = next_key} {value = value} {d = d} {u = u} i is a now =
+    needs_as (at.CopyField d u next_key value i) (acts.Fill copy (content_part i) (contents next_key value d.left d.right i)) a refl
+    (copy_case i a is) now
 
-pub passes_copy_key : {k : Shape} {op : Op} {kept n copy next_key value : ℕ} {v w : View} {d : Node} {u : Successor}
-    → IsSlotOf (Some copy) v.hands.spare → IsAt k op kept (at.CopyField d u next_key value 0) v
-    → Told k v (acts.Fill copy part.Key next_key) n w → IsAt k op kept (at.CopyField d u next_key value 1) w
-passes_copy_key {copy = copy} {next_key = next_key} {value = value} {d = d} {u = u} is a t =
-    passes_as (at.CopyField d u next_key value 0) (at.CopyField d u next_key value 1) (acts.Fill copy part.Key next_key) a refl
-    (copy_case 0 a is) refl t
-
-pub needs_copy_value : {k : Shape} {op : Op} {kept copy next_key value : ℕ} {v : View} {d : Node} {u : Successor}
-    → IsSlotOf (Some copy) v.hands.spare → IsAt k op kept (at.CopyField d u next_key value 1) v → TellsNow k v
-    → Asks k v (acts.Fill copy part.Value value)
-needs_copy_value {copy = copy} {next_key = next_key} {value = value} {d = d} {u = u} is a now =
-    needs_as (at.CopyField d u next_key value 1) (acts.Fill copy part.Value value) a refl (copy_case 1 a is) now
-
-pub passes_copy_value : {k : Shape} {op : Op} {kept n copy next_key value : ℕ} {v w : View} {d : Node} {u : Successor}
-    → IsSlotOf (Some copy) v.hands.spare → IsAt k op kept (at.CopyField d u next_key value 1) v
-    → Told k v (acts.Fill copy part.Value value) n w → IsAt k op kept (at.CopyField d u next_key value 2) w
-passes_copy_value {copy = copy} {next_key = next_key} {value = value} {d = d} {u = u} is a t =
-    passes_as (at.CopyField d u next_key value 1) (at.CopyField d u next_key value 2) (acts.Fill copy part.Value value) a refl
-    (copy_case 1 a is) refl t
-
-pub needs_copy_left : {k : Shape} {op : Op} {kept copy next_key value : ℕ} {v : View} {d : Node} {u : Successor}
-    → IsSlotOf (Some copy) v.hands.spare → IsAt k op kept (at.CopyField d u next_key value 2) v → TellsNow k v
-    → Asks k v (acts.Fill copy (part.Link Left) d.left)
-needs_copy_left {copy = copy} {next_key = next_key} {value = value} {d = d} {u = u} is a now =
-    needs_as (at.CopyField d u next_key value 2) (acts.Fill copy (part.Link Left) d.left) a refl (copy_case 2 a is) now
-
-pub passes_copy_left : {k : Shape} {op : Op} {kept n copy next_key value : ℕ} {v w : View} {d : Node} {u : Successor}
-    → IsSlotOf (Some copy) v.hands.spare → IsAt k op kept (at.CopyField d u next_key value 2) v
-    → Told k v (acts.Fill copy (part.Link Left) d.left) n w → IsAt k op kept (at.CopyField d u next_key value 3) w
-passes_copy_left {copy = copy} {next_key = next_key} {value = value} {d = d} {u = u} is a t =
-    passes_as (at.CopyField d u next_key value 2) (at.CopyField d u next_key value 3) (acts.Fill copy (part.Link Left) d.left) a refl
-    (copy_case 2 a is) refl t
-
-pub needs_copy_right : {k : Shape} {op : Op} {kept copy next_key value : ℕ} {v : View} {d : Node} {u : Successor}
-    → IsSlotOf (Some copy) v.hands.spare → IsAt k op kept (at.CopyField d u next_key value 3) v → TellsNow k v
-    → Asks k v (acts.Fill copy (part.Link Right) d.right)
-needs_copy_right {copy = copy} {next_key = next_key} {value = value} {d = d} {u = u} is a now =
-    needs_as (at.CopyField d u next_key value 3) (acts.Fill copy (part.Link Right) d.right) a refl (copy_case 3 a is) now
-
-pub passes_copy_right : {k : Shape} {op : Op} {kept n copy next_key value : ℕ} {v w : View} {d : Node} {u : Successor}
-    → IsSlotOf (Some copy) v.hands.spare → IsAt k op kept (at.CopyField d u next_key value 3) v
-    → Told k v (acts.Fill copy (part.Link Right) d.right) n w → IsAt k op kept (at.CopyAge d u next_key) w
-passes_copy_right {copy = copy} {next_key = next_key} {value = value} {d = d} {u = u} is a t =
-    passes_as (at.CopyField d u next_key value 3) (at.CopyAge d u next_key) (acts.Fill copy (part.Link Right) d.right) a refl
-    (copy_case 3 a is) refl t
+pub passes_copy : {k : Shape} {op : Op} {kept n copy next_key value : ℕ} {v w : View} {d : Node} {u : Successor} (i : ℕ)
+    → IsSlotOf (Some copy) v.hands.spare → IsAt k op kept (at.CopyField d u next_key value i) v
+    → Told k v (acts.Fill copy (content_part i) (contents next_key value d.left d.right i)) n w
+    → IsAt k op kept (if i == 3 then at.CopyAge d u next_key else at.CopyField d u next_key value (i + 1)) w
+passes_copy {copy = copy} {next_key = next_key} {value = value} {d = d} {u = u} i is a t =
+    passes_as (at.CopyField d u next_key value i) (if i == 3 then at.CopyAge d u next_key else at.CopyField d u next_key value (i + 1))
+    (acts.Fill copy (content_part i) (contents next_key value d.left d.right i)) a refl (copy_case i a is) refl t
 
 pub needs_copy_age : {k : Shape} {op : Op} {kept copy next_key : ℕ} {v : View} {d : Node} {u : Successor}
     → IsSlotOf (Some copy) v.hands.spare → IsAt k op kept (at.CopyAge d u next_key) v → TellsNow k v → Asks k v (acts.LoadOwnLife copy)

@@ -14,7 +14,7 @@ use Rattle.seat_table.specs.Seats.{IsSlotOf}
 use Rattle.seat_table.specs.Told.{IsAsked, Told}
 use Rattle.tree_points.specs.At.{IsAt}
 use Rattle.tree_points.proofs.Deleting.{needs_successor_key, needs_successor_value, passes_successor_key, passes_successor_value}
-use Rattle.tree_points.proofs.Holding.{needs_copy_key, needs_copy_value, needs_copy_left, needs_copy_right, needs_copy_age, own_spare, passes_copy_key, passes_copy_value, passes_copy_left, passes_copy_right, passes_copy_age}
+use Rattle.tree_points.proofs.Holding.{needs_copy, needs_copy_age, own_spare, passes_copy, passes_copy_age}
 use Rattle.citrus_tree.specs.Deletes.{KeepsAll, KeepsValue}
 use Rattle.citrus_tree.proofs.deletes.Keeping.{keeps_on, keeps_fill, keeps_locked_load, keeps_own_life, spare_fill, spare_locked_load, spare_own_life}
 use Rattle.citrus_tree.proofs.deletes.Values.{value_fill, value_load, value_on, value_own_life}
@@ -42,41 +42,41 @@ module _ {k : Shape} {op : Op} {kept : ℕ} {d : Node} {u : Successor} {v : View
       spare2 = spare_locked_load k _ _ _ _ _ copy t2 spare1
 
       pub copies_key : IsAsked k v2 (acts.Fill copy part.Key next_key)
-      copies_key = needs_copy_key spare2 at2
+      copies_key = needs_copy 0 spare2 at2
 
       module _ {n3 : ℕ} {v3 : View} (t3 : Told k v2 (acts.Fill copy part.Key next_key) n3 v3) where
         at3 : IsAt k op kept (at.CopyField d u next_key value 1) v3
-        at3 = passes_copy_key spare2 at2 t3
+        at3 = passes_copy 0 spare2 at2 t3
 
         spare3 : IsSlotOf (Some copy) v3.hands.spare
         spare3 = spare_fill k _ _ _ _ _ _ copy t3 spare2
 
         pub copies_value : IsAsked k v3 (acts.Fill copy part.Value value)
-        copies_value = needs_copy_value spare3 at3
+        copies_value = needs_copy 1 spare3 at3
 
         module _ {n4 : ℕ} {v4 : View} (t4 : Told k v3 (acts.Fill copy part.Value value) n4 v4) where
           at4 : IsAt k op kept (at.CopyField d u next_key value 2) v4
-          at4 = passes_copy_value spare3 at3 t4
+          at4 = passes_copy 1 spare3 at3 t4
 
           spare4 : IsSlotOf (Some copy) v4.hands.spare
           spare4 = spare_fill k _ _ _ _ _ _ copy t4 spare3
 
           pub copies_left : IsAsked k v4 (acts.Fill copy (part.Link Left) d.left)
-          copies_left = needs_copy_left spare4 at4
+          copies_left = needs_copy 2 spare4 at4
 
           module _ {n5 : ℕ} {v5 : View} (t5 : Told k v4 (acts.Fill copy (part.Link Left) d.left) n5 v5) where
             at5 : IsAt k op kept (at.CopyField d u next_key value 3) v5
-            at5 = passes_copy_left spare4 at4 t5
+            at5 = passes_copy 2 spare4 at4 t5
 
             spare5 : IsSlotOf (Some copy) v5.hands.spare
             spare5 = spare_fill k _ _ _ _ _ _ copy t5 spare4
 
             pub copies_right : IsAsked k v5 (acts.Fill copy (part.Link Right) d.right)
-            copies_right = needs_copy_right spare5 at5
+            copies_right = needs_copy 3 spare5 at5
 
             module _ {n6 : ℕ} {v6 : View} (t6 : Told k v5 (acts.Fill copy (part.Link Right) d.right) n6 v6) where
               at6 : IsAt k op kept (at.CopyAge d u next_key) v6
-              at6 = passes_copy_right spare5 at5 t6
+              at6 = passes_copy 3 spare5 at5 t6
 
               spare6 : IsSlotOf (Some copy) v6.hands.spare
               spare6 = spare_fill k _ _ _ _ _ _ copy t6 spare5

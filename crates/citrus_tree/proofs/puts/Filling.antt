@@ -26,7 +26,7 @@ use Rattle.seat_table.specs.Told.{IsAsked, Told}
 use Rattle.tree_points.specs.At.{IsAt}
 use Rattle.tree_points.specs.Progress.{HasGone}
 use Rattle.tree_points.proofs.Gone.{gone_on, gone_stays}
-use Rattle.tree_points.proofs.Holding.{needs_leaf_key, passes_leaf_key, needs_leaf_value, passes_leaf_value, needs_leaf_left, passes_leaf_left, needs_leaf_right, passes_leaf_right}
+use Rattle.tree_points.proofs.Holding.{needs_leaf, passes_leaf}
 use Rattle.tree_points.proofs.Reclaiming.{reclaims_leaf}
 use Rattle.tree_points.proofs.Staying.{keeps_hand, same_fill, stays}
 use Rattle.node_slots.specs.Slots.{PutsBack}
@@ -57,34 +57,34 @@ module _ {k : Shape} {v w : View} {s x n : ℕ} {p : Part} (t : Told k v (acts.F
 module _ {k : Shape} {key value kept leaf : ℕ} {spot : Spot} {v : View} (is : IsSlotOf (Some leaf) v.hands.hand)
     (a : IsAt k (Put key value) kept (at.LeafField spot 0) v) where
   pub fills_key : IsAsked k v (acts.Fill leaf part.Key key)
-  fills_key = needs_leaf_key is a
+  fills_key = needs_leaf 0 is a
 
   module _ {n : ℕ} {w : View} (first : Told k v (acts.Fill leaf part.Key key) n w) where
     is1 : IsSlotOf (Some leaf) w.hands.hand
     is1 = hand_fill first leaf is
 
     pub fills_value : IsAsked k w (acts.Fill leaf part.Value value)
-    fills_value = needs_leaf_value is1 (passes_leaf_key is a first)
+    fills_value = needs_leaf 1 is1 (passes_leaf 0 is a first)
 
     module _ {m : ℕ} {x : View} (second : Told k w (acts.Fill leaf part.Value value) m x) where
       is2 : IsSlotOf (Some leaf) x.hands.hand
       is2 = hand_fill second leaf is1
 
       at2 : IsAt k (Put key value) kept (at.LeafField spot 2) x
-      at2 = passes_leaf_value is1 (passes_leaf_key is a first) second
+      at2 = passes_leaf 1 is1 (passes_leaf 0 is a first) second
 
       pub fills_left : IsAsked k x (acts.Fill leaf (part.Link Left) 0)
-      fills_left = needs_leaf_left is2 at2
+      fills_left = needs_leaf 2 is2 at2
 
       module _ {i : ℕ} {y : View} (third : Told k x (acts.Fill leaf (part.Link Left) 0) i y) where
         is3 : IsSlotOf (Some leaf) y.hands.hand
         is3 = hand_fill third leaf is2
 
         at3 : IsAt k (Put key value) kept (at.LeafField spot 3) y
-        at3 = passes_leaf_left is2 at2 third
+        at3 = passes_leaf 2 is2 at2 third
 
         pub fills_right : IsAsked k y (acts.Fill leaf (part.Link Right) 0)
-        fills_right = needs_leaf_right is3 at3
+        fills_right = needs_leaf 3 is3 at3
 
         module _ {j : ℕ} {z : View} (fourth : Told k y (acts.Fill leaf (part.Link Right) 0) j z) where
           pub filled_hand : IsSlotOf (Some leaf) z.hands.hand
@@ -94,7 +94,7 @@ module _ {k : Shape} {key value kept leaf : ℕ} {spot : Spot} {v : View} (is : 
           filled_goes = goes_stays (goes_stays (goes_stays (goes_fill first) (goes_fill second)) (goes_fill third)) (goes_fill fourth)
 
           pub filled_at : IsAt k (Put key value) kept (at.LeafLock spot) z
-          filled_at = passes_leaf_right is3 at3 fourth
+          filled_at = passes_leaf 3 is3 at3 fourth
 
 -- The slot in hand is put back.
 pub hand_held : (hand : Option Held) (slot : ℕ) → IsSlotOf (Some slot) hand → (held : Held) × (hand ≡ Some held)

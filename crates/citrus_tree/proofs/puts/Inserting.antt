@@ -11,6 +11,7 @@ use Rattle.prcu_marks.proofs.OwnMarks.{entered_for-append}
 use Rattle.prcu_model.specs.declared.operation.Op.{Op}
 use Rattle.prcu_model.specs.declared.operation.Op.TheVariants.{Put}
 use Rattle.prcu_model.specs.declared.operation.Reply.TheVariants.{New, Old, Full}
+use Rattle.prcu_model.specs.declared.operation.Told.{Told}
 use Rattle.prcu_model.specs.Dictionary.{key_of, map_of}
 use Rattle.prcu_model.proofs.ListFacts.{all_append, prefix_trans}
 use Rattle.core_state.specs.declared.shape.Shape.{Shape}
@@ -38,7 +39,7 @@ use Rattle.citrus_tree.specs.Going.{Goes, MayBegin, Searched, Since, Unwaited, W
 use Rattle.citrus_tree.specs.Gone.{AreTries, HasBegunNone, IsOfTry, KeepsWait, NeededRoom, waits_in}
 use Rattle.citrus_tree.specs.Hops.{Records}
 use Rattle.citrus_tree.specs.Lookups.{Looked}
-use Rattle.citrus_tree.specs.Putting.{Links, MakesRoom, Reused, old_stage}
+use Rattle.citrus_tree.specs.Putting.{Links, MakesRoom, Reused, filled_stage, linked_stage, old_stage}
 use Rattle.citrus_tree.specs.Replies.{IsFullNow, Puts}
 use Rattle.citrus_tree.proofs.puts.Filling.{needed_on}
 use Rattle.citrus_tree.proofs.KeepingWaits.{first_later, first_stays, none_begun, none_on, none_yet}
@@ -247,38 +248,42 @@ module _ {k : Shape} {key value : ℕ} {v : View} where
     unlocked = (t.ready 0 few).unlocked
 
     -- the key is there
-    module _ {x : View} (some_place : 1 ≤ k.places) (f : Searched k w key None x) where
+    module _ {answer : Option Spot} (some_place : 1 ≤ k.places) (x : View) (is : answer ≡ None) (searched : Searched k w key answer x) where
+      pub old_found : Searched k w key None x
+      old_found = subst (λ (r : Option Spot). Searched k w key r x) is searched
+
       old_ready : (kept : ℕ) → kept + 4 ≤ v.allowance.tickets → IsAt k (Put key value) kept (old_stage x.hands.hand) x
-      old_ready kept enough = old_at ((t.ready kept enough).at (record { works = f.1.sees.works; some_place = some_place })) f.1
+      old_ready kept enough = old_at ((t.ready kept enough).at (record { works = old_found.1.sees.works; some_place = some_place }))
+          old_found.1
 
       pub may_give_up : StandsAt k (old_stage x.hands.hand) x
       may_give_up = (Put key value, 0, old_ready 0 few)
 
-      pub old_retired : x.hands.retired ≡ w.hands.retired
-      old_retired = (goes_looked f.1).retired
+      pub old_looked : Goes w x (section_of w key)
+      old_looked = goes_looked old_found.1
 
       module _ {y : View} (g : Goes x y []) where
-        pub old_puts : Puts k v key value (record { reply = Old; number = 0 }) y
-        old_puts =
-            let before = since_looked t.since f.1 in
-            let s = since_stays before g in (
+        pub old_puts : {told : Told} → told ≡ record { reply = Old; number = 0 } → Puts k v key value told y
+        old_puts told =
+            let before = since_looked t.since old_found.1 in
+            let s = since_stays before g in subst (λ (r : Told). Puts k v key value r y) (sym told) (
               t.marks ++ section_of w key,
               (
                 refl,
-                record { tried = are_tries s (entered_looked t.since f.1); own = s.gone },
-                (f.0, answered_on before.gone (was_answered f.1 t.since.gone) g.gone refl),
+                record { tried = are_tries s (entered_looked t.since old_found.1); own = s.gone },
+                (old_found.0, answered_on before.gone (was_answered old_found.1 t.since.gone) g.gone refl),
               ),
               needs_room s (no_more y.seen),
             )
 
         pub old_begins : BeginsByLookup v key y
-        old_begins = begins_later (begins_looked t.first f.1) g.gone
+        old_begins = begins_later (begins_looked t.first old_found.1) g.gone
 
         pub old_allowance : KeepsAllowance v y
-        old_allowance = (since_stays (since_looked t.since f.1) g).gone.allowance
+        old_allowance = (since_stays (since_looked t.since old_found.1) g).gone.allowance
 
         pub old_wait : KeepsWait v y
-        old_wait = keeps_wait (since_stays (since_looked t.since f.1) g) y (none_yet y)
+        old_wait = keeps_wait (since_stays (since_looked t.since old_found.1) g) y (none_yet y)
 
         module _ (ends : Comes k (old_stage x.hands.hand) x at.Finished y) where
           pub old_quiet : IsQuiet y
@@ -289,48 +294,53 @@ module _ {k : Shape} {key value : ℕ} {v : View} where
               (old_ready (v.allowance.tickets - 4) (omega arith))) in omega arith)
 
     -- it isn't
-    module _ {x : View} (some_place : 1 ≤ k.places) (spot : Spot) (f : Searched k w key (Some spot) x) where
+    module _ {answer : Option Spot} {spot : Spot} (some_place : 1 ≤ k.places) (x : View) (is : answer ≡ Some spot)
+        (searched : Searched k w key answer x) where
+      pub spot_found : Searched k w key (Some spot) x
+      spot_found = subst (λ (r : Option Spot). Searched k w key r x) is searched
+
       spot_ready : (kept : ℕ) → kept + 4 ≤ v.allowance.tickets → IsAt k (Put key value) kept (leaf_stage x.hands.hand spot) x
       spot_ready kept enough = spot_at ((t.ready kept enough).at
-          (record { works = f.0.sees.works; some_place = some_place })) f.0 f.1 f.2.inside
+          (record { works = spot_found.0.sees.works; some_place = some_place })) spot_found.0 spot_found.1 spot_found.2.inside
 
       pub may_take_leaf : (c : ℕ) × (s : Spot) × IsAt k (Put key value) c (leaf_stage x.hands.hand s) x
       may_take_leaf = (0, spot, spot_ready 0 few)
 
-      pub spot_retired : x.hands.retired ≡ w.hands.retired
-      spot_retired = (goes_looked f.0).retired
+      pub spot_looked : Goes w x (section_of w key)
+      spot_looked = goes_looked spot_found.0
 
       module _ {y : View} (room : MakesRoom k x y) where
         left : (more : List Mark) × HasGone x y more × ((p s : ℕ) → entered_for p s more ≡ 0)
         left = room_leaves room
 
         abbrev tried : List Mark
-        tried = (t.marks ++ section_of w key) ++ (since_room (since_looked t.since f.0) room).0
+        tried = (t.marks ++ section_of w key) ++ (since_room (since_looked t.since spot_found.0) room).0
 
         since : Since k v key tried y
-        since = (since_room (since_looked t.since f.0) room).1
+        since = (since_room (since_looked t.since spot_found.0) room).1
 
         entered : 1 ≤ entered_for v.allowance.place key tried
         entered =
             let split = entered_for-append v.allowance.place key (t.marks ++ section_of w key)
-            (since_room (since_looked t.since f.0) room).0 in
-            let some = entered_looked t.since f.0 in
+            (since_room (since_looked t.since spot_found.0) room).0 in
+            let some = entered_looked t.since spot_found.0 in
             omega arith
 
-        pub full_puts : IsFullNow k y → Puts k v key value (record { reply = Full; number = 0 }) y
-        full_puts full = (
+        pub full_puts : {told : Told} → IsFullNow k y → told ≡ record { reply = Full; number = 0 } → Puts k v key value told y
+        full_puts full told = subst (λ (r : Told). Puts k v key value r y) (sym told) (
           tried,
           (
             refl,
             record { tried = are_tries since entered; own = since.gone },
-            answered_on (since_looked t.since f.0).gone (was_answered f.0 t.since.gone) left.1 (left.2 v.allowance.place key),
+            answered_on (since_looked t.since spot_found.0).gone (was_answered spot_found.0 t.since.gone) left.1 (left.2 v.allowance.place
+                key),
             full,
           ),
           needs_room since (no_more y.seen),
         )
 
         pub full_begins : BeginsByLookup v key y
-        full_begins = begins_later (begins_looked t.first f.0) left.1
+        full_begins = begins_later (begins_looked t.first spot_found.0) left.1
 
         pub full_allowance : KeepsAllowance v y
         full_allowance = since.gone.allowance
@@ -338,39 +348,45 @@ module _ {k : Shape} {key value : ℕ} {v : View} where
         pub full_wait : KeepsWait v y
         full_wait = keeps_wait since y (none_yet y)
 
-        module _ (ends : (c : ℕ) (s : Spot) → IsAt k (Put key value) c (leaf_stage x.hands.hand s) x
-            → IsAt k (Put key value) c at.Finished y) where
+        module _ {leaf : Option ℕ} (none : leaf ≡ None) (comes : (c : ℕ) (s : Spot)
+            → IsAt k (Put key value) c (leaf_stage x.hands.hand s) x → IsAt k (Put key value) c (filled_stage leaf s) y) where
+          full_done : (kept : ℕ) → kept + 4 ≤ v.allowance.tickets → IsAt k (Put key value) kept at.Finished y
+          full_done kept enough = subst (λ r. IsAt k (Put key value) kept (filled_stage r spot) y) none
+              (comes kept spot (spot_ready kept enough))
+
           pub full_quiet : IsQuiet y
-          full_quiet = is_quiet (ends 0 spot (spot_ready 0 few))
+          full_quiet = is_quiet (full_done 0 few)
 
           pub full_tickets : v.allowance.tickets ≤ y.allowance.tickets + 4
-          full_tickets = (let left = has_kept (ends (v.allowance.tickets - 4) spot (spot_ready (v.allowance.tickets - 4) (omega arith))) in
-              omega arith)
+          full_tickets = (let left = has_kept (full_done (v.allowance.tickets - 4) (omega arith)) in omega arith)
 
         -- a filled slot is in hand
-        module _ (filled : (c : ℕ) (s : Spot) → IsAt k (Put key value) c (leaf_stage x.hands.hand s) x
-            → IsAt k (Put key value) c (at.LeafLock s) y) where
+        module _ {leaf : Option ℕ} {slot : ℕ} (some : leaf ≡ Some slot) (comes : (c : ℕ) (s : Spot)
+            → IsAt k (Put key value) c (leaf_stage x.hands.hand s) x → IsAt k (Put key value) c (filled_stage leaf s) y) where
           locking : (kept : ℕ) → kept + 4 ≤ v.allowance.tickets → IsAt k (Put key value) kept (at.LeafLock spot) y
-          locking kept enough = filled kept spot (spot_ready kept enough)
+          locking kept enough = subst (λ r. IsAt k (Put key value) kept (filled_stage r spot) y) some
+              (comes kept spot (spot_ready kept enough))
 
           pub may_link : (c : ℕ) × IsAt k (Put key value) c (at.LeafLock spot) y
           may_link = (0, locking 0 few)
 
           -- it wasn't linked
-          pub tries_again : {z : View} → Goes y z [] → ((c : ℕ) → IsAt k (Put key value) c (at.LeafLock spot) y
-              → IsAt k (Put key value) c at.EnterClock z) → Trying k key value v z
-          tries_again g again = record {
+          pub tries_again : {z : View} {number : Option ℕ} → Goes y z [] → number ≡ None
+              → ((c : ℕ) → IsAt k (Put key value) c (at.LeafLock spot) y → IsAt k (Put key value) c (linked_stage number) z)
+              → Trying k key value v z
+          tries_again {z} g none again = record {
             marks = tried;
             since = since_stays since g;
             first = inr (begins_later full_begins g.gone);
-            ready = λ kept enough. may_begin (again kept (locking kept enough));
+            ready = λ kept enough. may_begin (subst (λ r. IsAt k (Put key value) kept (linked_stage r) z) none
+                (again kept (locking kept enough)));
           }
 
           -- it was linked
-          module _ {z : View} (number : ℕ) (made : (c n : ℕ) → IsAt k (Put key value) c (at.LeafLock spot) y
-              → ◌≡◌ {A = Option ℕ} (Some number) (Some n) → Links y key value n z) where
+          module _ {z : View} {answered : Option ℕ} {number : ℕ} (one : answered ≡ Some number)
+              (made : (c n : ℕ) → IsAt k (Put key value) c (at.LeafLock spot) y → answered ≡ Some n → Links y key value n z) where
             linked : Links y key value number z
-            linked = made 0 number (locking 0 few) refl
+            linked = made 0 number (locking 0 few) one
 
             same_place : y.allowance.place ≡ v.allowance.place
             same_place = since.gone.same
@@ -393,8 +409,8 @@ module _ {k : Shape} {key value : ℕ} {v : View} where
                   ∙ (λ i. linked.0 ++ Done (record { caller = same_place i; op = Put key value }) ∷ [])),
             )
 
-            pub new_puts : Puts k v key value (record { reply = New; number = number }) z
-            new_puts = (
+            pub new_puts : {told : Told} → told ≡ record { reply = New; number = number } → Puts k v key value told z
+            new_puts told = subst (λ (r : Told). Puts k v key value r z) (sym told) (
               tried,
               (
                 linked.0,
@@ -427,10 +443,13 @@ module _ {k : Shape} {key value : ℕ} {v : View} where
             pub new_wait : KeepsWait v z
             new_wait = keeps_wait since z (none_begun linked.1.goes.gone linked.1.goes.waits linked.1.goes.wait)
 
-            module _ (ends : (c : ℕ) → IsAt k (Put key value) c (at.LeafLock spot) y → IsAt k (Put key value) c at.Finished z) where
+            module _ (last : (c : ℕ) → IsAt k (Put key value) c (at.LeafLock spot) y
+                → IsAt k (Put key value) c (linked_stage answered) z) where
+              new_done : (kept : ℕ) → kept + 4 ≤ v.allowance.tickets → IsAt k (Put key value) kept at.Finished z
+              new_done kept enough = subst (λ r. IsAt k (Put key value) kept (linked_stage r) z) one (last kept (locking kept enough))
+
               pub new_quiet : IsQuiet z
-              new_quiet = is_quiet (ends 0 (locking 0 few))
+              new_quiet = is_quiet (new_done 0 few)
 
               pub new_tickets : v.allowance.tickets ≤ z.allowance.tickets + 4
-              new_tickets = (let left = has_kept (ends (v.allowance.tickets - 4) (locking (v.allowance.tickets - 4) (omega arith))) in
-                  omega arith)
+              new_tickets = (let left = has_kept (new_done (v.allowance.tickets - 4) (omega arith)) in omega arith)

@@ -10,6 +10,7 @@ use Rattle.prcu_model.specs.declared.operation.Op.TheVariants.{Set}
 use Rattle.prcu_model.specs.declared.operation.Reply.TheVariants.{Absent, Was}
 use Rattle.prcu_model.specs.Dictionary.{key_of}
 use Rattle.prcu_model.proofs.ListFacts.{all_append, prefix_trans}
+use Rattle.prcu_model.specs.declared.operation.Told.{Told}
 use Rattle.core_state.specs.declared.shape.Shape.{Shape}
 use Rattle.core_state.specs.declared.view.Retired.{Retired}
 use Rattle.core_state.specs.declared.view.View.{View}
@@ -23,7 +24,7 @@ use Rattle.tree_points.proofs.Ends.{begins_set, has_kept, is_quiet}
 use Rattle.tree_points.proofs.Standing.{outside_enter, unlocked_enter}
 use Rattle.citrus_tree.specs.declared.replace.Holder.{Holder}
 use Rattle.citrus_tree.specs.declared.replace.Replaced.{Replaced}
-use Rattle.citrus_tree.specs.Going.{Goes, MayBegin, Sought, Stores}
+use Rattle.citrus_tree.specs.Going.{Goes, MayBegin, Sought, Stores, set_stage}
 use Rattle.citrus_tree.specs.Gone.{AreTries, IsOfTry, KeepsWait, waits_in}
 use Rattle.citrus_tree.specs.Lookups.{Looked}
 use Rattle.citrus_tree.specs.Beginnings.{BeginsByLookup}
@@ -127,8 +128,8 @@ module _ {k : Shape} {key value : ℕ} {v : View} where
       }
 
       -- the key is absent
-      pub absent_sets : answer ≡ None → Sets v key value (record { reply = Absent; number = 0 }) x
-      absent_sets e = (
+      pub absent_sets : {told : Told} → answer ≡ None → told ≡ record { reply = Absent; number = 0 } → Sets v key value told x
+      absent_sets e told = subst (λ (r : Told). Sets v key value r x) (sym told) (
         t.marks ++ (Entered w.allowance.place w.counts.sections key ∷ (LeftMark w.allowance.place w.counts.sections ∷ [])),
         (refl, record { tried = tries; own = goes.gone }, subst (λ a. WasAnswered v key a x) e (was_answered l t.goes.gone)),
         none,
@@ -158,40 +159,46 @@ module _ {k : Shape} {key value : ℕ} {v : View} where
       absent_wait = inl (none_begun goes.gone goes.waits goes.wait)
 
     -- the key is there
-    module _ {x : View} {holder : Holder} (some_place : 1 ≤ k.places) (f : Sought k w key (Some holder) x) where
+    module _ {answer : Option Holder} {holder : Holder} (some_place : 1 ≤ k.places) (x : View) (is : answer ≡ Some holder)
+        (sought : Sought k w key answer x) where
+      found : Sought k w key (Some holder) x
+      found = subst (λ (r : Option Holder). Sought k w key r x) is sought
+
       pub locking : (kept : ℕ) → kept + 4 ≤ v.allowance.tickets → IsAt k (Set key value) kept (at.SetLock holder.slot holder.generation) x
-      locking kept enough = at_lock ((t.ready kept enough).at (record { works = f.looked.sees.works; some_place = some_place })) f.looked
-          (f.parent, f.side, f.state_is) f.generation_is f.slot_is.inside
+      locking kept enough = at_lock ((t.ready kept enough).at (record { works = found.looked.sees.works; some_place = some_place }))
+          found.looked (found.parent, found.side, found.state_is) found.generation_is found.slot_is.inside
 
       pub may_store : (b : ℕ) × IsAt k (Set key value) b (at.SetLock holder.slot holder.generation) x
       may_store = (0, locking 0 few)
 
       -- the store wasn't made
-      pub tries_again : {y : View} → Goes x y [] → ((b : ℕ) → IsAt k (Set key value) b (at.SetLock holder.slot holder.generation) x
-          → IsAt k (Set key value) b at.EnterClock y) → Trying k (Set key value) v y
-      tries_again g again = record {
+      pub tries_again : {y : View} {done : Option Replaced} → Goes x y [] → done ≡ None
+          → ((b : ℕ) → IsAt k (Set key value) b (at.SetLock holder.slot holder.generation) x → IsAt k (Set key value) b (set_stage done) y)
+          → Trying k (Set key value) v y
+      tries_again {y} g unmade again = record {
         marks = t.marks ++ (Entered w.allowance.place w.counts.sections key ∷ (LeftMark w.allowance.place w.counts.sections ∷ []));
-        goes = goes_stays (goes f.looked) g;
-        each = each f.looked;
-        none = none f.looked;
-        first = inr (begins_later (begins_looked t.first f.looked) g.gone);
-        ready = λ kept enough. may_begin (again kept (locking kept enough));
+        goes = goes_stays (goes found.looked) g;
+        each = each found.looked;
+        none = none found.looked;
+        first = inr (begins_later (begins_looked t.first found.looked) g.gone);
+        ready = λ kept enough. may_begin (subst (λ r. IsAt k (Set key value) kept (set_stage r) y) unmade
+            (again kept (locking kept enough)));
       }
 
       -- it was made
-      module _ {y : View} {done_as : Replaced}
-          (s : (b : ℕ) (r : Replaced) → IsAt k (Set key value) b (at.SetLock holder.slot holder.generation) x
-          → ◌≡◌ {A = Option Replaced} (Some done_as) (Some r) → Stores x key value r y)
+      module _ {y : View} {answered : Option Replaced} {done_as : Replaced} (one : answered ≡ Some done_as)
+          (s : (b : ℕ) (r : Replaced) → IsAt k (Set key value) b (at.SetLock holder.slot holder.generation) x → answered ≡ Some r
+          → Stores x key value r y)
           (at_done : (b : ℕ) → IsAt k (Set key value) b (at.SetLock holder.slot holder.generation) x
-          → IsAt k (Set key value) b at.Finished y) where
+          → IsAt k (Set key value) b (set_stage answered) y) where
         is_stored : Stores x key value done_as y
-        is_stored = s 0 done_as (locking 0 few) refl
+        is_stored = s 0 done_as (locking 0 few) one
 
         same_place : x.allowance.place ≡ v.allowance.place
-        same_place = (goes f.looked).gone.same
+        same_place = (goes found.looked).gone.same
 
         pub stored_begins : BeginsByLookup v key y
-        stored_begins = begins_later (begins_looked t.first f.looked) is_stored.1.goes.gone
+        stored_begins = begins_later (begins_looked t.first found.looked) is_stored.1.goes.gone
 
         pub goes_all : Goes v y ((t.marks ++ (Entered w.allowance.place w.counts.sections key
             ∷ (LeftMark w.allowance.place w.counts.sections ∷ [])))
@@ -199,19 +206,19 @@ module _ {k : Shape} {key value : ℕ} {v : View} where
         goes_all = subst (λ (p : ℕ). Goes v y ((t.marks
             ++ (Entered w.allowance.place w.counts.sections key ∷ (LeftMark w.allowance.place w.counts.sections ∷ [])))
             ++ Done (record { caller = p; op = Set key value }) ∷ [])) same_place
-            (goes_on (goes f.looked) is_stored.1.goes)
+            (goes_on (goes found.looked) is_stored.1.goes)
 
-        pub stored_sets : Sets v key value (record { reply = Was done_as.old; number = done_as.number }) y
-        stored_sets = (
+        pub stored_sets : {told : Told} → told ≡ record { reply = Was done_as.old; number = done_as.number } → Sets v key value told y
+        stored_sets told = subst (λ (r : Told). Sets v key value r y) (sym told) (
           t.marks ++ (Entered w.allowance.place w.counts.sections key ∷ (LeftMark w.allowance.place w.counts.sections ∷ [])),
           (
             is_stored.0,
             record {
-              tried = tries f.looked;
+              tried = tries found.looked;
               own = subst (HasGone v y) (sym (append-nil
                   ((t.marks ++ (Entered w.allowance.place w.counts.sections key ∷ (LeftMark w.allowance.place w.counts.sections ∷ [])))
                   ++ Done (record { caller = v.allowance.place; op = Set key value }) ∷ []))) goes_all.gone;
-              since = prefix_trans v.seen x.seen is_stored.0 (goes f.looked).gone.begins is_stored.1.since;
+              since = prefix_trans v.seen x.seen is_stored.0 (goes found.looked).gone.begins is_stored.1.since;
               stands = (
                 [],
                 append-nil (is_stored.0 ++ Done (record { caller = v.allowance.place; op = Set key value }) ∷ [])
@@ -222,11 +229,11 @@ module _ {k : Shape} {key value : ℕ} {v : View} where
             },
             is_stored.2,
           ),
-          none f.looked,
+          none found.looked,
         )
 
         finished : (kept : ℕ) → kept + 4 ≤ v.allowance.tickets → IsDone k (Set key value) kept y
-        finished kept enough = at_done kept (locking kept enough)
+        finished kept enough = subst (λ r. IsAt k (Set key value) kept (set_stage r) y) one (at_done kept (locking kept enough))
 
         pub stored_quiet : IsQuiet y
         stored_quiet = is_quiet (finished 0 few)

@@ -1,17 +1,7 @@
-use Rattle.prcu_model.specs.declared.operation.Op.TheVariants.{Put}
-use Rattle.tree_points.specs.At.{IsAt}
-use Rattle.citrus_tree.specs.Putting.{filled_stage, linked_stage}
-use Rattle.citrus_tree.specs.Going.{Searched}
-use Rattle.core_points.specs.declared.stage.Spot.{Spot}
-use Rattle.std.specs.declared.option.Option.{Option}
-use Rattle.std.proofs.Common.{[], refl, sym, subst, ◌∙◌}
-use Rattle.prcu_model.specs.declared.operation.Told.{Told}
-use Rattle.seat_table.specs.Seats.{shape_of}
-use Rattle.citrus_tree.specs.Replies.{Puts}
-use Rattle.citrus_tree.proofs.puts.Inserting.{begins, outside, unlocked, may_give_up, old_retired, old_puts, old_allowance, old_begins, old_wait, old_quiet, old_tickets, may_take_leaf, spot_retired, full_puts, full_allowance, full_begins, full_wait, full_quiet, full_tickets, may_link, tries_again, new_goes, new_puts, new_retired, new_allowance, new_begins, new_wait, new_quiet, new_tickets}
+use Rattle.std.proofs.Common.{[], refl, ◌∙◌}
+use Rattle.citrus_tree.proofs.puts.Inserting.{begins, outside, unlocked, may_give_up, old_found, old_looked, old_puts, old_allowance, old_begins, old_wait, old_quiet, old_tickets, may_take_leaf, spot_looked, full_puts, full_allowance, full_begins, full_wait, full_quiet, full_tickets, may_link, tries_again, new_goes, new_puts, new_retired, new_allowance, new_begins, new_wait, new_quiet, new_tickets}
 use Rattle.citrus_tree.proofs.sets.Replacing.{listed_on}
 use Rattle.citrus_tree.proofs.KeepingSlots.{goes_slots, slots_on, slots_self}
-use Rattle.citrus_tree.proofs.Leavings.{goes_looked}
 use Rattle.citrus_tree.proofs.insert.put.Goals as goal
 
 pub loop-init : goal.loop-init
@@ -29,255 +19,159 @@ pub find_spot-requires-clause-unlocked : goal.find_spot-requires-clause-unlocked
 find_spot-requires-clause-unlocked g c = unlocked c.loop.invariant.tries c.requires.tickets
 
 pub give_up_leaf-requires-clause-at : goal.give_up_leaf-requires-clause-at
-give_up_leaf-requires-clause-at g c = may_give_up c.loop.invariant.tries c.requires.tickets c.in_ok-spot.ensures.place
-    (subst (λ (r : Option Spot). Searched
-    (shape_of g.W.WaitWords.WAY c.args.table.now) c.loop.seat.view c.args.key r c.find_spot.new.seat.view) c.in_default.is
-    c.in_ok-spot.ensures.searched)
+give_up_leaf-requires-clause-at g c = may_give_up c.loop.invariant.tries c.requires.tickets c.in_ok-spot.ensures.place _ c.in_default.is
+    c.in_ok-spot.ensures.searched
 
 pub give_up_leaf-requires-clause-informed : goal.give_up_leaf-requires-clause-informed
-give_up_leaf-requires-clause-informed g c = (subst
-    (λ (r : Option Spot). Searched
-    (shape_of g.W.WaitWords.WAY c.args.table.now) c.loop.seat.view c.args.key r c.find_spot.new.seat.view) c.in_default.is
+give_up_leaf-requires-clause-informed g c = (old_found c.loop.invariant.tries c.requires.tickets c.in_ok-spot.ensures.place _
+    c.in_default.is
     c.in_ok-spot.ensures.searched).1.informed
 
 pub returns-in_default-clause-puts : goal.returns-in_default-clause-puts
-returns-in_default-clause-puts g c = subst (λ (r : Told). Puts
-    (shape_of g.W.WaitWords.WAY c.args.table.now) c.args.seat.now.view c.args.key c.args.value r c.give_up_leaf.new.seat.view)
-    (sym c.answered.ensures)
-    (old_puts c.loop.invariant.tries c.requires.tickets c.in_ok-spot.ensures.place
-    (subst (λ (r : Option Spot). Searched
-    (shape_of g.W.WaitWords.WAY c.args.table.now) c.loop.seat.view c.args.key r c.find_spot.new.seat.view) c.in_default.is
-    c.in_ok-spot.ensures.searched) c.give_up_leaf.ensures.goes)
+returns-in_default-clause-puts g c = old_puts c.loop.invariant.tries c.requires.tickets c.in_ok-spot.ensures.place _ c.in_default.is
+    c.in_ok-spot.ensures.searched c.give_up_leaf.ensures.goes c.answered.ensures
 
 pub returns-in_default-clause-quiet : goal.returns-in_default-clause-quiet
 returns-in_default-clause-quiet g c = record {
-  view = old_quiet c.loop.invariant.tries c.requires.tickets c.in_ok-spot.ensures.place
-      (subst (λ (r : Option Spot). Searched
-      (shape_of g.W.WaitWords.WAY c.args.table.now) c.loop.seat.view c.args.key r c.find_spot.new.seat.view) c.in_default.is
-      c.in_ok-spot.ensures.searched) c.give_up_leaf.ensures.goes c.give_up_leaf.ensures.at;
+  view = old_quiet c.loop.invariant.tries c.requires.tickets c.in_ok-spot.ensures.place _ c.in_default.is c.in_ok-spot.ensures.searched
+      c.give_up_leaf.ensures.goes c.give_up_leaf.ensures.at;
   listed = listed_on c.loop.seat c.give_up_leaf.new.seat (c.give_up_leaf.ensures.seat.1 ∙ c.find_spot.ensures.seat.1)
-      (c.give_up_leaf.ensures.goes.retired ∙ old_retired c.loop.invariant.tries c.requires.tickets c.in_ok-spot.ensures.place
-      (subst (λ (r : Option Spot). Searched
-      (shape_of g.W.WaitWords.WAY c.args.table.now) c.loop.seat.view c.args.key r c.find_spot.new.seat.view) c.in_default.is
-      c.in_ok-spot.ensures.searched)) c.loop.invariant.listed;
+      (c.give_up_leaf.ensures.goes.retired ∙ (old_looked c.loop.invariant.tries c.requires.tickets c.in_ok-spot.ensures.place _
+      c.in_default.is c.in_ok-spot.ensures.searched).retired) c.loop.invariant.listed;
 }
 
 pub returns-in_default-clause-wait : goal.returns-in_default-clause-wait
-returns-in_default-clause-wait g c = old_wait c.loop.invariant.tries c.requires.tickets c.in_ok-spot.ensures.place
-    (subst (λ (r : Option Spot). Searched
-    (shape_of g.W.WaitWords.WAY c.args.table.now) c.loop.seat.view c.args.key r c.find_spot.new.seat.view) c.in_default.is
-    c.in_ok-spot.ensures.searched) c.give_up_leaf.ensures.goes
+returns-in_default-clause-wait g c = old_wait c.loop.invariant.tries c.requires.tickets c.in_ok-spot.ensures.place _ c.in_default.is
+    c.in_ok-spot.ensures.searched c.give_up_leaf.ensures.goes
 
 pub returns-in_default-clause-tickets : goal.returns-in_default-clause-tickets
-returns-in_default-clause-tickets g c = old_tickets c.loop.invariant.tries c.requires.tickets c.in_ok-spot.ensures.place
-    (subst (λ (r : Option Spot). Searched
-    (shape_of g.W.WaitWords.WAY c.args.table.now) c.loop.seat.view c.args.key r c.find_spot.new.seat.view) c.in_default.is
-    c.in_ok-spot.ensures.searched) c.give_up_leaf.ensures.goes c.give_up_leaf.ensures.at
+returns-in_default-clause-tickets g c = old_tickets c.loop.invariant.tries c.requires.tickets c.in_ok-spot.ensures.place _ c.in_default.is
+    c.in_ok-spot.ensures.searched c.give_up_leaf.ensures.goes c.give_up_leaf.ensures.at
 
 pub leaf_in_hand-requires-clause-listed : goal.leaf_in_hand-requires-clause-listed
 leaf_in_hand-requires-clause-listed g c = listed_on c.loop.seat c.find_spot.new.seat c.find_spot.ensures.seat.1
-    (spot_retired c.loop.invariant.tries c.requires.tickets c.in_ok-spot.ensures.place c.in-Some.spot
-    (subst (λ (r : Option Spot). Searched
-    (shape_of g.W.WaitWords.WAY c.args.table.now) c.loop.seat.view c.args.key r c.find_spot.new.seat.view) c.in-Some.is
-    c.in_ok-spot.ensures.searched)) c.loop.invariant.listed
+    (spot_looked c.loop.invariant.tries c.requires.tickets c.in_ok-spot.ensures.place _ c.in-Some.is c.in_ok-spot.ensures.searched).retired
+    c.loop.invariant.listed
 
 pub leaf_in_hand-requires-clause-at : goal.leaf_in_hand-requires-clause-at
-leaf_in_hand-requires-clause-at g c = may_take_leaf c.loop.invariant.tries c.requires.tickets c.in_ok-spot.ensures.place c.in-Some.spot
-    (subst (λ (r : Option Spot). Searched
-    (shape_of g.W.WaitWords.WAY c.args.table.now) c.loop.seat.view c.args.key r c.find_spot.new.seat.view) c.in-Some.is
-    c.in_ok-spot.ensures.searched)
+leaf_in_hand-requires-clause-at g c = may_take_leaf c.loop.invariant.tries c.requires.tickets c.in_ok-spot.ensures.place _ c.in-Some.is
+    c.in_ok-spot.ensures.searched
 
 pub returns-in_default-2-clause-puts : goal.returns-in_default-2-clause-puts
-returns-in_default-2-clause-puts g c = subst (λ (r : Told). Puts
-    (shape_of g.W.WaitWords.WAY c.args.table.now) c.args.seat.now.view c.args.key c.args.value r c.leaf_in_hand.new.seat.view)
-    (sym c.answered-in_default-2.ensures)
-    (full_puts c.loop.invariant.tries c.requires.tickets c.in_ok-spot.ensures.place c.in-Some.spot
-    (subst (λ (r : Option Spot). Searched
-    (shape_of g.W.WaitWords.WAY c.args.table.now) c.loop.seat.view c.args.key r c.find_spot.new.seat.view) c.in-Some.is
-    c.in_ok-spot.ensures.searched) c.in_ok-leaf.ensures.room (c.in_ok-leaf.ensures.full c.in_default-2.is))
+returns-in_default-2-clause-puts g c = full_puts c.loop.invariant.tries c.requires.tickets c.in_ok-spot.ensures.place _ c.in-Some.is
+    c.in_ok-spot.ensures.searched c.in_ok-leaf.ensures.room (c.in_ok-leaf.ensures.full c.in_default-2.is) c.answered-in_default-2.ensures
 
 pub returns-in_default-2-clause-quiet : goal.returns-in_default-2-clause-quiet
 returns-in_default-2-clause-quiet g c = record {
   view =
-      full_quiet c.loop.invariant.tries c.requires.tickets c.in_ok-spot.ensures.place c.in-Some.spot
-      (subst (λ (r : Option Spot). Searched
-      (shape_of g.W.WaitWords.WAY c.args.table.now) c.loop.seat.view c.args.key r c.find_spot.new.seat.view) c.in-Some.is
-      c.in_ok-spot.ensures.searched) c.in_ok-leaf.ensures.room
-      (λ kept spot a. subst (λ r. IsAt (shape_of g.W.WaitWords.WAY c.args.table.now) (Put c.args.key c.args.value) kept
-      (filled_stage r spot) c.leaf_in_hand.new.seat.view) c.in_default-2.is (c.in_ok-leaf.ensures.at kept spot a));
+      full_quiet c.loop.invariant.tries c.requires.tickets c.in_ok-spot.ensures.place _ c.in-Some.is c.in_ok-spot.ensures.searched
+      c.in_ok-leaf.ensures.room c.in_default-2.is c.in_ok-leaf.ensures.at;
   listed = c.in_ok-leaf.ensures.listed;
 }
 
 pub returns-in_default-2-clause-wait : goal.returns-in_default-2-clause-wait
-returns-in_default-2-clause-wait g c = full_wait c.loop.invariant.tries c.requires.tickets c.in_ok-spot.ensures.place c.in-Some.spot
-    (subst (λ (r : Option Spot). Searched
-    (shape_of g.W.WaitWords.WAY c.args.table.now) c.loop.seat.view c.args.key r c.find_spot.new.seat.view) c.in-Some.is
-    c.in_ok-spot.ensures.searched) c.in_ok-leaf.ensures.room
+returns-in_default-2-clause-wait g c = full_wait c.loop.invariant.tries c.requires.tickets c.in_ok-spot.ensures.place _ c.in-Some.is
+    c.in_ok-spot.ensures.searched c.in_ok-leaf.ensures.room
 
 pub returns-in_default-2-clause-tickets : goal.returns-in_default-2-clause-tickets
-returns-in_default-2-clause-tickets g c = full_tickets c.loop.invariant.tries c.requires.tickets c.in_ok-spot.ensures.place c.in-Some.spot
-    (subst (λ (r : Option Spot). Searched
-    (shape_of g.W.WaitWords.WAY c.args.table.now) c.loop.seat.view c.args.key r c.find_spot.new.seat.view) c.in-Some.is
-    c.in_ok-spot.ensures.searched) c.in_ok-leaf.ensures.room
-    (λ kept spot a. subst (λ r. IsAt (shape_of g.W.WaitWords.WAY c.args.table.now) (Put c.args.key c.args.value) kept
-    (filled_stage r spot) c.leaf_in_hand.new.seat.view) c.in_default-2.is (c.in_ok-leaf.ensures.at kept spot a))
+returns-in_default-2-clause-tickets g c = full_tickets c.loop.invariant.tries c.requires.tickets c.in_ok-spot.ensures.place _ c.in-Some.is
+    c.in_ok-spot.ensures.searched c.in_ok-leaf.ensures.room c.in_default-2.is c.in_ok-leaf.ensures.at
 
 pub link_leaf-requires-clause-at : goal.link_leaf-requires-clause-at
-link_leaf-requires-clause-at g c = may_link c.loop.invariant.tries c.requires.tickets c.in_ok-spot.ensures.place c.in-Some.spot
-    (subst (λ (r : Option Spot). Searched
-    (shape_of g.W.WaitWords.WAY c.args.table.now) c.loop.seat.view c.args.key r c.find_spot.new.seat.view) c.in-Some.is
-    c.in_ok-spot.ensures.searched) c.in_ok-leaf.ensures.room
-    (λ kept spot a. subst (λ r. IsAt (shape_of g.W.WaitWords.WAY c.args.table.now) (Put c.args.key c.args.value) kept
-    (filled_stage r spot) c.leaf_in_hand.new.seat.view) c.in-Some-2.is (c.in_ok-leaf.ensures.at kept spot a))
+link_leaf-requires-clause-at g c = may_link c.loop.invariant.tries c.requires.tickets c.in_ok-spot.ensures.place _ c.in-Some.is
+    c.in_ok-spot.ensures.searched c.in_ok-leaf.ensures.room c.in-Some-2.is c.in_ok-leaf.ensures.at
 
 pub returns-in-Some-3-clause-puts : goal.returns-in-Some-3-clause-puts
-returns-in-Some-3-clause-puts g c = subst (λ (r : Told). Puts
-    (shape_of g.W.WaitWords.WAY c.args.table.now) c.args.seat.now.view c.args.key c.args.value r c.link_leaf.new.seat.view)
-    (sym c.answered-in-Some-3.ensures)
-    (new_puts c.loop.invariant.tries c.requires.tickets c.in_ok-spot.ensures.place c.in-Some.spot
-    (subst (λ (r : Option Spot). Searched
-    (shape_of g.W.WaitWords.WAY c.args.table.now) c.loop.seat.view c.args.key r c.find_spot.new.seat.view) c.in-Some.is
-    c.in_ok-spot.ensures.searched) c.in_ok-leaf.ensures.room
-    (λ kept spot a. subst (λ r. IsAt (shape_of g.W.WaitWords.WAY c.args.table.now) (Put c.args.key c.args.value) kept
-    (filled_stage r spot) c.leaf_in_hand.new.seat.view) c.in-Some-2.is (c.in_ok-leaf.ensures.at kept spot a)) c.in-Some-3.number
-    (λ kept number a e. c.in_ok-number.ensures.linked kept number a (c.in-Some-3.is ∙ e)))
+returns-in-Some-3-clause-puts g c = new_puts c.loop.invariant.tries c.requires.tickets c.in_ok-spot.ensures.place _ c.in-Some.is
+    c.in_ok-spot.ensures.searched c.in_ok-leaf.ensures.room
+    c.in-Some-2.is c.in_ok-leaf.ensures.at c.in-Some-3.is c.in_ok-number.ensures.linked c.answered-in-Some-3.ensures
 
 pub returns-in-Some-3-clause-quiet : goal.returns-in-Some-3-clause-quiet
 returns-in-Some-3-clause-quiet g c = record {
-  view = new_quiet c.loop.invariant.tries c.requires.tickets c.in_ok-spot.ensures.place c.in-Some.spot
-      (subst (λ (r : Option Spot). Searched
-      (shape_of g.W.WaitWords.WAY c.args.table.now) c.loop.seat.view c.args.key r c.find_spot.new.seat.view) c.in-Some.is
-      c.in_ok-spot.ensures.searched) c.in_ok-leaf.ensures.room
-      (λ kept spot a. subst (λ r. IsAt (shape_of g.W.WaitWords.WAY c.args.table.now) (Put c.args.key c.args.value) kept
-      (filled_stage r spot) c.leaf_in_hand.new.seat.view) c.in-Some-2.is (c.in_ok-leaf.ensures.at kept spot a)) c.in-Some-3.number
-      (λ kept number a e. c.in_ok-number.ensures.linked kept number a (c.in-Some-3.is ∙ e))
-      (λ kept a. subst (λ r. IsAt (shape_of g.W.WaitWords.WAY c.args.table.now) (Put c.args.key c.args.value) kept
-      (linked_stage r) c.link_leaf.new.seat.view) c.in-Some-3.is (c.in_ok-number.ensures.at kept a));
+  view = new_quiet c.loop.invariant.tries c.requires.tickets c.in_ok-spot.ensures.place _ c.in-Some.is c.in_ok-spot.ensures.searched
+      c.in_ok-leaf.ensures.room c.in-Some-2.is c.in_ok-leaf.ensures.at c.in-Some-3.is c.in_ok-number.ensures.linked
+      c.in_ok-number.ensures.at;
   listed = listed_on c.leaf_in_hand.new.seat c.link_leaf.new.seat c.link_leaf.ensures.seat.1
-      (new_retired c.loop.invariant.tries c.requires.tickets c.in_ok-spot.ensures.place c.in-Some.spot
-      (subst (λ (r : Option Spot). Searched
-      (shape_of g.W.WaitWords.WAY c.args.table.now) c.loop.seat.view c.args.key r c.find_spot.new.seat.view) c.in-Some.is
-      c.in_ok-spot.ensures.searched) c.in_ok-leaf.ensures.room
-      (λ kept spot a. subst (λ r. IsAt (shape_of g.W.WaitWords.WAY c.args.table.now) (Put c.args.key c.args.value) kept
-      (filled_stage r spot) c.leaf_in_hand.new.seat.view) c.in-Some-2.is (c.in_ok-leaf.ensures.at kept spot a)) c.in-Some-3.number
-      (λ kept number a e. c.in_ok-number.ensures.linked kept number a (c.in-Some-3.is ∙ e))) c.in_ok-leaf.ensures.listed;
+      (new_retired c.loop.invariant.tries c.requires.tickets c.in_ok-spot.ensures.place _ c.in-Some.is c.in_ok-spot.ensures.searched
+      c.in_ok-leaf.ensures.room
+      c.in-Some-2.is c.in_ok-leaf.ensures.at c.in-Some-3.is c.in_ok-number.ensures.linked) c.in_ok-leaf.ensures.listed;
 }
 
 pub returns-in-Some-3-clause-wait : goal.returns-in-Some-3-clause-wait
-returns-in-Some-3-clause-wait g c = new_wait c.loop.invariant.tries c.requires.tickets c.in_ok-spot.ensures.place c.in-Some.spot
-    (subst (λ (r : Option Spot). Searched
-    (shape_of g.W.WaitWords.WAY c.args.table.now) c.loop.seat.view c.args.key r c.find_spot.new.seat.view) c.in-Some.is
-    c.in_ok-spot.ensures.searched) c.in_ok-leaf.ensures.room
-    (λ kept spot a. subst (λ r. IsAt (shape_of g.W.WaitWords.WAY c.args.table.now) (Put c.args.key c.args.value) kept
-    (filled_stage r spot) c.leaf_in_hand.new.seat.view) c.in-Some-2.is (c.in_ok-leaf.ensures.at kept spot a)) c.in-Some-3.number
-    (λ kept number a e. c.in_ok-number.ensures.linked kept number a (c.in-Some-3.is ∙ e))
+returns-in-Some-3-clause-wait g c = new_wait c.loop.invariant.tries c.requires.tickets c.in_ok-spot.ensures.place _ c.in-Some.is
+    c.in_ok-spot.ensures.searched c.in_ok-leaf.ensures.room
+    c.in-Some-2.is c.in_ok-leaf.ensures.at c.in-Some-3.is c.in_ok-number.ensures.linked
 
 pub returns-in-Some-3-clause-tickets : goal.returns-in-Some-3-clause-tickets
-returns-in-Some-3-clause-tickets g c = new_tickets c.loop.invariant.tries c.requires.tickets c.in_ok-spot.ensures.place c.in-Some.spot
-    (subst (λ (r : Option Spot). Searched
-    (shape_of g.W.WaitWords.WAY c.args.table.now) c.loop.seat.view c.args.key r c.find_spot.new.seat.view) c.in-Some.is
-    c.in_ok-spot.ensures.searched) c.in_ok-leaf.ensures.room
-    (λ kept spot a. subst (λ r. IsAt (shape_of g.W.WaitWords.WAY c.args.table.now) (Put c.args.key c.args.value) kept
-    (filled_stage r spot) c.leaf_in_hand.new.seat.view) c.in-Some-2.is (c.in_ok-leaf.ensures.at kept spot a)) c.in-Some-3.number
-    (λ kept number a e. c.in_ok-number.ensures.linked kept number a (c.in-Some-3.is ∙ e))
-    (λ kept a. subst (λ r. IsAt (shape_of g.W.WaitWords.WAY c.args.table.now) (Put c.args.key c.args.value) kept
-    (linked_stage r) c.link_leaf.new.seat.view) c.in-Some-3.is (c.in_ok-number.ensures.at kept a))
+returns-in-Some-3-clause-tickets g c = new_tickets c.loop.invariant.tries c.requires.tickets c.in_ok-spot.ensures.place _ c.in-Some.is
+    c.in_ok-spot.ensures.searched c.in_ok-leaf.ensures.room
+    c.in-Some-2.is c.in_ok-leaf.ensures.at c.in-Some-3.is c.in_ok-number.ensures.linked c.in_ok-number.ensures.at
 
 pub loop-preserved : goal.loop-preserved
 loop-preserved g c = record {
   table = c.link_leaf.ensures.seat.0 ∙ c.leaf_in_hand.ensures.table ∙ c.find_spot.ensures.seat.0 ∙ c.loop.invariant.table;
   listed = listed_on c.leaf_in_hand.new.seat c.link_leaf.new.seat c.link_leaf.ensures.seat.1
       (c.in_ok-number.ensures.again c.in_default-3.is).retired c.in_ok-leaf.ensures.listed;
-  tries = tries_again c.loop.invariant.tries c.requires.tickets c.in_ok-spot.ensures.place c.in-Some.spot
-      (subst (λ (r : Option Spot). Searched
-      (shape_of g.W.WaitWords.WAY c.args.table.now) c.loop.seat.view c.args.key r c.find_spot.new.seat.view) c.in-Some.is
-      c.in_ok-spot.ensures.searched) c.in_ok-leaf.ensures.room
-      (λ kept spot a. subst (λ r. IsAt (shape_of g.W.WaitWords.WAY c.args.table.now) (Put c.args.key c.args.value) kept
-      (filled_stage r spot) c.leaf_in_hand.new.seat.view) c.in-Some-2.is (c.in_ok-leaf.ensures.at kept spot a))
-      (c.in_ok-number.ensures.again c.in_default-3.is)
-      (λ kept a. subst (λ r. IsAt (shape_of g.W.WaitWords.WAY c.args.table.now) (Put c.args.key c.args.value) kept
-      (linked_stage r) c.link_leaf.new.seat.view) c.in_default-3.is (c.in_ok-number.ensures.at kept a));
+  tries = tries_again c.loop.invariant.tries c.requires.tickets c.in_ok-spot.ensures.place _ c.in-Some.is c.in_ok-spot.ensures.searched
+      c.in_ok-leaf.ensures.room c.in-Some-2.is c.in_ok-leaf.ensures.at (c.in_ok-number.ensures.again c.in_default-3.is)
+      c.in_default-3.is c.in_ok-number.ensures.at;
   slots = goes_slots c.args.seat.now c.leaf_in_hand.new.seat c.link_leaf.new.seat []
       (slots_on c.args.seat.now c.find_spot.new.seat c.leaf_in_hand.new.seat
       (goes_slots c.args.seat.now c.loop.seat c.find_spot.new.seat _ c.loop.invariant.slots
-      (goes_looked (subst (λ (r : Option Spot). Searched
-      (shape_of g.W.WaitWords.WAY c.args.table.now) c.loop.seat.view c.args.key r c.find_spot.new.seat.view) c.in-Some.is
-      c.in_ok-spot.ensures.searched).0) c.find_spot.ensures.seat.1) c.in_ok-leaf.ensures.slots)
-      (c.in_ok-number.ensures.again c.in_default-3.is) c.link_leaf.ensures.seat.1;
+      (spot_looked c.loop.invariant.tries c.requires.tickets c.in_ok-spot.ensures.place _ c.in-Some.is c.in_ok-spot.ensures.searched)
+      c.find_spot.ensures.seat.1) c.in_ok-leaf.ensures.slots) (c.in_ok-number.ensures.again c.in_default-3.is) c.link_leaf.ensures.seat.1;
 }
 
 pub returns-in_default-clause-slots : goal.returns-in_default-clause-slots
 returns-in_default-clause-slots g c =
     let found = goes_slots c.args.seat.now c.loop.seat c.find_spot.new.seat _ c.loop.invariant.slots
-    (goes_looked (subst (λ (r : Option Spot). Searched
-    (shape_of g.W.WaitWords.WAY c.args.table.now) c.loop.seat.view c.args.key r c.find_spot.new.seat.view) c.in_default.is
-    c.in_ok-spot.ensures.searched).1) c.find_spot.ensures.seat.1 in
+    (old_looked c.loop.invariant.tries c.requires.tickets c.in_ok-spot.ensures.place _ c.in_default.is c.in_ok-spot.ensures.searched)
+    c.find_spot.ensures.seat.1 in
     goes_slots c.args.seat.now c.find_spot.new.seat c.give_up_leaf.new.seat [] found c.give_up_leaf.ensures.goes
     c.give_up_leaf.ensures.seat.1
 
 pub returns-in_default-2-clause-slots : goal.returns-in_default-2-clause-slots
 returns-in_default-2-clause-slots g c = slots_on c.args.seat.now c.find_spot.new.seat c.leaf_in_hand.new.seat
     (goes_slots c.args.seat.now c.loop.seat c.find_spot.new.seat _ c.loop.invariant.slots
-    (goes_looked (subst (λ (r : Option Spot). Searched
-    (shape_of g.W.WaitWords.WAY c.args.table.now) c.loop.seat.view c.args.key r c.find_spot.new.seat.view) c.in-Some.is
-    c.in_ok-spot.ensures.searched).0) c.find_spot.ensures.seat.1) c.in_ok-leaf.ensures.slots
+    (spot_looked c.loop.invariant.tries c.requires.tickets c.in_ok-spot.ensures.place _ c.in-Some.is c.in_ok-spot.ensures.searched)
+    c.find_spot.ensures.seat.1) c.in_ok-leaf.ensures.slots
 
 pub returns-in-Some-3-clause-slots : goal.returns-in-Some-3-clause-slots
 returns-in-Some-3-clause-slots g c =
     let leaf = slots_on c.args.seat.now c.find_spot.new.seat c.leaf_in_hand.new.seat
     (goes_slots c.args.seat.now c.loop.seat c.find_spot.new.seat _ c.loop.invariant.slots
-    (goes_looked (subst (λ (r : Option Spot). Searched
-    (shape_of g.W.WaitWords.WAY c.args.table.now) c.loop.seat.view c.args.key r c.find_spot.new.seat.view) c.in-Some.is
-    c.in_ok-spot.ensures.searched).0) c.find_spot.ensures.seat.1) c.in_ok-leaf.ensures.slots in
+    (spot_looked c.loop.invariant.tries c.requires.tickets c.in_ok-spot.ensures.place _ c.in-Some.is c.in_ok-spot.ensures.searched)
+    c.find_spot.ensures.seat.1) c.in_ok-leaf.ensures.slots in
     goes_slots c.args.seat.now c.leaf_in_hand.new.seat c.link_leaf.new.seat _ leaf
-    (new_goes c.loop.invariant.tries c.requires.tickets c.in_ok-spot.ensures.place c.in-Some.spot
-    (subst (λ (r : Option Spot). Searched
-    (shape_of g.W.WaitWords.WAY c.args.table.now) c.loop.seat.view c.args.key r c.find_spot.new.seat.view) c.in-Some.is
-    c.in_ok-spot.ensures.searched) c.in_ok-leaf.ensures.room
-    (λ kept spot a. subst (λ r. IsAt (shape_of g.W.WaitWords.WAY c.args.table.now) (Put c.args.key c.args.value) kept
-    (filled_stage r spot) c.leaf_in_hand.new.seat.view) c.in-Some-2.is (c.in_ok-leaf.ensures.at kept spot a)) c.in-Some-3.number
-    (λ kept number a e. c.in_ok-number.ensures.linked kept number a (c.in-Some-3.is ∙ e))) c.link_leaf.ensures.seat.1
+    (new_goes c.loop.invariant.tries c.requires.tickets c.in_ok-spot.ensures.place _ c.in-Some.is c.in_ok-spot.ensures.searched
+    c.in_ok-leaf.ensures.room
+    c.in-Some-2.is c.in_ok-leaf.ensures.at c.in-Some-3.is c.in_ok-number.ensures.linked) c.link_leaf.ensures.seat.1
 
 pub returns-in_default-clause-allowance : goal.returns-in_default-clause-allowance
-returns-in_default-clause-allowance g c = old_allowance c.loop.invariant.tries c.requires.tickets c.in_ok-spot.ensures.place
-    (subst (λ (r : Option Spot). Searched
-    (shape_of g.W.WaitWords.WAY c.args.table.now) c.loop.seat.view c.args.key r c.find_spot.new.seat.view) c.in_default.is
-    c.in_ok-spot.ensures.searched) c.give_up_leaf.ensures.goes
+returns-in_default-clause-allowance g c = old_allowance c.loop.invariant.tries c.requires.tickets c.in_ok-spot.ensures.place _
+    c.in_default.is
+    c.in_ok-spot.ensures.searched c.give_up_leaf.ensures.goes
 
 pub returns-in_default-2-clause-allowance : goal.returns-in_default-2-clause-allowance
 returns-in_default-2-clause-allowance g c =
-    full_allowance c.loop.invariant.tries c.requires.tickets c.in_ok-spot.ensures.place c.in-Some.spot
-    (subst (λ (r : Option Spot). Searched
-    (shape_of g.W.WaitWords.WAY c.args.table.now) c.loop.seat.view c.args.key r c.find_spot.new.seat.view) c.in-Some.is
-    c.in_ok-spot.ensures.searched) c.in_ok-leaf.ensures.room
+    full_allowance c.loop.invariant.tries c.requires.tickets c.in_ok-spot.ensures.place _ c.in-Some.is c.in_ok-spot.ensures.searched
+    c.in_ok-leaf.ensures.room
 
 pub returns-in-Some-3-clause-allowance : goal.returns-in-Some-3-clause-allowance
-returns-in-Some-3-clause-allowance g c = new_allowance c.loop.invariant.tries c.requires.tickets c.in_ok-spot.ensures.place c.in-Some.spot
-    (subst (λ (r : Option Spot). Searched
-    (shape_of g.W.WaitWords.WAY c.args.table.now) c.loop.seat.view c.args.key r c.find_spot.new.seat.view) c.in-Some.is
-    c.in_ok-spot.ensures.searched) c.in_ok-leaf.ensures.room
-    (λ kept spot a. subst (λ r. IsAt (shape_of g.W.WaitWords.WAY c.args.table.now) (Put c.args.key c.args.value) kept
-    (filled_stage r spot) c.leaf_in_hand.new.seat.view) c.in-Some-2.is (c.in_ok-leaf.ensures.at kept spot a)) c.in-Some-3.number
-    (λ kept number a e. c.in_ok-number.ensures.linked kept number a (c.in-Some-3.is ∙ e))
+returns-in-Some-3-clause-allowance g c = new_allowance c.loop.invariant.tries c.requires.tickets c.in_ok-spot.ensures.place _ c.in-Some.is
+    c.in_ok-spot.ensures.searched c.in_ok-leaf.ensures.room
+    c.in-Some-2.is c.in_ok-leaf.ensures.at c.in-Some-3.is c.in_ok-number.ensures.linked
 
 pub returns-in_default-clause-begins : goal.returns-in_default-clause-begins
-returns-in_default-clause-begins g c = old_begins c.loop.invariant.tries c.requires.tickets c.in_ok-spot.ensures.place
-    (subst (λ (r : Option Spot). Searched
-    (shape_of g.W.WaitWords.WAY c.args.table.now) c.loop.seat.view c.args.key r c.find_spot.new.seat.view) c.in_default.is
-    c.in_ok-spot.ensures.searched) c.give_up_leaf.ensures.goes
+returns-in_default-clause-begins g c = old_begins c.loop.invariant.tries c.requires.tickets c.in_ok-spot.ensures.place _ c.in_default.is
+    c.in_ok-spot.ensures.searched c.give_up_leaf.ensures.goes
 
 pub returns-in_default-2-clause-begins : goal.returns-in_default-2-clause-begins
 returns-in_default-2-clause-begins g c =
-    full_begins c.loop.invariant.tries c.requires.tickets c.in_ok-spot.ensures.place c.in-Some.spot
-    (subst (λ (r : Option Spot). Searched
-    (shape_of g.W.WaitWords.WAY c.args.table.now) c.loop.seat.view c.args.key r c.find_spot.new.seat.view) c.in-Some.is
-    c.in_ok-spot.ensures.searched) c.in_ok-leaf.ensures.room
+    full_begins c.loop.invariant.tries c.requires.tickets c.in_ok-spot.ensures.place _ c.in-Some.is c.in_ok-spot.ensures.searched
+    c.in_ok-leaf.ensures.room
 
 pub returns-in-Some-3-clause-begins : goal.returns-in-Some-3-clause-begins
-returns-in-Some-3-clause-begins g c = new_begins c.loop.invariant.tries c.requires.tickets c.in_ok-spot.ensures.place c.in-Some.spot
-    (subst (λ (r : Option Spot). Searched
-    (shape_of g.W.WaitWords.WAY c.args.table.now) c.loop.seat.view c.args.key r c.find_spot.new.seat.view) c.in-Some.is
-    c.in_ok-spot.ensures.searched) c.in_ok-leaf.ensures.room
-    (λ kept spot a. subst (λ r. IsAt (shape_of g.W.WaitWords.WAY c.args.table.now) (Put c.args.key c.args.value) kept
-    (filled_stage r spot) c.leaf_in_hand.new.seat.view) c.in-Some-2.is (c.in_ok-leaf.ensures.at kept spot a)) c.in-Some-3.number
-    (λ kept number a e. c.in_ok-number.ensures.linked kept number a (c.in-Some-3.is ∙ e))
+returns-in-Some-3-clause-begins g c = new_begins c.loop.invariant.tries c.requires.tickets c.in_ok-spot.ensures.place _ c.in-Some.is
+    c.in_ok-spot.ensures.searched c.in_ok-leaf.ensures.room
+    c.in-Some-2.is c.in_ok-leaf.ensures.at c.in-Some-3.is c.in_ok-number.ensures.linked

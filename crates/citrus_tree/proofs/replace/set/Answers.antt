@@ -1,16 +1,16 @@
-use Rattle.citrus_tree.specs.declared.replace.Replaced.{Replaced}
+use Rattle.std.proofs.Common.{◌≡◌, ℕ, Option, None, refl, subst, ◌∙◌}
+use Rattle.core_state.specs.declared.shape.Shape.{Shape}
+use Rattle.core_state.specs.declared.view.View.{View}
 use Rattle.citrus_tree.specs.declared.replace.Holder.{Holder}
-use Rattle.prcu_model.specs.declared.operation.Op.TheVariants.{Set}
-use Rattle.tree_points.specs.At.{IsAt}
-use Rattle.citrus_tree.specs.Going.{Sought, set_stage}
-use Rattle.seat_table.specs.Seats.{shape_of}
-use Rattle.std.specs.declared.option.Option.{Option}
-use Rattle.std.proofs.Common.{refl, sym, subst, ◌∙◌, ℕ}
-use Rattle.prcu_model.specs.declared.operation.Told.{Told}
-use Rattle.citrus_tree.specs.Replies.{Sets}
+use Rattle.citrus_tree.specs.Going.{Sought}
+use Rattle.citrus_tree.specs.Lookups.{Looked}
 use Rattle.citrus_tree.proofs.sets.Replacing.{absent_begins, absent_goes, begins, absent_sets, goes_all, may_store, tries_again, stored_begins, stored_sets, stored_quiet, stored_retired, stored_wait, stored_tickets, listed_on}
 use Rattle.citrus_tree.proofs.KeepingSlots.{slots_goes}
 use Rattle.citrus_tree.proofs.replace.set.Goals as goal
+
+-- a search that found no holder found the key absent
+absent : (k : Shape) (v w : View) (key : ℕ) {answer : Option Holder} → answer ≡ None → Sought k v key answer w → Looked v key None w
+absent k v w key is sought = subst (λ (r : Option Holder). Sought k v key r w) is sought
 
 pub loop-init : goal.loop-init
 loop-init g c = record {
@@ -20,116 +20,66 @@ loop-init g c = record {
 }
 
 pub returns-in_default-clause-sets : goal.returns-in_default-clause-sets
-returns-in_default-clause-sets g c = subst (λ (r : Told). Sets c.args.seat.now.view c.args.key c.args.value r c.find_holder.new.seat.view)
-    (sym c.answered.ensures) (absent_sets c.loop.invariant.tries c.requires.tickets
-    (subst (λ (r : Option Holder). Sought
-    (shape_of g.W.WaitWords.WAY c.args.table.now) c.loop.seat.view c.args.key r c.find_holder.new.seat.view) c.in_default.is
-    c.in_ok-holder.ensures.sought) refl)
+returns-in_default-clause-sets g c = absent_sets c.loop.invariant.tries c.requires.tickets
+    (absent _ _ _ _ c.in_default.is c.in_ok-holder.ensures.sought) refl c.answered.ensures
 
 pub store_value-requires-clause-at : goal.store_value-requires-clause-at
-store_value-requires-clause-at g c = may_store c.loop.invariant.tries c.requires.tickets c.in_ok-holder.ensures.place
-    (subst (λ (r : Option Holder). Sought
-    (shape_of g.W.WaitWords.WAY c.args.table.now) c.loop.seat.view c.args.key r c.find_holder.new.seat.view) c.in-Some.is
-    c.in_ok-holder.ensures.sought)
+store_value-requires-clause-at g c = may_store c.loop.invariant.tries c.requires.tickets c.in_ok-holder.ensures.place _ c.in-Some.is
+    c.in_ok-holder.ensures.sought
 
 pub returns-in-Some-2-clause-sets : goal.returns-in-Some-2-clause-sets
-returns-in-Some-2-clause-sets g c = subst (λ (r : Told). Sets c.args.seat.now.view c.args.key c.args.value r c.store_value.new.seat.view)
-    (sym c.answered-in-Some-2.ensures)
-    (stored_sets c.loop.invariant.tries c.requires.tickets c.in_ok-holder.ensures.place
-    (subst (λ (r : Option Holder). Sought
-    (shape_of g.W.WaitWords.WAY c.args.table.now) c.loop.seat.view c.args.key r c.find_holder.new.seat.view) c.in-Some.is
-    c.in_ok-holder.ensures.sought) (λ (kept : ℕ) (done : Replaced) a e. c.in_ok-done.ensures.stored kept done a (c.in-Some-2.is ∙ e))
-    (λ (kept : ℕ) a. subst (λ (r : Option Replaced). IsAt (shape_of g.W.WaitWords.WAY c.args.table.now)
-    (Set c.args.key c.args.value) kept (set_stage r) c.store_value.new.seat.view) c.in-Some-2.is (c.in_ok-done.ensures.at kept a)))
+returns-in-Some-2-clause-sets g c = stored_sets c.loop.invariant.tries c.requires.tickets c.in_ok-holder.ensures.place _ c.in-Some.is
+    c.in_ok-holder.ensures.sought c.in-Some-2.is c.in_ok-done.ensures.stored c.in_ok-done.ensures.at c.answered-in-Some-2.ensures
 
 pub returns-in-Some-2-clause-quiet : goal.returns-in-Some-2-clause-quiet
 returns-in-Some-2-clause-quiet g c = record {
-  view = stored_quiet c.loop.invariant.tries c.requires.tickets c.in_ok-holder.ensures.place
-      (subst (λ (r : Option Holder). Sought
-      (shape_of g.W.WaitWords.WAY c.args.table.now) c.loop.seat.view c.args.key r c.find_holder.new.seat.view) c.in-Some.is
-      c.in_ok-holder.ensures.sought) (λ (kept : ℕ) (done : Replaced) a e. c.in_ok-done.ensures.stored kept done a (c.in-Some-2.is ∙ e))
-      (λ (kept : ℕ) a. subst (λ (r : Option Replaced). IsAt (shape_of g.W.WaitWords.WAY c.args.table.now) (Set c.args.key c.args.value) kept
-      (set_stage r) c.store_value.new.seat.view) c.in-Some-2.is (c.in_ok-done.ensures.at kept a));
+  view = stored_quiet c.loop.invariant.tries c.requires.tickets c.in_ok-holder.ensures.place _ c.in-Some.is c.in_ok-holder.ensures.sought
+      c.in-Some-2.is c.in_ok-done.ensures.stored c.in_ok-done.ensures.at;
   listed = listed_on c.args.seat.now c.store_value.new.seat
       (c.store_value.ensures.seat.1 ∙ c.find_holder.ensures.seat.1 ∙ c.loop.invariant.listed)
-      (stored_retired c.loop.invariant.tries c.requires.tickets c.in_ok-holder.ensures.place
-      (subst (λ (r : Option Holder). Sought
-      (shape_of g.W.WaitWords.WAY c.args.table.now) c.loop.seat.view c.args.key r c.find_holder.new.seat.view) c.in-Some.is
-      c.in_ok-holder.ensures.sought) (λ (kept : ℕ) (done : Replaced) a e. c.in_ok-done.ensures.stored kept done a (c.in-Some-2.is ∙ e))
-      (λ (kept : ℕ) a. subst (λ (r : Option Replaced). IsAt (shape_of g.W.WaitWords.WAY c.args.table.now)
-      (Set c.args.key c.args.value) kept (set_stage r) c.store_value.new.seat.view) c.in-Some-2.is
-      (c.in_ok-done.ensures.at kept a))) c.requires.quiet.listed;
+      (stored_retired c.loop.invariant.tries c.requires.tickets c.in_ok-holder.ensures.place _ c.in-Some.is c.in_ok-holder.ensures.sought
+      c.in-Some-2.is c.in_ok-done.ensures.stored c.in_ok-done.ensures.at) c.requires.quiet.listed;
 }
 
 pub returns-in-Some-2-clause-wait : goal.returns-in-Some-2-clause-wait
-returns-in-Some-2-clause-wait g c = stored_wait c.loop.invariant.tries c.requires.tickets c.in_ok-holder.ensures.place
-    (subst (λ (r : Option Holder). Sought
-    (shape_of g.W.WaitWords.WAY c.args.table.now) c.loop.seat.view c.args.key r c.find_holder.new.seat.view) c.in-Some.is
-    c.in_ok-holder.ensures.sought) (λ (kept : ℕ) (done : Replaced) a e. c.in_ok-done.ensures.stored kept done a (c.in-Some-2.is ∙ e))
-    (λ (kept : ℕ) a. subst (λ (r : Option Replaced). IsAt (shape_of g.W.WaitWords.WAY c.args.table.now) (Set c.args.key c.args.value) kept
-    (set_stage r) c.store_value.new.seat.view) c.in-Some-2.is (c.in_ok-done.ensures.at kept a))
+returns-in-Some-2-clause-wait g c = stored_wait c.loop.invariant.tries c.requires.tickets c.in_ok-holder.ensures.place _ c.in-Some.is
+    c.in_ok-holder.ensures.sought c.in-Some-2.is c.in_ok-done.ensures.stored c.in_ok-done.ensures.at
 
 pub returns-in-Some-2-clause-tickets : goal.returns-in-Some-2-clause-tickets
-returns-in-Some-2-clause-tickets g c = stored_tickets c.loop.invariant.tries c.requires.tickets c.in_ok-holder.ensures.place
-    (subst (λ (r : Option Holder). Sought
-    (shape_of g.W.WaitWords.WAY c.args.table.now) c.loop.seat.view c.args.key r c.find_holder.new.seat.view) c.in-Some.is
-    c.in_ok-holder.ensures.sought) (λ (kept : ℕ) (done : Replaced) a e. c.in_ok-done.ensures.stored kept done a (c.in-Some-2.is ∙ e))
-    (λ (kept : ℕ) a. subst (λ (r : Option Replaced). IsAt (shape_of g.W.WaitWords.WAY c.args.table.now) (Set c.args.key c.args.value) kept
-    (set_stage r) c.store_value.new.seat.view) c.in-Some-2.is (c.in_ok-done.ensures.at kept a))
+returns-in-Some-2-clause-tickets g c = stored_tickets c.loop.invariant.tries c.requires.tickets c.in_ok-holder.ensures.place _ c.in-Some.is
+    c.in_ok-holder.ensures.sought c.in-Some-2.is c.in_ok-done.ensures.stored c.in_ok-done.ensures.at
 
 pub loop-preserved : goal.loop-preserved
 loop-preserved g c = record {
   table = c.store_value.ensures.seat.0 ∙ c.find_holder.ensures.seat.0 ∙ c.loop.invariant.table;
   listed = c.store_value.ensures.seat.1 ∙ c.find_holder.ensures.seat.1 ∙ c.loop.invariant.listed;
-  tries = tries_again c.loop.invariant.tries c.requires.tickets c.in_ok-holder.ensures.place
-      (subst (λ (r : Option Holder). Sought
-      (shape_of g.W.WaitWords.WAY c.args.table.now) c.loop.seat.view c.args.key r c.find_holder.new.seat.view) c.in-Some.is
-      c.in_ok-holder.ensures.sought) (c.in_ok-done.ensures.again c.in_default-2.is)
-      (λ (kept : ℕ) a. subst (λ (r : Option Replaced). IsAt (shape_of g.W.WaitWords.WAY c.args.table.now) (Set c.args.key c.args.value) kept
-      (set_stage r) c.store_value.new.seat.view) c.in_default-2.is (c.in_ok-done.ensures.at kept a));
+  tries = tries_again c.loop.invariant.tries c.requires.tickets c.in_ok-holder.ensures.place _ c.in-Some.is c.in_ok-holder.ensures.sought
+      (c.in_ok-done.ensures.again c.in_default-2.is) c.in_default-2.is c.in_ok-done.ensures.at;
 }
 
 pub returns-in_default-clause-slots : goal.returns-in_default-clause-slots
 returns-in_default-clause-slots g c =
     slots_goes c.args.seat.now c.find_holder.new.seat _ (absent_goes c.loop.invariant.tries c.requires.tickets
-    (subst (λ (r : Option Holder). Sought
-    (shape_of g.W.WaitWords.WAY c.args.table.now) c.loop.seat.view c.args.key r c.find_holder.new.seat.view) c.in_default.is
-    c.in_ok-holder.ensures.sought)) (c.find_holder.ensures.seat.1 ∙ c.loop.invariant.listed)
+    (absent _ _ _ _ c.in_default.is c.in_ok-holder.ensures.sought)) (c.find_holder.ensures.seat.1 ∙ c.loop.invariant.listed)
 
 pub returns-in-Some-2-clause-slots : goal.returns-in-Some-2-clause-slots
 returns-in-Some-2-clause-slots g c =
-    slots_goes c.args.seat.now c.store_value.new.seat _ (goes_all c.loop.invariant.tries c.requires.tickets c.in_ok-holder.ensures.place
-    (subst (λ (r : Option Holder). Sought
-    (shape_of g.W.WaitWords.WAY c.args.table.now) c.loop.seat.view c.args.key r c.find_holder.new.seat.view) c.in-Some.is
-    c.in_ok-holder.ensures.sought) (λ (kept : ℕ) (done : Replaced) a e. c.in_ok-done.ensures.stored kept done a (c.in-Some-2.is ∙ e))
-    (λ (kept : ℕ) a. subst (λ (r : Option Replaced). IsAt (shape_of g.W.WaitWords.WAY c.args.table.now)
-    (Set c.args.key c.args.value) kept (set_stage r) c.store_value.new.seat.view) c.in-Some-2.is (c.in_ok-done.ensures.at kept a)))
+    slots_goes c.args.seat.now c.store_value.new.seat _ (goes_all c.loop.invariant.tries c.requires.tickets c.in_ok-holder.ensures.place _
+    c.in-Some.is c.in_ok-holder.ensures.sought c.in-Some-2.is c.in_ok-done.ensures.stored c.in_ok-done.ensures.at)
     (c.store_value.ensures.seat.1 ∙ c.find_holder.ensures.seat.1 ∙ c.loop.invariant.listed)
 
 pub returns-in_default-clause-allowance : goal.returns-in_default-clause-allowance
 returns-in_default-clause-allowance g c = (absent_goes c.loop.invariant.tries c.requires.tickets
-    (subst (λ (r : Option Holder). Sought
-    (shape_of g.W.WaitWords.WAY c.args.table.now) c.loop.seat.view c.args.key r c.find_holder.new.seat.view) c.in_default.is
-    c.in_ok-holder.ensures.sought)).gone.allowance
+    (absent _ _ _ _ c.in_default.is c.in_ok-holder.ensures.sought)).gone.allowance
 
 pub returns-in-Some-2-clause-allowance : goal.returns-in-Some-2-clause-allowance
-returns-in-Some-2-clause-allowance g c = (goes_all c.loop.invariant.tries c.requires.tickets c.in_ok-holder.ensures.place
-    (subst (λ (r : Option Holder). Sought
-    (shape_of g.W.WaitWords.WAY c.args.table.now) c.loop.seat.view c.args.key r c.find_holder.new.seat.view) c.in-Some.is
-    c.in_ok-holder.ensures.sought) (λ (kept : ℕ) (done : Replaced) a e. c.in_ok-done.ensures.stored kept done a (c.in-Some-2.is ∙ e))
-    (λ (kept : ℕ) a. subst (λ (r : Option Replaced). IsAt (shape_of g.W.WaitWords.WAY c.args.table.now) (Set c.args.key c.args.value) kept
-    (set_stage r) c.store_value.new.seat.view) c.in-Some-2.is (c.in_ok-done.ensures.at kept a))).gone.allowance
+returns-in-Some-2-clause-allowance g c = (goes_all c.loop.invariant.tries c.requires.tickets c.in_ok-holder.ensures.place _ c.in-Some.is
+    c.in_ok-holder.ensures.sought c.in-Some-2.is c.in_ok-done.ensures.stored c.in_ok-done.ensures.at).gone.allowance
 
 pub returns-in_default-clause-begins : goal.returns-in_default-clause-begins
 returns-in_default-clause-begins g c = absent_begins c.loop.invariant.tries c.requires.tickets
-    (subst (λ (r : Option Holder). Sought
-    (shape_of g.W.WaitWords.WAY c.args.table.now) c.loop.seat.view c.args.key r c.find_holder.new.seat.view) c.in_default.is
-    c.in_ok-holder.ensures.sought)
+    (absent _ _ _ _ c.in_default.is c.in_ok-holder.ensures.sought)
 
 pub returns-in-Some-2-clause-begins : goal.returns-in-Some-2-clause-begins
-returns-in-Some-2-clause-begins g c = stored_begins c.loop.invariant.tries c.requires.tickets c.in_ok-holder.ensures.place
-    (subst (λ (r : Option Holder). Sought
-    (shape_of g.W.WaitWords.WAY c.args.table.now) c.loop.seat.view c.args.key r c.find_holder.new.seat.view) c.in-Some.is
-    c.in_ok-holder.ensures.sought) (λ (kept : ℕ) (done : Replaced) a e. c.in_ok-done.ensures.stored kept done a (c.in-Some-2.is ∙ e))
-    (λ (kept : ℕ) a. subst (λ (r : Option Replaced). IsAt (shape_of g.W.WaitWords.WAY c.args.table.now) (Set c.args.key c.args.value) kept
-    (set_stage r) c.store_value.new.seat.view) c.in-Some-2.is (c.in_ok-done.ensures.at kept a))
+returns-in-Some-2-clause-begins g c = stored_begins c.loop.invariant.tries c.requires.tickets c.in_ok-holder.ensures.place _ c.in-Some.is
+    c.in_ok-holder.ensures.sought c.in-Some-2.is c.in_ok-done.ensures.stored c.in_ok-done.ensures.at
