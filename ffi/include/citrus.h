@@ -95,7 +95,7 @@ void citrus_close(citrus_handle *handle);
  * the index stays open. It waits for nobody: it looks at the places, 64 at most, and again only where another reopen was first. It takes
  * half a kilobyte of memory.
  * DONE; UNCHANGED where no closed handle left a place; CLOSED; BAD_ARGUMENT where `other` is open; NO_MEMORY, and the place is left still;
- * LOST, where `handle` is. `handle` is as it was, and but at DONE `other` too. */
+ * LOST, where `handle` is. `handle` is as it was, and at all but DONE `other` too. */
 int32_t citrus_reopen(citrus_handle *handle, citrus_handle *other);
 
 /* Tells the key's value.
