@@ -166,7 +166,7 @@ table() {
 pictures() {
     local name caption
     while read -r name caption; do
-        [ ! -e "$top/docs/pictures/bench_$name.svg" ] || printf '![%s](pictures/bench_%s.svg)\n\n%s\n\n' "${caption%%.*}" "$name" "$caption"
+        [ ! -e "$top/docs/pictures/bench_$name.svg" ] || printf '![%s](pictures/bench_%s.svg)\n\n%s\n\n' "$name" "$name" "$caption"
     done <<'END'
 threads Operations a second of all threads together, medians. A line that rises gains by threads.
 ratio The proved tree beside the same steps in C++, minima. At 1 it takes as long as the C++, below less.

@@ -1,7 +1,6 @@
 #!/usr/bin/env python3
 """Writes the table of steps of docs/TREE_INVARIANT.md: what each act does, by its docstring in core_acts/src/act.rt; what it needs,
-by core_acts/specs/Acts.antt; and the crate that proves its law. `--check` only says whether the page is up to date."""
-import glob
+by core_acts/specs/Acts.antt. `--check` only says whether the page is up to date."""
 import os
 import re
 import sys
@@ -24,16 +23,6 @@ def acts():
         yield name, kind, " ".join(line.strip().removeprefix("/// ") for line in does.split("\n"))
 
 
-def laws():
-    """The crate that has the law of a kind."""
-    found = {}
-    for path in sorted(glob.glob(f"{ROOT}/crates/*/proofs/**/*.antt", recursive=True)):
-        crate = os.path.relpath(path, ROOT).split("/")[1]
-        for kind in re.findall(r"^ *pub keeps\d+ : Keeps (K\d+)$", text_of(os.path.relpath(path, ROOT)), re.M):
-            found[kind] = crate
-    return found
-
-
 def definitions():
     """Of each act the need and the view after it, and of each definition the file that has it."""
     text = re.sub(r"\n +", " ", text_of("crates/core_acts/specs/Acts.antt").replace("MarkNode", "Mark"))
@@ -49,14 +38,13 @@ def definitions():
 
 def table():
     needs, after, files = definitions()
-    proved = laws()
     rows = {group: [] for group in GROUPS}
     for name, kind, does in acts():
-        row = f"| {kind} | `{name}` | {does} | {needs[name]} | `{proved[kind]}` |"
+        row = f"| {kind} | `{name}` | {does} | {needs[name]} |"
         rows[files[after[name]]].append((int(kind[1:]), row))
-    lines = ["| kind | act | what it does | needs | law in |", "|---|---|---|---|---|"]
+    lines = ["| kind | act | what it does | needs |", "|---|---|---|---|"]
     for group, found in rows.items():
-        lines.append(f"| | | *{group}* | | |")
+        lines.append(f"| | | *{group}* | |")
         lines += [row for _, row in sorted(found, key=lambda pair: pair[0])]
     return "\n".join(lines) + "\n"
 
