@@ -7,7 +7,7 @@ use patience::Patience;
 use std::hint;
 
 /// A pause is twice as long as the one before, up to about so many turns.
-const LONG: u32 = 1_000;
+const LONG: u32 = 64;
 
 /// Spins between two rounds, longer and longer. It gives up after 2^64 - 1 rounds.
 pub struct Spinning;
