@@ -1,5 +1,5 @@
 /* The two answers to which no run of the library comes: LOST, and MOVED of an upsert. rare.sh links this with a library whose calls give up
- * after ten rounds of waiting, and whose upserts make one round. */
+ * after six rounds of waiting, and whose upserts make one round. */
 #include "crew.h"
 #include <time.h>
 #include <unistd.h>
