@@ -35,6 +35,7 @@ PICTURES = {
         "cookie_client": "a client with a cookie",
         "grace_cookie": "waits asked about later",
         "citrus_c": "for C, C++ and Rust",
+        "tree_handles": "indexes by handles",
         "citrus_tree": "get, put, del, remove, set",
         "exact_list": "lists of a key range",
         "node_slots": "slots and locks",

@@ -403,7 +403,8 @@ def record_since(top, rt, since):
 
 def print_measured(top):
     print("# Of each crate: the processor seconds of its proof by one job, and the most megabytes that one process of it took.")
-    for crate in [*crates_of(top), *crates_of(top, LIBRARY)[-1:]]:
+    names = {it.name for it in crates_of(top)}
+    for crate in [*crates_of(top), *(it for it in crates_of(top, LIBRARY) if it.name not in names)]:
         words = text_of(crate.record).split()
         if len(words) != 4 or words[2] == "0":
             raise Ended(NOT_PROVED, f"nothing was measured of {crate.name}")

@@ -1,8 +1,8 @@
 #!/usr/bin/env bash
 # Tests the two answers to which no run of the library comes: CITRUS_LOST, which takes 2^64 - 1 rounds of waiting, and CITRUS_MOVED of an
-# upsert, for which others have to come between its two calls 1,000 times in a row. It copies citrus_c to a folder of its own, lowers these
-# numbers in the copy to 6 and to 1, builds the library of it by install.sh, and runs tests/rare.c: `rare.sh [TIMES]`. Its last line is
-# `N passed, M failed`, and its status 1 where something failed.
+# upsert, for which others have to come between its two calls 1,000 times in a row. It copies tree_handles and citrus_c to a folder of its own,
+# lowers these numbers in the copy to 6 and to 1, builds the library of it by install.sh, and runs tests/rare.c: `rare.sh [TIMES]`. Its last
+# line is `N passed, M failed`, and its status 1 where something failed.
 # The copy is proved as the library is, in some three minutes of a processor, over the crates below as they stand in the repository. So it
 # stands outside of the gate.
 set -u
@@ -19,18 +19,19 @@ trap 'rm -rf "$room"' EXIT
 copy=$room/copy
 passed=0 failed=0
 
-# A repository in which citrus_c alone is a copy. The crates below are links, so what isn't proved of them yet is proved where it is kept.
-copy_citrus_c() {
-    mkdir -p "$copy/crates" "$copy/ffi" && ln -s "$top"/crates/* "$copy/crates" && rm "$copy/crates/citrus_c" &&
-        mkdir "$copy/crates/citrus_c" && cp -R "$top"/crates/citrus_c/{src,specs,proofs} "$copy/crates/citrus_c" &&
+# A repository in which these two alone are copies. The crates below are links, so what isn't proved of them yet is proved where it is kept.
+copy_library() {
+    mkdir -p "$copy/crates" "$copy/ffi" && ln -s "$top"/crates/* "$copy/crates" && rm "$copy"/crates/{tree_handles,citrus_c} &&
+        mkdir "$copy"/crates/{tree_handles,citrus_c} && cp -R "$top"/crates/tree_handles/{src,specs,proofs} "$copy/crates/tree_handles" &&
+        cp -R "$top"/crates/citrus_c/{src,specs} "$copy/crates/citrus_c" &&
         cp -R "$top/crates.txt" "$top/build" "$copy" && cp -R "$here/install.sh" "$here/include" "$copy/ffi"
 }
 
-# Changes the one place where these words stand in a file of citrus_c: `lower FILE WORDS OTHER_WORDS`.
+# Changes the one place where these words stand in a file of tree_handles: `lower FILE WORDS OTHER_WORDS`.
 lower() {
-    local file=$copy/crates/citrus_c/$1 text
+    local file=$copy/crates/tree_handles/$1 text
     if [ "$(grep -oF -e "$2" "$file" | wc -l)" != 1 ]; then
-        say "crates/citrus_c/$1 hasn't just one '$2'"
+        say "crates/tree_handles/$1 hasn't just one '$2'"
         return 1
     fi
     text=$(cat "$file") && printf '%s\n' "${text/"$2"/"$3"}" >"$file"
@@ -69,7 +70,7 @@ run() {
     fi
 }
 
-if copy_citrus_c && lower_rounds_of_waiting && lower_rounds_of_upserts && "$copy/ffi/install.sh" "$room/lowered" && build; then
+if copy_library && lower_rounds_of_waiting && lower_rounds_of_upserts && "$copy/ffi/install.sh" "$room/lowered" && build; then
     for ((time = 0; time < times; time++)); do run; done
 else
     failed=1

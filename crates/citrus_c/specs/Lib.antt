@@ -1,8 +1,1 @@
-pub mod Callers
-pub mod Waiters
-pub mod Statuses
-pub mod Calls
-pub mod Lists
-pub mod Opening
-pub mod Handles
-pub mod Holding
+pub mod Numbers

@@ -1,6 +1,0 @@
-use Rattle.std.proofs.Common.{◌≡◌, length, replicate}
-use Rattle.citrus_c.proofs.shared.Shared.new.Given as goal
-
--- each cell so far is for seats of this table
-abbrev pub invariant-loop : goal.invariant-loop
-invariant-loop g l = l.cells.items ≡ replicate (length l.cells.items) l.fn.table

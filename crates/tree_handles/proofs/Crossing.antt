@@ -1,0 +1,57 @@
+-- What a handle leads to may go to another thread. Nobody reads a seat that lies in a cell, so what callers share may be shared.
+use denote.RattleType.{RattleType}
+use denote.Struct.Struct.{Struct}
+use denote.Struct.Declared.{fields, shape}
+use denote.Param.Send.{IsSend, IsSync, AllSync, part_keyless, recorded_sync, struct_sync, sendable}
+use Rattle.atomic_table.specs.contracts.shared.Seat as raw
+use Rattle.atomic_table.proofs.shared.Seat.TheSendSync as raw_crosses
+use Rattle.counted_slot.proofs.Counted.TheSendSync as counted
+use Rattle.arrayvec.proofs.array_vec.ArrayVec.TheSendSync as array
+use Rattle.std.proofs.option.Option.TheSendSync as option
+use Rattle.std.proofs.sync.atomic.AtomicU64.TheSendSync as atomic
+use Rattle.std.proofs.Crossing as heap
+use Rattle.seat_table.specs.declared.wait.WaitPart as Part
+use Rattle.seat_table.specs.declared.waiter.WaitWords as Words
+use Rattle.seat_table.specs.contracts.seat.Seat.TheInside as Inside
+use Rattle.seat_table.proofs.rule.Nothing.TheSendSync as nothing
+use Rattle.seat_table.proofs.seat.Seat.TheSendSync as seat
+use Rattle.seat_table.proofs.table.CitrusTable.TheSendSync as table
+use Rattle.tree_handles.specs.contracts.shared.Left as Left
+use Rattle.tree_handles.specs.contracts.shared.Shared as Shared
+use Rattle.tree_handles.specs.contracts.caller.Caller as Caller
+use Rattle.tree_handles.specs.contracts.any_caller.AnyCaller as AnyCaller
+use Rattle.tree_handles.proofs.shared.Left.TheSendSync as left
+use Rattle.tree_handles.proofs.shared.Shared.TheSendSync as shared
+
+-- of a seat of the kit a `&` shows nothing
+raw_sync : (S V : RattleType) → IsSend S → IsSync (raw.the_row S V)
+raw_sync S V s = record { shared = λ d b o κ q. part_keyless (raw.the_row S V) (raw_crosses.the_send S V s) q d b o }
+
+module _ (W : RattleType) (p : Part.Ghosts W.Denot) (w : Words.Ghosts W.Denot) where
+  inside_sync : IsSync (Inside.the_row W w)
+  inside_sync =
+      let T = Inside.the_type W w in
+      let all : AllSync (fields T) = search (sendable, raw_sync, nothing.the_send, array.the_sync) depth 60 in
+      recorded_sync (Struct (shape T)) T.D T.to T.to_one (struct_sync (shape T) all)
+
+  left_sync : IsSync (Left.the_row W w)
+  left_sync = let i = inside_sync in search sendable depth 20
+
+  shared_sync : IsSync (Shared.the_row W p w)
+  shared_sync = let y = left_sync in
+      search (
+        sendable,
+        left.the_send,
+        table.the_sync,
+        counted.the_sync,
+        heap.Vec-sync,
+        option.the_sync,
+        option.the_send,
+        atomic.the_sync,
+      ) depth 20
+
+  caller_send : IsSend (Caller.the_row W p w)
+  caller_send = let y = shared_sync in search (sendable, heap.Arc-send, shared.the_send, seat.the_send) depth 20
+
+pub caller : IsSend AnyCaller.the_row
+caller = search (sendable, caller_send) depth 20

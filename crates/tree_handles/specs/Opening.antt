@@ -1,0 +1,52 @@
+-- What is answered where handles are opened, shared, opened again and asked what they have left.
+-- Source: docs/EMBEDDING.md, "Statuses".
+use Rattle.std.specs.Prelude.{◌≡◌, ℕ, ◌+◌, ◌<◌, ◌≤◌, true, Option, Some, None}
+use Rattle.tree_handles.specs.Callers.{CallerAt, IsFresh, IsShared, IsReopened}
+use Rattle.tree_handles.specs.Lists.{IsLeft}
+use Rattle.tree_handles.specs.declared.status.Status.{Status}
+use Rattle.tree_handles.specs.declared.status.Status.TheVariants.{Done, Unchanged, BadArgument, NoMemory, Lost}
+
+-- an index can be made with these slots, handles and this waiter
+pub record CanOpen (slots handles way : ℕ) : Type 0 where
+  pub slots_are : (1 ≤ slots) × (slots ≤ 2097152)
+  pub handles_are : (1 ≤ handles) × (handles ≤ 64)
+  pub way_is : way ≤ 2
+
+-- What an open answers, of what the handle holds before and after.
+abbrev pub Opens : ℕ → ℕ → ℕ → Option CallerAt → Status → Option CallerAt → Type 0
+Opens slots handles way before Done after = (c : CallerAt) × (after ≡ Some c) × IsFresh way slots handles c
+Opens slots handles way before BadArgument after = (CanOpen slots handles way → ⊥) × (after ≡ before)
+Opens slots handles way before NoMemory after = CanOpen slots handles way × (after ≡ before)
+Opens slots handles way before _ after = ⊥
+
+-- so many of the caller's unused handles, and so many of its tickets, can go over to another
+pub record CanShare (c : CallerAt) (handles tickets : ℕ) : Type 0 where
+  pub handles_are : (1 ≤ handles) × (handles < c.seat.view.allowance.places)
+  pub tickets_are : tickets ≤ c.seat.view.allowance.tickets
+
+-- What a share answers, of the caller, and of what the other handle holds before and after.
+abbrev pub Shares : CallerAt → ℕ → ℕ → Option CallerAt → Status → CallerAt → Option CallerAt → Type 0
+Shares c handles tickets was Done d other = (e : CallerAt) × (other ≡ Some e) × IsShared c handles tickets d e
+Shares c handles tickets was BadArgument d other = (CanShare c handles tickets → ⊥) × IsLeft c d × (other ≡ was)
+Shares c handles tickets was NoMemory d other = CanShare c handles tickets × IsLeft c d × (other ≡ was)
+Shares c handles tickets was Lost d other = (c.lost ≡ true) × (d ≡ c) × (other ≡ was)
+Shares c handles tickets was _ d other = ⊥
+
+-- why there is no other caller: nothing was found that a closed one left, or memory is short
+abbrev pub FailsToReopen : Status → Type 0
+FailsToReopen Unchanged = Unit {0}
+FailsToReopen NoMemory = Unit {0}
+FailsToReopen _ = ⊥
+
+-- What a reopen answers, of the caller, and of what the other handle holds before and after.
+abbrev pub Reopens : CallerAt → Option CallerAt → Status → CallerAt → Option CallerAt → Type 0
+Reopens c was Done d other = (e : CallerAt) × (was ≡ None) × (other ≡ Some e) × IsReopened c e × IsLeft c d
+Reopens c was BadArgument d other = (e : CallerAt) × (was ≡ Some e) × (other ≡ was) × IsLeft c d
+Reopens c was Lost d other = (c.lost ≡ true) × (d ≡ c) × (other ≡ was)
+Reopens c was status d other = FailsToReopen status × (was ≡ None) × (other ≡ was) × IsLeft c d
+
+-- How many more handles can be shared from it, and how many tickets it has.
+pub record HasLeft (c : CallerAt) (handles tickets : ℕ) (d : CallerAt) : Type 0 where
+  pub handles_are : handles + 1 ≡ c.seat.view.allowance.places
+  pub tickets_are : tickets ≡ c.seat.view.allowance.tickets
+  pub same : d ≡ c

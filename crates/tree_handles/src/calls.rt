@@ -1,0 +1,194 @@
+//! The calls of a handle: each takes the caller out, makes its call, and puts it back.
+ghost use Rattle.std.specs.Prelude.{◌≡◌, None};
+ghost use Rattle.tree_handles.specs.declared.status.Status.TheVariants.{Done};
+ghost use Rattle.tree_handles.specs.Calls.{Gets, Inserts, Replaces, Upserts, Removes};
+ghost use Rattle.tree_handles.specs.Holding.{Makes};
+ghost use Rattle.tree_handles.specs.Lists.{ListsOut, Firsts};
+ghost use Rattle.tree_handles.specs.Opening.{Shares, Reopens, HasLeft};
+
+use crate::handle::Handle;
+use crate::lists::Pair;
+use crate::status::Status;
+use crate::{reopening, sharing};
+use std::alloc::Global;
+
+impl Handle {
+    /// Closes the handle. What it had, places and tickets, waits in the index for [`Handle::reopen`], unless the handle is lost. The index is
+    /// freed with the last of its handles. A closed handle stays so.
+    pub fn close(&mut self, alloc: Global)
+        ensures closed { self.new.held ≡ None }
+    {
+        let _was = self.take(alloc);
+    }
+
+    /// Makes `other` a second handle of the index, with so many of this one's unused handles (itself among them) and tickets. What it was
+    /// open on before is closed.
+    ///
+    /// `Done`; `Closed`; `BadArgument` where this one hasn't so many, or no handle is asked for; `NoMemory`; `Lost`. But at `Done` both are as
+    /// they were.
+    pub fn share(&mut self, alloc: Global, handles: u32, tickets: u64, other: &mut Handle) -> Status
+        ensures shared { Makes (λ c d. Shares c handles tickets other.old.held result d other.new.held) self.old.held result self.new.held }
+        ensures closed { self.old.held ≡ None → other.new.held ≡ other.old.held }
+    {
+        let Some(caller) = self.take(alloc) else {
+            return Status::Closed;
+        };
+        let (caller, status) = sharing::share(alloc, caller, handles, tickets, other);
+        *self = Handle::of(caller);
+        status
+    }
+
+    /// Makes `other`, which is closed, a handle of the index, with the places and tickets that a handle had which was closed. Whose they were
+    /// isn't told.
+    ///
+    /// `Done`; `Unchanged` where none wait; `Closed`; `BadArgument` where `other` is open; `NoMemory`; `Lost`. But at `Done` both are as they
+    /// were.
+    pub fn reopen(&mut self, alloc: Global, other: &mut Handle) -> Status
+        ensures reopened { Makes (λ c d. Reopens c other.old.held result d other.new.held) self.old.held result self.new.held }
+        ensures closed { self.old.held ≡ None → other.new.held ≡ other.old.held }
+    {
+        let Some(caller) = self.take(alloc) else {
+            return Status::Closed;
+        };
+        let status = reopening::reopen(alloc, &caller, other);
+        *self = Handle::of(caller);
+        status
+    }
+
+    /// Tells how many more handles can be shared from this one, and how many tickets it has.
+    ///
+    /// `Done`; `Closed`.
+    pub fn left(&mut self, alloc: Global, handles: &mut u32, tickets: &mut u64) -> Status
+        ensures left { Makes (λ c d. (result ≡ Done) × HasLeft c handles.new tickets.new d) self.old.held result self.new.held }
+        ensures closed { self.old.held ≡ None → (handles.new ≡ handles.old) × (tickets.new ≡ tickets.old) }
+    {
+        let Some(caller) = self.take(alloc) else {
+            return Status::Closed;
+        };
+        *handles = caller.unused();
+        *tickets = caller.tickets();
+        *self = Handle::of(caller);
+        Status::Done
+    }
+
+    /// Tells the key's value.
+    ///
+    /// `Done`; `Unchanged` where the key is absent; `Closed`; `Spent`; `Lost`. Only at `Done` the value is written.
+    pub fn get(&mut self, alloc: Global, key: u64, value: &mut u64) -> Status
+        ensures got { Makes (λ c d. Gets c key value.old result value.new d) self.old.held result self.new.held }
+        ensures closed { self.old.held ≡ None → value.new ≡ value.old }
+    {
+        let Some(mut caller) = self.take(alloc) else {
+            return Status::Closed;
+        };
+        let status = caller.get(key, value);
+        *self = Handle::of(caller);
+        status
+    }
+
+    /// Adds the pair, where the key is absent.
+    ///
+    /// `Done`; `Unchanged` where the key is present; `Full` where no slot is free; `Closed`; `Spent`; `Lost`.
+    pub fn insert(&mut self, alloc: Global, key: u64, value: u64) -> Status
+        ensures inserted { Makes (λ c d. Inserts c key value result d) self.old.held result self.new.held }
+    {
+        let Some(mut caller) = self.take(alloc) else {
+            return Status::Closed;
+        };
+        let status = caller.insert(key, value);
+        *self = Handle::of(caller);
+        status
+    }
+
+    /// Gives the key another value, where it is present, and tells the one before.
+    ///
+    /// `Done`; `Unchanged` where the key is absent; `Closed`; `Spent`; `Lost`. Only at `Done` the old value is written.
+    pub fn replace(&mut self, alloc: Global, key: u64, value: u64, old: &mut u64) -> Status
+        ensures replaced { Makes (λ c d. Replaces c key value old.old result old.new d) self.old.held result self.new.held }
+        ensures closed { self.old.held ≡ None → old.new ≡ old.old }
+    {
+        let Some(mut caller) = self.take(alloc) else {
+            return Status::Closed;
+        };
+        let status = caller.replace(key, value, old);
+        *self = Handle::of(caller);
+        status
+    }
+
+    /// Gives the key this value, whether or not it is present: a replace, else an insert, until one of the two makes an update.
+    ///
+    /// `Done` where a value was replaced, which is told; `New` where the pair was added; `Full` where no slot is free; `Moved` where others put
+    /// the key in and took it out in each of 1,000 rounds; `Closed`; `Spent`; `Lost`. Only at `Done` the old value is written.
+    pub fn upsert(&mut self, alloc: Global, key: u64, value: u64, old: &mut u64) -> Status
+        ensures upserted { Makes (λ c d. Upserts c key value old.old result old.new d) self.old.held result self.new.held }
+        ensures closed { self.old.held ≡ None → old.new ≡ old.old }
+    {
+        let Some(mut caller) = self.take(alloc) else {
+            return Status::Closed;
+        };
+        let status = caller.upsert(key, value, old);
+        *self = Handle::of(caller);
+        status
+    }
+
+    /// Takes the pair out, where the key is present, and tells its value.
+    ///
+    /// `Done`; `Unchanged` where the key is absent; `Closed`; `Spent`; `Lost`. Only at `Done` the old value is written.
+    pub fn remove(&mut self, alloc: Global, key: u64, old: &mut u64) -> Status
+        ensures removed { Makes (λ c d. Removes c key old.old result old.new d) self.old.held result self.new.held }
+        ensures closed { self.old.held ≡ None → old.new ≡ old.old }
+    {
+        let Some(mut caller) = self.take(alloc) else {
+            return Status::Closed;
+        };
+        let status = caller.remove(key, old);
+        *self = Handle::of(caller);
+        status
+    }
+
+    /// Lists the pairs with keys from `low` to `high`, both among them, as they were at one moment of the call: keys ascending, as many as
+    /// there is room for (1 to 1,048,576).
+    ///
+    /// `Done`; `More` where there are more, and then `next` is the key after those listed; `Moved` where updates were made in each of 1,000
+    /// tries; `Closed`; `BadArgument` where `low` is above `high` or the room is out of range; `NoMemory`; `Lost`. `count` is always written, and
+    /// is 0 but at `Done` and `More`; the pairs only at these, `next` only at `More`.
+    pub fn list(
+        &mut self,
+        alloc: Global,
+        low: u64,
+        high: u64,
+        pairs: &mut [Pair],
+        count: &mut usize,
+        next: &mut u64,
+    ) -> Status
+        ensures listed { Makes (λ c d. ListsOut c (record { low = low; high = high })
+            (record { pairs = pairs.old; count = count.old; next = next.old }) result
+            (record { pairs = pairs.new; count = count.new; next = next.new }) d) self.old.held result self.new.held }
+        ensures closed { self.old.held ≡ None → (count.new ≡ 0) × (pairs.new ≡ pairs.old) × (next.new ≡ next.old) }
+    {
+        let Some(mut caller) = self.take(alloc) else {
+            *count = 0;
+            return Status::Closed;
+        };
+        let status = caller.list_out(alloc, low, high, pairs, count, next);
+        *self = Handle::of(caller);
+        status
+    }
+
+    /// Tells the pair with the least key at or above `low`, as it was at one moment of the call.
+    ///
+    /// `Done`; `Unchanged` where there is none; `Moved` where updates were made in each of 1,000 tries; `Closed`; `NoMemory`; `Lost`. Only at
+    /// `Done` the pair is written.
+    pub fn first(&mut self, alloc: Global, low: u64, key: &mut u64, value: &mut u64) -> Status
+        ensures found { Makes (λ c d. Firsts c low (key.old, value.old) result (key.new, value.new) d)
+            self.old.held result self.new.held }
+        ensures closed { self.old.held ≡ None → (key.new ≡ key.old) × (value.new ≡ value.old) }
+    {
+        let Some(mut caller) = self.take(alloc) else {
+            return Status::Closed;
+        };
+        let status = caller.first_out(alloc, low, key, value);
+        *self = Handle::of(caller);
+        status
+    }
+}

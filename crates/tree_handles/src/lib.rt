@@ -1,0 +1,23 @@
+//! A concurrent ordered index from numbers to numbers by handles: the CITRUS tree, with one of its three waiters, for programs that hand a
+//! pointer about. `citrus_c` exports these calls to C.
+//!
+//! No call has a `requires`: each misuse that a handle or an argument shows is answered with a status.
+#![tactic(auto)]
+
+mod any_caller;
+mod caller;
+mod calls;
+mod handle;
+mod lists;
+mod opening;
+mod parts;
+mod reopening;
+mod shared;
+mod sharing;
+mod spinning;
+mod status;
+mod updates;
+
+pub use handle::Handle;
+pub use lists::Pair;
+pub use status::Status;

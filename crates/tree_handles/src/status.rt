@@ -1,0 +1,51 @@
+//! What a call answers, as a number of C.
+ghost use Rattle.std.specs.Prelude.{◌≡◌};
+ghost use Rattle.tree_handles.specs.Statuses.{code_of};
+
+/// What a call came to. `citrus.h` names the numbers.
+#[derive(Clone, Copy, Debug, PartialEq, Eq)]
+pub enum Status {
+    /// The call did what it says.
+    Done,
+    /// The key is absent, or present at an insert, or no place waits for a reopen: nothing has changed.
+    Unchanged,
+    /// No slot is free: nothing has changed.
+    Full,
+    /// A list has more pairs than there is room for.
+    More,
+    /// Others made updates in each try.
+    Moved,
+    /// An upsert added the pair.
+    New,
+    /// The handle is closed.
+    Closed,
+    /// An argument is out of its range: nothing has changed.
+    BadArgument,
+    /// No memory: nothing has changed.
+    NoMemory,
+    /// Fewer than four tickets are left.
+    Spent,
+    /// This call or an earlier one of the handle gave up in its midst.
+    Lost,
+}
+
+impl Status {
+    /// The number of the status.
+    pub fn code(self) -> i32
+        ensures { result ≡ code_of self }
+    {
+        match self {
+            Status::Done => 0,
+            Status::Unchanged => 1,
+            Status::Full => 2,
+            Status::More => 3,
+            Status::Moved => 4,
+            Status::New => 5,
+            Status::Closed => -1,
+            Status::BadArgument => -2,
+            Status::NoMemory => -3,
+            Status::Spent => -4,
+            Status::Lost => -5,
+        }
+    }
+}
