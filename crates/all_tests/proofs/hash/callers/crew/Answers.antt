@@ -1,0 +1,44 @@
+use Rattle.std.proofs.Common.{◌≡◌, ◌+◌, List, [], ◌∷◌, ◌++◌, length, get_or, refl, sym, ap, subst, ◌∙◌, arith, length-append}
+use Rattle.std.proofs.lemmas.Option.{get_or_from_slice_get}
+use Rattle.prcu_model.specs.declared.operation.Op.{Op}
+use Rattle.hash_core.specs.declared.view.View.{View}
+use Rattle.client_run.specs.Workers.{IsReadyFor, AreReadyFor}
+use Rattle.client_run.proofs.Ready.{AreReadyFor-nil, AreReadyFor-push}
+use Rattle.all_tests.proofs.hash.callers.crew.Goals as goal
+
+pub loop-i-init : goal.loop-i-init
+loop-i-init g c = rw c.new-workers.ensures.items
+    (record {
+      table = c.requires.0;
+      quiet = c.requires.1;
+      many = refl;
+      ready = AreReadyFor-nil (λ client. client.view.tickets) c.args.scripts.now;
+    })
+
+pub loop-i-preserved : goal.loop-i-preserved
+loop-i-preserved g c =
+    let workers = c.loop-i.workers.items in
+    let worker = c.in_ok-new.field-0 in
+    let script = c.script-calls.result.now in
+    let read : script ≡ get_or c.args.scripts.now (length workers) [] =
+    sym (get_or_from_slice_get c.args.scripts.now c.loop-i.i script [] c.script-calls.ensures.script)
+    ∙ ap (λ k. get_or c.args.scripts.now k []) (sym c.loop-i.invariant.many) in
+    let tickets = ap (λ (client : _). client.view.tickets) c.in_ok-new.ensures.client
+    ∙ ap (λ (v : View). v.tickets) c.new-client.ensures.view ∙ ap (λ (v : View). v.tickets) c.split-left.ensures.views.1 in
+    let ready : IsReadyFor (λ client. client.view.tickets) worker script = record {
+      empty = c.in_ok-new.ensures.empty;
+      room = c.in_ok-new.ensures.room;
+      means = omega arith;
+    } in
+    let next : AreReadyFor (λ client. client.view.tickets) (workers ++ worker ∷ []) c.args.scripts.now =
+    AreReadyFor-push (λ client. client.view.tickets) c.args.scripts.now workers worker c.loop-i.invariant.ready
+    (subst (λ (ops : List Op). IsReadyFor (λ client. client.view.tickets) worker ops) read ready) in
+    rw c.in_ok-push.ensures.items (record {
+      table = c.split-left.ensures.table.0 ∙ c.loop-i.invariant.table;
+      quiet = (
+        ap (λ (v : View). v.section) c.split-left.ensures.views.0 ∙ c.loop-i.invariant.quiet.0,
+        ap (λ (v : View). v.hold) c.split-left.ensures.views.0 ∙ c.loop-i.invariant.quiet.1,
+      );
+      many = length-append workers (worker ∷ []) ∙ ap (λ k. k + 1) c.loop-i.invariant.many;
+      ready = next;
+    })

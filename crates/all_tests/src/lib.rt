@@ -1,0 +1,27 @@
+//! Tests of the model, of sources and sinks, of texts, of workers, of the machine, of the hash dictionary, of the tree's table and waiters, of
+//! the tree, and of the top call. They stand here and not in the crates that they are of, since tests are proved together with all functions
+//! of their crate; and in one crate, since each reads what it needs of std anew.
+#![tactic(auto)]
+
+#[cfg(test)]
+mod hash;
+#[cfg(test)]
+mod machine;
+#[cfg(test)]
+mod model;
+#[cfg(test)]
+mod same;
+#[cfg(test)]
+mod scripts;
+#[cfg(test)]
+mod streams;
+#[cfg(test)]
+mod table;
+#[cfg(test)]
+mod texts;
+#[cfg(test)]
+mod tool;
+#[cfg(test)]
+mod tree;
+#[cfg(test)]
+mod workers;

@@ -1,6 +1,0 @@
-use Rattle.std.proofs.Common.{◌≡◌}
-use Rattle.hash_core.specs.Steps.{IsQuiet}
-use Rattle.tool_tests.proofs.tests.left.assert_found.Given as goal
-
-abbrev pub invariant-loop-key : goal.invariant-loop-key
-invariant-loop-key g l = (l.seat.table ≡ l.table.id) × IsQuiet l.seat.view
