@@ -52,35 +52,21 @@ mod slots;
 // An operation, and what it is to be answered.
 type Call = (Op, Told);
 
-fn told(reply: Reply, number: u64) -> Told {
-    Told { reply, number }
-}
-
-// Makes the calls one after another. Each has to be answered as it says.
+// The seat, after it made the calls one after another. Each has to be answered as it says.
 fn run<R: Abort + Wait, W: WaitPart>(
     rt: &R,
-    client: &mut TreeClient<W, OpenGate>,
+    table: &CitrusTable<W>,
+    seat: Seat<W>,
     name: &str,
     calls: &[Call],
-) {
+) -> Seat<W>
+    requires { (seat.table ≡ table.now) × IsQuietSeat seat }
+    ensures { (result.table ≡ table.now) × IsQuietSeat result }
+{
+    let mut client = TreeClient::new(table, seat, &OpenGate);
     for (op, answer) in calls {
         assert!(rt; client.remaining() > 0, "no tickets are left");
         assert_same(rt, client.call(rt, *op), *answer, (*op, name));
     }
-}
-
-// Makes one call with a seat, and answers what it was told.
-fn call_once<R: Abort + Wait, W: WaitPart>(
-    rt: &R,
-    table: &CitrusTable<W>,
-    seat: Seat<W>,
-    op: Op,
-) -> (Told, Seat<W>)
-    requires { (seat.table ≡ table.now) × IsQuietSeat seat }
-    ensures { (result.1.table ≡ table.now) × IsQuietSeat result.1 }
-{
-    let mut client = TreeClient::new(table, seat, &OpenGate);
-    assert!(rt; client.remaining() > 0, "no tickets are left");
-    let told = client.call(rt, op);
-    (told, client.into_seat())
+    client.into_seat()
 }

@@ -4,6 +4,7 @@ ghost use Rattle.hash_core.specs.Steps.{IsQuiet};
 ghost use Rattle.client_run.specs.Workers.{AreReadyFor};
 
 use crate::same::assert_same;
+use crate::scripts::{drawn_scripts, key_of};
 use class_hash::{HashClient, HashSeat, HashTable};
 use client_run::{Worker, run_all};
 use prcu_marks::{Client, OpenGate};
@@ -24,38 +25,6 @@ const SLOTS: u32 = 2;
 
 // Stands where there is none.
 const NO_UPDATE: Op = Op::Get { key: 0 };
-
-// The next number of a made sequence.
-fn drawn(last: u64) -> u64 {
-    last.wrapping_mul(6_364_136_223_846_793_005)
-        .wrapping_add(1_442_695_040_888_963_407)
-}
-
-// The operation that a number stands for, on one of the keys.
-fn op_of(number: u64, value: u64) -> Op {
-    let key = KEYS[((number >> 40) % 6) as usize];
-    match (number >> 32) % 8 {
-        0..=2 => Op::Put { key, value },
-        3..=4 => Op::Del { key },
-        5 => Op::Set { key, value },
-        _ => Op::Get { key },
-    }
-}
-
-fn made_scripts(rt: &impl Abort, alloc: Global) -> Result<Scripts, NoMemory> {
-    let mut scripts = Scripts::new(alloc);
-    let mut number = 1;
-    for caller in 0..CALLERS {
-        assert!(rt; scripts.count() < Scripts::MOST_SCRIPTS);
-        scripts.add_script()?;
-        for call in 0..CALLS {
-            number = drawn(number);
-            assert!(rt; 0 < scripts.count() && scripts.ops() < Scripts::MOST_OPS);
-            scripts.add_op(op_of(number, u64::from(caller * CALLS + call)))?;
-        }
-    }
-    Ok(scripts)
-}
 
 // A worker for each script, with a seat of its own, and the seat that is left.
 fn crew<'a>(
@@ -81,12 +50,6 @@ fn crew<'a>(
         workers.push(Worker::new(alloc, client, calls as u32)?)?;
     }
     Ok((workers, rest))
-}
-
-fn key_of(op: Op) -> u64 {
-    match op {
-        Op::Put { key, .. } | Op::Get { key } | Op::Del { key } | Op::Set { key, .. } => key,
-    }
 }
 
 // The dictionary at a front of a history: a map for each of the two classes.
@@ -262,7 +225,7 @@ fn one_history_explains_callers_that_run_beside_each_other(rt: HostRuntime) -> R
     capacities[7] = SLOTS;
     let tickets = u64::from(CALLERS * CALLS) + KEYS.len() as u64;
     let (table, seat) = HashTable::new(alloc, &capacities, CALLERS + 1, tickets)?;
-    let scripts = made_scripts(&rt, alloc)?;
+    let scripts = drawn_scripts(&rt, alloc, CALLERS, CALLS, &KEYS)?;
     let (mut workers, seat) = crew(&rt, alloc, &scripts, &table, seat)?;
     run_all(&rt, &mut workers, &scripts);
 

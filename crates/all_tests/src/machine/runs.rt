@@ -1,11 +1,11 @@
 //! Runs by hand.
-ghost use Rattle.std.specs.Prelude.{◌≡◌, ◌<◌, length};
+ghost use Rattle.std.specs.Prelude.{◌≡◌, ◌<◌, ◌≤◌, length, IfOk};
 
 use crate::same::assert_same;
 use crate::scripts::scripts_of;
 use core_machine::{Machine, Stepped};
 use prcu_marks::Why;
-use prcu_model::{Dict, NoMemory, Op, Update};
+use prcu_model::{Dict, NoMemory, Op, Told, Update};
 use std::alloc::Global;
 use std::process::Abort;
 use std::test::Fail;
@@ -51,24 +51,49 @@ fn step_until(machine: &mut Machine, caller: u32, until: Until) -> Stepped
     Stepped::Moved
 }
 
-// That the caller's steps end so.
-fn assert_ends(rt: &impl Abort, machine: &mut Machine, caller: u32, wanted: Stepped)
-    requires { caller < length machine.old.owns }
-    ensures { length machine.new.owns ≡ length machine.old.owns }
+// A machine of two scripts on so many slots.
+fn machine_of(
+    rt: &impl Abort,
+    alloc: Global,
+    first: &[Op],
+    second: &[Op],
+    slots: u32,
+) -> Result<Machine, NoMemory>
+    requires slots { (1 ≤ slots) × (slots ≤ 2097152) }
+    ensures callers { IfOk result (λ machine. length machine.owns ≡ 2) }
 {
-    let stepped = step_until(machine, caller, Until::Stopped);
-    assert_same(rt, stepped, wanted, caller);
+    let scripts = scripts_of(rt, alloc, &[first, second])?;
+    assert!(rt; scripts.count() == 2);
+    Machine::new(alloc, &scripts, slots)
 }
 
-// That the caller was told so many answers, the last one with this number.
-fn assert_told(rt: &impl Abort, machine: &Machine, caller: u32, count: usize, number: u64)
-    requires { caller < length machine.now.owns }
+// A turn of a caller: who it is and how far it is stepped. Then how that ends, at which slot its search stands, and how many answers it was
+// told, with the number of the last.
+type Turn = (u32, Until, Stepped, Option<u32>, (usize, u64));
+
+// How many answers these are, and the number of the last.
+fn count_of(told: &[Told]) -> (usize, u64) {
+    match told.last() {
+        Some(last) => (told.len(), last.number),
+        None => (0, 0),
+    }
+}
+
+// That the turns of two callers, one after another, end as they say.
+fn assert_turns(rt: &impl Abort, machine: &mut Machine, turns: &[Turn])
+    requires { length machine.old.owns ≡ 2 }
 {
-    let told = machine.told(caller);
-    let Some(last) = told.last() else {
-        panic!(rt; "nothing was told");
-    };
-    assert_same(rt, (told.len(), last.number), (count, number), caller);
+    for (place, turn) in turns.iter().enumerate() {
+        let (caller, until, ends, stands, told) = *turn;
+        assert!(rt; caller < 2);
+        let ended = step_until(machine, caller, until);
+        let found = (
+            ended,
+            machine.standing(caller),
+            count_of(machine.told(caller)),
+        );
+        assert_same(rt, found, (ends, stands, told), place);
+    }
 }
 
 // The pairs that the updates leave, ascending.
@@ -97,49 +122,40 @@ fn a_put_beside_a_move_searches_again(rt: HostRuntime) -> Result<(), Fail> {
         Op::Del { key: 5 },
     ];
     let second = [Op::Put { key: 6, value: 60 }];
-    let scripts = scripts_of(&rt, rt.alloc(), &[&first, &second])?;
-    assert!(rt; scripts.count() == 2);
-    let mut machine = Machine::new(rt.alloc(), &scripts, 45)?;
-    step_until(&mut machine, 0, Until::Told { count: 4 });
-    step_until(&mut machine, 1, Until::At { slot: 5 });
-    let reader = Why::Reader {
+    let on = Why::Reader {
         place: 1,
         key: 6,
         stamp: 0,
     };
-    assert_ends(&rt, &mut machine, 0, Stepped::Blocked { on: reader });
-    step_until(&mut machine, 1, Until::Outside);
-    assert_ends(&rt, &mut machine, 0, Stepped::Finished);
-    assert_ends(&rt, &mut machine, 1, Stepped::Finished);
-    assert_told(&rt, &machine, 0, 5, 5);
-    assert_told(&rt, &machine, 1, 1, 6);
-    assert_pairs(
-        &rt,
-        rt.alloc(),
-        machine.updates(),
-        &[(2, 20), (6, 60), (7, 70), (9, 90)],
-    )?;
-    assert_same(&rt, machine.step(0), Stepped::Finished, "one step more");
-    Ok(())
+    let turns = [
+        (0, Until::Told { count: 4 }, Stepped::Moved, None, (4, 4)),
+        (1, Until::At { slot: 5 }, Stepped::Moved, Some(5), (0, 0)),
+        (0, Until::Stopped, Stepped::Blocked { on }, None, (4, 4)),
+        (1, Until::Outside, Stepped::Moved, None, (0, 0)),
+        (0, Until::Stopped, Stepped::Finished, None, (5, 5)),
+        (1, Until::Stopped, Stepped::Finished, None, (1, 6)),
+        // one step more
+        (0, Until::Stopped, Stepped::Finished, None, (5, 5)),
+    ];
+    let mut machine = machine_of(&rt, rt.alloc(), &first, &second, 45)?;
+    assert_turns(&rt, &mut machine, &turns);
+    let pairs = [(2, 20), (6, 60), (7, 70), (9, 90)];
+    Ok(assert_pairs(&rt, rt.alloc(), machine.updates(), &pairs)?)
 }
 
 #[test]
 fn a_put_at_a_node_that_is_deleted_searches_again(rt: HostRuntime) -> Result<(), Fail> {
     let first = [Op::Put { key: 5, value: 50 }, Op::Del { key: 5 }];
     let second = [Op::Put { key: 6, value: 60 }];
-    let scripts = scripts_of(&rt, rt.alloc(), &[&first, &second])?;
-    assert!(rt; scripts.count() == 2);
-    let mut machine = Machine::new(rt.alloc(), &scripts, 42)?;
-    step_until(&mut machine, 0, Until::Told { count: 1 });
-    assert_told(&rt, &machine, 0, 1, 1);
-    step_until(&mut machine, 1, Until::At { slot: 3 });
-    assert_same(&rt, machine.standing(1), Some(3), "below the node");
-    step_until(&mut machine, 1, Until::Outside);
-    assert_same(&rt, machine.standing(1), None, "outside");
-    assert_ends(&rt, &mut machine, 0, Stepped::Finished);
-    assert_ends(&rt, &mut machine, 1, Stepped::Finished);
-    assert_told(&rt, &machine, 0, 2, 2);
-    assert_told(&rt, &machine, 1, 1, 3);
-    assert_pairs(&rt, rt.alloc(), machine.updates(), &[(6, 60)])?;
-    Ok(())
+    let turns = [
+        (0, Until::Told { count: 1 }, Stepped::Moved, None, (1, 1)),
+        // below the node
+        (1, Until::At { slot: 3 }, Stepped::Moved, Some(3), (0, 0)),
+        (1, Until::Outside, Stepped::Moved, None, (0, 0)),
+        (0, Until::Stopped, Stepped::Finished, None, (2, 2)),
+        (1, Until::Stopped, Stepped::Finished, None, (1, 3)),
+    ];
+    let mut machine = machine_of(&rt, rt.alloc(), &first, &second, 42)?;
+    assert_turns(&rt, &mut machine, &turns);
+    Ok(assert_pairs(&rt, rt.alloc(), machine.updates(), &[(6, 60)])?)
 }

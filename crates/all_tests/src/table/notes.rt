@@ -1,6 +1,7 @@
 //! What readers tell of themselves beside the table, and drawn keys.
 ghost use Rattle.std.specs.Prelude.{◌<◌};
 
+use crate::scripts::drawn;
 use key_interval::Keys;
 use std::process::Abort;
 use std::sync::atomic::{AtomicU64, Ordering};
@@ -118,10 +119,7 @@ impl Draws {
     }
 
     pub(super) fn key(&mut self) -> u64 {
-        self.state = self
-            .state
-            .wrapping_mul(6364136223846793005)
-            .wrapping_add(1442695040888963407);
+        self.state = drawn(self.state);
         (self.state >> 33) % KEYS
     }
 

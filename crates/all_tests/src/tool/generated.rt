@@ -1,6 +1,7 @@
 //! Scripts that nobody chose, run and checked.
 use super::{answer, assert_written};
 use crate::same::assert_same;
+use crate::scripts::drawn;
 use citrus_tool::Status;
 use prcu_marks::OpenGate;
 use std::alloc::Global;
@@ -23,13 +24,6 @@ fn assert_checked_as_true<R: Threads + Wait + Sync + Abort>(
     claim.extend_from_slice(b"account\n")?;
     claim.extend_from_slice(&account)?;
     assert_written(rt, alloc, check, &claim, Status::Done, b"yes\n")
-}
-
-// Numbers that follow from a number.
-fn drawn(state: u64) -> u64 {
-    state
-        .wrapping_mul(6_364_136_223_846_793_005)
-        .wrapping_add(1_442_695_040_888_963_407)
 }
 
 // The line of this choice.

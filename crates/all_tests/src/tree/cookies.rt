@@ -14,18 +14,6 @@ use prcu_marks::Why;
 use seat_table::wait_for_readers;
 use std::test::Fail;
 
-// Puts a pair and takes it out again, so that its slot is retired.
-fn retire_one<R: Wait + Abort>(rt: &R, table: &CitrusTable<Eer>, seat: Seat<Eer>) -> Seat<Eer>
-    requires { (seat.table ≡ table.now) × IsQuietSeat seat }
-    ensures { (result.table ≡ table.now) × IsQuietSeat result }
-{
-    let (put, seat) = call_once(rt, table, seat, Op::Put { key: 5, value: 50 });
-    assert_same(rt, put, told(Reply::New, 1), "the put");
-    let (del, seat) = call_once(rt, table, seat, Op::Del { key: 5 });
-    assert_same(rt, del, told(Reply::Gone, 2), "the delete");
-    seat
-}
-
 // Gets the pair, which leaves the seat's cookies as they are.
 fn get_beside<R: Wait>(rt: &R, table: &CitrusTable<Eer>, seat: &mut Seat<Eer>) -> Reply
     requires table { seat.old.table ≡ table.now }
@@ -42,7 +30,8 @@ fn get_beside<R: Wait>(rt: &R, table: &CitrusTable<Eer>, seat: &mut Seat<Eer>) -
 fn slots_go_back_once_the_cookie_is_over(rt: HostRuntime) -> Result<(), Fail> {
     let (table, seat) = CitrusTable::<Eer>::new(rt.alloc(), 1, 2, 16)?;
     let (writer, mut reader) = seat.split(&table, 1, 4);
-    let mut writer = retire_one(&rt, &table, writer);
+    let calls = [call!(put 5 50 new 1), call!(del 5 gone 2)];
+    let mut writer = run(&rt, &table, writer, "a slot is retired", &calls);
     assert!(rt; writer.tickets() > 0);
     Eer::enter(&table, &mut reader, 7);
     let mut cookie = start(&table, &mut writer);

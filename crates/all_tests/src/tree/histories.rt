@@ -3,6 +3,7 @@ ghost use Rattle.std.specs.Prelude.{◌≡◌, ◌≤◌};
 ghost use Rattle.seat_table.specs.Seats.{IsQuietSeat};
 
 use crate::same::assert_same;
+use crate::scripts::{drawn_scripts, key_of};
 use citrus_tree::TreeClient;
 use d_wait::Domain;
 use deer_wait::Deer;
@@ -25,44 +26,6 @@ const KEYS: u64 = 8;
 
 // The values of the keys at a front.
 type Values = [Option<u64>; 8];
-
-// The next number of a made sequence.
-fn drawn(last: u64) -> u64 {
-    last.wrapping_mul(6_364_136_223_846_793_005)
-        .wrapping_add(1_442_695_040_888_963_407)
-}
-
-// The operation that a number stands for, on one of the keys.
-fn op_of(number: u64, value: u64) -> Op {
-    let key = (number >> 40) % KEYS;
-    match (number >> 32) % 8 {
-        0..=2 => Op::Put { key, value },
-        3..=4 => Op::Del { key },
-        5 => Op::Set { key, value },
-        _ => Op::Get { key },
-    }
-}
-
-fn made_scripts(rt: &impl Abort, alloc: Global) -> Result<Scripts, NoMemory> {
-    let mut scripts = Scripts::new(alloc);
-    let mut number = 1;
-    for caller in 0..CALLERS {
-        assert!(rt; scripts.count() < Scripts::MOST_SCRIPTS);
-        scripts.add_script()?;
-        for call in 0..CALLS {
-            number = drawn(number);
-            assert!(rt; 0 < scripts.count() && scripts.ops() < Scripts::MOST_OPS);
-            scripts.add_op(op_of(number, u64::from(caller * CALLS + call)))?;
-        }
-    }
-    Ok(scripts)
-}
-
-fn key_of(op: Op) -> u64 {
-    match op {
-        Op::Put { key, .. } | Op::Get { key } | Op::Del { key } | Op::Set { key, .. } => key,
-    }
-}
 
 // Whether an operation is given this reply where the keys have these values, and four scripts share the slots.
 fn is_reply(values: &Values, slots: u32, op: Op, reply: Reply) -> bool {
@@ -189,7 +152,8 @@ fn assert_run<R: Threads + Wait + Sync + Abort, W: WaitPart + Send + Sync>(
 ) -> Result<(), NoMemory>
     requires { (W.WAY ≤ 2) × (1 ≤ slots) × (slots ≤ 2097152) }
 {
-    let scripts = made_scripts(rt, alloc)?;
+    let keys = [0, 1, 2, 3, 4, 5, 6, 7];
+    let scripts = drawn_scripts(rt, alloc, CALLERS, CALLS, &keys)?;
     assert!(rt; 0 < scripts.count());
     let TreeRun {
         told,

@@ -7,60 +7,57 @@ use citrus_tree::{Removed, remove};
 use eer_wait::Eer;
 use std::test::Fail;
 
-// What a remove comes to that takes a pair out.
-fn taken(value: u64, number: u64) -> Removed {
-    Removed {
-        told: told(Reply::Gone, number),
-        value: Some(value),
-    }
-}
+// A key that is removed, what that is told with the number of the update where it is one, and the value.
+type Remove = (u64, Reply, u64, Option<u64>);
 
-// Makes a call, which has to be answered as it says.
-fn made<R: Abort + Wait>(rt: &R, table: &CitrusTable<Eer>, seat: Seat<Eer>, call: Call) -> Seat<Eer>
-    requires { (seat.table ≡ table.now) × IsQuietSeat seat }
-    ensures { (result.table ≡ table.now) × IsQuietSeat result }
-{
-    let (op, answer) = call;
-    let (told, seat) = call_once(rt, table, seat, op);
-    assert_same(rt, told, answer, op);
-    seat
-}
-
-// Removes a key, which comes to what is told.
-fn remove_once<R: Abort + Wait>(
+// Removes one key after another. Each comes to what is told.
+fn remove_each<R: Abort + Wait>(
     rt: &R,
     table: &CitrusTable<Eer>,
-    seat: Seat<Eer>,
-    key: u64,
-    expected: Removed,
-) -> Seat<Eer>
+    mut seat: Seat<Eer>,
+    removes: &[Remove],
+)
     requires { (seat.table ≡ table.now) × IsQuietSeat seat }
-    ensures { (result.table ≡ table.now) × IsQuietSeat result }
 {
-    let mut seat = seat;
-    assert!(rt; seat.tickets() >= 4, "no tickets are left");
-    let removed = remove(rt, table, &mut seat, &OpenGate, key);
-    assert_same(rt, removed, expected, key);
-    seat
+    for (key, reply, number, value) in removes {
+        assert!(rt; seat.tickets() >= 4, "no tickets are left");
+        let removed = remove(rt, table, &mut seat, &OpenGate, *key);
+        let told = Told {
+            reply: *reply,
+            number: *number,
+        };
+        let wanted = Removed {
+            told,
+            value: *value,
+        };
+        assert_same(rt, removed, wanted, *key);
+    }
 }
 
 #[test]
 fn a_remove_tells_the_value_that_the_key_had(rt: HostRuntime) -> Result<(), Fail> {
     let (table, seat) = CitrusTable::<Eer>::new(rt.alloc(), 8, 1, 64)?;
-    let seat = made(&rt, &table, seat, call!(put 5 50 new 1));
-    let seat = made(&rt, &table, seat, call!(put 3 30 new 2));
-    let seat = made(&rt, &table, seat, call!(put 8 80 new 3));
-    let seat = made(&rt, &table, seat, call!(put 7 70 new 4));
-    let seat = made(&rt, &table, seat, call!(put 2 20 new 5));
-    let seat = made(&rt, &table, seat, call!(set 5 51 was 50 6));
-    let seat = remove_once(&rt, &table, seat, 2, taken(20, 7)); // a leaf
-    let seat = remove_once(&rt, &table, seat, 5, taken(51, 8)); // two children: 7 moves up
-    let seat = remove_once(&rt, &table, seat, 7, taken(70, 9)); // the node that moved
-    let seat = remove_once(&rt, &table, seat, 8, taken(80, 10)); // one child
-    let nothing = Removed {
-        told: told(Reply::Absent, 0),
-        value: None,
-    };
-    let _seat = remove_once(&rt, &table, seat, 5, nothing);
+    let calls = [
+        call!(put 5 50 new 1),
+        call!(put 3 30 new 2),
+        call!(put 8 80 new 3),
+        call!(put 7 70 new 4),
+        call!(put 2 20 new 5),
+        call!(set 5 51 was 50 6),
+    ];
+    let seat = run(&rt, &table, seat, "five keys", &calls);
+    let removes = [
+        // a leaf
+        (2, Reply::Gone, 7, Some(20)),
+        // two children: 7 moves up
+        (5, Reply::Gone, 8, Some(51)),
+        // the node that moved
+        (7, Reply::Gone, 9, Some(70)),
+        // one child
+        (8, Reply::Gone, 10, Some(80)),
+        // no node
+        (5, Reply::Absent, 0, None),
+    ];
+    remove_each(&rt, &table, seat, &removes);
     Ok(())
 }

@@ -41,9 +41,8 @@ fn run_each<R: Abort + Wait, W: WaitPart>(
         } = *script;
         assert!(rt; 1 <= slots && slots <= 8);
         let (table, seat) = CitrusTable::<W>::new(alloc, slots, 1, 64)?;
-        let mut client = TreeClient::new(&table, seat, &OpenGate);
-        run(rt, &mut client, name, calls);
-        assert_same(rt, left(&client.into_seat()), script.left, name);
+        let seat = run(rt, &table, seat, name, calls);
+        assert_same(rt, left(&seat), script.left, name);
     }
     Ok(())
 }
@@ -220,19 +219,14 @@ fn the_third_waiters_scripts_are_told_what_they_did(rt: HostRuntime) -> Result<(
 
 // What the seat has left, after a key was put and deleted so many times.
 fn put_and_delete<R: Abort + Wait>(rt: &R, alloc: Global, times: u32) -> Result<Left, Fail> {
-    let (table, seat) = CitrusTable::<Eer>::new(alloc, 37, 1, 256)?;
-    let mut client = TreeClient::new(&table, seat, &OpenGate);
+    let (table, mut seat) = CitrusTable::<Eer>::new(alloc, 37, 1, 256)?;
     for time in 0..times {
         let put = 2 * u64::from(time) + 1;
         let del = put + 1;
-        run(
-            rt,
-            &mut client,
-            "a key again and again",
-            &[call!(put 7 70 new put), call!(del 7 gone del)],
-        );
+        let calls = [call!(put 7 70 new put), call!(del 7 gone del)];
+        seat = run(rt, &table, seat, "a key again and again", &calls);
     }
-    Ok(left(&client.into_seat()))
+    Ok(left(&seat))
 }
 
 #[test]

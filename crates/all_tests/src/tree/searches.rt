@@ -8,8 +8,8 @@ use std::test::Fail;
 #[test]
 fn a_search_comes_to_a_key_below_another(rt: HostRuntime) -> Result<(), Fail> {
     let (table, seat) = CitrusTable::<Eer>::new(rt.alloc(), 4, 1, 64)?;
-    let (_, seat) = call_once(&rt, &table, seat, Op::Put { key: 5, value: 50 });
-    let (_, mut seat) = call_once(&rt, &table, seat, Op::Put { key: 2, value: 20 });
+    let calls = [call!(put 5 50 new 1), call!(put 2 20 new 2)];
+    let mut seat = run(&rt, &table, seat, "two keys", &calls);
     let mut search = Search::start(&table, &mut seat, 2);
     let Hop::Moved = search.hop() else {
         panic!(rt; "5 is at the root");
@@ -27,9 +27,12 @@ fn a_search_comes_to_a_key_below_another(rt: HostRuntime) -> Result<(), Fail> {
 #[test]
 fn a_search_comes_to_the_side_where_a_key_belongs(rt: HostRuntime) -> Result<(), Fail> {
     let (table, seat) = CitrusTable::<Eer>::new(rt.alloc(), 4, 1, 64)?;
-    let (_, seat) = call_once(&rt, &table, seat, Op::Put { key: 5, value: 50 });
-    let (_, seat) = call_once(&rt, &table, seat, Op::Put { key: 2, value: 20 });
-    let (_, mut seat) = call_once(&rt, &table, seat, Op::Del { key: 2 });
+    let calls = [
+        call!(put 5 50 new 1),
+        call!(put 2 20 new 2),
+        call!(del 2 gone 3),
+    ];
+    let mut seat = run(&rt, &table, seat, "one of two keys", &calls);
     let mut search = Search::start(&table, &mut seat, 2);
     let Hop::Moved = search.hop() else {
         panic!(rt; "5 is at the root");
