@@ -4,9 +4,55 @@ use Rattle.citrus_tree.specs.Putting.{taken_stage}
 use Rattle.seat_table.specs.Seats.{shape_of}
 use Rattle.std.specs.declared.option.Option.{Option}
 use Rattle.citrus_tree.proofs.puts.Filling.{leaf_taken, room_goes}
-use Rattle.std.proofs.Common.{[], subst, ℕ}
-use Rattle.citrus_tree.proofs.KeepingSlots.{goes_slots}
+use Rattle.std.proofs.Common.{[], None, Some, inl, subst, ℕ}
+use Rattle.core_points.specs.declared.stage.Spot.{Spot}
+use Rattle.core_points.specs.declared.stage.Stage.TheVariants as at
+use Rattle.core_state.specs.declared.shape.Shape.{Shape}
+use Rattle.core_state.specs.declared.view.Held.{Held}
+use Rattle.core_state.specs.declared.view.View.{View}
+use Rattle.seat_table.specs.Seats.{IsSlotOf}
+use Rattle.citrus_tree.specs.Going.{leaf_stage}
+use Rattle.citrus_tree.proofs.KeepingSlots.{goes_slots, slots_self}
+use Rattle.citrus_tree.proofs.Leavings.{goes_same}
 use Rattle.citrus_tree.proofs.insert.leaf_in_hand.Goals as goal
+
+-- a filled slot is in hand
+has_leaf : {k : Shape} {key value kept : ℕ} {spot : Spot} {v : View} (slot : ℕ) (hand : Option Held) → IsSlotOf (Some slot) hand
+    → IsAt k (Put key value) kept (leaf_stage hand spot) v → IsAt k (Put key value) kept (at.LeafLock spot) v
+has_leaf slot None wrong a = absurd wrong
+has_leaf slot (Some held) is a = a
+
+pub returns-in-Some-clause-slot : goal.returns-in-Some-clause-slot
+returns-in-Some-clause-slot g c slot e = subst (λ (o : Option ℕ). IsSlotOf o c.args.seat.now.view.hands.hand) e c.in-Some.ensures
+
+pub returns-in-Some-clause-room : goal.returns-in-Some-clause-room
+returns-in-Some-clause-room g c = inl (goes_same c.args.seat.now.view)
+
+pub returns-in-Some-clause-slots : goal.returns-in-Some-clause-slots
+returns-in-Some-clause-slots g c = slots_self c.args.seat.now
+
+pub returns-in-Some-clause-at : goal.returns-in-Some-clause-at
+returns-in-Some-clause-at g c kept spot a = has_leaf _ c.args.seat.now.view.hands.hand c.in-Some.ensures a
+
+pub take_slot-requires-clause-at : goal.take_slot-requires-clause-at
+take_slot-requires-clause-at g c = let a = c.requires.at in (
+  a.1,
+  1,
+  (Put c.args.key c.args.value, a.0, leaf_taken c.args.seat.now.view.hands.hand c.in_default.ensures a.2),
+)
+
+pub fill_leaf-requires-clause-slot : goal.fill_leaf-requires-clause-slot
+fill_leaf-requires-clause-slot g c = c.in_ok-slot.ensures.slot _ c.in-Some-2.is
+
+pub fill_leaf-requires-clause-at : goal.fill_leaf-requires-clause-at
+fill_leaf-requires-clause-at g c = let a = c.requires.at in (
+  a.0,
+  a.1,
+  subst (λ (r : Option ℕ). IsAt (shape_of g.W.WaitWords.WAY c.args.table.now) (Put c.args.key c.args.value) a.0
+      (taken_stage r a.1) c.take_slot.new.seat.view) c.in-Some-2.is
+      (c.in_ok-slot.ensures.at a.1 1 (Put c.args.key c.args.value) a.0
+      (leaf_taken c.args.seat.now.view.hands.hand c.in_default.ensures a.2)),
+)
 
 pub returns-clause-room : goal.returns-clause-room
 returns-clause-room g c = room_goes c.in_ok-slot.ensures.room c.fill_leaf.ensures.goes

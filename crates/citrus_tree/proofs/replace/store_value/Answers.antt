@@ -1,7 +1,25 @@
-use Rattle.std.proofs.Common.{◌≡◌, ap, ◌∙◌}
+use Rattle.std.proofs.Common.{◌≡◌, None, Option, Some, ap, ◌∙◌}
 use Rattle.citrus_tree.specs.declared.replace.Replaced.{Replaced}
-use Rattle.citrus_tree.proofs.sets.Storing.{is_alive, not_alive, loads_life, gives_up, again_at, loads_value, committing, stores, evening, lets_go, done_at, stored}
+use Rattle.citrus_tree.proofs.sets.Storing.{again_goes, busy_at, busy_goes, is_alive, is_odd, locks, settled, unpaid, not_alive, loads_life, gives_up, again_at, loads_value, committing, stores, evening, lets_go, done_at, stored}
 use Rattle.citrus_tree.proofs.replace.store_value.Goals as goal
+
+none_is_none : (done : Replaced) → None ≡ Some done → ⊥
+none_is_none done e = cc
+
+some_is_some : (done : Replaced) → Some done ≡ None → ⊥
+some_is_some done e = cc
+
+pub lock-requires-clause-asks : goal.lock-requires-clause-asks
+lock-requires-clause-asks g c = locks c.requires.at.1
+
+pub returns-then-lock-ne0-clause-again : goal.returns-then-lock-ne0-clause-again
+returns-then-lock-ne0-clause-again g c _ = busy_goes c.requires.at.1 c.lock.ensures.told
+
+pub returns-then-lock-ne0-clause-stored : goal.returns-then-lock-ne0-clause-stored
+returns-then-lock-ne0-clause-stored g c kept done a e = absurd (none_is_none done e)
+
+pub returns-then-lock-ne0-clause-at : goal.returns-then-lock-ne0-clause-at
+returns-then-lock-ne0-clause-at g c kept a = busy_at a c.lock.ensures.told c.if-lock-ne0.true
 
 pub locked_load-life-requires-clause-asks : goal.locked_load-life-requires-clause-asks
 locked_load-life-requires-clause-asks g c = loads_life c.requires.at.1 c.lock.ensures.told c.if-lock-ne0.false
@@ -9,6 +27,13 @@ locked_load-life-requires-clause-asks g c = loads_life c.requires.at.1 c.lock.en
 pub unlock-requires-clause-asks : goal.unlock-requires-clause-asks
 unlock-requires-clause-asks g c = gives_up c.requires.at.1 c.lock.ensures.told c.if-lock-ne0.false c.locked_load-life.ensures.told
     (not_alive _ _ c.is_life-holds.ensures c.if-not-holds.true)
+
+pub returns-then-not-holds-clause-again : goal.returns-then-not-holds-clause-again
+returns-then-not-holds-clause-again g c _ = again_goes c.requires.at.1 c.lock.ensures.told c.if-lock-ne0.false
+    c.locked_load-life.ensures.told (not_alive _ _ c.is_life-holds.ensures c.if-not-holds.true) c.unlock.ensures.told
+
+pub returns-then-not-holds-clause-stored : goal.returns-then-not-holds-clause-stored
+returns-then-not-holds-clause-stored g c kept done a e = absurd (none_is_none done e)
 
 pub returns-then-not-holds-clause-at : goal.returns-then-not-holds-clause-at
 returns-then-not-holds-clause-at g c kept a = again_at a c.lock.ensures.told c.if-lock-ne0.false c.locked_load-life.ensures.told
@@ -18,6 +43,23 @@ pub locked_load-old-requires-clause-asks : goal.locked_load-old-requires-clause-
 locked_load-old-requires-clause-asks g c =
     loads_value c.requires.at.1 c.lock.ensures.told c.if-lock-ne0.false c.locked_load-life.ensures.told
     (is_alive _ _ c.is_life-holds.ensures c.if-not-holds.false)
+
+pub open_front-requires-clause-settled : goal.open_front-requires-clause-settled
+open_front-requires-clause-settled g c = settled c.requires.at.1 c.lock.ensures.told c.if-lock-ne0.false c.locked_load-life.ensures.told
+    (is_alive _ _ c.is_life-holds.ensures c.if-not-holds.false) c.locked_load-old.ensures.told
+
+pub open_front-requires-clause-paid : goal.open_front-requires-clause-paid
+open_front-requires-clause-paid g c = unpaid c.requires.at.1 c.lock.ensures.told c.if-lock-ne0.false c.locked_load-life.ensures.told
+    (is_alive _ _ c.is_life-holds.ensures c.if-not-holds.false) c.locked_load-old.ensures.told
+
+pub close_front-number-requires-clause-odd : goal.close_front-number-requires-clause-odd
+close_front-number-requires-clause-odd g c =
+    let storing =
+    c.in_ok-front.ensures.at _ _ _ _ (committing c.requires.at.1 c.lock.ensures.told c.if-lock-ne0.false c.locked_load-life.ensures.told
+    (is_alive _ _ c.is_life-holds.ensures c.if-not-holds.false) c.locked_load-old.ensures.told) in
+    is_odd c.requires.at.1 c.lock.ensures.told c.if-lock-ne0.false c.locked_load-life.ensures.told
+    (is_alive _ _ c.is_life-holds.ensures c.if-not-holds.false) c.locked_load-old.ensures.told c.in_ok-front.ensures.opened storing
+    c.replace_value.ensures.told
 
 pub replace_value-requires-clause-asks : goal.replace_value-requires-clause-asks
 replace_value-requires-clause-asks g c =
@@ -37,6 +79,9 @@ unlock-requires-2-clause-asks g c =
     (c.close_front-number.ensures.at _ _ _ (evening c.requires.at.1 c.lock.ensures.told c.if-lock-ne0.false c.locked_load-life.ensures.told
     (is_alive _ _ c.is_life-holds.ensures c.if-not-holds.false) c.locked_load-old.ensures.told c.in_ok-front.ensures.opened storing
     c.replace_value.ensures.told))
+
+pub returns-clause-again : goal.returns-clause-again
+returns-clause-again g c e = absurd (some_is_some _ e)
 
 pub returns-clause-stored : goal.returns-clause-stored
 returns-clause-stored g c kept done a e =

@@ -3,6 +3,7 @@ use Rattle.core_acts.specs.declared.act.Act.TheVariants as acts
 use Rattle.seat_table.specs.Seats.{shape_of}
 use Rattle.seat_table.specs.Told.{IsAsked, Told}
 use Rattle.citrus_tree.proofs.deletes.Locks.{gets_none, needs_get, gets_on, gets_busy, busy_locks, all_got, below_end, at_end}
+use Rattle.citrus_tree.proofs.deletes.Keeping.{keeps_rest, rest_lock}
 use Rattle.citrus_tree.proofs.delete.locks.lock_target.Goals as goal
 
 pub loop-at-init : goal.loop-at-init
@@ -19,6 +20,9 @@ lock-requires-clause-asks g c =
     subst (λ s. IsAsked k c.loop-at.seat.view (acts.Lock s)) (sym c.lock_at.ensures)
     (needs_get k c.args.target.now c.loop-at.at c.args.seat.now.view c.loop-at.seat.view c.requires.at
     (below_end c.loop-at.at _ _ c.loop-at-test.true c.lock_count-at-end.ensures.count) c.loop-at.invariant.gets)
+
+pub unlock_first-requires-clause-count : goal.unlock_first-requires-clause-count
+unlock_first-requires-clause-count g c = c.loop-at.invariant.few
 
 pub unlock_first-requires-clause-at : goal.unlock_first-requires-clause-at
 unlock_first-requires-clause-at g c =
@@ -48,6 +52,16 @@ returns-then-lock-ne0-clause-busy g c = λ _ op kept a.
     (subst (λ s. Told k c.loop-at.seat.view
     (acts.Lock s) c.lock.result c.lock.new.seat.view) c.lock_at.ensures c.lock.ensures.told) op kept a))
 
+pub returns-then-lock-ne0-clause-got : goal.returns-then-lock-ne0-clause-got
+returns-then-lock-ne0-clause-got g c e = absurd (cc)
+
+pub returns-then-lock-ne0-clause-same : goal.returns-then-lock-ne0-clause-same
+returns-then-lock-ne0-clause-same g c =
+    let k = (shape_of g.W.WaitWords.WAY c.args.table.now) in
+    keeps_rest c.args.seat.now.view c.loop-at.seat.view c.unlock_first.new.seat.view c.loop-at.invariant.gets.rest
+    (keeps_rest c.loop-at.seat.view c.lock.new.seat.view c.unlock_first.new.seat.view (rest_lock k _ _ _ _ c.lock.ensures.told)
+    c.unlock_first.ensures.same)
+
 pub loop-at-preserved : goal.loop-at-preserved
 loop-at-preserved g c =
     let k = (shape_of g.W.WaitWords.WAY c.args.table.now) in
@@ -64,3 +78,9 @@ pub returns-clause-got : goal.returns-clause-got
 returns-clause-got g c = λ _ op kept a. all_got c.args.target.now c.loop-at.at
     (at_end c.loop-at.at _ _ c.loop-at-test.false c.lock_count-at-end.ensures.count c.loop-at.invariant.few)
     (c.loop-at.invariant.gets.at op kept a)
+
+pub returns-clause-busy : goal.returns-clause-busy
+returns-clause-busy g c e = absurd (cc)
+
+pub returns-clause-same : goal.returns-clause-same
+returns-clause-same g c = c.loop-at.invariant.gets.rest
