@@ -8,12 +8,12 @@ use Rattle.citrus_tree.specs.Gone.{KeepsWait}
 use Rattle.citrus_tree.specs.Deletes.{HasDeleted, KeepsRest, TellsTaken}
 use Rattle.core_points.specs.declared.stage.Target.{Target}
 use Rattle.prcu_model.specs.declared.operation.Op.TheVariants.{Del}
-use Rattle.tree_points.specs.At.{IsAt}
+use Rattle.tree_points.specs.At.{IsAt, IsDone}
 use Rattle.citrus_tree.specs.Going.{MayBegin}
 use Rattle.seat_table.specs.Seats.{shape_of}
 use Rattle.std.specs.declared.option.Option.{Option}
 use Rattle.std.proofs.Common.{refl, ◌∙◌, subst, ℕ, ◌≡◌, true}
-use Rattle.citrus_tree.proofs.deletes.Tries.{absent_begins, absent_dels, gone_begins, gone_dels, gone_wait, tried_retires, tries_again, tries_first, tells_gone}
+use Rattle.citrus_tree.proofs.deletes.Tries.{absent_begins, absent_dels, absent_wait, gone_begins, gone_dels, gone_wait, listed_still, tried_retires, tries_again, tries_first, tells_gone}
 use Rattle.citrus_tree.proofs.KeepingSlots.{searched_slots, slots_on, slots_self}
 use Rattle.citrus_tree.proofs.delete.delete.Goals as goal
 
@@ -29,6 +29,23 @@ loop-init g c = record {
 pub find_target-requires-clause-at : goal.find_target-requires-clause-at
 find_target-requires-clause-at g c = let a = c.requires.at in (a.0, c.loop.invariant.tries.ready a.0 a.1)
 
+pub returns-in_default-clause-done : goal.returns-in_default-clause-done
+returns-in_default-clause-done g c kept a = subst (λ (r : Option Target). IfNone r ((kept : ℕ)
+    → MayBegin (shape_of g.W.WaitWords.WAY c.args.table.now) (Del c.args.key) kept c.loop.seat.view
+    → IsDone (shape_of g.W.WaitWords.WAY c.args.table.now) (Del c.args.key) kept c.find_target.new.seat.view)) c.in_default.is
+    c.in_ok-target.ensures.done kept (c.loop.invariant.tries.ready kept a)
+
+pub returns-in_default-clause-wait : goal.returns-in_default-clause-wait
+returns-in_default-clause-wait g c = absent_wait c.loop.invariant.tries c.in_ok-target.ensures.searched
+
+pub returns-in_default-clause-listed : goal.returns-in_default-clause-listed
+returns-in_default-clause-listed g c = listed_still c.loop.seat c.find_target.new.seat c.find_target.ensures.seat.1
+    c.in_ok-target.ensures.searched.retired c.loop.invariant.listed
+
+pub take_out-requires-clause-listed : goal.take_out-requires-clause-listed
+take_out-requires-clause-listed g c = listed_still c.loop.seat c.find_target.new.seat c.find_target.ensures.seat.1
+    c.in_ok-target.ensures.searched.retired c.loop.invariant.listed
+
 pub returns-in_default-clause-dels : goal.returns-in_default-clause-dels
 returns-in_default-clause-dels g c = absent_dels c.loop.invariant.tries c.in_ok-target.ensures.searched
     (subst (λ (r : Option Target). IfNone r
@@ -43,6 +60,24 @@ take_out-requires-clause-at g c = let a = c.requires.at in (
       (at.TargetLock target 0) c.find_target.new.seat.view)) c.in-Some.is c.in_ok-target.ensures.found) a.0
       (c.loop.invariant.tries.ready a.0 a.1),
 )
+
+pub returns-in-Some-2-clause-done : goal.returns-in-Some-2-clause-done
+returns-in-Some-2-clause-done g c kept a =
+    let target = c.in-Some.target in
+    let locks = subst (λ (r : Option Target). IfSome r (λ target. (kept : ℕ)
+    → MayBegin (shape_of g.W.WaitWords.WAY c.args.table.now) (Del c.args.key) kept c.loop.seat.view
+    → IsAt (shape_of g.W.WaitWords.WAY c.args.table.now) (Del c.args.key) kept
+    (at.TargetLock target 0) c.find_target.new.seat.view)) c.in-Some.is c.in_ok-target.ensures.found kept
+    (c.loop.invariant.tries.ready kept a) in
+    subst (λ (r : Option TakenOut). IfSome r (λ _. (kept : ℕ)
+    → IsAt (shape_of g.W.WaitWords.WAY c.args.table.now) (Del c.args.key) kept
+    (at.TargetLock target 0) c.find_target.new.seat.view
+    → IsDone (shape_of g.W.WaitWords.WAY c.args.table.now) (Del c.args.key) kept c.take_out.new.seat.view)) c.in-Some-2.is
+    c.in_ok-taken.ensures.done kept locks
+
+pub returns-in-Some-2-clause-informed : goal.returns-in-Some-2-clause-informed
+returns-in-Some-2-clause-informed g c = subst (λ (r : Option TakenOut). IfSome r
+    (λ _. IsInformed c.take_out.new.seat.view)) c.in-Some-2.is c.in_ok-taken.ensures.informed
 
 pub returns-in-Some-2-clause-dels : goal.returns-in-Some-2-clause-dels
 returns-in-Some-2-clause-dels g c = gone_dels c.loop.invariant.tries c.in_ok-target.ensures.searched

@@ -7,7 +7,7 @@ use Rattle.seat_table.specs.Gains.{IsInformed}
 use Rattle.seat_table.specs.Seats.{shape_of}
 use Rattle.tree_points.specs.At.{IsAt, IsDone}
 use Rattle.tree_points.proofs.Gone.{gone_on}
-use Rattle.citrus_tree.specs.Deletes.{Comes, HasDeleted, KeepsRest, RetiresIf, TakesValue}
+use Rattle.citrus_tree.specs.Deletes.{AreLivesSmall, Comes, HasDeleted, KeepsRest, RetiresIf, TakesValue}
 use Rattle.citrus_tree.specs.Gone.{KeepsWait}
 use Rattle.citrus_tree.proofs.deletes.Keeping.{keeps_rest, rest_of}
 use Rattle.citrus_tree.proofs.deletes.Pieces.{deleted_later, bypass_deletes}
@@ -15,6 +15,7 @@ use Rattle.citrus_tree.proofs.deletes.Values.{told_taken}
 use Rattle.citrus_tree.proofs.KeepingSlots.{rest_slots, slots_on, slots_rest}
 use Rattle.citrus_tree.proofs.KeepingWaits.{none_begun, wait_later}
 use Rattle.citrus_tree.proofs.deletes.Retiring.{one_retired, retires_before}
+use Rattle.citrus_tree.proofs.deletes.Tries.{listed_still}
 use Rattle.citrus_tree.proofs.delete.take_out.Goals as goal
 
 pub lock_target-requires-clause-at : goal.lock_target-requires-clause-at
@@ -38,6 +39,49 @@ value_where-value-requires-clause-at g c = let a = c.requires.at in (
   a.0,
   c.in-Some.ensures.holds (Del c.args.key) a.0 (c.lock_target.ensures.got c.if-not-lock_target.false (Del c.args.key) a.0 a.1),
 )
+
+pub returns-then-not-lock_target-clause-again : goal.returns-then-not-lock_target-clause-again
+returns-then-not-lock_target-clause-again g c kept a = c.lock_target.ensures.busy c.if-not-lock_target.true (Del c.args.key) kept a
+
+pub returns-then-not-lock_target-clause-same : goal.returns-then-not-lock_target-clause-same
+returns-then-not-lock_target-clause-same g c = c.lock_target.ensures.same
+
+pub returns-then-not-lock_target-clause-listed : goal.returns-then-not-lock_target-clause-listed
+returns-then-not-lock_target-clause-listed g c = listed_still c.args.seat.now c.lock_target.new.seat c.lock_target.ensures.seat.1
+    c.lock_target.ensures.same.retired c.requires.listed
+
+pub unlock_target-requires-clause-locked : goal.unlock_target-requires-clause-locked
+unlock_target-requires-clause-locked g c = c.validate.ensures.locked
+
+pub returns-in_default-clause-again : goal.returns-in_default-clause-again
+returns-in_default-clause-again g c kept a = c.unlock_target.ensures.at (Del c.args.key) kept
+    (c.in_default.ensures.fails (Del c.args.key) kept
+    (c.lock_target.ensures.got c.if-not-lock_target.false (Del c.args.key) kept a))
+
+pub returns-in_default-clause-same : goal.returns-in_default-clause-same
+returns-in_default-clause-same g c = keeps_rest _ _ _ c.lock_target.ensures.same
+    (keeps_rest _ _ _ (rest_of _ _ c.validate.ensures.same) c.unlock_target.ensures.same)
+
+pub returns-in_default-clause-listed : goal.returns-in_default-clause-listed
+returns-in_default-clause-listed g c = listed_still c.args.seat.now c.unlock_target.new.seat
+    (c.unlock_target.ensures.seat.1 ∙ c.validate.ensures.seat.1 ∙ c.lock_target.ensures.seat.1)
+    (c.unlock_target.ensures.same.retired ∙ c.validate.ensures.same.retired ∙ c.lock_target.ensures.same.retired) c.requires.listed
+
+pub bypass-requires-clause-small : goal.bypass-requires-clause-small
+bypass-requires-clause-small g c = subst (AreLivesSmall c.in-Some.node) c.in-None.is c.in-Some.ensures.node.1
+
+pub bypass-requires-clause-listed : goal.bypass-requires-clause-listed
+bypass-requires-clause-listed g c = listed_still c.args.seat.now c.value_where-value.new.seat
+    (c.value_where-value.ensures.seat.1 ∙ c.validate.ensures.seat.1 ∙ c.lock_target.ensures.seat.1)
+    (c.value_where-value.ensures.same.retired ∙ c.validate.ensures.same.retired ∙ c.lock_target.ensures.same.retired) c.requires.listed
+
+pub shift-requires-clause-small : goal.shift-requires-clause-small
+shift-requires-clause-small g c = subst (AreLivesSmall c.in-Some.node) c.in-Some-successor.is c.in-Some.ensures.node.1
+
+pub shift-requires-clause-listed : goal.shift-requires-clause-listed
+shift-requires-clause-listed g c = listed_still c.args.seat.now c.value_where-value.new.seat
+    (c.value_where-value.ensures.seat.1 ∙ c.validate.ensures.seat.1 ∙ c.lock_target.ensures.seat.1)
+    (c.value_where-value.ensures.same.retired ∙ c.validate.ensures.same.retired ∙ c.lock_target.ensures.same.retired) c.requires.listed
 
 pub bypass-requires-clause-at : goal.bypass-requires-clause-at
 bypass-requires-clause-at g c = let a = c.requires.at in (
