@@ -12,6 +12,30 @@ loop-init g c = record {
   slots = slots_self c.args.seat.now;
 }
 
+pub find_spot-requires-clause-table : goal.find_spot-requires-clause-table
+find_spot-requires-clause-table g c = c.loop.invariant.table ∙ c.requires.table
+
+pub give_up_leaf-requires-clause-table : goal.give_up_leaf-requires-clause-table
+give_up_leaf-requires-clause-table g c = c.find_spot.ensures.seat.0 ∙ c.loop.invariant.table ∙ c.requires.table
+
+pub leaf_in_hand-requires-clause-table : goal.leaf_in_hand-requires-clause-table
+leaf_in_hand-requires-clause-table g c = c.find_spot.ensures.seat.0 ∙ c.loop.invariant.table ∙ c.requires.table
+
+pub link_leaf-requires-clause-table : goal.link_leaf-requires-clause-table
+link_leaf-requires-clause-table g c = c.leaf_in_hand.ensures.table ∙ c.find_spot.ensures.seat.0 ∙ c.loop.invariant.table ∙ c.requires.table
+
+pub link_leaf-requires-clause-slot : goal.link_leaf-requires-clause-slot
+link_leaf-requires-clause-slot g c = c.in_ok-leaf.ensures.slot _ c.in-Some-2.is
+
+pub returns-in_default-clause-informed : goal.returns-in_default-clause-informed
+returns-in_default-clause-informed g c = c.give_up_leaf.ensures.informed
+
+pub returns-in_default-2-clause-informed : goal.returns-in_default-2-clause-informed
+returns-in_default-2-clause-informed g c = c.in_ok-leaf.ensures.informed c.in_default-2.is
+
+pub returns-in-Some-3-clause-informed : goal.returns-in-Some-3-clause-informed
+returns-in-Some-3-clause-informed g c = c.in_ok-number.ensures.informed
+
 pub find_spot-requires-clause-outside : goal.find_spot-requires-clause-outside
 find_spot-requires-clause-outside g c = outside c.loop.invariant.tries c.requires.tickets
 

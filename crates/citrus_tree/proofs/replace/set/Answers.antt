@@ -4,7 +4,7 @@ use Rattle.core_state.specs.declared.view.View.{View}
 use Rattle.citrus_tree.specs.declared.replace.Holder.{Holder}
 use Rattle.citrus_tree.specs.Going.{Sought}
 use Rattle.citrus_tree.specs.Lookups.{Looked}
-use Rattle.citrus_tree.proofs.sets.Replacing.{absent_begins, absent_goes, begins, absent_sets, goes_all, may_store, tries_again, stored_begins, stored_sets, stored_quiet, stored_retired, stored_wait, stored_tickets, listed_on}
+use Rattle.citrus_tree.proofs.sets.Replacing.{absent_begins, absent_goes, absent_quiet, absent_retired, absent_tickets, absent_wait, outside, unlocked, begins, absent_sets, goes_all, may_store, tries_again, stored_begins, stored_sets, stored_quiet, stored_retired, stored_wait, stored_tickets, listed_on}
 use Rattle.citrus_tree.proofs.KeepingSlots.{slots_goes}
 use Rattle.citrus_tree.proofs.replace.set.Goals as goal
 
@@ -18,6 +18,38 @@ loop-init g c = record {
   listed = refl;
   tries = begins c.requires.quiet.view c.ranges.key.fits;
 }
+
+pub find_holder-requires-clause-table : goal.find_holder-requires-clause-table
+find_holder-requires-clause-table g c = c.loop.invariant.table ∙ c.requires.table
+
+pub find_holder-requires-clause-outside : goal.find_holder-requires-clause-outside
+find_holder-requires-clause-outside g c = outside c.loop.invariant.tries c.requires.tickets
+
+pub find_holder-requires-clause-unlocked : goal.find_holder-requires-clause-unlocked
+find_holder-requires-clause-unlocked g c = unlocked c.loop.invariant.tries c.requires.tickets
+
+pub returns-in_default-clause-quiet : goal.returns-in_default-clause-quiet
+returns-in_default-clause-quiet g c = record {
+  view = absent_quiet c.loop.invariant.tries c.requires.tickets (absent _ _ _ _ c.in_default.is c.in_ok-holder.ensures.sought)
+      c.in_ok-holder.ensures.place;
+  listed = listed_on c.args.seat.now c.find_holder.new.seat (c.find_holder.ensures.seat.1 ∙ c.loop.invariant.listed)
+      (absent_retired c.loop.invariant.tries c.requires.tickets (absent _ _ _ _ c.in_default.is c.in_ok-holder.ensures.sought))
+      c.requires.quiet.listed;
+}
+
+pub returns-in_default-clause-wait : goal.returns-in_default-clause-wait
+returns-in_default-clause-wait g c = absent_wait c.loop.invariant.tries c.requires.tickets
+    (absent _ _ _ _ c.in_default.is c.in_ok-holder.ensures.sought)
+
+pub returns-in_default-clause-tickets : goal.returns-in_default-clause-tickets
+returns-in_default-clause-tickets g c = absent_tickets c.loop.invariant.tries c.requires.tickets
+    (absent _ _ _ _ c.in_default.is c.in_ok-holder.ensures.sought) c.in_ok-holder.ensures.place
+
+pub returns-in_default-clause-informed : goal.returns-in_default-clause-informed
+returns-in_default-clause-informed g c = (absent _ _ _ _ c.in_default.is c.in_ok-holder.ensures.sought).informed
+
+pub store_value-requires-clause-table : goal.store_value-requires-clause-table
+store_value-requires-clause-table g c = c.find_holder.ensures.seat.0 ∙ c.loop.invariant.table ∙ c.requires.table
 
 pub returns-in_default-clause-sets : goal.returns-in_default-clause-sets
 returns-in_default-clause-sets g c = absent_sets c.loop.invariant.tries c.requires.tickets
