@@ -1,7 +1,23 @@
-use Rattle.std.proofs.Common.{◌≡◌, ℕ, ◌∙◌}
+use Rattle.std.proofs.Common.{◌≡◌, ℕ, Some, sym, ◌∙◌}
+use Rattle.std.proofs.lemmas.Option.{none-some}
 use Rattle.prcu_model.specs.declared.operation.Op.TheVariants.{Put}
-use Rattle.citrus_tree.proofs.puts.Linking.{checking, fails_at, holds_at, settled_leaf, unpaid_leaf, hand_locked, gives_up_lock, again_at, again_goes, stores_leaf, evening, lets_go, done_at, links}
+use Rattle.citrus_tree.proofs.puts.Linking.{busy_at, busy_goes, checking, fails_at, holds_at, settled_leaf, unpaid_leaf, hand_locked, gives_up_lock, again_at, again_goes, is_odd, locks, stores_leaf, evening, lets_go, done_at, links}
 use Rattle.citrus_tree.proofs.insert.link_leaf.Goals as goal
+
+one_number : (number known : ℕ) → Some known ≡ Some number → number ≡ known
+one_number number known e = cc
+
+pub lock-requires-clause-asks : goal.lock-requires-clause-asks
+lock-requires-clause-asks g c = locks c.requires.at.1
+
+pub returns-then-lock-ne0-clause-again : goal.returns-then-lock-ne0-clause-again
+returns-then-lock-ne0-clause-again g c _ = busy_goes c.requires.at.1 c.lock.ensures.told
+
+pub returns-then-lock-ne0-clause-linked : goal.returns-then-lock-ne0-clause-linked
+returns-then-lock-ne0-clause-linked g c kept number a e = absurd (none-some number e)
+
+pub returns-then-lock-ne0-clause-at : goal.returns-then-lock-ne0-clause-at
+returns-then-lock-ne0-clause-at g c kept a = busy_at a c.lock.ensures.told c.if-lock-ne0.true
 
 pub still_holds-requires-clause-at : goal.still_holds-requires-clause-at
 still_holds-requires-clause-at g c = (
@@ -14,6 +30,9 @@ pub unlock-requires-clause-asks : goal.unlock-requires-clause-asks
 unlock-requires-clause-asks g c = gives_up_lock c.requires.at.1 c.lock.ensures.told c.still_holds.ensures.goes c.still_holds.ensures.locked
     (fails_at c.args.spot c.still_holds.result c.if-not-still_holds.true
     (c.still_holds.ensures.at _ _ (checking c.requires.at.1 c.lock.ensures.told c.if-lock-ne0.false)))
+
+pub returns-then-not-still_holds-clause-linked : goal.returns-then-not-still_holds-clause-linked
+returns-then-not-still_holds-clause-linked g c kept number a e = absurd (none-some number e)
 
 pub returns-then-not-still_holds-clause-at : goal.returns-then-not-still_holds-clause-at
 returns-then-not-still_holds-clause-at g c kept a =
@@ -38,6 +57,14 @@ link_leaf-requires-clause-asks g c =
     stores_leaf c.requires.at.1 c.lock.ensures.told c.still_holds.ensures.goes c.in_ok-front.ensures.opened storing c.args.leaf
     (c.still_holds.ensures.slot c.args.leaf (hand_locked c.args.leaf c.lock.ensures.told c.requires.slot))
 
+pub close_front-number-requires-clause-odd : goal.close_front-number-requires-clause-odd
+close_front-number-requires-clause-odd g c =
+    let storing = (c.in_ok-front.ensures.at _ _ _ _ (holds_at c.args.spot c.still_holds.result c.if-not-still_holds.false
+    (c.still_holds.ensures.at _ _ (checking c.requires.at.1 c.lock.ensures.told c.if-lock-ne0.false)))) in
+    let hand = c.still_holds.ensures.slot c.args.leaf (hand_locked c.args.leaf c.lock.ensures.told c.requires.slot) in
+    is_odd c.requires.at.1 c.lock.ensures.told c.still_holds.ensures.goes c.in_ok-front.ensures.opened storing c.args.leaf hand
+    c.link_leaf.ensures.told
+
 pub unlock-requires-2-clause-asks : goal.unlock-requires-2-clause-asks
 unlock-requires-2-clause-asks g c =
     let storing = (c.in_ok-front.ensures.at _ _ _ _ (holds_at c.args.spot c.still_holds.result c.if-not-still_holds.false
@@ -48,12 +75,15 @@ unlock-requires-2-clause-asks g c =
     (c.close_front-number.ensures.at _ _ _ (evening c.requires.at.1 c.lock.ensures.told c.still_holds.ensures.goes
     c.in_ok-front.ensures.opened storing c.args.leaf hand c.link_leaf.ensures.told))
 
+pub returns-clause-again : goal.returns-clause-again
+returns-clause-again g c e = absurd (none-some _ (sym e))
+
 pub returns-clause-linked : goal.returns-clause-linked
 returns-clause-linked g c kept number a e =
     let storing = (c.in_ok-front.ensures.at _ _ _ _ (holds_at c.args.spot c.still_holds.result c.if-not-still_holds.false
     (c.still_holds.ensures.at _ _ (checking a c.lock.ensures.told c.if-lock-ne0.false)))) in
     let hand = c.still_holds.ensures.slot c.args.leaf (hand_locked c.args.leaf c.lock.ensures.told c.requires.slot) in
-    let is : ◌≡◌ {A = ℕ} number c.close_front-number.result = cc in
+    let is = one_number number c.close_front-number.result e in
     links a c.lock.ensures.told c.still_holds.ensures.goes c.in_ok-front.ensures.opened storing c.args.leaf hand c.link_leaf.ensures.told
     c.close_front-number.ensures.closed
     (c.close_front-number.ensures.at _ _ _ (evening a c.lock.ensures.told c.still_holds.ensures.goes c.in_ok-front.ensures.opened storing

@@ -1,13 +1,11 @@
-use Rattle.std.proofs.Common.{◌≡◌, None, Option, Some, ap, ◌∙◌}
+use Rattle.std.proofs.Common.{◌≡◌, Some, sym, ap, ◌∙◌}
+use Rattle.std.proofs.lemmas.Option.{none-some}
 use Rattle.citrus_tree.specs.declared.replace.Replaced.{Replaced}
 use Rattle.citrus_tree.proofs.sets.Storing.{again_goes, busy_at, busy_goes, is_alive, is_odd, locks, settled, unpaid, not_alive, loads_life, gives_up, again_at, loads_value, committing, stores, evening, lets_go, done_at, stored}
 use Rattle.citrus_tree.proofs.replace.store_value.Goals as goal
 
-none_is_none : (done : Replaced) → None ≡ Some done → ⊥
-none_is_none done e = cc
-
-some_is_some : (done : Replaced) → Some done ≡ None → ⊥
-some_is_some done e = cc
+one_done : (done known : Replaced) → Some known ≡ Some done → done ≡ known
+one_done done known e = cc
 
 pub lock-requires-clause-asks : goal.lock-requires-clause-asks
 lock-requires-clause-asks g c = locks c.requires.at.1
@@ -16,7 +14,7 @@ pub returns-then-lock-ne0-clause-again : goal.returns-then-lock-ne0-clause-again
 returns-then-lock-ne0-clause-again g c _ = busy_goes c.requires.at.1 c.lock.ensures.told
 
 pub returns-then-lock-ne0-clause-stored : goal.returns-then-lock-ne0-clause-stored
-returns-then-lock-ne0-clause-stored g c kept done a e = absurd (none_is_none done e)
+returns-then-lock-ne0-clause-stored g c kept done a e = absurd (none-some done e)
 
 pub returns-then-lock-ne0-clause-at : goal.returns-then-lock-ne0-clause-at
 returns-then-lock-ne0-clause-at g c kept a = busy_at a c.lock.ensures.told c.if-lock-ne0.true
@@ -33,7 +31,7 @@ returns-then-not-holds-clause-again g c _ = again_goes c.requires.at.1 c.lock.en
     c.locked_load-life.ensures.told (not_alive _ _ c.is_life-holds.ensures c.if-not-holds.true) c.unlock.ensures.told
 
 pub returns-then-not-holds-clause-stored : goal.returns-then-not-holds-clause-stored
-returns-then-not-holds-clause-stored g c kept done a e = absurd (none_is_none done e)
+returns-then-not-holds-clause-stored g c kept done a e = absurd (none-some done e)
 
 pub returns-then-not-holds-clause-at : goal.returns-then-not-holds-clause-at
 returns-then-not-holds-clause-at g c kept a = again_at a c.lock.ensures.told c.if-lock-ne0.false c.locked_load-life.ensures.told
@@ -81,13 +79,13 @@ unlock-requires-2-clause-asks g c =
     c.replace_value.ensures.told))
 
 pub returns-clause-again : goal.returns-clause-again
-returns-clause-again g c e = absurd (some_is_some _ e)
+returns-clause-again g c e = absurd (none-some _ (sym e))
 
 pub returns-clause-stored : goal.returns-clause-stored
 returns-clause-stored g c kept done a e =
     let storing = c.in_ok-front.ensures.at _ _ _ _ (committing a c.lock.ensures.told c.if-lock-ne0.false c.locked_load-life.ensures.told
     (is_alive _ _ c.is_life-holds.ensures c.if-not-holds.false) c.locked_load-old.ensures.told) in
-    let is : ◌≡◌ {A = Replaced} done (record { old = c.locked_load-old.result; number = c.close_front-number.result }) = cc in
+    let is = one_done done (record { old = c.locked_load-old.result; number = c.close_front-number.result }) e in
     stored a c.lock.ensures.told c.if-lock-ne0.false c.locked_load-life.ensures.told
     (is_alive _ _ c.is_life-holds.ensures c.if-not-holds.false) c.locked_load-old.ensures.told c.in_ok-front.ensures.opened storing
     c.replace_value.ensures.told c.close_front-number.ensures.closed

@@ -1,4 +1,4 @@
-use Rattle.std.proofs.Common.{◌++◌, ap, ◌+◌, ◌/◌, [], sym, subst, ◌∙◌}
+use Rattle.std.proofs.Common.{◌∷◌, ◌++◌, ap, ◌+◌, ◌/◌, [], sym, subst, ◌∙◌}
 use Rattle.prcu_model.specs.declared.operation.Op.TheVariants.{Del}
 use Rattle.core_points.specs.declared.stage.Last.TheVariants as last
 use Rattle.core_points.specs.declared.stage.Stage.TheVariants as at
@@ -7,14 +7,51 @@ use Rattle.seat_table.specs.Seats.{shape_of}
 use Rattle.tree_points.specs.At.{IsAt}
 use Rattle.tree_points.proofs.Updating.{needs_mark, needs_store_bypass, passes_store_bypass}
 use Rattle.citrus_tree.specs.Deletes.{HasDone, TakesValue}
-use Rattle.citrus_tree.proofs.deletes.Bypasses.{child_is, marked, opened_keeps, closed_keeps, half_two}
+use Rattle.citrus_tree.proofs.deletes.Bypasses.{bypass_odd, bypass_paid, child_is, marked, opened_keeps, closed_keeps, half_two}
 use Rattle.citrus_tree.proofs.deletes.Keeping.{keeps_on, keeps_mark}
-use Rattle.citrus_tree.proofs.deletes.Updates.{bypass_stay, bypass_done, bypass_locked, bypass_takes, done_later, done_still}
+use Rattle.citrus_tree.proofs.deletes.Updates.{bypass_stay, bypass_done, bypass_locked, bypass_retired, bypass_takes, bypass_waits, done_later, done_still}
 use Rattle.citrus_tree.proofs.deletes.Values.{takes_more, takes_since, value_mark, value_on, value_opened}
+use Rattle.citrus_tree.proofs.deletes.Tries.{waits_on}
 use Rattle.citrus_tree.proofs.delete.bypass.link_past.Goals as goal
 
 pub mark-requires-clause-asks : goal.mark-requires-clause-asks
 mark-requires-clause-asks g c = needs_mark (c.requires.at).1
+
+pub open_front-requires-clause-settled : goal.open_front-requires-clause-settled
+open_front-requires-clause-settled g c =
+    let child = child_is c.args.node c.slot_of-child.ensures c.only_child.ensures (c.requires.at).1 c.mark.ensures.told in
+    (bypass_paid c.args.node (marked c.args.node c.slot_of-child.result child (c.requires.at).1 c.mark.ensures.told)).0
+
+pub open_front-requires-clause-paid : goal.open_front-requires-clause-paid
+open_front-requires-clause-paid g c =
+    let child = child_is c.args.node c.slot_of-child.ensures c.only_child.ensures (c.requires.at).1 c.mark.ensures.told in
+    (bypass_paid c.args.node (marked c.args.node c.slot_of-child.result child (c.requires.at).1 c.mark.ensures.told)).1
+
+pub close_front-number-requires-clause-odd : goal.close_front-number-requires-clause-odd
+close_front-number-requires-clause-odd g c =
+    let child = child_is c.args.node c.slot_of-child.ensures c.only_child.ensures (c.requires.at).1 c.mark.ensures.told in
+    let u = update.Bypass c.args.node c.slot_of-child.result in
+    bypass_odd c.args.node (passes_store_bypass (c.in_ok-front.ensures.at _ _ 0 u
+    (marked c.args.node c.slot_of-child.result child (c.requires.at).1 c.mark.ensures.told)) c.bypass.ensures.told)
+
+pub returns-clause-retired : goal.returns-clause-retired
+returns-clause-retired g c =
+    let k = (shape_of g.W.WaitWords.WAY c.args.table.now) in
+    c.settle_side.ensures.same.retired
+    ∙ (closed_keeps c.bypass.new.seat.view c.close_front-number.new.seat.view c.close_front-number.ensures.closed).retired
+    ∙ bypass_retired k _ _ _ _ _ _ _ _ c.bypass.ensures.told
+    ∙ ap (λ xs. xs ++ c.args.node.node ∷ [])
+    ((opened_keeps c.mark.new.seat.view c.open_front.new.seat.view c.in_ok-front.front c.in_ok-front.ensures.opened).retired
+    ∙ (keeps_mark k _ _ _ _ _ c.mark.ensures.told).retired)
+
+pub returns-clause-waits : goal.returns-clause-waits
+returns-clause-waits g c =
+    let k = (shape_of g.W.WaitWords.WAY c.args.table.now) in
+    let first = keeps_on _ _ _ (keeps_mark k _ _ _ _ _ c.mark.ensures.told)
+    (opened_keeps c.mark.new.seat.view c.open_front.new.seat.view c.in_ok-front.front c.in_ok-front.ensures.opened) in
+    let later = keeps_on _ _ _ (closed_keeps c.bypass.new.seat.view c.close_front-number.new.seat.view
+    c.close_front-number.ensures.closed) c.settle_side.ensures.same in
+    waits_on first.waits (waits_on (bypass_waits k _ _ _ _ _ _ _ _ c.bypass.ensures.told) later.waits)
 
 pub bypass-requires-clause-asks : goal.bypass-requires-clause-asks
 bypass-requires-clause-asks g c =

@@ -3,6 +3,7 @@ use Rattle.core_acts.specs.declared.act.Act.TheVariants as acts
 use Rattle.seat_table.specs.Seats.{shape_of}
 use Rattle.seat_table.specs.Told.{IsAsked, Told}
 use Rattle.citrus_tree.proofs.deletes.Locks.{gets_none, needs_get, gets_on, gets_busy, busy_locks, all_got, below_end, at_end}
+use Rattle.std.proofs.lemmas.Bool.{false≢true}
 use Rattle.citrus_tree.proofs.deletes.Keeping.{keeps_rest, rest_lock}
 use Rattle.citrus_tree.proofs.delete.locks.lock_target.Goals as goal
 
@@ -53,7 +54,7 @@ returns-then-lock-ne0-clause-busy g c = λ _ op kept a.
     (acts.Lock s) c.lock.result c.lock.new.seat.view) c.lock_at.ensures c.lock.ensures.told) op kept a))
 
 pub returns-then-lock-ne0-clause-got : goal.returns-then-lock-ne0-clause-got
-returns-then-lock-ne0-clause-got g c e = absurd (cc)
+returns-then-lock-ne0-clause-got g c e = absurd (false≢true e)
 
 pub returns-then-lock-ne0-clause-same : goal.returns-then-lock-ne0-clause-same
 returns-then-lock-ne0-clause-same g c =
@@ -80,7 +81,7 @@ returns-clause-got g c = λ _ op kept a. all_got c.args.target.now c.loop-at.at
     (c.loop-at.invariant.gets.at op kept a)
 
 pub returns-clause-busy : goal.returns-clause-busy
-returns-clause-busy g c e = absurd (cc)
+returns-clause-busy g c e = absurd (false≢true (sym e))
 
 pub returns-clause-same : goal.returns-clause-same
 returns-clause-same g c = c.loop-at.invariant.gets.rest
