@@ -7,7 +7,8 @@ ghost use Rattle.citrus_tree.specs.Beginnings.{Begins};
 ghost use Rattle.citrus_tree.specs.Clients.{IsTold};
 ghost use Rattle.citrus_tree.specs.Gone.{KeepsSlots, KeepsWait};
 
-use crate::steadfast::{del, get, put, set};
+use crate::patient;
+use patience::Steadfast;
 use prcu_marks::{Client, Gate};
 use prcu_model::{Op, Told};
 use seat_table::{CitrusTable, Seat, WaitPart};
@@ -38,11 +39,9 @@ pub fn call<R: Wait, W: WaitPart, G: Gate>(
     ensures quiet { IsQuietSeat seat.new }
     ensures informed { IsInformed seat.new.view }
 {
-    match op {
-        Op::Put { key, value } => put(rt, table, seat, gate, key, value),
-        Op::Get { key } => get(rt, table, seat, gate, key),
-        Op::Del { key } => del(rt, table, seat, gate, key),
-        Op::Set { key, value } => set(rt, table, seat, gate, key, value),
+    match patient::call(&Steadfast::new(rt), table, seat, gate, op) {
+        Ok(told) => told,
+        Err(never) => match never {},
     }
 }
 

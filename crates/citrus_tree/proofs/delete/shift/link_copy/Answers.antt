@@ -1,4 +1,4 @@
-use Rattle.std.proofs.Common.{refl, sym, subst, ◌∙◌}
+use Rattle.std.proofs.Common.{[], ◌∷◌, ◌++◌, refl, sym, ap, subst, ◌∙◌}
 use Rattle.prcu_model.specs.declared.operation.Op.TheVariants.{Del}
 use Rattle.core_points.specs.declared.stage.Stage.TheVariants as at
 use Rattle.core_points.specs.declared.stage.Update.TheVariants as update
@@ -11,8 +11,9 @@ use Rattle.citrus_tree.specs.Deletes.{HasCopied, TakesValue}
 use Rattle.citrus_tree.proofs.deletes.Bypasses.{opened_keeps, closed_keeps, half_two}
 use Rattle.citrus_tree.proofs.deletes.Keeping.{keeps_on, keeps_mark}
 use Rattle.citrus_tree.proofs.deletes.Shifts.{copy_paid, copy_odd}
-use Rattle.citrus_tree.proofs.deletes.Updates.{copy_made, copy_locked, copy_takes, copied_later, copied_still}
+use Rattle.citrus_tree.proofs.deletes.Updates.{copy_made, copy_locked, copy_retired, copy_takes, copy_waits, copied_later, copied_still}
 use Rattle.citrus_tree.proofs.deletes.Values.{takes_more, takes_since, value_mark, value_on, value_opened}
+use Rattle.citrus_tree.proofs.deletes.Tries.{waits_on}
 use Rattle.citrus_tree.proofs.delete.shift.link_copy.Goals as goal
 
 pub mark-requires-clause-asks : goal.mark-requires-clause-asks
@@ -90,3 +91,20 @@ returns-clause-took g c =
     (value_opened c.args.node.node c.in_ok-front.front _ _ c.in_ok-front.ensures.opened))
     (copy_takes k c.args.key a.0 c.args.node c.args.successor c.args.next_key c.args.copy c.in_ok-front.front _
     c.open_front.new.seat.view c.link_copy.new.seat.view stored c.link_copy.ensures.told)))
+
+pub returns-clause-retired : goal.returns-clause-retired
+returns-clause-retired g c =
+    let k = (shape_of g.W.WaitWords.WAY c.args.table.now) in
+    (closed_keeps c.link_copy.new.seat.view c.close_front.new.seat.view c.close_front.ensures.closed).retired
+    ∙ copy_retired k _ _ _ _ _ _ _ _ _ _ _ c.link_copy.ensures.told
+    ∙ ap (λ xs. xs ++ c.args.node.node ∷ [])
+    ((opened_keeps c.mark.new.seat.view c.open_front.new.seat.view c.in_ok-front.front c.in_ok-front.ensures.opened).retired
+    ∙ (keeps_mark k _ _ _ _ _ c.mark.ensures.told).retired)
+
+pub returns-clause-waits : goal.returns-clause-waits
+returns-clause-waits g c =
+    let k = (shape_of g.W.WaitWords.WAY c.args.table.now) in
+    let first = keeps_on _ _ _ (keeps_mark k _ _ _ _ _ c.mark.ensures.told)
+    (opened_keeps c.mark.new.seat.view c.open_front.new.seat.view c.in_ok-front.front c.in_ok-front.ensures.opened) in
+    waits_on first.waits (waits_on (copy_waits k _ _ _ _ _ _ _ _ _ _ _ c.link_copy.ensures.told)
+    (closed_keeps c.link_copy.new.seat.view c.close_front.new.seat.view c.close_front.ensures.closed).waits)
