@@ -1,6 +1,6 @@
 -- The updates of a history that are left, one after another.
-use Rattle.std.proofs.Common.{ℕ, ◌+◌, ◌<◌, ◌≤◌, ◌↔◌, List, length, get_or, drop}
-use Rattle.std.proofs.lemmas.List.{drop_more, drop_all}
+use Rattle.std.proofs.Common.{ℕ, ◌+◌, ◌<◌, ◌↔◌, List, length, get_or, drop}
+use Rattle.std.proofs.lemmas.List.{drop_more}
 use Rattle.prcu_model.specs.declared.operation.Update.{Update}
 use Rattle.prcu_model.specs.Dictionary.{Dictionary, updated}
 use Rattle.prcu_model.specs.History.{IsUpdateAt, AreUpdatesFrom}
@@ -18,6 +18,3 @@ module _ (m : Dictionary) (history : List Update) (i : ℕ) (u : Update) (below 
   -- the next isn't
   pub AreUpdatesFrom-none : (P : Type 0) → (IsUpdateAt m (get_or history i u).op → ⊥) → (AreUpdatesFrom m (drop i history) ↔ P) → P → ⊥
   AreUpdatesFrom-none P not_one same p = not_one (at_next.0 (same.1 p)).0
-
-pub AreUpdatesFrom-end : (m : Dictionary) (history : List Update) (i : ℕ) → length history ≤ i → AreUpdatesFrom m (drop i history)
-AreUpdatesFrom-end m history i past = rw (drop_all i history past) tt

@@ -68,15 +68,6 @@ module _ (room : Room) (history : List Update) where
   abbrev pub Can : ℕ → List Line → Type 0
   Can before lines = (numbers : List ℕ) × MayStandBeside room history before lines numbers
 
-  first_numbered : (before : ℕ) (line : Line) (lines : List Line) (numbers : List ℕ)
-      → MayStandBeside room history before (line ∷ lines) numbers → (number : ℕ) × MayStand room history before line number
-  first_numbered before line lines [] h = absurd h
-  first_numbered before line lines (n ∷ ns) h = (n, h.0)
-
-  pub Can-first : (before : ℕ) (line : Line) (lines : List Line) → Can before (line ∷ lines)
-      → (number : ℕ) × MayStand room history before line number
-  Can-first before line lines h = first_numbered before line lines h.0 h.1
-
   rest_numbered : (before : ℕ) (line : Line) (lines : List Line) (numbers : List ℕ) (number : ℕ)
       → IsLeastFor room history before line number → MayStandBeside room history before (line ∷ lines) numbers → Can number lines
   rest_numbered before line lines [] number least h = absurd h

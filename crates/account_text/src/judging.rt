@@ -1,40 +1,22 @@
 //! Whether a history is one, and whether it explains what scripts were told.
 ghost use Rattle.std.specs.Prelude.{◌≡◌, ◌<◌, ◌^◌, ◌↔◌, [], All, IfOk, IfNone, IfSome, IsTrue, length, map, slice_index_or};
-ghost use Rattle.prcu_model.specs.History.{IsLegal, IsUpdateAt};
+ghost use Rattle.prcu_model.specs.History.{IsLegal};
 ghost use Rattle.prcu_model.specs.Lists.{entries_of};
 ghost use Rattle.prcu_model.specs.Fronts.{AreExplainable, CanBeNumbered, AreNumbered, AllAreNumbered, told_lines, all_told_lines};
 ghost use Rattle.account_text.specs.Judging.{IsScriptExplained};
 ghost use Rattle.account_text.specs.Lines.{line_of, IsTold, AreToldFrom};
 
-use crate::timeline::Timeline;
+use crate::timeline::{Timeline, replay};
 use crate::turns::Turns;
-use prcu_model::{Line, LineList, NoMemory, Op, PlainMap, Scripts, Told, ToldList, Update};
+use prcu_model::{Line, LineList, NoMemory, Op, Scripts, Told, ToldList, Update};
 use std::alloc::Global;
-
-// Whether the operation is an update of the dictionary.
-fn is_update(map: &PlainMap, op: Op) -> bool
-    ensures { IsTrue result ↔ IsUpdateAt map.now op }
-{
-    match op {
-        Op::Put { key, .. } => map.get(key).is_none(),
-        Op::Get { .. } => false,
-        Op::Del { key } | Op::Set { key, .. } => map.get(key).is_some(),
-    }
-}
 
 /// Whether each update of the history does what an update does, at the dictionary that those before it leave: a put
 /// adds a key that is absent, and a del and a set find theirs.
 pub fn is_legal(alloc: Global, history: &[Update]) -> Result<bool, NoMemory>
     ensures { IfOk result (λ legal. IsTrue legal ↔ IsLegal history.now) }
 {
-    let mut map = PlainMap::new(alloc);
-    for update in history {
-        if !is_update(&map, update.op) {
-            return Ok(false);
-        }
-        map.update(update.op)?;
-    }
-    Ok(true)
+    Ok(replay(alloc, history)?.legal)
 }
 
 // Whether each script has an answer for each operation, and no more.
@@ -92,8 +74,8 @@ fn are_updates_told(
     passed == turns.count_of(caller)
 }
 
-// The lines of one script with their numbers, each the least, and `None` exactly where no numbers may stand beside them.
-fn try_number_script(
+/// The lines of one script with their numbers, each the least, and `None` exactly where no numbers may stand beside them.
+pub fn try_number_script(
     alloc: Global,
     script: &[Op],
     told: &[Told],

@@ -8,12 +8,13 @@ ghost use Rattle.prcu_model.specs.Fronts.{AreExplainable, CanBeNumbered, AreNumb
 ghost use Rattle.account_text.specs.Account.{IsAccount, HaveReplies};
 ghost use Rattle.account_text.specs.Printing.{account_of};
 
+use crate::judging::try_number_script;
 use crate::printing::print_account;
 use crate::timeline::Timeline;
-use prcu_model::{Line, LineList, NoMemory, Op, Scripts, Told, ToldList, Update};
+use prcu_model::{LineList, NoMemory, Op, Scripts, Told, ToldList, Update};
 use std::alloc::Global;
 
-// The lines of one script, with their numbers.
+// The lines of one script, which numbers may stand beside, with their numbers.
 fn number_script(
     alloc: Global,
     script: &[Op],
@@ -25,18 +26,8 @@ fn number_script(
     requires can { CanBeNumbered timeline.now.room timeline.now.history (told_lines script.now told.now) }
     ensures { IfOk result (λ list. AreNumbered timeline.now.room timeline.now.history 0 (told_lines script.now told.now) list.entries) }
 {
-    let mut lines = LineList::new(alloc, script.len() as u32)?;
-    let mut before = 0;
-    for (op, answer) in script.iter().zip(told) {
-        let number = timeline.number_for(before, *op, *answer);
-        lines.push(Line {
-            op: *op,
-            reply: answer.reply,
-            number,
-        });
-        before = number;
-    }
-    Ok(lines)
+    let lines = try_number_script(alloc, script, told, timeline)?;
+    Ok(lines.unwrap())
 }
 
 // What `fronts` gives, of the timeline's history and slots.

@@ -6,7 +6,8 @@ ghost use Rattle.prcu_model.specs.Lists.{entries_of};
 ghost use Rattle.script_text.specs.Lines.{op_text};
 ghost use Rattle.account_text.specs.Printing.{reply_text, line_text, script_part, scripts_from, history_from, pair_text, account_of};
 
-use prcu_model::{Line, LineList, NoMemory, PlainMap, Reply, Update};
+use crate::timeline::replay;
+use prcu_model::{Line, LineList, NoMemory, Reply, Update};
 use script_text::{push_number, push_op};
 use std::alloc::Global;
 
@@ -150,17 +151,6 @@ pub fn print_account(
     Ok(out)
 }
 
-// The pairs that the history makes, keys ascending.
-fn last_pairs(alloc: Global, history: &[Update]) -> Result<Vec<(u64, u64)>, NoMemory>
-    ensures { IfOk result (λ pairs. pairs.items ≡ map.entries (map_of history.now)) }
-{
-    let mut map = PlainMap::new(alloc);
-    for update in history {
-        map.update(update.op)?;
-    }
-    map.pairs(alloc)
-}
-
 /// The account that prints these lines of the scripts and this history, with the final pairs that the history makes.
 pub fn write_account(
     alloc: Global,
@@ -169,6 +159,6 @@ pub fn write_account(
 ) -> Result<Vec<u8>, NoMemory>
     ensures { IfOk result (λ text. text.items ≡ account_of (entries_of lines.now) history.now (map.entries (map_of history.now))) }
 {
-    let pairs = last_pairs(alloc, history)?;
+    let pairs = replay(alloc, history)?.last.pairs(alloc)?;
     print_account(alloc, lines, history, &pairs)
 }

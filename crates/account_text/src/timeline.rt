@@ -119,18 +119,18 @@ fn was_update(op: Op, before: u64, after: u64, value: Option<u64>) -> bool
     }
 }
 
-// What one replay of a history gathers: the dictionary's size at each front, the change of each update, the dictionary at the last
-// front, and whether each update was one.
+/// What one replay of a history gathers: the dictionary's size at each front, the change of each update, the dictionary at the last
+/// front, and whether each update was one.
 #[derive(Drop)]
-struct Replayed {
-    sizes: Vec<u64>,
-    changes: Vec<Change>,
-    last: PlainMap,
-    legal: bool,
+pub struct Replayed {
+    pub sizes: Vec<u64>,
+    pub changes: Vec<Change>,
+    pub last: PlainMap,
+    pub legal: bool,
 }
 
-// Replays the history.
-fn replay(alloc: Global, history: &[Update]) -> Result<Replayed, NoMemory>
+/// Replays the history.
+pub fn replay(alloc: Global, history: &[Update]) -> Result<Replayed, NoMemory>
     ensures fronts { IfOk result (λ all. length all.sizes.items ≡ length history.now + 1) }
     ensures sizes { IfOk result (λ all. (front : ℕ) → front ≤ length history.now
         → slice_index all.sizes.items front ≡ map.len (map_at history.now front)) }
@@ -323,14 +323,6 @@ impl<'a> Timeline<'a> {
             return None;
         }
         self.least_front(before, op, told.reply)
-    }
-
-    /// The least number that may stand beside the line, after the number of the line before it.
-    pub fn number_for(&self, before: u64, op: Op, told: Told) -> u64
-        requires { (number : ℕ) × MayStand self.now.room self.now.history before (line_of op told) number }
-        ensures { IsLeastFor self.now.room self.now.history before (line_of op told) result }
-    {
-        self.try_number_for(before, op, told).unwrap()
     }
 
     /// Whether the reply fits an update with this operation, made at the front.
