@@ -4,6 +4,3 @@
 mod keys;
 
 pub use keys::{Keys, class_of};
-
-#[cfg(test)]
-mod tests;

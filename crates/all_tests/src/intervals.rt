@@ -1,5 +1,6 @@
-//! Images against the keys one by one, and the answers at the ends.
-use super::*;
+//! Intervals: images against the keys one by one, and the answers at the ends.
+use crate::same::assert_same;
+use key_interval::{Keys, class_of};
 use std::test::Fail;
 
 #[test]
@@ -22,11 +23,8 @@ fn an_image_has_the_classes_of_the_keys(rt: HostRuntime) -> Result<(), Fail> {
         }
         image[class_of(high) as usize] = true;
         for (class, met) in image.iter().enumerate() {
-            assert_eq!(rt;
-                keys.meets_class(class as u32),
-                *met,
-                "class {class} from {low} to {high}"
-            );
+            let place = (class, low, high);
+            assert_same(&rt, keys.meets_class(class as u32), *met, place);
         }
     }
     Ok(())
@@ -34,16 +32,21 @@ fn an_image_has_the_classes_of_the_keys(rt: HostRuntime) -> Result<(), Fail> {
 
 #[test]
 fn intervals_have_both_ends(rt: HostRuntime) -> Result<(), Fail> {
-    assert_eq!(rt; Keys::new(6, 5), None);
+    assert_same(&rt, Keys::new(6, 5), None, "no keys");
     let keys = Keys::between(5, 8);
-    assert_eq!(rt; (keys.low(), keys.high()), (6, 8));
-    assert_eq!(rt;
-        [5, 6, 8, 9].map(|x| keys.holds(x)),
-        [false, true, true, false]
-    );
+    assert_same(&rt, (keys.low(), keys.high()), (6, 8), "the ends");
+    for (x, held) in [(5, false), (6, true), (8, true), (9, false)] {
+        assert_same(&rt, keys.holds(x), held, x);
+    }
     let one = Keys::new(8, 8).ok_or("one key")?;
     assert!(rt; keys.covers(&one) && !one.covers(&keys));
     assert!(rt; Keys::all().covers(&keys) && Keys::all().holds(u64::MAX));
-    assert_eq!(rt; [0, 63, 64, 70].map(|x| class_of(x)), [0, 63, 0, 6]);
     Ok(())
+}
+
+#[test]
+fn classes_go_round_after_64_keys(rt: HostRuntime) {
+    for (x, class) in [(0, 0), (63, 63), (64, 0), (70, 6)] {
+        assert_same(&rt, class_of(x), class, x);
+    }
 }
