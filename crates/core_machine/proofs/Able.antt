@@ -22,9 +22,8 @@ use Rattle.core_points.specs.declared.stage.Waits.TheVariants.{Reuse, Move}
 use Rattle.core_points.specs.declared.stage.Stage.{Stage}
 use Rattle.core_points.specs.declared.stage.Stage.TheVariants as at
 use Rattle.core_acts.specs.Acts.{access_of, said_by}
-use Rattle.core_acts.specs.declared.act.Act.TheVariants.{RaiseToSpare, RaiseRetired}
 use Rattle.core_points.specs.Acts.{Act, Needs, field_of, left_of}
-use Rattle.core_points.specs.Callers.{Own, first_or_root, is_none_left, is_some}
+use Rattle.core_points.specs.Callers.{Own, is_none_left, is_some}
 use Rattle.core_points.specs.DeletePlan.{target_locks}
 use Rattle.core_points.specs.Programs.{act_at, after, ended}
 use Rattle.core_points.specs.Facts.{SameLocks, table_of}
@@ -180,17 +179,19 @@ module _ (k : Shape) (shape : IsShape k) (o : Own) (v w : View) (h h' : List Mar
       (let is = ((f.point).0).6 in let room = few.room is.0 is.1 in let long = kept_long f.owns.retired_are in omega arith)
   able _ n f word left next = tt
 
-raised_fits : (k : Shape) (place n s x : ℕ) (b : Bool) → let a : Act = cond b (RaiseRetired s x) (RaiseToSpare s x) in
-    WordFits k (field_of place a) (left_of place a n) → x < 2 ^ 64
-raised_fits k place n s x true fits = omega arith
-raised_fits k place n s x false fits = omega arith
+-- whichever of two acts it is
+either_fits : (k : Shape) (place n x : ℕ) (b : Bool) (first second : Act) → let a : Act = cond b first second in
+    WordFits k (field_of place a) (left_of place a n) → (WordFits k (field_of place first) (left_of place first n) → x < 2 ^ 64)
+    → (WordFits k (field_of place second) (left_of place second n) → x < 2 ^ 64) → x < 2 ^ 64
+either_fits k place n x true first second fits one other = one fits
+either_fits k place n x false first second fits one other = other fits
 
 -- a number that is stored, and counted up for it, fits
 pub may_store : (k : Shape) (v : View) (o : Own) (n : ℕ) (stage : Stage) → Needs k v n (act_at o stage)
     → WordFits k (field_of o.place (act_at o stage)) (left_of o.place (act_at o stage) n) → MayStore o stage
 may_store k v o n at.Raise needs fits = omega arith
 may_store k v o n (at.OldRaise aim life) needs fits =
-    raised_fits k o.place n (first_or_root o.retired) (2 * (life / 2 + 1)) (is_some o.spare) fits
+    either_fits k o.place n (2 * (life / 2 + 1)) (is_some o.spare) _ _ fits (λ raised. omega arith) (λ raised. omega arith)
 may_store k v o n (at.Commit u expected) needs fits = needs.even
 may_store k v o n (at.Even u front) needs fits = omega arith
 may_store k v o n (at.Mark d child) needs fits = omega arith

@@ -13,7 +13,7 @@ use Rattle.core_points.specs.declared.stage.Aim.TheVariants.{Spare, Room}
 use Rattle.core_points.specs.declared.stage.Waits.TheVariants.{Reuse}
 use Rattle.core_points.specs.declared.stage.Stage.{Stage}
 use Rattle.core_points.specs.declared.stage.Stage.TheVariants as at
-use Rattle.core_points.specs.Callers.{Own, is_some, value_in}
+use Rattle.core_points.specs.Callers.{Own, is_some, key_now, value_in}
 use Rattle.core_points.specs.Programs.{answer, begun_with, first_point, spare_first}
 use Rattle.core_points.specs.Facts.{HandFits, Idle, IsReady, OwnsParts, is_delete, is_put, is_set}
 use Rattle.core_points.specs.Tickets.{owed_op}
@@ -50,20 +50,25 @@ ready_set (Get key) hand spare retired e none = cc
 ready_set (Del key) hand spare retired e none = cc
 
 module _ (o : Own) (v : View) (free : IsFree o v) where
-  owns_op : (op : Op) (ops : List Op) → Each (op ∷ ops) (λ later. key_of later < 2 ^ 64)
-      → OwnsParts o.place (key_of op) ops o.scan (o.slots
+  owns_for : (key : ℕ) (rest : List Op) → key < 2 ^ 64 → Each rest (λ later. key_of later < 2 ^ 64)
+      → OwnsParts o.place key rest o.scan (o.slots
       + o.places) o.spare o.retired o.locks v.allowance.place v.allowance.places v.hands.spare v.hands.retired v.locks
-  owns_op op ops fit = record {
+  owns_for key rest fits all_fit = record {
     same = free.owns.same;
     works = free.owns.works;
     spare_is = free.owns.spare_is;
     retired_are = free.owns.retired_are;
     locks_are = free.owns.locks_are;
-    key_fits = fit 0 op refl;
-    keys_fit = λ i a e. fit (suc i) a e;
+    key_fits = fits;
+    keys_fit = all_fit;
     scans = free.owns.scans;
     scans_table = free.owns.scans_table;
   }
+
+  owns_op : (op : Op) (ops : List Op) → Each (op ∷ ops) (λ later. key_of later < 2 ^ 64)
+      → OwnsParts o.place (key_of op) ops o.scan (o.slots
+      + o.places) o.spare o.retired o.locks v.allowance.place v.allowance.places v.hands.spare v.hands.retired v.locks
+  owns_op op ops fit = owns_for (key_of op) ops (fit 0 op refl) (λ i a e. fit (suc i) a e)
 
   starts : (op : Op) (ops : List Op) → IsReady op o.hand o.spare o.retired → Each (op ∷ ops) (λ later. key_of later < 2 ^ 64)
       → 4 * length (op ∷ ops) + o.kept ≤ v.allowance.tickets
@@ -125,17 +130,7 @@ module _ (o : Own) (v : View) (free : IsFree o v) where
   pub begins : (ops : List Op) → Each ops (λ later. key_of later < 2 ^ 64) → 4 * length ops + o.kept ≤ v.allowance.tickets
       → Fits (begun_with o ops) (begun_with o ops).stage v
   begins [] fit paid = record {
-    owns = record {
-      same = free.owns.same;
-      works = free.owns.works;
-      spare_is = free.owns.spare_is;
-      retired_are = free.owns.retired_are;
-      locks_are = free.owns.locks_are;
-      key_fits = free.owns.key_fits;
-      keys_fit = fit;
-      scans = free.owns.scans;
-      scans_table = free.owns.scans_table;
-    };
+    owns = owns_for (key_now o) [] free.owns.key_fits fit;
     unraised = λ z. free.unraised;
     tickets = omega arith;
     point = (free.outside, free.bare, free.no_hand);

@@ -13,10 +13,10 @@ use Rattle.core_state.specs.declared.view.Known.{Known}
 use Rattle.core_state.specs.declared.view.Reading.{Reading}
 use Rattle.core_state.specs.declared.view.Retired.{Retired}
 use Rattle.core_state.specs.declared.view.View.{View}
-use Rattle.list_laws.specs.Counts.{Each, times}
+use Rattle.list_laws.specs.Counts.{Each}
 use Rattle.list_laws.proofs.Lists.{at_end}
 use Rattle.core_state.specs.views.Known.{known_in, loaded_in, lock_of, change_lock, is_emptied, note_lock, noting, with_emptied}
-use Rattle.core_state.specs.steps.Links.{FewChildren, IsMarkedNode, NodeRecords, after_bypass, newly_retired, with_mark}
+use Rattle.core_state.specs.steps.Links.{FewChildren, IsMarkedNode, NodeRecords, after_bypass, newly_retired, relinked, with_mark}
 use Rattle.core_acts.proofs.Acting.{commit_is}
 use Rattle.core_points.specs.declared.stage.Last.TheVariants as last
 use Rattle.core_points.specs.declared.stage.Node.{Node}
@@ -29,7 +29,7 @@ use Rattle.core_points.specs.Facts.{stored_at, read_at}
 use Rattle.core_points.specs.DeleteFacts.{ClearButMark, Holds, HoldsFew, HoldsNode, IsMarked, IsUnmarked, Relinked, under}
 use Rattle.core_points.specs.Fits.{Fits}
 use Rattle.core_points.proofs.ClearLocks.{clear_marked, clear_stored, clear_emptied, clear_noted, emptied_lock, emptied_slot, relinked_slots, under_flag}
-use Rattle.core_points.proofs.Notes.{owns_relocked, owns_noted}
+use Rattle.core_points.proofs.Notes.{owns_relocked, owns_noted, owns_retired}
 use Rattle.core_points.proofs.PutLocks.{made_even}
 use Rattle.core_points.proofs.Sets.{quiet_noted}
 use Rattle.core_points.proofs.Spares.{delete_owed}
@@ -225,23 +225,14 @@ module _ (k : Shape) (h : List Mark) (o : Own) (v : View) (n : ℕ) where
       let kn : Known = stored_at (Link d.parent d.side) child in
       let o' : Own = after o n (at.Store (update.Bypass d child) front) in
       let held = held_by_load v d.parent (Life d.parent) (2 * d.parent_generation) ((few.2).parent_life) in
+      let noted : View = noting v d.parent (Link d.parent d.side) child true in
       let owns = owns_noted o v d.parent (Link d.parent d.side) child true f.owns in
       let q = quiet_noted o v d.parent (Link d.parent d.side) child true (Some (record { found = front; stored = false })) p.0 in
       subst (λ x. Fits o' o'.stage (after_bypass v x d.parent d.side d.node child (key_now o) h)) (sym (commit_is v _ (p.0).1))
       (record {
-        owns = record {
-          same = owns.same;
-          works = owns.works;
-          spare_is = owns.spare_is;
-          retired_are = slots_push v.hands.retired (newly_retired v d.node (length h + 1))
-              ∙ ap (λ xs. xs ++ d.node ∷ []) f.owns.retired_are;
-          locks_are = λ x. ap (times x) (relinked_slots d.parent d.side child d.node (change_lock d.parent (note_lock kn) v.locks))
-              ∙ owns.locks_are x;
-          key_fits = owns.key_fits;
-          keys_fit = owns.keys_fit;
-          scans = owns.scans;
-          scans_table = owns.scans_table;
-        };
+        owns = owns_retired o (record noted { locks = relinked d.parent d.side child d.node noted.locks })
+            (owns_relocked o noted _ (relinked_slots d.parent d.side child d.node (change_lock d.parent (note_lock kn) v.locks)) owns) _ _
+            (slots_push v.hands.retired (newly_retired v d.node (length h + 1)) ∙ ap (λ xs. xs ++ d.node ∷ []) f.owns.retired_are);
         unraised = λ z. unraised_push v.hands.retired (newly_retired v d.node (length h + 1)) refl (f.unraised refl);
         tickets = (let t = f.tickets in omega arith);
         point = ((q.0, refl, q.2, q.3, q.4, q.5, q.6), p.2, by (child == 0) refl (held.0, held.1) p.5, (p.1).0);

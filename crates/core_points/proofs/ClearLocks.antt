@@ -16,10 +16,6 @@ pub emptied_slot : (b : Side) (e : Bool) (l : HeldLock) → (with_emptied b e l)
 emptied_slot Left e l = refl
 emptied_slot Right e l = refl
 
-emptied_known : (b : Side) (e : Bool) (l : HeldLock) → (with_emptied b e l).known ≡ l.known
-emptied_known Left e l = refl
-emptied_known Right e l = refl
-
 -- a lock with a change where a test holds has its slot
 slot_is : (f : HeldLock → HeldLock) → ((l : HeldLock) → (f l).slot ≡ l.slot) → (z : Bool) (l : HeldLock) → (cond z (f l) l).slot ≡ l.slot
 slot_is f keep true l = keep l

@@ -15,7 +15,6 @@ use Rattle.core_state.specs.declared.view.HeldLock.{HeldLock}
 use Rattle.core_state.specs.declared.view.Known.{Known}
 use Rattle.core_state.specs.declared.view.Reading.{Reading}
 use Rattle.core_state.specs.declared.view.View.{View}
-use Rattle.list_laws.specs.Counts.{times}
 use Rattle.core_state.specs.memory.Memory.{same_field}
 use Rattle.core_state.specs.views.Known.{known_in, known_of, loaded_in, lock_of, change_lock, note_lock, note_option, noting}
 use Rattle.core_state.specs.steps.Seating.{spare_slot}
@@ -41,7 +40,7 @@ use Rattle.core_points.proofs.Bypasses.{KeepsLife, KeepsLinks, held_by_load, is_
 use Rattle.core_points.proofs.ClearLocks.{clear_marked, clear_stored}
 use Rattle.core_frames.proofs.views.Fields.{same_self}
 use Rattle.core_points.proofs.Locking.{clear_changed, clear_lock, each_more, IsClear}
-use Rattle.core_points.proofs.Notes.{owns_relocked, owns_more, owns_noted, held_here}
+use Rattle.core_points.proofs.Notes.{owns_relocked, owns_more, owns_noted, owns_retired, owns_spared, held_here}
 use Rattle.core_points.proofs.PutLocks.{made_even}
 use Rattle.core_points.proofs.Sets.{quiet_noted, quiet_hand}
 use Rattle.core_points.proofs.Spares.{delete_owed}
@@ -530,6 +529,8 @@ module _ (k : Shape) (h : List Mark) (o : Own) (v : View) (n : ℕ) where
       let now : List HeldLock = change_lock d.node (with_mark false) noted in
       let apart = (both.3).apart in
       let o' : Own = after o n (at.Store (update.Copy d u next_key copy) front) in
+      let linked : View = noting v d.parent (Link d.parent d.side) held.slot true in
+      let stored : View = record linked { locks = now } in
       let owns = owns_noted o v d.parent (Link d.parent d.side) held.slot true f.owns in
       let q = quiet_noted o v d.parent (Link d.parent d.side) held.slot true (Some (record { found = front; stored = false })) c.0 in
       let old = held_by_load v u.slot (Life u.slot) (2 * u.generation) (both.3).life in
@@ -544,18 +545,9 @@ module _ (k : Shape) (h : List Mark) (o : Own) (v : View) (n : ℕ) where
       (subst (λ y. Fits o' o'.stage (after_copy_link v (record { found = front; stored = false }) y d.parent d.side d.node u.slot u.parent
       (key_now o) next_key h)) (sym (spare_is v _ has.1))
       (record {
-        owns = record {
-          same = owns.same;
-          works = owns.works;
-          spare_is = refl;
-          retired_are = slots_push v.hands.retired (newly_retired v d.node (length h + 1))
-              ∙ ap (λ xs. xs ++ d.node ∷ []) f.owns.retired_are;
-          locks_are = λ x. ap (times x) (slots_change d.node (with_mark false) (λ l. refl) noted) ∙ owns.locks_are x;
-          key_fits = owns.key_fits;
-          keys_fit = owns.keys_fit;
-          scans = owns.scans;
-          scans_table = owns.scans_table;
-        };
+        owns = owns_retired (record o { spare = None }) (record stored { hands = record stored.hands { spare = None } })
+            (owns_spared o stored (owns_relocked o linked now (slots_change d.node (with_mark false) (λ l. refl) noted) owns) None None refl) _ _
+            (slots_push v.hands.retired (newly_retired v d.node (length h + 1)) ∙ ap (λ xs. xs ++ d.node ∷ []) f.owns.retired_are);
         unraised = λ z. unraised_push v.hands.retired (newly_retired v d.node (length h + 1)) refl (f.unraised refl);
         tickets = (let t = f.tickets in omega arith);
         point = (

@@ -13,7 +13,7 @@ use Rattle.core_state.specs.declared.view.Move as moves
 use Rattle.core_state.specs.declared.view.View.{View}
 use Rattle.list_laws.specs.Counts.{times}
 use Rattle.core_state.specs.views.Known.{change_lock, note_held, note_lock, note_moving, note_option, noting, with_emptied}
-use Rattle.core_state.specs.steps.Links.{newly_retired, with_mark}
+use Rattle.core_state.specs.steps.Links.{newly_retired, relinked, with_mark}
 use Rattle.core_state.specs.steps.Moves.{NeedsUnlinkOld, after_unlink_old}
 use Rattle.core_acts.specs.Laws.{said}
 use Rattle.core_points.specs.declared.stage.Last.TheVariants as last
@@ -30,7 +30,7 @@ use Rattle.core_points.specs.DeleteFacts.{Holds, IsMove, Relinked, Shifting, fir
 use Rattle.core_points.specs.Fits.{Fits}
 use Rattle.core_points.proofs.Bypasses.{slots_push, unraised_push}
 use Rattle.core_points.proofs.ClearLocks.{clear_emptied, clear_marked, clear_stored, emptied_lock, relinked_slots}
-use Rattle.core_points.proofs.Notes.{owns_relocked, owns_noted}
+use Rattle.core_points.proofs.Notes.{owns_locked, owns_relocked, owns_noted, owns_retired}
 use Rattle.core_points.proofs.UnderLocks.{held_still, known_now}
 use Rattle.tree_laws.proofs.locks.Locked.{under_lock}
 use Rattle.tree_laws.proofs.locks.Relocking.{change_here, slots_change}
@@ -236,19 +236,13 @@ module _ (k : Shape) (h : List Mark) (o : Own) (v : View) (n : ℕ) where
       owns : (parent : ℕ) (b : Side) → Owns base (after_unlink_old v parent b s child h)
       owns parent b =
           let w = owns_noted o v parent (Link parent b) child true f.owns in
-          let p = (f.point).0 in record {
-            same = w.same;
-            works = w.works;
-            spare_is = w.spare_is;
-            retired_are = slots_push v.hands.retired (newly_retired v s (length h)) ∙ ap (λ xs. xs ++ s ∷ []) f.owns.retired_are;
-            locks_are = λ x. ap (times x) (relinked_slots parent b child s
-                (change_lock parent (note_lock (stored_at (Link parent b) child)) v.locks)) ∙ w.locks_are x ∙ ap (times x) p.7
-                ∙ sym (in_order m x (m.successor.parent == m.node.node) refl);
-            key_fits = w.key_fits;
-            keys_fit = w.keys_fit;
-            scans = w.scans;
-            scans_table = w.scans_table;
-          }
+          let now = relinked_slots parent b child s (change_lock parent (note_lock (stored_at (Link parent b) child)) v.locks) in
+          let noted : View = noting v parent (Link parent b) child true in
+          let stored : View = record noted { locks = relinked parent b child s noted.locks } in
+          owns_retired (record o { locks = move_locks m }) stored
+          (owns_locked o noted w (move_locks m) stored.locks (λ x. ap (times x) now ∙ w.locks_are x ∙ ap (times x) ((f.point).0).7
+          ∙ sym (in_order m x (m.successor.parent == m.node.node) refl)))
+          _ _ (slots_push v.hands.retired (newly_retired v s (length h)) ∙ ap (λ xs. xs ++ s ∷ []) f.owns.retired_are)
 
       ends : (parent : ℕ) (b : Side) → Holds v.locks parent → (z : Bool) → Relinked z (after_unlink_old v parent b s child h).locks parent b
           → let st : Stage = cond z (at.EmptyTag m.number parent b) (at.Unlock (last.Gone m.number)) in

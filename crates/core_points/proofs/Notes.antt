@@ -11,12 +11,12 @@ use Rattle.core_state.specs.declared.view.Known.{Known}
 use Rattle.prcu_marks.specs.declared.commit.Commit.{Commit}
 use Rattle.core_state.specs.declared.view.Retired.{Retired}
 use Rattle.core_state.specs.declared.view.View.{View}
-use Rattle.core_state.specs.views.Known.{known_in, lock_of, change_lock, note_lock, note_held, note_option, note_moving, noting, without_lock}
+use Rattle.core_state.specs.views.Known.{known_in, lock_of, change_lock, note_lock, note_held, note_option, note_moving, noting}
 use Rattle.core_state.specs.steps.Locks.{new_lock}
 use Rattle.core_state.specs.steps.Seating.{spare_slot}
 use Rattle.list_laws.specs.Counts.{times}
 use Rattle.core_points.specs.Callers.{Own}
-use Rattle.core_points.specs.Facts.{Bare, HandFits, IsLeaf, Owns, leaf_held, one_lock, read_at, stored_at}
+use Rattle.core_points.specs.Facts.{Bare, HandFits, IsLeaf, Owns, SameLocks, leaf_held, one_lock, read_at, stored_at}
 use Rattle.core_points.specs.Told.{Tells}
 use Rattle.tree_laws.proofs.notes.Knowing.{known_here, known_still}
 
@@ -53,35 +53,30 @@ owns_noted o v s field n by_store w =
       scans_table = w.scans_table;
     }
 
--- other locks of the same slots
-pub owns_relocked : (o : Own) (v : View) (locks : List HeldLock)
-    → map (λ (l : HeldLock). l.slot) locks ≡ map (λ (l : HeldLock). l.slot) v.locks → Owns o v → Owns o (record v { locks = locks })
-owns_relocked o v locks slots w = record {
+-- with other locks, of which the caller has the slots
+pub owns_locked : (o : Own) (v : View) → Owns o v → (slots : List ℕ) (locks : List HeldLock) → SameLocks slots locks
+    → Owns (record o { locks = slots }) (record v { locks = locks })
+owns_locked o v w slots locks are = record {
   same = w.same;
   works = w.works;
   spare_is = w.spare_is;
   retired_are = w.retired_are;
-  locks_are = λ x. ap (times x) slots ∙ w.locks_are x;
+  locks_are = are;
   key_fits = w.key_fits;
   keys_fit = w.keys_fit;
   scans = w.scans;
   scans_table = w.scans_table;
 }
 
+-- other locks of the same slots
+pub owns_relocked : (o : Own) (v : View) (locks : List HeldLock)
+    → map (λ (l : HeldLock). l.slot) locks ≡ map (λ (l : HeldLock). l.slot) v.locks → Owns o v → Owns o (record v { locks = locks })
+owns_relocked o v locks slots w = owns_locked o v w o.locks locks (λ x. ap (times x) slots ∙ w.locks_are x)
+
 -- one lock more
 pub owns_more : (o : Own) (v : View) (s : ℕ) → Owns o v
     → Owns (record o { locks = s ∷ o.locks }) (record v { locks = new_lock s ∷ v.locks })
-owns_more o v s w = record {
-  same = w.same;
-  works = w.works;
-  spare_is = w.spare_is;
-  retired_are = w.retired_are;
-  locks_are = λ x. ap (λ t. cond (s == x) 1 0 + t) (w.locks_are x);
-  key_fits = w.key_fits;
-  keys_fit = w.keys_fit;
-  scans = w.scans;
-  scans_table = w.scans_table;
-}
+owns_more o v s w = owns_locked o v w (s ∷ o.locks) (new_lock s ∷ v.locks) (λ x. ap (λ t. cond (s == x) 1 0 + t) (w.locks_are x))
 
 -- the scan goes on by a slot
 next_scan : (z : Bool) (s : ℕ) → 1 ≤ cond z 1 (s + 1)
@@ -128,6 +123,21 @@ owns_retired o v w slots retired are = record {
   scans_table = w.scans_table;
 }
 
+-- with another spare or none, of which the caller has the number
+pub owns_spared : (o : Own) (v : View) → Owns o v → (slot : Option ℕ) (spare : Option Held) → spare_slot spare ≡ slot
+    → Owns (record o { spare = slot }) (record v { hands = record v.hands { spare = spare } })
+owns_spared o v w slot spare is = record {
+  same = w.same;
+  works = w.works;
+  spare_is = is;
+  retired_are = w.retired_are;
+  locks_are = w.locks_are;
+  key_fits = w.key_fits;
+  keys_fit = w.keys_fit;
+  scans = w.scans;
+  scans_table = w.scans_table;
+}
+
 pub bare_noted : (v : View) (s : ℕ) (field : Field) (n : ℕ) (by_store : Bool) (locks more : List HeldLock) (commit : Option Commit)
     (reserved : Bool) → Bare v locks commit reserved
     → change_lock s (note_lock (record { field = field; number = n; stored = by_store })) locks ≡ more
@@ -148,9 +158,6 @@ pub one_locked : (s : ℕ) (known : List Known) → lock_of (one_lock s known) s
     ≡ Some (record { slot = s; known = known; left_emptied = false; right_emptied = false; marked = false })
 one_locked s known = ap (λ b. cond b (Some (record
     { slot = s; known = known; left_emptied = false; right_emptied = false; marked = false })) None) (eq-eqb s s refl)
-
-pub one_given_up : (s : ℕ) (known : List Known) → without_lock s (one_lock s known) ≡ []
-one_given_up s known = ap (λ b. cond b [] (one_lock s known)) (eq-eqb s s refl)
 
 -- a slot in hand with one more entry of its own
 pub held_here : (s : ℕ) (kn : Known) (held : Held) → held.slot ≡ s → note_held s kn held ≡ record held { known = kn ∷ held.known }

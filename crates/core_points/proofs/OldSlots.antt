@@ -9,7 +9,7 @@ use Rattle.core_state.specs.views.Known.{lock_of, note_option, noting}
 use Rattle.core_state.specs.declared.view.Retired.{Retired}
 use Rattle.core_state.specs.declared.shape.Shape.{Shape}
 use Rattle.core_state.specs.steps.Seating.{spare_slot}
-use Rattle.core_state.specs.steps.Slots.{change_retired, without_retired, NeedsRaiseRetired, after_retired_life, after_raise_to_spare, after_raise_retired, after_free_retired, after_count_free}
+use Rattle.core_state.specs.steps.Slots.{change_retired, new_spare, without_retired, NeedsRaiseRetired, after_retired_life, after_raise_to_spare, after_raise_retired, after_free_retired}
 use lib.ListN.{get_elem?}
 use Rattle.core_acts.specs.Laws.{said}
 use Rattle.core_points.specs.declared.stage.Aim.{Aim}
@@ -24,7 +24,7 @@ use Rattle.core_points.specs.Fits.{Fits, plain}
 use Rattle.list_laws.specs.Counts.{Each}
 use Rattle.core_points.specs.Told.{TellsAlone, IsAlone, SpareComes}
 use Rattle.core_points.proofs.Reclaim.{each_map, same_slots, giving_fits}
-use Rattle.core_points.proofs.Notes.{owns_noted, bare_noted, owns_retired}
+use Rattle.core_points.proofs.Notes.{owns_noted, bare_noted, owns_retired, owns_spared}
 
 head_of : (rs : List Retired) (os : List ℕ) → map (λ (r : Retired). r.slot) rs ≡ os → is_none_left os ≡ false
     → (r : Retired) × (rest : List Retired) × (rs ≡ r ∷ rest) × (first_or_root os ≡ r.slot)
@@ -199,17 +199,9 @@ module _ (k : Shape) (h : List Mark) (o : Own) (v : View) (n : ℕ) where
           ap (without_retired slot) q.2 ∙ without_first slot r q.1 (sym is) (subst (λ s. IsAlone s q.1) (sym is) (alone r q.1 q.2)) in
           giving_fits (record o { spare = Some slot; retired = but_first o.retired }) aim (after_raise_to_spare v slot number h)
           (λ none. cc)
-          (record {
-            same = f.owns.same;
-            works = f.owns.works;
-            spare_is = refl;
-            retired_are = ap (map (λ (r : Retired). r.slot)) left ∙ sym (ap but_first e);
-            locks_are = f.owns.locks_are;
-            key_fits = f.owns.key_fits;
-            keys_fit = f.owns.keys_fit;
-            scans = f.owns.scans;
-            scans_table = f.owns.scans_table;
-          })
+          (owns_retired (record o { spare = Some slot }) (record v { hands = record v.hands { spare = Some (new_spare slot number) } })
+          (owns_spared o v f.owns (Some slot) (Some (new_spare slot number)) refl) _ _
+          (ap (map (λ (r : Retired). r.slot)) left ∙ sym (ap but_first e)))
           (f.point).0 (for_spare aim (f.point).1) f.tickets
           (subst (λ xs. Each xs (λ (r : Retired). r.raised ≡ false)) (sym left)
           (tail_each (λ (r : Retired). r.raised ≡ false) r q.1 v.hands.retired q.2 (f.unraised refl)))
@@ -279,10 +271,11 @@ module _ (k : Shape) (h : List Mark) (o : Own) (v : View) (n : ℕ) where
       → Fits (after o n (at.OldCount aim)) (after o n (at.OldCount aim)).stage (view_after v h n (act_at o (at.OldCount aim)))
   next_old_count aim comes f =
       let p = f.point in
-      giving_fits (record o { free = n + 1 }) aim (after_count_free v n) comes f.owns (p.0, (p.3, p.4, p.5, p.6, refl), p.2, p.1)
-      (for_count aim p.8) f.tickets (f.unraised refl) p.9
+      giving_fits (record o { free = n + 1 }) aim (view_after v h n (act_at o (at.OldCount aim))) comes f.owns
+      (p.0, (p.3, p.4, p.5, p.6, refl), p.2, p.1) (for_count aim p.8) f.tickets (f.unraised refl) p.9
     where
-      for_count : (aim : Aim) → ForAim o (plain v) aim → ForAim (record o { free = n + 1 }) (after_count_free v n) aim
+      for_count : (aim : Aim) → ForAim o (plain v) aim → ForAim (record o { free = n + 1 })
+          (view_after v h n (act_at o (at.OldCount aim))) aim
       for_count (Leaf spot) a = a
       for_count Spare a = a
       for_count Room a = a

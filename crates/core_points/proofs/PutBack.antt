@@ -6,7 +6,7 @@ use Rattle.core_state.specs.declared.words.Field.TheVariants.{Life}
 use Rattle.core_state.specs.declared.view.Held.{Held}
 use Rattle.core_state.specs.declared.view.View.{View}
 use Rattle.core_state.specs.views.Known.{note_option}
-use Rattle.core_state.specs.steps.Slots.{raise_held, after_raise_in_hand, after_count_free}
+use Rattle.core_state.specs.steps.Slots.{raise_held, after_raise_in_hand}
 use Rattle.prcu_model.specs.declared.operation.Reply.TheVariants.{Old}
 use Rattle.core_points.specs.declared.stage.Stage.TheVariants as at
 use Rattle.core_acts.specs.declared.act.Act.TheVariants.{RaiseInHand, FreeInHand}
@@ -70,6 +70,6 @@ module _ (k : Shape) (h : List Mark) (o : Own) (v : View) (n : ℕ) where
 
   pub next_count : Fits o at.Count v → Fits (after o n at.Count) (after o n at.Count).stage (view_after v h n (act_at o at.Count))
   next_count f = let p = f.point in
-      answers (record o { free = n + 1 }) (after_count_free v n) Old 0
+      answers (record o { free = n + 1 }) (view_after v h n (act_at o at.Count)) Old 0
       (record { owns = f.owns; outside = p.0; empty = p.1; bare = (p.3, p.4, p.5, p.6, refl); no_hand = p.2; unraised = f.unraised refl })
       (let t = f.tickets in omega arith)

@@ -10,7 +10,7 @@ use Rattle.prcu_model.specs.declared.operation.Op.TheVariants.{Put, Get, Del, Se
 use Rattle.core_state.specs.declared.words.Field.{Field}
 use Rattle.core_state.specs.declared.words.Field.TheVariants.{Announced, Stamp, Count, Row}
 use Rattle.core_state.specs.declared.view.View.{View}
-use Rattle.core_state.specs.steps.Waits.{new_wait, after_begin, IsSpot, spot_seen, after_look, with_excused, ending, waited_move, waited_retired, is_grace_for}
+use Rattle.core_state.specs.steps.Waits.{new_wait, IsSpot, spot_seen, after_look, with_excused, ending, waited_move, waited_retired, is_grace_for}
 use Rattle.core_state.specs.declared.view.Waiting.{Waiting}
 use Rattle.core_state.specs.declared.view.Retired.{Retired}
 use Rattle.core_state.specs.declared.shape.Shape.{Shape}
@@ -154,7 +154,7 @@ module _ (k : Shape) (h : List Mark) (o : Own) (v : View) (n : ℕ) where
     );
   }
     where
-      for_aim : (aim : Aim) → ForAim o v aim → ForAim o (after_begin v 0 18446744073709551615 n h) aim
+      for_aim : (aim : Aim) → ForAim o v aim → ForAim o (view_after v h n (act_at o (at.Begin (Reuse aim)))) aim
       for_aim (Leaf spot) a = a
       for_aim Spare a = a
       for_aim Room a = a

@@ -9,7 +9,7 @@ use Rattle.prcu_model.specs.declared.operation.Op.TheVariants.{Put, Get, Del, Se
 use Rattle.core_state.specs.declared.shape.Shape.{Shape}
 use Rattle.core_state.specs.declared.words.Field.TheVariants.{Life}
 use Rattle.core_state.specs.declared.view.View.{View}
-use Rattle.core_state.specs.views.Known.{note_option}
+use Rattle.core_state.specs.views.Known.{note_option, noting}
 use Rattle.core_state.specs.steps.Seating.{spare_slot}
 use Rattle.core_state.specs.steps.Slots.{seized}
 use Rattle.core_points.specs.declared.stage.Aim.TheVariants.{Spare}
@@ -20,7 +20,7 @@ use Rattle.core_points.specs.Programs.{act_at, after, none_free}
 use Rattle.core_points.specs.Facts.{is_delete, is_put, read_at}
 use Rattle.core_points.specs.Tickets.{owed_op}
 use Rattle.core_points.specs.Fits.{Fits}
-use Rattle.core_points.proofs.Notes.{owns_noted, owns_scanned, bare_noted, held_here, spare_noted}
+use Rattle.core_points.proofs.Notes.{owns_noted, owns_scanned, owns_spared, bare_noted, held_here, spare_noted}
 use Rattle.core_points.proofs.OldSlots.{no_spare}
 
 pub delete_owed : (op : Op) (hand : Option ℕ) (retired : List ℕ) → is_delete op ≡ true → owed_op op hand retired ≡ 2
@@ -148,17 +148,8 @@ module _ (k : Shape) (h : List Mark) (o : Own) (v : View) (n : ℕ) where
       let q = p.2 in
       let owns = owns_noted o v s (Life s) n false f.owns in
       let b = bare_noted v s (Life s) n false [] [] None false p.1 refl in record {
-        owns = record {
-          same = owns.same;
-          works = owns.works;
-          spare_is = spare_noted s (read_at (Life s) n) v.hands.hand ∙ ap spare_slot q.1 ∙ ap Some q.2;
-          retired_are = owns.retired_are;
-          locks_are = owns.locks_are;
-          key_fits = owns.key_fits;
-          keys_fit = owns.keys_fit;
-          scans = owns.scans;
-          scans_table = owns.scans_table;
-        };
+        owns = owns_spared o (noting v s (Life s) n false) owns (Some s) _
+            (spare_noted s (read_at (Life s) n) v.hands.hand ∙ ap spare_slot q.1 ∙ ap Some q.2);
         unraised = λ z. f.unraised refl;
         tickets = (let t = f.tickets in let two = delete_owed o.op None o.retired p.3 in omega arith);
         point = (p.0, (b, refl, record { empty = λ z. refl; room = λ z. p.4; has_spare = λ z. refl }));

@@ -180,9 +180,6 @@ few_verdict n records locks key d f has all loads holds =
 
 -- The verdict of a delete with two children.
 module _ (n : ℕ) (records : List Reading) (locks : List HeldLock) (key : ℕ) (d : Node) (u : Successor) (f : Found) where
-  both_node : Node
-  both_node = record d { left = f.left; right = last_right d (Some u) f }
-
   word : HasLoaded locks (two_children d u) 9 f → (j : ℕ) → (u.parent ≡ d.node → (j ≢ 5) × (j ≢ 4)) → j < 9
       → loaded_in (under locks (target_slot (two_children d u) j)) (target_word (two_children d u) j) ≡ Some (found_number f j)
   word loads j seen lt = ⊎_elim

@@ -20,6 +20,7 @@ use Rattle.core_points.specs.Facts.{Owns, Unlocking}
 use Rattle.core_points.specs.Fits.{Fits, PointUnlock, plain}
 use Rattle.core_points.specs.Told.{TellsOnce}
 use Rattle.core_points.proofs.Answers.{answers}
+use Rattle.core_points.proofs.Notes.{owns_locked}
 use Rattle.core_points.proofs.Locking.{no_slots, held_in, clear_lock, clear_without, same_without}
 
 some_lock : (xs : List ℕ) → is_none_left xs ≡ false → (s : ℕ) × (rest : List ℕ) × (xs ≡ s ∷ rest)
@@ -52,17 +53,8 @@ module _ (k : Shape) (h : List Mark) (o : Own) (v : View) (n : ℕ) where
 
   -- without the lock
   less : (s : ℕ) (rest : List ℕ) → o.locks ≡ s ∷ rest → TellsOnce v → Owns o v → Owns (record o { locks = rest }) (after_unlock v s)
-  less s rest e once owns = record {
-    same = owns.same;
-    works = owns.works;
-    spare_is = owns.spare_is;
-    retired_are = owns.retired_are;
-    locks_are = same_without s rest v.locks (λ x. owns.locks_are x ∙ ap (times x) e) once;
-    key_fits = owns.key_fits;
-    keys_fit = owns.keys_fit;
-    scans = owns.scans;
-    scans_table = owns.scans_table;
-  }
+  less s rest e once owns =
+      owns_locked o v owns rest (without_lock s v.locks) (same_without s rest v.locks (λ x. owns.locks_are x ∙ ap (times x) e) once)
 
   pub next_unlock : (l : Last) → TellsOnce v → Fits o (at.Unlock l) v
       → Fits (after o n (at.Unlock l)) (after o n (at.Unlock l)).stage (view_after v h n (act_at o (at.Unlock l)))

@@ -1,5 +1,5 @@
 -- The word of each act is one of the table's.
-use Rattle.std.proofs.Common.{◌≡◌, ◌⊎◌, ℕ, ◌+◌, ◌*◌, ◌/◌, ◌==◌, ◌<◌, cond, Bool, true, false, List, Option, Some, None, refl, subst, ⊎_elim, arith}
+use Rattle.std.proofs.Common.{◌≡◌, ◌⊎◌, ℕ, ◌*◌, ◌==◌, ◌<◌, cond, Bool, true, false, List, Option, Some, None, refl, subst, ⊎_elim, arith}
 use Rattle.prcu_marks.specs.declared.mark.Mark.{Mark}
 use Rattle.prcu_marks.specs.declared.mark.Side.{Side}
 use Rattle.prcu_marks.specs.declared.mark.Side.TheVariants.{Left, Right}
@@ -8,16 +8,14 @@ use Rattle.core_state.specs.declared.shape.Waiter.TheVariants.{Eer}
 use Rattle.core_state.specs.declared.words.Field.{Field}
 use Rattle.core_state.specs.declared.words.Field.TheVariants.{Life, Link}
 use Rattle.core_state.specs.declared.view.Held.{Held}
-use Rattle.core_state.specs.declared.view.HeldLock.{HeldLock}
 use Rattle.core_state.specs.declared.view.Retired.{Retired}
 use Rattle.core_state.specs.declared.view.Section.{Section}
 use Rattle.core_state.specs.declared.view.View.{View}
 use Rattle.core_state.specs.memory.Memory.{slot_count}
 use Rattle.core_state.specs.views.Known.{known_under, loaded_in}
-use Rattle.core_state.specs.steps.Slots.{IsInHand, IsRetiredAt, NeedsFill}
+use Rattle.core_state.specs.steps.Slots.{IsInHand, IsRetiredAt}
 use Rattle.core_state.specs.steps.Locks.{NeedsLockedLoad}
 use Rattle.core_state.specs.steps.Loads.{NeedsSearchLoad}
-use Rattle.core_state.specs.steps.Links.{NeedsMark}
 use Rattle.core_points.specs.declared.stage.Aim.TheVariants.{Leaf, Spare, Room}
 use Rattle.core_points.specs.declared.stage.Node.{Node}
 use Rattle.core_points.specs.declared.stage.Successor.{Successor}
@@ -30,7 +28,6 @@ use Rattle.core_acts.specs.declared.act.Part.{Part}
 use Rattle.core_acts.specs.declared.act.Part.TheVariants as part
 use Rattle.core_acts.specs.Acts.{in_slot, IsWord}
 use Rattle.core_acts.proofs.Acting.{part_word}
-use Rattle.core_acts.specs.declared.act.Act.TheVariants.{RaiseToSpare, RaiseRetired, UnlinkLeft, UnlinkRight}
 use Rattle.core_points.specs.Acts.{Act, field_of, is_step, Needs}
 use Rattle.core_points.specs.Callers.{Own, content_part, first_or_root, is_some, or_root}
 use Rattle.core_points.specs.DeletePlan.{target_lock, target_part, target_slot, successor_lock}
@@ -95,8 +92,9 @@ module _ (k : Shape) (h : List Mark) (o : Own) (v : View) (word : Field → ℕ)
   locked : (s : ℕ) (p : Part) → NeedsLockedLoad v s (in_slot s p) → IsWord k (in_slot s p)
   locked s p d = part_word k s p (under_lock s d.held)
 
-  filled : (s : ℕ) (p : Part) → (held : Held) × NeedsFill v held s (in_slot s p) → IsWord k (in_slot s p)
-  filled s p d = part_word k s p (slot_in s (held_in_table d.0 s (d.1).holder))
+  filled : (held : Held) (s : ℕ) (p : Part)
+      → ((v.hands.hand ≡ Some held) × (held.slot ≡ s)) ⊎ ((v.hands.spare ≡ Some held) × (held.slot ≡ s)) → IsWord k (in_slot s p)
+  filled held s p has = part_word k s p (slot_in s (held_in_table held s has))
 
   in_hand : (held : Held) (s : ℕ) → IsInHand v held s → s < slot_count k
   in_hand held s is = slot_in s (subst (λ t. t < table_of o) is.1 (told.hand_within held is.0))
@@ -104,17 +102,13 @@ module _ (k : Shape) (h : List Mark) (o : Own) (v : View) (word : Field → ℕ)
   retired : (i : ℕ) (r : Retired) (s : ℕ) → IsRetiredAt v i r s → s < slot_count k
   retired i r s is = slot_in s (subst (λ t. t < table_of o) is.1 (told.retired_within i r is.0))
 
-  marked : (s life : ℕ) → (lock : HeldLock) × NeedsMark v lock s life → s < slot_count k
-  marked s life d = under_lock s (d.0, (d.1).locked)
-
   linked : (s child : ℕ) (b : Side) → loaded_in (known_under v s) (Link s b) ≡ Some child → s < slot_count k
   linked s child b now = slot_in s (loaded_in_table s (Link s b) child now)
 
-  either : (b : Bool) (x y : Act) → (Needs k v 0 x → IsWord k (field_of v.allowance.place x))
-      → (Needs k v 0 y → IsWord k (field_of v.allowance.place y)) → Needs k v 0 (cond b x y)
-      → IsWord k (field_of v.allowance.place (cond b x y))
-  either true x y first second d = first d
-  either false x y first second d = second d
+  either : (b : Bool) (x y : Act) → Needs k v 0 (cond b x y) → (Needs k v 0 x → IsWord k (field_of v.allowance.place x))
+      → (Needs k v 0 y → IsWord k (field_of v.allowance.place y)) → IsWord k (field_of v.allowance.place (cond b x y))
+  either true x y d first second = first d
+  either false x y d first second = second d
 
   within : (stage : Stage) → (is_step (act_at o stage) ≡ false → k.waiter ≡ Eer) → Fits o stage v → Needs k v 0 (act_at o stage)
       → IsWord k (field_of v.allowance.place (act_at o stage))
@@ -128,7 +122,7 @@ module _ (k : Shape) (h : List Mark) (o : Own) (v : View) (word : Field → ℕ)
   within (at.Value s) eer f d = searched s part.Value d
   within (at.SpotTag s b) eer f d = searched s (part.Tag b) d
   within (at.SpotLife s b tag) eer f d = searched s part.Life d
-  within (at.LeafField spot i) eer f d = filled (or_root o.hand) (content_part i) d
+  within (at.LeafField spot i) eer f d = filled d.0 (or_root o.hand) (content_part i) (d.1).holder
   within (at.LeafLock spot) eer f d = slot_in spot.slot (((f.point).4).6)
   within (at.LeafLife spot) eer f d = locked spot.slot part.Life d
   within (at.LeafSide spot life) eer f d = locked spot.slot (part.Link spot.side) d
@@ -150,9 +144,7 @@ module _ (k : Shape) (h : List Mark) (o : Own) (v : View) (word : Field → ℕ)
   within (at.OldAge aim) eer f d = retired d.0 d.1 (first_or_root o.retired) d.2
   within (at.OldRaise aim life) eer f d =
       let s : ℕ = first_or_root o.retired in
-      let number : ℕ = 2 * (life / 2 + 1) in
-      either (is_some o.spare) (RaiseRetired s number) (RaiseToSpare s number) (λ x. retired x.0 x.2 s (x.3).retired)
-      (λ x. retired x.0 x.2 s (x.3).retired) d
+      either (is_some o.spare) _ _ d (λ x. retired x.0 x.2 s (x.3).retired) (λ x. retired x.0 x.2 s (x.3).retired)
   within (at.OldFree aim) eer f d = retired d.0 d.1 (first_or_root o.retired) (d.2).retired
   within (at.OldCount aim) eer f d = tt
   within (at.Commit u expected) eer f d = tt
@@ -178,22 +170,21 @@ module _ (k : Shape) (h : List Mark) (o : Own) (v : View) (word : Field → ℕ)
   within (at.SuccessorLife x u) eer f d = searched u.slot part.Life d
   within (at.TargetLock t i) eer f d = slot_in (target_lock t i) (target_within o v t i f)
   within (at.TargetLoad t i found) eer f d = locked (target_slot t i) (target_part t i) d
-  within (at.Mark x child) eer f d = marked x.node _ d
+  within (at.Mark x child) eer f d = under_lock x.node (d.0, (d.1).locked)
   within (at.EmptyTag number s b) eer f d = locked s (part.Tag b) d
   within (at.EmptyRaise number s b tag) eer f d = under_lock s (d.0, (d.1).held)
   within (at.SuccessorKey x u) eer f d = locked u.slot part.Key d
   within (at.SuccessorValue x u next_key) eer f d = locked u.slot part.Value d
-  within (at.CopyField x u next_key value i) eer f d = filled (or_root o.spare) (content_part i) d
+  within (at.CopyField x u next_key value i) eer f d = filled d.0 (or_root o.spare) (content_part i) (d.1).holder
   within (at.CopyAge x u next_key) eer f d = slot_in (or_root o.spare) (held_in_table d.0 (or_root o.spare) d.1)
   within (at.CopyLock x u next_key) eer f d = slot_in (or_root o.spare) (copy_within o v h word x u next_key told f)
-  within (at.CopyMark x u next_key) eer f d = marked x.node _ d
-  within (at.OldMark m) eer f d = marked m.successor.slot _ d
+  within (at.CopyMark x u next_key) eer f d = under_lock x.node (d.0, (d.1).locked)
+  within (at.OldMark m) eer f d = under_lock m.successor.slot (d.0, (d.1).locked)
   within (at.OldRight m) eer f d = locked m.successor.slot (part.Link Right) d
   within (at.Unlink m child) eer f d =
-      either (m.successor.parent == m.node.node) (UnlinkRight m.copy m.successor.slot child)
-      (UnlinkLeft m.successor.parent m.successor.slot child)
+      either (m.successor.parent == m.node.node) _ _ d
       (λ x. slot_in m.copy (subst (λ t. t < table_of o) (x.3).parent_is (told.move_within x.0 (x.3).moving)))
-      (λ x. slot_in m.successor.parent (subst (λ t. t < table_of o) (x.3).parent_is (told.move_within x.0 (x.3).moving))) d
+      (λ x. slot_in m.successor.parent (subst (λ t. t < table_of o) (x.3).parent_is (told.move_within x.0 (x.3).moving)))
 
 pub acts_are_within : ActsAreWithin
 acts_are_within k h o v word stage eer slots places told f =

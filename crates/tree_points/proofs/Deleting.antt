@@ -1,6 +1,6 @@
 -- The points of a delete whose step and next point are as the point says.
 use Rattle.core_acts.specs.declared.act.Part.TheVariants as part
-use Rattle.std.proofs.Common.{ℕ, ◌*◌, ◌/◌, Some, refl}
+use Rattle.std.proofs.Common.{ℕ, ◌/◌, Some, refl}
 use Rattle.prcu_marks.specs.declared.mark.Side.TheVariants.{Left, Right}
 use Rattle.prcu_marks.specs.declared.mark.Side.{Side}
 use Rattle.prcu_model.specs.declared.operation.Op.{Op}
@@ -125,14 +125,6 @@ pub passes_successor_value : {k : Shape} {op : Op} {kept n : ℕ} {v w : View} {
     → IsAt k op kept (at.SuccessorValue d u next_key) v → Told k v (acts.LockedLoad u.slot part.Value) n w
     → IsAt k op kept (at.CopyField d u next_key n 0) w
 passes_successor_value a t = passes_at _ _ _ _ _ _ _ a refl t
-
-pub needs_old_mark : {k : Shape} {op : Op} {kept : ℕ} {v : View} {m : Moving} → IsAt k op kept (at.OldMark m) v → TellsNow k v
-    → Asks k v (acts.Mark m.successor.slot (2 * m.successor.generation))
-needs_old_mark a now = needs_at _ _ _ _ _ a refl now
-
-pub passes_old_mark : {k : Shape} {op : Op} {kept n : ℕ} {v w : View} {m : Moving} → IsAt k op kept (at.OldMark m) v
-    → Told k v (acts.Mark m.successor.slot (2 * m.successor.generation)) n w → IsAt k op kept (at.OldRight m) w
-passes_old_mark a t = passes_at _ _ _ _ _ _ _ a refl t
 
 pub needs_old_right : {k : Shape} {op : Op} {kept : ℕ} {v : View} {m : Moving} → IsAt k op kept (at.OldRight m) v → TellsNow k v
     → Asks k v (acts.LockedLoad m.successor.slot (part.Link Right))

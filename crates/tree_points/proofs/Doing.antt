@@ -1,28 +1,24 @@
--- The four stores that make an update: what each is asked for, the mark that it leaves, the locks that are held after it, and how far a
--- child's number goes.
-use Rattle.std.proofs.Common.{◌≡◌, ℕ, ◌+◌, ◌*◌, ◌==◌, cond, Bool, true, false, List, [], ◌++◌, ◌∷◌, Some, refl, sym, ap, subst, ◌∙◌, eq-eqb, length, length-append, arith}
+-- The four stores that make an update: what each is asked for, and of a put's and a set's the mark that it leaves, and the locks that are
+-- held after it.
+use Rattle.std.proofs.Common.{◌≡◌, ℕ, ◌+◌, ◌*◌, cond, true, false, List, [], ◌++◌, ◌∷◌, Some, refl, sym, ap, subst, ◌∙◌, eq-eqb, length, length-append, arith}
 use mathlib.Core.List.{IsPrefix}
 use Rattle.prcu_marks.proofs.MarkLists.{updates_of-append}
-use Rattle.prcu_marks.specs.Callers.{IsNextKey}
-use Rattle.prcu_model.specs.Dictionary.{key_of, map_of}
+use Rattle.prcu_model.specs.Dictionary.{key_of}
 use Rattle.prcu_model.specs.declared.operation.Update.{Update}
 use Rattle.core_state.specs.declared.view.HeldLock.{HeldLock}
 use Rattle.core_state.specs.declared.view.Known.{Known}
 use Rattle.core_state.specs.parts.TreeParts.{map_now}
-use Rattle.core_points.specs.Facts.{is_delete, one_lock, read_at, set_known}
+use Rattle.core_points.specs.Facts.{one_lock, read_at, set_known}
 use Rattle.core_points.proofs.Notes.{one_locked}
-use Rattle.core_acts.specs.Acts.{spare_of}
 use Rattle.tree_points.specs.Progress.{HasGone, HasUpdated, KeepsAllowance}
 use Rattle.prcu_marks.specs.declared.mark.Side.{Side}
-use Rattle.prcu_marks.specs.declared.mark.Side.TheVariants.{Left, Right}
 use Rattle.prcu_model.specs.declared.operation.Op.{Op}
-use Rattle.prcu_model.specs.declared.operation.Op.TheVariants.{Put, Get, Del, Set}
+use Rattle.prcu_model.specs.declared.operation.Op.TheVariants.{Put, Set}
 use Rattle.core_state.specs.declared.shape.Shape.{Shape}
 use Rattle.core_state.specs.declared.view.View.{View}
 use Rattle.core_points.specs.declared.stage.Spot.{Spot}
 use Rattle.core_points.specs.declared.stage.Node.{Node}
 use Rattle.core_points.specs.declared.stage.Successor.{Successor}
-use Rattle.core_points.specs.declared.stage.Moving.{Moving}
 use Rattle.core_points.specs.declared.stage.Update.TheVariants as update
 use Rattle.core_points.specs.declared.stage.Stage.TheVariants as at
 use Rattle.core_acts.specs.declared.act.Act.TheVariants as acts
@@ -33,18 +29,17 @@ use Rattle.tree_points.proofs.Steps.{needs_as, passes_as}
 use Rattle.core_points.specs.Callers.{value_in}
 use Rattle.core_acts.specs.Acts.{Asks}
 use Rattle.prcu_marks.specs.declared.mark.Mark.{Mark}
-use Rattle.prcu_marks.specs.declared.mark.Mark.TheVariants.{Done, Unlinked}
+use Rattle.prcu_marks.specs.declared.mark.Mark.TheVariants.{Done}
 use Rattle.prcu_marks.specs.Marks.{own_of, updates_of}
-use Rattle.core_state.specs.declared.view.Held.{Held}
 use Rattle.core_state.specs.declared.words.Field.TheVariants.{Life, Link, Value}
-use Rattle.core_state.specs.views.Known.{known_in, known_of, known_under, lock_of, noting}
-use Rattle.core_state.specs.steps.Links.{with_mark}
-use Rattle.core_frames.specs.Telling.{IsChild}
+use Rattle.core_state.specs.views.Known.{known_in, known_of, known_under, lock_of}
 use Rattle.core_points.specs.DeleteFacts.{under}
-use Rattle.core_points.proofs.ClearLocks.{relinked_slots}
 use Rattle.core_points.proofs.Locking.{slots_in}
-use Rattle.tree_laws.proofs.locks.Locked.{loaded_known}
-use Rattle.tree_points.proofs.Gone.{allowed, further, gone_with, lock_slots, noting_same}
+use Rattle.core_points.specs.Callers.{key_now, or_root}
+use Rattle.core_points.specs.Programs.{act_at}
+use Rattle.seat_table.specs.Seats.{IsSlotOf}
+use Rattle.tree_points.proofs.Holding.{slot_in_hand, slot_of}
+use Rattle.tree_points.proofs.Gone.{allowed, further, gone_with, noting_same}
 
 -- a step after all marks, of which the first is the place's
 one_gone : {v w : View} (h more : List Mark) (op : Op) → (own_of v.allowance.place more ≡ []) → IsPrefix v.trail.steps w.trail.steps
@@ -106,24 +101,6 @@ module _ {k : Shape} {kept n : ℕ} {v w : View} where
     (t.gains).was old (the_value v s ((a.fits).point).0 old (((a.fits).point).1).1),
   )
 
-  pub updated_bypass : {op : Op} {child front : ℕ} {d : Node} → IsAt k op kept (at.Store (update.Bypass d child) front) v
-      → Told k v (acts.Bypass d.parent d.side d.node child (key_of op)) n w → HasUpdated v (Del (key_of op)) front w
-  updated_bypass {op} {child} {front} {d} a t =
-      updated t.marks (Unlinked d.node ∷ []) (Del (key_of op)) front refl refl (further v _ t.goes refl) t.sees (allowed t.goes refl)
-      (ap (λ (z : View). z.seen) t.goes) (((t.gains).counted).found (record { found = front; stored = false }) (((a.fits).point).0).1)
-
-  -- the copy's key is the next one that the dictionary had
-  pub updated_copy : {op : Op} {next_key copy front : ℕ} {d : Node} {u : Successor}
-      → IsAt k op kept (at.Store (update.Copy d u next_key copy) front) v
-      → Told k v (acts.LinkCopy d.parent d.side d.node copy u.slot u.parent (key_of op) next_key) n w
-      → (x : HasUpdated v (Del (key_of op)) front w) × IsNextKey (map_of (updates_of x.before)) (key_of op) next_key
-  updated_copy {op} {next_key} {copy} {front} {d} {u} a t = (
-    updated t.marks (Unlinked d.node ∷ []) (Del (key_of op)) front refl refl (further v _ t.goes refl) t.sees (allowed t.goes refl)
-        (ap (λ (z : View). z.seen) t.goes)
-        (((t.gains).counted).found (record { found = front; stored = false }) ((((a.fits).point).0).0).1),
-    (t.gains).next,
-  )
-
   pub gone_store_leaf : {key value leaf front : ℕ} {spot : Spot} → IsAt k (Put key value) kept (at.Store (update.Leaf spot) front) v
       → Told k v (acts.LinkLeaf spot.slot spot.side leaf key value) n w
       → HasGone v w (Done (record { caller = v.allowance.place; op = Put key value }) ∷ [])
@@ -133,17 +110,6 @@ module _ {k : Shape} {kept n : ℕ} {v w : View} where
       → Told k v (acts.ReplaceValue s key value) n w
       → HasGone v w (Done (record { caller = v.allowance.place; op = Set key value }) ∷ [])
   gone_store_value a t = ((updated_value a t).0).gone
-
-  pub gone_store_bypass : {op : Op} {child front : ℕ} {d : Node} → IsAt k op kept (at.Store (update.Bypass d child) front) v
-      → Told k v (acts.Bypass d.parent d.side d.node child (key_of op)) n w
-      → HasGone v w (Done (record { caller = v.allowance.place; op = Del (key_of op) }) ∷ [])
-  gone_store_bypass a t = (updated_bypass a t).gone
-
-  pub gone_store_copy : {op : Op} {next_key copy front : ℕ} {d : Node} {u : Successor}
-      → IsAt k op kept (at.Store (update.Copy d u next_key copy) front) v
-      → Told k v (acts.LinkCopy d.parent d.side d.node copy u.slot u.parent (key_of op) next_key) n w
-      → HasGone v w (Done (record { caller = v.allowance.place; op = Del (key_of op) }) ∷ [])
-  gone_store_copy a t = ((updated_copy a t).0).gone
 
 -- What the table asks for each of them is given, and the front is made even next.
 pub needs_store_bypass : {k : Shape} {op : Op} {kept : ℕ} {v : View} {d : Node} {child : ℕ} {front : ℕ}
@@ -192,66 +158,34 @@ passes_store_value {key = key} {value = value} {s = s} {old = old} {front = fron
     passes_as (at.Store (update.Value s old) front) (at.Even (update.Value s old) front) (acts.ReplaceValue s key value) a refl
     (ap (λ (x : Op). acts.ReplaceValue s (key_of x) (value_in x)) a.op_is) refl t
 
--- what a delete's operation is
-pub op_deletes : (op : Op) → is_delete op ≡ true → op ≡ Del (key_of op)
-op_deletes (Del key) is = refl
-op_deletes (Put key value) is = cc
-op_deletes (Get key) is = cc
-op_deletes (Set key value) is = cc
+-- a put's store is of the slot in hand
+linked_case : {k : Shape} {op : Op} {kept leaf front : ℕ} {v : View} {spot : Spot}
+    (a : IsAt k op kept (at.Store (update.Leaf spot) front) v) → IsSlotOf (Some leaf) v.hands.hand
+    → act_at a.own (at.Store (update.Leaf spot) front) ≡ acts.LinkLeaf spot.slot spot.side leaf (key_of op) (value_in op)
+linked_case {op = op} {leaf = leaf} {v = v} {spot = spot} a is =
+    let hand : a.own.hand ≡ Some leaf = sym (slot_in_hand a.own.hand _ _ _ v.hands.hand ((a.fits).point).3)
+    ∙ slot_of v.hands.hand leaf is in
+    ap (λ x. acts.LinkLeaf spot.slot spot.side (or_root x) (key_now a.own) (value_in a.own.op)) hand
+    ∙ ap (λ (x : Op). acts.LinkLeaf spot.slot spot.side leaf (key_of x) (value_in x)) a.op_is
 
--- The locks stay the same by each of the four.
+pub needs_store_leaf : {k : Shape} {op : Op} {kept leaf front : ℕ} {v : View} {spot : Spot} → IsSlotOf (Some leaf) v.hands.hand
+    → IsAt k op kept (at.Store (update.Leaf spot) front) v → TellsNow k v
+    → Asks k v (acts.LinkLeaf spot.slot spot.side leaf (key_of op) (value_in op))
+needs_store_leaf {op = op} {leaf = leaf} {front = front} {spot = spot} is a now =
+    needs_as (at.Store (update.Leaf spot) front) (acts.LinkLeaf spot.slot spot.side leaf (key_of op) (value_in op)) a refl
+    (linked_case a is) now
+
+pub passes_store_leaf : {k : Shape} {op : Op} {kept n leaf front : ℕ} {v w : View} {spot : Spot} → IsSlotOf (Some leaf) v.hands.hand
+    → IsAt k op kept (at.Store (update.Leaf spot) front) v → Told k v (acts.LinkLeaf spot.slot spot.side leaf (key_of op) (value_in op)) n w
+    → IsAt k op kept (at.Even (update.Leaf spot) front) w
+passes_store_leaf {op = op} {leaf = leaf} {front = front} {spot = spot} is a t =
+    passes_as (at.Store (update.Leaf spot) front) (at.Even (update.Leaf spot) front)
+    (acts.LinkLeaf spot.slot spot.side leaf (key_of op) (value_in op)) a refl (linked_case a is) refl t
+
+-- The locks stay the same by these two.
 module _ {k : Shape} {n : ℕ} {v w : View} where
   pub locks_link : {s leaf key value : ℕ} {b : Side} → Told k v (acts.LinkLeaf s b leaf key value) n w → slots_in w.locks ≡ slots_in v.locks
   locks_link {s} {leaf} {b = b} t = ap (λ (z : View). slots_in z.locks) t.goes ∙ (noting_same v s (Link s b) leaf true).locks
 
   pub locks_replace : {s key value : ℕ} → Told k v (acts.ReplaceValue s key value) n w → slots_in w.locks ≡ slots_in v.locks
   locks_replace {s} {key} {value} t = ap (λ (z : View). slots_in z.locks) t.goes ∙ (noting_same v s (Value s) value true).locks
-
-  pub locks_bypass : {parent node child key : ℕ} {b : Side} → Told k v (acts.Bypass parent b node child key) n w
-      → slots_in w.locks ≡ slots_in v.locks
-  locks_bypass {parent} {node} {child} {b = b} t =
-      ap (λ (z : View). slots_in z.locks) t.goes
-      ∙ relinked_slots parent b child node (noting v parent (Link parent b) child true).locks
-      ∙ (noting_same v parent (Link parent b) child true).locks
-
-  pub locks_copy : {parent node copy old old_parent key next_key : ℕ} {b : Side}
-      → Told k v (acts.LinkCopy parent b node copy old old_parent key next_key) n w → slots_in w.locks ≡ slots_in v.locks
-  locks_copy {parent} {node} {b = b} t =
-      let held : Held = spare_of v in
-      ap (λ (z : View). slots_in z.locks) t.goes
-      ∙ lock_slots node (with_mark false) (λ l. refl) (noting v parent (Link parent b) held.slot true).locks
-      ∙ (noting_same v parent (Link parent b) held.slot true).locks
-
--- A child that was loaded under the locks is one of the table's slots, and its number fits 32 bits.
-pub children_within : {k : Shape} {op : Op} {kept child : ℕ} {v : View} {d : Node} → IsAt k op kept (at.Mark d child) v → TellsNow k v
-    → IsChild (k.slots + k.places + 1) d.left × IsChild (k.slots + k.places + 1) d.right
-children_within {k} {op} {kept} {child} {v} {d} a now =
-    let p = ((a.fits).point).4 in
-    let r = p.0 in
-    let holds = p.2 in
-    let known = under v.locks d.node in
-    let life = loaded_known known (Life d.node) (2 * d.generation) ((a.fits).point).5 in
-    let links = (now.tells).links_within r d.node d.generation holds.kept holds.recorded life in (
-      links Left d.left (loaded_known known (Link d.node Left) d.left holds.left),
-      links Right d.right (loaded_known known (Link d.node Right) d.right holds.right),
-    )
-
-pub child_within : {k : Shape} {op : Op} {kept child : ℕ} {v : View} {d : Node} → IsAt k op kept (at.Mark d child) v → TellsNow k v
-    → IsChild (k.slots + k.places + 1) child
-child_within {k} {op} {kept} {child} {v} {d} a now =
-    let both = children_within a now in
-    subst (λ x. IsChild (k.slots + k.places + 1) x) (sym ((a.fits).point).6) (by (d.left == 0) both.0 both.1)
-  where
-    by : (z : Bool) → IsChild (k.slots + k.places + 1) d.left → IsChild (k.slots + k.places + 1) d.right
-        → IsChild (k.slots + k.places + 1) (cond z d.right d.left)
-    by true left right = right
-    by false left right = left
-
--- and so is that of the old successor
-pub old_child_within : {k : Shape} {op : Op} {kept child : ℕ} {v : View} {m : Moving} → IsAt k op kept (at.Unlink m child) v → TellsNow k v
-    → IsChild (k.slots + k.places + 1) child
-old_child_within {k} {op} {kept} {child} {v} {m} a now =
-    let p = (a.fits).point in
-    let move = (p.0).6 in
-    (now.tells).old_links_within move.0 move.1 Right child
-    (subst (λ s. known_in (under v.locks s) (Link s Right) ≡ Some child) (sym move.5) p.3)

@@ -1,7 +1,7 @@
 -- The beginning and the end of a call.
 use Rattle.std.proofs.Common.{◌≡◌, ◌≢◌, ℕ, zero, suc, ◌+◌, ◌==◌, ◌<◌, ◌≤◌, cond, Bool, true, false, List, [], map, length, ◌^◌, nat_le, ◌∷◌, Option, Some, None, refl, sym, ap, subst, ◌∙◌, arith}
 use Rattle.prcu_model.specs.declared.operation.Op.{Op}
-use Rattle.prcu_model.specs.declared.operation.Op.TheVariants.{Put, Get, Del, Set}
+use Rattle.prcu_model.specs.declared.operation.Op.TheVariants.{Put, Del, Set}
 use Rattle.prcu_model.specs.Dictionary.{key_of}
 use Rattle.core_state.specs.declared.shape.Shape.{Shape}
 use Rattle.core_state.specs.declared.view.View.{View}
@@ -115,12 +115,6 @@ module _ (k : Shape) (op : Op) (kept : ℕ) (v : View) (quiet : IsQuiet v) (work
     fits = subst (λ x. Fits (begun_with (new_own k op kept v) (op ∷ [])) x v) is
         (begins (new_own k op kept v) v between (op ∷ []) one_key (omega arith));
   }
-
--- A call begins, with four tickets beside those that it leaves alone.
-pub begins_get : {k : Shape} {kept key : ℕ} {v : View} → IsQuiet v → Works v → 1 ≤ k.places → key < 2 ^ 64 → kept + 4 ≤ v.allowance.tickets
-    → IsAt k (Get key) kept at.EnterClock v
-begins_get {k} {kept} {key} {v} quiet works some_place fits paid =
-    call k (Get key) kept v quiet works some_place fits paid at.EnterClock refl
 
 pub begins_put : {k : Shape} {kept key value : ℕ} {v : View} → IsQuiet v → Works v → 1 ≤ k.places → key < 2 ^ 64
     → kept + 4 ≤ v.allowance.tickets → IsAt k (Put key value) kept at.EnterClock v

@@ -17,7 +17,6 @@ use Rattle.core_state.specs.declared.view.View.{View}
 use Rattle.core_state.specs.declared.words.Field.{Field}
 use Rattle.core_state.specs.views.Known.{change_lock, note_lock, noting}
 use Rattle.core_state.specs.steps.Seating.{spare_slot}
-use Rattle.core_state.specs.steps.Slots.{change_retired}
 use Rattle.core_frames.proofs.views.SeatFacts.{works_there}
 use Rattle.core_points.proofs.Locking.{slots_in}
 use Rattle.core_points.proofs.Notes.{spare_noted}
@@ -166,16 +165,6 @@ lock_slots s f same (l ∷ ls) = ap (λ x. x ∷ slots_in (change_lock s f ls)) 
 abbrev pub retired_in : List Retired → List ℕ
 retired_in = map (λ (r : Retired). r.slot)
 
-retired_kept : (f : Retired → Retired) → ((r : Retired) → (f r).slot ≡ r.slot) → (r : Retired) (z : Bool) → (cond z (f r) r).slot ≡ r.slot
-retired_kept f same r true = same r
-retired_kept f same r false = refl
-
-pub retired_slots : (s : ℕ) (f : Retired → Retired) → ((r : Retired) → (f r).slot ≡ r.slot) → (rs : List Retired)
-    → retired_in (change_retired s f rs) ≡ retired_in rs
-retired_slots s f same [] = refl
-retired_slots s f same (r ∷ rs) = ap (λ x. x ∷ retired_in (change_retired s f rs)) (retired_kept f same r (r.slot == s))
-    ∙ ap (λ xs. r.slot ∷ xs) (retired_slots s f same rs)
-
 -- The place, its locks, the slot in hand, the spare and the retired slots are the same.
 pub record IsSame (v w : View) : Type 0 where
   pub place : w.allowance.place ≡ v.allowance.place
@@ -185,9 +174,6 @@ pub record IsSame (v w : View) : Type 0 where
   pub spare : spare_slot w.hands.spare ≡ spare_slot v.hands.spare
   pub retired : retired_in w.hands.retired ≡ retired_in v.hands.retired
   pub seen : w.seen ≡ v.seen
-
-pub same_refl : (v : View) → IsSame v v
-same_refl v = record { place = refl; tickets = refl; locks = refl; hand = refl; spare = refl; retired = refl; seen = refl }
 
 pub noting_same : (v : View) (s : ℕ) (field : Field) (n : ℕ) (by_store : Bool) → IsSame v (noting v s field n by_store)
 noting_same v s field n by_store =

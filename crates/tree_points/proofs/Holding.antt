@@ -1,5 +1,5 @@
 -- The points of the slot in hand and of the spare.
-use Rattle.std.proofs.Common.{◌≡◌, ◌≢◌, ℕ, ◌+◌, ◌*◌, ◌%◌, ◌==◌, if◌then◌else◌, cond, Bool, true, false, ◌∷◌, Option, Some, None, refl, sym, ap, subst, ◌∙◌}
+use Rattle.std.proofs.Common.{◌≡◌, ◌≢◌, ℕ, ◌+◌, ◌==◌, if◌then◌else◌, cond, Bool, true, false, Option, Some, None, refl, sym, ap, subst, ◌∙◌}
 use Rattle.prcu_marks.specs.declared.mark.Side.TheVariants.{Left, Right}
 use Rattle.prcu_model.specs.declared.operation.Op.{Op}
 use Rattle.prcu_model.specs.declared.operation.Op.TheVariants.{Put}
@@ -11,7 +11,6 @@ use Rattle.core_points.specs.declared.stage.Node.{Node}
 use Rattle.core_points.specs.declared.stage.Successor.{Successor}
 use Rattle.core_points.specs.declared.stage.Moving.{Moving}
 use Rattle.core_points.specs.declared.stage.Last.TheVariants as last
-use Rattle.core_points.specs.declared.stage.Update.TheVariants as update
 use Rattle.core_points.specs.declared.stage.Stage.{Stage}
 use Rattle.core_points.specs.declared.stage.Stage.TheVariants as at
 use Rattle.core_points.specs.Callers.{Own, content_part, contents, is_none_left, key_now, or_root, value_in}
@@ -19,18 +18,20 @@ use Rattle.core_points.specs.DeletePlan.{move_locks}
 use Rattle.core_points.specs.Programs.{act_at}
 use Rattle.core_acts.specs.declared.act.Act.{Act}
 use Rattle.core_acts.specs.declared.act.Act.TheVariants as acts
-use Rattle.core_acts.specs.Acts.{Asks}
+use Rattle.core_acts.specs.declared.act.Part.{Part}
+use Rattle.core_acts.specs.Acts.{Asks, in_slot}
 use Rattle.seat_table.specs.Gains.{TellsNow}
 use Rattle.seat_table.specs.Told.{Told}
 use Rattle.seat_table.specs.Seats.{IsSlotOf}
 use Rattle.tree_points.specs.At.{HasLocks, IsAt}
 use Rattle.core_points.specs.Acts.{is_step}
-use Rattle.tree_points.proofs.Passing.{fits_next, needs_at, next_own, passes_at}
-use Rattle.tree_points.proofs.Steps.{commits_any, needs_as, passes_as}
+use Rattle.tree_points.proofs.Passing.{fits_next, next_own}
+use Rattle.tree_points.proofs.Steps.{needs_as, passes_as}
 use Rattle.core_state.specs.declared.view.Held.{Held}
 use Rattle.core_state.specs.steps.Seating.{spare_slot}
-use Rattle.core_points.specs.DeleteFacts.{all_locks, first_locks, two_children}
-use Rattle.core_points.specs.Facts.{HandFits, SameLocks}
+use Rattle.core_points.specs.DeleteFacts.{first_locks, two_children}
+use Rattle.core_points.specs.Facts.{HandFits}
+use Rattle.tree_points.proofs.Gone.{IsSame, noting_same}
 use Rattle.tree_points.proofs.Locking.{lock_busy, lock_free}
 
 pub slot_of : (held : Option Held) (slot : ℕ) → IsSlotOf (Some slot) held → spare_slot held ≡ Some slot
@@ -67,29 +68,12 @@ passes_leaf {leaf = leaf} {key = key} {value = value} {spot = spot} i is a t =
     passes_as (at.LeafField spot i) (if i == 3 then at.LeafLock spot else at.LeafField spot (i + 1))
     (acts.Fill leaf (content_part i) (contents key value 0 0 i)) a refl (leaf_case i a is) refl t
 
--- and linked
-pub linked_case : {k : Shape} {op : Op} {kept leaf front : ℕ} {v : View} {spot : Spot}
-    (a : IsAt k op kept (at.Store (update.Leaf spot) front) v) → IsSlotOf (Some leaf) v.hands.hand
-    → act_at a.own (at.Store (update.Leaf spot) front) ≡ acts.LinkLeaf spot.slot spot.side leaf (key_of op) (value_in op)
-linked_case {op = op} {leaf = leaf} {v = v} {spot = spot} a is =
-    let hand : a.own.hand ≡ Some leaf = sym (slot_in_hand a.own.hand _ _ _ v.hands.hand ((a.fits).point).3)
-    ∙ slot_of v.hands.hand leaf is in
-    ap (λ x. acts.LinkLeaf spot.slot spot.side (or_root x) (key_now a.own) (value_in a.own.op)) hand
-    ∙ ap (λ (x : Op). acts.LinkLeaf spot.slot spot.side leaf (key_of x) (value_in x)) a.op_is
-
-pub needs_store_leaf : {k : Shape} {op : Op} {kept leaf front : ℕ} {v : View} {spot : Spot} → IsSlotOf (Some leaf) v.hands.hand
-    → IsAt k op kept (at.Store (update.Leaf spot) front) v → TellsNow k v
-    → Asks k v (acts.LinkLeaf spot.slot spot.side leaf (key_of op) (value_in op))
-needs_store_leaf {op = op} {leaf = leaf} {front = front} {spot = spot} is a now =
-    needs_as (at.Store (update.Leaf spot) front) (acts.LinkLeaf spot.slot spot.side leaf (key_of op) (value_in op)) a refl
-    (linked_case a is) now
-
-pub passes_store_leaf : {k : Shape} {op : Op} {kept n leaf front : ℕ} {v w : View} {spot : Spot} → IsSlotOf (Some leaf) v.hands.hand
-    → IsAt k op kept (at.Store (update.Leaf spot) front) v → Told k v (acts.LinkLeaf spot.slot spot.side leaf (key_of op) (value_in op)) n w
-    → IsAt k op kept (at.Even (update.Leaf spot) front) w
-passes_store_leaf {op = op} {leaf = leaf} {front = front} {spot = spot} is a t =
-    passes_as (at.Store (update.Leaf spot) front) (at.Even (update.Leaf spot) front)
-    (acts.LinkLeaf spot.slot spot.side leaf (key_of op) (value_in op)) a refl (linked_case a is) refl t
+-- The place's locks and slots stay as they are.
+pub same_fill : {k : Shape} {v w : View} {n slot number : ℕ} {p : Part} → Told k v (acts.Fill slot p number) n w → IsSame v w
+same_fill {v = v} {slot = slot} {number = number} {p = p} t =
+    let same = noting_same v slot (in_slot slot p) number true in
+    subst (IsSame v) (sym t.goes)
+    (record { place = refl; tickets = refl; locks = same.locks; hand = same.hand; spare = same.spare; retired = refl; seen = refl })
 
 -- The spare gets the fields of a copy.
 pub own_spare : {k : Shape} {op : Op} {kept copy : ℕ} {v : View} {stage : Stage} (a : IsAt k op kept stage v)
@@ -153,25 +137,6 @@ passes_copy_lock_busy {n = n} {copy = copy} {next_key = next_key} {d = d} {u = u
     some_left : (z : Bool) → is_none_left (first_locks (two_children d u) (cond z 3 4)) ≡ false
     some_left true = refl
     some_left false = refl
-
-pub locks_copy_mark : {k : Shape} {op : Op} {kept copy next_key : ℕ} {v : View} {d : Node} {u : Successor}
-    → IsSlotOf (Some copy) v.hands.spare → IsAt k op kept (at.CopyMark d u next_key) v → HasLocks (copy ∷ all_locks d u) v
-locks_copy_mark {v = v} {d = d} {u = u} is a =
-    record {
-      same = subst (λ xs. SameLocks xs v.locks) (((a.fits).point).4 ∙ ap (λ x. or_root x ∷ all_locks d u) (own_spare a is))
-          ((a.fits).owns).locks_are;
-    }
-
-pub needs_copy_mark : {k : Shape} {op : Op} {kept next_key : ℕ} {v : View} {d : Node} {u : Successor}
-    → IsAt k op kept (at.CopyMark d u next_key) v → TellsNow k v → Asks k v (acts.Mark d.node (2 * d.generation))
-needs_copy_mark a now = needs_at _ _ _ _ _ a refl now
-
-pub passes_copy_mark : {k : Shape} {op : Op} {kept n copy next_key : ℕ} {v w : View} {d : Node} {u : Successor}
-    → IsSlotOf (Some copy) v.hands.spare → IsAt k op kept (at.CopyMark d u next_key) v → Told k v (acts.Mark d.node (2 * d.generation)) n w
-    → (expected : ℕ) → expected % 2 ≡ 0 → IsAt k op kept (at.Commit (update.Copy d u next_key copy) expected) w
-passes_copy_mark {k} {op} {kept} {n} {copy} {next_key} {v} {w} {d} {u} is a t expected even =
-    subst (λ x. IsAt k op kept (at.Commit (update.Copy d u next_key (or_root x)) expected) w) (own_spare a is)
-    (commits_any (passes_at k op kept v w n (at.CopyMark d u next_key) a refl t) expected even)
 
 -- The old successor is unlinked from the copy, or from its parent.
 unlink_copy_case : (o : Own) (m : Moving) (child : ℕ) → (m.successor.parent == m.node.node) ≡ true

@@ -7,12 +7,9 @@ use Rattle.core_points.specs.declared.stage.Spot.{Spot}
 use Rattle.core_points.specs.declared.stage.Node.{Node}
 use Rattle.core_points.specs.declared.stage.Successor.{Successor}
 use Rattle.core_points.specs.declared.stage.Target.{Target}
-use Rattle.core_points.specs.declared.stage.Found.{Found}
-use Rattle.core_points.specs.declared.stage.Moving.{Moving}
 use Rattle.core_points.specs.declared.stage.Last.{Last}
 use Rattle.core_points.specs.declared.stage.Last.TheVariants as last
 use Rattle.core_points.specs.declared.stage.Update.TheVariants as update
-use Rattle.core_points.specs.declared.stage.Waits.TheVariants.{Move}
 use Rattle.core_points.specs.declared.stage.Stage.{Stage}
 use Rattle.core_points.specs.declared.stage.Stage.TheVariants as at
 use Rattle.core_points.specs.Callers.{Own, go, is_none_left}
@@ -37,25 +34,14 @@ use Rattle.core_points.specs.Fits.{PointUnlock, plain}
 use Rattle.core_points.specs.Tickets.{owed_last}
 use Rattle.core_points.specs.Programs.{answer, begun_with, past_lock}
 use Rattle.core_points.proofs.Locking.{no_locks, slots_in}
+use Rattle.core_points.proofs.Notes.{owns_locked}
 
 holds_one : (v : View) (s : ℕ) (known : List Known) → v.locks ≡ one_lock s known → HasLocks (s ∷ []) v
 holds_one v s known e = record { same = λ x. ap (λ (ls : List HeldLock). times x (slots_in ls)) e }
 
-pub locks_leaf_life : {k : Shape} {op : Op} {kept : ℕ} {v : View} {spot : Spot} → IsAt k op kept (at.LeafLife spot) v
-    → HasLocks (spot.slot ∷ []) v
-locks_leaf_life {v = v} {spot = spot} a = holds_one v spot.slot _ (((a.fits).point).2).0
-
-pub locks_leaf_side : {k : Shape} {op : Op} {kept life : ℕ} {v : View} {spot : Spot} → IsAt k op kept (at.LeafSide spot life) v
-    → HasLocks (spot.slot ∷ []) v
-locks_leaf_side {v = v} {spot = spot} a = holds_one v spot.slot _ (((a.fits).point).2).0
-
 pub locks_leaf_tag : {k : Shape} {op : Op} {kept life link : ℕ} {v : View} {spot : Spot} → IsAt k op kept (at.LeafTag spot life link) v
     → HasLocks (spot.slot ∷ []) v
 locks_leaf_tag {v = v} {spot = spot} a = holds_one v spot.slot _ (((a.fits).point).2).0
-
-pub locks_commit_leaf : {k : Shape} {op : Op} {kept expected : ℕ} {v : View} {spot : Spot}
-    → IsAt k op kept (at.Commit (update.Leaf spot) expected) v → HasLocks (spot.slot ∷ []) v
-locks_commit_leaf {v = v} {spot = spot} a = holds_one v spot.slot _ ((((a.fits).point).0).2).0
 
 pub locks_store_leaf : {k : Shape} {op : Op} {kept front : ℕ} {v : View} {spot : Spot}
     → IsAt k op kept (at.Store (update.Leaf spot) front) v → HasLocks (spot.slot ∷ []) v
@@ -64,13 +50,6 @@ locks_store_leaf {v = v} {spot = spot} a = holds_one v spot.slot _ (((a.fits).po
 pub locks_set_check : {k : Shape} {op : Op} {kept s generation : ℕ} {v : View} → IsAt k op kept (at.SetCheck s generation) v
     → HasLocks (s ∷ []) v
 locks_set_check {s = s} {v = v} a = holds_one v s _ ((a.fits).point).1
-
-pub locks_set_value : {k : Shape} {op : Op} {kept s : ℕ} {v : View} → IsAt k op kept (at.SetValue s) v → HasLocks (s ∷ []) v
-locks_set_value {s = s} {v = v} a = holds_one v s _ (((a.fits).point).1).1
-
-pub locks_commit_value : {k : Shape} {op : Op} {kept expected s old : ℕ} {v : View}
-    → IsAt k op kept (at.Commit (update.Value s old) expected) v → HasLocks (s ∷ []) v
-locks_commit_value {s = s} {v = v} a = holds_one v s _ ((((a.fits).point).0).1).1
 
 pub locks_store_value : {k : Shape} {op : Op} {kept front s old : ℕ} {v : View} → IsAt k op kept (at.Store (update.Value s old) front) v
     → HasLocks (s ∷ []) v
@@ -81,21 +60,9 @@ pub locks_target_lock : {k : Shape} {op : Op} {kept i : ℕ} {v : View} {t : Tar
     → HasLocks (first_locks t i) v
 locks_target_lock {v = v} a = record { same = subst (λ xs. SameLocks xs v.locks) ((a.fits).point).5 ((a.fits).owns).locks_are }
 
-pub locks_target_load : {k : Shape} {op : Op} {kept i : ℕ} {v : View} {t : Target} {found : Found}
-    → IsAt k op kept (at.TargetLoad t i found) v → HasLocks (first_locks t (target_locks t)) v
-locks_target_load {v = v} a = record { same = subst (λ xs. SameLocks xs v.locks) ((a.fits).point).4 ((a.fits).owns).locks_are }
-
-pub locks_successor_key : {k : Shape} {op : Op} {kept : ℕ} {v : View} {d : Node} {u : Successor} → IsAt k op kept (at.SuccessorKey d u) v
-    → HasLocks (all_locks d u) v
-locks_successor_key {v = v} a = record { same = subst (λ xs. SameLocks xs v.locks) ((a.fits).point).4 ((a.fits).owns).locks_are }
-
 pub locks_copy_lock : {k : Shape} {op : Op} {kept next_key : ℕ} {v : View} {d : Node} {u : Successor}
     → IsAt k op kept (at.CopyLock d u next_key) v → HasLocks (all_locks d u) v
 locks_copy_lock {v = v} a = record { same = subst (λ xs. SameLocks xs v.locks) (((a.fits).point).0).4 ((a.fits).owns).locks_are }
-
-pub locks_begin_move : {k : Shape} {op : Op} {kept : ℕ} {v : View} {m : Moving} → IsAt k op kept (at.Begin (Move m)) v
-    → HasLocks (m.copy ∷ all_locks m.node m.successor) v
-locks_begin_move {v = v} a = record { same = subst (λ xs. SameLocks xs v.locks) (((a.fits).point).0).7 ((a.fits).owns).locks_are }
 
 -- A lock that was found free, or not.
 pub lock_free : (o : Own) (s n : ℕ) (next : Stage) → n ≡ 0 → past_lock o s n next ≡ go (record o { locks = s ∷ o.locks }) next
@@ -179,17 +146,7 @@ passes_target_lock_busy {n = n} {t = target} i some busy a t =
 relocked_fits : (o : Own) (v : View) (l : Last) (s : ℕ) (rest : List ℕ) → SameLocks (s ∷ rest) v.locks → Fits o (at.Unlock l) v
     → Fits (record o { locks = s ∷ rest }) (at.Unlock l) v
 relocked_fits o v l s rest has f = record {
-  owns = record {
-    same = f.owns.same;
-    works = f.owns.works;
-    spare_is = f.owns.spare_is;
-    retired_are = f.owns.retired_are;
-    locks_are = has;
-    key_fits = f.owns.key_fits;
-    keys_fit = f.owns.keys_fit;
-    scans = f.owns.scans;
-    scans_table = f.owns.scans_table;
-  };
+  owns = owns_locked o v f.owns (s ∷ rest) v.locks has;
   tickets = paid l f;
   unraised = f.unraised;
   point = point l f;

@@ -5,14 +5,12 @@ use Rattle.prcu_model.specs.declared.operation.Op.{Op}
 use Rattle.core_state.specs.declared.shape.Shape.{Shape}
 use Rattle.core_state.specs.declared.view.View.{View}
 use Rattle.core_points.specs.declared.stage.Spot.{Spot}
-use Rattle.core_points.specs.declared.stage.Node.{Node}
-use Rattle.core_points.specs.declared.stage.Aim.{Aim}
 use Rattle.core_points.specs.declared.stage.Last.TheVariants as last
 use Rattle.core_points.specs.declared.stage.Update.{Update}
 use Rattle.core_points.specs.declared.stage.Update.TheVariants as update
 use Rattle.core_points.specs.declared.stage.Stage.TheVariants as at
 use Rattle.core_points.specs.Callers.{go}
-use Rattle.core_points.specs.Programs.{past_age, past_even}
+use Rattle.core_points.specs.Programs.{past_even}
 use Rattle.core_acts.specs.declared.act.Act.TheVariants as acts
 use Rattle.core_acts.specs.Acts.{Asks}
 use Rattle.seat_table.specs.Gains.{TellsNow}
@@ -23,21 +21,9 @@ pub use Rattle.tree_points.proofs.Doing.{needs_store_bypass, passes_store_bypass
 use Rattle.tree_points.proofs.Passing.{needs_at, passes_at}
 use Rattle.tree_points.proofs.Steps.{at_false, at_true, commits_any, passes_as, stage_if}
 
-pub needs_even : {k : Shape} {op : Op} {kept : ℕ} {v : View} {up : Update} {front : ℕ} → IsAt k op kept (at.Even up front) v → TellsNow k v
-    → Asks k v (acts.CloseCommit (front + 2))
-needs_even a now = needs_at _ _ _ _ _ a refl now
-
 pub passes_even : {k : Shape} {op : Op} {kept n : ℕ} {v w : View} {up : Update} {front : ℕ} → IsAt k op kept (at.Even up front) v
     → Told k v (acts.CloseCommit (front + 2)) n w → IsAt k op kept (past_even up ((front + 2) / 2)) w
 passes_even a t = passes_at _ _ _ _ _ _ _ a refl t
-
-pub needs_age : {k : Shape} {op : Op} {kept : ℕ} {v : View} {aim : Aim} {s : ℕ} → IsAt k op kept (at.Age aim s) v → TellsNow k v
-    → Asks k v (acts.LoadOwnLife s)
-needs_age a now = needs_at _ _ _ _ _ a refl now
-
-pub passes_age : {k : Shape} {op : Op} {kept n : ℕ} {v w : View} {aim : Aim} {s : ℕ} → IsAt k op kept (at.Age aim s) v
-    → Told k v (acts.LoadOwnLife s) n w → IsAt k op kept (past_age aim s) w
-passes_age a t = passes_at _ _ _ _ _ _ _ a refl t
 
 pub needs_keep : {k : Shape} {op : Op} {kept : ℕ} {v : View} {s : ℕ} → IsAt k op kept (at.Keep s) v → TellsNow k v
     → Asks k v (acts.KeepAsSpare s)
@@ -71,10 +57,6 @@ pub passes_set_check : {k : Shape} {op : Op} {kept n : ℕ} {v w : View} {s : �
     → IsAt k op kept (at.SetCheck s generation) v → Told k v (acts.LockedLoad s part.Life) n w
     → IsAt k op kept (if n == 2 * generation then at.SetValue s else at.Unlock last.Again) w
 passes_set_check a t = passes_at _ _ _ _ _ _ _ a refl t
-
-pub needs_commit : {k : Shape} {op : Op} {kept : ℕ} {v : View} {up : Update} {expected : ℕ} → IsAt k op kept (at.Commit up expected) v
-    → TellsNow k v → Asks k v (acts.OpenCommit expected)
-needs_commit a now = needs_at _ _ _ _ _ a refl now
 
 pub passes_commit : {k : Shape} {op : Op} {kept n : ℕ} {v w : View} {up : Update} {expected : ℕ} → IsAt k op kept (at.Commit up expected) v
     → Told k v (acts.OpenCommit expected) n w → IsAt k op kept (if n == expected then at.Store up expected else at.Commit up (n + n % 2)) w
@@ -133,13 +115,3 @@ pub passes_set_value : {k : Shape} {op : Op} {kept n : ℕ} {v w : View} {s : �
     → IsAt k op kept (at.Commit (update.Value s n) expected) w
 passes_set_value {k} {op} {kept} {n} {v} {w} {s} a t expected even =
     commits_any (passes_at k op kept v w n (at.SetValue s) a refl t) expected even
-
-pub needs_mark : {k : Shape} {op : Op} {kept : ℕ} {v : View} {d : Node} {child : ℕ} → IsAt k op kept (at.Mark d child) v → TellsNow k v
-    → Asks k v (acts.Mark d.node (2 * d.generation))
-needs_mark a now = needs_at _ _ _ _ _ a refl now
-
-pub passes_mark : {k : Shape} {op : Op} {kept n : ℕ} {v w : View} {d : Node} {child : ℕ} → IsAt k op kept (at.Mark d child) v
-    → Told k v (acts.Mark d.node (2 * d.generation)) n w → (expected : ℕ) → expected % 2 ≡ 0
-    → IsAt k op kept (at.Commit (update.Bypass d child) expected) w
-passes_mark {k} {op} {kept} {n} {v} {w} {d} {child} a t expected even =
-    commits_any (passes_at k op kept v w n (at.Mark d child) a refl t) expected even

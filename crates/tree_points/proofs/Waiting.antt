@@ -1,26 +1,22 @@
 -- A wait over the points: of the place's retired slots, and of a move.
-use Rattle.std.proofs.Common.{◌≡◌, ◌≢◌, ℕ, ◌+◌, ◌<◌, true, false, List, [], map, length, ◌-◌, ◌∷◌, Some, refl, sym, ap, subst, ◌∙◌, arith}
+use Rattle.std.proofs.Common.{◌≡◌, ℕ, ◌+◌, ◌<◌, false, map, ◌-◌, Some, refl, sym, ap, subst, ◌∙◌, arith}
 use Rattle.prcu_model.specs.declared.operation.Op.{Op}
 use Rattle.prcu_model.specs.Dictionary.{key_of}
 use Rattle.core_state.specs.declared.shape.Shape.{Shape}
 use Rattle.core_state.specs.declared.view.View.{View}
 use Rattle.core_points.specs.declared.stage.Moving.{Moving}
-use Rattle.core_points.specs.declared.stage.Aim.{Aim}
-use Rattle.core_points.specs.declared.stage.Aim.TheVariants.{Leaf, Spare, Room}
-use Rattle.core_points.specs.declared.stage.Waits.TheVariants.{Reuse, Move}
+use Rattle.core_points.specs.declared.stage.Waits.TheVariants.{Move}
 use Rattle.core_points.specs.declared.stage.Stage.TheVariants as at
-use Rattle.core_points.specs.Callers.{Own, go, is_none_left, key_now}
-use Rattle.core_points.specs.Fits.{Fits, plain}
-use Rattle.seat_table.specs.Gains.{TellsNow}
+use Rattle.core_points.specs.Callers.{Own, go, key_now}
+use Rattle.core_points.specs.Fits.{Fits}
 use Rattle.tree_points.specs.At.{IsAt}
 use Rattle.tree_points.proofs.SameCall.{moves_on}
 use Rattle.core_state.specs.declared.view.Retired.{Retired}
 use Rattle.core_state.specs.declared.view.Waiting.{Waiting}
 use Rattle.core_state.specs.steps.Waits.{new_wait, waited_move, waited_retired}
-use Rattle.core_points.specs.Facts.{ForAim}
 use Rattle.core_points.specs.DeleteFacts.{OutlastsMove}
 use Rattle.core_points.proofs.MoveWaits.{graced_move}
-use Rattle.core_points.proofs.Reclaim.{each_map, graced, same_slots}
+use Rattle.core_points.proofs.Reclaim.{each_map, same_slots}
 use Rattle.seat_table.specs.Sections.{HasBegun}
 use Rattle.seat_table.specs.Waits.{HasWaited, IsOver}
 use Rattle.core_points.proofs.Notes.{owns_retired}
@@ -68,63 +64,6 @@ module _ (k : Shape) (v w : View) (low high : ℕ) (waited : HasWaited k v low h
       counts_are : w.counts ≡ record v.counts { waits = v.counts.waits + 1; turns = w.counts.turns }
       counts_are = ap (λ (z : View). z.counts) (over.ended).others
           ∙ ap (λ (z : View). record z.counts { turns = w.counts.turns }) begun.others
-
-  pub began_is : over.wait.began ≡ length begun.leaves.before
-  began_is = ap (λ (z : Waiting). z.began) is_new
-
--- After a wait for everybody the retired slots may be given back.
-pub waits_old : {k : Shape} {op : Op} {kept : ℕ} {v w : View} {aim : Aim} → v.hands.retired ≢ [] → TellsNow k v
-    → IsAt k op kept (at.Begin (Reuse aim)) v → HasWaited k v 0 18446744073709551615 w → IsAt k op kept (at.OldAge aim) w
-waits_old {k} {op} {kept} {v} {w} {aim} some now a waited =
-    moves_on a (go o (at.OldAge aim)) refl (subst (Fits (go o (at.OldAge aim)) (at.OldAge aim))
-    (sym (outlasts k v w 0 18446744073709551615 waited)) fits)
-  where
-    o : Own
-    o = a.own
-
-    x : View
-    x = outlasted k v w 0 18446744073709551615 waited
-
-    wait : Waiting
-    wait = (waited.2).wait
-
-    new : wait ≡ new_wait v 0 18446744073709551615 (waited.1).clock ((waited.1).leaves).before
-    new = is_new k v w 0 18446744073709551615 waited
-
-    for_aim : (aim : Aim) → ForAim o v aim → ForAim o x aim
-    for_aim (Leaf spot) f = f
-    for_aim Spare f = f
-    for_aim Room f = f
-
-    for_plain : (aim : Aim) → ForAim o (plain v) aim → ForAim o v aim
-    for_plain (Leaf spot) f = f
-    for_plain Spare f = f
-    for_plain Room f = f
-
-    old_retired : (rs : List Retired) (os : List ℕ) → map (λ (r : Retired). r.slot) rs ≡ os → rs ≢ [] → is_none_left os ≡ false
-    old_retired [] os e ne = absurd (ne refl)
-    old_retired (r ∷ rs) os e ne = ap is_none_left (sym e)
-
-    fits : Fits (go o (at.OldAge aim)) (at.OldAge aim) x
-    fits =
-        let f = a.fits in
-        let owns = f.owns in
-        let idle = (f.point).0 in
-        let bare = idle.1 in
-        record {
-          owns = owns_retired o v owns _ _ (same_slots (waited_retired wait) (λ r. refl) v.hands.retired ∙ owns.retired_are);
-          tickets = (let paid = f.tickets in omega arith);
-          unraised = λ z. each_map (waited_retired wait) (λ (r : Retired). r.raised ≡ false)
-              (λ (r : Retired). r.raised ≡ false) v.hands.retired (λ r q. q) (f.unraised refl);
-          point = (
-            (idle.0, (bare.0, bare.1, ap (waited_move wait) bare.2, bare.3, bare.4), idle.2, idle.3),
-            for_aim aim (for_plain aim (f.point).1),
-            old_retired v.hands.retired o.retired owns.retired_are some,
-            each_map (waited_retired wait) (λ (r : Retired). r.unlinked < wait.began) (λ (r : Retired). r.waited ≡ true) v.hands.retired
-                (λ r q. graced wait r (ap (λ (z : Waiting). z.low) new) (ap (λ (z : Waiting). z.high) new) q)
-                (λ i r e. subst (λ n. r.unlinked < n) (sym (ap (λ (z : Waiting). z.began) new)) ((waited.1).older i r e)),
-          );
-        }
 
 -- After the wait of a move the old successor may be unlinked.
 pub waits_move : {k : Shape} {op : Op} {kept : ℕ} {v w : View} {m : Moving} → IsAt k op kept (at.Begin (Move m)) v

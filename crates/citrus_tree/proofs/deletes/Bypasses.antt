@@ -22,7 +22,7 @@ use Rattle.core_frames.specs.Telling.{IsToldOf}
 use Rattle.seat_table.specs.Told.{Told}
 use Rattle.tree_points.specs.At.{IsAt}
 use Rattle.tree_points.proofs.Gone.{allowed}
-use Rattle.tree_points.proofs.Updating.{passes_mark}
+use Rattle.tree_points.proofs.Marking.{passes_mark}
 use Rattle.citrus_tree.specs.Going.{Opened, Closed}
 use Rattle.citrus_tree.specs.Deletes.{KeepsAll, relinked_at}
 use Rattle.citrus_tree.specs.Gone.{retired_marks}

@@ -26,9 +26,9 @@ use Rattle.seat_table.specs.Told.{IsAsked, Told}
 use Rattle.tree_points.specs.At.{IsAt}
 use Rattle.tree_points.specs.Progress.{HasGone}
 use Rattle.tree_points.proofs.Gone.{gone_on, gone_stays}
-use Rattle.tree_points.proofs.Holding.{needs_leaf, passes_leaf}
+use Rattle.tree_points.proofs.Holding.{needs_leaf, passes_leaf, same_fill}
 use Rattle.tree_points.proofs.Reclaiming.{reclaims_leaf}
-use Rattle.tree_points.proofs.Staying.{keeps_hand, same_fill, stays}
+use Rattle.tree_points.proofs.Staying.{keeps_hand, stays}
 use Rattle.node_slots.specs.Slots.{PutsBack}
 use Rattle.node_slots.specs.Taking.{HasTaken, FoundNone, TriesInVain, exchange}
 use Rattle.node_slots.specs.Reclaiming.{HasReclaimed}

@@ -23,8 +23,7 @@ use Rattle.core_acts.proofs.Acting.{commit_is}
 use Rattle.seat_table.specs.Seats.{IsSlotOf}
 use Rattle.seat_table.specs.Told.{IsAsked, Told}
 use Rattle.tree_points.specs.At.{IsAt, IsDone, HasLocks}
-use Rattle.tree_points.proofs.Doing.{gone_store_leaf, locks_link}
-use Rattle.tree_points.proofs.Holding.{needs_store_leaf, passes_store_leaf}
+use Rattle.tree_points.proofs.Doing.{gone_store_leaf, locks_link, needs_store_leaf, passes_store_leaf}
 use Rattle.tree_points.proofs.Locking.{needs_leaf_lock, passes_leaf_lock_free, passes_leaf_lock_busy, locks_leaf_tag, locks_store_leaf, needs_unlock, passes_unlock_again, passes_unlock_new}
 use Rattle.tree_points.proofs.Staying.{keeps_hand, keeps_locks, locks_from, same_locked}
 use Rattle.tree_points.proofs.Updating.{needs_leaf_life, passes_leaf_life, needs_leaf_side, passes_leaf_side, needs_leaf_tag, passes_leaf_tag, passes_leaf_tag_again}

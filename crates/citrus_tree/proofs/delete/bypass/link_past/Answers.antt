@@ -5,7 +5,8 @@ use Rattle.core_points.specs.declared.stage.Stage.TheVariants as at
 use Rattle.core_points.specs.declared.stage.Update.TheVariants as update
 use Rattle.seat_table.specs.Seats.{shape_of}
 use Rattle.tree_points.specs.At.{IsAt}
-use Rattle.tree_points.proofs.Updating.{needs_mark, needs_store_bypass, passes_store_bypass}
+use Rattle.tree_points.proofs.Marking.{needs_mark}
+use Rattle.tree_points.proofs.Updating.{needs_store_bypass, passes_store_bypass}
 use Rattle.citrus_tree.specs.Deletes.{HasDone, TakesValue}
 use Rattle.citrus_tree.proofs.deletes.Bypasses.{bypass_odd, bypass_paid, child_is, marked, opened_keeps, closed_keeps, half_two}
 use Rattle.citrus_tree.proofs.deletes.Keeping.{keeps_on, keeps_mark}

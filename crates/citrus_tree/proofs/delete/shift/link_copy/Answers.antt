@@ -5,7 +5,7 @@ use Rattle.core_points.specs.declared.stage.Update.TheVariants as update
 use Rattle.core_points.specs.declared.stage.Waits.TheVariants as waits
 use Rattle.seat_table.specs.Seats.{shape_of}
 use Rattle.tree_points.specs.At.{IsAt}
-use Rattle.tree_points.proofs.Holding.{needs_copy_mark, passes_copy_mark}
+use Rattle.tree_points.proofs.Marking.{needs_copy_mark, passes_copy_mark}
 use Rattle.tree_points.proofs.Updating.{needs_store_copy, passes_store_copy}
 use Rattle.citrus_tree.specs.Deletes.{HasCopied, TakesValue}
 use Rattle.citrus_tree.proofs.deletes.Bypasses.{opened_keeps, closed_keeps, half_two}
