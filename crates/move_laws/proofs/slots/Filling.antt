@@ -28,7 +28,7 @@ use Rattle.tree_laws.proofs.frames.ChartStays.{SameOutside}
 use Rattle.tree_laws.proofs.frames.RestStays.{outer_same}
 use Rattle.move_laws.proofs.slots.OffStep.{OffStep, no_marks, OffLock, no_others}
 use Rattle.move_laws.proofs.slots.OffSlots.{off_law, retired_away}
-use Rattle.core_state.specs.steps.Slots.{IsContent, raise_held, after_fill, after_raise_in_hand, NeedsRaiseInHand}
+use Rattle.core_state.specs.steps.Slots.{IsContent, raise_held, after_raise_in_hand, NeedsRaiseInHand}
 use Rattle.tree_laws.proofs.stores.Stores.{own_content}
 use Rattle.tree_laws.proofs.frames.GraceSteps.{grace_same}
 use Rattle.core_frames.proofs.views.Roles.{slots_count, held_there, own_off, own_once, not_gone, spare_among, retired_there, spares_count, own_below, held_unmet, hand_own}
@@ -256,7 +256,7 @@ module _ (k : Shape) (m : Memory) (vs : List View) (h : List Mark) (id : ℕ) (v
 
   -- a key, a value or a link
   pub content_filled : (held : Held) (field : Field) (number : ℕ) → (v.hands.hand ≡ Some held) ⊎ (v.hands.spare ≡ Some held)
-      → IsContent held.slot field → IsKept k m h (stored m field number) (set vs id (after_fill v held.slot field number)) (h ++ [])
+      → IsContent held.slot field → IsKept k m h (stored m field number) (set vs id (noting v held.slot field number true)) (h ++ [])
   content_filled held field number holder content =
       let s = held.slot in
       let known : Known = record { field = field; number = number; stored = true } in

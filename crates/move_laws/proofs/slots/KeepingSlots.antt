@@ -32,7 +32,7 @@ module _ (k : Shape) (m : Memory) (vs : List View) (h : List Mark) (id : ℕ) (v
         hands = record v.hands { reserved = false; hand = Some (seized slot) };
         seen = h ++ Given slot ∷ [];
       }) v)) (h ++ cond free (Given slot ∷ []) [])
-  exchanged slot n true small e needs free = seizes k m vs h id v i there works slot small needs (e ∙ eqb-true n 0 free)
+  exchanged slot n true small e needs free = seizes k m vs h id v i there works slot small needs.reserved (e ∙ eqb-true n 0 free)
   exchanged slot n false small e needs free =
       no_mark k m (stored m (State slot) n) h (set vs id v)
       (subst (λ z. IsKept k m h (stored m (State slot) z) (set vs id v) h) e

@@ -20,7 +20,7 @@ use Rattle.core_frames.proofs.views.Roles.{slots_count, not_gone, retired_there,
 use Rattle.prcu_marks.specs.Marks.{gone_at, last_unlinked}
 use Rattle.core_state.specs.parts.SlotParts.{IsHeldKnown}
 use Rattle.tree_laws.proofs.notes.Knowing.{known_more}
-use Rattle.core_state.specs.steps.Slots.{seized, NeedsSeize, NeedsFreeInHand, after_free_in_hand}
+use Rattle.core_state.specs.steps.Slots.{seized, NeedsFreeInHand, after_free_in_hand}
 use Rattle.move_laws.proofs.slots.Restating.{StateStep, restated, state_hands}
 use Rattle.core_frames.proofs.chart.Ranges.{bool_cases}
 use Rattle.list_laws.proofs.Lists.{total_part, times_here, in_first, times_other}
@@ -43,7 +43,7 @@ module _ (k : Shape) (m : Memory) (vs : List View) (h : List Mark) (id : ℕ) (v
   clear_by none a last = inv.grace.clean slot a none last
 
   -- a free slot is seized
-  module _ (needs : NeedsSeize v slot) (free : m (State slot) ≡ 0) where
+  module _ (reserved : v.hands.reserved ≡ true) (free : m (State slot) ≡ 0) where
     once : (flag (inv.chart.linked slot) ≡ 0) × (total (λ (u : View). times slot (slots_of u)) vs ≡ 0)
     once = let a = inv.slots.roles.once slot small in let f : flag (m (State slot) == 0) ≡ 1 = ap flag (eq-eqb (m (State slot)) 0 free) in
         (omega arith, omega arith)
@@ -93,7 +93,7 @@ module _ (k : Shape) (m : Memory) (vs : List View) (h : List Mark) (id : ℕ) (v
         (h ++ Given slot ∷ [])
     seizes =
         let few = inv.slots.few id v there in
-        let empty_hand = few.one needs.reserved in
+        let empty_hand = few.one reserved in
         let w : View = record v { hands = record v.hands { reserved = false; hand = Some (seized slot) }; seen = h ++ Given slot ∷ [] } in
         let none = nobody id v there in
         restated k m vs h id v inv there works step (record {
@@ -118,9 +118,9 @@ module _ (k : Shape) (m : Memory) (vs : List View) (h : List Mark) (id : ℕ) (v
           retired = λ y has. (no_retired y has, has);
           kept = λ y has _. has;
           came = λ y has. has;
-          counted = (let f : flag (m (State slot) == 0) ≡ 1 = ap flag (eq-eqb (m (State slot)) 0 free) in let a = ap flag needs.reserved in
+          counted = (let f : flag (m (State slot) == 0) ≡ 1 = ap flag (eq-eqb (m (State slot)) 0 free) in let a = ap flag reserved in
               omega arith);
-          raised = (let a = ap flag needs.reserved in omega arith);
+          raised = (let a = ap flag reserved in omega arith);
         })
 
   -- a slot in hand whose generation was raised is freed
