@@ -136,15 +136,15 @@ module _ (k : Shape) (shape : IsShape k) (o : Own) (v w : View) (h h' : List Mar
       (let o' : Own = after o told stage in Fits o' o'.stage w × IsTold o' w h' m') → IsAble o told stage
   able (at.AtLink s b) n f word left next = link_able s n b (λ e. next)
   able (at.LeafField spot i) n f word left next = (f.point).5
-  able (at.LeafLock spot) n f word left next = free_locks f.owns.locks_are (((f.point).2).0)
+  able (at.LeafLock spot) n f word left next = free_locks f.owns.locks_are ((f.point).2).locks_are
   able at.Count n f word left next = omega arith
   able (at.LookKey (Reuse (Leaf spot)) clock p) n f word left next = ((f.point).2, tt)
   able (at.LookKey (Reuse Spare) clock p) n f word left next = ((f.point).2, tt)
   able (at.LookKey (Reuse Room) clock p) n f word left next = ((f.point).2, tt)
   able (at.LookKey (Move move) clock p) n f word left next =
-      let is = ((f.point).0).6 in
-      let t = told.moves is.0 is.1 in
-      (((f.point).3).0, (let key = is.2 in let below = t.0 in let fits = t.1 in omega arith))
+      let is = ((f.point).0).move in
+      let t = told.moves is.move is.is in
+      (((f.point).3).0, (let key = is.key_is in let below = t.0 in let fits = t.1 in omega arith))
   able (at.LookStamp (Reuse aim) clock p key) n f word left next = (f.point).2
   able (at.LookStamp (Move move) clock p key) n f word left next = ((f.point).3).0
   able (at.OldRaise aim life) n f word left next = let has = (f.point).3 in
@@ -157,26 +157,26 @@ module _ (k : Shape) (shape : IsShape k) (o : Own) (v w : View) (h h' : List Mar
   able (at.Store (update.Copy d u next_key copy) front) n f word left next =
       (let room = (((f.point).0).1).1.room (((f.point).0).1).0 in omega arith)
   able (at.Even u front) n f word left next = omega arith
-  able (at.Unlock last.Again) n f word left next = some_left o.locks (((f.point).0).6)
-  able (at.Unlock (last.New number)) n f word left next = some_left o.locks (((f.point).0).6)
-  able (at.Unlock (last.Gone number)) n f word left next = some_left o.locks (((f.point).0).6)
-  able (at.Unlock (last.Was value number)) n f word left next = some_left o.locks (((f.point).0).6)
+  able (at.Unlock last.Again) n f word left next = some_left o.locks ((f.point).0).some
+  able (at.Unlock (last.New number)) n f word left next = some_left o.locks ((f.point).0).some
+  able (at.Unlock (last.Gone number)) n f word left next = some_left o.locks ((f.point).0).some
+  able (at.Unlock (last.Was value number)) n f word left next = some_left o.locks ((f.point).0).some
   able (at.SetLock s generation) n f word left next = free_locks f.owns.locks_are ((f.point).1)
   able (at.NodeRight d) n f word left next = λ some_child. right_able d n some_child next
   able (at.SuccessorLeft d u) n f word left next = left_able d u n next
   able (at.TargetLock t i) n f word left next =
-      let below = (f.point).7 in
+      let below = (f.point).more in
       let most = few_locks t in
-      let long : length o.locks ≡ i = ap length ((f.point).5) ∙ first_long t i in
+      let long : length o.locks ≡ i = ap length (f.point).locks_are ∙ first_long t i in
       (omega arith, omega arith)
-  able (at.TargetLoad t i found) n f word left next = (let below = (f.point).7 in let most = few_words t.successor in omega arith)
+  able (at.TargetLoad t i found) n f word left next = (let below = (f.point).more in let most = few_words t.successor in omega arith)
   able (at.CopyField d u next_key value i) n f word left next = (f.point).4
   able (at.CopyLock d u next_key) n f word left next =
       let t : Target = record { node = d; successor = Some u } in
       let long : length o.locks ≡ target_locks t = ap length (((f.point).0).4) ∙ first_long t (target_locks t) in
       let most = few_locks t in omega arith
   able (at.Unlink move child) n f word left next =
-      (let is = ((f.point).0).6 in let room = few.room is.0 is.1 in let long = kept_long f.owns.retired_are in omega arith)
+      (let is = ((f.point).0).move in let room = few.room is.move is.is in let long = kept_long f.owns.retired_are in omega arith)
   able _ n f word left next = tt
 
 -- whichever of two acts it is

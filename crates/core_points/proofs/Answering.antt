@@ -113,7 +113,7 @@ full_said : (k : Shape) (m : Memory) (vs : List View) (h : List Mark) (id : ℕ)
 full_said k m vs h id v o spot expected inv there f none empty =
     let b = (f.point).1 in
     let full = empty_is_full k m vs h inv id v there
-    (record { works = f.owns.works; reserved = b.3; hand = (f.point).2; owes = b.4; moving = b.2 }) empty in
+    (record { works = f.owns.works; reserved = b.reserved_is; hand = (f.point).2; owes = b.paid; moving = b.settled }) empty in
     let no = none_retired v.hands.retired o.retired f.owns.retired_are none in omega arith
 
 -- The number of an update is its place in the history.
@@ -139,20 +139,20 @@ old_is k m vs h id v o s old front inv there f =
     let g : ℕ = (f.point).0 in
     let p = (f.point).1 in
     let has = p.2 in
-    let r : Reading = has.0 in
-    let kept = in_second (open_reading v.section) v.records r has.1 in
+    let r : Reading = has.reading in
+    let kept = in_second (open_reading v.section) v.records r has.kept in
     let known = known_of-one in
-    let a = alive k m vs h inv id v there r s g kept has.4 (known (Life s) (2 * g) (known_here [] (Life s) (2 * g) false)) in
+    let a = alive k m vs h inv id v there r s g kept has.recorded (known (Life s) (2 * g) (known_here [] (Life s) (2 * g) false)) in
     let reading = inv.readers.readings id v there kept.0 r kept.1 in
-    let found = has.3 in
+    let found = has.found in
     let well = subst (StandsWell r) found.3 reading.well in
-    let young = young_locked k m vs h inv id v there (p.0).2 s (a.lock, a.locked) a.on in
+    let young = young_locked k m vs h inv id v there (p.0).settled s (a.lock, a.locked) a.on in
     let l = a.recorded in
     let key : m (Key s) ≡ r.key = (inv.locks.readings id v there kept.0 r kept.1).keys s l.0 r.key l.1
     (let x = a.life in let e = l.2 in omega arith) well.1 in
     let value : m (Value s) ≡ old = (inv.locks.known id v there s a.lock a.locked).fields r a.generation old (Value s) kept a.recorded
     (inl a.life) (under_own a.lock a.locked) in
-    ap (finite.get (map_of (updates_of h))) (sym has.2 ∙ sym key) ∙ inv.tree.map.sound s a.on (well.0).some_slot young ∙ ap Some value
+    ap (finite.get (map_of (updates_of h))) (sym has.key_is ∙ sym key) ∙ inv.tree.map.sound s a.on (well.0).some_slot young ∙ ap Some value
   where
     is : lock_of v.locks s ≡ Some (record {
       slot = s;
@@ -217,13 +217,13 @@ answers_are_said k m vs h id o v (at.OldFree aim) inv there f = tt
 answers_are_said k m vs h id o v (at.OldCount aim) inv there f = tt
 answers_are_said k m vs h id o v (at.Commit u expected) inv there f = tt
 answers_are_said k m vs h id o v (at.Store (update.Leaf spot) front) inv there f =
-    (is_numbered k m vs h id v front inv there (((f.point).2).1), tt)
+    (is_numbered k m vs h id v front inv there (((f.point).2).turn_is), tt)
 answers_are_said k m vs h id o v (at.Store (update.Value s old) front) inv there f =
-    (is_numbered k m vs h id v front inv there ((((f.point).1).0).1), old_is k m vs h id v o s old front inv there f)
+    (is_numbered k m vs h id v front inv there ((((f.point).1).0).turn_is), old_is k m vs h id v o s old front inv there f)
 answers_are_said k m vs h id o v (at.Store (update.Bypass d child) front) inv there f =
-    (is_numbered k m vs h id v front inv there (((f.point).0).1), tt)
+    (is_numbered k m vs h id v front inv there (((f.point).0).turn_is), tt)
 answers_are_said k m vs h id o v (at.Store (update.Copy d u next_key copy) front) inv there f =
-    (is_numbered k m vs h id v front inv there ((((f.point).0).0).1), tt)
+    (is_numbered k m vs h id v front inv there ((((f.point).0).0).turn_is), tt)
 answers_are_said k m vs h id o v (at.Even u front) inv there f = tt
 answers_are_said k m vs h id o v (at.Unlock l) inv there f = tt
 answers_are_said k m vs h id o v (at.SetLife s) inv there f = tt

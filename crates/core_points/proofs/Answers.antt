@@ -166,7 +166,7 @@ new_views_are_free o tickets seen hand spare retired locks some few key keys = r
   };
   outside = refl;
   empty = hand;
-  bare = (refl, refl, refl, refl, refl);
+  bare = record { locks_are = refl; turn_is = refl; settled = refl; reserved_is = refl; paid = refl };
   no_hand = refl;
   unraised = λ i r e. cc;
 }

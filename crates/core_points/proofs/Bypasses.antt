@@ -29,7 +29,7 @@ use Rattle.core_points.specs.Facts.{stored_at, read_at}
 use Rattle.core_points.specs.DeleteFacts.{ClearButMark, Holds, HoldsFew, HoldsNode, IsMarked, IsUnmarked, Relinked, under}
 use Rattle.core_points.specs.Fits.{Fits}
 use Rattle.core_points.proofs.ClearLocks.{clear_marked, clear_stored, clear_emptied, clear_noted, emptied_lock, emptied_slot, relinked_slots, under_flag}
-use Rattle.core_points.proofs.Notes.{owns_relocked, owns_noted, owns_retired}
+use Rattle.core_points.proofs.Notes.{owns_relocked, owns_noted, owns_retired, quiet_turned, quiet_unlocking}
 use Rattle.core_points.proofs.PutLocks.{made_even}
 use Rattle.core_points.proofs.Sets.{quiet_noted}
 use Rattle.core_points.proofs.Spares.{delete_owed}
@@ -157,15 +157,15 @@ module _ (k : Shape) (h : List Mark) (o : Own) (v : View) (n : ℕ) where
   pub needs_mark : (d : Node) (child : ℕ) → Fits o (at.Mark d child) v → Needs k v n (act_at o (at.Mark d child))
   needs_mark d child f =
       let p = f.point in
-      let few = p.4 in
+      let few = p.few in
       let r : Reading = few.0 in
-      let held = held_by_load v d.node (Life d.node) (2 * d.generation) p.5 in (
+      let held = held_by_load v d.node (Life d.node) (2 * d.generation) p.unmarked in (
         held.0,
         record {
           locked = held.1;
           life_now = held.2;
           unmarked = omega arith;
-          why = inl (r, d.parent, d.left, d.right, d.side, (d.generation, (few.2).recorded, p.5), inl (few_children v r d few.2 few.3));
+          why = inl (r, d.parent, d.left, d.right, d.side, (d.generation, (few.2).recorded, p.unmarked), inl (few_children v r d few.2 few.3));
         },
       )
 
@@ -173,23 +173,23 @@ module _ (k : Shape) (h : List Mark) (o : Own) (v : View) (n : ℕ) where
       → Fits (after o n (at.Mark d child)) (after o n (at.Mark d child)).stage (view_after v h n (act_at o (at.Mark d child)))
   next_mark d child f =
       let p = f.point in
-      let few = p.4 in
+      let few = p.few in
       let kn : Known = stored_at (Life d.node) (2 * d.generation + 1) in
       let owns = owns_noted o v d.node (Life d.node) (2 * d.generation + 1) true f.owns in
       record {
         owns = owns_relocked o (noting v d.node (Life d.node) (2 * d.generation + 1) true) _ (slots_change d.node (with_mark true)
             (λ l. refl) (change_lock d.node (note_lock kn) v.locks)) owns;
         unraised = λ z. f.unraised refl;
-        tickets = (let t = f.tickets in let two = delete_owed o.op o.hand o.retired (p.1).0 in omega arith);
+        tickets = (let t = f.tickets in let two = delete_owed o.op o.hand o.retired (p.deleting).0 in omega arith);
         point = (
           (
-            quiet_noted o v d.node (Life d.node) (2 * d.generation + 1) true None p.0,
-            p.1,
-            p.2,
+            quiet_noted o v d.node (Life d.node) (2 * d.generation + 1) true None p.quiet,
+            p.deleting,
+            p.has_locks,
             (few.0, few.1, node_marked v.records v.locks few.0 d few.2, few.3),
-            is_marked v d p.5,
-            clear_marked kn d.node v.locks p.3,
-            p.6,
+            is_marked v d p.unmarked,
+            clear_marked kn d.node v.locks p.clear,
+            p.child_is,
           ),
           made_even o.front,
         );
@@ -207,7 +207,7 @@ module _ (k : Shape) (h : List Mark) (o : Own) (v : View) (n : ℕ) where
         d.left,
         d.right,
         record {
-          has_commit = record { commit_is = (p.0).1; unmade = refl; ticket = (let t = f.tickets in omega arith) };
+          has_commit = record { commit_is = (p.0).turn_is; unmade = refl; ticket = (let t = f.tickets in omega arith) };
           room = (let room = ((p.1).1).room (p.1).0 in let long = same_length v.hands.retired o.retired f.owns.retired_are in omega arith);
           records = few_children v r d few.2 few.3;
           marked = marked_node v r d few.2 p.4;
@@ -228,14 +228,14 @@ module _ (k : Shape) (h : List Mark) (o : Own) (v : View) (n : ℕ) where
       let noted : View = noting v d.parent (Link d.parent d.side) child true in
       let owns = owns_noted o v d.parent (Link d.parent d.side) child true f.owns in
       let q = quiet_noted o v d.parent (Link d.parent d.side) child true (Some (record { found = front; stored = false })) p.0 in
-      subst (λ x. Fits o' o'.stage (after_bypass v x d.parent d.side d.node child (key_now o) h)) (sym (commit_is v _ (p.0).1))
+      subst (λ x. Fits o' o'.stage (after_bypass v x d.parent d.side d.node child (key_now o) h)) (sym (commit_is v _ (p.0).turn_is))
       (record {
         owns = owns_retired o (record noted { locks = relinked d.parent d.side child d.node noted.locks })
             (owns_relocked o noted _ (relinked_slots d.parent d.side child d.node (change_lock d.parent (note_lock kn) v.locks)) owns) _ _
             (slots_push v.hands.retired (newly_retired v d.node (length h + 1)) ∙ ap (λ xs. xs ++ d.node ∷ []) f.owns.retired_are);
         unraised = λ z. unraised_push v.hands.retired (newly_retired v d.node (length h + 1)) refl (f.unraised refl);
         tickets = (let t = f.tickets in omega arith);
-        point = ((q.0, refl, q.2, q.3, q.4, q.5, q.6), p.2, by (child == 0) refl (held.0, held.1) p.5, (p.1).0);
+        point = (quiet_turned (Some (record { found = front; stored = true })) q, p.2, by (child == 0) refl (held.0, held.1) p.5, (p.1).0);
       })
     where
       kn : Known
@@ -297,5 +297,5 @@ module _ (k : Shape) (h : List Mark) (o : Own) (v : View) (n : ℕ) where
             (change_lock s (note_lock kn) v.locks)) owns;
         unraised = λ z. f.unraised refl;
         tickets = f.tickets;
-        point = ((q.0, q.1, q.2, q.3, q.4, clear_noted kn s b v.locks e.3, p.1), q.5, q.6, p.3);
+        point = (quiet_unlocking q q.turn_is (clear_noted kn s b v.locks e.3) p.1, q.empty, q.no_hand, p.3);
       }

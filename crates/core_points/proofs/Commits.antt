@@ -14,15 +14,16 @@ use Rattle.core_points.specs.Callers.{Own, go}
 use Rattle.core_points.specs.Programs.{act_at, after}
 use Rattle.core_points.specs.DeleteFacts.{Relinked}
 use Rattle.core_points.specs.Fits.{Fits, Making, Made, plain}
+use Rattle.core_points.proofs.Notes.{quiet_turned, quiet_unlocking}
 use Rattle.core_points.proofs.PutLocks.{made_even}
 
 module _ (k : Shape) (h : List Mark) (o : Own) (v : View) (n : ℕ) where
   -- the front by this view, and the pending move, at an update that is to be made
   making_front : (u : Update) (commit : Option Commit) → Making o u (plain v) commit → (v.commit ≡ commit) × (v.moving ≡ None)
-  making_front (update.Leaf spot) commit p = ((p.2).1, (p.2).2)
-  making_front (update.Value s old) commit p = let q = (p.1).0 in (q.1, q.2)
-  making_front (update.Bypass d child) commit p = let q = p.0 in (q.1, q.2)
-  making_front (update.Copy d u next_key copy) commit p = let q = (p.0).0 in (q.1, q.2)
+  making_front (update.Leaf spot) commit p = ((p.2).turn_is, (p.2).settled)
+  making_front (update.Value s old) commit p = let q = (p.1).0 in (q.turn_is, q.settled)
+  making_front (update.Bypass d child) commit p = let q = p.0 in (q.turn_is, q.settled)
+  making_front (update.Copy d u next_key copy) commit p = let q = (p.0).0 in (q.turn_is, q.settled)
 
   pub needs_commit : (u : Update) (expected : ℕ) → Fits o (at.Commit u expected) v → Needs k v n (act_at o (at.Commit u expected))
   needs_commit u expected f = let q = making_front u None (f.point).0 in record { even = (f.point).1; settled = q.1; paid = q.0 }
@@ -31,13 +32,20 @@ module _ (k : Shape) (h : List Mark) (o : Own) (v : View) (n : ℕ) where
   odd : (u : Update) (o' : Own) (w : View) (commit : Commit) → Making o u (plain v) None
       → Making (record o { front = o'.front; stage = o'.stage }) u (plain (record v { latest = w.latest; commit = Some commit }))
       (Some commit)
-  odd (update.Leaf spot) o' w commit p = (p.0, p.1, ((p.2).0, refl, (p.2).2, (p.2).3, (p.2).4), p.3, p.4, p.5)
-  odd (update.Value s old) o' w commit p = let q = (p.1).0 in (p.0, ((q.0, refl, q.2, q.3, q.4, q.5, q.6), (p.1).1, (p.1).2, (p.1).3))
-  odd (update.Bypass d child) o' w commit p = let q = p.0 in ((q.0, refl, q.2, q.3, q.4, q.5, q.6), p.1, p.2, p.3, p.4, p.5, p.6)
+  odd (update.Leaf spot) o' w commit p =
+      let b = p.2 in (
+        p.0,
+        p.1,
+        record { locks_are = b.locks_are; turn_is = refl; settled = b.settled; reserved_is = b.reserved_is; paid = b.paid },
+        p.3,
+        p.4,
+        p.5,
+      )
+  odd (update.Value s old) o' w commit p = (p.0, (quiet_turned (Some commit) (p.1).0, (p.1).1, (p.1).2, (p.1).3))
+  odd (update.Bypass d child) o' w commit p = (quiet_turned (Some commit) p.0, p.1, p.2, p.3, p.4, p.5, p.6)
   odd (update.Copy d u next_key copy) o' w commit p =
       let c = p.0 in
-      let q = c.0 in
-      (((q.0, refl, q.2, q.3, q.4, q.5, q.6), c.1, c.2), p.1, p.2, p.3, p.4, p.5)
+      ((quiet_turned (Some commit) c.0, c.1, c.2), p.1, p.2, p.3, p.4, p.5)
 
   -- nothing but the front was found
   same : (u : Update) (o' : Own) (w : View) → Making o u (plain v) None
@@ -77,10 +85,10 @@ module _ (k : Shape) (h : List Mark) (o : Own) (v : View) (n : ℕ) where
           }
 
   made_front : (u : Update) (commit : Option Commit) → Made o u (plain v) commit → v.commit ≡ commit
-  made_front (update.Leaf spot) commit p = (p.0).1
-  made_front (update.Value s old) commit p = (p.0).1
-  made_front (update.Bypass d child) commit p = (p.0).1
-  made_front (update.Copy d u next_key copy) commit p = (p.0).1
+  made_front (update.Leaf spot) commit p = (p.0).turn_is
+  made_front (update.Value s old) commit p = (p.0).turn_is
+  made_front (update.Bypass d child) commit p = (p.0).turn_is
+  made_front (update.Copy d u next_key copy) commit p = (p.0).turn_is
 
   pub needs_even : (u : Update) (front : ℕ) → Fits o (at.Even u front) v → Needs k v n (act_at o (at.Even u front))
   needs_even u front f = (front, made_front u (Some (record { found = front; stored = true })) f.point, refl)
@@ -93,7 +101,7 @@ module _ (k : Shape) (h : List Mark) (o : Own) (v : View) (n : ℕ) where
         owns = f.owns;
         unraised = λ z. f.unraised refl;
         tickets = f.tickets;
-        point = ((q.0, refl, q.2, q.3, q.4, (f.point).2, (f.point).1), q.5, q.6, (f.point).3);
+        point = (quiet_unlocking q refl (f.point).2 (f.point).1, q.empty, q.no_hand, (f.point).3);
       }
   next_even (update.Value s old) front f =
       let q = (f.point).0 in
@@ -101,7 +109,7 @@ module _ (k : Shape) (h : List Mark) (o : Own) (v : View) (n : ℕ) where
         owns = f.owns;
         unraised = λ z. f.unraised refl;
         tickets = f.tickets;
-        point = ((q.0, refl, q.2, q.3, q.4, (f.point).2, (f.point).1), q.5, q.6, (f.point).3);
+        point = (quiet_unlocking q refl (f.point).2 (f.point).1, q.empty, q.no_hand, (f.point).3);
       }
   next_even (update.Bypass d child) front f = by (child == 0) (f.point).2
     where
@@ -109,28 +117,50 @@ module _ (k : Shape) (h : List Mark) (o : Own) (v : View) (n : ℕ) where
           → let st : Stage = cond z (at.EmptyTag ((front + 2) / 2) d.parent d.side) (at.Unlock (last.Gone ((front + 2) / 2))) in
           Fits (go (record o { front = front + 2 }) st) st
           (record v { latest = record v.latest { front = Some (front + 2) }; commit = None })
-      by true r = let q = (f.point).0 in record {
+      by true r = record {
         owns = f.owns;
         unraised = λ z. f.unraised refl;
         tickets = f.tickets;
-        point = ((q.0, refl, q.2, q.3, q.4, q.5, q.6), (f.point).1, r, (f.point).3);
+        point = (quiet_turned None (f.point).0, (f.point).1, r, (f.point).3);
       }
       by false r = let q = (f.point).0 in record {
         owns = f.owns;
         unraised = λ z. f.unraised refl;
         tickets = f.tickets;
-        point = ((q.0, refl, q.2, q.3, q.4, r, (f.point).1), q.5, q.6, (f.point).3);
+        point = (quiet_unlocking q refl r (f.point).1, q.empty, q.no_hand, (f.point).3);
       }
   next_even (update.Copy d u next_key copy) front f =
       let p = f.point in
       let q = p.0 in
+      let is = q.move in
       let old = p.1 in
       record {
         owns = f.owns;
         unraised = λ z. f.unraised refl;
         tickets = f.tickets;
         point = (
-          (q.0, refl, q.2, q.3, q.4, q.5, q.6, q.7, q.8, q.9, q.10),
+          record {
+            outside = q.outside;
+            turn_is = refl;
+            unreserved = q.unreserved;
+            paid = q.paid;
+            empty = q.empty;
+            no_hand = q.no_hand;
+            move = record {
+              move = is.move;
+              is = is.is;
+              key_is = is.key_is;
+              next_is = is.next_is;
+              copy_is = is.copy_is;
+              old_is = is.old_is;
+              parent_is = is.parent_is;
+              waited_is = is.waited_is;
+            };
+            locks_are = q.locks_are;
+            parent_held = q.parent_held;
+            apart = q.apart;
+            deletes = q.deletes;
+          },
           record { lock = old.lock; locked = old.locked; marked_is = old.marked_is; life = old.life },
           p.2,
         );

@@ -40,7 +40,7 @@ use Rattle.core_points.proofs.Bypasses.{KeepsLife, KeepsLinks, held_by_load, is_
 use Rattle.core_points.proofs.ClearLocks.{clear_marked, clear_stored}
 use Rattle.core_frames.proofs.views.Fields.{same_self}
 use Rattle.core_points.proofs.Locking.{clear_changed, clear_lock, each_more, IsClear}
-use Rattle.core_points.proofs.Notes.{owns_relocked, owns_more, owns_noted, owns_retired, owns_spared, held_here}
+use Rattle.core_points.proofs.Notes.{owns_relocked, owns_more, owns_noted, owns_retired, owns_spared, quiet_unlocking, held_here}
 use Rattle.core_points.proofs.PutLocks.{made_even}
 use Rattle.core_points.proofs.Sets.{quiet_noted, quiet_hand}
 use Rattle.core_points.proofs.Spares.{delete_owed}
@@ -356,7 +356,7 @@ module _ (k : Shape) (h : List Mark) (o : Own) (v : View) (n : ℕ) where
   -- the lock of the copy
   pub needs_copy_lock : (d : Node) (u : Successor) (next_key : ℕ) → Fits o (at.CopyLock d u next_key) v
       → Needs k v n (act_at o (at.CopyLock d u next_key))
-  needs_copy_lock d u next_key f = let p = (f.point).0 in let few = p.3 in record { outside = ((p.0).0).0; few = omega arith }
+  needs_copy_lock d u next_key f = let p = (f.point).0 in let few = p.3 in record { outside = ((p.0).0).outside; few = omega arith }
 
   under_new : (copy t : ℕ) (ls : List HeldLock) → copy ≢ t → under (new_lock copy ∷ ls) t ≡ under ls t
   under_new copy t ls ne = ap (λ b. known_of (cond b (Some (new_lock copy)) (lock_of ls t))) (ne_eqb copy t ne)
@@ -401,7 +401,7 @@ module _ (k : Shape) (h : List Mark) (o : Own) (v : View) (n : ℕ) where
             owns = f.owns;
             unraised = λ z. f.unraised refl;
             tickets = f.tickets;
-            point = ((q.0, q.1, q.2, q.3, q.4, p.2, some), quiet_hand o v q, (c.1).1);
+            point = (quiet_unlocking q q.turn_is p.2 some, quiet_hand o v q, (c.1).1);
           })
 
   -- the mark of the node
@@ -498,7 +498,7 @@ module _ (k : Shape) (h : List Mark) (o : Own) (v : View) (n : ℕ) where
         d.right,
         x.0,
         record {
-          has_commit = record { commit_is = (c.0).1; unmade = refl; ticket = (let t = f.tickets in omega arith) };
+          has_commit = record { commit_is = (c.0).turn_is; unmade = refl; ticket = (let t = f.tickets in omega arith) };
           room = (let room = ((c.1).1).room (c.1).0 in let long = same_length v.hands.retired o.retired f.owns.retired_are in omega arith);
           records = both_children v r d u both.2 both.3;
           marked = marked_node v r d both.2 p.2;
@@ -541,7 +541,7 @@ module _ (k : Shape) (h : List Mark) (o : Own) (v : View) (n : ℕ) where
       let still : (t : ℕ) → Holds v.locks t → Holds now t =
       λ t has. held_still noted d.node (with_mark false) (λ l. refl) t (held_still v.locks d.parent (note_lock kn) (λ l. refl) t has) in
       subst (λ x. Fits o' o'.stage (after_copy_link v x (spare_of v) d.parent d.side d.node u.slot u.parent (key_now o) next_key h))
-      (sym (commit_is v _ (c.0).1))
+      (sym (commit_is v _ (c.0).turn_is))
       (subst (λ y. Fits o' o'.stage (after_copy_link v (record { found = front; stored = false }) y d.parent d.side d.node u.slot u.parent
       (key_now o) next_key h)) (sym (spare_is v _ has.1))
       (record {
@@ -551,37 +551,37 @@ module _ (k : Shape) (h : List Mark) (o : Own) (v : View) (n : ℕ) where
         unraised = λ z. unraised_push v.hands.retired (newly_retired v d.node (length h + 1)) refl (f.unraised refl);
         tickets = (let t = f.tickets in omega arith);
         point = (
-          (
-            q.0,
-            refl,
-            q.3,
-            q.4,
-            q.5,
-            q.6,
-            (
-              new_move held (key_now o) next_key d.node u.slot u.parent (length h),
-              refl,
-              refl,
-              refl,
-              has.2,
-              refl,
-              ap (λ y. cond (u.parent == d.node) y u.parent) has.2,
-              refl,
-            ),
-            p.4,
-            parent_held now still (u.parent == d.node) refl p.5 (both.3).link,
-            ((p.1).0).walk_parent,
-            (c.1).0,
-          ),
+          record {
+            outside = q.outside;
+            turn_is = refl;
+            unreserved = q.unreserved;
+            paid = q.paid;
+            empty = q.empty;
+            no_hand = q.no_hand;
+            move = record {
+              move = new_move held (key_now o) next_key d.node u.slot u.parent (length h);
+              is = refl;
+              key_is = refl;
+              next_is = refl;
+              copy_is = has.2;
+              old_is = refl;
+              parent_is = ap (λ y. cond (u.parent == d.node) y u.parent) has.2;
+              waited_is = refl;
+            };
+            locks_are = p.4;
+            parent_held = still_held now still (u.parent == d.node) refl p.5 (both.3).link;
+            apart = ((p.1).0).walk_parent;
+            deletes = (c.1).0;
+          },
           record { lock = old.0; locked = locked; marked_is = (clear_lock now u.slot old.0 clear locked).2; life = old.2 },
           clear,
         );
       }))
     where
-      parent_held : (now : List HeldLock) → ((t : ℕ) → Holds v.locks t → Holds now t) → (z : Bool) → (u.parent == d.node) ≡ z
+      still_held : (now : List HeldLock) → ((t : ℕ) → Holds v.locks t → Holds now t) → (z : Bool) → (u.parent == d.node) ≡ z
           → Holds v.locks copy → HoldsLink v.locks (((f.point).0).2).0 d u → Holds now (cond z copy u.parent)
-      parent_held now still true e has link = still copy has
-      parent_held now still false e has link = ⊎_elim
+      still_held now still true e has link = still copy has
+      still_held now still false e has link = ⊎_elim
           (λ (x : (u.parent ≡ d.node) × (d.right ≡ u.slot)). absurd (let q : true ≡ false = sym (eq-eqb u.parent d.node x.0) ∙ e in cc))
           (λ x. (let l = held_by_load v u.parent (Life u.parent) (2 * u.parent_generation) x.2 in still u.parent (l.0, l.1)))
           link

@@ -449,14 +449,23 @@ module _ (k : Shape) (h : List Mark) (o : Own) (v : View) (n : ℕ) where
         owns = f.owns;
         unraised = λ z. f.unraised refl;
         tickets = (let c = f.tickets in let two = delete_owed o.op o.hand o.retired p.0 in omega arith);
-        point = (
-          calm_quiet o v section h calm (delete_no_put o.op p.0),
-          (p.0, calm.2),
-          (section.reading, (0, refl), (i.2).sought, (None, (i.2).state_is), stood section i.1, q.0, (i.2).here, q.1),
-          subst AreClear (sym (calm.0).0) (λ i l e. cc),
-          ap (λ (ls : List HeldLock). length ls) (calm.0).0,
-          no_locks o v f.owns (calm.0).0,
-          (λ j lt. absurd (omega arith)),
-          some_locks t.successor t.node,
-        );
+        point = record {
+          quiet = calm_quiet o v section h calm (delete_no_put o.op p.0);
+          deleting = (p.0, calm.2);
+          target = record {
+            reading = section.reading;
+            kept = (0, refl);
+            key_is = (i.2).sought;
+            found = (None, (i.2).state_is);
+            within = stood section i.1;
+            parent_stood = q.0;
+            node_stood = (i.2).here;
+            children = q.1;
+          };
+          clear = subst AreClear (sym (calm.0).locks_are) (λ i l e. cc);
+          long = ap (λ (ls : List HeldLock). length ls) (calm.0).locks_are;
+          locks_are = no_locks o v f.owns (calm.0).locks_are;
+          got = (λ j lt. absurd (omega arith));
+          more = some_locks t.successor t.node;
+        };
       })

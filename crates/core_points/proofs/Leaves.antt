@@ -102,15 +102,15 @@ module _ (k : Shape) (h : List Mark) (o : Own) (v : View) (n : ℕ) where
       let section : Section = i.0 in
       let m = i.3 in
       left_as (left_section o (then.Link spot)) section i.1
-      (by_hand o.hand refl section (
-        section.reading,
-        (0, refl),
-        (i.2).sought,
-        (i.2).state_is,
-        m.0,
-        m.1,
-        stood section i.1 spot.slot (i.2).here,
-      ))
+      (by_hand o.hand refl section (record {
+        reading = section.reading;
+        kept = (0, refl);
+        key_is = (i.2).sought;
+        missed = (i.2).state_is;
+        recorded = m.0;
+        tag_is = m.1;
+        inside = stood section i.1 spot.slot (i.2).here;
+      }))
     where
       by_hand : (hand : Option ℕ) → o.hand ≡ hand → (section : Section)
           → HasSpot (table_of o) (leaving v section h).records (key_now o) spot

@@ -25,12 +25,12 @@ use Rattle.core_points.specs.Acts.{Needs, view_after}
 use Rattle.core_points.specs.Callers.{Own, go, key_now}
 use Rattle.core_points.specs.DeletePlan.{move_locks, target_lock}
 use Rattle.core_points.specs.Programs.{act_at, after}
-use Rattle.core_points.specs.Facts.{Owns, read_at, stored_at}
+use Rattle.core_points.specs.Facts.{Owns, Quiet, read_at, stored_at}
 use Rattle.core_points.specs.DeleteFacts.{Holds, IsMove, Relinked, Shifting, first_locks, move_parent, two_children}
 use Rattle.core_points.specs.Fits.{Fits}
 use Rattle.core_points.proofs.Bypasses.{slots_push, unraised_push}
 use Rattle.core_points.proofs.ClearLocks.{clear_emptied, clear_marked, clear_stored, emptied_lock, relinked_slots}
-use Rattle.core_points.proofs.Notes.{owns_locked, owns_relocked, owns_noted, owns_retired}
+use Rattle.core_points.proofs.Notes.{owns_locked, owns_relocked, owns_noted, owns_retired, quiet_unlocking}
 use Rattle.core_points.proofs.UnderLocks.{held_still, known_now}
 use Rattle.tree_laws.proofs.locks.Locked.{under_lock}
 use Rattle.tree_laws.proofs.locks.Relocking.{change_here, slots_change}
@@ -47,34 +47,36 @@ held_slot s kn held = by (held.slot == s)
 move_noted : (s : ℕ) (kn : Known) (moving : Option moves.Move) (key : ℕ) (m : Moving) (waited : Bool) → IsMove moving key m waited
     → IsMove (note_moving s kn moving) key m waited
 move_noted s kn moving key m waited is =
-    let move : moves.Move = is.0 in (
-      record move { copy = note_held s kn move.copy },
-      ap (note_moving s kn) is.1,
-      is.2,
-      is.3,
-      held_slot s kn move.copy ∙ is.4,
-      is.5,
-      is.6,
-      is.7,
-    )
+    let move : moves.Move = is.move in
+    record {
+      move = record move { copy = note_held s kn move.copy };
+      is = ap (note_moving s kn) is.is;
+      key_is = is.key_is;
+      next_is = is.next_is;
+      copy_is = held_slot s kn move.copy ∙ is.copy_is;
+      old_is = is.old_is;
+      parent_is = is.parent_is;
+      waited_is = is.waited_is;
+    }
 
 shifting_noted : (o : Own) (v : View) (m : Moving) (waited : Bool) (s : ℕ) (field : Field) (n : ℕ) (by_store : Bool) (locks : List HeldLock)
     → ((t : ℕ) → Holds v.locks t → Holds locks t) → Shifting o v m waited None
     → Shifting o (record (noting v s field n by_store) { locks = locks }) m waited None
 shifting_noted o v m waited s field n by_store locks still p =
-    let kn : Known = record { field = field; number = n; stored = by_store } in (
-      p.0,
-      p.1,
-      p.2,
-      p.3,
-      ap (note_option s kn) p.4,
-      p.5,
-      move_noted s kn v.moving (key_now o) m waited p.6,
-      p.7,
-      still (move_parent m) p.8,
-      p.9,
-      p.10,
-    )
+    let kn : Known = record { field = field; number = n; stored = by_store } in
+    record {
+      outside = p.outside;
+      turn_is = p.turn_is;
+      unreserved = p.unreserved;
+      paid = p.paid;
+      empty = ap (note_option s kn) p.empty;
+      no_hand = p.no_hand;
+      move = move_noted s kn v.moving (key_now o) m waited p.move;
+      locks_are = p.locks_are;
+      parent_held = still (move_parent m) p.parent_held;
+      apart = p.apart;
+      deletes = p.deletes;
+    }
 
 -- the locks in the order in which they are given up are those that were got
 module _ (m : Moving) (x : ℕ) where
@@ -112,9 +114,9 @@ module _ (k : Shape) (h : List Mark) (o : Own) (v : View) (n : ℕ) where
   pub needs_old_mark : (m : Moving) → Fits o (at.OldMark m) v → Needs k v n (act_at o (at.OldMark m))
   needs_old_mark m f =
       let p = f.point in
-      let is = (p.0).6 in
+      let is = (p.0).move in
       let old = p.1 in
-      (old.lock, record { locked = old.locked; life_now = old.life; unmarked = omega arith; why = inr (is.0, is.1, is.5) })
+      (old.lock, record { locked = old.locked; life_now = old.life; unmarked = omega arith; why = inr (is.move, is.is, is.old_is) })
 
   pub next_old_mark : (m : Moving) → Fits o (at.OldMark m) v
       → Fits (after o n (at.OldMark m)) (at.OldRight m) (view_after v h n (act_at o (at.OldMark m)))
@@ -177,18 +179,18 @@ module _ (k : Shape) (h : List Mark) (o : Own) (v : View) (n : ℕ) where
   needs_unlink m child f = by (m.successor.parent == m.node.node) refl
     where
       move : moves.Move
-      move = (((f.point).0).6).0
+      move = (((f.point).0).move).move
 
       unlinks : (parent : ℕ) → move_parent m ≡ parent
           → NeedsUnlinkOld v move ((f.point).1).lock parent m.successor.slot child (2 * m.successor.generation + 1)
       unlinks parent e =
           let p = f.point in
-          let is = (p.0).6 in
+          let is = (p.0).move in
           let old = p.1 in record {
-            moving = is.1;
-            old_is = is.5;
-            parent_is = is.6 ∙ e;
-            waited = is.7;
+            moving = is.is;
+            old_is = is.old_is;
+            parent_is = is.parent_is ∙ e;
+            waited = is.waited_is;
             locked = old.locked;
             marked = old.marked_is;
             life_now = old.life;
@@ -198,19 +200,19 @@ module _ (k : Shape) (h : List Mark) (o : Own) (v : View) (n : ℕ) where
 
       by : (z : Bool) → (m.successor.parent == m.node.node) ≡ z
           → Needs k v n (cond z (UnlinkRight m.copy m.successor.slot child) (UnlinkLeft m.successor.parent m.successor.slot child))
-      by true e = let is = ((f.point).0).6 in (
+      by true e = let is = ((f.point).0).move in (
         move,
         ((f.point).1).lock,
         2 * m.successor.generation + 1,
         unlinks m.copy (ap (λ z. cond z m.copy m.successor.parent) e),
-        sym is.4,
+        sym is.copy_is,
       )
-      by false e = let is = ((f.point).0).6 in (
+      by false e = let is = ((f.point).0).move in (
         move,
         ((f.point).1).lock,
         2 * m.successor.generation + 1,
         unlinks m.successor.parent (ap (λ z. cond z m.copy m.successor.parent) e),
-        (λ same. ((f.point).0).9 (sym (same ∙ is.4))),
+        (λ same. ((f.point).0).apart (sym (same ∙ is.copy_is))),
       )
 
   pub next_unlink : (m : Moving) (child : ℕ) → Fits o (at.Unlink m child) v
@@ -240,24 +242,36 @@ module _ (k : Shape) (h : List Mark) (o : Own) (v : View) (n : ℕ) where
           let noted : View = noting v parent (Link parent b) child true in
           let stored : View = record noted { locks = relinked parent b child s noted.locks } in
           owns_retired (record o { locks = move_locks m }) stored
-          (owns_locked o noted w (move_locks m) stored.locks (λ x. ap (times x) now ∙ w.locks_are x ∙ ap (times x) ((f.point).0).7
+          (owns_locked o noted w (move_locks m) stored.locks (λ x. ap (times x) now ∙ w.locks_are x ∙ ap (times x) ((f.point).0).locks_are
           ∙ sym (in_order m x (m.successor.parent == m.node.node) refl)))
           _ _ (slots_push v.hands.retired (newly_retired v s (length h)) ∙ ap (λ xs. xs ++ s ∷ []) f.owns.retired_are)
+
+      -- no move is pending
+      quiet : (parent : ℕ) (b : Side) → Quiet (go base (at.Unlock (last.Gone m.number))) (after_unlink_old v parent b s child h) None
+      quiet parent b = let p = (f.point).0 in record {
+        outside = p.outside;
+        turn_is = p.turn_is;
+        settled = refl;
+        unreserved = p.unreserved;
+        paid = p.paid;
+        empty = ap (note_option parent (stored_at (Link parent b) child)) p.empty;
+        no_hand = p.no_hand;
+      }
 
       ends : (parent : ℕ) (b : Side) → Holds v.locks parent → (z : Bool) → Relinked z (after_unlink_old v parent b s child h).locks parent b
           → let st : Stage = cond z (at.EmptyTag m.number parent b) (at.Unlock (last.Gone m.number)) in
           Fits (go base st) st (after_unlink_old v parent b s child h)
-      ends parent b held true r = let p = (f.point).0 in record {
+      ends parent b held true r = record {
         owns = owns parent b;
         unraised = λ z. unraised_push v.hands.retired (newly_retired v s (length h)) refl (f.unraised refl);
         tickets = f.tickets;
-        point = ((p.0, p.1, refl, p.2, p.3, ap (note_option parent (stored_at (Link parent b) child)) p.4, p.5), refl, r, p.10);
+        point = (quiet parent b, refl, r, ((f.point).0).deletes);
       }
-      ends parent b held false r = let p = (f.point).0 in record {
+      ends parent b held false r = let q = quiet parent b in record {
         owns = owns parent b;
         unraised = λ z. unraised_push v.hands.retired (newly_retired v s (length h)) refl (f.unraised refl);
         tickets = f.tickets;
-        point = ((p.0, p.1, refl, p.2, p.3, r, refl), ap (note_option parent (stored_at (Link parent b) child)) p.4, p.5, p.10);
+        point = (quiet_unlocking q q.turn_is r refl, q.empty, q.no_hand, ((f.point).0).deletes);
       }
 
       by : (z : Bool) → (m.successor.parent == m.node.node) ≡ z → let st : Stage =
@@ -265,7 +279,7 @@ module _ (k : Shape) (h : List Mark) (o : Own) (v : View) (n : ℕ) where
           (at.Unlock (last.Gone m.number)) in
           Fits (go base st) st (view_after v h (said v (cond z (UnlinkRight m.copy s child) (UnlinkLeft m.successor.parent s child)) n)
           (cond z (UnlinkRight m.copy s child) (UnlinkLeft m.successor.parent s child)))
-      by true e = let held = subst (Holds v.locks) (ap (λ z. cond z m.copy m.successor.parent) e) ((f.point).0).8 in
+      by true e = let held = subst (Holds v.locks) (ap (λ z. cond z m.copy m.successor.parent) e) ((f.point).0).parent_held in
           ends m.copy Right held (child == 0) (relinks m.copy Right held (child == 0) refl)
-      by false e = let held = subst (Holds v.locks) (ap (λ z. cond z m.copy m.successor.parent) e) ((f.point).0).8 in
+      by false e = let held = subst (Holds v.locks) (ap (λ z. cond z m.copy m.successor.parent) e) ((f.point).0).parent_held in
           ends m.successor.parent Left held (child == 0) (relinks m.successor.parent Left held (child == 0) refl)

@@ -5,13 +5,19 @@ use mathlib.Core.Logic.{dite}
 use mathlib.Core.Option.{some}
 use lib.ListN.{get_elem?}
 use native.Mathlib.Decide.{ℕ_discrete}
+use Rattle.prcu_marks.specs.declared.commit.Commit.{Commit}
 use Rattle.prcu_marks.specs.declared.mark.Mark.{Mark}
+use Rattle.prcu_model.specs.declared.operation.Op.{Op}
+use Rattle.prcu_model.specs.Dictionary.{key_of}
 use Rattle.core_state.specs.declared.shape.Shape.{Shape}
 use Rattle.core_state.specs.declared.shape.Waiter.TheVariants.{Eer}
 use Rattle.core_state.specs.declared.words.Field.{Field}
 use Rattle.core_state.specs.declared.words.Field.TheVariants.{Announced, Stamp}
+use Rattle.core_state.specs.declared.view.Held.{Held}
+use Rattle.core_state.specs.declared.view.HeldLock.{HeldLock}
 use Rattle.core_state.specs.declared.view.Move as moves
 use Rattle.core_state.specs.declared.view.Retired.{Retired}
+use Rattle.core_state.specs.declared.view.Section.{Section}
 use Rattle.core_state.specs.declared.view.View.{View}
 use Rattle.core_state.specs.declared.view.Waiting.{Waiting}
 use Rattle.core_state.specs.memory.Memory.{idle}
@@ -24,7 +30,7 @@ use Rattle.core_points.specs.Acts.{Needs, view_after}
 use Rattle.core_points.specs.Callers.{Own, go, key_now}
 use Rattle.core_points.specs.Programs.{act_at, after, excused, is_reader}
 use Rattle.core_points.specs.Facts.{AreClear, Owns}
-use Rattle.core_points.specs.DeleteFacts.{HoldsOld, IsMove, OutlastsMove, Shifting}
+use Rattle.core_points.specs.DeleteFacts.{HoldsOld, IsMove, OutlastsMove, Shifting, ShiftingParts}
 use Rattle.core_points.specs.Fits.{Fits}
 use Rattle.core_points.specs.Told.{TellsMove}
 use Rattle.core_points.proofs.Reclaim.{each_map, same_slots, seen_all}
@@ -38,33 +44,53 @@ or_true false = refl
 pub graced_move : (wait : Waiting) (moving : Option moves.Move) (key : ℕ) (m : Moving) (clock p : ℕ) → IsMove moving key m false
     → OutlastsMove wait moving (key + 1) m.next_key clock p → IsMove (waited_move wait moving) key m true
 graced_move wait moving key m clock p is out =
-    let move : moves.Move = is.0 in
-    let made = out.later move is.1 in
+    let move : moves.Move = is.move in
+    let made = out.later move is.is in
     let a : nat_lt move.made wait.began ≡ true = lt-ltb move.made wait.began made in
-    let b : nat_le wait.low (move.key + 1) ≡ true = le-leb wait.low (move.key + 1) (let e = out.low_is in let f = is.2 in omega arith) in
-    let c : nat_le move.next_key wait.high ≡ true = le-leb move.next_key wait.high (let e = out.high_is in let f = is.3 in omega arith) in
+    let b : nat_le wait.low (move.key + 1) ≡ true = le-leb wait.low (move.key + 1) (let e = out.low_is in let f = is.key_is in omega arith) in
+    let c : nat_le move.next_key wait.high ≡ true = le-leb move.next_key wait.high (let e = out.high_is in let f = is.next_is in omega arith) in
     let grace : is_move_grace wait move ≡ true = ap (λ z. z && (nat_le wait.low (move.key + 1) && nat_le move.next_key wait.high)) a
-    ∙ ap (λ z. z && nat_le move.next_key wait.high) b ∙ c in (
-      record move { waited = move.waited || is_move_grace wait move },
-      ap (waited_move wait) is.1,
-      is.2,
-      is.3,
-      is.4,
-      is.5,
-      is.6,
-      ap (λ z. move.waited || z) grace ∙ or_true move.waited,
-    )
+    ∙ ap (λ z. z && nat_le move.next_key wait.high) b ∙ c in
+    record {
+      move = record move { waited = move.waited || is_move_grace wait move };
+      is = ap (waited_move wait) is.is;
+      key_is = is.key_is;
+      next_is = is.next_is;
+      copy_is = is.copy_is;
+      old_is = is.old_is;
+      parent_is = is.parent_is;
+      waited_is = ap (λ z. move.waited || z) grace ∙ or_true move.waited;
+    }
+
+-- with the move waited for, all else stays
+pub shifting_waited : {m : Moving} {waited now : Bool} {commit turn : Option Commit} {op : Op} {o_hand : Option ℕ} {o_locks : List ℕ}
+    {section : Option Section} {moving new : Option moves.Move} {reserved owes : Bool} {hand : Option Held} {locks : List HeldLock}
+    → ShiftingParts m waited commit op o_hand o_locks section turn moving reserved owes hand locks → IsMove new (key_of op) m now
+    → ShiftingParts m now commit op o_hand o_locks section turn new reserved owes hand locks
+shifting_waited s is = record {
+  outside = s.outside;
+  turn_is = s.turn_is;
+  unreserved = s.unreserved;
+  paid = s.paid;
+  empty = s.empty;
+  no_hand = s.no_hand;
+  move = is;
+  locks_are = s.locks_are;
+  parent_held = s.parent_held;
+  apart = s.apart;
+  deletes = s.deletes;
+}
 
 module _ (k : Shape) (h : List Mark) (o : Own) (v : View) (n : ℕ) where
   pub needs_move_begin : (m : Moving) → TellsMove v h → Fits o (at.Begin (Move m)) v → Needs k v n (act_at o (at.Begin (Move m)))
   needs_move_begin m told f =
       let s = (f.point).0 in
-      let is = s.6 in
-      let t = told is.0 is.1 in
-      let key = is.2 in
-      let next = is.3 in
+      let is = s.move in
+      let t = told is.move is.is in
+      let key = is.key_is in
+      let next = is.next_is in
       record {
-        outside = s.0;
+        outside = s.outside;
         ticket = (let t = f.tickets in omega arith);
         some = omega (arith, t.0, key, next);
         high_fits = subst (λ x. x < 2 ^ 64) next t.1;
@@ -143,33 +169,20 @@ module _ (k : Shape) (h : List Mark) (o : Own) (v : View) (n : ℕ) where
           cond z (go o (at.OldMark m)) (go o (at.LookKey (Move m) clock (p + 1))) in
           Fits o' o'.stage (cond z (ending v now h) (record v { wait = Some now }))
       by_last true e =
-          let s = shifting in record {
+          record {
             owns = owns_retired o v owns _ _ (same_slots (waited_retired now) (λ r. refl) v.hands.retired ∙ owns.retired_are);
             unraised = λ z. each_map (waited_retired now) (λ (r : Retired). r.raised ≡ false)
                 (λ (r : Retired). r.raised ≡ false) v.hands.retired (λ r q. q) unraised;
             tickets = paid;
             point = (
-              (
-                s.0,
-                s.1,
-                s.2,
-                s.3,
-                s.4,
-                s.5,
-                graced_move now v.moving (key_now o) m clock p s.6
-                    (record {
-                      going = out.going;
-                      low_is = out.low_is;
-                      high_is = out.high_is;
-                      clock_is = out.clock_is;
-                      past = (λ q lt. (let i = out.past q lt in (suc i.0, i.1)));
-                      later = out.later;
-                    }),
-                s.7,
-                s.8,
-                s.9,
-                s.10,
-              ),
+              shifting_waited shifting (graced_move now v.moving (key_now o) m clock p shifting.move (record {
+                going = out.going;
+                low_is = out.low_is;
+                high_is = out.high_is;
+                clock_is = out.clock_is;
+                past = (λ q lt. (let i = out.past q lt in (suc i.0, i.1)));
+                later = out.later;
+              })),
               old,
               clear,
             );

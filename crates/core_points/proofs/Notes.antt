@@ -8,6 +8,8 @@ use Rattle.core_state.specs.declared.words.Field.TheVariants.{State, Life, Key, 
 use Rattle.core_state.specs.declared.view.Held.{Held}
 use Rattle.core_state.specs.declared.view.HeldLock.{HeldLock}
 use Rattle.core_state.specs.declared.view.Known.{Known}
+use Rattle.core_state.specs.declared.view.Move.{Move}
+use Rattle.core_state.specs.declared.view.Section.{Section}
 use Rattle.prcu_marks.specs.declared.commit.Commit.{Commit}
 use Rattle.core_state.specs.declared.view.Retired.{Retired}
 use Rattle.core_state.specs.declared.view.View.{View}
@@ -15,8 +17,8 @@ use Rattle.core_state.specs.views.Known.{known_in, lock_of, change_lock, note_lo
 use Rattle.core_state.specs.steps.Locks.{new_lock}
 use Rattle.core_state.specs.steps.Seating.{spare_slot}
 use Rattle.list_laws.specs.Counts.{times}
-use Rattle.core_points.specs.Callers.{Own}
-use Rattle.core_points.specs.Facts.{Bare, HandFits, IsLeaf, Owns, SameLocks, leaf_held, one_lock, read_at, stored_at}
+use Rattle.core_points.specs.Callers.{Own, is_none_left}
+use Rattle.core_points.specs.Facts.{AreClear, Bare, BareParts, HandFits, IsLeaf, Owns, QuietParts, SameLocks, UnlockingParts, leaf_held, one_lock, read_at, stored_at}
 use Rattle.core_points.specs.Told.{Tells}
 use Rattle.tree_laws.proofs.notes.Knowing.{known_here, known_still}
 
@@ -138,13 +140,52 @@ owns_spared o v w slot spare is = record {
   scans_table = w.scans_table;
 }
 
+-- what is quiet stays so when the front is turned, and before locks are given up
+pub quiet_turned : {commit turn : Option Commit} {o_hand : Option ℕ} {section : Option Section} {moving : Option Move} {reserved owes : Bool}
+    {hand : Option Held} (now : Option Commit) → QuietParts commit o_hand section turn moving reserved owes hand
+    → QuietParts now o_hand section now moving reserved owes hand
+quiet_turned now q = record {
+  outside = q.outside;
+  turn_is = refl;
+  settled = q.settled;
+  unreserved = q.unreserved;
+  paid = q.paid;
+  empty = q.empty;
+  no_hand = q.no_hand;
+}
+
+pub quiet_unlocking : {commit turn now : Option Commit} {o_hand : Option ℕ} {section : Option Section} {moving : Option Move}
+    {reserved owes : Bool} {hand : Option Held} {o_locks : List ℕ} {locks : List HeldLock}
+    → QuietParts commit o_hand section turn moving reserved owes hand → now ≡ None → AreClear locks → is_none_left o_locks ≡ false
+    → UnlockingParts o_locks section now moving reserved owes locks
+quiet_unlocking q even clear some = record {
+  outside = q.outside;
+  no_turn = even;
+  settled = q.settled;
+  unreserved = q.unreserved;
+  paid = q.paid;
+  clear = clear;
+  some = some;
+}
+
 pub bare_noted : (v : View) (s : ℕ) (field : Field) (n : ℕ) (by_store : Bool) (locks more : List HeldLock) (commit : Option Commit)
     (reserved : Bool) → Bare v locks commit reserved
     → change_lock s (note_lock (record { field = field; number = n; stored = by_store })) locks ≡ more
     → Bare (noting v s field n by_store) more commit reserved
 bare_noted v s field n by_store locks more commit reserved b e =
     let kn : Known = record { field = field; number = n; stored = by_store } in
-    (ap (change_lock s (note_lock kn)) b.0 ∙ e, b.1, ap (note_moving s kn) b.2, b.3, b.4)
+    record {
+      locks_are = ap (change_lock s (note_lock kn)) b.locks_are ∙ e;
+      turn_is = b.turn_is;
+      settled = ap (note_moving s kn) b.settled;
+      reserved_is = b.reserved_is;
+      paid = b.paid;
+    }
+
+-- with a reservation, or without it
+pub bare_reserved : {locks held : List HeldLock} {commit turn : Option Commit} {reserved reserves owes : Bool} {moving : Option Move}
+    (now : Bool) → BareParts locks commit reserved held turn moving reserves owes → BareParts locks commit now held turn moving now owes
+bare_reserved now b = record { locks_are = b.locks_are; turn_is = b.turn_is; settled = b.settled; reserved_is = refl; paid = b.paid }
 
 -- the one lock with one more entry
 pub one_noted : (s : ℕ) (known : List Known) (field : Field) (n : ℕ) (by_store : Bool)

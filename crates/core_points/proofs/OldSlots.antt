@@ -131,7 +131,7 @@ module _ (k : Shape) (h : List Mark) (o : Own) (v : View) (n : ℕ) where
       (λ slot is. record {
         retired = (ap (λ xs. get_elem? xs 0) q.2, sym is);
         unraised = head_each (λ (r : Retired). r.raised ≡ false) r q.1 v.hands.retired q.2 (f.unraised refl);
-        unlocked = λ l. absurd (let z : None ≡ Some l.0 = ap (λ ls. lock_of ls slot) (sym b.0) ∙ l.1 in cc);
+        unlocked = λ l. absurd (let z : None ≡ Some l.0 = ap (λ ls. lock_of ls slot) (sym b.locks_are) ∙ l.1 in cc);
         waited = head_each (λ (r : Retired). r.waited ≡ true) r q.1 v.hands.retired q.2 (f.point).2;
         loaded = q.3;
         next = refl;
@@ -221,7 +221,7 @@ module _ (k : Shape) (h : List Mark) (o : Own) (v : View) (n : ℕ) where
         0,
         q.0,
         record {
-          paid = (((f.point).0).1).4;
+          paid = (((f.point).0).1).paid;
           retired = (ap (λ xs. get_elem? xs 0) q.2, sym (ap first_or_root (first_slot q.0 q.1 f.owns q.2)));
           raised = q.3;
         },
@@ -243,14 +243,16 @@ module _ (k : Shape) (h : List Mark) (o : Own) (v : View) (n : ℕ) where
         tickets = f.tickets;
         unraised = λ z. subst (λ xs. Each xs (λ (r : Retired). r.raised ≡ false)) (sym left) q.4;
         point = (
-          i.0,
-          i.3,
-          i.2,
-          b.0,
-          b.1,
-          b.2,
-          b.3,
-          refl,
+          record {
+            outside = i.0;
+            no_hand = i.3;
+            empty = i.2;
+            unlocked = b.locks_are;
+            no_turn = b.turn_is;
+            settled = b.settled;
+            unreserved = b.reserved_is;
+            owing = refl;
+          },
           for_free aim (f.point).1,
           subst (λ xs. Each xs (λ (r : Retired). r.waited ≡ true)) (sym left)
               (tail_each (λ (r : Retired). r.waited ≡ true) r q.1 v.hands.retired q.2 (f.point).2),
@@ -265,14 +267,18 @@ module _ (k : Shape) (h : List Mark) (o : Own) (v : View) (n : ℕ) where
       for_free Room a = a
 
   pub needs_old_count : (aim : Aim) → Fits o (at.OldCount aim) v → Needs k v n (act_at o (at.OldCount aim))
-  needs_old_count aim f = (f.point).7
+  needs_old_count aim f = ((f.point).0).owing
 
   pub next_old_count : (aim : Aim) → SpareComes o → Fits o (at.OldCount aim) v
       → Fits (after o n (at.OldCount aim)) (after o n (at.OldCount aim)).stage (view_after v h n (act_at o (at.OldCount aim)))
   next_old_count aim comes f =
-      let p = f.point in
-      giving_fits (record o { free = n + 1 }) aim (view_after v h n (act_at o (at.OldCount aim))) comes f.owns
-      (p.0, (p.3, p.4, p.5, p.6, refl), p.2, p.1) (for_count aim p.8) f.tickets (f.unraised refl) p.9
+      let p = (f.point).0 in
+      giving_fits (record o { free = n + 1 }) aim (view_after v h n (act_at o (at.OldCount aim))) comes f.owns (
+        p.outside,
+        record { locks_are = p.unlocked; turn_is = p.no_turn; settled = p.settled; reserved_is = p.unreserved; paid = refl },
+        p.empty,
+        p.no_hand,
+      ) (for_count aim (f.point).1) f.tickets (f.unraised refl) (f.point).2
     where
       for_count : (aim : Aim) → ForAim o (plain v) aim → ForAim (record o { free = n + 1 })
           (view_after v h n (act_at o (at.OldCount aim))) aim

@@ -55,21 +55,40 @@ module _ (k : Shape) (h : List Mark) (o : Own) (v : View) (n : ℕ) where
   needs_free f =
       let q = (f.point).2 in
       subst (λ s. Needs k v n (FreeInHand s)) (sym (ap or_root q.2))
-      (q.1, record { paid = ((f.point).1).4; in_hand = (q.5, q.3); raised = q.4 })
+      (q.1, record { paid = ((f.point).1).paid; in_hand = (q.5, q.3); raised = q.4 })
 
   pub next_free : Fits o at.Free v → Fits (after o n at.Free) at.Count (view_after v h n (act_at o at.Free))
   next_free f = let b = (f.point).1 in record {
     owns = f.owns;
     unraised = λ z. f.unraised refl;
     tickets = f.tickets;
-    point = ((f.point).0, refl, refl, b.0, b.1, b.2, b.3, refl, (f.point).3);
+    point = (
+      record {
+        outside = (f.point).0;
+        no_hand = refl;
+        empty = refl;
+        unlocked = b.locks_are;
+        no_turn = b.turn_is;
+        settled = b.settled;
+        unreserved = b.reserved_is;
+        owing = refl;
+      },
+      (f.point).3,
+    );
   }
 
   pub needs_count : Fits o at.Count v → Needs k v n (act_at o at.Count)
-  needs_count f = (f.point).7
+  needs_count f = ((f.point).0).owing
 
   pub next_count : Fits o at.Count v → Fits (after o n at.Count) (after o n at.Count).stage (view_after v h n (act_at o at.Count))
-  next_count f = let p = f.point in
+  next_count f = let p = (f.point).0 in
       answers (record o { free = n + 1 }) (view_after v h n (act_at o at.Count)) Old 0
-      (record { owns = f.owns; outside = p.0; empty = p.1; bare = (p.3, p.4, p.5, p.6, refl); no_hand = p.2; unraised = f.unraised refl })
+      (record {
+        owns = f.owns;
+        outside = p.outside;
+        empty = p.no_hand;
+        bare = record { locks_are = p.unlocked; turn_is = p.no_turn; settled = p.settled; reserved_is = p.unreserved; paid = refl };
+        no_hand = p.empty;
+        unraised = f.unraised refl;
+      })
       (let t = f.tickets in omega arith)

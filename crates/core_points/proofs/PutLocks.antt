@@ -132,7 +132,7 @@ module _ (k : Shape) (h : List Mark) (o : Own) (v : View) (n : ℕ) where
   pub needs_lock : (spot : Spot) → Fits o (at.LeafLock spot) v → Needs k v n (act_at o (at.LeafLock spot))
   needs_lock spot f = record {
     outside = (f.point).0;
-    few = subst (λ (ls : List HeldLock). length ls < 5) (sym ((f.point).2).0) (omega arith);
+    few = subst (λ (ls : List HeldLock). length ls < 5) (sym ((f.point).2).locks_are) (omega arith);
   }
 
   pub next_lock : (spot : Spot) → Fits o (at.LeafLock spot) v
@@ -150,14 +150,20 @@ module _ (k : Shape) (h : List Mark) (o : Own) (v : View) (n : ℕ) where
             point = (
               (f.point).0,
               (f.point).1,
-              (ap (λ ls. new_lock spot.slot ∷ ls) b.0, b.1, b.2, b.3, b.4),
+              record {
+                locks_are = ap (λ ls. new_lock spot.slot ∷ ls) b.locks_are;
+                turn_is = b.turn_is;
+                settled = b.settled;
+                reserved_is = b.reserved_is;
+                paid = b.paid;
+              },
               (f.point).3,
               (f.point).4,
               (f.point).5,
             );
           }
       got false = subst (λ ls. let st : Stage = cond (is_none_left ls) at.EnterClock (at.Unlock last.Again) in Fits (go o st) st v)
-          (sym (no_locks o v f.owns ((f.point).2).0))
+          (sym (no_locks o v f.owns ((f.point).2).locks_are))
           (record {
             owns = f.owns;
             unraised = λ z. f.unraised refl;
@@ -170,7 +176,7 @@ module _ (k : Shape) (h : List Mark) (o : Own) (v : View) (n : ℕ) where
   needs_under s known e = (_, ap (λ ls. lock_of ls s) e ∙ one_locked s known)
 
   pub needs_life : (spot : Spot) → Fits o (at.LeafLife spot) v → Needs k v n (act_at o (at.LeafLife spot))
-  needs_life spot f = record { held = needs_under spot.slot _ ((f.point).2).0; loadable = refl }
+  needs_life spot f = record { held = needs_under spot.slot _ ((f.point).2).locks_are; loadable = refl }
 
   putting_more : (spot : Spot) (known : List Known) (field : Field) → Tells v spot.slot field n
       → Putting o v spot (one_lock spot.slot known) None
@@ -195,7 +201,7 @@ module _ (k : Shape) (h : List Mark) (o : Own) (v : View) (n : ℕ) where
   }
 
   pub needs_side : (spot : Spot) (life : ℕ) → Fits o (at.LeafSide spot life) v → Needs k v n (act_at o (at.LeafSide spot life))
-  needs_side spot life f = record { held = needs_under spot.slot _ ((f.point).2).0; loadable = refl }
+  needs_side spot life f = record { held = needs_under spot.slot _ ((f.point).2).locks_are; loadable = refl }
 
   pub next_side : (spot : Spot) (life : ℕ) → Tells v spot.slot (Link spot.slot spot.side) n → Fits o (at.LeafSide spot life) v
       → Fits (after o n (at.LeafSide spot life)) (at.LeafTag spot life n) (view_after v h n (act_at o (at.LeafSide spot life)))
@@ -207,7 +213,7 @@ module _ (k : Shape) (h : List Mark) (o : Own) (v : View) (n : ℕ) where
   }
 
   pub needs_tag : (spot : Spot) (life link : ℕ) → Fits o (at.LeafTag spot life link) v → Needs k v n (act_at o (at.LeafTag spot life link))
-  needs_tag spot life link f = record { held = needs_under spot.slot _ ((f.point).2).0; loadable = refl }
+  needs_tag spot life link f = record { held = needs_under spot.slot _ ((f.point).2).locks_are; loadable = refl }
 
   pub next_tag : (spot : Spot) (life link : ℕ) → Tells v spot.slot (Tag spot.slot spot.side) n → Fits o (at.LeafTag spot life link) v
       → Fits (after o n (at.LeafTag spot life link)) (after o n (at.LeafTag spot life link)).stage
@@ -238,7 +244,23 @@ module _ (k : Shape) (h : List Mark) (o : Own) (v : View) (n : ℕ) where
             owns = owns_noted o v spot.slot (Tag spot.slot spot.side) n false f.owns;
             unraised = λ z. f.unraised refl;
             tickets = put_owed o.op p.5 o.hand f.tickets;
-            point = ((p.0, p.1, ((p.2).0 ∙ same, (p.2).1, (p.2).2, (p.2).3, (p.2).4), p.3, p.4, p.5), made_even o.front);
+            point = (
+              (
+                p.0,
+                p.1,
+                record {
+                  locks_are = (p.2).locks_are ∙ same;
+                  turn_is = (p.2).turn_is;
+                  settled = (p.2).settled;
+                  reserved_is = (p.2).reserved_is;
+                  paid = (p.2).paid;
+                },
+                p.3,
+                p.4,
+                p.5,
+              ),
+              made_even o.front,
+            );
           }
         where
           put_owed : (op : Op) → is_put op ≡ true → (hand : Option ℕ)
@@ -259,17 +281,17 @@ module _ (k : Shape) (h : List Mark) (o : Own) (v : View) (n : ℕ) where
         unraised = λ z. f.unraised refl;
         tickets = f.tickets;
         point = (
-          (
-            p.0,
-            (p.2).1,
-            (p.2).2,
-            (p.2).3,
-            (p.2).4,
-            subst AreClear (sym (p.2).0) (clear_one spot.slot
-                (read_at (Tag spot.slot spot.side) n ∷ (read_at (Link spot.slot spot.side) link ∷ (read_at (Life spot.slot) life ∷ [])))),
-            ap is_none_left (own_lock o (noting v spot.slot (Tag spot.slot spot.side) n false) spot.slot _ (owns_noted o v spot.slot
-                (Tag spot.slot spot.side) n false f.owns) (p.2).0 refl),
-          ),
+          record {
+            outside = p.0;
+            no_turn = (p.2).turn_is;
+            settled = (p.2).settled;
+            unreserved = (p.2).reserved_is;
+            paid = (p.2).paid;
+            clear = subst AreClear (sym (p.2).locks_are) (clear_one spot.slot
+                (read_at (Tag spot.slot spot.side) n ∷ (read_at (Link spot.slot spot.side) link ∷ (read_at (Life spot.slot) life ∷ []))));
+            some = ap is_none_left (own_lock o (noting v spot.slot (Tag spot.slot spot.side) n false) spot.slot _ (owns_noted o v spot.slot
+                (Tag spot.slot spot.side) n false f.owns) (p.2).locks_are refl);
+          },
           p.3,
           ready_put o.op o.hand o.spare o.retired p.5,
         );

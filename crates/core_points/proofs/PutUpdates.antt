@@ -36,7 +36,7 @@ module _ (k : Shape) (h : List Mark) (o : Own) (v : View) (n : ℕ) where
       let leaf = subst (λ x. HandFits x o.hand_life (key_now o) (value_in o.op) v.hands.hand) hand.1 p.3 in
       let held : Held = leaf.0 in
       let is = leaf.2 in
-      let r : Reading = has.0 in
+      let r : Reading = has.reading in
       subst (λ s. Needs k v n (LinkLeaf spot.slot spot.side s (key_now o) (value_in o.op))) (sym (ap or_root hand.1)) (
         record { found = front; stored = false },
         r,
@@ -45,12 +45,12 @@ module _ (k : Shape) (h : List Mark) (o : Own) (v : View) (n : ℕ) where
         spot.generation,
         spot.tag,
         record {
-          has_commit = record { commit_is = b.1; unmade = refl; ticket = (let t = f.tickets in omega arith) };
-          kept = has.1;
-          missed = has.3;
-          generation_is = has.4;
-          tag_is = has.5;
-          locked = ap (λ ls. lock_of ls spot.slot) b.0 ∙ one_locked spot.slot (spot_known spot);
+          has_commit = record { commit_is = b.turn_is; unmade = refl; ticket = (let t = f.tickets in omega arith) };
+          kept = has.kept;
+          missed = has.missed;
+          generation_is = has.recorded;
+          tag_is = has.tag_is;
+          locked = ap (λ ls. lock_of ls spot.slot) b.locks_are ∙ one_locked spot.slot (spot_known spot);
           life_now = known_here [] (Life spot.slot) (2 * spot.generation) false;
           empty_now = known_here (read_at (Life spot.slot) (2 * spot.generation) ∷ []) (Link spot.slot spot.side) 0 false;
           tag_now = known_here (read_at (Link spot.slot spot.side) 0 ∷ (read_at (Life spot.slot) (2 * spot.generation) ∷ []))
@@ -58,12 +58,12 @@ module _ (k : Shape) (h : List Mark) (o : Own) (v : View) (n : ℕ) where
           settled = settled spot.side;
           in_hand = (leaf.1, is.slot_is);
           unraised = is.unraised;
-          key_is = is.key_is ∙ ap Some (sym has.2);
+          key_is = is.key_is ∙ ap Some (sym has.key_is);
           value_is = is.value_is;
           left_is = is.left_is;
           right_is = is.right_is;
         },
-        has.2,
+        has.key_is,
       )
     where
       settled : (b : Side) → is_emptied (record {
@@ -90,15 +90,15 @@ module _ (k : Shape) (h : List Mark) (o : Own) (v : View) (n : ℕ) where
       (Some (record { found = front; stored = false })) false p.2
       (one_noted spot.slot (spot_known spot) (Link spot.slot spot.side) leaf true) in
       subst (λ x. Fits o' o'.stage (after_leaf_link v x spot.slot spot.side leaf (key_now o) (value_in o.op) h))
-      (sym (commit_is v _ (p.2).1))
+      (sym (commit_is v _ (p.2).turn_is))
       (record {
         owns = owns;
         unraised = λ z. f.unraised refl;
         tickets = (let t = f.tickets in omega arith);
         point = (
-          (p.0, refl, b.2, b.3, b.4, refl, refl),
-          ap is_none_left (own_lock o w spot.slot _ owns b.0 refl),
-          subst AreClear (sym b.0) (clear_one spot.slot (stored_at (Link spot.slot spot.side) leaf ∷ spot_known spot)),
+          record { outside = p.0; turn_is = refl; settled = b.settled; unreserved = b.reserved_is; paid = b.paid; empty = refl; no_hand = refl },
+          ap is_none_left (own_lock o w spot.slot _ owns b.locks_are refl),
+          subst AreClear (sym b.locks_are) (clear_one spot.slot (stored_at (Link spot.slot spot.side) leaf ∷ spot_known spot)),
           p.5,
         );
       })

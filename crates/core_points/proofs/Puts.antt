@@ -26,7 +26,7 @@ use Rattle.core_points.specs.Facts.{read_at}
 use Rattle.core_points.specs.Tickets.{owed_reserve}
 use Rattle.core_points.specs.Fits.{Fits}
 use Rattle.core_points.proofs.Answers.{answers}
-use Rattle.core_points.proofs.Notes.{owns_scanned, owns_noted, bare_noted, held_here}
+use Rattle.core_points.proofs.Notes.{owns_scanned, owns_noted, bare_noted, bare_reserved, held_here}
 use Rattle.core_frames.proofs.views.Readings.{missed_stays}
 use Rattle.tree_laws.proofs.notes.Knowing.{known_here}
 
@@ -117,7 +117,7 @@ module _ (k : Shape) (h : List Mark) (o : Own) (v : View) (n : ℕ) where
       let p = f.point in
       record {
         some = p.4;
-        unreserved = (p.1).3;
+        unreserved = (p.1).reserved_is;
         empty = p.2;
         ticket = (let t = f.tickets in let two = two_owed spot o.retired in omega arith);
       }
@@ -163,7 +163,7 @@ module _ (k : Shape) (h : List Mark) (o : Own) (v : View) (n : ℕ) where
         tickets = (let t = f.tickets in let two = two_owed spot o.retired in omega arith);
         point = (
           (f.point).0,
-          (((f.point).1).0, ((f.point).1).1, ((f.point).1).2, refl, ((f.point).1).4),
+          bare_reserved true (f.point).1,
           (f.point).2,
           (f.point).3,
           (f.point).5,
@@ -187,7 +187,7 @@ module _ (k : Shape) (h : List Mark) (o : Own) (v : View) (n : ℕ) where
           }))
 
   pub needs_seize : (spot : Spot) → Fits o (at.Seize (Leaf spot)) v → Needs k v n (act_at o (at.Seize (Leaf spot)))
-  needs_seize spot f = record { reserved = ((f.point).1).3; some = (λ e. let one = f.owns.scans in absurd (omega arith)) }
+  needs_seize spot f = record { reserved = ((f.point).1).reserved_is; some = (λ e. let one = f.owns.scans in absurd (omega arith)) }
 
   pub next_seize : (spot : Spot) → Fits o (at.Seize (Leaf spot)) v
       → Fits (after o n (at.Seize (Leaf spot))) (after o n (at.Seize (Leaf spot))).stage
@@ -206,7 +206,7 @@ module _ (k : Shape) (h : List Mark) (o : Own) (v : View) (n : ℕ) where
         tickets = f.tickets;
         point = (
           (f.point).0,
-          (((f.point).1).0, ((f.point).1).1, ((f.point).1).2, refl, ((f.point).1).4),
+          bare_reserved false (f.point).1,
           refl,
           refl,
           (f.point).4,

@@ -221,8 +221,18 @@ module _ (k : Shape) (h : List Mark) (o : Own) (v : View) (n : ℕ) where
       by_last true e =
           let b = idle.1 in
           giving_fits o aim (ending v (with_excused wait field) h) comes
-          (owns_retired o v owns _ _ (same_slots (waited_retired (with_excused wait field)) (λ r. refl) v.hands.retired ∙ owns.retired_are))
-          (idle.0, (b.0, b.1, ap (waited_move (with_excused wait field)) b.2, b.3, b.4), idle.2, idle.3)
+          (owns_retired o v owns _ _ (same_slots (waited_retired (with_excused wait field)) (λ r. refl) v.hands.retired ∙ owns.retired_are)) (
+            idle.0,
+            record {
+              locks_are = b.locks_are;
+              turn_is = b.turn_is;
+              settled = ap (waited_move (with_excused wait field)) b.settled;
+              reserved_is = b.reserved_is;
+              paid = b.paid;
+            },
+            idle.2,
+            idle.3,
+          )
           (for_aim_same aim (ending v (with_excused wait field) h) refl for) paid
           (each_map (waited_retired (with_excused wait field)) (λ (r : Retired). r.raised ≡ false)
           (λ (r : Retired). r.raised ≡ false) v.hands.retired (λ r q. q) unraised)

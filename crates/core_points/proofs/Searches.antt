@@ -62,7 +62,7 @@ module _ (k : Shape) (h : List Mark) (o : Own) (v : View) (n : ℕ) where
       let c = p.2 in (
         c.0,
         record {
-          entry = record { outside = p.0; free = ((p.1).0).0; key_fits = f.owns.key_fits };
+          entry = record { outside = p.0; free = ((p.1).0).locks_are; key_fits = f.owns.key_fits };
           clock = c.1;
           stamp_is = sym c.2;
           announced = p.3;

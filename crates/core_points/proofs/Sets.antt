@@ -33,7 +33,7 @@ use Rattle.core_points.specs.Fits.{Fits}
 use Rattle.core_points.proofs.Answers.{ready_set}
 use Rattle.core_points.proofs.FoundLoads.{life_loaded, life_still, found_next}
 use Rattle.core_points.proofs.Locking.{no_locks, own_lock, clear_one}
-use Rattle.core_points.proofs.Notes.{owns_more, owns_noted, one_noted, one_locked}
+use Rattle.core_points.proofs.Notes.{owns_more, owns_noted, one_noted, one_locked, quiet_turned, quiet_unlocking}
 use Rattle.core_points.proofs.PutLocks.{made_even}
 use Rattle.tree_laws.proofs.notes.Knowing.{known_here}
 
@@ -54,32 +54,41 @@ pub quiet_noted : (o : Own) (v : View) (s : ℕ) (field : Field) (n : ℕ) (by_s
     → Quiet o (noting v s field n by_store) commit
 quiet_noted o v s field n by_store commit q =
     let kn : Known = record { field = field; number = n; stored = by_store } in
-    (q.0, q.1, ap (note_moving s kn) q.2, q.3, q.4, ap (note_option s kn) q.5, q.6)
+    record {
+      outside = q.outside;
+      turn_is = q.turn_is;
+      settled = ap (note_moving s kn) q.settled;
+      unreserved = q.unreserved;
+      paid = q.paid;
+      empty = ap (note_option s kn) q.empty;
+      no_hand = q.no_hand;
+    }
 
 -- the caller's call starts again with nothing held
 pub quiet_calm : (o : Own) (v : View) → Quiet o v None → v.locks ≡ []
     → Bare v [] None false × HandFits o.hand o.hand_life (key_now o) (value_in o.op) v.hands.hand
 quiet_calm o v q none = (
-  (none, q.1, q.2, q.3, q.4),
-  subst (λ x. HandFits x o.hand_life (key_now o) (value_in o.op) v.hands.hand) (sym q.6) q.5,
+  record { locks_are = none; turn_is = q.turn_is; settled = q.settled; reserved_is = q.unreserved; paid = q.paid },
+  subst (λ x. HandFits x o.hand_life (key_now o) (value_in o.op) v.hands.hand) (sym q.no_hand) q.empty,
 )
 
 pub quiet_hand : (o : Own) (v : View) → Quiet o v None → HandFits o.hand o.hand_life (key_now o) (value_in o.op) v.hands.hand
-quiet_hand o v q = subst (λ x. HandFits x o.hand_life (key_now o) (value_in o.op) v.hands.hand) (sym q.6) q.5
+quiet_hand o v q = subst (λ x. HandFits x o.hand_life (key_now o) (value_in o.op) v.hands.hand) (sym q.no_hand) q.empty
 
 -- outside the section, with no slot in hand
 pub calm_quiet : (o : Own) (v : View) (section : Section) (h : List Mark) → Calm o v → is_put o.op ≡ false
     → Quiet o (leaving v section h) None
 calm_quiet o v section h c no_put =
-    let empty = (c.2).empty no_put in (
-      refl,
-      (c.0).1,
-      (c.0).2,
-      (c.0).3,
-      (c.0).4,
-      subst (λ x. HandFits x o.hand_life (key_now o) (value_in o.op) v.hands.hand) empty c.1,
-      empty,
-    )
+    let none = (c.2).empty no_put in
+    record {
+      outside = refl;
+      turn_is = (c.0).turn_is;
+      settled = (c.0).settled;
+      unreserved = (c.0).reserved_is;
+      paid = (c.0).paid;
+      empty = subst (λ x. HandFits x o.hand_life (key_now o) (value_in o.op) v.hands.hand) none c.1;
+      no_hand = none;
+    }
 
 module _ (k : Shape) (h : List Mark) (o : Own) (v : View) (n : ℕ) where
   pub needs_set_life : (s : ℕ) → Fits o (at.SetLife s) v → Needs k v n (act_at o (at.SetLife s))
@@ -120,8 +129,15 @@ module _ (k : Shape) (h : List Mark) (o : Own) (v : View) (n : ℕ) where
         tickets = (let t = f.tickets in let one = set_owed o.op o.hand o.retired p.0 in omega arith);
         point = (
           calm_quiet o v section h calm (set_no_put o.op p.0),
-          (calm.0).0,
-          (section.reading, (0, refl), (i.2).sought, (q.0, q.1, None, (i.2).state_is), i.3, stood section i.1 s (i.2).here),
+          (calm.0).locks_are,
+          record {
+            reading = section.reading;
+            kept = (0, refl);
+            key_is = (i.2).sought;
+            found = (q.0, q.1, None, (i.2).state_is);
+            recorded = i.3;
+            inside = stood section i.1 s (i.2).here;
+          },
           p.0,
         );
       })
@@ -129,7 +145,7 @@ module _ (k : Shape) (h : List Mark) (o : Own) (v : View) (n : ℕ) where
   -- the lock
   pub needs_set_lock : (s generation : ℕ) → Fits o (at.SetLock s generation) v → Needs k v n (act_at o (at.SetLock s generation))
   needs_set_lock s generation f = record {
-    outside = ((f.point).0).0;
+    outside = ((f.point).0).outside;
     few = subst (λ (ls : List HeldLock). length ls < 5) (sym (f.point).1) (omega arith);
   }
 
@@ -156,7 +172,7 @@ module _ (k : Shape) (h : List Mark) (o : Own) (v : View) (n : ℕ) where
             owns = f.owns;
             unraised = λ z. f.unraised refl;
             tickets = f.tickets;
-            point = (q.0, (c.0, c.1, ready_set o.op o.hand o.spare o.retired (f.point).3 q.6));
+            point = (q.outside, (c.0, c.1, ready_set o.op o.hand o.spare o.retired (f.point).3 q.no_hand));
           })
 
   -- a load under the lock
@@ -191,17 +207,10 @@ module _ (k : Shape) (h : List Mark) (o : Own) (v : View) (n : ℕ) where
             unraised = λ z. f.unraised refl;
             tickets = f.tickets;
             point = (
-              (
-                q.0,
-                q.1,
-                q.2,
-                q.3,
-                q.4,
-                subst AreClear (sym p.1) (clear_one s (read_at (Life s) n ∷ [])),
-                ap is_none_left (own_lock o w s _ owns p.1 refl),
-              ),
-              subst (λ x. HandFits x o.hand_life (key_now o) (value_in o.op) w.hands.hand) (sym q.6) q.5,
-              ready_set o.op o.hand o.spare o.retired p.3 q.6,
+              quiet_unlocking q q.turn_is (subst AreClear (sym p.1) (clear_one s (read_at (Life s) n ∷ [])))
+                  (ap is_none_left (own_lock o w s _ owns p.1 refl)),
+              subst (λ x. HandFits x o.hand_life (key_now o) (value_in o.op) w.hands.hand) (sym q.no_hand) q.empty,
+              ready_set o.op o.hand o.spare o.retired p.3 q.no_hand,
             );
           }
 
@@ -228,17 +237,17 @@ module _ (k : Shape) (h : List Mark) (o : Own) (v : View) (n : ℕ) where
       let q = p.0 in
       let has = p.2 in (
         record { found = front; stored = false },
-        has.0,
+        has.reading,
         g,
         record {
-          has_commit = record { commit_is = q.1; unmade = refl; ticket = (let t = f.tickets in omega arith) };
-          kept = has.1;
-          found = has.3;
-          generation_is = has.4;
+          has_commit = record { commit_is = q.turn_is; unmade = refl; ticket = (let t = f.tickets in omega arith) };
+          kept = has.kept;
+          found = has.found;
+          generation_is = has.recorded;
           life_now = ap (λ ls. known_in (known_of (lock_of ls s)) (Life s)) p.1
               ∙ ap (λ x. known_in (known_of x) (Life s)) (one_locked s (set_known s g old)) ∙ known_here [] (Life s) (2 * g) false;
         },
-        has.2,
+        has.key_is,
       )
 
   pub next_set_store : (s old front : ℕ) → Fits o (at.Store (update.Value s old) front) v
@@ -254,13 +263,13 @@ module _ (k : Shape) (h : List Mark) (o : Own) (v : View) (n : ℕ) where
       let is : w.locks ≡ one_lock s (stored_at (Value s) value ∷ set_known s g old) =
       ap (change_lock s (note_lock (stored_at (Value s) value))) p.1 ∙ one_noted s (set_known s g old) (Value s) value true in
       subst (λ x. Fits (go o (at.Even (update.Value s old) front)) (at.Even (update.Value s old) front)
-      (after_replace v x s (key_now o) value h)) (sym (commit_is v _ (p.0).1))
+      (after_replace v x s (key_now o) value h)) (sym (commit_is v _ (p.0).turn_is))
       (record {
         owns = owns;
         unraised = λ z. f.unraised refl;
         tickets = (let t = f.tickets in omega arith);
         point = (
-          (q.0, refl, q.2, q.3, q.4, q.5, q.6),
+          quiet_turned (Some (record { found = front; stored = true })) q,
           ap is_none_left (own_lock o w s _ owns is refl),
           subst AreClear (sym is) (clear_one s (stored_at (Value s) value ∷ set_known s g old)),
           p.3,

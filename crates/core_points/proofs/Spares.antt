@@ -20,7 +20,7 @@ use Rattle.core_points.specs.Programs.{act_at, after, none_free}
 use Rattle.core_points.specs.Facts.{is_delete, is_put, read_at}
 use Rattle.core_points.specs.Tickets.{owed_op}
 use Rattle.core_points.specs.Fits.{Fits}
-use Rattle.core_points.proofs.Notes.{owns_noted, owns_scanned, owns_spared, bare_noted, held_here, spare_noted}
+use Rattle.core_points.proofs.Notes.{owns_noted, owns_scanned, owns_spared, bare_noted, bare_reserved, held_here, spare_noted}
 use Rattle.core_points.proofs.OldSlots.{no_spare}
 
 pub delete_owed : (op : Op) (hand : Option ℕ) (retired : List ℕ) → is_delete op ≡ true → owed_op op hand retired ≡ 2
@@ -40,7 +40,7 @@ module _ (k : Shape) (h : List Mark) (o : Own) (v : View) (n : ℕ) where
   needs_reserve_spare expected f =
       let p = f.point in
       let i = p.0 in
-      record { some = p.1; unreserved = (i.1).3; empty = i.2; ticket = (let t = f.tickets in omega arith) }
+      record { some = p.1; unreserved = (i.1).reserved_is; empty = i.2; ticket = (let t = f.tickets in omega arith) }
 
   pub next_reserve_spare : (expected : ℕ) → Fits o (at.Reserve Spare expected) v
       → Fits (after o n (at.Reserve Spare expected)) (after o n (at.Reserve Spare expected)).stage
@@ -58,12 +58,11 @@ module _ (k : Shape) (h : List Mark) (o : Own) (v : View) (n : ℕ) where
           (record v { latest = record v.latest { free = Some n } })))
       held true =
           let p = f.point in
-          let i = p.0 in
-          let b = i.1 in record {
+          let i = p.0 in record {
             owns = f.owns;
             unraised = λ z. f.unraised refl;
             tickets = (let t = f.tickets in omega arith);
-            point = (i.0, (b.0, b.1, b.2, refl, b.4), i.2, i.3, p.2, p.3, p.4);
+            point = (i.0, bare_reserved true i.1, i.2, i.3, p.2, p.3, p.4);
           }
       held false = dite (ℕ_discrete n 0)
           (λ e. subst (λ z. let o' : Own = cond z (none_free (record o { free = 0 }) Spare)
@@ -83,7 +82,7 @@ module _ (k : Shape) (h : List Mark) (o : Own) (v : View) (n : ℕ) where
           }))
 
   pub needs_seize_spare : Fits o (at.Seize Spare) v → Needs k v n (act_at o (at.Seize Spare))
-  needs_seize_spare f = record { reserved = ((f.point).1).3; some = (λ e. let one = f.owns.scans in absurd (omega arith)) }
+  needs_seize_spare f = record { reserved = ((f.point).1).reserved_is; some = (λ e. let one = f.owns.scans in absurd (omega arith)) }
 
   pub next_seize_spare : Fits o (at.Seize Spare) v
       → Fits (after o n (at.Seize Spare)) (after o n (at.Seize Spare)).stage (view_after v h n (act_at o (at.Seize Spare)))
@@ -96,12 +95,11 @@ module _ (k : Shape) (h : List Mark) (o : Own) (v : View) (n : ℕ) where
             seen = h ++ Given o.scan ∷ [];
           }) v)
       got true =
-          let p = f.point in
-          let b = p.1 in record {
+          let p = f.point in record {
             owns = owns_scanned o v f.owns;
             unraised = λ z. f.unraised refl;
             tickets = f.tickets;
-            point = (p.0, (b.0, b.1, b.2, refl, b.4), refl, refl, p.4, p.5, p.6);
+            point = (p.0, bare_reserved false p.1, refl, refl, p.4, p.5, p.6);
           }
       got false = record {
         owns = owns_scanned o v f.owns;

@@ -34,7 +34,7 @@ use Rattle.core_points.specs.DeleteFacts.{ReadsParent, AreGot, BothHold, FewHold
 use Rattle.core_points.specs.Fits.{Fits}
 use Rattle.core_points.proofs.DeleteSearch.{lacks_child, has_children}
 use Rattle.core_points.proofs.Locking.{no_slots, clear_changed, each_more, IsClear}
-use Rattle.core_points.proofs.Notes.{owns_more, owns_noted}
+use Rattle.core_points.proofs.Notes.{owns_more, owns_noted, quiet_unlocking}
 use Rattle.core_points.proofs.PutLocks.{both_true}
 use Rattle.core_points.proofs.Sets.{quiet_noted, quiet_calm, quiet_hand}
 use Rattle.core_points.proofs.TargetWords.{word_held, part_loadable, one_more}
@@ -148,18 +148,18 @@ few_verdict : (n : ℕ) (records : List Reading) (locks : List HeldLock) (key : 
     HasTarget n records key t → HoldsAll locks t → HasLoaded locks t 5 f → target_holds t f ≡ true → let d' : Node =
     record d { left = f.left; right = f.right } in FewHold records locks key d' × IsUnmarked locks d'
 few_verdict n records locks key d f has all loads holds =
-    let r : Reading = has.0 in
-    let reads = has.7 in
+    let r : Reading = has.reading in
+    let reads = has.children in
     let lives = reads.0 in
     let a = both_true (f.parent_life == 2 * d.parent_generation) _ holds in
     let b = both_true (f.link == d.node) _ a.1 in
     let c = both_true (f.life == 2 * d.generation) _ b.1 in (
       (
         r,
-        has.2,
+        has.key_is,
         record {
-          kept = has.1;
-          found = has.3;
+          kept = has.kept;
+          found = has.found;
           apart = all.3;
           parent_recorded = lives.parent_life all.3;
           recorded = lives.node_life;
@@ -229,9 +229,9 @@ module _ (n : ℕ) (records : List Reading) (locks : List HeldLock) (key : ℕ) 
       → BothHold records locks key (record d { left = f.left; right = last_right d (Some u) f }) u
       × IsUnmarked locks (record d { left = f.left; right = last_right d (Some u) f })
   both_verdict has all loads holds =
-      let r : Reading = has.0 in
+      let r : Reading = has.reading in
       let apart = (all.4).0 in
-      let reads = has.7 in
+      let reads = has.children in
       let walk = reads.0 in
       let recorded = reads.1 apart in
       let lives = recorded.0 in
@@ -247,10 +247,10 @@ module _ (n : ℕ) (records : List Reading) (locks : List HeldLock) (key : ℕ) 
       let plain_word = λ (j : ℕ) (low : (j ≢ 5) × (j ≢ 4)) (lt : j < 9). word loads j (λ below. low) lt in (
         (
           r,
-          has.2,
+          has.key_is,
           record {
-            kept = has.1;
-            found = has.3;
+            kept = has.kept;
+            found = has.found;
             apart = all.3;
             parent_recorded = lives.parent_life all.3;
             recorded = lives.node_life;
@@ -285,8 +285,8 @@ module _ (n : ℕ) (records : List Reading) (locks : List HeldLock) (key : ℕ) 
 
 module _ (k : Shape) (h : List Mark) (o : Own) (v : View) (n : ℕ) where
   pub needs_target_lock : (t : Target) (i : ℕ) → Fits o (at.TargetLock t i) v → Needs k v n (act_at o (at.TargetLock t i))
-  needs_target_lock t i f = let p = f.point in let few = few_locks t.node t.successor in let long = p.4 in let lt = p.7 in
-      record { outside = (p.0).0; few = omega arith }
+  needs_target_lock t i f = let p = f.point in let few = few_locks t.node t.successor in let long = p.long in let lt = p.more in
+      record { outside = (p.quiet).outside; few = omega arith }
 
   pub next_target_lock : (t : Target) (i : ℕ) → (n ≡ 0 → Holds v.locks (target_lock t i) → ⊥) → Fits o (at.TargetLock t i) v
       → Fits (after o n (at.TargetLock t i)) (after o n (at.TargetLock t i)).stage (view_after v h n (act_at o (at.TargetLock t i)))
@@ -299,16 +299,16 @@ module _ (k : Shape) (h : List Mark) (o : Own) (v : View) (n : ℕ) where
       one = omega arith
 
       clear_more : AreClear (new_lock s ∷ v.locks)
-      clear_more = each_more IsClear (new_lock s) v.locks (refl, refl, refl) (f.point).3
+      clear_more = each_more IsClear (new_lock s) v.locks (refl, refl, refl) (f.point).clear
 
       locked : AreGot t i v.locks → n ≡ 0 → AreGot t (i + 1) (new_lock s ∷ v.locks)
       locked got zero_is = subst (λ x. AreGot t x (new_lock s ∷ v.locks)) (sym one) (got_more t i v.locks got (busy zero_is))
 
       kept : s ∷ o.locks ≡ first_locks t (i + 1)
-      kept = ap (λ xs. s ∷ xs) (f.point).5 ∙ sym (ap (first_locks t) one)
+      kept = ap (λ xs. s ∷ xs) (f.point).locks_are ∙ sym (ap (first_locks t) one)
 
       long : length (new_lock s ∷ v.locks) ≡ i + 1
-      long = (let e = (f.point).4 in omega arith)
+      long = (let e = (f.point).long in omega arith)
 
       rest : (z : Bool) → (i + 1 == target_locks t) ≡ z → n ≡ 0 → let st : Stage =
           cond z (at.TargetLoad t 0 nothing_found) (at.TargetLock t (i + 1)) in
@@ -319,18 +319,18 @@ module _ (k : Shape) (h : List Mark) (o : Own) (v : View) (n : ℕ) where
             owns = owns_more o v s f.owns;
             unraised = λ z. f.unraised refl;
             tickets = f.tickets;
-            point = (
-              p.0,
-              p.1,
-              p.2,
-              clear_more,
-              kept ∙ ap (first_locks t) all,
-              got_all t.node t.successor (new_lock s ∷ v.locks) (long ∙ all)
-                  (subst (λ x. AreGot t x (new_lock s ∷ v.locks)) all (locked p.6 zero_is)),
-              (λ j lt. absurd (omega arith)),
-              some_words t.successor,
-              (λ u has below z. absurd (omega arith)),
-            );
+            point = record {
+              quiet = p.quiet;
+              deleting = p.deleting;
+              target = p.target;
+              clear = clear_more;
+              locks_are = kept ∙ ap (first_locks t) all;
+              held = got_all t.node t.successor (new_lock s ∷ v.locks) (long ∙ all)
+                  (subst (λ x. AreGot t x (new_lock s ∷ v.locks)) all (locked p.got zero_is));
+              loaded = (λ j lt. absurd (omega arith));
+              more = some_words t.successor;
+              now = (λ u has below z. absurd (omega arith));
+            };
           }
       rest false e zero_is =
           let p = f.point in
@@ -339,25 +339,34 @@ module _ (k : Shape) (h : List Mark) (o : Own) (v : View) (n : ℕ) where
             owns = owns_more o v s f.owns;
             unraised = λ z. f.unraised refl;
             tickets = f.tickets;
-            point = (p.0, p.1, p.2, clear_more, long, kept, locked p.6 zero_is, (let lt = p.7 in omega arith));
+            point = record {
+              quiet = p.quiet;
+              deleting = p.deleting;
+              target = p.target;
+              clear = clear_more;
+              long = long;
+              locks_are = kept;
+              got = locked p.got zero_is;
+              more = (let lt = p.more in omega arith);
+            };
           }
 
       taken : (z : Bool) → is_none_left o.locks ≡ z → let st : Stage = cond z at.EnterClock (at.Unlock last.Again) in Fits (go o st) st v
       taken true e =
           let p = f.point in
-          let q = p.0 in
+          let q = p.quiet in
           let bare = no_slots v.locks (λ x. f.owns.locks_are x ∙ ap (times x) (none_in o.locks e)) in
           let c = quiet_calm o v q bare in
-          record { owns = f.owns; unraised = λ z. f.unraised refl; tickets = f.tickets; point = (q.0, (c.0, c.1, (p.1).1)) }
+          record { owns = f.owns; unraised = λ z. f.unraised refl; tickets = f.tickets; point = (q.outside, (c.0, c.1, (p.deleting).1)) }
       taken false e =
           let p = f.point in
-          let q = p.0 in
+          let q = p.quiet in
           let c = quiet_hand o v q in
           record {
             owns = f.owns;
             unraised = λ z. f.unraised refl;
             tickets = f.tickets;
-            point = ((q.0, q.1, q.2, q.3, q.4, p.3, e), c, (p.1).1);
+            point = (quiet_unlocking q q.turn_is p.clear e, c, (p.deleting).1);
           }
 
       got : (z : Bool) → (n == 0) ≡ z → let o' : Own =
@@ -372,7 +381,7 @@ module _ (k : Shape) (h : List Mark) (o : Own) (v : View) (n : ℕ) where
   pub needs_target_load : (t : Target) (i : ℕ) (found : Found) → Fits o (at.TargetLoad t i found) v
       → Needs k v n (act_at o (at.TargetLoad t i found))
   needs_target_load t i found f = let p = f.point in
-      record { held = word_held v.locks t i p.5; loadable = part_loadable (target_slot t i) (target_part t i) }
+      record { held = word_held v.locks t i p.held; loadable = part_loadable (target_slot t i) (target_part t i) }
 
   pub next_target_load : (t : Target) (i : ℕ) (found : Found) → Fits o (at.TargetLoad t i found) v
       → Fits (after o n (at.TargetLoad t i found)) (after o n (at.TargetLoad t i found)).stage
@@ -398,16 +407,16 @@ module _ (k : Shape) (h : List Mark) (o : Own) (v : View) (n : ℕ) where
       owns = owns_noted o v s field n false f.owns
 
       quiet : Quiet o w None
-      quiet = quiet_noted o v s field n false None (f.point).0
+      quiet = quiet_noted o v s field n false None (f.point).quiet
 
       clear : AreClear w.locks
-      clear = clear_changed s (note_lock (read_at field n)) (λ l c. c) v.locks (f.point).3
+      clear = clear_changed s (note_lock (read_at field n)) (λ l c. c) v.locks (f.point).clear
 
       all : HoldsAll w.locks t
-      all = all_noted v.locks t s (read_at field n) (f.point).5
+      all = all_noted v.locks t s (read_at field n) (f.point).held
 
       loads : HasLoaded w.locks t (suc i) f'
-      loads = one_more v.locks t i found n (f.point).5 (f.point).8 (f.point).7 (f.point).6
+      loads = one_more v.locks t i found n (f.point).held (f.point).now (f.point).more (f.point).loaded
 
       one : i + 1 ≡ suc i
       one = omega arith
@@ -433,7 +442,17 @@ module _ (k : Shape) (h : List Mark) (o : Own) (v : View) (n : ℕ) where
             owns = owns;
             unraised = λ z. f.unraised refl;
             tickets = f.tickets;
-            point = (quiet, p.1, p.2, clear, p.4, all, has, small, now);
+            point = record {
+              quiet = quiet;
+              deleting = p.deleting;
+              target = p.target;
+              clear = clear;
+              locks_are = p.locks_are;
+              held = all;
+              loaded = has;
+              more = small;
+              now = now;
+            };
           }
 
       again : Fits (go o (at.Unlock last.Again)) (at.Unlock last.Again) w
@@ -443,7 +462,7 @@ module _ (k : Shape) (h : List Mark) (o : Own) (v : View) (n : ℕ) where
             owns = owns;
             unraised = λ z. f.unraised refl;
             tickets = f.tickets;
-            point = ((quiet.0, quiet.1, quiet.2, quiet.3, quiet.4, clear, some_left o.locks p.4), quiet_hand o w quiet, (p.1).1);
+            point = (quiet_unlocking quiet quiet.turn_is clear (some_left o.locks p.locks_are), quiet_hand o w quiet, (p.deleting).1);
           }
 
       few : t.successor ≡ None → i ≡ 4 → (z : Bool) → target_holds t f' ≡ z → let st : Stage =
@@ -456,14 +475,22 @@ module _ (k : Shape) (h : List Mark) (o : Own) (v : View) (n : ℕ) where
           let same : t ≡ x = (λ j. record { node = d; successor = none j }) in
           let five : suc i ≡ 5 = omega arith in
           let q = few_verdict (table_of o) v.records w.locks (key_now o) d f'
-          (subst (HasTarget (table_of o) v.records (key_now o)) same p.2) (subst (HoldsAll w.locks) same all)
+          (subst (HasTarget (table_of o) v.records (key_now o)) same p.target) (subst (HoldsAll w.locks) same all)
           (subst (λ x. HasLoaded w.locks x 5 f') same (subst (λ j. HasLoaded w.locks t j f') five loads))
           (subst (λ x. target_holds x f' ≡ true) same e) in
           record {
             owns = owns;
             unraised = λ z. f.unraised refl;
             tickets = f.tickets;
-            point = (quiet, p.1, some_left o.locks p.4, clear, q.0, q.1, refl);
+            point = record {
+              quiet = quiet;
+              deleting = p.deleting;
+              has_locks = some_left o.locks p.locks_are;
+              clear = clear;
+              few = q.0;
+              unmarked = q.1;
+              child_is = refl;
+            };
           }
 
       both : (u : Successor) → t.successor ≡ Some u → i ≡ 8 → (z : Bool) → target_holds t f' ≡ z → let d' : Node =
@@ -478,14 +505,14 @@ module _ (k : Shape) (h : List Mark) (o : Own) (v : View) (n : ℕ) where
           let nine : suc i ≡ 9 = omega arith in
           let held = subst (HoldsAll w.locks) same all in
           let q = both_verdict (table_of o) v.records w.locks (key_now o) d u f'
-          (subst (HasTarget (table_of o) v.records (key_now o)) same p.2) held
+          (subst (HasTarget (table_of o) v.records (key_now o)) same p.target) held
           (subst (λ x. HasLoaded w.locks x 9 f') same (subst (λ j. HasLoaded w.locks t j f') nine loads))
           (subst (λ x. target_holds x f' ≡ true) same e) in
           record {
             owns = owns;
             unraised = λ z. f.unraised refl;
             tickets = f.tickets;
-            point = ((quiet, p.1, q.0), q.1, clear, held.0, p.4 ∙ ap (λ x. first_locks x (target_locks x)) same, (held.4).1);
+            point = ((quiet, p.deleting, q.0), q.1, clear, held.0, p.locks_are ∙ ap (λ x. first_locks x (target_locks x)) same, (held.4).1);
           }
 
       by : (h : Option Successor) → t.successor ≡ h → let st : Stage = past_target_load t i f' in Fits (go o st) st w
@@ -501,7 +528,7 @@ module _ (k : Shape) (h : List Mark) (o : Own) (v : View) (n : ℕ) where
               (at.TargetLoad t (i + 1) f') in Fits (go o st) st w
           ends true is = few e (eqb-true i 4 is) (target_holds t f') refl
           ends false is =
-              let small = subst (λ h. i < target_words h) e (f.point).7 in
+              let small = subst (λ h. i < target_words h) e (f.point).more in
               goes_on (i + 1) (subst (λ h. i + 1 < target_words h) (sym e) (not_last is small))
               (λ u has below. absurd (let q : None ≡ Some u = sym e ∙ has in cc))
               (subst (λ j. HasLoaded w.locks t j f') (sym one) loads)
@@ -517,7 +544,7 @@ module _ (k : Shape) (h : List Mark) (o : Own) (v : View) (n : ℕ) where
       ] in Fits (go o st) st w) (sym e) (ends (i == 8) refl)
         where
           small : i < 9
-          small = subst (λ h. i < target_words h) e (f.point).7
+          small = subst (λ h. i < target_words h) e (f.point).more
 
           there : (j : ℕ) → j < 9 → j < target_words t.successor
           there j lt = subst (λ h. j < target_words h) (sym e) lt

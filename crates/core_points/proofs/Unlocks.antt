@@ -16,7 +16,7 @@ use Rattle.core_acts.specs.declared.act.Act.TheVariants.{Unlock}
 use Rattle.core_points.specs.Acts.{Needs, view_after}
 use Rattle.core_points.specs.Callers.{Own, but_first, first_or_root, go, is_none_left}
 use Rattle.core_points.specs.Programs.{act_at, after, answer, unlocked}
-use Rattle.core_points.specs.Facts.{Owns, Unlocking}
+use Rattle.core_points.specs.Facts.{Bare, Owns, Unlocking}
 use Rattle.core_points.specs.Fits.{Fits, PointUnlock, plain}
 use Rattle.core_points.specs.Told.{TellsOnce}
 use Rattle.core_points.proofs.Answers.{answers}
@@ -34,13 +34,13 @@ none_in (s ∷ xs) e = cc
 module _ (k : Shape) (h : List Mark) (o : Own) (v : View) (n : ℕ) where
   unlock_needs : Owns o v → Unlocking o v → Needs k v n (Unlock (first_or_root o.locks))
   unlock_needs owns u =
-      let has = some_lock o.locks u.6 in
+      let has = some_lock o.locks u.some in
       let s : ℕ = has.0 in
       let held = held_in v.locks s (let a = owns.locks_are s in let b : times s o.locks ≡ times s (s ∷ has.1) = ap (times s) has.2 in
       let c = times_here s has.1 in omega arith) in
-      let clear = clear_lock v.locks s held.0 u.5 held.1 in
+      let clear = clear_lock v.locks s held.0 u.clear held.1 in
       subst (λ x. Needs k v n (Unlock x)) (sym (ap first_or_root has.2))
-      (held.0, record { held = held.1; no_end = subst (IsNoEnd s) (sym u.2) tt; left = clear.0; right = clear.1; unmarked = clear.2 })
+      (held.0, record { held = held.1; no_end = subst (IsNoEnd s) (sym u.settled) tt; left = clear.0; right = clear.1; unmarked = clear.2 })
 
   unlocking : (l : Last) → Fits o (at.Unlock l) v → Unlocking o v
   unlocking last.Again f = (f.point).0
@@ -60,7 +60,7 @@ module _ (k : Shape) (h : List Mark) (o : Own) (v : View) (n : ℕ) where
       → Fits (after o n (at.Unlock l)) (after o n (at.Unlock l)).stage (view_after v h n (act_at o (at.Unlock l)))
   next_unlock l once f =
       let u = unlocking l f in
-      let has = some_lock o.locks u.6 in
+      let has = some_lock o.locks u.some in
       subst (λ ls. let less : Own = record o { locks = but_first ls } in
       let o' : Own = cond (is_none_left (but_first ls)) (unlocked less l) (go less (at.Unlock l)) in
       Fits o' o'.stage (after_unlock v (first_or_root ls)))
@@ -80,7 +80,15 @@ module _ (k : Shape) (h : List Mark) (o : Own) (v : View) (n : ℕ) where
           w = after_unlock v s
 
           unlocking' : Unlocking (record o { locks = rest; stage = at.Unlock l }) (plain w)
-          unlocking' = (u.0, u.1, u.2, u.3, u.4, clear_without s v.locks u.5, more)
+          unlocking' = record {
+            outside = u.outside;
+            no_turn = u.no_turn;
+            settled = u.settled;
+            unreserved = u.unreserved;
+            paid = u.paid;
+            clear = clear_without s v.locks u.clear;
+            some = more;
+          }
 
           still : (l : Last) → Fits o (at.Unlock l) v → PointUnlock (record o { locks = rest; stage = at.Unlock l }) (plain w) l
           still last.Again f = (unlocking', (f.point).1, (f.point).2)
@@ -98,15 +106,18 @@ module _ (k : Shape) (h : List Mark) (o : Own) (v : View) (n : ℕ) where
           bare : without_lock s v.locks ≡ []
           bare = no_slots (without_lock s v.locks) (λ x. owns.locks_are x ∙ ap (times x) (none_in rest none))
 
+          nothing : Bare w [] None false
+          nothing = record { locks_are = bare; turn_is = u.no_turn; settled = u.settled; reserved_is = u.unreserved; paid = u.paid }
+
           answered : (reply : Reply) (number : ℕ) → (v.hands.hand ≡ None) × (o.hand ≡ None)
               → 4 * length o.rest + o.kept ≤ v.allowance.tickets → let a : Own = answer (record o { locks = rest }) reply number in
               Fits a a.stage w
           answered reply number hands paid = answers (record o { locks = rest }) w reply number
               (record {
                 owns = owns;
-                outside = u.0;
+                outside = u.outside;
                 empty = hands.1;
-                bare = (bare, u.1, u.2, u.3, u.4);
+                bare = nothing;
                 no_hand = hands.0;
                 unraised = f.unraised refl;
               }) paid
@@ -116,7 +127,7 @@ module _ (k : Shape) (h : List Mark) (o : Own) (v : View) (n : ℕ) where
             owns = owns;
             unraised = λ z. f.unraised refl;
             tickets = f.tickets;
-            point = (u.0, ((bare, u.1, u.2, u.3, u.4), (f.point).1, (f.point).2));
+            point = (u.outside, (nothing, (f.point).1, (f.point).2));
           }
           ends (last.New number) f = answered New number ((f.point).1, (f.point).2) (let t = f.tickets in omega arith)
           ends (last.Gone number) f = answered Gone number ((f.point).1, (f.point).2) (let t = f.tickets in omega arith)

@@ -45,11 +45,11 @@ target_within : (o : Own) (v : View) (t : Target) (i : ℕ) → Fits o (at.Targe
 target_within o v t i f = by (i == 0) (i == 1)
   where
     below : (h : Option Successor) → t.successor ≡ h → successor_lock t.node h i < table_of o
-    below None e = let has = (f.point).2 in has.4 t.node.parent has.5
+    below None e = let has = (f.point).target in has.within t.node.parent has.parent_stood
     below (Some u) e =
-        let has = (f.point).2 in
-        let reads = subst (λ h. Rattle.core_points.specs.DeleteFacts.ReadsChildren has.0 t.node h) e has.7 in
-        at_successor (has.4 u.slot (reads.0).slot_stood) (has.4 u.parent (reads.0).parent_stood) (u.parent == t.node.node) (i == 2)
+        let has = (f.point).target in
+        let reads = subst (λ h. Rattle.core_points.specs.DeleteFacts.ReadsChildren has.reading t.node h) e has.children in
+        at_successor (has.within u.slot (reads.0).slot_stood) (has.within u.parent (reads.0).parent_stood) (u.parent == t.node.node) (i == 2)
       where
         at_successor : u.slot < table_of o → u.parent < table_of o → (a b : Bool) → cond a u.slot (cond b u.parent u.slot) < table_of o
         at_successor s p true b = s
@@ -57,8 +57,8 @@ target_within o v t i f = by (i == 0) (i == 1)
         at_successor s p false false = s
 
     by : (a b : Bool) → cond a t.node.parent (cond b t.node.node (successor_lock t.node t.successor i)) < table_of o
-    by true b = let has = (f.point).2 in has.4 t.node.parent has.5
-    by false true = let has = (f.point).2 in has.4 t.node.node has.6
+    by true b = let has = (f.point).target in has.within t.node.parent has.parent_stood
+    by false true = let has = (f.point).target in has.within t.node.node has.node_stood
     by false false = below t.successor refl
 
 copy_within : (o : Own) (v : View) (h : List Mark) (word : Field → ℕ) (d : Node) (u : Successor) (next_key : ℕ) → IsTold o v h word
@@ -123,7 +123,7 @@ module _ (k : Shape) (h : List Mark) (o : Own) (v : View) (word : Field → ℕ)
   within (at.SpotTag s b) eer f d = searched s (part.Tag b) d
   within (at.SpotLife s b tag) eer f d = searched s part.Life d
   within (at.LeafField spot i) eer f d = filled d.0 (or_root o.hand) (content_part i) (d.1).holder
-  within (at.LeafLock spot) eer f d = slot_in spot.slot (((f.point).4).6)
+  within (at.LeafLock spot) eer f d = slot_in spot.slot ((f.point).4).inside
   within (at.LeafLife spot) eer f d = locked spot.slot part.Life d
   within (at.LeafSide spot life) eer f d = locked spot.slot (part.Link spot.side) d
   within (at.LeafTag spot life link) eer f d = locked spot.slot (part.Tag spot.side) d
@@ -158,7 +158,7 @@ module _ (k : Shape) (h : List Mark) (o : Own) (v : View) (word : Field → ℕ)
   within (at.Even u front) eer f d = tt
   within (at.Unlock l) eer f d = under_lock (first_or_root o.locks) (d.0, (d.1).held)
   within (at.SetLife s) eer f d = searched s part.Life d
-  within (at.SetLock s generation) eer f d = slot_in s (((f.point).2).5)
+  within (at.SetLock s generation) eer f d = slot_in s ((f.point).2).inside
   within (at.SetCheck s generation) eer f d = locked s part.Life d
   within (at.SetValue s) eer f d = locked s part.Value d
   within (at.ParentLife p b x) eer f d = searched p part.Life d

@@ -1,6 +1,8 @@
 -- What a delete knows: in its section, under its locks, and while its move is pending.
 -- Source: docs/TREE_CALLS.md, "The calls".
 use Rattle.std.specs.Prelude.{◌≡◌, ◌≢◌, ℕ, zero, suc, ◌+◌, ◌*◌, ◌<◌, ◌≤◌, ◌==◌, ◌⊎◌, if◌then◌else◌, Bool, true, false, List, [], ◌∷◌, length, Option, Some, None}
+use Rattle.prcu_model.specs.declared.operation.Op.{Op}
+use Rattle.prcu_model.specs.Dictionary.{key_of}
 use Rattle.prcu_marks.specs.declared.mark.Side.{Side}
 use Rattle.prcu_marks.specs.declared.mark.Side.TheVariants.{Left, Right}
 use Rattle.core_state.specs.declared.words.Field.TheVariants.{Stamp, Life, Key, Value, Link}
@@ -10,6 +12,7 @@ use Rattle.core_state.specs.declared.view.HeldLock.{HeldLock}
 use Rattle.core_state.specs.declared.view.Known.{Known}
 use Rattle.core_state.specs.declared.view.Move as moves
 use Rattle.core_state.specs.declared.view.Reading.{Reading}
+use Rattle.core_state.specs.declared.view.Section.{Section}
 use Rattle.core_state.specs.declared.view.SearchState.TheVariants.{Found as FoundAt}
 use Rattle.core_state.specs.declared.view.View.{View}
 use Rattle.core_state.specs.declared.view.Waiting.{Waiting}
@@ -23,7 +26,7 @@ use Rattle.core_points.specs.declared.stage.Found.{Found}
 use Rattle.core_points.specs.declared.stage.Moving.{Moving}
 use Rattle.core_points.specs.Callers.{Own, key_now, content, contents}
 use Rattle.core_points.specs.DeletePlan.{target_slot, target_word, target_lock, target_locks}
-use Rattle.core_points.specs.Facts.{is_delete, read_at, AreClear, Calm, Inside, Quiet, Ready, HasLocks}
+use Rattle.core_points.specs.Facts.{is_delete, table_of, read_at, AreClear, Calm, Inside, Quiet, Ready, HasLocks}
 
 -- In the section.
 
@@ -70,10 +73,15 @@ ReadsChildren r d (Some u) = WalksTo r d u × (AreApart d u → ReadsLives r d �
 abbrev pub IsWithin : ℕ → Reading → Type 0
 IsWithin n r = (s : ℕ) → IsIn r.stood s → s < n
 
-abbrev pub HasTarget : ℕ → List Reading → ℕ → Target → Type 0
-HasTarget n records key t = (r : Reading) × IsIn records r × (r.key ≡ key)
-    × ((value : Option ℕ) × (r.state ≡ FoundAt t.node.node t.node.parent t.node.side value))
-    × IsWithin n r × IsIn r.stood t.node.parent × IsIn r.stood t.node.node × ReadsChildren r t.node t.successor
+pub record HasTarget (n : ℕ) (records : List Reading) (key : ℕ) (t : Target) : Type 0 where
+  pub reading : Reading
+  pub kept : IsIn records reading
+  pub key_is : reading.key ≡ key
+  pub found : (value : Option ℕ) × (reading.state ≡ FoundAt t.node.node t.node.parent t.node.side value)
+  pub within : IsWithin n reading
+  pub parent_stood : IsIn reading.stood t.node.parent
+  pub node_stood : IsIn reading.stood t.node.node
+  pub children : ReadsChildren reading t.node t.successor
 
 abbrev pub Deleting : Own → Type 0
 Deleting o = (is_delete o.op ≡ true) × Ready o
@@ -200,6 +208,39 @@ abbrev pub Bypassing : Own → View → Node → ℕ → Option Commit → Type 
 Bypassing o v d child commit = Quiet o v commit × Deleting o × HasLocks o × FewHold v.records v.locks (key_now o) d × IsMarked v.locks d
     × ClearButMark v.locks d.node × (child ≡ (if d.left == 0 then d.right else d.left))
 
+-- so many of the target's locks were got, and one more is tried
+pub record TargetLocking (o : Own) (v : View) (t : Target) (i : ℕ) : Type 0 where
+  pub quiet : Quiet o v None
+  pub deleting : Deleting o
+  pub target : HasTarget (table_of o) v.records (key_now o) t
+  pub clear : AreClear v.locks
+  pub long : length v.locks ≡ i
+  pub locks_are : o.locks ≡ first_locks t i
+  pub got : AreGot t i v.locks
+  pub more : i < target_locks t
+
+-- all were got, so many words were loaded, and one more is
+pub record TargetLoading (o : Own) (v : View) (t : Target) (i : ℕ) (f : Found) : Type 0 where
+  pub quiet : Quiet o v None
+  pub deleting : Deleting o
+  pub target : HasTarget (table_of o) v.records (key_now o) t
+  pub clear : AreClear v.locks
+  pub locks_are : o.locks ≡ first_locks t (target_locks t)
+  pub held : HoldsAll v.locks t
+  pub loaded : HasLoaded v.locks t i f
+  pub more : i < target_words t.successor
+  pub now : IsLoadedNow t i
+
+-- a node with at most one child is to be marked
+pub record FewMarking (o : Own) (v : View) (d : Node) (child : ℕ) : Type 0 where
+  pub quiet : Quiet o v None
+  pub deleting : Deleting o
+  pub has_locks : HasLocks o
+  pub clear : AreClear v.locks
+  pub few : FewHold v.records v.locks (key_now o) d
+  pub unmarked : IsUnmarked v.locks d
+  pub child_is : child ≡ (if d.left == 0 then d.right else d.left)
+
 -- The copy.
 
 -- the copy is none of the slots of the delete
@@ -245,9 +286,16 @@ CopyMaking o v d u next_key copy commit = Copying o v d u commit × IsFilled v d
 abbrev pub move_parent : Moving → ℕ
 move_parent m = if m.successor.parent == m.node.node then m.copy else m.successor.parent
 
-abbrev pub IsMove : Option moves.Move → ℕ → Moving → Bool → Type 0
-IsMove moving key m waited = (move : moves.Move) × (moving ≡ Some move) × (move.key ≡ key) × (move.next_key ≡ m.next_key)
-    × (move.copy.slot ≡ m.copy) × (move.old ≡ m.successor.slot) × (move.parent ≡ move_parent m) × (move.waited ≡ waited)
+-- the pending move is this one, and was waited for or not
+pub record IsMove (moving : Option moves.Move) (key : ℕ) (m : Moving) (waited : Bool) : Type 0 where
+  pub move : moves.Move
+  pub is : moving ≡ Some move
+  pub key_is : move.key ≡ key
+  pub next_is : move.next_key ≡ m.next_key
+  pub copy_is : move.copy.slot ≡ m.copy
+  pub old_is : move.old ≡ m.successor.slot
+  pub parent_is : move.parent ≡ move_parent m
+  pub waited_is : move.waited ≡ waited
 
 -- the old successor's lock: its life as it was recorded, marked or not
 pub record HoldsOld (locks : List HeldLock) (m : Moving) (marked : Bool) : Type 0 where
@@ -257,11 +305,24 @@ pub record HoldsOld (locks : List HeldLock) (m : Moving) (marked : Bool) : Type 
   pub life : known_in lock.known (Life m.successor.slot)
       ≡ Some (if marked then 2 * m.successor.generation + 1 else 2 * m.successor.generation)
 
+pub record ShiftingParts (m : Moving) (waited : Bool) (commit : Option Commit) (op : Op) (o_hand : Option ℕ) (o_locks : List ℕ)
+    (section : Option Section) (turn : Option Commit) (moving : Option moves.Move) (reserved owes : Bool) (hand : Option Held)
+    (locks : List HeldLock) : Type 0 where
+  pub outside : section ≡ None
+  pub turn_is : turn ≡ commit
+  pub unreserved : reserved ≡ false
+  pub paid : owes ≡ false
+  pub empty : hand ≡ None
+  pub no_hand : o_hand ≡ None
+  pub move : IsMove moving (key_of op) m waited
+  pub locks_are : o_locks ≡ m.copy ∷ all_locks m.node m.successor
+  pub parent_held : Holds locks (move_parent m)
+  pub apart : m.copy ≢ m.successor.parent
+  pub deletes : is_delete op ≡ true
+
 abbrev pub Shifting : Own → View → Moving → Bool → Option Commit → Type 0
-Shifting o v m waited commit = (v.section ≡ None) × (v.commit ≡ commit) × (v.hands.reserved ≡ false) × (v.hands.owes ≡ false)
-    × (v.hands.hand ≡ None) × (o.hand ≡ None)
-    × IsMove v.moving (key_now o) m waited × (o.locks ≡ m.copy ∷ all_locks m.node m.successor) × Holds v.locks (move_parent m)
-    × (m.copy ≢ m.successor.parent) × (is_delete o.op ≡ true)
+Shifting o v m waited commit = ShiftingParts m waited commit o.op o.hand o.locks
+    v.section v.commit v.moving v.hands.reserved v.hands.owes v.hands.hand v.locks
 
 -- the place's wait is for the readers that may pass the old successor, and has excused the places below this one
 pub record OutlastsMove (wait : Waiting) (moving : Option moves.Move) (low high clock p : ℕ) : Type 0 where

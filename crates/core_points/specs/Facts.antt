@@ -10,6 +10,7 @@ use Rattle.core_state.specs.declared.words.Field.TheVariants.{Stamp, State, Life
 use Rattle.core_state.specs.declared.view.Held.{Held}
 use Rattle.core_state.specs.declared.view.HeldLock.{HeldLock}
 use Rattle.core_state.specs.declared.view.Known.{Known}
+use Rattle.core_state.specs.declared.view.Move.{Move}
 use Rattle.core_state.specs.declared.view.Reading.{Reading}
 use Rattle.core_state.specs.declared.view.Retired.{Retired}
 use Rattle.core_state.specs.declared.view.Section.{Section}
@@ -84,9 +85,16 @@ HandFits None life key value hand = hand ≡ None
 HandFits (Some s) life key value hand = (held : Held) × (hand ≡ Some held) × IsLeaf held s life key value
 
 -- nothing is under way but this much: locks, the front odd, a reservation
+pub record BareParts (locks : List HeldLock) (commit : Option Commit) (reserved : Bool) (held : List HeldLock) (turn : Option Commit)
+    (moving : Option Move) (reserves owes : Bool) : Type 0 where
+  pub locks_are : held ≡ locks
+  pub turn_is : turn ≡ commit
+  pub settled : moving ≡ None
+  pub reserved_is : reserves ≡ reserved
+  pub paid : owes ≡ false
+
 abbrev pub Bare : View → List HeldLock → Option Commit → Bool → Type 0
-Bare v locks commit reserved = (v.locks ≡ locks) × (v.commit ≡ commit) × (v.moving ≡ None) × (v.hands.reserved ≡ reserved)
-    × (v.hands.owes ≡ false)
+Bare v locks commit reserved = BareParts locks commit reserved v.locks v.commit v.moving v.hands.reserved v.hands.owes
 
 -- an open section that searches for a key, and where its search stands
 pub record Stands (section : Section) (key : ℕ) (state : SearchState) : Type 0 where
@@ -103,10 +111,14 @@ abbrev pub Nothing : Section → Type 0
 Nothing section = Unit {0}
 
 -- a section that was left recorded an empty side of one of so many slots
-abbrev pub HasSpot : ℕ → List Reading → ℕ → Spot → Type 0
-HasSpot n records key spot = (r : Reading) × IsIn records r × (r.key ≡ key) × (r.state ≡ Missed spot.slot spot.side)
-    × LoadedGeneration r spot.slot spot.generation
-    × (known_in r.loads (Tag spot.slot spot.side) ≡ Some spot.tag) × (spot.slot < n)
+pub record HasSpot (n : ℕ) (records : List Reading) (key : ℕ) (spot : Spot) : Type 0 where
+  pub reading : Reading
+  pub kept : IsIn records reading
+  pub key_is : reading.key ≡ key
+  pub missed : reading.state ≡ Missed spot.slot spot.side
+  pub recorded : LoadedGeneration reading spot.slot spot.generation
+  pub tag_is : known_in reading.loads (Tag spot.slot spot.side) ≡ Some spot.tag
+  pub inside : spot.slot < n
 
 -- the one lock of a put or a set, with what was loaded and stored under it
 abbrev pub one_lock : ℕ → List Known → List HeldLock
@@ -185,22 +197,59 @@ abbrev pub Outlasting : Own → View → ℕ → ℕ → Type 0
 Outlasting o v clock p = (wait : Waiting) × (v.wait ≡ Some wait) × Outlasts wait v.hands.retired clock p
 
 -- Outside a section, with no slot in hand and no move: what holds before and after an update under locks.
+pub record QuietParts (commit : Option Commit) (o_hand : Option ℕ) (section : Option Section) (turn : Option Commit) (moving : Option Move)
+    (reserved owes : Bool) (hand : Option Held) : Type 0 where
+  pub outside : section ≡ None
+  pub turn_is : turn ≡ commit
+  pub settled : moving ≡ None
+  pub unreserved : reserved ≡ false
+  pub paid : owes ≡ false
+  pub empty : hand ≡ None
+  pub no_hand : o_hand ≡ None
+
 abbrev pub Quiet : Own → View → Option Commit → Type 0
-Quiet o v commit = (v.section ≡ None) × (v.commit ≡ commit) × (v.moving ≡ None) × (v.hands.reserved ≡ false) × (v.hands.owes ≡ false)
-    × (v.hands.hand ≡ None) × (o.hand ≡ None)
+Quiet o v commit = QuietParts commit o.hand v.section v.commit v.moving v.hands.reserved v.hands.owes v.hands.hand
 
 abbrev pub HasLocks : Own → Type 0
 HasLocks o = is_none_left o.locks ≡ false
 
 -- before a lock is given up
+pub record UnlockingParts (o_locks : List ℕ) (section : Option Section) (turn : Option Commit) (moving : Option Move) (reserved owes : Bool)
+    (locks : List HeldLock) : Type 0 where
+  pub outside : section ≡ None
+  pub no_turn : turn ≡ None
+  pub settled : moving ≡ None
+  pub unreserved : reserved ≡ false
+  pub paid : owes ≡ false
+  pub clear : AreClear locks
+  pub some : is_none_left o_locks ≡ false
+
 abbrev pub Unlocking : Own → View → Type 0
-Unlocking o v = (v.section ≡ None) × (v.commit ≡ None) × (v.moving ≡ None) × (v.hands.reserved ≡ false) × (v.hands.owes ≡ false)
-    × AreClear v.locks × HasLocks o
+Unlocking o v = UnlockingParts o.locks v.section v.commit v.moving v.hands.reserved v.hands.owes v.locks
+
+-- outside a section, with a slot freed that isn't counted yet, and nothing else in hand or under way
+pub record OwingParts (o_hand : Option ℕ) (section : Option Section) (turn : Option Commit) (moving : Option Move) (reserves owes : Bool)
+    (hand : Option Held) (locks : List HeldLock) : Type 0 where
+  pub outside : section ≡ None
+  pub no_hand : o_hand ≡ None
+  pub empty : hand ≡ None
+  pub unlocked : locks ≡ []
+  pub no_turn : turn ≡ None
+  pub settled : moving ≡ None
+  pub unreserved : reserves ≡ false
+  pub owing : owes ≡ true
+
+abbrev pub Owing : Own → View → Type 0
+Owing o v = OwingParts o.hand v.section v.commit v.moving v.hands.reserved v.hands.owes v.hands.hand v.locks
 
 -- a section that was left found one of so many slots, and loaded its generation
-abbrev pub HasFound : ℕ → List Reading → ℕ → ℕ → ℕ → Type 0
-HasFound n records key s generation = (r : Reading) × IsIn records r × (r.key ≡ key)
-    × ((p : ℕ) × (b : Side) × (value : Option ℕ) × (r.state ≡ Found s p b value)) × LoadedGeneration r s generation × (s < n)
+pub record HasFound (n : ℕ) (records : List Reading) (key s generation : ℕ) : Type 0 where
+  pub reading : Reading
+  pub kept : IsIn records reading
+  pub key_is : reading.key ≡ key
+  pub found : (p : ℕ) × (b : Side) × (value : Option ℕ) × (reading.state ≡ Found s p b value)
+  pub recorded : LoadedGeneration reading s generation
+  pub inside : s < n
 
 -- a set that has a record, and this much under way
 abbrev pub Setting : Own → View → ℕ → ℕ → List HeldLock → Option Commit → Type 0

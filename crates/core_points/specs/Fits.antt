@@ -1,6 +1,6 @@
 -- What the view of a caller knows at each point of its program: enough for the step that it makes there.
 -- Source: docs/TREE_CALLS.md, "The calls".
-use Rattle.std.specs.Prelude.{◌≡◌, ◌≢◌, ℕ, ◌+◌, ◌*◌, ◌%◌, ◌<◌, ◌≤◌, ◌==◌, if◌then◌else◌, Bool, true, false, List, [], ◌∷◌, length, Option, Some, None}
+use Rattle.std.specs.Prelude.{◌≡◌, ◌≢◌, ℕ, ◌+◌, ◌*◌, ◌%◌, ◌<◌, ◌≤◌, ◌==◌, Bool, true, false, List, [], ◌∷◌, length, Option, Some, None}
 use Rattle.prcu_marks.specs.declared.mark.Side.{Side}
 use Rattle.prcu_marks.specs.declared.mark.Side.TheVariants.{Left, Right}
 use Rattle.prcu_model.specs.declared.operation.Op.TheVariants.{Get}
@@ -26,10 +26,9 @@ use Rattle.core_points.specs.declared.stage.Stage.TheVariants as at
 use Rattle.core_state.specs.steps.Slots.{seized}
 use Rattle.core_points.specs.declared.stage.Moving.{Moving}
 use Rattle.core_points.specs.Callers.{Own, key_now, value_in, or_root, is_some, is_none_left}
-use Rattle.core_points.specs.DeletePlan.{target_locks}
-use Rattle.core_points.specs.Facts.{is_put, is_delete, is_set, table_of, read_at, leaf_held, Bare, Inside, Nothing, HasSpot, one_lock, spot_known, AreClear, Owns, Ready, Hand, Calm, Putting, Idle, ForAim, Outlasting, Quiet, HasLocks, Unlocking, Setting, set_known}
+use Rattle.core_points.specs.Facts.{is_put, is_delete, is_set, table_of, read_at, leaf_held, Bare, Inside, Nothing, HasSpot, one_lock, spot_known, AreClear, Owns, Ready, Hand, Calm, Putting, Idle, ForAim, Outlasting, Owing, Quiet, HasLocks, Unlocking, Setting, set_known}
 use Rattle.core_points.specs.Tickets.{owed}
-use Rattle.core_points.specs.DeleteFacts.{ReadsLives, WalksTo, ReadsParent, ReadsChildren, AreApart, HasTarget, Deleting, OnNode, under, first_locks, AreGot, HoldsAll, HasLoaded, IsLoadedNow, target_words, FewHold, IsUnmarked, ClearButMark, Bypassing, IsAside, KnowsSuccessor, HasCopy, all_locks, Copying, BeforeCopy, IsFilled, CopyMaking, Holds, Shifting, HoldsOld, OutlastingMove, Emptied, Anything, Relinked}
+use Rattle.core_points.specs.DeleteFacts.{ReadsLives, WalksTo, ReadsParent, ReadsChildren, AreApart, OnNode, under, IsUnmarked, ClearButMark, Bypassing, IsAside, KnowsSuccessor, HasCopy, all_locks, Copying, BeforeCopy, IsFilled, CopyMaking, Holds, Shifting, HoldsOld, OutlastingMove, Emptied, Anything, Relinked, TargetLocking, TargetLoading, FewMarking}
 
 abbrev pub PointLeave : Own → View → Then → Type 0
 PointLeave o v then.Absent = (is_put o.op ≡ false) × ((s : ℕ) × (b : Side) × Inside v (key_now o) (Missed s b) Nothing)
@@ -103,8 +102,7 @@ Point o at.Raise v = (v.section ≡ None) × ((s : ℕ) × (o.hand ≡ Some s)) 
 Point o at.Free v = (v.section ≡ None) × Bare v [] None false
     × ((s : ℕ) × (held : Held) × (o.hand ≡ Some s) × (held.slot ≡ s) × (held.raised ≡ true) × (v.hands.hand ≡ Some held))
     × (is_put o.op ≡ true)
-Point o at.Count v = (v.section ≡ None) × (o.hand ≡ None) × (v.hands.hand ≡ None) × (v.locks ≡ []) × (v.commit ≡ None) × (v.moving ≡ None)
-    × (v.hands.reserved ≡ false) × (v.hands.owes ≡ true) × (is_put o.op ≡ true)
+Point o at.Count v = Owing o v × (is_put o.op ≡ true)
 Point o (at.Begin (Reuse aim)) v = Idle o v × ForAim o v aim
 Point o (at.LookKey (Reuse aim) clock p) v = Idle o v × ForAim o v aim × (p < o.places) × Outlasting o v clock p
 Point o (at.LookStamp (Reuse aim) clock p key) v = Idle o v × ForAim o v aim × (p < o.places) × Outlasting o v clock p
@@ -115,9 +113,7 @@ Point o (at.OldRaise aim life) v = Idle o v × ForAim o v aim × Each v.hands.re
 Point o (at.OldFree aim) v = Idle o v × ForAim o v aim × Each v.hands.retired (λ (r : Retired). r.waited ≡ true)
     × ((r : Retired) × (rs : List Retired) × (v.hands.retired ≡ r ∷ rs) × (r.raised ≡ true) × Each rs (λ (x : Retired). x.raised ≡ false))
     × (is_some o.spare ≡ true)
-Point o (at.OldCount aim) v = (v.section ≡ None) × (o.hand ≡ None) × (v.hands.hand ≡ None) × (v.locks ≡ []) × (v.commit ≡ None)
-    × (v.moving ≡ None) × (v.hands.reserved ≡ false) × (v.hands.owes ≡ true) × ForAim o v aim
-    × Each v.hands.retired (λ (r : Retired). r.waited ≡ true)
+Point o (at.OldCount aim) v = Owing o v × ForAim o v aim × Each v.hands.retired (λ (r : Retired). r.waited ≡ true)
 -- a spare is taken
 Point o (at.Reserve Spare expected) v = Idle o v × (1 ≤ expected) × (is_delete o.op ≡ true) × (length o.retired < 15) × (o.spare ≡ None)
 Point o (at.Seize Spare) v = (v.section ≡ None) × Bare v [] None true × (v.hands.hand ≡ None) × (o.hand ≡ None) × (is_delete o.op ≡ true)
@@ -145,14 +141,10 @@ Point o (at.SuccessorParentLife d u) v = OnNode o v d.node d.parent d.side (λ r
 Point o (at.SuccessorLife d u) v = OnNode o v d.node d.parent d.side
     (λ r. WalksTo r d u × (AreApart d u → ReadsLives r d × ReadsParent r d u))
 -- its locks, and the loads under them
-Point o (at.TargetLock t i) v = Quiet o v None × Deleting o × HasTarget (table_of o) v.records (key_now o) t × AreClear v.locks
-    × (length v.locks ≡ i) × (o.locks ≡ first_locks t i) × AreGot t i v.locks × (i < target_locks t)
-Point o (at.TargetLoad t i found) v = Quiet o v None × Deleting o × HasTarget (table_of o) v.records (key_now o) t × AreClear v.locks
-    × (o.locks ≡ first_locks t (target_locks t)) × HoldsAll v.locks t × HasLoaded v.locks t i found × (i < target_words t.successor)
-    × IsLoadedNow t i
+Point o (at.TargetLock t i) v = TargetLocking o v t i
+Point o (at.TargetLoad t i found) v = TargetLoading o v t i found
 -- few children
-Point o (at.Mark d child) v = Quiet o v None × Deleting o × HasLocks o × AreClear v.locks × FewHold v.records v.locks (key_now o) d
-    × IsUnmarked v.locks d × (child ≡ (if d.left == 0 then d.right else d.left))
+Point o (at.Mark d child) v = FewMarking o v d child
 Point o (at.EmptyTag number s b) v = Quiet o v None × HasLocks o × Emptied v.locks s b Anything × (is_delete o.op ≡ true)
 Point o (at.EmptyRaise number s b tag) v = Quiet o v None × HasLocks o
     × Emptied v.locks s b (λ lock. known_in lock.known (Tag s b) ≡ Some tag) × (is_delete o.op ≡ true)

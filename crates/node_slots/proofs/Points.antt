@@ -56,11 +56,11 @@ may_take {e = e} {aim = aim} {v = v} a = by aim a.fits
   where
     by : (aim : Aim) → Fits a.own (at.Reserve aim e) v → MayTake v
     by (Leaf spot) f = let p = f.point in record {
-      unreserved = (p.1).3;
+      unreserved = (p.1).reserved_is;
       empty = p.2;
       ticket = (let t = f.tickets in let two = least_two a.own.retired spot in omega arith);
     }
-    by Spare f = let i = (f.point).0 in record { unreserved = (i.1).3; empty = i.2; ticket = (let t = f.tickets in omega arith) }
+    by Spare f = let i = (f.point).0 in record { unreserved = (i.1).reserved_is; empty = i.2; ticket = (let t = f.tickets in omega arith) }
     by Room f = absurd f.point
 
 -- A take makes steps.
@@ -147,7 +147,7 @@ module _ {k : Shape} {v w : View} (none : FoundNone k v w) where
 
   -- A put answers Full, where nothing is retired; then the dictionary is as large as that asks for.
   pub none_is_full : {op : Op} {kept e : ℕ} {spot : Spot} → IsAt k op kept (at.Reserve (Leaf spot) e) v → IsFull k w
-  none_is_full a = let b = (a.fits.point).1 in none.full b.2 b.4
+  none_is_full a = let b = (a.fits.point).1 in none.full b.settled b.paid
 
   pub none_ends : {op : Op} {kept e : ℕ} {spot : Spot} → IsAt k op kept (at.Reserve (Leaf spot) e) v → IsDone k op kept w
   none_ends {spot = spot} a =
@@ -205,7 +205,7 @@ may_put_back {v = v} a =
     let p = a.fits.point in
     let calm = p.2 in
     let leaf = subst (λ x. HandFits x o.hand_life (key_now o) (value_in o.op) v.hands.hand) (p.1).1 calm.1 in
-    record { paid = (calm.0).4; hand = (leaf.0, leaf.1, (leaf.2).unraised) }
+    record { paid = (calm.0).paid; hand = (leaf.0, leaf.1, (leaf.2).unraised) }
 
 module _ {slot : ℕ} {v w : View} (back : PutsBack v slot w) where
   pub back_gone : HasGone v w []
@@ -269,9 +269,9 @@ may_reclaim a =
     let b = i.1 in
     record {
       outside = i.0;
-      unlocked = b.0;
-      settled = b.2;
-      paid = b.4;
+      unlocked = b.locks_are;
+      settled = b.settled;
+      paid = b.paid;
       ticket = (let t = f.tickets in omega arith);
       unraised = f.unraised refl;
     }

@@ -88,7 +88,7 @@ module _ {k : Shape} {kept n : ℕ} {v w : View} where
   updated_leaf {key} {value} {leaf} {front} a t =
       updated t.marks [] (Put key value) front refl refl (further v _ t.goes refl) t.sees (allowed t.goes refl)
       (ap (λ (z : View). z.seen) t.goes)
-      ((t.gains).found (record { found = front; stored = false }) (((a.fits).point).2).1)
+      ((t.gains).found (record { found = front; stored = false }) (((a.fits).point).2).turn_is)
 
   -- a set's value was the key's, as the set loaded it
   pub updated_value : {key value s old front : ℕ} → IsAt k (Set key value) kept (at.Store (update.Value s old) front) v
@@ -97,7 +97,7 @@ module _ {k : Shape} {kept n : ℕ} {v w : View} where
   updated_value {key} {value} {s} {old} {front} a t = (
     updated t.marks [] (Set key value) front refl refl (further v _ t.goes refl) t.sees (allowed t.goes refl)
         (ap (λ (z : View). z.seen) t.goes)
-        (((t.gains).counted).found (record { found = front; stored = false }) ((((a.fits).point).1).0).1),
+        (((t.gains).counted).found (record { found = front; stored = false }) ((((a.fits).point).1).0).turn_is),
     (t.gains).was old (the_value v s ((a.fits).point).0 old (((a.fits).point).1).1),
   )
 

@@ -95,7 +95,13 @@ module _ (k : Shape) (op : Op) (kept : ℕ) (v : View) (quiet : IsQuiet v) (work
     };
     outside = quiet.section;
     empty = refl;
-    bare = (quiet.locks, quiet.commit, quiet.moving, quiet.reserved, quiet.owes);
+    bare = record {
+      locks_are = quiet.locks;
+      turn_is = quiet.commit;
+      settled = quiet.moving;
+      reserved_is = quiet.reserved;
+      paid = quiet.owes;
+    };
     no_hand = quiet.hand;
     unraised = none_raised v.hands.retired quiet.raised;
   }
@@ -177,12 +183,12 @@ is_quiet {v = v} a =
     let bare = p.1 in
     record {
       section = p.0;
-      locks = bare.0;
-      reserved = bare.3;
+      locks = bare.locks_are;
+      reserved = bare.reserved_is;
       hand = p.2;
-      moving = bare.2;
-      owes = bare.4;
-      commit = bare.1;
+      moving = bare.settled;
+      owes = bare.paid;
+      commit = bare.turn_is;
       raised = all_unraised v.hands.retired ((a.fits).unraised refl);
     }
 

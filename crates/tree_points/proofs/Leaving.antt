@@ -42,5 +42,19 @@ module _ (k : Shape) (op : Op) (kept : ℕ) (v w : View) (e : HasLeft v w) where
         let to : Own = go a.own (at.TargetLock t 0) in
         let f : Fits to (at.TargetLock t 0) left = left_fits to
         (next_delete k [] a.own v 0 t (stood a.own a.slots_are a.places_are) a.fits) in
-        moves_on a to refl (subst (Fits to (at.TargetLock t 0)) (sym same_view)
-        (record { owns = f.owns; tickets = f.tickets; unraised = f.unraised; point = f.point }))
+        let p = f.point in
+        moves_on a to refl (subst (Fits to (at.TargetLock t 0)) (sym same_view) (record {
+          owns = f.owns;
+          tickets = f.tickets;
+          unraised = f.unraised;
+          point = record {
+            quiet = p.quiet;
+            deleting = p.deleting;
+            target = p.target;
+            clear = p.clear;
+            long = p.long;
+            locks_are = p.locks_are;
+            got = p.got;
+            more = p.more;
+          };
+        }))

@@ -29,7 +29,7 @@ use Rattle.list_laws.specs.Counts.{times}
 use Rattle.prcu_model.specs.declared.operation.Reply.{Reply}
 use Rattle.prcu_model.specs.declared.operation.Reply.TheVariants.{New, Gone, Was}
 use Rattle.core_points.specs.DeleteFacts.{all_locks, first_locks}
-use Rattle.core_points.specs.Facts.{SameLocks, one_lock}
+use Rattle.core_points.specs.Facts.{SameLocks, one_lock, Unlocking}
 use Rattle.core_points.specs.Fits.{PointUnlock, plain}
 use Rattle.core_points.specs.Tickets.{owed_last}
 use Rattle.core_points.specs.Programs.{answer, begun_with, past_lock}
@@ -41,11 +41,11 @@ holds_one v s known e = record { same = λ x. ap (λ (ls : List HeldLock). times
 
 pub locks_leaf_tag : {k : Shape} {op : Op} {kept life link : ℕ} {v : View} {spot : Spot} → IsAt k op kept (at.LeafTag spot life link) v
     → HasLocks (spot.slot ∷ []) v
-locks_leaf_tag {v = v} {spot = spot} a = holds_one v spot.slot _ (((a.fits).point).2).0
+locks_leaf_tag {v = v} {spot = spot} a = holds_one v spot.slot _ (((a.fits).point).2).locks_are
 
 pub locks_store_leaf : {k : Shape} {op : Op} {kept front : ℕ} {v : View} {spot : Spot}
     → IsAt k op kept (at.Store (update.Leaf spot) front) v → HasLocks (spot.slot ∷ []) v
-locks_store_leaf {v = v} {spot = spot} a = holds_one v spot.slot _ (((a.fits).point).2).0
+locks_store_leaf {v = v} {spot = spot} a = holds_one v spot.slot _ (((a.fits).point).2).locks_are
 
 pub locks_set_check : {k : Shape} {op : Op} {kept s generation : ℕ} {v : View} → IsAt k op kept (at.SetCheck s generation) v
     → HasLocks (s ∷ []) v
@@ -58,7 +58,7 @@ locks_store_value {s = s} {v = v} a = holds_one v s _ (((a.fits).point).1).1
 -- those of a delete are the first of its target's, the latest first
 pub locks_target_lock : {k : Shape} {op : Op} {kept i : ℕ} {v : View} {t : Target} → IsAt k op kept (at.TargetLock t i) v
     → HasLocks (first_locks t i) v
-locks_target_lock {v = v} a = record { same = subst (λ xs. SameLocks xs v.locks) ((a.fits).point).5 ((a.fits).owns).locks_are }
+locks_target_lock {v = v} a = record { same = subst (λ xs. SameLocks xs v.locks) ((a.fits).point).locks_are ((a.fits).owns).locks_are }
 
 pub locks_copy_lock : {k : Shape} {op : Op} {kept next_key : ℕ} {v : View} {d : Node} {u : Successor}
     → IsAt k op kept (at.CopyLock d u next_key) v → HasLocks (all_locks d u) v
@@ -93,7 +93,7 @@ pub passes_leaf_lock_busy : {k : Shape} {op : Op} {kept n : ℕ} {v w : View} {s
 passes_leaf_lock_busy {n = n} {v = v} {spot = spot} busy a t =
     passes_as (at.LeafLock spot) at.EnterClock (acts.Lock spot.slot) a refl refl
     (busy_stage a.own spot.slot n (at.LeafLife spot) true busy
-    (ap is_none_left (no_locks a.own v (a.fits).owns (((a.fits).point).2).0))) t
+    (ap is_none_left (no_locks a.own v (a.fits).owns (((a.fits).point).2).locks_are))) t
 
 pub needs_set_lock : {k : Shape} {op : Op} {kept : ℕ} {v : View} {s generation : ℕ} → IsAt k op kept (at.SetLock s generation) v
     → TellsNow k v → Asks k v (acts.Lock s)
@@ -129,14 +129,14 @@ pub passes_target_lock_first : {k : Shape} {op : Op} {kept n : ℕ} {v w : View}
 passes_target_lock_first {n = n} {t = target} busy a t =
     let next : Stage = if 0 + 1 == target_locks target then at.TargetLoad target 0 nothing_found else at.TargetLock target (0 + 1) in
     passes_as (at.TargetLock target 0) at.EnterClock (acts.Lock (target_lock target 0)) a refl refl
-    (busy_stage a.own (target_lock target 0) n next true busy (ap is_none_left ((a.fits).point).5)) t
+    (busy_stage a.own (target_lock target 0) n next true busy (ap is_none_left ((a.fits).point).locks_are)) t
 
 pub passes_target_lock_busy : {k : Shape} {op : Op} {kept n : ℕ} {v w : View} {t : Target} (i : ℕ) → 1 ≤ i → n ≢ 0
     → IsAt k op kept (at.TargetLock t i) v → Told k v (acts.Lock (target_lock t i)) n w → IsAt k op kept (at.Unlock last.Again) w
 passes_target_lock_busy {n = n} {t = target} i some busy a t =
     let next : Stage = if i + 1 == target_locks target then at.TargetLoad target 0 nothing_found else at.TargetLock target (i + 1) in
     passes_as (at.TargetLock target i) (at.Unlock last.Again) (acts.Lock (target_lock target i)) a refl refl
-    (busy_stage a.own (target_lock target i) n next false busy (ap is_none_left ((a.fits).point).5 ∙ more i some)) t
+    (busy_stage a.own (target_lock target i) n next false busy (ap is_none_left ((a.fits).point).locks_are ∙ more i some)) t
   where
     more : (i : ℕ) → 1 ≤ i → is_none_left (first_locks target i) ≡ false
     more zero some = absurd (omega arith)
@@ -159,11 +159,22 @@ relocked_fits o v l s rest has f = record {
     paid (last.Gone number) f = f.tickets
     paid (last.Was value number) f = f.tickets
 
+    still : Unlocking o v → Unlocking (record o { locks = s ∷ rest }) v
+    still u = record {
+      outside = u.outside;
+      no_turn = u.no_turn;
+      settled = u.settled;
+      unreserved = u.unreserved;
+      paid = u.paid;
+      clear = u.clear;
+      some = refl;
+    }
+
     point : (l : Last) → Fits o (at.Unlock l) v → PointUnlock (record o { locks = s ∷ rest }) (plain v) l
-    point last.Again f = let u = (f.point).0 in ((u.0, u.1, u.2, u.3, u.4, u.5, refl), (f.point).1, (f.point).2)
-    point (last.New number) f = let u = (f.point).0 in ((u.0, u.1, u.2, u.3, u.4, u.5, refl), (f.point).1, (f.point).2, (f.point).3)
-    point (last.Gone number) f = let u = (f.point).0 in ((u.0, u.1, u.2, u.3, u.4, u.5, refl), (f.point).1, (f.point).2, (f.point).3)
-    point (last.Was value number) f = let u = (f.point).0 in ((u.0, u.1, u.2, u.3, u.4, u.5, refl), (f.point).1, (f.point).2, (f.point).3)
+    point last.Again f = (still (f.point).0, (f.point).1, (f.point).2)
+    point (last.New number) f = (still (f.point).0, (f.point).1, (f.point).2, (f.point).3)
+    point (last.Gone number) f = (still (f.point).0, (f.point).1, (f.point).2, (f.point).3)
+    point (last.Was value number) f = (still (f.point).0, (f.point).1, (f.point).2, (f.point).3)
 
 abbrev relocked : {k : Shape} {op : Op} {kept : ℕ} {v : View} {l : Last} (s : ℕ) (rest : List ℕ) → HasLocks (s ∷ rest) v
     → IsAt k op kept (at.Unlock l) v → IsAt k op kept (at.Unlock l) v

@@ -49,7 +49,13 @@ module _ (o : Own) (v w : View) (aim : Aim) (f : Fits o (at.Begin (Reuse aim)) v
   idle = (f.point).0
 
   bare : Bare w [] None false
-  bare = let b = idle.1 in (r.locks ∙ b.0, r.commit ∙ b.1, r.moving ∙ b.2, r.reserved ∙ b.3, r.owes ∙ b.4)
+  bare = let b = idle.1 in record {
+    locks_are = r.locks ∙ b.locks_are;
+    turn_is = r.commit ∙ b.turn_is;
+    settled = r.moving ∙ b.settled;
+    reserved_is = r.reserved ∙ b.reserved_is;
+    paid = r.owes ∙ b.paid;
+  }
 
   some_spare : (held : Option Held) → held ≢ None → is_some (spare_slot held) ≡ true
   some_spare None ne = absurd (ne refl)

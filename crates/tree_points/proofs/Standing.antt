@@ -17,7 +17,7 @@ pub outside_enter : {k : Shape} {op : Op} {kept : ℕ} {v : View} → IsAt k op 
 outside_enter a = ((a.fits).point).0
 
 pub unlocked_enter : {k : Shape} {op : Op} {kept : ℕ} {v : View} → IsAt k op kept at.EnterClock v → v.locks ≡ []
-unlocked_enter a = ((((a.fits).point).1).0).0
+unlocked_enter a = ((((a.fits).point).1).0).locks_are
 
 pub inside_leave : {k : Shape} {op : Op} {kept : ℕ} {next : Then} {v : View} → IsAt k op kept (at.Leave next) v
     → (section : Section) × (v.section ≡ Some section)

@@ -15,7 +15,7 @@ use Rattle.core_state.specs.declared.view.Retired.{Retired}
 use Rattle.core_state.specs.declared.view.Waiting.{Waiting}
 use Rattle.core_state.specs.steps.Waits.{new_wait, waited_move, waited_retired}
 use Rattle.core_points.specs.DeleteFacts.{OutlastsMove}
-use Rattle.core_points.proofs.MoveWaits.{graced_move}
+use Rattle.core_points.proofs.MoveWaits.{graced_move, shifting_waited}
 use Rattle.core_points.proofs.Reclaim.{each_map, same_slots}
 use Rattle.seat_table.specs.Sections.{HasBegun}
 use Rattle.seat_table.specs.Waits.{HasWaited, IsOver}
@@ -108,19 +108,7 @@ waits_move {k} {op} {kept} {v} {w} {m} a waited =
           unraised = λ z. each_map (waited_retired wait) (λ (r : Retired). r.raised ≡ false)
               (λ (r : Retired). r.raised ≡ false) v.hands.retired (λ r q. q) (f.unraised refl);
           point = (
-            (
-              s.0,
-              s.1,
-              s.2,
-              s.3,
-              s.4,
-              s.5,
-              graced_move (record wait { ended = false }) v.moving (key_now o) m wait.clock 0 s.6 out,
-              s.7,
-              s.8,
-              s.9,
-              s.10,
-            ),
+            shifting_waited s (graced_move (record wait { ended = false }) v.moving (key_now o) m wait.clock 0 s.move out),
             (f.point).1,
             (f.point).2,
           );

@@ -56,12 +56,12 @@ child_fits : {k : Shape} {op : Op} {kept : ℕ} {v : View} {h : List Mark} {word
 child_fits {k} {op} {kept} {v} d a told = by (d.left == 0)
   where
     life : known_in (known_under v d.node) (Life d.node) ≡ Some (2 * d.generation)
-    life = loaded_known (known_under v d.node) (Life d.node) (2 * d.generation) (a.fits.point).5
+    life = loaded_known (known_under v d.node) (Life d.node) (2 * d.generation) (a.fits.point).unmarked
 
     by : (z : Bool) → cond z d.right d.left < 4294967296
-    by true = let f = (a.fits.point).4 in (told.links_within f.0 d.node d.generation f.2.kept f.2.recorded life Right d.right
+    by true = let f = (a.fits.point).few in (told.links_within f.0 d.node d.generation f.2.kept f.2.recorded life Right d.right
         (loaded_known (known_under v d.node) (Link d.node Right) d.right f.2.right)).1
-    by false = let f = (a.fits.point).4 in (told.links_within f.0 d.node d.generation f.2.kept f.2.recorded life Left d.left
+    by false = let f = (a.fits.point).few in (told.links_within f.0 d.node d.generation f.2.kept f.2.recorded life Left d.left
         (loaded_known (known_under v d.node) (Link d.node Left) d.left f.2.left)).1
 
 -- so the number that is taken for it is it
@@ -80,11 +80,11 @@ module _ {k : Shape} {op : Op} {kept : ℕ} (d : Node) (child : ℕ) (is : child
 -- with the front to be opened, and open
 pub bypass_paid : {k : Shape} {op : Op} {kept child e : ℕ} {v : View} (d : Node) → IsAt k op kept (at.Commit (update.Bypass d child) e) v
     → (v.moving ≡ None) × (v.commit ≡ None)
-bypass_paid d a = let q = ((a.fits.point).0).0 in (q.2, q.1)
+bypass_paid d a = let q = ((a.fits.point).0).0 in (q.settled, q.turn_is)
 
 pub bypass_odd : {k : Shape} {op : Op} {kept child front : ℕ} {v : View} (d : Node)
     → IsAt k op kept (at.Even (update.Bypass d child) front) v → v.commit ≡ Some (record { found = front; stored = true })
-bypass_odd d a = ((a.fits.point).0).1
+bypass_odd d a = ((a.fits.point).0).turn_is
 
 pub settled : {k : Shape} {op : Op} {kept number child : ℕ} {v : View} (slot : ℕ) (b : Side) → child ≢ 0
     → IsAt k op kept (relinked_at number slot b child) v → IsAt k op kept (at.Unlock (last.Gone number)) v

@@ -50,7 +50,7 @@ module _ (v w : View) (slot : ℕ) (more : retired_slots w ≡ retired_slots v +
 pub few_listed : {k : Shape} {op : Op} {kept : ℕ} (s : SeatAt) (d : Node) → IsAt k op kept (deleting d None) s.view → AreListed s
     → length s.listed < 15
 few_listed s d a listed =
-    let room : length a.own.retired < 15 = ((a.fits.point).1).1.room ((a.fits.point).1).0 in
+    let room : length a.own.retired < 15 = ((a.fits.point).deleting).1.room ((a.fits.point).deleting).0 in
     let same : length (map (λ (r : Retired). r.slot) s.view.hands.retired) ≡ length a.own.retired = ap length a.fits.owns.retired_are in
     let long = listed_length s listed in
     let slots = slots_length s.view.hands.retired in

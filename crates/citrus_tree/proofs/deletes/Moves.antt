@@ -18,7 +18,7 @@ use Rattle.citrus_tree.specs.Deletes.{retired_slots}
 use Rattle.node_slots.proofs.Listed.{not_in}
 
 pub move_outside : {k : Shape} {kept key : ℕ} {v : View} (m : Moving) → IsAt k (Del key) kept (at.Begin (waits.Move m)) v → v.section ≡ None
-move_outside m a = ((a.fits.point).0).0
+move_outside m a = ((a.fits.point).0).outside
 
 pub move_paid : {k : Shape} {kept key : ℕ} {v : View} (m : Moving) → IsAt k (Del key) kept (at.Begin (waits.Move m)) v
     → 1 ≤ v.allowance.tickets

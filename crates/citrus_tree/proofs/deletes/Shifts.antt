@@ -28,19 +28,19 @@ use Rattle.citrus_tree.proofs.deletes.Updates.{unlinked_gone}
 
 pub copy_paid : {k : Shape} {op : Op} {kept next_key copy e : ℕ} {v : View} (d : Node) (u : Successor)
     → IsAt k op kept (at.Commit (update.Copy d u next_key copy) e) v → (v.moving ≡ None) × (v.commit ≡ None)
-copy_paid d u a = let q = (((a.fits.point).0).0).0 in (q.2, q.1)
+copy_paid d u a = let q = (((a.fits.point).0).0).0 in (q.settled, q.turn_is)
 
 pub copy_odd : {k : Shape} {op : Op} {kept next_key copy front : ℕ} {v : View} (d : Node) (u : Successor)
     → IsAt k op kept (at.Even (update.Copy d u next_key copy) front) v → v.commit ≡ Some (record { found = front; stored = true })
-copy_odd d u a = ((a.fits.point).0).1
+copy_odd d u a = ((a.fits.point).0).turn_is
 
 -- the right of the old successor is a slot, or there is none: its number fits 32 bits
 right_fits : {k : Shape} {op : Op} {kept child : ℕ} {v : View} {h : List Mark} {word : Field → ℕ} (m : Moving)
     → IsAt k op kept (at.Unlink m child) v → IsToldOf k.slots k.places v h word → child < 4294967296
 right_fits {child = child} {v = v} m a told =
     let p = a.fits.point in
-    let i = (p.0).6 in
-    (told.old_links_within i.0 i.1 Right child (subst (λ s. known_in (known_under v s) (Link s Right) ≡ Some child) (sym i.5) p.3)).1
+    let i = (p.0).move in
+    (told.old_links_within i.move i.is Right child (subst (λ s. known_in (known_under v s) (Link s Right) ≡ Some child) (sym i.old_is) p.3)).1
 
 -- so the number that is taken for it is it
 pub unlinking : {k : Shape} {op : Op} {kept right child : ℕ} {v : View} {h : List Mark} {word : Field → ℕ} (m : Moving)

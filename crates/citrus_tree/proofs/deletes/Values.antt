@@ -54,29 +54,29 @@ few_at : {k : Shape} {op : Op} {kept : ℕ} {v : View} (d : Node) (n : ℕ) → 
 few_at {k} {op} {kept} {v} d n a =
     let o : Own = a.own in
     let p = a.fits.point in
-    let few = p.4 in
+    let few = p.few in
     let kn : Known = read_at (Value d.node) n in
     let now : List HeldLock = change_lock d.node (note_lock kn) v.locks in
     moves_on a o refl (record {
       owns = owns_noted o v d.node (Value d.node) n false a.fits.owns;
       tickets = a.fits.tickets;
       unraised = λ z. a.fits.unraised refl;
-      point = (
-        quiet_noted o v d.node (Value d.node) n false None p.0,
-        p.1,
-        p.2,
-        clear_changed d.node (note_lock kn) (λ l c. c) v.locks p.3,
-        (
+      point = record {
+        quiet = quiet_noted o v d.node (Value d.node) n false None p.quiet;
+        deleting = p.deleting;
+        has_locks = p.has_locks;
+        clear = clear_changed d.node (note_lock kn) (λ l c. c) v.locks p.clear;
+        few = (
           few.0,
           few.1,
           node_to v.records v.locks now few.0 d (λ x e. loaded_more v.locks d.node kn d.parent (Life d.parent) x refl e)
               (λ b x e. loaded_more v.locks d.node kn d.parent (Link d.parent b) x refl e)
               (λ b x e. loaded_more v.locks d.node kn d.node (Link d.node b) x refl e) few.2,
           few.3,
-        ),
-        loaded_more v.locks d.node kn d.node (Life d.node) (2 * d.generation) refl p.5,
-        p.6,
-      );
+        );
+        unmarked = loaded_more v.locks d.node kn d.node (Life d.node) (2 * d.generation) refl p.unmarked;
+        child_is = p.child_is;
+      };
     })
 
 successor_still : (ls : List HeldLock) (s : ℕ) (kn : Known) (r : Reading) (d : Node) (u : Successor)
@@ -137,7 +137,7 @@ both_at {k} {op} {kept} {v} d u n a =
 -- the node is locked
 node_locked : {k : Shape} {op : Op} {kept : ℕ} {v : View} (d : Node) (o : Option Successor) → IsAt k op kept (deleting d o) v
     → HasLock v d.node
-node_locked {v = v} d None a = let held = held_by_load v d.node (Life d.node) (2 * d.generation) (a.fits.point).5 in (held.0, held.1)
+node_locked {v = v} d None a = let held = held_by_load v d.node (Life d.node) (2 * d.generation) (a.fits.point).unmarked in (held.0, held.1)
 node_locked {v = v} d (Some u) a = let held = held_by_load v d.node (Life d.node) (2 * d.generation) (a.fits.point).1 in (held.0, held.1)
 
 pub loads_value : {k : Shape} {op : Op} {kept : ℕ} {v : View} (d : Node) (o : Option Successor) → IsAt k op kept (deleting d o) v

@@ -87,15 +87,15 @@ module _ {k : Shape} {kept key value : ℕ} {v : View} (a : IsAt k (Put key valu
       (by v.hands.hand refl)
     where
       has : HasSpot (table_of a.own) (left_view l).records (key_now a.own) spot
-      has = (
-        l.reading,
-        (0, refl),
-        l.sought ∙ sym (ap key_of a.op_is),
-        r.state_is,
-        r.generation_is,
-        r.tag_is,
-        (let s = a.slots_are in let p = a.places_are in omega arith),
-      )
+      has = record {
+        reading = l.reading;
+        kept = (0, refl);
+        key_is = l.sought ∙ sym (ap key_of a.op_is);
+        missed = r.state_is;
+        recorded = r.generation_is;
+        tag_is = r.tag_is;
+        inside = (let s = a.slots_are in let p = a.places_are in omega arith);
+      }
 
       by : (h : Option Held) → v.hands.hand ≡ h → IsAt k (Put key value) kept (leaf_stage h spot) (left_view l)
       by None e = moves_on a a.own refl (record {

@@ -72,16 +72,24 @@ module _ {k : Shape} {kept key value : ℕ} where
         tickets = a.fits.tickets;
         unraised = a.fits.unraised;
         point = (
-          (refl, bare.1, bare.2, bare.3, bare.4, none.1, none.0),
-          bare.0,
-          (
-            l.reading,
-            (0, refl),
-            l.sought ∙ sym (ap key_of a.op_is),
-            (found.0, found.1, None, found.2),
-            generation,
-            (let s = a.slots_are in let p = a.places_are in omega arith),
-          ),
+          record {
+            outside = refl;
+            turn_is = bare.turn_is;
+            settled = bare.settled;
+            unreserved = bare.reserved_is;
+            paid = bare.paid;
+            empty = none.1;
+            no_hand = none.0;
+          },
+          bare.locks_are,
+          record {
+            reading = l.reading;
+            kept = (0, refl);
+            key_is = l.sought ∙ sym (ap key_of a.op_is);
+            found = (found.0, found.1, None, found.2);
+            recorded = generation;
+            inside = (let s = a.slots_are in let p = a.places_are in omega arith);
+          },
           ap is_set a.op_is,
         );
       }))
@@ -154,10 +162,10 @@ module _ {k : Shape} {key kept value s g : ℕ} {v : View} (a : IsAt k (Set key 
             committing = passes_set_value valuing third 0 refl
 
             pub settled : z.moving ≡ None
-            settled = (((committing.fits.point).0).1).0.2
+            settled = (((committing.fits.point).0).1).0.settled
 
             pub unpaid : z.commit ≡ None
-            unpaid = (((committing.fits.point).0).1).0.1
+            unpaid = (((committing.fits.point).0).1).0.turn_is
 
             module _ {front : ℕ} {o : View} (odd : Opened z front o)
                 (storing : IsAt k (Set key value) kept (at.Store (update.Value s old) front) o) where

@@ -39,7 +39,7 @@ list_retired-requires-clause-unlocked g c =
     let a = c.requires.at in
     let p = passes_unlock (same_locks c.in_ok-number.ensures.locked c.requires.locked)
     (c.in_ok-number.ensures.at a.0 a.1) c.unlock.ensures.told in
-    no_lock c.unlock-2.new.seat.view c.args.node.node (((passes_unlock_gone p.1 p.0 c.unlock-2.ensures.told).fits.point).1).0
+    no_lock c.unlock-2.new.seat.view c.args.node.node (((passes_unlock_gone p.1 p.0 c.unlock-2.ensures.told).fits.point).1).locks_are
 
 pub list_retired-requires-clause-unlisted : goal.list_retired-requires-clause-unlisted
 list_retired-requires-clause-unlisted g c = λ told.

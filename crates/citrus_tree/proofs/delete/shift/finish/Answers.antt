@@ -48,7 +48,7 @@ list_retired-requires-clause-retired g c = in_slots c.unlock_all.new.seat.view.h
 pub list_retired-requires-clause-unlocked : goal.list_retired-requires-clause-unlocked
 list_retired-requires-clause-unlocked g c = no_lock c.unlock_all.new.seat.view c.args.moving.node.node
     ((((c.unlock_all.ensures.at _ _ (c.unlink_old.ensures.at _ _ (waits_move (c.requires.at).1
-    (waited_for (c.args.key + 1) c.args.moving.next_key c.between.ensures c.in_ok-wait_in_grace.ensures.waited))))).fits.point).1).0
+    (waited_for (c.args.key + 1) c.args.moving.next_key c.between.ensures c.in_ok-wait_in_grace.ensures.waited))))).fits.point).1).locks_are
 
 pub list_retired-requires-clause-unlisted : goal.list_retired-requires-clause-unlisted
 list_retired-requires-clause-unlisted g c = λ told there.
@@ -80,7 +80,7 @@ list_retired-requires-2-clause-unlocked g c =
     no_lock c.list_retired.new.self.view c.args.moving.successor.slot
     (ap (λ (x : View). x.locks) (c.list_retired.ensures.seat).1
     ∙ ((((c.unlock_all.ensures.at _ _ (c.unlink_old.ensures.at _ _ (waits_move (c.requires.at).1
-    (waited_for (c.args.key + 1) c.args.moving.next_key c.between.ensures c.in_ok-wait_in_grace.ensures.waited))))).fits.point).1).0)
+    (waited_for (c.args.key + 1) c.args.moving.next_key c.between.ensures c.in_ok-wait_in_grace.ensures.waited))))).fits.point).1).locks_are)
 
 pub list_retired-requires-2-clause-unlisted : goal.list_retired-requires-2-clause-unlisted
 list_retired-requires-2-clause-unlisted g c = λ told there.
