@@ -67,8 +67,8 @@ pub fn run_scripts<R: Threads + Wait + Sync, G: Gate + Sync>(
 {
     let capacities = capacities_for(alloc, scripts)?;
     let count = scripts.count();
-    let (table, seat) = HashTable::new(alloc, &capacities, count, u64::from(scripts.ops()))?;
     let mut told = Vec::with_capacity(alloc, count as usize)?;
+    let (table, seat) = HashTable::new(alloc, &capacities, count, u64::from(scripts.ops()))?;
     let workers = hire(alloc, &table, seat, gate, scripts)?;
     let seat = gather(&table, run_crew(rt, workers, scripts), &mut told);
     let history = merge(alloc, scripts, &told)?;
