@@ -1,8 +1,10 @@
 //! Workers for scripts, each with a seat of its own on one tree.
-ghost use Rattle.std.specs.Prelude.{◌≡◌, ℕ, ◌≤◌, length, IfOk};
+ghost use Rattle.std.specs.Prelude.{◌≡◌, ℕ, ◌≤◌, [], ◌∷◌, ◌++◌, length, IfOk};
 ghost use Rattle.prcu_model.specs.Scripts.{op_count};
+ghost use Rattle.client_run.specs.Workers.{Work};
 ghost use Rattle.client_run.specs.Crews.{IsHired, IsCrew};
 ghost use Rattle.seat_table.specs.Seats.{IsQuietSeat};
+ghost use Rattle.tree_run.specs.Callers.{ScriptClientAt};
 ghost use Rattle.tree_run.specs.Runs.{run_with, seat_for, client_for, tickets_for};
 
 use crate::client::{ScriptClient, tickets_for};
@@ -35,30 +37,33 @@ pub(crate) fn hire<'a, W: WaitPart, G: Gate>(
         let left = rest.tickets() - used;
         let (mine, others) = rest.split(table, last - i, left);
         rest = others;
-        workers.push(hire_one(alloc, table, mine, gate, script, cookies)?)?;
+        hire_one(&mut workers, alloc, table, mine, gate, script, cookies)?;
     }
-    workers.push(hire_one(alloc, table, rest, gate, scripts.script(last), cookies)?)?;
+    let script = scripts.script(last);
+    hire_one(&mut workers, alloc, table, rest, gate, script, cookies)?;
     Ok(workers)
 }
 
-// A worker for the script, with this seat.
+// Appends a worker for the script, with this seat.
 fn hire_one<'a, W: WaitPart, G: Gate>(
+    workers: &mut Vec<Worker<ScriptClient<'a, W, G>>>,
     alloc: Global,
     table: &'a CitrusTable<W>,
     seat: Seat<W>,
     gate: &'a G,
     script: &[Op],
     cookies: bool,
-) -> Result<Worker<ScriptClient<'a, W, G>>, NoMemory>
+) -> Result<(), NoMemory>
     requires table { seat.table ≡ table.now }
     requires quiet { IsQuietSeat seat }
     requires script { length script.now ≤ 1048576 }
     ensures { (place : ℕ) → seat ≡ seat_for table.now place 1 (tickets_for cookies (length script.now))
-        → IfOk result (λ worker. IsHired (client_for (run_with W.WAY cookies) table.now place (length script.now)) script.now worker) }
+        → IfOk result (λ done. (worker : Work ScriptClientAt)
+        × IsHired (client_for (run_with W.WAY cookies) table.now place (length script.now)) script.now worker
+        × (workers.new.items ≡ workers.old.items ++ worker ∷ [])) }
 {
-    Worker::new(
-        alloc,
-        ScriptClient::new(table, seat, gate, cookies),
-        script.len() as u32,
-    )
+    let client = ScriptClient::new(table, seat, gate, cookies);
+    let worker = Worker::new(alloc, client, script.len() as u32)?;
+    workers.push(worker)?;
+    Ok(())
 }

@@ -54,12 +54,11 @@ loop-i-preserved g c =
     ∙ (let n : c.count-last.result - 1 - c.loop-i.i ≡ length c.args.scripts.now - (c.loop-i.i + 1) = omega arith in
     λ j. seat_for c.args.table.now (c.loop-i.i + 1) (n j) (given j)) in
     let client_here = client_for (run_with g.W.WaitWords.WAY c.args.cookies) c.args.table.now in
-    let worker : IsHired (client_here c.loop-i.i (length c.script-script.result.now)) c.script-script.result.now c.in_ok-hire_one.field-0 =
-    c.in_ok-hire_one.ensures c.loop-i.i mine in
+    let hired = c.in_ok-hire_one.ensures c.loop-i.i mine in
     record {
-      hired = subst (AreHired client_here c.args.scripts.now (c.loop-i.i + 1)) (sym (c.in_ok-push.ensures.items))
-          (hired_more client_here c.args.scripts.now c.loop-i.i c.loop-i.workers.items c.in_ok-hire_one.field-0 c.loop-i.invariant.hired
-          (subst (λ (s : List Op). IsHired (client_here c.loop-i.i (length s)) s c.in_ok-hire_one.field-0) (sym is) worker));
+      hired = subst (AreHired client_here c.args.scripts.now (c.loop-i.i + 1)) (sym hired.2)
+          (hired_more client_here c.args.scripts.now c.loop-i.i c.loop-i.workers.items hired.0 c.loop-i.invariant.hired
+          (subst (λ (s : List Op). IsHired (client_here c.loop-i.i (length s)) s hired.0) (sym is) hired.1));
       quiet = c.split-mine.ensures.quiet.1;
       left = others;
     }
@@ -69,26 +68,24 @@ returns g c =
     let cookies = c.args.cookies in
     let scripts = c.args.scripts.now in
     let i = c.loop-i.i in
-    let script = c.script.result.now in
+    let script = c.script-script-2.result.now in
     let count = c.count-last.ensures.count in
     let end : c.loop-i.i ≡ c.count-last.result - 1 = (let past = c.loop-i-test.false in let inside = c.loop-i.auto.i-end in omega arith) in
-    let there : slice_get c.args.scripts.now c.loop-i.i ≡ Some c.script.result.now =
-    subst (λ n. slice_get c.args.scripts.now n ≡ Some c.script.result.now) (sym end) c.script.ensures.script in
+    let there : slice_get c.args.scripts.now c.loop-i.i ≡ Some c.script-script-2.result.now =
+    subst (λ n. slice_get c.args.scripts.now n ≡ Some c.script-script-2.result.now) (sym end) c.script-script-2.ensures.script in
     let turn = tickets_left cookies scripts i script there in
     let none : tickets_for c.args.cookies (op_count (drop (c.loop-i.i + 1) c.args.scripts.now)) ≡ 0 =
     ap (λ xs. tickets_for c.args.cookies (op_count xs)) (drop_all (c.loop-i.i + 1) c.args.scripts.now (omega arith))
     ∙ tickets_none cookies in
-    let is : get_or c.args.scripts.now c.loop-i.i [] ≡ c.script.result.now = get_or_from_slice_get scripts i script [] there in
-    let mine : c.loop-i.rest ≡ seat_for c.args.table.now c.loop-i.i 1 (tickets_for c.args.cookies (length c.script.result.now)) =
+    let is : get_or c.args.scripts.now c.loop-i.i [] ≡ c.script-script-2.result.now = get_or_from_slice_get scripts i script [] there in
+    let mine : c.loop-i.rest ≡ seat_for c.args.table.now c.loop-i.i 1 (tickets_for c.args.cookies (length c.script-script-2.result.now)) =
     c.loop-i.invariant.left
     ∙ (let n : length c.args.scripts.now - c.loop-i.i ≡ 1 = omega arith in
     let t : tickets_for c.args.cookies (op_count (drop c.loop-i.i c.args.scripts.now))
-    ≡ tickets_for c.args.cookies (length c.script.result.now) = omega arith in λ j. seat_for c.args.table.now c.loop-i.i (n j) (t j)) in
+    ≡ tickets_for c.args.cookies (length c.script-script-2.result.now) = omega arith in λ j. seat_for c.args.table.now c.loop-i.i (n j) (t j)) in
     let client_here = client_for (run_with g.W.WaitWords.WAY c.args.cookies) c.args.table.now in
-    let worker : IsHired (client_here c.loop-i.i (length c.script.result.now)) c.script.result.now c.in_ok-hire_one-2.field-0 =
-    c.in_ok-hire_one-2.ensures c.loop-i.i mine in
-    let all = hired_more client_here c.args.scripts.now c.loop-i.i c.loop-i.workers.items c.in_ok-hire_one-2.field-0
-    c.loop-i.invariant.hired
-    (subst (λ (s : List Op). IsHired (client_here c.loop-i.i (length s)) s c.in_ok-hire_one-2.field-0) (sym is) worker) in
-    subst (IsCrew client_here c.args.scripts.now) (sym (c.in_ok-push-2.ensures.items))
+    let hired = c.in_ok-hire_one-2.ensures c.loop-i.i mine in
+    let all = hired_more client_here c.args.scripts.now c.loop-i.i c.loop-i.workers.items hired.0 c.loop-i.invariant.hired
+    (subst (λ (s : List Op). IsHired (client_here c.loop-i.i (length s)) s hired.0) (sym is) hired.1) in
+    subst (IsCrew client_here c.args.scripts.now) (sym hired.2)
     (record { count = (let n = all.count in omega arith); each = all.each })

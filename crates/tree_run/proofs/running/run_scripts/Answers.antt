@@ -1,10 +1,13 @@
-use Rattle.std.proofs.Common.{refl, sym, subst, ◌∙◌}
+use Rattle.std.proofs.Common.{refl, sym, subst, ◌∙◌, arith}
+use Rattle.std.proofs.lemmas.List.{length-map}
 use Rattle.prcu_model.specs.Lists.{entries_of}
 use Rattle.prcu_model.specs.History.{IsLegal}
 use Rattle.prcu_model.specs.Slots.{StaysWithin}
 use Rattle.prcu_model.specs.Fronts.{all_told_lines, AreExplainable}
 use Rattle.prcu_marks.specs.Marks.{updates_of}
+use Rattle.client_run.specs.Workers.{Work}
 use Rattle.client_run.proofs.OwnUpdates.{AreOneToCount-own}
+use Rattle.tree_run.specs.Callers.{ScriptClientAt}
 use Rattle.tree_run.proofs.Finished.{alone_explained, alone_marks}
 use Rattle.tree_run.proofs.running.run_scripts.Goals as goal
 
@@ -56,6 +59,14 @@ returns-clause-within g c =
     let history = c.in_ok-history.ensures.only (updates_of c.in_ok-ran.ran.seat.view.seen) all.explained.updates in
     subst (λ h. StaysWithin h c.args.slots) (sym history)
     (subst (StaysWithin (updates_of c.in_ok-ran.ran.seat.view.seen)) made.0 ran.stays.within)
+
+pub returns-clause-answers : goal.returns-clause-answers
+returns-clause-answers g c = λ place below.
+    let run = c.in_ok-ran.ensures.run.ran in
+    let clients = length-map run.workers (λ (w : Work ScriptClientAt). w.client) in
+    let count = run.count in
+    let hired = run.crew.count in
+    run.joined.answers place (omega (arith, clients, count, hired, below))
 
 pub returns-clause-marks : goal.returns-clause-marks
 returns-clause-marks g c =
