@@ -50,13 +50,15 @@ not_bad command input after written written_now ran a good =
     no_bad_line command a.input a.text a.answers (subst (IsAnswerable command) (sym same) good)
 
 -- an input that was read whole, and an answer that was written whole
-pub answered : (command : Command) (status : Status) (left left_now written written_now : Option (List ℕ)) (ran : Ran)
-    (input seen text sent : List ℕ) → seen ≡ input → sent ≡ text
+pub answered : {command : Command} {status told : Status} {left left_now written written_now : Option (List ℕ)} {ran : Ran}
+    {input seen text sent : List ℕ} → status ≡ told → seen ≡ input → sent ≡ text
     → length input ≤ limit_of command → Takes left left_now input → (Reads command → IsAtEnd left_now)
     → (writes : Writes command status seen text) × Leaves command status seen text writes ran → Appends written written_now sent
-    → AnsweredBy command status left left_now written written_now ran
-answered command status left left_now written written_now ran input seen text sent is wrote short took ended answers appended =
-    let of_input = subst (λ i. (writes : Writes command status i text) × Leaves command status i text writes ran) is answers in
+    → AnsweredBy command told left left_now written written_now ran
+answered {command} {status} {told} {left} {left_now} {written} {written_now} {ran} {input} {seen} {text} {sent} ends is wrote short took ended
+    answers appended =
+    let of_input = subst (λ (z : Status × List ℕ). (writes : Writes command z.0 z.1 text) × Leaves command z.0 z.1 text writes ran)
+    (λ i. (ends i, is i)) answers in
     record {
       input = input;
       short = short;

@@ -56,15 +56,14 @@ watches_nothing waiter (script ∷ scripts) slots lines history lists none repli
 -- A watch text was made.
 module _ (scripts : List (List Op)) (slots low high : ℕ) (text : List ℕ) where
   -- without scripts
-  pub nothing_watched : (waiter : Waiter) (lists : List SnapshotAt) → length scripts ≡ 0
-      → (watch : IsWatchText scripts slots low high text) × (watch.account.history ≡ []) × (watch.snapshots ≡ lists)
-      × HaveReplies [] watch.account.lines
+  pub nothing_watched : (waiter : Waiter) → length scripts ≡ 0
+      → (watch : IsWatchText scripts slots low high text) × (watch.account.history ≡ []) × HaveReplies [] watch.account.lines
       → (watch : IsWatchText scripts slots low high text) × StaysWithin watch.account.history (slots + 20)
       × LeavesWatched waiter scripts slots watch.account.lines watch.account.history watch.snapshots Nothing
-  nothing_watched waiter lists none written = (
+  nothing_watched waiter none written = (
     written.0,
     subst (λ h. StaysWithin h (slots + 20)) (sym written.1) (λ front at. none_within (slots + 20) front),
-    watches_nothing waiter scripts slots written.0.account.lines written.0.account.history written.0.snapshots none written.3,
+    watches_nothing waiter scripts slots written.0.account.lines written.0.account.history written.0.snapshots none written.2,
   )
 
   -- by the history and the lists of a run, and the run's tree beside it

@@ -28,12 +28,12 @@ use std::thread::Threads;
 use tree_run::{RunWith, run_scripts};
 use workload::{summary_of, write_summary};
 
-// What is written of a run, and the tree with the seats of all scripts as one.
+/// What is written of a run, and the tree with all seats as one.
 #[derive(Drop)]
-struct Written<W: WaitPart> {
-    text: Vec<u8>,
-    table: CitrusTable<W>,
-    seat: Seat<W>,
+pub(crate) struct Written<W: WaitPart> {
+    pub text: Vec<u8>,
+    pub table: CitrusTable<W>,
+    pub seat: Seat<W>,
 }
 
 /// Runs the scripts on a tree of the chosen waiter with so many slots, by clients that hold cookies or by clients that hold none: their

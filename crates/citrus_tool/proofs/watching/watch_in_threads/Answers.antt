@@ -1,18 +1,12 @@
-use Rattle.std.proofs.Common.{[], sym, subst, arith}
+use Rattle.std.proofs.Common.{arith}
 use Rattle.core_state.specs.declared.shape.Waiter.TheVariants.{Eer, Domain, Deer}
-use Rattle.tree_watch.specs.Snapshots.{AreSnapshots}
-use Rattle.citrus_tool.proofs.WatchedRuns.{none_listed, nothing_watched, watched_in}
+use Rattle.citrus_tool.proofs.WatchedRuns.{nothing_watched, watched_in}
 use Rattle.citrus_tool.proofs.watching.watch_in_threads.Goals as goal
-
-pub make_watch_text-requires-clause-snapshots : goal.make_watch_text-requires-clause-snapshots
-make_watch_text-requires-clause-snapshots g c =
-    subst (λ ss. AreSnapshots [] c.args.keys.low c.args.keys.high 0 ss) (sym c.in_ok-none.ensures)
-    (none_listed c.args.keys.low c.args.keys.high)
 
 pub returns-then-count-eq0 : goal.returns-then-count-eq0
 returns-then-count-eq0 g c =
-    nothing_watched c.args.scripts.now c.args.slots c.args.keys.low c.args.keys.high c.in_ok-text.text.items c.args.waiter c.in_ok-none.none
-    (omega (arith, c.count.ensures.count, c.if-count-eq0.true)) c.in_ok-text.ensures
+    nothing_watched c.args.scripts.now c.args.slots c.args.keys.low c.args.keys.high c.in_ok-watch_of_none.field-0.items c.args.waiter
+    (omega (arith, c.count.ensures.count, c.if-count-eq0.true)) c.in_ok-watch_of_none.ensures
 
 pub returns-in_ok-text-in-Eer : goal.returns-in_ok-text-in-Eer
 returns-in_ok-text-in-Eer g c =
